@@ -1,0 +1,38 @@
+//! The commands of the plain map, the replies to them and the refusals, as types.
+//! The layers above use the fields as they are, and of `copy` and `writes` their contracts.
+#![tactic(auto)]
+
+ghost use Rattle.std.specs.Prelude.{◌≡◌, ◌↔◌, IsTrue, IfOk};
+
+mod refusal;
+mod reply;
+
+use bd_keys::Bytes;
+use bd_names::{Name, Path};
+pub use refusal::Refusal;
+pub use reply::{Chunk, Listed, Listing, Names, Reply};
+
+/// A command of the plain map. Offsets and lengths are bytes.
+#[derive(Debug, Drop)]
+pub enum Command {
+    /// Makes an empty directory.
+    Mkdir { path: Path },
+    /// Makes an empty file.
+    Create { path: Path },
+    /// Writes bytes into a file from an offset on, behind zeros where it is shorter.
+    Write { path: Path, off: u32, bytes: Bytes },
+    /// Cuts a file, or extends it with zeros, to a length.
+    Truncate { path: Path, len: u32 },
+    /// Removes a file, or a directory with all below it.
+    Remove { path: Path },
+    /// Moves a file, or a directory with all below it.
+    Rename { a: Path, b: Path },
+    /// Copies a file, or a directory with all below it.
+    Clone { a: Path, b: Path },
+    /// Reads at most so many bytes of a file from an offset on.
+    Read { path: Path, off: u32, len: u32 },
+    /// Says whether a path is a directory or a file, and how long a file is.
+    Stat { path: Path },
+    /// Lists the names in a directory, those greater than `after` alone where it is there.
+    List { path: Path, after: Option<Name> },
+}

@@ -1,0 +1,58 @@
+//! Replies to commands.
+
+use crate::refusal::Refusal;
+use bd_keys::Bytes;
+use bd_names::Name;
+use std::marker::Model;
+
+/// The bytes that a `read` gives.
+pub type Chunk = Bytes;
+
+/// A name in a listing.
+#[derive(Debug, Drop)]
+pub struct Listed {
+    pub name: Name,
+    /// Whether it is a directory's.
+    pub is_dir: bool,
+}
+
+/// The names of a listing, seen as a list.
+#[derive(Debug, Drop)]
+pub struct Names {
+    items: Vec<Listed>,
+}
+
+impl Model for Names {
+    ghost use Rattle.std.specs.Prelude.{List};
+    ghost use Rattle.bd_command.specs.declared.reply.Listed.{Listed};
+
+    ghost Value = { List Listed };
+
+    ghost view = { λ n. n.items.items };
+}
+
+/// The names that a `list` gives.
+#[derive(Debug, Drop)]
+pub struct Listing {
+    /// At most 100 names, in the order of their bytes.
+    pub names: Names,
+    /// Whether more names follow.
+    pub more: bool,
+}
+
+/// The reply to a command.
+#[derive(Debug, Drop)]
+pub enum Reply {
+    /// A writing command was accepted.
+    Done,
+    /// What was read.
+    Bytes(Chunk),
+    /// It is a directory.
+    Dir,
+    /// It is a file of so many bytes.
+    File(u32),
+    /// What was listed.
+    Names(Listing),
+    /// The command was refused.
+    Refused(Refusal),
+}

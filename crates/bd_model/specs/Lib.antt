@@ -1,0 +1,5 @@
+pub mod Tree
+pub mod Step
+pub mod Lines
+pub mod Replies
+pub mod Transcript

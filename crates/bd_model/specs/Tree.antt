@@ -1,0 +1,37 @@
+-- The tree that commands are about: a finite map from paths to directories and files.
+use Rattle.std.specs.Prelude.{◌≡◌, ℕ, ◌+◌, ◌^◌, ◌<◌, ◌≤◌, List, [], ◌∷◌, ◌++◌, length, IsSome, IfSome, refl}
+use Rattle.std.specs.List.{AllByRecursion}
+use Rattle.std.specs.Ordering.{nat_cmp}
+use Rattle.std.specs.Cmp.Lexicographic.{slice_cmp}
+use Rattle.std.specs.declared.cmp.Ordering.{Ordering}
+use Rattle.std.specs.declared.option.Option.TheVariants.{Some}
+use Rattle.std.specs.FinMap.{FinMap, get, from_entries}
+use Rattle.bd_names.specs.Names.{AreNames}
+
+-- a directory, or a file with its bytes
+pub data Entry : Type 0 where
+  Directory : Entry
+  FileWith : (bytes : List ℕ) → Entry
+
+-- names in the order of their bytes, and paths in the order of their names
+abbrev pub path_cmp : List (List ℕ) → List (List ℕ) → Ordering
+path_cmp = slice_cmp (slice_cmp nat_cmp)
+
+abbrev pub Tree : Type 0
+Tree = FinMap path_cmp Entry
+
+-- the tree of `/` alone
+abbrev pub root_only : Tree
+root_only = from_entries (([], Directory) ∷ [])
+
+-- at most 2^30 bytes
+abbrev pub IsEntry : Entry → Type 0
+IsEntry Directory = Unit {0}
+IsEntry (FileWith bytes) = (length bytes ≤ 2 ^ 30) × AllByRecursion (λ b. b < 256) bytes
+
+-- `/` is a directory, the parent of each other path is one, and each path is made of names
+pub record IsTree (t : Tree) : Type 0 where
+  pub root : get t [] ≡ Some Directory
+  pub parents : (path : List (List ℕ)) (name : List ℕ) → IsSome (get t (path ++ name ∷ [])) → get t path ≡ Some Directory
+  pub names : (path : List (List ℕ)) → IsSome (get t path) → AreNames path
+  pub entries : (path : List (List ℕ)) → IfSome (get t path) IsEntry
