@@ -1,2 +1,3 @@
 pub mod CutLines
 pub mod Transcripts
+pub mod LinesThere

@@ -1,8 +1,7 @@
 -- What a run does, line by line, and how a transcript is tied to a script and to what was written.
-use Rattle.std.specs.Prelude.{◌≡◌, ℕ, ◌+◌, ◌<◌, ◌≤◌, Bool, true, false, List, [], ◌∷◌, ◌++◌, length, map, take, is_none, count_by, if◌then◌else◌}
-use Rattle.std.specs.List.{flat_map, list_any}
-use Rattle.bd_command.specs.declared.Command.{Command}
-use Rattle.bd_command.specs.declared.Command.TheVariants.{Mkdir, Create, Write, Truncate, Remove, Rename, Clone, Read, Stat, List as Ls}
+use Rattle.std.specs.Prelude.{◌≡◌, ℕ, Bool, true, false, List, [], ◌∷◌, ◌++◌, map, sum_by, if◌then◌else◌}
+use Rattle.std.specs.List.{flat_map}
+use Rattle.bd_command.specs.Command.{accepted}
 use Rattle.bd_command.specs.declared.refusal.Refusal.TheVariants as refusal
 use Rattle.bd_command.specs.declared.reply.Reply.{Reply}
 use Rattle.bd_command.specs.declared.reply.Reply.TheVariants.{Done, Refused}
@@ -66,3 +65,30 @@ executed_lines es = map (λ e. e.line) es
 -- xs stands at the front of ys
 abbrev pub IsFront : {A : Type 0} → List A → List A → Type 0
 IsFront {A} xs ys = (rest : List A) × (ys ≡ xs ++ rest)
+
+-- how many commands were accepted: the writing commands that were answered `ok`
+abbrev pub accepted_by : ScriptLine → Reply → ℕ
+accepted_by (Run command) reply = accepted command reply
+accepted_by Sync reply = 0
+accepted_by Checkpoint reply = 0
+accepted_by Reclaim reply = 0
+accepted_by Df reply = 0
+accepted_by Walk reply = 0
+accepted_by Stop reply = 0
+accepted_by BadLine reply = 0
+accepted_by BadPath reply = 0
+
+abbrev pub accepted_in : List Executed → ℕ
+accepted_in es = sum_by (λ e. accepted_by e.line e.reply) es
+
+-- a line that the shell has by now, or a bad one
+abbrev pub IsThere : ScriptLine → Type 0
+IsThere (Run command) = Unit {0}
+IsThere Sync = ⊥
+IsThere Checkpoint = ⊥
+IsThere Reclaim = ⊥
+IsThere Df = ⊥
+IsThere Walk = ⊥
+IsThere Stop = Unit {0}
+IsThere BadLine = Unit {0}
+IsThere BadPath = Unit {0}

@@ -1,0 +1,16 @@
+-- What a volume stands for.
+use Rattle.std.specs.Prelude.{ℕ, ◌+◌, Bool, true, false, ◌&&◌, if◌then◌else◌}
+use Rattle.bd_command.specs.Command.{writes}
+use Rattle.bd_command.specs.declared.Command.{Command}
+use Rattle.bd_command.specs.declared.reply.Reply.{Reply}
+use Rattle.bd_command.specs.declared.reply.Reply.TheVariants.{Done, Bytes, Dir, File, Names, Refused}
+use Rattle.bd_model.specs.Tree.{Tree}
+use Rattle.bd_volume.specs.declared.Volume.{Volume}
+
+-- the tree that a volume has
+abbrev pub tree_of : {D : Type 0} → Volume D → Tree
+tree_of v = v.tree
+
+-- how many commands it has accepted
+abbrev pub count_of : {D : Type 0} → Volume D → ℕ
+count_of v = v.count

@@ -1,0 +1,106 @@
+//! The volume: the tree of the commands that it has accepted, and their number.
+//! The layers above use the contracts of `start` and `do_command`: the step of each command, and the cause of each fault.
+#![tactic(auto)]
+
+ghost use Rattle.std.specs.Prelude.{◌≡◌, ◌≤◌, ◌+◌, ◌^◌, ◌⊎◌, IfOk, IfErr, OnErr, IsTrue, IsNone};
+ghost use Rattle.bd_model.specs.Tree.{root_only};
+ghost use Rattle.bd_model.specs.Step.{step, refusal_of};
+ghost use Rattle.bd_command.specs.Command.{writes, accepted};
+ghost use Rattle.bd_volume.specs.Volume.{tree_of, count_of};
+
+use bd_command::{Command, Reply};
+use bd_device::Device;
+use bd_message::Counter;
+use bd_plain::PlainTree;
+use std::alloc::{AllocError, Global};
+use thiserror::Error;
+
+/// Why a call of a volume did nothing.
+#[derive(Clone, Copy, Debug, PartialEq, Eq, Error)]
+pub enum Fault {
+    /// The device failed.
+    #[error("the device failed")]
+    Device,
+    /// The bytes at this block aren't of the format.
+    #[error("block {block} is damaged")]
+    Damaged { block: u64 },
+    /// A counter had to rise past its last value.
+    #[error("the counter {0} is worn")]
+    Worn(Counter),
+    /// There is no memory.
+    #[error("there is no memory")]
+    NoMemory,
+    /// The free slots aren't enough.
+    #[error("{free} slots are free and {need} are needed")]
+    Full { free: u64, need: u64 },
+    /// The volume was stopped by a failed device call, of this number.
+    #[error("the volume was stopped by device call {call}")]
+    Stopped { call: u64 },
+}
+
+impl From<AllocError> for Fault {
+    ghost use Rattle.std.specs.Prelude.{◌≡◌};
+    ghost use Rattle.bd_volume.specs.declared.Fault.TheVariants.{NoMemory};
+
+    ghost from_gives = { λ _ e. e ≡ NoMemory };
+
+    fn from(_: AllocError) -> Fault {
+        Fault::NoMemory
+    }
+}
+
+/// A tree of directories and files, with the number of commands that it has accepted.
+#[derive(Drop)]
+pub struct Volume<D> {
+    device: D,
+    tree: PlainTree,
+    count: u64,
+}
+
+impl<D: Device + Drop> Volume<D> {
+    /// Opens a volume on a device. It has `/` alone, and the device isn't called. The one fault is `NoMemory`.
+    pub fn start(alloc: Global, dev: D) -> Result<Volume<D>, Fault>
+        ensures tree { IfOk result (λ v. tree_of v ≡ root_only) }
+        ensures count { IfOk result (λ v. count_of v ≡ 0) }
+        ensures fault { IfErr result (λ e. e ≡ Fault.NoMemory) }
+    {
+        let tree = PlainTree::new(alloc)?;
+        Ok(Volume {
+            device: dev,
+            tree,
+            count: 0,
+        })
+    }
+
+    /// Executes a command. `Worn(Counter::Count)` comes only for an accepted writing command where the count
+    /// stands at its last value. A fault leaves the volume as it was.
+    pub fn do_command(&mut self, alloc: Global, command: &Command) -> Result<Reply, Fault>
+        ensures step { IfOk result (λ reply. (tree_of self.new, reply) ≡ step (tree_of self.old) command.now) }
+        ensures count { IfOk result (λ reply. count_of self.new ≡ count_of self.old + accepted command.now reply) }
+        ensures tree_stays { OnErr result (tree_of self.new ≡ tree_of self.old) }
+        ensures count_stays { OnErr result (count_of self.new ≡ count_of self.old) }
+        ensures fault { IfErr result (λ e. (e ≡ Fault.NoMemory) ⊎ (e ≡ Fault.Worn Counter.Count)) }
+        ensures worn { result ≡ Err (Fault.Worn Counter.Count) → 2 ^ 64 ≤ count_of self.old + 1 }
+        ensures worn_command { result ≡ Err (Fault.Worn Counter.Count) → IsTrue (writes command.now) }
+        ensures worn_accepted { result ≡ Err (Fault.Worn Counter.Count) → IsNone (refusal_of (tree_of self.old) command.now) }
+    {
+        if self.count == u64::MAX && command.writes() {
+            return match self.tree.refusal(alloc, command)? {
+                Some(refusal) => Ok(Reply::Refused(refusal)),
+                None => Err(Fault::Worn(Counter::Count)),
+            };
+        }
+        let reply = self.tree.step(alloc, command)?;
+        if command.writes() && reply.is_done() {
+            self.count += 1;
+        }
+        Ok(reply)
+    }
+
+    /// How many commands it has accepted.
+    pub fn count(&self) -> u64
+        ensures { result ≡ count_of self.now }
+    {
+        self.count
+    }
+}

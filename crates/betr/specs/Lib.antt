@@ -1,0 +1,4 @@
+pub mod Fault
+pub mod Session
+pub mod Words
+pub mod Shell

@@ -1,0 +1,56 @@
+ghost use Rattle.std.specs.Prelude.{◌≡◌};
+ghost use Rattle.betr.specs.Fault.{status_of, fault_line};
+
+use bd_message::Counter;
+
+/// What ends a run before its script does.
+#[derive(Clone, Copy, Debug, PartialEq, Eq)]
+pub enum Fault {
+    /// The device failed.
+    Device,
+    /// The source failed.
+    Source,
+    /// There is no memory.
+    Memory,
+    /// The script has more than 16,777,216 bytes.
+    TooLong,
+    /// A counter had to rise past its last value.
+    Worn(Counter),
+    /// The sink failed.
+    Sink,
+}
+
+impl Fault {
+    /// The status that the program ends with.
+    pub fn status(self) -> u8
+        ensures { result ≡ status_of self }
+    {
+        match self {
+            Fault::Device => 3,
+            Fault::Source => 5,
+            Fault::Memory => 6,
+            Fault::TooLong => 7,
+            Fault::Worn(_) => 8,
+            Fault::Sink => 9,
+        }
+    }
+
+    /// The line that says so, with its newline; nothing for the sink's own fault.
+    pub fn line(self) -> &'static [u8]
+        ensures { result.now ≡ fault_line self }
+    {
+        match self {
+            Fault::Device => b"fault device\n",
+            Fault::Source => b"fault source\n",
+            Fault::Memory => b"fault memory\n",
+            Fault::TooLong => b"fault too-long\n",
+            Fault::Worn(Counter::Count) => b"fault worn count\n",
+            Fault::Worn(Counter::NextId) => b"fault worn id\n",
+            Fault::Worn(Counter::Level) => b"fault worn level\n",
+            Fault::Worn(Counter::Refs) => b"fault worn refs\n",
+            Fault::Worn(Counter::Epoch) => b"fault worn epoch\n",
+            Fault::Worn(Counter::Flushes) => b"fault worn flushes\n",
+            Fault::Sink => b"",
+        }
+    }
+}
