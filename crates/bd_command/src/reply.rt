@@ -1,5 +1,7 @@
 //! Replies to commands.
 
+ghost use Rattle.std.specs.Prelude.{◌≡◌};
+
 use crate::refusal::Refusal;
 use bd_keys::Bytes;
 use bd_names::Name;
@@ -29,6 +31,22 @@ impl Model for Names {
     ghost Value = { List Listed };
 
     ghost view = { λ n. n.items.items };
+}
+
+impl Names {
+    /// The names of a `Vec`.
+    pub fn from_vec(names: Vec<Listed>) -> Names
+        ensures { result ≡ names.items }
+    {
+        Names { items: names }
+    }
+
+    /// The names.
+    pub fn as_slice(&self) -> &[Listed]
+        ensures { result.now ≡ self.now }
+    {
+        self.items.as_slice()
+    }
 }
 
 /// The names that a `list` gives.
