@@ -1,1 +1,3 @@
 pub mod PathOrder
+pub mod EntryPlaces
+pub mod TreeViews

@@ -1,7 +1,7 @@
 //! An entry of a tree, and the path where it stands.
 
 ghost use Rattle.std.specs.Prelude.{◌≡◌, IfOk};
-ghost use Rattle.bd_names.specs.Names.{rest_below};
+ghost use Rattle.bd_names.specs.Names.{rest_below, is_under};
 ghost use Rattle.bd_model.specs.Step.{is_directory, moved_entry, child_of};
 ghost use Rattle.bd_plain.specs.Entries.{entry_of};
 
@@ -79,6 +79,13 @@ impl Placed {
         ensures { entry_of result.now ≡ self.now.1 }
     {
         &self.content
+    }
+
+    /// Whether it stands at `of` or below it.
+    pub fn is_under(&self, of: &[Name]) -> bool
+        ensures { result ≡ is_under of.now self.now.0 }
+    {
+        paths::is_under(of, &self.path)
     }
 
     /// The same entry at the same path, once more.

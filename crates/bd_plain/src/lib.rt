@@ -2,6 +2,10 @@
 //! The layers above use that a `PlainTree` is seen as a tree, and that `step` does what the model's step does.
 #![tactic(auto)]
 
+mod entries;
 mod entry;
 mod file;
 mod paths;
+mod tree;
+
+pub use tree::PlainTree;
