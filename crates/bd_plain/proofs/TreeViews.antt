@@ -71,3 +71,15 @@ put_stays (Err x) es new path e ok err sorted = subst IsInOrder (sym err) sorted
 pub put_done : {A E : Type 0} (r : Result A E) (es new : Entries) (path : List (List ℕ)) (e : Entry) → OnOk r (new ≡ put path_cmp path e es) → IsInOrder es → OnOk r (seen new ≡ insert (seen es) path e)
 put_done (Ok x) es new path e ok sorted = ap seen ok ∙ put_seen es path e sorted
 put_done (Err x) es new path e ok sorted = tt
+
+-- a map is made of its entries
+remade : (t : Tree) → from_entries (entries t) ≡ t
+remade t = same_map paths_total paths_exact _ _ (λ q. get-from_entries paths_total (entries t) q ∙ sym (get-entries t q))
+
+-- entries are put over a map from the last to the first
+pub put_all_none : (t : Tree) → from_entries ([] ++ entries t) ≡ t
+put_all_none t = remade t
+
+pub put_all_more : (es : Entries) (e : List (List ℕ) × Entry) (t : Tree) → from_entries {R = path_cmp} ((es ++ e ∷ []) ++ entries t) ≡ from_entries (es ++ entries (insert t e.0 e.1))
+put_all_more [] e t = ap (λ (m : Tree). insert m e.0 e.1) (remade t) ∙ sym (remade (insert t e.0 e.1))
+put_all_more (x ∷ es) e t = ap (λ (m : Tree). insert m x.0 x.1) (put_all_more es e t)

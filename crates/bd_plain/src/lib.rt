@@ -6,6 +6,8 @@ mod entries;
 mod entry;
 mod file;
 mod paths;
+mod refusals;
+mod step;
 mod tree;
 
 pub use tree::PlainTree;

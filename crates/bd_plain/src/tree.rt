@@ -4,7 +4,7 @@ ghost use Rattle.std.specs.Prelude.{◌≡◌, ◌++◌, IfOk, OnOk, OnErr};
 ghost use Rattle.std.specs.Option.{option_map};
 ghost use Rattle.std.specs.FinMap as map;
 ghost use Rattle.bd_model.specs.Tree.{root_only};
-ghost use Rattle.bd_model.specs.Step.{without, moved, children};
+ghost use Rattle.bd_model.specs.Step.{without, cloned, renamed, children};
 ghost use Rattle.bd_plain.specs.Entries.{entry_of};
 
 use crate::entries;
@@ -59,12 +59,51 @@ impl PlainTree {
         entries::find(&self.entries, path)
     }
 
-    /// Puts an entry at a path, instead of the one that stands there.
-    pub(crate) fn put(&mut self, path: Vec<Name>, content: Content) -> Result<(), AllocError>
-        ensures ok { OnOk result (self.new ≡ map.insert self.old path.items (entry_of content)) }
+    /// Puts an entry at its path, instead of the one that stands there.
+    pub(crate) fn put(&mut self, placed: Placed) -> Result<(), AllocError>
+        ensures ok { OnOk result (self.new ≡ map.insert self.old placed.0 placed.1) }
         ensures err { OnErr result (self.new ≡ self.old) }
     {
-        entries::put(&mut self.entries, Placed::new(path, content))
+        entries::put(&mut self.entries, placed)
+    }
+
+    /// Puts many entries, of several for one path the first. For want of memory only some are put.
+    fn put_all(&mut self, mut placed: Vec<Placed>) -> Result<(), AllocError>
+        ensures { OnOk result (self.new ≡ map.from_entries (placed.items ++ map.entries self.old)) }
+    {
+        while let Some(last) = placed.pop() {
+            self.put(last)?;
+        }
+        Ok(())
+    }
+
+    /// The tree in which what stands at `a` or below it stands at `b` too.
+    pub(crate) fn cloned(
+        &self,
+        alloc: Global,
+        a: &[Name],
+        b: &[Name],
+    ) -> Result<PlainTree, AllocError>
+        ensures { IfOk result (λ new. new ≡ cloned a.now b.now self.now) }
+    {
+        let mut new = self.copy(alloc)?;
+        new.put_all(entries::moved(alloc, &self.entries, a, b)?)?;
+        Ok(new)
+    }
+
+    /// The tree in which what stands at `a` or below it stands at `b`, and nothing at `a`.
+    pub(crate) fn renamed(
+        &self,
+        alloc: Global,
+        a: &[Name],
+        b: &[Name],
+    ) -> Result<PlainTree, AllocError>
+        ensures { IfOk result (λ new. new ≡ renamed a.now b.now self.now) }
+    {
+        let mut new = self.copy(alloc)?;
+        new.remove_under(a);
+        new.put_all(entries::moved(alloc, &self.entries, a, b)?)?;
+        Ok(new)
     }
 
     /// Drops what stands at a path and below it.
