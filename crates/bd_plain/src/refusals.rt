@@ -3,7 +3,8 @@
 ghost use Rattle.std.specs.Prelude.{◌≡◌, ◌+◌, ◌^◌, ◌≤◌, length, IfOk, IfErr};
 ghost use Rattle.std.specs.FinMap.{get};
 ghost use Rattle.bd_model.specs.Tree.{FileWith};
-ghost use Rattle.bd_model.specs.Step.{absent_refusal, file_refusal, directory_refusal, new_refusal, root_refusal, size_refusal, inside_refusal};
+ghost use Rattle.bd_model.specs.Step.{absent_refusal, file_refusal, directory_refusal, new_refusal, root_refusal, size_refusal, inside_refusal, refusal_of};
+ghost use Rattle.bd_command.specs.declared.Command.TheVariants as command;
 
 use crate::entry::Content;
 use crate::file::{File, MAX_LEN};
@@ -92,5 +93,16 @@ impl PlainTree {
             Some(Content::Directory) => None,
             Some(Content::File(_)) => Some(Refusal::NotDir),
         }
+    }
+
+    /// What is at `a` can't be moved to `b`.
+    #[tactic(auto, using(crate::proofs::RefusalOrder::in_order))]
+    pub(crate) fn rename_refusal(&self, a: &[Name], b: &[Name]) -> Option<Refusal>
+        ensures { result ≡ refusal_of self.now (command.Rename a.now b.now) }
+    {
+        root_refusal(a)
+            .or(self.absent_refusal(a))
+            .or(inside_refusal(a, b))
+            .or(self.new_refusal(b))
     }
 }

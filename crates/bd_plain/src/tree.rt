@@ -4,7 +4,7 @@ ghost use Rattle.std.specs.Prelude.{◌≡◌, ◌++◌, IfOk, OnOk, OnErr};
 ghost use Rattle.std.specs.Option.{option_map};
 ghost use Rattle.std.specs.FinMap as map;
 ghost use Rattle.bd_model.specs.Tree.{root_only};
-ghost use Rattle.bd_model.specs.Step.{without, cloned, renamed, children};
+ghost use Rattle.bd_model.specs.Step.{without, moved, cloned, renamed, children};
 ghost use Rattle.bd_plain.specs.Entries.{entry_of};
 
 use crate::entries;
@@ -77,6 +77,13 @@ impl PlainTree {
         Ok(())
     }
 
+    /// Copies of what stands at `a` and below it, at the same places below `b`.
+    fn moved(&self, alloc: Global, a: &[Name], b: &[Name]) -> Result<Vec<Placed>, AllocError>
+        ensures { IfOk result (λ copies. copies.items ≡ moved a.now b.now self.now) }
+    {
+        entries::moved(alloc, &self.entries, a, b)
+    }
+
     /// The tree in which what stands at `a` or below it stands at `b` too.
     pub(crate) fn cloned(
         &self,
@@ -87,7 +94,7 @@ impl PlainTree {
         ensures { IfOk result (λ new. new ≡ cloned a.now b.now self.now) }
     {
         let mut new = self.copy(alloc)?;
-        new.put_all(entries::moved(alloc, &self.entries, a, b)?)?;
+        new.put_all(self.moved(alloc, a, b)?)?;
         Ok(new)
     }
 
@@ -102,7 +109,7 @@ impl PlainTree {
     {
         let mut new = self.copy(alloc)?;
         new.remove_under(a);
-        new.put_all(entries::moved(alloc, &self.entries, a, b)?)?;
+        new.put_all(self.moved(alloc, a, b)?)?;
         Ok(new)
     }
 
