@@ -4,10 +4,8 @@ use Rattle.std.specs.List.{AllByRecursion}
 use Rattle.std.specs.Ordering.{nat_cmp}
 use Rattle.std.specs.Cmp.Lexicographic.{slice_cmp}
 use Rattle.std.specs.declared.cmp.Ordering.{Ordering}
-use Rattle.std.specs.declared.option.Option.{Option}
-use Rattle.std.specs.declared.option.Option.TheVariants.{None, Some}
-use Rattle.std.specs.Coded.{Coded, code_by, coded_option, coded_list, coded_ℕ}
-use Rattle.std.specs.FinMap.{FinMap, get, from_entries, code}
+use Rattle.std.specs.declared.option.Option.TheVariants.{Some}
+use Rattle.std.specs.FinMap.{FinMap, get, from_entries}
 use Rattle.bd_names.specs.Names.{AreNames}
 
 -- a directory, or a file with its bytes
@@ -15,31 +13,12 @@ pub data Entry : Type 0 where
   Directory : Entry
   FileWith : (bytes : List ℕ) → Entry
 
-abbrev pub entry_option : Entry → Option (List ℕ)
-entry_option Directory = None
-entry_option (FileWith bytes) = Some bytes
-
-abbrev pub option_entry : Option (List ℕ) → Entry
-option_entry None = Directory
-option_entry (Some bytes) = FileWith bytes
-
-pub option_entry-entry_option : (e : Entry) → option_entry (entry_option e) ≡ e
-option_entry-entry_option Directory = refl
-option_entry-entry_option (FileWith bytes) = refl
-
--- a directory is stored as no bytes, and a file as its bytes
-abbrev pub coded_entry : Coded Entry
-coded_entry = code_by (Option (List ℕ)) (coded_option (coded_list coded_ℕ)) entry_option option_entry option_entry-entry_option
-
 -- names in the order of their bytes, and paths in the order of their names
 abbrev pub path_cmp : List (List ℕ) → List (List ℕ) → Ordering
 path_cmp = slice_cmp (slice_cmp nat_cmp)
 
 abbrev pub Tree : Type 0
 Tree = FinMap path_cmp Entry
-
-abbrev pub coded_tree : Coded Tree
-coded_tree = code (coded_list (coded_list coded_ℕ)) coded_entry
 
 -- the tree of `/` alone
 abbrev pub root_only : Tree

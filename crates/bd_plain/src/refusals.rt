@@ -35,7 +35,7 @@ pub fn inside_refusal(a: &[Name], b: &[Name]) -> Option<Refusal>
     }
 }
 
-/// A file can't have more than 2^30 bytes, of which the last `len` stand from `off` on.
+/// A file can't have more than 2^30 bytes; `len` of them from `off` on would end past that.
 pub fn size_refusal(off: u32, len: usize) -> Option<Refusal>
     ensures { result ≡ size_refusal (off + len) }
 {
@@ -95,7 +95,7 @@ impl PlainTree {
         }
     }
 
-    /// What is at `a` can't be moved to `b`.
+    /// What is at `a` can't be moved to `b`, for the first cause that holds.
     #[tactic(auto, using(crate::proofs::RefusalOrder::in_order))]
     pub(crate) fn rename_refusal(&self, a: &[Name], b: &[Name]) -> Option<Refusal>
         ensures { result ≡ refusal_of self.now (command.Rename a.now b.now) }

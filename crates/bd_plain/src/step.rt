@@ -1,6 +1,7 @@
 //! The commands, by a function each.
 
 ghost use Rattle.std.specs.Prelude.{◌≡◌, IfOk, OnErr};
+ghost use Rattle.std.specs.Option.{option_copied};
 ghost use Rattle.bd_command.specs.declared.Command.TheVariants as command;
 ghost use Rattle.bd_model.specs.Step.{step, those_after, listing_of};
 
@@ -32,7 +33,7 @@ impl PlainTree {
             Command::Clone { a, b } => self.clone_to(alloc, a, b),
             Command::Read { path, off, len } => self.read(alloc, path, *off, *len),
             Command::Stat { path } => self.stat(alloc, path),
-            Command::List { path, after } => self.list(alloc, path, after),
+            Command::List { path, after } => self.list(alloc, path, after.as_ref()),
         }
     }
 
@@ -175,9 +176,9 @@ impl PlainTree {
         &self,
         alloc: Global,
         path: &Path,
-        after: &Option<Name>,
+        after: Option<&Name>,
     ) -> Result<Reply, AllocError>
-        ensures { IfOk result (λ reply. (self.now, reply) ≡ step self.now (command.List path.now after.now)) }
+        ensures { IfOk result (λ reply. (self.now, reply) ≡ step self.now (command.List path.now (option_copied after.entry))) }
     {
         let path = path.names(alloc)?;
         if let Some(refusal) = self.directory_refusal(&path) {
@@ -190,8 +191,8 @@ impl PlainTree {
 }
 
 /// Keeps the names greater than a name, where one is given.
-fn keep_after(names: &mut Vec<Listed>, after: &Option<Name>)
-    ensures { names.new.items ≡ those_after after.now names.old.items }
+fn keep_after(names: &mut Vec<Listed>, after: Option<&Name>)
+    ensures { names.new.items ≡ those_after (option_copied after.entry) names.old.items }
 {
     if let Some(after) = after {
         names.retain(|listed| after.as_bytes().cmp(listed.name.as_bytes()).is_lt());
