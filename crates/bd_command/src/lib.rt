@@ -2,7 +2,8 @@
 //! The layers above use the fields as they are, and of `copy` and `writes` their contracts.
 #![tactic(auto)]
 
-ghost use Rattle.std.specs.Prelude.{◌≡◌, ◌↔◌, IsTrue, IfOk};
+ghost use Rattle.std.specs.Prelude.{◌≡◌};
+ghost use Rattle.bd_command.specs.Command.{writes};
 
 mod refusal;
 mod reply;
@@ -35,4 +36,22 @@ pub enum Command {
     Stat { path: Path },
     /// Lists the names in a directory, those greater than `after` alone where it is there.
     List { path: Path, after: Option<Name> },
+}
+
+impl Command {
+    /// Whether it changes the tree where it is accepted.
+    pub fn writes(&self) -> bool
+        ensures { result ≡ writes self.now }
+    {
+        match self {
+            Command::Mkdir { .. }
+            | Command::Create { .. }
+            | Command::Write { .. }
+            | Command::Truncate { .. }
+            | Command::Remove { .. }
+            | Command::Rename { .. }
+            | Command::Clone { .. } => true,
+            Command::Read { .. } | Command::Stat { .. } | Command::List { .. } => false,
+        }
+    }
 }

@@ -1,6 +1,7 @@
 //! Replies to commands.
 
 ghost use Rattle.std.specs.Prelude.{◌≡◌};
+ghost use Rattle.bd_command.specs.Command.{is_done};
 
 use crate::refusal::Refusal;
 use bd_keys::Bytes;
@@ -73,4 +74,13 @@ pub enum Reply {
     Names(Listing),
     /// The command was refused.
     Refused(Refusal),
+}
+
+impl Reply {
+    /// Whether a writing command was accepted.
+    pub fn is_done(&self) -> bool
+        ensures { result ≡ is_done self.now }
+    {
+        matches!(self, Reply::Done)
+    }
 }

@@ -1,5 +1,5 @@
 -- A script's lines, and what each of them means.
-use Rattle.std.specs.Prelude.{ℕ, ◌+◌, ◌-◌, ◌*◌, ◌/◌, ◌%◌, Bool, true, false, not, ◌&&◌, ◌||◌, List, [], ◌∷◌, ◌++◌, length, nat_le, ◌==◌, if◌then◌else◌, codes, fold}
+use Rattle.std.specs.Prelude.{ℕ, ◌+◌, ◌-◌, ◌*◌, ◌/◌, ◌%◌, Bool, true, false, not, ◌&&◌, ◌||◌, List, [], ◌∷◌, ◌++◌, length, take, nat_le, ◌==◌, if◌then◌else◌, codes, fold}
 use Rattle.std.specs.List.{slice_split, list_all, list_any}
 use Rattle.std.specs.Char.{is_ascii_digit}
 use Rattle.std.specs.declared.option.Option.{Option}
@@ -161,5 +161,9 @@ first_word [] = []
 first_word (verb ∷ words) = verb
 
 -- the one meaning of a line
-abbrev pub line_of : List ℕ → ScriptLine
+unfoldable pub line_of : List ℕ → ScriptLine
 line_of line = if list_any (same_text (first_word (words_of line))) verbs_there then full_line_of line else BadLine
+
+-- what tells the meaning of a line: past 8,192 bytes it is a bad one, whatever else it has
+abbrev pub held : List ℕ → List ℕ
+held line = take 8193 line

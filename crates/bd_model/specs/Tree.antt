@@ -4,8 +4,10 @@ use Rattle.std.specs.List.{AllByRecursion}
 use Rattle.std.specs.Ordering.{nat_cmp}
 use Rattle.std.specs.Cmp.Lexicographic.{slice_cmp}
 use Rattle.std.specs.declared.cmp.Ordering.{Ordering}
-use Rattle.std.specs.declared.option.Option.TheVariants.{Some}
-use Rattle.std.specs.FinMap.{FinMap, get, from_entries}
+use Rattle.std.specs.declared.option.Option.{Option}
+use Rattle.std.specs.declared.option.Option.TheVariants.{None, Some}
+use Rattle.std.specs.FinMap.{FinMap, get, from_entries, code}
+use Rattle.std.specs.Coded.{Coded, code_by, coded_list, coded_option, coded_ℕ}
 use Rattle.bd_names.specs.Names.{AreNames}
 
 -- a directory, or a file with its bytes
@@ -19,6 +21,28 @@ path_cmp = slice_cmp (slice_cmp nat_cmp)
 
 abbrev pub Tree : Type 0
 Tree = FinMap path_cmp Entry
+
+-- ---- how a tree is stored as a value
+
+abbrev pub entry_bytes : Entry → Option (List ℕ)
+entry_bytes Directory = None
+entry_bytes (FileWith bytes) = Some bytes
+
+abbrev pub entry_with : Option (List ℕ) → Entry
+entry_with None = Directory
+entry_with (Some bytes) = FileWith bytes
+
+pub entry_with-entry_bytes : (e : Entry) → entry_with (entry_bytes e) ≡ e
+entry_with-entry_bytes Directory = refl
+entry_with-entry_bytes (FileWith bytes) = refl
+
+abbrev pub coded_entry : Coded Entry
+coded_entry = code_by (Option (List ℕ)) (coded_option (coded_list coded_ℕ)) entry_bytes entry_with entry_with-entry_bytes
+
+abbrev pub coded_tree : Coded Tree
+coded_tree = code (coded_list (coded_list coded_ℕ)) coded_entry
+
+-- ---- which trees there are
 
 -- the tree of `/` alone
 abbrev pub root_only : Tree

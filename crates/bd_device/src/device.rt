@@ -1,0 +1,155 @@
+ghost use Rattle.std.specs.Prelude.{◌≡◌, ◌<◌, ℕ, List, Option, Some, IfSome, IfNone, is_some, [], ◌∷◌, OnOk, OnErr, slice_get};
+ghost use Rattle.bd_io.specs.Cause.{HasCause};
+ghost use Rattle.bd_device.specs.Blocks.{Image, HasBlocks, with_block, ChangesOnly};
+ghost use Rattle.bd_device.specs.Calls.{IsCounted, write_faults_after};
+
+use bd_io::Failed;
+
+/// The bytes of a block.
+pub const BLOCK_SIZE: usize = 4096;
+
+/// A device of numbered blocks. Its counts never fall, and each stays at a u64's last value.
+pub trait Device {
+    /// How many blocks it has.
+    ghost block_count: { Self → ℕ };
+
+    /// What a read of each block gives, where that is told.
+    ghost contents: { Self → Option Image };
+
+    /// How often it has failed.
+    ghost fault_count: { Self → ℕ };
+
+    /// How often a write or a barrier has failed.
+    ghost write_fault_count: { Self → ℕ };
+
+    /// How many reads, writes, barriers and attaches there were, also those that failed.
+    ghost call_count: { Self → ℕ };
+
+    /// The loans through which calls reach the device, the outermost first: none for the device itself.
+    ghost loans: { Self → List ℕ } = { λ _. [] };
+
+    // Two more meanings belong here, with clauses of `write`, `barrier` and `attach`: what a crash now may
+    // leave, and what a crash at some moment since a call might have left.
+
+    /// How many blocks it has. Only an attach changes it.
+    fn blocks(&self) -> u64
+        ensures count { result ≡ block_count self.now }
+        ensures shape { IfSome (contents self.now) (HasBlocks (block_count self.now)) };
+
+    /// Reads block `b` into `into`. `Failed` comes only where the count of faults rose in this call or
+    /// stands at its last value; `into` then holds any bytes.
+    fn read(&mut self, b: u64, into: &mut [u8; BLOCK_SIZE]) -> Result<(), Failed>
+        requires { b < block_count self.old }
+        ensures bytes { OnOk result (IfSome (contents self.old) (λ image. slice_get image b ≡ Some into.new)) }
+        ensures kept { contents self.new ≡ contents self.old }
+        ensures count { block_count self.new ≡ block_count self.old }
+        ensures cause { HasCause (fault_count self.old) (fault_count self.new) result }
+        ensures write_faults { write_fault_count self.new ≡ write_fault_count self.old }
+        ensures calls { IsCounted (call_count self.old) (call_count self.new) result }
+        ensures same_loans { loans self.new ≡ loans self.old };
+
+    /// Writes block `b`. `Failed` comes as of `read`; block `b` then holds any bytes, and the others stay.
+    fn write(&mut self, b: u64, from: &[u8; BLOCK_SIZE]) -> Result<(), Failed>
+        requires { b < block_count self.old }
+        ensures written { OnOk result (contents self.new ≡ with_block b from.now (contents self.old)) }
+        ensures others { OnErr result (ChangesOnly b (contents self.old) (contents self.new)) }
+        ensures count { block_count self.new ≡ block_count self.old }
+        ensures cause { HasCause (fault_count self.old) (fault_count self.new) result }
+        ensures write_faults { write_fault_count self.new ≡ write_faults_after (write_fault_count self.old) result }
+        ensures calls { IsCounted (call_count self.old) (call_count self.new) result }
+        ensures same_loans { loans self.new ≡ loans self.old };
+
+    /// Waits until all that was written is kept. `Failed` comes as of `read`.
+    fn barrier(&mut self) -> Result<(), Failed>
+        ensures kept { contents self.new ≡ contents self.old }
+        ensures count { block_count self.new ≡ block_count self.old }
+        ensures cause { HasCause (fault_count self.old) (fault_count self.new) result }
+        ensures write_faults { write_fault_count self.new ≡ write_faults_after (write_fault_count self.old) result }
+        ensures calls { IsCounted (call_count self.old) (call_count self.new) result }
+        ensures same_loans { loans self.new ≡ loans self.old };
+
+    /// How often it has failed.
+    fn faults(&self) -> u64
+        ensures { result ≡ fault_count self.now };
+
+    /// How often a write or a barrier has failed.
+    fn write_faults(&self) -> u64
+        ensures { result ≡ write_fault_count self.now };
+
+    /// How many reads, writes, barriers and attaches there were, also those that failed.
+    fn calls(&self) -> u64
+        ensures { result ≡ call_count self.now };
+}
+
+/// A device whose image has a name and is found by it.
+pub trait Attach: Device {
+    /// What it shows for a name, where that is told: what reads give once an attach of it with `None` is done.
+    ghost shows: { Self → List ℕ → Option Image };
+
+    // What a crash may leave after a failed attach belongs here.
+
+    /// Takes the image of this name: the one that is there, or with `Some(n)` a new one of `n` blocks, which
+    /// may hold any bytes. `Failed` comes only where the count of faults rose in this call or stands at its
+    /// last value. The device then has 0 blocks, and with `None` the image behind it stays as it was.
+    fn attach(&mut self, name: &str, create: Option<u64>) -> Result<(), Failed>
+        ensures shown { OnOk result (IfNone create (Self.contents self.new ≡ shows self.old name.now)) }
+        ensures made { OnOk result (IfSome create (λ n. Self.block_count self.new ≡ n)) }
+        ensures told { OnOk result (IfSome create (λ _. is_some (Self.contents self.new) ≡ is_some (Self.contents self.old))) }
+        ensures detached { OnErr result (Self.block_count self.new ≡ 0) }
+        ensures behind { OnErr result (IfNone create ((other : List ℕ) → shows self.new other ≡ shows self.old other)) }
+        ensures shape { IfSome (Self.contents self.new) (HasBlocks (Self.block_count self.new)) }
+        ensures cause { HasCause (Self.fault_count self.old) (Self.fault_count self.new) result }
+        ensures write_faults { Self.write_fault_count self.new ≡ Self.write_fault_count self.old }
+        ensures calls { IsCounted (Self.call_count self.old) (Self.call_count self.new) result }
+        ensures same_loans { Self.loans self.new ≡ Self.loans self.old };
+}
+
+impl<D: Device> Device for &mut D {
+    ghost block_count = { λ d. D.block_count d.now };
+
+    ghost contents = { λ d. D.contents d.now };
+
+    ghost fault_count = { λ d. D.fault_count d.now };
+
+    ghost write_fault_count = { λ d. D.write_fault_count d.now };
+
+    ghost call_count = { λ d. D.call_count d.now };
+
+    ghost loans = { λ d. d.ghost_name ∷ D.loans d.now };
+
+    fn blocks(&self) -> u64 {
+        Device::blocks(&**self)
+    }
+
+    fn read(&mut self, b: u64, into: &mut [u8; BLOCK_SIZE]) -> Result<(), Failed> {
+        Device::read(&mut **self, b, into)
+    }
+
+    fn write(&mut self, b: u64, from: &[u8; BLOCK_SIZE]) -> Result<(), Failed> {
+        Device::write(&mut **self, b, from)
+    }
+
+    fn barrier(&mut self) -> Result<(), Failed> {
+        Device::barrier(&mut **self)
+    }
+
+    fn faults(&self) -> u64 {
+        Device::faults(&**self)
+    }
+
+    fn write_faults(&self) -> u64 {
+        Device::write_faults(&**self)
+    }
+
+    fn calls(&self) -> u64 {
+        Device::calls(&**self)
+    }
+}
+
+impl<D: Attach> Attach for &mut D {
+    ghost shows = { λ d. D.shows d.now };
+
+    fn attach(&mut self, name: &str, create: Option<u64>) -> Result<(), Failed> {
+        Attach::attach(&mut **self, name, create)
+    }
+}

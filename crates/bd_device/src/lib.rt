@@ -1,0 +1,7 @@
+//! A device of blocks of 4,096 bytes: what a read gives, its counts, and one in memory.
+//! Layers above use the contracts of `Device` and `Attach`: contents where they are told, and a cause for each fault.
+#![tactic(auto)]
+
+mod device;
+
+pub use device::{Attach, BLOCK_SIZE, Device};

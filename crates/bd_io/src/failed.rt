@@ -1,0 +1,14 @@
+use std::error::Error;
+use std::fmt;
+
+/// The outside failed: a source, a sink or a device. The object's count of faults says that it did.
+#[derive(Clone, Copy, Debug, PartialEq, Eq)]
+pub struct Failed;
+
+impl fmt::Display for Failed {
+    fn fmt<W: fmt::Write>(&self, f: &mut fmt::Formatter<W>) -> fmt::Result {
+        write!(f, "the outside failed")
+    }
+}
+
+impl Error for Failed {}

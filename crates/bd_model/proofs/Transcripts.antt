@@ -1,0 +1,44 @@
+-- Transcripts put together.
+use Rattle.std.proofs.Common.{◌≡◌, ℕ, ◌+◌, Bool, true, false, cond, List, [], ◌∷◌, ◌++◌, refl, sym, ap, subst, ◌∙◌, append_assoc}
+use Rattle.std.specs.List.{list_any, flat_map}
+use Rattle.std.specs.Prelude.{map, ◌||◌}
+use Rattle.bd_model.specs.Tree.{Tree}
+use Rattle.bd_model.specs.Lines.{ScriptLine}
+use Rattle.bd_model.specs.Replies.{reply_line}
+use Rattle.bd_model.specs.Transcript.{Executed, IsTranscript, Follows, tree_after, text, is_stop, up_to_stop}
+
+-- a transcript, and one from the tree behind it
+pub IsTranscript-append : (t : Tree) (es fs : List Executed) → IsTranscript t es → IsTranscript (tree_after t es) fs → IsTranscript t (es ++ fs)
+IsTranscript-append t [] fs h g = g
+IsTranscript-append t (e ∷ es) fs h g = (h.0, IsTranscript-append e.tree es fs h.1 g)
+
+pub tree_after-append : (t : Tree) (es fs : List Executed) → tree_after t (es ++ fs) ≡ tree_after (tree_after t es) fs
+tree_after-append t [] fs = refl
+tree_after-append t (e ∷ es) fs = tree_after-append e.tree es fs
+
+-- ---- up to the first `stop`
+
+pub up_to_stop-none : (ls : List ScriptLine) → list_any is_stop ls ≡ false → up_to_stop ls ≡ ls
+up_to_stop-none [] e = refl
+up_to_stop-none (l ∷ ls) e = by (is_stop l) e (up_to_stop-none ls)
+  where
+    by : (s : Bool) → (s || list_any is_stop ls) ≡ false → (list_any is_stop ls ≡ false → up_to_stop ls ≡ ls) → l ∷ cond s [] (up_to_stop ls) ≡ l ∷ ls
+    by true h f = cc
+    by false h f = ap (λ r. l ∷ r) (f h)
+
+-- what stands behind a `stop` doesn't count
+pub up_to_stop-stopped : (ls ms : List ScriptLine) → list_any is_stop ls ≡ true → up_to_stop (ls ++ ms) ≡ up_to_stop ls
+up_to_stop-stopped [] ms e = cc
+up_to_stop-stopped (l ∷ ls) ms e = by (is_stop l) e (up_to_stop-stopped ls ms)
+  where
+    by : (s : Bool) → (s || list_any is_stop ls) ≡ true → (list_any is_stop ls ≡ true → up_to_stop (ls ++ ms) ≡ up_to_stop ls) → l ∷ cond s [] (up_to_stop (ls ++ ms)) ≡ l ∷ cond s [] (up_to_stop ls)
+    by true h f = refl
+    by false h f = ap (λ r. l ∷ r) (f h)
+
+pub up_to_stop-append : (ls ms : List ScriptLine) → list_any is_stop ls ≡ false → up_to_stop (ls ++ ms) ≡ ls ++ up_to_stop ms
+up_to_stop-append [] ms e = refl
+up_to_stop-append (l ∷ ls) ms e = by (is_stop l) e (up_to_stop-append ls ms)
+  where
+    by : (s : Bool) → (s || list_any is_stop ls) ≡ false → (list_any is_stop ls ≡ false → up_to_stop (ls ++ ms) ≡ ls ++ up_to_stop ms) → l ∷ cond s [] (up_to_stop (ls ++ ms)) ≡ l ∷ (ls ++ up_to_stop ms)
+    by true h f = cc
+    by false h f = ap (λ r. l ∷ r) (f h)
