@@ -1,11 +1,15 @@
 // A name.
-ghost use Rattle.std.specs.Prelude.{◌≡◌, ◌≤◌, ◌↔◌, length, IsTrue, IfOk, IsErrOf};
-ghost use Rattle.bd_names.specs.Names.{is_name, is_name_byte};
+ghost use Rattle.std.specs.Prelude.{◌≡◌, ◌≤◌, ◌↔◌, length, false, IsTrue, IfOk};
+ghost use Rattle.std.specs.List.{list_all};
+ghost use Rattle.bd_names.specs.Names.{is_dots, is_name, is_name_byte};
 ghost use Rattle.bd_names.specs.declared.fault.PathFault.{PathFault};
 
 use crate::fault::PathFault;
 use std::alloc::{AllocError, Global};
 use std::marker::Model;
+
+/// The greatest length of a name, in bytes.
+const MAX_NAME: usize = 255;
 
 /// A name: 1 to 255 bytes, each of 0x21 to 0xFF but for the slash and 0x7F, and neither `.` nor `..`.
 #[derive(Debug, Drop)]
@@ -65,13 +69,26 @@ fn is_byte_of_name(byte: u8) -> bool
     byte >= 0x21 && byte != b'/' && byte != 0x7f
 }
 
+/// Whether a text is `.` or `..`.
+fn is_dots_text(text: &[u8]) -> bool
+    ensures { result ≡ is_dots text.now }
+{
+    text == b".".as_slice() || text == b"..".as_slice()
+}
+
+/// Whether each byte of a text may stand in a name.
+fn are_bytes_of_name(text: &[u8]) -> bool
+    ensures { result ≡ list_all is_name_byte text.now }
+{
+    text.iter().all(|byte| is_byte_of_name(*byte))
+}
+
 /// Whether a text is a name.
 pub(crate) fn is_name_text(text: &[u8]) -> bool
     ensures { result ≡ is_name text.now }
 {
-    !text.is_empty()
-        && text.len() <= 255
-        && text.iter().all(|byte| is_byte_of_name(*byte))
-        && text != b".".as_slice()
-        && text != b"..".as_slice()
+    if text.is_empty() || text.len() > MAX_NAME {
+        return false;
+    }
+    are_bytes_of_name(text) && !is_dots_text(text)
 }

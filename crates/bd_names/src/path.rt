@@ -1,6 +1,6 @@
 // A path.
-ghost use Rattle.std.specs.Prelude.{◌≡◌, ◌<◌, ◌≤◌, ◌↔◌, [], List, ℕ, length, map, take, drop, slice_get, IsTrue, IfOk, OnOk, MatchOption};
-ghost use Rattle.std.specs.Prelude.{◌==◌};
+ghost use Rattle.std.specs.Prelude.{◌≡◌, ◌<◌, ◌≤◌, ◌↔◌, [], List, ℕ, length, map, take, drop, slice_index_or, IsTrue, IfOk, OnOk, MatchOption};
+ghost use Rattle.std.specs.Prelude.{◌+◌, ◌-◌, ◌==◌, if◌then◌else◌, slice_index};
 ghost use Rattle.std.specs.List.{list_all, slice_split};
 ghost use Rattle.bd_names.specs.Names.{is_name, AreNames, path_text, names_in, is_path, path_of, key_of, is_under, parent_of};
 ghost use Rattle.bd_names.specs.Cuts.{ends_from, IsCut};
@@ -187,12 +187,21 @@ fn cuts_in(alloc: Global, text: &[u8]) -> Result<SmallVec<u16, 8>, AllocError>
     Ok(cuts)
 }
 
+/// Where the name at an index begins.
+fn start_of(cuts: &[u16], i: usize) -> usize
+    requires { i < length cuts.now }
+    ensures { result ≡ (if i == 0 then 1 else slice_index cuts.now (i - 1) + 1) }
+{
+    if i == 0 { 1 } else { cuts[i - 1] as usize + 1 }
+}
+
 /// The name at an index.
 fn name_at<'a>(text: &'a [u8], cuts: &[u16], i: usize) -> &'a [u8]
     requires cut { IsCut text.now cuts.now }
     requires in_range { i < length cuts.now }
-    ensures { slice_get (names_in text.now) i ≡ Some result.now }
+    ensures { result.now ≡ slice_index_or (names_in text.now) i [] }
 {
-    let start = if i == 0 { 1 } else { cuts[i - 1] as usize + 1 };
-    &text[start..cuts[i] as usize]
+    let start = start_of(cuts, i);
+    let end = cuts[i] as usize;
+    &text[start..end]
 }
