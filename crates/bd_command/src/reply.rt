@@ -34,6 +34,22 @@ impl Model for Names {
     ghost view = { λ n. n.items.items };
 }
 
+impl Names {
+    /// The names of a `Vec`.
+    pub fn from_vec(names: Vec<Listed>) -> Names
+        ensures { result ≡ names.items }
+    {
+        Names { items: names }
+    }
+
+    /// The names.
+    pub fn as_slice(&self) -> &[Listed]
+        ensures { result.now ≡ self.now }
+    {
+        self.items.as_slice()
+    }
+}
+
 /// The names that a `list` gives.
 #[derive(Debug, Drop)]
 pub struct Listing {

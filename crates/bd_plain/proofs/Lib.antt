@@ -1,0 +1,4 @@
+pub mod PathOrder
+pub mod EntryPlaces
+pub mod TreeViews
+pub mod RefusalOrder

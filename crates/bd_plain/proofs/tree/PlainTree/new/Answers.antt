@@ -1,0 +1,9 @@
+use Rattle.std.proofs.Common.{◌≡◌, ap, ◌∙◌, [], ◌∷◌, rules}
+use Rattle.bd_model.specs.Tree.{Directory}
+use Rattle.bd_plain.proofs.TreeViews.{Entries, seen, root_seen}
+use Rattle.bd_plain.proofs.tree.PlainTree.new.Goals as goal
+
+pub returns : goal.returns
+returns c =
+    let alone : ◌≡◌ {A = Entries} c.push.new.self.items (([], Directory) ∷ []) = search rules in
+    ap seen alone ∙ root_seen

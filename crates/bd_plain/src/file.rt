@@ -1,0 +1,104 @@
+//! The bytes of a file.
+
+ghost use Rattle.std.specs.Prelude.{◌≡◌, ◌≤◌, ◌+◌, ◌^◌, ◌-◌, ◌++◌, [], length, take, drop, replicate, IfOk, OnOk};
+ghost use Rattle.bd_model.specs.Step.{resized, overwritten};
+
+use bd_keys::Bytes;
+use std::alloc::{AllocError, Global};
+use std::marker::Model;
+
+/// The most bytes that a file may have.
+pub const MAX_LEN: usize = 1 << 30;
+
+/// The bytes of a file, at most 2^30.
+#[derive(Debug, Drop)]
+pub struct File {
+    bytes: Vec<u8>,
+}
+
+impl Model for File {
+    ghost use Rattle.std.specs.Prelude.{List, ℕ, ◌≤◌, ◌^◌, length};
+
+    ghost Value = { List ℕ };
+
+    ghost view = { λ f. f.bytes.items };
+
+    ghost invariant = { λ f. length f.bytes.items ≤ 2 ^ 30 };
+}
+
+impl File {
+    /// A file without bytes.
+    pub fn empty(alloc: Global) -> File
+        ensures { result ≡ [] }
+    {
+        File {
+            bytes: Vec::new(alloc),
+        }
+    }
+
+    /// How many bytes it has.
+    pub fn len(&self) -> u32
+        ensures { result ≡ length self.now }
+    {
+        self.bytes.len() as u32
+    }
+
+    /// A second file with the same bytes.
+    pub fn copy(&self, alloc: Global) -> Result<File, AllocError>
+        ensures { IfOk result (λ copy. copy ≡ self.now) }
+    {
+        let bytes = Vec::from_slice(alloc, &self.bytes)?;
+        Ok(File { bytes })
+    }
+
+    /// At most `len` bytes from `off` on, fewer at the end.
+    pub fn read(&self, alloc: Global, off: u32, len: u32) -> Result<Bytes, AllocError>
+        ensures { IfOk result (λ read. read ≡ take len (drop off self.now)) }
+    {
+        let rest = from(&self.bytes, off as usize);
+        Bytes::from_slice(alloc, front(rest, len as usize))
+    }
+
+    /// The file cut, or extended with zeros, to a length.
+    pub fn resized(&self, alloc: Global, len: u32) -> Result<File, AllocError>
+        requires { len ≤ 2 ^ 30 }
+        ensures { IfOk result (λ new. new ≡ resized self.now len) }
+    {
+        let bytes = resized(alloc, &self.bytes, len as usize)?;
+        Ok(File { bytes })
+    }
+
+    /// The file extended with zeros to `off`, and overwritten from there on.
+    pub fn overwritten(&self, alloc: Global, off: u32, bytes: &[u8]) -> Result<File, AllocError>
+        requires { off + length bytes.now ≤ 2 ^ 30 }
+        ensures { IfOk result (λ new. new ≡ overwritten self.now off bytes.now) }
+    {
+        let mut new = resized(alloc, &self.bytes, off as usize)?;
+        new.extend_from_slice(bytes)?;
+        new.extend_from_slice(from(&self.bytes, off as usize + bytes.len()))?;
+        Ok(File { bytes: new })
+    }
+}
+
+/// The first bytes, at most `len`.
+fn front(bytes: &[u8], len: usize) -> &[u8]
+    ensures { result.now ≡ take len bytes.now }
+{
+    if len <= bytes.len() { &bytes[..len] } else { bytes }
+}
+
+/// The bytes from `off` on.
+fn from(bytes: &[u8], off: usize) -> &[u8]
+    ensures { result.now ≡ drop off bytes.now }
+{
+    if off <= bytes.len() { &bytes[off..] } else { &[] }
+}
+
+/// Bytes cut, or extended with zeros, to a length.
+fn resized(alloc: Global, bytes: &[u8], len: usize) -> Result<Vec<u8>, AllocError>
+    ensures { IfOk result (λ new. new.items ≡ resized bytes.now len) }
+{
+    let mut new = Vec::from_slice(alloc, front(bytes, len))?;
+    new.resize(len, 0)?;
+    Ok(new)
+}
