@@ -2,7 +2,7 @@
 use Rattle.std.proofs.Common.{◌≡◌, ◌≢◌, ℕ, ◌+◌, ◌<◌, ◌≤◌, Bool, true, false, cond, List, [], ◌∷◌, ◌++◌, length, take, refl, sym, ap, subst, ◌∙◌, append_assoc, nat_eq, arith, eqb-true, leb-true, leb-false}
 use Rattle.std.specs.List.{slice_split, onto_first, list_any, list_all, All}
 use Rattle.std.specs.Prelude.{map, nat_le, ltb, leb, ◌&&◌, not}
-use Rattle.std.proofs.lemmas.List.{append-nil, map-append, take_all, length-take-le, take-append-le}
+use Rattle.std.proofs.lemmas.List.{append-nil, map-append, take_all, length-take, length-take-le, take-append-le}
 use Rattle.std.proofs.lemmas.List.Elements.{All-take, All-append, All-nil, All-cons}
 use Rattle.std.proofs.lemmas.Bool.{lt-leb}
 use Rattle.std.proofs.lemmas.List.Splits.{slice_split_none}
@@ -195,7 +195,7 @@ pub record GoAlike (xs ys zs : List ℕ) : Type 0 where
   pub meanings : map line_of (whole_lines (xs ++ zs)) ≡ map line_of (whole_lines (ys ++ zs))
   pub rest : held (open_line (xs ++ zs)) ≡ held (open_line (ys ++ zs))
 
-held-append : (xs : List ℕ) (zs : List ℕ) → held (held xs ++ zs) ≡ held (xs ++ zs)
+pub held-append : (xs : List ℕ) (zs : List ℕ) → held (held xs ++ zs) ≡ held (xs ++ zs)
 held-append xs zs = by (nat_le (length xs) 8193) refl
   where
     by : (t : Bool) → nat_le (length xs) 8193 ≡ t → held (held xs ++ zs) ≡ held (xs ++ zs)
@@ -243,3 +243,22 @@ held_goes_on xs zs = by_bytes (GoAlike (held (open_line xs)) (open_line xs)) non
     more : (ys : List ℕ) (b : ℕ) → GoAlike (held (open_line xs)) (open_line xs) ys → (t : Bool) → nat_eq b 10 ≡ t → GoAlike (held (open_line xs)) (open_line xs) (ys ++ b ∷ [])
     more ys b h true e = subst (λ n. GoAlike (held (open_line xs)) (open_line xs) (ys ++ n ∷ [])) (sym (eqb-true b 10 e)) (alike_newline (held (open_line xs)) (open_line xs) ys h)
     more ys b h false e = alike_byte (held (open_line xs)) (open_line xs) ys b e h
+
+-- a short line is held whole
+pub held_short : (xs : List ℕ) → length xs ≤ 8193 → held xs ≡ xs
+held_short xs h = take_all 8193 xs h
+
+-- behind what is held already, nothing more is
+pub held_full : (xs ys : List ℕ) → length xs ≡ 8193 → held (xs ++ ys) ≡ xs
+held_full xs ys e = take-append-le 8193 xs ys (omega arith) ∙ take_all 8193 xs (omega arith)
+
+-- what stands open, as far as it is held
+pub record IsHeld (line : List ℕ) : Type 0 where
+  pub plain : HasNoNewline line
+  pub short : length line ≤ 8193
+
+pub held_is_held : (bytes : List ℕ) → IsHeld (held (open_line bytes))
+held_is_held bytes = record {
+  plain = All-take (λ k. nat_eq k 10 ≡ false) 8193 (open_line bytes) (no_newline-open_line bytes);
+  short = omega (arith, length-take 8193 (open_line bytes));
+}

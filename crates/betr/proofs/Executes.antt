@@ -72,7 +72,7 @@ executes_more p q r ls ms a b = record {
     ∙ ap (append_known p.written) (sym (text-append a.entries b.entries));
 }
 
-IsFront-append : {A : Type 0} (xs ys zs : List A) → IsFront ys zs → IsFront (xs ++ ys) (xs ++ zs)
+pub IsFront-append : {A : Type 0} (xs ys zs : List A) → IsFront ys zs → IsFront (xs ++ ys) (xs ++ zs)
 IsFront-append xs ys zs h = (h.0, ap (λ l. xs ++ l) h.1 ∙ sym (append_assoc xs ys h.0))
 
 falters_more : (p q : Point) (ls ms : List ScriptLine) (n : ℕ) (w : Option (List ℕ)) → Executes p ls q → Falters q ms n w → Falters p (ls ++ ms) n w

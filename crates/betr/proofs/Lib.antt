@@ -1,1 +1,3 @@
 pub mod Executes
+pub mod Feeding
+pub mod Scripts

@@ -2,3 +2,4 @@ pub mod Fault
 pub mod Session
 pub mod Words
 pub mod Shell
+pub mod Taken

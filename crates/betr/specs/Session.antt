@@ -1,5 +1,5 @@
 -- What a session does with the lines of a script.
-use Rattle.std.specs.Prelude.{◌≡◌, ℕ, ◌+◌, ◌^◌, ◌≤◌, ◌<◌, Bool, true, false, List, [], ◌∷◌, ◌++◌, length, map, sum_by, Option}
+use Rattle.std.specs.Prelude.{◌≡◌, ℕ, ◌+◌, ◌^◌, ◌≤◌, ◌<◌, Bool, true, false, List, [], ◌∷◌, ◌++◌, length, map, sum_by, Option, IfSome}
 use Rattle.std.specs.List.{list_any}
 use Rattle.std.specs.Io.KnownBytes.{append_known, prepend_known, IsAtEnd}
 use Rattle.bd_io.specs.Written.{WrotePart}
@@ -50,3 +50,56 @@ Leaves Memory from lines written = (count : ℕ) × Falters from lines count wri
 Leaves TooLong from lines written = (count : ℕ) × Falters from lines count written
 Leaves (Worn which) from lines written = (count : ℕ) × Falters from lines count written × (which ≡ Count) × (2 ^ 64 ≤ count + 1)
 Leaves Sink from lines written = IsCutShort from lines written
+
+-- ---- a whole script, of which `script` is what is left of the source before, and `rest` after
+
+-- the lines of a script, up to the first `stop`
+abbrev pub lines_to_run : List ℕ → List ScriptLine
+lines_to_run script = up_to_stop (map line_of (lines_of script))
+
+-- so many bytes of a script at the most are taken
+abbrev pub script_limit : ℕ
+script_limit = 16777216
+
+-- what was taken ends with a piece of at most 4,096 bytes, before which there was no `stop`
+pub record TakesNoMore (taken : List ℕ) : Type 0 where
+  pub before : List ℕ
+  pub piece : List ℕ
+  pub taken_is : taken ≡ before ++ piece
+  pub short : length piece ≤ 4096
+  pub no_stop : list_any is_stop (map line_of (whole_lines before)) ≡ false
+
+-- all the lines were executed, to the end or up to `stop`, and their replies written, and nothing else
+pub record Finishes (from : Point) (script rest written : Option (List ℕ)) : Type 0 where
+  pub entries : List Executed
+  pub transcript : IsTranscript from.tree entries
+  pub written_is : written ≡ append_known from.written (text entries)
+  pub taken : List ℕ
+  pub taken_is : script ≡ prepend_known taken rest
+  pub few : length taken ≤ script_limit
+  pub lines_are : IfSome script (λ bytes. executed_lines entries ≡ lines_to_run bytes)
+  pub no_more : TakesNoMore taken
+
+-- the lines that stand whole in what was taken were executed, none of them a `stop`, and then `more` came of the source
+pub record EndsWithin (from : Point) (script rest written : Option (List ℕ)) (taken more : List ℕ) : Type 0 where
+  pub entries : List Executed
+  pub transcript : IsTranscript from.tree entries
+  pub written_is : written ≡ append_known from.written (text entries)
+  pub taken_is : script ≡ prepend_known (taken ++ more) rest
+  pub lines_are : executed_lines entries ≡ map line_of (whole_lines taken)
+  pub no_stop : list_any is_stop (executed_lines entries) ≡ false
+
+-- some of the script's lines were executed, from the first on
+pub record EndsAmong (fault : Fault) (from : Point) (script written : Option (List ℕ)) : Type 0 where
+  pub lines : List ScriptLine
+  pub lines_are : IfSome script (λ bytes. lines ≡ lines_to_run bytes)
+  pub left : Leaves fault from lines written
+
+-- what a fault leaves of a script
+abbrev pub Ends : Fault → Point → Option (List ℕ) → Option (List ℕ) → Option (List ℕ) → Type 0
+Ends Device from script rest written = EndsAmong Device from script written
+Ends Source from script rest written = (taken : List ℕ) × (length taken ≤ script_limit) × EndsWithin from script rest written taken []
+Ends Memory from script rest written = EndsAmong Memory from script written
+Ends TooLong from script rest written = (taken : List ℕ) × (byte : ℕ) × (length taken ≡ script_limit) × EndsWithin from script rest written taken (byte ∷ [])
+Ends (Worn which) from script rest written = EndsAmong (Worn which) from script written
+Ends Sink from script rest written = EndsAmong Sink from script written

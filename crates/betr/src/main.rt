@@ -3,6 +3,7 @@
 #![tactic(auto)]
 
 mod fault;
+mod session;
 mod shell;
 
 fn main() {}

@@ -6,11 +6,12 @@ ghost use Rattle.bd_io.specs.Written.{WrotePart};
 ghost use Rattle.bd_model.specs.Lines.{line_of, whole_lines, open_line, held};
 ghost use Rattle.bd_model.specs.Replies.{reply_line};
 ghost use Rattle.bd_model.specs.Transcript.{Follows, IsThere, accepted_by, is_stop, up_to_stop};
+ghost use Rattle.bd_model.proofs.CutLines.{IsHeld};
 ghost use Rattle.bd_script.specs.Line.{script_line};
 ghost use Rattle.bd_volume.specs.Volume.{tree_of, count_of};
 ghost use Rattle.betr.specs.Fault.{HasCauseIn};
 ghost use Rattle.betr.specs.Session.{Executes, Leaves};
-ghost use Rattle.betr.specs.Shell.{stops, point_of, IsAnswerFault, IsShellResult};
+ghost use Rattle.betr.specs.Shell.{stops, point_of, lines_at, line_after, last_lines, meanings, IsAtStart, IsAnswerFault, IsShellResult};
 
 use crate::fault::Fault;
 use bd_command::{Refusal, Reply};
@@ -18,7 +19,7 @@ use bd_device::Device;
 use bd_io::{Failed, Sink, put_all};
 use bd_script::{Line, LineFault, read_line};
 use bd_volume::Volume;
-use std::alloc::Global;
+use std::alloc::{AllocError, Global};
 
 /// How a session goes on after a line.
 #[derive(Clone, Copy, Debug, PartialEq, Eq)]
@@ -105,4 +106,98 @@ fn carry_out<D: Device + Drop, K: Sink>(
         },
         Err(fault) => Err(fault),
     }
+}
+
+/// The bytes of a line that are held: one more than a line may have.
+const HELD: usize = 8193;
+
+/// A volume, and what has come of the next line.
+#[derive(Drop)]
+pub struct Shell<D> {
+    volume: Volume<D>,
+    line: Vec<u8>,
+    buffer: Box<[u8; 32768]>,
+}
+
+impl<D: Device + Drop> Shell<D> {
+    /// A shell over a new volume on a device. The one fault is `Fault::Memory`.
+    pub fn new(alloc: Global, dev: D) -> Result<Shell<D>, Fault>
+        ensures start { IfOk result (λ s. IsAtStart s) }
+        ensures fault { IfErr result (λ e. e ≡ Fault.Memory) }
+    {
+        let buffer = Box::new(alloc, [0; 32768]).map_err(|_| Fault::Memory)?;
+        let volume = Volume::start(alloc, dev).map_err(|_| Fault::Memory)?;
+        Ok(Shell {
+            volume,
+            line: Vec::new(alloc),
+            buffer,
+        })
+    }
+
+    /// Takes the next byte of a script: a newline has the line before it executed.
+    fn feed_byte<K: Sink>(&mut self, alloc: Global, byte: u8, sink: &mut K) -> Result<Flow, Fault>
+        requires { length self.old.line.items ≤ 8193 }
+        ensures ok { OnOk result (Executes (point_of self.old.volume (K.written sink.old)) (lines_at byte self.old.line.items) (point_of self.new.volume (K.written sink.new))) }
+        ensures line { OnOk result (self.new.line.items ≡ line_after byte self.old.line.items) }
+        ensures flow { IfOk result (λ flow. stops flow ≡ list_any is_stop (lines_at byte self.old.line.items)) }
+        ensures err { IfErr result (λ e. Leaves e (point_of self.old.volume (K.written sink.old)) (lines_at byte self.old.line.items) (K.written sink.new)) }
+        ensures cause { IsShellResult (K.fault_count sink.old) (K.fault_count sink.new) result }
+    {
+        if byte == b'\n' {
+            let flow = carry_out(alloc, &mut self.volume, &self.line, &mut self.buffer, sink)?;
+            self.line.clear();
+            return Ok(flow);
+        }
+        match hold(&mut self.line, byte) {
+            Ok(()) => Ok(Flow::Continue),
+            Err(_) => Err(Fault::Memory),
+        }
+    }
+
+    /// Takes the next bytes of a script, up to a `stop`: each line that they make whole is executed. At a fault
+    /// the lines before it were executed.
+    pub fn feed<K: Sink>(&mut self, alloc: Global, piece: &[u8], sink: &mut K) -> Result<Flow, Fault>
+        requires { IsHeld self.old.line.items }
+        ensures ok { OnOk result (Executes (point_of self.old.volume (K.written sink.old)) (up_to_stop (meanings (self.old.line.items ++ piece.now))) (point_of self.new.volume (K.written sink.new))) }
+        ensures flow { IfOk result (λ flow. stops flow ≡ list_any is_stop (meanings (self.old.line.items ++ piece.now))) }
+        ensures line { IfOk result (λ flow. stops flow ≡ false → self.new.line.items ≡ held (open_line (self.old.line.items ++ piece.now))) }
+        ensures err { IfErr result (λ e. Leaves e (point_of self.old.volume (K.written sink.old)) (up_to_stop (meanings (self.old.line.items ++ piece.now))) (K.written sink.new)) }
+        ensures cause { IsShellResult (K.fault_count sink.old) (K.fault_count sink.new) result }
+    {
+        for byte in piece {
+            match self.feed_byte(alloc, *byte, sink) {
+                Ok(Flow::Continue) => {}
+                Ok(Flow::Stop) => return Ok(Flow::Stop),
+                Err(fault) => return Err(fault),
+            }
+        }
+        Ok(Flow::Continue)
+    }
+
+    /// Executes what stands open at the end of a script, where that isn't empty.
+    pub fn finish<K: Sink>(&mut self, alloc: Global, sink: &mut K) -> Result<(), Fault>
+        ensures ok { OnOk result (Executes (point_of self.old.volume (K.written sink.old)) (last_lines self.old.line.items) (point_of self.new.volume (K.written sink.new))) }
+        ensures err { IfErr result (λ e. Leaves e (point_of self.old.volume (K.written sink.old)) (last_lines self.old.line.items) (K.written sink.new)) }
+        ensures cause { IsShellResult (K.fault_count sink.old) (K.fault_count sink.new) result }
+    {
+        if self.line.is_empty() {
+            return Ok(());
+        }
+        match carry_out(alloc, &mut self.volume, &self.line, &mut self.buffer, sink) {
+            Ok(_) => Ok(()),
+            Err(fault) => Err(fault),
+        }
+    }
+}
+
+/// Adds a byte to a line, as far as it is held.
+fn hold(line: &mut Vec<u8>, byte: u8) -> Result<(), AllocError>
+    requires { length line.old.items ≤ 8193 }
+    ensures ok { OnOk result (line.new.items ≡ held (line.old.items ++ byte ∷ [])) }
+    ensures err { OnErr result (line.new.items ≡ line.old.items) }
+{
+    if line.len() < HELD {
+        line.push(byte)?;
+    }
+    Ok(())
 }
