@@ -1,7 +1,7 @@
 ghost use Rattle.std.specs.Prelude.{◌≡◌, ◌<◌, ℕ, List, Option, Some, IfSome, IfNone, is_some, [], ◌∷◌, OnOk, OnErr, slice_get};
-ghost use Rattle.bd_io.specs.Cause.{HasCause};
+ghost use Rattle.bd_io.specs.Cause.{HasCause, IsCounted};
 ghost use Rattle.bd_device.specs.Blocks.{Image, HasBlocks, with_block, ChangesOnly};
-ghost use Rattle.bd_device.specs.Calls.{IsCounted, write_faults_after};
+ghost use Rattle.bd_device.specs.Calls.{write_faults_after};
 
 use bd_io::Failed;
 

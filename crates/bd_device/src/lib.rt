@@ -3,5 +3,9 @@
 #![tactic(auto)]
 
 mod device;
+mod mem_device;
+mod write_record;
 
 pub use device::{Attach, BLOCK_SIZE, Device};
+pub use mem_device::MemDevice;
+pub use write_record::WriteRecord;

@@ -1,5 +1,5 @@
 -- A source and a sink in memory, as their callers see them.
-use Rattle.std.specs.Prelude.{ℕ, ◌-◌, ◌<◌, Bool, ◌&&◌, ◌||◌, nat_lt, nat_le, List, length, min}
+use Rattle.std.specs.Prelude.{ℕ, ◌-◌, Bool, ◌&&◌, ◌||◌, nat_lt, nat_le, List, length, min}
 use Rattle.bd_io.specs.Plan.{PlannedCalls, next_fails}
 
 -- the bytes that are left, the most that one take gives, and the calls

@@ -1,5 +1,5 @@
 ghost use Rattle.std.specs.Prelude.{◌≡◌, ◌||◌, IfOk, is_err};
-ghost use Rattle.bd_io.specs.Cause.{HasCause};
+ghost use Rattle.bd_io.specs.Cause.{HasCause, IsCounted};
 ghost use Rattle.bd_io.specs.Plan.{planned, next_fails, calls_after};
 
 use crate::Failed;
@@ -40,6 +40,7 @@ impl CallPlan {
         ensures fails { is_err result ≡ (next_fails self.old || refused) }
         ensures after { self.new ≡ calls_after self.old result }
         ensures cause { HasCause self.old.faults self.new.faults result }
+        ensures counted { IsCounted self.old.calls self.new.calls result }
     {
         let fails = self.calls == u64::MAX || self.fail.contains(&(self.calls + 1)) || refused;
         self.calls = self.calls.saturating_add(1);
