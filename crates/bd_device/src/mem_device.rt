@@ -62,7 +62,7 @@ impl MemDevice {
             writes = []; room = writes; plan = planned fail.now; write_faults = 0 }) }
     {
         Ok(MemDevice {
-            blocks: vec![in alloc; [0; BLOCK_SIZE]; blocks as usize]?,
+            blocks: zero_blocks(alloc, blocks as usize)?,
             size: blocks,
             attached: true,
             writes: Vec::with_capacity(alloc, writes)?,
@@ -93,6 +93,18 @@ impl MemDevice {
         }
         result
     }
+}
+
+// This many zero blocks.
+fn zero_blocks(alloc: Global, count: usize) -> Result<Vec<[u8; BLOCK_SIZE]>, AllocError>
+    ensures zero { IfOk result (λ blocks. All IsZero blocks.items) }
+    ensures shape { IfOk result (λ blocks. HasBlocks count blocks.items) }
+{
+    let mut blocks = Vec::with_capacity(alloc, count)?;
+    while blocks.len() < count {
+        blocks.push([0; BLOCK_SIZE])?;
+    }
+    Ok(blocks)
 }
 
 impl Device for MemDevice {
