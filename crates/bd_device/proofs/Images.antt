@@ -1,5 +1,5 @@
 -- Writes to the blocks of an image, of which only the first are attached.
-use Rattle.std.proofs.Common.{◌≡◌, ℕ, ◌<◌, ◌≤◌, List, [], Bool, true, false, if◌then◌else◌, Some, length, take, refl, sym, ap, arith, All, slice_set, slice_index_or, Result, Ok, Err, OnErr}
+use Rattle.std.proofs.Common.{◌≡◌, ℕ, ◌<◌, ◌≤◌, List, [], Bool, true, false, if◌then◌else◌, Some, length, take, sym, ap, arith, All, slice_set, slice_index_or, Result, Ok, Err, OnErr}
 use Rattle.std.proofs.lemmas.List.{set-get_or, length-take-le}
 use Rattle.std.proofs.lemmas.List.Elements.{All-take}
 use Rattle.std.proofs.Math.Seq.{take-set-lt}

@@ -1,5 +1,5 @@
 -- A device in memory, as its callers see it.
-use Rattle.std.specs.Prelude.{◌≡◌, ℕ, ◌<◌, Bool, ◌||◌, nat_lt, nat_le, if◌then◌else◌, List, [], Option, length, take, unwrap_or, slice_index, EachIndex}
+use Rattle.std.specs.Prelude.{◌≡◌, ℕ, Bool, ◌||◌, nat_lt, nat_le, if◌then◌else◌, List, [], Option, length, take, unwrap_or, slice_index, EachIndex}
 use Rattle.bd_io.specs.Plan.{PlannedCalls, next_fails}
 use Rattle.bd_device.specs.Blocks.{Image}
 use Rattle.bd_device.specs.declared.write_record.WriteRecord.{WriteRecord}

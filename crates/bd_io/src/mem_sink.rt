@@ -1,5 +1,4 @@
-ghost use Rattle.std.specs.Prelude.{◌≡◌, ◌≤◌, ◌<◌, Some, [], length, take, IfOk, OnErr, is_err};
-ghost use Rattle.std.specs.Io.KnownBytes.{append_known};
+ghost use Rattle.std.specs.Prelude.{◌≡◌, ◌≤◌, ◌<◌, ◌++◌, Some, [], length, take, IfOk, OnErr, is_err};
 ghost use Rattle.bd_io.specs.Cause.{HasCause};
 ghost use Rattle.bd_io.specs.Memory.{taken_count, put_fails};
 ghost use Rattle.bd_io.specs.Plan.{planned, calls_after};
@@ -59,8 +58,8 @@ impl Sink for MemSink {
     fn put(&mut self, piece: &[u8]) -> Result<usize, Failed>
         ensures within { IfOk result (λ n. n ≤ length piece.now) }
         ensures advances { IfOk result (λ n. 0 < length piece.now → 0 < n) }
-        ensures bytes { IfOk result (λ n. Some self.new.written ≡ append_known (Some self.old.written) (take n piece.now)) }
-        ensures kept { OnErr result (Some self.new.written ≡ Some self.old.written) }
+        ensures bytes { IfOk result (λ n. self.new.written ≡ self.old.written ++ take n piece.now) }
+        ensures kept { OnErr result (self.new.written ≡ self.old.written) }
         ensures cause { HasCause self.old.plan.faults self.new.plan.faults result }
 
         // It fails exactly by its plan or for want of room, and takes as much as it can.

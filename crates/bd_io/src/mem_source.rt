@@ -1,5 +1,4 @@
-ghost use Rattle.std.specs.Prelude.{◌≡◌, ◌≤◌, ◌<◌, Some, [], length, take, IfOk, OnErr, is_err};
-ghost use Rattle.std.specs.Io.KnownBytes.{prepend_known};
+ghost use Rattle.std.specs.Prelude.{◌≡◌, ◌≤◌, ◌<◌, ◌++◌, Some, [], length, take, IfOk, OnErr, is_err};
 ghost use Rattle.bd_io.specs.Cause.{HasCause};
 ghost use Rattle.bd_io.specs.Memory.{given_count};
 ghost use Rattle.bd_io.specs.Plan.{planned, next_fails, calls_after};
@@ -57,9 +56,9 @@ impl Source for MemSource {
 
     fn take(&mut self, into: &mut [u8]) -> Result<usize, Failed>
         ensures room { IfOk result (λ n. n ≤ length into.new) }
-        ensures bytes { IfOk result (λ n. Some self.old.left ≡ prepend_known (take n into.new) (Some self.new.left)) }
+        ensures bytes { IfOk result (λ n. self.old.left ≡ take n into.new ++ self.new.left) }
         ensures end { IfOk result (λ n. n ≡ 0 → 0 < length into.new → self.new.left ≡ []) }
-        ensures kept { OnErr result (Some self.new.left ≡ Some self.old.left) }
+        ensures kept { OnErr result (self.new.left ≡ self.old.left) }
         ensures cause { HasCause self.old.plan.faults self.new.plan.faults result }
 
         // It fails exactly by its plan, and gives as much as it can.

@@ -1,4 +1,4 @@
-use Rattle.std.proofs.Common.{◌≡◌, ℕ, ◌<◌, ◌≤◌, All, Some, length, subst, sym, ap, ◌∙◌, slice_set, Option}
+use Rattle.std.proofs.Common.{◌≡◌, ℕ, ◌<◌, ◌≤◌, All, Some, length, subst, sym, ap, ◌∙◌, slice_set}
 use Rattle.bd_device.specs.Blocks.{Image, IsBlock, ChangesOnly}
 use Rattle.bd_device.specs.Memory.{MemoryDevice, attached_image, attached_size}
 use Rattle.bd_device.proofs.Images.{attached-set, ChangesOnly-attached, OnErr-always}
@@ -19,6 +19,5 @@ returns-clause-written c =
     let i = c.self-2.inside in
     let after = c.self-2.view_is ∙ c.writing_call.ensures.after in
     let within = subst (λ (n : ℕ). c.args.b < n) (sym (ap attached_size after)) c.requires in
-    ap Some (
     attached-set i.attached i.size c.args.b i.blocks.items c.args.from.now within
-    ∙ ap (λ (image : Image). slice_set image c.args.b c.args.from.now) (ap attached_image after))
+    ∙ ap (λ (image : Image). slice_set image c.args.b c.args.from.now) (ap attached_image after)
