@@ -6,6 +6,6 @@ use Rattle.bd_io.proofs.mem_source.MemSourceSource.take.Goals as goal
 
 pub returns-clause-bytes : goal.returns-clause-bytes
 returns-clause-bytes c =
-        sym (ap (λ (s : MemorySource). s.left) c.self.view_is)
+    sym (ap (λ (s : MemorySource). s.left) c.self.view_is)
     ∙ taken_and_left c.self.inside.bytes.items c.args.into.now c.copy_from_slice.new.self c.self.inside.at c.min-count.result
     (grind (arith, common_steps)) (grind (arith, common_steps))
