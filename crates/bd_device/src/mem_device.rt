@@ -34,13 +34,13 @@ impl Model for MemDevice {
     ghost Value = { MemoryDevice };
 
     ghost view = { λ d. record {
-        blocks = d.blocks.items;
-        size = d.size;
-        attached = d.attached;
-        writes = d.writes.items;
-        room = d.room;
-        plan = d.plan;
-        write_faults = d.write_faults;
+      blocks = d.blocks.items;
+      size = d.size;
+      attached = d.attached;
+      writes = d.writes.items;
+      room = d.room;
+      plan = d.plan;
+      write_faults = d.write_faults;
     } };
 
     ghost invariant = { λ d. (d.size ≤ length d.blocks.items) × All IsBlock d.blocks.items
@@ -58,8 +58,15 @@ impl MemDevice {
     ) -> Result<MemDevice, AllocError>
         ensures zero { IfOk result (λ device. All IsZero device.blocks) }
         ensures shape { IfOk result (λ device. HasBlocks blocks device.blocks) }
-        ensures fresh { IfOk result (λ device. device ≡ record { blocks = device.blocks; size = blocks; attached = true;
-            writes = []; room = writes; plan = planned fail.now; write_faults = 0 }) }
+        ensures fresh { IfOk result (λ device. device ≡ record {
+          blocks = device.blocks;
+          size = blocks;
+          attached = true;
+          writes = [];
+          room = writes;
+          plan = planned fail.now;
+          write_faults = 0;
+        }) }
     {
         Ok(MemDevice {
             blocks: zero_blocks(alloc, blocks as usize)?,
@@ -82,8 +89,10 @@ impl MemDevice {
     // Counts a write or a barrier, which fails also where `refused` says so.
     fn writing_call(&mut self, refused: bool) -> Result<(), Failed>
         ensures fails { is_err result ≡ (next_fails self.old.plan || refused) }
-        ensures after { self.new ≡ record self.old { plan = calls_after self.old.plan result;
-            write_faults = write_faults_after self.old.write_faults result } }
+        ensures after { self.new ≡ record self.old {
+          plan = calls_after self.old.plan result;
+          write_faults = write_faults_after self.old.write_faults result;
+        } }
         ensures cause { HasCause self.old.plan.faults self.new.plan.faults result }
         ensures calls { IsCounted self.old.plan.calls self.new.plan.calls result }
     {
@@ -145,17 +154,25 @@ impl Device for MemDevice {
 
         // It fails exactly by its plan or for want of room, and then changes only its counts.
         ensures fails { is_err result ≡ write_fails self.old }
-        ensures ok { OnOk result (self.new ≡ record self.old { plan = calls_after self.old.plan result;
-            blocks = slice_set self.old.blocks b from.now;
-            writes = self.old.writes ++ record { call = self.new.plan.calls; block = b; bytes = from.now } ∷ [] }) }
-        ensures err { OnErr result (self.new ≡ record self.old { plan = calls_after self.old.plan result;
-            write_faults = write_faults_after self.old.write_faults result }) }
+        ensures ok { OnOk result (self.new ≡ record self.old {
+          plan = calls_after self.old.plan result;
+          blocks = slice_set self.old.blocks b from.now;
+          writes = self.old.writes ++ record { call = self.new.plan.calls; block = b; bytes = from.now } ∷ [];
+        }) }
+        ensures err { OnErr result (self.new ≡ record self.old {
+          plan = calls_after self.old.plan result;
+          write_faults = write_faults_after self.old.write_faults result;
+        }) }
     {
         let is_full = self.writes.len() >= self.room;
         self.writing_call(is_full)?;
         self.blocks[b as usize] = *from;
         let call = self.plan.calls();
-        let record = WriteRecord { call, block: b, bytes: *from };
+        let record = WriteRecord {
+            call,
+            block: b,
+            bytes: *from,
+        };
         self.writes.push(record).unwrap();
         Ok(())
     }
@@ -165,8 +182,10 @@ impl Device for MemDevice {
 
         // It fails exactly by its plan, and changes only its counts.
         ensures fails { is_err result ≡ next_fails self.old.plan }
-        ensures after { self.new ≡ record self.old { plan = calls_after self.old.plan result;
-            write_faults = write_faults_after self.old.write_faults result } }
+        ensures after { self.new ≡ record self.old {
+          plan = calls_after self.old.plan result;
+          write_faults = write_faults_after self.old.write_faults result;
+        } }
     {
         self.writing_call(false)
     }
@@ -193,8 +212,11 @@ impl Attach for MemDevice {
 
         // It fails exactly by its plan or for want of blocks. No block changes.
         ensures fails { is_err result ≡ attach_fails self.old create }
-        ensures after { self.new ≡ record self.old { plan = calls_after self.old.plan result; attached = is_ok result;
-            size = if is_ok result then unwrap_or create self.old.size else self.old.size } }
+        ensures after { self.new ≡ record self.old {
+          plan = calls_after self.old.plan result;
+          attached = is_ok result;
+          size = if is_ok result then unwrap_or create self.old.size else self.old.size;
+        } }
     {
         let size = create.unwrap_or(self.size);
         self.attached = false;
