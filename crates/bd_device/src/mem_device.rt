@@ -10,10 +10,11 @@ use bd_io::{CallPlan, Failed};
 use std::alloc::{AllocError, Global};
 use std::marker::Model;
 
-/// A device in memory, with a record of the writes that were done. It tells its contents, shows its one image for
-/// every name, and takes no memory after it is made. It fails at the listed calls, at a count of calls that stands
-/// at its last value, at an attach that asks for more blocks than it was made with and at a write past its number
-/// of writes, and nowhere else. A failed write changes no block.
+/// A device in memory, with a record of the writes that were done. It tells its contents, shows its
+/// one image for every name, and takes no memory after it is made. It fails at the listed calls, at
+/// a count of calls that stands at its last value, at an attach that asks for more blocks than it
+/// was made with and at a write past its number of writes, and nowhere else. A failed write changes
+/// no block.
 #[derive(Drop)]
 pub struct MemDevice {
     blocks: Vec<[u8; BLOCK_SIZE]>,
@@ -48,8 +49,8 @@ impl Model for MemDevice {
 }
 
 impl MemDevice {
-    /// A device of `blocks` zero blocks, attached, with room for the records of `writes` writes. `fail` lists the
-    /// numbers of the calls that are to fail, the first being 1.
+    /// A device of `blocks` zero blocks, attached, with room for the records of `writes` writes.
+    /// `fail` lists the numbers of the calls that are to fail, the first being 1.
     pub fn new(
         alloc: Global,
         blocks: u64,
@@ -148,7 +149,8 @@ impl Device for MemDevice {
     fn write(&mut self, b: u64, from: &[u8; BLOCK_SIZE]) -> Result<(), Failed>
         requires { b < attached_size self.old }
         ensures written { OnOk result (attached_image self.new ≡ slice_set (attached_image self.old) b from.now) }
-        ensures others { OnErr result (ChangesOnly b (Some (attached_image self.old)) (Some (attached_image self.new))) }
+        ensures others { OnErr result
+            (ChangesOnly b (Some (attached_image self.old)) (Some (attached_image self.new))) }
         ensures shape { HasBlocks (attached_size self.new) (attached_image self.new) }
         ensures cause { HasCause self.old.plan.faults self.new.plan.faults result }
 

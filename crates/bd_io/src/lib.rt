@@ -1,5 +1,5 @@
 //! Where a script comes from and where replies go: sources and sinks, in memory and over std.
-//! Layers above use the contracts of `Source` and `Sink`: bytes where they are known, and a cause for each fault.
+//! Layers above use the contracts of `Source` and `Sink`: known bytes, and a cause for each fault.
 #![tactic(auto)]
 
 mod failed;

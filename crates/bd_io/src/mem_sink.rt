@@ -7,9 +7,9 @@ use crate::{CallPlan, Failed, Sink};
 use std::alloc::{AllocError, Global};
 use std::marker::Model;
 
-/// A sink in memory. It tells its contents, takes no memory after it is made, and fails at the listed calls, at
-/// a count of calls that stands at its last value, and at a piece of some bytes without a byte of room, and
-/// nowhere else.
+/// A sink in memory. It tells its contents, takes no memory after it is made, and fails at the
+/// listed calls, at a count of calls that stands at its last value, and at a piece of some bytes
+/// without a byte of room, and nowhere else.
 #[derive(Drop)]
 pub struct MemSink {
     written: Vec<u8>,
@@ -30,8 +30,8 @@ impl Model for MemSink {
 }
 
 impl MemSink {
-    /// An empty sink with room for `room` bytes. `fail` lists the numbers of the calls that are to fail, the
-    /// first being 1.
+    /// An empty sink with room for `room` bytes. `fail` lists the numbers of the calls that are to
+    /// fail, the first being 1.
     pub fn new(alloc: Global, room: usize, fail: &[u64]) -> Result<MemSink, AllocError>
         ensures { IfOk result (λ sink. sink ≡ record { written = []; room = room; plan = planned fail.now }) }
     {

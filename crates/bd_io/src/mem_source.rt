@@ -7,8 +7,8 @@ use crate::{CallPlan, Failed, Source};
 use std::alloc::{AllocError, Global};
 use std::marker::Model;
 
-/// A source in memory. It tells its contents, takes no memory after it is made, and fails at the listed calls
-/// and at a count of calls that stands at its last value, and nowhere else.
+/// A source in memory. It tells its contents, takes no memory after it is made, and fails at the
+/// listed calls and at a count of calls that stands at its last value, and nowhere else.
 #[derive(Drop)]
 pub struct MemSource {
     bytes: Vec<u8>,
@@ -29,8 +29,8 @@ impl Model for MemSource {
 }
 
 impl MemSource {
-    /// A source of these bytes that gives at most `piece` of them a take. `fail` lists the numbers of the calls
-    /// that are to fail, the first being 1.
+    /// A source of these bytes that gives at most `piece` of them a take. `fail` lists the numbers
+    /// of the calls that are to fail, the first being 1.
     pub fn new(
         alloc: Global,
         bytes: &[u8],

@@ -6,8 +6,8 @@ use crate::Failed;
 use std::alloc::{AllocError, Global};
 use std::marker::Model;
 
-/// Counts the calls of an object in memory from 1 on, and lets those fail whose numbers are listed. Its counts
-/// stop at a u64's last value, and at that count of calls each further call fails.
+/// Counts the calls of an object in memory from 1 on, and lets those fail whose numbers are listed.
+/// Its counts stop at a u64's last value, and at that count of calls each further call fails.
 #[derive(Drop)]
 pub struct CallPlan {
     fail: Vec<u64>,

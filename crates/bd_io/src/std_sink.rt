@@ -4,9 +4,10 @@ use crate::{Failed, Sink};
 use std::io::Write;
 use std::marker::Model;
 
-/// A sink over a writer of std, which doesn't tell its contents. Each error of the writer is a fault, also that
-/// of an interrupted write, and so is a write that takes nothing of a piece that isn't empty. It never flushes:
-/// what the writer keeps back is the caller's to flush. It is seen as its count of faults.
+/// A sink over a writer of std, which doesn't tell its contents. Each error of the writer is a
+/// fault, also that of an interrupted write, and so is a write that takes nothing of a piece that
+/// isn't empty. It never flushes: what the writer keeps back is the caller's to flush. It is seen
+/// as its count of faults.
 #[derive(Drop)]
 pub struct StdSink<W: Write> {
     writer: W,

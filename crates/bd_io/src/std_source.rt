@@ -4,8 +4,8 @@ use crate::{Failed, Source};
 use std::io::Read;
 use std::marker::Model;
 
-/// A source over a reader of std, which doesn't tell its contents. Each error of the reader is a fault, also
-/// that of an interrupted read. It is seen as its count of faults.
+/// A source over a reader of std, which doesn't tell its contents. Each error of the reader is a
+/// fault, also that of an interrupted read. It is seen as its count of faults.
 #[derive(Drop)]
 pub struct StdSource<R: Read> {
     reader: R,
