@@ -1,7 +1,7 @@
 ghost use Rattle.std.specs.Prelude.{◌≡◌, ◌<◌, ℕ, List, Option, Some, IfSome, IfNone, is_some, [], ◌∷◌, OnOk, OnErr, slice_get};
-ghost use Rattle.bd_io.specs.Cause.{HasCause};
+ghost use Rattle.bd_io.specs.Cause.{HasCause, IsCounted};
 ghost use Rattle.bd_device.specs.Blocks.{Image, HasBlocks, with_block, ChangesOnly};
-ghost use Rattle.bd_device.specs.Calls.{IsCounted, write_faults_after};
+ghost use Rattle.bd_device.specs.Calls.{write_faults_after};
 
 use bd_io::Failed;
 
@@ -25,19 +25,20 @@ pub trait Device {
     /// How many reads, writes, barriers and attaches there were, also those that failed.
     ghost call_count: { Self → ℕ };
 
-    /// The loans through which calls reach the device, the outermost first: none for the device itself.
+    /// The loans through which calls reach the device, the outermost first: none for the device
+    /// itself.
     ghost loans: { Self → List ℕ } = { λ _. [] };
 
-    // Two more meanings belong here, with clauses of `write`, `barrier` and `attach`: what a crash now may
-    // leave, and what a crash at some moment since a call might have left.
+    // Two more meanings belong here, with clauses of `write`, `barrier` and `attach`: what a crash
+    // now may leave, and what a crash at some moment since a call might have left.
 
     /// How many blocks it has. Only an attach changes it.
     fn blocks(&self) -> u64
         ensures count { result ≡ block_count self.now }
         ensures shape { IfSome (contents self.now) (HasBlocks (block_count self.now)) };
 
-    /// Reads block `b` into `into`. `Failed` comes only where the count of faults rose in this call or
-    /// stands at its last value; `into` then holds any bytes.
+    /// Reads block `b` into `into`. `Failed` comes only where the count of faults rose in this call
+    /// or stands at its last value; `into` then holds any bytes.
     fn read(&mut self, b: u64, into: &mut [u8; BLOCK_SIZE]) -> Result<(), Failed>
         requires { b < block_count self.old }
         ensures bytes { OnOk result (IfSome (contents self.old) (λ image. slice_get image b ≡ Some into.new)) }
@@ -48,11 +49,13 @@ pub trait Device {
         ensures calls { IsCounted (call_count self.old) (call_count self.new) result }
         ensures same_loans { loans self.new ≡ loans self.old };
 
-    /// Writes block `b`. `Failed` comes as of `read`; block `b` then holds any bytes, and the others stay.
+    /// Writes block `b`. `Failed` comes as of `read`; block `b` then holds any bytes, and the
+    /// others stay.
     fn write(&mut self, b: u64, from: &[u8; BLOCK_SIZE]) -> Result<(), Failed>
         requires { b < block_count self.old }
         ensures written { OnOk result (contents self.new ≡ with_block b from.now (contents self.old)) }
         ensures others { OnErr result (ChangesOnly b (contents self.old) (contents self.new)) }
+        ensures shape { IfSome (contents self.new) (HasBlocks (block_count self.new)) }
         ensures count { block_count self.new ≡ block_count self.old }
         ensures cause { HasCause (fault_count self.old) (fault_count self.new) result }
         ensures write_faults { write_fault_count self.new ≡ write_faults_after (write_fault_count self.old) result }
@@ -83,20 +86,24 @@ pub trait Device {
 
 /// A device whose image has a name and is found by it.
 pub trait Attach: Device {
-    /// What it shows for a name, where that is told: what reads give once an attach of it with `None` is done.
+    /// What it shows for a name, where that is told: what reads give once an attach of it with
+    /// `None` is done.
     ghost shows: { Self → List ℕ → Option Image };
 
     // What a crash may leave after a failed attach belongs here.
 
-    /// Takes the image of this name: the one that is there, or with `Some(n)` a new one of `n` blocks, which
-    /// may hold any bytes. `Failed` comes only where the count of faults rose in this call or stands at its
-    /// last value. The device then has 0 blocks, and with `None` the image behind it stays as it was.
+    /// Takes the image of this name: the one that is there, or with `Some(n)` a new one of `n`
+    /// blocks, which may hold any bytes. `Failed` comes only where the count of faults rose in this
+    /// call or stands at its last value. The device then has 0 blocks, and with `None` the image
+    /// behind it stays as it was.
     fn attach(&mut self, name: &str, create: Option<u64>) -> Result<(), Failed>
         ensures shown { OnOk result (IfNone create (Self.contents self.new ≡ shows self.old name.now)) }
         ensures made { OnOk result (IfSome create (λ n. Self.block_count self.new ≡ n)) }
-        ensures told { OnOk result (IfSome create (λ _. is_some (Self.contents self.new) ≡ is_some (Self.contents self.old))) }
+        ensures told { OnOk result (IfSome create
+            (λ _. is_some (Self.contents self.new) ≡ is_some (Self.contents self.old))) }
         ensures detached { OnErr result (Self.block_count self.new ≡ 0) }
-        ensures behind { OnErr result (IfNone create ((other : List ℕ) → shows self.new other ≡ shows self.old other)) }
+        ensures behind { OnErr result (IfNone create
+            ((other : List ℕ) → shows self.new other ≡ shows self.old other)) }
         ensures shape { IfSome (Self.contents self.new) (HasBlocks (Self.block_count self.new)) }
         ensures cause { HasCause (Self.fault_count self.old) (Self.fault_count self.new) result }
         ensures write_faults { Self.write_fault_count self.new ≡ Self.write_fault_count self.old }

@@ -1,7 +1,14 @@
 //! A device of blocks of 4,096 bytes: what a read gives, its counts, and one in memory.
-//! Layers above use the contracts of `Device` and `Attach`: contents where they are told, and a cause for each fault.
+//! Layers above use the contracts of `Device` and `Attach`: told contents, and a cause for each fault.
 #![tactic(auto)]
 
 mod device;
+mod mem_device;
+mod write_record;
 
 pub use device::{Attach, BLOCK_SIZE, Device};
+pub use mem_device::MemDevice;
+pub use write_record::WriteRecord;
+
+#[cfg(test)]
+mod tests;

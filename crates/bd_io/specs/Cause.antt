@@ -1,5 +1,5 @@
--- When a call to the outside may fail: only where its object's count of faults rose.
-use Rattle.std.specs.Prelude.{ℕ, ◌+◌, ◌-◌, ◌^◌, ◌<◌, ◌≤◌, ◌⊎◌, min, OnErr, Result}
+-- When a call to the outside may fail, and how calls are counted.
+use Rattle.std.specs.Prelude.{◌≡◌, ℕ, ◌+◌, ◌-◌, ◌^◌, ◌<◌, ◌≤◌, ◌⊎◌, min, OnErr, IsErr, Result}
 
 -- the count rose, or stands at the last value of a u64
 abbrev pub Rose : ℕ → ℕ → Type 0
@@ -13,3 +13,8 @@ pub record HasCause {T E : Type 0} (before now : ℕ) (result : Result T E) : Ty
 -- one more, but the last value of a u64 stays
 abbrev pub next_count : ℕ → ℕ
 next_count n = min (n + 1) (2 ^ 64 - 1)
+
+-- a call is counted, also one that failed; where the count stands at its last value, the call fails
+pub record IsCounted {T E : Type 0} (before now : ℕ) (result : Result T E) : Type 0 where
+  pub counted : now ≡ next_count before
+  pub last : 2 ^ 64 ≤ before + 1 → IsErr result

@@ -1,2 +1,4 @@
 pub mod Cause
+pub mod Memory
+pub mod Plan
 pub mod Written

@@ -1,3 +1,5 @@
+ghost use Rattle.std.specs.Prelude.{Some, codes};
+
 use std::error::Error;
 use std::fmt;
 
@@ -6,6 +8,8 @@ use std::fmt;
 pub struct Failed;
 
 impl fmt::Display for Failed {
+    ghost output = { λ _. Some (codes "the outside failed") };
+
     fn fmt<W: fmt::Write>(&self, f: &mut fmt::Formatter<W>) -> fmt::Result {
         write!(f, "the outside failed")
     }

@@ -13,9 +13,9 @@ pub trait Sink {
     /// How often it has failed, up to a u64's last value.
     ghost fault_count: { Self → ℕ };
 
-    /// Writes a front part of `piece`, and says how many bytes: at least 1 of a piece that isn't empty.
-    /// At `Failed` nothing was written, and the count of faults has risen in this call or stands at its
-    /// last value.
+    /// Writes a front part of `piece`, and says how many bytes: at least 1 of a piece that isn't
+    /// empty. At `Failed` nothing was written, and the count of faults has risen in this call or
+    /// stands at its last value.
     fn put(&mut self, piece: &[u8]) -> Result<usize, Failed>
         ensures within { IfOk result (λ n. n ≤ length piece.now) }
         ensures advances { IfOk result (λ n. 0 < length piece.now → 0 < n) }
@@ -42,8 +42,8 @@ impl<K: Sink> Sink for &mut K {
     }
 }
 
-/// Writes all of `bytes`, in as many calls of `put` as it takes. At `Failed` some of them were written, from
-/// the first on.
+/// Writes all of `bytes`, in as many calls of `put` as it takes. At `Failed` some of them were
+/// written, from the first on.
 pub fn put_all<K: Sink>(sink: &mut K, bytes: &[u8]) -> Result<(), Failed>
     ensures ok { OnOk result (K.written sink.new ≡ append_known (K.written sink.old) bytes.now) }
     ensures err { OnErr result (WrotePart bytes.now (K.written sink.old) (K.written sink.new)) }

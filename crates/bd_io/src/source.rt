@@ -12,9 +12,9 @@ pub trait Source {
     /// How often it has failed, up to a u64's last value.
     ghost fault_count: { Self → ℕ };
 
-    /// Takes the next bytes into the front of `into`, and says how many. For a place of at least one byte,
-    /// 0 means the end. At `Failed` nothing was taken, and the count of faults has risen in this call or
-    /// stands at its last value.
+    /// Takes the next bytes into the front of `into`, and says how many. For a place of at least
+    /// one byte, 0 means the end. At `Failed` nothing was taken, and the count of faults has risen
+    /// in this call or stands at its last value.
     fn take(&mut self, into: &mut [u8]) -> Result<usize, Failed>
         ensures room { IfOk result (λ n. n ≤ length into.new) }
         ensures bytes { IfOk result (λ n. left self.old ≡ prepend_known (take n into.new) (left self.new)) }

@@ -1,0 +1,230 @@
+ghost use Rattle.std.specs.Prelude.{◌≡◌, ◌<◌, ◌≤◌, ◌||◌, ◌++◌, ◌∷◌, [], true, ℕ, List, length, All, Some, IfOk, IfSome, IfNone, OnOk, OnErr, is_ok, is_err, if◌then◌else◌, unwrap_or, slice_get, slice_set};
+ghost use Rattle.bd_io.specs.Cause.{HasCause, IsCounted};
+ghost use Rattle.bd_io.specs.Plan.{planned, next_fails, calls_after};
+ghost use Rattle.bd_device.specs.Blocks.{HasBlocks, with_block, ChangesOnly};
+ghost use Rattle.bd_device.specs.Calls.{write_faults_after};
+ghost use Rattle.bd_device.specs.Memory.{held_image, attached_image, attached_size, write_fails, attach_fails, IsZero};
+
+use crate::{Attach, BLOCK_SIZE, Device, WriteRecord};
+use bd_io::{CallPlan, Failed};
+use std::alloc::{AllocError, Global};
+use std::marker::Model;
+
+/// A device in memory, with a record of the writes that were done. It tells its contents, shows its
+/// one image for every name, and takes no memory after it is made. It fails at the listed calls, at
+/// a count of calls that stands at its last value, at an attach that asks for more blocks than it
+/// was made with and at a write past its number of writes, and nowhere else. A failed write changes
+/// no block.
+#[derive(Drop)]
+pub struct MemDevice {
+    blocks: Vec<[u8; BLOCK_SIZE]>,
+    size: u64,
+    attached: bool,
+    writes: Vec<WriteRecord>,
+    room: usize,
+    plan: CallPlan,
+    write_faults: u64,
+}
+
+impl Model for MemDevice {
+    ghost use Rattle.std.specs.Prelude.{◌≤◌, length, All};
+    ghost use Rattle.std.specs.Vec.{vec_capacity};
+    ghost use Rattle.bd_device.specs.Blocks.{IsBlock};
+    ghost use Rattle.bd_device.specs.Memory.{MemoryDevice};
+
+    ghost Value = { MemoryDevice };
+
+    ghost view = { λ d. record {
+      blocks = d.blocks.items;
+      size = d.size;
+      attached = d.attached;
+      writes = d.writes.items;
+      room = d.room;
+      plan = d.plan;
+      write_faults = d.write_faults;
+    } };
+
+    ghost invariant = { λ d. (d.size ≤ length d.blocks.items) × All IsBlock d.blocks.items
+        × (length d.writes.items ≤ d.room) × (d.room ≤ vec_capacity d.writes) };
+}
+
+impl MemDevice {
+    /// A device of `blocks` zero blocks, attached, with room for the records of `writes` writes.
+    /// `fail` lists the numbers of the calls that are to fail, the first being 1.
+    pub fn new(
+        alloc: Global,
+        blocks: u64,
+        writes: usize,
+        fail: &[u64],
+    ) -> Result<MemDevice, AllocError>
+        ensures zero { IfOk result (λ device. All IsZero device.blocks) }
+        ensures shape { IfOk result (λ device. HasBlocks blocks device.blocks) }
+        ensures fresh { IfOk result (λ device. device ≡ record {
+          blocks = device.blocks;
+          size = blocks;
+          attached = true;
+          writes = [];
+          room = writes;
+          plan = planned fail.now;
+          write_faults = 0;
+        }) }
+    {
+        Ok(MemDevice {
+            blocks: zero_blocks(alloc, blocks as usize)?,
+            size: blocks,
+            attached: true,
+            writes: Vec::with_capacity(alloc, writes)?,
+            room: writes,
+            plan: CallPlan::new(alloc, fail)?,
+            write_faults: 0,
+        })
+    }
+
+    /// The writes that were done, in their order.
+    pub fn writes(&self) -> &[WriteRecord]
+        ensures { result.now ≡ self.now.writes }
+    {
+        &self.writes
+    }
+
+    // Counts a write or a barrier, which fails also where `refused` says so.
+    fn writing_call(&mut self, refused: bool) -> Result<(), Failed>
+        ensures fails { is_err result ≡ (next_fails self.old.plan || refused) }
+        ensures after { self.new ≡ record self.old {
+          plan = calls_after self.old.plan result;
+          write_faults = write_faults_after self.old.write_faults result;
+        } }
+        ensures cause { HasCause self.old.plan.faults self.new.plan.faults result }
+        ensures calls { IsCounted self.old.plan.calls self.new.plan.calls result }
+    {
+        let result = self.plan.call(refused);
+        if result.is_err() {
+            self.write_faults = self.write_faults.saturating_add(1);
+        }
+        result
+    }
+}
+
+// This many zero blocks.
+fn zero_blocks(alloc: Global, count: usize) -> Result<Vec<[u8; BLOCK_SIZE]>, AllocError>
+    ensures zero { IfOk result (λ blocks. All IsZero blocks.items) }
+    ensures shape { IfOk result (λ blocks. HasBlocks count blocks.items) }
+{
+    let mut blocks = Vec::with_capacity(alloc, count)?;
+    while blocks.len() < count {
+        blocks.push([0; BLOCK_SIZE])?;
+    }
+    Ok(blocks)
+}
+
+impl Device for MemDevice {
+    ghost block_count = { attached_size };
+
+    ghost contents = { λ d. Some (attached_image d) };
+
+    ghost fault_count = { λ d. d.plan.faults };
+
+    ghost write_fault_count = { λ d. d.write_faults };
+
+    ghost call_count = { λ d. d.plan.calls };
+
+    fn blocks(&self) -> u64 {
+        if self.attached { self.size } else { 0 }
+    }
+
+    fn read(&mut self, b: u64, into: &mut [u8; BLOCK_SIZE]) -> Result<(), Failed>
+        requires { b < attached_size self.old }
+        ensures bytes { OnOk result (slice_get (attached_image self.old) b ≡ Some into.new) }
+        ensures cause { HasCause self.old.plan.faults self.new.plan.faults result }
+
+        // It fails exactly by its plan, and changes only its counts.
+        ensures fails { is_err result ≡ next_fails self.old.plan }
+        ensures after { self.new ≡ record self.old { plan = calls_after self.old.plan result } }
+    {
+        self.plan.call(false)?;
+        *into = self.blocks[b as usize];
+        Ok(())
+    }
+
+    fn write(&mut self, b: u64, from: &[u8; BLOCK_SIZE]) -> Result<(), Failed>
+        requires { b < attached_size self.old }
+        ensures written { OnOk result (attached_image self.new ≡ slice_set (attached_image self.old) b from.now) }
+        ensures others { OnErr result
+            (ChangesOnly b (Some (attached_image self.old)) (Some (attached_image self.new))) }
+        ensures shape { HasBlocks (attached_size self.new) (attached_image self.new) }
+        ensures cause { HasCause self.old.plan.faults self.new.plan.faults result }
+
+        // It fails exactly by its plan or for want of room, and then changes only its counts.
+        ensures fails { is_err result ≡ write_fails self.old }
+        ensures ok { OnOk result (self.new ≡ record self.old {
+          plan = calls_after self.old.plan result;
+          blocks = slice_set self.old.blocks b from.now;
+          writes = self.old.writes ++ record { call = self.new.plan.calls; block = b; bytes = from.now } ∷ [];
+        }) }
+        ensures err { OnErr result (self.new ≡ record self.old {
+          plan = calls_after self.old.plan result;
+          write_faults = write_faults_after self.old.write_faults result;
+        }) }
+    {
+        let is_full = self.writes.len() >= self.room;
+        self.writing_call(is_full)?;
+        self.blocks[b as usize] = *from;
+        let call = self.plan.calls();
+        let record = WriteRecord {
+            call,
+            block: b,
+            bytes: *from,
+        };
+        self.writes.push(record).unwrap();
+        Ok(())
+    }
+
+    fn barrier(&mut self) -> Result<(), Failed>
+        ensures cause { HasCause self.old.plan.faults self.new.plan.faults result }
+
+        // It fails exactly by its plan, and changes only its counts.
+        ensures fails { is_err result ≡ next_fails self.old.plan }
+        ensures after { self.new ≡ record self.old {
+          plan = calls_after self.old.plan result;
+          write_faults = write_faults_after self.old.write_faults result;
+        } }
+    {
+        self.writing_call(false)
+    }
+
+    fn faults(&self) -> u64 {
+        self.plan.faults()
+    }
+
+    fn write_faults(&self) -> u64 {
+        self.write_faults
+    }
+
+    fn calls(&self) -> u64 {
+        self.plan.calls()
+    }
+}
+
+impl Attach for MemDevice {
+    ghost shows = { λ d _. Some (held_image d) };
+
+    fn attach(&mut self, _name: &str, create: Option<u64>) -> Result<(), Failed>
+        ensures shape { HasBlocks (attached_size self.new) (attached_image self.new) }
+        ensures cause { HasCause self.old.plan.faults self.new.plan.faults result }
+
+        // It fails exactly by its plan or for want of blocks. No block changes.
+        ensures fails { is_err result ≡ attach_fails self.old create }
+        ensures after { self.new ≡ record self.old {
+          plan = calls_after self.old.plan result;
+          attached = is_ok result;
+          size = if is_ok result then unwrap_or create self.old.size else self.old.size;
+        } }
+    {
+        let size = create.unwrap_or(self.size);
+        self.attached = false;
+        self.plan.call(size > self.blocks.len() as u64)?;
+        self.attached = true;
+        self.size = size;
+        Ok(())
+    }
+}
