@@ -1,7 +1,9 @@
 use Rattle.std.specs.Prelude.{◌≡◌, ◌+◌, ℕ, List, ◌++◌, length, take, drop}
 use Rattle.std.specs.Borrow.{GName}
-use Rattle.std.proofs.Common.{sym, ap, ◌∙◌, append_assoc, length-append}
-use Rattle.std.proofs.lemmas.List.{take-append-drop, drop-drop}
+use Rattle.std.proofs.Common.{sym, ap, ◌∙◌, append_assoc, append-nil, length-append, arith}
+use Rattle.std.proofs.lemmas.List.{take-append-drop, drop-drop, drop_all, length-drop, length-replicate}
+use Rattle.bd_wire.specs.Numbers.{length-be}
+use Rattle.bd_wire.specs.Text.{zeros, length-text16}
 use Rattle.bd_wire.specs.declared.out.Out.{Out}
 
 -- the bytes written so far
@@ -34,3 +36,14 @@ Puts-append a b c xs ys p q =
       room = q.room ∙ ap (drop (length ys)) p.room ∙ drop-drop (length ys) (length xs) (room a) ∙ ap (λ n. drop n (room a)) (sym (length-append xs ys));
       array = q.array ∙ p.array;
     }
+
+-- where zeros were put to the end, the array has them behind what was written before
+pub array_zeroed : (old new : Out) → Puts old new (zeros (length (room old))) → new.bytes.now ≡ written old ++ zeros (length (room old))
+array_zeroed old new p =
+    let count = length (room old) in
+    array_is new
+    ∙ ap (λ behind. written new ++ behind) (p.room ∙ drop_all (length (zeros count)) (room old) (omega (arith, length-replicate {A = ℕ} count 0)))
+    ∙ append-nil (written new) ∙ p.written
+
+-- what a codec's goals need: how long the spellings are, and what the array has in the end
+pub ruleset writing = (length-be, length-text16, length-drop, length-append, array_is)

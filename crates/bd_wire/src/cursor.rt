@@ -1,8 +1,10 @@
 // Big-endian numbers and bytes read off the front of a slice.
 ghost use Rattle.std.specs.Prelude.{◌≡◌, ◌<◌, ◌+◌, ◌↔◌, [], ◌∷◌, length, ◌++◌, ℕ, List, IfOk, IfErr, OnErr, IfSome, IfNone, IsTrue};
-ghost use Rattle.std.specs.Int.{w16, w32, w64, to_be_bytes};
+ghost use Rattle.std.specs.Int.{w16, w32, w64};
+ghost use Rattle.bd_wire.specs.Numbers.{be};
 ghost use Rattle.bd_wire.specs.Reading.{Reads};
-ghost use Rattle.bd_wire.specs.Text.{text16, AreZeros, HasNoText16};
+ghost use Rattle.bd_wire.specs.Spelling.{BeginsNone};
+ghost use Rattle.bd_wire.specs.Text.{text16, AreZeros, FitsText16};
 
 use byteorder::{BigEndian, ByteOrder};
 use std::marker::Model;
@@ -23,6 +25,7 @@ pub struct Cursor<'a> {
 
 impl<'a> Model for Cursor<'a> {
     ghost use Rattle.std.specs.Prelude.{◌≤◌, length, drop};
+    ghost use Rattle.bd_wire.specs.Numbers.{be};
     ghost use Rattle.bd_wire.specs.Reading.{Unread};
 
     ghost Value = { Unread };
@@ -84,7 +87,7 @@ impl<'a> Cursor<'a> {
 
     /// Reads a number of two bytes.
     pub fn u16(&mut self) -> Result<u16, Short>
-        ensures read { IfOk result (λ n. Reads self.old self.new (to_be_bytes w16 n)) }
+        ensures read { IfOk result (λ n. Reads self.old self.new (be w16 n)) }
         ensures short { OnErr result (length self.old.left < 2) }
         ensures at { IfErr result (λ short. short.at ≡ self.old.place) }
         ensures unmoved { OnErr result (self.new ≡ self.old) }
@@ -94,7 +97,7 @@ impl<'a> Cursor<'a> {
 
     /// Reads a number of four bytes.
     pub fn u32(&mut self) -> Result<u32, Short>
-        ensures read { IfOk result (λ n. Reads self.old self.new (to_be_bytes w32 n)) }
+        ensures read { IfOk result (λ n. Reads self.old self.new (be w32 n)) }
         ensures short { OnErr result (length self.old.left < 4) }
         ensures at { IfErr result (λ short. short.at ≡ self.old.place) }
         ensures unmoved { OnErr result (self.new ≡ self.old) }
@@ -104,7 +107,7 @@ impl<'a> Cursor<'a> {
 
     /// Reads a number of eight bytes.
     pub fn u64(&mut self) -> Result<u64, Short>
-        ensures read { IfOk result (λ n. Reads self.old self.new (to_be_bytes w64 n)) }
+        ensures read { IfOk result (λ n. Reads self.old self.new (be w64 n)) }
         ensures short { OnErr result (length self.old.left < 8) }
         ensures at { IfErr result (λ short. short.at ≡ self.old.place) }
         ensures unmoved { OnErr result (self.new ≡ self.old) }
@@ -113,9 +116,10 @@ impl<'a> Cursor<'a> {
     }
 
     /// Reads a length of two bytes and that many bytes.
+    #[tactic(auto, unfolding(crate::specs::Text::text16, crate::specs::Numbers::be))]
     pub fn text16(&mut self) -> Result<&'a [u8], Short>
         ensures read { IfOk result (λ bytes. Reads self.old self.new (text16 bytes.now)) }
-        ensures short { OnErr result (HasNoText16 self.old.left) }
+        ensures short { OnErr result (BeginsNone FitsText16 text16 self.old.left) }
         ensures at { IfErr result (λ short. short.at ≡ self.old.place) }
         ensures unmoved { OnErr result (self.new ≡ self.old) }
     {
@@ -132,7 +136,7 @@ impl<'a> Cursor<'a> {
 // The number that two bytes spell.
 fn number16(bytes: &[u8]) -> u16
     requires { length bytes.now ≡ 2 }
-    ensures { to_be_bytes w16 result ≡ bytes.now }
+    ensures { be w16 result ≡ bytes.now }
 {
     BigEndian::read_u16(bytes)
 }
@@ -140,7 +144,7 @@ fn number16(bytes: &[u8]) -> u16
 // The number that four bytes spell.
 fn number32(bytes: &[u8]) -> u32
     requires { length bytes.now ≡ 4 }
-    ensures { to_be_bytes w32 result ≡ bytes.now }
+    ensures { be w32 result ≡ bytes.now }
 {
     BigEndian::read_u32(bytes)
 }
@@ -148,15 +152,16 @@ fn number32(bytes: &[u8]) -> u32
 // The number that eight bytes spell.
 fn number64(bytes: &[u8]) -> u64
     requires { length bytes.now ≡ 8 }
-    ensures { to_be_bytes w64 result ≡ bytes.now }
+    ensures { be w64 result ≡ bytes.now }
 {
     BigEndian::read_u64(bytes)
 }
 
 // The text16 at the front.
+#[tactic(auto, unfolding(crate::specs::Text::text16, crate::specs::Numbers::be))]
 fn first_text16<'a>(left: &'a [u8]) -> Option<&'a [u8]>
     ensures found { IfSome result (λ bytes. (rest : List ℕ) × (left.now ≡ text16 bytes.now ++ rest)) }
-    ensures none { IfNone result (HasNoText16 left.now) }
+    ensures none { IfNone result (BeginsNone FitsText16 text16 left.now) }
 {
     let mut ahead = Cursor::new(left);
     let count = ahead.u16().ok()?;

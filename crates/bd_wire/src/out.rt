@@ -1,6 +1,7 @@
 // Big-endian numbers and bytes written into an array.
 ghost use Rattle.std.specs.Prelude.{◌≡◌, ◌≤◌, ◌<◌, ◌+◌, ◌^◌, [], ◌∷◌, ◌++◌, length, drop};
-ghost use Rattle.std.specs.Int.{w16, w32, w64, to_be_bytes};
+ghost use Rattle.std.specs.Int.{w16, w32, w64};
+ghost use Rattle.bd_wire.specs.Numbers.{be};
 ghost use Rattle.bd_wire.specs.Text.{text16, zeros};
 
 use byteorder::{BigEndian, ByteOrder};
@@ -36,7 +37,8 @@ impl<'a> Out<'a> {
     /// Writes a byte.
     pub fn put_u8(&mut self, n: u8)
         requires { 1 ≤ length (room self.old) }
-        ensures { Puts self.old self.new (n ∷ []) }
+        ensures puts { Puts self.old self.new (n ∷ []) }
+        ensures left { length (room self.new) + 1 ≡ length (room self.old) }
     {
         self.bytes[self.at] = n;
         self.at += 1;
@@ -45,7 +47,8 @@ impl<'a> Out<'a> {
     /// Writes a number of two bytes.
     pub fn put_u16(&mut self, n: u16)
         requires { 2 ≤ length (room self.old) }
-        ensures { Puts self.old self.new (to_be_bytes w16 n) }
+        ensures puts { Puts self.old self.new (be w16 n) }
+        ensures left { length (room self.new) + 2 ≡ length (room self.old) }
     {
         BigEndian::write_u16(&mut self.bytes[self.at..], n);
         self.at += 2;
@@ -54,7 +57,8 @@ impl<'a> Out<'a> {
     /// Writes a number of four bytes.
     pub fn put_u32(&mut self, n: u32)
         requires { 4 ≤ length (room self.old) }
-        ensures { Puts self.old self.new (to_be_bytes w32 n) }
+        ensures puts { Puts self.old self.new (be w32 n) }
+        ensures left { length (room self.new) + 4 ≡ length (room self.old) }
     {
         BigEndian::write_u32(&mut self.bytes[self.at..], n);
         self.at += 4;
@@ -63,7 +67,8 @@ impl<'a> Out<'a> {
     /// Writes a number of eight bytes.
     pub fn put_u64(&mut self, n: u64)
         requires { 8 ≤ length (room self.old) }
-        ensures { Puts self.old self.new (to_be_bytes w64 n) }
+        ensures puts { Puts self.old self.new (be w64 n) }
+        ensures left { length (room self.new) + 8 ≡ length (room self.old) }
     {
         BigEndian::write_u64(&mut self.bytes[self.at..], n);
         self.at += 8;
@@ -72,17 +77,20 @@ impl<'a> Out<'a> {
     /// Writes bytes as they are.
     pub fn put_bytes(&mut self, bytes: &[u8])
         requires { length bytes.now ≤ length (room self.old) }
-        ensures { Puts self.old self.new bytes.now }
+        ensures puts { Puts self.old self.new bytes.now }
+        ensures left { length (room self.new) + length bytes.now ≡ length (room self.old) }
     {
         put_first(&mut self.bytes[self.at..], bytes);
         self.at += bytes.len();
     }
 
     /// Writes a length of two bytes and that many bytes.
+    #[tactic(auto, unfolding(crate::specs::Text::text16, crate::specs::Numbers::be))]
     pub fn put_text16(&mut self, bytes: &[u8])
         requires length { length bytes.now < 2 ^ 16 }
         requires room { 2 + length bytes.now ≤ length (room self.old) }
-        ensures { Puts self.old self.new (text16 bytes.now) }
+        ensures puts { Puts self.old self.new (text16 bytes.now) }
+        ensures left { length (room self.new) + (2 + length bytes.now) ≡ length (room self.old) }
     {
         self.put_u16(bytes.len() as u16);
         self.put_bytes(bytes);
