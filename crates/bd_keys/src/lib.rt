@@ -3,5 +3,12 @@
 #![tactic(auto)]
 
 mod bytes;
+mod prefix;
+mod range;
 
 pub use bytes::Bytes;
+pub use prefix::{after, lift, starts, translate};
+pub use range::{Range, clip};
+
+#[cfg(test)]
+mod tests;

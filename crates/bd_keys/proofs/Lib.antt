@@ -1,0 +1,4 @@
+mod Order
+mod Opens
+mod PrefixRange
+mod Lifts

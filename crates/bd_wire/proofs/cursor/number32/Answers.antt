@@ -1,0 +1,7 @@
+use Rattle.std.proofs.Common.{ap, ◌∙◌, arith}
+use Rattle.std.specs.Int.{w32}
+use Rattle.bd_wire.specs.Numbers.{be, be-number_at}
+use Rattle.bd_wire.proofs.cursor.number32.Goals as goal
+
+pub returns : goal.returns
+returns c = ap (be w32) c.read_u32.ensures ∙ be-number_at w32 c.args.bytes.now (λ i. omega (arith, c.type_inv.bytes i)) c.requires

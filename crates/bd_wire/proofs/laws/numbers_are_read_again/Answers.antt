@@ -1,0 +1,5 @@
+use Rattle.bd_wire.specs.Numbers.{number_at-be}
+use Rattle.bd_wire.proofs.laws.numbers_are_read_again.Goals as goal
+
+pub returns : goal.returns
+returns c = number_at-be

@@ -1,0 +1,13 @@
+// Big-endian numbers, bytes and length-prefixed texts, read off a slice and written into an array.
+// The layers above may use the contracts of `Cursor` and `Out`, and of the laws in `laws`.
+#![tactic(auto)]
+
+mod cursor;
+pub mod laws;
+mod out;
+
+pub use cursor::{Cursor, Short, all_zero};
+pub use out::Out;
+
+#[cfg(test)]
+mod tests;
