@@ -1,5 +1,5 @@
 -- What an edit of entries in order does.
-use Rattle.std.proofs.Common.{◌≡◌, ℕ, ◌+◌, ◌<◌, List, ◌∷◌, ◌++◌, length, get_or, set, take, drop, Ordering, Less, Equal, Greater, refl, sym, ap, ◌∙◌, add-one, arith}
+use Rattle.std.proofs.Common.{◌≡◌, ℕ, ◌+◌, ◌<◌, List, ◌∷◌, ◌++◌, length, get_or, set, take, drop, Equal, sym, ap, ◌∙◌, add-one}
 use Rattle.std.proofs.lemmas.List.{drop_more, set_split}
 use Rattle.std.specs.FinMap.{put}
 use Rattle.std.specs.FinMap.Entries.{by_order}
@@ -18,4 +18,4 @@ put_over path e x es at within is tie before =
     before
     ∙ ap (λ (rest : List (List (List ℕ) × Entry)). take at es ++ put path_cmp path e rest) (drop_more es at x within ∙ ap (λ (y : List (List ℕ) × Entry). y ∷ drop (at + 1) es) (sym is))
     ∙ ap (λ (rest : List (List (List ℕ) × Entry)). take at es ++ rest) (put_tied path e x (drop (at + 1) es) tie)
-    ∙ sym (set_split es at (path, e) within ∙ rw (← add-one) refl)
+    ∙ sym (set_split es at (path, e) within ∙ ap (λ (i : ℕ). take at es ++ (path, e) ∷ drop i es) (sym (add-one at)))

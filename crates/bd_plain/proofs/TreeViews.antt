@@ -1,10 +1,9 @@
 -- What edits of entries in order make of the map that they are seen as.
-use Rattle.std.proofs.Common.{◌≡◌, ℕ, Bool, true, false, T, cond, List, [], ◌∷◌, ◌++◌, not, Option, Some, None, Equal, Result, Ok, Err, OnOk, OnErr, IsTrue, refl, sym, ap, subst, ◌∙◌}
+use Rattle.std.proofs.Common.{◌≡◌, ℕ, Bool, true, false, T, cond, List, [], ◌∷◌, ◌++◌, not, Option, None, Equal, Result, Ok, Err, OnOk, OnErr, IsTrue, refl, sym, ap, subst, ◌∙◌}
 use Rattle.std.specs.List.{filter, filter_map}
-use Rattle.std.specs.FinMap.{FinMap, get, find, put, insert, entries, retain_keys, from_sorted, from_entries, is_sorted, entries-from_sorted, entries-insert, get-from_sorted, get-from_entries, get-entries, get-insert, get-retain_keys, same_map, same_entries_map}
-use Rattle.std.specs.FinMap.Entries.{is_sorted-put, is_sorted-where_key, find-where_key, where_key}
+use Rattle.std.specs.FinMap.{get, find, put, insert, entries, from_sorted, from_entries, is_sorted, entries-from_sorted, entries-insert, get-from_sorted, get-from_entries, get-entries, get-retain_keys, same_map, same_entries_map}
+use Rattle.std.specs.FinMap.Entries.{is_sorted-put, is_sorted-where_key, find-where_key}
 use Rattle.bd_names.specs.Names.{is_under, rest_below}
-use Rattle.bd_command.specs.declared.reply.Listed.{Listed}
 use Rattle.bd_model.specs.Tree.{Entry, Tree, path_cmp, root_only, Directory}
 use Rattle.bd_model.specs.Step.{without, children, moved, moved_entry, child_of}
 use Rattle.bd_plain.proofs.PathOrder.{paths_total, paths_exact}

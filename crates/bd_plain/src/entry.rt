@@ -98,12 +98,7 @@ impl Placed {
     }
 
     /// A copy at the same place below `b`, where it stands at `a` or below it.
-    pub fn moved(
-        &self,
-        alloc: Global,
-        a: &[Name],
-        b: &[Name],
-    ) -> Result<Option<Placed>, AllocError>
+    pub fn moved(&self, alloc: Global, a: &[Name], b: &[Name]) -> Result<Option<Placed>, AllocError>
         ensures { IfOk result (λ moved. moved ≡ moved_entry a.now b.now self.now) }
     {
         match paths::rest_below(a, &self.path) {

@@ -84,14 +84,22 @@ impl File {
 fn front(bytes: &[u8], len: usize) -> &[u8]
     ensures { result.now ≡ take len bytes.now }
 {
-    if len <= bytes.len() { &bytes[..len] } else { bytes }
+    if len <= bytes.len() {
+        &bytes[..len]
+    } else {
+        bytes
+    }
 }
 
 /// The bytes from `off` on.
 fn from(bytes: &[u8], off: usize) -> &[u8]
     ensures { result.now ≡ drop off bytes.now }
 {
-    if off <= bytes.len() { &bytes[off..] } else { &[] }
+    if off <= bytes.len() {
+        &bytes[off..]
+    } else {
+        &[]
+    }
 }
 
 /// Bytes cut, or extended with zeros, to a length.

@@ -11,3 +11,6 @@ mod step;
 mod tree;
 
 pub use tree::PlainTree;
+
+#[cfg(test)]
+mod tests;

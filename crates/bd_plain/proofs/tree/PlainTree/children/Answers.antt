@@ -1,4 +1,3 @@
-use Rattle.std.proofs.Common.{Result, Ok, Err, IfOk, ◌≡◌, rules}
 use Rattle.bd_plain.proofs.TreeViews.{children_seen}
 use Rattle.bd_plain.proofs.tree.PlainTree.children.Goals as goal
 

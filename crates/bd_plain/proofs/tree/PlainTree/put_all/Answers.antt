@@ -1,4 +1,4 @@
-use Rattle.std.proofs.Common.{◌≡◌, [], rules, sym, ap, ◌∙◌, List, ℕ, ◌++◌}
+use Rattle.std.proofs.Common.{◌≡◌, [], rules, sym, ap, ◌∙◌, ◌++◌}
 use Rattle.std.specs.FinMap.{from_entries, entries}
 use Rattle.bd_model.specs.Tree.{Tree, path_cmp}
 use Rattle.bd_plain.proofs.TreeViews.{Entries, put_all_none, put_all_more}

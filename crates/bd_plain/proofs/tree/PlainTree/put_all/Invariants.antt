@@ -1,6 +1,5 @@
 use Rattle.std.proofs.Common.{◌≡◌, ◌++◌, vec_len}
 use Rattle.std.specs.FinMap.{from_entries, entries}
-use Rattle.bd_plain.proofs.TreeViews.{Entries}
 use Rattle.bd_model.specs.Tree.{path_cmp}
 use Rattle.bd_plain.proofs.tree.PlainTree.put_all.Given as goal
 
