@@ -124,7 +124,7 @@ pub name_here : (text cuts : List ℕ) (ns : List (List ℕ)) (i : ℕ) → IsCu
 name_here text cuts ns i h e l =
     let lt : i < length ns = omega (arith, cuts-length text cuts ns h e) in
     let whole : text ≡ (slashed (take i ns) ++ 47 ∷ []) ++ (get_or ns i [] ++ slashed (drop (i + 1) ns)) =
-        IsCut-text text cuts ns h e ∙ path_text-slashed ns (omega arith) ∙ slashed-parted ns i lt in
+    IsCut-text text cuts ns h e ∙ path_text-slashed ns (omega arith) ∙ slashed-parted ns i lt in
     ap (λ x. take (length (get_or ns i [])) (drop (length (slashed (take i ns)) + 1) x)) whole
     ∙ ap (take (length (get_or ns i []))) (drop_at (slashed (take i ns) ++ 47 ∷ []) (get_or ns i [] ++ slashed (drop (i + 1) ns)) (length (slashed (take i ns)) + 1) (length-append (slashed (take i ns)) (47 ∷ [])))
     ∙ take_at (get_or ns i []) (slashed (drop (i + 1) ns)) (length (get_or ns i [])) refl
@@ -133,7 +133,7 @@ pub name_fits : (text cuts : List ℕ) (ns : List (List ℕ)) (i : ℕ) → IsCu
 name_fits text cuts ns i h e l =
     let lt : i < length ns = omega (arith, cuts-length text cuts ns h e) in
     let whole : text ≡ (slashed (take i ns) ++ 47 ∷ []) ++ (get_or ns i [] ++ slashed (drop (i + 1) ns)) =
-        IsCut-text text cuts ns h e ∙ path_text-slashed ns (omega arith) ∙ slashed-parted ns i lt in
+    IsCut-text text cuts ns h e ∙ path_text-slashed ns (omega arith) ∙ slashed-parted ns i lt in
     omega (arith, ap length whole, length-append (slashed (take i ns) ++ 47 ∷ []) (get_or ns i [] ++ slashed (drop (i + 1) ns)), length-append (slashed (take i ns)) (47 ∷ []), length-append (get_or ns i []) (slashed (drop (i + 1) ns)))
 
 -- ---- parents

@@ -178,7 +178,7 @@ key_of-front (n ∷ p) (m ∷ q) rest hp hq e =
     let name_n = AreNames-cons n p hp in
     let name_m = AreNames-cons m q hq in
     let flat : m ++ 0 ∷ key_of q ≡ n ++ 0 ∷ (key_of p ++ rest) =
-        sym (key_of-cons m q) ∙ e ∙ ap (λ x. x ++ rest) (key_of-cons n p) ∙ append_assoc n (0 ∷ key_of p) rest in
+    sym (key_of-cons m q) ∙ e ∙ ap (λ x. x ++ rest) (key_of-cons n p) ∙ append_assoc n (0 ∷ key_of p) rest in
     let parts = first_part 0 m n (0 ∷ key_of q) (0 ∷ (key_of p ++ rest)) (is_name-zero m name_m.0) (is_name-zero n name_n.0) refl refl flat in
     let keys : 0 ∷ key_of q ≡ 0 ∷ (key_of p ++ rest) = parts.1 in
     let tails : key_of q ≡ key_of p ++ rest = cc in

@@ -92,3 +92,17 @@ pub(crate) fn is_name_text(text: &[u8]) -> bool
     }
     are_bytes_of_name(text) && !is_dots_text(text)
 }
+
+#[cfg(test)]
+mod tests {
+    use super::*;
+    use std::test::Fail;
+
+    #[test]
+    fn reads_names(rt: HostRuntime) -> Result<(), Fail> {
+        let name = Name::read(rt.alloc(), b"b")?.copy(rt.alloc())?;
+        assert_eq!(rt; name.as_bytes(), b"b".as_slice());
+        assert!(rt; Name::read(rt.alloc(), b"b/c").is_err());
+        Ok(())
+    }
+}

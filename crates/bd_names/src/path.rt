@@ -205,3 +205,78 @@ fn name_at<'a>(text: &'a [u8], cuts: &[u16], i: usize) -> &'a [u8]
     let end = cuts[i] as usize;
     &text[start..end]
 }
+
+#[cfg(test)]
+mod tests {
+    use super::*;
+    use std::test::Fail;
+
+    #[test]
+    fn reads_paths(rt: HostRuntime) -> Result<(), Fail> {
+        let texts: [(&[u8], bool); 15] = [
+            (b"/", true),
+            (b"/a", true),
+            (b"/a/b.c/...", true),
+            (b"/\xc3\xa9/!", true),
+            (b"/a/b/c/d/e/f/g/h/i/j", true),
+            (b"", false),
+            (b"a", false),
+            (b"//", false),
+            (b"/a/", false),
+            (b"/a//b", false),
+            (b"/.", false),
+            (b"/a/..", false),
+            (b"/a b", false),
+            (b"/a\x7f", false),
+            (b"/a\0", false),
+        ];
+        for (text, good) in texts {
+            match Path::read(rt.alloc(), text) {
+                Ok(path) => {
+                    assert!(rt; good);
+                    assert_eq!(rt; path.as_bytes(), text);
+                }
+                Err(fault) => {
+                    assert!(rt; !good);
+                    assert_eq!(rt; fault, PathFault::BadPath);
+                }
+            }
+        }
+        Ok(())
+    }
+
+    #[test]
+    fn gives_key_and_names(rt: HostRuntime) -> Result<(), Fail> {
+        let path = Path::read(rt.alloc(), b"/a/bc")?;
+        assert_eq!(rt; path.key(rt.alloc())?.as_slice(), b"a\0bc\0".as_slice());
+        assert_eq!(rt; path.names(rt.alloc())?.len(), 2);
+        Ok(())
+    }
+
+    #[test]
+    fn gives_the_parent(rt: HostRuntime) -> Result<(), Fail> {
+        let path = Path::read(rt.alloc(), b"/a/bc")?;
+        let parent = path.parent(rt.alloc())?.ok_or("no parent")?;
+        assert_eq!(rt; parent.as_bytes(), b"/a".as_slice());
+        assert!(rt; path.is_under(&parent));
+        assert!(rt; !parent.is_under(&path));
+        Ok(())
+    }
+
+    #[test]
+    fn root_has_no_parent(rt: HostRuntime) -> Result<(), Fail> {
+        let root = Path::root(rt.alloc())?.copy(rt.alloc())?;
+        assert!(rt; root.is_root());
+        assert!(rt; root.parent(rt.alloc())?.is_none());
+        Ok(())
+    }
+
+    #[test]
+    fn writes_its_text(rt: HostRuntime) -> Result<(), Fail> {
+        let mut into = [7; 512];
+        let path = Path::read(rt.alloc(), b"/a")?;
+        assert_eq!(rt; path.write(&mut into), 2);
+        assert_eq!(rt; into[1], b'a');
+        Ok(())
+    }
+}
