@@ -6,13 +6,13 @@ ghost use Rattle.bd_names.specs.Names.{is_name, AreNames, path_text, names_in, i
 ghost use Rattle.bd_names.specs.Cuts.{ends_from, IsCut};
 
 use crate::fault::PathFault;
-use crate::name::is_name_text;
+use crate::name::Name;
 use smallvec::SmallVec;
 use std::alloc::{AllocError, Global};
 use std::marker::Model;
 
 /// The greatest length of a path's text, in bytes.
-pub const MAX_PATH: usize = 512;
+const MAX_PATH: usize = 512;
 
 /// A path of at most 512 bytes, seen as the list of its names. `/` has none.
 #[derive(Debug, Drop)]
@@ -46,12 +46,23 @@ impl Path {
         })
     }
 
+    /// Whether a text is a path of at most 512 bytes.
+    pub fn is_path(text: &[u8]) -> bool
+        ensures { result ≡ is_path text.now }
+    {
+        match text {
+            [b'/'] => true,
+            [b'/', names @ ..] => text.len() <= MAX_PATH && are_names(names),
+            _ => false,
+        }
+    }
+
     /// Reads a path. A text that is none, or has more than 512 bytes, is refused as `BadPath` and takes no memory.
     pub fn read(alloc: Global, text: &[u8]) -> Result<Path, PathFault>
         ensures path { IfOk result (λ path. path_of text.now ≡ Some path) }
         ensures bad_path { (result ≡ Err PathFault.BadPath) ↔ (path_of text.now ≡ None) }
     {
-        if !is_path_text(text) {
+        if !Path::is_path(text) {
             return Err(PathFault::BadPath);
         }
         Ok(Path {
@@ -151,22 +162,11 @@ impl Path {
     }
 }
 
-/// Whether a text is a path.
-fn is_path_text(text: &[u8]) -> bool
-    ensures { result ≡ is_path text.now }
-{
-    match text {
-        [b'/'] => true,
-        [b'/', names @ ..] => text.len() <= MAX_PATH && are_names(names),
-        _ => false,
-    }
-}
-
 /// Whether what stands between the slashes of a text is a name each time.
 fn are_names(text: &[u8]) -> bool
     ensures { result ≡ list_all is_name (slice_split (λ b. b == 47) text.now) }
 {
-    text.split(|byte| *byte == b'/').all(is_name_text)
+    text.split(|byte| *byte == b'/').all(Name::is_name)
 }
 
 /// The places where the names of a path end.

@@ -1,0 +1,47 @@
+-- Which commands write, and which are commands at all.
+use Rattle.std.specs.Prelude.{ℕ, ◌^◌, ◌<◌, ◌≤◌, Bool, true, false, List, length, IsTrue}
+use Rattle.std.specs.List.{AllByRecursion}
+use Rattle.std.specs.declared.option.Option.{Option}
+use Rattle.std.specs.declared.option.Option.TheVariants.{None, Some}
+use Rattle.bd_names.specs.Names.{AreNames, is_name, path_text}
+use Rattle.bd_command.specs.declared.Command.{Command}
+use Rattle.bd_command.specs.declared.Command.TheVariants.{Mkdir, Create, Write, Truncate, Remove, Rename, Clone, Read, Stat, List as Ls}
+
+-- the commands that change the tree where they are accepted
+abbrev pub writes : Command → Bool
+writes (Mkdir path) = true
+writes (Create path) = true
+writes (Write path off bytes) = true
+writes (Truncate path len) = true
+writes (Remove path) = true
+writes (Rename a b) = true
+writes (Clone a b) = true
+writes (Read path off len) = false
+writes (Stat path) = false
+writes (Ls path after) = false
+
+-- a path of a command: made of names, with a text of at most 512 bytes
+abbrev pub IsShortPath : List (List ℕ) → Type 0
+IsShortPath path = AreNames path × (length (path_text path) ≤ 512)
+
+-- 1 to 2,048 bytes
+abbrev pub IsWritten : List ℕ → Type 0
+IsWritten bytes = (1 ≤ length bytes) × (length bytes ≤ 2048) × AllByRecursion (λ b. b < 256) bytes
+
+-- a name, where one is given
+abbrev pub IsAfter : Option (List ℕ) → Type 0
+IsAfter None = Unit {0}
+IsAfter (Some name) = IsTrue (is_name name)
+
+-- the fields of a command are within their limits
+abbrev pub IsCommand : Command → Type 0
+IsCommand (Mkdir path) = IsShortPath path
+IsCommand (Create path) = IsShortPath path
+IsCommand (Write path off bytes) = IsShortPath path × (off < 2 ^ 32) × IsWritten bytes
+IsCommand (Truncate path len) = IsShortPath path × (len < 2 ^ 32)
+IsCommand (Remove path) = IsShortPath path
+IsCommand (Rename a b) = IsShortPath a × IsShortPath b
+IsCommand (Clone a b) = IsShortPath a × IsShortPath b
+IsCommand (Read path off len) = IsShortPath path × (off < 2 ^ 32) × (len ≤ 4096)
+IsCommand (Stat path) = IsShortPath path
+IsCommand (Ls path after) = IsShortPath path × IsAfter after
