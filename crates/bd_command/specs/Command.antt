@@ -1,4 +1,4 @@
--- Which commands write, and which values a command has.
+-- Which commands write, and which are commands at all.
 use Rattle.std.specs.Prelude.{ℕ, ◌^◌, ◌<◌, ◌≤◌, Bool, true, false, ◌&&◌, if◌then◌else◌, List, length, IsTrue}
 use Rattle.std.specs.List.{AllByRecursion}
 use Rattle.std.specs.declared.option.Option.{Option}
@@ -9,7 +9,7 @@ use Rattle.bd_command.specs.declared.reply.Reply.{Reply}
 use Rattle.bd_command.specs.declared.reply.Reply.TheVariants.{Done, Bytes, Dir, File, Names, Refused}
 use Rattle.bd_command.specs.declared.Command.TheVariants.{Mkdir, Create, Write, Truncate, Remove, Rename, Clone, Read, Stat, List as Ls}
 
--- a command that changes the tree where it is accepted
+-- the commands that change the tree where they are accepted
 abbrev pub writes : Command → Bool
 writes (Mkdir path) = true
 writes (Create path) = true
@@ -33,3 +33,29 @@ is_done (Refused refusal) = false
 -- 1 for a writing command that was answered `ok`, and else 0
 abbrev pub accepted : Command → Reply → ℕ
 accepted command reply = if writes command && is_done reply then 1 else 0
+
+-- a path of a command: made of names, with a text of at most 512 bytes
+abbrev pub IsShortPath : List (List ℕ) → Type 0
+IsShortPath path = AreNames path × (length (path_text path) ≤ 512)
+
+-- 1 to 2,048 bytes
+abbrev pub IsWritten : List ℕ → Type 0
+IsWritten bytes = (1 ≤ length bytes) × (length bytes ≤ 2048) × AllByRecursion (λ b. b < 256) bytes
+
+-- a name, where one is given
+abbrev pub IsAfter : Option (List ℕ) → Type 0
+IsAfter None = Unit {0}
+IsAfter (Some name) = IsTrue (is_name name)
+
+-- the fields of a command are within their limits
+abbrev pub IsCommand : Command → Type 0
+IsCommand (Mkdir path) = IsShortPath path
+IsCommand (Create path) = IsShortPath path
+IsCommand (Write path off bytes) = IsShortPath path × (off < 2 ^ 32) × IsWritten bytes
+IsCommand (Truncate path len) = IsShortPath path × (len < 2 ^ 32)
+IsCommand (Remove path) = IsShortPath path
+IsCommand (Rename a b) = IsShortPath a × IsShortPath b
+IsCommand (Clone a b) = IsShortPath a × IsShortPath b
+IsCommand (Read path off len) = IsShortPath path × (off < 2 ^ 32) × (len ≤ 4096)
+IsCommand (Stat path) = IsShortPath path
+IsCommand (Ls path after) = IsShortPath path × IsAfter after

@@ -2,8 +2,7 @@
 //! The layers above use the fields as they are, and of `copy` and `writes` their contracts.
 #![tactic(auto)]
 
-ghost use Rattle.std.specs.Prelude.{◌≡◌};
-ghost use Rattle.bd_command.specs.Command.{writes};
+ghost use Rattle.std.specs.Prelude.{◌≡◌, IfOk};
 
 mod refusal;
 mod reply;
@@ -12,6 +11,7 @@ use bd_keys::Bytes;
 use bd_names::{Name, Path};
 pub use refusal::Refusal;
 pub use reply::{Chunk, Listed, Listing, Names, Reply};
+use std::alloc::{AllocError, Global};
 
 /// A command of the plain map. Offsets and lengths are bytes.
 #[derive(Debug, Drop)]
@@ -39,19 +39,94 @@ pub enum Command {
 }
 
 impl Command {
+    ghost use Rattle.bd_command.specs.Command.{writes};
+
     /// Whether it changes the tree where it is accepted.
     pub fn writes(&self) -> bool
         ensures { result ≡ writes self.now }
     {
         match self {
-            Command::Mkdir { .. }
-            | Command::Create { .. }
-            | Command::Write { .. }
-            | Command::Truncate { .. }
-            | Command::Remove { .. }
-            | Command::Rename { .. }
-            | Command::Clone { .. } => true,
             Command::Read { .. } | Command::Stat { .. } | Command::List { .. } => false,
+            _ => true,
         }
+    }
+
+    /// A second command with the same fields.
+    pub fn copy(&self, alloc: Global) -> Result<Command, AllocError>
+        ensures { IfOk result (λ copy. copy ≡ self.now) }
+    {
+        Ok(match self {
+            Command::Mkdir { path } => Command::Mkdir {
+                path: path.copy(alloc)?,
+            },
+            Command::Create { path } => Command::Create {
+                path: path.copy(alloc)?,
+            },
+            Command::Write { path, off, bytes } => Command::Write {
+                path: path.copy(alloc)?,
+                off: *off,
+                bytes: bytes.copy(alloc)?,
+            },
+            Command::Truncate { path, len } => Command::Truncate {
+                path: path.copy(alloc)?,
+                len: *len,
+            },
+            Command::Remove { path } => Command::Remove {
+                path: path.copy(alloc)?,
+            },
+            Command::Rename { a, b } => Command::Rename {
+                a: a.copy(alloc)?,
+                b: b.copy(alloc)?,
+            },
+            Command::Clone { a, b } => Command::Clone {
+                a: a.copy(alloc)?,
+                b: b.copy(alloc)?,
+            },
+            Command::Read { path, off, len } => Command::Read {
+                path: path.copy(alloc)?,
+                off: *off,
+                len: *len,
+            },
+            Command::Stat { path } => Command::Stat {
+                path: path.copy(alloc)?,
+            },
+            Command::List { path, after } => Command::List {
+                path: path.copy(alloc)?,
+                after: copy_after(alloc, after)?,
+            },
+        })
+    }
+}
+
+/// A second one of the same name, if there is one.
+fn copy_after(alloc: Global, after: &Option<Name>) -> Result<Option<Name>, AllocError>
+    ensures { IfOk result (λ copy. copy ≡ after.now) }
+{
+    Ok(match after {
+        Some(name) => Some(name.copy(alloc)?),
+        None => None,
+    })
+}
+
+#[cfg(test)]
+mod tests {
+    use super::*;
+    use std::test::Fail;
+
+    #[test]
+    fn copies_commands(rt: HostRuntime) -> Result<(), Fail> {
+        let make = Command::Mkdir {
+            path: Path::root(rt.alloc())?,
+        };
+        assert!(rt; make.copy(rt.alloc())?.writes());
+        Ok(())
+    }
+
+    #[test]
+    fn holds_names(rt: HostRuntime) -> Result<(), Fail> {
+        let names = Names::from_vec(Vec::new(rt.alloc()));
+        assert_eq!(rt; names.len(), 0);
+        assert!(rt; names.is_empty() && names.as_slice().is_empty());
+        Ok(())
     }
 }

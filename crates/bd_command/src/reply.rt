@@ -1,6 +1,6 @@
 //! Replies to commands.
 
-ghost use Rattle.std.specs.Prelude.{◌≡◌};
+ghost use Rattle.std.specs.Prelude.{◌≡◌, ◌↔◌, [], length, IsTrue};
 ghost use Rattle.bd_command.specs.Command.{is_done};
 
 use crate::refusal::Refusal;
@@ -19,7 +19,7 @@ pub struct Listed {
     pub is_dir: bool,
 }
 
-/// The names of a listing, seen as a list.
+/// The names of a listing, seen as a list. They are made of a `Vec` without taking memory.
 #[derive(Debug, Drop)]
 pub struct Names {
     items: Vec<Listed>,
@@ -47,6 +47,20 @@ impl Names {
         ensures { result.now ≡ self.now }
     {
         self.items.as_slice()
+    }
+
+    /// How many names there are.
+    pub fn len(&self) -> usize
+        ensures { result ≡ length self.now }
+    {
+        self.items.len()
+    }
+
+    /// Whether there are no names.
+    pub fn is_empty(&self) -> bool
+        ensures { IsTrue result ↔ (self.now ≡ []) }
+    {
+        self.items.is_empty()
     }
 }
 

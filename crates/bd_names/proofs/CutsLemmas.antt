@@ -1,16 +1,15 @@
 -- Where the names of a path end in its text.
-use Rattle.std.specs.Prelude.{◌≡◌, ◌≢◌, ℕ, ◌+◌, ◌-◌, ◌<◌, ◌≤◌, Bool, true, false, not, zero, suc, List, [], ◌∷◌, ◌++◌, length, map, take, drop, nat_eq, ◌==◌, IsTrue, refl, cond, if◌then◌else◌}
-use Rattle.std.specs.List.{slice_split, onto_first, list_all, flat_map}
-use Rattle.std.specs.declared.option.Option.{Option}
-use Rattle.std.specs.declared.option.Option.TheVariants.{None, Some}
+use Rattle.std.specs.Prelude.{◌≡◌, ℕ, ◌+◌, ◌-◌, ◌<◌, ◌≤◌, Bool, true, false, zero, suc, List, [], ◌∷◌, ◌++◌, length, take, drop, nat_eq, ◌==◌, refl, cond, if◌then◌else◌}
+use Rattle.std.specs.List.{onto_first}
+use Rattle.std.specs.declared.option.Option.TheVariants.{Some}
 use Rattle.std.proofs.Common.{sym, ◌∙◌, ap, subst, arith, get_or, append_assoc, length-append}
 use Rattle.std.proofs.lemmas.Bool.{eqb-true, eqb-false, eq-eqb, ne_eqb, false_from_ne_true, both_ways}
-use Rattle.std.proofs.lemmas.List.{append-nil, append_cancel_left, take_at, drop_at, take_all, take_more, take-append-drop, drop_more, drop_all, nil_from_length, length-drop, length-take-le}
+use Rattle.std.proofs.lemmas.List.{append-nil, append_cancel_left, take_at, drop_at, take_more, take-append-drop, drop_more, drop_all, nil_from_length, length-drop, length-take-le}
 use Rattle.std.proofs.lemmas.List.Splits.{length-slice_split}
 use Rattle.std.specs.Cmp.Lexicographic.{pointwise}
 use Rattle.std.proofs.lemmas.Slice.Eq.{bytes_eq-Decides}
-use Rattle.bd_names.specs.Names.{AreNames, is_name, path_text, names_in, is_path, path_of, key_of, parent_of, is_under}
-use Rattle.bd_names.specs.NamesLaws.{is_path-parts, path_text-names_in, names_in-path_text, is_path-path_text, slashed, slashed-append, slashed-front, is_cut, at_slashes, parent_of-append, AreNames-parts, AreNames-cons, is_name-length, is_under-append, is_under-rest, is_under-refl, key_of-append}
+use Rattle.bd_names.specs.Names.{AreNames, path_text, names_in, key_of, parent_of, is_under}
+use Rattle.bd_names.specs.NamesLaws.{is_path-parts, path_text-names_in, names_in-path_text, is_path-path_text, slashed, slashed-append, slashed-front, at_slashes, parent_of-append, AreNames-parts, AreNames-cons, is_name-length, is_under-append, is_under-rest, is_under-refl, key_of-append}
 use Rattle.bd_names.specs.Cuts.{ends_from, IsCut}
 
 -- ---- the text behind the cuts
@@ -124,7 +123,7 @@ pub name_here : (text cuts : List ℕ) (ns : List (List ℕ)) (i : ℕ) → IsCu
 name_here text cuts ns i h e l =
     let lt : i < length ns = omega (arith, cuts-length text cuts ns h e) in
     let whole : text ≡ (slashed (take i ns) ++ 47 ∷ []) ++ (get_or ns i [] ++ slashed (drop (i + 1) ns)) =
-        IsCut-text text cuts ns h e ∙ path_text-slashed ns (omega arith) ∙ slashed-parted ns i lt in
+    IsCut-text text cuts ns h e ∙ path_text-slashed ns (omega arith) ∙ slashed-parted ns i lt in
     ap (λ x. take (length (get_or ns i [])) (drop (length (slashed (take i ns)) + 1) x)) whole
     ∙ ap (take (length (get_or ns i []))) (drop_at (slashed (take i ns) ++ 47 ∷ []) (get_or ns i [] ++ slashed (drop (i + 1) ns)) (length (slashed (take i ns)) + 1) (length-append (slashed (take i ns)) (47 ∷ [])))
     ∙ take_at (get_or ns i []) (slashed (drop (i + 1) ns)) (length (get_or ns i [])) refl
@@ -133,7 +132,7 @@ pub name_fits : (text cuts : List ℕ) (ns : List (List ℕ)) (i : ℕ) → IsCu
 name_fits text cuts ns i h e l =
     let lt : i < length ns = omega (arith, cuts-length text cuts ns h e) in
     let whole : text ≡ (slashed (take i ns) ++ 47 ∷ []) ++ (get_or ns i [] ++ slashed (drop (i + 1) ns)) =
-        IsCut-text text cuts ns h e ∙ path_text-slashed ns (omega arith) ∙ slashed-parted ns i lt in
+    IsCut-text text cuts ns h e ∙ path_text-slashed ns (omega arith) ∙ slashed-parted ns i lt in
     omega (arith, ap length whole, length-append (slashed (take i ns) ++ 47 ∷ []) (get_or ns i [] ++ slashed (drop (i + 1) ns)), length-append (slashed (take i ns)) (47 ∷ []), length-append (get_or ns i []) (slashed (drop (i + 1) ns)))
 
 -- ---- parents

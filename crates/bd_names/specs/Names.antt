@@ -1,5 +1,5 @@
 -- Names, paths, their text and their keys. A path is seen as the list of its names, and `/` as the empty list.
-use Rattle.std.specs.Prelude.{ℕ, Bool, true, false, not, ◌&&◌, ◌||◌, List, [], ◌∷◌, ◌++◌, length, nat_eq, nat_le, ◌==◌, if◌then◌else◌, is_some, IsTrue}
+use Rattle.std.specs.Prelude.{ℕ, Bool, false, not, ◌&&◌, ◌||◌, List, [], ◌∷◌, ◌++◌, length, nat_eq, nat_le, ◌==◌, if◌then◌else◌, is_some, IsTrue}
 use Rattle.std.specs.List.{slice_split, list_all, flat_map}
 use Rattle.std.specs.declared.option.Option.{Option}
 use Rattle.std.specs.declared.option.Option.TheVariants.{None, Some}

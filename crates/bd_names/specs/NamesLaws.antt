@@ -1,9 +1,9 @@
 -- Laws of names and paths, for the proofs of the crates above.
-use Rattle.std.specs.Prelude.{◌≡◌, ◌≢◌, ◌↔◌, ℕ, ◌+◌, ◌<◌, ◌≤◌, Bool, true, false, not, ◌&&◌, List, [], ◌∷◌, ◌++◌, length, nat_eq, nat_le, ◌==◌, IsTrue, is_some, refl, cond}
+use Rattle.std.specs.Prelude.{◌≡◌, ℕ, ◌≤◌, Bool, true, false, not, ◌&&◌, List, [], ◌∷◌, ◌++◌, length, nat_le, ◌==◌, is_some, refl, cond}
 use Rattle.std.specs.List.{slice_split, onto_first, list_all, flat_map}
 use Rattle.std.specs.declared.option.Option.{Option}
 use Rattle.std.specs.declared.option.Option.TheVariants.{None, Some}
-use Rattle.std.proofs.Common.{sym, ◌∙◌, ap, subst, arith, append_assoc, length-append}
+use Rattle.std.proofs.Common.{sym, ◌∙◌, ap, arith, append_assoc, length-append}
 use Rattle.std.proofs.lemmas.Bool.{and_parts, and_from, eqb-true, leb-true, le-leb, not-true, both_ways}
 use Rattle.std.proofs.lemmas.List.{append-nil, nil_from_length}
 use Rattle.std.proofs.lemmas.List.Folds.{list_all-append}
@@ -178,7 +178,7 @@ key_of-front (n ∷ p) (m ∷ q) rest hp hq e =
     let name_n = AreNames-cons n p hp in
     let name_m = AreNames-cons m q hq in
     let flat : m ++ 0 ∷ key_of q ≡ n ++ 0 ∷ (key_of p ++ rest) =
-        sym (key_of-cons m q) ∙ e ∙ ap (λ x. x ++ rest) (key_of-cons n p) ∙ append_assoc n (0 ∷ key_of p) rest in
+    sym (key_of-cons m q) ∙ e ∙ ap (λ x. x ++ rest) (key_of-cons n p) ∙ append_assoc n (0 ∷ key_of p) rest in
     let parts = first_part 0 m n (0 ∷ key_of q) (0 ∷ (key_of p ++ rest)) (is_name-zero m name_m.0) (is_name-zero n name_n.0) refl refl flat in
     let keys : 0 ∷ key_of q ≡ 0 ∷ (key_of p ++ rest) = parts.1 in
     let tails : key_of q ≡ key_of p ++ rest = cc in

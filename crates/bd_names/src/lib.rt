@@ -8,5 +8,6 @@ mod name;
 mod path;
 
 pub use fault::PathFault;
+pub use laws::{law_of_below, law_of_keys, law_of_parents, law_of_path_texts};
 pub use name::Name;
 pub use path::Path;

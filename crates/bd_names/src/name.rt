@@ -30,13 +30,23 @@ impl Model for Name {
 }
 
 impl Name {
+    /// Whether a text is a name.
+    pub fn is_name(text: &[u8]) -> bool
+        ensures { result ≡ is_name text.now }
+    {
+        if text.is_empty() || text.len() > MAX_NAME {
+            return false;
+        }
+        are_bytes_of_name(text) && !is_dots_text(text)
+    }
+
     /// Reads a name. A text that is none is refused as `BadPath`, and takes no memory.
     pub fn read(alloc: Global, text: &[u8]) -> Result<Name, PathFault>
         ensures name { IfOk result (λ name. name ≡ text.now) }
         ensures is_name { IfOk result (λ name. IsTrue (is_name text.now)) }
         ensures bad_path { (result ≡ Err PathFault.BadPath) ↔ (is_name text.now ≡ false) }
     {
-        if !is_name_text(text) {
+        if !Name::is_name(text) {
             return Err(PathFault::BadPath);
         }
         Ok(Name {
@@ -83,12 +93,16 @@ fn are_bytes_of_name(text: &[u8]) -> bool
     text.iter().all(|byte| is_byte_of_name(*byte))
 }
 
-/// Whether a text is a name.
-pub(crate) fn is_name_text(text: &[u8]) -> bool
-    ensures { result ≡ is_name text.now }
-{
-    if text.is_empty() || text.len() > MAX_NAME {
-        return false;
+#[cfg(test)]
+mod tests {
+    use super::*;
+    use std::test::Fail;
+
+    #[test]
+    fn reads_names(rt: HostRuntime) -> Result<(), Fail> {
+        let name = Name::read(rt.alloc(), b"b")?.copy(rt.alloc())?;
+        assert_eq!(rt; name.as_bytes(), b"b".as_slice());
+        assert!(rt; Name::read(rt.alloc(), b"b/c").is_err());
+        Ok(())
     }
-    are_bytes_of_name(text) && !is_dots_text(text)
 }

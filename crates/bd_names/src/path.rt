@@ -6,13 +6,13 @@ ghost use Rattle.bd_names.specs.Names.{is_name, AreNames, path_text, names_in, i
 ghost use Rattle.bd_names.specs.Cuts.{ends_from, IsCut};
 
 use crate::fault::PathFault;
-use crate::name::is_name_text;
+use crate::name::Name;
 use smallvec::SmallVec;
 use std::alloc::{AllocError, Global};
 use std::marker::Model;
 
 /// The greatest length of a path's text, in bytes.
-pub const MAX_PATH: usize = 512;
+const MAX_PATH: usize = 512;
 
 /// A path of at most 512 bytes, seen as the list of its names. `/` has none.
 #[derive(Debug, Drop)]
@@ -46,12 +46,23 @@ impl Path {
         })
     }
 
+    /// Whether a text is a path of at most 512 bytes.
+    pub fn is_path(text: &[u8]) -> bool
+        ensures { result ≡ is_path text.now }
+    {
+        match text {
+            [b'/'] => true,
+            [b'/', names @ ..] => text.len() <= MAX_PATH && are_names(names),
+            _ => false,
+        }
+    }
+
     /// Reads a path. A text that is none, or has more than 512 bytes, is refused as `BadPath` and takes no memory.
     pub fn read(alloc: Global, text: &[u8]) -> Result<Path, PathFault>
         ensures path { IfOk result (λ path. path_of text.now ≡ Some path) }
         ensures bad_path { (result ≡ Err PathFault.BadPath) ↔ (path_of text.now ≡ None) }
     {
-        if !is_path_text(text) {
+        if !Path::is_path(text) {
             return Err(PathFault::BadPath);
         }
         Ok(Path {
@@ -151,22 +162,11 @@ impl Path {
     }
 }
 
-/// Whether a text is a path.
-fn is_path_text(text: &[u8]) -> bool
-    ensures { result ≡ is_path text.now }
-{
-    match text {
-        [b'/'] => true,
-        [b'/', names @ ..] => text.len() <= MAX_PATH && are_names(names),
-        _ => false,
-    }
-}
-
 /// Whether what stands between the slashes of a text is a name each time.
 fn are_names(text: &[u8]) -> bool
     ensures { result ≡ list_all is_name (slice_split (λ b. b == 47) text.now) }
 {
-    text.split(|byte| *byte == b'/').all(is_name_text)
+    text.split(|byte| *byte == b'/').all(Name::is_name)
 }
 
 /// The places where the names of a path end.
@@ -204,4 +204,79 @@ fn name_at<'a>(text: &'a [u8], cuts: &[u16], i: usize) -> &'a [u8]
     let start = start_of(cuts, i);
     let end = cuts[i] as usize;
     &text[start..end]
+}
+
+#[cfg(test)]
+mod tests {
+    use super::*;
+    use std::test::Fail;
+
+    #[test]
+    fn reads_paths(rt: HostRuntime) -> Result<(), Fail> {
+        let texts: [(&[u8], bool); 15] = [
+            (b"/", true),
+            (b"/a", true),
+            (b"/a/b.c/...", true),
+            (b"/\xc3\xa9/!", true),
+            (b"/a/b/c/d/e/f/g/h/i/j", true),
+            (b"", false),
+            (b"a", false),
+            (b"//", false),
+            (b"/a/", false),
+            (b"/a//b", false),
+            (b"/.", false),
+            (b"/a/..", false),
+            (b"/a b", false),
+            (b"/a\x7f", false),
+            (b"/a\0", false),
+        ];
+        for (text, good) in texts {
+            match Path::read(rt.alloc(), text) {
+                Ok(path) => {
+                    assert!(rt; good);
+                    assert_eq!(rt; path.as_bytes(), text);
+                }
+                Err(fault) => {
+                    assert!(rt; !good);
+                    assert_eq!(rt; fault, PathFault::BadPath);
+                }
+            }
+        }
+        Ok(())
+    }
+
+    #[test]
+    fn gives_key_and_names(rt: HostRuntime) -> Result<(), Fail> {
+        let path = Path::read(rt.alloc(), b"/a/bc")?;
+        assert_eq!(rt; path.key(rt.alloc())?.as_slice(), b"a\0bc\0".as_slice());
+        assert_eq!(rt; path.names(rt.alloc())?.len(), 2);
+        Ok(())
+    }
+
+    #[test]
+    fn gives_the_parent(rt: HostRuntime) -> Result<(), Fail> {
+        let path = Path::read(rt.alloc(), b"/a/bc")?;
+        let parent = path.parent(rt.alloc())?.ok_or("no parent")?;
+        assert_eq!(rt; parent.as_bytes(), b"/a".as_slice());
+        assert!(rt; path.is_under(&parent));
+        assert!(rt; !parent.is_under(&path));
+        Ok(())
+    }
+
+    #[test]
+    fn root_has_no_parent(rt: HostRuntime) -> Result<(), Fail> {
+        let root = Path::root(rt.alloc())?.copy(rt.alloc())?;
+        assert!(rt; root.is_root());
+        assert!(rt; root.parent(rt.alloc())?.is_none());
+        Ok(())
+    }
+
+    #[test]
+    fn writes_its_text(rt: HostRuntime) -> Result<(), Fail> {
+        let mut into = [7; 512];
+        let path = Path::read(rt.alloc(), b"/a")?;
+        assert_eq!(rt; path.write(&mut into), 2);
+        assert_eq!(rt; into[1], b'a');
+        Ok(())
+    }
 }

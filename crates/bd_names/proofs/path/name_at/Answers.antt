@@ -7,7 +7,7 @@ use Rattle.bd_names.proofs.path.name_at.Goals as goal
 pub slice_bounds-result-count : goal.slice_bounds-result-count
 slice_bounds-result-count c =
     let start : c.start_of-start.result ≡ length (slashed (take c.args.i (names_in c.args.text.now))) + 1 =
-        start_is c.args.text.now c.args.cuts.now c.args.i c.start_of-start.result c.requires.cut c.requires.in_range c.start_of-start.ensures in
+    start_is c.args.text.now c.args.cuts.now c.args.i c.start_of-start.result c.requires.cut c.requires.in_range c.start_of-start.ensures in
     omega (arith, start, name_end c.args.text.now c.args.cuts.now _ c.args.i c.requires.cut refl c.requires.in_range)
 
 pub slice_bounds-result-start : goal.slice_bounds-result-start

@@ -1,4 +1,4 @@
-use Rattle.std.proofs.Common.{◌≡◌, ◌<◌, ◌++◌, [], ◌∷◌, take, get_or, sym, ◌∙◌, ap, arith}
+use Rattle.std.proofs.Common.{◌≡◌, ◌++◌, [], ◌∷◌, take, get_or, sym, ◌∙◌, ap, arith}
 use Rattle.std.proofs.lemmas.List.{take_all}
 use Rattle.bd_names.specs.Names.{key_of, names_in}
 use Rattle.bd_names.proofs.CutsLemmas.{cuts-length, key_of-more}
@@ -7,7 +7,7 @@ use Rattle.bd_names.proofs.path.Path.key.Goals as goal
 pub loop-i-preserved : goal.loop-i-preserved
 loop-i-preserved c =
     let name : c.name_at.result.now ≡ get_or c.args.self.now c.loop-i.i [] =
-        c.name_at.ensures ∙ ap (λ x. get_or (names_in x) c.loop-i.i []) c.deref.ensures.value ∙ ap (λ x. get_or x c.loop-i.i []) c.self.view_is in
+    c.name_at.ensures ∙ ap (λ x. get_or (names_in x) c.loop-i.i []) c.deref.ensures.value ∙ ap (λ x. get_or x c.loop-i.i []) c.self.view_is in
     let whole = c.in_ok-extend_from_slice.ensures.items ∙ ap (λ x. x ++ c.name_at.result.now) c.loop-i.invariant ∙ ap (λ x. key_of (take c.loop-i.i c.args.self.now) ++ x) name in
     c.in_ok-push.ensures.items ∙ ap (λ x. x ++ 0 ∷ []) whole
     ∙ sym (key_of-more c.args.self.now c.loop-i.i (omega (arith, cuts-length _ _ _ c.self.invariant c.self.view_is)))

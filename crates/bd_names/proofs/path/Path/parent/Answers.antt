@@ -9,9 +9,9 @@ pub slice_bounds-from_slice-end : goal.slice_bounds-from_slice-end
 slice_bounds-from_slice-end c =
     let size : length c.self.inside.cuts.items ≡ suc (suc (c.len-count.result - 2)) = omega arith in
     let fits : get_or c.self.inside.cuts.items (c.len-count.result - 2) 0 ≤ length c.self.inside.text.items =
-        parent_fits _ _ _ _ c.self.invariant c.self.view_is size in
+    parent_fits _ _ _ _ c.self.invariant c.self.view_is size in
     let end : get_or c.deref.result.now (c.len-count.result - 2) 0 ≡ get_or c.self.inside.cuts.items (c.len-count.result - 2) 0 =
-        ap (λ x. get_or x (c.len-count.result - 2) 0) c.deref.ensures in
+    ap (λ x. get_or x (c.len-count.result - 2) 0) c.deref.ensures in
     sym (length-take-le _ c.deref-2.result.now (omega (arith, fits, end, ap length c.deref-2.ensures.value)))
 
 pub invariant_of-result : goal.invariant_of-result

@@ -1,4 +1,4 @@
-use Rattle.std.proofs.Common.{◌≡◌, length, sym, ◌∙◌, ap}
+use Rattle.std.proofs.Common.{length, sym, ◌∙◌, ap}
 use Rattle.std.proofs.lemmas.List.{take_at}
 use Rattle.bd_names.proofs.CutsLemmas.{IsCut-text}
 use Rattle.bd_names.proofs.path.Path.write.Goals as goal
