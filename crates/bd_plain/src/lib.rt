@@ -7,6 +7,7 @@ mod entry;
 mod file;
 mod paths;
 mod refusals;
+mod refused;
 mod step;
 mod tree;
 

@@ -1,3 +1,4 @@
 pub mod Executes
 pub mod Feeding
+pub mod Runs
 pub mod Scripts

@@ -3,3 +3,4 @@ pub mod Session
 pub mod Words
 pub mod Shell
 pub mod Taken
+pub mod Run

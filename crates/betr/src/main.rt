@@ -3,7 +3,10 @@
 #![tactic(auto)]
 
 mod fault;
+mod outcome;
+mod run;
 mod session;
 mod shell;
+mod words;
 
 fn main() {}
