@@ -1,0 +1,13 @@
+//! The lines of a script as values, and the bytes of a reply.
+//! The layers above may use the contracts of `read_line`, one meaning a line, and of `reply`.
+#![tactic(auto)]
+
+mod line;
+mod number;
+mod read;
+mod reply;
+mod words;
+
+pub use line::{Line, LineFault};
+pub use read::read_line;
+pub use reply::MAX_REPLY;
