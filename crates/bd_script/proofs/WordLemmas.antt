@@ -5,7 +5,7 @@ use Rattle.std.specs.Char.{is_ascii_digit}
 use Rattle.std.specs.declared.option.Option.{Option}
 use Rattle.std.specs.declared.option.Option.TheVariants.{None, Some}
 use Rattle.std.proofs.Common.{sym, ◌∙◌, ap, subst, arith, get_or, inl, inr}
-use Rattle.std.proofs.lemmas.Bool.{ltb-true, ltb-false, lt-leb, le-leb, and_left, and_right, and_from, eq-eqb, ne_eqb}
+use Rattle.std.proofs.lemmas.Bool.{ltb-true, ltb-false, lt-leb, le-leb, leb-true, and_parts, and_left, and_right, and_from, eq-eqb, ne_eqb}
 use Rattle.std.proofs.lemmas.List.{take_rest, take_all, take_more, take-append-drop}
 use Rattle.std.proofs.lemmas.List.Splits.{slice_split_first}
 use Rattle.std.proofs.lemmas.List.Folds.{list_all_at}
@@ -36,7 +36,7 @@ word_cut line r i found e =
         slice_split_first (λ b. b == 32) line 0 (ltb-true (position_or_len (λ b. b == 32) line) (length line) at.0) in
     first ∙ ap (λ n. take n line ∷ words_of (drop (n + 1) line)) (sym at.1) ∙ ap (λ x. take i line ∷ words_of x) (sym (take_rest line (i + 1)))
 
-word_rest : (t : Bool) (b : ℕ) (line : List ℕ) → (length line ≤ position_or_len (λ b. b == 32) line → words_of line ≡ line ∷ []) → length (b ∷ line) ≤ cond t 0 (1 + position_or_len (λ b. b == 32) line) → cond t ([] ∷ words_of line) (onto_first b (words_of line)) ≡ (b ∷ line) ∷ []
+word_rest : (t : Bool) (b : ℕ) (line : List ℕ) → (length line ≤ position_or_len (λ b. b == 32) line → words_of line ≡ line ∷ []) → length (b ∷ line) ≤ cond (not t) (1 + position_or_len (λ b. b == 32) line) 0 → cond t ([] ∷ words_of line) (onto_first b (words_of line)) ≡ (b ∷ line) ∷ []
 word_rest true b line rest h = absurd (omega arith)
 word_rest false b line rest h = ap (onto_first b) (rest (omega arith))
 
@@ -89,7 +89,15 @@ number_of-large word i h =
     let whole : digits_value word ≡ fold digit_more (fold digit_more 0 (take i word)) (drop i word) =
         ap (fold digit_more 0) (sym (take-append-drop i word)) ∙ fold-append digit_more 0 (take i word) (drop i word) in
     let more : fold digit_more 0 (take i word) ≤ fold digit_more (fold digit_more 0 (take i word)) (drop i word) = digits-grow (fold digit_more 0 (take i word)) (drop i word) in
-    number_of-false word (and_right _ _ (and_right _ _ (and_right _ _ (lt-leb (digits_value word) 4294967295 (omega (arith, whole, more))))))
+    number_of-false word (
+        and_right (not (is_empty word)) _ (
+        and_right (list_all is_ascii_digit word) _ (
+        and_right (not (has_leading_zero word)) (nat_le (digits_value word) 4294967295) (lt-leb (digits_value word) 4294967295 (omega (arith, whole, more))))))
+
+pub digits_next : (word : List ℕ) (i n : ℕ) → i < length word → n ≡ fold digit_more 0 (take i word) → fold digit_more 0 (take (i + 1) word) ≡ 10 * n + (get_or word i 0 - 48)
+digits_next word i n l h =
+    ap (fold digit_more 0) (take_more word i 0 l) ∙ fold-append digit_more 0 (take i word) (get_or word i 0 ∷ [])
+    ∙ ap (λ x. 10 * x + (get_or word i 0 - 48)) (sym h)
 
 not_empty : (word : List ℕ) → (length word ≡ 0 → ⊥) → not (is_empty word) ≡ true
 not_empty [] h = absurd (h refl)
@@ -121,3 +129,21 @@ hex_of-size word size = hex_cases word (decode_of word) refl size
 all_bytes : (bytes : List ℕ) → IsBytes bytes → AllByRecursion (λ b. b < 256) bytes
 all_bytes [] h = tt
 all_bytes (b ∷ bytes) h = (h 0, all_bytes bytes (λ i. h (suc i)))
+
+written_at : (t : Bool) (bs bytes : List ℕ) → (nat_le 1 (length bs) && nat_le (length bs) 2048) ≡ t → IsBytes bs → cond t (Some bs) None ≡ Some bytes → IsWritten bytes
+written_at true bs bytes size h e =
+    let parts = and_parts (nat_le 1 (length bs)) (nat_le (length bs) 2048) size in
+    let same : bs ≡ bytes = cc in
+    let P : List ℕ → Type 0 = IsWritten in
+    subst P same (leb-true 1 (length bs) parts.0, leb-true (length bs) 2048 parts.1, all_bytes bs h)
+written_at false bs bytes size h e = cc
+
+written_size : (bs bytes : List ℕ) → IsBytes bs → hex_result (Ok bs) ≡ Some bytes → IsWritten bytes
+written_size bs bytes h e = written_at (nat_le 1 (length bs) && nat_le (length bs) 2048) bs bytes refl h e
+
+written_cases : (word : List ℕ) (r : Result (List ℕ) FromHexError) (bytes : List ℕ) → decode_of word ≡ r → hex_result r ≡ Some bytes → IsWritten bytes
+written_cases word (Err e) bytes h some = cc
+written_cases word (Ok bs) bytes h some = written_size bs bytes (decode_of-ok word bs h).3 some
+
+pub IsWritten-hex_of : (word bytes : List ℕ) → hex_of word ≡ Some bytes → IsWritten bytes
+IsWritten-hex_of word bytes h = written_cases word (decode_of word) bytes refl h

@@ -57,10 +57,13 @@ fn read_words(alloc: Global, line: &[u8]) -> Result<Line, LineFault>
         return read_two(alloc, verb, first, second);
     };
     let (third, rest) = cut_word(rest);
-    if third.is_empty() || rest.is_some() {
+    if third.is_empty() {
         return Err(LineFault::BadLine);
     }
-    read_three(alloc, verb, first, second, third)
+    match rest {
+        Some(_) => Err(LineFault::BadLine),
+        None => read_three(alloc, verb, first, second, third),
+    }
 }
 
 /// Reads a line of one word.
@@ -162,7 +165,9 @@ fn read_write(alloc: Global, path: &[u8], off: u32, hex: &[u8]) -> Result<Line, 
     ensures { IsRead result (write_at path.now off hex.now) }
 {
     let mut room = [0; MAX_WRITE];
-    let len = read_hex(hex, &mut room).ok_or(LineFault::BadLine)?;
+    let Some(len) = read_hex(hex, &mut room) else {
+        return Err(LineFault::BadLine);
+    };
     let path = read_path(alloc, path)?;
     let bytes = Bytes::from_slice(alloc, &room[..len])?;
     Ok(Line::Run(Command::Write { path, off, bytes }))
