@@ -5,9 +5,9 @@
 mod line;
 mod number;
 mod read;
-mod reply;
+mod replies;
 mod words;
 
 pub use line::{Line, LineFault};
 pub use read::read_line;
-pub use reply::MAX_REPLY;
+pub use replies::reply;
