@@ -4,5 +4,5 @@ use Rattle.bd_model.specs.Transcript.{IsThere}
 use Rattle.bd_model.proofs.LinesThere.{IsThere-line_of}
 use Rattle.betr.proofs.shell.answer.Goals as goal
 
-pub execute-requires : goal.execute-requires
-execute-requires g c = subst IsThere (sym c.in-Ok.ensures.read) (IsThere-line_of c.args.line.now)
+pub execute-requires-clause-there : goal.execute-requires-clause-there
+execute-requires-clause-there g c = subst IsThere (sym c.in-Ok.ensures.meaning) (IsThere-line_of c.args.line.now)
