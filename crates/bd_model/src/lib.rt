@@ -2,10 +2,4 @@
 //! The layers above use the definitions of `specs/`, and the laws that the functions here carry.
 #![tactic(auto)]
 
-ghost use Rattle.std.specs.Prelude.{◌≡◌, ◌∷◌, [], List, ℕ};
-ghost use Rattle.bd_model.specs.Lines.{lines_of, whole_lines, open_line};
-
-/// A script without bytes has no lines.
-pub fn no_lines()
-    ensures { lines_of [] ≡ [] }
-{}
+pub mod laws;
