@@ -1,11 +1,11 @@
 -- The order of paths, and when two paths are one.
-use Rattle.std.proofs.Common.{◌≡◌, ◌≢◌, ℕ, Bool, true, false, List, ◌++◌, Some, Equal, refl, sym, ap, subst, ◌∙◌}
+use Rattle.std.proofs.Common.{◌≡◌, ◌≢◌, ℕ, Bool, true, false, List, ◌++◌, ◌⊎◌, inl, inr, Equal, refl, ap, subst}
 use Rattle.std.specs.Cmp.{IsTotalOrder, Equal-is, tied_itself, both_ways}
 use Rattle.std.specs.Ordering.{is_eq, eq_by_cmp}
 use Rattle.std.specs.FinMap.{IsAntisymmetric, nat_cmp-IsAntisymmetric, slice_cmp-IsAntisymmetric}
 use Rattle.std.proofs.lemmas.Cmp.{lists_total, nat_list_cmp_total}
-use Rattle.bd_names.specs.Names.{rest_below}
-use Rattle.bd_names.specs.NamesLaws.{rest_below-append}
+use Rattle.std.proofs.lemmas.Bool.{cases_Bool, false_from_ne_true, both_ways as contradict}
+use Rattle.std.proofs.lemmas.List.{append_cancel_left}
 use Rattle.bd_model.specs.Tree.{path_cmp}
 
 pub paths_total : IsTotalOrder path_cmp
@@ -29,19 +29,19 @@ pub same_path-equal : (p q : List (List ℕ)) → p ≡ q → same_path p q ≡ 
 same_path-equal p q e = subst (λ (r : List (List ℕ)). same_path p r ≡ true) e (same_path-refl p)
 
 pub same_path-false : (p q : List (List ℕ)) → p ≢ q → same_path p q ≡ false
-same_path-false p q n = by (same_path p q) refl
-  where
-    by : (t : Bool) → same_path p q ≡ t → same_path p q ≡ false
-    by true e = absurd (n (same_path-true p q e))
-    by false e = e
+same_path-false p q n = false_from_ne_true (same_path p q) (λ h. n (same_path-true p q h))
 
--- behind one front, paths differ where their rests do
-pub same_front : (a r s : List (List ℕ)) → a ++ r ≡ a ++ s → r ≡ s
-same_front a r s e = let found : Some r ≡ Some s = sym (rest_below-append a r) ∙ ap (rest_below a) e ∙ rest_below-append a s in cc
+-- two paths are one or differ
+pub one_or_apart : (p q : List (List ℕ)) → (p ≡ q) ⊎ (p ≢ q)
+one_or_apart p q = by (cases_Bool (same_path p q))
+  where
+    by : (same_path p q ≡ true) ⊎ (same_path p q ≡ false) → (p ≡ q) ⊎ (p ≢ q)
+    by (inl h) = inl (same_path-true p q h)
+    by (inr h) = inr (λ same. contradict (same_path p q) h (same_path-equal p q same))
 
 -- behind two fronts, rests are told apart alike
 pub same_path-fronts : (a b r s : List (List ℕ)) → same_path (b ++ r) (b ++ s) ≡ same_path (a ++ r) (a ++ s)
 same_path-fronts a b r s = both_ways (same_path (b ++ r) (b ++ s)) (same_path (a ++ r) (a ++ s)) (moves b a) (moves a b)
   where
     moves : (x y : List (List ℕ)) → same_path (x ++ r) (x ++ s) ≡ true → same_path (y ++ r) (y ++ s) ≡ true
-    moves x y h = same_path-equal (y ++ r) (y ++ s) (ap (λ (z : List (List ℕ)). y ++ z) (same_front x r s (same_path-true (x ++ r) (x ++ s) h)))
+    moves x y h = same_path-equal (y ++ r) (y ++ s) (ap (λ (z : List (List ℕ)). y ++ z) (append_cancel_left x r s (same_path-true (x ++ r) (x ++ s) h)))
