@@ -7,3 +7,4 @@ pub mod Accepted
 pub mod TreeLaws
 pub mod FileBytes
 pub mod TreeStays
+pub mod Listing
