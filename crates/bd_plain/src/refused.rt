@@ -4,19 +4,15 @@ ghost use Rattle.std.specs.Prelude.{◌≡◌, IfOk};
 ghost use Rattle.bd_model.specs.Step.{refusal_of, file_refusal};
 ghost use Rattle.std.specs.FinMap.{get};
 
-use crate::{paths, refusals};
 use crate::tree::PlainTree;
+use crate::{paths, refusals};
 use bd_command::{Command, Refusal};
 use bd_names::Name;
 use std::alloc::{AllocError, Global};
 
 impl PlainTree {
     /// Why the tree refuses a command, if it does: the first cause that holds.
-    pub fn refusal(
-        &self,
-        alloc: Global,
-        command: &Command,
-    ) -> Result<Option<Refusal>, AllocError>
+    pub fn refusal(&self, alloc: Global, command: &Command) -> Result<Option<Refusal>, AllocError>
         ensures { IfOk result (λ refusal. refusal ≡ refusal_of self.now command.now) }
     {
         Ok(match command {
@@ -32,7 +28,10 @@ impl PlainTree {
                 let path = paths::names_of(alloc, path)?;
                 refusals::root_refusal(&path).or(self.absent_refusal(&path))
             }
-            Command::Rename { a, b } => self.rename_refusal(&paths::names_of(alloc, a)?, &paths::names_of(alloc, b)?),
+            Command::Rename { a, b } => self.rename_refusal(
+                &paths::names_of(alloc, a)?,
+                &paths::names_of(alloc, b)?,
+            ),
             Command::Clone { a, b } => self
                 .absent_refusal(&paths::names_of(alloc, a)?)
                 .or(self.new_refusal(&paths::names_of(alloc, b)?)),

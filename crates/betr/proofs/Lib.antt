@@ -1,4 +1,5 @@
 pub mod Executes
 pub mod Feeding
+pub mod Replies
 pub mod Runs
 pub mod Scripts

@@ -22,16 +22,16 @@ use Rattle.betr.proofs.Executes.{leaves_none}
 pub started : {D : Type 0} (s : Shell D) (w : Option (List ℕ)) → IsAtStart s → point_of s.volume w ≡ start_point w
 started s w h = λ i. record { tree = h.tree i; count = h.count i; written = w }
 
--- nothing was executed
-pub ends_before : (e : Fault) (script : Option (List ℕ)) (w : Option (List ℕ)) → ((ls : List ScriptLine) → Leaves e (start_point w) ls w) → EndsAmong e (start_point w) script w
-ends_before e None w h = record { lines = []; lines_are = tt; left = h [] }
-ends_before e (Some bytes) w h = record { lines = lines_to_run bytes; lines_are = refl; left = h (lines_to_run bytes) }
+-- nothing was taken and nothing executed
+ends_before : (e : Fault) (script w : Option (List ℕ)) → ((ls : List ScriptLine) → Leaves e (start_point w) ls w) → EndsAmong e (start_point w) script script w
+ends_before e None w h = record { taken = []; taken_is = refl; few = omega arith; lines = []; lines_are = tt; left = h [] }
+ends_before e (Some bytes) w h = record { taken = []; taken_is = refl; few = omega arith; lines = lines_to_run bytes; lines_are = refl; left = h (lines_to_run bytes) }
 
-pub ends_device : (script rest w : Option (List ℕ)) → Ends Device (start_point w) script rest w
-ends_device script rest w = ends_before Device script w (λ ls. (0, leaves_none (start_point w) ls))
+pub ends_device : (script w : Option (List ℕ)) → Ends Device (start_point w) script script w
+ends_device script w = ends_before Device script w (λ ls. (0, leaves_none (start_point w) ls))
 
-pub ends_memory : (script rest w : Option (List ℕ)) → Ends Memory (start_point w) script rest w
-ends_memory script rest w = ends_before Memory script w (λ ls. (0, leaves_none (start_point w) ls))
+pub ends_memory : (script w : Option (List ℕ)) → Ends Memory (start_point w) script script w
+ends_memory script w = ends_before Memory script w (λ ls. (0, leaves_none (start_point w) ls))
 
 -- a session's cause is a run's
 pub cause_in_run : (e : Fault) (before now : Faults) → HasCauseIn e before.source now.source before.sink now.sink → HasCauseInRun e before now

@@ -27,7 +27,7 @@ pub record Stands (from now : Point) (line : List ℕ) (taken : ℕ) (script res
   pub on : GoesOnBy from now bytes
   pub line_is : line ≡ held (open_line bytes)
 
-prepend_known-nil : (o : Option (List ℕ)) → prepend_known [] o ≡ o
+pub prepend_known-nil : (o : Option (List ℕ)) → prepend_known [] o ≡ o
 prepend_known-nil None = refl
 prepend_known-nil (Some xs) = refl
 
@@ -181,21 +181,27 @@ finishes_ended p q r line taken script rest s end x =
 -- ---- faults
 
 -- some of the script's lines, where they are known to be in front of all
-among : (e : Fault) (p : Point) (lines : List ScriptLine) (bytes : List ℕ) (script rest written : Option (List ℕ)) → script ≡ prepend_known bytes rest
-    → ((more : List ℕ) → rest ≡ Some more → IsFront lines (lines_to_run (bytes ++ more))) → Leaves e p lines written → EndsAmong e p script written
-among e p lines bytes script None written is h l = record {
+among : (e : Fault) (p : Point) (lines : List ScriptLine) (bytes : List ℕ) (script rest written : Option (List ℕ)) → script ≡ prepend_known bytes rest → length bytes ≤ script_limit
+    → ((more : List ℕ) → rest ≡ Some more → IsFront lines (lines_to_run (bytes ++ more))) → Leaves e p lines written → EndsAmong e p script rest written
+among e p lines bytes script None written is few h l = record {
+  taken = bytes;
+  taken_is = is;
+  few = few;
   lines = lines;
   lines_are = subst (λ o. IfSome o (λ s. lines ≡ lines_to_run s)) (sym is) tt;
   left = l;
 }
-among e p lines bytes script (Some more) written is h l = record {
+among e p lines bytes script (Some more) written is few h l = record {
+  taken = bytes;
+  taken_is = is;
+  few = few;
   lines = lines_to_run (bytes ++ more);
   lines_are = subst (λ o. IfSome o (λ s. lines_to_run (bytes ++ more) ≡ lines_to_run s)) (sym is) refl;
   left = leaves_front e p lines (lines_to_run (bytes ++ more)) written (h more refl) l;
 }
 
 -- the shell's own faults leave some of the lines executed
-pub ends_among : (e : Fault) (before now : ℕ) (p : Point) (script rest written : Option (List ℕ)) → IsShellFault e before now → EndsAmong e p script written → Ends e p script rest written
+pub ends_among : (e : Fault) (before now : ℕ) (p : Point) (script rest written : Option (List ℕ)) → IsShellFault e before now → EndsAmong e p script rest written → Ends e p script rest written
 ends_among Device before now p script rest written f h = absurd f
 ends_among Source before now p script rest written f h = absurd f
 ends_among Memory before now p script rest written f h = h
@@ -205,12 +211,13 @@ ends_among Sink before now p script rest written f h = h
 
 -- a fault within a piece
 pub ends_fed : (e : Fault) (before now : ℕ) (p q : Point) (line piece : List ℕ) (taken : ℕ) (script mid rest written : Option (List ℕ)) → Stands p q line taken script mid
-    → mid ≡ prepend_known piece rest → IsShellFault e before now → Leaves e q (up_to_stop (meanings (line ++ piece))) written → Ends e p script rest written
-ends_fed e before now p q line piece taken script mid rest written s got f l =
+    → taken + length piece ≤ script_limit → mid ≡ prepend_known piece rest → IsShellFault e before now → Leaves e q (up_to_stop (meanings (line ++ piece))) written → Ends e p script rest written
+ends_fed e before now p q line piece taken script mid rest written s fits got f l =
     let is = s.taken_is ∙ ap (prepend_known s.bytes) got ∙ prepend_known-append s.bytes piece rest in
     let lines = meanings-more s.bytes piece line s.line_is in
     ends_among e before now p script rest written f
       (among e p (meanings s.bytes ++ up_to_stop (meanings (line ++ piece))) (s.bytes ++ piece) script rest written is
+        (omega (arith, length-append s.bytes piece, s.count))
         (λ more _. let front = lines_front (s.bytes ++ piece) more in
           subst (λ ls. IsFront (meanings s.bytes ++ up_to_stop (meanings (line ++ piece))) (up_to_stop ls)) (sym front.1)
             (subst (λ ls. IsFront ls (up_to_stop (meanings (s.bytes ++ piece) ++ front.0)))
@@ -224,6 +231,7 @@ pub ends_last : (e : Fault) (before now : ℕ) (p q : Point) (line : List ℕ) (
 ends_last e before now p q line taken script rest written s end f l =
     ends_among e before now p script rest written f
       (among e p (meanings s.bytes ++ last_lines line) s.bytes script rest written s.taken_is
+        (omega (arith, s.count, s.few))
         (λ more x. ([], sym (append-nil _ ∙ sym (run_ended s.bytes line s.line_is s.on.no_stop) ∙ ap lines_to_run (sym (ap (λ l. s.bytes ++ l) (end_is rest end more x) ∙ append-nil s.bytes)))))
         (leaves_more e p q (meanings s.bytes) (last_lines line) written s.on.executed l))
 

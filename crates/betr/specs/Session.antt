@@ -90,16 +90,19 @@ pub record EndsWithin (from : Point) (script rest written : Option (List ℕ)) (
   pub no_stop : list_any is_stop (executed_lines entries) ≡ false
 
 -- some of the script's lines were executed, from the first on
-pub record EndsAmong (fault : Fault) (from : Point) (script written : Option (List ℕ)) : Type 0 where
+pub record EndsAmong (fault : Fault) (from : Point) (script rest written : Option (List ℕ)) : Type 0 where
+  pub taken : List ℕ
+  pub taken_is : script ≡ prepend_known taken rest
+  pub few : length taken ≤ script_limit
   pub lines : List ScriptLine
   pub lines_are : IfSome script (λ bytes. lines ≡ lines_to_run bytes)
   pub left : Leaves fault from lines written
 
 -- what a fault leaves of a script
 abbrev pub Ends : Fault → Point → Option (List ℕ) → Option (List ℕ) → Option (List ℕ) → Type 0
-Ends Device from script rest written = EndsAmong Device from script written
+Ends Device from script rest written = EndsAmong Device from script rest written
 Ends Source from script rest written = (taken : List ℕ) × (length taken ≤ script_limit) × EndsWithin from script rest written taken []
-Ends Memory from script rest written = EndsAmong Memory from script written
+Ends Memory from script rest written = EndsAmong Memory from script rest written
 Ends TooLong from script rest written = (taken : List ℕ) × (byte : ℕ) × (length taken ≡ script_limit) × EndsWithin from script rest written taken (byte ∷ [])
-Ends (Worn which) from script rest written = EndsAmong (Worn which) from script written
-Ends Sink from script rest written = EndsAmong Sink from script written
+Ends (Worn which) from script rest written = EndsAmong (Worn which) from script rest written
+Ends Sink from script rest written = EndsAmong Sink from script rest written

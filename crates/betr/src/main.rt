@@ -4,9 +4,37 @@
 
 mod fault;
 mod outcome;
+mod row;
 mod run;
 mod session;
 mod shell;
+#[cfg(test)]
+mod tests;
 mod words;
 
-fn main() {}
+use bd_device::MemDevice;
+use bd_io::{StdSink, StdSource};
+use std::process::ExitCode;
+use std::{env, io};
+
+/// The blocks of the device in memory that the program runs over.
+const BLOCKS: u64 = 516;
+
+/// The status where there is no memory to begin.
+const NO_MEMORY: u8 = 6;
+
+fn main(rt: HostRuntime) -> ExitCode {
+    ExitCode::from(status(&rt).unwrap_or(NO_MEMORY))
+}
+
+/// Runs the program over standard input and output, and gives its status.
+fn status(rt: &HostRuntime) -> io::Result<u8> {
+    let mut words = Vec::new(rt.alloc());
+    for word in env::args(rt)? {
+        words.push(word)?;
+    }
+    let mut dev = MemDevice::new(rt.alloc(), BLOCKS, 0, &[])?;
+    let mut src = StdSource::new(rt.reader());
+    let mut sink = StdSink::new(io::writer(rt));
+    Ok(run::run(rt.alloc(), &words, &mut dev, &mut src, &mut sink).status)
+}

@@ -7,7 +7,7 @@ ghost use Rattle.bd_model.specs.Lines.{line_of, whole_lines, open_line, held};
 ghost use Rattle.bd_model.specs.Replies.{reply_line};
 ghost use Rattle.bd_model.specs.Transcript.{Follows, IsThere, accepted_by, is_stop, up_to_stop};
 ghost use Rattle.bd_model.proofs.CutLines.{IsHeld};
-ghost use Rattle.bd_script.specs.Line.{script_line};
+ghost use Rattle.bd_script.specs.Script.{script_line, IsLine, IsReply};
 ghost use Rattle.bd_volume.specs.Volume.{tree_of, count_of};
 ghost use Rattle.betr.specs.Fault.{HasCauseIn};
 ghost use Rattle.betr.specs.Session.{Executes, Leaves};
@@ -36,10 +36,12 @@ fn execute<D: Device + Drop>(
     volume: &mut Volume<D>,
     line: Line,
 ) -> Result<(Reply, Flow), Fault>
-    requires { IsThere (script_line line) }
+    requires there { IsThere (script_line line) }
+    requires limits { IsLine line }
     ensures follows { IfOk result (λ r. Follows (tree_of volume.old) (script_line line) r.0 (tree_of volume.new)) }
     ensures count { IfOk result (λ r. count_of volume.new ≡ count_of volume.old + accepted_by (script_line line) r.0) }
     ensures flow { IfOk result (λ r. stops r.1 ≡ is_stop (script_line line)) }
+    ensures small { IfOk result (λ r. IsReply r.0) }
     ensures fault { IfErr result (λ e. IsAnswerFault e (count_of volume.old)) }
 {
     match line {
@@ -62,6 +64,7 @@ fn answer<D: Device + Drop>(
     ensures follows { IfOk result (λ r. Follows (tree_of volume.old) (line_of line.now) r.0 (tree_of volume.new)) }
     ensures count { IfOk result (λ r. count_of volume.new ≡ count_of volume.old + accepted_by (line_of line.now) r.0) }
     ensures flow { IfOk result (λ r. stops r.1 ≡ is_stop (line_of line.now)) }
+    ensures small { IfOk result (λ r. IsReply r.0) }
     ensures fault { IfErr result (λ e. IsAnswerFault e (count_of volume.old)) }
 {
     match read_line(alloc, line) {
@@ -74,14 +77,12 @@ fn answer<D: Device + Drop>(
 
 /// Writes a reply, behind what was written. At `Failed` a part of it was written.
 fn say<K: Sink>(reply: &Reply, buffer: &mut [u8; 32768], sink: &mut K) -> Result<(), Failed>
+    requires { IsReply reply.now }
     ensures ok { OnOk result (K.written sink.new ≡ append_known (K.written sink.old) (reply_line reply.now)) }
     ensures part { OnErr result (WrotePart (reply_line reply.now) (K.written sink.old) (K.written sink.new)) }
     ensures cause { HasCause (K.fault_count sink.old) (K.fault_count sink.new) result }
 {
-    let size = match bd_script::reply(reply, buffer) {
-        Ok(size) => size,
-        Err(_) => return Err(Failed),
-    };
+    let size = bd_script::reply(reply, buffer);
     put_all(sink, &buffer[..size])
 }
 

@@ -40,9 +40,11 @@ returns-in-Ok-Stop-clause-ok g c =
 
 pub returns-in-Err-feed-clause-err : goal.returns-in-Err-feed-clause-err
 returns-in-Err-feed-clause-err g c =
+    let size = c.in-Ok-Piece.size in
     let got = subst (λ t. Takes t c.pieces.taken c.next_piece.new.piece (g.S.Source.left c.pieces.src) (g.S.Source.left c.next_piece.new.src)) c.in-Ok-Piece.field-0-is c.in-Ok-Piece.ensures.ok in
-    ends_fed c.in-Err-feed.fault (g.K.Sink.fault_count c.pieces.sink) (g.K.Sink.fault_count c.feed.new.sink) (point_of c.args.shell.now.volume (g.K.Sink.written c.args.sink.now)) _ c.pieces.shell.line.items (take c.in-Ok-Piece.size c.next_piece.new.piece) c.pieces.taken _ _ _ _ c.pieces.invariant.stands
-      got.3 c.in-Err-feed.ensures.cause.fault c.in-Err-feed.ensures.err
+    let long : length (take size c.next_piece.new.piece) ≡ size = length-take-le size c.next_piece.new.piece (omega (arith, got.1, c.next_piece.array_long)) in
+    ends_fed c.in-Err-feed.fault (g.K.Sink.fault_count c.pieces.sink) (g.K.Sink.fault_count c.feed.new.sink) (point_of c.args.shell.now.volume (g.K.Sink.written c.args.sink.now)) _ c.pieces.shell.line.items (take size c.next_piece.new.piece) c.pieces.taken _ _ _ _ c.pieces.invariant.stands
+      (omega (arith, got.2, long)) got.3 c.in-Err-feed.ensures.cause.fault c.in-Err-feed.ensures.err
 
 pub returns-in-Ok-End-clause-ok : goal.returns-in-Ok-End-clause-ok
 returns-in-Ok-End-clause-ok g c =

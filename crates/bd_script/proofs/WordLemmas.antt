@@ -1,0 +1,149 @@
+-- Words of a line, and numbers and bytes in them.
+use Rattle.std.specs.Prelude.{◌≡◌, ◌⊎◌, ℕ, zero, suc, ◌+◌, ◌-◌, ◌*◌, ◌/◌, ◌<◌, ◌≤◌, Bool, true, false, not, ◌&&◌, ◌||◌, List, [], ◌∷◌, ◌++◌, length, take, drop, fold, nat_le, ◌==◌, ltb, cond, refl, Result, Ok, Err}
+use Rattle.std.specs.List.{slice_split, onto_first, list_all, position_or_len, AllByRecursion}
+use Rattle.std.specs.Char.{is_ascii_digit}
+use Rattle.std.specs.declared.option.Option.{Option}
+use Rattle.std.specs.declared.option.Option.TheVariants.{None, Some}
+use Rattle.std.proofs.Common.{sym, ◌∙◌, ap, subst, arith, get_or, inl, inr}
+use Rattle.std.proofs.lemmas.Bool.{ltb-true, ltb-false, lt-leb, le-leb, leb-true, and_parts, and_left, and_right, and_from, eq-eqb, ne_eqb}
+use Rattle.std.proofs.lemmas.List.{take_rest, take_all, take_more, take-append-drop}
+use Rattle.std.proofs.lemmas.List.Splits.{slice_split_first}
+use Rattle.std.proofs.lemmas.List.Folds.{list_all_at}
+use Rattle.std.proofs.lemmas.Grind.{fold-append}
+use Rattle.hex.specs.Hex.{decode_of, decode_sized, IsBytes}
+use Rattle.hex.specs.declared.error.FromHexError.{FromHexError}
+use Rattle.hex.proofs.HexLemmas.{decode_of-ok, decode_sized-twice}
+use Rattle.bd_command.specs.Command.{IsWritten}
+use Rattle.bd_model.specs.Lines.{words_of, is_empty, digits_value, has_leading_zero, is_number, number_of, hex_of, hex_result}
+
+-- ---- the first word
+
+some_cond : (t : Bool) (i n : ℕ) → Some i ≡ cond t (Some n) None → (t ≡ true) × (i ≡ n)
+some_cond true i n h = (refl, cc)
+some_cond false i n h = cc
+
+none_cond : (t : Bool) (n : ℕ) → None ≡ cond t (Some n) None → t ≡ false
+none_cond true n h = cc
+none_cond false n h = refl
+
+
+
+
+pub word_cut : (line : List ℕ) (r : Option ℕ) (i : ℕ) → r ≡ cond (ltb (position_or_len (λ b. b == 32) line) (length line)) (Some (position_or_len (λ b. b == 32) line)) None → r ≡ Some i → words_of line ≡ take i line ∷ words_of (take (length line - (i + 1)) (drop (i + 1) line))
+word_cut line r i found e =
+    let at = some_cond (ltb (position_or_len (λ b. b == 32) line) (length line)) i (position_or_len (λ b. b == 32) line) (sym e ∙ found) in
+    let first : words_of line ≡ take (position_or_len (λ b. b == 32) line) line ∷ words_of (drop (position_or_len (λ b. b == 32) line + 1) line) =
+        slice_split_first (λ b. b == 32) line 0 (ltb-true (position_or_len (λ b. b == 32) line) (length line) at.0) in
+    first ∙ ap (λ n. take n line ∷ words_of (drop (n + 1) line)) (sym at.1) ∙ ap (λ x. take i line ∷ words_of x) (sym (take_rest line (i + 1)))
+
+word_rest : (t : Bool) (b : ℕ) (line : List ℕ) → (length line ≤ position_or_len (λ b. b == 32) line → words_of line ≡ line ∷ []) → length (b ∷ line) ≤ cond (not t) (1 + position_or_len (λ b. b == 32) line) 0 → cond t ([] ∷ words_of line) (onto_first b (words_of line)) ≡ (b ∷ line) ∷ []
+word_rest true b line rest h = absurd (omega arith)
+word_rest false b line rest h = ap (onto_first b) (rest (omega arith))
+
+one_word : (line : List ℕ) → length line ≤ position_or_len (λ b. b == 32) line → words_of line ≡ line ∷ []
+one_word [] h = refl
+one_word (b ∷ line) h = word_rest (b == 32) b line (one_word line) h
+
+pub word_whole : (line : List ℕ) (r : Option ℕ) → r ≡ cond (ltb (position_or_len (λ b. b == 32) line) (length line)) (Some (position_or_len (λ b. b == 32) line)) None → r ≡ None → words_of line ≡ line ∷ []
+word_whole line r found e =
+    one_word line (ltb-false (position_or_len (λ b. b == 32) line) (length line) (none_cond (ltb (position_or_len (λ b. b == 32) line) (length line)) (position_or_len (λ b. b == 32) line) (sym e ∙ found)))
+
+-- ---- numbers
+
+-- the value of one digit more
+abbrev pub digit_more : ℕ → ℕ → ℕ
+digit_more n d = 10 * n + (d - 48)
+
+digits-grow : (n : ℕ) (word : List ℕ) → n ≤ fold digit_more n word
+digits-grow n [] = omega arith
+digits-grow n (d ∷ word) = let e : 10 * n + (d - 48) ≤ fold digit_more (10 * n + (d - 48)) word = digits-grow (10 * n + (d - 48)) word in omega (arith, e)
+
+number_of-false : (word : List ℕ) → is_number word ≡ false → number_of word ≡ None
+number_of-false word h = rw h refl
+
+pub number_of-true : (word : List ℕ) → is_number word ≡ true → number_of word ≡ Some (digits_value word)
+number_of-true word h = rw h refl
+
+pub number_of-empty : (word : List ℕ) → length word ≡ 0 → number_of word ≡ None
+number_of-empty [] h = refl
+number_of-empty (d ∷ word) h = absurd (omega arith)
+
+leading_zero : (word : List ℕ) → 1 < length word → get_or word 0 0 ≡ 48 → has_leading_zero word ≡ true
+leading_zero [] l h = absurd (omega arith)
+leading_zero (d ∷ []) l h = absurd (omega arith)
+leading_zero (d ∷ e ∷ word) l h = eq-eqb d 48 h
+
+no_leading_zero : (word : List ℕ) → (1 < length word → get_or word 0 0 ≡ 48 → ⊥) → has_leading_zero word ≡ false
+no_leading_zero [] h = refl
+no_leading_zero (d ∷ []) h = refl
+no_leading_zero (d ∷ e ∷ word) h = ne_eqb d 48 (h (omega arith))
+
+pub number_of-zero : (word : List ℕ) → 1 < length word → get_or word 0 0 ≡ 48 → number_of word ≡ None
+number_of-zero word l h = number_of-false word (and_right _ _ (and_right _ _ (and_left _ _ (ap not (leading_zero word l h)))))
+
+pub number_of-other : (word : List ℕ) (i : ℕ) → i < length word → is_ascii_digit (get_or word i 0) ≡ false → number_of word ≡ None
+number_of-other word i l h = number_of-false word (and_right _ _ (and_left _ _ (list_all_at is_ascii_digit word i 0 l h)))
+
+pub number_of-large : (word : List ℕ) (i : ℕ) → 4294967295 < fold digit_more 0 (take i word) → number_of word ≡ None
+number_of-large word i h =
+    let whole : digits_value word ≡ fold digit_more (fold digit_more 0 (take i word)) (drop i word) =
+        ap (fold digit_more 0) (sym (take-append-drop i word)) ∙ fold-append digit_more 0 (take i word) (drop i word) in
+    let more : fold digit_more 0 (take i word) ≤ fold digit_more (fold digit_more 0 (take i word)) (drop i word) = digits-grow (fold digit_more 0 (take i word)) (drop i word) in
+    number_of-false word (
+        and_right (not (is_empty word)) _ (
+        and_right (list_all is_ascii_digit word) _ (
+        and_right (not (has_leading_zero word)) (nat_le (digits_value word) 4294967295) (lt-leb (digits_value word) 4294967295 (omega (arith, whole, more))))))
+
+pub digits_next : (word : List ℕ) (i n : ℕ) → i < length word → n ≡ fold digit_more 0 (take i word) → fold digit_more 0 (take (i + 1) word) ≡ 10 * n + (get_or word i 0 - 48)
+digits_next word i n l h =
+    ap (fold digit_more 0) (take_more word i 0 l) ∙ fold-append digit_more 0 (take i word) (get_or word i 0 ∷ [])
+    ∙ ap (λ x. 10 * x + (get_or word i 0 - 48)) (sym h)
+
+not_empty : (word : List ℕ) → (length word ≡ 0 → ⊥) → not (is_empty word) ≡ true
+not_empty [] h = absurd (h refl)
+not_empty (d ∷ word) h = refl
+
+pub number_of-good : (word : List ℕ) (i n : ℕ) → (length word ≡ 0 → ⊥) → (1 < length word → get_or word 0 0 ≡ 48 → ⊥) → length word ≤ i → list_all is_ascii_digit (take i word) ≡ true → n ≡ fold digit_more 0 (take i word) → n ≤ 4294967295 → Some n ≡ number_of word
+number_of-good word i n some lead whole digits value small =
+    let all : take i word ≡ word = take_all i word whole in
+    let same : n ≡ digits_value word = value ∙ ap (fold digit_more 0) all in
+    ap Some same ∙ sym (number_of-true word (
+        and_from _ _ (not_empty word some) (
+        and_from _ _ (ap (list_all is_ascii_digit) (sym all) ∙ digits) (
+        and_from _ _ (ap not (no_leading_zero word lead)) (le-leb (digits_value word) 4294967295 (omega (arith, same)))))))
+
+-- ---- bytes
+
+hex_size : (bytes : List ℕ) → (length bytes ≡ 0) ⊎ (2048 < length bytes) → hex_result (Ok bytes) ≡ None
+hex_size bytes (inl none) = rw (and_left (nat_le 1 (length bytes)) (nat_le (length bytes) 2048) (lt-leb 1 (length bytes) (omega arith))) refl
+hex_size bytes (inr many) = rw (and_right (nat_le 1 (length bytes)) (nat_le (length bytes) 2048) (lt-leb (length bytes) 2048 many)) refl
+
+hex_cases : (word : List ℕ) (r : Result (List ℕ) FromHexError) → decode_of word ≡ r → (length word / 2 ≡ 0) ⊎ (2048 < length word / 2) → hex_result r ≡ None
+hex_cases word (Err e) h size = refl
+hex_cases word (Ok bytes) h (inl none) = hex_size bytes (inl (omega (arith, (decode_of-ok word bytes h).2)))
+hex_cases word (Ok bytes) h (inr many) = hex_size bytes (inr (omega (arith, (decode_of-ok word bytes h).2)))
+
+pub hex_of-size : (word : List ℕ) → (length word / 2 ≡ 0) ⊎ (2048 < length word / 2) → hex_of word ≡ None
+hex_of-size word size = hex_cases word (decode_of word) refl size
+
+all_bytes : (bytes : List ℕ) → IsBytes bytes → AllByRecursion (λ b. b < 256) bytes
+all_bytes [] h = tt
+all_bytes (b ∷ bytes) h = (h 0, all_bytes bytes (λ i. h (suc i)))
+
+written_at : (t : Bool) (bs bytes : List ℕ) → (nat_le 1 (length bs) && nat_le (length bs) 2048) ≡ t → IsBytes bs → cond t (Some bs) None ≡ Some bytes → IsWritten bytes
+written_at true bs bytes size h e =
+    let parts = and_parts (nat_le 1 (length bs)) (nat_le (length bs) 2048) size in
+    let same : bs ≡ bytes = cc in
+    let P : List ℕ → Type 0 = IsWritten in
+    subst P same (leb-true 1 (length bs) parts.0, leb-true (length bs) 2048 parts.1, all_bytes bs h)
+written_at false bs bytes size h e = cc
+
+written_size : (bs bytes : List ℕ) → IsBytes bs → hex_result (Ok bs) ≡ Some bytes → IsWritten bytes
+written_size bs bytes h e = written_at (nat_le 1 (length bs) && nat_le (length bs) 2048) bs bytes refl h e
+
+written_cases : (word : List ℕ) (r : Result (List ℕ) FromHexError) (bytes : List ℕ) → decode_of word ≡ r → hex_result r ≡ Some bytes → IsWritten bytes
+written_cases word (Err e) bytes h some = cc
+written_cases word (Ok bs) bytes h some = written_size bs bytes (decode_of-ok word bs h).3 some
+
+pub IsWritten-hex_of : (word bytes : List ℕ) → hex_of word ≡ Some bytes → IsWritten bytes
+IsWritten-hex_of word bytes h = written_cases word (decode_of word) bytes refl h

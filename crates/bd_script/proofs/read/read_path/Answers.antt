@@ -1,0 +1,5 @@
+use Rattle.bd_script.proofs.ReadLemmas.{IsShortPath-read}
+use Rattle.bd_script.proofs.read.read_path.Goals as goal
+
+pub returns : goal.returns
+returns c = (c.in_ok-read.ensures.path, IsShortPath-read c.args.word.now c.in_ok-read.field-0 c.in_ok-read.ensures.path)

@@ -1,0 +1,154 @@
+//! The bytes of a reply.
+
+ghost use Rattle.std.specs.Prelude.{◌≡◌, ◌+◌, ◌*◌, ◌≤◌, ◌++◌, [], length, take, codes, decimal, if◌then◌else◌};
+ghost use Rattle.std.specs.List.{flat_map};
+ghost use Rattle.hex.specs.Hex.{encode_lower};
+ghost use Rattle.bd_model.specs.Replies.{reply_text, reply_line, refusal_text, chunk_text, listed_text};
+ghost use Rattle.bd_script.specs.Script.{IsReply};
+
+use bd_command::{Listed, Listing, Refusal, Reply};
+use itoa::Buffer;
+
+/// Writes a reply and its newline at the front of `into`, and returns how many bytes they are.
+pub fn reply(reply: &Reply, into: &mut [u8; 32768]) -> usize
+    requires { IsReply reply.now }
+    ensures length { result ≡ length (reply_line reply.now) }
+    ensures text { take result into.new ≡ reply_line reply.now }
+{
+    let end = put_reply(into, reply);
+    put(into, end, b"\n")
+}
+
+/// Writes a reply at the front.
+fn put_reply(into: &mut [u8; 32768], reply: &Reply) -> usize
+    requires { IsReply reply.now }
+    ensures text { take result into.new ≡ reply_text reply.now }
+    ensures length { result ≡ length (reply_text reply.now) }
+    ensures bound { result ≤ 32000 }
+{
+    match reply {
+        Reply::Done => put(into, 0, b"ok"),
+        Reply::Bytes(bytes) => {
+            let end = put(into, 0, b"ok");
+            put_chunk(into, end, bytes.as_slice())
+        }
+        Reply::Dir => put(into, 0, b"ok dir"),
+        Reply::File(len) => {
+            let end = put(into, 0, b"ok file ");
+            put_number(into, end, *len)
+        }
+        Reply::Names(listing) => put_listing(into, listing),
+        Reply::Refused(refusal) => {
+            let end = put(into, 0, b"no ");
+            put(into, end, refusal_bytes(*refusal))
+        }
+    }
+}
+
+/// Writes what was read at a place, if it is anything, and returns the place behind it.
+fn put_chunk(into: &mut [u8; 32768], at: usize, bytes: &[u8]) -> usize
+    requires room { at + 1 + 2 * length bytes.now ≤ 32768 }
+    ensures text { take result into.new ≡ take at into.old ++ chunk_text bytes.now }
+    ensures end { result ≡ at + length (chunk_text bytes.now) }
+    ensures bound { result ≤ at + 1 + 2 * length bytes.now }
+{
+    if bytes.is_empty() {
+        return at;
+    }
+    let start = put(into, at, b" ");
+    put_hex(into, start, bytes)
+}
+
+/// Writes bytes in hex digits at a place, and returns the place behind them.
+fn put_hex(into: &mut [u8; 32768], at: usize, bytes: &[u8]) -> usize
+    requires room { at + 2 * length bytes.now ≤ 32768 }
+    ensures text { take result into.new ≡ take at into.old ++ encode_lower bytes.now }
+    ensures end { result ≡ at + 2 * length bytes.now }
+{
+    let end = at + 2 * bytes.len();
+    let _ = hex::encode_to_slice(bytes, &mut into[at..end]);
+    end
+}
+
+/// Writes a number at a place, and returns the place behind it.
+fn put_number(into: &mut [u8; 32768], at: usize, number: u32) -> usize
+    requires room { at + 40 ≤ 32768 }
+    ensures text { take result into.new ≡ take at into.old ++ decimal number }
+    ensures end { result ≡ at + length (decimal number) }
+    ensures bound { result ≤ at + 40 }
+{
+    let mut buffer = Buffer::new();
+    put(into, at, buffer.format(number).as_bytes())
+}
+
+/// Writes a listing at the front.
+fn put_listing(into: &mut [u8; 32768], listing: &Listing) -> usize
+    requires { length listing.now.names ≤ 100 }
+    ensures text {
+        take result into.new ≡ codes "ok" ++ flat_map listed_text listing.now.names ++ (if listing.now.more then codes " +" else [])
+    }
+    ensures length {
+        result ≡ length (codes "ok" ++ flat_map listed_text listing.now.names ++ (if listing.now.more then codes " +" else []))
+    }
+    ensures bound { result ≤ 32000 }
+{
+    let end = put(into, 0, b"ok");
+    let end = put_names(into, end, listing.names.as_slice());
+    if listing.more { put(into, end, b" +") } else { end }
+}
+
+/// Writes the names of a listing at a place, and returns the place behind them.
+fn put_names(into: &mut [u8; 32768], at: usize, names: &[Listed]) -> usize
+    requires room { at + 257 * length names.now ≤ 32768 }
+    ensures text { take result into.new ≡ take at into.old ++ flat_map listed_text names.now }
+    ensures end { result ≡ at + length (flat_map listed_text names.now) }
+    ensures bound { result ≤ at + 257 * length names.now }
+{
+    let mut end = at;
+    for listed in names {
+        end = put_listed(into, end, listed);
+    }
+    end
+}
+
+/// Writes a name of a listing at a place, and returns the place behind it.
+fn put_listed(into: &mut [u8; 32768], at: usize, listed: &Listed) -> usize
+    requires room { at + 257 ≤ 32768 }
+    ensures text { take result into.new ≡ take at into.old ++ listed_text listed.now }
+    ensures end { result ≡ at + length (listed_text listed.now) }
+    ensures bound { result ≤ at + 257 }
+{
+    let start = put(into, at, b" ");
+    let end = put(into, start, listed.name.as_bytes());
+    if listed.is_dir { put(into, end, b"/") } else { end }
+}
+
+/// The number and the name of a refusal.
+fn refusal_bytes(refusal: Refusal) -> &'static [u8]
+    ensures text { result.now ≡ refusal_text refusal }
+    ensures bound { length result.now ≤ 12 }
+{
+    match refusal {
+        Refusal::NotFound => b"1 not-found",
+        Refusal::Exists => b"2 exists",
+        Refusal::NoParent => b"3 no-parent",
+        Refusal::NotDir => b"4 not-dir",
+        Refusal::IsDir => b"5 is-dir",
+        Refusal::Inside => b"6 inside",
+        Refusal::Root => b"7 root",
+        Refusal::TooBig => b"8 too-big",
+        Refusal::BadPath => b"9 bad-path",
+        Refusal::BadLine => b"10 bad-line",
+    }
+}
+
+/// Writes bytes at a place, and returns the place behind them.
+fn put(into: &mut [u8; 32768], at: usize, bytes: &[u8]) -> usize
+    requires room { at + length bytes.now ≤ 32768 }
+    ensures text { take result into.new ≡ take at into.old ++ bytes.now }
+    ensures end { result ≡ at + length bytes.now }
+{
+    let end = at + bytes.len();
+    into[at..end].copy_from_slice(bytes);
+    end
+}

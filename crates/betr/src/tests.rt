@@ -1,0 +1,151 @@
+use crate::outcome::Outcome;
+use crate::row::row;
+use crate::run::run;
+use bd_device::MemDevice;
+use bd_io::{Failed, MemSink, MemSource, Sink};
+use std::alloc::{AllocError, Global};
+use std::test::Fail;
+
+/// The script of the first example.
+const FIRST: &[u8] = b"mkdir /a\ncreate /a/f\nstat /a\nstat /a/f\nstat /a/g\nstop\nstat /\n";
+
+/// A sink that counts bytes and keeps the last piece.
+struct LastPiece {
+    bytes: u64,
+    piece: Vec<u8>,
+}
+
+impl Sink for LastPiece {
+    ghost use Rattle.std.specs.Prelude.{None};
+
+    ghost written = { λ _. None };
+
+    ghost fault_count = { λ _. 0 };
+
+    fn put(&mut self, piece: &[u8]) -> Result<usize, Failed> {
+        self.bytes = self.bytes.saturating_add(piece.len() as u64);
+        self.piece.clear();
+        let _ = self.piece.extend_from_slice(piece);
+        Ok(piece.len())
+    }
+
+    fn faults(&self) -> u64 {
+        0
+    }
+}
+
+/// The words of a call.
+fn words(alloc: Global, texts: &[&str]) -> Result<Vec<String>, AllocError> {
+    let mut words = Vec::new(alloc);
+    for text in texts {
+        words.push(String::from_str(alloc, text)?)?;
+    }
+    Ok(words)
+}
+
+/// A call with these words over a script, and what it wrote.
+fn called(alloc: Global, texts: &[&str], script: &[u8]) -> Result<(u8, Vec<u8>), AllocError> {
+    let mut dev = MemDevice::new(alloc, 516, 0, &[])?;
+    let (outcome, written) = row(alloc, &mut dev, &words(alloc, texts)?, script, 1 << 16)?;
+    Ok((outcome.status, written))
+}
+
+/// The first example with one failing call: of the source, which gives at most 7 bytes a take, of the sink, or
+/// of the device.
+fn first_failing(
+    alloc: Global,
+    take: &[u64],
+    put: &[u64],
+    attach: &[u64],
+) -> Result<(Outcome, Vec<u8>), AllocError> {
+    let mut dev = MemDevice::new(alloc, 516, 0, attach)?;
+    let mut src = MemSource::new(alloc, FIRST, 7, take)?;
+    let mut sink = MemSink::new(alloc, 1 << 16, put)?;
+    let words = words(alloc, &["betr", "run", "img"])?;
+    let outcome = run(alloc, &words, &mut dev, &mut src, &mut sink);
+    Ok((outcome, Vec::from_slice(alloc, sink.bytes())?))
+}
+
+#[test]
+fn first_rows_give_their_replies(rt: HostRuntime) -> Result<(), Fail> {
+    let rows: [(&[u8], &str); 5] = [
+        (FIRST, "ok\nok\nok dir\nok file 0\nno 1 not-found\nok\n"),
+        (b"", ""),
+        (
+            b"mkdir /a/b\nmkdir /\ncreate /f\nmkdir /f/x\nmkdir /f/x/y\ncreate /f\n",
+            "no 3 no-parent\nno 2 exists\nok\nno 4 not-dir\nno 3 no-parent\nno 2 exists\n",
+        ),
+        (b"mkdir  /a\n\nmkdir /a", "no 10 bad-line\nno 10 bad-line\nok\n"),
+        (b"mkdir /a\nstop\nmkdir /b\n", "ok\nok\n"),
+    ];
+    for (script, replies) in rows {
+        let (status, written) = called(rt.alloc(), &["betr", "run", "img"], script)?;
+        assert_eq!(rt; status, 0);
+        assert_eq!(rt; written.as_slice(), replies.as_bytes());
+    }
+    Ok(())
+}
+
+#[test]
+fn refused_words_give_the_usage(rt: HostRuntime) -> Result<(), Fail> {
+    let usage = "usage: betr run IMAGE | betr format IMAGE SLOTS | betr fill IMAGE SEED COUNT\n";
+    let rows: [&[&str]; 6] = [
+        &["betr", "run"],
+        &["betr"],
+        &["betr", "run", "a", "b"],
+        &["betr", "run", ""],
+        &["betr", "run", "-a"],
+        &["betr", "format", "img", "23"],
+    ];
+    for words in rows {
+        let (status, written) = called(rt.alloc(), words, FIRST)?;
+        assert_eq!(rt; status, 2);
+        assert_eq!(rt; written.as_slice(), usage.as_bytes());
+    }
+    Ok(())
+}
+
+#[test]
+fn each_failing_call_ends_the_run(rt: HostRuntime) -> Result<(), Fail> {
+    let rows: [(u64, u64, u64, u8, &str); 16] = [
+        (1, 0, 0, 5, "fault source\n"),
+        (2, 0, 0, 5, "fault source\n"),
+        (3, 0, 0, 5, "ok\nfault source\n"),
+        (4, 0, 0, 5, "ok\nok\nfault source\n"),
+        (5, 0, 0, 5, "ok\nok\nfault source\n"),
+        (6, 0, 0, 5, "ok\nok\nok dir\nfault source\n"),
+        (7, 0, 0, 5, "ok\nok\nok dir\nok file 0\nfault source\n"),
+        (8, 0, 0, 5, "ok\nok\nok dir\nok file 0\nno 1 not-found\nfault source\n"),
+        (9, 0, 0, 0, "ok\nok\nok dir\nok file 0\nno 1 not-found\nok\n"),
+        (0, 1, 0, 9, ""),
+        (0, 2, 0, 9, "ok\n"),
+        (0, 3, 0, 9, "ok\nok\n"),
+        (0, 4, 0, 9, "ok\nok\nok dir\n"),
+        (0, 5, 0, 9, "ok\nok\nok dir\nok file 0\n"),
+        (0, 6, 0, 9, "ok\nok\nok dir\nok file 0\nno 1 not-found\n"),
+        (0, 0, 1, 3, "fault device\n"),
+    ];
+    for (take, put, attach, status, text) in rows {
+        let (outcome, written) = first_failing(rt.alloc(), &[take], &[put], &[attach])?;
+        assert_eq!(rt; outcome.status, status);
+        assert_eq!(rt; written.as_slice(), text.as_bytes());
+    }
+    Ok(())
+}
+
+#[test]
+fn a_script_past_the_limit_is_too_long(rt: HostRuntime) -> Result<(), Fail> {
+    let script = vec![in rt.alloc(); b'\n'; 16_777_217]?;
+    let mut dev = MemDevice::new(rt.alloc(), 516, 0, &[])?;
+    let mut src = MemSource::new(rt.alloc(), &script, 4096, &[])?;
+    let mut sink = LastPiece {
+        bytes: 0,
+        piece: Vec::new(rt.alloc()),
+    };
+    let words = words(rt.alloc(), &["betr", "run", "img"])?;
+    let outcome = run(rt.alloc(), &words, &mut dev, &mut src, &mut sink);
+    assert_eq!(rt; outcome.status, 7);
+    assert_eq!(rt; sink.bytes, 16_777_217 * 15);
+    assert_eq!(rt; sink.piece.as_slice(), b"fault too-long\n".as_slice());
+    Ok(())
+}
