@@ -1,15 +1,15 @@
 -- What a tree has where it accepts a command.
-use Rattle.std.proofs.Common.{◌≡◌, ◌≢◌, ◌⊎◌, inl, inr, ℕ, ◌+◌, ◌≤◌, ◌^◌, Bool, true, false, cond, not, List, [], ◌∷◌, ◌++◌, length, Option, None, Some, refl, sym, ap, subst, ◌∙◌, arith, append_assoc, length-append}
+use Rattle.std.proofs.Common.{◌≡◌, ◌≢◌, ◌⊎◌, inl, inr, ℕ, ◌≤◌, ◌^◌, Bool, true, false, cond, List, [], ◌∷◌, ◌++◌, Option, None, Some, refl, sym, ap, subst, ◌∙◌, append_assoc}
 use Rattle.std.proofs.lemmas.Bool.{leb-true}
 use Rattle.std.proofs.lemmas.List.{append-nil}
-use Rattle.std.specs.Prelude.{IsSome, is_some, nat_le}
+use Rattle.std.specs.Prelude.{is_some, nat_le}
 use Rattle.std.specs.Option.{option_or, option_and_then}
 use Rattle.std.specs.FinMap.{get}
 use Rattle.bd_command.specs.declared.Command.{Command}
 use Rattle.bd_command.specs.declared.refusal.Refusal.{Refusal}
-use Rattle.bd_command.specs.declared.refusal.Refusal.TheVariants.{NotFound, Exists, NoParent, NotDir, IsDir, Inside, Root, TooBig}
-use Rattle.bd_names.specs.Names.{is_under, parent_of, rest_below}
-use Rattle.bd_names.specs.NamesLaws.{parent_of-some, parent_of-append, is_under-append, is_under-rest}
+use Rattle.bd_command.specs.declared.refusal.Refusal.TheVariants.{Exists, Inside, TooBig}
+use Rattle.bd_names.specs.Names.{is_under, parent_of}
+use Rattle.bd_names.specs.NamesLaws.{parent_of-some, is_under-append, is_under-rest}
 use Rattle.bd_model.specs.Tree.{Entry, Directory, FileWith, Tree, IsTree}
 use Rattle.bd_model.specs.Step.{absent_refusal, file_refusal, parent_refusal, new_refusal, root_refusal, size_refusal, inside_refusal, refusal_of, changed, stepped}
 use Rattle.bd_model.specs.Laws.{Accepts, after}
@@ -116,6 +116,7 @@ one_above a b q h k =
   where
     longer : (n : List ℕ) (x y : List (List ℕ)) → (is_under x y ≡ true) → is_under (n ∷ x) (n ∷ y) ≡ true
     longer n x y h = let rest = is_under-rest x y h in subst (λ (z : List (List ℕ)). is_under (n ∷ x) (n ∷ z) ≡ true) (sym rest.1) (is_under-append (n ∷ x) rest.0)
+
     fronts : (x y r s : List (List ℕ)) → x ++ r ≡ y ++ s → (is_under x y ≡ true) ⊎ (is_under y x ≡ true)
     fronts [] y r s e = inl refl
     fronts (n ∷ x) [] r s e = inr refl

@@ -1,8 +1,8 @@
 -- The bytes of a file that was cut, extended or overwritten.
-use Rattle.std.proofs.Common.{◌≡◌, ℕ, ◌+◌, ◌-◌, ◌<◌, ◌≤◌, ◌^◌, Bool, true, false, List, ◌++◌, length, take, drop, replicate, refl, sym, ◌∙◌, ap, arith, length-append, leb-true, leb-false}
-use Rattle.std.specs.Prelude.{slice_index, max, nat_le}
+use Rattle.std.proofs.Common.{◌≡◌, ℕ, ◌+◌, ◌-◌, ◌<◌, ◌≤◌, List, ◌++◌, length, take, drop, replicate, refl, sym, ◌∙◌, ap, arith, length-append}
+use Rattle.std.specs.Prelude.{slice_index, max}
 use Rattle.std.specs.List.{All, AllByRecursion}
-use Rattle.std.proofs.lemmas.List.{length-take, length-drop, length-replicate, get_or_append_left, get_or-append_right, get_or-append-add, get_or-take, get_or-drop, get_or-replicate, get_or_past}
+use Rattle.std.proofs.lemmas.List.{length-take, length-drop, length-replicate, get_or_append_left, get_or-append_right, get_or-append-add, get_or-take, get_or-drop, get_or-replicate}
 use Rattle.std.proofs.lemmas.List.Elements.{All-append, All-take, All-drop, All-replicate, All-from_recursion, recursion_from_All}
 use Rattle.bd_model.specs.Step.{resized, overwritten}
 
@@ -68,6 +68,6 @@ bytes-resized old len h = recursion_from_All (λ b. b < 256) (resized old len) (
 pub bytes-overwritten : (old : List ℕ) (off : ℕ) (bytes : List ℕ) → AreBytes old → AreBytes bytes → AreBytes (overwritten old off bytes)
 bytes-overwritten old off bytes h k =
     recursion_from_All (λ b. b < 256) (overwritten old off bytes)
-        (All-append (λ b. b < 256) (resized old off ++ bytes) (drop (off + length bytes) old)
-            (All-append (λ b. b < 256) (resized old off) bytes (all-resized old off h) (all bytes k))
-            (All-drop (λ b. b < 256) (off + length bytes) old (all old h)))
+    (All-append (λ b. b < 256) (resized old off ++ bytes) (drop (off + length bytes) old)
+    (All-append (λ b. b < 256) (resized old off) bytes (all-resized old off h) (all bytes k))
+    (All-drop (λ b. b < 256) (off + length bytes) old (all old h)))

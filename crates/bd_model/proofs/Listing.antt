@@ -1,6 +1,5 @@
 -- What a listing names: each entry of a directory, nothing else, and in the order of bytes.
 use Rattle.std.proofs.Common.{◌≡◌, ℕ, zero, suc, ◌<◌, Bool, true, false, T, cond, List, [], ◌∷◌, ◌++◌, length, map, Option, None, Some, Less, Equal, Greater, refl, sym, ap, subst, ◌∙◌, arith}
-use Rattle.std.proofs.lemmas.Bool.{cases_Bool}
 use Rattle.std.proofs.lemmas.Cmp.{nat_list_cmp_total}
 use Rattle.std.specs.Prelude.{◌&&◌, slice_index_or}
 use Rattle.std.specs.List.{filter_map, cons_option, Contains, AllByRecursion}

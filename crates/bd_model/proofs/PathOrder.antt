@@ -1,5 +1,5 @@
 -- The order of paths, and when two paths are one.
-use Rattle.std.proofs.Common.{◌≡◌, ◌≢◌, ℕ, Bool, true, false, List, ◌++◌, ◌⊎◌, inl, inr, Equal, refl, ap, subst}
+use Rattle.std.proofs.Common.{◌≡◌, ◌≢◌, ℕ, Bool, true, false, List, ◌++◌, ◌⊎◌, inl, inr, ap, subst}
 use Rattle.std.specs.Cmp.{IsTotalOrder, Equal-is, tied_itself, both_ways}
 use Rattle.std.specs.Ordering.{is_eq, eq_by_cmp}
 use Rattle.std.specs.FinMap.{IsAntisymmetric, nat_cmp-IsAntisymmetric, slice_cmp-IsAntisymmetric}

@@ -1,13 +1,13 @@
 -- What stands where, after each change of a tree.
-use Rattle.std.proofs.Common.{◌≡◌, ◌≢◌, ℕ, Bool, true, false, cond, not, List, [], ◌∷◌, ◌++◌, Option, None, Some, Equal, refl, sym, ap, subst, ◌∙◌}
+use Rattle.std.proofs.Common.{◌≡◌, ◌≢◌, ℕ, Bool, true, false, cond, not, List, [], ◌∷◌, ◌++◌, Option, None, Some, refl, sym, ap, ◌∙◌}
 use Rattle.std.specs.List.{filter_map, cons_option}
 use Rattle.std.specs.Option.{option_or, option_map}
 use Rattle.std.specs.FinMap.{get, insert, find, entries, from_entries, get-entries, get-insert, get-retain_keys, get-from_entries}
 use Rattle.bd_names.specs.Names.{rest_below, is_under}
-use Rattle.bd_names.specs.NamesLaws.{rest_below-append, rest_below-some, is_under-append, is_under-rest}
+use Rattle.bd_names.specs.NamesLaws.{rest_below-append, rest_below-some, is_under-append}
 use Rattle.bd_model.specs.Tree.{Entry, Tree, path_cmp}
-use Rattle.bd_model.specs.Step.{moved_entry, moved, without, cloned, renamed}
-use Rattle.bd_model.proofs.PathOrder.{paths_total, paths_exact, same_path, same_path-true, same_path-refl, same_path-false, same_path-fronts}
+use Rattle.bd_model.specs.Step.{moved_entry, moved, without}
+use Rattle.bd_model.proofs.PathOrder.{paths_total, paths_exact, same_path, same_path-refl, same_path-false, same_path-fronts}
 
 -- ---- one entry
 
@@ -30,6 +30,7 @@ get-without-other p t q h = get-without p t q ∙ ap (λ b. cond (not b) (get t 
 
 -- ---- moved entries
 
+-- paths with what stands there
 abbrev pub Entries : Type 0
 Entries = List (List (List ℕ) × Entry)
 

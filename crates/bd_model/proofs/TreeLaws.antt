@@ -1,14 +1,13 @@
 -- What the tree after an accepted command has at each path.
-use Rattle.std.proofs.Common.{◌≡◌, ◌≢◌, ◌⊎◌, inl, inr, ℕ, ◌+◌, Bool, true, false, List, [], ◌∷◌, ◌++◌, length, Option, None, Some, refl, sym, ap, subst, ◌∙◌}
+use Rattle.std.proofs.Common.{◌≡◌, ◌≢◌, ◌⊎◌, inl, inr, ℕ, ◌+◌, Bool, true, false, List, [], ◌++◌, length, Option, None, Some, refl, sym, ap, ◌∙◌}
 use Rattle.std.specs.Option.{option_or}
-use Rattle.std.specs.Prelude.{IsSome}
 use Rattle.std.specs.FinMap.{get, insert}
 use Rattle.bd_command.specs.declared.Command.{Command}
-use Rattle.bd_command.specs.declared.Command.TheVariants.{Mkdir, Create, Write, Truncate, Remove, Rename, Clone, Read, Stat, List as Ls}
+use Rattle.bd_command.specs.declared.Command.TheVariants.{Write, Truncate, Remove, Rename, Clone, Read, Stat, List as Ls}
 use Rattle.bd_command.specs.Command.{writes}
 use Rattle.bd_names.specs.Names.{is_under}
 use Rattle.bd_names.specs.NamesLaws.{is_under-append}
-use Rattle.bd_model.specs.Tree.{Entry, Directory, FileWith, Tree, IsTree, path_cmp}
+use Rattle.bd_model.specs.Tree.{Entry, FileWith, Tree, IsTree}
 use Rattle.bd_model.specs.Step.{absent_refusal, file_refusal, new_refusal, root_refusal, size_refusal, inside_refusal, file_bytes, resized, overwritten, without, cloned, renamed, changed, stepped, refusal_of}
 use Rattle.bd_command.specs.declared.refusal.Refusal.{Refusal}
 use Rattle.bd_model.specs.Laws.{Accepts, after}
@@ -82,6 +81,7 @@ apart_from_new t tree a b can out q from = by (is_under b q) refl
     clash : (is_under a b ≡ true) ⊎ (is_under b a ≡ true) → ⊥
     clash (inl h) = let e : true ≡ false = sym h ∙ out in cc
     clash (inr h) = let e : Some can.entry ≡ None = sym can.there ∙ absent_under t tree b a can.free.absent h in cc
+
     by : (u : Bool) → is_under b q ≡ u → is_under b q ≡ false
     by true to = absurd (clash (one_above a b q from to))
     by false h = h
@@ -110,6 +110,7 @@ after-reading t c h = by (refusal_of t c) (unchanged c h)
     unchanged (Stat path) h = refl
     unchanged (Ls path from) h = refl
     unchanged d h = absurd (let e : true ≡ false = h in cc)
+
     by : (o : Option Refusal) → changed t c ≡ t → (stepped t c o).0 ≡ t
     by None is = is
     by (Some r) is = refl

@@ -1,5 +1,5 @@
 -- A tree stays a tree.
-use Rattle.std.proofs.Common.{◌≡◌, ◌≢◌, ◌⊎◌, inl, inr, ℕ, ◌+◌, ◌≤◌, ◌<◌, ◌^◌, Bool, true, false, List, [], ◌∷◌, ◌++◌, length, Option, None, Some, refl, sym, ap, subst, ◌∙◌, arith, append_assoc, length-append}
+use Rattle.std.proofs.Common.{◌≡◌, ◌≢◌, ◌⊎◌, inl, inr, ℕ, ◌+◌, Bool, true, false, List, [], ◌∷◌, ◌++◌, length, Option, None, Some, refl, sym, ap, subst, ◌∙◌, arith, append_assoc, length-append}
 use Rattle.std.proofs.lemmas.Bool.{cases_Bool, false_from_ne_true, both_ways as contradict}
 use Rattle.std.proofs.lemmas.List.{append-nil, same_from_push}
 use Rattle.std.specs.Prelude.{IsSome, IfSome, is_some}
@@ -9,14 +9,14 @@ use Rattle.bd_command.specs.declared.Command.TheVariants.{Mkdir, Create, Write, 
 use Rattle.bd_command.specs.declared.refusal.Refusal.{Refusal}
 use Rattle.bd_command.specs.Command.{IsCommand}
 use Rattle.bd_names.specs.Names.{AreNames, is_under, parent_of}
-use Rattle.bd_names.specs.NamesLaws.{AreNames-append, AreNames-parts, is_under-append, is_under-rest, is_under-trans, is_under-refl, parent_of-some, parent_of-none}
+use Rattle.bd_names.specs.NamesLaws.{AreNames-append, AreNames-parts, is_under-append, is_under-rest, is_under-trans, parent_of-some, parent_of-none}
 use Rattle.bd_model.specs.Tree.{Entry, Directory, FileWith, Tree, IsTree, IsEntry, root_only}
 use Rattle.bd_model.specs.Step.{without, cloned, renamed, changed, stepped, refusal_of, file_refusal, size_refusal, root_refusal, absent_refusal, file_bytes, resized, overwritten}
 use Rattle.bd_model.specs.Laws.{Accepts, after}
 use Rattle.bd_model.proofs.PathOrder.{paths_total, one_or_apart}
 use Rattle.bd_model.proofs.TreeGets.{get-insert-at, get-insert-other, get-without-under, get-without-other}
 use Rattle.bd_model.proofs.Accepted.{no_child, absent_below, accepted_first, accepted_second, not_root, size_if_accepted, CanMake, can_make}
-use Rattle.bd_model.proofs.TreeLaws.{CanMove, can_clone, can_rename, rename_outside, rename_not_root, get-cloned-at, get-cloned-other, get-renamed-at, get-renamed-other, get-renamed-gone, file_written, file_truncated}
+use Rattle.bd_model.proofs.TreeLaws.{can_clone, can_rename, rename_outside, rename_not_root, get-cloned-at, get-cloned-other, get-renamed-at, get-renamed-other, get-renamed-gone, file_written, file_truncated}
 use Rattle.bd_model.proofs.FileBytes.{length-resized, length-overwritten, bytes-resized, bytes-overwritten}
 
 some_not_none : (o : Option Entry) → IsSome o → o ≡ None → ⊥
@@ -62,6 +62,7 @@ put_parent t tree p e can path n h = at (one_or_apart (path ++ n ∷ []) p)
   where
     beside : get t path ≡ Some Directory → path ≢ p → get (insert t p e) path ≡ Some Directory
     beside is differ = get-insert-other t p e path differ ∙ is
+
     at : (path ++ n ∷ [] ≡ p) ⊎ (path ++ n ∷ [] ≢ p) → get (insert t p e) path ≡ Some Directory
     at (inl same) =
         let cut = same_from_push path can.front n can.name (same ∙ can.is) in
@@ -97,7 +98,12 @@ put_stays t tree p e can = record {
 -- a new entry
 made_stays : (t : Tree) → IsTree t → (p : List (List ℕ)) (e : Entry) → AreNames p → IsEntry e → CanMake t p → IsTree (insert t p e)
 made_stays t tree p e names bytes can = put_stays t tree p e (record {
-  front = can.front; name = can.name; is = can.is; parent = can.parent; names = names; bytes = bytes;
+  front = can.front;
+  name = can.name;
+  is = can.is;
+  parent = can.parent;
+  names = names;
+  bytes = bytes;
   childless = λ n. absent_below t tree p (n ∷ []) can.absent;
 })
 
@@ -112,7 +118,9 @@ file_stays t tree p old new file bytes = by (parent_of p) refl
         let cut = parent_of-some p front above in
         let there : IsSome (get t p) = ap is_some file in
         put_stays t tree p (FileWith new) (record {
-          front = front; name = cut.0; is = cut.1;
+          front = front;
+          name = cut.0;
+          is = cut.1;
           parent = tree.parents front cut.0 (subst (λ (q : List (List ℕ)). IsSome (get t q)) cut.1 there);
           names = tree.names p there;
           bytes = bytes;
@@ -136,8 +144,10 @@ without_stays t tree p differ = record {
   where
     kept : (q : List (List ℕ)) → IsSome (get (without p t) q) → is_under p q ≡ false
     kept q h = false_from_ne_true (is_under p q) (λ under. some_not_none (get (without p t) q) h (get-without-under p t q under))
+
     before : (q : List (List ℕ)) → IsSome (get (without p t) q) → IsSome (get t q)
     before q h = is_some_as (get (without p t) q) (get t q) (get-without-other p t q (kept q h)) h
+
     entry : (q : List (List ℕ)) → (is_under p q ≡ true) ⊎ (is_under p q ≡ false) → IfSome (get (without p t) q) IsEntry
     entry q (inl under) = if_as (get (without p t) q) None (get-without-under p t q under) tt
     entry q (inr out) = if_as (get (without p t) q) (get t q) (get-without-other p t q out) (tree.entries q)
@@ -191,10 +201,13 @@ moved_parent t u a b gone tree can m path n h = by (source t u a b gone m (path 
         ap (get u) (same_from_push path (b ++ s) n cut.0 at).0
         ∙ m.moved s
         ∙ tree.parents (a ++ s) cut.0 (subst (λ (k : List (List ℕ)). IsSome (get t k)) (ap (λ (k : List (List ℕ)). a ++ k) cut.1 ∙ sym (append_assoc a s (cut.0 ∷ []))) there)
+
     kept_front : is_under b (path ++ n ∷ []) ≡ false → is_under b path ≡ false
     kept_front out = false_from_ne_true (is_under b path) (λ under. contradict (is_under b (path ++ n ∷ [])) out (is_under-trans b path (path ++ n ∷ []) under (is_under-append path (n ∷ []))))
+
     stays : is_under b (path ++ n ∷ []) ≡ false → gone path ≡ false
     stays out = false_from_ne_true (gone path) (λ g. some_not_none (get u (path ++ n ∷ [])) h (m.nothing (path ++ n ∷ []) out (m.below path n g)))
+
     by : Source t u a b (path ++ n ∷ []) → get u path ≡ Some Directory
     by (Moved r is e) = from_front r is (is_some_as (get u (path ++ n ∷ [])) (get t (a ++ r)) e h) (parent_of r) refl
     by (Kept out e) = m.others path (kept_front out) (stays out) ∙ tree.parents path n (is_some_as (get u (path ++ n ∷ [])) (get t (path ++ n ∷ [])) e h)
@@ -233,8 +246,8 @@ write_stays t tree p off bytes limits ok =
     let old = entry_at (get t p) (FileWith file.0) file.1 (tree.entries p) in
     let size = size_if_accepted (off + length bytes) (accepted_second (file_refusal (get t p)) (size_refusal (off + length bytes)) ok) in
     subst (λ (o : Option Entry). IsTree (insert t p (FileWith (overwritten (file_bytes o) off bytes)))) (sym file.1)
-        (file_stays t tree p file.0 (overwritten file.0 off bytes) file.1
-            (omega (arith, length-overwritten file.0 off bytes, size, old.0), bytes-overwritten file.0 off bytes old.1 limits.2.2))
+    (file_stays t tree p file.0 (overwritten file.0 off bytes) file.1
+    (omega (arith, length-overwritten file.0 off bytes, size, old.0), bytes-overwritten file.0 off bytes old.1 limits.2.2))
 
 truncate_stays : (t : Tree) → IsTree t → (p : List (List ℕ)) (len : ℕ) → Accepts t (Truncate p len) → IsTree (insert t p (FileWith (resized (file_bytes (get t p)) len)))
 truncate_stays t tree p len ok =
@@ -242,8 +255,8 @@ truncate_stays t tree p len ok =
     let old = entry_at (get t p) (FileWith file.0) file.1 (tree.entries p) in
     let size = size_if_accepted len (accepted_second (file_refusal (get t p)) (size_refusal len) ok) in
     subst (λ (o : Option Entry). IsTree (insert t p (FileWith (resized (file_bytes o) len)))) (sym file.1)
-        (file_stays t tree p file.0 (resized file.0 len) file.1
-            (omega (arith, length-resized file.0 len, size), bytes-resized file.0 len old.1))
+    (file_stays t tree p file.0 (resized file.0 len) file.1
+    (omega (arith, length-resized file.0 len, size), bytes-resized file.0 len old.1))
 
 clone_stays : (t : Tree) → IsTree t → (a b : List (List ℕ)) → IsCommand (Clone a b) → Accepts t (Clone a b) → IsTree (cloned a b t)
 clone_stays t tree a b limits ok =

@@ -1,5 +1,5 @@
 -- What the laws of the tree speak of.
-use Rattle.std.specs.Prelude.{◌≡◌, ℕ, List, [], ◌∷◌, ◌++◌}
+use Rattle.std.specs.Prelude.{◌≡◌}
 use Rattle.std.specs.declared.option.Option.TheVariants.{None}
 use Rattle.bd_command.specs.declared.Command.{Command}
 use Rattle.bd_model.specs.Tree.{Tree}

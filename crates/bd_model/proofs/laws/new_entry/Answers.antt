@@ -1,4 +1,4 @@
-use Rattle.std.proofs.Common.{List, [], ℕ, refl}
+use Rattle.std.proofs.Common.{[], refl}
 use Rattle.bd_command.specs.declared.Command.TheVariants.{Mkdir, Create}
 use Rattle.bd_model.specs.Tree.{Directory, FileWith}
 use Rattle.bd_model.proofs.TreeLaws.{after-made, after-others}
