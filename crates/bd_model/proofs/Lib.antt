@@ -1,3 +1,10 @@
 pub mod CutLines
 pub mod Transcripts
 pub mod LinesThere
+pub mod PathOrder
+pub mod TreeGets
+pub mod Accepted
+pub mod TreeLaws
+pub mod FileBytes
+pub mod TreeStays
+pub mod Listing

@@ -3,3 +3,4 @@ pub mod Step
 pub mod Lines
 pub mod Replies
 pub mod Transcript
+pub mod Laws

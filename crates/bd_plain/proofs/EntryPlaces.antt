@@ -4,7 +4,7 @@ use Rattle.std.proofs.lemmas.List.{drop_more, set_split}
 use Rattle.std.specs.FinMap.{put}
 use Rattle.std.specs.FinMap.Entries.{by_order}
 use Rattle.bd_model.specs.Tree.{Entry, path_cmp}
-use Rattle.bd_plain.proofs.PathOrder.{paths_exact}
+use Rattle.bd_model.proofs.PathOrder.{paths_exact}
 
 -- at a path that ties, the entry is replaced
 put_tied : (path : List (List ℕ)) (e : Entry) (x : List (List ℕ) × Entry) (es : List (List (List ℕ) × Entry)) → path_cmp path x.0 ≡ Equal → put path_cmp path e (x ∷ es) ≡ (path, e) ∷ es

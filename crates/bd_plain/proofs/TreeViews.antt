@@ -6,10 +6,8 @@ use Rattle.std.specs.FinMap.Entries.{is_sorted-put, is_sorted-where_key, find-wh
 use Rattle.bd_names.specs.Names.{is_under, rest_below}
 use Rattle.bd_model.specs.Tree.{Entry, Tree, path_cmp, root_only, Directory}
 use Rattle.bd_model.specs.Step.{without, children, moved, moved_entry, child_of}
-use Rattle.bd_plain.proofs.PathOrder.{paths_total, paths_exact}
-
-abbrev pub Entries : Type 0
-Entries = List (List (List ℕ) × Entry)
+use Rattle.bd_model.proofs.PathOrder.{paths_total, paths_exact}
+use Rattle.bd_model.proofs.TreeGets.{Entries}
 
 abbrev pub IsInOrder : Entries → Type 0
 IsInOrder es = IsTrue (is_sorted path_cmp es)

@@ -1,6 +1,7 @@
 use Rattle.std.proofs.Common.{◌≡◌, ap, ◌∙◌, [], ◌∷◌, rules}
 use Rattle.bd_model.specs.Tree.{Directory}
-use Rattle.bd_plain.proofs.TreeViews.{Entries, seen, root_seen}
+use Rattle.bd_model.proofs.TreeGets.{Entries}
+use Rattle.bd_plain.proofs.TreeViews.{seen, root_seen}
 use Rattle.bd_plain.proofs.tree.PlainTree.new.Goals as goal
 
 pub returns : goal.returns

@@ -1,7 +1,8 @@
 use Rattle.std.proofs.Common.{◌≡◌, [], rules, sym, ap, ◌∙◌, ◌++◌}
 use Rattle.std.specs.FinMap.{from_entries, entries}
 use Rattle.bd_model.specs.Tree.{Tree, path_cmp}
-use Rattle.bd_plain.proofs.TreeViews.{Entries, put_all_none, put_all_more}
+use Rattle.bd_model.proofs.TreeGets.{Entries}
+use Rattle.bd_plain.proofs.TreeViews.{put_all_none, put_all_more}
 use Rattle.bd_plain.proofs.tree.PlainTree.put_all.Goals as goal
 
 pub loop-last-preserved : goal.loop-last-preserved

@@ -1,0 +1,90 @@
+//! What commands do to a tree, in plain words. Each function here carries laws of the definitions, and does nothing.
+
+ghost use Rattle.std.specs.Prelude.{◌≡◌, ◌≢◌, ◌+◌, ◌<◌, ◌≤◌, ◌++◌, ◌∷◌, [], List, ℕ, true, false, length, map, max, slice_index};
+ghost use Rattle.std.specs.List.{Contains};
+ghost use Rattle.std.specs.List.Sorted.{IsStrictlySortedBy};
+ghost use Rattle.std.specs.Ordering.{nat_cmp};
+ghost use Rattle.std.specs.Cmp.Lexicographic.{slice_cmp};
+ghost use Rattle.std.specs.FinMap.{get};
+ghost use Rattle.bd_names.specs.Names.{is_under};
+ghost use Rattle.bd_command.specs.Command.{IsCommand, writes};
+ghost use Rattle.bd_command.specs.declared.Command.{Command};
+ghost use Rattle.bd_command.specs.declared.Command.TheVariants.{Mkdir, Create, Write, Truncate, Remove, Rename, Clone};
+ghost use Rattle.bd_command.specs.declared.refusal.Refusal.{Refusal};
+ghost use Rattle.bd_command.specs.declared.reply.Listed.{Listed};
+ghost use Rattle.bd_model.specs.Tree.{Entry, Tree, IsTree, Directory, FileWith, root_only};
+ghost use Rattle.bd_model.specs.Step.{refusal_of, resized, overwritten, children, is_directory};
+ghost use Rattle.bd_model.specs.Laws.{Accepts, after};
+
+/// A refused command leaves the tree as it is, and so does one that reads.
+pub fn tree_stays()
+    ensures refused { (t : Tree) (c : Command) (r : Refusal) → refusal_of t c ≡ Some r → after t c ≡ t }
+    ensures reading { (t : Tree) (c : Command) → writes c ≡ false → after t c ≡ t }
+{}
+
+/// An accepted `mkdir` or `create` puts the new entry at its path, and all else stays.
+pub fn new_entry()
+    ensures directory { (t : Tree) (p : List (List ℕ)) → Accepts t (Mkdir p) → get (after t (Mkdir p)) p ≡ Some Directory }
+    ensures file { (t : Tree) (p : List (List ℕ)) → Accepts t (Create p) → get (after t (Create p)) p ≡ Some (FileWith []) }
+    ensures beside_directory { (t : Tree) (p q : List (List ℕ)) → q ≢ p → get (after t (Mkdir p)) q ≡ get t q }
+    ensures beside_file { (t : Tree) (p q : List (List ℕ)) → q ≢ p → get (after t (Create p)) q ≡ get t q }
+{}
+
+/// An accepted `write` or `truncate` changes the bytes of the file at its path, and all else stays.
+pub fn new_bytes()
+    ensures written { (t : Tree) (p : List (List ℕ)) (off : ℕ) (bytes : List ℕ) → Accepts t (Write p off bytes)
+        → (old : List ℕ) × (get t p ≡ Some (FileWith old)) × (get (after t (Write p off bytes)) p ≡ Some (FileWith (overwritten old off bytes))) }
+    ensures truncated { (t : Tree) (p : List (List ℕ)) (len : ℕ) → Accepts t (Truncate p len)
+        → (old : List ℕ) × (get t p ≡ Some (FileWith old)) × (get (after t (Truncate p len)) p ≡ Some (FileWith (resized old len))) }
+    ensures beside_written { (t : Tree) (p : List (List ℕ)) (off : ℕ) (bytes : List ℕ) (q : List (List ℕ)) → q ≢ p → get (after t (Write p off bytes)) q ≡ get t q }
+    ensures beside_truncated { (t : Tree) (p : List (List ℕ)) (len : ℕ) (q : List (List ℕ)) → q ≢ p → get (after t (Truncate p len)) q ≡ get t q }
+{}
+
+/// An accepted `remove` leaves nothing at its path and below it, and all else stays.
+pub fn removed()
+    ensures gone { (t : Tree) (p q : List (List ℕ)) → Accepts t (Remove p) → is_under p q ≡ true → get (after t (Remove p)) q ≡ None }
+    ensures beside { (t : Tree) (p q : List (List ℕ)) → is_under p q ≡ false → get (after t (Remove p)) q ≡ get t q }
+{}
+
+/// After an accepted `clone` of `a` to `b` the tree has at `b` and below what it had at `a` and below, and all else stays; `a` itself isn't below `b`.
+pub fn cloned()
+    ensures copied { (t : Tree) (a b rest : List (List ℕ)) → IsTree t → Accepts t (Clone a b) → get (after t (Clone a b)) (b ++ rest) ≡ get t (a ++ rest) }
+    ensures beside { (t : Tree) (a b q : List (List ℕ)) → is_under b q ≡ false → get (after t (Clone a b)) q ≡ get t q }
+    ensures apart { (t : Tree) (a b : List (List ℕ)) → IsTree t → Accepts t (Clone a b) → is_under b a ≡ false }
+{}
+
+/// After an accepted `rename` of `a` to `b` the tree has at `b` and below what it had at `a` and below, nothing at `a` and below, and all else stays.
+pub fn renamed()
+    ensures moved { (t : Tree) (a b rest : List (List ℕ)) → IsTree t → Accepts t (Rename a b) → get (after t (Rename a b)) (b ++ rest) ≡ get t (a ++ rest) }
+    ensures gone { (t : Tree) (a b rest : List (List ℕ)) → IsTree t → Accepts t (Rename a b) → get (after t (Rename a b)) (a ++ rest) ≡ None }
+    ensures beside { (t : Tree) (a b q : List (List ℕ)) → is_under a q ≡ false → is_under b q ≡ false → get (after t (Rename a b)) q ≡ get t q }
+{}
+
+/// `/` alone is a tree, and a tree stays one, whatever command comes.
+pub fn is_tree()
+    ensures first { IsTree root_only }
+    ensures after { (t : Tree) (c : Command) → IsTree t → IsCommand c → IsTree (after t c) }
+{}
+
+/// A listing names each entry that stands right below its path and nothing else, and its names rise in the order of their bytes.
+pub fn listed()
+    ensures each { (t : Tree) (p : List (List ℕ)) (n : List ℕ) (e : Entry) → get t (p ++ n ∷ []) ≡ Some e → Contains (children p t) (record { name = n; is_dir = is_directory e }) }
+    ensures only { (t : Tree) (p : List (List ℕ)) (l : Listed) → Contains (children p t) l → (e : Entry) × (get t (p ++ l.name ∷ []) ≡ Some e) × (l.is_dir ≡ is_directory e) }
+    ensures rising { (t : Tree) (p : List (List ℕ)) → IsStrictlySortedBy (slice_cmp nat_cmp) (map (λ l. l.name) (children p t)) }
+{}
+
+/// A file of a new length has its old bytes up to there, and zeros behind the old end.
+pub fn resized()
+    ensures long { (old : List ℕ) (len : ℕ) → length (resized old len) ≡ len }
+    ensures kept { (old : List ℕ) (len i : ℕ) → i < len → i < length old → slice_index (resized old len) i ≡ slice_index old i }
+    ensures zero { (old : List ℕ) (len i : ℕ) → i < len → length old ≤ i → slice_index (resized old len) i ≡ 0 }
+{}
+
+/// An overwritten file has the new bytes from the offset on, its old bytes before and behind them, and zeros from its old end to the offset.
+pub fn overwritten()
+    ensures long { (old : List ℕ) (off : ℕ) (bytes : List ℕ) → length (overwritten old off bytes) ≡ max (length old) (off + length bytes) }
+    ensures new { (old : List ℕ) (off : ℕ) (bytes : List ℕ) (i : ℕ) → i < length bytes → slice_index (overwritten old off bytes) (off + i) ≡ slice_index bytes i }
+    ensures before { (old : List ℕ) (off : ℕ) (bytes : List ℕ) (i : ℕ) → i < off → i < length old → slice_index (overwritten old off bytes) i ≡ slice_index old i }
+    ensures gap { (old : List ℕ) (off : ℕ) (bytes : List ℕ) (i : ℕ) → i < off → length old ≤ i → slice_index (overwritten old off bytes) i ≡ 0 }
+    ensures behind { (old : List ℕ) (off : ℕ) (bytes : List ℕ) (i : ℕ) → off + length bytes ≤ i → slice_index (overwritten old off bytes) i ≡ slice_index old i }
+{}
