@@ -57,6 +57,7 @@ fn sooner<'a>(a: &'a Bytes, b: &'a Bytes) -> &'a Bytes
     if is_below(b, a) { b } else { a }
 }
 
+// A copy of an end.
 fn copy_end(alloc: Global, hi: Option<&Bytes>) -> Result<Option<Bytes>, AllocError>
     ensures { IfOk result (λ copy. copy ≡ option_copied hi.entry) }
 {

@@ -84,10 +84,6 @@ all_of (suc n) = sum_by-cons weight true (replicate n true) ∙ omega (arith, al
 pub free_count-none : (words : List ℕ) (count : ℕ) → ((bit : ℕ) → has_bit words bit ≡ false) → free_count (flags words count) ≡ 0
 free_count-none words count h = ap free_count (flags-replicate words count false (λ slot _. h slot)) ∙ none_of count
 
--- no more are free than there are
-pub free_count-le : (words : List ℕ) (count : ℕ) → free_count (flags words count) ≤ count
-free_count-le words count = omega (arith, count_by-le-length (λ f. f) (flags words count), length-flags words count)
-
 -- a slot that isn't free isn't counted
 pub free_below : (slots : List Bool) (slot : ℕ) → IsHeld slots slot → free_count slots < length slots
 free_below slots slot h =
