@@ -46,7 +46,8 @@ pub fn clear(words: &mut [u64], bit: usize)
 // The first bit that is set.
 pub fn first_set(words: &[u64]) -> Option<usize>
     requires { length words.now < 2 ^ 32 }
-    ensures found { MatchOption result ((bit : ℕ) → has_bit words.now bit ≡ false) (λ bit. has_bit words.now bit ≡ true) }
+    ensures found { MatchOption result
+        ((bit : ℕ) → has_bit words.now bit ≡ false) (λ bit. has_bit words.now bit ≡ true) }
 {
     for (at, word) in words.iter().enumerate() {
         if *word != 0 {
