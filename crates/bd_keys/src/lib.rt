@@ -1,5 +1,5 @@
 // Byte strings, and the order and the ranges of keys.
-// The layers above may use the contracts that speak of byte strings as lists and of ranges as sets of keys.
+// The layers above may use the contracts, which see byte strings as lists and ranges as sets of keys.
 #![tactic(auto)]
 
 mod bytes;

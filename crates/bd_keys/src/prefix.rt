@@ -21,7 +21,8 @@ pub fn starts(key: &[u8], prefix: &[u8]) -> bool
 /// bytes are 255.
 pub fn after(alloc: Global, prefix: &[u8]) -> Result<Option<Vec<u8>>, AllocError>
     ensures after { IfOk result (λ end. IfSome end (λ key. IsAfter prefix.now key.items)) }
-    ensures none { IfOk result (λ end. IfNone end ((key : List ℕ) → IsKey key → ¬ IsBehindAll key prefix.now)) }
+    ensures none { IfOk result (λ end. IfNone end
+        ((key : List ℕ) → IsKey key → ¬ IsBehindAll key prefix.now)) }
     ensures last { IfOk result (λ end. IsNone end ↔ All (λ byte. byte ≡ 255) prefix.now) }
     ensures range { IfOk result (λ end. IsPrefixRange prefix.now (option_map (λ key. key.items) end)) }
 {

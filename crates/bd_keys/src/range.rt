@@ -18,9 +18,11 @@ pub struct Range {
 
 /// The keys that two ranges have in common. It is `None` exactly where there are none.
 pub fn clip(alloc: Global, a: &Range, b: &Range) -> Result<Option<Range>, AllocError>
-    ensures both { IfOk result (λ found. IfSome found (λ range. (key : List ℕ) → Has range key ↔ (Has a.now key × Has b.now key))) }
+    ensures both { IfOk result (λ found. IfSome found (λ range.
+        (key : List ℕ) → Has range key ↔ (Has a.now key × Has b.now key))) }
     ensures some { IfOk result (λ found. IfSome found (λ range. Has range range.lo)) }
-    ensures none { IfOk result (λ found. IfNone found ((key : List ℕ) → Has a.now key → ¬ Has b.now key)) }
+    ensures none { IfOk result (λ found. IfNone found
+        ((key : List ℕ) → Has a.now key → ¬ Has b.now key)) }
 {
     let lo = later(&a.lo, &b.lo);
     let hi = earlier(&a.hi, &b.hi);
@@ -57,6 +59,7 @@ fn sooner<'a>(a: &'a Bytes, b: &'a Bytes) -> &'a Bytes
     if is_below(b, a) { b } else { a }
 }
 
+// A copy of an end.
 fn copy_end(alloc: Global, hi: Option<&Bytes>) -> Result<Option<Bytes>, AllocError>
     ensures { IfOk result (λ copy. copy ≡ option_copied hi.entry) }
 {

@@ -19,6 +19,7 @@ fn what_is_written_is_read_again(rt: HostRuntime) -> Result<(), Fail> {
     assert_eq!(rt; array, expected);
 
     let mut cursor = Cursor::new(&array);
+    assert_eq!(rt; cursor.ahead().u64(), Ok(0x0102_0304_0506_0708));
     assert_eq!(rt; cursor.u8(), Ok(0x01));
     assert_eq!(rt; cursor.u16(), Ok(0x0203));
     assert_eq!(rt; cursor.u32(), Ok(0x0405_0607));

@@ -1,0 +1,36 @@
+use Rattle.std.proofs.Common.{◌≡◌, ◌∙◌, ◌+◌, sym, ap, subst, arith, length, false}
+use Rattle.std.specs.Vec.{with_items}
+use Rattle.std.proofs.lemmas.List.{with_items_is}
+use Rattle.bd_slots.specs.Slots.{free_count}
+use Rattle.bd_slots.specs.Words.{IsCounted, flags, has_bit}
+use Rattle.bd_slots.proofs.FlagLemmas.{given, bit_within, free_below, length-flags}
+use Rattle.bd_slots.proofs.slots.SlotSet.give.Goals as goal
+
+pub set-requires : goal.set-requires
+set-requires c =
+    let s = c.self.inside in
+    rw c.as_mut_slice.ensures.value (bit_within s.words.items c.args.self.now s.count s.free c.args.slot false c.self.invariant c.self.view_is c.requires)
+
+pub overflow_add-self : goal.overflow_add-self
+overflow_add-self c =
+    let s = c.self.inside in
+    let counted : s.free ≡ free_count c.args.self.now = c.self.invariant.counted ∙ ap free_count c.self.view_is in
+    omega (arith, counted, free_below c.args.self.now c.args.slot c.requires, sym (ap length c.self.view_is) ∙ length-flags s.words.items s.count, c.self.ranges)
+
+pub invariant_of-self : goal.invariant_of-self
+invariant_of-self c =
+    let s = c.self.inside in
+    let now = c.set.new.words in
+    let made : (with_items s.words now).items ≡ now = with_items_is s.words now (c.set.auto.words ∙ c.as_mut_slice.ensures.len) in
+    subst (λ w. IsCounted w s.count (s.free + 1)) (sym made) (given s.words.items now c.args.self.now s.count s.free c.args.slot c.self.invariant c.self.view_is c.requires
+    (c.set.auto.words ∙ ap length c.as_mut_slice.ensures.value) c.set.ensures.set
+    (λ other ne. c.set.ensures.others other ne ∙ ap (λ w. has_bit w other) c.as_mut_slice.ensures.value)).0
+
+pub returns : goal.returns
+returns c =
+    let s = c.self.inside in
+    let now = c.set.new.words in
+    let made : (with_items s.words now).items ≡ now = with_items_is s.words now (c.set.auto.words ∙ c.as_mut_slice.ensures.len) in
+    ap (λ w. flags w s.count) made ∙ (given s.words.items now c.args.self.now s.count s.free c.args.slot c.self.invariant c.self.view_is c.requires
+    (c.set.auto.words ∙ ap length c.as_mut_slice.ensures.value) c.set.ensures.set
+    (λ other ne. c.set.ensures.others other ne ∙ ap (λ w. has_bit w other) c.as_mut_slice.ensures.value)).1
