@@ -1,24 +1,18 @@
 -- What a line means, by its words.
-use Rattle.std.specs.Prelude.{◌≡◌, ◌⊎◌, ℕ, ◌+◌, ◌<◌, ◌≤◌, Bool, true, false, not, ◌&&◌, ◌||◌, List, [], ◌∷◌, length, ◌==◌, cond, refl, codes, IsTrue, is_some, Result, Ok, Err}
+use Rattle.std.specs.Prelude.{◌≡◌, ℕ, ◌<◌, Bool, true, false, ◌||◌, List, [], ◌∷◌, length, ◌==◌, cond, refl}
 use Rattle.std.specs.List.{list_any}
 use Rattle.std.specs.declared.option.Option.{Option}
 use Rattle.std.specs.declared.option.Option.TheVariants.{None, Some}
 use Rattle.std.proofs.Common.{sym, ◌∙◌, ap, arith, lit<}
 use Rattle.std.specs.Prelude.{MatchOption}
 use Rattle.std.proofs.Common.{get_or, Bor}
-use Rattle.std.proofs.lemmas.Bool.{both_ways, false_from_ne_true, or_left, or_right, or_from, lt-leb, le-leb, and_left}
+use Rattle.std.proofs.lemmas.Bool.{both_ways, false_from_ne_true, or_left, or_right, or_from}
 use Rattle.std.proofs.lemmas.List.Splits.{length-slice_split}
 use Rattle.std.proofs.lemmas.List.Folds.{list_any_at}
 use Rattle.bd_names.specs.Names.{path_of, same_text}
-use Rattle.std.specs.Prelude.{IfOk}
 use Rattle.bd_command.specs.declared.Command.TheVariants.{Write}
-use Rattle.bd_model.specs.Lines.{ScriptLine, Run, BadLine, BadPath, line_of, hex_of, with_path, with_bytes, verbs_there, words_of, is_empty, line_of_words, line_of_one, line_of_two, line_of_three, first_word}
-use Rattle.bd_script.specs.declared.line.Line.{Line}
-use Rattle.bd_script.specs.declared.line.Line.TheVariants as line
-use Rattle.bd_script.specs.declared.line.LineFault.{LineFault}
-use Rattle.bd_script.specs.declared.line.LineFault.TheVariants as fault
-use Rattle.bd_script.specs.Script.{script_line, IsLine}
-use Rattle.bd_script.specs.Reading.{IsRead, is_accepted, line_of_parts, write_at}
+use Rattle.bd_model.specs.Lines.{ScriptLine, Run, BadLine, hex_of, with_path, with_bytes, verbs_there, words_of, is_empty, line_of_one, line_of_two, line_of_three, first_word}
+use Rattle.bd_script.specs.Reading.{line_of_parts, write_at}
 use Rattle.bd_names.specs.NamesLaws.{path_of-some}
 use Rattle.bd_command.specs.Command.{IsShortPath}
 

@@ -1,6 +1,6 @@
 -- Words of a line, and numbers and bytes in them.
-use Rattle.std.specs.Prelude.{◌≡◌, ◌⊎◌, ℕ, zero, suc, ◌+◌, ◌-◌, ◌*◌, ◌/◌, ◌<◌, ◌≤◌, Bool, true, false, not, ◌&&◌, ◌||◌, List, [], ◌∷◌, ◌++◌, length, take, drop, fold, nat_le, ◌==◌, ltb, cond, refl, Result, Ok, Err}
-use Rattle.std.specs.List.{slice_split, onto_first, list_all, position_or_len, AllByRecursion}
+use Rattle.std.specs.Prelude.{◌≡◌, ◌⊎◌, ℕ, suc, ◌+◌, ◌-◌, ◌*◌, ◌/◌, ◌<◌, ◌≤◌, Bool, true, false, not, ◌&&◌, List, [], ◌∷◌, length, take, drop, fold, nat_le, ◌==◌, ltb, cond, refl, Result, Ok, Err}
+use Rattle.std.specs.List.{onto_first, list_all, position_or_len, AllByRecursion}
 use Rattle.std.specs.Char.{is_ascii_digit}
 use Rattle.std.specs.declared.option.Option.{Option}
 use Rattle.std.specs.declared.option.Option.TheVariants.{None, Some}
@@ -10,9 +10,9 @@ use Rattle.std.proofs.lemmas.List.{take_rest, take_all, take_more, take-append-d
 use Rattle.std.proofs.lemmas.List.Splits.{slice_split_first}
 use Rattle.std.proofs.lemmas.List.Folds.{list_all_at}
 use Rattle.std.proofs.lemmas.Grind.{fold-append}
-use Rattle.hex.specs.Hex.{decode_of, decode_sized, IsBytes}
+use Rattle.hex.specs.Hex.{decode_of, IsBytes}
 use Rattle.hex.specs.declared.error.FromHexError.{FromHexError}
-use Rattle.hex.proofs.HexLemmas.{decode_of-ok, decode_sized-twice}
+use Rattle.hex.proofs.HexLemmas.{decode_of-ok}
 use Rattle.bd_command.specs.Command.{IsWritten}
 use Rattle.bd_model.specs.Lines.{words_of, is_empty, digits_value, has_leading_zero, is_number, number_of, hex_of, hex_result}
 
@@ -26,14 +26,11 @@ none_cond : (t : Bool) (n : ℕ) → None ≡ cond t (Some n) None → t ≡ fal
 none_cond true n h = cc
 none_cond false n h = refl
 
-
-
-
 pub word_cut : (line : List ℕ) (r : Option ℕ) (i : ℕ) → r ≡ cond (ltb (position_or_len (λ b. b == 32) line) (length line)) (Some (position_or_len (λ b. b == 32) line)) None → r ≡ Some i → words_of line ≡ take i line ∷ words_of (take (length line - (i + 1)) (drop (i + 1) line))
 word_cut line r i found e =
     let at = some_cond (ltb (position_or_len (λ b. b == 32) line) (length line)) i (position_or_len (λ b. b == 32) line) (sym e ∙ found) in
     let first : words_of line ≡ take (position_or_len (λ b. b == 32) line) line ∷ words_of (drop (position_or_len (λ b. b == 32) line + 1) line) =
-        slice_split_first (λ b. b == 32) line 0 (ltb-true (position_or_len (λ b. b == 32) line) (length line) at.0) in
+    slice_split_first (λ b. b == 32) line 0 (ltb-true (position_or_len (λ b. b == 32) line) (length line) at.0) in
     first ∙ ap (λ n. take n line ∷ words_of (drop (n + 1) line)) (sym at.1) ∙ ap (λ x. take i line ∷ words_of x) (sym (take_rest line (i + 1)))
 
 word_rest : (t : Bool) (b : ℕ) (line : List ℕ) → (length line ≤ position_or_len (λ b. b == 32) line → words_of line ≡ line ∷ []) → length (b ∷ line) ≤ cond (not t) (1 + position_or_len (λ b. b == 32) line) 0 → cond t ([] ∷ words_of line) (onto_first b (words_of line)) ≡ (b ∷ line) ∷ []
@@ -87,12 +84,12 @@ number_of-other word i l h = number_of-false word (and_right _ _ (and_left _ _ (
 pub number_of-large : (word : List ℕ) (i : ℕ) → 4294967295 < fold digit_more 0 (take i word) → number_of word ≡ None
 number_of-large word i h =
     let whole : digits_value word ≡ fold digit_more (fold digit_more 0 (take i word)) (drop i word) =
-        ap (fold digit_more 0) (sym (take-append-drop i word)) ∙ fold-append digit_more 0 (take i word) (drop i word) in
+    ap (fold digit_more 0) (sym (take-append-drop i word)) ∙ fold-append digit_more 0 (take i word) (drop i word) in
     let more : fold digit_more 0 (take i word) ≤ fold digit_more (fold digit_more 0 (take i word)) (drop i word) = digits-grow (fold digit_more 0 (take i word)) (drop i word) in
     number_of-false word (
-        and_right (not (is_empty word)) _ (
-        and_right (list_all is_ascii_digit word) _ (
-        and_right (not (has_leading_zero word)) (nat_le (digits_value word) 4294967295) (lt-leb (digits_value word) 4294967295 (omega (arith, whole, more))))))
+    and_right (not (is_empty word)) _ (
+    and_right (list_all is_ascii_digit word) _ (
+    and_right (not (has_leading_zero word)) (nat_le (digits_value word) 4294967295) (lt-leb (digits_value word) 4294967295 (omega (arith, whole, more))))))
 
 pub digits_next : (word : List ℕ) (i n : ℕ) → i < length word → n ≡ fold digit_more 0 (take i word) → fold digit_more 0 (take (i + 1) word) ≡ 10 * n + (get_or word i 0 - 48)
 digits_next word i n l h =
@@ -108,9 +105,9 @@ number_of-good word i n some lead whole digits value small =
     let all : take i word ≡ word = take_all i word whole in
     let same : n ≡ digits_value word = value ∙ ap (fold digit_more 0) all in
     ap Some same ∙ sym (number_of-true word (
-        and_from _ _ (not_empty word some) (
-        and_from _ _ (ap (list_all is_ascii_digit) (sym all) ∙ digits) (
-        and_from _ _ (ap not (no_leading_zero word lead)) (le-leb (digits_value word) 4294967295 (omega (arith, same)))))))
+    and_from _ _ (not_empty word some) (
+    and_from _ _ (ap (list_all is_ascii_digit) (sym all) ∙ digits) (
+    and_from _ _ (ap not (no_leading_zero word lead)) (le-leb (digits_value word) 4294967295 (omega (arith, same)))))))
 
 -- ---- bytes
 

@@ -28,10 +28,8 @@ pub(crate) fn read_number(word: &[u8]) -> Option<u32>
 
 /// Writes the bytes that a word spells in hex digits at the front of `into`, and returns how many they are, 1 to 2,048.
 pub(crate) fn read_hex(word: &[u8], into: &mut [u8; 2048]) -> Option<usize>
-    ensures {
-        MatchOption result (hex_of word.now ≡ None)
-        (λ len. (len ≤ 2048) × (hex_of word.now ≡ Some (take len into.new)))
-    }
+    ensures { MatchOption result (hex_of word.now ≡ None)
+        (λ len. (len ≤ 2048) × (hex_of word.now ≡ Some (take len into.new))) }
 {
     let len = word.len() / 2;
     if len == 0 || len > MAX_WRITE {

@@ -142,7 +142,13 @@ fn read_list(alloc: Global, path: &[u8], after: &[u8]) -> Result<Line, LineFault
 }
 
 /// Reads a line of a verb and three words.
-fn read_three(alloc: Global, verb: &[u8], path: &[u8], off: &[u8], last: &[u8]) -> Result<Line, LineFault>
+fn read_three(
+    alloc: Global,
+    verb: &[u8],
+    path: &[u8],
+    off: &[u8],
+    last: &[u8],
+) -> Result<Line, LineFault>
     ensures { IsRead result (line_of_three verb.now path.now off.now last.now) }
 {
     if verb == b"write".as_slice() {
@@ -191,4 +197,107 @@ fn read_paths(alloc: Global, first: &[u8], second: &[u8]) -> Result<(Path, Path)
     let first = read_path(alloc, first)?;
     let second = read_path(alloc, second)?;
     Ok((first, second))
+}
+
+#[cfg(test)]
+mod tests {
+    use super::*;
+    use std::alloc::AllocError;
+    use std::test::Fail;
+
+    /// The number of the refusal, 0 where the line is read, and 99 without memory.
+    fn refusal(alloc: Global, line: &[u8]) -> u8 {
+        match read_line(alloc, line) {
+            Ok(_) => 0,
+            Err(LineFault::BadPath) => 9,
+            Err(LineFault::BadLine) => 10,
+            Err(LineFault::NoMemory) => 99,
+        }
+    }
+
+    #[test]
+    fn reads_lines(rt: HostRuntime) -> Result<(), Fail> {
+        let lines: [(&[u8], u8); 44] = [
+            (b"mkdir /a", 0),
+            (b"create /", 0),
+            (b"remove /a/b", 0),
+            (b"stat /", 0),
+            (b"list /", 0),
+            (b"list / b", 0),
+            (b"rename /a /b", 0),
+            (b"clone / /b", 0),
+            (b"truncate /a 0", 0),
+            (b"truncate /a 4294967295", 0),
+            (b"write /a 1023 aAbB0f", 0),
+            (b"read /a 0 4096", 0),
+            (b"stop", 0),
+            (b"", 10),
+            (b" ", 10),
+            (b"mkdir", 10),
+            (b"mkdir ", 10),
+            (b"mkdir  /a", 10),
+            (b" mkdir /a", 10),
+            (b"mkdir /a ", 10),
+            (b"mkdir /a /b", 10),
+            (b"Mkdir /a", 10),
+            (b"stop now", 10),
+            (b"sync", 10),
+            (b"read /a 0 4097", 10),
+            (b"read /a 0", 10),
+            (b"read /a 0 1 2", 10),
+            (b"truncate /a 01", 10),
+            (b"truncate /a +1", 10),
+            (b"truncate /a 4294967296", 10),
+            (b"truncate /a 99999999999999999999999", 10),
+            (b"truncate a 1x", 10),
+            (b"write /a 0 abc", 10),
+            (b"write /a 0 ag", 10),
+            (b"write a 0 a", 10),
+            (b"write /a 0 ", 10),
+            (b"mkdir a", 9),
+            (b"mkdir //", 9),
+            (b"stat /a/", 9),
+            (b"list / .", 9),
+            (b"list a b", 9),
+            (b"rename /a b", 9),
+            (b"clone a /b", 9),
+            (b"write a 0 00", 9),
+        ];
+        for (line, number) in lines {
+            assert_eq!(rt; refusal(rt.alloc(), line), number);
+        }
+        Ok(())
+    }
+
+    #[test]
+    fn reads_each_byte_of_a_name(rt: HostRuntime) -> Result<(), Fail> {
+        for byte in 0..=255u8 {
+            let number = match byte {
+                b' ' => 10,
+                0..=0x20 | b'/' | b'.' | 0x7f => 9,
+                _ => 0,
+            };
+            let line = [b's', b't', b'a', b't', b' ', b'/', byte];
+            assert_eq!(rt; refusal(rt.alloc(), &line), number);
+        }
+        Ok(())
+    }
+
+    /// `stat`, and a path of as many bytes, of names of 255 bytes.
+    fn stat_of(alloc: Global, len: usize) -> Result<Vec<u8>, AllocError> {
+        let mut line = Vec::from_slice(alloc, b"stat ")?;
+        for i in 0..len {
+            line.push(if i % 256 == 0 { b'/' } else { b'a' })?;
+        }
+        Ok(line)
+    }
+
+    #[test]
+    fn reads_long_lines(rt: HostRuntime) -> Result<(), Fail> {
+        for (len, number) in [(256, 0), (512, 0), (514, 9), (8187, 9), (8188, 10)] {
+            let line = stat_of(rt.alloc(), len)?;
+            assert_eq!(rt; refusal(rt.alloc(), &line), number);
+        }
+        Ok(())
+    }
 }

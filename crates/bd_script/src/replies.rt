@@ -9,11 +9,13 @@ ghost use Rattle.bd_script.specs.Script.{IsReply};
 use bd_command::{Listed, Listing, Refusal, Reply};
 use itoa::Buffer;
 
-/// Writes a reply and its newline at the front of `into`, and returns how many bytes they are.
+/// Writes a reply and its newline at the front of `into`, and returns how many bytes they are. A chunk has at most
+/// 4,096 bytes, a listing at most 100 names.
 pub fn reply(reply: &Reply, into: &mut [u8; 32768]) -> usize
     requires { IsReply reply.now }
     ensures length { result ≡ length (reply_line reply.now) }
     ensures text { take result into.new ≡ reply_line reply.now }
+    ensures bound { result ≤ 32768 }
 {
     let end = put_reply(into, reply);
     put(into, end, b"\n")
@@ -84,17 +86,17 @@ fn put_number(into: &mut [u8; 32768], at: usize, number: u32) -> usize
 /// Writes a listing at the front.
 fn put_listing(into: &mut [u8; 32768], listing: &Listing) -> usize
     requires { length listing.now.names ≤ 100 }
-    ensures text {
-        take result into.new ≡ codes "ok" ++ flat_map listed_text listing.now.names ++ (if listing.now.more then codes " +" else [])
-    }
-    ensures length {
-        result ≡ length (codes "ok" ++ flat_map listed_text listing.now.names ++ (if listing.now.more then codes " +" else []))
-    }
+    ensures text { take result into.new ≡ codes "ok" ++ flat_map listed_text listing.now.names ++ (if listing.now.more then codes " +" else []) }
+    ensures length { result ≡ length (codes "ok" ++ flat_map listed_text listing.now.names ++ (if listing.now.more then codes " +" else [])) }
     ensures bound { result ≤ 32000 }
 {
     let end = put(into, 0, b"ok");
     let end = put_names(into, end, listing.names.as_slice());
-    if listing.more { put(into, end, b" +") } else { end }
+    if listing.more {
+        put(into, end, b" +")
+    } else {
+        end
+    }
 }
 
 /// Writes the names of a listing at a place, and returns the place behind them.
@@ -120,7 +122,11 @@ fn put_listed(into: &mut [u8; 32768], at: usize, listed: &Listed) -> usize
 {
     let start = put(into, at, b" ");
     let end = put(into, start, listed.name.as_bytes());
-    if listed.is_dir { put(into, end, b"/") } else { end }
+    if listed.is_dir {
+        put(into, end, b"/")
+    } else {
+        end
+    }
 }
 
 /// The number and the name of a refusal.
@@ -151,4 +157,51 @@ fn put(into: &mut [u8; 32768], at: usize, bytes: &[u8]) -> usize
     let end = at + bytes.len();
     into[at..end].copy_from_slice(bytes);
     end
+}
+
+#[cfg(test)]
+mod tests {
+    use super::*;
+    use bd_command::Names;
+    use bd_keys::Bytes;
+    use bd_names::Name;
+    use std::test::Fail;
+
+    #[test]
+    fn writes_replies(rt: HostRuntime) -> Result<(), Fail> {
+        let replies: [(Reply, &[u8]); 5] = [
+            (Reply::Done, b"ok\n"),
+            (Reply::Dir, b"ok dir\n"),
+            (Reply::File(4294967295), b"ok file 4294967295\n"),
+            (Reply::Refused(Refusal::NotFound), b"no 1 not-found\n"),
+            (Reply::Refused(Refusal::BadLine), b"no 10 bad-line\n"),
+        ];
+        let mut into = [0; 32768];
+        for (answer, text) in &replies {
+            let end = reply(answer, &mut into);
+            assert_eq!(rt; &into[..end], *text);
+        }
+        Ok(())
+    }
+
+    #[test]
+    fn writes_bytes(rt: HostRuntime) -> Result<(), Fail> {
+        let mut into = [0; 32768];
+        let bytes = Bytes::from_slice(rt.alloc(), b"\x00\xaf")?;
+        let end = reply(&Reply::Bytes(bytes), &mut into);
+        assert_eq!(rt; &into[..end], b"ok 00af\n".as_slice());
+        Ok(())
+    }
+
+    #[test]
+    fn writes_names(rt: HostRuntime) -> Result<(), Fail> {
+        let mut into = [0; 32768];
+        let mut names = Vec::new(rt.alloc());
+        let name = Name::read(rt.alloc(), b"a")?;
+        names.push(Listed { name, is_dir: true })?;
+        let names = Names::from_vec(names);
+        let end = reply(&Reply::Names(Listing { names, more: true }), &mut into);
+        assert_eq!(rt; &into[..end], b"ok a/ +\n".as_slice());
+        Ok(())
+    }
 }

@@ -5,10 +5,8 @@ ghost use Rattle.bd_model.specs.Lines.{words_of};
 
 /// The first word of a line, and what follows the space behind it, if there is one.
 pub(crate) fn cut_word(line: &[u8]) -> (&[u8], Option<&[u8]>)
-    ensures {
-        MatchOption result.1 (words_of line.now ≡ result.0.now ∷ [])
-        (λ rest. words_of line.now ≡ result.0.now ∷ words_of rest.now)
-    }
+    ensures { MatchOption result.1 (words_of line.now ≡ result.0.now ∷ [])
+        (λ rest. words_of line.now ≡ result.0.now ∷ words_of rest.now) }
 {
     match line.iter().position(|byte| *byte == b' ') {
         Some(i) => (&line[..i], Some(&line[i + 1..])),
