@@ -1,0 +1,81 @@
+//! The values that stand in a key map: the records of directories and files, and the blocks of files.
+//! The layers above may use that each record has one spelling, and what a block may be.
+#![tactic(auto)]
+
+ghost use Rattle.std.specs.Prelude.{◌≡◌, ◌↔◌, ◌≤◌, length, Some, IsTrue};
+ghost use Rattle.bd_wire.specs.Writing.{Puts, room};
+ghost use Rattle.bd_records.specs.Records.{IsRecord, IsBlock, IsReadAs, IsLenReadAs, record_bytes};
+
+use bd_wire::{Cursor, Out};
+
+pub mod laws;
+
+/// The most bytes that a file may have, 2^30.
+pub const MAX_FILE_LEN: u32 = 1 << 30;
+
+/// The most bytes that a block stores.
+pub const MAX_BLOCK_LEN: usize = 1024;
+
+// The first byte of a directory's record, `D`.
+const DIR_TAG: u8 = 0x44;
+
+// The first byte of a file's record, `F`.
+const FILE_TAG: u8 = 0x46;
+
+/// What the record of a path says.
+#[derive(Clone, Copy, Debug, PartialEq, Eq)]
+pub enum Record {
+    /// A directory.
+    Dir,
+    /// A file with its length in bytes, at most 2^30.
+    File(u32),
+}
+
+/// The record that these bytes spell, all of them. It is `None` exactly where they spell none.
+pub fn read_record(bytes: &[u8]) -> Option<Record>
+    ensures { IsReadAs bytes.now result }
+{
+    match bytes {
+        [DIR_TAG] => Some(Record::Dir),
+        [FILE_TAG, len @ ..] => Some(Record::File(read_len(len)?)),
+        _ => None,
+    }
+}
+
+// The length of a file that these four bytes spell.
+#[tactic(auto, using(crate::proofs::Lengths::lengths))]
+fn read_len(bytes: &[u8]) -> Option<u32>
+    ensures { IsLenReadAs bytes.now result }
+{
+    let mut cursor = Cursor::new(bytes);
+    match cursor.u32() {
+        Ok(len) if len <= MAX_FILE_LEN && cursor.left().is_empty() => Some(len),
+        _ => None,
+    }
+}
+
+/// Writes a record.
+#[tactic(auto, using(bd_wire::specs::Writing::writing))]
+pub fn write_record(entry: &Record, out: &mut Out)
+    requires length { IsRecord entry.now }
+    requires room { length (record_bytes entry.now) ≤ length (room out.old) }
+    ensures { Puts out.old out.new (record_bytes entry.now) }
+{
+    match *entry {
+        Record::Dir => out.put_u8(DIR_TAG),
+        Record::File(len) => {
+            out.put_u8(FILE_TAG);
+            out.put_u32(len);
+        }
+    }
+}
+
+/// Whether these bytes can be those of a block: 1 to 1,024 of them.
+pub fn is_block(bytes: &[u8]) -> bool
+    ensures { IsTrue result ↔ IsBlock bytes.now }
+{
+    !bytes.is_empty() && bytes.len() <= MAX_BLOCK_LEN
+}
+
+#[cfg(test)]
+mod tests;
