@@ -141,22 +141,25 @@ goes_on xs zs = by_bytes (GoesOn xs (open_line xs)) none (λ ys b h. more ys b h
       whole = ap whole_lines (append-nil xs) ∙ sym (append-nil (whole_lines xs)) ∙ ap (λ l. whole_lines xs ++ l) (sym (ap whole_lines (append-nil (open_line xs)) ∙ whole_lines-none (open_line xs) (no_newline-open_line xs)));
       rest = ap open_line (append-nil xs) ∙ sym (ap open_line (append-nil (open_line xs)) ∙ open_line-none (open_line xs) (no_newline-open_line xs));
     }
+
     newline : (ys : List ℕ) → GoesOn xs (open_line xs) ys → GoesOn xs (open_line xs) (ys ++ 10 ∷ [])
     newline ys h = record {
       whole = ap whole_lines (sym (append_assoc xs ys (10 ∷ []))) ∙ whole_lines-newline (xs ++ ys)
-        ∙ ap (λ l. l ++ open_line (xs ++ ys) ∷ []) h.whole ∙ ap (λ l. (whole_lines xs ++ whole_lines (open_line xs ++ ys)) ++ l ∷ []) h.rest
-        ∙ append_assoc (whole_lines xs) (whole_lines (open_line xs ++ ys)) (open_line (open_line xs ++ ys) ∷ [])
-        ∙ ap (λ l. whole_lines xs ++ l) (sym (ap whole_lines (sym (append_assoc (open_line xs) ys (10 ∷ []))) ∙ whole_lines-newline (open_line xs ++ ys)));
+          ∙ ap (λ l. l ++ open_line (xs ++ ys) ∷ []) h.whole ∙ ap (λ l. (whole_lines xs ++ whole_lines (open_line xs ++ ys)) ++ l ∷ []) h.rest
+          ∙ append_assoc (whole_lines xs) (whole_lines (open_line xs ++ ys)) (open_line (open_line xs ++ ys) ∷ [])
+          ∙ ap (λ l. whole_lines xs ++ l) (sym (ap whole_lines (sym (append_assoc (open_line xs) ys (10 ∷ []))) ∙ whole_lines-newline (open_line xs ++ ys)));
       rest = ap open_line (sym (append_assoc xs ys (10 ∷ []))) ∙ open_line-newline (xs ++ ys)
-        ∙ sym (ap open_line (sym (append_assoc (open_line xs) ys (10 ∷ []))) ∙ open_line-newline (open_line xs ++ ys));
+          ∙ sym (ap open_line (sym (append_assoc (open_line xs) ys (10 ∷ []))) ∙ open_line-newline (open_line xs ++ ys));
     }
+
     byte : (ys : List ℕ) (b : ℕ) → nat_eq b 10 ≡ false → GoesOn xs (open_line xs) ys → GoesOn xs (open_line xs) (ys ++ b ∷ [])
     byte ys b e h = record {
       whole = ap whole_lines (sym (append_assoc xs ys (b ∷ []))) ∙ whole_lines-byte (xs ++ ys) b e ∙ h.whole
-        ∙ ap (λ l. whole_lines xs ++ l) (sym (ap whole_lines (sym (append_assoc (open_line xs) ys (b ∷ []))) ∙ whole_lines-byte (open_line xs ++ ys) b e));
+          ∙ ap (λ l. whole_lines xs ++ l) (sym (ap whole_lines (sym (append_assoc (open_line xs) ys (b ∷ []))) ∙ whole_lines-byte (open_line xs ++ ys) b e));
       rest = ap open_line (sym (append_assoc xs ys (b ∷ []))) ∙ open_line-byte (xs ++ ys) b e ∙ ap (λ l. l ++ b ∷ []) h.rest
-        ∙ sym (ap open_line (sym (append_assoc (open_line xs) ys (b ∷ []))) ∙ open_line-byte (open_line xs ++ ys) b e);
+          ∙ sym (ap open_line (sym (append_assoc (open_line xs) ys (b ∷ []))) ∙ open_line-byte (open_line xs ++ ys) b e);
     }
+
     more : (ys : List ℕ) (b : ℕ) → GoesOn xs (open_line xs) ys → (t : Bool) → nat_eq b 10 ≡ t → GoesOn xs (open_line xs) (ys ++ b ∷ [])
     more ys b h true e = subst (λ n. GoesOn xs (open_line xs) (ys ++ n ∷ [])) (sym (eqb-true b 10 e)) (newline ys h)
     more ys b h false e = byte ys b e h
@@ -209,8 +212,8 @@ held-append xs zs = by (nat_le (length xs) 8193) refl
 alike_newline : (xs ys zs : List ℕ) → GoAlike xs ys zs → GoAlike xs ys (zs ++ 10 ∷ [])
 alike_newline xs ys zs h = record {
   meanings = side xs ∙ ap (λ l. l ++ line_of (open_line (xs ++ zs)) ∷ []) h.meanings
-    ∙ ap (λ l. map line_of (whole_lines (ys ++ zs)) ++ l ∷ []) (sym (line_of-held (open_line (xs ++ zs))) ∙ ap line_of h.rest ∙ line_of-held (open_line (ys ++ zs)))
-    ∙ sym (side ys);
+      ∙ ap (λ l. map line_of (whole_lines (ys ++ zs)) ++ l ∷ []) (sym (line_of-held (open_line (xs ++ zs))) ∙ ap line_of h.rest ∙ line_of-held (open_line (ys ++ zs)))
+      ∙ sym (side ys);
   rest = ap held (ap open_line (sym (append_assoc xs zs (10 ∷ []))) ∙ open_line-newline (xs ++ zs) ∙ sym (ap open_line (sym (append_assoc ys zs (10 ∷ []))) ∙ open_line-newline (ys ++ zs)));
 }
   where
@@ -225,6 +228,7 @@ alike_byte xs ys zs b e h = record {
   where
     side : (ws : List ℕ) → whole_lines (ws ++ (zs ++ b ∷ [])) ≡ whole_lines (ws ++ zs)
     side ws = ap whole_lines (sym (append_assoc ws zs (b ∷ []))) ∙ whole_lines-byte (ws ++ zs) b e
+
     stands : (ws : List ℕ) → open_line (ws ++ (zs ++ b ∷ [])) ≡ open_line (ws ++ zs) ++ b ∷ []
     stands ws = ap open_line (sym (append_assoc ws zs (b ∷ []))) ∙ open_line-byte (ws ++ zs) b e
 
@@ -240,6 +244,7 @@ held_goes_on xs zs = by_bytes (GoAlike (held (open_line xs)) (open_line xs)) non
           meanings = ap (map line_of) (ap whole_lines (append-nil (held (open_line xs))) ∙ whole_lines-none (held (open_line xs)) cut ∙ sym (ap whole_lines (append-nil (open_line xs)) ∙ whole_lines-none (open_line xs) plain));
           rest = ap held (ap open_line (append-nil (held (open_line xs))) ∙ open_line-none (held (open_line xs)) cut) ∙ ap held (sym (append-nil (held (open_line xs)))) ∙ held-append (open_line xs) [] ∙ ap held (append-nil (open_line xs)) ∙ ap held (sym (ap open_line (append-nil (open_line xs)) ∙ open_line-none (open_line xs) plain));
         }
+
     more : (ys : List ℕ) (b : ℕ) → GoAlike (held (open_line xs)) (open_line xs) ys → (t : Bool) → nat_eq b 10 ≡ t → GoAlike (held (open_line xs)) (open_line xs) (ys ++ b ∷ [])
     more ys b h true e = subst (λ n. GoAlike (held (open_line xs)) (open_line xs) (ys ++ n ∷ [])) (sym (eqb-true b 10 e)) (alike_newline (held (open_line xs)) (open_line xs) ys h)
     more ys b h false e = alike_byte (held (open_line xs)) (open_line xs) ys b e h

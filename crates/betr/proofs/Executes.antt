@@ -69,7 +69,7 @@ executes_more p q r ls ms a b = record {
   tree = tree_after-append p.tree a.entries b.entries ∙ ap (λ t. tree_after t b.entries) a.tree ∙ b.tree;
   count = omega (arith, accepted_in-append a.entries b.entries, a.count, b.count);
   written = b.written ∙ ap (λ w. append_known w (text b.entries)) a.written ∙ sym (append_known-append p.written (text a.entries) (text b.entries))
-    ∙ ap (append_known p.written) (sym (text-append a.entries b.entries));
+      ∙ ap (append_known p.written) (sym (text-append a.entries b.entries));
 }
 
 pub IsFront-append : {A : Type 0} (xs ys zs : List A) → IsFront ys zs → IsFront (xs ++ ys) (xs ++ zs)
@@ -82,7 +82,7 @@ falters_more p q ls ms n w a b = record {
   lines_are = subst (λ l. IsFront l (ls ++ ms)) (ap (λ l. l ++ executed_lines b.entries) (sym a.lines_are) ∙ sym (executed_lines-append a.entries b.entries)) (IsFront-append ls (executed_lines b.entries) ms b.lines_are);
   count_is = omega (arith, accepted_in-append a.entries b.entries, a.count, b.count_is);
   written_is = b.written_is ∙ ap (λ v. append_known v (text b.entries)) a.written ∙ sym (append_known-append p.written (text a.entries) (text b.entries))
-    ∙ ap (append_known p.written) (sym (text-append a.entries b.entries));
+      ∙ ap (append_known p.written) (sym (text-append a.entries b.entries));
 }
 
 cut_more : (p q : Point) (ls ms : List ScriptLine) (w : Option (List ℕ)) → Executes p ls q → IsCutShort q ms w → IsCutShort p (ls ++ ms) w
@@ -95,8 +95,8 @@ cut_more p q ls ms w a b =
       transcript = subst (IsTranscript p.tree) (sym joined) (IsTranscript-append p.tree a.entries all a.transcript (subst (λ t. IsTranscript t all) (sym a.tree) b.transcript));
       lines_are = subst (λ l. IsFront l (ls ++ ms)) (ap (λ l. l ++ executed_lines all) (sym a.lines_are) ∙ sym (executed_lines-append a.entries all) ∙ ap executed_lines (sym joined)) (IsFront-append ls (executed_lines all) ms b.lines_are);
       part = subst (λ v. WrotePart (reply_line b.last.reply) v w)
-        (ap (λ v. append_known v (text b.entries)) a.written ∙ sym (append_known-append p.written (text a.entries) (text b.entries)) ∙ ap (append_known p.written) (sym (text-append a.entries b.entries)))
-        b.part;
+          (ap (λ v. append_known v (text b.entries)) a.written ∙ sym (append_known-append p.written (text a.entries) (text b.entries)) ∙ ap (append_known p.written) (sym (text-append a.entries b.entries)))
+          b.part;
     }
 
 -- some lines, and then a fault
@@ -113,9 +113,11 @@ IsFront-trans xs ys zs h g = (h.0 ++ g.0, g.1 ∙ ap (λ l. l ++ g.0) h.1 ∙ ap
 
 falters_front : (p : Point) (ls ms : List ScriptLine) (n : ℕ) (w : Option (List ℕ)) → IsFront ls ms → Falters p ls n w → Falters p ms n w
 falters_front p ls ms n w h f = record {
-  entries = f.entries; transcript = f.transcript;
+  entries = f.entries;
+  transcript = f.transcript;
   lines_are = IsFront-trans (executed_lines f.entries) ls ms f.lines_are h;
-  count_is = f.count_is; written_is = f.written_is;
+  count_is = f.count_is;
+  written_is = f.written_is;
 }
 
 -- of fewer lines, and so of more
@@ -126,7 +128,9 @@ leaves_front Memory p ls ms w h b = (b.0, falters_front p ls ms b.0 w h b.1)
 leaves_front TooLong p ls ms w h b = (b.0, falters_front p ls ms b.0 w h b.1)
 leaves_front (Worn which) p ls ms w h b = (b.0, falters_front p ls ms b.0 w h b.1, b.2, b.3)
 leaves_front Sink p ls ms w h b = record {
-  entries = b.entries; last = b.last; transcript = b.transcript;
+  entries = b.entries;
+  last = b.last;
+  transcript = b.transcript;
   lines_are = IsFront-trans (executed_lines (b.entries ++ b.last ∷ [])) ls ms b.lines_are h;
   part = b.part;
 }
@@ -134,8 +138,11 @@ leaves_front Sink p ls ms w h b = record {
 -- nothing was executed
 pub leaves_none : (p : Point) (ls : List ScriptLine) → Falters p ls p.count p.written
 leaves_none p ls = record {
-  entries = []; transcript = tt; lines_are = (ls, refl);
-  count_is = omega arith; written_is = sym (append_known-nil p.written);
+  entries = [];
+  transcript = tt;
+  lines_are = (ls, refl);
+  count_is = omega arith;
+  written_is = sym (append_known-nil p.written);
 }
 
 -- a fault before the reply
@@ -152,6 +159,9 @@ pub cut_one : (p : Point) (t : Tree) (l : ScriptLine) (r : Reply) (w : Option (L
 cut_one p t l r w f part =
     let e : Executed = record { line = l; reply = r; tree = t } in
     record {
-      entries = []; last = e; transcript = (f, tt); lines_are = ([], refl);
+      entries = [];
+      last = e;
+      transcript = (f, tt);
+      lines_are = ([], refl);
       part = subst (λ v. WrotePart (reply_line r) v w) (sym (append_known-nil p.written)) part;
     }

@@ -42,6 +42,7 @@ up_to_stop-lines_at b line = by (nat_eq b 10)
     one : (s : Bool) → line_of line ∷ cond s [] [] ≡ line_of line ∷ []
     one true = refl
     one false = refl
+
     by : (t : Bool) → up_to_stop (cond t (line_of line ∷ []) []) ≡ cond t (line_of line ∷ []) []
     by true = one (is_stop (line_of line))
     by false = refl
@@ -65,20 +66,21 @@ pub record At (line piece : List ℕ) (i : ℕ) (b : ℕ) : Type 0 where
 pub at_byte : (line piece : List ℕ) (i : ℕ) → i < length piece → At line piece i (get_or piece i 0)
 at_byte line piece i h =
     let next : line ++ take (i + 1) piece ≡ (line ++ take i piece) ++ get_or piece i 0 ∷ [] =
-      ap (λ l. line ++ l) (take_more piece i 0 h) ∙ sym (append_assoc line (take i piece) (get_or piece i 0 ∷ [])) in
+    ap (λ l. line ++ l) (take_more piece i 0 h) ∙ sym (append_assoc line (take i piece) (get_or piece i 0 ∷ [])) in
     record {
       next = next;
       all = ap (λ l. line ++ l) (sym (take-append-drop (i + 1) piece)) ∙ sym (append_assoc line (take (i + 1) piece) (drop (i + 1) piece))
-        ∙ ap (λ l. l ++ drop (i + 1) piece) next;
+          ∙ ap (λ l. l ++ drop (i + 1) piece) next;
     }
 
 -- the meanings of all the bytes begin with those of a front and of the next byte
 pub meanings_front : (fed rest : List ℕ) (b : ℕ) → (more : List ScriptLine) × (meanings ((fed ++ b ∷ []) ++ rest) ≡ (meanings fed ++ lines_at b (held (open_line fed))) ++ more)
-meanings_front fed rest b =
-    (meanings (open_line (fed ++ b ∷ []) ++ rest),
-     ap (map line_of) (whole_lines-more (fed ++ b ∷ []) rest)
-     ∙ map-append line_of (whole_lines (fed ++ b ∷ [])) (whole_lines (open_line (fed ++ b ∷ []) ++ rest))
-     ∙ ap (λ l. l ++ meanings (open_line (fed ++ b ∷ []) ++ rest)) (meanings-byte fed b))
+meanings_front fed rest b = (
+  meanings (open_line (fed ++ b ∷ []) ++ rest),
+  ap (map line_of) (whole_lines-more (fed ++ b ∷ []) rest)
+      ∙ map-append line_of (whole_lines (fed ++ b ∷ [])) (whole_lines (open_line (fed ++ b ∷ []) ++ rest))
+      ∙ ap (λ l. l ++ meanings (open_line (fed ++ b ∷ []) ++ rest)) (meanings-byte fed b),
+)
 
 -- a byte whose line isn't `stop`
 pub record GoesOnBy (p r : Point) (fed : List ℕ) : Type 0 where
@@ -112,8 +114,8 @@ stops_by p q r fed line rest all b is h x e whole =
     let lines : meanings all ≡ (meanings fed ++ lines_at b line) ++ front.0 = ap meanings whole ∙ front.1 ∙ ap (λ l. (meanings fed ++ lines_at b l) ++ front.0) (sym is) in
     let some : list_any is_stop (meanings fed ++ lines_at b line) ≡ true = list_any-append is_stop (meanings fed) (lines_at b line) ∙ either_true _ _ e in
     let upto : up_to_stop (meanings all) ≡ meanings fed ++ lines_at b line =
-      ap up_to_stop lines ∙ up_to_stop-stopped (meanings fed ++ lines_at b line) front.0 some ∙ up_to_stop-append (meanings fed) (lines_at b line) h.no_stop
-      ∙ ap (λ l. meanings fed ++ l) (up_to_stop-lines_at b line) in
+    ap up_to_stop lines ∙ up_to_stop-stopped (meanings fed ++ lines_at b line) front.0 some ∙ up_to_stop-append (meanings fed) (lines_at b line) h.no_stop
+    ∙ ap (λ l. meanings fed ++ l) (up_to_stop-lines_at b line) in
     record {
       executed = subst (λ l. Executes p l r) (sym upto) (executes_more p q r (meanings fed) (lines_at b line) h.executed x);
       stop = ap (list_any is_stop) lines ∙ list_any-append is_stop (meanings fed ++ lines_at b line) front.0 ∙ first_true _ _ some;
@@ -132,10 +134,10 @@ fails_by e p q fed line rest all b w is h x whole =
     let front = meanings_front fed rest b in
     let lines : meanings all ≡ (meanings fed ++ lines_at b line) ++ front.0 = ap meanings whole ∙ front.1 ∙ ap (λ l. (meanings fed ++ lines_at b l) ++ front.0) (sym is) in
     let upto : up_to_stop (meanings fed ++ lines_at b line) ≡ meanings fed ++ lines_at b line =
-      up_to_stop-append (meanings fed) (lines_at b line) h.no_stop ∙ ap (λ l. meanings fed ++ l) (up_to_stop-lines_at b line) in
+    up_to_stop-append (meanings fed) (lines_at b line) h.no_stop ∙ ap (λ l. meanings fed ++ l) (up_to_stop-lines_at b line) in
     leaves_front e p (meanings fed ++ lines_at b line) (up_to_stop (meanings all)) w
-      (subst (λ l. IsFront l (up_to_stop (meanings all))) upto (subst (λ l. IsFront (up_to_stop (meanings fed ++ lines_at b line)) (up_to_stop l)) (sym lines) (up_to_stop_front (meanings fed ++ lines_at b line) front.0)))
-      (leaves_more e p q (meanings fed) (lines_at b line) w h.executed x)
+    (subst (λ l. IsFront l (up_to_stop (meanings all))) upto (subst (λ l. IsFront (up_to_stop (meanings fed ++ lines_at b line)) (up_to_stop l)) (sym lines) (up_to_stop_front (meanings fed ++ lines_at b line) front.0)))
+    (leaves_more e p q (meanings fed) (lines_at b line) w h.executed x)
 
 -- at the end of a piece all its lines were executed
 pub ends_by : (p r : Point) (line piece : List ℕ) (i : ℕ) → length piece ≤ i → GoesOnBy p r (line ++ take i piece) → GoesOnBy p r (line ++ piece)
@@ -143,6 +145,7 @@ ends_by p r line piece i h g = subst (λ l. GoesOnBy p r (line ++ l)) (take_all 
 
 -- a held line alone has no whole line
 pub no_meanings : (line : List ℕ) → IsHeld line → (meanings (line ++ []) ≡ []) × (held (open_line (line ++ [])) ≡ line)
-no_meanings line h =
-    (ap meanings (append-nil line) ∙ ap (map line_of) (whole_lines-none line h.plain),
-     ap (λ l. held (open_line l)) (append-nil line) ∙ ap held (open_line-none line h.plain) ∙ held_short line h.short)
+no_meanings line h = (
+  ap meanings (append-nil line) ∙ ap (map line_of) (whole_lines-none line h.plain),
+  ap (λ l. held (open_line l)) (append-nil line) ∙ ap held (open_line-none line h.plain) ∙ held_short line h.short,
+)

@@ -38,7 +38,9 @@ prepend_known-append xs ys (Some zs) = ap (λ l. Some l) (sym (append_assoc xs y
 -- nothing was taken yet
 pub stands_first : (p : Point) (script : Option (List ℕ)) → Stands p p [] 0 script script
 stands_first p script = record {
-  bytes = []; count = refl; few = omega arith;
+  bytes = [];
+  count = refl;
+  few = omega arith;
   taken_is = sym (prepend_known-nil script);
   on = record { executed = executes_none p; no_stop = refl };
   line_is = refl;
@@ -85,11 +87,12 @@ stands_more p q r line line2 piece taken script mid rest s fits got x none is =
 -- the meanings of a script's lines begin with those of a front of it
 lines_front : (front rest : List ℕ) → (more : List ScriptLine) × (map line_of (lines_of (front ++ rest)) ≡ meanings front ++ more)
 lines_front front rest =
-    let last = cond (is_empty (open_line (front ++ rest))) [] (open_line (front ++ rest) ∷ []) in
-    (meanings (open_line front ++ rest) ++ map line_of last,
-     map-append line_of (whole_lines (front ++ rest)) last
-     ∙ ap (λ l. l ++ map line_of last) (ap (map line_of) (whole_lines-more front rest) ∙ map-append line_of (whole_lines front) (whole_lines (open_line front ++ rest)))
-     ∙ append_assoc (meanings front) (meanings (open_line front ++ rest)) (map line_of last))
+    let last = cond (is_empty (open_line (front ++ rest))) [] (open_line (front ++ rest) ∷ []) in (
+      meanings (open_line front ++ rest) ++ map line_of last,
+      map-append line_of (whole_lines (front ++ rest)) last
+          ∙ ap (λ l. l ++ map line_of last) (ap (map line_of) (whole_lines-more front rest) ∙ map-append line_of (whole_lines front) (whole_lines (open_line front ++ rest)))
+          ∙ append_assoc (meanings front) (meanings (open_line front ++ rest)) (map line_of last),
+    )
 
 either_true : (a b : Bool) → b ≡ true → (a || b) ≡ true
 either_true true b e = refl
@@ -153,7 +156,7 @@ last_lines-map (b ∷ line) = refl
 run_ended : (bytes line : List ℕ) → line ≡ held (open_line bytes) → list_any is_stop (meanings bytes) ≡ false → lines_to_run bytes ≡ meanings bytes ++ last_lines line
 run_ended bytes line is none =
     let last : map line_of (cond (is_empty (open_line bytes)) [] (open_line bytes ∷ [])) ≡ last_lines line =
-      last_lines-map (open_line bytes) ∙ sym (last_lines-held (open_line bytes)) ∙ ap last_lines (sym is) in
+    last_lines-map (open_line bytes) ∙ sym (last_lines-held (open_line bytes)) ∙ ap last_lines (sym is) in
     ap up_to_stop (map-append line_of (whole_lines bytes) (cond (is_empty (open_line bytes)) [] (open_line bytes ∷ [])) ∙ ap (λ l. meanings bytes ++ l) last)
     ∙ up_to_stop-append (meanings bytes) (last_lines line) none ∙ ap (λ l. meanings bytes ++ l) (up_to_stop-last_lines line)
 
@@ -174,7 +177,7 @@ finishes_ended p q r line taken script rest s end x =
       taken_is = s.taken_is;
       few = omega (arith, s.count, s.few);
       lines_are = known lines_to_run (executed_lines all.entries) s.bytes script rest s.taken_is
-        (λ more e. all.lines_are ∙ sym (run_ended s.bytes line s.line_is s.on.no_stop) ∙ ap lines_to_run (sym (ap (λ l. s.bytes ++ l) (end_is rest end more e) ∙ append-nil s.bytes)));
+          (λ more e. all.lines_are ∙ sym (run_ended s.bytes line s.line_is s.on.no_stop) ∙ ap lines_to_run (sym (ap (λ l. s.bytes ++ l) (end_is rest end more e) ∙ append-nil s.bytes)));
       no_more = record { before = s.bytes; piece = []; taken_is = sym (append-nil s.bytes); short = omega arith; no_stop = s.on.no_stop };
     }
 
@@ -216,50 +219,57 @@ ends_fed e before now p q line piece taken script mid rest written s fits got f 
     let is = s.taken_is ∙ ap (prepend_known s.bytes) got ∙ prepend_known-append s.bytes piece rest in
     let lines = meanings-more s.bytes piece line s.line_is in
     ends_among e before now p script rest written f
-      (among e p (meanings s.bytes ++ up_to_stop (meanings (line ++ piece))) (s.bytes ++ piece) script rest written is
-        (omega (arith, length-append s.bytes piece, s.count))
-        (λ more _. let front = lines_front (s.bytes ++ piece) more in
-          subst (λ ls. IsFront (meanings s.bytes ++ up_to_stop (meanings (line ++ piece))) (up_to_stop ls)) (sym front.1)
-            (subst (λ ls. IsFront ls (up_to_stop (meanings (s.bytes ++ piece) ++ front.0)))
-              (ap up_to_stop lines ∙ up_to_stop-append (meanings s.bytes) (meanings (line ++ piece)) s.on.no_stop)
-              (up_to_stop_front (meanings (s.bytes ++ piece)) front.0)))
-        (leaves_more e p q (meanings s.bytes) (up_to_stop (meanings (line ++ piece))) written s.on.executed l))
+    (among e p (meanings s.bytes ++ up_to_stop (meanings (line ++ piece))) (s.bytes ++ piece) script rest written is
+    (omega (arith, length-append s.bytes piece, s.count))
+    (λ more _. let front = lines_front (s.bytes ++ piece) more in
+    subst (λ ls. IsFront (meanings s.bytes ++ up_to_stop (meanings (line ++ piece))) (up_to_stop ls)) (sym front.1)
+    (subst (λ ls. IsFront ls (up_to_stop (meanings (s.bytes ++ piece) ++ front.0)))
+    (ap up_to_stop lines ∙ up_to_stop-append (meanings s.bytes) (meanings (line ++ piece)) s.on.no_stop)
+    (up_to_stop_front (meanings (s.bytes ++ piece)) front.0)))
+    (leaves_more e p q (meanings s.bytes) (up_to_stop (meanings (line ++ piece))) written s.on.executed l))
 
 -- a fault in the last line
 pub ends_last : (e : Fault) (before now : ℕ) (p q : Point) (line : List ℕ) (taken : ℕ) (script rest written : Option (List ℕ)) → Stands p q line taken script rest → IsAtEnd rest
     → IsShellFault e before now → Leaves e q (last_lines line) written → Ends e p script rest written
 ends_last e before now p q line taken script rest written s end f l =
     ends_among e before now p script rest written f
-      (among e p (meanings s.bytes ++ last_lines line) s.bytes script rest written s.taken_is
-        (omega (arith, s.count, s.few))
-        (λ more x. ([], sym (append-nil _ ∙ sym (run_ended s.bytes line s.line_is s.on.no_stop) ∙ ap lines_to_run (sym (ap (λ l. s.bytes ++ l) (end_is rest end more x) ∙ append-nil s.bytes)))))
-        (leaves_more e p q (meanings s.bytes) (last_lines line) written s.on.executed l))
+    (among e p (meanings s.bytes ++ last_lines line) s.bytes script rest written s.taken_is
+    (omega (arith, s.count, s.few))
+    (λ more x. ([], sym (append-nil _ ∙ sym (run_ended s.bytes line s.line_is s.on.no_stop) ∙ ap lines_to_run (sym (ap (λ l. s.bytes ++ l) (end_is rest end more x) ∙ append-nil s.bytes)))))
+    (leaves_more e p q (meanings s.bytes) (last_lines line) written s.on.executed l))
 
 -- the source's fault
 pub ends_source : (p q : Point) (line : List ℕ) (taken : ℕ) (script rest : Option (List ℕ)) → Stands p q line taken script rest → Ends Source p script rest q.written
-ends_source p q line taken script rest s =
-    (s.bytes, omega (arith, s.count, s.few), record {
-      entries = s.on.executed.entries;
-      transcript = s.on.executed.transcript;
-      written_is = s.on.executed.written;
-      taken_is = s.taken_is ∙ ap (λ l. prepend_known l rest) (sym (append-nil s.bytes));
-      lines_are = s.on.executed.lines_are;
-      no_stop = ap (list_any is_stop) s.on.executed.lines_are ∙ s.on.no_stop;
-    })
+ends_source p q line taken script rest s = (
+  s.bytes,
+  omega (arith, s.count, s.few),
+  record {
+    entries = s.on.executed.entries;
+    transcript = s.on.executed.transcript;
+    written_is = s.on.executed.written;
+    taken_is = s.taken_is ∙ ap (λ l. prepend_known l rest) (sym (append-nil s.bytes));
+    lines_are = s.on.executed.lines_are;
+    no_stop = ap (list_any is_stop) s.on.executed.lines_are ∙ s.on.no_stop;
+  },
+)
 
 -- a byte past the limit
 pub ends_too_long : (p q : Point) (line piece : List ℕ) (taken : ℕ) (script mid rest : Option (List ℕ)) → Stands p q line taken script mid → taken ≡ script_limit
     → 0 < length piece → mid ≡ prepend_known (take 1 piece) rest → Ends TooLong p script rest q.written
 ends_too_long p q line piece taken script mid rest s full some got =
-    let one : take 1 piece ≡ get_or piece 0 0 ∷ [] = take_more piece 0 0 some in
-    (s.bytes, get_or piece 0 0, s.count ∙ full, record {
-      entries = s.on.executed.entries;
-      transcript = s.on.executed.transcript;
-      written_is = s.on.executed.written;
-      taken_is = s.taken_is ∙ ap (prepend_known s.bytes) (got ∙ ap (λ l. prepend_known l rest) one) ∙ prepend_known-append s.bytes (get_or piece 0 0 ∷ []) rest;
-      lines_are = s.on.executed.lines_are;
-      no_stop = ap (list_any is_stop) s.on.executed.lines_are ∙ s.on.no_stop;
-    })
+    let one : take 1 piece ≡ get_or piece 0 0 ∷ [] = take_more piece 0 0 some in (
+      s.bytes,
+      get_or piece 0 0,
+      s.count ∙ full,
+      record {
+        entries = s.on.executed.entries;
+        transcript = s.on.executed.transcript;
+        written_is = s.on.executed.written;
+        taken_is = s.taken_is ∙ ap (prepend_known s.bytes) (got ∙ ap (λ l. prepend_known l rest) one) ∙ prepend_known-append s.bytes (get_or piece 0 0 ∷ []) rest;
+        lines_are = s.on.executed.lines_are;
+        no_stop = ap (list_any is_stop) s.on.executed.lines_are ∙ s.on.no_stop;
+      },
+    )
 
 -- two facts about an error, if there is one
 pub err_both : {T E : Type 0} {P Q R : E → Type 0} (r : Result T E) → ((e : E) → P e → Q e → R e) → IfErr r P → IfErr r Q → IfErr r R

@@ -64,7 +64,7 @@ pub fn run<D: Attach, S: Source, K: Sink>(
     // Any other status with right words is that of a fault, which has left the script's lines as it says, and has its cause.
     ensures faulted { IsSome (image_of (map string_bytes words.now)) → result.status ≢ 0 → (fault : Fault) × (result.status ≡ status_of fault)
         × EndsBy fault (S.left src.old) (S.left src.new) (K.written sink.old) (K.written sink.new)
-            (faults (D.fault_count dev.old) (S.fault_count src.old) (K.fault_count sink.old)) (faults (D.fault_count dev.new) (S.fault_count src.new) (K.fault_count sink.new)) }
+        (faults (D.fault_count dev.old) (S.fault_count src.old) (K.fault_count sink.old)) (faults (D.fault_count dev.new) (S.fault_count src.new) (K.fault_count sink.new)) }
 
     // Refused words touch neither the device nor the source.
     ensures refused { (result.status ≡ 2) ↔ IsNone (image_of (map string_bytes words.now)) }

@@ -157,7 +157,12 @@ impl<D: Device + Drop> Shell<D> {
 
     /// Takes the next bytes of a script, up to a `stop`: each line that they make whole is executed. At a fault
     /// the lines before it were executed.
-    pub fn feed<K: Sink>(&mut self, alloc: Global, piece: &[u8], sink: &mut K) -> Result<Flow, Fault>
+    pub fn feed<K: Sink>(
+        &mut self,
+        alloc: Global,
+        piece: &[u8],
+        sink: &mut K,
+    ) -> Result<Flow, Fault>
         requires { IsHeld self.old.line.items }
         ensures ok { OnOk result (Executes (point_of self.old.volume (K.written sink.old)) (up_to_stop (meanings (self.old.line.items ++ piece.now))) (point_of self.new.volume (K.written sink.new))) }
         ensures flow { IfOk result (λ flow. stops flow ≡ list_any is_stop (meanings (self.old.line.items ++ piece.now))) }

@@ -75,7 +75,10 @@ fn first_rows_give_their_replies(rt: HostRuntime) -> Result<(), Fail> {
             b"mkdir /a/b\nmkdir /\ncreate /f\nmkdir /f/x\nmkdir /f/x/y\ncreate /f\n",
             "no 3 no-parent\nno 2 exists\nok\nno 4 not-dir\nno 3 no-parent\nno 2 exists\n",
         ),
-        (b"mkdir  /a\n\nmkdir /a", "no 10 bad-line\nno 10 bad-line\nok\n"),
+        (
+            b"mkdir  /a\n\nmkdir /a",
+            "no 10 bad-line\nno 10 bad-line\nok\n",
+        ),
         (b"mkdir /a\nstop\nmkdir /b\n", "ok\nok\n"),
     ];
     for (script, replies) in rows {
@@ -115,8 +118,20 @@ fn each_failing_call_ends_the_run(rt: HostRuntime) -> Result<(), Fail> {
         (5, 0, 0, 5, "ok\nok\nfault source\n"),
         (6, 0, 0, 5, "ok\nok\nok dir\nfault source\n"),
         (7, 0, 0, 5, "ok\nok\nok dir\nok file 0\nfault source\n"),
-        (8, 0, 0, 5, "ok\nok\nok dir\nok file 0\nno 1 not-found\nfault source\n"),
-        (9, 0, 0, 0, "ok\nok\nok dir\nok file 0\nno 1 not-found\nok\n"),
+        (
+            8,
+            0,
+            0,
+            5,
+            "ok\nok\nok dir\nok file 0\nno 1 not-found\nfault source\n",
+        ),
+        (
+            9,
+            0,
+            0,
+            0,
+            "ok\nok\nok dir\nok file 0\nno 1 not-found\nok\n",
+        ),
         (0, 1, 0, 9, ""),
         (0, 2, 0, 9, "ok\n"),
         (0, 3, 0, 9, "ok\nok\n"),

@@ -21,8 +21,8 @@ pieces-preserved g c =
     let p = point_of c.args.shell.now.volume (g.K.Sink.written c.args.sink.now) in
     let r = point_of c.feed.new.self.volume (g.K.Sink.written c.feed.new.sink) in
     let more : Stands p r c.feed.new.self.line.items (c.pieces.taken + length piece) (g.S.Source.left c.args.src.now) (g.S.Source.left c.next_piece.new.src) =
-      stands_more p _ r c.pieces.shell.line.items c.feed.new.self.line.items piece c.pieces.taken _ _ _ c.pieces.invariant.stands
-        (omega (arith, got.2, long)) got.3 c.in-Ok-Continue.ensures.ok (sym c.in-Ok-Continue.ensures.flow ∙ ap stops c.in-Ok-Continue.field-0-is) (c.in-Ok-Continue.ensures.line (ap stops c.in-Ok-Continue.field-0-is)) in
+    stands_more p _ r c.pieces.shell.line.items c.feed.new.self.line.items piece c.pieces.taken _ _ _ c.pieces.invariant.stands
+    (omega (arith, got.2, long)) got.3 c.in-Ok-Continue.ensures.ok (sym c.in-Ok-Continue.ensures.flow ∙ ap stops c.in-Ok-Continue.field-0-is) (c.in-Ok-Continue.ensures.line (ap stops c.in-Ok-Continue.field-0-is)) in
     record {
       stands = subst (λ n. Stands p r c.feed.new.self.line.items (c.pieces.taken + n) (g.S.Source.left c.args.src.now) (g.S.Source.left c.next_piece.new.src)) long more;
       source_later = omega (arith, c.pieces.invariant.source_later, c.in-Ok-Piece.ensures.cause.later);
@@ -36,7 +36,7 @@ returns-in-Ok-Stop-clause-ok g c =
     let got = subst (λ t. Takes t c.pieces.taken c.next_piece.new.piece (g.S.Source.left c.pieces.src) (g.S.Source.left c.next_piece.new.src)) c.in-Ok-Piece.field-0-is c.in-Ok-Piece.ensures.ok in
     let long : length piece ≡ size = length-take-le size c.next_piece.new.piece (omega (arith, got.1, c.next_piece.array_long)) in
     finishes_stopped (point_of c.args.shell.now.volume (g.K.Sink.written c.args.sink.now)) _ (point_of c.feed.new.self.volume (g.K.Sink.written c.feed.new.sink)) c.pieces.shell.line.items piece c.pieces.taken _ _ _ c.pieces.invariant.stands
-      (omega (arith, got.1, long)) (omega (arith, got.2, long)) got.3 c.in-Ok-Stop.ensures.ok (sym c.in-Ok-Stop.ensures.flow ∙ ap stops c.in-Ok-Stop.field-0-is)
+    (omega (arith, got.1, long)) (omega (arith, got.2, long)) got.3 c.in-Ok-Stop.ensures.ok (sym c.in-Ok-Stop.ensures.flow ∙ ap stops c.in-Ok-Stop.field-0-is)
 
 pub returns-in-Err-feed-clause-err : goal.returns-in-Err-feed-clause-err
 returns-in-Err-feed-clause-err g c =
@@ -44,7 +44,7 @@ returns-in-Err-feed-clause-err g c =
     let got = subst (λ t. Takes t c.pieces.taken c.next_piece.new.piece (g.S.Source.left c.pieces.src) (g.S.Source.left c.next_piece.new.src)) c.in-Ok-Piece.field-0-is c.in-Ok-Piece.ensures.ok in
     let long : length (take size c.next_piece.new.piece) ≡ size = length-take-le size c.next_piece.new.piece (omega (arith, got.1, c.next_piece.array_long)) in
     ends_fed c.in-Err-feed.fault (g.K.Sink.fault_count c.pieces.sink) (g.K.Sink.fault_count c.feed.new.sink) (point_of c.args.shell.now.volume (g.K.Sink.written c.args.sink.now)) _ c.pieces.shell.line.items (take size c.next_piece.new.piece) c.pieces.taken _ _ _ _ c.pieces.invariant.stands
-      (omega (arith, got.2, long)) got.3 c.in-Err-feed.ensures.cause.fault c.in-Err-feed.ensures.err
+    (omega (arith, got.2, long)) got.3 c.in-Err-feed.ensures.cause.fault c.in-Err-feed.ensures.err
 
 pub returns-in-Ok-End-clause-ok : goal.returns-in-Ok-End-clause-ok
 returns-in-Ok-End-clause-ok g c =
@@ -53,8 +53,8 @@ returns-in-Ok-End-clause-ok g c =
     let q = point_of c.pieces.shell.volume (g.K.Sink.written c.pieces.sink) in
     let stands = subst (λ rest. Stands p q c.pieces.shell.line.items c.pieces.taken (g.S.Source.left c.args.src.now) rest) (sym got.1) c.pieces.invariant.stands in
     on_ok_weaker c.finish.result
-      (λ x. finishes_ended p q (point_of c.finish.new.self.volume (g.K.Sink.written c.finish.new.sink)) c.pieces.shell.line.items c.pieces.taken (g.S.Source.left c.args.src.now) (g.S.Source.left c.next_piece.new.src) stands (subst IsAtEnd (sym got.1) got.0) x)
-      c.finish.ensures.ok
+    (λ x. finishes_ended p q (point_of c.finish.new.self.volume (g.K.Sink.written c.finish.new.sink)) c.pieces.shell.line.items c.pieces.taken (g.S.Source.left c.args.src.now) (g.S.Source.left c.next_piece.new.src) stands (subst IsAtEnd (sym got.1) got.0) x)
+    c.finish.ensures.ok
 
 pub returns-in-Ok-End-clause-err : goal.returns-in-Ok-End-clause-err
 returns-in-Ok-End-clause-err g c =
@@ -63,11 +63,11 @@ returns-in-Ok-End-clause-err g c =
     let q = point_of c.pieces.shell.volume (g.K.Sink.written c.pieces.sink) in
     let stands = subst (λ rest. Stands p q c.pieces.shell.line.items c.pieces.taken (g.S.Source.left c.args.src.now) rest) (sym got.1) c.pieces.invariant.stands in
     err_both c.finish.result
-      (λ e f l. ends_last e (g.K.Sink.fault_count c.pieces.sink) (g.K.Sink.fault_count c.finish.new.sink) p q c.pieces.shell.line.items c.pieces.taken (g.S.Source.left c.args.src.now) (g.S.Source.left c.next_piece.new.src) (g.K.Sink.written c.finish.new.sink) stands (subst IsAtEnd (sym got.1) got.0) f l)
-      c.finish.ensures.cause.fault c.finish.ensures.err
+    (λ e f l. ends_last e (g.K.Sink.fault_count c.pieces.sink) (g.K.Sink.fault_count c.finish.new.sink) p q c.pieces.shell.line.items c.pieces.taken (g.S.Source.left c.args.src.now) (g.S.Source.left c.next_piece.new.src) (g.K.Sink.written c.finish.new.sink) stands (subst IsAtEnd (sym got.1) got.0) f l)
+    c.finish.ensures.cause.fault c.finish.ensures.err
 
 pub returns-in-Ok-TooLong-clause-err : goal.returns-in-Ok-TooLong-clause-err
 returns-in-Ok-TooLong-clause-err g c =
     let got = subst (λ t. Takes t c.pieces.taken c.next_piece.new.piece (g.S.Source.left c.pieces.src) (g.S.Source.left c.next_piece.new.src)) c.in-Ok-TooLong.field-0-is c.in-Ok-TooLong.ensures.ok in
     ends_too_long (point_of c.args.shell.now.volume (g.K.Sink.written c.args.sink.now)) (point_of c.pieces.shell.volume (g.K.Sink.written c.pieces.sink)) c.pieces.shell.line.items c.next_piece.new.piece c.pieces.taken _ _ _ c.pieces.invariant.stands
-      got.0 (omega (arith, c.next_piece.array_long)) got.1
+    got.0 (omega (arith, c.next_piece.array_long)) got.1

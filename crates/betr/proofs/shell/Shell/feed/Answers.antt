@@ -33,24 +33,24 @@ returns-in-Ok-Stop-clause-ok g c =
     let line = c.args.self.now.line.items in
     let i = c.loop-byte.byte-index in
     (stops_by (point_of c.args.self.now.volume (g.K.Sink.written c.args.sink.now)) _ _ (line ++ take i c.args.piece.now) c.loop-byte.self.line.items (drop (i + 1) c.args.piece.now) (line ++ c.args.piece.now) (get_or c.args.piece.now i 0)
-      c.loop-byte.invariant.line (record { executed = c.loop-byte.invariant.executed; no_stop = c.loop-byte.invariant.no_stop })
-      c.in-Ok-Stop.ensures.ok (sym c.in-Ok-Stop.ensures.flow ∙ ap stops c.in-Ok-Stop.field-0-is) (at_byte line c.args.piece.now i c.loop-byte-test.true).all).executed
+    c.loop-byte.invariant.line (record { executed = c.loop-byte.invariant.executed; no_stop = c.loop-byte.invariant.no_stop })
+    c.in-Ok-Stop.ensures.ok (sym c.in-Ok-Stop.ensures.flow ∙ ap stops c.in-Ok-Stop.field-0-is) (at_byte line c.args.piece.now i c.loop-byte-test.true).all).executed
 
 pub returns-in-Ok-Stop-clause-flow : goal.returns-in-Ok-Stop-clause-flow
 returns-in-Ok-Stop-clause-flow g c =
     let line = c.args.self.now.line.items in
     let i = c.loop-byte.byte-index in
     sym (stops_by (point_of c.args.self.now.volume (g.K.Sink.written c.args.sink.now)) _ _ (line ++ take i c.args.piece.now) c.loop-byte.self.line.items (drop (i + 1) c.args.piece.now) (line ++ c.args.piece.now) (get_or c.args.piece.now i 0)
-      c.loop-byte.invariant.line (record { executed = c.loop-byte.invariant.executed; no_stop = c.loop-byte.invariant.no_stop })
-      c.in-Ok-Stop.ensures.ok (sym c.in-Ok-Stop.ensures.flow ∙ ap stops c.in-Ok-Stop.field-0-is) (at_byte line c.args.piece.now i c.loop-byte-test.true).all).stop
+    c.loop-byte.invariant.line (record { executed = c.loop-byte.invariant.executed; no_stop = c.loop-byte.invariant.no_stop })
+    c.in-Ok-Stop.ensures.ok (sym c.in-Ok-Stop.ensures.flow ∙ ap stops c.in-Ok-Stop.field-0-is) (at_byte line c.args.piece.now i c.loop-byte-test.true).all).stop
 
 pub returns-in-Err-clause-err : goal.returns-in-Err-clause-err
 returns-in-Err-clause-err g c =
     let line = c.args.self.now.line.items in
     let i = c.loop-byte.byte-index in
     fails_by c.in-Err.fault (point_of c.args.self.now.volume (g.K.Sink.written c.args.sink.now)) _ (line ++ take i c.args.piece.now) c.loop-byte.self.line.items (drop (i + 1) c.args.piece.now) (line ++ c.args.piece.now) (get_or c.args.piece.now i 0) _
-      c.loop-byte.invariant.line (record { executed = c.loop-byte.invariant.executed; no_stop = c.loop-byte.invariant.no_stop })
-      c.in-Err.ensures.err (at_byte line c.args.piece.now i c.loop-byte-test.true).all
+    c.loop-byte.invariant.line (record { executed = c.loop-byte.invariant.executed; no_stop = c.loop-byte.invariant.no_stop })
+    c.in-Err.ensures.err (at_byte line c.args.piece.now i c.loop-byte-test.true).all
 
 pub loop-byte-preserved : goal.loop-byte-preserved
 loop-byte-preserved g c =
@@ -60,8 +60,8 @@ loop-byte-preserved g c =
     let b = get_or c.args.piece.now i 0 in
     let at = at_byte line c.args.piece.now i c.loop-byte-test.true in
     let on = goes_on_by (point_of c.args.self.now.volume (g.K.Sink.written c.args.sink.now)) _ _ fed c.loop-byte.self.line.items b
-      c.loop-byte.invariant.line (record { executed = c.loop-byte.invariant.executed; no_stop = c.loop-byte.invariant.no_stop })
-      c.in-Ok-Continue.ensures.ok (sym c.in-Ok-Continue.ensures.flow ∙ ap stops c.in-Ok-Continue.field-0-is) in
+    c.loop-byte.invariant.line (record { executed = c.loop-byte.invariant.executed; no_stop = c.loop-byte.invariant.no_stop })
+    c.in-Ok-Continue.ensures.ok (sym c.in-Ok-Continue.ensures.flow ∙ ap stops c.in-Ok-Continue.field-0-is) in
     record {
       executed = subst (λ l. Executes (point_of c.args.self.now.volume (g.K.Sink.written c.args.sink.now)) (meanings l) (point_of c.feed_byte.new.self.volume (g.K.Sink.written c.feed_byte.new.sink))) (sym at.next) on.executed;
       no_stop = ap (λ l. list_any is_stop (meanings l)) at.next ∙ on.no_stop;
