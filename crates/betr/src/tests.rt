@@ -10,6 +10,7 @@ use std::test::Fail;
 const FIRST: &[u8] = b"mkdir /a\ncreate /a/f\nstat /a\nstat /a/f\nstat /a/g\nstop\nstat /\n";
 
 /// A sink that counts bytes and keeps the last piece.
+#[derive(Drop)]
 struct LastPiece {
     bytes: u64,
     piece: Vec<u8>,

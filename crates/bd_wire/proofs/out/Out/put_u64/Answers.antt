@@ -1,4 +1,4 @@
-use Rattle.std.proofs.Common.{refl, length}
+use Rattle.std.proofs.Common.{refl}
 use Rattle.std.specs.Int.{w64}
 use Rattle.bd_wire.specs.Numbers.{be}
 use Rattle.bd_wire.proofs.Put.{take-put_at, drop-put_at}
