@@ -5,6 +5,8 @@
 mod fault;
 mod outcome;
 mod row;
+#[cfg(test)]
+mod rows;
 mod run;
 mod session;
 mod shell;
