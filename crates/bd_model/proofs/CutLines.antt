@@ -1,13 +1,13 @@
 -- How the lines of a script grow with its bytes.
-use Rattle.std.proofs.Common.{◌≡◌, ◌≢◌, ℕ, ◌+◌, ◌<◌, ◌≤◌, Bool, true, false, cond, List, [], ◌∷◌, ◌++◌, length, take, refl, sym, ap, subst, ◌∙◌, append_assoc, nat_eq, arith, eqb-true, leb-true, leb-false}
-use Rattle.std.specs.List.{slice_split, onto_first, list_any, list_all, All}
-use Rattle.std.specs.Prelude.{map, nat_le, ltb, leb, ◌&&◌, not}
+use Rattle.std.proofs.Common.{◌≡◌, ℕ, ◌<◌, ◌≤◌, Bool, true, false, cond, List, [], ◌∷◌, ◌++◌, length, refl, sym, ap, subst, ◌∙◌, append_assoc, nat_eq, arith, eqb-true, leb-true, leb-false}
+use Rattle.std.specs.List.{onto_first, list_any, All}
+use Rattle.std.specs.Prelude.{map, nat_le, ◌&&◌, not}
 use Rattle.std.proofs.lemmas.List.{append-nil, map-append, take_all, length-take, length-take-le, take-append-le}
 use Rattle.std.proofs.lemmas.List.Elements.{All-take, All-append, All-nil, All-cons}
 use Rattle.std.proofs.lemmas.Bool.{lt-leb}
 use Rattle.std.proofs.lemmas.List.Splits.{slice_split_none}
 use Rattle.bd_names.specs.Names.{same_text}
-use Rattle.bd_model.specs.Lines.{ScriptLine, BadLine, verbs_there, first_word, words_of, full_line_of, line_of_words, line_of, held, pieces, all_but_last, last_piece, whole_lines, open_line, lines_of, is_empty}
+use Rattle.bd_model.specs.Lines.{ScriptLine, BadLine, verbs_there, first_word, words_of, line_of_words, line_of, held, pieces, all_but_last, last_piece, whole_lines, open_line, is_empty}
 
 -- a byte behind the last of some pieces
 abbrev pub onto_last : List (List ℕ) → ℕ → List (List ℕ)

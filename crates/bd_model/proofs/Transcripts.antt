@@ -1,11 +1,10 @@
 -- Transcripts put together.
-use Rattle.std.proofs.Common.{◌≡◌, ℕ, ◌+◌, Bool, true, false, cond, List, [], ◌∷◌, ◌++◌, refl, sym, ap, subst, ◌∙◌, append_assoc}
-use Rattle.std.specs.List.{list_any, flat_map}
-use Rattle.std.specs.Prelude.{map, ◌||◌}
+use Rattle.std.proofs.Common.{◌≡◌, Bool, true, false, cond, List, [], ◌∷◌, ◌++◌, refl, ap}
+use Rattle.std.specs.List.{list_any}
+use Rattle.std.specs.Prelude.{◌||◌}
 use Rattle.bd_model.specs.Tree.{Tree}
 use Rattle.bd_model.specs.Lines.{ScriptLine}
-use Rattle.bd_model.specs.Replies.{reply_line}
-use Rattle.bd_model.specs.Transcript.{Executed, IsTranscript, Follows, tree_after, text, is_stop, up_to_stop}
+use Rattle.bd_model.specs.Transcript.{Executed, IsTranscript, tree_after, is_stop, up_to_stop}
 
 -- a transcript, and one from the tree behind it
 pub IsTranscript-append : (t : Tree) (es fs : List Executed) → IsTranscript t es → IsTranscript (tree_after t es) fs → IsTranscript t (es ++ fs)

@@ -5,9 +5,9 @@ use Rattle.bd_command.specs.Command.{accepted}
 use Rattle.bd_command.specs.declared.refusal.Refusal.TheVariants as refusal
 use Rattle.bd_command.specs.declared.reply.Reply.{Reply}
 use Rattle.bd_command.specs.declared.reply.Reply.TheVariants.{Done, Refused}
-use Rattle.bd_model.specs.Tree.{Tree, root_only}
-use Rattle.bd_model.specs.Step.{step, refusal_of}
-use Rattle.bd_model.specs.Lines.{ScriptLine, Run, Sync, Checkpoint, Reclaim, Df, Walk, Stop, BadLine, BadPath, line_of, lines_of, whole_lines}
+use Rattle.bd_model.specs.Tree.{Tree}
+use Rattle.bd_model.specs.Step.{step}
+use Rattle.bd_model.specs.Lines.{ScriptLine, Run, Sync, Checkpoint, Reclaim, Df, Walk, Stop, BadLine, BadPath}
 use Rattle.bd_model.specs.Replies.{reply_line}
 
 -- an executed line, its reply, and the tree after it
