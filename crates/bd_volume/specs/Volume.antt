@@ -1,9 +1,5 @@
 -- What a volume stands for.
-use Rattle.std.specs.Prelude.{ℕ, ◌+◌, Bool, true, false, ◌&&◌, if◌then◌else◌}
-use Rattle.bd_command.specs.Command.{writes}
-use Rattle.bd_command.specs.declared.Command.{Command}
-use Rattle.bd_command.specs.declared.reply.Reply.{Reply}
-use Rattle.bd_command.specs.declared.reply.Reply.TheVariants.{Done, Bytes, Dir, File, Names, Refused}
+use Rattle.std.specs.Prelude.{ℕ}
 use Rattle.bd_model.specs.Tree.{Tree}
 use Rattle.bd_volume.specs.declared.Volume.{Volume}
 
