@@ -1,5 +1,5 @@
 -- How the lines of some bytes are executed, byte by byte.
-use Rattle.std.proofs.Common.{◌≡◌, ℕ, ◌+◌, ◌<◌, ◌≤◌, Bool, true, false, cond, List, [], ◌∷◌, ◌++◌, length, take, drop, get_or, refl, sym, ap, subst, ◌∙◌, append_assoc, arith, nat_eq}
+use Rattle.std.proofs.Common.{◌≡◌, ℕ, ◌+◌, ◌<◌, ◌≤◌, Bool, true, false, cond, List, [], ◌∷◌, ◌++◌, length, take, drop, get_or, refl, sym, ap, subst, ◌∙◌, append_assoc, nat_eq}
 use Rattle.std.specs.Prelude.{Option, map, ◌||◌}
 use Rattle.std.specs.List.{list_any}
 use Rattle.std.proofs.lemmas.List.{map-append, append-nil, take_more, take-append-drop, take_all}
@@ -8,7 +8,7 @@ use Rattle.std.proofs.lemmas.Bool.{eqb-true}
 use Rattle.bd_model.specs.Lines.{ScriptLine, line_of, whole_lines, open_line, held}
 use Rattle.bd_model.specs.Transcript.{is_stop, up_to_stop, IsFront}
 use Rattle.bd_model.proofs.CutLines.{whole_lines-newline, whole_lines-byte, open_line-newline, open_line-byte, whole_lines-more, line_of-held, held-append, whole_lines-none, open_line-none, held_short, IsHeld}
-use Rattle.bd_model.proofs.Transcripts.{up_to_stop-none, up_to_stop-stopped, up_to_stop-append}
+use Rattle.bd_model.proofs.Transcripts.{up_to_stop-stopped, up_to_stop-append}
 use Rattle.betr.specs.declared.fault.Fault.{Fault}
 use Rattle.betr.specs.Session.{Point, Executes, Leaves}
 use Rattle.betr.specs.Shell.{meanings, lines_at, line_after}

@@ -1,19 +1,16 @@
 -- How a whole run begins and ends.
-use Rattle.std.proofs.Common.{◌≡◌, ◌≢◌, ℕ, ◌+◌, ◌<◌, ◌≤◌, List, [], ◌∷◌, ◌++◌, length, refl, sym, ap, subst, ◌∙◌, arith, inl, inr, length-append}
-use Rattle.std.specs.Prelude.{Option, IfSome, IfErr, Result, ⊤, ◌⊎◌, IsSomeAnd}
+use Rattle.std.proofs.Common.{◌≡◌, ◌≢◌, ℕ, ◌≤◌, List, [], ◌∷◌, ◌++◌, length, refl, subst, arith, inl, inr, length-append}
+use Rattle.std.specs.Prelude.{Option, IfErr, Result, ◌⊎◌, IsSomeAnd}
 use Rattle.std.specs.declared.option.Option.TheVariants.{None, Some}
 use Rattle.std.specs.declared.result.Result.TheVariants.{Ok, Err}
-use Rattle.std.specs.Io.KnownBytes.{prepend_known, append_known}
+use Rattle.std.specs.Io.KnownBytes.{prepend_known}
 use Rattle.bd_io.specs.Cause.{Rose}
-use Rattle.bd_io.specs.Written.{WrotePart}
-use Rattle.bd_message.specs.declared.fault.Counter.TheVariants.{Count}
-use Rattle.bd_model.specs.Tree.{Tree, root_only}
 use Rattle.bd_model.specs.Lines.{ScriptLine}
 use Rattle.betr.specs.declared.fault.Fault.{Fault}
 use Rattle.betr.specs.declared.fault.Fault.TheVariants.{Device, Source, Memory, TooLong, Worn, Sink}
 use Rattle.betr.specs.declared.shell.Shell.{Shell}
 use Rattle.betr.specs.Fault.{HasCauseIn, status_of}
-use Rattle.betr.specs.Session.{Point, Leaves, lines_to_run, script_limit, EndsAmong, Ends}
+use Rattle.betr.specs.Session.{Leaves, lines_to_run, script_limit, EndsAmong, Ends}
 use Rattle.betr.specs.Shell.{point_of, IsAtStart}
 use Rattle.betr.specs.Run.{start_point, Faults, faults, HasCauseInRun, EndsBy, IsFaultless}
 use Rattle.betr.proofs.Executes.{leaves_none}

@@ -1,21 +1,21 @@
 -- How the lines of a script are executed, piece by piece.
-use Rattle.std.proofs.Common.{◌≡◌, ℕ, ◌+◌, ◌<◌, ◌≤◌, Bool, true, false, cond, List, [], ◌∷◌, ◌++◌, length, take, drop, get_or, refl, sym, ap, subst, ◌∙◌, append_assoc, arith, nat_eq, length-append}
-use Rattle.std.specs.Prelude.{Option, map, ◌||◌, IfSome, IfErr, Result, ⊤}
+use Rattle.std.proofs.Common.{◌≡◌, ℕ, ◌+◌, ◌<◌, ◌≤◌, Bool, true, false, cond, List, [], ◌∷◌, ◌++◌, length, take, get_or, refl, sym, ap, subst, ◌∙◌, append_assoc, arith, length-append}
+use Rattle.std.specs.Prelude.{Option, map, ◌||◌, IfSome, IfErr, Result}
 use Rattle.std.specs.declared.option.Option.TheVariants.{None, Some}
 use Rattle.std.specs.declared.result.Result.TheVariants.{Ok, Err}
 use Rattle.std.specs.List.{list_any}
 use Rattle.std.specs.Io.KnownBytes.{prepend_known, IsAtEnd}
-use Rattle.std.proofs.lemmas.List.{map-append, append-nil, take_more, length-take, take_all}
+use Rattle.std.proofs.lemmas.List.{map-append, append-nil, take_more}
 use Rattle.std.proofs.lemmas.List.Folds.{list_any-append}
 use Rattle.bd_model.specs.Lines.{ScriptLine, line_of, lines_of, whole_lines, open_line, held, is_empty}
-use Rattle.bd_model.specs.Transcript.{is_stop, up_to_stop, IsFront, executed_lines, text}
+use Rattle.bd_model.specs.Transcript.{is_stop, up_to_stop, IsFront, executed_lines}
 use Rattle.bd_model.proofs.CutLines.{whole_lines-more, open_line-more, held_goes_on, line_of-held, IsHeld, held_is_held}
 use Rattle.bd_model.proofs.Transcripts.{up_to_stop-none, up_to_stop-stopped, up_to_stop-append}
 use Rattle.betr.specs.declared.fault.Fault.{Fault}
 use Rattle.betr.specs.declared.fault.Fault.TheVariants.{Device, Source, Memory, TooLong, Worn, Sink}
-use Rattle.betr.specs.Session.{Point, Executes, Leaves, lines_to_run, script_limit, TakesNoMore, Finishes, EndsWithin, EndsAmong, Ends}
+use Rattle.betr.specs.Session.{Point, Executes, Leaves, lines_to_run, script_limit, Finishes, EndsAmong, Ends}
 use Rattle.betr.specs.Shell.{meanings, last_lines, IsShellFault}
-use Rattle.betr.proofs.Executes.{executes_none, executes_more, leaves_more, leaves_front, IsFront-append}
+use Rattle.betr.proofs.Executes.{executes_none, executes_more, leaves_more, leaves_front}
 use Rattle.betr.proofs.Feeding.{GoesOnBy, up_to_stop_front}
 
 -- where a session stands in a script: what was taken, and what of its last line stands open

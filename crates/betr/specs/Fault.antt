@@ -1,5 +1,5 @@
 -- The faults that end a run.
-use Rattle.std.specs.Prelude.{ℕ, ◌+◌, ◌^◌, ◌≤◌, List, [], ◌∷◌, ◌++◌, codes, ⊤}
+use Rattle.std.specs.Prelude.{ℕ, List, [], ◌∷◌, ◌++◌, codes, ⊤}
 use Rattle.bd_io.specs.Cause.{Rose}
 use Rattle.bd_message.specs.declared.fault.Counter.{Counter}
 use Rattle.bd_message.specs.declared.fault.Counter.TheVariants.{Count, NextId, Level, Refs, Epoch, Flushes}

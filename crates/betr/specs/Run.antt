@@ -1,5 +1,5 @@
 -- What a whole run says of its device, source and sink.
-use Rattle.std.specs.Prelude.{◌≡◌, ◌≢◌, ℕ, ◌+◌, ◌^◌, ◌≤◌, ◌<◌, ◌⊎◌, List, [], ◌∷◌, length, Option, Result, IfErr, IsSomeAnd, IsSome, ⊤}
+use Rattle.std.specs.Prelude.{◌≡◌, ℕ, ◌≤◌, ◌⊎◌, List, length, Option, Result, IfErr, IsSomeAnd, IsSome, ⊤}
 use Rattle.std.specs.Io.KnownBytes.{append_known}
 use Rattle.bd_io.specs.Cause.{Rose}
 use Rattle.bd_io.specs.Written.{WrotePart}

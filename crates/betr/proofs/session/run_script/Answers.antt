@@ -1,9 +1,8 @@
 -- Each piece goes on from those before it, and each way out ends as the script or the fault does.
-use Rattle.std.proofs.Common.{◌≡◌, ◌≤◌, ◌<◌, ◌+◌, ◌++◌, length, take, sym, ap, subst, ◌∙◌, arith, ℕ}
+use Rattle.std.proofs.Common.{◌≡◌, ◌+◌, length, take, sym, ap, subst, ◌∙◌, arith}
 use Rattle.std.proofs.lemmas.List.{length-take-le}
 use Rattle.std.proofs.lemmas.Result.{on_ok_weaker}
-use Rattle.betr.specs.Session.{script_limit, Ends}
-use Rattle.betr.specs.Shell.{point_of, stops, IsShellFault, last_lines}
+use Rattle.betr.specs.Shell.{point_of, stops}
 use Rattle.std.specs.Io.KnownBytes.{IsAtEnd}
 use Rattle.betr.specs.Taken.{Takes}
 use Rattle.betr.proofs.Scripts.{Stands, stands_held, stands_more, finishes_stopped, finishes_ended, ends_fed, ends_last, ends_too_long, err_both}

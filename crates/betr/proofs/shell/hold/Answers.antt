@@ -1,5 +1,5 @@
 -- A byte more is held where there is room, and else no byte.
-use Rattle.std.proofs.Common.{◌≡◌, ◌≤◌, ◌++◌, ◌∷◌, [], length, ℕ, sym, ◌∙◌, arith, length-append}
+use Rattle.std.proofs.Common.{◌++◌, ◌∷◌, [], sym, ◌∙◌, arith, length-append}
 use Rattle.bd_model.proofs.CutLines.{held_short, held_full}
 use Rattle.betr.proofs.shell.hold.Goals as goal
 

@@ -1,15 +1,14 @@
 -- Each byte goes on from the lines before it, and the last one ends the piece.
-use Rattle.std.proofs.Common.{◌≡◌, ◌≤◌, ◌++◌, [], false, length, take, drop, get_or, ◌+◌, refl, sym, ap, subst, ◌∙◌, arith}
-use Rattle.std.proofs.lemmas.List.{append-nil, length-take}
+use Rattle.std.proofs.Common.{◌++◌, length, take, drop, get_or, ◌+◌, sym, ap, subst, ◌∙◌, arith}
 use Rattle.std.specs.List.{list_any}
 use Rattle.bd_model.specs.Lines.{held, open_line}
-use Rattle.bd_model.specs.Transcript.{is_stop, up_to_stop}
-use Rattle.bd_model.proofs.CutLines.{whole_lines-none, open_line-none, held_short, held_is_held}
+use Rattle.bd_model.specs.Transcript.{is_stop}
+use Rattle.bd_model.proofs.CutLines.{held_is_held}
 use Rattle.bd_model.proofs.Transcripts.{up_to_stop-none}
 use Rattle.betr.specs.Session.{Executes}
-use Rattle.betr.specs.Shell.{point_of, stops, meanings, lines_at, line_after}
+use Rattle.betr.specs.Shell.{point_of, stops, meanings, line_after}
 use Rattle.betr.proofs.Executes.{executes_none}
-use Rattle.betr.proofs.Feeding.{At, at_byte, GoesOnBy, goes_on_by, stops_by, fails_by, ends_by, open_line-line_after, no_meanings}
+use Rattle.betr.proofs.Feeding.{at_byte, goes_on_by, stops_by, fails_by, ends_by, open_line-line_after, no_meanings}
 use Rattle.betr.proofs.shell.Shell.feed.Goals as goal
 
 pub loop-byte-init : goal.loop-byte-init
