@@ -1,0 +1,3 @@
+mod Finds
+mod Nexts
+mod Views
