@@ -1,12 +1,8 @@
-ghost use Rattle.std.specs.Prelude.{◌≡◌, ◌≤◌, length, ◌++◌, ◌∷◌, IfOk, OnErr};
-ghost use Rattle.std.specs.Int.{w16, w64};
-ghost use Rattle.bd_wire.specs.Numbers.{be, FitsWidth};
-ghost use Rattle.bd_wire.specs.Reading.{Reads};
-ghost use Rattle.bd_wire.specs.Spelling.{BeginsNone};
-ghost use Rattle.bd_wire.specs.Text.{text16, FitsText16};
+ghost use Rattle.std.specs.Prelude.{◌≡◌, ◌≤◌, length, IfOk, OnErr};
+ghost use Rattle.std.specs.Option.{option_map};
 ghost use Rattle.bd_wire.specs.Writing.{Puts, room};
 ghost use Rattle.bd_message.specs.Messages.{IsMessage};
-ghost use Rattle.bd_message.specs.Codec.{message_bytes, IsReadAs};
+ghost use Rattle.bd_message.specs.Codec.{message_bytes, IsReadAs, IsSpeltAs, IsPartAs, FitsTexts, FitsPart, FitsGoto, spell_texts, spell_part, spell_goto};
 
 use crate::Message;
 use bd_keys::Bytes;
@@ -65,4 +61,108 @@ impl Message {
             }
         }
     }
+
+    /// Reads the message at the front of what is left. It is `None` exactly where none is spelt there,
+    /// and the cursor then stays.
+    pub fn read(alloc: Global, cursor: &mut Cursor) -> Result<Option<Message>, AllocError>
+        ensures read { IfOk result (λ found. IsReadAs cursor.old cursor.new found) }
+        ensures err { OnErr result (cursor.new ≡ cursor.old) }
+    {
+        let mut ahead = cursor.copy();
+        match spelt(alloc, &mut ahead)? {
+            Some(message) if message.is_message() => {
+                *cursor = ahead;
+                Ok(Some(message))
+            }
+            _ => Ok(None),
+        }
+    }
+}
+
+// Reads a message off the front, whatever the lengths of its parts.
+fn spelt(alloc: Global, ahead: &mut Cursor) -> Result<Option<Message>, AllocError>
+    ensures { IfOk result (λ found. IsSpeltAs ahead.old ahead.new found) }
+{
+    let Ok(tag) = ahead.u8() else {
+        return Ok(None);
+    };
+    match tag {
+        PUT => match texts(ahead) {
+            Some((key, value)) => Ok(Some(Message::Put {
+                key: Bytes::from_slice(alloc, key)?,
+                value: Bytes::from_slice(alloc, value)?,
+            })),
+            None => Ok(None),
+        },
+        DEL => match ahead.text16() {
+            Ok(key) => Ok(Some(Message::Del {
+                key: Bytes::from_slice(alloc, key)?,
+            })),
+            Err(_) => Ok(None),
+        },
+        PATCH => match part(ahead) {
+            Some((key, off, bytes)) => Ok(Some(Message::Patch {
+                key: Bytes::from_slice(alloc, key)?,
+                off,
+                bytes: Bytes::from_slice(alloc, bytes)?,
+            })),
+            None => Ok(None),
+        },
+        CUT => match texts(ahead) {
+            Some((prefix, from)) => Ok(Some(Message::Cut {
+                prefix: Bytes::from_slice(alloc, prefix)?,
+                from: Bytes::from_slice(alloc, from)?,
+            })),
+            None => Ok(None),
+        },
+        GOTO => match texts_and_child(ahead) {
+            Some((prefix, source, child)) => Ok(Some(Message::Goto {
+                prefix: Bytes::from_slice(alloc, prefix)?,
+                source: Bytes::from_slice(alloc, source)?,
+                child,
+            })),
+            None => Ok(None),
+        },
+        _ => Ok(None),
+    }
+}
+
+// Reads two texts.
+fn texts<'a>(ahead: &mut Cursor<'a>) -> Option<(&'a [u8], &'a [u8])>
+    ensures { IsPartAs FitsTexts spell_texts ahead.old ahead.new (option_map (λ p. (p.0.now, p.1.now)) result) }
+{
+    let Ok(first) = ahead.text16() else {
+        return None;
+    };
+    let Ok(second) = ahead.text16() else {
+        return None;
+    };
+    Some((first, second))
+}
+
+// Reads a text, an offset and a text.
+fn part<'a>(ahead: &mut Cursor<'a>) -> Option<(&'a [u8], u16, &'a [u8])>
+    ensures { IsPartAs FitsPart spell_part ahead.old ahead.new (option_map (λ p. ((p.0.now, p.1), p.2.now)) result) }
+{
+    let Ok(first) = ahead.text16() else {
+        return None;
+    };
+    let Ok(off) = ahead.u16() else {
+        return None;
+    };
+    let Ok(second) = ahead.text16() else {
+        return None;
+    };
+    Some((first, off, second))
+}
+
+// Reads two texts and a node's number.
+fn texts_and_child<'a>(ahead: &mut Cursor<'a>) -> Option<(&'a [u8], &'a [u8], u64)>
+    ensures { IsPartAs FitsGoto spell_goto ahead.old ahead.new (option_map (λ p. ((p.0.now, p.1.now), p.2)) result) }
+{
+    let (first, second) = texts(ahead)?;
+    let Ok(child) = ahead.u64() else {
+        return None;
+    };
+    Some((first, second, child))
 }

@@ -5,6 +5,7 @@
 mod codec;
 mod entries;
 mod fault;
+pub mod laws;
 mod list_map;
 mod map;
 mod message;

@@ -44,6 +44,16 @@ impl<'a> Cursor<'a> {
         Cursor { bytes, place: 0 }
     }
 
+    /// A second cursor at the same place.
+    pub fn copy(&self) -> Cursor<'a>
+        ensures { result ≡ self.now }
+    {
+        Cursor {
+            bytes: self.bytes,
+            place: self.place,
+        }
+    }
+
     /// The bytes that are left.
     pub fn left(&self) -> &'a [u8]
         ensures { result.now ≡ self.now.left }
@@ -119,6 +129,7 @@ impl<'a> Cursor<'a> {
     #[tactic(auto, unfolding(crate::specs::Text::text16, crate::specs::Numbers::be))]
     pub fn text16(&mut self) -> Result<&'a [u8], Short>
         ensures read { IfOk result (λ bytes. Reads self.old self.new (text16 bytes.now)) }
+        ensures fits { IfOk result (λ bytes. FitsText16 bytes.now) }
         ensures short { OnErr result (BeginsNone FitsText16 text16 self.old.left) }
         ensures at { IfErr result (λ short. short.at ≡ self.old.place) }
         ensures unmoved { OnErr result (self.new ≡ self.old) }
@@ -161,6 +172,7 @@ fn number64(bytes: &[u8]) -> u64
 #[tactic(auto, unfolding(crate::specs::Text::text16, crate::specs::Numbers::be))]
 fn first_text16<'a>(left: &'a [u8]) -> Option<&'a [u8]>
     ensures found { IfSome result (λ bytes. (rest : List ℕ) × (left.now ≡ text16 bytes.now ++ rest)) }
+    ensures fits { IfSome result (λ bytes. FitsText16 bytes.now) }
     ensures none { IfNone result (BeginsNone FitsText16 text16 left.now) }
 {
     let mut ahead = Cursor::new(left);

@@ -29,7 +29,7 @@ fn what_is_written_is_read_again(rt: HostRuntime) -> Result<(), Fail> {
     assert!(rt; cursor.rest_is_zero());
     assert!(rt; all_zero(cursor.left()));
     assert_eq!(rt; cursor.u64(), Err(Short { at: 20 }));
-    assert_eq!(rt; cursor.left().len(), 4);
+    assert_eq!(rt; cursor.copy().left().len(), 4);
     Ok(())
 }
 
