@@ -1,3 +1,4 @@
+use std::alloc::AllocError;
 use std::fmt;
 
 /// A kept counter, which may have to rise past its last value.
@@ -42,4 +43,15 @@ pub enum MapFault {
     Worn(Counter),
     /// There is no memory.
     NoMemory,
+}
+
+impl From<AllocError> for MapFault {
+    ghost use Rattle.std.specs.Prelude.{◌≡◌};
+    ghost use Rattle.bd_message.specs.declared.fault.MapFault.TheVariants.{NoMemory};
+
+    ghost from_gives = { λ _ fault. fault ≡ NoMemory };
+
+    fn from(_error: AllocError) -> MapFault {
+        MapFault::NoMemory
+    }
 }

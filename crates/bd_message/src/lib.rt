@@ -1,7 +1,19 @@
-//! What goes wrong in a key map, and the counters that may come to their end.
-//! The layers above use the types as they are.
+//! The messages that change a key map, their effect and their spellings, and the key map itself.
+//! The layers above use the effect of a message, and of a key map the contract of `KeyMap` alone.
 #![tactic(auto)]
 
+mod codec;
+mod entries;
 mod fault;
+pub mod laws;
+mod list_map;
+mod map;
+mod message;
 
 pub use fault::{Counter, MapFault};
+pub use list_map::ListMap;
+pub use map::KeyMap;
+pub use message::{MAX_KEY_LEN, MAX_VALUE_LEN, Message};
+
+#[cfg(test)]
+mod tests;

@@ -1,0 +1,4 @@
+mod Finds
+mod Nexts
+mod Spellings
+mod Views

@@ -1,0 +1,5 @@
+pub mod Codec
+pub mod Effect
+pub mod Entries
+pub mod KeyMaps
+pub mod Messages

@@ -1,0 +1,25 @@
+-- Messages: what they may hold, and how large they count.
+use Rattle.std.specs.Prelude.{ℕ, ◌+◌, ◌^◌, ◌<◌, ◌≤◌, List, length, ⊤}
+use Rattle.bd_message.specs.declared.message.Message.{Message}
+use Rattle.bd_message.specs.declared.message.Message.TheVariants.{Put, Del, Patch, Cut, Goto}
+
+-- a key has at most 518 bytes, and so has a prefix, a source, and a Cut's prefix and beginning in sum; a value has 1 to 1,024
+abbrev pub IsMessage : Message → Type 0
+IsMessage (Put key value) = (length key ≤ 518) × (1 ≤ length value) × (length value ≤ 1024)
+IsMessage (Del key) = length key ≤ 518
+IsMessage (Patch key off bytes) = (length key ≤ 518) × (1 ≤ length bytes) × (off + length bytes ≤ 1024)
+IsMessage (Cut prefix from) = length prefix + length from ≤ 518
+IsMessage (Goto prefix source child) = (length prefix ≤ 518) × (length source ≤ 518) × (1 ≤ child) × (child < 2 ^ 64)
+
+-- it names no node
+abbrev pub IsPlain : Message → Type 0
+IsPlain (Goto prefix source child) = ⊥
+IsPlain _ = Unit {0}
+
+-- how many bytes it counts in a buffer
+abbrev pub size : Message → ℕ
+size (Put key value) = 16 + length key + length value
+size (Del key) = 16 + length key
+size (Patch key off bytes) = 16 + length key + off + length bytes
+size (Cut prefix from) = 16 + length prefix + length from
+size (Goto prefix source child) = 16 + length prefix + length source

@@ -1,0 +1,168 @@
+ghost use Rattle.std.specs.Prelude.{◌≡◌, ◌≤◌, length, IfOk, OnErr};
+ghost use Rattle.std.specs.Option.{option_map};
+ghost use Rattle.bd_wire.specs.Writing.{Puts, room};
+ghost use Rattle.bd_message.specs.Messages.{IsMessage};
+ghost use Rattle.bd_message.specs.Codec.{message_bytes, IsReadAs, IsSpeltAs, IsPartAs, FitsTexts, FitsPart, FitsGoto, spell_texts, spell_part, spell_goto};
+
+use crate::Message;
+use bd_keys::Bytes;
+use bd_wire::{Cursor, Out};
+use std::alloc::{AllocError, Global};
+
+// The first byte of each message.
+const PUT: u8 = 1;
+
+const DEL: u8 = 2;
+
+const PATCH: u8 = 3;
+
+const CUT: u8 = 4;
+
+const GOTO: u8 = 5;
+
+impl Message {
+    /// Writes its spelling, which is never longer than its size.
+    #[tactic(auto, using(bd_wire::specs::Writing::writing))]
+    pub fn write(&self, out: &mut Out)
+        requires message { IsMessage self.now }
+        requires room { length (message_bytes self.now) ≤ length (room out.old) }
+        ensures { Puts out.old out.new (message_bytes self.now) }
+    {
+        match self {
+            Message::Put { key, value } => {
+                out.put_u8(PUT);
+                out.put_text16(key.as_slice());
+                out.put_text16(value.as_slice());
+            }
+            Message::Del { key } => {
+                out.put_u8(DEL);
+                out.put_text16(key.as_slice());
+            }
+            Message::Patch { key, off, bytes } => {
+                out.put_u8(PATCH);
+                out.put_text16(key.as_slice());
+                out.put_u16(*off);
+                out.put_text16(bytes.as_slice());
+            }
+            Message::Cut { prefix, from } => {
+                out.put_u8(CUT);
+                out.put_text16(prefix.as_slice());
+                out.put_text16(from.as_slice());
+            }
+            Message::Goto {
+                prefix,
+                source,
+                child,
+            } => {
+                out.put_u8(GOTO);
+                out.put_text16(prefix.as_slice());
+                out.put_text16(source.as_slice());
+                out.put_u64(*child);
+            }
+        }
+    }
+
+    /// Reads the message at the front of what is left. It is `None` exactly where none is spelt there,
+    /// and the cursor then stays.
+    pub fn read(alloc: Global, cursor: &mut Cursor) -> Result<Option<Message>, AllocError>
+        ensures read { IfOk result (λ found. IsReadAs cursor.old cursor.new found) }
+        ensures err { OnErr result (cursor.new ≡ cursor.old) }
+    {
+        let mut ahead = cursor.ahead();
+        match spelt(alloc, &mut ahead)? {
+            Some(message) if message.is_message() => {
+                *cursor = ahead;
+                Ok(Some(message))
+            }
+            _ => Ok(None),
+        }
+    }
+}
+
+// Reads a message off the front, whatever the lengths of its parts.
+fn spelt(alloc: Global, ahead: &mut Cursor) -> Result<Option<Message>, AllocError>
+    ensures { IfOk result (λ found. IsSpeltAs ahead.old ahead.new found) }
+{
+    let Ok(tag) = ahead.u8() else {
+        return Ok(None);
+    };
+    match tag {
+        PUT => match texts(ahead) {
+            Some((key, value)) => Ok(Some(Message::Put {
+                key: Bytes::from_slice(alloc, key)?,
+                value: Bytes::from_slice(alloc, value)?,
+            })),
+            None => Ok(None),
+        },
+        DEL => match ahead.text16() {
+            Ok(key) => Ok(Some(Message::Del {
+                key: Bytes::from_slice(alloc, key)?,
+            })),
+            Err(_) => Ok(None),
+        },
+        PATCH => match part(ahead) {
+            Some((key, off, bytes)) => Ok(Some(Message::Patch {
+                key: Bytes::from_slice(alloc, key)?,
+                off,
+                bytes: Bytes::from_slice(alloc, bytes)?,
+            })),
+            None => Ok(None),
+        },
+        CUT => match texts(ahead) {
+            Some((prefix, from)) => Ok(Some(Message::Cut {
+                prefix: Bytes::from_slice(alloc, prefix)?,
+                from: Bytes::from_slice(alloc, from)?,
+            })),
+            None => Ok(None),
+        },
+        GOTO => match texts_and_child(ahead) {
+            Some((prefix, source, child)) => Ok(Some(Message::Goto {
+                prefix: Bytes::from_slice(alloc, prefix)?,
+                source: Bytes::from_slice(alloc, source)?,
+                child,
+            })),
+            None => Ok(None),
+        },
+        _ => Ok(None),
+    }
+}
+
+// Reads two texts.
+fn texts<'a>(ahead: &mut Cursor<'a>) -> Option<(&'a [u8], &'a [u8])>
+    ensures { IsPartAs FitsTexts spell_texts ahead.old ahead.new (option_map (λ p. (p.0.now, p.1.now)) result) }
+{
+    let Ok(first) = ahead.text16() else {
+        return None;
+    };
+    let Ok(second) = ahead.text16() else {
+        return None;
+    };
+    Some((first, second))
+}
+
+// Reads a text, an offset and a text.
+fn part<'a>(ahead: &mut Cursor<'a>) -> Option<(&'a [u8], u16, &'a [u8])>
+    ensures { IsPartAs FitsPart spell_part ahead.old ahead.new (option_map (λ p. ((p.0.now, p.1), p.2.now)) result) }
+{
+    let Ok(first) = ahead.text16() else {
+        return None;
+    };
+    let Ok(off) = ahead.u16() else {
+        return None;
+    };
+    let Ok(second) = ahead.text16() else {
+        return None;
+    };
+    Some((first, off, second))
+}
+
+// Reads two texts and a node's number.
+fn texts_and_child<'a>(ahead: &mut Cursor<'a>) -> Option<(&'a [u8], &'a [u8], u64)>
+    ensures { IsPartAs FitsGoto spell_goto ahead.old ahead.new (option_map (λ p. ((p.0.now, p.1.now), p.2)) result) }
+{
+    let (first, second) = texts(ahead)?;
+    let Ok(child) = ahead.u64() else {
+        return None;
+    };
+    Some((first, second, child))
+}

@@ -1,0 +1,216 @@
+//! Keys with their values, in no order; the first one of a key counts.
+
+ghost use Rattle.std.specs.Prelude.{◌≡◌, ◌≤◌, ◌+◌, ◌++◌, ℕ, List, not, length, Some, All, IfOk, OnOk, OnErr, IsTrue, ◌↔◌, [], ◌∷◌};
+ghost use Rattle.std.specs.Option.{option_copied, unwrap_or};
+ghost use Rattle.std.specs.List.{filter, filter_map};
+ghost use Rattle.std.specs.FinMap as map;
+ghost use Rattle.bd_keys.specs.Keys.{key_cmp, IsFrom, Begins};
+ghost use Rattle.bd_message.specs.Effect.{act, acts, no_nodes, begins, is_cut, patched, same_key};
+ghost use Rattle.bd_message.specs.declared.message.Message.TheVariants as message;
+ghost use Rattle.bd_message.specs.Messages.{IsMessage, IsPlain};
+ghost use Rattle.bd_message.specs.KeyMaps.{IsNext, grafted};
+ghost use Rattle.bd_message.specs.Entries.{moved_entry, IsLesser};
+
+use crate::Message;
+use bd_keys::{Bytes, starts, translate};
+use std::alloc::{AllocError, Global};
+
+/// A key and its value.
+pub type Entry = (Bytes, Bytes);
+
+/// What stands at a key.
+pub fn find<'a>(entries: &'a [Entry], key: &[u8]) -> Option<&'a [u8]>
+    ensures { option_copied result ≡ map.find key_cmp key.now entries.now }
+{
+    for (at, value) in entries {
+        if at.as_slice() == key {
+            return Some(value.as_slice());
+        }
+    }
+    None
+}
+
+/// The same entries, once more.
+pub fn copy(alloc: Global, entries: &[Entry]) -> Result<Vec<Entry>, AllocError>
+    ensures { IfOk result (λ copy. copy.items ≡ entries.now) }
+{
+    let mut copy = Vec::new(alloc);
+    for (key, value) in entries {
+        copy.push((key.copy(alloc)?, value.copy(alloc)?))?;
+    }
+    Ok(copy)
+}
+
+/// Drops what stands at a key.
+fn remove(entries: &mut Vec<Entry>, key: &[u8])
+    ensures { entries.new.items ≡ filter (λ e. not (same_key e.0 key.now)) entries.old.items }
+{
+    entries.retain(|(at, _)| at.as_slice() != key);
+}
+
+/// Puts a value at a key, in place of what stands there.
+fn put(alloc: Global, entries: &mut Vec<Entry>, key: &Bytes, value: Bytes) -> Result<(), AllocError>
+    ensures { OnOk result (entries.new.items ≡ (filter (λ e. not (same_key e.0 key.now)) entries.old.items ++ (key.now, value) ∷ [])) }
+{
+    let key = key.copy(alloc)?;
+    remove(entries, key.as_slice());
+    entries.push((key, value))?;
+    Ok(())
+}
+
+/// The bytes extended with zeros to an offset, and overwritten from there on.
+fn patched(alloc: Global, old: &[u8], off: usize, bytes: &[u8]) -> Result<Vec<u8>, AllocError>
+    requires { off + length bytes.now ≤ 1024 }
+    ensures { IfOk result (λ new. new.items ≡ patched old.now off bytes.now) }
+{
+    let mut new = Vec::from_slice(alloc, &old[..off.min(old.len())])?;
+    new.resize(off, 0)?;
+    new.extend_from_slice(bytes)?;
+    let end = old.len().min(off + bytes.len());
+    new.extend_from_slice(&old[end..])?;
+    Ok(new)
+}
+
+/// The same, where nothing counts as no bytes.
+fn patched_at(
+    alloc: Global,
+    old: Option<&[u8]>,
+    off: usize,
+    bytes: &[u8],
+) -> Result<Vec<u8>, AllocError>
+    requires { off + length bytes.now ≤ 1024 }
+    ensures { IfOk result (λ new. new.items ≡ patched (unwrap_or (option_copied old.entry) []) off bytes.now) }
+{
+    match old {
+        Some(old) => patched(alloc, old, off, bytes),
+        None => patched(alloc, &[], off, bytes),
+    }
+}
+
+/// Whether a key is the prefix and then `from` or what stands behind it.
+fn is_cut(prefix: &[u8], from: &[u8], key: &[u8]) -> bool
+    ensures { result ≡ is_cut prefix.now from.now key.now }
+{
+    key.starts_with(prefix) && !key[prefix.len()..].cmp(from).is_lt()
+}
+
+/// Changes what stands at the keys by a message.
+fn act(alloc: Global, entries: &mut Vec<Entry>, message: &Message) -> Result<(), AllocError>
+    requires message { IsMessage message.now }
+    requires plain { IsPlain message.now }
+    ensures { OnOk result ((k : List ℕ) → map.find key_cmp k entries.new.items ≡ act no_nodes message.now k (map.find key_cmp k entries.old.items)) }
+{
+    match message {
+        Message::Put { key, value } => put(alloc, entries, key, value.copy(alloc)?)?,
+        Message::Del { key } => remove(entries, key.as_slice()),
+        Message::Patch { key, off, bytes } => patch(alloc, entries, key, *off as usize, bytes)?,
+        Message::Cut { prefix, from } => cut(entries, prefix.as_slice(), from.as_slice()),
+        Message::Goto { .. } => unreachable!(),
+    }
+    Ok(())
+}
+
+/// Patches what stands at a key.
+fn patch(
+    alloc: Global,
+    entries: &mut Vec<Entry>,
+    key: &Bytes,
+    off: usize,
+    bytes: &Bytes,
+) -> Result<(), AllocError>
+    requires { off + length bytes.now ≤ 1024 }
+    ensures { OnOk result ((k : List ℕ) → map.find key_cmp k entries.new.items
+        ≡ act no_nodes (message.Patch key.now off bytes.now) k (map.find key_cmp k entries.old.items)) }
+{
+    let value = patched_at(alloc, find(entries, key.as_slice()), off, bytes.as_slice())?;
+    put(alloc, entries, key, Bytes::from_vec(value))
+}
+
+/// Drops what stands at the keys that are the prefix and then `from` or what stands behind it.
+fn cut(entries: &mut Vec<Entry>, prefix: &[u8], from: &[u8])
+    ensures { entries.new.items ≡ filter (λ e. not (is_cut prefix.now from.now e.0)) entries.old.items }
+{
+    entries.retain(|(key, _)| !is_cut(prefix, from, key.as_slice()));
+}
+
+/// Changes what stands at the keys by messages, the first one first.
+pub fn act_all(alloc: Global, entries: &mut Vec<Entry>, list: &[Message]) -> Result<(), AllocError>
+    requires messages { All IsMessage list.now }
+    requires plain { All IsPlain list.now }
+    ensures { OnOk result ((k : List ℕ) → map.find key_cmp k entries.new.items ≡ acts no_nodes list.now k (map.find key_cmp k entries.old.items)) }
+{
+    for message in list {
+        act(alloc, entries, message)?;
+    }
+    Ok(())
+}
+
+/// Drops what stands at the keys that begin with a prefix.
+fn remove_under(entries: &mut Vec<Entry>, prefix: &[u8])
+    ensures { entries.new.items ≡ filter (λ e. not (begins e.0 prefix.now)) entries.old.items }
+{
+    entries.retain(|(key, _)| !key.as_slice().starts_with(prefix));
+}
+
+/// What stands at the keys that begin with `s`, at the same keys behind `d`.
+fn moved(alloc: Global, entries: &[Entry], s: &[u8], d: &[u8]) -> Result<Vec<Entry>, AllocError>
+    ensures { IfOk result (λ moved. moved.items ≡ filter_map (moved_entry s.now d.now) entries.now) }
+{
+    let mut moved = Vec::new(alloc);
+    for (key, value) in entries {
+        if key.as_slice().starts_with(s) {
+            let key = translate(alloc, key.as_slice(), s.len(), d)?;
+            moved.push((Bytes::from_vec(key), value.copy(alloc)?))?;
+        }
+    }
+    Ok(moved)
+}
+
+/// The entries after a graft.
+pub fn grafted(
+    alloc: Global,
+    entries: &[Entry],
+    s: &[u8],
+    d: &[u8],
+    keep: bool,
+) -> Result<Vec<Entry>, AllocError>
+    ensures { IfOk result (λ new. (k : List ℕ) → map.find key_cmp k new.items ≡ grafted (λ l. map.find key_cmp l entries.now) s.now d.now keep k) }
+{
+    let mut new = copy(alloc, entries)?;
+    remove_under(&mut new, d);
+    new.append(&mut moved(alloc, entries, s, d)?)?;
+    if !keep {
+        remove_under(&mut new, s);
+    }
+    Ok(new)
+}
+
+/// The least key from `from` on that begins with `within`.
+pub fn next<'a>(entries: &'a [Entry], from: &[u8], within: &[u8]) -> Option<&'a [u8]>
+    ensures { IsNext (λ k. map.find key_cmp k entries.now) from.now within.now (option_copied result) }
+{
+    let mut least = None;
+    for (key, _) in entries {
+        if is_asked(key.as_slice(), from, within) {
+            least = Some(sooner(least, key.as_slice()));
+        }
+    }
+    least
+}
+
+/// Whether a key isn't below `from` and begins with `within`.
+fn is_asked(key: &[u8], from: &[u8], within: &[u8]) -> bool
+    ensures { IsTrue result ↔ (IsFrom key.now from.now × Begins key.now within.now) }
+{
+    !key.cmp(from).is_lt() && starts(key, within)
+}
+
+/// The lesser key.
+fn sooner<'a>(least: Option<&'a [u8]>, key: &'a [u8]) -> &'a [u8]
+    ensures { IsLesser (option_copied least.entry) key.now result.now }
+{
+    match least {
+        Some(least) if !key.cmp(least).is_lt() => least,
+        _ => key,
+    }
+}

@@ -1,0 +1,72 @@
+ghost use Rattle.std.specs.Prelude.{◌≡◌, ℕ, List, Option, IfOk, OnOk, OnErr};
+ghost use Rattle.std.specs.Option.{option_map};
+ghost use Rattle.bd_message.specs.declared.fault.Counter.{Counter};
+ghost use Rattle.bd_message.specs.Effect.{acts, no_nodes};
+ghost use Rattle.bd_message.specs.KeyMaps.{At, SameAt, IsNext, IsBatch, CanGraft, grafted, HasMapCause, NeverWorn};
+
+use crate::{MapFault, Message};
+
+/// A map from keys to values, both byte strings. It holds the allocator that it takes its memory of. A
+/// call that fails leaves it as it was.
+pub trait KeyMap {
+    /// Whether it is known what stands at its keys: over a real file it isn't.
+    ghost is_known: { Self → Type 0 };
+
+    /// What stands at each key, of any length, where it is known.
+    ghost has: { Self → At };
+
+    /// For how many bytes of messages there is room.
+    ghost room_of: { Self → ℕ };
+
+    /// How often what it stands on has failed, up to a u64's last value.
+    ghost fault_count: { Self → ℕ };
+
+    /// The blocks whose bytes aren't of the format.
+    ghost bad: { Self → ℕ → Type 0 };
+
+    /// The counters that a change could take past their last value.
+    ghost worn: { Self → Counter → Type 0 };
+
+    /// What stands at a key.
+    fn get(&mut self, key: &[u8]) -> Result<Option<Vec<u8>>, MapFault>
+        ensures value { is_known self.old → IfOk result (λ found. option_map (λ value. value.items) found ≡ has self.old key.now) }
+        ensures known { is_known self.old → is_known self.new }
+        ensures kept { is_known self.old → SameAt (has self.old) (has self.new) }
+        ensures room { room_of self.new ≡ room_of self.old }
+        ensures cause { HasMapCause (fault_count self.old) (fault_count self.new) (bad self.new) NeverWorn result };
+
+    /// The least key not below `from` that begins with `within` and has a value.
+    fn next(&mut self, from: &[u8], within: &[u8]) -> Result<Option<Vec<u8>>, MapFault>
+        ensures next { is_known self.old → IfOk result (λ found. IsNext (has self.old) from.now within.now (option_map (λ key. key.items) found)) }
+        ensures known { is_known self.old → is_known self.new }
+        ensures kept { is_known self.old → SameAt (has self.old) (has self.new) }
+        ensures room { room_of self.new ≡ room_of self.old }
+        ensures cause { HasMapCause (fault_count self.old) (fault_count self.new) (bad self.new) NeverWorn result };
+
+    /// For how many bytes of messages there is room.
+    fn room(&self) -> usize
+        ensures { result ≡ room_of self.now };
+
+    /// Changes what stands at the keys by messages, the first one first.
+    fn apply(&mut self, list: &[Message]) -> Result<(), MapFault>
+        requires { IsBatch list.now (room_of self.old) }
+        ensures applied { is_known self.old → OnOk result ((k : List ℕ) → has self.new k ≡ acts no_nodes list.now k (has self.old k)) }
+        ensures known { is_known self.old → is_known self.new }
+        ensures kept { is_known self.old → OnErr result (SameAt (has self.old) (has self.new)) }
+        ensures room { OnErr result (room_of self.new ≡ room_of self.old) }
+        ensures cause { HasMapCause (fault_count self.old) (fault_count self.new) (bad self.new) (worn self.old) result };
+
+    /// Gives each key `d x` what stands at `s x`, for all `x`; without `keep` nothing stays at the keys
+    /// that begin with `s`.
+    fn graft(&mut self, s: &[u8], d: &[u8], keep: bool) -> Result<(), MapFault>
+        requires { CanGraft s.now d.now keep (room_of self.old) }
+        ensures grafted { is_known self.old → OnOk result (SameAt (grafted (has self.old) s.now d.now keep) (has self.new)) }
+        ensures known { is_known self.old → is_known self.new }
+        ensures kept { is_known self.old → OnErr result (SameAt (has self.old) (has self.new)) }
+        ensures room { OnErr result (room_of self.new ≡ room_of self.old) }
+        ensures cause { HasMapCause (fault_count self.old) (fault_count self.new) (bad self.new) (worn self.old) result };
+
+    /// How often what it stands on has failed. It never falls, and stays at a u64's last value.
+    fn faults(&self) -> u64
+        ensures { result ≡ fault_count self.now };
+}
