@@ -1,6 +1,6 @@
 -- How a whole run begins and ends.
-use Rattle.std.proofs.Common.{◌≡◌, ◌≢◌, ℕ, ◌≤◌, List, [], ◌∷◌, ◌++◌, length, refl, subst, arith, inl, inr, length-append}
-use Rattle.std.specs.Prelude.{Option, IfErr, Result, ◌⊎◌, IsSomeAnd}
+use Rattle.std.proofs.Common.{◌≡◌, ◌≢◌, ℕ, ◌≤◌, List, [], ◌∷◌, ◌++◌, length, refl, sym, subst, arith, inl, inr, length-append}
+use Rattle.std.specs.Prelude.{Option, IfErr, IfSome, Result, ◌⊎◌, IsSomeAnd}
 use Rattle.std.specs.declared.option.Option.TheVariants.{None, Some}
 use Rattle.std.specs.declared.result.Result.TheVariants.{Ok, Err}
 use Rattle.std.specs.Io.KnownBytes.{prepend_known}
@@ -14,6 +14,7 @@ use Rattle.betr.specs.Session.{Leaves, lines_to_run, script_limit, EndsAmong, En
 use Rattle.betr.specs.Shell.{point_of, IsAtStart}
 use Rattle.betr.specs.Run.{start_point, Faults, faults, HasCauseInRun, EndsBy, IsFaultless}
 use Rattle.betr.proofs.Executes.{leaves_none}
+use Rattle.betr.proofs.Scripts.{prepend_known-nil}
 
 -- a new shell stands at the start
 pub started : {D : Type 0} (s : Shell D) (w : Option (List ℕ)) → IsAtStart s → point_of s.volume w ≡ start_point w
@@ -21,8 +22,17 @@ started s w h = λ i. record { tree = h.tree i; count = h.count i; written = w }
 
 -- nothing was taken and nothing executed
 ends_before : (e : Fault) (script w : Option (List ℕ)) → ((ls : List ScriptLine) → Leaves e (start_point w) ls w) → EndsAmong e (start_point w) script script w
-ends_before e None w h = record { taken = []; taken_is = refl; few = omega arith; lines = []; lines_are = tt; left = h [] }
-ends_before e (Some bytes) w h = record { taken = []; taken_is = refl; few = omega arith; lines = lines_to_run bytes; lines_are = refl; left = h (lines_to_run bytes) }
+ends_before e script w h = record {
+  taken = [];
+  taken_is = sym (prepend_known-nil script);
+  few = omega arith;
+  left = h (lines_to_run []);
+  left_of_script = of_script script;
+}
+  where
+    of_script : (o : Option (List ℕ)) → IfSome o (λ bytes. Leaves e (start_point w) (lines_to_run bytes) w)
+    of_script None = tt
+    of_script (Some bytes) = h (lines_to_run bytes)
 
 pub ends_device : (script w : Option (List ℕ)) → Ends Device (start_point w) script script w
 ends_device script w = ends_before Device script w (λ ls. (0, leaves_none (start_point w) ls))

@@ -183,25 +183,20 @@ finishes_ended p q r line taken script rest s end x =
 
 -- ---- faults
 
--- some of the script's lines, where they are known to be in front of all
+-- some lines that stand in front of those of what was taken, and of more
 among : (e : Fault) (p : Point) (lines : List ScriptLine) (bytes : List ℕ) (script rest written : Option (List ℕ)) → script ≡ prepend_known bytes rest → length bytes ≤ script_limit
-    → ((more : List ℕ) → rest ≡ Some more → IsFront lines (lines_to_run (bytes ++ more))) → Leaves e p lines written → EndsAmong e p script rest written
-among e p lines bytes script None written is few h l = record {
+    → IsFront lines (lines_to_run bytes) → ((more : List ℕ) → rest ≡ Some more → IsFront lines (lines_to_run (bytes ++ more))) → Leaves e p lines written → EndsAmong e p script rest written
+among e p lines bytes script rest written is few front h l = record {
   taken = bytes;
   taken_is = is;
   few = few;
-  lines = lines;
-  lines_are = subst (λ o. IfSome o (λ s. lines ≡ lines_to_run s)) (sym is) tt;
-  left = l;
+  left = leaves_front e p lines (lines_to_run bytes) written front l;
+  left_of_script = by rest is h;
 }
-among e p lines bytes script (Some more) written is few h l = record {
-  taken = bytes;
-  taken_is = is;
-  few = few;
-  lines = lines_to_run (bytes ++ more);
-  lines_are = subst (λ o. IfSome o (λ s. lines_to_run (bytes ++ more) ≡ lines_to_run s)) (sym is) refl;
-  left = leaves_front e p lines (lines_to_run (bytes ++ more)) written (h more refl) l;
-}
+  where
+    by : (r : Option (List ℕ)) → script ≡ prepend_known bytes r → ((more : List ℕ) → r ≡ Some more → IsFront lines (lines_to_run (bytes ++ more))) → IfSome script (λ s. Leaves e p (lines_to_run s) written)
+    by None is h = subst (λ o. IfSome o (λ s. Leaves e p (lines_to_run s) written)) (sym is) tt
+    by (Some more) is h = subst (λ o. IfSome o (λ s. Leaves e p (lines_to_run s) written)) (sym is) (leaves_front e p lines (lines_to_run (bytes ++ more)) written (h more refl) l)
 
 -- the shell's own faults leave some of the lines executed
 pub ends_among : (e : Fault) (before now : ℕ) (p : Point) (script rest written : Option (List ℕ)) → IsShellFault e before now → EndsAmong e p script rest written → Ends e p script rest written
@@ -212,31 +207,42 @@ ends_among TooLong before now p script rest written f h = absurd f
 ends_among (Worn which) before now p script rest written f h = h
 ends_among Sink before now p script rest written f h = h
 
+-- the lines that a piece makes whole stand in front of those of all the bytes, whatever follows
+fed_front : (bytes piece line more : List ℕ) → line ≡ held (open_line bytes) → list_any is_stop (meanings bytes) ≡ false
+    → IsFront (meanings bytes ++ up_to_stop (meanings (line ++ piece))) (lines_to_run ((bytes ++ piece) ++ more))
+fed_front bytes piece line more is none =
+    let lines = meanings-more bytes piece line is in
+    let front = lines_front (bytes ++ piece) more in
+    subst (λ ls. IsFront (meanings bytes ++ up_to_stop (meanings (line ++ piece))) (up_to_stop ls)) (sym front.1)
+      (subst (λ ls. IsFront ls (up_to_stop (meanings (bytes ++ piece) ++ front.0)))
+        (ap up_to_stop lines ∙ up_to_stop-append (meanings bytes) (meanings (line ++ piece)) none)
+        (up_to_stop_front (meanings (bytes ++ piece)) front.0))
+
 -- a fault within a piece
 pub ends_fed : (e : Fault) (before now : ℕ) (p q : Point) (line piece : List ℕ) (taken : ℕ) (script mid rest written : Option (List ℕ)) → Stands p q line taken script mid
     → taken + length piece ≤ script_limit → mid ≡ prepend_known piece rest → IsShellFault e before now → Leaves e q (up_to_stop (meanings (line ++ piece))) written → Ends e p script rest written
 ends_fed e before now p q line piece taken script mid rest written s fits got f l =
     let is = s.taken_is ∙ ap (prepend_known s.bytes) got ∙ prepend_known-append s.bytes piece rest in
-    let lines = meanings-more s.bytes piece line s.line_is in
+    let all : List ScriptLine = meanings s.bytes ++ up_to_stop (meanings (line ++ piece)) in
     ends_among e before now p script rest written f
-    (among e p (meanings s.bytes ++ up_to_stop (meanings (line ++ piece))) (s.bytes ++ piece) script rest written is
-    (omega (arith, length-append s.bytes piece, s.count))
-    (λ more _. let front = lines_front (s.bytes ++ piece) more in
-    subst (λ ls. IsFront (meanings s.bytes ++ up_to_stop (meanings (line ++ piece))) (up_to_stop ls)) (sym front.1)
-    (subst (λ ls. IsFront ls (up_to_stop (meanings (s.bytes ++ piece) ++ front.0)))
-    (ap up_to_stop lines ∙ up_to_stop-append (meanings s.bytes) (meanings (line ++ piece)) s.on.no_stop)
-    (up_to_stop_front (meanings (s.bytes ++ piece)) front.0)))
-    (leaves_more e p q (meanings s.bytes) (up_to_stop (meanings (line ++ piece))) written s.on.executed l))
+      (among e p all (s.bytes ++ piece) script rest written is
+        (omega (arith, length-append s.bytes piece, s.count))
+        (subst (λ bs. IsFront all (lines_to_run bs)) (append-nil (s.bytes ++ piece)) (fed_front s.bytes piece line [] s.line_is s.on.no_stop))
+        (λ more _. fed_front s.bytes piece line more s.line_is s.on.no_stop)
+        (leaves_more e p q (meanings s.bytes) (up_to_stop (meanings (line ++ piece))) written s.on.executed l))
 
 -- a fault in the last line
 pub ends_last : (e : Fault) (before now : ℕ) (p q : Point) (line : List ℕ) (taken : ℕ) (script rest written : Option (List ℕ)) → Stands p q line taken script rest → IsAtEnd rest
     → IsShellFault e before now → Leaves e q (last_lines line) written → Ends e p script rest written
 ends_last e before now p q line taken script rest written s end f l =
+    let all : List ScriptLine = meanings s.bytes ++ last_lines line in
+    let whole : IsFront all (lines_to_run s.bytes) = ([], run_ended s.bytes line s.line_is s.on.no_stop ∙ sym (append-nil all)) in
     ends_among e before now p script rest written f
-    (among e p (meanings s.bytes ++ last_lines line) s.bytes script rest written s.taken_is
-    (omega (arith, s.count, s.few))
-    (λ more x. ([], sym (append-nil _ ∙ sym (run_ended s.bytes line s.line_is s.on.no_stop) ∙ ap lines_to_run (sym (ap (λ l. s.bytes ++ l) (end_is rest end more x) ∙ append-nil s.bytes)))))
-    (leaves_more e p q (meanings s.bytes) (last_lines line) written s.on.executed l))
+      (among e p all s.bytes script rest written s.taken_is
+        (omega (arith, s.count, s.few))
+        whole
+        (λ more x. subst (λ bs. IsFront all (lines_to_run bs)) (sym (ap (λ m. s.bytes ++ m) (end_is rest end more x) ∙ append-nil s.bytes)) whole)
+        (leaves_more e p q (meanings s.bytes) (last_lines line) written s.on.executed l))
 
 -- the source's fault
 pub ends_source : (p q : Point) (line : List ℕ) (taken : ℕ) (script rest : Option (List ℕ)) → Stands p q line taken script rest → Ends Source p script rest q.written

@@ -89,14 +89,13 @@ pub record EndsWithin (from : Point) (script rest written : Option (List ℕ)) (
   pub lines_are : executed_lines entries ≡ map line_of (whole_lines taken)
   pub no_stop : list_any is_stop (executed_lines entries) ≡ false
 
--- some of the script's lines were executed, from the first on
+-- some of the lines of what was taken were executed, from the first on; they are the script's lines, where it is known
 pub record EndsAmong (fault : Fault) (from : Point) (script rest written : Option (List ℕ)) : Type 0 where
   pub taken : List ℕ
   pub taken_is : script ≡ prepend_known taken rest
   pub few : length taken ≤ script_limit
-  pub lines : List ScriptLine
-  pub lines_are : IfSome script (λ bytes. lines ≡ lines_to_run bytes)
-  pub left : Leaves fault from lines written
+  pub left : Leaves fault from (lines_to_run taken) written
+  pub left_of_script : IfSome script (λ bytes. Leaves fault from (lines_to_run bytes) written)
 
 -- what a fault leaves of a script
 abbrev pub Ends : Fault → Point → Option (List ℕ) → Option (List ℕ) → Option (List ℕ) → Type 0
