@@ -1,4 +1,4 @@
-ghost use Rattle.std.specs.Prelude.{◌≡◌, ◌≢◌, ◌≤◌, ◌+◌, ℕ, List, Some, length, IfOk, OnOk};
+ghost use Rattle.std.specs.Prelude.{◌≡◌, ◌≢◌, ◌≤◌, ◌<◌, ◌+◌, ℕ, List, Some, length, IfOk, OnOk};
 ghost use Rattle.std.specs.Option.{option_map};
 
 use super::{KeyMap, ListMap, MapFault, Message, laws};
@@ -104,5 +104,181 @@ fn what_is_put_is_got(rt: HostRuntime) -> Result<(), Fail> {
     assert!(rt; has(&mut map, b"b", Some(b"2"))?);
     assert_eq!(rt; map.room(), 32_768);
     assert_eq!(rt; map.faults(), 0);
+    Ok(())
+}
+
+#[test]
+fn rows_of_messages_and_grafts(rt: HostRuntime) -> Result<(), Fail> {
+    let alloc = rt.alloc();
+    let mut map = ListMap::new(alloc);
+    apply(&mut map, patch(alloc, b"p", 1022, b"xy")?)?;
+    let mut value = [0u8; 1024];
+    value[1022] = b'x';
+    value[1023] = b'y';
+    assert!(rt; has(&mut map, b"p", Some(value.as_slice()))?);
+    assert!(rt; !patch(alloc, b"p", 1023, b"xy")?.is_message());
+
+    // A cut from the middle on leaves what is below it, and `next` passes over it.
+    for key in [b"sa", b"sb", b"sc", b"t0"] {
+        apply(&mut map, put(alloc, key.as_slice(), b"1")?)?;
+    }
+    apply(&mut map, cut(alloc, b"s", b"b")?)?;
+    assert!(rt; has(&mut map, b"sa", Some(b"1"))?);
+    assert!(rt; has(&mut map, b"sb", None)?);
+    assert!(rt; has_next(&mut map, b"sa", b"s", Some(b"sa"))?);
+    assert!(rt; has_next(&mut map, b"sb", b"s", None)?);
+    assert!(rt; has_next(&mut map, b"sb", b"", Some(b"t0"))?);
+
+    // A copy below what is copied has the old contents.
+    graft(&mut map, b"s", b"sa/", true)?;
+    assert!(rt; has(&mut map, b"sa/a", Some(b"1"))?);
+    assert!(rt; has(&mut map, b"sa/a/a", None)?);
+    graft(&mut map, b"s", b"u", false)?;
+    assert!(rt; has(&mut map, b"ua/a", Some(b"1"))?);
+    assert!(rt; has_next(&mut map, b"", b"s", None)?);
+    apply(
+        &mut map,
+        Message::Del {
+            key: Bytes::from_slice(alloc, b"ua")?,
+        },
+    )?;
+    assert!(rt; has_next(&mut map, b"u", b"", Some(b"ua/a"))?);
+    Ok(())
+}
+
+// Whether a message is written as these bytes without the last one, and read of them.
+#[tactic(auto, using(crate::proofs::Spellings::spelling_within))]
+fn read_again(alloc: Global, message: &Message, bytes: &[u8]) -> Result<bool, Fail> {
+    let mut cursor = Cursor::new(bytes);
+    let found = Message::read(alloc, &mut cursor)?;
+    let mut array = [9u8; 32];
+    let mut out = Out::new(&mut array);
+    if !message.is_message() || message.size() > out.left() {
+        return Ok(false);
+    }
+    message.write(&mut out);
+    let is_read = found.as_ref() == Some(message) && cursor.left().len() == 1;
+    Ok(is_read && array.starts_with(bytes))
+}
+
+#[test]
+fn messages_are_read_again(rt: HostRuntime) -> Result<(), Fail> {
+    let alloc = rt.alloc();
+    let goto = Message::Goto {
+        prefix: Bytes::from_slice(alloc, b"p")?,
+        source: Bytes::from_slice(alloc, b"s")?,
+        child: 7,
+    };
+    assert!(rt; goto.copy(alloc)? == goto);
+    assert!(rt;
+        read_again(
+            alloc,
+            &put(alloc, b"k", b"v")?,
+            &[1, 0, 1, b'k', 0, 1, b'v', 9]
+        )?
+    );
+    assert!(rt;
+        read_again(
+            alloc,
+            &patch(alloc, b"k", 3, b"v")?,
+            &[3, 0, 1, b'k', 0, 3, 0, 1, b'v', 9]
+        )?
+    );
+    assert!(rt; read_again(alloc, &cut(alloc, b"k", b"")?, &[4, 0, 1, b'k', 0, 0, 9])?);
+    assert!(rt;
+        read_again(
+            alloc,
+            &goto,
+            &[5, 0, 1, b'p', 0, 1, b's', 0, 0, 0, 0, 0, 0, 0, 7, 9]
+        )?
+    );
+    let mut cursor = Cursor::new(&[6, 0, 1, b'k']);
+    assert!(rt; Message::read(alloc, &mut cursor)? == None);
+    assert_eq!(rt; cursor.left().len(), 4);
+    Ok(())
+}
+
+#[test]
+fn the_laws_are_functions() {
+    laws::messages_begin_no_other();
+    laws::spellings_fit_sizes();
+}
+
+// A key of two bytes below 4, and its place among all of them.
+fn place(first: u8, second: u8) -> usize
+    requires first { first < 4 }
+    requires second { second < 4 }
+    ensures { result < 16 }
+{
+    4 * first as usize + second as usize
+}
+
+// Holds a map against what the test kept.
+fn is_kept<M: KeyMap>(map: &mut M, kept: &[Option<u8>; 16]) -> Result<bool, Fail> {
+    for first in 0..4u8 {
+        for second in 0..4u8 {
+            let value = kept[place(first, second)].map(|value| [value]);
+            if !has(
+                map,
+                &[first, second],
+                value.as_ref().map(|value| value.as_slice()),
+            )? {
+                return Ok(false);
+            }
+        }
+    }
+    Ok(true)
+}
+
+// Makes the n-th change to a map and to what the test keeps.
+fn change<M: KeyMap>(
+    alloc: Global,
+    map: &mut M,
+    kept: &mut [Option<u8>; 16],
+    n: u8,
+) -> Result<(), Fail> {
+    let first = n / 16 % 4;
+    let second = n / 64;
+    let value = n ^ 0x5a;
+    match n % 5 {
+        0 | 1 => {
+            apply(map, put(alloc, &[first, second], &[value])?)?;
+            kept[place(first, second)] = Some(value);
+        }
+        2 => {
+            apply(map, patch(alloc, &[first, second], 0, &[value])?)?;
+            kept[place(first, second)] = Some(value);
+        }
+        3 => {
+            apply(map, cut(alloc, &[first], &[second])?)?;
+            for later in second..4 {
+                kept[place(first, later)] = None;
+            }
+        }
+        _ => {
+            let target = n % 4;
+            let keep = n % 3 == 0 || first == target;
+            graft(map, &[first], &[target], keep)?;
+            for rest in 0..4u8 {
+                kept[place(target, rest)] = kept[place(first, rest)];
+                if !keep {
+                    kept[place(first, rest)] = None;
+                }
+            }
+        }
+    }
+    Ok(())
+}
+
+#[test]
+fn a_list_map_is_held_against_a_table(rt: HostRuntime) -> Result<(), Fail> {
+    let mut map = ListMap::new(rt.alloc());
+    let mut kept = [None; 16];
+    let mut n: u8 = 1;
+    for _ in 0..300 {
+        n = n.wrapping_mul(5).wrapping_add(3);
+        change(rt.alloc(), &mut map, &mut kept, n)?;
+        assert!(rt; is_kept(&mut map, &kept)?, "after {n}");
+    }
     Ok(())
 }
