@@ -214,9 +214,9 @@ fed_front bytes piece line more is none =
     let lines = meanings-more bytes piece line is in
     let front = lines_front (bytes ++ piece) more in
     subst (λ ls. IsFront (meanings bytes ++ up_to_stop (meanings (line ++ piece))) (up_to_stop ls)) (sym front.1)
-      (subst (λ ls. IsFront ls (up_to_stop (meanings (bytes ++ piece) ++ front.0)))
-        (ap up_to_stop lines ∙ up_to_stop-append (meanings bytes) (meanings (line ++ piece)) none)
-        (up_to_stop_front (meanings (bytes ++ piece)) front.0))
+    (subst (λ ls. IsFront ls (up_to_stop (meanings (bytes ++ piece) ++ front.0)))
+    (ap up_to_stop lines ∙ up_to_stop-append (meanings bytes) (meanings (line ++ piece)) none)
+    (up_to_stop_front (meanings (bytes ++ piece)) front.0))
 
 -- a fault within a piece
 pub ends_fed : (e : Fault) (before now : ℕ) (p q : Point) (line piece : List ℕ) (taken : ℕ) (script mid rest written : Option (List ℕ)) → Stands p q line taken script mid
@@ -225,11 +225,11 @@ ends_fed e before now p q line piece taken script mid rest written s fits got f 
     let is = s.taken_is ∙ ap (prepend_known s.bytes) got ∙ prepend_known-append s.bytes piece rest in
     let all : List ScriptLine = meanings s.bytes ++ up_to_stop (meanings (line ++ piece)) in
     ends_among e before now p script rest written f
-      (among e p all (s.bytes ++ piece) script rest written is
-        (omega (arith, length-append s.bytes piece, s.count))
-        (subst (λ bs. IsFront all (lines_to_run bs)) (append-nil (s.bytes ++ piece)) (fed_front s.bytes piece line [] s.line_is s.on.no_stop))
-        (λ more _. fed_front s.bytes piece line more s.line_is s.on.no_stop)
-        (leaves_more e p q (meanings s.bytes) (up_to_stop (meanings (line ++ piece))) written s.on.executed l))
+    (among e p all (s.bytes ++ piece) script rest written is
+    (omega (arith, length-append s.bytes piece, s.count))
+    (subst (λ bs. IsFront all (lines_to_run bs)) (append-nil (s.bytes ++ piece)) (fed_front s.bytes piece line [] s.line_is s.on.no_stop))
+    (λ more _. fed_front s.bytes piece line more s.line_is s.on.no_stop)
+    (leaves_more e p q (meanings s.bytes) (up_to_stop (meanings (line ++ piece))) written s.on.executed l))
 
 -- a fault in the last line
 pub ends_last : (e : Fault) (before now : ℕ) (p q : Point) (line : List ℕ) (taken : ℕ) (script rest written : Option (List ℕ)) → Stands p q line taken script rest → IsAtEnd rest
@@ -238,11 +238,11 @@ ends_last e before now p q line taken script rest written s end f l =
     let all : List ScriptLine = meanings s.bytes ++ last_lines line in
     let whole : IsFront all (lines_to_run s.bytes) = ([], run_ended s.bytes line s.line_is s.on.no_stop ∙ sym (append-nil all)) in
     ends_among e before now p script rest written f
-      (among e p all s.bytes script rest written s.taken_is
-        (omega (arith, s.count, s.few))
-        whole
-        (λ more x. subst (λ bs. IsFront all (lines_to_run bs)) (sym (ap (λ m. s.bytes ++ m) (end_is rest end more x) ∙ append-nil s.bytes)) whole)
-        (leaves_more e p q (meanings s.bytes) (last_lines line) written s.on.executed l))
+    (among e p all s.bytes script rest written s.taken_is
+    (omega (arith, s.count, s.few))
+    whole
+    (λ more x. subst (λ bs. IsFront all (lines_to_run bs)) (sym (ap (λ m. s.bytes ++ m) (end_is rest end more x) ∙ append-nil s.bytes)) whole)
+    (leaves_more e p q (meanings s.bytes) (last_lines line) written s.on.executed l))
 
 -- the source's fault
 pub ends_source : (p q : Point) (line : List ℕ) (taken : ℕ) (script rest : Option (List ℕ)) → Stands p q line taken script rest → Ends Source p script rest q.written
