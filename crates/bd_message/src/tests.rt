@@ -240,7 +240,7 @@ fn change<M: KeyMap>(
     let first = n / 16 % 4;
     let second = n / 64;
     let value = n ^ 0x5a;
-    match n % 5 {
+    match n % 6 {
         0 | 1 => {
             apply(map, put(alloc, &[first, second], &[value])?)?;
             kept[place(first, second)] = Some(value);
@@ -250,6 +250,11 @@ fn change<M: KeyMap>(
             kept[place(first, second)] = Some(value);
         }
         3 => {
+            let key = Bytes::from_slice(alloc, &[first, second])?;
+            apply(map, Message::Del { key })?;
+            kept[place(first, second)] = None;
+        }
+        4 => {
             apply(map, cut(alloc, &[first], &[second])?)?;
             for later in second..4 {
                 kept[place(first, later)] = None;
