@@ -1,10 +1,10 @@
 -- What is found in lists of entries.
-use Rattle.std.proofs.Common.{◌≡◌, ◌≢◌, ℕ, Bool, true, false, cond, not, ◌&&◌, T, List, [], ◌∷◌, ◌++◌, length, take, drop, refl, sym, ap, subst, ◌∙◌, Option, None, Some, Equal, nat_eq, get_or, ◌+◌, ◌<◌, add-one, OnOk, Result, Ok, Err}
+use Rattle.std.proofs.Common.{◌≡◌, ℕ, Bool, true, false, cond, not, ◌&&◌, List, [], ◌∷◌, ◌++◌, length, drop, refl, sym, ap, subst, ◌∙◌, Option, None, Some, Equal, get_or, ◌+◌, ◌<◌, OnOk, Result, Ok, Err}
 use Rattle.std.specs.Option.{option_or, unwrap_or}
 use Rattle.std.specs.List.{filter, filter_map}
 use Rattle.std.specs.Ordering.{eq_by_cmp}
-use Rattle.std.specs.Cmp.{both_ways, unsigned_Decides}
-use Rattle.std.specs.Cmp.Lexicographic.{pointwise, texts_ties, same_text}
+use Rattle.std.specs.Cmp.{unsigned_Decides}
+use Rattle.std.specs.Cmp.Lexicographic.{texts_ties, same_text}
 use Rattle.std.specs.FinMap.{find, nat_cmp-IsAntisymmetric, slice_cmp-IsAntisymmetric}
 use Rattle.std.specs.FinMap.Entries.{find-where_key, find-append}
 use Rattle.std.proofs.lemmas.Cmp.{nat_list_cmp_total}
@@ -12,7 +12,7 @@ use Rattle.std.proofs.lemmas.Slice.Eq.{starts_is}
 use Rattle.bd_keys.specs.Keys.{key_cmp}
 use Rattle.std.proofs.lemmas.List.{drop_more}
 use Rattle.bd_message.specs.declared.message.Message.{Message}
-use Rattle.bd_message.specs.declared.message.Message.TheVariants.{Put, Del, Patch, Cut, Goto}
+use Rattle.bd_message.specs.declared.message.Message.TheVariants.{Put, Del, Patch, Cut}
 use Rattle.bd_message.specs.KeyMaps.{grafted}
 use Rattle.bd_message.specs.Effect.{same_key, begins, rest, is_cut, act, acts, no_nodes, patched}
 use Rattle.bd_message.specs.Entries.{moved_entry}

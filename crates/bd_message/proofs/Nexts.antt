@@ -1,12 +1,12 @@
 -- The least key among those seen so far.
-use Rattle.std.proofs.Common.{◌≡◌, ◌≢◌, ℕ, Bool, true, false, cond, take, length, get_or, ◌+◌, ◌<◌, List, [], ◌∷◌, ◌++◌, refl, sym, ap, subst, ◌∙◌, inl, inr, Option, None, Some, Less, Equal, IsSome, is_some}
+use Rattle.std.proofs.Common.{◌≡◌, ℕ, true, false, cond, take, length, get_or, ◌+◌, ◌<◌, List, [], ◌∷◌, ◌++◌, refl, sym, ap, subst, ◌∙◌, inl, inr, Option, None, Some, Less, Equal, IsSome, is_some}
 use Rattle.std.specs.Prelude.{◌⊎◌}
 use Rattle.std.specs.Option.{option_or}
 use Rattle.std.specs.Ordering.{eq_by_cmp, is_eq}
 use Rattle.std.specs.Cmp.{tied_itself}
 use Rattle.std.proofs.lemmas.Cmp.{nat_list_cmp_total}
 use Rattle.std.proofs.lemmas.List.{take_more}
-use Rattle.bd_keys.specs.Keys.{key_cmp, IsFrom, IsBelow, Begins}
+use Rattle.bd_keys.specs.Keys.{key_cmp, IsFrom, Begins}
 use Rattle.bd_message.specs.KeyMaps.{IsNext, IsFound}
 use Rattle.bd_message.specs.Entries.{IsLesser}
 use Rattle.bd_message.proofs.Finds.{Entry, found, find-both, ties_same, same_key-true}

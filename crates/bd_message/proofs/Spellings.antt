@@ -1,5 +1,5 @@
 -- No message's spelling begins another's.
-use Rattle.std.proofs.Common.{◌≡◌, ◌≢◌, ℕ, ◌+◌, ◌<◌, ◌≤◌, ◌^◌, List, [], ◌∷◌, ◌++◌, length, drop, get_or, refl, sym, ap, subst, ◌∙◌, arith, length-append, Option, None, Some}
+use Rattle.std.proofs.Common.{◌≡◌, ◌≢◌, ℕ, ◌≤◌, List, [], ◌∷◌, ◌++◌, length, drop, get_or, sym, ap, subst, ◌∙◌, arith, length-append, Option, None, Some}
 use Rattle.std.specs.Int.{w16, w64}
 use Rattle.bd_wire.specs.Numbers.{be, FitsWidth, length-be, BeginsNoOther-be}
 use Rattle.bd_wire.specs.Spelling.{BeginsNoOther, BeginsNone, FitsBoth, spell_both, BeginsNoOther-both}

@@ -3,3 +3,4 @@ pub mod Effect
 pub mod Entries
 pub mod KeyMaps
 pub mod Messages
+pub mod Counters

@@ -1,5 +1,6 @@
 ghost use Rattle.std.specs.Prelude.{◌≡◌, ◌≤◌, length, IfOk, OnErr};
 ghost use Rattle.std.specs.Option.{option_map};
+ghost use Rattle.bd_wire.specs.Text.{text16, FitsText16};
 ghost use Rattle.bd_wire.specs.Writing.{Puts, room};
 ghost use Rattle.bd_message.specs.Messages.{IsMessage};
 ghost use Rattle.bd_message.specs.Codec.{message_bytes, IsReadAs, IsSpeltAs, IsPartAs, FitsTexts, FitsPart, FitsGoto, spell_texts, spell_part, spell_goto};
@@ -87,38 +88,26 @@ fn spelt(alloc: Global, ahead: &mut Cursor) -> Result<Option<Message>, AllocErro
         return Ok(None);
     };
     match tag {
-        PUT => match texts(ahead) {
-            Some((key, value)) => Ok(Some(Message::Put {
-                key: Bytes::from_slice(alloc, key)?,
-                value: Bytes::from_slice(alloc, value)?,
-            })),
+        PUT => match texts(alloc, ahead)? {
+            Some((key, value)) => Ok(Some(Message::Put { key, value })),
             None => Ok(None),
         },
-        DEL => match ahead.text16() {
-            Ok(key) => Ok(Some(Message::Del {
-                key: Bytes::from_slice(alloc, key)?,
-            })),
-            Err(_) => Ok(None),
-        },
-        PATCH => match part(ahead) {
-            Some((key, off, bytes)) => Ok(Some(Message::Patch {
-                key: Bytes::from_slice(alloc, key)?,
-                off,
-                bytes: Bytes::from_slice(alloc, bytes)?,
-            })),
+        DEL => match text(alloc, ahead)? {
+            Some(key) => Ok(Some(Message::Del { key })),
             None => Ok(None),
         },
-        CUT => match texts(ahead) {
-            Some((prefix, from)) => Ok(Some(Message::Cut {
-                prefix: Bytes::from_slice(alloc, prefix)?,
-                from: Bytes::from_slice(alloc, from)?,
-            })),
+        PATCH => match part(alloc, ahead)? {
+            Some((key, off, bytes)) => Ok(Some(Message::Patch { key, off, bytes })),
             None => Ok(None),
         },
-        GOTO => match texts_and_child(ahead) {
+        CUT => match texts(alloc, ahead)? {
+            Some((prefix, from)) => Ok(Some(Message::Cut { prefix, from })),
+            None => Ok(None),
+        },
+        GOTO => match texts_and_child(alloc, ahead)? {
             Some((prefix, source, child)) => Ok(Some(Message::Goto {
-                prefix: Bytes::from_slice(alloc, prefix)?,
-                source: Bytes::from_slice(alloc, source)?,
+                prefix,
+                source,
                 child,
             })),
             None => Ok(None),
@@ -127,42 +116,57 @@ fn spelt(alloc: Global, ahead: &mut Cursor) -> Result<Option<Message>, AllocErro
     }
 }
 
-// Reads two texts.
-fn texts<'a>(ahead: &mut Cursor<'a>) -> Option<(&'a [u8], &'a [u8])>
-    ensures { IsPartAs FitsTexts spell_texts ahead.old ahead.new (option_map (λ p. (p.0.now, p.1.now)) result) }
+// Reads a text.
+fn text(alloc: Global, ahead: &mut Cursor) -> Result<Option<Bytes>, AllocError>
+    ensures { IfOk result (λ found. IsPartAs FitsText16 text16 ahead.old ahead.new found) }
 {
-    let Ok(first) = ahead.text16() else {
-        return None;
+    match ahead.text16() {
+        Ok(bytes) => Ok(Some(Bytes::from_slice(alloc, bytes)?)),
+        Err(_) => Ok(None),
+    }
+}
+
+// Reads two texts.
+fn texts(alloc: Global, ahead: &mut Cursor) -> Result<Option<(Bytes, Bytes)>, AllocError>
+    ensures { IfOk result (λ found. IsPartAs FitsTexts spell_texts ahead.old ahead.new found) }
+{
+    let Some(first) = text(alloc, ahead)? else {
+        return Ok(None);
     };
-    let Ok(second) = ahead.text16() else {
-        return None;
+    let Some(second) = text(alloc, ahead)? else {
+        return Ok(None);
     };
-    Some((first, second))
+    Ok(Some((first, second)))
 }
 
 // Reads a text, an offset and a text.
-fn part<'a>(ahead: &mut Cursor<'a>) -> Option<(&'a [u8], u16, &'a [u8])>
-    ensures { IsPartAs FitsPart spell_part ahead.old ahead.new (option_map (λ p. ((p.0.now, p.1), p.2.now)) result) }
+fn part(alloc: Global, ahead: &mut Cursor) -> Result<Option<(Bytes, u16, Bytes)>, AllocError>
+    ensures { IfOk result (λ found. IsPartAs FitsPart spell_part ahead.old ahead.new (option_map (λ p. ((p.0, p.1), p.2)) found)) }
 {
-    let Ok(first) = ahead.text16() else {
-        return None;
+    let Some(first) = text(alloc, ahead)? else {
+        return Ok(None);
     };
     let Ok(off) = ahead.u16() else {
-        return None;
+        return Ok(None);
     };
-    let Ok(second) = ahead.text16() else {
-        return None;
+    let Some(second) = text(alloc, ahead)? else {
+        return Ok(None);
     };
-    Some((first, off, second))
+    Ok(Some((first, off, second)))
 }
 
 // Reads two texts and a node's number.
-fn texts_and_child<'a>(ahead: &mut Cursor<'a>) -> Option<(&'a [u8], &'a [u8], u64)>
-    ensures { IsPartAs FitsGoto spell_goto ahead.old ahead.new (option_map (λ p. ((p.0.now, p.1.now), p.2)) result) }
+fn texts_and_child(
+    alloc: Global,
+    ahead: &mut Cursor,
+) -> Result<Option<(Bytes, Bytes, u64)>, AllocError>
+    ensures { IfOk result (λ found. IsPartAs FitsGoto spell_goto ahead.old ahead.new (option_map (λ p. ((p.0, p.1), p.2)) found)) }
 {
-    let (first, second) = texts(ahead)?;
-    let Ok(child) = ahead.u64() else {
-        return None;
+    let Some((first, second)) = texts(alloc, ahead)? else {
+        return Ok(None);
     };
-    Some((first, second, child))
+    let Ok(child) = ahead.u64() else {
+        return Ok(None);
+    };
+    Ok(Some((first, second, child)))
 }

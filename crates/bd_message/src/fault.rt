@@ -1,3 +1,6 @@
+ghost use Rattle.std.specs.Prelude.{Some};
+ghost use Rattle.bd_message.specs.Counters.{counter_name};
+
 use std::alloc::AllocError;
 use std::fmt;
 
@@ -19,6 +22,8 @@ pub enum Counter {
 }
 
 impl fmt::Display for Counter {
+    ghost output = { λ counter. Some (counter_name counter) };
+
     fn fmt<W: fmt::Write>(&self, f: &mut fmt::Formatter<W>) -> fmt::Result {
         let name = match self {
             Counter::Count => "count",

@@ -1,5 +1,5 @@
 -- How the lines of a script grow with its bytes.
-use Rattle.std.proofs.Common.{◌≡◌, ℕ, ◌<◌, ◌≤◌, Bool, true, false, cond, List, [], ◌∷◌, ◌++◌, length, refl, sym, ap, subst, ◌∙◌, append_assoc, nat_eq, arith, eqb-true, leb-true, leb-false}
+use Rattle.std.proofs.Common.{◌≡◌, ℕ, ◌+◌, ◌<◌, ◌≤◌, Bool, true, false, cond, List, [], ◌∷◌, ◌++◌, length, refl, sym, ap, subst, ◌∙◌, append_assoc, length-append, nat_eq, arith, eqb-true, leb-true, leb-false}
 use Rattle.std.specs.List.{onto_first, list_any, All}
 use Rattle.std.specs.Prelude.{map, nat_le, ◌&&◌, not}
 use Rattle.std.proofs.lemmas.List.{append-nil, map-append, take_all, length-take, length-take-le, take-append-le}
@@ -7,7 +7,7 @@ use Rattle.std.proofs.lemmas.List.Elements.{All-take, All-append, All-nil, All-c
 use Rattle.std.proofs.lemmas.Bool.{lt-leb}
 use Rattle.std.proofs.lemmas.List.Splits.{slice_split_none}
 use Rattle.bd_names.specs.Names.{same_text}
-use Rattle.bd_model.specs.Lines.{ScriptLine, BadLine, verbs_there, first_word, words_of, line_of_words, line_of, held, pieces, all_but_last, last_piece, whole_lines, open_line, is_empty}
+use Rattle.bd_model.specs.Lines.{ScriptLine, BadLine, verbs_there, first_word, words_of, line_of_words, line_of, held, pieces, all_but_last, last_piece, whole_lines, open_line, lines_of, is_empty}
 
 -- a byte behind the last of some pieces
 abbrev pub onto_last : List (List ℕ) → ℕ → List (List ℕ)
@@ -267,3 +267,22 @@ held_is_held bytes = record {
   plain = All-take (λ k. nat_eq k 10 ≡ false) 8193 (open_line bytes) (no_newline-open_line bytes);
   short = omega (arith, length-take 8193 (open_line bytes));
 }
+
+-- ---- how many lines there are
+
+-- the whole lines and the bytes of the open one are no more than the bytes
+cut_few : (xs : List ℕ) → length (whole_lines xs) + length (open_line xs) ≤ length xs
+cut_few xs = by_bytes (λ ys. length (whole_lines ys) + length (open_line ys) ≤ length ys) (omega arith) (λ ys b h. more ys b h (nat_eq b 10) refl) xs
+  where
+    more : (ys : List ℕ) (b : ℕ) → length (whole_lines ys) + length (open_line ys) ≤ length ys → (t : Bool) → nat_eq b 10 ≡ t
+        → length (whole_lines (ys ++ b ∷ [])) + length (open_line (ys ++ b ∷ [])) ≤ length (ys ++ b ∷ [])
+    more ys b h true e = subst (λ n. length (whole_lines (ys ++ n ∷ [])) + length (open_line (ys ++ n ∷ [])) ≤ length (ys ++ n ∷ [])) (sym (eqb-true b 10 e))
+        (omega (arith, h, ap length (whole_lines-newline ys), length-append (whole_lines ys) (open_line ys ∷ []), ap length (open_line-newline ys), length-append ys (10 ∷ [])))
+    more ys b h false e = omega (arith, h, ap length (whole_lines-byte ys b e), ap length (open_line-byte ys b e), length-append (open_line ys) (b ∷ []), length-append ys (b ∷ []))
+
+pub lines_of-few : (xs : List ℕ) → length (lines_of xs) ≤ length xs
+lines_of-few xs = with_last (open_line xs) (cut_few xs)
+  where
+    with_last : (l : List ℕ) → length (whole_lines xs) + length l ≤ length xs → length (whole_lines xs ++ cond (is_empty l) [] (l ∷ [])) ≤ length xs
+    with_last [] h = omega (arith, h, length-append (whole_lines xs) [])
+    with_last (b ∷ bs) h = omega (arith, h, length-append (whole_lines xs) ((b ∷ bs) ∷ []))

@@ -1,3 +1,4 @@
 pub mod Names
 pub mod Cuts
 pub mod NamesLaws
+pub mod Faults

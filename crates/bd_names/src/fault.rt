@@ -1,5 +1,6 @@
 // Why a text isn't read as a path or a name.
-ghost use Rattle.std.specs.Prelude.{◌≡◌};
+ghost use Rattle.std.specs.Prelude.{◌≡◌, Some};
+ghost use Rattle.bd_names.specs.Faults.{fault_text};
 ghost use Rattle.bd_names.specs.declared.fault.PathFault.TheVariants.{NoMemory};
 
 use std::alloc::AllocError;
@@ -16,6 +17,8 @@ pub enum PathFault {
 }
 
 impl fmt::Display for PathFault {
+    ghost output = { λ fault. Some (fault_text fault) };
+
     fn fmt<W: fmt::Write>(&self, f: &mut fmt::Formatter<W>) -> fmt::Result {
         match self {
             PathFault::BadPath => write!(f, "bad path"),

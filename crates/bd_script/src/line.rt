@@ -1,6 +1,7 @@
 //! A line of a script, and why a line is refused.
 
-ghost use Rattle.std.specs.Prelude.{◌≡◌};
+ghost use Rattle.std.specs.Prelude.{◌≡◌, Some};
+ghost use Rattle.bd_script.specs.Faults.{fault_text};
 
 use bd_command::Command;
 use bd_names::PathFault;
@@ -39,6 +40,8 @@ pub enum LineFault {
 }
 
 impl fmt::Display for LineFault {
+    ghost output = { λ fault. Some (fault_text fault) };
+
     fn fmt<W: fmt::Write>(&self, f: &mut fmt::Formatter<W>) -> fmt::Result {
         match self {
             LineFault::BadLine => write!(f, "bad line"),

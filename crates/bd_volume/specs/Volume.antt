@@ -10,3 +10,7 @@ tree_of v = v.tree
 -- how many commands it has accepted
 abbrev pub count_of : {D : Type 0} → Volume D → ℕ
 count_of v = v.count
+
+-- its device
+abbrev pub device_of : {D : Type 0} → Volume D → D
+device_of v = v.device

@@ -6,7 +6,7 @@ ghost use Rattle.std.specs.Prelude.{◌≡◌, ◌≤◌, ◌+◌, ◌^◌, ◌�
 ghost use Rattle.bd_model.specs.Tree.{root_only};
 ghost use Rattle.bd_model.specs.Step.{step, refusal_of};
 ghost use Rattle.bd_command.specs.Command.{writes, accepted};
-ghost use Rattle.bd_volume.specs.Volume.{tree_of, count_of};
+ghost use Rattle.bd_volume.specs.Volume.{tree_of, count_of, device_of};
 
 use bd_command::{Command, Reply};
 use bd_device::Device;
@@ -49,6 +49,15 @@ impl From<AllocError> for Fault {
     }
 }
 
+/// Why a volume isn't opened, with its device.
+#[derive(Debug, Drop)]
+pub struct Refused<D> {
+    /// What refused it.
+    pub fault: Fault,
+    /// The device.
+    pub device: D,
+}
+
 /// A tree of directories and files, with the number of commands that it has accepted.
 #[derive(Drop)]
 pub struct Volume<D> {
@@ -58,18 +67,26 @@ pub struct Volume<D> {
 }
 
 impl<D: Device + Drop> Volume<D> {
-    /// Opens a volume on a device. It has `/` alone, and the device isn't called. The one fault is `NoMemory`.
-    pub fn start(alloc: Global, dev: D) -> Result<Volume<D>, Fault>
+    /// Opens a volume on a device. It has `/` alone, and the device isn't called. The one fault is `NoMemory`,
+    /// and gives the device back.
+    pub fn start(alloc: Global, device: D) -> Result<Volume<D>, Refused<D>>
         ensures tree { IfOk result (λ v. tree_of v ≡ root_only) }
         ensures count { IfOk result (λ v. count_of v ≡ 0) }
-        ensures fault { IfErr result (λ e. e ≡ Fault.NoMemory) }
+        ensures device { IfOk result (λ v. device_of v ≡ device) }
+        ensures fault { IfErr result (λ refused. refused.fault ≡ Fault.NoMemory) }
+        ensures given_back { IfErr result (λ refused. refused.device ≡ device) }
     {
-        let tree = PlainTree::new(alloc)?;
-        Ok(Volume {
-            device: dev,
-            tree,
-            count: 0,
-        })
+        match PlainTree::new(alloc) {
+            Ok(tree) => Ok(Volume {
+                device,
+                tree,
+                count: 0,
+            }),
+            Err(AllocError) => Err(Refused {
+                fault: Fault::NoMemory,
+                device,
+            }),
+        }
     }
 
     /// Executes a command. `Worn(Counter::Count)` comes only for an accepted writing command where the count
@@ -77,6 +94,7 @@ impl<D: Device + Drop> Volume<D> {
     pub fn do_command(&mut self, alloc: Global, command: &Command) -> Result<Reply, Fault>
         ensures step { IfOk result (λ reply. (tree_of self.new, reply) ≡ step (tree_of self.old) command.now) }
         ensures count { IfOk result (λ reply. count_of self.new ≡ count_of self.old + accepted command.now reply) }
+        ensures device { device_of self.new ≡ device_of self.old }
         ensures tree_stays { OnErr result (tree_of self.new ≡ tree_of self.old) }
         ensures count_stays { OnErr result (count_of self.new ≡ count_of self.old) }
         ensures fault { IfErr result (λ e. (e ≡ Fault.NoMemory) ⊎ (e ≡ Fault.Worn Counter.Count)) }
@@ -95,6 +113,13 @@ impl<D: Device + Drop> Volume<D> {
             self.count += 1;
         }
         Ok(reply)
+    }
+
+    /// The volume's device, which the volume gives up.
+    pub fn into_device(self) -> D
+        ensures { result ≡ device_of self }
+    {
+        self.device
     }
 
     /// How many commands it has accepted.

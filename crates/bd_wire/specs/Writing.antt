@@ -4,7 +4,7 @@ use Rattle.std.proofs.Common.{sym, ap, ◌∙◌, append_assoc, append-nil, leng
 use Rattle.std.proofs.lemmas.List.{take-append-drop, drop-drop, drop_all, length-drop, length-replicate}
 use Rattle.bd_wire.specs.Numbers.{length-be}
 use Rattle.bd_wire.specs.Text.{zeros, length-text16}
-use Rattle.bd_wire.specs.declared.out.Out.{Out}
+use Rattle.bd_wire.specs.declared.writer.Out.{Out}
 
 -- the bytes written so far
 abbrev pub written : Out → List ℕ

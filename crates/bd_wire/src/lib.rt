@@ -4,10 +4,10 @@
 
 mod cursor;
 pub mod laws;
-mod out;
+mod writer;
 
 pub use cursor::{Cursor, Short, all_zero};
-pub use out::Out;
+pub use writer::Out;
 
 #[cfg(test)]
 mod tests;

@@ -1,11 +1,16 @@
 -- How a whole run begins and ends.
-use Rattle.std.proofs.Common.{◌≡◌, ◌≢◌, ℕ, ◌≤◌, List, [], ◌∷◌, ◌++◌, length, refl, sym, subst, arith, inl, inr, length-append}
-use Rattle.std.specs.Prelude.{Option, IfErr, IfSome, Result, ◌⊎◌, IsSomeAnd}
+use Rattle.std.proofs.Common.{◌≡◌, ◌≢◌, ℕ, ◌≤◌, List, [], ◌∷◌, ◌++◌, length, refl, sym, ap, subst, arith, inl, inr, length-append}
+use Rattle.std.specs.Prelude.{map, Option, IfErr, IfSome, Result, IsSomeAnd}
+use Rattle.std.proofs.lemmas.List.{length-map}
 use Rattle.std.specs.declared.option.Option.TheVariants.{None, Some}
 use Rattle.std.specs.declared.result.Result.TheVariants.{Ok, Err}
 use Rattle.std.specs.Io.KnownBytes.{prepend_known}
 use Rattle.bd_io.specs.Cause.{Rose}
-use Rattle.bd_model.specs.Lines.{ScriptLine}
+use Rattle.bd_message.specs.declared.fault.Counter.{Counter}
+use Rattle.bd_model.specs.Lines.{ScriptLine, line_of, lines_of}
+use Rattle.bd_model.specs.Transcript.{executed_lines}
+use Rattle.bd_model.proofs.CutLines.{lines_of-few}
+use Rattle.bd_model.proofs.Transcripts.{up_to_stop-few, accepted_in-few}
 use Rattle.betr.specs.declared.fault.Fault.{Fault}
 use Rattle.betr.specs.declared.fault.Fault.TheVariants.{Device, Source, Memory, TooLong, Worn, Sink}
 use Rattle.betr.specs.declared.shell.Shell.{Shell}
@@ -73,14 +78,37 @@ too_long script (Some more) taken byte long is short =
     let few : length ((taken ++ byte ∷ []) ++ more) ≤ script_limit = subst (λ o. IsSomeAnd o (λ bytes. length bytes ≤ script_limit)) is short in
     omega (arith, few, long, length-append (taken ++ byte ∷ []) more, length-append taken (byte ∷ []))
 
--- without a failure of the outside, memory or a counter ended the run
-pub faultless : (e : Fault) (image script rest old new : Option (List ℕ)) (before now : Faults) → EndsBy e script rest old new before now → IsFaultless image script before now → (status_of e ≡ 6) ⊎ (status_of e ≡ 8)
+-- a script within the limit can't bring the count to its last value
+never_worn : (which : Counter) (script rest old w : Option (List ℕ)) → Ends (Worn which) (start_point old) script rest w → ⊥
+never_worn which script rest old w h =
+    let es = h.left.1.entries in
+    let ls = h.left.1.lines_are in
+    omega (arith, h.few, h.left.3, h.left.1.count_is, accepted_in-few es, length-map es (λ e. e.line), ap length ls.1, length-append (executed_lines es) ls.0,
+    up_to_stop-few (map line_of (lines_of h.taken)), length-map (lines_of h.taken) line_of, lines_of-few h.taken)
+
+-- without a failure of the outside, only memory ended the run
+pub faultless : (e : Fault) (image script rest old new : Option (List ℕ)) (before now : Faults) → EndsBy e script rest old new before now → IsFaultless image script before now → status_of e ≡ 6
 faultless Device image script rest old new before now h f = absurd (f.device h.cause)
 faultless Source image script rest old new before now h f = absurd (f.source h.cause)
-faultless Memory image script rest old new before now h f = inl refl
+faultless Memory image script rest old new before now h f = refl
 faultless TooLong image script rest old new before now h f = absurd (too_long script rest h.left.0 h.left.1 h.left.2 h.left.3.taken_is f.short)
-faultless (Worn which) image script rest old new before now h f = inr refl
+faultless (Worn which) image script rest old new before now h f = absurd (never_worn which script rest old h.written h.left)
 faultless Sink image script rest old new before now h f = absurd (f.sink h.cause)
+
+-- only the device's fault has the status 3
+pub device_alone : (e : Fault) → status_of e ≡ 3 → e ≡ Device
+device_alone Device is = refl
+device_alone Source is = absurd (omega (arith, is))
+device_alone Memory is = absurd (omega (arith, is))
+device_alone TooLong is = absurd (omega (arith, is))
+device_alone (Worn which) is = absurd (omega (arith, is))
+device_alone Sink is = absurd (omega (arith, is))
+
+-- and no session ends by it
+pub no_device : {T : Type 0} (r : Result T Fault) (source_before source_now sink_before sink_now : ℕ)
+    → IfErr r (λ e. HasCauseIn e source_before source_now sink_before sink_now) → r ≡ Err Device → ⊥
+no_device (Ok x) a b c d h is = cc
+no_device (Err e) a b c d h is = absurd (subst (λ r. IfErr r (λ e. HasCauseIn e a b c d)) is h)
 
 -- a fault's status is neither that of success nor that of refused words
 pub status_of-faults : (e : Fault) → (status_of e ≢ 0) × (status_of e ≢ 2)

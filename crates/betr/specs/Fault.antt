@@ -1,8 +1,7 @@
 -- The faults that end a run.
 use Rattle.std.specs.Prelude.{ℕ, List, [], ◌∷◌, ◌++◌, codes, ⊤}
 use Rattle.bd_io.specs.Cause.{Rose}
-use Rattle.bd_message.specs.declared.fault.Counter.{Counter}
-use Rattle.bd_message.specs.declared.fault.Counter.TheVariants.{Count, NextId, Level, Refs, Epoch, Flushes}
+use Rattle.bd_message.specs.Counters.{counter_name}
 use Rattle.betr.specs.declared.fault.Fault.{Fault}
 use Rattle.betr.specs.declared.fault.Fault.TheVariants.{Device, Source, Memory, TooLong, Worn, Sink}
 
@@ -14,14 +13,6 @@ status_of Memory = 6
 status_of TooLong = 7
 status_of (Worn which) = 8
 status_of Sink = 9
-
-abbrev pub counter_name : Counter → List ℕ
-counter_name Count = codes "count"
-counter_name NextId = codes "id"
-counter_name Level = codes "level"
-counter_name Refs = codes "refs"
-counter_name Epoch = codes "epoch"
-counter_name Flushes = codes "flushes"
 
 -- a fault's line; the sink's own fault has none
 abbrev pub fault_line : Fault → List ℕ

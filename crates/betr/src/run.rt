@@ -1,4 +1,5 @@
-ghost use Rattle.std.specs.Prelude.{◌≡◌, ◌≢◌, ◌≤◌, ◌↔◌, ◌⊎◌, [], map, string_bytes, IsNone, IsSome, IfErr, OnOk};
+ghost use Rattle.std.specs.Prelude.{◌≡◌, ◌≢◌, ◌≤◌, ◌↔◌, ◌⊎◌, ℕ, List, [], map, string_bytes, IsNone, IsSome, IfSome, IfErr, OnOk};
+ghost use Rattle.bd_io.specs.Cause.{next_count};
 ghost use Rattle.betr.specs.declared.fault.Fault.{Fault};
 ghost use Rattle.betr.specs.Fault.{status_of};
 ghost use Rattle.betr.specs.Session.{Finishes, Ends};
@@ -12,6 +13,7 @@ use crate::shell::Shell;
 use crate::words;
 use bd_device::Attach;
 use bd_io::{Sink, Source, put_all};
+use bd_volume::Refused;
 use std::alloc::Global;
 
 /// What is written where the words are refused.
@@ -28,14 +30,25 @@ fn run_image<D: Attach, S: Source, K: Sink>(
 ) -> Result<(), Fault>
     ensures ok { OnOk result (Finishes (start_point (K.written sink.old)) (S.left src.old) (S.left src.new) (K.written sink.new)) }
     ensures err { IfErr result (λ e. Ends e (start_point (K.written sink.old)) (S.left src.old) (S.left src.new) (K.written sink.new)) }
+    ensures attached { result ≢ Err Fault.Device → D.contents dev.new ≡ D.shows dev.old image.now }
+    ensures detached { result ≡ Err Fault.Device → D.block_count dev.new ≡ 0 }
+    ensures behind { result ≡ Err Fault.Device → (other : List ℕ) → D.shows dev.new other ≡ D.shows dev.old other }
+    ensures once { D.call_count dev.new ≡ next_count (D.call_count dev.old) }
+    ensures same_loans { D.loans dev.new ≡ D.loans dev.old }
     ensures cause { IsImageResult (faults (D.fault_count dev.old) (S.fault_count src.old) (K.fault_count sink.old)) (faults (D.fault_count dev.new) (S.fault_count src.new) (K.fault_count sink.new)) result }
 {
     if dev.attach(image, None).is_err() {
         return Err(Fault::Device);
     }
     match Shell::new(alloc, &mut *dev) {
-        Ok(mut shell) => run_script(alloc, &mut shell, src, sink),
-        Err(fault) => Err(fault),
+        Ok(mut shell) => {
+            let result = run_script(alloc, &mut shell, src, sink);
+            let _device = shell.into_device();
+            result
+        }
+        Err(Refused {
+            device: _device, ..
+        }) => Err(Fault::Memory),
     }
 }
 
@@ -72,10 +85,17 @@ pub fn run<D: Attach, S: Source, K: Sink>(
     ensures device_untouched { result.status ≡ 2 → dev.new ≡ dev.old }
     ensures source_untouched { result.status ≡ 2 → src.new ≡ src.old }
 
-    // Where nothing fails, the script is executed, unless memory runs out or the count is at its last value.
+    // The named image is attached, and nothing else is done with the device.
+    ensures attached { IfSome (image_of (map string_bytes words.now)) (λ image. result.status ≢ 3 → D.contents dev.new ≡ D.shows dev.old image) }
+    ensures detached { result.status ≡ 3 → D.block_count dev.new ≡ 0 }
+    ensures behind { result.status ≡ 3 → (other : List ℕ) → D.shows dev.new other ≡ D.shows dev.old other }
+    ensures once { result.status ≢ 2 → D.call_count dev.new ≡ next_count (D.call_count dev.old) }
+    ensures same_loans { D.loans dev.new ≡ D.loans dev.old }
+
+    // Where nothing fails, the script is executed, unless memory runs out.
     ensures complete { IsFaultless (image_of (map string_bytes words.now)) (S.left src.old)
         (faults (D.fault_count dev.old) (S.fault_count src.old) (K.fault_count sink.old)) (faults (D.fault_count dev.new) (S.fault_count src.new) (K.fault_count sink.new))
-        → (result.status ≡ 0) ⊎ ((result.status ≡ 6) ⊎ (result.status ≡ 8)) }
+        → (result.status ≡ 0) ⊎ (result.status ≡ 6) }
     ensures acks { result.acks ≡ [] }
 {
     let acks = Acks::none(alloc);

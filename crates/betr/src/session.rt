@@ -1,6 +1,7 @@
 ghost use Rattle.std.specs.Prelude.{◌≡◌, ◌≤◌, ◌<◌, ◌+◌, ◌++◌, ◌∷◌, [], ℕ, List, length, take, IfOk, IfErr, OnOk, OnErr};
 ghost use Rattle.std.specs.Io.KnownBytes.{prepend_known, IsAtEnd};
 ghost use Rattle.bd_io.specs.Cause.{HasCause};
+ghost use Rattle.bd_volume.specs.Volume.{device_of};
 ghost use Rattle.betr.specs.Session.{Finishes, Ends, script_limit};
 ghost use Rattle.betr.specs.Shell.{point_of, IsSessionResult};
 ghost use Rattle.betr.specs.Taken.{Takes};
@@ -60,6 +61,7 @@ pub fn run_script<D: Device + Drop, S: Source, K: Sink>(
     requires { shell.old.line.items ≡ [] }
     ensures ok { OnOk result (Finishes (point_of shell.old.volume (K.written sink.old)) (S.left src.old) (S.left src.new) (K.written sink.new)) }
     ensures err { IfErr result (λ e. Ends e (point_of shell.old.volume (K.written sink.old)) (S.left src.old) (S.left src.new) (K.written sink.new)) }
+    ensures device { device_of shell.new.volume ≡ device_of shell.old.volume }
     ensures cause { IsSessionResult (S.fault_count src.old) (S.fault_count src.new) (K.fault_count sink.old) (K.fault_count sink.new) result }
 {
     let mut piece = [0; PIECE];

@@ -8,7 +8,7 @@ ghost use Rattle.bd_model.specs.Replies.{reply_line};
 ghost use Rattle.bd_model.specs.Transcript.{Follows, IsThere, accepted_by, is_stop, up_to_stop};
 ghost use Rattle.bd_model.proofs.CutLines.{IsHeld};
 ghost use Rattle.bd_script.specs.Script.{script_line, IsLine, IsReply};
-ghost use Rattle.bd_volume.specs.Volume.{tree_of, count_of};
+ghost use Rattle.bd_volume.specs.Volume.{tree_of, count_of, device_of};
 ghost use Rattle.betr.specs.Fault.{HasCauseIn};
 ghost use Rattle.betr.specs.Session.{Executes, Leaves};
 ghost use Rattle.betr.specs.Shell.{stops, point_of, lines_at, line_after, last_lines, meanings, IsAtStart, IsAnswerFault, IsShellResult};
@@ -18,7 +18,7 @@ use bd_command::{Refusal, Reply};
 use bd_device::Device;
 use bd_io::{Failed, Sink, put_all};
 use bd_script::{Line, LineFault, read_line};
-use bd_volume::Volume;
+use bd_volume::{Fault as VolumeFault, Refused, Volume};
 use std::alloc::{AllocError, Global};
 
 /// How a session goes on after a line.
@@ -40,6 +40,7 @@ fn execute<D: Device + Drop>(
     requires limits { IsLine line }
     ensures follows { IfOk result (λ r. Follows (tree_of volume.old) (script_line line) r.0 (tree_of volume.new)) }
     ensures count { IfOk result (λ r. count_of volume.new ≡ count_of volume.old + accepted_by (script_line line) r.0) }
+    ensures device { device_of volume.new ≡ device_of volume.old }
     ensures flow { IfOk result (λ r. stops r.1 ≡ is_stop (script_line line)) }
     ensures small { IfOk result (λ r. IsReply r.0) }
     ensures fault { IfErr result (λ e. IsAnswerFault e (count_of volume.old)) }
@@ -47,7 +48,7 @@ fn execute<D: Device + Drop>(
     match line {
         Line::Run(command) => match volume.do_command(alloc, &command) {
             Ok(reply) => Ok((reply, Flow::Continue)),
-            Err(bd_volume::Fault::Worn(counter)) => Err(Fault::Worn(counter)),
+            Err(VolumeFault::Worn(counter)) => Err(Fault::Worn(counter)),
             Err(_) => Err(Fault::Memory),
         },
         Line::Stop => Ok((Reply::Done, Flow::Stop)),
@@ -63,6 +64,7 @@ fn answer<D: Device + Drop>(
 ) -> Result<(Reply, Flow), Fault>
     ensures follows { IfOk result (λ r. Follows (tree_of volume.old) (line_of line.now) r.0 (tree_of volume.new)) }
     ensures count { IfOk result (λ r. count_of volume.new ≡ count_of volume.old + accepted_by (line_of line.now) r.0) }
+    ensures device { device_of volume.new ≡ device_of volume.old }
     ensures flow { IfOk result (λ r. stops r.1 ≡ is_stop (line_of line.now)) }
     ensures small { IfOk result (λ r. IsReply r.0) }
     ensures fault { IfErr result (λ e. IsAnswerFault e (count_of volume.old)) }
@@ -98,6 +100,7 @@ fn carry_out<D: Device + Drop, K: Sink>(
     ensures ok { OnOk result (Executes (point_of volume.old (K.written sink.old)) (line_of line.now ∷ []) (point_of volume.new (K.written sink.new))) }
     ensures flow { IfOk result (λ flow. stops flow ≡ is_stop (line_of line.now)) }
     ensures err { IfErr result (λ e. Leaves e (point_of volume.old (K.written sink.old)) (line_of line.now ∷ []) (K.written sink.new)) }
+    ensures device { device_of volume.new ≡ device_of volume.old }
     ensures cause { IsShellResult (K.fault_count sink.old) (K.fault_count sink.new) result }
 {
     match answer(alloc, volume, line) {
@@ -121,18 +124,32 @@ pub struct Shell<D> {
 }
 
 impl<D: Device + Drop> Shell<D> {
-    /// A shell over a new volume on a device. The one fault is `Fault::Memory`.
-    pub fn new(alloc: Global, dev: D) -> Result<Shell<D>, Fault>
+    /// A shell over a new volume on a device. The one fault is want of memory, and gives the device back.
+    pub fn new(alloc: Global, device: D) -> Result<Shell<D>, Refused<D>>
         ensures start { IfOk result (λ s. IsAtStart s) }
-        ensures fault { IfErr result (λ e. e ≡ Fault.Memory) }
+        ensures device { IfOk result (λ s. device_of s.volume ≡ device) }
+        ensures fault { IfErr result (λ refused. refused.fault ≡ VolumeFault.NoMemory) }
+        ensures given_back { IfErr result (λ refused. refused.device ≡ device) }
     {
-        let buffer = Box::new(alloc, [0; 32768]).map_err(|_| Fault::Memory)?;
-        let volume = Volume::start(alloc, dev).map_err(|_| Fault::Memory)?;
+        let Ok(buffer) = Box::new(alloc, [0; 32768]) else {
+            return Err(Refused {
+                fault: VolumeFault::NoMemory,
+                device,
+            });
+        };
+        let volume = Volume::start(alloc, device)?;
         Ok(Shell {
             volume,
             line: Vec::new(alloc),
             buffer,
         })
+    }
+
+    /// The device, which the shell gives up.
+    pub fn into_device(self) -> D
+        ensures { result ≡ device_of self.volume }
+    {
+        self.volume.into_device()
     }
 
     /// Takes the next byte of a script: a newline has the line before it executed.
@@ -142,6 +159,7 @@ impl<D: Device + Drop> Shell<D> {
         ensures line { OnOk result (self.new.line.items ≡ line_after byte self.old.line.items) }
         ensures flow { IfOk result (λ flow. stops flow ≡ list_any is_stop (lines_at byte self.old.line.items)) }
         ensures err { IfErr result (λ e. Leaves e (point_of self.old.volume (K.written sink.old)) (lines_at byte self.old.line.items) (K.written sink.new)) }
+        ensures device { device_of self.new.volume ≡ device_of self.old.volume }
         ensures cause { IsShellResult (K.fault_count sink.old) (K.fault_count sink.new) result }
     {
         if byte == b'\n' {
@@ -168,6 +186,7 @@ impl<D: Device + Drop> Shell<D> {
         ensures flow { IfOk result (λ flow. stops flow ≡ list_any is_stop (meanings (self.old.line.items ++ piece.now))) }
         ensures line { IfOk result (λ flow. stops flow ≡ false → self.new.line.items ≡ held (open_line (self.old.line.items ++ piece.now))) }
         ensures err { IfErr result (λ e. Leaves e (point_of self.old.volume (K.written sink.old)) (up_to_stop (meanings (self.old.line.items ++ piece.now))) (K.written sink.new)) }
+        ensures device { device_of self.new.volume ≡ device_of self.old.volume }
         ensures cause { IsShellResult (K.fault_count sink.old) (K.fault_count sink.new) result }
     {
         for byte in piece {
@@ -184,6 +203,7 @@ impl<D: Device + Drop> Shell<D> {
     pub fn finish<K: Sink>(&mut self, alloc: Global, sink: &mut K) -> Result<(), Fault>
         ensures ok { OnOk result (Executes (point_of self.old.volume (K.written sink.old)) (last_lines self.old.line.items) (point_of self.new.volume (K.written sink.new))) }
         ensures err { IfErr result (λ e. Leaves e (point_of self.old.volume (K.written sink.old)) (last_lines self.old.line.items) (K.written sink.new)) }
+        ensures device { device_of self.new.volume ≡ device_of self.old.volume }
         ensures cause { IsShellResult (K.fault_count sink.old) (K.fault_count sink.new) result }
     {
         if self.line.is_empty() {

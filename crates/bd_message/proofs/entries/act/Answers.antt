@@ -1,4 +1,4 @@
-use Rattle.std.proofs.Common.{sym, ap, ◌∙◌}
+use Rattle.std.proofs.Common.{sym, ◌∙◌}
 use Rattle.bd_message.specs.declared.message.Message.TheVariants.{Cut}
 use Rattle.bd_message.proofs.Finds.{acted_put, acted_del, acted_cut}
 use Rattle.bd_message.proofs.entries.act.Goals as goal

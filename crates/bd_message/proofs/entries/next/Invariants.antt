@@ -1,4 +1,4 @@
-use Rattle.std.proofs.Common.{take, List, ℕ}
+use Rattle.std.proofs.Common.{take}
 use Rattle.std.specs.Option.{option_copied}
 use Rattle.bd_message.specs.KeyMaps.{IsNext}
 use Rattle.bd_message.proofs.Finds.{found}

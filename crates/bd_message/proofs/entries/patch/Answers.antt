@@ -1,6 +1,4 @@
-use Rattle.std.proofs.Common.{sym, ap, ◌∙◌, rules, []}
-use Rattle.std.specs.Option.{unwrap_or}
-use Rattle.bd_message.specs.Effect.{patched}
+use Rattle.std.proofs.Common.{rules}
 use Rattle.bd_message.proofs.Finds.{acted_patch, on_ok}
 use Rattle.bd_message.proofs.entries.patch.Goals as goal
 

@@ -1,6 +1,6 @@
 use Rattle.std.proofs.Common.{not, rules}
 use Rattle.std.proofs.lemmas.Fn.{filter_same}
-use Rattle.bd_message.specs.Effect.{same_key, begins, is_cut}
+use Rattle.bd_message.specs.Effect.{same_key}
 use Rattle.bd_message.proofs.entries.remove.Goals as goal
 
 pub returns : goal.returns

@@ -24,6 +24,7 @@ pieces-preserved g c =
     (omega (arith, got.2, long)) got.3 c.in-Ok-Continue.ensures.ok (sym c.in-Ok-Continue.ensures.flow ∙ ap stops c.in-Ok-Continue.field-0-is) (c.in-Ok-Continue.ensures.line (ap stops c.in-Ok-Continue.field-0-is)) in
     record {
       stands = subst (λ n. Stands p r c.feed.new.self.line.items (c.pieces.taken + n) (g.S.Source.left c.args.src.now) (g.S.Source.left c.next_piece.new.src)) long more;
+      device = c.feed.ensures.device ∙ c.pieces.invariant.device;
       source_later = omega (arith, c.pieces.invariant.source_later, c.in-Ok-Piece.ensures.cause.later);
       sink_later = omega (arith, c.pieces.invariant.sink_later, c.in-Ok-Continue.ensures.cause.later);
     }

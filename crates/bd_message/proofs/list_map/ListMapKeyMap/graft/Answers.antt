@@ -1,4 +1,4 @@
-use Rattle.std.proofs.Common.{ap, ◌∙◌, List, ℕ}
+use Rattle.std.proofs.Common.{ap, ◌∙◌, List}
 use Rattle.bd_message.specs.KeyMaps.{At, grafted}
 use Rattle.bd_message.proofs.Finds.{Entry, found}
 use Rattle.bd_message.proofs.Views.{seen, seen_all}

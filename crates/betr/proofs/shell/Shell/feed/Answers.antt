@@ -1,5 +1,5 @@
 -- Each byte goes on from the lines before it, and the last one ends the piece.
-use Rattle.std.proofs.Common.{◌++◌, length, take, drop, get_or, ◌+◌, sym, ap, subst, ◌∙◌, arith}
+use Rattle.std.proofs.Common.{◌++◌, length, take, drop, get_or, ◌+◌, refl, sym, ap, subst, ◌∙◌, arith}
 use Rattle.std.specs.List.{list_any}
 use Rattle.bd_model.specs.Lines.{held, open_line}
 use Rattle.bd_model.specs.Transcript.{is_stop}
@@ -19,6 +19,7 @@ loop-byte-init g c =
       executed = subst (λ l. Executes p l p) (sym none.0) (executes_none p);
       no_stop = ap (list_any is_stop) none.0;
       line = sym none.1;
+      device = refl;
       later = omega arith;
     }
 
@@ -65,6 +66,7 @@ loop-byte-preserved g c =
       executed = subst (λ l. Executes (point_of c.args.self.now.volume (g.K.Sink.written c.args.sink.now)) (meanings l) (point_of c.feed_byte.new.self.volume (g.K.Sink.written c.feed_byte.new.sink))) (sym at.next) on.executed;
       no_stop = ap (λ l. list_any is_stop (meanings l)) at.next ∙ on.no_stop;
       line = c.in-Ok-Continue.ensures.line ∙ ap (line_after b) c.loop-byte.invariant.line ∙ sym (open_line-line_after fed b) ∙ ap (λ l. held (open_line l)) (sym at.next);
+      device = c.feed_byte.ensures.device ∙ c.loop-byte.invariant.device;
       later = omega (arith, c.loop-byte.invariant.later, c.in-Ok-Continue.ensures.cause.later);
     }
 

@@ -1,6 +1,6 @@
 use Rattle.std.proofs.Common.{refl, length}
 use Rattle.bd_wire.proofs.Put.{take-put_at, drop-put_at}
-use Rattle.bd_wire.proofs.out.Out.put_bytes.Goals as goal
+use Rattle.bd_wire.proofs.writer.Out.put_bytes.Goals as goal
 
 pub returns-clause-puts : goal.returns-clause-puts
 returns-clause-puts c =

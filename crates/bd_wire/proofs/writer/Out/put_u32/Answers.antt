@@ -2,7 +2,7 @@ use Rattle.std.proofs.Common.{refl}
 use Rattle.std.specs.Int.{w32}
 use Rattle.bd_wire.specs.Numbers.{be}
 use Rattle.bd_wire.proofs.Put.{take-put_at, drop-put_at}
-use Rattle.bd_wire.proofs.out.Out.put_u32.Goals as goal
+use Rattle.bd_wire.proofs.writer.Out.put_u32.Goals as goal
 
 pub returns-clause-puts : goal.returns-clause-puts
 unfolding be
