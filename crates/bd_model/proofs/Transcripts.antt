@@ -1,5 +1,6 @@
 -- Transcripts put together.
-use Rattle.std.proofs.Common.{◌≡◌, ℕ, ◌+◌, ◌≤◌, Bool, true, false, cond, List, [], ◌∷◌, ◌++◌, length, refl, ap, arith}
+use Rattle.std.proofs.Common.{◌≡◌, ◌+◌, ◌≤◌, Bool, true, false, cond, List, [], ◌∷◌, ◌++◌, length, refl, ap, arith}
+use Rattle.std.proofs.lemmas.List.Sums.{sum_by-append}
 use Rattle.std.specs.List.{list_any}
 use Rattle.std.specs.Prelude.{◌||◌, ◌&&◌}
 use Rattle.bd_command.specs.Command.{writes, is_done}
@@ -71,7 +72,7 @@ accepted_by-few BadPath r = omega arith
 
 pub accepted_in-few : (es : List Executed) → accepted_in es ≤ length es
 accepted_in-few [] = omega arith
-accepted_in-few (e ∷ es) = more (accepted_by e.line e.reply) (accepted_in es) (accepted_by-few e.line e.reply) (accepted_in-few es)
+accepted_in-few (e ∷ es) = omega (arith, sum_by-append (λ x. accepted_by x.line x.reply) (e ∷ []) es, first, accepted_in-few es)
   where
-    more : (a b : ℕ) → a ≤ 1 → b ≤ length es → a + b ≤ length (e ∷ es)
-    more a b h g = omega (arith, h, g)
+    first : 0 + accepted_by e.line e.reply ≤ 1
+    first = omega (arith, accepted_by-few e.line e.reply)

@@ -1,6 +1,7 @@
 -- Where the names of a path end in its text.
 use Rattle.std.specs.Prelude.{◌≡◌, ℕ, ◌+◌, ◌-◌, ◌<◌, ◌≤◌, Bool, true, false, zero, suc, List, [], ◌∷◌, ◌++◌, length, take, drop, nat_eq, ◌==◌, refl, cond, if◌then◌else◌}
-use Rattle.std.specs.List.{onto_first}
+use Rattle.std.specs.List.{onto_first, list_all}
+use Rattle.std.proofs.lemmas.List.Folds.{list_all_at}
 use Rattle.std.specs.declared.option.Option.TheVariants.{Some}
 use Rattle.std.proofs.Common.{sym, ◌∙◌, ap, subst, arith, get_or, append_assoc, length-append}
 use Rattle.std.proofs.lemmas.Bool.{eqb-true, eqb-false, eq-eqb, ne_eqb, false_from_ne_true, both_ways}
@@ -8,7 +9,7 @@ use Rattle.std.proofs.lemmas.List.{append-nil, append_cancel_left, take_at, drop
 use Rattle.std.proofs.lemmas.List.Splits.{length-slice_split}
 use Rattle.std.specs.Cmp.Lexicographic.{pointwise}
 use Rattle.std.proofs.lemmas.Slice.Eq.{bytes_eq-Decides}
-use Rattle.bd_names.specs.Names.{AreNames, path_text, names_in, key_of, parent_of, is_under}
+use Rattle.bd_names.specs.Names.{AreNames, is_name, path_text, names_in, key_of, parent_of, is_under}
 use Rattle.bd_names.specs.NamesLaws.{is_path-parts, path_text-names_in, names_in-path_text, is_path-path_text, slashed, slashed-append, slashed-front, at_slashes, parent_of-append, AreNames-parts, AreNames-cons, is_name-length, is_under-append, is_under-rest, is_under-refl, key_of-append}
 use Rattle.bd_names.specs.Cuts.{ends_from, IsCut}
 
@@ -101,6 +102,17 @@ cuts-length text cuts ns h e = ap length (h.ends ∙ ap (ends_from 1) e) ∙ len
 pub path_text-slashed : (ns : List (List ℕ)) → 0 < length ns → path_text ns ≡ slashed ns
 path_text-slashed [] h = absurd (omega arith)
 path_text-slashed (n ∷ ns) h = refl
+
+-- each of some names is one
+pub cut-is_name : (text cuts : List ℕ) (ns : List (List ℕ)) (i : ℕ) → IsCut text cuts → names_in text ≡ ns → i < length cuts → is_name (get_or ns i []) ≡ true
+cut-is_name text cuts ns i h e l = by (is_name (get_or ns i [])) refl
+  where
+    by : (b : Bool) → is_name (get_or ns i []) ≡ b → is_name (get_or ns i []) ≡ true
+    by true is = is
+    by false is =
+        let none : list_all is_name ns ≡ false = list_all_at is_name ns i [] (omega (arith, l, cuts-length text cuts ns h e)) is in
+        let all : list_all is_name ns ≡ true = IsCut-names text cuts ns h e in
+        cc
 
 parted : (ns : List (List ℕ)) (i : ℕ) → i < length ns → ns ≡ take i ns ++ get_or ns i [] ∷ drop (i + 1) ns
 parted ns i h = sym (take-append-drop i ns) ∙ ap (λ x. take i ns ++ x) (drop_more ns i [] h)

@@ -49,6 +49,14 @@ impl Name {
         if !Name::is_name(text) {
             return Err(PathFault::BadPath);
         }
+        Ok(Name::from_text(alloc, text)?)
+    }
+
+    // A name, of a text that is one.
+    pub(crate) fn from_text(alloc: Global, text: &[u8]) -> Result<Name, AllocError>
+        requires { IsTrue (is_name text.now) }
+        ensures { IfOk result (λ name. name ≡ text.now) }
+    {
         Ok(Name {
             text: Vec::from_slice(alloc, text)?,
         })
@@ -66,9 +74,7 @@ impl Name {
     pub fn copy(&self, alloc: Global) -> Result<Name, AllocError>
         ensures { IfOk result (λ copy. copy ≡ self.now) }
     {
-        Ok(Name {
-            text: Vec::from_slice(alloc, self.text.as_slice())?,
-        })
+        Name::from_text(alloc, self.as_bytes())
     }
 }
 

@@ -1,5 +1,5 @@
 // A path.
-ghost use Rattle.std.specs.Prelude.{◌≡◌, ◌<◌, ◌≤◌, ◌↔◌, [], List, ℕ, length, map, take, drop, slice_index_or, IsTrue, IfOk, OnOk, MatchOption};
+ghost use Rattle.std.specs.Prelude.{◌≡◌, ◌<◌, ◌≤◌, ◌↔◌, [], List, ℕ, length, take, drop, slice_index_or, IsTrue, IfOk, OnOk, MatchOption};
 ghost use Rattle.std.specs.Prelude.{◌+◌, ◌-◌, ◌==◌, if◌then◌else◌, slice_index};
 ghost use Rattle.std.specs.List.{list_all, slice_split};
 ghost use Rattle.bd_names.specs.Names.{is_name, AreNames, path_text, names_in, is_path, path_of, key_of, is_under, parent_of};
@@ -122,12 +122,12 @@ impl Path {
     }
 
     /// The names of the path, from the first on.
-    pub fn names(&self, alloc: Global) -> Result<Vec<Vec<u8>>, AllocError>
-        ensures { IfOk result (λ names. map (λ name. name.items) names.items ≡ self.now) }
+    pub fn names(&self, alloc: Global) -> Result<Vec<Name>, AllocError>
+        ensures { IfOk result (λ names. names.items ≡ self.now) }
     {
         let mut names = Vec::with_capacity(alloc, self.cuts.len())?;
         for i in 0..self.cuts.len() {
-            names.push(Vec::from_slice(alloc, name_at(&self.text, &self.cuts, i))?)?;
+            names.push(Name::from_text(alloc, name_at(&self.text, &self.cuts, i))?)?;
         }
         Ok(names)
     }

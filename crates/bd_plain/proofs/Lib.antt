@@ -2,4 +2,3 @@ pub mod PathOrder
 pub mod EntryPlaces
 pub mod TreeViews
 pub mod RefusalOrder
-pub mod NameTexts

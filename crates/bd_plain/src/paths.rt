@@ -1,47 +1,13 @@
 //! Paths as lists of names, however many bytes they have.
 
-ghost use Rattle.std.specs.Prelude.{◌≡◌, ◌++◌, map, IfOk, OnOk, IsTrue};
+ghost use Rattle.std.specs.Prelude.{◌≡◌, ◌++◌, IfOk, OnOk};
 ghost use Rattle.std.specs.Option.{option_map};
-ghost use Rattle.bd_names.specs.Names.{AreNames, is_name, rest_below, is_under, parent_of};
+ghost use Rattle.bd_names.specs.Names.{rest_below, is_under, parent_of};
 ghost use Rattle.bd_model.specs.Tree.{path_cmp};
 
-use bd_names::{Name, Path, PathFault};
+use bd_names::Name;
 use std::alloc::{AllocError, Global};
 use std::cmp::Ordering;
-
-/// The names of a path.
-pub fn names_of(alloc: Global, path: &Path) -> Result<Vec<Name>, AllocError>
-    ensures { IfOk result (λ names. names.items ≡ path.now) }
-{
-    // The text's contract says that they are names.
-    let _text = path.as_bytes();
-    let texts = path.names(alloc)?;
-    names_from(alloc, &texts)
-}
-
-/// Names, of texts that are names.
-fn names_from(alloc: Global, texts: &[Vec<u8>]) -> Result<Vec<Name>, AllocError>
-    requires { AreNames (map (λ text. text.items) texts.now) }
-    ensures { IfOk result (λ names. names.items ≡ map (λ text. text.items) texts.now) }
-{
-    let mut names = Vec::new(alloc);
-    for text in texts {
-        names.push(name_from(alloc, text)?)?;
-    }
-    Ok(names)
-}
-
-/// A name, of a text that is one.
-fn name_from(alloc: Global, text: &[u8]) -> Result<Name, AllocError>
-    requires { IsTrue (is_name text.now) }
-    ensures { IfOk result (λ name. name ≡ text.now) }
-{
-    match Name::read(alloc, text) {
-        Ok(name) => Ok(name),
-        Err(PathFault::NoMemory) => Err(AllocError),
-        Err(PathFault::BadPath) => unreachable!(),
-    }
-}
 
 /// The order of two paths: that of their names, name by name.
 #[tactic(auto, using(crate::proofs::PathOrder::path_ends))]

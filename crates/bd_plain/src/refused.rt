@@ -4,8 +4,8 @@ ghost use Rattle.std.specs.Prelude.{◌≡◌, IfOk};
 ghost use Rattle.bd_model.specs.Step.{refusal_of, file_refusal};
 ghost use Rattle.std.specs.FinMap.{get};
 
+use crate::refusals;
 use crate::tree::PlainTree;
-use crate::{paths, refusals};
 use bd_command::{Command, Refusal};
 use bd_names::Name;
 use std::alloc::{AllocError, Global};
@@ -16,28 +16,25 @@ impl PlainTree {
         ensures { IfOk result (λ refusal. refusal ≡ refusal_of self.now command.now) }
     {
         Ok(match command {
-            Command::Mkdir { path } => self.new_refusal(&paths::names_of(alloc, path)?),
-            Command::Create { path } => self.new_refusal(&paths::names_of(alloc, path)?),
+            Command::Mkdir { path } => self.new_refusal(&path.names(alloc)?),
+            Command::Create { path } => self.new_refusal(&path.names(alloc)?),
             Command::Write { path, off, bytes } => self
-                .file_refusal(&paths::names_of(alloc, path)?)
+                .file_refusal(&path.names(alloc)?)
                 .or(refusals::size_refusal(*off, bytes.len())),
             Command::Truncate { path, len } => self
-                .file_refusal(&paths::names_of(alloc, path)?)
+                .file_refusal(&path.names(alloc)?)
                 .or(refusals::size_refusal(*len, 0)),
             Command::Remove { path } => {
-                let path = paths::names_of(alloc, path)?;
+                let path = path.names(alloc)?;
                 refusals::root_refusal(&path).or(self.absent_refusal(&path))
             }
-            Command::Rename { a, b } => self.rename_refusal(
-                &paths::names_of(alloc, a)?,
-                &paths::names_of(alloc, b)?,
-            ),
+            Command::Rename { a, b } => self.rename_refusal(&a.names(alloc)?, &b.names(alloc)?),
             Command::Clone { a, b } => self
-                .absent_refusal(&paths::names_of(alloc, a)?)
-                .or(self.new_refusal(&paths::names_of(alloc, b)?)),
-            Command::Read { path, .. } => self.file_refusal(&paths::names_of(alloc, path)?),
-            Command::Stat { path } => self.absent_refusal(&paths::names_of(alloc, path)?),
-            Command::List { path, .. } => self.directory_refusal(&paths::names_of(alloc, path)?),
+                .absent_refusal(&a.names(alloc)?)
+                .or(self.new_refusal(&b.names(alloc)?)),
+            Command::Read { path, .. } => self.file_refusal(&path.names(alloc)?),
+            Command::Stat { path } => self.absent_refusal(&path.names(alloc)?),
+            Command::List { path, .. } => self.directory_refusal(&path.names(alloc)?),
         })
     }
 

@@ -7,8 +7,8 @@ ghost use Rattle.bd_model.specs.Step.{step, those_after, listing_of};
 
 use crate::entry::{Content, Placed};
 use crate::file::File;
+use crate::refusals;
 use crate::tree::PlainTree;
-use crate::{paths, refusals};
 use bd_command::{Command, Listed, Listing, Names, Refusal, Reply};
 use bd_keys::Bytes;
 use bd_names::{Name, Path};
@@ -42,7 +42,7 @@ impl PlainTree {
         ensures ok { IfOk result (λ reply. (self.new, reply) ≡ step self.old (command.Mkdir path.now)) }
         ensures err { OnErr result (self.new ≡ self.old) }
     {
-        let path = paths::names_of(alloc, path)?;
+        let path = path.names(alloc)?;
         if let Some(refusal) = self.new_refusal(&path) {
             return Ok(Reply::Refused(refusal));
         }
@@ -55,7 +55,7 @@ impl PlainTree {
         ensures ok { IfOk result (λ reply. (self.new, reply) ≡ step self.old (command.Create path.now)) }
         ensures err { OnErr result (self.new ≡ self.old) }
     {
-        let path = paths::names_of(alloc, path)?;
+        let path = path.names(alloc)?;
         if let Some(refusal) = self.new_refusal(&path) {
             return Ok(Reply::Refused(refusal));
         }
@@ -74,7 +74,7 @@ impl PlainTree {
         ensures ok { IfOk result (λ reply. (self.new, reply) ≡ step self.old (command.Write path.now off bytes.now)) }
         ensures err { OnErr result (self.new ≡ self.old) }
     {
-        let path = paths::names_of(alloc, path)?;
+        let path = path.names(alloc)?;
         let file = match self.file(&path) {
             Ok(file) => file,
             Err(refusal) => return Ok(Reply::Refused(refusal)),
@@ -92,7 +92,7 @@ impl PlainTree {
         ensures ok { IfOk result (λ reply. (self.new, reply) ≡ step self.old (command.Truncate path.now len)) }
         ensures err { OnErr result (self.new ≡ self.old) }
     {
-        let path = paths::names_of(alloc, path)?;
+        let path = path.names(alloc)?;
         let file = match self.file(&path) {
             Ok(file) => file,
             Err(refusal) => return Ok(Reply::Refused(refusal)),
@@ -110,7 +110,7 @@ impl PlainTree {
         ensures ok { IfOk result (λ reply. (self.new, reply) ≡ step self.old (command.Remove path.now)) }
         ensures err { OnErr result (self.new ≡ self.old) }
     {
-        let path = paths::names_of(alloc, path)?;
+        let path = path.names(alloc)?;
         let refusal = refusals::root_refusal(&path).or(self.absent_refusal(&path));
         if let Some(refusal) = refusal {
             return Ok(Reply::Refused(refusal));
@@ -124,8 +124,8 @@ impl PlainTree {
         ensures ok { IfOk result (λ reply. (self.new, reply) ≡ step self.old (command.Rename a.now b.now)) }
         ensures err { OnErr result (self.new ≡ self.old) }
     {
-        let a = paths::names_of(alloc, a)?;
-        let b = paths::names_of(alloc, b)?;
+        let a = a.names(alloc)?;
+        let b = b.names(alloc)?;
         if let Some(refusal) = self.rename_refusal(&a, &b) {
             return Ok(Reply::Refused(refusal));
         }
@@ -138,8 +138,8 @@ impl PlainTree {
         ensures ok { IfOk result (λ reply. (self.new, reply) ≡ step self.old (command.Clone a.now b.now)) }
         ensures err { OnErr result (self.new ≡ self.old) }
     {
-        let a = paths::names_of(alloc, a)?;
-        let b = paths::names_of(alloc, b)?;
+        let a = a.names(alloc)?;
+        let b = b.names(alloc)?;
         let refusal = self.absent_refusal(&a).or(self.new_refusal(&b));
         if let Some(refusal) = refusal {
             return Ok(Reply::Refused(refusal));
@@ -152,7 +152,7 @@ impl PlainTree {
     fn read(&self, alloc: Global, path: &Path, off: u32, len: u32) -> Result<Reply, AllocError>
         ensures { IfOk result (λ reply. (self.now, reply) ≡ step self.now (command.Read path.now off len)) }
     {
-        let path = paths::names_of(alloc, path)?;
+        let path = path.names(alloc)?;
         match self.file(&path) {
             Ok(file) => Ok(Reply::Bytes(file.read(alloc, off, len)?)),
             Err(refusal) => Ok(Reply::Refused(refusal)),
@@ -163,7 +163,7 @@ impl PlainTree {
     fn stat(&self, alloc: Global, path: &Path) -> Result<Reply, AllocError>
         ensures { IfOk result (λ reply. (self.now, reply) ≡ step self.now (command.Stat path.now)) }
     {
-        let path = paths::names_of(alloc, path)?;
+        let path = path.names(alloc)?;
         match self.get(&path) {
             None => Ok(Reply::Refused(Refusal::NotFound)),
             Some(Content::Directory) => Ok(Reply::Dir),
@@ -175,7 +175,7 @@ impl PlainTree {
     fn list(&self, alloc: Global, path: &Path, after: Option<&Name>) -> Result<Reply, AllocError>
         ensures { IfOk result (λ reply. (self.now, reply) ≡ step self.now (command.List path.now (option_copied after.entry))) }
     {
-        let path = paths::names_of(alloc, path)?;
+        let path = path.names(alloc)?;
         if let Some(refusal) = self.directory_refusal(&path) {
             return Ok(Reply::Refused(refusal));
         }

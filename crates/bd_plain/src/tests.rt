@@ -105,86 +105,88 @@ fn run(
     Ok(())
 }
 
+/// Rows of lines with their replies.
+const ROWS: &[&[(&str, &str)]] = &[
+    &[("stat /", "ok dir"), ("list /", "ok")],
+    &[
+        ("mkdir /a", "ok"),
+        ("create /a/f", "ok"),
+        ("stat /a", "ok dir"),
+        ("stat /a/f", "ok file 0"),
+        ("stat /a/g", "NotFound"),
+    ],
+    &[
+        ("mkdir /a/b", "NoParent"),
+        ("mkdir /", "Exists"),
+        ("remove /", "Root"),
+        ("rename / /a", "Root"),
+        ("clone / /", "Exists"),
+        ("rename /x /", "NotFound"),
+    ],
+    &[
+        ("create /f", "ok"),
+        ("write /f 1022 abc", "ok"),
+        ("stat /f", "ok file 1025"),
+        ("read /f 1020 5", "ok \0\0abc"),
+        ("read /f 1025 9", "ok "),
+    ],
+    &[
+        ("create /a", "ok"),
+        ("write /a 0 1", "ok"),
+        ("clone /a /b", "ok"),
+        ("read /b 0 1", "ok 1"),
+        ("write /a 0 2", "ok"),
+        ("write /b 0 3", "ok"),
+        ("read /a 0 1", "ok 2"),
+        ("read /b 0 1", "ok 3"),
+    ],
+    &[
+        ("mkdir /d", "ok"),
+        ("create /d/x", "ok"),
+        ("rename /d /e", "ok"),
+        ("stat /d/x", "NotFound"),
+        ("stat /e/x", "ok file 0"),
+    ],
+    &[
+        ("mkdir /a", "ok"),
+        ("clone /a /a/c", "ok"),
+        ("list /a", "ok c/"),
+        ("list /a/c", "ok"),
+        ("rename /a /a/z", "Inside"),
+    ],
+    &[
+        ("mkdir /p", "ok"),
+        ("create /p/f", "ok"),
+        ("clone / /s", "ok"),
+        ("clone /s/p /q", "ok"),
+        ("stat /q/f", "ok file 0"),
+        ("list /s", "ok p/"),
+        ("list /", "ok p/ q/ s/"),
+    ],
+    &[
+        ("create /f", "ok"),
+        ("write /f 0 ABC", "ok"),
+        ("truncate /f 1", "ok"),
+        ("truncate /f 3", "ok"),
+        ("read /f 0 9", "ok A\0\0"),
+        ("truncate /f 1073741825", "TooBig"),
+        ("write /f 1073741824 A", "TooBig"),
+    ],
+    &[
+        ("create /f", "ok"),
+        ("mkdir /f/x", "NotDir"),
+        ("list /f", "NotDir"),
+        ("mkdir /f/x/y", "NoParent"),
+        ("create /f", "Exists"),
+        ("read / 0 1", "IsDir"),
+        ("remove /f", "ok"),
+        ("remove /f", "NotFound"),
+    ],
+];
+
 #[test]
 fn worked_rows(rt: HostRuntime) -> Result<(), Fail> {
-    let rows: &[&[(&str, &str)]] = &[
-        &[("stat /", "ok dir"), ("list /", "ok")],
-        &[
-            ("mkdir /a", "ok"),
-            ("create /a/f", "ok"),
-            ("stat /a", "ok dir"),
-            ("stat /a/f", "ok file 0"),
-            ("stat /a/g", "NotFound"),
-        ],
-        &[
-            ("mkdir /a/b", "NoParent"),
-            ("mkdir /", "Exists"),
-            ("remove /", "Root"),
-            ("rename / /a", "Root"),
-            ("clone / /", "Exists"),
-            ("rename /x /", "NotFound"),
-        ],
-        &[
-            ("create /f", "ok"),
-            ("write /f 1022 abc", "ok"),
-            ("stat /f", "ok file 1025"),
-            ("read /f 1020 5", "ok \0\0abc"),
-            ("read /f 1025 9", "ok "),
-        ],
-        &[
-            ("create /a", "ok"),
-            ("write /a 0 1", "ok"),
-            ("clone /a /b", "ok"),
-            ("read /b 0 1", "ok 1"),
-            ("write /a 0 2", "ok"),
-            ("write /b 0 3", "ok"),
-            ("read /a 0 1", "ok 2"),
-            ("read /b 0 1", "ok 3"),
-        ],
-        &[
-            ("mkdir /d", "ok"),
-            ("create /d/x", "ok"),
-            ("rename /d /e", "ok"),
-            ("stat /d/x", "NotFound"),
-            ("stat /e/x", "ok file 0"),
-        ],
-        &[
-            ("mkdir /a", "ok"),
-            ("clone /a /a/c", "ok"),
-            ("list /a", "ok c/"),
-            ("list /a/c", "ok"),
-            ("rename /a /a/z", "Inside"),
-        ],
-        &[
-            ("mkdir /p", "ok"),
-            ("create /p/f", "ok"),
-            ("clone / /s", "ok"),
-            ("clone /s/p /q", "ok"),
-            ("stat /q/f", "ok file 0"),
-            ("list /s", "ok p/"),
-            ("list /", "ok p/ q/ s/"),
-        ],
-        &[
-            ("create /f", "ok"),
-            ("write /f 0 ABC", "ok"),
-            ("truncate /f 1", "ok"),
-            ("truncate /f 3", "ok"),
-            ("read /f 0 9", "ok A\0\0"),
-            ("truncate /f 1073741825", "TooBig"),
-            ("write /f 1073741824 A", "TooBig"),
-        ],
-        &[
-            ("create /f", "ok"),
-            ("mkdir /f/x", "NotDir"),
-            ("list /f", "NotDir"),
-            ("mkdir /f/x/y", "NoParent"),
-            ("create /f", "Exists"),
-            ("read / 0 1", "IsDir"),
-            ("remove /f", "ok"),
-            ("remove /f", "NotFound"),
-        ],
-    ];
-    for row in rows {
+    for row in ROWS {
         let mut tree = PlainTree::new(rt.alloc())?;
         run(&rt, rt.alloc(), &mut tree, row)?;
     }
