@@ -1,5 +1,5 @@
 -- What was taken so far is executed, and the counts of faults haven't fallen.
-use Rattle.std.proofs.Common.{◌≤◌, ◌-◌}
+use Rattle.std.proofs.Common.{◌≡◌, ◌≤◌, ◌-◌}
 use Rattle.bd_volume.specs.Volume.{device_of}
 use Rattle.betr.specs.Session.{script_limit}
 use Rattle.betr.specs.Shell.{point_of}
