@@ -54,6 +54,8 @@ impl Source for MemSource {
 
     ghost fault_count = { λ s. s.plan.faults };
 
+    ghost take_count = { λ s. Some s.plan.calls };
+
     fn take(&mut self, into: &mut [u8]) -> Result<usize, Failed>
         ensures room { IfOk result (λ n. n ≤ length into.new) }
         ensures bytes { IfOk result (λ n. self.old.left ≡ take n into.new ++ self.new.left) }

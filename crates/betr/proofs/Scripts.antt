@@ -115,10 +115,10 @@ known f lines bytes script (Some more) e h = subst (λ o. IfSome o (λ s. lines 
 
 -- a `stop` ends the script
 pub finishes_stopped : (p q r : Point) (line piece : List ℕ) (taken : ℕ) (script mid rest : Option (List ℕ)) → Stands p q line taken script mid
-    → length piece ≤ 4096 → taken + length piece ≤ script_limit → mid ≡ prepend_known piece rest
+    → taken + length piece ≤ script_limit → mid ≡ prepend_known piece rest
     → Executes q (up_to_stop (meanings (line ++ piece))) r → list_any is_stop (meanings (line ++ piece)) ≡ true
     → Finishes p script rest r.written
-finishes_stopped p q r line piece taken script mid rest s short fits got x some =
+finishes_stopped p q r line piece taken script mid rest s fits got x some =
     let all = executes_more p q r (meanings s.bytes) (up_to_stop (meanings (line ++ piece))) s.on.executed x in
     let is = s.taken_is ∙ ap (prepend_known s.bytes) got ∙ prepend_known-append s.bytes piece rest in
     record {
@@ -129,7 +129,6 @@ finishes_stopped p q r line piece taken script mid rest s short fits got x some 
       taken_is = is;
       few = omega (arith, length-append s.bytes piece, s.count);
       lines_are = known lines_to_run (executed_lines all.entries) (s.bytes ++ piece) script rest is (λ more e. all.lines_are ∙ sym (run_stopped s.bytes piece line more s.line_is s.on.no_stop some));
-      no_more = record { before = s.bytes; piece = piece; taken_is = refl; short = short; no_stop = s.on.no_stop };
     }
 
 -- ---- the end of the script
@@ -178,7 +177,6 @@ finishes_ended p q r line taken script rest s end x =
       few = omega (arith, s.count, s.few);
       lines_are = known lines_to_run (executed_lines all.entries) s.bytes script rest s.taken_is
           (λ more e. all.lines_are ∙ sym (run_ended s.bytes line s.line_is s.on.no_stop) ∙ ap lines_to_run (sym (ap (λ l. s.bytes ++ l) (end_is rest end more e) ∙ append-nil s.bytes)));
-      no_more = record { before = s.bytes; piece = []; taken_is = sym (append-nil s.bytes); short = omega arith; no_stop = s.on.no_stop };
     }
 
 -- ---- faults

@@ -1,7 +1,9 @@
 -- What a session does with the lines of a script.
 use Rattle.std.specs.Prelude.{◌≡◌, ℕ, ◌+◌, ◌^◌, ◌≤◌, false, List, [], ◌∷◌, ◌++◌, length, map, Option, IfSome}
 use Rattle.std.specs.List.{list_any}
+use Rattle.std.specs.Option.{option_map}
 use Rattle.std.specs.Io.KnownBytes.{append_known, prepend_known}
+use Rattle.bd_io.specs.Cause.{next_count}
 use Rattle.bd_io.specs.Written.{WrotePart}
 use Rattle.bd_message.specs.declared.fault.Counter.TheVariants.{Count}
 use Rattle.bd_model.specs.Tree.{Tree}
@@ -61,13 +63,16 @@ lines_to_run script = up_to_stop (map line_of (lines_of script))
 abbrev pub script_limit : ℕ
 script_limit = 16777216
 
--- what was taken ends with a piece of at most 4,096 bytes, before which there was no `stop`
-pub record TakesNoMore (taken : List ℕ) : Type 0 where
+-- nothing was taken after `stop`: when bytes were taken for the last time, from the source that `last` was then, no `stop` stood whole in those before
+pub record TakesNoMore {S : Type 0} (left : S → Option (List ℕ)) (take_count : S → Option ℕ) (old new : S) : Type 0 where
+  pub last : S
   pub before : List ℕ
   pub piece : List ℕ
-  pub taken_is : taken ≡ before ++ piece
-  pub short : length piece ≤ 4096
+  pub taken_before : left old ≡ prepend_known before (left last)
   pub no_stop : list_any is_stop (map line_of (whole_lines before)) ≡ false
+  pub taken_last : left last ≡ prepend_known piece (left new)
+  pub short : length piece ≤ 4096
+  pub once : take_count new ≡ option_map next_count (take_count last)
 
 -- all the lines were executed, to the end or up to `stop`, and their replies written, and nothing else
 pub record Finishes (from : Point) (script rest written : Option (List ℕ)) : Type 0 where
@@ -78,7 +83,6 @@ pub record Finishes (from : Point) (script rest written : Option (List ℕ)) : T
   pub taken_is : script ≡ prepend_known taken rest
   pub few : length taken ≤ script_limit
   pub lines_are : IfSome script (λ bytes. executed_lines entries ≡ lines_to_run bytes)
-  pub no_more : TakesNoMore taken
 
 -- the lines that stand whole in what was taken were executed, none of them a `stop`, and then `more` came of the source
 pub record EndsWithin (from : Point) (script rest written : Option (List ℕ)) (taken more : List ℕ) : Type 0 where

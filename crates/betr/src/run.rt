@@ -2,7 +2,7 @@ ghost use Rattle.std.specs.Prelude.{◌≡◌, ◌≢◌, ◌≤◌, ◌↔◌, 
 ghost use Rattle.bd_io.specs.Cause.{next_count};
 ghost use Rattle.betr.specs.declared.fault.Fault.{Fault};
 ghost use Rattle.betr.specs.Fault.{status_of};
-ghost use Rattle.betr.specs.Session.{Finishes, Ends};
+ghost use Rattle.betr.specs.Session.{Finishes, TakesNoMore, Ends};
 ghost use Rattle.betr.specs.Words.{image_of, usage_line};
 ghost use Rattle.betr.specs.Run.{start_point, faults, IsImageResult, WritesLast, EndsBy, IsFaultless};
 
@@ -29,6 +29,7 @@ fn run_image<D: Attach, S: Source, K: Sink>(
     sink: &mut K,
 ) -> Result<(), Fault>
     ensures ok { OnOk result (Finishes (start_point (K.written sink.old)) (S.left src.old) (S.left src.new) (K.written sink.new)) }
+    ensures no_more { OnOk result (TakesNoMore S.left S.take_count src.old src.new) }
     ensures err { IfErr result (λ e. Ends e (start_point (K.written sink.old)) (S.left src.old) (S.left src.new) (K.written sink.new)) }
     ensures attached { result ≢ Err Fault.Device → D.contents dev.new ≡ D.shows dev.old image.now }
     ensures detached { result ≡ Err Fault.Device → D.block_count dev.new ≡ 0 }
@@ -73,6 +74,7 @@ pub fn run<D: Attach, S: Source, K: Sink>(
     sink: &mut K,
 ) -> Outcome
     ensures finished { result.status ≡ 0 → Finishes (start_point (K.written sink.old)) (S.left src.old) (S.left src.new) (K.written sink.new) }
+    ensures no_more { result.status ≡ 0 → TakesNoMore S.left S.take_count src.old src.new }
 
     // Any other status with right words is that of a fault, which has left the script's lines as it says, and has its cause.
     ensures faulted { IsSome (image_of (map string_bytes words.now)) → result.status ≢ 0 → (fault : Fault) × (result.status ≡ status_of fault)

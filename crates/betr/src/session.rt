@@ -1,8 +1,9 @@
 ghost use Rattle.std.specs.Prelude.{◌≡◌, ◌≤◌, ◌<◌, ◌+◌, ◌++◌, ◌∷◌, [], ℕ, List, length, take, IfOk, IfErr, OnOk, OnErr};
 ghost use Rattle.std.specs.Io.KnownBytes.{prepend_known, IsAtEnd};
-ghost use Rattle.bd_io.specs.Cause.{HasCause};
+ghost use Rattle.std.specs.Option.{option_map};
+ghost use Rattle.bd_io.specs.Cause.{HasCause, next_count};
 ghost use Rattle.bd_volume.specs.Volume.{device_of};
-ghost use Rattle.betr.specs.Session.{Finishes, Ends, script_limit};
+ghost use Rattle.betr.specs.Session.{Finishes, TakesNoMore, Ends, script_limit};
 ghost use Rattle.betr.specs.Shell.{point_of, IsSessionResult};
 ghost use Rattle.betr.specs.Taken.{Takes};
 
@@ -38,6 +39,7 @@ fn next_piece<S: Source>(
     requires { taken ≤ script_limit }
     ensures ok { IfOk result (λ got. Takes got taken piece.new (S.left src.old) (S.left src.new)) }
     ensures err { OnErr result (S.left src.new ≡ S.left src.old) }
+    ensures counted { S.take_count src.new ≡ option_map next_count (S.take_count src.old) }
     ensures cause { HasCause (S.fault_count src.old) (S.fault_count src.new) result }
 {
     let room = PIECE.min(SCRIPT_LIMIT - taken);
@@ -60,6 +62,7 @@ pub fn run_script<D: Device + Drop, S: Source, K: Sink>(
 ) -> Result<(), Fault>
     requires { shell.old.line.items ≡ [] }
     ensures ok { OnOk result (Finishes (point_of shell.old.volume (K.written sink.old)) (S.left src.old) (S.left src.new) (K.written sink.new)) }
+    ensures no_more { OnOk result (TakesNoMore S.left S.take_count src.old src.new) }
     ensures err { IfErr result (λ e. Ends e (point_of shell.old.volume (K.written sink.old)) (S.left src.old) (S.left src.new) (K.written sink.new)) }
     ensures device { device_of shell.new.volume ≡ device_of shell.old.volume }
     ensures cause { IsSessionResult (S.fault_count src.old) (S.fault_count src.new) (K.fault_count sink.old) (K.fault_count sink.new) result }
