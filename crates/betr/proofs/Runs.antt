@@ -83,8 +83,19 @@ never_worn : (which : Counter) (script rest old w : Option (List ℕ)) → Ends 
 never_worn which script rest old w h =
     let es = h.left.1.entries in
     let ls = h.left.1.lines_are in
-    omega (arith, h.few, h.left.3, h.left.1.count_is, accepted_in-few es, length-map es (λ e. e.line), ap length ls.1, length-append (executed_lines es) ls.0,
-    up_to_stop-few (map line_of (lines_of h.taken)), length-map (lines_of h.taken) line_of, lines_of-few h.taken)
+    omega (
+      arith,
+      h.few,
+      h.left.3,
+      h.left.1.count_is,
+      accepted_in-few es,
+      length-map es (λ e. e.line),
+      ap length ls.1,
+      length-append (executed_lines es) ls.0,
+      up_to_stop-few (map line_of (lines_of h.taken)),
+      length-map (lines_of h.taken) line_of,
+      lines_of-few h.taken,
+    )
 
 -- without a failure of the outside, only memory ended the run
 pub faultless : (e : Fault) (image script rest old new : Option (List ℕ)) (before now : Faults) → EndsBy e script rest old new before now → IsFaultless image script before now → status_of e ≡ 6

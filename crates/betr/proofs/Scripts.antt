@@ -5,15 +5,17 @@ use Rattle.std.specs.declared.option.Option.TheVariants.{None, Some}
 use Rattle.std.specs.declared.result.Result.TheVariants.{Ok, Err}
 use Rattle.std.specs.List.{list_any}
 use Rattle.std.specs.Io.KnownBytes.{prepend_known, IsAtEnd}
+use Rattle.std.specs.Option.{option_map}
 use Rattle.std.proofs.lemmas.List.{map-append, append-nil, take_more}
 use Rattle.std.proofs.lemmas.List.Folds.{list_any-append}
+use Rattle.bd_io.specs.Cause.{next_count}
 use Rattle.bd_model.specs.Lines.{ScriptLine, line_of, lines_of, whole_lines, open_line, held, is_empty}
 use Rattle.bd_model.specs.Transcript.{is_stop, up_to_stop, IsFront, executed_lines}
 use Rattle.bd_model.proofs.CutLines.{whole_lines-more, open_line-more, held_goes_on, line_of-held, IsHeld, held_is_held}
 use Rattle.bd_model.proofs.Transcripts.{up_to_stop-none, up_to_stop-stopped, up_to_stop-append}
 use Rattle.betr.specs.declared.fault.Fault.{Fault}
 use Rattle.betr.specs.declared.fault.Fault.TheVariants.{Device, Source, Memory, TooLong, Worn, Sink}
-use Rattle.betr.specs.Session.{Point, Executes, Leaves, lines_to_run, script_limit, Finishes, EndsAmong, Ends}
+use Rattle.betr.specs.Session.{Point, Executes, Leaves, lines_to_run, script_limit, TakesNoMore, Finishes, EndsAmong, Ends}
 use Rattle.betr.specs.Shell.{meanings, last_lines, IsShellFault}
 use Rattle.betr.proofs.Executes.{executes_none, executes_more, leaves_more, leaves_front}
 use Rattle.betr.proofs.Feeding.{GoesOnBy, up_to_stop_front}
@@ -48,6 +50,21 @@ stands_first p script = record {
 
 pub stands_held : {p q : Point} {line : List ℕ} {taken : ℕ} {script rest : Option (List ℕ)} → Stands p q line taken script rest → IsHeld line
 stands_held s = subst IsHeld (sym s.line_is) (held_is_held s.bytes)
+
+-- and a last take, which gave this piece
+pub takes_no_more : {S : Type 0} (left : S → Option (List ℕ)) (take_count : S → Option ℕ) (old last new : S) {p q : Point} {line : List ℕ} {taken : ℕ} (piece : List ℕ)
+    → Stands p q line taken (left old) (left last) → left last ≡ prepend_known piece (left new) → length piece ≤ 4096 → take_count new ≡ option_map next_count (take_count last)
+    → TakesNoMore left take_count old new
+takes_no_more left take_count old last new piece s got short once = record {
+  last = last;
+  before = s.bytes;
+  piece = piece;
+  taken_before = s.taken_is;
+  no_stop = s.on.no_stop;
+  taken_last = got;
+  short = short;
+  once = once;
+}
 
 -- ---- a piece more
 

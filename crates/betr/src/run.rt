@@ -29,7 +29,7 @@ fn run_image<D: Attach, S: Source, K: Sink>(
     sink: &mut K,
 ) -> Result<(), Fault>
     ensures ok { OnOk result (Finishes (start_point (K.written sink.old)) (S.left src.old) (S.left src.new) (K.written sink.new)) }
-    ensures no_more { OnOk result (TakesNoMore S.left S.take_count src.old src.new) }
+    ensures no_more { (src.new ≡ src.old) ⊎ TakesNoMore S.left S.take_count src.old src.new }
     ensures err { IfErr result (λ e. Ends e (start_point (K.written sink.old)) (S.left src.old) (S.left src.new) (K.written sink.new)) }
     ensures attached { result ≢ Err Fault.Device → D.contents dev.new ≡ D.shows dev.old image.now }
     ensures detached { result ≡ Err Fault.Device → D.block_count dev.new ≡ 0 }
@@ -47,9 +47,12 @@ fn run_image<D: Attach, S: Source, K: Sink>(
             let _device = shell.into_device();
             result
         }
-        Err(Refused {
-            device: _device, ..
-        }) => Err(Fault::Memory),
+        Err(
+            Refused {
+                device: _device,
+                ..
+            },
+        ) => Err(Fault::Memory),
     }
 }
 
@@ -74,12 +77,14 @@ pub fn run<D: Attach, S: Source, K: Sink>(
     sink: &mut K,
 ) -> Outcome
     ensures finished { result.status ≡ 0 → Finishes (start_point (K.written sink.old)) (S.left src.old) (S.left src.new) (K.written sink.new) }
-    ensures no_more { result.status ≡ 0 → TakesNoMore S.left S.take_count src.old src.new }
 
     // Any other status with right words is that of a fault, which has left the script's lines as it says, and has its cause.
     ensures faulted { IsSome (image_of (map string_bytes words.now)) → result.status ≢ 0 → (fault : Fault) × (result.status ≡ status_of fault)
         × EndsBy fault (S.left src.old) (S.left src.new) (K.written sink.old) (K.written sink.new)
         (faults (D.fault_count dev.old) (S.fault_count src.old) (K.fault_count sink.old)) (faults (D.fault_count dev.new) (S.fault_count src.new) (K.fault_count sink.new)) }
+
+    // At every status nothing is taken after `stop`.
+    ensures no_more { (src.new ≡ src.old) ⊎ TakesNoMore S.left S.take_count src.old src.new }
 
     // Refused words touch neither the device nor the source.
     ensures refused { (result.status ≡ 2) ↔ IsNone (image_of (map string_bytes words.now)) }

@@ -62,7 +62,7 @@ pub fn run_script<D: Device + Drop, S: Source, K: Sink>(
 ) -> Result<(), Fault>
     requires { shell.old.line.items ≡ [] }
     ensures ok { OnOk result (Finishes (point_of shell.old.volume (K.written sink.old)) (S.left src.old) (S.left src.new) (K.written sink.new)) }
-    ensures no_more { OnOk result (TakesNoMore S.left S.take_count src.old src.new) }
+    ensures no_more { TakesNoMore S.left S.take_count src.old src.new }
     ensures err { IfErr result (λ e. Ends e (point_of shell.old.volume (K.written sink.old)) (S.left src.old) (S.left src.new) (K.written sink.new)) }
     ensures device { device_of shell.new.volume ≡ device_of shell.old.volume }
     ensures cause { IsSessionResult (S.fault_count src.old) (S.fault_count src.new) (K.fault_count sink.old) (K.fault_count sink.new) result }

@@ -1,7 +1,7 @@
 -- Without a failure of the outside only memory ends a run before its script does.
 use Rattle.std.proofs.Common.{rules, inr, ◌∙◌}
 use Rattle.betr.specs.Run.{EndsBy, faults}
-use Rattle.betr.proofs.Runs.{faultless, cause_later}
+use Rattle.betr.proofs.Runs.{faultless}
 use Rattle.betr.proofs.run.run.Goals as goal
 
 pub returns-in-Err-clause-complete : goal.returns-in-Err-clause-complete

@@ -1,12 +1,11 @@
 -- Each piece goes on from those before it, and each way out ends as the script or the fault does.
 use Rattle.std.proofs.Common.{◌≡◌, ◌+◌, [], length, take, sym, ap, subst, ◌∙◌, arith}
-use Rattle.std.proofs.lemmas.List.{length-take-le}
+use Rattle.std.proofs.lemmas.List.{length-take, length-take-le}
 use Rattle.std.proofs.lemmas.Result.{on_ok_weaker}
 use Rattle.betr.specs.Shell.{point_of, stops}
 use Rattle.std.specs.Io.KnownBytes.{IsAtEnd}
-use Rattle.betr.specs.Session.{TakesNoMore}
 use Rattle.betr.specs.Taken.{Takes}
-use Rattle.betr.proofs.Scripts.{Stands, prepend_known-nil, stands_held, stands_more, finishes_stopped, finishes_ended, ends_fed, ends_last, ends_too_long, err_both}
+use Rattle.betr.proofs.Scripts.{Stands, prepend_known-nil, takes_no_more, stands_held, stands_more, finishes_stopped, finishes_ended, ends_fed, ends_last, ends_too_long, err_both}
 use Rattle.betr.proofs.session.run_script.Goals as goal
 
 pub feed-requires : goal.feed-requires
@@ -45,31 +44,29 @@ returns-in-Ok-Stop-clause-no_more g c =
     let piece = take size c.next_piece.new.piece in
     let got = subst (λ t. Takes t c.pieces.taken c.next_piece.new.piece (g.S.Source.left c.pieces.src) (g.S.Source.left c.next_piece.new.src)) c.in-Ok-Piece.field-0-is c.in-Ok-Piece.ensures.ok in
     let long : length piece ≡ size = length-take-le size c.next_piece.new.piece (omega (arith, got.1, c.next_piece.array_long)) in
-    record {
-      last = c.pieces.src;
-      before = c.pieces.invariant.stands.bytes;
-      piece = piece;
-      taken_before = c.pieces.invariant.stands.taken_is;
-      no_stop = c.pieces.invariant.stands.on.no_stop;
-      taken_last = got.3;
-      short = omega (arith, got.1, long);
-      once = c.in-Ok-Piece.ensures.counted;
-    }
+    takes_no_more g.S.Source.left g.S.Source.take_count c.args.src.now c.pieces.src c.next_piece.new.src piece c.pieces.invariant.stands got.3 (omega (arith, got.1, long)) c.next_piece.ensures.counted
+
+pub returns-in-Err-feed-clause-no_more : goal.returns-in-Err-feed-clause-no_more
+returns-in-Err-feed-clause-no_more g c =
+    let size = c.in-Ok-Piece.size in
+    let piece = take size c.next_piece.new.piece in
+    let got = subst (λ t. Takes t c.pieces.taken c.next_piece.new.piece (g.S.Source.left c.pieces.src) (g.S.Source.left c.next_piece.new.src)) c.in-Ok-Piece.field-0-is c.in-Ok-Piece.ensures.ok in
+    let long : length piece ≡ size = length-take-le size c.next_piece.new.piece (omega (arith, got.1, c.next_piece.array_long)) in
+    takes_no_more g.S.Source.left g.S.Source.take_count c.args.src.now c.pieces.src c.next_piece.new.src piece c.pieces.invariant.stands got.3 (omega (arith, got.1, long)) c.next_piece.ensures.counted
 
 pub returns-in-Ok-End-clause-no_more : goal.returns-in-Ok-End-clause-no_more
 returns-in-Ok-End-clause-no_more g c =
     let got = subst (λ t. Takes t c.pieces.taken c.next_piece.new.piece (g.S.Source.left c.pieces.src) (g.S.Source.left c.next_piece.new.src)) c.in-Ok-End.field-0-is c.in-Ok-End.ensures.ok in
-    let none : TakesNoMore g.S.Source.left g.S.Source.take_count c.args.src.now c.next_piece.new.src = record {
-      last = c.pieces.src;
-      before = c.pieces.invariant.stands.bytes;
-      piece = [];
-      taken_before = c.pieces.invariant.stands.taken_is;
-      no_stop = c.pieces.invariant.stands.on.no_stop;
-      taken_last = sym got.1 ∙ sym (prepend_known-nil (g.S.Source.left c.next_piece.new.src));
-      short = omega arith;
-      once = c.in-Ok-End.ensures.counted;
-    } in
-    on_ok_weaker c.finish.result (λ _. none) c.finish.ensures.ok
+    takes_no_more g.S.Source.left g.S.Source.take_count c.args.src.now c.pieces.src c.next_piece.new.src [] c.pieces.invariant.stands (sym got.1 ∙ sym (prepend_known-nil (g.S.Source.left c.next_piece.new.src))) (omega arith) c.next_piece.ensures.counted
+
+pub returns-in-Ok-TooLong-clause-no_more : goal.returns-in-Ok-TooLong-clause-no_more
+returns-in-Ok-TooLong-clause-no_more g c =
+    let got = subst (λ t. Takes t c.pieces.taken c.next_piece.new.piece (g.S.Source.left c.pieces.src) (g.S.Source.left c.next_piece.new.src)) c.in-Ok-TooLong.field-0-is c.in-Ok-TooLong.ensures.ok in
+    takes_no_more g.S.Source.left g.S.Source.take_count c.args.src.now c.pieces.src c.next_piece.new.src (take 1 c.next_piece.new.piece) c.pieces.invariant.stands got.1 (omega (arith, length-take 1 c.next_piece.new.piece)) c.next_piece.ensures.counted
+
+pub returns-in-Err-clause-no_more : goal.returns-in-Err-clause-no_more
+returns-in-Err-clause-no_more g c =
+    takes_no_more g.S.Source.left g.S.Source.take_count c.args.src.now c.pieces.src c.next_piece.new.src [] c.pieces.invariant.stands (sym c.in-Err.ensures.err ∙ sym (prepend_known-nil (g.S.Source.left c.next_piece.new.src))) (omega arith) c.next_piece.ensures.counted
 
 pub returns-in-Err-feed-clause-err : goal.returns-in-Err-feed-clause-err
 returns-in-Err-feed-clause-err g c =
