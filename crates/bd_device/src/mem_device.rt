@@ -1,7 +1,7 @@
-ghost use Rattle.std.specs.Prelude.{◌≡◌, ◌<◌, ◌≤◌, ◌||◌, ◌++◌, ◌∷◌, [], true, ℕ, List, length, All, Some, IfOk, IfSome, IfNone, OnOk, OnErr, is_ok, is_err, if◌then◌else◌, unwrap_or, slice_get, slice_set};
+ghost use Rattle.std.specs.Prelude.{◌≡◌, ◌<◌, ◌≤◌, ◌||◌, ◌++◌, ◌∷◌, [], true, length, All, Some, IfOk, OnOk, OnErr, is_ok, is_err, if◌then◌else◌, unwrap_or, slice_get, slice_set};
 ghost use Rattle.bd_io.specs.Cause.{HasCause, IsCounted};
 ghost use Rattle.bd_io.specs.Plan.{planned, next_fails, calls_after};
-ghost use Rattle.bd_device.specs.Blocks.{HasBlocks, with_block, ChangesOnly};
+ghost use Rattle.bd_device.specs.Blocks.{HasBlocks, ChangesOnly};
 ghost use Rattle.bd_device.specs.Calls.{write_faults_after};
 ghost use Rattle.bd_device.specs.Memory.{held_image, attached_image, attached_size, write_fails, attach_fails, IsZero};
 

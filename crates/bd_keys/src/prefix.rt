@@ -1,5 +1,5 @@
 // Keys and the bytes that they begin with.
-ghost use Rattle.std.specs.Prelude.{◌≡◌, ◌≢◌, ◌==◌, ◌↔◌, ◌<◌, ◌≤◌, ◌-◌, slice_index, ◌++◌, ℕ, List, length, drop, map, IsTrue, IsNone, IfOk, IfSome, IfNone, All};
+ghost use Rattle.std.specs.Prelude.{◌≡◌, ◌≢◌, ◌==◌, ◌↔◌, ◌<◌, ◌≤◌, ◌-◌, slice_index, ◌++◌, ℕ, List, length, drop, IsTrue, IsNone, IfOk, IfSome, IfNone, All};
 ghost use Rattle.std.specs.Option.{option_copied, option_map};
 ghost use Rattle.std.specs.List.{prefix_len, zip};
 ghost use Rattle.bd_keys.specs.Keys.{Begins, IsAfter, IsBelow, IsBelowEnd, IsBehindAll, IsKey, IsLift, IsPrefixRange};

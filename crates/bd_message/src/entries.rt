@@ -1,6 +1,6 @@
 //! Keys with their values, in no order; the first one of a key counts.
 
-ghost use Rattle.std.specs.Prelude.{◌≡◌, ◌≤◌, ◌+◌, ◌++◌, ℕ, List, not, length, Some, All, IfOk, OnOk, OnErr, IsTrue, ◌↔◌, [], ◌∷◌};
+ghost use Rattle.std.specs.Prelude.{◌≡◌, ◌≤◌, ◌+◌, ◌++◌, ℕ, List, not, length, Some, All, IfOk, OnOk, IsTrue, ◌↔◌, [], ◌∷◌};
 ghost use Rattle.std.specs.Option.{option_copied, unwrap_or};
 ghost use Rattle.std.specs.List.{filter, filter_map};
 ghost use Rattle.std.specs.FinMap as map;

@@ -10,4 +10,4 @@ mod path;
 pub use fault::PathFault;
 pub use laws::{law_of_below, law_of_keys, law_of_parents, law_of_path_texts};
 pub use name::Name;
-pub use path::Path;
+pub use path::{MAX_PATH, Path};

@@ -1,5 +1,5 @@
 // A name.
-ghost use Rattle.std.specs.Prelude.{◌≡◌, ◌≤◌, ◌↔◌, length, false, IsTrue, IfOk};
+ghost use Rattle.std.specs.Prelude.{◌≡◌, ◌↔◌, length, false, IsTrue, IfOk};
 ghost use Rattle.std.specs.List.{list_all};
 ghost use Rattle.bd_names.specs.Names.{is_dots, is_name, is_name_byte};
 ghost use Rattle.bd_names.specs.declared.fault.PathFault.{PathFault};

@@ -1,5 +1,5 @@
 // A path.
-ghost use Rattle.std.specs.Prelude.{◌≡◌, ◌<◌, ◌≤◌, ◌↔◌, [], List, ℕ, length, take, drop, slice_index_or, IsTrue, IfOk, OnOk, MatchOption};
+ghost use Rattle.std.specs.Prelude.{◌≡◌, ◌<◌, ◌≤◌, ◌↔◌, [], List, ℕ, length, take, drop, slice_index_or, IsTrue, IfOk};
 ghost use Rattle.std.specs.Prelude.{◌+◌, ◌-◌, ◌==◌, if◌then◌else◌, slice_index};
 ghost use Rattle.std.specs.List.{list_all, slice_split};
 ghost use Rattle.bd_names.specs.Names.{is_name, AreNames, path_text, names_in, is_path, path_of, key_of, is_under, parent_of};
@@ -12,7 +12,7 @@ use std::alloc::{AllocError, Global};
 use std::marker::Model;
 
 /// The greatest length of a path's text, in bytes.
-const MAX_PATH: usize = 512;
+pub const MAX_PATH: usize = 512;
 
 /// A path of at most 512 bytes, seen as the list of its names. `/` has none.
 #[derive(Debug, Drop)]
@@ -151,7 +151,7 @@ impl Path {
     }
 
     /// Writes the text of the path at the front of `into` and returns its length in bytes. What stands behind it stays.
-    pub fn write(&self, into: &mut [u8; 512]) -> usize
+    pub fn write(&self, into: &mut [u8; MAX_PATH]) -> usize
         ensures length { result ≡ length (path_text self.now) }
         ensures text { take result into.new ≡ path_text self.now }
         ensures rest { drop result into.new ≡ drop result into.old }
@@ -273,7 +273,7 @@ mod tests {
 
     #[test]
     fn writes_its_text(rt: HostRuntime) -> Result<(), Fail> {
-        let mut into = [7; 512];
+        let mut into = [7; MAX_PATH];
         let path = Path::read(rt.alloc(), b"/a")?;
         assert_eq!(rt; path.write(&mut into), 2);
         assert_eq!(rt; into[1], b'a');

@@ -1,11 +1,11 @@
 //! Entries in the order of their paths.
 
-ghost use Rattle.std.specs.Prelude.{◌≡◌, ◌<◌, ◌≤◌, ℕ, length, not, slice_set, IfOk, IfErr, OnOk, OnErr};
+ghost use Rattle.std.specs.Prelude.{◌≡◌, ◌<◌, not, IfOk, OnOk, OnErr};
 ghost use Rattle.std.specs.List.{insert, filter, filter_map};
 ghost use Rattle.std.specs.Option.{option_map};
 ghost use Rattle.std.specs.FinMap as map;
 ghost use Rattle.bd_names.specs.Names.{rest_below, is_under};
-ghost use Rattle.bd_model.specs.Tree.{Entry, path_cmp};
+ghost use Rattle.bd_model.specs.Tree.{path_cmp};
 ghost use Rattle.bd_model.specs.Step.{moved_entry, child_of};
 ghost use Rattle.bd_plain.specs.Entries.{entry_of, IsPlace};
 

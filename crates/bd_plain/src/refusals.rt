@@ -1,6 +1,6 @@
 //! Why the tree refuses a command.
 
-ghost use Rattle.std.specs.Prelude.{◌≡◌, ◌+◌, ◌^◌, ◌≤◌, length, IfOk, IfErr};
+ghost use Rattle.std.specs.Prelude.{◌≡◌, ◌+◌, ◌^◌, IfOk, IfErr};
 ghost use Rattle.std.specs.FinMap.{get};
 ghost use Rattle.bd_model.specs.Tree.{FileWith};
 ghost use Rattle.bd_model.specs.Step.{absent_refusal, file_refusal, directory_refusal, new_refusal, root_refusal, size_refusal, inside_refusal, refusal_of};

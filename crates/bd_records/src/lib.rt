@@ -2,7 +2,7 @@
 //! The layers above may use that each record has one spelling, and what a block may be.
 #![tactic(auto)]
 
-ghost use Rattle.std.specs.Prelude.{◌≡◌, ◌↔◌, ◌≤◌, length, Some, IsTrue};
+ghost use Rattle.std.specs.Prelude.{◌↔◌, ◌≤◌, length, Some, IsTrue};
 ghost use Rattle.bd_wire.specs.Writing.{Puts, room};
 ghost use Rattle.bd_records.specs.Records.{IsRecord, IsBlock, IsReadAs, IsLenReadAs, record_bytes};
 

@@ -10,4 +10,4 @@ mod words;
 
 pub use line::{Line, LineFault};
 pub use read::read_line;
-pub use replies::reply;
+pub use replies::{REPLY_SIZE, reply};

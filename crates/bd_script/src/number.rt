@@ -1,6 +1,6 @@
 //! Numbers and bytes in the words of a line.
 
-ghost use Rattle.std.specs.Prelude.{◌≡◌, ◌↔◌, ◌≤◌, length, take, MatchOption};
+ghost use Rattle.std.specs.Prelude.{◌≡◌, ◌≤◌, take, MatchOption};
 ghost use Rattle.bd_model.specs.Lines.{number_of, hex_of};
 
 /// The most bytes that a line can carry.

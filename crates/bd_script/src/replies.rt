@@ -9,20 +9,23 @@ ghost use Rattle.bd_script.specs.Script.{IsReply};
 use bd_command::{Listed, Listing, Refusal, Reply};
 use itoa::Buffer;
 
+/// The bytes of a buffer for a reply, which has room for each.
+pub const REPLY_SIZE: usize = 32_768;
+
 /// Writes a reply and its newline at the front of `into`, and returns how many bytes they are. A chunk has at most
 /// 4,096 bytes, a listing at most 100 names.
-pub fn reply(reply: &Reply, into: &mut [u8; 32768]) -> usize
+pub fn reply(reply: &Reply, into: &mut [u8; REPLY_SIZE]) -> usize
     requires { IsReply reply.now }
     ensures length { result ≡ length (reply_line reply.now) }
     ensures text { take result into.new ≡ reply_line reply.now }
-    ensures bound { result ≤ 32768 }
+    ensures bound { result ≤ REPLY_SIZE }
 {
     let end = put_reply(into, reply);
     put(into, end, b"\n")
 }
 
 /// Writes a reply at the front.
-fn put_reply(into: &mut [u8; 32768], reply: &Reply) -> usize
+fn put_reply(into: &mut [u8; REPLY_SIZE], reply: &Reply) -> usize
     requires { IsReply reply.now }
     ensures text { take result into.new ≡ reply_text reply.now }
     ensures length { result ≡ length (reply_text reply.now) }
@@ -48,8 +51,8 @@ fn put_reply(into: &mut [u8; 32768], reply: &Reply) -> usize
 }
 
 /// Writes what was read at a place, if it is anything, and returns the place behind it.
-fn put_chunk(into: &mut [u8; 32768], at: usize, bytes: &[u8]) -> usize
-    requires room { at + 1 + 2 * length bytes.now ≤ 32768 }
+fn put_chunk(into: &mut [u8; REPLY_SIZE], at: usize, bytes: &[u8]) -> usize
+    requires room { at + 1 + 2 * length bytes.now ≤ REPLY_SIZE }
     ensures text { take result into.new ≡ take at into.old ++ chunk_text bytes.now }
     ensures end { result ≡ at + length (chunk_text bytes.now) }
     ensures bound { result ≤ at + 1 + 2 * length bytes.now }
@@ -62,8 +65,8 @@ fn put_chunk(into: &mut [u8; 32768], at: usize, bytes: &[u8]) -> usize
 }
 
 /// Writes bytes in hex digits at a place, and returns the place behind them.
-fn put_hex(into: &mut [u8; 32768], at: usize, bytes: &[u8]) -> usize
-    requires room { at + 2 * length bytes.now ≤ 32768 }
+fn put_hex(into: &mut [u8; REPLY_SIZE], at: usize, bytes: &[u8]) -> usize
+    requires room { at + 2 * length bytes.now ≤ REPLY_SIZE }
     ensures text { take result into.new ≡ take at into.old ++ encode_lower bytes.now }
     ensures end { result ≡ at + 2 * length bytes.now }
 {
@@ -73,8 +76,8 @@ fn put_hex(into: &mut [u8; 32768], at: usize, bytes: &[u8]) -> usize
 }
 
 /// Writes a number at a place, and returns the place behind it.
-fn put_number(into: &mut [u8; 32768], at: usize, number: u32) -> usize
-    requires room { at + 40 ≤ 32768 }
+fn put_number(into: &mut [u8; REPLY_SIZE], at: usize, number: u32) -> usize
+    requires room { at + 40 ≤ REPLY_SIZE }
     ensures text { take result into.new ≡ take at into.old ++ decimal number }
     ensures end { result ≡ at + length (decimal number) }
     ensures bound { result ≤ at + 40 }
@@ -84,7 +87,7 @@ fn put_number(into: &mut [u8; 32768], at: usize, number: u32) -> usize
 }
 
 /// Writes a listing at the front.
-fn put_listing(into: &mut [u8; 32768], listing: &Listing) -> usize
+fn put_listing(into: &mut [u8; REPLY_SIZE], listing: &Listing) -> usize
     requires { length listing.now.names ≤ 100 }
     ensures text { take result into.new ≡ codes "ok" ++ flat_map listed_text listing.now.names ++ (if listing.now.more then codes " +" else []) }
     ensures length { result ≡ length (codes "ok" ++ flat_map listed_text listing.now.names ++ (if listing.now.more then codes " +" else [])) }
@@ -100,8 +103,8 @@ fn put_listing(into: &mut [u8; 32768], listing: &Listing) -> usize
 }
 
 /// Writes the names of a listing at a place, and returns the place behind them.
-fn put_names(into: &mut [u8; 32768], at: usize, names: &[Listed]) -> usize
-    requires room { at + 257 * length names.now ≤ 32768 }
+fn put_names(into: &mut [u8; REPLY_SIZE], at: usize, names: &[Listed]) -> usize
+    requires room { at + 257 * length names.now ≤ REPLY_SIZE }
     ensures text { take result into.new ≡ take at into.old ++ flat_map listed_text names.now }
     ensures end { result ≡ at + length (flat_map listed_text names.now) }
     ensures bound { result ≤ at + 257 * length names.now }
@@ -114,8 +117,8 @@ fn put_names(into: &mut [u8; 32768], at: usize, names: &[Listed]) -> usize
 }
 
 /// Writes a name of a listing at a place, and returns the place behind it.
-fn put_listed(into: &mut [u8; 32768], at: usize, listed: &Listed) -> usize
-    requires room { at + 257 ≤ 32768 }
+fn put_listed(into: &mut [u8; REPLY_SIZE], at: usize, listed: &Listed) -> usize
+    requires room { at + 257 ≤ REPLY_SIZE }
     ensures text { take result into.new ≡ take at into.old ++ listed_text listed.now }
     ensures end { result ≡ at + length (listed_text listed.now) }
     ensures bound { result ≤ at + 257 }
@@ -149,8 +152,8 @@ fn refusal_bytes(refusal: Refusal) -> &'static [u8]
 }
 
 /// Writes bytes at a place, and returns the place behind them.
-fn put(into: &mut [u8; 32768], at: usize, bytes: &[u8]) -> usize
-    requires room { at + length bytes.now ≤ 32768 }
+fn put(into: &mut [u8; REPLY_SIZE], at: usize, bytes: &[u8]) -> usize
+    requires room { at + length bytes.now ≤ REPLY_SIZE }
     ensures text { take result into.new ≡ take at into.old ++ bytes.now }
     ensures end { result ≡ at + length bytes.now }
 {
@@ -176,7 +179,7 @@ mod tests {
             (Reply::Refused(Refusal::NotFound), b"no 1 not-found\n"),
             (Reply::Refused(Refusal::BadLine), b"no 10 bad-line\n"),
         ];
-        let mut into = [0; 32768];
+        let mut into = [0; REPLY_SIZE];
         for (answer, text) in &replies {
             let end = reply(answer, &mut into);
             assert_eq!(rt; &into[..end], *text);
@@ -186,7 +189,7 @@ mod tests {
 
     #[test]
     fn writes_bytes(rt: HostRuntime) -> Result<(), Fail> {
-        let mut into = [0; 32768];
+        let mut into = [0; REPLY_SIZE];
         let bytes = Bytes::from_slice(rt.alloc(), b"\x00\xaf")?;
         let end = reply(&Reply::Bytes(bytes), &mut into);
         assert_eq!(rt; &into[..end], b"ok 00af\n".as_slice());
@@ -195,7 +198,7 @@ mod tests {
 
     #[test]
     fn writes_names(rt: HostRuntime) -> Result<(), Fail> {
-        let mut into = [0; 32768];
+        let mut into = [0; REPLY_SIZE];
         let mut names = Vec::new(rt.alloc());
         let name = Name::read(rt.alloc(), b"a")?;
         names.push(Listed { name, is_dir: true })?;

@@ -1,15 +1,14 @@
-ghost use Rattle.std.specs.Prelude.{◌≡◌, ◌+◌, ◌≤◌, ◌++◌, ◌∷◌, [], length, map, Bool, true, false, IfOk, IfErr, OnOk, OnErr, IsErrOf};
+ghost use Rattle.std.specs.Prelude.{◌≡◌, ◌+◌, ◌≤◌, ◌++◌, ◌∷◌, [], length, false, IfOk, IfErr, OnOk, OnErr};
 ghost use Rattle.std.specs.List.{list_any};
 ghost use Rattle.std.specs.Io.KnownBytes.{append_known};
 ghost use Rattle.bd_io.specs.Cause.{HasCause};
 ghost use Rattle.bd_io.specs.Written.{WrotePart};
-ghost use Rattle.bd_model.specs.Lines.{line_of, whole_lines, open_line, held};
+ghost use Rattle.bd_model.specs.Lines.{line_of, open_line, held};
 ghost use Rattle.bd_model.specs.Replies.{reply_line};
 ghost use Rattle.bd_model.specs.Transcript.{Follows, IsThere, accepted_by, is_stop, up_to_stop};
 ghost use Rattle.bd_model.proofs.CutLines.{IsHeld};
 ghost use Rattle.bd_script.specs.Script.{script_line, IsLine, IsReply};
 ghost use Rattle.bd_volume.specs.Volume.{tree_of, count_of, device_of};
-ghost use Rattle.betr.specs.Fault.{HasCauseIn};
 ghost use Rattle.betr.specs.Session.{Executes, Leaves};
 ghost use Rattle.betr.specs.Shell.{stops, point_of, lines_at, line_after, last_lines, meanings, IsAtStart, IsAnswerFault, IsShellResult};
 
@@ -17,7 +16,7 @@ use crate::fault::Fault;
 use bd_command::{Refusal, Reply};
 use bd_device::Device;
 use bd_io::{Failed, Sink, put_all};
-use bd_script::{Line, LineFault, read_line};
+use bd_script::{Line, LineFault, REPLY_SIZE, read_line};
 use bd_volume::{Fault as VolumeFault, Refused, Volume};
 use std::alloc::{AllocError, Global};
 
@@ -78,7 +77,7 @@ fn answer<D: Device + Drop>(
 }
 
 /// Writes a reply, behind what was written. At `Failed` a part of it was written.
-fn say<K: Sink>(reply: &Reply, buffer: &mut [u8; 32768], sink: &mut K) -> Result<(), Failed>
+fn say<K: Sink>(reply: &Reply, buffer: &mut [u8; REPLY_SIZE], sink: &mut K) -> Result<(), Failed>
     requires { IsReply reply.now }
     ensures ok { OnOk result (K.written sink.new ≡ append_known (K.written sink.old) (reply_line reply.now)) }
     ensures part { OnErr result (WrotePart (reply_line reply.now) (K.written sink.old) (K.written sink.new)) }
@@ -94,7 +93,7 @@ fn carry_out<D: Device + Drop, K: Sink>(
     alloc: Global,
     volume: &mut Volume<D>,
     line: &[u8],
-    buffer: &mut [u8; 32768],
+    buffer: &mut [u8; REPLY_SIZE],
     sink: &mut K,
 ) -> Result<Flow, Fault>
     ensures ok { OnOk result (Executes (point_of volume.old (K.written sink.old)) (line_of line.now ∷ []) (point_of volume.new (K.written sink.new))) }
@@ -120,7 +119,7 @@ const HELD: usize = 8193;
 pub struct Shell<D> {
     volume: Volume<D>,
     line: Vec<u8>,
-    buffer: Box<[u8; 32768]>,
+    buffer: Box<[u8; REPLY_SIZE]>,
 }
 
 impl<D: Device + Drop> Shell<D> {
@@ -131,7 +130,7 @@ impl<D: Device + Drop> Shell<D> {
         ensures fault { IfErr result (λ refused. refused.fault ≡ VolumeFault.NoMemory) }
         ensures given_back { IfErr result (λ refused. refused.device ≡ device) }
     {
-        let Ok(buffer) = Box::new(alloc, [0; 32768]) else {
+        let Ok(buffer) = Box::new(alloc, [0; REPLY_SIZE]) else {
             return Err(Refused {
                 fault: VolumeFault::NoMemory,
                 device,
