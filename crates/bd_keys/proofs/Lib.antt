@@ -2,3 +2,4 @@ mod Order
 mod Opens
 mod PrefixRange
 mod Lifts
+pub mod EditLemmas

@@ -1,3 +1,4 @@
 pub mod Apart
 pub mod Keys
 pub mod Ranges
+pub mod Edits

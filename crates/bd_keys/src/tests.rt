@@ -1,4 +1,6 @@
-use super::{Bytes, Range, after, clip, lift, starts, translate};
+use super::{
+    Bytes, Range, after, clip, front, lift, overwritten, resized, starts, tail, translate,
+};
 use std::test::Fail;
 
 #[test]
@@ -10,6 +12,23 @@ fn bytes_are_kept(rt: HostRuntime) -> Result<(), Fail> {
     assert!(rt; !copy.is_empty());
     assert_eq!(rt; bytes.as_slice(), b"ab".as_slice());
     assert!(rt; Bytes::from_vec(copy.into_vec()) == bytes);
+    Ok(())
+}
+
+#[test]
+fn edits_of_bytes(rt: HostRuntime) -> Result<(), Fail> {
+    let rows: [(&[u8], usize, &[u8], &[u8], &[u8]); 4] = [
+        (b"abcd", 1, b"XY", b"a", b"aXYd"),
+        (b"abcd", 3, b"XY", b"abc", b"abcXY"),
+        (b"a", 3, b"X", b"a\0\0", b"a\0\0X"),
+        (b"", 0, b"X", b"", b"X"),
+    ];
+    for (old, off, bytes, short, long) in rows {
+        assert_eq!(rt; resized(rt.alloc(), old, off)?.as_slice(), short);
+        assert_eq!(rt; overwritten(rt.alloc(), old, off, bytes)?.as_slice(), long);
+    }
+    assert_eq!(rt; front(b"ab", 3), b"ab".as_slice());
+    assert_eq!(rt; tail(b"ab", 1), b"b".as_slice());
     Ok(())
 }
 

@@ -14,7 +14,8 @@ use Rattle.std.proofs.lemmas.List.{drop_more}
 use Rattle.bd_message.specs.declared.message.Message.{Message}
 use Rattle.bd_message.specs.declared.message.Message.TheVariants.{Put, Del, Patch, Cut}
 use Rattle.bd_message.specs.KeyMaps.{grafted}
-use Rattle.bd_message.specs.Effect.{same_key, begins, rest, is_cut, act, acts, no_nodes, patched}
+use Rattle.bd_message.specs.Effect.{same_key, begins, rest, is_cut, act, acts, no_nodes}
+use Rattle.bd_keys.specs.Edits.{overwritten}
 use Rattle.bd_message.specs.Entries.{moved_entry}
 
 abbrev pub Entry : Type 0
@@ -188,12 +189,12 @@ pub acted_cut : (m : Message) (es new : List Entry) (prefix from : List ℕ) →
 acted_cut m es new prefix from is new_is k =
     ap (found k) new_is ∙ find-without (is_cut prefix from) k es ∙ ap (λ (n : Message). act no_nodes n k (found k es)) (sym is)
 
-patch_case : (b : Bool) (v : List ℕ) (old at_key : Option (List ℕ)) (off : ℕ) (bytes : List ℕ) → (b ≡ true → old ≡ at_key) → v ≡ patched (unwrap_or at_key []) off bytes
-    → cond b (Some v) old ≡ cond b (Some (patched (unwrap_or old []) off bytes)) old
-patch_case true v old at_key off bytes same is = ap Some (is ∙ ap (λ o. patched (unwrap_or o []) off bytes) (sym (same refl)))
+patch_case : (b : Bool) (v : List ℕ) (old at_key : Option (List ℕ)) (off : ℕ) (bytes : List ℕ) → (b ≡ true → old ≡ at_key) → v ≡ overwritten (unwrap_or at_key []) off bytes
+    → cond b (Some v) old ≡ cond b (Some (overwritten (unwrap_or old []) off bytes)) old
+patch_case true v old at_key off bytes same is = ap Some (is ∙ ap (λ o. overwritten (unwrap_or o []) off bytes) (sym (same refl)))
 patch_case false v old at_key off bytes same is = refl
 
-pub acted_patch : (es new : List Entry) (key v : List ℕ) (off : ℕ) (bytes : List ℕ) → v ≡ patched (unwrap_or (found key es) []) off bytes
+pub acted_patch : (es new : List Entry) (key v : List ℕ) (off : ℕ) (bytes : List ℕ) → v ≡ overwritten (unwrap_or (found key es) []) off bytes
     → new ≡ filter (λ (e : Entry). not (same_key e.0 key)) es ++ (key, v) ∷ [] → (k : List ℕ) → found k new ≡ act no_nodes (Patch key off bytes) k (found k es)
 acted_patch es new key v off bytes v_is new_is k =
     ap (found k) new_is ∙ find-put key v k es

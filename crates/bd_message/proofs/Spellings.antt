@@ -25,9 +25,6 @@ message_fits (Goto prefix source child) h = ((omega arith, omega arith), omega a
 pub texts_alone : BeginsNoOther FitsTexts spell_texts
 texts_alone = BeginsNoOther-both FitsText16 FitsText16 text16 text16 BeginsNoOther-text16 BeginsNoOther-text16
 
-text_alone : BeginsNoOther FitsText16 text16
-text_alone = BeginsNoOther-text16
-
 part_alone : BeginsNoOther FitsPart spell_part
 part_alone = BeginsNoOther-both (FitsBoth FitsText16 (FitsWidth w16)) FitsText16 (spell_both text16 (be w16)) text16
     (BeginsNoOther-both FitsText16 (FitsWidth w16) text16 (be w16) BeginsNoOther-text16 (BeginsNoOther-be w16)) BeginsNoOther-text16
@@ -44,7 +41,7 @@ BeginsNoOther-message (Put key value) (Cut prefix' from') x y p q e = apart 1 4 
 BeginsNoOther-message (Put key value) (Goto prefix' source' child') x y p q e = apart 1 5 _ _ (omega arith) e
 BeginsNoOther-message (Del key) (Put key' value') x y p q e = apart 2 1 _ _ (omega arith) e
 BeginsNoOther-message (Del key) (Del key') x y p q e =
-    let same = text_alone key key' x y p q (ap (drop 1) e) in (ap Del same.0, same.1)
+    let same = BeginsNoOther-text16 key key' x y p q (ap (drop 1) e) in (ap Del same.0, same.1)
 BeginsNoOther-message (Del key) (Patch key' off' bytes') x y p q e = apart 2 3 _ _ (omega arith) e
 BeginsNoOther-message (Del key) (Cut prefix' from') x y p q e = apart 2 4 _ _ (omega arith) e
 BeginsNoOther-message (Del key) (Goto prefix' source' child') x y p q e = apart 2 5 _ _ (omega arith) e

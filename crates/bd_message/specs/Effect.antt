@@ -1,9 +1,10 @@
 -- What a message does to what stands at a key.
-use Rattle.std.specs.Prelude.{ℕ, ◌+◌, ◌-◌, Bool, not, ◌&&◌, if◌then◌else◌, nat_eq, List, [], ◌∷◌, ◌++◌, length, take, drop, replicate, Option, Some, None}
+use Rattle.std.specs.Prelude.{ℕ, Bool, not, ◌&&◌, if◌then◌else◌, nat_eq, List, [], ◌∷◌, ◌++◌, length, drop, Option, Some, None}
 use Rattle.std.specs.Option.{unwrap_or}
 use Rattle.std.specs.List.{starts_with}
 use Rattle.std.specs.Ordering.{is_lt}
 use Rattle.std.specs.Cmp.Lexicographic.{pointwise}
+use Rattle.bd_keys.specs.Edits.{overwritten}
 use Rattle.bd_keys.specs.Keys.{key_cmp}
 use Rattle.bd_message.specs.declared.message.Message.{Message}
 use Rattle.bd_message.specs.declared.message.Message.TheVariants.{Put, Del, Patch, Cut, Goto}
@@ -24,15 +25,11 @@ rest prefix k = drop (length prefix) k
 abbrev pub is_cut : List ℕ → List ℕ → List ℕ → Bool
 is_cut prefix from k = begins k prefix && not (is_lt (key_cmp (rest prefix k) from))
 
--- extended with zeros to an offset, and overwritten from there on
-abbrev pub patched : List ℕ → ℕ → List ℕ → List ℕ
-patched old off bytes = take off old ++ replicate (off - length old) 0 ++ bytes ++ drop (off + length bytes) old
-
 -- what stands at a key after a message, where `old` stood before it; `below` is what each node has at a key
 abbrev pub act : (ℕ → List ℕ → Option (List ℕ)) → Message → List ℕ → Option (List ℕ) → Option (List ℕ)
 act below (Put key value) k old = if same_key k key then Some value else old
 act below (Del key) k old = if same_key k key then None else old
-act below (Patch key off bytes) k old = if same_key k key then Some (patched (unwrap_or old []) off bytes) else old
+act below (Patch key off bytes) k old = if same_key k key then Some (overwritten (unwrap_or old []) off bytes) else old
 act below (Cut prefix from) k old = if is_cut prefix from k then None else old
 act below (Goto prefix source child) k old = if begins k prefix then below child (source ++ rest prefix k) else old
 

@@ -5,14 +5,15 @@ ghost use Rattle.std.specs.Option.{option_copied, unwrap_or};
 ghost use Rattle.std.specs.List.{filter, filter_map};
 ghost use Rattle.std.specs.FinMap as map;
 ghost use Rattle.bd_keys.specs.Keys.{key_cmp, IsFrom, Begins};
-ghost use Rattle.bd_message.specs.Effect.{act, acts, no_nodes, begins, is_cut, patched, same_key};
+ghost use Rattle.bd_message.specs.Effect.{act, acts, no_nodes, begins, is_cut, same_key};
+ghost use Rattle.bd_keys.specs.Edits.{overwritten};
 ghost use Rattle.bd_message.specs.declared.message.Message.TheVariants as message;
 ghost use Rattle.bd_message.specs.Messages.{IsMessage, IsPlain};
 ghost use Rattle.bd_message.specs.KeyMaps.{IsNext, grafted};
 ghost use Rattle.bd_message.specs.Entries.{moved_entry, IsLesser};
 
 use crate::Message;
-use bd_keys::{Bytes, starts, translate};
+use bd_keys::{Bytes, overwritten, starts, translate};
 use std::alloc::{AllocError, Global};
 
 /// A key and its value.
@@ -58,32 +59,19 @@ fn put(alloc: Global, entries: &mut Vec<Entry>, key: &Bytes, value: Bytes) -> Re
     Ok(())
 }
 
-/// The bytes extended with zeros to an offset, and overwritten from there on.
-fn patched(alloc: Global, old: &[u8], off: usize, bytes: &[u8]) -> Result<Vec<u8>, AllocError>
-    requires { off + length bytes.now ≤ 1024 }
-    ensures { IfOk result (λ new. new.items ≡ patched old.now off bytes.now) }
-{
-    let mut new = Vec::from_slice(alloc, &old[..off.min(old.len())])?;
-    new.resize(off, 0)?;
-    new.extend_from_slice(bytes)?;
-    let end = old.len().min(off + bytes.len());
-    new.extend_from_slice(&old[end..])?;
-    Ok(new)
-}
-
-/// The same, where nothing counts as no bytes.
-fn patched_at(
+/// The bytes extended with zeros to an offset, and overwritten from there on, where nothing counts as no bytes.
+fn patched(
     alloc: Global,
     old: Option<&[u8]>,
     off: usize,
     bytes: &[u8],
 ) -> Result<Vec<u8>, AllocError>
     requires { off + length bytes.now ≤ 1024 }
-    ensures { IfOk result (λ new. new.items ≡ patched (unwrap_or (option_copied old.entry) []) off bytes.now) }
+    ensures { IfOk result (λ new. new.items ≡ overwritten (unwrap_or (option_copied old.entry) []) off bytes.now) }
 {
     match old {
-        Some(old) => patched(alloc, old, off, bytes),
-        None => patched(alloc, &[], off, bytes),
+        Some(old) => overwritten(alloc, old, off, bytes),
+        None => overwritten(alloc, &[], off, bytes),
     }
 }
 
@@ -122,7 +110,7 @@ fn patch(
     ensures { OnOk result ((k : List ℕ) → map.find key_cmp k entries.new.items
         ≡ act no_nodes (message.Patch key.now off bytes.now) k (map.find key_cmp k entries.old.items)) }
 {
-    let value = patched_at(alloc, find(entries, key.as_slice()), off, bytes.as_slice())?;
+    let value = patched(alloc, find(entries, key.as_slice()), off, bytes.as_slice())?;
     put(alloc, entries, key, Bytes::from_vec(value))
 }
 

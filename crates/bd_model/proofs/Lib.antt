@@ -5,6 +5,5 @@ pub mod PathOrder
 pub mod TreeGets
 pub mod Accepted
 pub mod TreeLaws
-pub mod FileBytes
 pub mod TreeStays
 pub mod Listing

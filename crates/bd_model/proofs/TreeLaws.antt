@@ -8,7 +8,8 @@ use Rattle.bd_command.specs.Command.{writes}
 use Rattle.bd_names.specs.Names.{is_under}
 use Rattle.bd_names.specs.NamesLaws.{is_under-append}
 use Rattle.bd_model.specs.Tree.{Entry, FileWith, Tree, IsTree}
-use Rattle.bd_model.specs.Step.{absent_refusal, file_refusal, new_refusal, root_refusal, size_refusal, inside_refusal, file_bytes, resized, overwritten, without, cloned, renamed, changed, stepped, refusal_of}
+use Rattle.bd_keys.specs.Edits.{resized, overwritten}
+use Rattle.bd_model.specs.Step.{absent_refusal, file_refusal, new_refusal, root_refusal, size_refusal, inside_refusal, file_bytes, without, cloned, renamed, changed, stepped, refusal_of}
 use Rattle.bd_command.specs.declared.refusal.Refusal.{Refusal}
 use Rattle.bd_model.specs.Laws.{Accepts, after}
 use Rattle.bd_model.proofs.TreeGets.{get-insert-at, get-insert-other, get-without-under, get-without-other, get-moved, get-moved-other}

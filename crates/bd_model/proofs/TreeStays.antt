@@ -11,13 +11,14 @@ use Rattle.bd_command.specs.Command.{IsCommand}
 use Rattle.bd_names.specs.Names.{AreNames, is_under, parent_of}
 use Rattle.bd_names.specs.NamesLaws.{AreNames-append, AreNames-parts, is_under-append, is_under-rest, is_under-trans, parent_of-some, parent_of-none}
 use Rattle.bd_model.specs.Tree.{Entry, Directory, FileWith, Tree, IsTree, IsEntry, root_only}
-use Rattle.bd_model.specs.Step.{without, cloned, renamed, changed, stepped, refusal_of, file_refusal, size_refusal, root_refusal, absent_refusal, file_bytes, resized, overwritten}
+use Rattle.bd_keys.specs.Edits.{resized, overwritten}
+use Rattle.bd_model.specs.Step.{without, cloned, renamed, changed, stepped, refusal_of, file_refusal, size_refusal, root_refusal, absent_refusal, file_bytes}
 use Rattle.bd_model.specs.Laws.{Accepts, after}
 use Rattle.bd_model.proofs.PathOrder.{paths_total, one_or_apart}
 use Rattle.bd_model.proofs.TreeGets.{get-insert-at, get-insert-other, get-without-under, get-without-other}
 use Rattle.bd_model.proofs.Accepted.{no_child, absent_below, accepted_first, accepted_second, not_root, size_if_accepted, CanMake, can_make}
 use Rattle.bd_model.proofs.TreeLaws.{can_clone, can_rename, rename_outside, rename_not_root, get-cloned-at, get-cloned-other, get-renamed-at, get-renamed-other, get-renamed-gone, file_written, file_truncated}
-use Rattle.bd_model.proofs.FileBytes.{length-resized, length-overwritten, bytes-resized, bytes-overwritten}
+use Rattle.bd_keys.proofs.EditLemmas.{length-resized, length-overwritten, bytes-resized, bytes-overwritten}
 
 some_not_none : (o : Option Entry) → IsSome o → o ≡ None → ⊥
 some_not_none None h e = contradict false refl h

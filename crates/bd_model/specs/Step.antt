@@ -1,5 +1,5 @@
 -- What a command does: the first refusal that holds, or else the tree after it and its reply.
-use Rattle.std.specs.Prelude.{ℕ, ◌+◌, ◌-◌, ◌^◌, Bool, true, false, not, List, [], ◌∷◌, ◌++◌, length, take, drop, replicate, nat_le, nat_lt, if◌then◌else◌, is_some}
+use Rattle.std.specs.Prelude.{ℕ, ◌+◌, ◌^◌, Bool, true, false, not, List, [], ◌∷◌, ◌++◌, length, take, drop, nat_le, nat_lt, if◌then◌else◌, is_some}
 use Rattle.std.specs.List.{filter, filter_map}
 use Rattle.std.specs.Option.{option_or, option_map, option_and_then}
 use Rattle.std.specs.Ordering.{nat_cmp, is_lt}
@@ -7,6 +7,7 @@ use Rattle.std.specs.Cmp.Lexicographic.{slice_cmp}
 use Rattle.std.specs.declared.option.Option.{Option}
 use Rattle.std.specs.declared.option.Option.TheVariants.{None, Some}
 use Rattle.std.specs.FinMap.{get, insert, retain_keys, entries, from_entries}
+use Rattle.bd_keys.specs.Edits.{resized, overwritten}
 use Rattle.bd_names.specs.Names.{rest_below, is_under, parent_of}
 use Rattle.bd_command.specs.declared.Command.{Command}
 use Rattle.bd_command.specs.declared.Command.TheVariants.{Mkdir, Create, Write, Truncate, Remove, Rename, Clone, Read, Stat, List as Ls}
@@ -76,14 +77,6 @@ abbrev pub file_bytes : Option Entry → List ℕ
 file_bytes None = []
 file_bytes (Some Directory) = []
 file_bytes (Some (FileWith bytes)) = bytes
-
--- cut, or extended with zeros, to a length
-abbrev pub resized : List ℕ → ℕ → List ℕ
-resized old len = take len old ++ replicate (len - length old) 0
-
--- extended with zeros to an offset, and overwritten from there on
-abbrev pub overwritten : List ℕ → ℕ → List ℕ → List ℕ
-overwritten old off bytes = resized old off ++ bytes ++ drop (off + length bytes) old
 
 -- an entry at `a` or below it, moved to the same place at `b`
 abbrev pub moved_entry : List (List ℕ) → List (List ℕ) → List (List ℕ) × Entry → Option (List (List ℕ) × Entry)

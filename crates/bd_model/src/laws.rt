@@ -1,6 +1,6 @@
 //! What commands do to a tree, in plain words. Each function here carries laws of the definitions, and does nothing.
 
-ghost use Rattle.std.specs.Prelude.{◌≡◌, ◌≢◌, ◌+◌, ◌<◌, ◌≤◌, ◌++◌, ◌∷◌, [], List, ℕ, true, false, length, map, max, slice_index};
+ghost use Rattle.std.specs.Prelude.{◌≡◌, ◌≢◌, ◌++◌, ◌∷◌, [], List, ℕ, true, false, map};
 ghost use Rattle.std.specs.List.{Contains};
 ghost use Rattle.std.specs.List.Sorted.{IsStrictlySortedBy};
 ghost use Rattle.std.specs.Ordering.{nat_cmp};
@@ -13,7 +13,8 @@ ghost use Rattle.bd_command.specs.declared.Command.TheVariants.{Mkdir, Create, W
 ghost use Rattle.bd_command.specs.declared.refusal.Refusal.{Refusal};
 ghost use Rattle.bd_command.specs.declared.reply.Listed.{Listed};
 ghost use Rattle.bd_model.specs.Tree.{Entry, Tree, IsTree, Directory, FileWith, root_only};
-ghost use Rattle.bd_model.specs.Step.{refusal_of, resized, overwritten, children, is_directory};
+ghost use Rattle.bd_keys.specs.Edits.{resized, overwritten};
+ghost use Rattle.bd_model.specs.Step.{refusal_of, children, is_directory};
 ghost use Rattle.bd_model.specs.Laws.{Accepts, after};
 
 /// A refused command leaves the tree as it is, and so does one that reads.
@@ -71,20 +72,4 @@ pub fn listed()
     ensures each { (t : Tree) (p : List (List ℕ)) (n : List ℕ) (e : Entry) → get t (p ++ n ∷ []) ≡ Some e → Contains (children p t) (record { name = n; is_dir = is_directory e }) }
     ensures only { (t : Tree) (p : List (List ℕ)) (l : Listed) → Contains (children p t) l → (e : Entry) × (get t (p ++ l.name ∷ []) ≡ Some e) × (l.is_dir ≡ is_directory e) }
     ensures rising { (t : Tree) (p : List (List ℕ)) → IsStrictlySortedBy (slice_cmp nat_cmp) (map (λ l. l.name) (children p t)) }
-{}
-
-/// A file of a new length has its old bytes up to there, and zeros behind the old end.
-pub fn resized()
-    ensures long { (old : List ℕ) (len : ℕ) → length (resized old len) ≡ len }
-    ensures kept { (old : List ℕ) (len i : ℕ) → i < len → i < length old → slice_index (resized old len) i ≡ slice_index old i }
-    ensures zero { (old : List ℕ) (len i : ℕ) → i < len → length old ≤ i → slice_index (resized old len) i ≡ 0 }
-{}
-
-/// An overwritten file has the new bytes from the offset on, its old bytes before and behind them, and zeros from its old end to the offset.
-pub fn overwritten()
-    ensures long { (old : List ℕ) (off : ℕ) (bytes : List ℕ) → length (overwritten old off bytes) ≡ max (length old) (off + length bytes) }
-    ensures new { (old : List ℕ) (off : ℕ) (bytes : List ℕ) (i : ℕ) → i < length bytes → slice_index (overwritten old off bytes) (off + i) ≡ slice_index bytes i }
-    ensures before { (old : List ℕ) (off : ℕ) (bytes : List ℕ) (i : ℕ) → i < off → i < length old → slice_index (overwritten old off bytes) i ≡ slice_index old i }
-    ensures gap { (old : List ℕ) (off : ℕ) (bytes : List ℕ) (i : ℕ) → i < off → length old ≤ i → slice_index (overwritten old off bytes) i ≡ 0 }
-    ensures behind { (old : List ℕ) (off : ℕ) (bytes : List ℕ) (i : ℕ) → off + length bytes ≤ i → slice_index (overwritten old off bytes) i ≡ slice_index old i }
 {}

@@ -1,9 +1,9 @@
 //! The bytes of a file.
 
 ghost use Rattle.std.specs.Prelude.{◌≡◌, ◌≤◌, ◌+◌, ◌^◌, ◌-◌, [], length, take, drop, IfOk};
-ghost use Rattle.bd_model.specs.Step.{resized, overwritten};
+ghost use Rattle.bd_keys.specs.Edits.{resized, overwritten};
 
-use bd_keys::Bytes;
+use bd_keys::{Bytes, front, overwritten, resized, tail};
 use std::alloc::{AllocError, Global};
 use std::marker::Model;
 
@@ -55,7 +55,7 @@ impl File {
     pub fn read(&self, alloc: Global, off: u32, len: u32) -> Result<Bytes, AllocError>
         ensures { IfOk result (λ read. read ≡ take len (drop off self.now)) }
     {
-        let rest = from(&self.bytes, off as usize);
+        let rest = tail(&self.bytes, off as usize);
         Bytes::from_slice(alloc, front(rest, len as usize))
     }
 
@@ -73,40 +73,7 @@ impl File {
         requires { off + length bytes.now ≤ 2 ^ 30 }
         ensures { IfOk result (λ new. new ≡ overwritten self.now off bytes.now) }
     {
-        let mut new = resized(alloc, &self.bytes, off as usize)?;
-        new.extend_from_slice(bytes)?;
-        new.extend_from_slice(from(&self.bytes, off as usize + bytes.len()))?;
-        Ok(File { bytes: new })
+        let bytes = overwritten(alloc, &self.bytes, off as usize, bytes)?;
+        Ok(File { bytes })
     }
-}
-
-/// The first bytes, at most `len`.
-fn front(bytes: &[u8], len: usize) -> &[u8]
-    ensures { result.now ≡ take len bytes.now }
-{
-    if len <= bytes.len() {
-        &bytes[..len]
-    } else {
-        bytes
-    }
-}
-
-/// The bytes from `off` on.
-fn from(bytes: &[u8], off: usize) -> &[u8]
-    ensures { result.now ≡ drop off bytes.now }
-{
-    if off <= bytes.len() {
-        &bytes[off..]
-    } else {
-        &[]
-    }
-}
-
-/// Bytes cut, or extended with zeros, to a length.
-fn resized(alloc: Global, bytes: &[u8], len: usize) -> Result<Vec<u8>, AllocError>
-    ensures { IfOk result (λ new. new.items ≡ resized bytes.now len) }
-{
-    let mut new = Vec::from_slice(alloc, front(bytes, len))?;
-    new.resize(len, 0)?;
-    Ok(new)
 }

@@ -7,6 +7,7 @@ use Rattle.std.proofs.lemmas.List.{map-append, append-nil}
 use Rattle.std.proofs.lemmas.Grind.{flat_map-append}
 use Rattle.std.proofs.lemmas.List.Sums.{sum_by-append}
 use Rattle.bd_io.specs.Written.{WrotePart}
+use Rattle.bd_io.proofs.Written.{append_known-twice}
 use Rattle.bd_command.specs.declared.reply.Reply.{Reply}
 use Rattle.bd_model.specs.Tree.{Tree}
 use Rattle.bd_model.specs.Lines.{ScriptLine}
@@ -21,10 +22,6 @@ use Rattle.betr.specs.Session.{Point, Executes, Falters, IsCutShort, Leaves}
 pub append_known-nil : (w : Option (List ℕ)) → append_known w [] ≡ w
 append_known-nil None = refl
 append_known-nil (Some xs) = ap (λ l. Some l) (append-nil xs)
-
-pub append_known-append : (w : Option (List ℕ)) (xs ys : List ℕ) → append_known w (xs ++ ys) ≡ append_known (append_known w xs) ys
-append_known-append None xs ys = refl
-append_known-append (Some ws) xs ys = ap (λ l. Some l) (sym (append_assoc ws xs ys))
 
 text-append : (es fs : List Executed) → text (es ++ fs) ≡ text es ++ text fs
 text-append es fs = flat_map-append (λ e. reply_line e.reply) es fs
@@ -67,7 +64,7 @@ executes_more p q r ls ms a b = record {
   lines_are = executed_lines-append a.entries b.entries ∙ ap (λ l. l ++ executed_lines b.entries) a.lines_are ∙ ap (λ l. ls ++ l) b.lines_are;
   tree = tree_after-append p.tree a.entries b.entries ∙ ap (λ t. tree_after t b.entries) a.tree ∙ b.tree;
   count = omega (arith, accepted_in-append a.entries b.entries, a.count, b.count);
-  written = b.written ∙ ap (λ w. append_known w (text b.entries)) a.written ∙ sym (append_known-append p.written (text a.entries) (text b.entries))
+  written = b.written ∙ ap (λ w. append_known w (text b.entries)) a.written ∙ append_known-twice p.written (text a.entries) (text b.entries)
       ∙ ap (append_known p.written) (sym (text-append a.entries b.entries));
 }
 
@@ -80,7 +77,7 @@ falters_more p q ls ms n w a b = record {
   transcript = IsTranscript-append p.tree a.entries b.entries a.transcript (subst (λ t. IsTranscript t b.entries) (sym a.tree) b.transcript);
   lines_are = subst (λ l. IsFront l (ls ++ ms)) (ap (λ l. l ++ executed_lines b.entries) (sym a.lines_are) ∙ sym (executed_lines-append a.entries b.entries)) (IsFront-append ls (executed_lines b.entries) ms b.lines_are);
   count_is = omega (arith, accepted_in-append a.entries b.entries, a.count, b.count_is);
-  written_is = b.written_is ∙ ap (λ v. append_known v (text b.entries)) a.written ∙ sym (append_known-append p.written (text a.entries) (text b.entries))
+  written_is = b.written_is ∙ ap (λ v. append_known v (text b.entries)) a.written ∙ append_known-twice p.written (text a.entries) (text b.entries)
       ∙ ap (append_known p.written) (sym (text-append a.entries b.entries));
 }
 
@@ -94,7 +91,7 @@ cut_more p q ls ms w a b =
       transcript = subst (IsTranscript p.tree) (sym joined) (IsTranscript-append p.tree a.entries all a.transcript (subst (λ t. IsTranscript t all) (sym a.tree) b.transcript));
       lines_are = subst (λ l. IsFront l (ls ++ ms)) (ap (λ l. l ++ executed_lines all) (sym a.lines_are) ∙ sym (executed_lines-append a.entries all) ∙ ap executed_lines (sym joined)) (IsFront-append ls (executed_lines all) ms b.lines_are);
       part = subst (λ v. WrotePart (reply_line b.last.reply) v w)
-          (ap (λ v. append_known v (text b.entries)) a.written ∙ sym (append_known-append p.written (text a.entries) (text b.entries)) ∙ ap (append_known p.written) (sym (text-append a.entries b.entries)))
+          (ap (λ v. append_known v (text b.entries)) a.written ∙ append_known-twice p.written (text a.entries) (text b.entries) ∙ ap (append_known p.written) (sym (text-append a.entries b.entries)))
           b.part;
     }
 

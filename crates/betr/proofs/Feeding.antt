@@ -87,7 +87,7 @@ pub record GoesOnBy (p r : Point) (fed : List ℕ) : Type 0 where
   pub executed : Executes p (meanings fed) r
   pub no_stop : list_any is_stop (meanings fed) ≡ false
 
-neither : (a b : Bool) → a ≡ false → b ≡ false → (a || b) ≡ false
+pub neither : (a b : Bool) → a ≡ false → b ≡ false → (a || b) ≡ false
 neither true b e f = e
 neither false b e f = f
 
@@ -99,7 +99,7 @@ goes_on_by p q r fed line b is h x e =
       no_stop = ap (list_any is_stop) lines ∙ list_any-append is_stop (meanings fed) (lines_at b line) ∙ neither _ _ h.no_stop e;
     }
 
-either_true : (a b : Bool) → b ≡ true → (a || b) ≡ true
+pub either_true : (a b : Bool) → b ≡ true → (a || b) ≡ true
 either_true true b e = refl
 either_true false b e = e
 

@@ -1,6 +1,6 @@
 -- How the lines of a script are executed, piece by piece.
 use Rattle.std.proofs.Common.{◌≡◌, ℕ, ◌+◌, ◌<◌, ◌≤◌, Bool, true, false, cond, List, [], ◌∷◌, ◌++◌, length, take, get_or, refl, sym, ap, subst, ◌∙◌, append_assoc, arith, length-append}
-use Rattle.std.specs.Prelude.{Option, map, ◌||◌, IfSome, IfErr, Result}
+use Rattle.std.specs.Prelude.{Option, map, IfSome, IfErr, Result}
 use Rattle.std.specs.declared.option.Option.TheVariants.{None, Some}
 use Rattle.std.specs.declared.result.Result.TheVariants.{Ok, Err}
 use Rattle.std.specs.List.{list_any}
@@ -18,7 +18,7 @@ use Rattle.betr.specs.declared.fault.Fault.TheVariants.{Device, Source, Memory, 
 use Rattle.betr.specs.Session.{Point, Executes, Leaves, lines_to_run, script_limit, TakesNoMore, Finishes, EndsAmong, Ends}
 use Rattle.betr.specs.Shell.{meanings, last_lines, IsShellFault}
 use Rattle.betr.proofs.Executes.{executes_none, executes_more, leaves_more, leaves_front}
-use Rattle.betr.proofs.Feeding.{GoesOnBy, up_to_stop_front}
+use Rattle.betr.proofs.Feeding.{GoesOnBy, neither, either_true, up_to_stop_front}
 
 -- where a session stands in a script: what was taken, and what of its last line stands open
 pub record Stands (from now : Point) (line : List ℕ) (taken : ℕ) (script rest : Option (List ℕ)) : Type 0 where
@@ -77,10 +77,6 @@ meanings-more bytes piece line is =
 held-more : (bytes piece line : List ℕ) → line ≡ held (open_line bytes) → held (open_line (line ++ piece)) ≡ held (open_line (bytes ++ piece))
 held-more bytes piece line is = ap (λ l. held (open_line (l ++ piece))) is ∙ (held_goes_on bytes piece).rest ∙ ap held (sym (open_line-more bytes piece))
 
-neither : (a b : Bool) → a ≡ false → b ≡ false → (a || b) ≡ false
-neither true b e f = e
-neither false b e f = f
-
 pub stands_more : (p q r : Point) (line line2 piece : List ℕ) (taken : ℕ) (script mid rest : Option (List ℕ)) → Stands p q line taken script mid
     → taken + length piece ≤ script_limit → mid ≡ prepend_known piece rest
     → Executes q (up_to_stop (meanings (line ++ piece))) r → list_any is_stop (meanings (line ++ piece)) ≡ false → line2 ≡ held (open_line (line ++ piece))
@@ -110,10 +106,6 @@ lines_front front rest =
           ∙ ap (λ l. l ++ map line_of last) (ap (map line_of) (whole_lines-more front rest) ∙ map-append line_of (whole_lines front) (whole_lines (open_line front ++ rest)))
           ∙ append_assoc (meanings front) (meanings (open_line front ++ rest)) (map line_of last),
     )
-
-either_true : (a b : Bool) → b ≡ true → (a || b) ≡ true
-either_true true b e = refl
-either_true false b e = e
 
 -- up to a `stop` within what was taken, the script's lines are those
 run_stopped : (bytes piece line rest : List ℕ) → line ≡ held (open_line bytes) → list_any is_stop (meanings bytes) ≡ false → list_any is_stop (meanings (line ++ piece)) ≡ true

@@ -2,7 +2,8 @@ use Rattle.std.proofs.Common.{refl}
 use Rattle.std.specs.FinMap.{get}
 use Rattle.bd_command.specs.declared.Command.TheVariants.{Write, Truncate}
 use Rattle.bd_model.specs.Tree.{FileWith}
-use Rattle.bd_model.specs.Step.{resized, overwritten, file_bytes}
+use Rattle.bd_keys.specs.Edits.{resized, overwritten}
+use Rattle.bd_model.specs.Step.{file_bytes}
 use Rattle.bd_model.proofs.TreeLaws.{after-others, after-written, after-truncated}
 use Rattle.bd_model.proofs.laws.new_bytes.Goals as goal
 

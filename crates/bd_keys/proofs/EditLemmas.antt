@@ -1,10 +1,10 @@
--- The bytes of a file that was cut, extended or overwritten.
+-- Bytes that were cut, extended or overwritten.
 use Rattle.std.proofs.Common.{◌≡◌, ℕ, ◌+◌, ◌-◌, ◌<◌, ◌≤◌, List, ◌++◌, length, take, drop, replicate, refl, sym, ◌∙◌, ap, arith, length-append}
 use Rattle.std.specs.Prelude.{slice_index, max}
 use Rattle.std.specs.List.{All, AllByRecursion}
 use Rattle.std.proofs.lemmas.List.{length-take, length-drop, length-replicate, get_or_append_left, get_or-append_right, get_or-append-add, get_or-take, get_or-drop, get_or-replicate}
 use Rattle.std.proofs.lemmas.List.Elements.{All-append, All-take, All-drop, All-replicate, All-from_recursion, recursion_from_All}
-use Rattle.bd_model.specs.Step.{resized, overwritten}
+use Rattle.bd_keys.specs.Edits.{resized, overwritten}
 
 -- ---- a new length
 

@@ -1,5 +1,0 @@
-use Rattle.bd_model.proofs.FileBytes.{length-resized, resized-kept, resized-zero}
-use Rattle.bd_model.proofs.laws.resized.Goals as goal
-
-pub returns : goal.returns
-returns c = record { long = length-resized; kept = resized-kept; zero = resized-zero }
