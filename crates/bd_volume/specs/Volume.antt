@@ -1,11 +1,15 @@
 -- What a volume stands for.
-use Rattle.std.specs.Prelude.{ℕ}
+use Rattle.std.specs.Prelude.{◌≡◌, ℕ, ◌+◌, ◌^◌, ◌≤◌, IsTrue, IsNone}
+use Rattle.bd_command.specs.Command.{writes}
+use Rattle.bd_command.specs.declared.Command.{Command}
 use Rattle.bd_model.specs.Tree.{Tree}
+use Rattle.bd_model.specs.Step.{refusal_of}
 use Rattle.bd_volume.specs.declared.Volume.{Volume}
 
--- the tree that a volume has
-abbrev pub tree_of : {D : Type 0} → Volume D → Tree
-tree_of v = v.tree
+-- a volume stands for a tree, after this many accepted commands
+pub record StandsFor {D : Type 0} (v : Volume D) (tree : Tree) (count : ℕ) : Type 0 where
+  pub tree_is : v.tree ≡ tree
+  pub count_is : v.count ≡ count
 
 -- how many commands it has accepted
 abbrev pub count_of : {D : Type 0} → Volume D → ℕ
@@ -14,3 +18,9 @@ count_of v = v.count
 -- its device
 abbrev pub device_of : {D : Type 0} → Volume D → D
 device_of v = v.device
+
+-- one more command would be accepted, of those that count, and the count stands at its last value
+pub record WearsCount (tree : Tree) (count : ℕ) (command : Command) : Type 0 where
+  pub last : 2 ^ 64 ≤ count + 1
+  pub counts : IsTrue (writes command)
+  pub accepted : IsNone (refusal_of tree command)

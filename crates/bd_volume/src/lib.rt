@@ -2,11 +2,11 @@
 //! The layers above use the contracts of `start` and `do_command`: the step of each command, and the cause of each fault.
 #![tactic(auto)]
 
-ghost use Rattle.std.specs.Prelude.{◌≡◌, ◌≤◌, ◌+◌, ◌^◌, ◌⊎◌, IfOk, IfErr, OnErr, IsTrue, IsNone};
-ghost use Rattle.bd_model.specs.Tree.{root_only};
-ghost use Rattle.bd_model.specs.Step.{step, refusal_of};
-ghost use Rattle.bd_command.specs.Command.{writes, accepted};
-ghost use Rattle.bd_volume.specs.Volume.{tree_of, count_of, device_of};
+ghost use Rattle.std.specs.Prelude.{◌≡◌, ◌≤◌, ◌+◌, ◌^◌, ◌⊎◌, ℕ, IfOk, IfErr, OnErr};
+ghost use Rattle.bd_model.specs.Tree.{Tree, root_only};
+ghost use Rattle.bd_model.specs.Step.{step};
+ghost use Rattle.bd_command.specs.Command.{accepted};
+ghost use Rattle.bd_volume.specs.Volume.{StandsFor, WearsCount, count_of, device_of};
 
 use bd_command::{Command, Reply};
 use bd_device::Device;
@@ -70,8 +70,7 @@ impl<D: Device + Drop> Volume<D> {
     /// Opens a volume on a device. It has `/` alone, and the device isn't called. The one fault is `NoMemory`,
     /// and gives the device back.
     pub fn start(alloc: Global, device: D) -> Result<Volume<D>, Refused<D>>
-        ensures tree { IfOk result (λ v. tree_of v ≡ root_only) }
-        ensures count { IfOk result (λ v. count_of v ≡ 0) }
+        ensures stands { IfOk result (λ v. StandsFor v root_only 0) }
         ensures device { IfOk result (λ v. device_of v ≡ device) }
         ensures fault { IfErr result (λ refused. refused.fault ≡ Fault.NoMemory) }
         ensures given_back { IfErr result (λ refused. refused.device ≡ device) }
@@ -92,15 +91,22 @@ impl<D: Device + Drop> Volume<D> {
     /// Executes a command. `Worn(Counter::Count)` comes only for an accepted writing command where the count
     /// stands at its last value. A fault leaves the volume as it was.
     pub fn do_command(&mut self, alloc: Global, command: &Command) -> Result<Reply, Fault>
-        ensures step { IfOk result (λ reply. (tree_of self.new, reply) ≡ step (tree_of self.old) command.now) }
-        ensures count { IfOk result (λ reply. count_of self.new ≡ count_of self.old + accepted command.now reply) }
-        ensures device { device_of self.new ≡ device_of self.old }
-        ensures tree_stays { OnErr result (tree_of self.new ≡ tree_of self.old) }
-        ensures count_stays { OnErr result (count_of self.new ≡ count_of self.old) }
+        ensures step { IfOk result (λ reply. (t : Tree) (n : ℕ) → StandsFor self.old t n
+            → StandsFor self.new (step t command.now).0 (n + accepted command.now reply)) }
+        ensures replies { IfOk result (λ reply. (t : Tree) (n : ℕ) → StandsFor self.old t n
+            → reply ≡ (step t command.now).1) }
+        ensures stays { OnErr result ((t : Tree) (n : ℕ) → StandsFor self.old t n → StandsFor self.new t n) }
+
+        // `NoMemory` is free, and the count is worn only where it would pass its last value.
         ensures fault { IfErr result (λ e. (e ≡ Fault.NoMemory) ⊎ (e ≡ Fault.Worn Counter.Count)) }
-        ensures worn { result ≡ Err (Fault.Worn Counter.Count) → 2 ^ 64 ≤ count_of self.old + 1 }
-        ensures worn_command { result ≡ Err (Fault.Worn Counter.Count) → IsTrue (writes command.now) }
-        ensures worn_accepted { result ≡ Err (Fault.Worn Counter.Count) → IsNone (refusal_of (tree_of self.old) command.now) }
+        ensures worn { result ≡ Err (Fault.Worn Counter.Count)
+            → (t : Tree) (n : ℕ) → StandsFor self.old t n → WearsCount t n command.now }
+
+        // The count and the device, whatever the volume stands for.
+        ensures counts { IfOk result (λ reply. count_of self.new ≡ count_of self.old + accepted command.now reply) }
+        ensures count_stays { OnErr result (count_of self.new ≡ count_of self.old) }
+        ensures count_worn { result ≡ Err (Fault.Worn Counter.Count) → 2 ^ 64 ≤ count_of self.old + 1 }
+        ensures device { device_of self.new ≡ device_of self.old }
     {
         if self.count == u64::MAX && command.writes() {
             return match self.tree.refusal(alloc, command)? {

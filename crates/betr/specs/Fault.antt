@@ -1,5 +1,5 @@
--- The faults that end a run.
-use Rattle.std.specs.Prelude.{ℕ, List, [], ◌∷◌, ◌++◌, codes, ⊤}
+-- The faults that end a run: their statuses and lines, and their causes.
+use Rattle.std.specs.Prelude.{◌≡◌, ℕ, ◌≤◌, List, [], ◌∷◌, ◌++◌, codes, ⊤}
 use Rattle.bd_io.specs.Cause.{Rose}
 use Rattle.bd_message.specs.Counters.{counter_name}
 use Rattle.betr.specs.declared.fault.Fault.{Fault}
@@ -23,11 +23,40 @@ fault_line TooLong = codes "fault too-long" ++ 10 ∷ []
 fault_line (Worn which) = codes "fault worn " ++ counter_name which ++ 10 ∷ []
 fault_line Sink = []
 
--- the cause of a fault in a session: a count of faults that rose, but for memory, a counter at its end, and a script that is too long
-abbrev pub HasCauseIn : Fault → ℕ → ℕ → ℕ → ℕ → Type 0
-HasCauseIn Device source_before source_now sink_before sink_now = ⊥
-HasCauseIn Source source_before source_now sink_before sink_now = Rose source_before source_now
-HasCauseIn Memory source_before source_now sink_before sink_now = ⊤
-HasCauseIn TooLong source_before source_now sink_before sink_now = ⊤
-HasCauseIn (Worn which) source_before source_now sink_before sink_now = ⊤
-HasCauseIn Sink source_before source_now sink_before sink_now = Rose sink_before sink_now
+-- how often the outside has failed: the device, its writes and barriers, the source, the sink
+pub record Faults : Type 0 where
+  pub device : ℕ
+  pub writes : ℕ
+  pub source : ℕ
+  pub sink : ℕ
+
+abbrev pub faults : ℕ → ℕ → ℕ → ℕ → Faults
+faults device writes source sink = record {
+  device = device;
+  writes = writes;
+  source = source;
+  sink = sink;
+}
+
+-- no count falls
+pub record NeverFall (before now : Faults) : Type 0 where
+  pub device : before.device ≤ now.device
+  pub writes : before.writes ≤ now.writes
+  pub source : before.source ≤ now.source
+  pub sink : before.sink ≤ now.sink
+
+-- the count that is a fault's cause rose; want of memory is free, and what they leave shows the cause of the others
+abbrev pub Caused : Fault → Faults → Faults → Type 0
+Caused Device before now = Rose before.device now.device
+Caused Source before now = Rose before.source now.source
+Caused Memory before now = ⊤
+Caused TooLong before now = ⊤
+Caused (Worn which) before now = ⊤
+Caused Sink before now = Rose before.sink now.sink
+
+-- counts of the sink alone, and of source and sink
+abbrev pub of_sink : ℕ → Faults
+of_sink sink = faults 0 0 0 sink
+
+abbrev pub of_ends : ℕ → ℕ → Faults
+of_ends source sink = faults 0 0 source sink

@@ -1,4 +1,5 @@
 pub mod Fault
+pub mod Transcript
 pub mod Session
 pub mod Words
 pub mod Shell

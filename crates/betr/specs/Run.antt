@@ -1,55 +1,105 @@
 -- What a whole run says of its device, source and sink.
-use Rattle.std.specs.Prelude.{◌≡◌, ℕ, ◌≤◌, ◌⊎◌, List, length, Option, Result, IfErr, IsSomeAnd, IsSome, ⊤}
-use Rattle.std.specs.Io.KnownBytes.{append_known}
-use Rattle.bd_io.specs.Cause.{Rose}
+use Rattle.std.specs.Prelude.{◌≡◌, ◌≢◌, ◌⊎◌, ℕ, ◌≤◌, List, [], length, IfSome, IsSome, IsSomeAnd}
+use Rattle.std.specs.Io.KnownBytes.{append_known, prepend_known}
+use Rattle.std.specs.declared.option.Option.{Option}
+use Rattle.std.specs.declared.option.Option.TheVariants.{None, Some}
+use Rattle.bd_limits.specs.Limits.{script_limit}
+use Rattle.bd_io.specs.Cause.{Rose, next_count}
 use Rattle.bd_io.specs.Written.{WrotePart}
+use Rattle.bd_device.specs.Blocks.{Image}
 use Rattle.bd_model.specs.Tree.{root_only}
 use Rattle.betr.specs.declared.fault.Fault.{Fault}
-use Rattle.betr.specs.declared.fault.Fault.TheVariants.{Device, Source, Memory, TooLong, Worn, Sink}
-use Rattle.betr.specs.Fault.{fault_line}
-use Rattle.betr.specs.Session.{Point, Ends, script_limit}
+use Rattle.betr.specs.declared.outcome.Ack.{Ack}
+use Rattle.betr.specs.Fault.{status_of, fault_line, Faults, Caused}
+use Rattle.betr.specs.Transcript.{State, Entry, IsTranscript}
+use Rattle.betr.specs.Session.{Among, TakenAt, Replied}
+use Rattle.betr.specs.Words.{Call, Run}
 
--- the tree of `/` alone, and nothing accepted
-abbrev pub start_point : Option (List ℕ) → Point
-start_point written = record { tree = root_only; count = 0; written = written }
+-- the state that a run begins at: the tree of `/` alone, and nothing accepted
+abbrev pub first_state : State
+first_state = record { tree = root_only; count = 0 }
 
--- how often the outside has failed
-pub record Faults : Type 0 where
-  pub device : ℕ
-  pub source : ℕ
-  pub sink : ℕ
+-- the status of an end
+abbrev pub end_status : Option Fault → ℕ
+end_status None = 0
+end_status (Some e) = status_of e
 
-abbrev pub faults : ℕ → ℕ → ℕ → Faults
-faults device source sink = record { device = device; source = source; sink = sink }
+-- what is told of source and sink at a moment: what is left of the script, what was written, and the counts of faults
+pub record Ends : Type 0 where
+  pub script : Option (List ℕ)
+  pub written : Option (List ℕ)
+  pub faults : Faults
 
--- a fault's cause: a count that rose; what a fault leaves says it of a script that is too long and of a counter, and memory is free
-abbrev pub HasCauseInRun : Fault → Faults → Faults → Type 0
-HasCauseInRun Device before now = Rose before.device now.device
-HasCauseInRun Source before now = Rose before.source now.source
-HasCauseInRun Memory before now = ⊤
-HasCauseInRun TooLong before now = ⊤
-HasCauseInRun (Worn which) before now = ⊤
-HasCauseInRun Sink before now = Rose before.sink now.sink
+abbrev pub ends : Option (List ℕ) → Option (List ℕ) → Faults → Ends
+ends script written faults = record { script = script; written = written; faults = faults }
 
--- the sink's count doesn't fall, and a fault has its cause
-pub record IsImageResult {T : Type 0} (before now : Faults) (result : Result T Fault) : Type 0 where
-  pub sink_later : before.sink ≤ now.sink
-  pub fault : IfErr result (λ e. HasCauseInRun e before now)
-
--- a line is written last: whole, or a part of it where the sink's count rose
+-- a line is written last: all of it, or a part where the sink's count rose
 abbrev pub WritesLast : List ℕ → Option (List ℕ) → Option (List ℕ) → ℕ → ℕ → Type 0
 WritesLast line old new before now = (new ≡ append_known old line) ⊎ (WrotePart line old new × Rose before now)
 
--- a fault ended the run: what it leaves of the script, its cause, and its line
-pub record EndsBy (fault : Fault) (script rest old new : Option (List ℕ)) (before now : Faults) : Type 0 where
-  pub written : Option (List ℕ)
-  pub left : Ends fault (start_point old) script rest written
-  pub cause : HasCauseInRun fault before now
-  pub line : WritesLast (fault_line fault) written new before.sink now.sink
+-- after the replies a fault's line is written
+abbrev pub WritesEnd : Option Fault → Option (List ℕ) → Option (List ℕ) → ℕ → ℕ → Type 0
+WritesEnd None old new before now = new ≡ old
+WritesEnd (Some e) old new before now = WritesLast (fault_line e) old new before now
+
+-- how a run went: its one transcript, and how the outcome, the script and what was written are tied to it
+pub record Went (start : State) (status : ℕ) (acks : List Ack) (before now : Ends) : Type 0 where
+  pub end : Option Fault
+  pub status_is : status ≡ end_status end
+  pub entries : List Entry
+  pub transcript : IsTranscript start entries
+  pub taken : List ℕ
+  pub taken_is : before.script ≡ prepend_known taken now.script
+  pub among_taken : Among end start taken entries
+  pub among_script : IfSome before.script (λ bytes. Among end start bytes entries)
+  pub taken_at : TakenAt end taken entries
+  pub replies : Option (List ℕ)
+  pub replied : Replied end entries before.written replies
+  pub last : WritesEnd end replies now.written before.faults.sink now.faults.sink
+  pub cause : IfSome end (λ e. Caused e before.faults now.faults)
+  pub acked : acks ≡ []
+
+-- ---- the device
+
+-- what is told of a device at a moment
+pub record Seen : Type 0 where
+  pub contents : Option Image
+  pub blocks : ℕ
+  pub shows : List ℕ → Option Image
+  pub calls : ℕ
+
+abbrev pub seen : Option Image → ℕ → (List ℕ → Option Image) → ℕ → Seen
+seen contents blocks shows calls = record {
+  contents = contents;
+  blocks = blocks;
+  shows = shows;
+  calls = calls;
+}
+
+-- a device without blocks, which shows for each name what it showed
+pub record Detached (before now : Seen) : Type 0 where
+  pub blocks : now.blocks ≡ 0
+  pub behind : (name : List ℕ) → now.shows name ≡ before.shows name
+
+-- the image is attached as it is, by one call and no other; where that fails, the device is detached
+pub record OnlyAttaches (image : List ℕ) (status : ℕ) (before now : Seen) : Type 0 where
+  pub attached : status ≢ 3 → now.contents ≡ before.shows image
+  pub detached : status ≡ 3 → Detached before now
+  pub once : now.calls ≡ next_count before.calls
+
+-- what a call does with the device
+abbrev pub Uses : Call → ℕ → Seen → Seen → Type 0
+Uses (Run image) status before now = OnlyAttaches image status before now
+
+-- the image that a call names
+abbrev pub image_of : Call → List ℕ
+image_of (Run image) = image
+
+-- ---- where nothing fails
 
 -- the words are right, the outside doesn't fail, and the script is known and isn't too long
-pub record IsFaultless (image script : Option (List ℕ)) (before now : Faults) : Type 0 where
-  pub image_named : IsSome image
+pub record IsFaultless (call : Option Call) (script : Option (List ℕ)) (before now : Faults) : Type 0 where
+  pub called : IsSome call
   pub short : IsSomeAnd script (λ bytes. length bytes ≤ script_limit)
   pub device : ¬ Rose before.device now.device
   pub source : ¬ Rose before.source now.source

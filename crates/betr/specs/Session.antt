@@ -1,111 +1,119 @@
--- What a session does with the lines of a script.
-use Rattle.std.specs.Prelude.{◌≡◌, ℕ, ◌+◌, ◌^◌, ◌≤◌, false, List, [], ◌∷◌, ◌++◌, length, map, Option, IfSome}
+-- What a session does with the lines of a script, and how it ends.
+use Rattle.std.specs.Prelude.{◌≡◌, ◌⊎◌, ℕ, ◌+◌, ◌≤◌, false, List, [], ◌∷◌, ◌++◌, length, take, IfSome}
 use Rattle.std.specs.List.{list_any}
-use Rattle.std.specs.Option.{option_map}
 use Rattle.std.specs.Io.KnownBytes.{append_known, prepend_known}
-use Rattle.bd_io.specs.Cause.{next_count}
+use Rattle.std.specs.declared.option.Option.{Option}
+use Rattle.std.specs.declared.option.Option.TheVariants.{None, Some}
+use Rattle.std.specs.declared.result.Result.{Result}
+use Rattle.std.specs.declared.result.Result.TheVariants.{Ok, Err}
+use Rattle.bd_limits.specs.Limits.{script_limit}
 use Rattle.bd_io.specs.Written.{WrotePart}
+use Rattle.bd_command.specs.declared.Command.{Command}
+use Rattle.bd_message.specs.declared.fault.Counter.{Counter}
 use Rattle.bd_message.specs.declared.fault.Counter.TheVariants.{Count}
-use Rattle.bd_model.specs.Tree.{Tree}
-use Rattle.bd_model.specs.Lines.{ScriptLine, line_of, lines_of, whole_lines}
-use Rattle.bd_model.specs.Replies.{reply_line}
-use Rattle.bd_model.specs.Transcript.{Executed, IsTranscript, tree_after, text, executed_lines, accepted_in, is_stop, up_to_stop, IsFront}
+use Rattle.bd_script.specs.Lines.{is_stop}
+use Rattle.bd_script.specs.Replies.{line_reply_line}
+use Rattle.bd_script.specs.declared.line.Line.TheVariants.{Run}
+use Rattle.bd_volume.specs.Volume.{WearsCount}
 use Rattle.betr.specs.declared.fault.Fault.{Fault}
 use Rattle.betr.specs.declared.fault.Fault.TheVariants.{Device, Source, Memory, TooLong, Worn, Sink}
+use Rattle.betr.specs.Transcript.{Meaning, State, Entry, IsTranscript, text, executed, state_after, meanings, lines_to_run, IsFront}
 
--- where a session stands: the tree, the accepted commands, and what was written
-pub record Point : Type 0 where
-  pub tree : Tree
-  pub count : ℕ
-  pub written : Option (List ℕ)
+-- how a session ends: by a fault, or with the script
+abbrev pub end_of : {T : Type 0} → Result T Fault → Option Fault
+end_of (Ok x) = None
+end_of (Err e) = Some e
 
--- these lines were executed, and their replies written
-pub record Executes (from : Point) (lines : List ScriptLine) (to : Point) : Type 0 where
-  pub entries : List Executed
-  pub transcript : IsTranscript from.tree entries
-  pub lines_are : executed_lines entries ≡ lines
-  pub tree : tree_after from.tree entries ≡ to.tree
-  pub count : to.count ≡ from.count + accepted_in entries
-  pub written : to.written ≡ append_known from.written (text entries)
+-- ---- some lines
 
--- some of these lines were executed, from the first on, and their replies written; so many commands are accepted then
-pub record Falters (from : Point) (lines : List ScriptLine) (count : ℕ) (written : Option (List ℕ)) : Type 0 where
-  pub entries : List Executed
-  pub transcript : IsTranscript from.tree entries
-  pub lines_are : IsFront (executed_lines entries) lines
-  pub count_is : count ≡ from.count + accepted_in entries
-  pub written_is : written ≡ append_known from.written (text entries)
+-- from a state on these lines were executed and their replies written; `at` holds of the state then
+pub record Executes (from : State) (lines : List Meaning) (at : State → Type 0) (old new : Option (List ℕ))
+    : Type 0 where
+  pub entries : List Entry
+  pub transcript : IsTranscript from entries
+  pub lines_are : executed entries ≡ lines
+  pub reached : at (state_after from entries)
+  pub written : new ≡ append_known old (text entries)
 
--- the same, but of the last reply only a part was written
-pub record IsCutShort (from : Point) (lines : List ScriptLine) (written : Option (List ℕ)) : Type 0 where
-  pub entries : List Executed
-  pub last : Executed
-  pub transcript : IsTranscript from.tree (entries ++ last ∷ [])
-  pub lines_are : IsFront (executed_lines (entries ++ last ∷ [])) lines
-  pub part : WrotePart (reply_line last.reply) (append_known from.written (text entries)) written
+-- of these lines some were executed, from the first on, and a next one was there
+pub record HasNext (next : Meaning) (done lines : List Meaning) : Type 0 where
+  pub rest : List Meaning
+  pub lines_are : lines ≡ done ++ next ∷ rest
 
--- what a fault leaves of the execution of these lines; a counter is worn only at its last value
-abbrev pub Leaves : Fault → Point → List ScriptLine → Option (List ℕ) → Type 0
-Leaves Device from lines written = (count : ℕ) × Falters from lines count written
-Leaves Source from lines written = (count : ℕ) × Falters from lines count written
-Leaves Memory from lines written = (count : ℕ) × Falters from lines count written
-Leaves TooLong from lines written = (count : ℕ) × Falters from lines count written
-Leaves (Worn which) from lines written = (count : ℕ) × Falters from lines count written × (which ≡ Count) × (2 ^ 64 ≤ count + 1)
-Leaves Sink from lines written = IsCutShort from lines written
+-- the line is a command that would bring the count past its last value
+pub record WornBy (which : Counter) (s : State) (line : Meaning) : Type 0 where
+  pub command : Command
+  pub line_is : line ≡ Ok (Run command)
+  pub counter : which ≡ Count
+  pub wears : WearsCount s.tree s.count command
 
--- ---- a whole script, of which `script` is what is left of the source before, and `rest` after
+-- ---- what an end leaves of the lines
 
--- the lines of a script, up to the first `stop`
-abbrev pub lines_to_run : List ℕ → List ScriptLine
-lines_to_run script = up_to_stop (map line_of (lines_of script))
+-- how the executed lines stand to those of some bytes
+abbrev pub Among : Option Fault → State → List ℕ → List Entry → Type 0
+Among None s bytes es = executed es ≡ lines_to_run bytes
+Among (Some Device) s bytes es = es ≡ []
+Among (Some Source) s bytes es = IsFront (executed es) (lines_to_run bytes)
+Among (Some Memory) s bytes es =
+    (es ≡ []) ⊎ ((next : Meaning) × HasNext next (executed es) (lines_to_run bytes))
+Among (Some TooLong) s bytes es = IsFront (executed es) (lines_to_run bytes)
+Among (Some (Worn which)) s bytes es =
+    (next : Meaning) × HasNext next (executed es) (lines_to_run bytes) × WornBy which (state_after s es) next
+Among (Some Sink) s bytes es = IsFront (executed es) (lines_to_run bytes)
 
--- so many bytes of a script at the most are taken
-abbrev pub script_limit : ℕ
-script_limit = 16777216
+-- all lines that are complete in these bytes were executed, and none of them is `stop`
+pub record AllComplete (bytes : List ℕ) (es : List Entry) : Type 0 where
+  pub lines_are : executed es ≡ meanings bytes
+  pub no_stop : list_any is_stop (executed es) ≡ false
 
--- nothing was taken after `stop`: when bytes were taken for the last time, from the source that `last` was then, no `stop` stood whole in those before
-pub record TakesNoMore {S : Type 0} (left : S → Option (List ℕ)) (take_count : S → Option ℕ) (old new : S) : Type 0 where
-  pub last : S
-  pub before : List ℕ
-  pub piece : List ℕ
-  pub taken_before : left old ≡ prepend_known before (left last)
-  pub no_stop : list_any is_stop (map line_of (whole_lines before)) ≡ false
-  pub taken_last : left last ≡ prepend_known piece (left new)
-  pub short : length piece ≤ 4096
-  pub once : take_count new ≡ option_map next_count (take_count last)
+-- what was taken of the script when a session ends
+abbrev pub TakenAt : Option Fault → List ℕ → List Entry → Type 0
+TakenAt None taken es = length taken ≤ script_limit
+TakenAt (Some Device) taken es = taken ≡ []
+TakenAt (Some Source) taken es = (length taken ≤ script_limit) × AllComplete taken es
+TakenAt (Some Memory) taken es = length taken ≤ script_limit
+TakenAt (Some TooLong) taken es =
+    (length taken ≡ script_limit + 1) × AllComplete (take script_limit taken) es
+TakenAt (Some (Worn which)) taken es = length taken ≤ script_limit
+TakenAt (Some Sink) taken es = length taken ≤ script_limit
 
--- all the lines were executed, to the end or up to `stop`, and their replies written, and nothing else
-pub record Finishes (from : Point) (script rest written : Option (List ℕ)) : Type 0 where
-  pub entries : List Executed
-  pub transcript : IsTranscript from.tree entries
-  pub written_is : written ≡ append_known from.written (text entries)
+-- ---- what an end leaves of the replies
+
+-- all replies but the last were written, and of that one a part
+pub record IsCutShort (es : List Entry) (old new : Option (List ℕ)) : Type 0 where
+  pub front : List Entry
+  pub last : Entry
+  pub entries_are : es ≡ front ++ last ∷ []
+  pub part : WrotePart (line_reply_line last.said) (append_known old (text front)) new
+
+-- what was written of the replies when a session ends
+abbrev pub Replied : Option Fault → List Entry → Option (List ℕ) → Option (List ℕ) → Type 0
+Replied None es old new = new ≡ append_known old (text es)
+Replied (Some Device) es old new = new ≡ append_known old (text es)
+Replied (Some Source) es old new = new ≡ append_known old (text es)
+Replied (Some Memory) es old new = new ≡ append_known old (text es)
+Replied (Some TooLong) es old new = new ≡ append_known old (text es)
+Replied (Some (Worn which)) es old new = new ≡ append_known old (text es)
+Replied (Some Sink) es old new = IsCutShort es old new
+
+-- ---- a whole session
+
+-- from a state on: the one transcript of a session, its lines among those taken and those of the script, its replies;
+-- `at` holds of the state then
+pub record RunsFrom (end : Option Fault) (from : State) (at : State → Type 0) (taken : List ℕ)
+    (script old new : Option (List ℕ)) : Type 0 where
+  pub entries : List Entry
+  pub transcript : IsTranscript from entries
+  pub among_taken : Among end from taken entries
+  pub among_script : IfSome script (λ bytes. Among end from bytes entries)
+  pub taken_at : TakenAt end taken entries
+  pub reached : at (state_after from entries)
+  pub replied : Replied end entries old new
+
+-- a session with a script, of which `script` is left of the source before and `rest` after: from each state at which
+-- it may begin
+pub record Session (end : Option Fault) (first last : State → Type 0) (script rest old new : Option (List ℕ))
+    : Type 0 where
   pub taken : List ℕ
   pub taken_is : script ≡ prepend_known taken rest
-  pub few : length taken ≤ script_limit
-  pub lines_are : IfSome script (λ bytes. executed_lines entries ≡ lines_to_run bytes)
-
--- the lines that stand whole in what was taken were executed, none of them a `stop`, and then `more` came of the source
-pub record EndsWithin (from : Point) (script rest written : Option (List ℕ)) (taken more : List ℕ) : Type 0 where
-  pub entries : List Executed
-  pub transcript : IsTranscript from.tree entries
-  pub written_is : written ≡ append_known from.written (text entries)
-  pub taken_is : script ≡ prepend_known (taken ++ more) rest
-  pub lines_are : executed_lines entries ≡ map line_of (whole_lines taken)
-  pub no_stop : list_any is_stop (executed_lines entries) ≡ false
-
--- some of the lines of what was taken were executed, from the first on; they are the script's lines, where it is known
-pub record EndsAmong (fault : Fault) (from : Point) (script rest written : Option (List ℕ)) : Type 0 where
-  pub taken : List ℕ
-  pub taken_is : script ≡ prepend_known taken rest
-  pub few : length taken ≤ script_limit
-  pub left : Leaves fault from (lines_to_run taken) written
-  pub left_of_script : IfSome script (λ bytes. Leaves fault from (lines_to_run bytes) written)
-
--- what a fault leaves of a script
-abbrev pub Ends : Fault → Point → Option (List ℕ) → Option (List ℕ) → Option (List ℕ) → Type 0
-Ends Device from script rest written = EndsAmong Device from script rest written
-Ends Source from script rest written = (taken : List ℕ) × (length taken ≤ script_limit) × EndsWithin from script rest written taken []
-Ends Memory from script rest written = EndsAmong Memory from script rest written
-Ends TooLong from script rest written = (taken : List ℕ) × (byte : ℕ) × (length taken ≡ script_limit) × EndsWithin from script rest written taken (byte ∷ [])
-Ends (Worn which) from script rest written = EndsAmong (Worn which) from script rest written
-Ends Sink from script rest written = EndsAmong Sink from script rest written
+  pub runs : (s : State) → first s → RunsFrom end s last taken script old new

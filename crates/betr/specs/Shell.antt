@@ -1,74 +1,107 @@
--- What the functions of the shell say of a volume and a sink.
-use Rattle.std.specs.Prelude.{◌≡◌, ℕ, ◌+◌, ◌^◌, ◌≤◌, Bool, true, false, List, [], ◌∷◌, ◌++◌, Option, Result, IfErr, map, ⊤, ◌==◌, if◌then◌else◌}
-use Rattle.bd_io.specs.Cause.{Rose}
+-- What the functions of the shell say of a shell, a line and a sink.
+use Rattle.std.specs.Prelude.{◌≡◌, ◌⊎◌, ℕ, Bool, true, false, List, [], ◌∷◌, ◌++◌, length, ◌<◌}
+use Rattle.std.specs.List.{list_any}
+use Rattle.std.specs.Io.KnownBytes.{append_known}
+use Rattle.std.specs.declared.option.Option.{Option}
+use Rattle.std.specs.declared.option.Option.TheVariants.{None, Some}
+use Rattle.std.specs.declared.ops.ControlFlow.{ControlFlow}
+use Rattle.std.specs.declared.ops.ControlFlow.TheVariants.{Continue, Break}
+use Rattle.bd_io.specs.Written.{WrotePart}
 use Rattle.bd_message.specs.declared.fault.Counter.TheVariants.{Count}
-use Rattle.bd_model.specs.Tree.{root_only}
-use Rattle.bd_model.specs.Lines.{ScriptLine, line_of, held, is_empty, whole_lines}
+use Rattle.bd_script.specs.Lines.{line_of, held, open_line, is_stop, up_to_stop}
+use Rattle.bd_script.specs.Replies.{line_reply_line}
+use Rattle.bd_script.specs.declared.replies.LineReply.{LineReply}
+use Rattle.bd_volume.specs.declared.Fault.{Fault as VolumeFault}
+use Rattle.bd_volume.specs.declared.Fault.TheVariants as volume
 use Rattle.bd_volume.specs.declared.Volume.{Volume}
-use Rattle.bd_volume.specs.Volume.{tree_of, count_of}
+use Rattle.bd_volume.specs.Volume.{StandsFor, device_of}
 use Rattle.betr.specs.declared.fault.Fault.{Fault}
 use Rattle.betr.specs.declared.fault.Fault.TheVariants.{Device, Source, Memory, TooLong, Worn, Sink}
-use Rattle.betr.specs.Fault.{HasCauseIn}
-use Rattle.betr.specs.declared.shell.Flow.{Flow}
-use Rattle.betr.specs.declared.shell.Flow.TheVariants.{Continue, Stop}
 use Rattle.betr.specs.declared.shell.Shell.{Shell}
-use Rattle.betr.specs.Session.{Point}
+use Rattle.betr.specs.Transcript.{Meaning, State, Entry, Follows, IsTranscript, executed, state_after, meanings, lines_to_run, IsFront}
+use Rattle.betr.specs.Session.{HasNext, WornBy, Replied}
 
-abbrev pub stops : Flow → Bool
-stops Continue = false
-stops Stop = true
+-- a volume stands for a state
+abbrev pub VolumeAt : {D : Type 0} → Volume D → State → Type 0
+VolumeAt v s = StandsFor v s.tree s.count
 
--- where a session stands, with this volume and these bytes written
-abbrev pub point_of : {D : Type 0} → Volume D → Option (List ℕ) → Point
-point_of v written = record { tree = tree_of v; count = count_of v; written = written }
+-- a shell's volume stands for a state
+abbrev pub ShellAt : {D : Type 0} → Shell D → State → Type 0
+ShellAt shell s = VolumeAt shell.volume s
 
--- the faults that a line may end with before its reply is written
-abbrev pub IsAnswerFault : Fault → ℕ → Type 0
-IsAnswerFault Device count = ⊥
-IsAnswerFault Source count = ⊥
-IsAnswerFault Memory count = ⊤
-IsAnswerFault TooLong count = ⊥
-IsAnswerFault (Worn which) count = (which ≡ Count) × (2 ^ 64 ≤ count + 1)
-IsAnswerFault Sink count = ⊥
+-- what is held of the next line
+abbrev pub held_of : {D : Type 0} → Shell D → List ℕ
+held_of shell = shell.line.items
 
--- the faults that the shell has while it executes lines, with their causes
-abbrev pub IsShellFault : Fault → ℕ → ℕ → Type 0
-IsShellFault Device before now = ⊥
-IsShellFault Source before now = ⊥
-IsShellFault Memory before now = ⊤
-IsShellFault TooLong before now = ⊥
-IsShellFault (Worn which) before now = ⊤
-IsShellFault Sink before now = Rose before now
+-- its device
+abbrev pub device_in : {D : Type 0} → Shell D → D
+device_in shell = device_of shell.volume
 
--- the sink's count of faults doesn't fall, and a fault has its cause
-pub record IsShellResult {T : Type 0} (before now : ℕ) (result : Result T Fault) : Type 0 where
-  pub later : before ≤ now
-  pub fault : IfErr result (λ e. IsShellFault e before now)
+-- the run ends
+abbrev pub breaks : ControlFlow (Unit {0}) (Unit {0}) → Bool
+breaks (Continue c) = false
+breaks (Break b) = true
 
--- the tree of `/` alone, nothing accepted, and no byte of a line
-pub record IsAtStart {D : Type 0} (s : Shell D) : Type 0 where
-  pub tree : tree_of s.volume ≡ root_only
-  pub count : count_of s.volume ≡ 0
-  pub line : s.line.items ≡ []
+-- what is held of a line that a script has begun: no newline, and no more bytes than tell its meaning
+abbrev pub IsHeld : List ℕ → Type 0
+IsHeld line = held (open_line line) ≡ line
 
--- the lines that end with a byte, behind what stands open
-abbrev pub lines_at : ℕ → List ℕ → List ScriptLine
-lines_at byte line = if byte == 10 then line_of line ∷ [] else []
+-- ---- faults, with what each leaves; the causes of all stand in one table
 
--- what stands open after a byte, as far as it is held
-abbrev pub line_after : ℕ → List ℕ → List ℕ
-line_after byte line = if byte == 10 then [] else held (line ++ byte ∷ [])
+-- the faults of a volume that come today
+abbrev pub ComesNow : VolumeFault → Type 0
+ComesNow e = (e ≡ volume.NoMemory) ⊎ (e ≡ volume.Worn Count)
 
--- what the whole lines of some bytes mean
-abbrev pub meanings : List ℕ → List ScriptLine
-meanings bytes = map line_of (whole_lines bytes)
+-- a line's fault before its reply: memory, or a counter that the line wears
+abbrev pub LineFails : Fault → State → Meaning → Type 0
+LineFails Device s line = ⊥
+LineFails Source s line = ⊥
+LineFails Memory s line = Unit {0}
+LineFails TooLong s line = ⊥
+LineFails (Worn which) s line = WornBy which s line
+LineFails Sink s line = ⊥
 
--- what stands open at the end of a script is a line where it isn't empty
-abbrev pub last_lines : List ℕ → List ScriptLine
-last_lines line = if is_empty line then [] else line_of line ∷ []
+-- an executed line of whose reply only a part was written
+pub record IsCut (s : State) (line : Meaning) (at : State → Type 0) (old new : Option (List ℕ)) : Type 0 where
+  pub said : LineReply
+  pub after : State
+  pub follows : Follows s line said after
+  pub reached : at after
+  pub part : WrotePart (line_reply_line said) old new
 
--- the counts of faults of source and sink don't fall, and a fault has its cause
-pub record IsSessionResult {T : Type 0} (source_before source_now sink_before sink_now : ℕ) (result : Result T Fault) : Type 0 where
-  pub source_later : source_before ≤ source_now
-  pub sink_later : sink_before ≤ sink_now
-  pub fault : IfErr result (λ e. HasCauseIn e source_before source_now sink_before sink_now)
+-- a fault of a line: before its reply, and all stays, or within it
+abbrev pub RunFails : Fault → State → Meaning → (State → Type 0) → Option (List ℕ) → Option (List ℕ) → Type 0
+RunFails Device s line at old new = ⊥
+RunFails Source s line at old new = ⊥
+RunFails Memory s line at old new = at s × (new ≡ old)
+RunFails TooLong s line at old new = ⊥
+RunFails (Worn which) s line at old new = at s × (new ≡ old) × WornBy which s line
+RunFails Sink s line at old new = IsCut s line at old new
+
+-- some complete lines of these bytes were executed, none of them a `stop`, and there are more bytes
+pub record HasMore (bytes : List ℕ) (es : List Entry) : Type 0 where
+  pub front : List ℕ
+  pub rest : List ℕ
+  pub bytes_are : bytes ≡ front ++ rest
+  pub lines_are : executed es ≡ meanings front
+  pub no_stop : list_any is_stop (meanings front) ≡ false
+  pub some : 0 < length (open_line front ++ rest)
+
+-- how the lines executed before a fault stand to some bytes, of which `lines` are to be executed
+abbrev pub Halts : Fault → State → List ℕ → List Meaning → List Entry → Type 0
+Halts Device s bytes lines es = ⊥
+Halts Source s bytes lines es = ⊥
+Halts Memory s bytes lines es = HasMore bytes es
+Halts TooLong s bytes lines es = ⊥
+Halts (Worn which) s bytes lines es =
+    (next : Meaning) × HasNext next (executed es) lines × WornBy which (state_after s es) next
+Halts Sink s bytes lines es = IsFront (executed es) lines
+
+-- a fault came while the lines of some bytes were executed
+pub record BreaksOff (e : Fault) (from : State) (bytes : List ℕ) (lines : List Meaning) (at : State → Type 0)
+    (old new : Option (List ℕ)) : Type 0 where
+  pub entries : List Entry
+  pub transcript : IsTranscript from entries
+  pub halts : Halts e from bytes lines entries
+  pub reached : at (state_after from entries)
+  pub replied : Replied (Some e) entries old new

@@ -1,12 +1,38 @@
 -- What a source gave of a script.
-use Rattle.std.specs.Prelude.{◌≡◌, ℕ, ◌+◌, ◌<◌, ◌≤◌, List, take, Option}
+use Rattle.std.specs.Prelude.{◌≡◌, ◌⊎◌, ℕ, ◌+◌, ◌<◌, ◌≤◌, false, List, [], ◌++◌, length, take}
+use Rattle.std.specs.List.{list_any}
 use Rattle.std.specs.Io.KnownBytes.{prepend_known, IsAtEnd}
+use Rattle.std.specs.declared.option.Option.{Option}
+use Rattle.std.specs.declared.option.Option.TheVariants.{None, Some}
+use Rattle.bd_limits.specs.Limits.{script_limit, piece_limit}
+use Rattle.bd_io.specs.Cause.{next_count}
+use Rattle.bd_io.specs.Takes.{Takes}
+use Rattle.bd_script.specs.Lines.{is_stop}
 use Rattle.betr.specs.declared.session.Taken.{Taken}
 use Rattle.betr.specs.declared.session.Taken.TheVariants.{Piece, End, TooLong}
-use Rattle.betr.specs.Session.{script_limit}
+use Rattle.betr.specs.Transcript.{meanings}
 
--- a piece of at most 4,096 bytes within the limit, the end, or a byte past the limit
-abbrev pub Takes : Taken → ℕ → List ℕ → Option (List ℕ) → Option (List ℕ) → Type 0
-Takes (Piece size) taken piece old new = (0 < size) × (size ≤ 4096) × (taken + size ≤ script_limit) × (old ≡ prepend_known (take size piece) new)
-Takes End taken piece old new = IsAtEnd old × (new ≡ old)
-Takes TooLong taken piece old new = (taken ≡ script_limit) × (old ≡ prepend_known (take 1 piece) new)
+-- a piece within the limit, the end, or a byte past the limit, of what was left
+abbrev pub IsTaken : Taken → ℕ → List ℕ → Option (List ℕ) → Option (List ℕ) → Type 0
+IsTaken (Piece size) taken piece old new =
+    (0 < size) × (size ≤ piece_limit) × (taken + size ≤ script_limit) × (old ≡ prepend_known (take size piece) new)
+IsTaken End taken piece old new = IsAtEnd old × (new ≡ old)
+IsTaken TooLong taken piece old new = (taken ≡ script_limit) × (old ≡ prepend_known (take 1 piece) new)
+
+-- the last take came while no `stop` stood complete in what was taken before it, and only that one gave nothing
+pub record TookLast (script rest : List ℕ) (before now : Takes) : Type 0 where
+  pub front : List ℕ
+  pub script_is : script ≡ front ++ (now.last ++ rest)
+  pub no_stop : list_any is_stop (meanings front) ≡ false
+  pub short : length now.last ≤ piece_limit
+  pub idle : (now.idle ≡ before.idle) ⊎ ((now.last ≡ []) × (now.idle ≡ next_count before.idle))
+
+-- nothing was taken, or nothing more after `stop`, after the end or after a fault, where the source tells its bytes and
+-- its takes
+abbrev pub TakesNoMore : Option (List ℕ) → Option (List ℕ) → Option Takes → Option Takes → Type 0
+TakesNoMore (Some script) (Some rest) (Some before) (Some now) =
+    ((rest ≡ script) × (now ≡ before)) ⊎ TookLast script rest before now
+TakesNoMore (Some script) (Some rest) (Some before) None = ⊥
+TakesNoMore (Some script) (Some rest) None now = Unit {0}
+TakesNoMore (Some script) None before now = Unit {0}
+TakesNoMore None rest before now = Unit {0}

@@ -3,20 +3,28 @@ use Rattle.std.specs.Prelude.{ℕ, Bool, false, not, ◌&&◌, List, [], ◌∷�
 use Rattle.std.specs.declared.option.Option.{Option}
 use Rattle.std.specs.declared.option.Option.TheVariants.{None, Some}
 use Rattle.bd_names.specs.Names.{same_text}
+use Rattle.betr.specs.declared.words.Call as code
+use Rattle.betr.specs.declared.words.Call.TheVariants as code_variant
+
+-- what the program is asked to do
+pub data Call : Type 0 where
+  Run : (image : List ℕ) → Call
 
 -- not empty, and not beginning with `-`
 abbrev pub is_image : List ℕ → Bool
 is_image [] = false
 is_image (b ∷ bs) = not (b == 45)
 
--- the image that the words `PROGRAM run IMAGE` name; other words are refused
-abbrev pub image_of : List (List ℕ) → Option (List ℕ)
-image_of [] = None
-image_of (program ∷ []) = None
-image_of (program ∷ verb ∷ []) = None
-image_of (program ∷ verb ∷ image ∷ []) = if same_text verb (codes "run") && is_image image then Some image else None
-image_of (program ∷ verb ∷ image ∷ word ∷ more) = None
+-- the call that the words make: `PROGRAM run IMAGE`; other words are refused
+abbrev pub call_of : List (List ℕ) → Option Call
+call_of [] = None
+call_of (program ∷ []) = None
+call_of (program ∷ verb ∷ []) = None
+call_of (program ∷ verb ∷ image ∷ []) =
+    if same_text verb (codes "run") && is_image image then Some (Run image) else None
+call_of (program ∷ verb ∷ image ∷ word ∷ more) = None
 
 -- what is written where the words are refused
 abbrev pub usage_line : List ℕ
-usage_line = codes "usage: betr run IMAGE | betr format IMAGE SLOTS | betr fill IMAGE SEED COUNT" ++ 10 ∷ []
+usage_line =
+    codes "usage: betr run IMAGE | betr format IMAGE SLOTS | betr fill IMAGE SEED COUNT" ++ 10 ∷ []

@@ -1,0 +1,82 @@
+-- What a run does, line by line.
+use Rattle.std.specs.Prelude.{◌≡◌, ℕ, ◌+◌, Bool, List, [], ◌∷◌, ◌++◌, map}
+use Rattle.std.specs.List.{flat_map}
+use Rattle.std.specs.declared.result.Result.{Result}
+use Rattle.std.specs.declared.result.Result.TheVariants.{Ok, Err}
+use Rattle.bd_command.specs.Command.{accepted, IsCommand}
+use Rattle.bd_command.specs.declared.Command.{Command}
+use Rattle.bd_command.specs.declared.refusal.Refusal.{Refusal}
+use Rattle.bd_model.specs.Tree.{Tree}
+use Rattle.bd_model.specs.Step.{step}
+use Rattle.bd_script.specs.Lines.{line_of, lines_of, whole_lines, up_to_stop}
+use Rattle.bd_script.specs.Replies.{line_reply_line}
+use Rattle.bd_script.specs.declared.line.Line.{Line}
+use Rattle.bd_script.specs.declared.line.Line.TheVariants.{Run, Stop}
+use Rattle.bd_script.specs.declared.replies.LineReply.{LineReply}
+use Rattle.bd_script.specs.declared.replies.LineReply.TheVariants as reply
+
+-- what a line means: a line of the shell, or why it is none
+abbrev pub Meaning : Type 0
+Meaning = Result Line Refusal
+
+-- where a run stands: the tree, and how many commands were accepted
+pub record State : Type 0 where
+  pub tree : Tree
+  pub count : ℕ
+
+-- the state after a command
+abbrev pub state_of_step : State → Command → State
+state_of_step s c = record {
+  tree = (step s.tree c).0;
+  count = s.count + accepted c (step s.tree c).1;
+}
+
+-- a command within its limits takes the model's step
+pub record Steps (s : State) (c : Command) (said : LineReply) (after : State) : Type 0 where
+  pub limits : IsCommand c
+  pub said_is : said ≡ reply.Command (step s.tree c).1
+  pub after_is : after ≡ state_of_step s c
+
+-- a line's reply and the state after it follow from the state before it
+abbrev pub Follows : State → Meaning → LineReply → State → Type 0
+Follows s (Ok (Run c)) said after = Steps s c said after
+Follows s (Ok Stop) said after = (said ≡ reply.Stopped) × (after ≡ s)
+Follows s (Err refusal) said after = (said ≡ reply.Unread refusal) × (after ≡ s)
+
+-- an executed line, its reply, and the state after it
+pub record Entry : Type 0 where
+  pub line : Meaning
+  pub said : LineReply
+  pub state : State
+
+-- each entry follows from the state before it
+abbrev pub IsTranscript : State → List Entry → Type 0
+IsTranscript s [] = Unit {0}
+IsTranscript s (e ∷ es) = Follows s e.line e.said e.state × IsTranscript e.state es
+
+-- what is written of a transcript
+abbrev pub text : List Entry → List ℕ
+text es = flat_map (λ e. line_reply_line e.said) es
+
+-- the lines that were executed
+abbrev pub executed : List Entry → List Meaning
+executed es = map (λ e. e.line) es
+
+-- the state after a transcript
+abbrev pub state_after : State → List Entry → State
+state_after s [] = s
+state_after s (e ∷ es) = state_after e.state es
+
+-- ---- the lines of a script
+
+-- what the lines that are complete, each with its newline, mean
+abbrev pub meanings : List ℕ → List Meaning
+meanings bytes = map line_of (whole_lines bytes)
+
+-- the lines of a script, up to the first `stop`: nothing follows it
+abbrev pub lines_to_run : List ℕ → List Meaning
+lines_to_run script = up_to_stop (map line_of (lines_of script))
+
+-- xs stands at the front of ys
+abbrev pub IsFront : {A : Type 0} → List A → List A → Type 0
+IsFront {A} xs ys = (rest : List A) × (ys ≡ xs ++ rest)
