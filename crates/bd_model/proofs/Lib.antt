@@ -1,6 +1,3 @@
-pub mod CutLines
-pub mod Transcripts
-pub mod LinesThere
 pub mod PathOrder
 pub mod TreeGets
 pub mod Accepted

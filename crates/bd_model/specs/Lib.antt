@@ -1,6 +1,3 @@
 pub mod Tree
 pub mod Step
-pub mod Lines
-pub mod Replies
-pub mod Transcript
 pub mod Laws

@@ -1,2 +1,4 @@
+pub mod CutLines
 pub mod WordLemmas
 pub mod ReadLemmas
+pub mod LineLaws

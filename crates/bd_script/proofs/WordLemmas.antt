@@ -14,7 +14,7 @@ use Rattle.hex.specs.Hex.{decode_of, IsBytes}
 use Rattle.hex.specs.declared.error.FromHexError.{FromHexError}
 use Rattle.hex.proofs.HexLemmas.{decode_of-ok}
 use Rattle.bd_command.specs.Command.{IsWritten}
-use Rattle.bd_model.specs.Lines.{words_of, is_empty, digits_value, has_leading_zero, is_number, number_of, hex_of, hex_result}
+use Rattle.bd_script.specs.Lines.{words_of, is_empty, digits_value, has_leading_zero, is_number, number_of, hex_of, hex_result}
 
 -- ---- the first word
 

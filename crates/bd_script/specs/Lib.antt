@@ -1,3 +1,4 @@
-pub mod Script
+pub mod Lines
+pub mod Replies
 pub mod Reading
 pub mod Faults

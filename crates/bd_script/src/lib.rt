@@ -1,7 +1,8 @@
-//! The lines of a script as values, and the bytes of a reply.
-//! The layers above may use the contracts of `read_line`, one meaning a line, and of `reply`.
+//! The lines of a script as values, and the bytes of replies.
+//! The layers above use the contracts of `read_line`, `reply` and `line_reply`, and the definitions of `specs/`.
 #![tactic(auto)]
 
+pub mod laws;
 mod line;
 mod number;
 mod read;
@@ -10,4 +11,4 @@ mod words;
 
 pub use line::{Line, LineFault};
 pub use read::read_line;
-pub use replies::{REPLY_SIZE, reply};
+pub use replies::{LineReply, REPLY_SIZE, line_reply, reply};

@@ -14,16 +14,6 @@ use std::fmt;
 pub enum Line {
     /// Runs a command of the plain map.
     Run(Command),
-    /// Makes the accepted commands last.
-    Sync,
-    /// Writes the changed nodes.
-    Checkpoint,
-    /// Gives room back.
-    Reclaim,
-    /// Tells how much room is free.
-    Df,
-    /// Tells what the last clone or rename cost.
-    Walk,
     /// Ends the run.
     Stop,
 }

@@ -1,10 +1,10 @@
 //! Numbers and bytes in the words of a line.
 
 ghost use Rattle.std.specs.Prelude.{◌≡◌, ◌≤◌, take, MatchOption};
-ghost use Rattle.bd_model.specs.Lines.{number_of, hex_of};
+ghost use Rattle.bd_script.specs.Lines.{number_of, hex_of};
+ghost use Rattle.bd_limits.specs.Limits.{write_limit};
 
-/// The most bytes that a line can carry.
-pub(crate) const MAX_WRITE: usize = 2048;
+use bd_limits::MAX_WRITE;
 
 /// The number that a word is: `0`, or digits without a leading zero, up to 4,294,967,295.
 pub(crate) fn read_number(word: &[u8]) -> Option<u32>
@@ -26,10 +26,10 @@ pub(crate) fn read_number(word: &[u8]) -> Option<u32>
     Some(number as u32)
 }
 
-/// Writes the bytes that a word spells in hex digits at the front of `into`, and returns how many they are, 1 to 2,048.
-pub(crate) fn read_hex(word: &[u8], into: &mut [u8; 2048]) -> Option<usize>
+/// Writes the bytes that a word encodes in hex digits at the front of `into`, and returns how many they are, 1 to 2,048.
+pub(crate) fn read_hex(word: &[u8], into: &mut [u8; MAX_WRITE]) -> Option<usize>
     ensures { MatchOption result (hex_of word.now ≡ None)
-        (λ len. (len ≤ 2048) × (hex_of word.now ≡ Some (take len into.new))) }
+        (λ len. (len ≤ write_limit) × (hex_of word.now ≡ Some (take len into.new))) }
 {
     let len = word.len() / 2;
     if len == 0 || len > MAX_WRITE {

@@ -1,33 +1,28 @@
 //! Reading a line.
 
-ghost use Rattle.std.specs.Prelude.{◌≡◌, ◌↔◌, ◌∷◌, [], IfOk};
+ghost use Rattle.std.specs.Prelude.{◌≡◌, ◌↔◌, Ok, Err, IsTrue, is_ok, IfOk};
 ghost use Rattle.bd_names.specs.Names.{path_of};
-ghost use Rattle.bd_model.specs.Lines.{line_of, words_of, line_of_one, line_of_two, line_of_three};
-ghost use Rattle.bd_model.specs.Lines as script;
-ghost use Rattle.bd_script.specs.Script.{script_line, IsLine};
-ghost use Rattle.bd_script.specs.Reading.{IsRead, IsPathRead, ArePathsRead, line_of_parts, list_after, write_at};
+ghost use Rattle.bd_script.specs.Lines.{line_of, line_of_parts, words_of, line_of_verb, line_of_one, line_of_two, line_of_three, list_after, write_at, IsLine};
+ghost use Rattle.bd_script.specs.Reading.{IsRead, IsPathRead, ArePathsRead};
+ghost use Rattle.bd_command.specs.declared.refusal.Refusal.TheVariants as refusal;
 
 use crate::line::{Line, LineFault};
-use crate::number::{MAX_WRITE, read_hex, read_number};
+use crate::number::{read_hex, read_number};
 use crate::words::cut_word;
 use bd_command::Command;
 use bd_keys::Bytes;
+use bd_limits::{MAX_LINE, MAX_READ, MAX_WRITE};
 use bd_names::{Name, Path};
 use std::alloc::Global;
 
-/// The greatest length of a line, in bytes.
-const MAX_LINE: usize = 8192;
-
-/// The most bytes that can be read at once.
-const MAX_READ: u32 = 4096;
-
 /// Reads a line, which is given without its newline. A refused line takes no memory.
-#[tactic(auto, unfolding(bd_model::specs::Lines::line_of))]
+#[tactic(auto, unfolding(crate::specs::Lines::line_of))]
 pub fn read_line(alloc: Global, line: &[u8]) -> Result<Line, LineFault>
-    ensures meaning { IfOk result (λ read. script_line read ≡ line_of line.now) }
+    ensures meaning { IfOk result (λ read. line_of line.now ≡ Ok read) }
     ensures limits { IfOk result IsLine }
-    ensures bad_line { (result ≡ Err LineFault.BadLine) ↔ (line_of line.now ≡ script.BadLine) }
-    ensures bad_path { (result ≡ Err LineFault.BadPath) ↔ (line_of line.now ≡ script.BadPath) }
+    ensures bad_line { (result ≡ Err LineFault.BadLine) ↔ (line_of line.now ≡ Err refusal.BadLine) }
+    ensures bad_path { (result ≡ Err LineFault.BadPath) ↔ (line_of line.now ≡ Err refusal.BadPath) }
+    ensures no_memory { result ≡ Err LineFault.NoMemory → IsTrue (is_ok (line_of line.now)) }
 {
     if line.len() > MAX_LINE {
         return Err(LineFault::BadLine);
@@ -41,7 +36,7 @@ fn read_words(alloc: Global, line: &[u8]) -> Result<Line, LineFault>
 {
     let (verb, rest) = cut_word(line);
     let Some(rest) = rest else {
-        return read_service(verb);
+        return read_verb(verb);
     };
     let (first, rest) = cut_word(rest);
     if first.is_empty() {
@@ -68,8 +63,8 @@ fn read_words(alloc: Global, line: &[u8]) -> Result<Line, LineFault>
 }
 
 /// Reads a line of one word.
-fn read_service(verb: &[u8]) -> Result<Line, LineFault>
-    ensures { IsRead result (line_of_parts (verb.now ∷ [])) }
+fn read_verb(verb: &[u8]) -> Result<Line, LineFault>
+    ensures { IsRead result (line_of_verb verb.now) }
 {
     if verb == b"stop".as_slice() {
         Ok(Line::Stop)
@@ -129,7 +124,7 @@ fn read_two(alloc: Global, verb: &[u8], first: &[u8], second: &[u8]) -> Result<L
     }
 }
 
-/// Reads what stands behind `list` where a listing begins behind a name.
+/// Reads what stands after `list` where a name follows.
 fn read_list(alloc: Global, path: &[u8], after: &[u8]) -> Result<Line, LineFault>
     ensures { IsRead result (list_after path.now after.now) }
 {
@@ -167,7 +162,7 @@ fn read_three(
     }
 }
 
-/// Reads what stands behind `write`, once the offset is read.
+/// Reads what stands after `write`, once the offset is read.
 fn read_write(alloc: Global, path: &[u8], off: u32, hex: &[u8]) -> Result<Line, LineFault>
     ensures { IsRead result (write_at path.now off hex.now) }
 {

@@ -1,16 +1,52 @@
 //! The bytes of a reply.
 
-ghost use Rattle.std.specs.Prelude.{◌≡◌, ◌+◌, ◌*◌, ◌≤◌, ◌++◌, [], length, take, codes, decimal, if◌then◌else◌};
+ghost use Rattle.std.specs.Prelude.{◌≡◌, ◌+◌, ◌*◌, ◌≤◌, ◌++◌, length, take, decimal};
 ghost use Rattle.std.specs.List.{flat_map};
 ghost use Rattle.hex.specs.Hex.{encode_lower};
-ghost use Rattle.bd_model.specs.Replies.{reply_text, reply_line, refusal_text, chunk_text, listed_text};
-ghost use Rattle.bd_script.specs.Script.{IsReply};
+ghost use Rattle.bd_script.specs.Replies.{IsReply, IsLineReply, reply_text, reply_line, line_reply_text, line_reply_line, no_text, refusal_text, chunk_text, listed_text, listing_text};
+ghost use Rattle.bd_limits.specs.Limits.{listing_limit};
 
 use bd_command::{Listed, Listing, Refusal, Reply};
 use itoa::Buffer;
 
 /// The bytes of a buffer for a reply, which has room for each.
 pub const REPLY_SIZE: usize = 32_768;
+
+/// The reply to a line of a script.
+#[derive(Debug, Drop)]
+pub enum LineReply {
+    /// The reply to the line's command.
+    Command(Reply),
+    /// The line is refused before it is run.
+    Unread(Refusal),
+    /// The line ends the run.
+    Stopped,
+}
+
+/// Writes the reply to a line, and its newline, at the front of `into`, and returns how many bytes they are.
+pub fn line_reply(reply: &LineReply, into: &mut [u8; REPLY_SIZE]) -> usize
+    requires { IsLineReply reply.now }
+    ensures length { result ≡ length (line_reply_line reply.now) }
+    ensures text { take result into.new ≡ line_reply_line reply.now }
+    ensures bound { result ≤ REPLY_SIZE }
+{
+    let end = put_line_reply(into, reply);
+    put(into, end, b"\n")
+}
+
+/// Writes the reply to a line at the front.
+fn put_line_reply(into: &mut [u8; REPLY_SIZE], reply: &LineReply) -> usize
+    requires { IsLineReply reply.now }
+    ensures text { take result into.new ≡ line_reply_text reply.now }
+    ensures length { result ≡ length (line_reply_text reply.now) }
+    ensures bound { result ≤ 32000 }
+{
+    match reply {
+        LineReply::Command(reply) => put_reply(into, reply),
+        LineReply::Unread(refusal) => put_refusal(into, *refusal),
+        LineReply::Stopped => put(into, 0, b"ok"),
+    }
+}
 
 /// Writes a reply and its newline at the front of `into`, and returns how many bytes they are. A chunk has at most
 /// 4,096 bytes, a listing at most 100 names.
@@ -43,14 +79,21 @@ fn put_reply(into: &mut [u8; REPLY_SIZE], reply: &Reply) -> usize
             put_number(into, end, *len)
         }
         Reply::Names(listing) => put_listing(into, listing),
-        Reply::Refused(refusal) => {
-            let end = put(into, 0, b"no ");
-            put(into, end, refusal_bytes(*refusal))
-        }
+        Reply::Refused(refusal) => put_refusal(into, *refusal),
     }
 }
 
-/// Writes what was read at a place, if it is anything, and returns the place behind it.
+/// Writes the text of a refused line at the front.
+fn put_refusal(into: &mut [u8; REPLY_SIZE], refusal: Refusal) -> usize
+    ensures text { take result into.new ≡ no_text refusal }
+    ensures length { result ≡ length (no_text refusal) }
+    ensures bound { result ≤ 15 }
+{
+    let end = put(into, 0, b"no ");
+    put(into, end, refusal_bytes(refusal))
+}
+
+/// Writes what was read at a place, if it is anything, and returns the place after it.
 fn put_chunk(into: &mut [u8; REPLY_SIZE], at: usize, bytes: &[u8]) -> usize
     requires room { at + 1 + 2 * length bytes.now ≤ REPLY_SIZE }
     ensures text { take result into.new ≡ take at into.old ++ chunk_text bytes.now }
@@ -64,7 +107,7 @@ fn put_chunk(into: &mut [u8; REPLY_SIZE], at: usize, bytes: &[u8]) -> usize
     put_hex(into, start, bytes)
 }
 
-/// Writes bytes in hex digits at a place, and returns the place behind them.
+/// Writes bytes in hex digits at a place, and returns the place after them.
 fn put_hex(into: &mut [u8; REPLY_SIZE], at: usize, bytes: &[u8]) -> usize
     requires room { at + 2 * length bytes.now ≤ REPLY_SIZE }
     ensures text { take result into.new ≡ take at into.old ++ encode_lower bytes.now }
@@ -75,7 +118,7 @@ fn put_hex(into: &mut [u8; REPLY_SIZE], at: usize, bytes: &[u8]) -> usize
     end
 }
 
-/// Writes a number at a place, and returns the place behind it.
+/// Writes a number at a place, and returns the place after it.
 fn put_number(into: &mut [u8; REPLY_SIZE], at: usize, number: u32) -> usize
     requires room { at + 40 ≤ REPLY_SIZE }
     ensures text { take result into.new ≡ take at into.old ++ decimal number }
@@ -88,9 +131,9 @@ fn put_number(into: &mut [u8; REPLY_SIZE], at: usize, number: u32) -> usize
 
 /// Writes a listing at the front.
 fn put_listing(into: &mut [u8; REPLY_SIZE], listing: &Listing) -> usize
-    requires { length listing.now.names ≤ 100 }
-    ensures text { take result into.new ≡ codes "ok" ++ flat_map listed_text listing.now.names ++ (if listing.now.more then codes " +" else []) }
-    ensures length { result ≡ length (codes "ok" ++ flat_map listed_text listing.now.names ++ (if listing.now.more then codes " +" else [])) }
+    requires { length listing.now.names ≤ listing_limit }
+    ensures text { take result into.new ≡ listing_text listing.now }
+    ensures length { result ≡ length (listing_text listing.now) }
     ensures bound { result ≤ 32000 }
 {
     let end = put(into, 0, b"ok");
@@ -102,7 +145,7 @@ fn put_listing(into: &mut [u8; REPLY_SIZE], listing: &Listing) -> usize
     }
 }
 
-/// Writes the names of a listing at a place, and returns the place behind them.
+/// Writes the names of a listing at a place, and returns the place after them.
 fn put_names(into: &mut [u8; REPLY_SIZE], at: usize, names: &[Listed]) -> usize
     requires room { at + 257 * length names.now ≤ REPLY_SIZE }
     ensures text { take result into.new ≡ take at into.old ++ flat_map listed_text names.now }
@@ -116,7 +159,7 @@ fn put_names(into: &mut [u8; REPLY_SIZE], at: usize, names: &[Listed]) -> usize
     end
 }
 
-/// Writes a name of a listing at a place, and returns the place behind it.
+/// Writes a name of a listing at a place, and returns the place after it.
 fn put_listed(into: &mut [u8; REPLY_SIZE], at: usize, listed: &Listed) -> usize
     requires room { at + 257 ≤ REPLY_SIZE }
     ensures text { take result into.new ≡ take at into.old ++ listed_text listed.now }
@@ -151,7 +194,7 @@ fn refusal_bytes(refusal: Refusal) -> &'static [u8]
     }
 }
 
-/// Writes bytes at a place, and returns the place behind them.
+/// Writes bytes at a place, and returns the place after them.
 fn put(into: &mut [u8; REPLY_SIZE], at: usize, bytes: &[u8]) -> usize
     requires room { at + length bytes.now ≤ REPLY_SIZE }
     ensures text { take result into.new ≡ take at into.old ++ bytes.now }

@@ -1,7 +1,7 @@
 //! The words of a line.
 
 ghost use Rattle.std.specs.Prelude.{◌≡◌, [], ◌∷◌, MatchOption};
-ghost use Rattle.bd_model.specs.Lines.{words_of};
+ghost use Rattle.bd_script.specs.Lines.{words_of};
 
 /// The first word of a line, and what follows the space behind it, if there is one.
 pub(crate) fn cut_word(line: &[u8]) -> (&[u8], Option<&[u8]>)

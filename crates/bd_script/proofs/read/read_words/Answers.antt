@@ -1,8 +1,14 @@
 use Rattle.std.proofs.Common.{◌∷◌, sym, ◌∙◌, ap, subst}
 use Rattle.std.proofs.lemmas.Bool.{eqb-true, eqb-false}
-use Rattle.bd_script.specs.Reading.{IsRead, line_of_parts}
-use Rattle.bd_script.proofs.ReadLemmas.{more_words, cut_some, cut_none, second_empty, third_empty, fourth_empty, five_more, two_words, three_words, four_words}
+use Rattle.bd_script.specs.Reading.{IsRead}
+use Rattle.bd_script.specs.Lines.{line_of_parts}
+use Rattle.bd_script.proofs.ReadLemmas.{more_words, cut_some, cut_none, second_empty, third_empty, fourth_empty, five_more, one_word, two_words, three_words, four_words}
 use Rattle.bd_script.proofs.read.read_words.Goals as goal
+
+pub returns-in_default : goal.returns-in_default
+returns-in_default c =
+    let line = ap line_of_parts (cut_none _ _ _ c.cut_word.ensures c.in_default.is) ∙ one_word c.cut_word.result.0.now in
+    subst (IsRead c.read_verb.result) (sym line) c.read_verb.ensures
 
 pub returns-then-is_empty : goal.returns-then-is_empty
 returns-then-is_empty c =

@@ -1,6 +1,6 @@
 use Rattle.std.proofs.Common.{◌≡◌, ◌+◌, ◌*◌, ◌≤◌, ◌++◌, length, take}
 use Rattle.std.specs.List.{flat_map}
-use Rattle.bd_model.specs.Replies.{listed_text}
+use Rattle.bd_script.specs.Replies.{listed_text}
 use Rattle.bd_script.proofs.replies.put_names.Given as goal
 
 abbrev pub invariant-loop-listed : goal.invariant-loop-listed

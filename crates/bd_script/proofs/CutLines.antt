@@ -1,21 +1,23 @@
 -- How the lines of a script grow with its bytes.
 use Rattle.std.proofs.Common.{◌≡◌, ℕ, ◌+◌, ◌<◌, ◌≤◌, Bool, true, false, cond, List, [], ◌∷◌, ◌++◌, length, refl, sym, ap, subst, ◌∙◌, append_assoc, length-append, nat_eq, arith, eqb-true, leb-true, leb-false}
-use Rattle.std.specs.List.{onto_first, list_any, All}
-use Rattle.std.specs.Prelude.{map, nat_le, ◌&&◌, not}
+use Rattle.std.specs.List.{onto_first, All}
+use Rattle.std.specs.Prelude.{map, nat_le}
 use Rattle.std.proofs.lemmas.List.{append-nil, map-append, take_all, length-take, length-take-le, take-append-le}
 use Rattle.std.proofs.lemmas.List.Elements.{All-take, All-append, All-nil, All-cons}
 use Rattle.std.proofs.lemmas.Bool.{lt-leb}
 use Rattle.std.proofs.lemmas.List.Splits.{slice_split_none}
-use Rattle.bd_names.specs.Names.{same_text}
-use Rattle.bd_model.specs.Lines.{ScriptLine, BadLine, verbs_there, first_word, words_of, line_of_words, line_of, held, pieces, all_but_last, last_piece, whole_lines, open_line, lines_of, is_empty}
+use Rattle.std.specs.declared.result.Result.TheVariants.{Err}
+use Rattle.bd_limits.specs.Limits.{line_limit}
+use Rattle.bd_command.specs.declared.refusal.Refusal.TheVariants.{BadLine}
+use Rattle.bd_script.specs.Lines.{words_of, line_of_parts, line_of, held_limit, held, pieces, all_but_last, last_piece, whole_lines, open_line, lines_of, is_empty}
 
--- a byte behind the last of some pieces
+-- a byte after the last of some pieces
 abbrev pub onto_last : List (List ℕ) → ℕ → List (List ℕ)
 onto_last [] b = (b ∷ []) ∷ []
 onto_last (x ∷ []) b = (x ++ b ∷ []) ∷ []
 onto_last (x ∷ y ∷ more) b = x ∷ onto_last (y ∷ more) b
 
--- a newline begins an empty piece, and another byte stands behind the last one
+-- a newline begins an empty piece, and another byte stands after the last one
 abbrev pub piece_more : Bool → List (List ℕ) → ℕ → List (List ℕ)
 piece_more true ps b = ps ++ [] ∷ []
 piece_more false ps b = onto_last ps b
@@ -173,24 +175,20 @@ open_line-more xs ys = (goes_on xs ys).rest
 
 -- ---- held lines
 
-bad_in_all : (there words : Bool) (l : ScriptLine) (size : Bool) → size ≡ false → cond there (cond (size && words) l BadLine) BadLine ≡ BadLine
-bad_in_all true words l size e = ap (λ s. cond (s && words) l BadLine) e
-bad_in_all false words l size e = refl
-
--- a line of more than 8,192 bytes is a bad one
-pub line_of-too_long : (line : List ℕ) → 8192 < length line → line_of line ≡ BadLine
+-- a line of more than `line_limit` bytes is a bad one
+pub line_of-too_long : (line : List ℕ) → line_limit < length line → line_of line ≡ Err BadLine
 unfolding line_of
-line_of-too_long line h = bad_in_all (list_any (same_text (first_word (words_of line))) verbs_there) (not (list_any is_empty (words_of line))) (line_of_words (words_of line)) (nat_le (length line) 8192) (lt-leb (length line) 8192 h)
+line_of-too_long line h = ap (λ s. cond s (line_of_parts (words_of line)) (Err BadLine)) (lt-leb (length line) line_limit h)
 
 -- a line means what its held front means
 pub line_of-held : (line : List ℕ) → line_of (held line) ≡ line_of line
-line_of-held line = by (nat_le (length line) 8193) refl
+line_of-held line = by (nat_le (length line) held_limit) refl
   where
-    by : (t : Bool) → nat_le (length line) 8193 ≡ t → line_of (held line) ≡ line_of line
-    by true e = ap line_of (take_all 8193 line (leb-true (length line) 8193 e))
+    by : (t : Bool) → nat_le (length line) held_limit ≡ t → line_of (held line) ≡ line_of line
+    by true e = ap line_of (take_all held_limit line (leb-true (length line) held_limit e))
     by false e =
-        let long : 8193 < length line = leb-false (length line) 8193 e in
-        let is : length (held line) ≡ 8193 = length-take-le 8193 line (omega arith) in
+        let long : held_limit < length line = leb-false (length line) held_limit e in
+        let is : length (held line) ≡ held_limit = length-take-le held_limit line (omega arith) in
         line_of-too_long (held line) (omega arith) ∙ sym (line_of-too_long line (omega arith))
 
 -- two beginnings of a line that are held alike: after more bytes the whole lines mean the same, and what stands open is held alike
@@ -199,15 +197,15 @@ pub record GoAlike (xs ys zs : List ℕ) : Type 0 where
   pub rest : held (open_line (xs ++ zs)) ≡ held (open_line (ys ++ zs))
 
 pub held-append : (xs : List ℕ) (zs : List ℕ) → held (held xs ++ zs) ≡ held (xs ++ zs)
-held-append xs zs = by (nat_le (length xs) 8193) refl
+held-append xs zs = by (nat_le (length xs) held_limit) refl
   where
-    by : (t : Bool) → nat_le (length xs) 8193 ≡ t → held (held xs ++ zs) ≡ held (xs ++ zs)
-    by true e = ap (λ l. held (l ++ zs)) (take_all 8193 xs (leb-true (length xs) 8193 e))
+    by : (t : Bool) → nat_le (length xs) held_limit ≡ t → held (held xs ++ zs) ≡ held (xs ++ zs)
+    by true e = ap (λ l. held (l ++ zs)) (take_all held_limit xs (leb-true (length xs) held_limit e))
     by false e =
-        let long : 8193 < length xs = leb-false (length xs) 8193 e in
-        let is : length (held xs) ≡ 8193 = length-take-le 8193 xs (omega arith) in
-        take-append-le 8193 (held xs) zs (omega arith) ∙ take_all 8193 (held xs) (omega arith)
-        ∙ sym (take-append-le 8193 xs zs (omega arith))
+        let long : held_limit < length xs = leb-false (length xs) held_limit e in
+        let is : length (held xs) ≡ held_limit = length-take-le held_limit xs (omega arith) in
+        take-append-le held_limit (held xs) zs (omega arith) ∙ take_all held_limit (held xs) (omega arith)
+        ∙ sym (take-append-le held_limit xs zs (omega arith))
 
 alike_newline : (xs ys zs : List ℕ) → GoAlike xs ys zs → GoAlike xs ys (zs ++ 10 ∷ [])
 alike_newline xs ys zs h = record {
@@ -239,7 +237,7 @@ held_goes_on xs zs = by_bytes (GoAlike (held (open_line xs)) (open_line xs)) non
     none : GoAlike (held (open_line xs)) (open_line xs) []
     none =
         let plain = no_newline-open_line xs in
-        let cut = All-take (λ k. nat_eq k 10 ≡ false) 8193 (open_line xs) plain in
+        let cut = All-take (λ k. nat_eq k 10 ≡ false) held_limit (open_line xs) plain in
         record {
           meanings = ap (map line_of) (ap whole_lines (append-nil (held (open_line xs))) ∙ whole_lines-none (held (open_line xs)) cut ∙ sym (ap whole_lines (append-nil (open_line xs)) ∙ whole_lines-none (open_line xs) plain));
           rest = ap held (ap open_line (append-nil (held (open_line xs))) ∙ open_line-none (held (open_line xs)) cut) ∙ ap held (sym (append-nil (held (open_line xs)))) ∙ held-append (open_line xs) [] ∙ ap held (append-nil (open_line xs)) ∙ ap held (sym (ap open_line (append-nil (open_line xs)) ∙ open_line-none (open_line xs) plain));
@@ -250,22 +248,22 @@ held_goes_on xs zs = by_bytes (GoAlike (held (open_line xs)) (open_line xs)) non
     more ys b h false e = alike_byte (held (open_line xs)) (open_line xs) ys b e h
 
 -- a short line is held whole
-pub held_short : (xs : List ℕ) → length xs ≤ 8193 → held xs ≡ xs
-held_short xs h = take_all 8193 xs h
+pub held_short : (xs : List ℕ) → length xs ≤ held_limit → held xs ≡ xs
+held_short xs h = take_all held_limit xs h
 
--- behind what is held already, nothing more is
-pub held_full : (xs ys : List ℕ) → length xs ≡ 8193 → held (xs ++ ys) ≡ xs
-held_full xs ys e = take-append-le 8193 xs ys (omega arith) ∙ take_all 8193 xs (omega arith)
+-- after what is held already, nothing more is
+pub held_full : (xs ys : List ℕ) → length xs ≡ held_limit → held (xs ++ ys) ≡ xs
+held_full xs ys e = take-append-le held_limit xs ys (omega arith) ∙ take_all held_limit xs (omega arith)
 
 -- what stands open, as far as it is held
 pub record IsHeld (line : List ℕ) : Type 0 where
   pub plain : HasNoNewline line
-  pub short : length line ≤ 8193
+  pub short : length line ≤ held_limit
 
 pub held_is_held : (bytes : List ℕ) → IsHeld (held (open_line bytes))
 held_is_held bytes = record {
-  plain = All-take (λ k. nat_eq k 10 ≡ false) 8193 (open_line bytes) (no_newline-open_line bytes);
-  short = omega (arith, length-take 8193 (open_line bytes));
+  plain = All-take (λ k. nat_eq k 10 ≡ false) held_limit (open_line bytes) (no_newline-open_line bytes);
+  short = omega (arith, length-take held_limit (open_line bytes));
 }
 
 -- ---- how many lines there are

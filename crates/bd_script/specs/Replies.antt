@@ -1,0 +1,83 @@
+-- The bytes of a reply, and which replies can be written.
+use Rattle.std.specs.Prelude.{ℕ, ◌≤◌, List, [], ◌∷◌, ◌++◌, length, codes, if◌then◌else◌}
+use Rattle.std.specs.List.{flat_map}
+use Rattle.std.specs.Fmt.{decimal}
+use Rattle.hex.specs.Hex.{encode_lower}
+use Rattle.bd_limits.specs.Limits.{read_limit, listing_limit}
+use Rattle.bd_command.specs.declared.refusal.Refusal.{Refusal}
+use Rattle.bd_command.specs.declared.refusal.Refusal.TheVariants.{NotFound, Exists, NoParent, NotDir, IsDir, Inside, Root, TooBig, BadPath, BadLine}
+use Rattle.bd_command.specs.declared.reply.Listed.{Listed}
+use Rattle.bd_command.specs.declared.reply.Listing.{Listing}
+use Rattle.bd_command.specs.declared.reply.Reply.{Reply}
+use Rattle.bd_command.specs.declared.reply.Reply.TheVariants.{Done, Bytes, Dir, File, Names, Refused}
+use Rattle.bd_script.specs.declared.replies.LineReply.{LineReply}
+use Rattle.bd_script.specs.declared.replies.LineReply.TheVariants.{Command, Unread, Stopped}
+
+abbrev pub refusal_text : Refusal → List ℕ
+refusal_text NotFound = codes "1 not-found"
+refusal_text Exists = codes "2 exists"
+refusal_text NoParent = codes "3 no-parent"
+refusal_text NotDir = codes "4 not-dir"
+refusal_text IsDir = codes "5 is-dir"
+refusal_text Inside = codes "6 inside"
+refusal_text Root = codes "7 root"
+refusal_text TooBig = codes "8 too-big"
+refusal_text BadPath = codes "9 bad-path"
+refusal_text BadLine = codes "10 bad-line"
+
+-- the text of a refused line
+abbrev pub no_text : Refusal → List ℕ
+no_text refusal = codes "no " ++ refusal_text refusal
+
+-- bytes in lower-case hex digits after a space, or nothing where there are none
+abbrev pub chunk_text : List ℕ → List ℕ
+chunk_text [] = []
+chunk_text (b ∷ bs) = 32 ∷ encode_lower (b ∷ bs)
+
+-- a space, a name, and a slash where it is a directory's
+abbrev pub listed_text : Listed → List ℕ
+listed_text l = 32 ∷ l.name ++ (if l.is_dir then 47 ∷ [] else [])
+
+-- the names of a listing, and ` +` where more follow
+abbrev pub listing_text : Listing → List ℕ
+listing_text l = codes "ok" ++ flat_map listed_text l.names ++ (if l.more then codes " +" else [])
+
+-- the reply to a command
+abbrev pub reply_text : Reply → List ℕ
+reply_text Done = codes "ok"
+reply_text (Bytes bytes) = codes "ok" ++ chunk_text bytes
+reply_text Dir = codes "ok dir"
+reply_text (File len) = codes "ok file " ++ decimal len
+reply_text (Names l) = listing_text l
+reply_text (Refused refusal) = no_text refusal
+
+-- a command's reply as it is written, with its newline
+abbrev pub reply_line : Reply → List ℕ
+reply_line reply = reply_text reply ++ 10 ∷ []
+
+-- the reply to a line
+abbrev pub line_reply_text : LineReply → List ℕ
+line_reply_text (Command reply) = reply_text reply
+line_reply_text (Unread refusal) = no_text refusal
+line_reply_text Stopped = codes "ok"
+
+-- a line's reply as it is written, with its newline
+abbrev pub line_reply_line : LineReply → List ℕ
+line_reply_line reply = line_reply_text reply ++ 10 ∷ []
+
+-- ---- which replies can be written
+
+-- at most `read_limit` bytes, and at most `listing_limit` names
+abbrev pub IsReply : Reply → Type 0
+IsReply Done = Unit {0}
+IsReply (Bytes bytes) = length bytes ≤ read_limit
+IsReply Dir = Unit {0}
+IsReply (File len) = Unit {0}
+IsReply (Names l) = length l.names ≤ listing_limit
+IsReply (Refused refusal) = Unit {0}
+
+-- a command's reply is one that can be written
+abbrev pub IsLineReply : LineReply → Type 0
+IsLineReply (Command reply) = IsReply reply
+IsLineReply (Unread refusal) = Unit {0}
+IsLineReply Stopped = Unit {0}
