@@ -3,6 +3,7 @@ use Rattle.std.specs.Prelude.{ℕ, ◌^◌, ◌<◌, ◌≤◌, Bool, true, fals
 use Rattle.std.specs.List.{AllByRecursion}
 use Rattle.std.specs.declared.option.Option.{Option}
 use Rattle.std.specs.declared.option.Option.TheVariants.{None, Some}
+use Rattle.bd_limits.specs.Limits.{read_limit, listing_limit}
 use Rattle.bd_names.specs.Names.{AreNames, is_name, path_text}
 use Rattle.bd_command.specs.declared.Command.{Command}
 use Rattle.bd_command.specs.declared.reply.Reply.{Reply}
@@ -59,3 +60,12 @@ IsCommand (Clone a b) = IsShortPath a × IsShortPath b
 IsCommand (Read path off len) = IsShortPath path × (off < 2 ^ 32) × (len ≤ 4096)
 IsCommand (Stat path) = IsShortPath path
 IsCommand (Ls path after) = IsShortPath path × IsAfter after
+
+-- at most 4,096 bytes, and at most 100 names
+abbrev pub IsReply : Reply → Type 0
+IsReply Done = Unit {0}
+IsReply (Bytes bytes) = length bytes ≤ read_limit
+IsReply Dir = Unit {0}
+IsReply (File len) = Unit {0}
+IsReply (Names l) = length l.names ≤ listing_limit
+IsReply (Refused r) = Unit {0}

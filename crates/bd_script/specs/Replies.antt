@@ -4,6 +4,7 @@ use Rattle.std.specs.List.{flat_map}
 use Rattle.std.specs.Fmt.{decimal}
 use Rattle.hex.specs.Hex.{encode_lower}
 use Rattle.bd_limits.specs.Limits.{read_limit, listing_limit}
+use Rattle.bd_command.specs.Command.{IsReply}
 use Rattle.bd_command.specs.declared.refusal.Refusal.{Refusal}
 use Rattle.bd_command.specs.declared.refusal.Refusal.TheVariants.{NotFound, Exists, NoParent, NotDir, IsDir, Inside, Root, TooBig, BadPath, BadLine}
 use Rattle.bd_command.specs.declared.reply.Listed.{Listed}
@@ -67,14 +68,6 @@ line_reply_line reply = line_reply_text reply ++ 10 ∷ []
 
 -- ---- which replies can be written
 
--- at most `read_limit` bytes, and at most `listing_limit` names
-abbrev pub IsReply : Reply → Type 0
-IsReply Done = Unit {0}
-IsReply (Bytes bytes) = length bytes ≤ read_limit
-IsReply Dir = Unit {0}
-IsReply (File len) = Unit {0}
-IsReply (Names l) = length l.names ≤ listing_limit
-IsReply (Refused refusal) = Unit {0}
 
 -- a command's reply is one that can be written
 abbrev pub IsLineReply : LineReply → Type 0

@@ -2,10 +2,10 @@
 //! The layers above use the contracts of `start` and `do_command`: the step of each command, and the cause of each fault.
 #![tactic(auto)]
 
-ghost use Rattle.std.specs.Prelude.{◌≡◌, ◌≤◌, ◌+◌, ◌^◌, ◌⊎◌, ℕ, IfOk, IfErr, OnErr};
+ghost use Rattle.std.specs.Prelude.{◌≡◌, ◌≤◌, ◌+◌, ◌^◌, ◌⊎◌, ℕ, IsTrue, IfOk, IfErr, OnErr};
 ghost use Rattle.bd_model.specs.Tree.{Tree, root_only};
 ghost use Rattle.bd_model.specs.Step.{step};
-ghost use Rattle.bd_command.specs.Command.{accepted};
+ghost use Rattle.bd_command.specs.Command.{writes, accepted, IsCommand, IsReply};
 ghost use Rattle.bd_volume.specs.Volume.{StandsFor, WearsCount, count_of, device_of};
 
 use bd_command::{Command, Reply};
@@ -67,8 +67,8 @@ pub struct Volume<D> {
 }
 
 impl<D: Device + Drop> Volume<D> {
-    /// Opens a volume on a device. It has `/` alone, and the device isn't called. The one fault is `NoMemory`,
-    /// and gives the device back.
+    /// Opens a volume on a device. It has `/` alone, and the device isn't called. The one fault is
+    /// `NoMemory`, and gives the device back.
     pub fn start(alloc: Global, device: D) -> Result<Volume<D>, Refused<D>>
         ensures stands { IfOk result (λ v. StandsFor v root_only 0) }
         ensures device { IfOk result (λ v. device_of v ≡ device) }
@@ -88,24 +88,28 @@ impl<D: Device + Drop> Volume<D> {
         }
     }
 
-    /// Executes a command. `Worn(Counter::Count)` comes only for an accepted writing command where the count
-    /// stands at its last value. A fault leaves the volume as it was.
+    /// Executes a command. `Worn(Counter::Count)` comes only for an accepted writing command where the
+    /// count stands at its last value. A fault leaves the volume as it was.
     pub fn do_command(&mut self, alloc: Global, command: &Command) -> Result<Reply, Fault>
         ensures step { IfOk result (λ reply. (t : Tree) (n : ℕ) → StandsFor self.old t n
             → StandsFor self.new (step t command.now).0 (n + accepted command.now reply)) }
         ensures replies { IfOk result (λ reply. (t : Tree) (n : ℕ) → StandsFor self.old t n
             → reply ≡ (step t command.now).1) }
-        ensures stays { OnErr result ((t : Tree) (n : ℕ) → StandsFor self.old t n → StandsFor self.new t n) }
+        ensures stays { OnErr result ((t : Tree) (n : ℕ) → StandsFor self.old t n
+            → StandsFor self.new t n) }
 
         // `NoMemory` is free, and the count is worn only where it would pass its last value.
         ensures fault { IfErr result (λ e. (e ≡ Fault.NoMemory) ⊎ (e ≡ Fault.Worn Counter.Count)) }
         ensures worn { result ≡ Err (Fault.Worn Counter.Count)
             → (t : Tree) (n : ℕ) → StandsFor self.old t n → WearsCount t n command.now }
 
-        // The count and the device, whatever the volume stands for.
-        ensures counts { IfOk result (λ reply. count_of self.new ≡ count_of self.old + accepted command.now reply) }
+        // Whatever the volume stands for.
+        ensures small { IfOk result (λ reply. IsCommand command.now → IsReply reply) }
+        ensures counts { IfOk result (λ reply.
+            count_of self.new ≡ count_of self.old + accepted command.now reply) }
         ensures count_stays { OnErr result (count_of self.new ≡ count_of self.old) }
-        ensures count_worn { result ≡ Err (Fault.Worn Counter.Count) → 2 ^ 64 ≤ count_of self.old + 1 }
+        ensures count_worn { result ≡ Err (Fault.Worn Counter.Count)
+            → (2 ^ 64 ≤ count_of self.old + 1) × IsTrue (writes command.now) }
         ensures device { device_of self.new ≡ device_of self.old }
     {
         if self.count == u64::MAX && command.writes() {

@@ -1,5 +1,5 @@
 -- The faults that end a run: their statuses and lines, and their causes.
-use Rattle.std.specs.Prelude.{◌≡◌, ℕ, ◌≤◌, List, [], ◌∷◌, ◌++◌, codes, ⊤}
+use Rattle.std.specs.Prelude.{◌≡◌, ℕ, ◌≤◌, List, [], ◌∷◌, ◌++◌, codes, ⊤, Result, OnOk, IfErr}
 use Rattle.bd_io.specs.Cause.{Rose}
 use Rattle.bd_message.specs.Counters.{counter_name}
 use Rattle.betr.specs.declared.fault.Fault.{Fault}
@@ -53,6 +53,12 @@ Caused Memory before now = ⊤
 Caused TooLong before now = ⊤
 Caused (Worn which) before now = ⊤
 Caused Sink before now = Rose before.sink now.sink
+
+-- no count falls, none rises where all went well, and a fault has its cause
+pub record IsCaused {T : Type 0} (before now : Faults) (result : Result T Fault) : Type 0 where
+  pub later : NeverFall before now
+  pub kept : OnOk result (now ≡ before)
+  pub cause : IfErr result (λ e. Caused e before now)
 
 -- counts of the sink alone, and of source and sink
 abbrev pub of_sink : ℕ → Faults

@@ -5,3 +5,4 @@ pub mod Words
 pub mod Shell
 pub mod Taken
 pub mod Run
+pub mod Calls

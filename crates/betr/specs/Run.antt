@@ -7,17 +7,12 @@ use Rattle.bd_limits.specs.Limits.{script_limit}
 use Rattle.bd_io.specs.Cause.{Rose, next_count}
 use Rattle.bd_io.specs.Written.{WrotePart}
 use Rattle.bd_device.specs.Blocks.{Image}
-use Rattle.bd_model.specs.Tree.{root_only}
 use Rattle.betr.specs.declared.fault.Fault.{Fault}
 use Rattle.betr.specs.declared.outcome.Ack.{Ack}
 use Rattle.betr.specs.Fault.{status_of, fault_line, Faults, Caused}
 use Rattle.betr.specs.Transcript.{State, Entry, IsTranscript}
 use Rattle.betr.specs.Session.{Among, TakenAt, Replied}
 use Rattle.betr.specs.Words.{Call, Run}
-
--- the state that a run begins at: the tree of `/` alone, and nothing accepted
-abbrev pub first_state : State
-first_state = record { tree = root_only; count = 0 }
 
 -- the status of an end
 abbrev pub end_status : Option Fault → ℕ

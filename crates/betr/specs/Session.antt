@@ -11,13 +11,13 @@ use Rattle.bd_io.specs.Written.{WrotePart}
 use Rattle.bd_command.specs.declared.Command.{Command}
 use Rattle.bd_message.specs.declared.fault.Counter.{Counter}
 use Rattle.bd_message.specs.declared.fault.Counter.TheVariants.{Count}
-use Rattle.bd_script.specs.Lines.{is_stop}
+use Rattle.bd_script.specs.Lines.{LineMeaning, is_stop}
 use Rattle.bd_script.specs.Replies.{line_reply_line}
 use Rattle.bd_script.specs.declared.line.Line.TheVariants.{Run}
 use Rattle.bd_volume.specs.Volume.{WearsCount}
 use Rattle.betr.specs.declared.fault.Fault.{Fault}
 use Rattle.betr.specs.declared.fault.Fault.TheVariants.{Device, Source, Memory, TooLong, Worn, Sink}
-use Rattle.betr.specs.Transcript.{Meaning, State, Entry, IsTranscript, text, executed, state_after, meanings, lines_to_run, IsFront}
+use Rattle.betr.specs.Transcript.{State, Entry, IsTranscript, text, executed, state_after, meanings, lines_to_run, IsFront}
 
 -- how a session ends: by a fault, or with the script
 abbrev pub end_of : {T : Type 0} → Result T Fault → Option Fault
@@ -27,7 +27,7 @@ end_of (Err e) = Some e
 -- ---- some lines
 
 -- from a state on these lines were executed and their replies written; `at` holds of the state then
-pub record Executes (from : State) (lines : List Meaning) (at : State → Type 0) (old new : Option (List ℕ))
+pub record Executes (from : State) (lines : List LineMeaning) (at : State → Type 0) (old new : Option (List ℕ))
     : Type 0 where
   pub entries : List Entry
   pub transcript : IsTranscript from entries
@@ -36,12 +36,12 @@ pub record Executes (from : State) (lines : List Meaning) (at : State → Type 0
   pub written : new ≡ append_known old (text entries)
 
 -- of these lines some were executed, from the first on, and a next one was there
-pub record HasNext (next : Meaning) (done lines : List Meaning) : Type 0 where
-  pub rest : List Meaning
+pub record HasNext (next : LineMeaning) (done lines : List LineMeaning) : Type 0 where
+  pub rest : List LineMeaning
   pub lines_are : lines ≡ done ++ next ∷ rest
 
 -- the line is a command that would bring the count past its last value
-pub record WornBy (which : Counter) (s : State) (line : Meaning) : Type 0 where
+pub record WornBy (which : Counter) (s : State) (line : LineMeaning) : Type 0 where
   pub command : Command
   pub line_is : line ≡ Ok (Run command)
   pub counter : which ≡ Count
@@ -55,10 +55,10 @@ Among None s bytes es = executed es ≡ lines_to_run bytes
 Among (Some Device) s bytes es = es ≡ []
 Among (Some Source) s bytes es = IsFront (executed es) (lines_to_run bytes)
 Among (Some Memory) s bytes es =
-    (es ≡ []) ⊎ ((next : Meaning) × HasNext next (executed es) (lines_to_run bytes))
+    (es ≡ []) ⊎ ((next : LineMeaning) × HasNext next (executed es) (lines_to_run bytes))
 Among (Some TooLong) s bytes es = IsFront (executed es) (lines_to_run bytes)
 Among (Some (Worn which)) s bytes es =
-    (next : Meaning) × HasNext next (executed es) (lines_to_run bytes) × WornBy which (state_after s es) next
+    (next : LineMeaning) × HasNext next (executed es) (lines_to_run bytes) × WornBy which (state_after s es) next
 Among (Some Sink) s bytes es = IsFront (executed es) (lines_to_run bytes)
 
 -- all lines that are complete in these bytes were executed, and none of them is `stop`

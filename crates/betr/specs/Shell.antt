@@ -1,5 +1,5 @@
 -- What the functions of the shell say of a shell, a line and a sink.
-use Rattle.std.specs.Prelude.{◌≡◌, ◌⊎◌, ℕ, Bool, true, false, List, [], ◌∷◌, ◌++◌, length, ◌<◌}
+use Rattle.std.specs.Prelude.{◌≡◌, ◌⊎◌, ℕ, Bool, true, false, List, [], ◌∷◌, ◌++◌, length, ◌<◌, if◌then◌else◌}
 use Rattle.std.specs.List.{list_any}
 use Rattle.std.specs.Io.KnownBytes.{append_known}
 use Rattle.std.specs.declared.option.Option.{Option}
@@ -8,9 +8,10 @@ use Rattle.std.specs.declared.ops.ControlFlow.{ControlFlow}
 use Rattle.std.specs.declared.ops.ControlFlow.TheVariants.{Continue, Break}
 use Rattle.bd_io.specs.Written.{WrotePart}
 use Rattle.bd_message.specs.declared.fault.Counter.TheVariants.{Count}
-use Rattle.bd_script.specs.Lines.{line_of, held, open_line, is_stop, up_to_stop}
+use Rattle.bd_script.specs.Lines.{LineMeaning, line_of, held, open_line, is_empty, is_stop, up_to_stop}
 use Rattle.bd_script.specs.Replies.{line_reply_line}
 use Rattle.bd_script.specs.declared.replies.LineReply.{LineReply}
+use Rattle.bd_script.specs.declared.replies.LineReply.TheVariants as reply
 use Rattle.bd_volume.specs.declared.Fault.{Fault as VolumeFault}
 use Rattle.bd_volume.specs.declared.Fault.TheVariants as volume
 use Rattle.bd_volume.specs.declared.Volume.{Volume}
@@ -18,7 +19,7 @@ use Rattle.bd_volume.specs.Volume.{StandsFor, device_of}
 use Rattle.betr.specs.declared.fault.Fault.{Fault}
 use Rattle.betr.specs.declared.fault.Fault.TheVariants.{Device, Source, Memory, TooLong, Worn, Sink}
 use Rattle.betr.specs.declared.shell.Shell.{Shell}
-use Rattle.betr.specs.Transcript.{Meaning, State, Entry, Follows, IsTranscript, executed, state_after, meanings, lines_to_run, IsFront}
+use Rattle.betr.specs.Transcript.{State, Entry, Follows, IsTranscript, executed, state_after, meanings, IsFront}
 use Rattle.betr.specs.Session.{HasNext, WornBy, Replied}
 
 -- a volume stands for a state
@@ -42,9 +43,32 @@ abbrev pub breaks : ControlFlow (Unit {0}) (Unit {0}) → Bool
 breaks (Continue c) = false
 breaks (Break b) = true
 
+-- the reply ends the run
+abbrev pub is_stopped : LineReply → Bool
+is_stopped (reply.Command r) = false
+is_stopped (reply.Unread refusal) = false
+is_stopped reply.Stopped = true
+
+-- the last line of a script, where it isn't empty
+abbrev pub last_lines : List ℕ → List LineMeaning
+last_lines line = if is_empty line then [] else line_of line ∷ []
+
 -- what is held of a line that a script has begun: no newline, and no more bytes than tell its meaning
 abbrev pub IsHeld : List ℕ → Type 0
 IsHeld line = held (open_line line) ≡ line
+
+-- a line got this reply, and `at` holds of the state after it
+pub record Replies (s : State) (line : LineMeaning) (said : LineReply) (at : State → Type 0) : Type 0 where
+  pub after : State
+  pub follows : Follows s line said after
+  pub reached : at after
+
+-- a line was executed and its reply written
+pub record ExecutesOne (s : State) (line : LineMeaning) (at : State → Type 0) (old new : Option (List ℕ))
+    : Type 0 where
+  pub said : LineReply
+  pub replies : Replies s line said at
+  pub written : new ≡ append_known old (line_reply_line said)
 
 -- ---- faults, with what each leaves; the causes of all stand in one table
 
@@ -53,7 +77,7 @@ abbrev pub ComesNow : VolumeFault → Type 0
 ComesNow e = (e ≡ volume.NoMemory) ⊎ (e ≡ volume.Worn Count)
 
 -- a line's fault before its reply: memory, or a counter that the line wears
-abbrev pub LineFails : Fault → State → Meaning → Type 0
+abbrev pub LineFails : Fault → State → LineMeaning → Type 0
 LineFails Device s line = ⊥
 LineFails Source s line = ⊥
 LineFails Memory s line = Unit {0}
@@ -62,15 +86,13 @@ LineFails (Worn which) s line = WornBy which s line
 LineFails Sink s line = ⊥
 
 -- an executed line of whose reply only a part was written
-pub record IsCut (s : State) (line : Meaning) (at : State → Type 0) (old new : Option (List ℕ)) : Type 0 where
+pub record IsCut (s : State) (line : LineMeaning) (at : State → Type 0) (old new : Option (List ℕ)) : Type 0 where
   pub said : LineReply
-  pub after : State
-  pub follows : Follows s line said after
-  pub reached : at after
+  pub replies : Replies s line said at
   pub part : WrotePart (line_reply_line said) old new
 
 -- a fault of a line: before its reply, and all stays, or within it
-abbrev pub RunFails : Fault → State → Meaning → (State → Type 0) → Option (List ℕ) → Option (List ℕ) → Type 0
+abbrev pub RunFails : Fault → State → LineMeaning → (State → Type 0) → Option (List ℕ) → Option (List ℕ) → Type 0
 RunFails Device s line at old new = ⊥
 RunFails Source s line at old new = ⊥
 RunFails Memory s line at old new = at s × (new ≡ old)
@@ -87,21 +109,21 @@ pub record HasMore (bytes : List ℕ) (es : List Entry) : Type 0 where
   pub no_stop : list_any is_stop (meanings front) ≡ false
   pub some : 0 < length (open_line front ++ rest)
 
--- how the lines executed before a fault stand to some bytes, of which `lines` are to be executed
-abbrev pub Halts : Fault → State → List ℕ → List Meaning → List Entry → Type 0
-Halts Device s bytes lines es = ⊥
-Halts Source s bytes lines es = ⊥
-Halts Memory s bytes lines es = HasMore bytes es
-Halts TooLong s bytes lines es = ⊥
-Halts (Worn which) s bytes lines es =
-    (next : Meaning) × HasNext next (executed es) lines × WornBy which (state_after s es) next
-Halts Sink s bytes lines es = IsFront (executed es) lines
+-- how the lines executed before a fault stand to the complete lines of some bytes
+abbrev pub Halts : Fault → State → List ℕ → List Entry → Type 0
+Halts Device s bytes es = ⊥
+Halts Source s bytes es = ⊥
+Halts Memory s bytes es = HasMore bytes es
+Halts TooLong s bytes es = ⊥
+Halts (Worn which) s bytes es =
+    (next : LineMeaning) × HasNext next (executed es) (up_to_stop (meanings bytes)) × WornBy which (state_after s es) next
+Halts Sink s bytes es = IsFront (executed es) (up_to_stop (meanings bytes))
 
 -- a fault came while the lines of some bytes were executed
-pub record BreaksOff (e : Fault) (from : State) (bytes : List ℕ) (lines : List Meaning) (at : State → Type 0)
+pub record BreaksOff (e : Fault) (from : State) (bytes : List ℕ) (at : State → Type 0)
     (old new : Option (List ℕ)) : Type 0 where
   pub entries : List Entry
   pub transcript : IsTranscript from entries
-  pub halts : Halts e from bytes lines entries
+  pub halts : Halts e from bytes entries
   pub reached : at (state_after from entries)
   pub replied : Replied (Some e) entries old new

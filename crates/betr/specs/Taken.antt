@@ -4,9 +4,12 @@ use Rattle.std.specs.List.{list_any}
 use Rattle.std.specs.Io.KnownBytes.{prepend_known, IsAtEnd}
 use Rattle.std.specs.declared.option.Option.{Option}
 use Rattle.std.specs.declared.option.Option.TheVariants.{None, Some}
+use Rattle.std.specs.declared.result.Result.{Result}
+use Rattle.std.specs.declared.result.Result.TheVariants.{Ok, Err}
 use Rattle.bd_limits.specs.Limits.{script_limit, piece_limit}
 use Rattle.bd_io.specs.Cause.{next_count}
 use Rattle.bd_io.specs.Takes.{Takes}
+use Rattle.bd_io.specs.declared.failed.Failed.{Failed}
 use Rattle.bd_script.specs.Lines.{is_stop}
 use Rattle.betr.specs.declared.session.Taken.{Taken}
 use Rattle.betr.specs.declared.session.Taken.TheVariants.{Piece, End, TooLong}
@@ -18,6 +21,13 @@ IsTaken (Piece size) taken piece old new =
     (0 < size) × (size ≤ piece_limit) × (taken + size ≤ script_limit) × (old ≡ prepend_known (take size piece) new)
 IsTaken End taken piece old new = IsAtEnd old × (new ≡ old)
 IsTaken TooLong taken piece old new = (taken ≡ script_limit) × (old ≡ prepend_known (take 1 piece) new)
+
+-- the bytes that a take gave
+abbrev pub taken_by : Result Taken Failed → List ℕ → List ℕ
+taken_by (Ok (Piece size)) piece = take size piece
+taken_by (Ok End) piece = []
+taken_by (Ok TooLong) piece = take 1 piece
+taken_by (Err e) piece = []
 
 -- the last take came while no `stop` stood complete in what was taken before it, and only that one gave nothing
 pub record TookLast (script rest : List ℕ) (before now : Takes) : Type 0 where

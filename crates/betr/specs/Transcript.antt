@@ -1,28 +1,25 @@
 -- What a run does, line by line.
 use Rattle.std.specs.Prelude.{◌≡◌, ℕ, ◌+◌, Bool, List, [], ◌∷◌, ◌++◌, map}
 use Rattle.std.specs.List.{flat_map}
-use Rattle.std.specs.declared.result.Result.{Result}
 use Rattle.std.specs.declared.result.Result.TheVariants.{Ok, Err}
 use Rattle.bd_command.specs.Command.{accepted, IsCommand}
 use Rattle.bd_command.specs.declared.Command.{Command}
-use Rattle.bd_command.specs.declared.refusal.Refusal.{Refusal}
-use Rattle.bd_model.specs.Tree.{Tree}
+use Rattle.bd_model.specs.Tree.{Tree, root_only}
 use Rattle.bd_model.specs.Step.{step}
-use Rattle.bd_script.specs.Lines.{line_of, lines_of, whole_lines, up_to_stop}
+use Rattle.bd_script.specs.Lines.{LineMeaning, line_of, lines_of, whole_lines, up_to_stop}
 use Rattle.bd_script.specs.Replies.{line_reply_line}
-use Rattle.bd_script.specs.declared.line.Line.{Line}
 use Rattle.bd_script.specs.declared.line.Line.TheVariants.{Run, Stop}
 use Rattle.bd_script.specs.declared.replies.LineReply.{LineReply}
 use Rattle.bd_script.specs.declared.replies.LineReply.TheVariants as reply
-
--- what a line means: a line of the shell, or why it is none
-abbrev pub Meaning : Type 0
-Meaning = Result Line Refusal
 
 -- where a run stands: the tree, and how many commands were accepted
 pub record State : Type 0 where
   pub tree : Tree
   pub count : ℕ
+
+-- the state that a run begins at: the tree of `/` alone, and nothing accepted
+abbrev pub first_state : State
+first_state = record { tree = root_only; count = 0 }
 
 -- the state after a command
 abbrev pub state_of_step : State → Command → State
@@ -38,14 +35,14 @@ pub record Steps (s : State) (c : Command) (said : LineReply) (after : State) : 
   pub after_is : after ≡ state_of_step s c
 
 -- a line's reply and the state after it follow from the state before it
-abbrev pub Follows : State → Meaning → LineReply → State → Type 0
+abbrev pub Follows : State → LineMeaning → LineReply → State → Type 0
 Follows s (Ok (Run c)) said after = Steps s c said after
 Follows s (Ok Stop) said after = (said ≡ reply.Stopped) × (after ≡ s)
 Follows s (Err refusal) said after = (said ≡ reply.Unread refusal) × (after ≡ s)
 
 -- an executed line, its reply, and the state after it
 pub record Entry : Type 0 where
-  pub line : Meaning
+  pub line : LineMeaning
   pub said : LineReply
   pub state : State
 
@@ -59,7 +56,7 @@ abbrev pub text : List Entry → List ℕ
 text es = flat_map (λ e. line_reply_line e.said) es
 
 -- the lines that were executed
-abbrev pub executed : List Entry → List Meaning
+abbrev pub executed : List Entry → List LineMeaning
 executed es = map (λ e. e.line) es
 
 -- the state after a transcript
@@ -70,11 +67,11 @@ state_after s (e ∷ es) = state_after e.state es
 -- ---- the lines of a script
 
 -- what the lines that are complete, each with its newline, mean
-abbrev pub meanings : List ℕ → List Meaning
+abbrev pub meanings : List ℕ → List LineMeaning
 meanings bytes = map line_of (whole_lines bytes)
 
 -- the lines of a script, up to the first `stop`: nothing follows it
-abbrev pub lines_to_run : List ℕ → List Meaning
+abbrev pub lines_to_run : List ℕ → List LineMeaning
 lines_to_run script = up_to_stop (map line_of (lines_of script))
 
 -- xs stands at the front of ys

@@ -3,8 +3,6 @@ use Rattle.std.specs.Prelude.{ℕ, Bool, false, not, ◌&&◌, List, [], ◌∷�
 use Rattle.std.specs.declared.option.Option.{Option}
 use Rattle.std.specs.declared.option.Option.TheVariants.{None, Some}
 use Rattle.bd_names.specs.Names.{same_text}
-use Rattle.betr.specs.declared.words.Call as code
-use Rattle.betr.specs.declared.words.Call.TheVariants as code_variant
 
 -- what the program is asked to do
 pub data Call : Type 0 where

@@ -1,7 +1,10 @@
-ghost use Rattle.std.specs.Prelude.{◌≡◌};
+ghost use Rattle.std.specs.Prelude.{◌≡◌, ◌≤◌, length, take};
 ghost use Rattle.betr.specs.Fault.{status_of, fault_line};
 
 use bd_message::Counter;
+
+/// The bytes of a buffer for a fault's line, which has room for each.
+pub const FAULT_SIZE: usize = 64;
 
 /// What ends a run before its script does.
 #[derive(Clone, Copy, Debug, PartialEq, Eq)]
@@ -35,9 +38,21 @@ impl Fault {
         }
     }
 
-    /// The line that says so, with its newline; nothing for the sink's own fault.
-    pub fn line(self) -> &'static [u8]
-        ensures { result.now ≡ fault_line self }
+    /// Writes the line that says so, with its newline, at the front of `into`, and returns how many
+    /// bytes it has: none for the sink's own fault.
+    pub fn write_line(self, into: &mut [u8; FAULT_SIZE]) -> usize
+        ensures text { take result into.new ≡ fault_line self }
+        ensures bound { result ≤ FAULT_SIZE }
+    {
+        let line = self.line();
+        into[..line.len()].copy_from_slice(line);
+        line.len()
+    }
+
+    /// The line that says so.
+    fn line(self) -> &'static [u8]
+        ensures text { result.now ≡ fault_line self }
+        ensures bound { length result.now ≤ FAULT_SIZE }
     {
         match self {
             Fault::Device => b"fault device\n",

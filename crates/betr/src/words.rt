@@ -1,15 +1,22 @@
 ghost use Rattle.std.specs.Prelude.{◌≡◌, map, string_bytes};
-ghost use Rattle.std.specs.Option.{option_copied};
-ghost use Rattle.betr.specs.Words.{image_of, is_image};
+ghost use Rattle.betr.specs.Words.{call_of, is_image};
+ghost use Rattle.betr.specs.Calls.{asked};
 
-/// The image that the program's words name: `PROGRAM run IMAGE`. Other words are refused.
-pub fn image_of(words: &[String]) -> Option<&str>
-    ensures { option_copied result ≡ image_of (map string_bytes words.now) }
+/// What the program is asked to do.
+#[derive(Clone, Copy, Debug, PartialEq, Eq)]
+pub enum Call<'a> {
+    /// To execute a script on the image of this name.
+    Run { image: &'a str },
+}
+
+/// The call that the program's words make: `PROGRAM run IMAGE`. Other words are refused.
+pub fn read_words(words: &[String]) -> Option<Call<'_>>
+    ensures { asked result ≡ call_of (map string_bytes words.now) }
 {
     match words {
-        [_, verb, image] if verb.as_str() == "run" && is_image(image.as_str()) => {
-            Some(image.as_str())
-        }
+        [_, verb, image] if verb.as_str() == "run" && is_image(image.as_str()) => Some(Call::Run {
+            image: image.as_str(),
+        }),
         _ => None,
     }
 }

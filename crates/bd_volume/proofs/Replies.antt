@@ -3,14 +3,13 @@ use Rattle.std.proofs.Common.{◌≡◌, drop, sym, ap, subst, arith}
 use Rattle.std.proofs.lemmas.List.{length-take}
 use Rattle.std.specs.declared.option.Option.{Option}
 use Rattle.std.specs.declared.option.Option.TheVariants.{None, Some}
-use Rattle.bd_command.specs.Command.{IsCommand}
+use Rattle.bd_command.specs.Command.{IsCommand, IsReply}
 use Rattle.bd_command.specs.declared.Command.{Command}
 use Rattle.bd_command.specs.declared.Command.TheVariants.{Mkdir, Create, Write, Truncate, Remove, Rename, Clone, Read, Stat, List as Ls}
 use Rattle.bd_command.specs.declared.refusal.Refusal.{Refusal}
 use Rattle.bd_command.specs.declared.reply.Reply.{Reply}
 use Rattle.bd_model.specs.Tree.{Tree, Entry, Directory, FileWith}
 use Rattle.bd_model.specs.Step.{step, stepped, refusal_of, answer, stat_reply, file_bytes, those_after, children}
-use Rattle.bd_script.specs.Script.{IsReply}
 use Rattle.std.specs.FinMap.{get}
 
 small_stat : (o : Option Entry) → IsReply (stat_reply o)
