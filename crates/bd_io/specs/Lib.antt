@@ -1,4 +1,5 @@
 pub mod Cause
 pub mod Memory
 pub mod Plan
+pub mod Takes
 pub mod Written

@@ -13,7 +13,7 @@ pub record PlannedCalls : Type 0 where
 abbrev pub planned : List ℕ → PlannedCalls
 planned fail = record { fail = fail; calls = 0; faults = 0 }
 
--- the next call fails by the plan: its number is listed, or the count of calls stands at a u64's last value
+-- the next call fails by the plan: it is listed, or the count of calls stands at a u64's last value
 abbrev pub next_fails : PlannedCalls → Bool
 next_fails c = nat_le (2 ^ 64) (c.calls + 1) || list_any (λ k. k == c.calls + 1) c.fail
 

@@ -2,9 +2,10 @@
 use Rattle.std.specs.Prelude.{◌≡◌, ℕ, ◌<◌, List, Option, ◌++◌, length}
 use Rattle.std.specs.Io.KnownBytes.{append_known}
 
--- of these bytes all but the last ones, `rest`, were written behind the known ones
+-- of these bytes all but the last ones, `rest`, were written after the known ones
 abbrev pub WroteAllBut : List ℕ → List ℕ → Option (List ℕ) → Option (List ℕ) → Type 0
-WroteAllBut rest bytes old new = (front : List ℕ) × (bytes ≡ front ++ rest) × (new ≡ append_known old front)
+WroteAllBut rest bytes old new =
+    (front : List ℕ) × (bytes ≡ front ++ rest) × (new ≡ append_known old front)
 
 -- of these bytes some were written, from the first on and not all
 abbrev pub WrotePart : List ℕ → Option (List ℕ) → Option (List ℕ) → Type 0

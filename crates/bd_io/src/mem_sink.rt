@@ -26,14 +26,16 @@ impl Model for MemSink {
 
     ghost view = { λ s. record { written = s.written.items; room = s.room; plan = s.plan } };
 
-    ghost invariant = { λ s. (length s.written.items ≤ s.room) × (s.room ≤ vec_capacity s.written) };
+    ghost invariant = { λ s.
+        (length s.written.items ≤ s.room) × (s.room ≤ vec_capacity s.written) };
 }
 
 impl MemSink {
     /// An empty sink with room for `room` bytes. `fail` lists the numbers of the calls that are to
     /// fail, the first being 1.
     pub fn new(alloc: Global, room: usize, fail: &[u64]) -> Result<MemSink, AllocError>
-        ensures { IfOk result (λ sink. sink ≡ record { written = []; room = room; plan = planned fail.now }) }
+        ensures { IfOk result
+            (λ sink. sink ≡ record { written = []; room = room; plan = planned fail.now }) }
     {
         Ok(MemSink {
             written: Vec::with_capacity(alloc, room)?,

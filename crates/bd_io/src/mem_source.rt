@@ -1,7 +1,8 @@
-ghost use Rattle.std.specs.Prelude.{◌≡◌, ◌≤◌, ◌<◌, ◌++◌, Some, [], length, take, IfOk, OnErr, is_err};
-ghost use Rattle.bd_io.specs.Cause.{HasCause};
-ghost use Rattle.bd_io.specs.Memory.{given_count};
+ghost use Rattle.std.specs.Prelude.{◌≡◌, ◌≤◌, ◌<◌, ◌++◌, Some, [], length, take, IfOk, OnErr, is_err, ◌==◌, if◌then◌else◌};
+ghost use Rattle.bd_io.specs.Cause.{HasCause, next_count};
+ghost use Rattle.bd_io.specs.Memory.{given_count, takes_of};
 ghost use Rattle.bd_io.specs.Plan.{planned, next_fails, calls_after};
+ghost use Rattle.bd_io.specs.Takes.{given_by, takes_after};
 
 use crate::{CallPlan, Failed, Source};
 use std::alloc::{AllocError, Global};
@@ -15,17 +16,26 @@ pub struct MemSource {
     at: usize,
     piece: usize,
     plan: CallPlan,
+    idle: u64,
+    last: usize,
 }
 
 impl Model for MemSource {
-    ghost use Rattle.std.specs.Prelude.{◌≤◌, length, drop};
+    ghost use Rattle.std.specs.Prelude.{◌≤◌, ◌-◌, length, take, drop};
     ghost use Rattle.bd_io.specs.Memory.{MemorySource};
 
     ghost Value = { MemorySource };
 
-    ghost view = { λ s. record { left = drop s.at s.bytes.items; piece = s.piece; plan = s.plan } };
+    ghost view = { λ s. record {
+      left = drop s.at s.bytes.items;
+      piece = s.piece;
+      plan = s.plan;
+      idle = s.idle;
+      last = drop (s.at - s.last) (take s.at s.bytes.items);
+    } };
 
-    ghost invariant = { λ s. (s.at ≤ length s.bytes.items) × (1 ≤ s.piece) };
+    ghost invariant = { λ s.
+        (s.at ≤ length s.bytes.items) × (1 ≤ s.piece) × (s.last ≤ s.at) };
 }
 
 impl MemSource {
@@ -38,14 +48,33 @@ impl MemSource {
         fail: &[u64],
     ) -> Result<MemSource, AllocError>
         requires { 1 ≤ piece }
-        ensures { IfOk result (λ source. source ≡ record { left = bytes.now; piece = piece; plan = planned fail.now }) }
+        ensures { IfOk result (λ source. source ≡ record {
+          left = bytes.now;
+          piece = piece;
+          plan = planned fail.now;
+          idle = 0;
+          last = [];
+        }) }
     {
         Ok(MemSource {
             bytes: Vec::from_slice(alloc, bytes)?,
             at: 0,
             piece,
             plan: CallPlan::new(alloc, fail)?,
+            idle: 0,
+            last: 0,
         })
+    }
+}
+
+// How many takes gave no byte, after one more that gave this many.
+fn idle_takes(before: u64, count: usize) -> u64
+    ensures { result ≡ (if count == 0 then next_count before else before) }
+{
+    if count == 0 {
+        before.saturating_add(1)
+    } else {
+        before
     }
 }
 
@@ -54,7 +83,7 @@ impl Source for MemSource {
 
     ghost fault_count = { λ s. s.plan.faults };
 
-    ghost take_count = { λ s. Some s.plan.calls };
+    ghost takes = { λ s. Some (takes_of s) };
 
     fn take(&mut self, into: &mut [u8]) -> Result<usize, Failed>
         ensures room { IfOk result (λ n. n ≤ length into.new) }
@@ -67,13 +96,21 @@ impl Source for MemSource {
         ensures fails { is_err result ≡ next_fails self.old.plan }
         ensures count { IfOk result (λ n. n ≡ given_count self.old (length into.new)) }
         ensures calls { self.new.plan ≡ calls_after self.old.plan result }
+        ensures told { takes_of self.new
+            ≡ takes_after (given_by result into.new) (takes_of self.old) }
         ensures piece { self.new.piece ≡ self.old.piece }
     {
-        self.plan.call(false)?;
+        if let Err(failed) = self.plan.call(false) {
+            self.last = 0;
+            self.idle = idle_takes(self.idle, 0);
+            return Err(failed);
+        }
         let left = &self.bytes[self.at..];
         let count = left.len().min(self.piece).min(into.len());
         into[..count].copy_from_slice(&left[..count]);
         self.at += count;
+        self.last = count;
+        self.idle = idle_takes(self.idle, count);
         Ok(count)
     }
 

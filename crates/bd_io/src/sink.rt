@@ -19,7 +19,8 @@ pub trait Sink {
     fn put(&mut self, piece: &[u8]) -> Result<usize, Failed>
         ensures within { IfOk result (λ n. n ≤ length piece.now) }
         ensures advances { IfOk result (λ n. 0 < length piece.now → 0 < n) }
-        ensures bytes { IfOk result (λ n. written self.new ≡ append_known (written self.old) (take n piece.now)) }
+        ensures bytes { IfOk result
+            (λ n. written self.new ≡ append_known (written self.old) (take n piece.now)) }
         ensures kept { OnErr result (written self.new ≡ written self.old) }
         ensures cause { HasCause (fault_count self.old) (fault_count self.new) result };
 

@@ -1,7 +1,8 @@
 ghost use Rattle.std.specs.Prelude.{◌≡◌, ◌≤◌, ◌<◌, ℕ, List, Option, length, take, IfOk, OnErr};
 ghost use Rattle.std.specs.Io.KnownBytes.{prepend_known, IsAtEnd};
 ghost use Rattle.std.specs.Option.{option_map};
-ghost use Rattle.bd_io.specs.Cause.{HasCause, next_count};
+ghost use Rattle.bd_io.specs.Cause.{HasCause};
+ghost use Rattle.bd_io.specs.Takes.{Takes, given_by, takes_after};
 
 use crate::Failed;
 
@@ -13,18 +14,20 @@ pub trait Source {
     /// How often it has failed, up to a u64's last value.
     ghost fault_count: { Self → ℕ };
 
-    /// How often bytes were asked for, where that is known, up to a u64's last value.
-    ghost take_count: { Self → Option ℕ };
+    /// How bytes were asked for, where that is known.
+    ghost takes: { Self → Option Takes };
 
     /// Takes the next bytes into the front of `into`, and says how many. For a place of at least
     /// one byte, 0 means the end. At `Failed` nothing was taken, and the count of faults has risen
     /// in this call or stands at its last value.
     fn take(&mut self, into: &mut [u8]) -> Result<usize, Failed>
         ensures room { IfOk result (λ n. n ≤ length into.new) }
-        ensures bytes { IfOk result (λ n. left self.old ≡ prepend_known (take n into.new) (left self.new)) }
+        ensures bytes { IfOk result
+            (λ n. left self.old ≡ prepend_known (take n into.new) (left self.new)) }
         ensures end { IfOk result (λ n. n ≡ 0 → 0 < length into.new → IsAtEnd (left self.new)) }
         ensures kept { OnErr result (left self.new ≡ left self.old) }
-        ensures counted { take_count self.new ≡ option_map next_count (take_count self.old) }
+        ensures told { takes self.new
+            ≡ option_map (takes_after (given_by result into.new)) (takes self.old) }
         ensures cause { HasCause (fault_count self.old) (fault_count self.new) result };
 
     /// How often it has failed. It never falls, and stays at a u64's last value.
@@ -37,7 +40,7 @@ impl<S: Source> Source for &mut S {
 
     ghost fault_count = { λ s. S.fault_count s.now };
 
-    ghost take_count = { λ s. S.take_count s.now };
+    ghost takes = { λ s. S.takes s.now };
 
     fn take(&mut self, into: &mut [u8]) -> Result<usize, Failed> {
         Source::take(&mut **self, into)

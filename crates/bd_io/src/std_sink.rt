@@ -41,7 +41,7 @@ impl<W: Write> Sink for StdSink<W> {
     fn put(&mut self, piece: &[u8]) -> Result<usize, Failed> {
         match self.writer.write(piece) {
             Ok(count) if count > 0 || piece.is_empty() => Ok(count),
-            _ => {
+            Ok(_) | Err(_) => {
                 self.faults = self.faults.saturating_add(1);
                 Err(Failed)
             }

@@ -36,7 +36,7 @@ impl<R: Read> Source for StdSource<R> {
 
     ghost fault_count = { λ s. s };
 
-    ghost take_count = { λ _. None };
+    ghost takes = { λ _. None };
 
     fn take(&mut self, into: &mut [u8]) -> Result<usize, Failed> {
         match self.reader.read(into) {
