@@ -1,151 +1,298 @@
--- How the lines of some bytes are executed, byte by byte.
-use Rattle.std.proofs.Common.{◌≡◌, ℕ, ◌+◌, ◌<◌, ◌≤◌, Bool, true, false, cond, List, [], ◌∷◌, ◌++◌, length, take, drop, get_or, refl, sym, ap, subst, ◌∙◌, append_assoc, nat_eq}
-use Rattle.std.specs.Prelude.{Option, map, ◌||◌}
-use Rattle.std.specs.List.{list_any}
-use Rattle.std.proofs.lemmas.List.{map-append, append-nil, take_more, take-append-drop, take_all}
+-- How the lines of a piece are executed, line by line.
+use Rattle.std.proofs.Common.{◌≡◌, ℕ, ◌+◌, ◌<◌, ◌≤◌, Bool, true, false, cond, List, [], ◌∷◌, ◌++◌, length, take, drop, get_or, refl, sym, ap, subst, ◌∙◌, append_assoc, arith, nat_eq, drop-cons, add-one}
+use Rattle.std.specs.Prelude.{map, not, ◌||◌, ◌==◌, ltb}
+use Rattle.std.specs.List.{list_any, position, position_or_len, All}
+use Rattle.std.specs.declared.option.Option.{Option}
+use Rattle.std.specs.declared.option.Option.TheVariants.{None, Some}
+use Rattle.std.specs.Io.KnownBytes.{append_known}
+use Rattle.bd_io.specs.Written.{WrotePart}
+use Rattle.bd_script.specs.Replies.{line_reply_line}
+use Rattle.std.proofs.lemmas.List.{append-nil, map-append, take-append-drop, get_or-take, length-take}
 use Rattle.std.proofs.lemmas.List.Folds.{list_any-append}
-use Rattle.std.proofs.lemmas.Bool.{eqb-true}
-use Rattle.bd_model.specs.Lines.{ScriptLine, line_of, whole_lines, open_line, held}
-use Rattle.bd_model.specs.Transcript.{is_stop, up_to_stop, IsFront}
-use Rattle.bd_model.proofs.CutLines.{whole_lines-newline, whole_lines-byte, open_line-newline, open_line-byte, whole_lines-more, line_of-held, held-append, whole_lines-none, open_line-none, held_short, IsHeld}
-use Rattle.bd_model.proofs.Transcripts.{up_to_stop-stopped, up_to_stop-append}
+use Rattle.std.proofs.lemmas.List.Quantifiers.{position-Some}
+use Rattle.std.proofs.lemmas.List.Elements.{All-take, All-append, All-nil, All-cons, All-from_get_or}
+use Rattle.std.proofs.lemmas.Bool.{eqb-true, ltb-false}
+use Rattle.bd_script.specs.Lines.{LineMeaning, line_of, whole_lines, open_line, held, is_empty, is_stop, up_to_stop}
+use Rattle.bd_script.proofs.CutLines.{HasNoNewline, no_newline-open_line, whole_lines-newline, open_line-newline, whole_lines-more, open_line-more, whole_lines-none, open_line-none, line_of-held, held-append}
 use Rattle.betr.specs.declared.fault.Fault.{Fault}
-use Rattle.betr.specs.Session.{Point, Executes, Leaves}
-use Rattle.betr.specs.Shell.{meanings, lines_at, line_after}
-use Rattle.betr.proofs.Executes.{executes_more, leaves_more, leaves_front}
+use Rattle.betr.specs.declared.fault.Fault.TheVariants.{Device, Source, Memory, TooLong, Worn, Sink}
+use Rattle.betr.specs.Transcript.{State, Entry, IsTranscript, text, executed, state_after, meanings, IsFront}
+use Rattle.betr.specs.Session.{Executes, Replied}
+use Rattle.betr.specs.Shell.{IsHeld, RunFails, HasMore, BreaksOff}
+use Rattle.betr.proofs.Transcripts.{up_to_stop-none, up_to_stop-stopped, up_to_stop-append, up_to_stop-one, up_to_stop_front, IsFront-append, IsTranscript-append, state_after-append, executed-append}
+use Rattle.betr.proofs.Executes.{append_known-nil, executes_more, executes_as}
 
--- ---- the lines of one byte more
+-- what is held has no newline
+pub held_plain : (line : List ℕ) → IsHeld line → HasNoNewline line
+held_plain line h = subst HasNoNewline h (All-take (λ k. nat_eq k 10 ≡ false) 8193 (open_line line) (no_newline-open_line line))
 
-pub meanings-byte : (fed : List ℕ) (b : ℕ) → meanings (fed ++ b ∷ []) ≡ meanings fed ++ lines_at b (held (open_line fed))
-meanings-byte fed b = by (nat_eq b 10) refl
-  where
-    by : (t : Bool) → nat_eq b 10 ≡ t → meanings (fed ++ b ∷ []) ≡ meanings fed ++ cond t (line_of (held (open_line fed)) ∷ []) []
-    by true e =
-        ap (λ n. meanings (fed ++ n ∷ [])) (eqb-true b 10 e)
-        ∙ ap (map line_of) (whole_lines-newline fed) ∙ map-append line_of (whole_lines fed) (open_line fed ∷ [])
-        ∙ ap (λ l. meanings fed ++ l ∷ []) (sym (line_of-held (open_line fed)))
-    by false e = ap (map line_of) (whole_lines-byte fed b e) ∙ sym (append-nil (meanings fed))
+-- ---- a line more
 
-pub open_line-line_after : (fed : List ℕ) (b : ℕ) → held (open_line (fed ++ b ∷ [])) ≡ line_after b (held (open_line fed))
-open_line-line_after fed b = by (nat_eq b 10) refl
-  where
-    by : (t : Bool) → nat_eq b 10 ≡ t → held (open_line (fed ++ b ∷ [])) ≡ cond t [] (held (held (open_line fed) ++ b ∷ []))
-    by true e = ap (λ n. held (open_line (fed ++ n ∷ []))) (eqb-true b 10 e) ∙ ap held (open_line-newline fed)
-    by false e = ap held (open_line-byte fed b e) ∙ sym (held-append (open_line fed) (b ∷ []))
+-- some bytes, then bytes without a newline, and a newline: a line more is complete
+pub record OneMore (fed x : List ℕ) : Type 0 where
+  pub lines : meanings ((fed ++ x) ++ 10 ∷ []) ≡ meanings fed ++ line_of (held (open_line fed) ++ x) ∷ []
+  pub open : open_line ((fed ++ x) ++ 10 ∷ []) ≡ []
 
--- ---- up to a stop
+-- bytes without a newline go on with what stands open
+pub plain_more : (fed x : List ℕ) → HasNoNewline x → (whole_lines (fed ++ x) ≡ whole_lines fed) × (open_line (fed ++ x) ≡ open_line fed ++ x)
+plain_more fed x plain =
+    let all : HasNoNewline (open_line fed ++ x) = All-append (λ k. nat_eq k 10 ≡ false) (open_line fed) x (no_newline-open_line fed) plain in (
+      whole_lines-more fed x ∙ ap (λ l. whole_lines fed ++ l) (whole_lines-none (open_line fed ++ x) all) ∙ append-nil (whole_lines fed),
+      open_line-more fed x ∙ open_line-none (open_line fed ++ x) all,
+    )
 
--- at most one line is all that stands up to its stop
-up_to_stop-lines_at : (b : ℕ) (line : List ℕ) → up_to_stop (lines_at b line) ≡ lines_at b line
-up_to_stop-lines_at b line = by (nat_eq b 10)
-  where
-    one : (s : Bool) → line_of line ∷ cond s [] [] ≡ line_of line ∷ []
-    one true = refl
-    one false = refl
+-- a line means what it means with its front held
+line_of-front : (xs x : List ℕ) → line_of (held xs ++ x) ≡ line_of (xs ++ x)
+line_of-front xs x = sym (line_of-held (held xs ++ x)) ∙ ap line_of (held-append xs x) ∙ line_of-held (xs ++ x)
 
-    by : (t : Bool) → up_to_stop (cond t (line_of line ∷ []) []) ≡ cond t (line_of line ∷ []) []
-    by true = one (is_stop (line_of line))
-    by false = refl
-
--- what stands up to the stop of a front stands in front of what stands up to that of all
-pub up_to_stop_front : (xs ys : List ScriptLine) → IsFront (up_to_stop xs) (up_to_stop (xs ++ ys))
-up_to_stop_front [] ys = (up_to_stop ys, refl)
-up_to_stop_front (x ∷ xs) ys = by (is_stop x) (up_to_stop_front xs ys)
-  where
-    by : (s : Bool) → IsFront (up_to_stop xs) (up_to_stop (xs ++ ys)) → IsFront (x ∷ cond s [] (up_to_stop xs)) (x ∷ cond s [] (up_to_stop (xs ++ ys)))
-    by true h = ([], refl)
-    by false h = (h.0, ap (λ l. x ∷ l) h.1)
-
--- ---- one byte of a piece
-
--- the bytes behind the first i of a piece: the one at i, and the rest
-pub record At (line piece : List ℕ) (i : ℕ) (b : ℕ) : Type 0 where
-  pub next : line ++ take (i + 1) piece ≡ (line ++ take i piece) ++ b ∷ []
-  pub all : line ++ piece ≡ ((line ++ take i piece) ++ b ∷ []) ++ drop (i + 1) piece
-
-pub at_byte : (line piece : List ℕ) (i : ℕ) → i < length piece → At line piece i (get_or piece i 0)
-at_byte line piece i h =
-    let next : line ++ take (i + 1) piece ≡ (line ++ take i piece) ++ get_or piece i 0 ∷ [] =
-    ap (λ l. line ++ l) (take_more piece i 0 h) ∙ sym (append_assoc line (take i piece) (get_or piece i 0 ∷ [])) in
+pub one_more : (fed x : List ℕ) → HasNoNewline x → OneMore fed x
+one_more fed x plain =
+    let more = plain_more fed x plain in
     record {
-      next = next;
-      all = ap (λ l. line ++ l) (sym (take-append-drop (i + 1) piece)) ∙ sym (append_assoc line (take (i + 1) piece) (drop (i + 1) piece))
-          ∙ ap (λ l. l ++ drop (i + 1) piece) next;
+      lines = ap (map line_of) (whole_lines-newline (fed ++ x)) ∙ map-append line_of (whole_lines (fed ++ x)) (open_line (fed ++ x) ∷ [])
+          ∙ ap (λ l. map line_of l ++ line_of (open_line (fed ++ x)) ∷ []) more.0
+          ∙ ap (λ l. meanings fed ++ l ∷ []) (ap line_of more.1 ∙ sym (line_of-front (open_line fed) x));
+      open = open_line-newline (fed ++ x);
     }
 
--- the meanings of all the bytes begin with those of a front and of the next byte
-pub meanings_front : (fed rest : List ℕ) (b : ℕ) → (more : List ScriptLine) × (meanings ((fed ++ b ∷ []) ++ rest) ≡ (meanings fed ++ lines_at b (held (open_line fed))) ++ more)
-meanings_front fed rest b = (
-  meanings (open_line (fed ++ b ∷ []) ++ rest),
-  ap (map line_of) (whole_lines-more (fed ++ b ∷ []) rest)
-      ∙ map-append line_of (whole_lines (fed ++ b ∷ [])) (whole_lines (open_line (fed ++ b ∷ []) ++ rest))
-      ∙ ap (λ l. l ++ meanings (open_line (fed ++ b ∷ []) ++ rest)) (meanings-byte fed b),
-)
+-- ---- where a piece stands
 
--- a byte whose line isn't `stop`
-pub record GoesOnBy (p r : Point) (fed : List ℕ) : Type 0 where
-  pub executed : Executes p (meanings fed) r
-  pub no_stop : list_any is_stop (meanings fed) ≡ false
+-- a piece of which a front was fed, its complete lines executed, and what of the next one is held
+pub record FedTo (first now : State → Type 0) (begun piece rest line : List ℕ) (old new : Option (List ℕ)) : Type 0 where
+  pub front : List ℕ
+  pub piece_is : piece ≡ front ++ rest
+  pub no_stop : list_any is_stop (meanings (begun ++ front)) ≡ false
+  pub line_is : line ≡ held (open_line (begun ++ front))
+  pub ran : (s : State) → first s → Executes s (meanings (begun ++ front)) now old new
 
-pub neither : (a b : Bool) → a ≡ false → b ≡ false → (a || b) ≡ false
+pub fed_none : (first : State → Type 0) (begun piece : List ℕ) (w : Option (List ℕ)) → IsHeld begun
+    → ((s : State) → first s → Executes s [] first w w) → FedTo first first begun piece piece begun w w
+fed_none first begun piece w held_is none =
+    let empty : meanings (begun ++ []) ≡ [] = ap meanings (append-nil begun) ∙ ap (map line_of) (whole_lines-none begun (held_plain begun held_is)) in
+    record {
+      front = [];
+      piece_is = refl;
+      no_stop = ap (list_any is_stop) empty;
+      line_is = sym (ap (λ l. held (open_line l)) (append-nil begun) ∙ held_is);
+      ran = λ s h. executes_as s [] (meanings (begun ++ [])) first w w (sym empty) (none s h);
+    }
+
+-- the bytes before the first newline, and those after it
+pub record CutsAt (rest x tail : List ℕ) : Type 0 where
+  pub rest_is : rest ≡ x ++ 10 ∷ tail
+  pub plain : HasNoNewline x
+
+pub cuts_at : (rest : List ℕ) (i : ℕ) → position (λ b. b == 10) rest ≡ Some i → CutsAt rest (take i rest) (drop (i + 1) rest)
+cuts_at rest i found =
+    let at = position-Some (λ b. b == 10) rest i 0 found in
+    record {
+      rest_is = sym (take-append-drop i rest) ∙ ap (λ l. take i rest ++ l) (drop-cons rest i 0 at.0 ∙ ap (λ b. b ∷ drop (i + 1) rest) (eqb-true (get_or rest i 0) 10 at.1));
+      plain = All-from_get_or (λ b. nat_eq b 10 ≡ false) (take i rest) 0
+          (λ k below. ap (λ b. nat_eq b 10) (get_or-take i rest k 0 (omega (arith, length-take i rest, below))) ∙ at.2 k (omega (arith, length-take i rest, below)));
+    }
+
+plain_from : (xs : List ℕ) → length xs ≤ position_or_len (λ b. b == 10) xs → HasNoNewline xs
+plain_from [] h = All-nil (λ b. nat_eq b 10 ≡ false)
+plain_from (x ∷ xs) h = by (nat_eq x 10) refl h
+  where
+    by : (t : Bool) → nat_eq x 10 ≡ t → length (x ∷ xs) ≤ cond (not t) (1 + position_or_len (λ b. b == 10) xs) 0 → HasNoNewline (x ∷ xs)
+    by true e h = absurd (omega arith)
+    by false e h = All-cons (λ b. nat_eq b 10 ≡ false) x xs e (plain_from xs (omega arith))
+
+-- no newline is found
+pub plain_rest : (xs : List ℕ) → position (λ b. b == 10) xs ≡ None → HasNoNewline xs
+plain_rest xs none = plain_from xs (ltb-false (position_or_len (λ b. b == 10) xs) (length xs) (by (ltb (position_or_len (λ b. b == 10) xs) (length xs)) (position_or_len (λ b. b == 10) xs) none))
+  where
+    by : (t : Bool) (n : ℕ) → cond t (Some n) None ≡ None → t ≡ false
+    by true n h = cc
+    by false n h = refl
+
+neither : (a b : Bool) → a ≡ false → b ≡ false → (a || b) ≡ false
 neither true b e f = e
 neither false b e f = f
 
-pub goes_on_by : (p q r : Point) (fed line : List ℕ) (b : ℕ) → line ≡ held (open_line fed) → GoesOnBy p q fed → Executes q (lines_at b line) r → list_any is_stop (lines_at b line) ≡ false → GoesOnBy p r (fed ++ b ∷ [])
-goes_on_by p q r fed line b is h x e =
-    let lines : meanings (fed ++ b ∷ []) ≡ meanings fed ++ lines_at b line = meanings-byte fed b ∙ ap (λ l. meanings fed ++ lines_at b l) (sym is) in
+pub either : (a b : Bool) → b ≡ true → (a || b) ≡ true
+either true b e = refl
+either false b e = e
+
+-- ---- the line that a newline completes
+
+-- the fed bytes with a line more, and what follows of the piece
+pub record NextLine (begun piece front x tail line : List ℕ) : Type 0 where
+  pub piece_is : piece ≡ (front ++ (x ++ 10 ∷ [])) ++ tail
+  pub lines : meanings (begun ++ (front ++ (x ++ 10 ∷ []))) ≡ meanings (begun ++ front) ++ line_of (line ++ x) ∷ []
+  pub open : open_line (begun ++ (front ++ (x ++ 10 ∷ []))) ≡ []
+  pub all : (more : List LineMeaning) × (meanings (begun ++ piece) ≡ meanings (begun ++ front) ++ line_of (line ++ x) ∷ more)
+
+pub next_line : (begun piece front rest x tail line : List ℕ) → piece ≡ front ++ rest → CutsAt rest x tail → line ≡ held (open_line (begun ++ front))
+    → NextLine begun piece front x tail line
+next_line begun piece front rest x tail line is cut line_is =
+    let fed : List ℕ = begun ++ front in
+    let joined : begun ++ (front ++ (x ++ 10 ∷ [])) ≡ (fed ++ x) ++ 10 ∷ [] =
+    ap (λ l. begun ++ l) (sym (append_assoc front x (10 ∷ []))) ∙ sym (append_assoc begun (front ++ x) (10 ∷ []))
+    ∙ ap (λ l. l ++ 10 ∷ []) (sym (append_assoc begun front x)) in
+    let one : OneMore fed x = one_more fed x cut.plain in
+    let lines : meanings (begun ++ (front ++ (x ++ 10 ∷ []))) ≡ meanings fed ++ line_of (line ++ x) ∷ [] =
+    ap meanings joined ∙ one.lines ∙ ap (λ l. meanings fed ++ line_of (l ++ x) ∷ []) (sym line_is) in
+    let cut_is : piece ≡ (front ++ (x ++ 10 ∷ [])) ++ tail =
+    is ∙ ap (λ l. front ++ l) (cut.rest_is ∙ sym (append_assoc x (10 ∷ []) tail)) ∙ sym (append_assoc front (x ++ 10 ∷ []) tail) in
+    let after : List ℕ = begun ++ (front ++ (x ++ 10 ∷ [])) in
     record {
-      executed = subst (λ l. Executes p l r) (sym lines) (executes_more p q r (meanings fed) (lines_at b line) h.executed x);
-      no_stop = ap (list_any is_stop) lines ∙ list_any-append is_stop (meanings fed) (lines_at b line) ∙ neither _ _ h.no_stop e;
+      piece_is = cut_is;
+      lines = lines;
+      open = ap open_line joined ∙ one.open;
+      all = (
+        meanings (open_line after ++ tail),
+        ap (λ l. meanings (begun ++ l)) cut_is ∙ ap meanings (sym (append_assoc begun (front ++ (x ++ 10 ∷ [])) tail))
+            ∙ ap (map line_of) (whole_lines-more after tail) ∙ map-append line_of (whole_lines after) (whole_lines (open_line after ++ tail))
+            ∙ ap (λ l. l ++ meanings (open_line after ++ tail)) lines
+            ∙ append_assoc (meanings fed) (line_of (line ++ x) ∷ []) (meanings (open_line after ++ tail)),
+      );
     }
 
-pub either_true : (a b : Bool) → b ≡ true → (a || b) ≡ true
-either_true true b e = refl
-either_true false b e = e
-
--- where a line ends that is `stop`, nothing behind it counts
-pub record StopsBy (p r : Point) (lines : List ScriptLine) : Type 0 where
-  pub executed : Executes p (up_to_stop lines) r
-  pub stop : list_any is_stop lines ≡ true
-
-pub stops_by : (p q r : Point) (fed line rest all : List ℕ) (b : ℕ) → line ≡ held (open_line fed) → GoesOnBy p q fed → Executes q (lines_at b line) r → list_any is_stop (lines_at b line) ≡ true → all ≡ (fed ++ b ∷ []) ++ rest → StopsBy p r (meanings all)
-stops_by p q r fed line rest all b is h x e whole =
-    let front = meanings_front fed rest b in
-    let lines : meanings all ≡ (meanings fed ++ lines_at b line) ++ front.0 = ap meanings whole ∙ front.1 ∙ ap (λ l. (meanings fed ++ lines_at b l) ++ front.0) (sym is) in
-    let some : list_any is_stop (meanings fed ++ lines_at b line) ≡ true = list_any-append is_stop (meanings fed) (lines_at b line) ∙ either_true _ _ e in
-    let upto : up_to_stop (meanings all) ≡ meanings fed ++ lines_at b line =
-    ap up_to_stop lines ∙ up_to_stop-stopped (meanings fed ++ lines_at b line) front.0 some ∙ up_to_stop-append (meanings fed) (lines_at b line) h.no_stop
-    ∙ ap (λ l. meanings fed ++ l) (up_to_stop-lines_at b line) in
+-- the line isn't `stop`, and the piece goes on
+pub fed_more : (first mid now : State → Type 0) (begun piece rest x tail line line2 : List ℕ) (a b c : Option (List ℕ))
+    → (at : FedTo first mid begun piece rest line a b) → CutsAt rest x tail → is_stop (line_of (line ++ x)) ≡ false → line2 ≡ []
+    → ((t : State) → mid t → Executes t (line_of (line ++ x) ∷ []) now b c) → FedTo first now begun piece tail line2 a c
+fed_more first mid now begun piece rest x tail line line2 a b c at cut goes_on line2_is runs =
+    let next = next_line begun piece at.front rest x tail line at.piece_is cut at.line_is in
     record {
-      executed = subst (λ l. Executes p l r) (sym upto) (executes_more p q r (meanings fed) (lines_at b line) h.executed x);
-      stop = ap (list_any is_stop) lines ∙ list_any-append is_stop (meanings fed ++ lines_at b line) front.0 ∙ first_true _ _ some;
+      front = at.front ++ (x ++ 10 ∷ []);
+      piece_is = next.piece_is;
+      no_stop = ap (list_any is_stop) next.lines ∙ list_any-append is_stop (meanings (begun ++ at.front)) (line_of (line ++ x) ∷ [])
+          ∙ neither _ _ at.no_stop (neither (is_stop (line_of (line ++ x))) false goes_on refl);
+      line_is = line2_is ∙ ap held (sym next.open);
+      ran = λ s h. executes_as s _ _ now a c (sym next.lines) (executes_more s (meanings (begun ++ at.front)) (line_of (line ++ x) ∷ []) mid now a b c (at.ran s h) runs);
     }
-  where
-    first_true : (a b : Bool) → a ≡ true → (a || b) ≡ true
-    first_true true b e = refl
-    first_true false b e = absurd (true_is_not e)
-      where
-        true_is_not : false ≡ true → ⊥
-        true_is_not e = cc
 
--- a fault in the line that a byte ends
-pub fails_by : (e : Fault) (p q : Point) (fed line rest all : List ℕ) (b : ℕ) (w : Option (List ℕ)) → line ≡ held (open_line fed) → GoesOnBy p q fed → Leaves e q (lines_at b line) w → all ≡ (fed ++ b ∷ []) ++ rest → Leaves e p (up_to_stop (meanings all)) w
-fails_by e p q fed line rest all b w is h x whole =
-    let front = meanings_front fed rest b in
-    let lines : meanings all ≡ (meanings fed ++ lines_at b line) ++ front.0 = ap meanings whole ∙ front.1 ∙ ap (λ l. (meanings fed ++ lines_at b l) ++ front.0) (sym is) in
-    let upto : up_to_stop (meanings fed ++ lines_at b line) ≡ meanings fed ++ lines_at b line =
-    up_to_stop-append (meanings fed) (lines_at b line) h.no_stop ∙ ap (λ l. meanings fed ++ l) (up_to_stop-lines_at b line) in
-    leaves_front e p (meanings fed ++ lines_at b line) (up_to_stop (meanings all)) w
-    (subst (λ l. IsFront l (up_to_stop (meanings all))) upto (subst (λ l. IsFront (up_to_stop (meanings fed ++ lines_at b line)) (up_to_stop l)) (sym lines) (up_to_stop_front (meanings fed ++ lines_at b line) front.0)))
-    (leaves_more e p q (meanings fed) (lines_at b line) w h.executed x)
+-- what stands up to the `stop` of all, where the lines so far have none
+upto : (begun piece front line x : List ℕ) (more : List LineMeaning) → list_any is_stop (meanings (begun ++ front)) ≡ false
+    → meanings (begun ++ piece) ≡ meanings (begun ++ front) ++ line_of (line ++ x) ∷ more
+    → up_to_stop (meanings (begun ++ piece)) ≡ meanings (begun ++ front) ++ up_to_stop (line_of (line ++ x) ∷ more)
+upto begun piece front line x more none all = ap up_to_stop all ∙ up_to_stop-append (meanings (begun ++ front)) (line_of (line ++ x) ∷ more) none
 
--- at the end of a piece all its lines were executed
-pub ends_by : (p r : Point) (line piece : List ℕ) (i : ℕ) → length piece ≤ i → GoesOnBy p r (line ++ take i piece) → GoesOnBy p r (line ++ piece)
-ends_by p r line piece i h g = subst (λ l. GoesOnBy p r (line ++ l)) (take_all i piece h) g
+stop_alone : (l : LineMeaning) (more : List LineMeaning) → is_stop l ≡ true → up_to_stop (l ∷ more) ≡ l ∷ []
+stop_alone l more stops = ap (λ (t : Bool). l ∷ cond t [] (up_to_stop more)) stops
 
--- a held line alone has no whole line
-pub no_meanings : (line : List ℕ) → IsHeld line → (meanings (line ++ []) ≡ []) × (held (open_line (line ++ [])) ≡ line)
-no_meanings line h = (
-  ap meanings (append-nil line) ∙ ap (map line_of) (whole_lines-none line h.plain),
-  ap (λ l. held (open_line l)) (append-nil line) ∙ ap held (open_line-none line h.plain) ∙ held_short line h.short,
-)
+-- the line is `stop`, and ends the piece
+pub record Stopped (begun piece front x line : List ℕ) : Type 0 where
+  pub lines : up_to_stop (meanings (begun ++ piece)) ≡ meanings (begun ++ front) ++ line_of (line ++ x) ∷ []
+  pub stop : list_any is_stop (meanings (begun ++ piece)) ≡ true
+
+pub fed_stops : (begun piece front rest x tail line : List ℕ) → piece ≡ front ++ rest → CutsAt rest x tail → line ≡ held (open_line (begun ++ front))
+    → list_any is_stop (meanings (begun ++ front)) ≡ false → is_stop (line_of (line ++ x)) ≡ true → Stopped begun piece front x line
+fed_stops begun piece front rest x tail line is cut line_is none stops =
+    let next = next_line begun piece front rest x tail line is cut line_is in
+    record {
+      lines = upto begun piece front line x next.all.0 none next.all.1 ∙ ap (λ l. meanings (begun ++ front) ++ l) (stop_alone (line_of (line ++ x)) next.all.0 stops);
+      stop = ap (list_any is_stop) next.all.1 ∙ list_any-append is_stop (meanings (begun ++ front)) (line_of (line ++ x) ∷ next.all.0)
+          ∙ either _ _ (ap (λ (t : Bool). t || list_any is_stop next.all.0) stops);
+    }
+
+pub stops_fed : (first mid now : State → Type 0) (begun piece rest x tail line : List ℕ) (a b c : Option (List ℕ))
+    → FedTo first mid begun piece rest line a b → CutsAt rest x tail → is_stop (line_of (line ++ x)) ≡ true
+    → ((t : State) → mid t → Executes t (line_of (line ++ x) ∷ []) now b c)
+    → (s : State) → first s → Executes s (up_to_stop (meanings (begun ++ piece))) now a c
+stops_fed first mid now begun piece rest x tail line a b c at cut stops runs s h =
+    executes_as s _ _ now a c (sym (fed_stops begun piece at.front rest x tail line at.piece_is cut at.line_is at.no_stop stops).lines)
+    (executes_more s (meanings (begun ++ at.front)) (line_of (line ++ x) ∷ []) mid now a b c (at.ran s h) runs)
+
+-- no newline is left, and what is left is held
+pub record Ended (begun piece rest line line2 : List ℕ) : Type 0 where
+  pub lines : (front : List ℕ) × (piece ≡ front ++ rest) × (meanings (begun ++ piece) ≡ meanings (begun ++ front))
+  pub no_stop : list_any is_stop (meanings (begun ++ piece)) ≡ false
+  pub line_is : line2 ≡ held (open_line (begun ++ piece))
+
+pub fed_ends : (first now : State → Type 0) (begun piece rest line line2 : List ℕ) (a b : Option (List ℕ)) → FedTo first now begun piece rest line a b
+    → HasNoNewline rest → line2 ≡ held (line ++ rest) → Ended begun piece rest line line2
+fed_ends first now begun piece rest line line2 a b at plain is =
+    let joined : begun ++ piece ≡ (begun ++ at.front) ++ rest = ap (λ l. begun ++ l) at.piece_is ∙ sym (append_assoc begun at.front rest) in
+    let more = plain_more (begun ++ at.front) rest plain in
+    let lines : meanings (begun ++ piece) ≡ meanings (begun ++ at.front) = ap meanings joined ∙ ap (map line_of) more.0 in
+    record {
+      lines = (at.front, at.piece_is, lines);
+      no_stop = ap (list_any is_stop) lines ∙ at.no_stop;
+      line_is = is ∙ ap (λ l. held (l ++ rest)) at.line_is ∙ held-append (open_line (begun ++ at.front)) rest ∙ sym (ap held (ap open_line joined ∙ more.1));
+    }
+
+pub ends_fed : (first now : State → Type 0) (begun piece rest line : List ℕ) (a b : Option (List ℕ)) → FedTo first now begun piece rest line a b
+    → HasNoNewline rest → (s : State) → first s → Executes s (up_to_stop (meanings (begun ++ piece))) now a b
+ends_fed first now begun piece rest line a b at plain s h =
+    let end = fed_ends first now begun piece rest line (held (line ++ rest)) a b at plain refl in
+    let joined : begun ++ piece ≡ (begun ++ at.front) ++ rest = ap (λ l. begun ++ l) at.piece_is ∙ sym (append_assoc begun at.front rest) in
+    let lines : meanings (begun ++ piece) ≡ meanings (begun ++ at.front) = ap meanings joined ∙ ap (map line_of) (plain_more (begun ++ at.front) rest plain).0 in
+    executes_as s _ _ now a b (sym (up_to_stop-none (meanings (begun ++ piece)) end.no_stop ∙ lines)) (at.ran s h)
+
+-- ---- faults
+
+-- want of memory while bytes are left
+pub memory_fed : (first mid now : State → Type 0) (begun piece rest line : List ℕ) (a b c : Option (List ℕ)) → FedTo first mid begun piece rest line a b
+    → is_empty rest ≡ false → ((t : State) → mid t → now t × (c ≡ b)) → (s : State) → first s → BreaksOff Memory s begun piece now a c
+memory_fed first mid now begun piece rest line a b c at some stays s h =
+    let x : Executes s (meanings (begun ++ at.front)) mid a b = at.ran s h in
+    let kept = stays (state_after s x.entries) x.reached in
+    record {
+      entries = x.entries;
+      transcript = x.transcript;
+      halts = record {
+        front = at.front;
+        rest = rest;
+        piece_is = at.piece_is;
+        lines_are = x.lines_are;
+        no_stop = at.no_stop;
+        some = some;
+      };
+      reached = kept.0;
+      replied = kept.1 ∙ x.written;
+    }
+
+cut_some : (x tail : List ℕ) → is_empty (x ++ 10 ∷ tail) ≡ false
+cut_some [] tail = refl
+cut_some (b ∷ x) tail = refl
+
+-- a fault at a line
+pub fails_fed : (e : Fault) (first mid now : State → Type 0) (begun piece rest x tail line : List ℕ) (a b c : Option (List ℕ))
+    → FedTo first mid begun piece rest line a b → CutsAt rest x tail → ((t : State) → mid t → RunFails e t (line_of (line ++ x)) now b c)
+    → (s : State) → first s → BreaksOff e s begun piece now a c
+fails_fed Device first mid now begun piece rest x tail line a b c at cut fails s h = absurd (fails (state_after s (at.ran s h).entries) (at.ran s h).reached)
+fails_fed Source first mid now begun piece rest x tail line a b c at cut fails s h = absurd (fails (state_after s (at.ran s h).entries) (at.ran s h).reached)
+fails_fed Memory first mid now begun piece rest x tail line a b c at cut fails s h =
+    memory_fed first mid now begun piece rest line a b c at (ap is_empty cut.rest_is ∙ cut_some x tail) fails s h
+fails_fed TooLong first mid now begun piece rest x tail line a b c at cut fails s h = absurd (fails (state_after s (at.ran s h).entries) (at.ran s h).reached)
+fails_fed (Worn which) first mid now begun piece rest x tail line a b c at cut fails s h =
+    let run : Executes s (meanings (begun ++ at.front)) mid a b = at.ran s h in
+    let worn = fails (state_after s run.entries) run.reached in
+    let next = next_line begun piece at.front rest x tail line at.piece_is cut at.line_is in
+    let rest_of : List LineMeaning = cond (is_stop (line_of (line ++ x))) [] (up_to_stop next.all.0) in
+    record {
+      entries = run.entries;
+      transcript = run.transcript;
+      halts = (
+        line_of (line ++ x),
+        record {
+          rest = rest_of;
+          lines_are = upto begun piece at.front line x next.all.0 at.no_stop next.all.1 ∙ ap (λ l. l ++ line_of (line ++ x) ∷ rest_of) (sym run.lines_are);
+        },
+        worn.2,
+      );
+      reached = worn.0;
+      replied = worn.1 ∙ run.written;
+    }
+fails_fed Sink first mid now begun piece rest x tail line a b c at cut fails s h =
+    let run : Executes s (meanings (begun ++ at.front)) mid a b = at.ran s h in
+    let cut_off = fails (state_after s run.entries) run.reached in
+    let next = next_line begun piece at.front rest x tail line at.piece_is cut at.line_is in
+    let last : Entry = record { line = line_of (line ++ x); said = cut_off.said; state = cut_off.replies.after } in
+    let rest_of : List LineMeaning = cond (is_stop (line_of (line ++ x))) [] (up_to_stop next.all.0) in
+    record {
+      entries = run.entries ++ last ∷ [];
+      transcript = IsTranscript-append s run.entries (last ∷ []) run.transcript (cut_off.replies.follows, tt);
+      halts = (
+        rest_of,
+        upto begun piece at.front line x next.all.0 at.no_stop next.all.1
+            ∙ sym (append_assoc (meanings (begun ++ at.front)) (line_of (line ++ x) ∷ []) rest_of)
+            ∙ ap (λ l. l ++ rest_of) (ap (λ l. l ++ line_of (line ++ x) ∷ []) (sym run.lines_are) ∙ sym (executed-append run.entries (last ∷ []))),
+      );
+      reached = subst now (sym (state_after-append s run.entries (last ∷ []))) cut_off.replies.reached;
+      replied = record { front = run.entries; last = last; entries_are = refl; part = subst (λ w. WrotePart (line_reply_line cut_off.said) w c) run.written cut_off.part };
+    }

@@ -1,5 +1,3 @@
+pub mod Transcripts
 pub mod Executes
 pub mod Feeding
-pub mod Replies
-pub mod Runs
-pub mod Scripts

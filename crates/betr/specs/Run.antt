@@ -7,6 +7,7 @@ use Rattle.bd_limits.specs.Limits.{script_limit}
 use Rattle.bd_io.specs.Cause.{Rose, next_count}
 use Rattle.bd_io.specs.Written.{WrotePart}
 use Rattle.bd_device.specs.Blocks.{Image}
+use Rattle.bd_device.specs.Memory.{MemoryDevice, attached_image, attached_size, held_image}
 use Rattle.betr.specs.declared.fault.Fault.{Fault}
 use Rattle.betr.specs.declared.outcome.Ack.{Ack}
 use Rattle.betr.specs.Fault.{status_of, fault_line, Faults, Caused}
@@ -70,6 +71,10 @@ seen contents blocks shows calls = record {
   shows = shows;
   calls = calls;
 }
+
+-- what a device in memory tells
+abbrev pub seen_in_memory : MemoryDevice → Seen
+seen_in_memory d = seen (Some (attached_image d)) (attached_size d) (λ _. Some (held_image d)) d.plan.calls
 
 -- a device without blocks, which shows for each name what it showed
 pub record Detached (before now : Seen) : Type 0 where

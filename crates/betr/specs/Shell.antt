@@ -100,30 +100,32 @@ RunFails TooLong s line at old new = ⊥
 RunFails (Worn which) s line at old new = at s × (new ≡ old) × WornBy which s line
 RunFails Sink s line at old new = IsCut s line at old new
 
--- some complete lines of these bytes were executed, none of them a `stop`, and there are more bytes
-pub record HasMore (bytes : List ℕ) (es : List Entry) : Type 0 where
+-- some complete lines were executed, of what was begun and of a front of a piece, none of them a `stop`, and bytes are
+-- left of the piece
+pub record HasMore (begun piece : List ℕ) (es : List Entry) : Type 0 where
   pub front : List ℕ
   pub rest : List ℕ
-  pub bytes_are : bytes ≡ front ++ rest
-  pub lines_are : executed es ≡ meanings front
-  pub no_stop : list_any is_stop (meanings front) ≡ false
-  pub some : 0 < length (open_line front ++ rest)
+  pub piece_is : piece ≡ front ++ rest
+  pub lines_are : executed es ≡ meanings (begun ++ front)
+  pub no_stop : list_any is_stop (meanings (begun ++ front)) ≡ false
+  pub some : is_empty rest ≡ false
 
--- how the lines executed before a fault stand to the complete lines of some bytes
-abbrev pub Halts : Fault → State → List ℕ → List Entry → Type 0
-Halts Device s bytes es = ⊥
-Halts Source s bytes es = ⊥
-Halts Memory s bytes es = HasMore bytes es
-Halts TooLong s bytes es = ⊥
-Halts (Worn which) s bytes es =
-    (next : LineMeaning) × HasNext next (executed es) (up_to_stop (meanings bytes)) × WornBy which (state_after s es) next
-Halts Sink s bytes es = IsFront (executed es) (up_to_stop (meanings bytes))
+-- how the lines executed before a fault stand to those that a piece completes
+abbrev pub Halts : Fault → State → List ℕ → List ℕ → List Entry → Type 0
+Halts Device s begun piece es = ⊥
+Halts Source s begun piece es = ⊥
+Halts Memory s begun piece es = HasMore begun piece es
+Halts TooLong s begun piece es = ⊥
+Halts (Worn which) s begun piece es =
+    (next : LineMeaning) × HasNext next (executed es) (up_to_stop (meanings (begun ++ piece)))
+    × WornBy which (state_after s es) next
+Halts Sink s begun piece es = IsFront (executed es) (up_to_stop (meanings (begun ++ piece)))
 
--- a fault came while the lines of some bytes were executed
-pub record BreaksOff (e : Fault) (from : State) (bytes : List ℕ) (at : State → Type 0)
+-- a fault came while the lines that a piece completes were executed
+pub record BreaksOff (e : Fault) (from : State) (begun piece : List ℕ) (at : State → Type 0)
     (old new : Option (List ℕ)) : Type 0 where
   pub entries : List Entry
   pub transcript : IsTranscript from entries
-  pub halts : Halts e from bytes entries
+  pub halts : Halts e from begun piece entries
   pub reached : at (state_after from entries)
   pub replied : Replied (Some e) entries old new

@@ -16,8 +16,9 @@ mod words;
 
 use bd_device::MemDevice;
 use bd_io::{StdSink, StdSource};
+use std::env;
+use std::io::{self, ErrorKind};
 use std::process::ExitCode;
-use std::{env, io};
 
 /// The blocks of the device in memory that the program runs over.
 const BLOCKS: u64 = 516;
@@ -31,12 +32,25 @@ fn main(rt: HostRuntime) -> ExitCode {
 
 /// Runs the program over standard input and output, and gives its status.
 fn status(rt: &HostRuntime) -> io::Result<u8> {
-    let mut words = Vec::new(rt.alloc());
-    for word in env::args(rt)? {
-        words.push(word)?;
-    }
+    let words = called_with(rt)?;
     let mut dev = MemDevice::new(rt.alloc(), BLOCKS, 0, &[])?;
     let mut src = StdSource::new(rt.reader());
     let mut sink = StdSink::new(io::writer(rt));
     Ok(run::run(rt.alloc(), &words, &mut dev, &mut src, &mut sink).status)
+}
+
+/// The words that the program is called with. Where one of them isn't UTF-8 there are none, which are
+/// refused as they would be.
+fn called_with(rt: &HostRuntime) -> io::Result<Vec<String>> {
+    let mut words = Vec::new(rt.alloc());
+    match env::args(rt) {
+        Ok(args) => {
+            for word in args {
+                words.push(word)?;
+            }
+        }
+        Err(error) if error.kind() == ErrorKind::InvalidData => {}
+        Err(error) => return Err(error),
+    }
+    Ok(words)
 }

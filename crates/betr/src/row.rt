@@ -1,14 +1,14 @@
-ghost use Rattle.std.specs.Prelude.{◌≡◌, ◌≢◌, ◌↔◌, ℕ, List, Option, Some, [], map, string_bytes, IsNone, IsSome, IfOk};
-ghost use Rattle.betr.specs.declared.fault.Fault.{Fault};
-ghost use Rattle.betr.specs.Fault.{status_of};
-ghost use Rattle.betr.specs.Session.{Finishes};
-ghost use Rattle.betr.specs.Run.{start_point, faults, EndsBy, WritesLast};
-ghost use Rattle.betr.specs.Words.{image_of, usage_line};
+ghost use Rattle.std.specs.Prelude.{◌≡◌, ◌↔◌, ℕ, List, Option, Some, [], map, string_bytes, IsNone, IfSome, IfOk};
+ghost use Rattle.betr.specs.Fault.{faults};
+ghost use Rattle.betr.specs.Transcript.{first_state};
+ghost use Rattle.betr.specs.Words.{call_of, usage_line};
+ghost use Rattle.betr.specs.Run.{ends, Went, Uses, WritesLast, seen_in_memory};
 
 use crate::outcome::Outcome;
 use crate::run::run;
 use bd_device::MemDevice;
 use bd_io::{MemSink, MemSource};
+use bd_limits::MAX_PIECE;
 use std::alloc::{AllocError, Global};
 
 /// Runs the program over memory: a script in pieces of up to 4,096 bytes, and a sink of `room` bytes. It gives
@@ -20,14 +20,20 @@ pub fn row(
     script: &[u8],
     room: usize,
 ) -> Result<(Outcome, Vec<u8>), AllocError>
-    ensures finished { IfOk result (λ r. r.0.status ≡ 0 → (rest : Option (List ℕ)) × Finishes (start_point (Some [])) (Some script.now) rest (Some r.1.items)) }
-    ensures faulted { IfOk result (λ r. IsSome (image_of (map string_bytes words.now)) → r.0.status ≢ 0 → (fault : Fault) × (r.0.status ≡ status_of fault)
-        × (rest : Option (List ℕ)) × (source : ℕ) × (sink : ℕ) × EndsBy fault (Some script.now) rest (Some []) (Some r.1.items) (faults dev.old.plan.faults 0 0) (faults dev.new.plan.faults source sink)) }
-    ensures refused { IfOk result (λ r. (r.0.status ≡ 2) ↔ IsNone (image_of (map string_bytes words.now))) }
-    ensures usage { IfOk result (λ r. r.0.status ≡ 2 → (sink : ℕ) × WritesLast usage_line (Some []) (Some r.1.items) 0 sink) }
+    ensures went { IfOk result (λ r. IfSome (call_of (map string_bytes words.now)) (λ call.
+        (rest : Option (List ℕ)) × (source : ℕ) × (sink : ℕ)
+        × Went first_state r.0.status r.0.acks
+        (ends (Some script.now) (Some []) (faults dev.old.plan.faults 0 0 0))
+        (ends rest (Some r.1.items) (faults dev.new.plan.faults 0 source sink)))) }
+    ensures device { IfOk result (λ r. IfSome (call_of (map string_bytes words.now))
+        (λ call. Uses call r.0.status (seen_in_memory dev.old) (seen_in_memory dev.new))) }
+    ensures refused { IfOk result (λ r.
+        (r.0.status ≡ 2) ↔ IsNone (call_of (map string_bytes words.now))) }
+    ensures usage { IfOk result (λ r. r.0.status ≡ 2 → (sink : ℕ)
+        × WritesLast usage_line (Some []) (Some r.1.items) 0 sink) }
     ensures untouched { IfOk result (λ r. r.0.status ≡ 2 → dev.new ≡ dev.old) }
 {
-    let mut src = MemSource::new(alloc, script, 4096, &[])?;
+    let mut src = MemSource::new(alloc, script, MAX_PIECE, &[])?;
     let mut sink = MemSink::new(alloc, room, &[])?;
     let outcome = run(alloc, words, dev, &mut src, &mut sink);
     let written = Vec::from_slice(alloc, sink.bytes())?;

@@ -1,4 +1,4 @@
-ghost use Rattle.std.specs.Prelude.{◌≡◌, ◌≤◌, ◌++◌, length, false, IfOk, IfErr, OnOk, OnErr, IsOkAnd};
+ghost use Rattle.std.specs.Prelude.{◌≡◌, ◌==◌, ◌≤◌, ◌++◌, [], position, length, false, IfOk, IfErr, OnOk, OnErr, IsOkAnd};
 ghost use Rattle.std.specs.List.{list_any};
 ghost use Rattle.std.specs.Io.KnownBytes.{append_known};
 ghost use Rattle.bd_io.specs.Cause.{HasCause};
@@ -193,10 +193,10 @@ impl<D: Device + Drop> Shell<D> {
         requires { length (held_of self.old) ≤ held_limit }
         ensures ok { OnOk result ((s : State) → ShellAt self.old s
             → ExecutesOne s (line_of (held_of self.old ++ last.now)) (ShellAt self.new)
-                (K.written sink.old) (K.written sink.new)) }
+            (K.written sink.old) (K.written sink.new)) }
         ensures err { IfErr result (λ e. (s : State) → ShellAt self.old s
             → RunFails e s (line_of (held_of self.old ++ last.now)) (ShellAt self.new)
-                (K.written sink.old) (K.written sink.new)) }
+            (K.written sink.old) (K.written sink.new)) }
 
         // Whatever the volume stands for.
         ensures line { OnOk result (held_of self.new ≡ []) }
@@ -211,13 +211,7 @@ impl<D: Device + Drop> Shell<D> {
             Ok(()) => {}
             Err(AllocError) => return Err(Fault::Memory),
         }
-        let flow = run_line(
-            alloc,
-            &mut self.volume,
-            &self.line,
-            &mut self.buffer,
-            sink,
-        )?;
+        let flow = run_line(alloc, &mut self.volume, &self.line, &mut self.buffer, sink)?;
         self.line.clear();
         Ok(flow)
     }
@@ -233,10 +227,10 @@ impl<D: Device + Drop> Shell<D> {
         requires { IsHeld (held_of self.old) }
         ensures ok { OnOk result ((s : State) → ShellAt self.old s
             → Executes s (up_to_stop (meanings (held_of self.old ++ piece.now))) (ShellAt self.new)
-                (K.written sink.old) (K.written sink.new)) }
+            (K.written sink.old) (K.written sink.new)) }
         ensures err { IfErr result (λ e. (s : State) → ShellAt self.old s
-            → BreaksOff e s (held_of self.old ++ piece.now) (ShellAt self.new)
-                (K.written sink.old) (K.written sink.new)) }
+            → BreaksOff e s (held_of self.old) piece.now (ShellAt self.new)
+            (K.written sink.old) (K.written sink.new)) }
 
         // Whatever the volume stands for.
         ensures line { IfOk result (λ flow. breaks flow ≡ false
@@ -247,7 +241,7 @@ impl<D: Device + Drop> Shell<D> {
         ensures cause { IsCaused (of_sink (K.fault_count sink.old)) (of_sink (K.fault_count sink.new)) result }
     {
         let mut rest = piece;
-        while let Some(end) = rest.iter().position(|byte| *byte == b'\n') {
+        while let Some(end) = line_end(rest) {
             if let ControlFlow::Break(()) = self.end_line(alloc, &rest[..end], sink)? {
                 return Ok(ControlFlow::Break(()));
             }
@@ -263,10 +257,10 @@ impl<D: Device + Drop> Shell<D> {
     pub fn finish<K: Sink>(&mut self, alloc: Global, sink: &mut K) -> Result<(), Fault>
         ensures ok { OnOk result ((s : State) → ShellAt self.old s
             → Executes s (last_lines (held_of self.old)) (ShellAt self.new)
-                (K.written sink.old) (K.written sink.new)) }
+            (K.written sink.old) (K.written sink.new)) }
         ensures err { IfErr result (λ e. (s : State) → ShellAt self.old s
             → RunFails e s (line_of (held_of self.old)) (ShellAt self.new)
-                (K.written sink.old) (K.written sink.new)) }
+            (K.written sink.old) (K.written sink.new)) }
 
         // Whatever the volume stands for.
         ensures some { OnErr result (is_empty (held_of self.old) ≡ false) }
@@ -276,15 +270,16 @@ impl<D: Device + Drop> Shell<D> {
         if self.line.is_empty() {
             return Ok(());
         }
-        let _flow = run_line(
-            alloc,
-            &mut self.volume,
-            &self.line,
-            &mut self.buffer,
-            sink,
-        )?;
+        let _flow = run_line(alloc, &mut self.volume, &self.line, &mut self.buffer, sink)?;
         Ok(())
     }
+}
+
+/// Where the first line of some bytes ends: the index of its newline.
+fn line_end(bytes: &[u8]) -> Option<usize>
+    ensures { result ≡ position (λ b. b == 10) bytes.now }
+{
+    bytes.iter().position(|byte| *byte == b'\n')
 }
 
 /// Adds bytes to what is held of a line, as far as they are. `AllocError` leaves it as it was, and
