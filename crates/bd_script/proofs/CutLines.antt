@@ -9,7 +9,7 @@ use Rattle.std.proofs.lemmas.List.Splits.{slice_split_none}
 use Rattle.std.specs.declared.result.Result.TheVariants.{Err}
 use Rattle.bd_limits.specs.Limits.{line_limit}
 use Rattle.bd_command.specs.declared.refusal.Refusal.TheVariants.{BadLine}
-use Rattle.bd_script.specs.Lines.{words_of, line_of_parts, line_of, held_limit, held, pieces, all_but_last, last_piece, whole_lines, open_line, lines_of, is_empty}
+use Rattle.bd_script.specs.Lines.{HasNoNewline, words_of, line_of_parts, line_of, held_limit, held, pieces, all_but_last, last_piece, whole_lines, open_line, lines_of, is_empty}
 
 -- a byte after the last of some pieces
 abbrev pub onto_last : List (List ℕ) → ℕ → List (List ℕ)
@@ -110,9 +110,6 @@ by_bytes P none more ys = from [] ys none
     from : (xs ys : List ℕ) → P xs → P (xs ++ ys)
     from xs [] h = subst P (sym (append-nil xs)) h
     from xs (y ∷ ys) h = subst P (append_assoc xs (y ∷ []) ys) (from (xs ++ y ∷ []) ys (more xs y h))
-
-abbrev pub HasNoNewline : List ℕ → Type 0
-HasNoNewline xs = All (λ b. nat_eq b 10 ≡ false) xs
 
 pub no_newline-open_line : (xs : List ℕ) → HasNoNewline (open_line xs)
 no_newline-open_line xs = by_bytes (λ ys. HasNoNewline (open_line ys)) (All-nil (λ k. nat_eq k 10 ≡ false)) (λ ys b h. more ys b h (nat_eq b 10) refl) xs

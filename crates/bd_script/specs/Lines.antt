@@ -1,6 +1,6 @@
 -- A script's lines, and what each of them means.
-use Rattle.std.specs.Prelude.{ℕ, ◌+◌, ◌-◌, ◌*◌, Bool, true, false, not, ◌&&◌, List, [], ◌∷◌, ◌++◌, length, take, nat_le, ◌==◌, if◌then◌else◌, codes, fold}
-use Rattle.std.specs.List.{slice_split, list_all, list_any}
+use Rattle.std.specs.Prelude.{◌≡◌, ℕ, ◌+◌, ◌-◌, ◌*◌, Bool, true, false, not, ◌&&◌, List, [], ◌∷◌, ◌++◌, length, take, nat_le, ◌==◌, if◌then◌else◌, codes, fold}
+use Rattle.std.specs.List.{All, slice_split, list_all, list_any}
 use Rattle.std.specs.Char.{is_ascii_digit}
 use Rattle.std.specs.declared.option.Option.{Option}
 use Rattle.std.specs.declared.option.Option.TheVariants.{None, Some}
@@ -50,6 +50,10 @@ open_line script = last_piece (pieces script)
 abbrev pub lines_of : List ℕ → List (List ℕ)
 lines_of script =
     whole_lines script ++ (if is_empty (open_line script) then [] else open_line script ∷ [])
+
+-- without a newline
+abbrev pub HasNoNewline : List ℕ → Type 0
+HasNoNewline bytes = All (λ b. (b == 10) ≡ false) bytes
 
 -- one byte more than a line may have
 abbrev pub held_limit : ℕ

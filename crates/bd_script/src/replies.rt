@@ -3,7 +3,8 @@
 ghost use Rattle.std.specs.Prelude.{◌≡◌, ◌+◌, ◌*◌, ◌≤◌, ◌++◌, length, take, decimal};
 ghost use Rattle.std.specs.List.{flat_map};
 ghost use Rattle.hex.specs.Hex.{encode_lower};
-ghost use Rattle.bd_script.specs.Replies.{IsReply, IsLineReply, reply_text, reply_line, line_reply_text, line_reply_line, no_text, refusal_text, chunk_text, listed_text, listing_text};
+ghost use Rattle.bd_command.specs.Command.{IsReply};
+ghost use Rattle.bd_script.specs.Replies.{IsLineReply, reply_text, reply_line, line_reply_text, line_reply_line, no_text, refusal_text, chunk_text, listed_text, listing_text};
 ghost use Rattle.bd_limits.specs.Limits.{listing_limit};
 
 use bd_command::{Listed, Listing, Refusal, Reply};

@@ -1,15 +1,15 @@
 -- Executions put together.
-use Rattle.std.proofs.Common.{◌≡◌, ℕ, List, [], ◌∷◌, ◌++◌, refl, sym, ap, subst, ◌∙◌}
+use Rattle.std.proofs.Common.{◌≡◌, ℕ, ◌<◌, List, [], ◌∷◌, ◌++◌, length, refl, sym, ap, subst, ◌∙◌, arith}
 use Rattle.std.specs.declared.option.Option.{Option}
 use Rattle.std.specs.declared.option.Option.TheVariants.{None, Some}
 use Rattle.std.specs.Io.KnownBytes.{append_known}
 use Rattle.std.proofs.lemmas.List.{append-nil}
 use Rattle.bd_io.proofs.Written.{append_known-twice}
-use Rattle.bd_script.specs.Lines.{LineMeaning}
+use Rattle.bd_script.specs.Lines.{LineMeaning, line_of}
 use Rattle.bd_script.specs.Replies.{line_reply_line}
 use Rattle.betr.specs.Transcript.{State, Entry, IsTranscript, text, executed, state_after}
 use Rattle.betr.specs.Session.{Executes}
-use Rattle.betr.specs.Shell.{ExecutesOne, Replies}
+use Rattle.betr.specs.Shell.{ExecutesOne, Replies, last_lines}
 use Rattle.betr.proofs.Transcripts.{IsTranscript-append, state_after-append, text-append, executed-append}
 
 pub append_known-nil : (w : Option (List ℕ)) → append_known w [] ≡ w
@@ -64,3 +64,8 @@ executes_more s ls ms mid at a b c x more =
 pub executes_as : (s : State) (ls ms : List LineMeaning) (at : State → Type 0) (a b : Option (List ℕ)) → ls ≡ ms
     → Executes s ls at a b → Executes s ms at a b
 executes_as s ls ms at a b same x = subst (λ l. Executes s l at a b) same x
+
+-- what is held at the end is a line where it isn't empty
+pub last_some : (line same : List ℕ) → same ≡ line → 0 < length line → last_lines line ≡ line_of same ∷ []
+last_some [] same is some = absurd (omega arith)
+last_some (b ∷ line) same is some = ap (λ l. line_of l ∷ []) (sym is)

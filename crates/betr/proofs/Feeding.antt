@@ -1,9 +1,11 @@
 -- How the lines of a piece are executed, line by line.
 use Rattle.std.proofs.Common.{◌≡◌, ℕ, ◌+◌, ◌<◌, ◌≤◌, Bool, true, false, cond, List, [], ◌∷◌, ◌++◌, length, take, drop, get_or, refl, sym, ap, subst, ◌∙◌, append_assoc, arith, nat_eq, drop-cons, add-one}
-use Rattle.std.specs.Prelude.{map, not, ◌||◌, ◌==◌, ltb}
+use Rattle.std.specs.Prelude.{map, MatchOption, not, ◌||◌, ◌==◌, ltb}
 use Rattle.std.specs.List.{list_any, position, position_or_len, All}
 use Rattle.std.specs.declared.option.Option.{Option}
 use Rattle.std.specs.declared.option.Option.TheVariants.{None, Some}
+use Rattle.std.specs.declared.ops.ControlFlow.{ControlFlow}
+use Rattle.std.specs.declared.ops.ControlFlow.TheVariants.{Continue, Break}
 use Rattle.std.specs.Io.KnownBytes.{append_known}
 use Rattle.bd_io.specs.Written.{WrotePart}
 use Rattle.bd_script.specs.Replies.{line_reply_line}
@@ -12,13 +14,13 @@ use Rattle.std.proofs.lemmas.List.Folds.{list_any-append}
 use Rattle.std.proofs.lemmas.List.Quantifiers.{position-Some}
 use Rattle.std.proofs.lemmas.List.Elements.{All-take, All-append, All-nil, All-cons, All-from_get_or}
 use Rattle.std.proofs.lemmas.Bool.{eqb-true, ltb-false}
-use Rattle.bd_script.specs.Lines.{LineMeaning, line_of, whole_lines, open_line, held, is_empty, is_stop, up_to_stop}
-use Rattle.bd_script.proofs.CutLines.{HasNoNewline, no_newline-open_line, whole_lines-newline, open_line-newline, whole_lines-more, open_line-more, whole_lines-none, open_line-none, line_of-held, held-append}
+use Rattle.bd_script.specs.Lines.{LineMeaning, HasNoNewline, held_limit, line_of, whole_lines, open_line, held, is_empty, is_stop, up_to_stop}
+use Rattle.bd_script.proofs.CutLines.{no_newline-open_line, whole_lines-newline, open_line-newline, whole_lines-more, open_line-more, whole_lines-none, open_line-none, line_of-held, held-append}
 use Rattle.betr.specs.declared.fault.Fault.{Fault}
 use Rattle.betr.specs.declared.fault.Fault.TheVariants.{Device, Source, Memory, TooLong, Worn, Sink}
 use Rattle.betr.specs.Transcript.{State, Entry, IsTranscript, text, executed, state_after, meanings, IsFront}
 use Rattle.betr.specs.Session.{Executes, Replied}
-use Rattle.betr.specs.Shell.{IsHeld, RunFails, HasMore, BreaksOff}
+use Rattle.betr.specs.Shell.{breaks, IsHeld, CutsAt, RunFails, HasMore, BreaksOff}
 use Rattle.betr.proofs.Transcripts.{up_to_stop-none, up_to_stop-stopped, up_to_stop-append, up_to_stop-one, up_to_stop_front, IsFront-append, IsTranscript-append, state_after-append, executed-append}
 use Rattle.betr.proofs.Executes.{append_known-nil, executes_more, executes_as}
 
@@ -31,7 +33,7 @@ held_plain line h = subst HasNoNewline h (All-take (λ k. nat_eq k 10 ≡ false)
 -- some bytes, then bytes without a newline, and a newline: a line more is complete
 pub record OneMore (fed x : List ℕ) : Type 0 where
   pub lines : meanings ((fed ++ x) ++ 10 ∷ []) ≡ meanings fed ++ line_of (held (open_line fed) ++ x) ∷ []
-  pub open : open_line ((fed ++ x) ++ 10 ∷ []) ≡ []
+  pub opened : open_line ((fed ++ x) ++ 10 ∷ []) ≡ []
 
 -- bytes without a newline go on with what stands open
 pub plain_more : (fed x : List ℕ) → HasNoNewline x → (whole_lines (fed ++ x) ≡ whole_lines fed) × (open_line (fed ++ x) ≡ open_line fed ++ x)
@@ -52,8 +54,17 @@ one_more fed x plain =
       lines = ap (map line_of) (whole_lines-newline (fed ++ x)) ∙ map-append line_of (whole_lines (fed ++ x)) (open_line (fed ++ x) ∷ [])
           ∙ ap (λ l. map line_of l ++ line_of (open_line (fed ++ x)) ∷ []) more.0
           ∙ ap (λ l. meanings fed ++ l ∷ []) (ap line_of more.1 ∙ sym (line_of-front (open_line fed) x));
-      open = open_line-newline (fed ++ x);
+      opened = open_line-newline (fed ++ x);
     }
+
+-- what is said of no value, where there is none
+pub at_none : {A : Type 0} {P : Type 0} (Q : A → Type 0) (o : Option A) → MatchOption o P Q → ((x : A) → o ≡ Some x → ⊥) → P
+at_none Q None h none = h
+at_none Q (Some x) h none = absurd (none x refl)
+
+pub not_break : (flow : ControlFlow (Unit {0}) (Unit {0})) → ((b : Unit {0}) → flow ≡ Break b → ⊥) → breaks flow ≡ false
+not_break (Continue c) h = refl
+not_break (Break b) h = absurd (h b refl)
 
 -- ---- where a piece stands
 
@@ -77,27 +88,23 @@ fed_none first begun piece w held_is none =
       ran = λ s h. executes_as s [] (meanings (begun ++ [])) first w w (sym empty) (none s h);
     }
 
--- the bytes before the first newline, and those after it
-pub record CutsAt (rest x tail : List ℕ) : Type 0 where
-  pub rest_is : rest ≡ x ++ 10 ∷ tail
-  pub plain : HasNoNewline x
-
 pub cuts_at : (rest : List ℕ) (i : ℕ) → position (λ b. b == 10) rest ≡ Some i → CutsAt rest (take i rest) (drop (i + 1) rest)
 cuts_at rest i found =
     let at = position-Some (λ b. b == 10) rest i 0 found in
     record {
-      rest_is = sym (take-append-drop i rest) ∙ ap (λ l. take i rest ++ l) (drop-cons rest i 0 at.0 ∙ ap (λ b. b ∷ drop (i + 1) rest) (eqb-true (get_or rest i 0) 10 at.1));
+      bytes_are = sym (take-append-drop i rest) ∙ ap (λ l. take i rest ++ l) (drop-cons rest i 0 at.0 ∙ ap (λ n. get_or rest i 0 ∷ drop n rest) (sym (add-one i)) ∙ ap (λ b. b ∷ drop (i + 1) rest) (eqb-true (get_or rest i 0) 10 at.1));
       plain = All-from_get_or (λ b. nat_eq b 10 ≡ false) (take i rest) 0
           (λ k below. ap (λ b. nat_eq b 10) (get_or-take i rest k 0 (omega (arith, length-take i rest, below))) ∙ at.2 k (omega (arith, length-take i rest, below)));
     }
 
+plain_by : (t : Bool) (x : ℕ) (xs : List ℕ) → nat_eq x 10 ≡ t → (length xs ≤ position_or_len (λ b. b == 10) xs → HasNoNewline xs)
+    → length (x ∷ xs) ≤ cond (not t) (1 + position_or_len (λ b. b == 10) xs) 0 → HasNoNewline (x ∷ xs)
+plain_by true x xs e rest h = absurd (omega arith)
+plain_by false x xs e rest h = All-cons (λ b. nat_eq b 10 ≡ false) x xs e (rest (omega arith))
+
 plain_from : (xs : List ℕ) → length xs ≤ position_or_len (λ b. b == 10) xs → HasNoNewline xs
 plain_from [] h = All-nil (λ b. nat_eq b 10 ≡ false)
-plain_from (x ∷ xs) h = by (nat_eq x 10) refl h
-  where
-    by : (t : Bool) → nat_eq x 10 ≡ t → length (x ∷ xs) ≤ cond (not t) (1 + position_or_len (λ b. b == 10) xs) 0 → HasNoNewline (x ∷ xs)
-    by true e h = absurd (omega arith)
-    by false e h = All-cons (λ b. nat_eq b 10 ≡ false) x xs e (plain_from xs (omega arith))
+plain_from (x ∷ xs) h = plain_by (nat_eq x 10) x xs refl (plain_from xs) h
 
 -- no newline is found
 pub plain_rest : (xs : List ℕ) → position (λ b. b == 10) xs ≡ None → HasNoNewline xs
@@ -121,7 +128,7 @@ either false b e = e
 pub record NextLine (begun piece front x tail line : List ℕ) : Type 0 where
   pub piece_is : piece ≡ (front ++ (x ++ 10 ∷ [])) ++ tail
   pub lines : meanings (begun ++ (front ++ (x ++ 10 ∷ []))) ≡ meanings (begun ++ front) ++ line_of (line ++ x) ∷ []
-  pub open : open_line (begun ++ (front ++ (x ++ 10 ∷ []))) ≡ []
+  pub opened : open_line (begun ++ (front ++ (x ++ 10 ∷ []))) ≡ []
   pub all : (more : List LineMeaning) × (meanings (begun ++ piece) ≡ meanings (begun ++ front) ++ line_of (line ++ x) ∷ more)
 
 pub next_line : (begun piece front rest x tail line : List ℕ) → piece ≡ front ++ rest → CutsAt rest x tail → line ≡ held (open_line (begun ++ front))
@@ -135,12 +142,12 @@ next_line begun piece front rest x tail line is cut line_is =
     let lines : meanings (begun ++ (front ++ (x ++ 10 ∷ []))) ≡ meanings fed ++ line_of (line ++ x) ∷ [] =
     ap meanings joined ∙ one.lines ∙ ap (λ l. meanings fed ++ line_of (l ++ x) ∷ []) (sym line_is) in
     let cut_is : piece ≡ (front ++ (x ++ 10 ∷ [])) ++ tail =
-    is ∙ ap (λ l. front ++ l) (cut.rest_is ∙ sym (append_assoc x (10 ∷ []) tail)) ∙ sym (append_assoc front (x ++ 10 ∷ []) tail) in
+    is ∙ ap (λ l. front ++ l) (cut.bytes_are ∙ sym (append_assoc x (10 ∷ []) tail)) ∙ sym (append_assoc front (x ++ 10 ∷ []) tail) in
     let after : List ℕ = begun ++ (front ++ (x ++ 10 ∷ [])) in
     record {
       piece_is = cut_is;
       lines = lines;
-      open = ap open_line joined ∙ one.open;
+      opened = ap open_line joined ∙ one.opened;
       all = (
         meanings (open_line after ++ tail),
         ap (λ l. meanings (begun ++ l)) cut_is ∙ ap meanings (sym (append_assoc begun (front ++ (x ++ 10 ∷ [])) tail))
@@ -161,7 +168,7 @@ fed_more first mid now begun piece rest x tail line line2 a b c at cut goes_on l
       piece_is = next.piece_is;
       no_stop = ap (list_any is_stop) next.lines ∙ list_any-append is_stop (meanings (begun ++ at.front)) (line_of (line ++ x) ∷ [])
           ∙ neither _ _ at.no_stop (neither (is_stop (line_of (line ++ x))) false goes_on refl);
-      line_is = line2_is ∙ ap held (sym next.open);
+      line_is = line2_is ∙ ap held (sym next.opened);
       ran = λ s h. executes_as s _ _ now a c (sym next.lines) (executes_more s (meanings (begun ++ at.front)) (line_of (line ++ x) ∷ []) mid now a b c (at.ran s h) runs);
     }
 
@@ -257,7 +264,7 @@ pub fails_fed : (e : Fault) (first mid now : State → Type 0) (begun piece rest
 fails_fed Device first mid now begun piece rest x tail line a b c at cut fails s h = absurd (fails (state_after s (at.ran s h).entries) (at.ran s h).reached)
 fails_fed Source first mid now begun piece rest x tail line a b c at cut fails s h = absurd (fails (state_after s (at.ran s h).entries) (at.ran s h).reached)
 fails_fed Memory first mid now begun piece rest x tail line a b c at cut fails s h =
-    memory_fed first mid now begun piece rest line a b c at (ap is_empty cut.rest_is ∙ cut_some x tail) fails s h
+    memory_fed first mid now begun piece rest line a b c at (ap is_empty cut.bytes_are ∙ cut_some x tail) fails s h
 fails_fed TooLong first mid now begun piece rest x tail line a b c at cut fails s h = absurd (fails (state_after s (at.ran s h).entries) (at.ran s h).reached)
 fails_fed (Worn which) first mid now begun piece rest x tail line a b c at cut fails s h =
     let run : Executes s (meanings (begun ++ at.front)) mid a b = at.ran s h in
@@ -296,3 +303,7 @@ fails_fed Sink first mid now begun piece rest x tail line a b c at cut fails s h
       reached = subst now (sym (state_after-append s run.entries (last ∷ []))) cut_off.replies.reached;
       replied = record { front = run.entries; last = last; entries_are = refl; part = subst (λ w. WrotePart (line_reply_line cut_off.said) w c) run.written cut_off.part };
     }
+
+-- what is held is short
+pub fed_short : (line bytes : List ℕ) → line ≡ held (open_line bytes) → length line ≤ held_limit
+fed_short line bytes is = omega (arith, ap length is, length-take held_limit (open_line bytes))

@@ -1,3 +1,5 @@
 pub mod Transcripts
 pub mod Executes
 pub mod Feeding
+pub mod Held
+pub mod Lines

@@ -8,7 +8,7 @@ use Rattle.std.specs.declared.ops.ControlFlow.{ControlFlow}
 use Rattle.std.specs.declared.ops.ControlFlow.TheVariants.{Continue, Break}
 use Rattle.bd_io.specs.Written.{WrotePart}
 use Rattle.bd_message.specs.declared.fault.Counter.TheVariants.{Count}
-use Rattle.bd_script.specs.Lines.{LineMeaning, line_of, held, open_line, is_empty, is_stop, up_to_stop}
+use Rattle.bd_script.specs.Lines.{LineMeaning, HasNoNewline, line_of, held, open_line, is_empty, is_stop, up_to_stop}
 use Rattle.bd_script.specs.Replies.{line_reply_line}
 use Rattle.bd_script.specs.declared.replies.LineReply.{LineReply}
 use Rattle.bd_script.specs.declared.replies.LineReply.TheVariants as reply
@@ -70,6 +70,11 @@ pub record ExecutesOne (s : State) (line : LineMeaning) (at : State → Type 0) 
   pub replies : Replies s line said at
   pub written : new ≡ append_known old (line_reply_line said)
 
+-- some bytes: a line without its newline, the newline, and what follows it
+pub record CutsAt (bytes line rest : List ℕ) : Type 0 where
+  pub bytes_are : bytes ≡ line ++ 10 ∷ rest
+  pub plain : HasNoNewline line
+
 -- ---- faults, with what each leaves; the causes of all stand in one table
 
 -- the faults of a volume that come today
@@ -84,6 +89,15 @@ LineFails Memory s line = Unit {0}
 LineFails TooLong s line = ⊥
 LineFails (Worn which) s line = WornBy which s line
 LineFails Sink s line = ⊥
+
+-- the faults that a line has before its reply
+abbrev pub IsLineFault : Fault → Type 0
+IsLineFault Device = ⊥
+IsLineFault Source = ⊥
+IsLineFault Memory = Unit {0}
+IsLineFault TooLong = ⊥
+IsLineFault (Worn which) = Unit {0}
+IsLineFault Sink = ⊥
 
 -- an executed line of whose reply only a part was written
 pub record IsCut (s : State) (line : LineMeaning) (at : State → Type 0) (old new : Option (List ℕ)) : Type 0 where

@@ -1,4 +1,4 @@
-ghost use Rattle.std.specs.Prelude.{◌≡◌, ◌≢◌, ◌⊎◌, ◌↔◌, [], map, string_bytes, IsNone, IfSome};
+ghost use Rattle.std.specs.Prelude.{◌≡◌, ◌≢◌, ◌≤◌, ◌⊎◌, ◌↔◌, [], map, string_bytes, IsNone, IfSome};
 ghost use Rattle.betr.specs.declared.fault.Fault.{Fault};
 ghost use Rattle.betr.specs.Fault.{faults, of_ends, NeverFall, IsCaused};
 ghost use Rattle.betr.specs.Transcript.{first_state};

@@ -1,16 +1,16 @@
-ghost use Rattle.std.specs.Prelude.{◌≡◌, ◌==◌, ◌≤◌, ◌++◌, [], position, length, false, IfOk, IfErr, OnOk, OnErr, IsOkAnd};
+ghost use Rattle.std.specs.Prelude.{◌≡◌, ◌≤◌, ◌++◌, [], MatchOption, length, false, IfOk, IfErr, OnOk, OnErr, IsOkAnd};
 ghost use Rattle.std.specs.List.{list_any};
 ghost use Rattle.std.specs.Io.KnownBytes.{append_known};
 ghost use Rattle.bd_io.specs.Cause.{HasCause};
 ghost use Rattle.bd_io.specs.Written.{WrotePart};
-ghost use Rattle.bd_model.specs.Tree.{root_only};
-ghost use Rattle.bd_script.specs.Lines.{line_of, open_line, held, held_limit, is_empty, is_stop, up_to_stop, IsLine};
+ghost use Rattle.bd_message.specs.declared.fault.Counter.{Counter};
+ghost use Rattle.bd_script.specs.Lines.{line_of, open_line, held, held_limit, is_empty, is_stop, up_to_stop, IsLine, HasNoNewline};
 ghost use Rattle.bd_script.specs.Replies.{line_reply_line, IsLineReply};
 ghost use Rattle.bd_volume.specs.Volume.{StandsFor, device_of};
 ghost use Rattle.betr.specs.Fault.{IsCaused, of_sink};
 ghost use Rattle.betr.specs.Transcript.{State, first_state, meanings};
 ghost use Rattle.betr.specs.Session.{Executes};
-ghost use Rattle.betr.specs.Shell.{VolumeAt, ShellAt, Replies, ExecutesOne, held_of, device_in, breaks, is_stopped, last_lines, IsHeld, ComesNow, LineFails, RunFails, BreaksOff};
+ghost use Rattle.betr.specs.Shell.{VolumeAt, ShellAt, Replies, ExecutesOne, held_of, device_in, breaks, is_stopped, last_lines, IsHeld, ComesNow, CutsAt, IsLineFault, LineFails, RunFails, BreaksOff};
 
 use crate::fault::Fault;
 use bd_command::Refusal;
@@ -28,6 +28,7 @@ const HELD: usize = MAX_LINE + 1;
 /// The run's fault for one of a volume's that can come today.
 fn fault_of(fault: VolumeFault) -> Fault
     requires { ComesNow fault }
+    ensures kind { IsLineFault result }
     ensures memory { fault ≡ VolumeFault.NoMemory → result ≡ Fault.Memory }
     ensures worn { (counter : Counter) → fault ≡ VolumeFault.Worn counter → result ≡ Fault.Worn counter }
 {
@@ -54,6 +55,7 @@ fn execute<D: Device + Drop>(
         → VolumeAt volume.new s × LineFails e s (Ok line)) }
 
     // Whatever the volume stands for.
+    ensures fault { IfErr result IsLineFault }
     ensures stops { IfOk result (λ said. is_stopped said ≡ is_stop (Ok line)) }
     ensures small { IfOk result IsLineReply }
     ensures device { device_of volume.new ≡ device_of volume.old }
@@ -79,6 +81,7 @@ fn execute_line<D: Device + Drop>(
         → VolumeAt volume.new s × LineFails e s (line_of line.now)) }
 
     // Whatever the volume stands for.
+    ensures fault { IfErr result IsLineFault }
     ensures stops { IfOk result (λ said. is_stopped said ≡ is_stop (line_of line.now)) }
     ensures small { IfOk result IsLineReply }
     ensures device { device_of volume.new ≡ device_of volume.old }
@@ -241,11 +244,11 @@ impl<D: Device + Drop> Shell<D> {
         ensures cause { IsCaused (of_sink (K.fault_count sink.old)) (of_sink (K.fault_count sink.new)) result }
     {
         let mut rest = piece;
-        while let Some(end) = line_end(rest) {
-            if let ControlFlow::Break(()) = self.end_line(alloc, &rest[..end], sink)? {
+        'lines: while let Some((last, tail)) = cut_line(rest) {
+            if let ControlFlow::Break(()) = self.end_line(alloc, last, sink)? {
                 return Ok(ControlFlow::Break(()));
             }
-            rest = &rest[end + 1..];
+            rest = tail;
         }
         match hold(&mut self.line, rest) {
             Ok(()) => Ok(ControlFlow::Continue(())),
@@ -275,11 +278,13 @@ impl<D: Device + Drop> Shell<D> {
     }
 }
 
-/// Where the first line of some bytes ends: the index of its newline.
-fn line_end(bytes: &[u8]) -> Option<usize>
-    ensures { result ≡ position (λ b. b == 10) bytes.now }
+/// The first line of some bytes, without its newline, and what follows it; nothing where no line ends.
+fn cut_line(bytes: &[u8]) -> Option<(&[u8], &[u8])>
+    ensures { MatchOption result (HasNoNewline bytes.now)
+        (λ cut. CutsAt bytes.now cut.0.now cut.1.now) }
 {
-    bytes.iter().position(|byte| *byte == b'\n')
+    let end = bytes.iter().position(|byte| *byte == b'\n')?;
+    Some((&bytes[..end], &bytes[end + 1..]))
 }
 
 /// Adds bytes to what is held of a line, as far as they are. `AllocError` leaves it as it was, and

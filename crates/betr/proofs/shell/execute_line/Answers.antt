@@ -1,0 +1,19 @@
+-- A line that was read means what its bytes mean.
+use Rattle.std.proofs.Common.{ap}
+use Rattle.std.specs.declared.result.Result.TheVariants.{Err}
+use Rattle.betr.proofs.Lines.{unread_replies}
+use Rattle.betr.proofs.shell.execute_line.Goals as goal
+
+pub returns-in-Ok-clause-ok : goal.returns-in-Ok-clause-ok
+returns-in-Ok-clause-ok g c = rw c.in-Ok.ensures.meaning c.execute.ensures.ok
+
+pub returns-in-Ok-clause-err : goal.returns-in-Ok-clause-err
+returns-in-Ok-clause-err g c = rw c.in-Ok.ensures.meaning c.execute.ensures.err
+
+pub returns-in-Err-BadLine-clause-ok : goal.returns-in-Err-BadLine-clause-ok
+returns-in-Err-BadLine-clause-ok g c s at =
+    unread_replies s _ _ _ (c.in-Err-BadLine.ensures.bad_line.0 (ap Err c.in-Err-BadLine.field-0-is)) at
+
+pub returns-in-Err-BadPath-clause-ok : goal.returns-in-Err-BadPath-clause-ok
+returns-in-Err-BadPath-clause-ok g c s at =
+    unread_replies s _ _ _ (c.in-Err-BadPath.ensures.bad_path.0 (ap Err c.in-Err-BadPath.field-0-is)) at
