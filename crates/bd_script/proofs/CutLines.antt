@@ -30,7 +30,7 @@ onto_first-onto_last x b p [] = refl
 onto_first-onto_last x b p (q ∷ ps) = refl
 
 -- there is always a piece
-some_pieces : (bs : List ℕ) → (p : List ℕ) × (ps : List (List ℕ)) × (pieces bs ≡ p ∷ ps)
+pub some_pieces : (bs : List ℕ) → (p : List ℕ) × (ps : List (List ℕ)) × (pieces bs ≡ p ∷ ps)
 some_pieces [] = ([], [], refl)
 some_pieces (b ∷ bs) = by (nat_eq b 10) refl (some_pieces bs)
   where

@@ -114,7 +114,7 @@ plain_rest xs none = plain_from xs (ltb-false (position_or_len (λ b. b == 10) x
     by true n h = cc
     by false n h = refl
 
-neither : (a b : Bool) → a ≡ false → b ≡ false → (a || b) ≡ false
+pub neither : (a b : Bool) → a ≡ false → b ≡ false → (a || b) ≡ false
 neither true b e f = e
 neither false b e f = f
 

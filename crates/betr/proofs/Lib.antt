@@ -3,3 +3,4 @@ pub mod Executes
 pub mod Feeding
 pub mod Held
 pub mod Lines
+pub mod Scripts

@@ -1,0 +1,534 @@
+-- How the lines of a script are executed, piece by piece.
+use Rattle.std.proofs.Common.{◌≡◌, ℕ, ◌+◌, ◌<◌, ◌≤◌, Bool, true, false, cond, List, [], ◌∷◌, ◌++◌, length, take, get_or, refl, sym, ap, subst, ◌∙◌, append_assoc, arith, length-append, nat_eq, inl, inr}
+use Rattle.std.specs.Prelude.{map, IfSome, ◌||◌}
+use Rattle.std.specs.declared.option.Option.{Option}
+use Rattle.std.specs.declared.option.Option.TheVariants.{None, Some}
+use Rattle.std.specs.List.{list_any, onto_first}
+use Rattle.std.specs.Io.KnownBytes.{append_known, prepend_known, IsAtEnd}
+use Rattle.std.specs.Option.{option_map}
+use Rattle.std.proofs.lemmas.List.{map-append, append-nil, take_more, nil_from_length}
+use Rattle.std.proofs.lemmas.List.Folds.{list_any-append}
+use Rattle.std.proofs.lemmas.Bool.{eqb-true, ne_eqb}
+use Rattle.std.proofs.Math.Seq.{take-append_seam}
+use Rattle.bd_limits.specs.Limits.{script_limit, piece_limit}
+use Rattle.bd_io.specs.Cause.{next_count}
+use Rattle.bd_io.specs.Takes.{Takes, takes_after}
+use Rattle.bd_io.specs.Written.{WrotePart}
+use Rattle.bd_script.specs.Lines.{LineMeaning, all_but_last, last_piece, line_of, lines_of, whole_lines, open_line, held, is_empty, is_stop, up_to_stop}
+use Rattle.bd_script.specs.Replies.{line_reply_line}
+use Rattle.bd_script.proofs.CutLines.{some_pieces, whole_lines-more, open_line-more, held_goes_on, line_of-held}
+use Rattle.betr.specs.declared.fault.Fault.{Fault}
+use Rattle.betr.specs.declared.fault.Fault.TheVariants.{Device, Source, Memory, TooLong, Worn, Sink}
+use Rattle.betr.specs.Transcript.{State, Entry, IsTranscript, text, executed, state_after, meanings, lines_to_run, IsFront}
+use Rattle.betr.specs.Session.{Executes, HasNext, Among, AllComplete, TakenAt, Replied, IsCutShort, WornBy, RunsFrom, Session}
+use Rattle.betr.specs.Shell.{last_lines, IsHeld, RunFails, BreaksOff, HasMore}
+use Rattle.betr.specs.Taken.{TakesNoMore, TookLast}
+use Rattle.betr.proofs.Transcripts.{up_to_stop-none, up_to_stop-stopped, up_to_stop-append, up_to_stop-one, up_to_stop_front, IsFront-append, IsFront-trans, IsTranscript-append, state_after-append, executed-append}
+use Rattle.betr.proofs.Executes.{executes_none, executes_more, executes_as, text-twice}
+use Rattle.betr.proofs.Feeding.{either, neither}
+
+pub prepend_known-nil : (o : Option (List ℕ)) → prepend_known [] o ≡ o
+prepend_known-nil None = refl
+prepend_known-nil (Some xs) = refl
+
+pub prepend_known-append : (xs ys : List ℕ) (o : Option (List ℕ)) → prepend_known xs (prepend_known ys o) ≡ prepend_known (xs ++ ys) o
+prepend_known-append xs ys None = refl
+prepend_known-append xs ys (Some zs) = ap (λ l. Some l) (sym (append_assoc xs ys zs))
+
+-- ---- the lines of a script, and those of a front of it
+
+-- the lines that a piece completes, after what is held of a line
+meanings-more : (bytes piece line : List ℕ) → line ≡ held (open_line bytes) → meanings (bytes ++ piece) ≡ meanings bytes ++ meanings (line ++ piece)
+meanings-more bytes piece line is =
+    ap (map line_of) (whole_lines-more bytes piece) ∙ map-append line_of (whole_lines bytes) (whole_lines (open_line bytes ++ piece))
+    ∙ ap (λ l. meanings bytes ++ l) (sym ((held_goes_on bytes piece).meanings) ∙ ap (λ l. meanings (l ++ piece)) (sym is))
+
+held-more : (bytes piece line : List ℕ) → line ≡ held (open_line bytes) → held (open_line (line ++ piece)) ≡ held (open_line (bytes ++ piece))
+held-more bytes piece line is = ap (λ l. held (open_line (l ++ piece))) is ∙ (held_goes_on bytes piece).rest ∙ ap held (sym (open_line-more bytes piece))
+
+-- the lines of some bytes after a front of them
+lines_front : (front rest : List ℕ) → map line_of (lines_of (front ++ rest)) ≡ meanings front ++ map line_of (lines_of (open_line front ++ rest))
+lines_front front rest =
+    let last : List (List ℕ) = cond (is_empty (open_line (front ++ rest))) [] (open_line (front ++ rest) ∷ []) in
+    let same : cond (is_empty (open_line (front ++ rest))) [] (open_line (front ++ rest) ∷ []) ≡ cond (is_empty (open_line (open_line front ++ rest))) [] (open_line (open_line front ++ rest) ∷ []) =
+    ap (λ l. cond (is_empty l) [] (l ∷ [])) (open_line-more front rest) in
+    ap (map line_of) (ap (λ l. l ++ last) (whole_lines-more front rest) ∙ append_assoc (whole_lines front) (whole_lines (open_line front ++ rest)) last
+    ∙ ap (λ l. whole_lines front ++ (whole_lines (open_line front ++ rest) ++ l)) same)
+    ∙ map-append line_of (whole_lines front) (lines_of (open_line front ++ rest))
+
+run_front : (front rest : List ℕ) → list_any is_stop (meanings front) ≡ false
+    → lines_to_run (front ++ rest) ≡ meanings front ++ lines_to_run (open_line front ++ rest)
+run_front front rest none = ap up_to_stop (lines_front front rest) ∙ up_to_stop-append (meanings front) (map line_of (lines_of (open_line front ++ rest))) none
+
+-- ---- bytes have a line, where there are some
+
+abbrev of_pieces : List (List ℕ) → List (List ℕ)
+of_pieces ps = all_but_last ps ++ cond (is_empty (last_piece ps)) [] (last_piece ps ∷ [])
+
+abbrev HasLine : List (List ℕ) → Type 0
+HasLine lines = (l : List ℕ) × (ls : List (List ℕ)) × (lines ≡ l ∷ ls)
+
+some_by : (t : Bool) (x : ℕ) (p : List ℕ) (ps : List (List ℕ)) → HasLine (of_pieces (cond t ([] ∷ p ∷ ps) (onto_first x (p ∷ ps))))
+some_by true x p ps = ([], of_pieces (p ∷ ps), refl)
+some_by false x p [] = (x ∷ p, [], refl)
+some_by false x p (q ∷ qs) = (x ∷ p, of_pieces (q ∷ qs), refl)
+
+some_lines : (bytes : List ℕ) → is_empty bytes ≡ false → HasLine (lines_of bytes)
+some_lines [] some = cc
+some_lines (x ∷ ys) some =
+    let h = some_pieces ys in
+    subst (λ ps. HasLine (of_pieces (cond (nat_eq x 10) ([] ∷ ps) (onto_first x ps)))) (sym h.2) (some_by (nat_eq x 10) x h.0 h.1)
+
+some-append : (xs ys : List ℕ) → is_empty ys ≡ false → is_empty (xs ++ ys) ≡ false
+some-append [] ys h = h
+some-append (x ∷ xs) ys h = refl
+
+-- complete lines were executed, and there are more bytes: there is a next line
+pub next_of_more : (front rest : List ℕ) (es : List Entry) → executed es ≡ meanings front → list_any is_stop (meanings front) ≡ false
+    → is_empty rest ≡ false → (next : LineMeaning) × HasNext next (executed es) (lines_to_run (front ++ rest))
+next_of_more front rest es lines none some =
+    let h = some_lines (open_line front ++ rest) (some-append (open_line front) rest some) in
+    let first : map line_of (lines_of (open_line front ++ rest)) ≡ line_of h.0 ∷ map line_of h.1 = ap (map line_of) h.2 in
+    let more : List LineMeaning = cond (is_stop (line_of h.0)) [] (up_to_stop (map line_of h.1)) in (
+      line_of h.0,
+      record {
+        rest = more;
+        lines_are = run_front front rest none ∙ ap (λ l. meanings front ++ l) (ap up_to_stop first) ∙ ap (λ l. l ++ line_of h.0 ∷ more) (sym lines);
+      },
+    )
+
+-- ---- what stands up to the `stop` within a piece
+
+run_stopped : (bytes piece line rest : List ℕ) → line ≡ held (open_line bytes) → list_any is_stop (meanings bytes) ≡ false
+    → list_any is_stop (meanings (line ++ piece)) ≡ true
+    → lines_to_run ((bytes ++ piece) ++ rest) ≡ meanings bytes ++ up_to_stop (meanings (line ++ piece))
+run_stopped bytes piece line rest is none some =
+    let lines = meanings-more bytes piece line is in
+    ap up_to_stop (lines_front (bytes ++ piece) rest)
+    ∙ up_to_stop-stopped (meanings (bytes ++ piece)) (map line_of (lines_of (open_line (bytes ++ piece) ++ rest)))
+    (ap (list_any is_stop) lines ∙ list_any-append is_stop (meanings bytes) (meanings (line ++ piece)) ∙ either _ _ some)
+    ∙ ap up_to_stop lines ∙ up_to_stop-append (meanings bytes) (meanings (line ++ piece)) none
+
+-- the lines that a piece completes stand at the front of those of all the bytes, whatever follows
+fed_front : (bytes piece line more : List ℕ) → line ≡ held (open_line bytes) → list_any is_stop (meanings bytes) ≡ false
+    → IsFront (meanings bytes ++ up_to_stop (meanings (line ++ piece))) (lines_to_run ((bytes ++ piece) ++ more))
+fed_front bytes piece line more is none =
+    let lines = meanings-more bytes piece line is in
+    let tail : List LineMeaning = map line_of (lines_of (open_line (bytes ++ piece) ++ more)) in
+    subst (λ ls. IsFront (meanings bytes ++ up_to_stop (meanings (line ++ piece))) (up_to_stop ls)) (sym (lines_front (bytes ++ piece) more))
+    (subst (λ ls. IsFront ls (up_to_stop (meanings (bytes ++ piece) ++ tail)))
+    (ap up_to_stop lines ∙ up_to_stop-append (meanings bytes) (meanings (line ++ piece)) none)
+    (up_to_stop_front (meanings (bytes ++ piece)) tail))
+
+-- ---- the end of a script
+
+up_to_stop-last_lines : (line : List ℕ) → up_to_stop (last_lines line) ≡ last_lines line
+up_to_stop-last_lines [] = refl
+up_to_stop-last_lines (b ∷ line) = up_to_stop-one (line_of (b ∷ line))
+
+last_lines-held : (line : List ℕ) → last_lines (held line) ≡ last_lines line
+last_lines-held [] = refl
+last_lines-held (b ∷ line) = ap (λ l. l ∷ []) (line_of-held (b ∷ line))
+
+last_lines-map : (line : List ℕ) → map line_of (cond (is_empty line) [] (line ∷ [])) ≡ last_lines line
+last_lines-map [] = refl
+last_lines-map (b ∷ line) = refl
+
+run_ended : (bytes line : List ℕ) → line ≡ held (open_line bytes) → list_any is_stop (meanings bytes) ≡ false
+    → lines_to_run bytes ≡ meanings bytes ++ last_lines line
+run_ended bytes line is none =
+    let last : map line_of (cond (is_empty (open_line bytes)) [] (open_line bytes ∷ [])) ≡ last_lines line =
+    last_lines-map (open_line bytes) ∙ sym (last_lines-held (open_line bytes)) ∙ ap last_lines (sym is) in
+    ap up_to_stop (map-append line_of (whole_lines bytes) (cond (is_empty (open_line bytes)) [] (open_line bytes ∷ [])) ∙ ap (λ l. meanings bytes ++ l) last)
+    ∙ up_to_stop-append (meanings bytes) (last_lines line) none ∙ ap (λ l. meanings bytes ++ l) (up_to_stop-last_lines line)
+
+-- what is known of a script whose taken part is known
+known : (P : List ℕ → Type 0) (bytes : List ℕ) (script rest : Option (List ℕ)) → script ≡ prepend_known bytes rest
+    → ((more : List ℕ) → rest ≡ Some more → P (bytes ++ more)) → IfSome script P
+known P bytes script None e h = subst (λ o. IfSome o P) (sym e) tt
+known P bytes script (Some more) e h = subst (λ o. IfSome o P) (sym e) (h more refl)
+
+end_is : (rest : Option (List ℕ)) → IsAtEnd rest → (more : List ℕ) → rest ≡ Some more → more ≡ []
+end_is None h more e = cc
+end_is (Some xs) h more e = let same : xs ≡ more = cc in sym same ∙ h
+
+-- ---- takes
+
+-- as many takes gave nothing, where that is told
+abbrev pub IdleAlike : Option Takes → Option Takes → Type 0
+IdleAlike None None = Unit {0}
+IdleAlike None (Some now) = ⊥
+IdleAlike (Some before) None = ⊥
+IdleAlike (Some before) (Some now) = now.idle ≡ before.idle
+
+pub idle_alike : (t : Option Takes) → IdleAlike t t
+idle_alike None = tt
+idle_alike (Some t) = refl
+
+idle_by : (given : List ℕ) (t : Takes) (b : Bool) → nat_eq (length given) 0 ≡ b → (takes_after given t).idle ≡ cond b (next_count t.idle) t.idle
+idle_by given t b e = ap (λ c. cond c (next_count t.idle) t.idle) e
+
+ne_zero : (given : List ℕ) → 0 < length given → nat_eq (length given) 0 ≡ false
+ne_zero given some = ne_eqb (length given) 0 (λ e. omega (arith, e, some))
+
+pub idle_more : (before at : Option Takes) (given : List ℕ) → IdleAlike before at → 0 < length given → IdleAlike before (option_map (takes_after given) at)
+idle_more None None given h some = tt
+idle_more None (Some t) given h some = h
+idle_more (Some b) None given h some = h
+idle_more (Some b) (Some t) given h some = idle_by given t false (ne_zero given some) ∙ h
+
+took : (before t : Takes) (bytes given rest : List ℕ) (b : Bool) → nat_eq (length given) 0 ≡ b → list_any is_stop (meanings bytes) ≡ false
+    → length given ≤ piece_limit → t.idle ≡ before.idle → TookLast (bytes ++ (given ++ rest)) rest before (takes_after given t)
+took before t bytes given rest true e none short idle = record {
+  front = bytes;
+  script_is = refl;
+  no_stop = none;
+  short = short;
+  idle = inr (nil_from_length given (eqb-true (length given) 0 e), idle_by given t true e ∙ ap next_count idle);
+}
+took before t bytes given rest false e none short idle = record {
+  front = bytes;
+  script_is = refl;
+  no_stop = none;
+  short = short;
+  idle = inl (idle_by given t false e ∙ idle);
+}
+
+-- a last take, which gave these bytes
+pub takes_no_more : (script mid rest : Option (List ℕ)) (before at now : Option Takes) (bytes given : List ℕ)
+    → script ≡ prepend_known bytes mid → mid ≡ prepend_known given rest → list_any is_stop (meanings bytes) ≡ false → length given ≤ piece_limit
+    → IdleAlike before at → now ≡ option_map (takes_after given) at → TakesNoMore script rest before now
+takes_no_more script mid rest before at now bytes given first second none short idle told =
+    subst (λ n. TakesNoMore script rest before n) (sym told)
+    (subst (λ s. TakesNoMore s rest before (option_map (takes_after given) at)) (sym (first ∙ ap (prepend_known bytes) second)) (by rest before at idle))
+  where
+    by : (r : Option (List ℕ)) (b a : Option Takes) → IdleAlike b a
+        → TakesNoMore (prepend_known bytes (prepend_known given r)) r b (option_map (takes_after given) a)
+    by None b a h = tt
+    by (Some more) None a h = tt
+    by (Some more) (Some b) None h = h
+    by (Some more) (Some b) (Some t) h = inr (took b t bytes given more (nat_eq (length given) 0) refl none short h)
+
+-- ---- where a session stands
+
+-- what was taken of a script, whose complete lines were executed, none of them a `stop`, and what of the next one is held
+pub record Stands (first now : State → Type 0) (line : List ℕ) (taken : ℕ) (script rest old new : Option (List ℕ)) (before at : Option Takes) : Type 0 where
+  pub bytes : List ℕ
+  pub count : length bytes ≡ taken
+  pub few : taken ≤ script_limit
+  pub taken_is : script ≡ prepend_known bytes rest
+  pub no_stop : list_any is_stop (meanings bytes) ≡ false
+  pub line_is : line ≡ held (open_line bytes)
+  pub idle : IdleAlike before at
+  pub ran : (s : State) → first s → Executes s (meanings bytes) now old new
+
+-- nothing was taken yet
+pub stands_first : (first : State → Type 0) (line : List ℕ) (script w : Option (List ℕ)) (t : Option Takes) → line ≡ []
+    → Stands first first line 0 script script w w t t
+stands_first first line script w t none = record {
+  bytes = [];
+  count = refl;
+  few = omega arith;
+  taken_is = sym (prepend_known-nil script);
+  no_stop = refl;
+  line_is = none;
+  idle = idle_alike t;
+  ran = λ s h. executes_none s first w h;
+}
+
+held_twice : (bytes line : List ℕ) → line ≡ held (open_line bytes) → IsHeld line
+held_twice bytes line is =
+    ap (λ l. held (open_line l)) (sym (append-nil line)) ∙ held-more bytes [] line is ∙ ap (λ l. held (open_line l)) (append-nil bytes) ∙ sym is
+
+pub stands_held : {first now : State → Type 0} {line : List ℕ} {taken : ℕ} {script rest old new : Option (List ℕ)} {before at : Option Takes}
+    → Stands first now line taken script rest old new before at → IsHeld line
+stands_held {line = line} s = held_twice s.bytes line s.line_is
+
+-- a piece more
+pub stands_more : (first mid now : State → Type 0) (line line2 piece : List ℕ) (taken : ℕ) (script left rest a b c : Option (List ℕ)) (before at after : Option Takes)
+    → Stands first mid line taken script left a b before at → taken + length piece ≤ script_limit → left ≡ prepend_known piece rest → 0 < length piece
+    → after ≡ option_map (takes_after piece) at
+    → ((s : State) → mid s → Executes s (up_to_stop (meanings (line ++ piece))) now b c) → list_any is_stop (meanings (line ++ piece)) ≡ false
+    → line2 ≡ held (open_line (line ++ piece)) → Stands first now line2 (taken + length piece) script rest a c before after
+stands_more first mid now line line2 piece taken script left rest a b c before at after s fits got some told x none is =
+    let lines = meanings-more s.bytes piece line s.line_is in
+    record {
+      bytes = s.bytes ++ piece;
+      count = omega (arith, length-append s.bytes piece, s.count);
+      few = fits;
+      taken_is = s.taken_is ∙ ap (prepend_known s.bytes) got ∙ prepend_known-append s.bytes piece rest;
+      no_stop = ap (list_any is_stop) lines ∙ list_any-append is_stop (meanings s.bytes) (meanings (line ++ piece)) ∙ neither _ _ s.no_stop none;
+      line_is = is ∙ held-more s.bytes piece line s.line_is;
+      idle = subst (IdleAlike before) (sym told) (idle_more before at piece s.idle some);
+      ran = λ t h. executes_as t _ _ now a c (sym lines) (executes_more t (meanings s.bytes) (meanings (line ++ piece)) mid now a b c (s.ran t h)
+          (λ u k. executes_as u _ _ now b c (up_to_stop-none (meanings (line ++ piece)) none) (x u k)));
+    }
+
+-- ---- a session's ends without a fault
+
+all_run : (s : State) (lines : List LineMeaning) (at : State → Type 0) (taken : List ℕ) (script old new : Option (List ℕ)) → Executes s lines at old new
+    → lines ≡ lines_to_run taken → IfSome script (λ bytes. lines ≡ lines_to_run bytes) → length taken ≤ script_limit → RunsFrom None s at taken script old new
+all_run s lines at taken script old new x among all few = record {
+  entries = x.entries;
+  transcript = x.transcript;
+  among_taken = x.lines_are ∙ among;
+  among_script = by script all;
+  taken_at = few;
+  reached = x.reached;
+  replied = x.written;
+}
+  where
+    by : (o : Option (List ℕ)) → IfSome o (λ bytes. lines ≡ lines_to_run bytes) → IfSome o (λ bytes. executed x.entries ≡ lines_to_run bytes)
+    by None h = tt
+    by (Some bytes) h = x.lines_are ∙ h
+
+-- a `stop` ends the script
+pub session_stops : (first mid now : State → Type 0) (line piece : List ℕ) (taken : ℕ) (script left rest a b c : Option (List ℕ)) (before at : Option Takes)
+    → Stands first mid line taken script left a b before at → taken + length piece ≤ script_limit → left ≡ prepend_known piece rest
+    → ((s : State) → mid s → Executes s (up_to_stop (meanings (line ++ piece))) now b c) → list_any is_stop (meanings (line ++ piece)) ≡ true
+    → Session None first now script rest a c
+session_stops first mid now line piece taken script left rest a b c before at s fits got x some =
+    let is = s.taken_is ∙ ap (prepend_known s.bytes) got ∙ prepend_known-append s.bytes piece rest in
+    let lines : List LineMeaning = meanings s.bytes ++ up_to_stop (meanings (line ++ piece)) in
+    let all = λ (more : List ℕ). sym (run_stopped s.bytes piece line more s.line_is s.no_stop some) in
+    record {
+      taken = s.bytes ++ piece;
+      taken_is = is;
+      runs = λ t h. all_run t lines now (s.bytes ++ piece) script a c
+          (executes_more t (meanings s.bytes) (up_to_stop (meanings (line ++ piece))) mid now a b c (s.ran t h) x)
+          (all [] ∙ ap lines_to_run (append-nil (s.bytes ++ piece)))
+          (known (λ bytes. lines ≡ lines_to_run bytes) (s.bytes ++ piece) script rest is (λ more e. all more))
+          (omega (arith, length-append s.bytes piece, s.count));
+    }
+
+-- the script's end
+pub session_ends : (first mid now : State → Type 0) (line : List ℕ) (taken : ℕ) (script rest a b c : Option (List ℕ)) (before at : Option Takes)
+    → Stands first mid line taken script rest a b before at → IsAtEnd rest → ((s : State) → mid s → Executes s (last_lines line) now b c)
+    → Session None first now script rest a c
+session_ends first mid now line taken script rest a b c before at s end x =
+    let lines : List LineMeaning = meanings s.bytes ++ last_lines line in
+    let all : lines ≡ lines_to_run s.bytes = sym (run_ended s.bytes line s.line_is s.no_stop) in
+    record {
+      taken = s.bytes;
+      taken_is = s.taken_is;
+      runs = λ t h. all_run t lines now s.bytes script a c (executes_more t (meanings s.bytes) (last_lines line) mid now a b c (s.ran t h) x) all
+          (known (λ bytes. lines ≡ lines_to_run bytes) s.bytes script rest s.taken_is
+          (λ more e. all ∙ ap lines_to_run (sym (ap (λ l. s.bytes ++ l) (end_is rest end more e) ∙ append-nil s.bytes))))
+          (omega (arith, s.count, s.few));
+    }
+
+-- ---- a session's ends by a fault
+
+some-before : (xs ys : List ℕ) → is_empty xs ≡ false → is_empty (xs ++ ys) ≡ false
+some-before [] ys h = cc
+some-before (x ∷ xs) ys h = refl
+
+HasNext-front : (next : LineMeaning) (done lines all : List LineMeaning) → HasNext next done lines → IsFront lines all → HasNext next done all
+HasNext-front next done lines all h front = record {
+  rest = h.rest ++ front.0;
+  lines_are = front.1 ∙ ap (λ l. l ++ front.0) h.lines_are ∙ append_assoc done (next ∷ h.rest) front.0;
+}
+
+HasNext-append : (next : LineMeaning) (xs done lines : List LineMeaning) → HasNext next done lines → HasNext next (xs ++ done) (xs ++ lines)
+HasNext-append next xs done lines h = record {
+  rest = h.rest;
+  lines_are = ap (λ l. xs ++ l) h.lines_are ∙ sym (append_assoc xs done (next ∷ h.rest));
+}
+
+cut_more : (xs ys : List Entry) (a b c : Option (List ℕ)) → b ≡ append_known a (text xs) → IsCutShort ys b c → IsCutShort (xs ++ ys) a c
+cut_more xs ys a b c first cut = record {
+  front = xs ++ cut.front;
+  last = cut.last;
+  entries_are = ap (λ l. xs ++ l) cut.entries_are ∙ sym (append_assoc xs cut.front (cut.last ∷ []));
+  part = subst (λ w. WrotePart (line_reply_line cut.last.said) w c) (text-twice xs cut.front a b (append_known b (text cut.front)) first refl) cut.part;
+}
+
+-- some lines, and then a fault within a piece
+broken : (e : Fault) (s : State) (mid now : State → Type 0) (bytes line piece : List ℕ) (script rest a b c : Option (List ℕ))
+    → line ≡ held (open_line bytes) → list_any is_stop (meanings bytes) ≡ false → script ≡ prepend_known (bytes ++ piece) rest → length (bytes ++ piece) ≤ script_limit
+    → (x : Executes s (meanings bytes) mid a b) → BreaksOff e (state_after s x.entries) line piece now b c → RunsFrom (Some e) s now (bytes ++ piece) script a c
+broken Device s mid now bytes line piece script rest a b c is none taken few x y = absurd y.halts
+broken Source s mid now bytes line piece script rest a b c is none taken few x y = absurd y.halts
+broken TooLong s mid now bytes line piece script rest a b c is none taken few x y = absurd y.halts
+broken Memory s mid now bytes line piece script rest a b c is none taken few x y =
+    let all : List Entry = x.entries ++ y.entries in
+    let front : List ℕ = bytes ++ y.halts.front in
+    let lines_of_front : meanings front ≡ meanings bytes ++ meanings (line ++ y.halts.front) = meanings-more bytes y.halts.front line is in
+    let lines : executed all ≡ meanings front =
+    executed-append x.entries y.entries ∙ ap (λ l. l ++ executed y.entries) x.lines_are ∙ ap (λ l. meanings bytes ++ l) y.halts.lines_are ∙ sym lines_of_front in
+    let no_stop : list_any is_stop (meanings front) ≡ false =
+    ap (list_any is_stop) lines_of_front ∙ list_any-append is_stop (meanings bytes) (meanings (line ++ y.halts.front)) ∙ neither _ _ none y.halts.no_stop in
+    let joined : bytes ++ piece ≡ front ++ y.halts.rest = ap (λ l. bytes ++ l) y.halts.piece_is ∙ sym (append_assoc bytes y.halts.front y.halts.rest) in
+    record {
+      entries = all;
+      transcript = IsTranscript-append s x.entries y.entries x.transcript y.transcript;
+      among_taken = subst (λ bs. Among (Some Memory) s bs all) (sym joined) (inr (next_of_more front y.halts.rest all lines no_stop y.halts.some));
+      among_script = known (λ bs. Among (Some Memory) s bs all) (bytes ++ piece) script rest taken
+          (λ more _. subst (λ bs. Among (Some Memory) s bs all) (sym (ap (λ l. l ++ more) joined ∙ append_assoc front y.halts.rest more))
+          (inr (next_of_more front (y.halts.rest ++ more) all lines no_stop (some-before y.halts.rest more y.halts.some))));
+      taken_at = few;
+      reached = subst now (sym (state_after-append s x.entries y.entries)) y.reached;
+      replied = text-twice x.entries y.entries a b c x.written y.replied;
+    }
+broken (Worn which) s mid now bytes line piece script rest a b c is none taken few x y =
+    let all : List Entry = x.entries ++ y.entries in
+    let upto : List LineMeaning = meanings bytes ++ up_to_stop (meanings (line ++ piece)) in
+    let next : LineMeaning = y.halts.0 in
+    let done : executed all ≡ meanings bytes ++ executed y.entries = executed-append x.entries y.entries ∙ ap (λ l. l ++ executed y.entries) x.lines_are in
+    let has : HasNext next (executed all) upto = subst (λ d. HasNext next d upto) (sym done) (HasNext-append next (meanings bytes) (executed y.entries) (up_to_stop (meanings (line ++ piece))) y.halts.1) in
+    let worn : WornBy which (state_after s all) next = subst (λ t. WornBy which t next) (sym (state_after-append s x.entries y.entries)) y.halts.2 in
+    record {
+      entries = all;
+      transcript = IsTranscript-append s x.entries y.entries x.transcript y.transcript;
+      among_taken = subst (λ bs. Among (Some (Worn which)) s bs all) (append-nil (bytes ++ piece))
+          (next, HasNext-front next (executed all) upto (lines_to_run ((bytes ++ piece) ++ [])) has (fed_front bytes piece line [] is none), worn);
+      among_script = known (λ bs. Among (Some (Worn which)) s bs all) (bytes ++ piece) script rest taken
+          (λ more _. (next, HasNext-front next (executed all) upto (lines_to_run ((bytes ++ piece) ++ more)) has (fed_front bytes piece line more is none), worn));
+      taken_at = few;
+      reached = subst now (sym (state_after-append s x.entries y.entries)) y.reached;
+      replied = text-twice x.entries y.entries a b c x.written y.replied;
+    }
+broken Sink s mid now bytes line piece script rest a b c is none taken few x y =
+    let all : List Entry = x.entries ++ y.entries in
+    let upto : List LineMeaning = meanings bytes ++ up_to_stop (meanings (line ++ piece)) in
+    let done : executed all ≡ meanings bytes ++ executed y.entries = executed-append x.entries y.entries ∙ ap (λ l. l ++ executed y.entries) x.lines_are in
+    let front : IsFront (executed all) upto = subst (λ d. IsFront d upto) (sym done) (IsFront-append (meanings bytes) (executed y.entries) (up_to_stop (meanings (line ++ piece))) y.halts) in
+    record {
+      entries = all;
+      transcript = IsTranscript-append s x.entries y.entries x.transcript y.transcript;
+      among_taken = subst (λ bs. IsFront (executed all) (lines_to_run bs)) (append-nil (bytes ++ piece))
+          (IsFront-trans (executed all) upto (lines_to_run ((bytes ++ piece) ++ [])) front (fed_front bytes piece line [] is none));
+      among_script = known (λ bs. IsFront (executed all) (lines_to_run bs)) (bytes ++ piece) script rest taken
+          (λ more _. IsFront-trans (executed all) upto (lines_to_run ((bytes ++ piece) ++ more)) front (fed_front bytes piece line more is none));
+      taken_at = few;
+      reached = subst now (sym (state_after-append s x.entries y.entries)) y.reached;
+      replied = cut_more x.entries y.entries a b c x.written y.replied;
+    }
+
+-- a fault within a piece
+pub session_breaks : (e : Fault) (first mid now : State → Type 0) (line piece : List ℕ) (taken : ℕ) (script left rest a b c : Option (List ℕ)) (before at : Option Takes)
+    → Stands first mid line taken script left a b before at → taken + length piece ≤ script_limit → left ≡ prepend_known piece rest
+    → ((s : State) → mid s → BreaksOff e s line piece now b c) → Session (Some e) first now script rest a c
+session_breaks e first mid now line piece taken script left rest a b c before at s fits got fails =
+    let is = s.taken_is ∙ ap (prepend_known s.bytes) got ∙ prepend_known-append s.bytes piece rest in
+    record {
+      taken = s.bytes ++ piece;
+      taken_is = is;
+      runs = λ t h. broken e t mid now s.bytes line piece script rest a b c s.line_is s.no_stop is (omega (arith, length-append s.bytes piece, s.count)) (s.ran t h)
+          (fails (state_after t (s.ran t h).entries) (s.ran t h).reached);
+    }
+
+same_script : (P : List ℕ → Type 0) (script : Option (List ℕ)) (bytes : List ℕ) → IfSome script (λ bs. bs ≡ bytes) → P bytes → IfSome script P
+same_script P None bytes same h = tt
+same_script P (Some bs) bytes same h = subst P (sym same) h
+
+last_one : (line : List ℕ) → is_empty line ≡ false → last_lines line ≡ line_of line ∷ []
+last_one [] some = cc
+last_one (b ∷ line) some = refl
+
+-- a fault at the last line
+failed : (e : Fault) (s : State) (mid now : State → Type 0) (bytes line : List ℕ) (script a b c : Option (List ℕ))
+    → lines_to_run bytes ≡ meanings bytes ++ line_of line ∷ [] → IfSome script (λ bs. bs ≡ bytes) → length bytes ≤ script_limit
+    → (x : Executes s (meanings bytes) mid a b) → RunFails e (state_after s x.entries) (line_of line) now b c → RunsFrom (Some e) s now bytes script a c
+failed Device s mid now bytes line script a b c all same few x y = absurd y
+failed Source s mid now bytes line script a b c all same few x y = absurd y
+failed TooLong s mid now bytes line script a b c all same few x y = absurd y
+failed Memory s mid now bytes line script a b c all same few x y =
+    let among : Among (Some Memory) s bytes x.entries =
+    inr (line_of line, record { rest = []; lines_are = all ∙ ap (λ l. l ++ line_of line ∷ []) (sym x.lines_are) }) in
+    record {
+      entries = x.entries;
+      transcript = x.transcript;
+      among_taken = among;
+      among_script = same_script (λ bs. Among (Some Memory) s bs x.entries) script bytes same among;
+      taken_at = few;
+      reached = y.0;
+      replied = y.1 ∙ x.written;
+    }
+failed (Worn which) s mid now bytes line script a b c all same few x y =
+    let among : Among (Some (Worn which)) s bytes x.entries =
+    (line_of line, record { rest = []; lines_are = all ∙ ap (λ l. l ++ line_of line ∷ []) (sym x.lines_are) }, y.2) in
+    record {
+      entries = x.entries;
+      transcript = x.transcript;
+      among_taken = among;
+      among_script = same_script (λ bs. Among (Some (Worn which)) s bs x.entries) script bytes same among;
+      taken_at = few;
+      reached = y.0;
+      replied = y.1 ∙ x.written;
+    }
+failed Sink s mid now bytes line script a b c all same few x y =
+    let last : Entry = record { line = line_of line; said = y.said; state = y.replies.after } in
+    let es : List Entry = x.entries ++ last ∷ [] in
+    let among : IsFront (executed es) (lines_to_run bytes) =
+    ([], all ∙ sym (append-nil (meanings bytes ++ line_of line ∷ [])) ∙ ap (λ l. l ++ []) (ap (λ l. l ++ line_of line ∷ []) (sym x.lines_are) ∙ sym (executed-append x.entries (last ∷ [])))) in
+    record {
+      entries = es;
+      transcript = IsTranscript-append s x.entries (last ∷ []) x.transcript (y.replies.follows, tt);
+      among_taken = among;
+      among_script = same_script (λ bs. IsFront (executed es) (lines_to_run bs)) script bytes same among;
+      taken_at = few;
+      reached = subst now (sym (state_after-append s x.entries (last ∷ []))) y.replies.reached;
+      replied = record { front = x.entries; last = last; entries_are = refl; part = subst (λ w. WrotePart (line_reply_line y.said) w c) x.written y.part };
+    }
+
+pub session_fails : (e : Fault) (first mid now : State → Type 0) (line : List ℕ) (taken : ℕ) (script rest a b c : Option (List ℕ)) (before at : Option Takes)
+    → Stands first mid line taken script rest a b before at → IsAtEnd rest → is_empty line ≡ false
+    → ((s : State) → mid s → RunFails e s (line_of line) now b c) → Session (Some e) first now script rest a c
+session_fails e first mid now line taken script rest a b c before at s end some fails = record {
+  taken = s.bytes;
+  taken_is = s.taken_is;
+  runs = λ t h. failed e t mid now s.bytes line script a b c
+      (run_ended s.bytes line s.line_is s.no_stop ∙ ap (λ l. meanings s.bytes ++ l) (last_one line some))
+      (known (λ bs. bs ≡ s.bytes) s.bytes script rest s.taken_is (λ more e. ap (λ l. s.bytes ++ l) (end_is rest end more e) ∙ append-nil s.bytes))
+      (omega (arith, s.count, s.few)) (s.ran t h) (fails (state_after t (s.ran t h).entries) (s.ran t h).reached);
+}
+
+complete_front : (bytes more : List ℕ) → list_any is_stop (meanings bytes) ≡ false → IsFront (meanings bytes) (lines_to_run (bytes ++ more))
+complete_front bytes more none = (lines_to_run (open_line bytes ++ more), run_front bytes more none)
+
+-- the source's fault
+pub session_source : (first now : State → Type 0) (line : List ℕ) (taken : ℕ) (script rest a b : Option (List ℕ)) (before at : Option Takes)
+    → Stands first now line taken script rest a b before at → Session (Some Source) first now script rest a b
+session_source first now line taken script rest a b before at s = record {
+  taken = s.bytes;
+  taken_is = s.taken_is;
+  runs = λ t h. let x = s.ran t h in
+      let front = λ (more : List ℕ). subst (λ l. IsFront l (lines_to_run (s.bytes ++ more))) (sym x.lines_are) (complete_front s.bytes more s.no_stop) in
+      record {
+        entries = x.entries;
+        transcript = x.transcript;
+        among_taken = subst (λ bs. IsFront (executed x.entries) (lines_to_run bs)) (append-nil s.bytes) (front []);
+        among_script = known (λ bs. IsFront (executed x.entries) (lines_to_run bs)) s.bytes script rest s.taken_is (λ more _. front more);
+        taken_at = (omega (arith, s.count, s.few), record { lines_are = x.lines_are; no_stop = ap (list_any is_stop) x.lines_are ∙ s.no_stop });
+        reached = x.reached;
+        replied = x.written;
+      };
+}
+
+-- a byte past the limit
+pub session_too_long : (first now : State → Type 0) (line piece : List ℕ) (taken : ℕ) (script left rest a b : Option (List ℕ)) (before at : Option Takes)
+    → Stands first now line taken script left a b before at → taken ≡ script_limit → left ≡ prepend_known piece rest → length piece ≡ 1
+    → Session (Some TooLong) first now script rest a b
+session_too_long first now line piece taken script left rest a b before at s full got one =
+    let is = s.taken_is ∙ ap (prepend_known s.bytes) got ∙ prepend_known-append s.bytes piece rest in
+    let cut : take script_limit (s.bytes ++ piece) ≡ s.bytes = ap (λ n. take n (s.bytes ++ piece)) (sym (s.count ∙ full)) ∙ take-append_seam s.bytes piece in
+    record {
+      taken = s.bytes ++ piece;
+      taken_is = is;
+      runs = λ t h. let x = s.ran t h in
+          let front = λ (more : List ℕ). subst (λ l. IsFront l (lines_to_run (s.bytes ++ more))) (sym x.lines_are) (complete_front s.bytes more s.no_stop) in
+          record {
+            entries = x.entries;
+            transcript = x.transcript;
+            among_taken = front piece;
+            among_script = known (λ bs. IsFront (executed x.entries) (lines_to_run bs)) (s.bytes ++ piece) script rest is
+                (λ more _. subst (λ bs. IsFront (executed x.entries) (lines_to_run bs)) (sym (append_assoc s.bytes piece more)) (front (piece ++ more)));
+            taken_at = (
+              omega (arith, length-append s.bytes piece, s.count, full, one),
+              record { lines_are = x.lines_are ∙ ap meanings (sym cut); no_stop = ap (list_any is_stop) x.lines_are ∙ s.no_stop },
+            );
+            reached = x.reached;
+            replied = x.written;
+          };
+    }
