@@ -1,12 +1,14 @@
 -- How the lines of a script are executed, piece by piece.
 use Rattle.std.proofs.Common.{◌≡◌, ℕ, ◌+◌, ◌<◌, ◌≤◌, Bool, true, false, cond, List, [], ◌∷◌, ◌++◌, length, take, get_or, refl, sym, ap, subst, ◌∙◌, append_assoc, arith, length-append, nat_eq, inl, inr}
-use Rattle.std.specs.Prelude.{map, IfSome, ◌||◌}
+use Rattle.std.specs.Prelude.{map, IfSome, IfErr, OnOk, OnErr, ◌||◌}
+use Rattle.std.specs.declared.result.Result.{Result}
+use Rattle.std.specs.declared.result.Result.TheVariants.{Ok, Err}
 use Rattle.std.specs.declared.option.Option.{Option}
 use Rattle.std.specs.declared.option.Option.TheVariants.{None, Some}
 use Rattle.std.specs.List.{list_any, onto_first}
 use Rattle.std.specs.Io.KnownBytes.{append_known, prepend_known, IsAtEnd}
 use Rattle.std.specs.Option.{option_map}
-use Rattle.std.proofs.lemmas.List.{map-append, append-nil, take_more, nil_from_length}
+use Rattle.std.proofs.lemmas.List.{map-append, append-nil, nil_from_length, length-take-le}
 use Rattle.std.proofs.lemmas.List.Folds.{list_any-append}
 use Rattle.std.proofs.lemmas.Bool.{eqb-true, ne_eqb}
 use Rattle.std.proofs.Math.Seq.{take-append_seam}
@@ -20,9 +22,11 @@ use Rattle.bd_script.proofs.CutLines.{some_pieces, whole_lines-more, open_line-m
 use Rattle.betr.specs.declared.fault.Fault.{Fault}
 use Rattle.betr.specs.declared.fault.Fault.TheVariants.{Device, Source, Memory, TooLong, Worn, Sink}
 use Rattle.betr.specs.Transcript.{State, Entry, IsTranscript, text, executed, state_after, meanings, lines_to_run, IsFront}
-use Rattle.betr.specs.Session.{Executes, HasNext, Among, AllComplete, TakenAt, Replied, IsCutShort, WornBy, RunsFrom, Session}
+use Rattle.betr.specs.Session.{end_of, Executes, HasNext, Among, AllComplete, TakenAt, Replied, IsCutShort, WornBy, RunsFrom, Session}
 use Rattle.betr.specs.Shell.{last_lines, IsHeld, RunFails, BreaksOff, HasMore}
-use Rattle.betr.specs.Taken.{TakesNoMore, TookLast}
+use Rattle.betr.specs.declared.session.Taken.{Taken}
+use Rattle.betr.specs.declared.session.Taken.TheVariants as source_gave
+use Rattle.betr.specs.Taken.{IsTaken, taken_by, TakesNoMore, TookLast}
 use Rattle.betr.proofs.Transcripts.{up_to_stop-none, up_to_stop-stopped, up_to_stop-append, up_to_stop-one, up_to_stop_front, IsFront-append, IsFront-trans, IsTranscript-append, state_after-append, executed-append}
 use Rattle.betr.proofs.Executes.{executes_none, executes_more, executes_as, text-twice}
 use Rattle.betr.proofs.Feeding.{either, neither}
@@ -532,3 +536,48 @@ session_too_long first now line piece taken script left rest a b before at s ful
             replied = x.written;
           };
     }
+
+-- what is said of either end of a call, of its end
+pub ends_by : {T : Type 0} (P : Option Fault → Type 0) (A S : Type 0) (B : Fault → Type 0) (r : Result T Fault) → OnOk r A → IfErr r B → OnErr r S
+    → (A → P None) → ((e : Fault) → B e → S → P (Some e)) → P (end_of r)
+ends_by P A S B (Ok x) ok err some f g = f ok
+ends_by P A S B (Err e) ok err some f g = g e err some
+
+-- a piece that a source gave, within the limits
+pub record Gave (taken size : ℕ) (place : List ℕ) (old new : Option (List ℕ)) (before after : Option Takes) : Type 0 where
+  pub long : length (take size place) ≡ size
+  pub fits : taken + length (take size place) ≤ script_limit
+  pub got : old ≡ prepend_known (take size place) new
+  pub some : 0 < length (take size place)
+  pub short : length (take size place) ≤ piece_limit
+  pub told : after ≡ option_map (takes_after (take size place)) before
+
+pub gave : (t : Taken) (taken size : ℕ) (place : List ℕ) (old new : Option (List ℕ)) (before after : Option Takes) → t ≡ source_gave.Piece size → length place ≡ 4096
+    → IsTaken t taken place old new → after ≡ option_map (takes_after (taken_by (Ok t) place)) before → Gave taken size place old new before after
+gave t taken size place old new before after is array h told =
+    let got : IsTaken (source_gave.Piece size) taken place old new = subst (λ t. IsTaken t taken place old new) is h in
+    let long : length (take size place) ≡ size = length-take-le size place (omega (arith, got.1, array)) in
+    record {
+      long = long;
+      fits = omega (arith, got.2, long);
+      got = got.3;
+      some = omega (arith, got.0, long);
+      short = omega (arith, got.1, long);
+      told = told ∙ ap (λ t. option_map (takes_after (taken_by (Ok t) place)) before) is;
+    }
+
+-- the byte past the limit
+pub gave_more : (t : Taken) (taken : ℕ) (place : List ℕ) (old new : Option (List ℕ)) (before after : Option Takes) → t ≡ source_gave.TooLong → length place ≡ 4096
+    → IsTaken t taken place old new → after ≡ option_map (takes_after (taken_by (Ok t) place)) before
+    → (taken ≡ script_limit) × (old ≡ prepend_known (take 1 place) new) × (length (take 1 place) ≡ 1) × (after ≡ option_map (takes_after (take 1 place)) before)
+gave_more t taken place old new before after is array h told =
+    let got : IsTaken source_gave.TooLong taken place old new = subst (λ t. IsTaken t taken place old new) is h in
+    (got.0, got.1, length-take-le 1 place (omega (arith, array)), told ∙ ap (λ t. option_map (takes_after (taken_by (Ok t) place)) before) is)
+
+-- the end
+pub gave_end : (t : Taken) (taken : ℕ) (place : List ℕ) (old new : Option (List ℕ)) (before after : Option Takes) → t ≡ source_gave.End
+    → IsTaken t taken place old new → after ≡ option_map (takes_after (taken_by (Ok t) place)) before
+    → IsAtEnd old × (new ≡ old) × (after ≡ option_map (takes_after []) before)
+gave_end t taken place old new before after is h told =
+    let got : IsTaken source_gave.End taken place old new = subst (λ t. IsTaken t taken place old new) is h in
+    (got.0, got.1, told ∙ ap (λ t. option_map (takes_after (taken_by (Ok t) place)) before) is)
