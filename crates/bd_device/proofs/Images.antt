@@ -1,6 +1,7 @@
 -- Writes to the blocks of an image, of which only the first are attached.
-use Rattle.std.proofs.Common.{◌≡◌, ℕ, ◌<◌, ◌≤◌, List, [], Bool, true, false, if◌then◌else◌, Some, length, take, sym, ap, arith, All, slice_set, slice_index_or, Result, Ok, Err, OnErr}
-use Rattle.std.proofs.lemmas.List.{set-get_or, length-take-le}
+use Rattle.std.proofs.Common.{◌≡◌, ℕ, ◌<◌, ◌≤◌, List, [], Bool, true, false, if◌then◌else◌, Some, length, take, sym, ap, arith, All, slice_set, slice_index, slice_index_or, replicate, Result, Ok, Err, OnErr}
+use Rattle.std.proofs.lemmas.List.{set-get_or, length-take-le, length-replicate, get_or-replicate, get_or_past}
+use Rattle.std.proofs.lemmas.Grind.{common_steps}
 use Rattle.std.proofs.lemmas.List.Elements.{All-take}
 use Rattle.std.proofs.Math.Seq.{take-set-lt}
 use Rattle.bd_device.specs.Blocks.{Image, IsBlock, ChangesOnly}
@@ -27,3 +28,11 @@ ChangesOnly-attached true size b blocks lt fits whole =
 pub OnErr-always : {T E P : Type 0} (r : Result T E) → P → OnErr r P
 OnErr-always (Ok x) p = tt
 OnErr-always (Err e) p = p
+
+-- each index of zeroes has a zero
+pub zero_byte : (n i : ℕ) → slice_index (replicate n 0) i ≡ 0
+zero_byte n i = grind (arith, common_steps, get_or-replicate, get_or_past)
+
+-- a block of zero bytes
+pub IsBlock-zero : IsBlock (replicate 4096 0)
+IsBlock-zero = (length-replicate {A = ℕ} 4096 0, λ i. omega (arith, zero_byte 4096 i))

@@ -1,5 +1,5 @@
--- What the blocks of a device hold, where that is told.
-use Rattle.std.specs.Prelude.{◌≡◌, ℕ, List, Option, All, length, slice_set}
+-- What the blocks of a device hold, where that is known.
+use Rattle.std.specs.Prelude.{◌≡◌, ℕ, ◌^◌, ◌<◌, List, Option, All, length, slice_index, slice_set}
 use Rattle.std.specs.Option.{option_map}
 
 -- the bytes of each block of an image
@@ -8,14 +8,14 @@ Image = List (List ℕ)
 
 -- a block has 4,096 bytes
 abbrev pub IsBlock : List ℕ → Type 0
-IsBlock bytes = length bytes ≡ 4096
+IsBlock bytes = (length bytes ≡ 4096) × ((i : ℕ) → slice_index bytes i < 2 ^ 8)
 
 -- an image of this many whole blocks
 pub record HasBlocks (count : ℕ) (image : Image) : Type 0 where
   pub count_is : length image ≡ count
   pub whole : All IsBlock image
 
--- the told contents with one block replaced
+-- the known contents with one block replaced
 abbrev pub with_block : ℕ → List ℕ → Option Image → Option Image
 with_block b bytes contents = option_map (λ image. slice_set image b bytes) contents
 

@@ -1,11 +1,13 @@
 -- A device in memory, as its callers see it.
-use Rattle.std.specs.Prelude.{◌≡◌, ℕ, Bool, ◌||◌, nat_lt, nat_le, if◌then◌else◌, List, [], Option, length, take, unwrap_or, slice_index, EachIndex}
+use Rattle.std.specs.Prelude.{◌≡◌, ℕ, Bool, ◌||◌, nat_lt, nat_le, IsTrue, if◌then◌else◌, List, [], Option, Some, length, take, unwrap_or, slice_index, EachIndex}
+use Rattle.std.proofs.Common.{ap, sym}
 use Rattle.bd_io.specs.Plan.{PlannedCalls, next_fails}
 use Rattle.bd_device.specs.Blocks.{Image}
 use Rattle.bd_device.specs.declared.write_record.WriteRecord.{WriteRecord}
 
--- all blocks that it was made with, how many of them its image has, whether the image is attached, the writes that were done,
--- how many there is room for in all, the calls, and how many writes and barriers failed
+-- all blocks that it was made with, how many of them its image has, whether the image is attached,
+-- the writes that were done, how many there is room for in all, the calls, and how many writes and
+-- barriers failed
 pub record MemoryDevice : Type 0 where
   pub blocks : Image
   pub size : ℕ
@@ -22,6 +24,11 @@ held_image d = take d.size d.blocks
 -- the image that reads give
 abbrev pub attached_image : MemoryDevice → Image
 attached_image d = if d.attached then held_image d else []
+
+-- while it is attached, reads give all that it holds
+pub held-attached : (d : MemoryDevice) → IsTrue d.attached
+    → Some (held_image d) ≡ Some (attached_image d)
+held-attached d on = ap (λ b. Some (if b then held_image d else [])) (sym on)
 
 -- how many blocks it has
 abbrev pub attached_size : MemoryDevice → ℕ

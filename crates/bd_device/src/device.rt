@@ -13,7 +13,7 @@ pub trait Device {
     /// How many blocks it has.
     ghost block_count: { Self → ℕ };
 
-    /// What a read of each block gives, where that is told.
+    /// What a read of each block gives, where that is known.
     ghost contents: { Self → Option Image };
 
     /// How often it has failed.
@@ -24,6 +24,9 @@ pub trait Device {
 
     /// How many reads, writes, barriers and attaches there were, also those that failed.
     ghost call_count: { Self → ℕ };
+
+    /// The image that is attached goes by this name.
+    ghost is_named: { Self → List ℕ → Type 0 } = { λ _ _. ⊥ };
 
     /// The loans through which calls reach the device, the outermost first: none for the device
     /// itself.
@@ -41,25 +44,30 @@ pub trait Device {
     /// or stands at its last value; `into` then holds any bytes.
     fn read(&mut self, b: u64, into: &mut [u8; BLOCK_SIZE]) -> Result<(), Failed>
         requires { b < block_count self.old }
-        ensures bytes { OnOk result (IfSome (contents self.old) (λ image. slice_get image b ≡ Some into.new)) }
+        ensures bytes { OnOk result
+            (IfSome (contents self.old) (λ image. slice_get image b ≡ Some into.new)) }
         ensures kept { contents self.new ≡ contents self.old }
         ensures count { block_count self.new ≡ block_count self.old }
         ensures cause { HasCause (fault_count self.old) (fault_count self.new) result }
         ensures write_faults { write_fault_count self.new ≡ write_fault_count self.old }
         ensures calls { IsCounted (call_count self.old) (call_count self.new) result }
+        ensures same_name { (name : List ℕ) → is_named self.old name → is_named self.new name }
         ensures same_loans { loans self.new ≡ loans self.old };
 
     /// Writes block `b`. `Failed` comes as of `read`; block `b` then holds any bytes, and the
     /// others stay.
     fn write(&mut self, b: u64, from: &[u8; BLOCK_SIZE]) -> Result<(), Failed>
         requires { b < block_count self.old }
-        ensures written { OnOk result (contents self.new ≡ with_block b from.now (contents self.old)) }
+        ensures written { OnOk result
+            (contents self.new ≡ with_block b from.now (contents self.old)) }
         ensures others { OnErr result (ChangesOnly b (contents self.old) (contents self.new)) }
         ensures shape { IfSome (contents self.new) (HasBlocks (block_count self.new)) }
         ensures count { block_count self.new ≡ block_count self.old }
         ensures cause { HasCause (fault_count self.old) (fault_count self.new) result }
-        ensures write_faults { write_fault_count self.new ≡ write_faults_after (write_fault_count self.old) result }
+        ensures write_faults { write_fault_count self.new
+            ≡ write_faults_after (write_fault_count self.old) result }
         ensures calls { IsCounted (call_count self.old) (call_count self.new) result }
+        ensures same_name { (name : List ℕ) → is_named self.old name → is_named self.new name }
         ensures same_loans { loans self.new ≡ loans self.old };
 
     /// Waits until all that was written is kept. `Failed` comes as of `read`.
@@ -67,8 +75,10 @@ pub trait Device {
         ensures kept { contents self.new ≡ contents self.old }
         ensures count { block_count self.new ≡ block_count self.old }
         ensures cause { HasCause (fault_count self.old) (fault_count self.new) result }
-        ensures write_faults { write_fault_count self.new ≡ write_faults_after (write_fault_count self.old) result }
+        ensures write_faults { write_fault_count self.new
+            ≡ write_faults_after (write_fault_count self.old) result }
         ensures calls { IsCounted (call_count self.old) (call_count self.new) result }
+        ensures same_name { (name : List ℕ) → is_named self.old name → is_named self.new name }
         ensures same_loans { loans self.new ≡ loans self.old };
 
     /// How often it has failed.
@@ -86,7 +96,7 @@ pub trait Device {
 
 /// A device whose image has a name and is found by it.
 pub trait Attach: Device {
-    /// What it shows for a name, where that is told: what reads give once an attach of it with
+    /// What it shows for a name, where that is known: what reads give once an attach of it with
     /// `None` is done.
     ghost shows: { Self → List ℕ → Option Image };
 
@@ -97,10 +107,12 @@ pub trait Attach: Device {
     /// call or stands at its last value. The device then has 0 blocks, and with `None` the image
     /// behind it stays as it was.
     fn attach(&mut self, name: &str, create: Option<u64>) -> Result<(), Failed>
-        ensures shown { OnOk result (IfNone create (Self.contents self.new ≡ shows self.old name.now)) }
+        ensures shown { OnOk result (IfNone create
+            (Self.contents self.new ≡ shows self.old name.now)) }
         ensures made { OnOk result (IfSome create (λ n. Self.block_count self.new ≡ n)) }
         ensures told { OnOk result (IfSome create
             (λ _. is_some (Self.contents self.new) ≡ is_some (Self.contents self.old))) }
+        ensures named { OnOk result (Self.is_named self.new name.now) }
         ensures detached { OnErr result (Self.block_count self.new ≡ 0) }
         ensures behind { OnErr result (IfNone create
             ((other : List ℕ) → shows self.new other ≡ shows self.old other)) }
@@ -109,6 +121,10 @@ pub trait Attach: Device {
         ensures write_faults { Self.write_fault_count self.new ≡ Self.write_fault_count self.old }
         ensures calls { IsCounted (Self.call_count self.old) (Self.call_count self.new) result }
         ensures same_loans { Self.loans self.new ≡ Self.loans self.old };
+
+    /// What it shows for the name of what is attached is what reads give.
+    ghost shows_named: { (d : Self) (name : List ℕ) → Self.is_named d name
+        → shows d name ≡ Self.contents d };
 }
 
 impl<D: Device> Device for &mut D {
@@ -121,6 +137,8 @@ impl<D: Device> Device for &mut D {
     ghost write_fault_count = { λ d. D.write_fault_count d.now };
 
     ghost call_count = { λ d. D.call_count d.now };
+
+    ghost is_named = { λ d name. D.is_named d.now name };
 
     ghost loans = { λ d. d.ghost_name ∷ D.loans d.now };
 
@@ -155,6 +173,8 @@ impl<D: Device> Device for &mut D {
 
 impl<D: Attach> Attach for &mut D {
     ghost shows = { λ d. D.shows d.now };
+
+    ghost shows_named = { λ d. D.shows_named d.now };
 
     fn attach(&mut self, name: &str, create: Option<u64>) -> Result<(), Failed> {
         Attach::attach(&mut **self, name, create)

@@ -1,5 +1,6 @@
 //! A device of blocks of 4,096 bytes: what a read gives, its counts, and one in memory.
-//! Layers above use the contracts of `Device` and `Attach`: told contents, and a cause for each fault.
+//! Layers above use the contracts of `Device` and `Attach`: contents where they are known, and a
+//! cause for each fault.
 #![tactic(auto)]
 
 mod device;

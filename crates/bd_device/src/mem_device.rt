@@ -1,17 +1,17 @@
-ghost use Rattle.std.specs.Prelude.{◌≡◌, ◌<◌, ◌≤◌, ◌||◌, ◌++◌, ◌∷◌, [], true, length, All, Some, IfOk, OnOk, OnErr, is_ok, is_err, if◌then◌else◌, unwrap_or, slice_get, slice_set};
+ghost use Rattle.std.specs.Prelude.{◌≡◌, ◌<◌, ◌≤◌, ◌||◌, ◌++◌, ◌∷◌, [], true, length, All, Some, IfOk, OnOk, OnErr, is_ok, is_err, IsTrue, if◌then◌else◌, unwrap_or, slice_get, slice_set};
 ghost use Rattle.bd_io.specs.Cause.{HasCause, IsCounted};
 ghost use Rattle.bd_io.specs.Plan.{planned, next_fails, calls_after};
 ghost use Rattle.bd_device.specs.Blocks.{HasBlocks, ChangesOnly};
 ghost use Rattle.bd_device.specs.Calls.{write_faults_after};
-ghost use Rattle.bd_device.specs.Memory.{held_image, attached_image, attached_size, write_fails, attach_fails, IsZero};
+ghost use Rattle.bd_device.specs.Memory.{held_image, held-attached, attached_image, attached_size, write_fails, attach_fails, IsZero};
 
 use crate::{Attach, BLOCK_SIZE, Device, WriteRecord};
 use bd_io::{CallPlan, Failed};
 use std::alloc::{AllocError, Global};
 use std::marker::Model;
 
-/// A device in memory, with a record of the writes that were done. It tells its contents, shows its
-/// one image for every name, and takes no memory after it is made. It fails at the listed calls, at
+/// A device in memory, with a record of the writes that were done. Its contents are known, it shows
+/// its one image for every name, and takes no memory after it is made. It fails at the listed calls, at
 /// a count of calls that stands at its last value, at an attach that asks for more blocks than it
 /// was made with and at a write past its number of writes, and nowhere else. A failed write changes
 /// no block.
@@ -128,6 +128,8 @@ impl Device for MemDevice {
 
     ghost call_count = { λ d. d.plan.calls };
 
+    ghost is_named = { λ d _. IsTrue d.attached };
+
     fn blocks(&self) -> u64 {
         if self.attached { self.size } else { 0 }
     }
@@ -136,6 +138,7 @@ impl Device for MemDevice {
         requires { b < attached_size self.old }
         ensures bytes { OnOk result (slice_get (attached_image self.old) b ≡ Some into.new) }
         ensures cause { HasCause self.old.plan.faults self.new.plan.faults result }
+        ensures calls { IsCounted self.old.plan.calls self.new.plan.calls result }
 
         // It fails exactly by its plan, and changes only its counts.
         ensures fails { is_err result ≡ next_fails self.old.plan }
@@ -148,18 +151,21 @@ impl Device for MemDevice {
 
     fn write(&mut self, b: u64, from: &[u8; BLOCK_SIZE]) -> Result<(), Failed>
         requires { b < attached_size self.old }
-        ensures written { OnOk result (attached_image self.new ≡ slice_set (attached_image self.old) b from.now) }
+        ensures written { OnOk result
+            (attached_image self.new ≡ slice_set (attached_image self.old) b from.now) }
         ensures others { OnErr result
             (ChangesOnly b (Some (attached_image self.old)) (Some (attached_image self.new))) }
         ensures shape { HasBlocks (attached_size self.new) (attached_image self.new) }
         ensures cause { HasCause self.old.plan.faults self.new.plan.faults result }
+        ensures calls { IsCounted self.old.plan.calls self.new.plan.calls result }
 
         // It fails exactly by its plan or for want of room, and then changes only its counts.
         ensures fails { is_err result ≡ write_fails self.old }
         ensures ok { OnOk result (self.new ≡ record self.old {
           plan = calls_after self.old.plan result;
           blocks = slice_set self.old.blocks b from.now;
-          writes = self.old.writes ++ record { call = self.new.plan.calls; block = b; bytes = from.now } ∷ [];
+          writes = self.old.writes
+              ++ record { call = self.new.plan.calls; block = b; bytes = from.now } ∷ [];
         }) }
         ensures err { OnErr result (self.new ≡ record self.old {
           plan = calls_after self.old.plan result;
@@ -181,6 +187,7 @@ impl Device for MemDevice {
 
     fn barrier(&mut self) -> Result<(), Failed>
         ensures cause { HasCause self.old.plan.faults self.new.plan.faults result }
+        ensures calls { IsCounted self.old.plan.calls self.new.plan.calls result }
 
         // It fails exactly by its plan, and changes only its counts.
         ensures fails { is_err result ≡ next_fails self.old.plan }
@@ -208,9 +215,12 @@ impl Device for MemDevice {
 impl Attach for MemDevice {
     ghost shows = { λ d _. Some (held_image d) };
 
+    ghost shows_named = { λ d _. held-attached d };
+
     fn attach(&mut self, _name: &str, create: Option<u64>) -> Result<(), Failed>
         ensures shape { HasBlocks (attached_size self.new) (attached_image self.new) }
         ensures cause { HasCause self.old.plan.faults self.new.plan.faults result }
+        ensures calls { IsCounted self.old.plan.calls self.new.plan.calls result }
 
         // It fails exactly by its plan or for want of blocks. No block changes.
         ensures fails { is_err result ≡ attach_fails self.old create }
