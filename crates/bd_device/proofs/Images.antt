@@ -5,6 +5,7 @@ use Rattle.std.proofs.lemmas.Grind.{common_steps}
 use Rattle.std.proofs.lemmas.List.Elements.{All-take}
 use Rattle.std.proofs.Math.Seq.{take-set-lt}
 use Rattle.bd_device.specs.Blocks.{Image, IsBlock, ChangesOnly}
+use Rattle.bd_device.specs.Memory.{MemoryDevice, attached_size}
 
 -- a write to an attached block is one to the attached image
 pub attached-set : (attached : Bool) (size b : ℕ) (blocks : Image) (bytes : List ℕ) → b < (if attached then size else 0)
@@ -36,3 +37,7 @@ zero_byte n i = grind (arith, common_steps, get_or-replicate, get_or_past)
 -- a block of zero bytes
 pub IsBlock-zero : IsBlock (replicate 4096 0)
 IsBlock-zero = (length-replicate {A = ℕ} 4096 0, λ i. omega (arith, zero_byte 4096 i))
+
+-- an attached block is one of the image
+pub attached_in_size : (d : MemoryDevice) (b : ℕ) → b < attached_size d → b < d.size
+attached_in_size d b lt = grind arith

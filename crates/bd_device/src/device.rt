@@ -1,7 +1,8 @@
-ghost use Rattle.std.specs.Prelude.{◌≡◌, ◌<◌, ℕ, List, Option, Some, IfSome, IfNone, is_some, [], ◌∷◌, OnOk, OnErr, slice_get};
+ghost use Rattle.std.specs.Prelude.{◌≡◌, ◌<◌, ℕ, List, Option, Some, IfSome, IfNone, is_some, [], ◌∷◌, OnOk, OnErr, slice_get, ◌≤◌, ◌↔◌};
 ghost use Rattle.bd_io.specs.Cause.{HasCause, IsCounted};
 ghost use Rattle.bd_device.specs.Blocks.{Image, HasBlocks, with_block, ChangesOnly};
 ghost use Rattle.bd_device.specs.Calls.{write_faults_after};
+ghost use Rattle.bd_device.specs.Moments.{Nothing, TornAt, Elapses, IsOnly};
 
 use bd_io::Failed;
 
@@ -25,6 +26,11 @@ pub trait Device {
     /// How many reads, writes, barriers and attaches there were, also those that failed.
     ghost call_count: { Self → ℕ };
 
+    /// A crash at some moment after the device's first `t` calls, also inside a later call, might
+    /// have left this image. So a crash now may leave what is left since the count of calls today.
+    /// Of a device whose contents aren't known nothing is said.
+    ghost left_since: { Self → ℕ → Image → Type 0 } = { λ _ _ _. ⊥ };
+
     /// The image that is attached goes by this name.
     ghost is_named: { Self → List ℕ → Type 0 } = { λ _ _. ⊥ };
 
@@ -32,13 +38,14 @@ pub trait Device {
     /// itself.
     ghost loans: { Self → List ℕ } = { λ _. [] };
 
-    // Two more meanings belong here, with clauses of `write`, `barrier` and `attach`: what a crash
-    // now may leave, and what a crash at some moment since a call might have left.
-
     /// How many blocks it has. Only an attach changes it.
     fn blocks(&self) -> u64
         ensures count { result ≡ block_count self.now }
-        ensures shape { IfSome (contents self.now) (HasBlocks (block_count self.now)) };
+        ensures shape { IfSome (contents self.now) (HasBlocks (block_count self.now)) }
+
+        // A crash may leave what reads give.
+        ensures may_stay { 0 < block_count self.now
+            → IfSome (contents self.now) (left_since self.now (call_count self.now)) };
 
     /// Reads block `b` into `into`. `Failed` comes only where the count of faults rose in this call
     /// or stands at its last value; `into` then holds any bytes.
@@ -51,11 +58,14 @@ pub trait Device {
         ensures cause { HasCause (fault_count self.old) (fault_count self.new) result }
         ensures write_faults { write_fault_count self.new ≡ write_fault_count self.old }
         ensures calls { IsCounted (call_count self.old) (call_count self.new) result }
+        ensures time { Elapses (call_count self.old) (call_count self.new)
+            (left_since self.old) (left_since self.new) Nothing }
         ensures same_name { (name : List ℕ) → is_named self.old name → is_named self.new name }
         ensures same_loans { loans self.new ≡ loans self.old };
 
     /// Writes block `b`. `Failed` comes as of `read`; block `b` then holds any bytes, and the
-    /// others stay.
+    /// others stay. Until a barrier succeeds a crash may leave any bytes in block `b`, also after
+    /// `Failed`.
     fn write(&mut self, b: u64, from: &[u8; BLOCK_SIZE]) -> Result<(), Failed>
         requires { b < block_count self.old }
         ensures written { OnOk result
@@ -67,10 +77,14 @@ pub trait Device {
         ensures write_faults { write_fault_count self.new
             ≡ write_faults_after (write_fault_count self.old) result }
         ensures calls { IsCounted (call_count self.old) (call_count self.new) result }
+        ensures time { Elapses (call_count self.old) (call_count self.new)
+            (left_since self.old) (left_since self.new)
+            (TornAt b (left_since self.old (call_count self.old))) }
         ensures same_name { (name : List ℕ) → is_named self.old name → is_named self.new name }
         ensures same_loans { loans self.new ≡ loans self.old };
 
-    /// Waits until all that was written is kept. `Failed` comes as of `read`.
+    /// Waits until all that was written is kept: then a crash leaves what reads give. `Failed`
+    /// comes as of `read`, and then a crash may leave what it might have left before.
     fn barrier(&mut self) -> Result<(), Failed>
         ensures kept { contents self.new ≡ contents self.old }
         ensures count { block_count self.new ≡ block_count self.old }
@@ -78,6 +92,10 @@ pub trait Device {
         ensures write_faults { write_fault_count self.new
             ≡ write_faults_after (write_fault_count self.old) result }
         ensures calls { IsCounted (call_count self.old) (call_count self.new) result }
+        ensures time { Elapses (call_count self.old) (call_count self.new)
+            (left_since self.old) (left_since self.new) Nothing }
+        ensures durable { OnOk result (0 < block_count self.old
+            → IsOnly (contents self.new) (left_since self.new (call_count self.new))) }
         ensures same_name { (name : List ℕ) → is_named self.old name → is_named self.new name }
         ensures same_loans { loans self.new ≡ loans self.old };
 
@@ -92,6 +110,10 @@ pub trait Device {
     /// How many reads, writes, barriers and attaches there were, also those that failed.
     fn calls(&self) -> u64
         ensures { result ≡ call_count self.now };
+
+    /// The moments since a call are among those since an earlier one.
+    ghost since_earlier: { (d : Self) (t u : ℕ) (c : Image) → t ≤ u
+        → left_since d u c → left_since d t c };
 }
 
 /// A device whose image has a name and is found by it.
@@ -100,12 +122,14 @@ pub trait Attach: Device {
     /// `None` is done.
     ghost shows: { Self → List ℕ → Option Image };
 
-    // What a crash may leave after a failed attach belongs here.
+    /// What a crash might have left of the image of a name, as `left_since` says it of what is
+    /// attached.
+    ghost left_behind: { Self → List ℕ → ℕ → Image → Type 0 } = { λ _ _ _ _. ⊥ };
 
     /// Takes the image of this name: the one that is there, or with `Some(n)` a new one of `n`
     /// blocks, which may hold any bytes. `Failed` comes only where the count of faults rose in this
-    /// call or stands at its last value. The device then has 0 blocks, and with `None` the image
-    /// behind it stays as it was.
+    /// call or stands at its last value. The device then has 0 blocks, and with `None` each image
+    /// stays as it was, for a crash and for the next attach.
     fn attach(&mut self, name: &str, create: Option<u64>) -> Result<(), Failed>
         ensures shown { OnOk result (IfNone create
             (Self.contents self.new ≡ shows self.old name.now)) }
@@ -116,6 +140,12 @@ pub trait Attach: Device {
         ensures detached { OnErr result (Self.block_count self.new ≡ 0) }
         ensures behind { OnErr result (IfNone create
             ((other : List ℕ) → shows self.new other ≡ shows self.old other)) }
+        ensures time { OnOk result (IfNone create
+            (Elapses (Self.call_count self.old) (Self.call_count self.new)
+            (left_behind self.old name.now) (Self.left_since self.new) Nothing)) }
+        ensures behind_time { OnErr result (IfNone create ((other : List ℕ)
+            → Elapses (Self.call_count self.old) (Self.call_count self.new)
+            (left_behind self.old other) (left_behind self.new other) Nothing)) }
         ensures shape { IfSome (Self.contents self.new) (HasBlocks (Self.block_count self.new)) }
         ensures cause { HasCause (Self.fault_count self.old) (Self.fault_count self.new) result }
         ensures write_faults { Self.write_fault_count self.new ≡ Self.write_fault_count self.old }
@@ -125,6 +155,11 @@ pub trait Attach: Device {
     /// What it shows for the name of what is attached is what reads give.
     ghost shows_named: { (d : Self) (name : List ℕ) → Self.is_named d name
         → shows d name ≡ Self.contents d };
+
+    /// What a crash might have left of the name of what is attached is what it might have left of
+    /// that.
+    ghost left_named: { (d : Self) (name : List ℕ) (t : ℕ) (c : Image) → Self.is_named d name
+        → left_behind d name t c ↔ Self.left_since d t c };
 }
 
 impl<D: Device> Device for &mut D {
@@ -137,6 +172,10 @@ impl<D: Device> Device for &mut D {
     ghost write_fault_count = { λ d. D.write_fault_count d.now };
 
     ghost call_count = { λ d. D.call_count d.now };
+
+    ghost left_since = { λ d. D.left_since d.now };
+
+    ghost since_earlier = { λ d. D.since_earlier d.now };
 
     ghost is_named = { λ d name. D.is_named d.now name };
 
@@ -174,7 +213,11 @@ impl<D: Device> Device for &mut D {
 impl<D: Attach> Attach for &mut D {
     ghost shows = { λ d. D.shows d.now };
 
+    ghost left_behind = { λ d. D.left_behind d.now };
+
     ghost shows_named = { λ d. D.shows_named d.now };
+
+    ghost left_named = { λ d. D.left_named d.now };
 
     fn attach(&mut self, name: &str, create: Option<u64>) -> Result<(), Failed> {
         Attach::attach(&mut **self, name, create)

@@ -1,20 +1,22 @@
-ghost use Rattle.std.specs.Prelude.{◌≡◌, ◌<◌, ◌≤◌, ◌||◌, ◌++◌, ◌∷◌, [], true, length, All, Some, IfOk, OnOk, OnErr, is_ok, is_err, IsTrue, if◌then◌else◌, unwrap_or, slice_get, slice_set};
+ghost use Rattle.std.specs.Prelude.{◌≡◌, ◌<◌, ◌≤◌, ◌||◌, ◌++◌, ◌∷◌, [], true, length, All, Some, IfOk, OnOk, OnErr, is_ok, is_err, IsTrue, ◌^◌, ◌-◌, ◌+◌, reverse, if◌then◌else◌, unwrap_or, slice_get, slice_set};
 ghost use Rattle.bd_io.specs.Cause.{HasCause, IsCounted};
 ghost use Rattle.bd_io.specs.Plan.{planned, next_fails, calls_after};
 ghost use Rattle.bd_device.specs.Blocks.{HasBlocks, ChangesOnly};
+ghost use Rattle.bd_device.specs.Moments.{Nothing, TornAt, Elapses, IsOnly};
 ghost use Rattle.bd_device.specs.Calls.{write_faults_after};
-ghost use Rattle.bd_device.specs.Memory.{held_image, held-attached, attached_image, attached_size, write_fails, attach_fails, IsZero};
+ghost use Rattle.bd_device.specs.Memory.{held_image, held-attached, attached_image, attached_size, write_fails, attach_fails, recorded, after_write, after_barrier, left_of, HasLeft-earlier, IsZero};
 
 use crate::{Attach, BLOCK_SIZE, Device, WriteRecord};
 use bd_io::{CallPlan, Failed};
 use std::alloc::{AllocError, Global};
 use std::marker::Model;
 
-/// A device in memory, with a record of the writes that were done. Its contents are known, it shows
-/// its one image for every name, and takes no memory after it is made. It fails at the listed calls, at
-/// a count of calls that stands at its last value, at an attach that asks for more blocks than it
-/// was made with and at a write past its number of writes, and nowhere else. A failed write changes
-/// no block.
+/// A device in memory, with a record of the writes. Its contents are known, and what a crash may
+/// leave; it shows its one image for every name, and takes no memory after it is made. It fails at
+/// the listed calls, at a count of calls that stands at its last value, at an attach that asks for
+/// more blocks than it was made with and at a write past its number of writes, and nowhere else. A
+/// failed write changes no block; until a barrier succeeds a crash may leave any bytes there, unless
+/// it failed without a record.
 #[derive(Drop)]
 pub struct MemDevice {
     blocks: Vec<[u8; BLOCK_SIZE]>,
@@ -22,15 +24,16 @@ pub struct MemDevice {
     attached: bool,
     writes: Vec<WriteRecord>,
     room: usize,
+    barrier: u64,
     plan: CallPlan,
     write_faults: u64,
 }
 
 impl Model for MemDevice {
-    ghost use Rattle.std.specs.Prelude.{◌≤◌, length, All};
+    ghost use Rattle.std.specs.Prelude.{◌≤◌, length, reverse, All};
     ghost use Rattle.std.specs.Vec.{vec_capacity};
     ghost use Rattle.bd_device.specs.Blocks.{IsBlock};
-    ghost use Rattle.bd_device.specs.Memory.{MemoryDevice};
+    ghost use Rattle.bd_device.specs.Memory.{MemoryDevice, IsPast};
 
     ghost Value = { MemoryDevice };
 
@@ -40,12 +43,14 @@ impl Model for MemDevice {
       attached = d.attached;
       writes = d.writes.items;
       room = d.room;
+      barrier = d.barrier;
       plan = d.plan;
       write_faults = d.write_faults;
     } };
 
     ghost invariant = { λ d. (d.size ≤ length d.blocks.items) × All IsBlock d.blocks.items
-        × (length d.writes.items ≤ d.room) × (d.room ≤ vec_capacity d.writes) };
+        × (length d.writes.items ≤ d.room) × (d.room ≤ vec_capacity d.writes)
+        × (d.barrier ≤ d.plan.calls) × IsPast d.plan.calls (reverse d.writes.items) };
 }
 
 impl MemDevice {
@@ -65,6 +70,7 @@ impl MemDevice {
           attached = true;
           writes = [];
           room = writes;
+          barrier = 0;
           plan = planned fail.now;
           write_faults = 0;
         }) }
@@ -75,12 +81,14 @@ impl MemDevice {
             attached: true,
             writes: Vec::with_capacity(alloc, writes)?,
             room: writes,
+            barrier: 0,
             plan: CallPlan::new(alloc, fail)?,
             write_faults: 0,
         })
     }
 
-    /// The writes that were done, in their order.
+    /// The writes since the device was made or last lost power, in their order, also those that
+    /// failed by its list.
     pub fn writes(&self) -> &[WriteRecord]
         ensures { result.now ≡ self.now.writes }
     {
@@ -102,6 +110,27 @@ impl MemDevice {
             self.write_faults = self.write_faults.saturating_add(1);
         }
         result
+    }
+
+    // Records a write after so many calls, where there is room and a number for it.
+    fn record(&mut self, calls: u64, b: u64, from: &[u8; BLOCK_SIZE], is_done: bool)
+        requires room { b < self.old.size }
+        requires past { calls ≤ self.old.plan.calls }
+        requires counted { calls < 2 ^ 64 - 1 → self.old.plan.calls ≡ calls + 1 }
+        ensures { self.new ≡ recorded calls b from.now is_done self.old }
+    {
+        if self.writes.len() < self.room && calls < u64::MAX {
+            let record = WriteRecord {
+                call: calls + 1,
+                block: b,
+                bytes: *from,
+                before: self.blocks[b as usize],
+                is_done,
+                barrier: self.barrier,
+            };
+            self.writes.push(record).unwrap();
+            self.barrier = 0;
+        }
     }
 }
 
@@ -127,6 +156,10 @@ impl Device for MemDevice {
     ghost write_fault_count = { λ d. d.write_faults };
 
     ghost call_count = { λ d. d.plan.calls };
+
+    ghost left_since = { left_of };
+
+    ghost since_earlier = { λ d. HasLeft-earlier d.barrier (reverse d.writes) (held_image d) };
 
     ghost is_named = { λ d _. IsTrue d.attached };
 
@@ -158,45 +191,40 @@ impl Device for MemDevice {
         ensures shape { HasBlocks (attached_size self.new) (attached_image self.new) }
         ensures cause { HasCause self.old.plan.faults self.new.plan.faults result }
         ensures calls { IsCounted self.old.plan.calls self.new.plan.calls result }
+        ensures time { Elapses self.old.plan.calls self.new.plan.calls
+            (left_of self.old) (left_of self.new)
+            (TornAt b (left_of self.old self.old.plan.calls)) }
 
-        // It fails exactly by its plan or for want of room, and then changes only its counts.
+        // It fails exactly by its plan or for want of room, and then changes no block.
         ensures fails { is_err result ≡ write_fails self.old }
-        ensures ok { OnOk result (self.new ≡ record self.old {
-          plan = calls_after self.old.plan result;
-          blocks = slice_set self.old.blocks b from.now;
-          writes = self.old.writes
-              ++ record { call = self.new.plan.calls; block = b; bytes = from.now } ∷ [];
-        }) }
-        ensures err { OnErr result (self.new ≡ record self.old {
-          plan = calls_after self.old.plan result;
-          write_faults = write_faults_after self.old.write_faults result;
-        }) }
+        ensures after { self.new ≡ after_write b from.now result self.old }
     {
+        let calls = self.plan.calls();
         let is_full = self.writes.len() >= self.room;
-        self.writing_call(is_full)?;
+        let result = self.writing_call(is_full);
+        self.record(calls, b, from, result.is_ok());
+        result?;
         self.blocks[b as usize] = *from;
-        let call = self.plan.calls();
-        let record = WriteRecord {
-            call,
-            block: b,
-            bytes: *from,
-        };
-        self.writes.push(record).unwrap();
         Ok(())
     }
 
     fn barrier(&mut self) -> Result<(), Failed>
         ensures cause { HasCause self.old.plan.faults self.new.plan.faults result }
         ensures calls { IsCounted self.old.plan.calls self.new.plan.calls result }
+        ensures time { Elapses self.old.plan.calls self.new.plan.calls
+            (left_of self.old) (left_of self.new) Nothing }
+        ensures durable { OnOk result
+            (IsOnly (Some (held_image self.new)) (left_of self.new self.new.plan.calls)) }
 
-        // It fails exactly by its plan, and changes only its counts.
+        // It fails exactly by its plan, and changes no block.
         ensures fails { is_err result ≡ next_fails self.old.plan }
-        ensures after { self.new ≡ record self.old {
-          plan = calls_after self.old.plan result;
-          write_faults = write_faults_after self.old.write_faults result;
-        } }
+        ensures after { self.new ≡ after_barrier result self.old }
     {
-        self.writing_call(false)
+        self.writing_call(false)?;
+        if self.barrier == 0 {
+            self.barrier = self.plan.calls();
+        }
+        Ok(())
     }
 
     fn faults(&self) -> u64 {
@@ -215,7 +243,11 @@ impl Device for MemDevice {
 impl Attach for MemDevice {
     ghost shows = { λ d _. Some (held_image d) };
 
+    ghost left_behind = { λ d _. left_of d };
+
     ghost shows_named = { λ d _. held-attached d };
+
+    ghost left_named = { λ d _ t c _. (λ left. left, λ left. left) };
 
     fn attach(&mut self, _name: &str, create: Option<u64>) -> Result<(), Failed>
         ensures shape { HasBlocks (attached_size self.new) (attached_image self.new) }
