@@ -4,3 +4,4 @@ pub mod Feeding
 pub mod Held
 pub mod Lines
 pub mod Scripts
+pub mod Runs

@@ -581,3 +581,21 @@ pub gave_end : (t : Taken) (taken : ℕ) (place : List ℕ) (old new : Option (L
 gave_end t taken place old new before after is h told =
     let got : IsTaken source_gave.End taken place old new = subst (λ t. IsTaken t taken place old new) is h in
     (got.0, got.1, told ∙ ap (λ t. option_map (takes_after (taken_by (Ok t) place)) before) is)
+
+-- a session from the one state at which it begins
+pub session_from : (end : Option Fault) (start : State) (first last : State → Type 0) (script rest old new : Option (List ℕ)) → first start
+    → Session end first last script rest old new → Session end (λ s. s ≡ start) (λ _. Unit {0}) script rest old new
+session_from end start first last script rest old new begins s = record {
+  taken = s.taken;
+  taken_is = s.taken_is;
+  runs = λ t is. let r = s.runs t (subst first (sym is) begins) in
+      record {
+        entries = r.entries;
+        transcript = r.transcript;
+        among_taken = r.among_taken;
+        among_script = r.among_script;
+        taken_at = r.taken_at;
+        reached = tt;
+        replied = r.replied;
+      };
+}

@@ -1,0 +1,118 @@
+-- How a whole run begins and ends.
+use Rattle.std.proofs.Common.{◌≡◌, ℕ, ◌+◌, ◌≤◌, List, [], ◌∷◌, ◌++◌, length, refl, sym, ap, subst, ◌∙◌, arith, inl, inr, length-append}
+use Rattle.std.specs.Prelude.{map, IfSome, IsSomeAnd}
+use Rattle.std.proofs.lemmas.List.{length-map}
+use Rattle.std.specs.declared.option.Option.{Option}
+use Rattle.std.specs.declared.option.Option.TheVariants.{None, Some}
+use Rattle.std.specs.Io.KnownBytes.{append_known, prepend_known}
+use Rattle.bd_limits.specs.Limits.{script_limit}
+use Rattle.bd_io.specs.Cause.{Rose}
+use Rattle.bd_io.specs.Written.{WrotePart}
+use Rattle.bd_message.specs.declared.fault.Counter.{Counter}
+use Rattle.bd_script.specs.Lines.{LineMeaning, line_of, lines_of}
+use Rattle.bd_script.proofs.CutLines.{lines_of-few}
+use Rattle.betr.specs.declared.fault.Fault.{Fault}
+use Rattle.betr.specs.declared.fault.Fault.TheVariants.{Device, Source, Memory, TooLong, Worn, Sink}
+use Rattle.betr.specs.declared.outcome.Ack.{Ack}
+use Rattle.betr.specs.Fault.{status_of, fault_line, Faults, Caused}
+use Rattle.betr.specs.Transcript.{State, Entry, first_state, IsTranscript, executed, state_after, lines_to_run}
+use Rattle.betr.specs.Session.{HasNext, WornBy, Session}
+use Rattle.betr.specs.Words.{Call}
+use Rattle.betr.specs.Run.{end_status, ends, WritesLast, WritesEnd, Went, IsFaultless}
+use Rattle.betr.proofs.Transcripts.{up_to_stop-few, counts_few}
+
+-- what holds anyway holds of a call
+pub of_any : {A : Type 0} (P : Type 0) (o : Option A) → P → IfSome o (λ _. P)
+of_any P None h = tt
+of_any P (Some x) h = h
+
+-- a session is a run, with its status and its last line
+pub went : (end : Option Fault) (status : ℕ) (acks : List Ack) (script rest old mid new : Option (List ℕ)) (before now : Faults)
+    → Session end (λ s. s ≡ first_state) (λ _. Unit {0}) script rest old mid → status ≡ end_status end
+    → WritesEnd end mid new before.sink now.sink → IfSome end (λ e. Caused e before now) → acks ≡ []
+    → Went first_state status acks (ends script old before) (ends rest new now)
+went end status acks script rest old mid new before now s is last cause none =
+    let r = s.runs first_state refl in
+    record {
+      end = end;
+      status_is = is;
+      entries = r.entries;
+      transcript = r.transcript;
+      taken = s.taken;
+      taken_is = s.taken_is;
+      among_taken = r.among_taken;
+      among_script = r.among_script;
+      taken_at = r.taken_at;
+      replies = mid;
+      replied = r.replied;
+      last = last;
+      cause = cause;
+      acked = none;
+    }
+
+-- ---- causes, where the sink's count goes on
+
+rose_later : (a b d : ℕ) → b ≤ d → Rose a b → Rose a d
+rose_later a b d h (inl r) = inl (omega arith)
+rose_later a b d h (inr r) = inr (omega arith)
+
+rose_before : (a b d : ℕ) → a ≤ b → Rose b d → Rose a d
+rose_before a b d h (inl r) = inl (omega arith)
+rose_before a b d h (inr r) = inr r
+
+pub cause_later : (e : Fault) (before : Faults) (device writes source sink later : ℕ) → sink ≤ later
+    → Caused e before (record { device = device; writes = writes; source = source; sink = sink })
+    → Caused e before (record { device = device; writes = writes; source = source; sink = later })
+cause_later Device before d w s k l h c = c
+cause_later Source before d w s k l h c = c
+cause_later Memory before d w s k l h c = tt
+cause_later TooLong before d w s k l h c = tt
+cause_later (Worn which) before d w s k l h c = tt
+cause_later Sink before d w s k l h c = rose_later before.sink k l h c
+
+-- a last line is a fault's, and the sink's count rose since the run began
+pub writes_end : (e : Fault) (line : List ℕ) (mid new : Option (List ℕ)) (first before now : ℕ) → line ≡ fault_line e → first ≤ before
+    → WritesLast line mid new before now → WritesEnd (Some e) mid new first now
+writes_end e line mid new first before now is later (inl whole) = inl (whole ∙ ap (append_known mid) is)
+writes_end e line mid new first before now is later (inr part) =
+    inr (subst (λ l. WrotePart l mid new) is part.0, rose_before first before now later part.1)
+
+-- ---- where nothing fails
+
+-- a script of which more came than the limit is longer
+too_long : (script rest : Option (List ℕ)) (taken : List ℕ) → length taken ≡ script_limit + 1 → script ≡ prepend_known taken rest
+    → IsSomeAnd script (λ bytes. length bytes ≤ script_limit) → ⊥
+too_long script None taken long is short = subst (λ o. IsSomeAnd o (λ bytes. length bytes ≤ script_limit)) is short
+too_long script (Some more) taken long is short =
+    let few : length (taken ++ more) ≤ script_limit = subst (λ o. IsSomeAnd o (λ bytes. length bytes ≤ script_limit)) is short in
+    omega (arith, few, long, length-append taken more)
+
+-- a script within the limit can't bring the count to its last value
+never_worn : (which : Counter) (es : List Entry) (taken : List ℕ) (next : LineMeaning) → IsTranscript first_state es → length taken ≤ script_limit
+    → HasNext next (executed es) (lines_to_run taken) → WornBy which (state_after first_state es) next → ⊥
+never_worn which es taken next chain few has worn =
+    omega (
+      arith,
+      few,
+      worn.wears.last,
+      counts_few first_state es chain,
+      length-map es (λ e. e.line),
+      ap length has.lines_are,
+      length-append (executed es) (next ∷ has.rest),
+      up_to_stop-few (map line_of (lines_of taken)),
+      length-map (lines_of taken) line_of,
+      lines_of-few taken,
+    )
+
+-- without a failure of the outside, only memory ended the run
+pub faultless : (e : Fault) (call : Option Call) (script rest old new : Option (List ℕ)) (before now : Faults)
+    → Session (Some e) (λ s. s ≡ first_state) (λ _. Unit {0}) script rest old new → Caused e before now → IsFaultless call script before now
+    → status_of e ≡ 6
+faultless Device call script rest old new before now s cause f = absurd (f.device cause)
+faultless Source call script rest old new before now s cause f = absurd (f.source cause)
+faultless Memory call script rest old new before now s cause f = refl
+faultless TooLong call script rest old new before now s cause f = absurd (too_long script rest s.taken (s.runs first_state refl).taken_at.0 s.taken_is f.short)
+faultless (Worn which) call script rest old new before now s cause f =
+    let r = s.runs first_state refl in
+    absurd (never_worn which r.entries s.taken r.among_taken.0 r.transcript r.taken_at r.among_taken.1 r.among_taken.2)
+faultless Sink call script rest old new before now s cause f = absurd (f.sink cause)
