@@ -7,6 +7,7 @@ mod line;
 mod number;
 mod read;
 mod replies;
+mod verb;
 mod words;
 
 pub use line::{Line, LineFault};
