@@ -1,4 +1,4 @@
 pub mod CutLines
-pub mod ReadLemmas
 pub mod WordLemmas
+pub mod ReadLemmas
 pub mod LineLaws

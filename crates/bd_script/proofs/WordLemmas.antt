@@ -11,6 +11,7 @@ use Rattle.std.proofs.lemmas.Grind.{fold-append}
 use Rattle.hex.specs.Hex.{decode_of, IsBytes}
 use Rattle.hex.specs.declared.error.FromHexError.{FromHexError}
 use Rattle.hex.proofs.HexLemmas.{decode_of-ok}
+use Rattle.bd_limits.specs.Limits.{write_limit}
 use Rattle.bd_command.specs.Command.{IsWritten}
 use Rattle.bd_script.specs.Lines.{is_empty, digits_value, has_leading_zero, is_number, number_of, hex_of, hex_result}
 
@@ -94,32 +95,32 @@ number_of-below word n e = number_below (is_number word) (digits_value word) n s
 
 -- ---- bytes
 
-hex_size : (bytes : List ℕ) → (length bytes ≡ 0) ⊎ (2048 < length bytes) → hex_result (Ok bytes) ≡ None
-hex_size bytes (inl none) = rw (and_left (nat_le 1 (length bytes)) (nat_le (length bytes) 2048) (lt-leb 1 (length bytes) (omega arith))) refl
-hex_size bytes (inr many) = rw (and_right (nat_le 1 (length bytes)) (nat_le (length bytes) 2048) (lt-leb (length bytes) 2048 many)) refl
+hex_size : (bytes : List ℕ) → (length bytes ≡ 0) ⊎ (write_limit < length bytes) → hex_result (Ok bytes) ≡ None
+hex_size bytes (inl none) = rw (and_left (nat_le 1 (length bytes)) (nat_le (length bytes) write_limit) (lt-leb 1 (length bytes) (omega arith))) refl
+hex_size bytes (inr many) = rw (and_right (nat_le 1 (length bytes)) (nat_le (length bytes) write_limit) (lt-leb (length bytes) write_limit many)) refl
 
-hex_cases : (word : List ℕ) (r : Result (List ℕ) FromHexError) → decode_of word ≡ r → (length word / 2 ≡ 0) ⊎ (2048 < length word / 2) → hex_result r ≡ None
+hex_cases : (word : List ℕ) (r : Result (List ℕ) FromHexError) → decode_of word ≡ r → (length word / 2 ≡ 0) ⊎ (write_limit < length word / 2) → hex_result r ≡ None
 hex_cases word (Err e) h size = refl
 hex_cases word (Ok bytes) h (inl none) = hex_size bytes (inl (omega (arith, (decode_of-ok word bytes h).2)))
 hex_cases word (Ok bytes) h (inr many) = hex_size bytes (inr (omega (arith, (decode_of-ok word bytes h).2)))
 
-pub hex_of-size : (word : List ℕ) → (length word / 2 ≡ 0) ⊎ (2048 < length word / 2) → hex_of word ≡ None
+pub hex_of-size : (word : List ℕ) → (length word / 2 ≡ 0) ⊎ (write_limit < length word / 2) → hex_of word ≡ None
 hex_of-size word size = hex_cases word (decode_of word) refl size
 
 all_bytes : (bytes : List ℕ) → IsBytes bytes → AllByRecursion (λ b. b < 256) bytes
 all_bytes [] h = tt
 all_bytes (b ∷ bytes) h = (h 0, all_bytes bytes (λ i. h (suc i)))
 
-written_at : (t : Bool) (bs bytes : List ℕ) → (nat_le 1 (length bs) && nat_le (length bs) 2048) ≡ t → IsBytes bs → cond t (Some bs) None ≡ Some bytes → IsWritten bytes
+written_at : (t : Bool) (bs bytes : List ℕ) → (nat_le 1 (length bs) && nat_le (length bs) write_limit) ≡ t → IsBytes bs → cond t (Some bs) None ≡ Some bytes → IsWritten bytes
 written_at true bs bytes size h e =
-    let parts = and_parts (nat_le 1 (length bs)) (nat_le (length bs) 2048) size in
+    let parts = and_parts (nat_le 1 (length bs)) (nat_le (length bs) write_limit) size in
     let same : bs ≡ bytes = cc in
     let P : List ℕ → Type 0 = IsWritten in
-    subst P same (leb-true 1 (length bs) parts.0, leb-true (length bs) 2048 parts.1, all_bytes bs h)
+    subst P same (leb-true 1 (length bs) parts.0, leb-true (length bs) write_limit parts.1, all_bytes bs h)
 written_at false bs bytes size h e = cc
 
 written_size : (bs bytes : List ℕ) → IsBytes bs → hex_result (Ok bs) ≡ Some bytes → IsWritten bytes
-written_size bs bytes h e = written_at (nat_le 1 (length bs) && nat_le (length bs) 2048) bs bytes refl h e
+written_size bs bytes h e = written_at (nat_le 1 (length bs) && nat_le (length bs) write_limit) bs bytes refl h e
 
 written_cases : (word : List ℕ) (r : Result (List ℕ) FromHexError) (bytes : List ℕ) → decode_of word ≡ r → hex_result r ≡ Some bytes → IsWritten bytes
 written_cases word (Err e) bytes h some = cc

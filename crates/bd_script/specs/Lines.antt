@@ -227,7 +227,8 @@ line_of_parts words = if list_any is_empty words then Err BadLine else line_of_w
 
 -- the one meaning of a line, which has at most `line_limit` bytes
 unfoldable pub line_of : List ℕ → LineMeaning
-line_of line = if nat_le (length line) line_limit then line_of_parts (words_of line) else Err BadLine
+line_of line =
+    if nat_le (length line) line_limit then line_of_parts (words_of line) else Err BadLine
 
 -- ---- lines of a script
 
