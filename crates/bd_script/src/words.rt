@@ -15,8 +15,8 @@ const MAX_WORDS: usize = 4;
 /// The words of a line.
 pub(crate) type Words<'a> = ArrayVec<&'a [u8], MAX_WORDS>;
 
-/// Cuts a line into its words, which lie in the line: no memory is taken. A line with an empty word,
-/// or with more than four words, has none.
+/// Cuts a line into its words, which lie in the line: no memory is taken. A line with an empty
+/// word, or with more than four words, has none.
 pub(crate) fn cut_words(alloc: Global, line: &[u8]) -> Option<Words<'_>>
     ensures { MatchOption result (line_of_parts (words_of line.now) ≡ Err BadLine)
         (λ words. line_of_parts (words_of line.now) ≡ line_of_words (texts words.items)) }
