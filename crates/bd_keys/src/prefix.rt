@@ -50,8 +50,8 @@ fn kept_len(prefix: &[u8]) -> usize
     kept
 }
 
-/// The length of the longest prefix that is common to all keys that are at least `lo` and below `hi`;
-/// `None` is no end.
+/// The length of the longest prefix that is common to all keys that are at least `lo` and below
+/// `hi`; `None` is no end.
 pub fn lift(lo: &[u8], hi: Option<&[u8]>) -> usize
     requires { IsBelowEnd lo.now (option_copied hi) }
     ensures { IsLift lo.now (option_copied hi.entry) result }
@@ -88,8 +88,8 @@ fn common_len(a: &[u8], b: &[u8]) -> usize
     a.iter().zip(b).take_while(|(x, y)| x == y).count()
 }
 
-// How many bytes more all keys that are at least `lo` and below `hi` have in common, where the first
-// bytes differ.
+// How many bytes more all keys that are at least `lo` and below `hi` have in common, where the
+// first bytes differ.
 fn len_apart(lo: &[u8], hi: &[u8]) -> usize
     ensures value { result ≡ lift_apart lo.now hi.now }
     ensures within { result ≤ length lo.now }
@@ -100,8 +100,8 @@ fn len_apart(lo: &[u8], hi: &[u8]) -> usize
     }
 }
 
-/// A key with other bytes in place of its first ones: `front`, and then `key` without its first `count`
-/// bytes.
+/// A key with other bytes in place of its first ones: `front`, and then `key` without its first
+/// `count` bytes.
 pub fn translate(
     alloc: Global,
     key: &[u8],

@@ -1,7 +1,7 @@
 -- Which of two paths is greater, and the parent of a path.
 use Rattle.std.proofs.Common.{◌≡◌, ℕ, zero, suc, ◌<◌, ◌≤◌, List, [], ◌∷◌, length, drop, Less, refl, ap, ◌∙◌, arith}
 use Rattle.std.proofs.lemmas.List.{drop_all}
-use Rattle.bd_names.specs.NamesLaws.{parent_of-append}
+use Rattle.bd_names.proofs.NamesLaws.{parent_of-append}
 use Rattle.bd_model.specs.Tree.{path_cmp}
 
 -- the parent is what stands before the last name

@@ -13,7 +13,7 @@ use Rattle.bd_names.specs.Names.{path_of, same_text}
 use Rattle.bd_command.specs.declared.Command.TheVariants.{Write}
 use Rattle.bd_model.specs.Lines.{ScriptLine, Run, BadLine, hex_of, with_path, with_bytes, verbs_there, words_of, is_empty, line_of_one, line_of_two, line_of_three, first_word}
 use Rattle.bd_script.specs.Reading.{line_of_parts, write_at}
-use Rattle.bd_names.specs.NamesLaws.{path_of-some}
+use Rattle.bd_names.proofs.NamesLaws.{path_of-some}
 use Rattle.bd_command.specs.Command.{IsShortPath}
 
 pub IsShortPath-read : (word : List ℕ) (path : List (List ℕ)) → path_of word ≡ Some path → IsShortPath path

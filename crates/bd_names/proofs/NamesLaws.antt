@@ -9,6 +9,7 @@ use Rattle.std.proofs.lemmas.List.{append-nil, nil_from_length}
 use Rattle.std.proofs.lemmas.List.Folds.{list_all-append}
 use Rattle.std.proofs.lemmas.List.Concat.{flat_map-append}
 use Rattle.std.proofs.lemmas.Slice.Eq.{bytes_eq-Decides}
+use Rattle.bd_limits.specs.Limits.{path_limit, name_limit}
 use Rattle.bd_names.specs.Names.{same_text, is_name_byte, is_name, AreNames, path_text, names_in, begins_with_slash, is_path, path_of, key_of, rest_below, is_under, below_name, parent_of}
 
 -- ---- equal texts
@@ -149,12 +150,12 @@ list_all-weaken p q each (b ∷ bs) h =
     and_from (q b) (list_all q bs) (each b parts.0) (list_all-weaken p q each bs parts.1)
 
 pub is_name-bytes : (n : List ℕ) → is_name n ≡ true → list_all is_name_byte n ≡ true
-is_name-bytes n h = (and_parts (list_all is_name_byte n) _ (and_parts (nat_le (length n) 255) _ (and_parts (nat_le 1 (length n)) _ h).1).1).0
+is_name-bytes n h = (and_parts (list_all is_name_byte n) _ (and_parts (nat_le (length n) name_limit) _ (and_parts (nat_le 1 (length n)) _ h).1).1).0
 
-pub is_name-length : (n : List ℕ) → is_name n ≡ true → (1 ≤ length n) × (length n ≤ 255)
+pub is_name-length : (n : List ℕ) → is_name n ≡ true → (1 ≤ length n) × (length n ≤ name_limit)
 is_name-length n h =
     let parts = and_parts (nat_le 1 (length n)) _ h in
-    (leb-true 1 (length n) parts.0, leb-true (length n) 255 (and_parts (nat_le (length n) 255) _ parts.1).0)
+    (leb-true 1 (length n) parts.0, leb-true (length n) name_limit (and_parts (nat_le (length n) name_limit) _ parts.1).0)
 
 pub is_name-slash : (n : List ℕ) → is_name n ≡ true → is_free 47 n ≡ true
 is_name-slash n h = list_all-weaken is_name_byte (λ b. not (b == 47)) name_byte-slash n (is_name-bytes n h)
@@ -195,7 +196,7 @@ key_of-injective p q hp hq e =
 
 -- ---- the text of a path
 
--- each name behind a slash
+-- each name after a slash
 abbrev pub slashed : List (List ℕ) → List ℕ
 slashed names = flat_map (λ m. 47 ∷ m) names
 
@@ -213,8 +214,8 @@ slashed-front (n ∷ p) [] rest hp hq cut e = cc
 slashed-front (n ∷ p) (m ∷ q) rest hp hq cut e =
     let name_n = AreNames-cons n p hp in
     let name_m = AreNames-cons m q hq in
-    let behind : m ++ slashed q ≡ (n ++ slashed p) ++ rest = cc in
-    let flat : m ++ slashed q ≡ n ++ (slashed p ++ rest) = behind ∙ append_assoc n (slashed p) rest in
+    let after : m ++ slashed q ≡ (n ++ slashed p) ++ rest = cc in
+    let flat : m ++ slashed q ≡ n ++ (slashed p ++ rest) = after ∙ append_assoc n (slashed p) rest in
     let parts = first_part 47 m n (slashed q) (slashed p ++ rest) (is_name-slash m name_m.0) (is_name-slash n name_n.0) (rw (append-nil (slashed q)) at (slashed-cut q [] refl)) (slashed-cut p rest cut) flat in
     let below = slashed-front p q rest name_n.1 name_m.1 cut parts.1 in
     let same : m ≡ n = parts.0 in
@@ -266,27 +267,27 @@ names_in-path_text [] h = refl
 names_in-path_text ([] ∷ ns) h = absurd (let short = (is_name-length [] (AreNames-cons [] ns h).0).0 in omega arith)
 names_in-path_text ((b ∷ n) ∷ ns) h = at_slashes-slashed (b ∷ n) ns h
 
-pub is_path-parts : (text : List ℕ) → is_path text ≡ true → (length text ≤ 512) × (begins_with_slash text ≡ true) × AreNames (names_in text)
+pub is_path-parts : (text : List ℕ) → is_path text ≡ true → (length text ≤ path_limit) × (begins_with_slash text ≡ true) × AreNames (names_in text)
 is_path-parts text h =
-    let size = and_parts (nat_le (length text) 512) _ h in
+    let size = and_parts (nat_le (length text) path_limit) _ h in
     let rest = and_parts (begins_with_slash text) _ size.1 in
-    (leb-true (length text) 512 size.0, rest.0, rest.1)
+    (leb-true (length text) path_limit size.0, rest.0, rest.1)
 
 begins-path_text : (ns : List (List ℕ)) → begins_with_slash (path_text ns) ≡ true
 begins-path_text [] = refl
 begins-path_text (n ∷ ns) = refl
 
-pub is_path-path_text : (ns : List (List ℕ)) → AreNames ns → length (path_text ns) ≤ 512 → is_path (path_text ns) ≡ true
+pub is_path-path_text : (ns : List (List ℕ)) → AreNames ns → length (path_text ns) ≤ path_limit → is_path (path_text ns) ≡ true
 is_path-path_text ns h size =
-    and_from (nat_le (length (path_text ns)) 512) _ (le-leb (length (path_text ns)) 512 size)
+    and_from (nat_le (length (path_text ns)) path_limit) _ (le-leb (length (path_text ns)) path_limit size)
     (and_from (begins_with_slash (path_text ns)) _ (begins-path_text ns) (rw (names_in-path_text ns h) h))
 
 path_of-cond : (t : Bool) (x y : List (List ℕ)) → cond t (Some x) None ≡ Some y → (t ≡ true) × (x ≡ y)
 path_of-cond true x y h = (refl, cc)
 path_of-cond false x y h = cc
 
--- a text that is read as a path spells it
-pub path_of-some : (text : List ℕ) (ns : List (List ℕ)) → path_of text ≡ Some ns → AreNames ns × (length (path_text ns) ≤ 512) × (path_text ns ≡ text)
+-- a text that is read as a path is its text
+pub path_of-some : (text : List ℕ) (ns : List (List ℕ)) → path_of text ≡ Some ns → AreNames ns × (length (path_text ns) ≤ path_limit) × (path_text ns ≡ text)
 path_of-some text ns h =
     let read = path_of-cond (is_path text) (names_in text) ns h in
     let parts = is_path-parts text read.0 in
@@ -294,5 +295,5 @@ path_of-some text ns h =
     (rw (sym read.1) parts.2, rw same parts.0, same)
 
 -- a path is read from its text
-pub path_of-path_text : (ns : List (List ℕ)) → AreNames ns → length (path_text ns) ≤ 512 → path_of (path_text ns) ≡ Some ns
+pub path_of-path_text : (ns : List (List ℕ)) → AreNames ns → length (path_text ns) ≤ path_limit → path_of (path_text ns) ≡ Some ns
 path_of-path_text ns h size = rw (is_path-path_text ns h size) (ap Some (names_in-path_text ns h))
