@@ -41,7 +41,8 @@ IsShortPath path = AreNames path × (length (path_text path) ≤ path_limit)
 
 -- 1 to 2,048 bytes
 abbrev pub IsWritten : List ℕ → Type 0
-IsWritten bytes = (1 ≤ length bytes) × (length bytes ≤ write_limit) × AllByRecursion (λ b. b < 256) bytes
+IsWritten bytes =
+    (1 ≤ length bytes) × (length bytes ≤ write_limit) × AllByRecursion (λ b. b < 256) bytes
 
 -- a name, where one is given
 abbrev pub IsAfter : Option (List ℕ) → Type 0
