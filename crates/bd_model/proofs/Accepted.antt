@@ -10,7 +10,7 @@ use Rattle.bd_command.specs.declared.refusal.Refusal.{Refusal}
 use Rattle.bd_command.specs.declared.refusal.Refusal.TheVariants.{Exists, Inside, TooBig}
 use Rattle.bd_limits.specs.Limits.{file_limit}
 use Rattle.bd_names.specs.Names.{is_under, parent_of}
-use Rattle.bd_names.specs.NamesLaws.{parent_of-some, is_under-append, is_under-rest}
+use Rattle.bd_names.proofs.NamesLaws.{parent_of-some, is_under-append, is_under-rest}
 use Rattle.bd_model.specs.Tree.{Entry, Directory, FileWith, Tree, IsTree}
 use Rattle.bd_model.specs.Step.{absent_refusal, file_refusal, parent_refusal, new_refusal, root_refusal, size_refusal, inside_refusal, refusal_of, changed, stepped}
 use Rattle.bd_model.specs.Laws.{Accepts, after}

@@ -13,7 +13,7 @@ use Rattle.std.proofs.lemmas.Iterator.{YieldsList, items_from_drains}
 use Rattle.std.proofs.lemmas.Iterator.Consumers.{nth_from_yields_List}
 use Rattle.arrayvec.specs.ArrayVec.{ArrayVec}
 use Rattle.bd_names.specs.Names.{path_of}
-use Rattle.bd_names.specs.NamesLaws.{path_of-some}
+use Rattle.bd_names.proofs.NamesLaws.{path_of-some}
 use Rattle.bd_command.specs.Command.{IsShortPath, IsWritten}
 use Rattle.bd_command.specs.declared.Command.TheVariants.{Write}
 use Rattle.bd_command.specs.declared.refusal.Refusal.TheVariants.{BadLine}
