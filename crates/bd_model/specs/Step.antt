@@ -51,13 +51,16 @@ new_refusal t path =
     if is_some (get t path) then Some Exists
     else parent_refusal (option_and_then (get t) (parent_of path))
 
+-- the path is `/`
 abbrev pub root_refusal : Path → Option Refusal
 root_refusal [] = Some Root
 root_refusal (n ∷ ns) = None
 
+-- the file would be longer than `file_limit`
 abbrev pub size_refusal : ℕ → Option Refusal
 size_refusal size = if nat_le size file_limit then None else Some TooBig
 
+-- `b` is `a` or below it
 abbrev pub inside_refusal : Path → Path → Option Refusal
 inside_refusal a b = if is_under a b then Some Inside else None
 
@@ -79,6 +82,7 @@ refusal_of t (Ls path after) = directory_refusal (get t path)
 
 -- ---- the tree after an accepted command
 
+-- the bytes of a file; none where there is none
 abbrev pub file_bytes : Option Entry → List ℕ
 file_bytes None = []
 file_bytes (Some Directory) = []
@@ -108,6 +112,7 @@ cloned a b t = from_entries (moved a b t ++ entries t)
 abbrev pub renamed : Path → Path → Tree → Tree
 renamed a b t = from_entries (moved a b t ++ entries (without a t))
 
+-- the tree after a command that it accepts
 abbrev pub changed : Tree → Command → Tree
 changed t (Mkdir path) = insert t path Directory
 changed t (Create path) = insert t path (FileWith [])
@@ -123,11 +128,13 @@ changed t (Ls path after) = t
 
 -- ---- the reply to an accepted command
 
+-- what is there
 abbrev pub stat_reply : Option Entry → Reply
 stat_reply None = Dir
 stat_reply (Some Directory) = Dir
 stat_reply (Some (FileWith bytes)) = File (length bytes)
 
+-- an entry is a directory
 abbrev pub is_directory : Entry → Bool
 is_directory Directory = true
 is_directory (FileWith bytes) = false
@@ -153,6 +160,7 @@ abbrev pub listing_of : List Listed → Listing
 listing_of names =
     record { names = take listing_limit names; more = nat_lt listing_limit (length names) }
 
+-- the reply of a tree to a command that it accepts
 abbrev pub answer : Tree → Command → Reply
 answer t (Read path off len) = Bytes (take len (drop off (file_bytes (get t path))))
 answer t (Stat path) = stat_reply (get t path)
@@ -172,5 +180,6 @@ abbrev pub stepped : Tree → Command → Option Refusal → Tree × Reply
 stepped t c (Some r) = (t, Refused r)
 stepped t c None = (changed t c, answer t c)
 
+-- the step of a command on a tree
 abbrev pub step : Tree → Command → Tree × Reply
 step t c = stepped t c (refusal_of t c)

@@ -16,10 +16,11 @@ pub data Entry : Type 0 where
   Directory : Entry
   FileWith : (bytes : List ℕ) → Entry
 
--- a name is seen as its bytes, and a path as the list of its names
+-- a name is seen as its bytes
 abbrev pub Name : Type 0
 Name = List ℕ
 
+-- a path is seen as the list of its names
 abbrev pub Path : Type 0
 Path = List Name
 
@@ -27,28 +28,34 @@ Path = List Name
 abbrev pub path_cmp : Path → Path → Ordering
 path_cmp = slice_cmp (slice_cmp nat_cmp)
 
+-- what stands at each path
 abbrev pub Tree : Type 0
 Tree = FinMap path_cmp Entry
 
 -- ---- how a tree is stored as a value
 
+-- the bytes of a file, and none of a directory
 abbrev pub entry_bytes : Entry → Option (List ℕ)
 entry_bytes Directory = None
 entry_bytes (FileWith bytes) = Some bytes
 
+-- the entry that these tell apart
 abbrev pub entry_with : Option (List ℕ) → Entry
 entry_with None = Directory
 entry_with (Some bytes) = FileWith bytes
 
+-- each entry is told by them
 pub entry_with-entry_bytes : (e : Entry) → entry_with (entry_bytes e) ≡ e
 entry_with-entry_bytes Directory = refl
 entry_with-entry_bytes (FileWith bytes) = refl
 
+-- how an entry is stored
 abbrev pub coded_entry : Coded Entry
 coded_entry =
     code_by (Option (List ℕ)) (coded_option (coded_list coded_ℕ))
     entry_bytes entry_with entry_with-entry_bytes
 
+-- how a tree is stored
 abbrev pub coded_tree : Coded Tree
 coded_tree = code (coded_list (coded_list coded_ℕ)) coded_entry
 

@@ -23,6 +23,7 @@ use Rattle.bd_script.specs.declared.verb.Verb.TheVariants as verb
 
 -- ---- cutting a script
 
+-- no bytes
 abbrev pub is_empty : List ℕ → Bool
 is_empty [] = true
 is_empty (b ∷ bs) = false
@@ -31,11 +32,13 @@ is_empty (b ∷ bs) = false
 abbrev pub pieces : List ℕ → List (List ℕ)
 pieces script = slice_split (λ b. b == 10) script
 
+-- all pieces before the last one
 abbrev pub all_but_last : List (List ℕ) → List (List ℕ)
 all_but_last [] = []
 all_but_last (x ∷ []) = []
 all_but_last (x ∷ y ∷ more) = x ∷ all_but_last (y ∷ more)
 
+-- the last piece
 abbrev pub last_piece : List (List ℕ) → List ℕ
 last_piece [] = []
 last_piece (x ∷ []) = x
@@ -68,6 +71,7 @@ held line = take held_limit line
 abbrev pub Path : Type 0
 Path = List (List ℕ)
 
+-- two paths
 abbrev pub PathPair : Type 0
 PathPair = Path × Path
 
@@ -75,9 +79,11 @@ PathPair = Path × Path
 abbrev pub LineMeaning : Type 0
 LineMeaning = Result Line Refusal
 
+-- what decimal digits come to
 abbrev pub digits_value : List ℕ → ℕ
 digits_value word = fold (λ n d. 10 * n + (d - 48)) 0 word
 
+-- a zero before another byte
 abbrev pub has_leading_zero : List ℕ → Bool
 has_leading_zero [] = false
 has_leading_zero (b ∷ []) = false
@@ -89,6 +95,7 @@ is_number word =
     not (is_empty word) && (list_all is_ascii_digit word && (not (has_leading_zero word)
     && nat_le (digits_value word) 4294967295))
 
+-- the number that a word is, if it is one
 abbrev pub number_of : List ℕ → Option ℕ
 number_of word = if is_number word then Some (digits_value word) else None
 
@@ -98,6 +105,7 @@ hex_result (Err e) = None
 hex_result (Ok bytes) =
     if nat_le 1 (length bytes) && nat_le (length bytes) write_limit then Some bytes else None
 
+-- the bytes that a word encodes, if it is such
 abbrev pub hex_of : List ℕ → Option (List ℕ)
 hex_of word = hex_result (decode_of word)
 
@@ -106,10 +114,12 @@ abbrev pub with_path : Result Path Refusal → (Path → LineMeaning) → LineMe
 with_path (Ok path) line = line path
 with_path (Err refusal) line = Err refusal
 
+-- the same with a number; a word that is none makes a bad line
 abbrev pub with_number : Option ℕ → (ℕ → LineMeaning) → LineMeaning
 with_number None line = Err BadLine
 with_number (Some n) line = line n
 
+-- the same with bytes; a word that encodes none makes a bad line
 abbrev pub with_bytes : Option (List ℕ) → (List ℕ → LineMeaning) → LineMeaning
 with_bytes None line = Err BadLine
 with_bytes (Some bytes) line = line bytes
@@ -127,20 +137,22 @@ abbrev pub only_path : List (List ℕ) → Result Path Refusal
 only_path (p ∷ []) = path_in p
 only_path words = Err BadLine
 
--- the two paths that follow a verb
+-- two paths, or the first refusal
 abbrev pub both_paths : Result Path Refusal → Result Path Refusal → Result PathPair Refusal
 both_paths (Ok a) (Ok b) = Ok (a, b)
 both_paths (Ok a) (Err refusal) = Err refusal
 both_paths (Err refusal) second = Err refusal
 
+-- the two paths that follow a verb
 abbrev pub two_paths : List (List ℕ) → Result PathPair Refusal
 two_paths (p ∷ q ∷ []) = both_paths (path_in p) (path_in q)
 two_paths words = Err BadLine
 
--- a line of a command of one path, or of two
+-- a line of a command of one path
 abbrev pub run_path : (Path → Command) → Result Path Refusal → LineMeaning
 run_path command path = with_path path (λ p. runs (command p))
 
+-- a line of a command of two paths
 abbrev pub run_paths : (Path → Path → Command) → Result PathPair Refusal → LineMeaning
 run_paths command (Ok paths) = runs (command paths.0 paths.1)
 run_paths command (Err refusal) = Err refusal
@@ -208,6 +220,7 @@ line_of_verb verb.Stat words = run_path Stat (only_path words)
 line_of_verb verb.List words = line_of_list words
 line_of_verb verb.Stop words = line_of_stop words
 
+-- the line of a verb, if there is one
 abbrev pub with_verb : Option Verb → List (List ℕ) → LineMeaning
 with_verb None words = Err BadLine
 with_verb (Some v) words = line_of_verb v words
@@ -237,6 +250,7 @@ abbrev pub IsLine : Line → Type 0
 IsLine (Run command) = IsCommand command
 IsLine Stop = Unit {0}
 
+-- the line is `stop`
 abbrev pub is_stop : LineMeaning → Bool
 is_stop (Ok (Run command)) = false
 is_stop (Ok Stop) = true
