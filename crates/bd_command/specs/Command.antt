@@ -3,7 +3,7 @@ use Rattle.std.specs.Prelude.{ℕ, ◌^◌, ◌<◌, ◌≤◌, Bool, true, fals
 use Rattle.std.specs.List.{AllByRecursion}
 use Rattle.std.specs.declared.option.Option.{Option}
 use Rattle.std.specs.declared.option.Option.TheVariants.{None, Some}
-use Rattle.bd_limits.specs.Limits.{read_limit, listing_limit}
+use Rattle.bd_limits.specs.Limits.{path_limit, write_limit, read_limit, listing_limit}
 use Rattle.bd_names.specs.Names.{AreNames, is_name, path_text}
 use Rattle.bd_command.specs.declared.Command.{Command}
 use Rattle.bd_command.specs.declared.reply.Reply.{Reply}
@@ -31,17 +31,18 @@ is_done (File len) = false
 is_done (Names listing) = false
 is_done (Refused refusal) = false
 
--- 1 for a writing command that was answered `ok`, and else 0
+-- 1 for a writing command that was accepted, and else 0
 abbrev pub accepted : Command → Reply → ℕ
 accepted command reply = if writes command && is_done reply then 1 else 0
 
 -- a path of a command: made of names, with a text of at most 512 bytes
 abbrev pub IsShortPath : List (List ℕ) → Type 0
-IsShortPath path = AreNames path × (length (path_text path) ≤ 512)
+IsShortPath path = AreNames path × (length (path_text path) ≤ path_limit)
 
 -- 1 to 2,048 bytes
 abbrev pub IsWritten : List ℕ → Type 0
-IsWritten bytes = (1 ≤ length bytes) × (length bytes ≤ 2048) × AllByRecursion (λ b. b < 256) bytes
+IsWritten bytes =
+    (1 ≤ length bytes) × (length bytes ≤ write_limit) × AllByRecursion (λ b. b < 256) bytes
 
 -- a name, where one is given
 abbrev pub IsAfter : Option (List ℕ) → Type 0
@@ -57,7 +58,7 @@ IsCommand (Truncate path len) = IsShortPath path × (len < 2 ^ 32)
 IsCommand (Remove path) = IsShortPath path
 IsCommand (Rename a b) = IsShortPath a × IsShortPath b
 IsCommand (Clone a b) = IsShortPath a × IsShortPath b
-IsCommand (Read path off len) = IsShortPath path × (off < 2 ^ 32) × (len ≤ 4096)
+IsCommand (Read path off len) = IsShortPath path × (off < 2 ^ 32) × (len ≤ read_limit)
 IsCommand (Stat path) = IsShortPath path
 IsCommand (Ls path after) = IsShortPath path × IsAfter after
 

@@ -1,8 +1,8 @@
 //! The commands of the plain map, the replies to them and the refusals, as types.
-//! The layers above use the fields as they are, and of `copy` and `writes` their contracts.
+//! The layers above use the fields as they are, and of `writes` its contract.
 #![tactic(auto)]
 
-ghost use Rattle.std.specs.Prelude.{◌≡◌, IfOk};
+ghost use Rattle.std.specs.Prelude.{◌≡◌};
 
 mod refusal;
 mod reply;
@@ -11,16 +11,15 @@ use bd_keys::Bytes;
 use bd_names::{Name, Path};
 pub use refusal::Refusal;
 pub use reply::{Chunk, Listed, Listing, Names, Reply};
-use std::alloc::{AllocError, Global};
 
 /// A command of the plain map. Offsets and lengths are bytes.
-#[derive(Debug, Drop)]
+#[derive(Clone, Debug, Drop)]
 pub enum Command {
     /// Makes an empty directory.
     Mkdir { path: Path },
     /// Makes an empty file.
     Create { path: Path },
-    /// Writes bytes into a file from an offset on, behind zeros where it is shorter.
+    /// Writes bytes into a file from an offset on, after zeros where it is shorter.
     Write { path: Path, off: u32, bytes: Bytes },
     /// Cuts a file, or extends it with zeros, to a length.
     Truncate { path: Path, len: u32 },
@@ -46,66 +45,16 @@ impl Command {
         ensures { result ≡ writes self.now }
     {
         match self {
+            Command::Mkdir { .. }
+            | Command::Create { .. }
+            | Command::Write { .. }
+            | Command::Truncate { .. }
+            | Command::Remove { .. }
+            | Command::Rename { .. }
+            | Command::Clone { .. } => true,
             Command::Read { .. } | Command::Stat { .. } | Command::List { .. } => false,
-            _ => true,
         }
     }
-
-    /// A second command with the same fields.
-    pub fn copy(&self, alloc: Global) -> Result<Command, AllocError>
-        ensures { IfOk result (λ copy. copy ≡ self.now) }
-    {
-        Ok(match self {
-            Command::Mkdir { path } => Command::Mkdir {
-                path: path.copy(alloc)?,
-            },
-            Command::Create { path } => Command::Create {
-                path: path.copy(alloc)?,
-            },
-            Command::Write { path, off, bytes } => Command::Write {
-                path: path.copy(alloc)?,
-                off: *off,
-                bytes: bytes.copy(alloc)?,
-            },
-            Command::Truncate { path, len } => Command::Truncate {
-                path: path.copy(alloc)?,
-                len: *len,
-            },
-            Command::Remove { path } => Command::Remove {
-                path: path.copy(alloc)?,
-            },
-            Command::Rename { a, b } => Command::Rename {
-                a: a.copy(alloc)?,
-                b: b.copy(alloc)?,
-            },
-            Command::Clone { a, b } => Command::Clone {
-                a: a.copy(alloc)?,
-                b: b.copy(alloc)?,
-            },
-            Command::Read { path, off, len } => Command::Read {
-                path: path.copy(alloc)?,
-                off: *off,
-                len: *len,
-            },
-            Command::Stat { path } => Command::Stat {
-                path: path.copy(alloc)?,
-            },
-            Command::List { path, after } => Command::List {
-                path: path.copy(alloc)?,
-                after: copy_after(alloc, after)?,
-            },
-        })
-    }
-}
-
-/// A second one of the same name, if there is one.
-fn copy_after(alloc: Global, after: &Option<Name>) -> Result<Option<Name>, AllocError>
-    ensures { IfOk result (λ copy. copy ≡ after.now) }
-{
-    Ok(match after {
-        Some(name) => Some(name.copy(alloc)?),
-        None => None,
-    })
 }
 
 #[cfg(test)]
@@ -118,7 +67,7 @@ mod tests {
         let make = Command::Mkdir {
             path: Path::root(rt.alloc())?,
         };
-        assert!(rt; make.copy(rt.alloc())?.writes());
+        assert!(rt; make.clone()?.writes());
         Ok(())
     }
 

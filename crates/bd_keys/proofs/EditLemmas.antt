@@ -45,8 +45,8 @@ overwritten-before old off bytes i h k = before-overwritten old off bytes i h �
 pub overwritten-gap : (old : List ℕ) (off : ℕ) (bytes : List ℕ) (i : ℕ) → i < off → length old ≤ i → slice_index (overwritten old off bytes) i ≡ 0
 overwritten-gap old off bytes i h k = before-overwritten old off bytes i h ∙ resized-zero old off i h k
 
-pub overwritten-behind : (old : List ℕ) (off : ℕ) (bytes : List ℕ) (i : ℕ) → off + length bytes ≤ i → slice_index (overwritten old off bytes) i ≡ slice_index old i
-overwritten-behind old off bytes i h =
+pub overwritten-after : (old : List ℕ) (off : ℕ) (bytes : List ℕ) (i : ℕ) → off + length bytes ≤ i → slice_index (overwritten old off bytes) i ≡ slice_index old i
+overwritten-after old off bytes i h =
     get_or-append_right (resized old off ++ bytes) (drop (off + length bytes) old) (off + length bytes) i 0 (front-overwritten old off bytes) h
     ∙ get_or-drop (off + length bytes) old (i - (off + length bytes)) 0
     ∙ ap (slice_index old) (omega arith)

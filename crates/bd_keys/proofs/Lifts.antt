@@ -105,23 +105,23 @@ lift_apart-is a b lo [] lt key key' =
     ]
 
 -- with an end: what the two have in common, and then
-abbrev pub lift_behind : ℕ → List ℕ → List ℕ → ℕ
-lift_behind same lo hi = same + lift_apart (drop same lo) (drop same hi)
+abbrev pub lift_after : ℕ → List ℕ → List ℕ → ℕ
+lift_after same lo hi = same + lift_apart (drop same lo) (drop same hi)
 
 abbrev pub lift_len : List ℕ → List ℕ → ℕ
-lift_len lo hi = lift_behind (common_prefix_len eqb lo hi) lo hi
+lift_len lo hi = lift_after (common_prefix_len eqb lo hi) lo hi
 
 lift_len-same : (a b : ℕ) (lo hi : List ℕ) → a ≡ b → lift_len (a ∷ lo) (b ∷ hi) ≡ suc (lift_len lo hi)
 lift_len-same a b lo hi e =
     let test : eqb a b ≡ true = grind (arith, nat_tests) in
     let more : common_prefix_len eqb (a ∷ lo) (b ∷ hi) ≡ suc (common_prefix_len eqb lo hi) = rw test (omega arith) in
-    ap (λ n. lift_behind n (a ∷ lo) (b ∷ hi)) more ∙ suc_plus (common_prefix_len eqb lo hi) (lift_apart (drop (common_prefix_len eqb lo hi) lo) (drop (common_prefix_len eqb lo hi) hi))
+    ap (λ n. lift_after n (a ∷ lo) (b ∷ hi)) more ∙ suc_plus (common_prefix_len eqb lo hi) (lift_apart (drop (common_prefix_len eqb lo hi) lo) (drop (common_prefix_len eqb lo hi) hi))
 
 lift_len-apart : (a b : ℕ) (lo hi : List ℕ) → a < b → lift_len (a ∷ lo) (b ∷ hi) ≡ lift_apart (a ∷ lo) (b ∷ hi)
 lift_len-apart a b lo hi lt =
     let test : eqb a b ≡ false = grind (arith, nat_tests) in
     let none : common_prefix_len eqb (a ∷ lo) (b ∷ hi) ≡ 0 = rw test in
-    ap (λ n. lift_behind n (a ∷ lo) (b ∷ hi)) none ∙ zero_plus (lift_apart (a ∷ lo) (b ∷ hi))
+    ap (λ n. lift_after n (a ∷ lo) (b ∷ hi)) none ∙ zero_plus (lift_apart (a ∷ lo) (b ∷ hi))
 
 pub lift-closed : (lo hi : List ℕ) → IsKey lo → IsKey hi → IsBelow lo hi → IsLift lo (Some hi) (lift_len lo hi)
 lift-closed [] hi key key' below = lift-nil (Some hi) below

@@ -1,11 +1,11 @@
--- Ranges whose keys all have one first byte: behind it stand the keys of another range.
+-- Ranges whose keys all have one first byte: after it stand the keys of another range.
 use Rattle.std.proofs.Common.{◌≡◌, ◌≢◌, ℕ, suc, ◌<◌, ◌≤◌, List, [], ◌∷◌, refl, sym, ap, ◌∙◌, inl, inr, arith, subst, Less, Greater, Ordering}
 use Rattle.std.specs.Prelude.{Option, Some, None}
 use Rattle.std.proofs.lemmas.Bool.{cases_lt, cases_order}
 use Rattle.bd_keys.specs.Keys.{IsKey, key_cmp, IsBelowEnd, InRange}
 use Rattle.bd_keys.proofs.Order.{first_less, first_same, first_more, not_below_nil}
 
--- the keys from a ∷ lo on and below hi are a, and behind it those from lo on and below hi'
+-- the keys from a ∷ lo on and below hi are a, and after it those from lo on and below hi'
 pub record Opens (a : ℕ) (lo : List ℕ) (hi hi' : Option (List ℕ)) : Type 0 where
   pub byte : a < 256
   pub inside : (k : List ℕ) → IsKey k → InRange (a ∷ lo) hi k → (l : List ℕ) × (k ≡ a ∷ l) × InRange lo hi' l

@@ -4,7 +4,7 @@ use Rattle.std.specs.Prelude.{Option, Some, None}
 use Rattle.std.specs.List.{AllByRecursion}
 use Rattle.std.proofs.lemmas.List.{get_or-take, get_or_default}
 use Rattle.std.proofs.lemmas.Cmp.{nat_list_cmp_total}
-use Rattle.bd_keys.specs.Keys.{IsKey, IsBelow, InRange, Begins, IsBehindAll, IsAfter, IsPrefixRange}
+use Rattle.bd_keys.specs.Keys.{IsKey, IsBelow, InRange, Begins, IsAboveAll, IsAfter, IsPrefixRange}
 use Rattle.bd_keys.proofs.Order.{IsKey-rest, Begins-cons, Begins-uncons, not_below_itself, not_below_nil}
 use Rattle.bd_keys.proofs.Opens.{Opens, opens_same, opens_next, opens_top}
 
@@ -37,7 +37,7 @@ prefix_range-cons a p hi hi' opens range =
           subst (λ k. Begins k (a ∷ p)) (sym found.1) (Begins-cons a found.0 p (range.only found.0 key' found.2));
     }
 
--- behind bytes of 255 there is no end
+-- after bytes of 255 there is no end
 prefix_range-tops : (p : List ℕ) → AllByRecursion (λ b. b ≡ 255) p → IsPrefixRange p None
 prefix_range-tops [] h = prefix_range-nil
 prefix_range-tops (b ∷ p) h = subst (λ d. IsPrefixRange (d ∷ p) None) (sym h.0) (prefix_range-cons 255 p None None (opens_top p) (prefix_range-tops p h.1))
@@ -55,11 +55,11 @@ take_more_set' (b ∷ p) zero y h = refl
 take_more_set' (b ∷ p) (suc n) y h = ap (λ r. b ∷ r) (take_more_set' p n y (omega arith))
 take_more_set' [] n y h = absurd (omega arith)
 
-tops_behind : (p : List ℕ) (n : ℕ) → ((i : ℕ) → n ≤ i → i < length p → get_or p i 0 ≡ 255) → AllByRecursion (λ b. b ≡ 255) (drop n p)
-tops_behind [] zero h = tt
-tops_behind [] (suc n) h = tt
-tops_behind (b ∷ p) zero h = (h 0 (omega arith) (omega arith), tops_behind p zero (λ i le lt. h (suc i) (omega arith) (omega arith)))
-tops_behind (b ∷ p) (suc n) h = tops_behind p n (λ i le lt. h (suc i) (omega arith) (omega arith))
+tops_after : (p : List ℕ) (n : ℕ) → ((i : ℕ) → n ≤ i → i < length p → get_or p i 0 ≡ 255) → AllByRecursion (λ b. b ≡ 255) (drop n p)
+tops_after [] zero h = tt
+tops_after [] (suc n) h = tt
+tops_after (b ∷ p) zero h = (h 0 (omega arith) (omega arith), tops_after p zero (λ i le lt. h (suc i) (omega arith) (omega arith)))
+tops_after (b ∷ p) (suc n) h = tops_after p n (λ i le lt. h (suc i) (omega arith) (omega arith))
 
 IsKey-take : (n : ℕ) (p : List ℕ) → IsKey p → IsKey (take n p)
 IsKey-take zero p h i = omega arith
@@ -69,7 +69,7 @@ IsKey-take (suc n) (b ∷ p) h (suc i) = IsKey-take n p (IsKey-rest b p h) i
 
 -- where all are bytes of 255, there is no end
 pub prefix_range-all : (p : List ℕ) → ((i : ℕ) → 0 ≤ i → i < length p → get_or p i 0 ≡ 255) → IsPrefixRange p None
-prefix_range-all p h = prefix_range-tops p (tops_behind p zero h)
+prefix_range-all p h = prefix_range-tops p (tops_after p zero h)
 
 -- the end is one more at the last byte that isn't 255
 pub prefix_range-kept : (p : List ℕ) (n : ℕ) → IsKey p → n < length p → ((i : ℕ) → suc n ≤ i → i < length p → get_or p i 0 ≡ 255) → IsPrefixRange p (Some (set (take (suc n) p) n (suc (get_or p n 0))))
@@ -79,7 +79,7 @@ prefix_range-kept p n key lt tops =
     let end : set (take (suc n) p) n (suc b) ≡ take n p ++ suc b ∷ [] = take_more_set' p n (suc b) lt in
     subst (λ q. IsPrefixRange p (Some q)) (sym end)
     (subst (λ p'. IsPrefixRange p' (Some (take n p ++ suc b ∷ []))) split
-    (prefix_range-next (take n p) b (drop (suc n) p) (IsKey-take n p key) (key n) (tops_behind p (suc n) tops)))
+    (prefix_range-next (take n p) b (drop (suc n) p) (IsKey-take n p key) (key n) (tops_after p (suc n) tops)))
 
 -- the same, of what the code reads and writes
 pub prefix_range-found : (p items : List ℕ) (kept n x : ℕ) → IsKey p → kept ≡ suc n → kept ≤ length p
@@ -93,20 +93,20 @@ prefix_range-found p items kept n x key e le tops made read =
     ap (λ l. set l n (x + 1)) (made ∙ ap (λ m. take m p) e) ∙ ap (set (take (suc n) p) n) (add-one x ∙ ap suc read') in
     subst (λ q. IsPrefixRange p (Some q)) (sym end) (prefix_range-kept p n key lt (λ i h l. tops i (omega arith) l))
 
--- the end of the range is the first key behind it
+-- the end of the range is the least key above it
 pub IsAfter-prefix_range : (p q : List ℕ) → IsKey p → IsPrefixRange p (Some q) → IsAfter p q
 IsAfter-prefix_range p q key range =
     record {
-      behind = λ k hk begins. (range.inside k hk begins).1;
-      first = λ l hl behind below.
-          let above : IsBelow p l = behind p key (Begins-itself p) in
-          let within : InRange p (Some q) l = ((λ under. not_below_itself p (nat_list_cmp_total.trans p l p above under)), below) in
-          not_below_itself l (behind l hl (range.only l hl within));
+      above = λ k hk begins. (range.inside k hk begins).1;
+      least = λ l hl above below.
+          let greater : IsBelow p l = above p key (Begins-itself p) in
+          let within : InRange p (Some q) l = ((λ under. not_below_itself p (nat_list_cmp_total.trans p l p greater under)), below) in
+          not_below_itself l (above l hl (range.only l hl within));
     }
 
--- where the range has no end, no key stands behind it
-pub none_behind : (p : List ℕ) → IsKey p → IsPrefixRange p None → (l : List ℕ) → IsKey l → IsBehindAll l p → ⊥
-none_behind p key range l hl behind =
-    let above : IsBelow p l = behind p key (Begins-itself p) in
-    let within : InRange p None l = ((λ under. not_below_itself p (nat_list_cmp_total.trans p l p above under)), tt) in
-    not_below_itself l (behind l hl (range.only l hl within))
+-- where the range has no end, no key is above it
+pub none_above : (p : List ℕ) → IsKey p → IsPrefixRange p None → (l : List ℕ) → IsKey l → IsAboveAll l p → ⊥
+none_above p key range l hl above =
+    let greater : IsBelow p l = above p key (Begins-itself p) in
+    let within : InRange p None l = ((λ under. not_below_itself p (nat_list_cmp_total.trans p l p greater under)), tt) in
+    not_below_itself l (above l hl (range.only l hl within))

@@ -1,4 +1,4 @@
--- What the keys between two have in common behind the bytes that the two have in common.
+-- What the keys between two have in common after the bytes that the two have in common.
 use Rattle.std.specs.Prelude.{◌+◌, ℕ, List, [], ◌∷◌, Bool, ◌==◌, if◌then◌else◌}
 use Rattle.std.specs.List.{prefix_len}
 
@@ -6,8 +6,8 @@ use Rattle.std.specs.List.{prefix_len}
 abbrev pub is_top : ℕ → Bool
 is_top b = b == 255
 
--- The first byte and the bytes of 255 behind it, where the end is the next byte alone. Else another first
--- byte stands between.
+-- The first byte and the bytes of 255 after it, where the end is the next byte alone. Else another
+-- first byte stands between.
 abbrev pub lift_apart : List ℕ → List ℕ → ℕ
 lift_apart [] hi = 0
 lift_apart (a ∷ lo) [] = 0

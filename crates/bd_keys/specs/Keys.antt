@@ -13,37 +13,37 @@ IsKey k = (i : ℕ) → slice_index k i < 256
 abbrev pub key_cmp : List ℕ → List ℕ → Ordering
 key_cmp k l = slice_cmp nat_cmp k l
 
--- the first key stands before the second
+-- the first key is below the second
 abbrev pub IsBelow : List ℕ → List ℕ → Type 0
 IsBelow k l = key_cmp k l ≡ Less
 
--- the first key is the second or stands behind it
-abbrev pub IsFrom : List ℕ → List ℕ → Type 0
-IsFrom k lo = key_cmp k lo ≢ Less
+-- the first key is the second or above it
+abbrev pub IsAtLeast : List ℕ → List ℕ → Type 0
+IsAtLeast k lo = key_cmp k lo ≢ Less
 
--- the key stands before the end, if there is one
+-- the key is below the end, if there is one
 abbrev pub IsBelowEnd : List ℕ → Option (List ℕ) → Type 0
 IsBelowEnd k None = Unit {0}
 IsBelowEnd k (Some hi) = IsBelow k hi
 
--- the key is one of those from lo on and below hi
+-- the key is at least lo and below hi
 abbrev pub InRange : List ℕ → Option (List ℕ) → List ℕ → Type 0
-InRange lo hi k = IsFrom k lo × IsBelowEnd k hi
+InRange lo hi k = IsAtLeast k lo × IsBelowEnd k hi
 
 -- the key begins with the prefix
 abbrev pub Begins : List ℕ → List ℕ → Type 0
 Begins k prefix = take (length prefix) k ≡ prefix
 
--- the key stands behind all keys that begin with the prefix
-abbrev pub IsBehindAll : List ℕ → List ℕ → Type 0
-IsBehindAll k prefix = (l : List ℕ) → IsKey l → Begins l prefix → IsBelow l k
+-- the key is above all keys that begin with the prefix
+abbrev pub IsAboveAll : List ℕ → List ℕ → Type 0
+IsAboveAll k prefix = (l : List ℕ) → IsKey l → Begins l prefix → IsBelow l k
 
--- the key is the first of those that stand behind all keys that begin with the prefix
+-- the key is the least of those above all keys that begin with the prefix
 pub record IsAfter (prefix k : List ℕ) : Type 0 where
-  pub behind : IsBehindAll k prefix
-  pub first : (l : List ℕ) → IsKey l → IsBehindAll l prefix → IsFrom l k
+  pub above : IsAboveAll k prefix
+  pub least : (l : List ℕ) → IsKey l → IsAboveAll l prefix → IsAtLeast l k
 
--- the keys that begin with the prefix are just those from it on and below the end
+-- the keys that begin with the prefix are just those that are at least it and below the end
 pub record IsPrefixRange (prefix : List ℕ) (hi : Option (List ℕ)) : Type 0 where
   pub inside : (k : List ℕ) → IsKey k → Begins k prefix → InRange prefix hi k
   pub only : (k : List ℕ) → IsKey k → InRange prefix hi k → Begins k prefix

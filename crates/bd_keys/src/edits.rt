@@ -1,4 +1,5 @@
-// Bytes that are cut, extended and overwritten.
+//! Bytes that are cut, extended and overwritten.
+
 ghost use Rattle.std.specs.Prelude.{◌≡◌, ◌+◌, ◌<◌, ◌^◌, length, take, drop, IfOk};
 ghost use Rattle.bd_keys.specs.Edits.{resized, overwritten};
 

@@ -1,5 +1,6 @@
-// Byte strings and what edits make of them, and the order and the ranges of keys.
-// The layers above may use the contracts, which see byte strings as lists and ranges as sets of keys.
+//! Byte strings and what edits make of them, and the order and the ranges of keys.
+//! The layers above may use the contracts, which see byte strings as lists and ranges as sets of
+//! keys.
 #![tactic(auto)]
 
 mod bytes;

@@ -1,13 +1,14 @@
-// Keys and the bytes that they begin with.
+//! Keys and the bytes that they begin with.
+
 ghost use Rattle.std.specs.Prelude.{◌≡◌, ◌≢◌, ◌==◌, ◌↔◌, ◌<◌, ◌≤◌, ◌-◌, slice_index, ◌++◌, ℕ, List, length, drop, IsTrue, IsNone, IfOk, IfSome, IfNone, All};
 ghost use Rattle.std.specs.Option.{option_copied, option_map};
 ghost use Rattle.std.specs.List.{prefix_len, zip};
-ghost use Rattle.bd_keys.specs.Keys.{Begins, IsAfter, IsBelow, IsBelowEnd, IsBehindAll, IsKey, IsLift, IsPrefixRange};
+ghost use Rattle.bd_keys.specs.Keys.{Begins, IsAfter, IsBelow, IsBelowEnd, IsAboveAll, IsKey, IsLift, IsPrefixRange};
 ghost use Rattle.bd_keys.specs.Apart.{is_top, lift_apart};
 
 use std::alloc::{AllocError, Global};
 
-/// The highest byte, behind which no key stands.
+/// The greatest byte.
 const TOP: u8 = 255;
 
 /// Whether a key begins with a prefix.
@@ -17,14 +18,15 @@ pub fn starts(key: &[u8], prefix: &[u8]) -> bool
     key.starts_with(prefix)
 }
 
-/// The least key above all that begin with a prefix. There is none where the prefix is empty or all its
-/// bytes are 255.
+/// The least key above all that begin with a prefix. There is none where the prefix is empty or all
+/// its bytes are 255.
 pub fn after(alloc: Global, prefix: &[u8]) -> Result<Option<Vec<u8>>, AllocError>
     ensures after { IfOk result (λ end. IfSome end (λ key. IsAfter prefix.now key.items)) }
     ensures none { IfOk result (λ end. IfNone end
-        ((key : List ℕ) → IsKey key → ¬ IsBehindAll key prefix.now)) }
+        ((key : List ℕ) → IsKey key → ¬ IsAboveAll key prefix.now)) }
     ensures last { IfOk result (λ end. IsNone end ↔ All (λ byte. byte ≡ 255) prefix.now) }
-    ensures range { IfOk result (λ end. IsPrefixRange prefix.now (option_map (λ key. key.items) end)) }
+    ensures range { IfOk result (λ end.
+        IsPrefixRange prefix.now (option_map (λ key. key.items) end)) }
 {
     let kept = kept_len(prefix);
     if kept == 0 {
@@ -48,8 +50,8 @@ fn kept_len(prefix: &[u8]) -> usize
     kept
 }
 
-/// The length of the longest prefix that is common to all keys from `lo` on and below `hi`; `None` is no
-/// end.
+/// The length of the longest prefix that is common to all keys that are at least `lo` and below
+/// `hi`; `None` is no end.
 pub fn lift(lo: &[u8], hi: Option<&[u8]>) -> usize
     requires { IsBelowEnd lo.now (option_copied hi) }
     ensures { IsLift lo.now (option_copied hi.entry) result }
@@ -86,7 +88,8 @@ fn common_len(a: &[u8], b: &[u8]) -> usize
     a.iter().zip(b).take_while(|(x, y)| x == y).count()
 }
 
-// How many bytes more all keys from `lo` on and below `hi` have in common, where the first bytes differ.
+// How many bytes more all keys that are at least `lo` and below `hi` have in common, where the
+// first bytes differ.
 fn len_apart(lo: &[u8], hi: &[u8]) -> usize
     ensures value { result ≡ lift_apart lo.now hi.now }
     ensures within { result ≤ length lo.now }
@@ -97,8 +100,8 @@ fn len_apart(lo: &[u8], hi: &[u8]) -> usize
     }
 }
 
-/// A key with a prefix of another length in place of its first bytes: `front`, and then `key` without
-/// its first `count` bytes.
+/// A key with other bytes in place of its first ones: `front`, and then `key` without its first
+/// `count` bytes.
 pub fn translate(
     alloc: Global,
     key: &[u8],

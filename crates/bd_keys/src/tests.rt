@@ -6,7 +6,7 @@ use std::test::Fail;
 #[test]
 fn bytes_are_kept(rt: HostRuntime) -> Result<(), Fail> {
     let bytes = Bytes::from_slice(rt.alloc(), b"ab")?;
-    let copy = bytes.copy(rt.alloc())?;
+    let copy = bytes.clone()?;
     assert!(rt; bytes == copy);
     assert_eq!(rt; copy.len(), 2);
     assert!(rt; !copy.is_empty());
@@ -81,7 +81,7 @@ fn ranges_in_common(rt: HostRuntime) -> Result<(), Fail> {
         lo: Bytes::from_slice(rt.alloc(), b"b")?,
         hi: None,
     };
-    let behind = Range {
+    let above = Range {
         lo: Bytes::from_slice(rt.alloc(), b"c")?,
         hi: None,
     };
@@ -89,7 +89,7 @@ fn ranges_in_common(rt: HostRuntime) -> Result<(), Fail> {
         lo: Bytes::from_slice(rt.alloc(), b"b")?,
         hi: Some(Bytes::from_slice(rt.alloc(), b"c")?),
     };
-    assert!(rt; clip(rt.alloc(), &low, &high)? == Some(both));
-    assert!(rt; clip(rt.alloc(), &low, &behind)? == None);
+    assert!(rt; clip(&low, &high)? == Some(both));
+    assert!(rt; clip(&low, &above)? == None);
     Ok(())
 }

@@ -1,4 +1,4 @@
 mod Finds
 mod Nexts
-mod Spellings
+mod EncodingSizes
 mod Views

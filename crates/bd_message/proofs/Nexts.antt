@@ -6,7 +6,7 @@ use Rattle.std.specs.Ordering.{eq_by_cmp, is_eq}
 use Rattle.std.specs.Cmp.{tied_itself}
 use Rattle.std.proofs.lemmas.Cmp.{nat_list_cmp_total}
 use Rattle.std.proofs.lemmas.List.{take_more}
-use Rattle.bd_keys.specs.Keys.{key_cmp, IsFrom, Begins}
+use Rattle.bd_keys.specs.Keys.{key_cmp, IsAtLeast, Begins}
 use Rattle.bd_message.specs.KeyMaps.{IsNext, IsFound}
 use Rattle.bd_message.specs.Entries.{IsLesser}
 use Rattle.bd_message.proofs.Finds.{Entry, found, find-both, ties_same, same_key-true}
@@ -52,14 +52,14 @@ found_either k es e h =
     ]
 
 -- the keys that are asked for stay the same where the last one isn't
-asked_before : (from within k : List ℕ) (es : List Entry) (e : Entry) → ¬ (IsFrom e.0 from × Begins e.0 within) → IsFound (λ l. found l (es ++ e ∷ [])) from within k → IsFound (λ l. found l es) from within k
+asked_before : (from within k : List ℕ) (es : List Entry) (e : Entry) → ¬ (IsAtLeast e.0 from × Begins e.0 within) → IsFound (λ l. found l (es ++ e ∷ [])) from within k → IsFound (λ l. found l es) from within k
 asked_before from within k es e other (some, after, begins) =
     elim (found_either k es e some) [
       | inl before ↦ (before, after, begins)
-      | inr last ↦ absurd (other (subst (λ (l : List ℕ). IsFrom l from) last after, subst (λ (l : List ℕ). Begins l within) last begins))
+      | inr last ↦ absurd (other (subst (λ (l : List ℕ). IsAtLeast l from) last after, subst (λ (l : List ℕ). Begins l within) last begins))
     ]
 
-pub next_passed : (from within : List ℕ) (es : List Entry) (e : Entry) (least : Option (List ℕ)) → ¬ (IsFrom e.0 from × Begins e.0 within)
+pub next_passed : (from within : List ℕ) (es : List Entry) (e : Entry) (least : Option (List ℕ)) → ¬ (IsAtLeast e.0 from × Begins e.0 within)
     → IsNext (λ l. found l es) from within least → IsNext (λ l. found l (es ++ e ∷ [])) from within least
 next_passed from within es e None other none = λ l asked. none l (asked_before from within l es e other asked)
 next_passed from within es e (Some least) other ((some, after, begins), first) =
@@ -69,17 +69,17 @@ different : Less ≡ Equal → ⊥
 different e = cc
 
 -- no key is below itself
-from_itself : (k : List ℕ) → IsFrom k k
+from_itself : (k : List ℕ) → IsAtLeast k k
 from_itself k less = different (sym less ∙ tied_itself nat_list_cmp_total k)
 
-pub next_taken : (from within : List ℕ) (es : List Entry) (e : Entry) (least : Option (List ℕ)) (lesser : List ℕ) → IsFrom e.0 from → Begins e.0 within → IsLesser least e.0 lesser
+pub next_taken : (from within : List ℕ) (es : List Entry) (e : Entry) (least : Option (List ℕ)) (lesser : List ℕ) → IsAtLeast e.0 from → Begins e.0 within → IsLesser least e.0 lesser
     → IsNext (λ l. found l es) from within least → IsNext (λ l. found l (es ++ e ∷ [])) from within (Some lesser)
 next_taken from within es e None lesser after begins is none =
     subst (λ (k : List ℕ). IsNext (λ l. found l (es ++ e ∷ [])) from within (Some k)) (sym is) (
       (found_last es e, after, begins),
       λ l asked. elim (found_either l es e asked.0) [
         | inl before ↦ absurd (none l (before, asked.1, asked.2))
-        | inr last ↦ subst (λ (k : List ℕ). IsFrom k e.0) (sym last) (from_itself e.0)
+        | inr last ↦ subst (λ (k : List ℕ). IsAtLeast k e.0) (sym last) (from_itself e.0)
       ],
     )
 next_taken from within es e (Some least) lesser after begins (inl (over, is)) ((some, later, inside), first) =
@@ -87,7 +87,7 @@ next_taken from within es e (Some least) lesser after begins (inl (over, is)) ((
       (found_before least es e some, later, inside),
       λ l asked. elim (found_either l es e asked.0) [
         | inl before ↦ first l (before, asked.1, asked.2)
-        | inr last ↦ subst (λ (k : List ℕ). IsFrom k least) (sym last) over
+        | inr last ↦ subst (λ (k : List ℕ). IsAtLeast k least) (sym last) over
       ],
     )
 next_taken from within es e (Some least) lesser after begins (inr (under, is)) ((some, later, inside), first) =
@@ -95,7 +95,7 @@ next_taken from within es e (Some least) lesser after begins (inr (under, is)) (
       (found_last es e, after, begins),
       λ l asked. elim (found_either l es e asked.0) [
         | inl before ↦ λ less. first l (before, asked.1, asked.2) (nat_list_cmp_total.trans l e.0 least less under)
-        | inr last ↦ subst (λ (k : List ℕ). IsFrom k e.0) (sym last) (from_itself e.0)
+        | inr last ↦ subst (λ (k : List ℕ). IsAtLeast k e.0) (sym last) (from_itself e.0)
       ],
     )
 
@@ -104,14 +104,14 @@ one_more : (es : List Entry) (i : ℕ) (item : Entry) → i < length es → item
 one_more es i item lt is = ap (λ (x : Entry). take i es ++ x ∷ []) is ∙ sym (take_more es i item lt)
 
 pub step_passed : (from within : List ℕ) (es : List Entry) (i : ℕ) (item : Entry) (key : List ℕ) (least : Option (List ℕ)) → i < length es → item ≡ get_or es i item → key ≡ item.0
-    → ¬ (IsFrom key from × Begins key within) → IsNext (λ l. found l (take i es)) from within least → IsNext (λ l. found l (take (i + 1) es)) from within least
+    → ¬ (IsAtLeast key from × Begins key within) → IsNext (λ l. found l (take i es)) from within least → IsNext (λ l. found l (take (i + 1) es)) from within least
 step_passed from within es i item key least lt is key_is other next =
     subst (λ (xs : List Entry). IsNext (λ l. found l xs) from within least) (one_more es i item lt is)
-    (next_passed from within (take i es) item least (subst (λ (k : List ℕ). ¬ (IsFrom k from × Begins k within)) key_is other) next)
+    (next_passed from within (take i es) item least (subst (λ (k : List ℕ). ¬ (IsAtLeast k from × Begins k within)) key_is other) next)
 
 pub step_taken : (from within : List ℕ) (es : List Entry) (i : ℕ) (item : Entry) (key again : List ℕ) (least : Option (List ℕ)) (lesser : List ℕ) → i < length es → item ≡ get_or es i item → key ≡ item.0 → again ≡ item.0
-    → IsFrom key from × Begins key within → IsLesser least again lesser → IsNext (λ l. found l (take i es)) from within least → IsNext (λ l. found l (take (i + 1) es)) from within (Some lesser)
+    → IsAtLeast key from × Begins key within → IsLesser least again lesser → IsNext (λ l. found l (take i es)) from within least → IsNext (λ l. found l (take (i + 1) es)) from within (Some lesser)
 step_taken from within es i item key again least lesser lt is key_is again_is asked which next =
     subst (λ (xs : List Entry). IsNext (λ l. found l xs) from within (Some lesser)) (one_more es i item lt is)
-    (let asked' = subst (λ (k : List ℕ). IsFrom k from × Begins k within) key_is asked in
+    (let asked' = subst (λ (k : List ℕ). IsAtLeast k from × Begins k within) key_is asked in
     next_taken from within (take i es) item least lesser asked'.0 asked'.1 (subst (λ (k : List ℕ). IsLesser least k lesser) again_is which) next)

@@ -4,7 +4,7 @@ use Rattle.std.specs.Int.{w16, w64}
 use Rattle.bd_wire.specs.Numbers.{be, FitsWidth}
 use Rattle.bd_wire.specs.Text.{text16, FitsText16}
 use Rattle.bd_wire.specs.Reading.{Unread, Reads}
-use Rattle.bd_wire.specs.Spelling.{BeginsNone, FitsBoth, spell_both}
+use Rattle.bd_wire.specs.Encoding.{BeginsNone, FitsBoth, encode_both}
 use Rattle.bd_message.specs.declared.message.Message.{Message}
 use Rattle.bd_message.specs.declared.message.Message.TheVariants.{Put, Del, Patch, Cut, Goto}
 use Rattle.bd_message.specs.Messages.{IsMessage}
@@ -28,22 +28,22 @@ IsReadAs old new None = BeginsNone IsMessage message_bytes old.left × (new ≡ 
 abbrev pub FitsTexts : List ℕ × List ℕ → Type 0
 FitsTexts = FitsBoth FitsText16 FitsText16
 
-abbrev pub spell_texts : List ℕ × List ℕ → List ℕ
-spell_texts = spell_both text16 text16
+abbrev pub encode_texts : List ℕ × List ℕ → List ℕ
+encode_texts = encode_both text16 text16
 
 -- a text, a number of two bytes and a text
 abbrev pub FitsPart : (List ℕ × ℕ) × List ℕ → Type 0
 FitsPart = FitsBoth (FitsBoth FitsText16 (FitsWidth w16)) FitsText16
 
-abbrev pub spell_part : (List ℕ × ℕ) × List ℕ → List ℕ
-spell_part = spell_both (spell_both text16 (be w16)) text16
+abbrev pub encode_part : (List ℕ × ℕ) × List ℕ → List ℕ
+encode_part = encode_both (encode_both text16 (be w16)) text16
 
 -- two texts and a number of eight bytes
 abbrev pub FitsGoto : (List ℕ × List ℕ) × ℕ → Type 0
 FitsGoto = FitsBoth FitsTexts (FitsWidth w64)
 
-abbrev pub spell_goto : (List ℕ × List ℕ) × ℕ → List ℕ
-spell_goto = spell_both spell_texts (be w64)
+abbrev pub encode_goto : (List ℕ × List ℕ) × ℕ → List ℕ
+encode_goto = encode_both encode_texts (be w64)
 
 -- a message with parts of such lengths, allowed or not
 abbrev pub FitsMessage : Message → Type 0
@@ -54,11 +54,11 @@ FitsMessage (Cut prefix from) = FitsTexts (prefix, from)
 FitsMessage (Goto prefix source child) = FitsGoto ((prefix, source), child)
 
 -- such a message was read off the front, or none stands there
-abbrev pub IsSpeltAs : Unread → Unread → Option Message → Type 0
-IsSpeltAs old new (Some m) = FitsMessage m × Reads old new (message_bytes m)
-IsSpeltAs old new None = BeginsNone FitsMessage message_bytes old.left
+abbrev pub IsEncodedAs : Unread → Unread → Option Message → Type 0
+IsEncodedAs old new (Some m) = FitsMessage m × Reads old new (message_bytes m)
+IsEncodedAs old new None = BeginsNone FitsMessage message_bytes old.left
 
 -- a value of parts was read off the front, or none stands there
 abbrev pub IsPartAs : {A : Type 0} → (A → Type 0) → (A → List ℕ) → Unread → Unread → Option A → Type 0
-IsPartAs fits spelling old new (Some v) = fits v × Reads old new (spelling v)
-IsPartAs fits spelling old new None = BeginsNone fits spelling old.left
+IsPartAs fits encoding old new (Some v) = fits v × Reads old new (encoding v)
+IsPartAs fits encoding old new None = BeginsNone fits encoding old.left

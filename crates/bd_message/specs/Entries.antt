@@ -1,6 +1,6 @@
 -- Lists of keys with their values.
 use Rattle.std.specs.Prelude.{◌≡◌, ℕ, ◌⊎◌, if◌then◌else◌, List, ◌++◌, Option, None, Some}
-use Rattle.bd_keys.specs.Keys.{IsFrom, IsBelow}
+use Rattle.bd_keys.specs.Keys.{IsAtLeast, IsBelow}
 use Rattle.bd_message.specs.Effect.{begins, rest}
 
 -- a key that begins with `s`, behind `d` in its place, with its value
@@ -10,4 +10,4 @@ moved_entry s d e = if begins e.0 s then Some (d ++ rest s e.0, e.1) else None
 -- the lesser of two keys, or the second where there is no first
 abbrev pub IsLesser : Option (List ℕ) → List ℕ → List ℕ → Type 0
 IsLesser None key lesser = lesser ≡ key
-IsLesser (Some least) key lesser = (IsFrom key least × (lesser ≡ least)) ⊎ (IsBelow key least × (lesser ≡ key))
+IsLesser (Some least) key lesser = (IsAtLeast key least × (lesser ≡ least)) ⊎ (IsBelow key least × (lesser ≡ key))

@@ -2,7 +2,7 @@
 use Rattle.std.specs.Prelude.{◌≡◌, ℕ, ◌≤◌, Bool, not, false, ◌&&◌, if◌then◌else◌, List, ◌++◌, length, Option, None, Some, IsSome, Result, IfErr, All}
 use Rattle.std.specs.List.{sum_by}
 use Rattle.bd_io.specs.Cause.{Rose}
-use Rattle.bd_keys.specs.Keys.{Begins, IsFrom}
+use Rattle.bd_keys.specs.Keys.{Begins, IsAtLeast}
 use Rattle.bd_message.specs.declared.fault.Counter.{Counter}
 use Rattle.bd_message.specs.declared.fault.MapFault.{MapFault}
 use Rattle.bd_message.specs.declared.fault.MapFault.TheVariants.{DeviceFault, Damaged, Worn, NoMemory}
@@ -20,11 +20,11 @@ SameAt old new = (k : List ℕ) → new k ≡ old k
 
 -- a key that has a value, from `from` on, that begins with `within`
 abbrev pub IsFound : At → List ℕ → List ℕ → List ℕ → Type 0
-IsFound at from within k = IsSome (at k) × IsFrom k from × Begins k within
+IsFound at from within k = IsSome (at k) × IsAtLeast k from × Begins k within
 
 -- the least of these keys, or none where there is none
 abbrev pub IsNext : At → List ℕ → List ℕ → Option (List ℕ) → Type 0
-IsNext at from within (Some k) = IsFound at from within k × ((l : List ℕ) → IsFound at from within l → IsFrom l k)
+IsNext at from within (Some k) = IsFound at from within k × ((l : List ℕ) → IsFound at from within l → IsAtLeast l k)
 IsNext at from within None = (l : List ℕ) → ¬ IsFound at from within l
 
 -- at most four messages that name no node, for which there is room

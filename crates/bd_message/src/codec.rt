@@ -3,7 +3,7 @@ ghost use Rattle.std.specs.Option.{option_map};
 ghost use Rattle.bd_wire.specs.Text.{text16, FitsText16};
 ghost use Rattle.bd_wire.specs.Writing.{Puts, room};
 ghost use Rattle.bd_message.specs.Messages.{IsMessage};
-ghost use Rattle.bd_message.specs.Codec.{message_bytes, IsReadAs, IsSpeltAs, IsPartAs, FitsTexts, FitsPart, FitsGoto, spell_texts, spell_part, spell_goto};
+ghost use Rattle.bd_message.specs.Codec.{message_bytes, IsReadAs, IsEncodedAs, IsPartAs, FitsTexts, FitsPart, FitsGoto, encode_texts, encode_part, encode_goto};
 
 use crate::Message;
 use bd_keys::Bytes;
@@ -22,8 +22,8 @@ const CUT: u8 = 4;
 const GOTO: u8 = 5;
 
 impl Message {
-    /// Writes its spelling, which is never longer than its size.
-    #[tactic(auto, using(bd_wire::specs::Writing::writing))]
+    /// Writes its encoding, which is never longer than its size.
+    #[tactic(auto, using(bd_wire::proofs::WritingLemmas::writing))]
     pub fn write(&self, out: &mut Out)
         requires message { IsMessage self.now }
         requires room { length (message_bytes self.now) ≤ length (room out.old) }
@@ -82,7 +82,7 @@ impl Message {
 
 // Reads a message off the front, whatever the lengths of its parts.
 fn spelt(alloc: Global, ahead: &mut Cursor) -> Result<Option<Message>, AllocError>
-    ensures { IfOk result (λ found. IsSpeltAs ahead.old ahead.new found) }
+    ensures { IfOk result (λ found. IsEncodedAs ahead.old ahead.new found) }
 {
     let Ok(tag) = ahead.u8() else {
         return Ok(None);
@@ -128,7 +128,7 @@ fn text(alloc: Global, ahead: &mut Cursor) -> Result<Option<Bytes>, AllocError>
 
 // Reads two texts.
 fn texts(alloc: Global, ahead: &mut Cursor) -> Result<Option<(Bytes, Bytes)>, AllocError>
-    ensures { IfOk result (λ found. IsPartAs FitsTexts spell_texts ahead.old ahead.new found) }
+    ensures { IfOk result (λ found. IsPartAs FitsTexts encode_texts ahead.old ahead.new found) }
 {
     let Some(first) = text(alloc, ahead)? else {
         return Ok(None);
@@ -141,7 +141,7 @@ fn texts(alloc: Global, ahead: &mut Cursor) -> Result<Option<(Bytes, Bytes)>, Al
 
 // Reads a text, an offset and a text.
 fn part(alloc: Global, ahead: &mut Cursor) -> Result<Option<(Bytes, u16, Bytes)>, AllocError>
-    ensures { IfOk result (λ found. IsPartAs FitsPart spell_part ahead.old ahead.new (option_map (λ p. ((p.0, p.1), p.2)) found)) }
+    ensures { IfOk result (λ found. IsPartAs FitsPart encode_part ahead.old ahead.new (option_map (λ p. ((p.0, p.1), p.2)) found)) }
 {
     let Some(first) = text(alloc, ahead)? else {
         return Ok(None);
@@ -160,7 +160,7 @@ fn texts_and_child(
     alloc: Global,
     ahead: &mut Cursor,
 ) -> Result<Option<(Bytes, Bytes, u64)>, AllocError>
-    ensures { IfOk result (λ found. IsPartAs FitsGoto spell_goto ahead.old ahead.new (option_map (λ p. ((p.0, p.1), p.2)) found)) }
+    ensures { IfOk result (λ found. IsPartAs FitsGoto encode_goto ahead.old ahead.new (option_map (λ p. ((p.0, p.1), p.2)) found)) }
 {
     let Some((first, second)) = texts(alloc, ahead)? else {
         return Ok(None);

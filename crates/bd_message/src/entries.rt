@@ -4,7 +4,7 @@ ghost use Rattle.std.specs.Prelude.{◌≡◌, ◌≤◌, ◌+◌, ◌++◌, ℕ
 ghost use Rattle.std.specs.Option.{option_copied, unwrap_or};
 ghost use Rattle.std.specs.List.{filter, filter_map};
 ghost use Rattle.std.specs.FinMap as map;
-ghost use Rattle.bd_keys.specs.Keys.{key_cmp, IsFrom, Begins};
+ghost use Rattle.bd_keys.specs.Keys.{key_cmp, IsAtLeast, Begins};
 ghost use Rattle.bd_message.specs.Effect.{act, acts, no_nodes, begins, is_cut, same_key};
 ghost use Rattle.bd_keys.specs.Edits.{overwritten};
 ghost use Rattle.bd_message.specs.declared.message.Message.TheVariants as message;
@@ -188,7 +188,7 @@ pub fn next<'a>(entries: &'a [Entry], from: &[u8], within: &[u8]) -> Option<&'a 
 
 /// Whether a key isn't below `from` and begins with `within`.
 fn is_asked(key: &[u8], from: &[u8], within: &[u8]) -> bool
-    ensures { IsTrue result ↔ (IsFrom key.now from.now × Begins key.now within.now) }
+    ensures { IsTrue result ↔ (IsAtLeast key.now from.now × Begins key.now within.now) }
 {
     !key.cmp(from).is_lt() && starts(key, within)
 }

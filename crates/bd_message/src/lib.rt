@@ -1,4 +1,4 @@
-//! The messages that change a key map, their effect and their spellings, and the key map itself.
+//! The messages that change a key map, their effect and their encodings, and the key map itself.
 //! The layers above use the effect of a message, and of a key map the contract of `KeyMap` alone.
 #![tactic(auto)]
 

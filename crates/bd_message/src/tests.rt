@@ -147,7 +147,7 @@ fn rows_of_messages_and_grafts(rt: HostRuntime) -> Result<(), Fail> {
 }
 
 // Whether a message is written as these bytes without the last one, and read of them.
-#[tactic(auto, using(crate::proofs::Spellings::spelling_within))]
+#[tactic(auto, using(crate::proofs::EncodingSizes::encoding_within))]
 fn read_again(alloc: Global, message: &Message, bytes: &[u8]) -> Result<bool, Fail> {
     let mut cursor = Cursor::new(bytes);
     let found = Message::read(alloc, &mut cursor)?;
@@ -200,8 +200,8 @@ fn messages_are_read_again(rt: HostRuntime) -> Result<(), Fail> {
 
 #[test]
 fn the_laws_are_functions() {
-    laws::messages_begin_no_other();
-    laws::spellings_fit_sizes();
+    laws::messages_are_prefix_free();
+    laws::encodings_fit_sizes();
 }
 
 // A key of two bytes below 4, and its place among all of them.

@@ -1,5 +1,5 @@
 -- What a tree has where it accepts a command.
-use Rattle.std.proofs.Common.{◌≡◌, ◌≢◌, ◌⊎◌, inl, inr, ℕ, ◌≤◌, ◌^◌, Bool, true, false, cond, List, [], ◌∷◌, ◌++◌, Option, None, Some, refl, sym, ap, subst, ◌∙◌, append_assoc}
+use Rattle.std.proofs.Common.{◌≡◌, ◌≢◌, ◌⊎◌, inl, inr, ℕ, ◌≤◌, Bool, true, false, cond, List, [], ◌∷◌, ◌++◌, Option, None, Some, refl, sym, ap, subst, ◌∙◌, append_assoc}
 use Rattle.std.proofs.lemmas.Bool.{leb-true}
 use Rattle.std.proofs.lemmas.List.{append-nil}
 use Rattle.std.specs.Prelude.{is_some, nat_le}
@@ -8,8 +8,9 @@ use Rattle.std.specs.FinMap.{get}
 use Rattle.bd_command.specs.declared.Command.{Command}
 use Rattle.bd_command.specs.declared.refusal.Refusal.{Refusal}
 use Rattle.bd_command.specs.declared.refusal.Refusal.TheVariants.{Exists, Inside, TooBig}
+use Rattle.bd_limits.specs.Limits.{file_limit}
 use Rattle.bd_names.specs.Names.{is_under, parent_of}
-use Rattle.bd_names.specs.NamesLaws.{parent_of-some, is_under-append, is_under-rest}
+use Rattle.bd_names.proofs.NamesLaws.{parent_of-some, is_under-append, is_under-rest}
 use Rattle.bd_model.specs.Tree.{Entry, Directory, FileWith, Tree, IsTree}
 use Rattle.bd_model.specs.Step.{absent_refusal, file_refusal, parent_refusal, new_refusal, root_refusal, size_refusal, inside_refusal, refusal_of, changed, stepped}
 use Rattle.bd_model.specs.Laws.{Accepts, after}
@@ -20,7 +21,7 @@ after-accepted t c ok = ap (λ r. (stepped t c r).0) ok
 pub after-refused : (t : Tree) (c : Command) (r : Refusal) → refusal_of t c ≡ Some r → after t c ≡ t
 after-refused t c r refused = ap (λ r. (stepped t c r).0) refused
 
--- ---- below what is no directory nothing stands
+-- ---- nothing is below what is no directory
 
 no_child_by : (t : Tree) → IsTree t → (p : List (List ℕ)) (n : List ℕ) → get t p ≢ Some Directory → (o : Option Entry) → get t (p ++ n ∷ []) ≡ o → o ≡ None
 no_child_by t tree p n other None e = refl
@@ -64,8 +65,8 @@ file_if_accepted None h = cc
 file_if_accepted (Some Directory) h = cc
 file_if_accepted (Some (FileWith bytes)) h = (bytes, refl)
 
-pub size_if_accepted : (size : ℕ) → size_refusal size ≡ None → size ≤ 2 ^ 30
-size_if_accepted size h = leb-true size (2 ^ 30) (by (nat_le size (2 ^ 30)) h)
+pub size_if_accepted : (size : ℕ) → size_refusal size ≡ None → size ≤ file_limit
+size_if_accepted size h = leb-true size file_limit (by (nat_le size file_limit) h)
   where
     by : (b : Bool) → cond b None (Some TooBig) ≡ None → b ≡ true
     by true h = refl
@@ -78,7 +79,7 @@ outside_if_accepted a b h = by (is_under a b) h
     by true h = cc
     by false h = refl
 
--- nothing stands at a path, and a directory is its parent
+-- nothing is at a path, and a directory is its parent
 pub record CanMake (t : Tree) (p : List (List ℕ)) : Type 0 where
   pub absent : get t p ≡ None
   pub front : List (List ℕ)

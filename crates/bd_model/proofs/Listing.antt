@@ -12,7 +12,7 @@ use Rattle.std.specs.FinMap.{get, find, entries, is_sorted, get-entries, entries
 use Rattle.std.specs.FinMap.Entries.{below_all}
 use Rattle.bd_command.specs.declared.reply.Listed.{Listed}
 use Rattle.bd_names.specs.Names.{rest_below}
-use Rattle.bd_names.specs.NamesLaws.{rest_below-append, rest_below-some}
+use Rattle.bd_names.proofs.NamesLaws.{rest_below-append, rest_below-some}
 use Rattle.bd_model.specs.Tree.{Entry, Tree, path_cmp}
 use Rattle.bd_model.specs.Step.{child_of, children, is_directory}
 use Rattle.bd_model.proofs.PathOrder.{paths_total, same_path, same_path-true, same_path-equal, same_path-false}
@@ -124,8 +124,8 @@ find_at q x (e ∷ es) zero sorted h at =
     ap (λ (b : Bool). cond b (Some e.1) (find path_cmp q es)) (same_path-equal q e.0 (sym key)) ∙ ap Some value
 find_at q x (e ∷ es) (suc k) sorted h at =
     let below : path_cmp e.0 (slice_index_or es k (q, x)).0 ≡ Less = below_at e.0 es k (q, x) (omega arith) (first (below_all path_cmp e.0 es) (is_sorted path_cmp es) sorted) in
-    let behind : path_cmp e.0 q ≡ Less = ap (λ (y : List (List ℕ) × Entry). path_cmp e.0 y.0) (sym at) ∙ below in
-    ap (λ (b : Bool). cond b (Some e.1) (find path_cmp q es)) (less_apart e.0 q behind)
+    let after : path_cmp e.0 q ≡ Less = ap (λ (y : List (List ℕ) × Entry). path_cmp e.0 y.0) (sym at) ∙ below in
+    ap (λ (b : Bool). cond b (Some e.1) (find path_cmp q es)) (less_apart e.0 q after)
     ∙ find_at q x es k (second (below_all path_cmp e.0 es) (is_sorted path_cmp es) sorted) (omega arith) at
 
 pub names_only : (t : Tree) (p : List (List ℕ)) (l : Listed) → Contains (children p t) l → (x : Entry) × (get t (p ++ l.name ∷ []) ≡ Some x) × (l.is_dir ≡ is_directory x)
@@ -138,7 +138,7 @@ names_only t p l h =
 abbrev name_cmp : List ℕ → List ℕ → Ordering
 name_cmp = slice_cmp nat_cmp
 
--- behind one front, paths compare as their rests do
+-- after one front, paths compare as their rests do
 path_cmp-front : (p r s : List (List ℕ)) → path_cmp (p ++ r) (p ++ s) ≡ path_cmp r s
 path_cmp-front [] r s = refl
 path_cmp-front (n ∷ p) r s = ap (λ (o : Ordering). ordering_then o (path_cmp (p ++ r) (p ++ s))) (tied_itself nat_list_cmp_total n) ∙ path_cmp-front p r s
@@ -157,7 +157,7 @@ names ls = map (λ l. l.name) ls
 child_path : (p : List (List ℕ)) (e : List (List ℕ) × Entry) (l : Listed) → child p e ≡ Some l → e.0 ≡ p ++ l.name ∷ []
 child_path p e l is = rest_below-some p e.0 (l.name ∷ []) (named_by (rest_below p e.0) e.1 l is).0
 
--- a name is below those that stand behind it
+-- a name is below those that come after it
 below_names : (p : List (List ℕ)) (n : List ℕ) (es : Entries) → T (below_all path_cmp (p ++ n ∷ []) es) → AllByRecursion (λ m. name_cmp n m ≡ Less) (names (filter_map (child p) es))
 below_names p n [] below = tt
 below_names p n (e ∷ es) below = by (child p e) refl (below_names p n es (second (is_lt (path_cmp (p ++ n ∷ []) e.0)) (below_all path_cmp (p ++ n ∷ []) es) below))

@@ -39,7 +39,7 @@ one_or_apart p q = by (cases_Bool (same_path p q))
     by (inl h) = inl (same_path-true p q h)
     by (inr h) = inr (λ same. contradict (same_path p q) h (same_path-equal p q same))
 
--- behind two fronts, rests are told apart alike
+-- after two fronts, rests are told apart alike
 pub same_path-fronts : (a b r s : List (List ℕ)) → same_path (b ++ r) (b ++ s) ≡ same_path (a ++ r) (a ++ s)
 same_path-fronts a b r s = both_ways (same_path (b ++ r) (b ++ s)) (same_path (a ++ r) (a ++ s)) (moves b a) (moves a b)
   where

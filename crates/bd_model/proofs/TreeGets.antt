@@ -4,7 +4,7 @@ use Rattle.std.specs.List.{filter_map, cons_option}
 use Rattle.std.specs.Option.{option_or, option_map}
 use Rattle.std.specs.FinMap.{get, insert, find, entries, from_entries, get-entries, get-insert, get-retain_keys, get-from_entries}
 use Rattle.bd_names.specs.Names.{rest_below, is_under}
-use Rattle.bd_names.specs.NamesLaws.{rest_below-append, rest_below-some, is_under-append}
+use Rattle.bd_names.proofs.NamesLaws.{rest_below-append, rest_below-some, is_under-append}
 use Rattle.bd_model.specs.Tree.{Entry, Tree, path_cmp}
 use Rattle.bd_model.specs.Step.{moved_entry, moved, without}
 use Rattle.bd_model.proofs.PathOrder.{paths_total, paths_exact, same_path, same_path-refl, same_path-false, same_path-fronts}

@@ -6,7 +6,7 @@ use Rattle.bd_command.specs.declared.Command.{Command}
 use Rattle.bd_command.specs.declared.Command.TheVariants.{Write, Truncate, Remove, Rename, Clone, Read, Stat, List as Ls}
 use Rattle.bd_command.specs.Command.{writes}
 use Rattle.bd_names.specs.Names.{is_under}
-use Rattle.bd_names.specs.NamesLaws.{is_under-append}
+use Rattle.bd_names.proofs.NamesLaws.{is_under-append}
 use Rattle.bd_model.specs.Tree.{Entry, FileWith, Tree, IsTree}
 use Rattle.bd_keys.specs.Edits.{resized, overwritten}
 use Rattle.bd_model.specs.Step.{absent_refusal, file_refusal, new_refusal, root_refusal, size_refusal, inside_refusal, file_bytes, without, cloned, renamed, changed, stepped, refusal_of}

@@ -9,7 +9,7 @@ use Rattle.bd_command.specs.declared.Command.TheVariants.{Mkdir, Create, Write, 
 use Rattle.bd_command.specs.declared.refusal.Refusal.{Refusal}
 use Rattle.bd_command.specs.Command.{IsCommand}
 use Rattle.bd_names.specs.Names.{AreNames, is_under, parent_of}
-use Rattle.bd_names.specs.NamesLaws.{AreNames-append, AreNames-parts, is_under-append, is_under-rest, is_under-trans, parent_of-some, parent_of-none}
+use Rattle.bd_names.proofs.NamesLaws.{AreNames-append, AreNames-parts, is_under-append, is_under-rest, is_under-trans, parent_of-some, parent_of-none}
 use Rattle.bd_model.specs.Tree.{Entry, Directory, FileWith, Tree, IsTree, IsEntry, root_only}
 use Rattle.bd_keys.specs.Edits.{resized, overwritten}
 use Rattle.bd_model.specs.Step.{without, cloned, renamed, changed, stepped, refusal_of, file_refusal, size_refusal, root_refusal, absent_refusal, file_bytes}

@@ -1,5 +1,5 @@
 -- What a command does: the first refusal that holds, or else the tree after it and its reply.
-use Rattle.std.specs.Prelude.{ℕ, ◌+◌, ◌^◌, Bool, true, false, not, List, [], ◌∷◌, ◌++◌, length, take, drop, nat_le, nat_lt, if◌then◌else◌, is_some}
+use Rattle.std.specs.Prelude.{ℕ, ◌+◌, Bool, true, false, not, List, [], ◌∷◌, ◌++◌, length, take, drop, nat_le, nat_lt, if◌then◌else◌, is_some}
 use Rattle.std.specs.List.{filter, filter_map}
 use Rattle.std.specs.Option.{option_or, option_map, option_and_then}
 use Rattle.std.specs.Ordering.{nat_cmp, is_lt}
@@ -7,6 +7,7 @@ use Rattle.std.specs.Cmp.Lexicographic.{slice_cmp}
 use Rattle.std.specs.declared.option.Option.{Option}
 use Rattle.std.specs.declared.option.Option.TheVariants.{None, Some}
 use Rattle.std.specs.FinMap.{get, insert, retain_keys, entries, from_entries}
+use Rattle.bd_limits.specs.Limits.{file_limit, listing_limit}
 use Rattle.bd_keys.specs.Edits.{resized, overwritten}
 use Rattle.bd_names.specs.Names.{rest_below, is_under, parent_of}
 use Rattle.bd_command.specs.declared.Command.{Command}
@@ -17,7 +18,7 @@ use Rattle.bd_command.specs.declared.reply.Listed.{Listed}
 use Rattle.bd_command.specs.declared.reply.Listing.{Listing}
 use Rattle.bd_command.specs.declared.reply.Reply.{Reply}
 use Rattle.bd_command.specs.declared.reply.Reply.TheVariants.{Done, Bytes, Dir, File, Names, Refused}
-use Rattle.bd_model.specs.Tree.{Entry, Directory, FileWith, Tree}
+use Rattle.bd_model.specs.Tree.{Name, Path, Entry, Directory, FileWith, Tree}
 
 -- ---- refusals
 
@@ -45,27 +46,35 @@ parent_refusal (Some Directory) = None
 parent_refusal (Some (FileWith bytes)) = Some NotDir
 
 -- a new entry can't be made at the path
-abbrev pub new_refusal : Tree → List (List ℕ) → Option Refusal
-new_refusal t path = if is_some (get t path) then Some Exists else parent_refusal (option_and_then (get t) (parent_of path))
+abbrev pub new_refusal : Tree → Path → Option Refusal
+new_refusal t path =
+    if is_some (get t path) then Some Exists
+    else parent_refusal (option_and_then (get t) (parent_of path))
 
-abbrev pub root_refusal : List (List ℕ) → Option Refusal
+-- the path is `/`
+abbrev pub root_refusal : Path → Option Refusal
 root_refusal [] = Some Root
 root_refusal (n ∷ ns) = None
 
+-- the file would be longer than `file_limit`
 abbrev pub size_refusal : ℕ → Option Refusal
-size_refusal size = if nat_le size (2 ^ 30) then None else Some TooBig
+size_refusal size = if nat_le size file_limit then None else Some TooBig
 
-abbrev pub inside_refusal : List (List ℕ) → List (List ℕ) → Option Refusal
+-- `b` is `a` or below it
+abbrev pub inside_refusal : Path → Path → Option Refusal
 inside_refusal a b = if is_under a b then Some Inside else None
 
 -- why the tree refuses a command, if it does: the first cause that holds
 abbrev pub refusal_of : Tree → Command → Option Refusal
 refusal_of t (Mkdir path) = new_refusal t path
 refusal_of t (Create path) = new_refusal t path
-refusal_of t (Write path off bytes) = option_or (file_refusal (get t path)) (size_refusal (off + length bytes))
+refusal_of t (Write path off bytes) =
+    option_or (file_refusal (get t path)) (size_refusal (off + length bytes))
 refusal_of t (Truncate path len) = option_or (file_refusal (get t path)) (size_refusal len)
 refusal_of t (Remove path) = option_or (root_refusal path) (absent_refusal (get t path))
-refusal_of t (Rename a b) = option_or (root_refusal a) (option_or (absent_refusal (get t a)) (option_or (inside_refusal a b) (new_refusal t b)))
+refusal_of t (Rename a b) =
+    option_or (root_refusal a) (option_or (absent_refusal (get t a))
+    (option_or (inside_refusal a b) (new_refusal t b)))
 refusal_of t (Clone a b) = option_or (absent_refusal (get t a)) (new_refusal t b)
 refusal_of t (Read path off len) = file_refusal (get t path)
 refusal_of t (Stat path) = absent_refusal (get t path)
@@ -73,35 +82,42 @@ refusal_of t (Ls path after) = directory_refusal (get t path)
 
 -- ---- the tree after an accepted command
 
+-- the bytes of a file; none where there is none
 abbrev pub file_bytes : Option Entry → List ℕ
 file_bytes None = []
 file_bytes (Some Directory) = []
 file_bytes (Some (FileWith bytes)) = bytes
 
+-- a path and its entry
+abbrev pub Placed : Type 0
+Placed = Path × Entry
+
 -- an entry at `a` or below it, moved to the same place at `b`
-abbrev pub moved_entry : List (List ℕ) → List (List ℕ) → List (List ℕ) × Entry → Option (List (List ℕ) × Entry)
+abbrev pub moved_entry : Path → Path → Placed → Option Placed
 moved_entry a b e = option_map (λ rest. (b ++ rest, e.1)) (rest_below a e.0)
 
 -- each entry at `a` or below it, moved to the same place at `b`
-abbrev pub moved : List (List ℕ) → List (List ℕ) → Tree → List (List (List ℕ) × Entry)
+abbrev pub moved : Path → Path → Tree → List Placed
 moved a b t = filter_map (moved_entry a b) (entries t)
 
 -- without a path and all below it
-abbrev pub without : List (List ℕ) → Tree → Tree
+abbrev pub without : Path → Tree → Tree
 without path t = retain_keys t (λ q. not (is_under path q))
 
 -- what stood at `a` or below it stands at `b` too, and all else stays
-abbrev pub cloned : List (List ℕ) → List (List ℕ) → Tree → Tree
+abbrev pub cloned : Path → Path → Tree → Tree
 cloned a b t = from_entries (moved a b t ++ entries t)
 
 -- what stood at `a` or below it stands at `b`, nothing at `a`, and all else stays
-abbrev pub renamed : List (List ℕ) → List (List ℕ) → Tree → Tree
+abbrev pub renamed : Path → Path → Tree → Tree
 renamed a b t = from_entries (moved a b t ++ entries (without a t))
 
+-- the tree after a command that it accepts
 abbrev pub changed : Tree → Command → Tree
 changed t (Mkdir path) = insert t path Directory
 changed t (Create path) = insert t path (FileWith [])
-changed t (Write path off bytes) = insert t path (FileWith (overwritten (file_bytes (get t path)) off bytes))
+changed t (Write path off bytes) =
+    insert t path (FileWith (overwritten (file_bytes (get t path)) off bytes))
 changed t (Truncate path len) = insert t path (FileWith (resized (file_bytes (get t path)) len))
 changed t (Remove path) = without path t
 changed t (Rename a b) = renamed a b t
@@ -112,35 +128,39 @@ changed t (Ls path after) = t
 
 -- ---- the reply to an accepted command
 
+-- what is there
 abbrev pub stat_reply : Option Entry → Reply
 stat_reply None = Dir
 stat_reply (Some Directory) = Dir
 stat_reply (Some (FileWith bytes)) = File (length bytes)
 
+-- an entry is a directory
 abbrev pub is_directory : Entry → Bool
 is_directory Directory = true
 is_directory (FileWith bytes) = false
 
 -- the name of an entry that stands in a directory, by what follows the directory in its path
-abbrev pub child_of : Option (List (List ℕ)) → Entry → Option Listed
+abbrev pub child_of : Option Path → Entry → Option Listed
 child_of None e = None
 child_of (Some []) e = None
 child_of (Some (n ∷ [])) e = Some (record { name = n; is_dir = is_directory e })
 child_of (Some (n ∷ m ∷ ns)) e = None
 
 -- the names in a directory, in the order of their bytes
-abbrev pub children : List (List ℕ) → Tree → List Listed
+abbrev pub children : Path → Tree → List Listed
 children path t = filter_map (λ e. child_of (rest_below path e.0) e.1) (entries t)
 
 -- those greater than a name, where one is given
-abbrev pub those_after : Option (List ℕ) → List Listed → List Listed
+abbrev pub those_after : Option Name → List Listed → List Listed
 those_after None names = names
 those_after (Some name) names = filter (λ l. is_lt (slice_cmp nat_cmp name l.name)) names
 
--- at most 100 of them, and whether more follow
+-- at most `listing_limit` of them, and whether more follow
 abbrev pub listing_of : List Listed → Listing
-listing_of names = record { names = take 100 names; more = nat_lt 100 (length names) }
+listing_of names =
+    record { names = take listing_limit names; more = nat_lt listing_limit (length names) }
 
+-- the reply of a tree to a command that it accepts
 abbrev pub answer : Tree → Command → Reply
 answer t (Read path off len) = Bytes (take len (drop off (file_bytes (get t path))))
 answer t (Stat path) = stat_reply (get t path)
@@ -160,5 +180,6 @@ abbrev pub stepped : Tree → Command → Option Refusal → Tree × Reply
 stepped t c (Some r) = (t, Refused r)
 stepped t c None = (changed t c, answer t c)
 
+-- the step of a command on a tree
 abbrev pub step : Tree → Command → Tree × Reply
 step t c = stepped t c (refusal_of t c)

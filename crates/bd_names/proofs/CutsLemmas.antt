@@ -10,21 +10,22 @@ use Rattle.std.proofs.lemmas.List.Splits.{length-slice_split}
 use Rattle.std.specs.Cmp.Lexicographic.{pointwise}
 use Rattle.std.proofs.lemmas.Slice.Eq.{bytes_eq-Decides}
 use Rattle.bd_names.specs.Names.{AreNames, is_name, path_text, names_in, key_of, parent_of, is_under}
-use Rattle.bd_names.specs.NamesLaws.{is_path-parts, path_text-names_in, names_in-path_text, is_path-path_text, slashed, slashed-append, slashed-front, at_slashes, parent_of-append, AreNames-parts, AreNames-cons, is_name-length, is_under-append, is_under-rest, is_under-refl, key_of-append}
+use Rattle.bd_limits.specs.Limits.{path_limit}
+use Rattle.bd_names.proofs.NamesLaws.{is_path-parts, path_text-names_in, names_in-path_text, is_path-path_text, slashed, slashed-append, slashed-front, at_slashes, parent_of-append, AreNames-parts, AreNames-cons, is_name-length, is_under-append, is_under-rest, is_under-refl, key_of-append}
 use Rattle.bd_names.specs.Cuts.{ends_from, IsCut}
 
--- ---- the text behind the cuts
+-- ---- the text from the cuts
 
 pub IsCut-text : (text cuts : List ℕ) (ns : List (List ℕ)) → IsCut text cuts → names_in text ≡ ns → text ≡ path_text ns
 IsCut-text text cuts ns h e = sym (path_text-names_in text (is_path-parts text h.path).1) ∙ ap path_text e
 
-pub IsCut-length : (text cuts : List ℕ) (ns : List (List ℕ)) → IsCut text cuts → names_in text ≡ ns → length (path_text ns) ≤ 512
+pub IsCut-length : (text cuts : List ℕ) (ns : List (List ℕ)) → IsCut text cuts → names_in text ≡ ns → length (path_text ns) ≤ path_limit
 IsCut-length text cuts ns h e = rw (sym (IsCut-text text cuts ns h e)) ((is_path-parts text h.path).0)
 
 pub IsCut-names : (text cuts : List ℕ) (ns : List (List ℕ)) → IsCut text cuts → names_in text ≡ ns → AreNames ns
 IsCut-names text cuts ns h e = rw (sym e) ((is_path-parts text h.path).2)
 
-pub IsCut-path_text : (ns : List (List ℕ)) → AreNames ns → length (path_text ns) ≤ 512 → IsCut (path_text ns) (ends_from 1 ns)
+pub IsCut-path_text : (ns : List (List ℕ)) → AreNames ns → length (path_text ns) ≤ path_limit → IsCut (path_text ns) (ends_from 1 ns)
 IsCut-path_text ns h size = record { path = is_path-path_text ns h size; ends = ap (ends_from 1) (sym (names_in-path_text ns h)) }
 
 -- ---- a scan of a text for its slashes
@@ -187,7 +188,7 @@ parent_fits text cuts ns k h e l =
 pub parent_cut : (text cuts : List ℕ) (ns : List (List ℕ)) (k : ℕ) → IsCut text cuts → names_in text ≡ ns → length cuts ≡ suc (suc k) → IsCut (take (get_or cuts k 0) text) (take (suc k) cuts)
 parent_cut text cuts ns k h e l =
     let names : AreNames (take (suc k) ns) = parent_names text cuts ns (suc k) h e in
-    let size : length (path_text (take (suc k) ns)) ≤ 512 = omega (arith, parent_end text cuts ns k h e l, parent_fits text cuts ns k h e l, (is_path-parts text h.path).0) in
+    let size : length (path_text (take (suc k) ns)) ≤ path_limit = omega (arith, parent_end text cuts ns k h e l, parent_fits text cuts ns k h e l, (is_path-parts text h.path).0) in
     let ends : take (suc k) cuts ≡ ends_from 1 (take (suc k) ns) = ap (take (suc k)) (h.ends ∙ ap (ends_from 1) e) ∙ ends_from-take (suc k) 1 ns in
     let P : List ℕ → Type 0 = λ x. IsCut x (take (suc k) cuts) in
     let Q : List ℕ → Type 0 = λ x. IsCut (path_text (take (suc k) ns)) x in

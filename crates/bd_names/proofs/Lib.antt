@@ -1,1 +1,2 @@
 pub mod CutsLemmas
+pub mod NamesLaws

@@ -1,4 +1,3 @@
 pub mod Names
 pub mod Cuts
-pub mod NamesLaws
 pub mod Faults

@@ -1,20 +1,21 @@
-// A name.
+//! A name.
+
 ghost use Rattle.std.specs.Prelude.{◌≡◌, ◌↔◌, length, false, IsTrue, IfOk};
 ghost use Rattle.std.specs.List.{list_all};
 ghost use Rattle.bd_names.specs.Names.{is_dots, is_name, is_name_byte};
 ghost use Rattle.bd_names.specs.declared.fault.PathFault.{PathFault};
 
 use crate::fault::PathFault;
+use bd_keys::Bytes;
+use bd_limits::MAX_NAME;
 use std::alloc::{AllocError, Global};
 use std::marker::Model;
 
-/// The greatest length of a name, in bytes.
-const MAX_NAME: usize = 255;
-
-/// A name: 1 to 255 bytes, each of 0x21 to 0xFF but for the slash and 0x7F, and neither `.` nor `..`.
-#[derive(Debug, Drop)]
+/// A name: 1 to 255 bytes, each of 0x21 to 0xFF but for the slash and 0x7F, and neither `.` nor
+/// `..`.
+#[derive(Debug, PartialEq, Eq, PartialOrd, Ord, Drop)]
 pub struct Name {
-    text: Vec<u8>,
+    text: Bytes,
 }
 
 impl Model for Name {
@@ -24,9 +25,11 @@ impl Model for Name {
 
     ghost use Rattle.bd_names.specs.Names.{is_name};
 
-    ghost view = { λ n. n.text.items };
+    ghost view = { λ n. n.text };
 
-    ghost invariant = { λ n. IsTrue (is_name n.text.items) };
+    ghost invariant = { λ n. IsTrue (is_name n.text) };
+
+    ghost inverse = { λ text. record { text = text } };
 }
 
 impl Name {
@@ -58,7 +61,7 @@ impl Name {
         ensures { IfOk result (λ name. name ≡ text.now) }
     {
         Ok(Name {
-            text: Vec::from_slice(alloc, text)?,
+            text: Bytes::from_slice(alloc, text)?,
         })
     }
 
@@ -69,12 +72,15 @@ impl Name {
     {
         self.text.as_slice()
     }
+}
 
-    /// A second one of the same bytes.
-    pub fn copy(&self, alloc: Global) -> Result<Name, AllocError>
-        ensures { IfOk result (λ copy. copy ≡ self.now) }
-    {
-        Name::from_text(alloc, self.as_bytes())
+impl Clone for Name {
+    ghost is_clone = { λ name copy. copy ≡ name };
+
+    fn clone(&self) -> Result<Name, AllocError> {
+        Ok(Name {
+            text: self.text.clone()?,
+        })
     }
 }
 
@@ -106,7 +112,7 @@ mod tests {
 
     #[test]
     fn reads_names(rt: HostRuntime) -> Result<(), Fail> {
-        let name = Name::read(rt.alloc(), b"b")?.copy(rt.alloc())?;
+        let name = Name::read(rt.alloc(), b"b")?.clone()?;
         assert_eq!(rt; name.as_bytes(), b"b".as_slice());
         assert!(rt; Name::read(rt.alloc(), b"b/c").is_err());
         Ok(())

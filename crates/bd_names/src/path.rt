@@ -1,18 +1,18 @@
-// A path.
+//! A path.
+
 ghost use Rattle.std.specs.Prelude.{◌≡◌, ◌<◌, ◌≤◌, ◌↔◌, [], List, ℕ, length, take, drop, slice_index_or, IsTrue, IfOk};
 ghost use Rattle.std.specs.Prelude.{◌+◌, ◌-◌, ◌==◌, if◌then◌else◌, slice_index};
 ghost use Rattle.std.specs.List.{list_all, slice_split};
+ghost use Rattle.bd_limits.specs.Limits.{path_limit};
 ghost use Rattle.bd_names.specs.Names.{is_name, AreNames, path_text, names_in, is_path, path_of, key_of, is_under, parent_of};
 ghost use Rattle.bd_names.specs.Cuts.{ends_from, IsCut};
 
 use crate::fault::PathFault;
 use crate::name::Name;
+use bd_limits::MAX_PATH;
 use smallvec::SmallVec;
 use std::alloc::{AllocError, Global};
 use std::marker::Model;
-
-/// The greatest length of a path's text, in bytes.
-pub const MAX_PATH: usize = 512;
 
 /// A path of at most 512 bytes, seen as the list of its names. `/` has none.
 #[derive(Debug, Drop)]
@@ -57,7 +57,8 @@ impl Path {
         }
     }
 
-    /// Reads a path. A text that is none, or has more than 512 bytes, is refused as `BadPath` and takes no memory.
+    /// Reads a path. A text that is none, or has more than 512 bytes, is refused as `BadPath` and
+    /// takes no memory.
     pub fn read(alloc: Global, text: &[u8]) -> Result<Path, PathFault>
         ensures path { IfOk result (λ path. path_of text.now ≡ Some path) }
         ensures bad_path { (result ≡ Err PathFault.BadPath) ↔ (path_of text.now ≡ None) }
@@ -75,7 +76,7 @@ impl Path {
     pub fn as_bytes(&self) -> &[u8]
         ensures text { result.now ≡ path_text self.now }
         ensures names { AreNames self.now }
-        ensures length { length (path_text self.now) ≤ 512 }
+        ensures length { length (path_text self.now) ≤ path_limit }
     {
         self.text.as_slice()
     }
@@ -99,17 +100,7 @@ impl Path {
         }
     }
 
-    /// A second one of the same names.
-    pub fn copy(&self, alloc: Global) -> Result<Path, AllocError>
-        ensures { IfOk result (λ copy. copy ≡ self.now) }
-    {
-        Ok(Path {
-            text: Vec::from_slice(alloc, self.text.as_slice())?,
-            cuts: SmallVec::from_slice(alloc, self.cuts.as_slice())?,
-        })
-    }
-
-    /// The key of the path: each of its names, and a zero byte behind it.
+    /// The key of the path: each of its names, and a zero byte after it.
     pub fn key(&self, alloc: Global) -> Result<Vec<u8>, AllocError>
         ensures { IfOk result (λ key. key.items ≡ key_of self.now) }
     {
@@ -150,7 +141,8 @@ impl Path {
         }))
     }
 
-    /// Writes the text of the path at the front of `into` and returns its length in bytes. What stands behind it stays.
+    /// Writes the text of the path at the front of `into` and returns its length in bytes. What
+    /// stands after it stays.
     pub fn write(&self, into: &mut [u8; MAX_PATH]) -> usize
         ensures length { result ≡ length (path_text self.now) }
         ensures text { take result into.new ≡ path_text self.now }
@@ -159,6 +151,17 @@ impl Path {
         let len = self.text.len();
         into[..len].copy_from_slice(&self.text);
         len
+    }
+}
+
+impl Clone for Path {
+    ghost is_clone = { λ path copy. copy ≡ path };
+
+    fn clone(&self) -> Result<Path, AllocError> {
+        Ok(Path {
+            text: self.text.clone()?,
+            cuts: self.cuts.clone()?,
+        })
     }
 }
 
@@ -171,7 +174,7 @@ fn are_names(text: &[u8]) -> bool
 
 /// The places where the names of a path end.
 fn cuts_in(alloc: Global, text: &[u8]) -> Result<SmallVec<u16, 8>, AllocError>
-    requires { length text.now ≤ 512 }
+    requires { length text.now ≤ path_limit }
     ensures { IfOk result (λ cuts. cuts.items ≡ ends_from 1 (names_in text.now)) }
 {
     let mut cuts = SmallVec::new(alloc);
@@ -265,7 +268,7 @@ mod tests {
 
     #[test]
     fn root_has_no_parent(rt: HostRuntime) -> Result<(), Fail> {
-        let root = Path::root(rt.alloc())?.copy(rt.alloc())?;
+        let root = Path::root(rt.alloc())?.clone()?;
         assert!(rt; root.is_root());
         assert!(rt; root.parent(rt.alloc())?.is_none());
         Ok(())

@@ -1,4 +1,4 @@
--- What the program's entries stand for.
+-- What the program's entries represent.
 use Rattle.std.specs.Prelude.{◌≡◌, ℕ, ◌<◌, ◌≤◌, List, length, slice_set}
 use Rattle.std.specs.List.{insert}
 use Rattle.std.specs.declared.result.Result.{Result}
@@ -15,5 +15,7 @@ entry_of (content.File bytes) = FileWith bytes
 
 -- where in a list in order an entry of this path stands, or else where it would have to be inserted
 abbrev pub IsPlace : List (List (List ℕ) × Entry) → List (List ℕ) → Result ℕ ℕ → Type 0
-IsPlace es path (Ok at) = (at < length es) × ((e : Entry) → put path_cmp path e es ≡ slice_set es at (path, e))
-IsPlace es path (Err at) = (at ≤ length es) × ((e : Entry) → put path_cmp path e es ≡ insert es at (path, e))
+IsPlace es path (Ok at) =
+    (at < length es) × ((e : Entry) → put path_cmp path e es ≡ slice_set es at (path, e))
+IsPlace es path (Err at) =
+    (at ≤ length es) × ((e : Entry) → put path_cmp path e es ≡ insert es at (path, e))

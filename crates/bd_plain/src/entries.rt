@@ -18,7 +18,8 @@ use std::cmp::Ordering;
 
 /// What stands at a path.
 pub fn find<'a>(entries: &'a [Placed], path: &[Name]) -> Option<&'a Content>
-    ensures { option_map (λ content. entry_of content.now) result ≡ map.find path_cmp path.now entries.now }
+    ensures { option_map (λ content. entry_of content.now) result
+        ≡ map.find path_cmp path.now entries.now }
 {
     for placed in entries {
         if paths::compare(path, placed.path()).is_eq() {
@@ -44,7 +45,8 @@ fn place(entries: &[Placed], path: &[Name]) -> Result<usize, usize>
 
 /// Puts an entry in its place, instead of the one that stands at its path.
 pub fn put(entries: &mut Vec<Placed>, placed: Placed) -> Result<(), AllocError>
-    ensures ok { OnOk result (entries.new.items ≡ map.put path_cmp placed.0 placed.1 entries.old.items) }
+    ensures ok { OnOk result
+        (entries.new.items ≡ map.put path_cmp placed.0 placed.1 entries.old.items) }
     ensures err { OnErr result (entries.new.items ≡ entries.old.items) }
 {
     match place(entries, placed.path()) {
@@ -61,17 +63,6 @@ pub fn remove_under(entries: &mut Vec<Placed>, path: &[Name])
     entries.retain(|placed| !placed.is_under(path));
 }
 
-/// The same entries, once more.
-pub fn copy(alloc: Global, entries: &[Placed]) -> Result<Vec<Placed>, AllocError>
-    ensures { IfOk result (λ copy. copy.items ≡ entries.now) }
-{
-    let mut copy = Vec::new(alloc);
-    for placed in entries {
-        copy.push(placed.copy(alloc)?)?;
-    }
-    Ok(copy)
-}
-
 /// Copies of the entries at `a` and below it, at the same places below `b`.
 pub fn moved(
     alloc: Global,
@@ -79,7 +70,8 @@ pub fn moved(
     a: &[Name],
     b: &[Name],
 ) -> Result<Vec<Placed>, AllocError>
-    ensures { IfOk result (λ moved. moved.items ≡ filter_map (moved_entry a.now b.now) entries.now) }
+    ensures { IfOk result (λ moved.
+        moved.items ≡ filter_map (moved_entry a.now b.now) entries.now) }
 {
     let mut moved = Vec::new(alloc);
     for placed in entries {
@@ -92,11 +84,12 @@ pub fn moved(
 
 /// The names of what stands in the directory at a path.
 pub fn children(alloc: Global, entries: &[Placed], path: &[Name]) -> Result<Vec<Listed>, AllocError>
-    ensures { IfOk result (λ names. names.items ≡ filter_map (λ e. child_of (rest_below path.now e.0) e.1) entries.now) }
+    ensures { IfOk result (λ names.
+        names.items ≡ filter_map (λ e. child_of (rest_below path.now e.0) e.1) entries.now) }
 {
     let mut children = Vec::new(alloc);
     for placed in entries {
-        if let Some(child) = placed.child(alloc, path)? {
+        if let Some(child) = placed.child(path)? {
             children.push(child)?;
         }
     }

@@ -13,7 +13,7 @@ use std::alloc::{AllocError, Global};
 use std::marker::Model;
 
 /// A directory, or a file with its bytes.
-#[derive(Debug, Drop)]
+#[derive(Clone, Debug, Drop)]
 pub enum Content {
     Directory,
     File(File),
@@ -25,16 +25,6 @@ impl Content {
         ensures { result ≡ is_directory (entry_of self.now) }
     {
         matches!(self, Content::Directory)
-    }
-
-    /// A second such entry.
-    pub fn copy(&self, alloc: Global) -> Result<Content, AllocError>
-        ensures { IfOk result (λ copy. copy ≡ self.now) }
-    {
-        match self {
-            Content::Directory => Ok(Content::Directory),
-            Content::File(file) => Ok(Content::File(file.copy(alloc)?)),
-        }
     }
 }
 
@@ -88,15 +78,6 @@ impl Placed {
         paths::is_under(of, &self.path)
     }
 
-    /// The same entry at the same path, once more.
-    pub fn copy(&self, alloc: Global) -> Result<Placed, AllocError>
-        ensures { IfOk result (λ copy. copy ≡ self.now) }
-    {
-        let path = paths::copy(alloc, &self.path)?;
-        let content = self.content.copy(alloc)?;
-        Ok(Placed { path, content })
-    }
-
     /// A copy at the same place below `b`, where it stands at `a` or below it.
     pub fn moved(&self, alloc: Global, a: &[Name], b: &[Name]) -> Result<Option<Placed>, AllocError>
         ensures { IfOk result (λ moved. moved ≡ moved_entry a.now b.now self.now) }
@@ -104,7 +85,7 @@ impl Placed {
         match paths::rest_below(a, &self.path) {
             Some(rest) => {
                 let path = paths::joined(alloc, b, rest)?;
-                let content = self.content.copy(alloc)?;
+                let content = self.content.clone()?;
                 Ok(Some(Placed { path, content }))
             }
             None => Ok(None),
@@ -112,16 +93,28 @@ impl Placed {
     }
 
     /// Its name, where it stands in the directory at a path.
-    pub fn child(&self, alloc: Global, of: &[Name]) -> Result<Option<Listed>, AllocError>
-        ensures { IfOk result (λ child. child ≡ child_of (rest_below of.now self.now.0) self.now.1) }
+    pub fn child(&self, of: &[Name]) -> Result<Option<Listed>, AllocError>
+        ensures { IfOk result (λ child.
+            child ≡ child_of (rest_below of.now self.now.0) self.now.1) }
     {
         match paths::rest_below(of, &self.path) {
             Some([name]) => {
-                let name = name.copy(alloc)?;
+                let name = name.clone()?;
                 let is_dir = self.content.is_directory();
                 Ok(Some(Listed { name, is_dir }))
             }
             _ => Ok(None),
         }
+    }
+}
+
+impl Clone for Placed {
+    ghost is_clone = { λ placed copy. copy ≡ placed };
+
+    fn clone(&self) -> Result<Placed, AllocError> {
+        Ok(Placed {
+            path: self.path.clone()?,
+            content: self.content.clone()?,
+        })
     }
 }

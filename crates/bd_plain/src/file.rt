@@ -1,14 +1,12 @@
 //! The bytes of a file.
 
-ghost use Rattle.std.specs.Prelude.{◌≡◌, ◌≤◌, ◌+◌, ◌^◌, ◌-◌, [], length, take, drop, IfOk};
+ghost use Rattle.std.specs.Prelude.{◌≡◌, ◌≤◌, ◌+◌, ◌-◌, [], length, take, drop, IfOk};
+ghost use Rattle.bd_limits.specs.Limits.{file_limit};
 ghost use Rattle.bd_keys.specs.Edits.{resized, overwritten};
 
 use bd_keys::{Bytes, front, overwritten, resized, tail};
 use std::alloc::{AllocError, Global};
 use std::marker::Model;
-
-/// The most bytes that a file may have.
-pub const MAX_LEN: usize = 1 << 30;
 
 /// The bytes of a file, at most 2^30.
 #[derive(Debug, Drop)]
@@ -17,13 +15,14 @@ pub struct File {
 }
 
 impl Model for File {
-    ghost use Rattle.std.specs.Prelude.{List, ℕ, ◌≤◌, ◌^◌, length};
+    ghost use Rattle.std.specs.Prelude.{List, ℕ, ◌≤◌, length};
+    ghost use Rattle.bd_limits.specs.Limits.{file_limit};
 
     ghost Value = { List ℕ };
 
     ghost view = { λ f. f.bytes.items };
 
-    ghost invariant = { λ f. length f.bytes.items ≤ 2 ^ 30 };
+    ghost invariant = { λ f. length f.bytes.items ≤ file_limit };
 }
 
 impl File {
@@ -43,14 +42,6 @@ impl File {
         self.bytes.len() as u32
     }
 
-    /// A second file with the same bytes.
-    pub fn copy(&self, alloc: Global) -> Result<File, AllocError>
-        ensures { IfOk result (λ copy. copy ≡ self.now) }
-    {
-        let bytes = Vec::from_slice(alloc, &self.bytes)?;
-        Ok(File { bytes })
-    }
-
     /// At most `len` bytes from `off` on, fewer at the end.
     pub fn read(&self, alloc: Global, off: u32, len: u32) -> Result<Bytes, AllocError>
         ensures { IfOk result (λ read. read ≡ take len (drop off self.now)) }
@@ -61,7 +52,7 @@ impl File {
 
     /// The file cut, or extended with zeros, to a length.
     pub fn resized(&self, alloc: Global, len: u32) -> Result<File, AllocError>
-        requires { len ≤ 2 ^ 30 }
+        requires { len ≤ file_limit }
         ensures { IfOk result (λ new. new ≡ resized self.now len) }
     {
         let bytes = resized(alloc, &self.bytes, len as usize)?;
@@ -70,10 +61,20 @@ impl File {
 
     /// The file extended with zeros to `off`, and overwritten from there on.
     pub fn overwritten(&self, alloc: Global, off: u32, bytes: &[u8]) -> Result<File, AllocError>
-        requires { off + length bytes.now ≤ 2 ^ 30 }
+        requires { off + length bytes.now ≤ file_limit }
         ensures { IfOk result (λ new. new ≡ overwritten self.now off bytes.now) }
     {
         let bytes = overwritten(alloc, &self.bytes, off as usize, bytes)?;
         Ok(File { bytes })
+    }
+}
+
+impl Clone for File {
+    ghost is_clone = { λ file copy. copy ≡ file };
+
+    fn clone(&self) -> Result<File, AllocError> {
+        Ok(File {
+            bytes: self.bytes.clone()?,
+        })
     }
 }

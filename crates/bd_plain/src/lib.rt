@@ -1,5 +1,7 @@
-//! The plain program: the commands on a list of paths and entries, by one slow and simple function each.
-//! The layers above use that a `PlainTree` is seen as a tree, and that `step` does what the model's step does.
+//! The plain program: the commands on a list of paths and entries, by one slow and simple function
+//! each.
+//! The layers above use that a `PlainTree` is seen as a tree, and that `step` does what the model's
+//! step does.
 #![tactic(auto)]
 
 mod entries;

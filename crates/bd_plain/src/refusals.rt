@@ -7,10 +7,11 @@ ghost use Rattle.bd_model.specs.Step.{absent_refusal, file_refusal, directory_re
 ghost use Rattle.bd_command.specs.declared.Command.TheVariants as command;
 
 use crate::entry::Content;
-use crate::file::{File, MAX_LEN};
+use crate::file::File;
 use crate::paths;
 use crate::tree::PlainTree;
 use bd_command::Refusal;
+use bd_limits::MAX_FILE;
 use bd_names::Name;
 
 /// `/` can be neither removed nor moved.
@@ -39,8 +40,8 @@ pub fn inside_refusal(a: &[Name], b: &[Name]) -> Option<Refusal>
 pub fn size_refusal(off: u32, len: usize) -> Option<Refusal>
     ensures { result ≡ size_refusal (off + len) }
 {
-    let off = off as usize;
-    if len <= MAX_LEN && off <= MAX_LEN - len {
+    let limit = MAX_FILE as usize;
+    if len <= limit && off as usize <= limit - len {
         None
     } else {
         Some(Refusal::TooBig)
@@ -51,7 +52,8 @@ impl PlainTree {
     /// The file at a path, or why there is none.
     pub(crate) fn file(&self, path: &[Name]) -> Result<&File, Refusal>
         ensures found { IfOk result (λ file. get self.now path.now ≡ Some (FileWith file.now)) }
-        ensures refused { IfErr result (λ refusal. file_refusal (get self.now path.now) ≡ Some refusal) }
+        ensures refused { IfErr result (λ refusal.
+            file_refusal (get self.now path.now) ≡ Some refusal) }
     {
         match self.get(path) {
             None => Err(Refusal::NotFound),

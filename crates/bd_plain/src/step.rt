@@ -4,6 +4,7 @@ ghost use Rattle.std.specs.Prelude.{◌≡◌, IfOk, OnErr};
 ghost use Rattle.std.specs.Option.{option_copied};
 ghost use Rattle.bd_command.specs.declared.Command.TheVariants as command;
 ghost use Rattle.bd_model.specs.Step.{step, those_after, listing_of};
+ghost use Rattle.bd_plain.specs.Steps.{StepsTo};
 
 use crate::entry::{Content, Placed};
 use crate::file::File;
@@ -11,14 +12,13 @@ use crate::refusals;
 use crate::tree::PlainTree;
 use bd_command::{Command, Listed, Listing, Names, Refusal, Reply};
 use bd_keys::Bytes;
+use bd_limits::MAX_LISTING;
 use bd_names::{Name, Path};
 use std::alloc::{AllocError, Global};
 
-/// The most names that one listing gives.
-const MOST_LISTED: usize = 100;
-
 impl PlainTree {
-    /// Executes a command, and gives its reply. Where it is refused or memory is wanting, the tree stays.
+    /// Executes a command, and gives its reply. Where it is refused or memory is wanting, the tree
+    /// stays.
     pub fn step(&mut self, alloc: Global, command: &Command) -> Result<Reply, AllocError>
         ensures ok { IfOk result (λ reply. (self.new, reply) ≡ step self.old command.now) }
         ensures err { OnErr result (self.new ≡ self.old) }
@@ -39,7 +39,7 @@ impl PlainTree {
 
     /// Makes an empty directory.
     fn mkdir(&mut self, alloc: Global, path: &Path) -> Result<Reply, AllocError>
-        ensures ok { IfOk result (λ reply. (self.new, reply) ≡ step self.old (command.Mkdir path.now)) }
+        ensures ok { StepsTo self.old (command.Mkdir path.now) self.new result }
         ensures err { OnErr result (self.new ≡ self.old) }
     {
         let path = path.names(alloc)?;
@@ -52,7 +52,7 @@ impl PlainTree {
 
     /// Makes an empty file.
     fn create(&mut self, alloc: Global, path: &Path) -> Result<Reply, AllocError>
-        ensures ok { IfOk result (λ reply. (self.new, reply) ≡ step self.old (command.Create path.now)) }
+        ensures ok { StepsTo self.old (command.Create path.now) self.new result }
         ensures err { OnErr result (self.new ≡ self.old) }
     {
         let path = path.names(alloc)?;
@@ -71,7 +71,7 @@ impl PlainTree {
         off: u32,
         bytes: &Bytes,
     ) -> Result<Reply, AllocError>
-        ensures ok { IfOk result (λ reply. (self.new, reply) ≡ step self.old (command.Write path.now off bytes.now)) }
+        ensures ok { StepsTo self.old (command.Write path.now off bytes.now) self.new result }
         ensures err { OnErr result (self.new ≡ self.old) }
     {
         let path = path.names(alloc)?;
@@ -89,7 +89,7 @@ impl PlainTree {
 
     /// Cuts a file, or extends it with zeros, to a length.
     fn truncate(&mut self, alloc: Global, path: &Path, len: u32) -> Result<Reply, AllocError>
-        ensures ok { IfOk result (λ reply. (self.new, reply) ≡ step self.old (command.Truncate path.now len)) }
+        ensures ok { StepsTo self.old (command.Truncate path.now len) self.new result }
         ensures err { OnErr result (self.new ≡ self.old) }
     {
         let path = path.names(alloc)?;
@@ -107,7 +107,7 @@ impl PlainTree {
 
     /// Removes what is at the path and below it.
     fn remove(&mut self, alloc: Global, path: &Path) -> Result<Reply, AllocError>
-        ensures ok { IfOk result (λ reply. (self.new, reply) ≡ step self.old (command.Remove path.now)) }
+        ensures ok { StepsTo self.old (command.Remove path.now) self.new result }
         ensures err { OnErr result (self.new ≡ self.old) }
     {
         let path = path.names(alloc)?;
@@ -121,7 +121,7 @@ impl PlainTree {
 
     /// Moves what is at `a` and below it to `b`.
     fn rename(&mut self, alloc: Global, a: &Path, b: &Path) -> Result<Reply, AllocError>
-        ensures ok { IfOk result (λ reply. (self.new, reply) ≡ step self.old (command.Rename a.now b.now)) }
+        ensures ok { StepsTo self.old (command.Rename a.now b.now) self.new result }
         ensures err { OnErr result (self.new ≡ self.old) }
     {
         let a = a.names(alloc)?;
@@ -135,7 +135,7 @@ impl PlainTree {
 
     /// Copies what is at `a` and below it to `b`.
     fn clone_to(&mut self, alloc: Global, a: &Path, b: &Path) -> Result<Reply, AllocError>
-        ensures ok { IfOk result (λ reply. (self.new, reply) ≡ step self.old (command.Clone a.now b.now)) }
+        ensures ok { StepsTo self.old (command.Clone a.now b.now) self.new result }
         ensures err { OnErr result (self.new ≡ self.old) }
     {
         let a = a.names(alloc)?;
@@ -150,7 +150,7 @@ impl PlainTree {
 
     /// Reads at most `len` bytes of a file from `off` on.
     fn read(&self, alloc: Global, path: &Path, off: u32, len: u32) -> Result<Reply, AllocError>
-        ensures { IfOk result (λ reply. (self.now, reply) ≡ step self.now (command.Read path.now off len)) }
+        ensures { StepsTo self.now (command.Read path.now off len) self.now result }
     {
         let path = path.names(alloc)?;
         match self.file(&path) {
@@ -161,7 +161,7 @@ impl PlainTree {
 
     /// Says what is at the path.
     fn stat(&self, alloc: Global, path: &Path) -> Result<Reply, AllocError>
-        ensures { IfOk result (λ reply. (self.now, reply) ≡ step self.now (command.Stat path.now)) }
+        ensures { StepsTo self.now (command.Stat path.now) self.now result }
     {
         let path = path.names(alloc)?;
         match self.get(&path) {
@@ -173,7 +173,8 @@ impl PlainTree {
 
     /// Lists the names in a directory, those greater than `after` alone where it is there.
     fn list(&self, alloc: Global, path: &Path, after: Option<&Name>) -> Result<Reply, AllocError>
-        ensures { IfOk result (λ reply. (self.now, reply) ≡ step self.now (command.List path.now (option_copied after.entry))) }
+        ensures { StepsTo self.now (command.List path.now (option_copied after.entry))
+            self.now result }
     {
         let path = path.names(alloc)?;
         if let Some(refusal) = self.directory_refusal(&path) {
@@ -190,7 +191,7 @@ fn keep_after(names: &mut Vec<Listed>, after: Option<&Name>)
     ensures { names.new.items ≡ those_after (option_copied after.entry) names.old.items }
 {
     if let Some(after) = after {
-        names.retain(|listed| after.as_bytes().cmp(listed.name.as_bytes()).is_lt());
+        names.retain(|listed| *after < listed.name);
     }
 }
 
@@ -198,8 +199,8 @@ fn keep_after(names: &mut Vec<Listed>, after: Option<&Name>)
 fn listing(mut names: Vec<Listed>) -> Listing
     ensures { result ≡ listing_of names.items }
 {
-    let more = names.len() > MOST_LISTED;
-    names.truncate(MOST_LISTED);
+    let more = names.len() > MAX_LISTING;
+    names.truncate(MAX_LISTING);
     Listing {
         names: Names::from_vec(names),
         more,

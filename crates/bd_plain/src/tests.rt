@@ -1,4 +1,5 @@
-//! Worked rows, each from the tree of `/` alone: lines, and their replies. Bytes stand for themselves.
+//! Worked rows, each from the tree of `/` alone: lines, and their replies. Bytes stand for
+//! themselves.
 
 use crate::PlainTree;
 use bd_command::{Command, Reply};

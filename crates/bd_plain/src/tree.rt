@@ -14,7 +14,8 @@ use bd_names::Name;
 use std::alloc::{AllocError, Global};
 use std::marker::Model;
 
-/// A tree of directories and files, seen as the map from their paths. It is slow, and for small trees.
+/// A tree of directories and files, seen as the map from their paths. It is slow, and for small
+/// trees.
 #[derive(Debug, Drop)]
 pub struct PlainTree {
     entries: Vec<Placed>,
@@ -44,14 +45,6 @@ impl PlainTree {
         Ok(PlainTree { entries })
     }
 
-    /// A second such tree.
-    fn copy(&self, alloc: Global) -> Result<PlainTree, AllocError>
-        ensures { IfOk result (λ copy. copy ≡ self.now) }
-    {
-        let entries = entries::copy(alloc, &self.entries)?;
-        Ok(PlainTree { entries })
-    }
-
     /// What stands at a path.
     pub(crate) fn get(&self, path: &[Name]) -> Option<&Content>
         ensures { option_map (λ content. entry_of content.now) result ≡ map.get self.now path.now }
@@ -69,7 +62,8 @@ impl PlainTree {
 
     /// Puts many entries, of several for one path the first. For want of memory only some are put.
     fn put_all(&mut self, mut placed: Vec<Placed>) -> Result<(), AllocError>
-        ensures { OnOk result (self.new ≡ map.from_entries (placed.items ++ map.entries self.old)) }
+        ensures { OnOk result
+            (self.new ≡ map.from_entries (placed.items ++ map.entries self.old)) }
     {
         while let Some(last) = placed.pop() {
             self.put(last)?;
@@ -93,7 +87,7 @@ impl PlainTree {
     ) -> Result<PlainTree, AllocError>
         ensures { IfOk result (λ new. new ≡ cloned a.now b.now self.now) }
     {
-        let mut new = self.copy(alloc)?;
+        let mut new = self.clone()?;
         new.put_all(self.moved(alloc, a, b)?)?;
         Ok(new)
     }
@@ -107,7 +101,7 @@ impl PlainTree {
     ) -> Result<PlainTree, AllocError>
         ensures { IfOk result (λ new. new ≡ renamed a.now b.now self.now) }
     {
-        let mut new = self.copy(alloc)?;
+        let mut new = self.clone()?;
         new.remove_under(a);
         new.put_all(self.moved(alloc, a, b)?)?;
         Ok(new)
@@ -125,5 +119,15 @@ impl PlainTree {
         ensures { IfOk result (λ names. names.items ≡ children path.now self.now) }
     {
         entries::children(alloc, &self.entries, path)
+    }
+}
+
+impl Clone for PlainTree {
+    ghost is_clone = { λ tree copy. copy ≡ tree };
+
+    fn clone(&self) -> Result<PlainTree, AllocError> {
+        Ok(PlainTree {
+            entries: self.entries.clone()?,
+        })
     }
 }

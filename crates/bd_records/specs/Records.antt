@@ -1,4 +1,4 @@
--- The values of a key map, and their spellings.
+-- The values of a key map, and their encodings.
 use Rattle.std.specs.Prelude.{◌≡◌, ◌≢◌, ◌≤◌, ◌^◌, ℕ, List, [], ◌∷◌, length, Option, Some, None}
 use Rattle.std.specs.Int.{w32}
 use Rattle.bd_wire.specs.Numbers.{be}

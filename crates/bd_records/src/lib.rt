@@ -1,5 +1,5 @@
 //! The values that stand in a key map: the records of directories and files, and the blocks of files.
-//! The layers above may use that each record has one spelling, and what a block may be.
+//! The layers above may use that each record has one encoding, and what a block may be.
 #![tactic(auto)]
 
 ghost use Rattle.std.specs.Prelude.{◌↔◌, ◌≤◌, length, Some, IsTrue};
@@ -55,7 +55,7 @@ fn read_len(bytes: &[u8]) -> Option<u32>
 }
 
 /// Writes a record.
-#[tactic(auto, using(bd_wire::specs::Writing::writing))]
+#[tactic(auto, using(bd_wire::proofs::WritingLemmas::writing))]
 pub fn write_record(entry: &Record, out: &mut Out)
     requires length { IsRecord entry.now }
     requires room { length (record_bytes entry.now) ≤ length (room out.old) }

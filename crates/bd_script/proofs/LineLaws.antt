@@ -1,20 +1,23 @@
 -- What holds of each line, whatever its bytes are.
-use Rattle.std.proofs.Common.{◌≡◌, ◌⊎◌, inl, inr, ℕ, ◌<◌, ◌≤◌, ◌^◌, Bool, true, false, cond, List, [], ◌∷◌, length, refl, subst, arith}
-use Rattle.std.specs.Prelude.{codes, nat_le, not, Ok, Err}
-use Rattle.std.specs.List.{list_all, list_any}
-use Rattle.std.specs.Char.{is_ascii_digit}
+use Rattle.std.proofs.Common.{◌≡◌, ◌⊎◌, inl, inr, ℕ, ◌<◌, ◌^◌, Bool, true, false, cond, List, [], ◌∷◌, length, refl, ap, subst}
+use Rattle.std.specs.Prelude.{nat_le, Result, Ok, Err}
+use Rattle.std.specs.Option.{ok_or}
+use Rattle.std.specs.List.{list_any}
 use Rattle.std.specs.declared.option.Option.{Option}
 use Rattle.std.specs.declared.option.Option.TheVariants.{None, Some}
-use Rattle.std.proofs.lemmas.Bool.{leb-true, and_parts}
+use Rattle.std.proofs.lemmas.Bool.{leb-true}
 use Rattle.bd_limits.specs.Limits.{line_limit, read_limit}
-use Rattle.bd_names.specs.Names.{same_text, is_name, path_of}
+use Rattle.bd_names.specs.Names.{is_name, path_of}
 use Rattle.bd_command.specs.Command.{IsShortPath, IsWritten, IsCommand}
 use Rattle.bd_command.specs.declared.Command.{Command}
 use Rattle.bd_command.specs.declared.Command.TheVariants.{Mkdir, Create, Write, Truncate, Remove, Rename, Clone, Read, Stat, List as Ls}
+use Rattle.bd_command.specs.declared.refusal.Refusal.{Refusal}
 use Rattle.bd_command.specs.declared.refusal.Refusal.TheVariants.{BadPath, BadLine}
 use Rattle.bd_script.specs.declared.line.Line.TheVariants.{Stop}
-use Rattle.bd_script.specs.Lines.{LineMeaning, IsLine, runs, is_empty, has_leading_zero, digits_value, is_number, number_of, hex_of, with_path, with_number, with_bytes, with_paths, list_after, write_at, read_at, words_of, line_of_verb, line_of_one, line_of_two, line_of_three, line_of_words, line_of_parts, line_of}
-use Rattle.bd_script.proofs.WordLemmas.{IsWritten-hex_of}
+use Rattle.bd_script.specs.declared.verb.Verb.{Verb}
+use Rattle.bd_script.specs.declared.verb.Verb.TheVariants as verb
+use Rattle.bd_script.specs.Lines.{Path, LineMeaning, IsLine, runs, is_empty, number_of, hex_of, path_in, only_path, both_paths, two_paths, with_path, with_number, with_bytes, run_path, run_paths, line_of_write, line_of_truncate, line_of_read, line_of_list, line_of_stop, verb_of, with_verb, line_of_verb, words_of, line_of_words, line_of_parts, line_of}
+use Rattle.bd_script.proofs.WordLemmas.{IsWritten-hex_of, number_of-below}
 use Rattle.bd_script.proofs.ReadLemmas.{IsShortPath-read}
 
 -- a line's command keeps its limits, and a refusal is one of two
@@ -39,26 +42,42 @@ kept_cond : (b : Bool) (l m : LineMeaning) → (b ≡ true → Kept l) → Kept 
 kept_cond true l m h g = h refl
 kept_cond false l m h g = g
 
-kept_path : (word : List ℕ) (f : List (List ℕ) → LineMeaning) → ((p : List (List ℕ)) → IsShortPath p → Kept (f p)) → Kept (with_path (path_of word) f)
-kept_path word f h = by (path_of word) refl
-  where
-    by : (o : Option (List (List ℕ))) → path_of word ≡ o → Kept (with_path o f)
-    by None e = bad_path
-    by (Some p) e = h p (IsShortPath-read word p e)
+short_path : (o : Option Path) (p : Path) → ok_or o BadPath ≡ Ok p → o ≡ Some p
+short_path None p h = cc
+short_path (Some q) p h = let same : q ≡ p = cc in ap Some same
 
-number_below : (t : Bool) (v n : ℕ) → (t ≡ true → v ≤ 4294967295) → cond t (Some v) None ≡ Some n → n < 2 ^ 32
-number_below true v n h e = let same : v ≡ n = cc in let small : v ≤ 4294967295 = h refl in omega arith
-number_below false v n h e = cc
+bad_path_in : (o : Option Path) (r : Refusal) → ok_or o BadPath ≡ Err r → r ≡ BadPath
+bad_path_in None r h = cc
+bad_path_in (Some q) r h = cc
 
-number_of-below : (word : List ℕ) (n : ℕ) → number_of word ≡ Some n → n < 2 ^ 32
-number_of-below word n e = number_below (is_number word) (digits_value word) n small e
+path_in-short : (word : List ℕ) (p : Path) → path_in word ≡ Ok p → IsShortPath p
+path_in-short word p h = IsShortPath-read word p (short_path (path_of word) p h)
+
+-- a path, or why there is none
+kept_path : (word : List ℕ) (f : Path → LineMeaning) → ((p : Path) → IsShortPath p → Kept (f p)) → Kept (with_path (path_in word) f)
+kept_path word f h = by (path_in word) refl
   where
-    small : is_number word ≡ true → digits_value word ≤ 4294967295
-    small h =
-        let one = and_parts (not (is_empty word)) _ h in
-        let two = and_parts (list_all is_ascii_digit word) _ one.1 in
-        let three = and_parts (not (has_leading_zero word)) (nat_le (digits_value word) 4294967295) two.1 in
-        leb-true (digits_value word) 4294967295 three.1
+    by : (r : Result Path Refusal) → path_in word ≡ r → Kept (with_path r f)
+    by (Ok p) e = h p (path_in-short word p e)
+    by (Err r) e = kept (Err r) (inl (bad_path_in (path_of word) r e))
+
+-- a command of one path
+kept_run : (f : Path → Command) (words : List (List ℕ)) → ((p : Path) → IsShortPath p → IsCommand (f p)) → Kept (run_path f (only_path words))
+kept_run f [] h = bad_line
+kept_run f (p ∷ []) h = kept_path p (λ path. runs (f path)) (λ path short. kept (runs (f path)) (h path short))
+kept_run f (p ∷ q ∷ words) h = bad_line
+
+-- a command of two paths
+kept_run_paths : (f : Path → Path → Command) (words : List (List ℕ)) → ((a b : Path) → IsShortPath a → IsShortPath b → IsCommand (f a b)) → Kept (run_paths f (two_paths words))
+kept_run_paths f [] h = bad_line
+kept_run_paths f (p ∷ []) h = bad_line
+kept_run_paths f (p ∷ q ∷ []) h = by (path_in p) (path_in q) refl refl
+  where
+    by : (r s : Result Path Refusal) → path_in p ≡ r → path_in q ≡ s → Kept (run_paths f (both_paths r s))
+    by (Ok a) (Ok b) e g = kept (runs (f a b)) (h a b (path_in-short p a e) (path_in-short q b g))
+    by (Ok a) (Err r) e g = kept (Err r) (inl (bad_path_in (path_of q) r g))
+    by (Err r) s e g = kept (Err r) (inl (bad_path_in (path_of p) r e))
+kept_run_paths f (p ∷ q ∷ w ∷ words) h = bad_line
 
 kept_number : (word : List ℕ) (f : ℕ → LineMeaning) → ((n : ℕ) → n < 2 ^ 32 → Kept (f n)) → Kept (with_number (number_of word) f)
 kept_number word f h = by (number_of word) refl
@@ -74,52 +93,60 @@ kept_bytes word f h = by (hex_of word) refl
     by None e = bad_line
     by (Some bs) e = h bs (IsWritten-hex_of word bs e)
 
-kept_paths : (p q : List ℕ) (f : List (List ℕ) → List (List ℕ) → Command) → ((a b : List (List ℕ)) → IsShortPath a → IsShortPath b → IsCommand (f a b)) → Kept (with_paths p q f)
-kept_paths p q f h =
-    kept_path p (λ a. with_path (path_of q) (λ b. runs (f a b))) (λ a k.
-    kept_path q (λ b. runs (f a b)) (λ b l. kept (runs (f a b)) (h a b k l)))
+kept_write : (words : List (List ℕ)) → Kept (line_of_write words)
+kept_write [] = bad_line
+kept_write (p ∷ []) = bad_line
+kept_write (p ∷ off ∷ []) = bad_line
+kept_write (p ∷ off ∷ hex ∷ []) =
+    kept_number off _ (λ n k. kept_bytes hex _ (λ bs l. kept_path p _ (λ path h. kept (runs (Write path n bs)) (h, k, l))))
+kept_write (p ∷ off ∷ hex ∷ w ∷ words) = bad_line
 
-kept_verb : (v : List ℕ) → Kept (line_of_verb v)
-kept_verb v = kept_cond (same_text v (codes "stop")) (Ok Stop) (Err BadLine) (λ e. kept (Ok Stop) tt) bad_line
+kept_truncate : (words : List (List ℕ)) → Kept (line_of_truncate words)
+kept_truncate [] = bad_line
+kept_truncate (p ∷ []) = bad_line
+kept_truncate (p ∷ len ∷ []) = kept_number len _ (λ n k. kept_path p _ (λ path h. kept (runs (Truncate path n)) (h, k)))
+kept_truncate (p ∷ len ∷ w ∷ words) = bad_line
 
-kept_one : (v p : List ℕ) → Kept (line_of_one v p)
-kept_one v p =
-    kept_cond (same_text v (codes "mkdir")) _ _ (λ e. kept_path p _ (λ path h. kept (runs (Mkdir path)) h))
-    (kept_cond (same_text v (codes "create")) _ _ (λ e. kept_path p _ (λ path h. kept (runs (Create path)) h))
-    (kept_cond (same_text v (codes "remove")) _ _ (λ e. kept_path p _ (λ path h. kept (runs (Remove path)) h))
-    (kept_cond (same_text v (codes "stat")) _ _ (λ e. kept_path p _ (λ path h. kept (runs (Stat path)) h))
-    (kept_cond (same_text v (codes "list")) _ _ (λ e. kept_path p _ (λ path h. kept (runs (Ls path None)) (h, tt))) bad_line))))
+kept_read : (words : List (List ℕ)) → Kept (line_of_read words)
+kept_read [] = bad_line
+kept_read (p ∷ []) = bad_line
+kept_read (p ∷ off ∷ []) = bad_line
+kept_read (p ∷ off ∷ len ∷ []) =
+    kept_number off _ (λ n k. kept_number len _ (λ m l.
+    kept_cond (nat_le m read_limit) _ _ (λ e. kept_path p _ (λ path h. kept (runs (Read path n m)) (h, k, leb-true m read_limit e))) bad_line))
+kept_read (p ∷ off ∷ len ∷ w ∷ words) = bad_line
 
-kept_list : (p q : List ℕ) → Kept (list_after p q)
-kept_list p q =
-    kept_path p _ (λ path h. kept_cond (is_name q) (runs (Ls path (Some q))) (Err BadPath) (λ e. kept (runs (Ls path (Some q))) (h, e)) bad_path)
+kept_list : (words : List (List ℕ)) → Kept (line_of_list words)
+kept_list [] = bad_line
+kept_list (p ∷ []) = kept_path p _ (λ path h. kept (runs (Ls path None)) (h, tt))
+kept_list (p ∷ name ∷ []) =
+    kept_path p _ (λ path h. kept_cond (is_name name) (runs (Ls path (Some name))) (Err BadPath) (λ e. kept (runs (Ls path (Some name))) (h, e)) bad_path)
+kept_list (p ∷ name ∷ w ∷ words) = bad_line
 
-kept_two : (v p q : List ℕ) → Kept (line_of_two v p q)
-kept_two v p q =
-    kept_cond (same_text v (codes "truncate")) _ _ (λ e. kept_number q _ (λ len k. kept_path p _ (λ path h. kept (runs (Truncate path len)) (h, k))))
-    (kept_cond (same_text v (codes "rename")) _ _ (λ e. kept_paths p q Rename (λ a b h k. (h, k)))
-    (kept_cond (same_text v (codes "clone")) _ _ (λ e. kept_paths p q Clone (λ a b h k. (h, k)))
-    (kept_cond (same_text v (codes "list")) _ _ (λ e. kept_list p q) bad_line)))
+kept_stop : (words : List (List ℕ)) → Kept (line_of_stop words)
+kept_stop [] = kept (Ok Stop) tt
+kept_stop (w ∷ words) = bad_line
 
-kept_write : (p r : List ℕ) (off : ℕ) → off < 2 ^ 32 → Kept (write_at p off r)
-kept_write p r off k = kept_bytes r _ (λ bs l. kept_path p _ (λ path h. kept (runs (Write path off bs)) (h, k, l)))
-
-kept_read : (p : List ℕ) (off len : ℕ) → off < 2 ^ 32 → Kept (read_at p off len)
-kept_read p off len k =
-    kept_cond (nat_le len read_limit) _ _ (λ e. kept_path p _ (λ path h. kept (runs (Read path off len)) (h, k, leb-true len read_limit e))) bad_line
-
-kept_three : (v p q r : List ℕ) → Kept (line_of_three v p q r)
-kept_three v p q r =
-    kept_cond (same_text v (codes "write")) _ _ (λ e. kept_number q _ (λ off k. kept_write p r off k))
-    (kept_cond (same_text v (codes "read")) _ _ (λ e. kept_number q _ (λ off k. kept_number r _ (λ len l. kept_read p off len k))) bad_line)
+kept_verb : (v : Verb) (words : List (List ℕ)) → Kept (line_of_verb v words)
+kept_verb verb.Mkdir words = kept_run Mkdir words (λ p h. h)
+kept_verb verb.Create words = kept_run Create words (λ p h. h)
+kept_verb verb.Write words = kept_write words
+kept_verb verb.Truncate words = kept_truncate words
+kept_verb verb.Remove words = kept_run Remove words (λ p h. h)
+kept_verb verb.Rename words = kept_run_paths Rename words (λ a b h k. (h, k))
+kept_verb verb.Clone words = kept_run_paths Clone words (λ a b h k. (h, k))
+kept_verb verb.Read words = kept_read words
+kept_verb verb.Stat words = kept_run Stat words (λ p h. h)
+kept_verb verb.List words = kept_list words
+kept_verb verb.Stop words = kept_stop words
 
 kept_words : (ws : List (List ℕ)) → Kept (line_of_words ws)
 kept_words [] = bad_line
-kept_words (v ∷ []) = kept_verb v
-kept_words (v ∷ p ∷ []) = kept_one v p
-kept_words (v ∷ p ∷ q ∷ []) = kept_two v p q
-kept_words (v ∷ p ∷ q ∷ r ∷ []) = kept_three v p q r
-kept_words (v ∷ p ∷ q ∷ r ∷ s ∷ more) = bad_line
+kept_words (word ∷ words) = by (verb_of word)
+  where
+    by : (o : Option Verb) → Kept (with_verb o words)
+    by None = bad_line
+    by (Some v) = kept_verb v words
 
 -- a bad line, or the line that follows a test
 kept_past : (b : Bool) (l : LineMeaning) → Kept l → Kept (cond b (Err BadLine) l)

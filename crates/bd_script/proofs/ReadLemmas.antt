@@ -1,102 +1,103 @@
--- What a line means, by its words.
-use Rattle.std.specs.Prelude.{◌≡◌, ℕ, Bool, true, false, ◌||◌, List, [], ◌∷◌, length, ◌==◌, cond, refl}
+-- How words are read.
+use Rattle.std.proofs.Common.{◌≡◌, ℕ, ◌<◌, ◌^◌, Bool, true, false, cond, List, [], ◌∷◌, length, refl, sym, ◌∙◌, ap, subst, arith, get_or, Bor}
+use Rattle.std.specs.Prelude.{slice_get, IfOk, OnErr, ◌||◌, nat_eq}
+use Rattle.std.proofs.lemmas.Bool.{ne_eqb}
+use Rattle.std.proofs.lemmas.Option.{slice_get_within}
 use Rattle.std.specs.List.{list_any}
 use Rattle.std.specs.declared.option.Option.{Option}
 use Rattle.std.specs.declared.option.Option.TheVariants.{None, Some}
-use Rattle.std.proofs.Common.{sym, ◌∙◌, ap, arith}
-use Rattle.std.specs.Prelude.{MatchOption}
-use Rattle.std.proofs.Common.{Bor}
-use Rattle.std.proofs.lemmas.Bool.{or_left, or_right, or_from}
-use Rattle.std.proofs.lemmas.List.Splits.{length-slice_split}
+use Rattle.std.specs.declared.result.Result.{Result}
+use Rattle.std.specs.declared.result.Result.TheVariants.{Ok, Err}
+use Rattle.std.specs.Iterator.{DrainsIf, YieldsThen}
+use Rattle.std.proofs.lemmas.Iterator.{YieldsList, items_from_drains}
+use Rattle.std.proofs.lemmas.Iterator.Consumers.{nth_from_yields_List}
+use Rattle.arrayvec.specs.ArrayVec.{ArrayVec}
 use Rattle.bd_names.specs.Names.{path_of}
+use Rattle.bd_names.proofs.NamesLaws.{path_of-some}
+use Rattle.bd_command.specs.Command.{IsShortPath, IsWritten}
 use Rattle.bd_command.specs.declared.Command.TheVariants.{Write}
-use Rattle.std.specs.declared.result.Result.TheVariants.{Err}
 use Rattle.bd_command.specs.declared.refusal.Refusal.TheVariants.{BadLine}
-use Rattle.bd_script.specs.Lines.{LineMeaning, runs, hex_of, with_path, with_bytes, words_of, is_empty, line_of_words, line_of_parts, line_of_verb, line_of_one, line_of_two, line_of_three, write_at}
-use Rattle.bd_names.specs.NamesLaws.{path_of-some}
-use Rattle.bd_command.specs.Command.{IsShortPath}
+use Rattle.bd_script.specs.declared.verb.Verb.{Verb}
+use Rattle.bd_script.specs.declared.verb.Verb.TheVariants as verb
+use Rattle.bd_script.specs.Lines.{Path, LineMeaning, runs, is_empty, number_of, hex_of, path_in, with_path, with_number, with_bytes, verb_of, with_verb, line_of_write, line_of_verb, line_of_words, line_of_parts}
+use Rattle.bd_script.specs.Reading.{texts}
+use Rattle.bd_script.proofs.WordLemmas.{number_of-below, IsWritten-hex_of}
 
-pub IsShortPath-read : (word : List ℕ) (path : List (List ℕ)) → path_of word ≡ Some path → IsShortPath path
+pub IsShortPath-read : (word : List ℕ) (path : Path) → path_of word ≡ Some path → IsShortPath path
 IsShortPath-read word path h = let read = path_of-some word path h in (read.0, read.1)
 
--- ---- lines by their words
+-- ---- the words of a line
 
-with_empty : (words : List (List ℕ)) → list_any is_empty words ≡ true → line_of_parts words ≡ Err BadLine
-with_empty words h = rw h refl
+-- what an iterator collects into a vector is what it yields
+pub texts_if_ok : {S E : Type 0} {steps : S → Option (Bor (List ℕ)) → S → Type 0} {s : S} {all : List (List ℕ)} (r : Result (ArrayVec (Bor (List ℕ))) E)
+    → IfOk r (λ v. (it : S) × (xs : List (Bor (List ℕ))) × (it ≡ s) × DrainsIf steps (Unit {0}) it xs × (v.items ≡ xs))
+    → YieldsList steps (λ x. x.now) s all → IfOk r (λ v. texts v.items ≡ all)
+texts_if_ok {steps} {s} (Ok v) h yields =
+    ap texts h.4 ∙ items_from_drains h.1 (subst (λ it. DrainsIf steps (Unit {0}) it h.1) h.2 h.3) yields
+texts_if_ok (Err e) h yields = tt
 
-with_none : (words : List (List ℕ)) → list_any is_empty words ≡ false → line_of_parts words ≡ line_of_words words
-with_none words h = rw h refl
+-- where it doesn't fit, more are yielded than fit
+pub more_if_err : {S E : Type 0} {steps : S → Option (Bor (List ℕ)) → S → Type 0} {s : S} {all : List (List ℕ)} (n : ℕ) (r : Result (ArrayVec (Bor (List ℕ))) E)
+    → OnErr r ((it : S) × (xs : List (Bor (List ℕ))) × (x : Bor (List ℕ)) × (rest : S) × (it ≡ s) × YieldsThen steps it xs (Some x) rest × (length xs ≡ n))
+    → YieldsList steps (λ x. x.now) s all → OnErr r (n < length all)
+more_if_err n (Ok v) h yields = tt
+more_if_err {steps} {s} {all} n (Err e) h yields =
+    let got : Some h.2.now ≡ slice_get all (length h.1) = nth_from_yields_List (Some h.2) h.3 (length h.1) (h.1, subst (λ it. YieldsThen steps it h.1 (Some h.2) h.3) h.4 h.5, refl) yields in
+    let few : length h.1 < length all = slice_get_within all (length h.1) h.2.now (sym got) in
+    omega (arith, few, h.6)
 
-empty_word : (w : List ℕ) → length w ≡ 0 → is_empty w ≡ true
-empty_word [] h = refl
-empty_word (b ∷ w) h = absurd (omega arith)
+line_of_verb-many : (v : Verb) (a b c d : List ℕ) (more : List (List ℕ)) → line_of_verb v (a ∷ b ∷ c ∷ d ∷ more) ≡ Err BadLine
+line_of_verb-many verb.Mkdir a b c d more = refl
+line_of_verb-many v a b c d more = refl
 
-some_byte : (w : List ℕ) → (length w ≡ 0 → ⊥) → is_empty w ≡ false
-some_byte [] h = absurd (h refl)
-some_byte (b ∷ w) h = refl
+with_verb-many : (o : Option Verb) (words : List (List ℕ)) → 3 < length words → with_verb o words ≡ Err BadLine
+with_verb-many None words h = refl
+with_verb-many (Some v) [] h = absurd (omega arith)
+with_verb-many (Some v) (a ∷ []) h = absurd (omega arith)
+with_verb-many (Some v) (a ∷ b ∷ []) h = absurd (omega arith)
+with_verb-many (Some v) (a ∷ b ∷ c ∷ []) h = absurd (omega arith)
+with_verb-many (Some v) (a ∷ b ∷ c ∷ d ∷ more) h = line_of_verb-many v a b c d more
 
-pub second_empty : (verb p : List ℕ) (more : List (List ℕ)) → length p ≡ 0 → line_of_parts (verb ∷ p ∷ more) ≡ Err BadLine
-second_empty verb p more h = with_empty (verb ∷ p ∷ more) (or_right (is_empty verb) _ (or_left (is_empty p) _ (empty_word p h)))
+line_of_words-many : (words : List (List ℕ)) → 4 < length words → line_of_words words ≡ Err BadLine
+line_of_words-many [] h = absurd (omega arith)
+line_of_words-many (word ∷ words) h = with_verb-many (verb_of word) words (omega arith)
 
-pub third_empty : (verb p q : List ℕ) (more : List (List ℕ)) → length q ≡ 0 → line_of_parts (verb ∷ p ∷ q ∷ more) ≡ Err BadLine
-third_empty verb p q more h = with_empty (verb ∷ p ∷ q ∷ more) (or_right (is_empty verb) _ (or_right (is_empty p) _ (or_left (is_empty q) _ (empty_word q h))))
+either : (t : Bool) (l m : LineMeaning) → l ≡ m → cond t m l ≡ m
+either true l m h = refl
+either false l m h = h
 
-pub fourth_empty : (verb p q r : List ℕ) (more : List (List ℕ)) → length r ≡ 0 → line_of_parts (verb ∷ p ∷ q ∷ r ∷ more) ≡ Err BadLine
-fourth_empty verb p q r more h = with_empty (verb ∷ p ∷ q ∷ r ∷ more) (or_right (is_empty verb) _ (or_right (is_empty p) _ (or_right (is_empty q) _ (or_left (is_empty r) _ (empty_word r h)))))
+-- a line of more than four words is a bad one
+pub line_of_parts-many : (words : List (List ℕ)) → 4 < length words → line_of_parts words ≡ Err BadLine
+line_of_parts-many words h = either (list_any is_empty words) (line_of_words words) (Err BadLine) (line_of_words-many words h)
 
-either : (t : Bool) (l : LineMeaning) → cond t l l ≡ l
-either true l = refl
-either false l = refl
+pub line_of_parts-empty : (words : List (List ℕ)) → list_any is_empty words ≡ true → line_of_parts words ≡ Err BadLine
+line_of_parts-empty words h = rw h refl
 
-five_words : (verb p q r s : List ℕ) (more : List (List ℕ)) → line_of_parts (verb ∷ p ∷ q ∷ r ∷ s ∷ more) ≡ Err BadLine
-five_words verb p q r s more = either (list_any is_empty (verb ∷ p ∷ q ∷ r ∷ s ∷ more)) (Err BadLine)
+pub line_of_parts-some : (words : List (List ℕ)) → list_any is_empty words ≡ false → line_of_parts words ≡ line_of_words words
+line_of_parts-some words h = rw h refl
 
-five_listed : (verb p q r : List ℕ) (words : List (List ℕ)) → (length words ≡ 0 → ⊥) → line_of_parts (verb ∷ p ∷ q ∷ r ∷ words) ≡ Err BadLine
-five_listed verb p q r [] some = absurd (some refl)
-five_listed verb p q r (s ∷ more) some = five_words verb p q r s more
+pub is_empty-length : (word : List ℕ) → is_empty word ≡ nat_eq (length word) 0
+is_empty-length [] = refl
+is_empty-length (b ∷ word) = sym (ne_eqb (length (b ∷ word)) 0 (λ e. absurd (omega arith)))
 
-pub five_more : (verb p q r rest : List ℕ) → line_of_parts (verb ∷ p ∷ q ∷ r ∷ words_of rest) ≡ Err BadLine
-five_more verb p q r rest = five_listed verb p q r (words_of rest) (λ none. omega (arith, none, length-slice_split (λ b. b == 32) rest))
-
--- without a verb a line is a bad one, as with one that isn't there
-pub one_word : (verb : List ℕ) → line_of_parts (verb ∷ []) ≡ line_of_verb verb
-one_word [] = refl
-one_word (b ∷ verb) = refl
-
-pub two_words : (verb p : List ℕ) → (length p ≡ 0 → ⊥) → line_of_parts (verb ∷ p ∷ []) ≡ line_of_one verb p
-two_words [] p h = refl
-two_words (b ∷ verb) p h = with_none ((b ∷ verb) ∷ p ∷ []) (or_from (is_empty p) false (some_byte p h) refl)
-
-pub three_words : (verb p q : List ℕ) → (length p ≡ 0 → ⊥) → (length q ≡ 0 → ⊥) → line_of_parts (verb ∷ p ∷ q ∷ []) ≡ line_of_two verb p q
-three_words [] p q hp hq = refl
-three_words (b ∷ verb) p q hp hq =
-    with_none ((b ∷ verb) ∷ p ∷ q ∷ [])
-    (or_from (is_empty p) (is_empty q || false) (some_byte p hp) (or_from (is_empty q) false (some_byte q hq) refl))
-
-pub four_words : (verb p q r : List ℕ) → (length p ≡ 0 → ⊥) → (length q ≡ 0 → ⊥) → (length r ≡ 0 → ⊥) → line_of_parts (verb ∷ p ∷ q ∷ r ∷ []) ≡ line_of_three verb p q r
-four_words [] p q r hp hq hr = refl
-four_words (b ∷ verb) p q r hp hq hr =
-    with_none ((b ∷ verb) ∷ p ∷ q ∷ r ∷ [])
-    (or_from (is_empty p) (is_empty q || (is_empty r || false)) (some_byte p hp) (or_from (is_empty q) (is_empty r || false) (some_byte q hq) (or_from (is_empty r) false (some_byte r hr) refl)))
-
--- the words after the first one, whether there are any or not
-pub more_words : (words : List (List ℕ)) (w : List ℕ) (rest : Option (Bor (List ℕ))) → MatchOption rest (words ≡ w ∷ []) (λ r. words ≡ w ∷ words_of r.now) → (more : List (List ℕ)) × (words ≡ w ∷ more)
-more_words words w None h = ([], h)
-more_words words w (Some r) h = (words_of r.now, h)
-
--- the words where another one follows, and where none does
-pub cut_some : (words : List (List ℕ)) (w : List ℕ) (rest : Option (Bor (List ℕ))) (r : Bor (List ℕ)) → MatchOption rest (words ≡ w ∷ []) (λ x. words ≡ w ∷ words_of x.now) → rest ≡ Some r → words ≡ w ∷ words_of r.now
-cut_some words w None r h e = cc
-cut_some words w (Some x) r h e = let same : x ≡ r = cc in h ∙ ap (λ y. w ∷ words_of y.now) same
-
-pub cut_none : (words : List (List ℕ)) (w : List ℕ) (rest : Option (Bor (List ℕ))) → MatchOption rest (words ≡ w ∷ []) (λ x. words ≡ w ∷ words_of x.now) → rest ≡ None → words ≡ w ∷ []
-cut_none words w None h e = h
-cut_none words w (Some x) h e = cc
+pub list_any-texts : (words : List (Bor (List ℕ))) → list_any (λ w. is_empty w.now) words ≡ list_any is_empty (texts words)
+list_any-texts [] = refl
+list_any-texts (w ∷ words) = ap (λ t. is_empty w.now || t) (list_any-texts words)
 
 -- ---- commands
 
-pub write_is : (p hex text bytes : List ℕ) (off : ℕ) (path : List (List ℕ)) → path_of p ≡ Some path → hex_of hex ≡ Some text → bytes ≡ text → runs (Write path off bytes) ≡ write_at p off hex
-write_is p hex text bytes off path e h same =
-    ap (λ b. runs (Write path off b)) same
-    ∙ ap (λ o. with_path o (λ x. runs (Write x off text))) (sym e)
-    ∙ ap (λ o. with_bytes o (λ b. with_path (path_of p) (λ x. runs (Write x off b)))) (sym h)
+pub write_is : (words : List (Bor (List ℕ))) (d : Bor (List ℕ)) (n : ℕ) (path : Path) (text bytes : List ℕ) → length words ≡ 3
+    → path_in (get_or words 0 d).now ≡ Ok path → Some n ≡ number_of (get_or words 1 d).now → hex_of (get_or words 2 d).now ≡ Some text → bytes ≡ text
+    → (line_of_write (texts words) ≡ runs (Write path n bytes)) × (n < 2 ^ 32) × IsWritten bytes
+write_is [] d n path text bytes size is_path is_number is_hex same = absurd (omega arith)
+write_is (p ∷ []) d n path text bytes size is_path is_number is_hex same = absurd (omega arith)
+write_is (p ∷ off ∷ []) d n path text bytes size is_path is_number is_hex same = absurd (omega arith)
+write_is (p ∷ off ∷ hex ∷ []) d n path text bytes size is_path is_number is_hex same = (
+  ap (λ o. with_number o (λ m. with_bytes (hex_of hex.now) (λ b. with_path (path_in p.now) (λ x. runs (Write x m b))))) (sym is_number)
+      ∙ ap (λ o. with_bytes o (λ b. with_path (path_in p.now) (λ x. runs (Write x n b)))) is_hex
+      ∙ ap (λ r. with_path r (λ x. runs (Write x n text))) is_path
+      ∙ ap (λ b. runs (Write path n b)) (sym same),
+  number_of-below off.now n (sym is_number),
+  subst IsWritten (sym same) (IsWritten-hex_of hex.now text is_hex),
+)
+write_is (p ∷ off ∷ hex ∷ more ∷ words) d n path text bytes size is_path is_number is_hex same = absurd (omega arith)

@@ -1,49 +1,19 @@
 -- Words of a line, and numbers and bytes in them.
-use Rattle.std.specs.Prelude.{◌≡◌, ◌⊎◌, ℕ, suc, ◌+◌, ◌-◌, ◌*◌, ◌/◌, ◌<◌, ◌≤◌, Bool, true, false, not, ◌&&◌, List, [], ◌∷◌, length, take, drop, fold, nat_le, ◌==◌, ltb, cond, refl, Result, Ok, Err}
-use Rattle.std.specs.List.{onto_first, list_all, position_or_len, AllByRecursion}
+use Rattle.std.specs.Prelude.{◌≡◌, ◌⊎◌, ℕ, suc, ◌+◌, ◌-◌, ◌*◌, ◌/◌, ◌^◌, ◌<◌, ◌≤◌, Bool, true, false, not, ◌&&◌, List, [], ◌∷◌, length, take, drop, fold, nat_le, cond, refl, Result, Ok, Err}
+use Rattle.std.specs.List.{list_all, AllByRecursion}
 use Rattle.std.specs.Char.{is_ascii_digit}
-use Rattle.std.specs.declared.option.Option.{Option}
 use Rattle.std.specs.declared.option.Option.TheVariants.{None, Some}
 use Rattle.std.proofs.Common.{sym, ◌∙◌, ap, subst, arith, get_or, inl, inr}
-use Rattle.std.proofs.lemmas.Bool.{ltb-true, ltb-false, lt-leb, le-leb, leb-true, and_parts, and_left, and_right, and_from, eq-eqb, ne_eqb}
-use Rattle.std.proofs.lemmas.List.{take_rest, take_all, take_more, take-append-drop}
-use Rattle.std.proofs.lemmas.List.Splits.{slice_split_first}
+use Rattle.std.proofs.lemmas.Bool.{lt-leb, le-leb, leb-true, and_parts, and_left, and_right, and_from, eq-eqb, ne_eqb}
+use Rattle.std.proofs.lemmas.List.{take_all, take_more, take-append-drop}
 use Rattle.std.proofs.lemmas.List.Folds.{list_all_at}
 use Rattle.std.proofs.lemmas.Grind.{fold-append}
 use Rattle.hex.specs.Hex.{decode_of, IsBytes}
 use Rattle.hex.specs.declared.error.FromHexError.{FromHexError}
 use Rattle.hex.proofs.HexLemmas.{decode_of-ok}
+use Rattle.bd_limits.specs.Limits.{write_limit}
 use Rattle.bd_command.specs.Command.{IsWritten}
-use Rattle.bd_script.specs.Lines.{words_of, is_empty, digits_value, has_leading_zero, is_number, number_of, hex_of, hex_result}
-
--- ---- the first word
-
-some_cond : (t : Bool) (i n : ℕ) → Some i ≡ cond t (Some n) None → (t ≡ true) × (i ≡ n)
-some_cond true i n h = (refl, cc)
-some_cond false i n h = cc
-
-none_cond : (t : Bool) (n : ℕ) → None ≡ cond t (Some n) None → t ≡ false
-none_cond true n h = cc
-none_cond false n h = refl
-
-pub word_cut : (line : List ℕ) (r : Option ℕ) (i : ℕ) → r ≡ cond (ltb (position_or_len (λ b. b == 32) line) (length line)) (Some (position_or_len (λ b. b == 32) line)) None → r ≡ Some i → words_of line ≡ take i line ∷ words_of (take (length line - (i + 1)) (drop (i + 1) line))
-word_cut line r i found e =
-    let at = some_cond (ltb (position_or_len (λ b. b == 32) line) (length line)) i (position_or_len (λ b. b == 32) line) (sym e ∙ found) in
-    let first : words_of line ≡ take (position_or_len (λ b. b == 32) line) line ∷ words_of (drop (position_or_len (λ b. b == 32) line + 1) line) =
-    slice_split_first (λ b. b == 32) line 0 (ltb-true (position_or_len (λ b. b == 32) line) (length line) at.0) in
-    first ∙ ap (λ n. take n line ∷ words_of (drop (n + 1) line)) (sym at.1) ∙ ap (λ x. take i line ∷ words_of x) (sym (take_rest line (i + 1)))
-
-word_rest : (t : Bool) (b : ℕ) (line : List ℕ) → (length line ≤ position_or_len (λ b. b == 32) line → words_of line ≡ line ∷ []) → length (b ∷ line) ≤ cond (not t) (1 + position_or_len (λ b. b == 32) line) 0 → cond t ([] ∷ words_of line) (onto_first b (words_of line)) ≡ (b ∷ line) ∷ []
-word_rest true b line rest h = absurd (omega arith)
-word_rest false b line rest h = ap (onto_first b) (rest (omega arith))
-
-one_word : (line : List ℕ) → length line ≤ position_or_len (λ b. b == 32) line → words_of line ≡ line ∷ []
-one_word [] h = refl
-one_word (b ∷ line) h = word_rest (b == 32) b line (one_word line) h
-
-pub word_whole : (line : List ℕ) (r : Option ℕ) → r ≡ cond (ltb (position_or_len (λ b. b == 32) line) (length line)) (Some (position_or_len (λ b. b == 32) line)) None → r ≡ None → words_of line ≡ line ∷ []
-word_whole line r found e =
-    one_word line (ltb-false (position_or_len (λ b. b == 32) line) (length line) (none_cond (ltb (position_or_len (λ b. b == 32) line) (length line)) (position_or_len (λ b. b == 32) line) (sym e ∙ found)))
+use Rattle.bd_script.specs.Lines.{is_empty, digits_value, has_leading_zero, is_number, number_of, hex_of, hex_result}
 
 -- ---- numbers
 
@@ -109,34 +79,48 @@ number_of-good word i n some lead whole digits value small =
     and_from _ _ (ap (list_all is_ascii_digit) (sym all) ∙ digits) (
     and_from _ _ (ap not (no_leading_zero word lead)) (le-leb (digits_value word) 4294967295 (omega (arith, same)))))))
 
+number_below : (t : Bool) (v n : ℕ) → (t ≡ true → v ≤ 4294967295) → cond t (Some v) None ≡ Some n → n < 2 ^ 32
+number_below true v n h e = let same : v ≡ n = cc in let small : v ≤ 4294967295 = h refl in omega arith
+number_below false v n h e = cc
+
+pub number_of-below : (word : List ℕ) (n : ℕ) → number_of word ≡ Some n → n < 2 ^ 32
+number_of-below word n e = number_below (is_number word) (digits_value word) n small e
+  where
+    small : is_number word ≡ true → digits_value word ≤ 4294967295
+    small h =
+        let one = and_parts (not (is_empty word)) _ h in
+        let two = and_parts (list_all is_ascii_digit word) _ one.1 in
+        let three = and_parts (not (has_leading_zero word)) (nat_le (digits_value word) 4294967295) two.1 in
+        leb-true (digits_value word) 4294967295 three.1
+
 -- ---- bytes
 
-hex_size : (bytes : List ℕ) → (length bytes ≡ 0) ⊎ (2048 < length bytes) → hex_result (Ok bytes) ≡ None
-hex_size bytes (inl none) = rw (and_left (nat_le 1 (length bytes)) (nat_le (length bytes) 2048) (lt-leb 1 (length bytes) (omega arith))) refl
-hex_size bytes (inr many) = rw (and_right (nat_le 1 (length bytes)) (nat_le (length bytes) 2048) (lt-leb (length bytes) 2048 many)) refl
+hex_size : (bytes : List ℕ) → (length bytes ≡ 0) ⊎ (write_limit < length bytes) → hex_result (Ok bytes) ≡ None
+hex_size bytes (inl none) = rw (and_left (nat_le 1 (length bytes)) (nat_le (length bytes) write_limit) (lt-leb 1 (length bytes) (omega arith))) refl
+hex_size bytes (inr many) = rw (and_right (nat_le 1 (length bytes)) (nat_le (length bytes) write_limit) (lt-leb (length bytes) write_limit many)) refl
 
-hex_cases : (word : List ℕ) (r : Result (List ℕ) FromHexError) → decode_of word ≡ r → (length word / 2 ≡ 0) ⊎ (2048 < length word / 2) → hex_result r ≡ None
+hex_cases : (word : List ℕ) (r : Result (List ℕ) FromHexError) → decode_of word ≡ r → (length word / 2 ≡ 0) ⊎ (write_limit < length word / 2) → hex_result r ≡ None
 hex_cases word (Err e) h size = refl
 hex_cases word (Ok bytes) h (inl none) = hex_size bytes (inl (omega (arith, (decode_of-ok word bytes h).2)))
 hex_cases word (Ok bytes) h (inr many) = hex_size bytes (inr (omega (arith, (decode_of-ok word bytes h).2)))
 
-pub hex_of-size : (word : List ℕ) → (length word / 2 ≡ 0) ⊎ (2048 < length word / 2) → hex_of word ≡ None
+pub hex_of-size : (word : List ℕ) → (length word / 2 ≡ 0) ⊎ (write_limit < length word / 2) → hex_of word ≡ None
 hex_of-size word size = hex_cases word (decode_of word) refl size
 
 all_bytes : (bytes : List ℕ) → IsBytes bytes → AllByRecursion (λ b. b < 256) bytes
 all_bytes [] h = tt
 all_bytes (b ∷ bytes) h = (h 0, all_bytes bytes (λ i. h (suc i)))
 
-written_at : (t : Bool) (bs bytes : List ℕ) → (nat_le 1 (length bs) && nat_le (length bs) 2048) ≡ t → IsBytes bs → cond t (Some bs) None ≡ Some bytes → IsWritten bytes
+written_at : (t : Bool) (bs bytes : List ℕ) → (nat_le 1 (length bs) && nat_le (length bs) write_limit) ≡ t → IsBytes bs → cond t (Some bs) None ≡ Some bytes → IsWritten bytes
 written_at true bs bytes size h e =
-    let parts = and_parts (nat_le 1 (length bs)) (nat_le (length bs) 2048) size in
+    let parts = and_parts (nat_le 1 (length bs)) (nat_le (length bs) write_limit) size in
     let same : bs ≡ bytes = cc in
     let P : List ℕ → Type 0 = IsWritten in
-    subst P same (leb-true 1 (length bs) parts.0, leb-true (length bs) 2048 parts.1, all_bytes bs h)
+    subst P same (leb-true 1 (length bs) parts.0, leb-true (length bs) write_limit parts.1, all_bytes bs h)
 written_at false bs bytes size h e = cc
 
 written_size : (bs bytes : List ℕ) → IsBytes bs → hex_result (Ok bs) ≡ Some bytes → IsWritten bytes
-written_size bs bytes h e = written_at (nat_le 1 (length bs) && nat_le (length bs) 2048) bs bytes refl h e
+written_size bs bytes h e = written_at (nat_le 1 (length bs) && nat_le (length bs) write_limit) bs bytes refl h e
 
 written_cases : (word : List ℕ) (r : Result (List ℕ) FromHexError) (bytes : List ℕ) → decode_of word ≡ r → hex_result r ≡ Some bytes → IsWritten bytes
 written_cases word (Err e) bytes h some = cc

@@ -1,5 +1,6 @@
 -- A script's lines, and what each of them means.
 use Rattle.std.specs.Prelude.{◌≡◌, ℕ, ◌+◌, ◌-◌, ◌*◌, Bool, true, false, not, ◌&&◌, List, [], ◌∷◌, ◌++◌, length, take, nat_le, ◌==◌, if◌then◌else◌, codes, fold}
+use Rattle.std.specs.Option.{ok_or}
 use Rattle.std.specs.List.{All, slice_split, list_all, list_any}
 use Rattle.std.specs.Char.{is_ascii_digit}
 use Rattle.std.specs.declared.option.Option.{Option}
@@ -17,9 +18,12 @@ use Rattle.bd_command.specs.declared.refusal.Refusal.{Refusal}
 use Rattle.bd_command.specs.declared.refusal.Refusal.TheVariants.{BadPath, BadLine}
 use Rattle.bd_script.specs.declared.line.Line.{Line}
 use Rattle.bd_script.specs.declared.line.Line.TheVariants.{Run, Stop}
+use Rattle.bd_script.specs.declared.verb.Verb.{Verb}
+use Rattle.bd_script.specs.declared.verb.Verb.TheVariants as verb
 
 -- ---- cutting a script
 
+-- no bytes
 abbrev pub is_empty : List ℕ → Bool
 is_empty [] = true
 is_empty (b ∷ bs) = false
@@ -28,11 +32,13 @@ is_empty (b ∷ bs) = false
 abbrev pub pieces : List ℕ → List (List ℕ)
 pieces script = slice_split (λ b. b == 10) script
 
+-- all pieces before the last one
 abbrev pub all_but_last : List (List ℕ) → List (List ℕ)
 all_but_last [] = []
 all_but_last (x ∷ []) = []
 all_but_last (x ∷ y ∷ more) = x ∷ all_but_last (y ∷ more)
 
+-- the last piece
 abbrev pub last_piece : List (List ℕ) → List ℕ
 last_piece [] = []
 last_piece (x ∷ []) = x
@@ -65,13 +71,23 @@ held line = take held_limit line
 
 -- ---- what a line means
 
+-- a path is seen as the list of its names
+abbrev pub Path : Type 0
+Path = List (List ℕ)
+
+-- two paths
+abbrev pub PathPair : Type 0
+PathPair = Path × Path
+
 -- a line, or why it is refused
 abbrev pub LineMeaning : Type 0
 LineMeaning = Result Line Refusal
 
+-- what decimal digits come to
 abbrev pub digits_value : List ℕ → ℕ
 digits_value word = fold (λ n d. 10 * n + (d - 48)) 0 word
 
+-- a zero before another byte
 abbrev pub has_leading_zero : List ℕ → Bool
 has_leading_zero [] = false
 has_leading_zero (b ∷ []) = false
@@ -83,6 +99,7 @@ is_number word =
     not (is_empty word) && (list_all is_ascii_digit word && (not (has_leading_zero word)
     && nat_le (digits_value word) 4294967295))
 
+-- the number that a word is, if it is one
 abbrev pub number_of : List ℕ → Option ℕ
 number_of word = if is_number word then Some (digits_value word) else None
 
@@ -92,19 +109,21 @@ hex_result (Err e) = None
 hex_result (Ok bytes) =
     if nat_le 1 (length bytes) && nat_le (length bytes) write_limit then Some bytes else None
 
+-- the bytes that a word encodes, if it is such
 abbrev pub hex_of : List ℕ → Option (List ℕ)
 hex_of word = hex_result (decode_of word)
 
--- the line that goes on with what a word is read as; a word that is no path makes it a bad path,
--- and one that is no number or no bytes a bad line
-abbrev pub with_path : Option (List (List ℕ)) → (List (List ℕ) → LineMeaning) → LineMeaning
-with_path None line = Err BadPath
-with_path (Some path) line = line path
+-- the line that goes on with what words are read as, or why there is none
+abbrev pub with_path : Result Path Refusal → (Path → LineMeaning) → LineMeaning
+with_path (Ok path) line = line path
+with_path (Err refusal) line = Err refusal
 
+-- the same with a number; a word that is none makes a bad line
 abbrev pub with_number : Option ℕ → (ℕ → LineMeaning) → LineMeaning
 with_number None line = Err BadLine
 with_number (Some n) line = line n
 
+-- the same with bytes; a word that encodes none makes a bad line
 abbrev pub with_bytes : Option (List ℕ) → (List ℕ → LineMeaning) → LineMeaning
 with_bytes None line = Err BadLine
 with_bytes (Some bytes) line = line bytes
@@ -113,66 +132,107 @@ with_bytes (Some bytes) line = line bytes
 abbrev pub runs : Command → LineMeaning
 runs command = Ok (Run command)
 
--- a line of one word
-abbrev pub line_of_verb : List ℕ → LineMeaning
-line_of_verb verb = if same_text verb (codes "stop") then Ok Stop else Err BadLine
+-- a word that has to be a path
+abbrev pub path_in : List ℕ → Result Path Refusal
+path_in word = ok_or (path_of word) BadPath
 
--- a line of a verb and one word
-abbrev pub line_of_one : List ℕ → List ℕ → LineMeaning
-line_of_one verb p =
-    if same_text verb (codes "mkdir") then with_path (path_of p) (λ path. runs (Mkdir path))
-    else if same_text verb (codes "create") then with_path (path_of p) (λ path. runs (Create path))
-    else if same_text verb (codes "remove") then with_path (path_of p) (λ path. runs (Remove path))
-    else if same_text verb (codes "stat") then with_path (path_of p) (λ path. runs (Stat path))
-    else if same_text verb (codes "list") then with_path (path_of p) (λ path. runs (Ls path None))
-    else Err BadLine
+-- the one path that follows a verb
+abbrev pub only_path : List (List ℕ) → Result Path Refusal
+only_path (p ∷ []) = path_in p
+only_path words = Err BadLine
 
--- two paths
-abbrev pub with_paths : List ℕ → List ℕ → (List (List ℕ) → List (List ℕ) → Command) → LineMeaning
-with_paths p q command = with_path (path_of p) (λ a. with_path (path_of q) (λ b. runs (command a b)))
+-- two paths, or the first refusal
+abbrev pub both_paths : Result Path Refusal → Result Path Refusal → Result PathPair Refusal
+both_paths (Ok a) (Ok b) = Ok (a, b)
+both_paths (Ok a) (Err refusal) = Err refusal
+both_paths (Err refusal) second = Err refusal
 
--- a `list` of the names after one
-abbrev pub list_after : List ℕ → List ℕ → LineMeaning
-list_after p q =
-    with_path (path_of p) (λ path. if is_name q then runs (Ls path (Some q)) else Err BadPath)
+-- the two paths that follow a verb
+abbrev pub two_paths : List (List ℕ) → Result PathPair Refusal
+two_paths (p ∷ q ∷ []) = both_paths (path_in p) (path_in q)
+two_paths words = Err BadLine
 
--- a line of a verb and two words
-abbrev pub line_of_two : List ℕ → List ℕ → List ℕ → LineMeaning
-line_of_two verb p q =
-    if same_text verb (codes "truncate")
-    then with_number (number_of q) (λ len. with_path (path_of p) (λ path. runs (Truncate path len)))
-    else if same_text verb (codes "rename") then with_paths p q Rename
-    else if same_text verb (codes "clone") then with_paths p q Clone
-    else if same_text verb (codes "list") then list_after p q
-    else Err BadLine
+-- a line of a command of one path
+abbrev pub run_path : (Path → Command) → Result Path Refusal → LineMeaning
+run_path command path = with_path path (λ p. runs (command p))
 
--- a `write` at an offset
-abbrev pub write_at : List ℕ → ℕ → List ℕ → LineMeaning
-write_at p off r =
-    with_bytes (hex_of r) (λ bytes. with_path (path_of p) (λ path. runs (Write path off bytes)))
+-- a line of a command of two paths
+abbrev pub run_paths : (Path → Path → Command) → Result PathPair Refusal → LineMeaning
+run_paths command (Ok paths) = runs (command paths.0 paths.1)
+run_paths command (Err refusal) = Err refusal
 
--- a `read` of so many bytes at an offset
-abbrev pub read_at : List ℕ → ℕ → ℕ → LineMeaning
-read_at p off len =
-    if nat_le len read_limit then with_path (path_of p) (λ path. runs (Read path off len))
-    else Err BadLine
+-- what follows `write`: a path, an offset and bytes
+abbrev pub line_of_write : List (List ℕ) → LineMeaning
+line_of_write (p ∷ off ∷ hex ∷ []) =
+    with_number (number_of off) (λ n.
+    with_bytes (hex_of hex) (λ bytes. with_path (path_in p) (λ path. runs (Write path n bytes))))
+line_of_write words = Err BadLine
 
--- a line of a verb and three words
-abbrev pub line_of_three : List ℕ → List ℕ → List ℕ → List ℕ → LineMeaning
-line_of_three verb p q r =
-    if same_text verb (codes "write") then with_number (number_of q) (λ off. write_at p off r)
-    else if same_text verb (codes "read")
-    then with_number (number_of q) (λ off. with_number (number_of r) (λ len. read_at p off len))
-    else Err BadLine
+-- what follows `truncate`: a path and a length
+abbrev pub line_of_truncate : List (List ℕ) → LineMeaning
+line_of_truncate (p ∷ len ∷ []) =
+    with_number (number_of len) (λ n. with_path (path_in p) (λ path. runs (Truncate path n)))
+line_of_truncate words = Err BadLine
+
+-- what follows `read`: a path, an offset and how many bytes
+abbrev pub line_of_read : List (List ℕ) → LineMeaning
+line_of_read (p ∷ off ∷ len ∷ []) =
+    with_number (number_of off) (λ n. with_number (number_of len) (λ m.
+    if nat_le m read_limit then with_path (path_in p) (λ path. runs (Read path n m))
+    else Err BadLine))
+line_of_read words = Err BadLine
+
+-- what follows `list`: a path, and maybe the name after which the listing begins
+abbrev pub line_of_list : List (List ℕ) → LineMeaning
+line_of_list (p ∷ []) = with_path (path_in p) (λ path. runs (Ls path None))
+line_of_list (p ∷ name ∷ []) =
+    with_path (path_in p) (λ path. if is_name name then runs (Ls path (Some name)) else Err BadPath)
+line_of_list words = Err BadLine
+
+-- nothing follows `stop`
+abbrev pub line_of_stop : List (List ℕ) → LineMeaning
+line_of_stop [] = Ok Stop
+line_of_stop (word ∷ words) = Err BadLine
+
+-- the verb that a word is, if it is one
+abbrev pub verb_of : List ℕ → Option Verb
+verb_of word =
+    if same_text word (codes "mkdir") then Some verb.Mkdir
+    else if same_text word (codes "create") then Some verb.Create
+    else if same_text word (codes "write") then Some verb.Write
+    else if same_text word (codes "truncate") then Some verb.Truncate
+    else if same_text word (codes "remove") then Some verb.Remove
+    else if same_text word (codes "rename") then Some verb.Rename
+    else if same_text word (codes "clone") then Some verb.Clone
+    else if same_text word (codes "read") then Some verb.Read
+    else if same_text word (codes "stat") then Some verb.Stat
+    else if same_text word (codes "list") then Some verb.List
+    else if same_text word (codes "stop") then Some verb.Stop
+    else None
+
+-- the line of a verb and the words after it
+abbrev pub line_of_verb : Verb → List (List ℕ) → LineMeaning
+line_of_verb verb.Mkdir words = run_path Mkdir (only_path words)
+line_of_verb verb.Create words = run_path Create (only_path words)
+line_of_verb verb.Write words = line_of_write words
+line_of_verb verb.Truncate words = line_of_truncate words
+line_of_verb verb.Remove words = run_path Remove (only_path words)
+line_of_verb verb.Rename words = run_paths Rename (two_paths words)
+line_of_verb verb.Clone words = run_paths Clone (two_paths words)
+line_of_verb verb.Read words = line_of_read words
+line_of_verb verb.Stat words = run_path Stat (only_path words)
+line_of_verb verb.List words = line_of_list words
+line_of_verb verb.Stop words = line_of_stop words
+
+-- the line of a verb, if there is one
+abbrev pub with_verb : Option Verb → List (List ℕ) → LineMeaning
+with_verb None words = Err BadLine
+with_verb (Some v) words = line_of_verb v words
 
 -- the line that these words make
 abbrev pub line_of_words : List (List ℕ) → LineMeaning
 line_of_words [] = Err BadLine
-line_of_words (verb ∷ []) = line_of_verb verb
-line_of_words (verb ∷ p ∷ []) = line_of_one verb p
-line_of_words (verb ∷ p ∷ q ∷ []) = line_of_two verb p q
-line_of_words (verb ∷ p ∷ q ∷ r ∷ []) = line_of_three verb p q r
-line_of_words (verb ∷ p ∷ q ∷ r ∷ s ∷ more) = Err BadLine
+line_of_words (word ∷ words) = with_verb (verb_of word) words
 
 -- the words between the spaces
 abbrev pub words_of : List ℕ → List (List ℕ)
@@ -184,7 +244,8 @@ line_of_parts words = if list_any is_empty words then Err BadLine else line_of_w
 
 -- the one meaning of a line, which has at most `line_limit` bytes
 unfoldable pub line_of : List ℕ → LineMeaning
-line_of line = if nat_le (length line) line_limit then line_of_parts (words_of line) else Err BadLine
+line_of line =
+    if nat_le (length line) line_limit then line_of_parts (words_of line) else Err BadLine
 
 -- ---- lines of a script
 
@@ -193,6 +254,7 @@ abbrev pub IsLine : Line → Type 0
 IsLine (Run command) = IsCommand command
 IsLine Stop = Unit {0}
 
+-- the line is `stop`
 abbrev pub is_stop : LineMeaning → Bool
 is_stop (Ok (Run command)) = false
 is_stop (Ok Stop) = true

@@ -14,6 +14,7 @@ use Rattle.bd_command.specs.declared.reply.Reply.TheVariants.{Done, Bytes, Dir, 
 use Rattle.bd_script.specs.declared.replies.LineReply.{LineReply}
 use Rattle.bd_script.specs.declared.replies.LineReply.TheVariants.{Command, Unread, Stopped}
 
+-- the number and the name of a refusal
 abbrev pub refusal_text : Refusal → List ℕ
 refusal_text NotFound = codes "1 not-found"
 refusal_text Exists = codes "2 exists"

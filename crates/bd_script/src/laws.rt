@@ -1,4 +1,4 @@
-//! Laws of lines, which hold whatever the bytes are. Each function here carries one, and does nothing.
+//! Laws of lines, whatever their bytes. Each function here carries one and does nothing.
 
 ghost use Rattle.std.specs.Prelude.{◌≡◌, ◌⊎◌, ℕ, List, Ok, Err};
 ghost use Rattle.bd_command.specs.Command.{IsCommand};

@@ -1,5 +1,6 @@
 //! The lines of a script as values, and the bytes of replies.
-//! The layers above use the contracts of `read_line`, `reply` and `line_reply`, and the definitions of `specs/`.
+//! The layers above use the contracts of `read_line`, `reply`, `line_reply` and `laws`, and the
+//! definitions of `specs/`.
 #![tactic(auto)]
 
 pub mod laws;
@@ -7,6 +8,7 @@ mod line;
 mod number;
 mod read;
 mod replies;
+mod verb;
 mod words;
 
 pub use line::{Line, LineFault};

@@ -26,7 +26,8 @@ pub(crate) fn read_number(word: &[u8]) -> Option<u32>
     Some(number as u32)
 }
 
-/// Writes the bytes that a word encodes in hex digits at the front of `into`, and returns how many they are, 1 to 2,048.
+/// Writes the bytes that a word encodes in hex digits at the front of `into`, and returns how many
+/// they are, 1 to 2,048.
 pub(crate) fn read_hex(word: &[u8], into: &mut [u8; MAX_WRITE]) -> Option<usize>
     ensures { MatchOption result (hex_of word.now ≡ None)
         (λ len. (len ≤ write_limit) × (hex_of word.now ≡ Some (take len into.new))) }

@@ -1,14 +1,14 @@
 //! Reading a line.
 
 ghost use Rattle.std.specs.Prelude.{◌≡◌, ◌↔◌, Ok, Err, IsTrue, is_ok, IfOk};
-ghost use Rattle.bd_names.specs.Names.{path_of};
-ghost use Rattle.bd_script.specs.Lines.{line_of, line_of_parts, words_of, line_of_verb, line_of_one, line_of_two, line_of_three, list_after, write_at, IsLine};
-ghost use Rattle.bd_script.specs.Reading.{IsRead, IsPathRead, ArePathsRead};
+ghost use Rattle.bd_script.specs.Lines.{line_of, line_of_words, line_of_verb, line_of_write, line_of_truncate, line_of_read, line_of_list, line_of_stop, path_in, only_path, two_paths, IsLine};
+ghost use Rattle.bd_script.specs.Reading.{texts, IsRead, IsPathRead, ArePathsRead};
 ghost use Rattle.bd_command.specs.declared.refusal.Refusal.TheVariants as refusal;
 
 use crate::line::{Line, LineFault};
 use crate::number::{read_hex, read_number};
-use crate::words::cut_word;
+use crate::verb::Verb;
+use crate::words::cut_words;
 use bd_command::Command;
 use bd_keys::Bytes;
 use bd_limits::{MAX_LINE, MAX_READ, MAX_WRITE};
@@ -27,171 +27,162 @@ pub fn read_line(alloc: Global, line: &[u8]) -> Result<Line, LineFault>
     if line.len() > MAX_LINE {
         return Err(LineFault::BadLine);
     }
-    read_words(alloc, line)
+    let words = cut_words(alloc, line).ok_or(LineFault::BadLine)?;
+    read_words(alloc, words.as_slice())
 }
 
-/// Reads a line of at most 8,192 bytes.
-fn read_words(alloc: Global, line: &[u8]) -> Result<Line, LineFault>
-    ensures { IsRead result (line_of_parts (words_of line.now)) }
+/// Reads a line of these words.
+fn read_words(alloc: Global, words: &[&[u8]]) -> Result<Line, LineFault>
+    ensures { IsRead result (line_of_words (texts words.now)) }
 {
-    let (verb, rest) = cut_word(line);
-    let Some(rest) = rest else {
-        return read_verb(verb);
-    };
-    let (first, rest) = cut_word(rest);
-    if first.is_empty() {
+    let [first, rest @ ..] = words else {
         return Err(LineFault::BadLine);
-    }
-    let Some(rest) = rest else {
-        return read_one(alloc, verb, first);
     };
-    let (second, rest) = cut_word(rest);
-    if second.is_empty() {
-        return Err(LineFault::BadLine);
-    }
-    let Some(rest) = rest else {
-        return read_two(alloc, verb, first, second);
-    };
-    let (third, rest) = cut_word(rest);
-    if third.is_empty() {
-        return Err(LineFault::BadLine);
-    }
-    match rest {
-        Some(_) => Err(LineFault::BadLine),
-        None => read_three(alloc, verb, first, second, third),
-    }
+    let verb = Verb::of(first).ok_or(LineFault::BadLine)?;
+    read_verb(alloc, verb, rest)
 }
 
-/// Reads a line of one word.
-fn read_verb(verb: &[u8]) -> Result<Line, LineFault>
-    ensures { IsRead result (line_of_verb verb.now) }
+/// Reads a line of a verb and the words after it.
+fn read_verb(alloc: Global, verb: Verb, words: &[&[u8]]) -> Result<Line, LineFault>
+    ensures { IsRead result (line_of_verb verb (texts words.now)) }
 {
-    if verb == b"stop".as_slice() {
-        Ok(Line::Stop)
-    } else {
-        Err(LineFault::BadLine)
-    }
-}
-
-/// Reads a line of a verb and one word.
-fn read_one(alloc: Global, verb: &[u8], path: &[u8]) -> Result<Line, LineFault>
-    ensures { IsRead result (line_of_one verb.now path.now) }
-{
-    if verb == b"mkdir".as_slice() {
-        Ok(Line::Run(Command::Mkdir {
-            path: read_path(alloc, path)?,
-        }))
-    } else if verb == b"create".as_slice() {
-        Ok(Line::Run(Command::Create {
-            path: read_path(alloc, path)?,
-        }))
-    } else if verb == b"remove".as_slice() {
-        Ok(Line::Run(Command::Remove {
-            path: read_path(alloc, path)?,
-        }))
-    } else if verb == b"stat".as_slice() {
-        Ok(Line::Run(Command::Stat {
-            path: read_path(alloc, path)?,
-        }))
-    } else if verb == b"list".as_slice() {
-        Ok(Line::Run(Command::List {
-            path: read_path(alloc, path)?,
-            after: None,
-        }))
-    } else {
-        Err(LineFault::BadLine)
-    }
-}
-
-/// Reads a line of a verb and two words.
-fn read_two(alloc: Global, verb: &[u8], first: &[u8], second: &[u8]) -> Result<Line, LineFault>
-    ensures { IsRead result (line_of_two verb.now first.now second.now) }
-{
-    if verb == b"truncate".as_slice() {
-        let len = read_number(second).ok_or(LineFault::BadLine)?;
-        let path = read_path(alloc, first)?;
-        Ok(Line::Run(Command::Truncate { path, len }))
-    } else if verb == b"rename".as_slice() {
-        let (a, b) = read_paths(alloc, first, second)?;
-        Ok(Line::Run(Command::Rename { a, b }))
-    } else if verb == b"clone".as_slice() {
-        let (a, b) = read_paths(alloc, first, second)?;
-        Ok(Line::Run(Command::Clone { a, b }))
-    } else if verb == b"list".as_slice() {
-        read_list(alloc, first, second)
-    } else {
-        Err(LineFault::BadLine)
-    }
-}
-
-/// Reads what stands after `list` where a name follows.
-fn read_list(alloc: Global, path: &[u8], after: &[u8]) -> Result<Line, LineFault>
-    ensures { IsRead result (list_after path.now after.now) }
-{
-    if !Name::is_name(after) {
-        return Err(LineFault::BadPath);
-    }
-    let path = read_path(alloc, path)?;
-    let after = Some(Name::read(alloc, after)?);
-    Ok(Line::Run(Command::List { path, after }))
-}
-
-/// Reads a line of a verb and three words.
-fn read_three(
-    alloc: Global,
-    verb: &[u8],
-    path: &[u8],
-    off: &[u8],
-    last: &[u8],
-) -> Result<Line, LineFault>
-    ensures { IsRead result (line_of_three verb.now path.now off.now last.now) }
-{
-    if verb == b"write".as_slice() {
-        let off = read_number(off).ok_or(LineFault::BadLine)?;
-        read_write(alloc, path, off, last)
-    } else if verb == b"read".as_slice() {
-        let off = read_number(off).ok_or(LineFault::BadLine)?;
-        let len = read_number(last).ok_or(LineFault::BadLine)?;
-        if len > MAX_READ {
-            return Err(LineFault::BadLine);
+    match verb {
+        Verb::Mkdir => {
+            let path = only_path(alloc, words)?;
+            Ok(Line::Run(Command::Mkdir { path }))
         }
-        let path = read_path(alloc, path)?;
-        Ok(Line::Run(Command::Read { path, off, len }))
-    } else {
-        Err(LineFault::BadLine)
+        Verb::Create => {
+            let path = only_path(alloc, words)?;
+            Ok(Line::Run(Command::Create { path }))
+        }
+        Verb::Write => read_write(alloc, words),
+        Verb::Truncate => read_truncate(alloc, words),
+        Verb::Remove => {
+            let path = only_path(alloc, words)?;
+            Ok(Line::Run(Command::Remove { path }))
+        }
+        Verb::Rename => {
+            let (a, b) = two_paths(alloc, words)?;
+            Ok(Line::Run(Command::Rename { a, b }))
+        }
+        Verb::Clone => {
+            let (a, b) = two_paths(alloc, words)?;
+            Ok(Line::Run(Command::Clone { a, b }))
+        }
+        Verb::Read => read_read(alloc, words),
+        Verb::Stat => {
+            let path = only_path(alloc, words)?;
+            Ok(Line::Run(Command::Stat { path }))
+        }
+        Verb::List => read_list(alloc, words),
+        Verb::Stop => read_stop(words),
     }
 }
 
-/// Reads what stands after `write`, once the offset is read.
-fn read_write(alloc: Global, path: &[u8], off: u32, hex: &[u8]) -> Result<Line, LineFault>
-    ensures { IsRead result (write_at path.now off hex.now) }
+/// Reads what follows `write`.
+fn read_write(alloc: Global, words: &[&[u8]]) -> Result<Line, LineFault>
+    ensures { IsRead result (line_of_write (texts words.now)) }
 {
-    let mut room = [0; MAX_WRITE];
-    let Some(len) = read_hex(hex, &mut room) else {
+    let [path, off, hex] = words else {
         return Err(LineFault::BadLine);
     };
+    let off = read_number(off).ok_or(LineFault::BadLine)?;
+    let mut room = [0; MAX_WRITE];
+    let len = read_hex(hex, &mut room).ok_or(LineFault::BadLine)?;
     let path = read_path(alloc, path)?;
     let bytes = Bytes::from_slice(alloc, &room[..len])?;
     Ok(Line::Run(Command::Write { path, off, bytes }))
 }
 
-/// Reads a path.
-fn read_path(alloc: Global, word: &[u8]) -> Result<Path, LineFault>
-    ensures { IsPathRead result (path_of word.now) }
+/// Reads what follows `truncate`.
+fn read_truncate(alloc: Global, words: &[&[u8]]) -> Result<Line, LineFault>
+    ensures { IsRead result (line_of_truncate (texts words.now)) }
 {
-    Ok(Path::read(alloc, word)?)
+    let [path, len] = words else {
+        return Err(LineFault::BadLine);
+    };
+    let len = read_number(len).ok_or(LineFault::BadLine)?;
+    let path = read_path(alloc, path)?;
+    Ok(Line::Run(Command::Truncate { path, len }))
 }
 
-/// Reads two paths.
-fn read_paths(alloc: Global, first: &[u8], second: &[u8]) -> Result<(Path, Path), LineFault>
-    ensures { ArePathsRead result (path_of first.now) (path_of second.now) }
+/// Reads what follows `read`.
+fn read_read(alloc: Global, words: &[&[u8]]) -> Result<Line, LineFault>
+    ensures { IsRead result (line_of_read (texts words.now)) }
 {
+    let [path, off, len] = words else {
+        return Err(LineFault::BadLine);
+    };
+    let off = read_number(off).ok_or(LineFault::BadLine)?;
+    let len = read_number(len).ok_or(LineFault::BadLine)?;
+    if len > MAX_READ {
+        return Err(LineFault::BadLine);
+    }
+    let path = read_path(alloc, path)?;
+    Ok(Line::Run(Command::Read { path, off, len }))
+}
+
+/// Reads what follows `list`.
+fn read_list(alloc: Global, words: &[&[u8]]) -> Result<Line, LineFault>
+    ensures { IsRead result (line_of_list (texts words.now)) }
+{
+    match words {
+        [path] => {
+            let path = read_path(alloc, path)?;
+            Ok(Line::Run(Command::List { path, after: None }))
+        }
+        [path, after] => {
+            if !Name::is_name(after) {
+                return Err(LineFault::BadPath);
+            }
+            let path = read_path(alloc, path)?;
+            let after = Some(Name::read(alloc, after)?);
+            Ok(Line::Run(Command::List { path, after }))
+        }
+        _ => Err(LineFault::BadLine),
+    }
+}
+
+/// Reads what follows `stop`, which is nothing.
+fn read_stop(words: &[&[u8]]) -> Result<Line, LineFault>
+    ensures { IsRead result (line_of_stop (texts words.now)) }
+{
+    match words {
+        [] => Ok(Line::Stop),
+        _ => Err(LineFault::BadLine),
+    }
+}
+
+/// Reads the one path that follows a verb.
+fn only_path(alloc: Global, words: &[&[u8]]) -> Result<Path, LineFault>
+    ensures { IsPathRead result (only_path (texts words.now)) }
+{
+    match words {
+        [path] => read_path(alloc, path),
+        _ => Err(LineFault::BadLine),
+    }
+}
+
+/// Reads the two paths that follow a verb.
+fn two_paths(alloc: Global, words: &[&[u8]]) -> Result<(Path, Path), LineFault>
+    ensures { ArePathsRead result (two_paths (texts words.now)) }
+{
+    let [first, second] = words else {
+        return Err(LineFault::BadLine);
+    };
     if !Path::is_path(second) {
         return Err(LineFault::BadPath);
     }
     let first = read_path(alloc, first)?;
     let second = read_path(alloc, second)?;
     Ok((first, second))
+}
+
+/// Reads a path.
+fn read_path(alloc: Global, word: &[u8]) -> Result<Path, LineFault>
+    ensures { IsPathRead result (path_in word.now) }
+{
+    Ok(Path::read(alloc, word)?)
 }
 
 #[cfg(test)]

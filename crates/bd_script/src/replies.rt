@@ -24,7 +24,8 @@ pub enum LineReply {
     Stopped,
 }
 
-/// Writes the reply to a line, and its newline, at the front of `into`, and returns how many bytes they are.
+/// Writes the reply to a line, and its newline, at the front of `into`, and returns how many bytes
+/// they are.
 pub fn line_reply(reply: &LineReply, into: &mut [u8; REPLY_SIZE]) -> usize
     requires { IsLineReply reply.now }
     ensures length { result ≡ length (line_reply_line reply.now) }
@@ -49,8 +50,8 @@ fn put_line_reply(into: &mut [u8; REPLY_SIZE], reply: &LineReply) -> usize
     }
 }
 
-/// Writes a reply and its newline at the front of `into`, and returns how many bytes they are. A chunk has at most
-/// 4,096 bytes, a listing at most 100 names.
+/// Writes a reply and its newline at the front of `into`, and returns how many bytes they are. A
+/// chunk has at most 4,096 bytes, a listing at most 100 names.
 pub fn reply(reply: &Reply, into: &mut [u8; REPLY_SIZE]) -> usize
     requires { IsReply reply.now }
     ensures length { result ≡ length (reply_line reply.now) }

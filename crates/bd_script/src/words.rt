@@ -1,15 +1,38 @@
 //! The words of a line.
 
-ghost use Rattle.std.specs.Prelude.{◌≡◌, [], ◌∷◌, MatchOption};
-ghost use Rattle.bd_script.specs.Lines.{words_of};
+ghost use Rattle.std.specs.Prelude.{◌≡◌, Err, MatchOption};
+ghost use Rattle.std.specs.List.{list_any};
+ghost use Rattle.bd_command.specs.declared.refusal.Refusal.TheVariants.{BadLine};
+ghost use Rattle.bd_script.specs.Lines.{is_empty, words_of, line_of_parts, line_of_words};
+ghost use Rattle.bd_script.specs.Reading.{texts};
 
-/// The first word of a line, and what follows the space behind it, if there is one.
-pub(crate) fn cut_word(line: &[u8]) -> (&[u8], Option<&[u8]>)
-    ensures { MatchOption result.1 (words_of line.now ≡ result.0.now ∷ [])
-        (λ rest. words_of line.now ≡ result.0.now ∷ words_of rest.now) }
+use arrayvec::ArrayVec;
+use std::alloc::Global;
+
+/// The most words of a line.
+const MAX_WORDS: usize = 4;
+
+/// The words of a line.
+pub(crate) type Words<'a> = ArrayVec<&'a [u8], MAX_WORDS>;
+
+/// Cuts a line into its words, which lie in the line: no memory is taken. A line with an empty
+/// word, or with more than four words, has none.
+pub(crate) fn cut_words(alloc: Global, line: &[u8]) -> Option<Words<'_>>
+    ensures { MatchOption result (line_of_parts (words_of line.now) ≡ Err BadLine)
+        (λ words. line_of_parts (words_of line.now) ≡ line_of_words (texts words.items)) }
 {
-    match line.iter().position(|byte| *byte == b' ') {
-        Some(i) => (&line[..i], Some(&line[i + 1..])),
-        None => (line, None),
+    let Ok(words) = Words::from_iter(alloc, line.split(|byte| *byte == b' ')) else {
+        return None;
+    };
+    if has_empty(words.as_slice()) {
+        return None;
     }
+    Some(words)
+}
+
+/// Whether a word is empty.
+fn has_empty(words: &[&[u8]]) -> bool
+    ensures { result ≡ list_any is_empty (texts words.now) }
+{
+    words.iter().any(|word| word.is_empty())
 }

@@ -1,5 +1,5 @@
 pub mod Numbers
 pub mod Reading
-pub mod Spelling
+pub mod Encoding
 pub mod Text
 pub mod Writing

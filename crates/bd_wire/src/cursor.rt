@@ -1,9 +1,10 @@
-// Big-endian numbers and bytes read off the front of a slice.
+//! Big-endian numbers and bytes read off the front of a slice.
+
 ghost use Rattle.std.specs.Prelude.{◌≡◌, ◌<◌, ◌+◌, ◌↔◌, [], ◌∷◌, length, ◌++◌, ℕ, List, IfOk, IfErr, OnErr, IfSome, IfNone, IsTrue};
 ghost use Rattle.std.specs.Int.{w16, w32, w64};
 ghost use Rattle.bd_wire.specs.Numbers.{be};
 ghost use Rattle.bd_wire.specs.Reading.{Reads};
-ghost use Rattle.bd_wire.specs.Spelling.{BeginsNone};
+ghost use Rattle.bd_wire.specs.Encoding.{BeginsNone};
 ghost use Rattle.bd_wire.specs.Text.{text16, AreZeros, FitsText16};
 
 use byteorder::{BigEndian, ByteOrder};
@@ -16,7 +17,7 @@ pub struct Short {
     pub at: usize,
 }
 
-/// Reads numbers and bytes one behind the other. A read that is refused leaves it where it was.
+/// Reads numbers and bytes one after the other. A read that is refused leaves it where it was.
 #[derive(Debug, Drop)]
 pub struct Cursor<'a> {
     bytes: &'a [u8],
@@ -144,7 +145,7 @@ impl<'a> Cursor<'a> {
     }
 }
 
-// The number that two bytes spell.
+// The number that two bytes encode.
 fn number16(bytes: &[u8]) -> u16
     requires { length bytes.now ≡ 2 }
     ensures { be w16 result ≡ bytes.now }
@@ -152,7 +153,7 @@ fn number16(bytes: &[u8]) -> u16
     BigEndian::read_u16(bytes)
 }
 
-// The number that four bytes spell.
+// The number that four bytes encode.
 fn number32(bytes: &[u8]) -> u32
     requires { length bytes.now ≡ 4 }
     ensures { be w32 result ≡ bytes.now }
@@ -160,7 +161,7 @@ fn number32(bytes: &[u8]) -> u32
     BigEndian::read_u32(bytes)
 }
 
-// The number that eight bytes spell.
+// The number that eight bytes encode.
 fn number64(bytes: &[u8]) -> u64
     requires { length bytes.now ≡ 8 }
     ensures { be w64 result ≡ bytes.now }
@@ -171,7 +172,8 @@ fn number64(bytes: &[u8]) -> u64
 // The text16 at the front.
 #[tactic(auto, unfolding(crate::specs::Text::text16, crate::specs::Numbers::be))]
 fn first_text16<'a>(left: &'a [u8]) -> Option<&'a [u8]>
-    ensures found { IfSome result (λ bytes. (rest : List ℕ) × (left.now ≡ text16 bytes.now ++ rest)) }
+    ensures found { IfSome result (λ bytes.
+        (rest : List ℕ) × (left.now ≡ text16 bytes.now ++ rest)) }
     ensures fits { IfSome result (λ bytes. FitsText16 bytes.now) }
     ensures none { IfNone result (BeginsNone FitsText16 text16 left.now) }
 {

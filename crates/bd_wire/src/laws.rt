@@ -1,8 +1,9 @@
-// What every codec on top of these spellings needs.
+//! What every codec on top of these encodings needs.
+
 ghost use Rattle.std.specs.Prelude.{◌≡◌, ℕ, List, ◌++◌, length};
 ghost use Rattle.std.specs.Int.{Width, byte_len};
 ghost use Rattle.bd_wire.specs.Numbers.{be, FitsWidth, IsBytes, number_at};
-ghost use Rattle.bd_wire.specs.Spelling.{BeginsNoOther};
+ghost use Rattle.bd_wire.specs.Encoding.{IsPrefixFree};
 ghost use Rattle.bd_wire.specs.Text.{text16, FitsText16};
 
 /// A number that was written is read again, whatever follows it.
@@ -17,12 +18,12 @@ pub fn numbers_were_written_so()
         → be w (number_at w bytes) ≡ bytes }
 {}
 
-/// No number's spelling begins another's of the same size.
-pub fn numbers_begin_no_other()
-    ensures { (w : Width) → BeginsNoOther (FitsWidth w) (be w) }
+/// The encodings of numbers of one size are prefix-free.
+pub fn numbers_are_prefix_free()
+    ensures { (w : Width) → IsPrefixFree (FitsWidth w) (be w) }
 {}
 
-/// No text16 begins another.
-pub fn texts_begin_no_other()
-    ensures { BeginsNoOther FitsText16 text16 }
+/// The text16s are prefix-free.
+pub fn texts_are_prefix_free()
+    ensures { IsPrefixFree FitsText16 text16 }
 {}

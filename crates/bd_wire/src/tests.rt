@@ -38,6 +38,6 @@ fn what_is_written_is_read_again(rt: HostRuntime) -> Result<(), Fail> {
 fn the_laws_are_functions() {
     laws::numbers_are_read_again();
     laws::numbers_were_written_so();
-    laws::numbers_begin_no_other();
-    laws::texts_begin_no_other();
+    laws::numbers_are_prefix_free();
+    laws::texts_are_prefix_free();
 }

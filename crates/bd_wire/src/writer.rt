@@ -1,4 +1,5 @@
-// Big-endian numbers and bytes written into an array.
+//! Big-endian numbers and bytes written into an array.
+
 ghost use Rattle.std.specs.Prelude.{◌≡◌, ◌≤◌, ◌<◌, ◌+◌, ◌^◌, [], ◌∷◌, ◌++◌, length, drop};
 ghost use Rattle.std.specs.Int.{w16, w32, w64};
 ghost use Rattle.bd_wire.specs.Numbers.{be};
@@ -6,8 +7,8 @@ ghost use Rattle.bd_wire.specs.Text.{text16, zeros};
 
 use byteorder::{BigEndian, ByteOrder};
 
-/// Writes numbers and bytes one behind the other into an array that the caller owns. What the writer
-/// leaves in it is what was written, and behind that what stood there before.
+/// Writes numbers and bytes one after the other into an array that the caller owns. What the writer
+/// leaves in it is what was written, and after that what stood there before.
 #[derive(Drop)]
 pub struct Out<'a> {
     bytes: &'a mut [u8],

@@ -1,6 +1,6 @@
 use Rattle.std.proofs.Common.{arith, refl, ◌∙◌, ◌-◌, ◌+◌, slice_set}
 use Rattle.std.proofs.lemmas.List.{get_or_default}
-use Rattle.bd_keys.proofs.PrefixRange.{prefix_range-all, prefix_range-found, none_behind, IsAfter-prefix_range}
+use Rattle.bd_keys.proofs.PrefixRange.{prefix_range-all, prefix_range-found, none_above, IsAfter-prefix_range}
 use Rattle.bd_keys.proofs.prefix.after.Goals as goal
 
 pub returns-then-kept-eq0-clause-range : goal.returns-then-kept-eq0-clause-range
@@ -9,7 +9,7 @@ returns-then-kept-eq0-clause-range c =
 
 pub returns-then-kept-eq0-clause-none : goal.returns-then-kept-eq0-clause-none
 returns-then-kept-eq0-clause-none c =
-    none_behind c.args.prefix.now (λ i. omega (arith, c.type_inv.prefix i))
+    none_above c.args.prefix.now (λ i. omega (arith, c.type_inv.prefix i))
     (prefix_range-all c.args.prefix.now (λ i le lt. c.kept_len-kept.ensures.tops i (omega (arith, c.if-kept-eq0.true)) lt))
 
 pub returns-then-kept-eq0-clause-last : goal.returns-then-kept-eq0-clause-last

@@ -1,6 +1,6 @@
 use Rattle.std.proofs.Common.{◌∙◌, ap}
 use Rattle.bd_names.specs.Names.{rest_below, is_under}
-use Rattle.bd_names.specs.NamesLaws.{rest_below-some, rest_below-append, is_under-rest, is_under-append}
+use Rattle.bd_names.proofs.NamesLaws.{rest_below-some, rest_below-append, is_under-rest, is_under-append}
 use Rattle.bd_names.proofs.laws.law_of_below.Goals as goal
 
 pub returns-clause-rest : goal.returns-clause-rest

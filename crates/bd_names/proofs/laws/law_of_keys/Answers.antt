@@ -1,6 +1,6 @@
 use Rattle.std.proofs.Common.{◌∙◌, ap}
 use Rattle.bd_names.specs.Names.{key_of, is_under}
-use Rattle.bd_names.specs.NamesLaws.{key_of-append, key_of-front, key_of-injective, is_under-rest, is_under-append}
+use Rattle.bd_names.proofs.NamesLaws.{key_of-append, key_of-front, key_of-injective, is_under-rest, is_under-append}
 use Rattle.bd_names.proofs.laws.law_of_keys.Goals as goal
 
 pub returns-clause-under : goal.returns-clause-under

@@ -1,6 +1,6 @@
 use Rattle.std.proofs.Common.{◌∙◌, ap}
 use Rattle.bd_names.specs.Names.{parent_of}
-use Rattle.bd_names.specs.NamesLaws.{parent_of-some, parent_of-append, parent_of-none}
+use Rattle.bd_names.proofs.NamesLaws.{parent_of-some, parent_of-append, parent_of-none}
 use Rattle.bd_names.proofs.laws.law_of_parents.Goals as goal
 
 pub returns-clause-parent : goal.returns-clause-parent

@@ -1,6 +1,6 @@
 use Rattle.std.proofs.Common.{◌∙◌, ap, sym}
 use Rattle.bd_names.specs.Names.{path_of}
-use Rattle.bd_names.specs.NamesLaws.{path_of-some, path_of-path_text}
+use Rattle.bd_names.proofs.NamesLaws.{path_of-some, path_of-path_text}
 use Rattle.bd_names.proofs.laws.law_of_path_texts.Goals as goal
 
 pub returns : goal.returns

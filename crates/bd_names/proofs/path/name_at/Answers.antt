@@ -1,6 +1,6 @@
 use Rattle.std.proofs.Common.{◌≡◌, ◌+◌, length, take, refl, arith}
 use Rattle.bd_names.specs.Names.{names_in}
-use Rattle.bd_names.specs.NamesLaws.{slashed}
+use Rattle.bd_names.proofs.NamesLaws.{slashed}
 use Rattle.bd_names.proofs.CutsLemmas.{start_is, name_end, name_cut, end_fits}
 use Rattle.bd_names.proofs.path.name_at.Goals as goal
 

@@ -1,6 +1,7 @@
 use Rattle.std.proofs.Common.{ap, ◌∙◌, arith}
 use Rattle.std.specs.Int.{w32}
-use Rattle.bd_wire.specs.Numbers.{be, be-number_at}
+use Rattle.bd_wire.specs.Numbers.{be}
+use Rattle.bd_wire.proofs.NumberLemmas.{be-number_at}
 use Rattle.bd_wire.proofs.cursor.number32.Goals as goal
 
 pub returns : goal.returns

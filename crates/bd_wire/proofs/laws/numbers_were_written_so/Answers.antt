@@ -1,4 +1,4 @@
-use Rattle.bd_wire.specs.Numbers.{be-number_at}
+use Rattle.bd_wire.proofs.NumberLemmas.{be-number_at}
 use Rattle.bd_wire.proofs.laws.numbers_were_written_so.Goals as goal
 
 pub returns : goal.returns

@@ -1,0 +1,24 @@
+use Rattle.std.proofs.Common.{◌≡◌, arith}
+use Rattle.std.specs.Prelude.{codes}
+use Rattle.std.proofs.lemmas.Slice.Eq.{text_from_reads}
+use Rattle.bd_script.proofs.verb.Verb.of.Goals as goal
+
+pub returns-in-create : goal.returns-in-create
+returns-in-create c =
+    let text : c.args.word.now ≡ codes "create" = text_from_reads c.args.word.now (codes "create") (omega arith) (omega arith, (omega arith, (omega arith, (omega arith, (omega arith, (omega arith, tt)))))) in
+    rw text
+
+pub returns-in-remove : goal.returns-in-remove
+returns-in-remove c =
+    let text : c.args.word.now ≡ codes "remove" = text_from_reads c.args.word.now (codes "remove") (omega arith) (omega arith, (omega arith, (omega arith, (omega arith, (omega arith, (omega arith, tt)))))) in
+    rw text
+
+pub returns-in-rename : goal.returns-in-rename
+returns-in-rename c =
+    let text : c.args.word.now ≡ codes "rename" = text_from_reads c.args.word.now (codes "rename") (omega arith) (omega arith, (omega arith, (omega arith, (omega arith, (omega arith, (omega arith, tt)))))) in
+    rw text
+
+pub returns-in-truncate : goal.returns-in-truncate
+returns-in-truncate c =
+    let text : c.args.word.now ≡ codes "truncate" = text_from_reads c.args.word.now (codes "truncate") (omega arith) (omega arith, (omega arith, (omega arith, (omega arith, (omega arith, (omega arith, (omega arith, (omega arith, tt)))))))) in
+    rw text
