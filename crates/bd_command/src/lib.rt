@@ -107,26 +107,3 @@ fn copy_after(alloc: Global, after: &Option<Name>) -> Result<Option<Name>, Alloc
         None => None,
     })
 }
-
-#[cfg(test)]
-mod tests {
-    use super::*;
-    use std::test::Fail;
-
-    #[test]
-    fn copies_commands(rt: HostRuntime) -> Result<(), Fail> {
-        let make = Command::Mkdir {
-            path: Path::root(rt.alloc())?,
-        };
-        assert!(rt; make.copy(rt.alloc())?.writes());
-        Ok(())
-    }
-
-    #[test]
-    fn holds_names(rt: HostRuntime) -> Result<(), Fail> {
-        let names = Names::from_vec(Vec::new(rt.alloc()));
-        assert_eq!(rt; names.len(), 0);
-        assert!(rt; names.is_empty() && names.as_slice().is_empty());
-        Ok(())
-    }
-}

@@ -9,6 +9,3 @@ mod write_record;
 pub use device::{Attach, BLOCK_SIZE, Device};
 pub use mem_device::MemDevice;
 pub use write_record::WriteRecord;
-
-#[cfg(test)]
-mod tests;

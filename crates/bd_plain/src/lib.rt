@@ -12,6 +12,3 @@ mod step;
 mod tree;
 
 pub use tree::PlainTree;
-
-#[cfg(test)]
-mod tests;

@@ -8,6 +8,3 @@ mod writer;
 
 pub use cursor::{Cursor, Short, all_zero};
 pub use writer::Out;
-
-#[cfg(test)]
-mod tests;

@@ -1,4 +1,4 @@
-use super::*;
+use bd_io::{Failed, MemSink, MemSource, Sink, Source, StdSink, StdSource, put_all};
 use std::alloc::Global;
 use std::io::{self, ErrorKind, Read, Write};
 use std::test::Fail;
@@ -141,15 +141,5 @@ fn a_writer_of_std_is_a_sink(rt: HostRuntime) -> Result<(), Fail> {
     assert_eq!(rt; sink.put(b"ab"), Err(Failed));
     assert_eq!(rt; sink.put(b""), Ok(0));
     assert_eq!(rt; sink.faults(), 2);
-    Ok(())
-}
-
-#[test]
-fn calls_are_counted(rt: HostRuntime) -> Result<(), Fail> {
-    let mut plan = CallPlan::new(rt.alloc(), &[2])?;
-    assert_eq!(rt; plan.call(false), Ok(()));
-    assert_eq!(rt; plan.call(false), Err(Failed));
-    assert_eq!(rt; plan.call(true), Err(Failed));
-    assert_eq!(rt; (plan.calls(), plan.faults()), (3, 2));
     Ok(())
 }

@@ -1,4 +1,4 @@
-use super::{Cursor, Out, Short, all_zero, laws};
+use bd_wire::{Cursor, Out, Short, all_zero};
 use std::test::Fail;
 
 #[test]
@@ -32,12 +32,4 @@ fn what_is_written_is_read_again(rt: HostRuntime) -> Result<(), Fail> {
     assert_eq!(rt; cursor.u64(), Err(Short { at: 20 }));
     assert_eq!(rt; cursor.left().len(), 4);
     Ok(())
-}
-
-#[test]
-fn the_laws_are_functions() {
-    laws::numbers_are_read_again();
-    laws::numbers_were_written_so();
-    laws::numbers_begin_no_other();
-    laws::texts_begin_no_other();
 }

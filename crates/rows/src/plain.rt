@@ -1,9 +1,9 @@
 //! Worked rows, each from the tree of `/` alone: lines, and their replies. Bytes stand for themselves.
 
-use crate::PlainTree;
 use bd_command::{Command, Reply};
 use bd_keys::Bytes;
 use bd_names::{Name, Path};
+use bd_plain::PlainTree;
 use std::alloc::{AllocError, Global};
 use std::process::Abort;
 use std::test::Fail;

@@ -1,8 +1,8 @@
 ghost use Rattle.std.specs.Prelude.{◌≡◌, ◌≢◌, ◌≤◌, ◌<◌, ◌+◌, ℕ, List, Some, length, IfOk, OnOk};
 ghost use Rattle.std.specs.Option.{option_map};
 
-use super::{KeyMap, ListMap, MapFault, Message, laws};
 use bd_keys::{Bytes, starts};
+use bd_message::{KeyMap, ListMap, MapFault, Message, laws};
 use bd_wire::{Cursor, Out};
 use std::alloc::Global;
 use std::test::Fail;
@@ -147,7 +147,6 @@ fn rows_of_messages_and_grafts(rt: HostRuntime) -> Result<(), Fail> {
 }
 
 // Whether a message is written as these bytes without the last one, and read of them.
-#[tactic(auto, using(crate::proofs::Spellings::spelling_within))]
 fn read_again(alloc: Global, message: &Message, bytes: &[u8]) -> Result<bool, Fail> {
     let mut cursor = Cursor::new(bytes);
     let found = Message::read(alloc, &mut cursor)?;
@@ -156,6 +155,7 @@ fn read_again(alloc: Global, message: &Message, bytes: &[u8]) -> Result<bool, Fa
     if !message.is_message() || message.size() > out.left() {
         return Ok(false);
     }
+    laws::spellings_fit_sizes();
     message.write(&mut out);
     let is_read = found.as_ref() == Some(message) && cursor.left().len() == 1;
     Ok(is_read && array.starts_with(bytes))
@@ -196,12 +196,6 @@ fn messages_are_read_again(rt: HostRuntime) -> Result<(), Fail> {
     assert!(rt; Message::read(alloc, &mut cursor)? == None);
     assert_eq!(rt; cursor.left().len(), 4);
     Ok(())
-}
-
-#[test]
-fn the_laws_are_functions() {
-    laws::messages_begin_no_other();
-    laws::spellings_fit_sizes();
 }
 
 // A key of two bytes below 4, and its place among all of them.

@@ -1,4 +1,4 @@
-use super::*;
+use bd_device::{Attach, BLOCK_SIZE, Device, MemDevice};
 use bd_io::Failed;
 use std::test::Fail;
 
