@@ -1,12 +1,22 @@
-use bd_names::{MAX_PATH, Name, Path, PathFault};
+use bd_names::{Name, Path, PathFault};
+use std::alloc::Global;
 use std::test::Fail;
 
 #[test]
-fn a_name_is_read_and_copied(rt: HostRuntime) -> Result<(), Fail> {
-    let name = Name::read(rt.alloc(), b"b")?.copy(rt.alloc())?;
+fn a_name_is_read(rt: HostRuntime) -> Result<(), Fail> {
+    let name = Name::read(rt.alloc(), b"b")?;
     assert_eq!(rt; name.as_bytes(), b"b".as_slice());
     assert!(rt; Name::read(rt.alloc(), b"b/c").is_err());
     Ok(())
+}
+
+// Whether a text is a path, read as it stands; want of memory is an error.
+fn is_path(alloc: Global, text: &[u8]) -> Result<bool, PathFault> {
+    match Path::read(alloc, text) {
+        Ok(path) => Ok(path.as_bytes() == text),
+        Err(PathFault::BadPath) => Ok(false),
+        Err(PathFault::NoMemory) => Err(PathFault::NoMemory),
+    }
 }
 
 #[test]
@@ -28,32 +38,46 @@ fn texts_of_paths(rt: HostRuntime) -> Result<(), Fail> {
         (b"/a\x7f", false),
         (b"/a\0", false),
     ];
-    for (text, is_path) in rows {
-        match Path::read(rt.alloc(), text) {
-            Ok(path) => {
-                assert!(rt; is_path, "{text:?} is read");
-                assert_eq!(rt; path.as_bytes(), text);
-            }
-            Err(fault) => {
-                assert!(rt; !is_path, "{text:?} is refused");
-                assert_eq!(rt; fault, PathFault::BadPath, "{text:?}");
-            }
-        }
+    for (text, want) in rows {
+        assert_eq!(rt; is_path(rt.alloc(), text)?, want, "path {text:?}");
     }
     Ok(())
 }
 
+// The key of a path.
+fn key(alloc: Global, text: &str) -> Result<Vec<u8>, Fail> {
+    let path = Path::read(alloc, text.as_bytes())?;
+    Ok(path.key(alloc)?)
+}
+
+// How many names a path has.
+fn names(alloc: Global, text: &str) -> Result<usize, Fail> {
+    let path = Path::read(alloc, text.as_bytes())?;
+    Ok(path.names(alloc)?.len())
+}
+
+// Whether this is the parent of a path.
+fn has_parent(alloc: Global, text: &str, parent: Option<&str>) -> Result<bool, Fail> {
+    let path = Path::read(alloc, text.as_bytes())?;
+    let found = path.parent(alloc)?;
+    Ok(found.as_ref().map(|found| found.as_bytes()) == parent.map(|parent| parent.as_bytes()))
+}
+
 #[test]
 fn what_a_path_gives(rt: HostRuntime) -> Result<(), Fail> {
-    let alloc = rt.alloc();
-    let path = Path::read(alloc, b"/a/bc")?;
-    assert_eq!(rt; path.key(alloc)?.as_slice(), b"a\0bc\0".as_slice());
-    assert_eq!(rt; path.names(alloc)?.len(), 2);
-    let parent = path.parent(alloc)?.ok_or("no parent")?.copy(alloc)?;
-    assert_eq!(rt; parent.as_bytes(), b"/a".as_slice());
-    assert!(rt; Path::root(alloc)?.parent(alloc)?.is_none());
-    let mut into = [7; MAX_PATH];
-    assert_eq!(rt; parent.write(&mut into), 2);
-    assert_eq!(rt; into[1], b'a');
+    let rows = [
+        ("/", "", 0, None),
+        ("/a", "a\0", 1, Some("/")),
+        ("/a/bc", "a\0bc\0", 2, Some("/a")),
+    ];
+    for (text, key_of, count, parent) in rows {
+        assert_eq!(rt;
+            key(rt.alloc(), text)?.as_slice(),
+            key_of.as_bytes(),
+            "key of {text}"
+        );
+        assert_eq!(rt; names(rt.alloc(), text)?, count, "names of {text}");
+        assert!(rt; has_parent(rt.alloc(), text, parent)?, "parent of {text}");
+    }
     Ok(())
 }
