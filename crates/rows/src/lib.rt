@@ -3,8 +3,6 @@
 #![tactic(auto)]
 
 #[cfg(test)]
-mod command;
-#[cfg(test)]
 mod device;
 #[cfg(test)]
 mod io;
