@@ -56,26 +56,3 @@ impl Command {
         }
     }
 }
-
-#[cfg(test)]
-mod tests {
-    use super::*;
-    use std::test::Fail;
-
-    #[test]
-    fn copies_commands(rt: HostRuntime) -> Result<(), Fail> {
-        let make = Command::Mkdir {
-            path: Path::root(rt.alloc())?,
-        };
-        assert!(rt; make.clone()?.writes());
-        Ok(())
-    }
-
-    #[test]
-    fn holds_names(rt: HostRuntime) -> Result<(), Fail> {
-        let names = Names::from_vec(Vec::new(rt.alloc()));
-        assert_eq!(rt; names.len(), 0);
-        assert!(rt; names.is_empty() && names.as_slice().is_empty());
-        Ok(())
-    }
-}

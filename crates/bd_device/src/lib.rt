@@ -10,6 +10,3 @@ mod write_record;
 pub use device::{Attach, BLOCK_SIZE, Device};
 pub use mem_device::MemDevice;
 pub use write_record::WriteRecord;
-
-#[cfg(test)]
-mod tests;

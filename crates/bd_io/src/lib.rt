@@ -19,6 +19,3 @@ pub use sink::{Sink, put_all};
 pub use source::Source;
 pub use std_sink::StdSink;
 pub use std_source::StdSource;
-
-#[cfg(test)]
-mod tests;

@@ -13,6 +13,3 @@ pub use bytes::Bytes;
 pub use edits::{front, overwritten, resized, tail};
 pub use prefix::{after, lift, starts, translate};
 pub use range::{Range, clip};
-
-#[cfg(test)]
-mod tests;

@@ -14,6 +14,3 @@ pub use fault::{Counter, MapFault};
 pub use list_map::ListMap;
 pub use map::KeyMap;
 pub use message::{MAX_KEY_LEN, MAX_VALUE_LEN, Message};
-
-#[cfg(test)]
-mod tests;

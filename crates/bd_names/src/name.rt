@@ -104,17 +104,3 @@ fn are_bytes_of_name(text: &[u8]) -> bool
 {
     text.iter().all(|byte| is_byte_of_name(*byte))
 }
-
-#[cfg(test)]
-mod tests {
-    use super::*;
-    use std::test::Fail;
-
-    #[test]
-    fn reads_names(rt: HostRuntime) -> Result<(), Fail> {
-        let name = Name::read(rt.alloc(), b"b")?.clone()?;
-        assert_eq!(rt; name.as_bytes(), b"b".as_slice());
-        assert!(rt; Name::read(rt.alloc(), b"b/c").is_err());
-        Ok(())
-    }
-}

@@ -14,6 +14,3 @@ mod step;
 mod tree;
 
 pub use tree::PlainTree;
-
-#[cfg(test)]
-mod tests;

@@ -76,6 +76,3 @@ pub fn is_block(bytes: &[u8]) -> bool
 {
     !bytes.is_empty() && bytes.len() <= MAX_BLOCK_LEN
 }
-
-#[cfg(test)]
-mod tests;

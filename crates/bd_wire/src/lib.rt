@@ -9,6 +9,3 @@ mod writer;
 
 pub use cursor::{Cursor, Short, all_zero};
 pub use writer::Out;
-
-#[cfg(test)]
-mod tests;

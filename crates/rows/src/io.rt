@@ -1,4 +1,4 @@
-use super::*;
+use bd_io::{Failed, MemSink, MemSource, Sink, Source, StdSink, StdSource, put_all};
 use std::alloc::Global;
 use std::io::{self, ErrorKind, Read, Write};
 use std::test::Fail;
@@ -19,34 +19,20 @@ fn takes<S: Source>(alloc: Global, source: &mut S) -> Result<Vec<Option<usize>>,
 
 #[test]
 fn a_source_gives_pieces_and_fails_where_it_is_told_to(rt: HostRuntime) -> Result<(), Fail> {
-    let alloc = rt.alloc();
-    let none: [u64; 0] = [];
-    let mut source = MemSource::new(alloc, b"abcdefg", 3, &none)?;
-    let mut place = [b'.'; 8];
-    assert_eq!(rt; source.take(&mut place), Ok(3));
-    assert_eq!(rt; place.as_slice(), b"abc.....".as_slice());
-    assert_eq!(rt; source.take(&mut place[..2]), Ok(2));
-    assert_eq!(rt; place.as_slice(), b"dec.....".as_slice());
-
-    for (piece, fail, want, faults) in [
+    // The bytes that a take gives at most, the takes that fail, and what each take gives.
+    let rows: [(usize, [u64; 2], &[Option<usize>]); 3] = [
         (
             1,
             [9, 9],
-            [Some(1), Some(1), Some(1), Some(1), Some(1), Some(0)].as_slice(),
-            0,
+            &[Some(1), Some(1), Some(1), Some(1), Some(1), Some(0)],
         ),
-        (9, [9, 9], [Some(4), Some(1), Some(0)].as_slice(), 0),
-        (
-            3,
-            [1, 3],
-            [None, Some(3), None, Some(2), Some(0)].as_slice(),
-            2,
-        ),
-    ] {
-        let mut source = MemSource::new(alloc, b"abcde", piece, &fail)?;
-        let given = takes(alloc, &mut &mut source)?;
+        (9, [9, 9], &[Some(4), Some(1), Some(0)]),
+        (3, [1, 3], &[None, Some(3), None, Some(2), Some(0)]),
+    ];
+    for (piece, fail, want) in rows {
+        let mut source = MemSource::new(rt.alloc(), b"abcde", piece, &fail)?;
+        let given = takes(rt.alloc(), &mut &mut source)?;
         assert_eq!(rt; given.as_slice(), want, "in pieces of {piece}");
-        assert_eq!(rt; (&mut source).faults(), faults);
     }
     Ok(())
 }
@@ -54,25 +40,29 @@ fn a_source_gives_pieces_and_fails_where_it_is_told_to(rt: HostRuntime) -> Resul
 #[test]
 fn a_sink_takes_what_fits_and_fails_where_it_is_told_to(rt: HostRuntime) -> Result<(), Fail> {
     let mut sink = MemSink::new(rt.alloc(), 5, &[2])?;
-    assert_eq!(rt; sink.put(b"abc"), Ok(3));
-    assert_eq!(rt; sink.put(b"d"), Err(Failed));
-    assert_eq!(rt; sink.put(b"defg"), Ok(2));
-    assert_eq!(rt; sink.put(b""), Ok(0));
-    assert_eq!(rt; sink.put(b"f"), Err(Failed));
+    for (piece, want) in [
+        ("abc", Ok(3)),
+        ("d", Err(Failed)),
+        ("defg", Ok(2)),
+        ("", Ok(0)),
+        ("f", Err(Failed)),
+    ] {
+        assert_eq!(rt; sink.put(piece.as_bytes()), want, "put of {piece}");
+    }
     assert_eq!(rt; sink.bytes(), b"abcde".as_slice());
-    assert_eq!(rt; sink.faults(), 2);
     Ok(())
 }
 
 #[test]
 fn put_all_writes_in_pieces_up_to_a_fault(rt: HostRuntime) -> Result<(), Fail> {
-    for (room, want, bytes) in [
-        (7, Ok(()), b"abcdefg".as_slice()),
-        (5, Err(Failed), b"abcde".as_slice()),
-    ] {
+    for (room, want, bytes) in [(7, Ok(()), "abcdefg"), (5, Err(Failed), "abcde")] {
         let mut sink = MemSink::new(rt.alloc(), room, &[9])?;
-        assert_eq!(rt; put_all(&mut &mut sink, b"abcdefg"), want);
-        assert_eq!(rt; sink.bytes(), bytes);
+        assert_eq!(rt;
+            put_all(&mut &mut sink, b"abcdefg"),
+            want,
+            "room for {room}"
+        );
+        assert_eq!(rt; sink.bytes(), bytes.as_bytes(), "room for {room}");
     }
     Ok(())
 }
@@ -113,43 +103,30 @@ impl Write for Flaky {
 }
 
 #[test]
-fn a_reader_of_std_is_a_source(rt: HostRuntime) -> Result<(), Fail> {
+fn a_reader_of_std_is_a_source(rt: HostRuntime) {
     let mut place = [0; 4];
     let mut source = StdSource::new(b"abcdef".as_slice());
     assert_eq!(rt; source.take(&mut place), Ok(4));
     assert_eq!(rt; place.as_slice(), b"abcd".as_slice());
     let mut flaky = Flaky { calls: 0 };
     let mut source = StdSource::new(&mut flaky);
-    assert_eq!(rt; source.take(&mut place), Ok(1));
-    assert_eq!(rt; source.take(&mut place), Err(Failed));
-    assert_eq!(rt; source.take(&mut place), Ok(0));
+    for (call, want) in [(1, Ok(1)), (2, Err(Failed)), (3, Ok(0))] {
+        assert_eq!(rt; source.take(&mut place), want, "call {call}");
+    }
     assert_eq!(rt; source.faults(), 1);
-    Ok(())
 }
 
 #[test]
 fn a_writer_of_std_is_a_sink(rt: HostRuntime) -> Result<(), Fail> {
     let mut bytes = Vec::new(rt.alloc());
-    let mut sink = StdSink::new(&mut bytes);
-    put_all(&mut sink, b"abc")?;
-    assert_eq!(rt; sink.faults(), 0);
+    put_all(&mut StdSink::new(&mut bytes), b"abc")?;
     assert_eq!(rt; bytes.as_slice(), b"abc".as_slice());
     let mut flaky = Flaky { calls: 0 };
     let mut sink = StdSink::new(&mut flaky);
-    assert_eq!(rt; sink.put(b"ab"), Ok(1));
-    assert_eq!(rt; sink.put(b"ab"), Err(Failed));
-    assert_eq!(rt; sink.put(b"ab"), Err(Failed));
+    for (call, want) in [(1, Ok(1)), (2, Err(Failed)), (3, Err(Failed))] {
+        assert_eq!(rt; sink.put(b"ab"), want, "call {call}");
+    }
     assert_eq!(rt; sink.put(b""), Ok(0));
     assert_eq!(rt; sink.faults(), 2);
-    Ok(())
-}
-
-#[test]
-fn calls_are_counted(rt: HostRuntime) -> Result<(), Fail> {
-    let mut plan = CallPlan::new(rt.alloc(), &[2])?;
-    assert_eq!(rt; plan.call(false), Ok(()));
-    assert_eq!(rt; plan.call(false), Err(Failed));
-    assert_eq!(rt; plan.call(true), Err(Failed));
-    assert_eq!(rt; (plan.calls(), plan.faults()), (3, 2));
     Ok(())
 }

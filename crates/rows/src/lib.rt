@@ -1,0 +1,24 @@
+//! The tests of the libraries' public calls, a module for each crate that is tested. No other library has tests.
+//! Nothing stands on this crate. A test shows what no clause says: worked rows, texts, and that memory is enough.
+#![tactic(auto)]
+
+#[cfg(test)]
+mod device;
+#[cfg(test)]
+mod io;
+#[cfg(test)]
+mod keys;
+#[cfg(test)]
+mod message;
+#[cfg(test)]
+mod names;
+#[cfg(test)]
+mod plain;
+#[cfg(test)]
+mod records;
+#[cfg(test)]
+mod script;
+#[cfg(test)]
+mod slots;
+#[cfg(test)]
+mod wire;
