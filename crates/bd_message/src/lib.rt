@@ -13,7 +13,7 @@ mod message;
 pub use fault::{Counter, MapFault};
 pub use list_map::ListMap;
 pub use map::KeyMap;
-pub use message::{MAX_KEY_LEN, MAX_VALUE_LEN, Message};
+pub use message::Message;
 
 #[cfg(test)]
 mod tests;

@@ -169,7 +169,7 @@ fn messages_are_read_again(rt: HostRuntime) -> Result<(), Fail> {
         source: Bytes::from_slice(alloc, b"s")?,
         child: 7,
     };
-    assert!(rt; goto.copy(alloc)? == goto);
+    assert!(rt; goto.clone()? == goto);
     assert!(rt;
         read_again(
             alloc,

@@ -1,4 +1,5 @@
-use super::{MAX_BLOCK_LEN, MAX_FILE_LEN, Record, is_block, laws, read_record, write_record};
+use super::{Record, is_block, laws, read_record, write_record};
+use bd_limits::{MAX_BLOCK, MAX_FILE};
 use bd_wire::Out;
 use std::test::Fail;
 
@@ -9,12 +10,12 @@ fn records_as_bytes(rt: HostRuntime) -> Result<(), Fail> {
     let mut out = Out::new(&mut array);
     write_record(&Record::Dir, &mut out);
     write_record(&Record::File(0), &mut out);
-    write_record(&Record::File(MAX_FILE_LEN), &mut out);
+    write_record(&Record::File(MAX_FILE), &mut out);
     assert_eq!(rt; array, [0x44, 0x46, 0, 0, 0, 0, 0x46, 0x40, 0, 0, 0]);
     let rows: [(Record, &[u8]); 3] = [
         (Record::Dir, &[0x44]),
         (Record::File(0), &[0x46, 0, 0, 0, 0]),
-        (Record::File(MAX_FILE_LEN), &[0x46, 0x40, 0, 0, 0]),
+        (Record::File(MAX_FILE), &[0x46, 0x40, 0, 0, 0]),
     ];
     for (record, bytes) in rows {
         assert_eq!(rt; read_record(bytes), Some(record));
@@ -39,12 +40,12 @@ fn bytes_that_are_no_record(rt: HostRuntime) {
 
 #[test]
 fn blocks(rt: HostRuntime) {
-    let bytes = [0u8; MAX_BLOCK_LEN + 1];
+    let bytes = [0u8; MAX_BLOCK + 1];
     for (len, answer) in [
         (0, false),
         (1, true),
-        (MAX_BLOCK_LEN, true),
-        (MAX_BLOCK_LEN + 1, false),
+        (MAX_BLOCK, true),
+        (MAX_BLOCK + 1, false),
     ] {
         assert_eq!(rt; is_block(&bytes[..len]), answer);
     }
