@@ -5,3 +5,4 @@ pub mod Held
 pub mod Lines
 pub mod Scripts
 pub mod Runs
+pub mod Trees

@@ -4,7 +4,7 @@ use Rattle.std.specs.List.{flat_map}
 use Rattle.std.specs.declared.result.Result.TheVariants.{Ok, Err}
 use Rattle.bd_command.specs.Command.{accepted, IsCommand}
 use Rattle.bd_command.specs.declared.Command.{Command}
-use Rattle.bd_model.specs.Tree.{Tree, root_only}
+use Rattle.bd_model.specs.Tree.{Tree, IsTree, root_only}
 use Rattle.bd_model.specs.Step.{step}
 use Rattle.bd_script.specs.Lines.{LineMeaning, line_of, lines_of, whole_lines, up_to_stop}
 use Rattle.bd_script.specs.Replies.{line_reply_line}
@@ -77,3 +77,16 @@ lines_to_run script = up_to_stop (map line_of (lines_of script))
 -- xs stands at the front of ys
 abbrev pub IsFront : {A : Type 0} → List A → List A → Type 0
 IsFront {A} xs ys = (rest : List A) × (ys ≡ xs ++ rest)
+
+-- ---- what holds of each entry
+
+-- a command that was executed keeps the limits of commands
+abbrev pub IsLimited : LineMeaning → Type 0
+IsLimited (Ok (Run c)) = IsCommand c
+IsLimited (Ok Stop) = Unit {0}
+IsLimited (Err refusal) = Unit {0}
+
+-- an entry's state has a tree, and its line keeps the limits
+pub record CanBe (e : Entry) : Type 0 where
+  pub tree : IsTree e.state.tree
+  pub limits : IsLimited e.line

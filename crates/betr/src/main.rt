@@ -3,6 +3,7 @@
 #![tactic(auto)]
 
 mod fault;
+mod laws;
 mod outcome;
 mod row;
 #[cfg(test)]

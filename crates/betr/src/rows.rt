@@ -1,61 +1,257 @@
-//! Rows of the plain map, each on a new volume: a script and its replies.
+//! Rows of the plain map, each on a new volume: lines and their replies, which come from the rules.
 
 use crate::row::row;
 use bd_device::MemDevice;
 use std::alloc::{AllocError, Global};
 use std::test::Fail;
 
-/// Rows whose lines are short.
-const ROWS: [(&str, &str); 14] = [
-    ("stat /\nlist /\n", "ok dir\nok\n"),
-    (
-        "mkdir /a/b\nmkdir /\nremove /\nrename / /a\nclone / /\nrename /x /\n",
-        "no 3 no-parent\nno 2 exists\nno 7 root\nno 7 root\nno 2 exists\nno 1 not-found\n",
-    ),
-    (
-        "create /f\nwrite /f 1022 616263\nstat /f\nread /f 1020 5\nread /f 1025 9\n",
-        "ok\nok\nok file 1025\nok 0000616263\nok\n",
-    ),
-    (
-        "create /a\nwrite /a 0 01\nclone /a /b\nread /b 0 1\nwrite /a 0 02\nwrite /b 0 03\nread /a 0 1\nread /b 0 1\n",
-        "ok\nok\nok\nok 01\nok\nok\nok 02\nok 03\n",
-    ),
-    (
-        "mkdir /d\ncreate /d/x\nrename /d /e\nstat /d/x\nstat /e/x\n",
-        "ok\nok\nok\nno 1 not-found\nok file 0\n",
-    ),
-    (
-        "mkdir /a\nclone /a /a/c\nlist /a\nlist /a/c\nrename /a /a/z\n",
-        "ok\nok\nok c/\nok\nno 6 inside\n",
-    ),
-    (
-        "mkdir /p\ncreate /p/f\nclone / /s\nclone /s/p /q\nstat /q/f\nlist /s\nlist /\n",
-        "ok\nok\nok\nok\nok file 0\nok p/\nok p/ q/ s/\n",
-    ),
-    (
-        "create /f\nwrite /f 0 414243\ntruncate /f 1\ntruncate /f 3\nread /f 0 9\n",
-        "ok\nok\nok\nok\nok 410000\n",
-    ),
-    (
-        "create /f\nmkdir /f/x\nlist /f\nmkdir /f/x/y\ncreate /f\nread / 0 1\n",
-        "ok\nno 4 not-dir\nno 4 not-dir\nno 3 no-parent\nno 2 exists\nno 5 is-dir\n",
-    ),
-    ("mkdir /a\nstop\nmkdir /b\n", "ok\nok\n"),
-    ("read / 0 4097\nmkdir /a\n", "no 10 bad-line\nok\n"),
-    // Where two refusals hold, the first that the order names.
-    (
-        "mkdir /d\ncreate /f\nwrite /x 1073741824 00\nwrite /d 1073741824 00\nwrite /f 1073741824 00\ntruncate /x 1073741825\ntruncate /d 1073741825\ntruncate /f 1073741825\n",
-        "ok\nok\nno 1 not-found\nno 5 is-dir\nno 8 too-big\nno 1 not-found\nno 5 is-dir\nno 8 too-big\n",
-    ),
-    (
-        "mkdir /d\ncreate /d/x\nremove /\nremove /x\nrename / /d\nrename /x /x/y\nrename /x /\nrename /d /d\nrename /d /d/x\nrename /d /d/no/x\nrename /d /no/x\nrename /d /d/x/y\nclone /x /d\nclone /x /no/y\nclone /d /d/x\nclone /d /d/x/y\nclone /d /no/y\n",
-        "ok\nok\nno 7 root\nno 1 not-found\nno 7 root\nno 1 not-found\nno 1 not-found\nno 6 inside\nno 6 inside\nno 6 inside\nno 3 no-parent\nno 6 inside\nno 1 not-found\nno 1 not-found\nno 2 exists\nno 4 not-dir\nno 3 no-parent\n",
-    ),
-    (
-        "write bad 01 00\nwrite bad 1 00\nread bad 0 5000\nread bad 0 50\ntruncate bad x\nrename bad bad\nlist / d/\nlist bad d\nsync\ndf\nmkdir bad bad\nmkdir\n stat /\nstat / \n",
-        "no 10 bad-line\nno 9 bad-path\nno 10 bad-line\nno 9 bad-path\nno 10 bad-line\nno 9 bad-path\nno 9 bad-path\nno 9 bad-path\nno 10 bad-line\nno 10 bad-line\nno 10 bad-line\nno 10 bad-line\nno 10 bad-line\nno 10 bad-line\n",
-    ),
-];
+/// The rows: a label after `# `, each line after `> `, and after it what it is answered.
+const ROWS: &str = "\
+# the root is an empty directory
+> stat /
+ok dir
+> list /
+ok
+# what is made needs a parent, and / can't be made, removed, moved or copied over
+> mkdir /a/b
+no 3 no-parent
+> mkdir /
+no 2 exists
+> remove /
+no 7 root
+> rename / /a
+no 7 root
+> clone / /
+no 2 exists
+> rename /x /
+no 1 not-found
+# a write over the border of a block, behind zeros
+> create /f
+ok
+> write /f 1022 616263
+ok
+> stat /f
+ok file 1025
+> read /f 1020 5
+ok 0000616263
+> read /f 1025 9
+ok
+# a clone and its source are written apart
+> create /a
+ok
+> write /a 0 01
+ok
+> clone /a /b
+ok
+> read /b 0 1
+ok 01
+> write /a 0 02
+ok
+> write /b 0 03
+ok
+> read /a 0 1
+ok 02
+> read /b 0 1
+ok 03
+# a directory is moved with all below it
+> mkdir /d
+ok
+> create /d/x
+ok
+> rename /d /e
+ok
+> stat /d/x
+no 1 not-found
+> stat /e/x
+ok file 0
+# a clone into its own source copies the old tree
+> mkdir /a
+ok
+> clone /a /a/c
+ok
+> list /a
+ok c/
+> list /a/c
+ok
+> rename /a /a/z
+no 6 inside
+# clones of the root and of what it made
+> mkdir /p
+ok
+> create /p/f
+ok
+> clone / /s
+ok
+> clone /s/p /q
+ok
+> stat /q/f
+ok file 0
+> list /s
+ok p/
+> list /
+ok p/ q/ s/
+# what a truncate cuts off reads as zeros
+> create /f
+ok
+> write /f 0 414243
+ok
+> truncate /f 1
+ok
+> truncate /f 3
+ok
+> read /f 0 9
+ok 410000
+# a file is no directory
+> create /f
+ok
+> mkdir /f/x
+no 4 not-dir
+> list /f
+no 4 not-dir
+> mkdir /f/x/y
+no 3 no-parent
+> create /f
+no 2 exists
+> read / 0 1
+no 5 is-dir
+# nothing follows stop
+> mkdir /a
+ok
+> stop
+ok
+> mkdir /b
+# the most that one read asks for
+> read / 0 4097
+no 10 bad-line
+> mkdir /a
+ok
+# too long files, after what is there and what it is
+> mkdir /d
+ok
+> create /f
+ok
+> write /x 1073741824 00
+no 1 not-found
+> write /d 1073741824 00
+no 5 is-dir
+> write /f 1073741824 00
+no 8 too-big
+> truncate /x 1073741825
+no 1 not-found
+> truncate /d 1073741825
+no 5 is-dir
+> truncate /f 1073741825
+no 8 too-big
+# the first refusal that holds, of removes, moves and clones
+> mkdir /d
+ok
+> create /d/x
+ok
+> remove /
+no 7 root
+> remove /x
+no 1 not-found
+> rename / /d
+no 7 root
+> rename /x /x/y
+no 1 not-found
+> rename /x /
+no 1 not-found
+> rename /d /d
+no 6 inside
+> rename /d /d/x
+no 6 inside
+> rename /d /d/no/x
+no 6 inside
+> rename /d /no/x
+no 3 no-parent
+> rename /d /d/x/y
+no 6 inside
+> clone /x /d
+no 1 not-found
+> clone /x /no/y
+no 1 not-found
+> clone /d /d/x
+no 2 exists
+> clone /d /d/x/y
+no 4 not-dir
+> clone /d /no/y
+no 3 no-parent
+# bad lines, found before bad paths
+> write bad 01 00
+no 10 bad-line
+> write bad 1 00
+no 9 bad-path
+> read bad 0 5000
+no 10 bad-line
+> read bad 0 50
+no 9 bad-path
+> truncate bad x
+no 10 bad-line
+> rename bad bad
+no 9 bad-path
+> list / d/
+no 9 bad-path
+> list bad d
+no 9 bad-path
+> sync
+no 10 bad-line
+> df
+no 10 bad-line
+> mkdir bad bad
+no 10 bad-line
+> mkdir
+no 10 bad-line
+>  stat /
+no 10 bad-line
+> stat / 
+no 10 bad-line
+> mkdir  /a
+no 10 bad-line
+> 
+no 10 bad-line
+";
+
+/// A row: its label, its script and its replies.
+#[derive(Drop)]
+struct Row {
+    label: &'static str,
+    script: String,
+    replies: String,
+}
+
+/// A row without lines.
+fn new_row(alloc: Global, label: &'static str) -> Row {
+    Row {
+        label,
+        script: String::new(alloc),
+        replies: String::new(alloc),
+    }
+}
+
+/// Adds a line and its newline to a text.
+fn put_line(text: &mut String, line: &str) -> Result<(), AllocError> {
+    text.push_str(line)?;
+    text.push_str("\n")
+}
+
+/// The rows of the text above.
+fn all_rows(alloc: Global) -> Result<Vec<Row>, AllocError> {
+    let mut rows = Vec::new(alloc);
+    let mut row = new_row(alloc, "an empty script");
+    for line in ROWS.lines() {
+        if let Some(label) = line.strip_prefix("# ") {
+            let done = std::mem::replace(&mut row, new_row(alloc, label));
+            rows.push(done)?;
+        } else if let Some(command) = line.strip_prefix("> ") {
+            put_line(&mut row.script, command)?;
+        } else {
+            put_line(&mut row.replies, line)?;
+        }
+    }
+    rows.push(row)?;
+    Ok(rows)
+}
 
 /// What a run over a script writes, where its status is 0.
 fn replies(alloc: Global, script: &str) -> Result<Option<Vec<u8>>, AllocError> {
@@ -79,9 +275,11 @@ fn repeated(alloc: Global, text: &str, count: usize) -> Result<String, AllocErro
 
 #[test]
 fn rows_of_the_map_give_their_replies(rt: HostRuntime) -> Result<(), Fail> {
-    for (script, expected) in ROWS {
-        let written = replies(rt.alloc(), script)?.ok_or("another status")?;
-        assert_eq!(rt; written.as_slice(), expected.as_bytes());
+    let rows = all_rows(rt.alloc())?;
+    assert_eq!(rt; rows.len(), 15);
+    for row in &rows {
+        let written = replies(rt.alloc(), row.script.as_str())?.ok_or("another status")?;
+        assert_eq!(rt; written.as_slice(), row.replies.as_bytes(), "{}", row.label);
     }
     Ok(())
 }
@@ -113,12 +311,9 @@ fn long_names_and_paths_are_kept(rt: HostRuntime) -> Result<(), Fail> {
 fn a_line_past_its_length_is_bad(rt: HostRuntime) -> Result<(), Fail> {
     let alloc = rt.alloc();
     let long = repeated(alloc, "y", 8193)?;
-    let script = format!(in alloc; "mkdir  /a\n\n{long}\nmkdir /a\n")?;
+    let script = format!(in alloc; "{long}\nmkdir /a")?;
     let written = replies(alloc, script.as_str())?.ok_or("another status")?;
-    assert_eq!(rt;
-        written.as_slice(),
-        b"no 10 bad-line\nno 10 bad-line\nno 10 bad-line\nok\n".as_slice()
-    );
+    assert_eq!(rt; written.as_slice(), b"no 10 bad-line\nok\n".as_slice());
     Ok(())
 }
 
@@ -135,8 +330,8 @@ fn a_listing_says_that_more_names_follow(rt: HostRuntime) -> Result<(), Fail> {
             names.push_str(format!(in alloc; " n{i:03}")?.as_str())?;
         }
     }
-    script.push_str("list /\nlist / n099\nlist / d/\n")?;
-    expected.push_str(format!(in alloc; "ok{names} +\nok n100\nno 9 bad-path\n")?.as_str())?;
+    script.push_str("list /\nlist / n099\n")?;
+    expected.push_str(format!(in alloc; "ok{names} +\nok n100\n")?.as_str())?;
     let written = replies(alloc, script.as_str())?.ok_or("another status")?;
     assert_eq!(rt; written.as_slice(), expected.as_bytes());
     Ok(())

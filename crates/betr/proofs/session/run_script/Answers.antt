@@ -25,8 +25,8 @@ pieces-preserved g c =
     let fed = c.in_ok-feed-in-Ok-Piece.ensures in
     let goes_on = ap breaks c.in-Continue.is in
     let more : Stands (ShellAt c.args.shell.now) (ShellAt c.feed.new.self) (held_of c.feed.new.self) (c.pieces.taken + length (take c.in-Ok-Piece.size c.next_piece.new.piece))
-        (g.S.Source.left c.args.src.now) (g.S.Source.left c.next_piece.new.src) (g.K.Sink.written c.args.sink.now) (g.K.Sink.written c.feed.new.sink)
-        (g.S.Source.takes c.args.src.now) (g.S.Source.takes c.next_piece.new.src) =
+    (g.S.Source.left c.args.src.now) (g.S.Source.left c.next_piece.new.src) (g.K.Sink.written c.args.sink.now) (g.K.Sink.written c.feed.new.sink)
+    (g.S.Source.takes c.args.src.now) (g.S.Source.takes c.next_piece.new.src) =
     stands_more _ _ _ _ _ _ _ _ _ _ _ _ _ _ _ _ c.pieces.invariant.stands got.fits got.got got.some got.told fed.ok (sym fed.flow ∙ goes_on) (fed.line goes_on) in
     record {
       stands = subst (λ n. Stands (ShellAt c.args.shell.now) (ShellAt c.feed.new.self) (held_of c.feed.new.self) (c.pieces.taken + n)
