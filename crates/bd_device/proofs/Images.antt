@@ -1,5 +1,5 @@
 -- Writes to the blocks of an image, of which only the first are attached.
-use Rattle.std.proofs.Common.{◌≡◌, ℕ, ◌<◌, ◌≤◌, List, [], Bool, true, false, if◌then◌else◌, Some, length, take, sym, ap, arith, All, slice_set, slice_index, slice_index_or, replicate, Result, Ok, Err, OnErr}
+use Rattle.std.proofs.Common.{◌≡◌, ℕ, ◌^◌, ◌<◌, ◌≤◌, List, [], Bool, true, false, if◌then◌else◌, Some, length, take, sym, ap, arith, All, slice_set, slice_index, slice_index_or, replicate, Result, Ok, Err, OnErr}
 use Rattle.std.proofs.lemmas.List.{set-get_or, length-take-le, length-replicate, get_or-replicate, get_or_past}
 use Rattle.std.proofs.lemmas.Grind.{common_steps}
 use Rattle.std.proofs.lemmas.List.Elements.{All-take}
@@ -30,13 +30,17 @@ pub OnErr-always : {T E P : Type 0} (r : Result T E) → P → OnErr r P
 OnErr-always (Ok x) p = tt
 OnErr-always (Err e) p = p
 
--- each index of zeroes has a zero
-pub zero_byte : (n i : ℕ) → slice_index (replicate n 0) i ≡ 0
-zero_byte n i = grind (arith, common_steps, get_or-replicate, get_or_past)
+-- each index of copies of a byte has a byte
+pub copy-below : (n i byte bound : ℕ) → byte < bound → slice_index (replicate n byte) i < bound
+copy-below n i byte bound lt = grind (arith, common_steps, get_or-replicate, get_or_past)
+
+-- a block of one byte
+pub IsBlock-full : (byte : ℕ) → byte < 2 ^ 8 → IsBlock (replicate 4096 byte)
+IsBlock-full byte lt = (length-replicate {A = ℕ} 4096 byte, λ i. copy-below 4096 i byte (2 ^ 8) lt)
 
 -- a block of zero bytes
 pub IsBlock-zero : IsBlock (replicate 4096 0)
-IsBlock-zero = (length-replicate {A = ℕ} 4096 0, λ i. omega (arith, zero_byte 4096 i))
+IsBlock-zero = IsBlock-full 0 (omega arith)
 
 -- an attached block is one of the image
 pub attached_in_size : (d : MemoryDevice) (b : ℕ) → b < attached_size d → b < d.size

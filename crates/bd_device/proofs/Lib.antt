@@ -1,3 +1,4 @@
+pub mod Crash
 pub mod Images
 pub mod Left
 pub mod Moments

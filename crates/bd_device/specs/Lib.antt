@@ -1,4 +1,5 @@
 pub mod Blocks
 pub mod Calls
+pub mod Crash
 pub mod Memory
 pub mod Moments

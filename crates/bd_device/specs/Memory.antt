@@ -3,7 +3,7 @@ use Rattle.std.specs.Prelude.{◌≡◌, ℕ, Bool, ◌||◌, nat_lt, nat_le, Is
 use Rattle.std.proofs.Common.{ap, sym, inl, inr, ⊎_elim, arith}
 use Rattle.bd_io.specs.Cause.{next_count}
 use Rattle.bd_io.specs.Plan.{PlannedCalls, next_fails, calls_after}
-use Rattle.bd_device.specs.Blocks.{Image}
+use Rattle.bd_device.specs.Blocks.{Image, IsBlock}
 use Rattle.bd_device.specs.Calls.{write_faults_after}
 use Rattle.bd_device.specs.Moments.{TornAt}
 use Rattle.bd_device.specs.declared.write_record.WriteRecord.{WriteRecord}
@@ -84,6 +84,10 @@ after_barrier result d = record d {
   plan = calls_after d.plan result;
   write_faults = write_faults_after d.write_faults result;
 }
+
+-- a record of a write to one of so many blocks, which was a block before
+abbrev pub IsRecordIn : ℕ → WriteRecord → Type 0
+IsRecordIn count w = (w.block < count) × IsBlock w.before
 
 -- the last of these writes, the last first, is among so many calls
 abbrev pub IsPast : ℕ → List WriteRecord → Type 0

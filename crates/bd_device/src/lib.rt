@@ -5,8 +5,10 @@
 
 mod device;
 mod mem_device;
+mod torn;
 mod write_record;
 
 pub use device::{Attach, BLOCK_SIZE, Device};
 pub use mem_device::MemDevice;
+pub use torn::Torn;
 pub use write_record::WriteRecord;

@@ -1,12 +1,13 @@
 ghost use Rattle.std.specs.Prelude.{◌≡◌, ◌<◌, ◌≤◌, ◌||◌, ◌++◌, ◌∷◌, [], true, length, All, Some, IfOk, OnOk, OnErr, is_ok, is_err, IsTrue, ◌^◌, ◌-◌, ◌+◌, reverse, if◌then◌else◌, unwrap_or, slice_get, slice_set};
 ghost use Rattle.bd_io.specs.Cause.{HasCause, IsCounted};
 ghost use Rattle.bd_io.specs.Plan.{planned, next_fails, calls_after};
-ghost use Rattle.bd_device.specs.Blocks.{HasBlocks, ChangesOnly};
+ghost use Rattle.bd_device.specs.Blocks.{HasBlocks, IsBlock, ChangesOnly};
+ghost use Rattle.bd_device.specs.Crash.{torn_blocks, after_crash};
 ghost use Rattle.bd_device.specs.Moments.{Nothing, TornAt, Elapses, IsOnly};
 ghost use Rattle.bd_device.specs.Calls.{write_faults_after};
-ghost use Rattle.bd_device.specs.Memory.{held_image, held-attached, attached_image, attached_size, write_fails, attach_fails, recorded, after_write, after_barrier, left_of, HasLeft-earlier, IsZero};
+ghost use Rattle.bd_device.specs.Memory.{held_image, held-attached, attached_image, attached_size, write_fails, attach_fails, recorded, after_write, after_barrier, left_of, HasLeft-earlier, IsRecordIn, IsZero};
 
-use crate::{Attach, BLOCK_SIZE, Device, WriteRecord};
+use crate::{Attach, BLOCK_SIZE, Device, Torn, WriteRecord};
 use bd_io::{CallPlan, Failed};
 use std::alloc::{AllocError, Global};
 use std::marker::Model;
@@ -33,7 +34,7 @@ impl Model for MemDevice {
     ghost use Rattle.std.specs.Prelude.{◌≤◌, length, reverse, All};
     ghost use Rattle.std.specs.Vec.{vec_capacity};
     ghost use Rattle.bd_device.specs.Blocks.{IsBlock};
-    ghost use Rattle.bd_device.specs.Memory.{MemoryDevice, IsPast};
+    ghost use Rattle.bd_device.specs.Memory.{MemoryDevice, IsPast, IsRecordIn};
 
     ghost Value = { MemoryDevice };
 
@@ -50,6 +51,7 @@ impl Model for MemDevice {
 
     ghost invariant = { λ d. (d.size ≤ length d.blocks.items) × All IsBlock d.blocks.items
         × (length d.writes.items ≤ d.room) × (d.room ≤ vec_capacity d.writes)
+        × All (IsRecordIn (length d.blocks.items)) d.writes.items
         × (d.barrier ≤ d.plan.calls) × IsPast d.plan.calls (reverse d.writes.items) };
 }
 
@@ -95,6 +97,19 @@ impl MemDevice {
         &self.writes
     }
 
+    /// The power is lost: each block that was written since the last barrier that succeeded, also
+    /// by a write that failed, has what `how` says, and the others stay. That is one of the images
+    /// that a crash might have left. Nothing is in flight then, and there is room for as many
+    /// writes as the device was made for. It is no call of the device, and takes no memory.
+    pub fn crash(&mut self, how: Torn)
+        ensures after { self.new ≡ after_crash how self.old }
+        ensures left { left_of self.old self.old.plan.calls (held_image self.new) }
+    {
+        tear(&mut self.blocks, &self.writes, self.barrier, how);
+        self.writes.clear();
+        self.barrier = 0;
+    }
+
     // Counts a write or a barrier, which fails also where `refused` says so.
     fn writing_call(&mut self, refused: bool) -> Result<(), Failed>
         ensures fails { is_err result ≡ (next_fails self.old.plan || refused) }
@@ -131,6 +146,25 @@ impl MemDevice {
             self.writes.push(record).unwrap();
             self.barrier = 0;
         }
+    }
+}
+
+// Tears the blocks of the writes in flight, the last of which a barrier of this number followed.
+fn tear(blocks: &mut [[u8; BLOCK_SIZE]], writes: &[WriteRecord], barrier: u64, how: Torn)
+    requires room { All (IsRecordIn (length blocks.old)) writes.now }
+    requires whole { All IsBlock blocks.old }
+    ensures torn { blocks.new ≡ torn_blocks how barrier (reverse writes.now) blocks.old }
+    ensures whole { All IsBlock blocks.new }
+{
+    let mut barrier = barrier;
+    let mut left = writes.len();
+    while left > 0 && barrier == 0 {
+        left -= 1;
+        let write = &writes[left];
+        let b = write.block as usize;
+        let bytes = how.bytes(write, &blocks[b]);
+        blocks[b] = bytes;
+        barrier = write.barrier;
     }
 }
 
