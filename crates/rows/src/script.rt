@@ -2,73 +2,77 @@ use bd_script::{LineFault, read_line};
 use std::alloc::{AllocError, Global};
 use std::test::Fail;
 
-/// The number of the refusal, 0 where the line is read, and 99 without memory.
-fn refusal(alloc: Global, line: &[u8]) -> u8 {
-    match read_line(alloc, line) {
-        Ok(_) => 0,
-        Err(LineFault::BadPath) => 9,
-        Err(LineFault::BadLine) => 10,
-        Err(LineFault::NoMemory) => 99,
-    }
-}
+/// Lines that are read.
+const READ: &[&str] = &[
+    "mkdir /a",
+    "create /",
+    "remove /a/b",
+    "stat /",
+    "list /",
+    "list / b",
+    "rename /a /b",
+    "clone / /b",
+    "truncate /a 0",
+    "truncate /a 4294967295",
+    "write /a 1023 aAbB0f",
+    "read /a 0 4096",
+    "stop",
+];
 
-/// Lines, and the numbers of their refusals; 0 for a line that is read.
-const LINES: [(&str, u8); 44] = [
-    ("mkdir /a", 0),
-    ("create /", 0),
-    ("remove /a/b", 0),
-    ("stat /", 0),
-    ("list /", 0),
-    ("list / b", 0),
-    ("rename /a /b", 0),
-    ("clone / /b", 0),
-    ("truncate /a 0", 0),
-    ("truncate /a 4294967295", 0),
-    ("write /a 1023 aAbB0f", 0),
-    ("read /a 0 4096", 0),
-    ("stop", 0),
-    ("", 10),
-    (" ", 10),
-    ("mkdir", 10),
-    ("mkdir ", 10),
-    ("mkdir  /a", 10),
-    (" mkdir /a", 10),
-    ("mkdir /a ", 10),
-    ("mkdir /a /b", 10),
-    ("Mkdir /a", 10),
-    ("stop now", 10),
-    ("sync", 10),
-    ("read /a 0 4097", 10),
-    ("read /a 0", 10),
-    ("read /a 0 1 2", 10),
-    ("truncate /a 01", 10),
-    ("truncate /a +1", 10),
-    ("truncate /a 4294967296", 10),
-    ("truncate /a 99999999999999999999999", 10),
-    ("truncate a 1x", 10),
-    ("write /a 0 abc", 10),
-    ("write /a 0 ag", 10),
-    ("write a 0 a", 10),
-    ("write /a 0 ", 10),
-    ("mkdir a", 9),
-    ("mkdir //", 9),
-    ("stat /a/", 9),
-    ("list / .", 9),
-    ("list a b", 9),
-    ("rename /a b", 9),
-    ("clone a /b", 9),
-    ("write a 0 00", 9),
+/// Lines that are refused, whatever their paths are.
+const BAD_LINES: &[&str] = &[
+    "",
+    " ",
+    "mkdir",
+    "mkdir ",
+    "mkdir  /a",
+    " mkdir /a",
+    "mkdir /a ",
+    "mkdir /a /b",
+    "Mkdir /a",
+    "stop now",
+    "sync",
+    "read /a 0 4097",
+    "read /a 0",
+    "read /a 0 1 2",
+    "truncate /a 01",
+    "truncate /a +1",
+    "truncate /a 4294967296",
+    "truncate /a 99999999999999999999999",
+    "truncate a 1x",
+    "write /a 0 abc",
+    "write /a 0 ag",
+    "write a 0 a",
+    "write /a 0 ",
+];
+
+/// Lines of which a word is no path or no name.
+const BAD_PATHS: &[&str] = &[
+    "mkdir a",
+    "mkdir //",
+    "stat /a/",
+    "list / .",
+    "list a b",
+    "rename /a b",
+    "clone a /b",
+    "write a 0 00",
 ];
 
 #[test]
-fn lines_are_read(rt: HostRuntime) -> Result<(), Fail> {
-    for (line, number) in LINES {
-        assert_eq!(rt; refusal(rt.alloc(), line.as_bytes()), number, "{line}");
+fn lines_are_read(rt: HostRuntime) {
+    for (lines, fault) in [
+        (READ, None),
+        (BAD_LINES, Some(LineFault::BadLine)),
+        (BAD_PATHS, Some(LineFault::BadPath)),
+    ] {
+        for line in lines {
+            let found = read_line(rt.alloc(), line.as_bytes()).err();
+            assert_eq!(rt; found, fault, "line {line}");
+        }
     }
-    Ok(())
 }
 
-/// `stat`, and a path of as many bytes, of names of 255 bytes.
+/// `stat`, and a path of this many bytes, of names of 255 bytes.
 fn stat_of(alloc: Global, len: usize) -> Result<Vec<u8>, AllocError> {
     let mut line = Vec::from_slice(alloc, b"stat ")?;
     for i in 0..len {
@@ -79,9 +83,16 @@ fn stat_of(alloc: Global, len: usize) -> Result<Vec<u8>, AllocError> {
 
 #[test]
 fn long_lines_are_read(rt: HostRuntime) -> Result<(), Fail> {
-    for (len, number) in [(256, 0), (512, 0), (514, 9), (8187, 9), (8188, 10)] {
+    for (len, fault) in [
+        (256, None),
+        (512, None),
+        (514, Some(LineFault::BadPath)),
+        (8187, Some(LineFault::BadPath)),
+        (8188, Some(LineFault::BadLine)),
+    ] {
         let line = stat_of(rt.alloc(), len)?;
-        assert_eq!(rt; refusal(rt.alloc(), &line), number, "a path of {len} bytes");
+        let found = read_line(rt.alloc(), &line).err();
+        assert_eq!(rt; found, fault, "a path of {len} bytes");
     }
     Ok(())
 }
