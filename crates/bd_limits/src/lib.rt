@@ -1,5 +1,6 @@
 //! The limits of the file system, each under one name in code and one in definitions.
-//! The layers above use the constants, and in contracts the names of `specs/Limits`, which `law_of_limits` ties to them.
+//! The layers above use the constants, and in contracts the names of `specs/Limits`, which
+//! `law_of_limits` ties to them.
 #![tactic(auto)]
 
 ghost use Rattle.std.specs.Prelude.{◌≡◌};

@@ -1,5 +1,6 @@
 //! The volume: the tree of the commands that it has accepted, and their number.
-//! The layers above use the contracts of `start` and `do_command`: the step of each command, and the cause of each fault.
+//! The layers above use the contracts of `start` and `do_command`: the step of each command, and the
+//! cause of each fault.
 #![tactic(auto)]
 
 ghost use Rattle.std.specs.Prelude.{◌≡◌, ◌≤◌, ◌+◌, ◌^◌, ◌⊎◌, ℕ, IsTrue, IfOk, IfErr, OnErr};
@@ -88,8 +89,8 @@ impl<D: Device + Drop> Volume<D> {
         }
     }
 
-    /// Executes a command. `Worn(Counter::Count)` comes only for an accepted writing command where the
-    /// count stands at its last value. A fault leaves the volume as it was.
+    /// Executes a command. `Worn(Counter::Count)` comes only for an accepted writing command where
+    /// the count stands at its last value. A fault leaves the volume as it was.
     pub fn do_command(&mut self, alloc: Global, command: &Command) -> Result<Reply, Fault>
         ensures step { IfOk result (λ reply. (t : Tree) (n : ℕ) → StandsFor self.old t n
             → StandsFor self.new (step t command.now).0 (n + accepted command.now reply)) }

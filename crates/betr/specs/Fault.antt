@@ -45,7 +45,8 @@ pub record NeverFall (before now : Faults) : Type 0 where
   pub source : before.source ≤ now.source
   pub sink : before.sink ≤ now.sink
 
--- the count that is a fault's cause rose; want of memory is free, and what they leave shows the cause of the others
+-- the count that is a fault's cause rose; want of memory is free, and what they leave shows the
+-- cause of the others
 abbrev pub Caused : Fault → Faults → Faults → Type 0
 Caused Device before now = Rose before.device now.device
 Caused Source before now = Rose before.source now.source

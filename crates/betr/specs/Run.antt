@@ -11,7 +11,7 @@ use Rattle.bd_device.specs.Memory.{MemoryDevice, attached_image, attached_size, 
 use Rattle.betr.specs.declared.fault.Fault.{Fault}
 use Rattle.betr.specs.declared.outcome.Ack.{Ack}
 use Rattle.betr.specs.Fault.{status_of, fault_line, Faults, Caused}
-use Rattle.betr.specs.Transcript.{State, Entry, IsTranscript}
+use Rattle.betr.specs.Transcript.{Known, State, Entry, IsTranscript}
 use Rattle.betr.specs.Session.{Among, TakenAt, Replied}
 use Rattle.betr.specs.Words.{Call, Run}
 
@@ -20,25 +20,27 @@ abbrev pub end_status : Option Fault → ℕ
 end_status None = 0
 end_status (Some e) = status_of e
 
--- what is told of source and sink at a moment: what is left of the script, what was written, and the counts of faults
+-- what is told of source and sink at a moment: what is left of the script, what was written, the
+-- counts of faults
 pub record Ends : Type 0 where
-  pub script : Option (List ℕ)
-  pub written : Option (List ℕ)
+  pub script : Known
+  pub written : Known
   pub faults : Faults
 
-abbrev pub ends : Option (List ℕ) → Option (List ℕ) → Faults → Ends
+abbrev pub ends : Known → Known → Faults → Ends
 ends script written faults = record { script = script; written = written; faults = faults }
 
 -- a line is written last: all of it, or a part where the sink's count rose
-abbrev pub WritesLast : List ℕ → Option (List ℕ) → Option (List ℕ) → ℕ → ℕ → Type 0
-WritesLast line old new before now = (new ≡ append_known old line) ⊎ (WrotePart line old new × Rose before now)
+abbrev pub WritesLast : List ℕ → Known → Known → ℕ → ℕ → Type 0
+WritesLast line old new before now =
+    (new ≡ append_known old line) ⊎ (WrotePart line old new × Rose before now)
 
 -- after the replies a fault's line is written
-abbrev pub WritesEnd : Option Fault → Option (List ℕ) → Option (List ℕ) → ℕ → ℕ → Type 0
+abbrev pub WritesEnd : Option Fault → Known → Known → ℕ → ℕ → Type 0
 WritesEnd None old new before now = new ≡ old
 WritesEnd (Some e) old new before now = WritesLast (fault_line e) old new before now
 
--- how a run went: its one transcript, and how the outcome, the script and what was written are tied to it
+-- how a run went: its one transcript, to which outcome, script and what was written are tied
 pub record Went (start : State) (status : ℕ) (acks : List Ack) (before now : Ends) : Type 0 where
   pub end : Option Fault
   pub status_is : status ≡ end_status end
@@ -49,7 +51,7 @@ pub record Went (start : State) (status : ℕ) (acks : List Ack) (before now : E
   pub among_taken : Among end start taken entries
   pub among_script : IfSome before.script (λ bytes. Among end start bytes entries)
   pub taken_at : TakenAt end taken entries
-  pub replies : Option (List ℕ)
+  pub replies : Known
   pub replied : Replied end entries before.written replies
   pub last : WritesEnd end replies now.written before.faults.sink now.faults.sink
   pub cause : IfSome end (λ e. Caused e before.faults now.faults)
@@ -74,14 +76,15 @@ seen contents blocks shows calls = record {
 
 -- what a device in memory tells
 abbrev pub seen_in_memory : MemoryDevice → Seen
-seen_in_memory d = seen (Some (attached_image d)) (attached_size d) (λ _. Some (held_image d)) d.plan.calls
+seen_in_memory d =
+    seen (Some (attached_image d)) (attached_size d) (λ _. Some (held_image d)) d.plan.calls
 
 -- a device without blocks, which shows for each name what it showed
 pub record Detached (before now : Seen) : Type 0 where
   pub blocks : now.blocks ≡ 0
-  pub behind : (name : List ℕ) → now.shows name ≡ before.shows name
+  pub after : (name : List ℕ) → now.shows name ≡ before.shows name
 
--- the image is attached as it is, by one call and no other; where that fails, the device is detached
+-- the image is attached as it is, by one call and no other; where it fails, the device is detached
 pub record OnlyAttaches (image : List ℕ) (status : ℕ) (before now : Seen) : Type 0 where
   pub attached : status ≢ 3 → now.contents ≡ before.shows image
   pub detached : status ≡ 3 → Detached before now
@@ -98,7 +101,7 @@ image_of (Run image) = image
 -- ---- where nothing fails
 
 -- the words are right, the outside doesn't fail, and the script is known and isn't too long
-pub record IsFaultless (call : Option Call) (script : Option (List ℕ)) (before now : Faults) : Type 0 where
+pub record IsFaultless (call : Option Call) (script : Known) (before now : Faults) : Type 0 where
   pub called : IsSome call
   pub short : IsSomeAnd script (λ bytes. length bytes ≤ script_limit)
   pub device : ¬ Rose before.device now.device

@@ -17,7 +17,7 @@ use Rattle.bd_script.specs.declared.line.Line.TheVariants.{Run}
 use Rattle.bd_volume.specs.Volume.{WearsCount}
 use Rattle.betr.specs.declared.fault.Fault.{Fault}
 use Rattle.betr.specs.declared.fault.Fault.TheVariants.{Device, Source, Memory, TooLong, Worn, Sink}
-use Rattle.betr.specs.Transcript.{State, Entry, IsTranscript, text, executed, state_after, meanings, lines_to_run, IsFront}
+use Rattle.betr.specs.Transcript.{Known, State, Entry, IsTranscript, text, executed, state_after, meanings, lines_to_run, IsFront}
 
 -- how a session ends: by a fault, or with the script
 abbrev pub end_of : {T : Type 0} → Result T Fault → Option Fault
@@ -27,8 +27,8 @@ end_of (Err e) = Some e
 -- ---- some lines
 
 -- from a state on these lines were executed and their replies written; `at` holds of the state then
-pub record Executes (from : State) (lines : List LineMeaning) (at : State → Type 0) (old new : Option (List ℕ))
-    : Type 0 where
+pub record Executes (from : State) (lines : List LineMeaning) (at : State → Type 0)
+    (old new : Known) : Type 0 where
   pub entries : List Entry
   pub transcript : IsTranscript from entries
   pub lines_are : executed entries ≡ lines
@@ -58,7 +58,8 @@ Among (Some Memory) s bytes es =
     (es ≡ []) ⊎ ((next : LineMeaning) × HasNext next (executed es) (lines_to_run bytes))
 Among (Some TooLong) s bytes es = IsFront (executed es) (lines_to_run bytes)
 Among (Some (Worn which)) s bytes es =
-    (next : LineMeaning) × HasNext next (executed es) (lines_to_run bytes) × WornBy which (state_after s es) next
+    (next : LineMeaning) × HasNext next (executed es) (lines_to_run bytes)
+    × WornBy which (state_after s es) next
 Among (Some Sink) s bytes es = IsFront (executed es) (lines_to_run bytes)
 
 -- all lines that are complete in these bytes were executed, and none of them is `stop`
@@ -80,14 +81,14 @@ TakenAt (Some Sink) taken es = length taken ≤ script_limit
 -- ---- what an end leaves of the replies
 
 -- all replies but the last were written, and of that one a part
-pub record IsCutShort (es : List Entry) (old new : Option (List ℕ)) : Type 0 where
+pub record IsCutShort (es : List Entry) (old new : Known) : Type 0 where
   pub front : List Entry
   pub last : Entry
   pub entries_are : es ≡ front ++ last ∷ []
   pub part : WrotePart (line_reply_line last.said) (append_known old (text front)) new
 
 -- what was written of the replies when a session ends
-abbrev pub Replied : Option Fault → List Entry → Option (List ℕ) → Option (List ℕ) → Type 0
+abbrev pub Replied : Option Fault → List Entry → Known → Known → Type 0
 Replied None es old new = new ≡ append_known old (text es)
 Replied (Some Device) es old new = new ≡ append_known old (text es)
 Replied (Some Source) es old new = new ≡ append_known old (text es)
@@ -98,10 +99,10 @@ Replied (Some Sink) es old new = IsCutShort es old new
 
 -- ---- a whole session
 
--- from a state on: the one transcript of a session, its lines among those taken and those of the script, its replies;
--- `at` holds of the state then
+-- from a state on: the one transcript of a session, its lines among those taken and those of the
+-- script, its replies; `at` holds of the state then
 pub record RunsFrom (end : Option Fault) (from : State) (at : State → Type 0) (taken : List ℕ)
-    (script old new : Option (List ℕ)) : Type 0 where
+    (script old new : Known) : Type 0 where
   pub entries : List Entry
   pub transcript : IsTranscript from entries
   pub among_taken : Among end from taken entries
@@ -110,9 +111,9 @@ pub record RunsFrom (end : Option Fault) (from : State) (at : State → Type 0) 
   pub reached : at (state_after from entries)
   pub replied : Replied end entries old new
 
--- a session with a script, of which `script` is left of the source before and `rest` after: from each state at which
--- it may begin
-pub record Session (end : Option Fault) (first last : State → Type 0) (script rest old new : Option (List ℕ))
+-- a session with a script, of which `script` is left of the source before and `rest` after: from
+-- each state at which it may begin
+pub record Session (end : Option Fault) (first last : State → Type 0) (script rest old new : Known)
     : Type 0 where
   pub taken : List ℕ
   pub taken_is : script ≡ prepend_known taken rest

@@ -19,7 +19,7 @@ use Rattle.bd_volume.specs.Volume.{StandsFor, device_of}
 use Rattle.betr.specs.declared.fault.Fault.{Fault}
 use Rattle.betr.specs.declared.fault.Fault.TheVariants.{Device, Source, Memory, TooLong, Worn, Sink}
 use Rattle.betr.specs.declared.shell.Shell.{Shell}
-use Rattle.betr.specs.Transcript.{State, Entry, Follows, IsTranscript, executed, state_after, meanings, IsFront}
+use Rattle.betr.specs.Transcript.{Known, State, Entry, Follows, IsTranscript, executed, state_after, meanings, IsFront}
 use Rattle.betr.specs.Session.{HasNext, WornBy, Replied}
 
 -- a volume stands for a state
@@ -53,18 +53,20 @@ is_stopped reply.Stopped = true
 abbrev pub last_lines : List ℕ → List LineMeaning
 last_lines line = if is_empty line then [] else line_of line ∷ []
 
--- what is held of a line that a script has begun: no newline, and no more bytes than tell its meaning
+-- what is held of a line that a script has begun: no newline, and no more bytes than tell what it
+-- means
 abbrev pub IsHeld : List ℕ → Type 0
 IsHeld line = held (open_line line) ≡ line
 
 -- a line got this reply, and `at` holds of the state after it
-pub record Replies (s : State) (line : LineMeaning) (said : LineReply) (at : State → Type 0) : Type 0 where
+pub record Replies (s : State) (line : LineMeaning) (said : LineReply) (at : State → Type 0)
+    : Type 0 where
   pub after : State
   pub follows : Follows s line said after
   pub reached : at after
 
 -- a line was executed and its reply written
-pub record ExecutesOne (s : State) (line : LineMeaning) (at : State → Type 0) (old new : Option (List ℕ))
+pub record ExecutesOne (s : State) (line : LineMeaning) (at : State → Type 0) (old new : Known)
     : Type 0 where
   pub said : LineReply
   pub replies : Replies s line said at
@@ -100,13 +102,14 @@ IsLineFault (Worn which) = Unit {0}
 IsLineFault Sink = ⊥
 
 -- an executed line of whose reply only a part was written
-pub record IsCut (s : State) (line : LineMeaning) (at : State → Type 0) (old new : Option (List ℕ)) : Type 0 where
+pub record IsCut (s : State) (line : LineMeaning) (at : State → Type 0) (old new : Known)
+    : Type 0 where
   pub said : LineReply
   pub replies : Replies s line said at
   pub part : WrotePart (line_reply_line said) old new
 
 -- a fault of a line: before its reply, and all stays, or within it
-abbrev pub RunFails : Fault → State → LineMeaning → (State → Type 0) → Option (List ℕ) → Option (List ℕ) → Type 0
+abbrev pub RunFails : Fault → State → LineMeaning → (State → Type 0) → Known → Known → Type 0
 RunFails Device s line at old new = ⊥
 RunFails Source s line at old new = ⊥
 RunFails Memory s line at old new = at s × (new ≡ old)
@@ -114,8 +117,8 @@ RunFails TooLong s line at old new = ⊥
 RunFails (Worn which) s line at old new = at s × (new ≡ old) × WornBy which s line
 RunFails Sink s line at old new = IsCut s line at old new
 
--- some complete lines were executed, of what was begun and of a front of a piece, none of them a `stop`, and bytes are
--- left of the piece
+-- some complete lines were executed, of what was begun and of a front of a piece, none of them a
+-- `stop`, and bytes are left of the piece
 pub record HasMore (begun piece : List ℕ) (es : List Entry) : Type 0 where
   pub front : List ℕ
   pub rest : List ℕ
@@ -137,7 +140,7 @@ Halts Sink s begun piece es = IsFront (executed es) (up_to_stop (meanings (begun
 
 -- a fault came while the lines that a piece completes were executed
 pub record BreaksOff (e : Fault) (from : State) (begun piece : List ℕ) (at : State → Type 0)
-    (old new : Option (List ℕ)) : Type 0 where
+    (old new : Known) : Type 0 where
   pub entries : List Entry
   pub transcript : IsTranscript from entries
   pub halts : Halts e from begun piece entries

@@ -1,6 +1,7 @@
 -- What a run does, line by line.
 use Rattle.std.specs.Prelude.{◌≡◌, ℕ, ◌+◌, Bool, List, [], ◌∷◌, ◌++◌, map}
 use Rattle.std.specs.List.{flat_map}
+use Rattle.std.specs.declared.option.Option.{Option}
 use Rattle.std.specs.declared.result.Result.TheVariants.{Ok, Err}
 use Rattle.bd_command.specs.Command.{accepted, IsCommand}
 use Rattle.bd_command.specs.declared.Command.{Command}
@@ -11,6 +12,10 @@ use Rattle.bd_script.specs.Replies.{line_reply_line}
 use Rattle.bd_script.specs.declared.line.Line.TheVariants.{Run, Stop}
 use Rattle.bd_script.specs.declared.replies.LineReply.{LineReply}
 use Rattle.bd_script.specs.declared.replies.LineReply.TheVariants as reply
+
+-- bytes, where they are known
+abbrev pub Known : Type 0
+Known = Option (List ℕ)
 
 -- where a run stands: the tree, and how many commands were accepted
 pub record State : Type 0 where

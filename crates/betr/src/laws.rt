@@ -5,9 +5,9 @@ ghost use Rattle.std.specs.List.{AllByRecursion};
 ghost use Rattle.bd_model.specs.Tree.{IsTree};
 ghost use Rattle.betr.specs.Transcript.{State, Entry, first_state, IsTranscript, CanBe};
 
-/// `/` alone is a tree, and where a transcript begins at a tree, each of its states has one, and each
-/// of its lines that is a command keeps the limits of commands: so what the model's laws say of a step
-/// holds of each step of a run.
+/// `/` alone is a tree, and where a transcript begins at a tree, each of its states has one, and
+/// each of its lines that is a command keeps the limits of commands: so what the model's laws say
+/// of a step holds of each step of a run.
 pub fn law_of_transcripts()
     ensures first { IsTree first_state.tree }
     ensures each { (s : State) (es : List Entry) → IsTree s.tree → IsTranscript s es

@@ -1,5 +1,5 @@
-//! The program: a shell over a volume. It reads its words, attaches the device, takes a script and writes a reply a line.
-//! `run` is the one top call; its contract ties what it writes to the plain map of the script's lines.
+//! The program: a shell over a volume. It reads words, attaches a device, takes a script and writes
+//! a reply a line. `run` is the one top call; its contract ties what it writes to the plain map.
 #![tactic(auto)]
 
 mod fault;
@@ -40,8 +40,8 @@ fn status(rt: &HostRuntime) -> io::Result<u8> {
     Ok(run::run(rt.alloc(), &words, &mut dev, &mut src, &mut sink).status)
 }
 
-/// The words that the program is called with. Where one of them isn't UTF-8 there are none, which are
-/// refused as they would be.
+/// The words that the program is called with. Where one of them isn't UTF-8 there are none, which
+/// are refused too.
 fn called_with(rt: &HostRuntime) -> io::Result<Vec<String>> {
     let mut words = Vec::new(rt.alloc());
     match env::args(rt) {

@@ -11,8 +11,8 @@ use bd_io::{MemSink, MemSource};
 use bd_limits::MAX_PIECE;
 use std::alloc::{AllocError, Global};
 
-/// Runs the program over memory: a script in pieces of up to 4,096 bytes, and a sink of `room` bytes. It gives
-/// the outcome and all that was written.
+/// Runs the program over memory: a script in pieces of up to 4,096 bytes, and a sink of `room`
+/// bytes. It gives the outcome and all that was written.
 pub fn row(
     alloc: Global,
     dev: &mut MemDevice,

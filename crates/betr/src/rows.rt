@@ -25,7 +25,7 @@ no 7 root
 no 2 exists
 > rename /x /
 no 1 not-found
-# a write over the border of a block, behind zeros
+# a write over the border of a block, after zeros
 > create /f
 ok
 > write /f 1022 616263
@@ -295,10 +295,9 @@ fn long_names_and_paths_are_kept(rt: HostRuntime) -> Result<(), Fail> {
 
     let x = repeated(alloc, "x", 200)?;
     let made = format!(in alloc; "mkdir /{x}\nmkdir /{x}/{x}\ncreate /{x}/{x}/f\n")?;
-    let cloned = format!(in alloc;
-        "clone /{x} /{x}/{x}/c\nclone /{x}/{x} /q\nlist /q\nstat /q/c/{x}/f\nclone /q/c/{x} /v\nstat /v/f\n"
-    )?;
-    let script = format!(in alloc; "{made}{cloned}")?;
+    let cloned = format!(in alloc; "clone /{x} /{x}/{x}/c\nclone /{x}/{x} /q\nlist /q\n")?;
+    let again = format!(in alloc; "stat /q/c/{x}/f\nclone /q/c/{x} /v\nstat /v/f\n")?;
+    let script = format!(in alloc; "{made}{cloned}{again}")?;
     let written = replies(alloc, script.as_str())?.ok_or("another status")?;
     assert_eq!(rt;
         written.as_slice(),

@@ -34,11 +34,14 @@ fn run_image<D: Attach, S: Source, K: Sink>(
 ) -> Result<(), Fault>
     ensures session { Session (end_of result) (λ s. s ≡ first_state) (λ _. Unit {0})
         (S.left src.old) (S.left src.new) (K.written sink.old) (K.written sink.new) }
-    ensures no_more { TakesNoMore (S.left src.old) (S.left src.new) (S.takes src.old) (S.takes src.new) }
+    ensures no_more { TakesNoMore
+        (S.left src.old) (S.left src.new) (S.takes src.old) (S.takes src.new) }
     ensures untouched { result ≡ Err Fault.Device → src.new ≡ src.old }
     ensures device { OnlyAttaches image.now (end_status (end_of result))
-        (seen (D.contents dev.old) (D.block_count dev.old) (D.shows dev.old) (D.call_count dev.old))
-        (seen (D.contents dev.new) (D.block_count dev.new) (D.shows dev.new) (D.call_count dev.new)) }
+        (seen (D.contents dev.old) (D.block_count dev.old)
+        (D.shows dev.old) (D.call_count dev.old))
+        (seen (D.contents dev.new) (D.block_count dev.new)
+        (D.shows dev.new) (D.call_count dev.new)) }
     ensures named { result ≢ Err Fault.Device → D.is_named dev.new image.now }
     ensures same_loans { D.loans dev.new ≡ D.loans dev.old }
     ensures writes { D.write_fault_count dev.new ≡ D.write_fault_count dev.old }
@@ -73,12 +76,12 @@ fn write_last<K: Sink>(sink: &mut K, line: &[u8])
     let _ = put_all(sink, line);
 }
 
-/// Runs the program over a device, a source and a sink. The words are `PROGRAM run IMAGE`: the image
-/// is attached, and the script that the source gives is executed line by line from the tree of `/`
-/// alone, with a reply a line, to its end or to `stop` (status 0). Other words have the usage line
-/// written, and nothing else is done (status 2). The first fault ends the run with its status, and its
-/// line where the sink takes it: the device 3, the source 5, memory 6, a script of more than 16,777,216
-/// bytes 7, a counter 8, the sink 9.
+/// Runs the program over a device, a source and a sink. The words are `PROGRAM run IMAGE`: the
+/// image is attached, and the script that the source gives is executed line by line from the tree
+/// of `/` alone, with a reply a line, to its end or to `stop` (status 0). Other words have the
+/// usage line written, and nothing else is done (status 2). The first fault ends the run with its
+/// status, and its line where the sink takes it: the device 3, the source 5, memory 6, a script of
+/// more than 16,777,216 bytes 7, a counter 8, the sink 9.
 pub fn run<D: Attach, S: Source, K: Sink>(
     alloc: Global,
     words: &[String],
@@ -96,8 +99,10 @@ pub fn run<D: Attach, S: Source, K: Sink>(
 
     // What is done with the device is what the call says.
     ensures device { IfSome (call_of (map string_bytes words.now)) (λ call. Uses call result.status
-        (seen (D.contents dev.old) (D.block_count dev.old) (D.shows dev.old) (D.call_count dev.old))
-        (seen (D.contents dev.new) (D.block_count dev.new) (D.shows dev.new) (D.call_count dev.new))) }
+        (seen (D.contents dev.old) (D.block_count dev.old)
+        (D.shows dev.old) (D.call_count dev.old))
+        (seen (D.contents dev.new) (D.block_count dev.new)
+        (D.shows dev.new) (D.call_count dev.new))) }
     ensures named { IfSome (call_of (map string_bytes words.now)) (λ call.
         result.status ≢ 3 → D.is_named dev.new (image_of call)) }
     ensures writes { D.write_fault_count dev.new ≡ D.write_fault_count dev.old }
@@ -105,15 +110,16 @@ pub fn run<D: Attach, S: Source, K: Sink>(
 
     // Refused words have the usage line written, and touch neither the device nor the source.
     ensures refused { (result.status ≡ 2) ↔ IsNone (call_of (map string_bytes words.now)) }
-    ensures usage { result.status ≡ 2 → WritesLast usage_line (K.written sink.old) (K.written sink.new)
-        (K.fault_count sink.old) (K.fault_count sink.new) }
+    ensures usage { result.status ≡ 2 → WritesLast usage_line (K.written sink.old)
+        (K.written sink.new) (K.fault_count sink.old) (K.fault_count sink.new) }
     ensures device_untouched { result.status ≡ 2 → dev.new ≡ dev.old }
     ensures unacknowledged { result.status ≡ 2 → result.acks ≡ [] }
 
-    // Nothing is taken where the words or the device are refused, and nothing after `stop`, after the
-    // script's end or after a fault.
+    // Nothing is taken where the words or the device are refused, and nothing after `stop`, after
+    // the script's end or after a fault.
     ensures source_untouched { (result.status ≡ 2) ⊎ (result.status ≡ 3) → src.new ≡ src.old }
-    ensures no_more { TakesNoMore (S.left src.old) (S.left src.new) (S.takes src.old) (S.takes src.new) }
+    ensures no_more { TakesNoMore
+        (S.left src.old) (S.left src.new) (S.takes src.old) (S.takes src.new) }
 
     // No count of faults falls, and at status 0 none rose.
     ensures later { NeverFall

@@ -34,9 +34,11 @@ fn next_piece<S: Source>(
     taken: usize,
 ) -> Result<Taken, Failed>
     requires { taken ≤ script_limit }
-    ensures ok { IfOk result (λ got. IsTaken got taken piece.new (S.left src.old) (S.left src.new)) }
+    ensures ok { IfOk result (λ got.
+        IsTaken got taken piece.new (S.left src.old) (S.left src.new)) }
     ensures err { OnErr result (S.left src.new ≡ S.left src.old) }
-    ensures told { S.takes src.new ≡ option_map (takes_after (taken_by result piece.new)) (S.takes src.old) }
+    ensures told { S.takes src.new
+        ≡ option_map (takes_after (taken_by result piece.new)) (S.takes src.old) }
     ensures cause { HasCause (S.fault_count src.old) (S.fault_count src.new) result }
 {
     let room = MAX_PIECE.min(MAX_SCRIPT - taken).max(1);
@@ -60,7 +62,8 @@ pub fn run_script<D: Device + Drop, S: Source, K: Sink>(
     requires { held_of shell.old ≡ [] }
     ensures session { Session (end_of result) (ShellAt shell.old) (ShellAt shell.new)
         (S.left src.old) (S.left src.new) (K.written sink.old) (K.written sink.new) }
-    ensures no_more { TakesNoMore (S.left src.old) (S.left src.new) (S.takes src.old) (S.takes src.new) }
+    ensures no_more { TakesNoMore
+        (S.left src.old) (S.left src.new) (S.takes src.old) (S.takes src.new) }
     ensures device { device_in shell.new ≡ device_in shell.old }
     ensures cause { IsCaused (of_ends (S.fault_count src.old) (K.fault_count sink.old))
         (of_ends (S.fault_count src.new) (K.fault_count sink.new)) result }

@@ -30,7 +30,8 @@ fn fault_of(fault: VolumeFault) -> Fault
     requires { ComesNow fault }
     ensures kind { IsLineFault result }
     ensures memory { fault ≡ VolumeFault.NoMemory → result ≡ Fault.Memory }
-    ensures worn { (counter : Counter) → fault ≡ VolumeFault.Worn counter → result ≡ Fault.Worn counter }
+    ensures worn { (counter : Counter) → fault ≡ VolumeFault.Worn counter
+        → result ≡ Fault.Worn counter }
 {
     match fault {
         VolumeFault::NoMemory => Fault::Memory,
@@ -131,14 +132,17 @@ fn run_line<D: Device + Drop, K: Sink>(
     sink: &mut K,
 ) -> Result<ControlFlow<()>, Fault>
     ensures ok { OnOk result ((s : State) → VolumeAt volume.old s
-        → ExecutesOne s (line_of line.now) (VolumeAt volume.new) (K.written sink.old) (K.written sink.new)) }
+        → ExecutesOne s (line_of line.now) (VolumeAt volume.new)
+        (K.written sink.old) (K.written sink.new)) }
     ensures err { IfErr result (λ e. (s : State) → VolumeAt volume.old s
-        → RunFails e s (line_of line.now) (VolumeAt volume.new) (K.written sink.old) (K.written sink.new)) }
+        → RunFails e s (line_of line.now) (VolumeAt volume.new)
+        (K.written sink.old) (K.written sink.new)) }
 
     // Whatever the volume stands for.
     ensures flow { IfOk result (λ flow. breaks flow ≡ is_stop (line_of line.now)) }
     ensures device { device_of volume.new ≡ device_of volume.old }
-    ensures cause { IsCaused (of_sink (K.fault_count sink.old)) (of_sink (K.fault_count sink.new)) result }
+    ensures cause { IsCaused (of_sink (K.fault_count sink.old)) (of_sink (K.fault_count sink.new))
+        result }
 {
     let said = execute_line(alloc, volume, line)?;
     match write_reply(&said, buffer, sink) {
@@ -186,7 +190,8 @@ impl<D: Device + Drop> Shell<D> {
         self.volume.into_device()
     }
 
-    /// Executes the line that ends here: what is held of it, and its last bytes. Then nothing is held.
+    /// Executes the line that ends here: what is held of it, and its last bytes. Then nothing is
+    /// held.
     fn end_line<K: Sink>(
         &mut self,
         alloc: Global,
@@ -203,9 +208,11 @@ impl<D: Device + Drop> Shell<D> {
 
         // Whatever the volume stands for.
         ensures line { OnOk result (held_of self.new ≡ []) }
-        ensures flow { IfOk result (λ flow. breaks flow ≡ is_stop (line_of (held_of self.old ++ last.now))) }
+        ensures flow { IfOk result (λ flow.
+            breaks flow ≡ is_stop (line_of (held_of self.old ++ last.now))) }
         ensures device { device_in self.new ≡ device_in self.old }
-        ensures cause { IsCaused (of_sink (K.fault_count sink.old)) (of_sink (K.fault_count sink.new)) result }
+        ensures cause { IsCaused
+            (of_sink (K.fault_count sink.old)) (of_sink (K.fault_count sink.new)) result }
     {
         if self.line.is_empty() {
             return run_line(alloc, &mut self.volume, last, &mut self.buffer, sink);
@@ -219,8 +226,8 @@ impl<D: Device + Drop> Shell<D> {
         Ok(flow)
     }
 
-    /// Takes the next bytes of a script, up to a `stop`: each line that they complete is executed. At
-    /// a fault the lines before it were executed.
+    /// Takes the next bytes of a script, up to a `stop`: each line that they complete is executed.
+    /// At a fault the lines before it were executed.
     pub fn feed<K: Sink>(
         &mut self,
         alloc: Global,
@@ -241,7 +248,8 @@ impl<D: Device + Drop> Shell<D> {
         ensures flow { IfOk result
             (λ flow. breaks flow ≡ list_any is_stop (meanings (held_of self.old ++ piece.now))) }
         ensures device { device_in self.new ≡ device_in self.old }
-        ensures cause { IsCaused (of_sink (K.fault_count sink.old)) (of_sink (K.fault_count sink.new)) result }
+        ensures cause { IsCaused
+            (of_sink (K.fault_count sink.old)) (of_sink (K.fault_count sink.new)) result }
     {
         let mut rest = piece;
         'lines: while let Some((last, tail)) = cut_line(rest) {
@@ -268,7 +276,8 @@ impl<D: Device + Drop> Shell<D> {
         // Whatever the volume stands for.
         ensures some { OnErr result (is_empty (held_of self.old) ≡ false) }
         ensures device { device_in self.new ≡ device_in self.old }
-        ensures cause { IsCaused (of_sink (K.fault_count sink.old)) (of_sink (K.fault_count sink.new)) result }
+        ensures cause { IsCaused
+            (of_sink (K.fault_count sink.old)) (of_sink (K.fault_count sink.new)) result }
     {
         if self.line.is_empty() {
             return Ok(());
@@ -278,7 +287,8 @@ impl<D: Device + Drop> Shell<D> {
     }
 }
 
-/// The first line of some bytes, without its newline, and what follows it; nothing where no line ends.
+/// The first line of some bytes, without its newline, and what follows it; nothing where no line
+/// ends.
 fn cut_line(bytes: &[u8]) -> Option<(&[u8], &[u8])>
     ensures { MatchOption result (HasNoNewline bytes.now)
         (λ cut. CutsAt bytes.now cut.0.now cut.1.now) }

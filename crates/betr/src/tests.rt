@@ -51,8 +51,8 @@ fn called(alloc: Global, texts: &[&str], script: &[u8]) -> Result<(u8, Vec<u8>),
     Ok((outcome.status, written))
 }
 
-/// The first example with one failing call: of the source, which gives at most 7 bytes a take, of the
-/// sink, or of the device.
+/// The first example with one failing call: of the source, which gives at most 7 bytes a take, of
+/// the sink, or of the device.
 fn first_failing(
     alloc: Global,
     take: &[u64],

@@ -83,7 +83,7 @@ fn range(alloc: Global, (lo, hi): Ends) -> Result<Range, AllocError> {
 
 // What two ranges have in common, held against this range.
 fn is_common(alloc: Global, a: Ends, b: Ends, want: Option<Ends>) -> Result<bool, AllocError> {
-    let found = clip(alloc, &range(alloc, a)?, &range(alloc, b)?)?;
+    let found = clip(&range(alloc, a)?, &range(alloc, b)?)?;
     Ok(match (found, want) {
         (Some(found), Some(want)) => found == range(alloc, want)?,
         (None, None) => true,

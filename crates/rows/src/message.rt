@@ -153,7 +153,7 @@ fn is_written(message: &Message, bytes: &[u8]) -> bool {
     if !message.is_message() || message.size() > out.left() {
         return false;
     }
-    laws::spellings_fit_sizes();
+    laws::encodings_fit_sizes();
     message.write(&mut out);
     array.starts_with(bytes)
 }

@@ -3,7 +3,7 @@ use bd_wire::Out;
 use std::test::Fail;
 
 #[test]
-#[tactic(auto, using(bd_wire::specs::Writing::writing))]
+#[tactic(auto, using(bd_wire::proofs::WritingLemmas::writing))]
 fn records_are_written(rt: HostRuntime) -> Result<(), Fail> {
     let mut array = [7u8; 11];
     let mut out = Out::new(&mut array);
