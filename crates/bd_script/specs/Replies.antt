@@ -69,7 +69,6 @@ line_reply_line reply = line_reply_text reply ++ 10 ∷ []
 
 -- ---- which replies can be written
 
-
 -- a command's reply is one that can be written
 abbrev pub IsLineReply : LineReply → Type 0
 IsLineReply (Command reply) = IsReply reply

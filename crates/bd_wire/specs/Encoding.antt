@@ -6,7 +6,7 @@ use Rattle.std.specs.Prelude.{◌≡◌, ◌≢◌, ℕ, List, ◌++◌}
 abbrev pub IsPrefixFree : {A : Type 0} → (A → Type 0) → (A → List ℕ) → Type 0
 IsPrefixFree {A} fits encoding =
     (a b : A) (x y : List ℕ) → fits a → fits b → encoding a ++ x ≡ encoding b ++ y
-        → (a ≡ b) × (x ≡ y)
+    → (a ≡ b) × (x ≡ y)
 
 -- no value's encoding stands at the front, whatever follows it
 abbrev pub BeginsNone : {A : Type 0} → (A → Type 0) → (A → List ℕ) → List ℕ → Type 0
