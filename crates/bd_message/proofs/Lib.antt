@@ -1,4 +1,4 @@
-mod Finds
+pub mod Finds
 mod Nexts
 mod EncodingSizes
 mod Views

@@ -9,8 +9,10 @@ pub mod laws;
 mod list_map;
 mod map;
 mod message;
+mod messages;
 
 pub use fault::{Counter, MapFault};
 pub use list_map::ListMap;
 pub use map::KeyMap;
 pub use message::Message;
+pub use messages::Messages;

@@ -3,7 +3,7 @@
 ghost use Rattle.std.specs.Prelude.{◌≡◌, ℕ, List, [], ◌∷◌, Option, IfOk, OnOk, OnErr};
 ghost use Rattle.std.specs.Option.{option_map};
 ghost use Rattle.bd_message.specs.declared.fault.Counter.{Counter};
-ghost use Rattle.bd_message.specs.KeyMaps.{At, SameAt, IsNext, IsBatch, CanGraft, IsApplied, IsGrafted, HasMapCause, NeverWorn};
+ghost use Rattle.bd_message.specs.KeyMaps.{At, SameAt, IsNext, IsBatch, CanGraft, IsApplied, IsGrafted, IsLeft, HasMapCause, NeverWorn};
 
 use crate::{MapFault, Message};
 
@@ -39,27 +39,17 @@ pub trait KeyMap {
     fn get(&mut self, key: &[u8]) -> Result<Option<Vec<u8>>, MapFault>
         ensures value { is_known self.old → IfOk result (λ found.
             option_map (λ value. value.items) found ≡ has self.old key.now) }
-        ensures known { is_known self.old → is_known self.new }
-        ensures kept { is_known self.old → SameAt (has self.old) (has self.new) }
-        ensures room { room_of self.new ≡ room_of self.old }
-        ensures read { reads self.old self.new }
-        ensures counters { (counter : Counter) → worn self.new counter → worn self.old counter }
+        ensures left { IsLeft is_known has room_of worn reads loans self.old self.new }
         ensures cause { HasMapCause (fault_count self.old) (fault_count self.new)
-            (bad self.new) NeverWorn result }
-        ensures same_loans { loans self.new ≡ loans self.old };
+            (bad self.new) NeverWorn result };
 
     /// The least key that is at least `from`, begins with `within` and has a value.
     fn next(&mut self, from: &[u8], within: &[u8]) -> Result<Option<Vec<u8>>, MapFault>
         ensures next { is_known self.old → IfOk result (λ found.
             IsNext (has self.old) from.now within.now (option_map (λ key. key.items) found)) }
-        ensures known { is_known self.old → is_known self.new }
-        ensures kept { is_known self.old → SameAt (has self.old) (has self.new) }
-        ensures room { room_of self.new ≡ room_of self.old }
-        ensures read { reads self.old self.new }
-        ensures counters { (counter : Counter) → worn self.new counter → worn self.old counter }
+        ensures left { IsLeft is_known has room_of worn reads loans self.old self.new }
         ensures cause { HasMapCause (fault_count self.old) (fault_count self.new)
-            (bad self.new) NeverWorn result }
-        ensures same_loans { loans self.new ≡ loans self.old };
+            (bad self.new) NeverWorn result };
 
     /// For how many bytes of messages there is room.
     fn room(&self) -> usize

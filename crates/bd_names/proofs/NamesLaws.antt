@@ -297,3 +297,13 @@ path_of-some text ns h =
 -- a path is read from its text
 pub path_of-path_text : (ns : List (List ℕ)) → AreNames ns → length (path_text ns) ≤ path_limit → path_of (path_text ns) ≡ Some ns
 path_of-path_text ns h size = rw (is_path-path_text ns h size) (ap Some (names_in-path_text ns h))
+
+length-keyed : (ns : List (List ℕ)) → length (key_of ns) ≡ length (slashed ns)
+length-keyed [] = refl
+length-keyed (n ∷ ns) =
+    omega (arith, length-keyed ns, ap length (key_of-cons n ns), length-append n (0 ∷ key_of ns), length-append n (slashed ns))
+
+-- a path's key is no longer than its text
+pub length-key_of : (ns : List (List ℕ)) → length (key_of ns) ≤ length (path_text ns)
+length-key_of [] = omega arith
+length-key_of (n ∷ ns) = omega (arith, length-keyed (n ∷ ns), ap length (path_text-cons n ns))

@@ -1,6 +1,6 @@
 //! A path.
 
-ghost use Rattle.std.specs.Prelude.{◌≡◌, ◌<◌, ◌≤◌, ◌↔◌, [], List, ℕ, length, take, drop, slice_index_or, IsTrue, IfOk};
+ghost use Rattle.std.specs.Prelude.{◌≡◌, ◌<◌, ◌≤◌, ◌↔◌, [], List, ℕ, length, take, drop, slice_index_or, IsTrue, IfOk, OnOk};
 ghost use Rattle.std.specs.Prelude.{◌+◌, ◌-◌, ◌==◌, if◌then◌else◌, slice_index};
 ghost use Rattle.std.specs.List.{list_all, slice_split};
 ghost use Rattle.bd_limits.specs.Limits.{path_limit};
@@ -102,7 +102,9 @@ impl Path {
 
     /// The key of the path: each of its names, and a zero byte after it.
     pub fn key(&self, alloc: Global) -> Result<Vec<u8>, AllocError>
-        ensures { IfOk result (λ key. key.items ≡ key_of self.now) }
+        ensures key { IfOk result (λ key. key.items ≡ key_of self.now) }
+        ensures names { OnOk result (AreNames self.now) }
+        ensures length { IfOk result (λ key. length key.items ≤ path_limit) }
     {
         let mut key = Vec::with_capacity(alloc, self.text.len())?;
         for i in 0..self.cuts.len() {

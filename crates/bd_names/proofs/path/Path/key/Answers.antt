@@ -1,7 +1,8 @@
-use Rattle.std.proofs.Common.{◌≡◌, ◌++◌, [], ◌∷◌, take, get_or, sym, ◌∙◌, ap, arith}
+use Rattle.std.proofs.Common.{length, ◌≡◌, ◌++◌, [], ◌∷◌, take, get_or, sym, ◌∙◌, ap, arith}
 use Rattle.std.proofs.lemmas.List.{take_all}
 use Rattle.bd_names.specs.Names.{key_of, names_in}
-use Rattle.bd_names.proofs.CutsLemmas.{cuts-length, key_of-more}
+use Rattle.bd_names.proofs.CutsLemmas.{cuts-length, key_of-more, IsCut-names, IsCut-length}
+use Rattle.bd_names.proofs.NamesLaws.{length-key_of}
 use Rattle.bd_names.proofs.path.Path.key.Goals as goal
 
 pub loop-i-preserved : goal.loop-i-preserved
@@ -12,6 +13,14 @@ loop-i-preserved c =
     c.in_ok-push.ensures.items ∙ ap (λ x. x ++ 0 ∷ []) whole
     ∙ sym (key_of-more c.args.self.now c.loop-i.i (omega (arith, cuts-length _ _ _ c.self.invariant c.self.view_is)))
 
-pub returns : goal.returns
-returns c =
+pub returns-clause-names : goal.returns-clause-names
+returns-clause-names c = IsCut-names _ _ _ c.self.invariant c.self.view_is
+
+pub returns-clause-length : goal.returns-clause-length
+returns-clause-length c =
+    let all = c.loop-i.invariant ∙ ap key_of (take_all c.loop-i.i c.args.self.now (omega (arith, cuts-length _ _ _ c.self.invariant c.self.view_is))) in
+    omega (arith, ap length all, length-key_of c.args.self.now, IsCut-length _ _ _ c.self.invariant c.self.view_is)
+
+pub returns-clause-key : goal.returns-clause-key
+returns-clause-key c =
     c.loop-i.invariant ∙ ap key_of (take_all c.loop-i.i c.args.self.now (omega (arith, cuts-length _ _ _ c.self.invariant c.self.view_is)))

@@ -1,0 +1,4 @@
+pub mod KeyLemmas
+pub mod FileLemmas
+pub mod ActLemmas
+pub mod TreeLemmas
