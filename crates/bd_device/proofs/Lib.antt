@@ -2,3 +2,4 @@ pub mod Crash
 pub mod Images
 pub mod Left
 pub mod Moments
+pub mod Refusals

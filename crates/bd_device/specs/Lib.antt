@@ -1,5 +1,6 @@
 pub mod Blocks
 pub mod Calls
 pub mod Crash
+pub mod Fuse
 pub mod Memory
 pub mod Moments

@@ -1,4 +1,4 @@
-ghost use Rattle.std.specs.Prelude.{◌≡◌, ◌<◌, ℕ, List, Option, Some, IfSome, IfNone, is_some, [], ◌∷◌, OnOk, OnErr, slice_get, ◌≤◌, ◌↔◌};
+ghost use Rattle.std.specs.Prelude.{◌≡◌, ◌<◌, ℕ, List, Option, Some, IfSome, IfNone, is_some, [], ◌∷◌, OnOk, OnErr, slice_get, ◌≤◌, ◌↔◌, Bool, is_ok};
 ghost use Rattle.bd_io.specs.Cause.{HasCause, IsCounted};
 ghost use Rattle.bd_device.specs.Blocks.{Image, HasBlocks, with_block, ChangesOnly};
 ghost use Rattle.bd_device.specs.Calls.{write_faults_after};
@@ -38,6 +38,10 @@ pub trait Device {
     /// itself.
     ghost loans: { Self → List ℕ } = { λ _. [] };
 
+    /// What else a read, a write, a barrier or an attach of this device does, from before it to
+    /// after it, and whether it was Ok. In general nothing is said.
+    ghost also: { Self → Self → Bool → Type 0 } = { λ _ _ _. Unit {0} };
+
     /// How many blocks it has. Only an attach changes it.
     fn blocks(&self) -> u64
         ensures count { result ≡ block_count self.now }
@@ -61,7 +65,8 @@ pub trait Device {
         ensures time { Elapses (call_count self.old) (call_count self.new)
             (left_since self.old) (left_since self.new) Nothing }
         ensures same_name { (name : List ℕ) → is_named self.old name → is_named self.new name }
-        ensures same_loans { loans self.new ≡ loans self.old };
+        ensures same_loans { loans self.new ≡ loans self.old }
+        ensures also { also self.old self.new (is_ok result) };
 
     /// Writes block `b`. `Failed` comes as of `read`; block `b` then holds any bytes, and the
     /// others stay. Until a barrier succeeds a crash may leave any bytes in block `b`, also after
@@ -81,7 +86,8 @@ pub trait Device {
             (left_since self.old) (left_since self.new)
             (TornAt b (left_since self.old (call_count self.old))) }
         ensures same_name { (name : List ℕ) → is_named self.old name → is_named self.new name }
-        ensures same_loans { loans self.new ≡ loans self.old };
+        ensures same_loans { loans self.new ≡ loans self.old }
+        ensures also { also self.old self.new (is_ok result) };
 
     /// Waits until all that was written is kept: then a crash leaves what reads give. `Failed`
     /// comes as of `read`, and then a crash may leave what it might have left before.
@@ -97,7 +103,8 @@ pub trait Device {
         ensures durable { OnOk result (0 < block_count self.old
             → IsOnly (contents self.new) (left_since self.new (call_count self.new))) }
         ensures same_name { (name : List ℕ) → is_named self.old name → is_named self.new name }
-        ensures same_loans { loans self.new ≡ loans self.old };
+        ensures same_loans { loans self.new ≡ loans self.old }
+        ensures also { also self.old self.new (is_ok result) };
 
     /// How often it has failed.
     fn faults(&self) -> u64
@@ -150,7 +157,8 @@ pub trait Attach: Device {
         ensures cause { HasCause (Self.fault_count self.old) (Self.fault_count self.new) result }
         ensures write_faults { Self.write_fault_count self.new ≡ Self.write_fault_count self.old }
         ensures calls { IsCounted (Self.call_count self.old) (Self.call_count self.new) result }
-        ensures same_loans { Self.loans self.new ≡ Self.loans self.old };
+        ensures same_loans { Self.loans self.new ≡ Self.loans self.old }
+        ensures also { Self.also self.old self.new (is_ok result) };
 
     /// What it shows for the name of what is attached is what reads give.
     ghost shows_named: { (d : Self) (name : List ℕ) → Self.is_named d name
@@ -180,6 +188,8 @@ impl<D: Device> Device for &mut D {
     ghost is_named = { λ d name. D.is_named d.now name };
 
     ghost loans = { λ d. d.ghost_name ∷ D.loans d.now };
+
+    ghost also = { λ d e. D.also d.now e.now };
 
     fn blocks(&self) -> u64 {
         Device::blocks(&**self)

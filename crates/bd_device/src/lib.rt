@@ -1,14 +1,17 @@
-//! A device of blocks of 4,096 bytes: what a read gives, its counts, and one in memory.
-//! Layers above use the contracts of `Device` and `Attach`: contents where they are known, and a
-//! cause for each fault.
+//! A device of blocks of 4,096 bytes: what a read gives, what a crash may leave, its counts, one in
+//! memory that can lose power, and one that refuses all calls but the first over another.
+//! Layers above use the contracts of `Device` and `Attach`: contents and crash images where they are
+//! known, and a cause for each fault.
 #![tactic(auto)]
 
 mod device;
+mod fuse_device;
 mod mem_device;
 mod torn;
 mod write_record;
 
 pub use device::{Attach, BLOCK_SIZE, Device};
+pub use fuse_device::FuseDevice;
 pub use mem_device::MemDevice;
 pub use torn::Torn;
 pub use write_record::WriteRecord;

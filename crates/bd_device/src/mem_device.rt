@@ -16,8 +16,8 @@ use std::marker::Model;
 /// leave; it shows its one image for every name, and takes no memory after it is made. It fails at
 /// the listed calls, at a count of calls that stands at its last value, at an attach that asks for
 /// more blocks than it was made with and at a write past its number of writes, and nowhere else. A
-/// failed write changes no block; until a barrier succeeds a crash may leave any bytes there, unless
-/// it failed without a record.
+/// failed write changes no block; until a barrier succeeds a crash may leave any bytes there, but
+/// not where it failed without a record.
 #[derive(Drop)]
 pub struct MemDevice {
     blocks: Vec<[u8; BLOCK_SIZE]>,
