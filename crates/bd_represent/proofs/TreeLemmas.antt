@@ -40,6 +40,7 @@ Represents-insert old new t path e r beside here bytes only =
         let at_path : new (record_key path) ≡ option_map record_value (get (insert t path e) path) = here ∙ sym (ap (option_map record_value) (get-insert-at t path e)) in
         subst (λ (p : List (List ℕ)). new (record_key p) ≡ option_map record_value (get (insert t path e) p)) (sym same) at_path
     records q hq (inr other) = beside.records q hq other ∙ r.records q hq ∙ sym (ap (option_map record_value) (get-insert-other t path e q other))
+
     files : (q : List (List ℕ)) → AreNames q → (q ≡ path) ⊎ (q ≢ path) → HasBytes new q (file_bytes (get (insert t path e) q))
     files q hq (inl same) =
         let at_path : HasBytes new path (file_bytes (get (insert t path e) path)) = subst (λ (o : Option Entry). HasBytes new path (file_bytes o)) (sym (get-insert-at t path e)) bytes in

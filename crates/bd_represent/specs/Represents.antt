@@ -39,7 +39,7 @@ IsBlockOf file i block = IsBlock block × (block_limit * i + length block ≤ le
 pub record HasBytes (at : At) (path : List (List ℕ)) (file : List ℕ) : Type 0 where
   pub blocks : (i : ℕ) → i < 2 ^ 32 → IfSome (at (block_key path i)) (IsBlockOf file i)
   pub bytes : (i j : ℕ) → i < 2 ^ 32 → j < block_limit
-    → slice_index file (block_limit * i + j) ≡ slice_index (stored at path i) j
+      → slice_index file (block_limit * i + j) ≡ slice_index (stored at path i) j
 
 -- there are no keys but those of records and blocks
 abbrev pub HasOnlyEntries : At → Type 0
