@@ -1,5 +1,6 @@
 ghost use Rattle.std.specs.Prelude.{◌≡◌, ◌≢◌, ◌≤◌, ◌+◌, ℕ, List, Some, length, IfOk, OnOk};
 ghost use Rattle.std.specs.Option.{option_map};
+ghost use Rattle.bd_keys.specs.Keys.{IsKey};
 ghost use Rattle.bd_limits.specs.Limits.{key_limit, block_limit};
 
 use bd_keys::{Bytes, starts};
@@ -122,8 +123,10 @@ fn put_and_get<M: KeyMap>(
     requires some { 1 ≤ length value.now }
     requires value { length value.now ≤ block_limit }
     requires room { 16 + length key.now + length value.now ≤ M.room_of map.old }
-    ensures got { M.is_known map.old → IfOk result (λ found. option_map (λ value. value.items) found ≡ Some value.now) }
-    ensures others { M.is_known map.old → OnOk result ((k : List ℕ) → k ≢ key.now → M.has map.new k ≡ M.has map.old k) }
+    ensures got { M.is_known map.old → IfOk result (λ found.
+        option_map (λ value. value.items) found ≡ Some value.now) }
+    ensures others { M.is_known map.old → OnOk result
+        ((k : List ℕ) → IsKey k → k ≢ key.now → M.has map.new k ≡ M.has map.old k) }
     ensures known { M.is_known map.old → M.is_known map.new }
 {
     let put = Message::Put {
