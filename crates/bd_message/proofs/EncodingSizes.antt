@@ -17,7 +17,7 @@ use Rattle.bd_message.specs.declared.message.Message.TheVariants.{Put, Del, Patc
 pub apart : {A : Type 0} (a b : ℕ) (xs ys : List ℕ) → a ≢ b → a ∷ xs ≡ b ∷ ys → A
 apart a b xs ys h e = absurd (h (ap (λ l. get_or l 0 0) e))
 
--- what is a message has a encoding
+-- what is a message has an encoding
 pub message_fits : (m : Message) → IsMessage m → FitsMessage m
 message_fits (Put key value) h = (omega arith, omega arith)
 message_fits (Del key) h = omega arith
@@ -121,32 +121,32 @@ no_bytes (Patch key off bytes) rest fits is = nil_apart 3 _ is
 no_bytes (Cut prefix from) rest fits is = nil_apart 4 _ is
 no_bytes (Goto prefix source child) rest fits is = nil_apart 5 _ is
 
--- behind a first byte
-pub tagged : (left behind : List ℕ) (tag n : ℕ) → left ≡ (tag ∷ []) ++ behind → tag ≡ n → BeginsNone FitsMessage message_bytes (n ∷ behind) → BeginsNone FitsMessage message_bytes left
-tagged left behind tag n read is none m rest fits spelt = none m rest fits (ap (λ b. b ∷ behind) (sym is) ∙ sym read ∙ spelt)
+-- after a first byte
+pub tagged : (left after : List ℕ) (tag n : ℕ) → left ≡ (tag ∷ []) ++ after → tag ≡ n → BeginsNone FitsMessage message_bytes (n ∷ after) → BeginsNone FitsMessage message_bytes left
+tagged left after tag n read is none m rest fits encoded = none m rest fits (ap (λ b. b ∷ after) (sym is) ∙ sym read ∙ encoded)
 
 -- where a message stands that isn't allowed, no other does
-pub no_allowed : (left behind : List ℕ) (m : Message) → FitsMessage m → left ≡ message_bytes m ++ behind → ¬ IsMessage m → BeginsNone IsMessage message_bytes left
-no_allowed left behind m fits read not n rest is spelt =
-    not (subst IsMessage (sym (IsPrefixFree-message m n behind rest fits (message_fits n is) (sym read ∙ spelt)).0) is)
+pub no_allowed : (left after : List ℕ) (m : Message) → FitsMessage m → left ≡ message_bytes m ++ after → ¬ IsMessage m → BeginsNone IsMessage message_bytes left
+no_allowed left after m fits read not n rest is encoded =
+    not (subst IsMessage (sym (IsPrefixFree-message m n after rest fits (message_fits n is) (sym read ∙ encoded)).0) is)
 
 pub none_allowed : (left : List ℕ) → BeginsNone FitsMessage message_bytes left → BeginsNone IsMessage message_bytes left
 none_allowed left none m rest is = none m rest (message_fits m is)
 
 -- what was found isn't allowed, or nothing was found
 pub encoded_other : (old at new : Unread) (found : Option Message) (m : Message) → at ≡ old → IsEncodedAs at new found → found ≡ Some m → ¬ IsMessage m → BeginsNone IsMessage message_bytes old.left
-encoded_other old at new found m same spelt is not =
-    let here : IsEncodedAs old new (Some m) = subst (IsEncodedAs old new) is (subst (λ (u : Unread). IsEncodedAs u new found) same spelt) in
+encoded_other old at new found m same encoded is not =
+    let here : IsEncodedAs old new (Some m) = subst (IsEncodedAs old new) is (subst (λ (u : Unread). IsEncodedAs u new found) same encoded) in
     no_allowed old.left new.left m here.0 here.1.front not
 
 pub encoded_none : (old at new : Unread) (found : Option Message) → at ≡ old → IsEncodedAs at new found → found ≡ None → BeginsNone IsMessage message_bytes old.left
-encoded_none old at new found same spelt is =
-    none_allowed old.left (subst (IsEncodedAs old new) is (subst (λ (u : Unread). IsEncodedAs u new found) same spelt))
+encoded_none old at new found same encoded is =
+    none_allowed old.left (subst (IsEncodedAs old new) is (subst (λ (u : Unread). IsEncodedAs u new found) same encoded))
 
 pub message_alone : IsPrefixFree IsMessage message_bytes
 message_alone m n x y p q e = IsPrefixFree-message m n x y (message_fits m p) (message_fits n q) e
 
--- a encoding is never longer than the message's size
+-- an encoding is never longer than the message's size
 pub encoding_within : (m : Message) → IsMessage m → length (message_bytes m) ≤ size m
 encoding_within (Put key value) h = simp (length-append, length-text16) (omega arith)
 encoding_within (Del key) h = simp length-text16 (omega arith)

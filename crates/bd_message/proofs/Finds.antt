@@ -39,10 +39,10 @@ pub same_key-refl : (k : List ℕ) → same_key k k ≡ true
 same_key-refl [] = refl
 same_key-refl (b ∷ k) = rw ((unsigned_Decides b b).1 refl) (same_key-refl k)
 
--- behind the same bytes the rest decides
-same_key-behind : (p k l : List ℕ) → same_key (p ++ k) (p ++ l) ≡ same_key k l
-same_key-behind [] k l = refl
-same_key-behind (b ∷ p) k l = rw ((unsigned_Decides b b).1 refl) (same_key-behind p k l)
+-- after the same bytes the rest decides
+same_key-after : (p k l : List ℕ) → same_key (p ++ k) (p ++ l) ≡ same_key k l
+same_key-after [] k l = refl
+same_key-after (b ∷ p) k l = rw ((unsigned_Decides b b).1 refl) (same_key-after p k l)
 
 -- a key that begins with a prefix is it and the rest
 pub begins-is : (k p : List ℕ) → begins k p ≡ true → k ≡ p ++ rest p k
@@ -87,7 +87,7 @@ find-put key v k es =
     ∙ ap (λ o. cond (same_key k key) (Some v) o) (find-without p k es)
     ∙ put_cases (same_key k key) (Some v) (found k es)
 
--- what is found in two lists, one behind the other
+-- what is found in two lists, one after the other
 pub find-both : (k : List ℕ) (es fs : List Entry) → found k (es ++ fs) ≡ option_or (found k es) (found k fs)
 find-both k [] fs = refl
 find-both k (e ∷ es) fs =
@@ -113,8 +113,8 @@ moved_tie : (s d k : List ℕ) (e : Entry) → begins e.0 s ≡ true → begins 
 moved_tie s d k e inside at =
     ties_same k (d ++ rest s e.0)
     ∙ ap (λ l. same_key l (d ++ rest s e.0)) (begins-is k d at)
-    ∙ same_key-behind d (rest d k) (rest s e.0)
-    ∙ sym (same_key-behind s (rest d k) (rest s e.0))
+    ∙ same_key-after d (rest d k) (rest s e.0)
+    ∙ sym (same_key-after s (rest d k) (rest s e.0))
     ∙ ap (same_key (s ++ rest d k)) (sym (begins-is e.0 s inside))
     ∙ sym (ties_same (s ++ rest d k) e.0)
 
@@ -168,7 +168,7 @@ find_here es i item at key lt is key_is same =
     ∙ ap (λ b. cond b (Some item.1) (found key (drop (i + 1) es)))
     (ties_same key item.0 ∙ ap (λ l. same_key l item.0) (sym (same_key-true at key same) ∙ key_is) ∙ same_key-refl item.0)
 
--- else it is found behind it
+-- else it is found after it
 pub find_past : (es : List Entry) (i : ℕ) (item : Entry) (at key : List ℕ) → i < length es → item ≡ get_or es i item → at ≡ item.0 → same_key at key ≡ false → found key (drop (i + 1) es) ≡ found key (drop i es)
 find_past es i item at key lt is key_is other =
     sym (ap (found key) (drop_more es i item lt ∙ ap (λ (x : Entry). x ∷ drop (i + 1) es) (sym is))

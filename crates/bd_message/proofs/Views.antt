@@ -2,6 +2,8 @@
 use Rattle.std.proofs.Common.{◌≡◌, ℕ, List, sym, ap, subst, ◌∙◌, Option}
 use Rattle.std.specs.FinMap.{FinMap, get, from_entries, get-from_entries}
 use Rattle.std.proofs.lemmas.Cmp.{nat_list_cmp_total}
+use Rattle.std.specs.List.{AllZip}
+use Rattle.std.proofs.lemmas.List.Elements.{same_from_all_zip}
 use Rattle.bd_keys.specs.Keys.{key_cmp}
 use Rattle.bd_message.specs.KeyMaps.{At, IsNext}
 use Rattle.bd_message.proofs.Finds.{Entry, found}
@@ -25,3 +27,7 @@ next_seen es shown m from within given next same is given_is least =
     let at_of : List Entry → At = λ xs k. found k xs in
     subst (λ (at : At). IsNext at from within given) (ap at_of same ∙ seen_all es m is)
     (subst (λ (r : Option (List ℕ)). IsNext (λ k. found k shown) from within r) (sym given_is) least)
+
+-- clones of entries are the entries
+pub cloned_entries : (es clones : List Entry) → AllZip (λ (x y : Entry). (y.0 ≡ x.0) × (y.1 ≡ x.1)) es clones → clones ≡ es
+cloned_entries es clones h = same_from_all_zip (λ (x y : Entry). (y.0 ≡ x.0) × (y.1 ≡ x.1)) es clones h (λ x y same i. (same.0 i, same.1 i))

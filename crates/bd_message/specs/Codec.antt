@@ -1,4 +1,4 @@
--- How messages are spelt.
+-- How messages are encoded.
 use Rattle.std.specs.Prelude.{◌≡◌, ℕ, List, ◌∷◌, ◌++◌, Option, None, Some}
 use Rattle.std.specs.Int.{w16, w64}
 use Rattle.bd_wire.specs.Numbers.{be, FitsWidth}
@@ -59,6 +59,7 @@ IsEncodedAs old new (Some m) = FitsMessage m × Reads old new (message_bytes m)
 IsEncodedAs old new None = BeginsNone FitsMessage message_bytes old.left
 
 -- a value of parts was read off the front, or none stands there
-abbrev pub IsPartAs : {A : Type 0} → (A → Type 0) → (A → List ℕ) → Unread → Unread → Option A → Type 0
+abbrev pub IsPartAs : {A : Type 0} → (A → Type 0) → (A → List ℕ) → Unread → Unread → Option A
+    → Type 0
 IsPartAs fits encoding old new (Some v) = fits v × Reads old new (encoding v)
 IsPartAs fits encoding old new None = BeginsNone fits encoding old.left

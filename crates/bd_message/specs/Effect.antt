@@ -25,19 +25,25 @@ rest prefix k = drop (length prefix) k
 abbrev pub is_cut : List ℕ → List ℕ → List ℕ → Bool
 is_cut prefix from k = begins k prefix && not (is_lt (key_cmp (rest prefix k) from))
 
--- what stands at a key after a message, where `old` stood before it; `below` is what each node has at a key
-abbrev pub act : (ℕ → List ℕ → Option (List ℕ)) → Message → List ℕ → Option (List ℕ) → Option (List ℕ)
+-- what each node has at a key
+abbrev pub NodesAt : Type 0
+NodesAt = ℕ → List ℕ → Option (List ℕ)
+
+-- what stands at a key after a message, where `old` stood before it; `below` is what nodes have
+abbrev pub act : NodesAt → Message → List ℕ → Option (List ℕ) → Option (List ℕ)
 act below (Put key value) k old = if same_key k key then Some value else old
 act below (Del key) k old = if same_key k key then None else old
-act below (Patch key off bytes) k old = if same_key k key then Some (overwritten (unwrap_or old []) off bytes) else old
+act below (Patch key off bytes) k old =
+    if same_key k key then Some (overwritten (unwrap_or old []) off bytes) else old
 act below (Cut prefix from) k old = if is_cut prefix from k then None else old
-act below (Goto prefix source child) k old = if begins k prefix then below child (source ++ rest prefix k) else old
+act below (Goto prefix source child) k old =
+    if begins k prefix then below child (source ++ rest prefix k) else old
 
 -- what stands there after several messages, in order
-abbrev pub acts : (ℕ → List ℕ → Option (List ℕ)) → List Message → List ℕ → Option (List ℕ) → Option (List ℕ)
+abbrev pub acts : NodesAt → List Message → List ℕ → Option (List ℕ) → Option (List ℕ)
 acts below [] k old = old
 acts below (m ∷ ms) k old = acts below ms k (act below m k old)
 
 -- no node has anything, where no message names one
-abbrev pub no_nodes : ℕ → List ℕ → Option (List ℕ)
+abbrev pub no_nodes : NodesAt
 no_nodes child k = None

@@ -2,13 +2,14 @@
 use Rattle.std.specs.Prelude.{◌≡◌, ℕ, ◌≤◌, Bool, not, false, ◌&&◌, if◌then◌else◌, List, ◌++◌, length, Option, None, Some, IsSome, Result, IfErr, All}
 use Rattle.std.specs.List.{sum_by}
 use Rattle.bd_io.specs.Cause.{Rose}
-use Rattle.bd_keys.specs.Keys.{Begins, IsAtLeast}
+use Rattle.bd_keys.specs.Keys.{Begins, IsAtLeast, IsKey}
+use Rattle.bd_limits.specs.Limits.{key_limit}
 use Rattle.bd_message.specs.declared.fault.Counter.{Counter}
 use Rattle.bd_message.specs.declared.fault.MapFault.{MapFault}
 use Rattle.bd_message.specs.declared.fault.MapFault.TheVariants.{DeviceFault, Damaged, Worn, NoMemory}
 use Rattle.bd_message.specs.declared.message.Message.{Message}
 use Rattle.bd_message.specs.Messages.{IsMessage, IsPlain, size}
-use Rattle.bd_message.specs.Effect.{begins, rest}
+use Rattle.bd_message.specs.Effect.{begins, rest, acts, no_nodes}
 
 -- what stands at each key
 abbrev pub At : Type 0
@@ -24,7 +25,8 @@ IsFound at from within k = IsSome (at k) × IsAtLeast k from × Begins k within
 
 -- the least of these keys, or none where there is none
 abbrev pub IsNext : At → List ℕ → List ℕ → Option (List ℕ) → Type 0
-IsNext at from within (Some k) = IsFound at from within k × ((l : List ℕ) → IsFound at from within l → IsAtLeast l k)
+IsNext at from within (Some k) =
+    IsFound at from within k × ((l : List ℕ) → IsFound at from within l → IsAtLeast l k)
 IsNext at from within None = (l : List ℕ) → ¬ IsFound at from within l
 
 -- at most four messages that name no node, for which there is room
@@ -34,18 +36,28 @@ pub record IsBatch (list : List Message) (room : ℕ) : Type 0 where
   pub plain : All IsPlain list
   pub fits : sum_by size list ≤ room
 
--- what stands at a key after a graft: at each `d x` what stood at `s x`, and then, without `keep`, nothing at each `s x`
+-- what stands at a key after messages, the first one first
+abbrev pub IsApplied : At → List Message → At → Type 0
+IsApplied old list new = (k : List ℕ) → IsKey k → new k ≡ acts no_nodes list k (old k)
+
+-- what stands at a key after a graft: at each `d x` what stood at `s x`, and then, without `keep`,
+-- nothing at each `s x`
 abbrev pub grafted : At → List ℕ → List ℕ → Bool → At
-grafted at s d keep k = if not keep && begins k s then None else (if begins k d then at (s ++ rest d k) else at k)
+grafted at s d keep k =
+    if not keep && begins k s then None else (if begins k d then at (s ++ rest d k) else at k)
+
+abbrev pub IsGrafted : At → List ℕ → List ℕ → Bool → At → Type 0
+IsGrafted old s d keep new = (k : List ℕ) → IsKey k → new k ≡ grafted old s d keep k
 
 -- prefixes that can be stored, for which there is room; what is moved isn't moved into itself
 pub record CanGraft (s d : List ℕ) (keep : Bool) (room : ℕ) : Type 0 where
-  pub source : length s ≤ 518
-  pub target : length d ≤ 518
+  pub source : length s ≤ key_limit
+  pub target : length d ≤ key_limit
   pub outside : keep ≡ false → ¬ Begins d s
   pub fits : 1600 ≤ room
 
--- a fault of the device is returned only where its count rose, damage only of a bad block, a worn counter only where it is
+-- a fault of the device is returned only where its count rose, damage only of a bad block, a worn
+-- counter only where it is
 abbrev pub IsCause : ℕ → ℕ → (ℕ → Type 0) → (Counter → Type 0) → MapFault → Type 0
 IsCause before now bad worn DeviceFault = Rose before now
 IsCause before now bad worn (Damaged block) = bad block
@@ -57,6 +69,7 @@ abbrev pub NeverWorn : Counter → Type 0
 NeverWorn _ = ⊥
 
 -- the count of faults never falls, and a call fails only for a cause
-pub record HasMapCause {T : Type 0} (before now : ℕ) (bad : ℕ → Type 0) (worn : Counter → Type 0) (result : Result T MapFault) : Type 0 where
+pub record HasMapCause {T : Type 0} (before now : ℕ) (bad : ℕ → Type 0) (worn : Counter → Type 0)
+    (result : Result T MapFault) : Type 0 where
   pub later : before ≤ now
   pub failed : IfErr result (IsCause before now bad worn)

@@ -1,3 +1,5 @@
+//! Messages as bytes.
+
 ghost use Rattle.std.specs.Prelude.{◌≡◌, ◌≤◌, length, IfOk, OnErr};
 ghost use Rattle.std.specs.Option.{option_map};
 ghost use Rattle.bd_wire.specs.Text.{text16, FitsText16};
@@ -63,14 +65,14 @@ impl Message {
         }
     }
 
-    /// Reads the message at the front of what is left. It is `None` exactly where none is spelt there,
-    /// and the cursor then stays.
+    /// Reads the message at the front of what is left. It is `None` exactly where none is encoded
+    /// there, and the cursor then stays.
     pub fn read(alloc: Global, cursor: &mut Cursor) -> Result<Option<Message>, AllocError>
         ensures read { IfOk result (λ found. IsReadAs cursor.old cursor.new found) }
         ensures err { OnErr result (cursor.new ≡ cursor.old) }
     {
         let mut ahead = cursor.ahead();
-        match spelt(alloc, &mut ahead)? {
+        match encoded(alloc, &mut ahead)? {
             Some(message) if message.is_message() => {
                 *cursor = ahead;
                 Ok(Some(message))
@@ -81,7 +83,7 @@ impl Message {
 }
 
 // Reads a message off the front, whatever the lengths of its parts.
-fn spelt(alloc: Global, ahead: &mut Cursor) -> Result<Option<Message>, AllocError>
+fn encoded(alloc: Global, ahead: &mut Cursor) -> Result<Option<Message>, AllocError>
     ensures { IfOk result (λ found. IsEncodedAs ahead.old ahead.new found) }
 {
     let Ok(tag) = ahead.u8() else {
@@ -141,7 +143,8 @@ fn texts(alloc: Global, ahead: &mut Cursor) -> Result<Option<(Bytes, Bytes)>, Al
 
 // Reads a text, an offset and a text.
 fn part(alloc: Global, ahead: &mut Cursor) -> Result<Option<(Bytes, u16, Bytes)>, AllocError>
-    ensures { IfOk result (λ found. IsPartAs FitsPart encode_part ahead.old ahead.new (option_map (λ p. ((p.0, p.1), p.2)) found)) }
+    ensures { IfOk result (λ found. IsPartAs FitsPart encode_part ahead.old ahead.new
+        (option_map (λ p. ((p.0, p.1), p.2)) found)) }
 {
     let Some(first) = text(alloc, ahead)? else {
         return Ok(None);
@@ -160,7 +163,8 @@ fn texts_and_child(
     alloc: Global,
     ahead: &mut Cursor,
 ) -> Result<Option<(Bytes, Bytes, u64)>, AllocError>
-    ensures { IfOk result (λ found. IsPartAs FitsGoto encode_goto ahead.old ahead.new (option_map (λ p. ((p.0, p.1), p.2)) found)) }
+    ensures { IfOk result (λ found. IsPartAs FitsGoto encode_goto ahead.old ahead.new
+        (option_map (λ p. ((p.0, p.1), p.2)) found)) }
 {
     let Some((first, second)) = texts(alloc, ahead)? else {
         return Ok(None);

@@ -3,14 +3,14 @@
 ghost use Rattle.std.specs.Prelude.{◌≡◌, ◌≤◌, ◌+◌, ◌++◌, ℕ, List, not, length, Some, All, IfOk, OnOk, IsTrue, ◌↔◌, [], ◌∷◌};
 ghost use Rattle.std.specs.Option.{option_copied, unwrap_or};
 ghost use Rattle.std.specs.List.{filter, filter_map};
-ghost use Rattle.std.specs.FinMap as map;
-ghost use Rattle.bd_keys.specs.Keys.{key_cmp, IsAtLeast, Begins};
-ghost use Rattle.bd_message.specs.Effect.{act, acts, no_nodes, begins, is_cut, same_key};
+ghost use Rattle.bd_keys.specs.Keys.{IsAtLeast, Begins};
+ghost use Rattle.bd_limits.specs.Limits.{block_limit};
+ghost use Rattle.bd_message.specs.Effect.{begins, is_cut};
 ghost use Rattle.bd_keys.specs.Edits.{overwritten};
 ghost use Rattle.bd_message.specs.declared.message.Message.TheVariants as message;
 ghost use Rattle.bd_message.specs.Messages.{IsMessage, IsPlain};
 ghost use Rattle.bd_message.specs.KeyMaps.{IsNext, grafted};
-ghost use Rattle.bd_message.specs.Entries.{moved_entry, IsLesser};
+ghost use Rattle.bd_message.specs.Entries.{entry_at, others, moved_entry, IsActed, IsLesser};
 
 use crate::Message;
 use bd_keys::{Bytes, overwritten, starts, translate};
@@ -21,7 +21,7 @@ pub type Entry = (Bytes, Bytes);
 
 /// What stands at a key.
 pub fn find<'a>(entries: &'a [Entry], key: &[u8]) -> Option<&'a [u8]>
-    ensures { option_copied result ≡ map.find key_cmp key.now entries.now }
+    ensures { option_copied result ≡ entry_at entries.now key.now }
 {
     for (at, value) in entries {
         if at.as_slice() == key {
@@ -31,43 +31,35 @@ pub fn find<'a>(entries: &'a [Entry], key: &[u8]) -> Option<&'a [u8]>
     None
 }
 
-/// The same entries, once more.
-pub fn copy(alloc: Global, entries: &[Entry]) -> Result<Vec<Entry>, AllocError>
-    ensures { IfOk result (λ copy. copy.items ≡ entries.now) }
-{
-    let mut copy = Vec::new(alloc);
-    for (key, value) in entries {
-        copy.push((key.copy(alloc)?, value.copy(alloc)?))?;
-    }
-    Ok(copy)
-}
-
 /// Drops what stands at a key.
 fn remove(entries: &mut Vec<Entry>, key: &[u8])
-    ensures { entries.new.items ≡ filter (λ e. not (same_key e.0 key.now)) entries.old.items }
+    ensures { entries.new.items ≡ others key.now entries.old.items }
 {
     entries.retain(|(at, _)| at.as_slice() != key);
 }
 
 /// Puts a value at a key, in place of what stands there.
 fn put(alloc: Global, entries: &mut Vec<Entry>, key: &Bytes, value: Bytes) -> Result<(), AllocError>
-    ensures { OnOk result (entries.new.items ≡ (filter (λ e. not (same_key e.0 key.now)) entries.old.items ++ (key.now, value) ∷ [])) }
+    ensures { OnOk result
+        (entries.new.items ≡ others key.now entries.old.items ++ (key.now, value) ∷ []) }
 {
-    let key = key.copy(alloc)?;
+    let key = key.clone()?;
     remove(entries, key.as_slice());
     entries.push((key, value))?;
     Ok(())
 }
 
-/// The bytes extended with zeros to an offset, and overwritten from there on, where nothing counts as no bytes.
+/// The bytes extended with zeros to an offset, and overwritten from there on, where nothing counts
+/// as no bytes.
 fn patched(
     alloc: Global,
     old: Option<&[u8]>,
     off: usize,
     bytes: &[u8],
 ) -> Result<Vec<u8>, AllocError>
-    requires { off + length bytes.now ≤ 1024 }
-    ensures { IfOk result (λ new. new.items ≡ overwritten (unwrap_or (option_copied old.entry) []) off bytes.now) }
+    requires { off + length bytes.now ≤ block_limit }
+    ensures { IfOk result (λ new.
+        new.items ≡ overwritten (unwrap_or (option_copied old.entry) []) off bytes.now) }
 {
     match old {
         Some(old) => overwritten(alloc, old, off, bytes),
@@ -75,7 +67,7 @@ fn patched(
     }
 }
 
-/// Whether a key is the prefix and then `from` or what stands behind it.
+/// Whether a key is the prefix and then `from` or what stands after it.
 fn is_cut(prefix: &[u8], from: &[u8], key: &[u8]) -> bool
     ensures { result ≡ is_cut prefix.now from.now key.now }
 {
@@ -86,10 +78,10 @@ fn is_cut(prefix: &[u8], from: &[u8], key: &[u8]) -> bool
 fn act(alloc: Global, entries: &mut Vec<Entry>, message: &Message) -> Result<(), AllocError>
     requires message { IsMessage message.now }
     requires plain { IsPlain message.now }
-    ensures { OnOk result ((k : List ℕ) → map.find key_cmp k entries.new.items ≡ act no_nodes message.now k (map.find key_cmp k entries.old.items)) }
+    ensures { OnOk result (IsActed entries.old.items (message.now ∷ []) entries.new.items) }
 {
     match message {
-        Message::Put { key, value } => put(alloc, entries, key, value.copy(alloc)?)?,
+        Message::Put { key, value } => put(alloc, entries, key, value.clone()?)?,
         Message::Del { key } => remove(entries, key.as_slice()),
         Message::Patch { key, off, bytes } => patch(alloc, entries, key, *off as usize, bytes)?,
         Message::Cut { prefix, from } => cut(entries, prefix.as_slice(), from.as_slice()),
@@ -106,17 +98,18 @@ fn patch(
     off: usize,
     bytes: &Bytes,
 ) -> Result<(), AllocError>
-    requires { off + length bytes.now ≤ 1024 }
-    ensures { OnOk result ((k : List ℕ) → map.find key_cmp k entries.new.items
-        ≡ act no_nodes (message.Patch key.now off bytes.now) k (map.find key_cmp k entries.old.items)) }
+    requires { off + length bytes.now ≤ block_limit }
+    ensures { OnOk result (IsActed entries.old.items
+        (message.Patch key.now off bytes.now ∷ []) entries.new.items) }
 {
     let value = patched(alloc, find(entries, key.as_slice()), off, bytes.as_slice())?;
     put(alloc, entries, key, Bytes::from_vec(value))
 }
 
-/// Drops what stands at the keys that are the prefix and then `from` or what stands behind it.
+/// Drops what stands at the keys that are the prefix and then `from` or what stands after it.
 fn cut(entries: &mut Vec<Entry>, prefix: &[u8], from: &[u8])
-    ensures { entries.new.items ≡ filter (λ e. not (is_cut prefix.now from.now e.0)) entries.old.items }
+    ensures { entries.new.items
+        ≡ filter (λ e. not (is_cut prefix.now from.now e.0)) entries.old.items }
 {
     entries.retain(|(key, _)| !is_cut(prefix, from, key.as_slice()));
 }
@@ -125,7 +118,7 @@ fn cut(entries: &mut Vec<Entry>, prefix: &[u8], from: &[u8])
 pub fn act_all(alloc: Global, entries: &mut Vec<Entry>, list: &[Message]) -> Result<(), AllocError>
     requires messages { All IsMessage list.now }
     requires plain { All IsPlain list.now }
-    ensures { OnOk result ((k : List ℕ) → map.find key_cmp k entries.new.items ≡ acts no_nodes list.now k (map.find key_cmp k entries.old.items)) }
+    ensures { OnOk result (IsActed entries.old.items list.now entries.new.items) }
 {
     for message in list {
         act(alloc, entries, message)?;
@@ -140,15 +133,16 @@ fn remove_under(entries: &mut Vec<Entry>, prefix: &[u8])
     entries.retain(|(key, _)| !key.as_slice().starts_with(prefix));
 }
 
-/// What stands at the keys that begin with `s`, at the same keys behind `d`.
+/// What stands at the keys that begin with `s`, at the same keys after `d`.
 fn moved(alloc: Global, entries: &[Entry], s: &[u8], d: &[u8]) -> Result<Vec<Entry>, AllocError>
-    ensures { IfOk result (λ moved. moved.items ≡ filter_map (moved_entry s.now d.now) entries.now) }
+    ensures { IfOk result (λ moved.
+        moved.items ≡ filter_map (moved_entry s.now d.now) entries.now) }
 {
     let mut moved = Vec::new(alloc);
     for (key, value) in entries {
         if key.as_slice().starts_with(s) {
             let key = translate(alloc, key.as_slice(), s.len(), d)?;
-            moved.push((Bytes::from_vec(key), value.copy(alloc)?))?;
+            moved.push((Bytes::from_vec(key), value.clone()?))?;
         }
     }
     Ok(moved)
@@ -162,9 +156,10 @@ pub fn grafted(
     d: &[u8],
     keep: bool,
 ) -> Result<Vec<Entry>, AllocError>
-    ensures { IfOk result (λ new. (k : List ℕ) → map.find key_cmp k new.items ≡ grafted (λ l. map.find key_cmp l entries.now) s.now d.now keep k) }
+    ensures { IfOk result (λ new. (k : List ℕ) →
+        entry_at new.items k ≡ grafted (entry_at entries.now) s.now d.now keep k) }
 {
-    let mut new = copy(alloc, entries)?;
+    let mut new = Vec::from_clones(alloc, entries)?;
     remove_under(&mut new, d);
     new.append(&mut moved(alloc, entries, s, d)?)?;
     if !keep {
@@ -173,14 +168,14 @@ pub fn grafted(
     Ok(new)
 }
 
-/// The least key from `from` on that begins with `within`.
+/// The least key that is at least `from` and begins with `within`.
 pub fn next<'a>(entries: &'a [Entry], from: &[u8], within: &[u8]) -> Option<&'a [u8]>
-    ensures { IsNext (λ k. map.find key_cmp k entries.now) from.now within.now (option_copied result) }
+    ensures { IsNext (entry_at entries.now) from.now within.now (option_copied result) }
 {
     let mut least = None;
     for (key, _) in entries {
         if is_asked(key.as_slice(), from, within) {
-            least = Some(sooner(least, key.as_slice()));
+            least = Some(lesser(least, key.as_slice()));
         }
     }
     least
@@ -194,7 +189,7 @@ fn is_asked(key: &[u8], from: &[u8], within: &[u8]) -> bool
 }
 
 /// The lesser key.
-fn sooner<'a>(least: Option<&'a [u8]>, key: &'a [u8]) -> &'a [u8]
+fn lesser<'a>(least: Option<&'a [u8]>, key: &'a [u8]) -> &'a [u8]
     ensures { IsLesser (option_copied least.entry) key.now result.now }
 {
     match least {

@@ -1,7 +1,9 @@
+//! Why a call of a key map did nothing.
+
 ghost use Rattle.std.specs.Prelude.{Some};
 ghost use Rattle.bd_message.specs.Counters.{counter_name};
 
-use std::alloc::AllocError;
+use std::alloc::{AllocError, AllocFailed};
 use std::fmt;
 
 /// A kept counter, which may have to rise past its last value.
@@ -48,6 +50,17 @@ pub enum MapFault {
     Worn(Counter),
     /// There is no memory.
     NoMemory,
+}
+
+impl<T: Drop> From<AllocFailed<T>> for MapFault {
+    ghost use Rattle.std.specs.Prelude.{◌≡◌};
+    ghost use Rattle.bd_message.specs.declared.fault.MapFault.TheVariants.{NoMemory};
+
+    ghost from_gives = { λ _ fault. fault ≡ NoMemory };
+
+    fn from(_error: AllocFailed<T>) -> MapFault {
+        MapFault::NoMemory
+    }
 }
 
 impl From<AllocError> for MapFault {

@@ -10,7 +10,7 @@ pub fn messages_are_prefix_free()
     ensures { IsPrefixFree IsMessage message_bytes }
 {}
 
-/// A encoding is never longer than the message's size.
+/// An encoding is never longer than the message's size.
 pub fn encodings_fit_sizes()
     ensures { (m : Message) → IsMessage m → length (message_bytes m) ≤ size m }
 {}

@@ -13,4 +13,4 @@ mod message;
 pub use fault::{Counter, MapFault};
 pub use list_map::ListMap;
 pub use map::KeyMap;
-pub use message::{MAX_KEY_LEN, MAX_VALUE_LEN, Message};
+pub use message::Message;

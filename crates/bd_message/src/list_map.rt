@@ -1,3 +1,5 @@
+//! A key map in memory.
+
 ghost use Rattle.std.specs.Prelude.{◌≡◌, IfOk};
 ghost use Rattle.std.specs.Option.{option_map, option_copied};
 ghost use Rattle.std.specs.FinMap.{empty};
@@ -10,8 +12,8 @@ use std::marker::Model;
 /// For how many bytes of messages a `ListMap` always has room.
 const ROOM: usize = 32_768;
 
-/// A key map in memory, seen as the map from its keys to their values. It is slow, and for small maps.
-/// It fails only for want of memory.
+/// A key map in memory, seen as the map from its keys to their values. It is slow, and for small
+/// maps. It fails only for want of memory.
 #[derive(Drop)]
 pub struct ListMap {
     alloc: Global,
@@ -58,6 +60,15 @@ impl KeyMap for ListMap {
 
     ghost worn = { λ _ _. ⊥ };
 
+    ghost use Rattle.std.specs.Prelude.{refl};
+    ghost use Rattle.std.proofs.Common.{◌∙◌};
+
+    ghost reads = { λ a b. b ≡ a };
+
+    ghost reads_none = { λ m. refl };
+
+    ghost reads_both = { λ a b c first second. second ∙ first };
+
     fn get(&mut self, key: &[u8]) -> Result<Option<Vec<u8>>, MapFault> {
         Ok(owned(self.alloc, entries::find(&self.entries, key))?)
     }
@@ -71,7 +82,7 @@ impl KeyMap for ListMap {
     }
 
     fn apply(&mut self, list: &[Message]) -> Result<(), MapFault> {
-        let mut entries = entries::copy(self.alloc, &self.entries)?;
+        let mut entries = self.entries.clone()?;
         entries::act_all(self.alloc, &mut entries, list)?;
         self.entries = entries;
         Ok(())
@@ -89,7 +100,8 @@ impl KeyMap for ListMap {
 
 // The bytes that were found, as the caller's own.
 fn owned(alloc: Global, found: Option<&[u8]>) -> Result<Option<Vec<u8>>, AllocError>
-    ensures { IfOk result (λ owned. option_map (λ bytes. bytes.items) owned ≡ option_copied found.entry) }
+    ensures { IfOk result (λ owned.
+        option_map (λ bytes. bytes.items) owned ≡ option_copied found.entry) }
 {
     match found {
         Some(bytes) => Ok(Some(Vec::from_slice(alloc, bytes)?)),

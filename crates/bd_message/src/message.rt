@@ -1,20 +1,17 @@
+//! Messages.
+
 ghost use Rattle.std.specs.Prelude.{◌≡◌, ◌↔◌, ◌≤◌, ◌+◌, IfOk, IsTrue};
+ghost use Rattle.bd_limits.specs.Limits.{key_limit, block_limit};
 ghost use Rattle.bd_message.specs.Messages.{IsMessage, size};
 
 use bd_keys::Bytes;
-use std::alloc::{AllocError, Global};
-
-/// The most bytes that a key, a prefix or a source has.
-pub const MAX_KEY_LEN: usize = 518;
-
-/// The most bytes that a value has.
-pub const MAX_VALUE_LEN: usize = 1024;
+use bd_limits::{MAX_BLOCK, MAX_KEY};
 
 // What each message counts beside its bytes.
 const BASE_SIZE: usize = 16;
 
 /// A change of a key map.
-#[derive(Debug, PartialEq, Eq, Drop)]
+#[derive(Clone, Debug, PartialEq, Eq, Drop)]
 pub enum Message {
     /// The key has the value.
     Put {
@@ -25,20 +22,20 @@ pub enum Message {
     Del {
         key: Bytes,
     },
-    /// The value at the key, empty where there is none, is extended with zeros to `off` and overwritten
-    /// from there on.
+    /// The value at the key, empty where there is none, is extended with zeros to `off` and
+    /// overwritten from there on.
     Patch {
         key: Bytes,
         off: u16,
         bytes: Bytes,
     },
-    /// Each key that is the prefix and then `from` or what stands behind it has nothing.
+    /// Each key that is the prefix and then `from` or what stands after it has nothing.
     Cut {
         prefix: Bytes,
         from: Bytes,
     },
-    /// Each key that begins with the prefix has what the node `child` has at the source and then what
-    /// follows the prefix.
+    /// Each key that begins with the prefix has what the node `child` has at the source and then
+    /// what follows the prefix.
     Goto {
         prefix: Bytes,
         source: Bytes,
@@ -47,9 +44,9 @@ pub enum Message {
 }
 
 impl Message {
-    /// Whether its parts are as long as they may be: a key, a prefix and a source at most 518 bytes, the
-    /// two parts of a `Cut` in sum, a value 1 to 1,024 and so what a patch leaves at least; a child is
-    /// not 0.
+    /// Whether its parts are as long as they may be: a key, a prefix and a source at most 518
+    /// bytes, the two parts of a `Cut` in sum, a value 1 to 1,024 and so what a patch leaves at
+    /// least; a child is not 0.
     pub fn is_message(&self) -> bool
         ensures { IsTrue result ↔ IsMessage self.now }
     {
@@ -60,7 +57,7 @@ impl Message {
                 is_key(key.len()) && is_part(*off as usize, bytes.len())
             }
             Message::Cut { prefix, from } => {
-                is_key(prefix.len()) && from.len() <= MAX_KEY_LEN - prefix.len()
+                is_key(prefix.len()) && from.len() <= MAX_KEY - prefix.len()
             }
             Message::Goto {
                 prefix,
@@ -85,58 +82,25 @@ impl Message {
             Message::Goto { prefix, source, .. } => BASE_SIZE + prefix.len() + source.len(),
         }
     }
-
-    /// A second message that is equal.
-    pub fn copy(&self, alloc: Global) -> Result<Message, AllocError>
-        ensures { IfOk result (λ copy. copy ≡ self.now) }
-    {
-        Ok(match self {
-            Message::Put { key, value } => Message::Put {
-                key: key.copy(alloc)?,
-                value: value.copy(alloc)?,
-            },
-            Message::Del { key } => Message::Del {
-                key: key.copy(alloc)?,
-            },
-            Message::Patch { key, off, bytes } => Message::Patch {
-                key: key.copy(alloc)?,
-                off: *off,
-                bytes: bytes.copy(alloc)?,
-            },
-            Message::Cut { prefix, from } => Message::Cut {
-                prefix: prefix.copy(alloc)?,
-                from: from.copy(alloc)?,
-            },
-            Message::Goto {
-                prefix,
-                source,
-                child,
-            } => Message::Goto {
-                prefix: prefix.copy(alloc)?,
-                source: source.copy(alloc)?,
-                child: *child,
-            },
-        })
-    }
 }
 
 // Whether a key may be so long.
 fn is_key(len: usize) -> bool
-    ensures { IsTrue result ↔ (len ≤ 518) }
+    ensures { IsTrue result ↔ (len ≤ key_limit) }
 {
-    len <= MAX_KEY_LEN
+    len <= MAX_KEY
 }
 
 // Whether a value may be so long.
 fn is_value(len: usize) -> bool
-    ensures { IsTrue result ↔ ((1 ≤ len) × (len ≤ 1024)) }
+    ensures { IsTrue result ↔ ((1 ≤ len) × (len ≤ block_limit)) }
 {
-    len >= 1 && len <= MAX_VALUE_LEN
+    len >= 1 && len <= MAX_BLOCK
 }
 
 // Whether a value may have so many bytes from an offset on.
 fn is_part(off: usize, len: usize) -> bool
-    ensures { IsTrue result ↔ ((1 ≤ len) × (off + len ≤ 1024)) }
+    ensures { IsTrue result ↔ ((1 ≤ len) × (off + len ≤ block_limit)) }
 {
-    is_value(len) && off <= MAX_VALUE_LEN - len
+    is_value(len) && off <= MAX_BLOCK - len
 }

@@ -1,4 +1,5 @@
-//! The values that stand in a key map: the records of directories and files, and the blocks of files.
+//! The values that stand in a key map: the records of directories and files, and the blocks of
+//! files.
 //! The layers above may use that each record has one encoding, and what a block may be.
 #![tactic(auto)]
 
@@ -6,15 +7,10 @@ ghost use Rattle.std.specs.Prelude.{◌↔◌, ◌≤◌, length, Some, IsTrue};
 ghost use Rattle.bd_wire.specs.Writing.{Puts, room};
 ghost use Rattle.bd_records.specs.Records.{IsRecord, IsBlock, IsReadAs, IsLenReadAs, record_bytes};
 
+use bd_limits::{MAX_BLOCK, MAX_FILE};
 use bd_wire::{Cursor, Out};
 
 pub mod laws;
-
-/// The most bytes that a file may have, 2^30.
-pub const MAX_FILE_LEN: u32 = 1 << 30;
-
-/// The most bytes that a block stores.
-pub const MAX_BLOCK_LEN: usize = 1024;
 
 // The first byte of a directory's record, `D`.
 const DIR_TAG: u8 = 0x44;
@@ -31,7 +27,7 @@ pub enum Record {
     File(u32),
 }
 
-/// The record that these bytes spell, all of them. It is `None` exactly where they spell none.
+/// The record that these bytes encode, all of them. It is `None` exactly where they encode none.
 pub fn read_record(bytes: &[u8]) -> Option<Record>
     ensures { IsReadAs bytes.now result }
 {
@@ -42,14 +38,14 @@ pub fn read_record(bytes: &[u8]) -> Option<Record>
     }
 }
 
-// The length of a file that these four bytes spell.
+// The length of a file that these four bytes encode.
 #[tactic(auto, using(crate::proofs::Lengths::lengths))]
 fn read_len(bytes: &[u8]) -> Option<u32>
     ensures { IsLenReadAs bytes.now result }
 {
     let mut cursor = Cursor::new(bytes);
     match cursor.u32() {
-        Ok(len) if len <= MAX_FILE_LEN && cursor.left().is_empty() => Some(len),
+        Ok(len) if len <= MAX_FILE && cursor.left().is_empty() => Some(len),
         _ => None,
     }
 }
@@ -74,5 +70,5 @@ pub fn write_record(entry: &Record, out: &mut Out)
 pub fn is_block(bytes: &[u8]) -> bool
     ensures { IsTrue result ↔ IsBlock bytes.now }
 {
-    !bytes.is_empty() && bytes.len() <= MAX_BLOCK_LEN
+    !bytes.is_empty() && bytes.len() <= MAX_BLOCK
 }

@@ -26,7 +26,7 @@ has_bit-other words bit word other h ne kept =
       | inr e ↦ ap (λ w. eqb (bit_at w (other % 64)) 1) (get_or-set_other words (bit / 64) (other / 64) word 0 e)
     ]
 
--- no bit stands behind the words
+-- no bit stands after the words
 pub has_bit-past : (words : List ℕ) (bit : ℕ) → 64 * length words ≤ bit → has_bit words bit ≡ false
 has_bit-past words bit h =
     ap (λ w. eqb (bit_at w (bit % 64)) 1) (get_or_past words (bit / 64) 0 (omega arith)) ∙ ap (λ b. eqb b 1) (bit_at-zero (bit % 64))

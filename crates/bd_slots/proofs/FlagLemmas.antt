@@ -97,9 +97,9 @@ free_above slots slot h =
     omega (arith, step)
 
 -- what stays where one bit changed
-kept_behind : (words words' : List ℕ) (count slot : ℕ) → slot < count → ((other : ℕ) → count ≤ other → has_bit words other ≡ false)
+kept_after : (words words' : List ℕ) (count slot : ℕ) → slot < count → ((other : ℕ) → count ≤ other → has_bit words other ≡ false)
     → ((other : ℕ) → other ≢ slot → has_bit words' other ≡ has_bit words other) → (other : ℕ) → count ≤ other → has_bit words' other ≡ false
-kept_behind words words' count slot h none others other le = others other (λ e. omega (arith, e)) ∙ none other le
+kept_after words words' count slot h none others other le = others other (λ e. omega (arith, e)) ∙ none other le
 
 -- after a slot was given back
 pub given : (words words' : List ℕ) (slots : List Bool) (count free slot : ℕ) → IsCounted words count free → flags words count ≡ slots → IsHeld slots slot
@@ -112,7 +112,7 @@ given words words' slots count free slot known is held same now others =
     let step = free_count-give (flags words count) slot (slice_get_within (flags words count) slot false held') (get_or_from_slice_get (flags words count) slot false false held') in (
       record {
         room = same ∙ known.room;
-        none_behind = kept_behind words words' count slot within known.none_behind others;
+        none_after = kept_after words words' count slot within known.none_after others;
         counted = ap (λ n. n + 1) known.counted ∙ sym step ∙ ap free_count (sym after);
       },
       after ∙ ap (λ s. set s slot true) is,
@@ -130,7 +130,7 @@ taken words words' slots count free slot known is was same now others =
     let fewer : free_count (flags words' count) ≡ free_count (set (flags words count) slot false) = ap free_count after in (
       record {
         room = same ∙ known.room;
-        none_behind = kept_behind words words' count slot within known.none_behind others;
+        none_after = kept_after words words' count slot within known.none_after others;
         counted = omega (arith, known.counted, step, fewer);
       },
       after ∙ ap (λ s. set s slot false) is,
@@ -145,7 +145,7 @@ bit_within words slots count free slot flag known is h =
 -- a bit that is set belongs to a slot
 set_within : (words : List ℕ) (count free bit : ℕ) → IsCounted words count free → has_bit words bit ≡ true → bit < count
 set_within words count free bit known h =
-    elim (cases_lt bit count) [ inl lt ↦ lt | inr le ↦ absurd (not_both (sym (known.none_behind bit le) ∙ h)) ]
+    elim (cases_lt bit count) [ inl lt ↦ lt | inr le ↦ absurd (not_both (sym (known.none_after bit le) ∙ h)) ]
   where
     not_both : false ≡ true → ⊥
     not_both e = cc
@@ -165,7 +165,7 @@ IsCounted-all words count long bits =
     let all = flags-replicate words count true (λ slot lt. bits slot ∙ lt-ltb slot count lt) in (
       record {
         room = long;
-        none_behind = λ slot le. bits slot ∙ le-ltb slot count le;
+        none_after = λ slot le. bits slot ∙ le-ltb slot count le;
         counted = sym (ap free_count all ∙ all_of count);
       },
       all,

@@ -12,8 +12,9 @@ has_bit words slot = bit_at (slice_index words (slot / 64)) (slot % 64) == 1
 abbrev pub flags : List ℕ → ℕ → List Bool
 flags words count = map (has_bit words) (range_with_len 0 count)
 
--- there are as many words as the slots take, no bit is set behind the slots, and the free ones were counted
+-- there are as many words as the slots take, no bit is set after the slots, and the free ones were
+-- counted
 pub record IsCounted (words : List ℕ) (count free : ℕ) : Type 0 where
   pub room : length words ≡ count / 64 + 1
-  pub none_behind : (slot : ℕ) → count ≤ slot → has_bit words slot ≡ false
+  pub none_after : (slot : ℕ) → count ≤ slot → has_bit words slot ≡ false
   pub counted : free ≡ free_count (flags words count)

@@ -6,8 +6,8 @@ use crate::words;
 use std::alloc::{AllocError, Global};
 use std::marker::Model;
 
-/// The free ones among the slots from 0 on. Only making it takes memory, one bit a slot; each other call
-/// looks at each word of 64 slots at most once.
+/// The free ones among the slots from 0 on. Only making it takes memory, one bit a slot; each other
+/// call looks at each word of 64 slots at most once.
 #[derive(Debug, Drop)]
 pub struct SlotSet {
     words: Vec<u64>,

@@ -4,7 +4,7 @@ use Rattle.bd_message.proofs.Finds.{acted_put, acted_del, acted_cut}
 use Rattle.bd_message.proofs.entries.act.Goals as goal
 
 pub returns-in_ok-put-in-Put : goal.returns-in_ok-put-in-Put
-returns-in_ok-put-in-Put c = acted_put c.args.message.now c.args.entries.now.items c.put.new.entries.items c.in-Put.key c.in-Put.value c.in-Put.is (rw c.in_ok-copy-in-Put.ensures at c.in_ok-put-in-Put.ensures)
+returns-in_ok-put-in-Put c = acted_put c.args.message.now c.args.entries.now.items c.put.new.entries.items c.in-Put.key c.in-Put.value c.in-Put.is (rw c.in_ok-clone-in-Put.ensures.cases at c.in_ok-put-in-Put.ensures)
 
 pub returns-in-Del : goal.returns-in-Del
 returns-in-Del c = acted_del c.args.message.now c.args.entries.now.items c.remove.new.entries.items c.in-Del.key c.in-Del.is (rw c.as_slice.ensures at c.remove.ensures)

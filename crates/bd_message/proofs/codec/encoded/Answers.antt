@@ -2,7 +2,7 @@ use Rattle.std.proofs.Common.{subst}
 use Rattle.std.specs.Option.{option_map}
 use Rattle.bd_message.specs.Codec.{IsPartAs, FitsTexts, FitsPart, FitsGoto, encode_texts, encode_part, encode_goto}
 use Rattle.bd_message.proofs.EncodingSizes.{tagged, no_put, no_patch, no_cut, no_goto}
-use Rattle.bd_message.proofs.codec.spelt.Goals as goal
+use Rattle.bd_message.proofs.codec.encoded.Goals as goal
 
 pub returns-in-None : goal.returns-in-None
 returns-in-None c =
