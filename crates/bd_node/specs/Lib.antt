@@ -1,0 +1,7 @@
+pub mod Touching
+pub mod Nodes
+pub mod Meaning
+pub mod Shape
+pub mod Tables
+pub mod Private
+pub mod Steps
