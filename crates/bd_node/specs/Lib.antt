@@ -5,3 +5,4 @@ pub mod Shape
 pub mod Tables
 pub mod Private
 pub mod Steps
+pub mod Stores

@@ -2,7 +2,7 @@
 use Rattle.std.specs.Prelude.{◌≡◌, ℕ, ◌+◌, ◌<◌, ◌≤◌, ◌^◌, ◌⊎◌, true, List, [], ◌∷◌, length, take, Option, None, Some, slice_get}
 use Rattle.std.specs.List.{AllByRecursion, sum_by}
 use Rattle.bd_limits.specs.Limits.{key_limit, block_limit}
-use Rattle.bd_keys.specs.Keys.{IsKey, IsBelow, IsBelowEnd, InRange, IsCommon}
+use Rattle.bd_keys.specs.Keys.{IsBelow, IsBelowEnd, InRange, IsCommon}
 use Rattle.bd_message.specs.declared.message.Message.{Message}
 use Rattle.bd_message.specs.Messages.{IsMessage, size}
 use Rattle.bd_node.specs.declared.node.Entry.{Entry}
@@ -89,7 +89,7 @@ pub record IsEdge (buffered : ℕ) (e : Edge) (hi : Option (List ℕ)) : Type 0 
 -- the edge hasn't seen the message at this place, which can change what stands at a key of the edge
 abbrev pub IsPending : ℕ → Message → Edge → Option (List ℕ) → Type 0
 IsPending place m e hi =
-    (e.seen ≤ place) × ((k : List ℕ) × IsKey k × InRange e.pivot hi k × (touches m k ≡ true))
+    (e.seen ≤ place) × ((k : List ℕ) × InRange e.pivot hi k × (touches m k ≡ true))
 
 -- an inner node
 pub record IsInner (level : ℕ) (edges : List Edge) (buffer : List Message) : Type 0 where

@@ -1,6 +1,7 @@
 -- Steps from nodes to nodes.
-use Rattle.std.specs.Prelude.{◌≡◌, ◌≢◌, ℕ, ◌+◌, ◌-◌, ◌^◌, ◌<◌, ◌≤◌, ◌⊎◌, ◌==◌, nat_lt, if◌then◌else◌, List, [], ◌∷◌, length, Option, None, Some, slice_get}
+use Rattle.std.specs.Prelude.{◌≡◌, ◌≢◌, ℕ, ◌+◌, ◌-◌, ◌^◌, ◌<◌, ◌≤◌, ◌⊎◌, ◌==◌, nat_lt, if◌then◌else◌, List, [], ◌∷◌, length, Option, None, Some, slice_get, IsSome}
 use Rattle.std.specs.List.{AllByRecursion, sum_by}
+use Rattle.bd_keys.specs.Keys.{IsKey}
 use Rattle.bd_message.specs.declared.fault.Counter.{Counter}
 use Rattle.bd_message.specs.declared.fault.Counter.TheVariants.{Count, NextId, Level, Refs, Epoch, Flushes}
 use Rattle.bd_message.specs.declared.message.Message.{Message}
@@ -9,7 +10,7 @@ use Rattle.bd_message.specs.Effect.{NodesAt}
 use Rattle.bd_node.specs.declared.node.Node.{Node}
 use Rattle.bd_node.specs.declared.node.Change.{Change}
 use Rattle.bd_node.specs.declared.node.Step.{Step}
-use Rattle.bd_node.specs.Nodes.{level_of, buffer_size, appended, names, times, node_has}
+use Rattle.bd_node.specs.Nodes.{level_of, buffer_size, appended, names, times, node_at, node_has}
 use Rattle.bd_node.specs.Meaning.{Nodes, at}
 use Rattle.bd_node.specs.Shape.{IsShape}
 use Rattle.bd_node.specs.Tables.{Table, IsKept, IsTable, IsSound, one_if}
@@ -142,6 +143,20 @@ grown t list = record t { size = t.size + sum_by size list }
 pub record IsKeeping (nodes : Nodes) (t : Table) (step : Step) (has : NodesAt) : Type 0 where
   pub old : (id : ℕ) → id < t.next → (k : List ℕ) → has id k ≡ at nodes id k
   pub changed : (id : ℕ) (n : Node) → id < t.next → given t.next step id ≡ Some n → (k : List ℕ)
-      → node_has has n k ≡ at nodes id k
+      → IsKey k → node_at has n k ≡ at nodes id k
   pub made : (id : ℕ) (n : Node) → t.next ≤ id → given t.next step id ≡ Some n → (k : List ℕ)
       → has id k ≡ node_has has n k
+
+-- the one node that names it is changed too
+pub record IsOnlyNamed (nodes : Nodes) (t : Table) (step : Step) (id : ℕ) : Type 0 where
+  pub each : (p : ℕ) (n : Node) → nodes p ≡ Some n → 1 ≤ times n id
+      → IsSome (given t.next step p)
+
+-- what each id is to have after a step, where changed nodes may have something else if all that
+-- name them are changed too
+pub record IsMoving (nodes : Nodes) (t : Table) (step : Step) (has : NodesAt) : Type 0 where
+  pub old : (id : ℕ) → given t.next step id ≡ None → (k : List ℕ) → has id k ≡ at nodes id k
+  pub put : (id : ℕ) (n : Node) → given t.next step id ≡ Some n → (k : List ℕ)
+      → has id k ≡ node_has has n k
+  pub named : (id : ℕ) (n : Node) → id < t.next → given t.next step id ≡ Some n
+      → ((k : List ℕ) → has id k ≡ at nodes id k) ⊎ IsOnlyNamed nodes t step id

@@ -6,7 +6,9 @@
 mod items;
 mod messages;
 mod node;
+mod store;
 
 pub use items::Items;
 pub use messages::Messages;
 pub use node::{Change, Changes, Edge, Edges, Entries, Entry, Node, Nodes, Step};
+pub use store::NodeStore;
