@@ -3,4 +3,7 @@ pub mod Meanings
 pub mod Sums
 pub mod Sound
 pub mod Privacy
+pub mod Edges
 pub mod Stepping
+pub mod Appending
+pub mod Closing

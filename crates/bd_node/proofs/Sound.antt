@@ -51,7 +51,7 @@ pub named_lower : (nodes : Nodes) (t : Table) → IsSound nodes t → (id : ℕ)
 named_lower nodes t s id n there c one = named_has (IsLower t (t.level id)) c (names n) (node_of nodes t s id n there).lower one
 
 -- how often a node names another is a term of the sum
-times_there : (nodes : Nodes) (id c : ℕ) (n : Node) → nodes id ≡ Some n → times_in (nodes id) c ≡ times n c
+pub times_there : (nodes : Nodes) (id c : ℕ) (n : Node) → nodes id ≡ Some n → times_in (nodes id) c ≡ times n c
 times_there nodes id c n there = ap (λ o. times_in o c) there
 
 -- a node that another names has a count for it

@@ -81,7 +81,7 @@ given_meaning nodes t step new u c id n kept e k key =
 
 -- ---- nodes that are replaced by ones that have the same
 
-by_given : (P : Type 0) (g : Option Node) → (g ≡ None → P) → ((n : Node) → g ≡ Some n → P) → P
+pub by_given : (P : Type 0) (g : Option Node) → (g ≡ None → P) → ((n : Node) → g ≡ Some n → P) → P
 by_given P None none some = none refl
 by_given P (Some n) none some = some n refl
 
@@ -122,7 +122,7 @@ keeping_meaning nodes t step new u has s c keeps id kept = committed_meaning nod
 
 -- ---- nodes whose namers change with them
 
-no_some : IsSome {T = Node} None → ⊥
+pub no_some : IsSome {T = Node} None → ⊥
 no_some h = cc
 
 moving_old : (nodes : Nodes) (t : Table) (step : Step) (has : NodesAt) → IsSound nodes t → IsMoving nodes t step has → (id : ℕ) (n : Node) → nodes id ≡ Some n → given t.next step id ≡ None → (c : ℕ) → 1 ≤ times n c → Agree (at nodes) has c
@@ -192,7 +192,7 @@ isolated_none nodes t step new u s c none id kept stays =
 
 -- ---- steps that change the root alone
 
-given_root : (t : Table) (n : Node) → t.root < t.next → given t.next (root_step t.root n) t.root ≡ Some n
+pub given_root : (t : Table) (n : Node) → t.root < t.next → given t.next (root_step t.root n) t.root ≡ Some n
 given_root t n low = given-old t.next (root_step t.root n) t.root low ∙ changed_at-same (record { id = t.root; node = n }) [] t.root refl
 
 pub given_other : (t : Table) (n : Node) (id : ℕ) → (id ≡ t.root → ⊥) → given t.next (root_step t.root n) id ≡ None

@@ -6,3 +6,4 @@ pub mod Tables
 pub mod Private
 pub mod Steps
 pub mod Stores
+pub mod Closed

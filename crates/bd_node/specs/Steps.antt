@@ -92,6 +92,19 @@ abbrev pub StayAbove : Nodes → Table → Step → Type 0
 StayAbove nodes t step = (id : ℕ) (n : Node) → nodes id ≡ Some n → given t.next step id ≡ None
     → AllByRecursion (λ c. level_after t step c < level_of n) (names n)
 
+-- the nodes that name it are changed too
+pub record IsOnlyNamed (nodes : Nodes) (t : Table) (step : Step) (id : ℕ) : Type 0 where
+  pub each : (p : ℕ) (n : Node) → nodes p ≡ Some n → 1 ≤ times n id
+      → IsSome (given t.next step p)
+
+-- why a node may be changed to this one, though its level may rise
+pub data HasRoom (nodes : Nodes) (t : Table) (step : Step) (id : ℕ) (n : Node) : Type 0 where
+  no_rise : level_of n ≤ t.level id → HasRoom nodes t step id n
+  of_root : id ≡ t.root → HasRoom nodes t step id n
+  changed_too : IsOnlyNamed nodes t step id → HasRoom nodes t step id n
+  under_all : ((p : ℕ) (m : Node) → nodes p ≡ Some m → 1 ≤ times m id → level_of n < level_of m)
+    → HasRoom nodes t step id n
+
 -- a step that changes sound nodes in place: private ones alone
 pub record IsInPlace (nodes : Nodes) (t : Table) (step : Step) : Type 0 where
   pub private : AllByRecursion (λ (c : Change). IsPrivate nodes t c.id) step.changes
@@ -146,11 +159,6 @@ pub record IsKeeping (nodes : Nodes) (t : Table) (step : Step) (has : NodesAt) :
       → IsKey k → node_at has n k ≡ at nodes id k
   pub made : (id : ℕ) (n : Node) → t.next ≤ id → given t.next step id ≡ Some n → (k : List ℕ)
       → has id k ≡ node_has has n k
-
--- the one node that names it is changed too
-pub record IsOnlyNamed (nodes : Nodes) (t : Table) (step : Step) (id : ℕ) : Type 0 where
-  pub each : (p : ℕ) (n : Node) → nodes p ≡ Some n → 1 ≤ times n id
-      → IsSome (given t.next step p)
 
 -- what each id is to have after a step, where changed nodes may have something else if all that
 -- name them are changed too
