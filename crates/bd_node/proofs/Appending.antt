@@ -1,23 +1,21 @@
 -- Messages put after those that wait in a node.
-use Rattle.std.proofs.Common.{◌≡◌, ℕ, zero, suc, ◌+◌, ◌-◌, ◌<◌, ◌≤◌, Bool, true, false, cond, not, ◌&&◌, List, [], ◌∷◌, ◌++◌, length, drop, refl, sym, ap, subst, ◌∙◌, Option, None, Some, arith, inl, inr, get_or, length-append}
-use Rattle.std.specs.Prelude.{slice_get, ◌⊎◌, All}
+use Rattle.std.proofs.Common.{◌≡◌, ℕ, zero, suc, ◌+◌, ◌-◌, ◌<◌, ◌≤◌, true, false, not, List, [], ◌∷◌, ◌++◌, length, drop, refl, sym, ap, subst, ◌∙◌, Option, Some, arith, inl, inr, length-append}
+use Rattle.std.specs.Prelude.{slice_get}
 use Rattle.std.specs.List.{AllByRecursion, flat_map, sum_by}
 use Rattle.std.specs.Ordering.{is_lt}
 use Rattle.std.specs.Prelude.{count_by, ◌==◌}
-use Rattle.std.proofs.lemmas.Bool.{and_from, cases_lt, cond-true, cond-false, cases_eq, cases_Bool}
-use Rattle.std.proofs.lemmas.Option.{same_Some, none-some, slice_get_within}
+use Rattle.std.proofs.lemmas.Bool.{and_from, cases_lt, cases_eq}
+use Rattle.std.proofs.lemmas.Option.{same_Some}
 use Rattle.std.proofs.lemmas.List.{drop-append-le}
 use Rattle.std.proofs.lemmas.List.Sums.{sum_by-append}
 use Rattle.std.proofs.lemmas.List.Concat.{flat_map-append}
 use Rattle.std.proofs.lemmas.List.Elements.{recursion_from_All}
 use Rattle.std.proofs.lemmas.Slice.Eq.{starts_is}
 use Rattle.std.specs.Cmp.{unsigned_Decides}
-use Rattle.std.specs.Cmp.Lexicographic.{same_text}
-use Rattle.bd_keys.specs.Keys.{key_cmp, IsKey, IsAtLeast, InRange}
+use Rattle.bd_keys.specs.Keys.{key_cmp, IsKey, InRange}
 use Rattle.bd_message.specs.declared.message.Message.{Message}
 use Rattle.bd_message.specs.declared.message.Message.TheVariants.{Put, Del, Patch, Cut, Goto}
 use Rattle.bd_message.specs.Messages.{IsMessage, IsPlain, size}
-use Rattle.bd_message.specs.KeyMaps.{IsBatch}
 use Rattle.bd_message.specs.Effect.{NodesAt, same_key, begins, rest, is_cut, act, acts, no_nodes}
 use Rattle.bd_node.specs.declared.node.Edge.{Edge}
 use Rattle.bd_node.specs.declared.node.Node.{Node}
@@ -25,10 +23,10 @@ use Rattle.bd_node.specs.declared.node.Node.TheVariants.{Leaf, Inner}
 use Rattle.bd_node.specs.declared.node.Step.{Step}
 use Rattle.bd_node.specs.Touching.{touches}
 use Rattle.bd_node.specs.Meaning.{Nodes, at}
-use Rattle.bd_node.specs.Tables.{Table, IsKept, IsTable, IsLower, IsNodeOf, IsStored, IsSound, times_in, one_if, root_at, sum_below, references}
+use Rattle.bd_node.specs.Tables.{Table, IsLower, IsNodeOf, IsStored, IsSound, times_in, one_if, root_at}
 use Rattle.bd_node.specs.Steps.{after, IsCommitted, append_step, grown}
 use Rattle.bd_node.specs.Stores.{FitsRoot}
-use Rattle.bd_node.specs.Nodes.{level_of, buffer_size, appended, message_names, edge_names, names, times, edge_from, edge_of, child_at, edge_at, through, node_at}
+use Rattle.bd_node.specs.Nodes.{level_of, buffer_size, appended, message_names, edge_names, names, times, edge_of, child_at, edge_at, through, node_at}
 use Rattle.bd_node.specs.Shape.{buffer_limit, end_before, EachEdge, SomeEdge, IsEdge, IsPending, IsInner, IsShape}
 use Rattle.bd_node.proofs.Lookup.{each_weaker, each_both, node_has-key}
 use Rattle.bd_node.proofs.Meanings.{at-meets}
@@ -92,7 +90,7 @@ edge_longer n more e hi h = record {
   common = h.common;
   source = h.source;
   child = h.child;
-  seen = (let s : e.seen ≤ n = h.seen in omega arith)
+  seen = (let s : e.seen ≤ n = h.seen in omega arith);
 }
 
 -- messages after a buffer wait for the edges of their keys
@@ -109,14 +107,14 @@ inner_appended level es buffer list h each fits = record {
   few = h.few;
   first = h.first;
   each = subst (λ (n : ℕ). EachEdge (IsEdge n) es) (sym (length-append buffer list))
-    (EachEdge-weaker (IsEdge (length buffer)) (IsEdge (length buffer + length list)) (λ e hi own. edge_longer (length buffer) (length list) e hi own) es h.each);
+      (EachEdge-weaker (IsEdge (length buffer)) (IsEdge (length buffer + length list)) (λ e hi own. edge_longer (length buffer) (length list) e hi own) es h.each);
   messages = each_both IsMessage buffer list h.messages each;
   size = (let e : sum_by size (buffer ++ list) ≡ sum_by size buffer + sum_by size list = sum_by-append size buffer list in omega arith);
   pending = λ place m there.
-    elim (cases_lt place (length buffer)) [
-      | inl low ↦ h.pending place m (sym (slice_get-append_old buffer list place low) ∙ there)
-      | inr high ↦ pending_new es (length buffer) place m h.each h.first high
-    ]
+      elim (cases_lt place (length buffer)) [
+        | inl low ↦ h.pending place m (sym (slice_get-append_old buffer list place low) ∙ there)
+        | inr high ↦ pending_new es (length buffer) place m h.each h.first high
+      ];
 }
 
 pub shape_appended : (n : Node) (list : List Message) → IsShape n → AllByRecursion IsMessage list → buffer_size n + sum_by size list ≤ buffer_limit → IsShape (appended n list)
@@ -176,9 +174,9 @@ node_at-appended below (Inner level es buffer) list k h inner =
     some_has (through below (edge_of es k) (buffer ++ list) k ≡ acts below list k (through below (edge_of es k) buffer k))
     (λ (e : Edge) hi. (edge_of es k ≡ Some e) × InRange e.pivot hi k × IsEdge (length buffer) e hi)
     (λ e hi found.
-      ap (λ o. through below o (buffer ++ list) k) found.0
-      ∙ edge_at-appended below e buffer list k found.2.seen
-      ∙ sym (ap (λ o. acts below list k (through below o buffer k)) found.0))
+    ap (λ o. through below o (buffer ++ list) k) found.0
+    ∙ edge_at-appended below e buffer list k found.2.seen
+    ∙ sym (ap (λ o. acts below list k (through below o buffer k)) found.0))
     es (some_edge (IsEdge (length buffer)) es k h.each h.first)
 
 buffer_appended : (n : Node) (list : List Message) → 1 ≤ level_of n → buffer_size (appended n list) ≡ buffer_size n + sum_by size list
@@ -198,14 +196,14 @@ node_appended t n list own size_is fits =
     record {
       shape = shape_appended n list own.shape (recursion_from_All IsMessage list fits.each) (omega arith);
       level_is = level_appended n list ∙ own.level_is;
-      lower = subst (λ (xs : List ℕ). AllByRecursion (IsLower t (t.level t.root)) xs) (sym (names_appended n list (recursion_from_All IsPlain list fits.plain))) own.lower
+      lower = subst (λ (xs : List ℕ). AllByRecursion (IsLower t (t.level t.root)) xs) (sym (names_appended n list (recursion_from_All IsPlain list fits.plain))) own.lower;
     }
 
 grown_node : (t : Table) (list : List Message) (l : ℕ) (m : Node) → IsNodeOf t l m → IsNodeOf (grown t list) l m
 grown_node t list l m own = record {
   shape = own.shape;
   level_is = own.level_is;
-  lower = each_weaker (IsLower t l) (IsLower (grown t list) l) (λ c lower. record { kept = lower.kept; lower = lower.lower }) (names m) own.lower
+  lower = each_weaker (IsLower t l) (IsLower (grown t list) l) (λ c lower. record { kept = lower.kept; lower = lower.lower }) (names m) own.lower;
 }
 
 pub times_appended : (n : Node) (list : List Message) (c : ℕ) → AllByRecursion IsPlain list → times (appended n list) c ≡ times n c
@@ -221,27 +219,27 @@ append_sound nodes t n list s there fits =
     let root_is : new t.root ≡ Some (appended n list) = after-some nodes t step t.root (appended n list) (given_at_root t (appended n list) s.table) in
     let other_is : (id : ℕ) → (id ≡ t.root → ⊥) → new id ≡ nodes id = λ id other. after-none nodes t step id (given_other t (appended n list) id other) in
     let term : (c i : ℕ) → times_in (nodes i) c ≡ times_in (new i) c = λ c i.
-      elim (cases_eq i t.root) as (λ _. times_in (nodes i) c ≡ times_in (new i) c) [
-        | inl same ↦ subst (λ (r : ℕ). times_in (nodes r) c ≡ times_in (new r) c) (sym same)
+    elim (cases_eq i t.root) as (λ _. times_in (nodes i) c ≡ times_in (new i) c) [
+      | inl same ↦ subst (λ (r : ℕ). times_in (nodes r) c ≡ times_in (new r) c) (sym same)
           (ap (λ o. times_in o c) there ∙ sym (times_appended n list c plain) ∙ sym (ap (λ o. times_in o c) root_is))
-        | inr other ↦ sym (ap (λ o. times_in o c) (other_is i other))
-      ] in
+      | inr other ↦ sym (ap (λ o. times_in o c) (other_is i other))
+    ] in
     record {
       table = record { root = s.table.root; inner = s.table.inner; low = s.table.low; below = s.table.below };
       each = λ id kept.
-        elim (cases_eq id t.root) as (λ _. IsStored new (grown t list) id) [
-          | inl same ↦ subst (λ (r : ℕ). IsStored new (grown t list) r) (sym same)
-            (record { node = appended n list; there = root_is; of_table = grown_node t list (t.level t.root) (appended n list) own_after })
-          | inr other ↦ (let stored : IsStored nodes t id = s.each id kept in
-            record { node = stored.node; there = other_is id other ∙ stored.there; of_table = grown_node t list (t.level id) stored.node stored.of_table })
-        ];
+          elim (cases_eq id t.root) as (λ _. IsStored new (grown t list) id) [
+            | inl same ↦ subst (λ (r : ℕ). IsStored new (grown t list) r) (sym same)
+                (record { node = appended n list; there = root_is; of_table = grown_node t list (t.level t.root) (appended n list) own_after })
+            | inr other ↦ (let stored : IsStored nodes t id = s.each id kept in
+                record { node = stored.node; there = other_is id other ∙ stored.there; of_table = grown_node t list (t.level id) stored.node stored.of_table })
+          ];
       others = λ id none.
-        other_is id (λ same. (let some : 1 ≤ t.count t.root = s.table.root in let e : t.count id ≡ t.count t.root = ap t.count same in omega arith)) ∙ s.others id none;
+          other_is id (λ same. (let some : 1 ≤ t.count t.root = s.table.root in let e : t.count id ≡ t.count t.root = ap t.count same in omega arith)) ∙ s.others id none;
       counts = λ id. s.counts id ∙ ap (λ a. a + one_if t.root id) (sum_same t.next (λ i. times_in (nodes i) id) (λ i. times_in (new i) id) (λ i low. term id i));
       size = λ m at_root.
-        ap buffer_size (sym (same_Some (appended n list) m (sym root_is ∙ at_root)))
-        ∙ buffer_appended n list (let a : level_of n ≡ t.level t.root = own.level_is in let b : 1 ≤ t.level t.root = s.table.inner in omega arith)
-        ∙ ap (λ a. a + sum_by size list) (s.size n there)
+          ap buffer_size (sym (same_Some (appended n list) m (sym root_is ∙ at_root)))
+          ∙ buffer_appended n list (let a : level_of n ≡ t.level t.root = own.level_is in let b : 1 ≤ t.level t.root = s.table.inner in omega arith)
+          ∙ ap (λ a. a + sum_by size list) (s.size n there);
     }
 
 -- what the tree then has

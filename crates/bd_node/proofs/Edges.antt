@@ -1,7 +1,6 @@
 -- Edges: each key has one, and messages put after a buffer wait for some edge.
-use Rattle.std.proofs.Common.{◌≡◌, ℕ, zero, suc, ◌+◌, ◌-◌, ◌<◌, ◌≤◌, Bool, true, false, cond, not, ◌&&◌, List, [], ◌∷◌, ◌++◌, length, drop, refl, sym, ap, subst, ◌∙◌, Option, None, Some, arith, inl, inr, Ordering, Less, Equal, Greater}
-use Rattle.std.specs.Prelude.{◌⊎◌}
-use Rattle.std.specs.Ordering.{is_lt, nat_cmp, ordering_reverse}
+use Rattle.std.proofs.Common.{◌≡◌, ℕ, true, false, List, [], ◌∷◌, refl, sym, ap, subst, ◌∙◌, Option, None, Some, inl, inr, Ordering, Less, Equal, Greater}
+use Rattle.std.specs.Ordering.{is_lt, ordering_reverse}
 use Rattle.std.proofs.lemmas.Bool.{cond-true, cond-false, cases_Bool}
 use Rattle.std.proofs.lemmas.Cmp.{nat_list_cmp_total as total}
 use Rattle.bd_keys.specs.Keys.{key_cmp, IsBelow, IsBelowEnd, IsAtLeast, InRange}
@@ -75,8 +74,8 @@ edge_from-some P e (f ∷ es) k h least =
     elim (cases_Bool (is_lt (key_cmp k f.pivot))) [
       | inl below ↦ inl (sym (cond-true (is_lt (key_cmp k f.pivot)) e (edge_from f es k) below), (least, lt_is (key_cmp k f.pivot) below), h.0)
       | inr above ↦ (let same : edge_from e (f ∷ es) k ≡ edge_from f es k = cond-false (is_lt (key_cmp k f.pivot)) e (edge_from f es k) above in
-        let F : Edge → Type 0 = λ found. SomeEdge (IsEdgeOf found k P) (f ∷ es) in
-        inr (subst F (sym same) (edge_from-some P f es k h.1 (λ less. lt_isnt (key_cmp k f.pivot) above less))))
+          let F : Edge → Type 0 = λ found. SomeEdge (IsEdgeOf found k P) (f ∷ es) in
+          inr (subst F (sym same) (edge_from-some P f es k h.1 (λ less. lt_isnt (key_cmp k f.pivot) above less))))
     ]
 
 -- ---- and just one
@@ -88,9 +87,11 @@ IsRisingEdge e hi = IsBelowEnd e.pivot hi
 -- a key of one of these edges is at least the first one's pivot
 first_least : (e : Edge) (es : List Edge) (k : List ℕ) → EachEdge IsRisingEdge (e ∷ es) → EachEdge (λ (f : Edge) hi. IsAtLeast k f.pivot → IsAtLeast k e.pivot) (e ∷ es)
 first_least e [] k h = ((λ least. least), tt)
-first_least e (f ∷ es) k h =
-    ((λ least. least), EachEdge-weaker (λ (g : Edge) hi. IsAtLeast k g.pivot → IsAtLeast k f.pivot) (λ (g : Edge) hi. IsAtLeast k g.pivot → IsAtLeast k e.pivot)
-    (λ g hi then least. least_over k e.pivot f.pivot (then least) h.0) (f ∷ es) (first_least f es k h.1))
+first_least e (f ∷ es) k h = (
+  (λ least. least),
+  EachEdge-weaker (λ (g : Edge) hi. IsAtLeast k g.pivot → IsAtLeast k f.pivot) (λ (g : Edge) hi. IsAtLeast k g.pivot → IsAtLeast k e.pivot)
+      (λ g hi then least. least_over k e.pivot f.pivot (then least) h.0) (f ∷ es) (first_least f es k h.1),
+)
 
 each_both : (P Q R : Edge → Option (List ℕ) → Type 0) → ((e : Edge) (hi : Option (List ℕ)) → P e hi → Q e hi → R e hi) → (es : List Edge) → EachEdge P es → EachEdge Q es → EachEdge R es
 each_both P Q R f [] h g = tt
@@ -102,11 +103,12 @@ first_only e (f ∷ es) k below = cond-true (is_lt (key_cmp k f.pivot)) e (edge_
 
 edge_from-only : (e : Edge) (es : List Edge) (k : List ℕ) → EachEdge IsRisingEdge (e ∷ es) → EachEdge (λ (f : Edge) hi. InRange f.pivot hi k → edge_from e es k ≡ f) (e ∷ es)
 edge_from-only e [] k h = ((λ range. refl), tt)
-edge_from-only e (f ∷ es) k h =
-    ((λ range. first_only e (f ∷ es) k range.1),
-    each_both (λ (g : Edge) hi. IsAtLeast k g.pivot → IsAtLeast k f.pivot) (λ (g : Edge) hi. InRange g.pivot hi k → edge_from f es k ≡ g) (λ (g : Edge) hi. InRange g.pivot hi k → edge_from e (f ∷ es) k ≡ g)
-    (λ g hi least only range. cond-false (is_lt (key_cmp k f.pivot)) e (edge_from f es k) (not_less_lt (key_cmp k f.pivot) (least range.0)) ∙ only range)
-    (f ∷ es) (first_least f es k h.1) (edge_from-only f es k h.1))
+edge_from-only e (f ∷ es) k h = (
+  (λ range. first_only e (f ∷ es) k range.1),
+  each_both (λ (g : Edge) hi. IsAtLeast k g.pivot → IsAtLeast k f.pivot) (λ (g : Edge) hi. InRange g.pivot hi k → edge_from f es k ≡ g) (λ (g : Edge) hi. InRange g.pivot hi k → edge_from e (f ∷ es) k ≡ g)
+      (λ g hi least only range. cond-false (is_lt (key_cmp k f.pivot)) e (edge_from f es k) (not_less_lt (key_cmp k f.pivot) (least range.0)) ∙ only range)
+      (f ∷ es) (first_least f es k h.1) (edge_from-only f es k h.1),
+)
 
 pub edge_of-only : (es : List Edge) (k : List ℕ) → EachEdge IsRisingEdge es → EachEdge (λ (f : Edge) hi. InRange f.pivot hi k → edge_of es k ≡ Some f) es
 edge_of-only [] k h = tt

@@ -7,3 +7,4 @@ pub mod Edges
 pub mod Stepping
 pub mod Appending
 pub mod Closing
+pub mod LawLemmas

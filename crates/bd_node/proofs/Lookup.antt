@@ -1,5 +1,5 @@
 -- What a node has depends on no more than what the nodes that it names have.
-use Rattle.std.proofs.Common.{◌≡◌, ℕ, zero, suc, ◌+◌, ◌<◌, ◌≤◌, Bool, true, false, cond, List, [], ◌∷◌, ◌++◌, drop, refl, sym, ap, subst, ◌∙◌, Option, None, Some, get_or, arith, inl, inr, ⊎_elim}
+use Rattle.std.proofs.Common.{◌≡◌, ℕ, zero, suc, ◌+◌, ◌≤◌, true, cond, List, [], ◌∷◌, ◌++◌, drop, refl, ap, subst, ◌∙◌, Option, None, Some, arith, inl, inr}
 use Rattle.std.specs.Prelude.{count_by, ◌==◌}
 use Rattle.std.specs.List.{AllByRecursion, flat_map}
 use Rattle.std.specs.Option.{option_to_list}
@@ -13,7 +13,7 @@ use Rattle.bd_message.specs.Effect.{NodesAt, begins, rest, act, acts}
 use Rattle.bd_node.specs.declared.node.Edge.{Edge}
 use Rattle.bd_node.specs.declared.node.Node.{Node}
 use Rattle.bd_node.specs.declared.node.Node.TheVariants.{Leaf, Inner}
-use Rattle.bd_node.specs.Nodes.{message_names, edge_names, names, times, edge_from, edge_of, child_at, edge_at, through, node_at, is_key, node_has}
+use Rattle.bd_node.specs.Nodes.{message_names, edge_names, names, edge_from, child_at, edge_at, node_at, is_key, node_has}
 
 -- ---- properties of each element
 

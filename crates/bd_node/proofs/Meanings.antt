@@ -1,9 +1,9 @@
 -- What the nodes have is the one function that meets each node's equation.
-use Rattle.std.proofs.Common.{◌≡◌, ℕ, zero, suc, ◌<◌, ◌≤◌, true, false, cond, List, refl, sym, ap, subst, ◌∙◌, Option, None, Some, arith}
+use Rattle.std.proofs.Common.{◌≡◌, ℕ, zero, suc, ◌<◌, ◌≤◌, false, cond, List, refl, sym, ap, ◌∙◌, Option, None, Some, arith}
 use Rattle.std.specs.List.{AllByRecursion}
 use Rattle.bd_message.specs.Effect.{NodesAt}
 use Rattle.bd_node.specs.declared.node.Node.{Node}
-use Rattle.bd_node.specs.Nodes.{level_of, height_of, names, node_at, node_has, is_key}
+use Rattle.bd_node.specs.Nodes.{level_of, height_of, names, node_at, is_key}
 use Rattle.bd_node.specs.Meaning.{Nodes, found_at, at_within, at, IsBelowLevel, IsLevelled, Meets}
 use Rattle.bd_node.proofs.Lookup.{Agree, each_weaker, node_has-same}
 
@@ -37,12 +37,12 @@ pub at-meets : (nodes : Nodes) → IsLevelled nodes → Meets nodes (at nodes)
 unfolding at_within at
 at-meets nodes levelled = record {
   each = λ id n there k.
-    ap (λ h. at_within nodes h id k) (ap height_of there)
-    ∙ ap (λ o. found_at (at_within nodes (level_of n)) o k) there
-    ∙ node_has-same (at_within nodes (level_of n)) (at nodes) n k
-    (each_weaker (λ c. IsBelowLevel (level_of n) (nodes c)) (Agree (at_within nodes (level_of n)) (at nodes))
-    (λ c below. enough nodes levelled (level_of n) (height_of (nodes c)) c (height_below (level_of n) (nodes c) below) (omega arith))
-    (names n) (levelled.each id n there))
+      ap (λ h. at_within nodes h id k) (ap height_of there)
+      ∙ ap (λ o. found_at (at_within nodes (level_of n)) o k) there
+      ∙ node_has-same (at_within nodes (level_of n)) (at nodes) n k
+      (each_weaker (λ c. IsBelowLevel (level_of n) (nodes c)) (Agree (at_within nodes (level_of n)) (at nodes))
+      (λ c below. enough nodes levelled (level_of n) (height_of (nodes c)) c (height_below (level_of n) (nodes c) below) (omega arith))
+      (names n) (levelled.each id n there));
 }
 
 there_below : (nodes : Nodes) (level c : ℕ) (P : Type 0) (o : Option Node) → nodes c ≡ o → IsBelowLevel level o → ((m : Node) → nodes c ≡ Some m → level_of m < level → P) → P

@@ -1,8 +1,8 @@
 -- Private nodes, and what changes of them leave.
-use Rattle.std.proofs.Common.{◌≡◌, ℕ, zero, suc, ◌+◌, ◌<◌, ◌≤◌, List, refl, sym, ap, subst, ◌∙◌, Option, None, Some, arith, inl, inr}
+use Rattle.std.proofs.Common.{◌≡◌, ℕ, zero, suc, ◌+◌, ◌<◌, ◌≤◌, subst, Some, arith, inl, inr}
 use Rattle.bd_node.specs.declared.node.Node.{Node}
-use Rattle.bd_node.specs.Nodes.{names, times}
-use Rattle.bd_node.specs.Meaning.{Nodes, at}
+use Rattle.bd_node.specs.Nodes.{times}
+use Rattle.bd_node.specs.Meaning.{Nodes}
 use Rattle.bd_node.specs.Tables.{Table, IsKept, IsLower, IsStored, IsSound, one_if}
 use Rattle.bd_node.specs.Private.{IsPrivate, IsReached}
 use Rattle.bd_node.specs.Private.IsPrivate.{root_alone, alone}
@@ -31,8 +31,8 @@ reached_from nodes t s (suc d) id kept high =
     elim (root_or_named nodes t s id kept) [
       | inl same ↦ subst (λ q. IsReached nodes t.root q) same at_root
       | inr by ↦ (let lower : IsLower t (t.level by.id) id = named_lower nodes t s by.id by.node by.there id by.names_it in
-        let l : t.level id < t.level by.id = lower.lower in
-        named by.id id by.node (reached_from nodes t s d by.id (kept_there nodes t s by.id by.node by.there) (omega arith)) by.there by.names_it)
+          let l : t.level id < t.level by.id = lower.lower in
+          named by.id id by.node (reached_from nodes t s d by.id (kept_there nodes t s by.id by.node by.there) (omega arith)) by.there by.names_it)
     ]
 
 pub reached : (nodes : Nodes) (t : Table) → IsSound nodes t → (id : ℕ) → IsKept t id → IsReached nodes t.root id

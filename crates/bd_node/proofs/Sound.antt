@@ -1,17 +1,16 @@
 -- What sound nodes are.
-use Rattle.std.proofs.Common.{◌≡◌, ℕ, zero, suc, ◌+◌, ◌<◌, ◌≤◌, List, refl, sym, ap, subst, ◌∙◌, Option, None, Some, arith, cond}
+use Rattle.std.proofs.Common.{◌≡◌, ℕ, zero, suc, ◌+◌, ◌<◌, ◌≤◌, refl, sym, ap, subst, ◌∙◌, Option, None, Some, arith, cond}
 use Rattle.std.specs.Prelude.{◌⊎◌}
 use Rattle.std.proofs.Common.{inl, inr}
-use Rattle.std.specs.List.{AllByRecursion}
 use Rattle.std.proofs.lemmas.Option.{same_Some, none-some}
 use Rattle.std.proofs.lemmas.Bool.{cases_lt, cases_eq, ne_eqb, eq-eqb}
 use Rattle.bd_node.specs.declared.node.Node.{Node}
 use Rattle.bd_node.specs.declared.node.Node.TheVariants.{Leaf, Inner}
-use Rattle.bd_node.specs.Nodes.{level_of, height_of, names, times, node_has}
+use Rattle.bd_node.specs.Nodes.{level_of, names, times}
 use Rattle.bd_node.specs.Meaning.{Nodes, IsBelowLevel, IsLevelled}
 use Rattle.bd_node.specs.Shape.{IsShape}
-use Rattle.bd_node.specs.Tables.{Table, IsKept, IsTable, IsLower, IsNodeOf, IsStored, IsSound, sum_below, times_in, one_if, references}
-use Rattle.bd_node.proofs.Lookup.{each_weaker, named_has, each_named}
+use Rattle.bd_node.specs.Tables.{Table, IsKept, IsLower, IsNodeOf, IsStored, IsSound, sum_below, times_in, one_if, references}
+use Rattle.bd_node.proofs.Lookup.{each_weaker, named_has}
 use Rattle.bd_node.proofs.Sums.{sum_at, sum_two, sum_some}
 
 -- a node that is there is kept
@@ -34,16 +33,16 @@ node_of nodes t s id n there =
 pub sound-levelled : (nodes : Nodes) (t : Table) → IsSound nodes t → IsLevelled nodes
 sound-levelled nodes t s = record {
   each = λ id n there.
-    let own : IsNodeOf t (t.level id) n = node_of nodes t s id n there in
-    each_weaker (IsLower t (t.level id)) (λ c. IsBelowLevel (level_of n) (nodes c))
-    (λ c lower.
+      let own : IsNodeOf t (t.level id) n = node_of nodes t s id n there in
+      each_weaker (IsLower t (t.level id)) (λ c. IsBelowLevel (level_of n) (nodes c))
+      (λ c lower.
       let stored : IsStored nodes t c = s.each c lower.kept in
       let P : Option Node → Type 0 = λ o. IsBelowLevel (level_of n) o in
       let a : level_of stored.node ≡ t.level c = stored.of_table.level_is in
       let b : level_of n ≡ t.level id = own.level_is in
       let d : t.level c < t.level id = lower.lower in
       subst P (sym stored.there) (omega arith))
-    (names n) own.lower
+      (names n) own.lower;
 }
 
 -- what a node names is kept and of a lower level
@@ -102,8 +101,8 @@ root_or_named nodes t s c kept =
     elim (cases_eq t.root c) [
       | inl same ↦ inl same
       | inr other ↦ (let none : one_if t.root c ≡ 0 = one_if-other t.root c other in
-        let all : t.count c ≡ references nodes t.next t.root c = s.counts c in
-        inr (named_of_sum nodes t.next c (omega arith)))
+          let all : t.count c ≡ references nodes t.next t.root c = s.counts c in
+          inr (named_of_sum nodes t.next c (omega arith)))
     ]
 
 level_high : (n : Node) → IsShape n → level_of n ≤ 1000
@@ -127,9 +126,9 @@ under_root nodes t s (suc d) id kept high =
     elim (root_or_named nodes t s id kept) [
       | inl same ↦ let e : t.level t.root ≡ t.level id = ap t.level same in omega arith
       | inr by ↦ (let lower : IsLower t (t.level by.id) id = named_lower nodes t s by.id by.node by.there id by.names_it in
-        let l : t.level id < t.level by.id = lower.lower in
-        let up : t.level by.id ≤ t.level t.root = under_root nodes t s d by.id (kept_there nodes t s by.id by.node by.there) (omega arith) in
-        omega arith)
+          let l : t.level id < t.level by.id = lower.lower in
+          let up : t.level by.id ≤ t.level t.root = under_root nodes t s d by.id (kept_there nodes t s by.id by.node by.there) (omega arith) in
+          omega arith)
     ]
 
 pub below_root : (nodes : Nodes) (t : Table) → IsSound nodes t → (id : ℕ) → IsKept t id → t.level id ≤ t.level t.root
@@ -149,6 +148,6 @@ root_count nodes t s =
     let own : one_if t.root t.root ≡ 1 = one_if-same t.root in
     elim (cases_lt 0 (sum_below t.next (λ id. times_in (nodes id) t.root))) [
       | inl some ↦ (let by : NamedBy nodes t.root = named_of_sum nodes t.next t.root (omega arith) in
-        absurd (root_unnamed nodes t s by.id by.node by.there by.names_it))
+          absurd (root_unnamed nodes t s by.id by.node by.there by.names_it))
       | inr none ↦ omega arith
     ]

@@ -1,9 +1,9 @@
 -- What nodes have after a step.
-use Rattle.std.proofs.Common.{◌≡◌, ℕ, zero, suc, ◌+◌, ◌-◌, ◌<◌, ◌≤◌, Bool, true, false, cond, List, [], ◌∷◌, length, refl, sym, ap, subst, ◌∙◌, Option, None, Some, arith, inl, inr, IsSome, ltb, eqb}
-use Rattle.std.specs.Prelude.{slice_get, ◌==◌}
+use Rattle.std.proofs.Common.{◌≡◌, ℕ, ◌+◌, ◌-◌, ◌<◌, ◌≤◌, cond, List, [], ◌∷◌, refl, sym, ap, subst, ◌∙◌, Option, None, Some, arith, inl, inr, IsSome, ltb, eqb}
+use Rattle.std.specs.Prelude.{slice_get}
 use Rattle.std.specs.List.{AllByRecursion}
 use Rattle.std.proofs.lemmas.Bool.{cases_eq, cases_lt, cases_Bool, eq-eqb, ne_eqb, lt-ltb, le-ltb, cond-true, cond-false}
-use Rattle.std.proofs.lemmas.Option.{same_Some, none-some, slice_get_within}
+use Rattle.std.proofs.lemmas.Option.{same_Some, none-some}
 use Rattle.bd_keys.specs.Keys.{IsKey}
 use Rattle.bd_message.specs.Effect.{NodesAt}
 use Rattle.bd_node.specs.declared.node.Node.{Node}
@@ -13,7 +13,7 @@ use Rattle.bd_node.specs.Nodes.{level_of, names, times, node_at, node_has, is_ke
 use Rattle.bd_node.specs.Meaning.{Nodes, at, IsLevelled, Meets}
 use Rattle.bd_node.specs.Tables.{Table, IsKept, IsTable, IsLower, IsNodeOf, IsStored, IsSound, root_at}
 use Rattle.bd_node.specs.Private.{IsPrivate}
-use Rattle.bd_node.specs.Steps.{changed_at, given, given_or, after, level_or, level_after, IsThere, IsNamable, IsPut, IsChange, IsStep, StayAbove, IsInPlace, IsCommitted, root_step, IsKeeping, IsMoving, IsOnlyNamed}
+use Rattle.bd_node.specs.Steps.{changed_at, given, given_or, after, level_or, level_after, IsNamable, IsStep, IsInPlace, IsCommitted, root_step, IsKeeping, IsMoving}
 use Rattle.bd_node.proofs.Lookup.{Agree, each_weaker, each_named, named_has, node_at-same, node_has-same, node_has-key, key-is_key}
 use Rattle.bd_node.proofs.Meanings.{at-meets, meets_agree, at_untouched, at-others}
 use Rattle.bd_node.proofs.Sound.{kept_there, node_of, sound-levelled, named_lower, root_unnamed}
@@ -45,9 +45,9 @@ changed_has P [] id n h e = absurd (none-some n e)
 changed_has P (c ∷ cs) id n h e =
     elim (cases_eq id c.id) [
       | inl same ↦ (let node : c.node ≡ n = same_Some c.node n (sym (changed_at-same c cs id same) ∙ e) in
-        let Q : ℕ → Type 0 = λ i. P (record { id = i; node = c.node }) in
-        let R : Node → Type 0 = λ m. P (record { id = id; node = m }) in
-        subst R node (subst Q (sym same) h.0))
+          let Q : ℕ → Type 0 = λ i. P (record { id = i; node = c.node }) in
+          let R : Node → Type 0 = λ m. P (record { id = id; node = m }) in
+          subst R node (subst Q (sym same) h.0))
       | inr other ↦ changed_has P cs id n h.1 (sym (changed_at-other c cs id other) ∙ e)
     ]
 
@@ -66,7 +66,7 @@ committed_meaning nodes t step new u c has meets id kept =
     let stored : IsStored new u id = c.sound.each id kept in
     let levelled : IsLevelled new = sound-levelled new u c.sound in
     let own : Meets new has = record {
-      each = λ i n there k. meets.each i n (sym (c.stays i (kept_there new u c.sound i n there)) ∙ there) k
+      each = λ i n there k. meets.each i n (sym (c.stays i (kept_there new u c.sound i n there)) ∙ there) k;
     } in
     meets_agree new levelled (at new) has (at-meets new levelled) own id stored.node stored.there
 
@@ -98,22 +98,22 @@ keeping_changed nodes t step has keeps id n low e k =
 pub keeping_meets : (nodes : Nodes) (t : Table) (step : Step) (has : NodesAt) → IsSound nodes t → IsKeeping nodes t step has → Meets (after nodes t step) has
 keeping_meets nodes t step has s keeps = record {
   each = λ id n there k.
-    by_given (has id k ≡ node_has has n k) (given t.next step id)
-    (λ none.
+      by_given (has id k ≡ node_has has n k) (given t.next step id)
+      (λ none.
       let old : nodes id ≡ Some n = sym (after-none nodes t step id none) ∙ there in
       let low : id < t.next = kept_low nodes t s id n old in
       keeps.old id low k
       ∙ (at-meets nodes (sound-levelled nodes t s)).each id n old k
       ∙ node_has-same (at nodes) has n k
       (each_weaker (IsLower t (t.level id)) (Agree (at nodes) has) (λ c lower l. sym (keeps.old c (s.table.below c lower.kept) l)) (names n) (node_of nodes t s id n old).lower))
-    (λ m some.
+      (λ m some.
       let same : m ≡ n = same_Some m n (sym (after-some nodes t step id m some) ∙ there) in
       let P : Node → Type 0 = λ q. has id k ≡ node_has has q k in
       subst P same
       (elim (cases_lt id t.next) [
         | inl low ↦ keeping_changed nodes t step has keeps id m low some k
         | inr high ↦ keeps.made id m high some k
-      ]))
+      ]));
 }
 
 -- what the nodes have after a step whose changed nodes have what they had
@@ -130,26 +130,26 @@ moving_old nodes t step has s moves id n there none c one = λ k.
     by_given (at nodes c k ≡ has c k) (given t.next step c)
     (λ out. sym (moves.old c out k))
     (λ m some.
-      elim (moves.named c m (s.table.below c (named_lower nodes t s id n there c one).kept) some) [
-        | inl same ↦ sym (same k)
-        | inr only ↦ (let given_too : IsSome (given t.next step id) = only.each id n there one in
+    elim (moves.named c m (s.table.below c (named_lower nodes t s id n there c one).kept) some) [
+      | inl same ↦ sym (same k)
+      | inr only ↦ (let given_too : IsSome (given t.next step id) = only.each id n there one in
           let none_too : IsSome {T = Node} None = subst (λ (o : Option Node). IsSome o) none given_too in
           absurd (no_some none_too))
-      ])
+    ])
 
 pub moving_meets : (nodes : Nodes) (t : Table) (step : Step) (has : NodesAt) → IsSound nodes t → IsMoving nodes t step has → Meets (after nodes t step) has
 moving_meets nodes t step has s moves = record {
   each = λ id n there k.
-    by_given (has id k ≡ node_has has n k) (given t.next step id)
-    (λ none.
+      by_given (has id k ≡ node_has has n k) (given t.next step id)
+      (λ none.
       let old : nodes id ≡ Some n = sym (after-none nodes t step id none) ∙ there in
       moves.old id none k
       ∙ (at-meets nodes (sound-levelled nodes t s)).each id n old k
       ∙ node_has-same (at nodes) has n k (each_named (Agree (at nodes) has) (names n) (λ c one. moving_old nodes t step has s moves id n old none c one)))
-    (λ m some.
+      (λ m some.
       let same : m ≡ n = same_Some m n (sym (after-some nodes t step id m some) ∙ there) in
       let P : Node → Type 0 = λ q. has id k ≡ node_has has q k in
-      subst P same (moves.put id m some k))
+      subst P same (moves.put id m some k));
 }
 
 pub moving_meaning : (nodes : Nodes) (t : Table) (step : Step) (new : Nodes) (u : Table) (has : NodesAt) → IsSound nodes t → IsCommitted nodes t step new u → IsMoving nodes t step has → (id : ℕ) → IsKept u id → Agree (at new) has id
@@ -164,10 +164,10 @@ isolated : (nodes : Nodes) (t : Table) (step : Step) (new : Nodes) (u : Table) (
 isolated nodes t step new u P s c changed apart id kept stays out =
     let S : ℕ → Type 0 = λ i. (IsKept t i × IsKept u i) × (P i → ⊥) in
     let same : (i : ℕ) → S i → new i ≡ nodes i = λ i at_i.
-      c.stays i at_i.0.1 ∙ after-none nodes t step i (given-old t.next step i (s.table.below i at_i.0.0) ∙ changed_at-none P step.changes i changed at_i.1) in
+    c.stays i at_i.0.1 ∙ after-none nodes t step i (given-old t.next step i (s.table.below i at_i.0.0) ∙ changed_at-none P step.changes i changed at_i.1) in
     let closed : (i : ℕ) (n : Node) → S i → nodes i ≡ Some n → AllByRecursion S (names n) = λ i n at_i there.
-      each_named S (names n) (λ d one.
-        (((named_lower nodes t s i n there d one).kept, (named_lower new u c.sound i n (same i at_i ∙ there) d one).kept), λ p. apart i d n p at_i.1 there one)) in
+    each_named S (names n) (λ d one.
+    (((named_lower nodes t s i n there d one).kept, (named_lower new u c.sound i n (same i at_i ∙ there) d one).kept), λ p. apart i d n p at_i.1 there one)) in
     at_untouched nodes new S same closed id ((kept, stays), out)
 
 -- where private nodes alone are changed, each other node that stays has what it had
@@ -223,35 +223,38 @@ root_step-step t n table own =
     let inner : 1 ≤ t.level t.root = table.inner in
     record {
       made = tt;
-      changes = (record {
-        kept = table.root;
-        put = record {
-          shape = own.shape;
-          lower = each_weaker (IsLower t (t.level t.root)) (IsNamable t step (level_of n))
-            (λ c lower. record {
-              there = inl lower.kept;
-              lower = (let e : level_after t step c ≡ t.level c = level_after_other t n c (lower_other t c lower) in
-                let l : t.level c < t.level t.root = lower.lower in omega arith)
-            }) (names n) own.lower
-        }
-      }, tt);
+      changes = (
+        record {
+          kept = table.root;
+          put = record {
+            shape = own.shape;
+            lower = each_weaker (IsLower t (t.level t.root)) (IsNamable t step (level_of n))
+                (λ c lower. record {
+                  there = inl lower.kept;
+                  lower = (let e : level_after t step c ≡ t.level c = level_after_other t n c (lower_other t c lower) in
+                      let l : t.level c < t.level t.root = lower.lower in omega arith);
+                }) (names n) own.lower;
+          };
+        },
+        tt,
+      );
       once = (tt, tt);
       root = inl table.root;
       inner = omega arith;
-      used = λ id high low. absurd (let l : id < t.next + 0 = low in omega arith)
+      used = λ id high low. absurd (let l : id < t.next + 0 = low in omega arith);
     }
 
 pub root_step-in_place : (nodes : Nodes) (t : Table) (n : Node) → IsSound nodes t → IsInPlace nodes t (root_step t.root n)
 root_step-in_place nodes t n s = record {
   private = (root_private nodes t s, tt);
   above = λ id m there none.
-    each_named (λ c. level_after t (root_step t.root n) c < level_of m) (names m) (λ c one.
+      each_named (λ c. level_after t (root_step t.root n) c < level_of m) (names m) (λ c one.
       let lower : IsLower t (t.level id) c = named_lower nodes t s id m there c one in
       let other : c ≡ t.root → ⊥ = λ e. root_unnamed nodes t s id m there (subst (λ q. 1 ≤ times m q) e one) in
       let e : level_after t (root_step t.root n) c ≡ t.level c = level_after_other t n c other in
       let l : t.level c < t.level id = lower.lower in
       let is : level_of m ≡ t.level id = (node_of nodes t s id m there).level_is in
-      omega arith)
+      omega arith);
 }
 
 -- what the tree then has
@@ -265,5 +268,5 @@ root_step-meaning nodes t n new u s own c root k key =
     ∙ given_meaning nodes t step new u c t.root n kept (given_at_root t n s.table) k key
     ∙ node_at-same (at new) (at nodes) n k
     (each_named (Agree (at new) (at nodes)) (names n) (λ d one.
-      let lower : IsLower t (t.level t.root) d = named_has (IsLower t (t.level t.root)) d (names n) own.lower one in
-      isolated_root nodes t step new u s c (refl, tt) d lower.kept (named_lower new u c.sound t.root n there d one).kept (lower_other t d lower)))
+    let lower : IsLower t (t.level t.root) d = named_has (IsLower t (t.level t.root)) d (names n) own.lower one in
+    isolated_root nodes t step new u s c (refl, tt) d lower.kept (named_lower new u c.sound t.root n there d one).kept (lower_other t d lower)))

@@ -31,5 +31,5 @@ table_from nodes next root = record {
   level = λ id. height_of (nodes id) - 1;
   root = root;
   size = buffer_size_in (nodes root);
-  next = next
+  next = next;
 }

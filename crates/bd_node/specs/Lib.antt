@@ -7,3 +7,4 @@ pub mod Private
 pub mod Steps
 pub mod Stores
 pub mod Closed
+pub mod New

@@ -1,5 +1,5 @@
 -- Nodes: their parts, the nodes that they name, and what a node has at a key.
-use Rattle.std.specs.Prelude.{ℕ, suc, ◌+◌, Bool, if◌then◌else◌, nat_lt, ◌==◌, List, [], ◌∷◌, ◌++◌, drop, Option, None, Some, count_by}
+use Rattle.std.specs.Prelude.{ℕ, suc, Bool, if◌then◌else◌, nat_lt, ◌==◌, List, [], ◌∷◌, ◌++◌, drop, Option, None, Some, count_by}
 use Rattle.std.specs.Option.{option_to_list}
 use Rattle.std.specs.List.{list_all, flat_map, sum_by}
 use Rattle.std.specs.Ordering.{is_lt}
@@ -8,7 +8,6 @@ use Rattle.bd_message.specs.declared.message.Message.{Message}
 use Rattle.bd_message.specs.declared.message.Message.TheVariants.{Put, Del, Patch, Cut, Goto}
 use Rattle.bd_message.specs.Messages.{size}
 use Rattle.bd_message.specs.Effect.{NodesAt, same_key, acts}
-use Rattle.bd_message.specs.KeyMaps.{At}
 use Rattle.bd_node.specs.declared.node.Entry.{Entry}
 use Rattle.bd_node.specs.declared.node.Edge.{Edge}
 use Rattle.bd_node.specs.declared.node.Node.{Node}

@@ -103,7 +103,7 @@ pub data HasRoom (nodes : Nodes) (t : Table) (step : Step) (id : ℕ) (n : Node)
   of_root : id ≡ t.root → HasRoom nodes t step id n
   changed_too : IsOnlyNamed nodes t step id → HasRoom nodes t step id n
   under_all : ((p : ℕ) (m : Node) → nodes p ≡ Some m → 1 ≤ times m id → level_of n < level_of m)
-    → HasRoom nodes t step id n
+      → HasRoom nodes t step id n
 
 -- a step that changes sound nodes in place: private ones alone
 pub record IsInPlace (nodes : Nodes) (t : Table) (step : Step) : Type 0 where
@@ -122,7 +122,8 @@ pub record IsTableAfter (t : Table) (step : Step) (new : Table) : Type 0 where
   pub same_size : given t.next step step.root ≡ None → step.root ≡ t.root → new.size ≡ t.size
 
 -- the nodes that stay are as the step leaves them, and sound
-pub record IsCommitted (nodes : Nodes) (t : Table) (step : Step) (new : Nodes) (u : Table) : Type 0 where
+pub record IsCommitted (nodes : Nodes) (t : Table) (step : Step) (new : Nodes) (u : Table) : Type 0
+    where
   pub stays : (id : ℕ) → IsKept u id → new id ≡ after nodes t step id
   pub sound : IsSound new u
 

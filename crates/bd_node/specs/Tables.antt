@@ -1,5 +1,5 @@
 -- What a store knows of its nodes whatever their contents are, and sound nodes.
-use Rattle.std.specs.Prelude.{◌≡◌, ℕ, zero, suc, ◌+◌, ◌<◌, ◌≤◌, ◌==◌, if◌then◌else◌, List, Option, None, Some}
+use Rattle.std.specs.Prelude.{◌≡◌, ℕ, zero, suc, ◌+◌, ◌<◌, ◌≤◌, ◌==◌, if◌then◌else◌, Option, None, Some}
 use Rattle.std.specs.List.{AllByRecursion}
 use Rattle.bd_message.specs.KeyMaps.{At}
 use Rattle.bd_node.specs.declared.node.Node.{Node}

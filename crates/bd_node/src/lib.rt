@@ -4,6 +4,7 @@
 #![tactic(auto)]
 
 mod items;
+pub mod laws;
 mod messages;
 mod node;
 mod store;

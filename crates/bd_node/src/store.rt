@@ -69,7 +69,7 @@ pub trait NodeStore {
         ensures table { OnOk result (IsTableAfter (table self.old) step (table self.new)) }
         ensures committed { is_known self.old → IsSound (nodes self.old) (table self.old)
             → OnOk result (IsCommitted (nodes self.old) (table self.old) step
-                (nodes self.new) (table self.new)) }
+            (nodes self.new) (table self.new)) }
         ensures known { is_known self.old → is_known self.new }
         ensures visits { OnOk result
             (visit_count self.new ≡ visited (visit_count self.old) (length step.made)) }
@@ -88,7 +88,7 @@ pub trait NodeStore {
         ensures committed { is_known self.old → IsSound (nodes self.old) (table self.old)
             → (root : Node) → nodes self.old (table self.old).root ≡ Some root
             → OnOk result (IsCommitted (nodes self.old) (table self.old)
-                (append_step (table self.old) root list) (nodes self.new) (table self.new)) }
+            (append_step (table self.old) root list) (nodes self.new) (table self.new)) }
         ensures known { is_known self.old → is_known self.new }
         ensures err_table { OnErr result (table self.new ≡ table self.old) }
         ensures err_nodes { is_known self.old → OnErr result (nodes self.new ≡ nodes self.old) }
