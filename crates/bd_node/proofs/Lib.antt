@@ -1,0 +1,10 @@
+pub mod Lookup
+pub mod Meanings
+pub mod Sums
+pub mod Sound
+pub mod Privacy
+pub mod Edges
+pub mod Stepping
+pub mod Appending
+pub mod Closing
+pub mod LawLemmas

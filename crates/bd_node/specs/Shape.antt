@@ -1,0 +1,109 @@
+-- Well-formed nodes.
+use Rattle.std.specs.Prelude.{◌≡◌, ℕ, ◌+◌, ◌<◌, ◌≤◌, ◌^◌, ◌⊎◌, true, List, [], ◌∷◌, length, take, Option, None, Some, slice_get}
+use Rattle.std.specs.List.{AllByRecursion, sum_by}
+use Rattle.bd_limits.specs.Limits.{key_limit, block_limit}
+use Rattle.bd_keys.specs.Keys.{IsBelow, IsBelowEnd, InRange, IsCommon}
+use Rattle.bd_message.specs.declared.message.Message.{Message}
+use Rattle.bd_message.specs.Messages.{IsMessage, size}
+use Rattle.bd_node.specs.declared.node.Entry.{Entry}
+use Rattle.bd_node.specs.declared.node.Edge.{Edge}
+use Rattle.bd_node.specs.declared.node.Node.{Node}
+use Rattle.bd_node.specs.declared.node.Node.TheVariants.{Leaf, Inner}
+use Rattle.bd_node.specs.Touching.{touches}
+
+-- the most bytes that wait in a node
+abbrev pub buffer_limit : ℕ
+buffer_limit = 32768
+
+-- the most bytes of a leaf's entries
+abbrev pub leaf_limit : ℕ
+leaf_limit = 40960
+
+-- the greatest level
+abbrev pub level_limit : ℕ
+level_limit = 1000
+
+-- the most edges of a node
+abbrev pub edge_limit : ℕ
+edge_limit = 16
+
+-- ---- leaves
+
+-- how many bytes an entry counts: as its Put
+abbrev pub entry_size : Entry → ℕ
+entry_size e = 16 + length e.key + length e.value
+
+-- a key of at most 518 bytes and a value of 1 to 1,024
+pub record IsEntry (e : Entry) : Type 0 where
+  pub key : length e.key ≤ key_limit
+  pub some : 1 ≤ length e.value
+  pub value : length e.value ≤ block_limit
+
+-- the key is below that of each of these entries
+abbrev pub IsBelowAll : Entry → List Entry → Type 0
+IsBelowAll e es = AllByRecursion (λ (f : Entry). IsBelow e.key f.key) es
+
+-- each key is below those after it
+abbrev pub IsRising : List Entry → Type 0
+IsRising [] = Unit {0}
+IsRising (e ∷ es) = IsBelowAll e es × IsRising es
+
+-- a leaf: entries in rising order, not too many bytes
+pub record IsLeaf (entries : List Entry) : Type 0 where
+  pub each : AllByRecursion IsEntry entries
+  pub rising : IsRising entries
+  pub size : sum_by entry_size entries ≤ leaf_limit
+
+-- ---- inner nodes
+
+-- where the keys of the edge before these end
+abbrev pub end_before : List Edge → Option (List ℕ)
+end_before [] = None
+end_before (e ∷ es) = Some e.pivot
+
+-- each edge has the property, which also takes where its keys end
+abbrev pub EachEdge : (Edge → Option (List ℕ) → Type 0) → List Edge → Type 0
+EachEdge P [] = Unit {0}
+EachEdge P (e ∷ es) = P e (end_before es) × EachEdge P es
+
+-- some edge has it
+abbrev pub SomeEdge : (Edge → Option (List ℕ) → Type 0) → List Edge → Type 0
+SomeEdge P [] = ⊥
+SomeEdge P (e ∷ es) = P e (end_before es) ⊎ SomeEdge P es
+
+-- a child is a node's id, and without one there is no source
+abbrev pub IsChild : Option ℕ → List ℕ → Type 0
+IsChild None source = source ≡ []
+IsChild (Some child) source = (1 ≤ child) × (child < 2 ^ 64)
+
+-- an edge whose keys end there, over a buffer of so many messages
+pub record IsEdge (buffered : ℕ) (e : Edge) (hi : Option (List ℕ)) : Type 0 where
+  pub pivot : length e.pivot ≤ key_limit
+  pub rising : IsBelowEnd e.pivot hi
+  pub lift : e.lift ≤ length e.pivot
+  pub common : IsCommon e.pivot hi (take e.lift e.pivot)
+  pub source : length e.source ≤ key_limit
+  pub child : IsChild e.child e.source
+  pub seen : e.seen ≤ buffered
+
+-- the edge hasn't seen the message at this place, which can change what stands at a key of the edge
+abbrev pub IsPending : ℕ → Message → Edge → Option (List ℕ) → Type 0
+IsPending place m e hi =
+    (e.seen ≤ place) × ((k : List ℕ) × InRange e.pivot hi k × (touches m k ≡ true))
+
+-- an inner node
+pub record IsInner (level : ℕ) (edges : List Edge) (buffer : List Message) : Type 0 where
+  pub low : 1 ≤ level
+  pub high : level ≤ level_limit
+  pub few : length edges ≤ edge_limit
+  pub first : end_before edges ≡ Some []
+  pub each : EachEdge (IsEdge (length buffer)) edges
+  pub messages : AllByRecursion IsMessage buffer
+  pub size : sum_by size buffer ≤ buffer_limit
+  pub pending : (place : ℕ) (m : Message) → slice_get buffer place ≡ Some m
+      → SomeEdge (IsPending place m) edges
+
+-- a well-formed node
+abbrev pub IsShape : Node → Type 0
+IsShape (Leaf entries) = IsLeaf entries
+IsShape (Inner level edges buffer) = IsInner level edges buffer

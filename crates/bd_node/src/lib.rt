@@ -1,0 +1,15 @@
+//! The nodes that represent a key map, what a node has at a key, sound nodes and the store of
+//! nodes.
+//! The layers above use the contract of `NodeStore`, what a node has at a key, and the laws.
+#![tactic(auto)]
+
+mod items;
+pub mod laws;
+mod messages;
+mod node;
+mod store;
+
+pub use items::Items;
+pub use messages::Messages;
+pub use node::{Change, Changes, Edge, Edges, Entries, Entry, Node, Nodes, Step};
+pub use store::NodeStore;
