@@ -2,6 +2,7 @@ ghost use Rattle.std.specs.Prelude.{◌≡◌, ◌≤◌, length, take};
 ghost use Rattle.betr.specs.Fault.{status_of, fault_line};
 
 use bd_message::Counter;
+use std::alloc::AllocError;
 
 /// The bytes of a buffer for a fault's line, which has room for each.
 pub const FAULT_SIZE: usize = 64;
@@ -67,5 +68,16 @@ impl Fault {
             Fault::Worn(Counter::Flushes) => b"fault worn flushes\n",
             Fault::Sink => b"",
         }
+    }
+}
+
+impl From<AllocError> for Fault {
+    ghost use Rattle.std.specs.Prelude.{◌≡◌};
+    ghost use Rattle.betr.specs.declared.fault.Fault.TheVariants.{Memory};
+
+    ghost from_gives = { λ _ fault. fault ≡ Memory };
+
+    fn from(_error: AllocError) -> Fault {
+        Fault::Memory
     }
 }

@@ -217,10 +217,7 @@ impl<D: Device + Drop> Shell<D> {
         if self.line.is_empty() {
             return run_line(alloc, &mut self.volume, last, &mut self.buffer, sink);
         }
-        match hold(&mut self.line, last) {
-            Ok(()) => {}
-            Err(AllocError) => return Err(Fault::Memory),
-        }
+        hold(&mut self.line, last)?;
         let flow = run_line(alloc, &mut self.volume, &self.line, &mut self.buffer, sink)?;
         self.line.clear();
         Ok(flow)
@@ -258,10 +255,8 @@ impl<D: Device + Drop> Shell<D> {
             }
             rest = tail;
         }
-        match hold(&mut self.line, rest) {
-            Ok(()) => Ok(ControlFlow::Continue(())),
-            Err(AllocError) => Err(Fault::Memory),
-        }
+        hold(&mut self.line, rest)?;
+        Ok(ControlFlow::Continue(()))
     }
 
     /// Executes what is held at the end of a script, where that isn't empty.

@@ -15,18 +15,18 @@ returns-then-is_empty-clause-ok g c =
 
 pub returns-in_err-flow-clause-err : goal.returns-in_err-flow-clause-err
 returns-in_err-flow-clause-err g c =
-    let p = err_from_is_err_and c.from_residual.result c.from_residual.ensures.1 in
+    let p = err_from_is_err_and c.from_residual-in_err-flow.result c.from_residual-in_err-flow.ensures.1 in
     let same : line_of c.deref.result.now ≡ line_of (c.args.self.now.line.items ++ c.args.last.now) =
-    ap line_of (c.deref.ensures.value ∙ c.in-Ok.ensures.ok) ∙ line_of-held (c.args.self.now.line.items ++ c.args.last.now) in
+    ap line_of (c.deref.ensures.value ∙ c.in_ok-hold.ensures.ok) ∙ line_of-held (c.args.self.now.line.items ++ c.args.last.now) in
     rw (p.1, p.2, ← same) c.in_err-flow.ensures.err
 
 pub returns-clause-ok : goal.returns-clause-ok
 returns-clause-ok g c =
     let same : line_of c.deref.result.now ≡ line_of (c.args.self.now.line.items ++ c.args.last.now) =
-    ap line_of (c.deref.ensures.value ∙ c.in-Ok.ensures.ok) ∙ line_of-held (c.args.self.now.line.items ++ c.args.last.now) in
+    ap line_of (c.deref.ensures.value ∙ c.in_ok-hold.ensures.ok) ∙ line_of-held (c.args.self.now.line.items ++ c.args.last.now) in
     rw (← same) c.in_ok-flow.ensures.ok
 
 pub returns-clause-flow : goal.returns-clause-flow
 returns-clause-flow g c =
     c.in_ok-flow.ensures.flow
-    ∙ ap is_stop (ap line_of (c.deref.ensures.value ∙ c.in-Ok.ensures.ok) ∙ line_of-held (c.args.self.now.line.items ++ c.args.last.now))
+    ∙ ap is_stop (ap line_of (c.deref.ensures.value ∙ c.in_ok-hold.ensures.ok) ∙ line_of-held (c.args.self.now.line.items ++ c.args.last.now))

@@ -48,18 +48,19 @@ pub hold-requires : goal.hold-requires
 hold-requires g c =
     fed_short c.lines.self.line.items (c.args.self.now.line.items ++ c.lines.invariant.fed.front) c.lines.invariant.fed.line_is
 
-pub returns-in-Ok-clause-ok : goal.returns-in-Ok-clause-ok
-returns-in-Ok-clause-ok g c =
+pub returns-clause-ok : goal.returns-clause-ok
+returns-clause-ok g c =
     ends_fed _ _ _ _ _ _ _ _ c.lines.invariant.fed (at_none _ c.cut_line.result c.cut_line.ensures c.in_default.not-Some)
 
-pub returns-in-Ok-clause-line : goal.returns-in-Ok-clause-line
-returns-in-Ok-clause-line g c goes_on =
-    (fed_ends _ _ _ _ _ _ _ _ _ c.lines.invariant.fed (at_none _ c.cut_line.result c.cut_line.ensures c.in_default.not-Some) c.in-Ok.ensures.ok).line_is
+pub returns-clause-line : goal.returns-clause-line
+returns-clause-line g c goes_on =
+    (fed_ends _ _ _ _ _ _ _ _ _ c.lines.invariant.fed (at_none _ c.cut_line.result c.cut_line.ensures c.in_default.not-Some) c.in_ok-hold.ensures.ok).line_is
 
-pub returns-in-Ok-clause-flow : goal.returns-in-Ok-clause-flow
-returns-in-Ok-clause-flow g c =
-    sym (fed_ends _ _ _ _ _ _ _ _ _ c.lines.invariant.fed (at_none _ c.cut_line.result c.cut_line.ensures c.in_default.not-Some) c.in-Ok.ensures.ok).no_stop
+pub returns-clause-flow : goal.returns-clause-flow
+returns-clause-flow g c =
+    sym (fed_ends _ _ _ _ _ _ _ _ _ c.lines.invariant.fed (at_none _ c.cut_line.result c.cut_line.ensures c.in_default.not-Some) c.in_ok-hold.ensures.ok).no_stop
 
-pub returns-in-Err-clause-err : goal.returns-in-Err-clause-err
-returns-in-Err-clause-err g c =
-    memory_fed _ _ _ _ _ _ _ _ _ _ c.lines.invariant.fed c.in-Err.ensures.some (λ t h. (h, refl))
+pub returns-in_err-hold-clause-err : goal.returns-in_err-hold-clause-err
+returns-in_err-hold-clause-err g c =
+    let p = err_from_is_err_and c.from_residual-in_err-hold.result c.from_residual-in_err-hold.ensures.1 in
+    rw (p.1, p.2) (memory_fed _ _ _ _ _ _ _ _ _ _ c.lines.invariant.fed c.in_err-hold.ensures.some (λ t h. (h, refl)))
