@@ -6,12 +6,14 @@
 
 mod device;
 mod fuse_device;
+mod laws;
 mod mem_device;
 mod torn;
 mod write_record;
 
 pub use device::{Attach, BLOCK_SIZE, Device};
 pub use fuse_device::FuseDevice;
+pub use laws::{law_of_a_barrier, law_of_a_write};
 pub use mem_device::MemDevice;
 pub use torn::Torn;
 pub use write_record::WriteRecord;
