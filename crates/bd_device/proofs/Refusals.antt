@@ -56,3 +56,14 @@ pub shape-refused : (count b : ℕ) (detached : Bool) (contents : Option Image) 
     → IfSome (unless_detached detached contents) (HasBlocks (if detached then 0 else count))
 shape-refused count b true contents lt shape = absurd (omega arith)
 shape-refused count b false contents lt shape = shape
+
+-- what holds anyway holds where nothing is asked for
+pub IfNone-always : {A P : Type 0} (o : Option A) → P → IfNone o P
+IfNone-always None p = p
+IfNone-always (Some a) p = tt
+
+-- what follows from what holds at Ok where nothing was asked for
+pub OnOk-IfNone-then : {T E A P Q : Type 0} (r : Result T E) (o : Option A) → OnOk r (IfNone o P) → (P → Q) → OnOk r (IfNone o Q)
+OnOk-IfNone-then (Ok x) None p f = f p
+OnOk-IfNone-then (Ok x) (Some a) p f = tt
+OnOk-IfNone-then (Err e) o p f = tt

@@ -6,8 +6,8 @@ ghost use Rattle.bd_device.specs.Moments.{TornAt};
 use crate::{BLOCK_SIZE, Device, MemDevice};
 use bd_io::Failed;
 
-/// After a write to a device in memory with nothing in flight, also one that failed with a record, a
-/// crash may leave each image that has any bytes in that block, and no other.
+/// After a write to a device in memory with nothing in flight, also one that failed with a record,
+/// a crash may leave each image that has any bytes in that block, and no other.
 pub fn law_of_a_write(device: &mut MemDevice, b: u64, from: &[u8; BLOCK_SIZE]) -> Result<(), Failed>
     requires room { b < attached_size device.old }
     requires settled { (c : Image) → left_of device.old device.old.plan.calls c
