@@ -67,3 +67,12 @@ pub OnOk-IfNone-then : {T E A P Q : Type 0} (r : Result T E) (o : Option A) → 
 OnOk-IfNone-then (Ok x) None p f = f p
 OnOk-IfNone-then (Ok x) (Some a) p f = tt
 OnOk-IfNone-then (Err e) o p f = tt
+
+-- the images that a crash of the inner device may leave now are those of this one
+pub HasBlocks-up_to : (n refused blocks : ℕ) (detached : Bool) (left : ℕ → Image → Type 0)
+    → n ≤ 2 ^ 64 - 1 → (0 < blocks → (c : Image) → left n c → HasBlocks blocks c) → 0 < (if detached then 0 else blocks)
+    → (c : Image) → up_to n left (with_refused n refused) c → HasBlocks (if detached then 0 else blocks) c
+HasBlocks-up_to n refused blocks true left fits shape lt c now = absurd (omega arith)
+HasBlocks-up_to n refused blocks false left fits shape lt c now =
+    let last : min (with_refused n refused) n ≡ n = omega (arith, fits) in
+    shape lt c (subst (λ k. left k c) last now)
