@@ -1,4 +1,5 @@
-ghost use Rattle.std.specs.Prelude.{◌≡◌, ◌<◌, ◌↔◌, ◌⊎◌, IsTrue, OnOk};
+ghost use Rattle.std.specs.Prelude.{◌≡◌, ◌<◌, ◌↔◌, ◌⊎◌, IsTrue, OnOk, is_err};
+ghost use Rattle.bd_io.specs.Plan.{next_fails};
 ghost use Rattle.bd_device.specs.Blocks.{Image};
 ghost use Rattle.bd_device.specs.Memory.{attached_size, attached_image, held_image, is_recorded, left_of};
 ghost use Rattle.bd_device.specs.Moments.{TornAt};
@@ -25,8 +26,9 @@ pub fn law_of_a_write(device: &mut MemDevice, b: u64, from: &[u8; BLOCK_SIZE]) -
 /// else.
 pub fn law_of_a_barrier(device: &mut MemDevice) -> Result<(), Failed>
     requires { IsTrue device.old.attached }
-    ensures { OnOk result ((c : Image)
+    ensures left { OnOk result ((c : Image)
         → left_of device.new device.new.plan.calls c ↔ (c ≡ attached_image device.new)) }
+    ensures fails { is_err result ≡ next_fails device.old.plan }
 {
     device.barrier()
 }

@@ -5,8 +5,8 @@ use Rattle.bd_device.proofs.Left.{HasLeft-now}
 use Rattle.bd_device.proofs.Refusals.{OnOk-then}
 use Rattle.bd_device.proofs.laws.law_of_a_barrier.Goals as goal
 
-pub returns : goal.returns
-returns c =
+pub returns-clause-left : goal.returns-clause-left
+returns-clause-left c =
     let new = c.barrier.new.self in
     let on : new.attached ≡ true = ap (λ (m : MemoryDevice). m.attached) c.barrier.ensures.after ∙ c.requires in
     let same = held-attached new on in
