@@ -1,11 +1,11 @@
 -- What a loss of power leaves is among what a crash may leave.
 use Rattle.std.proofs.Common.{◌≡◌, ◌≢◌, ℕ, ◌+◌, ◌-◌, ◌<◌, ◌≤◌, All, inl, inr, ⊎_elim, suc, zero, min, subst, replicate, List, [], ◌∷◌, ◌∙◌, refl, sym, ap, arith, add-one, length, take, reverse, slice_set, slice_index_or}
-use Rattle.std.proofs.lemmas.List.{reverse-append, length-set, length-take, get_or-take, length-reverse, get_or-reverse, get_or-set_other, get_or_past, set-set, set-get_or, set_past, ext_get_or}
+use Rattle.std.proofs.lemmas.List.{reverse-append, length-set, length-take, length-take-le, get_or-take, length-reverse, get_or-reverse, get_or-set_other, get_or_past, set-set, set-get_or, set_past, ext_get_or}
 use Rattle.std.proofs.lemmas.List.Elements.{All-head, All-tail, All-set, All-take}
 use Rattle.std.proofs.lemmas.Bool.{cases_eq, cases_lt}
 use Rattle.std.proofs.lemmas.Grind.{common_steps, get_or-set_at}
 use Rattle.std.proofs.Math.Seq.{take-suc}
-use Rattle.bd_device.specs.Blocks.{Image, IsBlock}
+use Rattle.bd_device.specs.Blocks.{Image, IsBlock, HasBlocks}
 use Rattle.bd_device.specs.Crash.{IsInFlight, torn_bytes, torn_blocks}
 use Rattle.bd_device.specs.Memory.{MemoryDevice, IsRecordIn, HasLeft, image_before, left_of}
 use Rattle.bd_device.specs.declared.torn.Torn.{Torn}
@@ -118,3 +118,32 @@ left_of-torn how d new count records torn whole =
     (All-take IsBlock d.size new whole)
     (λ i settled. take-others d.size i new d.blocks
     (ap (λ (image : Image). slice_index_or image i []) torn ∙ torn_blocks-others how d.barrier ws d.blocks i settled))
+
+-- a whole block in place of one
+HasBlocks-set : (count : ℕ) (image : Image) (b : ℕ) (bytes : List ℕ) → HasBlocks count image → IsBlock bytes → HasBlocks count (slice_set image b bytes)
+HasBlocks-set count image b bytes shape whole = record {
+  count_is = length-set image b bytes ∙ shape.count_is;
+  whole = All-set IsBlock image b bytes whole shape.whole;
+}
+
+-- what a crash may leave has as many whole blocks as there are
+pub HasLeft-shape : (count barrier : ℕ) (ws : List WriteRecord) (image c : Image) (t : ℕ) → All (λ (w : WriteRecord). IsBlock w.before) ws
+    → HasBlocks count image → HasLeft barrier ws image t c → HasBlocks count c
+HasLeft-shape count barrier [] image c t before shape now = subst (HasBlocks count) (sym now) shape
+HasLeft-shape count barrier (w ∷ ws) image c t before shape (inl now) = subst (HasBlocks count) (sym now) shape
+HasLeft-shape count barrier (w ∷ ws) image c t before shape (inr (inl tears)) =
+    let torn = tears.1 in
+    let was = HasLeft-shape count w.barrier ws (image_before w image) torn.0 (w.call - 1) (All-tail (λ (v : WriteRecord). IsBlock v.before) w ws before)
+    (HasBlocks-set count image w.block w.before shape (All-head (λ (v : WriteRecord). IsBlock v.before) w ws before)) torn.1 in
+    subst (HasBlocks count) (sym torn.4) (HasBlocks-set count torn.0 w.block torn.2 was torn.3)
+HasLeft-shape count barrier (w ∷ ws) image c t before shape (inr (inr old)) =
+    HasLeft-shape count w.barrier ws (image_before w image) c t (All-tail (λ (v : WriteRecord). IsBlock v.before) w ws before)
+    (HasBlocks-set count image w.block w.before shape (All-head (λ (v : WriteRecord). IsBlock v.before) w ws before)) old.1
+
+-- so it is of a device
+pub left_of-shape : (d : MemoryDevice) (count : ℕ) (c : Image) (t : ℕ) → d.size ≤ length d.blocks → All IsBlock d.blocks
+    → All (IsRecordIn count) d.writes → left_of d t c → HasBlocks d.size c
+left_of-shape d count c t fits whole records left =
+    HasLeft-shape d.size d.barrier (reverse d.writes) (take d.size d.blocks) c t
+    (All-reverse (λ (w : WriteRecord). IsBlock w.before) d.writes (λ k w lt. (records k w lt).1))
+    (record { count_is = length-take-le d.size d.blocks fits; whole = All-take IsBlock d.size d.blocks whole }) left

@@ -45,3 +45,7 @@ IsBlock-zero = IsBlock-full 0 (omega arith)
 -- an attached block is one of the image
 pub attached_in_size : (d : MemoryDevice) (b : ℕ) → b < attached_size d → b < d.size
 attached_in_size d b lt = grind arith
+
+-- where there are attached blocks they are those of the image
+pub attached_size-is : (d : MemoryDevice) → 0 < attached_size d → attached_size d ≡ d.size
+attached_size-is d lt = grind arith

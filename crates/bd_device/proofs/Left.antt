@@ -1,5 +1,5 @@
 -- What a crash may leave of a device in memory, as its calls go on.
-use Rattle.std.proofs.Common.{◌≡◌, ℕ, ◌+◌, ◌-◌, ◌<◌, ◌≤◌, ◌⊎◌, List, [], ◌∷◌, ◌++◌, ◌∙◌, All, Bool, true, false, if◌then◌else◌, ◌^◌, inl, inr, refl, sym, ap, subst, arith, length, take, reverse, slice_set, slice_index_or}
+use Rattle.std.proofs.Common.{◌≡◌, ℕ, ◌+◌, ◌-◌, ◌<◌, ◌≤◌, ◌⊎◌, List, [], ◌∷◌, ◌++◌, ◌∙◌, All, Bool, true, false, if◌then◌else◌, ◌^◌, Result, Ok, Err, inl, inr, refl, sym, ap, subst, arith, length, take, reverse, slice_set, slice_index_or}
 use Rattle.std.proofs.lemmas.List.{get_or-take, set-get_or, set-set, reverse-append}
 use Rattle.std.proofs.lemmas.Bool.Decides.{nat_tests}
 use Rattle.std.proofs.Math.Seq.{take-set-lt}
@@ -7,7 +7,7 @@ use Rattle.bd_io.specs.Cause.{next_count}
 use Rattle.bd_io.specs.Plan.{PlannedCalls}
 use Rattle.bd_device.specs.Blocks.{Image, IsBlock}
 use Rattle.bd_device.specs.Moments.{Elapses, TornAt}
-use Rattle.bd_device.specs.Memory.{MemoryDevice, HasLeft, image_before, held_image, attached_image, attached_size, left_of, is_recorded, written_record, with_record, recorded}
+use Rattle.bd_device.specs.Memory.{MemoryDevice, HasLeft, image_before, held_image, attached_image, attached_size, left_of, is_recorded, written_record, with_record, recorded, after_write}
 use Rattle.bd_device.specs.declared.write_record.WriteRecord.{WriteRecord}
 
 -- what is there is among it
@@ -93,3 +93,33 @@ attached_image-recorded n b bytes done d =
 pub attached_size-recorded : (n b : ℕ) (bytes : List ℕ) (done : Bool) (d : MemoryDevice) → attached_size (recorded n b bytes done d) ≡ attached_size d
 attached_size-recorded n b bytes done d =
     elim (is_recorded n d) as (λ r. attached_size (if r then with_record n b bytes done d else d) ≡ attached_size d) [ true ↦ refl | false ↦ refl ]
+
+-- after a write with a record each image may be left that has any bytes in its block
+HasLeft-torn : (w : WriteRecord) (ws : List WriteRecord) (image new c : Image) (t : ℕ) → image_before w new ≡ image
+    → TornAt w.block (λ (d : Image). d ≡ image) c → HasLeft 0 (reverse (ws ++ w ∷ [])) new t c
+HasLeft-torn w ws image new c t undone torn =
+    let base : HasLeft w.barrier (reverse ws) image (w.call - 1) torn.0 =
+    subst (λ (i : Image). HasLeft w.barrier (reverse ws) image (w.call - 1) i) (sym torn.1) (HasLeft-now w.barrier (reverse ws) image (w.call - 1)) in
+    subst (λ (l : List WriteRecord). HasLeft 0 l new t c) (sym (reverse-append ws (w ∷ [])))
+    (inr (inl (
+      inl refl,
+      (
+        torn.0,
+        subst (λ (i : Image). HasLeft w.barrier (reverse ws) i (w.call - 1) torn.0) (sym undone) base,
+        torn.2,
+        torn.3,
+        torn.4,
+      ),
+    )))
+
+-- so it is of a device, whether the write was done or failed
+pub left-any : {T E : Type 0} (d : MemoryDevice) (b : ℕ) (bytes : List ℕ) (result : Result T E) (t : ℕ) (c : Image) → b < d.size
+    → is_recorded d.plan.calls d ≡ true → TornAt b (λ (i : Image). i ≡ held_image d) c → left_of (after_write b bytes result d) t c
+left-any d b bytes (Ok x) t c lt room torn =
+    subst (λ (m : MemoryDevice). HasLeft m.barrier (reverse m.writes) (take m.size (slice_set d.blocks b bytes)) t c)
+    (sym (ap (λ r. if r then with_record d.plan.calls b bytes true d else d) room))
+    (HasLeft-torn (written_record d.plan.calls b bytes true d) d.writes (held_image d) (take d.size (slice_set d.blocks b bytes)) c t (put_back-done d.size b d.blocks bytes lt) torn)
+left-any d b bytes (Err e) t c lt room torn =
+    subst (λ (m : MemoryDevice). HasLeft m.barrier (reverse m.writes) (take m.size d.blocks) t c)
+    (sym (ap (λ r. if r then with_record d.plan.calls b bytes false d else d) room))
+    (HasLeft-torn (written_record d.plan.calls b bytes false d) d.writes (held_image d) (held_image d) c t (put_back-same d.size b d.blocks lt) torn)

@@ -2,4 +2,5 @@ pub mod Crash
 pub mod Images
 pub mod Left
 pub mod Moments
+pub mod Passes
 pub mod Refusals

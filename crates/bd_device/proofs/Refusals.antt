@@ -56,3 +56,23 @@ pub shape-refused : (count b : ℕ) (detached : Bool) (contents : Option Image) 
     → IfSome (unless_detached detached contents) (HasBlocks (if detached then 0 else count))
 shape-refused count b true contents lt shape = absurd (omega arith)
 shape-refused count b false contents lt shape = shape
+
+-- what holds anyway holds where nothing is asked for
+pub IfNone-always : {A P : Type 0} (o : Option A) → P → IfNone o P
+IfNone-always None p = p
+IfNone-always (Some a) p = tt
+
+-- what follows from what holds at Ok where nothing was asked for
+pub OnOk-IfNone-then : {T E A P Q : Type 0} (r : Result T E) (o : Option A) → OnOk r (IfNone o P) → (P → Q) → OnOk r (IfNone o Q)
+OnOk-IfNone-then (Ok x) None p f = f p
+OnOk-IfNone-then (Ok x) (Some a) p f = tt
+OnOk-IfNone-then (Err e) o p f = tt
+
+-- the images that a crash of the inner device may leave now are those of this one
+pub HasBlocks-up_to : (n refused blocks : ℕ) (detached : Bool) (left : ℕ → Image → Type 0)
+    → n ≤ 2 ^ 64 - 1 → (0 < blocks → (c : Image) → left n c → HasBlocks blocks c) → 0 < (if detached then 0 else blocks)
+    → (c : Image) → up_to n left (with_refused n refused) c → HasBlocks (if detached then 0 else blocks) c
+HasBlocks-up_to n refused blocks true left fits shape lt c now = absurd (omega arith)
+HasBlocks-up_to n refused blocks false left fits shape lt c now =
+    let last : min (with_refused n refused) n ≡ n = omega (arith, fits) in
+    shape lt c (subst (λ k. left k c) last now)

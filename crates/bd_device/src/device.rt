@@ -47,9 +47,11 @@ pub trait Device {
         ensures count { result ≡ block_count self.now }
         ensures shape { IfSome (contents self.now) (HasBlocks (block_count self.now)) }
 
-        // A crash may leave what reads give.
+        // A crash may leave what reads give, and only images of as many whole blocks.
         ensures may_stay { 0 < block_count self.now
-            → IfSome (contents self.now) (left_since self.now (call_count self.now)) };
+            → IfSome (contents self.now) (left_since self.now (call_count self.now)) }
+        ensures crash_shape { 0 < block_count self.now → (c : Image)
+            → left_since self.now (call_count self.now) c → HasBlocks (block_count self.now) c };
 
     /// Reads block `b` into `into`. `Failed` comes only where the count of faults rose in this call
     /// or stands at its last value; `into` then holds any bytes.

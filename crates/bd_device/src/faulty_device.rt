@@ -1,0 +1,190 @@
+ghost use Rattle.std.specs.Prelude.{◌≡◌, OnOk, OnErr, is_err};
+ghost use Rattle.bd_io.specs.Cause.{next_count};
+ghost use Rattle.bd_device.specs.Fuse.{with_refused};
+ghost use Rattle.bd_device.specs.Faulty.{refuses_after};
+
+use crate::{Attach, BLOCK_SIZE, Device};
+use bd_io::Failed;
+
+/// A device of which the listed calls fail: it refuses them, and passes the others on to another
+/// one. What it refuses changes nothing of the other device, and is a fault of its own. It refuses
+/// each call too where its count of calls stands at its last value. After an attach that it refused
+/// it has 0 blocks until the next attach.
+#[derive(Drop)]
+pub struct FaultyDevice<D> {
+    inner: D,
+    fail: Vec<u64>,
+    refused: u64,
+    refused_writes: u64,
+    detached: bool,
+}
+
+impl<D> FaultyDevice<D> {
+    ghost use Rattle.bd_device.specs.Faulty.{faulty_inner, listed_calls, faulty_refused};
+
+    /// A device that refuses the calls with these numbers, the first call being 1. The calls that
+    /// the other device has behind it count.
+    pub fn new(inner: D, fail: Vec<u64>) -> FaultyDevice<D>
+        ensures inner { faulty_inner result ≡ inner }
+        ensures listed { listed_calls result ≡ fail.items }
+        ensures fresh { faulty_refused result ≡ 0 }
+    {
+        FaultyDevice {
+            inner,
+            fail,
+            refused: 0,
+            refused_writes: 0,
+            detached: false,
+        }
+    }
+
+    /// The device behind it.
+    pub fn into_inner(self) -> D
+        ensures { result ≡ faulty_inner self }
+    {
+        let FaultyDevice {
+            inner,
+            fail: _,
+            refused: _,
+            refused_writes: _,
+            detached: _,
+        } = self;
+        inner
+    }
+}
+
+impl<D: Device> FaultyDevice<D> {
+    // Lets a call pass, or refuses it.
+    fn pass(&mut self) -> Result<(), Failed>
+        ensures fails { is_err result
+            ≡ refuses_after self.old.fail.items
+            (with_refused (D.call_count self.old.inner) self.old.refused) }
+        ensures ok { OnOk result (self.new ≡ self.old) }
+        ensures err { OnErr result (self.new
+            ≡ record self.old { refused = next_count self.old.refused }) }
+    {
+        let calls = self.inner.calls().saturating_add(self.refused);
+        if calls == u64::MAX || self.fail.contains(&(calls + 1)) {
+            self.refused = self.refused.saturating_add(1);
+            return Err(Failed);
+        }
+        Ok(())
+    }
+
+    // Lets a write or a barrier pass, or refuses it.
+    fn pass_writing(&mut self) -> Result<(), Failed>
+        ensures fails { is_err result
+            ≡ refuses_after self.old.fail.items
+            (with_refused (D.call_count self.old.inner) self.old.refused) }
+        ensures ok { OnOk result (self.new ≡ self.old) }
+        ensures err { OnErr result (self.new ≡ record self.old {
+          refused = next_count self.old.refused;
+          refused_writes = next_count self.old.refused_writes;
+        }) }
+    {
+        let result = self.pass();
+        if result.is_err() {
+            self.refused_writes = self.refused_writes.saturating_add(1);
+        }
+        result
+    }
+}
+
+impl<D: Device> Device for FaultyDevice<D> {
+    ghost use Rattle.std.specs.Prelude.{◌≡◌, false, if◌then◌else◌};
+    ghost use Rattle.bd_device.specs.Fuse.{with_refused, unless_detached};
+    ghost use Rattle.bd_device.specs.Faulty.{through, through-earlier, refuses_after, Refuses};
+
+    ghost block_count = { λ f. if f.detached then 0 else D.block_count f.inner };
+
+    ghost contents = { λ f. unless_detached f.detached (D.contents f.inner) };
+
+    ghost fault_count = { λ f. with_refused (D.fault_count f.inner) f.refused };
+
+    ghost write_fault_count = { λ f. with_refused (D.write_fault_count f.inner) f.refused_writes };
+
+    ghost call_count = { λ f. with_refused (D.call_count f.inner) f.refused };
+
+    ghost left_since = { λ f.
+        through f.fail.items (D.call_count f.inner)
+        (with_refused (D.call_count f.inner) f.refused) (D.left_since f.inner) };
+
+    ghost since_earlier = { λ f.
+        through-earlier f.fail.items (D.call_count f.inner)
+        (with_refused (D.call_count f.inner) f.refused) (D.left_since f.inner)
+        (D.since_earlier f.inner) };
+
+    ghost is_named = { λ f name. (f.detached ≡ false) × D.is_named f.inner name };
+
+    ghost loans = { λ f. D.loans f.inner };
+
+    ghost also = { λ f.
+        Refuses (refuses_after f.fail.items (with_refused (D.call_count f.inner) f.refused)) f };
+
+    fn blocks(&self) -> u64 {
+        if self.detached {
+            0
+        } else {
+            self.inner.blocks()
+        }
+    }
+
+    fn read(&mut self, b: u64, into: &mut [u8; BLOCK_SIZE]) -> Result<(), Failed> {
+        self.pass()?;
+        self.inner.read(b, into)
+    }
+
+    fn write(&mut self, b: u64, from: &[u8; BLOCK_SIZE]) -> Result<(), Failed> {
+        // What stays of a write that is refused has whole blocks.
+        let _ = self.inner.blocks();
+        self.pass_writing()?;
+        self.inner.write(b, from)
+    }
+
+    fn barrier(&mut self) -> Result<(), Failed> {
+        self.pass_writing()?;
+        self.inner.barrier()
+    }
+
+    fn faults(&self) -> u64 {
+        self.inner.faults().saturating_add(self.refused)
+    }
+
+    fn write_faults(&self) -> u64 {
+        self.inner
+            .write_faults()
+            .saturating_add(self.refused_writes)
+    }
+
+    fn calls(&self) -> u64 {
+        self.inner.calls().saturating_add(self.refused)
+    }
+}
+
+impl<D: Attach> Attach for FaultyDevice<D> {
+    ghost use Rattle.std.specs.Prelude.{◌-◌};
+    ghost use Rattle.bd_device.specs.Fuse.{with_refused, shows-attached};
+    ghost use Rattle.bd_device.specs.Faulty.{passes_since, through};
+
+    ghost shows = { λ f. D.shows f.inner };
+
+    ghost left_behind = { λ f name.
+        through f.fail.items (D.call_count f.inner)
+        (with_refused (D.call_count f.inner) f.refused) (D.left_behind f.inner name) };
+
+    ghost shows_named = { λ f name named.
+        shows-attached f.detached named.0 (D.shows_named f.inner name named.1) };
+
+    ghost left_named = { λ f name t c named.
+        D.left_named f.inner name (D.call_count f.inner
+        - passes_since f.fail.items t (with_refused (D.call_count f.inner) f.refused)) c named.1 };
+
+    fn attach(&mut self, name: &str, create: Option<u64>) -> Result<(), Failed> {
+        if let Err(failed) = self.pass() {
+            self.detached = true;
+            return Err(failed);
+        }
+        self.detached = false;
+        self.inner.attach(name, create)
+    }
+}

@@ -1,0 +1,12 @@
+//! The device over a file of std, the trusted edge: its contents aren't known, and the causes of
+//! its failures are proved.
+#![tactic(auto)]
+
+mod counts;
+mod file_device;
+mod image_file;
+
+pub use file_device::FileDevice;
+
+#[cfg(test)]
+mod tests;
