@@ -1,0 +1,7 @@
+//! Files over any key map: what a read gives, and what a write and a truncation send.
+//! The layers above use the contracts, which hold for each key map that represents a tree.
+#![tactic(auto)]
+
+mod lookup;
+
+pub use lookup::{file_len, record};

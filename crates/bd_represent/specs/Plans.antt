@@ -1,0 +1,17 @@
+-- What is planned for a key map, and what comes of it.
+use Rattle.std.specs.Prelude.{ℕ, ◌≤◌, List, length, All}
+use Rattle.bd_model.specs.Tree.{Tree}
+use Rattle.bd_message.specs.declared.message.Message.{Message}
+use Rattle.bd_message.specs.Messages.{IsMessage, IsPlain}
+use Rattle.bd_message.specs.KeyMaps.{At, IsApplied}
+use Rattle.bd_represent.specs.Represents.{Represents}
+
+-- at most four messages that name no node: a batch wherever there is room
+pub record IsSmallBatch (list : List Message) : Type 0 where
+  pub few : length list ≤ 4
+  pub each : All IsMessage list
+  pub plain : All IsPlain list
+
+-- a map that had this represents the tree once the messages are done
+abbrev pub Makes : At → List Message → Tree → Type 0
+Makes at list t = (new : At) → IsApplied at list new → Represents new t
