@@ -3,5 +3,8 @@
 #![tactic(auto)]
 
 mod lookup;
+mod patches;
+mod plan;
 
 pub use lookup::{file_len, record};
+pub use plan::FilePlan;

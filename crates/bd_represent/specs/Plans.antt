@@ -4,6 +4,7 @@ use Rattle.bd_model.specs.Tree.{Tree}
 use Rattle.bd_message.specs.declared.message.Message.{Message}
 use Rattle.bd_message.specs.Messages.{IsMessage, IsPlain}
 use Rattle.bd_message.specs.KeyMaps.{At, IsApplied}
+use Rattle.bd_message.specs.Effect.{acts, no_nodes}
 use Rattle.bd_represent.specs.Represents.{Represents}
 
 -- at most four messages that name no node: a batch wherever there is room
@@ -11,6 +12,10 @@ pub record IsSmallBatch (list : List Message) : Type 0 where
   pub few : length list ≤ 4
   pub each : All IsMessage list
   pub plain : All IsPlain list
+
+-- what stands at each key after messages
+abbrev pub after : List Message → At → At
+after list at k = acts no_nodes list k (at k)
 
 -- a map that had this represents the tree once the messages are done
 abbrev pub Makes : At → List Message → Tree → Type 0
