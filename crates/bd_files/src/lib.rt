@@ -5,6 +5,10 @@
 mod lookup;
 mod patches;
 mod plan;
+mod put;
+mod write;
 
 pub use lookup::{file_len, record};
 pub use plan::FilePlan;
+pub use put::put_record;
+pub use write::plan_write;

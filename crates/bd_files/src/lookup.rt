@@ -1,8 +1,9 @@
 //! The record of a path.
 
-ghost use Rattle.std.specs.Prelude.{◌≡◌, IfOk};
+ghost use Rattle.std.specs.Prelude.{◌≡◌, IfOk, OnOk};
 ghost use Rattle.std.specs.Option.{option_map};
 ghost use Rattle.std.specs.FinMap.{get};
+ghost use Rattle.bd_names.specs.Names.{AreNames};
 ghost use Rattle.bd_model.specs.Tree.{Tree, IsTree};
 ghost use Rattle.bd_message.specs.KeyMaps.{IsLeft, HasMapCause, NeverWorn};
 ghost use Rattle.bd_represent.specs.Represents.{Represents, record_of};
@@ -23,6 +24,7 @@ pub fn record<M: KeyMap>(
 ) -> Result<Option<Record>, MapFault>
     ensures record { M.is_known m.old → (t : Tree) → IsTree t → Represents (M.has m.old) t
         → IfOk result (λ found. found ≡ option_map record_of (get t path.now)) }
+    ensures names { OnOk result (AreNames path.now) }
     ensures left { IsLeft M.is_known M.has M.room_of M.worn M.reads M.loans m.old m.new }
     ensures cause { HasMapCause (M.fault_count m.old) (M.fault_count m.new)
         (M.bad m.new) NeverWorn result }
@@ -42,6 +44,7 @@ pub fn file_len<M: KeyMap>(
 ) -> Result<Result<u32, Refusal>, MapFault>
     ensures len { M.is_known m.old → (t : Tree) → IsTree t → Represents (M.has m.old) t
         → IfOk result (IsLenOf (get t path.now)) }
+    ensures names { OnOk result (AreNames path.now) }
     ensures left { IsLeft M.is_known M.has M.room_of M.worn M.reads M.loans m.old m.new }
     ensures cause { HasMapCause (M.fault_count m.old) (M.fault_count m.new)
         (M.bad m.new) NeverWorn result }
