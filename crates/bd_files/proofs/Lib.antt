@@ -1,3 +1,4 @@
 pub mod Records
 pub mod Overwriting
 pub mod Writes
+pub mod Pieces

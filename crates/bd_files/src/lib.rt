@@ -6,9 +6,11 @@ mod lookup;
 mod patches;
 mod plan;
 mod put;
+mod reading;
 mod write;
 
 pub use lookup::{file_len, record};
 pub use plan::FilePlan;
 pub use put::put_record;
+pub use reading::read;
 pub use write::plan_write;
