@@ -2,3 +2,4 @@ pub mod Records
 pub mod Overwriting
 pub mod Writes
 pub mod Pieces
+pub mod Truncations

@@ -7,10 +7,12 @@ mod patches;
 mod plan;
 mod put;
 mod reading;
+mod truncate;
 mod write;
 
 pub use lookup::{file_len, record};
 pub use plan::FilePlan;
 pub use put::put_record;
 pub use reading::read;
+pub use truncate::plan_truncate;
 pub use write::plan_write;

@@ -73,7 +73,7 @@ fn bytes_between<M: KeyMap>(
 }
 
 /// What is stored of a block, no bytes where nothing is.
-fn stored<M: KeyMap>(
+pub fn stored<M: KeyMap>(
     alloc: Global,
     m: &mut M,
     path: &Path,

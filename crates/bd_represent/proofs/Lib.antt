@@ -2,3 +2,4 @@ pub mod KeyLemmas
 pub mod FileLemmas
 pub mod ActLemmas
 pub mod TreeLemmas
+pub mod NumberOrder
