@@ -3,3 +3,4 @@ pub mod FileLemmas
 pub mod ActLemmas
 pub mod TreeLemmas
 pub mod NumberOrder
+pub mod SubtreeLemmas
