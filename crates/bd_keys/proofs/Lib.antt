@@ -1,4 +1,4 @@
-mod Order
+pub mod Order
 mod Opens
 mod PrefixRange
 mod Lifts

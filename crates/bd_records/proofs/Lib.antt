@@ -1,1 +1,1 @@
-mod Lengths
+pub mod Lengths

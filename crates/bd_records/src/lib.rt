@@ -3,12 +3,13 @@
 //! The layers above may use that each record has one encoding, and what a block may be.
 #![tactic(auto)]
 
-ghost use Rattle.std.specs.Prelude.{◌↔◌, ◌≤◌, length, Some, IsTrue};
+ghost use Rattle.std.specs.Prelude.{◌≡◌, ◌↔◌, ◌≤◌, length, Some, IsTrue, IfOk};
 ghost use Rattle.bd_wire.specs.Writing.{Puts, room};
 ghost use Rattle.bd_records.specs.Records.{IsRecord, IsBlock, IsReadAs, IsLenReadAs, record_bytes};
 
 use bd_limits::{MAX_BLOCK, MAX_FILE};
 use bd_wire::{Cursor, Out};
+use std::alloc::{AllocError, Global};
 
 pub mod laws;
 
@@ -62,6 +63,21 @@ pub fn write_record(entry: &Record, out: &mut Out)
         Record::File(len) => {
             out.put_u8(FILE_TAG);
             out.put_u32(len);
+        }
+    }
+}
+
+/// The bytes that encode a record.
+#[tactic(auto, unfolding(bd_wire::specs::Numbers::be))]
+pub fn encoded_record(alloc: Global, entry: Record) -> Result<Vec<u8>, AllocError>
+    ensures { IfOk result (λ bytes. bytes.items ≡ record_bytes entry) }
+{
+    match entry {
+        Record::Dir => Vec::from_slice(alloc, &[DIR_TAG]),
+        Record::File(len) => {
+            let mut bytes = Vec::from_slice(alloc, &[FILE_TAG])?;
+            bytes.extend_from_slice(&len.to_be_bytes())?;
+            Ok(bytes)
         }
     }
 }

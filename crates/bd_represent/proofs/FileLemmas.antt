@@ -32,7 +32,7 @@ beside old off bytes n (inl before) = by (cases_lt n (length old))
     by (inr over) = overwritten-gap old off bytes n before over ∙ sym (get_or_past old n 0 over)
 beside old off bytes n (inr after) = overwritten-after old off bytes n after
 
-within : (old : List ℕ) (off : ℕ) (bytes : List ℕ) (n : ℕ) → off ≤ n → n < off + length bytes → slice_index (overwritten old off bytes) n ≡ slice_index bytes (n - off)
+pub within : (old : List ℕ) (off : ℕ) (bytes : List ℕ) (n : ℕ) → off ≤ n → n < off + length bytes → slice_index (overwritten old off bytes) n ≡ slice_index bytes (n - off)
 within old off bytes n from below =
     let place : n ≡ off + (n - off) = omega arith in
     ap (slice_index (overwritten old off bytes)) place ∙ overwritten-new old off bytes (n - off) (omega arith)

@@ -1,2 +1,3 @@
 pub mod EntryKeys
 pub mod Represents
+pub mod Plans

@@ -24,7 +24,7 @@ IsBytes-bytes_high_first (suc n) x zero = byte_at-lt n x
 IsBytes-bytes_high_first (suc n) x (suc i) = IsBytes-bytes_high_first n x i
 
 -- a higher first digit makes a higher number
-higher_digit : (a b r s p : ℕ) → r < p → a < b → a * p + r < b * p + s
+pub higher_digit : (a b r s p : ℕ) → r < p → a < b → a * p + r < b * p + s
 higher_digit a b r s p hr h =
     let one_more : (a + 1) * p ≤ b * p = mul-le-mul_right p (omega arith) in
     omega arith

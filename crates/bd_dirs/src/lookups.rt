@@ -1,0 +1,92 @@
+//! What stands at a path, and why nothing can be made there.
+
+ghost use Rattle.std.specs.Prelude.{◌≡◌, IfOk, OnOk};
+ghost use Rattle.std.specs.FinMap.{get};
+ghost use Rattle.bd_names.specs.Names.{AreNames};
+ghost use Rattle.bd_command.specs.declared.Command.TheVariants as command;
+ghost use Rattle.bd_model.specs.Tree.{Tree, IsTree};
+ghost use Rattle.bd_model.specs.Step.{step, absent_refusal, new_refusal, parent_refusal};
+ghost use Rattle.bd_message.specs.KeyMaps.{IsLeft, HasMapCause, NeverWorn};
+ghost use Rattle.bd_represent.specs.Represents.{Represents};
+
+use bd_command::{Refusal, Reply};
+use bd_files::record;
+use bd_message::{KeyMap, MapFault};
+use bd_names::Path;
+use bd_records::Record;
+use std::alloc::Global;
+
+/// Whether a path is a directory's or a file's, and how long the file is.
+pub fn stat<M: KeyMap>(alloc: Global, m: &mut M, path: &Path) -> Result<Reply, MapFault>
+    ensures reply { M.is_known m.old → (t : Tree) → IsTree t → Represents (M.has m.old) t
+        → IfOk result (λ reply. reply ≡ (step t (command.Stat path.now)).1) }
+    ensures left { IsLeft M.is_known M.has M.room_of M.worn M.reads M.loans m.old m.new }
+    ensures cause { HasMapCause (M.fault_count m.old) (M.fault_count m.new)
+        (M.bad m.new) NeverWorn result }
+{
+    match record(alloc, m, path)? {
+        None => Ok(Reply::Refused(Refusal::NotFound)),
+        Some(Record::Dir) => Ok(Reply::Dir),
+        Some(Record::File(len)) => Ok(Reply::File(len)),
+    }
+}
+
+/// Nothing is at the path.
+pub fn absent<M: KeyMap>(
+    alloc: Global,
+    m: &mut M,
+    path: &Path,
+) -> Result<Option<Refusal>, MapFault>
+    ensures refusal { M.is_known m.old → (t : Tree) → IsTree t → Represents (M.has m.old) t
+        → IfOk result (λ refusal. refusal ≡ absent_refusal (get t path.now)) }
+    ensures names { OnOk result (AreNames path.now) }
+    ensures left { IsLeft M.is_known M.has M.room_of M.worn M.reads M.loans m.old m.new }
+    ensures cause { HasMapCause (M.fault_count m.old) (M.fault_count m.new)
+        (M.bad m.new) NeverWorn result }
+{
+    match record(alloc, m, path)? {
+        None => Ok(Some(Refusal::NotFound)),
+        Some(_) => Ok(None),
+    }
+}
+
+/// A new entry can't be made at the path.
+pub fn unmakeable<M: KeyMap>(
+    alloc: Global,
+    m: &mut M,
+    path: &Path,
+) -> Result<Option<Refusal>, MapFault>
+    ensures refusal { M.is_known m.old → (t : Tree) → IsTree t → Represents (M.has m.old) t
+        → IfOk result (λ refusal. refusal ≡ new_refusal t path.now) }
+    ensures names { OnOk result (AreNames path.now) }
+    ensures left { IsLeft M.is_known M.has M.room_of M.worn M.reads M.loans m.old m.new }
+    ensures cause { HasMapCause (M.fault_count m.old) (M.fault_count m.new)
+        (M.bad m.new) NeverWorn result }
+{
+    if record(alloc, m, path)?.is_some() {
+        return Ok(Some(Refusal::Exists));
+    }
+    match path.parent(alloc)? {
+        None => Ok(Some(Refusal::NoParent)),
+        Some(parent) => no_parent(alloc, m, &parent),
+    }
+}
+
+/// No directory is at the path of a parent.
+fn no_parent<M: KeyMap>(
+    alloc: Global,
+    m: &mut M,
+    path: &Path,
+) -> Result<Option<Refusal>, MapFault>
+    ensures refusal { M.is_known m.old → (t : Tree) → IsTree t → Represents (M.has m.old) t
+        → IfOk result (λ refusal. refusal ≡ parent_refusal (get t path.now)) }
+    ensures left { IsLeft M.is_known M.has M.room_of M.worn M.reads M.loans m.old m.new }
+    ensures cause { HasMapCause (M.fault_count m.old) (M.fault_count m.new)
+        (M.bad m.new) NeverWorn result }
+{
+    match record(alloc, m, path)? {
+        None => Ok(Some(Refusal::NoParent)),
+        Some(Record::Dir) => Ok(None),
+        Some(Record::File(_)) => Ok(Some(Refusal::NotDir)),
+    }
+}

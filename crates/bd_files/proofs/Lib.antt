@@ -1,0 +1,5 @@
+pub mod Records
+pub mod Overwriting
+pub mod Writes
+pub mod Pieces
+pub mod Truncations

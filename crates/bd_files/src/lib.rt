@@ -1,0 +1,18 @@
+//! Files over any key map: what a read gives, and what a write and a truncation send.
+//! The layers above use the contracts, which hold for each key map that represents a tree.
+#![tactic(auto)]
+
+mod lookup;
+mod patches;
+mod plan;
+mod put;
+mod reading;
+mod truncate;
+mod write;
+
+pub use lookup::{file_len, record};
+pub use plan::FilePlan;
+pub use put::put_record;
+pub use reading::read;
+pub use truncate::plan_truncate;
+pub use write::plan_write;
