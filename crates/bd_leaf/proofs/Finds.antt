@@ -1,20 +1,20 @@
 -- What is found among entries in rising order.
-use Rattle.std.proofs.Common.{pow-add, ◌≡◌, ℕ, zero, suc, ◌+◌, ◌-◌, ◌*◌, ◌/◌, ◌^◌, ◌<◌, ◌≤◌, Bool, true, false, cond, List, [], ◌∷◌, length, refl, sym, ap, subst, ◌∙◌, Option, None, Some, arith, inl, inr, get_or, Ordering, Less, Equal, Greater}
+use Rattle.std.proofs.Common.{◌≡◌, ℕ, zero, suc, ◌+◌, ◌-◌, ◌*◌, ◌/◌, ◌^◌, ◌<◌, ◌≤◌, true, false, List, [], ◌∷◌, length, refl, sym, ap, subst, ◌∙◌, None, Some, arith, inl, inr, Less, Equal, Greater}
 use Rattle.std.specs.Prelude.{slice_get}
 use Rattle.std.specs.List.{AllByRecursion}
 use Rattle.std.specs.Ordering.{ordering_reverse}
 use Rattle.std.specs.Cmp.{unsigned_Decides, tied_itself}
 use Rattle.std.specs.Cmp.Lexicographic.{same_text}
 use Rattle.std.specs.FinMap.{nat_cmp-IsAntisymmetric, slice_cmp-IsAntisymmetric}
-use Rattle.std.proofs.Math.Nat.{mul-le-mul_left, mul_assoc, mul_comm}
 use Rattle.std.proofs.lemmas.Bool.{cases_Bool, cond-true, cond-false, cases_lt}
-use Rattle.std.proofs.lemmas.Option.{same_Some, none-some, slice_get_within, slice_get-get_or}
+use Rattle.std.proofs.lemmas.Option.{same_Some, none-some}
 use Rattle.std.proofs.lemmas.Cmp.{nat_list_cmp_total as total}
 use Rattle.bd_keys.specs.Keys.{key_cmp, IsBelow}
 use Rattle.bd_message.specs.Effect.{same_key}
 use Rattle.bd_node.specs.declared.node.Entry.{Entry}
 use Rattle.bd_node.specs.Nodes.{entry_at}
-use Rattle.bd_node.specs.Shape.{IsBelowAll, IsRising}
+use Rattle.bd_node.specs.Shape.{IsRising}
+use Rattle.bd_node.proofs.Halving.{step_few, step_left}
 use Rattle.bd_leaf.specs.Places.{AreBelow, AreAbove}
 
 -- ---- keys
@@ -56,10 +56,10 @@ entry_at-none (e ∷ es) k h = cond-false (same_key k e.key) (Some e.value) (ent
 pub nothing_at : (es : List Entry) (place : ℕ) (k : List ℕ) → AreBelow es place k → AreAbove es place k → entry_at es k ≡ None
 nothing_at es place k below over =
     entry_at-none es k (λ i e there.
-      elim (cases_lt i place) [
-        | inl low ↦ apart_above k e.key (below i e low there)
-        | inr high ↦ apart_below k e.key (over i e high there)
-      ])
+    elim (cases_lt i place) [
+      | inl low ↦ apart_above k e.key (below i e low there)
+      | inr high ↦ apart_below k e.key (over i e high there)
+    ])
 
 each_at : (P : Entry → Type 0) (es : List Entry) (i : ℕ) (e : Entry) → AllByRecursion P es → slice_get es i ≡ Some e → P e
 each_at P [] i e h there = absurd (none-some e there)
@@ -93,8 +93,8 @@ below_more es i e k h there below j f low at_j =
     elim (cases_lt j i) [
       | inl before ↦ total.trans f.key e.key k (rising_at es j i f e h before at_j there) below
       | inr here ↦ (let same : j ≡ i = omega arith in
-        let is : e ≡ f = same_Some e f (sym there ∙ ap (λ n. slice_get es n) (sym same) ∙ at_j) in
-        subst (λ (d : Entry). IsBelow d.key k) is below)
+          let is : e ≡ f = same_Some e f (sym there ∙ ap (λ n. slice_get es n) (sym same) ∙ at_j) in
+          subst (λ (d : Entry). IsBelow d.key k) is below)
     ]
 
 pub above_more : (es : List Entry) (i : ℕ) (e : Entry) (k : List ℕ) → IsRising es → slice_get es i ≡ Some e → IsBelow k e.key → AreAbove es i k
@@ -102,17 +102,9 @@ above_more es i e k h there below j f high at_j =
     elim (cases_lt i j) [
       | inl after ↦ total.trans k e.key f.key below (rising_at es i j e f h after there at_j)
       | inr here ↦ (let same : j ≡ i = omega arith in
-        let is : e ≡ f = same_Some e f (sym there ∙ ap (λ n. slice_get es n) (sym same) ∙ at_j) in
-        subst (λ (d : Entry). IsBelow k d.key) is below)
+          let is : e ≡ f = same_Some e f (sym there ∙ ap (λ n. slice_get es n) (sym same) ∙ at_j) in
+          subst (λ (d : Entry). IsBelow k d.key) is below)
     ]
-
--- half as much is left after a step more
-pub halved : (c size left n : ℕ) → 2 ^ c * size ≤ n → 2 * left ≤ size → 2 ^ (c + 1) * left ≤ n
-halved c size left n h half =
-    let more : 2 ^ c * (2 * left) ≤ 2 ^ c * size = mul-le-mul_left (2 ^ c) half in
-    let two : 2 ^ (c + 1) ≡ 2 ^ c * 2 = pow-add 2 c 1 in
-    let e : 2 ^ (c + 1) * left ≡ 2 ^ c * (2 * left) = ap (λ p. p * left) two ∙ mul_assoc (2 ^ c) 2 left in
-    omega arith
 
 -- what a search by halving keeps: the key stands from low on and below high if anywhere, and the
 -- comparisons so far have halved what is left
@@ -125,23 +117,6 @@ pub record IsHalving (entries : List Entry) (k : List ℕ) (low high before now 
   pub few : 2 ^ (now - before) ≤ 2 * length entries + 1
   pub left : 2 ^ (now - before) * (high - low) ≤ length entries
 
--- one comparison more is few enough as long as something is left
-still_few : (c size n : ℕ) → 2 ^ c * size ≤ n → 1 ≤ size → 2 ^ (c + 1) ≤ 2 * n + 1
-still_few c size n h some =
-    let more : 2 ^ c * 1 ≤ 2 ^ c * size = mul-le-mul_left (2 ^ c) some in
-    let two : 2 ^ (c + 1) ≡ 2 ^ c * 2 = pow-add 2 c 1 in
-    omega arith
-
-pub step_few : (n before now size : ℕ) → before ≤ now → 2 ^ (now - before) * size ≤ n → 1 ≤ size → 2 ^ (now + 1 - before) ≤ 2 * n + 1
-step_few n before now size later h some =
-    let e : now - before + 1 ≡ now + 1 - before = omega arith in
-    subst (λ c. 2 ^ c ≤ 2 * n + 1) e (still_few (now - before) size n h some)
-
-step_left : (n before now size left : ℕ) → before ≤ now → 2 ^ (now - before) * size ≤ n → 2 * left ≤ size → 2 ^ (now + 1 - before) * left ≤ n
-step_left n before now size left later h half =
-    let e : now - before + 1 ≡ now + 1 - before = omega arith in
-    subst (λ c. 2 ^ c * left ≤ n) e (halved (now - before) size left n h half)
-
 pub went_up : (es : List Entry) (k : List ℕ) (low high middle before now : ℕ) (e : Entry) → IsRising es → IsHalving es k low high before now → low < high → middle ≡ low + (high - low) / 2 → slice_get es middle ≡ Some e → key_cmp e.key k ≡ Less
     → IsHalving es k (middle + 1) high before (now + 1)
 went_up es k low high middle before now e rising h some is there less = record {
@@ -151,7 +126,7 @@ went_up es k low high middle before now e rising h some is there less = record {
   over = h.over;
   later = (let a : before ≤ now = h.later in omega arith);
   few = step_few (length es) before now (high - low) h.later h.left (omega arith);
-  left = step_left (length es) before now (high - low) (high - (middle + 1)) h.later h.left (omega arith)
+  left = step_left (length es) before now (high - low) (high - (middle + 1)) h.later h.left (omega arith);
 }
 
 pub went_down : (es : List Entry) (k : List ℕ) (low high middle before now : ℕ) (e : Entry) → IsRising es → IsHalving es k low high before now → low < high → middle ≡ low + (high - low) / 2 → slice_get es middle ≡ Some e → key_cmp e.key k ≡ Greater
@@ -163,5 +138,5 @@ went_down es k low high middle before now e rising h some is there more = record
   over = above_more es middle e k rising there (above e.key k more);
   later = (let a : before ≤ now = h.later in omega arith);
   few = step_few (length es) before now (high - low) h.later h.left (omega arith);
-  left = step_left (length es) before now (high - low) (middle - low) h.later h.left (omega arith)
+  left = step_left (length es) before now (high - low) (middle - low) h.later h.left (omega arith);
 }

@@ -14,11 +14,7 @@ use std::marker::Brand;
 use std::sync::ledger::{Blank, Ledger};
 
 /// The place of a key among entries in rising order, or else the place where it would stand.
-pub fn place<L: Ledger>(
-    entries: &[Entry],
-    key: &[u8],
-    steps: &mut Steps<L>,
-) -> Result<usize, usize>
+pub fn place<L: Ledger>(entries: &[Entry], key: &[u8], steps: &mut Steps<L>) -> Result<usize, usize>
     requires { IsRising entries.now }
     ensures place { IsPlace entries.now key.now result }
     ensures cost { 2 ^ (steps.new - steps.old) ≤ 2 * length entries.now + 1 }

@@ -123,9 +123,9 @@ pub record IsTableAfter (t : Table) (step : Step) (new : Table) : Type 0 where
 
 -- the nodes that stay are as the step leaves them, and sound
 pub record IsCommitted (nodes : Nodes) (t : Table) (step : Step) (new : Nodes) (u : Table) : Type 0
-    where
-  pub stays : (id : ℕ) → IsKept u id → new id ≡ after nodes t step id
-  pub sound : IsSound new u
+  where
+    pub stays : (id : ℕ) → IsKept u id → new id ≡ after nodes t step id
+    pub sound : IsSound new u
 
 -- a counter has to pass its last value for all that a step adds
 abbrev pub IsWornBy : Table → Step → Counter → Type 0

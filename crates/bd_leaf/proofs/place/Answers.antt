@@ -1,9 +1,9 @@
-use Rattle.std.proofs.Common.{ap, sym, ◌∙◌, subst, refl, arith, ◌≡◌, Some, ◌+◌, ◌-◌, ◌/◌, ◌<◌, ◌≤◌, length, ℕ, List}
-use Rattle.std.specs.Prelude.{slice_get}
+use Rattle.std.proofs.Common.{ap, sym, ◌∙◌, subst, refl, arith, ◌+◌, ◌-◌, ◌/◌, ◌<◌, ◌≤◌, length, ℕ, List}
 use Rattle.std.proofs.lemmas.Option.{slice_get_read}
 use Rattle.bd_keys.specs.Keys.{key_cmp}
 use Rattle.bd_node.specs.declared.node.Entry.{Entry}
-use Rattle.bd_leaf.proofs.Finds.{went_up, went_down, step_few, tied, found_at, nothing_at, IsHalving}
+use Rattle.bd_node.proofs.Halving.{step_few}
+use Rattle.bd_leaf.proofs.Finds.{went_up, went_down, tied, found_at, nothing_at, IsHalving}
 use Rattle.bd_leaf.proofs.place.Goals as goal
 
 pub loop-low-preserved-in-Less : goal.loop-low-preserved-in-Less

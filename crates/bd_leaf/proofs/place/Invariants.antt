@@ -1,6 +1,4 @@
-use Rattle.std.proofs.Common.{◌-◌, ◌≡◌, ◌+◌, ◌*◌, ◌^◌, ◌<◌, ◌≤◌, length, ℕ, List}
-use Rattle.bd_node.specs.declared.node.Entry.{Entry}
-use Rattle.bd_leaf.specs.Places.{AreBelow, AreAbove}
+use Rattle.std.proofs.Common.{◌-◌}
 use Rattle.bd_leaf.proofs.Finds.{IsHalving}
 use Rattle.bd_leaf.proofs.place.Given as goal
 
