@@ -10,17 +10,17 @@ use Rattle.bd_node.specs.Shape.{end_before, EachEdge, SomeEdge}
 
 -- ---- the order of keys
 
-lt_is : (o : Ordering) → is_lt o ≡ true → o ≡ Less
+pub lt_is : (o : Ordering) → is_lt o ≡ true → o ≡ Less
 lt_is Less h = refl
 lt_is Equal h = cc
 lt_is Greater h = cc
 
-lt_isnt : (o : Ordering) → is_lt o ≡ false → o ≡ Less → ⊥
+pub lt_isnt : (o : Ordering) → is_lt o ≡ false → o ≡ Less → ⊥
 lt_isnt Less h e = cc
 lt_isnt Equal h e = cc
 lt_isnt Greater h e = cc
 
-less_lt : (o : Ordering) → o ≡ Less → is_lt o ≡ true
+pub less_lt : (o : Ordering) → o ≡ Less → is_lt o ≡ true
 less_lt o e = ap is_lt e
 
 pub not_less_lt : (o : Ordering) → (o ≡ Less → ⊥) → is_lt o ≡ false

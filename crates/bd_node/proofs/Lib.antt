@@ -8,3 +8,4 @@ pub mod Stepping
 pub mod Appending
 pub mod Closing
 pub mod LawLemmas
+pub mod Halving

@@ -71,6 +71,10 @@ abbrev pub SomeEdge : (Edge → Option (List ℕ) → Type 0) → List Edge → 
 SomeEdge P [] = ⊥
 SomeEdge P (e ∷ es) = P e (end_before es) ⊎ SomeEdge P es
 
+-- each pivot is below the next one
+abbrev pub AreRising : List Edge → Type 0
+AreRising edges = EachEdge (λ (e : Edge) hi. IsBelowEnd e.pivot hi) edges
+
 -- a child is a node's id, and without one there is no source
 abbrev pub IsChild : Option ℕ → List ℕ → Type 0
 IsChild None source = source ≡ []

@@ -21,8 +21,8 @@ ghost use Rattle.bd_node.specs.Stores.{FitsRoot};
 ghost use Rattle.bd_node.specs.Closed.{IsClosed, without, table_from};
 ghost use Rattle.bd_node.specs.New.{new_nodes, new_table};
 
-/// What the nodes have is the one function that meets each node's equation. At a list that isn't one
-/// of bytes, and where there is no node, there is nothing.
+/// What the nodes have is the one function that meets each node's equation. At a list that isn't
+/// one of bytes, and where there is no node, there is nothing.
 pub fn nodes_have_one_meaning()
     ensures meets { (nodes : Nodes) → IsLevelled nodes → Meets nodes (at nodes) }
     ensures one { (nodes : Nodes) → IsLevelled nodes → (f g : NodesAt) → Meets nodes f
@@ -137,7 +137,8 @@ pub fn changes_of_the_root_alone()
 /// and the nodes are then sound with the table that has only grown, so nothing is dropped.
 pub fn appended_messages()
     ensures node { (below : NodesAt) (n : Node) (list : List Message) (k : List ℕ) → IsShape n
-        → 1 ≤ level_of n → node_at below (appended n list) k ≡ acts below list k (node_at below n k) }
+        → 1 ≤ level_of n
+        → node_at below (appended n list) k ≡ acts below list k (node_at below n k) }
     ensures may { (t : Table) (n : Node) (list : List Message) → IsNodeOf t (t.level t.root) n
         → buffer_size n ≡ t.size → FitsRoot t list
         → IsNodeOf t (t.level t.root) (appended n list) }
@@ -150,8 +151,8 @@ pub fn appended_messages()
         → (k : List ℕ) → IsKey k → root_at new u k ≡ acts no_nodes list k (root_at nodes t k) }
 {}
 
-/// How a store makes a step: it begins with the nodes after it, drops one that nothing names as long
-/// as there is one, and then the nodes are sound with the counts that they have.
+/// How a store makes a step: it begins with the nodes after it, drops one that nothing names as
+/// long as there is one, and then the nodes are sound with the counts that they have.
 pub fn closed_nodes_become_sound()
     ensures begun { (nodes : Nodes) (t : Table) (step : Step) → IsSound nodes t → IsStep t step
         → StayAbove nodes t step

@@ -7,9 +7,11 @@ mod items;
 pub mod laws;
 mod messages;
 mod node;
+mod steps;
 mod store;
 
 pub use items::Items;
 pub use messages::Messages;
 pub use node::{Change, Changes, Edge, Edges, Entries, Entry, Node, Nodes, Step};
+pub use steps::Steps;
 pub use store::NodeStore;
