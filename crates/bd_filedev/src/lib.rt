@@ -7,6 +7,3 @@ mod file_device;
 mod image_file;
 
 pub use file_device::FileDevice;
-
-#[cfg(test)]
-mod tests;

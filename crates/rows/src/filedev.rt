@@ -1,5 +1,5 @@
-use super::*;
 use bd_device::{Attach, BLOCK_SIZE, Device};
+use bd_filedev::FileDevice;
 use bd_io::Failed;
 use std::fs;
 use std::test::Fail;
