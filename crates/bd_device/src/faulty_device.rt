@@ -22,8 +22,8 @@ pub struct FaultyDevice<D> {
 impl<D> FaultyDevice<D> {
     ghost use Rattle.bd_device.specs.Faulty.{faulty_inner, listed_calls, faulty_refused};
 
-    /// A device that refuses the calls with these numbers, the first call being 1. The calls that
-    /// the other device has behind it count.
+    /// A device that refuses the calls with these numbers, the first call of the other device being
+    /// 1: what was called there before counts too.
     pub fn new(inner: D, fail: Vec<u64>) -> FaultyDevice<D>
         ensures inner { faulty_inner result ≡ inner }
         ensures listed { listed_calls result ≡ fail.items }
