@@ -23,6 +23,14 @@ faulty_inner f = f.inner
 abbrev pub faulty_refused : {D : Type 0} → FaultyDevice D → ℕ
 faulty_refused f = f.refused
 
+-- how many writes and barriers it has refused
+abbrev pub faulty_writes : {D : Type 0} → FaultyDevice D → ℕ
+faulty_writes f = f.refused_writes
+
+-- it has refused the last attach
+abbrev pub faulty_detached : {D : Type 0} → FaultyDevice D → Bool
+faulty_detached f = f.detached
+
 -- after so many calls the next one is refused: it is listed, or the count stands at its last value
 abbrev pub refuses_after : List ℕ → ℕ → Bool
 refuses_after fail calls = nat_le (2 ^ 64) (calls + 1) || is_listed fail (calls + 1)

@@ -30,6 +30,14 @@ calls_left f = passes_left f.fuse
 abbrev pub refused_count : {D : Type 0} → FuseDevice D → ℕ
 refused_count f = refused_by f.fuse
 
+-- how many writes and barriers it has refused
+abbrev pub refused_writes : {D : Type 0} → FuseDevice D → ℕ
+refused_writes f = f.refused_writes
+
+-- it has refused the last attach
+abbrev pub is_detached : {D : Type 0} → FuseDevice D → Bool
+is_detached f = f.detached
+
 -- it has refused no call
 abbrev pub IsFresh : {D : Type 0} → FuseDevice D → Type 0
 IsFresh f = (f.fuse ≡ Whole (calls_left f)) × (f.refused_writes ≡ 0) × (f.detached ≡ false)

@@ -22,8 +22,8 @@ pub struct FaultyDevice<D> {
 impl<D> FaultyDevice<D> {
     ghost use Rattle.bd_device.specs.Faulty.{faulty_inner, listed_calls, faulty_refused};
 
-    /// A device that refuses the calls with these numbers, the first call being 1. The calls that
-    /// the other device has behind it count.
+    /// A device that refuses the calls with these numbers, the first call of the other device being
+    /// 1: what was called there before counts too.
     pub fn new(inner: D, fail: Vec<u64>) -> FaultyDevice<D>
         ensures inner { faulty_inner result ≡ inner }
         ensures listed { listed_calls result ≡ fail.items }
@@ -93,33 +93,34 @@ impl<D: Device> FaultyDevice<D> {
 impl<D: Device> Device for FaultyDevice<D> {
     ghost use Rattle.std.specs.Prelude.{◌≡◌, false, if◌then◌else◌};
     ghost use Rattle.bd_device.specs.Fuse.{with_refused, unless_detached};
-    ghost use Rattle.bd_device.specs.Faulty.{through, through-earlier, refuses_after, Refuses};
+    ghost use Rattle.bd_device.specs.Faulty.{faulty_inner, listed_calls, faulty_refused, faulty_writes, faulty_detached, through, through-earlier, refuses_after, Refuses};
 
-    ghost block_count = { λ f. if f.detached then 0 else D.block_count f.inner };
+    ghost block_count = { λ f. if faulty_detached f then 0 else D.block_count (faulty_inner f) };
 
-    ghost contents = { λ f. unless_detached f.detached (D.contents f.inner) };
+    ghost contents = { λ f. unless_detached (faulty_detached f) (D.contents (faulty_inner f)) };
 
-    ghost fault_count = { λ f. with_refused (D.fault_count f.inner) f.refused };
+    ghost fault_count = { λ f. with_refused (D.fault_count (faulty_inner f)) (faulty_refused f) };
 
-    ghost write_fault_count = { λ f. with_refused (D.write_fault_count f.inner) f.refused_writes };
+    ghost write_fault_count = { λ f.
+        with_refused (D.write_fault_count (faulty_inner f)) (faulty_writes f) };
 
-    ghost call_count = { λ f. with_refused (D.call_count f.inner) f.refused };
+    ghost call_count = { λ f. with_refused (D.call_count (faulty_inner f)) (faulty_refused f) };
 
-    ghost left_since = { λ f.
-        through f.fail.items (D.call_count f.inner)
-        (with_refused (D.call_count f.inner) f.refused) (D.left_since f.inner) };
+    ghost left_since = { λ f. through (listed_calls f) (D.call_count (faulty_inner f))
+        (with_refused (D.call_count (faulty_inner f)) (faulty_refused f))
+        (D.left_since (faulty_inner f)) };
 
-    ghost since_earlier = { λ f.
-        through-earlier f.fail.items (D.call_count f.inner)
-        (with_refused (D.call_count f.inner) f.refused) (D.left_since f.inner)
-        (D.since_earlier f.inner) };
+    ghost since_earlier = { λ f. through-earlier (listed_calls f) (D.call_count (faulty_inner f))
+        (with_refused (D.call_count (faulty_inner f)) (faulty_refused f))
+        (D.left_since (faulty_inner f)) (D.since_earlier (faulty_inner f)) };
 
-    ghost is_named = { λ f name. (f.detached ≡ false) × D.is_named f.inner name };
+    ghost is_named = { λ f name.
+        (faulty_detached f ≡ false) × D.is_named (faulty_inner f) name };
 
-    ghost loans = { λ f. D.loans f.inner };
+    ghost loans = { λ f. D.loans (faulty_inner f) };
 
-    ghost also = { λ f.
-        Refuses (refuses_after f.fail.items (with_refused (D.call_count f.inner) f.refused)) f };
+    ghost also = { λ f. Refuses (refuses_after (listed_calls f)
+        (with_refused (D.call_count (faulty_inner f)) (faulty_refused f))) f };
 
     fn blocks(&self) -> u64 {
         if self.detached {
@@ -164,20 +165,21 @@ impl<D: Device> Device for FaultyDevice<D> {
 impl<D: Attach> Attach for FaultyDevice<D> {
     ghost use Rattle.std.specs.Prelude.{◌-◌};
     ghost use Rattle.bd_device.specs.Fuse.{with_refused, shows-attached};
-    ghost use Rattle.bd_device.specs.Faulty.{passes_since, through};
+    ghost use Rattle.bd_device.specs.Faulty.{faulty_inner, listed_calls, faulty_refused, faulty_detached, passes_since, through};
 
-    ghost shows = { λ f. D.shows f.inner };
+    ghost shows = { λ f. D.shows (faulty_inner f) };
 
-    ghost left_behind = { λ f name.
-        through f.fail.items (D.call_count f.inner)
-        (with_refused (D.call_count f.inner) f.refused) (D.left_behind f.inner name) };
+    ghost left_behind = { λ f name. through (listed_calls f) (D.call_count (faulty_inner f))
+        (with_refused (D.call_count (faulty_inner f)) (faulty_refused f))
+        (D.left_behind (faulty_inner f) name) };
 
     ghost shows_named = { λ f name named.
-        shows-attached f.detached named.0 (D.shows_named f.inner name named.1) };
+        shows-attached (faulty_detached f) named.0 (D.shows_named (faulty_inner f) name named.1) };
 
     ghost left_named = { λ f name t c named.
-        D.left_named f.inner name (D.call_count f.inner
-        - passes_since f.fail.items t (with_refused (D.call_count f.inner) f.refused)) c named.1 };
+        D.left_named (faulty_inner f) name (D.call_count (faulty_inner f)
+        - passes_since (listed_calls f) t
+        (with_refused (D.call_count (faulty_inner f)) (faulty_refused f))) c named.1 };
 
     fn attach(&mut self, name: &str, create: Option<u64>) -> Result<(), Failed> {
         if let Err(failed) = self.pass() {

@@ -116,26 +116,27 @@ impl<D> FuseDevice<D> {
 
 impl<D: Device> Device for FuseDevice<D> {
     ghost use Rattle.std.specs.Prelude.{◌≡◌, false, if◌then◌else◌};
-    ghost use Rattle.bd_device.specs.Fuse.{refused_count, with_refused, unless_detached, up_to, up_to-earlier, Spends};
+    ghost use Rattle.bd_device.specs.Fuse.{inner_of, is_detached, refused_writes, refused_count, with_refused, unless_detached, up_to, up_to-earlier, Spends};
 
-    ghost block_count = { λ f. if f.detached then 0 else D.block_count f.inner };
+    ghost block_count = { λ f. if is_detached f then 0 else D.block_count (inner_of f) };
 
-    ghost contents = { λ f. unless_detached f.detached (D.contents f.inner) };
+    ghost contents = { λ f. unless_detached (is_detached f) (D.contents (inner_of f)) };
 
-    ghost fault_count = { λ f. with_refused (D.fault_count f.inner) (refused_count f) };
+    ghost fault_count = { λ f. with_refused (D.fault_count (inner_of f)) (refused_count f) };
 
-    ghost write_fault_count = { λ f. with_refused (D.write_fault_count f.inner) f.refused_writes };
+    ghost write_fault_count = { λ f.
+        with_refused (D.write_fault_count (inner_of f)) (refused_writes f) };
 
-    ghost call_count = { λ f. with_refused (D.call_count f.inner) (refused_count f) };
+    ghost call_count = { λ f. with_refused (D.call_count (inner_of f)) (refused_count f) };
 
-    ghost left_since = { λ f. up_to (D.call_count f.inner) (D.left_since f.inner) };
+    ghost left_since = { λ f. up_to (D.call_count (inner_of f)) (D.left_since (inner_of f)) };
 
-    ghost since_earlier = { λ f.
-        up_to-earlier (D.call_count f.inner) (D.left_since f.inner) (D.since_earlier f.inner) };
+    ghost since_earlier = { λ f. up_to-earlier (D.call_count (inner_of f))
+        (D.left_since (inner_of f)) (D.since_earlier (inner_of f)) };
 
-    ghost is_named = { λ f name. (f.detached ≡ false) × D.is_named f.inner name };
+    ghost is_named = { λ f name. (is_detached f ≡ false) × D.is_named (inner_of f) name };
 
-    ghost loans = { λ f. D.loans f.inner };
+    ghost loans = { λ f. D.loans (inner_of f) };
 
     ghost also = { Spends };
 
@@ -182,17 +183,18 @@ impl<D: Device> Device for FuseDevice<D> {
 
 impl<D: Attach> Attach for FuseDevice<D> {
     ghost use Rattle.std.specs.Prelude.{min};
-    ghost use Rattle.bd_device.specs.Fuse.{up_to, shows-attached};
+    ghost use Rattle.bd_device.specs.Fuse.{inner_of, is_detached, up_to, shows-attached};
 
-    ghost shows = { λ f. D.shows f.inner };
+    ghost shows = { λ f. D.shows (inner_of f) };
 
-    ghost left_behind = { λ f name. up_to (D.call_count f.inner) (D.left_behind f.inner name) };
+    ghost left_behind = { λ f name.
+        up_to (D.call_count (inner_of f)) (D.left_behind (inner_of f) name) };
 
     ghost shows_named = { λ f name named.
-        shows-attached f.detached named.0 (D.shows_named f.inner name named.1) };
+        shows-attached (is_detached f) named.0 (D.shows_named (inner_of f) name named.1) };
 
     ghost left_named = { λ f name t c named.
-        D.left_named f.inner name (min t (D.call_count f.inner)) c named.1 };
+        D.left_named (inner_of f) name (min t (D.call_count (inner_of f))) c named.1 };
 
     fn attach(&mut self, name: &str, create: Option<u64>) -> Result<(), Failed> {
         if let Err(failed) = self.fuse.spend() {
