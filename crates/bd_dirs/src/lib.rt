@@ -2,6 +2,7 @@
 //! The layers above use the contracts, which hold for each key map that represents a tree.
 #![tactic(auto)]
 
+mod changes;
 mod lookups;
 mod plan;
 
