@@ -1,2 +1,3 @@
 pub mod News
 pub mod Makes
+pub mod NewPlans

@@ -17,8 +17,32 @@ use bd_names::Path;
 use bd_records::Record;
 use std::alloc::Global;
 
+/// What a `mkdir` sends.
+pub fn mkdir<M: KeyMap>(alloc: Global, m: &mut M, path: &Path) -> Result<Plan, MapFault>
+    ensures plan { M.is_known m.old → (t : Tree) → IsTree t → Represents (M.has m.old) t
+        → IfOk result (IsPlan (M.has m.old) t (command.Mkdir path.now)) }
+    ensures ready { IfOk result IsReady }
+    ensures left { IsLeft M.is_known M.has M.room_of M.worn M.reads M.loans m.old m.new }
+    ensures cause { HasMapCause (M.fault_count m.old) (M.fault_count m.new)
+        (M.bad m.new) NeverWorn result }
+{
+    make(alloc, m, path, Record::Dir)
+}
+
+/// What a `create` sends.
+pub fn create<M: KeyMap>(alloc: Global, m: &mut M, path: &Path) -> Result<Plan, MapFault>
+    ensures plan { M.is_known m.old → (t : Tree) → IsTree t → Represents (M.has m.old) t
+        → IfOk result (IsPlan (M.has m.old) t (command.Create path.now)) }
+    ensures ready { IfOk result IsReady }
+    ensures left { IsLeft M.is_known M.has M.room_of M.worn M.reads M.loans m.old m.new }
+    ensures cause { HasMapCause (M.fault_count m.old) (M.fault_count m.new)
+        (M.bad m.new) NeverWorn result }
+{
+    make(alloc, m, path, Record::File(0))
+}
+
 /// What making an entry sends: its record.
-pub fn make<M: KeyMap>(
+fn make<M: KeyMap>(
     alloc: Global,
     m: &mut M,
     path: &Path,

@@ -5,6 +5,8 @@
 mod changes;
 mod lookups;
 mod plan;
+mod planning;
 
 pub use lookups::stat;
 pub use plan::Plan;
+pub use planning::plan_command;
