@@ -41,7 +41,8 @@ IsPlan at t c (Graft s d keep) = (refusal_of t c ≡ None) × MakesByGraft at s 
 abbrev pub IsReady : Plan → Type 0
 IsReady (Refused refusal) = Unit {0}
 IsReady (Apply list) = IsSmallBatch list
-IsReady (Graft s d keep) = (length s ≤ key_limit) × (length d ≤ key_limit) × (keep ≡ false → ¬ Begins d s)
+IsReady (Graft s d keep) =
+    (length s ≤ key_limit) × (length d ≤ key_limit) × (keep ≡ false → ¬ Begins d s)
 
 -- the refusal to make an entry at the path, or the message that makes any entry with this record
 abbrev pub IsNewPlan : At → Tree → List (List ℕ) → Record → Plan → Type 0

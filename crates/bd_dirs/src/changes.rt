@@ -42,12 +42,7 @@ pub fn create<M: KeyMap>(alloc: Global, m: &mut M, path: &Path) -> Result<Plan, 
 }
 
 /// What making an entry sends: its record.
-fn make<M: KeyMap>(
-    alloc: Global,
-    m: &mut M,
-    path: &Path,
-    entry: Record,
-) -> Result<Plan, MapFault>
+fn make<M: KeyMap>(alloc: Global, m: &mut M, path: &Path, entry: Record) -> Result<Plan, MapFault>
     ensures plan { M.is_known m.old → (t : Tree) → IsTree t → Represents (M.has m.old) t
         → IfOk result (IsNewPlan (M.has m.old) t path.now entry) }
     ensures ready { IfOk result IsReady }

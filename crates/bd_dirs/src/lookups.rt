@@ -32,11 +32,7 @@ pub fn stat<M: KeyMap>(alloc: Global, m: &mut M, path: &Path) -> Result<Reply, M
 }
 
 /// Nothing is at the path.
-pub fn absent<M: KeyMap>(
-    alloc: Global,
-    m: &mut M,
-    path: &Path,
-) -> Result<Option<Refusal>, MapFault>
+pub fn absent<M: KeyMap>(alloc: Global, m: &mut M, path: &Path) -> Result<Option<Refusal>, MapFault>
     ensures refusal { M.is_known m.old → (t : Tree) → IsTree t → Represents (M.has m.old) t
         → IfOk result (λ refusal. refusal ≡ absent_refusal (get t path.now)) }
     ensures names { OnOk result (AreNames path.now) }
@@ -73,11 +69,7 @@ pub fn unmakeable<M: KeyMap>(
 }
 
 /// No directory is at the path of a parent.
-fn no_parent<M: KeyMap>(
-    alloc: Global,
-    m: &mut M,
-    path: &Path,
-) -> Result<Option<Refusal>, MapFault>
+fn no_parent<M: KeyMap>(alloc: Global, m: &mut M, path: &Path) -> Result<Option<Refusal>, MapFault>
     ensures refusal { M.is_known m.old → (t : Tree) → IsTree t → Represents (M.has m.old) t
         → IfOk result (λ refusal. refusal ≡ parent_refusal (get t path.now)) }
     ensures left { IsLeft M.is_known M.has M.room_of M.worn M.reads M.loans m.old m.new }

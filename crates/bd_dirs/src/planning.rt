@@ -16,8 +16,8 @@ use bd_files::{FilePlan, plan_truncate, plan_write};
 use bd_message::{KeyMap, MapFault};
 use std::alloc::Global;
 
-/// What a writing command comes to: the first refusal that holds, or what is to be done with the key
-/// map. A write carries 1 to 2,048 bytes.
+/// What a writing command comes to: the first refusal that holds, or what is to be done with the
+/// key map. A write carries 1 to 2,048 bytes.
 pub fn plan_command<M: KeyMap>(
     alloc: Global,
     m: &mut M,

@@ -37,6 +37,7 @@ twice file off x y n = by (cases_lt n off) (cases_lt n (off + length x)) (cases_
   where
     whole : length (x ++ y) ≡ length x + length y
     whole = length-append x y
+
     by : (n < off) ⊎ (off ≤ n) → (n < off + length x) ⊎ (off + length x ≤ n) → (n < off + length x + length y) ⊎ (off + length x + length y ≤ n)
         → slice_index (overwritten file off (x ++ y)) n ≡ slice_index (overwritten (overwritten file off x) (off + length x) y) n
     by (inl before) any more =
@@ -87,22 +88,26 @@ IsOverwriting-more path off x piece list b o names hb some fits place sofar =
   where
     m : Message
     m = Patch (block_key path b) o piece
+
     step : (old : At) (k : List ℕ) → after (list ++ m ∷ []) old k ≡ act no_nodes m k (after list old k)
     step old k = acts-append list (m ∷ []) k (old k)
+
     bytes : (old : At) (file : List ℕ) → off + length (x ++ piece) ≤ length file → HasBytes old path file → HasBytes (after (list ++ m ∷ []) old) path (overwritten file off (x ++ piece))
     bytes old file room has =
         let long = length-append x piece in
         let before : HasBytes (after list old) path (overwritten file off x) = sofar.file old file (omega (arith, long, room)) has in
         let made : HasBytes (after (list ++ m ∷ []) old) path (overwritten (overwritten file off x) (block_limit * b + o) piece) =
-          HasBytes-patched (after list old) (after (list ++ m ∷ []) old) path (overwritten file off x) piece b o some fits hb
-          (step old (block_key path b) ∙ patch-here (block_key path b) o piece (after list old (block_key path b)))
-          (λ i hi other. step old (block_key path i) ∙ patch-other (block_key path b) o piece (block_key path i) (after list old (block_key path i)) (λ same. other (block_key-injective path path i b names names hi hb same).1))
-          before in
+        HasBytes-patched (after list old) (after (list ++ m ∷ []) old) path (overwritten file off x) piece b o some fits hb
+        (step old (block_key path b) ∙ patch-here (block_key path b) o piece (after list old (block_key path b)))
+        (λ i hi other. step old (block_key path i) ∙ patch-other (block_key path b) o piece (block_key path i) (after list old (block_key path i)) (λ same. other (block_key-injective path path i b names names hi hb same).1))
+        before in
         HasBytes-same (after (list ++ m ∷ []) old) path (overwritten (overwritten file off x) (off + length x) piece) (overwritten file off (x ++ piece))
         (length-twice file off x piece) (twice file off x piece)
         (subst (λ (n : ℕ). HasBytes (after (list ++ m ∷ []) old) path (overwritten (overwritten file off x) n piece)) (sym place) made)
+
     others : (old : At) (k : List ℕ) → ((i : ℕ) → i < 2 ^ 32 → k ≢ block_key path i) → after (list ++ m ∷ []) old k ≡ old k
     others old k other = step old k ∙ patch-other (block_key path b) o piece k (after list old k) (other b hb) ∙ sofar.beside old k other
+
     only : (old : At) → HasOnlyEntries old → HasOnlyEntries (after (list ++ m ∷ []) old)
     only old all k key is = patched_only path b o piece (after list old) k names hb key (sofar.only old all) (subst IsSome (step old k) is)
 
@@ -116,7 +121,7 @@ next_patch path off bytes list made m d n names fits inside some room is pushed 
     let long : length (take n (drop d bytes)) ≡ n = omega (arith, length-take n (drop d bytes), length-drop d bytes) in
     let done : length (take d bytes) ≡ d = omega (arith, length-take d bytes) in
     let more : IsOverwriting path off (take d bytes ++ take n (drop d bytes)) (list ++ Patch (block_key path ((off + d) / block_limit)) ((off + d) % block_limit) (take n (drop d bytes)) ∷ []) =
-      IsOverwriting-more path off (take d bytes) (take n (drop d bytes)) list ((off + d) / block_limit) ((off + d) % block_limit) names (omega arith) (omega (arith, long)) (omega (arith, long)) (omega (arith, done)) sofar in
+    IsOverwriting-more path off (take d bytes) (take n (drop d bytes)) list ((off + d) / block_limit) ((off + d) % block_limit) names (omega arith) (omega (arith, long)) (omega (arith, long)) (omega (arith, done)) sofar in
     let list_is : made ≡ list ++ Patch (block_key path ((off + d) / block_limit)) ((off + d) % block_limit) (take n (drop d bytes)) ∷ [] = pushed ∙ ap (λ (x : Message). list ++ x ∷ []) is in
     subst (λ (ms : List Message). IsOverwriting path off (take (d + n) bytes) ms) (sym list_is)
     (subst (λ (x : List ℕ). IsOverwriting path off x (list ++ Patch (block_key path ((off + d) / block_limit)) ((off + d) % block_limit) (take n (drop d bytes)) ∷ [])) (sym (take-add d n bytes)) more)

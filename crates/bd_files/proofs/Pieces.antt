@@ -34,16 +34,22 @@ piece at t path file place count names r found small room inside =
   where
     start : ℕ
     start = place % block_limit
+
     b : ℕ
     b = place / block_limit
+
     whole : List ℕ
     whole = resized (stored at path b) (start + count)
+
     long : length (drop start whole) ≡ count
     long = omega (arith, length-drop start whole, length-resized (stored at path b) (start + count))
+
     other : length (take count (drop place file)) ≡ count
     other = omega (arith, length-take count (drop place file), length-drop place file)
+
     has : HasBytes at path file
     has = subst (λ (o : Option Entry). HasBytes at path (file_bytes o)) found (r.files path names)
+
     byte : (j : ℕ) → j < count → slice_index (drop start whole) j ≡ slice_index (take count (drop place file)) j
     byte j h =
         let here : block_limit * b + (start + j) ≡ place + j = omega arith in
@@ -92,6 +98,7 @@ read_all file off len size is = by (cases_lt size (off + len))
   where
     left : length (drop off file) ≡ length file - off
     left = length-drop off file
+
     by : (size < off + len) ⊎ (off + len ≤ size) → take (min size (off + len) - off) (drop off file) ≡ take len (drop off file)
     by (inl short) = take_all (min size (off + len) - off) (drop off file) (omega (arith, left, is, short)) ∙ sym (take_all len (drop off file) (omega (arith, left, is, short)))
     by (inr long) = ap (λ (n : ℕ). take n (drop off file)) (omega (arith, long))

@@ -26,13 +26,13 @@ use Rattle.bd_message.specs.KeyMaps.{At}
 use Rattle.bd_message.specs.Effect.{act, no_nodes, same_key, begins, rest, is_cut}
 use Rattle.bd_message.proofs.Finds.{same_key-true, begins-is, begins-append}
 use Rattle.bd_represent.specs.EntryKeys.{record_key, blocks_prefix, block_key, IsEntryKey}
-use Rattle.bd_represent.specs.Represents.{record_value, stored, kept_block, IsBlockOf, HasBytes, HasOnlyEntries, Represents}
+use Rattle.bd_represent.specs.Represents.{IsSameBeside, record_value, stored, kept_block, IsBlockOf, HasBytes, HasOnlyEntries, Represents}
 use Rattle.bd_represent.specs.Plans.{after, Makes}
 use Rattle.bd_represent.proofs.KeyLemmas.{key_of-apart, record_key-block_key, block_key-injective}
 use Rattle.bd_represent.proofs.ActLemmas.{put-here, put-other}
 use Rattle.bd_represent.proofs.FileLemmas.{HasBytes-along, HasBytes-longer, HasBytes-cut}
 use Rattle.bd_represent.proofs.NumberOrder.{be-below, be-from}
-use Rattle.bd_represent.proofs.TreeLemmas.{IsSameBeside, Represents-along, Represents-insert}
+use Rattle.bd_represent.proofs.TreeLemmas.{Represents-along, Represents-insert}
 use Rattle.bd_files.specs.Sends.{put_length, first_past, cut_past, shortened}
 use Rattle.bd_files.proofs.Writes.{put_at, put_only, put_beside, put_blocks}
 
@@ -80,6 +80,7 @@ cut-other path q x first at names hq other =
   where
     k : List ℕ
     k = key_of q ++ 0 ∷ x
+
     none : begins k (blocks_prefix path) ≡ false
     none = false_from_ne_true (begins k (blocks_prefix path)) (λ h.
         let is : key_of q ++ 0 ∷ x ≡ key_of path ++ 0 ∷ 1 ∷ rest (blocks_prefix path) k = begins-is k (blocks_prefix path) h ∙ append_assoc (key_of path) (0 ∷ 1 ∷ []) (rest (blocks_prefix path) k) in
@@ -132,30 +133,43 @@ shorter_makes path len last at t file names r found short_of limit is new applie
   where
     first : ℕ
     first = first_past len
+
     b : ℕ
     b = len / block_limit
+
     o : ℕ
     o = len % block_limit
+
     value : List ℕ
     value = record_bytes (File len)
+
     test : Bool
     test = nat_lt 0 o && nat_lt o (length last)
+
     hf : first < 2 ^ 32
     hf = omega arith
+
     hb : b < 2 ^ 32
     hb = omega arith
+
     has : HasBytes at path file
     has = bytes_at at t path file names r found
+
     mid : At
     mid = put_at path value at
+
     cut : At
     cut k = act no_nodes (Cut (blocks_prefix path) (be w32 first)) k (mid k)
+
     cut_record : (q : List (List ℕ)) → AreNames q → cut (record_key q) ≡ mid (record_key q)
     cut_record q hq = cut-other path q (0 ∷ []) first mid names hq (λ x e d. (cc))
+
     cut_beside : (q : List (List ℕ)) (i : ℕ) → AreNames q → q ≢ path → cut (block_key q i) ≡ mid (block_key q i)
     cut_beside q i hq other = cut-other path q (1 ∷ be w32 i) first mid names hq (λ x e d. other e)
+
     cut_block : (i : ℕ) → i < 2 ^ 32 → (first ≤ i → cut (block_key path i) ≡ None) × (i < first → cut (block_key path i) ≡ at (block_key path i))
     cut_block i hi = (λ from. cut-from path first i mid hf hi from, λ below. cut-below path first i mid hf hi below ∙ put_blocks path value at i names)
+
     finish : (final : At) → ((q : List (List ℕ)) → AreNames q → final (record_key q) ≡ cut (record_key q)) → ((q : List (List ℕ)) (i : ℕ) → AreNames q → q ≢ path → i < 2 ^ 32 → final (block_key q i) ≡ cut (block_key q i))
         → ((i : ℕ) → i < 2 ^ 32 → final (block_key path i) ≡ kept_block (len - block_limit * i) (at (block_key path i))) → HasOnlyEntries final → Represents final (insert t path (FileWith (resized file len)))
     finish final records blocks kept only =
@@ -166,8 +180,10 @@ shorter_makes path len last at t file names r found short_of limit is new applie
         })
         (records path names ∙ cut_record path names ∙ put-here (record_key path) value (at (record_key path)) ∙ ap (λ (n : ℕ). Some (record_bytes (File n))) (sym (length-resized file len)))
         (HasBytes-cut at final path file len short_of kept has) only
+
     before : (i : ℕ) → i < 2 ^ 32 → i < b → at (block_key path i) ≡ kept_block (len - block_limit * i) (at (block_key path i))
     before i hi below = kept_same (len - block_limit * i) (at (block_key path i)) (omega arith) (shape_short file i (len - block_limit * i) (at (block_key path i)) (has.blocks i hi) (omega arith))
+
     by : (test ≡ true) ⊎ (test ≡ false) → Represents new (insert t path (FileWith (resized file len)))
     by (inl cuts) =
         let parts = and_parts (nat_lt 0 o) (nat_lt o (length last)) cuts in
@@ -186,10 +202,10 @@ shorter_makes path len last at t file names r found short_of limit is new applie
           | inr from ↦ elim (cases_lt b i) [
             | inl past ↦ put-other (block_key path b) (take o last) (block_key path i) (cut (block_key path i)) (λ e. omega (arith, (block_key-injective path path i b names names hi hb e).1)) ∙ (cut_block i hi).0 (omega arith) ∙ no_left (len - block_limit * i) (at (block_key path i)) (omega arith)
             | inr to ↦
-              let same : b ≡ i = omega arith in
-              let here : final (block_key path b) ≡ kept_block (len - block_limit * b) (at (block_key path b)) =
+                let same : b ≡ i = omega arith in
+                let here : final (block_key path b) ≡ kept_block (len - block_limit * b) (at (block_key path b)) =
                 put-here (block_key path b) (take o last) (cut (block_key path b)) ∙ kept_last o (at (block_key path b)) last some is long ∙ ap (λ (n : ℕ). kept_block n (at (block_key path b))) (omega arith) in
-              subst (λ (n : ℕ). final (block_key path n) ≡ kept_block (len - block_limit * n) (at (block_key path n))) same here
+                subst (λ (n : ℕ). final (block_key path n) ≡ kept_block (len - block_limit * n) (at (block_key path n))) same here
           ]
         ])
         only)
@@ -203,11 +219,11 @@ shorter_makes path len last at t file names r found short_of limit is new applie
           | inl below ↦ (cut_block i hi).1 below ∙ elim (cases_lt i b) [
             | inl under ↦ before i hi under
             | inr from ↦
-              let same : b ≡ i = omega arith in
-              let some : 0 < o = omega arith in
-              let here : at (block_key path b) ≡ kept_block (len - block_limit * b) (at (block_key path b)) =
+                let same : b ≡ i = omega arith in
+                let some : 0 < o = omega arith in
+                let here : at (block_key path b) ≡ kept_block (len - block_limit * b) (at (block_key path b)) =
                 kept_same (len - block_limit * b) (at (block_key path b)) (omega arith) (short (at (block_key path b)) (len - block_limit * b) (omega (arith, enough some, ap length is))) in
-              subst (λ (n : ℕ). at (block_key path n) ≡ kept_block (len - block_limit * n) (at (block_key path n))) same here
+                subst (λ (n : ℕ). at (block_key path n) ≡ kept_block (len - block_limit * n) (at (block_key path n))) same here
           ]
           | inr past ↦ (cut_block i hi).0 past ∙ no_left (len - block_limit * i) (at (block_key path i)) (omega arith)
         ])
@@ -220,7 +236,8 @@ shorter_makes path len last at t file names r found short_of limit is new applie
 
 pub truncate_planned : (at : At) (t : Tree) (path : List (List ℕ)) (len : ℕ) (file : List ℕ) (items list : List Message) → get t path ≡ Some (FileWith file) → len ≤ file_limit → list ≡ items
     → Makes at items (insert t path (FileWith (resized file len))) → (refusal_of t (Truncate path len) ≡ None) × Makes at list (changed t (Truncate path len))
-truncate_planned at t path len file items list found fits is makes =
-    (ap (λ (o : Option Entry). option_or (file_refusal o) (size_refusal len)) found ∙ ap (λ b. cond b None (Some TooBig)) (le-leb len file_limit fits),
-    subst (λ (ms : List Message). Makes at ms (insert t path (FileWith (resized (file_bytes (get t path)) len)))) (sym is)
-    (subst (λ (o : Option Entry). Makes at items (insert t path (FileWith (resized (file_bytes o) len)))) (sym found) makes))
+truncate_planned at t path len file items list found fits is makes = (
+  ap (λ (o : Option Entry). option_or (file_refusal o) (size_refusal len)) found ∙ ap (λ b. cond b None (Some TooBig)) (le-leb len file_limit fits),
+  subst (λ (ms : List Message). Makes at ms (insert t path (FileWith (resized (file_bytes (get t path)) len)))) (sym is)
+      (subst (λ (o : Option Entry). Makes at items (insert t path (FileWith (resized (file_bytes o) len)))) (sym found) makes),
+)

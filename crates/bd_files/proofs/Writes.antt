@@ -21,12 +21,12 @@ use Rattle.bd_message.specs.KeyMaps.{At}
 use Rattle.bd_message.specs.Effect.{act, no_nodes, same_key}
 use Rattle.bd_message.proofs.Finds.{same_key-true}
 use Rattle.bd_represent.specs.EntryKeys.{record_key, block_key, IsEntryKey}
-use Rattle.bd_represent.specs.Represents.{record_value, HasBytes, HasOnlyEntries, Represents}
+use Rattle.bd_represent.specs.Represents.{IsSameBeside, record_value, HasBytes, HasOnlyEntries, Represents}
 use Rattle.bd_represent.specs.Plans.{after, Makes}
 use Rattle.bd_represent.proofs.KeyLemmas.{record_key-injective, record_key-block_key, block_key-injective}
 use Rattle.bd_represent.proofs.ActLemmas.{put-here, put-other}
 use Rattle.bd_represent.proofs.FileLemmas.{longer, beside, within, HasBytes-along, HasBytes-same, HasBytes-longer}
-use Rattle.bd_represent.proofs.TreeLemmas.{IsSameBeside, Represents-along, Represents-insert}
+use Rattle.bd_represent.proofs.TreeLemmas.{Represents-along, Represents-insert}
 use Rattle.bd_files.specs.Sends.{put_length, growth, IsOverwriting}
 use Rattle.bd_files.proofs.Overwriting.{acts-append}
 
@@ -86,19 +86,21 @@ write_makes path off len end bytes list patches names ends is writes at t file r
   where
     bytes_at : HasBytes at path file
     bytes_at = subst (λ (o : Option Entry). HasBytes at path (file_bytes o)) found (r.files path names)
+
     all : length (overwritten file off bytes) ≡ max (length file) (off + length bytes)
     all = length-overwritten file off bytes
+
     by : (nat_lt len end ≡ true) ⊎ (nat_lt len end ≡ false) → Represents new (insert t path (FileWith (overwritten file off bytes)))
     by (inl grows) =
         let under : len < end = ltb-true len end grows in
         let mid : At = put_at path (record_bytes (File end)) at in
         let list_is : list ≡ (put_length path end ∷ []) ++ patches = is ∙ ap (λ b. cond b (put_length path end ∷ []) [] ++ patches) grows in
         let made = overwrites path off end bytes file (resized file end) patches at mid t names r (put_beside path (record_bytes (File end)) at names) (put_only path (record_bytes (File end)) at names r.only)
-          (put-here (record_key path) (record_bytes (File end)) (at (record_key path)))
-          (HasBytes-longer mid path file end (omega (arith, long, under)) (HasBytes-along at mid path file (λ i hi. put_blocks path (record_bytes (File end)) at i names) bytes_at))
-          (omega (arith, ends, length-resized file end)) (omega (arith, all, ends, long, under))
-          (omega (arith, all, ends, long, under, length-overwritten (resized file end) off bytes, length-resized file end))
-          (λ n. overwritten_longer file end off bytes n (omega (arith, long, under))) writes in
+        (put-here (record_key path) (record_bytes (File end)) (at (record_key path)))
+        (HasBytes-longer mid path file end (omega (arith, long, under)) (HasBytes-along at mid path file (λ i hi. put_blocks path (record_bytes (File end)) at i names) bytes_at))
+        (omega (arith, ends, length-resized file end)) (omega (arith, all, ends, long, under))
+        (omega (arith, all, ends, long, under, length-overwritten (resized file end) off bytes, length-resized file end))
+        (λ n. overwritten_longer file end off bytes n (omega (arith, long, under))) writes in
         Represents-along (after patches mid) new (insert t path (FileWith (overwritten file off bytes)))
         (λ k key. applied k key ∙ ap (λ (ms : List Message). after ms at k) list_is ∙ acts-append (put_length path end ∷ []) patches k (at k)) made
     by (inr stays) =
@@ -106,7 +108,7 @@ write_makes path off len end bytes list patches names ends is writes at t file r
         let list_is : list ≡ patches = is ∙ ap (λ b. cond b (put_length path end ∷ []) [] ++ patches) stays in
         let record_at : at (record_key path) ≡ Some (record_bytes (File (length file))) = r.records path names ∙ ap (option_map record_value) found in
         let made = overwrites path off len bytes file file patches at at t names r (record { records = λ q hq other. refl; blocks = λ q i hq other hi. refl }) r.only
-          (record_at ∙ ap (λ (n : ℕ). Some (record_bytes (File n))) (sym long)) bytes_at (omega (arith, ends, long, over)) (omega (arith, all, ends, long, over)) refl (λ n. refl) writes in
+        (record_at ∙ ap (λ (n : ℕ). Some (record_bytes (File n))) (sym long)) bytes_at (omega (arith, ends, long, over)) (omega (arith, all, ends, long, over)) refl (λ n. refl) writes in
         Represents-along (after patches at) new (insert t path (FileWith (overwritten file off bytes)))
         (λ k key. applied k key ∙ ap (λ (ms : List Message). after ms at k) list_is) made
 
@@ -114,7 +116,8 @@ write_makes path off len end bytes list patches names ends is writes at t file r
 
 pub write_planned : (at : At) (t : Tree) (path : List (List ℕ)) (off : ℕ) (bytes file : List ℕ) (items list : List Message) → get t path ≡ Some (FileWith file) → off + length bytes ≤ file_limit → list ≡ items
     → Makes at items (insert t path (FileWith (overwritten file off bytes))) → (refusal_of t (Write path off bytes) ≡ None) × Makes at list (changed t (Write path off bytes))
-write_planned at t path off bytes file items list found fits is makes =
-    (ap (λ (o : Option Entry). option_or (file_refusal o) (size_refusal (off + length bytes))) found ∙ ap (λ b. cond b None (Some TooBig)) (le-leb (off + length bytes) file_limit fits),
-    subst (λ (ms : List Message). Makes at ms (insert t path (FileWith (overwritten (file_bytes (get t path)) off bytes)))) (sym is)
-    (subst (λ (o : Option Entry). Makes at items (insert t path (FileWith (overwritten (file_bytes o) off bytes)))) (sym found) makes))
+write_planned at t path off bytes file items list found fits is makes = (
+  ap (λ (o : Option Entry). option_or (file_refusal o) (size_refusal (off + length bytes))) found ∙ ap (λ b. cond b None (Some TooBig)) (le-leb (off + length bytes) file_limit fits),
+  subst (λ (ms : List Message). Makes at ms (insert t path (FileWith (overwritten (file_bytes (get t path)) off bytes)))) (sym is)
+      (subst (λ (o : Option Entry). Makes at items (insert t path (FileWith (overwritten (file_bytes o) off bytes)))) (sym found) makes),
+)

@@ -17,11 +17,7 @@ use bd_represent::record_key;
 use std::alloc::Global;
 
 /// The record of a path, `None` where nothing is there.
-pub fn record<M: KeyMap>(
-    alloc: Global,
-    m: &mut M,
-    path: &Path,
-) -> Result<Option<Record>, MapFault>
+pub fn record<M: KeyMap>(alloc: Global, m: &mut M, path: &Path) -> Result<Option<Record>, MapFault>
     ensures record { M.is_known m.old → (t : Tree) → IsTree t → Represents (M.has m.old) t
         → IfOk result (λ found. found ≡ option_map record_of (get t path.now)) }
     ensures names { OnOk result (AreNames path.now) }

@@ -118,18 +118,21 @@ HasBytes-patched old new path file piece b o some fits hb here others has =
   where
     one_or_other : (i : ℕ) → (i ≡ b) ⊎ (i ≢ b)
     one_or_other i = elim (cases_lt i b) [
-        | inl below ↦ inr (λ e. omega (arith, e))
-        | inr from ↦ elim (cases_lt b i) [ inl above ↦ inr (λ e. omega (arith, e)) | inr to ↦ inl (omega arith) ]
-      ]
+      | inl below ↦ inr (λ e. omega (arith, e))
+      | inr from ↦ elim (cases_lt b i) [ inl above ↦ inr (λ e. omega (arith, e)) | inr to ↦ inl (omega arith) ]
+    ]
+
     shape : (i : ℕ) (o' : Option (List ℕ)) → IfSome o' (IsBlockOf file i) → IfSome o' (IsBlockOf (overwritten file (block_limit * b + o) piece) i)
     shape i None h = h
     shape i (Some block) h = (h.0, omega (arith, h.1, length-overwritten file (block_limit * b + o) piece))
+
     blocks : (i : ℕ) → i < 2 ^ 32 → (i ≡ b) ⊎ (i ≢ b) → IfSome (new (block_key path i)) (IsBlockOf (overwritten file (block_limit * b + o) piece) i)
     blocks i hi (inl e) =
         let shapes = stored_shape file b (old (block_key path b)) (has.blocks b hb) in
         let made : IfSome (new (block_key path b)) (IsBlockOf (overwritten file (block_limit * b + o) piece) b) = rw here (block_shape file (stored old path b) piece b o some fits shapes.0 shapes.1) in
         subst (λ (n : ℕ). IfSome (new (block_key path n)) (IsBlockOf (overwritten file (block_limit * b + o) piece) n)) (sym e) made
     blocks i hi (inr other) = subst (λ (o' : Option (List ℕ)). IfSome o' (IsBlockOf (overwritten file (block_limit * b + o) piece) i)) (sym (others i hi other)) (shape i (old (block_key path i)) (has.blocks i hi))
+
     bytes : (i j : ℕ) → i < 2 ^ 32 → j < block_limit → (i ≡ b) ⊎ (i ≢ b) → slice_index (overwritten file (block_limit * b + o) piece) (block_limit * i + j) ≡ slice_index (stored new path i) j
     bytes i j hi hj (inl e) =
         let made : slice_index (overwritten file (block_limit * b + o) piece) (block_limit * b + j) ≡ slice_index (stored new path b) j = block_bytes file (stored old path b) piece b o j hj (has.bytes b j hb hj) ∙ ap (λ (o' : Option (List ℕ)). slice_index (unwrap_or o' []) j) (sym here) in

@@ -40,16 +40,16 @@ digits_order (suc n) (x ∷ xs) (y ∷ ys) hx hy bx by =
     let low : a < 256 ^ n = big_from-lt 0 n xs rx in
     let low' : b < 256 ^ n = big_from-lt 0 n ys ry in
     let numbers : nat_cmp (big_from 0 (suc n) (x ∷ xs)) (big_from 0 (suc n) (y ∷ ys)) ≡ nat_cmp (x * 256 ^ n + a) (y * 256 ^ n + b) =
-      ap (λ (m : ℕ). nat_cmp (x * 256 ^ n + m) (big_from 0 (suc n) (y ∷ ys))) (big_from-cons 0 n x xs) ∙ ap (λ (m : ℕ). nat_cmp (x * 256 ^ n + a) (y * 256 ^ n + m)) (big_from-cons 0 n y ys) in
+    ap (λ (m : ℕ). nat_cmp (x * 256 ^ n + m) (big_from 0 (suc n) (y ∷ ys))) (big_from-cons 0 n x xs) ∙ ap (λ (m : ℕ). nat_cmp (x * 256 ^ n + a) (y * 256 ^ n + m)) (big_from-cons 0 n y ys) in
     elim (cases_lt x y) [
       | inl less ↦ first_less x y xs ys less ∙ sym (numbers ∙ nat_less (x * 256 ^ n + a) (y * 256 ^ n + b) (higher_digit x y a b (256 ^ n) low less))
       | inr from ↦ elim (cases_lt y x) [
         | inl more ↦ first_more x y xs ys more ∙ sym (numbers ∙ nat_more (x * 256 ^ n + a) (y * 256 ^ n + b) (higher_digit y x b a (256 ^ n) low' more))
         | inr to ↦
-          let same : x ≡ y = omega arith in
-          let same_first : key_cmp (x ∷ xs) (y ∷ ys) ≡ key_cmp xs ys = subst (λ (z : ℕ). key_cmp (x ∷ xs) (z ∷ ys) ≡ key_cmp xs ys) same (first_same x xs ys) in
-          let moved : nat_cmp (x * 256 ^ n + a) (y * 256 ^ n + b) ≡ nat_cmp a b = subst (λ (z : ℕ). nat_cmp (x * 256 ^ n + a) (z * 256 ^ n + b) ≡ nat_cmp a b) same (shifted (x * 256 ^ n) a b) in
-          same_first ∙ digits_order n xs ys (omega arith) (omega arith) rx ry ∙ sym (numbers ∙ moved)
+            let same : x ≡ y = omega arith in
+            let same_first : key_cmp (x ∷ xs) (y ∷ ys) ≡ key_cmp xs ys = subst (λ (z : ℕ). key_cmp (x ∷ xs) (z ∷ ys) ≡ key_cmp xs ys) same (first_same x xs ys) in
+            let moved : nat_cmp (x * 256 ^ n + a) (y * 256 ^ n + b) ≡ nat_cmp a b = subst (λ (z : ℕ). nat_cmp (x * 256 ^ n + a) (z * 256 ^ n + b) ≡ nat_cmp a b) same (shifted (x * 256 ^ n) a b) in
+            same_first ∙ digits_order n xs ys (omega arith) (omega arith) rx ry ∙ sym (numbers ∙ moved)
       ]
     ]
 

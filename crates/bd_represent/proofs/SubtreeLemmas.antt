@@ -37,6 +37,7 @@ begins-under p q x hp hq = by (cases_Bool (is_under p q))
   where
     k : List ℕ
     k = key_of q ++ 0 ∷ x
+
     by : (is_under p q ≡ true) ⊎ (is_under p q ≡ false) → begins k (key_of p) ≡ is_under p q
     by (inl h) =
         let below = is_under-rest p q h in
@@ -44,9 +45,9 @@ begins-under p q x hp hq = by (cases_Bool (is_under p q))
         ap (λ (l : List ℕ). begins l (key_of p)) key ∙ begins-append (key_of p) (key_of below.0 ++ 0 ∷ x) ∙ sym h
     by (inr h) =
         false_from_ne_true (begins k (key_of p)) (λ at.
-          let below = key_of-under p q (rest (key_of p) k) x hp hq (begins-is k (key_of p) at) in
-          let under : is_under p q ≡ true = ap (is_under p) below.1 ∙ is_under-append p below.0 in
-          apart (is_under p q) under h) ∙ sym h
+        let below = key_of-under p q (rest (key_of p) k) x hp hq (begins-is k (key_of p) at) in
+        let under : is_under p q ≡ true = ap (is_under p) below.1 ∙ is_under-append p below.0 in
+        apart (is_under p q) under h) ∙ sym h
       where
         apart : (b : Bool) → b ≡ true → b ≡ false → ⊥
         apart b s t = cc
@@ -79,9 +80,11 @@ Represents-without old new t path names r cut =
   where
     at_key : (q : List (List ℕ)) (x : List ℕ) → AreNames q → IsKey (key_of q ++ 0 ∷ x) → new (key_of q ++ 0 ∷ x) ≡ cond (is_under path q) None (old (key_of q ++ 0 ∷ x))
     at_key q x hq key = cut (key_of q ++ 0 ∷ x) key ∙ ap (λ b. cond b None (old (key_of q ++ 0 ∷ x))) (begins-under path q x names hq)
+
     records : (q : List (List ℕ)) → AreNames q → (is_under path q ≡ true) ⊎ (is_under path q ≡ false) → new (record_key q) ≡ option_map record_value (get (without path t) q)
     records q hq (inl h) = at_key q (0 ∷ []) hq (IsKey-record_key q hq) ∙ ap (λ b. cond b None (old (record_key q))) h ∙ sym (ap (option_map record_value) (get-without path t q ∙ ap (λ b. cond (not b) (get t q) None) h))
     records q hq (inr h) = at_key q (0 ∷ []) hq (IsKey-record_key q hq) ∙ ap (λ b. cond b None (old (record_key q))) h ∙ r.records q hq ∙ sym (ap (option_map record_value) (get-without path t q ∙ ap (λ b. cond (not b) (get t q) None) h))
+
     files : (q : List (List ℕ)) → AreNames q → (is_under path q ≡ true) ⊎ (is_under path q ≡ false) → HasBytes new q (file_bytes (get (without path t) q))
     files q hq (inl h) =
         subst (λ (o : Option Entry). HasBytes new q (file_bytes o)) (sym (get-without path t q ∙ ap (λ b. cond (not b) (get t q) None) h))
@@ -89,6 +92,7 @@ Represents-without old new t path names r cut =
     files q hq (inr h) =
         subst (λ (o : Option Entry). HasBytes new q (file_bytes o)) (sym (get-without path t q ∙ ap (λ b. cond (not b) (get t q) None) h))
         (HasBytes-along old new q (file_bytes (get t q)) (λ i hi. at_key q (1 ∷ be w32 i) hq (IsKey-block_key q i hq) ∙ ap (λ b. cond b None (old (block_key q i))) h) (r.files q hq))
+
     only : HasOnlyEntries new
     only k key some = by (cases_Bool (begins k (key_of path)))
       where
@@ -107,6 +111,7 @@ grafted_key old a b q x keep ha hb hq =
   where
     k : List ℕ
     k = key_of q ++ 0 ∷ x
+
     by : (gone : Bool) (found : Option (List (List ℕ))) → rest_below b q ≡ found
         → cond gone None (cond (begins k (key_of b)) (old (key_of a ++ rest (key_of b) k)) (old k)) ≡ option_and_then (λ p. old (key_of p ++ 0 ∷ x)) (cond gone None (source_of q (option_map (λ below. a ++ below) found)))
     by true found e = refl
@@ -138,11 +143,13 @@ Represents-grafted old new t u a b keep ha hb r tree graft =
   where
     at_key : (q : List (List ℕ)) (x : List ℕ) → AreNames q → IsKey (key_of q ++ 0 ∷ x) → new (key_of q ++ 0 ∷ x) ≡ option_and_then (λ p. old (key_of p ++ 0 ∷ x)) (source a b keep q)
     at_key q x hq key = graft (key_of q ++ 0 ∷ x) key ∙ grafted_key old a b q x keep ha hb hq
+
     records : (q : List (List ℕ)) → AreNames q → (o : Option (List (List ℕ))) → source a b keep q ≡ o → new (record_key q) ≡ option_map record_value (get u q)
     records q hq None e = at_key q (0 ∷ []) hq (IsKey-record_key q hq) ∙ ap (option_and_then (λ p. old (key_of p ++ 0 ∷ 0 ∷ []))) e ∙ sym (ap (option_map record_value) (tree q hq ∙ ap (option_and_then (get t)) e))
     records q hq (Some p) e =
         at_key q (0 ∷ []) hq (IsKey-record_key q hq) ∙ ap (option_and_then (λ p. old (key_of p ++ 0 ∷ 0 ∷ []))) e ∙ r.records p (source_names a b q keep p ha hq e)
         ∙ sym (ap (option_map record_value) (tree q hq ∙ ap (option_and_then (get t)) e))
+
     files : (q : List (List ℕ)) → AreNames q → (o : Option (List (List ℕ))) → source a b keep q ≡ o → HasBytes new q (file_bytes (get u q))
     files q hq None e =
         subst (λ (o : Option Entry). HasBytes new q (file_bytes o)) (sym (tree q hq ∙ ap (option_and_then (get t)) e))
@@ -157,20 +164,24 @@ Represents-grafted old new t u a b keep ha hb r tree graft =
               blocks = λ i hi. subst (λ (o : Option (List ℕ)). IfSome o (IsBlockOf file i)) (sym (same i hi)) (has.blocks i hi);
               bytes = λ i j hi hj. has.bytes i j hi hj ∙ ap (λ (o : Option (List ℕ)). slice_index (unwrap_or o []) j) (sym (same i hi));
             }
+
     -- the entry at the source is one at the target
     moved : (k : List ℕ) (p : List (List ℕ)) (x : List ℕ) → AreNames p → k ≡ key_of b ++ rest (key_of b) k → key_of a ++ rest (key_of b) k ≡ key_of p ++ 0 ∷ x → (below : List (List ℕ)) × AreNames (b ++ below) × (k ≡ key_of (b ++ below) ++ 0 ∷ x)
     moved k p x hp is e =
         let under = key_of-under a p (rest (key_of b) k) x ha hp (sym e) in
         let names : AreNames (a ++ under.0) = subst (λ (r : List (List ℕ)). AreNames r) under.1 hp in
         (under.0, AreNames-append b under.0 hb (AreNames-parts a under.0 names).1, is ∙ ap (λ (r : List ℕ). key_of b ++ r) under.2 ∙ sym (below_key b under.0 (0 ∷ x)))
+
     entry : (k : List ℕ) → k ≡ key_of b ++ rest (key_of b) k → IsEntryKey (key_of a ++ rest (key_of b) k) → IsEntryKey k
     entry k is (p, names, inl e) = let m = moved k p (0 ∷ []) names is e in (b ++ m.0, m.1, inl m.2)
     entry k is (p, names, inr (i, hi, e)) = let m = moved k p (1 ∷ be w32 i) names is e in (b ++ m.0, m.1, inr (i, hi, m.2))
+
     only : HasOnlyEntries new
     only k key some = by (cases_Bool (not keep && begins k (key_of a))) (cases_Bool (begins k (key_of b)))
       where
         value : (g : Bool) (d : Bool) → (not keep && begins k (key_of a)) ≡ g → begins k (key_of b) ≡ d → IsSome (cond g None (cond d (old (key_of a ++ rest (key_of b) k)) (old k)))
         value g d eg ed = subst IsSome (graft k key ∙ ap (λ c. cond c None (cond (begins k (key_of b)) (old (key_of a ++ rest (key_of b) k)) (old k))) eg ∙ ap (λ c. cond g None (cond c (old (key_of a ++ rest (key_of b) k)) (old k))) ed) some
+
         by : ((not keep && begins k (key_of a)) ≡ true) ⊎ ((not keep && begins k (key_of a)) ≡ false) → (begins k (key_of b) ≡ true) ⊎ (begins k (key_of b) ≡ false) → IsEntryKey k
         by (inl gone) (inl in_b) = let none : false ≡ true = value true true gone in_b in cc
         by (inl gone) (inr out) = let none : false ≡ true = value true false gone out in cc

@@ -11,7 +11,7 @@ use Rattle.bd_model.proofs.PathOrder.{one_or_apart}
 use Rattle.bd_model.proofs.TreeGets.{get-insert-at, get-insert-other}
 use Rattle.bd_message.specs.KeyMaps.{At}
 use Rattle.bd_represent.specs.EntryKeys.{record_key, block_key}
-use Rattle.bd_represent.specs.Represents.{record_value, HasBytes, HasOnlyEntries, Represents}
+use Rattle.bd_represent.specs.Represents.{record_value, HasBytes, HasOnlyEntries, IsSameBeside, Represents}
 use Rattle.bd_represent.proofs.ActLemmas.{IsKey-record_key, IsKey-block_key}
 use Rattle.bd_represent.proofs.FileLemmas.{HasBytes-along}
 
@@ -24,11 +24,6 @@ Represents-along old new t same r =
       only = λ k hk some. r.only k hk (subst IsSome (same k hk) some);
     }
 
--- the same stands at the record and the blocks of each other path
-pub record IsSameBeside (path : List (List ℕ)) (old new : At) : Type 0 where
-  pub records : (q : List (List ℕ)) → AreNames q → q ≢ path → new (record_key q) ≡ old (record_key q)
-  pub blocks : (q : List (List ℕ)) (i : ℕ) → AreNames q → q ≢ path → i < 2 ^ 32 → new (block_key q i) ≡ old (block_key q i)
-
 -- where the record and the blocks of a path are those of an entry, the entry stands there
 pub Represents-insert : (old new : At) (t : Tree) (path : List (List ℕ)) (e : Entry) → Represents old t → IsSameBeside path old new
     → new (record_key path) ≡ Some (record_value e) → HasBytes new path (file_bytes (Some e)) → HasOnlyEntries new → Represents new (insert t path e)
@@ -40,6 +35,7 @@ Represents-insert old new t path e r beside here bytes only =
         let at_path : new (record_key path) ≡ option_map record_value (get (insert t path e) path) = here ∙ sym (ap (option_map record_value) (get-insert-at t path e)) in
         subst (λ (p : List (List ℕ)). new (record_key p) ≡ option_map record_value (get (insert t path e) p)) (sym same) at_path
     records q hq (inr other) = beside.records q hq other ∙ r.records q hq ∙ sym (ap (option_map record_value) (get-insert-other t path e q other))
+
     files : (q : List (List ℕ)) → AreNames q → (q ≡ path) ⊎ (q ≢ path) → HasBytes new q (file_bytes (get (insert t path e) q))
     files q hq (inl same) =
         let at_path : HasBytes new path (file_bytes (get (insert t path e) path)) = subst (λ (o : Option Entry). HasBytes new path (file_bytes o)) (sym (get-insert-at t path e)) bytes in

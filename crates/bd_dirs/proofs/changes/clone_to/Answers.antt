@@ -20,8 +20,10 @@ returns-clause-plan g c = λ known t tree r.
     let left = c.in_ok-refusal.ensures.left in
     let later = Represents-along (g.M.KeyMap.has c.args.m.now) (g.M.KeyMap.has c.absent.new.m) t (λ k key. left.kept known k) r in
     let free : refusal_of t (Clone c.args.a.now c.args.b.now) ≡ None =
-      both_free (absent_refusal (get t c.args.a.now)) (new_refusal t c.args.b.now)
-      (sym (c.in_ok-refusal.ensures.refusal known t tree r) ∙ c.in_default.is)
-      (sym (c.in_ok-refusal-2.ensures.refusal (left.known known) t tree later) ∙ c.in_default-2.is) in
-    (free, makes_clone (g.M.KeyMap.has c.args.m.now) t c.args.a.now c.args.b.now c.from_vec.result c.from_vec-2.result c.in_ok-refusal.ensures.names c.in_ok-refusal-2.ensures.names tree r free
-      (c.from_vec.ensures ∙ c.in_ok-key.ensures.key) (c.from_vec-2.ensures ∙ c.in_ok-key-2.ensures.key))
+    both_free (absent_refusal (get t c.args.a.now)) (new_refusal t c.args.b.now)
+    (sym (c.in_ok-refusal.ensures.refusal known t tree r) ∙ c.in_default.is)
+    (sym (c.in_ok-refusal-2.ensures.refusal (left.known known) t tree later) ∙ c.in_default-2.is) in (
+      free,
+      makes_clone (g.M.KeyMap.has c.args.m.now) t c.args.a.now c.args.b.now c.from_vec.result c.from_vec-2.result c.in_ok-refusal.ensures.names c.in_ok-refusal-2.ensures.names tree r free
+          (c.from_vec.ensures ∙ c.in_ok-key.ensures.key) (c.from_vec-2.ensures ∙ c.in_ok-key-2.ensures.key),
+    )

@@ -31,14 +31,18 @@ returns-clause-plan g c = λ known t tree r.
     let outside : is_under a b ≡ false = sym c.is_under.ensures ∙ c.if-is_under.false in
     let out : inside_refusal a b ≡ None = ap (λ (x : Bool). cond x (Some Inside) None) outside in
     let free : refusal_of t (Rename a b) ≡ None =
-      both_free (root_refusal a) (option_or (absent_refusal (get t a)) (option_or (inside_refusal a b) (new_refusal t b))) (root_free a c.is_root.result c.if-is_root.false c.is_root.ensures.1)
-      (both_free (absent_refusal (get t a)) (option_or (inside_refusal a b) (new_refusal t b)) (sym (c.in_ok-refusal.ensures.refusal known t tree r) ∙ c.in_default.is)
-      (both_free (inside_refusal a b) (new_refusal t b) out (sym (c.in_ok-refusal-2.ensures.refusal (left.known known) t tree later) ∙ c.in_default-2.is))) in
-    (free, makes_rename (g.M.KeyMap.has c.args.m.now) t a b c.from_vec.result c.from_vec-2.result c.in_ok-refusal.ensures.names c.in_ok-refusal-2.ensures.names tree r free
-      (c.from_vec.ensures ∙ c.in_ok-key.ensures.key) (c.from_vec-2.ensures ∙ c.in_ok-key-2.ensures.key))
+    both_free (root_refusal a) (option_or (absent_refusal (get t a)) (option_or (inside_refusal a b) (new_refusal t b))) (root_free a c.is_root.result c.if-is_root.false c.is_root.ensures.1)
+    (both_free (absent_refusal (get t a)) (option_or (inside_refusal a b) (new_refusal t b)) (sym (c.in_ok-refusal.ensures.refusal known t tree r) ∙ c.in_default.is)
+    (both_free (inside_refusal a b) (new_refusal t b) out (sym (c.in_ok-refusal-2.ensures.refusal (left.known known) t tree later) ∙ c.in_default-2.is))) in (
+      free,
+      makes_rename (g.M.KeyMap.has c.args.m.now) t a b c.from_vec.result c.from_vec-2.result c.in_ok-refusal.ensures.names c.in_ok-refusal-2.ensures.names tree r free
+          (c.from_vec.ensures ∙ c.in_ok-key.ensures.key) (c.from_vec-2.ensures ∙ c.in_ok-key-2.ensures.key),
+    )
 
 pub returns-clause-ready : goal.returns-clause-ready
-returns-clause-ready g c =
-    (omega (arith, ap length c.from_vec.ensures, c.in_ok-key.ensures.length), omega (arith, ap length c.from_vec-2.ensures, c.in_ok-key-2.ensures.length),
-    λ moved. not_inside c.args.a.now c.args.b.now c.from_vec.result c.from_vec-2.result c.in_ok-refusal.ensures.names c.in_ok-refusal-2.ensures.names (sym c.is_under.ensures ∙ c.if-is_under.false)
-      (c.from_vec.ensures ∙ c.in_ok-key.ensures.key) (c.from_vec-2.ensures ∙ c.in_ok-key-2.ensures.key))
+returns-clause-ready g c = (
+  omega (arith, ap length c.from_vec.ensures, c.in_ok-key.ensures.length),
+  omega (arith, ap length c.from_vec-2.ensures, c.in_ok-key-2.ensures.length),
+  λ moved. not_inside c.args.a.now c.args.b.now c.from_vec.result c.from_vec-2.result c.in_ok-refusal.ensures.names c.in_ok-refusal-2.ensures.names (sym c.is_under.ensures ∙ c.if-is_under.false)
+      (c.from_vec.ensures ∙ c.in_ok-key.ensures.key) (c.from_vec-2.ensures ∙ c.in_ok-key-2.ensures.key),
+)

@@ -32,5 +32,5 @@ loop-done-preserved c =
       each = rw items (All-push IsMessage c.loop-done.list.items c.in_ok-patch.field-0 c.loop-done.invariant.each c.in_ok-patch.ensures.is_message);
       plain = rw items (All-push IsPlain c.loop-done.list.items c.in_ok-patch.field-0 c.loop-done.invariant.plain (subst IsPlain (sym m) tt));
       writes = next_patch c.args.path.now c.args.off c.args.bytes.now c.loop-done.list.items c.push.new.self.items c.in_ok-patch.field-0 d n c.in_ok-patch.ensures.names c.requires.fits fits some room
-        (m ∙ ap (Patch (block_key c.args.path.now ((c.args.off + d) / block_limit)) o) piece) items c.loop-done.invariant.writes;
+          (m ∙ ap (Patch (block_key c.args.path.now ((c.args.off + d) / block_limit)) o) piece) items c.loop-done.invariant.writes;
     }

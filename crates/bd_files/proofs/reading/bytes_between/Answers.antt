@@ -27,11 +27,11 @@ loop-place-preserved g c =
       bytes = λ known t file r found long.
           let at = g.M.KeyMap.has c.args.m.now in
           let kept : c.in_ok-block.block.items ≡ stored at c.args.path.now (place / block_limit) =
-            c.in_ok-block.ensures.bytes (first.known known) ∙ ap (λ (o : Option (List ℕ)). unwrap_or o []) (first.kept known (block_key c.args.path.now (place / block_limit))) in
+          c.in_ok-block.ensures.bytes (first.known known) ∙ ap (λ (o : Option (List ℕ)). unwrap_or o []) (first.kept known (block_key c.args.path.now (place / block_limit))) in
           let got : c.tail.result.now ≡ drop (place % block_limit) (resized (stored at c.args.path.now (place / block_limit)) (place % block_limit + n)) =
-            c.tail.ensures ∙ ap (drop (place % block_limit)) (c.deref-in-loop-place.ensures.value ∙ c.in_ok-whole.ensures ∙ ap (λ (b : List ℕ). resized b (place % block_limit + n)) (c.deref.ensures.value ∙ kept)) in
+          c.tail.ensures ∙ ap (drop (place % block_limit)) (c.deref-in-loop-place.ensures.value ∙ c.in_ok-whole.ensures ∙ ap (λ (b : List ℕ). resized b (place % block_limit + n)) (c.deref.ensures.value ∙ kept)) in
           let read : c.extend_from_slice.new.self.items ≡ c.loop-place.read.items ++ take n (drop place file) =
-            c.in_ok-extend_from_slice.ensures.items ∙ ap (λ (b : List ℕ). c.loop-place.read.items ++ b) (got ∙ piece at t c.args.path.now file place n c.requires r found (omega arith) room (omega (arith, fits, long))) in
+          c.in_ok-extend_from_slice.ensures.items ∙ ap (λ (b : List ℕ). c.loop-place.read.items ++ b) (got ∙ piece at t c.args.path.now file place n c.requires r found (omega arith) room (omega (arith, fits, long))) in
           read ∙ next_piece file c.loop-place.read.items c.args.off place n c.loop-place.invariant.from (c.loop-place.invariant.bytes known t file r found long);
     }
 

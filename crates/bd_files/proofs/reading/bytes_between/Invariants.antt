@@ -15,7 +15,7 @@ invariant-loop-place g l = record {
   left : IsLeft g.M.KeyMap.is_known g.M.KeyMap.has g.M.KeyMap.room_of g.M.KeyMap.worn g.M.KeyMap.reads g.M.KeyMap.loans l.initial.m l.m;
   later : g.M.KeyMap.fault_count l.initial.m ≤ g.M.KeyMap.fault_count l.m;
   bytes : g.M.KeyMap.is_known l.initial.m → (t : Tree) (file : List ℕ) → Represents (g.M.KeyMap.has l.initial.m) t
-    → get t l.path ≡ Some (FileWith file) → l.end ≤ length file → l.read.items ≡ take (l.place - l.off) (drop l.off file);
+      → get t l.path ≡ Some (FileWith file) → l.end ≤ length file → l.read.items ≡ take (l.place - l.off) (drop l.off file);
 }
 
 abbrev pub decreases-loop-place : goal.decreases-loop-place

@@ -26,6 +26,6 @@ returns-clause-plan g c = λ known t tree r.
     let left = c.in_ok-size.ensures.left in
     let limit : c.args.len ≤ file_limit = omega arith in
     let last : c.deref.result.now ≡ stored at path (c.args.len / block_limit) =
-      c.deref.ensures.value ∙ c.in_ok-last.ensures.bytes (left.known known) ∙ ap (λ (o : Option (List ℕ)). unwrap_or o []) (left.kept known (block_key path (c.args.len / block_limit))) in
+    c.deref.ensures.value ∙ c.in_ok-last.ensures.bytes (left.known known) ∙ ap (λ (o : Option (List ℕ)). unwrap_or o []) (left.kept known (block_key path (c.args.len / block_limit))) in
     truncate_planned at t path c.args.len file.0 (put_length path c.args.len ∷ cut_past path c.args.len ∷ shortened path c.args.len c.deref.result.now) c.from_vec-2.result file.1 limit (c.from_vec-2.ensures ∙ c.in_ok-list-2.ensures.value)
     (shorter_makes path c.args.len c.deref.result.now at t file.0 c.in_ok-size.ensures.names r file.1 (omega (arith, file.2)) limit last)
