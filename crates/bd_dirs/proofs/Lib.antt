@@ -1,1 +1,3 @@
 pub mod News
+pub mod Makes
+pub mod NewPlans

@@ -1,17 +1,15 @@
 -- What is planned for a command.
-use Rattle.std.specs.Prelude.{◌≡◌, ◌≤◌, Bool, false, List, ℕ, [], ◌∷◌, length, Some, None}
+use Rattle.std.specs.Prelude.{◌≡◌, ◌≤◌, Bool, false, List, ℕ, [], length, Some, None}
 use Rattle.bd_limits.specs.Limits.{key_limit, write_limit}
 use Rattle.bd_keys.specs.Keys.{Begins}
 use Rattle.bd_command.specs.declared.Command.{Command}
 use Rattle.bd_command.specs.declared.Command.TheVariants.{Mkdir, Create, Write, Truncate, Remove, Rename, Clone, Read, Stat, List as Ls}
-use Rattle.bd_model.specs.Tree.{Tree}
-use Rattle.bd_model.specs.Step.{refusal_of, changed, new_refusal}
+use Rattle.std.specs.FinMap.{insert}
+use Rattle.bd_model.specs.Tree.{Entry, Tree}
+use Rattle.bd_model.specs.Step.{refusal_of, changed, new_refusal, file_bytes}
 use Rattle.bd_records.specs.declared.Record.{Record}
-use Rattle.bd_records.specs.Records.{record_bytes}
-use Rattle.bd_message.specs.declared.message.Message.TheVariants.{Put}
 use Rattle.bd_message.specs.KeyMaps.{At, IsGrafted}
-use Rattle.bd_represent.specs.EntryKeys.{record_key}
-use Rattle.bd_represent.specs.Represents.{Represents}
+use Rattle.bd_represent.specs.Represents.{record_of, Represents}
 use Rattle.bd_represent.specs.Plans.{IsSmallBatch, Makes}
 use Rattle.bd_dirs.specs.declared.plan.Plan.{Plan}
 use Rattle.bd_dirs.specs.declared.plan.Plan.TheVariants.{Refused, Apply, Graft}
@@ -43,4 +41,13 @@ IsPlan at t c (Graft s d keep) = (refusal_of t c ≡ None) × MakesByGraft at s 
 abbrev pub IsReady : Plan → Type 0
 IsReady (Refused refusal) = Unit {0}
 IsReady (Apply list) = IsSmallBatch list
-IsReady (Graft s d keep) = (length s ≤ key_limit) × (length d ≤ key_limit) × (keep ≡ false → ¬ Begins d s)
+IsReady (Graft s d keep) =
+    (length s ≤ key_limit) × (length d ≤ key_limit) × (keep ≡ false → ¬ Begins d s)
+
+-- the refusal to make an entry at the path, or the message that makes any entry with this record
+abbrev pub IsNewPlan : At → Tree → List (List ℕ) → Record → Plan → Type 0
+IsNewPlan at t path r (Refused refusal) = new_refusal t path ≡ Some refusal
+IsNewPlan at t path r (Apply list) =
+    (new_refusal t path ≡ None)
+    × ((e : Entry) → record_of e ≡ r → file_bytes (Some e) ≡ [] → Makes at list (insert t path e))
+IsNewPlan at t path r (Graft s d keep) = ⊥

@@ -2,8 +2,11 @@
 //! The layers above use the contracts, which hold for each key map that represents a tree.
 #![tactic(auto)]
 
+mod changes;
 mod lookups;
 mod plan;
+mod planning;
 
 pub use lookups::stat;
 pub use plan::Plan;
+pub use planning::plan_command;

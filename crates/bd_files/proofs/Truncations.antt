@@ -26,13 +26,13 @@ use Rattle.bd_message.specs.KeyMaps.{At}
 use Rattle.bd_message.specs.Effect.{act, no_nodes, same_key, begins, rest, is_cut}
 use Rattle.bd_message.proofs.Finds.{same_key-true, begins-is, begins-append}
 use Rattle.bd_represent.specs.EntryKeys.{record_key, blocks_prefix, block_key, IsEntryKey}
-use Rattle.bd_represent.specs.Represents.{record_value, stored, kept_block, IsBlockOf, HasBytes, HasOnlyEntries, Represents}
+use Rattle.bd_represent.specs.Represents.{IsSameBeside, record_value, stored, kept_block, IsBlockOf, HasBytes, HasOnlyEntries, Represents}
 use Rattle.bd_represent.specs.Plans.{after, Makes}
 use Rattle.bd_represent.proofs.KeyLemmas.{key_of-apart, record_key-block_key, block_key-injective}
 use Rattle.bd_represent.proofs.ActLemmas.{put-here, put-other}
 use Rattle.bd_represent.proofs.FileLemmas.{HasBytes-along, HasBytes-longer, HasBytes-cut}
 use Rattle.bd_represent.proofs.NumberOrder.{be-below, be-from}
-use Rattle.bd_represent.proofs.TreeLemmas.{IsSameBeside, Represents-along, Represents-insert}
+use Rattle.bd_represent.proofs.TreeLemmas.{Represents-along, Represents-insert}
 use Rattle.bd_files.specs.Sends.{put_length, first_past, cut_past, shortened}
 use Rattle.bd_files.proofs.Writes.{put_at, put_only, put_beside, put_blocks}
 

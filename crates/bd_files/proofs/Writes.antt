@@ -21,12 +21,12 @@ use Rattle.bd_message.specs.KeyMaps.{At}
 use Rattle.bd_message.specs.Effect.{act, no_nodes, same_key}
 use Rattle.bd_message.proofs.Finds.{same_key-true}
 use Rattle.bd_represent.specs.EntryKeys.{record_key, block_key, IsEntryKey}
-use Rattle.bd_represent.specs.Represents.{record_value, HasBytes, HasOnlyEntries, Represents}
+use Rattle.bd_represent.specs.Represents.{IsSameBeside, record_value, HasBytes, HasOnlyEntries, Represents}
 use Rattle.bd_represent.specs.Plans.{after, Makes}
 use Rattle.bd_represent.proofs.KeyLemmas.{record_key-injective, record_key-block_key, block_key-injective}
 use Rattle.bd_represent.proofs.ActLemmas.{put-here, put-other}
 use Rattle.bd_represent.proofs.FileLemmas.{longer, beside, within, HasBytes-along, HasBytes-same, HasBytes-longer}
-use Rattle.bd_represent.proofs.TreeLemmas.{IsSameBeside, Represents-along, Represents-insert}
+use Rattle.bd_represent.proofs.TreeLemmas.{Represents-along, Represents-insert}
 use Rattle.bd_files.specs.Sends.{put_length, growth, IsOverwriting}
 use Rattle.bd_files.proofs.Overwriting.{acts-append}
 

@@ -9,5 +9,7 @@ use Rattle.bd_message.specs.KeyMaps.{At}
 
 -- the length of the file, or why there is none
 abbrev pub IsLenOf : Option Entry → Result ℕ Refusal → Type 0
-IsLenOf entry (Ok len) = (bytes : List ℕ) × (entry ≡ Some (FileWith bytes)) × (len ≡ length bytes) × (length bytes ≤ file_limit)
+IsLenOf entry (Ok len) =
+    (bytes : List ℕ) × (entry ≡ Some (FileWith bytes)) × (len ≡ length bytes)
+    × (length bytes ≤ file_limit)
 IsLenOf entry (Err refusal) = file_refusal entry ≡ Some refusal

@@ -22,7 +22,8 @@ abbrev pub growth : List (List ℕ) → ℕ → ℕ → List Message
 growth path len end = if nat_lt len end then put_length path end ∷ [] else []
 
 -- the messages overwrite bytes within a file, and change nothing but its blocks
-pub record IsOverwriting (path : List (List ℕ)) (off : ℕ) (bytes : List ℕ) (list : List Message) : Type 0 where
+pub record IsOverwriting (path : List (List ℕ)) (off : ℕ) (bytes : List ℕ) (list : List Message)
+    : Type 0 where
   pub file : (old : At) (file : List ℕ) → off + length bytes ≤ length file → HasBytes old path file
       → HasBytes (after list old) path (overwritten file off bytes)
   pub beside : (old : At) (k : List ℕ) → ((i : ℕ) → i < 2 ^ 32 → k ≢ block_key path i)

@@ -11,7 +11,7 @@ use Rattle.bd_model.proofs.PathOrder.{one_or_apart}
 use Rattle.bd_model.proofs.TreeGets.{get-insert-at, get-insert-other}
 use Rattle.bd_message.specs.KeyMaps.{At}
 use Rattle.bd_represent.specs.EntryKeys.{record_key, block_key}
-use Rattle.bd_represent.specs.Represents.{record_value, HasBytes, HasOnlyEntries, Represents}
+use Rattle.bd_represent.specs.Represents.{record_value, HasBytes, HasOnlyEntries, IsSameBeside, Represents}
 use Rattle.bd_represent.proofs.ActLemmas.{IsKey-record_key, IsKey-block_key}
 use Rattle.bd_represent.proofs.FileLemmas.{HasBytes-along}
 
@@ -23,11 +23,6 @@ Represents-along old new t same r =
       files = λ path h. HasBytes-along old new path (file_bytes (get t path)) (λ i hi. same (block_key path i) (IsKey-block_key path i h)) (r.files path h);
       only = λ k hk some. r.only k hk (subst IsSome (same k hk) some);
     }
-
--- the same stands at the record and the blocks of each other path
-pub record IsSameBeside (path : List (List ℕ)) (old new : At) : Type 0 where
-  pub records : (q : List (List ℕ)) → AreNames q → q ≢ path → new (record_key q) ≡ old (record_key q)
-  pub blocks : (q : List (List ℕ)) (i : ℕ) → AreNames q → q ≢ path → i < 2 ^ 32 → new (block_key q i) ≡ old (block_key q i)
 
 -- where the record and the blocks of a path are those of an entry, the entry stands there
 pub Represents-insert : (old new : At) (t : Tree) (path : List (List ℕ)) (e : Entry) → Represents old t → IsSameBeside path old new

@@ -23,12 +23,13 @@ after list at k = acts no_nodes list k (at k)
 abbrev pub Makes : At → List Message → Tree → Type 0
 Makes at list t = (new : At) → IsApplied at list new → Represents new t
 
--- where what stands at a path after a graft of `a` to `b` stood before: nowhere under `a` where that goes,
--- at the same place of `a` for what is under `b`
+-- where what stands at a path after a graft of `a` to `b` stood before: nowhere under `a` where
+-- that goes, at the same place of `a` for what is under `b`
 abbrev pub source_of : List (List ℕ) → Option (List (List ℕ)) → Option (List (List ℕ))
 source_of q None = Some q
 source_of q (Some path) = Some path
 
 abbrev pub source : List (List ℕ) → List (List ℕ) → Bool → List (List ℕ) → Option (List (List ℕ))
 source a b keep q =
-    if not keep && is_under a q then None else source_of q (option_map (λ below. a ++ below) (rest_below b q))
+    if not keep && is_under a q then None
+    else source_of q (option_map (λ below. a ++ below) (rest_below b q))

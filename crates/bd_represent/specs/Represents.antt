@@ -1,5 +1,5 @@
 -- When a key map represents a tree.
-use Rattle.std.specs.Prelude.{◌≡◌, ℕ, zero, suc, ◌+◌, ◌*◌, ◌^◌, ◌<◌, ◌≤◌, List, [], length, take, slice_index, Option, None, IsSome, IfSome}
+use Rattle.std.specs.Prelude.{◌≡◌, ◌≢◌, ℕ, zero, suc, ◌+◌, ◌*◌, ◌^◌, ◌<◌, ◌≤◌, List, [], length, take, slice_index, Option, None, IsSome, IfSome}
 use Rattle.std.specs.Option.{option_map, unwrap_or}
 use Rattle.std.specs.FinMap.{get}
 use Rattle.bd_limits.specs.Limits.{block_limit}
@@ -45,9 +45,17 @@ pub record HasBytes (at : At) (path : List (List ℕ)) (file : List ℕ) : Type 
 abbrev pub HasOnlyEntries : At → Type 0
 HasOnlyEntries at = (k : List ℕ) → IsKey k → IsSome (at k) → IsEntryKey k
 
--- each path of the tree has its record, each file its bytes, no other path has either, and there are no
--- other keys
+-- each path of the tree has its record, each file its bytes, no other path has either, and there
+-- are no other keys
 pub record Represents (at : At) (t : Tree) : Type 0 where
-  pub records : (path : List (List ℕ)) → AreNames path → at (record_key path) ≡ option_map record_value (get t path)
+  pub records : (path : List (List ℕ)) → AreNames path
+    → at (record_key path) ≡ option_map record_value (get t path)
   pub files : (path : List (List ℕ)) → AreNames path → HasBytes at path (file_bytes (get t path))
   pub only : HasOnlyEntries at
+
+-- the same stands at the record and the blocks of each other path
+pub record IsSameBeside (path : List (List ℕ)) (old new : At) : Type 0 where
+  pub records : (q : List (List ℕ)) → AreNames q → q ≢ path
+    → new (record_key q) ≡ old (record_key q)
+  pub blocks : (q : List (List ℕ)) (i : ℕ) → AreNames q → q ≢ path → i < 2 ^ 32
+    → new (block_key q i) ≡ old (block_key q i)

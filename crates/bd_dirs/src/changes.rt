@@ -1,0 +1,132 @@
+//! What each change of a directory sends.
+
+ghost use Rattle.std.specs.Prelude.{◌≡◌, IfOk, OnOk};
+ghost use Rattle.bd_command.specs.declared.Command.TheVariants as command;
+ghost use Rattle.bd_model.specs.Tree.{Tree, IsTree};
+ghost use Rattle.bd_message.specs.KeyMaps.{IsLeft, HasMapCause, NeverWorn};
+ghost use Rattle.bd_represent.specs.Represents.{Represents};
+ghost use Rattle.bd_dirs.specs.Plans.{IsPlan, IsNewPlan, IsReady};
+
+use crate::lookups::{absent, unmakeable};
+use crate::plan::Plan;
+use bd_command::Refusal;
+use bd_files::put_record;
+use bd_keys::Bytes;
+use bd_message::{KeyMap, MapFault, Message, Messages};
+use bd_names::Path;
+use bd_records::Record;
+use std::alloc::Global;
+
+/// What a `mkdir` sends.
+pub fn mkdir<M: KeyMap>(alloc: Global, m: &mut M, path: &Path) -> Result<Plan, MapFault>
+    ensures plan { M.is_known m.old → (t : Tree) → IsTree t → Represents (M.has m.old) t
+        → IfOk result (IsPlan (M.has m.old) t (command.Mkdir path.now)) }
+    ensures ready { IfOk result IsReady }
+    ensures left { IsLeft M.is_known M.has M.room_of M.worn M.reads M.loans m.old m.new }
+    ensures cause { HasMapCause (M.fault_count m.old) (M.fault_count m.new)
+        (M.bad m.new) NeverWorn result }
+{
+    make(alloc, m, path, Record::Dir)
+}
+
+/// What a `create` sends.
+pub fn create<M: KeyMap>(alloc: Global, m: &mut M, path: &Path) -> Result<Plan, MapFault>
+    ensures plan { M.is_known m.old → (t : Tree) → IsTree t → Represents (M.has m.old) t
+        → IfOk result (IsPlan (M.has m.old) t (command.Create path.now)) }
+    ensures ready { IfOk result IsReady }
+    ensures left { IsLeft M.is_known M.has M.room_of M.worn M.reads M.loans m.old m.new }
+    ensures cause { HasMapCause (M.fault_count m.old) (M.fault_count m.new)
+        (M.bad m.new) NeverWorn result }
+{
+    make(alloc, m, path, Record::File(0))
+}
+
+/// What making an entry sends: its record.
+fn make<M: KeyMap>(alloc: Global, m: &mut M, path: &Path, entry: Record) -> Result<Plan, MapFault>
+    ensures plan { M.is_known m.old → (t : Tree) → IsTree t → Represents (M.has m.old) t
+        → IfOk result (IsNewPlan (M.has m.old) t path.now entry) }
+    ensures ready { IfOk result IsReady }
+    ensures left { IsLeft M.is_known M.has M.room_of M.worn M.reads M.loans m.old m.new }
+    ensures cause { HasMapCause (M.fault_count m.old) (M.fault_count m.new)
+        (M.bad m.new) NeverWorn result }
+{
+    if let Some(refusal) = unmakeable(alloc, m, path)? {
+        return Ok(Plan::Refused(refusal));
+    }
+    let mut list = Vec::new(alloc);
+    list.push(put_record(alloc, path, entry)?)?;
+    Ok(Plan::Apply(Messages::from_vec(list)))
+}
+
+/// What a `remove` sends: a cut of all keys of the subtree.
+pub fn remove<M: KeyMap>(alloc: Global, m: &mut M, path: &Path) -> Result<Plan, MapFault>
+    ensures plan { M.is_known m.old → (t : Tree) → IsTree t → Represents (M.has m.old) t
+        → IfOk result (IsPlan (M.has m.old) t (command.Remove path.now)) }
+    ensures ready { IfOk result IsReady }
+    ensures left { IsLeft M.is_known M.has M.room_of M.worn M.reads M.loans m.old m.new }
+    ensures cause { HasMapCause (M.fault_count m.old) (M.fault_count m.new)
+        (M.bad m.new) NeverWorn result }
+{
+    if path.is_root() {
+        return Ok(Plan::Refused(Refusal::Root));
+    }
+    if let Some(refusal) = absent(alloc, m, path)? {
+        return Ok(Plan::Refused(refusal));
+    }
+    let mut list = Vec::new(alloc);
+    list.push(Message::Cut {
+        prefix: Bytes::from_vec(path.key(alloc)?),
+        from: Bytes::from_vec(Vec::new(alloc)),
+    })?;
+    Ok(Plan::Apply(Messages::from_vec(list)))
+}
+
+/// What a `clone` asks for: a graft.
+pub fn clone_to<M: KeyMap>(alloc: Global, m: &mut M, a: &Path, b: &Path) -> Result<Plan, MapFault>
+    ensures plan { M.is_known m.old → (t : Tree) → IsTree t → Represents (M.has m.old) t
+        → IfOk result (IsPlan (M.has m.old) t (command.Clone a.now b.now)) }
+    ensures ready { IfOk result IsReady }
+    ensures left { IsLeft M.is_known M.has M.room_of M.worn M.reads M.loans m.old m.new }
+    ensures cause { HasMapCause (M.fault_count m.old) (M.fault_count m.new)
+        (M.bad m.new) NeverWorn result }
+{
+    if let Some(refusal) = absent(alloc, m, a)? {
+        return Ok(Plan::Refused(refusal));
+    }
+    if let Some(refusal) = unmakeable(alloc, m, b)? {
+        return Ok(Plan::Refused(refusal));
+    }
+    Ok(Plan::Graft {
+        s: Bytes::from_vec(a.key(alloc)?),
+        d: Bytes::from_vec(b.key(alloc)?),
+        keep: true,
+    })
+}
+
+/// What a `rename` asks for: a graft that leaves nothing at its source.
+pub fn rename<M: KeyMap>(alloc: Global, m: &mut M, a: &Path, b: &Path) -> Result<Plan, MapFault>
+    ensures plan { M.is_known m.old → (t : Tree) → IsTree t → Represents (M.has m.old) t
+        → IfOk result (IsPlan (M.has m.old) t (command.Rename a.now b.now)) }
+    ensures ready { IfOk result IsReady }
+    ensures left { IsLeft M.is_known M.has M.room_of M.worn M.reads M.loans m.old m.new }
+    ensures cause { HasMapCause (M.fault_count m.old) (M.fault_count m.new)
+        (M.bad m.new) NeverWorn result }
+{
+    if a.is_root() {
+        return Ok(Plan::Refused(Refusal::Root));
+    }
+    if let Some(refusal) = absent(alloc, m, a)? {
+        return Ok(Plan::Refused(refusal));
+    }
+    if b.is_under(a) {
+        return Ok(Plan::Refused(Refusal::Inside));
+    }
+    if let Some(refusal) = unmakeable(alloc, m, b)? {
+        return Ok(Plan::Refused(refusal));
+    }
+    Ok(Plan::Graft {
+        s: Bytes::from_vec(a.key(alloc)?),
+        d: Bytes::from_vec(b.key(alloc)?),
+        keep: false,
+    })
+}
