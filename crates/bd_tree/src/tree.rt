@@ -51,7 +51,7 @@ impl<S: NodeStore> Tree<S> {
     pub fn get(&mut self, key: &[u8]) -> Result<Option<Vec<u8>>, MapFault>
         ensures value { S.is_known self.old → IsSound (S.nodes self.old) (S.table self.old)
             → IfOk result (λ found. option_map (λ value. value.items) found
-                ≡ root_at (S.nodes self.old) (S.table self.old) key.now) }
+            ≡ root_at (S.nodes self.old) (S.table self.old) key.now) }
         ensures table { S.table self.new ≡ S.table self.old }
         ensures known { S.is_known self.old → S.is_known self.new }
         ensures kept { S.is_known self.old → S.nodes self.new ≡ S.nodes self.old }
@@ -85,11 +85,11 @@ impl<S: NodeStore> Tree<S> {
         requires { FitsRoot (S.table self.old) list.now }
         ensures applied { S.is_known self.old → IsSound (S.nodes self.old) (S.table self.old)
             → OnOk result (IsApplied (root_at (S.nodes self.old) (S.table self.old)) list.now
-                (root_at (S.nodes self.new) (S.table self.new))) }
+            (root_at (S.nodes self.new) (S.table self.new))) }
         ensures others { S.is_known self.old → IsSound (S.nodes self.old) (S.table self.old)
             → OnOk result ((id : ℕ) → IsKept (S.table self.old) id
-                → ¬ (id ≡ (S.table self.old).root) → (k : List ℕ)
-                → at (S.nodes self.new) id k ≡ at (S.nodes self.old) id k) }
+            → ¬ (id ≡ (S.table self.old).root) → (k : List ℕ)
+            → at (S.nodes self.new) id k ≡ at (S.nodes self.old) id k) }
         ensures sound { S.is_known self.old → IsSound (S.nodes self.old) (S.table self.old)
             → OnOk result (IsSound (S.nodes self.new) (S.table self.new)) }
         ensures table { OnOk result (S.table self.new ≡ grown (S.table self.old) list.now) }
