@@ -1,0 +1,44 @@
+use Rattle.std.proofs.Common.{ap, sym, ◌∙◌, subst, refl, arith, List, ℕ, ◌≤◌}
+use Rattle.bd_keys.specs.Keys.{IsKey}
+use Rattle.bd_node.specs.Nodes.{node_at}
+use Rattle.bd_node.specs.Meaning.{Nodes, at}
+use Rattle.bd_node.specs.Tables.{Table, IsKept, IsLower}
+use Rattle.bd_query.specs.declared.patch.Patch.{Patch}
+use Rattle.bd_query.specs.declared.part.Base.TheVariants.{Value, Ask}
+use Rattle.bd_query.specs.Looks.{patched}
+use Rattle.bd_query.proofs.Going.{going_on, lower_ask, IsSaid}
+use Rattle.bd_query.proofs.ways.get.Goals as goal
+
+pub returns-in-Value-clause-value : goal.returns-in-Value-clause-value
+returns-in-Value-clause-value g c = λ known sound.
+    let nodes : Nodes = g.S.NodeStore.nodes c.args.store.now in
+    let inv = c.loop-patches.invariant in
+    let said : IsSaid nodes c.loop-patches.id c.loop-patches.asked c.in_ok-part.part = λ n there below.
+    ap (λ (k : List ℕ). node_at below n k) (sym c.as_slice.ensures) ∙ c.in_ok-part.ensures.part (inv.known known) n (ap (λ (f : Nodes). f c.loop-patches.id) (inv.nodes known) ∙ there) below in
+    c.in_ok-finished-in-Value.ensures
+    ∙ ap (λ (ps : List Patch). patched ps c.in-Value.found) (c.as_slice-in-Value.ensures.value ∙ c.in_ok-append.ensures.items)
+    ∙ going_on nodes (g.S.NodeStore.table c.args.store.now) c.loop-patches.id c.loop-patches.asked c.in_ok-part.part (Value c.in-Value.found) c.in_ok-part.part.patches.items c.loop-patches.patches.items
+    (at nodes c.args.root c.args.key.now) sound inv.here (subst (λ (k : List ℕ). IsKey k) c.as_slice.ensures c.in_ok-part.ensures.bytes) said refl c.in-Value.is (inv.value known sound)
+
+pub loop-patches-preserved : goal.loop-patches-preserved
+loop-patches-preserved g c =
+    let nodes : Nodes = g.S.NodeStore.nodes c.args.store.now in
+    let inv = c.loop-patches.invariant in
+    let lower : IsLower (g.S.NodeStore.table c.loop-patches.store) ((g.S.NodeStore.table c.loop-patches.store).level c.loop-patches.id) c.in-Ask.child =
+    lower_ask (g.S.NodeStore.table c.loop-patches.store) ((g.S.NodeStore.table c.loop-patches.store).level c.loop-patches.id) c.in_ok-part.part.base c.in-Ask.child c.in-Ask.key c.in-Ask.is c.in_ok-part.ensures.lower in
+    record {
+      table = c.in_ok-part.ensures.table ∙ inv.table;
+      here = subst (λ (t : Table). IsKept t c.in-Ask.child) inv.table lower.kept;
+      known = λ k. c.in_ok-part.ensures.known (inv.known k);
+      nodes = λ k. c.in_ok-part.ensures.kept (inv.known k) ∙ inv.nodes k;
+      read = g.met.S.NodeStore.reads_both c.args.store.now c.loop-patches.store c.fetched.new.store inv.read c.in_ok-part.ensures.read;
+      later = (let a : g.S.NodeStore.fault_count c.args.store.now ≤ g.S.NodeStore.fault_count c.loop-patches.store = inv.later in
+          let b : g.S.NodeStore.fault_count c.loop-patches.store ≤ g.S.NodeStore.fault_count c.fetched.new.store = c.in_ok-part.ensures.cause.later in omega arith);
+      loans = c.in_ok-part.ensures.same_loans ∙ inv.loans;
+      value = λ known sound.
+          let said : IsSaid nodes c.loop-patches.id c.loop-patches.asked c.in_ok-part.part = λ n there below.
+          ap (λ (k : List ℕ). node_at below n k) (sym c.as_slice.ensures) ∙ c.in_ok-part.ensures.part (inv.known known) n (ap (λ (f : Nodes). f c.loop-patches.id) (inv.nodes known) ∙ there) below in
+          ap (λ (ps : List Patch). patched ps (at nodes c.in-Ask.child c.in-Ask.key)) c.in_ok-append.ensures.items
+          ∙ going_on nodes (g.S.NodeStore.table c.args.store.now) c.loop-patches.id c.loop-patches.asked c.in_ok-part.part (Ask c.in-Ask.child c.in-Ask.key) c.in_ok-part.part.patches.items c.loop-patches.patches.items
+          (at nodes c.args.root c.args.key.now) sound inv.here (subst (λ (k : List ℕ). IsKey k) c.as_slice.ensures c.in_ok-part.ensures.bytes) said refl c.in-Ask.is (inv.value known sound);
+    }

@@ -1,0 +1,122 @@
+//! The way down from a node to what it has at a key.
+
+ghost use Rattle.std.specs.Prelude.{◌≡◌, ℕ, List, [], Some, IfOk};
+ghost use Rattle.std.specs.Option.{option_map, unwrap_or};
+ghost use Rattle.bd_keys.specs.Keys.{IsKey};
+ghost use Rattle.bd_message.specs.Effect.{NodesAt};
+ghost use Rattle.bd_message.specs.KeyMaps.{HasMapCause, NeverWorn};
+ghost use Rattle.bd_node.specs.declared.node.Node.{Node};
+ghost use Rattle.bd_node.specs.Nodes.{node_at};
+ghost use Rattle.bd_node.specs.Meaning.{at};
+ghost use Rattle.bd_node.specs.Tables.{IsKept, IsSound};
+ghost use Rattle.bd_query.specs.Looks.{patched, part_at, IsLowerBase};
+
+use crate::part::{Base, Part, part_of};
+use crate::patch::Patch;
+use bd_keys::{Bytes, overwritten};
+use bd_message::MapFault;
+use bd_node::NodeStore;
+use std::alloc::{AllocError, Global};
+
+/// What a kept node has at a key, of any length. It fetches each node on the way once.
+pub fn get<S: NodeStore>(
+    alloc: Global,
+    store: &mut S,
+    root: u64,
+    key: &[u8],
+) -> Result<Option<Vec<u8>>, MapFault>
+    requires { IsKept (S.table store.old) root }
+    ensures value { S.is_known store.old → IsSound (S.nodes store.old) (S.table store.old)
+        → IfOk result (λ found.
+        option_map (λ value. value.items) found ≡ at (S.nodes store.old) root key.now) }
+    ensures table { S.table store.new ≡ S.table store.old }
+    ensures known { S.is_known store.old → S.is_known store.new }
+    ensures kept { S.is_known store.old → S.nodes store.new ≡ S.nodes store.old }
+    ensures read { S.reads store.old store.new }
+    ensures cause { HasMapCause (S.fault_count store.old) (S.fault_count store.new)
+        (S.bad store.new) NeverWorn result }
+    ensures same_loans { S.loans store.new ≡ S.loans store.old }
+{
+    let mut id = root;
+    let mut asked = Bytes::from_slice(alloc, key)?;
+    let mut patches: Vec<Patch> = Vec::new(alloc);
+    loop {
+        let part = fetched(alloc, store, id, asked.as_slice())?;
+        let Part {
+            base,
+            patches: mut own,
+        } = part;
+        own.append(&mut patches)?;
+        patches = own;
+        match base {
+            Base::Value(found) => return Ok(finished(alloc, found, patches.as_slice())?),
+            Base::Ask { child, key } => {
+                id = child;
+                asked = key;
+            }
+        }
+    }
+}
+
+// What the node of an id says of a key.
+fn fetched<S: NodeStore>(
+    alloc: Global,
+    store: &mut S,
+    id: u64,
+    key: &[u8],
+) -> Result<Part, MapFault>
+    requires { IsKept (S.table store.old) id }
+    ensures part { S.is_known store.old → IfOk result (λ part. (n : Node)
+        → S.nodes store.old id ≡ Some n → (below : NodesAt)
+        → node_at below n key.now ≡ part_at below part) }
+    ensures lower { IfOk result (λ part.
+        IsLowerBase (S.table store.old) ((S.table store.old).level id) part.base) }
+    ensures bytes { IsKey key.now }
+    ensures table { S.table store.new ≡ S.table store.old }
+    ensures known { S.is_known store.old → S.is_known store.new }
+    ensures kept { S.is_known store.old → S.nodes store.new ≡ S.nodes store.old }
+    ensures read { S.reads store.old store.new }
+    ensures cause { HasMapCause (S.fault_count store.old) (S.fault_count store.new)
+        (S.bad store.new) NeverWorn result }
+    ensures same_loans { S.loans store.new ≡ S.loans store.old }
+{
+    let node = store.fetch(id)?;
+    Ok(part_of(alloc, &node, key)?)
+}
+
+// A value after patches.
+fn finished(
+    alloc: Global,
+    base: Option<Bytes>,
+    patches: &[Patch],
+) -> Result<Option<Vec<u8>>, AllocError>
+    ensures { IfOk result (λ found.
+        option_map (λ value. value.items) found ≡ patched patches.now base) }
+{
+    let mut value = owned(base);
+    for patch in patches {
+        let old = bytes_of(&value);
+        value = Some(overwritten(alloc, old, patch.off as usize, patch.bytes.as_slice())?);
+    }
+    Ok(value)
+}
+
+// The bytes of a value, none without one.
+fn bytes_of(value: &Option<Vec<u8>>) -> &[u8]
+    ensures { result.now ≡ unwrap_or (option_map (λ value. value.items) value.now) [] }
+{
+    match value {
+        Some(value) => value.as_slice(),
+        None => &[],
+    }
+}
+
+// A value as a `Vec`.
+fn owned(value: Option<Bytes>) -> Option<Vec<u8>>
+    ensures { option_map (λ value. value.items) result ≡ value }
+{
+    match value {
+        Some(value) => Some(value.into_vec()),
+        None => None,
+    }
+}

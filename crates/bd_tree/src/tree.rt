@@ -1,0 +1,107 @@
+//! The tree.
+
+ghost use Rattle.std.specs.Prelude.{◌≡◌, ℕ, ◌+◌, ◌-◌, List, IfOk, OnOk, OnErr};
+ghost use Rattle.std.specs.Option.{option_map};
+ghost use Rattle.bd_message.specs.KeyMaps.{HasMapCause, NeverWorn, IsApplied};
+ghost use Rattle.bd_node.specs.Meaning.{at};
+ghost use Rattle.bd_node.specs.Shape.{buffer_limit};
+ghost use Rattle.bd_node.specs.Tables.{IsKept, IsSound, root_at};
+ghost use Rattle.bd_node.specs.Steps.{grown};
+ghost use Rattle.bd_node.specs.Stores.{FitsRoot};
+
+use bd_message::{MapFault, Message};
+use bd_node::{Messages, NodeStore};
+use bd_query::get;
+use std::alloc::Global;
+use std::marker::Model;
+
+/// The most bytes of messages that wait in the root.
+const MAX_BUFFER: usize = 32_768;
+
+/// A tree of nodes, seen as the store that it stands on. It takes its memory of an allocator.
+#[derive(Drop)]
+pub struct Tree<S: NodeStore> {
+    alloc: Global,
+    store: S,
+}
+
+impl<S: NodeStore> Model for Tree<S> {
+    ghost Value = { S };
+
+    ghost view = { λ tree. tree.store };
+}
+
+impl<S: NodeStore> Tree<S> {
+    /// The tree of a store's root.
+    pub fn over(alloc: Global, store: S) -> Tree<S>
+        ensures { result ≡ store }
+    {
+        Tree { alloc, store }
+    }
+
+    /// The store.
+    pub fn into_store(self) -> S
+        ensures { result ≡ self }
+    {
+        let Tree { alloc: _, store } = self;
+        store
+    }
+
+    /// What stands at a key, of any length.
+    pub fn get(&mut self, key: &[u8]) -> Result<Option<Vec<u8>>, MapFault>
+        ensures value { S.is_known self.old → IsSound (S.nodes self.old) (S.table self.old)
+            → IfOk result (λ found. option_map (λ value. value.items) found
+            ≡ root_at (S.nodes self.old) (S.table self.old) key.now) }
+        ensures table { S.table self.new ≡ S.table self.old }
+        ensures known { S.is_known self.old → S.is_known self.new }
+        ensures kept { S.is_known self.old → S.nodes self.new ≡ S.nodes self.old }
+        ensures read { S.reads self.old self.new }
+        ensures cause { HasMapCause (S.fault_count self.old) (S.fault_count self.new)
+            (S.bad self.new) NeverWorn result }
+        ensures same_loans { S.loans self.new ≡ S.loans self.old }
+    {
+        let root = self.store.root();
+        get(self.alloc, &mut self.store, root, key)
+    }
+
+    /// For how many bytes of messages there is room.
+    pub fn room(&self) -> usize
+        ensures { result ≡ buffer_limit - (S.table self.now).size }
+    {
+        MAX_BUFFER.saturating_sub(self.store.root_size())
+    }
+
+    /// How many nodes stand one below the other from the root down: its level and 1.
+    pub fn height(&self) -> u64
+        ensures { result ≡ (S.table self.now).level (S.table self.now).root + 1 }
+    {
+        let root = self.store.root();
+        self.store.level(root) as u64 + 1
+    }
+
+    /// Changes what stands at the keys by messages, the first one first: they are put after those
+    /// that wait in the root. No other node has anything else, and none is dropped.
+    pub fn apply(&mut self, list: &[Message]) -> Result<(), MapFault>
+        requires { FitsRoot (S.table self.old) list.now }
+        ensures applied { S.is_known self.old → IsSound (S.nodes self.old) (S.table self.old)
+            → OnOk result (IsApplied (root_at (S.nodes self.old) (S.table self.old)) list.now
+            (root_at (S.nodes self.new) (S.table self.new))) }
+        ensures others { S.is_known self.old → IsSound (S.nodes self.old) (S.table self.old)
+            → OnOk result ((id : ℕ) → IsKept (S.table self.old) id
+            → ¬ (id ≡ (S.table self.old).root) → (k : List ℕ)
+            → at (S.nodes self.new) id k ≡ at (S.nodes self.old) id k) }
+        ensures sound { S.is_known self.old → IsSound (S.nodes self.old) (S.table self.old)
+            → OnOk result (IsSound (S.nodes self.new) (S.table self.new)) }
+        ensures table { OnOk result (S.table self.new ≡ grown (S.table self.old) list.now) }
+        ensures known { S.is_known self.old → S.is_known self.new }
+        ensures err_table { OnErr result (S.table self.new ≡ S.table self.old) }
+        ensures err_nodes { S.is_known self.old
+            → OnErr result (S.nodes self.new ≡ S.nodes self.old) }
+        ensures cause { HasMapCause (S.fault_count self.old) (S.fault_count self.new)
+            (S.bad self.new) NeverWorn result }
+        ensures same_loans { S.loans self.new ≡ S.loans self.old }
+    {
+        let list = Messages::from_vec(Vec::from_clones(self.alloc, list)?);
+        self.store.append(list)
+    }
+}
