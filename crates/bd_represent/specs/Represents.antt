@@ -49,13 +49,13 @@ HasOnlyEntries at = (k : List ℕ) → IsKey k → IsSome (at k) → IsEntryKey 
 -- are no other keys
 pub record Represents (at : At) (t : Tree) : Type 0 where
   pub records : (path : List (List ℕ)) → AreNames path
-    → at (record_key path) ≡ option_map record_value (get t path)
+      → at (record_key path) ≡ option_map record_value (get t path)
   pub files : (path : List (List ℕ)) → AreNames path → HasBytes at path (file_bytes (get t path))
   pub only : HasOnlyEntries at
 
 -- the same stands at the record and the blocks of each other path
 pub record IsSameBeside (path : List (List ℕ)) (old new : At) : Type 0 where
   pub records : (q : List (List ℕ)) → AreNames q → q ≢ path
-    → new (record_key q) ≡ old (record_key q)
+      → new (record_key q) ≡ old (record_key q)
   pub blocks : (q : List (List ℕ)) (i : ℕ) → AreNames q → q ≢ path → i < 2 ^ 32
-    → new (block_key q i) ≡ old (block_key q i)
+      → new (block_key q i) ≡ old (block_key q i)

@@ -38,7 +38,7 @@ pub fn new_block()
 pub fn cut_blocks()
     ensures { (old new : At) (path : List (List ℕ)) (file : List ℕ) (len : ℕ) → len ≤ length file
         → ((i : ℕ) → i < 2 ^ 32 → new (block_key path i)
-            ≡ kept_block (len - block_limit * i) (old (block_key path i)))
+        ≡ kept_block (len - block_limit * i) (old (block_key path i)))
         → HasBytes old path file → HasBytes new path (resized file len) }
 {}
 
@@ -54,7 +54,7 @@ pub fn grafted()
     ensures { (old new : At) (t u : Tree) (a b : List (List ℕ)) (keep : Bool) → AreNames a
         → AreNames b → Represents old t
         → ((q : List (List ℕ)) → AreNames q
-            → get u q ≡ option_and_then (get t) (source a b keep q))
+        → get u q ≡ option_and_then (get t) (source a b keep q))
         → ((k : List ℕ) → IsKey k → new k ≡ grafted old (key_of a) (key_of b) keep k)
         → Represents new u }
 {}

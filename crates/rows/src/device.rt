@@ -1,4 +1,4 @@
-use bd_device::{Attach, BLOCK_SIZE, Device, MemDevice};
+use bd_device::{Attach, BLOCK_SIZE, Device, FaultyDevice, FuseDevice, MemDevice, Torn};
 use bd_io::Failed;
 use std::test::Fail;
 
@@ -79,5 +79,53 @@ fn each_call_fails_where_it_is_told_to(rt: HostRuntime) -> Result<(), Fail> {
         assert_eq!(rt; answers(&mut device), want, "call {fail} fails");
         assert_eq!(rt; device.write_faults(), write_faults, "call {fail} fails");
     }
+    Ok(())
+}
+
+#[test]
+fn a_loss_of_power_tears_what_is_in_flight(rt: HostRuntime) -> Result<(), Fail> {
+    for (how, byte) in [(Torn::Old, 1), (Torn::New, 2), (Torn::Fill(9), 9)] {
+        let mut device = MemDevice::new(rt.alloc(), 3, 4, &[4])?;
+        assert_eq!(rt; write_byte(&mut device, 0, 1), Ok(()));
+        assert_eq!(rt; device.barrier(), Ok(()));
+        assert_eq!(rt; write_byte(&mut device, 0, 2), Ok(()));
+        assert_eq!(rt; write_byte(&mut device, 1, 3), Err(Failed));
+        device.crash(how);
+        assert_eq!(rt; read_byte(&mut device, 0), Ok(byte), "torn to {byte}");
+        let other = if let Torn::Fill(x) = how { x } else { 0 };
+        assert_eq!(rt; read_byte(&mut device, 1), Ok(other));
+        assert_eq!(rt; read_byte(&mut device, 2), Ok(0));
+        assert_eq!(rt; device.writes().len(), 0);
+    }
+    Ok(())
+}
+
+#[test]
+fn a_fuse_blows_once_and_for_all(rt: HostRuntime) -> Result<(), Fail> {
+    let mut device = FuseDevice::new(MemDevice::new(rt.alloc(), 3, 4, &NONE)?, 2);
+    assert_eq!(rt; write_byte(&mut device, 0, 1), Ok(()));
+    assert_eq!(rt; device.barrier(), Ok(()));
+    assert_eq!(rt; device.barrier(), Err(Failed));
+    assert_eq!(rt; read_byte(&mut device, 0), Err(Failed));
+    assert_eq!(rt; device.attach("img", None), Err(Failed));
+    assert_eq!(rt; (device.calls(), device.faults()), (5, 3));
+    assert_eq!(rt; (device.write_faults(), device.blocks()), (1, 0));
+    let inner = device.into_inner();
+    assert_eq!(rt; (inner.calls(), inner.blocks()), (2, 3));
+    Ok(())
+}
+
+#[test]
+fn listed_calls_fail_over_another_device(rt: HostRuntime) -> Result<(), Fail> {
+    let inner = MemDevice::new(rt.alloc(), 3, 4, &NONE)?;
+    let mut device = FaultyDevice::new(inner, [2, 3].to_vec(rt.alloc())?);
+    assert_eq!(rt; write_byte(&mut device, 0, 1), Ok(()));
+    assert_eq!(rt; write_byte(&mut device, 0, 1), Err(Failed));
+    assert_eq!(rt; device.attach("img", None), Err(Failed));
+    assert_eq!(rt; device.blocks(), 0);
+    assert_eq!(rt; device.attach("img", None), Ok(()));
+    assert_eq!(rt; read_byte(&mut device, 0), Ok(1));
+    assert_eq!(rt; (device.calls(), device.faults()), (5, 2));
+    assert_eq!(rt; (device.write_faults(), device.blocks()), (1, 3));
     Ok(())
 }
