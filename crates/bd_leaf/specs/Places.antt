@@ -18,7 +18,8 @@ AreAbove entries place k =
 -- and from which on all are above it
 abbrev pub IsPlace : List Entry → List ℕ → Result ℕ ℕ → Type 0
 IsPlace entries k (Ok place) =
-    (e : Entry) × (slice_get entries place ≡ Some e) × (e.key ≡ k) × (entry_at entries k ≡ Some e.value)
+    (e : Entry) × (slice_get entries place ≡ Some e) × (e.key ≡ k)
+    × (entry_at entries k ≡ Some e.value)
 IsPlace entries k (Err place) =
     (place ≤ length entries) × AreBelow entries place k × AreAbove entries place k
     × (entry_at entries k ≡ None)
