@@ -18,7 +18,7 @@ use bd_message::MapFault;
 use bd_node::NodeStore;
 use std::alloc::{AllocError, Global};
 
-/// What a kept node has at a key, of any length. It fetches each node on the way once.
+/// What a kept node has at a key, of any length.
 pub fn get<S: NodeStore>(
     alloc: Global,
     store: &mut S,

@@ -31,7 +31,8 @@ pub fn new_block()
         → 1 ≤ length piece → o + length piece ≤ block_limit → b < 2 ^ 32
         → new (block_key path b) ≡ Some (overwritten (stored old path b) o piece)
         → ((i : ℕ) → i < 2 ^ 32 → i ≢ b → new (block_key path i) ≡ old (block_key path i))
-        → HasBytes old path file → HasBytes new path (overwritten file (block_limit * b + o) piece) }
+        → HasBytes old path file
+        → HasBytes new path (overwritten file (block_limit * b + o) piece) }
 {}
 
 /// Where each block is cut to what is left of it, the file is.

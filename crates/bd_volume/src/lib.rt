@@ -1,6 +1,6 @@
 //! The volume: the tree of the commands that it has accepted, and their number.
-//! The layers above use the contracts of `start` and `do_command`: the step of each command, and the
-//! cause of each fault.
+//! The layers above use the contracts of `start` and `do_command`: the step of each command, and
+//! the cause of each fault.
 #![tactic(auto)]
 
 ghost use Rattle.std.specs.Prelude.{◌≡◌, ◌≤◌, ◌+◌, ◌^◌, ◌⊎◌, ℕ, IsTrue, IfOk, IfErr, OnErr};

@@ -57,7 +57,8 @@ fn an_attach_takes_the_image_or_makes_one(rt: HostRuntime) -> Result<(), Fail> {
     Ok(())
 }
 
-// What the calls of a device answer that fails at this call: a write, a barrier, a read and an attach.
+// What the calls of a device answer that fails at this call: a write, a barrier, a read and an
+// attach.
 fn answers(device: &mut MemDevice) -> [bool; 4] {
     [
         write_byte(device, 0, 5).is_ok(),

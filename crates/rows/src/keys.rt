@@ -11,7 +11,8 @@ fn bytes_are_kept(rt: HostRuntime) -> Result<(), Fail> {
 
 #[test]
 fn edits_of_bytes(rt: HostRuntime) -> Result<(), Fail> {
-    // Bytes, an offset, bytes written there; what a cut to the offset leaves, and what the write leaves.
+    // Bytes, an offset, bytes written there; what a cut to the offset leaves, and what the write
+    // leaves.
     let rows: [(&str, usize, &str, &str, &str); 4] = [
         ("abcd", 1, "XY", "a", "aXYd"),
         ("abcd", 3, "XY", "abc", "abcXY"),

@@ -1,6 +1,6 @@
-//! The tests of the libraries' public calls, a module for each crate that is tested. No other library
-//! has tests, and nothing stands on this crate. A test shows what no clause says: worked rows, texts,
-//! and that memory is enough.
+//! The tests of the libraries' public calls, a module for each crate that is tested. No other
+//! library has tests, and nothing stands on this crate. A test shows what no clause says: worked
+//! rows, texts, and that memory is enough.
 #![tactic(auto)]
 
 #[cfg(test)]

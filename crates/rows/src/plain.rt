@@ -1,5 +1,5 @@
-//! The plain program takes each command once, on the tree of `/` alone. The worked rows of the map run
-//! through the program itself, in `betr`.
+//! The plain program takes each command once, on the tree of `/` alone. The worked rows of the map
+//! run through the program itself, in `betr`.
 
 use bd_command::{Refusal, Reply};
 use bd_limits::{MAX_LISTING, MAX_READ};
