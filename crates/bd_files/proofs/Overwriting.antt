@@ -1,7 +1,6 @@
 -- What the messages that overwrite bytes do, one more at a time.
-use Rattle.std.proofs.Common.{take, drop, ◌≡◌, ◌≢◌, ℕ, ◌+◌, ◌-◌, ◌*◌, ◌/◌, ◌%◌, ◌<◌, ◌≤◌, ◌^◌, List, [], ◌∷◌, ◌++◌, ◌⊎◌, inl, inr, length, true, false, Bool, refl, sym, ap, subst, ◌∙◌, arith, length-append}
-use Rattle.std.specs.Prelude.{slice_index, max, min, Option, Some, None, IsSome}
-use Rattle.std.specs.Option.{unwrap_or}
+use Rattle.std.proofs.Common.{take, drop, ◌≡◌, ◌≢◌, ℕ, ◌+◌, ◌-◌, ◌*◌, ◌/◌, ◌%◌, ◌<◌, ◌≤◌, ◌^◌, List, [], ◌∷◌, ◌++◌, ◌⊎◌, inl, inr, length, true, false, refl, sym, ap, subst, ◌∙◌, arith, length-append}
+use Rattle.std.specs.Prelude.{slice_index, min, Option, IsSome}
 use Rattle.std.proofs.lemmas.List.{get_or_append_left, get_or-append_right}
 use Rattle.std.proofs.lemmas.List.{length-take, length-drop}
 use Rattle.std.proofs.Math.Seq.{take-add}
@@ -17,7 +16,7 @@ use Rattle.bd_message.specs.KeyMaps.{At}
 use Rattle.bd_message.specs.Effect.{act, acts, no_nodes, same_key}
 use Rattle.bd_message.proofs.Finds.{same_key-true}
 use Rattle.bd_represent.specs.EntryKeys.{block_key, IsEntryKey}
-use Rattle.bd_represent.specs.Represents.{stored, HasBytes, HasOnlyEntries}
+use Rattle.bd_represent.specs.Represents.{HasBytes, HasOnlyEntries}
 use Rattle.bd_represent.specs.Plans.{after}
 use Rattle.bd_represent.proofs.KeyLemmas.{block_key-injective}
 use Rattle.bd_represent.proofs.ActLemmas.{patch-here, patch-other}

@@ -1,13 +1,11 @@
 -- What the record of a path says of a tree.
-use Rattle.std.proofs.Common.{◌≡◌, ℕ, ◌≤◌, List, length, refl, sym, ap, ◌∙◌}
+use Rattle.std.proofs.Common.{◌≡◌, ℕ, List, sym, ap, ◌∙◌}
 use Rattle.std.specs.Prelude.{Option, Some, None, IfSome}
 use Rattle.std.specs.Option.{option_map}
 use Rattle.std.specs.FinMap.{get}
-use Rattle.bd_limits.specs.Limits.{file_limit}
 use Rattle.bd_names.specs.Names.{AreNames}
 use Rattle.bd_model.specs.Tree.{Entry, Directory, FileWith, Tree, IsEntry, IsTree}
 use Rattle.bd_records.specs.declared.Record.{Record}
-use Rattle.bd_records.specs.declared.Record.TheVariants.{File}
 use Rattle.bd_records.specs.Records.{IsRecord, IsReadAs}
 use Rattle.bd_records.proofs.Lengths.{one_record}
 use Rattle.bd_message.specs.KeyMaps.{At}

@@ -1,11 +1,11 @@
 -- What the messages of a truncation make of the tree.
-use Rattle.std.proofs.Common.{◌≡◌, ◌≢◌, ℕ, zero, suc, ◌+◌, ◌-◌, ◌*◌, ◌/◌, ◌%◌, ◌<◌, ◌≤◌, ◌^◌, List, [], ◌∷◌, ◌++◌, ◌⊎◌, inl, inr, length, take, drop, true, false, Bool, cond, refl, sym, ap, subst, ◌∙◌, arith, append_assoc}
+use Rattle.std.proofs.Common.{◌≡◌, ◌≢◌, ℕ, zero, suc, ◌-◌, ◌*◌, ◌/◌, ◌%◌, ◌<◌, ◌≤◌, ◌^◌, List, [], ◌∷◌, ◌++◌, ◌⊎◌, inl, inr, length, take, true, false, Bool, cond, refl, sym, ap, subst, ◌∙◌, arith, append_assoc}
 use Rattle.std.specs.Prelude.{Option, Some, None, IsSome, IfSome, nat_lt, not, ◌&&◌}
 use Rattle.std.specs.Option.{option_or, unwrap_or}
 use Rattle.std.specs.FinMap.{get, insert}
 use Rattle.std.specs.Ordering.{is_lt}
 use Rattle.std.specs.Int.{w32}
-use Rattle.std.proofs.lemmas.Bool.{cases_lt, cases_Bool, ltb-true, ltb-false, lt-ltb, le-leb, and_parts, and_from, false_from_ne_true}
+use Rattle.std.proofs.lemmas.Bool.{cases_lt, cases_Bool, ltb-true, lt-ltb, le-leb, and_parts, and_from, false_from_ne_true}
 use Rattle.std.proofs.lemmas.List.{take_all}
 use Rattle.std.proofs.Math.Seq.{drop-append_seam}
 use Rattle.bd_limits.specs.Limits.{block_limit, file_limit}
@@ -26,7 +26,7 @@ use Rattle.bd_message.specs.KeyMaps.{At}
 use Rattle.bd_message.specs.Effect.{act, no_nodes, same_key, begins, rest, is_cut}
 use Rattle.bd_message.proofs.Finds.{same_key-true, begins-is, begins-append}
 use Rattle.bd_represent.specs.EntryKeys.{record_key, blocks_prefix, block_key, IsEntryKey}
-use Rattle.bd_represent.specs.Represents.{IsSameBeside, record_value, stored, kept_block, IsBlockOf, HasBytes, HasOnlyEntries, Represents}
+use Rattle.bd_represent.specs.Represents.{stored, kept_block, IsBlockOf, HasBytes, HasOnlyEntries, Represents}
 use Rattle.bd_represent.specs.Plans.{after, Makes}
 use Rattle.bd_represent.proofs.KeyLemmas.{key_of-apart, record_key-block_key, block_key-injective}
 use Rattle.bd_represent.proofs.ActLemmas.{put-here, put-other}

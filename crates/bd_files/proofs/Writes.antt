@@ -1,11 +1,10 @@
 -- What the messages of a write make of the tree.
-use Rattle.std.proofs.Common.{◌≡◌, ◌≢◌, ℕ, ◌+◌, ◌<◌, ◌≤◌, ◌^◌, List, [], ◌∷◌, ◌++◌, ◌⊎◌, inl, inr, length, true, false, Bool, cond, refl, sym, ap, subst, ◌∙◌, arith}
-use Rattle.std.specs.Prelude.{slice_index, max, Option, Some, None, IsSome, nat_lt}
+use Rattle.std.proofs.Common.{◌≡◌, ℕ, ◌+◌, ◌<◌, ◌≤◌, List, [], ◌∷◌, ◌++◌, ◌⊎◌, inl, inr, length, true, false, cond, refl, sym, ap, subst, ◌∙◌, arith}
+use Rattle.std.specs.Prelude.{slice_index, max, Option, Some, None, nat_lt}
 use Rattle.std.specs.Option.{option_map, option_or}
 use Rattle.std.specs.FinMap.{get, insert}
 use Rattle.std.proofs.lemmas.Bool.{cases_lt, cases_Bool, ltb-true, ltb-false, le-leb}
 use Rattle.bd_keys.specs.Edits.{resized, overwritten}
-use Rattle.bd_keys.specs.Keys.{IsKey}
 use Rattle.bd_keys.proofs.EditLemmas.{length-resized, length-overwritten}
 use Rattle.bd_names.specs.Names.{AreNames}
 use Rattle.bd_model.specs.Tree.{Entry, FileWith, Tree}

@@ -1,6 +1,6 @@
 -- What a message does at its key and at others, and which keys are lists of bytes.
-use Rattle.std.proofs.Common.{◌≡◌, ◌≢◌, ℕ, zero, suc, ◌<◌, ◌≤◌, Bool, true, false, List, [], ◌∷◌, ◌++◌, length, refl, sym, ap, ◌∙◌, arith, get_or}
-use Rattle.std.specs.Prelude.{Option, Some, None, nat_le, not, ◌&&◌, ◌==◌, IsSome}
+use Rattle.std.proofs.Common.{◌≡◌, ◌≢◌, ℕ, zero, suc, ◌<◌, ◌≤◌, true, false, List, [], ◌∷◌, ◌++◌, arith}
+use Rattle.std.specs.Prelude.{Option, Some, nat_le, not, ◌&&◌, ◌==◌}
 use Rattle.std.specs.List.{list_all}
 use Rattle.std.specs.Option.{unwrap_or}
 use Rattle.std.specs.Int.{w32}
@@ -9,9 +9,8 @@ use Rattle.bd_wire.specs.Numbers.{be}
 use Rattle.bd_wire.proofs.NumberLemmas.{IsBytes-bytes_high_first}
 use Rattle.bd_keys.specs.Edits.{overwritten}
 use Rattle.bd_keys.specs.Keys.{IsKey}
-use Rattle.bd_names.specs.Names.{is_name, is_name_byte, AreNames, key_of}
+use Rattle.bd_names.specs.Names.{is_name_byte, AreNames, key_of}
 use Rattle.bd_names.proofs.NamesLaws.{AreNames-cons, is_name-bytes, key_of-cons}
-use Rattle.bd_message.specs.declared.message.Message.{Message}
 use Rattle.bd_message.specs.declared.message.Message.TheVariants.{Put, Patch}
 use Rattle.bd_message.specs.Effect.{same_key, act, no_nodes}
 use Rattle.bd_message.proofs.Finds.{same_key-true, same_key-refl}

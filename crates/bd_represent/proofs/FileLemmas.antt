@@ -1,5 +1,5 @@
 -- What changes of blocks and of lengths do to the bytes of a file.
-use Rattle.std.proofs.Common.{zero, suc, take, ◌≡◌, ◌≢◌, ℕ, ◌+◌, ◌-◌, ◌*◌, ◌<◌, ◌≤◌, ◌^◌, List, [], ◌++◌, ◌⊎◌, inl, inr, length, refl, sym, ap, subst, ◌∙◌, arith}
+use Rattle.std.proofs.Common.{zero, suc, take, ◌≡◌, ◌≢◌, ℕ, ◌+◌, ◌-◌, ◌*◌, ◌<◌, ◌≤◌, ◌^◌, List, [], ◌⊎◌, inl, inr, length, refl, sym, ap, subst, ◌∙◌, arith}
 use Rattle.std.specs.Prelude.{slice_index, max, min, Option, Some, None, IfSome}
 use Rattle.std.specs.Option.{unwrap_or}
 use Rattle.std.proofs.lemmas.List.{get_or_past, get_or-take, length-take}
@@ -7,7 +7,6 @@ use Rattle.std.proofs.lemmas.Bool.{cases_lt}
 use Rattle.bd_limits.specs.Limits.{block_limit}
 use Rattle.bd_keys.specs.Edits.{resized, overwritten}
 use Rattle.bd_keys.proofs.EditLemmas.{length-resized, resized-kept, resized-zero, length-overwritten, overwritten-new, overwritten-before, overwritten-gap, overwritten-after}
-use Rattle.bd_records.specs.Records.{IsBlock}
 use Rattle.bd_message.specs.KeyMaps.{At}
 use Rattle.bd_represent.specs.EntryKeys.{block_key}
 use Rattle.bd_represent.specs.Represents.{stored, IsBlockOf, HasBytes, kept_block}

@@ -1,5 +1,5 @@
 -- Keys of records and blocks are told apart, and which keys begin with the key of a path.
-use Rattle.std.proofs.Common.{◌≡◌, ◌≢◌, ℕ, ◌+◌, ◌<◌, ◌≤◌, ◌^◌, List, [], ◌∷◌, ◌++◌, ◌⊎◌, inl, inr, length, true, refl, sym, ap, ◌∙◌, arith, append_assoc, append-nil, length-append}
+use Rattle.std.proofs.Common.{◌≡◌, ℕ, ◌<◌, ◌^◌, List, [], ◌∷◌, ◌++◌, length, true, refl, sym, ap, ◌∙◌, arith, append_assoc}
 use Rattle.std.specs.Int.{w32}
 use Rattle.bd_wire.specs.Numbers.{be}
 use Rattle.bd_wire.proofs.NumberLemmas.{IsPrefixFree-be}

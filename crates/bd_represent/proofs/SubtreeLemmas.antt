@@ -1,5 +1,5 @@
 -- What a cut of a subtree and a graft do to the represented tree.
-use Rattle.std.proofs.Common.{◌≡◌, ◌≢◌, ℕ, ◌+◌, ◌*◌, ◌<◌, ◌≤◌, ◌^◌, List, [], ◌∷◌, ◌++◌, ◌⊎◌, inl, inr, length, take, drop, true, false, Bool, cond, refl, sym, ap, subst, ◌∙◌, arith, append_assoc}
+use Rattle.std.proofs.Common.{◌≡◌, ℕ, ◌+◌, ◌*◌, ◌<◌, ◌^◌, List, [], ◌∷◌, ◌++◌, ◌⊎◌, inl, inr, true, false, Bool, cond, refl, sym, ap, subst, ◌∙◌, arith, append_assoc}
 use Rattle.std.specs.Prelude.{Option, Some, None, IsSome, IfSome, not, ◌&&◌, is_some, slice_index}
 use Rattle.std.specs.Option.{option_map, option_and_then, unwrap_or}
 use Rattle.std.specs.FinMap.{get}
@@ -20,7 +20,7 @@ use Rattle.bd_message.specs.KeyMaps.{At, grafted}
 use Rattle.bd_message.specs.Effect.{begins, rest, is_cut}
 use Rattle.bd_message.proofs.Finds.{begins-is, begins-append}
 use Rattle.bd_represent.specs.EntryKeys.{record_key, block_key, IsEntryKey}
-use Rattle.bd_represent.specs.Represents.{record_value, stored, IsBlockOf, HasBytes, HasOnlyEntries, Represents}
+use Rattle.bd_represent.specs.Represents.{record_value, IsBlockOf, HasBytes, HasOnlyEntries, Represents}
 use Rattle.bd_represent.specs.Plans.{source, source_of}
 use Rattle.bd_represent.proofs.KeyLemmas.{key_of-under}
 use Rattle.bd_represent.proofs.ActLemmas.{IsKey-append, IsKey-rest, IsKey-key_of, IsKey-record_key, IsKey-block_key}

@@ -1,4 +1,4 @@
-use Rattle.std.proofs.Common.{arith, ℕ, min, ◌<◌, ◌≤◌, ◌∷◌, [], sym, subst, ◌*◌, ◌+◌, ◌-◌, ◌/◌, ◌%◌, ◌≡◌, length, ◌++◌, take, drop, ap, ◌∙◌, inr, length-append}
+use Rattle.std.proofs.Common.{arith, ℕ, min, ◌<◌, ◌≤◌, ◌∷◌, [], sym, subst, ◌*◌, ◌+◌, ◌-◌, ◌/◌, ◌%◌, ◌≡◌, length, take, drop, ap, ◌∙◌, inr, length-append}
 use Rattle.std.proofs.lemmas.List.Elements.{All-push}
 use Rattle.bd_limits.specs.Limits.{block_limit}
 use Rattle.bd_message.specs.declared.message.Message.TheVariants.{Patch}

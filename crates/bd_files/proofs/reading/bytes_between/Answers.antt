@@ -1,4 +1,4 @@
-use Rattle.std.proofs.Common.{ℕ, List, ◌≡◌, ◌<◌, ◌≤◌, ◌+◌, ◌-◌, ◌/◌, ◌%◌, ◌^◌, ◌++◌, length, take, drop, sym, ap, ◌∙◌, arith, []}
+use Rattle.std.proofs.Common.{ℕ, List, ◌≡◌, ◌<◌, ◌≤◌, ◌+◌, ◌-◌, ◌/◌, ◌%◌, ◌++◌, take, drop, ap, ◌∙◌, arith, []}
 use Rattle.std.specs.Prelude.{Option, min}
 use Rattle.std.specs.Option.{unwrap_or}
 use Rattle.bd_limits.specs.Limits.{block_limit}

@@ -1,4 +1,4 @@
-use Rattle.std.proofs.Common.{ℕ, ◌≡◌, ◌≤◌, length, subst, arith, ◌∙◌}
+use Rattle.std.proofs.Common.{ℕ, ◌≤◌, length, subst, arith, ◌∙◌}
 use Rattle.std.specs.Prelude.{Result}
 use Rattle.std.specs.FinMap.{get}
 use Rattle.bd_limits.specs.Limits.{file_limit}

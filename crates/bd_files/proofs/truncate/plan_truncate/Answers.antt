@@ -1,4 +1,4 @@
-use Rattle.std.proofs.Common.{arith, ◌/◌, ◌≤◌, ◌≡◌, length, subst, ℕ, List, [], ◌∷◌, ◌∙◌, ap}
+use Rattle.std.proofs.Common.{arith, ◌/◌, ◌≤◌, ◌≡◌, subst, ℕ, List, [], ◌∷◌, ◌∙◌, ap}
 use Rattle.std.specs.Prelude.{Result, Option}
 use Rattle.std.specs.Option.{unwrap_or}
 use Rattle.std.specs.FinMap.{get}
