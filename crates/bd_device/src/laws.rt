@@ -1,7 +1,7 @@
 ghost use Rattle.std.specs.Prelude.{◌≡◌, ◌<◌, ◌↔◌, ◌⊎◌, IsTrue, OnOk, is_err};
 ghost use Rattle.bd_io.specs.Plan.{next_fails};
 ghost use Rattle.bd_device.specs.Blocks.{Image};
-ghost use Rattle.bd_device.specs.Memory.{attached_size, attached_image, held_image, is_recorded, left_of};
+ghost use Rattle.bd_device.specs.Memory.{attached_size, attached_image, held_image, is_recorded, left_of, write_fails};
 ghost use Rattle.bd_device.specs.Moments.{TornAt};
 
 use crate::{BLOCK_SIZE, Device, MemDevice};
@@ -18,6 +18,7 @@ pub fn law_of_a_write(device: &mut MemDevice, b: u64, from: &[u8; BLOCK_SIZE]) -
         → left_of device.new device.new.plan.calls c }
     ensures only { (c : Image) → left_of device.new device.new.plan.calls c
         → (c ≡ held_image device.old) ⊎ TornAt b (λ d. d ≡ held_image device.old) c }
+    ensures fails { is_err result ≡ write_fails device.old }
 {
     device.write(b, from)
 }
