@@ -6,6 +6,8 @@
 #[cfg(test)]
 mod device;
 #[cfg(test)]
+mod dirs;
+#[cfg(test)]
 mod filedev;
 #[cfg(test)]
 mod io;

@@ -38,7 +38,7 @@ fn message(alloc: Global, name: &str, first: &str, second: &str) -> Result<Messa
 }
 
 // Applies one message that names no node, where there is room.
-fn apply<M: KeyMap>(map: &mut M, message: Message) -> Result<(), Fail> {
+pub fn apply<M: KeyMap>(map: &mut M, message: Message) -> Result<(), Fail> {
     if !message.is_message() || message.size() > map.room() {
         return Err(Fail::new("no such message"));
     }
@@ -50,7 +50,7 @@ fn apply<M: KeyMap>(map: &mut M, message: Message) -> Result<(), Fail> {
 }
 
 // Grafts, where it is allowed.
-fn graft<M: KeyMap>(map: &mut M, s: &[u8], d: &[u8], keep: bool) -> Result<(), Fail> {
+pub fn graft<M: KeyMap>(map: &mut M, s: &[u8], d: &[u8], keep: bool) -> Result<(), Fail> {
     let is_short = s.len() <= MAX_KEY && d.len() <= MAX_KEY;
     if !is_short || map.room() < 1600 || (!keep && starts(d, s)) {
         return Err(Fail::new("no such graft"));

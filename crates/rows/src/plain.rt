@@ -35,10 +35,9 @@ fn answer(alloc: Global, tree: &mut PlainTree, line: &str) -> Result<Reply, Fail
     }
 }
 
-/// The text of the reply to a line, without its newline.
-fn replied(alloc: Global, tree: &mut PlainTree, line: &str) -> Result<String, Fail> {
-    let answer = answer(alloc, tree, line)?;
-    let is_short = match &answer {
+/// The text of a reply, without its newline.
+pub fn text_of(alloc: Global, answer: &Reply) -> Result<String, Fail> {
+    let is_short = match answer {
         Reply::Bytes(bytes) => bytes.len() <= MAX_READ as usize,
         Reply::Names(listing) => listing.names.len() <= MAX_LISTING,
         _ => true,
@@ -47,7 +46,7 @@ fn replied(alloc: Global, tree: &mut PlainTree, line: &str) -> Result<String, Fa
         return Err(Fail::new("a reply past its limit"));
     }
     let mut into = [0; REPLY_SIZE];
-    let end = reply(&answer, &mut into);
+    let end = reply(answer, &mut into);
     let text = str::from_utf8(&into[..end])?;
     Ok(String::from_str(alloc, text.trim_end())?)
 }
@@ -56,7 +55,8 @@ fn replied(alloc: Global, tree: &mut PlainTree, line: &str) -> Result<String, Fa
 fn each_command_is_taken(rt: HostRuntime) -> Result<(), Fail> {
     let mut tree = PlainTree::new(rt.alloc())?;
     for (line, want) in LINES {
-        let found = replied(rt.alloc(), &mut tree, line)?;
+        let found = answer(rt.alloc(), &mut tree, line)?;
+        let found = text_of(rt.alloc(), &found)?;
         assert_eq!(rt; found.as_str(), *want, "{line}");
     }
     Ok(())
