@@ -183,6 +183,10 @@ if_ok : {A E : Type 0} (r : Result A E) (P Q : A → Type 0) → ((a : A) → P 
 if_ok (Ok a) P Q f h = f a h
 if_ok (Err e) P Q f h = h
 
+-- the first of the names, as it was found
+pub first_found : (fs : List Listed) (o : Option Listed) (l : Listed) → o ≡ first_of fs → o ≡ Some l → first_of fs ≡ Some l
+first_found fs o l e f = sym e ∙ f
+
 -- what a child and those after it add
 pub add_more : {E : Type 0} (result : Result Bool E) (old pushed new : List Listed) (room less : ℕ) (after : Option (List ℕ)) (ls : List Listed) (l : Listed) (name : List ℕ) → Rises ls → first_of (those_after after ls) ≡ Some l → name ≡ l.name
     → suc less ≡ room → pushed ≡ old ++ l ∷ [] → IfOk result (λ _. new ≡ pushed ++ take less (those_after (Some name) ls)) → IfOk result (λ _. new ≡ old ++ take room (those_after after ls))
