@@ -1,6 +1,6 @@
 -- What changes of directories make of the tree.
-use Rattle.std.proofs.Common.{take, drop, length, ◌≡◌, ◌≢◌, ℕ, List, [], ◌∷◌, ◌++◌, ◌⊎◌, inl, inr, Bool, true, false, cond, refl, sym, ap, subst, ◌∙◌}
-use Rattle.std.specs.Prelude.{Option, Some, None, is_some, not, ◌&&◌, IsTrue}
+use Rattle.std.proofs.Common.{take, drop, length, ◌≡◌, ℕ, List, [], ◌∷◌, ◌++◌, Bool, true, false, cond, refl, sym, ap, subst, ◌∙◌}
+use Rattle.std.specs.Prelude.{Option, Some, None, is_some, IsTrue}
 use Rattle.std.specs.Option.{option_map, option_and_then, option_or}
 use Rattle.std.specs.FinMap.{get, insert}
 use Rattle.std.proofs.lemmas.List.{take-append-drop}
@@ -8,9 +8,9 @@ use Rattle.bd_keys.specs.Keys.{IsKey, Begins}
 use Rattle.bd_names.specs.Names.{AreNames, key_of, is_under, rest_below}
 use Rattle.bd_names.proofs.NamesLaws.{rest_below-some, is_under-append, key_of-front}
 use Rattle.bd_command.specs.declared.refusal.Refusal.{Refusal}
-use Rattle.bd_command.specs.declared.Command.TheVariants.{Remove, Rename, Clone}
+use Rattle.bd_command.specs.declared.Command.TheVariants.{Rename, Clone}
 use Rattle.bd_model.specs.Tree.{Entry, Tree, IsTree}
-use Rattle.bd_model.specs.Step.{file_bytes, refusal_of, changed, cloned, renamed, without, new_refusal, absent_refusal, root_refusal, inside_refusal}
+use Rattle.bd_model.specs.Step.{file_bytes, refusal_of, cloned, renamed, without, new_refusal, root_refusal}
 use Rattle.bd_model.proofs.Accepted.{can_make}
 use Rattle.bd_model.proofs.TreeLaws.{CanMove, can_clone, can_rename, rename_outside, get-cloned-at, get-cloned-other, get-renamed-at, get-renamed-other, get-renamed-gone, apart_from_new}
 use Rattle.bd_records.specs.declared.Record.{Record}
@@ -19,7 +19,7 @@ use Rattle.bd_message.specs.declared.message.Message.{Message}
 use Rattle.bd_message.specs.declared.message.Message.TheVariants.{Put, Cut}
 use Rattle.bd_message.specs.KeyMaps.{At, grafted}
 use Rattle.bd_message.specs.Effect.{acts, no_nodes}
-use Rattle.bd_represent.specs.EntryKeys.{record_key, block_key}
+use Rattle.bd_represent.specs.EntryKeys.{record_key}
 use Rattle.bd_represent.specs.Represents.{record_of, HasBytes, Represents}
 use Rattle.bd_represent.specs.Plans.{Makes, source, source_of}
 use Rattle.bd_represent.proofs.ActLemmas.{put-here}

@@ -1,5 +1,5 @@
 -- The plan of a new entry as that of its command.
-use Rattle.std.proofs.Common.{◌≡◌, ℕ, List, [], refl}
+use Rattle.std.proofs.Common.{ℕ, List, [], refl}
 use Rattle.bd_command.specs.declared.Command.TheVariants.{Mkdir, Create}
 use Rattle.bd_model.specs.Tree.{Directory, FileWith, Tree}
 use Rattle.bd_records.specs.declared.Record.TheVariants.{Dir, File}

@@ -1,4 +1,4 @@
-use Rattle.std.proofs.Common.{◌≡◌, List, [], ◌∷◌, sym, ◌∙◌, rules}
+use Rattle.std.proofs.Common.{◌≡◌, [], ◌∷◌, sym, ◌∙◌, rules}
 use Rattle.std.specs.Prelude.{None}
 use Rattle.bd_model.specs.Step.{new_refusal}
 use Rattle.bd_records.specs.Records.{record_bytes}

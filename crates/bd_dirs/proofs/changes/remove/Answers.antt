@@ -1,5 +1,4 @@
-use Rattle.std.proofs.Common.{◌≡◌, List, [], ◌∷◌, sym, ◌∙◌, rules}
-use Rattle.std.specs.Prelude.{None}
+use Rattle.std.proofs.Common.{◌≡◌, [], ◌∷◌, sym, ◌∙◌, rules}
 use Rattle.std.specs.FinMap.{get}
 use Rattle.bd_names.specs.Names.{key_of}
 use Rattle.bd_model.specs.Step.{root_refusal, absent_refusal}

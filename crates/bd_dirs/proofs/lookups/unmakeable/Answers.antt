@@ -1,4 +1,4 @@
-use Rattle.std.proofs.Common.{◌≡◌, ℕ, List, sym, ◌∙◌, false}
+use Rattle.std.proofs.Common.{◌≡◌, sym, ◌∙◌, false}
 use Rattle.std.specs.Prelude.{is_some}
 use Rattle.std.specs.Prelude.{Option}
 use Rattle.std.specs.FinMap.{get}

@@ -1,0 +1,219 @@
+//! The names of what stands in a directory.
+
+ghost use Rattle.std.specs.Prelude.{◌≡◌, ◌≤◌, ℕ, List, [], ◌∷◌, ◌++◌, length, take, Option, Some, None, not, ◌==◌, nat_lt, true, IsTrue, IfOk, IfErr};
+ghost use Rattle.std.specs.List.{prefix_len, list_all};
+ghost use Rattle.std.specs.Option.{option_copied};
+ghost use Rattle.std.specs.FinMap.{get};
+ghost use Rattle.bd_names.specs.Names.{is_name, is_name_byte, AreNames, key_of};
+ghost use Rattle.bd_command.specs.declared.Command.TheVariants as command;
+ghost use Rattle.bd_command.specs.declared.reply.Listed.{Listed};
+ghost use Rattle.bd_model.specs.Tree.{Entry, Tree, IsTree};
+ghost use Rattle.bd_model.specs.Step.{step, children, those_after, listing_of, is_directory};
+ghost use Rattle.bd_message.specs.declared.fault.MapFault.TheVariants as fault;
+ghost use Rattle.bd_message.specs.KeyMaps.{IsNext, IsLeft, HasMapCause, NeverWorn};
+ghost use Rattle.bd_represent.specs.Represents.{Represents, record_of};
+ghost use Rattle.bd_dirs.specs.Listings.{first_of, lower, key_after};
+
+use bd_command::{Listed, Listing, Names, Refusal, Reply};
+use bd_files::record;
+use bd_keys::tail;
+use bd_limits::MAX_LISTING;
+use bd_message::{KeyMap, MapFault};
+use bd_names::{Name, Path, PathFault};
+use bd_records::{Record, read_record};
+use std::alloc::{AllocError, Global};
+
+/// The names of what stands in the directory at a path, at most 100 of them, in the order of their
+/// bytes: those greater than `after`, if it is given. They come with whether more follow.
+pub fn list<M: KeyMap>(
+    alloc: Global,
+    m: &mut M,
+    path: &Path,
+    after: Option<&Name>,
+) -> Result<Reply, MapFault>
+    ensures reply { M.is_known m.old → (t : Tree) → IsTree t → Represents (M.has m.old) t
+        → IfOk result (λ reply.
+        reply ≡ (step t (command.List path.now (option_copied after.entry))).1) }
+    ensures left { IsLeft M.is_known M.has M.room_of M.worn M.reads M.loans m.old m.new }
+    ensures cause { HasMapCause (M.fault_count m.old) (M.fault_count m.new)
+        (M.bad m.new) NeverWorn result }
+{
+    match record(alloc, m, path)? {
+        None => Ok(Reply::Refused(Refusal::NotFound)),
+        Some(Record::File(_)) => Ok(Reply::Refused(Refusal::NotDir)),
+        Some(Record::Dir) => Ok(Reply::Names(listing(alloc, m, path, after)?)),
+    }
+}
+
+/// The names, where a directory is at the path.
+fn listing<M: KeyMap>(
+    alloc: Global,
+    m: &mut M,
+    path: &Path,
+    after: Option<&Name>,
+) -> Result<Listing, MapFault>
+    ensures listing { M.is_known m.old → (t : Tree) → IsTree t → Represents (M.has m.old) t
+        → IfOk result (λ listing.
+        listing ≡ listing_of (those_after (option_copied after.entry) (children path.now t))) }
+    ensures left { IsLeft M.is_known M.has M.room_of M.worn M.reads M.loans m.old m.new }
+    ensures cause { HasMapCause (M.fault_count m.old) (M.fault_count m.new)
+        (M.bad m.new) NeverWorn result }
+{
+    let mut names = Vec::new(alloc);
+    let more = add_children(alloc, m, path, after, MAX_LISTING, &mut names)?;
+    Ok(Listing {
+        names: Names::from_vec(names),
+        more,
+    })
+}
+
+/// Adds the children that come after a name, as many as there is room for, and says whether more
+/// follow.
+fn add_children<M: KeyMap>(
+    alloc: Global,
+    m: &mut M,
+    path: &Path,
+    after: Option<&Name>,
+    room: usize,
+    names: &mut Vec<Listed>,
+) -> Result<bool, MapFault>
+    ensures names { M.is_known m.old → (t : Tree) → IsTree t → Represents (M.has m.old) t
+        → IfOk result (λ more. names.new.items ≡ names.old.items
+        ++ take room (those_after (option_copied after.entry) (children path.now t))) }
+    ensures more { M.is_known m.old → (t : Tree) → IsTree t → Represents (M.has m.old) t
+        → IfOk result (λ more. more
+        ≡ nat_lt room (length (those_after (option_copied after.entry) (children path.now t)))) }
+    ensures left { IsLeft M.is_known M.has M.room_of M.worn M.reads M.loans m.old m.new }
+    ensures cause { HasMapCause (M.fault_count m.old) (M.fault_count m.new)
+        (M.bad m.new) NeverWorn result }
+{
+    match next_child(alloc, m, path, after)? {
+        None => Ok(false),
+        Some(_) if room == 0 => Ok(true),
+        Some(child) => {
+            let name = child.name.clone()?;
+            names.push(child)?;
+            add_children(alloc, m, path, Some(&name), room - 1, names)
+        }
+    }
+}
+
+/// The first child that comes after a name, or the first of all.
+fn next_child<M: KeyMap>(
+    alloc: Global,
+    m: &mut M,
+    path: &Path,
+    after: Option<&Name>,
+) -> Result<Option<Listed>, MapFault>
+    ensures child { M.is_known m.old → (t : Tree) → IsTree t → Represents (M.has m.old) t
+        → IfOk result (λ child.
+        child ≡ first_of (those_after (option_copied after.entry) (children path.now t))) }
+    ensures left { IsLeft M.is_known M.has M.room_of M.worn M.reads M.loans m.old m.new }
+    ensures cause { HasMapCause (M.fault_count m.old) (M.fault_count m.new)
+        (M.bad m.new) NeverWorn result }
+{
+    let within = path.key(alloc)?;
+    let from = key_after(alloc, &within, after)?;
+    match m.next(&from, &within)? {
+        None => Ok(None),
+        Some(key) => child_at(alloc, m, &within, &key),
+    }
+}
+
+/// The key after all that begin with a directory's key and a name, or the key before all names.
+fn key_after(alloc: Global, within: &[u8], after: Option<&Name>) -> Result<Vec<u8>, AllocError>
+    ensures key { IfOk result (λ key.
+        key.items ≡ within.now ++ (lower (option_copied after.entry) ++ 1 ∷ [])) }
+    ensures name { IfOk result (λ key.
+        IsTrue (list_all is_name_byte (lower (option_copied after.entry)))) }
+{
+    let mut key = Vec::from_slice(alloc, within)?;
+    if let Some(name) = after {
+        key.extend_from_slice(name.as_bytes())?;
+    }
+    key.push(1)?;
+    Ok(key)
+}
+
+/// The child whose key, or that of something below it, was found.
+fn child_at<M: KeyMap>(
+    alloc: Global,
+    m: &mut M,
+    within: &[u8],
+    key: &[u8],
+) -> Result<Option<Listed>, MapFault>
+    ensures child { M.is_known m.old → (t : Tree) → IsTree t → Represents (M.has m.old) t
+        → (path : List (List ℕ)) (after : Option (List ℕ)) → AreNames path
+        → IsTrue (list_all is_name_byte (lower after)) → within.now ≡ key_of path
+        → IsNext (M.has m.old) (key_after path after) (key_of path) (Some key.now)
+        → IfOk result (λ child. child ≡ first_of (those_after after (children path t))) }
+    ensures left { IsLeft M.is_known M.has M.room_of M.worn M.reads M.loans m.old m.new }
+    ensures cause { HasMapCause (M.fault_count m.old) (M.fault_count m.new)
+        (M.bad m.new) NeverWorn result }
+{
+    match first_name(alloc, tail(key, within.len()))? {
+        None => Ok(None),
+        Some(name) => listed(alloc, m, within, name),
+    }
+}
+
+/// What is at a name in a directory.
+fn listed<M: KeyMap>(
+    alloc: Global,
+    m: &mut M,
+    within: &[u8],
+    name: Name,
+) -> Result<Option<Listed>, MapFault>
+    ensures child { M.is_known m.old → (t : Tree) → IsTree t → Represents (M.has m.old) t
+        → (path : List (List ℕ)) (e : Entry) → within.now ≡ key_of path
+        → get t (path ++ name ∷ []) ≡ Some e → IfOk result (λ child.
+        child ≡ Some (record { name = name; is_dir = is_directory e })) }
+    ensures left { IsLeft M.is_known M.has M.room_of M.worn M.reads M.loans m.old m.new }
+    ensures cause { HasMapCause (M.fault_count m.old) (M.fault_count m.new)
+        (M.bad m.new) NeverWorn result }
+{
+    let mut key = Vec::from_slice(alloc, within)?;
+    key.extend_from_slice(name.as_bytes())?;
+    key.extend_from_slice(&[0, 0, 0])?;
+    match m.get(&key)? {
+        None => Ok(None),
+        Some(value) => Ok(listed_as(name, read_record(&value))),
+    }
+}
+
+/// A name and whether its record is a directory's.
+fn listed_as(name: Name, found: Option<Record>) -> Option<Listed>
+    ensures { (e : Entry) → found ≡ Some (record_of e)
+        → result ≡ Some (record { name = name; is_dir = is_directory e }) }
+{
+    match found {
+        None => None,
+        Some(Record::Dir) => Some(Listed { name, is_dir: true }),
+        Some(Record::File(_)) => Some(Listed {
+            name,
+            is_dir: false,
+        }),
+    }
+}
+
+/// The name before the first zero byte, if it is one.
+fn first_name(alloc: Global, text: &[u8]) -> Result<Option<Name>, MapFault>
+    ensures name { IfOk result (λ found. (name rest : List ℕ) → is_name name ≡ true
+        → text.now ≡ name ++ 0 ∷ rest → found ≡ Some name) }
+    ensures fault { IfErr result (λ cause. cause ≡ fault.NoMemory) }
+{
+    let len = len_before_zero(text);
+    match Name::read(alloc, &text[..len]) {
+        Ok(name) => Ok(Some(name)),
+        Err(PathFault::BadPath) => Ok(None),
+        Err(PathFault::NoMemory) => Err(MapFault::NoMemory),
+    }
+}
+
+/// How many bytes stand before the first zero byte.
+fn len_before_zero(text: &[u8]) -> usize
+    ensures len { result ≡ prefix_len (λ byte. not (byte == 0)) text.now }
+    ensures within { result ≤ length text.now }
+{
+    text.iter().take_while(|byte| **byte != 0).count()
+}
