@@ -4,12 +4,12 @@
 use crate::message::{apply, graft};
 use crate::plain::text_of;
 use bd_command::{Command, Reply};
-use bd_dirs::{Plan, plan_command, stat};
+use bd_dirs::{Plan, list, plan_command, stat};
 use bd_files::{put_record, read};
 use bd_keys::Bytes;
 use bd_limits::{MAX_READ, MAX_WRITE};
 use bd_message::{KeyMap, ListMap};
-use bd_names::Path;
+use bd_names::{Name, Path};
 use bd_plain::PlainTree;
 use bd_records::Record;
 use bd_script::{Line, read_line};
@@ -41,6 +41,12 @@ const LINES: &[(&str, &str)] = &[
     ("stat /dx", "ok file 0"),
     ("stat /d.x", "ok file 0"),
     ("stat /e/x", "ok file 0"),
+    // Names come in the order of their bytes, and nothing of what is below them.
+    ("list /", "ok d.x dx e/ f g"),
+    ("list / e", "ok f g"),
+    ("list /e", "ok x"),
+    ("list /f", "no 4 not-dir"),
+    ("list /d", "no 1 not-found"),
     // A clone into its own source copies the old tree.
     ("clone /e /e/c", "ok"),
     ("stat /e/c/x", "ok file 0"),
@@ -69,6 +75,7 @@ fn asked<M: KeyMap>(alloc: Global, map: &mut M, command: &Command) -> Result<Rep
             Ok(read(alloc, map, path, *off, *len)?)
         }
         Command::Stat { path } => Ok(stat(alloc, map, path)?),
+        Command::List { path, after } => Ok(list(alloc, map, path, after.as_ref())?),
         _ => Err(Fail::new("no command that reads so")),
     }
 }
@@ -118,7 +125,7 @@ const PATHS: &[&str] = &[
 /// The verbs of the commands, each as often as it comes.
 const VERBS: &[&str] = &[
     "mkdir", "mkdir", "mkdir", "create", "create", "write", "write", "write", "truncate",
-    "truncate", "remove", "rename", "clone", "clone", "read", "read", "stat",
+    "truncate", "remove", "rename", "clone", "clone", "read", "read", "stat", "list", "after",
 ];
 
 /// Offsets and lengths, about the borders of blocks.
@@ -161,7 +168,13 @@ impl Numbers {
         Ok(Bytes::from_vec(bytes))
     }
 
-    /// A command, no listing.
+    /// A listing of what comes after `a`.
+    fn after(alloc: Global, path: Path) -> Result<Command, Fail> {
+        let after = Some(Name::read(alloc, b"a")?);
+        Ok(Command::List { path, after })
+    }
+
+    /// A command.
     fn command(&mut self, alloc: Global) -> Result<Command, Fail> {
         let verb = *self.pick(VERBS)?;
         let path = self.path(alloc)?;
@@ -191,6 +204,8 @@ impl Numbers {
                 off: self.place()?,
                 len: self.place()?,
             },
+            "list" => Command::List { path, after: None },
+            "after" => Numbers::after(alloc, path)?,
             _ => Command::Stat { path },
         })
     }
@@ -227,6 +242,23 @@ fn a_key_map_answers_as_the_plain_program_does(rt: HostRuntime) -> Result<(), Fa
             };
             let is_alike = alike(rt.alloc(), &mut map, &mut tree, &command)?;
             assert!(rt; is_alike, "{text}");
+        }
+    }
+    Ok(())
+}
+
+#[test]
+fn a_listing_has_at_most_100_names(rt: HostRuntime) -> Result<(), Fail> {
+    let mut map = root_only(rt.alloc())?;
+    let mut tree = PlainTree::new(rt.alloc())?;
+    for i in 0..102u8 {
+        let path = Path::read(rt.alloc(), &[b'/', b'a' + i / 10, b'0' + i % 10])?;
+        let command = Command::Create { path };
+        assert!(rt; alike(rt.alloc(), &mut map, &mut tree, &command)?, "{i}");
+        if i >= 99 {
+            let path = Path::root(rt.alloc())?;
+            let command = Command::List { path, after: None };
+            assert!(rt; alike(rt.alloc(), &mut map, &mut tree, &command)?, "{i}");
         }
     }
     Ok(())
