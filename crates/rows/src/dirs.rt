@@ -246,20 +246,3 @@ fn a_key_map_answers_as_the_plain_program_does(rt: HostRuntime) -> Result<(), Fa
     }
     Ok(())
 }
-
-#[test]
-fn a_listing_has_at_most_100_names(rt: HostRuntime) -> Result<(), Fail> {
-    let mut map = root_only(rt.alloc())?;
-    let mut tree = PlainTree::new(rt.alloc())?;
-    for i in 0..102u8 {
-        let path = Path::read(rt.alloc(), &[b'/', b'a' + i / 10, b'0' + i % 10])?;
-        let command = Command::Create { path };
-        assert!(rt; alike(rt.alloc(), &mut map, &mut tree, &command)?, "{i}");
-        if i >= 99 {
-            let path = Path::root(rt.alloc())?;
-            let command = Command::List { path, after: None };
-            assert!(rt; alike(rt.alloc(), &mut map, &mut tree, &command)?, "{i}");
-        }
-    }
-    Ok(())
-}
