@@ -41,3 +41,51 @@ script_limit = 16777216
 -- what is taken of a script at once
 abbrev pub piece_limit : ℕ
 piece_limit = 4096
+
+-- what waits in a node
+abbrev pub buffer_limit : ℕ
+buffer_limit = 32768
+
+-- a leaf's entries
+abbrev pub leaf_limit : ℕ
+leaf_limit = 40960
+
+-- the greatest level of a node
+abbrev pub level_limit : ℕ
+level_limit = 1000
+
+-- the edges of a node
+abbrev pub edge_limit : ℕ
+edge_limit = 16
+
+-- more than this that waits is flushed
+abbrev pub soft_limit : ℕ
+soft_limit = 16384
+
+-- what one push moves
+abbrev pub batch_limit : ℕ
+batch_limit = 16384
+
+-- from this much pending on, a shared child is copied
+abbrev pub abundant_limit : ℕ
+abundant_limit = 1024
+
+-- up to this much that waits in the root, a `remove` or `truncate` flushes nothing
+abbrev pub late_limit : ℕ
+late_limit = 24576
+
+-- the flush steps of one command
+abbrev pub flush_limit : ℕ
+flush_limit = 65536
+
+-- the fewest slots of an image
+abbrev pub slot_minimum : ℕ
+slot_minimum = 24
+
+-- the most slots of an image
+abbrev pub slot_limit : ℕ
+slot_limit = 65536
+
+-- a slot
+abbrev pub slot_size : ℕ
+slot_size = 65536

@@ -4,7 +4,7 @@
 #![tactic(auto)]
 
 ghost use Rattle.std.specs.Prelude.{◌≡◌};
-ghost use Rattle.bd_limits.specs.Limits.{path_limit, name_limit, key_limit, block_limit, file_limit, write_limit, read_limit, listing_limit, line_limit, script_limit, piece_limit};
+ghost use Rattle.bd_limits.specs.Limits.{path_limit, name_limit, key_limit, block_limit, file_limit, write_limit, read_limit, listing_limit, line_limit, script_limit, piece_limit, buffer_limit, leaf_limit, level_limit, edge_limit, soft_limit, batch_limit, abundant_limit, late_limit, flush_limit, slot_minimum, slot_limit, slot_size};
 
 /// The most bytes of a path in a command.
 pub const MAX_PATH: usize = 512;
@@ -39,6 +39,42 @@ pub const MAX_SCRIPT: usize = 16_777_216;
 /// The most bytes of a script that are taken at once.
 pub const MAX_PIECE: usize = 4096;
 
+/// The most bytes of messages that wait in a node.
+pub const MAX_BUFFER: usize = 32_768;
+
+/// The most bytes of a leaf's entries.
+pub const MAX_LEAF: usize = 40_960;
+
+/// The greatest level of a node.
+pub const MAX_LEVEL: u32 = 1000;
+
+/// The most edges of a node.
+pub const MAX_EDGES: usize = 16;
+
+/// More bytes of waiting messages than these are flushed.
+pub const SOFT_BUFFER: usize = 16_384;
+
+/// The most bytes of messages that one push moves.
+pub const MAX_BATCH: usize = 16_384;
+
+/// From this many bytes on that are pending for it, a shared child is copied.
+pub const ABUNDANT: usize = 1024;
+
+/// Up to this many bytes that wait in the root, a `remove` or `truncate` flushes nothing.
+pub const LATE_ROOT: usize = 24_576;
+
+/// The most flush steps of one command.
+pub const MAX_FLUSHES: usize = 65_536;
+
+/// The fewest slots of an image.
+pub const MIN_SLOTS: u32 = 24;
+
+/// The most slots of an image.
+pub const MAX_SLOTS: u32 = 65_536;
+
+/// The bytes of a slot, which holds one node or a part of the table.
+pub const SLOT_SIZE: usize = 65_536;
+
 /// Each constant is the limit that definitions and contracts name.
 pub fn law_of_limits()
     ensures path { MAX_PATH ≡ path_limit }
@@ -52,4 +88,16 @@ pub fn law_of_limits()
     ensures line { MAX_LINE ≡ line_limit }
     ensures script { MAX_SCRIPT ≡ script_limit }
     ensures piece { MAX_PIECE ≡ piece_limit }
+    ensures buffer { MAX_BUFFER ≡ buffer_limit }
+    ensures leaf { MAX_LEAF ≡ leaf_limit }
+    ensures level { MAX_LEVEL ≡ level_limit }
+    ensures edge { MAX_EDGES ≡ edge_limit }
+    ensures soft { SOFT_BUFFER ≡ soft_limit }
+    ensures batch { MAX_BATCH ≡ batch_limit }
+    ensures abundant { ABUNDANT ≡ abundant_limit }
+    ensures late { LATE_ROOT ≡ late_limit }
+    ensures flush { MAX_FLUSHES ≡ flush_limit }
+    ensures fewest_slots { MIN_SLOTS ≡ slot_minimum }
+    ensures slot { MAX_SLOTS ≡ slot_limit }
+    ensures slot_size { SLOT_SIZE ≡ slot_size }
 {}

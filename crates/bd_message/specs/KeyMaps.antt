@@ -74,8 +74,8 @@ pub record HasMapCause {T : Type 0} (before now : ℕ) (bad : ℕ → Type 0) (w
   pub later : before ≤ now
   pub failed : IfErr result (IsCause before now bad worn)
 
--- what a read leaves: what is known and has a value, the room, the loans; no counter comes nearer to
--- its end
+-- what a read leaves: what is known and has a value, the room, the loans; no counter comes nearer
+-- to its end
 pub record IsLeft {M : Type 0} (is_known : M → Type 0) (has : M → At) (room_of : M → ℕ)
     (worn : M → Counter → Type 0) (reads : M → M → Type 0) (loans : M → List ℕ) (old new : M)
     : Type 0 where

@@ -6,11 +6,9 @@ ghost use Rattle.std.specs.FinMap.{empty};
 
 use crate::entries::{self, Entry};
 use crate::{KeyMap, MapFault, Message};
+use bd_limits::MAX_BUFFER;
 use std::alloc::{AllocError, Global};
 use std::marker::Model;
-
-/// For how many bytes of messages a `ListMap` always has room.
-const ROOM: usize = 32_768;
 
 /// A key map in memory, seen as the map from its keys to their values. It is slow, and for small
 /// maps. It fails only for want of memory.
@@ -47,12 +45,13 @@ impl ListMap {
 
 impl KeyMap for ListMap {
     ghost use Rattle.std.specs.FinMap.{get};
+    ghost use Rattle.bd_limits.specs.Limits.{buffer_limit};
 
     ghost is_known = { λ _. Unit {0} };
 
     ghost has = { λ m k. get m k };
 
-    ghost room_of = { λ _. 32768 };
+    ghost room_of = { λ _. buffer_limit };
 
     ghost fault_count = { λ _. 0 };
 
@@ -78,7 +77,7 @@ impl KeyMap for ListMap {
     }
 
     fn room(&self) -> usize {
-        ROOM
+        MAX_BUFFER
     }
 
     fn apply(&mut self, list: &[Message]) -> Result<(), MapFault> {

@@ -27,7 +27,8 @@ use Rattle.bd_node.specs.Tables.{Table, IsLower, IsNodeOf, IsStored, IsSound, ti
 use Rattle.bd_node.specs.Steps.{after, IsCommitted, append_step, grown}
 use Rattle.bd_node.specs.Stores.{FitsRoot}
 use Rattle.bd_node.specs.Nodes.{level_of, buffer_size, appended, message_names, edge_names, names, times, edge_of, child_at, edge_at, through, node_at}
-use Rattle.bd_node.specs.Shape.{buffer_limit, end_before, EachEdge, SomeEdge, IsEdge, IsPending, IsInner, IsShape}
+use Rattle.bd_limits.specs.Limits.{buffer_limit}
+use Rattle.bd_node.specs.Shape.{end_before, EachEdge, SomeEdge, IsEdge, IsPending, IsInner, IsShape}
 use Rattle.bd_node.proofs.Lookup.{each_weaker, each_both, node_has-key}
 use Rattle.bd_node.proofs.Meanings.{at-meets}
 use Rattle.bd_node.proofs.Sums.{sum_same}

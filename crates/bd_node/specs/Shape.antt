@@ -1,7 +1,7 @@
 -- Well-formed nodes.
 use Rattle.std.specs.Prelude.{◌≡◌, ℕ, ◌+◌, ◌<◌, ◌≤◌, ◌^◌, ◌⊎◌, true, List, [], ◌∷◌, length, take, Option, None, Some, slice_get}
 use Rattle.std.specs.List.{AllByRecursion, sum_by}
-use Rattle.bd_limits.specs.Limits.{key_limit, block_limit}
+use Rattle.bd_limits.specs.Limits.{key_limit, block_limit, buffer_limit, leaf_limit, level_limit, edge_limit}
 use Rattle.bd_keys.specs.Keys.{IsBelow, IsBelowEnd, InRange, IsCommon}
 use Rattle.bd_message.specs.declared.message.Message.{Message}
 use Rattle.bd_message.specs.Messages.{IsMessage, size}
@@ -10,22 +10,6 @@ use Rattle.bd_node.specs.declared.node.Edge.{Edge}
 use Rattle.bd_node.specs.declared.node.Node.{Node}
 use Rattle.bd_node.specs.declared.node.Node.TheVariants.{Leaf, Inner}
 use Rattle.bd_node.specs.Touching.{touches}
-
--- the most bytes that wait in a node
-abbrev pub buffer_limit : ℕ
-buffer_limit = 32768
-
--- the most bytes of a leaf's entries
-abbrev pub leaf_limit : ℕ
-leaf_limit = 40960
-
--- the greatest level
-abbrev pub level_limit : ℕ
-level_limit = 1000
-
--- the most edges of a node
-abbrev pub edge_limit : ℕ
-edge_limit = 16
 
 -- ---- leaves
 

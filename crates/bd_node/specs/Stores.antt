@@ -2,7 +2,7 @@
 use Rattle.std.specs.Prelude.{ℕ, ◌+◌, ◌-◌, ◌^◌, min, List}
 use Rattle.bd_message.specs.declared.message.Message.{Message}
 use Rattle.bd_message.specs.KeyMaps.{IsBatch}
-use Rattle.bd_node.specs.Shape.{buffer_limit}
+use Rattle.bd_limits.specs.Limits.{buffer_limit}
 use Rattle.bd_node.specs.Tables.{Table}
 
 -- the count of visits after so many more, which stops at a u64's last value

@@ -2,21 +2,19 @@
 
 ghost use Rattle.std.specs.Prelude.{◌≡◌, ℕ, ◌+◌, ◌-◌, List, IfOk, OnOk, OnErr};
 ghost use Rattle.std.specs.Option.{option_map};
+ghost use Rattle.bd_limits.specs.Limits.{buffer_limit};
 ghost use Rattle.bd_message.specs.KeyMaps.{HasMapCause, NeverWorn, IsApplied};
 ghost use Rattle.bd_node.specs.Meaning.{at};
-ghost use Rattle.bd_node.specs.Shape.{buffer_limit};
 ghost use Rattle.bd_node.specs.Tables.{IsKept, IsSound, root_at};
 ghost use Rattle.bd_node.specs.Steps.{grown};
 ghost use Rattle.bd_node.specs.Stores.{FitsRoot};
 
+use bd_limits::MAX_BUFFER;
 use bd_message::{MapFault, Message};
 use bd_node::{Messages, NodeStore};
 use bd_query::get;
 use std::alloc::Global;
 use std::marker::Model;
-
-/// The most bytes of messages that wait in the root.
-const MAX_BUFFER: usize = 32_768;
 
 /// A tree of nodes, seen as the store that it stands on. It takes its memory of an allocator.
 #[derive(Drop)]
