@@ -1,6 +1,6 @@
 //! The way down from a node to what it has at a key.
 
-ghost use Rattle.std.specs.Prelude.{◌≡◌, ℕ, List, [], Some, IfOk};
+ghost use Rattle.std.specs.Prelude.{◌≡◌, ℕ, ◌+◌, ◌≤◌, List, [], Some, IfOk, OnOk};
 ghost use Rattle.std.specs.Option.{option_map, unwrap_or};
 ghost use Rattle.bd_keys.specs.Keys.{IsKey};
 ghost use Rattle.bd_message.specs.Effect.{NodesAt};
@@ -9,7 +9,9 @@ ghost use Rattle.bd_node.specs.declared.node.Node.{Node};
 ghost use Rattle.bd_node.specs.Nodes.{node_at};
 ghost use Rattle.bd_node.specs.Meaning.{at};
 ghost use Rattle.bd_node.specs.Tables.{IsKept, IsSound};
+ghost use Rattle.bd_node.specs.Stores.{visited};
 ghost use Rattle.bd_query.specs.Looks.{patched, part_at, IsLowerBase};
+ghost use Rattle.bd_query.specs.Visits.{AreVisits};
 
 use crate::part::{Base, Part, part_of};
 use crate::patch::Patch;
@@ -18,7 +20,8 @@ use bd_message::MapFault;
 use bd_node::NodeStore;
 use std::alloc::{AllocError, Global};
 
-/// What a kept node has at a key, of any length.
+/// What a kept node has at a key, of any length. Each node on the way is visited once, and there
+/// are at most as many as levels from the first one down.
 pub fn get<S: NodeStore>(
     alloc: Global,
     store: &mut S,
@@ -35,6 +38,10 @@ pub fn get<S: NodeStore>(
     ensures read { S.reads store.old store.new }
     ensures cause { HasMapCause (S.fault_count store.old) (S.fault_count store.new)
         (S.bad store.new) NeverWorn result }
+    ensures visits { OnOk result (AreVisits 1 ((S.table store.old).level root + 1)
+        (S.visit_count store.old) (S.visit_count store.new)) }
+    ensures few_visits { S.visit_count store.new
+        ≤ S.visit_count store.old + ((S.table store.old).level root + 1) }
     ensures same_loans { S.loans store.new ≡ S.loans store.old }
 {
     let mut id = root;
@@ -78,6 +85,7 @@ fn fetched<S: NodeStore>(
     ensures read { S.reads store.old store.new }
     ensures cause { HasMapCause (S.fault_count store.old) (S.fault_count store.new)
         (S.bad store.new) NeverWorn result }
+    ensures visits { S.visit_count store.new ≡ visited (S.visit_count store.old) 1 }
     ensures same_loans { S.loans store.new ≡ S.loans store.old }
 {
     let node = store.fetch(id)?;

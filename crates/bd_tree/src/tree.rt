@@ -1,6 +1,6 @@
 //! The tree.
 
-ghost use Rattle.std.specs.Prelude.{◌≡◌, ℕ, ◌+◌, ◌-◌, List, IfOk, OnOk, OnErr};
+ghost use Rattle.std.specs.Prelude.{◌≡◌, ℕ, ◌+◌, ◌-◌, ◌≤◌, List, IfOk, OnOk, OnErr};
 ghost use Rattle.std.specs.Option.{option_map};
 ghost use Rattle.bd_limits.specs.Limits.{buffer_limit};
 ghost use Rattle.bd_message.specs.KeyMaps.{HasMapCause, NeverWorn, IsApplied};
@@ -8,6 +8,7 @@ ghost use Rattle.bd_node.specs.Meaning.{at};
 ghost use Rattle.bd_node.specs.Tables.{IsKept, IsSound, root_at};
 ghost use Rattle.bd_node.specs.Steps.{grown};
 ghost use Rattle.bd_node.specs.Stores.{FitsRoot};
+ghost use Rattle.bd_query.specs.Visits.{AreVisits};
 
 use bd_limits::MAX_BUFFER;
 use bd_message::{MapFault, Message};
@@ -45,7 +46,7 @@ impl<S: NodeStore> Tree<S> {
         store
     }
 
-    /// What stands at a key, of any length.
+    /// What stands at a key, of any length. At most as many nodes are visited as the tree is high.
     pub fn get(&mut self, key: &[u8]) -> Result<Option<Vec<u8>>, MapFault>
         ensures value { S.is_known self.old → IsSound (S.nodes self.old) (S.table self.old)
             → IfOk result (λ found. option_map (λ value. value.items) found
@@ -56,6 +57,11 @@ impl<S: NodeStore> Tree<S> {
         ensures read { S.reads self.old self.new }
         ensures cause { HasMapCause (S.fault_count self.old) (S.fault_count self.new)
             (S.bad self.new) NeverWorn result }
+        ensures visits { OnOk result (AreVisits 1
+            ((S.table self.old).level (S.table self.old).root + 1) (S.visit_count self.old)
+            (S.visit_count self.new)) }
+        ensures few_visits { S.visit_count self.new ≤ S.visit_count self.old
+            + ((S.table self.old).level (S.table self.old).root + 1) }
         ensures same_loans { S.loans self.new ≡ S.loans self.old }
     {
         let root = self.store.root();
@@ -78,7 +84,7 @@ impl<S: NodeStore> Tree<S> {
     }
 
     /// Changes what stands at the keys by messages, the first one first: they are put after those
-    /// that wait in the root. No other node has anything else, and none is dropped.
+    /// that wait in the root. No other node has anything else, none is dropped, and none is visited.
     pub fn apply(&mut self, list: &[Message]) -> Result<(), MapFault>
         requires { FitsRoot (S.table self.old) list.now }
         ensures applied { S.is_known self.old → IsSound (S.nodes self.old) (S.table self.old)
@@ -97,6 +103,7 @@ impl<S: NodeStore> Tree<S> {
             → OnErr result (S.nodes self.new ≡ S.nodes self.old) }
         ensures cause { HasMapCause (S.fault_count self.old) (S.fault_count self.new)
             (S.bad self.new) NeverWorn result }
+        ensures visits { S.visit_count self.new ≡ S.visit_count self.old }
         ensures same_loans { S.loans self.new ≡ S.loans self.old }
     {
         let list = Messages::from_vec(Vec::from_clones(self.alloc, list)?);

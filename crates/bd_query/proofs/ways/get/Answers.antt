@@ -1,4 +1,4 @@
-use Rattle.std.proofs.Common.{ap, sym, ◌∙◌, subst, refl, arith, List, ℕ, ◌≤◌}
+use Rattle.std.proofs.Common.{ap, sym, ◌∙◌, subst, refl, arith, List, ℕ, ◌≤◌, ◌<◌}
 use Rattle.bd_keys.specs.Keys.{IsKey}
 use Rattle.bd_node.specs.Nodes.{node_at}
 use Rattle.bd_node.specs.Meaning.{Nodes, at}
@@ -7,6 +7,7 @@ use Rattle.bd_query.specs.declared.patch.Patch.{Patch}
 use Rattle.bd_query.specs.declared.part.Base.TheVariants.{Value, Ask}
 use Rattle.bd_query.specs.Looks.{patched}
 use Rattle.bd_query.proofs.Going.{going_on, lower_ask, IsSaid}
+use Rattle.bd_query.proofs.Visited.{no_visit, visits_one_more, visits_last, visits_at_most}
 use Rattle.bd_query.proofs.ways.get.Goals as goal
 
 pub returns-in-Value-clause-value : goal.returns-in-Value-clause-value
@@ -19,6 +20,20 @@ returns-in-Value-clause-value g c = λ known sound.
     ∙ ap (λ (ps : List Patch). patched ps c.in-Value.found) (c.as_slice-in-Value.ensures.value ∙ c.in_ok-append.ensures.items)
     ∙ going_on nodes (g.S.NodeStore.table c.args.store.now) c.loop-patches.id c.loop-patches.asked c.in_ok-part.part (Value c.in-Value.found) c.in_ok-part.part.patches.items c.loop-patches.patches.items
     (at nodes c.args.root c.args.key.now) sound inv.here (subst (λ (k : List ℕ). IsKey k) c.as_slice.ensures c.in_ok-part.ensures.bytes) said refl c.in-Value.is (inv.value known sound)
+
+pub loop-patches-init : goal.loop-patches-init
+loop-patches-init g c = record {
+  table = refl;
+  here = c.requires;
+  known = λ k. k;
+  nodes = λ k. refl;
+  read = g.met.S.NodeStore.reads_none c.args.store.now;
+  later = (omega arith);
+  visits = no_visit (g.S.NodeStore.visit_count c.args.store.now) ((g.S.NodeStore.table c.args.store.now).level c.args.root);
+  loans = refl;
+  value = λ known sound. ap (λ (ps : List Patch). patched ps (at (g.S.NodeStore.nodes c.args.store.now) c.args.root c.in_ok-asked.asked)) c.new-patches.ensures.items
+      ∙ ap (λ (k : List ℕ). at (g.S.NodeStore.nodes c.args.store.now) c.args.root k) c.in_ok-asked.ensures;
+}
 
 pub loop-patches-preserved : goal.loop-patches-preserved
 loop-patches-preserved g c =
@@ -34,6 +49,8 @@ loop-patches-preserved g c =
       read = g.met.S.NodeStore.reads_both c.args.store.now c.loop-patches.store c.fetched.new.store inv.read c.in_ok-part.ensures.read;
       later = (let a : g.S.NodeStore.fault_count c.args.store.now ≤ g.S.NodeStore.fault_count c.loop-patches.store = inv.later in
           let b : g.S.NodeStore.fault_count c.loop-patches.store ≤ g.S.NodeStore.fault_count c.fetched.new.store = c.in_ok-part.ensures.cause.later in omega arith);
+      visits = visits_one_more (g.S.NodeStore.visit_count c.args.store.now) (g.S.NodeStore.visit_count c.loop-patches.store) (g.S.NodeStore.visit_count c.fetched.new.store) ((g.S.NodeStore.table c.args.store.now).level c.args.root) ((g.S.NodeStore.table c.args.store.now).level c.loop-patches.id)
+          inv.visits c.in_ok-part.ensures.visits ((g.S.NodeStore.table c.args.store.now).level c.in-Ask.child) (subst (λ (t : Table). t.level c.in-Ask.child < t.level c.loop-patches.id) inv.table lower.lower);
       loans = c.in_ok-part.ensures.same_loans ∙ inv.loans;
       value = λ known sound.
           let said : IsSaid nodes c.loop-patches.id c.loop-patches.asked c.in_ok-part.part = λ n there below.
@@ -42,3 +59,18 @@ loop-patches-preserved g c =
           ∙ going_on nodes (g.S.NodeStore.table c.args.store.now) c.loop-patches.id c.loop-patches.asked c.in_ok-part.part (Ask c.in-Ask.child c.in-Ask.key) c.in_ok-part.part.patches.items c.loop-patches.patches.items
           (at nodes c.args.root c.args.key.now) sound inv.here (subst (λ (k : List ℕ). IsKey k) c.as_slice.ensures c.in_ok-part.ensures.bytes) said refl c.in-Ask.is (inv.value known sound);
     }
+
+pub returns-in_err-part-clause-few_visits : goal.returns-in_err-part-clause-few_visits
+returns-in_err-part-clause-few_visits g c = visits_at_most (g.S.NodeStore.visit_count c.args.store.now) (g.S.NodeStore.visit_count c.loop-patches.store) (g.S.NodeStore.visit_count c.fetched.new.store) ((g.S.NodeStore.table c.args.store.now).level c.args.root) ((g.S.NodeStore.table c.args.store.now).level c.loop-patches.id) c.loop-patches.invariant.visits c.fetched.ensures.visits
+
+pub returns-in_err-append-clause-few_visits : goal.returns-in_err-append-clause-few_visits
+returns-in_err-append-clause-few_visits g c = visits_at_most (g.S.NodeStore.visit_count c.args.store.now) (g.S.NodeStore.visit_count c.loop-patches.store) (g.S.NodeStore.visit_count c.fetched.new.store) ((g.S.NodeStore.table c.args.store.now).level c.args.root) ((g.S.NodeStore.table c.args.store.now).level c.loop-patches.id) c.loop-patches.invariant.visits c.fetched.ensures.visits
+
+pub returns-in_err-finished-in-Value-clause-few_visits : goal.returns-in_err-finished-in-Value-clause-few_visits
+returns-in_err-finished-in-Value-clause-few_visits g c = visits_at_most (g.S.NodeStore.visit_count c.args.store.now) (g.S.NodeStore.visit_count c.loop-patches.store) (g.S.NodeStore.visit_count c.fetched.new.store) ((g.S.NodeStore.table c.args.store.now).level c.args.root) ((g.S.NodeStore.table c.args.store.now).level c.loop-patches.id) c.loop-patches.invariant.visits c.fetched.ensures.visits
+
+pub returns-in-Value-clause-few_visits : goal.returns-in-Value-clause-few_visits
+returns-in-Value-clause-few_visits g c = visits_at_most (g.S.NodeStore.visit_count c.args.store.now) (g.S.NodeStore.visit_count c.loop-patches.store) (g.S.NodeStore.visit_count c.fetched.new.store) ((g.S.NodeStore.table c.args.store.now).level c.args.root) ((g.S.NodeStore.table c.args.store.now).level c.loop-patches.id) c.loop-patches.invariant.visits c.fetched.ensures.visits
+
+pub returns-in-Value-clause-visits : goal.returns-in-Value-clause-visits
+returns-in-Value-clause-visits g c = visits_last (g.S.NodeStore.visit_count c.args.store.now) (g.S.NodeStore.visit_count c.loop-patches.store) (g.S.NodeStore.visit_count c.fetched.new.store) ((g.S.NodeStore.table c.args.store.now).level c.args.root) ((g.S.NodeStore.table c.args.store.now).level c.loop-patches.id) c.loop-patches.invariant.visits c.fetched.ensures.visits

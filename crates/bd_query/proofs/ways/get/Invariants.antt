@@ -2,6 +2,7 @@ use Rattle.std.proofs.Common.{◌≡◌, ◌≤◌}
 use Rattle.bd_node.specs.Meaning.{at}
 use Rattle.bd_node.specs.Tables.{IsKept, IsSound}
 use Rattle.bd_query.specs.Looks.{patched}
+use Rattle.bd_query.proofs.Visited.{VisitsTo}
 use Rattle.bd_query.proofs.ways.get.Given as goal
 
 abbrev pub invariant-loop-patches : goal.invariant-loop-patches
@@ -12,6 +13,7 @@ invariant-loop-patches g l = record {
   nodes : g.S.NodeStore.is_known l.fn.store → g.S.NodeStore.nodes l.store ≡ g.S.NodeStore.nodes l.fn.store;
   read : g.S.NodeStore.reads l.fn.store l.store;
   later : g.S.NodeStore.fault_count l.fn.store ≤ g.S.NodeStore.fault_count l.store;
+  visits : VisitsTo (g.S.NodeStore.visit_count l.fn.store) (g.S.NodeStore.visit_count l.store) ((g.S.NodeStore.table l.fn.store).level l.fn.root) ((g.S.NodeStore.table l.fn.store).level l.id);
   loans : g.S.NodeStore.loans l.store ≡ g.S.NodeStore.loans l.fn.store;
   value : g.S.NodeStore.is_known l.fn.store → IsSound (g.S.NodeStore.nodes l.fn.store) (g.S.NodeStore.table l.fn.store)
       → patched l.patches.items (at (g.S.NodeStore.nodes l.fn.store) l.id l.asked) ≡ at (g.S.NodeStore.nodes l.fn.store) l.fn.root l.fn.key;
