@@ -1,14 +1,18 @@
 //! The commands of the plain map, the replies to them and the refusals, as types.
-//! The layers above use the fields as they are, and of `writes` its contract.
+//! The layers above use the fields as they are, and the contracts of `writes`, of the log records
+//! and of the laws in `laws`.
 #![tactic(auto)]
 
 ghost use Rattle.std.specs.Prelude.{◌≡◌};
 
+pub mod laws;
+mod log;
 mod refusal;
 mod reply;
 
 use bd_keys::Bytes;
 use bd_names::{Name, Path};
+pub use log::MAX_RECORD;
 pub use refusal::Refusal;
 pub use reply::{Chunk, Listed, Listing, Names, Reply};
 
