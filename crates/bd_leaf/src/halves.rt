@@ -14,7 +14,7 @@ use std::alloc::AllocError;
 /// What an entry counts beside its bytes.
 const BASE_SIZE: usize = 16;
 
-/// Whether entries are few enough for a leaf.
+/// Whether entries count at most 40,960 bytes, as those of a kept leaf do.
 pub fn fits(entries: &[Entry]) -> bool
     requires { AreEntries entries.now }
     ensures { IsTrue result ↔ (entries_size entries.now ≤ leaf_limit) }
@@ -22,8 +22,9 @@ pub fn fits(entries: &[Entry]) -> bool
     total(entries) <= MAX_LEAF
 }
 
-/// The two halves of a leaf of two entries or more, by their bytes. A leaf that a batch of messages
-/// has made too large gives two that aren't; the second one's first key is the pivot.
+/// The two halves of a leaf of two entries or more, by their bytes: entries that a batch of at most
+/// 16,384 bytes has made too many for a leaf give two leaves. The second one's first key is the
+/// pivot. Where there is no memory, the entries are let go.
 pub fn split(entries: Entries) -> Result<(Entries, Entries), AllocError>
     requires entries { AreEntries entries }
     requires two { 2 ≤ length entries }
