@@ -22,7 +22,7 @@ use Rattle.bd_leaf.specs.Places.{AreBelow, AreAbove}
 pub tied : (k l : List ℕ) → key_cmp k l ≡ Equal → k ≡ l
 tied = slice_cmp-IsAntisymmetric nat_cmp-IsAntisymmetric
 
-same_key-refl : (k : List ℕ) → same_key k k ≡ true
+pub same_key-refl : (k : List ℕ) → same_key k k ≡ true
 same_key-refl [] = refl
 same_key-refl (b ∷ k) = rw ((unsigned_Decides b b).1 refl) (same_key-refl k)
 
@@ -32,14 +32,14 @@ not_below_itself k below = (let e : Less ≡ Equal = sym below ∙ tied_itself t
 pub above : (k l : List ℕ) → key_cmp k l ≡ Greater → IsBelow l k
 above k l h = total.antisymm l k ∙ ap ordering_reverse h
 
-apart_below : (k l : List ℕ) → IsBelow k l → same_key k l ≡ false
+pub apart_below : (k l : List ℕ) → IsBelow k l → same_key k l ≡ false
 apart_below k l below =
     elim (cases_Bool (same_key k l)) [
       | inl same ↦ absurd (not_below_itself k (subst (λ (m : List ℕ). IsBelow k m) (sym (same_text k l (sym same))) below))
       | inr other ↦ other
     ]
 
-apart_above : (k l : List ℕ) → IsBelow l k → same_key k l ≡ false
+pub apart_above : (k l : List ℕ) → IsBelow l k → same_key k l ≡ false
 apart_above k l below =
     elim (cases_Bool (same_key k l)) [
       | inl same ↦ absurd (not_below_itself k (subst (λ (m : List ℕ). IsBelow m k) (sym (same_text k l (sym same))) below))
@@ -61,7 +61,7 @@ nothing_at es place k below over =
       | inr high ↦ apart_below k e.key (over i e high there)
     ])
 
-each_at : (P : Entry → Type 0) (es : List Entry) (i : ℕ) (e : Entry) → AllByRecursion P es → slice_get es i ≡ Some e → P e
+pub each_at : (P : Entry → Type 0) (es : List Entry) (i : ℕ) (e : Entry) → AllByRecursion P es → slice_get es i ≡ Some e → P e
 each_at P [] i e h there = absurd (none-some e there)
 each_at P (f ∷ es) zero e h there = subst P (same_Some f e there) h.0
 each_at P (f ∷ es) (suc i) e h there = each_at P es i e h.1 there

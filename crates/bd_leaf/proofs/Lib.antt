@@ -1,1 +1,6 @@
 pub mod Finds
+mod Parts
+mod Cuts
+mod Receives
+mod Splitting
+mod Clips

@@ -1,6 +1,9 @@
-//! Leaves: where a key stands in one, and what it has there.
-//! The layers above use `value_at`, which is what the first entry of the key says.
+//! Leaves: where a key stands in one, what it has there, what messages make of it, and its parts.
+//! The layers above use `value_at`, and what `receive`, `split` and `clip` leave at each key.
 #![tactic(auto)]
+
+mod halves;
+mod receiving;
 
 ghost use Rattle.std.specs.Prelude.{◌≡◌, ◌+◌, ◌-◌, ◌*◌, ◌^◌, ◌<◌, ◌≤◌, length};
 ghost use Rattle.std.specs.Option.{option_copied};
@@ -9,6 +12,8 @@ ghost use Rattle.bd_node.specs.Shape.{IsRising};
 ghost use Rattle.bd_leaf.specs.Places.{IsPlace};
 
 use bd_node::{Entry, Steps};
+pub use halves::{fits, split};
+pub use receiving::{clip, receive};
 use std::cmp::Ordering;
 use std::marker::Brand;
 use std::sync::ledger::{Blank, Ledger};
@@ -38,20 +43,28 @@ pub fn value_at<'a>(entries: &'a [Entry], key: &[u8]) -> Option<&'a [u8]>
     requires { IsRising entries.now }
     ensures { option_copied result ≡ entry_at entries.now key.now }
 {
-    value_with::<Brand>(entries, key, Blank::new(1))
+    match search(entries, key) {
+        Ok(place) => Some(entries[place].value.as_slice()),
+        Err(_place) => None,
+    }
+}
+
+// The place of a key, where nobody asks for the number of comparisons.
+fn search(entries: &[Entry], key: &[u8]) -> Result<usize, usize>
+    requires { IsRising entries.now }
+    ensures { IsPlace entries.now key.now result }
+{
+    search_with::<Brand>(entries, key, Blank::new(1))
 }
 
 // The same, counted in a ledger.
-fn value_with<'a, L: Ledger>(entries: &'a [Entry], key: &[u8], blank: Blank) -> Option<&'a [u8]>
+fn search_with<L: Ledger>(entries: &[Entry], key: &[u8], blank: Blank) -> Result<usize, usize>
     requires rising { IsRising entries.now }
     requires name { blank.name ≡ L.name }
     requires parts { blank.parts ≡ L.parts }
     requires some { 0 < L.parts }
-    ensures { option_copied result ≡ entry_at entries.now key.now }
+    ensures { IsPlace entries.now key.now result }
 {
     let mut steps = Steps::<L>::new(blank);
-    match place(entries, key, &mut steps) {
-        Ok(place) => Some(entries[place].value.as_slice()),
-        Err(_place) => None,
-    }
+    place(entries, key, &mut steps)
 }

@@ -14,6 +14,8 @@ mod io;
 #[cfg(test)]
 mod keys;
 #[cfg(test)]
+mod leaf;
+#[cfg(test)]
 mod message;
 #[cfg(test)]
 mod names;
