@@ -43,7 +43,8 @@ impl NodeCache {
     pub fn get(&mut self, id: u64) -> Option<Rc<Node>>
         ensures found { option_map node_of result ≡ kept_at self.old id }
         ensures own { IsKeptOrGone (kept_at self.old id) (kept_at self.new id) }
-        ensures others { (other : ℕ) → other ≢ id → kept_at self.new other ≡ kept_at self.old other }
+        ensures others { (other : ℕ) → other ≢ id
+            → kept_at self.new other ≡ kept_at self.old other }
         ensures room { room_of self.new ≡ room_of self.old }
     {
         let kept = self.kept.get(&id)?;
@@ -71,7 +72,8 @@ impl NodeCache {
     /// Keeps no node for an id any more. Every other node stays.
     pub fn forget(&mut self, id: u64)
         ensures gone { kept_at self.new id ≡ None }
-        ensures others { (other : ℕ) → other ≢ id → kept_at self.new other ≡ kept_at self.old other }
+        ensures others { (other : ℕ) → other ≢ id
+            → kept_at self.new other ≡ kept_at self.old other }
         ensures room { room_of self.new ≡ room_of self.old }
     {
         self.take(id);
@@ -81,7 +83,8 @@ impl NodeCache {
     fn take(&mut self, id: u64) -> Option<Rc<Node>>
         ensures found { option_map node_of result ≡ kept_at self.old id }
         ensures gone { kept_at self.new id ≡ None }
-        ensures others { (other : ℕ) → other ≢ id → kept_at self.new other ≡ kept_at self.old other }
+        ensures others { (other : ℕ) → other ≢ id
+            → kept_at self.new other ≡ kept_at self.old other }
         ensures room { room_of self.new ≡ room_of self.old }
     {
         if self.kept.len() == 0 {

@@ -64,7 +64,8 @@ encode_inner = encode_both (flat_map edge_bytes) (flat_map message_bytes)
 abbrev pub FitsNode : Node → Type 0
 FitsNode (Leaf entries) = AreOf (length entries) FitsEntry entries × (length entries < 2 ^ 32)
 FitsNode (Inner level edges buffer) =
-    (1 ≤ level) × FitsHead (record { level = level; items = length edges; messages = length buffer })
+    (1 ≤ level)
+    × FitsHead (record { level = level; items = length edges; messages = length buffer })
     × FitsInner (length edges) (length buffer) (edges, buffer)
 
 -- after this head the rest of such a node was read off the front, or the rest of none stands there
