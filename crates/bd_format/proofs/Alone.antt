@@ -145,9 +145,6 @@ no_edge bytes none e rest fits is = none (parts_of e) rest (parts_fit e fits) (i
 
 -- ---- lists
 
-pub entries_alone : (count : ℕ) → IsPrefixFree (AreOf count FitsEntry) (flat_map entry_bytes)
-entries_alone count = IsPrefixFree-lists FitsEntry entry_bytes entry_alone count
-
 pub edges_alone : (count : ℕ) → IsPrefixFree (AreOf count FitsEdge) (flat_map edge_bytes)
 edges_alone count = IsPrefixFree-lists FitsEdge edge_bytes edge_alone count
 

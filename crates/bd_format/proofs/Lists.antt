@@ -24,11 +24,6 @@ module _ {A : Type 0} (P : A → Type 0) where
   pub all_more : (xs : List A) (i : ℕ) (d : A) → i < length xs → P (get_or xs i d) → (AllByRecursion P (drop i xs) → AllByRecursion P xs) → AllByRecursion P (drop (i + 1) xs) → AllByRecursion P xs
   all_more xs i d lt here back rest = back (subst (AllByRecursion P) (sym (drop_more xs i d lt)) (here, rest))
 
-  -- it holds of those of two lists
-  pub all_both : (xs ys : List A) → AllByRecursion P xs → AllByRecursion P ys → AllByRecursion P (xs ++ ys)
-  all_both [] ys h g = g
-  all_both (x ∷ xs) ys h g = (h.0, all_both xs ys h.1 g)
-
 -- ---- encodings one after the other
 
 module _ {A : Type 0} (fits : A → Type 0) (encoding : A → List ℕ) (alone : IsPrefixFree fits encoding) where
