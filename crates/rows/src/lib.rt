@@ -4,11 +4,15 @@
 #![tactic(auto)]
 
 #[cfg(test)]
+mod cache;
+#[cfg(test)]
 mod device;
 #[cfg(test)]
 mod dirs;
 #[cfg(test)]
 mod filedev;
+#[cfg(test)]
+mod format;
 #[cfg(test)]
 mod io;
 #[cfg(test)]

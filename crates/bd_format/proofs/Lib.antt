@@ -1,0 +1,6 @@
+mod Lists
+mod Rising
+mod Lifting
+mod Alone
+mod Fitting
+mod Rest

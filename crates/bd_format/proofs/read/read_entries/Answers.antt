@@ -1,0 +1,13 @@
+use Rattle.std.proofs.Common.{arith, subst}
+use Rattle.bd_message.specs.Codec.{IsPartAs}
+use Rattle.bd_format.specs.Images.{entry_bytes}
+use Rattle.bd_format.specs.Parts.{FitsEntry}
+use Rattle.bd_format.proofs.Alone.{entry_alone}
+use Rattle.bd_format.proofs.Lists.{BeginsNone-lists}
+use Rattle.bd_format.proofs.read.read_entries.Goals as goal
+
+pub returns-in-None : goal.returns-in-None
+returns-in-None c =
+    BeginsNone-lists FitsEntry entry_bytes entry_alone c.args.count c.loop-place.entries.items c.args.cursor.now.left c.loop-place.cursor.left
+    (omega (arith, c.loop-place.invariant.count, c.loop-place-test.true)) c.loop-place.invariant.fit c.loop-place.invariant.read.front
+    (subst (IsPartAs FitsEntry entry_bytes c.loop-place.cursor c.read_entry.new.cursor) c.in-None.is c.in_ok-entry.ensures)
