@@ -2,6 +2,12 @@
 //! The layers above use `edge_of`, which is the edge that the definition finds first to last.
 #![tactic(auto)]
 
+mod compaction;
+mod pending;
+
+pub use compaction::{compact, sweep};
+pub use pending::is_pending;
+
 ghost use Rattle.std.specs.Prelude.{◌≡◌, ◌+◌, ◌-◌, ◌*◌, ◌^◌, ◌<◌, ◌≤◌, length, slice_get};
 ghost use Rattle.bd_node.specs.Nodes.{edge_of};
 ghost use Rattle.bd_node.specs.Shape.{AreRising};

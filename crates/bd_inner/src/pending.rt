@@ -1,0 +1,75 @@
+//! Whether a message is pending for some edge.
+
+ghost use Rattle.std.specs.Prelude.{◌≡◌, ◌↔◌, ◌++◌, List, ℕ, true, IsTrue};
+ghost use Rattle.std.specs.Option.{option_copied};
+ghost use Rattle.bd_keys.specs.Keys.{key_cmp, IsBelowEnd, InRange};
+ghost use Rattle.bd_node.specs.Touching.{touches};
+ghost use Rattle.bd_node.specs.Shape.{AreRising, SomeEdge, IsPending, end_before};
+
+use bd_message::Message;
+use bd_node::{touches, Edge};
+use std::cmp::Ordering;
+
+/// Whether the message at a place of the buffer is pending for some edge: one that hasn't seen it,
+/// and at one of whose keys it can change what stands there.
+pub fn is_pending(place: usize, message: &Message, edges: &[Edge]) -> bool
+    requires { AreRising edges.now }
+    ensures { IsTrue result ↔ SomeEdge (IsPending place message.now) edges.now }
+{
+    let [edge, rest @ ..] = edges else {
+        return false;
+    };
+    let waits = edge.seen as usize <= place
+        && can_touch(message, edge.pivot.as_slice(), end_before(rest));
+    waits || is_pending(place, message, rest)
+}
+
+// Where the keys of the edge before these end.
+fn end_before(edges: &[Edge]) -> Option<&[u8]>
+    ensures { option_copied result ≡ end_before edges.now }
+{
+    match edges {
+        [] => None,
+        [edge, ..] => Some(edge.pivot.as_slice()),
+    }
+}
+
+// Whether a message can change what stands at a key that is at least `lo` and below `hi`. The first
+// such key is `lo`, or else the first one that the message can change at all.
+fn can_touch(message: &Message, lo: &[u8], hi: Option<&[u8]>) -> bool
+    requires { IsBelowEnd lo.now (option_copied hi) }
+    ensures { IsTrue result ↔ ((k : List ℕ) × InRange lo.now (option_copied hi.entry) k
+        × (touches message.now k ≡ true)) }
+{
+    touches(message, lo)
+        || match message {
+            Message::Put { key, .. } => is_within(key.as_slice(), &[], lo, hi),
+            Message::Del { key } => is_within(key.as_slice(), &[], lo, hi),
+            Message::Patch { key, .. } => is_within(key.as_slice(), &[], lo, hi),
+            Message::Cut { prefix, from } => is_within(prefix.as_slice(), from.as_slice(), lo, hi),
+            Message::Goto { prefix, .. } => is_within(prefix.as_slice(), &[], lo, hi),
+        }
+}
+
+// Whether `front` and then `back` is a key that is at least `lo` and below `hi`.
+fn is_within(front: &[u8], back: &[u8], lo: &[u8], hi: Option<&[u8]>) -> bool
+    ensures { IsTrue result ↔ InRange lo.now (option_copied hi.entry) (front.now ++ back.now) }
+{
+    let above = !joined_cmp(front, back, lo).is_lt();
+    above
+        && match hi {
+            Some(hi) => joined_cmp(front, back, hi).is_lt(),
+            None => true,
+        }
+}
+
+// The order of `front` and then `back`, and a key.
+fn joined_cmp(front: &[u8], back: &[u8], key: &[u8]) -> Ordering
+    ensures { result ≡ key_cmp (front.now ++ back.now) key.now }
+{
+    if key.starts_with(front) {
+        back.cmp(&key[front.len()..])
+    } else {
+        front.cmp(key)
+    }
+}
