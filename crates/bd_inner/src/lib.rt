@@ -3,10 +3,13 @@
 #![tactic(auto)]
 
 mod compaction;
+pub mod laws;
 mod pending;
+mod receiving;
 
-pub use compaction::{compact, sweep};
+pub use compaction::compact;
 pub use pending::is_pending;
+pub use receiving::receive;
 
 ghost use Rattle.std.specs.Prelude.{◌≡◌, ◌+◌, ◌-◌, ◌*◌, ◌^◌, ◌<◌, ◌≤◌, length, slice_get};
 ghost use Rattle.bd_node.specs.Nodes.{edge_of};
