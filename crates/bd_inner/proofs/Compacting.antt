@@ -174,7 +174,7 @@ SomeEdge-lowered P mask (e ∷ es) h =
       | inr later ↦ inr (SomeEdge-lowered P mask es later)
     ]
 
-edge_names-lowered : (mask : List Bool) (es : List Edge) → flat_map edge_names (map (lowered mask) es) ≡ flat_map edge_names es
+pub edge_names-lowered : (mask : List Bool) (es : List Edge) → flat_map edge_names (map (lowered mask) es) ≡ flat_map edge_names es
 edge_names-lowered mask es = flat_map-map edge_names (lowered mask) es
 
 -- ---- the shape

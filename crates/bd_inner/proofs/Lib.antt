@@ -2,3 +2,4 @@ pub mod Places
 pub mod Touched
 pub mod Sweeping
 pub mod Compacting
+pub mod Splitting

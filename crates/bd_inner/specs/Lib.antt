@@ -1,1 +1,2 @@
 pub mod Compaction
+pub mod Halves

@@ -3,11 +3,13 @@
 #![tactic(auto)]
 
 mod compaction;
+mod halves;
 pub mod laws;
 mod pending;
 mod receiving;
 
 pub use compaction::compact;
+pub use halves::split;
 pub use pending::is_pending;
 pub use receiving::receive;
 
