@@ -1,2 +1,3 @@
 pub mod Compaction
 pub mod Halves
+pub mod Stripping

@@ -7,11 +7,13 @@ mod halves;
 pub mod laws;
 mod pending;
 mod receiving;
+mod stripping;
 
 pub use compaction::compact;
 pub use halves::split;
 pub use pending::is_pending;
 pub use receiving::receive;
+pub use stripping::strip;
 
 ghost use Rattle.std.specs.Prelude.{◌≡◌, ◌+◌, ◌-◌, ◌*◌, ◌^◌, ◌<◌, ◌≤◌, length, slice_get};
 ghost use Rattle.bd_node.specs.Nodes.{edge_of};
