@@ -3,3 +3,4 @@ pub mod Touched
 pub mod Sweeping
 pub mod Compacting
 pub mod Splitting
+pub mod Stripped

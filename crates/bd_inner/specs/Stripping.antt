@@ -1,8 +1,8 @@
 -- Messages on the keys that begin with a prefix, as messages on what follows it.
-use Rattle.std.specs.Prelude.{ℕ, Bool, if◌then◌else◌, List, [], Option, None, Some}
+use Rattle.std.specs.Prelude.{◌≡◌, ℕ, true, if◌then◌else◌, List, [], Option, None, Some}
 use Rattle.std.specs.Option.{option_map}
 use Rattle.std.specs.Ordering.{is_lt}
-use Rattle.bd_keys.specs.Keys.{key_cmp, Begins}
+use Rattle.bd_keys.specs.Keys.{key_cmp}
 use Rattle.bd_message.specs.declared.message.Message.{Message}
 use Rattle.bd_message.specs.declared.message.Message.TheVariants.{Put, Del, Patch, Cut, Goto}
 use Rattle.bd_message.specs.Effect.{begins, rest}
@@ -32,7 +32,7 @@ stripped s (Goto prefix source child) =
 
 -- a Goto of keys that all begin with the prefix, or another message
 abbrev pub CanStrip : List ℕ → Message → Type 0
-CanStrip s (Goto prefix source child) = Begins prefix s
+CanStrip s (Goto prefix source child) = begins prefix s ≡ true
 CanStrip s (Put key value) = Unit {0}
 CanStrip s (Del key) = Unit {0}
 CanStrip s (Patch key off bytes) = Unit {0}
