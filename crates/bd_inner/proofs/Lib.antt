@@ -4,3 +4,4 @@ pub mod Sweeping
 pub mod Compacting
 pub mod Splitting
 pub mod Stripped
+pub mod Moved

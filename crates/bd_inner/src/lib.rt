@@ -2,6 +2,7 @@
 //! The layers above use `edge_of`, which is the edge that the definition finds first to last.
 #![tactic(auto)]
 
+mod batches;
 mod compaction;
 mod halves;
 pub mod laws;
@@ -9,6 +10,7 @@ mod pending;
 mod receiving;
 mod stripping;
 
+pub use batches::{next_batch, Batch};
 pub use compaction::compact;
 pub use halves::split;
 pub use pending::is_pending;

@@ -34,9 +34,9 @@ fn end_before(edges: &[Edge]) -> Option<&[u8]>
     }
 }
 
-// Whether a message can change what stands at a key that is at least `lo` and below `hi`. The first
-// such key is `lo`, or else the first one that the message can change at all.
-fn can_touch(message: &Message, lo: &[u8], hi: Option<&[u8]>) -> bool
+/// Whether a message can change what stands at a key that is at least `lo` and below `hi`. The first
+/// such key is `lo`, or else the first one that the message can change at all.
+pub fn can_touch(message: &Message, lo: &[u8], hi: Option<&[u8]>) -> bool
     requires { IsBelowEnd lo.now (option_copied hi) }
     ensures { IsTrue result ↔ ((k : List ℕ) × InRange lo.now (option_copied hi.entry) k
         × (touches message.now k ≡ true)) }
