@@ -4,6 +4,7 @@
 
 mod batches;
 mod compaction;
+mod exchanging;
 mod halves;
 pub mod laws;
 mod pending;
@@ -12,6 +13,7 @@ mod stripping;
 
 pub use batches::{next_batch, Batch};
 pub use compaction::compact;
+pub use exchanging::exchange;
 pub use halves::split;
 pub use pending::is_pending;
 pub use receiving::receive;
