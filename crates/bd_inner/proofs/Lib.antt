@@ -5,3 +5,4 @@ pub mod Compacting
 pub mod Splitting
 pub mod Stripped
 pub mod Moved
+pub mod Exchanged

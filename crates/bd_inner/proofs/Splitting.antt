@@ -44,16 +44,16 @@ few_wait level es buffer h = let some : 16 * length buffer ≤ sum_by size buffe
 
 -- ---- edges before and after a place
 
-end_before-front : (xs : List Edge) (f g : Edge) (ys zs : List Edge) → f.pivot ≡ g.pivot → end_before (xs ++ f ∷ ys) ≡ end_before (xs ++ g ∷ zs)
+pub end_before-front : (xs : List Edge) (f g : Edge) (ys zs : List Edge) → f.pivot ≡ g.pivot → end_before (xs ++ f ∷ ys) ≡ end_before (xs ++ g ∷ zs)
 end_before-front [] f g ys zs e = ap (λ (p : List ℕ). Some p) e
 end_before-front (x ∷ xs) f g ys zs e = refl
 
-EachEdge-front : (P : Edge → Option (List ℕ) → Type 0) (xs : List Edge) (f g : Edge) (ys zs : List Edge) → f.pivot ≡ g.pivot → EachEdge P (xs ++ f ∷ ys) → EachEdge P (g ∷ zs) → EachEdge P (xs ++ g ∷ zs)
+pub EachEdge-front : (P : Edge → Option (List ℕ) → Type 0) (xs : List Edge) (f g : Edge) (ys zs : List Edge) → f.pivot ≡ g.pivot → EachEdge P (xs ++ f ∷ ys) → EachEdge P (g ∷ zs) → EachEdge P (xs ++ g ∷ zs)
 EachEdge-front P [] f g ys zs e h more = more
 EachEdge-front P (x ∷ xs) f g ys zs e h more =
     (subst (λ (hi : Option (List ℕ)). P x hi) (end_before-front xs f g ys zs e) h.0, EachEdge-front P xs f g ys zs e h.1 more)
 
-EachEdge-back : (P : Edge → Option (List ℕ) → Type 0) (xs ys : List Edge) → EachEdge P (xs ++ ys) → EachEdge P ys
+pub EachEdge-back : (P : Edge → Option (List ℕ) → Type 0) (xs ys : List Edge) → EachEdge P (xs ++ ys) → EachEdge P ys
 EachEdge-back P [] ys h = h
 EachEdge-back P (x ∷ xs) ys h = EachEdge-back P xs ys h.1
 
@@ -66,7 +66,7 @@ SomeEdge-parted P (x ∷ xs) f g ys zs e h =
     ]
 
 -- the edge of a key below a later pivot
-edge_from-front : (e : Edge) (xs : List Edge) (f g : Edge) (ys zs : List Edge) (k : List ℕ) → f.pivot ≡ g.pivot → IsBelow k f.pivot → edge_from e (xs ++ f ∷ ys) k ≡ edge_from e (xs ++ g ∷ zs) k
+pub edge_from-front : (e : Edge) (xs : List Edge) (f g : Edge) (ys zs : List Edge) (k : List ℕ) → f.pivot ≡ g.pivot → IsBelow k f.pivot → edge_from e (xs ++ f ∷ ys) k ≡ edge_from e (xs ++ g ∷ zs) k
 edge_from-front e [] f g ys zs k same below =
     cond-true (is_lt (key_cmp k f.pivot)) e (edge_from f ys k) (less_lt (key_cmp k f.pivot) below)
     ∙ sym (cond-true (is_lt (key_cmp k g.pivot)) e (edge_from g zs k) (less_lt (key_cmp k g.pivot) (subst (λ (p : List ℕ). IsBelow k p) same below)))
@@ -74,18 +74,18 @@ edge_from-front e (x ∷ xs) f g ys zs k same below =
     ap (λ (d : Edge). cond (is_lt (key_cmp k x.pivot)) e d) (edge_from-front x xs f g ys zs k same below)
 
 -- a pivot is below each later one
-first_below : (x : Edge) (xs : List Edge) (f : Edge) (ys : List Edge) → EachEdge IsRisingEdge (x ∷ (xs ++ f ∷ ys)) → IsBelow x.pivot f.pivot
+pub first_below : (x : Edge) (xs : List Edge) (f : Edge) (ys : List Edge) → EachEdge IsRisingEdge (x ∷ (xs ++ f ∷ ys)) → IsBelow x.pivot f.pivot
 first_below x [] f ys h = h.0
 first_below x (y ∷ xs) f ys h = total.trans x.pivot y.pivot f.pivot h.0 (first_below y xs f ys h.1)
 
 -- the edge of a key from a pivot on
-edge_from-back : (e : Edge) (xs : List Edge) (f : Edge) (ys : List Edge) (k : List ℕ) → EachEdge IsRisingEdge (e ∷ (xs ++ f ∷ ys)) → IsAtLeast k f.pivot → edge_from e (xs ++ f ∷ ys) k ≡ edge_from f ys k
+pub edge_from-back : (e : Edge) (xs : List Edge) (f : Edge) (ys : List Edge) (k : List ℕ) → EachEdge IsRisingEdge (e ∷ (xs ++ f ∷ ys)) → IsAtLeast k f.pivot → edge_from e (xs ++ f ∷ ys) k ≡ edge_from f ys k
 edge_from-back e [] f ys k h least = cond-false (is_lt (key_cmp k f.pivot)) e (edge_from f ys k) (not_less_lt (key_cmp k f.pivot) least)
 edge_from-back e (x ∷ xs) f ys k h least =
     cond-false (is_lt (key_cmp k x.pivot)) e (edge_from x (xs ++ f ∷ ys) k) (not_less_lt (key_cmp k x.pivot) (least_over k x.pivot f.pivot least (first_below x xs f ys h.1)))
     ∙ edge_from-back x xs f ys k h.1 least
 
-edge_of-front : (xs : List Edge) (f g : Edge) (ys zs : List Edge) (k : List ℕ) → 1 ≤ length xs → f.pivot ≡ g.pivot → IsBelow k f.pivot → edge_of (xs ++ f ∷ ys) k ≡ edge_of (xs ++ g ∷ zs) k
+pub edge_of-front : (xs : List Edge) (f g : Edge) (ys zs : List Edge) (k : List ℕ) → 1 ≤ length xs → f.pivot ≡ g.pivot → IsBelow k f.pivot → edge_of (xs ++ f ∷ ys) k ≡ edge_of (xs ++ g ∷ zs) k
 edge_of-front [] f g ys zs k some same below = absurd (omega arith)
 edge_of-front (x ∷ xs) f g ys zs k some same below = ap (λ (d : Edge). Some d) (edge_from-front x xs f g ys zs k same below)
 
@@ -122,7 +122,7 @@ lower_edges xs f buffer = xs ++ bare_edge f.pivot (length buffer) ∷ []
 abbrev upper_edges : Edge → List Edge → List Message → List Edge
 upper_edges f ys buffer = bare_edge [] (length buffer) ∷ f ∷ ys
 
-rising : (n : ℕ) (es : List Edge) → EachEdge (IsEdge n) es → EachEdge IsRisingEdge es
+pub rising : (n : ℕ) (es : List Edge) → EachEdge (IsEdge n) es → EachEdge IsRisingEdge es
 rising n es h = EachEdge-weaker (IsEdge n) IsRisingEdge (λ e hi own. own.rising) es h
 
 pub loose_lower : (level : ℕ) (xs : List Edge) (f : Edge) (ys : List Edge) (buffer : List Message) → IsInner level (xs ++ f ∷ ys) buffer → IsLoose level (lower_edges xs f buffer) buffer

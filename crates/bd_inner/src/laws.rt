@@ -1,16 +1,22 @@
 //! What follows from the definitions of compacted nodes and of messages that go down. Each function
 //! here carries laws, and does nothing.
 
-ghost use Rattle.std.specs.Prelude.{◌≡◌, ℕ, ◌≤◌, List, ◌++◌, Option, IfSome};
+ghost use Rattle.std.specs.Prelude.{◌≡◌, ℕ, ◌+◌, ◌≤◌, List, [], ◌∷◌, ◌++◌, take, drop, Option, IfSome};
+ghost use Rattle.std.specs.List.{AllByRecursion};
+ghost use Rattle.bd_keys.specs.Keys.{IsKey};
 ghost use Rattle.std.specs.Option.{option_to_list};
 ghost use Rattle.bd_message.specs.declared.message.Message.{Message};
 ghost use Rattle.bd_message.specs.Messages.{IsMessage, size};
 ghost use Rattle.bd_message.specs.Effect.{NodesAt, act, acts};
+ghost use Rattle.bd_node.specs.declared.node.Edge.{Edge};
 ghost use Rattle.bd_node.specs.declared.node.Node.{Node};
-ghost use Rattle.bd_node.specs.Nodes.{level_of, buffer_size, message_names, times, node_at};
+ghost use Rattle.bd_node.specs.Nodes.{level_of, buffer_size, message_names, names, times, edge_of, child_at, edge_at, through, node_at};
 ghost use Rattle.bd_node.specs.Shape.{IsShape};
 ghost use Rattle.bd_inner.specs.Compaction.{IsLooseNode, IsCompacted};
+ghost use Rattle.bd_inner.specs.Halves.{buffer_of};
 ghost use Rattle.bd_inner.specs.Stripping.{CanStrip, stripped};
+ghost use Rattle.bd_inner.specs.Moving.{IsMoved};
+ghost use Rattle.bd_inner.specs.Exchange.{exchanged, end_at, IsKeyOf, IsEdgeAt, FitsAt};
 
 /// A compacted node is well-formed, of the same level, has what it had, is no larger, and names
 /// each node no more often.
@@ -35,4 +41,40 @@ pub fn stripped_messages()
     ensures size { (s : List ℕ) (m : Message) → IfSome (stripped s m) (λ n. size n ≤ size m) }
     ensures names { (s : List ℕ) (m : Message)
         → IfSome (stripped s m) (λ n. message_names n ≡ message_names m) }
+{}
+
+/// Edges with the keys of one can stand in its place: they are asked at its keys, and at the others
+/// a node has what it had, also without them.
+pub fn exchanged_edges()
+    ensures loose { (n : Node) (place : ℕ) (e : Edge) (list : List Edge) → IsShape n
+        → FitsAt n place e list → IsLooseNode (exchanged n place list) }
+    ensures before { (below : NodesAt) (n : Node) (place : ℕ) (e : Edge) → IsShape n
+        → IsEdgeAt n place e → (k : List ℕ) → IsKeyOf n place e k
+        → node_at below n k ≡ edge_at below e (buffer_of n) k }
+    ensures inside { (below : NodesAt) (n : Node) (place : ℕ) (e : Edge) (list : List Edge)
+        → IsShape n → FitsAt n place e list → (k : List ℕ) → IsKeyOf n place e k
+        → node_at below (exchanged n place list) k
+            ≡ through below (edge_of list k) (buffer_of n) k }
+    ensures outside { (below : NodesAt) (n : Node) (place : ℕ) (e : Edge) (list : List Edge)
+        → IsShape n → FitsAt n place e list → (k : List ℕ) → ¬ IsKeyOf n place e k
+        → node_at below (exchanged n place list) k ≡ node_at below n k }
+    ensures without { (below : NodesAt) (n : Node) (place : ℕ) (e : Edge) → IsShape n
+        → IsEdgeAt n place e → (k : List ℕ) → ¬ IsKeyOf n place e k
+        → node_at below (exchanged n place []) k ≡ node_at below n k }
+{}
+
+/// A push keeps what the node has: its edge has then seen the messages that its child has got, or
+/// it has a new child with them; and what else the node names has what it had.
+pub fn pushes_keep_the_meaning()
+    ensures { (below has : NodesAt) (n : Node) (place : ℕ) (e f : Edge) (count : ℕ)
+        (moved : List Message) → IsShape n → FitsAt n place e (f ∷ [])
+        → f.seen ≡ e.seen + count
+        → IsMoved f (end_at n place) (take count (drop e.seen (buffer_of n))) moved
+        → ((k : List ℕ) → IsKey k → IsKeyOf n place e k
+            → child_at has f.child (f.source ++ drop f.lift k)
+            ≡ acts has moved (drop f.lift k)
+                (child_at below e.child (e.source ++ drop e.lift k)))
+        → AllByRecursion (λ c. (l : List ℕ) → has c l ≡ below c l) (names (exchanged n place []))
+        → (k : List ℕ) → IsKey k
+        → node_at has (exchanged n place (f ∷ [])) k ≡ node_at below n k }
 {}
