@@ -1,6 +1,6 @@
 -- Edges in place of one, and a push.
 use Rattle.std.proofs.Common.{◌≡◌, ℕ, zero, suc, ◌+◌, ◌-◌, ◌<◌, ◌≤◌, true, false, cond, List, [], ◌∷◌, ◌++◌, length, take, drop, refl, sym, ap, subst, ◌∙◌, Option, None, Some, inl, inr, ◌⊎◌, arith, get_or, length-append, length-take, length-drop}
-use Rattle.std.specs.Prelude.{slice_get}
+use Rattle.std.specs.Prelude.{slice_get, Result, Ok, Err, IfOk}
 use Rattle.std.specs.List.{AllByRecursion, flat_map, sum_by}
 use Rattle.std.specs.Ordering.{is_lt}
 use Rattle.std.proofs.lemmas.Bool.{cond-true, cond-false, cases_Bool}
@@ -20,10 +20,12 @@ use Rattle.bd_node.specs.Shape.{end_before, EachEdge, SomeEdge, IsEdge, IsInner,
 use Rattle.bd_node.proofs.Lookup.{each_second, each_dropped, acts-same, node_at-same}
 use Rattle.bd_node.proofs.Edges.{IsRisingEdge, EachEdge-weaker, least_over, lt_is, lt_isnt, less_lt, not_less_lt, edge_of-only}
 use Rattle.bd_node.proofs.Appending.{acts-append}
-use Rattle.bd_inner.specs.Compaction.{IsLoose, IsLooseNode}
+use Rattle.bd_inner.specs.Compaction.{IsLoose, IsLooseNode, IsSwept}
 use Rattle.bd_inner.specs.Halves.{edges_of, buffer_of}
 use Rattle.bd_inner.specs.Exchange.{exchanged, end_at, IsKeyOf, end_within, EachEdgeTo, IsEdgeAt, FitsAt}
 use Rattle.bd_inner.specs.Moving.{IsMoved}
+use Rattle.bd_inner.proofs.Places.{edge_within}
+use Rattle.bd_inner.proofs.Compacting.{compacted_shape}
 use Rattle.bd_inner.proofs.Splitting.{first_below, edge_from-back, edge_from-front, edge_of-front, EachEdge-front, EachEdge-back, end_before-front, rising, IsParted, parted}
 
 -- ---- the shape
@@ -263,3 +265,21 @@ pushed below has (Inner level es buffer) place e f count moved h fits seen m chi
           ∙ node_at-same has below (exchanged n place []) k others
           ∙ meaning_without below n place e h fits.here k out
     ]
+
+-- ---- of a node's parts
+
+pub parts_loose : (n : Node) (level : ℕ) (es own : List Edge) (buffer messages : List Message) (place : ℕ) (list made : List Edge) → n ≡ Inner level es buffer → IsShape n → place < length (edges_of n) → ((e : Edge) → IsEdgeAt n place e → FitsAt n place e list)
+    → own ≡ es → messages ≡ buffer → made ≡ take place own ++ (list ++ drop (place + 1) own) → IsLoose level made messages
+parts_loose n level es own buffer messages place list made is h low fits own_is messages_is made_is =
+    let inner : Node = Inner level es buffer in
+    let shape : IsShape inner = subst (λ (m : Node). IsShape m) is h in
+    let low_es : place < length es = subst (λ (m : Node). place < length (edges_of m)) is low in
+    let found : (e : Edge) × (slice_get es place ≡ Some e) = edge_within es place low_es in
+    let there : FitsAt inner place found.0 list = subst (λ (m : Node). FitsAt m place found.0 list) is (fits found.0 (subst (λ (m : Node). IsEdgeAt m place found.0) (sym is) found.1)) in
+    subst (λ (l : List Message). IsLoose level made l) (sym messages_is)
+    (subst (λ (l : List Edge). IsLoose level l buffer) (sym (made_is ∙ ap (λ (l : List Edge). take place l ++ (list ++ drop (place + 1) l)) own_is))
+    (exchanged_shape inner place found.0 list shape there))
+
+pub swept_shape : {E : Type 0} (level : ℕ) (es : List Edge) (buffer : List Message) (r : Result Node E) → IsLoose level es buffer → IfOk r (λ m. IsSwept level es buffer m) → IfOk r IsShape
+swept_shape level es buffer (Ok m) h s = compacted_shape (Inner level es buffer) m h s
+swept_shape level es buffer (Err e) h s = tt

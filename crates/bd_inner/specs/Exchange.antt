@@ -42,3 +42,8 @@ pub record FitsAt (n : Node) (place : ℕ) (e : Edge) (list : List Edge) : Type 
   pub few : length (edges_of n) + length list ≤ edge_limit + 1
   pub first : end_before list ≡ Some e.pivot
   pub each : EachEdgeTo (IsEdge (length (buffer_of n))) (end_at n place) list
+
+-- an edge's way to another child, with nothing in front of what is left of a key
+abbrev pub way_to : Edge → ℕ → ℕ → Edge
+way_to e lift child =
+    record { pivot = e.pivot; lift = lift; source = []; child = Some child; seen = e.seen }

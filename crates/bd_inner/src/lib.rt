@@ -13,7 +13,7 @@ mod stripping;
 
 pub use batches::{next_batch, Batch};
 pub use compaction::compact;
-pub use exchanging::exchange;
+pub use exchanging::{edge_to, end_of, exchange};
 pub use halves::split;
 pub use pending::is_pending;
 pub use receiving::receive;

@@ -24,8 +24,8 @@ pub fn is_pending(place: usize, message: &Message, edges: &[Edge]) -> bool
     waits || is_pending(place, message, rest)
 }
 
-// Where the keys of the edge before these end.
-fn end_before(edges: &[Edge]) -> Option<&[u8]>
+/// Where the keys of the edge before these end.
+pub fn end_before(edges: &[Edge]) -> Option<&[u8]>
     ensures { option_copied result ≡ end_before edges.now }
 {
     match edges {
