@@ -144,7 +144,7 @@ edge_of-outside xs e g gs ys k same h h' first out =
 -- ---- of a node
 
 -- the edges of a node before one and after it
-at_place : (es : List Edge) (place : ℕ) (e : Edge) → slice_get es place ≡ Some e → IsParted es place e (take place es) (drop (place + 1) es)
+pub at_place : (es : List Edge) (place : ℕ) (e : Edge) → slice_get es place ≡ Some e → IsParted es place e (take place es) (drop (place + 1) es)
 at_place es place e here = parted es place e (slice_get_within es place e here) (sym (get_or_from_slice_get es place e e here))
 
 first_of_list : (list : List Edge) (p : List ℕ) → end_before list ≡ Some p → (g : Edge) × (gs : List Edge) × (list ≡ g ∷ gs) × (p ≡ g.pivot)

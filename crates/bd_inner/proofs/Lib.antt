@@ -6,3 +6,4 @@ pub mod Splitting
 pub mod Stripped
 pub mod Moved
 pub mod Exchanged
+pub mod Fitting

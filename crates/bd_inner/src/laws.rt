@@ -1,9 +1,10 @@
 //! What follows from the definitions of compacted nodes and of messages that go down. Each function
 //! here carries laws, and does nothing.
 
-ghost use Rattle.std.specs.Prelude.{◌≡◌, ℕ, ◌+◌, ◌≤◌, List, [], ◌∷◌, ◌++◌, take, drop, Option, IfSome};
-ghost use Rattle.std.specs.List.{AllByRecursion};
-ghost use Rattle.bd_keys.specs.Keys.{IsKey};
+ghost use Rattle.std.specs.Prelude.{◌≡◌, ℕ, ◌+◌, ◌^◌, ◌<◌, ◌≤◌, List, [], ◌∷◌, ◌++◌, length, take, drop, Option, Some, IfSome};
+ghost use Rattle.std.specs.List.{AllByRecursion, sum_by};
+ghost use Rattle.bd_limits.specs.Limits.{buffer_limit, level_limit, edge_limit};
+ghost use Rattle.bd_keys.specs.Keys.{IsKey, IsLift};
 ghost use Rattle.std.specs.Option.{option_to_list};
 ghost use Rattle.bd_message.specs.declared.message.Message.{Message};
 ghost use Rattle.bd_message.specs.Messages.{IsMessage, size};
@@ -11,12 +12,12 @@ ghost use Rattle.bd_message.specs.Effect.{NodesAt, act, acts};
 ghost use Rattle.bd_node.specs.declared.node.Edge.{Edge};
 ghost use Rattle.bd_node.specs.declared.node.Node.{Node};
 ghost use Rattle.bd_node.specs.Nodes.{level_of, buffer_size, message_names, names, times, edge_of, child_at, edge_at, through, node_at};
-ghost use Rattle.bd_node.specs.Shape.{IsShape};
-ghost use Rattle.bd_inner.specs.Compaction.{IsLooseNode, IsCompacted};
+ghost use Rattle.bd_node.specs.Shape.{end_before, AreRising, IsInner, IsShape};
+ghost use Rattle.bd_inner.specs.Compaction.{IsFlat, IsLoose, IsLooseNode, IsCompacted};
 ghost use Rattle.bd_inner.specs.Halves.{buffer_of};
 ghost use Rattle.bd_inner.specs.Stripping.{CanStrip, stripped};
-ghost use Rattle.bd_inner.specs.Moving.{IsMoved};
-ghost use Rattle.bd_inner.specs.Exchange.{exchanged, end_at, IsKeyOf, IsEdgeAt, FitsAt};
+ghost use Rattle.bd_inner.specs.Moving.{IsLifted, IsMoved};
+ghost use Rattle.bd_inner.specs.Exchange.{exchanged, end_at, IsKeyOf, IsEdgeAt, FitsAt, way_to};
 
 /// A compacted node is well-formed, of the same level, has what it had, is no larger, and names
 /// each node no more often.
@@ -77,4 +78,33 @@ pub fn pushes_keep_the_meaning()
         → AllByRecursion (λ c. (l : List ℕ) → has c l ≡ below c l) (names (exchanged n place []))
         → (k : List ℕ) → IsKey k
         → node_at has (exchanged n place (f ∷ [])) k ≡ node_at below n k }
+{}
+
+/// A node's edge can have seen more messages, or lead to a new child that gets the keys without all
+/// bytes that they have in common; messages can go down either.
+pub fn edges_fit()
+    ensures lifted { (n : Node) (place : ℕ) (e : Edge) → IsShape n → IsEdgeAt n place e
+        → IsLifted e (end_at n place) }
+    ensures seen { (n : Node) (place : ℕ) (e : Edge) (seen : ℕ) → IsShape n → IsEdgeAt n place e
+        → seen ≤ length (buffer_of n) → FitsAt n place e (record e { seen = seen } ∷ []) }
+    ensures new_lifted { (n : Node) (place : ℕ) (e : Edge) (lift child : ℕ) → IsShape n
+        → IsEdgeAt n place e → IsLift e.pivot (end_at n place) lift
+        → IsLifted (way_to e lift child) (end_at n place) }
+    ensures new_child { (n : Node) (place : ℕ) (e : Edge) (lift child seen : ℕ) → IsShape n
+        → IsEdgeAt n place e → IsLift e.pivot (end_at n place) lift → 1 ≤ child → child < 2 ^ 64
+        → seen ≤ length (buffer_of n)
+        → FitsAt n place e (record (way_to e lift child) { seen = seen } ∷ []) }
+{}
+
+/// Edges that leave nothing out and put nothing in front, with rising pivots from the empty key on,
+/// are those of a node, and without messages of a well-formed one.
+pub fn flat_edges()
+    ensures loose { (level : ℕ) (edges : List Edge) (buffer : List Message) → 1 ≤ level
+        → level ≤ level_limit → length edges ≤ edge_limit → end_before edges ≡ Some []
+        → AreRising edges → AllByRecursion (IsFlat (length buffer)) edges
+        → AllByRecursion IsMessage buffer → sum_by size buffer ≤ buffer_limit
+        → IsLoose level edges buffer }
+    ensures shape { (level : ℕ) (edges : List Edge) → 1 ≤ level → level ≤ level_limit
+        → length edges ≤ edge_limit → end_before edges ≡ Some [] → AreRising edges
+        → AllByRecursion (IsFlat 0) edges → IsInner level edges [] }
 {}
