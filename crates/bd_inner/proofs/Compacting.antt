@@ -1,5 +1,5 @@
 -- Compacted nodes: well-formed, and they have what they had.
-use Rattle.std.proofs.Common.{◌≡◌, ℕ, zero, suc, ◌+◌, ◌<◌, ◌≤◌, Bool, true, false, cond, List, [], ◌∷◌, ◌++◌, length, take, drop, map, count_by, refl, sym, ap, subst, ◌∙◌, Option, None, Some, arith, inl, inr}
+use Rattle.std.proofs.Common.{◌≡◌, ℕ, zero, suc, ◌+◌, ◌≤◌, Bool, true, false, cond, List, [], ◌∷◌, ◌++◌, length, take, drop, map, count_by, refl, sym, ap, subst, ◌∙◌, Option, Some, arith, inl, inr}
 use Rattle.std.specs.Prelude.{slice_get, ◌==◌, count_by}
 use Rattle.std.specs.List.{AllByRecursion, flat_map, sum_by}
 use Rattle.std.specs.Ordering.{is_lt}
@@ -17,12 +17,12 @@ use Rattle.bd_node.specs.declared.node.Edge.{Edge}
 use Rattle.bd_node.specs.declared.node.Node.{Node}
 use Rattle.bd_node.specs.declared.node.Node.TheVariants.{Leaf, Inner}
 use Rattle.bd_node.specs.Touching.{touches}
-use Rattle.bd_node.specs.Nodes.{level_of, buffer_size, message_names, edge_names, names, times, edge_from, edge_of, child_at, edge_at, through, node_at}
+use Rattle.bd_node.specs.Nodes.{level_of, buffer_size, message_names, edge_names, times, edge_from, edge_of, child_at, through, node_at}
 use Rattle.bd_node.specs.Shape.{end_before, EachEdge, SomeEdge, IsEdge, IsPending, IsInner, IsShape}
 use Rattle.bd_node.proofs.LawLemmas.{untouched}
 use Rattle.bd_node.proofs.Edges.{EachEdge-weaker, SomeEdge-weaker, some_edge}
 use Rattle.bd_node.proofs.Appending.{some_has}
-use Rattle.bd_inner.specs.Compaction.{IsLoose, IsLooseNode, IsMask, staying, lowered, IsSwept, IsCompacted}
+use Rattle.bd_inner.specs.Compaction.{IsLoose, IsLooseNode, IsMask, staying, lowered, IsCompacted}
 
 -- ---- how many messages stay
 
@@ -194,10 +194,12 @@ still_pending : (mask : List Bool) (es : List Edge) (buffer : List Message) (j :
 still_pending mask es buffer j m pending stood =
     SomeEdge-lowered (IsPending j m) mask es
     (SomeEdge-weaker (IsPending stood.place m) (λ (e : Edge) hi. IsPending j m (lowered mask e) hi)
-    (λ e hi waits.
-    (let less : stay_count mask e.seen ≤ stay_count mask stood.place = stay_count-le mask e.seen stood.place waits.0 in
-    let now : stay_count mask stood.place ≡ j = stood.now in
-    omega arith, waits.1))
+    (λ e hi waits. (
+      let less : stay_count mask e.seen ≤ stay_count mask stood.place = stay_count-le mask e.seen stood.place waits.0 in
+          let now : stay_count mask stood.place ≡ j = stood.now in
+          omega arith,
+      waits.1,
+    ))
     es ((pending.each stood.place m stood.there).0 stood.stays))
 
 inner_swept : (level : ℕ) (es : List Edge) (buffer : List Message) (mask : List Bool) → IsLoose level es buffer → IsMask mask es buffer → IsInner level (map (lowered mask) es) (staying mask buffer)

@@ -1,9 +1,9 @@
 -- Edges in place of one, and a push.
-use Rattle.std.proofs.Common.{◌≡◌, ℕ, zero, suc, ◌+◌, ◌-◌, ◌<◌, ◌≤◌, true, false, cond, List, [], ◌∷◌, ◌++◌, length, take, drop, refl, sym, ap, subst, ◌∙◌, Option, None, Some, inl, inr, ◌⊎◌, arith, get_or, length-append, length-take, length-drop}
+use Rattle.std.proofs.Common.{◌≡◌, ℕ, ◌+◌, ◌<◌, ◌≤◌, cond, List, [], ◌∷◌, ◌++◌, length, take, drop, refl, sym, ap, subst, ◌∙◌, Option, None, Some, inl, inr, ◌⊎◌, arith, length-append, length-take, length-drop}
 use Rattle.std.specs.Prelude.{slice_get, Result, Ok, Err, IfOk}
-use Rattle.std.specs.List.{AllByRecursion, flat_map, sum_by}
+use Rattle.std.specs.List.{AllByRecursion, flat_map}
 use Rattle.std.specs.Ordering.{is_lt}
-use Rattle.std.proofs.lemmas.Bool.{cond-true, cond-false, cases_Bool}
+use Rattle.std.proofs.lemmas.Bool.{cond-true, cases_Bool}
 use Rattle.std.proofs.lemmas.Cmp.{nat_list_cmp_total as total}
 use Rattle.std.proofs.lemmas.List.{take-append-drop, drop-drop}
 use Rattle.std.proofs.lemmas.Option.{same_Some, none-some, slice_get_within, get_or_from_slice_get}
@@ -16,9 +16,9 @@ use Rattle.bd_node.specs.declared.node.Edge.{Edge}
 use Rattle.bd_node.specs.declared.node.Node.{Node}
 use Rattle.bd_node.specs.declared.node.Node.TheVariants.{Leaf, Inner}
 use Rattle.bd_node.specs.Nodes.{message_names, edge_names, names, edge_from, edge_of, child_at, edge_at, through, node_at}
-use Rattle.bd_node.specs.Shape.{end_before, EachEdge, SomeEdge, IsEdge, IsInner, IsShape}
+use Rattle.bd_node.specs.Shape.{end_before, EachEdge, IsEdge, IsInner, IsShape}
 use Rattle.bd_node.proofs.Lookup.{each_second, each_dropped, acts-same, node_at-same}
-use Rattle.bd_node.proofs.Edges.{IsRisingEdge, EachEdge-weaker, least_over, lt_is, lt_isnt, less_lt, not_less_lt, edge_of-only}
+use Rattle.bd_node.proofs.Edges.{IsRisingEdge, least_over, lt_is, lt_isnt, less_lt}
 use Rattle.bd_node.proofs.Appending.{acts-append}
 use Rattle.bd_inner.specs.Compaction.{IsLoose, IsLooseNode, IsSwept}
 use Rattle.bd_inner.specs.Halves.{edges_of, buffer_of}
@@ -26,7 +26,7 @@ use Rattle.bd_inner.specs.Exchange.{exchanged, end_at, IsKeyOf, end_within, Each
 use Rattle.bd_inner.specs.Moving.{IsMoved}
 use Rattle.bd_inner.proofs.Places.{edge_within}
 use Rattle.bd_inner.proofs.Compacting.{compacted_shape}
-use Rattle.bd_inner.proofs.Splitting.{first_below, edge_from-back, edge_from-front, edge_of-front, EachEdge-front, EachEdge-back, end_before-front, rising, IsParted, parted}
+use Rattle.bd_inner.proofs.Splitting.{first_below, edge_from-back, edge_of-front, EachEdge-front, EachEdge-back, end_before-front, rising, IsParted, parted}
 
 -- ---- the shape
 

@@ -1,8 +1,7 @@
 -- Edges that can stand in place of one, and edges without lifts.
-use Rattle.std.proofs.Common.{◌≡◌, ℕ, ◌+◌, ◌^◌, ◌<◌, ◌≤◌, List, [], ◌∷◌, ◌++◌, length, take, drop, refl, sym, ap, subst, ◌∙◌, Option, None, Some, arith}
-use Rattle.std.specs.Prelude.{slice_get}
+use Rattle.std.proofs.Common.{◌≡◌, ℕ, ◌+◌, ◌^◌, ◌<◌, ◌≤◌, List, [], ◌∷◌, length, take, drop, refl, sym, ap, subst, Option, Some, arith}
 use Rattle.std.specs.List.{AllByRecursion, sum_by}
-use Rattle.std.proofs.lemmas.Option.{none-some, slice_get_within}
+use Rattle.std.proofs.lemmas.Option.{none-some}
 use Rattle.bd_keys.specs.Keys.{IsBelowEnd, IsCommon, IsLift}
 use Rattle.bd_limits.specs.Limits.{key_limit, buffer_limit, level_limit, edge_limit}
 use Rattle.bd_message.specs.declared.message.Message.{Message}
@@ -13,7 +12,7 @@ use Rattle.bd_node.specs.declared.node.Node.TheVariants.{Leaf, Inner}
 use Rattle.bd_node.specs.Shape.{end_before, EachEdge, AreRising, IsChild, IsEdge, IsInner, IsShape}
 use Rattle.bd_inner.specs.Compaction.{IsFlat, IsLoose}
 use Rattle.bd_inner.specs.Halves.{edges_of, buffer_of}
-use Rattle.bd_inner.specs.Moving.{lifted, IsLifted}
+use Rattle.bd_inner.specs.Moving.{IsLifted}
 use Rattle.bd_inner.specs.Exchange.{end_at, IsEdgeAt, FitsAt, way_to}
 use Rattle.bd_inner.proofs.Splitting.{EachEdge-back}
 use Rattle.bd_inner.proofs.Exchanged.{at_place}

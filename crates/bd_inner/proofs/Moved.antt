@@ -1,22 +1,22 @@
 -- Messages on the keys of a child.
-use Rattle.std.proofs.Common.{◌≡◌, ℕ, zero, suc, ◌+◌, ◌-◌, ◌<◌, ◌≤◌, true, List, [], ◌∷◌, ◌++◌, length, take, drop, refl, sym, ap, subst, ◌∙◌, Option, None, Some, arith, Result, Ok, Err, get_or, length-take-le}
-use Rattle.std.specs.Prelude.{IfOk, IfSome, slice_get}
+use Rattle.std.proofs.Common.{◌≡◌, ℕ, zero, suc, ◌+◌, ◌<◌, ◌≤◌, List, [], ◌∷◌, ◌++◌, length, take, drop, refl, sym, ap, subst, ◌∙◌, Option, None, Some, arith, Result, Ok, Err, get_or, length-take-le}
+use Rattle.std.specs.Prelude.{IfOk, IfSome}
 use Rattle.std.proofs.lemmas.Option.{slice_get_within}
 use Rattle.bd_limits.specs.Limits.{batch_limit}
 use Rattle.std.specs.Option.{option_to_list}
 use Rattle.std.specs.List.{AllByRecursion, flat_map, sum_by}
-use Rattle.std.proofs.lemmas.List.{append-nil, take_more, take-append-drop}
+use Rattle.std.proofs.lemmas.List.{take_more, take-append-drop}
 use Rattle.std.proofs.lemmas.List.Sums.{sum_by-cons, sum_by-append}
 use Rattle.std.proofs.lemmas.List.Concat.{flat_map-append}
-use Rattle.bd_keys.specs.Keys.{IsKey, IsBelowEnd, InRange}
+use Rattle.bd_keys.specs.Keys.{IsKey, InRange}
 use Rattle.bd_message.specs.declared.message.Message.{Message}
 use Rattle.bd_message.specs.Messages.{IsMessage, size}
-use Rattle.bd_message.specs.Effect.{NodesAt, act, acts}
+use Rattle.bd_message.specs.Effect.{act, acts}
 use Rattle.bd_node.specs.declared.node.Edge.{Edge}
 use Rattle.bd_node.specs.Nodes.{message_names}
 use Rattle.bd_node.proofs.Lookup.{each_both}
 use Rattle.bd_node.proofs.Appending.{acts-append}
-use Rattle.bd_inner.specs.Stripping.{CanStrip, stripped}
+use Rattle.bd_inner.specs.Stripping.{stripped}
 use Rattle.bd_inner.specs.Moving.{goto_count, lifted, IsLifted, CanMove, IsMoved, IsBatch}
 use Rattle.bd_inner.proofs.Touched.{CanTouch}
 use Rattle.bd_inner.proofs.Compacting.{count_names, count_names-append}

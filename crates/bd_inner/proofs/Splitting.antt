@@ -1,29 +1,27 @@
 -- The halves of a node.
-use Rattle.std.proofs.Common.{◌≡◌, ℕ, zero, suc, ◌+◌, ◌-◌, ◌*◌, ◌/◌, ◌<◌, ◌≤◌, Bool, true, false, cond, List, [], ◌∷◌, ◌++◌, length, take, drop, map, refl, sym, ap, subst, ◌∙◌, Option, None, Some, arith, inl, inr, length-append, ◌⊎◌, get_or, length-take, length-drop}
+use Rattle.std.proofs.Common.{◌≡◌, ℕ, zero, suc, ◌+◌, ◌*◌, ◌/◌, ◌<◌, ◌≤◌, Bool, true, false, cond, List, [], ◌∷◌, ◌++◌, length, take, drop, map, refl, sym, ap, subst, ◌∙◌, Option, None, Some, arith, inl, inr, length-append, ◌⊎◌, get_or, length-take, length-drop}
 use Rattle.std.specs.Prelude.{slice_get}
-use Rattle.std.specs.List.{AllByRecursion, flat_map, sum_by}
+use Rattle.std.specs.List.{flat_map, sum_by}
 use Rattle.std.specs.Ordering.{is_lt}
 use Rattle.std.proofs.lemmas.Bool.{cond-true, cond-false}
 use Rattle.std.proofs.lemmas.Cmp.{nat_list_cmp_total as total}
 use Rattle.std.proofs.lemmas.List.{append-nil, length-map, take-append-drop, drop_more}
-use Rattle.std.proofs.lemmas.Option.{same_Some, none-some}
 use Rattle.std.proofs.lemmas.List.Sums.{sum_by-cons}
 use Rattle.std.proofs.lemmas.List.Concat.{flat_map-append}
-use Rattle.bd_keys.specs.Keys.{key_cmp, IsKey, IsBelow, IsBelowEnd, IsAtLeast, InRange}
+use Rattle.bd_keys.specs.Keys.{key_cmp, IsBelow, IsBelowEnd, IsAtLeast}
 use Rattle.bd_keys.proofs.Order.{not_below_nil}
 use Rattle.bd_limits.specs.Limits.{key_limit, edge_limit, buffer_limit}
 use Rattle.bd_message.specs.declared.message.Message.{Message}
 use Rattle.bd_message.specs.declared.message.Message.TheVariants.{Put, Del, Patch, Cut, Goto}
 use Rattle.bd_message.specs.Messages.{size}
-use Rattle.bd_message.specs.Effect.{NodesAt}
 use Rattle.bd_node.specs.declared.node.Edge.{Edge}
 use Rattle.bd_node.specs.declared.node.Node.{Node}
-use Rattle.bd_node.specs.declared.node.Node.TheVariants.{Leaf, Inner}
-use Rattle.bd_node.specs.Nodes.{level_of, buffer_size, message_names, edge_names, times, edge_from, edge_of, through, node_at}
-use Rattle.bd_node.specs.Shape.{end_before, EachEdge, SomeEdge, IsEdge, IsPending, IsInner, IsShape}
-use Rattle.bd_node.proofs.Edges.{IsRisingEdge, EachEdge-weaker, SomeEdge-weaker, least_over, less_lt, not_less_lt}
-use Rattle.bd_inner.specs.Compaction.{IsLoose, IsLooseNode, IsMask, staying, lowered, IsSwept, IsCompacted}
-use Rattle.bd_inner.specs.Halves.{edges_of, buffer_of, goto_times, bare_edge, IsHalf, AreHalves}
+use Rattle.bd_node.specs.declared.node.Node.TheVariants.{Inner}
+use Rattle.bd_node.specs.Nodes.{message_names, edge_names, times, edge_from, edge_of, through}
+use Rattle.bd_node.specs.Shape.{end_before, EachEdge, SomeEdge, IsEdge, IsPending, IsInner}
+use Rattle.bd_node.proofs.Edges.{IsRisingEdge, EachEdge-weaker, least_over, less_lt, not_less_lt}
+use Rattle.bd_inner.specs.Compaction.{IsLoose, staying, lowered, IsSwept}
+use Rattle.bd_inner.specs.Halves.{edges_of, goto_times, bare_edge, IsHalf, AreHalves}
 use Rattle.bd_inner.proofs.Compacting.{count_names, count_names-append, edge_names-lowered, compacted_shape, compacted_level, compacted_meaning, compacted_size, compacted_times}
 
 -- ---- how many messages can wait
@@ -157,19 +155,25 @@ loose_upper level xs f ys buffer h some =
 lower_names : (c : ℕ) (xs : List Edge) (f : Edge) (ys : List Edge) (buffer : List Message) (level : ℕ) → times (Inner level (lower_edges xs f buffer) buffer) c ≤ times (Inner level (xs ++ f ∷ ys) buffer) c
 lower_names c xs f ys buffer level =
     let bare : Edge = bare_edge f.pivot (length buffer) in
-    omega (arith,
-    count_names-append c (flat_map edge_names (xs ++ bare ∷ [])) (flat_map message_names buffer),
-    count_names-append c (flat_map edge_names (xs ++ f ∷ ys)) (flat_map message_names buffer),
-    ap (count_names c) (flat_map-append edge_names xs (bare ∷ [])), ap (count_names c) (flat_map-append edge_names xs (f ∷ ys)),
-    count_names-append c (flat_map edge_names xs) [], count_names-append c (flat_map edge_names xs) (flat_map edge_names (f ∷ ys)))
+    omega (
+      arith,
+      count_names-append c (flat_map edge_names (xs ++ bare ∷ [])) (flat_map message_names buffer),
+      count_names-append c (flat_map edge_names (xs ++ f ∷ ys)) (flat_map message_names buffer),
+      ap (count_names c) (flat_map-append edge_names xs (bare ∷ [])),
+      ap (count_names c) (flat_map-append edge_names xs (f ∷ ys)),
+      count_names-append c (flat_map edge_names xs) [],
+      count_names-append c (flat_map edge_names xs) (flat_map edge_names (f ∷ ys)),
+    )
 
 upper_names : (c : ℕ) (xs : List Edge) (f : Edge) (ys : List Edge) (buffer : List Message) (level : ℕ) → times (Inner level (upper_edges f ys buffer) buffer) c ≤ times (Inner level (xs ++ f ∷ ys) buffer) c
 upper_names c xs f ys buffer level =
-    omega (arith,
-    count_names-append c (flat_map edge_names (f ∷ ys)) (flat_map message_names buffer),
-    count_names-append c (flat_map edge_names (xs ++ f ∷ ys)) (flat_map message_names buffer),
-    ap (count_names c) (flat_map-append edge_names xs (f ∷ ys)),
-    count_names-append c (flat_map edge_names xs) (flat_map edge_names (f ∷ ys)))
+    omega (
+      arith,
+      count_names-append c (flat_map edge_names (f ∷ ys)) (flat_map message_names buffer),
+      count_names-append c (flat_map edge_names (xs ++ f ∷ ys)) (flat_map message_names buffer),
+      ap (count_names c) (flat_map-append edge_names xs (f ∷ ys)),
+      count_names-append c (flat_map edge_names xs) (flat_map edge_names (f ∷ ys)),
+    )
 
 swept_few : (level : ℕ) (es : List Edge) (buffer : List Message) (n : Node) → IsSwept level es buffer n → length (edges_of n) ≡ length es
 swept_few level es buffer n h = ap (λ (m : Node). length (edges_of m)) h.swept ∙ length-map es (lowered h.mask)

@@ -1,5 +1,5 @@
 -- Which keys a message can change, in the order of keys.
-use Rattle.std.proofs.Common.{◌≡◌, ◌↔◌, ℕ, Bool, true, false, not, ◌&&◌, List, [], ◌∷◌, ◌++◌, refl, sym, ap, subst, ◌∙◌, Option, None, Some, inl, inr, IsTrue, ◌⊎◌, Less}
+use Rattle.std.proofs.Common.{◌≡◌, ◌↔◌, ℕ, Bool, true, false, not, List, [], ◌∷◌, ◌++◌, refl, sym, ap, subst, ◌∙◌, Option, None, Some, inl, inr, IsTrue, ◌⊎◌, Less}
 use Rattle.std.specs.Ordering.{is_lt}
 use Rattle.std.specs.Cmp.{unsigned_Decides}
 use Rattle.std.proofs.lemmas.Cmp.{nat_list_cmp_total as total}
@@ -12,7 +12,7 @@ use Rattle.bd_message.specs.declared.message.Message.TheVariants.{Put, Del, Patc
 use Rattle.bd_message.specs.Effect.{same_key, begins, rest, is_cut}
 use Rattle.bd_message.proofs.Finds.{same_key-true, same_key-refl, begins-is, begins-append, not_both}
 use Rattle.bd_node.specs.Touching.{touches}
-use Rattle.bd_node.proofs.Edges.{lt_is, lt_isnt, not_less_lt, less_lt}
+use Rattle.bd_node.proofs.Edges.{lt_is, lt_isnt, not_less_lt}
 use Rattle.bd_node.proofs.Appending.{key_of, key_of-touched}
 
 -- ---- keys that begin alike

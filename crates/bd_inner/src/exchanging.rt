@@ -12,19 +12,14 @@ ghost use Rattle.bd_inner.specs.Exchange.{exchanged, IsEdgeAt, FitsAt, way_to};
 
 use crate::compaction::sweep;
 use crate::pending::end_before;
-use bd_keys::{lift, Bytes};
+use bd_keys::{Bytes, lift};
 use bd_node::{Edge, Edges, Items, Node};
 use std::alloc::{AllocError, Global};
 
 /// A copy of an inner node with other edges in place of one, and without the messages that are then
 /// pending for no edge. The edges have the keys of the one at the place, and there are at most 16
 /// then.
-pub fn exchange(
-    alloc: Global,
-    node: &Node,
-    place: usize,
-    list: Edges,
-) -> Result<Node, AllocError>
+pub fn exchange(alloc: Global, node: &Node, place: usize, list: Edges) -> Result<Node, AllocError>
     requires shape { IsShape node.now }
     requires within { place < length (edges_of node.now) }
     requires fits { (e : Edge) → IsEdgeAt node.now place e → FitsAt node.now place e list }
@@ -76,12 +71,7 @@ pub fn edge_to(
 }
 
 // Edges with others in place of the one at a place.
-fn spliced(
-    alloc: Global,
-    edges: &[Edge],
-    place: usize,
-    list: Edges,
-) -> Result<Edges, AllocError>
+fn spliced(alloc: Global, edges: &[Edge], place: usize, list: Edges) -> Result<Edges, AllocError>
     requires { place < length edges.now }
     ensures { IfOk result (λ made.
         made ≡ take place edges.now ++ (list ++ drop (place + 1) edges.now)) }

@@ -55,7 +55,7 @@ pub fn exchanged_edges()
     ensures inside { (below : NodesAt) (n : Node) (place : ℕ) (e : Edge) (list : List Edge)
         → IsShape n → FitsAt n place e list → (k : List ℕ) → IsKeyOf n place e k
         → node_at below (exchanged n place list) k
-            ≡ through below (edge_of list k) (buffer_of n) k }
+        ≡ through below (edge_of list k) (buffer_of n) k }
     ensures outside { (below : NodesAt) (n : Node) (place : ℕ) (e : Edge) (list : List Edge)
         → IsShape n → FitsAt n place e list → (k : List ℕ) → ¬ IsKeyOf n place e k
         → node_at below (exchanged n place list) k ≡ node_at below n k }
@@ -72,9 +72,9 @@ pub fn pushes_keep_the_meaning()
         → f.seen ≡ e.seen + count
         → IsMoved f (end_at n place) (take count (drop e.seen (buffer_of n))) moved
         → ((k : List ℕ) → IsKey k → IsKeyOf n place e k
-            → child_at has f.child (f.source ++ drop f.lift k)
-            ≡ acts has moved (drop f.lift k)
-                (child_at below e.child (e.source ++ drop e.lift k)))
+        → child_at has f.child (f.source ++ drop f.lift k)
+        ≡ acts has moved (drop f.lift k)
+        (child_at below e.child (e.source ++ drop e.lift k)))
         → AllByRecursion (λ c. (l : List ℕ) → has c l ≡ below c l) (names (exchanged n place []))
         → (k : List ℕ) → IsKey k
         → node_at has (exchanged n place (f ∷ [])) k ≡ node_at below n k }

@@ -11,21 +11,20 @@ mod pending;
 mod receiving;
 mod stripping;
 
-pub use batches::{next_batch, Batch};
+ghost use Rattle.std.specs.Prelude.{◌≡◌, ◌+◌, ◌-◌, ◌*◌, ◌^◌, ◌<◌, ◌≤◌, length, slice_get};
+ghost use Rattle.bd_node.specs.Nodes.{edge_of};
+ghost use Rattle.bd_node.specs.Shape.{AreRising};
+
+pub use batches::{Batch, next_batch};
+use bd_node::{Edge, Steps};
 pub use compaction::compact;
 pub use exchanging::{edge_to, end_of, exchange};
 pub use halves::split;
 pub use pending::is_pending;
 pub use receiving::receive;
-pub use stripping::strip;
-
-ghost use Rattle.std.specs.Prelude.{◌≡◌, ◌+◌, ◌-◌, ◌*◌, ◌^◌, ◌<◌, ◌≤◌, length, slice_get};
-ghost use Rattle.bd_node.specs.Nodes.{edge_of};
-ghost use Rattle.bd_node.specs.Shape.{AreRising};
-
-use bd_node::{Edge, Steps};
 use std::marker::Brand;
 use std::sync::ledger::{Blank, Ledger};
+pub use stripping::strip;
 
 /// The place of the edge whose keys include a key, among edges with rising pivots.
 pub fn place<L: Ledger>(edges: &[Edge], key: &[u8], steps: &mut Steps<L>) -> usize

@@ -7,7 +7,7 @@ ghost use Rattle.bd_node.specs.Touching.{touches};
 ghost use Rattle.bd_node.specs.Shape.{AreRising, SomeEdge, IsPending, end_before};
 
 use bd_message::Message;
-use bd_node::{touches, Edge};
+use bd_node::{Edge, touches};
 use std::cmp::Ordering;
 
 /// Whether the message at a place of the buffer is pending for some edge: one that hasn't seen it,

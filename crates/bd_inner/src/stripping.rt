@@ -32,10 +32,12 @@ pub fn strip(alloc: Global, message: &Message, prefix: &[u8]) -> Result<Option<M
                 bytes,
             }))
         }
-        Message::Cut {
-            prefix: own,
-            from,
-        } => strip_cut(alloc, own.as_slice(), from.as_slice(), prefix),
+        Message::Cut { prefix: own, from } => strip_cut(
+            alloc,
+            own.as_slice(),
+            from.as_slice(),
+            prefix,
+        ),
         Message::Goto {
             prefix: own,
             source,

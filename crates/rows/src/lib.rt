@@ -10,6 +10,8 @@ mod dirs;
 #[cfg(test)]
 mod filedev;
 #[cfg(test)]
+mod inner;
+#[cfg(test)]
 mod io;
 #[cfg(test)]
 mod keys;

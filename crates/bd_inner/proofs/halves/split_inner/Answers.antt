@@ -1,5 +1,4 @@
-use Rattle.std.proofs.Common.{◌≡◌, ℕ, ◌/◌, ◌<◌, ◌≤◌, List, length, arith, refl}
-use Rattle.bd_message.specs.declared.message.Message.{Message}
+use Rattle.std.proofs.Common.{ℕ, ◌/◌, ◌≤◌, List, length, arith, refl}
 use Rattle.bd_node.specs.declared.node.Edge.{Edge}
 use Rattle.bd_inner.proofs.Splitting.{few_wait, lower_is, upper_is, sweep_lower, sweep_upper, halves_at}
 use Rattle.bd_inner.proofs.halves.split_inner.Goals as goal
