@@ -1,13 +1,16 @@
-ghost use Rattle.std.specs.Prelude.{◌≡◌, ◌↔◌, ◌≤◌, ◌<◌, [], Some, length, IfOk, IsTrue};
+ghost use Rattle.std.specs.Prelude.{◌≡◌, ◌↔◌, ◌≤◌, ◌<◌, [], None, Some, length, IfOk, IsTrue};
 ghost use Rattle.std.specs.List.{AllByRecursion};
+ghost use Rattle.bd_keys.specs.Keys.{IsBelowEnd};
+ghost use Rattle.bd_message.specs.Messages.{IsMessage, IsPlain};
 ghost use Rattle.bd_node.specs.Nodes.{level_of, buffer_size};
 ghost use Rattle.bd_node.specs.Shape.{end_before, AreRising, IsShape};
 ghost use Rattle.bd_inner.specs.Compaction.{IsFlat};
-ghost use Rattle.bd_inner.specs.Halves.{edges_of};
+ghost use Rattle.bd_inner.specs.Halves.{edges_of, buffer_of};
+ghost use Rattle.bd_inner.specs.Moving.{IsLifted};
 
 use crate::message::message;
-use bd_inner::laws::flat_edges;
-use bd_inner::{compact, receive, split, strip};
+use bd_inner::laws::{compacted_nodes, flat_edges};
+use bd_inner::{compact, edge_to, next_batch, receive, split, strip};
 use bd_keys::Bytes;
 use bd_limits::{MAX_BUFFER, MAX_EDGES, MAX_KEY};
 use bd_message::Message;
@@ -80,8 +83,17 @@ fn is_rising(edges: &[Edge]) -> bool
 {
     match edges {
         [] => true,
-        [_] => true,
-        [first, rest @ ..] => first.pivot < rest[0].pivot && is_rising(rest),
+        [first, rest @ ..] => is_before(first, rest) && is_rising(rest),
+    }
+}
+
+// Whether an edge's pivot is below that of the first of these edges.
+fn is_before(edge: &Edge, rest: &[Edge]) -> bool
+    ensures { IsTrue result ↔ IsBelowEnd edge.now.pivot (end_before rest.now) }
+{
+    match rest {
+        [] => true,
+        [next, ..] => edge.pivot < next.pivot,
     }
 }
 
@@ -89,6 +101,7 @@ fn is_rising(edges: &[Edge]) -> bool
 fn node(alloc: Global, pivots: &str) -> Result<Node, Fail>
     ensures shape { IfOk result IsShape }
     ensures level { IfOk result (λ node. level_of node ≡ 1) }
+    ensures empty { IfOk result (λ node. buffer_size node ≡ 0) }
 {
     flat_edges();
     let edges = edges(alloc, pivots)?;
@@ -103,4 +116,98 @@ fn node(alloc: Global, pivots: &str) -> Result<Node, Fail>
         edges: Items::from_vec(edges),
         buffer: Messages::new(alloc),
     })
+}
+
+// The edges and the messages of a node.
+fn parts(node: &Node) -> (&[Edge], &[Message])
+    ensures edges { result.0.now ≡ edges_of node.now }
+    ensures messages { result.1.now ≡ buffer_of node.now }
+{
+    match node {
+        Node::Leaf(_) => (&[], &[]),
+        Node::Inner { edges, buffer, .. } => (edges.as_slice(), buffer.as_slice()),
+    }
+}
+
+// A Put of a key.
+fn put(alloc: Global, key: &str) -> Result<Message, Fail>
+    ensures { IfOk result (λ m. IsMessage m × IsPlain m) }
+{
+    let message = message(alloc, "put", key, "v")?;
+    if !message.is_message() {
+        return Err(Fail::new("no such message"));
+    }
+    if let Message::Goto { .. } = message {
+        return Err(Fail::new("a message that names a node"));
+    }
+    Ok(message)
+}
+
+// A node with 15 edges, where Puts of a and z wait.
+fn full(alloc: Global) -> Result<Node, Fail>
+    ensures { IfOk result IsShape }
+{
+    let node = node(alloc, " b c d e f g h i j k l m n o")?;
+    let list = [put(alloc, "a")?, put(alloc, "z")?];
+    if list[0].size() + list[1].size() > MAX_BUFFER {
+        return Err(Fail::new("too many messages"));
+    }
+    Ok(receive(alloc, &node, &list)?)
+}
+
+#[test]
+fn messages_of_a_node(rt: HostRuntime) -> Result<(), Fail> {
+    let node = full(rt.alloc())?;
+    let (edges, messages) = parts(&node);
+    assert_eq!(rt; edges.len(), 15);
+    assert_eq!(rt; messages.len(), 2);
+    assert!(rt; messages[0] == put(rt.alloc(), "a")?);
+    assert!(rt; messages[1] == put(rt.alloc(), "z")?);
+    Ok(())
+}
+
+#[test]
+fn a_node_without_what_is_pending_for_no_edge(rt: HostRuntime) -> Result<(), Fail> {
+    compacted_nodes();
+    let node = full(rt.alloc())?;
+    let node = compact(rt.alloc(), &node)?;
+    let (_, messages) = parts(&node);
+    assert_eq!(rt; messages.len(), 2);
+    Ok(())
+}
+
+#[test]
+fn halves_of_a_node(rt: HostRuntime) -> Result<(), Fail> {
+    let node = full(rt.alloc())?;
+    let (edges, _) = parts(&node);
+    if edges.len() < 15 {
+        return Err(Fail::new("too few edges"));
+    }
+    let (first, pivot, second) = split(rt.alloc(), &node)?;
+    assert_eq!(rt; pivot.as_slice(), b"h".as_slice());
+    let (edges, messages) = parts(&first);
+    assert_eq!(rt; edges.len(), 8);
+    assert!(rt; messages == [put(rt.alloc(), "a")?].as_slice());
+    let (edges, messages) = parts(&second);
+    assert_eq!(rt; edges.len(), 9);
+    assert!(rt; messages == [put(rt.alloc(), "z")?].as_slice());
+    Ok(())
+}
+
+// The way of an edge of all keys to a child.
+fn way(alloc: Global) -> Result<Edge, Fail>
+    ensures { IfOk result (λ edge. IsLifted edge None) }
+{
+    let edge = edge(alloc, "")?;
+    Ok(edge_to(alloc, &edge, None, 7)?)
+}
+
+#[test]
+fn a_batch_for_a_child(rt: HostRuntime) -> Result<(), Fail> {
+    let way = way(rt.alloc())?;
+    let list = [put(rt.alloc(), "a")?, put(rt.alloc(), "z")?];
+    let batch = next_batch(rt.alloc(), &way, None, &list)?;
+    assert_eq!(rt; batch.count, 2);
+    assert!(rt; batch.messages.as_slice() == list.as_slice());
+    Ok(())
 }
