@@ -9,8 +9,8 @@ ghost use Rattle.bd_inner.specs.Halves.{edges_of, buffer_of};
 ghost use Rattle.bd_inner.specs.Moving.{IsLifted};
 
 use crate::message::message;
-use bd_inner::laws::{compacted_nodes, flat_edges};
-use bd_inner::{compact, edge_to, next_batch, receive, split, strip};
+use bd_inner::laws::{compacted_nodes, edges_fit, flat_edges};
+use bd_inner::{compact, edge_to, exchange, next_batch, receive, split, strip};
 use bd_keys::Bytes;
 use bd_limits::{MAX_BUFFER, MAX_EDGES, MAX_KEY};
 use bd_message::Message;
@@ -209,5 +209,39 @@ fn a_batch_for_a_child(rt: HostRuntime) -> Result<(), Fail> {
     let batch = next_batch(rt.alloc(), &way, None, &list)?;
     assert_eq!(rt; batch.count, 2);
     assert!(rt; batch.messages.as_slice() == list.as_slice());
+    Ok(())
+}
+
+// The node whose first edge has seen its first message.
+fn raised(alloc: Global, node: &Node) -> Result<Node, Fail>
+    requires { IsShape node.now }
+    ensures { IfOk result IsShape }
+{
+    edges_fit();
+    let (edges, messages) = parts(node);
+    if edges.is_empty() || messages.is_empty() {
+        return Err(Fail::new("no edge or no message"));
+    }
+    let list = vec![in alloc; seen(&edges[0], 1)?]?;
+    Ok(exchange(alloc, node, 0, Items::from_vec(list))?)
+}
+
+// The edge after so many messages.
+fn seen(edge: &Edge, seen: u32) -> Result<Edge, AllocError>
+    ensures { IfOk result (λ copy. copy ≡ record edge.now { seen = seen }) }
+{
+    let mut copy = edge.clone()?;
+    copy.seen = seen;
+    Ok(copy)
+}
+
+#[test]
+fn an_edge_that_has_seen_a_message(rt: HostRuntime) -> Result<(), Fail> {
+    let node = full(rt.alloc())?;
+    let node = raised(rt.alloc(), &node)?;
+    let (edges, messages) = parts(&node);
+    assert_eq!(rt; edges.len(), 15);
+    assert_eq!(rt; edges[0].seen, 0);
+    assert!(rt; messages == [put(rt.alloc(), "z")?].as_slice());
     Ok(())
 }
