@@ -1,5 +1,7 @@
-//! Inner nodes: which edge a key belongs to.
-//! The layers above use `edge_of`, which is the edge that the definition finds first to last.
+//! Inner nodes: the edge of a key; nodes after messages, in halves, with other edges in place of one,
+//! and without the messages that are pending for no edge; and what a push moves to a child.
+//! The layers above use `edge_of`, which is the edge that the definition finds first to last, the
+//! contracts of `receive`, `compact`, `split`, `next_batch` and `exchange`, and the laws.
 #![tactic(auto)]
 
 mod batches;
