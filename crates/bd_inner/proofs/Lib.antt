@@ -1,3 +1,9 @@
 pub mod Places
 pub mod Touched
 pub mod Sweeping
+pub mod Compacting
+pub mod Splitting
+pub mod Stripped
+pub mod Moved
+pub mod Exchanged
+pub mod Fitting

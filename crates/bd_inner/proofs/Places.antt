@@ -113,7 +113,7 @@ started es k now some =
       left = rw none (omega arith);
     }
 
-edge_within : (es : List Edge) (i : ℕ) → i < length es → (f : Edge) × (slice_get es i ≡ Some f)
+pub edge_within : (es : List Edge) (i : ℕ) → i < length es → (f : Edge) × (slice_get es i ≡ Some f)
 edge_within [] i low = absurd (omega arith)
 edge_within (e ∷ es) zero low = (e, refl)
 edge_within (e ∷ es) (suc i) low = edge_within es i (omega arith)

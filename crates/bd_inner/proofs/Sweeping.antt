@@ -1,8 +1,8 @@
 -- The messages that stay, and the edges over them.
-use Rattle.std.proofs.Common.{◌≡◌, ℕ, zero, suc, ◌+◌, ◌<◌, ◌≤◌, Bool, true, false, cond, List, [], ◌∷◌, ◌++◌, length, take, drop, map, refl, sym, ap, subst, ◌∙◌, arith, inl, inr, get_or}
-use Rattle.std.proofs.lemmas.List.{append-nil, take_more, length-take}
+use Rattle.std.proofs.Common.{◌≡◌, ℕ, ◌+◌, ◌<◌, Bool, true, false, cond, List, [], ◌∷◌, ◌++◌, length, take, refl, sym, ap, ◌∙◌, arith, get_or}
+use Rattle.std.proofs.lemmas.List.{take_more, length-take}
 use Rattle.bd_message.specs.declared.message.Message.{Message}
-use Rattle.bd_inner.specs.Compaction.{staying, lowered}
+use Rattle.bd_inner.specs.Compaction.{staying}
 
 staying_end : (mask : List Bool) (stays : Bool) (xs : List Message) (m : Message) → length mask ≡ length xs → staying (mask ++ stays ∷ []) (xs ++ m ∷ []) ≡ staying mask xs ++ cond stays (m ∷ []) []
 staying_end [] stays [] m e = refl

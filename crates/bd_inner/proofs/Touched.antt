@@ -1,5 +1,5 @@
 -- Which keys a message can change, in the order of keys.
-use Rattle.std.proofs.Common.{◌≡◌, ◌↔◌, ℕ, Bool, true, false, not, ◌&&◌, List, [], ◌∷◌, ◌++◌, refl, sym, ap, subst, ◌∙◌, Option, None, Some, inl, inr, IsTrue, ◌⊎◌, Less}
+use Rattle.std.proofs.Common.{◌≡◌, ◌↔◌, ℕ, Bool, true, false, not, List, [], ◌∷◌, ◌++◌, refl, sym, ap, subst, ◌∙◌, Option, None, Some, inl, inr, IsTrue, ◌⊎◌, Less}
 use Rattle.std.specs.Ordering.{is_lt}
 use Rattle.std.specs.Cmp.{unsigned_Decides}
 use Rattle.std.proofs.lemmas.Cmp.{nat_list_cmp_total as total}
@@ -12,12 +12,12 @@ use Rattle.bd_message.specs.declared.message.Message.TheVariants.{Put, Del, Patc
 use Rattle.bd_message.specs.Effect.{same_key, begins, rest, is_cut}
 use Rattle.bd_message.proofs.Finds.{same_key-true, same_key-refl, begins-is, begins-append, not_both}
 use Rattle.bd_node.specs.Touching.{touches}
-use Rattle.bd_node.proofs.Edges.{lt_is, lt_isnt, not_less_lt, less_lt}
+use Rattle.bd_node.proofs.Edges.{lt_is, lt_isnt, not_less_lt}
 use Rattle.bd_node.proofs.Appending.{key_of, key_of-touched}
 
 -- ---- keys that begin alike
 
-cmp_after : (p x y : List ℕ) → key_cmp (p ++ x) (p ++ y) ≡ key_cmp x y
+pub cmp_after : (p x y : List ℕ) → key_cmp (p ++ x) (p ++ y) ≡ key_cmp x y
 cmp_after [] x y = refl
 cmp_after (b ∷ p) x y = first_same b (p ++ x) (p ++ y) ∙ cmp_after p x y
 
@@ -25,7 +25,7 @@ pub joined_begins : (front back key : List ℕ) → begins key front ≡ true �
 joined_begins front back key h =
     subst (λ (k : List ℕ). key_cmp (front ++ back) k ≡ key_cmp back (rest front key)) (sym (begins-is key front h)) (cmp_after front back (rest front key))
 
-begins_rest : (a : ℕ) (key front : List ℕ) → begins (a ∷ key) (a ∷ front) ≡ begins key front
+pub begins_rest : (a : ℕ) (key front : List ℕ) → begins (a ∷ key) (a ∷ front) ≡ begins key front
 begins_rest a key front = rw ((unsigned_Decides a a).1 refl)
 
 pub joined_other : (front back key : List ℕ) → begins key front ≡ false → key_cmp (front ++ back) key ≡ key_cmp front key
@@ -61,7 +61,7 @@ between (b ∷ p) x y (d ∷ f) least most =
       ]
     ]
 
-rest-append : (p x : List ℕ) → rest p (p ++ x) ≡ x
+pub rest-append : (p x : List ℕ) → rest p (p ++ x) ≡ x
 rest-append [] x = refl
 rest-append (b ∷ p) x = rest-append p x
 
@@ -91,7 +91,7 @@ cut_between p x k f h least most =
 
 -- ---- the keys that begin with a prefix
 
-least_nil : (k : List ℕ) → IsAtLeast k []
+pub least_nil : (k : List ℕ) → IsAtLeast k []
 least_nil [] h = cc
 least_nil (a ∷ k) h = cc
 

@@ -1,13 +1,13 @@
 -- Nodes without the messages that are pending for no edge.
 use Rattle.std.specs.Prelude.{◌≡◌, ◌↔◌, ℕ, ◌≤◌, Bool, true, if◌then◌else◌, List, [], ◌∷◌, length, take, map, count_by, Some, slice_get}
 use Rattle.std.specs.List.{AllByRecursion, sum_by}
-use Rattle.bd_limits.specs.Limits.{buffer_limit, level_limit, edge_limit}
+use Rattle.bd_limits.specs.Limits.{key_limit, buffer_limit, level_limit, edge_limit}
 use Rattle.bd_message.specs.declared.message.Message.{Message}
 use Rattle.bd_message.specs.Messages.{IsMessage, size}
 use Rattle.bd_node.specs.declared.node.Edge.{Edge}
 use Rattle.bd_node.specs.declared.node.Node.{Node}
 use Rattle.bd_node.specs.declared.node.Node.TheVariants.{Leaf, Inner}
-use Rattle.bd_node.specs.Shape.{end_before, EachEdge, SomeEdge, IsEdge, IsPending, IsLeaf}
+use Rattle.bd_node.specs.Shape.{end_before, EachEdge, SomeEdge, IsChild, IsEdge, IsPending, IsLeaf}
 
 -- an inner node, but that messages may be pending for no edge
 pub record IsLoose (level : ℕ) (edges : List Edge) (buffer : List Message) : Type 0 where
@@ -23,6 +23,14 @@ pub record IsLoose (level : ℕ) (edges : List Edge) (buffer : List Message) : T
 abbrev pub IsLooseNode : Node → Type 0
 IsLooseNode (Leaf entries) = IsLeaf entries
 IsLooseNode (Inner level edges buffer) = IsLoose level edges buffer
+
+-- an edge that leaves nothing out and puts nothing in front, over a buffer of so many messages
+pub record IsFlat (buffered : ℕ) (e : Edge) : Type 0 where
+  pub pivot : length e.pivot ≤ key_limit
+  pub lift : e.lift ≡ 0
+  pub source : e.source ≡ []
+  pub child : IsChild e.child []
+  pub seen : e.seen ≤ buffered
 
 -- the list says of each message whether it is pending for some edge
 pub record IsMask (mask : List Bool) (edges : List Edge) (buffer : List Message) : Type 0 where

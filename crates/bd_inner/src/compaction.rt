@@ -45,11 +45,7 @@ pub fn sweep(
 }
 
 // Whether each message is pending for some edge.
-fn pending_mask(
-    alloc: Global,
-    edges: &[Edge],
-    buffer: &[Message],
-) -> Result<Vec<bool>, AllocError>
+fn pending_mask(alloc: Global, edges: &[Edge], buffer: &[Message]) -> Result<Vec<bool>, AllocError>
     requires { AreRising edges.now }
     ensures { IfOk result (λ mask. IsMask mask.items edges.now buffer.now) }
 {
@@ -61,11 +57,7 @@ fn pending_mask(
 }
 
 // The messages of which the mask says that they stay.
-fn staying(
-    alloc: Global,
-    mask: &[bool],
-    buffer: &[Message],
-) -> Result<Vec<Message>, AllocError>
+fn staying(alloc: Global, mask: &[bool], buffer: &[Message]) -> Result<Vec<Message>, AllocError>
     requires { length mask.now ≡ length buffer.now }
     ensures { IfOk result (λ list. list.items ≡ staying mask.now buffer.now) }
 {
@@ -99,5 +91,8 @@ fn lower(edges: Edges, mask: &[bool]) -> Edges
 fn count_staying(mask: &[bool], count: u32) -> u32
     ensures { result ≡ count_by (λ stays. stays) (take count mask.now) }
 {
-    mask.iter().take(count as usize).filter(|stays| **stays).count() as u32
+    mask.iter()
+        .take(count as usize)
+        .filter(|stays| **stays)
+        .count() as u32
 }

@@ -7,7 +7,7 @@ ghost use Rattle.bd_node.specs.Touching.{touches};
 ghost use Rattle.bd_node.specs.Shape.{AreRising, SomeEdge, IsPending, end_before};
 
 use bd_message::Message;
-use bd_node::{touches, Edge};
+use bd_node::{Edge, touches};
 use std::cmp::Ordering;
 
 /// Whether the message at a place of the buffer is pending for some edge: one that hasn't seen it,
@@ -24,8 +24,8 @@ pub fn is_pending(place: usize, message: &Message, edges: &[Edge]) -> bool
     waits || is_pending(place, message, rest)
 }
 
-// Where the keys of the edge before these end.
-fn end_before(edges: &[Edge]) -> Option<&[u8]>
+/// Where the keys of the edge before these end.
+pub fn end_before(edges: &[Edge]) -> Option<&[u8]>
     ensures { option_copied result ≡ end_before edges.now }
 {
     match edges {
@@ -34,9 +34,9 @@ fn end_before(edges: &[Edge]) -> Option<&[u8]>
     }
 }
 
-// Whether a message can change what stands at a key that is at least `lo` and below `hi`. The first
-// such key is `lo`, or else the first one that the message can change at all.
-fn can_touch(message: &Message, lo: &[u8], hi: Option<&[u8]>) -> bool
+/// Whether a message can change what stands at a key that is at least `lo` and below `hi`. The first
+/// such key is `lo`, or else the first one that the message can change at all.
+pub fn can_touch(message: &Message, lo: &[u8], hi: Option<&[u8]>) -> bool
     requires { IsBelowEnd lo.now (option_copied hi) }
     ensures { IsTrue result ↔ ((k : List ℕ) × InRange lo.now (option_copied hi.entry) k
         × (touches message.now k ≡ true)) }

@@ -165,7 +165,7 @@ edge_at-appended below e buffer list k seen =
     ap (λ ms. acts below ms k (child_at below e.child (e.source ++ drop e.lift k))) (drop-append-le e.seen buffer list seen)
     ∙ acts-append below (drop e.seen buffer) list k (child_at below e.child (e.source ++ drop e.lift k))
 
-some_has : (Q : Type 0) (P : Edge → Option (List ℕ) → Type 0) → ((e : Edge) (hi : Option (List ℕ)) → P e hi → Q) → (es : List Edge) → SomeEdge P es → Q
+pub some_has : (Q : Type 0) (P : Edge → Option (List ℕ) → Type 0) → ((e : Edge) (hi : Option (List ℕ)) → P e hi → Q) → (es : List Edge) → SomeEdge P es → Q
 some_has Q P f [] h = absurd h
 some_has Q P f (e ∷ es) h = elim h [ inl here ↦ f e (end_before es) here | inr later ↦ some_has Q P f es later ]
 

@@ -14,6 +14,8 @@ mod filedev;
 #[cfg(test)]
 mod format;
 #[cfg(test)]
+mod inner;
+#[cfg(test)]
 mod io;
 #[cfg(test)]
 mod keys;

@@ -1,4 +1,4 @@
-use Rattle.std.proofs.Common.{List, true, false, [], ◌∷◌, ◌++◌, ap, ◌∙◌, sym, arith}
+use Rattle.std.proofs.Common.{true, false, [], ◌∷◌, ◌++◌, ap, ◌∙◌, sym, arith}
 use Rattle.std.proofs.lemmas.List.{append-nil}
 use Rattle.bd_message.specs.declared.message.Message.{Message}
 use Rattle.bd_inner.proofs.Sweeping.{staying_more}

@@ -1,0 +1,49 @@
+-- Nodes with other edges in place of one.
+use Rattle.std.specs.Prelude.{◌≡◌, ℕ, ◌+◌, ◌≤◌, List, [], ◌∷◌, ◌++◌, length, take, drop, Option, Some, slice_get}
+use Rattle.bd_limits.specs.Limits.{edge_limit}
+use Rattle.bd_keys.specs.Keys.{InRange}
+use Rattle.bd_node.specs.declared.node.Edge.{Edge}
+use Rattle.bd_node.specs.declared.node.Node.{Node}
+use Rattle.bd_node.specs.declared.node.Node.TheVariants.{Leaf, Inner}
+use Rattle.bd_node.specs.Shape.{end_before, IsEdge}
+use Rattle.bd_inner.specs.Halves.{edges_of, buffer_of}
+
+-- the node with these edges in place of the one at a place
+abbrev pub exchanged : Node → ℕ → List Edge → Node
+exchanged (Leaf entries) place list = Leaf entries
+exchanged (Inner level edges buffer) place list =
+    Inner level (take place edges ++ (list ++ drop (place + 1) edges)) buffer
+
+-- where the keys of a node's edge at a place end
+abbrev pub end_at : Node → ℕ → Option (List ℕ)
+end_at n place = end_before (drop (place + 1) (edges_of n))
+
+-- the key is one of the edge at a place
+abbrev pub IsKeyOf : Node → ℕ → Edge → List ℕ → Type 0
+IsKeyOf n place e k = InRange e.pivot (end_at n place) k
+
+-- where the keys of the edge before these end, if those of the last of these end there
+abbrev pub end_within : Option (List ℕ) → List Edge → Option (List ℕ)
+end_within hi [] = hi
+end_within hi (e ∷ es) = Some e.pivot
+
+-- each edge has the property, which also takes where its keys end, if the last one's end there
+abbrev pub EachEdgeTo : (Edge → Option (List ℕ) → Type 0) → Option (List ℕ) → List Edge → Type 0
+EachEdgeTo P hi [] = Unit {0}
+EachEdgeTo P hi (e ∷ es) = P e (end_within hi es) × EachEdgeTo P hi es
+
+-- a node's edge at a place
+abbrev pub IsEdgeAt : Node → ℕ → Edge → Type 0
+IsEdgeAt n place e = slice_get (edges_of n) place ≡ Some e
+
+-- edges that can stand in place of the one at a place: they have its keys, and aren't too many
+pub record FitsAt (n : Node) (place : ℕ) (e : Edge) (list : List Edge) : Type 0 where
+  pub here : IsEdgeAt n place e
+  pub few : length (edges_of n) + length list ≤ edge_limit + 1
+  pub first : end_before list ≡ Some e.pivot
+  pub each : EachEdgeTo (IsEdge (length (buffer_of n))) (end_at n place) list
+
+-- an edge's way to another child, with nothing in front of what is left of a key
+abbrev pub way_to : Edge → ℕ → ℕ → Edge
+way_to e lift child =
+    record { pivot = e.pivot; lift = lift; source = []; child = Some child; seen = e.seen }

@@ -1,0 +1,50 @@
+-- What a push moves from a node to a child.
+use Rattle.std.specs.Prelude.{◌≡◌, ℕ, ◌+◌, ◌<◌, ◌≤◌, ◌==◌, true, List, length, take, drop, Option, Some, count_by, slice_get}
+use Rattle.std.specs.List.{AllByRecursion, flat_map, sum_by}
+use Rattle.bd_limits.specs.Limits.{batch_limit}
+use Rattle.bd_keys.specs.Keys.{IsKey, IsBelowEnd, InRange, IsCommon}
+use Rattle.bd_message.specs.declared.message.Message.{Message}
+use Rattle.bd_message.specs.Messages.{IsMessage, size}
+use Rattle.bd_message.specs.Effect.{NodesAt, acts}
+use Rattle.bd_node.specs.declared.node.Edge.{Edge}
+use Rattle.bd_node.specs.Touching.{touches}
+use Rattle.bd_node.specs.Nodes.{message_names}
+use Rattle.bd_inner.specs.declared.batches.Batch.{Batch}
+use Rattle.bd_inner.specs.Stripping.{CanStrip}
+
+-- how often messages name a node
+abbrev pub goto_count : ℕ → List Message → ℕ
+goto_count c ms = count_by (λ name. name == c) (flat_map message_names ms)
+
+-- the bytes that are left out of an edge's keys
+abbrev pub lifted : Edge → List ℕ
+lifted e = take e.lift e.pivot
+
+-- an edge whose keys end there, and have the bytes in common that are left out of them
+pub record IsLifted (e : Edge) (hi : Option (List ℕ)) : Type 0 where
+  pub rising : IsBelowEnd e.pivot hi
+  pub lift : e.lift ≤ length e.pivot
+  pub common : IsCommon e.pivot hi (lifted e)
+
+-- the message can go down an edge whose keys end there: if it is a Goto of some of them, it is one
+-- of keys that all begin with the bytes that are left out
+abbrev pub CanMove : Edge → Option (List ℕ) → Message → Type 0
+CanMove e hi m = (k : List ℕ) → InRange e.pivot hi k → touches m k ≡ true → CanStrip (lifted e) m
+
+-- messages that do to the child's keys of an edge, whose own keys end there, what others do to its
+-- own keys
+pub record IsMoved (e : Edge) (hi : Option (List ℕ)) (list moved : List Message) : Type 0 where
+  pub effect : (below : NodesAt) (k : List ℕ) → IsKey k → InRange e.pivot hi k
+      → (old : Option (List ℕ)) → acts below moved (drop e.lift k) old ≡ acts below list k old
+  pub each : AllByRecursion IsMessage moved
+  pub size : sum_by size moved ≤ sum_by size list
+  pub names : (c : ℕ) → goto_count c moved ≤ goto_count c list
+
+-- the oldest messages of a list, as many as fit, for the child of an edge
+pub record IsBatch (e : Edge) (hi : Option (List ℕ)) (list : List Message) (b : Batch) : Type 0
+  where
+    pub within : b.count ≤ length list
+    pub moved : IsMoved e hi (take b.count list) b.messages
+    pub fits : sum_by size b.messages ≤ batch_limit
+    pub full : (m : Message) → slice_get list b.count ≡ Some m
+        → batch_limit < sum_by size b.messages + size m

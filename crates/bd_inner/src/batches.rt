@@ -1,0 +1,77 @@
+//! What a push moves from a node to a child.
+
+ghost use Rattle.std.specs.Prelude.{◌≡◌, ◌≤◌, ◌∷◌, [], IfOk, IfSome};
+ghost use Rattle.std.specs.Option.{option_copied, option_to_list};
+ghost use Rattle.std.specs.List.{AllByRecursion};
+ghost use Rattle.bd_message.specs.Messages.{IsMessage, size};
+ghost use Rattle.bd_inner.specs.Moving.{IsLifted, CanMove, IsMoved, IsBatch};
+
+use crate::pending::can_touch;
+use crate::stripping::strip;
+use bd_limits::MAX_BATCH;
+use bd_message::Message;
+use bd_node::{Edge, Messages};
+use std::alloc::{AllocError, Global};
+
+/// Messages for a child.
+#[derive(Debug, Drop)]
+pub struct Batch {
+    /// How many messages of the node's these stand for: those that aren't pending for the child's
+    /// edge, too.
+    pub count: usize,
+    /// The messages on the child's keys, the oldest first.
+    pub messages: Messages,
+}
+
+/// The oldest of a node's messages that are pending for an edge, at most 16,384 bytes, as messages
+/// on the child's keys. The edge's keys end at `hi`, and `list` has the messages that it hasn't
+/// seen.
+pub fn next_batch(
+    alloc: Global,
+    edge: &Edge,
+    hi: Option<&[u8]>,
+    list: &[Message],
+) -> Result<Batch, AllocError>
+    requires edge { IsLifted edge.now (option_copied hi) }
+    requires each { AllByRecursion IsMessage list.now }
+    requires gotos { AllByRecursion (CanMove edge.now (option_copied hi)) list.now }
+    ensures { IfOk result (IsBatch edge.now (option_copied hi.entry) list.now) }
+{
+    let mut messages = Vec::new(alloc);
+    let mut size = 0;
+    for (count, message) in list.iter().enumerate() {
+        if let Some(message) = moved(alloc, edge, hi, message)? {
+            if message.size() > MAX_BATCH - size {
+                return Ok(Batch {
+                    count,
+                    messages: Messages::from_vec(messages),
+                });
+            }
+            size += message.size();
+            messages.push(message)?;
+        }
+    }
+    Ok(Batch {
+        count: list.len(),
+        messages: Messages::from_vec(messages),
+    })
+}
+
+// A message on the child's keys, and none where it changes nothing at a key of the edge.
+fn moved(
+    alloc: Global,
+    edge: &Edge,
+    hi: Option<&[u8]>,
+    message: &Message,
+) -> Result<Option<Message>, AllocError>
+    requires edge { IsLifted edge.now (option_copied hi) }
+    requires message { IsMessage message.now }
+    requires goto { CanMove edge.now (option_copied hi) message.now }
+    ensures { IfOk result (λ found. IsMoved edge.now (option_copied hi.entry)
+        (message.now ∷ []) (option_to_list found)) }
+{
+    if !can_touch(message, edge.pivot.as_slice(), hi) {
+        return Ok(None);
+    }
+    strip(alloc, message, &edge.pivot.as_slice()[..edge.lift as usize])
+}

@@ -1,0 +1,110 @@
+//! What follows from the definitions of compacted nodes and of messages that go down. Each function
+//! here carries laws, and does nothing.
+
+ghost use Rattle.std.specs.Prelude.{◌≡◌, ℕ, ◌+◌, ◌^◌, ◌<◌, ◌≤◌, List, [], ◌∷◌, ◌++◌, length, take, drop, Option, Some, IfSome};
+ghost use Rattle.std.specs.List.{AllByRecursion, sum_by};
+ghost use Rattle.bd_limits.specs.Limits.{buffer_limit, level_limit, edge_limit};
+ghost use Rattle.bd_keys.specs.Keys.{IsKey, IsLift};
+ghost use Rattle.std.specs.Option.{option_to_list};
+ghost use Rattle.bd_message.specs.declared.message.Message.{Message};
+ghost use Rattle.bd_message.specs.Messages.{IsMessage, size};
+ghost use Rattle.bd_message.specs.Effect.{NodesAt, act, acts};
+ghost use Rattle.bd_node.specs.declared.node.Edge.{Edge};
+ghost use Rattle.bd_node.specs.declared.node.Node.{Node};
+ghost use Rattle.bd_node.specs.Nodes.{level_of, buffer_size, message_names, names, times, edge_of, child_at, edge_at, through, node_at};
+ghost use Rattle.bd_node.specs.Shape.{end_before, AreRising, IsInner, IsShape};
+ghost use Rattle.bd_inner.specs.Compaction.{IsFlat, IsLoose, IsLooseNode, IsCompacted};
+ghost use Rattle.bd_inner.specs.Halves.{buffer_of};
+ghost use Rattle.bd_inner.specs.Stripping.{CanStrip, stripped};
+ghost use Rattle.bd_inner.specs.Moving.{IsLifted, IsMoved};
+ghost use Rattle.bd_inner.specs.Exchange.{exchanged, end_at, IsKeyOf, IsEdgeAt, FitsAt, way_to};
+
+/// A compacted node is well-formed, of the same level, has what it had, is no larger, and names
+/// each node no more often.
+pub fn compacted_nodes()
+    ensures loose { (n : Node) → IsShape n → IsLooseNode n }
+    ensures shape { (n m : Node) → IsLooseNode n → IsCompacted n m → IsShape m }
+    ensures level { (n m : Node) → IsCompacted n m → level_of m ≡ level_of n }
+    ensures meaning { (below : NodesAt) (n m : Node) → IsLooseNode n → IsCompacted n m
+        → (k : List ℕ) → node_at below m k ≡ node_at below n k }
+    ensures size { (n m : Node) → IsCompacted n m → buffer_size m ≤ buffer_size n }
+    ensures names { (n m : Node) → IsCompacted n m → (c : ℕ) → times m c ≤ times n c }
+{}
+
+/// A message on the keys that begin with a prefix does to what follows it what it did to them. It
+/// is a message, no larger, and names no other node.
+pub fn stripped_messages()
+    ensures effect { (below : NodesAt) (s : List ℕ) (m : Message) → CanStrip s m
+        → (k : List ℕ) (old : Option (List ℕ))
+        → acts below (option_to_list (stripped s m)) k old ≡ act below m (s ++ k) old }
+    ensures message { (s : List ℕ) (m : Message) → IsMessage m
+        → IfSome (stripped s m) IsMessage }
+    ensures size { (s : List ℕ) (m : Message) → IfSome (stripped s m) (λ n. size n ≤ size m) }
+    ensures names { (s : List ℕ) (m : Message)
+        → IfSome (stripped s m) (λ n. message_names n ≡ message_names m) }
+{}
+
+/// Edges with the keys of one can stand in its place: they are asked at its keys, and at the others
+/// a node has what it had, also without them.
+pub fn exchanged_edges()
+    ensures loose { (n : Node) (place : ℕ) (e : Edge) (list : List Edge) → IsShape n
+        → FitsAt n place e list → IsLooseNode (exchanged n place list) }
+    ensures before { (below : NodesAt) (n : Node) (place : ℕ) (e : Edge) → IsShape n
+        → IsEdgeAt n place e → (k : List ℕ) → IsKeyOf n place e k
+        → node_at below n k ≡ edge_at below e (buffer_of n) k }
+    ensures inside { (below : NodesAt) (n : Node) (place : ℕ) (e : Edge) (list : List Edge)
+        → IsShape n → FitsAt n place e list → (k : List ℕ) → IsKeyOf n place e k
+        → node_at below (exchanged n place list) k
+        ≡ through below (edge_of list k) (buffer_of n) k }
+    ensures outside { (below : NodesAt) (n : Node) (place : ℕ) (e : Edge) (list : List Edge)
+        → IsShape n → FitsAt n place e list → (k : List ℕ) → ¬ IsKeyOf n place e k
+        → node_at below (exchanged n place list) k ≡ node_at below n k }
+    ensures without { (below : NodesAt) (n : Node) (place : ℕ) (e : Edge) → IsShape n
+        → IsEdgeAt n place e → (k : List ℕ) → ¬ IsKeyOf n place e k
+        → node_at below (exchanged n place []) k ≡ node_at below n k }
+{}
+
+/// A push keeps what the node has: its edge has then seen the messages that its child has got, or
+/// it has a new child with them; and what else the node names has what it had.
+pub fn pushes_keep_the_meaning()
+    ensures { (below has : NodesAt) (n : Node) (place : ℕ) (e f : Edge) (count : ℕ)
+        (moved : List Message) → IsShape n → FitsAt n place e (f ∷ [])
+        → f.seen ≡ e.seen + count
+        → IsMoved f (end_at n place) (take count (drop e.seen (buffer_of n))) moved
+        → ((k : List ℕ) → IsKey k → IsKeyOf n place e k
+        → child_at has f.child (f.source ++ drop f.lift k)
+        ≡ acts has moved (drop f.lift k)
+        (child_at below e.child (e.source ++ drop e.lift k)))
+        → AllByRecursion (λ c. (l : List ℕ) → has c l ≡ below c l) (names (exchanged n place []))
+        → (k : List ℕ) → IsKey k
+        → node_at has (exchanged n place (f ∷ [])) k ≡ node_at below n k }
+{}
+
+/// A node's edge can have seen more messages, or lead to a new child that gets the keys without all
+/// bytes that they have in common; messages can go down either.
+pub fn edges_fit()
+    ensures lifted { (n : Node) (place : ℕ) (e : Edge) → IsShape n → IsEdgeAt n place e
+        → IsLifted e (end_at n place) }
+    ensures seen { (n : Node) (place : ℕ) (e : Edge) (seen : ℕ) → IsShape n → IsEdgeAt n place e
+        → seen ≤ length (buffer_of n) → FitsAt n place e (record e { seen = seen } ∷ []) }
+    ensures new_lifted { (n : Node) (place : ℕ) (e : Edge) (lift child : ℕ) → IsShape n
+        → IsEdgeAt n place e → IsLift e.pivot (end_at n place) lift
+        → IsLifted (way_to e lift child) (end_at n place) }
+    ensures new_child { (n : Node) (place : ℕ) (e : Edge) (lift child seen : ℕ) → IsShape n
+        → IsEdgeAt n place e → IsLift e.pivot (end_at n place) lift → 1 ≤ child → child < 2 ^ 64
+        → seen ≤ length (buffer_of n)
+        → FitsAt n place e (record (way_to e lift child) { seen = seen } ∷ []) }
+{}
+
+/// Edges that leave nothing out and put nothing in front, with rising pivots from the empty key on,
+/// are those of a node, and without messages of a well-formed one.
+pub fn flat_edges()
+    ensures loose { (level : ℕ) (edges : List Edge) (buffer : List Message) → 1 ≤ level
+        → level ≤ level_limit → length edges ≤ edge_limit → end_before edges ≡ Some []
+        → AreRising edges → AllByRecursion (IsFlat (length buffer)) edges
+        → AllByRecursion IsMessage buffer → sum_by size buffer ≤ buffer_limit
+        → IsLoose level edges buffer }
+    ensures shape { (level : ℕ) (edges : List Edge) → 1 ≤ level → level ≤ level_limit
+        → length edges ≤ edge_limit → end_before edges ≡ Some [] → AreRising edges
+        → AllByRecursion (IsFlat 0) edges → IsInner level edges [] }
+{}
