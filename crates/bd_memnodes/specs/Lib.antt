@@ -1,3 +1,4 @@
 pub mod Maps
 pub mod Releasing
 pub mod Plans
+pub mod Stored

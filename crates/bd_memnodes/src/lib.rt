@@ -3,6 +3,7 @@
 #![tactic(auto)]
 
 mod kept;
+mod carry;
 mod naming;
 mod plan;
 mod store;

@@ -1,0 +1,92 @@
+//! How a step is made in memory that is taken: nothing here fails.
+
+ghost use Rattle.std.specs.Prelude.{◌≡◌, ℕ, ◌+◌, ◌<◌, ◌≤◌, ◌^◌, ◌==◌, if◌then◌else◌, [], length, map, vec_len, vec_capacity, nat_eq, IsSome};
+ghost use Rattle.std.specs.List.{AllByRecursion, sum_by};
+ghost use Rattle.std.specs.HashMap.{hash_map_len, get, spare};
+ghost use Rattle.bd_node.specs.declared.node.Node.{Node};
+ghost use Rattle.bd_node.specs.Nodes.{buffer_size};
+ghost use Rattle.bd_node.specs.Shape.{IsShape};
+ghost use Rattle.bd_node.specs.Tables.{times_in};
+ghost use Rattle.bd_node.specs.Steps.{changed_at, given_or, AreOnce, IsStep, StayAbove, IsTableAfter, IsCommitted};
+ghost use Rattle.bd_memnodes.specs.Maps.{nodes_in, count_in, times_among, times_of};
+ghost use Rattle.bd_memnodes.specs.Releasing.{HasRoom, SameHead};
+ghost use Rattle.bd_memnodes.specs.Plans.{change_of, step_of, step_names};
+ghost use Rattle.bd_memnodes.specs.Stored.{table_in, with_made, HasMemory, IsWhole};
+
+use crate::kept::{Kept, count_of, set_count};
+use crate::plan::{Exchange, Plan};
+use bd_node::Node;
+use std::collections::HashMap;
+use std::mem;
+use std::rc::Rc;
+
+impl Kept {
+    // Adds a node under the next id, with a count of 0.
+    fn add(&mut self, node: Rc<Node>)
+        requires nodes { 1 ≤ spare self.old.nodes }
+        requires counts { 1 ≤ spare self.old.counts }
+        requires next { self.old.next + 1 < 2 ^ 64 }
+        requires fresh { count_in self.old.counts self.old.next ≡ 0 }
+        ensures nodes { (id : ℕ) → nodes_in self.new.nodes id
+            ≡ (if self.old.next == id then Some node.value else nodes_in self.old.nodes id) }
+        ensures counts { (c : ℕ) → count_in self.new.counts c ≡ count_in self.old.counts c }
+        ensures there { IsSome (get nat_eq self.new.counts self.old.next) }
+        ensures others { (c : ℕ) → IsSome (get nat_eq self.old.counts c)
+            → IsSome (get nat_eq self.new.counts c) }
+        ensures spare_nodes { spare self.old.nodes ≤ spare self.new.nodes + 1 }
+        ensures spare_counts { spare self.old.counts ≤ spare self.new.counts + 1 }
+        ensures len { hash_map_len self.new.nodes ≤ hash_map_len self.old.nodes + 1 }
+        ensures next { self.new.next ≡ self.old.next + 1 }
+        ensures dead { self.new.dead ≡ self.old.dead }
+        ensures root { self.new.root ≡ self.old.root }
+        ensures size { self.new.size ≡ self.old.size }
+    {
+        match self.nodes.insert(self.next, node) {
+            Ok(_) => {}
+            Err(_) => unreachable!(),
+        }
+        match self.counts.insert(self.next, 0) {
+            Ok(_) => {}
+            Err(_) => unreachable!(),
+        }
+        self.next += 1;
+    }
+
+    // Puts another node in the place of a kept one, which waits until its names are taken back.
+    fn exchange(&mut self, id: u64, node: Rc<Node>)
+        requires there { IsSome (get nat_eq self.old.nodes id) }
+        requires room { vec_len self.old.dead + 1 ≤ vec_capacity self.old.dead }
+        ensures nodes { (i : ℕ) → nodes_in self.new.nodes i
+            ≡ (if id == i then Some node.value else nodes_in self.old.nodes i) }
+        ensures others { (i : ℕ) → IsSome (get nat_eq self.old.nodes i)
+            → IsSome (get nat_eq self.new.nodes i) }
+        ensures waits { (c : ℕ) → times_of self.new.dead.items c
+            ≡ times_of self.old.dead.items c + times_in (nodes_in self.old.nodes id) c }
+        ensures dead { vec_len self.new.dead ≡ vec_len self.old.dead + 1 }
+        ensures capacity { vec_capacity self.old.dead ≤ vec_capacity self.new.dead }
+        ensures len { hash_map_len self.new.nodes ≡ hash_map_len self.old.nodes }
+        ensures counts { self.new.counts ≡ self.old.counts }
+        ensures head { SameHead self.old self.new }
+    {
+        if let Ok(Some(old)) = self.nodes.insert(id, node) {
+            match self.dead.push(old) {
+                Ok(()) => {}
+                Err(_) => unreachable!(),
+            }
+        }
+    }
+}
+
+// Raises the count of each of these names.
+fn raise(counts: &mut HashMap<u64, u64>, names: &[u64])
+    requires there { (c : ℕ) → 1 ≤ times_among names.now c → IsSome (get nat_eq counts.old c) }
+    requires fits { (c : ℕ) → 1 ≤ times_among names.now c
+        → count_in counts.old c + times_among names.now c < 2 ^ 64 }
+    ensures { (c : ℕ) → count_in counts.new c
+        ≡ count_in counts.old c + times_among names.now c }
+{
+    for name in names {
+        let count = count_of(counts, *name);
+        set_count(counts, *name, count + 1);
+    }
+}
