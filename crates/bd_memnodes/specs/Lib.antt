@@ -2,3 +2,4 @@ pub mod Maps
 pub mod Releasing
 pub mod Plans
 pub mod Stored
+pub mod Carried

@@ -11,7 +11,8 @@ ghost use Rattle.bd_node.specs.Steps.{changed_at, given_or, AreOnce, IsStep, Sta
 ghost use Rattle.bd_memnodes.specs.Maps.{nodes_in, count_in, times_among, times_of};
 ghost use Rattle.bd_memnodes.specs.Releasing.{HasRoom, SameHead};
 ghost use Rattle.bd_memnodes.specs.Plans.{change_of, step_of, step_names};
-ghost use Rattle.bd_memnodes.specs.Stored.{table_in, with_made, HasMemory, IsWhole};
+ghost use Rattle.bd_memnodes.specs.Stored.{table_in, HasMemory, IsWhole};
+ghost use Rattle.bd_memnodes.specs.Carried.{IsAdded, IsExchanged};
 
 use crate::kept::{Kept, count_of, set_count};
 use crate::plan::{Exchange, Plan};
@@ -73,6 +74,35 @@ impl Kept {
                 Ok(()) => {}
                 Err(_) => unreachable!(),
             }
+        }
+    }
+
+    // Adds nodes under the next ids, in this order.
+    fn add_all(&mut self, made: Vec<Rc<Node>>)
+        requires nodes { length made.items ≤ spare self.old.nodes }
+        requires counts { length made.items ≤ spare self.old.counts }
+        requires next { self.old.next + length made.items < 2 ^ 64 }
+        requires fresh { (c : ℕ) → self.old.next ≤ c → count_in self.old.counts c ≡ 0 }
+        ensures added { IsAdded self.old made.items self.new }
+    {
+        for node in made {
+            self.add(node);
+        }
+    }
+
+    // Puts other nodes in the place of kept ones, which wait until their names are taken back.
+    fn exchange_all(&mut self, changes: Vec<Exchange>)
+        requires there { AllByRecursion (λ change. IsSome (get nat_eq self.old.nodes change.id))
+            changes.items }
+        requires once { AreOnce (map change_of changes.items) }
+        requires room { hash_map_len self.old.nodes + vec_len self.old.dead + length changes.items
+            ≤ vec_capacity self.old.dead }
+        ensures exchanged { IsExchanged self.old changes.items self.new }
+        ensures room { HasRoom self.new }
+    {
+        for change in changes {
+            let Exchange { id, node } = change;
+            self.exchange(id, node);
         }
     }
 }

@@ -1,0 +1,38 @@
+-- What the parts of a step leave.
+use Rattle.std.specs.Prelude.{◌≡◌, ℕ, ◌+◌, ◌<◌, ◌≤◌, List, length, map, nat_eq, vec_len, vec_capacity, IsSome}
+use Rattle.std.specs.Global.{Global}
+use Rattle.std.specs.HashMap.{hash_map_len, get, spare}
+use Rattle.std.specs.List.{sum_by}
+use Rattle.std.specs.declared.rc.Rc.{Rc}
+use Rattle.bd_node.specs.declared.node.Node.{Node}
+use Rattle.bd_node.specs.Tables.{times_in}
+use Rattle.bd_node.specs.Steps.{changed_at, given_or}
+use Rattle.bd_memnodes.specs.declared.kept.Kept.{Kept}
+use Rattle.bd_memnodes.specs.declared.plan.Exchange.{Exchange}
+use Rattle.bd_memnodes.specs.Maps.{nodes_in, count_in, times_of}
+use Rattle.bd_memnodes.specs.Releasing.{SameHead}
+use Rattle.bd_memnodes.specs.Plans.{change_of}
+use Rattle.bd_memnodes.specs.Stored.{with_made}
+
+-- made nodes have been added under the next ids, each with a count of 0
+pub record IsAdded (old : Kept) (made : List (Rc Node Global)) (new : Kept) : Type 0 where
+  pub nodes : (id : ℕ) → nodes_in new.nodes id
+      ≡ with_made old.next (map (λ shared. shared.value) made) (nodes_in old.nodes) id
+  pub counts : (c : ℕ) → count_in new.counts c ≡ count_in old.counts c
+  pub there : (c : ℕ) → old.next ≤ c → c < old.next + length made
+      → IsSome (get nat_eq new.counts c)
+  pub others : (c : ℕ) → IsSome (get nat_eq old.counts c) → IsSome (get nat_eq new.counts c)
+  pub len : hash_map_len new.nodes ≤ hash_map_len old.nodes + length made
+  pub next : new.next ≡ old.next + length made
+  pub dead : new.dead ≡ old.dead
+  pub root : new.root ≡ old.root
+  pub size : new.size ≡ old.size
+
+-- nodes were exchanged, and the old ones wait
+pub record IsExchanged (old : Kept) (changes : List Exchange) (new : Kept) : Type 0 where
+  pub nodes : (id : ℕ) → nodes_in new.nodes id
+      ≡ given_or (changed_at (map change_of changes) id) (nodes_in old.nodes id)
+  pub waits : (c : ℕ) → times_of new.dead.items c ≡ times_of old.dead.items c
+      + sum_by (λ (change : Exchange). times_in (nodes_in old.nodes change.id) c) changes
+  pub counts : new.counts ≡ old.counts
+  pub head : SameHead old new
