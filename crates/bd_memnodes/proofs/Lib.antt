@@ -3,3 +3,4 @@ pub mod Loops
 pub mod Counts
 pub mod Carrying
 pub mod Settling
+pub mod Parts

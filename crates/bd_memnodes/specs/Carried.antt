@@ -1,5 +1,5 @@
 -- What the parts of a step leave.
-use Rattle.std.specs.Prelude.{◌≡◌, ℕ, ◌+◌, ◌<◌, ◌≤◌, List, length, map, nat_eq, vec_len, vec_capacity, IsSome}
+use Rattle.std.specs.Prelude.{◌≡◌, ℕ, ◌+◌, ◌<◌, ◌≤◌, ◌^◌, List, length, map, nat_eq, vec_len, vec_capacity, IsSome}
 use Rattle.std.specs.Global.{Global}
 use Rattle.std.specs.HashMap.{hash_map_len, get, spare}
 use Rattle.std.specs.List.{sum_by}
@@ -9,10 +9,16 @@ use Rattle.bd_node.specs.Tables.{times_in}
 use Rattle.bd_node.specs.Steps.{changed_at, given_or}
 use Rattle.bd_memnodes.specs.declared.kept.Kept.{Kept}
 use Rattle.bd_memnodes.specs.declared.plan.Exchange.{Exchange}
-use Rattle.bd_memnodes.specs.Maps.{nodes_in, count_in, times_of}
+use Rattle.bd_memnodes.specs.Maps.{nodes_in, count_in, times_among, times_of}
 use Rattle.bd_memnodes.specs.Releasing.{SameHead}
 use Rattle.bd_memnodes.specs.Plans.{change_of}
 use Rattle.bd_memnodes.specs.Stored.{with_made}
+
+-- the next ids and the counts after these names are below their limit
+pub record FitCounts (kept : Kept) (made : ℕ) (names : List ℕ) : Type 0 where
+  pub next : kept.next + made < 2 ^ 64
+  pub counts : (c : ℕ) → 1 ≤ times_among names c
+      → count_in kept.counts c + times_among names c < 2 ^ 64
 
 -- made nodes have been added under the next ids, each with a count of 0
 pub record IsAdded (old : Kept) (made : List (Rc Node Global)) (new : Kept) : Type 0 where

@@ -3,3 +3,4 @@ pub mod Releasing
 pub mod Plans
 pub mod Stored
 pub mod Carried
+pub mod Seen

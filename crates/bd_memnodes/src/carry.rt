@@ -6,13 +6,13 @@ ghost use Rattle.std.specs.HashMap.{hash_map_len, get, spare};
 ghost use Rattle.bd_node.specs.declared.node.Node.{Node};
 ghost use Rattle.bd_node.specs.Nodes.{buffer_size};
 ghost use Rattle.bd_node.specs.Shape.{IsShape};
-ghost use Rattle.bd_node.specs.Tables.{times_in};
-ghost use Rattle.bd_node.specs.Steps.{changed_at, given_or, AreOnce, IsStep, StayAbove, IsTableAfter, IsCommitted};
+ghost use Rattle.bd_node.specs.Tables.{times_in, one_if};
+ghost use Rattle.bd_node.specs.Steps.{AreOnce, after, IsStep, StayAbove, IsTableAfter, IsCommitted};
 ghost use Rattle.bd_memnodes.specs.Maps.{nodes_in, count_in, times_among, times_of};
-ghost use Rattle.bd_memnodes.specs.Releasing.{HasRoom, SameHead};
+ghost use Rattle.bd_memnodes.specs.Releasing.{IsReleasing, HasRoom, SameHead};
 ghost use Rattle.bd_memnodes.specs.Plans.{change_of, step_of, step_names};
 ghost use Rattle.bd_memnodes.specs.Stored.{table_in, HasMemory, IsWhole};
-ghost use Rattle.bd_memnodes.specs.Carried.{IsAdded, IsExchanged};
+ghost use Rattle.bd_memnodes.specs.Carried.{FitCounts, IsAdded, IsExchanged};
 
 use crate::kept::{Kept, count_of, set_count};
 use crate::plan::{Exchange, Plan};
@@ -104,6 +104,84 @@ impl Kept {
             let Exchange { id, node } = change;
             self.exchange(id, node);
         }
+    }
+
+    // Puts the nodes of a plan, and counts what they name. What the old ones named, and the old
+    // root's pointer, is owed still.
+    fn put(&mut self, plan: Plan)
+        requires whole { IsWhole self.old }
+        requires step { IsStep (table_in self.old) (step_of plan) }
+        requires above { StayAbove (nodes_in self.old.nodes) (table_in self.old) (step_of plan) }
+        requires names { plan.names.items ≡ step_names (step_of plan) }
+        requires fits { FitCounts self.old (length plan.made.items) plan.names.items }
+        requires memory { HasMemory (length plan.made.items) (length plan.changes.items) self.old }
+        ensures owing { IsReleasing (after (nodes_in self.old.nodes) (table_in self.old)
+            (step_of plan)) self.new.next self.new.root (nodes_in self.new.nodes)
+            (count_in self.new.counts)
+            (λ c. one_if self.old.root c + times_of self.new.dead.items c) }
+        ensures room { HasRoom self.new }
+        ensures root { self.new.root ≡ plan.root }
+        ensures next { self.new.next ≡ self.old.next + length plan.made.items }
+    {
+        let Plan {
+            made,
+            changes,
+            names,
+            root,
+        } = plan;
+        self.add_all(made);
+        raise(&mut self.counts, names.as_slice());
+        self.exchange_all(changes);
+        self.root = root;
+    }
+
+    // Takes back what is owed: a pointer to the old root, and the names in nodes that wait.
+    fn settle(&mut self, old_root: u64)
+        requires owing { IsReleasing (nodes_in self.old.nodes) self.old.next self.old.root
+            (nodes_in self.old.nodes) (count_in self.old.counts)
+            (λ c. one_if old_root c + times_of self.old.dead.items c) }
+        requires room { HasRoom self.old }
+        ensures settled { IsReleasing (nodes_in self.old.nodes) self.new.next self.new.root
+            (nodes_in self.new.nodes) (count_in self.new.counts) (λ c. 0) }
+        ensures idle { self.new.dead.items ≡ [] }
+        ensures size { (n : Node) → nodes_in self.new.nodes self.new.root ≡ Some n
+            → buffer_size n ≡ self.new.size }
+        ensures root { self.new.root ≡ self.old.root }
+        ensures next { self.new.next ≡ self.old.next }
+    {
+        self.take_back(old_root);
+        self.drop_dead();
+        self.size = self.root_size();
+    }
+
+    // The size of the messages that wait in the root.
+    fn root_size(&self) -> usize
+        requires { (n : Node) → nodes_in self.now.nodes self.now.root ≡ Some n → IsShape n }
+        ensures { (n : Node) → nodes_in self.now.nodes self.now.root ≡ Some n
+            → buffer_size n ≡ result }
+    {
+        match self.nodes.get(&self.root) {
+            Some(node) => node.buffer_size(),
+            None => 0,
+        }
+    }
+
+    /// Makes a planned step. Nodes that nothing names any more go.
+    pub fn carry_out(&mut self, plan: Plan)
+        requires whole { IsWhole self.old }
+        requires step { IsStep (table_in self.old) (step_of plan) }
+        requires above { StayAbove (nodes_in self.old.nodes) (table_in self.old) (step_of plan) }
+        requires names { plan.names.items ≡ step_names (step_of plan) }
+        requires fits { FitCounts self.old (length plan.made.items) plan.names.items }
+        requires memory { HasMemory (length plan.made.items) (length plan.changes.items) self.old }
+        ensures committed { IsCommitted (nodes_in self.old.nodes) (table_in self.old)
+            (step_of plan) (nodes_in self.new.nodes) (table_in self.new) }
+        ensures table { IsTableAfter (table_in self.old) (step_of plan) (table_in self.new) }
+        ensures whole { IsWhole self.new }
+    {
+        let old_root = self.root;
+        self.put(plan);
+        self.settle(old_root);
     }
 }
 

@@ -2,10 +2,10 @@
 //! The layers above use `MemNodes`, by the contract of `NodeStore`.
 #![tactic(auto)]
 
-mod kept;
 mod carry;
+mod kept;
 mod naming;
 mod plan;
 mod store;
 
-
+pub use store::MemNodes;

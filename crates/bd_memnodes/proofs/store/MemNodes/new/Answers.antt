@@ -1,0 +1,17 @@
+use Rattle.std.proofs.Common.{rules, ◌≡◌, ℕ, OnOk, OnErr, IfOk, ◌+◌, ◌-◌, ◌*◌, ◌<◌, ◌≤◌, length, ◌/◌, ◌%◌, Bool, true, false, nat_eq, nat_lt, List, [], ◌∷◌, ◌++◌, slice_index_or, slice_set, bit_and, bit_or, Fits, w8, w32, w64, Bor, MutBor}
+use Rattle.bd_node.specs.Tables.{IsSound}
+use Rattle.bd_node.specs.New.{new_root, new_nodes, new_table}
+use Rattle.bd_memnodes.specs.Seen.{nodes_of, table, SameNodes}
+use Rattle.bd_memnodes.proofs.store.MemNodes.new.Goals as goal
+
+-- src/store.rt:50:9
+pub invariant_of-result : goal.invariant_of-result
+invariant_of-result c = ?
+
+-- src/store.rt:40:5
+pub returns-clause-nodes : goal.returns-clause-nodes
+returns-clause-nodes c = ?
+
+-- src/store.rt:40:5
+pub returns-clause-table : goal.returns-clause-table
+returns-clause-table c = ?
