@@ -4,3 +4,4 @@ pub mod Counts
 pub mod Carrying
 pub mod Settling
 pub mod Parts
+pub mod Fresh

@@ -42,3 +42,10 @@ pub record IsExchanged (old : Kept) (changes : List Exchange) (new : Kept) : Typ
       + sum_by (λ (change : Exchange). times_in (nodes_in old.nodes change.id) c) changes
   pub counts : new.counts ≡ old.counts
   pub head : SameHead old new
+
+-- the same nodes and counts, in perhaps more memory
+pub record SameKept (old new : Kept) : Type 0 where
+  pub nodes : (id : ℕ) → nodes_in new.nodes id ≡ nodes_in old.nodes id
+  pub counts : (c : ℕ) → count_in new.counts c ≡ count_in old.counts c
+  pub dead : new.dead.items ≡ old.dead.items
+  pub head : SameHead old new

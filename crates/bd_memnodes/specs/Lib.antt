@@ -4,3 +4,4 @@ pub mod Plans
 pub mod Stored
 pub mod Carried
 pub mod Seen
+pub mod Reading

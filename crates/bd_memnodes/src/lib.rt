@@ -3,6 +3,7 @@
 #![tactic(auto)]
 
 mod carry;
+mod change;
 mod kept;
 mod naming;
 mod plan;

@@ -4,6 +4,7 @@ ghost use Rattle.std.specs.Prelude.{◌≡◌, ℕ, OnOk, OnErr, IfOk};
 ghost use Rattle.bd_node.specs.Tables.{IsSound};
 ghost use Rattle.bd_node.specs.New.{new_root, new_nodes, new_table};
 ghost use Rattle.bd_memnodes.specs.Seen.{nodes_of, table, SameNodes};
+ghost use Rattle.bd_memnodes.specs.Reading.{same_nodes-none, same_nodes-both};
 
 use crate::kept::{Kept, count_of};
 use bd_keys::Bytes;
@@ -66,6 +67,76 @@ impl MemNodes {
         ensures { IsSound (nodes_of self.now) (table self.now) }
     {
         let _ = &self.kept;
+    }
+}
+
+impl NodeStore for MemNodes {
+    ghost is_known = { λ _. Unit {0} };
+
+    ghost nodes = { nodes_of };
+
+    ghost table = { table };
+
+    ghost visit_count = { λ s. s.visits };
+
+    ghost fault_count = { λ _. 0 };
+
+    ghost bad = { λ _ _. ⊥ };
+
+    ghost reads = { SameNodes };
+
+    ghost reads_none = { same_nodes-none };
+
+    ghost reads_both = { same_nodes-both };
+
+    fn fetch(&mut self, id: u64) -> Result<Rc<Node>, MapFault> {
+        self.visits = self.visits.saturating_add(1);
+        match self.kept.nodes.get(&id) {
+            Some(node) => Ok(node.clone()?),
+            None => unreachable!(),
+        }
+    }
+
+    fn commit(&mut self, step: Step) -> Result<(), MapFault> {
+        let made = step.made.len() as u64;
+        self.kept.commit(self.alloc, step)?;
+        self.visits = self.visits.saturating_add(made);
+        Ok(())
+    }
+
+    fn append(&mut self, list: Messages) -> Result<(), MapFault> {
+        self.kept.append(self.alloc, list)
+    }
+
+    fn root(&self) -> u64 {
+        self.kept.root
+    }
+
+    fn next_id(&self) -> u64 {
+        self.kept.next
+    }
+
+    fn count(&self, id: u64) -> u64 {
+        count_of(&self.kept.counts, id)
+    }
+
+    fn level(&self, id: u64) -> u32 {
+        match self.kept.nodes.get(&id) {
+            Some(node) => node.level(),
+            None => 0,
+        }
+    }
+
+    fn root_size(&self) -> usize {
+        self.kept.size
+    }
+
+    fn visits(&self) -> u64 {
+        self.visits
+    }
+
+    fn faults(&self) -> u64 {
+        0
     }
 }
 
