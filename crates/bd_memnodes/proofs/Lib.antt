@@ -5,3 +5,6 @@ pub mod Carrying
 pub mod Settling
 pub mod Parts
 pub mod Fresh
+pub mod Same
+pub mod Appended
+pub mod Views

@@ -8,10 +8,12 @@ use Rattle.bd_node.specs.declared.node.Node.{Node}
 use Rattle.bd_node.specs.Tables.{times_in}
 use Rattle.bd_node.specs.Steps.{changed_at, given_or}
 use Rattle.bd_memnodes.specs.declared.kept.Kept.{Kept}
+use Rattle.bd_node.specs.declared.node.Step.{Step}
 use Rattle.bd_memnodes.specs.declared.plan.Exchange.{Exchange}
+use Rattle.bd_memnodes.specs.declared.plan.Plan.{Plan}
 use Rattle.bd_memnodes.specs.Maps.{nodes_in, count_in, times_among, times_of}
 use Rattle.bd_memnodes.specs.Releasing.{SameHead}
-use Rattle.bd_memnodes.specs.Plans.{change_of}
+use Rattle.bd_memnodes.specs.Plans.{change_of, step_of, step_names}
 use Rattle.bd_memnodes.specs.Stored.{with_made}
 
 -- the next ids and the counts after these names are below their limit
@@ -49,3 +51,9 @@ pub record SameKept (old new : Kept) : Type 0 where
   pub counts : (c : ℕ) → count_in new.counts c ≡ count_in old.counts c
   pub dead : new.dead.items ≡ old.dead.items
   pub head : SameHead old new
+
+-- the plan of a step, for which each counter has room
+pub record IsPlanOf (kept : Kept) (step : Step) (plan : Plan) : Type 0 where
+  pub step_is : step_of plan ≡ step
+  pub names_are : plan.names.items ≡ step_names step
+  pub fits : FitCounts kept (length plan.made.items) plan.names.items

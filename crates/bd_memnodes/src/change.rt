@@ -1,6 +1,6 @@
 //! How what is kept changes: all of a step or nothing.
 
-ghost use Rattle.std.specs.Prelude.{◌≡◌, ℕ, ◌+◌, ◌≤◌, ◌^◌, [], OnOk, OnErr, length};
+ghost use Rattle.std.specs.Prelude.{◌≡◌, ℕ, ◌+◌, ◌≤◌, ◌^◌, [], ◌==◌, if◌then◌else◌, OnOk, OnErr, IfOk};
 ghost use Rattle.bd_message.specs.KeyMaps.{HasMapCause, NeverWorn};
 ghost use Rattle.bd_node.specs.declared.node.Node.{Node};
 ghost use Rattle.bd_node.specs.Nodes.{appended};
@@ -8,13 +8,14 @@ ghost use Rattle.bd_node.specs.Stores.{FitsRoot};
 ghost use Rattle.bd_node.specs.Steps.{IsStep, StayAbove, IsTableAfter, IsCommitted, IsWornBy, append_step, grown};
 ghost use Rattle.bd_memnodes.specs.Maps.{nodes_in, count_in};
 ghost use Rattle.bd_memnodes.specs.Stored.{table_in, HasMemory, IsWhole};
-ghost use Rattle.bd_memnodes.specs.Carried.{SameKept};
+ghost use Rattle.bd_memnodes.specs.Carried.{IsPlanOf, SameKept};
 
 use crate::kept::Kept;
 use crate::plan::{Plan, check_counts};
 use bd_message::{Counter, MapFault};
 use bd_node::{Messages, Node, Step};
 use std::alloc::{AllocError, Global};
+use std::collections::HashMap;
 use std::rc::Rc;
 
 impl Kept {
@@ -30,16 +31,25 @@ impl Kept {
         ensures err { OnErr result (SameKept self.old self.new) }
         ensures cause { HasMapCause 0 0 (λ _. ⊥) (IsWornBy (table_in self.old) step) result }
     {
-        let made = step.made.len();
-        let changed = step.changes.len();
-        if self.next.checked_add(made as u64).is_none() {
+        let plan = self.planned(alloc, step)?;
+        self.make_room(plan.made.len(), plan.changes.len())?;
+        self.carry_out(plan);
+        Ok(())
+    }
+
+    // The plan of a step for which each counter has room.
+    fn planned(&self, alloc: Global, step: Step) -> Result<Plan, MapFault>
+        ensures plan { IfOk result (λ plan. IsPlanOf self.now step plan) }
+        ensures cause { HasMapCause 0 0 (λ _. ⊥) (IsWornBy (table_in self.now) step) result }
+    {
+        if self.next.checked_add(step.made.len() as u64).is_none() {
             return Err(MapFault::Worn(Counter::NextId));
         }
         let plan = Plan::of(alloc, step)?;
-        check_counts(alloc, &self.counts, plan.names.as_slice())?;
-        self.make_room(made, changed)?;
-        self.carry_out(plan);
-        Ok(())
+        match check_counts(alloc, &self.counts, plan.names.as_slice()) {
+            Ok(()) => Ok(plan),
+            Err(fault) => Err(fault),
+        }
     }
 
     /// Puts messages after those that wait in the root, or leaves all as it is.
@@ -56,9 +66,7 @@ impl Kept {
         ensures cause { HasMapCause 0 0 (λ _. ⊥) NeverWorn result }
     {
         let added = list.size();
-        if let Some(root) = self.nodes.get_mut(&self.root) {
-            append_to(alloc, root, list)?;
-        }
+        append_at(alloc, &mut self.nodes, self.root, list)?;
         self.size += added;
         Ok(())
     }
@@ -78,6 +86,24 @@ impl Kept {
             return Err(AllocError);
         };
         self.dead.reserve(all)
+    }
+}
+
+// Puts messages after those that wait in a kept node.
+fn append_at(
+    alloc: Global,
+    nodes: &mut HashMap<u64, Rc<Node>>,
+    id: u64,
+    list: Messages,
+) -> Result<(), AllocError>
+    ensures ok { (n : Node) → nodes_in nodes.old id ≡ Some n → OnOk result ((i : ℕ)
+        → nodes_in nodes.new i
+        ≡ (if id == i then Some (appended n list) else nodes_in nodes.old i)) }
+    ensures err { OnErr result ((i : ℕ) → nodes_in nodes.new i ≡ nodes_in nodes.old i) }
+{
+    match nodes.get_mut(&id) {
+        Some(shared) => append_to(alloc, shared, list),
+        None => Ok(()),
     }
 }
 

@@ -99,9 +99,13 @@ impl NodeStore for MemNodes {
 
     fn commit(&mut self, step: Step) -> Result<(), MapFault> {
         let made = step.made.len() as u64;
-        self.kept.commit(self.alloc, step)?;
-        self.visits = self.visits.saturating_add(made);
-        Ok(())
+        match self.kept.commit(self.alloc, step) {
+            Ok(()) => {
+                self.visits = self.visits.saturating_add(made);
+                Ok(())
+            }
+            Err(fault) => Err(fault),
+        }
     }
 
     fn append(&mut self, list: Messages) -> Result<(), MapFault> {
