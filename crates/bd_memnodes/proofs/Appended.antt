@@ -1,19 +1,18 @@
 -- The root with more messages.
-use Rattle.std.proofs.Common.{◌≡◌, ℕ, ◌+◌, ◌-◌, suc, refl, sym, ap, subst, ◌∙◌, inl, inr, List, Option, None, Some, cond, eqb}
+use Rattle.std.proofs.Common.{◌≡◌, ℕ, ◌+◌, ◌-◌, suc, sym, ap, subst, ◌∙◌, inl, inr, List, Some, cond, eqb}
 use Rattle.std.specs.List.{sum_by}
 use Rattle.std.proofs.lemmas.Bool.{cases_eq, cond-true, cond-false, eq-eqb, ne_eqb}
 use Rattle.bd_message.specs.declared.message.Message.{Message}
 use Rattle.bd_message.specs.Messages.{size}
 use Rattle.bd_node.specs.declared.node.Node.{Node}
-use Rattle.bd_node.specs.Nodes.{level_of, height_of, appended}
+use Rattle.bd_node.specs.Nodes.{height_of, appended}
 use Rattle.bd_node.specs.Meaning.{Nodes}
-use Rattle.bd_node.specs.Tables.{Table, IsSound, IsStored}
+use Rattle.bd_node.specs.Tables.{Table, IsSound}
 use Rattle.bd_node.specs.Stores.{FitsRoot}
 use Rattle.bd_node.specs.Steps.{after, append_step, grown, IsCommitted}
 use Rattle.bd_node.proofs.Appending.{level_appended, append_sound}
 use Rattle.bd_node.proofs.Stepping.{given_at_root, given_other, after-some, after-none}
 use Rattle.bd_memnodes.specs.Stored.{table_of}
-use Rattle.bd_memnodes.proofs.Same.{equal_tables}
 
 -- the nodes with another root
 pub is_appended : (nodes new : Nodes) (t : Table) (root : Node) (list : List Message) → IsSound nodes t → ((i : ℕ) → new i ≡ cond (eqb t.root i) (Some (appended root list)) (nodes i)) → new ≡ after nodes t (append_step t root list)

@@ -1,5 +1,5 @@
 -- Nodes that are added and exchanged one after the other.
-use Rattle.std.proofs.Common.{◌≡◌, ℕ, ◌+◌, ◌-◌, ◌<◌, ◌≤◌, zero, suc, refl, sym, ap, subst, ◌∙◌, arith, inl, inr, List, [], ◌∷◌, ◌++◌, length, length-append, append_assoc, map, nat_eq, vec_len, vec_capacity, IsSome, Option, None, Some, Global, cond, eqb, ltb, Bool, true, false}
+use Rattle.std.proofs.Common.{◌≡◌, ℕ, ◌+◌, ◌-◌, ◌≤◌, zero, suc, refl, sym, ap, subst, ◌∙◌, arith, inl, inr, List, [], ◌∷◌, ◌++◌, length, length-append, append_assoc, map, nat_eq, vec_len, vec_capacity, IsSome, Option, None, Some, Global, cond, eqb, ltb, Bool, true, false}
 use Rattle.std.specs.Prelude.{slice_get}
 use Rattle.std.specs.List.{AllByRecursion, sum_by}
 use Rattle.std.specs.HashMap.{hash_map_len, get, spare}
@@ -11,7 +11,7 @@ use Rattle.bd_node.specs.declared.node.Change.{Change}
 use Rattle.bd_node.specs.Meaning.{Nodes}
 use Rattle.bd_node.specs.Tables.{times_in}
 use Rattle.bd_node.specs.Steps.{changed_at, given_or, AreOnce}
-use Rattle.bd_node.proofs.Lookup.{each_weaker, each_second}
+use Rattle.bd_node.proofs.Lookup.{each_second}
 use Rattle.bd_node.proofs.Stepping.{changed_at-same, changed_at-other, changed_at-none}
 use Rattle.bd_memnodes.specs.declared.kept.Kept.{Kept}
 use Rattle.bd_memnodes.specs.declared.plan.Exchange.{Exchange}
@@ -210,7 +210,7 @@ exchanged_one old changes xs rest x mid new once h one =
     let longer : length (xs ++ x ∷ []) ≡ length xs + 1 = length-append xs (x ∷ []) in
     let apart = before_apart changes xs rest x h.all once in
     let untouched : nodes_in mid.nodes x.id ≡ nodes_in old.nodes x.id =
-        h.exchanged.nodes x.id ∙ ap (λ o. given_or o (nodes_in old.nodes x.id)) (changed_at-none (λ i. i ≡ x.id → ⊥) (map change_of xs) x.id apart (λ out. out refl)) in
+    h.exchanged.nodes x.id ∙ ap (λ o. given_or o (nodes_in old.nodes x.id)) (changed_at-none (λ i. i ≡ x.id → ⊥) (map change_of xs) x.id apart (λ out. out refl)) in
     record {
       all = append_assoc xs (x ∷ []) rest ∙ h.all;
       exchanged = record {
@@ -224,8 +224,8 @@ exchanged_one old changes xs rest x mid new once h one =
             let b : times_of mid.dead.items c ≡ times_of old.dead.items c + sum_by (λ (change : Exchange). times_in (nodes_in old.nodes change.id) c) xs = h.exchanged.waits c in
             let d : times_in (nodes_in mid.nodes x.id) c ≡ times_in (nodes_in old.nodes x.id) c = ap (λ o. times_in o c) untouched in
             let e : sum_by (λ (change : Exchange). times_in (nodes_in old.nodes change.id) c) (xs ++ x ∷ []) ≡ sum_by (λ (change : Exchange). times_in (nodes_in old.nodes change.id) c) xs + times_in (nodes_in old.nodes x.id) c =
-                sum_by-append (λ (change : Exchange). times_in (nodes_in old.nodes change.id) c) xs (x ∷ [])
-                ∙ ap (λ (k : ℕ). sum_by (λ (change : Exchange). times_in (nodes_in old.nodes change.id) c) xs + k) (sum_by-cons (λ (change : Exchange). times_in (nodes_in old.nodes change.id) c) x [] ∙ omega arith) in
+            sum_by-append (λ (change : Exchange). times_in (nodes_in old.nodes change.id) c) xs (x ∷ [])
+            ∙ ap (λ (k : ℕ). sum_by (λ (change : Exchange). times_in (nodes_in old.nodes change.id) c) xs + k) (sum_by-cons (λ (change : Exchange). times_in (nodes_in old.nodes change.id) c) x [] ∙ omega arith) in
             omega arith;
         counts = one.counts ∙ h.exchanged.counts;
         head = record {

@@ -1,10 +1,10 @@
 -- Counts that rise by names.
-use Rattle.std.proofs.Common.{◌≡◌, ℕ, ◌+◌, ◌^◌, ◌<◌, ◌≤◌, refl, sym, ap, subst, ◌∙◌, arith, inl, inr, List, [], ◌∷◌, ◌++◌, length, take, drop, get_or, nat_eq, Option, None, Some, eqb, cond}
+use Rattle.std.proofs.Common.{◌≡◌, ℕ, ◌+◌, ◌^◌, ◌<◌, ◌≤◌, sym, ap, subst, ◌∙◌, arith, inl, inr, List, [], ◌∷◌, length, take, drop, nat_eq, Some}
 use Rattle.std.specs.Prelude.{slice_index}
 use Rattle.std.specs.Option.{unwrap_or}
 use Rattle.std.specs.HashMap.{HashMap, get, Updates}
 use Rattle.std.specs.Map.{lookup}
-use Rattle.std.proofs.lemmas.Bool.{cases_eq, cond-true, cond-false, eq-eqb, ne_eqb}
+use Rattle.std.proofs.lemmas.Bool.{cases_eq, ne_eqb}
 use Rattle.std.proofs.lemmas.List.{take_more, take-append-drop}
 use Rattle.bd_node.specs.Tables.{one_if}
 use Rattle.bd_node.proofs.Sound.{one_if-same, one_if-other}
@@ -39,11 +39,11 @@ raised_more {S} {T} raised new counts xs i low updates before c =
     let old : raised_in raised counts c ≡ count_in counts c + times_among (take i xs) c = before c in
     elim (cases_eq x c) [
       | inl same ↦ (let here : raised_in new counts c ≡ raised_in raised counts c + 1 =
-            subst (λ (d : ℕ). raised_in new counts d ≡ raised_in raised counts d + 1) same (ap (λ o. unwrap_or o (count_in counts x)) updates.1) in
+          subst (λ (d : ℕ). raised_in new counts d ≡ raised_in raised counts d + 1) same (ap (λ o. unwrap_or o (count_in counts x)) updates.1) in
           let one : one_if x c ≡ 1 = subst (λ (d : ℕ). one_if x d ≡ 1) same (one_if-same x) in
           omega arith)
       | inr other ↦ (let here : raised_in new counts c ≡ raised_in raised counts c =
-            ap (λ o. unwrap_or o (count_in counts c)) (updates.2 c (ne_eqb x c other)) in
+          ap (λ o. unwrap_or o (count_in counts c)) (updates.2 c (ne_eqb x c other)) in
           let none : one_if x c ≡ 0 = one_if-other x c other in
           omega arith)
     ]
@@ -63,7 +63,7 @@ fits_more counts raised xs i low room before fits c some =
     let more : times_among (take (i + 1) xs) c ≡ times_among (take i xs) c + one_if x c = times_take xs i low c in
     elim (cases_eq x c) [
       | inl same ↦ (let here : counts c + times_among (take i xs) c + 1 < 2 ^ 64 =
-            subst (λ (d : ℕ). counts d + times_among (take i xs) d + 1 < 2 ^ 64) same (subst (λ (n : ℕ). n + 1 < 2 ^ 64) (before x) room) in
+          subst (λ (d : ℕ). counts d + times_among (take i xs) d + 1 < 2 ^ 64) same (subst (λ (n : ℕ). n + 1 < 2 ^ 64) (before x) room) in
           let one : one_if x c ≡ 1 = subst (λ (d : ℕ). one_if x d ≡ 1) same (one_if-same x) in
           omega arith)
       | inr other ↦ (let none : one_if x c ≡ 0 = one_if-other x c other in

@@ -1,8 +1,8 @@
 -- Names that are taken back one after the other.
-use Rattle.std.proofs.Common.{◌≡◌, ℕ, ◌+◌, ◌*◌, ◌<◌, ◌≤◌, suc, refl, sym, ap, subst, ◌∙◌, arith, inl, inr, List, [], ◌∷◌, ◌++◌, length, drop, get_or, drop-cons, add-one, vec_len, Option, None, Some, cond, Global}
+use Rattle.std.proofs.Common.{◌≡◌, ℕ, ◌+◌, ◌*◌, ◌<◌, ◌≤◌, suc, refl, sym, ap, subst, ◌∙◌, arith, inl, inr, List, [], ◌∷◌, ◌++◌, length, drop, get_or, drop-cons, add-one, vec_len, None, Some, cond, Global}
 use Rattle.std.specs.declared.rc.Rc.{Rc}
 use Rattle.bd_node.specs.declared.node.Node.{Node}
-use Rattle.bd_node.specs.declared.node.Node.TheVariants.{Leaf, Inner}
+use Rattle.bd_node.specs.declared.node.Node.TheVariants.{Inner}
 use Rattle.std.specs.Option.{option_to_list}
 use Rattle.std.proofs.lemmas.List.{drop_all}
 use Rattle.std.proofs.lemmas.List.Sums.{sum_by-append}
@@ -197,12 +197,12 @@ pub dropped_one : (start kept popped new : Kept) (shared : Rc Node Global) (n : 
 dropped_one start kept popped new shared n is same_nodes same_counts same_head popped_is taken room head h =
     let A : ℕ → ℕ = λ c. times n c + times_of popped.dead.items c + 0 in
     let one : (c : ℕ) → times_of kept.dead.items c ≡ times_of popped.dead.items c + times n c = λ c.
-        times_of-more popped.dead.items kept.dead.items shared (Some shared) popped_is refl c ∙ ap (λ (m : Node). times_of popped.dead.items c + times m c) (sym is) in
+    times_of-more popped.dead.items kept.dead.items shared (Some shared) popped_is refl c ∙ ap (λ (m : Node). times_of popped.dead.items c + times m c) (sym is) in
     let before : IsReleasing (nodes_in start.nodes) start.next start.root (nodes_in popped.nodes) (count_in popped.counts) A =
-        subst (λ m. IsReleasing (nodes_in start.nodes) start.next start.root (nodes_in m) (count_in popped.counts) A) (sym same_nodes)
-        (subst (λ m. IsReleasing (nodes_in start.nodes) start.next start.root (nodes_in kept.nodes) (count_in m) A) (sym same_counts)
-        (same_owed (nodes_in start.nodes) start.next start.root (nodes_in kept.nodes) (count_in kept.counts) (times_of kept.dead.items) A
-        (λ c. let e : times_of kept.dead.items c ≡ times_of popped.dead.items c + times n c = one c in omega arith) h.releasing)) in
+    subst (λ m. IsReleasing (nodes_in start.nodes) start.next start.root (nodes_in m) (count_in popped.counts) A) (sym same_nodes)
+    (subst (λ m. IsReleasing (nodes_in start.nodes) start.next start.root (nodes_in kept.nodes) (count_in m) A) (sym same_counts)
+    (same_owed (nodes_in start.nodes) start.next start.root (nodes_in kept.nodes) (count_in kept.counts) (times_of kept.dead.items) A
+    (λ c. let e : times_of kept.dead.items c ≡ times_of popped.dead.items c + times n c = one c in omega arith) h.releasing)) in
     record {
       releasing = same_owed (nodes_in start.nodes) start.next start.root (nodes_in new.nodes) (count_in new.counts) (λ c. times_of new.dead.items c + 0) (times_of new.dead.items)
           (λ c. omega arith) (taken (nodes_in start.nodes) start.next start.root (λ c. 0) before);

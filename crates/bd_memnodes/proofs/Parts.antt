@@ -1,9 +1,9 @@
 -- How the parts of a step make a whole one.
-use Rattle.std.proofs.Common.{◌≡◌, ℕ, ◌+◌, ◌-◌, ◌<◌, ◌≤◌, suc, refl, sym, ap, subst, ◌∙◌, arith, inl, inr, List, [], ◌∷◌, ◌++◌, length, map, nat_eq, IsSome, Option, None, Some, cond, ltb, Global}
-use Rattle.std.specs.Prelude.{◌⊎◌, slice_get}
+use Rattle.std.proofs.Common.{◌≡◌, ℕ, ◌+◌, ◌-◌, ◌<◌, ◌≤◌, suc, refl, sym, ap, subst, ◌∙◌, arith, inl, inr, List, [], ◌∷◌, length, map, nat_eq, IsSome, Option, None, Some, ltb, Global}
+use Rattle.std.specs.Prelude.{slice_get}
 use Rattle.std.specs.Option.{option_map, unwrap_or}
 use Rattle.std.specs.List.{AllByRecursion, sum_by}
-use Rattle.std.specs.HashMap.{HashMap, get}
+use Rattle.std.specs.HashMap.{get}
 use Rattle.std.specs.declared.rc.Rc.{Rc}
 use Rattle.std.proofs.lemmas.Bool.{cond-true, lt-ltb}
 use Rattle.std.proofs.lemmas.List.Sums.{sum_by-cons}
@@ -12,16 +12,16 @@ use Rattle.bd_node.specs.declared.node.Change.{Change}
 use Rattle.bd_node.specs.declared.node.Step.{Step}
 use Rattle.bd_node.specs.Nodes.{buffer_size}
 use Rattle.bd_node.specs.Meaning.{Nodes}
-use Rattle.bd_node.specs.Tables.{Table, IsKept, IsStored, IsSound, times_in, one_if}
-use Rattle.bd_node.specs.Steps.{changed_at, given_or, after, IsThere, IsChange, IsStep, StayAbove, IsTableAfter, IsCommitted}
+use Rattle.bd_node.specs.Tables.{Table, IsStored, times_in, one_if}
+use Rattle.bd_node.specs.Steps.{changed_at, given_or, after, IsChange, IsStep, StayAbove}
 use Rattle.bd_node.proofs.Lookup.{each_weaker}
 use Rattle.bd_memnodes.specs.declared.kept.Kept.{Kept}
 use Rattle.bd_memnodes.specs.declared.plan.Exchange.{Exchange}
 use Rattle.bd_memnodes.specs.declared.plan.Plan.{Plan}
 use Rattle.bd_memnodes.specs.Maps.{nodes_in, count_in, times_among, times_of}
-use Rattle.bd_memnodes.specs.Releasing.{IsReleasing, SameHead}
+use Rattle.bd_memnodes.specs.Releasing.{IsReleasing}
 use Rattle.bd_memnodes.specs.Plans.{change_of, step_of, step_names}
-use Rattle.bd_memnodes.specs.Stored.{table_of, table_in, with_made, IsWhole}
+use Rattle.bd_memnodes.specs.Stored.{table_of, table_in, IsWhole}
 use Rattle.bd_memnodes.specs.Carried.{IsAdded, IsExchanged}
 use Rattle.bd_memnodes.proofs.Taking.{times_of-none}
 use Rattle.bd_memnodes.proofs.Settling.{after_is, begun_releasing, step_names_there, settled_done, IsDone}
@@ -89,11 +89,11 @@ put_owing old k raised new plan whole ok above added same_nodes same_dead same_n
     let t : Table = table_in old in
     let step : Step = step_of plan in
     let next_is : new.next ≡ t.next + length step.made =
-        exchanged.head.next ∙ same_next ∙ added.next ∙ ap (λ n. old.next + n) (sym (map_length (λ shared. shared.value) plan.made.items)) in
+    exchanged.head.next ∙ same_next ∙ added.next ∙ ap (λ n. old.next + n) (sym (map_length (λ shared. shared.value) plan.made.items)) in
     let raised_node : (id : ℕ) → nodes_in raised.nodes id ≡ nodes_in k.nodes id = λ id. ap (λ m. nodes_in m id) same_nodes in
     let low : AllByRecursion (λ (x : Exchange). x.id < old.next) plan.changes.items =
-        each_weaker (λ (x : Exchange). IsChange t step (change_of x)) (λ (x : Exchange). x.id < old.next) (λ x change. whole.sound.table.below x.id change.kept)
-        plan.changes.items (each_mapped (IsChange t step) change_of plan.changes.items ok.changes) in
+    each_weaker (λ (x : Exchange). IsChange t step (change_of x)) (λ (x : Exchange). x.id < old.next) (λ x change. whole.sound.table.below x.id change.kept)
+    plan.changes.items (each_mapped (IsChange t step) change_of plan.changes.items ok.changes) in
     subst (λ (n : ℕ). IsReleasing (after nodes t step) n plan.root (nodes_in new.nodes) (count_in new.counts) (λ c. one_if old.root c + times_of new.dead.items c)) (sym next_is)
     (begun_releasing nodes t step (nodes_in new.nodes) (count_in new.counts) (λ c. one_if old.root c + times_of new.dead.items c) whole.sound ok above
     (λ id. exchanged.nodes id ∙ ap (λ o. given_or (changed_at step.changes id) o) (raised_node id ∙ added.nodes id) ∙ after_is nodes t step whole.sound.table ok id)
@@ -137,12 +137,12 @@ carried old mid new plan owed whole owing root next settled size same_root same_
     let new_root : new.root ≡ step.root = same_root ∙ root in
     let new_next : new.next ≡ t.next + length step.made = same_next ∙ next ∙ ap (λ n. old.next + n) (sym (map_length (λ shared. shared.value) plan.made.items)) in
     let all : IsReleasing (after nodes t step) mid.next mid.root (nodes_in new.nodes) (count_in new.counts) (λ c. 0) =
-        both_releasing (after nodes t step) (nodes_in mid.nodes) (nodes_in new.nodes) mid.next mid.root (count_in mid.counts) owed (count_in new.counts) (λ c. 0) owing
-        (same_ends (nodes_in mid.nodes) (nodes_in new.nodes) new.next mid.next new.root mid.root (count_in new.counts) (λ c. 0) (sym same_next) (sym same_root) settled) in
+    both_releasing (after nodes t step) (nodes_in mid.nodes) (nodes_in new.nodes) mid.next mid.root (count_in mid.counts) owed (count_in new.counts) (λ c. 0) owing
+    (same_ends (nodes_in mid.nodes) (nodes_in new.nodes) new.next mid.next new.root mid.root (count_in new.counts) (λ c. 0) (sym same_next) (sym same_root) settled) in
     let done : IsDone nodes t step (nodes_in new.nodes) (table_of (nodes_in new.nodes) (count_in new.counts) step.root new.size (t.next + length step.made)) =
-        settled_done nodes t step new.size (nodes_in new.nodes) (count_in new.counts) whole.sound
-        (same_ends (after nodes t step) (nodes_in new.nodes) mid.next (t.next + length step.made) mid.root step.root (count_in new.counts) (λ c. 0)
-        (sym new_next ∙ same_next) (sym root) all)
-        (λ n there. size n (ap (nodes_in new.nodes) new_root ∙ there)) in
+    settled_done nodes t step new.size (nodes_in new.nodes) (count_in new.counts) whole.sound
+    (same_ends (after nodes t step) (nodes_in new.nodes) mid.next (t.next + length step.made) mid.root step.root (count_in new.counts) (λ c. 0)
+    (sym new_next ∙ same_next) (sym root) all)
+    (λ n there. size n (ap (nodes_in new.nodes) new_root ∙ there)) in
     subst (λ (r : ℕ). IsDone nodes t step (nodes_in new.nodes) (table_of (nodes_in new.nodes) (count_in new.counts) r new.size new.next)) (sym new_root)
     (subst (λ (n : ℕ). IsDone nodes t step (nodes_in new.nodes) (table_of (nodes_in new.nodes) (count_in new.counts) step.root new.size n)) (sym new_next) done)

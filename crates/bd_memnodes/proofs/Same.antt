@@ -1,7 +1,5 @@
 -- What is kept in other memory is the same.
-use Rattle.std.proofs.Common.{◌≡◌, ℕ, ◌+◌, ◌≤◌, sym, ap, subst, ◌∙◌, arith, refl}
-use Rattle.std.specs.Prelude.{◌^◌}
-use Rattle.bd_message.specs.declared.fault.Counter.{Counter}
+use Rattle.std.proofs.Common.{◌≡◌, ℕ, ◌+◌, sym, subst, ◌∙◌, arith}
 use Rattle.bd_message.specs.declared.fault.Counter.TheVariants.{Count, NextId, Level, Refs, Epoch, Flushes}
 use Rattle.bd_message.specs.declared.fault.MapFault.{MapFault}
 use Rattle.bd_message.specs.declared.fault.MapFault.TheVariants.{DeviceFault, Damaged, Worn, NoMemory}
@@ -9,7 +7,7 @@ use Rattle.bd_message.specs.KeyMaps.{IsCause}
 use Rattle.bd_node.specs.declared.node.Step.{Step}
 use Rattle.bd_node.specs.Meaning.{Nodes}
 use Rattle.bd_node.specs.Tables.{Table, IsSound}
-use Rattle.bd_node.specs.Steps.{IsStep, StayAbove, IsTableAfter, IsCommitted, IsWornBy}
+use Rattle.bd_node.specs.Steps.{IsWornBy}
 use Rattle.bd_memnodes.specs.declared.kept.Kept.{Kept}
 use Rattle.bd_memnodes.specs.Maps.{nodes_in, count_in, times_among}
 use Rattle.bd_memnodes.specs.Plans.{step_names, IsCheckFault}

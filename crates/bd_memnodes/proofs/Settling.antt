@@ -1,9 +1,8 @@
 -- How a step begins, and what is left when no node waits.
-use Rattle.std.proofs.Common.{◌≡◌, ℕ, ◌+◌, ◌-◌, ◌<◌, ◌≤◌, refl, sym, ap, subst, ◌∙◌, arith, inl, inr, List, [], ◌∷◌, ◌++◌, length, map, nat_eq, IsSome, Option, None, Some, cond, ltb, Global}
-use Rattle.std.specs.Prelude.{slice_get, ◌⊎◌, flat_map}
-use Rattle.std.specs.Option.{option_map, unwrap_or}
+use Rattle.std.proofs.Common.{◌≡◌, ℕ, ◌+◌, ◌-◌, ◌<◌, ◌≤◌, refl, sym, ap, subst, ◌∙◌, arith, inl, inr, List, [], ◌∷◌, ◌++◌, length, Some, ltb}
+use Rattle.std.specs.Prelude.{slice_get, flat_map}
 use Rattle.std.specs.List.{AllByRecursion, sum_by}
-use Rattle.std.proofs.lemmas.Bool.{cases_eq, cases_lt, cond-true, cond-false, lt-ltb, le-ltb}
+use Rattle.std.proofs.lemmas.Bool.{cases_lt, cond-true, cond-false, lt-ltb, le-ltb}
 use Rattle.std.proofs.lemmas.Option.{slice_get_within}
 use Rattle.std.proofs.lemmas.List.Sums.{sum_by-cons}
 use Rattle.bd_node.specs.declared.node.Node.{Node}
@@ -11,7 +10,7 @@ use Rattle.bd_node.specs.declared.node.Change.{Change}
 use Rattle.bd_node.specs.declared.node.Step.{Step}
 use Rattle.bd_node.specs.Nodes.{level_of, height_of, buffer_size, names, times}
 use Rattle.bd_node.specs.Meaning.{Nodes}
-use Rattle.bd_node.specs.Tables.{Table, IsKept, IsTable, IsNodeOf, IsStored, IsSound, times_in, one_if, references}
+use Rattle.bd_node.specs.Tables.{Table, IsKept, IsTable, IsStored, IsSound, times_in, one_if, references}
 use Rattle.bd_node.specs.Steps.{changed_at, given, given_or, given_times, after, level_or, level_after, IsThere, IsNamable, IsPut, IsChange, IsStep, StayAbove, IsTableAfter, IsCommitted}
 use Rattle.bd_node.specs.Closed.{IsClosed, buffer_size_in, table_from}
 use Rattle.bd_node.proofs.Lookup.{each_weaker, each_both, named_has}
@@ -51,11 +50,11 @@ each_flat P f (x ∷ xs) h = each_both P (f x) (flat_map f xs) h.0 (each_flat P 
 pub step_names_there : (t : Table) (step : Step) → IsStep t step → (c : ℕ) → 1 ≤ times_among (step_names step) c → IsThere t step c
 step_names_there t step ok c one =
     let put : (n : Node) → IsPut t step n → AllByRecursion (IsThere t step) (names n) = λ n own.
-        each_weaker (IsNamable t step (level_of n)) (IsThere t step) (λ d namable. namable.there) (names n) own.lower in
+    each_weaker (IsNamable t step (level_of n)) (IsThere t step) (λ d namable. namable.there) (names n) own.lower in
     let made : AllByRecursion (IsThere t step) (flat_map names step.made) =
-        each_flat (IsThere t step) names step.made (each_weaker (IsPut t step) (λ n. AllByRecursion (IsThere t step) (names n)) put step.made ok.made) in
+    each_flat (IsThere t step) names step.made (each_weaker (IsPut t step) (λ n. AllByRecursion (IsThere t step) (names n)) put step.made ok.made) in
     let changed : AllByRecursion (IsThere t step) (flat_map change_names step.changes) =
-        each_flat (IsThere t step) change_names step.changes (each_weaker (IsChange t step) (λ d. AllByRecursion (IsThere t step) (change_names d)) (λ d change. put d.node change.put) step.changes ok.changes) in
+    each_flat (IsThere t step) change_names step.changes (each_weaker (IsChange t step) (λ d. AllByRecursion (IsThere t step) (change_names d)) (λ d change. put d.node change.put) step.changes ok.changes) in
     named_has (IsThere t step) c (step_names step)
     (each_both (IsThere t step) (flat_map names step.made ++ flat_map change_names step.changes) (step.root ∷ [])
     (each_both (IsThere t step) (flat_map names step.made) (flat_map change_names step.changes) made changed) (ok.root, tt)) one
@@ -110,7 +109,7 @@ begun_releasing nodes t step new counts owed s ok above is counts_are owed_is =
           let b : times_among (step_names step) c ≡ given_times step c + one_if step.root c = step_names_times step c in
           let d : t.count c ≡ references nodes t.next t.root c = s.counts c in
           let e : references (after nodes t step) (t.next + length step.made) step.root c + sum_by (λ (d : Change). times_in (nodes d.id) c) step.changes + one_if t.root c
-                ≡ references nodes t.next t.root c + given_times step c + one_if step.root c = counts_stepped nodes t step s.table ok c in
+          ≡ references nodes t.next t.root c + given_times step c + one_if step.root c = counts_stepped nodes t step s.table ok c in
           let f : owed c ≡ one_if t.root c + sum_by (λ (d : Change). times_in (nodes d.id) c) step.changes = owed_is c in
           omega arith;
     })
@@ -145,7 +144,7 @@ settled_done nodes t step size new counts s h size_is =
     let u : Table = table_of new counts step.root size (t.next + length step.made) in
     let sound : IsSound new u = settled_sound (after nodes t step) (t.next + length step.made) step.root size new counts h size_is in
     let stays : (id : ℕ) → IsKept u id → new id ≡ after nodes t step id = λ id kept.
-        (let stored : IsStored new u id = sound.each id kept in stored.there ∙ sym (h.stays id stored.node stored.there)) in
+    (let stored : IsStored new u id = sound.each id kept in stored.there ∙ sym (h.stays id stored.node stored.there)) in
     let root_is : new step.root ≡ after nodes t step step.root = stays step.root sound.table.root in
     record {
       committed = record { stays = stays; sound = sound };

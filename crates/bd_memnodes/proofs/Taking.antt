@@ -1,5 +1,5 @@
 -- What taking back one name leaves.
-use Rattle.std.proofs.Common.{◌≡◌, ℕ, ◌+◌, ◌<◌, ◌≤◌, refl, sym, ap, subst, ◌∙◌, Option, None, Some, arith, inl, inr, List, [], ◌∷◌, ◌++◌}
+use Rattle.std.proofs.Common.{◌≡◌, ℕ, ◌+◌, ◌≤◌, refl, sym, ap, subst, ◌∙◌, Option, None, Some, arith, inl, inr, List, [], ◌∷◌, ◌++◌}
 use Rattle.std.specs.Option.{option_map}
 use Rattle.std.proofs.lemmas.List.Sums.{sum_by-append, sum_by-cons}
 use Rattle.std.specs.declared.rc.Rc.{Rc}
@@ -7,7 +7,7 @@ use Rattle.std.proofs.lemmas.Bool.{cases_eq}
 use Rattle.bd_node.specs.declared.node.Node.{Node}
 use Rattle.bd_node.specs.Nodes.{times}
 use Rattle.bd_node.specs.Meaning.{Nodes}
-use Rattle.bd_node.specs.Tables.{sum_below, times_in, one_if, references}
+use Rattle.bd_node.specs.Tables.{times_in, one_if, references}
 use Rattle.bd_node.specs.Closed.{IsClosed, without}
 use Rattle.bd_node.proofs.Sums.{sum_same}
 use Rattle.bd_node.proofs.Sound.{one_if-same, one_if-other}
@@ -75,10 +75,10 @@ taken_last first next root id nodes new counts new_counts owed new_owed rest les
     let is_gone : new ≡ without nodes id = λ i j. gone j i in
     let same_if : one_if id id ≡ 1 = one_if-same id in
     let none_left : references nodes next root id ≡ 0 =
-        let a : new_counts id + one_if id id ≡ counts id = less.each id in
-        let b : counts id ≡ references nodes next root id + owed id = h.exact id in
-        let d : owed id ≡ one_if id id + rest id = is id in
-        omega arith in
+    let a : new_counts id + one_if id id ≡ counts id = less.each id in
+    let b : counts id ≡ references nodes next root id + owed id = h.exact id in
+    let d : owed id ≡ one_if id id + rest id = is id in
+    omega arith in
     subst (λ (m : Nodes). IsReleasing first next root m new_counts new_owed) (sym is_gone)
     (record {
       closed = dropped nodes next root id h.closed none_left;

@@ -1,9 +1,7 @@
 -- What a store is seen as, and what it keeps.
-use Rattle.std.proofs.Common.{◌≡◌, ℕ, sym, subst, Result, Ok, Err, OnOk, OnErr, Some}
-use Rattle.bd_node.specs.declared.node.Node.{Node}
-use Rattle.bd_node.specs.declared.node.Step.{Step}
+use Rattle.std.proofs.Common.{◌≡◌, ℕ, sym, subst, Result, Ok, Err, OnErr}
 use Rattle.bd_node.specs.Meaning.{Nodes}
-use Rattle.bd_node.specs.Tables.{Table, IsSound}
+use Rattle.bd_node.specs.Tables.{Table}
 use Rattle.bd_memnodes.specs.declared.kept.Kept.{Kept}
 use Rattle.bd_memnodes.specs.Maps.{nodes_in}
 use Rattle.bd_memnodes.specs.Stored.{table_in}

@@ -1,7 +1,7 @@
 -- What the parts of a step leave.
-use Rattle.std.specs.Prelude.{◌≡◌, ℕ, ◌+◌, ◌<◌, ◌≤◌, ◌^◌, List, length, map, nat_eq, vec_len, vec_capacity, IsSome}
+use Rattle.std.specs.Prelude.{◌≡◌, ℕ, ◌+◌, ◌<◌, ◌≤◌, ◌^◌, List, length, map, nat_eq, IsSome}
 use Rattle.std.specs.Global.{Global}
-use Rattle.std.specs.HashMap.{hash_map_len, get, spare}
+use Rattle.std.specs.HashMap.{hash_map_len, get}
 use Rattle.std.specs.List.{sum_by}
 use Rattle.std.specs.declared.rc.Rc.{Rc}
 use Rattle.bd_node.specs.declared.node.Node.{Node}

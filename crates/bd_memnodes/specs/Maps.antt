@@ -1,5 +1,5 @@
 -- What tables of nodes and of counts say.
-use Rattle.std.specs.Prelude.{◌≡◌, ℕ, ◌+◌, ◌<◌, ◌^◌, List, Option, nat_eq, count_by, ◌==◌, IsSome}
+use Rattle.std.specs.Prelude.{ℕ, List, nat_eq, count_by, ◌==◌}
 use Rattle.std.specs.Option.{option_map, unwrap_or}
 use Rattle.std.specs.List.{sum_by}
 use Rattle.std.specs.HashMap.{HashMap, get}

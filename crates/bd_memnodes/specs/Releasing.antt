@@ -12,11 +12,11 @@ use Rattle.bd_memnodes.specs.Maps.{nodes_in, count_in, times_of}
 -- nodes some of which may be gone, each of them counted, where a count is how often the node is
 -- named, and how often it is still owed to be named less
 pub record IsReleasing (first : Nodes) (next root : ℕ) (nodes : Nodes) (counts owed : ℕ → ℕ)
-  : Type 0 where
-    pub closed : IsClosed nodes next root
-    pub stays : (id : ℕ) (n : Node) → nodes id ≡ Some n → first id ≡ Some n
-    pub used : (id : ℕ) (n : Node) → nodes id ≡ Some n → 1 ≤ counts id
-    pub exact : (c : ℕ) → counts c ≡ references nodes next root c + owed c
+    : Type 0 where
+  pub closed : IsClosed nodes next root
+  pub stays : (id : ℕ) (n : Node) → nodes id ≡ Some n → first id ≡ Some n
+  pub used : (id : ℕ) (n : Node) → nodes id ≡ Some n → 1 ≤ counts id
+  pub exact : (c : ℕ) → counts c ≡ references nodes next root c + owed c
 
 -- from the first to the second these names were taken back, and what was dropped waits
 abbrev pub TakesBack : (ℕ → ℕ) → Kept → Kept → Type 0

@@ -1,5 +1,5 @@
 -- The nodes that are kept, as a store tells of them.
-use Rattle.std.specs.Prelude.{◌≡◌, ℕ, ◌+◌, ◌-◌, ◌≤◌, nat_lt, if◌then◌else◌, List, [], Option, slice_get, vec_capacity}
+use Rattle.std.specs.Prelude.{◌≡◌, ℕ, ◌+◌, ◌-◌, ◌≤◌, nat_lt, if◌then◌else◌, List, [], slice_get, vec_capacity}
 use Rattle.std.specs.HashMap.{hash_map_len, spare}
 use Rattle.bd_node.specs.declared.node.Node.{Node}
 use Rattle.bd_node.specs.Nodes.{height_of}

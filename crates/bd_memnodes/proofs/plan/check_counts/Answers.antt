@@ -1,4 +1,4 @@
-use Rattle.std.proofs.Common.{ℕ, arith, ◌≡◌, ◌+◌, ap, sym, ◌∙◌, subst, Some}
+use Rattle.std.proofs.Common.{ℕ, arith, ◌≡◌, ◌+◌, subst, Some}
 use Rattle.std.specs.Prelude.{slice_index}
 use Rattle.std.specs.HashMap.{Updates}
 use Rattle.std.specs.Prelude.{nat_eq}
@@ -16,9 +16,10 @@ pub returns-then-count-clause-cause : goal.returns-then-count-clause-cause
 returns-then-count-clause-cause c =
     let i : ℕ = c.loop-name.name-index in
     let full : raised_in c.loop-name.raised c.args.counts.now (slice_index c.args.names.now i) + 1 ≡ 18446744073709551616 =
-        omega (arith, c.raised_count-count.ensures) in
-    (slice_index c.args.names.now i,
-    worn_at (count_in c.args.counts.now) (raised_in c.loop-name.raised c.args.counts.now) c.args.names.now i c.loop-name-test.true full c.loop-name.invariant.raised)
+    omega (arith, c.raised_count-count.ensures) in (
+      slice_index c.args.names.now i,
+      worn_at (count_in c.args.counts.now) (raised_in c.loop-name.raised c.args.counts.now) c.args.names.now i c.loop-name-test.true full c.loop-name.invariant.raised,
+    )
 
 pub loop-name-preserved : goal.loop-name-preserved
 loop-name-preserved c =

@@ -1,4 +1,4 @@
-use Rattle.std.proofs.Common.{◌≡◌, ℕ, ◌+◌, ap, Some}
+use Rattle.std.proofs.Common.{◌≡◌, ◌+◌, ap, Some}
 use Rattle.bd_node.specs.declared.node.Node.{Node}
 use Rattle.bd_node.specs.Tables.{IsStored}
 use Rattle.bd_node.specs.Steps.{grown}

@@ -1,4 +1,4 @@
-use Rattle.bd_memnodes.specs.Maps.{nodes_in, count_in, times_of}
+use Rattle.bd_memnodes.specs.Maps.{nodes_in}
 use Rattle.bd_memnodes.specs.Plans.{step_of}
 use Rattle.bd_memnodes.specs.Stored.{table_in}
 use Rattle.bd_memnodes.proofs.Settling.{IsDone}

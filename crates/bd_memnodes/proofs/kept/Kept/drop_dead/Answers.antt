@@ -1,5 +1,4 @@
 use Rattle.std.proofs.Common.{refl}
-use Rattle.bd_memnodes.specs.Releasing.{SameHead}
 use Rattle.bd_memnodes.specs.declared.kept.Kept.{Kept}
 use Rattle.bd_memnodes.proofs.Loops.{dropped_one}
 use Rattle.bd_memnodes.proofs.kept.Kept.drop_dead.Goals as goal

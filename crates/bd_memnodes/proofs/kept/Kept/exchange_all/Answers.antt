@@ -1,4 +1,4 @@
-use Rattle.std.proofs.Common.{◌≡◌, ◌∷◌, List, subst}
+use Rattle.std.proofs.Common.{List, subst}
 use Rattle.std.specs.Vec.Iter.{into_iter_items}
 use Rattle.bd_memnodes.specs.declared.plan.Exchange.{Exchange}
 use Rattle.bd_memnodes.proofs.Carrying.{IsExchanging, exchanged_one}
@@ -11,5 +11,12 @@ loop-change-preserved c =
     c.requires.once
     (subst (λ (rest : List Exchange). IsExchanging c.args.self.now c.args.changes.items c.loop-change.yielded rest c.loop-change.self) c.in-Some.ensures.steps.0 c.loop-change.invariant)
     (record {
-      nodes = e.nodes; others = e.others; waits = e.waits; dead = e.dead; capacity = e.capacity; len = e.len; counts = e.counts; head = e.head;
+      nodes = e.nodes;
+      others = e.others;
+      waits = e.waits;
+      dead = e.dead;
+      capacity = e.capacity;
+      len = e.len;
+      counts = e.counts;
+      head = e.head;
     })

@@ -1,7 +1,6 @@
-use Rattle.std.proofs.Common.{◌≡◌, ℕ, ◌+◌, ◌≤◌, List, refl, sym, ap, subst, ◌∙◌}
+use Rattle.std.proofs.Common.{ℕ, ◌+◌, ◌≤◌, List, refl, ap, subst, ◌∙◌}
 use Rattle.bd_memnodes.specs.declared.kept.Kept.{Kept}
 use Rattle.bd_memnodes.specs.Maps.{count_in, times_among}
-use Rattle.bd_memnodes.specs.Plans.{step_of, step_names}
 use Rattle.bd_memnodes.proofs.Parts.{names_there, changes_there, put_owing}
 use Rattle.bd_memnodes.proofs.kept.Kept.put.Goals as goal
 

@@ -1,4 +1,4 @@
-use Rattle.std.proofs.Common.{ℕ, ◌+◌, arith, sym}
+use Rattle.std.proofs.Common.{ℕ, ◌+◌, arith}
 use Rattle.bd_node.specs.Tables.{one_if}
 use Rattle.bd_memnodes.specs.Maps.{nodes_in, count_in, times_of}
 use Rattle.bd_memnodes.specs.Releasing.{IsReleasing}

@@ -1,8 +1,8 @@
 use Rattle.bd_node.specs.Nodes.{edge_names}
-use Rattle.std.proofs.Common.{List, ℕ, sym, subst, drop, ◌+◌}
+use Rattle.std.proofs.Common.{sym, subst, drop, ◌+◌}
 use Rattle.std.specs.Prelude.{flat_map}
 use Rattle.bd_memnodes.specs.declared.kept.Kept.{Kept}
-use Rattle.bd_memnodes.proofs.Loops.{IsTaking, TookBack, loop_done, loop_one, loop_none, edge_one, edge_none}
+use Rattle.bd_memnodes.proofs.Loops.{IsTaking, loop_done, loop_one, loop_none, edge_one, edge_none}
 use Rattle.bd_memnodes.proofs.kept.Kept.take_back_edges.Goals.{in-Some, in_default}
 use Rattle.bd_memnodes.proofs.kept.Kept.take_back_edges.Goals as goal
 

@@ -1,8 +1,8 @@
 use Rattle.bd_node.specs.Nodes.{message_names}
-use Rattle.std.proofs.Common.{List, ℕ, sym, subst, drop, ◌+◌}
+use Rattle.std.proofs.Common.{sym, subst, drop, ◌+◌}
 use Rattle.std.specs.Prelude.{flat_map}
 use Rattle.bd_memnodes.specs.declared.kept.Kept.{Kept}
-use Rattle.bd_memnodes.proofs.Loops.{IsTaking, TookBack, loop_done, loop_one, loop_none, message_one, message_none}
+use Rattle.bd_memnodes.proofs.Loops.{IsTaking, loop_done, loop_one, loop_none, message_one, message_none}
 use Rattle.bd_memnodes.proofs.kept.Kept.take_back_messages.Goals.{in-Goto, in_default}
 use Rattle.bd_memnodes.proofs.kept.Kept.take_back_messages.Goals as goal
 

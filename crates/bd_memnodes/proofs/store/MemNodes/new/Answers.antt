@@ -1,5 +1,5 @@
-use Rattle.std.proofs.Common.{◌≡◌, ℕ, rules, refl, sym, ap, ◌∙◌}
-use Rattle.bd_node.specs.New.{new_root, new_nodes}
+use Rattle.std.proofs.Common.{◌≡◌, ◌∙◌}
+use Rattle.bd_node.specs.New.{new_nodes}
 use Rattle.bd_node.specs.Tables.{references}
 use Rattle.bd_memnodes.specs.Maps.{nodes_in, count_in}
 use Rattle.bd_memnodes.proofs.Fresh.{fresh_nodes, fresh_counts, fresh_table, fresh_sound}
