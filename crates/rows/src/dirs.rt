@@ -61,7 +61,7 @@ const LINES: &[(&str, &str)] = &[
 ];
 
 /// A key map that represents the tree of `/` alone.
-pub fn root_only(alloc: Global) -> Result<ListMap, Fail> {
+fn root_only(alloc: Global) -> Result<ListMap, Fail> {
     let mut map = ListMap::new(alloc);
     let root = Path::root(alloc)?;
     apply(&mut map, put_record(alloc, &root, Record::Dir)?)?;

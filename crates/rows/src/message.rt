@@ -11,7 +11,12 @@ use std::alloc::{AllocError, Global};
 use std::test::Fail;
 
 // The message of this name. A patch begins at offset 3, and the child of a `Goto` is 7.
-pub fn message(alloc: Global, name: &str, first: &str, second: &str) -> Result<Message, AllocError> {
+pub fn message(
+    alloc: Global,
+    name: &str,
+    first: &str,
+    second: &str,
+) -> Result<Message, AllocError> {
     let first = Bytes::from_slice(alloc, first.as_bytes())?;
     let second = Bytes::from_slice(alloc, second.as_bytes())?;
     Ok(match name {
