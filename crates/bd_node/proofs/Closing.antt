@@ -92,13 +92,13 @@ ended nodes next root closed used =
       size = λ n there. sym (ap buffer_size_in there);
     }
 
-without-other : (nodes : Nodes) (d id : ℕ) → (id ≡ d → ⊥) → without nodes d id ≡ nodes id
+pub without-other : (nodes : Nodes) (d id : ℕ) → (id ≡ d → ⊥) → without nodes d id ≡ nodes id
 without-other nodes d id other = cond-false (eqb id d) None (nodes id) (ne_eqb id d other)
 
-without-same : (nodes : Nodes) (d : ℕ) → without nodes d d ≡ None
+pub without-same : (nodes : Nodes) (d : ℕ) → without nodes d d ≡ None
 without-same nodes d = cond-true (eqb d d) None (nodes d) (eq-eqb d d refl)
 
-without-there : (nodes : Nodes) (d id : ℕ) (n : Node) → without nodes d id ≡ Some n → (id ≡ d → ⊥) × (nodes id ≡ Some n)
+pub without-there : (nodes : Nodes) (d id : ℕ) (n : Node) → without nodes d id ≡ Some n → (id ≡ d → ⊥) × (nodes id ≡ Some n)
 without-there nodes d id n there =
     elim (cases_eq id d) [
       | inl same ↦ absurd (none-some n (sym (without-same nodes d) ∙ subst (λ (i : ℕ). without nodes d i ≡ Some n) same there))

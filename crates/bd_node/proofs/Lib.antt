@@ -6,6 +6,7 @@ pub mod Privacy
 pub mod Edges
 pub mod Stepping
 pub mod Appending
+pub mod Counting
 pub mod Closing
 pub mod LawLemmas
 pub mod Halving

@@ -27,10 +27,10 @@ given-old next step id low = cond-true (ltb id next) _ _ (lt-ltb id next low)
 pub given-new : (next : ℕ) (step : Step) (id : ℕ) → next ≤ id → given next step id ≡ slice_get step.made (id - next)
 given-new next step id high = cond-false (ltb id next) _ _ (le-ltb id next high)
 
-changed_at-same : (c : Change) (cs : List Change) (id : ℕ) → id ≡ c.id → changed_at (c ∷ cs) id ≡ Some c.node
+pub changed_at-same : (c : Change) (cs : List Change) (id : ℕ) → id ≡ c.id → changed_at (c ∷ cs) id ≡ Some c.node
 changed_at-same c cs id e = cond-true (eqb id c.id) _ _ (eq-eqb id c.id e)
 
-changed_at-other : (c : Change) (cs : List Change) (id : ℕ) → (id ≡ c.id → ⊥) → changed_at (c ∷ cs) id ≡ changed_at cs id
+pub changed_at-other : (c : Change) (cs : List Change) (id : ℕ) → (id ≡ c.id → ⊥) → changed_at (c ∷ cs) id ≡ changed_at cs id
 changed_at-other c cs id ne = cond-false (eqb id c.id) _ _ (ne_eqb id c.id ne)
 
 -- an id that isn't of the kind that is changed isn't changed

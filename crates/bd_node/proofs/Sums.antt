@@ -1,5 +1,5 @@
 -- Sums over the ids below one.
-use Rattle.std.proofs.Common.{◌≡◌, ℕ, zero, suc, ◌+◌, ◌<◌, ◌≤◌, refl, ap, arith, inl, inr}
+use Rattle.std.proofs.Common.{◌≡◌, ℕ, zero, suc, ◌+◌, ◌<◌, ◌≤◌, refl, sym, ap, ◌∙◌, arith, inl, inr, add-zero, add-suc}
 use Rattle.std.proofs.lemmas.Bool.{cases_eq, cases_lt}
 use Rattle.bd_node.specs.Tables.{sum_below}
 
@@ -43,4 +43,33 @@ sum_same zero f g h = refl
 sum_same (suc n) f g h =
     let here : f n ≡ g n = h n (omega arith) in
     let rest : sum_below n f ≡ sum_below n g = sum_same n f g (λ i low. h i (omega arith)) in
+    omega arith
+
+-- sums that differ in one term alone
+pub sum_exchanged : (n : ℕ) (f g : ℕ → ℕ) (i : ℕ) → i < n → ((j : ℕ) → (j ≡ i → ⊥) → f j ≡ g j) → sum_below n f + g i ≡ sum_below n g + f i
+unfolding sum_below
+sum_exchanged zero f g i low others = absurd (omega arith)
+sum_exchanged (suc n) f g i low others =
+    elim (cases_eq i n) [
+      | inl same ↦ (let rest : sum_below n f ≡ sum_below n g = sum_same n f g (λ j below. others j (λ e. omega arith)) in
+          let a : f n ≡ f i = ap f (sym same) in
+          let b : g n ≡ g i = ap g (sym same) in omega arith)
+      | inr apart ↦ (let rest : sum_below n f + g i ≡ sum_below n g + f i = sum_exchanged n f g i (omega arith) others in
+          let here : f n ≡ g n = others n (λ e. apart (sym e)) in omega arith)
+    ]
+
+-- the ids below n, and the m from n on
+pub sum_split : (n m : ℕ) (f : ℕ → ℕ) → sum_below (n + m) f ≡ sum_below n f + sum_below m (λ i. f (n + i))
+unfolding sum_below
+sum_split n zero f = ap (λ k. sum_below k f) (add-zero n) ∙ omega arith
+sum_split n (suc m) f =
+    let rest : sum_below (n + m) f ≡ sum_below n f + sum_below m (λ i. f (n + i)) = sum_split n m f in
+    ap (λ k. sum_below k f) (add-suc n m) ∙ omega arith
+
+-- the first term, and the rest
+pub sum_first : (n : ℕ) (f : ℕ → ℕ) → sum_below (suc n) f ≡ f 0 + sum_below n (λ i. f (suc i))
+unfolding sum_below
+sum_first zero f = omega arith
+sum_first (suc n) f =
+    let rest : sum_below (suc n) f ≡ f 0 + sum_below n (λ i. f (suc i)) = sum_first n f in
     omega arith

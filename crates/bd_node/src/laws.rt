@@ -2,7 +2,7 @@
 //! laws, and does nothing.
 
 ghost use Rattle.std.specs.Prelude.{◌≡◌, ℕ, ◌+◌, ◌<◌, ◌≤◌, ◌↔◌, List, [], length, drop, false, true, None, Some};
-ghost use Rattle.std.specs.List.{AllByRecursion};
+ghost use Rattle.std.specs.List.{AllByRecursion, sum_by};
 ghost use Rattle.bd_keys.specs.Keys.{IsKey, InRange, IsBelowEnd};
 ghost use Rattle.bd_message.specs.declared.message.Message.{Message};
 ghost use Rattle.bd_message.specs.Effect.{NodesAt, act, acts, no_nodes};
@@ -14,9 +14,9 @@ ghost use Rattle.bd_node.specs.Touching.{touches, NoneTouches};
 ghost use Rattle.bd_node.specs.Nodes.{level_of, buffer_size, appended, names, times, edge_of, node_at, node_has};
 ghost use Rattle.bd_node.specs.Meaning.{Nodes, at, IsLevelled, Meets};
 ghost use Rattle.bd_node.specs.Shape.{IsShape, EachEdge, SomeEdge, IsInner};
-ghost use Rattle.bd_node.specs.Tables.{Table, IsKept, IsTable, IsNodeOf, IsSound, references, root_at};
+ghost use Rattle.bd_node.specs.Tables.{Table, IsKept, IsTable, IsNodeOf, IsSound, references, times_in, one_if, root_at};
 ghost use Rattle.bd_node.specs.Private.{IsPrivate, IsReached};
-ghost use Rattle.bd_node.specs.Steps.{given, after, IsStep, HasRoom, StayAbove, IsInPlace, IsCommitted, IsKeeping, IsMoving, root_step, append_step, grown};
+ghost use Rattle.bd_node.specs.Steps.{given, after, given_times, IsStep, HasRoom, StayAbove, IsInPlace, IsCommitted, IsKeeping, IsMoving, root_step, append_step, grown};
 ghost use Rattle.bd_node.specs.Stores.{FitsRoot};
 ghost use Rattle.bd_node.specs.Closed.{IsClosed, without, table_from};
 ghost use Rattle.bd_node.specs.New.{new_nodes, new_table};
@@ -162,6 +162,19 @@ pub fn closed_nodes_become_sound()
     ensures ended { (nodes : Nodes) (next root : ℕ) → IsClosed nodes next root
         → ((id : ℕ) (n : Node) → nodes id ≡ Some n → 1 ≤ references nodes next root id)
         → IsSound nodes (table_from nodes next root) }
+{}
+
+/// How the counts of references follow a step: those after it, with what the changed nodes and the
+/// root's pointer named, are those before it with what the step names. Without a node they are
+/// less by what it names.
+pub fn counts_follow_the_nodes()
+    ensures stepped { (nodes : Nodes) (t : Table) (step : Step) → IsTable t → IsStep t step
+        → (c : ℕ) → references (after nodes t step) (t.next + length step.made) step.root c
+        + sum_by (λ (d : Change). times_in (nodes d.id) c) step.changes + one_if t.root c
+        ≡ references nodes t.next t.root c + given_times step c + one_if step.root c }
+    ensures dropped { (nodes : Nodes) (next root d : ℕ) → d < next → (c : ℕ)
+        → references (without nodes d) next root c + times_in (nodes d) c
+        ≡ references nodes next root c }
 {}
 
 /// Which nodes stay after a step, and what they are, is settled by the step.

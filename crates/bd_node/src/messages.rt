@@ -1,7 +1,10 @@
 //! The messages that wait in a node.
 
-ghost use Rattle.std.specs.Prelude.{◌≡◌, ◌↔◌, ◌++◌, [], length, IsTrue, OnOk, OnErr};
+ghost use Rattle.std.specs.Prelude.{◌≡◌, ◌≤◌, ◌↔◌, ◌++◌, [], length, IsTrue, OnOk, OnErr};
+ghost use Rattle.std.specs.List.{AllByRecursion, sum_by};
+ghost use Rattle.bd_limits.specs.Limits.{buffer_limit};
 ghost use Rattle.bd_message.specs.Effect.{is_cut};
+ghost use Rattle.bd_message.specs.Messages.{IsMessage, size};
 ghost use Rattle.bd_node.specs.Touching.{IsNextTouching, touches};
 
 use bd_message::Message;
@@ -68,6 +71,19 @@ impl Messages {
         ensures { IsTrue result ↔ (self.now ≡ []) }
     {
         self.items.is_empty()
+    }
+
+    /// How many bytes they count together.
+    pub fn size(&self) -> usize
+        requires each { AllByRecursion IsMessage self.now }
+        requires fits { sum_by size self.now ≤ buffer_limit }
+        ensures { result ≡ sum_by size self.now }
+    {
+        let mut total = 0;
+        for message in self.as_slice() {
+            total += message.size();
+        }
+        total
     }
 
     /// Puts messages after these. Where there is no memory, these stay as they are.

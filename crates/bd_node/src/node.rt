@@ -1,7 +1,8 @@
 //! Nodes, and steps from nodes to nodes.
 
 ghost use Rattle.std.specs.Prelude.{◌≡◌, OnOk, OnErr};
-ghost use Rattle.bd_node.specs.Nodes.{appended, level_of};
+ghost use Rattle.bd_node.specs.Nodes.{appended, buffer_size, level_of};
+ghost use Rattle.bd_node.specs.Shape.{IsShape};
 
 use crate::{Items, Messages};
 use bd_keys::Bytes;
@@ -82,6 +83,17 @@ impl Node {
         match self {
             Node::Leaf(_) => 0,
             Node::Inner { level, .. } => *level,
+        }
+    }
+
+    /// How many bytes the messages that wait in it count together: 0 of a leaf.
+    pub fn buffer_size(&self) -> usize
+        requires { IsShape self.now }
+        ensures { result ≡ buffer_size self.now }
+    {
+        match self {
+            Node::Leaf(_) => 0,
+            Node::Inner { buffer, .. } => buffer.size(),
         }
     }
 

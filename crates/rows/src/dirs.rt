@@ -135,11 +135,11 @@ const PLACES: &[u32] = &[
 
 /// Numbers by a fixed rule.
 #[derive(Drop)]
-struct Numbers(u32);
+pub struct Numbers(pub u32);
 
 impl Numbers {
     /// One of several.
-    fn pick<'a, T>(&mut self, from: &'a [T]) -> Result<&'a T, Fail> {
+    pub fn pick<'a, T>(&mut self, from: &'a [T]) -> Result<&'a T, Fail> {
         self.0 = self.0.wrapping_mul(1_664_525).wrapping_add(1_013_904_223);
         let place = (self.0 >> 16) as usize % from.len().max(1);
         match from.get(place) {

@@ -26,6 +26,8 @@ mod message;
 #[cfg(test)]
 mod names;
 #[cfg(test)]
+mod nodes;
+#[cfg(test)]
 mod plain;
 #[cfg(test)]
 mod records;

@@ -1,0 +1,60 @@
+-- The root with more messages.
+use Rattle.std.proofs.Common.{◌≡◌, ℕ, ◌+◌, ◌-◌, suc, sym, ap, subst, ◌∙◌, inl, inr, List, Some, cond, eqb}
+use Rattle.std.specs.List.{sum_by}
+use Rattle.std.proofs.lemmas.Bool.{cases_eq, cond-true, cond-false, eq-eqb, ne_eqb}
+use Rattle.bd_message.specs.declared.message.Message.{Message}
+use Rattle.bd_message.specs.Messages.{size}
+use Rattle.bd_node.specs.declared.node.Node.{Node}
+use Rattle.bd_node.specs.Nodes.{height_of, appended}
+use Rattle.bd_node.specs.Meaning.{Nodes}
+use Rattle.bd_node.specs.Tables.{Table, IsSound}
+use Rattle.bd_node.specs.Stores.{FitsRoot}
+use Rattle.bd_node.specs.Steps.{after, append_step, grown, IsCommitted}
+use Rattle.bd_node.proofs.Appending.{level_appended, append_sound}
+use Rattle.bd_node.proofs.Stepping.{given_at_root, given_other, after-some, after-none}
+use Rattle.bd_memnodes.specs.Stored.{table_of}
+
+-- the nodes with another root
+pub is_appended : (nodes new : Nodes) (t : Table) (root : Node) (list : List Message) → IsSound nodes t → ((i : ℕ) → new i ≡ cond (eqb t.root i) (Some (appended root list)) (nodes i)) → new ≡ after nodes t (append_step t root list)
+is_appended nodes new t root list s is = λ j id.
+    (let each : (i : ℕ) → new i ≡ after nodes t (append_step t root list) i = λ i.
+    elim (cases_eq t.root i) [
+      | inl same ↦ is i ∙ cond-true (eqb t.root i) (Some (appended root list)) (nodes i) (eq-eqb t.root i same)
+          ∙ sym (subst (λ (k : ℕ). after nodes t (append_step t root list) k ≡ Some (appended root list)) same
+          (after-some nodes t (append_step t root list) t.root (appended root list) (given_at_root t (appended root list) s.table)))
+      | inr other ↦ is i ∙ cond-false (eqb t.root i) (Some (appended root list)) (nodes i) (ne_eqb t.root i other)
+          ∙ sym (after-none nodes t (append_step t root list) i (given_other t (appended root list) i (λ e. other (sym e))))
+    ] in each id) j
+
+-- no level changes
+same_levels : (nodes new : Nodes) (t : Table) (root : Node) (list : List Message) → nodes t.root ≡ Some root → ((i : ℕ) → new i ≡ cond (eqb t.root i) (Some (appended root list)) (nodes i))
+    → (i : ℕ) → height_of (new i) - 1 ≡ height_of (nodes i) - 1
+same_levels nodes new t root list there is i =
+    elim (cases_eq t.root i) [
+      | inl same ↦ ap (λ o. height_of o - 1) (is i ∙ cond-true (eqb t.root i) (Some (appended root list)) (nodes i) (eq-eqb t.root i same))
+          ∙ ap (λ n. suc n - 1) (level_appended root list)
+          ∙ sym (ap (λ o. height_of o - 1) (ap nodes (sym same) ∙ there))
+      | inr other ↦ ap (λ o. height_of o - 1) (is i ∙ cond-false (eqb t.root i) (Some (appended root list)) (nodes i) (ne_eqb t.root i other))
+    ]
+
+-- the table has only grown
+pub grown_table : (nodes new : Nodes) (counts : ℕ → ℕ) (at more all next : ℕ) (root : Node) (list : List Message) → nodes at ≡ Some root
+    → ((i : ℕ) → new i ≡ cond (eqb at i) (Some (appended root list)) (nodes i)) → all ≡ more + sum_by size list
+    → table_of new counts at all next ≡ grown (table_of nodes counts at more next) list
+grown_table nodes new counts at more all next root list there is all_is = λ j. record {
+  count = counts;
+  level = λ id. same_levels nodes new (table_of nodes counts at more next) root list there is id j;
+  root = at;
+  size = all_is j;
+  next = next;
+}
+
+-- what a store has after it
+pub append_done : (nodes new : Nodes) (t u : Table) (root : Node) (list : List Message) → IsSound nodes t → FitsRoot t list → nodes t.root ≡ Some root
+    → ((i : ℕ) → new i ≡ cond (eqb t.root i) (Some (appended root list)) (nodes i)) → u ≡ grown t list → IsCommitted nodes t (append_step t root list) new u
+append_done nodes new t u root list s fits there is table =
+    let same : new ≡ after nodes t (append_step t root list) = is_appended nodes new t root list s is in
+    record {
+      stays = λ id kept. ap (λ (m : Nodes). m id) same;
+      sound = subst (λ (v : Table). IsSound new v) (sym table) (subst (λ (m : Nodes). IsSound m (grown t list)) (sym same) (append_sound nodes t root list s there fits));
+    }

@@ -1,0 +1,10 @@
+pub mod Taking
+pub mod Loops
+pub mod Counts
+pub mod Carrying
+pub mod Settling
+pub mod Parts
+pub mod Fresh
+pub mod Same
+pub mod Appended
+pub mod Views

@@ -1,0 +1,43 @@
+-- Steps in memory that is taken.
+use Rattle.std.specs.Prelude.{ℕ, ◌≤◌, ◌^◌, List, [], ◌∷◌, ◌++◌, map}
+use Rattle.std.specs.List.{flat_map}
+use Rattle.bd_message.specs.declared.fault.Counter.TheVariants.{Count, NextId, Level, Refs, Epoch, Flushes}
+use Rattle.bd_message.specs.declared.fault.MapFault.{MapFault}
+use Rattle.bd_message.specs.declared.fault.MapFault.TheVariants.{DeviceFault, Damaged, Worn, NoMemory}
+use Rattle.bd_node.specs.declared.node.Change.{Change}
+use Rattle.bd_node.specs.declared.node.Step.{Step}
+use Rattle.bd_node.specs.Nodes.{names}
+use Rattle.bd_memnodes.specs.declared.plan.Exchange.{Exchange}
+use Rattle.bd_memnodes.specs.declared.plan.Plan.{Plan}
+
+-- the names in what a node is changed to
+abbrev pub change_names : Change → List ℕ
+change_names change = names change.node
+
+-- the names in the nodes that a step gives, and the root
+abbrev pub step_names : Step → List ℕ
+step_names step =
+    flat_map names step.made ++ flat_map change_names step.changes ++ step.root ∷ []
+
+abbrev pub change_of : Exchange → Change
+change_of exchange = record { id = exchange.id; node = exchange.node.value }
+
+-- the step of a plan
+abbrev pub step_of : Plan → Step
+step_of plan = record {
+  made = map (λ shared. shared.value) plan.made.items;
+  changes = map change_of plan.changes.items;
+  root = plan.root;
+}
+
+-- why counts can't rise to these
+abbrev pub IsCheckFault : (ℕ → ℕ) → MapFault → Type 0
+IsCheckFault raised DeviceFault = ⊥
+IsCheckFault raised (Damaged block) = ⊥
+IsCheckFault raised (Worn Refs) = (c : ℕ) × (2 ^ 64 ≤ raised c)
+IsCheckFault raised (Worn Count) = ⊥
+IsCheckFault raised (Worn NextId) = ⊥
+IsCheckFault raised (Worn Level) = ⊥
+IsCheckFault raised (Worn Epoch) = ⊥
+IsCheckFault raised (Worn Flushes) = ⊥
+IsCheckFault raised NoMemory = Unit {0}

@@ -1,0 +1,320 @@
+//! A tree over nodes in memory: it has what a map has after the same messages, its store is changed
+//! beside nodes that are held, and what a clone names stays.
+
+ghost use Rattle.std.specs.Prelude.{◌≡◌, [], ◌∷◌, IfOk};
+ghost use Rattle.bd_message.specs.declared.message.Message.TheVariants.{Goto};
+ghost use Rattle.rows.specs.Cloned.{cloned_leaf, cloned};
+
+use crate::dirs::Numbers;
+use crate::message::{apply, message};
+use bd_dirs::{Plan, plan_command};
+use bd_files::put_record;
+use bd_keys::Bytes;
+use bd_memnodes::MemNodes;
+use bd_message::{KeyMap, ListMap, Message};
+use bd_names::Path;
+use bd_node::{Change, Edge, Edges, Entries, Entry, Items, Messages, Node, NodeStore, Step, laws};
+use bd_records::Record;
+use bd_script::{Line, read_line};
+use bd_tree::Tree;
+use std::alloc::{AllocError, Global};
+use std::test::Fail;
+
+/// Puts a message that names no node into a tree, where there is room.
+fn pour(tree: &mut Tree<MemNodes>, message: Message) -> Result<(), Fail> {
+    if !message.is_message() || message.size() > tree.room() {
+        return Err(Fail::new("no such message"));
+    }
+    if let Message::Goto { .. } = message {
+        return Err(Fail::new("a message that names a node"));
+    }
+    tree.apply(&[message])?;
+    Ok(())
+}
+
+/// A map and a tree after the same messages.
+#[derive(Drop)]
+struct Both {
+    map: ListMap,
+    tree: Tree<MemNodes>,
+}
+
+impl Both {
+    /// Without keys.
+    fn new(alloc: Global) -> Result<Both, Fail> {
+        Ok(Both {
+            map: ListMap::new(alloc),
+            tree: Tree::over(alloc, MemNodes::new(alloc)?),
+        })
+    }
+
+    /// After one more message.
+    fn apply(&mut self, message: Message) -> Result<(), Fail> {
+        pour(&mut self.tree, message.clone()?)?;
+        apply(&mut self.map, message)
+    }
+
+    /// Whether both have the same at a key.
+    fn is_same(&mut self, key: &[u8]) -> Result<bool, Fail> {
+        let found = self.tree.get(key)?;
+        let want = self.map.get(key)?;
+        Ok(found == want)
+    }
+
+    /// After the messages of a command.
+    fn execute(&mut self, alloc: Global, line: &str) -> Result<(), Fail> {
+        let Ok(Line::Run(command)) = read_line(alloc, line.as_bytes()) else {
+            return Err(Fail::new("no command"));
+        };
+        let Plan::Apply(list) = plan_command(alloc, &mut self.map, &command)? else {
+            return Err(Fail::new("no messages"));
+        };
+        for message in list.as_slice() {
+            self.apply(message.clone()?)?;
+        }
+        Ok(())
+    }
+
+    /// Whether both have the same at each key of the map and at the one before the next key. How
+    /// many keys there are, if so.
+    fn same_keys(&mut self, alloc: Global) -> Result<Option<usize>, Fail> {
+        let mut at = Vec::new(alloc);
+        for count in 0..1_000 {
+            let Some(key) = self.map.next(at.as_slice(), &[])? else {
+                return Ok(Some(count));
+            };
+            at = key;
+            let is_same = self.is_same(at.as_slice())?;
+            at.push(0)?;
+            if !is_same || !self.is_same(at.as_slice())? {
+                return Ok(None);
+            }
+        }
+        Ok(None)
+    }
+}
+
+/// Commands on files: a write over the border of two blocks, and truncates both ways.
+const FILES: &[&str] = &[
+    "mkdir /d",
+    "create /d/f",
+    "write /d/f 1020 6162636465666768",
+    "truncate /d/f 1026",
+    "truncate /d/f 1022",
+    "truncate /d/f 3000",
+    "write /d/f 2046 31323334",
+    "create /g",
+    "write /g 0 78",
+    "truncate /g 0",
+    "remove /g",
+];
+
+/// A map and a tree that represent the tree of `/` alone.
+fn root_alone(alloc: Global) -> Result<Both, Fail> {
+    let mut both = Both::new(alloc)?;
+    let root = Path::root(alloc)?;
+    both.apply(put_record(alloc, &root, Record::Dir)?)?;
+    Ok(both)
+}
+
+#[test]
+fn messages_of_files(rt: HostRuntime) -> Result<(), Fail> {
+    let mut both = root_alone(rt.alloc())?;
+    for line in FILES {
+        both.execute(rt.alloc(), line)?;
+    }
+    // `/`, `/d`, and `/d/f` with its three blocks.
+    assert_eq!(rt; both.same_keys(rt.alloc())?, Some(6));
+    Ok(())
+}
+
+/// Kinds of messages, each as often as it comes.
+const KINDS: &[&str] = &["put", "put", "put", "patch", "patch", "del", "cut"];
+
+/// Keys, and prefixes of them.
+const KEYS: &[&str] = &["", "a", "a/", "a/b", "a/bc", "ab", "abc", "b", "b/a", "ba"];
+
+/// Values, and keys from which on is cut.
+const SECONDS: &[&str] = &["1", "22", "a", "b", "bc"];
+
+/// A message by a fixed rule.
+fn generated(alloc: Global, numbers: &mut Numbers) -> Result<Message, Fail> {
+    let kind = *numbers.pick(KINDS)?;
+    let key = *numbers.pick(KEYS)?;
+    let second = *numbers.pick(SECONDS)?;
+    Ok(message(alloc, kind, key, second)?)
+}
+
+#[test]
+fn generated_messages(rt: HostRuntime) -> Result<(), Fail> {
+    let mut both = Both::new(rt.alloc())?;
+    let mut numbers = Numbers(7);
+    for number in 0..600 {
+        let message = generated(rt.alloc(), &mut numbers)?;
+        both.apply(message)?;
+        let key = *numbers.pick(KEYS)?;
+        assert!(rt; both.is_same(key.as_bytes())?, "{number}");
+    }
+    for key in KEYS {
+        assert!(rt; both.is_same(key.as_bytes())?, "{key}");
+    }
+    Ok(())
+}
+
+/// How many messages wait in a node.
+fn waiting(node: &Node) -> usize {
+    match node {
+        Node::Leaf(_) => 0,
+        Node::Inner { buffer, .. } => buffer.len(),
+    }
+}
+
+#[test]
+fn a_held_root_stays(rt: HostRuntime) -> Result<(), Fail> {
+    let mut store = MemNodes::new(rt.alloc())?;
+    let root = store.root();
+    let held = store.fetch(root)?;
+    let mut tree = Tree::over(rt.alloc(), store);
+    pour(&mut tree, message(rt.alloc(), "put", "a", "1")?)?;
+    assert_eq!(rt; waiting(&held), 0);
+    drop(held);
+    pour(&mut tree, message(rt.alloc(), "put", "a", "22")?)?;
+    assert!(rt;
+        tree.get(b"a")?
+            .is_some_and(|value| value.as_slice() == b"22".as_slice())
+    );
+    assert_eq!(rt; tree.height(), 2);
+    let store = tree.into_store();
+    assert_eq!(rt;
+        (store.root_size(), store.visits(), store.faults()),
+        (37, 2, 0)
+    );
+    Ok(())
+}
+
+/// These bytes.
+fn bytes(alloc: Global, text: &str) -> Result<Bytes, AllocError> {
+    Bytes::from_slice(alloc, text.as_bytes())
+}
+
+/// A leaf with a value at `a/f`.
+fn leaf(alloc: Global) -> Result<Node, AllocError>
+    ensures { IfOk result (λ node. node ≡ cloned_leaf) }
+{
+    let mut entries = Vec::new(alloc);
+    let key = bytes(alloc, "a/f")?;
+    let value = bytes(alloc, "1")?;
+    entries.push(Entry { key, value })?;
+    Ok(Node::Leaf(Entries::from_vec(entries)))
+}
+
+/// An edge to each key, of this child.
+fn edges_to(alloc: Global, child: Option<u64>) -> Result<Edges, AllocError>
+    ensures { IfOk result (λ edges. edges
+        ≡ record { pivot = []; lift = 0; source = []; child = child; seen = 0 } ∷ []) }
+{
+    let mut edges = Vec::new(alloc);
+    edges.push(Edge {
+        pivot: Bytes::from_vec(Vec::new(alloc)),
+        lift: 0,
+        source: Bytes::from_vec(Vec::new(alloc)),
+        child,
+        seen: 0,
+    })?;
+    Ok(Edges::from_vec(edges))
+}
+
+/// A message that gives each key under `c/` what stands under `a/`, by node 2.
+fn clone_message(alloc: Global) -> Result<Messages, AllocError>
+    ensures { IfOk result (λ list. list ≡ Goto (99 ∷ 47 ∷ []) (97 ∷ 47 ∷ []) 2 ∷ []) }
+{
+    let mut list = Vec::new(alloc);
+    let prefix = bytes(alloc, "c/")?;
+    let source = bytes(alloc, "a/")?;
+    list.push(Message::Goto {
+        prefix,
+        source,
+        child: 2,
+    })?;
+    Ok(Messages::from_vec(list))
+}
+
+/// The step from a new store to a leaf with `a/f`, and a root with a clone of `a` at `c`.
+fn clone_step(alloc: Global) -> Result<Step, AllocError>
+    ensures { IfOk result (λ step. step ≡ cloned) }
+{
+    let mut made = Vec::new(alloc);
+    made.push(leaf(alloc)?)?;
+    let edges = edges_to(alloc, Some(2))?;
+    let buffer = clone_message(alloc)?;
+    let node = Node::Inner {
+        level: 1,
+        edges,
+        buffer,
+    };
+    let mut changes = Vec::new(alloc);
+    changes.push(Change { id: 1, node })?;
+    Ok(Step {
+        made: Items::from_vec(made),
+        changes: Items::from_vec(changes),
+        root: 1,
+    })
+}
+
+/// A store with a clone of `a` at `c`.
+fn with_clone(alloc: Global) -> Result<MemNodes, Fail> {
+    let mut store = MemNodes::new(alloc)?;
+    let step = clone_step(alloc)?;
+    store.commit(step)?;
+    Ok(store)
+}
+
+/// Makes the root one that has nothing at any key, so that it names no node.
+fn empty(alloc: Global, store: &mut MemNodes) -> Result<(), Fail> {
+    let root = store.root();
+    if store.level(root) != 1 {
+        return Err(Fail::new("another level"));
+    }
+    let node = Node::Inner {
+        level: 1,
+        edges: edges_to(alloc, None)?,
+        buffer: Messages::new(alloc),
+    };
+    let mut changes = Vec::new(alloc);
+    changes.push(Change { id: root, node })?;
+    laws::changes_of_the_root_alone();
+    laws::new_stores_are_sound();
+    store.commit(Step {
+        made: Items::new(alloc),
+        changes: Items::from_vec(changes),
+        root,
+    })?;
+    Ok(())
+}
+
+/// Whether a tree has these values at `a/f`, `c/f` and `c/g`.
+fn has(tree: &mut Tree<MemNodes>, values: [Option<&[u8]>; 3]) -> Result<bool, Fail> {
+    let keys: [&[u8]; 3] = [b"a/f", b"c/f", b"c/g"];
+    for (key, value) in keys.iter().zip(values) {
+        if tree.get(key)?.as_ref().map(|found| found.as_slice()) != value {
+            return Ok(false);
+        }
+    }
+    Ok(true)
+}
+
+#[test]
+fn what_a_clone_names_stays(rt: HostRuntime) -> Result<(), Fail> {
+    let one = Some(b"1".as_slice());
+    let mut tree = Tree::over(rt.alloc(), with_clone(rt.alloc())?);
+    assert!(rt; has(&mut tree, [one, one, None])?);
+    pour(&mut tree, message(rt.alloc(), "put", "c/f", "22")?)?;
+    pour(&mut tree, message(rt.alloc(), "put", "c/g", "1")?)?;
+    assert!(rt; has(&mut tree, [one, Some(b"22".as_slice()), one])?);
+    let mut store = tree.into_store();
+    empty(rt.alloc(), &mut store)?;
+    assert_eq!(rt; (store.next_id(), store.root_size()), (3, 0));
+    let mut tree = Tree::over(rt.alloc(), store);
+    assert!(rt; has(&mut tree, [None, None, None])?);
+    Ok(())
+}
