@@ -1,10 +1,12 @@
 //! The names of what stands in a directory.
 
-ghost use Rattle.std.specs.Prelude.{◌≡◌, ◌≤◌, ℕ, List, [], ◌∷◌, ◌++◌, length, take, Option, Some, None, not, ◌==◌, nat_lt, true, IsTrue, IfOk, IfErr};
+ghost use Rattle.std.specs.Prelude.{◌≡◌, ◌≤◌, ◌+◌, ℕ, List, [], ◌∷◌, ◌++◌, length, take, Option, Some, None, not, ◌==◌, nat_lt, true, IsTrue, IfOk, IfErr};
 ghost use Rattle.std.specs.List.{prefix_len, list_all};
 ghost use Rattle.std.specs.Option.{option_copied};
 ghost use Rattle.std.specs.FinMap.{get};
+ghost use Rattle.bd_limits.specs.Limits.{listing_limit};
 ghost use Rattle.bd_names.specs.Names.{is_name, is_name_byte, AreNames, key_of};
+ghost use Rattle.bd_command.specs.Command.{IsReply};
 ghost use Rattle.bd_command.specs.declared.Command.TheVariants as command;
 ghost use Rattle.bd_command.specs.declared.reply.Listed.{Listed};
 ghost use Rattle.bd_model.specs.Tree.{Entry, Tree, IsTree};
@@ -34,6 +36,7 @@ pub fn list<M: KeyMap>(
     ensures reply { M.is_known m.old → (t : Tree) → IsTree t → Represents (M.has m.old) t
         → IfOk result (λ reply.
         reply ≡ (step t (command.List path.now (option_copied after.entry))).1) }
+    ensures small { IfOk result IsReply }
     ensures left { IsLeft M.is_known M.has M.room_of M.worn M.reads M.loans m.old m.new }
     ensures cause { HasMapCause (M.fault_count m.old) (M.fault_count m.new)
         (M.bad m.new) NeverWorn result }
@@ -55,6 +58,7 @@ fn listing<M: KeyMap>(
     ensures listing { M.is_known m.old → (t : Tree) → IsTree t → Represents (M.has m.old) t
         → IfOk result (λ listing.
         listing ≡ listing_of (those_after (option_copied after.entry) (children path.now t))) }
+    ensures few { IfOk result (λ listing. length listing.names ≤ listing_limit) }
     ensures left { IsLeft M.is_known M.has M.room_of M.worn M.reads M.loans m.old m.new }
     ensures cause { HasMapCause (M.fault_count m.old) (M.fault_count m.new)
         (M.bad m.new) NeverWorn result }
@@ -83,6 +87,8 @@ fn add_children<M: KeyMap>(
     ensures more { M.is_known m.old → (t : Tree) → IsTree t → Represents (M.has m.old) t
         → IfOk result (λ more. more
         ≡ nat_lt room (length (those_after (option_copied after.entry) (children path.now t)))) }
+    ensures few { IfOk result (λ more.
+        length names.new.items ≤ length names.old.items + room) }
     ensures left { IsLeft M.is_known M.has M.room_of M.worn M.reads M.loans m.old m.new }
     ensures cause { HasMapCause (M.fault_count m.old) (M.fault_count m.new)
         (M.bad m.new) NeverWorn result }

@@ -3,6 +3,7 @@
 ghost use Rattle.std.specs.Prelude.{◌≡◌, IfOk, OnOk};
 ghost use Rattle.std.specs.FinMap.{get};
 ghost use Rattle.bd_names.specs.Names.{AreNames};
+ghost use Rattle.bd_command.specs.Command.{IsReply};
 ghost use Rattle.bd_command.specs.declared.Command.TheVariants as command;
 ghost use Rattle.bd_model.specs.Tree.{Tree, IsTree};
 ghost use Rattle.bd_model.specs.Step.{step, absent_refusal, new_refusal, parent_refusal};
@@ -20,6 +21,7 @@ use std::alloc::Global;
 pub fn stat<M: KeyMap>(alloc: Global, m: &mut M, path: &Path) -> Result<Reply, MapFault>
     ensures reply { M.is_known m.old → (t : Tree) → IsTree t → Represents (M.has m.old) t
         → IfOk result (λ reply. reply ≡ (step t (command.Stat path.now)).1) }
+    ensures small { IfOk result IsReply }
     ensures left { IsLeft M.is_known M.has M.room_of M.worn M.reads M.loans m.old m.new }
     ensures cause { HasMapCause (M.fault_count m.old) (M.fault_count m.new)
         (M.bad m.new) NeverWorn result }

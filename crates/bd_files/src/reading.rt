@@ -4,6 +4,7 @@ ghost use Rattle.std.specs.Prelude.{◌≡◌, ◌-◌, ◌≤◌, List, ℕ, le
 ghost use Rattle.std.specs.FinMap.{get};
 ghost use Rattle.bd_limits.specs.Limits.{read_limit};
 ghost use Rattle.bd_names.specs.Names.{AreNames};
+ghost use Rattle.bd_command.specs.Command.{IsReply};
 ghost use Rattle.bd_command.specs.declared.Command.TheVariants as command;
 ghost use Rattle.bd_model.specs.Tree.{Tree, IsTree, FileWith};
 ghost use Rattle.bd_model.specs.Step.{step};
@@ -30,6 +31,7 @@ pub fn read<M: KeyMap>(
     requires { len ≤ read_limit }
     ensures reply { M.is_known m.old → (t : Tree) → IsTree t → Represents (M.has m.old) t
         → IfOk result (λ reply. reply ≡ (step t (command.Read path.now off len)).1) }
+    ensures small { IfOk result IsReply }
     ensures left { IsLeft M.is_known M.has M.room_of M.worn M.reads M.loans m.old m.new }
     ensures cause { HasMapCause (M.fault_count m.old) (M.fault_count m.new)
         (M.bad m.new) NeverWorn result }
@@ -55,6 +57,7 @@ fn bytes_between<M: KeyMap>(
     ensures bytes { M.is_known m.old → (t : Tree) (file : List ℕ) → Represents (M.has m.old) t
         → get t path.now ≡ Some (FileWith file) → end ≤ length file
         → IfOk result (λ read. read.items ≡ take (end - off) (drop off file)) }
+    ensures length { IfOk result (λ read. length read.items ≤ end - off) }
     ensures left { IsLeft M.is_known M.has M.room_of M.worn M.reads M.loans m.old m.new }
     ensures cause { HasMapCause (M.fault_count m.old) (M.fault_count m.new)
         (M.bad m.new) NeverWorn result }

@@ -1,1 +1,3 @@
-pub mod Replies
+pub mod Carried
+pub mod Root
+pub mod Steps

@@ -1,1 +1,2 @@
 pub mod Volume
+pub mod Over

@@ -4,16 +4,20 @@
 #![tactic(auto)]
 
 ghost use Rattle.std.specs.Prelude.{◌≡◌, ◌≤◌, ◌+◌, ◌^◌, ◌⊎◌, ℕ, IsTrue, IfOk, IfErr, OnErr};
+ghost use Rattle.std.specs.FinMap.{get};
 ghost use Rattle.bd_model.specs.Tree.{Tree, root_only};
 ghost use Rattle.bd_model.specs.Step.{step};
 ghost use Rattle.bd_command.specs.Command.{writes, accepted, IsCommand, IsReply};
+ghost use Rattle.bd_represent.specs.Represents.{Represents};
 ghost use Rattle.bd_volume.specs.Volume.{StandsFor, WearsCount, count_of, device_of};
+
+mod over;
 
 use bd_command::{Command, Reply};
 use bd_device::Device;
-use bd_message::Counter;
-use bd_plain::PlainTree;
-use std::alloc::{AllocError, Global};
+use bd_message::{Counter, ListMap, MapFault};
+use over::{execute, make_root};
+use std::alloc::Global;
 use thiserror::Error;
 
 /// Why a call of a volume did nothing.
@@ -39,14 +43,19 @@ pub enum Fault {
     Stopped { call: u64 },
 }
 
-impl From<AllocError> for Fault {
+impl From<MapFault> for Fault {
     ghost use Rattle.std.specs.Prelude.{◌≡◌};
-    ghost use Rattle.bd_volume.specs.declared.Fault.TheVariants.{NoMemory};
+    ghost use Rattle.bd_volume.specs.Over.{fault_of};
 
-    ghost from_gives = { λ _ e. e ≡ NoMemory };
+    ghost from_gives = { λ cause fault. fault ≡ fault_of cause };
 
-    fn from(_: AllocError) -> Fault {
-        Fault::NoMemory
+    fn from(cause: MapFault) -> Fault {
+        match cause {
+            MapFault::DeviceFault => Fault::Device,
+            MapFault::Damaged { block } => Fault::Damaged { block },
+            MapFault::Worn(counter) => Fault::Worn(counter),
+            MapFault::NoMemory => Fault::NoMemory,
+        }
     }
 }
 
@@ -59,11 +68,12 @@ pub struct Refused<D> {
     pub device: D,
 }
 
-/// A tree of directories and files, with the number of commands that it has accepted.
+/// A tree of directories and files, kept in a key map, with the number of commands that it has
+/// accepted.
 #[derive(Drop)]
 pub struct Volume<D> {
     device: D,
-    tree: PlainTree,
+    map: ListMap,
     count: u64,
 }
 
@@ -76,22 +86,24 @@ impl<D: Device + Drop> Volume<D> {
         ensures fault { IfErr result (λ refused. refused.fault ≡ Fault.NoMemory) }
         ensures given_back { IfErr result (λ refused. refused.device ≡ device) }
     {
-        match PlainTree::new(alloc) {
-            Ok(tree) => Ok(Volume {
+        match root_map(alloc) {
+            Ok(map) => Ok(Volume {
                 device,
-                tree,
+                map,
                 count: 0,
             }),
-            Err(AllocError) => Err(Refused {
-                fault: Fault::NoMemory,
+            Err(cause) => Err(Refused {
+                fault: Fault::from(cause),
                 device,
             }),
         }
     }
 
-    /// Executes a command. `Worn(Counter::Count)` comes only for an accepted writing command where
-    /// the count stands at its last value. A fault leaves the volume as it was.
+    /// Executes a command whose fields are within their limits. `Worn(Counter::Count)` comes only
+    /// for an accepted writing command where the count stands at its last value. A fault leaves the
+    /// volume as it was.
     pub fn do_command(&mut self, alloc: Global, command: &Command) -> Result<Reply, Fault>
+        requires { IsCommand command.now }
         ensures step { IfOk result (λ reply. (t : Tree) (n : ℕ) → StandsFor self.old t n
             → StandsFor self.new (step t command.now).0 (n + accepted command.now reply)) }
         ensures replies { IfOk result (λ reply. (t : Tree) (n : ℕ) → StandsFor self.old t n
@@ -105,7 +117,7 @@ impl<D: Device + Drop> Volume<D> {
             → (t : Tree) (n : ℕ) → StandsFor self.old t n → WearsCount t n command.now }
 
         // Whatever the volume stands for.
-        ensures small { IfOk result (λ reply. IsCommand command.now → IsReply reply) }
+        ensures small { IfOk result IsReply }
         ensures counts { IfOk result (λ reply.
             count_of self.new ≡ count_of self.old + accepted command.now reply) }
         ensures count_stays { OnErr result (count_of self.new ≡ count_of self.old) }
@@ -113,17 +125,7 @@ impl<D: Device + Drop> Volume<D> {
             → (2 ^ 64 ≤ count_of self.old + 1) × IsTrue (writes command.now) }
         ensures device { device_of self.new ≡ device_of self.old }
     {
-        if self.count == u64::MAX && command.writes() {
-            return match self.tree.refusal(alloc, command)? {
-                Some(refusal) => Ok(Reply::Refused(refusal)),
-                None => Err(Fault::Worn(Counter::Count)),
-            };
-        }
-        let reply = self.tree.step(alloc, command)?;
-        if command.writes() && reply.is_done() {
-            self.count += 1;
-        }
-        Ok(reply)
+        execute(alloc, &mut self.map, &mut self.count, command)
     }
 
     /// The volume's device, which the volume gives up.
@@ -139,4 +141,14 @@ impl<D: Device + Drop> Volume<D> {
     {
         self.count
     }
+}
+
+/// A key map in memory that represents the tree of `/` alone.
+fn root_map(alloc: Global) -> Result<ListMap, MapFault>
+    ensures root { IfOk result (λ map. Represents (λ k. get map k) root_only) }
+    ensures fault { IfErr result (λ cause. cause ≡ MapFault.NoMemory) }
+{
+    let mut map = ListMap::new(alloc);
+    make_root(alloc, &mut map)?;
+    Ok(map)
 }

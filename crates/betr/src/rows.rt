@@ -101,6 +101,26 @@ ok
 ok
 > read /f 0 9
 ok 410000
+# a file is only as large as what was written of it
+> create /f
+ok
+> write /f 1073741823 00
+ok
+> write /f 1073741824 00
+no 8 too-big
+> stat /f
+ok file 1073741824
+# a truncate to the middle of a block, and out again
+> create /f
+ok
+> write /f 1022 61626364
+ok
+> truncate /f 1023
+ok
+> truncate /f 1030
+ok
+> read /f 1020 20
+ok 00006100000000000000
 # a file is no directory
 > create /f
 ok
@@ -276,7 +296,7 @@ fn repeated(alloc: Global, text: &str, count: usize) -> Result<String, AllocErro
 #[test]
 fn rows_of_the_map_give_their_replies(rt: HostRuntime) -> Result<(), Fail> {
     let rows = all_rows(rt.alloc())?;
-    assert_eq!(rt; rows.len(), 15);
+    assert_eq!(rt; rows.len(), 17);
     for row in &rows {
         let written = replies(rt.alloc(), row.script.as_str())?.ok_or("another status")?;
         assert_eq!(rt; written.as_slice(), row.replies.as_bytes(), "{}", row.label);

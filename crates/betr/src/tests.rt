@@ -97,43 +97,46 @@ fn refused_words_give_the_usage(rt: HostRuntime) -> Result<(), Fail> {
     Ok(())
 }
 
+/// Which take, which put and which attach fails, none where it is 0, with the status and what is
+/// written.
+const FAILING: &[(u64, u64, u64, u8, &str)] = &[
+    (1, 0, 0, 5, "fault source\n"),
+    (2, 0, 0, 5, "fault source\n"),
+    (3, 0, 0, 5, "ok\nfault source\n"),
+    (4, 0, 0, 5, "ok\nok\nfault source\n"),
+    (5, 0, 0, 5, "ok\nok\nfault source\n"),
+    (6, 0, 0, 5, "ok\nok\nok dir\nfault source\n"),
+    (7, 0, 0, 5, "ok\nok\nok dir\nok file 0\nfault source\n"),
+    (
+        8,
+        0,
+        0,
+        5,
+        "ok\nok\nok dir\nok file 0\nno 1 not-found\nfault source\n",
+    ),
+    (
+        9,
+        0,
+        0,
+        0,
+        "ok\nok\nok dir\nok file 0\nno 1 not-found\nok\n",
+    ),
+    (0, 1, 0, 9, ""),
+    (0, 2, 0, 9, "ok\n"),
+    (0, 3, 0, 9, "ok\nok\n"),
+    (0, 4, 0, 9, "ok\nok\nok dir\n"),
+    (0, 5, 0, 9, "ok\nok\nok dir\nok file 0\n"),
+    (0, 6, 0, 9, "ok\nok\nok dir\nok file 0\nno 1 not-found\n"),
+    (0, 0, 1, 3, "fault device\n"),
+];
+
 #[test]
 fn each_failing_call_ends_the_run(rt: HostRuntime) -> Result<(), Fail> {
-    let rows: [(u64, u64, u64, u8, &str); 16] = [
-        (1, 0, 0, 5, "fault source\n"),
-        (2, 0, 0, 5, "fault source\n"),
-        (3, 0, 0, 5, "ok\nfault source\n"),
-        (4, 0, 0, 5, "ok\nok\nfault source\n"),
-        (5, 0, 0, 5, "ok\nok\nfault source\n"),
-        (6, 0, 0, 5, "ok\nok\nok dir\nfault source\n"),
-        (7, 0, 0, 5, "ok\nok\nok dir\nok file 0\nfault source\n"),
-        (
-            8,
-            0,
-            0,
-            5,
-            "ok\nok\nok dir\nok file 0\nno 1 not-found\nfault source\n",
-        ),
-        (
-            9,
-            0,
-            0,
-            0,
-            "ok\nok\nok dir\nok file 0\nno 1 not-found\nok\n",
-        ),
-        (0, 1, 0, 9, ""),
-        (0, 2, 0, 9, "ok\n"),
-        (0, 3, 0, 9, "ok\nok\n"),
-        (0, 4, 0, 9, "ok\nok\nok dir\n"),
-        (0, 5, 0, 9, "ok\nok\nok dir\nok file 0\n"),
-        (0, 6, 0, 9, "ok\nok\nok dir\nok file 0\nno 1 not-found\n"),
-        (0, 0, 1, 3, "fault device\n"),
-    ];
-    for (take, put, attach, status, text) in rows {
-        let (outcome, written) = first_failing(rt.alloc(), &[take], &[put], &[attach])?;
+    for (take, put, attach, status, text) in FAILING {
+        let (outcome, written) = first_failing(rt.alloc(), &[*take], &[*put], &[*attach])?;
         assert_eq!(rt;
             outcome.status,
-            status,
+            *status,
             "take {take}, put {put}, attach {attach}"
         );
         assert_eq!(rt;

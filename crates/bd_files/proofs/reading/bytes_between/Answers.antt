@@ -1,8 +1,10 @@
-use Rattle.std.proofs.Common.{ℕ, List, ◌≡◌, ◌<◌, ◌≤◌, ◌+◌, ◌-◌, ◌/◌, ◌%◌, ◌++◌, take, drop, ap, ◌∙◌, arith, []}
+use Rattle.std.proofs.Common.{ℕ, List, ◌≡◌, ◌<◌, ◌≤◌, ◌+◌, ◌-◌, ◌/◌, ◌%◌, ◌++◌, length, take, drop, ap, ◌∙◌, arith, []}
+use Rattle.std.proofs.lemmas.List.{length-append, length-drop}
 use Rattle.std.specs.Prelude.{Option, min}
 use Rattle.std.specs.Option.{unwrap_or}
 use Rattle.bd_limits.specs.Limits.{block_limit}
 use Rattle.bd_keys.specs.Edits.{resized}
+use Rattle.bd_keys.proofs.EditLemmas.{length-resized}
 use Rattle.bd_represent.specs.EntryKeys.{block_key}
 use Rattle.bd_represent.specs.Represents.{stored}
 use Rattle.bd_files.proofs.Pieces.{piece, next_piece, left_both, ends}
@@ -22,6 +24,7 @@ loop-place-preserved g c =
       from = omega (arith, c.loop-place.invariant.from);
       within = λ h. fits;
       none = λ h. absurd (omega (arith, c.loop-place.invariant.none h, under, h));
+      count = omega (arith, ap length c.in_ok-extend_from_slice.ensures.items, length-append c.loop-place.read.items c.tail.result.now, ap length c.tail.ensures, length-drop (place % block_limit) c.deref-in-loop-place.result.now, ap length c.deref-in-loop-place.ensures.value, ap length c.in_ok-whole.ensures, length-resized c.deref.result.now (place % block_limit + n), c.loop-place.invariant.count, fits);
       left = left_both g.M.KeyMap.is_known g.M.KeyMap.has g.M.KeyMap.room_of g.M.KeyMap.worn g.M.KeyMap.reads g.M.KeyMap.loans g.met.M.KeyMap.reads_both c.args.m.now c.loop-place.m c.stored.new.m first second;
       later = omega (arith, c.loop-place.invariant.later, c.in_ok-block.ensures.cause.later);
       bytes = λ known t file r found long.

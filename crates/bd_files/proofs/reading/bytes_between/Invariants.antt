@@ -12,6 +12,7 @@ invariant-loop-place g l = record {
   from : l.off ≤ l.place;
   within : l.off < l.end → l.place ≤ l.end;
   none : l.end ≤ l.off → l.place ≡ l.off;
+  count : length l.read.items ≤ l.place - l.off;
   left : IsLeft g.M.KeyMap.is_known g.M.KeyMap.has g.M.KeyMap.room_of g.M.KeyMap.worn g.M.KeyMap.reads g.M.KeyMap.loans l.initial.m l.m;
   later : g.M.KeyMap.fault_count l.initial.m ≤ g.M.KeyMap.fault_count l.m;
   bytes : g.M.KeyMap.is_known l.initial.m → (t : Tree) (file : List ℕ) → Represents (g.M.KeyMap.has l.initial.m) t

@@ -1,0 +1,35 @@
+-- What a volume stands for after a command.
+use Rattle.std.proofs.Common.{◌≡◌, ℕ, ◌+◌, List, ap, ◌∙◌}
+use Rattle.std.specs.Prelude.{Result, Ok, Err, IfOk}
+use Rattle.std.specs.FinMap.{FinMap, get}
+use Rattle.bd_keys.specs.Keys.{key_cmp}
+use Rattle.bd_command.specs.Command.{IsCommand, accepted}
+use Rattle.bd_command.specs.declared.Command.{Command}
+use Rattle.bd_command.specs.declared.reply.Reply.{Reply}
+use Rattle.bd_model.specs.Tree.{Tree, IsTree}
+use Rattle.bd_model.specs.Step.{step}
+use Rattle.bd_model.proofs.TreeStays.{after_stays}
+use Rattle.bd_represent.specs.Represents.{Represents}
+use Rattle.bd_volume.specs.Over.{TakesStep}
+use Rattle.bd_volume.specs.Volume.{StandsFor, keys_of, count_of}
+use Rattle.bd_volume.specs.declared.Fault.{Fault}
+use Rattle.bd_volume.specs.declared.Volume.{Volume}
+
+-- where the map takes the step, and the count rises with it, the volume stands for the tree after
+pub stands_after : {D : Type 0} (old new : Volume D) (c : Command) (result : Result Reply Fault) → IsCommand c
+    → ((t : Tree) → IsTree t → Represents (keys_of old) t → IfOk result (TakesStep t c (keys_of new)))
+    → IfOk result (λ reply. count_of new ≡ count_of old + accepted c reply)
+    → IfOk result (λ reply. (t : Tree) (n : ℕ) → StandsFor old t n → StandsFor new (step t c).0 (n + accepted c reply))
+stands_after old new c (Ok reply) limits steps counts = λ t n s. record {
+  is_tree = after_stays t c s.is_tree limits;
+  represents = (steps t s.is_tree s.represents).represents;
+  count_is = counts ∙ ap (λ (k : ℕ). k + accepted c reply) s.count_is;
+}
+stands_after old new c (Err e) limits steps counts = tt
+
+-- and the reply is the step's
+pub replied : {D : Type 0} (old : Volume D) (new : FinMap key_cmp (List ℕ)) (c : Command) (result : Result Reply Fault)
+    → ((t : Tree) → IsTree t → Represents (keys_of old) t → IfOk result (TakesStep t c (λ k. get new k)))
+    → IfOk result (λ reply. (t : Tree) (n : ℕ) → StandsFor old t n → reply ≡ (step t c).1)
+replied old new c (Ok reply) steps = λ t n s. (steps t s.is_tree s.represents).reply_is
+replied old new c (Err e) steps = tt
