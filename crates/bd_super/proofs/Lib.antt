@@ -1,2 +1,3 @@
-pub mod Heads
 pub mod Bodies
+pub mod Halves
+pub mod Heads

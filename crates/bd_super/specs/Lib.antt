@@ -1,1 +1,3 @@
+pub mod Cause
+pub mod Live
 pub mod Superblocks

@@ -4,6 +4,10 @@
 #![tactic(auto)]
 
 mod codec;
+mod fault;
+mod live;
 mod superblock;
 
+pub use fault::SuperFault;
+pub use live::read_live;
 pub use superblock::{Half, Super};

@@ -35,10 +35,12 @@ returns-then-is_super c =
     let count : length table ≡ h.table = rw c.in-Some.is at c.in_ok-table.ensures.count in
     let s : Super = record { half = c.args.half; slots = h.slots; epoch = h.epoch; count = h.count; table = c.from_vec.result } in
     let made : c.from_vec.result ≡ table = c.from_vec.ensures in
-    let front = subst (λ n. c.args.block.now ≡ head_bytes h.slots h.epoch h.count n ++ c.read_head.new.cursor.left) (sym count ∙ ap length (sym made)) (sym c.new-cursor.ensures.left ∙ found.front) in
-    (refl, c.is_super.ensures.0 c.if-is_super.true,
+    let front = subst (λ n. c.args.block.now ≡ head_bytes h.slots h.epoch h.count n ++ c.read_head.new.cursor.left) (sym count ∙ ap length (sym made)) (sym c.new-cursor.ensures.left ∙ found.front) in (
+      refl,
+      c.is_super.ensures.0 c.if-is_super.true,
       body_whole s c.args.block.now c.read_head.new.cursor.left c.read_numbers.new.cursor.left c.told-block front
-      (subst (λ l. c.read_head.new.cursor.left ≡ flat_map (be w32) l ++ c.read_numbers.new.cursor.left) (sym made) numbers.front) (c.rest_is_zero.ensures.0 c.if-rest_is_zero.true))
+          (subst (λ l. c.read_head.new.cursor.left ≡ flat_map (be w32) l ++ c.read_numbers.new.cursor.left) (sym made) numbers.front) (c.rest_is_zero.ensures.0 c.if-rest_is_zero.true),
+    )
 
 pub returns-else-rest_is_zero : goal.returns-else-rest_is_zero
 returns-else-rest_is_zero c = λ s is e.
@@ -54,6 +56,6 @@ returns-else-rest_is_zero c = λ s is e.
     let same = table_alone table c.read_numbers.new.cursor.left s fits is (count ∙ head.3) (sym numbers.front ∙ head.4) in
     elim c.else-rest_is_zero.branch [
       | else-rest_is_zero-via-then-rest_is_zero+else-is_super w ↦
-      true≢false (sym (w.is_super.ensures.1 (same_fields record { half = c.args.half; slots = h.slots; epoch = h.epoch; count = h.count; table = c.from_vec.result } s head.0 head.1 head.2 (c.from_vec.ensures ∙ same.0) is)) ∙ w.if-is_super.false)
+          true≢false (sym (w.is_super.ensures.1 (same_fields record { half = c.args.half; slots = h.slots; epoch = h.epoch; count = h.count; table = c.from_vec.result } s head.0 head.1 head.2 (c.from_vec.ensures ∙ same.0) is)) ∙ w.if-is_super.false)
       | else-rest_is_zero-via-else-rest_is_zero w ↦ true≢false (sym (c.rest_is_zero.ensures.1 same.1) ∙ w.if-rest_is_zero.false)
     ]
