@@ -42,7 +42,7 @@ half_bad (Some image) half None commit body blocks c b shape committed read othe
 half_bad (Some image) half (Some found) commit body blocks c b shape committed read other = record {
   committed = ap (λ l. slice_index l 0) (block_read image (commit_block half) commit c) ∙ committed;
   none = λ (s, in_half, held).
-    let same : s ≡ found = one_super s found held.fits read.1 (in_half ∙ sym read.0)
-    (sym held.body ∙ ap (λ h. block_at image (body_block h)) in_half ∙ block_read image (body_block half) body b ∙ read.2) in
-    other (ap (λ (t : Super). image_blocks t.slots) (sym same) ∙ sym held.size ∙ shape.count_is);
+      let same : s ≡ found = one_super s found held.fits read.1 (in_half ∙ sym read.0)
+      (sym held.body ∙ ap (λ h. block_at image (body_block h)) in_half ∙ block_read image (body_block half) body b ∙ read.2) in
+      other (ap (λ (t : Super). image_blocks t.slots) (sym same) ∙ sym held.size ∙ shape.count_is);
 }

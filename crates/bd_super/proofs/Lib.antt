@@ -1,3 +1,6 @@
 pub mod Bodies
 pub mod Halves
 pub mod Heads
+pub mod LiveLemmas
+pub mod Ready
+pub mod Staging

@@ -6,8 +6,10 @@
 mod codec;
 mod fault;
 mod live;
+mod publishing;
 mod superblock;
 
 pub use fault::SuperFault;
 pub use live::read_live;
+pub use publishing::publish;
 pub use superblock::{Half, Super};
