@@ -1,9 +1,8 @@
 -- Bodies of superblocks: how long they are, and that one body is of one superblock.
-use Rattle.std.proofs.Common.{◌≡◌, ◌≢◌, ℕ, ◌+◌, ◌-◌, ◌*◌, ◌^◌, ◌<◌, ◌≤◌, List, [], ◌++◌, length, All, refl, sym, ap, subst, ◌∙◌, arith, append_assoc, append-nil, length-append}
+use Rattle.std.proofs.Common.{◌≡◌, ◌≢◌, ℕ, ◌-◌, ◌*◌, ◌^◌, ◌<◌, List, [], ◌++◌, length, All, refl, sym, ap, subst, ◌∙◌, arith, append_assoc, append-nil, length-append}
 use Rattle.std.specs.Int.{w32}
 use Rattle.std.specs.List.{flat_map}
 use Rattle.std.proofs.lemmas.List.{length-replicate, drop_all}
-use Rattle.bd_limits.specs.Limits.{slot_limit}
 use Rattle.bd_slots.specs.Layout.{IsSlotCount, IsTablePlace}
 use Rattle.bd_slots.proofs.Items.{items_alone, length-items}
 use Rattle.bd_wire.specs.Numbers.{be, FitsWidth}

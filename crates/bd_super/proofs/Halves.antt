@@ -1,10 +1,10 @@
 -- What was read of a half says what the image has there.
-use Rattle.std.proofs.Common.{◌≡◌, ◌≢◌, ℕ, List, [], Option, None, Some, IfSome, slice_get, slice_index, slice_index_or, length, sym, ap, ◌∙◌, subst}
+use Rattle.std.proofs.Common.{◌≡◌, ◌≢◌, ℕ, List, [], Option, None, Some, IfSome, slice_get, slice_index, sym, ap, ◌∙◌}
 use Rattle.std.proofs.lemmas.Option.{get_or_from_slice_get}
 use Rattle.bd_slots.specs.Layout.{image_blocks}
 use Rattle.bd_device.specs.Blocks.{Image, HasBlocks}
-use Rattle.bd_super.specs.Superblocks.{IsSuper, IsReadAs, body_bytes, commit_block, body_block}
-use Rattle.bd_super.specs.Live.{block_at, IsCommitted, Holds, HoldsIn, IsBad, IsHalf}
+use Rattle.bd_super.specs.Superblocks.{IsReadAs, commit_block, body_block}
+use Rattle.bd_super.specs.Live.{block_at, IsBad, IsHalf}
 use Rattle.bd_super.specs.declared.superblock.Half.{Half}
 use Rattle.bd_super.specs.declared.superblock.Super.{Super}
 use Rattle.bd_super.proofs.Bodies.{one_super}

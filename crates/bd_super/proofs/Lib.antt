@@ -1,4 +1,5 @@
 pub mod Bodies
+pub mod Damage
 pub mod Halves
 pub mod Heads
 pub mod LiveLemmas

@@ -1,12 +1,11 @@
 -- When the same superblock is live in two images.
-use Rattle.std.proofs.Common.{◌≡◌, ◌≢◌, ◌↔◌, ℕ, ◌+◌, ◌*◌, ◌<◌, ◌≤◌, ◌⊎◌, List, [], length, get_or, set, inl, inr, refl, sym, ap, subst, ◌∙◌, arith}
+use Rattle.std.proofs.Common.{◌≡◌, ◌≢◌, ◌↔◌, ℕ, ◌<◌, ◌⊎◌, List, [], length, inl, inr, refl, sym, ap, subst, ◌∙◌, arith}
 use Rattle.std.specs.Prelude.{slice_index, slice_set}
-use Rattle.std.proofs.lemmas.List.{get_or-set_other, get_or-set_same, length-set}
-use Rattle.bd_slots.specs.Layout.{image_blocks}
+use Rattle.std.proofs.lemmas.List.{get_or-set_other, get_or-set_same}
 use Rattle.bd_device.specs.Blocks.{Image}
-use Rattle.bd_super.specs.Superblocks.{commit_block, body_block, log_block, other}
-use Rattle.bd_super.specs.Live.{block_at, IsCommitted, Holds, HoldsOlder, IsLive}
-use Rattle.bd_super.specs.Published.{IsOfHalf, SameOutside, SameLive, SameSuperblocks}
+use Rattle.bd_super.specs.Superblocks.{commit_block, body_block, other}
+use Rattle.bd_super.specs.Live.{block_at, IsCommitted, Holds, IsLive}
+use Rattle.bd_super.specs.Published.{SameLive, SameSuperblocks}
 use Rattle.bd_super.specs.declared.superblock.Half.{Half}
 use Rattle.bd_super.specs.declared.superblock.Half.TheVariants.{A, B}
 use Rattle.bd_super.specs.declared.superblock.Super.{Super}

@@ -1,13 +1,13 @@
 -- From the body that was settled to the superblock that is live.
-use Rattle.std.proofs.Common.{◌≡◌, ◌≢◌, ℕ, ◌+◌, ◌*◌, ◌<◌, ◌≤◌, ◌⊎◌, List, Option, None, Some, IfSome, length, inl, inr, refl, sym, ap, subst, ◌∙◌, arith}
-use Rattle.std.specs.Prelude.{slice_index, slice_set, IsSomeAnd}
+use Rattle.std.proofs.Common.{◌≡◌, ◌≢◌, ℕ, ◌<◌, List, Option, None, Some, IfSome, length, inl, inr, refl, sym, ap, subst, ◌∙◌, arith}
+use Rattle.std.specs.Prelude.{slice_index, slice_set}
 use Rattle.std.proofs.lemmas.Bool.{cases_eq}
 use Rattle.std.proofs.lemmas.List.{length-set}
 use Rattle.bd_slots.specs.Layout.{image_blocks}
 use Rattle.bd_device.specs.Blocks.{Image, HasBlocks, with_block}
 use Rattle.bd_device.specs.Moments.{TornAt}
 use Rattle.bd_super.specs.Superblocks.{IsSuper, body_bytes, commit_block, body_block, log_block, other}
-use Rattle.bd_super.specs.Live.{block_at, IsCommitted, IsLive, Holds, HoldsOlder, NoneIsCommitted}
+use Rattle.bd_super.specs.Live.{block_at, IsCommitted, HoldsOlder, NoneIsCommitted}
 use Rattle.bd_super.specs.Published.{IsOfHalf, SameOutside, StaysOutside, IsStaged, IsPublished, IsStagedOrPublished, CanFollow}
 use Rattle.bd_super.specs.declared.superblock.Half.{Half}
 use Rattle.bd_super.specs.declared.superblock.Half.TheVariants.{A, B}
@@ -61,12 +61,12 @@ ready known (Some m) logged settled s count bytes outside closed log shut body s
     subst (λ (o : Option Image). IfSome o (IsReady s known)) (sym some)
     (record {
       outside = outside_outside known (Some m) (Some d) half outside
-        (outside_outside (Some m) (Some d1) (Some d) half (outside_written (Some m) (Some d1) half (log_block half) bytes (inr (inr refl)) refl)
-        (outside_written (Some d1) (Some d) half (body_block half) (body_bytes s) (inr (inl refl)) refl));
+          (outside_outside (Some m) (Some d1) (Some d) half (outside_written (Some m) (Some d1) half (log_block half) bytes (inr (inr refl)) refl)
+          (outside_written (Some d1) (Some d) half (body_block half) (body_bytes s) (inr (inl refl)) refl));
       size = whole;
       body = block_same d1 (body_block half) (body_bytes s) (omega (arith, whole, l1, body_first half));
       closed = closed_other d1 (body_block half) (commit_block half) (body_bytes s) (commit_not_body half half)
-        (closed_other m (log_block half) (commit_block half) bytes (commit_not_log half half) closed);
+          (closed_other m (log_block half) (commit_block half) bytes (commit_not_log half half) closed);
       log = closed_other d1 (body_block half) (log_block half) (body_bytes s) (λ e. body_not_log half half (sym e)) shut1;
     })
 
@@ -100,17 +100,17 @@ committed_ready (Some old) s d bytes is follows fits one =
           size = size ∙ is.size;
         };
         newest = λ beside.
-          let was : IsCommitted old (commit_block (other half)) = sym (ap (λ l. slice_index l 0) (outside.others (commit_block (other half)) commit_outside)) ∙ beside in
-          elim follows as (λ _. HoldsOlder c (other half) s.epoch) [
-            | inl none ↦ absurd (none_committed old none (other half) was)
-            | inr older ↦ (
-              older.0,
-              older.2,
-              still_held old c older.0 outside.size (subst (λ h. IsCommitted c (commit_block h)) (sym older.2) beside)
-                (subst (λ h. block_at c (body_block h) ≡ block_at old (body_block h)) (sym older.2) (outside.others (body_block (other half)) body_outside)) older.1.held,
-              older.3,
-            )
-          ];
+            let was : IsCommitted old (commit_block (other half)) = sym (ap (λ l. slice_index l 0) (outside.others (commit_block (other half)) commit_outside)) ∙ beside in
+            elim follows as (λ _. HoldsOlder c (other half) s.epoch) [
+              | inl none ↦ absurd (none_committed old none (other half) was)
+              | inr older ↦ (
+                older.0,
+                older.2,
+                still_held old c older.0 outside.size (subst (λ h. IsCommitted c (commit_block h)) (sym older.2) beside)
+                    (subst (λ h. block_at c (body_block h) ≡ block_at old (body_block h)) (sym older.2) (outside.others (body_block (other half)) body_outside)) older.1.held,
+                older.3,
+              )
+            ];
       };
       log = closed_other d (commit_block half) (log_block half) bytes (λ e. commit_not_log half half (sym e)) is.log;
     }
@@ -127,7 +127,7 @@ torn_commit known contents s before left is only staged follows fits c (d, was, 
       | inl one ↦ inr (committed_ready known s d bytes d_ready follows fits one)
       | inr closed ↦ inl (staged_torn half before d (commit_block half) bytes (inl refl) (staged d was)
           (same_halves d (slice_set d (commit_block half) bytes)
-            (same_flag d half bytes (omega (arith, d_ready.size, commit_first half)) (λ was_one. absurd (d_ready.closed was_one), λ one. absurd (closed one)))))
+          (same_flag d half bytes (omega (arith, d_ready.size, commit_first half)) (λ was_one. absurd (d_ready.closed was_one), λ one. absurd (closed one)))))
     ])
 
 -- a torn block of the log or of a body that isn't committed leaves it staged

@@ -1,5 +1,5 @@
 -- What a torn block of the half in which a superblock is published changes.
-use Rattle.std.proofs.Common.{◌≡◌, ◌≢◌, ◌↔◌, ℕ, ◌<◌, ◌≤◌, ◌⊎◌, List, Option, None, Some, IfSome, Result, Ok, Err, OnOk, OnErr, length, inl, inr, refl, sym, ap, subst, ◌∙◌, arith}
+use Rattle.std.proofs.Common.{◌≡◌, ◌≢◌, ◌↔◌, ℕ, ◌<◌, List, Option, None, Some, IfSome, Result, Ok, Err, OnOk, OnErr, length, inl, inr, refl, sym, ap, subst, ◌∙◌, arith}
 use Rattle.std.specs.Prelude.{slice_get, slice_index, slice_set}
 use Rattle.std.proofs.lemmas.List.{length-set}
 use Rattle.std.proofs.lemmas.Bool.{cases_eq}
@@ -7,7 +7,7 @@ use Rattle.bd_device.specs.Blocks.{Image, HasBlocks, with_block}
 use Rattle.bd_device.specs.Moments.{TornAt}
 use Rattle.bd_super.specs.Superblocks.{commit_block, body_block, log_block, other}
 use Rattle.bd_super.specs.Live.{block_at, IsCommitted, Holds, IsLive}
-use Rattle.bd_super.specs.Published.{IsOfHalf, SameOutside, StaysOutside, SameLive, IsStaged, AreSettled, IsLiveBeside}
+use Rattle.bd_super.specs.Published.{IsOfHalf, StaysOutside, SameLive, IsStaged, AreSettled, IsLiveBeside}
 use Rattle.bd_super.specs.declared.superblock.Half.{Half}
 use Rattle.bd_super.specs.declared.superblock.Half.TheVariants.{A, B}
 use Rattle.bd_super.specs.declared.superblock.Super.{Super}

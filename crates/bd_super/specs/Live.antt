@@ -1,5 +1,5 @@
 -- What an image has of superblocks, and which one it starts from.
-use Rattle.std.specs.Prelude.{◌≡◌, ◌<◌, ◌≤◌, ◌⊎◌, ℕ, List, [], length, slice_index, slice_index_or, Option, Some, None}
+use Rattle.std.specs.Prelude.{◌≡◌, ◌<◌, ◌⊎◌, ℕ, List, [], length, slice_index, slice_index_or, Option, Some, None}
 use Rattle.bd_limits.specs.Limits.{slot_minimum}
 use Rattle.bd_slots.specs.Layout.{image_blocks}
 use Rattle.bd_device.specs.Blocks.{Image}

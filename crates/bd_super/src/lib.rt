@@ -5,6 +5,7 @@
 
 mod codec;
 mod fault;
+pub mod laws;
 mod live;
 mod publishing;
 mod superblock;

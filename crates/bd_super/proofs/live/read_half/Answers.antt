@@ -1,7 +1,6 @@
-use Rattle.std.proofs.Common.{◌≡◌, Some, None, Option, IfSome, slice_get, refl, sym, subst, ◌∙◌, arith}
+use Rattle.std.proofs.Common.{◌≡◌, Some, None, Option, IfSome, slice_get, sym, subst, ◌∙◌, arith}
 use Rattle.bd_device.specs.Blocks.{Image}
 use Rattle.bd_super.specs.Superblocks.{IsReadAs}
-use Rattle.bd_super.specs.declared.superblock.Super.{Super}
 use Rattle.bd_super.proofs.Halves.{half_held, half_bad}
 use Rattle.bd_super.proofs.live.read_half.Goals as goal
 

@@ -1,13 +1,12 @@
-use Rattle.std.proofs.Common.{◌≡◌, ℕ, Some, Option, IfSome, subst, ◌∙◌, sym, inl, inr, refl, arith}
+use Rattle.std.proofs.Common.{◌≡◌, subst, ◌∙◌, inl, inr, arith}
 use Rattle.std.proofs.lemmas.Result.{on_ok_weaker}
-use Rattle.bd_device.specs.Blocks.{Image, HasBlocks, with_block}
+use Rattle.bd_device.specs.Blocks.{with_block}
 use Rattle.bd_device.specs.Moments.{TornAt, Elapses}
 use Rattle.bd_device.proofs.Moments.{goes_on, within, after}
 use Rattle.bd_super.specs.Superblocks.{body_bytes, commit_block, body_block, log_block}
-use Rattle.bd_super.specs.Live.{IsCommitted}
-use Rattle.bd_super.specs.Published.{IsStaged, IsStagedOrPublished, StaysOutside}
+use Rattle.bd_super.specs.Published.{IsStaged, IsStagedOrPublished}
 use Rattle.bd_super.proofs.Staging.{staged_same, outside_written, outside_outside, either_way}
-use Rattle.bd_super.proofs.Ready.{log_first, IsReady, ready, torn_commit, torn_log_staged, torn_body_staged, closed_log, published_known}
+use Rattle.bd_super.proofs.Ready.{log_first, ready, torn_commit, torn_log_staged, torn_body_staged, closed_log, published_known}
 use Rattle.bd_super.proofs.publishing.publish.Goals as goal
 
 pub settle-requires : goal.settle-requires
@@ -118,7 +117,7 @@ returns-clause-published g c =
     let d4 = c.settle-3.new.dev in
     on_ok_weaker c.settle-3.result
     (λ written. published_known known (D.contents d3) (D.contents d4) s c.committed_block.result is_ready
-      (subst (λ b. D.contents d4 ≡ with_block b c.committed_block.result (D.contents d3)) c.commit_block.ensures written) c.requires.follows c.requires.fits c.committed_block.ensures)
+    (subst (λ b. D.contents d4 ≡ with_block b c.committed_block.result (D.contents d3)) c.commit_block.ensures written) c.requires.follows c.requires.fits c.committed_block.ensures)
     c.settle-3.ensures.written
 
 pub returns-in_err-settle-clause-outside : goal.returns-in_err-settle-clause-outside

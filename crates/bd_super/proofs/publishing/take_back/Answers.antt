@@ -1,7 +1,6 @@
-use Rattle.std.proofs.Common.{◌≡◌, ℕ, Some, Option, IfSome, subst, ◌∙◌, sym, inl, refl, arith}
-use Rattle.std.specs.Prelude.{slice_get}
+use Rattle.std.proofs.Common.{Option, IfSome, subst, inl, arith}
 use Rattle.std.proofs.lemmas.Result.{on_ok_weaker}
-use Rattle.bd_device.specs.Blocks.{Image, with_block}
+use Rattle.bd_device.specs.Blocks.{Image}
 use Rattle.bd_device.specs.Moments.{Nothing, TornAt, Elapses}
 use Rattle.bd_device.proofs.Moments.{goes_on, within, after}
 use Rattle.bd_super.specs.Superblocks.{commit_block}

@@ -1,10 +1,10 @@
-use Rattle.std.proofs.Common.{◌≡◌, ℕ, ◌^◌, ◌<◌, List, ◌++◌, length, All, refl, sym, ap, ◌∙◌, subst, arith}
+use Rattle.std.proofs.Common.{◌≡◌, ◌++◌, length, All, refl, sym, ap, ◌∙◌, subst, arith}
 use Rattle.std.proofs.lemmas.Bool.{true≢false}
 use Rattle.std.specs.Int.{w32}
 use Rattle.std.specs.List.{flat_map}
 use Rattle.bd_wire.specs.Numbers.{be, FitsWidth}
 use Rattle.bd_wire.specs.Reading.{Reads}
-use Rattle.bd_super.specs.Superblocks.{IsSuper, FitsHead, head_bytes, body_bytes}
+use Rattle.bd_super.specs.Superblocks.{FitsHead, head_bytes}
 use Rattle.bd_super.specs.declared.superblock.Super.{Super}
 use Rattle.bd_super.proofs.Bodies.{head_alone, no_head, no_table, table_alone, body_whole, same_fields}
 use Rattle.bd_super.proofs.superblock.Super.read.Goals as goal
