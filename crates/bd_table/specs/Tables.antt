@@ -56,7 +56,14 @@ magic = 66 ∷ 68 ∷ 84 ∷ 65 ∷ 66 ∷ 76 ∷ 69 ∷ 49 ∷ []
 abbrev pub head_bytes : ℕ → ℕ → ℕ → List ℕ
 head_bytes count next_id root = magic ++ be w64 count ++ be w64 next_id ++ be w64 root
 
--- these, the entries, and zeros to the end of so many slots
+-- such numbers are as wide as their fields
+abbrev pub FitsHead : ℕ → ℕ → ℕ → Type 0
+FitsHead count next_id root = (count < 2 ^ 64) × (next_id < 2 ^ 64) × (root < 2 ^ 64)
+
+abbrev pub FitsEntry : TableEntry → Type 0
+FitsEntry e = (e.id < 2 ^ 64) × (e.refs < 2 ^ 64) × (e.slot < 2 ^ 32) × (e.level < 2 ^ 32)
+
+-- the head, the entries, and zeros to the end of so many slots
 abbrev pub table_bytes : ℕ → Table → List ℕ
 table_bytes taken t =
     head_bytes (length t.entries) t.next_id t.root ++ flat_map entry_bytes t.entries

@@ -4,6 +4,7 @@
 #![tactic(auto)]
 
 mod check;
+mod codec;
 mod fault;
 mod table;
 
