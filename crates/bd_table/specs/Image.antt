@@ -1,5 +1,5 @@
 -- Where a table stands in an image.
-use Rattle.std.specs.Prelude.{◌≡◌, ◌≢◌, ◌+◌, ◌*◌, ◌/◌, ◌%◌, ◌<◌, ℕ, List, [], length, slice_index, slice_index_or, Option, Some, None, IfSome, IsSomeAnd}
+use Rattle.std.specs.Prelude.{◌≡◌, ◌≢◌, ◌+◌, ◌*◌, ◌/◌, ◌%◌, ◌<◌, ℕ, List, [], length, map, slice_index, slice_index_or, Option, Some, None, IfSome, IsSomeAnd}
 use Rattle.std.specs.List.{flat_map, range_with_len}
 use Rattle.bd_slots.specs.Layout.{slot_block}
 use Rattle.bd_device.specs.Blocks.{Image}
@@ -14,10 +14,13 @@ table_block at k = slot_block (slice_index at (k / 16)) + k % 16
 abbrev pub block_total : List ℕ → ℕ
 block_total at = 16 * length at
 
--- the bytes of so many of these blocks, one after the other
+-- the first of these blocks
+abbrev pub first_blocks : List ℕ → ℕ → List ℕ
+first_blocks at count = map (table_block at) (range_with_len 0 count)
+
+-- their bytes, one block after the other
 abbrev pub first_bytes : Image → List ℕ → ℕ → List ℕ
-first_bytes image at count =
-    flat_map (λ k. slice_index_or image (table_block at k) []) (range_with_len 0 count)
+first_bytes image at count = flat_map (λ b. slice_index_or image b []) (first_blocks at count)
 
 -- the bytes of all
 abbrev pub bytes_in : Image → List ℕ → List ℕ

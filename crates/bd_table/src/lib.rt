@@ -6,7 +6,9 @@
 mod check;
 mod codec;
 mod fault;
+mod reading;
 mod table;
 
 pub use fault::TableFault;
+pub use reading::read;
 pub use table::{Table, TableEntries, TableEntry};
