@@ -1,2 +1,3 @@
 mod BitLemmas
 mod FlagLemmas
+pub mod Items

@@ -36,4 +36,6 @@ mod script;
 #[cfg(test)]
 mod slots;
 #[cfg(test)]
+mod superblock;
+#[cfg(test)]
 mod wire;

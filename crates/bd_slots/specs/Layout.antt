@@ -1,0 +1,30 @@
+-- Where the parts of an image stand, in blocks and in slots.
+use Rattle.std.specs.Prelude.{◌≡◌, ◌≢◌, ◌+◌, ◌*◌, ◌/◌, ◌<◌, ◌≤◌, ℕ, List, length, All, AllPairs}
+use Rattle.bd_limits.specs.Limits.{slot_minimum, slot_limit}
+
+-- the blocks of an image of this many slots: 132 of superblocks and logs, then 16 a slot
+abbrev pub image_blocks : ℕ → ℕ
+image_blocks slots = 132 + 16 * slots
+
+-- the first block of a slot
+abbrev pub slot_block : ℕ → ℕ
+slot_block slot = 132 + 16 * slot
+
+-- the slots that a table of this many entries takes: 32 bytes and 24 an entry
+abbrev pub table_length : ℕ → ℕ
+table_length count = (24 * count + 32 + 65535) / 65536
+
+-- an image has 24 to 65,536 slots
+abbrev pub IsSlotCount : ℕ → Type 0
+IsSlotCount slots = (slot_minimum ≤ slots) × (slots ≤ slot_limit)
+
+-- all of them are slots of an image of this many, and they differ
+pub record AreSlots (slots : ℕ) (at : List ℕ) : Type 0 where
+  pub below : All (λ slot. slot < slots) at
+  pub different : AllPairs (λ slot other. slot ≢ other) at
+
+-- a table's slots: 1 to 25, which are slots of an image of this many
+pub record IsTablePlace (slots : ℕ) (at : List ℕ) : Type 0 where
+  pub least : 1 ≤ length at
+  pub most : length at ≤ table_length slot_limit
+  pub differ : AreSlots slots at

@@ -1,0 +1,62 @@
+// Where the parts of an image stand.
+ghost use Rattle.std.specs.Prelude.{◌≡◌, ◌↔◌, ◌≤◌, ◌+◌, IsTrue};
+ghost use Rattle.bd_limits.specs.Limits.{slot_limit};
+ghost use Rattle.bd_slots.specs.Layout.{image_blocks, slot_block, table_length, AreSlots, IsTablePlace};
+
+use bd_limits::MAX_SLOTS;
+
+/// The blocks of an image before its first slot: superblocks and logs.
+pub const FIRST_SLOT_BLOCK: u64 = 132;
+
+/// The blocks of a slot.
+pub const SLOT_BLOCKS: u64 = 16;
+
+/// The most slots of a table: those of one with an entry for each slot.
+pub const MAX_TABLE_SLOTS: usize = 25;
+
+// The bytes of a table before its entries.
+const TABLE_HEADER: usize = 32;
+
+// The bytes of a table's entry.
+const TABLE_ENTRY: usize = 24;
+
+/// The blocks of an image of this many slots.
+pub fn image_blocks(slots: u32) -> u64
+    ensures { result ≡ image_blocks slots }
+{
+    FIRST_SLOT_BLOCK + SLOT_BLOCKS * u64::from(slots)
+}
+
+/// The first block of a slot.
+pub fn slot_block(slot: u32) -> u64
+    ensures { result ≡ slot_block slot }
+{
+    FIRST_SLOT_BLOCK + SLOT_BLOCKS * u64::from(slot)
+}
+
+/// The slots that a table of this many entries takes.
+pub fn table_length(entries: usize) -> usize
+    requires { entries ≤ slot_limit }
+    ensures { result ≡ table_length entries }
+{
+    (TABLE_HEADER + TABLE_ENTRY * entries).div_ceil(bd_limits::SLOT_SIZE)
+}
+
+/// Whether all of them are slots of an image of this many, and differ.
+pub fn are_slots(slots: u32, at: &[u32]) -> bool
+    ensures { IsTrue result ↔ AreSlots slots at.now }
+{
+    for (index, slot) in at.iter().enumerate() {
+        if *slot >= slots || at[..index].contains(slot) {
+            return false;
+        }
+    }
+    true
+}
+
+/// Whether a table can have these slots in an image of this many: 1 to 25, which differ.
+pub fn is_table_place(slots: u32, at: &[u32]) -> bool
+    ensures { IsTrue result ↔ IsTablePlace slots at.now }
+{
+    !at.is_empty() && at.len() <= MAX_TABLE_SLOTS && are_slots(slots, at)
+}

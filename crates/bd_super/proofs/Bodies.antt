@@ -1,0 +1,131 @@
+-- Bodies of superblocks: how long they are, and that one body is of one superblock.
+use Rattle.std.proofs.Common.{◌≡◌, ◌≢◌, ℕ, ◌-◌, ◌*◌, ◌^◌, ◌<◌, List, [], ◌++◌, length, All, refl, sym, ap, subst, ◌∙◌, arith, append_assoc, append-nil, length-append}
+use Rattle.std.specs.Int.{w32}
+use Rattle.std.specs.List.{flat_map}
+use Rattle.std.proofs.lemmas.List.{length-replicate, drop_all}
+use Rattle.bd_slots.specs.Layout.{IsSlotCount, IsTablePlace}
+use Rattle.bd_slots.proofs.Items.{items_alone, length-items}
+use Rattle.bd_wire.specs.Numbers.{be, FitsWidth}
+use Rattle.bd_wire.specs.Text.{zeros, AreZeros}
+use Rattle.bd_wire.specs.Writing.{written, room, Puts}
+use Rattle.bd_wire.specs.declared.writer.Out.{Out}
+use Rattle.bd_wire.proofs.NumberLemmas.{length-be, IsPrefixFree-be}
+use Rattle.bd_wire.proofs.WritingLemmas.{array_is}
+use Rattle.bd_super.specs.Superblocks.{IsSuper, magic, head_bytes, body_bytes}
+use Rattle.bd_super.specs.declared.superblock.Half.{Half}
+use Rattle.bd_super.specs.declared.superblock.Super.{Super}
+use Rattle.bd_super.proofs.Heads.{fields_alone, length-fields}
+
+-- the table's slots in bytes
+abbrev table_bytes : List ℕ → List ℕ
+table_bytes table = flat_map (be w32) table
+
+length-table : (table : List ℕ) → length (table_bytes table) ≡ 4 * length table
+length-table table = length-items (be w32) 4 (length-be w32) table
+
+-- the head, and what follows it
+body_in_order : (s : Super)
+    → body_bytes s ≡ head_bytes s.slots s.epoch s.count (length s.table) ++ (table_bytes s.table ++ zeros (4060 - 4 * length s.table))
+body_in_order s = append_assoc (head_bytes s.slots s.epoch s.count (length s.table)) (table_bytes s.table) (zeros (4060 - 4 * length s.table))
+
+-- each number fits
+table_fits : (s : Super) → IsSuper s → All (FitsWidth w32) s.table
+table_fits s is k d lt = omega (arith, is.table.differ.below k d lt, is.slots.1)
+
+-- a body is a block long
+pub length-body : (s : Super) → IsSuper s → length (body_bytes s) ≡ 4096
+length-body s is =
+    let head = head_bytes s.slots s.epoch s.count (length s.table) in
+    let rest = zeros (4060 - 4 * length s.table) in
+    omega (
+      arith,
+      ap length (body_in_order s),
+      length-append head (table_bytes s.table ++ rest),
+      length-append (table_bytes s.table) rest,
+      length-table s.table,
+      length-fields magic 1 s.slots s.epoch s.count (length s.table),
+      length-replicate {A = ℕ} (4060 - 4 * length s.table) 0,
+      is.table.most,
+    )
+
+-- what a head is followed by in a body is the table's slots and zeros
+pub head_alone : (slots epoch count table : ℕ) (left : List ℕ) (s : Super) → slots < 2 ^ 32 → epoch < 2 ^ 64 → count < 2 ^ 64 → table < 2 ^ 32 → IsSuper s
+    → head_bytes slots epoch count table ++ left ≡ body_bytes s
+    → (slots ≡ s.slots) × (epoch ≡ s.epoch) × (count ≡ s.count) × (table ≡ length s.table) × (left ≡ table_bytes s.table ++ zeros (4060 - 4 * length s.table))
+head_alone slots epoch count table left s hs he hc ht is e =
+    let rest = table_bytes s.table ++ zeros (4060 - 4 * length s.table) in
+    let same = fields_alone magic magic 1 slots epoch count table 1 s.slots s.epoch s.count (length s.table) left rest refl
+    (omega arith) hs he hc ht (omega arith) (omega (arith, is.slots.1)) is.last_epoch is.count (omega (arith, is.table.most)) (e ∙ body_in_order s) in
+    (same.2, same.3, same.4, same.5, same.6)
+
+-- too few bytes for the table's slots are left after no body's head
+pub no_table : (table : ℕ) (left : List ℕ) (s : Super) → table ≡ length s.table → left ≡ table_bytes s.table ++ zeros (4060 - 4 * length s.table)
+    → length left < 4 * table → ⊥
+no_table table left s count e short =
+    omega (arith, count, short, ap length e, length-append (table_bytes s.table) (zeros (4060 - 4 * length s.table)), length-table s.table)
+
+-- as many slots as the body's table has are those, and only zeros follow them
+pub table_alone : (table : List ℕ) (left : List ℕ) (s : Super) → All (FitsWidth w32) table → IsSuper s → length table ≡ length s.table
+    → table_bytes table ++ left ≡ table_bytes s.table ++ zeros (4060 - 4 * length s.table) → (table ≡ s.table) × AreZeros left
+table_alone table left s fits is count e =
+    let same = items_alone (FitsWidth w32) (be w32) (IsPrefixFree-be w32) table s.table left (zeros (4060 - 4 * length s.table)) count fits (table_fits s is) e in
+    (same.0, same.1 ∙ ap zeros (sym (ap length same.1 ∙ length-replicate {A = ℕ} (4060 - 4 * length s.table) 0)))
+
+-- a block with a head, as many slots as it says and zeros is a body
+pub body_whole : (s : Super) (block left after : List ℕ) → length block ≡ 4096
+    → block ≡ head_bytes s.slots s.epoch s.count (length s.table) ++ left → left ≡ table_bytes s.table ++ after → AreZeros after → block ≡ body_bytes s
+body_whole s block left after whole front table rest =
+    let head = head_bytes s.slots s.epoch s.count (length s.table) in
+    let count : length after ≡ 4060 - 4 * length s.table =
+    omega (
+      arith,
+      whole,
+      ap length front,
+      ap length table,
+      length-append head left,
+      length-append (table_bytes s.table) after,
+      length-table s.table,
+      length-fields magic 1 s.slots s.epoch s.count (length s.table),
+    ) in
+    front ∙ ap (λ l. head ++ l) (table ∙ ap (λ z. table_bytes s.table ++ z) (rest ∙ ap zeros count)) ∙ sym (body_in_order s)
+
+-- what a superblock may hold doesn't say in which half it stands
+pub same_fields : (a b : Super) → a.slots ≡ b.slots → a.epoch ≡ b.epoch → a.count ≡ b.count → a.table ≡ b.table → IsSuper b → IsSuper a
+same_fields a b slots epoch count table is = record {
+  slots = subst IsSlotCount (sym slots) is.slots;
+  epoch = omega (arith, epoch, is.epoch);
+  last_epoch = omega (arith, epoch, is.last_epoch);
+  count = omega (arith, count, is.count);
+  table = subst (λ n. IsTablePlace n a.table) (sym slots) (subst (λ t. IsTablePlace b.slots t) (sym table) is.table);
+}
+
+-- a superblock of these fields
+made : Half → ℕ → ℕ → ℕ → List ℕ → Super
+made half slots epoch count table = record { half = half; slots = slots; epoch = epoch; count = count; table = table }
+
+is_made : (s : Super) → s ≡ made s.half s.slots s.epoch s.count s.table
+unfolding made
+is_made s = refl
+
+-- one body is of one superblock of a half
+pub one_super : (a b : Super) → IsSuper a → IsSuper b → a.half ≡ b.half → body_bytes a ≡ body_bytes b → a ≡ b
+one_super a b is_a is_b half e =
+    let head = head_alone a.slots a.epoch a.count (length a.table) (table_bytes a.table ++ zeros (4060 - 4 * length a.table)) b
+    (omega (arith, is_a.slots.1)) is_a.last_epoch is_a.count (omega (arith, is_a.table.most)) is_b (sym (body_in_order a) ∙ e) in
+    let table = table_alone a.table (zeros (4060 - 4 * length a.table)) b (table_fits a is_a) is_b head.3 head.4 in
+    let s0 : a.slots ≡ b.slots = head.0 in
+    let s1 : a.epoch ≡ b.epoch = head.1 in
+    let s2 : a.count ≡ b.count = head.2 in
+    let s3 : a.table ≡ b.table = table.0 in
+    let same : made a.half a.slots a.epoch a.count a.table ≡ made b.half b.slots b.epoch b.count b.table = cc in
+    is_made a ∙ same ∙ sym (is_made b)
+
+-- a body fills the block into which it is put
+pub filled : (old new : Out) (s : Super) → Puts old new (body_bytes s) → IsSuper s → written old ≡ [] → length (room old) ≡ 4096 → new.bytes.now ≡ body_bytes s
+filled old new s puts is none space =
+    let after : room new ≡ [] = puts.room ∙ drop_all (length (body_bytes s)) (room old) (omega (arith, space, length-body s is)) in
+    array_is new ∙ ap (λ l. written new ++ l) after ∙ append-nil (written new) ∙ puts.written ∙ ap (λ w. w ++ body_bytes s) none
+
+-- without a head there is no body
+pub no_head : (block : List ℕ) (s : Super) → ((slots epoch count table : ℕ) (rest : List ℕ) → block ≢ head_bytes slots epoch count table ++ rest) → block ≢ body_bytes s
+no_head block s none e = none s.slots s.epoch s.count (length s.table) (table_bytes s.table ++ zeros (4060 - 4 * length s.table)) (e ∙ body_in_order s)

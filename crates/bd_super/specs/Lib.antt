@@ -1,0 +1,4 @@
+pub mod Cause
+pub mod Live
+pub mod Published
+pub mod Superblocks

@@ -1,0 +1,63 @@
+-- Superblocks: what they may hold, and the body that encodes them.
+use Rattle.std.specs.Prelude.{◌≡◌, ◌≢◌, ◌-◌, ◌*◌, ◌^◌, ◌<◌, ◌≤◌, ℕ, List, [], ◌∷◌, ◌++◌, length, Option, Some, None}
+use Rattle.std.specs.Int.{w32, w64}
+use Rattle.std.specs.List.{flat_map}
+use Rattle.bd_slots.specs.Layout.{IsSlotCount, IsTablePlace}
+use Rattle.bd_wire.specs.Numbers.{be}
+use Rattle.bd_wire.specs.Text.{zeros}
+use Rattle.bd_super.specs.declared.superblock.Half.{Half}
+use Rattle.bd_super.specs.declared.superblock.Half.TheVariants.{A, B}
+use Rattle.bd_super.specs.declared.superblock.Super.{Super}
+
+-- the block that says whether a half's superblock is committed
+abbrev pub commit_block : Half → ℕ
+commit_block A = 0
+commit_block B = 2
+
+-- the block of a half's superblock
+abbrev pub body_block : Half → ℕ
+body_block A = 1
+body_block B = 3
+
+-- the first block of a half's log
+abbrev pub log_block : Half → ℕ
+log_block A = 4
+log_block B = 68
+
+-- the other half
+abbrev pub other : Half → Half
+other A = B
+other B = A
+
+-- an image has 24 to 65,536 slots, of which its table has some; the first epoch is 1
+pub record IsSuper (s : Super) : Type 0 where
+  pub slots : IsSlotCount s.slots
+  pub epoch : 1 ≤ s.epoch
+  pub last_epoch : s.epoch < 2 ^ 64
+  pub count : s.count < 2 ^ 64
+  pub table : IsTablePlace s.slots s.table
+
+-- `BDSUPER1`
+abbrev pub magic : List ℕ
+magic = 66 ∷ 68 ∷ 83 ∷ 85 ∷ 80 ∷ 69 ∷ 82 ∷ 49 ∷ []
+
+-- the magic, the version 1, the image's slots, the epoch, the count and how many slots the table has
+abbrev pub head_bytes : ℕ → ℕ → ℕ → ℕ → List ℕ
+head_bytes slots epoch count table =
+    magic ++ be w32 1 ++ be w32 slots ++ be w64 epoch ++ be w64 count ++ be w32 table
+
+-- such fields are as wide as their numbers
+abbrev pub FitsHead : ℕ → ℕ → ℕ → ℕ → Type 0
+FitsHead slots epoch count table =
+    (slots < 2 ^ 32) × (epoch < 2 ^ 64) × (count < 2 ^ 64) × (table < 2 ^ 32)
+
+-- the head, the table's slots, and zeros to the end of the block
+abbrev pub body_bytes : Super → List ℕ
+body_bytes s =
+    head_bytes s.slots s.epoch s.count (length s.table) ++ flat_map (be w32) s.table
+    ++ zeros (4060 - 4 * length s.table)
+
+-- the block is the body of the half's superblock, or of none
+abbrev pub IsReadAs : Half → List ℕ → Option Super → Type 0
+IsReadAs half bytes (Some s) = (s.half ≡ half) × IsSuper s × (bytes ≡ body_bytes s)
+IsReadAs half bytes None = (s : Super) → IsSuper s → bytes ≢ body_bytes s

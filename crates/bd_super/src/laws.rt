@@ -1,0 +1,24 @@
+//! What follows from the definitions.
+
+ghost use Rattle.std.specs.Prelude.{◌≡◌, ℕ};
+ghost use Rattle.bd_device.specs.Blocks.{Image};
+ghost use Rattle.bd_super.specs.Superblocks.{IsSuper, body_bytes};
+ghost use Rattle.bd_super.specs.Live.{IsLive, IsDamaged};
+ghost use Rattle.bd_super.specs.declared.superblock.Super.{Super};
+
+/// No two superblocks of a half have one body, so what was written is read again.
+pub fn superblocks_are_read_again()
+    ensures { (a b : Super) → IsSuper a → IsSuper b → a.half ≡ b.half
+        → body_bytes a ≡ body_bytes b → a ≡ b }
+{}
+
+/// An image starts from one superblock.
+pub fn one_superblock_is_live()
+    ensures { (image : Image) (a b : Super) → IsLive image a → IsLive image b → a ≡ b }
+{}
+
+/// An image with a live superblock isn't damaged, and one that is damaged is so at one block.
+pub fn damage_is_exact()
+    ensures live { (image : Image) (s : Super) (b : ℕ) → IsLive image s → ¬ IsDamaged image b }
+    ensures one { (image : Image) (a b : ℕ) → IsDamaged image a → IsDamaged image b → a ≡ b }
+{}

@@ -1,0 +1,86 @@
+//! Superblocks.
+
+ghost use Rattle.std.specs.Prelude.{◌≡◌, ◌↔◌, IsTrue};
+ghost use Rattle.bd_super.specs.Superblocks.{IsSuper, commit_block, body_block, log_block, other};
+
+use bd_limits::{MAX_SLOTS, MIN_SLOTS};
+use bd_slots::{TableSlots, is_table_place};
+
+/// One of the two places of a superblock, each with a log of its own.
+#[derive(Clone, Copy, Debug, PartialEq, Eq)]
+pub enum Half {
+    /// The first one.
+    A,
+    /// The second one.
+    B,
+}
+
+impl Half {
+    /// The block that says whether this half's superblock is committed.
+    pub fn commit_block(self) -> u64
+        ensures { result ≡ commit_block self }
+    {
+        match self {
+            Half::A => 0,
+            Half::B => 2,
+        }
+    }
+
+    /// The block of this half's superblock.
+    pub fn body_block(self) -> u64
+        ensures { result ≡ body_block self }
+    {
+        match self {
+            Half::A => 1,
+            Half::B => 3,
+        }
+    }
+
+    /// The first block of this half's log.
+    pub fn log_block(self) -> u64
+        ensures { result ≡ log_block self }
+    {
+        match self {
+            Half::A => 4,
+            Half::B => 68,
+        }
+    }
+
+    /// The other half.
+    pub fn other(self) -> Half
+        ensures { result ≡ other self }
+    {
+        match self {
+            Half::A => Half::B,
+            Half::B => Half::A,
+        }
+    }
+}
+
+/// What an image starts from: a checkpoint.
+#[derive(Clone, Debug, PartialEq, Eq, Drop)]
+pub struct Super {
+    /// Where it stands.
+    pub half: Half,
+    /// How many slots the image has, 24 to 65,536.
+    pub slots: u32,
+    /// The number of the checkpoint, 1 or more.
+    pub epoch: u64,
+    /// The accepted commands up to it.
+    pub count: u64,
+    /// The slots of the table of its nodes, 1 to 25.
+    pub table: TableSlots,
+}
+
+impl Super {
+    /// Whether its fields are in their ranges, and the table's slots differ.
+    pub fn is_super(&self) -> bool
+        ensures { IsTrue result ↔ IsSuper self.now }
+    {
+        let (slots, epoch, _count) = (self.slots, self.epoch, self.count);
+        slots >= MIN_SLOTS
+            && slots <= MAX_SLOTS
+            && epoch >= 1
+            && is_table_place(slots, self.table.as_slice())
+    }
+}

@@ -1,0 +1,14 @@
+//! Tables: which nodes a checkpoint has, how often each is named, and in which slot it stands.
+//! The layers above may use the contracts of `read` and `write`, which speak of the one encoding of
+//! a table in its slots.
+#![tactic(auto)]
+
+mod check;
+mod codec;
+mod fault;
+mod reading;
+mod table;
+
+pub use fault::TableFault;
+pub use reading::read;
+pub use table::{Table, TableEntries, TableEntry};
