@@ -2,4 +2,10 @@
 //! The layers above may use the contracts of `Log`, and of its batches as a relation with an image.
 #![tactic(auto)]
 
+mod batch;
+mod body;
 mod commit;
+mod log;
+
+pub use batch::{Batch, Batches, Records};
+pub use log::Log;
