@@ -1,3 +1,4 @@
 mod Images
 mod Buffers
 mod Chains
+mod Headers

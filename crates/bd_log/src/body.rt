@@ -16,8 +16,8 @@ pub const MAX_BLOCKS: u64 = 62;
 /// The bytes of the longest body.
 pub const MAX_BODY: usize = 62 * BLOCK_SIZE;
 
-// `BDLB`.
-const MAGIC: u32 = 0x4244_4c42;
+/// `BDLB` as a number.
+pub const MAGIC: u32 = 0x4244_4c42;
 
 /// The blocks of a body with so many bytes of records.
 pub fn blocks_for(size: usize) -> u64

@@ -5,7 +5,11 @@
 mod batch;
 mod body;
 mod commit;
+mod decode;
+mod fault;
 mod log;
+mod read;
 
 pub use batch::{Batch, Batches, Records};
+pub use fault::LogFault;
 pub use log::Log;
