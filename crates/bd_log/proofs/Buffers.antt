@@ -44,14 +44,14 @@ records_size (r ∷ rs) h =
     omega (arith, records_size rs h.1, ap length h.0.2, length-text16 h.0.0, length-append r (concat rs))
 
 -- one record more
-each_more : (rs : List (List ℕ)) (r : List ℕ) → AllByRecursion IsRecord rs → IsRecord r → AllByRecursion IsRecord (rs ++ r ∷ [])
+pub each_more : (rs : List (List ℕ)) (r : List ℕ) → AllByRecursion IsRecord rs → IsRecord r → AllByRecursion IsRecord (rs ++ r ∷ [])
 each_more [] r h is = (is, tt)
 each_more (s ∷ rs) r h is = (h.0, each_more rs r h.1 is)
 
-length-more : {A : Type 0} (xs : List A) (x : A) → length (xs ++ x ∷ []) ≡ length xs + 1
+pub length-more : {A : Type 0} (xs : List A) (x : A) → length (xs ++ x ∷ []) ≡ length xs + 1
 length-more xs x = length-append xs (x ∷ [])
 
-concat-more : (rs : List (List ℕ)) (r : List ℕ) → concat (rs ++ r ∷ []) ≡ concat rs ++ r
+pub concat-more : (rs : List (List ℕ)) (r : List ℕ) → concat (rs ++ r ∷ []) ≡ concat rs ++ r
 concat-more rs r = concat-append rs (r ∷ []) ∙ ap (λ l. concat rs ++ l) (append-nil r)
 
 -- the bytes that were there, and those put after them

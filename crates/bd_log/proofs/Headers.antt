@@ -2,6 +2,7 @@
 use Rattle.std.proofs.Common.{◌≡◌, ℕ, ◌+◌, ◌-◌, ◌*◌, ◌^◌, ◌<◌, ◌≤◌, List, [], ◌∷◌, ◌++◌, length, take, drop, refl, sym, ap, subst, ◌∙◌, arith, append_assoc, append-nil, length-append, Option, None, Some}
 use Rattle.std.proofs.lemmas.List.{take_at, drop_at, take-append-drop, length-take-le, length-drop, length-replicate, drop-drop}
 use Rattle.std.specs.List.{concat, AllByRecursion}
+use Rattle.std.specs.Prelude.{IfSome}
 use Rattle.std.specs.Int.{w32, w64}
 use Rattle.bd_wire.specs.Numbers.{be, FitsWidth}
 use Rattle.bd_wire.specs.Text.{zeros, AreZeros, text16, FitsText16}
@@ -12,7 +13,7 @@ use Rattle.bd_wire.proofs.TextLemmas.{IsPrefixFree-text16}
 use Rattle.bd_log.specs.Batches.{IsRecord, magic, blocks_for, body_blocks, header_bytes, body_bytes}
 use Rattle.bd_log.specs.Reading.{head_bytes, FitsHeader, AreRecordsOf, IsBodyOf}
 use Rattle.bd_log.specs.declared.decode.Header.{Header}
-use Rattle.bd_log.proofs.Buffers.{header_length, records_size}
+use Rattle.bd_log.proofs.Buffers.{header_length, records_size, each_more, length-more, concat-more}
 
 -- headers are prefix-free
 head_alone : IsPrefixFree (FitsBoth (FitsBoth (FitsBoth (FitsBoth (FitsWidth w32) (FitsWidth w32)) (FitsWidth w64)) (FitsWidth w32)) (FitsWidth w32))
@@ -129,6 +130,11 @@ body_from h epoch blocks bytes rest (Some rs) k there =
     ∙ ap (λ l. l ++ (concat rs ++ zeros (body_blocks rs * 4096 - (24 + length (concat rs))))) header_is
     ∙ sym (append_assoc (header_bytes (body_blocks rs) epoch (length rs) (length (concat rs))) (concat rs) (zeros (body_blocks rs * 4096 - (24 + length (concat rs))))))
 
+-- a body found in so many blocks fills them
+pub body_size : (epoch blocks : ℕ) (bytes : List ℕ) (found : Option (List (List ℕ))) → length bytes ≡ blocks * 4096 → IsBodyOf bytes epoch found → IfSome found (λ rs. body_blocks rs ≡ blocks)
+body_size epoch blocks bytes None long h = tt
+body_size epoch blocks bytes (Some rs) long h = omega (arith, ap length h.2, body_length epoch rs, long)
+
 -- ---- records one after the other
 
 -- records at the front of others are their first ones
@@ -163,3 +169,10 @@ pub too_long : (count : ℕ) (bytes left : List ℕ) (rs : List (List ℕ)) → 
 too_long count bytes left rs read each is some qs many k e =
     let front = records_front rs qs left each k (omega arith) (sym read ∙ sym e) in
     ends front.0 (omega (arith, front.2)) front.3 some
+
+-- one record more was read
+pub records_more : (bytes left after r : List ℕ) (rs new : List (List ℕ)) → bytes ≡ concat rs ++ left → AllByRecursion IsRecord rs → IsRecord r → left ≡ r ++ after → new ≡ rs ++ r ∷ []
+    → (bytes ≡ concat new ++ after) × (length new ≡ length rs + 1) × AllByRecursion IsRecord new
+records_more bytes left after r rs new read each is front more =
+    (read ∙ ap (λ l. concat rs ++ l) front ∙ sym (append_assoc (concat rs) r after) ∙ ap (λ l. l ++ after) (sym (ap concat more ∙ concat-more rs r)),
+    ap length more ∙ length-more rs r, subst (AllByRecursion IsRecord) (sym more) (each_more rs r each is))

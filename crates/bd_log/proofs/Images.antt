@@ -1,11 +1,11 @@
 -- Images that agree outside a range of blocks, and how a crash changes them.
-use Rattle.std.proofs.Common.{◌≡◌, ℕ, ◌+◌, ◌-◌, ◌*◌, ◌<◌, ◌≤◌, List, [], ◌∷◌, ◌++◌, length, take, drop, get_or, set, refl, sym, ap, subst, ◌∙◌, arith, Option, None, Some, ◌⊎◌, inl, inr, append-nil, zero, suc}
-use Rattle.std.proofs.lemmas.List.{take-set-le, drop-set-lt, drop-take, take-set, take_more_set, drop-set-add, get_or-take, get_or-set_same, get_or-set_other, get_or_past, length-drop, length-set, drop-drop}
+use Rattle.std.proofs.Common.{◌≡◌, ℕ, ◌+◌, ◌-◌, ◌*◌, ◌<◌, ◌≤◌, List, [], ◌∷◌, ◌++◌, length, take, drop, get_or, set, refl, sym, ap, subst, ◌∙◌, arith, Option, None, Some, ◌⊎◌, inl, inr, append-nil, length-append, zero, suc}
+use Rattle.std.proofs.lemmas.List.{take-set-le, drop-set-lt, drop-take, take-set, take_more_set, drop-set-add, get_or-take, get_or-set_same, get_or-set_other, get_or_past, length-drop, length-take-le, take_at, length-set, drop-drop}
 use Rattle.std.proofs.lemmas.Bool.{cases_lt, cases_eq}
 use Rattle.std.proofs.Math.Seq.{take-add, take-length}
 use Rattle.std.proofs.lemmas.List.Folds.{concat-append}
 use Rattle.std.specs.List.{concat}
-use Rattle.std.specs.Prelude.{slice_set, slice_index_or}
+use Rattle.std.specs.Prelude.{slice_get, slice_set, slice_index_or}
 use Rattle.std.specs.Option.{option_map}
 use Rattle.std.specs.Prelude.{IfSome, slice_index}
 use Rattle.bd_device.specs.Blocks.{Image, HasBlocks, with_block, ChangesOnly}
@@ -273,3 +273,38 @@ commit_whole {a} {b} {c} {first} {mid} {last} commit blocks bytes block known kn
     let from = settled_from commit known time earlier' only image left in
     whole_open commit blocks bytes block (first a) from.0 image (changed_now (commit + 1) (commit + blocks + 2) body earlier from.0 from.1) (facts from.0 from.2) one
     (committed_from commit block known known' from.0 image done from.2 (only' image left))
+
+-- ---- reading
+
+-- the items from one on
+get_drop : (image : Image) (b : ℕ) (block : List ℕ) → slice_get image b ≡ Some block → drop b image ≡ block ∷ drop (suc b) image
+get_drop [] b block e = cc
+get_drop (x ∷ xs) zero block e = let same : x ≡ block = cc in ap (λ (y : List ℕ). y ∷ xs) same
+get_drop (x ∷ xs) (suc b) block e = get_drop xs b block e
+
+-- a block in front of others
+pub bytes_first : (image : Image) (b count : ℕ) (block : List ℕ) → slice_get image b ≡ Some block → bytes_at image b (suc count) ≡ block ++ bytes_at image (suc b) count
+bytes_first image b count block e = ap (λ l. concat (take (suc count) l)) (get_drop image b block e)
+
+-- and behind them
+bytes_last : (image : Image) (b i : ℕ) (block : List ℕ) → slice_get image (b + i) ≡ Some block → bytes_at image b (i + 1) ≡ bytes_at image b i ++ block
+bytes_last image b i block e =
+    let one : drop i (drop b image) ≡ block ∷ drop (suc (b + i)) image = drop-drop i b image ∙ get_drop image (b + i) block e in
+    ap concat (take-add i 1 (drop b image)) ∙ concat-append (take i (drop b image)) (take 1 (drop i (drop b image)))
+    ∙ ap (λ l. bytes_at image b i ++ concat (take 1 l)) one ∙ ap (λ l. bytes_at image b i ++ l) (append-nil block)
+
+put_block : (i : ℕ) (into block new : List ℕ) → length block ≡ 4096 → i * 4096 + 4096 ≤ length into → new ≡ take (i * 4096) into ++ block ++ drop (i * 4096 + length block) into
+    → take ((i + 1) * 4096) new ≡ take (i * 4096) into ++ block
+put_block i into block new size room put =
+    ap (take ((i + 1) * 4096)) put
+    ∙ take_at (take (i * 4096) into ++ block) (drop (i * 4096 + length block) into) ((i + 1) * 4096)
+      (omega (arith, length-append (take (i * 4096) into) block, length-take-le (i * 4096) into (omega arith), size))
+
+pub read_more : (b i : ℕ) (known now : Option Image) (into block new : List ℕ) → now ≡ known
+    → IfSome known (λ image. take (i * 4096) into ≡ bytes_at image b i) → IfSome now (λ image. slice_get image (b + i) ≡ Some block)
+    → length block ≡ 4096 → i * 4096 + 4096 ≤ length into → new ≡ take (i * 4096) into ++ block ++ drop (i * 4096 + length block) into
+    → IfSome known (λ image. take ((i + 1) * 4096) new ≡ bytes_at image b (i + 1))
+read_more b i None now into block new same so_far there size room put = tt
+read_more b i (Some image) now into block new same so_far there size room put =
+    let found : slice_get image (b + i) ≡ Some block = subst (λ (k : Option Image). IfSome k (λ image. slice_get image (b + i) ≡ Some block)) same there in
+    put_block i into block new size room put ∙ ap (λ l. l ++ block) so_far ∙ sym (bytes_last image b i block found)

@@ -2,3 +2,4 @@ mod Images
 mod Buffers
 mod Chains
 mod Headers
+mod Bodies

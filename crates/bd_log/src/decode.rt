@@ -4,7 +4,7 @@ ghost use Rattle.std.specs.Prelude.{◌≡◌, ◌≤◌, ◌<◌, ◌+◌, ◌*
 ghost use Rattle.bd_wire.specs.Encoding.{BeginsNone};
 ghost use Rattle.bd_wire.specs.Reading.{Reads};
 ghost use Rattle.bd_wire.specs.Text.{text16, FitsText16};
-ghost use Rattle.bd_log.specs.Batches.{IsRecord, blocks_for, header_bytes, magic};
+ghost use Rattle.bd_log.specs.Batches.{IsRecord, blocks_for, body_blocks, header_bytes, magic};
 ghost use Rattle.bd_log.specs.Reading.{head_bytes, FitsHeader, AreRecordsOf, IsBodyOf};
 
 use crate::batch::Records;
@@ -95,7 +95,8 @@ pub fn decode(
 ) -> Result<Option<Records>, AllocError>
     requires blocks { blocks ≤ 62 }
     requires length { length bytes.now ≡ blocks * 4096 }
-    ensures { IfOk result (λ found. IsBodyOf bytes.now epoch found) }
+    ensures body { IfOk result (λ found. IsBodyOf bytes.now epoch found) }
+    ensures blocks { IfOk result (λ found. IfSome found (λ rs. body_blocks rs ≡ blocks)) }
 {
     let Some(header) = header_of(bytes) else {
         return Ok(None);

@@ -1,17 +1,20 @@
 //! The log.
 
-ghost use Rattle.std.specs.Prelude.{◌≡◌, ◌≤◌, ◌+◌, ◌++◌, ◌∷◌, [], ℕ, List, length, IfOk, OnOk, OnErr, IsTrue, is_ok};
+ghost use Rattle.std.specs.Prelude.{◌≡◌, ◌≤◌, ◌+◌, ◌++◌, ◌∷◌, [], ℕ, List, length, IfOk, IfSome, OnOk, OnErr, IsTrue, is_ok};
 ghost use Rattle.bd_io.specs.Cause.{HasCause};
 ghost use Rattle.bd_device.specs.Blocks.{Image};
 ghost use Rattle.bd_device.specs.Calls.{write_faults_after};
-ghost use Rattle.bd_device.specs.Moments.{Elapses};
-ghost use Rattle.bd_log.specs.Batches.{IsRecord};
+ghost use Rattle.bd_device.specs.Moments.{Elapses, Nothing};
+ghost use Rattle.bd_log.specs.Batches.{IsRecord, AreBatches, IsDamagedAt};
 ghost use Rattle.bd_log.specs.Commits.{KeepsOutside};
+ghost use Rattle.bd_log.specs.Faults.{HasLogCause};
 ghost use Rattle.bd_log.specs.Logs.{IsHalf, room_at, room_left, fresh_log, after_sync, IsSyncing, IsSynced};
 
 use crate::batch::Batches;
 use crate::body::{HEADER, MAX_BLOCKS, MAX_BODY, blocks_for, put, seal};
 use crate::commit::write_committed;
+use crate::fault::LogFault;
+use crate::read::read_batches;
 use bd_device::{BLOCK_SIZE, Device};
 use bd_io::Failed;
 use std::alloc::{AllocError, Global};
@@ -64,6 +67,48 @@ impl Log {
             size: 0,
             count: 0,
             batches: Batches::from_vec(Vec::new(alloc)),
+        })
+    }
+
+    /// Reads the batches of the half that begins at block `first`, 4 or 68, and goes on after them.
+    /// `DeviceFault` comes only where the device's count of faults rose in this call or stands at
+    /// its last value, `Damaged` exactly where after a batch a commit block is committed and no
+    /// batch of this epoch stands there, and names the first block of its body. It reads, and
+    /// writes nothing.
+    pub fn resume<D: Device>(
+        alloc: Global,
+        dev: &mut D,
+        first: u64,
+        epoch: u64,
+    ) -> Result<Log, LogFault>
+        requires room { 132 ≤ D.block_count dev.old }
+        requires half { IsHalf first }
+        ensures batches { IfOk result (λ log. IfSome (D.contents dev.old) (λ image.
+            AreBatches image first epoch log.batches log.place)) }
+        ensures idle { IfOk result (λ log. log ≡ record (fresh_log first epoch) {
+          place = log.place;
+          batches = log.batches;
+        }) }
+        ensures cause { HasLogCause (D.fault_count dev.old) (D.fault_count dev.new) (λ block.
+            IfSome (D.contents dev.old) (λ image. IsDamagedAt image first epoch block)) result }
+        ensures kept { D.contents dev.new ≡ D.contents dev.old }
+        ensures time { Elapses (D.call_count dev.old) (D.call_count dev.new)
+            (D.left_since dev.old) (D.left_since dev.new) Nothing }
+        ensures count { D.block_count dev.new ≡ D.block_count dev.old }
+        ensures write_faults { D.write_fault_count dev.new ≡ D.write_fault_count dev.old }
+        ensures same_name { (name : List ℕ) → D.is_named dev.old name → D.is_named dev.new name }
+        ensures same_loans { D.loans dev.new ≡ D.loans dev.old }
+    {
+        let mut body = vec![in alloc; 0; MAX_BODY]?;
+        let (batches, place) = read_batches(alloc, dev, first, epoch, &mut body)?;
+        Ok(Log {
+            first,
+            epoch,
+            place,
+            body,
+            size: 0,
+            count: 0,
+            batches: Batches::from_vec(batches),
         })
     }
 

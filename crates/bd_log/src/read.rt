@@ -7,7 +7,7 @@ ghost use Rattle.bd_log.specs.Batches.{body_blocks, AreBatches, IsDamagedAt};
 ghost use Rattle.bd_log.specs.Commits.{bytes_at};
 ghost use Rattle.bd_log.specs.Faults.{HasLogCause};
 ghost use Rattle.bd_log.specs.Logs.{IsHalf};
-ghost use Rattle.bd_log.specs.Reading.{IsBodyRead, IsNext, IsBroken};
+ghost use Rattle.bd_log.specs.Reading.{IsBodyOf, IsBodyRead, IsNext, IsBroken};
 
 use crate::batch::{Batch, Records};
 use crate::body::{MAX_BLOCKS, put};
@@ -46,6 +46,36 @@ fn read_blocks<D: Device>(
     Ok(())
 }
 
+// Reads a body of so many blocks, from block `b` on.
+fn read_records<D: Device>(
+    alloc: Global,
+    dev: &mut D,
+    b: u64,
+    blocks: u64,
+    epoch: u64,
+    buffer: &mut [u8],
+) -> Result<Option<Records>, LogFault>
+    requires room { b + blocks ≤ D.block_count dev.old }
+    requires fits { b + blocks < 2 ^ 64 }
+    requires few { blocks ≤ 62 }
+    requires buffer { length buffer.old ≡ 253952 }
+    ensures body { IfOk result (λ found. IfSome (D.contents dev.old) (λ image.
+        IsBodyOf (bytes_at image b blocks) epoch found)) }
+    ensures blocks { IfOk result (λ found. IfSome found (λ rs. body_blocks rs ≡ blocks)) }
+    ensures kept { D.contents dev.new ≡ D.contents dev.old }
+    ensures count { D.block_count dev.new ≡ D.block_count dev.old }
+    ensures cause { HasLogCause (D.fault_count dev.old) (D.fault_count dev.new) (λ _. ⊥) result }
+    ensures write_faults { D.write_fault_count dev.new ≡ D.write_fault_count dev.old }
+    ensures time { Elapses (D.call_count dev.old) (D.call_count dev.new)
+        (D.left_since dev.old) (D.left_since dev.new) Nothing }
+    ensures same_name { (name : List ℕ) → D.is_named dev.old name → D.is_named dev.new name }
+    ensures same_loans { D.loans dev.new ≡ D.loans dev.old }
+{
+    let count = blocks as usize;
+    read_blocks(dev, b, buffer, count)?;
+    Ok(decode(alloc, &buffer[..count * BLOCK_SIZE], epoch, blocks)?)
+}
+
 // Reads the body from block `b` on, of at most so many blocks, and says how many it has. It is
 // `None` exactly where no body of this epoch stands there.
 fn read_body<D: Device>(
@@ -74,14 +104,13 @@ fn read_body<D: Device>(
     ensures same_name { (name : List ℕ) → D.is_named dev.old name → D.is_named dev.new name }
     ensures same_loans { D.loans dev.new ≡ D.loans dev.old }
 {
-    read_blocks(dev, b, buffer, 1)?;
-    let blocks = named_blocks(&buffer[..BLOCK_SIZE]);
+    let mut block = [0; BLOCK_SIZE];
+    dev.read(b, &mut block)?;
+    let blocks = named_blocks(&block);
     if blocks == 0 || blocks > most {
         return Ok(None);
     }
-    let count = blocks as usize;
-    read_blocks(dev, b, buffer, count)?;
-    match decode(alloc, &buffer[..count * BLOCK_SIZE], epoch, blocks)? {
+    match read_records(alloc, dev, b, blocks, epoch, buffer)? {
         Some(records) => Ok(Some((records, blocks))),
         None => Ok(None),
     }
@@ -115,8 +144,9 @@ fn next_batch<D: Device>(
     ensures same_name { (name : List ℕ) → D.is_named dev.old name → D.is_named dev.new name }
     ensures same_loans { D.loans dev.new ≡ D.loans dev.old }
 {
-    read_blocks(dev, first + place, buffer, 1)?;
-    if buffer[0] != 1 {
+    let mut block = [0; BLOCK_SIZE];
+    dev.read(first + place, &mut block)?;
+    if block[0] != 1 {
         return Ok(None);
     }
     let body = first + place + 1;
