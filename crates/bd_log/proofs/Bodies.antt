@@ -1,12 +1,12 @@
 -- Bodies and batches in an image, by what is read of their first block.
-use Rattle.std.proofs.Common.{◌≡◌, ℕ, ◌+◌, ◌-◌, ◌*◌, ◌^◌, ◌<◌, ◌≤◌, List, [], ◌∷◌, ◌++◌, length, take, drop, get_or, refl, sym, ap, subst, ◌∙◌, arith, append_assoc, length-append, Option, None, Some, ◌⊎◌, inl, inr, zero, suc}
+use Rattle.std.proofs.Common.{◌≡◌, ℕ, ◌+◌, ◌-◌, ◌*◌, ◌^◌, ◌<◌, ◌≤◌, List, [], ◌∷◌, ◌++◌, length, take, drop, refl, sym, ap, subst, ◌∙◌, arith, append_assoc, Option, None, Some, ◌⊎◌, inl, inr, zero, suc}
 use Rattle.std.proofs.lemmas.List.{take_at, take-append-le, take-append-drop}
 use Rattle.std.specs.Prelude.{IfSome, slice_get, slice_index, slice_index_or}
-use Rattle.std.specs.List.{concat, AllByRecursion}
+use Rattle.std.specs.List.{concat}
 use Rattle.bd_device.specs.Blocks.{Image}
 use Rattle.bd_wire.specs.Text.{zeros}
-use Rattle.bd_log.specs.Batches.{IsRecord, IsBatchAt, LeadsTo, AreBatches, IsDamagedAt, body_blocks, header_bytes, body_bytes}
-use Rattle.bd_log.specs.Commits.{IsCommitted, bytes_at}
+use Rattle.bd_log.specs.Batches.{IsBatchAt, LeadsTo, AreBatches, IsDamagedAt, body_blocks, header_bytes}
+use Rattle.bd_log.specs.Commits.{bytes_at}
 use Rattle.bd_log.specs.Reading.{IsBodyOf, IsBodyAt, IsBodyRead, IsNext, IsBroken}
 use Rattle.bd_log.specs.declared.batch.Batch.{Batch}
 use Rattle.bd_log.proofs.Images.{bytes_first}

@@ -1,12 +1,12 @@
 -- Records one after the other, and the buffer that they wait in.
-use Rattle.std.proofs.Common.{◌≡◌, ℕ, zero, suc, ◌+◌, ◌-◌, ◌*◌, ◌^◌, ◌<◌, ◌≤◌, List, [], ◌∷◌, ◌++◌, length, take, drop, replicate, refl, sym, ap, subst, ◌∙◌, arith, append_assoc, append-nil, length-append}
+use Rattle.std.proofs.Common.{◌≡◌, ℕ, zero, suc, ◌+◌, ◌-◌, ◌*◌, ◌^◌, ◌<◌, ◌≤◌, List, [], ◌∷◌, ◌++◌, length, take, drop, refl, sym, ap, subst, ◌∙◌, arith, append_assoc, append-nil, length-append}
 use Rattle.std.proofs.lemmas.List.{take_at, drop_at, drop-take, drop-append-le, length-take, length-take-le, length-drop, length-replicate}
 use Rattle.std.proofs.lemmas.List.Folds.{concat-append}
 use Rattle.std.proofs.Math.Seq.{take-append-add}
 use Rattle.std.specs.List.{concat, AllByRecursion}
-use Rattle.std.specs.Int.{w16, w32, w64}
+use Rattle.std.specs.Int.{w16}
 use Rattle.bd_wire.specs.Numbers.{be, number_at}
-use Rattle.bd_wire.specs.Text.{text16, FitsText16, zeros}
+use Rattle.bd_wire.specs.Text.{text16, zeros}
 use Rattle.bd_wire.proofs.NumberLemmas.{number_at-be, length-be}
 use Rattle.bd_wire.proofs.TextLemmas.{length-text16}
 use Rattle.bd_log.specs.Batches.{IsRecord, records_in, header_bytes, blocks_for, body_blocks, body_bytes}
@@ -62,8 +62,8 @@ put_after size body r le =
     let rest = drop (24 + size + length r) body in
     let size_is : length front ≡ 24 + size = length-take-le (24 + size) body le in
     let opened : drop 24 (front ++ r ++ rest) ≡ (take size (drop 24 body) ++ r) ++ rest =
-      drop-append-le 24 (front ++ r) rest (omega (arith, size_is, length-append front r))
-      ∙ ap (λ l. l ++ rest) (drop-append-le 24 front r (omega (arith, size_is)) ∙ ap (λ l. l ++ r) (drop-take 24 size body)) in
+    drop-append-le 24 (front ++ r) rest (omega (arith, size_is, length-append front r))
+    ∙ ap (λ l. l ++ rest) (drop-append-le 24 front r (omega (arith, size_is)) ∙ ap (λ l. l ++ r) (drop-take 24 size body)) in
     let there : length (take size (drop 24 body)) ≡ size = length-take-le size (drop 24 body) (omega (arith, length-drop 24 body, le)) in
     ap (take (size + length r)) opened
     ∙ take_at (take size (drop 24 body) ++ r) rest (size + length r) (omega (arith, there, length-append (take size (drop 24 body)) r))
@@ -84,12 +84,12 @@ buffer_more place size count body r new h is room put same =
     let rs = records_in count (take size (drop 24 body)) in
     let all : List (List ℕ) = rs ++ r ∷ [] in
     let bytes : take (size + length r) (drop 24 new) ≡ take size (drop 24 body) ++ r =
-      ap (λ l. take (size + length r) (drop 24 l)) put ∙ put_after size body r (omega (arith, h.room, h.total)) in
+    ap (λ l. take (size + length r) (drop 24 l)) put ∙ put_after size body r (omega (arith, h.room, h.total)) in
     let whole : take (size + length r) (drop 24 new) ≡ concat all = bytes ∙ ap (λ l. l ++ r) (sym h.whole) ∙ sym (concat-more rs r) in
     let many : length all ≡ count + 1 = length-more rs r ∙ ap (λ n. n + 1) (length-records_in count (take size (drop 24 body))) in
     let each : AllByRecursion IsRecord all = each_more rs r h.each is in
     let found : records_in (count + 1) (take (size + length r) (drop 24 new)) ≡ all =
-      ap (records_in (count + 1)) (whole ∙ sym (append-nil (concat all))) ∙ ap (λ n. records_in n (concat all ++ [])) (sym many) ∙ records_in-concat all [] each in
+    ap (records_in (count + 1)) (whole ∙ sym (append-nil (concat all))) ∙ ap (λ n. records_in n (concat all ++ [])) (sym many) ∙ records_in-concat all [] each in
     record {
       buffer = record {
         total = same ∙ h.total;
@@ -123,7 +123,7 @@ pub sealed : (size end : ℕ) (header body part : List ℕ) → length header �
 sealed size end header body part h le le' is =
     let count = end - (24 + size) in
     let front : take (24 + size) (header ++ drop 24 body) ≡ header ++ take size (drop 24 body) =
-      ap (λ n. take (n + size) (header ++ drop 24 body)) (sym h) ∙ take-append-add header (drop 24 body) size in
+    ap (λ n. take (n + size) (header ++ drop 24 body)) (sym h) ∙ take-append-add header (drop 24 body) size in
     let there : length (take size (drop 24 body)) ≡ size = length-take-le size (drop 24 body) (omega (arith, length-drop 24 body, le, le')) in
     let zeroed : length part ≡ count = ap length is ∙ length-replicate {A = ℕ} count 0 in
     let start : List ℕ = (header ++ take size (drop 24 body)) ++ part in
@@ -140,7 +140,7 @@ kept_front size header body new rest h le is =
     let long : length new ≡ length body = omega (arith, ap length is, length-append header (drop 24 body), h, length-drop 24 body, le) in
     let front : length (take (24 + size) new) ≡ 24 + size = length-take-le (24 + size) new (omega (arith, long, le)) in
     let inner : drop 24 (take (24 + size) new) ≡ take size (drop 24 body) =
-      drop-take 24 size new ∙ ap (λ l. take size (drop 24 l)) is ∙ ap (take size) (drop_at header (drop 24 body) 24 h) in
+    drop-take 24 size new ∙ ap (λ l. take size (drop 24 l)) is ∙ ap (take size) (drop_at header (drop 24 body) 24 h) in
     let there : length (take size (drop 24 body)) ≡ size = length-take-le size (drop 24 body) (omega (arith, length-drop 24 body, le)) in
     ap (take size) (drop-append-le 24 (take (24 + size) new) rest (omega (arith, front)) ∙ ap (λ l. l ++ rest) inner)
     ∙ take_at (take size (drop 24 body)) rest size there

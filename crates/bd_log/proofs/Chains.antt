@@ -1,5 +1,5 @@
 -- Batches that follow each other, in images that agree up to a block.
-use Rattle.std.proofs.Common.{◌≡◌, ℕ, ◌+◌, ◌-◌, ◌*◌, ◌<◌, ◌≤◌, List, [], ◌∷◌, ◌++◌, length, take, drop, get_or, refl, sym, ap, subst, ◌∙◌, arith, append-nil, ◌⊎◌, inl, inr}
+use Rattle.std.proofs.Common.{◌≡◌, ℕ, ◌+◌, ◌-◌, ◌*◌, ◌<◌, ◌≤◌, List, [], ◌∷◌, ◌++◌, length, take, drop, refl, sym, ap, subst, ◌∙◌, arith, append-nil, inl, inr}
 use Rattle.std.proofs.lemmas.List.{drop-take, take-append-le}
 use Rattle.bd_wire.specs.Text.{zeros}
 use Rattle.std.specs.List.{concat, AllByRecursion}
@@ -7,7 +7,7 @@ use Rattle.std.specs.Prelude.{slice_index}
 use Rattle.bd_device.specs.Blocks.{Image}
 use Rattle.bd_log.specs.Batches.{IsRecord, IsBatchAt, LeadsTo, AreBatches, records_in, blocks_for, body_blocks, header_bytes, body_bytes}
 use Rattle.bd_log.specs.Commits.{SameOutside, IsCommitted, IsWhole, IsNoneOrWhole, WasWritten, bytes_at}
-use Rattle.bd_log.specs.Logs.{LogState, IsBuffer, HasAll, HasAllOrNone, IsSyncing, IsSynced, batches_of, place_after, after_sync}
+use Rattle.bd_log.specs.Logs.{LogState, IsBuffer, HasAll, IsSyncing, IsSynced, batches_of, place_after, after_sync}
 use Rattle.bd_log.specs.declared.batch.Batch.{Batch}
 use Rattle.bd_log.proofs.Buffers.{length-records_in, waiting_size, fits_half, body_is, sealed_length, take_take}
 use Rattle.bd_log.proofs.Images.{take_fewer, same_below, outside_wider}
@@ -31,16 +31,17 @@ pub leads_same : (c d : Image) (first epoch place : ℕ) (batches : List Batch) 
     → LeadsTo d first epoch place batches end → LeadsTo c first epoch place batches end
 leads_same c d first epoch place [] end e h = h
 leads_same c d first epoch place (b ∷ bs) end e h =
-    let up = leads_up d first epoch (place + 1 + body_blocks b.records) bs end h.2 in
-    (same_commit c d (first + end) (first + place) (omega arith) e h.0,
-    record {
-      body = h.1.body;
-      some = h.1.some;
-      each = h.1.each;
-      room = h.1.room;
-      bytes = same_bytes c d (first + end) b.body (body_blocks b.records) (omega (arith, h.1.body)) e ∙ h.1.bytes;
-    },
-    leads_same c d first epoch (place + 1 + body_blocks b.records) bs end e h.2)
+    let up = leads_up d first epoch (place + 1 + body_blocks b.records) bs end h.2 in (
+      same_commit c d (first + end) (first + place) (omega arith) e h.0,
+      record {
+        body = h.1.body;
+        some = h.1.some;
+        each = h.1.each;
+        room = h.1.room;
+        bytes = same_bytes c d (first + end) b.body (body_blocks b.records) (omega (arith, h.1.body)) e ∙ h.1.bytes;
+      },
+      leads_same c d first epoch (place + 1 + body_blocks b.records) bs end e h.2,
+    )
 
 -- one batch more
 pub leads_more : (image : Image) (first epoch place : ℕ) (batches : List Batch) (end : ℕ) (batch : Batch) → LeadsTo image first epoch place batches end
@@ -77,7 +78,7 @@ waiting_is first place size count epoch blocks len batches body old new value h 
     let room = fits_half place size count blocks body h some is in
     let inside : end ≤ len = omega (arith, room, long, ap length same, h.total) in
     let now : take end new ≡ body_bytes epoch rs =
-      sealed ∙ ap (λ b. header_bytes blocks epoch count size ++ take size (drop 24 b) ++ zeros (end - (24 + size))) same ∙ body_is place size count blocks epoch body h is in
+    sealed ∙ ap (λ b. header_bytes blocks epoch count size ++ take size (drop 24 b) ++ zeros (end - (24 + size))) same ∙ body_is place size count blocks epoch body h is in
     let enough : end ≤ length new = sealed_length size blocks epoch count old new sealed (omega (arith, is)) (omega (arith, ap length same, h.total, room)) in
     record {
       some = omega (arith, length-records_in count (take size (drop 24 body)), some);
@@ -114,11 +115,15 @@ half_outside log blocks bytes d c w same = outside_wider log.first (log.first + 
 
 pub syncing : (log : LogState) (blocks : ℕ) (bytes : List ℕ) (before : Image → Type 0) (c : Image) → IsWaiting log blocks bytes
     → IsNoneOrWhole (log.first + log.place) blocks bytes before c → IsSyncing log before c
-syncing log blocks bytes before c w h =
-    (h.0, h.1, half_outside log blocks bytes h.0 c w h.2, λ batches was. elim h.3 [
-      | inl none ↦ inl (record { follow = leads_same c h.0 log.first log.epoch 0 batches log.place h.2.below was.follow; closed = none was.closed })
-      | inr whole ↦ inr (all_there log blocks bytes h.0 c w h.2 whole batches was)
-    ])
+syncing log blocks bytes before c w h = (
+  h.0,
+  h.1,
+  half_outside log blocks bytes h.0 c w h.2,
+  λ batches was. elim h.3 [
+    | inl none ↦ inl (record { follow = leads_same c h.0 log.first log.epoch 0 batches log.place h.2.below was.follow; closed = none was.closed })
+    | inr whole ↦ inr (all_there log blocks bytes h.0 c w h.2 whole batches was)
+  ],
+)
 
 pub synced : (log : LogState) (blocks : ℕ) (bytes : List ℕ) (before : Image → Type 0) (c : Image) → IsWaiting log blocks bytes
     → WasWritten (log.first + log.place) blocks bytes before c → IsSynced log before c
@@ -126,10 +131,14 @@ synced log blocks bytes before c w h = (h.0, h.1, half_outside log blocks bytes 
 
 -- with nothing waiting all is there already
 pub synced_idle : (log : LogState) (before : Image → Type 0) (c : Image) → log.waiting ≡ [] → before c → IsSynced log before c
-synced_idle log before c none was =
-    (c, was, record { below = refl; above = refl }, λ batches there.
+synced_idle log before c none was = (
+  c,
+  was,
+  record { below = refl; above = refl },
+  λ batches there.
       subst (λ rs. AreBatches c log.first log.epoch (batches ++ batches_of (log.first + log.place + 1) rs) (place_after log.place rs)) (sym none)
-      (subst (λ bs. AreBatches c log.first log.epoch bs log.place) (sym (append-nil batches)) there))
+      (subst (λ bs. AreBatches c log.first log.epoch bs log.place) (sym (append-nil batches)) there),
+)
 
 -- the log after it
 pub after_some : (log : LogState) (blocks : ℕ) (bytes : List ℕ) → IsWaiting log blocks bytes

@@ -1,5 +1,5 @@
 -- Headers and bodies are read as they are written.
-use Rattle.std.proofs.Common.{◌≡◌, ℕ, ◌+◌, ◌-◌, ◌*◌, ◌^◌, ◌<◌, ◌≤◌, List, [], ◌∷◌, ◌++◌, length, take, drop, refl, sym, ap, subst, ◌∙◌, arith, append_assoc, append-nil, length-append, Option, None, Some}
+use Rattle.std.proofs.Common.{◌≡◌, ℕ, ◌+◌, ◌-◌, ◌*◌, ◌^◌, ◌<◌, ◌≤◌, List, [], ◌∷◌, ◌++◌, length, take, drop, sym, ap, subst, ◌∙◌, arith, append_assoc, length-append, Option, None, Some}
 use Rattle.std.proofs.lemmas.List.{take_at, drop_at, take-append-drop, length-take-le, length-drop, length-replicate, drop-drop}
 use Rattle.std.specs.List.{concat, AllByRecursion}
 use Rattle.std.specs.Prelude.{IfSome}
@@ -39,8 +39,8 @@ pub header_is : (h : Header) (blocks epoch count size : ℕ) (bytes rest after :
     → bytes ≡ head_bytes h ++ rest → bytes ≡ header_bytes blocks epoch count size ++ after → IsHeaderOf h blocks epoch count size rest after
 header_is h blocks epoch count size bytes rest after f b e c s read written =
     let same = head_alone ((((h.magic, h.blocks), h.epoch), h.count), h.size) ((((magic, blocks), epoch), count), size) rest after
-      ((((omega (arith, f.magic), omega (arith, f.blocks)), omega (arith, f.epoch)), omega (arith, f.count)), omega (arith, f.size))
-      ((((omega arith, omega arith), omega arith), omega arith), omega arith) (sym read ∙ written) in
+    ((((omega (arith, f.magic), omega (arith, f.blocks)), omega (arith, f.epoch)), omega (arith, f.count)), omega (arith, f.size))
+    ((((omega arith, omega arith), omega arith), omega arith), omega arith) (sym read ∙ written) in
     record {
       mark = ap (λ (v : (((ℕ × ℕ) × ℕ) × ℕ) × ℕ). v.0.0.0.0) same.0;
       many = ap (λ (v : (((ℕ × ℕ) × ℕ) × ℕ) × ℕ). v.0.0.0.1) same.0;
@@ -64,9 +64,11 @@ pub body_header : (h : Header) (blocks epoch : ℕ) (bytes rest : List ℕ) (rs 
 body_header h blocks epoch bytes rest rs f few e long read each written =
     let size = length (concat rs) in
     let all : body_blocks rs ≡ blocks = omega (arith, body_length epoch rs, ap length written, long) in
-    let tail = zeros (body_blocks rs * 4096 - (24 + size)) in
-    (header_is h (body_blocks rs) epoch (length rs) size bytes rest (concat rs ++ tail) f (omega (arith, all)) e (omega (arith, all, records_size rs each)) (omega (arith, all))
-      read (written ∙ append_assoc (header_bytes (body_blocks rs) epoch (length rs) size) (concat rs) tail), all)
+    let tail = zeros (body_blocks rs * 4096 - (24 + size)) in (
+      header_is h (body_blocks rs) epoch (length rs) size bytes rest (concat rs ++ tail) f (omega (arith, all)) e (omega (arith, all, records_size rs each)) (omega (arith, all))
+          read (written ∙ append_assoc (header_bytes (body_blocks rs) epoch (length rs) size) (concat rs) tail),
+      all,
+    )
 
 -- what follows the records of a body is zeros
 pub body_zeros : (epoch size : ℕ) (bytes : List ℕ) (rs : List (List ℕ)) → size ≡ length (concat rs) → bytes ≡ body_bytes epoch rs → AreZeros (drop (24 + size) bytes)
@@ -113,22 +115,24 @@ body_from h epoch blocks bytes rest (Some rs) k there =
     let all : blocks ≡ body_blocks rs = sym k.size ∙ ap blocks_for sum in
     let header = head_bytes h in
     let header_is : header ≡ header_bytes (body_blocks rs) epoch (length rs) (length (concat rs)) =
-      ap (λ n. be w32 n ++ be w32 h.blocks ++ be w64 h.epoch ++ be w32 h.count ++ be w32 h.size) k.mark
-      ∙ ap (λ n. be w32 magic ++ be w32 n ++ be w64 h.epoch ++ be w32 h.count ++ be w32 h.size) (k.many ∙ all)
-      ∙ ap (λ n. be w32 magic ++ be w32 (body_blocks rs) ++ be w64 n ++ be w32 h.count ++ be w32 h.size) k.time
-      ∙ ap (λ n. be w32 magic ++ be w32 (body_blocks rs) ++ be w64 epoch ++ be w32 n ++ be w32 h.size) (sym there.0)
-      ∙ ap (λ n. be w32 magic ++ be w32 (body_blocks rs) ++ be w64 epoch ++ be w32 (length rs) ++ be w32 n) sum in
+    ap (λ n. be w32 n ++ be w32 h.blocks ++ be w64 h.epoch ++ be w32 h.count ++ be w32 h.size) k.mark
+    ∙ ap (λ n. be w32 magic ++ be w32 n ++ be w64 h.epoch ++ be w32 h.count ++ be w32 h.size) (k.many ∙ all)
+    ∙ ap (λ n. be w32 magic ++ be w32 (body_blocks rs) ++ be w64 n ++ be w32 h.count ++ be w32 h.size) k.time
+    ∙ ap (λ n. be w32 magic ++ be w32 (body_blocks rs) ++ be w64 epoch ++ be w32 n ++ be w32 h.size) (sym there.0)
+    ∙ ap (λ n. be w32 magic ++ be w32 (body_blocks rs) ++ be w64 epoch ++ be w32 (length rs) ++ be w32 n) sum in
     let long : length header ≡ 24 = ap length header_is ∙ header_length (body_blocks rs) epoch (length rs) (length (concat rs)) in
     let after : drop 24 bytes ≡ rest = ap (drop 24) k.read ∙ drop_at header rest 24 long in
     let tail : List ℕ = drop (24 + h.size) bytes in
     let cut : drop 24 bytes ≡ concat rs ++ tail =
-      sym (take-append-drop h.size (drop 24 bytes)) ∙ ap (λ l. l ++ drop h.size (drop 24 bytes)) (sym there.2) ∙ ap (λ l. concat rs ++ l) (drop-drop h.size 24 bytes) in
+    sym (take-append-drop h.size (drop 24 bytes)) ∙ ap (λ l. l ++ drop h.size (drop 24 bytes)) (sym there.2) ∙ ap (λ l. concat rs ++ l) (drop-drop h.size 24 bytes) in
     let count : length tail ≡ body_blocks rs * 4096 - (24 + length (concat rs)) = omega (arith, length-drop (24 + h.size) bytes, k.long, all, sum) in
-    let ends : tail ≡ zeros (body_blocks rs * 4096 - (24 + length (concat rs))) = k.zeroed ∙ ap zeros count in
-    (omega (arith, there.0, k.some), there.1,
-    k.read ∙ ap (λ l. header ++ l) (sym after ∙ cut ∙ ap (λ l. concat rs ++ l) ends)
-    ∙ ap (λ l. l ++ (concat rs ++ zeros (body_blocks rs * 4096 - (24 + length (concat rs))))) header_is
-    ∙ sym (append_assoc (header_bytes (body_blocks rs) epoch (length rs) (length (concat rs))) (concat rs) (zeros (body_blocks rs * 4096 - (24 + length (concat rs))))))
+    let ends : tail ≡ zeros (body_blocks rs * 4096 - (24 + length (concat rs))) = k.zeroed ∙ ap zeros count in (
+      omega (arith, there.0, k.some),
+      there.1,
+      k.read ∙ ap (λ l. header ++ l) (sym after ∙ cut ∙ ap (λ l. concat rs ++ l) ends)
+          ∙ ap (λ l. l ++ (concat rs ++ zeros (body_blocks rs * 4096 - (24 + length (concat rs))))) header_is
+          ∙ sym (append_assoc (header_bytes (body_blocks rs) epoch (length rs) (length (concat rs))) (concat rs) (zeros (body_blocks rs * 4096 - (24 + length (concat rs))))),
+    )
 
 -- a body found in so many blocks fills them
 pub body_size : (epoch blocks : ℕ) (bytes : List ℕ) (found : Option (List (List ℕ))) → length bytes ≡ blocks * 4096 → IsBodyOf bytes epoch found → IfSome found (λ rs. body_blocks rs ≡ blocks)
@@ -144,7 +148,7 @@ records_front [] qs left h k le e = (qs, k, omega arith, e)
 records_front (r ∷ rs) [] left h k le e = absurd (omega arith)
 records_front (r ∷ rs) (q ∷ qs) left h k le e =
     let same = IsPrefixFree-text16 h.0.0 k.0.0 (concat rs ++ left) (concat qs) h.0.1 k.0.1
-      (ap (λ l. l ++ (concat rs ++ left)) (sym h.0.2) ∙ sym (append_assoc r (concat rs) left) ∙ e ∙ ap (λ l. l ++ concat qs) k.0.2) in
+    (ap (λ l. l ++ (concat rs ++ left)) (sym h.0.2) ∙ sym (append_assoc r (concat rs) left) ∙ e ∙ ap (λ l. l ++ concat qs) k.0.2) in
     let rest = records_front rs qs left h.1 k.1 (omega arith) same.1 in
     (rest.0, rest.1, omega (arith, rest.2), rest.3)
 
@@ -173,6 +177,8 @@ too_long count bytes left rs read each is some qs many k e =
 -- one record more was read
 pub records_more : (bytes left after r : List ℕ) (rs new : List (List ℕ)) → bytes ≡ concat rs ++ left → AllByRecursion IsRecord rs → IsRecord r → left ≡ r ++ after → new ≡ rs ++ r ∷ []
     → (bytes ≡ concat new ++ after) × (length new ≡ length rs + 1) × AllByRecursion IsRecord new
-records_more bytes left after r rs new read each is front more =
-    (read ∙ ap (λ l. concat rs ++ l) front ∙ sym (append_assoc (concat rs) r after) ∙ ap (λ l. l ++ after) (sym (ap concat more ∙ concat-more rs r)),
-    ap length more ∙ length-more rs r, subst (AllByRecursion IsRecord) (sym more) (each_more rs r each is))
+records_more bytes left after r rs new read each is front more = (
+  read ∙ ap (λ l. concat rs ++ l) front ∙ sym (append_assoc (concat rs) r after) ∙ ap (λ l. l ++ after) (sym (ap concat more ∙ concat-more rs r)),
+  ap length more ∙ length-more rs r,
+  subst (AllByRecursion IsRecord) (sym more) (each_more rs r each is),
+)

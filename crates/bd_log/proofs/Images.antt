@@ -1,12 +1,11 @@
 -- Images that agree outside a range of blocks, and how a crash changes them.
-use Rattle.std.proofs.Common.{◌≡◌, ℕ, ◌+◌, ◌-◌, ◌*◌, ◌<◌, ◌≤◌, List, [], ◌∷◌, ◌++◌, length, take, drop, get_or, set, refl, sym, ap, subst, ◌∙◌, arith, Option, None, Some, ◌⊎◌, inl, inr, append-nil, length-append, zero, suc}
-use Rattle.std.proofs.lemmas.List.{take-set-le, drop-set-lt, drop-take, take-set, take_more_set, drop-set-add, get_or-take, get_or-set_same, get_or-set_other, get_or_past, length-drop, length-take-le, take_at, length-set, drop-drop}
+use Rattle.std.proofs.Common.{◌≡◌, ℕ, ◌+◌, ◌-◌, ◌*◌, ◌<◌, ◌≤◌, List, [], ◌∷◌, ◌++◌, length, take, drop, get_or, refl, sym, ap, subst, ◌∙◌, arith, Option, None, Some, ◌⊎◌, inl, inr, append-nil, length-append, zero, suc}
+use Rattle.std.proofs.lemmas.List.{take-set-le, drop-set-lt, take-set, take_more_set, drop-set-add, get_or-take, get_or-set_same, get_or-set_other, get_or_past, length-drop, length-take-le, take_at, length-set, drop-drop}
 use Rattle.std.proofs.lemmas.Bool.{cases_lt, cases_eq}
 use Rattle.std.proofs.Math.Seq.{take-add, take-length}
 use Rattle.std.proofs.lemmas.List.Folds.{concat-append}
 use Rattle.std.specs.List.{concat}
 use Rattle.std.specs.Prelude.{slice_get, slice_set, slice_index_or}
-use Rattle.std.specs.Option.{option_map}
 use Rattle.std.specs.Prelude.{IfSome, slice_index}
 use Rattle.bd_device.specs.Blocks.{Image, HasBlocks, with_block, ChangesOnly}
 use Rattle.bd_device.specs.Moments.{Elapses, TornAt}
@@ -149,9 +148,12 @@ not_committed image b block zero_byte is =
 pub none_yet : (commit blocks : ℕ) (bytes : List ℕ) (before : Image → Type 0) (image : Image)
     → ChangedWithin (commit + 1) (commit + blocks + 2) before image → IsNoneOrWhole commit blocks bytes before image
 none_yet commit blocks bytes before image h =
-    let same = same_below (commit + 1) commit [] image h.0 (omega arith) h.2.below in
-    (h.0, h.1, outside_wider commit (commit + blocks + 2) (omega arith) (omega arith) h.2,
-    inl (λ closed is. closed (sym (ap (λ (l : List ℕ). slice_index l 0) same) ∙ is)))
+    let same = same_below (commit + 1) commit [] image h.0 (omega arith) h.2.below in (
+      h.0,
+      h.1,
+      outside_wider commit (commit + blocks + 2) (omega arith) (omega arith) h.2,
+      inl (λ closed is. closed (sym (ap (λ (l : List ℕ). slice_index l 0) same) ∙ is)),
+    )
 
 -- What is known once the body is settled: the body, and that no batch follows it.
 pub record IsSettled (commit blocks : ℕ) (bytes : List ℕ) (image : Image) : Type 0 where
@@ -211,8 +213,12 @@ pub whole_open : (commit blocks : ℕ) (bytes block : List ℕ) (before : Image 
     → WasWritten commit blocks bytes before opened
 whole_open commit blocks bytes block before image opened h s one is =
     let P : Image → Type 0 = WasWritten commit blocks bytes before in
-    subst P (sym is) (h.0, h.1, opened_outside commit blocks block h.0 image h.2,
-    after_commit commit blocks bytes block image s (ap (λ (l : List ℕ). slice_index l 0) (get_or-set_same image commit block [] s.room) ∙ one))
+    subst P (sym is) (
+      h.0,
+      h.1,
+      opened_outside commit blocks block h.0 image h.2,
+      after_commit commit blocks bytes block image s (ap (λ (l : List ℕ). slice_index l 0) (get_or-set_same image commit block [] s.room) ∙ one),
+    )
 
 -- what a crash leaves after the opening was settled is an image settled before it, with the commit block
 pub settled_from : {a b : ℕ} {mid last : ℕ → Image → Type 0} (commit : ℕ) (known : Option Image) → Elapses a b mid last (TornAt commit (mid a))
@@ -257,7 +263,7 @@ commit_time {a} {b} {c} {first} {mid} {last} commit blocks bytes known body earl
     (within (ChangedWithin low high (first a)) (IsNoneOrWhole commit blocks bytes (first a)) body (none_yet commit blocks bytes (first a)))
     time
     (λ image torn. torn_open commit blocks bytes torn.2 (first a) torn.0 image (changed_now low high body earlier torn.0 torn.1)
-      (facts torn.0 (only torn.0 torn.1)) torn.4)
+    (facts torn.0 (only torn.0 torn.1)) torn.4)
 
 -- and once that is settled, the body is there
 pub commit_whole : {a b c : ℕ} {first mid last : ℕ → Image → Type 0} (commit blocks : ℕ) (bytes block : List ℕ) (known known' : Option Image)
@@ -298,7 +304,7 @@ put_block : (i : ℕ) (into block new : List ℕ) → length block ≡ 4096 → 
 put_block i into block new size room put =
     ap (take ((i + 1) * 4096)) put
     ∙ take_at (take (i * 4096) into ++ block) (drop (i * 4096 + length block) into) ((i + 1) * 4096)
-      (omega (arith, length-append (take (i * 4096) into) block, length-take-le (i * 4096) into (omega arith), size))
+    (omega (arith, length-append (take (i * 4096) into) block, length-take-le (i * 4096) into (omega arith), size))
 
 pub read_more : (b i : ℕ) (known now : Option Image) (into block new : List ℕ) → now ≡ known
     → IfSome known (λ image. take (i * 4096) into ≡ bytes_at image b i) → IfSome now (λ image. slice_get image (b + i) ≡ Some block)

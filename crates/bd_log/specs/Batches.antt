@@ -51,7 +51,7 @@ pub record IsBatchAt (image : Image) (first epoch place : ℕ) (batch : Batch) :
   pub each : AllByRecursion IsRecord batch.records
   pub room : place + 1 + body_blocks batch.records ≤ 63
   pub bytes : bytes_at image batch.body (body_blocks batch.records)
-    ≡ body_bytes epoch batch.records
+      ≡ body_bytes epoch batch.records
 
 -- committed batches follow each other, from one place to another
 abbrev pub LeadsTo : Image → ℕ → ℕ → ℕ → List Batch → ℕ → Type 0

@@ -1,4 +1,4 @@
-use Rattle.std.proofs.Common.{◌≡◌, ℕ, ◌+◌, arith, sym, subst, ◌∙◌}
+use Rattle.std.proofs.Common.{◌+◌, arith, sym, subst, ◌∙◌}
 use Rattle.bd_log.specs.Commits.{KeepsOutside}
 use Rattle.bd_log.proofs.Images.{write_more, written_more, keeps_changed, keeps_then, keeps_set}
 use Rattle.bd_log.proofs.commit.write_blocks.Goals as goal
@@ -26,10 +26,10 @@ loop-i-preserved g c =
     record {
       time = write_more first end b (omega arith) (omega arith) c.loop-i.invariant.time (g.met.D.Device.since_earlier c.loop-i.dev) c.write.ensures.time;
       written = written_more (g.D.Device.block_count c.write.new.self) first c.loop-i.i c.args.bytes.now c.block_at-block.result known (g.D.Device.contents c.write.new.self)
-        (omega (arith, c.requires.room, c.loop-i.invariant.blocks, c.write.ensures.count, c.loop-i-test.true))
-        c.loop-i.invariant.written c.block_at-block.ensures c.in_ok-write.ensures.written c.write.ensures.shape;
+          (omega (arith, c.requires.room, c.loop-i.invariant.blocks, c.write.ensures.count, c.loop-i-test.true))
+          c.loop-i.invariant.written c.block_at-block.ensures c.in_ok-write.ensures.written c.write.ensures.shape;
       others = keeps_then first end (g.D.Device.contents c.args.dev.now) known (g.D.Device.contents c.write.new.self) c.loop-i.invariant.others
-        (subst (KeepsOutside first end known) (sym c.in_ok-write.ensures.written) (keeps_set first end b c.block_at-block.result known (omega arith) (omega arith)));
+          (subst (KeepsOutside first end known) (sym c.in_ok-write.ensures.written) (keeps_set first end b c.block_at-block.result known (omega arith) (omega arith)));
       blocks = c.write.ensures.count ∙ c.loop-i.invariant.blocks;
       faults = c.in_ok-write.ensures.cause.kept ∙ c.loop-i.invariant.faults;
       write_faults = c.in_ok-write.ensures.write_faults ∙ c.loop-i.invariant.write_faults;

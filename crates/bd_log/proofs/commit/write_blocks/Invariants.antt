@@ -8,8 +8,8 @@ use Rattle.bd_log.proofs.commit.write_blocks.Given as goal
 abbrev pub invariant-loop-i : goal.invariant-loop-i
 invariant-loop-i g l = record {
   time : Elapses (g.D.Device.call_count l.fn.dev) (g.D.Device.call_count l.dev)
-    (g.D.Device.left_since l.fn.dev) (g.D.Device.left_since l.dev)
-    (ChangedWithin l.first (l.first + l.count) (g.D.Device.left_since l.fn.dev (g.D.Device.call_count l.fn.dev)));
+      (g.D.Device.left_since l.fn.dev) (g.D.Device.left_since l.dev)
+      (ChangedWithin l.first (l.first + l.count) (g.D.Device.left_since l.fn.dev (g.D.Device.call_count l.fn.dev)));
   written : IfSome (g.D.Device.contents l.dev) (λ image. bytes_at image l.first l.i ≡ take (l.i * 4096) l.bytes);
   others : KeepsOutside l.first (l.first + l.count) (g.D.Device.contents l.fn.dev) (g.D.Device.contents l.dev);
   blocks : g.D.Device.block_count l.dev ≡ g.D.Device.block_count l.fn.dev;

@@ -1,7 +1,6 @@
-use Rattle.std.proofs.Common.{◌≡◌, ℕ, ◌+◌, ◌*◌, List, Some, arith, sym, subst, ◌∙◌}
-use Rattle.bd_device.specs.Blocks.{Image}
+use Rattle.std.proofs.Common.{◌+◌, arith}
 use Rattle.bd_device.proofs.Moments.{within}
-use Rattle.bd_log.specs.Commits.{KeepsOutside, ChangedWithin, IsNoneOrWhole}
+use Rattle.bd_log.specs.Commits.{ChangedWithin, IsNoneOrWhole}
 use Rattle.bd_log.proofs.Images.{body_time, commit_time, commit_whole, changed_wider, none_yet, settled, keeps_then, keeps_wider}
 use Rattle.bd_log.proofs.commit.write_committed.Goals as goal
 
@@ -47,8 +46,8 @@ returns-in_err-settle-2-clause-time g c =
     (body_time commit blocks c.write_blocks.ensures.time (g.met.D.Device.since_earlier c.write_blocks.new.dev) c.settle.ensures.time)
     (g.met.D.Device.since_earlier c.settle.new.dev) c.in_ok-settle.ensures.durable
     (λ image is. settled (g.D.Device.block_count c.settle.new.dev) commit blocks c.args.body.now c.commit_block.result (g.D.Device.contents c.write_blocks.new.dev) known image
-      (omega (arith, c.requires.room, c.settle.ensures.count, c.write_blocks.ensures.count)) c.requires.body c.in_ok-write_blocks.ensures.written c.commit_block.ensures
-      c.in_ok-settle.ensures.written c.settle.ensures.shape is)
+    (omega (arith, c.requires.room, c.settle.ensures.count, c.write_blocks.ensures.count)) c.requires.body c.in_ok-write_blocks.ensures.written c.commit_block.ensures
+    c.in_ok-settle.ensures.written c.settle.ensures.shape is)
     c.settle-2.ensures.time
 
 pub returns-in_err-settle-2-clause-others : goal.returns-in_err-settle-2-clause-others
@@ -61,8 +60,8 @@ returns-in_err-settle-2-clause-others g c =
     let known3 = g.D.Device.contents c.settle-2.new.dev in
     keeps_then commit end known known2 known3
     (keeps_then commit end known known1 known2
-      (keeps_wider (commit + 1) (commit + 1 + c.args.blocks) commit end known known1 (omega arith) (omega arith) c.write_blocks.ensures.others)
-      (keeps_wider (commit + 1 + c.args.blocks) (commit + 1 + c.args.blocks + 1) commit end known1 known2 (omega arith) (omega arith) c.settle.ensures.others))
+    (keeps_wider (commit + 1) (commit + 1 + c.args.blocks) commit end known known1 (omega arith) (omega arith) c.write_blocks.ensures.others)
+    (keeps_wider (commit + 1 + c.args.blocks) (commit + 1 + c.args.blocks + 1) commit end known1 known2 (omega arith) (omega arith) c.settle.ensures.others))
     (keeps_wider commit (commit + 1) commit end known2 known3 (omega arith) (omega arith) c.settle-2.ensures.others)
 
 pub returns-clause-time : goal.returns-clause-time
@@ -74,8 +73,8 @@ returns-clause-time g c =
     (body_time commit blocks c.write_blocks.ensures.time (g.met.D.Device.since_earlier c.write_blocks.new.dev) c.settle.ensures.time)
     (g.met.D.Device.since_earlier c.settle.new.dev) c.in_ok-settle.ensures.durable
     (λ image is. settled (g.D.Device.block_count c.settle.new.dev) commit blocks c.args.body.now c.commit_block.result (g.D.Device.contents c.write_blocks.new.dev) known image
-      (omega (arith, c.requires.room, c.settle.ensures.count, c.write_blocks.ensures.count)) c.requires.body c.in_ok-write_blocks.ensures.written c.commit_block.ensures
-      c.in_ok-settle.ensures.written c.settle.ensures.shape is)
+    (omega (arith, c.requires.room, c.settle.ensures.count, c.write_blocks.ensures.count)) c.requires.body c.in_ok-write_blocks.ensures.written c.commit_block.ensures
+    c.in_ok-settle.ensures.written c.settle.ensures.shape is)
     c.settle-2.ensures.time
 
 pub returns-clause-whole : goal.returns-clause-whole
@@ -87,8 +86,8 @@ returns-clause-whole g c =
     (body_time commit blocks c.write_blocks.ensures.time (g.met.D.Device.since_earlier c.write_blocks.new.dev) c.settle.ensures.time)
     (g.met.D.Device.since_earlier c.settle.new.dev) (g.met.D.Device.since_earlier c.settle-2.new.dev) c.in_ok-settle.ensures.durable
     (λ image is. settled (g.D.Device.block_count c.settle.new.dev) commit blocks c.args.body.now c.commit_block.result (g.D.Device.contents c.write_blocks.new.dev) known image
-      (omega (arith, c.requires.room, c.settle.ensures.count, c.write_blocks.ensures.count)) c.requires.body c.in_ok-write_blocks.ensures.written c.commit_block.ensures
-      c.in_ok-settle.ensures.written c.settle.ensures.shape is)
+    (omega (arith, c.requires.room, c.settle.ensures.count, c.write_blocks.ensures.count)) c.requires.body c.in_ok-write_blocks.ensures.written c.commit_block.ensures
+    c.in_ok-settle.ensures.written c.settle.ensures.shape is)
     c.settle-2.ensures.time c.in_ok-settle-2.ensures.written c.in_ok-settle-2.ensures.durable c.commit_block-2.ensures
 
 pub returns-clause-others : goal.returns-clause-others
@@ -101,6 +100,6 @@ returns-clause-others g c =
     let known3 = g.D.Device.contents c.settle-2.new.dev in
     keeps_then commit end known known2 known3
     (keeps_then commit end known known1 known2
-      (keeps_wider (commit + 1) (commit + 1 + c.args.blocks) commit end known known1 (omega arith) (omega arith) c.write_blocks.ensures.others)
-      (keeps_wider (commit + 1 + c.args.blocks) (commit + 1 + c.args.blocks + 1) commit end known1 known2 (omega arith) (omega arith) c.settle.ensures.others))
+    (keeps_wider (commit + 1) (commit + 1 + c.args.blocks) commit end known known1 (omega arith) (omega arith) c.write_blocks.ensures.others)
+    (keeps_wider (commit + 1 + c.args.blocks) (commit + 1 + c.args.blocks + 1) commit end known1 known2 (omega arith) (omega arith) c.settle.ensures.others))
     (keeps_wider commit (commit + 1) commit end known2 known3 (omega arith) (omega arith) c.settle-2.ensures.others)

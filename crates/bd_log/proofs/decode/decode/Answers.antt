@@ -1,9 +1,9 @@
-use Rattle.std.proofs.Common.{◌≡◌, ◌+◌, ◌-◌, List, ℕ, length, take, drop, arith, ap, sym, subst, ◌∙◌, Option, IfOk}
+use Rattle.std.proofs.Common.{◌≡◌, ◌+◌, ◌-◌, take, drop, arith, ap, sym, subst, ◌∙◌}
 use Rattle.std.proofs.lemmas.List.{take_rest}
 use Rattle.std.proofs.lemmas.Result.{IfOk-weaker}
 use Rattle.bd_wire.specs.Text.{AreZeros}
 use Rattle.bd_log.specs.Batches.{blocks_for}
-use Rattle.bd_log.specs.Reading.{AreRecordsOf, IsBodyOf}
+use Rattle.bd_log.specs.Reading.{AreRecordsOf}
 use Rattle.bd_log.proofs.Headers.{body_header, body_zeros, body_from, body_size}
 use Rattle.bd_log.proofs.decode.decode.Goals as goal
 

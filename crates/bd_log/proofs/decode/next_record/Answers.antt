@@ -9,19 +9,19 @@ pub slice_bounds-result-end : goal.slice_bounds-result-end
 slice_bounds-result-end c =
     let text = c.in-Ok.text.now in
     let front : take (2 + length text) c.left-left.result.now ≡ text16 text =
-      ap (take (2 + length text)) (c.left-left.ensures ∙ c.in-Ok.ensures.read.front) ∙ take_at (text16 text) c.text16.new.self.left (2 + length text) (length-text16 text) in
+    ap (take (2 + length text)) (c.left-left.ensures ∙ c.in-Ok.ensures.read.front) ∙ take_at (text16 text) c.text16.new.self.left (2 + length text) (length-text16 text) in
     sym (ap length front ∙ length-text16 text)
 
 pub returns-clause-record : goal.returns-clause-record
 returns-clause-record c =
     let text = c.in-Ok.text.now in
     let front : take (2 + length text) c.left-left.result.now ≡ text16 text =
-      ap (take (2 + length text)) (c.left-left.ensures ∙ c.in-Ok.ensures.read.front) ∙ take_at (text16 text) c.text16.new.self.left (2 + length text) (length-text16 text) in
+    ap (take (2 + length text)) (c.left-left.ensures ∙ c.in-Ok.ensures.read.front) ∙ take_at (text16 text) c.text16.new.self.left (2 + length text) (length-text16 text) in
     (text, c.in-Ok.ensures.fits, front)
 
 pub returns-clause-read : goal.returns-clause-read
 returns-clause-read c =
     let text = c.in-Ok.text.now in
     let front : take (2 + length text) c.left-left.result.now ≡ text16 text =
-      ap (take (2 + length text)) (c.left-left.ensures ∙ c.in-Ok.ensures.read.front) ∙ take_at (text16 text) c.text16.new.self.left (2 + length text) (length-text16 text) in
+    ap (take (2 + length text)) (c.left-left.ensures ∙ c.in-Ok.ensures.read.front) ∙ take_at (text16 text) c.text16.new.self.left (2 + length text) (length-text16 text) in
     subst (Reads c.args.cursor.now c.text16.new.self) (sym front) c.in-Ok.ensures.read

@@ -1,7 +1,5 @@
-use Rattle.std.proofs.Common.{◌≡◌, ◌==◌, ◌+◌, ◌++◌, ◌∷◌, [], List, ℕ, length, false, arith, ap, sym, subst, ◌∙◌}
+use Rattle.std.proofs.Common.{◌≡◌, ◌==◌, ◌+◌, ◌++◌, ◌∷◌, [], List, ℕ, length, false, arith, ap, sym, ◌∙◌}
 use Rattle.std.proofs.lemmas.Bool.Decides.{nat_tests}
-use Rattle.std.specs.List.{concat, AllByRecursion}
-use Rattle.bd_log.specs.Batches.{IsRecord}
 use Rattle.bd_log.proofs.Headers.{too_few, too_long, records_more}
 use Rattle.bd_log.proofs.decode.records_of.Goals as goal
 
@@ -16,7 +14,7 @@ loop-i-preserved c =
     let r = c.in-Some.record.now in
     let new : c.push.new.self.items ≡ rs ++ r ∷ [] = c.in_ok-push.ensures.items ∙ ap (λ (x : List ℕ). rs ++ x ∷ []) c.in_ok-from_slice.ensures in
     let more = records_more c.args.bytes.now c.loop-i.cursor.left c.next_record.new.cursor.left r rs c.push.new.self.items
-      c.loop-i.invariant.read c.loop-i.invariant.each c.in-Some.ensures.record c.in-Some.ensures.read.front new in
+    c.loop-i.invariant.read c.loop-i.invariant.each c.in-Some.ensures.record c.in-Some.ensures.read.front new in
     record { read = more.0; many = more.1 ∙ ap (λ n. n + 1) c.loop-i.invariant.many; each = more.2 }
 
 not_empty : (n : ℕ) → false ≡ (n == 0) → n ≡ 0 → ⊥

@@ -1,4 +1,4 @@
-use Rattle.std.proofs.Common.{◌+◌, ◌-◌, arith, subst, ◌∙◌, None}
+use Rattle.std.proofs.Common.{◌+◌, ◌-◌, arith, subst}
 use Rattle.std.specs.Prelude.{IfSome}
 use Rattle.bd_log.specs.Reading.{IsBodyRead}
 use Rattle.bd_log.proofs.Bodies.{broken}
@@ -11,5 +11,5 @@ returns-in-None-clause-cause g c =
       later = omega (arith, c.read.ensures.cause.later, c.read_body.ensures.cause.later);
       kept = tt;
       failed = broken (g.D.Device.contents c.args.dev.now) (g.D.Device.contents c.read.new.self) c.args.first c.args.epoch c.args.place c.read.new.into
-        c.read.ensures.kept c.in_ok-read.ensures.bytes c.if-block-ne1.false none;
+          c.read.ensures.kept c.in_ok-read.ensures.bytes c.if-block-ne1.false none;
     }

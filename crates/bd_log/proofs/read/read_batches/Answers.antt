@@ -1,10 +1,9 @@
-use Rattle.std.proofs.Common.{◌≡◌, ◌≤◌, ◌+◌, ◌++◌, ◌∷◌, [], Some, List, arith, ap, subst, ◌∙◌}
+use Rattle.std.proofs.Common.{◌≡◌, ◌≤◌, ◌+◌, arith, subst, ◌∙◌}
 use Rattle.std.specs.Prelude.{IfSome}
 use Rattle.bd_device.specs.Moments.{Nothing}
 use Rattle.bd_device.proofs.Moments.{goes_on}
 use Rattle.bd_log.specs.Batches.{body_blocks}
 use Rattle.bd_log.specs.Reading.{IsNext}
-use Rattle.bd_log.specs.declared.batch.Batch.{Batch}
 use Rattle.bd_log.proofs.Bodies.{follow_more}
 use Rattle.bd_log.proofs.read.read_batches.Goals as goal
 
@@ -18,7 +17,7 @@ loop-batches-preserved g c =
     let size = subst (λ found. IfSome found (λ f. (f.1 ≡ body_blocks f.0.records) × (place + 1 + f.1 ≤ 63))) c.in-Some.is c.in_ok-batch.ensures.blocks in
     record {
       follow = follow_more known now c.args.first c.args.epoch place blocks c.loop-batches.batches.items c.push.new.self.items c.in-Some.batch
-        c.loop-batches.invariant.kept c.loop-batches.invariant.follow next size.0 c.in_ok-push.ensures.items;
+          c.loop-batches.invariant.kept c.loop-batches.invariant.follow next size.0 c.in_ok-push.ensures.items;
       within = omega (arith, size.1);
       buffer = omega (arith, c.next_batch.auto.buffer, c.loop-batches.invariant.buffer);
       kept = c.next_batch.ensures.kept ∙ c.loop-batches.invariant.kept;

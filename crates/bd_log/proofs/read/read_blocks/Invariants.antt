@@ -1,4 +1,4 @@
-use Rattle.std.proofs.Common.{◌≡◌, ℕ, ◌+◌, ◌*◌, List, length, take}
+use Rattle.std.proofs.Common.{◌≡◌, ℕ, ◌*◌, List, take}
 use Rattle.std.specs.Prelude.{IfSome}
 use Rattle.bd_device.specs.Moments.{Elapses, Nothing}
 use Rattle.bd_log.specs.Commits.{bytes_at}

@@ -1,4 +1,4 @@
-use Rattle.std.proofs.Common.{arith, inl, inr, subst, None, ◌∙◌}
+use Rattle.std.proofs.Common.{arith, inl, inr, subst}
 use Rattle.std.specs.Prelude.{IfSome}
 use Rattle.bd_log.specs.Commits.{bytes_at}
 use Rattle.bd_log.specs.Reading.{IsBodyOf}

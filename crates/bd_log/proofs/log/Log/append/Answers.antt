@@ -2,7 +2,7 @@ use Rattle.std.proofs.Common.{◌≡◌, ◌+◌, ◌++◌, ◌∷◌, [], ◌�
 use Rattle.std.proofs.lemmas.List.{take_at}
 use Rattle.bd_log.specs.Logs.{LogState, IsBuffer, room_left}
 use Rattle.bd_log.specs.Batches.{records_in}
-use Rattle.bd_log.proofs.Buffers.{count_fits, buffer_more, put_length, waiting_size, IsMore}
+use Rattle.bd_log.proofs.Buffers.{count_fits, buffer_more, put_length, waiting_size}
 use Rattle.bd_log.proofs.log.Log.append.Goals as goal
 
 pub overflow_add-self-2 : goal.overflow_add-self-2
@@ -18,7 +18,7 @@ invariant_of-self c =
     let size = waiting_size l.place l.size l.count body c.self.invariant.2 in
     let room = subst (λ (s : LogState). length r ≤ room_left s) (sym c.self.view_is) c.requires.room in
     let put : new ≡ take (24 + l.size) body ++ r ++ drop (24 + l.size + length r) body =
-      c.put.ensures ∙ ap (λ b. take (24 + l.size) b ++ r ++ drop (24 + l.size + length r) b) whole in
+    c.put.ensures ∙ ap (λ b. take (24 + l.size) b ++ r ++ drop (24 + l.size + length r) b) whole in
     let same : length new ≡ length body = ap length put ∙ put_length (24 + l.size) body r (omega (arith, room, size, c.self.invariant.2.room, c.self.invariant.2.total)) in
     let more = buffer_more l.place l.size l.count body r new c.self.invariant.2 c.requires.is_record (omega (arith, room, size, c.self.invariant.2.room)) put same in
     let items : take l.body.len (new ++ drop (length new) body) ≡ new = take_at new (drop (length new) body) l.body.len (same ∙ sym (ap length whole) ∙ c.deref_mut.ensures.len) in
@@ -34,7 +34,7 @@ returns c =
     let size = waiting_size l.place l.size l.count body c.self.invariant.2 in
     let room = subst (λ (s : LogState). length r ≤ room_left s) (sym c.self.view_is) c.requires.room in
     let put : new ≡ take (24 + l.size) body ++ r ++ drop (24 + l.size + length r) body =
-      c.put.ensures ∙ ap (λ b. take (24 + l.size) b ++ r ++ drop (24 + l.size + length r) b) whole in
+    c.put.ensures ∙ ap (λ b. take (24 + l.size) b ++ r ++ drop (24 + l.size + length r) b) whole in
     let same : length new ≡ length body = ap length put ∙ put_length (24 + l.size) body r (omega (arith, room, size, c.self.invariant.2.room, c.self.invariant.2.total)) in
     let more = buffer_more l.place l.size l.count body r new c.self.invariant.2 c.requires.is_record (omega (arith, room, size, c.self.invariant.2.room)) put same in
     let items : take l.body.len (new ++ drop (length new) body) ≡ new = take_at new (drop (length new) body) l.body.len (same ∙ sym (ap length whole) ∙ c.deref_mut.ensures.len) in

@@ -1,8 +1,7 @@
-use Rattle.std.proofs.Common.{◌≡◌, ◌+◌, ◌*◌, ◌++◌, ◌∷◌, [], List, ℕ, length, take, drop, arith, sym, ap, subst, ◌∙◌, refl, is_ok}
-use Rattle.bd_device.specs.Blocks.{Image}
+use Rattle.std.proofs.Common.{◌+◌, ◌*◌, length, take, drop, arith, sym, ap, subst, ◌∙◌, refl}
 use Rattle.bd_device.proofs.Moments.{within}
 use Rattle.bd_log.specs.Batches.{records_in}
-use Rattle.bd_log.specs.Commits.{IsNoneOrWhole, WasWritten, KeepsOutside}
+use Rattle.bd_log.specs.Commits.{IsNoneOrWhole, KeepsOutside}
 use Rattle.bd_log.specs.Logs.{LogState, IsSyncing, IsSynced, after_sync}
 use Rattle.bd_log.proofs.Images.{keeps_wider}
 use Rattle.bd_log.proofs.Chains.{waiting_is, syncing, synced, after_some, none_counted}
@@ -21,7 +20,7 @@ returns-in_err-write_committed-clause-time g c =
     let blocks = c.blocks_for-blocks.result in
     let before = g.D.Device.left_since c.args.dev.now (g.D.Device.call_count c.args.dev.now) in
     let waits = waiting_is l.first l.place l.size l.count l.epoch blocks l.body.len l.batches body c.deref_mut.result.now c.seal.new.body c.deref.result.now
-      c.self.invariant.2 c.if-self-eq0.false c.blocks_for-blocks.ensures c.deref_mut.ensures.value c.deref_mut.ensures.len c.seal.ensures.body c.deref.ensures.value in
+    c.self.invariant.2 c.if-self-eq0.false c.blocks_for-blocks.ensures c.deref_mut.ensures.value c.deref_mut.ensures.len c.seal.ensures.body c.deref.ensures.value in
     let log : LogState = record { first = l.first; epoch = l.epoch; place = l.place; waiting = records_in l.count (take l.size (drop 24 body)); batches = l.batches } in
     let bytes = take (blocks * 4096) c.deref.result.now in
     within (IsNoneOrWhole (l.first + l.place) blocks bytes before) (IsSyncing c.args.self.now before) c.write_committed.ensures.time
@@ -49,13 +48,16 @@ pub invariant_of-self-2 : goal.invariant_of-self-2
 invariant_of-self-2 g c =
     let l = c.self.inside in
     let blocks = c.blocks_for-blocks.result in
-    let room = fits_half l.place l.size l.count blocks l.body.items c.self.invariant.2 c.if-self-eq0.false c.blocks_for-blocks.ensures in
-    (c.self.invariant.0, omega (arith, room), record {
-      total = sym (ap length c.deref.ensures.value) ∙ c.deref.ensures.len ∙ sym c.deref_mut.ensures.len ∙ ap length c.deref_mut.ensures.value ∙ c.self.invariant.2.total;
-      room = omega arith;
-      whole = refl;
-      each = tt;
-    })
+    let room = fits_half l.place l.size l.count blocks l.body.items c.self.invariant.2 c.if-self-eq0.false c.blocks_for-blocks.ensures in (
+      c.self.invariant.0,
+      omega (arith, room),
+      record {
+        total = sym (ap length c.deref.ensures.value) ∙ c.deref.ensures.len ∙ sym c.deref_mut.ensures.len ∙ ap length c.deref_mut.ensures.value ∙ c.self.invariant.2.total;
+        room = omega arith;
+        whole = refl;
+        each = tt;
+      },
+    )
 
 pub returns-clause-ok : goal.returns-clause-ok
 returns-clause-ok g c =
@@ -63,7 +65,7 @@ returns-clause-ok g c =
     let body = c.self.inside.body.items in
     let blocks = c.blocks_for-blocks.result in
     let waits = waiting_is l.first l.place l.size l.count l.epoch blocks l.body.len l.batches body c.deref_mut.result.now c.seal.new.body c.deref.result.now
-      c.self.invariant.2 c.if-self-eq0.false c.blocks_for-blocks.ensures c.deref_mut.ensures.value c.deref_mut.ensures.len c.seal.ensures.body c.deref.ensures.value in
+    c.self.invariant.2 c.if-self-eq0.false c.blocks_for-blocks.ensures c.deref_mut.ensures.value c.deref_mut.ensures.len c.seal.ensures.body c.deref.ensures.value in
     let log : LogState = record { first = l.first; epoch = l.epoch; place = l.place; waiting = records_in l.count (take l.size (drop 24 body)); batches = l.batches } in
     after_some log blocks (take (blocks * 4096) c.deref.result.now) waits ∙ ap after_sync c.self.view_is
 
@@ -74,7 +76,7 @@ returns-clause-time g c =
     let blocks = c.blocks_for-blocks.result in
     let before = g.D.Device.left_since c.args.dev.now (g.D.Device.call_count c.args.dev.now) in
     let waits = waiting_is l.first l.place l.size l.count l.epoch blocks l.body.len l.batches body c.deref_mut.result.now c.seal.new.body c.deref.result.now
-      c.self.invariant.2 c.if-self-eq0.false c.blocks_for-blocks.ensures c.deref_mut.ensures.value c.deref_mut.ensures.len c.seal.ensures.body c.deref.ensures.value in
+    c.self.invariant.2 c.if-self-eq0.false c.blocks_for-blocks.ensures c.deref_mut.ensures.value c.deref_mut.ensures.len c.seal.ensures.body c.deref.ensures.value in
     let log : LogState = record { first = l.first; epoch = l.epoch; place = l.place; waiting = records_in l.count (take l.size (drop 24 body)); batches = l.batches } in
     let bytes = take (blocks * 4096) c.deref.result.now in
     within (IsNoneOrWhole (l.first + l.place) blocks bytes before) (IsSyncing c.args.self.now before) c.write_committed.ensures.time
@@ -87,7 +89,7 @@ returns-clause-synced g c =
     let blocks = c.blocks_for-blocks.result in
     let before = g.D.Device.left_since c.args.dev.now (g.D.Device.call_count c.args.dev.now) in
     let waits = waiting_is l.first l.place l.size l.count l.epoch blocks l.body.len l.batches body c.deref_mut.result.now c.seal.new.body c.deref.result.now
-      c.self.invariant.2 c.if-self-eq0.false c.blocks_for-blocks.ensures c.deref_mut.ensures.value c.deref_mut.ensures.len c.seal.ensures.body c.deref.ensures.value in
+    c.self.invariant.2 c.if-self-eq0.false c.blocks_for-blocks.ensures c.deref_mut.ensures.value c.deref_mut.ensures.len c.seal.ensures.body c.deref.ensures.value in
     let log : LogState = record { first = l.first; epoch = l.epoch; place = l.place; waiting = records_in l.count (take l.size (drop 24 body)); batches = l.batches } in
     let bytes = take (blocks * 4096) c.deref.result.now in
     λ image left. subst (λ (s : LogState). IsSynced s before image) c.self.view_is (synced log blocks bytes before image waits (c.in_ok-write_committed.ensures.whole image left))
