@@ -50,6 +50,16 @@ header_is h blocks epoch count size bytes rest after f b e c s read written =
       follows = same.1;
     }
 
+-- two headers at the front are one
+pub headers_same : (blocks epoch count size blocks' epoch' count' size' : ℕ) (rest after : List ℕ)
+    → blocks < 2 ^ 32 → epoch < 2 ^ 64 → count < 2 ^ 32 → size < 2 ^ 32 → blocks' < 2 ^ 32 → epoch' < 2 ^ 64 → count' < 2 ^ 32 → size' < 2 ^ 32
+    → header_bytes blocks epoch count size ++ rest ≡ header_bytes blocks' epoch' count' size' ++ after
+    → (blocks ≡ blocks') × (count ≡ count') × (size ≡ size') × (rest ≡ after)
+headers_same blocks epoch count size blocks' epoch' count' size' rest after b e c s b' e' c' s' same =
+    let all = head_alone ((((magic, blocks), epoch), count), size) ((((magic, blocks'), epoch'), count'), size') rest after
+      ((((omega arith, omega arith), omega arith), omega arith), omega arith) ((((omega arith, omega arith), omega arith), omega arith), omega arith) same in
+    (ap (λ (v : (((ℕ × ℕ) × ℕ) × ℕ) × ℕ). v.0.0.0.1) all.0, ap (λ (v : (((ℕ × ℕ) × ℕ) × ℕ) × ℕ). v.0.1) all.0, ap (λ (v : (((ℕ × ℕ) × ℕ) × ℕ) × ℕ). v.1) all.0, all.1)
+
 -- a body fills its blocks
 pub body_length : (epoch : ℕ) (rs : List (List ℕ)) → length (body_bytes epoch rs) ≡ body_blocks rs * 4096
 body_length epoch rs =

@@ -3,3 +3,4 @@ mod Buffers
 mod Chains
 mod Headers
 mod Bodies
+mod Ones

@@ -1,9 +1,22 @@
 //! Batches and their records.
 
-ghost use Rattle.std.specs.Prelude.{◌≡◌, []};
+ghost use Rattle.std.specs.Prelude.{◌≡◌, ◌↔◌, [], IsTrue};
+ghost use Rattle.bd_log.specs.Batches.{IsRecord};
 
 use bd_keys::Bytes;
+use bd_wire::Cursor;
 use std::marker::Model;
+
+/// Whether bytes are one record: two bytes of length, and that many bytes.
+pub fn is_record(bytes: &[u8]) -> bool
+    ensures { IsTrue result ↔ IsRecord bytes.now }
+{
+    let mut cursor = Cursor::new(bytes);
+    match cursor.text16() {
+        Ok(_text) => cursor.left().is_empty(),
+        Err(_) => false,
+    }
+}
 
 /// Records in the order in which they were appended, seen as a list: each with its length of two
 /// bytes.

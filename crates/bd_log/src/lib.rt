@@ -7,9 +7,10 @@ mod body;
 mod commit;
 mod decode;
 mod fault;
+pub mod laws;
 mod log;
 mod read;
 
-pub use batch::{Batch, Batches, Records};
+pub use batch::{Batch, Batches, Records, is_record};
 pub use fault::LogFault;
 pub use log::Log;
