@@ -1,3 +1,5 @@
+ghost use Rattle.bd_command.specs.Command.{IsCommand};
+
 use bd_command::{Command, MAX_RECORD};
 use bd_script::{Line, read_line};
 use bd_wire::{Cursor, Out};
@@ -50,19 +52,36 @@ const NONE: &[&[u8]] = &[
 
 // The log record of a line's command.
 fn record(alloc: Global, line: &[u8]) -> Result<Vec<u8>, Fail> {
-    let Line::Run(command) = read_line(alloc, line)? else {
-        return Err(Fail::new("no command"));
-    };
-    Ok(written(alloc, &command)?.ok_or(Fail::new("no log record"))?)
+    match read_line(alloc, line)? {
+        Line::Run(command) => written(alloc, &command),
+        Line::Stop => Err(Fail::new("no command")),
+    }
 }
 
-// Its log record, where it writes and has room for one.
-fn written(alloc: Global, command: &Command) -> Result<Option<Vec<u8>>, AllocError> {
+// The log record of a command that writes.
+fn written(alloc: Global, command: &Command) -> Result<Vec<u8>, Fail>
+    requires { IsCommand command.now }
+{
     let mut array = [0u8; MAX_RECORD];
-    let Some(size) = put(command, &mut array) else {
-        return Ok(None);
-    };
-    Ok(Some(Vec::from_slice(alloc, &array[..size])?))
+    let size = put(command, &mut array);
+    if size > array.len() {
+        return Err(Fail::new("no log record"));
+    }
+    Ok(Vec::from_slice(alloc, &array[..size])?)
+}
+
+// Writes the log record of a command at the front, and says how long it is.
+fn put(command: &Command, array: &mut [u8; MAX_RECORD]) -> usize
+    requires { IsCommand command.now }
+{
+    if !command.writes() {
+        return usize::MAX;
+    }
+    let size = command.log_size();
+    if size <= array.len() {
+        command.log_write(&mut Out::new(&mut array[..size]));
+    }
+    size
 }
 
 // Reads a log record at the front of bytes, and says how many bytes are left.
@@ -98,5 +117,21 @@ fn other_bytes_are_no_record(rt: HostRuntime) -> Result<(), Fail> {
     for bytes in NONE {
         assert_eq!(rt; read_again(rt.alloc(), bytes)?, None, "{bytes:?}");
     }
+    Ok(())
+}
+
+#[test]
+fn the_longest_record_has_2571_bytes(rt: HostRuntime) -> Result<(), Fail> {
+    // `write`, a path of two names of 255 bytes, 0, and 2,048 bytes in hex.
+    let mut line = vec![in rt.alloc(); b'0'; 4617]?;
+    line[..6].copy_from_slice(b"write ");
+    line[6] = b'/';
+    line[262] = b'/';
+    line[518] = b' ';
+    line[520] = b' ';
+    let bytes = record(rt.alloc(), &line)?;
+    assert_eq!(rt; (bytes.len(), MAX_RECORD), (2571, 2571));
+    assert_eq!(rt; &bytes[..5], [10, 9, 3, 2, 0].as_slice());
+    assert_eq!(rt; read_again(rt.alloc(), &bytes)?, Some(0));
     Ok(())
 }
