@@ -6,6 +6,8 @@
 #[cfg(test)]
 mod cache;
 #[cfg(test)]
+mod command;
+#[cfg(test)]
 mod device;
 #[cfg(test)]
 mod dirs;
@@ -21,6 +23,8 @@ mod io;
 mod keys;
 #[cfg(test)]
 mod leaf;
+#[cfg(test)]
+mod log;
 #[cfg(test)]
 mod message;
 #[cfg(test)]

@@ -1,0 +1,6 @@
+mod Images
+mod Buffers
+mod Chains
+mod Headers
+mod Bodies
+mod Ones

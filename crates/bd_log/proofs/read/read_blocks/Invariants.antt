@@ -1,0 +1,18 @@
+use Rattle.std.proofs.Common.{◌≡◌, ℕ, ◌*◌, List, take}
+use Rattle.std.specs.Prelude.{IfSome}
+use Rattle.bd_device.specs.Moments.{Elapses, Nothing}
+use Rattle.bd_log.specs.Commits.{bytes_at}
+use Rattle.bd_log.proofs.read.read_blocks.Given as goal
+
+-- so many blocks are read so far
+abbrev pub invariant-loop-i : goal.invariant-loop-i
+invariant-loop-i g l = record {
+  bytes : IfSome (g.D.Device.contents l.fn.dev) (λ image. take (l.i * 4096) l.into ≡ bytes_at image l.first l.i);
+  kept : g.D.Device.contents l.dev ≡ g.D.Device.contents l.fn.dev;
+  blocks : g.D.Device.block_count l.dev ≡ g.D.Device.block_count l.fn.dev;
+  faults : g.D.Device.fault_count l.dev ≡ g.D.Device.fault_count l.fn.dev;
+  write_faults : g.D.Device.write_fault_count l.dev ≡ g.D.Device.write_fault_count l.fn.dev;
+  time : Elapses (g.D.Device.call_count l.fn.dev) (g.D.Device.call_count l.dev) (g.D.Device.left_since l.fn.dev) (g.D.Device.left_since l.dev) Nothing;
+  same_name : (name : List ℕ) → g.D.Device.is_named l.fn.dev name → g.D.Device.is_named l.dev name;
+  same_loans : g.D.Device.loans l.dev ≡ g.D.Device.loans l.fn.dev;
+}

@@ -1,0 +1,5 @@
+pub mod Batches
+pub mod Commits
+pub mod Faults
+pub mod Logs
+pub mod Reading

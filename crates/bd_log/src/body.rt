@@ -1,0 +1,65 @@
+//! The bytes of a batch's body.
+
+ghost use Rattle.std.specs.Prelude.{◌≡◌, ◌≤◌, ◌<◌, ◌+◌, ◌-◌, ◌*◌, ◌++◌, length, take, drop};
+ghost use Rattle.bd_wire.specs.Text.{zeros};
+ghost use Rattle.bd_log.specs.Batches.{blocks_for, header_bytes};
+
+use bd_device::BLOCK_SIZE;
+use bd_wire::Out;
+
+/// The bytes of a body's header.
+pub const HEADER: usize = 24;
+
+/// The most blocks of a body.
+pub const MAX_BLOCKS: u64 = 62;
+
+/// The bytes of the longest body.
+pub const MAX_BODY: usize = 62 * BLOCK_SIZE;
+
+/// `BDLB` as a number.
+pub const MAGIC: u32 = 0x4244_4c42;
+
+/// The blocks of a body with so many bytes of records.
+pub fn blocks_for(size: usize) -> u64
+    requires { size ≤ 253952 }
+    ensures { result ≡ blocks_for size }
+{
+    ((HEADER + size + BLOCK_SIZE - 1) / BLOCK_SIZE) as u64
+}
+
+/// Writes the header in front of the records, and zeros after them to the end of the last block.
+pub fn seal(body: &mut [u8], blocks: u64, epoch: u64, count: u32, size: usize)
+    requires total { length body.old ≡ 253952 }
+    requires blocks { blocks ≤ 62 }
+    requires room { 24 + size ≤ blocks * 4096 }
+    ensures body { take (blocks * 4096) body.new ≡ header_bytes blocks epoch count size
+        ++ take size (drop 24 body.old) ++ zeros (blocks * 4096 - (24 + size)) }
+    ensures kept { take size (drop 24 body.new) ≡ take size (drop 24 body.old) }
+{
+    let header = header(blocks as u32, epoch, count, size as u32);
+    put(body, 0, &header);
+    body[HEADER + size..blocks as usize * BLOCK_SIZE].fill(0);
+}
+
+// The header of a body.
+#[tactic(auto, using(bd_wire::proofs::WritingLemmas::writing))]
+fn header(blocks: u32, epoch: u64, count: u32, size: u32) -> [u8; HEADER]
+    ensures { result ≡ header_bytes blocks epoch count size }
+{
+    let mut bytes = [0; HEADER];
+    let mut out = Out::new(&mut bytes);
+    out.put_u32(MAGIC);
+    out.put_u32(blocks);
+    out.put_u64(epoch);
+    out.put_u32(count);
+    out.put_u32(size);
+    bytes
+}
+
+/// Puts bytes over those from a place on.
+pub fn put(into: &mut [u8], at: usize, bytes: &[u8])
+    requires { at + length bytes.now ≤ length into.old }
+    ensures { into.new ≡ take at into.old ++ bytes.now ++ drop (at + length bytes.now) into.old }
+{
+    into[at..at + bytes.len()].copy_from_slice(bytes);
+}

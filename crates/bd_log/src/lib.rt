@@ -1,0 +1,16 @@
+//! The redo log: batches of records in one half of the log, which a crash keeps whole or not at all.
+//! The layers above may use the contracts of `Log`, and of its batches as a relation with an image.
+#![tactic(auto)]
+
+mod batch;
+mod body;
+mod commit;
+mod decode;
+mod fault;
+pub mod laws;
+mod log;
+mod read;
+
+pub use batch::{Batch, Batches, Records, is_record};
+pub use fault::LogFault;
+pub use log::Log;
