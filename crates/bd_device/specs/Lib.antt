@@ -5,3 +5,4 @@ pub mod Faulty
 pub mod Fuse
 pub mod Memory
 pub mod Moments
+pub mod Commits

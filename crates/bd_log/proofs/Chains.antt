@@ -6,7 +6,8 @@ use Rattle.std.specs.List.{concat, AllByRecursion}
 use Rattle.std.specs.Prelude.{slice_index}
 use Rattle.bd_device.specs.Blocks.{Image}
 use Rattle.bd_log.specs.Batches.{IsRecord, IsBatchAt, LeadsTo, AreBatches, records_in, blocks_for, body_blocks, header_bytes, body_bytes}
-use Rattle.bd_log.specs.Commits.{SameOutside, IsCommitted, IsWhole, IsNoneOrWhole, WasWritten, bytes_at}
+use Rattle.bd_device.specs.Commits.{IsCommitted}
+use Rattle.bd_log.specs.Commits.{SameOutside, IsWhole, IsNoneOrWhole, WasWritten, bytes_at}
 use Rattle.bd_log.specs.Logs.{LogState, IsBuffer, HasAll, IsSyncing, IsSynced, batches_of, place_after, after_sync}
 use Rattle.bd_log.specs.declared.batch.Batch.{Batch}
 use Rattle.bd_log.proofs.Buffers.{length-records_in, waiting_size, fits_half, body_is, sealed_length, take_take}

@@ -10,7 +10,8 @@ use Rattle.std.specs.Prelude.{IfSome, slice_index}
 use Rattle.bd_device.specs.Blocks.{Image, HasBlocks, with_block, ChangesOnly}
 use Rattle.bd_device.specs.Moments.{Elapses, TornAt}
 use Rattle.bd_device.proofs.Moments.{goes_on, within, after}
-use Rattle.bd_log.specs.Commits.{SameOutside, KeepsOutside, ChangedWithin, bytes_at, IsCommitted, IsWhole, IsNoneOrWhole, WasWritten}
+use Rattle.bd_device.specs.Commits.{IsCommitted}
+use Rattle.bd_log.specs.Commits.{SameOutside, KeepsOutside, ChangedWithin, bytes_at, IsWhole, IsNoneOrWhole, WasWritten}
 
 -- fewer first items agree too
 pub take_fewer : {A : Type 0} (n m : ℕ) (xs ys : List A) → n ≤ m → take m xs ≡ take m ys → take n xs ≡ take n ys

@@ -1,5 +1,5 @@
 -- One batch stands at a place, and so one list of batches in a half.
-use Rattle.std.proofs.Common.{◌≡◌, ℕ, ◌+◌, ◌-◌, ◌*◌, ◌^◌, ◌<◌, ◌≤◌, List, [], ◌∷◌, ◌++◌, length, take, drop, refl, sym, ap, subst, ◌∙◌, arith, append_assoc, append-nil, length-append, ◌⊎◌, inl, inr}
+use Rattle.std.proofs.Common.{◌≡◌, ℕ, ◌+◌, ◌-◌, ◌*◌, ◌^◌, ◌<◌, ◌≤◌, List, [], ◌∷◌, ◌++◌, length, take, drop, refl, sym, ap, subst, ◌∙◌, arith, append_assoc, append-nil, inl, inr}
 use Rattle.std.proofs.lemmas.Bool.{cases_lt}
 use Rattle.std.proofs.lemmas.List.{take_at}
 use Rattle.std.proofs.lemmas.List.Folds.{concat-append}
@@ -7,8 +7,9 @@ use Rattle.std.proofs.Math.Seq.{take-add}
 use Rattle.std.specs.List.{concat, AllByRecursion}
 use Rattle.bd_device.specs.Blocks.{Image}
 use Rattle.bd_wire.specs.Text.{zeros}
-use Rattle.bd_log.specs.Batches.{IsRecord, IsBatchAt, LeadsTo, AreBatches, IsDamagedAt, records_in, body_blocks, header_bytes, body_bytes}
-use Rattle.bd_log.specs.Commits.{IsCommitted, bytes_at}
+use Rattle.bd_log.specs.Batches.{IsRecord, IsBatchAt, LeadsTo, records_in, body_blocks, header_bytes, body_bytes}
+use Rattle.bd_device.specs.Commits.{IsCommitted}
+use Rattle.bd_log.specs.Commits.{bytes_at}
 use Rattle.bd_log.specs.declared.batch.Batch.{Batch}
 use Rattle.bd_log.proofs.Buffers.{records_in-concat, records_size}
 use Rattle.bd_log.proofs.Headers.{headers_same}

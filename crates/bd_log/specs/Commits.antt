@@ -1,7 +1,8 @@
 -- What a crash may leave while blocks are written and committed.
-use Rattle.std.specs.Prelude.{◌≡◌, ℕ, ◌+◌, ◌⊎◌, List, [], Option, None, Some, take, drop, slice_index, slice_index_or}
+use Rattle.std.specs.Prelude.{◌≡◌, ℕ, ◌+◌, ◌⊎◌, List, Option, None, Some, take, drop}
 use Rattle.std.specs.List.{concat}
 use Rattle.bd_device.specs.Blocks.{Image}
+use Rattle.bd_device.specs.Commits.{IsCommitted}
 
 -- two images agree outside a range of blocks, which begins at `from` and ends before `to`
 pub record SameOutside (from to : ℕ) (old new : Image) : Type 0 where
@@ -21,10 +22,6 @@ ChangedWithin from to before c = (d : Image) × before d × SameOutside from to 
 -- the bytes of so many blocks in a row
 abbrev pub bytes_at : Image → ℕ → ℕ → List ℕ
 bytes_at image b count = concat (take count (drop b image))
-
--- a commit block is committed exactly where its first byte is 1
-abbrev pub IsCommitted : Image → ℕ → Type 0
-IsCommitted image b = slice_index (slice_index_or image b []) 0 ≡ 1
 
 -- The commit block is committed, the blocks after it have these bytes, and the commit block after
 -- them isn't committed.

@@ -2,7 +2,8 @@
 use Rattle.std.proofs.Common.{◌≡◌, ℕ, inl, inr, sym, ap, subst, ◌∙◌, arith}
 use Rattle.bd_device.specs.Blocks.{Image}
 use Rattle.bd_super.specs.Superblocks.{commit_block, other}
-use Rattle.bd_super.specs.Live.{IsCommitted, Holds, HoldsIn, IsLive, IsBad, IsNoImage, IsBadLater, IsDamaged, HasEqualEpochs}
+use Rattle.bd_device.specs.Commits.{IsCommitted}
+use Rattle.bd_super.specs.Live.{Holds, HoldsIn, IsLive, IsBad, IsNoImage, IsBadLater, IsDamaged, HasEqualEpochs}
 use Rattle.bd_super.specs.declared.superblock.Half.{Half}
 use Rattle.bd_super.specs.declared.superblock.Half.TheVariants.{A, B}
 use Rattle.bd_super.specs.declared.superblock.Super.{Super}

@@ -4,7 +4,8 @@ use Rattle.std.proofs.lemmas.Option.{get_or_from_slice_get}
 use Rattle.bd_slots.specs.Layout.{image_blocks}
 use Rattle.bd_device.specs.Blocks.{Image, HasBlocks}
 use Rattle.bd_super.specs.Superblocks.{IsReadAs, commit_block, body_block}
-use Rattle.bd_super.specs.Live.{block_at, IsBad, IsHalf}
+use Rattle.bd_device.specs.Commits.{block_at}
+use Rattle.bd_super.specs.Live.{IsBad, IsHalf}
 use Rattle.bd_super.specs.declared.superblock.Half.{Half}
 use Rattle.bd_super.specs.declared.superblock.Super.{Super}
 use Rattle.bd_super.proofs.Bodies.{one_super}

@@ -4,7 +4,8 @@ use Rattle.std.specs.Prelude.{slice_index, slice_set}
 use Rattle.std.proofs.lemmas.List.{get_or-set_other, get_or-set_same}
 use Rattle.bd_device.specs.Blocks.{Image}
 use Rattle.bd_super.specs.Superblocks.{commit_block, body_block, other}
-use Rattle.bd_super.specs.Live.{block_at, IsCommitted, Holds, IsLive}
+use Rattle.bd_device.specs.Commits.{block_at, IsCommitted}
+use Rattle.bd_super.specs.Live.{Holds, IsLive}
 use Rattle.bd_super.specs.Published.{SameLive, SameSuperblocks}
 use Rattle.bd_super.specs.declared.superblock.Half.{Half}
 use Rattle.bd_super.specs.declared.superblock.Half.TheVariants.{A, B}

@@ -7,7 +7,8 @@ use Rattle.bd_slots.specs.Layout.{image_blocks}
 use Rattle.bd_device.specs.Blocks.{Image, HasBlocks, with_block}
 use Rattle.bd_device.specs.Moments.{TornAt}
 use Rattle.bd_super.specs.Superblocks.{IsSuper, body_bytes, commit_block, body_block, log_block, other}
-use Rattle.bd_super.specs.Live.{block_at, IsCommitted, HoldsOlder, NoneIsCommitted}
+use Rattle.bd_device.specs.Commits.{block_at, IsCommitted}
+use Rattle.bd_super.specs.Live.{HoldsOlder, NoneIsCommitted}
 use Rattle.bd_super.specs.Published.{IsOfHalf, SameOutside, StaysOutside, IsStaged, IsPublished, IsStagedOrPublished, CanFollow}
 use Rattle.bd_super.specs.declared.superblock.Half.{Half}
 use Rattle.bd_super.specs.declared.superblock.Half.TheVariants.{A, B}

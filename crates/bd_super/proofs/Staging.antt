@@ -6,7 +6,8 @@ use Rattle.std.proofs.lemmas.Bool.{cases_eq}
 use Rattle.bd_device.specs.Blocks.{Image, HasBlocks, with_block}
 use Rattle.bd_device.specs.Moments.{TornAt}
 use Rattle.bd_super.specs.Superblocks.{commit_block, body_block, log_block, other}
-use Rattle.bd_super.specs.Live.{block_at, IsCommitted, Holds, IsLive}
+use Rattle.bd_device.specs.Commits.{block_at, IsCommitted}
+use Rattle.bd_super.specs.Live.{Holds, IsLive}
 use Rattle.bd_super.specs.Published.{IsOfHalf, StaysOutside, SameLive, IsStaged, AreSettled, IsLiveBeside}
 use Rattle.bd_super.specs.declared.superblock.Half.{Half}
 use Rattle.bd_super.specs.declared.superblock.Half.TheVariants.{A, B}

@@ -1,20 +1,13 @@
 -- What an image has of superblocks, and which one it starts from.
-use Rattle.std.specs.Prelude.{◌≡◌, ◌<◌, ◌⊎◌, ℕ, List, [], length, slice_index, slice_index_or, Option, Some, None}
+use Rattle.std.specs.Prelude.{◌≡◌, ◌<◌, ◌⊎◌, ℕ, length, Option, Some, None}
 use Rattle.bd_limits.specs.Limits.{slot_minimum}
 use Rattle.bd_slots.specs.Layout.{image_blocks}
 use Rattle.bd_device.specs.Blocks.{Image}
+use Rattle.bd_device.specs.Commits.{block_at, IsCommitted}
 use Rattle.bd_super.specs.Superblocks.{IsSuper, body_bytes, commit_block, body_block, other}
 use Rattle.bd_super.specs.declared.superblock.Half.{Half}
 use Rattle.bd_super.specs.declared.superblock.Half.TheVariants.{A, B}
 use Rattle.bd_super.specs.declared.superblock.Super.{Super}
-
--- the bytes of a block
-abbrev pub block_at : Image → ℕ → List ℕ
-block_at image b = slice_index_or image b []
-
--- the commit block is committed: its first byte is 1
-abbrev pub IsCommitted : Image → ℕ → Type 0
-IsCommitted image b = slice_index (block_at image b) 0 ≡ 1
 
 -- no half is committed
 abbrev pub NoneIsCommitted : Image → Type 0

@@ -3,7 +3,8 @@ use Rattle.std.specs.Prelude.{◌≡◌, ◌<◌, ◌⊎◌, ◌↔◌, ℕ, len
 use Rattle.bd_io.specs.Cause.{next_count}
 use Rattle.bd_device.specs.Blocks.{Image}
 use Rattle.bd_device.specs.Moments.{Nothing, Elapses}
-use Rattle.bd_super.specs.Live.{block_at, IsCommitted, IsLive, NoneIsCommitted}
+use Rattle.bd_device.specs.Commits.{block_at, IsCommitted}
+use Rattle.bd_super.specs.Live.{IsLive, NoneIsCommitted}
 use Rattle.bd_super.specs.Superblocks.{commit_block, body_block, log_block, other}
 use Rattle.bd_super.specs.declared.superblock.Half.{Half}
 use Rattle.bd_super.specs.declared.superblock.Super.{Super}

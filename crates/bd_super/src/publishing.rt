@@ -6,7 +6,7 @@ ghost use Rattle.bd_slots.specs.Layout.{image_blocks};
 ghost use Rattle.bd_device.specs.Blocks.{HasBlocks, with_block, ChangesOnly};
 ghost use Rattle.bd_device.specs.Calls.{write_faults_after};
 ghost use Rattle.bd_device.specs.Moments.{Nothing, TornAt, Elapses, IsOnly};
-ghost use Rattle.bd_super.specs.Live.{IsCommitted};
+ghost use Rattle.bd_device.specs.Commits.{IsCommitted};
 ghost use Rattle.bd_super.specs.Published.{AreSettled, CanFollow, CountsWrites, IsLiveBeside, IsUnwritten, IsPublished, IsStaged, IsStagedOrPublished, StaysOutside};
 ghost use Rattle.bd_super.specs.Superblocks.{IsSuper, commit_block};
 

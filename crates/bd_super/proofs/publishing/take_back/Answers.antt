@@ -4,7 +4,7 @@ use Rattle.bd_device.specs.Blocks.{Image}
 use Rattle.bd_device.specs.Moments.{Nothing, TornAt, Elapses}
 use Rattle.bd_device.proofs.Moments.{goes_on, within, after}
 use Rattle.bd_super.specs.Superblocks.{commit_block}
-use Rattle.bd_super.specs.Live.{IsCommitted}
+use Rattle.bd_device.specs.Commits.{IsCommitted}
 use Rattle.bd_super.specs.Published.{IsStaged, StaysOutside}
 use Rattle.bd_super.proofs.Staging.{torn_back, written_closed, outside_written, either_way, read_committed}
 use Rattle.bd_super.proofs.publishing.take_back.Goals as goal
