@@ -26,4 +26,6 @@ mod script;
 #[cfg(test)]
 mod slots;
 #[cfg(test)]
+mod volume;
+#[cfg(test)]
 mod wire;
