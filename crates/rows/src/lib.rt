@@ -32,6 +32,8 @@ mod names;
 #[cfg(test)]
 mod nodes;
 #[cfg(test)]
+mod numbers;
+#[cfg(test)]
 mod plain;
 #[cfg(test)]
 mod records;
@@ -41,5 +43,7 @@ mod script;
 mod slots;
 #[cfg(test)]
 mod superblock;
+#[cfg(test)]
+mod volume;
 #[cfg(test)]
 mod wire;

@@ -1,0 +1,124 @@
+//! A volume and the plain program answer lines alike, which are made by a fixed rule.
+
+use crate::numbers::Numbers;
+use crate::plain::text_of;
+use bd_device::MemDevice;
+use bd_limits::MAX_WRITE;
+use bd_plain::PlainTree;
+use bd_script::{Line, read_line};
+use bd_volume::{Refused, Volume};
+use std::alloc::{AllocError, Global};
+use std::test::Fail;
+
+/// The paths of the lines. Names of some begin others.
+const PATHS: &[&str] = &[
+    "/", "/a", "/ab", "/a.b", "/a/a", "/a/ab", "/a/b", "/a/b/a", "/b", "/b/a", "/b/a/b", "/b/ab",
+    "/ab/a", "/a.b/a",
+];
+
+/// The verbs of the lines, each as often as it comes.
+const VERBS: &[&str] = &[
+    "mkdir", "mkdir", "mkdir", "create", "create", "write", "write", "write", "truncate",
+    "truncate", "remove", "rename", "clone", "clone", "read", "read", "stat", "list", "after",
+];
+
+/// Offsets and lengths, about the borders of blocks.
+const PLACES: &[u32] = &[
+    0, 1, 5, 1_022, 1_023, 1_024, 1_025, 2_047, 2_048, 2_049, 3_000, 4_096,
+];
+
+impl Numbers {
+    /// The digits of 1 to 2,048 bytes, the same ones.
+    fn digits(&mut self, alloc: Global) -> Result<String, Fail> {
+        let len = (*self.pick(PLACES)? as usize).clamp(1, MAX_WRITE);
+        let byte = *self.pick(&["00", "07", "61", "ff"])?;
+        Ok(repeated(alloc, byte, len)?)
+    }
+
+    /// What follows a verb and a path.
+    fn rest(&mut self, alloc: Global, verb: &str) -> Result<String, Fail> {
+        Ok(match verb {
+            "write" => {
+                let off = *self.pick(PLACES)?;
+                let digits = self.digits(alloc)?;
+                format!(in alloc; " {off} {digits}")?
+            }
+            "read" => {
+                let off = *self.pick(PLACES)?;
+                let len = *self.pick(PLACES)?;
+                format!(in alloc; " {off} {len}")?
+            }
+            "truncate" => format!(in alloc; " {}", *self.pick(PLACES)?)?,
+            "rename" | "clone" => format!(in alloc; " {}", *self.pick(PATHS)?)?,
+            "after" => String::from_str(alloc, " a")?,
+            _ => String::new(alloc),
+        })
+    }
+
+    /// A line.
+    fn line(&mut self, alloc: Global) -> Result<String, Fail> {
+        let verb = *self.pick(VERBS)?;
+        let path = *self.pick(PATHS)?;
+        let rest = self.rest(alloc, verb)?;
+        let word = if verb == "after" { "list" } else { verb };
+        Ok(format!(in alloc; "{word} {path}{rest}")?)
+    }
+}
+
+/// A text, `count` times.
+fn repeated(alloc: Global, text: &str, count: usize) -> Result<String, AllocError> {
+    let mut all = String::new(alloc);
+    for _ in 0..count {
+        all.push_str(text)?;
+    }
+    Ok(all)
+}
+
+/// A volume on a device that isn't called.
+fn started(alloc: Global) -> Result<Volume<MemDevice>, Fail> {
+    let device = MemDevice::new(alloc, 1, 0, &[])?;
+    match Volume::start(alloc, device) {
+        Ok(volume) => Ok(volume),
+        Err(Refused { .. }) => Err(Fail::new("no volume")),
+    }
+}
+
+/// Whether a volume and the plain program answer a line alike.
+fn alike(
+    alloc: Global,
+    volume: &mut Volume<MemDevice>,
+    tree: &mut PlainTree,
+    line: &str,
+) -> Result<bool, Fail> {
+    let Ok(Line::Run(command)) = read_line(alloc, line.as_bytes()) else {
+        return Err(Fail::new("no command"));
+    };
+    let found = volume.do_command(alloc, &command)?;
+    let want = tree.step(alloc, &command)?;
+    Ok(text_of(alloc, &found)?.as_str() == text_of(alloc, &want)?.as_str())
+}
+
+#[test]
+fn a_volume_answers_as_the_plain_program_does(rt: HostRuntime) -> Result<(), Fail> {
+    let mut volume = started(rt.alloc())?;
+    let mut tree = PlainTree::new(rt.alloc())?;
+    let mut numbers = Numbers(1);
+    for _ in 0..600 {
+        let line = numbers.line(rt.alloc())?;
+        let is_alike = alike(rt.alloc(), &mut volume, &mut tree, &line)?;
+        assert!(rt; is_alike, "{line}");
+    }
+    for path in PATHS {
+        for (verb, rest) in [
+            ("stat", ""),
+            ("list", ""),
+            ("read", " 0 4096"),
+            ("read", " 4096 4096"),
+        ] {
+            let line = format!(in rt.alloc(); "{verb} {path}{rest}")?;
+            let is_alike = alike(rt.alloc(), &mut volume, &mut tree, &line)?;
+            assert!(rt; is_alike, "{line}");
+        }
+    }
+    Ok(())
+}
