@@ -1,3 +1,4 @@
 mod BitLemmas
+pub mod Filled
 mod FlagLemmas
 pub mod Items

@@ -4,6 +4,7 @@ use Rattle.std.specs.Int.{w32}
 use Rattle.std.specs.List.{flat_map}
 use Rattle.std.proofs.lemmas.List.{length-replicate, drop_all}
 use Rattle.bd_slots.specs.Layout.{IsSlotCount, IsTablePlace}
+use Rattle.bd_slots.proofs.Filled.{filled_array}
 use Rattle.bd_slots.proofs.Items.{items_alone, length-items}
 use Rattle.bd_wire.specs.Numbers.{be, FitsWidth}
 use Rattle.bd_wire.specs.Text.{zeros, AreZeros}
@@ -122,9 +123,7 @@ one_super a b is_a is_b half e =
 
 -- a body fills the block into which it is put
 pub filled : (old new : Out) (s : Super) → Puts old new (body_bytes s) → IsSuper s → written old ≡ [] → length (room old) ≡ 4096 → new.bytes.now ≡ body_bytes s
-filled old new s puts is none space =
-    let after : room new ≡ [] = puts.room ∙ drop_all (length (body_bytes s)) (room old) (omega (arith, space, length-body s is)) in
-    array_is new ∙ ap (λ l. written new ++ l) after ∙ append-nil (written new) ∙ puts.written ∙ ap (λ w. w ++ body_bytes s) none
+filled old new s puts is none space = filled_array old new (body_bytes s) puts none (omega (arith, space, length-body s is))
 
 -- without a head there is no body
 pub no_head : (block : List ℕ) (s : Super) → ((slots epoch count table : ℕ) (rest : List ℕ) → block ≢ head_bytes slots epoch count table ++ rest) → block ≢ body_bytes s

@@ -20,18 +20,18 @@ hold_free slots taken flags x lt are = record {
   free = λ k inside. elim (cases_eq k x) [
     | inl same ↦ (
       λ is. absurd (true≢false (sym (get_or_from_slice_get (slice_set flags x false) k true false is) ∙ ap (λ i. get_or (slice_set flags x false) i false) same
-        ∙ get_or-set_same flags x false false (omega (arith, lt, are.count)))),
+          ∙ get_or-set_same flags x false false (omega (arith, lt, are.count)))),
       λ others. absurd (others (length taken) x (omega (arith, length-append taken (x ∷ []))) (get_or-append_seam taken x [] x ∙ sym same)),
     )
     | inr ne ↦
-    let there : get_or (slice_set flags x false) k false ≡ get_or flags k false = get_or-set_other flags x k false false ne in
-    let old : slice_get flags k ≡ Some (get_or flags k false) = slice_get-get_or flags k false (omega (arith, inside, are.count)) in
-    let new : slice_get (slice_set flags x false) k ≡ Some (get_or (slice_set flags x false) k false) =
-    slice_get-get_or (slice_set flags x false) k false (omega (arith, inside, are.count, length-set flags x false)) in
-    let same : slice_get (slice_set flags x false) k ≡ slice_get flags k = new ∙ ap Some there ∙ sym old in (
-      λ is. All-push (λ other. other ≢ k) taken x ((are.free k inside).0 (sym same ∙ is)) (λ e. ne (sym e)),
-      λ others. same ∙ (are.free k inside).1 (λ i d before. λ e. others i d (omega (arith, before, length-append taken (x ∷ []))) (get_or-append taken (x ∷ []) d i before ∙ e)),
-    )
+        let there : get_or (slice_set flags x false) k false ≡ get_or flags k false = get_or-set_other flags x k false false ne in
+        let old : slice_get flags k ≡ Some (get_or flags k false) = slice_get-get_or flags k false (omega (arith, inside, are.count)) in
+        let new : slice_get (slice_set flags x false) k ≡ Some (get_or (slice_set flags x false) k false) =
+        slice_get-get_or (slice_set flags x false) k false (omega (arith, inside, are.count, length-set flags x false)) in
+        let same : slice_get (slice_set flags x false) k ≡ slice_get flags k = new ∙ ap Some there ∙ sym old in (
+          λ is. All-push (λ other. other ≢ k) taken x ((are.free k inside).0 (sym same ∙ is)) (λ e. ne (sym e)),
+          λ others. same ∙ (are.free k inside).1 (λ i d before. λ e. others i d (omega (arith, before, length-append taken (x ∷ []))) (get_or-append taken (x ∷ []) d i before ∙ e)),
+        )
   ];
 }
 
@@ -62,7 +62,7 @@ next_differs slots at entries i d lt differ =
     ap (λ l. at ++ l) (sym (take-map (λ (e : TableEntry). e.slot) i entries)) ∙ sym (take-append-add at (slots_of entries) i) in (
       subst (λ n. n < slots) (here 0) (differ.below place 0 (omega (arith, lt, total))),
       subst (λ l. All (λ other. other ≢ x) l) (sym front)
-        (λ k z before.
+          (λ k z before.
           let inside : k < place = omega (arith, before, length-take-le place all (omega (arith, lt, total))) in
           λ e. differ.different k place z inside (omega (arith, lt, total)) (sym (get_or-take place all k z inside) ∙ e ∙ sym (here z))),
     )
@@ -78,9 +78,9 @@ rising_more entries n e first inside so_far next i j d before lt =
     elim (cases_eq j n) [
       | inr ne ↦ so_far i j d before (omega (arith, ne, lt))
       | inl is ↦
-      subst (λ k. (get_or entries i d).id < (get_or entries k d).id) (sym is)
-      (elim (cases_eq i (n - 1)) [
-        | inl here ↦ subst (λ k. (get_or entries k d).id < (get_or entries n d).id) (sym here) last
-        | inr ne ↦ omega (arith, last, so_far i (n - 1) d (omega (arith, ne, before, is)) (omega (arith, first)))
-      ])
+          subst (λ k. (get_or entries i d).id < (get_or entries k d).id) (sym is)
+          (elim (cases_eq i (n - 1)) [
+            | inl here ↦ subst (λ k. (get_or entries k d).id < (get_or entries n d).id) (sym here) last
+            | inr ne ↦ omega (arith, last, so_far i (n - 1) d (omega (arith, ne, before, is)) (omega (arith, first)))
+          ])
     ]

@@ -1,3 +1,5 @@
 pub mod BlockLemmas
 pub mod FreeLemmas
 pub mod TableLemmas
+pub mod WordLemmas
+pub mod WriteLemmas

@@ -100,7 +100,7 @@ head_fits slots at t is =
     let below : r.1.id < t.next_id = subst (λ (e : TableEntry). e.id < t.next_id) r.3 (is.entries.below_next r.0 r.1 r.2) in
     (omega (arith, is.entries.most), is.last_id, omega (arith, below, r.4.0, is.last_id))
 
-length-entries : (entries : List TableEntry) → length (flat_map entry_bytes entries) ≡ 24 * length entries
+pub length-entries : (entries : List TableEntry) → length (flat_map entry_bytes entries) ≡ 24 * length entries
 length-entries entries = length-items entry_bytes 24 length-entry entries
 
 -- what a head is followed by in a table is its entries and zeros

@@ -8,7 +8,9 @@ mod codec;
 mod fault;
 mod reading;
 mod table;
+mod writing;
 
 pub use fault::TableFault;
 pub use reading::read;
 pub use table::{Table, TableEntries, TableEntry};
+pub use writing::write;

@@ -15,7 +15,7 @@ use bd_slots::slot_block;
 use std::alloc::Global;
 
 // The blocks of a slot.
-const BLOCKS: usize = 16;
+pub(crate) const BLOCKS: usize = 16;
 
 /// Reads the table that takes the slots `at` of an image of `slots` slots. `DeviceFault` comes only
 /// where the device's count of faults rose or stands at its last value. `Damaged` comes exactly
@@ -47,7 +47,9 @@ pub fn read<D: Device>(
     let bytes = read_slots(alloc, dev, at)?;
     match Table::decode(alloc, slots, at, bytes.as_slice())? {
         Some(table) => Ok(table),
-        None => Err(TableFault::Damaged { block: slot_block(at[0]) }),
+        None => Err(TableFault::Damaged {
+            block: slot_block(at[0]),
+        }),
     }
 }
 

@@ -15,12 +15,12 @@ returns-then-entry-slots c =
     let d : TableEntry = record { id = 0; refs = 0; slot = 0; level = 0 } in (
       λ e. absurd (true≢false (sym e)),
       λ differ.
-        let next = next_differs c.args.slots at entries i d c.loop-entry-test.true differ in
-        elim c.then-entry-slots.branch [
-          | then-entry-slots-via-then-entry-slots w ↦ absurd (omega (arith, next.0, w.if-entry-slots.true))
-          | then-entry-slots-via-else-entry-slots+then-not-is_free w ↦
-          absurd (true≢false (sym (w.is_free.ensures.1 ((c.loop-entry.invariant.free.free (get_or entries i d).slot next.0).1 next.1)) ∙ w.if-not-is_free.true))
-        ],
+          let next = next_differs c.args.slots at entries i d c.loop-entry-test.true differ in
+          elim c.then-entry-slots.branch [
+            | then-entry-slots-via-then-entry-slots w ↦ absurd (omega (arith, next.0, w.if-entry-slots.true))
+            | then-entry-slots-via-else-entry-slots+then-not-is_free w ↦
+                absurd (true≢false (sym (w.is_free.ensures.1 ((c.loop-entry.invariant.free.free (get_or entries i d).slot next.0).1 next.1)) ∙ w.if-not-is_free.true))
+          ],
     )
 
 pub loop-entry-preserved : goal.loop-entry-preserved

@@ -8,5 +8,12 @@ use Rattle.bd_table.proofs.codec.read_entries.Goals as goal
 pub returns-in-Err-clause-short : goal.returns-in-Err-clause-short
 returns-in-Err-clause-short c =
     let entries = c.loop.entries.items in
-    omega (arith, c.loop-test.true, c.in-Err.ensures.short, ap length c.loop.invariant.read.front, c.loop.invariant.count, length-items entry_bytes 24 length-entry entries,
-      length-append (flat_map entry_bytes entries) c.loop.cursor.left)
+    omega (
+      arith,
+      c.loop-test.true,
+      c.in-Err.ensures.short,
+      ap length c.loop.invariant.read.front,
+      c.loop.invariant.count,
+      length-items entry_bytes 24 length-entry entries,
+      length-append (flat_map entry_bytes entries) c.loop.cursor.left,
+    )

@@ -32,7 +32,7 @@ returns-then-is_table c =
     let front = subst (λ n. c.args.bytes.now ≡ head_bytes n h.next_id h.root ++ left) (sym count ∙ ap length (sym made)) (sym c.new-cursor.ensures.left ∙ found.front) in (
       c.in_ok-is_table.ensures.0 c.if-is_table.true,
       table_whole (length c.args.at.now) t c.args.bytes.now left after c.requires.whole front (subst (λ l. left ≡ flat_map entry_bytes l ++ after) (sym made) items.front)
-        (c.rest_is_zero.ensures.0 c.if-rest_is_zero.true),
+          (c.rest_is_zero.ensures.0 c.if-rest_is_zero.true),
     )
 
 pub returns-else-rest_is_zero : goal.returns-else-rest_is_zero
@@ -51,6 +51,6 @@ returns-else-rest_is_zero c = λ t is e.
     let is_t : made ≡ t = same_table made t head.1 head.2 (c.from_vec.ensures ∙ same.0) in
     elim c.else-rest_is_zero.branch [
       | else-rest_is_zero-via-then-rest_is_zero+else-is_table w ↦
-      true≢false (sym (c.in_ok-is_table.ensures.1 (subst (IsTable c.args.slots c.args.at.now) (sym is_t) is)) ∙ w.if-is_table.false)
+          true≢false (sym (c.in_ok-is_table.ensures.1 (subst (IsTable c.args.slots c.args.at.now) (sym is_t) is)) ∙ w.if-is_table.false)
       | else-rest_is_zero-via-else-rest_is_zero w ↦ true≢false (sym (c.rest_is_zero.ensures.1 same.1) ∙ w.if-rest_is_zero.false)
     ]

@@ -1,0 +1,117 @@
+//! A table is written to its slots.
+
+ghost use Rattle.std.specs.Prelude.{◌≡◌, ◌<◌, ◌≤◌, ◌*◌, ℕ, List, length, slice_index_or, IfSome, OnOk};
+ghost use Rattle.bd_io.specs.Cause.{HasCause};
+ghost use Rattle.bd_slots.specs.Layout.{IsTablePlace, image_blocks};
+ghost use Rattle.bd_device.specs.Calls.{write_faults_after};
+ghost use Rattle.bd_device.specs.Moments.{Elapses};
+ghost use Rattle.bd_wire.specs.Text.{zeros};
+ghost use Rattle.bd_wire.specs.Writing.{Puts, room};
+ghost use Rattle.bd_table.specs.Image.{HoldsTable, IsBeforeElsewhere, StaysElsewhere, block_total};
+ghost use Rattle.bd_table.specs.Tables.{IsTable};
+ghost use Rattle.bd_table.specs.Words.{entry_word, entry_words, part, word_at};
+
+use crate::codec::MAGIC;
+use crate::reading::{BLOCKS, table_block};
+use crate::{Table, TableEntry};
+use bd_device::{BLOCK_SIZE, Device};
+use bd_io::Failed;
+use bd_wire::Out;
+
+// The words of a block.
+const WORDS: usize = 512;
+
+/// Writes a table to the slots `at` of an image of `slots` slots, without a barrier: until one
+/// succeeds a crash may leave any bytes there. It takes no memory. `Failed` comes only where the
+/// device's count of faults rose or stands at its last value.
+pub fn write<D: Device>(dev: &mut D, slots: u32, at: &[u32], table: &Table) -> Result<(), Failed>
+    requires place { IsTablePlace slots at.now }
+    requires table { IsTable slots at.now table.now }
+    requires size { D.block_count dev.old ≡ image_blocks slots }
+    ensures written { OnOk result (IfSome (D.contents dev.new)
+        (λ image. HoldsTable image slots at.now table.now)) }
+    ensures elsewhere { StaysElsewhere at.now (D.contents dev.old) (D.contents dev.new) }
+    ensures time { Elapses (D.call_count dev.old) (D.call_count dev.new)
+        (D.left_since dev.old) (D.left_since dev.new)
+        (IsBeforeElsewhere at.now (D.left_since dev.old (D.call_count dev.old))) }
+    ensures cause { HasCause (D.fault_count dev.old) (D.fault_count dev.new) result }
+    ensures write_faults { D.write_fault_count dev.new
+        ≡ write_faults_after (D.write_fault_count dev.old) result }
+    ensures count { D.block_count dev.new ≡ D.block_count dev.old }
+    ensures same_name { (name : List ℕ) → D.is_named dev.old name → D.is_named dev.new name }
+    ensures same_loans { D.loans dev.new ≡ D.loans dev.old }
+{
+    for k in 0..BLOCKS * at.len() {
+        dev.write(table_block(at, k), &table.part(at.len(), k))?;
+    }
+    Ok(())
+}
+
+impl Table {
+    // The k-th block of its encoding in this many slots.
+    #[tactic(auto, using(crate::proofs::WordLemmas::filled))]
+    fn part(&self, taken: usize, k: usize) -> [u8; BLOCK_SIZE]
+        requires inside { k < 16 * taken }
+        requires few { taken < 26 }
+        ensures { result ≡ part taken self.now k }
+    {
+        let mut block = [0; BLOCK_SIZE];
+        let mut out = Out::new(&mut block);
+        self.put_part(&mut out, taken, k);
+        block
+    }
+
+    // Writes the k-th block of its encoding.
+    fn put_part(&self, out: &mut Out, taken: usize, k: usize)
+        requires inside { k < 16 * taken }
+        requires few { taken < 26 }
+        requires room { length (room out.old) ≡ 4096 }
+        ensures { Puts out.old out.new (part taken self.now k) }
+    {
+        for word in 0..WORDS {
+            self.put_word(out, WORDS * k + word);
+        }
+    }
+
+    // Writes one of its words.
+    fn put_word(&self, out: &mut Out, index: usize)
+        requires { 8 ≤ length (room out.old) }
+        ensures { Puts out.old out.new (word_at self.now index) }
+    {
+        match index {
+            0 => out.put_bytes(&MAGIC),
+            1 => out.put_u64(self.entries.as_slice().len() as u64),
+            2 => out.put_u64(self.next_id),
+            3 => out.put_u64(self.root),
+            _ => put_entry_word(out, self.entries.as_slice(), index - 4),
+        }
+    }
+}
+
+// Writes one of the words of entries.
+fn put_entry_word(out: &mut Out, entries: &[TableEntry], index: usize)
+    requires { 8 ≤ length (room out.old) }
+    ensures { Puts out.old out.new (entry_word entries.now index) }
+{
+    match entries.get(index / 3) {
+        None => out.put_bytes(&[0; 8]),
+        Some(entry) => put_word_of(out, *entry, index % 3),
+    }
+}
+
+// Writes one of the three words of an entry.
+#[tactic(auto, using(bd_wire::proofs::WritingLemmas::writing))]
+fn put_word_of(out: &mut Out, entry: TableEntry, index: usize)
+    requires room { 8 ≤ length (room out.old) }
+    requires index { index < 3 }
+    ensures { Puts out.old out.new (slice_index_or (entry_words entry) index (zeros 8)) }
+{
+    match index {
+        0 => out.put_u64(entry.id),
+        1 => out.put_u64(entry.refs),
+        _ => {
+            out.put_u32(entry.slot);
+            out.put_u32(entry.level);
+        }
+    }
+}
