@@ -57,7 +57,7 @@ pub headers_same : (blocks epoch count size blocks' epoch' count' size' : ℕ) (
     → (blocks ≡ blocks') × (count ≡ count') × (size ≡ size') × (rest ≡ after)
 headers_same blocks epoch count size blocks' epoch' count' size' rest after b e c s b' e' c' s' same =
     let all = head_alone ((((magic, blocks), epoch), count), size) ((((magic, blocks'), epoch'), count'), size') rest after
-      ((((omega arith, omega arith), omega arith), omega arith), omega arith) ((((omega arith, omega arith), omega arith), omega arith), omega arith) same in
+    ((((omega arith, omega arith), omega arith), omega arith), omega arith) ((((omega arith, omega arith), omega arith), omega arith), omega arith) same in
     (ap (λ (v : (((ℕ × ℕ) × ℕ) × ℕ) × ℕ). v.0.0.0.1) all.0, ap (λ (v : (((ℕ × ℕ) × ℕ) × ℕ) × ℕ). v.0.1) all.0, ap (λ (v : (((ℕ × ℕ) × ℕ) × ℕ) × ℕ). v.1) all.0, all.1)
 
 -- a body fills its blocks

@@ -17,9 +17,10 @@ use Rattle.bd_log.proofs.Headers.{headers_same}
 -- fewer blocks are the first ones of more
 bytes_front : (image : Image) (b few many : ℕ) → few ≤ many → (more : List ℕ) × (bytes_at image b many ≡ bytes_at image b few ++ more)
 bytes_front image b few many le =
-    let sum : few + (many - few) ≡ many = omega arith in
-    (concat (take (many - few) (drop few (drop b image))),
-    ap (λ n. bytes_at image b n) (sym sum) ∙ ap concat (take-add few (many - few) (drop b image)) ∙ concat-append (take few (drop b image)) (take (many - few) (drop few (drop b image))))
+    let sum : few + (many - few) ≡ many = omega arith in (
+      concat (take (many - few) (drop few (drop b image))),
+      ap (λ n. bytes_at image b n) (sym sum) ∙ ap concat (take-add few (many - few) (drop b image)) ∙ concat-append (take few (drop b image)) (take (many - few) (drop few (drop b image))),
+    )
 
 -- the records that a place has, where one body has no fewer blocks
 one_body : (image : Image) (b epoch : ℕ) (rs qs : List (List ℕ)) → epoch < 2 ^ 64 → AllByRecursion IsRecord rs → AllByRecursion IsRecord qs → body_blocks rs ≤ 62 → body_blocks qs ≤ 62
@@ -33,12 +34,12 @@ one_body image b epoch rs qs e h k few few' is is' le =
     let tail = zeros (body_blocks rs * 4096 - (24 + size)) in
     let tail' = zeros (body_blocks qs * 4096 - (24 + size')) in
     let both : header ++ (concat rs ++ (tail ++ front.0)) ≡ header' ++ (concat qs ++ tail') =
-      sym (append_assoc header (concat rs) (tail ++ front.0)) ∙ sym (append_assoc (header ++ concat rs) tail front.0)
-      ∙ ap (λ l. l ++ front.0) (sym is) ∙ sym front.1 ∙ is' ∙ append_assoc header' (concat qs) tail' in
+    sym (append_assoc header (concat rs) (tail ++ front.0)) ∙ sym (append_assoc (header ++ concat rs) tail front.0)
+    ∙ ap (λ l. l ++ front.0) (sym is) ∙ sym front.1 ∙ is' ∙ append_assoc header' (concat qs) tail' in
     let same = headers_same (body_blocks rs) epoch (length rs) size (body_blocks qs) epoch (length qs) size' (concat rs ++ (tail ++ front.0)) (concat qs ++ tail')
-      (omega arith) e (omega (arith, records_size rs h)) (omega arith) (omega arith) e (omega (arith, records_size qs k)) (omega arith) both in
+    (omega arith) e (omega (arith, records_size rs h)) (omega arith) (omega arith) e (omega (arith, records_size qs k)) (omega arith) both in
     let bytes : concat rs ≡ concat qs =
-      sym (take_at (concat rs) (tail ++ front.0) size refl) ∙ ap (take size) same.3 ∙ take_at (concat qs) tail' size (sym same.2) in
+    sym (take_at (concat rs) (tail ++ front.0) size refl) ∙ ap (take size) same.3 ∙ take_at (concat qs) tail' size (sym same.2) in
     sym (records_in-concat rs [] h) ∙ ap (records_in (length rs)) (append-nil (concat rs) ∙ bytes ∙ sym (append-nil (concat qs)))
     ∙ ap (λ n. records_in n (concat qs ++ [])) same.1 ∙ records_in-concat qs [] k
 
@@ -66,7 +67,7 @@ one_list image first epoch place (a ∷ these) [] end end' e h k closed closed' 
 one_list image first epoch place (a ∷ these) (b ∷ bs) end end' e h k closed closed' =
     let same = one_batch image first epoch place a b e h.1 k.1 in
     let rest = one_list image first epoch (place + 1 + body_blocks a.records) these bs end end' e h.2
-      (subst (λ (c : Batch). LeadsTo image first epoch (place + 1 + body_blocks c.records) bs end') (sym same) k.2) closed closed' in
+    (subst (λ (c : Batch). LeadsTo image first epoch (place + 1 + body_blocks c.records) bs end') (sym same) k.2) closed closed' in
     (ap (λ (c : Batch). c ∷ these) same ∙ ap (λ cs. b ∷ cs) rest.0, rest.1)
 
 -- a list of batches doesn't reach past a place where none stands

@@ -11,7 +11,7 @@ mod steps;
 mod store;
 
 pub use items::Items;
-pub use messages::{touches, Messages};
+pub use messages::{Messages, touches};
 pub use node::{Change, Changes, Edge, Edges, Entries, Entry, Node, Nodes, Step};
 pub use steps::Steps;
 pub use store::NodeStore;

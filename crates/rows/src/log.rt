@@ -138,7 +138,15 @@ fn a_batch_may_have_62_blocks(rt: HostRuntime) -> Result<(), Fail> {
 
 /// What isn't the body of a batch at epoch 1: another first byte, other blocks, another epoch, no
 /// records, a byte more, a byte among the zeros.
-const DAMAGED: &[(usize, u8)] = &[(0, 0x43), (7, 2), (15, 2), (19, 0), (19, 2), (23, 8), (31, 1)];
+const DAMAGED: &[(usize, u8)] = &[
+    (0, 0x43),
+    (7, 2),
+    (15, 2),
+    (19, 0),
+    (19, 2),
+    (23, 8),
+    (31, 1),
+];
 
 #[test]
 fn a_damaged_batch_is_named_by_its_block(rt: HostRuntime) -> Result<(), Fail> {

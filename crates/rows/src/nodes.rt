@@ -5,8 +5,8 @@ ghost use Rattle.std.specs.Prelude.{◌≡◌, [], ◌∷◌, IfOk};
 ghost use Rattle.bd_message.specs.declared.message.Message.TheVariants.{Goto};
 ghost use Rattle.rows.specs.Cloned.{cloned_leaf, cloned};
 
-use crate::numbers::Numbers;
 use crate::message::{apply, message};
+use crate::numbers::Numbers;
 use bd_dirs::{Plan, plan_command};
 use bd_files::put_record;
 use bd_keys::Bytes;

@@ -14,8 +14,8 @@ const NONE: [u64; 0] = [];
 /// zeros: `BDSUPER1`, the version, the slots, the epoch, the count, the number of the table's slots
 /// and the slot.
 const FIRST: [u8; 40] = [
-    0x42, 0x44, 0x53, 0x55, 0x50, 0x45, 0x52, 0x31, 0, 0, 0, 1, 0, 0, 0, 24, 0, 0, 0, 0, 0, 0, 0, 1,
-    0, 0, 0, 0, 0, 0, 0, 0, 0, 0, 0, 1, 0, 0, 0, 1,
+    0x42, 0x44, 0x53, 0x55, 0x50, 0x45, 0x52, 0x31, 0, 0, 0, 1, 0, 0, 0, 24, 0, 0, 0, 0, 0, 0, 0,
+    1, 0, 0, 0, 0, 0, 0, 0, 0, 0, 0, 0, 1, 0, 0, 0, 1,
 ];
 
 // A superblock of an image of 24 slots.

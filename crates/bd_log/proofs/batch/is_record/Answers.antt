@@ -15,11 +15,12 @@ pub returns-in-Ok : goal.returns-in-Ok
 returns-in-Ok c =
     let text = c.in-Ok._text.now in
     let left = c.text16.new.self.left in
-    let read = sym c.new-cursor.ensures.left ∙ c.in-Ok.ensures.read.front in
-    (λ is. let none : left ≡ [] = nil_from left (sym is ∙ c.is_empty.ensures ∙ ap (λ l. length l == 0) c.left.ensures) in
-      (text, c.in-Ok.ensures.fits, read ∙ ap (λ l. text16 text ++ l) none ∙ append-nil (text16 text)),
-    λ h. let none = IsPrefixFree-text16 text h.0 left [] c.in-Ok.ensures.fits h.1 (sym read ∙ h.2 ∙ sym (append-nil (text16 h.0))) in
-      c.is_empty.ensures ∙ ap (λ l. length l == 0) (c.left.ensures ∙ none.1))
+    let read = sym c.new-cursor.ensures.left ∙ c.in-Ok.ensures.read.front in (
+      λ is. let none : left ≡ [] = nil_from left (sym is ∙ c.is_empty.ensures ∙ ap (λ l. length l == 0) c.left.ensures) in
+          (text, c.in-Ok.ensures.fits, read ∙ ap (λ l. text16 text ++ l) none ∙ append-nil (text16 text)),
+      λ h. let none = IsPrefixFree-text16 text h.0 left [] c.in-Ok.ensures.fits h.1 (sym read ∙ h.2 ∙ sym (append-nil (text16 h.0))) in
+          c.is_empty.ensures ∙ ap (λ l. length l == 0) (c.left.ensures ∙ none.1),
+    )
 
 pub returns-in-Err : goal.returns-in-Err
 returns-in-Err c =
