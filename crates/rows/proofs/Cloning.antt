@@ -58,7 +58,7 @@ root_kept = let one : one_if 1 1 ≡ 1 = one_if-same 1 in omega arith
 pub cloned_step : IsStep new_table cloned
 cloned_step = record {
   made = (record { shape = leaf_shape; lower = tt }, tt);
-  changes = (record { kept = root_kept; put = record { shape = root_shape; lower = (leaf_namable, leaf_namable, tt) } }, tt);
+  changes = (record { kept = root_kept; put = record { shape = root_shape; lower = (leaf_namable, (leaf_namable, tt)) } }, tt);
   once = (tt, tt);
   root = inl root_kept;
   inner = omega arith;
