@@ -66,8 +66,8 @@ impl MemNodes {
         })
     }
 
-    /// The nodes are sound.
-    pub fn check_sound(&self)
+    /// Whatever was done with it before, the nodes are sound. It does nothing.
+    pub fn nodes_are_sound(&self)
         ensures { IsSound (nodes_of self.now) (table self.now) }
     {
         let _ = &self.kept;
