@@ -9,11 +9,12 @@ ghost use Rattle.rows.specs.Cloned.{cloned_leaf, cloned};
 
 use crate::dirs::Numbers;
 use crate::message::{apply, message};
+use bd_command::Command;
 use bd_dirs::{Plan, plan_command};
 use bd_files::put_record;
 use bd_keys::Bytes;
+use bd_limits::MAX_WRITE;
 use bd_memnodes::MemNodes;
-use bd_command::Command;
 use bd_message::{KeyMap, ListMap, Message, Messages};
 use bd_names::Path;
 use bd_node::{Change, Edge, Edges, Entries, Entry, Items, Node, NodeStore, Step};
@@ -108,6 +109,14 @@ fn command(alloc: Global, line: &str) -> Result<Command, Fail> {
 /// The messages of a command over a map.
 fn messages_of(alloc: Global, map: &mut ListMap, line: &str) -> Result<Messages, Fail> {
     let command = command(alloc, line)?;
+    if !command.writes() {
+        return Err(Fail::new("no command that writes"));
+    }
+    if let Command::Write { bytes, .. } = &command {
+        if bytes.is_empty() || bytes.len() > MAX_WRITE {
+            return Err(Fail::new("no such write"));
+        }
+    }
     match plan_command(alloc, map, &command)? {
         Plan::Apply(list) => Ok(list),
         _ => Err(Fail::new("no messages")),
