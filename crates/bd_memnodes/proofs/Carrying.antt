@@ -5,6 +5,7 @@ use Rattle.std.specs.List.{AllByRecursion, sum_by}
 use Rattle.std.specs.HashMap.{hash_map_len, get, spare}
 use Rattle.std.specs.declared.rc.Rc.{Rc}
 use Rattle.std.proofs.lemmas.Bool.{cases_eq, cases_lt, cond-true, cond-false, eq-eqb, ne_eqb, lt-ltb, le-ltb}
+use Rattle.std.proofs.lemmas.List.{length-map, map_push, map-append}
 use Rattle.std.proofs.lemmas.List.Sums.{sum_by-append, sum_by-cons}
 use Rattle.bd_node.specs.declared.node.Node.{Node}
 use Rattle.bd_node.specs.declared.node.Change.{Change}
@@ -35,14 +36,6 @@ slice_get_push (y ∷ ys) x (suc i) =
       | inr other ↦ cond-false (eqb (length ys) i) (Some x) (slice_get ys i) (ne_eqb (length ys) i other)
           ∙ sym (cond-false (eqb (suc (length ys)) (suc i)) (Some x) (slice_get ys i) (ne_eqb (suc (length ys)) (suc i) (λ e. other (omega arith))))
     ]
-
-map_push : {A B : Type 0} (f : A → B) (xs : List A) (x : A) → map f (xs ++ x ∷ []) ≡ map f xs ++ f x ∷ []
-map_push f [] x = refl
-map_push f (y ∷ ys) x = ap (λ zs. f y ∷ zs) (map_push f ys x)
-
-map_length : {A B : Type 0} (f : A → B) (xs : List A) → length (map f xs) ≡ length xs
-map_length f [] = refl
-map_length f (y ∷ ys) = ap suc (map_length f ys)
 
 -- ---- made nodes
 
@@ -97,7 +90,7 @@ added_one old made xs rest x mid new h one =
       added = record {
         nodes = λ id.
             one.nodes id
-            ∙ ap (λ k. cond (eqb k id) (Some x.value) (nodes_in mid.nodes id)) (at ∙ ap (λ k. old.next + k) (sym (map_length (λ shared. shared.value) xs)))
+            ∙ ap (λ k. cond (eqb k id) (Some x.value) (nodes_in mid.nodes id)) (at ∙ ap (λ k. old.next + k) (sym (length-map xs (λ shared. shared.value))))
             ∙ ap (λ o. cond (eqb (old.next + length (map (λ shared. shared.value) xs)) id) (Some x.value) o) (h.added.nodes id)
             ∙ sym (with_made-more old.next (map (λ shared. shared.value) xs) x.value (nodes_in old.nodes) id)
             ∙ sym (ap (λ (ns : List Node). with_made old.next ns (nodes_in old.nodes) id) (map_push (λ shared. shared.value) xs x));
@@ -175,10 +168,6 @@ given_cond : (b : Bool) (n : Node) (o old : Option Node) → cond b (Some n) (gi
 given_cond true n o old = refl
 given_cond false n o old = refl
 
-map_split : {A B : Type 0} (f : A → B) (xs ys : List A) → map f (xs ++ ys) ≡ map f xs ++ map f ys
-map_split f [] ys = refl
-map_split f (x ∷ xs) ys = ap (λ zs. f x ∷ zs) (map_split f xs ys)
-
 -- of the changes these were made, and the rest are to come
 pub record IsExchanging (old : Kept) (changes so_far rest : List Exchange) (new : Kept) : Type 0 where
   pub all : so_far ++ rest ≡ changes
@@ -202,7 +191,7 @@ pub record IsExchangedOne (old : Kept) (id : ℕ) (shared : Rc Node Global) (new
 before_apart : (changes xs rest : List Exchange) (x : Exchange) → xs ++ x ∷ rest ≡ changes → AreOnce (map change_of changes) → AllByRecursion (λ (e : Change). e.id ≡ x.id → ⊥) (map change_of xs)
 before_apart changes xs rest x all once =
     once_before (map change_of xs) (change_of x) (map change_of rest)
-    (subst (λ (cs : List Change). AreOnce cs) (sym (ap (λ ys. map change_of ys) all) ∙ map_split change_of xs (x ∷ rest)) once)
+    (subst (λ (cs : List Change). AreOnce cs) (sym (ap (λ ys. map change_of ys) all) ∙ map-append change_of xs (x ∷ rest)) once)
 
 pub exchanged_one : (old : Kept) (changes xs rest : List Exchange) (x : Exchange) (mid new : Kept) → AreOnce (map change_of changes)
     → IsExchanging old changes xs (x ∷ rest) mid → IsExchangedOne mid x.id x.node new → IsExchanging old changes (xs ++ x ∷ []) rest new

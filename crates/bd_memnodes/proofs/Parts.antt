@@ -6,6 +6,7 @@ use Rattle.std.specs.List.{AllByRecursion, sum_by}
 use Rattle.std.specs.HashMap.{get}
 use Rattle.std.specs.declared.rc.Rc.{Rc}
 use Rattle.std.proofs.lemmas.Bool.{cond-true, lt-ltb}
+use Rattle.std.proofs.lemmas.List.{length-map}
 use Rattle.std.proofs.lemmas.List.Sums.{sum_by-cons}
 use Rattle.bd_node.specs.declared.node.Node.{Node}
 use Rattle.bd_node.specs.declared.node.Change.{Change}
@@ -36,16 +37,12 @@ some_of_node : {Z : Type 0} (o : Option (Rc Node Z)) (n : Node) → option_map (
 some_of_node None n e = cc
 some_of_node (Some s) n e = refl
 
-map_length : {A B : Type 0} (f : A → B) (xs : List A) → length (map f xs) ≡ length xs
-map_length f [] = refl
-map_length f (y ∷ ys) = ap suc (map_length f ys)
-
 -- each name in a step has a count once its made nodes are added
 pub names_there : (old k : Kept) (plan : Plan) → IsStep (table_in old) (step_of plan) → IsAdded old plan.made.items k → (c : ℕ) → 1 ≤ times_among (step_names (step_of plan)) c → IsSome (get nat_eq k.counts c)
 names_there old k plan ok added c one =
     elim (step_names_there (table_in old) (step_of plan) ok c one) [
       | inl kept ↦ added.others c (some_of_one (get nat_eq old.counts c) kept)
-      | inr made ↦ (let longer : length (map (λ shared. shared.value) plan.made.items) ≡ length plan.made.items = map_length (λ shared. shared.value) plan.made.items in
+      | inr made ↦ (let longer : length (map (λ shared. shared.value) plan.made.items) ≡ length plan.made.items = length-map plan.made.items (λ shared. shared.value) in
           let high : c < old.next + length (map (λ shared. shared.value) plan.made.items) = made.1 in
           added.there c made.0 (omega arith))
     ]
@@ -89,7 +86,7 @@ put_owing old k raised new plan whole ok above added same_nodes same_dead same_n
     let t : Table = table_in old in
     let step : Step = step_of plan in
     let next_is : new.next ≡ t.next + length step.made =
-    exchanged.head.next ∙ same_next ∙ added.next ∙ ap (λ n. old.next + n) (sym (map_length (λ shared. shared.value) plan.made.items)) in
+    exchanged.head.next ∙ same_next ∙ added.next ∙ ap (λ n. old.next + n) (sym (length-map plan.made.items (λ shared. shared.value))) in
     let raised_node : (id : ℕ) → nodes_in raised.nodes id ≡ nodes_in k.nodes id = λ id. ap (λ m. nodes_in m id) same_nodes in
     let low : AllByRecursion (λ (x : Exchange). x.id < old.next) plan.changes.items =
     each_weaker (λ (x : Exchange). IsChange t step (change_of x)) (λ (x : Exchange). x.id < old.next) (λ x change. whole.sound.table.below x.id change.kept)
@@ -135,7 +132,7 @@ carried old mid new plan owed whole owing root next settled size same_root same_
     let t : Table = table_in old in
     let step : Step = step_of plan in
     let new_root : new.root ≡ step.root = same_root ∙ root in
-    let new_next : new.next ≡ t.next + length step.made = same_next ∙ next ∙ ap (λ n. old.next + n) (sym (map_length (λ shared. shared.value) plan.made.items)) in
+    let new_next : new.next ≡ t.next + length step.made = same_next ∙ next ∙ ap (λ n. old.next + n) (sym (length-map plan.made.items (λ shared. shared.value))) in
     let all : IsReleasing (after nodes t step) mid.next mid.root (nodes_in new.nodes) (count_in new.counts) (λ c. 0) =
     both_releasing (after nodes t step) (nodes_in mid.nodes) (nodes_in new.nodes) mid.next mid.root (count_in mid.counts) owed (count_in new.counts) (λ c. 0) owing
     (same_ends (nodes_in mid.nodes) (nodes_in new.nodes) new.next mid.next new.root mid.root (count_in new.counts) (λ c. 0) (sym same_next) (sym same_root) settled) in

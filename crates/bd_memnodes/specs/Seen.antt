@@ -26,7 +26,8 @@ nodes_of s id = option_map (λ shared. shared.value) (lookup (nat_eq id) s.nodes
 
 -- the counts, the levels, the root and the next id
 abbrev pub table : Seen → Table
-table s = table_of (nodes_of s) (λ id. unwrap_or (lookup (nat_eq id) s.counts) 0) s.root s.size s.next
+table s =
+    table_of (nodes_of s) (λ id. unwrap_or (lookup (nat_eq id) s.counts) 0) s.root s.size s.next
 
 -- what a store is seen as that keeps this
 abbrev pub seen : Kept → ℕ → Seen

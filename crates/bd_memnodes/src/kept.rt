@@ -80,7 +80,8 @@ impl Kept {
         requires room { HasRoom self.old }
         ensures counts { (c : ℕ) → count_in self.new.counts c
             + times_among (flat_map message_names messages.now) c ≡ count_in self.old.counts c }
-        ensures taken { TakesBack (times_among (flat_map message_names messages.now)) self.old self.new }
+        ensures taken { TakesBack (times_among (flat_map message_names messages.now)) self.old
+            self.new }
         ensures room { HasRoom self.new }
         ensures moved { 2 * hash_map_len self.new.nodes + vec_len self.new.dead
             ≤ 2 * hash_map_len self.old.nodes + vec_len self.old.dead }

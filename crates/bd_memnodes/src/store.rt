@@ -15,9 +15,13 @@ use std::collections::HashMap;
 use std::marker::Model;
 use std::rc::Rc;
 
-/// A store of nodes in memory. Its nodes are known and sound from the start on. A call fails where
+/// A store of nodes in memory. Its nodes are known, and sound from the start on. A call fails where
 /// memory is wanting, or where a count or the next id would pass a u64's last value, and then
 /// nothing has changed.
+///
+/// A fetch finds its node by hashing, and copies nothing. A commit takes the time of what the step
+/// holds and names, of the nodes that go, and of the messages that wait in the root, however many
+/// nodes there are. An append takes that of its messages, unless a caller holds the root.
 #[derive(Drop)]
 pub struct MemNodes {
     alloc: Global,
@@ -62,8 +66,8 @@ impl MemNodes {
         })
     }
 
-    /// The nodes are sound.
-    pub fn check_sound(&self)
+    /// Whatever was done with it before, the nodes are sound. It does nothing.
+    pub fn nodes_are_sound(&self)
         ensures { IsSound (nodes_of self.now) (table self.now) }
     {
         let _ = &self.kept;

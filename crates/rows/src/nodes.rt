@@ -3,17 +3,21 @@
 
 ghost use Rattle.std.specs.Prelude.{◌≡◌, [], ◌∷◌, IfOk};
 ghost use Rattle.bd_message.specs.declared.message.Message.TheVariants.{Goto};
+ghost use Rattle.bd_node.specs.New.{new_root};
+ghost use Rattle.bd_node.specs.Steps.{root_step};
 ghost use Rattle.rows.specs.Cloned.{cloned_leaf, cloned};
 
-use crate::message::{apply, message};
 use crate::numbers::Numbers;
+use crate::message::{apply, message};
+use bd_command::Command;
 use bd_dirs::{Plan, plan_command};
 use bd_files::put_record;
 use bd_keys::Bytes;
+use bd_limits::MAX_WRITE;
 use bd_memnodes::MemNodes;
-use bd_message::{KeyMap, ListMap, Message};
+use bd_message::{KeyMap, ListMap, Message, Messages};
 use bd_names::Path;
-use bd_node::{Change, Edge, Edges, Entries, Entry, Items, Messages, Node, NodeStore, Step, laws};
+use bd_node::{Change, Edge, Edges, Entries, Entry, Items, Node, NodeStore, Step};
 use bd_records::Record;
 use bd_script::{Line, read_line};
 use bd_tree::Tree;
@@ -61,18 +65,18 @@ impl Both {
         Ok(found == want)
     }
 
-    /// After the messages of a command.
-    fn execute(&mut self, alloc: Global, line: &str) -> Result<(), Fail> {
-        let Ok(Line::Run(command)) = read_line(alloc, line.as_bytes()) else {
-            return Err(Fail::new("no command"));
-        };
-        let Plan::Apply(list) = plan_command(alloc, &mut self.map, &command)? else {
-            return Err(Fail::new("no messages"));
-        };
-        for message in list.as_slice() {
+    /// After these messages.
+    fn apply_all(&mut self, list: &[Message]) -> Result<(), Fail> {
+        for message in list {
             self.apply(message.clone()?)?;
         }
         Ok(())
+    }
+
+    /// After the messages of a command.
+    fn execute(&mut self, alloc: Global, line: &str) -> Result<(), Fail> {
+        let list = messages_of(alloc, &mut self.map, line)?;
+        self.apply_all(list.as_slice())
     }
 
     /// Whether both have the same at each key of the map and at the one before the next key. How
@@ -91,6 +95,31 @@ impl Both {
             }
         }
         Ok(None)
+    }
+}
+
+/// A command.
+fn command(alloc: Global, line: &str) -> Result<Command, Fail> {
+    match read_line(alloc, line.as_bytes()) {
+        Ok(Line::Run(command)) => Ok(command),
+        _ => Err(Fail::new("no command")),
+    }
+}
+
+/// The messages of a command over a map.
+fn messages_of(alloc: Global, map: &mut ListMap, line: &str) -> Result<Messages, Fail> {
+    let command = command(alloc, line)?;
+    if !command.writes() {
+        return Err(Fail::new("no command that writes"));
+    }
+    if let Command::Write { bytes, .. } = &command {
+        if bytes.is_empty() || bytes.len() > MAX_WRITE {
+            return Err(Fail::new("no such write"));
+        }
+    }
+    match plan_command(alloc, map, &command)? {
+        Plan::Apply(list) => Ok(list),
+        _ => Err(Fail::new("no messages")),
     }
 }
 
@@ -192,18 +221,13 @@ fn a_held_root_stays(rt: HostRuntime) -> Result<(), Fail> {
     Ok(())
 }
 
-/// These bytes.
-fn bytes(alloc: Global, text: &str) -> Result<Bytes, AllocError> {
-    Bytes::from_slice(alloc, text.as_bytes())
-}
-
 /// A leaf with a value at `a/f`.
 fn leaf(alloc: Global) -> Result<Node, AllocError>
     ensures { IfOk result (λ node. node ≡ cloned_leaf) }
 {
     let mut entries = Vec::new(alloc);
-    let key = bytes(alloc, "a/f")?;
-    let value = bytes(alloc, "1")?;
+    let key = Bytes::from_slice(alloc, &[b'a', b'/', b'f'])?;
+    let value = Bytes::from_slice(alloc, &[b'1'])?;
     entries.push(Entry { key, value })?;
     Ok(Node::Leaf(Entries::from_vec(entries)))
 }
@@ -225,18 +249,18 @@ fn edges_to(alloc: Global, child: Option<u64>) -> Result<Edges, AllocError>
 }
 
 /// A message that gives each key under `c/` what stands under `a/`, by node 2.
-fn clone_message(alloc: Global) -> Result<Messages, AllocError>
+fn clone_message(alloc: Global) -> Result<bd_node::Messages, AllocError>
     ensures { IfOk result (λ list. list ≡ Goto (99 ∷ 47 ∷ []) (97 ∷ 47 ∷ []) 2 ∷ []) }
 {
     let mut list = Vec::new(alloc);
-    let prefix = bytes(alloc, "c/")?;
-    let source = bytes(alloc, "a/")?;
+    let prefix = Bytes::from_slice(alloc, &[b'c', b'/'])?;
+    let source = Bytes::from_slice(alloc, &[b'a', b'/'])?;
     list.push(Message::Goto {
         prefix,
         source,
         child: 2,
     })?;
-    Ok(Messages::from_vec(list))
+    Ok(bd_node::Messages::from_vec(list))
 }
 
 /// The step from a new store to a leaf with `a/f`, and a root with a clone of `a` at `c`.
@@ -269,26 +293,32 @@ fn with_clone(alloc: Global) -> Result<MemNodes, Fail> {
     Ok(store)
 }
 
-/// Makes the root one that has nothing at any key, so that it names no node.
+/// The step that makes this root one that has nothing at any key.
+fn empty_step(alloc: Global, root: u64) -> Result<Step, AllocError>
+    ensures { IfOk result (λ step. step ≡ root_step root new_root) }
+{
+    let node = Node::Inner {
+        level: 1,
+        edges: edges_to(alloc, None)?,
+        buffer: bd_node::Messages::new(alloc),
+    };
+    let mut changes = Vec::new(alloc);
+    changes.push(Change { id: root, node })?;
+    Ok(Step {
+        made: Items::new(alloc),
+        changes: Items::from_vec(changes),
+        root,
+    })
+}
+
+/// Lets all nodes go but the root, which has nothing at any key from then on.
 fn empty(alloc: Global, store: &mut MemNodes) -> Result<(), Fail> {
     let root = store.root();
     if store.level(root) != 1 {
         return Err(Fail::new("another level"));
     }
-    let node = Node::Inner {
-        level: 1,
-        edges: edges_to(alloc, None)?,
-        buffer: Messages::new(alloc),
-    };
-    let mut changes = Vec::new(alloc);
-    changes.push(Change { id: root, node })?;
-    laws::changes_of_the_root_alone();
-    laws::new_stores_are_sound();
-    store.commit(Step {
-        made: Items::new(alloc),
-        changes: Items::from_vec(changes),
-        root,
-    })?;
+    let step = empty_step(alloc, root)?;
+    store.commit(step)?;
     Ok(())
 }
 
