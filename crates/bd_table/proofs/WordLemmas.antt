@@ -75,8 +75,14 @@ pub length-table : (taken : ℕ) (t : Table) → 65536 * taken ≤ length (table
 length-table taken t =
     let head = head_bytes (length t.entries) t.next_id t.root in
     let all = flat_map entry_bytes t.entries in
-    omega (arith, length-append (head ++ all) (zeros (zero_count taken t)), length-append head all, length-entries t.entries, length-fields magic (length t.entries) t.next_id t.root,
-      length-replicate {A = ℕ} (zero_count taken t) 0)
+    omega (
+      arith,
+      length-append (head ++ all) (zeros (zero_count taken t)),
+      length-append head all,
+      length-entries t.entries,
+      length-fields magic (length t.entries) t.next_id t.root,
+      length-replicate {A = ℕ} (zero_count taken t) 0,
+    )
 
 -- a block of it is a block long
 length-part : (taken : ℕ) (t : Table) (k : ℕ) → k < 16 * taken → length (part taken t k) ≡ 4096
@@ -90,8 +96,15 @@ part_more taken t k i lt in_block =
     let bytes = table_bytes taken t in
     let place : 4096 * k + 8 * i ≡ 8 * (512 * k + i) = omega arith in
     let fits : 8 * (512 * k + i + 1) ≤ length (joined (words t)) + zero_count taken t =
-    omega (arith, lt, in_block, length-table taken t, ap length (table_in_words taken t), length-append (joined (words t)) (zeros (zero_count taken t)),
-      length-replicate {A = ℕ} (zero_count taken t) 0) in
+    omega (
+      arith,
+      lt,
+      in_block,
+      length-table taken t,
+      ap length (table_in_words taken t),
+      length-append (joined (words t)) (zeros (zero_count taken t)),
+      length-replicate {A = ℕ} (zero_count taken t) 0,
+    ) in
     ap (λ n. take n (drop (4096 * k) bytes)) (let e : 8 * (i + 1) ≡ 8 * i + 8 = omega arith in e) ∙ take-add (8 * i) 8 (drop (4096 * k) bytes)
     ∙ ap (λ l. take (8 * i) (drop (4096 * k) bytes) ++ take 8 l) (drop-drop (8 * i) (4096 * k) bytes ∙ ap (λ n. drop n bytes) place ∙ ap (drop (8 * (512 * k + i))) (table_in_words taken t))
     ∙ ap (λ l. take (8 * i) (drop (4096 * k) bytes) ++ l) (word_in (words t) (zero_count taken t) (512 * k + i) (are_words t) fits)

@@ -25,8 +25,8 @@ blocks_differ slots at j k are before lt same =
     elim (cases_eq (j / 16) (k / 16)) [
       | inl one ↦ omega (arith, same, one, before, ap (slice_index at) one)
       | inr two ↦
-      let differ : slot_j ≢ slot_k = are.different (j / 16) (k / 16) 0 (omega (arith, two, before)) (omega (arith, lt)) in
-      differ (let e : slot_j ≡ slot_k = omega (arith, same) in e)
+          let differ : slot_j ≢ slot_k = are.different (j / 16) (k / 16) 0 (omega (arith, two, before)) (omega (arith, lt)) in
+          differ (let e : slot_j ≡ slot_k = omega (arith, same) in e)
     ]
 
 -- one part more is there
@@ -43,10 +43,10 @@ written_more (Some image) new slots count at k parts are lt size shape e was =
     subst (λ (o : Option Image). IfSome o (λ i. (j : ℕ) → j < k + 1 → slice_index_or i (table_block at j) [] ≡ parts j)) (sym e)
     (λ j before. elim (cases_eq j k) [
       | inl same ↦
-      subst (λ n. slice_index_or c (table_block at n) [] ≡ parts n) (sym same) (get_or-set_same image (table_block at k) (parts k) [] room)
+          subst (λ n. slice_index_or c (table_block at n) [] ≡ parts n) (sym same) (get_or-set_same image (table_block at k) (parts k) [] room)
       | inr other ↦
-      let first : j < k = omega (arith, other, before) in
-      get_or-set_other image (table_block at k) (table_block at j) (parts k) [] (blocks_differ slots at j k are first lt) ∙ was j first
+          let first : j < k = omega (arith, other, before) in
+          get_or-set_other image (table_block at k) (table_block at j) (parts k) [] (blocks_differ slots at j k are first lt) ∙ was j first
     ])
 
 -- the parts are the whole
@@ -104,8 +104,15 @@ length-whole slots at t is =
     let head = head_bytes (length t.entries) t.next_id t.root in
     let all = flat_map entry_bytes t.entries in
     let fits : 32 + 24 * length t.entries ≤ 65536 * taken = omega (arith, is.place) in
-    omega (arith, fits, length-append (head ++ all) (zeros (zero_count taken t)), length-append head all, length-entries t.entries,
-      length-fields magic (length t.entries) t.next_id t.root, length-replicate {A = ℕ} (zero_count taken t) 0)
+    omega (
+      arith,
+      fits,
+      length-append (head ++ all) (zeros (zero_count taken t)),
+      length-append head all,
+      length-entries t.entries,
+      length-fields magic (length t.entries) t.next_id t.root,
+      length-replicate {A = ℕ} (zero_count taken t) 0,
+    )
 
 -- with all parts there the image has the table
 pub table_written : (known : Option Image) (slots : ℕ) (at : List ℕ) (t : Table) → IsTable slots at t

@@ -28,4 +28,6 @@ mod slots;
 #[cfg(test)]
 mod superblock;
 #[cfg(test)]
+mod table;
+#[cfg(test)]
 mod wire;

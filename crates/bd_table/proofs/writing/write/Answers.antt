@@ -45,7 +45,7 @@ loop-k-preserved g c =
     (subst (λ b. D.contents new ≡ with_block b c.part.result (D.contents mid)) c.table_block.ensures c.in_ok-write.ensures.written) in
     record {
       written = written_more (D.contents mid) (D.contents new) c.args.slots (D.block_count new) at k (part (length at) c.args.table.now) c.requires.place.differ lt
-        (c.in_ok-write.ensures.count ∙ was.blocks ∙ c.requires.size) c.in_ok-write.ensures.shape done was.written;
+          (c.in_ok-write.ensures.count ∙ was.blocks ∙ c.requires.size) c.in_ok-write.ensures.shape done was.written;
       elsewhere = elsewhere_more (D.contents old) (D.contents mid) (D.contents new) at k (part (length at) c.args.table.now k) lt was.elsewhere done;
       time = goes_on P (TornAt (table_block at k) left) was.time time (torn_elsewhere at k before left lt now);
       faults = c.in_ok-write.ensures.cause.kept ∙ was.faults;

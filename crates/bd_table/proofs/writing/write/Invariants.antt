@@ -11,7 +11,7 @@ invariant-loop-k g l =
       written : IfSome (g.D.Device.contents l.dev) (λ image. (j : ℕ) → j < l.k → slice_index_or image (table_block l.at j) [] ≡ part (length l.at) l.table j);
       elsewhere : StaysElsewhere l.at (g.D.Device.contents l.initial.dev) (g.D.Device.contents l.dev);
       time : Elapses (g.D.Device.call_count l.initial.dev) (g.D.Device.call_count l.dev) (g.D.Device.left_since l.initial.dev) (g.D.Device.left_since l.dev)
-      (IsBeforeElsewhere l.at (g.D.Device.left_since l.initial.dev (g.D.Device.call_count l.initial.dev)));
+          (IsBeforeElsewhere l.at (g.D.Device.left_since l.initial.dev (g.D.Device.call_count l.initial.dev)));
       faults : g.D.Device.fault_count l.dev ≡ g.D.Device.fault_count l.initial.dev;
       write_faults : g.D.Device.write_fault_count l.dev ≡ g.D.Device.write_fault_count l.initial.dev;
       blocks : g.D.Device.block_count l.dev ≡ g.D.Device.block_count l.initial.dev;
