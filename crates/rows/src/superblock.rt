@@ -84,11 +84,11 @@ fn a_published_superblock_is_read(rt: HostRuntime) -> Result<(), Fail> {
 fn its_bytes_stand_in_its_half(rt: HostRuntime) -> Result<(), Fail> {
     let mut device = published(rt.alloc(), 1)?;
     let body = block(&mut device, 1);
-    assert_eq!(rt; &body[..40], FIRST.as_slice());
-    assert!(rt; body[40..].iter().all(|byte| *byte == 0));
+    assert!(rt; body.starts_with(&FIRST));
+    assert!(rt; body.iter().skip(40).all(|byte| *byte == 0));
     let commit = block(&mut device, 0);
     assert_eq!(rt; commit[0], 1);
-    assert!(rt; commit[1..].iter().all(|byte| *byte == 0));
+    assert!(rt; commit.iter().skip(1).all(|byte| *byte == 0));
     Ok(())
 }
 
@@ -203,7 +203,9 @@ fn changed(alloc: Global, changes: &[(u64, usize, u8)]) -> Result<MemDevice, All
                 bytes[*place] = *byte;
             }
         }
-        let _ = device.write(b, &bytes);
+        if b < device.blocks() {
+            let _ = device.write(b, &bytes);
+        }
     }
     Ok(device)
 }

@@ -80,8 +80,8 @@ fn the_table_of_a_fresh_image(rt: HostRuntime) -> Result<(), Fail> {
     if device.blocks() > 148 {
         device.read(148, &mut block)?;
     }
-    assert_eq!(rt; &block[..56], FRESH.as_slice());
-    assert!(rt; block[56..].iter().all(|byte| *byte == 0));
+    assert!(rt; block.starts_with(&FRESH));
+    assert!(rt; block.iter().skip(56).all(|byte| *byte == 0));
     Ok(())
 }
 
