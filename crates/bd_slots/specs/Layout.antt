@@ -1,5 +1,5 @@
 -- Where the parts of an image stand, in blocks and in slots.
-use Rattle.std.specs.Prelude.{◌≡◌, ◌≢◌, ◌+◌, ◌*◌, ◌/◌, ◌<◌, ◌≤◌, ℕ, List, length, All, AllPairs}
+use Rattle.std.specs.Prelude.{◌≢◌, ◌+◌, ◌*◌, ◌/◌, ◌<◌, ◌≤◌, ℕ, List, length, All, AllPairs}
 use Rattle.bd_limits.specs.Limits.{slot_minimum, slot_limit}
 
 -- the blocks of an image of this many slots: 132 of superblocks and logs, then 16 a slot

@@ -1,8 +1,8 @@
 -- Bodies of superblocks: how long they are, and that one body is of one superblock.
-use Rattle.std.proofs.Common.{◌≡◌, ◌≢◌, ℕ, ◌-◌, ◌*◌, ◌^◌, ◌<◌, List, [], ◌++◌, length, All, refl, sym, ap, subst, ◌∙◌, arith, append_assoc, append-nil, length-append}
+use Rattle.std.proofs.Common.{◌≡◌, ◌≢◌, ℕ, ◌-◌, ◌*◌, ◌^◌, ◌<◌, List, [], ◌++◌, length, All, refl, sym, ap, subst, ◌∙◌, arith, append_assoc, length-append}
 use Rattle.std.specs.Int.{w32}
 use Rattle.std.specs.List.{flat_map}
-use Rattle.std.proofs.lemmas.List.{length-replicate, drop_all}
+use Rattle.std.proofs.lemmas.List.{length-replicate}
 use Rattle.bd_slots.specs.Layout.{IsSlotCount, IsTablePlace}
 use Rattle.bd_slots.proofs.Filled.{filled_array}
 use Rattle.bd_slots.proofs.Items.{items_alone, length-items}
@@ -11,7 +11,6 @@ use Rattle.bd_wire.specs.Text.{zeros, AreZeros}
 use Rattle.bd_wire.specs.Writing.{written, room, Puts}
 use Rattle.bd_wire.specs.declared.writer.Out.{Out}
 use Rattle.bd_wire.proofs.NumberLemmas.{length-be, IsPrefixFree-be}
-use Rattle.bd_wire.proofs.WritingLemmas.{array_is}
 use Rattle.bd_super.specs.Superblocks.{IsSuper, magic, head_bytes, body_bytes}
 use Rattle.bd_super.specs.declared.superblock.Half.{Half}
 use Rattle.bd_super.specs.declared.superblock.Super.{Super}

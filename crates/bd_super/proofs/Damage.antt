@@ -1,9 +1,12 @@
 -- Damage is named exactly.
-use Rattle.std.proofs.Common.{◌≡◌, ℕ, inl, inr, sym, ap, subst, ◌∙◌, arith}
+use Rattle.std.proofs.Common.{◌≡◌, ℕ, ◌≤◌, length, inl, inr, sym, ap, subst, ◌∙◌, arith}
+use Rattle.bd_limits.specs.Limits.{slot_minimum}
+use Rattle.bd_slots.specs.Layout.{image_blocks}
 use Rattle.bd_device.specs.Blocks.{Image}
 use Rattle.bd_super.specs.Superblocks.{commit_block, other}
 use Rattle.bd_device.specs.Commits.{IsCommitted}
 use Rattle.bd_super.specs.Live.{Holds, HoldsIn, IsLive, IsBad, IsNoImage, IsBadLater, IsDamaged, HasEqualEpochs}
+use Rattle.bd_super.specs.Published.{CanFollow}
 use Rattle.bd_super.specs.declared.superblock.Half.{Half}
 use Rattle.bd_super.specs.declared.superblock.Half.TheVariants.{A, B}
 use Rattle.bd_super.specs.declared.superblock.Super.{Super}
@@ -66,3 +69,10 @@ one_damage image a b (inr (inl p)) (inr (inr q)) = absurd (first_not_bad image q
 one_damage image a b (inr (inr p)) (inl q) = absurd (p.1 q.1)
 one_damage image a b (inr (inr p)) (inr (inl q)) = absurd (first_not_bad image p.2 q.2)
 one_damage image a b (inr (inr p)) (inr (inr q)) = p.0 ∙ sym q.0
+
+-- where the first block is named of an image that is large enough, no half is committed
+pub first_block : (image : Image) (s : Super) → IsDamaged image 0 → image_blocks slot_minimum ≤ length image → CanFollow s image
+first_block image s (inl (e, inl small)) large = absurd (omega (arith, small, large))
+first_block image s (inl (e, inr none)) large = inl none
+first_block image s (inr (inl first)) large = absurd (omega (arith, first.0))
+first_block image s (inr (inr second)) large = absurd (omega (arith, second.0))

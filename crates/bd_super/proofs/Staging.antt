@@ -1,14 +1,14 @@
 -- What a torn block of the half in which a superblock is published changes.
 use Rattle.std.proofs.Common.{◌≡◌, ◌≢◌, ◌↔◌, ℕ, ◌<◌, List, Option, None, Some, IfSome, Result, Ok, Err, OnOk, OnErr, length, inl, inr, refl, sym, ap, subst, ◌∙◌, arith}
-use Rattle.std.specs.Prelude.{slice_get, slice_index, slice_set}
+use Rattle.std.specs.Prelude.{slice_get, slice_index, slice_set, IsSomeAnd}
 use Rattle.std.proofs.lemmas.List.{length-set}
 use Rattle.std.proofs.lemmas.Bool.{cases_eq}
 use Rattle.bd_device.specs.Blocks.{Image, HasBlocks, with_block}
-use Rattle.bd_device.specs.Moments.{TornAt}
+use Rattle.bd_device.specs.Moments.{TornAt, IsOnly}
 use Rattle.bd_super.specs.Superblocks.{commit_block, body_block, log_block, other}
 use Rattle.bd_device.specs.Commits.{block_at, IsCommitted}
 use Rattle.bd_super.specs.Live.{Holds, IsLive}
-use Rattle.bd_super.specs.Published.{IsOfHalf, StaysOutside, SameLive, IsStaged, AreSettled, IsLiveBeside}
+use Rattle.bd_super.specs.Published.{IsOfHalf, StaysOutside, SameLive, IsStaged, AreSettled, IsLiveBeside, SameSuperblocks}
 use Rattle.bd_super.specs.declared.superblock.Half.{Half}
 use Rattle.bd_super.specs.declared.superblock.Half.TheVariants.{A, B}
 use Rattle.bd_super.specs.declared.superblock.Super.{Super}
@@ -190,3 +190,8 @@ pub read_committed : (known : Option Image) (b : ℕ) (bytes : List ℕ) → IfS
     → IfSome known (λ image. IsCommitted image b)
 read_committed None b bytes read first = tt
 read_committed (Some image) b bytes read first = ap (λ l. slice_index l 0) (block_read image b bytes read) ∙ first
+
+-- where a crash leaves only what reads give, the superblocks are settled
+pub only_settled : (known : Option Image) (left : Image → Type 0) → IsOnly known left → AreSettled known left
+only_settled known left only c was =
+    subst (λ (o : Option Image). IsSomeAnd o (λ image. SameSuperblocks image c)) (sym (only c was)) (record { size = refl; blocks = λ b lt. refl })

@@ -1,9 +1,12 @@
 //! What follows from the definitions.
 
-ghost use Rattle.std.specs.Prelude.{◌≡◌, ℕ};
+ghost use Rattle.std.specs.Prelude.{◌≡◌, ◌≤◌, ℕ, length};
+ghost use Rattle.bd_limits.specs.Limits.{slot_minimum};
+ghost use Rattle.bd_slots.specs.Layout.{image_blocks};
 ghost use Rattle.bd_device.specs.Blocks.{Image};
 ghost use Rattle.bd_super.specs.Superblocks.{IsSuper, body_bytes};
 ghost use Rattle.bd_super.specs.Live.{IsLive, IsDamaged};
+ghost use Rattle.bd_super.specs.Published.{CanFollow};
 ghost use Rattle.bd_super.specs.declared.superblock.Super.{Super};
 
 /// No two superblocks of a half have one body, so what was written is read again.
@@ -21,4 +24,10 @@ pub fn one_superblock_is_live()
 pub fn damage_is_exact()
     ensures live { (image : Image) (s : Super) (b : ℕ) → IsLive image s → ¬ IsDamaged image b }
     ensures one { (image : Image) (a b : ℕ) → IsDamaged image a → IsDamaged image b → a ≡ b }
+{}
+
+/// In an image of enough blocks where no half is committed each superblock can be the first one.
+pub fn damage_of_the_first_block()
+    ensures { (image : Image) (s : Super) → IsDamaged image 0
+        → image_blocks slot_minimum ≤ length image → CanFollow s image }
 {}

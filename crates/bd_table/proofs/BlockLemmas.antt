@@ -1,10 +1,10 @@
 -- The blocks of a table.
-use Rattle.std.proofs.Common.{◌≡◌, ◌≢◌, ℕ, ◌+◌, ◌*◌, ◌/◌, ◌%◌, ◌<◌, ◌≤◌, List, [], ◌∷◌, ◌++◌, Option, None, Some, IfSome, length, get_or, refl, sym, ap, subst, ◌∙◌, arith, append-nil}
-use Rattle.std.specs.Prelude.{slice_index_or, slice_index, map}
-use Rattle.std.specs.List.{flat_map, range_with_len}
+use Rattle.std.proofs.Common.{◌≡◌, ℕ, ◌+◌, ◌/◌, ◌<◌, List, [], ◌∷◌, ◌++◌, Option, None, Some, IfSome, sym, ap, ◌∙◌, arith, append-nil}
+use Rattle.std.specs.Prelude.{slice_index_or}
+use Rattle.std.specs.List.{flat_map}
 use Rattle.std.proofs.lemmas.List.Concat.{flat_map-append}
 use Rattle.std.proofs.lemmas.List.FromFn.{map-range_with_len_more}
-use Rattle.bd_slots.specs.Layout.{AreSlots, IsTablePlace, image_blocks}
+use Rattle.bd_slots.specs.Layout.{AreSlots, image_blocks}
 use Rattle.bd_device.specs.Blocks.{Image}
 use Rattle.bd_table.specs.Image.{table_block, block_total, first_blocks, first_bytes}
 

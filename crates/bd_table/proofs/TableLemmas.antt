@@ -1,10 +1,9 @@
 -- Tables as bytes: how long they are, and that one encoding is of one table.
-use Rattle.std.proofs.Common.{◌≡◌, ◌≢◌, ℕ, ◌+◌, ◌-◌, ◌*◌, ◌/◌, ◌^◌, ◌<◌, ◌≤◌, List, [], ◌++◌, length, All, get_or, refl, sym, ap, subst, ◌∙◌, arith, append_assoc, length-append}
+use Rattle.std.proofs.Common.{◌≡◌, ◌≢◌, ℕ, ◌+◌, ◌-◌, ◌*◌, ◌<◌, List, ◌++◌, length, All, refl, sym, ap, subst, ◌∙◌, arith, append_assoc, length-append}
 use Rattle.std.specs.Int.{w32, w64}
 use Rattle.std.specs.List.{flat_map}
 use Rattle.std.proofs.lemmas.List.{length-replicate}
 use Rattle.bd_limits.specs.Limits.{slot_size}
-use Rattle.bd_slots.specs.Layout.{AreSlots, table_length}
 use Rattle.bd_slots.proofs.Items.{items_alone, length-items, fronts_alone}
 use Rattle.bd_wire.specs.Encoding.{IsPrefixFree}
 use Rattle.bd_wire.specs.Numbers.{be}
@@ -12,7 +11,7 @@ use Rattle.bd_wire.specs.Text.{zeros, AreZeros}
 use Rattle.bd_wire.specs.Reading.{Unread, Reads}
 use Rattle.bd_wire.proofs.NumberLemmas.{length-be, IsPrefixFree-be}
 use Rattle.bd_wire.proofs.ReadingLemmas.{Reads-append}
-use Rattle.bd_table.specs.Tables.{AreEntries, IsEntry, IsTable, FitsEntry, FitsHead, entry_bytes, head_bytes, magic, slots_of, table_bytes}
+use Rattle.bd_table.specs.Tables.{IsTable, FitsEntry, FitsHead, entry_bytes, head_bytes, magic, table_bytes}
 use Rattle.bd_table.specs.declared.table.Table.{Table}
 use Rattle.bd_table.specs.declared.table.TableEntry.{TableEntry}
 

@@ -1,9 +1,9 @@
 -- A table's words are its encoding.
-use Rattle.std.proofs.Common.{◌≡◌, ℕ, zero, suc, ◌+◌, ◌-◌, ◌*◌, ◌/◌, ◌%◌, ◌<◌, ◌≤◌, List, [], ◌∷◌, ◌++◌, length, take, drop, get_or, All, refl, sym, ap, subst, ◌∙◌, arith, append_assoc, length-append}
+use Rattle.std.proofs.Common.{◌≡◌, ℕ, zero, suc, ◌+◌, ◌-◌, ◌*◌, ◌/◌, ◌<◌, ◌≤◌, List, [], ◌∷◌, ◌++◌, length, take, drop, get_or, All, refl, sym, ap, ◌∙◌, arith, append_assoc, length-append}
 use Rattle.std.specs.Int.{w32, w64}
 use Rattle.std.specs.List.{flat_map}
-use Rattle.std.proofs.lemmas.List.{drop-drop, drop-replicate, take-replicate, length-replicate, get_or_past, get_or-append-add, take_all, length-take-le, length-drop}
-use Rattle.std.proofs.lemmas.List.Elements.{All-cons, All-append, All-nil, All-tail}
+use Rattle.std.proofs.lemmas.List.{drop-drop, drop-replicate, take-replicate, length-replicate, get_or_past, get_or-append-add, length-take-le, length-drop}
+use Rattle.std.proofs.lemmas.List.Elements.{All-cons, All-nil, All-tail}
 use Rattle.std.proofs.Math.Seq.{take-add, take-append_seam, drop-append_seam}
 use Rattle.std.proofs.Math.ListN.{get_or-append}
 use Rattle.bd_slots.proofs.Filled.{filled_array}
@@ -16,7 +16,7 @@ use Rattle.bd_table.specs.Tables.{entry_bytes, head_bytes, magic, table_bytes}
 use Rattle.bd_table.specs.Words.{entry_words, entry_word, words, word_at, part}
 use Rattle.bd_table.specs.declared.table.Table.{Table}
 use Rattle.bd_table.specs.declared.table.TableEntry.{TableEntry}
-use Rattle.bd_table.proofs.TableLemmas.{zero_count, length-entry, length-fields, length-entries}
+use Rattle.bd_table.proofs.TableLemmas.{zero_count, length-fields, length-entries}
 
 -- the bytes of words
 abbrev joined : List (List ℕ) → List ℕ

@@ -1,5 +1,5 @@
 -- What writes of a table's blocks leave.
-use Rattle.std.proofs.Common.{◌≡◌, ◌≢◌, ℕ, zero, suc, ◌+◌, ◌*◌, ◌/◌, ◌%◌, ◌<◌, ◌≤◌, List, [], ◌++◌, Option, None, Some, IfSome, length, take, drop, inl, inr, refl, sym, ap, subst, ◌∙◌, arith, length-append}
+use Rattle.std.proofs.Common.{◌≡◌, ◌≢◌, ℕ, zero, suc, ◌+◌, ◌*◌, ◌/◌, ◌<◌, ◌≤◌, List, [], ◌++◌, Option, None, Some, IfSome, length, take, drop, inl, inr, refl, sym, ap, subst, ◌∙◌, arith, length-append}
 use Rattle.std.specs.Prelude.{slice_index, slice_index_or, slice_set}
 use Rattle.std.proofs.lemmas.Bool.{cases_eq}
 use Rattle.std.specs.List.{flat_map}
@@ -13,7 +13,7 @@ use Rattle.bd_wire.specs.Text.{zeros}
 use Rattle.bd_table.specs.Tables.{IsTable, entry_bytes, head_bytes, magic, table_bytes}
 use Rattle.bd_table.specs.Words.{part}
 use Rattle.bd_table.specs.declared.table.Table.{Table}
-use Rattle.bd_table.specs.Image.{HoldsTable, IsElsewhere, SameElsewhere, StaysElsewhere, IsBeforeElsewhere, block_total, first_bytes, bytes_in, table_block}
+use Rattle.bd_table.specs.Image.{HoldsTable, StaysElsewhere, IsBeforeElsewhere, block_total, first_bytes, bytes_in, table_block}
 use Rattle.bd_table.proofs.BlockLemmas.{first_bytes_more, inside}
 use Rattle.bd_table.proofs.TableLemmas.{zero_count, length-entries, length-fields}
 

@@ -11,8 +11,10 @@ use bd_slots::{SlotSet, table_length};
 use std::alloc::{AllocError, Global};
 
 impl Table {
-    // Whether it is a table that takes the slots `at`, which differ, of an image of this many.
-    pub(crate) fn is_table(&self, alloc: Global, slots: u32, at: &[u32]) -> Result<bool, AllocError>
+    /// Whether it is a table that takes the slots `at` of an image of `slots` slots: its nodes, of
+    /// which the root is one, come by rising ids below the next one, and have slots of the image
+    /// that differ from those and from each other; `at` has as many slots as it takes.
+    pub fn is_table(&self, alloc: Global, slots: u32, at: &[u32]) -> Result<bool, AllocError>
         requires { AreSlots slots at.now }
         ensures { IfOk result (λ is. IsTrue is ↔ IsTable slots at.now self.now) }
     {

@@ -6,6 +6,7 @@
 mod check;
 mod codec;
 mod fault;
+pub mod laws;
 mod reading;
 mod table;
 mod writing;

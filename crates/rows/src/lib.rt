@@ -44,6 +44,8 @@ mod slots;
 #[cfg(test)]
 mod superblock;
 #[cfg(test)]
+mod table;
+#[cfg(test)]
 mod volume;
 #[cfg(test)]
 mod wire;

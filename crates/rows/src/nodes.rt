@@ -7,8 +7,8 @@ ghost use Rattle.bd_node.specs.New.{new_root};
 ghost use Rattle.bd_node.specs.Steps.{root_step};
 ghost use Rattle.rows.specs.Cloned.{cloned_leaf, cloned};
 
-use crate::numbers::Numbers;
 use crate::message::{apply, message};
+use crate::numbers::Numbers;
 use bd_command::Command;
 use bd_dirs::{Plan, plan_command};
 use bd_files::put_record;

@@ -3,6 +3,7 @@ use Rattle.std.proofs.lemmas.Result.{on_ok_weaker}
 use Rattle.bd_device.specs.Blocks.{with_block}
 use Rattle.bd_device.specs.Moments.{TornAt, Elapses}
 use Rattle.bd_device.proofs.Moments.{goes_on, within, after}
+use Rattle.bd_wire.specs.Text.{zeros}
 use Rattle.bd_super.specs.Superblocks.{body_bytes, commit_block, body_block, log_block}
 use Rattle.bd_super.specs.Published.{IsStaged, IsStagedOrPublished}
 use Rattle.bd_super.proofs.Staging.{staged_same, outside_written, outside_outside, either_way}
@@ -53,8 +54,8 @@ returns-in_err-settle-2-clause-time g c =
     subst (λ b. Elapses (D.call_count d1) (D.call_count d2) (D.left_since d1) (D.left_since d2) (TornAt b left1)) c.log_block.ensures c.settle.ensures.time in
     let so_far2 = goes_on S (TornAt (log_block half) left1) time1 time2 (torn_log_staged half before left1 now1) in
     let now2 = after S S so_far2 (g.met.D.Device.since_earlier d2) (staged_same half before) (λ _ staged. staged) in
-    let logged = subst (λ b. D.contents d2 ≡ with_block b _ (D.contents d1)) c.log_block.ensures c.in_ok-settle.ensures.written in
-    let closed2 = closed_log (D.contents d1) (D.contents d2) half _ c.in_ok-take_back.ensures.taken logged in
+    let logged : D.contents d2 ≡ with_block (log_block half) (zeros 4096) (D.contents d1) = subst (λ b. D.contents d2 ≡ with_block b (zeros 4096) (D.contents d1)) c.log_block.ensures c.in_ok-settle.ensures.written in
+    let closed2 = closed_log (D.contents d1) (D.contents d2) half (zeros 4096) c.in_ok-take_back.ensures.taken logged in
     let d3 = c.settle-2.new.dev in
     let left3 = D.left_since d3 (D.call_count d3) in
     let time3 : Elapses (D.call_count d2) (D.call_count d3) (D.left_since d2) (D.left_since d3) (TornAt (body_block half) left2) =
@@ -82,8 +83,8 @@ returns-clause-time g c =
     subst (λ b. Elapses (D.call_count d1) (D.call_count d2) (D.left_since d1) (D.left_since d2) (TornAt b left1)) c.log_block.ensures c.settle.ensures.time in
     let so_far2 = goes_on S (TornAt (log_block half) left1) time1 time2 (torn_log_staged half before left1 now1) in
     let now2 = after S S so_far2 (g.met.D.Device.since_earlier d2) (staged_same half before) (λ _ staged. staged) in
-    let logged = subst (λ b. D.contents d2 ≡ with_block b _ (D.contents d1)) c.log_block.ensures c.in_ok-settle.ensures.written in
-    let closed2 = closed_log (D.contents d1) (D.contents d2) half _ c.in_ok-take_back.ensures.taken logged in
+    let logged : D.contents d2 ≡ with_block (log_block half) (zeros 4096) (D.contents d1) = subst (λ b. D.contents d2 ≡ with_block b (zeros 4096) (D.contents d1)) c.log_block.ensures c.in_ok-settle.ensures.written in
+    let closed2 = closed_log (D.contents d1) (D.contents d2) half (zeros 4096) c.in_ok-take_back.ensures.taken logged in
     let d3 = c.settle-2.new.dev in
     let left3 = D.left_since d3 (D.call_count d3) in
     let time3 : Elapses (D.call_count d2) (D.call_count d3) (D.left_since d2) (D.left_since d3) (TornAt (body_block half) left2) =
@@ -92,7 +93,7 @@ returns-clause-time g c =
     let now3 = after S S so_far3 (g.met.D.Device.since_earlier d3) (staged_same half before) (λ _ staged. staged) in
     let settled : D.contents d3 ≡ with_block (body_block half) (body_bytes s) (D.contents d2) =
     subst (λ l. D.contents d3 ≡ with_block (body_block half) l (D.contents d2)) c.body.ensures (subst (λ b. D.contents d3 ≡ with_block b c.body.result (D.contents d2)) c.body_block.ensures c.in_ok-settle-2.ensures.written) in
-    let is_ready = ready known (D.contents d1) (D.contents d2) (D.contents d3) s (D.block_count d3) _ c.in_ok-take_back.ensures.outside c.in_ok-take_back.ensures.taken logged (λ e. omega (arith, e)) settled c.in_ok-settle-2.ensures.shape
+    let is_ready = ready known (D.contents d1) (D.contents d2) (D.contents d3) s (D.block_count d3) (zeros 4096) c.in_ok-take_back.ensures.outside c.in_ok-take_back.ensures.taken logged (λ e. omega (arith, e)) settled c.in_ok-settle-2.ensures.shape
     (c.in_ok-settle-2.ensures.count ∙ c.in_ok-settle.ensures.count ∙ c.in_ok-take_back.ensures.count ∙ c.requires.size) in
     let d4 = c.settle-3.new.dev in
     let time4 : Elapses (D.call_count d3) (D.call_count d4) (D.left_since d3) (D.left_since d4) (TornAt (commit_block half) left3) =
@@ -109,10 +110,10 @@ returns-clause-published g c =
     let d1 = c.take_back.new.dev in
     let d2 = c.settle.new.dev in
     let d3 = c.settle-2.new.dev in
-    let logged = subst (λ b. D.contents d2 ≡ with_block b _ (D.contents d1)) c.log_block.ensures c.in_ok-settle.ensures.written in
+    let logged : D.contents d2 ≡ with_block (log_block half) (zeros 4096) (D.contents d1) = subst (λ b. D.contents d2 ≡ with_block b (zeros 4096) (D.contents d1)) c.log_block.ensures c.in_ok-settle.ensures.written in
     let settled : D.contents d3 ≡ with_block (body_block half) (body_bytes s) (D.contents d2) =
     subst (λ l. D.contents d3 ≡ with_block (body_block half) l (D.contents d2)) c.body.ensures (subst (λ b. D.contents d3 ≡ with_block b c.body.result (D.contents d2)) c.body_block.ensures c.in_ok-settle-2.ensures.written) in
-    let is_ready = ready known (D.contents d1) (D.contents d2) (D.contents d3) s (D.block_count d3) _ c.in_ok-take_back.ensures.outside c.in_ok-take_back.ensures.taken logged (λ e. omega (arith, e)) settled c.in_ok-settle-2.ensures.shape
+    let is_ready = ready known (D.contents d1) (D.contents d2) (D.contents d3) s (D.block_count d3) (zeros 4096) c.in_ok-take_back.ensures.outside c.in_ok-take_back.ensures.taken logged (λ e. omega (arith, e)) settled c.in_ok-settle-2.ensures.shape
     (c.in_ok-settle-2.ensures.count ∙ c.in_ok-settle.ensures.count ∙ c.in_ok-take_back.ensures.count ∙ c.requires.size) in
     let d4 = c.settle-3.new.dev in
     on_ok_weaker c.settle-3.result

@@ -1,4 +1,4 @@
-use Rattle.std.proofs.Common.{◌≡◌, ◌*◌, ◌<◌, ℕ, List, length, IfSome}
+use Rattle.std.proofs.Common.{◌≡◌, ◌*◌, ℕ, List, length, IfSome}
 use Rattle.bd_device.specs.Moments.{Nothing, Elapses}
 use Rattle.bd_table.specs.Image.{first_bytes}
 use Rattle.bd_table.proofs.reading.read_slots.Given as goal

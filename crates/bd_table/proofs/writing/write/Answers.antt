@@ -1,6 +1,6 @@
-use Rattle.std.proofs.Common.{◌≡◌, ◌<◌, ℕ, [], Option, IfSome, length, subst, sym, ◌∙◌, arith}
+use Rattle.std.proofs.Common.{◌≡◌, ◌<◌, ℕ, [], IfSome, length, subst, ◌∙◌, arith}
 use Rattle.std.specs.Prelude.{slice_index_or}
-use Rattle.bd_device.specs.Blocks.{Image, with_block}
+use Rattle.bd_device.specs.Blocks.{with_block}
 use Rattle.bd_device.specs.Moments.{TornAt, Elapses}
 use Rattle.bd_device.proofs.Moments.{goes_on, after}
 use Rattle.bd_table.specs.Image.{IsBeforeElsewhere, block_total, table_block}
