@@ -15,7 +15,7 @@ pub use batches::{next_batch, Batch};
 pub use compaction::compact;
 pub use exchanging::{edge_to, end_of, exchange};
 pub use halves::split;
-pub use pending::is_pending;
+pub use pending::{can_touch, end_before, is_pending};
 pub use receiving::receive;
 pub use stripping::strip;
 
