@@ -231,7 +231,7 @@ meaning_without below (Inner level es buffer) place e h here k out =
 -- ---- a push
 
 -- at a key of the edge
-pushed_inside : (below has : NodesAt) (e f : Edge) (hi : Option (List ℕ)) (buffer moved : List Message) (count : ℕ) (k : List ℕ) → f.seen ≡ e.seen + count → IsMoved f hi (take count (drop e.seen buffer)) moved → IsKey k → InRange f.pivot hi k
+pub pushed_inside : (below has : NodesAt) (e f : Edge) (hi : Option (List ℕ)) (buffer moved : List Message) (count : ℕ) (k : List ℕ) → f.seen ≡ e.seen + count → IsMoved f hi (take count (drop e.seen buffer)) moved → IsKey k → InRange f.pivot hi k
     → child_at has f.child (f.source ++ drop f.lift k) ≡ acts has moved (drop f.lift k) (child_at below e.child (e.source ++ drop e.lift k))
     → AllByRecursion (λ c. (l : List ℕ) → has c l ≡ below c l) (flat_map message_names buffer)
     → edge_at has f buffer k ≡ edge_at below e buffer k
