@@ -1,0 +1,5 @@
+pub mod PendingSizes
+pub mod Abundance
+pub mod Givens
+pub mod Worn
+pub mod RootSplits

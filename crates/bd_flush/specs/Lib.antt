@@ -1,0 +1,3 @@
+pub mod Pending
+pub mod Flushed
+pub mod Splits

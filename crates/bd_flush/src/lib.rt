@@ -1,0 +1,10 @@
+//! Steps of a flush: what waits in a node goes down, and the tree has what it had.
+//! The layers above use `split_root` and `fullest`, and what a step leaves, `IsFlushed`.
+#![tactic(auto)]
+
+mod filling;
+pub mod laws;
+mod splitting;
+
+pub use filling::{FullEdge, fullest};
+pub use splitting::split_root;
