@@ -103,7 +103,7 @@ outside_cases k p hi out =
     ]
 
 -- whether a key is one of a range
-in_range : (p : List ℕ) (hi : Option (List ℕ)) (k : List ℕ) → InRange p hi k ⊎ (¬ InRange p hi k)
+pub in_range : (p : List ℕ) (hi : Option (List ℕ)) (k : List ℕ) → InRange p hi k ⊎ (¬ InRange p hi k)
 in_range p hi k =
     elim (cases_Bool (is_lt (key_cmp k p))) [
       | inl less ↦ inr (λ range. range.0 (lt_is (key_cmp k p) less))
