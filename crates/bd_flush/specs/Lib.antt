@@ -1,3 +1,4 @@
 pub mod Pending
 pub mod Flushed
 pub mod Splits
+pub mod Children

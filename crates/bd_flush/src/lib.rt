@@ -2,9 +2,13 @@
 //! The layers above use `split_root` and `fullest`, and what a step leaves, `IsFlushed`.
 #![tactic(auto)]
 
+mod children;
+mod fetching;
 mod filling;
 pub mod laws;
 mod splitting;
 
+pub use children::{split_child, ChildSplit};
+pub use fetching::{fetch, Fetched};
 pub use filling::{FullEdge, fullest};
 pub use splitting::split_root;
