@@ -44,7 +44,7 @@ use Rattle.bd_flush.proofs.ChildSteps.{has_below, has_child, has_old, has_new, I
 -- ---- how often a node with other edges in place of one names another
 
 -- without the edge, and then by the edges in its place
-times_exchanged : (n : Node) (place : ℕ) (list : List Edge) (c : ℕ) → 1 ≤ level_of n → times (exchanged n place list) c ≡ times (exchanged n place []) c + count_names c (flat_map edge_names list)
+pub times_exchanged : (n : Node) (place : ℕ) (list : List Edge) (c : ℕ) → 1 ≤ level_of n → times (exchanged n place list) c ≡ times (exchanged n place []) c + count_names c (flat_map edge_names list)
 times_exchanged (Leaf entries) place list c inner = absurd (omega arith)
 times_exchanged (Inner level es buffer) place list c inner =
     let xs : List Edge = take place es in
@@ -60,22 +60,22 @@ times_exchanged (Inner level es buffer) place list c inner =
     count_names-append c (flat_map edge_names list) (flat_map edge_names ys))
 
 -- the node with the edge in its own place
-exchanged_same : (n : Node) (place : ℕ) (e : Edge) → IsEdgeAt n place e → exchanged n place (e ∷ []) ≡ n
+pub exchanged_same : (n : Node) (place : ℕ) (e : Edge) → IsEdgeAt n place e → exchanged n place (e ∷ []) ≡ n
 exchanged_same (Leaf entries) place e here = refl
 exchanged_same (Inner level es buffer) place e here = ap (λ (l : List Edge). Inner level l buffer) (sym (at_place es place e here).whole)
 
-inner_of : (n : Node) (place : ℕ) (e : Edge) → IsShape n → IsEdgeAt n place e → 1 ≤ level_of n
+pub inner_of : (n : Node) (place : ℕ) (e : Edge) → IsShape n → IsEdgeAt n place e → 1 ≤ level_of n
 inner_of (Leaf entries) place e h here = absurd (none-some e here)
 inner_of (Inner level es buffer) place e h here = h.low
 
 -- the edge's child, and what the node names besides
-times_apart : (n : Node) (place child : ℕ) (e : Edge) (c : ℕ) → IsShape n → IsWayTo n place child e → times n c ≡ times (exchanged n place []) c + count_names c (child ∷ [])
+pub times_apart : (n : Node) (place child : ℕ) (e : Edge) (c : ℕ) → IsShape n → IsWayTo n place child e → times n c ≡ times (exchanged n place []) c + count_names c (child ∷ [])
 times_apart n place child e c h way =
     ap (λ (m : Node). times m c) (sym (exchanged_same n place e way.here))
     ∙ times_exchanged n place (e ∷ []) c (inner_of n place e h way.here)
     ∙ ap (λ (o : Option ℕ). times (exchanged n place []) c + count_names c (option_to_list o ++ [])) way.child_is
 
-count_own : (c : ℕ) → count_names c (c ∷ []) ≡ 1
+pub count_own : (c : ℕ) → count_names c (c ∷ []) ≡ 1
 count_own c = omega (arith, count-cons_same c [])
 
 pub child_named : (n : Node) (place child : ℕ) (e : Edge) → IsShape n → IsWayTo n place child e → 1 ≤ times n child
@@ -99,12 +99,12 @@ edges_keep below has n place e list h fits inside others k key =
           ∙ meaning_without below n place e h fits.here k out
     ]
 
-gotos_agree : (below has : NodesAt) (n : Node) (place : ℕ) → AllByRecursion (Agree has below) (names (exchanged n place [])) → AllByRecursion (Agree has below) (flat_map message_names (buffer_of n))
+pub gotos_agree : (below has : NodesAt) (n : Node) (place : ℕ) → AllByRecursion (Agree has below) (names (exchanged n place [])) → AllByRecursion (Agree has below) (flat_map message_names (buffer_of n))
 gotos_agree below has (Leaf entries) place h = tt
 gotos_agree below has (Inner level es buffer) place h = each_second (Agree has below) (flat_map edge_names (take place es ++ drop (place + 1) es)) (flat_map message_names buffer) h
 
 -- an edge that has seen as much, whose child has what the old one's has
-edge_same : (below has : NodesAt) (n : Node) (place : ℕ) (e f : Edge) (k : List ℕ) → AllByRecursion (Agree has below) (names (exchanged n place [])) → f.seen ≡ e.seen
+pub edge_same : (below has : NodesAt) (n : Node) (place : ℕ) (e f : Edge) (k : List ℕ) → AllByRecursion (Agree has below) (names (exchanged n place [])) → f.seen ≡ e.seen
     → child_at has f.child (f.source ++ drop f.lift k) ≡ child_at below e.child (e.source ++ drop e.lift k) → edge_at has f (buffer_of n) k ≡ edge_at below e (buffer_of n) k
 edge_same below has n place e f k others seen child =
     let old : Option (List ℕ) = child_at below e.child (e.source ++ drop e.lift k) in
@@ -114,19 +114,19 @@ edge_same below has n place e f k others seen child =
 
 -- ---- a key of the edge, and what the child is asked for it
 
-IsKey-drop : (count : ℕ) (k : List ℕ) → IsKey k → IsKey (drop count k)
+pub IsKey-drop : (count : ℕ) (k : List ℕ) → IsKey k → IsKey (drop count k)
 IsKey-drop count k h i = subst (λ (b : ℕ). b < 256) (sym (get_or-drop count k i 0)) (h (count + i))
 
-lifted_length : (e : Edge) → e.lift ≤ length e.pivot → length (lifted e) ≡ e.lift
+pub lifted_length : (e : Edge) → e.lift ≤ length e.pivot → length (lifted e) ≡ e.lift
 lifted_length e low = omega (arith, length-take e.lift e.pivot)
 
-key_parts : (n : ℕ) (e : Edge) (hi : Option (List ℕ)) (k : List ℕ) → IsEdge n e hi → IsKey k → InRange e.pivot hi k → k ≡ lifted e ++ drop e.lift k
+pub key_parts : (n : ℕ) (e : Edge) (hi : Option (List ℕ)) (k : List ℕ) → IsEdge n e hi → IsKey k → InRange e.pivot hi k → k ≡ lifted e ++ drop e.lift k
 key_parts n e hi k h key range =
     let common : take (length (lifted e)) k ≡ lifted e = h.common k key range in
     sym (ap (λ (l : List ℕ). l ++ drop e.lift k) (sym common ∙ ap (λ (i : ℕ). take i k) (lifted_length e h.lift)) ∙ take-append-drop e.lift k)
 
 -- the parts compare as the keys do
-parts_cmp : (n : ℕ) (e : Edge) (hi : Option (List ℕ)) (k pivot : List ℕ) → IsEdge n e hi → IsKey k → InRange e.pivot hi k → key_cmp k (parting e pivot) ≡ key_cmp (drop e.lift k) pivot
+pub parts_cmp : (n : ℕ) (e : Edge) (hi : Option (List ℕ)) (k pivot : List ℕ) → IsEdge n e hi → IsKey k → InRange e.pivot hi k → key_cmp k (parting e pivot) ≡ key_cmp (drop e.lift k) pivot
 parts_cmp n e hi k pivot h key range =
     ap (λ (l : List ℕ). key_cmp l (parting e pivot)) (key_parts n e hi k h key range) ∙ cmp_after (lifted e) (drop e.lift k) pivot
 
@@ -151,22 +151,22 @@ pub record IsSplittableOf (nodes : Nodes) (t : Table) (p : ℕ) (n : Node) (plac
   pub child_there : nodes c ≡ Some m
   pub once : t.count c ≡ 1
 
-edge_shape : (t : Table) (p : ℕ) (n : Node) (place c : ℕ) (e : Edge) (m : Node) → IsSplittable t p n place c e m → IsEdge (length (buffer_of n)) e (end_at n place)
+pub edge_shape : (t : Table) (p : ℕ) (n : Node) (place c : ℕ) (e : Edge) (m : Node) → IsSplittable t p n place c e m → IsEdge (length (buffer_of n)) e (end_at n place)
 edge_shape t p n place c e m s = own_shape n place e s.own.shape s.way.here
 
-lower_child : (t : Table) (p : ℕ) (n : Node) (place c : ℕ) (e : Edge) (m : Node) → IsSplittable t p n place c e m → IsLower t (t.level p) c
+pub lower_child : (t : Table) (p : ℕ) (n : Node) (place c : ℕ) (e : Edge) (m : Node) → IsSplittable t p n place c e m → IsLower t (t.level p) c
 lower_child t p n place c e m s = named_has (IsLower t (t.level p)) c (names n) s.own.lower (child_named n place c e s.own.shape s.way)
 
-some_next : (t : Table) → IsTable t → 1 ≤ t.next
+pub some_next : (t : Table) → IsTable t → 1 ≤ t.next
 some_next t table = let a : 1 ≤ t.root = table.low t.root table.root in let b : t.root < t.next = table.below t.root table.root in omega arith
 
 -- ---- the two edges
 
-below_end : (k p : List ℕ) (hi : Option (List ℕ)) → IsBelow k p → IsBelowEnd p hi → IsBelowEnd k hi
+pub below_end : (k p : List ℕ) (hi : Option (List ℕ)) → IsBelow k p → IsBelowEnd p hi → IsBelowEnd k hi
 below_end k p None below end = tt
 below_end k p (Some hi) below end = total.trans k p hi below end
 
-lower_edge_shape : (n : ℕ) (e : Edge) (hi : Option (List ℕ)) (p : List ℕ) → IsEdge n e hi → IsBelow e.pivot p → IsBelowEnd p hi → IsEdge n e (Some p)
+pub lower_edge_shape : (n : ℕ) (e : Edge) (hi : Option (List ℕ)) (p : List ℕ) → IsEdge n e hi → IsBelow e.pivot p → IsBelowEnd p hi → IsEdge n e (Some p)
 lower_edge_shape n e hi p h above below = record {
   pivot = h.pivot;
   rising = above;
@@ -177,7 +177,7 @@ lower_edge_shape n e hi p h above below = record {
   seen = h.seen;
 }
 
-upper_edge_shape : (n : ℕ) (e : Edge) (hi : Option (List ℕ)) (pivot : List ℕ) (child : ℕ) → IsEdge n e hi → IsBelow e.pivot (parting e pivot) → IsBelowEnd (parting e pivot) hi → length (parting e pivot) ≤ key_limit → 1 ≤ child → child < 2 ^ 64
+pub upper_edge_shape : (n : ℕ) (e : Edge) (hi : Option (List ℕ)) (pivot : List ℕ) (child : ℕ) → IsEdge n e hi → IsBelow e.pivot (parting e pivot) → IsBelowEnd (parting e pivot) hi → length (parting e pivot) ≤ key_limit → 1 ≤ child → child < 2 ^ 64
     → IsEdge n (upper_edge e (parting e pivot) child) hi
 upper_edge_shape n e hi pivot child h above below short some small =
     let long : length (lifted e) ≡ e.lift = lifted_length e h.lift in
@@ -192,7 +192,7 @@ upper_edge_shape n e hi pivot child h above below short some small =
       seen = h.seen;
     }
 
-abbrev both : Edge → List ℕ → ℕ → List Edge
+abbrev pub both : Edge → List ℕ → ℕ → List Edge
 both e pivot next = e ∷ upper_edge e (parting e pivot) next ∷ []
 
 pub both_fit_in : (n : Node) (place : ℕ) (e : Edge) (pivot : List ℕ) (next : ℕ) → IsShape n → IsEdgeAt n place e → length (edges_of n) ≤ 14 → 1 ≤ next → next < 2 ^ 64 → IsInside n place e (parting e pivot) → length (parting e pivot) ≤ key_limit
@@ -209,10 +209,10 @@ both_fit_in n place e pivot next h here few some small inside short =
       );
     }
 
-both_fit : (t : Table) (p : ℕ) (n : Node) (place c : ℕ) (e : Edge) (m : Node) (pivot : List ℕ) → IsSplittable t p n place c e m → IsInside n place e (parting e pivot) → length (parting e pivot) ≤ key_limit → FitsAt n place e (both e pivot t.next)
+pub both_fit : (t : Table) (p : ℕ) (n : Node) (place c : ℕ) (e : Edge) (m : Node) (pivot : List ℕ) → IsSplittable t p n place c e m → IsInside n place e (parting e pivot) → length (parting e pivot) ≤ key_limit → FitsAt n place e (both e pivot t.next)
 both_fit t p n place c e m pivot s inside short = both_fit_in n place e pivot t.next s.own.shape s.way.here s.few (some_next t s.table) s.next inside short
 
-one_fits : (t : Table) (p : ℕ) (n : Node) (place c : ℕ) (e : Edge) (m : Node) → IsSplittable t p n place c e m → FitsAt n place e (e ∷ [])
+pub one_fits : (t : Table) (p : ℕ) (n : Node) (place c : ℕ) (e : Edge) (m : Node) → IsSplittable t p n place c e m → FitsAt n place e (e ∷ [])
 one_fits t p n place c e m s = record {
   here = s.way.here;
   few = (let few : length (edges_of n) ≤ 14 = s.few in omega arith);
@@ -222,18 +222,18 @@ one_fits t p n place c e m s = record {
 
 -- ---- names
 
-level_exchanged : (n : Node) (place : ℕ) (list : List Edge) → level_of (exchanged n place list) ≡ level_of n
+pub level_exchanged : (n : Node) (place : ℕ) (list : List Edge) → level_of (exchanged n place list) ≡ level_of n
 level_exchanged (Leaf entries) place list = refl
 level_exchanged (Inner level es buffer) place list = refl
 
 -- a compacted node still names its edges' children
-compacted_named : (n m : Node) → IsCompacted n m → (x : ℕ) → count_names x (flat_map edge_names (edges_of n)) ≤ times m x
+pub compacted_named : (n m : Node) → IsCompacted n m → (x : ℕ) → count_names x (flat_map edge_names (edges_of n)) ≤ times m x
 compacted_named (Leaf entries) m h x = omega arith
 compacted_named (Inner level es buffer) m h x =
     subst (λ (d : Node). count_names x (flat_map edge_names es) ≤ times d x) (sym h.swept)
     (omega (arith, ap (count_names x) (edge_names-lowered h.mask es), count_names-append x (flat_map edge_names (map (lowered h.mask) es)) (flat_map message_names (staying h.mask buffer))))
 
-exchanged_named : (n : Node) (place : ℕ) (list : List Edge) (x : ℕ) → 1 ≤ level_of n → count_names x (flat_map edge_names list) ≤ count_names x (flat_map edge_names (edges_of (exchanged n place list)))
+pub exchanged_named : (n : Node) (place : ℕ) (list : List Edge) (x : ℕ) → 1 ≤ level_of n → count_names x (flat_map edge_names list) ≤ count_names x (flat_map edge_names (edges_of (exchanged n place list)))
 exchanged_named (Leaf entries) place list x inner = absurd (omega arith)
 exchanged_named (Inner level es buffer) place list x inner =
     let xs : List Edge = take place es in
@@ -244,14 +244,14 @@ exchanged_named (Inner level es buffer) place list x inner =
     count_names-append x (flat_map edge_names xs) (flat_map edge_names (list ++ ys)),
     count_names-append x (flat_map edge_names list) (flat_map edge_names ys))
 
-count_two : (x a b : ℕ) → count_names x (a ∷ b ∷ []) ≡ count_names x (a ∷ []) + count_names x (b ∷ [])
+pub count_two : (x a b : ℕ) → count_names x (a ∷ b ∷ []) ≡ count_names x (a ∷ []) + count_names x (b ∷ [])
 count_two x a b = count_names-append x (a ∷ []) (b ∷ [])
 
-both_names : (e : Edge) (pivot : List ℕ) (c next : ℕ) → e.child ≡ Some c → flat_map edge_names (both e pivot next) ≡ c ∷ next ∷ []
+pub both_names : (e : Edge) (pivot : List ℕ) (c next : ℕ) → e.child ≡ Some c → flat_map edge_names (both e pivot next) ≡ c ∷ next ∷ []
 both_names e pivot c next is = ap (λ (o : Option ℕ). option_to_list o ++ (next ∷ [])) is
 
 -- what the parent names then
-parent_named : (t : Table) (p : ℕ) (n : Node) (place c : ℕ) (e : Edge) (m : Node) (pivot : List ℕ) (parent : Node) → IsSplittable t p n place c e m → IsCompacted (exchanged n place (both e pivot t.next)) parent → (x : ℕ) → 1 ≤ times parent x
+pub parent_named : (t : Table) (p : ℕ) (n : Node) (place c : ℕ) (e : Edge) (m : Node) (pivot : List ℕ) (parent : Node) → IsSplittable t p n place c e m → IsCompacted (exchanged n place (both e pivot t.next)) parent → (x : ℕ) → 1 ≤ times parent x
     → IsLower t (t.level p) x ⊎ ((t.next ≤ x) × (x < t.next + 1))
 parent_named t p n place c e m pivot parent s compacted x one =
     elim (cases_eq t.next x) [
@@ -262,7 +262,7 @@ parent_named t p n place c e m pivot parent s compacted x one =
           inl (named_has (IsLower t (t.level p)) x (names n) s.own.lower named))
     ]
 
-parent_names : (t : Table) (p : ℕ) (n : Node) (place c : ℕ) (e : Edge) (m : Node) (pivot : List ℕ) (parent : Node) → IsSplittable t p n place c e m → IsCompacted (exchanged n place (both e pivot t.next)) parent → (x : ℕ) → count_names x (c ∷ t.next ∷ []) ≤ times parent x
+pub parent_names : (t : Table) (p : ℕ) (n : Node) (place c : ℕ) (e : Edge) (m : Node) (pivot : List ℕ) (parent : Node) → IsSplittable t p n place c e m → IsCompacted (exchanged n place (both e pivot t.next)) parent → (x : ℕ) → count_names x (c ∷ t.next ∷ []) ≤ times parent x
 parent_names t p n place c e m pivot parent s compacted x =
     omega (arith, compacted_named (exchanged n place (both e pivot t.next)) parent compacted x, exchanged_named n place (both e pivot t.next) x (inner_of n place e s.own.shape s.way.here), ap (count_names x) (both_names e pivot c t.next s.way.child_is))
 
@@ -326,7 +326,7 @@ split_change t p n place c e m _ _ _ s (upper first pivot second halves outside)
 -- ---- what the parent has
 
 -- the child's other names, and what else the parent names, have what they had
-others_agree : (nodes : Nodes) (t : Table) (p : ℕ) (n : Node) (place c : ℕ) (e : Edge) (m half : Node) (made : List Node) → IsSplittableOf nodes t p n place c e m → AllByRecursion (Agree (has_below nodes t.next c half made) (at nodes)) (names (exchanged n place []))
+pub others_agree : (nodes : Nodes) (t : Table) (p : ℕ) (n : Node) (place c : ℕ) (e : Edge) (m half : Node) (made : List Node) → IsSplittableOf nodes t p n place c e m → AllByRecursion (Agree (has_below nodes t.next c half made) (at nodes)) (names (exchanged n place []))
 others_agree nodes t p n place c e m half made s =
     each_named (Agree (has_below nodes t.next c half made) (at nodes)) (names (exchanged n place [])) (λ x one.
     let named : 1 ≤ times n x = omega (arith, times_apart n place c e x s.of.own.shape s.of.way) in
@@ -337,19 +337,19 @@ others_agree nodes t p n place c e m half made s =
     let here : 1 ≤ times (exchanged n place []) c = subst (λ (i : ℕ). 1 ≤ times (exchanged n place []) i) same one in
     omega (arith, times_apart n place c e c s.of.own.shape s.of.way, count_own c))) low)
 
-at_child : (nodes : Nodes) (t : Table) (p : ℕ) (n : Node) (place c : ℕ) (e : Edge) (m : Node) → IsSplittableOf nodes t p n place c e m → (x : List ℕ) → IsKey x → at nodes c x ≡ node_at (at nodes) m x
+pub at_child : (nodes : Nodes) (t : Table) (p : ℕ) (n : Node) (place c : ℕ) (e : Edge) (m : Node) → IsSplittableOf nodes t p n place c e m → (x : List ℕ) → IsKey x → at nodes c x ≡ node_at (at nodes) m x
 at_child nodes t p n place c e m s x key = (at-meets nodes (sound-levelled nodes t s.sound)).each c m s.child_there x ∙ node_has-key (at nodes) m x key
 
 -- what the edge asks, and what a half has there
-abbrev asks : NodesAt → Edge → List ℕ → Option (List ℕ)
+abbrev pub asks : NodesAt → Edge → List ℕ → Option (List ℕ)
 asks below e k = child_at below e.child (e.source ++ drop e.lift k)
 
-asks_at : (below : NodesAt) (e : Edge) (c : ℕ) (k : List ℕ) → e.child ≡ Some c → e.source ≡ [] → asks below e k ≡ below c (drop e.lift k)
+pub asks_at : (below : NodesAt) (e : Edge) (c : ℕ) (k : List ℕ) → e.child ≡ Some c → e.source ≡ [] → asks below e k ≡ below c (drop e.lift k)
 asks_at below e c k child plain =
     ap (λ (o : Option ℕ). child_at below o (e.source ++ drop e.lift k)) child ∙ ap (λ (l : List ℕ). below c (l ++ drop e.lift k)) plain
 
 -- the child's half is asked for a key of its own
-child_value : (nodes : Nodes) (t : Table) (p : ℕ) (n : Node) (place c : ℕ) (e : Edge) (m : Node) (own : List ℕ → Type 0) (half : Node) (made : List Node) → IsSplittableOf nodes t p n place c e m → IsHalf m own half
+pub child_value : (nodes : Nodes) (t : Table) (p : ℕ) (n : Node) (place c : ℕ) (e : Edge) (m : Node) (own : List ℕ → Type 0) (half : Node) (made : List Node) → IsSplittableOf nodes t p n place c e m → IsHalf m own half
     → (k : List ℕ) → IsKey k → own (drop e.lift k) → asks (has_below nodes t.next c half made) e k ≡ asks (at nodes) e k
 child_value nodes t p n place c e m own half made s is k key mine =
     let x : List ℕ = drop e.lift k in
@@ -449,7 +449,7 @@ split_named t p n place c e m _ _ _ s (parted first pivot second parent halves i
 split_named t p n place c e m _ _ _ s (lower first pivot second halves outside) = child_named n place c e s.own.shape s.way
 split_named t p n place c e m _ _ _ s (upper first pivot second halves outside) = child_named n place c e s.own.shape s.way
 
-size_exchanged : (n : Node) (place : ℕ) (list : List Edge) → buffer_size (exchanged n place list) ≡ buffer_size n
+pub size_exchanged : (n : Node) (place : ℕ) (list : List Edge) → buffer_size (exchanged n place list) ≡ buffer_size n
 size_exchanged (Leaf entries) place list = refl
 size_exchanged (Inner level es buffer) place list = refl
 

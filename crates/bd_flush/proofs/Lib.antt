@@ -6,3 +6,6 @@ pub mod RootSplits
 pub mod ChildSteps
 pub mod ChildSplits
 pub mod ChildCommits
+pub mod Pushed
+pub mod PushCommits
+pub mod Batches

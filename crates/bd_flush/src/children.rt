@@ -101,10 +101,10 @@ fn child_split(
 
 // A node and its child after the child's split, and what is made.
 #[derive(Drop)]
-struct Parts {
-    node: Node,
-    half: Node,
-    made: Vec<Node>,
+pub struct Parts {
+    pub node: Node,
+    pub half: Node,
+    pub made: Vec<Node>,
 }
 
 // A node and its child after the child's split, and none where the pivot would be too long.
@@ -160,7 +160,7 @@ fn one_half(alloc: Global, node: &Node, half: Node) -> Result<Parts, AllocError>
 }
 
 // The edges of a node, and none of a leaf.
-fn edges_of(node: &Node) -> &[Edge]
+pub fn edges_of(node: &Node) -> &[Edge]
     ensures { result.now ≡ edges_of node.now }
 {
     match node {
@@ -234,7 +234,7 @@ fn with_upper(
 }
 
 // The step that changes a node and its child, and makes others.
-fn child_step(
+pub fn child_step(
     alloc: Global,
     root: u64,
     parent: u64,

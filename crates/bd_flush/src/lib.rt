@@ -6,9 +6,11 @@ mod children;
 mod fetching;
 mod filling;
 pub mod laws;
+mod pushing;
 mod splitting;
 
 pub use children::{split_child, ChildSplit};
 pub use fetching::{fetch, Fetched};
 pub use filling::{FullEdge, fullest};
+pub use pushing::push;
 pub use splitting::split_root;
