@@ -103,7 +103,7 @@ outside_cases k p hi out =
     ]
 
 -- whether a key is one of a range
-in_range : (p : List ℕ) (hi : Option (List ℕ)) (k : List ℕ) → InRange p hi k ⊎ (¬ InRange p hi k)
+pub in_range : (p : List ℕ) (hi : Option (List ℕ)) (k : List ℕ) → InRange p hi k ⊎ (¬ InRange p hi k)
 in_range p hi k =
     elim (cases_Bool (is_lt (key_cmp k p))) [
       | inl less ↦ inr (λ range. range.0 (lt_is (key_cmp k p) less))
@@ -231,7 +231,7 @@ meaning_without below (Inner level es buffer) place e h here k out =
 -- ---- a push
 
 -- at a key of the edge
-pushed_inside : (below has : NodesAt) (e f : Edge) (hi : Option (List ℕ)) (buffer moved : List Message) (count : ℕ) (k : List ℕ) → f.seen ≡ e.seen + count → IsMoved f hi (take count (drop e.seen buffer)) moved → IsKey k → InRange f.pivot hi k
+pub pushed_inside : (below has : NodesAt) (e f : Edge) (hi : Option (List ℕ)) (buffer moved : List Message) (count : ℕ) (k : List ℕ) → f.seen ≡ e.seen + count → IsMoved f hi (take count (drop e.seen buffer)) moved → IsKey k → InRange f.pivot hi k
     → child_at has f.child (f.source ++ drop f.lift k) ≡ acts has moved (drop f.lift k) (child_at below e.child (e.source ++ drop e.lift k))
     → AllByRecursion (λ c. (l : List ℕ) → has c l ≡ below c l) (flat_map message_names buffer)
     → edge_at has f buffer k ≡ edge_at below e buffer k

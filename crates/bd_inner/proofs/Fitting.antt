@@ -19,7 +19,7 @@ use Rattle.bd_inner.proofs.Exchanged.{at_place}
 
 -- ---- one edge of a node
 
-own_shape : (n : Node) (place : ℕ) (e : Edge) → IsShape n → IsEdgeAt n place e → IsEdge (length (buffer_of n)) e (end_at n place)
+pub own_shape : (n : Node) (place : ℕ) (e : Edge) → IsShape n → IsEdgeAt n place e → IsEdge (length (buffer_of n)) e (end_at n place)
 own_shape (Leaf entries) place e h here = absurd (none-some e here)
 own_shape (Inner level es buffer) place e h here =
     (EachEdge-back (IsEdge (length buffer)) (take place es) (e ∷ drop (place + 1) es)

@@ -10,14 +10,15 @@ use Rattle.std.proofs.lemmas.List.Sums.{sum_by-cons, sum_by-append}
 use Rattle.std.proofs.lemmas.List.Concat.{flat_map-append}
 use Rattle.bd_keys.specs.Keys.{IsKey, InRange}
 use Rattle.bd_message.specs.declared.message.Message.{Message}
-use Rattle.bd_message.specs.Messages.{IsMessage, size}
+use Rattle.bd_message.specs.declared.message.Message.TheVariants.{Put, Del, Patch, Cut, Goto}
+use Rattle.bd_message.specs.Messages.{IsMessage, IsPlain, size}
 use Rattle.bd_message.specs.Effect.{act, acts}
 use Rattle.bd_node.specs.declared.node.Edge.{Edge}
 use Rattle.bd_node.specs.Nodes.{message_names}
-use Rattle.bd_node.proofs.Lookup.{each_both}
+use Rattle.bd_node.proofs.Lookup.{each_first, each_second, each_both}
 use Rattle.bd_node.proofs.Appending.{acts-append}
 use Rattle.bd_inner.specs.Stripping.{stripped}
-use Rattle.bd_inner.specs.Moving.{goto_count, lifted, IsLifted, CanMove, IsMoved, IsBatch}
+use Rattle.bd_inner.specs.Moving.{goto_count, lifted, IsLifted, CanMove, IsPlainFor, IsMoved, IsBatch}
 use Rattle.bd_inner.proofs.Touched.{CanTouch}
 use Rattle.bd_inner.proofs.Compacting.{count_names, count_names-append}
 use Rattle.bd_inner.proofs.Stripped.{stripped_effect, stripped_message, stripped_size, stripped_names}
@@ -35,6 +36,7 @@ moved_none e hi = record {
   each = tt;
   size = omega arith;
   names = λ c. omega arith;
+  plain = λ h. tt;
 }
 
 pub moved_both : (e : Edge) (hi : Option (List ℕ)) (xs ys a b : List Message) → IsMoved e hi xs a → IsMoved e hi ys b → IsMoved e hi (xs ++ ys) (a ++ b)
@@ -47,6 +49,7 @@ moved_both e hi xs ys a b h g = record {
   each = each_both IsMessage a b h.each g.each;
   size = (let p : sum_by size a ≤ sum_by size xs = h.size in let q : sum_by size b ≤ sum_by size ys = g.size in omega (arith, sum_by-append size a b, sum_by-append size xs ys));
   names = λ c. (let p : goto_count c a ≤ goto_count c xs = h.names c in let q : goto_count c b ≤ goto_count c ys = g.names c in omega (arith, goto_count-append c a b, goto_count-append c xs ys));
+  plain = λ all. each_both IsPlain a b (h.plain (each_first (IsPlainFor e hi) xs ys all)) (g.plain (each_second (IsPlainFor e hi) xs ys all));
 }
 
 -- one message further
@@ -70,6 +73,24 @@ some_names : (c : ℕ) (o : Option Message) (m : Message) → IfSome o (λ n. me
 some_names c None m h = omega arith
 some_names c (Some n) m h = omega (arith, ap (λ (l : List ℕ). count_names c (l ++ [])) h)
 
+plain_names : (m : Message) → IsPlain m → message_names m ≡ []
+plain_names (Put key value) h = refl
+plain_names (Del key) h = refl
+plain_names (Patch key off bytes) h = refl
+plain_names (Cut prefix from) h = refl
+plain_names (Goto prefix source child) h = absurd h
+
+names_plain : (m : Message) → message_names m ≡ [] → IsPlain m
+names_plain (Put key value) h = tt
+names_plain (Del key) h = tt
+names_plain (Patch key off bytes) h = tt
+names_plain (Cut prefix from) h = tt
+names_plain (Goto prefix source child) h = absurd (let e : 1 ≡ 0 = ap (λ (l : List ℕ). length l) h in omega arith)
+
+some_plain : (o : Option Message) (m : Message) → IfSome o (λ n. message_names n ≡ message_names m) → IsPlain m → AllByRecursion IsPlain (option_to_list o)
+some_plain None m h plain = tt
+some_plain (Some n) m h plain = (names_plain n (h ∙ plain_names m plain), tt)
+
 -- a key of an edge is what is left out of it and the rest
 key_parts : (e : Edge) (hi : Option (List ℕ)) (k : List ℕ) → IsLifted e hi → IsKey k → InRange e.pivot hi k → lifted e ++ drop e.lift k ≡ k
 key_parts e hi k h key range =
@@ -88,6 +109,7 @@ moved_one e hi m prefix found h own move can prefix_is found_is =
       each = some_each (stripped (lifted e) m) (stripped_message (lifted e) m own);
       size = some_size (stripped (lifted e) m) m (stripped_size (lifted e) m);
       names = λ c. some_names c (stripped (lifted e) m) m (stripped_names (lifted e) m);
+      plain = λ all. some_plain (stripped (lifted e) m) m (stripped_names (lifted e) m) (all.0 can.0 can.1 can.2);
     })
 
 pub if_moved : {E : Type 0} (e : Edge) (hi : Option (List ℕ)) (m : Message) (prefix : List ℕ) (r : Result (Option Message) E) → IsLifted e hi → IsMessage m → CanMove e hi m → CanTouch m e.pivot hi → prefix ≡ lifted e → IfOk r (λ found. found ≡ stripped prefix m) → IfOk r (λ found. IsMoved e hi (m ∷ []) (option_to_list found))

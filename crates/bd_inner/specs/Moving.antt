@@ -4,7 +4,7 @@ use Rattle.std.specs.List.{AllByRecursion, flat_map, sum_by}
 use Rattle.bd_limits.specs.Limits.{batch_limit}
 use Rattle.bd_keys.specs.Keys.{IsKey, IsBelowEnd, InRange, IsCommon}
 use Rattle.bd_message.specs.declared.message.Message.{Message}
-use Rattle.bd_message.specs.Messages.{IsMessage, size}
+use Rattle.bd_message.specs.Messages.{IsMessage, IsPlain, size}
 use Rattle.bd_message.specs.Effect.{NodesAt, acts}
 use Rattle.bd_node.specs.declared.node.Edge.{Edge}
 use Rattle.bd_node.specs.Touching.{touches}
@@ -31,6 +31,11 @@ pub record IsLifted (e : Edge) (hi : Option (List ℕ)) : Type 0 where
 abbrev pub CanMove : Edge → Option (List ℕ) → Message → Type 0
 CanMove e hi m = (k : List ℕ) → InRange e.pivot hi k → touches m k ≡ true → CanStrip (lifted e) m
 
+-- where the message can change what stands at a key of an edge, whose keys end there, it names no
+-- node
+abbrev pub IsPlainFor : Edge → Option (List ℕ) → Message → Type 0
+IsPlainFor e hi m = (k : List ℕ) → InRange e.pivot hi k → touches m k ≡ true → IsPlain m
+
 -- messages that do to the child's keys of an edge, whose own keys end there, what others do to its
 -- own keys
 pub record IsMoved (e : Edge) (hi : Option (List ℕ)) (list moved : List Message) : Type 0 where
@@ -39,6 +44,7 @@ pub record IsMoved (e : Edge) (hi : Option (List ℕ)) (list moved : List Messag
   pub each : AllByRecursion IsMessage moved
   pub size : sum_by size moved ≤ sum_by size list
   pub names : (c : ℕ) → goto_count c moved ≤ goto_count c list
+  pub plain : AllByRecursion (IsPlainFor e hi) list → AllByRecursion IsPlain moved
 
 -- the oldest messages of a list, as many as fit, for the child of an edge
 pub record IsBatch (e : Edge) (hi : Option (List ℕ)) (list : List Message) (b : Batch) : Type 0

@@ -22,7 +22,7 @@ use bd_node::{Edge, Steps};
 pub use compaction::compact;
 pub use exchanging::{edge_to, end_of, exchange};
 pub use halves::split;
-pub use pending::is_pending;
+pub use pending::{can_touch, end_before, is_pending};
 pub use receiving::receive;
 use std::marker::Brand;
 use std::sync::ledger::{Blank, Ledger};

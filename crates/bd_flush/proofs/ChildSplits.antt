@@ -1,0 +1,546 @@
+-- A child that is split below its parent.
+use Rattle.std.proofs.Common.{◌≡◌, ℕ, zero, suc, ◌+◌, ◌-◌, ◌^◌, ◌<◌, ◌≤◌, cond, List, [], ◌∷◌, ◌++◌, length, take, drop, map, get_or, refl, sym, ap, subst, ◌∙◌, Option, None, Some, arith, inl, inr, ◌⊎◌, length-append, length-take}
+use Rattle.std.specs.Prelude.{slice_get}
+use Rattle.std.specs.List.{AllByRecursion, flat_map}
+use Rattle.std.specs.Ordering.{is_lt}
+use Rattle.std.specs.Option.{option_to_list}
+use Rattle.std.proofs.lemmas.Bool.{cases_lt, cases_eq, cases_Bool, cond-true, cond-false}
+use Rattle.std.proofs.lemmas.Option.{same_Some, none-some, slice_get_read}
+use Rattle.std.proofs.lemmas.List.{take-append-drop, get_or-drop}
+use Rattle.std.proofs.lemmas.List.Concat.{flat_map-append}
+use Rattle.std.proofs.lemmas.Cmp.{nat_list_cmp_total as total}
+use Rattle.std.proofs.Math.Seq.{take-append_seam}
+use Rattle.bd_limits.specs.Limits.{key_limit, edge_limit}
+use Rattle.bd_keys.specs.Keys.{key_cmp, IsKey, IsBelow, IsBelowEnd, IsAtLeast, InRange, IsCommon}
+use Rattle.bd_keys.proofs.Order.{none_between}
+use Rattle.bd_message.specs.declared.message.Message.{Message}
+use Rattle.bd_message.specs.Effect.{NodesAt, acts}
+use Rattle.bd_node.specs.declared.node.Edge.{Edge}
+use Rattle.bd_node.specs.declared.node.Node.{Node}
+use Rattle.bd_node.specs.declared.node.Node.TheVariants.{Leaf, Inner}
+use Rattle.bd_node.specs.Nodes.{level_of, buffer_size, message_names, edge_names, names, times, edge_of, child_at, edge_at, through, node_at, node_has}
+use Rattle.bd_node.specs.Meaning.{Nodes, at}
+use Rattle.bd_node.specs.Shape.{end_before, IsEdge, IsShape}
+use Rattle.bd_node.specs.Tables.{Table, IsKept, IsTable, IsLower, IsNodeOf, IsSound, one_if}
+use Rattle.bd_node.specs.Private.{IsPrivate}
+use Rattle.bd_node.proofs.Lookup.{Agree, each_weaker, each_second, each_named, each_dropped, named_has, acts-same, node_at-same, node_has-key, count-cons_same, count-cons_other}
+use Rattle.bd_node.proofs.Meanings.{at-meets}
+use Rattle.bd_node.proofs.Sound.{sound-levelled, counted}
+use Rattle.bd_node.proofs.Edges.{less_lt, lt_is, lt_isnt, not_less_lt, least_over}
+use Rattle.bd_inner.specs.Compaction.{IsCompacted, lowered, staying}
+use Rattle.bd_inner.proofs.Fitting.{own_shape}
+use Rattle.bd_inner.specs.Halves.{edges_of, buffer_of, IsHalf, AreHalves}
+use Rattle.bd_inner.specs.Moving.{lifted}
+use Rattle.bd_inner.specs.Exchange.{exchanged, end_at, IsKeyOf, IsEdgeAt, FitsAt}
+use Rattle.bd_inner.proofs.Touched.{cmp_after}
+use Rattle.bd_inner.proofs.Compacting.{count_names, count_names-append, edge_names-lowered, compacted_shape, compacted_level, compacted_meaning, compacted_size, compacted_times}
+use Rattle.bd_inner.proofs.Exchanged.{in_range, at_place, exchanged_shape, meaning_before, meaning_inside, meaning_outside, meaning_without}
+use Rattle.bd_flush.specs.declared.children.Parts.{Parts}
+use Rattle.bd_flush.specs.declared.children.Side.TheVariants.{Lower, Both, Upper}
+use Rattle.bd_flush.specs.Children.{IsWayTo, parting, upper_edge, IsInside, IsSplitInto, IsSide, AreParts, IsLongPivot}
+use Rattle.bd_flush.specs.Children.IsSplitInto.{parted, lower, upper}
+use Rattle.bd_flush.proofs.ChildSteps.{has_below, has_child, has_old, has_new, IsMadeBelow, IsChildChange, IsChildChangeOf}
+
+-- ---- how often a node with other edges in place of one names another
+
+-- without the edge, and then by the edges in its place
+pub times_exchanged : (n : Node) (place : ℕ) (list : List Edge) (c : ℕ) → 1 ≤ level_of n → times (exchanged n place list) c ≡ times (exchanged n place []) c + count_names c (flat_map edge_names list)
+times_exchanged (Leaf entries) place list c inner = absurd (omega arith)
+times_exchanged (Inner level es buffer) place list c inner =
+    let xs : List Edge = take place es in
+    let ys : List Edge = drop (place + 1) es in
+    omega (arith,
+    count_names-append c (flat_map edge_names (xs ++ (list ++ ys))) (flat_map message_names buffer),
+    count_names-append c (flat_map edge_names (xs ++ ys)) (flat_map message_names buffer),
+    ap (count_names c) (flat_map-append edge_names xs (list ++ ys)),
+    ap (count_names c) (flat_map-append edge_names xs ys),
+    ap (count_names c) (flat_map-append edge_names list ys),
+    count_names-append c (flat_map edge_names xs) (flat_map edge_names (list ++ ys)),
+    count_names-append c (flat_map edge_names xs) (flat_map edge_names ys),
+    count_names-append c (flat_map edge_names list) (flat_map edge_names ys))
+
+-- the node with the edge in its own place
+pub exchanged_same : (n : Node) (place : ℕ) (e : Edge) → IsEdgeAt n place e → exchanged n place (e ∷ []) ≡ n
+exchanged_same (Leaf entries) place e here = refl
+exchanged_same (Inner level es buffer) place e here = ap (λ (l : List Edge). Inner level l buffer) (sym (at_place es place e here).whole)
+
+pub inner_of : (n : Node) (place : ℕ) (e : Edge) → IsShape n → IsEdgeAt n place e → 1 ≤ level_of n
+inner_of (Leaf entries) place e h here = absurd (none-some e here)
+inner_of (Inner level es buffer) place e h here = h.low
+
+-- the edge's child, and what the node names besides
+pub times_apart : (n : Node) (place child : ℕ) (e : Edge) (c : ℕ) → IsShape n → IsWayTo n place child e → times n c ≡ times (exchanged n place []) c + count_names c (child ∷ [])
+times_apart n place child e c h way =
+    ap (λ (m : Node). times m c) (sym (exchanged_same n place e way.here))
+    ∙ times_exchanged n place (e ∷ []) c (inner_of n place e h way.here)
+    ∙ ap (λ (o : Option ℕ). times (exchanged n place []) c + count_names c (option_to_list o ++ [])) way.child_is
+
+pub count_own : (c : ℕ) → count_names c (c ∷ []) ≡ 1
+count_own c = omega (arith, count-cons_same c [])
+
+pub child_named : (n : Node) (place child : ℕ) (e : Edge) → IsShape n → IsWayTo n place child e → 1 ≤ times n child
+child_named n place child e h way = omega (arith, times_apart n place child e child h way, count_own child)
+
+-- ---- what the node has, if what else it names has what it had
+
+pub edges_keep : (below has : NodesAt) (n : Node) (place : ℕ) (e : Edge) (list : List Edge) → IsShape n → FitsAt n place e list
+    → ((k : List ℕ) → IsKey k → IsKeyOf n place e k → through has (edge_of list k) (buffer_of n) k ≡ edge_at below e (buffer_of n) k)
+    → AllByRecursion (Agree has below) (names (exchanged n place [])) → (k : List ℕ) → IsKey k → node_at has (exchanged n place list) k ≡ node_at below n k
+edges_keep below has n place e list h fits inside others k key =
+    elim (in_range e.pivot (end_at n place) k) [
+      | inl range ↦
+          meaning_inside has n place e list h fits k range
+          ∙ inside k key range
+          ∙ sym (meaning_before below n place e h fits.here k range)
+      | inr out ↦
+          meaning_outside has n place e list h fits k out
+          ∙ sym (meaning_without has n place e h fits.here k out)
+          ∙ node_at-same has below (exchanged n place []) k others
+          ∙ meaning_without below n place e h fits.here k out
+    ]
+
+pub gotos_agree : (below has : NodesAt) (n : Node) (place : ℕ) → AllByRecursion (Agree has below) (names (exchanged n place [])) → AllByRecursion (Agree has below) (flat_map message_names (buffer_of n))
+gotos_agree below has (Leaf entries) place h = tt
+gotos_agree below has (Inner level es buffer) place h = each_second (Agree has below) (flat_map edge_names (take place es ++ drop (place + 1) es)) (flat_map message_names buffer) h
+
+-- an edge that has seen as much, whose child has what the old one's has
+pub edge_same : (below has : NodesAt) (n : Node) (place : ℕ) (e f : Edge) (k : List ℕ) → AllByRecursion (Agree has below) (names (exchanged n place [])) → f.seen ≡ e.seen
+    → child_at has f.child (f.source ++ drop f.lift k) ≡ child_at below e.child (e.source ++ drop e.lift k) → edge_at has f (buffer_of n) k ≡ edge_at below e (buffer_of n) k
+edge_same below has n place e f k others seen child =
+    let old : Option (List ℕ) = child_at below e.child (e.source ++ drop e.lift k) in
+    ap (λ (i : ℕ). acts has (drop i (buffer_of n)) k (child_at has f.child (f.source ++ drop f.lift k))) seen
+    ∙ ap (λ (v : Option (List ℕ)). acts has (drop e.seen (buffer_of n)) k v) child
+    ∙ acts-same has below (drop e.seen (buffer_of n)) k old (each_dropped (Agree has below) e.seen (buffer_of n) (gotos_agree below has n place others))
+
+-- ---- a key of the edge, and what the child is asked for it
+
+pub IsKey-drop : (count : ℕ) (k : List ℕ) → IsKey k → IsKey (drop count k)
+IsKey-drop count k h i = subst (λ (b : ℕ). b < 256) (sym (get_or-drop count k i 0)) (h (count + i))
+
+pub lifted_length : (e : Edge) → e.lift ≤ length e.pivot → length (lifted e) ≡ e.lift
+lifted_length e low = omega (arith, length-take e.lift e.pivot)
+
+pub key_parts : (n : ℕ) (e : Edge) (hi : Option (List ℕ)) (k : List ℕ) → IsEdge n e hi → IsKey k → InRange e.pivot hi k → k ≡ lifted e ++ drop e.lift k
+key_parts n e hi k h key range =
+    let common : take (length (lifted e)) k ≡ lifted e = h.common k key range in
+    sym (ap (λ (l : List ℕ). l ++ drop e.lift k) (sym common ∙ ap (λ (i : ℕ). take i k) (lifted_length e h.lift)) ∙ take-append-drop e.lift k)
+
+-- the parts compare as the keys do
+pub parts_cmp : (n : ℕ) (e : Edge) (hi : Option (List ℕ)) (k pivot : List ℕ) → IsEdge n e hi → IsKey k → InRange e.pivot hi k → key_cmp k (parting e pivot) ≡ key_cmp (drop e.lift k) pivot
+parts_cmp n e hi k pivot h key range =
+    ap (λ (l : List ℕ). key_cmp l (parting e pivot)) (key_parts n e hi k h key range) ∙ cmp_after (lifted e) (drop e.lift k) pivot
+
+-- ---- the situation
+
+-- a node, and a child of it to split, as far as the table tells
+pub record IsSplittable (t : Table) (p : ℕ) (n : Node) (place c : ℕ) (e : Edge) (m : Node) : Type 0 where
+  pub table : IsTable t
+  pub kept : IsKept t p
+  pub own : IsNodeOf t (t.level p) n
+  pub few : length (edges_of n) ≤ 14
+  pub way : IsWayTo n place c e
+  pub child : IsNodeOf t (t.level c) m
+  pub next : t.next < 2 ^ 64
+
+-- and of known nodes
+pub record IsSplittableOf (nodes : Nodes) (t : Table) (p : ℕ) (n : Node) (place c : ℕ) (e : Edge) (m : Node) : Type 0 where
+  pub of : IsSplittable t p n place c e m
+  pub sound : IsSound nodes t
+  pub there : nodes p ≡ Some n
+  pub private : IsPrivate nodes t p
+  pub child_there : nodes c ≡ Some m
+  pub once : t.count c ≡ 1
+
+pub edge_shape : (t : Table) (p : ℕ) (n : Node) (place c : ℕ) (e : Edge) (m : Node) → IsSplittable t p n place c e m → IsEdge (length (buffer_of n)) e (end_at n place)
+edge_shape t p n place c e m s = own_shape n place e s.own.shape s.way.here
+
+pub lower_child : (t : Table) (p : ℕ) (n : Node) (place c : ℕ) (e : Edge) (m : Node) → IsSplittable t p n place c e m → IsLower t (t.level p) c
+lower_child t p n place c e m s = named_has (IsLower t (t.level p)) c (names n) s.own.lower (child_named n place c e s.own.shape s.way)
+
+pub some_next : (t : Table) → IsTable t → 1 ≤ t.next
+some_next t table = let a : 1 ≤ t.root = table.low t.root table.root in let b : t.root < t.next = table.below t.root table.root in omega arith
+
+-- ---- the two edges
+
+pub below_end : (k p : List ℕ) (hi : Option (List ℕ)) → IsBelow k p → IsBelowEnd p hi → IsBelowEnd k hi
+below_end k p None below end = tt
+below_end k p (Some hi) below end = total.trans k p hi below end
+
+pub lower_edge_shape : (n : ℕ) (e : Edge) (hi : Option (List ℕ)) (p : List ℕ) → IsEdge n e hi → IsBelow e.pivot p → IsBelowEnd p hi → IsEdge n e (Some p)
+lower_edge_shape n e hi p h above below = record {
+  pivot = h.pivot;
+  rising = above;
+  lift = h.lift;
+  common = λ k key range. h.common k key (range.0, below_end k p hi range.1 below);
+  source = h.source;
+  child = h.child;
+  seen = h.seen;
+}
+
+pub upper_edge_shape : (n : ℕ) (e : Edge) (hi : Option (List ℕ)) (pivot : List ℕ) (child : ℕ) → IsEdge n e hi → IsBelow e.pivot (parting e pivot) → IsBelowEnd (parting e pivot) hi → length (parting e pivot) ≤ key_limit → 1 ≤ child → child < 2 ^ 64
+    → IsEdge n (upper_edge e (parting e pivot) child) hi
+upper_edge_shape n e hi pivot child h above below short some small =
+    let long : length (lifted e) ≡ e.lift = lifted_length e h.lift in
+    let same : take e.lift (parting e pivot) ≡ lifted e = ap (λ (i : ℕ). take i (parting e pivot)) (sym long) ∙ take-append_seam (lifted e) pivot in
+    record {
+      pivot = short;
+      rising = below;
+      lift = omega (arith, length-append (lifted e) pivot);
+      common = subst (λ (l : List ℕ). IsCommon (parting e pivot) hi l) (sym same) (λ k key range. h.common k key (least_over k e.pivot (parting e pivot) range.0 above, range.1));
+      source = h.source;
+      child = (some, small);
+      seen = h.seen;
+    }
+
+abbrev pub both : Edge → List ℕ → ℕ → List Edge
+both e pivot next = e ∷ upper_edge e (parting e pivot) next ∷ []
+
+pub both_fit_in : (n : Node) (place : ℕ) (e : Edge) (pivot : List ℕ) (next : ℕ) → IsShape n → IsEdgeAt n place e → length (edges_of n) ≤ 14 → 1 ≤ next → next < 2 ^ 64 → IsInside n place e (parting e pivot) → length (parting e pivot) ≤ key_limit
+    → FitsAt n place e (both e pivot next)
+both_fit_in n place e pivot next h here few some small inside short =
+    let own : IsEdge (length (buffer_of n)) e (end_at n place) = own_shape n place e h here in
+    record {
+      here = here;
+      few = omega arith;
+      first = refl;
+      each = (
+        lower_edge_shape (length (buffer_of n)) e (end_at n place) (parting e pivot) own inside.0 inside.1,
+        (upper_edge_shape (length (buffer_of n)) e (end_at n place) pivot next own inside.0 inside.1 short some small, tt),
+      );
+    }
+
+pub both_fit : (t : Table) (p : ℕ) (n : Node) (place c : ℕ) (e : Edge) (m : Node) (pivot : List ℕ) → IsSplittable t p n place c e m → IsInside n place e (parting e pivot) → length (parting e pivot) ≤ key_limit → FitsAt n place e (both e pivot t.next)
+both_fit t p n place c e m pivot s inside short = both_fit_in n place e pivot t.next s.own.shape s.way.here s.few (some_next t s.table) s.next inside short
+
+pub one_fits : (t : Table) (p : ℕ) (n : Node) (place c : ℕ) (e : Edge) (m : Node) → IsSplittable t p n place c e m → FitsAt n place e (e ∷ [])
+one_fits t p n place c e m s = record {
+  here = s.way.here;
+  few = (let few : length (edges_of n) ≤ 14 = s.few in omega arith);
+  first = refl;
+  each = (edge_shape t p n place c e m s, tt);
+}
+
+-- ---- names
+
+pub level_exchanged : (n : Node) (place : ℕ) (list : List Edge) → level_of (exchanged n place list) ≡ level_of n
+level_exchanged (Leaf entries) place list = refl
+level_exchanged (Inner level es buffer) place list = refl
+
+-- a compacted node still names its edges' children
+pub compacted_named : (n m : Node) → IsCompacted n m → (x : ℕ) → count_names x (flat_map edge_names (edges_of n)) ≤ times m x
+compacted_named (Leaf entries) m h x = omega arith
+compacted_named (Inner level es buffer) m h x =
+    subst (λ (d : Node). count_names x (flat_map edge_names es) ≤ times d x) (sym h.swept)
+    (omega (arith, ap (count_names x) (edge_names-lowered h.mask es), count_names-append x (flat_map edge_names (map (lowered h.mask) es)) (flat_map message_names (staying h.mask buffer))))
+
+pub exchanged_named : (n : Node) (place : ℕ) (list : List Edge) (x : ℕ) → 1 ≤ level_of n → count_names x (flat_map edge_names list) ≤ count_names x (flat_map edge_names (edges_of (exchanged n place list)))
+exchanged_named (Leaf entries) place list x inner = absurd (omega arith)
+exchanged_named (Inner level es buffer) place list x inner =
+    let xs : List Edge = take place es in
+    let ys : List Edge = drop (place + 1) es in
+    omega (arith,
+    ap (count_names x) (flat_map-append edge_names xs (list ++ ys)),
+    ap (count_names x) (flat_map-append edge_names list ys),
+    count_names-append x (flat_map edge_names xs) (flat_map edge_names (list ++ ys)),
+    count_names-append x (flat_map edge_names list) (flat_map edge_names ys))
+
+pub count_two : (x a b : ℕ) → count_names x (a ∷ b ∷ []) ≡ count_names x (a ∷ []) + count_names x (b ∷ [])
+count_two x a b = count_names-append x (a ∷ []) (b ∷ [])
+
+pub both_names : (e : Edge) (pivot : List ℕ) (c next : ℕ) → e.child ≡ Some c → flat_map edge_names (both e pivot next) ≡ c ∷ next ∷ []
+both_names e pivot c next is = ap (λ (o : Option ℕ). option_to_list o ++ (next ∷ [])) is
+
+-- what the parent names then
+pub parent_named : (t : Table) (p : ℕ) (n : Node) (place c : ℕ) (e : Edge) (m : Node) (pivot : List ℕ) (parent : Node) → IsSplittable t p n place c e m → IsCompacted (exchanged n place (both e pivot t.next)) parent → (x : ℕ) → 1 ≤ times parent x
+    → IsLower t (t.level p) x ⊎ ((t.next ≤ x) × (x < t.next + 1))
+parent_named t p n place c e m pivot parent s compacted x one =
+    elim (cases_eq t.next x) [
+      | inl same ↦ inr (omega arith, omega arith)
+      | inr other ↦ (let less : times parent x ≤ times (exchanged n place (both e pivot t.next)) x = compacted_times (exchanged n place (both e pivot t.next)) parent compacted x in
+          let none : count_names x (t.next ∷ []) ≡ 0 = count-cons_other t.next x [] other in
+          let named : 1 ≤ times n x = omega (arith, times_exchanged n place (both e pivot t.next) x (inner_of n place e s.own.shape s.way.here), ap (count_names x) (both_names e pivot c t.next s.way.child_is), count_two x c t.next, times_apart n place c e x s.own.shape s.way) in
+          inl (named_has (IsLower t (t.level p)) x (names n) s.own.lower named))
+    ]
+
+pub parent_names : (t : Table) (p : ℕ) (n : Node) (place c : ℕ) (e : Edge) (m : Node) (pivot : List ℕ) (parent : Node) → IsSplittable t p n place c e m → IsCompacted (exchanged n place (both e pivot t.next)) parent → (x : ℕ) → count_names x (c ∷ t.next ∷ []) ≤ times parent x
+parent_names t p n place c e m pivot parent s compacted x =
+    omega (arith, compacted_named (exchanged n place (both e pivot t.next)) parent compacted x, exchanged_named n place (both e pivot t.next) x (inner_of n place e s.own.shape s.way.here), ap (count_names x) (both_names e pivot c t.next s.way.child_is))
+
+half_named : (t : Table) (c : ℕ) (m : Node) (own : List ℕ → Type 0) (half : Node) → IsNodeOf t (t.level c) m → IsHalf m own half → (x : ℕ) → 1 ≤ times half x → IsLower t (t.level c) x
+half_named t c m own half node is x one =
+    named_has (IsLower t (t.level c)) x (names m) node.lower (let less : times half x ≤ times m x = is.names x in omega arith)
+
+half_level : (t : Table) (c : ℕ) (m : Node) (own : List ℕ → Type 0) (half : Node) → IsNodeOf t (t.level c) m → IsHalf m own half → level_of half ≡ t.level c
+half_level t c m own half node is = is.level_is ∙ node.level_is
+
+half_made : (t : Table) (c : ℕ) (m : Node) (own : List ℕ → Type 0) (half : Node) → IsNodeOf t (t.level c) m → IsHalf m own half → IsMadeBelow t (t.level c) half
+half_made t c m own half node is = record {
+  shape = is.shape;
+  low = (let e : level_of half ≡ t.level c = half_level t c m own half node is in omega arith);
+  named = λ x one. subst (λ (l : ℕ). IsLower t l x) (sym (half_level t c m own half node is)) (half_named t c m own half node is x one);
+}
+
+-- ---- the change
+
+parted_change : (t : Table) (p : ℕ) (n : Node) (place c : ℕ) (e : Edge) (m : Node) (first : Node) (pivot : List ℕ) (second parent : Node) → IsSplittable t p n place c e m → AreHalves m first pivot second → IsInside n place e (parting e pivot) → length (parting e pivot) ≤ key_limit
+    → IsCompacted (exchanged n place (both e pivot t.next)) parent → IsChildChange t p parent c first (second ∷ [])
+parted_change t p n place c e m first pivot second parent s halves inside short compacted =
+    let list : List Edge = both e pivot t.next in
+    record {
+      table = s.table;
+      parent = s.kept;
+      child = lower_child t p n place c e m s;
+      shape = compacted_shape (exchanged n place list) parent (exchanged_shape n place e list s.own.shape (both_fit t p n place c e m pivot s inside short)) compacted;
+      level = compacted_level (exchanged n place list) parent compacted ∙ level_exchanged n place list ∙ s.own.level_is;
+      named = λ x one. parent_named t p n place c e m pivot parent s compacted x one;
+      child_shape = halves.lower.shape;
+      child_level = half_level t c m (λ k. IsBelow k pivot) first s.child halves.lower;
+      child_named = half_named t c m (λ k. IsBelow k pivot) first s.child halves.lower;
+      each = (half_made t c m (λ k. IsAtLeast k pivot) second s.child halves.upper, tt);
+      used = λ x high low.
+          let same : t.next ≡ x = omega arith in
+          subst (λ (i : ℕ). 1 ≤ times parent i) same
+          (omega (arith, parent_names t p n place c e m pivot parent s compacted t.next, count_two t.next c t.next, count_own t.next));
+    }
+
+halved_change : (t : Table) (p : ℕ) (n : Node) (place c : ℕ) (e : Edge) (m : Node) (own : List ℕ → Type 0) (half : Node) → IsSplittable t p n place c e m → IsHalf m own half → IsChildChange t p n c half []
+halved_change t p n place c e m own half s is = record {
+  table = s.table;
+  parent = s.kept;
+  child = lower_child t p n place c e m s;
+  shape = s.own.shape;
+  level = s.own.level_is;
+  named = λ x one. inl (named_has (IsLower t (t.level p)) x (names n) s.own.lower one);
+  child_shape = is.shape;
+  child_level = half_level t c m own half s.child is;
+  child_named = half_named t c m own half s.child is;
+  each = tt;
+  used = λ x high low. absurd (let l : x < t.next + 0 = low in omega arith);
+}
+
+pub split_change : (t : Table) (p : ℕ) (n : Node) (place c : ℕ) (e : Edge) (m parent half : Node) (made : List Node) → IsSplittable t p n place c e m → IsSplitInto n place e m t.next parent half made → IsChildChange t p parent c half made
+split_change t p n place c e m _ _ _ s (parted first pivot second parent halves inside short compacted) = parted_change t p n place c e m first pivot second parent s halves inside short compacted
+split_change t p n place c e m _ _ _ s (lower first pivot second halves outside) = halved_change t p n place c e m (λ k. IsBelow k pivot) first s halves.lower
+split_change t p n place c e m _ _ _ s (upper first pivot second halves outside) = halved_change t p n place c e m (λ k. IsAtLeast k pivot) second s halves.upper
+
+-- ---- what the parent has
+
+-- the child's other names, and what else the parent names, have what they had
+pub others_agree : (nodes : Nodes) (t : Table) (p : ℕ) (n : Node) (place c : ℕ) (e : Edge) (m half : Node) (made : List Node) → IsSplittableOf nodes t p n place c e m → AllByRecursion (Agree (has_below nodes t.next c half made) (at nodes)) (names (exchanged n place []))
+others_agree nodes t p n place c e m half made s =
+    each_named (Agree (has_below nodes t.next c half made) (at nodes)) (names (exchanged n place [])) (λ x one.
+    let named : 1 ≤ times n x = omega (arith, times_apart n place c e x s.of.own.shape s.of.way) in
+    let low : x < t.next = s.of.table.below x (named_has (IsLower t (t.level p)) x (names n) s.of.own.lower named).kept in
+    has_old nodes t.next c half made x
+    (λ same. (let once : t.count c ≡ 1 = s.once in
+    let most : times n c + one_if t.root c ≤ t.count c = counted nodes t s.sound p n s.there c in
+    let here : 1 ≤ times (exchanged n place []) c = subst (λ (i : ℕ). 1 ≤ times (exchanged n place []) i) same one in
+    omega (arith, times_apart n place c e c s.of.own.shape s.of.way, count_own c))) low)
+
+pub at_child : (nodes : Nodes) (t : Table) (p : ℕ) (n : Node) (place c : ℕ) (e : Edge) (m : Node) → IsSplittableOf nodes t p n place c e m → (x : List ℕ) → IsKey x → at nodes c x ≡ node_at (at nodes) m x
+at_child nodes t p n place c e m s x key = (at-meets nodes (sound-levelled nodes t s.sound)).each c m s.child_there x ∙ node_has-key (at nodes) m x key
+
+-- what the edge asks, and what a half has there
+abbrev pub asks : NodesAt → Edge → List ℕ → Option (List ℕ)
+asks below e k = child_at below e.child (e.source ++ drop e.lift k)
+
+pub asks_at : (below : NodesAt) (e : Edge) (c : ℕ) (k : List ℕ) → e.child ≡ Some c → e.source ≡ [] → asks below e k ≡ below c (drop e.lift k)
+asks_at below e c k child plain =
+    ap (λ (o : Option ℕ). child_at below o (e.source ++ drop e.lift k)) child ∙ ap (λ (l : List ℕ). below c (l ++ drop e.lift k)) plain
+
+-- the child's half is asked for a key of its own
+pub child_value : (nodes : Nodes) (t : Table) (p : ℕ) (n : Node) (place c : ℕ) (e : Edge) (m : Node) (own : List ℕ → Type 0) (half : Node) (made : List Node) → IsSplittableOf nodes t p n place c e m → IsHalf m own half
+    → (k : List ℕ) → IsKey k → own (drop e.lift k) → asks (has_below nodes t.next c half made) e k ≡ asks (at nodes) e k
+child_value nodes t p n place c e m own half made s is k key mine =
+    let x : List ℕ = drop e.lift k in
+    asks_at (has_below nodes t.next c half made) e c k s.of.way.child_is s.of.way.plain
+    ∙ has_child nodes t.next c half made x
+    ∙ node_has-key (at nodes) half x (IsKey-drop e.lift k key)
+    ∙ is.meaning (at nodes) x mine
+    ∙ sym (at_child nodes t p n place c e m s x (IsKey-drop e.lift k key))
+    ∙ sym (asks_at (at nodes) e c k s.of.way.child_is s.of.way.plain)
+
+-- the made half is asked
+made_value : (nodes : Nodes) (t : Table) (p : ℕ) (n : Node) (place c : ℕ) (e : Edge) (m : Node) (own : List ℕ → Type 0) (first second : Node) (pivot : List ℕ) → IsSplittableOf nodes t p n place c e m → IsHalf m own second
+    → (k : List ℕ) → IsKey k → own (drop e.lift k) → asks (has_below nodes t.next c first (second ∷ [])) (upper_edge e pivot t.next) k ≡ asks (at nodes) e k
+made_value nodes t p n place c e m own first second pivot s is k key mine =
+    let x : List ℕ = drop e.lift k in
+    let low : c < t.next = s.of.table.below c (lower_child t p n place c e m s.of).kept in
+    asks_at (has_below nodes t.next c first (second ∷ [])) (upper_edge e pivot t.next) t.next k refl s.of.way.plain
+    ∙ has_new nodes t.next c first (second ∷ []) t.next second low (omega arith) (ap (λ (i : ℕ). slice_get (second ∷ []) i) (let z : t.next - t.next ≡ 0 = omega arith in z)) x
+    ∙ node_has-key (at nodes) second x (IsKey-drop e.lift k key)
+    ∙ is.meaning (at nodes) x mine
+    ∙ sym (at_child nodes t p n place c e m s x (IsKey-drop e.lift k key))
+    ∙ sym (asks_at (at nodes) e c k s.of.way.child_is s.of.way.plain)
+
+-- the two edges together have what the one had
+both_have : (nodes : Nodes) (t : Table) (p : ℕ) (n : Node) (place c : ℕ) (e : Edge) (m first : Node) (pivot : List ℕ) (second : Node) → IsSplittableOf nodes t p n place c e m → AreHalves m first pivot second → (k : List ℕ) → IsKey k → IsKeyOf n place e k
+    → through (has_below nodes t.next c first (second ∷ [])) (edge_of (both e pivot t.next) k) (buffer_of n) k ≡ edge_at (at nodes) e (buffer_of n) k
+both_have nodes t p n place c e m first pivot second s halves k key range =
+    let has : NodesAt = has_below nodes t.next c first (second ∷ []) in
+    let f : Edge = upper_edge e (parting e pivot) t.next in
+    let own : IsEdge (length (buffer_of n)) e (end_at n place) = edge_shape t p n place c e m s.of in
+    let same : key_cmp k (parting e pivot) ≡ key_cmp (drop e.lift k) pivot = parts_cmp (length (buffer_of n)) e (end_at n place) k pivot own key range in
+    elim (cases_Bool (is_lt (key_cmp k (parting e pivot)))) [
+      | inl below ↦
+          ap (λ (d : Edge). through has (Some d) (buffer_of n) k) (cond-true (is_lt (key_cmp k (parting e pivot))) e f below)
+          ∙ edge_same (at nodes) has n place e e k (others_agree nodes t p n place c e m first (second ∷ []) s) refl
+          (child_value nodes t p n place c e m (λ l. IsBelow l pivot) first (second ∷ []) s halves.lower k key (sym same ∙ lt_is (key_cmp k (parting e pivot)) below))
+      | inr above ↦
+          ap (λ (d : Edge). through has (Some d) (buffer_of n) k) (cond-false (is_lt (key_cmp k (parting e pivot))) e f above)
+          ∙ edge_same (at nodes) has n place e f k (others_agree nodes t p n place c e m first (second ∷ []) s) refl
+          (made_value nodes t p n place c e m (λ l. IsAtLeast l pivot) first second (parting e pivot) s halves.upper k key (λ less. lt_isnt (key_cmp k (parting e pivot)) above (same ∙ less)))
+    ]
+
+-- the one half that has keys of the edge
+half_has : (nodes : Nodes) (t : Table) (p : ℕ) (n : Node) (place c : ℕ) (e : Edge) (m : Node) (own : List ℕ → Type 0) (half : Node) → IsSplittableOf nodes t p n place c e m → IsHalf m own half
+    → ((k : List ℕ) → IsKey k → IsKeyOf n place e k → own (drop e.lift k)) → (k : List ℕ) → IsKey k → node_at (has_below nodes t.next c half []) n k ≡ node_at (at nodes) n k
+half_has nodes t p n place c e m own half s is mine k key =
+    let has : NodesAt = has_below nodes t.next c half [] in
+    ap (λ (d : Node). node_at has d k) (sym (exchanged_same n place e s.of.way.here))
+    ∙ edges_keep (at nodes) has n place e (e ∷ []) s.of.own.shape (one_fits t p n place c e m s.of)
+    (λ l at_l range.
+    edge_same (at nodes) has n place e e l (others_agree nodes t p n place c e m half [] s) refl (child_value nodes t p n place c e m own half [] s is l at_l (mine l at_l range)))
+    (others_agree nodes t p n place c e m half [] s) k key
+
+split_meaning : (nodes : Nodes) (t : Table) (p : ℕ) (n : Node) (place c : ℕ) (e : Edge) (m parent half : Node) (made : List Node) → IsSplittableOf nodes t p n place c e m → IsSplitInto n place e m t.next parent half made
+    → (k : List ℕ) → IsKey k → node_at (has_below nodes t.next c half made) parent k ≡ node_at (at nodes) n k
+split_meaning nodes t p n place c e m _ _ _ s (parted first pivot second parent halves inside short compacted) = λ k key.
+    let has : NodesAt = has_below nodes t.next c first (second ∷ []) in
+    let list : List Edge = both e pivot t.next in
+    let fits : FitsAt n place e list = both_fit t p n place c e m pivot s.of inside short in
+    compacted_meaning has (exchanged n place list) parent (exchanged_shape n place e list s.of.own.shape fits) compacted k
+    ∙ edges_keep (at nodes) has n place e list s.of.own.shape fits (both_have nodes t p n place c e m first pivot second s halves) (others_agree nodes t p n place c e m first (second ∷ []) s) k key
+split_meaning nodes t p n place c e m _ _ _ s (lower first pivot second halves outside) =
+    half_has nodes t p n place c e m (λ k. IsBelow k pivot) first s halves.lower (λ k key range.
+    let own : IsEdge (length (buffer_of n)) e (end_at n place) = edge_shape t p n place c e m s.of in
+    let same : key_cmp k (parting e pivot) ≡ key_cmp (drop e.lift k) pivot = parts_cmp (length (buffer_of n)) e (end_at n place) k pivot own key range in
+    elim (cases_Bool (is_lt (key_cmp k (parting e pivot)))) [
+      | inl below ↦ sym same ∙ lt_is (key_cmp k (parting e pivot)) below
+      | inr above ↦ absurd (none_between (parting e pivot) (end_at n place) k outside (lt_isnt (key_cmp k (parting e pivot)) above) range.1)
+    ])
+split_meaning nodes t p n place c e m _ _ _ s (upper first pivot second halves outside) =
+    half_has nodes t p n place c e m (λ k. IsAtLeast k pivot) second s halves.upper (λ k key range less.
+    let own : IsEdge (length (buffer_of n)) e (end_at n place) = edge_shape t p n place c e m s.of in
+    let same : key_cmp k (parting e pivot) ≡ key_cmp (drop e.lift k) pivot = parts_cmp (length (buffer_of n)) e (end_at n place) k pivot own key range in
+    none_between e.pivot (Some (parting e pivot)) k outside range.0 (same ∙ less))
+
+pub split_change_of : (nodes : Nodes) (t : Table) (p : ℕ) (n : Node) (place c : ℕ) (e : Edge) (m parent half : Node) (made : List Node) → IsSplittableOf nodes t p n place c e m → IsSplitInto n place e m t.next parent half made → IsChildChangeOf nodes t p n parent c half made
+split_change_of nodes t p n place c e m parent half made s into = record {
+  step = split_change t p n place c e m parent half made s.of into;
+  sound = s.sound;
+  there = s.there;
+  private = s.private;
+  once = s.once;
+  names_it = child_named n place c e s.of.own.shape s.of.way;
+  meaning = split_meaning nodes t p n place c e m parent half made s into;
+}
+
+-- ---- what is needed besides
+
+pub split_few : (n : Node) (place : ℕ) (e : Edge) (m : Node) (next : ℕ) (parent half : Node) (made : List Node) → IsSplitInto n place e m next parent half made → length made ≤ 1
+split_few n place e m next _ _ _ (parted first pivot second parent halves inside short compacted) = omega arith
+split_few n place e m next _ _ _ (lower first pivot second halves outside) = omega arith
+split_few n place e m next _ _ _ (upper first pivot second halves outside) = omega arith
+
+pub split_named : (t : Table) (p : ℕ) (n : Node) (place c : ℕ) (e : Edge) (m parent half : Node) (made : List Node) → IsSplittable t p n place c e m → IsSplitInto n place e m t.next parent half made → 1 ≤ times parent c
+split_named t p n place c e m _ _ _ s (parted first pivot second parent halves inside short compacted) =
+    omega (arith, parent_names t p n place c e m pivot parent s compacted c, count_two c c t.next, count_own c)
+split_named t p n place c e m _ _ _ s (lower first pivot second halves outside) = child_named n place c e s.own.shape s.way
+split_named t p n place c e m _ _ _ s (upper first pivot second halves outside) = child_named n place c e s.own.shape s.way
+
+pub size_exchanged : (n : Node) (place : ℕ) (list : List Edge) → buffer_size (exchanged n place list) ≡ buffer_size n
+size_exchanged (Leaf entries) place list = refl
+size_exchanged (Inner level es buffer) place list = refl
+
+pub split_size : (n : Node) (place : ℕ) (e : Edge) (m : Node) (next : ℕ) (parent half : Node) (made : List Node) → IsSplitInto n place e m next parent half made → (buffer_size parent ≤ buffer_size n) × (buffer_size half ≤ buffer_size m)
+split_size n place e m next _ _ _ (parted first pivot second parent halves inside short compacted) =
+    (omega (arith, compacted_size (exchanged n place (both e pivot next)) parent compacted, size_exchanged n place (both e pivot next)), halves.lower.size)
+split_size n place e m next _ _ _ (lower first pivot second halves outside) = (omega arith, halves.lower.size)
+split_size n place e m next _ _ _ (upper first pivot second halves outside) = (omega arith, halves.upper.size)
+
+-- ---- the parts as the code finds them
+
+pub record IsParting (n : Node) (place : ℕ) (m : Node) (e : Edge) (hi : Option (List ℕ)) (first : Node) (pivot : List ℕ) (second : Node) (key : List ℕ) : Type 0 where
+  pub shape : IsShape n
+  pub here : IsEdgeAt n place e
+  pub end : hi ≡ end_at n place
+  pub halves : AreHalves m first pivot second
+  pub key_is : key ≡ parting e pivot
+
+pub edge_here : (es : List Edge) (n : Node) (place : ℕ) (e : Edge) → es ≡ edges_of n → place < length (edges_of n) → e ≡ get_or es place e → IsEdgeAt n place e
+edge_here es n place e same low read =
+    subst (λ (l : List Edge). slice_get l place ≡ Some e) same (slice_get_read es (length es) place e refl (subst (λ (l : List Edge). place < length l) (sym same) low) read)
+
+pub edge_lift : (n : Node) (place : ℕ) (e : Edge) → IsShape n → IsEdgeAt n place e → e.lift ≤ length e.pivot
+edge_lift n place e h here = (own_shape n place e h here).lift
+
+at_parting : (n : Node) (place : ℕ) (m : Node) (e : Edge) (hi : Option (List ℕ)) (first : Node) (pivot : List ℕ) (second : Node) (key : List ℕ) → IsParting n place m e hi first pivot second key → IsSide e hi key Both → IsInside n place e (parting e pivot)
+at_parting n place m e hi first pivot second key h side =
+    (subst (λ (l : List ℕ). IsBelow e.pivot l) h.key_is side.0, subst (λ (l : List ℕ). IsBelowEnd l (end_at n place)) h.key_is (subst (λ (o : Option (List ℕ)). IsBelowEnd key o) h.end side.1))
+
+pub parting_long : (n : Node) (place : ℕ) (m : Node) (e : Edge) (hi : Option (List ℕ)) (first : Node) (pivot : List ℕ) (second : Node) (key : List ℕ) → IsParting n place m e hi first pivot second key → IsSide e hi key Both → key_limit < length key → IsLongPivot n place m
+parting_long n place m e hi first pivot second key h side long = record {
+  edge = e;
+  here = h.here;
+  first = first;
+  pivot = pivot;
+  second = second;
+  halves = h.halves;
+  inside = at_parting n place m e hi first pivot second key h side;
+  long = subst (λ (l : List ℕ). key_limit < length l) h.key_is long;
+}
+
+pub parting_fits : (n : Node) (place : ℕ) (m : Node) (e : Edge) (hi : Option (List ℕ)) (first : Node) (pivot : List ℕ) (second : Node) (key : List ℕ) (next : ℕ) → IsParting n place m e hi first pivot second key → IsSide e hi key Both → length key ≤ key_limit → length (edges_of n) ≤ 14 → 1 ≤ next → next < 2 ^ 64
+    → (d : Edge) → IsEdgeAt n place d → FitsAt n place d (d ∷ upper_edge d key next ∷ [])
+parting_fits n place m e hi first pivot second key next h side short few some small d there =
+    let same : e ≡ d = same_Some e d (sym h.here ∙ there) in
+    subst (λ (f : Edge). FitsAt n place f (f ∷ upper_edge f key next ∷ [])) same
+    (subst (λ (l : List ℕ). FitsAt n place e (e ∷ upper_edge e l next ∷ [])) (sym h.key_is)
+    (both_fit_in n place e pivot next h.shape h.here few some small (at_parting n place m e hi first pivot second key h side) (subst (λ (l : List ℕ). length l ≤ key_limit) h.key_is short)))
+
+pub parting_both : (n : Node) (place : ℕ) (m : Node) (e : Edge) (hi : Option (List ℕ)) (first : Node) (pivot : List ℕ) (second : Node) (key : List ℕ) (next : ℕ) (parts : Parts) → IsParting n place m e hi first pivot second key → IsSide e hi key Both → length key ≤ key_limit
+    → ((d : Edge) → IsEdgeAt n place d → IsCompacted (exchanged n place (d ∷ upper_edge d key next ∷ [])) parts.node) → parts.half ≡ first → parts.made.items ≡ second ∷ [] → AreParts n place m next parts
+parting_both n place m e hi first pivot second key next parts h side short compacted half made = record {
+  edge = e;
+  here = h.here;
+  into = subst (λ (d : Node). IsSplitInto n place e m next parts.node d parts.made.items) (sym half)
+      (subst (λ (l : List Node). IsSplitInto n place e m next parts.node first l) (sym made)
+      (parted first pivot second parts.node h.halves (at_parting n place m e hi first pivot second key h side) (subst (λ (l : List ℕ). length l ≤ key_limit) h.key_is short)
+      (subst (λ (l : List ℕ). IsCompacted (exchanged n place (e ∷ upper_edge e l next ∷ [])) parts.node) h.key_is (compacted e h.here))));
+}
+
+-- one half over the node as it is
+abbrev pub IsOneHalf : Node → Node → Parts → Type 0
+IsOneHalf n half parts = (parts.node ≡ n) × (parts.half ≡ half) × (parts.made.items ≡ [])
+
+one_into : (n : Node) (place : ℕ) (e : Edge) (m : Node) (next : ℕ) (half : Node) (parts : Parts) → IsSplitInto n place e m next n half [] → IsOneHalf n half parts → IsSplitInto n place e m next parts.node parts.half parts.made.items
+one_into n place e m next half parts h one =
+    subst (λ (d : Node). IsSplitInto n place e m next d parts.half parts.made.items) (sym one.0)
+    (subst (λ (d : Node). IsSplitInto n place e m next n d parts.made.items) (sym one.1)
+    (subst (λ (l : List Node). IsSplitInto n place e m next n half l) (sym one.2) h))
+
+pub parting_lower : (n : Node) (place : ℕ) (m : Node) (e : Edge) (hi : Option (List ℕ)) (first : Node) (pivot : List ℕ) (second : Node) (key : List ℕ) (next : ℕ) (parts : Parts) → IsParting n place m e hi first pivot second key → IsSide e hi key Lower → IsOneHalf n first parts → AreParts n place m next parts
+parting_lower n place m e hi first pivot second key next parts h side one = record {
+  edge = e;
+  here = h.here;
+  into = one_into n place e m next first parts
+      (lower first pivot second h.halves (λ below. side (subst (λ (o : Option (List ℕ)). IsBelowEnd key o) (sym h.end) (subst (λ (l : List ℕ). IsBelowEnd l (end_at n place)) (sym h.key_is) below)))) one;
+}
+
+pub parting_upper : (n : Node) (place : ℕ) (m : Node) (e : Edge) (hi : Option (List ℕ)) (first : Node) (pivot : List ℕ) (second : Node) (key : List ℕ) (next : ℕ) (parts : Parts) → IsParting n place m e hi first pivot second key → IsSide e hi key Upper → IsOneHalf n second parts → AreParts n place m next parts
+parting_upper n place m e hi first pivot second key next parts h side one = record {
+  edge = e;
+  here = h.here;
+  into = one_into n place e m next second parts (upper first pivot second h.halves (λ below. side (subst (λ (l : List ℕ). IsBelow e.pivot l) (sym h.key_is) below))) one;
+}
+
+pub is_parting : (n : Node) (place : ℕ) (m : Node) (e : Edge) (es : List Edge) (hi : Option (List ℕ)) (first : Node) (pivot : List ℕ) (second : Node) (key : List ℕ) → IsShape n → es ≡ edges_of n → place < length (edges_of n) → e ≡ get_or es place e → hi ≡ end_before (drop (place + 1) es) → AreHalves m first pivot second
+    → key ≡ parting e pivot → IsParting n place m e hi first pivot second key
+is_parting n place m e es hi first pivot second key shape same low read end halves key_is = record {
+  shape = shape;
+  here = edge_here es n place e same low read;
+  end = end ∙ ap (λ (l : List Edge). end_before (drop (place + 1) l)) same;
+  halves = halves;
+  key_is = key_is;
+}

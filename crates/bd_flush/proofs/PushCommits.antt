@@ -1,0 +1,159 @@
+-- The commit of a push.
+use Rattle.std.proofs.Common.{◌≡◌, ℕ, ◌+◌, ◌^◌, ◌<◌, ◌≤◌, List, length, refl, sym, ap, subst, ◌∙◌, Some, arith, Result, Ok, Err}
+use Rattle.std.specs.Prelude.{slice_get, OnOk, OnErr}
+use Rattle.std.proofs.lemmas.Option.{same_Some}
+use Rattle.bd_message.specs.declared.fault.MapFault.{MapFault}
+use Rattle.bd_message.specs.KeyMaps.{HasMapCause}
+use Rattle.bd_node.specs.declared.node.Edge.{Edge}
+use Rattle.bd_node.specs.declared.node.Node.{Node}
+use Rattle.bd_node.specs.declared.node.Step.{Step}
+use Rattle.bd_node.specs.Nodes.{buffer_size}
+use Rattle.bd_node.specs.Meaning.{Nodes}
+use Rattle.bd_node.specs.Tables.{Table, IsTable, IsLower, IsSound}
+use Rattle.bd_node.specs.Steps.{IsStep, IsInPlace, IsTableAfter, IsCommitted, IsWornBy}
+use Rattle.bd_node.specs.Stores.{visited}
+use Rattle.bd_flush.specs.declared.fetching.Fetched.{Fetched}
+use Rattle.bd_flush.specs.Flushed.{IsFlushed, IsWornFor}
+use Rattle.bd_flush.specs.Children.{IsWayTo, AreFamily, IsNoHigher}
+use Rattle.bd_flush.specs.Pushes.{IsWaitedFor, CanPush, IsPushStep, IsPushed}
+use Rattle.bd_flush.proofs.Worn.{cause_weaker}
+use Rattle.bd_flush.proofs.ChildSteps.{IsChildChange, IsChildChangeOf, IsChildChanged, below_step, below_in_place, child_flushed, parent_is, child_is, made_are, no_higher, child_worn}
+use Rattle.bd_flush.proofs.ChildSplits.{IsSplittable, IsSplittableOf, lower_child}
+use Rattle.bd_flush.proofs.Pushed.{IsPushable, push_change, push_change_of, push_few, push_named, push_size}
+
+-- a push, and the step
+pub record IsToPush (t : Table) (parent : Fetched) (place : ℕ) (child : Fetched) (step : Step) : Type 0 where
+  pub table : IsTable t
+  pub next : t.next < 2 ^ 64
+  pub can : CanPush t parent place child
+  pub push : IsPushStep t.root t.next parent place child step
+
+pub is_to_push : (t : Table) (parent : Fetched) (place : ℕ) (child : Fetched) (step : Step) (root next : ℕ) → IsTable t → CanPush t parent place child → root ≡ t.root → next ≡ t.next → next < 2 ^ 64 → IsPushStep root next parent place child step
+    → IsToPush t parent place child step
+is_to_push t parent place child step root next table can same_root same_next room push = record {
+  table = table;
+  next = omega arith;
+  can = can;
+  push = subst (λ (i : ℕ). IsPushStep t.root i parent place child step) same_next (subst (λ (r : ℕ). IsPushStep r next parent place child step) same_root push);
+}
+
+same_edge : (t : Table) (parent : Fetched) (place : ℕ) (child : Fetched) (step : Step) → (h : IsToPush t parent place child step) → h.can.edge ≡ h.push.edge
+same_edge t parent place child step h = same_Some h.can.edge h.push.edge (sym h.can.way.here ∙ h.push.here)
+
+splittable : (t : Table) (parent : Fetched) (place : ℕ) (child : Fetched) (step : Step) → (h : IsToPush t parent place child step) → IsSplittable t parent.id parent.node.value place child.id h.push.edge child.node.value
+splittable t parent place child step h = record {
+  table = h.table;
+  kept = h.can.parent_is.kept;
+  own = h.can.parent_is.own;
+  few = h.can.room;
+  way = subst (λ (e : Edge). IsWayTo parent.node.value place child.id e) (same_edge t parent place child step h) h.can.way;
+  child = h.can.child_is.own;
+  next = h.next;
+}
+
+pushable : (t : Table) (parent : Fetched) (place : ℕ) (child : Fetched) (step : Step) → (h : IsToPush t parent place child step) → IsPushable t parent.id parent.node.value place child.id h.push.edge child.node.value h.push.batch
+pushable t parent place child step h = record {
+  split = splittable t parent place child step h;
+  waiting = subst (λ (e : Edge). IsWaitedFor parent.node.value place e) (same_edge t parent place child step h) h.can.waiting;
+  moved = h.push.moved;
+  soft = h.can.soft;
+}
+
+change : (t : Table) (parent : Fetched) (place : ℕ) (child : Fetched) (step : Step) → (h : IsToPush t parent place child step) → IsChildChange t parent.id h.push.node child.id h.push.half h.push.made
+change t parent place child step h =
+    push_change t parent.id parent.node.value place child.id h.push.edge child.node.value h.push.batch h.push.node h.push.half h.push.made (pushable t parent place child step h) h.push.into
+
+change_of : (nodes : Nodes) (t : Table) (parent : Fetched) (place : ℕ) (child : Fetched) (step : Step) → (h : IsToPush t parent place child step) → IsSound nodes t → AreFamily nodes t parent child
+    → IsChildChangeOf nodes t parent.id parent.node.value h.push.node child.id h.push.half h.push.made
+change_of nodes t parent place child step h sound family =
+    push_change_of nodes t parent.id parent.node.value place child.id h.push.edge child.node.value h.push.batch h.push.node h.push.half h.push.made (pushable t parent place child step h)
+    (record { of = splittable t parent place child step h; sound = sound; there = family.parent_there; private = family.private; child_there = family.child_there; once = h.can.once }) h.push.into
+
+changed : (nodes : Nodes) (t : Table) (parent : Fetched) (place : ℕ) (child : Fetched) (step : Step) (new : Nodes) (u : Table) → (h : IsToPush t parent place child step) → IsSound nodes t → AreFamily nodes t parent child → IsTableAfter t step u → IsCommitted nodes t step new u
+    → IsChildChanged nodes t parent.id parent.node.value h.push.node child.id h.push.half h.push.made new u
+changed nodes t parent place child step new u h sound family after committed = record {
+  of = change_of nodes t parent place child step h sound family;
+  after = subst (λ (q : Step). IsTableAfter t q u) h.push.is after;
+  committed = subst (λ (q : Step). IsCommitted nodes t q new u) h.push.is committed;
+}
+
+few_made : (t : Table) (parent : Fetched) (place : ℕ) (child : Fetched) (step : Step) → (h : IsToPush t parent place child step) → length h.push.made ≤ 1
+few_made t parent place child step h = push_few parent.node.value place h.push.edge child.node.value h.push.batch t.next h.push.node h.push.half h.push.made h.push.into
+
+pub may_push : (t : Table) (parent : Fetched) (place : ℕ) (child : Fetched) (step : Step) → IsToPush t parent place child step → IsStep t step
+may_push t parent place child step h =
+    subst (λ (q : Step). IsStep t q) (sym h.push.is) (below_step t parent.id h.push.node child.id h.push.half h.push.made (change t parent place child step h))
+
+pub push_in_place : (nodes : Nodes) (t : Table) (parent : Fetched) (place : ℕ) (child : Fetched) (step : Step) → IsToPush t parent place child step → IsSound nodes t → AreFamily nodes t parent child → IsInPlace nodes t step
+push_in_place nodes t parent place child step h sound family =
+    subst (λ (q : Step). IsInPlace nodes t q) (sym h.push.is)
+    (below_in_place nodes t parent.id parent.node.value h.push.node child.id h.push.half h.push.made (change_of nodes t parent place child step h sound family))
+
+pub push_flushed : (nodes : Nodes) (t : Table) (parent : Fetched) (place : ℕ) (child : Fetched) (step : Step) (new : Nodes) (u : Table) → IsToPush t parent place child step → IsSound nodes t → AreFamily nodes t parent child → IsTableAfter t step u → IsCommitted nodes t step new u → IsFlushed nodes t new u
+push_flushed nodes t parent place child step new u h sound family after committed =
+    child_flushed nodes t parent.id parent.node.value h.push.node child.id h.push.half h.push.made new u (changed nodes t parent place child step new u h sound family after committed)
+    (let few : length h.push.made ≤ 1 = few_made t parent place child step h in omega arith)
+
+pub push_is : (nodes : Nodes) (t : Table) (parent : Fetched) (place : ℕ) (child : Fetched) (step : Step) (new : Nodes) (u : Table) → IsToPush t parent place child step → IsSound nodes t → AreFamily nodes t parent child → IsTableAfter t step u → IsCommitted nodes t step new u
+    → IsPushed t parent place child new u
+push_is nodes t parent place child step new u h sound family after committed =
+    let done = changed nodes t parent place child step new u h sound family after committed in
+    let p : ℕ = parent.id in
+    let c : ℕ = child.id in
+    record {
+      edge = h.push.edge;
+      here = h.push.here;
+      batch = h.push.batch;
+      moved = h.push.moved;
+      node = h.push.node;
+      half = h.push.half;
+      made = h.push.made;
+      into = h.push.into;
+      parent_is = parent_is nodes t p parent.node.value h.push.node c h.push.half h.push.made new u done;
+      child_is = child_is nodes t p parent.node.value h.push.node c h.push.half h.push.made new u done
+          (push_named t p parent.node.value place c h.push.edge child.node.value h.push.batch h.push.node h.push.half h.push.made (pushable t parent place child step h) h.push.into);
+      made_are = made_are nodes t p parent.node.value h.push.node c h.push.half h.push.made new u done;
+      next = done.after.next;
+    }
+
+pub push_no_higher : (t : Table) (parent : Fetched) (place : ℕ) (child : Fetched) (step : Step) (u : Table) → IsToPush t parent place child step → IsTableAfter t step u → IsNoHigher t u
+push_no_higher t parent place child step u h after =
+    let less : buffer_size h.push.node ≤ buffer_size parent.node.value = push_size parent.node.value place h.push.edge child.node.value h.push.batch t.next h.push.node h.push.half h.push.made h.push.into in
+    let lower : IsLower t (t.level parent.id) child.id = lower_child t parent.id parent.node.value place child.id h.push.edge child.node.value (splittable t parent place child step h) in
+    let down : t.level child.id < t.level parent.id = lower.lower in
+    let under : t.level parent.id ≤ t.level t.root = h.can.under in
+    no_higher t parent.id h.push.node child.id h.push.half h.push.made u (change t parent place child step h) (subst (λ (q : Step). IsTableAfter t q u) h.push.is after)
+    (λ root. let is : buffer_size parent.node.value ≡ t.size = h.can.parent_is.root root in omega arith)
+    (λ root. absurd (let same : t.level child.id ≡ t.level t.root = ap t.level root in omega arith))
+
+pub push_visits : (t : Table) (parent : Fetched) (place : ℕ) (child : Fetched) (step : Step) (before now : ℕ) → IsToPush t parent place child step → now ≡ visited before (length step.made) → now ≤ before + 1
+push_visits t parent place child step before now h is =
+    let few : length h.push.made ≤ 1 = few_made t parent place child step h in
+    let same : length step.made ≡ length h.push.made = ap (λ (q : Step). length q.made) h.push.is in
+    omega arith
+
+pub push_worn : {T : Type 0} (before now : ℕ) (bad : ℕ → Type 0) (t : Table) (parent : Fetched) (place : ℕ) (child : Fetched) (step : Step) (r : Result T MapFault) → IsToPush t parent place child step → HasMapCause before now bad (IsWornBy t step) r → HasMapCause before now bad (IsWornFor t) r
+push_worn before now bad t parent place child step r h cause =
+    cause_weaker before now bad (IsWornBy t step) (IsWornFor t)
+    (λ counter worn. child_worn t parent.id h.push.node child.id h.push.half h.push.made (change t parent place child step h) (let few : length h.push.made ≤ 1 = few_made t parent place child step h in omega arith) counter
+    (subst (λ (q : Step). IsWornBy t q counter) h.push.is worn)) r cause
+
+-- ---- the result
+
+pub on_flushed : {T E : Type 0} (nodes : Nodes) (t : Table) (parent : Fetched) (place : ℕ) (child : Fetched) (step : Step) (new : Nodes) (u : Table) (r : Result T E) → IsToPush t parent place child step → IsSound nodes t → AreFamily nodes t parent child
+    → OnOk r (IsTableAfter t step u) → OnOk r (IsCommitted nodes t step new u) → OnOk r (IsFlushed nodes t new u)
+on_flushed nodes t parent place child step new u (Ok x) h s family after committed = push_flushed nodes t parent place child step new u h s family after committed
+on_flushed nodes t parent place child step new u (Err e) h s family after committed = tt
+
+pub on_pushed : {T E : Type 0} (nodes : Nodes) (t : Table) (parent : Fetched) (place : ℕ) (child : Fetched) (step : Step) (new : Nodes) (u : Table) (r : Result T E) → IsToPush t parent place child step → IsSound nodes t → AreFamily nodes t parent child
+    → OnOk r (IsTableAfter t step u) → OnOk r (IsCommitted nodes t step new u) → OnOk r (IsPushed t parent place child new u)
+on_pushed nodes t parent place child step new u (Ok x) h s family after committed = push_is nodes t parent place child step new u h s family after committed
+on_pushed nodes t parent place child step new u (Err e) h s family after committed = tt
+
+pub on_no_higher : {T E : Type 0} (t : Table) (parent : Fetched) (place : ℕ) (child : Fetched) (step : Step) (u : Table) (r : Result T E) → IsToPush t parent place child step → OnOk r (IsTableAfter t step u) → OnOk r (IsNoHigher t u)
+on_no_higher t parent place child step u (Ok x) h after = push_no_higher t parent place child step u h after
+on_no_higher t parent place child step u (Err e) h after = tt
+
+pub on_visits : {T E : Type 0} (t : Table) (parent : Fetched) (place : ℕ) (child : Fetched) (step : Step) (before now : ℕ) (r : Result T E) → IsToPush t parent place child step → OnOk r (now ≡ visited before (length step.made)) → OnErr r (now ≡ before) → now ≤ before + 1
+on_visits t parent place child step before now (Ok x) h ok err = push_visits t parent place child step before now h ok
+on_visits t parent place child step before now (Err e) h ok err = omega arith

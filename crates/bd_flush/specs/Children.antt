@@ -1,0 +1,136 @@
+-- Children that are split below their parent.
+use Rattle.std.specs.Prelude.{◌≡◌, ℕ, ◌+◌, ◌<◌, ◌≤◌, List, [], ◌∷◌, ◌++◌, length, Option, Some, slice_get}
+use Rattle.bd_limits.specs.Limits.{key_limit}
+use Rattle.bd_keys.specs.Keys.{IsBelow, IsBelowEnd}
+use Rattle.bd_node.specs.declared.node.Edge.{Edge}
+use Rattle.bd_node.specs.declared.node.Node.{Node}
+use Rattle.bd_node.specs.declared.node.Step.{Step}
+use Rattle.bd_node.specs.Nodes.{buffer_size}
+use Rattle.bd_node.specs.Meaning.{Nodes}
+use Rattle.bd_node.specs.Private.{IsPrivate}
+use Rattle.bd_node.specs.Tables.{Table, IsKept, IsNodeOf}
+use Rattle.bd_inner.specs.Compaction.{IsCompacted}
+use Rattle.bd_inner.specs.Halves.{edges_of, AreHalves}
+use Rattle.bd_inner.specs.Moving.{lifted}
+use Rattle.bd_inner.specs.Exchange.{exchanged, end_at, IsEdgeAt}
+use Rattle.bd_flush.specs.declared.fetching.Fetched.{Fetched}
+use Rattle.bd_flush.specs.declared.children.Parts.{Parts}
+use Rattle.bd_flush.specs.declared.children.Side.{Side}
+use Rattle.bd_flush.specs.declared.children.Side.TheVariants.{Lower, Both, Upper}
+
+-- what the table says of a fetched node
+pub record IsFetched (t : Table) (f : Fetched) : Type 0 where
+  pub kept : IsKept t f.id
+  pub own : IsNodeOf t (t.level f.id) f.node.value
+  pub root : f.id ≡ t.root → buffer_size f.node.value ≡ t.size
+
+-- the node's edge at a place asks the child, with nothing in front of what is left of a key
+pub record IsWayTo (n : Node) (place child : ℕ) (e : Edge) : Type 0 where
+  pub here : IsEdgeAt n place e
+  pub child_is : e.child ≡ Some child
+  pub plain : e.source ≡ []
+
+-- the step that changes a node and its child, and makes others
+abbrev pub child_step : ℕ → ℕ → Node → ℕ → Node → List Node → Step
+child_step root parent n child m made =
+    record {
+      made = made;
+      changes = record { id = parent; node = n } ∷ record { id = child; node = m } ∷ [];
+      root = root;
+    }
+
+-- a key of an edge's child as one of the edge
+abbrev pub parting : Edge → List ℕ → List ℕ
+parting e pivot = lifted e ++ pivot
+
+-- the edge of the keys from a pivot on, to another child
+abbrev pub upper_edge : Edge → List ℕ → ℕ → Edge
+upper_edge e pivot child = record e { pivot = pivot; child = Some child }
+
+-- the pivot lies inside the edge at a place
+abbrev pub IsInside : Node → ℕ → Edge → List ℕ → Type 0
+IsInside n place e pivot = IsBelow e.pivot pivot × IsBelowEnd pivot (end_at n place)
+
+-- a node `n` and its child `m` after the child's split, and what is made: both halves, or the half
+-- that alone has keys of the edge
+pub data IsSplitInto (n : Node) (place : ℕ) (e : Edge) (m : Node) (next : ℕ)
+    : Node → Node → List Node → Type 0 where
+  parted : (first : Node) (pivot : List ℕ) (second parent : Node)
+      → AreHalves m first pivot second → IsInside n place e (parting e pivot)
+      → length (parting e pivot) ≤ key_limit
+      → IsCompacted (exchanged n place (e ∷ upper_edge e (parting e pivot) next ∷ [])) parent
+      → IsSplitInto n place e m next parent first (second ∷ [])
+  lower : (first : Node) (pivot : List ℕ) (second : Node) → AreHalves m first pivot second
+      → ¬ IsBelowEnd (parting e pivot) (end_at n place) → IsSplitInto n place e m next n first []
+  upper : (first : Node) (pivot : List ℕ) (second : Node) → AreHalves m first pivot second
+      → ¬ IsBelow e.pivot (parting e pivot) → IsSplitInto n place e m next n second []
+
+-- which of a child's halves have keys of an edge that ends there: `pivot` parts them
+abbrev pub IsSide : Edge → Option (List ℕ) → List ℕ → Side → Type 0
+IsSide e hi pivot Lower = ¬ IsBelowEnd pivot hi
+IsSide e hi pivot Upper = ¬ IsBelow e.pivot pivot
+IsSide e hi pivot Both = IsBelow e.pivot pivot × IsBelowEnd pivot hi
+
+-- a node and its child after the child's split, and what is made
+pub record AreParts (n : Node) (place : ℕ) (m : Node) (next : ℕ) (parts : Parts) : Type 0 where
+  pub edge : Edge
+  pub here : IsEdgeAt n place edge
+  pub into : IsSplitInto n place edge m next parts.node parts.half parts.made.items
+
+-- a private child with 15 or 16 edges that may be split, as far as the table tells
+pub record CanSplitChild (t : Table) (parent : Fetched) (place : ℕ) (child : Fetched) : Type 0 where
+  pub parent_is : IsFetched t parent
+  pub child_is : IsFetched t child
+  pub room : length (edges_of parent.node.value) ≤ 14
+  pub full : 15 ≤ length (edges_of child.node.value)
+  pub edge : Edge
+  pub way : IsWayTo parent.node.value place child.id edge
+  pub once : t.count child.id ≡ 1
+
+-- the nodes are those of a private parent and its child
+pub record AreFamily (nodes : Nodes) (t : Table) (parent child : Fetched) : Type 0 where
+  pub private : IsPrivate nodes t parent.id
+  pub parent_there : nodes parent.id ≡ Some parent.node.value
+  pub child_there : nodes child.id ≡ Some child.node.value
+
+-- the pivot of the halves is inside the edge, and too long for the parent
+pub record IsLongPivot (n : Node) (place : ℕ) (m : Node) : Type 0 where
+  pub edge : Edge
+  pub here : IsEdgeAt n place edge
+  pub first : Node
+  pub pivot : List ℕ
+  pub second : Node
+  pub halves : AreHalves m first pivot second
+  pub inside : IsInside n place edge (parting edge pivot)
+  pub long : key_limit < length (parting edge pivot)
+
+-- the step of a child's split
+pub record IsChildStep (root next : ℕ) (parent : Fetched) (place : ℕ) (child : Fetched)
+    (step : Step) : Type 0 where
+  pub edge : Edge
+  pub here : IsEdgeAt parent.node.value place edge
+  pub node : Node
+  pub half : Node
+  pub made : List Node
+  pub into : IsSplitInto parent.node.value place edge child.node.value next node half made
+  pub is : step ≡ child_step root parent.id node child.id half made
+
+-- the child is split: it is one half from now on, and the other is made if it has keys of the edge
+pub record IsSplitChild (t : Table) (parent : Fetched) (place : ℕ) (child : Fetched) (new : Nodes)
+    (u : Table) : Type 0 where
+  pub edge : Edge
+  pub here : IsEdgeAt parent.node.value place edge
+  pub node : Node
+  pub half : Node
+  pub made : List Node
+  pub into : IsSplitInto parent.node.value place edge child.node.value t.next node half made
+  pub parent_is : new parent.id ≡ Some node
+  pub child_is : new child.id ≡ Some half
+  pub made_are : (i : ℕ) (m : Node) → slice_get made i ≡ Some m → new (t.next + i) ≡ Some m
+  pub next : u.next ≡ t.next + length made
+
+-- the root stays, as high as it was, and no more waits in it
+pub record IsNoHigher (t u : Table) : Type 0 where
+  pub root : u.root ≡ t.root
+  pub level : u.level u.root ≡ t.level t.root
+  pub size : u.size ≤ t.size

@@ -1,0 +1,5 @@
+pub mod Pending
+pub mod Flushed
+pub mod Splits
+pub mod Children
+pub mod Pushes

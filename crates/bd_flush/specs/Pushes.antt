@@ -1,0 +1,98 @@
+-- Messages that go down to a child.
+use Rattle.std.specs.Prelude.{◌≡◌, ℕ, ◌+◌, ◌<◌, ◌≤◌, List, [], ◌∷◌, length, drop, Some, slice_get}
+use Rattle.std.specs.List.{AllByRecursion}
+use Rattle.bd_limits.specs.Limits.{soft_limit}
+use Rattle.bd_message.specs.declared.message.Message.{Message}
+use Rattle.bd_node.specs.declared.node.Edge.{Edge}
+use Rattle.bd_node.specs.declared.node.Node.{Node}
+use Rattle.bd_node.specs.declared.node.Step.{Step}
+use Rattle.bd_node.specs.Nodes.{level_of, buffer_size, appended}
+use Rattle.bd_node.specs.Meaning.{Nodes}
+use Rattle.bd_node.specs.Tables.{Table}
+use Rattle.bd_inner.specs.declared.batches.Batch.{Batch}
+use Rattle.bd_inner.specs.Compaction.{IsCompacted}
+use Rattle.bd_inner.specs.Halves.{edges_of, buffer_of}
+use Rattle.bd_inner.specs.Moving.{IsPlainFor, IsBatch}
+use Rattle.bd_inner.specs.Exchange.{exchanged, end_at, IsEdgeAt}
+use Rattle.bd_flush.specs.declared.fetching.Fetched.{Fetched}
+use Rattle.bd_flush.specs.declared.children.Parts.{Parts}
+use Rattle.bd_flush.specs.Children.{IsFetched, IsWayTo, child_step}
+
+-- the edge after its child has got so many more messages
+abbrev pub seen_by : Edge → ℕ → Edge
+seen_by e count = record e { seen = e.seen + count }
+
+-- the messages that a node's edge hasn't seen
+abbrev pub unseen : Node → Edge → List Message
+unseen n e = drop e.seen (buffer_of n)
+
+-- the edge hasn't seen all messages, and those that are pending for it name no node
+pub record IsWaitedFor (n : Node) (place : ℕ) (e : Edge) : Type 0 where
+  pub some : e.seen < length (buffer_of n)
+  pub plain : AllByRecursion (IsPlainFor e (end_at n place)) (unseen n e)
+
+-- messages may go down from a node, at most as high as the root, to a private child, as far as the
+-- table tells
+pub record CanPush (t : Table) (parent : Fetched) (place : ℕ) (child : Fetched) : Type 0 where
+  pub parent_is : IsFetched t parent
+  pub child_is : IsFetched t child
+  pub under : t.level parent.id ≤ t.level t.root
+  pub room : length (edges_of parent.node.value) ≤ 14
+  pub edge : Edge
+  pub way : IsWayTo parent.node.value place child.id edge
+  pub waiting : IsWaitedFor parent.node.value place edge
+  pub once : t.count child.id ≡ 1
+  pub soft : buffer_size child.node.value ≤ soft_limit
+
+-- the oldest messages that the edge hasn't seen, at least one, for its child
+pub record IsEdgeBatch (n : Node) (place : ℕ) (e : Edge) (b : Batch) : Type 0 where
+  pub batch : IsBatch e (end_at n place) (unseen n e) b
+  pub some : 1 ≤ b.count
+
+-- the node after these messages have gone down its edge
+abbrev pub IsRelieved : Node → ℕ → Edge → ℕ → Node → Type 0
+IsRelieved n place e count parent =
+    IsCompacted (exchanged n place (seen_by e count ∷ [])) parent
+
+-- a node `n` and its child `m` after messages have gone down, and what is made
+pub data IsPushInto (n : Node) (place : ℕ) (e : Edge) (m : Node) (b : Batch) (next : ℕ)
+    : Node → Node → List Node → Type 0 where
+  received : (parent : Node) → 1 ≤ level_of m → IsRelieved n place e b.count parent
+      → IsPushInto n place e m b next parent (appended m b.messages) []
+
+-- a node and its child after messages have gone down, and what is made
+pub record ArePushed (n : Node) (place : ℕ) (m : Node) (next : ℕ) (parts : Parts) : Type 0 where
+  pub edge : Edge
+  pub here : IsEdgeAt n place edge
+  pub batch : Batch
+  pub moved : IsEdgeBatch n place edge batch
+  pub into : IsPushInto n place edge m batch next parts.node parts.half parts.made.items
+
+-- the step of a push
+pub record IsPushStep (root next : ℕ) (parent : Fetched) (place : ℕ) (child : Fetched)
+    (step : Step) : Type 0 where
+  pub edge : Edge
+  pub here : IsEdgeAt parent.node.value place edge
+  pub batch : Batch
+  pub moved : IsEdgeBatch parent.node.value place edge batch
+  pub node : Node
+  pub half : Node
+  pub made : List Node
+  pub into : IsPushInto parent.node.value place edge child.node.value batch next node half made
+  pub is : step ≡ child_step root parent.id node child.id half made
+
+-- messages have gone down to the child
+pub record IsPushed (t : Table) (parent : Fetched) (place : ℕ) (child : Fetched) (new : Nodes)
+    (u : Table) : Type 0 where
+  pub edge : Edge
+  pub here : IsEdgeAt parent.node.value place edge
+  pub batch : Batch
+  pub moved : IsEdgeBatch parent.node.value place edge batch
+  pub node : Node
+  pub half : Node
+  pub made : List Node
+  pub into : IsPushInto parent.node.value place edge child.node.value batch t.next node half made
+  pub parent_is : new parent.id ≡ Some node
+  pub child_is : new child.id ≡ Some half
+  pub made_are : (i : ℕ) (m : Node) → slice_get made i ≡ Some m → new (t.next + i) ≡ Some m
+  pub next : u.next ≡ t.next + length made

@@ -1,0 +1,259 @@
+//! A child with 15 or 16 edges is split below its parent.
+
+ghost use Rattle.std.specs.Prelude.{◌≡◌, ◌≢◌, ◌+◌, ◌<◌, ◌≤◌, ◌∷◌, [], length, IfOk, MatchOption, Ok};
+ghost use Rattle.std.specs.Option.{option_copied};
+ghost use Rattle.bd_message.specs.KeyMaps.{HasMapCause};
+ghost use Rattle.bd_node.specs.declared.node.Edge.{Edge};
+ghost use Rattle.bd_node.specs.Shape.{IsShape};
+ghost use Rattle.bd_node.specs.Tables.{IsSound};
+ghost use Rattle.bd_inner.specs.Halves.{edges_of};
+ghost use Rattle.bd_inner.specs.Compaction.{IsCompacted};
+ghost use Rattle.bd_inner.specs.Exchange.{exchanged, IsEdgeAt, FitsAt};
+ghost use Rattle.bd_flush.specs.Flushed.{IsFlushed, IsWornFor};
+ghost use Rattle.bd_flush.specs.Children.{CanSplitChild, AreFamily, child_step, parting, upper_edge, IsSide, AreParts, IsLongPivot, IsChildStep, IsSplitChild, IsNoHigher};
+
+use crate::Fetched;
+use bd_inner::{end_of, exchange, split};
+use bd_keys::Bytes;
+use bd_limits::MAX_KEY;
+use bd_message::MapFault;
+use bd_node::{Change, Edge, Items, Node, NodeStore, Step};
+use std::alloc::{AllocError, Global};
+
+/// What became of a child to split.
+#[derive(Clone, Copy, Debug, PartialEq, Eq)]
+pub enum ChildSplit {
+    /// It is one half from now on, and the other half is made if it has keys of the edge.
+    Done,
+    /// The pivot of its halves would have more than 518 bytes in the parent: nothing was changed.
+    LongPivot,
+}
+
+/// Splits a child with 15 or 16 edges, below a parent with at most 14. Both were fetched before.
+/// The parent is private, no other node names the child, and the edge at the place asks it with
+/// nothing in front of a key.
+pub fn split_child<S: NodeStore>(
+    alloc: Global,
+    store: &mut S,
+    parent: &Fetched,
+    place: usize,
+    child: &Fetched,
+) -> Result<ChildSplit, MapFault>
+    requires can { CanSplitChild (S.table store.old) parent.now place child.now }
+    requires family { S.is_known store.old → IsSound (S.nodes store.old) (S.table store.old)
+        → AreFamily (S.nodes store.old) (S.table store.old) parent.now child.now }
+    ensures flushed { S.is_known store.old → IsSound (S.nodes store.old) (S.table store.old)
+        → result ≡ Ok ChildSplit.Done → IsFlushed (S.nodes store.old) (S.table store.old)
+        (S.nodes store.new) (S.table store.new) }
+    ensures split { S.is_known store.old → IsSound (S.nodes store.old) (S.table store.old)
+        → result ≡ Ok ChildSplit.Done → IsSplitChild (S.table store.old) parent.now place child.now
+        (S.nodes store.new) (S.table store.new) }
+    ensures table { result ≡ Ok ChildSplit.Done
+        → IsNoHigher (S.table store.old) (S.table store.new) }
+    ensures long { result ≡ Ok ChildSplit.LongPivot
+        → IsLongPivot parent.now.node.value place child.now.node.value }
+    ensures known { S.is_known store.old → S.is_known store.new }
+    ensures same_table { result ≢ Ok ChildSplit.Done → S.table store.new ≡ S.table store.old }
+    ensures same_nodes { S.is_known store.old
+        → result ≢ Ok ChildSplit.Done → S.nodes store.new ≡ S.nodes store.old }
+    ensures few_visits { S.visit_count store.new ≤ S.visit_count store.old + 1 }
+    ensures cause { HasMapCause (S.fault_count store.old) (S.fault_count store.new)
+        (S.bad store.new) (IsWornFor (S.table store.old)) result }
+    ensures same_loans { S.loans store.new ≡ S.loans store.old }
+{
+    let root = store.root();
+    let next = store.next_id();
+    let Some(step) = child_split(alloc, root, next, parent, place, child)? else {
+        return Ok(ChildSplit::LongPivot);
+    };
+    store.commit(step)?;
+    Ok(ChildSplit::Done)
+}
+
+// The step of a child's split, and none where the pivot would be too long in the parent.
+fn child_split(
+    alloc: Global,
+    root: u64,
+    next: u64,
+    parent: &Fetched,
+    place: usize,
+    child: &Fetched,
+) -> Result<Option<Step>, AllocError>
+    requires shape { IsShape parent.now.node.value }
+    requires child { IsShape child.now.node.value }
+    requires room { length (edges_of parent.now.node.value) ≤ 14 }
+    requires full { 15 ≤ length (edges_of child.now.node.value) }
+    requires within { place < length (edges_of parent.now.node.value) }
+    requires next { 1 ≤ next }
+    ensures { IfOk result (λ found. MatchOption found
+        (IsLongPivot parent.now.node.value place child.now.node.value)
+        (λ step. IsChildStep root next parent.now place child.now step)) }
+{
+    let node: &Node = &parent.node;
+    let below: &Node = &child.node;
+    match split_below(alloc, node, place, below, next)? {
+        Some(Parts { node, half, made }) => Ok(Some(child_step(
+            alloc, root, parent.id, node, child.id, half, made,
+        )?)),
+        None => Ok(None),
+    }
+}
+
+// A node and its child after the child's split, and what is made.
+#[derive(Drop)]
+pub struct Parts {
+    pub node: Node,
+    pub half: Node,
+    pub made: Vec<Node>,
+}
+
+// A node and its child after the child's split, and none where the pivot would be too long.
+fn split_below(
+    alloc: Global,
+    node: &Node,
+    place: usize,
+    child: &Node,
+    next: u64,
+) -> Result<Option<Parts>, AllocError>
+    requires shape { IsShape node.now }
+    requires child { IsShape child.now }
+    requires room { length (edges_of node.now) ≤ 14 }
+    requires full { 15 ≤ length (edges_of child.now) }
+    requires within { place < length (edges_of node.now) }
+    requires next { 1 ≤ next }
+    ensures { IfOk result (λ found. MatchOption found (IsLongPivot node.now place child.now)
+        (AreParts node.now place child.now next)) }
+{
+    let edges = edges_of(node);
+    let edge = &edges[place];
+    let (first, pivot, second) = split(alloc, child)?;
+    let pivot = parting(alloc, edge, &pivot)?;
+    match asked_side(edge, end_of(edges, place), pivot.as_slice()) {
+        Side::Lower => Ok(Some(one_half(alloc, node, first)?)),
+        Side::Upper => Ok(Some(one_half(alloc, node, second)?)),
+        Side::Both => {
+            if pivot.len() > MAX_KEY {
+                return Ok(None);
+            }
+            let node = with_upper(alloc, node, place, pivot, next)?;
+            let mut made = Vec::new(alloc);
+            made.push(second)?;
+            Ok(Some(Parts {
+                node,
+                half: first,
+                made,
+            }))
+        }
+    }
+}
+
+// A node as it is, over one half of its child.
+fn one_half(alloc: Global, node: &Node, half: Node) -> Result<Parts, AllocError>
+    ensures { IfOk result (λ parts.
+        (parts.node ≡ node.now) × (parts.half ≡ half) × (parts.made.items ≡ [])) }
+{
+    Ok(Parts {
+        node: node.clone()?,
+        half,
+        made: Vec::new(alloc),
+    })
+}
+
+// The edges of a node, and none of a leaf.
+pub fn edges_of(node: &Node) -> &[Edge]
+    ensures { result.now ≡ edges_of node.now }
+{
+    match node {
+        Node::Leaf(_) => &[],
+        Node::Inner { edges, .. } => edges.as_slice(),
+    }
+}
+
+// Which halves have keys of an edge.
+enum Side {
+    Lower,
+    Both,
+    Upper,
+}
+
+// Which halves of its child an edge asks whose keys end at `hi`, if they part at a pivot.
+fn asked_side(edge: &Edge, hi: Option<&[u8]>, pivot: &[u8]) -> Side
+    ensures { IsSide edge.now (option_copied hi.entry) pivot.now result }
+{
+    if !edge.pivot.as_slice().cmp(pivot).is_lt() {
+        return Side::Upper;
+    }
+    let Some(hi) = hi else {
+        return Side::Both;
+    };
+    if pivot.cmp(hi).is_lt() {
+        Side::Both
+    } else {
+        Side::Lower
+    }
+}
+
+// A key of an edge's child as one of the edge.
+fn parting(alloc: Global, edge: &Edge, pivot: &Bytes) -> Result<Bytes, AllocError>
+    requires { edge.now.lift ≤ length edge.now.pivot }
+    ensures { IfOk result (λ key. key ≡ parting edge.now pivot.now) }
+{
+    let mut key = edge.pivot.as_slice()[..edge.lift as usize].to_vec(alloc)?;
+    key.extend_from_slice(pivot.as_slice())?;
+    Ok(Bytes::from_vec(key))
+}
+
+// A copy of a node whose edge at a place keeps its keys below a pivot, and with a new edge to a
+// child for the others.
+fn with_upper(
+    alloc: Global,
+    node: &Node,
+    place: usize,
+    pivot: Bytes,
+    child: u64,
+) -> Result<Node, AllocError>
+    requires shape { IsShape node.now }
+    requires within { place < length (edges_of node.now) }
+    requires fits { (e : Edge) → IsEdgeAt node.now place e
+        → FitsAt node.now place e (e ∷ upper_edge e pivot child ∷ []) }
+    ensures { IfOk result (λ n. (e : Edge) → IsEdgeAt node.now place e
+        → IsCompacted (exchanged node.now place (e ∷ upper_edge e pivot child ∷ [])) n) }
+{
+    let edge = &edges_of(node)[place];
+    let upper = Edge {
+        pivot,
+        lift: edge.lift,
+        source: edge.source.clone()?,
+        child: Some(child),
+        seen: edge.seen,
+    };
+    let mut list = Vec::new(alloc);
+    list.push(edge.clone()?)?;
+    list.push(upper)?;
+    exchange(alloc, node, place, Items::from_vec(list))
+}
+
+// The step that changes a node and its child, and makes others.
+pub fn child_step(
+    alloc: Global,
+    root: u64,
+    parent: u64,
+    node: Node,
+    child: u64,
+    half: Node,
+    made: Vec<Node>,
+) -> Result<Step, AllocError>
+    ensures { IfOk result (λ step. step ≡ child_step root parent node child half made.items) }
+{
+    let mut changes = Vec::new(alloc);
+    changes.push(Change { id: parent, node })?;
+    changes.push(Change {
+        id: child,
+        node: half,
+    })?;
+    Ok(Step {
+        made: Items::from_vec(made),
+        changes: Items::from_vec(changes),
+        root,
+    })
+}

@@ -1,0 +1,16 @@
+//! Steps of a flush: what waits in a node goes down, and the tree has what it had.
+//! The layers above use `split_root` and `fullest`, and what a step leaves, `IsFlushed`.
+#![tactic(auto)]
+
+mod children;
+mod fetching;
+mod filling;
+pub mod laws;
+mod pushing;
+mod splitting;
+
+pub use children::{split_child, ChildSplit};
+pub use fetching::{fetch, Fetched};
+pub use filling::{FullEdge, fullest};
+pub use pushing::push;
+pub use splitting::split_root;
