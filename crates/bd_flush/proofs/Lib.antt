@@ -1,8 +1,10 @@
 pub mod PendingSizes
 pub mod Abundance
+pub mod Each
 pub mod Givens
 pub mod Worn
 pub mod RootSplits
 pub mod ChildSteps
 pub mod ChildSplits
 pub mod ChildCommits
+pub mod Down

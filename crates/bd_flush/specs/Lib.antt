@@ -2,3 +2,4 @@ pub mod Pending
 pub mod Flushed
 pub mod Splits
 pub mod Children
+pub mod Ways
