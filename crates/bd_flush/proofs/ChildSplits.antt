@@ -49,15 +49,17 @@ times_exchanged (Leaf entries) place list c inner = absurd (omega arith)
 times_exchanged (Inner level es buffer) place list c inner =
     let xs : List Edge = take place es in
     let ys : List Edge = drop (place + 1) es in
-    omega (arith,
-    count_names-append c (flat_map edge_names (xs ++ (list ++ ys))) (flat_map message_names buffer),
-    count_names-append c (flat_map edge_names (xs ++ ys)) (flat_map message_names buffer),
-    ap (count_names c) (flat_map-append edge_names xs (list ++ ys)),
-    ap (count_names c) (flat_map-append edge_names xs ys),
-    ap (count_names c) (flat_map-append edge_names list ys),
-    count_names-append c (flat_map edge_names xs) (flat_map edge_names (list ++ ys)),
-    count_names-append c (flat_map edge_names xs) (flat_map edge_names ys),
-    count_names-append c (flat_map edge_names list) (flat_map edge_names ys))
+    omega (
+      arith,
+      count_names-append c (flat_map edge_names (xs ++ (list ++ ys))) (flat_map message_names buffer),
+      count_names-append c (flat_map edge_names (xs ++ ys)) (flat_map message_names buffer),
+      ap (count_names c) (flat_map-append edge_names xs (list ++ ys)),
+      ap (count_names c) (flat_map-append edge_names xs ys),
+      ap (count_names c) (flat_map-append edge_names list ys),
+      count_names-append c (flat_map edge_names xs) (flat_map edge_names (list ++ ys)),
+      count_names-append c (flat_map edge_names xs) (flat_map edge_names ys),
+      count_names-append c (flat_map edge_names list) (flat_map edge_names ys),
+    )
 
 -- the node with the edge in its own place
 pub exchanged_same : (n : Node) (place : ℕ) (e : Edge) → IsEdgeAt n place e → exchanged n place (e ∷ []) ≡ n
@@ -238,11 +240,13 @@ exchanged_named (Leaf entries) place list x inner = absurd (omega arith)
 exchanged_named (Inner level es buffer) place list x inner =
     let xs : List Edge = take place es in
     let ys : List Edge = drop (place + 1) es in
-    omega (arith,
-    ap (count_names x) (flat_map-append edge_names xs (list ++ ys)),
-    ap (count_names x) (flat_map-append edge_names list ys),
-    count_names-append x (flat_map edge_names xs) (flat_map edge_names (list ++ ys)),
-    count_names-append x (flat_map edge_names list) (flat_map edge_names ys))
+    omega (
+      arith,
+      ap (count_names x) (flat_map-append edge_names xs (list ++ ys)),
+      ap (count_names x) (flat_map-append edge_names list ys),
+      count_names-append x (flat_map edge_names xs) (flat_map edge_names (list ++ ys)),
+      count_names-append x (flat_map edge_names list) (flat_map edge_names ys),
+    )
 
 pub count_two : (x a b : ℕ) → count_names x (a ∷ b ∷ []) ≡ count_names x (a ∷ []) + count_names x (b ∷ [])
 count_two x a b = count_names-append x (a ∷ []) (b ∷ [])

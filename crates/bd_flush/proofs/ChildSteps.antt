@@ -358,7 +358,7 @@ child_flushed nodes t p old n c h made new u b few =
       same = λ k.
           ap (λ (r : ℕ). at new r k) b.after.root
           ∙ has_then nodes t p old n c h made new u b t.root (λ e. root_unnamed nodes t b.of.sound p old b.of.there (subst (λ (i : ℕ). 1 ≤ times old i) (sym e) b.of.names_it)) low
-              (root_stays t p n c h made u b.after) k;
+          (root_stays t p n c h made u b.after) k;
       sound = b.committed.sound;
       later = omega arith;
       few = omega arith;
@@ -449,9 +449,19 @@ child_worn t p n c h made b few Refs worn =
     let first : Change = record { id = p; node = n } in
     let second : Change = record { id = c; node = h } in
     let most : 2 ^ 64 ≤ t.count id + given_times (child_step t.root p n c h made) id + one_if t.root id = worn.1 in
-    let all : sum_by (λ m. times m id) made ≤ 2064 * length made = sum_few made id (each_weaker (IsMadeBelow t (t.level c)) IsShape (λ d own. own.shape) made b.each) in
-    (id, omega (arith, most, all, one_if_few t.root id, times_few n id b.shape, times_few h id b.child_shape,
-    sum_by-cons (λ (d : Change). times d.node id) first (second ∷ []), sum_by-cons (λ (d : Change). times d.node id) second []))
+    let all : sum_by (λ m. times m id) made ≤ 2064 * length made = sum_few made id (each_weaker (IsMadeBelow t (t.level c)) IsShape (λ d own. own.shape) made b.each) in (
+      id,
+      omega (
+        arith,
+        most,
+        all,
+        one_if_few t.root id,
+        times_few n id b.shape,
+        times_few h id b.child_shape,
+        sum_by-cons (λ (d : Change). times d.node id) first (second ∷ []),
+        sum_by-cons (λ (d : Change). times d.node id) second [],
+      ),
+    )
 child_worn t p n c h made b few Count worn = worn
 child_worn t p n c h made b few Level worn = absurd worn
 child_worn t p n c h made b few Epoch worn = worn

@@ -1,5 +1,6 @@
 pub mod PendingSizes
 pub mod Abundance
+pub mod Each
 pub mod Givens
 pub mod Worn
 pub mod RootSplits
@@ -9,3 +10,4 @@ pub mod ChildCommits
 pub mod Pushed
 pub mod PushCommits
 pub mod Batches
+pub mod Down

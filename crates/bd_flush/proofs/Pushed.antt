@@ -45,9 +45,9 @@ relieved_times : (n : Node) (place : ℕ) (e : Edge) (count : ℕ) (parent : Nod
 relieved_times n place e count parent h here r x =
     let less : times parent x ≤ times (exchanged n place (seen_by e count ∷ [])) x = compacted_times (exchanged n place (seen_by e count ∷ [])) parent r x in
     let same : times (exchanged n place (seen_by e count ∷ [])) x ≡ times n x =
-        times_exchanged n place (seen_by e count ∷ []) x (inner_of n place e h here)
-        ∙ sym (times_exchanged n place (e ∷ []) x (inner_of n place e h here))
-        ∙ ap (λ (m : Node). times m x) (exchanged_same n place e here) in
+    times_exchanged n place (seen_by e count ∷ []) x (inner_of n place e h here)
+    ∙ sym (times_exchanged n place (e ∷ []) x (inner_of n place e h here))
+    ∙ ap (λ (m : Node). times m x) (exchanged_same n place e here) in
     omega arith
 
 pub relieved_names : (n : Node) (place c : ℕ) (e : Edge) (count : ℕ) (parent : Node) → IsShape n → IsWayTo n place c e → IsRelieved n place e count parent → 1 ≤ times parent c

@@ -1,16 +1,20 @@
 //! Steps of a flush: what waits in a node goes down, and the tree has what it had.
-//! The layers above use `split_root` and `fullest`, and what a step leaves, `IsFlushed`.
+//! The layers above use `next_step`, which finds what is to be done (`IsToDo`), and the steps that do
+//! it, with what each leaves, `IsFlushed`.
 #![tactic(auto)]
 
 mod children;
 mod fetching;
 mod filling;
 pub mod laws;
+mod nodes;
 mod pushing;
 mod splitting;
+mod ways;
 
-pub use children::{split_child, ChildSplit};
-pub use fetching::{fetch, Fetched};
+pub use children::{ChildSplit, split_child};
+pub use fetching::{Fetched, fetch};
 pub use filling::{FullEdge, fullest};
 pub use pushing::push;
 pub use splitting::split_root;
+pub use ways::{FlushStep, next_step};

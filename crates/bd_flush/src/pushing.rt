@@ -14,7 +14,8 @@ ghost use Rattle.bd_flush.specs.Children.{AreFamily, IsNoHigher};
 ghost use Rattle.bd_flush.specs.Pushes.{seen_by, unseen, CanPush, IsWaitedFor, IsEdgeBatch, IsRelieved, ArePushed, IsPushStep, IsPushed};
 
 use crate::Fetched;
-use crate::children::{Parts, child_step, edges_of};
+use crate::children::{Parts, child_step};
+use crate::nodes::edges_of;
 use bd_inner::{Batch, end_of, exchange, next_batch, receive};
 use bd_message::{MapFault, Message};
 use bd_node::{Edge, Items, Node, NodeStore, Step};
