@@ -1,8 +1,8 @@
 -- How often nodes are named after a step, and without one node.
-use Rattle.std.proofs.Common.{◌≡◌, ℕ, zero, suc, ◌+◌, ◌-◌, ◌<◌, ◌≤◌, List, [], ◌∷◌, length, refl, sym, ap, subst, ◌∙◌, Option, None, Some, arith, inl, inr, eqb}
+use Rattle.std.proofs.Common.{◌≡◌, ℕ, zero, suc, ◌+◌, ◌-◌, ◌<◌, List, [], ◌∷◌, length, refl, sym, ap, ◌∙◌, Option, None, Some, arith, eqb}
 use Rattle.std.specs.Prelude.{slice_get}
 use Rattle.std.specs.List.{AllByRecursion, sum_by}
-use Rattle.std.proofs.lemmas.Bool.{cases_eq, cond-true, cond-false, eq-eqb, ne_eqb}
+use Rattle.std.proofs.lemmas.Bool.{cond-true, cond-false, eq-eqb, ne_eqb}
 use Rattle.std.proofs.lemmas.List.Sums.{sum_by-cons}
 use Rattle.bd_node.specs.declared.node.Node.{Node}
 use Rattle.bd_node.specs.declared.node.Change.{Change}
@@ -10,7 +10,7 @@ use Rattle.bd_node.specs.declared.node.Step.{Step}
 use Rattle.bd_node.specs.Nodes.{times}
 use Rattle.bd_node.specs.Meaning.{Nodes}
 use Rattle.bd_node.specs.Tables.{Table, IsTable, sum_below, times_in, one_if, references}
-use Rattle.bd_node.specs.Steps.{changed_at, given, given_or, after, given_times, IsChange, IsStep, AreOnce}
+use Rattle.bd_node.specs.Steps.{changed_at, given_or, after, given_times, IsChange, IsStep, AreOnce}
 use Rattle.bd_node.specs.Closed.{without}
 use Rattle.bd_node.proofs.Lookup.{each_weaker}
 use Rattle.bd_node.proofs.Sums.{sum_same, sum_exchanged, sum_split, sum_first}
@@ -42,7 +42,7 @@ changes_count nodes next c [] low once = refl
 changes_count nodes next c (d ∷ ds) low once =
     let rest = changes_count nodes next c ds low.1 once.1 in
     let swapped = sum_exchanged next (λ id. times_in (changed nodes (d ∷ ds) id) c) (λ id. times_in (changed nodes ds id) c) d.id low.0
-        (λ j ne. ap (λ o. times_in o c) (changed-other nodes d ds j ne)) in
+    (λ j ne. ap (λ o. times_in o c) (changed-other nodes d ds j ne)) in
     let here : times_in (changed nodes (d ∷ ds) d.id) c ≡ times d.node c = ap (λ o. times_in o c) (changed-same nodes d ds) in
     let before : times_in (changed nodes ds d.id) c ≡ times_in (nodes d.id) c = ap (λ o. times_in o c) (changed-later nodes d ds once.0) in
     let old = sum_by-cons (λ (e : Change). times_in (nodes e.id) c) d ds in
@@ -94,6 +94,6 @@ pub counts_dropped : (nodes : Nodes) (next root d : ℕ) → d < next → (c : �
     → references (without nodes d) next root c + times_in (nodes d) c ≡ references nodes next root c
 counts_dropped nodes next root d low c =
     let swapped = sum_exchanged next (λ id. times_in (without nodes d id) c) (λ id. times_in (nodes id) c) d low
-        (λ j ne. ap (λ o. times_in o c) (cond-false (eqb j d) None (nodes j) (ne_eqb j d ne))) in
+    (λ j ne. ap (λ o. times_in o c) (cond-false (eqb j d) None (nodes j) (ne_eqb j d ne))) in
     let gone : times_in (without nodes d d) c ≡ 0 = ap (λ o. times_in o c) (cond-true (eqb d d) None (nodes d) (eq-eqb d d refl)) in
     omega arith
