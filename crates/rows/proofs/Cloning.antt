@@ -1,16 +1,15 @@
 -- The step to a tree with a clone may be made in a new store.
-use Rattle.std.proofs.Common.{◌≡◌, ℕ, ◌+◌, ◌<◌, ◌≤◌, zero, suc, refl, sym, ap, subst, ◌∙◌, arith, inl, inr, [], ◌∷◌, Option, None, Some, cond, eqb}
-use Rattle.std.proofs.lemmas.Bool.{cases_eq, cond-true, cond-false, eq-eqb, ne_eqb}
+use Rattle.std.proofs.Common.{◌≡◌, ℕ, ◌+◌, ◌≤◌, zero, suc, refl, sym, ap, subst, ◌∙◌, arith, inl, inr, [], ◌∷◌, None, Some, eqb}
+use Rattle.std.proofs.lemmas.Bool.{cases_eq, cond-false, ne_eqb}
 use Rattle.std.proofs.lemmas.Option.{same_Some, none-some}
 use Rattle.std.specs.Prelude.{slice_get}
 use Rattle.bd_message.specs.declared.message.Message.{Message}
 use Rattle.bd_message.specs.declared.message.Message.TheVariants.{Goto}
-use Rattle.bd_node.specs.declared.node.Node.{Node}
 use Rattle.bd_node.specs.declared.node.Step.{Step}
 use Rattle.bd_node.specs.Meaning.{Nodes}
 use Rattle.bd_node.specs.Shape.{IsShape, SomeEdge, IsPending}
 use Rattle.bd_node.specs.Tables.{Table, IsTable, IsNodeOf, IsSound, one_if}
-use Rattle.bd_node.specs.Steps.{given, given_times, root_step, IsNamable, IsPut, IsChange, IsStep, StayAbove, IsInPlace}
+use Rattle.bd_node.specs.Steps.{given, given_times, root_step, IsNamable, IsStep, IsInPlace}
 use Rattle.bd_node.specs.New.{new_root, new_nodes, new_table}
 use Rattle.bd_node.proofs.Sound.{node_of, one_if-same}
 use Rattle.bd_node.proofs.Stepping.{root_step-step, root_step-in_place}

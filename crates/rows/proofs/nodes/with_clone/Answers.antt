@@ -1,5 +1,3 @@
-use Rattle.std.proofs.Common.{◌≡◌, ◌∙◌}
-use Rattle.bd_node.specs.Steps.{IsStep, IsInPlace}
 use Rattle.bd_memnodes.specs.Seen.{nodes_of, table}
 use Rattle.rows.proofs.Cloning.{cloned_again}
 use Rattle.rows.proofs.nodes.with_clone.Goals as goal

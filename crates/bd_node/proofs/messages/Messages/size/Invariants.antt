@@ -1,4 +1,4 @@
-use Rattle.std.proofs.Common.{◌≡◌, ◌+◌, ◌≤◌, drop}
+use Rattle.std.proofs.Common.{◌≡◌, ◌+◌, drop}
 use Rattle.std.specs.List.{AllByRecursion, sum_by}
 use Rattle.bd_message.specs.Messages.{IsMessage, size}
 use Rattle.bd_node.proofs.messages.Messages.size.Given as goal
