@@ -41,7 +41,8 @@ pub record IsSuper (s : Super) : Type 0 where
 abbrev pub magic : List ℕ
 magic = 66 ∷ 68 ∷ 83 ∷ 85 ∷ 80 ∷ 69 ∷ 82 ∷ 49 ∷ []
 
--- the magic, the version 1, the image's slots, the epoch, the count and how many slots the table has
+-- the magic, the version 1, the image's slots, the epoch, the count and the number of the table's
+-- slots
 abbrev pub head_bytes : ℕ → ℕ → ℕ → ℕ → List ℕ
 head_bytes slots epoch count table =
     magic ++ be w32 1 ++ be w32 slots ++ be w64 epoch ++ be w64 count ++ be w32 table

@@ -11,11 +11,11 @@ ghost use Rattle.bd_table.specs.Tables.{IsTable};
 use crate::{Table, TableFault};
 use bd_device::{BLOCK_SIZE, Device};
 use bd_limits::SLOT_SIZE;
-use bd_slots::slot_block;
+use bd_slots::{SLOT_BLOCKS, slot_block};
 use std::alloc::Global;
 
 // The blocks of a slot.
-pub(crate) const BLOCKS: usize = 16;
+pub(crate) const BLOCKS: usize = SLOT_BLOCKS as usize;
 
 /// Reads the table that takes the slots `at` of an image of `slots` slots. `DeviceFault` comes only
 /// where the device's count of faults rose or stands at its last value. `Damaged` comes exactly
