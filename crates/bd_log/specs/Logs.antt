@@ -6,8 +6,8 @@ use Rattle.bd_log.specs.Batches.{IsRecord, records_in, body_blocks, AreBatches}
 use Rattle.bd_log.specs.Commits.{SameOutside}
 use Rattle.bd_log.specs.declared.batch.Batch.{Batch}
 
--- the first block of its half, the epoch of its batches, the place of the next batch's commit block,
--- the records that wait for a sync, and the batches that were there when it was resumed
+-- the first block of its half, the epoch of its batches, the place of the next batch's commit
+-- block, the records that wait for a sync, and the batches that were there when it was resumed
 pub record LogState : Type 0 where
   pub first : ℕ
   pub epoch : ℕ

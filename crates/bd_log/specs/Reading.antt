@@ -12,7 +12,8 @@ use Rattle.bd_log.specs.declared.decode.Header.{Header}
 
 -- the numbers of a header, in order
 abbrev pub head_bytes : Header → List ℕ
-head_bytes h = be w32 h.magic ++ be w32 h.blocks ++ be w64 h.epoch ++ be w32 h.count ++ be w32 h.size
+head_bytes h =
+    be w32 h.magic ++ be w32 h.blocks ++ be w64 h.epoch ++ be w32 h.count ++ be w32 h.size
 
 -- they have these widths
 pub record FitsHeader (h : Header) : Type 0 where

@@ -1,4 +1,5 @@
-//! The redo log: batches of records in one half of the log, which a crash keeps whole or not at all.
+//! The redo log: batches of records in one half of the log, which a crash leaves whole or not at
+//! all.
 //! The layers above may use the contracts of `Log`, and of its batches as a relation with an image.
 #![tactic(auto)]
 

@@ -128,7 +128,7 @@ fn the_longest_record_has_2571_bytes(rt: HostRuntime) -> Result<(), Fail> {
     line[520] = b' ';
     let bytes = record(rt.alloc(), &line)?;
     assert_eq!(rt; (bytes.len(), MAX_RECORD), (2571, 2571));
-    assert_eq!(rt; &bytes[..5], [10, 9, 3, 2, 0].as_slice());
+    assert!(rt; bytes.starts_with(&[10, 9, 3, 2, 0]));
     assert_eq!(rt; read_again(rt.alloc(), &bytes)?, Some(0));
     Ok(())
 }

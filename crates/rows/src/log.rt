@@ -39,15 +39,14 @@ fn sync<D: Device>(log: &mut Log, device: &mut D) -> bool {
     device.blocks() >= 132 && log.sync(device).is_ok()
 }
 
-// A block's first bytes.
-fn front(device: &mut MemDevice, b: u64) -> Result<[u8; 32], Fail> {
-    let mut block = [0; BLOCK_SIZE];
-    if b < device.blocks() {
-        device.read(b, &mut block)?;
+// The bytes of a block.
+fn block_of(device: &mut MemDevice, b: u64) -> Result<[u8; BLOCK_SIZE], Fail> {
+    if b >= device.blocks() {
+        return Err(Fail::new("no such block"));
     }
-    let mut bytes = [0; 32];
-    bytes.copy_from_slice(&block[..32]);
-    Ok(bytes)
+    let mut block = [0; BLOCK_SIZE];
+    device.read(b, &mut block)?;
+    Ok(block)
 }
 
 // Writes a block of these first bytes, and then zeros.
@@ -78,9 +77,9 @@ fn a_batch_stands_after_its_commit_block(rt: HostRuntime) -> Result<(), Fail> {
     append(&mut log, MKDIR)?;
     assert!(rt; sync(&mut log, &mut device));
     assert_eq!(rt; device.calls(), 5);
-    assert_eq!(rt; &front(&mut device, 4)?[..2], [1, 0].as_slice());
-    assert_eq!(rt; front(&mut device, 5)?, BODY);
-    assert_eq!(rt; front(&mut device, 6)?, [0; 32]);
+    assert!(rt; block_of(&mut device, 4)?.starts_with(&[1, 0]));
+    assert!(rt; block_of(&mut device, 5)?.starts_with(&BODY));
+    assert_eq!(rt; block_of(&mut device, 6)?, [0; BLOCK_SIZE]);
     Ok(())
 }
 
@@ -217,7 +216,7 @@ fn a_turn_begins_anew(rt: HostRuntime) -> Result<(), Fail> {
     assert_eq!(rt; log.left(), 253_928);
     append(&mut log, REMOVE)?;
     assert!(rt; sync(&mut log, &mut device));
-    assert_eq!(rt; &front(&mut device, 4)?[..1], [0].as_slice());
-    assert_eq!(rt; front(&mut device, 69)?[15], 2);
+    assert_eq!(rt; block_of(&mut device, 4)?[0], 0);
+    assert_eq!(rt; block_of(&mut device, 69)?[15], 2);
     Ok(())
 }
