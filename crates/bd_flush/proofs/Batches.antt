@@ -1,17 +1,20 @@
 -- What of a node's messages goes down an edge.
-use Rattle.std.proofs.Common.{◌≡◌, ℕ, zero, suc, ◌+◌, ◌-◌, ◌^◌, ◌<◌, ◌≤◌, List, [], ◌∷◌, length, take, drop, refl, sym, ap, subst, ◌∙◌, Option, None, Some, arith, get_or, length-drop, Result, Ok, Err}
+use Rattle.std.proofs.Common.{◌≡◌, ℕ, zero, suc, ◌+◌, ◌-◌, ◌^◌, ◌<◌, ◌≤◌, List, [], ◌∷◌, length, take, drop, refl, sym, ap, subst, ◌∙◌, Option, None, Some, arith, get_or, inl, inr, length-drop, Result, Ok, Err}
 use Rattle.std.specs.Prelude.{slice_get, IfOk}
-use Rattle.std.specs.List.{AllByRecursion, sum_by}
+use Rattle.std.specs.List.{AllByRecursion, All, sum_by}
+use Rattle.std.proofs.lemmas.List.Elements.{All-from_recursion}
+use Rattle.std.proofs.lemmas.Bool.{cases_lt}
 use Rattle.std.proofs.lemmas.Option.{same_Some, none-some}
-use Rattle.bd_limits.specs.Limits.{soft_limit, batch_limit, buffer_limit}
+use Rattle.bd_limits.specs.Limits.{batch_limit, leaf_limit}
 use Rattle.bd_message.specs.declared.message.Message.{Message}
 use Rattle.bd_message.specs.declared.message.Message.TheVariants.{Put, Del, Patch, Cut, Goto}
 use Rattle.bd_message.specs.Messages.{IsMessage, IsPlain, size}
 use Rattle.bd_node.specs.declared.node.Edge.{Edge}
+use Rattle.bd_node.specs.declared.node.Entry.{Entry}
 use Rattle.bd_node.specs.declared.node.Node.{Node}
 use Rattle.bd_node.specs.declared.node.Node.TheVariants.{Leaf, Inner}
-use Rattle.bd_node.specs.Nodes.{level_of, buffer_size, appended}
-use Rattle.bd_node.specs.Shape.{end_before, IsShape}
+use Rattle.bd_node.specs.Nodes.{level_of, appended}
+use Rattle.bd_node.specs.Shape.{end_before, IsLeaf, IsShape}
 use Rattle.bd_node.proofs.Lookup.{each_weaker}
 use Rattle.bd_inner.specs.declared.batches.Batch.{Batch}
 use Rattle.bd_inner.specs.Stripping.{CanStrip}
@@ -21,11 +24,12 @@ use Rattle.bd_inner.specs.Compaction.{IsCompacted}
 use Rattle.bd_inner.specs.Exchange.{exchanged, end_at, IsEdgeAt, FitsAt}
 use Rattle.bd_inner.proofs.Splitting.{few_wait}
 use Rattle.bd_inner.proofs.Fitting.{own_shape, edge_lifted}
+use Rattle.bd_leaf.specs.Leaves.{entries_size, IsReceived}
 use Rattle.bd_flush.specs.declared.children.Parts.{Parts}
-use Rattle.bd_flush.specs.Pushes.{seen_by, unseen, IsWaitedFor, IsEdgeBatch, IsRelieved, IsPushInto, ArePushed}
-use Rattle.bd_flush.specs.Pushes.IsPushInto.{received}
+use Rattle.bd_flush.specs.Pushes.{seen_by, unseen, IsWaitedFor, IsEdgeBatch, IsRelieved, IsPushInto, IsOverfull, ArePushed}
+use Rattle.bd_flush.specs.Pushes.IsPushInto.{received, fitted}
 use Rattle.bd_flush.proofs.ChildSplits.{edge_here}
-use Rattle.bd_flush.proofs.Pushed.{batch_low, relieved_fits}
+use Rattle.bd_flush.proofs.Pushed.{batch_low, relieved_fits, batch_plain}
 
 -- ---- a node's messages
 
@@ -173,4 +177,57 @@ are_received n place m next b parts low inner batch above half_is made_is =
       into = subst (λ (d : Node). IsPushInto n place found.0 m b next parts.node d parts.made.items) (sym half_is)
           (subst (λ (l : List Node). IsPushInto n place found.0 m b next parts.node (appended m b.messages) l) (sym made_is)
           (received parts.node inner (above found.0 found.1)));
+    }
+
+-- ---- a leaf
+
+pub batch_plain_at : (n : Node) (place : ℕ) (b : Batch) → place < length (edges_of n) → ((e : Edge) → IsEdgeAt n place e → IsWaitedFor n place e) → ((e : Edge) → IsEdgeAt n place e → IsEdgeBatch n place e b) → AllByRecursion IsPlain b.messages
+batch_plain_at n place b low waiting batch = let found = some_edge n place low in batch_plain n place found.0 b (waiting found.0 found.1) (batch found.0 found.1)
+
+pub all_messages : (list messages : List Message) → list ≡ messages → AllByRecursion IsMessage messages → All IsMessage list
+all_messages list messages is h = All-from_recursion IsMessage list (subst (λ (l : List Message). AllByRecursion IsMessage l) (sym is) h)
+
+pub all_plain : (list messages : List Message) → list ≡ messages → AllByRecursion IsPlain messages → All IsPlain list
+all_plain list messages is h = All-from_recursion IsPlain list (subst (λ (l : List Message). AllByRecursion IsPlain l) (sym is) h)
+
+-- a leaf, the batch for it, and its entries then
+pub record IsLeafBatch (n : Node) (place : ℕ) (b : Batch) (old new : List Entry) : Type 0 where
+  pub low : place < length (edges_of n)
+  pub batch : (e : Edge) → IsEdgeAt n place e → IsEdgeBatch n place e b
+  pub got : IsReceived old b.messages new
+
+pub is_leaf_batch : (n : Node) (place : ℕ) (b : Batch) (old new : List Entry) (list : List Message) → place < length (edges_of n) → ((e : Edge) → IsEdgeAt n place e → IsEdgeBatch n place e b) → list ≡ b.messages → IsReceived old list new → IsLeafBatch n place b old new
+is_leaf_batch n place b old new list low batch is got = record { low = low; batch = batch; got = subst (λ (l : List Message). IsReceived old l new) is got }
+
+pub is_overfull : (n : Node) (place : ℕ) (b : Batch) (old new shown : List Entry) → IsLeafBatch n place b old new → shown ≡ new → (entries_size shown ≤ leaf_limit → ⊥) → IsOverfull n place (Leaf old)
+is_overfull n place b old new shown h same over =
+    let found = some_edge n place h.low in
+    record {
+      edge = found.0;
+      here = found.1;
+      batch = b;
+      moved = h.batch found.0 found.1;
+      old = old;
+      new = new;
+      leaf = refl;
+      got = h.got;
+      over = elim (cases_lt leaf_limit (entries_size new)) [
+        | inl more ↦ more
+        | inr fits ↦ absurd (over (omega (arith, fits, ap entries_size same)))
+      ];
+    }
+
+pub are_fitted : (n : Node) (place next : ℕ) (b : Batch) (old new shown : List Entry) (parts : Parts) → IsLeafBatch n place b old new → shown ≡ new → entries_size shown ≤ leaf_limit → ((e : Edge) → IsEdgeAt n place e → IsRelieved n place e b.count parts.node)
+    → parts.half ≡ Leaf new → parts.made.items ≡ [] → ArePushed n place (Leaf old) next parts
+are_fitted n place next b old new shown parts h same fits above half_is made_is =
+    let found = some_edge n place h.low in
+    let leaf : IsLeaf new = record { each = h.got.entries.each; rising = h.got.entries.rising; size = omega (arith, fits, ap entries_size same) } in
+    record {
+      edge = found.0;
+      here = found.1;
+      batch = b;
+      moved = h.batch found.0 found.1;
+      into = subst (λ (d : Node). IsPushInto n place found.0 (Leaf old) b next parts.node d parts.made.items) (sym half_is)
+          (subst (λ (l : List Node). IsPushInto n place found.0 (Leaf old) b next parts.node (Leaf new) l) (sym made_is)
+          (fitted old new parts.node refl h.got leaf (above found.0 found.1)));
     }

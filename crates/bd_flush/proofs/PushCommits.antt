@@ -132,28 +132,9 @@ push_visits t parent place child step before now h is =
     let same : length step.made ≡ length h.push.made = ap (λ (q : Step). length q.made) h.push.is in
     omega arith
 
-pub push_worn : {T : Type 0} (before now : ℕ) (bad : ℕ → Type 0) (t : Table) (parent : Fetched) (place : ℕ) (child : Fetched) (step : Step) (r : Result T MapFault) → IsToPush t parent place child step → HasMapCause before now bad (IsWornBy t step) r → HasMapCause before now bad (IsWornFor t) r
-push_worn before now bad t parent place child step r h cause =
-    cause_weaker before now bad (IsWornBy t step) (IsWornFor t)
+pub push_cause : {T U : Type 0} (before now : ℕ) (bad : ℕ → Type 0) (t : Table) (parent : Fetched) (place : ℕ) (child : Fetched) (step : Step) (e : MapFault) → IsToPush t parent place child step → HasMapCause {T = T} before now bad (IsWornBy t step) (Err e)
+    → HasMapCause {T = U} before now bad (IsWornFor t) (Err e)
+push_cause {T} {U} before now bad t parent place child step e h cause =
+    cause_weaker {T = U} before now bad (IsWornBy t step) (IsWornFor t)
     (λ counter worn. child_worn t parent.id h.push.node child.id h.push.half h.push.made (change t parent place child step h) (let few : length h.push.made ≤ 1 = few_made t parent place child step h in omega arith) counter
-    (subst (λ (q : Step). IsWornBy t q counter) h.push.is worn)) r cause
-
--- ---- the result
-
-pub on_flushed : {T E : Type 0} (nodes : Nodes) (t : Table) (parent : Fetched) (place : ℕ) (child : Fetched) (step : Step) (new : Nodes) (u : Table) (r : Result T E) → IsToPush t parent place child step → IsSound nodes t → AreFamily nodes t parent child
-    → OnOk r (IsTableAfter t step u) → OnOk r (IsCommitted nodes t step new u) → OnOk r (IsFlushed nodes t new u)
-on_flushed nodes t parent place child step new u (Ok x) h s family after committed = push_flushed nodes t parent place child step new u h s family after committed
-on_flushed nodes t parent place child step new u (Err e) h s family after committed = tt
-
-pub on_pushed : {T E : Type 0} (nodes : Nodes) (t : Table) (parent : Fetched) (place : ℕ) (child : Fetched) (step : Step) (new : Nodes) (u : Table) (r : Result T E) → IsToPush t parent place child step → IsSound nodes t → AreFamily nodes t parent child
-    → OnOk r (IsTableAfter t step u) → OnOk r (IsCommitted nodes t step new u) → OnOk r (IsPushed t parent place child new u)
-on_pushed nodes t parent place child step new u (Ok x) h s family after committed = push_is nodes t parent place child step new u h s family after committed
-on_pushed nodes t parent place child step new u (Err e) h s family after committed = tt
-
-pub on_no_higher : {T E : Type 0} (t : Table) (parent : Fetched) (place : ℕ) (child : Fetched) (step : Step) (u : Table) (r : Result T E) → IsToPush t parent place child step → OnOk r (IsTableAfter t step u) → OnOk r (IsNoHigher t u)
-on_no_higher t parent place child step u (Ok x) h after = push_no_higher t parent place child step u h after
-on_no_higher t parent place child step u (Err e) h after = tt
-
-pub on_visits : {T E : Type 0} (t : Table) (parent : Fetched) (place : ℕ) (child : Fetched) (step : Step) (before now : ℕ) (r : Result T E) → IsToPush t parent place child step → OnOk r (now ≡ visited before (length step.made)) → OnErr r (now ≡ before) → now ≤ before + 1
-on_visits t parent place child step before now (Ok x) h ok err = push_visits t parent place child step before now h ok
-on_visits t parent place child step before now (Err e) h ok err = omega arith
+    (subst (λ (q : Step). IsWornBy t q counter) h.push.is worn)) (Err e) (record { later = cause.later; failed = cause.failed })

@@ -1,19 +1,23 @@
 -- Messages that go down to a child.
 use Rattle.std.specs.Prelude.{◌≡◌, ℕ, ◌+◌, ◌<◌, ◌≤◌, List, [], ◌∷◌, length, drop, Some, slice_get}
 use Rattle.std.specs.List.{AllByRecursion}
-use Rattle.bd_limits.specs.Limits.{soft_limit}
+use Rattle.bd_limits.specs.Limits.{soft_limit, leaf_limit}
 use Rattle.bd_message.specs.declared.message.Message.{Message}
 use Rattle.bd_node.specs.declared.node.Edge.{Edge}
+use Rattle.bd_node.specs.declared.node.Entry.{Entry}
 use Rattle.bd_node.specs.declared.node.Node.{Node}
+use Rattle.bd_node.specs.declared.node.Node.TheVariants.{Leaf}
 use Rattle.bd_node.specs.declared.node.Step.{Step}
 use Rattle.bd_node.specs.Nodes.{level_of, buffer_size, appended}
 use Rattle.bd_node.specs.Meaning.{Nodes}
+use Rattle.bd_node.specs.Shape.{IsLeaf}
 use Rattle.bd_node.specs.Tables.{Table}
 use Rattle.bd_inner.specs.declared.batches.Batch.{Batch}
 use Rattle.bd_inner.specs.Compaction.{IsCompacted}
 use Rattle.bd_inner.specs.Halves.{edges_of, buffer_of}
 use Rattle.bd_inner.specs.Moving.{IsPlainFor, IsBatch}
 use Rattle.bd_inner.specs.Exchange.{exchanged, end_at, IsEdgeAt}
+use Rattle.bd_leaf.specs.Leaves.{entries_size, IsReceived}
 use Rattle.bd_flush.specs.declared.fetching.Fetched.{Fetched}
 use Rattle.bd_flush.specs.declared.children.Parts.{Parts}
 use Rattle.bd_flush.specs.Children.{IsFetched, IsWayTo, child_step}
@@ -59,6 +63,21 @@ pub data IsPushInto (n : Node) (place : ℕ) (e : Edge) (m : Node) (b : Batch) (
     : Node → Node → List Node → Type 0 where
   received : (parent : Node) → 1 ≤ level_of m → IsRelieved n place e b.count parent
       → IsPushInto n place e m b next parent (appended m b.messages) []
+  fitted : (old new : List Entry) (parent : Node) → m ≡ Leaf old → IsReceived old b.messages new
+      → IsLeaf new → IsRelieved n place e b.count parent
+      → IsPushInto n place e m b next parent (Leaf new) []
+
+-- the child is a leaf that would have too many bytes
+pub record IsOverfull (n : Node) (place : ℕ) (m : Node) : Type 0 where
+  pub edge : Edge
+  pub here : IsEdgeAt n place edge
+  pub batch : Batch
+  pub moved : IsEdgeBatch n place edge batch
+  pub old : List Entry
+  pub new : List Entry
+  pub leaf : m ≡ Leaf old
+  pub got : IsReceived old batch.messages new
+  pub over : leaf_limit < entries_size new
 
 -- a node and its child after messages have gone down, and what is made
 pub record ArePushed (n : Node) (place : ℕ) (m : Node) (next : ℕ) (parts : Parts) : Type 0 where

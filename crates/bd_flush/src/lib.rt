@@ -12,5 +12,5 @@ mod splitting;
 pub use children::{split_child, ChildSplit};
 pub use fetching::{fetch, Fetched};
 pub use filling::{FullEdge, fullest};
-pub use pushing::push;
+pub use pushing::{ChildPush, push};
 pub use splitting::split_root;
