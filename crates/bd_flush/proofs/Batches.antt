@@ -41,7 +41,7 @@ pub few_messages : (n : Node) → IsShape n → length (buffer_of n) ≤ 2048
 few_messages (Leaf entries) h = omega arith
 few_messages (Inner level es buffer) h = few_wait level es buffer h
 
-each_rest : (P : Message → Type 0) (count : ℕ) (list : List Message) → AllByRecursion P list → AllByRecursion P (drop count list)
+pub each_rest : (P : Message → Type 0) (count : ℕ) (list : List Message) → AllByRecursion P list → AllByRecursion P (drop count list)
 each_rest P zero list h = h
 each_rest P (suc count) [] h = tt
 each_rest P (suc count) (m ∷ list) h = each_rest P count list h.1

@@ -83,11 +83,11 @@ relieved_change t p n place c e m b parent low s is r shape level named =
     }
 
 -- messages moved for an edge are so for the edge that has seen more
-moved_seen : (e : Edge) (hi : Option (List ℕ)) (count : ℕ) (list moved : List Message) → IsMoved e hi list moved → IsMoved (seen_by e count) hi list moved
+pub moved_seen : (e : Edge) (hi : Option (List ℕ)) (count : ℕ) (list moved : List Message) → IsMoved e hi list moved → IsMoved (seen_by e count) hi list moved
 moved_seen e hi count list moved h = record { effect = h.effect; each = h.each; size = h.size; names = h.names; plain = h.plain }
 
 -- messages that name no node act alike
-acts_alike : (f g : NodesAt) (list : List Message) (k : List ℕ) (old : Option (List ℕ)) → AllByRecursion IsPlain list → acts f list k old ≡ acts g list k old
+pub acts_alike : (f g : NodesAt) (list : List Message) (k : List ℕ) (old : Option (List ℕ)) → AllByRecursion IsPlain list → acts f list k old ≡ acts g list k old
 acts_alike f g list k old plain = acts-plain f list k old plain ∙ sym (acts-plain g list k old plain)
 
 -- the first so many have what all have

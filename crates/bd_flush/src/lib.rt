@@ -6,11 +6,13 @@ mod children;
 mod fetching;
 mod filling;
 pub mod laws;
+mod planting;
 mod pushing;
 mod splitting;
 
 pub use children::{split_child, ChildSplit};
 pub use fetching::{fetch, Fetched};
 pub use filling::{FullEdge, fullest};
+pub use planting::push_new;
 pub use pushing::{ChildPush, push};
 pub use splitting::split_root;

@@ -192,7 +192,7 @@ fn edge_batch(alloc: Global, node: &Node, place: usize) -> Result<Batch, AllocEr
 }
 
 // The messages that a node's edge hasn't seen.
-fn unseen<'a>(node: &'a Node, edge: &Edge) -> &'a [Message]
+pub fn unseen<'a>(node: &'a Node, edge: &Edge) -> &'a [Message]
     requires { edge.now.seen ≤ length (buffer_of node.now) }
     ensures { result.now ≡ unseen node.now edge.now }
 {
@@ -226,7 +226,7 @@ fn relieved(alloc: Global, node: &Node, place: usize, count: usize) -> Result<No
 }
 
 // A copy of an edge after its child has got so many more messages.
-fn seen_by(edge: &Edge, count: usize) -> Result<Edge, AllocError>
+pub fn seen_by(edge: &Edge, count: usize) -> Result<Edge, AllocError>
     requires { edge.now.seen + count < 2 ^ 32 }
     ensures { IfOk result (λ e. e ≡ seen_by edge.now count) }
 {
