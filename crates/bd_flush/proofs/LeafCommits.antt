@@ -1,5 +1,5 @@
 -- The commit of a push to a new leaf.
-use Rattle.std.proofs.Common.{◌≡◌, ℕ, ◌+◌, ◌^◌, ◌<◌, ◌≤◌, sym, ap, subst, ◌∙◌, Some, arith, Result, Ok, Err}
+use Rattle.std.proofs.Common.{◌≡◌, ℕ, ◌^◌, ◌<◌, ◌≤◌, length, sym, ap, subst, ◌∙◌, arith, Result, Ok, Err}
 use Rattle.std.specs.Prelude.{OnOk}
 use Rattle.std.proofs.lemmas.Option.{same_Some}
 use Rattle.bd_message.specs.declared.fault.MapFault.{MapFault}
@@ -10,10 +10,11 @@ use Rattle.bd_node.specs.Nodes.{buffer_size}
 use Rattle.bd_node.specs.Meaning.{Nodes}
 use Rattle.bd_node.specs.Tables.{Table, IsTable, IsSound}
 use Rattle.bd_node.specs.Steps.{IsStep, IsInPlace, IsTableAfter, IsCommitted, IsWornBy}
+use Rattle.bd_node.specs.Stores.{visited}
 use Rattle.bd_flush.specs.declared.fetching.Fetched.{Fetched}
 use Rattle.bd_flush.specs.Flushed.{IsFlushed, IsWornFor}
 use Rattle.bd_flush.specs.Children.{IsNoHigher}
-use Rattle.bd_flush.specs.Pushes.{CanPushNew, IsOwn, IsWaitedFor, IsNewStep, IsPushedNew}
+use Rattle.bd_flush.specs.Pushes.{CanPushNew, IsOwn, IsNewStep, IsPushedNew}
 use Rattle.bd_flush.proofs.Worn.{cause_weaker}
 use Rattle.bd_flush.proofs.LeafSteps.{IsLeafChange, IsLeafChangeOf, IsLeafChanged, leaf_step_step, leaf_in_place, leaf_flushed, leaf_parent, leaf_there, leaf_no_higher, leaf_worn}
 use Rattle.bd_flush.proofs.LeafPushes.{IsBare, new_change, new_change_of, new_size}
@@ -92,3 +93,7 @@ pub new_worn : {T : Type 0} (before now : ℕ) (bad : ℕ → Type 0) (t : Table
 new_worn before now bad t parent place step r h cause =
     cause_weaker before now bad (IsWornBy t step) (IsWornFor t)
     (λ counter worn. leaf_worn t parent.id h.push.node h.push.entries (change t parent place step h) counter (subst (λ (q : Step). IsWornBy t q counter) h.push.is worn)) r cause
+
+pub on_new_visits : {T E : Type 0} (t : Table) (parent : Fetched) (place : ℕ) (step : Step) (before now : ℕ) (r : Result T E) → IsToPushNew t parent place step → OnOk r (now ≡ visited before (length step.made)) → OnOk r (now ≡ visited before 1)
+on_new_visits t parent place step before now (Ok x) h is = is ∙ ap (λ (q : Step). visited before (length q.made)) h.push.is
+on_new_visits t parent place step before now (Err e) h is = tt

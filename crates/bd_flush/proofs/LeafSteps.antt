@@ -1,8 +1,8 @@
 -- Steps that change a private node and make a leaf below it.
-use Rattle.std.proofs.Common.{◌≡◌, ℕ, zero, suc, ◌+◌, ◌-◌, ◌*◌, ◌^◌, ◌<◌, ◌≤◌, cond, List, [], ◌∷◌, length, refl, sym, ap, subst, ◌∙◌, Option, None, Some, arith, inl, inr, ltb, eqb, ◌⊎◌}
+use Rattle.std.proofs.Common.{◌≡◌, ℕ, zero, suc, ◌+◌, ◌-◌, ◌^◌, ◌<◌, ◌≤◌, cond, List, [], ◌∷◌, refl, sym, ap, subst, ◌∙◌, Option, Some, arith, inl, inr, ltb, ◌⊎◌}
 use Rattle.std.specs.Prelude.{slice_get}
-use Rattle.std.specs.List.{AllByRecursion, sum_by}
-use Rattle.std.proofs.lemmas.Bool.{cases_lt, cases_eq, cond-true, cond-false, lt-ltb, le-ltb}
+use Rattle.std.specs.List.{AllByRecursion}
+use Rattle.std.proofs.lemmas.Bool.{cases_eq, cond-true, cond-false, lt-ltb, le-ltb}
 use Rattle.std.proofs.lemmas.Option.{same_Some, none-some}
 use Rattle.std.proofs.lemmas.List.Sums.{sum_by-cons}
 use Rattle.bd_keys.specs.Keys.{IsKey}
@@ -11,23 +11,23 @@ use Rattle.bd_message.specs.declared.fault.Counter.TheVariants.{Count, NextId, L
 use Rattle.bd_message.specs.Effect.{NodesAt}
 use Rattle.bd_node.specs.declared.node.Entry.{Entry}
 use Rattle.bd_node.specs.declared.node.Node.{Node}
-use Rattle.bd_node.specs.declared.node.Node.TheVariants.{Leaf, Inner}
+use Rattle.bd_node.specs.declared.node.Node.TheVariants.{Leaf}
 use Rattle.bd_node.specs.declared.node.Change.{Change}
 use Rattle.bd_node.specs.declared.node.Step.{Step}
 use Rattle.bd_node.specs.Nodes.{level_of, buffer_size, names, times, node_at, node_has}
 use Rattle.bd_node.specs.Meaning.{Nodes, at, found_at}
 use Rattle.bd_node.specs.Shape.{IsLeaf, IsShape}
-use Rattle.bd_node.specs.Tables.{Table, IsKept, IsTable, IsLower, IsNodeOf, IsSound, one_if, root_at}
+use Rattle.bd_node.specs.Tables.{Table, IsKept, IsTable, IsLower, IsSound, one_if}
 use Rattle.bd_node.specs.Private.{IsPrivate}
 use Rattle.bd_node.specs.Private.IsPrivate.{root_alone, alone}
-use Rattle.bd_node.specs.Steps.{given, level_or, level_after, given_times, IsNamable, IsPut, IsStep, IsInPlace, IsTableAfter, IsCommitted, IsWornBy, IsKeeping}
+use Rattle.bd_node.specs.Steps.{given, level_or, level_after, given_times, IsNamable, IsStep, IsInPlace, IsTableAfter, IsCommitted, IsWornBy, IsKeeping}
 use Rattle.bd_node.specs.Steps.HasRoom.{no_rise}
 use Rattle.bd_node.proofs.Lookup.{Agree, each_named, node_has-same, node_has-key}
 use Rattle.bd_node.proofs.Meanings.{at-meets}
 use Rattle.bd_node.proofs.Sound.{sound-levelled, named_lower, kept_there}
 use Rattle.bd_node.proofs.Stepping.{given-new, after-none, given_stays, keeping_meaning}
 use Rattle.bd_node.proofs.Closing.{stay_above}
-use Rattle.bd_flush.specs.Flushed.{LeadsTo, IsUntouched, IsFlushed, IsWornFor}
+use Rattle.bd_flush.specs.Flushed.{LeadsTo, IsFlushed, IsWornFor}
 use Rattle.bd_flush.specs.Flushed.LeadsTo.{itself}
 use Rattle.bd_flush.specs.Children.{IsNoHigher}
 use Rattle.bd_flush.specs.Pushes.{leaf_step}
@@ -79,13 +79,16 @@ namable t p n entries b x (inr new) =
 pub leaf_step_step : (t : Table) (p : ℕ) (n : Node) (entries : List Entry) → IsLeafChange t p n entries → IsStep t (leaf_step t.root p n entries)
 leaf_step_step t p n entries b = record {
   made = (record { shape = b.leaf; lower = tt }, tt);
-  changes = (record {
-    kept = b.parent;
-    put = record {
-      shape = b.shape;
-      lower = each_named (IsNamable t (leaf_step t.root p n entries) (level_of n)) (names n) (λ x one. namable t p n entries b x (b.named x one));
-    };
-  }, tt);
+  changes = (
+    record {
+      kept = b.parent;
+      put = record {
+        shape = b.shape;
+        lower = each_named (IsNamable t (leaf_step t.root p n entries) (level_of n)) (names n) (λ x one. namable t p n entries b x (b.named x one));
+      };
+    },
+    tt,
+  );
   once = (tt, tt);
   root = inl b.table.root;
   inner = (let e : level_after t (leaf_step t.root p n entries) t.root ≡ t.level t.root = level_kept t p n entries b t.root (b.table.below t.root b.table.root) in

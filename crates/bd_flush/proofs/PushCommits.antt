@@ -1,11 +1,9 @@
 -- The commit of a push.
-use Rattle.std.proofs.Common.{◌≡◌, ℕ, ◌+◌, ◌^◌, ◌<◌, ◌≤◌, List, length, refl, sym, ap, subst, ◌∙◌, Some, arith, Result, Ok, Err}
-use Rattle.std.specs.Prelude.{slice_get, OnOk, OnErr}
+use Rattle.std.proofs.Common.{◌≡◌, ℕ, ◌+◌, ◌^◌, ◌<◌, ◌≤◌, length, sym, ap, subst, ◌∙◌, arith, Err}
 use Rattle.std.proofs.lemmas.Option.{same_Some}
 use Rattle.bd_message.specs.declared.fault.MapFault.{MapFault}
 use Rattle.bd_message.specs.KeyMaps.{HasMapCause}
 use Rattle.bd_node.specs.declared.node.Edge.{Edge}
-use Rattle.bd_node.specs.declared.node.Node.{Node}
 use Rattle.bd_node.specs.declared.node.Step.{Step}
 use Rattle.bd_node.specs.Nodes.{buffer_size}
 use Rattle.bd_node.specs.Meaning.{Nodes}
@@ -18,7 +16,7 @@ use Rattle.bd_flush.specs.Children.{IsWayTo, AreFamily, IsNoHigher}
 use Rattle.bd_flush.specs.Pushes.{IsWaitedFor, CanPush, IsPushStep, IsPushed}
 use Rattle.bd_flush.proofs.Worn.{cause_weaker}
 use Rattle.bd_flush.proofs.ChildSteps.{IsChildChange, IsChildChangeOf, IsChildChanged, below_step, below_in_place, child_flushed, parent_is, child_is, made_are, no_higher, child_worn}
-use Rattle.bd_flush.proofs.ChildSplits.{IsSplittable, IsSplittableOf, lower_child}
+use Rattle.bd_flush.proofs.ChildSplits.{IsSplittable, lower_child}
 use Rattle.bd_flush.proofs.Pushed.{IsPushable, push_change, push_change_of, push_few, push_named, push_size}
 
 -- a push, and the step

@@ -1,26 +1,25 @@
 -- Messages that have gone down to a child.
-use Rattle.std.proofs.Common.{◌≡◌, ℕ, zero, suc, ◌+◌, ◌-◌, ◌<◌, ◌≤◌, List, [], ◌∷◌, ◌++◌, length, take, drop, refl, sym, ap, subst, ◌∙◌, Option, None, Some, arith, inl, inr, ◌⊎◌, length-drop}
+use Rattle.std.proofs.Common.{◌≡◌, ℕ, zero, suc, ◌+◌, ◌<◌, ◌≤◌, List, [], ◌∷◌, ◌++◌, length, take, drop, refl, sym, ap, subst, ◌∙◌, Option, arith, inl, length-drop}
 use Rattle.std.specs.List.{AllByRecursion, flat_map, sum_by}
 use Rattle.std.specs.Option.{option_to_list}
-use Rattle.std.proofs.lemmas.Option.{same_Some, none-some, slice_get_within}
-use Rattle.bd_limits.specs.Limits.{soft_limit, batch_limit, buffer_limit}
+use Rattle.bd_limits.specs.Limits.{soft_limit, batch_limit}
 use Rattle.bd_keys.specs.Keys.{IsKey}
 use Rattle.bd_message.specs.declared.message.Message.{Message}
-use Rattle.bd_message.specs.Messages.{IsMessage, IsPlain, size}
-use Rattle.bd_message.specs.Effect.{NodesAt, acts, no_nodes}
+use Rattle.bd_message.specs.Messages.{IsPlain, size}
+use Rattle.bd_message.specs.Effect.{NodesAt, acts}
 use Rattle.bd_node.specs.declared.node.Edge.{Edge}
 use Rattle.bd_node.specs.declared.node.Entry.{Entry}
 use Rattle.bd_node.specs.declared.node.Node.{Node}
-use Rattle.bd_node.specs.declared.node.Node.TheVariants.{Leaf, Inner}
-use Rattle.bd_node.specs.Nodes.{level_of, buffer_size, edge_names, names, times, child_at, node_at, node_has, appended}
+use Rattle.bd_node.specs.declared.node.Node.TheVariants.{Leaf}
+use Rattle.bd_node.specs.Nodes.{level_of, buffer_size, edge_names, names, times, node_at, appended}
 use Rattle.bd_node.specs.Meaning.{Nodes, at}
-use Rattle.bd_node.specs.Shape.{IsEdge, IsLeaf, IsShape}
-use Rattle.bd_node.specs.Tables.{Table, IsKept, IsTable, IsLower, IsNodeOf, IsSound}
-use Rattle.bd_node.proofs.Lookup.{Agree, named_has, node_has-key}
+use Rattle.bd_node.specs.Shape.{IsLeaf, IsShape}
+use Rattle.bd_node.specs.Tables.{Table, IsLower}
+use Rattle.bd_node.proofs.Lookup.{named_has, node_has-key}
 use Rattle.bd_node.proofs.Appending.{shape_appended, level_appended, names_appended, acts-plain, node_at-appended}
 use Rattle.bd_inner.specs.declared.batches.Batch.{Batch}
-use Rattle.bd_inner.specs.Halves.{edges_of, buffer_of}
-use Rattle.bd_inner.specs.Moving.{IsPlainFor, IsMoved, IsBatch}
+use Rattle.bd_inner.specs.Halves.{buffer_of}
+use Rattle.bd_inner.specs.Moving.{IsPlainFor, IsMoved}
 use Rattle.bd_inner.specs.Exchange.{exchanged, end_at, IsKeyOf, IsEdgeAt, FitsAt}
 use Rattle.bd_inner.proofs.Compacting.{count_names, compacted_shape, compacted_level, compacted_meaning, compacted_size, compacted_times}
 use Rattle.bd_inner.proofs.Fitting.{own_shape, seen_fits}
@@ -29,7 +28,7 @@ use Rattle.bd_leaf.specs.Leaves.{IsReceived}
 use Rattle.bd_flush.specs.Children.{IsWayTo}
 use Rattle.bd_flush.specs.Pushes.{seen_by, unseen, IsWaitedFor, IsEdgeBatch, IsRelieved, IsPushInto}
 use Rattle.bd_flush.specs.Pushes.IsPushInto.{received, fitted}
-use Rattle.bd_flush.proofs.ChildSteps.{has_below, has_child, IsMadeBelow, IsChildChange, IsChildChangeOf}
+use Rattle.bd_flush.proofs.ChildSteps.{has_below, has_child, IsChildChange, IsChildChangeOf}
 use Rattle.bd_flush.proofs.ChildSplits.{times_exchanged, exchanged_same, inner_of, count_own, child_named, lower_child, level_exchanged, compacted_named, exchanged_named, size_exchanged, others_agree, at_child, asks, asks_at, IsKey-drop, IsSplittable, IsSplittableOf}
 
 -- ---- the node above
@@ -47,9 +46,9 @@ relieved_times : (n : Node) (place : ℕ) (e : Edge) (count : ℕ) (parent : Nod
 relieved_times n place e count parent h here r x =
     let less : times parent x ≤ times (exchanged n place (seen_by e count ∷ [])) x = compacted_times (exchanged n place (seen_by e count ∷ [])) parent r x in
     let same : times (exchanged n place (seen_by e count ∷ [])) x ≡ times n x =
-        times_exchanged n place (seen_by e count ∷ []) x (inner_of n place e h here)
-        ∙ sym (times_exchanged n place (e ∷ []) x (inner_of n place e h here))
-        ∙ ap (λ (m : Node). times m x) (exchanged_same n place e here) in
+    times_exchanged n place (seen_by e count ∷ []) x (inner_of n place e h here)
+    ∙ sym (times_exchanged n place (e ∷ []) x (inner_of n place e h here))
+    ∙ ap (λ (m : Node). times m x) (exchanged_same n place e here) in
     omega arith
 
 pub relieved_names : (n : Node) (place c : ℕ) (e : Edge) (count : ℕ) (parent : Node) → IsShape n → IsWayTo n place c e → IsRelieved n place e count parent → 1 ≤ times parent c

@@ -1,30 +1,27 @@
 -- An edge's way to a new child, as the code finds it.
-use Rattle.std.proofs.Common.{◌≡◌, ℕ, ◌+◌, ◌^◌, ◌<◌, ◌≤◌, List, [], ◌∷◌, length, take, drop, sym, ap, subst, ◌∙◌, Option, Some, arith, length-drop, Result, Ok, Err}
+use Rattle.std.proofs.Common.{◌≡◌, ℕ, ◌+◌, ◌^◌, ◌<◌, ◌≤◌, List, [], ◌∷◌, length, sym, subst, ◌∙◌, Option, arith, Result, Ok, Err}
 use Rattle.std.specs.Prelude.{IfOk}
-use Rattle.std.specs.List.{AllByRecursion, All}
+use Rattle.std.specs.List.{All}
 use Rattle.std.proofs.lemmas.Option.{same_Some}
 use Rattle.bd_keys.specs.Keys.{IsBelowEnd, IsLift}
 use Rattle.bd_message.specs.declared.message.Message.{Message}
-use Rattle.bd_message.specs.Messages.{IsMessage, IsPlain}
+use Rattle.bd_message.specs.Messages.{IsPlain}
 use Rattle.bd_node.specs.declared.node.Edge.{Edge}
 use Rattle.bd_node.specs.declared.node.Entry.{Entry}
 use Rattle.bd_node.specs.declared.node.Node.{Node}
 use Rattle.bd_node.specs.declared.node.Step.{Step}
-use Rattle.bd_node.specs.Shape.{end_before, IsShape}
+use Rattle.bd_node.specs.Shape.{IsShape}
 use Rattle.bd_inner.specs.declared.batches.Batch.{Batch}
 use Rattle.bd_inner.specs.Halves.{edges_of, buffer_of}
-use Rattle.bd_inner.specs.Moving.{IsLifted, IsBatch}
+use Rattle.bd_inner.specs.Moving.{IsLifted}
 use Rattle.bd_inner.specs.Exchange.{end_at, IsEdgeAt, FitsAt, way_to}
 use Rattle.bd_inner.proofs.Fitting.{own_shape, way_lifted}
 use Rattle.bd_leaf.specs.Leaves.{IsReceived}
 use Rattle.bd_flush.specs.declared.fetching.Fetched.{Fetched}
-use Rattle.bd_flush.specs.Pushes.{seen_by, unseen, leaf_step, IsWaitedFor, IsEdgeBatch, IsRelieved, IsWay, IsNewLeaf, IsNewStep}
+use Rattle.bd_flush.specs.Pushes.{seen_by, leaf_step, IsWaitedFor, IsEdgeBatch, IsRelieved, IsWay, IsNewLeaf, IsNewStep}
 use Rattle.bd_flush.proofs.Pushed.{batch_plain}
-use Rattle.bd_flush.proofs.Batches.{each_rest, messages_of, few_messages, batch_some, some_edge, all_plain}
+use Rattle.bd_flush.proofs.Batches.{few_messages, some_edge, all_plain}
 use Rattle.bd_flush.proofs.LeafPushes.{way_seen, way_waiting, way_low, way_fit}
-
-pub end_is : (n : Node) (place : ℕ) (es : List Edge) (hi : Option (List ℕ)) → es ≡ edges_of n → hi ≡ end_before (drop (place + 1) es) → hi ≡ end_at n place
-end_is n place es hi same end = end ∙ ap (λ (l : List Edge). end_before (drop (place + 1) l)) same
 
 pub way_rising : (n : Node) (place : ℕ) (e : Edge) (hi : Option (List ℕ)) → IsShape n → IsEdgeAt n place e → hi ≡ end_at n place → IsBelowEnd e.pivot hi
 way_rising n place e hi h here end = subst (λ (o : Option (List ℕ)). IsBelowEnd e.pivot o) (sym end) (own_shape n place e h here).rising
@@ -34,17 +31,6 @@ pub on_way : {E : Type 0} (n : Node) (place child : ℕ) (e : Edge) (hi : Option
 on_way n place child e hi (Ok f) here end is lift = λ d there.
     subst (λ (x : Edge). IsWay n place child x f) (same_Some e d (sym here ∙ there)) (is, subst (λ (o : Option (List ℕ)). IsLift e.pivot o f.lift) end lift)
 on_way n place child e hi (Err x) here end is lift = tt
-
-way_batch_is : (n : Node) (place : ℕ) (f : Edge) (hi : Option (List ℕ)) (list : List Message) (b : Batch) → IsShape n → IsWaitedFor n place f → hi ≡ end_at n place → list ≡ unseen n f → IsBatch f hi list b → IsEdgeBatch n place f b
-way_batch_is n place f hi list b h w end list_is is =
-    let more : f.seen < length (buffer_of n) = w.some in
-    let long : 1 ≤ length (unseen n f) = omega (arith, length-drop f.seen (buffer_of n)) in
-    let own : IsBatch f (end_at n place) (unseen n f) b = subst (λ (o : Option (List ℕ)). IsBatch f o (unseen n f) b) end (subst (λ (l : List Message). IsBatch f hi l b) list_is is) in
-    record { batch = own; some = batch_some f (end_at n place) (unseen n f) b long (each_rest IsMessage f.seen (buffer_of n) (messages_of n h)) own }
-
-pub on_way_batch : {E : Type 0} (n : Node) (place : ℕ) (f : Edge) (hi : Option (List ℕ)) (list : List Message) (r : Result Batch E) → IsShape n → IsWaitedFor n place f → hi ≡ end_at n place → list ≡ unseen n f → IfOk r (IsBatch f hi list) → IfOk r (IsEdgeBatch n place f)
-on_way_batch n place f hi list (Ok b) h w end list_is is = way_batch_is n place f hi list b h w end list_is is
-on_way_batch n place f hi list (Err x) h w end list_is is = tt
 
 -- a node, and the way of its edge to a new child
 pub record IsWayOf (n : Node) (place child : ℕ) (f : Edge) : Type 0 where

@@ -10,8 +10,8 @@ mod planting;
 mod pushing;
 mod splitting;
 
-pub use children::{split_child, ChildSplit};
-pub use fetching::{fetch, Fetched};
+pub use children::{ChildSplit, split_child};
+pub use fetching::{Fetched, fetch};
 pub use filling::{FullEdge, fullest};
 pub use planting::push_new;
 pub use pushing::{ChildPush, push};

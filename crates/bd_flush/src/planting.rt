@@ -1,22 +1,21 @@
 //! Messages go down from a node to a new leaf.
 
-ghost use Rattle.std.specs.Prelude.{◌≡◌, ◌+◌, ◌^◌, ◌<◌, ◌≤◌, ◌∷◌, [], length, IfOk, OnOk, OnErr};
+ghost use Rattle.std.specs.Prelude.{◌≡◌, ◌<◌, ◌≤◌, length, IfOk, OnOk, OnErr};
 ghost use Rattle.bd_message.specs.KeyMaps.{HasMapCause};
 ghost use Rattle.bd_node.specs.declared.node.Edge.{Edge};
 ghost use Rattle.bd_node.specs.Shape.{IsShape};
 ghost use Rattle.bd_node.specs.Stores.{visited};
 ghost use Rattle.bd_node.specs.Tables.{IsSound};
-ghost use Rattle.bd_inner.specs.Halves.{edges_of, buffer_of};
-ghost use Rattle.bd_inner.specs.Moving.{IsLifted};
-ghost use Rattle.bd_inner.specs.Exchange.{end_at, IsEdgeAt, FitsAt};
+ghost use Rattle.bd_inner.specs.Halves.{edges_of};
+ghost use Rattle.bd_inner.specs.Exchange.{IsEdgeAt};
 ghost use Rattle.bd_flush.specs.Flushed.{IsFlushed, IsWornFor};
 ghost use Rattle.bd_flush.specs.Children.{IsNoHigher};
-ghost use Rattle.bd_flush.specs.Pushes.{seen_by, leaf_step, IsWaitedFor, IsEdgeBatch, IsRelieved, CanPushNew, IsOwn, IsWay, IsNewLeaf, IsNewStep, IsPushedNew};
+ghost use Rattle.bd_flush.specs.Pushes.{leaf_step, IsWaitedFor, CanPushNew, IsOwn, IsWay, IsNewLeaf, IsNewStep, IsPushedNew};
 
 use crate::Fetched;
 use crate::children::edges_of;
-use crate::pushing::{seen_by, unseen};
-use bd_inner::{Batch, edge_to, end_of, exchange, next_batch};
+use crate::pushing::{batch_for, with_edge};
+use bd_inner::{edge_to, end_of};
 use bd_leaf as leaf;
 use bd_message::MapFault;
 use bd_node::{Change, Edge, Entries, Items, Node, NodeStore, Step};
@@ -44,6 +43,8 @@ pub fn push_new<S: NodeStore>(
     ensures err_table { OnErr result (S.table store.new ≡ S.table store.old) }
     ensures err_nodes { S.is_known store.old
         → OnErr result (S.nodes store.new ≡ S.nodes store.old) }
+    ensures visits { OnOk result
+        (S.visit_count store.new ≡ visited (S.visit_count store.old) 1) }
     ensures err_visits { OnErr result (S.visit_count store.new ≡ S.visit_count store.old) }
     ensures cause { HasMapCause (S.fault_count store.old) (S.fault_count store.new)
         (S.bad store.new) (IsWornFor (S.table store.old)) result }
@@ -90,7 +91,7 @@ fn new_leaf(
         → IsNewLeaf node.now place e next made.0 made.1) }
 {
     let edge = way(alloc, node, place, next)?;
-    let batch = way_batch(alloc, node, place, &edge)?;
+    let batch = batch_for(alloc, node, place, &edge)?;
     let entries = leaf::receive(alloc, &[], batch.messages.as_slice())?;
     let above = with_edge(alloc, node, place, &edge, batch.count)?;
     Ok((above, entries))
@@ -105,38 +106,6 @@ fn way(alloc: Global, node: &Node, place: usize, child: u64) -> Result<Edge, All
 {
     let edges = edges_of(node);
     edge_to(alloc, &edges[place], end_of(edges, place), child)
-}
-
-// The messages that go down an edge in place of a node's.
-fn way_batch(alloc: Global, node: &Node, place: usize, edge: &Edge) -> Result<Batch, AllocError>
-    requires shape { IsShape node.now }
-    requires within { place < length (edges_of node.now) }
-    requires lifted { IsLifted edge.now (end_at node.now place) }
-    requires waiting { IsWaitedFor node.now place edge.now }
-    ensures { IfOk result (IsEdgeBatch node.now place edge.now) }
-{
-    let edges = edges_of(node);
-    next_batch(alloc, edge, end_of(edges, place), unseen(node, edge))
-}
-
-// A copy of a node with an edge in place of one, after so many messages have gone down it.
-fn with_edge(
-    alloc: Global,
-    node: &Node,
-    place: usize,
-    edge: &Edge,
-    count: usize,
-) -> Result<Node, AllocError>
-    requires shape { IsShape node.now }
-    requires within { place < length (edges_of node.now) }
-    requires seen { edge.now.seen + count < 2 ^ 32 }
-    requires fits { (e : Edge) → IsEdgeAt node.now place e
-        → FitsAt node.now place e (seen_by edge.now count ∷ []) }
-    ensures { IfOk result (IsRelieved node.now place edge.now count) }
-{
-    let mut list = Vec::new(alloc);
-    list.push(seen_by(edge, count)?)?;
-    exchange(alloc, node, place, Items::from_vec(list))
 }
 
 // The step that changes a node and makes a leaf.

@@ -1,6 +1,6 @@
 //! Messages go down from a node to its child.
 
-ghost use Rattle.std.specs.Prelude.{◌≡◌, ◌≢◌, ◌+◌, ◌^◌, ◌<◌, ◌≤◌, length, drop, IfOk, MatchOption, Ok};
+ghost use Rattle.std.specs.Prelude.{◌≡◌, ◌≢◌, ◌+◌, ◌^◌, ◌<◌, ◌≤◌, ◌∷◌, [], length, drop, IfOk, MatchOption, Ok};
 ghost use Rattle.bd_limits.specs.Limits.{soft_limit};
 ghost use Rattle.bd_message.specs.KeyMaps.{HasMapCause};
 ghost use Rattle.bd_node.specs.declared.node.Edge.{Edge};
@@ -9,7 +9,8 @@ ghost use Rattle.bd_node.specs.Nodes.{level_of, buffer_size};
 ghost use Rattle.bd_node.specs.Shape.{IsLeaf, IsShape};
 ghost use Rattle.bd_node.specs.Tables.{IsSound};
 ghost use Rattle.bd_inner.specs.Halves.{edges_of, buffer_of};
-ghost use Rattle.bd_inner.specs.Exchange.{IsEdgeAt};
+ghost use Rattle.bd_inner.specs.Moving.{IsLifted};
+ghost use Rattle.bd_inner.specs.Exchange.{end_at, IsEdgeAt, FitsAt};
 ghost use Rattle.bd_flush.specs.Flushed.{IsFlushed, IsWornFor};
 ghost use Rattle.bd_flush.specs.Children.{AreFamily, IsNoHigher};
 ghost use Rattle.bd_flush.specs.Pushes.{seen_by, unseen, CanPush, IsWaitedFor, IsEdgeBatch, IsRelieved, IsOverfull, ArePushed, IsPushStep, IsPushed};
@@ -186,13 +187,23 @@ fn edge_batch(alloc: Global, node: &Node, place: usize) -> Result<Batch, AllocEr
     ensures { IfOk result (λ b. (e : Edge) → IsEdgeAt node.now place e
         → IsEdgeBatch node.now place e b) }
 {
+    batch_for(alloc, node, place, &edges_of(node)[place])
+}
+
+// The messages that go down an edge in place of a node's.
+pub fn batch_for(alloc: Global, node: &Node, place: usize, edge: &Edge) -> Result<Batch, AllocError>
+    requires shape { IsShape node.now }
+    requires within { place < length (edges_of node.now) }
+    requires lifted { IsLifted edge.now (end_at node.now place) }
+    requires waiting { IsWaitedFor node.now place edge.now }
+    ensures { IfOk result (IsEdgeBatch node.now place edge.now) }
+{
     let edges = edges_of(node);
-    let edge = &edges[place];
     next_batch(alloc, edge, end_of(edges, place), unseen(node, edge))
 }
 
 // The messages that a node's edge hasn't seen.
-pub fn unseen<'a>(node: &'a Node, edge: &Edge) -> &'a [Message]
+fn unseen<'a>(node: &'a Node, edge: &Edge) -> &'a [Message]
     requires { edge.now.seen ≤ length (buffer_of node.now) }
     ensures { result.now ≡ unseen node.now edge.now }
 {
@@ -220,13 +231,31 @@ fn relieved(alloc: Global, node: &Node, place: usize, count: usize) -> Result<No
     ensures { IfOk result (λ n. (e : Edge) → IsEdgeAt node.now place e
         → IsRelieved node.now place e count n) }
 {
+    with_edge(alloc, node, place, &edges_of(node)[place], count)
+}
+
+// A copy of a node with an edge in place of one, after so many messages have gone down it.
+pub fn with_edge(
+    alloc: Global,
+    node: &Node,
+    place: usize,
+    edge: &Edge,
+    count: usize,
+) -> Result<Node, AllocError>
+    requires shape { IsShape node.now }
+    requires within { place < length (edges_of node.now) }
+    requires seen { edge.now.seen + count < 2 ^ 32 }
+    requires fits { (e : Edge) → IsEdgeAt node.now place e
+        → FitsAt node.now place e (seen_by edge.now count ∷ []) }
+    ensures { IfOk result (IsRelieved node.now place edge.now count) }
+{
     let mut list = Vec::new(alloc);
-    list.push(seen_by(&edges_of(node)[place], count)?)?;
+    list.push(seen_by(edge, count)?)?;
     exchange(alloc, node, place, Items::from_vec(list))
 }
 
 // A copy of an edge after its child has got so many more messages.
-pub fn seen_by(edge: &Edge, count: usize) -> Result<Edge, AllocError>
+fn seen_by(edge: &Edge, count: usize) -> Result<Edge, AllocError>
     requires { edge.now.seen + count < 2 ^ 32 }
     ensures { IfOk result (λ e. e ≡ seen_by edge.now count) }
 {

@@ -1,5 +1,5 @@
 use Rattle.std.proofs.Common.{arith}
-use Rattle.bd_flush.proofs.LeafCommits.{is_to_push_new, may_push_new, new_in_place, on_new_flushed, on_new_pushed, on_new_table, new_worn}
+use Rattle.bd_flush.proofs.LeafCommits.{is_to_push_new, may_push_new, new_in_place, on_new_flushed, on_new_pushed, on_new_table, on_new_visits, new_worn}
 use Rattle.bd_flush.proofs.planting.push_new.Goals as goal
 
 pub commit-requires-clause-step : goal.commit-requires-clause-step
@@ -31,3 +31,8 @@ pub returns-clause-cause : goal.returns-clause-cause
 returns-clause-cause g c =
     new_worn (g.S.NodeStore.fault_count c.args.store.now) (g.S.NodeStore.fault_count c.commit.new.self) (g.S.NodeStore.bad c.commit.new.self) (g.S.NodeStore.table c.args.store.now) c.args.parent.now c.args.place c.in_ok-step.step c.commit.result
     (is_to_push_new (g.S.NodeStore.table c.args.store.now) c.args.parent.now c.args.place c.in_ok-step.step c.root-root.result c.next_id-next.result c.root-root.ensures.table c.requires.can c.root-root.ensures.value c.next_id-next.ensures.value (omega arith) c.in_ok-step.ensures) c.commit.ensures.cause
+
+pub returns-clause-visits : goal.returns-clause-visits
+returns-clause-visits g c =
+    on_new_visits (g.S.NodeStore.table c.args.store.now) c.args.parent.now c.args.place c.in_ok-step.step (g.S.NodeStore.visit_count c.args.store.now) (g.S.NodeStore.visit_count c.commit.new.self) c.commit.result
+    (is_to_push_new (g.S.NodeStore.table c.args.store.now) c.args.parent.now c.args.place c.in_ok-step.step c.root-root.result c.next_id-next.result c.root-root.ensures.table c.requires.can c.root-root.ensures.value c.next_id-next.ensures.value (omega arith) c.in_ok-step.ensures) c.commit.ensures.visits
