@@ -12,8 +12,8 @@ ghost use Rattle.bd_inner.specs.Exchange.{exchanged, IsEdgeAt, FitsAt};
 ghost use Rattle.bd_flush.specs.Flushed.{IsFlushed, IsWornFor};
 ghost use Rattle.bd_flush.specs.Children.{CanSplitChild, AreFamily, child_step, parting, upper_edge, IsSide, AreParts, IsLongPivot, IsChildStep, IsSplitChild, IsNoHigher};
 
-use crate::nodes::edges_of;
 use crate::Fetched;
+use crate::nodes::edges_of;
 use bd_inner::{end_of, exchange, split};
 use bd_keys::Bytes;
 use bd_limits::MAX_KEY;

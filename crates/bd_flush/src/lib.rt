@@ -11,8 +11,8 @@ mod nodes;
 mod splitting;
 mod ways;
 
-pub use children::{split_child, ChildSplit};
-pub use fetching::{fetch, Fetched};
+pub use children::{ChildSplit, split_child};
+pub use fetching::{Fetched, fetch};
 pub use filling::{FullEdge, fullest};
 pub use splitting::split_root;
-pub use ways::{next_step, FlushStep};
+pub use ways::{FlushStep, next_step};

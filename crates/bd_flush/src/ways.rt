@@ -16,7 +16,7 @@ ghost use Rattle.bd_flush.specs.Children.{IsFetched, IsWayTo};
 ghost use Rattle.bd_flush.specs.Ways.{IsFullestAt, IsPlainFor, IsTarget, IsToDo, IsToDoAt, IsThere, IsChildThere, IsAsked, IsSeen, IsSeenAt};
 
 use crate::nodes::{buffer_of, buffer_size, edges_of};
-use crate::{fetch, fullest, Fetched};
+use crate::{Fetched, fetch, fullest};
 use bd_inner::{can_touch, end_of};
 use bd_limits::SOFT_BUFFER;
 use bd_message::{MapFault, Message};
@@ -29,7 +29,9 @@ const MANY_EDGES: usize = 15;
 #[derive(Debug, Drop)]
 pub enum FlushStep {
     /// The root has 15 or 16 edges, and is split.
-    SplitRoot { root: Fetched },
+    SplitRoot {
+        root: Fetched,
+    },
     /// The child, the next node on the way, has 15 or 16 edges, and is split.
     SplitChild {
         parent: Fetched,
@@ -44,9 +46,15 @@ pub enum FlushStep {
         child: Option<Fetched>,
     },
     /// The edge's child is shared, or asked with something in front of a key: it is copied.
-    Privatise { parent: Fetched, place: usize },
+    Privatise {
+        parent: Fetched,
+        place: usize,
+    },
     /// A Goto is pending for the edge, and may not go down: its keys get edges of their own.
-    Carve { parent: Fetched, place: usize },
+    Carve {
+        parent: Fetched,
+        place: usize,
+    },
 }
 
 /// What a step of a flush is to do: it goes down from the root to the child for which most bytes
