@@ -15,17 +15,17 @@ use Rattle.bd_node.specs.declared.node.Step.{Step}
 use Rattle.bd_node.specs.Nodes.{level_of, buffer_size, names, times, node_at, node_has, is_key}
 use Rattle.bd_node.specs.Meaning.{Nodes, at, found_at}
 use Rattle.bd_node.specs.Shape.{IsShape}
-use Rattle.bd_node.specs.Tables.{Table, IsKept, IsTable, IsLower, IsNodeOf, IsSound, one_if, root_at}
+use Rattle.bd_node.specs.Tables.{Table, IsKept, IsTable, IsLower, IsSound, one_if}
 use Rattle.bd_node.specs.Private.{IsPrivate}
 use Rattle.bd_node.specs.Private.IsPrivate.{root_alone, alone}
-use Rattle.bd_node.specs.Steps.{changed_at, given, level_or, level_after, given_times, IsThere, IsNamable, IsPut, IsChange, IsStep, HasRoom, IsOnlyNamed, IsInPlace, IsTableAfter, IsCommitted, IsWornBy, IsMoving}
+use Rattle.bd_node.specs.Steps.{changed_at, given, level_or, level_after, given_times, IsNamable, IsPut, IsStep, IsOnlyNamed, IsInPlace, IsTableAfter, IsCommitted, IsWornBy, IsMoving}
 use Rattle.bd_node.specs.Steps.HasRoom.{no_rise}
-use Rattle.bd_node.proofs.Lookup.{Agree, each_weaker, each_named, named_has, node_has-same, node_has-key, key-is_key}
+use Rattle.bd_node.proofs.Lookup.{Agree, each_weaker, each_named, node_has-same, node_has-key, key-is_key}
 use Rattle.bd_node.proofs.Meanings.{at-meets, at-others, at-none}
-use Rattle.bd_node.proofs.Sound.{node_of, sound-levelled, named_lower, counted, counted_twice, root_unnamed, kept_there}
-use Rattle.bd_node.proofs.Stepping.{given-old, given-new, by_given, moving_meaning, after-none, given_stays}
+use Rattle.bd_node.proofs.Sound.{sound-levelled, named_lower, counted_twice, root_unnamed, kept_there}
+use Rattle.bd_node.proofs.Stepping.{given-old, given-new, moving_meaning, after-none, given_stays}
 use Rattle.bd_node.proofs.Closing.{stay_above}
-use Rattle.bd_flush.specs.Flushed.{LeadsTo, IsUntouched, IsFlushed, IsWornFor}
+use Rattle.bd_flush.specs.Flushed.{LeadsTo, IsFlushed, IsWornFor}
 use Rattle.bd_flush.specs.Flushed.LeadsTo.{itself, through}
 use Rattle.bd_flush.specs.Children.{child_step, IsNoHigher}
 use Rattle.bd_flush.proofs.Worn.{times_few, one_if_few}
@@ -358,7 +358,7 @@ child_flushed nodes t p old n c h made new u b few =
       same = λ k.
           ap (λ (r : ℕ). at new r k) b.after.root
           ∙ has_then nodes t p old n c h made new u b t.root (λ e. root_unnamed nodes t b.of.sound p old b.of.there (subst (λ (i : ℕ). 1 ≤ times old i) (sym e) b.of.names_it)) low
-              (root_stays t p n c h made u b.after) k;
+          (root_stays t p n c h made u b.after) k;
       sound = b.committed.sound;
       later = omega arith;
       few = omega arith;
@@ -449,9 +449,19 @@ child_worn t p n c h made b few Refs worn =
     let first : Change = record { id = p; node = n } in
     let second : Change = record { id = c; node = h } in
     let most : 2 ^ 64 ≤ t.count id + given_times (child_step t.root p n c h made) id + one_if t.root id = worn.1 in
-    let all : sum_by (λ m. times m id) made ≤ 2064 * length made = sum_few made id (each_weaker (IsMadeBelow t (t.level c)) IsShape (λ d own. own.shape) made b.each) in
-    (id, omega (arith, most, all, one_if_few t.root id, times_few n id b.shape, times_few h id b.child_shape,
-    sum_by-cons (λ (d : Change). times d.node id) first (second ∷ []), sum_by-cons (λ (d : Change). times d.node id) second []))
+    let all : sum_by (λ m. times m id) made ≤ 2064 * length made = sum_few made id (each_weaker (IsMadeBelow t (t.level c)) IsShape (λ d own. own.shape) made b.each) in (
+      id,
+      omega (
+        arith,
+        most,
+        all,
+        one_if_few t.root id,
+        times_few n id b.shape,
+        times_few h id b.child_shape,
+        sum_by-cons (λ (d : Change). times d.node id) first (second ∷ []),
+        sum_by-cons (λ (d : Change). times d.node id) second [],
+      ),
+    )
 child_worn t p n c h made b few Count worn = worn
 child_worn t p n c h made b few Level worn = absurd worn
 child_worn t p n c h made b few Epoch worn = worn

@@ -1,5 +1,6 @@
 pub mod PendingSizes
 pub mod Abundance
+pub mod Each
 pub mod Givens
 pub mod Worn
 pub mod RootSplits
@@ -12,4 +13,5 @@ pub mod Batches
 pub mod LeafSteps
 pub mod LeafPushes
 pub mod LeafCommits
-pub mod Ways
+pub mod NewWays
+pub mod Down

@@ -3,3 +3,4 @@ pub mod Flushed
 pub mod Splits
 pub mod Children
 pub mod Pushes
+pub mod Ways

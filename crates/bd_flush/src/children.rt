@@ -13,6 +13,7 @@ ghost use Rattle.bd_flush.specs.Flushed.{IsFlushed, IsWornFor};
 ghost use Rattle.bd_flush.specs.Children.{CanSplitChild, AreFamily, child_step, parting, upper_edge, IsSide, AreParts, IsLongPivot, IsChildStep, IsSplitChild, IsNoHigher};
 
 use crate::Fetched;
+use crate::nodes::edges_of;
 use bd_inner::{end_of, exchange, split};
 use bd_keys::Bytes;
 use bd_limits::MAX_KEY;
@@ -157,16 +158,6 @@ fn one_half(alloc: Global, node: &Node, half: Node) -> Result<Parts, AllocError>
         half,
         made: Vec::new(alloc),
     })
-}
-
-// The edges of a node, and none of a leaf.
-pub fn edges_of(node: &Node) -> &[Edge]
-    ensures { result.now ≡ edges_of node.now }
-{
-    match node {
-        Node::Leaf(_) => &[],
-        Node::Inner { edges, .. } => edges.as_slice(),
-    }
 }
 
 // Which halves have keys of an edge.

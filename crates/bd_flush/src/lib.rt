@@ -1,14 +1,17 @@
 //! Steps of a flush: what waits in a node goes down, and the tree has what it had.
-//! The layers above use `split_root` and `fullest`, and what a step leaves, `IsFlushed`.
+//! The layers above use `next_step`, which finds what is to be done (`IsToDo`), and the steps that do
+//! it, with what each leaves, `IsFlushed`.
 #![tactic(auto)]
 
 mod children;
 mod fetching;
 mod filling;
 pub mod laws;
+mod nodes;
 mod planting;
 mod pushing;
 mod splitting;
+mod ways;
 
 pub use children::{ChildSplit, split_child};
 pub use fetching::{Fetched, fetch};
@@ -16,3 +19,4 @@ pub use filling::{FullEdge, fullest};
 pub use planting::push_new;
 pub use pushing::{ChildPush, push};
 pub use splitting::split_root;
+pub use ways::{FlushStep, next_step};

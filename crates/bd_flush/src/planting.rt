@@ -13,7 +13,7 @@ ghost use Rattle.bd_flush.specs.Children.{IsNoHigher};
 ghost use Rattle.bd_flush.specs.Pushes.{leaf_step, IsWaitedFor, CanPushNew, IsOwn, IsWay, IsNewLeaf, IsNewStep, IsPushedNew};
 
 use crate::Fetched;
-use crate::children::edges_of;
+use crate::nodes::edges_of;
 use crate::pushing::{batch_for, with_edge};
 use bd_inner::{edge_to, end_of};
 use bd_leaf as leaf;

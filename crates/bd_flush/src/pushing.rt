@@ -16,7 +16,8 @@ ghost use Rattle.bd_flush.specs.Children.{AreFamily, IsNoHigher};
 ghost use Rattle.bd_flush.specs.Pushes.{seen_by, unseen, CanPush, IsWaitedFor, IsEdgeBatch, IsRelieved, IsOverfull, ArePushed, IsPushStep, IsPushed};
 
 use crate::Fetched;
-use crate::children::{Parts, child_step, edges_of};
+use crate::children::{Parts, child_step};
+use crate::nodes::edges_of;
 use bd_inner::{Batch, end_of, exchange, next_batch, receive};
 use bd_leaf as leaf;
 use bd_message::{MapFault, Message};

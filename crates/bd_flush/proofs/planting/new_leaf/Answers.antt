@@ -1,5 +1,5 @@
 use Rattle.std.proofs.Common.{arith}
-use Rattle.bd_flush.proofs.Ways.{of_lifted, of_waiting, of_plain, of_small, of_fits, is_new_leaf}
+use Rattle.bd_flush.proofs.NewWays.{of_lifted, of_waiting, of_plain, of_small, of_fits, is_new_leaf}
 use Rattle.bd_flush.proofs.planting.new_leaf.Goals as goal
 
 pub batch_for-requires-clause-lifted : goal.batch_for-requires-clause-lifted

@@ -3,7 +3,7 @@ use Rattle.bd_node.specs.declared.node.Edge.{Edge}
 use Rattle.bd_node.specs.declared.node.Node.{Node}
 use Rattle.bd_inner.specs.Exchange.{IsEdgeAt}
 use Rattle.bd_flush.specs.Pushes.{IsWaitedFor}
-use Rattle.bd_flush.proofs.Ways.{on_new_step}
+use Rattle.bd_flush.proofs.NewWays.{on_new_step}
 use Rattle.bd_flush.proofs.planting.new_step.Goals as goal
 
 pub new_leaf-requires-clause-waiting : goal.new_leaf-requires-clause-waiting

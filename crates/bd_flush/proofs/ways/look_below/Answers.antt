@@ -1,0 +1,29 @@
+use Rattle.std.proofs.Common.{arith, ap, ◌∙◌, ◌<◌, ◌≤◌, length}
+use Rattle.bd_node.specs.declared.node.Edge.{Edge}
+use Rattle.std.proofs.Common.{List}
+use Rattle.bd_limits.specs.Limits.{soft_limit}
+use Rattle.bd_node.specs.Nodes.{buffer_size}
+use Rattle.bd_inner.specs.Halves.{edges_of}
+use Rattle.bd_flush.proofs.Down.{is_next, next_there}
+use Rattle.bd_flush.proofs.ways.look_below.Goals as goal
+
+pub returns-then-buffer_size-le-SOFT_BUFFER-clause-seen : goal.returns-then-buffer_size-le-SOFT_BUFFER-clause-seen
+returns-then-buffer_size-le-SOFT_BUFFER-clause-seen c = λ t fetched room fullest e way child_is once.
+    let few : buffer_size c.args.child.node.value ≤ soft_limit = omega (arith, c.buffer_size.ensures, ap buffer_size c.deref.ensures) in
+    c.push_or_carve.ensures.to_do t fetched room fullest e (way, child_is, once, few)
+
+pub returns-then-edges_of-lt-MANY_EDGES-clause-seen : goal.returns-then-edges_of-lt-MANY_EDGES-clause-seen
+returns-then-edges_of-lt-MANY_EDGES-clause-seen c = λ t fetched room fullest e way child_is once.
+    let waits : soft_limit < buffer_size c.args.child.node.value = omega (arith, c.buffer_size.ensures, ap buffer_size c.deref.ensures) in
+    is_next t c.args.parent c.args.place c.args.child e fetched way child_is waits
+    (omega (arith, ap (λ (l : List Edge). length l) (c.edges_of.ensures ∙ ap edges_of c.deref-2.ensures)))
+
+pub returns-then-edges_of-lt-MANY_EDGES-clause-at : goal.returns-then-edges_of-lt-MANY_EDGES-clause-at
+returns-then-edges_of-lt-MANY_EDGES-clause-at c = λ nodes t there room fullest e way once contents.
+    let waits : soft_limit < buffer_size c.args.child.node.value = omega (arith, c.buffer_size.ensures, ap buffer_size c.deref.ensures) in
+    next_there nodes t c.args.parent c.args.place c.args.child e there c.requires.shape room fullest way once contents waits
+
+pub returns-clause-at : goal.returns-clause-at
+returns-clause-at c = λ nodes t there room fullest e way once contents.
+    let waits : soft_limit < buffer_size c.args.child.node.value = omega (arith, c.buffer_size.ensures, ap buffer_size c.deref.ensures) in
+    (there, next_there nodes t c.args.parent c.args.place c.args.child e there c.requires.shape room fullest way once contents waits)

@@ -1,0 +1,136 @@
+-- The way down that a step of a flush takes, and what is to be done at its end.
+use Rattle.std.specs.Prelude.{◌≡◌, ◌≢◌, ℕ, ◌<◌, ◌≤◌, ◌⊎◌, true, List, [], length, drop, Option, None, Some}
+use Rattle.std.specs.List.{AllByRecursion}
+use Rattle.bd_limits.specs.Limits.{soft_limit}
+use Rattle.bd_keys.specs.Keys.{InRange}
+use Rattle.bd_message.specs.declared.message.Message.{Message}
+use Rattle.bd_message.specs.Messages.{IsPlain}
+use Rattle.bd_node.specs.declared.node.Edge.{Edge}
+use Rattle.bd_node.specs.declared.node.Node.{Node}
+use Rattle.bd_node.specs.Nodes.{level_of, buffer_size}
+use Rattle.bd_node.specs.Meaning.{Nodes}
+use Rattle.bd_node.specs.Private.{IsPrivate}
+use Rattle.bd_node.specs.Tables.{Table}
+use Rattle.bd_node.specs.Touching.{touches}
+use Rattle.bd_inner.specs.Halves.{edges_of, buffer_of}
+use Rattle.bd_inner.specs.Exchange.{end_at, IsEdgeAt}
+use Rattle.bd_flush.specs.declared.fetching.Fetched.{Fetched}
+use Rattle.bd_flush.specs.declared.ways.FlushStep.{FlushStep}
+use Rattle.bd_flush.specs.declared.ways.FlushStep.TheVariants.{SplitRoot, SplitChild, Push, Privatise, Carve}
+use Rattle.bd_flush.specs.declared.ways.Asked.{Asked}
+use Rattle.bd_flush.specs.declared.ways.Asked.TheVariants.{Nothing, Through, Child}
+use Rattle.bd_flush.specs.declared.ways.Look.{Look}
+use Rattle.bd_flush.specs.declared.ways.Look.TheVariants.{Down, End}
+use Rattle.bd_flush.specs.Pending.{IsFullest}
+use Rattle.bd_flush.specs.Children.{IsFetched, IsWayTo, CanSplitChild}
+
+-- most bytes of a node's messages are pending for the edge at a place
+pub record IsFullestAt (n : Node) (place : ℕ) : Type 0 where
+  pub bytes : ℕ
+  pub fullest : IsFullest (edges_of n) (buffer_of n) place bytes
+
+-- a node on the way: the root, or the private child for which most bytes wait in one with at most
+-- 14 edges, if it is asked with nothing in front of a key and more than 16,384 bytes wait in it
+pub data IsOnWay (nodes : Nodes) (t : Table) : ℕ → Type 0 where
+  at_root : IsOnWay nodes t t.root
+  below : (id place c : ℕ) (n m : Node) (e : Edge) → IsOnWay nodes t id → nodes id ≡ Some n
+      → length (edges_of n) ≤ 14 → IsFullestAt n place → IsWayTo n place c e → t.count c ≡ 1
+      → nodes c ≡ Some m → soft_limit < buffer_size m → IsOnWay nodes t c
+
+-- the message is no Goto, or changes nothing at a key of the edge, whose keys end there
+abbrev pub IsPlainFor : Edge → Option (List ℕ) → Message → Type 0
+IsPlainFor e hi m = (k : List ℕ) → InRange e.pivot hi k → touches m k ≡ true → IsPlain m
+
+-- the child of an edge that asks nothing, or a private one with nothing in front of a key, in which
+-- no more than 16,384 bytes wait
+abbrev pub IsTarget : Table → Node → ℕ → Edge → Option Fetched → Type 0
+IsTarget t n place e None = IsEdgeAt n place e × (e.child ≡ None)
+IsTarget t n place e (Some child) =
+    IsWayTo n place child.id e × IsFetched t child × (t.count child.id ≡ 1)
+    × (buffer_size child.node.value ≤ soft_limit)
+
+-- a node from whose fullest edge messages can be pushed to a child, or to a new leaf
+pub record CanPush (t : Table) (parent : Fetched) (place : ℕ) (child : Option Fetched) : Type 0
+  where
+    pub parent_is : IsFetched t parent
+    pub room : length (edges_of parent.node.value) ≤ 14
+    pub fullest : IsFullestAt parent.node.value place
+    pub edge : Edge
+    pub target : IsTarget t parent.node.value place edge child
+    pub plain : AllByRecursion (IsPlainFor edge (end_at parent.node.value place))
+        (drop edge.seen (buffer_of parent.node.value))
+
+-- a node whose fullest edge asks a shared child, or one with something in front of a key
+pub record IsShared (t : Table) (parent : Fetched) (place : ℕ) : Type 0 where
+  pub parent_is : IsFetched t parent
+  pub fullest : IsFullestAt parent.node.value place
+  pub edge : Edge
+  pub here : IsEdgeAt parent.node.value place edge
+  pub child : ℕ
+  pub child_is : edge.child ≡ Some child
+  pub shared : (edge.source ≢ []) ⊎ (t.count child ≢ 1)
+
+-- a node for whose fullest edge a Goto is pending
+pub record IsNamed (t : Table) (parent : Fetched) (place : ℕ) : Type 0 where
+  pub parent_is : IsFetched t parent
+  pub fullest : IsFullestAt parent.node.value place
+  pub edge : Edge
+  pub here : IsEdgeAt parent.node.value place edge
+  pub plain : ¬ AllByRecursion (IsPlainFor edge (end_at parent.node.value place))
+      (drop edge.seen (buffer_of parent.node.value))
+
+-- what is to be done, as far as the table tells
+abbrev pub IsToDo : Table → FlushStep → Type 0
+IsToDo t (SplitRoot root) =
+    IsFetched t root × (root.id ≡ t.root) × (15 ≤ length (edges_of root.node.value))
+IsToDo t (SplitChild parent place child) =
+    CanSplitChild t parent place child × IsFullestAt parent.node.value place
+    × (soft_limit < buffer_size child.node.value)
+IsToDo t (Push parent place child) = CanPush t parent place child
+IsToDo t (Privatise parent place) = IsShared t parent place
+IsToDo t (Carve parent place) = IsNamed t parent place
+
+-- a fetched node of the way
+pub record IsThere (nodes : Nodes) (t : Table) (f : Fetched) : Type 0 where
+  pub there : nodes f.id ≡ Some f.node.value
+  pub way : IsOnWay nodes t f.id
+  pub private : IsPrivate nodes t f.id
+
+-- the child, if there is one
+abbrev pub IsChildThere : Nodes → Option Fetched → Type 0
+IsChildThere nodes None = Unit {0}
+IsChildThere nodes (Some child) = nodes child.id ≡ Some child.node.value
+
+-- where it is to be done, in known nodes
+abbrev pub IsToDoAt : Nodes → Table → FlushStep → Type 0
+IsToDoAt nodes t (SplitRoot root) = IsThere nodes t root
+IsToDoAt nodes t (SplitChild parent place child) = IsThere nodes t parent × IsThere nodes t child
+IsToDoAt nodes t (Push parent place child) = IsThere nodes t parent × IsChildThere nodes child
+IsToDoAt nodes t (Privatise parent place) = IsThere nodes t parent
+IsToDoAt nodes t (Carve parent place) = IsThere nodes t parent
+
+-- ---- from one node
+
+-- what an edge asks: nothing, a child with something in front of a key, or with nothing
+abbrev pub IsAsked : Node → ℕ → Asked → Type 0
+IsAsked n place Nothing = (e : Edge) × IsEdgeAt n place e × (e.child ≡ None)
+IsAsked n place Through =
+    (e : Edge) × (c : ℕ) × IsEdgeAt n place e × (e.child ≡ Some c) × (e.source ≢ [])
+IsAsked n place (Child c) = (e : Edge) × IsWayTo n place c e
+
+-- the way goes on at a private child
+pub record IsNext (t : Table) (parent child : Fetched) : Type 0 where
+  pub child_is : IsFetched t child
+  pub lower : t.level child.id < t.level parent.id
+  pub inner : 1 ≤ level_of child.node.value
+  pub room : length (edges_of child.node.value) ≤ 14
+
+-- what is seen from a node on the way, as far as the table tells
+abbrev pub IsSeen : Table → Fetched → Look → Type 0
+IsSeen t parent (Down child) = IsNext t parent child
+IsSeen t parent (End step) = IsToDo t step
+
+-- and in known nodes
+abbrev pub IsSeenAt : Nodes → Table → Look → Type 0
+IsSeenAt nodes t (Down child) = IsThere nodes t child
+IsSeenAt nodes t (End step) = IsToDoAt nodes t step

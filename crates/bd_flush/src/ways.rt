@@ -1,0 +1,253 @@
+//! The way down that a step of a flush takes, and what is to be done at its end.
+
+ghost use Rattle.std.specs.Prelude.{◌≡◌, ◌↔◌, ◌+◌, ◌<◌, ◌≤◌, true, false, length, drop, IfOk, IsTrue, Some};
+ghost use Rattle.std.specs.Option.{option_copied};
+ghost use Rattle.std.specs.List.{AllByRecursion};
+ghost use Rattle.bd_keys.specs.Keys.{IsBelowEnd};
+ghost use Rattle.bd_message.specs.KeyMaps.{HasMapCause, NeverWorn};
+ghost use Rattle.bd_node.specs.declared.node.Edge.{Edge};
+ghost use Rattle.bd_node.specs.Nodes.{level_of};
+ghost use Rattle.bd_node.specs.Meaning.{Nodes};
+ghost use Rattle.bd_node.specs.Shape.{IsShape};
+ghost use Rattle.bd_node.specs.Tables.{Table, IsSound};
+ghost use Rattle.bd_inner.specs.Halves.{edges_of, buffer_of};
+ghost use Rattle.bd_inner.specs.Exchange.{end_at, IsEdgeAt};
+ghost use Rattle.bd_flush.specs.Children.{IsFetched, IsWayTo};
+ghost use Rattle.bd_flush.specs.Ways.{IsFullestAt, IsPlainFor, IsTarget, IsToDo, IsToDoAt, IsThere, IsChildThere, IsAsked, IsSeen, IsSeenAt};
+
+use crate::nodes::{buffer_of, buffer_size, edges_of};
+use crate::{Fetched, fetch, fullest};
+use bd_inner::{can_touch, end_of};
+use bd_limits::SOFT_BUFFER;
+use bd_message::{MapFault, Message};
+use bd_node::{Edge, Node, NodeStore};
+
+/// From this many edges on, a node on the way is split.
+const MANY_EDGES: usize = 15;
+
+/// What a step of a flush does, and where.
+#[derive(Debug, Drop)]
+pub enum FlushStep {
+    /// The root has 15 or 16 edges, and is split.
+    SplitRoot {
+        root: Fetched,
+    },
+    /// The child, the next node on the way, has 15 or 16 edges, and is split.
+    SplitChild {
+        parent: Fetched,
+        place: usize,
+        child: Fetched,
+    },
+    /// Messages go down the edge at the place to a private child, or to a new leaf where there is
+    /// no child.
+    Push {
+        parent: Fetched,
+        place: usize,
+        child: Option<Fetched>,
+    },
+    /// The edge's child is shared, or asked with something in front of a key: it is copied.
+    Privatise {
+        parent: Fetched,
+        place: usize,
+    },
+    /// A Goto is pending for the edge, and may not go down: its keys get edges of their own.
+    Carve {
+        parent: Fetched,
+        place: usize,
+    },
+}
+
+/// What a step of a flush is to do: it goes down from the root to the child for which most bytes
+/// wait, while that child is private, asked with nothing in front of a key, and has more than 16,384
+/// bytes of messages itself. At most as many nodes are fetched as the tree is high.
+pub fn next_step<S: NodeStore>(store: &mut S) -> Result<FlushStep, MapFault>
+    ensures to_do { IfOk result (IsToDo (S.table store.old)) }
+    ensures at { S.is_known store.old → IsSound (S.nodes store.old) (S.table store.old)
+        → IfOk result (IsToDoAt (S.nodes store.old) (S.table store.old)) }
+    ensures table { S.table store.new ≡ S.table store.old }
+    ensures known { S.is_known store.old → S.is_known store.new }
+    ensures kept { S.is_known store.old → S.nodes store.new ≡ S.nodes store.old }
+    ensures read { S.reads store.old store.new }
+    ensures cause { HasMapCause (S.fault_count store.old) (S.fault_count store.new)
+        (S.bad store.new) NeverWorn result }
+    ensures few_visits { S.visit_count store.new
+        ≤ S.visit_count store.old + ((S.table store.old).level (S.table store.old).root + 1) }
+    ensures same_loans { S.loans store.new ≡ S.loans store.old }
+{
+    let root = store.root();
+    let mut parent = fetch(store, root)?;
+    if edges_of(&parent.node).len() >= MANY_EDGES {
+        return Ok(FlushStep::SplitRoot { root: parent });
+    }
+    loop {
+        match look_from(store, parent)? {
+            Look::Down(child) => parent = child,
+            Look::End(step) => return Ok(step),
+        }
+    }
+}
+
+// What is seen from a node on the way.
+#[derive(Drop)]
+enum Look {
+    // The way goes on at this child.
+    Down(Fetched),
+    // This is to be done here.
+    End(FlushStep),
+}
+
+// What is seen from a node on the way: the child is fetched where it may be the next one.
+fn look_from<S: NodeStore>(store: &mut S, parent: Fetched) -> Result<Look, MapFault>
+    requires fetched { IsFetched (S.table store.old) parent }
+    requires inner { 1 ≤ level_of parent.node.value }
+    requires room { length (edges_of parent.node.value) ≤ 14 }
+    ensures seen { IfOk result (IsSeen (S.table store.old) parent) }
+    ensures at { S.is_known store.old → IsSound (S.nodes store.old) (S.table store.old)
+        → IsThere (S.nodes store.old) (S.table store.old) parent
+        → IfOk result (IsSeenAt (S.nodes store.old) (S.table store.old)) }
+    ensures table { S.table store.new ≡ S.table store.old }
+    ensures known { S.is_known store.old → S.is_known store.new }
+    ensures kept { S.is_known store.old → S.nodes store.new ≡ S.nodes store.old }
+    ensures read { S.reads store.old store.new }
+    ensures cause { HasMapCause (S.fault_count store.old) (S.fault_count store.new)
+        (S.bad store.new) NeverWorn result }
+    ensures few_visits { S.visit_count store.new ≤ S.visit_count store.old + 1 }
+    ensures same_loans { S.loans store.new ≡ S.loans store.old }
+{
+    let place = fullest_place(&parent.node);
+    let id = match asks(&parent.node, place) {
+        Asked::Nothing => return Ok(Look::End(push_or_carve(parent, place, None))),
+        Asked::Through => return Ok(Look::End(FlushStep::Privatise { parent, place })),
+        Asked::Child(id) => id,
+    };
+    if store.count(id) != 1 {
+        return Ok(Look::End(FlushStep::Privatise { parent, place }));
+    }
+    let child = fetch(store, id)?;
+    Ok(look_below(parent, place, child))
+}
+
+// What is seen from a node on the way, where its private child was fetched.
+fn look_below(parent: Fetched, place: usize, child: Fetched) -> Look
+    requires shape { IsShape parent.node.value }
+    requires child { IsShape child.node.value }
+    requires within { place < length (edges_of parent.node.value) }
+    ensures seen { (t : Table) → IsFetched t parent → length (edges_of parent.node.value) ≤ 14
+        → IsFullestAt parent.node.value place → (e : Edge) → IsWayTo parent.node.value place child.id e
+        → IsFetched t child → t.count child.id ≡ 1 → IsSeen t parent result }
+    ensures at { (nodes : Nodes) (t : Table) → IsThere nodes t parent
+        → length (edges_of parent.node.value) ≤ 14 → IsFullestAt parent.node.value place
+        → (e : Edge) → IsWayTo parent.node.value place child.id e → t.count child.id ≡ 1
+        → nodes child.id ≡ Some child.node.value → IsSeenAt nodes t result }
+{
+    if buffer_size(&child.node) <= SOFT_BUFFER {
+        return Look::End(push_or_carve(parent, place, Some(child)));
+    }
+    if edges_of(&child.node).len() < MANY_EDGES {
+        return Look::Down(child);
+    }
+    Look::End(FlushStep::SplitChild {
+        parent,
+        place,
+        child,
+    })
+}
+
+// What is to be done where messages go to a child or a new leaf: a push, or first the carving of a
+// Goto.
+fn push_or_carve(parent: Fetched, place: usize, child: Option<Fetched>) -> FlushStep
+    requires shape { IsShape parent.node.value }
+    requires within { place < length (edges_of parent.node.value) }
+    ensures to_do { (t : Table) → IsFetched t parent → length (edges_of parent.node.value) ≤ 14
+        → IsFullestAt parent.node.value place → (e : Edge)
+        → IsTarget t parent.node.value place e child → IsToDo t result }
+    ensures at { (nodes : Nodes) (t : Table) → IsThere nodes t parent → IsChildThere nodes child
+        → IsToDoAt nodes t result }
+{
+    if goto_waits(&parent.node, place) {
+        FlushStep::Carve { parent, place }
+    } else {
+        FlushStep::Push {
+            parent,
+            place,
+            child,
+        }
+    }
+}
+
+// Whether a Goto is pending for the edge at a place.
+fn goto_waits(node: &Node, place: usize) -> bool
+    requires shape { IsShape node.now }
+    requires within { place < length (edges_of node.now) }
+    ensures none { result ≡ false → (e : Edge) → IsEdgeAt node.now place e
+        → AllByRecursion (IsPlainFor e (end_at node.now place)) (drop e.seen (buffer_of node.now)) }
+    ensures some { result ≡ true → (e : Edge) → IsEdgeAt node.now place e
+        → ¬ AllByRecursion (IsPlainFor e (end_at node.now place)) (drop e.seen (buffer_of node.now)) }
+{
+    let edges = edges_of(node);
+    let edge = &edges[place];
+    let (_, unseen) = buffer_of(node).split_at(edge.seen as usize);
+    !are_plain(edge, end_of(edges, place), unseen)
+}
+
+// Whether no Goto among messages changes anything at a key of an edge whose keys end at `hi`.
+fn are_plain(edge: &Edge, hi: Option<&[u8]>, list: &[Message]) -> bool
+    requires { IsBelowEnd edge.now.pivot (option_copied hi) }
+    ensures { IsTrue result
+        ↔ AllByRecursion (IsPlainFor edge.now (option_copied hi.entry)) list.now }
+{
+    for message in list {
+        if !is_plain(edge, hi, message) {
+            return false;
+        }
+    }
+    true
+}
+
+// Whether a message is no Goto, or changes nothing at a key of an edge whose keys end at `hi`.
+fn is_plain(edge: &Edge, hi: Option<&[u8]>, message: &Message) -> bool
+    requires { IsBelowEnd edge.now.pivot (option_copied hi) }
+    ensures { IsTrue result ↔ IsPlainFor edge.now (option_copied hi.entry) message.now }
+{
+    match message {
+        Message::Goto { .. } => !can_touch(message, edge.pivot.as_slice(), hi),
+        Message::Put { .. } => true,
+        Message::Del { .. } => true,
+        Message::Patch { .. } => true,
+        Message::Cut { .. } => true,
+    }
+}
+
+// What an edge asks.
+#[derive(Clone, Copy)]
+enum Asked {
+    // No child.
+    Nothing,
+    // A child, with something in front of what is left of a key.
+    Through,
+    // A child, with nothing in front.
+    Child(u64),
+}
+
+// What the edge at a place asks.
+fn asks(node: &Node, place: usize) -> Asked
+    requires { place < length (edges_of node.now) }
+    ensures { IsAsked node.now place result }
+{
+    let edge = &edges_of(node)[place];
+    match edge.child {
+        None => Asked::Nothing,
+        Some(_) if !edge.source.is_empty() => Asked::Through,
+        Some(id) => Asked::Child(id),
+    }
+}
+
+// The place of the edge for which most bytes are pending.
+fn fullest_place(node: &Node) -> usize
+    requires shape { IsShape node.now }
+    requires inner { 1 ≤ level_of node.now }
+    ensures fullest { IsFullestAt node.now result }
+    ensures within { result < length (edges_of node.now) }
+{
+    fullest(edges_of(node), buffer_of(node)).place
+}
