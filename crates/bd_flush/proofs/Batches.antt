@@ -1,31 +1,31 @@
 -- What of a node's messages goes down an edge.
-use Rattle.std.proofs.Common.{◌≡◌, ℕ, zero, suc, ◌+◌, ◌-◌, ◌^◌, ◌<◌, ◌≤◌, List, [], ◌∷◌, length, take, drop, refl, sym, ap, subst, ◌∙◌, Option, None, Some, arith, get_or, length-drop, Result, Ok, Err}
+use Rattle.std.proofs.Common.{◌≡◌, ℕ, zero, suc, ◌+◌, ◌^◌, ◌<◌, ◌≤◌, List, [], ◌∷◌, length, take, drop, refl, sym, ap, subst, ◌∙◌, Option, Some, arith, get_or, inl, inr, length-drop, Result, Ok, Err}
 use Rattle.std.specs.Prelude.{slice_get, IfOk}
-use Rattle.std.specs.List.{AllByRecursion, sum_by}
-use Rattle.std.proofs.lemmas.Option.{same_Some, none-some}
-use Rattle.bd_limits.specs.Limits.{soft_limit, batch_limit, buffer_limit}
+use Rattle.std.specs.List.{AllByRecursion, All, sum_by}
+use Rattle.std.proofs.lemmas.List.Elements.{All-from_recursion}
+use Rattle.std.proofs.lemmas.Bool.{cases_lt}
+use Rattle.std.proofs.lemmas.Option.{same_Some}
+use Rattle.bd_limits.specs.Limits.{batch_limit, leaf_limit}
 use Rattle.bd_message.specs.declared.message.Message.{Message}
 use Rattle.bd_message.specs.declared.message.Message.TheVariants.{Put, Del, Patch, Cut, Goto}
 use Rattle.bd_message.specs.Messages.{IsMessage, IsPlain, size}
 use Rattle.bd_node.specs.declared.node.Edge.{Edge}
+use Rattle.bd_node.specs.declared.node.Entry.{Entry}
 use Rattle.bd_node.specs.declared.node.Node.{Node}
 use Rattle.bd_node.specs.declared.node.Node.TheVariants.{Leaf, Inner}
-use Rattle.bd_node.specs.Nodes.{level_of, buffer_size, appended}
-use Rattle.bd_node.specs.Shape.{end_before, IsShape}
-use Rattle.bd_node.proofs.Lookup.{each_weaker}
+use Rattle.bd_node.specs.Nodes.{level_of, appended}
+use Rattle.bd_node.specs.Shape.{end_before, IsLeaf, IsShape}
 use Rattle.bd_inner.specs.declared.batches.Batch.{Batch}
-use Rattle.bd_inner.specs.Stripping.{CanStrip}
 use Rattle.bd_inner.specs.Halves.{edges_of, buffer_of}
-use Rattle.bd_inner.specs.Moving.{lifted, IsLifted, CanMove, IsPlainFor, IsBatch}
-use Rattle.bd_inner.specs.Compaction.{IsCompacted}
-use Rattle.bd_inner.specs.Exchange.{exchanged, end_at, IsEdgeAt, FitsAt}
+use Rattle.bd_inner.specs.Moving.{IsBatch}
+use Rattle.bd_inner.specs.Exchange.{end_at, IsEdgeAt, FitsAt}
 use Rattle.bd_inner.proofs.Splitting.{few_wait}
-use Rattle.bd_inner.proofs.Fitting.{own_shape, edge_lifted}
+use Rattle.bd_leaf.specs.Leaves.{entries_size, IsReceived}
 use Rattle.bd_flush.specs.declared.children.Parts.{Parts}
-use Rattle.bd_flush.specs.Pushes.{seen_by, unseen, IsWaitedFor, IsEdgeBatch, IsRelieved, IsPushInto, ArePushed}
-use Rattle.bd_flush.specs.Pushes.IsPushInto.{received}
+use Rattle.bd_flush.specs.Pushes.{seen_by, unseen, IsWaitedFor, IsEdgeBatch, IsRelieved, IsPushInto, IsOverfull, ArePushed}
+use Rattle.bd_flush.specs.Pushes.IsPushInto.{received, fitted}
 use Rattle.bd_flush.proofs.ChildSplits.{edge_here}
-use Rattle.bd_flush.proofs.Pushed.{batch_low, relieved_fits}
+use Rattle.bd_flush.proofs.Pushed.{relieved_fits, batch_plain}
 
 -- ---- a node's messages
 
@@ -37,7 +37,7 @@ pub few_messages : (n : Node) → IsShape n → length (buffer_of n) ≤ 2048
 few_messages (Leaf entries) h = omega arith
 few_messages (Inner level es buffer) h = few_wait level es buffer h
 
-each_rest : (P : Message → Type 0) (count : ℕ) (list : List Message) → AllByRecursion P list → AllByRecursion P (drop count list)
+pub each_rest : (P : Message → Type 0) (count : ℕ) (list : List Message) → AllByRecursion P list → AllByRecursion P (drop count list)
 each_rest P zero list h = h
 each_rest P (suc count) [] h = tt
 each_rest P (suc count) (m ∷ list) h = each_rest P count list h.1
@@ -50,46 +50,6 @@ message_small (Cut prefix from) h = omega arith
 message_small (Goto prefix source child) h = omega arith
 
 -- ---- the batch
-
-plain_can : (s : List ℕ) (m : Message) → IsPlain m → CanStrip s m
-plain_can s (Put key value) h = tt
-plain_can s (Del key) h = tt
-plain_can s (Patch key off bytes) h = tt
-plain_can s (Cut prefix from) h = tt
-plain_can s (Goto prefix source child) h = absurd h
-
--- an edge of a node, the messages that it hasn't seen, and where its keys end
-pub record IsBatched (n : Node) (place : ℕ) (e : Edge) (hi : Option (List ℕ)) (list : List Message) : Type 0 where
-  pub shape : IsShape n
-  pub here : IsEdgeAt n place e
-  pub waiting : IsWaitedFor n place e
-  pub end : hi ≡ end_at n place
-  pub list_is : list ≡ unseen n e
-
-pub is_batched : (n : Node) (place : ℕ) (e : Edge) (es : List Edge) (hi : Option (List ℕ)) (list : List Message) → IsShape n → es ≡ edges_of n → place < length (edges_of n) → e ≡ get_or es place e → ((d : Edge) → IsEdgeAt n place d → IsWaitedFor n place d)
-    → hi ≡ end_before (drop (place + 1) es) → list ≡ unseen n e → IsBatched n place e hi list
-is_batched n place e es hi list shape same low read waiting end list_is = record {
-  shape = shape;
-  here = edge_here es n place e same low read;
-  waiting = waiting e (edge_here es n place e same low read);
-  end = end ∙ ap (λ (l : List Edge). end_before (drop (place + 1) l)) same;
-  list_is = list_is;
-}
-
-pub batch_seen : (n : Node) (place : ℕ) (e : Edge) → IsShape n → IsEdgeAt n place e → e.seen ≤ length (buffer_of n)
-batch_seen n place e h here = (own_shape n place e h here).seen
-
-pub batch_edge : (n : Node) (place : ℕ) (e : Edge) (hi : Option (List ℕ)) (list : List Message) → IsBatched n place e hi list → IsLifted e hi
-batch_edge n place e hi list b = subst (λ (o : Option (List ℕ)). IsLifted e o) (sym b.end) (edge_lifted n place e b.shape b.here)
-
-pub batch_each : (n : Node) (place : ℕ) (e : Edge) (hi : Option (List ℕ)) (list : List Message) → IsBatched n place e hi list → AllByRecursion IsMessage list
-batch_each n place e hi list b = subst (λ (l : List Message). AllByRecursion IsMessage l) (sym b.list_is) (each_rest IsMessage e.seen (buffer_of n) (messages_of n b.shape))
-
-pub batch_gotos : (n : Node) (place : ℕ) (e : Edge) (hi : Option (List ℕ)) (list : List Message) → IsBatched n place e hi list → AllByRecursion (CanMove e hi) list
-batch_gotos n place e hi list b =
-    subst (λ (o : Option (List ℕ)). AllByRecursion (CanMove e o) list) (sym b.end)
-    (subst (λ (l : List Message). AllByRecursion (CanMove e (end_at n place)) l) (sym b.list_is)
-    (each_weaker (IsPlainFor e (end_at n place)) (CanMove e (end_at n place)) (λ m plain k range touched. plain_can (lifted e) m (plain k range touched)) (unseen n e) b.waiting.plain))
 
 some_first : (list : List Message) → 1 ≤ length list → AllByRecursion IsMessage list → (m : Message) × (slice_get list 0 ≡ Some m) × IsMessage m
 some_first [] some h = absurd (omega arith)
@@ -110,18 +70,23 @@ batch_some e hi list b some each is =
       | suc n ↦ (λ some. omega arith)
     ] refl
 
-batch_is : (n : Node) (place : ℕ) (e : Edge) (hi : Option (List ℕ)) (list : List Message) (b : Batch) → IsBatched n place e hi list → IsBatch e hi list b → IsEdgeBatch n place e b
-batch_is n place e hi list b h is =
-    let more : e.seen < length (buffer_of n) = h.waiting.some in
-    let long : 1 ≤ length list = omega (arith, ap (λ (l : List Message). length l) h.list_is, length-drop e.seen (buffer_of n)) in
-    record {
-      batch = subst (λ (o : Option (List ℕ)). IsBatch e o (unseen n e) b) h.end (subst (λ (l : List Message). IsBatch e hi l b) h.list_is is);
-      some = batch_some e hi list b long (batch_each n place e hi list h) is;
-    }
+pub end_is : (n : Node) (place : ℕ) (es : List Edge) (hi : Option (List ℕ)) → es ≡ edges_of n → hi ≡ end_before (drop (place + 1) es) → hi ≡ end_at n place
+end_is n place es hi same end = end ∙ ap (λ (l : List Edge). end_before (drop (place + 1) l)) same
 
-pub on_batch : {E : Type 0} (n : Node) (place : ℕ) (e : Edge) (hi : Option (List ℕ)) (list : List Message) (r : Result Batch E) → IsBatched n place e hi list → IfOk r (IsBatch e hi list) → IfOk r (λ b. (d : Edge) → IsEdgeAt n place d → IsEdgeBatch n place d b)
-on_batch n place e hi list (Ok b) h is = λ d here. subst (λ (x : Edge). IsEdgeBatch n place x b) (same_Some e d (sym h.here ∙ here)) (batch_is n place e hi list b h is)
-on_batch n place e hi list (Err x) h is = tt
+batch_is : (n : Node) (place : ℕ) (f : Edge) (hi : Option (List ℕ)) (list : List Message) (b : Batch) → IsShape n → IsWaitedFor n place f → hi ≡ end_at n place → list ≡ unseen n f → IsBatch f hi list b → IsEdgeBatch n place f b
+batch_is n place f hi list b h w end list_is is =
+    let more : f.seen < length (buffer_of n) = w.some in
+    let long : 1 ≤ length (unseen n f) = omega (arith, length-drop f.seen (buffer_of n)) in
+    let own : IsBatch f (end_at n place) (unseen n f) b = subst (λ (o : Option (List ℕ)). IsBatch f o (unseen n f) b) end (subst (λ (l : List Message). IsBatch f hi l b) list_is is) in
+    record { batch = own; some = batch_some f (end_at n place) (unseen n f) b long (each_rest IsMessage f.seen (buffer_of n) (messages_of n h)) own }
+
+pub on_batch_for : {E : Type 0} (n : Node) (place : ℕ) (f : Edge) (hi : Option (List ℕ)) (list : List Message) (r : Result Batch E) → IsShape n → IsWaitedFor n place f → hi ≡ end_at n place → list ≡ unseen n f → IfOk r (IsBatch f hi list) → IfOk r (IsEdgeBatch n place f)
+on_batch_for n place f hi list (Ok b) h w end list_is is = batch_is n place f hi list b h w end list_is is
+on_batch_for n place f hi list (Err x) h w end list_is is = tt
+
+pub on_batch : {E : Type 0} (n : Node) (place : ℕ) (e : Edge) (r : Result Batch E) → IsEdgeAt n place e → IfOk r (IsEdgeBatch n place e) → IfOk r (λ b. (d : Edge) → IsEdgeAt n place d → IsEdgeBatch n place d b)
+on_batch n place e (Ok b) here is = λ d there. subst (λ (x : Edge). IsEdgeBatch n place x b) (same_Some e d (sym here ∙ there)) is
+on_batch n place e (Err x) here is = tt
 
 -- ---- the node above
 
@@ -132,18 +97,13 @@ seen_small n place e es count shape same low read there =
     let few : length (buffer_of n) ≤ 2048 = few_messages n shape in
     omega arith
 
-pub relieved_list : (n : Node) (place : ℕ) (e f : Edge) (es list : List Edge) (count : ℕ) → es ≡ edges_of n → place < length (edges_of n) → e ≡ get_or es place e → f ≡ seen_by e count → list ≡ f ∷ [] → (d : Edge) → IsEdgeAt n place d → list ≡ seen_by d count ∷ []
-relieved_list n place e f es list count same low read f_is list_is d here =
-    list_is ∙ ap (λ (x : Edge). x ∷ []) (f_is ∙ ap (λ (x : Edge). seen_by x count) (same_Some e d (sym (edge_here es n place e same low read) ∙ here)))
+pub same_fits : (n : Node) (place : ℕ) (e : Edge) (count : ℕ) → IsShape n → IsEdgeAt n place e → ((d : Edge) → IsEdgeAt n place d → d.seen + count ≤ length (buffer_of n)) → (d : Edge) → IsEdgeAt n place d → FitsAt n place d (seen_by e count ∷ [])
+same_fits n place e count shape here low d there =
+    subst (λ (x : Edge). FitsAt n place x (seen_by e count ∷ [])) (same_Some e d (sym here ∙ there)) (relieved_fits n place e count shape here (low e here))
 
-pub list_fits : (n : Node) (place : ℕ) (list : List Edge) (count : ℕ) → IsShape n → ((d : Edge) → IsEdgeAt n place d → d.seen + count ≤ length (buffer_of n)) → ((d : Edge) → IsEdgeAt n place d → list ≡ seen_by d count ∷ []) → (d : Edge) → IsEdgeAt n place d → FitsAt n place d list
-list_fits n place list count shape low is d here = subst (λ (l : List Edge). FitsAt n place d l) (sym (is d here)) (relieved_fits n place d count shape here (low d here))
-
-pub on_relieved : {E : Type 0} (n : Node) (place : ℕ) (list : List Edge) (count : ℕ) (r : Result Node E) → ((d : Edge) → IsEdgeAt n place d → list ≡ seen_by d count ∷ []) → IfOk r (λ m. IsCompacted (exchanged n place list) m) → IfOk r (λ m. (d : Edge) → IsEdgeAt n place d → IsRelieved n place d count m)
-on_relieved n place list count (Ok m) is h = λ d here. subst (λ (l : List Edge). IsCompacted (exchanged n place l) m) (is d here) h
-on_relieved n place list count (Err x) is h = tt
-
--- ---- an inner child
+pub on_relieved : {E : Type 0} (n : Node) (place : ℕ) (e : Edge) (count : ℕ) (r : Result Node E) → IsEdgeAt n place e → IfOk r (IsRelieved n place e count) → IfOk r (λ m. (d : Edge) → IsEdgeAt n place d → IsRelieved n place d count m)
+on_relieved n place e count (Ok m) here is = λ d there. subst (λ (x : Edge). IsRelieved n place x count m) (same_Some e d (sym here ∙ there)) is
+on_relieved n place e count (Err x) here is = tt
 
 at_of : (es : List Edge) (place : ℕ) → place < length es → (e : Edge) × (slice_get es place ≡ Some e)
 at_of [] place low = absurd (omega arith)
@@ -173,4 +133,57 @@ are_received n place m next b parts low inner batch above half_is made_is =
       into = subst (λ (d : Node). IsPushInto n place found.0 m b next parts.node d parts.made.items) (sym half_is)
           (subst (λ (l : List Node). IsPushInto n place found.0 m b next parts.node (appended m b.messages) l) (sym made_is)
           (received parts.node inner (above found.0 found.1)));
+    }
+
+-- ---- a leaf
+
+pub batch_plain_at : (n : Node) (place : ℕ) (b : Batch) → place < length (edges_of n) → ((e : Edge) → IsEdgeAt n place e → IsWaitedFor n place e) → ((e : Edge) → IsEdgeAt n place e → IsEdgeBatch n place e b) → AllByRecursion IsPlain b.messages
+batch_plain_at n place b low waiting batch = let found = some_edge n place low in batch_plain n place found.0 b (waiting found.0 found.1) (batch found.0 found.1)
+
+pub all_messages : (list messages : List Message) → list ≡ messages → AllByRecursion IsMessage messages → All IsMessage list
+all_messages list messages is h = All-from_recursion IsMessage list (subst (λ (l : List Message). AllByRecursion IsMessage l) (sym is) h)
+
+pub all_plain : (list messages : List Message) → list ≡ messages → AllByRecursion IsPlain messages → All IsPlain list
+all_plain list messages is h = All-from_recursion IsPlain list (subst (λ (l : List Message). AllByRecursion IsPlain l) (sym is) h)
+
+-- a leaf, the batch for it, and its entries then
+pub record IsLeafBatch (n : Node) (place : ℕ) (b : Batch) (old new : List Entry) : Type 0 where
+  pub low : place < length (edges_of n)
+  pub batch : (e : Edge) → IsEdgeAt n place e → IsEdgeBatch n place e b
+  pub got : IsReceived old b.messages new
+
+pub is_leaf_batch : (n : Node) (place : ℕ) (b : Batch) (old new : List Entry) (list : List Message) → place < length (edges_of n) → ((e : Edge) → IsEdgeAt n place e → IsEdgeBatch n place e b) → list ≡ b.messages → IsReceived old list new → IsLeafBatch n place b old new
+is_leaf_batch n place b old new list low batch is got = record { low = low; batch = batch; got = subst (λ (l : List Message). IsReceived old l new) is got }
+
+pub is_overfull : (n : Node) (place : ℕ) (b : Batch) (old new shown : List Entry) → IsLeafBatch n place b old new → shown ≡ new → (entries_size shown ≤ leaf_limit → ⊥) → IsOverfull n place (Leaf old)
+is_overfull n place b old new shown h same over =
+    let found = some_edge n place h.low in
+    record {
+      edge = found.0;
+      here = found.1;
+      batch = b;
+      moved = h.batch found.0 found.1;
+      old = old;
+      new = new;
+      leaf = refl;
+      got = h.got;
+      over = elim (cases_lt leaf_limit (entries_size new)) [
+        | inl more ↦ more
+        | inr fits ↦ absurd (over (omega (arith, fits, ap entries_size same)))
+      ];
+    }
+
+pub are_fitted : (n : Node) (place next : ℕ) (b : Batch) (old new shown : List Entry) (parts : Parts) → IsLeafBatch n place b old new → shown ≡ new → entries_size shown ≤ leaf_limit → ((e : Edge) → IsEdgeAt n place e → IsRelieved n place e b.count parts.node)
+    → parts.half ≡ Leaf new → parts.made.items ≡ [] → ArePushed n place (Leaf old) next parts
+are_fitted n place next b old new shown parts h same fits above half_is made_is =
+    let found = some_edge n place h.low in
+    let leaf : IsLeaf new = record { each = h.got.entries.each; rising = h.got.entries.rising; size = omega (arith, fits, ap entries_size same) } in
+    record {
+      edge = found.0;
+      here = found.1;
+      batch = b;
+      moved = h.batch found.0 found.1;
+      into = subst (λ (d : Node). IsPushInto n place found.0 (Leaf old) b next parts.node d parts.made.items) (sym half_is)
+          (subst (λ (l : List Node). IsPushInto n place found.0 (Leaf old) b next parts.node (Leaf new) l) (sym made_is)
+          (fitted old new parts.node refl h.got leaf (above found.0 found.1)));
     }

@@ -1,32 +1,31 @@
 -- A child that is split below its parent.
-use Rattle.std.proofs.Common.{◌≡◌, ℕ, zero, suc, ◌+◌, ◌-◌, ◌^◌, ◌<◌, ◌≤◌, cond, List, [], ◌∷◌, ◌++◌, length, take, drop, map, get_or, refl, sym, ap, subst, ◌∙◌, Option, None, Some, arith, inl, inr, ◌⊎◌, length-append, length-take}
+use Rattle.std.proofs.Common.{◌≡◌, ℕ, ◌+◌, ◌-◌, ◌^◌, ◌<◌, ◌≤◌, List, [], ◌∷◌, ◌++◌, length, take, drop, map, get_or, refl, sym, ap, subst, ◌∙◌, Option, None, Some, arith, inl, inr, ◌⊎◌, length-append, length-take}
 use Rattle.std.specs.Prelude.{slice_get}
 use Rattle.std.specs.List.{AllByRecursion, flat_map}
 use Rattle.std.specs.Ordering.{is_lt}
 use Rattle.std.specs.Option.{option_to_list}
-use Rattle.std.proofs.lemmas.Bool.{cases_lt, cases_eq, cases_Bool, cond-true, cond-false}
+use Rattle.std.proofs.lemmas.Bool.{cases_eq, cases_Bool, cond-true, cond-false}
 use Rattle.std.proofs.lemmas.Option.{same_Some, none-some, slice_get_read}
 use Rattle.std.proofs.lemmas.List.{take-append-drop, get_or-drop}
 use Rattle.std.proofs.lemmas.List.Concat.{flat_map-append}
 use Rattle.std.proofs.lemmas.Cmp.{nat_list_cmp_total as total}
 use Rattle.std.proofs.Math.Seq.{take-append_seam}
-use Rattle.bd_limits.specs.Limits.{key_limit, edge_limit}
+use Rattle.bd_limits.specs.Limits.{key_limit}
 use Rattle.bd_keys.specs.Keys.{key_cmp, IsKey, IsBelow, IsBelowEnd, IsAtLeast, InRange, IsCommon}
 use Rattle.bd_keys.proofs.Order.{none_between}
-use Rattle.bd_message.specs.declared.message.Message.{Message}
 use Rattle.bd_message.specs.Effect.{NodesAt, acts}
 use Rattle.bd_node.specs.declared.node.Edge.{Edge}
 use Rattle.bd_node.specs.declared.node.Node.{Node}
 use Rattle.bd_node.specs.declared.node.Node.TheVariants.{Leaf, Inner}
-use Rattle.bd_node.specs.Nodes.{level_of, buffer_size, message_names, edge_names, names, times, edge_of, child_at, edge_at, through, node_at, node_has}
+use Rattle.bd_node.specs.Nodes.{level_of, buffer_size, message_names, edge_names, names, times, edge_of, child_at, edge_at, through, node_at}
 use Rattle.bd_node.specs.Meaning.{Nodes, at}
 use Rattle.bd_node.specs.Shape.{end_before, IsEdge, IsShape}
 use Rattle.bd_node.specs.Tables.{Table, IsKept, IsTable, IsLower, IsNodeOf, IsSound, one_if}
 use Rattle.bd_node.specs.Private.{IsPrivate}
-use Rattle.bd_node.proofs.Lookup.{Agree, each_weaker, each_second, each_named, each_dropped, named_has, acts-same, node_at-same, node_has-key, count-cons_same, count-cons_other}
+use Rattle.bd_node.proofs.Lookup.{Agree, each_second, each_named, each_dropped, named_has, acts-same, node_at-same, node_has-key, count-cons_same, count-cons_other}
 use Rattle.bd_node.proofs.Meanings.{at-meets}
 use Rattle.bd_node.proofs.Sound.{sound-levelled, counted}
-use Rattle.bd_node.proofs.Edges.{less_lt, lt_is, lt_isnt, not_less_lt, least_over}
+use Rattle.bd_node.proofs.Edges.{lt_is, lt_isnt, least_over}
 use Rattle.bd_inner.specs.Compaction.{IsCompacted, lowered, staying}
 use Rattle.bd_inner.proofs.Fitting.{own_shape}
 use Rattle.bd_inner.specs.Halves.{edges_of, buffer_of, IsHalf, AreHalves}

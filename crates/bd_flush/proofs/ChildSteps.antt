@@ -15,17 +15,17 @@ use Rattle.bd_node.specs.declared.node.Step.{Step}
 use Rattle.bd_node.specs.Nodes.{level_of, buffer_size, names, times, node_at, node_has, is_key}
 use Rattle.bd_node.specs.Meaning.{Nodes, at, found_at}
 use Rattle.bd_node.specs.Shape.{IsShape}
-use Rattle.bd_node.specs.Tables.{Table, IsKept, IsTable, IsLower, IsNodeOf, IsSound, one_if, root_at}
+use Rattle.bd_node.specs.Tables.{Table, IsKept, IsTable, IsLower, IsSound, one_if}
 use Rattle.bd_node.specs.Private.{IsPrivate}
 use Rattle.bd_node.specs.Private.IsPrivate.{root_alone, alone}
-use Rattle.bd_node.specs.Steps.{changed_at, given, level_or, level_after, given_times, IsThere, IsNamable, IsPut, IsChange, IsStep, HasRoom, IsOnlyNamed, IsInPlace, IsTableAfter, IsCommitted, IsWornBy, IsMoving}
+use Rattle.bd_node.specs.Steps.{changed_at, given, level_or, level_after, given_times, IsNamable, IsPut, IsStep, IsOnlyNamed, IsInPlace, IsTableAfter, IsCommitted, IsWornBy, IsMoving}
 use Rattle.bd_node.specs.Steps.HasRoom.{no_rise}
-use Rattle.bd_node.proofs.Lookup.{Agree, each_weaker, each_named, named_has, node_has-same, node_has-key, key-is_key}
+use Rattle.bd_node.proofs.Lookup.{Agree, each_weaker, each_named, node_has-same, node_has-key, key-is_key}
 use Rattle.bd_node.proofs.Meanings.{at-meets, at-others, at-none}
-use Rattle.bd_node.proofs.Sound.{node_of, sound-levelled, named_lower, counted, counted_twice, root_unnamed, kept_there}
-use Rattle.bd_node.proofs.Stepping.{given-old, given-new, by_given, moving_meaning, after-none, given_stays}
+use Rattle.bd_node.proofs.Sound.{sound-levelled, named_lower, counted_twice, root_unnamed, kept_there}
+use Rattle.bd_node.proofs.Stepping.{given-old, given-new, moving_meaning, after-none, given_stays}
 use Rattle.bd_node.proofs.Closing.{stay_above}
-use Rattle.bd_flush.specs.Flushed.{LeadsTo, IsUntouched, IsFlushed, IsWornFor}
+use Rattle.bd_flush.specs.Flushed.{LeadsTo, IsFlushed, IsWornFor}
 use Rattle.bd_flush.specs.Flushed.LeadsTo.{itself, through}
 use Rattle.bd_flush.specs.Children.{child_step, IsNoHigher}
 use Rattle.bd_flush.proofs.Worn.{times_few, one_if_few}

@@ -1,10 +1,10 @@
 -- What holds of each message up to a place.
-use Rattle.std.proofs.Common.{◌≡◌, ℕ, zero, suc, ◌+◌, ◌<◌, ◌≤◌, List, [], ◌∷◌, length, take, drop, get_or, refl, sym, ap, subst, ◌∙◌, arith, add-one}
+use Rattle.std.proofs.Common.{◌≡◌, ℕ, zero, suc, ◌+◌, ◌<◌, List, [], ◌∷◌, length, take, drop, get_or, sym, ap, subst, ◌∙◌, arith, add-one}
 use Rattle.std.specs.List.{AllByRecursion, sum_by}
 use Rattle.std.proofs.lemmas.List.{drop_more}
 use Rattle.std.proofs.lemmas.List.Sums.{sum_by-cons}
 use Rattle.bd_message.specs.declared.message.Message.{Message}
-use Rattle.bd_message.specs.Messages.{IsMessage, size}
+use Rattle.bd_message.specs.Messages.{size}
 
 -- what holds of each holds of one
 pub each_get : (P : Message → Type 0) (xs : List Message) (i : ℕ) (m : Message) → AllByRecursion P xs → i < length xs → m ≡ get_or xs i m → P m

@@ -10,4 +10,8 @@ pub mod ChildCommits
 pub mod Pushed
 pub mod PushCommits
 pub mod Batches
+pub mod LeafSteps
+pub mod LeafPushes
+pub mod LeafCommits
+pub mod NewWays
 pub mod Down

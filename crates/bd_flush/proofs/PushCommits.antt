@@ -1,11 +1,9 @@
 -- The commit of a push.
-use Rattle.std.proofs.Common.{◌≡◌, ℕ, ◌+◌, ◌^◌, ◌<◌, ◌≤◌, List, length, refl, sym, ap, subst, ◌∙◌, Some, arith, Result, Ok, Err}
-use Rattle.std.specs.Prelude.{slice_get, OnOk, OnErr}
+use Rattle.std.proofs.Common.{◌≡◌, ℕ, ◌+◌, ◌^◌, ◌<◌, ◌≤◌, length, sym, ap, subst, ◌∙◌, arith, Err}
 use Rattle.std.proofs.lemmas.Option.{same_Some}
 use Rattle.bd_message.specs.declared.fault.MapFault.{MapFault}
 use Rattle.bd_message.specs.KeyMaps.{HasMapCause}
 use Rattle.bd_node.specs.declared.node.Edge.{Edge}
-use Rattle.bd_node.specs.declared.node.Node.{Node}
 use Rattle.bd_node.specs.declared.node.Step.{Step}
 use Rattle.bd_node.specs.Nodes.{buffer_size}
 use Rattle.bd_node.specs.Meaning.{Nodes}
@@ -18,7 +16,7 @@ use Rattle.bd_flush.specs.Children.{IsWayTo, AreFamily, IsNoHigher}
 use Rattle.bd_flush.specs.Pushes.{IsWaitedFor, CanPush, IsPushStep, IsPushed}
 use Rattle.bd_flush.proofs.Worn.{cause_weaker}
 use Rattle.bd_flush.proofs.ChildSteps.{IsChildChange, IsChildChangeOf, IsChildChanged, below_step, below_in_place, child_flushed, parent_is, child_is, made_are, no_higher, child_worn}
-use Rattle.bd_flush.proofs.ChildSplits.{IsSplittable, IsSplittableOf, lower_child}
+use Rattle.bd_flush.proofs.ChildSplits.{IsSplittable, lower_child}
 use Rattle.bd_flush.proofs.Pushed.{IsPushable, push_change, push_change_of, push_few, push_named, push_size}
 
 -- a push, and the step
@@ -132,28 +130,9 @@ push_visits t parent place child step before now h is =
     let same : length step.made ≡ length h.push.made = ap (λ (q : Step). length q.made) h.push.is in
     omega arith
 
-pub push_worn : {T : Type 0} (before now : ℕ) (bad : ℕ → Type 0) (t : Table) (parent : Fetched) (place : ℕ) (child : Fetched) (step : Step) (r : Result T MapFault) → IsToPush t parent place child step → HasMapCause before now bad (IsWornBy t step) r → HasMapCause before now bad (IsWornFor t) r
-push_worn before now bad t parent place child step r h cause =
-    cause_weaker before now bad (IsWornBy t step) (IsWornFor t)
+pub push_cause : {T U : Type 0} (before now : ℕ) (bad : ℕ → Type 0) (t : Table) (parent : Fetched) (place : ℕ) (child : Fetched) (step : Step) (e : MapFault) → IsToPush t parent place child step → HasMapCause {T = T} before now bad (IsWornBy t step) (Err e)
+    → HasMapCause {T = U} before now bad (IsWornFor t) (Err e)
+push_cause {T} {U} before now bad t parent place child step e h cause =
+    cause_weaker {T = U} before now bad (IsWornBy t step) (IsWornFor t)
     (λ counter worn. child_worn t parent.id h.push.node child.id h.push.half h.push.made (change t parent place child step h) (let few : length h.push.made ≤ 1 = few_made t parent place child step h in omega arith) counter
-    (subst (λ (q : Step). IsWornBy t q counter) h.push.is worn)) r cause
-
--- ---- the result
-
-pub on_flushed : {T E : Type 0} (nodes : Nodes) (t : Table) (parent : Fetched) (place : ℕ) (child : Fetched) (step : Step) (new : Nodes) (u : Table) (r : Result T E) → IsToPush t parent place child step → IsSound nodes t → AreFamily nodes t parent child
-    → OnOk r (IsTableAfter t step u) → OnOk r (IsCommitted nodes t step new u) → OnOk r (IsFlushed nodes t new u)
-on_flushed nodes t parent place child step new u (Ok x) h s family after committed = push_flushed nodes t parent place child step new u h s family after committed
-on_flushed nodes t parent place child step new u (Err e) h s family after committed = tt
-
-pub on_pushed : {T E : Type 0} (nodes : Nodes) (t : Table) (parent : Fetched) (place : ℕ) (child : Fetched) (step : Step) (new : Nodes) (u : Table) (r : Result T E) → IsToPush t parent place child step → IsSound nodes t → AreFamily nodes t parent child
-    → OnOk r (IsTableAfter t step u) → OnOk r (IsCommitted nodes t step new u) → OnOk r (IsPushed t parent place child new u)
-on_pushed nodes t parent place child step new u (Ok x) h s family after committed = push_is nodes t parent place child step new u h s family after committed
-on_pushed nodes t parent place child step new u (Err e) h s family after committed = tt
-
-pub on_no_higher : {T E : Type 0} (t : Table) (parent : Fetched) (place : ℕ) (child : Fetched) (step : Step) (u : Table) (r : Result T E) → IsToPush t parent place child step → OnOk r (IsTableAfter t step u) → OnOk r (IsNoHigher t u)
-on_no_higher t parent place child step u (Ok x) h after = push_no_higher t parent place child step u h after
-on_no_higher t parent place child step u (Err e) h after = tt
-
-pub on_visits : {T E : Type 0} (t : Table) (parent : Fetched) (place : ℕ) (child : Fetched) (step : Step) (before now : ℕ) (r : Result T E) → IsToPush t parent place child step → OnOk r (now ≡ visited before (length step.made)) → OnErr r (now ≡ before) → now ≤ before + 1
-on_visits t parent place child step before now (Ok x) h ok err = push_visits t parent place child step before now h ok
-on_visits t parent place child step before now (Err e) h ok err = omega arith
+    (subst (λ (q : Step). IsWornBy t q counter) h.push.is worn)) (Err e) (record { later = cause.later; failed = cause.failed })

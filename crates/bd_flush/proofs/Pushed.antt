@@ -1,33 +1,34 @@
 -- Messages that have gone down to a child.
-use Rattle.std.proofs.Common.{◌≡◌, ℕ, zero, suc, ◌+◌, ◌-◌, ◌<◌, ◌≤◌, List, [], ◌∷◌, ◌++◌, length, take, drop, refl, sym, ap, subst, ◌∙◌, Option, None, Some, arith, inl, inr, ◌⊎◌, length-drop}
+use Rattle.std.proofs.Common.{◌≡◌, ℕ, zero, suc, ◌+◌, ◌<◌, ◌≤◌, List, [], ◌∷◌, ◌++◌, length, take, drop, refl, sym, ap, subst, ◌∙◌, Option, arith, inl, length-drop}
 use Rattle.std.specs.List.{AllByRecursion, flat_map, sum_by}
 use Rattle.std.specs.Option.{option_to_list}
-use Rattle.std.proofs.lemmas.Option.{same_Some, none-some, slice_get_within}
-use Rattle.bd_limits.specs.Limits.{soft_limit, batch_limit, buffer_limit}
+use Rattle.bd_limits.specs.Limits.{soft_limit, batch_limit}
 use Rattle.bd_keys.specs.Keys.{IsKey}
 use Rattle.bd_message.specs.declared.message.Message.{Message}
-use Rattle.bd_message.specs.Messages.{IsMessage, IsPlain, size}
-use Rattle.bd_message.specs.Effect.{NodesAt, acts, no_nodes}
+use Rattle.bd_message.specs.Messages.{IsPlain, size}
+use Rattle.bd_message.specs.Effect.{NodesAt, acts}
 use Rattle.bd_node.specs.declared.node.Edge.{Edge}
+use Rattle.bd_node.specs.declared.node.Entry.{Entry}
 use Rattle.bd_node.specs.declared.node.Node.{Node}
-use Rattle.bd_node.specs.declared.node.Node.TheVariants.{Leaf, Inner}
-use Rattle.bd_node.specs.Nodes.{level_of, buffer_size, edge_names, names, times, child_at, node_at, node_has, appended}
+use Rattle.bd_node.specs.declared.node.Node.TheVariants.{Leaf}
+use Rattle.bd_node.specs.Nodes.{level_of, buffer_size, edge_names, names, times, node_at, appended}
 use Rattle.bd_node.specs.Meaning.{Nodes, at}
-use Rattle.bd_node.specs.Shape.{IsEdge, IsShape}
-use Rattle.bd_node.specs.Tables.{Table, IsKept, IsTable, IsLower, IsNodeOf, IsSound}
-use Rattle.bd_node.proofs.Lookup.{Agree, named_has, node_has-key}
+use Rattle.bd_node.specs.Shape.{IsLeaf, IsShape}
+use Rattle.bd_node.specs.Tables.{Table, IsLower}
+use Rattle.bd_node.proofs.Lookup.{named_has, node_has-key}
 use Rattle.bd_node.proofs.Appending.{shape_appended, level_appended, names_appended, acts-plain, node_at-appended}
 use Rattle.bd_inner.specs.declared.batches.Batch.{Batch}
-use Rattle.bd_inner.specs.Halves.{edges_of, buffer_of}
-use Rattle.bd_inner.specs.Moving.{IsPlainFor, IsMoved, IsBatch}
+use Rattle.bd_inner.specs.Halves.{buffer_of}
+use Rattle.bd_inner.specs.Moving.{IsPlainFor, IsMoved}
 use Rattle.bd_inner.specs.Exchange.{exchanged, end_at, IsKeyOf, IsEdgeAt, FitsAt}
 use Rattle.bd_inner.proofs.Compacting.{count_names, compacted_shape, compacted_level, compacted_meaning, compacted_size, compacted_times}
 use Rattle.bd_inner.proofs.Fitting.{own_shape, seen_fits}
 use Rattle.bd_inner.proofs.Exchanged.{exchanged_shape, pushed}
+use Rattle.bd_leaf.specs.Leaves.{IsReceived}
 use Rattle.bd_flush.specs.Children.{IsWayTo}
 use Rattle.bd_flush.specs.Pushes.{seen_by, unseen, IsWaitedFor, IsEdgeBatch, IsRelieved, IsPushInto}
-use Rattle.bd_flush.specs.Pushes.IsPushInto.{received}
-use Rattle.bd_flush.proofs.ChildSteps.{has_below, has_child, IsMadeBelow, IsChildChange, IsChildChangeOf}
+use Rattle.bd_flush.specs.Pushes.IsPushInto.{received, fitted}
+use Rattle.bd_flush.proofs.ChildSteps.{has_below, has_child, IsChildChange, IsChildChangeOf}
 use Rattle.bd_flush.proofs.ChildSplits.{times_exchanged, exchanged_same, inner_of, count_own, child_named, lower_child, level_exchanged, compacted_named, exchanged_named, size_exchanged, others_agree, at_child, asks, asks_at, IsKey-drop, IsSplittable, IsSplittableOf}
 
 -- ---- the node above
@@ -81,11 +82,11 @@ relieved_change t p n place c e m b parent low s is r shape level named =
     }
 
 -- messages moved for an edge are so for the edge that has seen more
-moved_seen : (e : Edge) (hi : Option (List ℕ)) (count : ℕ) (list moved : List Message) → IsMoved e hi list moved → IsMoved (seen_by e count) hi list moved
+pub moved_seen : (e : Edge) (hi : Option (List ℕ)) (count : ℕ) (list moved : List Message) → IsMoved e hi list moved → IsMoved (seen_by e count) hi list moved
 moved_seen e hi count list moved h = record { effect = h.effect; each = h.each; size = h.size; names = h.names; plain = h.plain }
 
 -- messages that name no node act alike
-acts_alike : (f g : NodesAt) (list : List Message) (k : List ℕ) (old : Option (List ℕ)) → AllByRecursion IsPlain list → acts f list k old ≡ acts g list k old
+pub acts_alike : (f g : NodesAt) (list : List Message) (k : List ℕ) (old : Option (List ℕ)) → AllByRecursion IsPlain list → acts f list k old ≡ acts g list k old
 acts_alike f g list k old plain = acts-plain f list k old plain ∙ sym (acts-plain g list k old plain)
 
 -- the first so many have what all have
@@ -144,6 +145,18 @@ received_change t p n place c e m b parent s is plain soft r =
     (λ x one. named_has (IsLower t (t.level c)) x (names m) s.child.lower
     (subst (λ (l : List ℕ). 1 ≤ count_names x l) (names_appended m b.messages plain) one))
 
+-- ---- a leaf
+
+leaf_received : (below : NodesAt) (n : Node) (place : ℕ) (e : Edge) (m : Node) (old new : List Entry) (list : List Message) → m ≡ Leaf old → IsReceived old list new → HasReceived below n place e m list (Leaf new)
+leaf_received below n place e m old new list is got k key range =
+    let x : List ℕ = drop e.lift k in
+    got.acted below x ∙ ap (λ (d : Node). acts below list x (node_at below d x)) (sym is)
+
+fitted_change : (t : Table) (p : ℕ) (n : Node) (place c : ℕ) (e : Edge) (m : Node) (b : Batch) (old new : List Entry) (parent : Node) → IsSplittable t p n place c e m → IsEdgeBatch n place e b → m ≡ Leaf old → IsLeaf new
+    → IsRelieved n place e b.count parent → IsChildChange t p parent c (Leaf new) []
+fitted_change t p n place c e m b old new parent s is leaf fits r =
+    relieved_change t p n place c e m b parent (Leaf new) s is r fits (sym (ap level_of leaf) ∙ s.child.level_is) (λ x one. absurd (omega arith))
+
 -- ---- each way
 
 -- what is pushed, and that it may be
@@ -155,6 +168,7 @@ pub record IsPushable (t : Table) (p : ℕ) (n : Node) (place c : ℕ) (e : Edge
 
 pub push_change : (t : Table) (p : ℕ) (n : Node) (place c : ℕ) (e : Edge) (m : Node) (b : Batch) (parent low : Node) (made : List Node) → IsPushable t p n place c e m b → IsPushInto n place e m b t.next parent low made → IsChildChange t p parent c low made
 push_change t p n place c e m b _ _ _ s (received parent inner r) = received_change t p n place c e m b parent s.split s.moved (batch_plain n place e b s.waiting s.moved) s.soft r
+push_change t p n place c e m b _ _ _ s (fitted old new parent leaf got fits r) = fitted_change t p n place c e m b old new parent s.split s.moved leaf fits r
 
 pub push_change_of : (nodes : Nodes) (t : Table) (p : ℕ) (n : Node) (place c : ℕ) (e : Edge) (m : Node) (b : Batch) (parent low : Node) (made : List Node) → IsPushable t p n place c e m b → IsSplittableOf nodes t p n place c e m → IsPushInto n place e m b t.next parent low made
     → IsChildChangeOf nodes t p n parent c low made
@@ -162,12 +176,19 @@ push_change_of nodes t p n place c e m b _ _ _ s of (received parent inner r) =
     relieved_change_of nodes t p n place c e m b parent (appended m b.messages) of s.moved (batch_plain n place e b s.waiting s.moved) r
     (λ k key range. node_at-appended (at nodes) m b.messages (drop e.lift k) s.split.child.shape inner)
     (push_change t p n place c e m b parent (appended m b.messages) [] s (received parent inner r))
+push_change_of nodes t p n place c e m b _ _ _ s of (fitted old new parent leaf got fits r) =
+    relieved_change_of nodes t p n place c e m b parent (Leaf new) of s.moved (batch_plain n place e b s.waiting s.moved) r
+    (leaf_received (at nodes) n place e m old new b.messages leaf got)
+    (push_change t p n place c e m b parent (Leaf new) [] s (fitted old new parent leaf got fits r))
 
 pub push_few : (n : Node) (place : ℕ) (e : Edge) (m : Node) (b : Batch) (next : ℕ) (parent low : Node) (made : List Node) → IsPushInto n place e m b next parent low made → length made ≤ 1
 push_few n place e m b next _ _ _ (received parent inner r) = omega arith
+push_few n place e m b next _ _ _ (fitted old new parent leaf got fits r) = omega arith
 
 pub push_named : (t : Table) (p : ℕ) (n : Node) (place c : ℕ) (e : Edge) (m : Node) (b : Batch) (parent low : Node) (made : List Node) → IsPushable t p n place c e m b → IsPushInto n place e m b t.next parent low made → 1 ≤ times parent c
 push_named t p n place c e m b _ _ _ s (received parent inner r) = relieved_names n place c e b.count parent s.split.own.shape s.split.way r
+push_named t p n place c e m b _ _ _ s (fitted old new parent leaf got fits r) = relieved_names n place c e b.count parent s.split.own.shape s.split.way r
 
 pub push_size : (n : Node) (place : ℕ) (e : Edge) (m : Node) (b : Batch) (next : ℕ) (parent low : Node) (made : List Node) → IsPushInto n place e m b next parent low made → buffer_size parent ≤ buffer_size n
 push_size n place e m b next _ _ _ (received parent inner r) = relieved_size n place e b.count parent r
+push_size n place e m b next _ _ _ (fitted old new parent leaf got fits r) = relieved_size n place e b.count parent r

@@ -1,19 +1,25 @@
 -- Messages that go down to a child.
-use Rattle.std.specs.Prelude.{◌≡◌, ℕ, ◌+◌, ◌<◌, ◌≤◌, List, [], ◌∷◌, length, drop, Some, slice_get}
+use Rattle.std.specs.Prelude.{◌≡◌, ℕ, ◌+◌, ◌<◌, ◌≤◌, List, [], ◌∷◌, length, drop, None, Some, slice_get}
 use Rattle.std.specs.List.{AllByRecursion}
-use Rattle.bd_limits.specs.Limits.{soft_limit}
+use Rattle.bd_limits.specs.Limits.{soft_limit, leaf_limit}
+use Rattle.bd_keys.specs.Keys.{IsLift}
 use Rattle.bd_message.specs.declared.message.Message.{Message}
 use Rattle.bd_node.specs.declared.node.Edge.{Edge}
+use Rattle.bd_node.specs.declared.node.Entry.{Entry}
 use Rattle.bd_node.specs.declared.node.Node.{Node}
+use Rattle.bd_node.specs.declared.node.Node.TheVariants.{Leaf}
 use Rattle.bd_node.specs.declared.node.Step.{Step}
 use Rattle.bd_node.specs.Nodes.{level_of, buffer_size, appended}
 use Rattle.bd_node.specs.Meaning.{Nodes}
+use Rattle.bd_node.specs.Shape.{IsLeaf}
+use Rattle.bd_node.specs.Private.{IsPrivate}
 use Rattle.bd_node.specs.Tables.{Table}
 use Rattle.bd_inner.specs.declared.batches.Batch.{Batch}
 use Rattle.bd_inner.specs.Compaction.{IsCompacted}
 use Rattle.bd_inner.specs.Halves.{edges_of, buffer_of}
 use Rattle.bd_inner.specs.Moving.{IsPlainFor, IsBatch}
-use Rattle.bd_inner.specs.Exchange.{exchanged, end_at, IsEdgeAt}
+use Rattle.bd_inner.specs.Exchange.{exchanged, end_at, IsEdgeAt, way_to}
+use Rattle.bd_leaf.specs.Leaves.{entries_size, IsReceived}
 use Rattle.bd_flush.specs.declared.fetching.Fetched.{Fetched}
 use Rattle.bd_flush.specs.declared.children.Parts.{Parts}
 use Rattle.bd_flush.specs.Children.{IsFetched, IsWayTo, child_step}
@@ -59,6 +65,21 @@ pub data IsPushInto (n : Node) (place : ℕ) (e : Edge) (m : Node) (b : Batch) (
     : Node → Node → List Node → Type 0 where
   received : (parent : Node) → 1 ≤ level_of m → IsRelieved n place e b.count parent
       → IsPushInto n place e m b next parent (appended m b.messages) []
+  fitted : (old new : List Entry) (parent : Node) → m ≡ Leaf old → IsReceived old b.messages new
+      → IsLeaf new → IsRelieved n place e b.count parent
+      → IsPushInto n place e m b next parent (Leaf new) []
+
+-- the child is a leaf that would have too many bytes
+pub record IsOverfull (n : Node) (place : ℕ) (m : Node) : Type 0 where
+  pub edge : Edge
+  pub here : IsEdgeAt n place edge
+  pub batch : Batch
+  pub moved : IsEdgeBatch n place edge batch
+  pub old : List Entry
+  pub new : List Entry
+  pub leaf : m ≡ Leaf old
+  pub got : IsReceived old batch.messages new
+  pub over : leaf_limit < entries_size new
 
 -- a node and its child after messages have gone down, and what is made
 pub record ArePushed (n : Node) (place : ℕ) (m : Node) (next : ℕ) (parts : Parts) : Type 0 where
@@ -96,3 +117,62 @@ pub record IsPushed (t : Table) (parent : Fetched) (place : ℕ) (child : Fetche
   pub child_is : new child.id ≡ Some half
   pub made_are : (i : ℕ) (m : Node) → slice_get made i ≡ Some m → new (t.next + i) ≡ Some m
   pub next : u.next ≡ t.next + length made
+
+-- ---- to a new leaf
+
+-- the step that changes a node and makes a leaf
+abbrev pub leaf_step : ℕ → ℕ → Node → List Entry → Step
+leaf_step root parent n entries =
+    record {
+      made = Leaf entries ∷ [];
+      changes = record { id = parent; node = n } ∷ [];
+      root = root;
+    }
+
+-- messages may go down from a node's edge without a child, as far as the table tells
+pub record CanPushNew (t : Table) (parent : Fetched) (place : ℕ) : Type 0 where
+  pub parent_is : IsFetched t parent
+  pub edge : Edge
+  pub here : IsEdgeAt parent.node.value place edge
+  pub bare : edge.child ≡ None
+  pub waiting : IsWaitedFor parent.node.value place edge
+
+-- the node is a private one
+pub record IsOwn (nodes : Nodes) (t : Table) (parent : Fetched) : Type 0 where
+  pub private : IsPrivate nodes t parent.id
+  pub there : nodes parent.id ≡ Some parent.node.value
+
+-- the edge's way to a new child, which leaves out all that its keys have in common
+abbrev pub IsWay : Node → ℕ → ℕ → Edge → Edge → Type 0
+IsWay n place child e f = (f ≡ way_to e f.lift child) × IsLift e.pivot (end_at n place) f.lift
+
+-- a node `n` after messages have gone down to a new leaf of its edge, and the leaf's entries
+pub record IsNewLeaf (n : Node) (place : ℕ) (e : Edge) (next : ℕ) (parent : Node)
+    (entries : List Entry) : Type 0 where
+  pub edge : Edge
+  pub way : IsWay n place next e edge
+  pub batch : Batch
+  pub moved : IsEdgeBatch n place edge batch
+  pub got : IsReceived [] batch.messages entries
+  pub relieved : IsRelieved n place edge batch.count parent
+
+-- the step of a push to a new leaf
+pub record IsNewStep (root next : ℕ) (parent : Fetched) (place : ℕ) (step : Step) : Type 0 where
+  pub edge : Edge
+  pub here : IsEdgeAt parent.node.value place edge
+  pub node : Node
+  pub entries : List Entry
+  pub into : IsNewLeaf parent.node.value place edge next node entries
+  pub is : step ≡ leaf_step root parent.id node entries
+
+-- messages have gone down to a new leaf
+pub record IsPushedNew (t : Table) (parent : Fetched) (place : ℕ) (new : Nodes) (u : Table) : Type 0
+  where
+    pub edge : Edge
+    pub here : IsEdgeAt parent.node.value place edge
+    pub node : Node
+    pub entries : List Entry
+    pub into : IsNewLeaf parent.node.value place edge t.next node entries
+    pub parent_is : new parent.id ≡ Some node
+    pub leaf_is : new t.next ≡ Some (Leaf entries)
+    pub next : u.next ≡ t.next + 1

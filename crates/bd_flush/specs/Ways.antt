@@ -1,5 +1,5 @@
 -- The way down that a step of a flush takes, and what is to be done at its end.
-use Rattle.std.specs.Prelude.{◌≡◌, ◌≢◌, ℕ, ◌+◌, ◌<◌, ◌≤◌, ◌⊎◌, true, List, [], length, drop, Option, None, Some, slice_get}
+use Rattle.std.specs.Prelude.{◌≡◌, ◌≢◌, ℕ, ◌<◌, ◌≤◌, ◌⊎◌, true, List, [], length, drop, Option, None, Some}
 use Rattle.std.specs.List.{AllByRecursion}
 use Rattle.bd_limits.specs.Limits.{soft_limit}
 use Rattle.bd_keys.specs.Keys.{InRange}
@@ -10,7 +10,7 @@ use Rattle.bd_node.specs.declared.node.Node.{Node}
 use Rattle.bd_node.specs.Nodes.{level_of, buffer_size}
 use Rattle.bd_node.specs.Meaning.{Nodes}
 use Rattle.bd_node.specs.Private.{IsPrivate}
-use Rattle.bd_node.specs.Tables.{Table, IsKept}
+use Rattle.bd_node.specs.Tables.{Table}
 use Rattle.bd_node.specs.Touching.{touches}
 use Rattle.bd_inner.specs.Halves.{edges_of, buffer_of}
 use Rattle.bd_inner.specs.Exchange.{end_at, IsEdgeAt}

@@ -1,52 +1,65 @@
 //! Messages go down from a node to its child.
 
-ghost use Rattle.std.specs.Prelude.{◌≡◌, ◌+◌, ◌^◌, ◌<◌, ◌≤◌, length, drop, IfOk, OnOk, OnErr};
+ghost use Rattle.std.specs.Prelude.{◌≡◌, ◌≢◌, ◌+◌, ◌^◌, ◌<◌, ◌≤◌, ◌∷◌, [], length, drop, IfOk, MatchOption, Ok};
 ghost use Rattle.bd_limits.specs.Limits.{soft_limit};
 ghost use Rattle.bd_message.specs.KeyMaps.{HasMapCause};
 ghost use Rattle.bd_node.specs.declared.node.Edge.{Edge};
+ghost use Rattle.bd_node.specs.declared.node.Node.TheVariants as kind;
 ghost use Rattle.bd_node.specs.Nodes.{level_of, buffer_size};
-ghost use Rattle.bd_node.specs.Shape.{IsShape};
+ghost use Rattle.bd_node.specs.Shape.{IsLeaf, IsShape};
 ghost use Rattle.bd_node.specs.Tables.{IsSound};
 ghost use Rattle.bd_inner.specs.Halves.{edges_of, buffer_of};
-ghost use Rattle.bd_inner.specs.Exchange.{IsEdgeAt};
+ghost use Rattle.bd_inner.specs.Moving.{IsLifted};
+ghost use Rattle.bd_inner.specs.Exchange.{end_at, IsEdgeAt, FitsAt};
 ghost use Rattle.bd_flush.specs.Flushed.{IsFlushed, IsWornFor};
 ghost use Rattle.bd_flush.specs.Children.{AreFamily, IsNoHigher};
-ghost use Rattle.bd_flush.specs.Pushes.{seen_by, unseen, CanPush, IsWaitedFor, IsEdgeBatch, IsRelieved, ArePushed, IsPushStep, IsPushed};
+ghost use Rattle.bd_flush.specs.Pushes.{seen_by, unseen, CanPush, IsWaitedFor, IsEdgeBatch, IsRelieved, IsOverfull, ArePushed, IsPushStep, IsPushed};
 
 use crate::Fetched;
 use crate::children::{Parts, child_step};
 use crate::nodes::edges_of;
 use bd_inner::{Batch, end_of, exchange, next_batch, receive};
+use bd_leaf as leaf;
 use bd_message::{MapFault, Message};
-use bd_node::{Edge, Items, Node, NodeStore, Step};
+use bd_node::{Edge, Entry, Items, Node, NodeStore, Step};
 use std::alloc::{AllocError, Global};
 
+/// What became of messages that were to go down to a child.
+#[derive(Clone, Copy, Debug, PartialEq, Eq)]
+pub enum ChildPush {
+    /// The child has them.
+    Done,
+    /// The child is a leaf that would have more than 40,960 bytes: nothing was changed.
+    Overfull,
+}
+
 /// Moves the oldest messages that a private node's edge hasn't seen, at least one and at most
-/// 16,384 bytes, to its child, an inner node in which at most 16,384 bytes wait. Both were fetched
-/// before. No other node names the child, and the edge at the place asks it with nothing in front
-/// of a key.
+/// 16,384 bytes, to its child, in which at most 16,384 bytes wait. Both were fetched before. No
+/// other node names the child, and the edge at the place asks it with nothing in front of a key.
 pub fn push<S: NodeStore>(
     alloc: Global,
     store: &mut S,
     parent: &Fetched,
     place: usize,
     child: &Fetched,
-) -> Result<(), MapFault>
+) -> Result<ChildPush, MapFault>
     requires can { CanPush (S.table store.old) parent.now place child.now }
-    requires inner { 1 ≤ level_of child.now.node.value }
     requires family { S.is_known store.old → IsSound (S.nodes store.old) (S.table store.old)
         → AreFamily (S.nodes store.old) (S.table store.old) parent.now child.now }
     ensures flushed { S.is_known store.old → IsSound (S.nodes store.old) (S.table store.old)
-        → OnOk result (IsFlushed (S.nodes store.old) (S.table store.old)
-        (S.nodes store.new) (S.table store.new)) }
+        → result ≡ Ok ChildPush.Done → IsFlushed (S.nodes store.old) (S.table store.old)
+        (S.nodes store.new) (S.table store.new) }
     ensures pushed { S.is_known store.old → IsSound (S.nodes store.old) (S.table store.old)
-        → OnOk result (IsPushed (S.table store.old) parent.now place child.now
-        (S.nodes store.new) (S.table store.new)) }
-    ensures table { OnOk result (IsNoHigher (S.table store.old) (S.table store.new)) }
+        → result ≡ Ok ChildPush.Done → IsPushed (S.table store.old) parent.now place child.now
+        (S.nodes store.new) (S.table store.new) }
+    ensures table { result ≡ Ok ChildPush.Done
+        → IsNoHigher (S.table store.old) (S.table store.new) }
+    ensures over { result ≡ Ok ChildPush.Overfull
+        → IsOverfull parent.now.node.value place child.now.node.value }
     ensures known { S.is_known store.old → S.is_known store.new }
-    ensures err_table { OnErr result (S.table store.new ≡ S.table store.old) }
-    ensures err_nodes { S.is_known store.old
-        → OnErr result (S.nodes store.new ≡ S.nodes store.old) }
+    ensures same_table { result ≢ Ok ChildPush.Done → S.table store.new ≡ S.table store.old }
+    ensures same_nodes { S.is_known store.old
+        → result ≢ Ok ChildPush.Done → S.nodes store.new ≡ S.nodes store.old }
     ensures few_visits { S.visit_count store.new ≤ S.visit_count store.old + 1 }
     ensures cause { HasMapCause (S.fault_count store.old) (S.fault_count store.new)
         (S.bad store.new) (IsWornFor (S.table store.old)) result }
@@ -54,11 +67,14 @@ pub fn push<S: NodeStore>(
 {
     let root = store.root();
     let next = store.next_id();
-    let step = push_step(alloc, root, next, parent, place, child)?;
-    store.commit(step)
+    let Some(step) = push_step(alloc, root, next, parent, place, child)? else {
+        return Ok(ChildPush::Overfull);
+    };
+    store.commit(step)?;
+    Ok(ChildPush::Done)
 }
 
-// The step of a push.
+// The step of a push, and none where the child would be too large.
 fn push_step(
     alloc: Global,
     root: u64,
@@ -66,23 +82,79 @@ fn push_step(
     parent: &Fetched,
     place: usize,
     child: &Fetched,
-) -> Result<Step, AllocError>
+) -> Result<Option<Step>, AllocError>
     requires shape { IsShape parent.now.node.value }
     requires child { IsShape child.now.node.value }
-    requires inner { 1 ≤ level_of child.now.node.value }
     requires soft { buffer_size child.now.node.value ≤ soft_limit }
     requires within { place < length (edges_of parent.now.node.value) }
     requires waiting { (e : Edge) → IsEdgeAt parent.now.node.value place e
         → IsWaitedFor parent.now.node.value place e }
-    ensures { IfOk result (λ step. IsPushStep root next parent.now place child.now step) }
+    ensures { IfOk result (λ found. MatchOption found
+        (IsOverfull parent.now.node.value place child.now.node.value)
+        (λ step. IsPushStep root next parent.now place child.now step)) }
 {
     let node: &Node = &parent.node;
     let below: &Node = &child.node;
-    let Parts { node, half, made } = received(alloc, node, place, below, next)?;
-    child_step(alloc, root, parent.id, node, child.id, half, made)
+    match pushed_below(alloc, node, place, below, next)? {
+        Some(Parts { node, half, made }) => Ok(Some(child_step(
+            alloc, root, parent.id, node, child.id, half, made,
+        )?)),
+        None => Ok(None),
+    }
 }
 
-// A node and its child after messages have gone down.
+// A node and its child after messages have gone down, and none where the child would be too large.
+fn pushed_below(
+    alloc: Global,
+    node: &Node,
+    place: usize,
+    child: &Node,
+    next: u64,
+) -> Result<Option<Parts>, AllocError>
+    requires shape { IsShape node.now }
+    requires child { IsShape child.now }
+    requires soft { buffer_size child.now ≤ soft_limit }
+    requires within { place < length (edges_of node.now) }
+    requires waiting { (e : Edge) → IsEdgeAt node.now place e → IsWaitedFor node.now place e }
+    ensures { IfOk result (λ found. MatchOption found (IsOverfull node.now place child.now)
+        (ArePushed node.now place child.now next)) }
+{
+    match child {
+        Node::Leaf(entries) => leaf_received(alloc, node, place, entries.as_slice(), next),
+        Node::Inner { .. } => Ok(Some(received(alloc, node, place, child, next)?)),
+    }
+}
+
+// The same of a child that is a leaf.
+fn leaf_received(
+    alloc: Global,
+    node: &Node,
+    place: usize,
+    entries: &[Entry],
+    next: u64,
+) -> Result<Option<Parts>, AllocError>
+    requires shape { IsShape node.now }
+    requires leaf { IsLeaf entries.now }
+    requires within { place < length (edges_of node.now) }
+    requires waiting { (e : Edge) → IsEdgeAt node.now place e → IsWaitedFor node.now place e }
+    ensures { IfOk result (λ found. MatchOption found
+        (IsOverfull node.now place (kind.Leaf entries.now))
+        (ArePushed node.now place (kind.Leaf entries.now) next)) }
+{
+    let batch = edge_batch(alloc, node, place)?;
+    let new = leaf::receive(alloc, entries, batch.messages.as_slice())?;
+    if !leaf::fits(new.as_slice()) {
+        return Ok(None);
+    }
+    let above = relieved(alloc, node, place, batch.count)?;
+    Ok(Some(Parts {
+        node: above,
+        half: Node::Leaf(new),
+        made: Vec::new(alloc),
+    }))
+}
+
+// The same of a child that is an inner node.
 fn received(
     alloc: Global,
     node: &Node,
@@ -116,8 +188,18 @@ fn edge_batch(alloc: Global, node: &Node, place: usize) -> Result<Batch, AllocEr
     ensures { IfOk result (λ b. (e : Edge) → IsEdgeAt node.now place e
         → IsEdgeBatch node.now place e b) }
 {
+    batch_for(alloc, node, place, &edges_of(node)[place])
+}
+
+// The messages that go down an edge in place of a node's.
+pub fn batch_for(alloc: Global, node: &Node, place: usize, edge: &Edge) -> Result<Batch, AllocError>
+    requires shape { IsShape node.now }
+    requires within { place < length (edges_of node.now) }
+    requires lifted { IsLifted edge.now (end_at node.now place) }
+    requires waiting { IsWaitedFor node.now place edge.now }
+    ensures { IfOk result (IsEdgeBatch node.now place edge.now) }
+{
     let edges = edges_of(node);
-    let edge = &edges[place];
     next_batch(alloc, edge, end_of(edges, place), unseen(node, edge))
 }
 
@@ -150,8 +232,26 @@ fn relieved(alloc: Global, node: &Node, place: usize, count: usize) -> Result<No
     ensures { IfOk result (λ n. (e : Edge) → IsEdgeAt node.now place e
         → IsRelieved node.now place e count n) }
 {
+    with_edge(alloc, node, place, &edges_of(node)[place], count)
+}
+
+// A copy of a node with an edge in place of one, after so many messages have gone down it.
+pub fn with_edge(
+    alloc: Global,
+    node: &Node,
+    place: usize,
+    edge: &Edge,
+    count: usize,
+) -> Result<Node, AllocError>
+    requires shape { IsShape node.now }
+    requires within { place < length (edges_of node.now) }
+    requires seen { edge.now.seen + count < 2 ^ 32 }
+    requires fits { (e : Edge) → IsEdgeAt node.now place e
+        → FitsAt node.now place e (seen_by edge.now count ∷ []) }
+    ensures { IfOk result (IsRelieved node.now place edge.now count) }
+{
     let mut list = Vec::new(alloc);
-    list.push(seen_by(&edges_of(node)[place], count)?)?;
+    list.push(seen_by(edge, count)?)?;
     exchange(alloc, node, place, Items::from_vec(list))
 }
 

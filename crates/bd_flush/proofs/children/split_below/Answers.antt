@@ -2,7 +2,7 @@ use Rattle.std.proofs.Common.{ℕ, List, [], ◌∷◌, ◌++◌, refl, ap, subs
 use Rattle.std.specs.Option.{option_copied}
 use Rattle.bd_node.specs.declared.node.Node.{Node}
 use Rattle.bd_flush.specs.declared.children.Side.TheVariants.{Lower, Both, Upper}
-use Rattle.bd_flush.specs.Children.{parting, IsSide}
+use Rattle.bd_flush.specs.Children.{IsSide}
 use Rattle.bd_flush.proofs.ChildSplits.{is_parting, edge_here, edge_lift, parting_long, parting_fits, parting_both, parting_lower, parting_upper}
 use Rattle.bd_flush.proofs.children.split_below.Goals as goal
 

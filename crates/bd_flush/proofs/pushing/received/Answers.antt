@@ -1,6 +1,6 @@
 use Rattle.std.proofs.Common.{◌≤◌, List, ◌∙◌, ap, sym, subst, arith}
 use Rattle.std.specs.List.{AllByRecursion, sum_by}
-use Rattle.bd_limits.specs.Limits.{batch_limit, soft_limit}
+use Rattle.bd_limits.specs.Limits.{batch_limit}
 use Rattle.bd_message.specs.declared.message.Message.{Message}
 use Rattle.bd_message.specs.Messages.{IsMessage, size}
 use Rattle.bd_node.specs.Nodes.{appended}

@@ -1,5 +1,4 @@
-use Rattle.std.proofs.Common.{arith, subst, ap, sym, ◌∙◌, ◌<◌, ◌≤◌, length}
-use Rattle.bd_node.specs.declared.node.Node.{Node}
+use Rattle.std.proofs.Common.{arith, ap, ◌∙◌, ◌<◌, ◌≤◌, length}
 use Rattle.bd_node.specs.declared.node.Edge.{Edge}
 use Rattle.std.proofs.Common.{List}
 use Rattle.bd_limits.specs.Limits.{soft_limit}

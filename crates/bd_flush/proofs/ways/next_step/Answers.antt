@@ -1,4 +1,4 @@
-use Rattle.std.proofs.Common.{ap, sym, ◌∙◌, ◌≡◌, ◌≤◌, ◌<◌, ◌+◌, length, arith, List, subst}
+use Rattle.std.proofs.Common.{ap, sym, ◌∙◌, length, arith, List}
 use Rattle.bd_node.specs.declared.node.Edge.{Edge}
 use Rattle.bd_inner.specs.Halves.{edges_of}
 use Rattle.bd_flush.proofs.Down.{root_there, root_inner, first_visit}
