@@ -22,7 +22,8 @@ use Rattle.bd_inner.specs.Exchange.{end_at, IsEdgeAt}
 use Rattle.bd_inner.proofs.Fitting.{own_shape}
 use Rattle.bd_flush.specs.declared.fetching.Fetched.{Fetched}
 use Rattle.bd_flush.specs.Children.{IsFetched, IsWayTo}
-use Rattle.bd_flush.specs.Ways.{IsFullestAt, IsOnWay, IsPlainFor, IsTarget, CanPush, IsNamed, IsNext, IsThere}
+use Rattle.bd_inner.specs.Moving.{IsPlainFor}
+use Rattle.bd_flush.specs.Ways.{IsFullestAt, IsOnWay, IsTarget, IsReadyToPush, IsNamed, IsNext, IsThere}
 use Rattle.bd_flush.specs.Ways.IsOnWay.{at_root, below}
 use Rattle.bd_flush.proofs.ChildSplits.{edge_here, child_named}
 
@@ -104,7 +105,7 @@ to_carve t parent n place child same goto fetched fullest e target =
     }
 
 pub to_push : (t : Table) (parent : Fetched) (n : Node) (place : ℕ) (child : Option Fetched) → n ≡ parent.node.value → ((d : Edge) → IsEdgeAt n place d → ArePlain n place d) → IsFetched t parent → length (edges_of parent.node.value) ≤ 14 → IsFullestAt parent.node.value place → (e : Edge)
-    → IsTarget t parent.node.value place e child → CanPush t parent place child
+    → IsTarget t parent.node.value place e child → IsReadyToPush t parent place child
 to_push t parent n place child same plain fetched room fullest e target = record {
   parent_is = fetched;
   room = room;

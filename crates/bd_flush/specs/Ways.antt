@@ -1,18 +1,15 @@
 -- The way down that a step of a flush takes, and what is to be done at its end.
-use Rattle.std.specs.Prelude.{◌≡◌, ◌≢◌, ℕ, ◌<◌, ◌≤◌, ◌⊎◌, true, List, [], length, drop, Option, None, Some}
+use Rattle.std.specs.Prelude.{◌≡◌, ◌≢◌, ℕ, ◌<◌, ◌≤◌, ◌⊎◌, [], length, drop, Option, None, Some}
 use Rattle.std.specs.List.{AllByRecursion}
 use Rattle.bd_limits.specs.Limits.{soft_limit}
-use Rattle.bd_keys.specs.Keys.{InRange}
-use Rattle.bd_message.specs.declared.message.Message.{Message}
-use Rattle.bd_message.specs.Messages.{IsPlain}
 use Rattle.bd_node.specs.declared.node.Edge.{Edge}
 use Rattle.bd_node.specs.declared.node.Node.{Node}
 use Rattle.bd_node.specs.Nodes.{level_of, buffer_size}
 use Rattle.bd_node.specs.Meaning.{Nodes}
 use Rattle.bd_node.specs.Private.{IsPrivate}
 use Rattle.bd_node.specs.Tables.{Table}
-use Rattle.bd_node.specs.Touching.{touches}
 use Rattle.bd_inner.specs.Halves.{edges_of, buffer_of}
+use Rattle.bd_inner.specs.Moving.{IsPlainFor}
 use Rattle.bd_inner.specs.Exchange.{end_at, IsEdgeAt}
 use Rattle.bd_flush.specs.declared.fetching.Fetched.{Fetched}
 use Rattle.bd_flush.specs.declared.ways.FlushStep.{FlushStep}
@@ -37,10 +34,6 @@ pub data IsOnWay (nodes : Nodes) (t : Table) : ℕ → Type 0 where
       → length (edges_of n) ≤ 14 → IsFullestAt n place → IsWayTo n place c e → t.count c ≡ 1
       → nodes c ≡ Some m → soft_limit < buffer_size m → IsOnWay nodes t c
 
--- the message is no Goto, or changes nothing at a key of the edge, whose keys end there
-abbrev pub IsPlainFor : Edge → Option (List ℕ) → Message → Type 0
-IsPlainFor e hi m = (k : List ℕ) → InRange e.pivot hi k → touches m k ≡ true → IsPlain m
-
 -- the child of an edge that asks nothing, or a private one with nothing in front of a key, in which
 -- no more than 16,384 bytes wait
 abbrev pub IsTarget : Table → Node → ℕ → Edge → Option Fetched → Type 0
@@ -50,7 +43,7 @@ IsTarget t n place e (Some child) =
     × (buffer_size child.node.value ≤ soft_limit)
 
 -- a node from whose fullest edge messages can be pushed to a child, or to a new leaf
-pub record CanPush (t : Table) (parent : Fetched) (place : ℕ) (child : Option Fetched) : Type 0
+pub record IsReadyToPush (t : Table) (parent : Fetched) (place : ℕ) (child : Option Fetched) : Type 0
   where
     pub parent_is : IsFetched t parent
     pub room : length (edges_of parent.node.value) ≤ 14
@@ -86,7 +79,7 @@ IsToDo t (SplitRoot root) =
 IsToDo t (SplitChild parent place child) =
     CanSplitChild t parent place child × IsFullestAt parent.node.value place
     × (soft_limit < buffer_size child.node.value)
-IsToDo t (Push parent place child) = CanPush t parent place child
+IsToDo t (Push parent place child) = IsReadyToPush t parent place child
 IsToDo t (Privatise parent place) = IsShared t parent place
 IsToDo t (Carve parent place) = IsNamed t parent place
 

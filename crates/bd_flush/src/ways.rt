@@ -13,7 +13,8 @@ ghost use Rattle.bd_node.specs.Tables.{Table, IsSound};
 ghost use Rattle.bd_inner.specs.Halves.{edges_of, buffer_of};
 ghost use Rattle.bd_inner.specs.Exchange.{end_at, IsEdgeAt};
 ghost use Rattle.bd_flush.specs.Children.{IsFetched, IsWayTo};
-ghost use Rattle.bd_flush.specs.Ways.{IsFullestAt, IsPlainFor, IsTarget, IsToDo, IsToDoAt, IsThere, IsChildThere, IsAsked, IsSeen, IsSeenAt};
+ghost use Rattle.bd_inner.specs.Moving.{IsPlainFor};
+ghost use Rattle.bd_flush.specs.Ways.{IsFullestAt, IsTarget, IsToDo, IsToDoAt, IsThere, IsChildThere, IsAsked, IsSeen, IsSeenAt};
 
 use crate::nodes::{buffer_of, buffer_size, edges_of};
 use crate::{Fetched, fetch, fullest};

@@ -1,7 +1,7 @@
 use Rattle.std.proofs.Common.{take}
 use Rattle.std.specs.Option.{option_copied}
 use Rattle.std.specs.List.{AllByRecursion}
-use Rattle.bd_flush.specs.Ways.{IsPlainFor}
+use Rattle.bd_inner.specs.Moving.{IsPlainFor}
 use Rattle.bd_flush.proofs.ways.are_plain.Given as goal
 
 abbrev pub invariant-loop-message : goal.invariant-loop-message
