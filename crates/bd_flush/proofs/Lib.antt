@@ -5,6 +5,7 @@ pub mod Givens
 pub mod Worn
 pub mod RootSplits
 pub mod ChildSteps
+pub mod PathSteps
 pub mod ChildSplits
 pub mod ChildCommits
 pub mod Pushed

@@ -2,5 +2,6 @@ pub mod Pending
 pub mod Flushed
 pub mod Splits
 pub mod Children
+pub mod Paths
 pub mod Pushes
 pub mod Ways
