@@ -1,5 +1,6 @@
 pub mod PendingSizes
 pub mod Abundance
+pub mod Waiting
 pub mod Each
 pub mod Givens
 pub mod Worn
