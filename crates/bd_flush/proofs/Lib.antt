@@ -11,6 +11,7 @@ pub mod ChildCommits
 pub mod Pushed
 pub mod PushCommits
 pub mod Batches
+pub mod LeafHalves
 pub mod LeafSteps
 pub mod LeafPushes
 pub mod LeafCommits
