@@ -6,6 +6,7 @@ pub mod Givens
 pub mod Worn
 pub mod RootSplits
 pub mod ChildSteps
+pub mod Raisings
 pub mod ChildSplits
 pub mod ChildCommits
 pub mod Pushed
