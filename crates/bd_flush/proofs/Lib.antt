@@ -1,11 +1,13 @@
 pub mod PendingSizes
 pub mod Abundance
+pub mod Waiting
 pub mod Each
 pub mod Givens
 pub mod Worn
 pub mod RootSplits
 pub mod ChildSteps
 pub mod PathSteps
+pub mod Raisings
 pub mod ChildSplits
 pub mod ChildCommits
 pub mod Pushed
