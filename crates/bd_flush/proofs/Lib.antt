@@ -9,6 +9,7 @@ pub mod ChildSteps
 pub mod PathSteps
 pub mod Raisings
 pub mod ChildSplits
+pub mod RisingSteps
 pub mod ChildCommits
 pub mod Pushed
 pub mod PushCommits

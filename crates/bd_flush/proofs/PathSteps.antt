@@ -59,11 +59,11 @@ pub record IsPathStep (t : Table) (c : ℕ) (h : Node) (uppers : List Change) (m
   pub uppers_are : AllByRecursion (IsUpper t (path_step t.root c h uppers made) c) uppers
   pub once : AreOnce uppers
 
-given_child : (t : Table) (c : ℕ) (h : Node) (uppers : List Change) (made : List Node) → c < t.next → given t.next (path_step t.root c h uppers made) c ≡ Some h
+pub given_child : (t : Table) (c : ℕ) (h : Node) (uppers : List Change) (made : List Node) → c < t.next → given t.next (path_step t.root c h uppers made) c ≡ Some h
 given_child t c h uppers made low =
     given-old t.next (path_step t.root c h uppers made) c low ∙ changed_at-same (record { id = c; node = h }) uppers c refl
 
-given_upper : (t : Table) (c : ℕ) (h : Node) (uppers : List Change) (made : List Node) (id : ℕ) → id < t.next → (id ≡ c → ⊥) → given t.next (path_step t.root c h uppers made) id ≡ changed_at uppers id
+pub given_upper : (t : Table) (c : ℕ) (h : Node) (uppers : List Change) (made : List Node) (id : ℕ) → id < t.next → (id ≡ c → ⊥) → given t.next (path_step t.root c h uppers made) id ≡ changed_at uppers id
 given_upper t c h uppers made id low other =
     given-old t.next (path_step t.root c h uppers made) id low ∙ changed_at-other (record { id = c; node = h }) uppers id other
 
@@ -80,12 +80,12 @@ each_change P t c h uppers made id n own each low e =
     changed_has P (record { id = c; node = h } ∷ uppers) id n (own, each) (sym (given-old t.next (path_step t.root c h uppers made) id low) ∙ e)
 
 -- levels rise by one at most
-abbrev RisesByOne : Table → Change → Type 0
+abbrev pub RisesByOne : Table → Change → Type 0
 RisesByOne t u = (t.level u.id ≤ level_of u.node) × (level_of u.node ≤ t.level u.id + 1)
 
-pub level_rises : (t : Table) (c : ℕ) (h : Node) (uppers : List Change) (made : List Node) → IsPathStep t c h uppers made → (id : ℕ) → id < t.next
+pub level_bound : (t : Table) (c : ℕ) (h : Node) (uppers : List Change) (made : List Node) → RisesByOne t (record { id = c; node = h }) → AllByRecursion (RisesByOne t) uppers → (id : ℕ) → id < t.next
     → (t.level id ≤ level_after t (path_step t.root c h uppers made) id) × (level_after t (path_step t.root c h uppers made) id ≤ t.level id + 1)
-level_rises t c h uppers made b id low =
+level_bound t c h uppers made own each id low =
     let step : Step = path_step t.root c h uppers made in
     by_given ((t.level id ≤ level_after t step id) × (level_after t step id ≤ t.level id + 1)) (given t.next step id)
     (λ none.
@@ -93,11 +93,15 @@ level_rises t c h uppers made b id low =
     (omega arith, omega arith))
     (λ n some.
     let e : level_after t step id ≡ level_of n = ap (λ (o : Option Node). level_or o (t.level id)) some in
-    let own : RisesByOne t (record { id = id; node = n }) =
-    each_change (RisesByOne t) t c h uppers made id n (b.low, b.high) (each_weaker (IsUpper t step c) (RisesByOne t) (λ u up. (up.low, up.high)) uppers b.uppers_are) low some in
+    let own : RisesByOne t (record { id = id; node = n }) = each_change (RisesByOne t) t c h uppers made id n own each low some in
     let least : t.level id ≤ level_of n = own.0 in
     let most : level_of n ≤ t.level id + 1 = own.1 in
     (omega arith, omega arith))
+
+level_rises : (t : Table) (c : ℕ) (h : Node) (uppers : List Change) (made : List Node) → IsPathStep t c h uppers made → (id : ℕ) → id < t.next
+    → (t.level id ≤ level_after t (path_step t.root c h uppers made) id) × (level_after t (path_step t.root c h uppers made) id ≤ t.level id + 1)
+level_rises t c h uppers made b id low =
+    level_bound t c h uppers made (b.low, b.high) (each_weaker (IsUpper t (path_step t.root c h uppers made) c) (RisesByOne t) (λ u up. (up.low, up.high)) uppers b.uppers_are) id low
 
 lower_apart : (t : Table) (level c x : ℕ) → level ≤ t.level c → IsLower t level x → x ≡ c → ⊥
 lower_apart t level c x under lower same =
