@@ -1,5 +1,6 @@
 pub mod PendingSizes
 pub mod Abundance
+pub mod Waiting
 pub mod Each
 pub mod Givens
 pub mod Worn
@@ -11,6 +12,7 @@ pub mod ChildCommits
 pub mod Pushed
 pub mod PushCommits
 pub mod Batches
+pub mod LeafHalves
 pub mod LeafSteps
 pub mod LeafPushes
 pub mod LeafCommits

@@ -16,7 +16,7 @@ ghost use Rattle.bd_flush.specs.Children.{IsFetched, IsWayTo};
 ghost use Rattle.bd_inner.specs.Moving.{IsPlainFor};
 ghost use Rattle.bd_flush.specs.declared.ways.FlushStep.TheVariants as step;
 ghost use Rattle.bd_flush.specs.Raising.{IsWayUp};
-ghost use Rattle.bd_flush.specs.Ways.{IsFullestAt, IsTarget, IsToDo, IsToDoAt, IsWayOf, IsWayThere, IsThere, AreThere, IsChildThere, IsAsked, IsSeen, IsSeenAt, IsWaySeen, IsWaySeenAt};
+ghost use Rattle.bd_flush.specs.Ways.{IsFullestAt, IsTarget, IsHigh, IsToDo, IsToDoAt, IsWayOf, IsWayThere, IsThere, AreThere, IsChildThere, IsAsked, IsSeen, IsSeenAt, IsWaySeen, IsWaySeenAt};
 
 use crate::nodes::{buffer_of, buffer_size, edges_of};
 use crate::{Fetched, Way, fetch, fullest};
@@ -121,6 +121,7 @@ fn look_from<S: NodeStore>(
     requires fetched { IsFetched (S.table store.old) parent }
     requires inner { 1 ≤ level_of parent.node.value }
     requires room { length (edges_of parent.node.value) ≤ 14 }
+    requires high { IsHigh (S.table store.old) parent }
     ensures seen { IfOk result (IsSeen (S.table store.old) parent) }
     ensures at { S.is_known store.old → IsSound (S.nodes store.old) (S.table store.old)
         → IsThere (S.nodes store.old) (S.table store.old) parent
@@ -164,7 +165,7 @@ fn look_below(
     requires within { place < length (edges_of parent.node.value) }
     ensures seen { (t : Table) → IsFetched t parent → length (edges_of parent.node.value) ≤ 14
         → IsFullestAt parent.node.value place → (e : Edge) → IsWayTo parent.node.value place child.id e
-        → IsFetched t child → t.count child.id ≡ 1 → IfOk result (IsSeen t parent) }
+        → IsFetched t child → t.count child.id ≡ 1 → IsHigh t parent → IfOk result (IsSeen t parent) }
     ensures at { (nodes : Nodes) (t : Table) → IsThere nodes t parent
         → length (edges_of parent.node.value) ≤ 14 → IsFullestAt parent.node.value place
         → (e : Edge) → IsWayTo parent.node.value place child.id e → t.count child.id ≡ 1
@@ -215,7 +216,7 @@ fn push_or_carve(
     requires within { place < length (edges_of parent.node.value) }
     ensures to_do { (t : Table) → IsFetched t parent → length (edges_of parent.node.value) ≤ 14
         → IsFullestAt parent.node.value place → (e : Edge)
-        → IsTarget t parent.node.value place e child → IsToDo t result }
+        → IsTarget t parent.node.value place e child → IsHigh t parent → IsToDo t result }
     ensures at { (nodes : Nodes) (t : Table) → IsThere nodes t parent → IsChildThere nodes child
         → IsToDoAt nodes t result }
     ensures way { (t : Table) → IsWayUp t parent.id (reverse above.items) → IsWayOf t result }
