@@ -30,7 +30,7 @@ use Rattle.bd_flush.specs.Flushed.LeadsTo.{through}
 use Rattle.bd_flush.specs.Children.{IsFetched, IsWayTo}
 use Rattle.bd_flush.specs.Paths.{path_step}
 use Rattle.bd_flush.specs.Raising.{raised, raise, IsWayUp, IsRising}
-use Rattle.bd_flush.specs.Raising.IsWayUp.{at_root, above}
+use Rattle.bd_flush.specs.Raising.IsWayUp.{top, one_up}
 use Rattle.bd_flush.specs.Raising.IsRising.{at_top, high_enough, rises}
 use Rattle.bd_inner.proofs.Compacting.{count_names}
 use Rattle.bd_flush.proofs.Raisings.{level_high}
@@ -75,10 +75,10 @@ pub record IsLink (t : Table) (x : ℕ) (f : Fetched) : Type 0 where
   pub once : t.count x ≡ 1
 
 pub way_link : (t : Table) (x : ℕ) (f : Fetched) (fs : List Fetched) → IsWayUp t x (f ∷ fs) → IsLink t x f × IsWayUp t f.id fs
-way_link t x f fs (above _ place _ e _ fetched way once up) = (record { place = place; edge = e; fetched = fetched; way = way; once = once }, up)
+way_link t x f fs (one_up _ place _ e _ fetched way once up) = (record { place = place; edge = e; fetched = fetched; way = way; once = once }, up)
 
 pub way_top : (t : Table) (x : ℕ) → IsWayUp t x [] → x ≡ t.root
-way_top t x at_root = refl
+way_top t x top = refl
 
 link_names : (t : Table) (x : ℕ) (f : Fetched) → IsLink t x f → 1 ≤ times f.node.value x
 link_names t x f link = child_named f.node.value link.place x link.edge link.fetched.own.shape link.way
