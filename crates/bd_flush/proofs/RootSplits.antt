@@ -144,7 +144,7 @@ times_first level pivot a b = omega (arith, count-cons_same a (b ∷ []))
 times_second : (level : ℕ) (pivot : List ℕ) (a b : ℕ) → 1 ≤ times (over_two level pivot a b) b
 times_second level pivot a b = omega (arith, count-cons_le a b (b ∷ []), count-cons_same b [])
 
-times_made : (level : ℕ) (pivot : List ℕ) (next id : ℕ) → next ≤ id → id < next + 2 → 1 ≤ times (over_two level pivot next (next + 1)) id
+pub times_made : (level : ℕ) (pivot : List ℕ) (next id : ℕ) → next ≤ id → id < next + 2 → 1 ≤ times (over_two level pivot next (next + 1)) id
 times_made level pivot next id high low =
     elim (cases_lt next id) [
       | inl later ↦ subst (λ (i : ℕ). 1 ≤ times (over_two level pivot next (next + 1)) i) (let z : next + 1 ≡ id = omega arith in z) (times_second level pivot next (next + 1))

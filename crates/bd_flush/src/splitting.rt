@@ -91,7 +91,7 @@ fn root_split(
 }
 
 // A node over two others, the second one with the keys from a pivot on.
-fn over_two(
+pub fn over_two(
     alloc: Global,
     level: u32,
     pivot: Bytes,
