@@ -4,7 +4,6 @@ pub mod Waiting
 pub mod Each
 pub mod Givens
 pub mod Worn
-pub mod RootSplits
 pub mod ChildSteps
 pub mod Raisings
 pub mod ChildSplits
@@ -18,3 +17,6 @@ pub mod LeafPushes
 pub mod LeafCommits
 pub mod NewWays
 pub mod Down
+pub mod Rising
+pub mod Over
+pub mod RootSplits

@@ -4,4 +4,5 @@ pub mod Splits
 pub mod Children
 pub mod Pushes
 pub mod Raising
+pub mod Between
 pub mod Ways
