@@ -1,5 +1,5 @@
 -- How many bytes are pending, message by message and edge by edge.
-use Rattle.std.proofs.Common.{◌≡◌, ℕ, zero, suc, ◌+◌, ◌<◌, ◌≤◌, ◌-◌, ◌==◌, true, List, [], ◌∷◌, length, take, drop, get_or, refl, sym, ap, subst, ◌∙◌, Option, arith, inl, inr, add-one}
+use Rattle.std.proofs.Common.{◌≡◌, ℕ, suc, ◌+◌, ◌<◌, ◌≤◌, ◌-◌, ◌==◌, true, List, [], ◌∷◌, length, take, drop, get_or, refl, sym, ap, subst, ◌∙◌, Option, arith, inl, inr, add-one}
 use Rattle.std.specs.List.{sum_by}
 use Rattle.std.proofs.lemmas.List.{drop_more, nil_from_length}
 use Rattle.std.proofs.lemmas.Bool.{eqb-true}
@@ -8,8 +8,7 @@ use Rattle.std.proofs.lemmas.List.Sums.{sum_by-cons}
 use Rattle.bd_message.specs.declared.message.Message.{Message}
 use Rattle.bd_message.specs.Messages.{size}
 use Rattle.bd_node.specs.declared.node.Edge.{Edge}
-use Rattle.bd_node.specs.Shape.{end_before, IsPending}
-use Rattle.bd_inner.specs.Moving.{SomeCanTouch}
+use Rattle.bd_node.specs.Shape.{end_before}
 use Rattle.bd_node.proofs.Lookup.{each_weaker}
 use Rattle.bd_flush.specs.Pending.{IsWaiting, IsPendingSize, ArePendingSizes, IsFullest}
 
@@ -116,37 +115,3 @@ pub later_fullest : (edges : List Edge) (buffer : List Message) (e : Edge) (hi :
 later_fullest edges buffer e hi n place bytes h other lt =
     subst (λ (es : List Edge). IsFullest es buffer (place + 1) bytes) (sym (parted edges e h.some h.first))
     (fullest_later e (others_of edges) buffer n place bytes (of_first edges buffer e hi n h) other lt)
-
--- ---- what is pending can go down
-
-pending_later : (e : Edge) (hi : Option (List ℕ)) (m : Message) (ms : List Message) (place gap : ℕ) → e.seen - place ≡ gap → SomeCanTouch e hi (drop (e.seen - (place + 1)) ms) → SomeCanTouch e hi (drop gap (m ∷ ms))
-pending_later e hi m ms place zero is h =
-    let none : e.seen - (place + 1) ≡ 0 = omega arith in
-    inr (subst (λ (n : ℕ). SomeCanTouch e hi (drop n ms)) none h)
-pending_later e hi m ms place (suc gap) is h =
-    let same : e.seen - (place + 1) ≡ gap = omega arith in
-    subst (λ (n : ℕ). SomeCanTouch e hi (drop n ms)) same h
-
-pending_now : (e : Edge) (hi : Option (List ℕ)) (m : Message) (ms : List Message) (place : ℕ) → IsPending place m e hi → SomeCanTouch e hi (drop (e.seen - place) (m ∷ ms))
-pending_now e hi m ms place h =
-    let seen : e.seen ≤ place = h.0 in
-    let none : 0 ≡ e.seen - place = omega arith in
-    subst (λ (n : ℕ). SomeCanTouch e hi (drop n (m ∷ ms))) none (inl h.1)
-
-pending_from : (e : Edge) (hi : Option (List ℕ)) (buffer : List Message) (place n : ℕ) → IsPendingSize e hi place buffer n → 1 ≤ n → SomeCanTouch e hi (drop (e.seen - place) buffer)
-pending_from e hi [] place n h some = absurd (let z : n ≡ 0 = h in omega arith)
-pending_from e hi (m ∷ ms) place n h some =
-    elim h.2 [
-      | inl here ↦ pending_now e hi m ms place here.0
-      | inr none ↦
-          let zero_own : h.0 ≡ 0 = none.1 in
-          let sum : n ≡ h.0 + h.1 = h.4 in
-          pending_later e hi m ms place (e.seen - place) refl (pending_from e hi ms (place + 1) h.1 h.3 (omega arith))
-    ]
-
--- where bytes are pending for an edge, a message that it hasn't seen can change what stands at one
--- of its keys
-pub pending_some : (e : Edge) (hi : Option (List ℕ)) (buffer : List Message) (n : ℕ) → IsPendingSize e hi 0 buffer n → 1 ≤ n → SomeCanTouch e hi (drop e.seen buffer)
-pending_some e hi buffer n h some =
-    let same : e.seen - 0 ≡ e.seen = omega arith in
-    subst (λ (i : ℕ). SomeCanTouch e hi (drop i buffer)) same (pending_from e hi buffer 0 n h some)
