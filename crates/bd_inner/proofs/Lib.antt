@@ -7,3 +7,6 @@ pub mod Stripped
 pub mod Moved
 pub mod Exchanged
 pub mod Fitting
+pub mod CarvingParts
+pub mod CarvingOwned
+pub mod Carved

@@ -3,3 +3,4 @@ pub mod Halves
 pub mod Stripping
 pub mod Moving
 pub mod Exchange
+pub mod Carving
