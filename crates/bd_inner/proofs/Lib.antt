@@ -6,3 +6,6 @@ pub mod Splitting
 pub mod Moved
 pub mod Exchanged
 pub mod Fitting
+pub mod CarvingParts
+pub mod CarvingOwned
+pub mod Carved
