@@ -1,5 +1,5 @@
 -- Messages that say alone what stands at all keys that begin with a prefix.
-use Rattle.std.proofs.Common.{◌≡◌, ℕ, zero, suc, ◌+◌, ◌<◌, ◌≤◌, true, false, List, [], ◌∷◌, ◌++◌, length, drop, refl, sym, ap, subst, ◌∙◌, Option, None, Some, inl, inr, arith, append_assoc, length-append}
+use Rattle.std.proofs.Common.{◌≡◌, ℕ, zero, suc, ◌<◌, ◌≤◌, true, false, List, [], ◌∷◌, ◌++◌, length, drop, refl, sym, ap, ◌∙◌, Option, None, Some, inl, inr, arith, append_assoc, length-append}
 use Rattle.std.specs.Prelude.{slice_get}
 use Rattle.std.specs.List.{AllByRecursion}
 use Rattle.std.proofs.lemmas.Bool.{cases_Bool, cond-true}
@@ -10,7 +10,7 @@ use Rattle.bd_message.specs.declared.message.Message.TheVariants.{Put, Del, Patc
 use Rattle.bd_message.specs.Messages.{IsMessage}
 use Rattle.bd_message.specs.Effect.{NodesAt, same_key, begins, rest, is_cut, act, acts}
 use Rattle.bd_message.proofs.Finds.{same_key-true, not_both}
-use Rattle.bd_node.specs.Touching.{touches, NoneTouches}
+use Rattle.bd_node.specs.Touching.{touches}
 use Rattle.bd_node.proofs.LawLemmas.{skipped}
 use Rattle.bd_query.proofs.Parts.{message_at}
 use Rattle.bd_resolve.specs.Following.{target_at, covers, covered, NoneCovers}
@@ -38,7 +38,7 @@ acts_cover below (n ∷ ms) (suc s) (suc j) m k c le there says old = acts_cover
 
 -- ---- prefixes that are too long to be stored
 
-too_long : (q k key : List ℕ) → length key ≤ key_limit → key_limit < length q → same_key (q ++ k) key ≡ false
+pub too_long : (q k key : List ℕ) → length key ≤ key_limit → key_limit < length q → same_key (q ++ k) key ≡ false
 too_long q k key short long = elim (cases_Bool (same_key (q ++ k) key)) [
   | inr other ↦ other
   | inl same ↦ absurd (omega (arith, ap (λ (l : List ℕ). length l) (same_key-true (q ++ k) key same), length-append q k))

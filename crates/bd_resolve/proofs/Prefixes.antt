@@ -1,12 +1,12 @@
 -- Keys that begin with a prefix, and what is left of them.
-use Rattle.std.proofs.Common.{◌≡◌, ℕ, zero, suc, ◌<◌, ◌≤◌, Bool, true, false, not, ◌&&◌, List, [], ◌∷◌, ◌++◌, length, refl, sym, ap, subst, ◌∙◌, inl, inr, arith, append_assoc, length-append, Less}
+use Rattle.std.proofs.Common.{◌≡◌, ℕ, ◌+◌, ◌<◌, ◌≤◌, Bool, true, false, not, List, [], ◌∷◌, ◌++◌, length, refl, sym, ap, subst, ◌∙◌, inl, inr, arith, append_assoc, length-append}
 use Rattle.std.specs.Ordering.{is_lt}
 use Rattle.std.proofs.lemmas.List.{append-nil}
 use Rattle.std.proofs.lemmas.Bool.{cases_Bool, cases_lt, and_parts, and_from}
 use Rattle.bd_keys.specs.Keys.{key_cmp, IsKey, IsAtLeast}
 use Rattle.bd_keys.proofs.Order.{IsKey-cons, IsKey-rest}
 use Rattle.bd_message.specs.Effect.{begins, rest, is_cut}
-use Rattle.bd_message.proofs.Finds.{begins-is, begins-append, not_both}
+use Rattle.bd_message.proofs.Finds.{begins-is, begins-append}
 use Rattle.bd_node.proofs.Edges.{lt_isnt, not_less_lt, not_below_itself}
 use Rattle.bd_inner.proofs.Touched.{cmp_after, joined_other, rest-append, least_nil}
 
@@ -90,14 +90,14 @@ no_bytes [] h = refl
 no_bytes (b ∷ l) h = absurd (omega arith)
 
 nothing_more : (p q : List ℕ) → begins p q ≡ true → (length q < length p → ⊥) → length (rest q p) ≤ 0
-nothing_more p q h no = elim (cases_lt (length q) (length p)) [
-  | inl more ↦ absurd (no more)
+nothing_more p q h ends = elim (cases_lt (length q) (length p)) [
+  | inl more ↦ absurd (ends more)
   | inr less ↦ omega (arith, length_rest q p h)
 ]
 
 pub same_side : (q k p : List ℕ) → (begins p q ≡ true → length q < length p → ⊥) → is_lt (key_cmp (q ++ k) p) ≡ is_lt (key_cmp q p)
-same_side q k p no = elim (cases_Bool (begins p q)) [
+same_side q k p ends = elim (cases_Bool (begins p q)) [
   | inr outside ↦ ap is_lt (joined_other q k p outside)
-  | inl inside ↦ (let none : rest q p ≡ [] = no_bytes (rest q p) (nothing_more p q inside (no inside)) in
+  | inl inside ↦ (let none : rest q p ≡ [] = no_bytes (rest q p) (nothing_more p q inside (ends inside)) in
       subst (λ (l : List ℕ). is_lt (key_cmp (q ++ k) l) ≡ is_lt (key_cmp q l)) (sym (begins-is p q inside)) (same_side_in q k (rest q p) none))
 ]

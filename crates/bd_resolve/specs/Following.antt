@@ -12,6 +12,7 @@ use Rattle.bd_node.specs.Nodes.{names, node_at}
 use Rattle.bd_node.specs.Shape.{EachEdge, SomeEdge}
 use Rattle.bd_node.specs.Tables.{Table, IsLower}
 use Rattle.bd_inner.specs.Halves.{buffer_of}
+use Rattle.bd_query.specs.Visits.{AreVisits}
 use Rattle.bd_resolve.specs.declared.following.Target.{Target}
 use Rattle.bd_resolve.specs.declared.following.Followed.{Followed}
 use Rattle.bd_resolve.specs.declared.following.Followed.TheVariants.{Here, Past}
@@ -152,3 +153,7 @@ IsThroughEdge e buffer q f = IsByCover buffer e.seen q f
 abbrev pub IsShort : Option Target → Type 0
 IsShort None = Unit {0}
 IsShort (Some target) = length target.source ≤ key_limit
+
+-- there was no visit, or there were at most so many
+abbrev pub AreNoneOr : ℕ → ℕ → ℕ → Type 0
+AreNoneOr most before after = (after ≡ before) ⊎ AreVisits 1 most before after

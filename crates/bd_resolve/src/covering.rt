@@ -15,8 +15,7 @@ pub fn covers(message: &Message, prefix: &[u8]) -> bool
     match message {
         Message::Put { .. } | Message::Del { .. } | Message::Patch { .. } => false,
         Message::Cut { prefix: own, from } => {
-            prefix.starts_with(own.as_slice())
-                && !prefix[own.len()..].cmp(from.as_slice()).is_lt()
+            prefix.starts_with(own.as_slice()) && !prefix[own.len()..].cmp(from.as_slice()).is_lt()
         }
         Message::Goto { prefix: own, .. } => prefix.starts_with(own.as_slice()),
     }
@@ -43,10 +42,8 @@ pub fn covered(
                 source,
             }))
         }
-        Message::Put { .. }
-        | Message::Del { .. }
-        | Message::Patch { .. }
-        | Message::Cut { .. } => Ok(None),
+        Message::Put { .. } | Message::Del { .. } | Message::Patch { .. } | Message::Cut { .. } =>
+            Ok(None),
     }
 }
 

@@ -180,4 +180,3 @@ fn is_within(key: &[u8], lo: &[u8], hi: Option<&[u8]>) -> bool
             None => true,
         }
 }
-

@@ -10,8 +10,7 @@ ghost use Rattle.bd_node.specs.Nodes.{node_at};
 ghost use Rattle.bd_node.specs.Meaning.{at};
 ghost use Rattle.bd_node.specs.Tables.{IsKept, IsSound};
 ghost use Rattle.bd_node.specs.Stores.{visited};
-ghost use Rattle.bd_query.specs.Visits.{AreVisits};
-ghost use Rattle.bd_resolve.specs.Following.{target_at, target_level, IsLowerTarget, IsShort};
+ghost use Rattle.bd_resolve.specs.Following.{target_at, target_level, IsLowerTarget, IsShort, AreNoneOr};
 
 use crate::following::{Followed, Target, follow};
 use bd_keys::Bytes;
@@ -44,7 +43,7 @@ pub fn resolve<S: NodeStore>(
     ensures read { S.reads store.old store.new }
     ensures cause { HasMapCause (S.fault_count store.old) (S.fault_count store.new)
         (S.bad store.new) NeverWorn result }
-    ensures visits { IfOk result (λ found. AreVisits 0
+    ensures visits { IfOk result (λ found. AreNoneOr
         ((S.table store.old).level child - target_level (S.table store.old) found)
         (S.visit_count store.old) (S.visit_count store.new)) }
     ensures few_visits { S.visit_count store.new

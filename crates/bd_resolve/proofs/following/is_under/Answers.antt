@@ -1,4 +1,3 @@
-use Rattle.std.proofs.Common.{sym, ◌∙◌}
 use Rattle.std.specs.Option.{option_copied}
 use Rattle.bd_resolve.proofs.Follows.{under_pivot, under_range}
 use Rattle.bd_resolve.proofs.following.is_under.Goals as goal
