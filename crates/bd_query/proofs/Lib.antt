@@ -1,3 +1,6 @@
 pub mod Parts
 pub mod Going
 pub mod Visited
+pub mod EndLemmas
+pub mod LeafLemmas
+pub mod StretchLemmas
