@@ -325,3 +325,10 @@ prefix_end_within prefix lo end past least h k below = ((h.below k).0 below).0
 pub prefix_end_begins : (prefix lo : List ℕ) (end past least : Option (List ℕ)) → IsPrefixEnd prefix lo end past least → (k : List ℕ) → IsKey k → InRange lo least k → Begins k prefix
 prefix_end_begins prefix lo end past least h k is_k within =
     h.range.only k is_k (least_trans k lo prefix within.0 (h.range.inside lo h.lo_is h.begins).0, ((h.below k).0 within.1).1)
+
+-- ---- what an end below says above, as it is computed
+
+pub raised_here : (p source e new : List ℕ) → Begins e source → new ≡ p ++ drop (length source) e → IsRaised p source (Some e) (Some new)
+raised_here p source e new begins is =
+    subst (λ (x : List ℕ). IsRaised p source (Some x) (Some new)) (sym (begins_split e source begins))
+    (subst (λ (y : List ℕ). IsRaised p source (Some (source ++ drop (length source) e)) (Some y)) (sym is) (same_rest (drop (length source) e)))

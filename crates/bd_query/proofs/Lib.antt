@@ -4,3 +4,4 @@ pub mod Visited
 pub mod EndLemmas
 pub mod LeafLemmas
 pub mod StretchLemmas
+pub mod TurnLemmas

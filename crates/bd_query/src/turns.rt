@@ -66,7 +66,8 @@ pub fn turn_at<S: NodeStore>(
         } => {
             let asked = joined(alloc, source.as_slice(), tail(key, lift))?;
             let turn = turn_at(alloc, store, child, asked.as_slice())?;
-            Ok(raised(alloc, turn, end, key, lift, source.as_slice())?)
+            let turn = raised(alloc, turn, end, key, lift, source.as_slice())?;
+            Ok(turn)
         }
     }
 }
@@ -111,25 +112,25 @@ fn raised(
     requires end { IsEnd key.now end_limit end }
     requires long { lift ≤ length key.now }
     requires few { lift ≤ key_limit }
-    ensures turn { IfOk result (λ new. (at child : At)
+    ensures turn { IfOk result (λ new. (most : ℕ)
+        → PassesTo (source.now ++ drop lift key.now) most turn → (at child : At)
         → IsAsked at child key.now end lift source.now
         → IsTurn child (source.now ++ drop lift key.now) turn → IsTurn at key.now new) }
-    ensures passes { IfOk result (λ new. (level lower : ℕ) → lower < level
-        → PassesTo (source.now ++ drop lift key.now) (way_limit lower) turn
-        → PassesTo key.now (way_limit level) new) }
+    ensures passes { IfOk result (λ new. (most : ℕ)
+        → PassesTo (source.now ++ drop lift key.now) most turn
+        → PassesTo key.now (end_limit + most) new) }
 {
     match turn {
         Turn::Found => Ok(Turn::Found),
         Turn::Passed { end: below } => {
             let below = end_above(alloc, below, key, lift, source)?;
-            Ok(Turn::Passed {
-                end: lesser(end, below),
-            })
+            let end = lesser(end, below);
+            Ok(Turn::Passed { end })
         }
     }
 }
 
-// Where the keys that a child is asked for as keys up to an end of its own end themselves.
+// Where the keys end whose translations, which a child is asked for, are below an end.
 fn end_above(
     alloc: Global,
     end: Option<Bytes>,
@@ -140,16 +141,18 @@ fn end_above(
     requires { lift ≤ length key.now }
     ensures end { IfOk result (λ new. (most : ℕ)
         → IsEnd (source.now ++ drop lift key.now) most end → IsEnd key.now (lift + most) new) }
-    ensures inside { IfOk result (λ new. (most : ℕ) → IsEnd (source.now ++ drop lift key.now) most end
-        → (k : List ℕ) → Begins k (take lift key.now) → InRange key.now new k
+    ensures inside { IfOk result (λ new. (most : ℕ)
+        → IsEnd (source.now ++ drop lift key.now) most end → (k : List ℕ)
+        → Begins k (take lift key.now) → InRange key.now new k
         → InRange (source.now ++ drop lift key.now) end (source.now ++ drop lift k)) }
 {
-    match end {
-        Some(end) if starts(end.as_slice(), source) => Ok(Some(joined(
-            alloc,
-            front(key, lift),
-            tail(end.as_slice(), source.len()),
-        )?)),
-        _ => Ok(None),
+    let Some(end) = end else {
+        return Ok(None);
+    };
+    if starts(end.as_slice(), source) {
+        let rest = tail(end.as_slice(), source.len());
+        Ok(Some(joined(alloc, front(key, lift), rest)?))
+    } else {
+        Ok(None)
     }
 }

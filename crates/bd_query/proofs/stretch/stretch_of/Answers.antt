@@ -2,6 +2,7 @@ use Rattle.std.proofs.Common.{◌≡◌, ℕ, ◌+◌, ◌≤◌, ◌++◌, sym,
 use Rattle.bd_message.specs.declared.message.Message.{Message}
 use Rattle.bd_message.specs.Effect.{NodesAt}
 use Rattle.bd_node.specs.declared.node.Edge.{Edge}
+use Rattle.bd_node.specs.declared.node.Entry.{Entry}
 use Rattle.bd_node.specs.declared.node.Node.{Node}
 use Rattle.bd_node.specs.declared.node.Node.TheVariants.{Leaf, Inner}
 use Rattle.bd_node.specs.Nodes.{node_at, names, edge_at, edge_names, message_names, entry_at}
@@ -39,7 +40,10 @@ through-requires-clause-end c =
     (placed_end c.in-Inner.level c.in-Inner.edges c.in-Inner.buffer c.args.key.now c.edge_place-place.result c.index-edges-place.result at_place)
 
 pub returns-in-Leaf-clause-stretch : goal.returns-in-Leaf-clause-stretch
-returns-in-Leaf-clause-stretch c = ?
+returns-in-Leaf-clause-stretch c =
+    if_ok _ _ c.among.result c.among.ensures.stretch (λ (s : Stretch) said below.
+    subst (λ (n : Node). IsStretch below (node_at below n) c.args.key.now s) (sym c.in-Leaf.is)
+    (subst (λ (es : List Entry). IsStretch below (entry_at es) c.args.key.now s) c.as_slice.ensures (said below)))
 
 pub returns-in_ok-end-in-Inner-clause-stretch : goal.returns-in_ok-end-in-Inner-clause-stretch
 returns-in_ok-end-in-Inner-clause-stretch c =
