@@ -5,3 +5,4 @@ pub mod EndLemmas
 pub mod LeafLemmas
 pub mod StretchLemmas
 pub mod TurnLemmas
+pub mod SearchLemmas

@@ -58,14 +58,14 @@ node_says nodes t id key s sound kept is_key said =
 -- ---- turns
 
 -- a child's turn, its end, and the end of the keys that it was asked for
-pub record IsRaisedTurn (key source : List ℕ) (lift most : ℕ) (end below raised least : Option (List ℕ)) : Type 0 where
+pub record IsRaisedTurn (key source : List ℕ) (lift most : ℕ) (end lower raised least : Option (List ℕ)) : Type 0 where
   pub own : IsEnd key end_limit end
   pub few : lift ≤ key_limit
-  pub below : IsEnd (source ++ drop lift key) most below
+  pub lower_end : IsEnd (source ++ drop lift key) most lower
   pub key_is : IsKey key
   pub source_is : IsKey source
   pub raised_end : IsEnd key (lift + most) raised
-  pub inside : (k : List ℕ) → Begins k (take lift key) → InRange key raised k → InRange (source ++ drop lift key) below (source ++ drop lift k)
+  pub inside : (k : List ℕ) → Begins k (take lift key) → InRange key raised k → InRange (source ++ drop lift key) lower (source ++ drop lift k)
   pub least_is : (k : List ℕ) → IsBelowEnd k least ↔ (IsBelowEnd k end × IsBelowEnd k raised)
   pub one : (least ≡ end) ⊎ (least ≡ raised)
 
