@@ -5,8 +5,10 @@ pub mod Each
 pub mod Givens
 pub mod Worn
 pub mod ChildSteps
+pub mod PathSteps
 pub mod Raisings
 pub mod ChildSplits
+pub mod RisingSteps
 pub mod ChildCommits
 pub mod Pushed
 pub mod PushCommits
