@@ -9,6 +9,8 @@ pub mod PathSteps
 pub mod Raisings
 pub mod ChildSplits
 pub mod RisingSteps
+pub mod RootSplits
+pub mod PutBetween
 pub mod ChildCommits
 pub mod Pushed
 pub mod PushCommits
@@ -19,6 +21,3 @@ pub mod LeafPushes
 pub mod LeafCommits
 pub mod NewWays
 pub mod Down
-pub mod Rising
-pub mod Over
-pub mod RootSplits

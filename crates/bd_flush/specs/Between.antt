@@ -6,31 +6,29 @@ use Rattle.bd_node.specs.declared.node.Step.{Step}
 use Rattle.bd_node.specs.Nodes.{level_of}
 use Rattle.bd_node.specs.Meaning.{Nodes}
 use Rattle.bd_node.specs.Tables.{Table}
-use Rattle.bd_inner.specs.Halves.{AreHalves}
 use Rattle.bd_flush.specs.declared.fetching.Fetched.{Fetched}
-use Rattle.bd_flush.specs.Splits.{over_step, IsOverHalves}
+use Rattle.bd_flush.specs.Splits.{over_two, over_step}
 use Rattle.bd_flush.specs.Raising.{raised, raise, IsRising}
 
 -- the step that puts a child between its parent and its halves: the nodes of the way above it, the
 -- nearest first, rise where they must
-pub record IsBetweenStep (root next : ℕ) (way : List Fetched) (child : Fetched) (step : Step) : Type 0
-  where
-    pub first : Node
-    pub pivot : List ℕ
-    pub second : Node
-    pub halves : AreHalves child.node.value first pivot second
-    pub rising : List Fetched
-    pub rise : IsRising (level_of child.node.value + 1) way rising
-    pub is : step ≡ over_step root next child.id (level_of child.node.value) first pivot second
-        (map raise rising)
-
--- the child stands between its parent and its halves, which are made; the nodes of the way above it,
--- the nearest first, have risen where they must, and are else as they were
-pub record IsBetween (t : Table) (way : List Fetched) (child : Fetched) (new : Nodes) (u : Table)
-    : Type 0 where
+pub record IsBetweenStep (root next : ℕ) (way : List Fetched) (child : Fetched) (first : Node)
+    (pivot : List ℕ) (second : Node) (step : Step) : Type 0 where
   pub rising : List Fetched
   pub rise : IsRising (level_of child.node.value + 1) way rising
-  pub over : IsOverHalves t child.id child.node.value new
+  pub is : step ≡ over_step root next child.id (level_of child.node.value) first pivot second
+      (map raise rising)
+
+-- the child stands between its parent and these halves, which are made; the nodes of the way above
+-- it, the nearest first, have risen where they must, and are else as they were
+pub record IsBetween (t : Table) (way : List Fetched) (child : Fetched) (first : Node)
+    (pivot : List ℕ) (second : Node) (new : Nodes) (u : Table) : Type 0 where
+  pub rising : List Fetched
+  pub rise : IsRising (level_of child.node.value + 1) way rising
+  pub top : new child.id
+      ≡ Some (over_two (level_of child.node.value + 1) pivot t.next (t.next + 1))
+  pub lower : new t.next ≡ Some first
+  pub upper : new (t.next + 1) ≡ Some second
   pub risen : AllByRecursion (λ (f : Fetched). new f.id ≡ Some (raised f.node.value)) rising
   pub next : u.next ≡ t.next + 2
 

@@ -1,8 +1,8 @@
 pub mod Pending
 pub mod Flushed
+pub mod Paths
 pub mod Splits
 pub mod Children
-pub mod Paths
 pub mod Pushes
 pub mod Raising
 pub mod Between

@@ -9,6 +9,7 @@ use Rattle.bd_node.specs.Nodes.{level_of}
 use Rattle.bd_node.specs.Meaning.{Nodes}
 use Rattle.bd_node.specs.Tables.{Table}
 use Rattle.bd_inner.specs.Halves.{AreHalves}
+use Rattle.bd_flush.specs.Paths.{path_step}
 
 -- an edge to a child that is asked at the same key, over an empty buffer
 abbrev pub plain_edge : List ℕ → ℕ → Edge
@@ -23,11 +24,7 @@ over_two level pivot first second =
 -- the step that puts a node above its halves, which are made, and makes other changes
 abbrev pub over_step : ℕ → ℕ → ℕ → ℕ → Node → List ℕ → Node → List Change → Step
 over_step root next id level first pivot second others =
-    record {
-      made = first ∷ second ∷ [];
-      changes = record { id = id; node = over_two (level + 1) pivot next (next + 1) } ∷ others;
-      root = root;
-    }
+    path_step root id (over_two (level + 1) pivot next (next + 1)) others (first ∷ second ∷ [])
 
 -- the step that puts the root above its halves
 abbrev pub root_split : ℕ → ℕ → ℕ → Node → List ℕ → Node → Step
@@ -42,19 +39,15 @@ pub record IsRootSplit (root next : ℕ) (n : Node) (step : Step) : Type 0 where
   pub halves : AreHalves n first pivot second
   pub is : step ≡ root_split root next (level_of n) first pivot second
 
--- the node of an id stands above the two halves of the node `n` that it was
-pub record IsOverHalves (t : Table) (id : ℕ) (n : Node) (new : Nodes) : Type 0 where
+-- the root stands above the two halves of the node that it was
+pub record IsSplitRoot (t : Table) (n : Node) (new : Nodes) : Type 0 where
   pub first : Node
   pub pivot : List ℕ
   pub second : Node
   pub halves : AreHalves n first pivot second
-  pub top : new id ≡ Some (over_two (level_of n + 1) pivot t.next (t.next + 1))
+  pub top : new t.root ≡ Some (over_two (level_of n + 1) pivot t.next (t.next + 1))
   pub lower : new t.next ≡ Some first
   pub upper : new (t.next + 1) ≡ Some second
-
--- the root stands above the two halves of the node that it was
-abbrev pub IsSplitRoot : Table → Node → Nodes → Type 0
-IsSplitRoot t n new = IsOverHalves t t.root n new
 
 -- the root is one level higher, nothing waits in it, and two nodes are made
 pub record IsRaised (t u : Table) : Type 0 where

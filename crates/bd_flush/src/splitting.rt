@@ -90,8 +90,8 @@ fn root_split(
     })
 }
 
-// A node over two others, the second one with the keys from a pivot on.
-fn over_two(
+/// A node over two others, the second one with the keys from a pivot on.
+pub fn over_two(
     alloc: Global,
     level: u32,
     pivot: Bytes,
