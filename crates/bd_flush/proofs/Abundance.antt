@@ -80,12 +80,23 @@ few (n ∷ ns) most (suc k) h le =
     let rest : total ns ≤ k * most = few ns most k h.1 (omega arith) in
     omega arith
 
-pub abundant : (level : ℕ) (edges : List Edge) (buffer : List Message) → IsInner level edges buffer → soft_limit < sum_by size buffer → (place bytes : ℕ) → IsFullest edges buffer place bytes → abundant_limit ≤ bytes
-abundant level edges buffer inner high place bytes h =
+-- all that waits in a node is at most 16 times what is pending for the fullest edge
+pub most_waits : (level : ℕ) (edges : List Edge) (buffer : List Message) → IsInner level edges buffer → (place bytes : ℕ) → IsFullest edges buffer place bytes → sum_by size buffer ≤ 16 * bytes
+most_waits level edges buffer inner place bytes h =
     let sizes : AreSizes 0 buffer edges h.sizes = are_sizes buffer edges h.sizes h.each in
     let all : sum_by size buffer ≤ total h.sizes = whole edges buffer 0 h.sizes sizes
     (λ i m there. subst (λ (j : ℕ). SomeEdge (IsPending j m) edges) (let z : i ≡ 0 + i = omega arith in z) (inner.pending i m there)) in
     let long : length h.sizes ≡ length edges = sizes_length 0 buffer edges h.sizes sizes in
     let sixteen : length edges ≤ edge_limit = inner.few in
     let most : total h.sizes ≤ 16 * bytes = few h.sizes bytes 16 h.greatest.most (omega arith) in
+    omega arith
+
+pub abundant : (level : ℕ) (edges : List Edge) (buffer : List Message) → IsInner level edges buffer → soft_limit < sum_by size buffer → (place bytes : ℕ) → IsFullest edges buffer place bytes → abundant_limit ≤ bytes
+abundant level edges buffer inner high place bytes h =
+    let most : sum_by size buffer ≤ 16 * bytes = most_waits level edges buffer inner place bytes h in
+    omega arith
+
+pub some_bytes : (level : ℕ) (edges : List Edge) (buffer : List Message) → IsInner level edges buffer → 1 ≤ sum_by size buffer → (place bytes : ℕ) → IsFullest edges buffer place bytes → 1 ≤ bytes
+some_bytes level edges buffer inner some place bytes h =
+    let most : sum_by size buffer ≤ 16 * bytes = most_waits level edges buffer inner place bytes h in
     omega arith

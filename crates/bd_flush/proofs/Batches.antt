@@ -1,6 +1,6 @@
 -- What of a node's messages goes down an edge.
-use Rattle.std.proofs.Common.{◌≡◌, ℕ, zero, suc, ◌+◌, ◌^◌, ◌<◌, ◌≤◌, List, [], ◌∷◌, length, take, drop, refl, sym, ap, subst, ◌∙◌, Option, Some, arith, get_or, inl, inr, length-drop, Result, Ok, Err}
-use Rattle.std.specs.Prelude.{slice_get, IfOk}
+use Rattle.std.proofs.Common.{◌≡◌, ℕ, zero, suc, ◌+◌, ◌^◌, ◌<◌, ◌≤◌, List, [], ◌∷◌, length, take, drop, refl, sym, ap, subst, ◌∙◌, Option, None, Some, arith, get_or, inl, inr, length-drop, Result, Ok, Err}
+use Rattle.std.specs.Prelude.{slice_get, IfOk, MatchOption}
 use Rattle.std.specs.List.{AllByRecursion, All, sum_by}
 use Rattle.std.proofs.lemmas.List.Elements.{All-from_recursion}
 use Rattle.std.proofs.lemmas.Bool.{cases_lt}
@@ -16,16 +16,19 @@ use Rattle.bd_node.specs.declared.node.Node.TheVariants.{Leaf, Inner}
 use Rattle.bd_node.specs.Nodes.{level_of, appended}
 use Rattle.bd_node.specs.Shape.{end_before, IsLeaf, IsShape}
 use Rattle.bd_inner.specs.declared.batches.Batch.{Batch}
-use Rattle.bd_inner.specs.Halves.{edges_of, buffer_of}
+use Rattle.bd_inner.specs.Halves.{edges_of, buffer_of, AreHalves}
 use Rattle.bd_inner.specs.Moving.{IsBatch}
-use Rattle.bd_inner.specs.Exchange.{end_at, IsEdgeAt, FitsAt}
+use Rattle.bd_inner.specs.Compaction.{IsCompacted}
+use Rattle.bd_inner.specs.Exchange.{exchanged, end_at, IsEdgeAt, FitsAt}
 use Rattle.bd_inner.proofs.Splitting.{few_wait}
+use Rattle.bd_inner.proofs.Fitting.{seen_fits}
 use Rattle.bd_leaf.specs.Leaves.{entries_size, IsReceived}
 use Rattle.bd_flush.specs.declared.children.Parts.{Parts}
-use Rattle.bd_flush.specs.Pushes.{seen_by, unseen, IsWaitedFor, IsEdgeBatch, IsRelieved, IsPushInto, IsOverfull, ArePushed}
-use Rattle.bd_flush.specs.Pushes.IsPushInto.{received, fitted}
-use Rattle.bd_flush.proofs.ChildSplits.{edge_here}
-use Rattle.bd_flush.proofs.Pushed.{relieved_fits, batch_plain}
+use Rattle.bd_flush.specs.Pushes.{seen_by, unseen, IsWaitedFor, IsEdgeBatch, IsRelieved, IsPushInto, IsLongPush, ArePushed}
+use Rattle.bd_flush.specs.Pushes.IsPushInto.{received, fitted, split}
+use Rattle.bd_flush.specs.Children.{IsSplitInto, IsLongIn, IsLongPivot}
+use Rattle.bd_flush.proofs.ChildSplits.{some_edge, edge_here, fits_here}
+use Rattle.bd_flush.proofs.Pushed.{batch_plain}
 
 -- ---- a node's messages
 
@@ -97,22 +100,16 @@ seen_small n place e es count shape same low read there =
     let few : length (buffer_of n) ≤ 2048 = few_messages n shape in
     omega arith
 
-pub same_fits : (n : Node) (place : ℕ) (e : Edge) (count : ℕ) → IsShape n → IsEdgeAt n place e → ((d : Edge) → IsEdgeAt n place d → d.seen + count ≤ length (buffer_of n)) → (d : Edge) → IsEdgeAt n place d → FitsAt n place d (seen_by e count ∷ [])
-same_fits n place e count shape here low d there =
-    subst (λ (x : Edge). FitsAt n place x (seen_by e count ∷ [])) (same_Some e d (sym here ∙ there)) (relieved_fits n place e count shape here (low e here))
+pub same_fits : (n : Node) (place : ℕ) (e f : Edge) (count : ℕ) → IsShape n → IsEdgeAt n place e → ((d : Edge) → IsEdgeAt n place d → d.seen + count ≤ length (buffer_of n)) → f ≡ seen_by e count → (d : Edge) → IsEdgeAt n place d → FitsAt n place d (f ∷ [])
+same_fits n place e f count shape here low is =
+    subst (λ (g : Edge). (d : Edge) → IsEdgeAt n place d → FitsAt n place d (g ∷ [])) (sym is)
+    (fits_here n place e (seen_by e count ∷ []) (seen_fits n place e (e.seen + count) shape here (low e here)))
 
-pub on_relieved : {E : Type 0} (n : Node) (place : ℕ) (e : Edge) (count : ℕ) (r : Result Node E) → IsEdgeAt n place e → IfOk r (IsRelieved n place e count) → IfOk r (λ m. (d : Edge) → IsEdgeAt n place d → IsRelieved n place d count m)
-on_relieved n place e count (Ok m) here is = λ d there. subst (λ (x : Edge). IsRelieved n place x count m) (same_Some e d (sym here ∙ there)) is
-on_relieved n place e count (Err x) here is = tt
-
-at_of : (es : List Edge) (place : ℕ) → place < length es → (e : Edge) × (slice_get es place ≡ Some e)
-at_of [] place low = absurd (omega arith)
-at_of (e ∷ es) zero low = (e, refl)
-at_of (e ∷ es) (suc place) low = at_of es place (omega arith)
-
--- the node's edge at a place
-pub some_edge : (n : Node) (place : ℕ) → place < length (edges_of n) → (e : Edge) × IsEdgeAt n place e
-some_edge n place low = at_of (edges_of n) place low
+pub on_relieved : {E : Type 0} (n : Node) (place : ℕ) (e f : Edge) (count : ℕ) (r : Result Node E) → IsEdgeAt n place e → f ≡ seen_by e count → IfOk r (IsCompacted (exchanged n place (f ∷ []))) → IfOk r (λ m. (d : Edge) → IsEdgeAt n place d → IsRelieved n place d count m)
+on_relieved n place e f count (Ok m) here same is = λ d there.
+    subst (λ (x : Edge). IsRelieved n place x count m) (same_Some e d (sym here ∙ there))
+    (subst (λ (x : Edge). IsCompacted (exchanged n place (x ∷ [])) m) same is)
+on_relieved n place e f count (Err x) here same is = tt
 
 -- the batch's messages, and the room for them
 pub batch_messages : (n : Node) (place : ℕ) (b : Batch) → place < length (edges_of n) → ((e : Edge) → IsEdgeAt n place e → IsEdgeBatch n place e b) → AllByRecursion IsMessage b.messages
@@ -155,8 +152,44 @@ pub record IsLeafBatch (n : Node) (place : ℕ) (b : Batch) (old new : List Entr
 pub is_leaf_batch : (n : Node) (place : ℕ) (b : Batch) (old new : List Entry) (list : List Message) → place < length (edges_of n) → ((e : Edge) → IsEdgeAt n place e → IsEdgeBatch n place e b) → list ≡ b.messages → IsReceived old list new → IsLeafBatch n place b old new
 is_leaf_batch n place b old new list low batch is got = record { low = low; batch = batch; got = subst (λ (l : List Message). IsReceived old l new) is got }
 
-pub is_overfull : (n : Node) (place : ℕ) (b : Batch) (old new shown : List Entry) → IsLeafBatch n place b old new → shown ≡ new → (entries_size shown ≤ leaf_limit → ⊥) → IsOverfull n place (Leaf old)
-is_overfull n place b old new shown h same over =
+pub more_than_fits : (new shown : List Entry) → shown ≡ new → (entries_size shown ≤ leaf_limit → ⊥) → leaf_limit < entries_size new
+more_than_fits new shown same over =
+    elim (cases_lt leaf_limit (entries_size new)) [
+      | inl more ↦ more
+      | inr fits ↦ absurd (over (omega (arith, fits, ap entries_size same)))
+    ]
+
+-- what a batch leaves of a leaf is little more than one
+pub leaf_room : (n : Node) (place : ℕ) (b : Batch) (old new : List Entry) → IsLeaf old → IsLeafBatch n place b old new → entries_size new ≤ leaf_limit + batch_limit
+leaf_room n place b old new leaf h =
+    let fits : sum_by size b.messages ≤ batch_limit = batch_fits n place b h.low h.batch in
+    let own : entries_size old ≤ leaf_limit = leaf.size in
+    let more : entries_size new ≤ entries_size old + sum_by size b.messages = h.got.size in
+    omega arith
+
+-- the halves in place of the leaf
+pub on_parted : {E : Type 0} (n : Node) (place count next : ℕ) (e f : Edge) (new : List Entry) (first : Node) (pivot : List ℕ) (second : Node) (r : Result (Option Parts) E) → IsEdgeAt n place e → f ≡ seen_by e count → AreHalves (Leaf new) first pivot second
+    → IfOk r (λ found. MatchOption found (IsLongIn n place f pivot) (λ parts. (m : Node) → AreHalves m first pivot second → IsSplitInto n place f m next parts.node parts.half parts.made.items))
+    → IfOk r (λ found. MatchOption found (IsLongPivot n place (Leaf new)) (λ parts. (d : Edge) → IsEdgeAt n place d → IsSplitInto n place (seen_by d count) (Leaf new) next parts.node parts.half parts.made.items))
+on_parted n place count next e f new first pivot second (Err x) here same halves is = tt
+on_parted n place count next e f new first pivot second (Ok None) here same halves is = record {
+  edge = e;
+  here = here;
+  first = first;
+  pivot = pivot;
+  second = second;
+  halves = halves;
+  long = subst (λ (g : Edge). IsLongIn n place g pivot) same is;
+}
+on_parted n place count next e f new first pivot second (Ok (Some parts)) here same halves is = λ d there.
+    subst (λ (x : Edge). IsSplitInto n place (seen_by x count) (Leaf new) next parts.node parts.half parts.made.items) (same_Some e d (sym here ∙ there))
+    (subst (λ (g : Edge). IsSplitInto n place g (Leaf new) next parts.node parts.half parts.made.items) same (is (Leaf new) halves))
+
+pub on_split : {E : Type 0} (n : Node) (place next : ℕ) (b : Batch) (old new : List Entry) (r : Result (Option Parts) E) → IsLeafBatch n place b old new → leaf_limit < entries_size new
+    → IfOk r (λ found. MatchOption found (IsLongPivot n place (Leaf new)) (λ parts. (d : Edge) → IsEdgeAt n place d → IsSplitInto n place (seen_by d b.count) (Leaf new) next parts.node parts.half parts.made.items))
+    → IfOk r (λ found. MatchOption found (IsLongPush n place (Leaf old)) (ArePushed n place (Leaf old) next))
+on_split n place next b old new (Err x) h over is = tt
+on_split n place next b old new (Ok None) h over is =
     let found = some_edge n place h.low in
     record {
       edge = found.0;
@@ -167,10 +200,17 @@ is_overfull n place b old new shown h same over =
       new = new;
       leaf = refl;
       got = h.got;
-      over = elim (cases_lt leaf_limit (entries_size new)) [
-        | inl more ↦ more
-        | inr fits ↦ absurd (over (omega (arith, fits, ap entries_size same)))
-      ];
+      over = over;
+      long = is;
+    }
+on_split n place next b old new (Ok (Some parts)) h over is =
+    let found = some_edge n place h.low in
+    record {
+      edge = found.0;
+      here = found.1;
+      batch = b;
+      moved = h.batch found.0 found.1;
+      into = split old new parts.node parts.half parts.made.items refl h.got over (is found.0 found.1);
     }
 
 pub are_fitted : (n : Node) (place next : ℕ) (b : Batch) (old new shown : List Entry) (parts : Parts) → IsLeafBatch n place b old new → shown ≡ new → entries_size shown ≤ leaf_limit → ((e : Edge) → IsEdgeAt n place e → IsRelieved n place e b.count parts.node)

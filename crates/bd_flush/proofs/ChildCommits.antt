@@ -1,5 +1,5 @@
 -- The commit of a child's split.
-use Rattle.std.proofs.Common.{◌≡◌, ℕ, ◌+◌, ◌^◌, ◌<◌, ◌≤◌, length, sym, ap, subst, ◌∙◌, arith, Err}
+use Rattle.std.proofs.Common.{◌≡◌, ℕ, ◌+◌, ◌^◌, ◌<◌, ◌≤◌, length, refl, sym, ap, subst, ◌∙◌, arith, Err}
 use Rattle.std.proofs.lemmas.Option.{same_Some}
 use Rattle.bd_message.specs.declared.fault.MapFault.{MapFault}
 use Rattle.bd_message.specs.KeyMaps.{HasMapCause}
@@ -15,7 +15,8 @@ use Rattle.bd_flush.specs.Flushed.{IsFlushed, IsWornFor}
 use Rattle.bd_flush.specs.Children.{IsWayTo, CanSplitChild, AreFamily, IsChildStep, IsSplitChild, IsNoHigher}
 use Rattle.bd_flush.proofs.Worn.{cause_weaker}
 use Rattle.bd_flush.proofs.ChildSteps.{IsChildChange, IsChildChangeOf, IsChildChanged, below_step, below_in_place, child_flushed, parent_is, child_is, made_are, no_higher, child_worn}
-use Rattle.bd_flush.proofs.ChildSplits.{IsSplittable, split_change, split_change_of, split_few, split_named, split_size}
+use Rattle.bd_inner.proofs.Fitting.{own_shape}
+use Rattle.bd_flush.proofs.ChildSplits.{at_child, IsSplittable, split_change, split_change_of, split_few, split_named, split_size}
 
 -- a child to split, and the step
 pub record IsToSplitChild (t : Table) (parent : Fetched) (place : ℕ) (child : Fetched) (step : Step) : Type 0 where
@@ -33,26 +34,28 @@ is_to_split_child t parent place child step root next table can same_root same_n
   split = subst (λ (i : ℕ). IsChildStep t.root i parent place child step) same_next (subst (λ (r : ℕ). IsChildStep r next parent place child step) same_root split);
 }
 
-splittable : (t : Table) (parent : Fetched) (place : ℕ) (child : Fetched) (step : Step) → (h : IsToSplitChild t parent place child step) → IsSplittable t parent.id parent.node.value place child.id h.split.edge child.node.value
+splittable : (t : Table) (parent : Fetched) (place : ℕ) (child : Fetched) (step : Step) → (h : IsToSplitChild t parent place child step) → IsSplittable t parent.id parent.node.value place child.id h.split.edge h.split.edge.seen child.node.value
 splittable t parent place child step h = record {
   table = h.table;
   kept = h.can.parent_is.kept;
   own = h.can.parent_is.own;
   few = h.can.room;
   way = subst (λ (e : Edge). IsWayTo parent.node.value place child.id e) (same_Some h.can.edge h.split.edge (sym h.can.way.here ∙ h.split.here)) h.can.way;
-  child = h.can.child_is.own;
+  low = (own_shape parent.node.value place h.split.edge h.can.parent_is.own.shape h.split.here).seen;
+  child_level = h.can.child_is.own.level_is;
+  child_names = h.can.child_is.own.lower;
   next = h.next;
 }
 
 change : (t : Table) (parent : Fetched) (place : ℕ) (child : Fetched) (step : Step) → (h : IsToSplitChild t parent place child step) → IsChildChange t parent.id h.split.node child.id h.split.half h.split.made
 change t parent place child step h =
-    split_change t parent.id parent.node.value place child.id h.split.edge child.node.value h.split.node h.split.half h.split.made (splittable t parent place child step h) h.split.into
+    split_change t parent.id parent.node.value place child.id h.split.edge h.split.edge.seen child.node.value h.split.node h.split.half h.split.made (splittable t parent place child step h) h.split.into
 
 change_of : (nodes : Nodes) (t : Table) (parent : Fetched) (place : ℕ) (child : Fetched) (step : Step) → (h : IsToSplitChild t parent place child step) → IsSound nodes t → AreFamily nodes t parent child
     → IsChildChangeOf nodes t parent.id parent.node.value h.split.node child.id h.split.half h.split.made
 change_of nodes t parent place child step h sound family =
     split_change_of nodes t parent.id parent.node.value place child.id h.split.edge child.node.value h.split.node h.split.half h.split.made
-    (record { of = splittable t parent place child step h; sound = sound; there = family.parent_there; private = family.private; child_there = family.child_there; once = h.can.once }) h.split.into
+    (record { of = splittable t parent place child step h; sound = sound; there = family.parent_there; private = family.private; once = h.can.once; child_has = at_child nodes t child.id child.node.value sound family.child_there; others_have = λ x other low k. refl }) h.split.into
 
 changed : (nodes : Nodes) (t : Table) (parent : Fetched) (place : ℕ) (child : Fetched) (step : Step) (new : Nodes) (u : Table) → (h : IsToSplitChild t parent place child step) → IsSound nodes t → AreFamily nodes t parent child → IsTableAfter t step u → IsCommitted nodes t step new u
     → IsChildChanged nodes t parent.id parent.node.value h.split.node child.id h.split.half h.split.made new u
@@ -94,7 +97,7 @@ split_is nodes t parent place child step new u h sound family after committed =
       into = h.split.into;
       parent_is = parent_is nodes t p parent.node.value h.split.node c h.split.half h.split.made new u done;
       child_is = child_is nodes t p parent.node.value h.split.node c h.split.half h.split.made new u done
-          (split_named t p parent.node.value place c h.split.edge child.node.value h.split.node h.split.half h.split.made (splittable t parent place child step h) h.split.into);
+          (split_named t p parent.node.value place c h.split.edge h.split.edge.seen child.node.value h.split.node h.split.half h.split.made (splittable t parent place child step h) h.split.into);
       made_are = made_are nodes t p parent.node.value h.split.node c h.split.half h.split.made new u done;
       next = done.after.next;
     }

@@ -1,6 +1,6 @@
 -- A child that is split below its parent.
-use Rattle.std.proofs.Common.{◌≡◌, ℕ, ◌+◌, ◌-◌, ◌^◌, ◌<◌, ◌≤◌, List, [], ◌∷◌, ◌++◌, length, take, drop, map, get_or, refl, sym, ap, subst, ◌∙◌, Option, None, Some, arith, inl, inr, ◌⊎◌, length-append, length-take}
-use Rattle.std.specs.Prelude.{slice_get}
+use Rattle.std.proofs.Common.{◌≡◌, ℕ, zero, suc, ◌+◌, ◌-◌, ◌^◌, ◌<◌, ◌≤◌, List, [], ◌∷◌, ◌++◌, length, take, drop, map, get_or, refl, sym, ap, subst, ◌∙◌, Option, None, Some, arith, inl, inr, ◌⊎◌, length-append, length-take, Result, Ok, Err}
+use Rattle.std.specs.Prelude.{slice_get, IfOk, MatchOption}
 use Rattle.std.specs.List.{AllByRecursion, flat_map}
 use Rattle.std.specs.Ordering.{is_lt}
 use Rattle.std.specs.Option.{option_to_list}
@@ -27,18 +27,28 @@ use Rattle.bd_node.proofs.Meanings.{at-meets}
 use Rattle.bd_node.proofs.Sound.{sound-levelled, counted}
 use Rattle.bd_node.proofs.Edges.{lt_is, lt_isnt, least_over}
 use Rattle.bd_inner.specs.Compaction.{IsCompacted, lowered, staying}
-use Rattle.bd_inner.proofs.Fitting.{own_shape}
+use Rattle.bd_inner.proofs.Fitting.{own_shape, seen_fits}
 use Rattle.bd_inner.specs.Halves.{edges_of, buffer_of, IsHalf, AreHalves}
 use Rattle.bd_inner.specs.Moving.{lifted}
 use Rattle.bd_inner.specs.Exchange.{exchanged, end_at, IsKeyOf, IsEdgeAt, FitsAt}
 use Rattle.bd_inner.proofs.Touched.{cmp_after}
 use Rattle.bd_inner.proofs.Compacting.{count_names, count_names-append, edge_names-lowered, compacted_shape, compacted_level, compacted_meaning, compacted_size, compacted_times}
-use Rattle.bd_inner.proofs.Exchanged.{in_range, at_place, exchanged_shape, meaning_before, meaning_inside, meaning_outside, meaning_without}
+use Rattle.bd_inner.proofs.Exchanged.{in_range, at_place, exchanged_shape, meaning_inside, meaning_outside, meaning_without}
 use Rattle.bd_flush.specs.declared.children.Parts.{Parts}
 use Rattle.bd_flush.specs.declared.children.Side.TheVariants.{Lower, Both, Upper}
-use Rattle.bd_flush.specs.Children.{IsWayTo, parting, upper_edge, IsInside, IsSplitInto, IsSide, AreParts, IsLongPivot}
+use Rattle.bd_flush.specs.Children.{IsWayTo, parting, upper_edge, IsInside, IsSplitInto, IsSide, AreParts, IsLongIn, IsLongPivot}
 use Rattle.bd_flush.specs.Children.IsSplitInto.{parted, lower, upper}
 use Rattle.bd_flush.proofs.ChildSteps.{has_below, has_child, has_old, has_new, IsMadeBelow, IsChildChange, IsChildChangeOf}
+
+-- ---- a node's edge at a place
+
+at_of : (es : List Edge) (place : ℕ) → place < length es → (e : Edge) × (slice_get es place ≡ Some e)
+at_of [] place low = absurd (omega arith)
+at_of (e ∷ es) zero low = (e, refl)
+at_of (e ∷ es) (suc place) low = at_of es place (omega arith)
+
+pub some_edge : (n : Node) (place : ℕ) → place < length (edges_of n) → (e : Edge) × IsEdgeAt n place e
+some_edge n place low = at_of (edges_of n) place low
 
 -- ---- how often a node with other edges in place of one names another
 
@@ -84,20 +94,22 @@ child_named n place child e h way = omega (arith, times_apart n place child e ch
 
 -- ---- what the node has, if what else it names has what it had
 
-pub edges_keep : (below has : NodesAt) (n : Node) (place : ℕ) (e : Edge) (list : List Edge) → IsShape n → FitsAt n place e list
-    → ((k : List ℕ) → IsKey k → IsKeyOf n place e k → through has (edge_of list k) (buffer_of n) k ≡ edge_at below e (buffer_of n) k)
-    → AllByRecursion (Agree has below) (names (exchanged n place [])) → (k : List ℕ) → IsKey k → node_at has (exchanged n place list) k ≡ node_at below n k
-edges_keep below has n place e list h fits inside others k key =
+-- edges in place of one that stands in place of the node's own
+pub edges_keep : (below has : NodesAt) (n : Node) (place : ℕ) (e f : Edge) (list : List Edge) → IsShape n → FitsAt n place e (f ∷ []) → FitsAt n place e list
+    → ((k : List ℕ) → IsKey k → IsKeyOf n place e k → through has (edge_of list k) (buffer_of n) k ≡ edge_at below f (buffer_of n) k)
+    → AllByRecursion (Agree has below) (names (exchanged n place [])) → (k : List ℕ) → IsKey k → node_at has (exchanged n place list) k ≡ node_at below (exchanged n place (f ∷ [])) k
+edges_keep below has n place e f list h one fits inside others k key =
     elim (in_range e.pivot (end_at n place) k) [
       | inl range ↦
           meaning_inside has n place e list h fits k range
           ∙ inside k key range
-          ∙ sym (meaning_before below n place e h fits.here k range)
+          ∙ sym (meaning_inside below n place e (f ∷ []) h one k range)
       | inr out ↦
           meaning_outside has n place e list h fits k out
           ∙ sym (meaning_without has n place e h fits.here k out)
           ∙ node_at-same has below (exchanged n place []) k others
           ∙ meaning_without below n place e h fits.here k out
+          ∙ sym (meaning_outside below n place e (f ∷ []) h one k out)
     ]
 
 pub gotos_agree : (below has : NodesAt) (n : Node) (place : ℕ) → AllByRecursion (Agree has below) (names (exchanged n place [])) → AllByRecursion (Agree has below) (flat_map message_names (buffer_of n))
@@ -133,30 +145,46 @@ parts_cmp n e hi k pivot h key range =
 
 -- ---- the situation
 
--- a node, and a child of it to split, as far as the table tells
-pub record IsSplittable (t : Table) (p : ℕ) (n : Node) (place c : ℕ) (e : Edge) (m : Node) : Type 0 where
+-- the edge, where it has seen so many messages
+abbrev pub as_seen : Edge → ℕ → Edge
+as_seen e seen = record e { seen = seen }
+
+-- a node, and a child of it to split, whose edge has seen so many messages then, as far as the table
+-- tells; what is split may be more than the child was
+pub record IsSplittable (t : Table) (p : ℕ) (n : Node) (place c : ℕ) (e : Edge) (seen : ℕ) (m : Node) : Type 0 where
   pub table : IsTable t
   pub kept : IsKept t p
   pub own : IsNodeOf t (t.level p) n
   pub few : length (edges_of n) ≤ 14
   pub way : IsWayTo n place c e
-  pub child : IsNodeOf t (t.level c) m
+  pub low : seen ≤ length (buffer_of n)
+  pub child_level : level_of m ≡ t.level c
+  pub child_names : AllByRecursion (IsLower t (t.level c)) (names m)
   pub next : t.next < 2 ^ 64
 
--- and of known nodes
-pub record IsSplittableOf (nodes : Nodes) (t : Table) (p : ℕ) (n : Node) (place c : ℕ) (e : Edge) (m : Node) : Type 0 where
-  pub of : IsSplittable t p n place c e m
+-- and of known nodes, where `below` tells what the named ones have: the child what is split has, and
+-- the others what they had
+pub record IsSplittableOf (nodes : Nodes) (t : Table) (p : ℕ) (n : Node) (place c : ℕ) (e : Edge) (seen : ℕ) (m : Node) (below : NodesAt) : Type 0 where
+  pub of : IsSplittable t p n place c e seen m
   pub sound : IsSound nodes t
   pub there : nodes p ≡ Some n
   pub private : IsPrivate nodes t p
-  pub child_there : nodes c ≡ Some m
   pub once : t.count c ≡ 1
+  pub child_has : (x : List ℕ) → IsKey x → below c x ≡ node_at (at nodes) m x
+  pub others_have : (x : ℕ) → (x ≡ c → ⊥) → x < t.next → (k : List ℕ) → below x k ≡ at nodes x k
 
-pub edge_shape : (t : Table) (p : ℕ) (n : Node) (place c : ℕ) (e : Edge) (m : Node) → IsSplittable t p n place c e m → IsEdge (length (buffer_of n)) e (end_at n place)
-edge_shape t p n place c e m s = own_shape n place e s.own.shape s.way.here
+-- where nothing has changed yet
+pub at_child : (nodes : Nodes) (t : Table) (c : ℕ) (m : Node) → IsSound nodes t → nodes c ≡ Some m → (x : List ℕ) → IsKey x → at nodes c x ≡ node_at (at nodes) m x
+at_child nodes t c m sound there x key = (at-meets nodes (sound-levelled nodes t sound)).each c m there x ∙ node_has-key (at nodes) m x key
 
-pub lower_child : (t : Table) (p : ℕ) (n : Node) (place c : ℕ) (e : Edge) (m : Node) → IsSplittable t p n place c e m → IsLower t (t.level p) c
-lower_child t p n place c e m s = named_has (IsLower t (t.level p)) c (names n) s.own.lower (child_named n place c e s.own.shape s.way)
+pub one_fits : (t : Table) (p : ℕ) (n : Node) (place c : ℕ) (e : Edge) (seen : ℕ) (m : Node) → IsSplittable t p n place c e seen m → FitsAt n place e (as_seen e seen ∷ [])
+one_fits t p n place c e seen m s = seen_fits n place e seen s.own.shape s.way.here s.low
+
+pub edge_shape : (t : Table) (p : ℕ) (n : Node) (place c : ℕ) (e : Edge) (seen : ℕ) (m : Node) → IsSplittable t p n place c e seen m → IsEdge (length (buffer_of n)) (as_seen e seen) (end_at n place)
+edge_shape t p n place c e seen m s = (one_fits t p n place c e seen m s).each.0
+
+pub lower_child : (t : Table) (p : ℕ) (n : Node) (place c : ℕ) (e : Edge) (seen : ℕ) (m : Node) → IsSplittable t p n place c e seen m → IsLower t (t.level p) c
+lower_child t p n place c e seen m s = named_has (IsLower t (t.level p)) c (names n) s.own.lower (child_named n place c e s.own.shape s.way)
 
 pub some_next : (t : Table) → IsTable t → 1 ≤ t.next
 some_next t table = let a : 1 ≤ t.root = table.low t.root table.root in let b : t.root < t.next = table.below t.root table.root in omega arith
@@ -196,30 +224,23 @@ upper_edge_shape n e hi pivot child h above below short some small =
 abbrev pub both : Edge → List ℕ → ℕ → List Edge
 both e pivot next = e ∷ upper_edge e (parting e pivot) next ∷ []
 
-pub both_fit_in : (n : Node) (place : ℕ) (e : Edge) (pivot : List ℕ) (next : ℕ) → IsShape n → IsEdgeAt n place e → length (edges_of n) ≤ 14 → 1 ≤ next → next < 2 ^ 64 → IsInside n place e (parting e pivot) → length (parting e pivot) ≤ key_limit
-    → FitsAt n place e (both e pivot next)
-both_fit_in n place e pivot next h here few some small inside short =
-    let own : IsEdge (length (buffer_of n)) e (end_at n place) = own_shape n place e h here in
+pub both_fit_in : (n : Node) (place : ℕ) (e f : Edge) (pivot : List ℕ) (next : ℕ) → FitsAt n place e (f ∷ []) → length (edges_of n) ≤ 14 → 1 ≤ next → next < 2 ^ 64 → IsInside n place f (parting f pivot) → length (parting f pivot) ≤ key_limit
+    → FitsAt n place e (both f pivot next)
+both_fit_in n place e f pivot next one few some small inside short =
+    let own : IsEdge (length (buffer_of n)) f (end_at n place) = one.each.0 in
     record {
-      here = here;
+      here = one.here;
       few = omega arith;
-      first = refl;
+      first = one.first;
       each = (
-        lower_edge_shape (length (buffer_of n)) e (end_at n place) (parting e pivot) own inside.0 inside.1,
-        (upper_edge_shape (length (buffer_of n)) e (end_at n place) pivot next own inside.0 inside.1 short some small, tt),
+        lower_edge_shape (length (buffer_of n)) f (end_at n place) (parting f pivot) own inside.0 inside.1,
+        (upper_edge_shape (length (buffer_of n)) f (end_at n place) pivot next own inside.0 inside.1 short some small, tt),
       );
     }
 
-pub both_fit : (t : Table) (p : ℕ) (n : Node) (place c : ℕ) (e : Edge) (m : Node) (pivot : List ℕ) → IsSplittable t p n place c e m → IsInside n place e (parting e pivot) → length (parting e pivot) ≤ key_limit → FitsAt n place e (both e pivot t.next)
-both_fit t p n place c e m pivot s inside short = both_fit_in n place e pivot t.next s.own.shape s.way.here s.few (some_next t s.table) s.next inside short
-
-pub one_fits : (t : Table) (p : ℕ) (n : Node) (place c : ℕ) (e : Edge) (m : Node) → IsSplittable t p n place c e m → FitsAt n place e (e ∷ [])
-one_fits t p n place c e m s = record {
-  here = s.way.here;
-  few = (let few : length (edges_of n) ≤ 14 = s.few in omega arith);
-  first = refl;
-  each = (edge_shape t p n place c e m s, tt);
-}
+pub both_fit : (t : Table) (p : ℕ) (n : Node) (place c : ℕ) (e : Edge) (seen : ℕ) (m : Node) (pivot : List ℕ) → IsSplittable t p n place c e seen m → IsInside n place e (parting e pivot) → length (parting e pivot) ≤ key_limit
+    → FitsAt n place e (both (as_seen e seen) pivot t.next)
+both_fit t p n place c e seen m pivot s inside short = both_fit_in n place e (as_seen e seen) pivot t.next (one_fits t p n place c e seen m s) s.few (some_next t s.table) s.next inside short
 
 -- ---- names
 
@@ -254,94 +275,124 @@ pub both_names : (e : Edge) (pivot : List ℕ) (c next : ℕ) → e.child ≡ So
 both_names e pivot c next is = ap (λ (o : Option ℕ). option_to_list o ++ (next ∷ [])) is
 
 -- what the parent names then
-pub parent_named : (t : Table) (p : ℕ) (n : Node) (place c : ℕ) (e : Edge) (m : Node) (pivot : List ℕ) (parent : Node) → IsSplittable t p n place c e m → IsCompacted (exchanged n place (both e pivot t.next)) parent → (x : ℕ) → 1 ≤ times parent x
+pub parent_named : (t : Table) (p : ℕ) (n : Node) (place c : ℕ) (e : Edge) (seen : ℕ) (m : Node) (pivot : List ℕ) (parent : Node) → IsSplittable t p n place c e seen m → IsCompacted (exchanged n place (both (as_seen e seen) pivot t.next)) parent → (x : ℕ) → 1 ≤ times parent x
     → IsLower t (t.level p) x ⊎ ((t.next ≤ x) × (x < t.next + 1))
-parent_named t p n place c e m pivot parent s compacted x one =
+parent_named t p n place c e seen m pivot parent s compacted x one =
+    let f : Edge = as_seen e seen in
     elim (cases_eq t.next x) [
       | inl same ↦ inr (omega arith, omega arith)
-      | inr other ↦ (let less : times parent x ≤ times (exchanged n place (both e pivot t.next)) x = compacted_times (exchanged n place (both e pivot t.next)) parent compacted x in
+      | inr other ↦ (let less : times parent x ≤ times (exchanged n place (both f pivot t.next)) x = compacted_times (exchanged n place (both f pivot t.next)) parent compacted x in
           let none : count_names x (t.next ∷ []) ≡ 0 = count-cons_other t.next x [] other in
-          let named : 1 ≤ times n x = omega (arith, times_exchanged n place (both e pivot t.next) x (inner_of n place e s.own.shape s.way.here), ap (count_names x) (both_names e pivot c t.next s.way.child_is), count_two x c t.next, times_apart n place c e x s.own.shape s.way) in
+          let named : 1 ≤ times n x = omega (arith, times_exchanged n place (both f pivot t.next) x (inner_of n place e s.own.shape s.way.here), ap (count_names x) (both_names f pivot c t.next s.way.child_is), count_two x c t.next, times_apart n place c e x s.own.shape s.way) in
           inl (named_has (IsLower t (t.level p)) x (names n) s.own.lower named))
     ]
 
-pub parent_names : (t : Table) (p : ℕ) (n : Node) (place c : ℕ) (e : Edge) (m : Node) (pivot : List ℕ) (parent : Node) → IsSplittable t p n place c e m → IsCompacted (exchanged n place (both e pivot t.next)) parent → (x : ℕ) → count_names x (c ∷ t.next ∷ []) ≤ times parent x
-parent_names t p n place c e m pivot parent s compacted x =
-    omega (arith, compacted_named (exchanged n place (both e pivot t.next)) parent compacted x, exchanged_named n place (both e pivot t.next) x (inner_of n place e s.own.shape s.way.here), ap (count_names x) (both_names e pivot c t.next s.way.child_is))
+pub parent_names : (t : Table) (p : ℕ) (n : Node) (place c : ℕ) (e : Edge) (seen : ℕ) (m : Node) (pivot : List ℕ) (parent : Node) → IsSplittable t p n place c e seen m → IsCompacted (exchanged n place (both (as_seen e seen) pivot t.next)) parent → (x : ℕ) → count_names x (c ∷ t.next ∷ []) ≤ times parent x
+parent_names t p n place c e seen m pivot parent s compacted x =
+    let f : Edge = as_seen e seen in
+    omega (arith, compacted_named (exchanged n place (both f pivot t.next)) parent compacted x, exchanged_named n place (both f pivot t.next) x (inner_of n place e s.own.shape s.way.here), ap (count_names x) (both_names f pivot c t.next s.way.child_is))
 
-half_named : (t : Table) (c : ℕ) (m : Node) (own : List ℕ → Type 0) (half : Node) → IsNodeOf t (t.level c) m → IsHalf m own half → (x : ℕ) → 1 ≤ times half x → IsLower t (t.level c) x
-half_named t c m own half node is x one =
-    named_has (IsLower t (t.level c)) x (names m) node.lower (let less : times half x ≤ times m x = is.names x in omega arith)
+-- where one edge stands in its place
+pub one_times : (n : Node) (place : ℕ) (e : Edge) (seen : ℕ) (parent : Node) → IsShape n → IsEdgeAt n place e → IsCompacted (exchanged n place (as_seen e seen ∷ [])) parent → (x : ℕ) → times parent x ≤ times n x
+one_times n place e seen parent h here r x =
+    let f : Edge = as_seen e seen in
+    let less : times parent x ≤ times (exchanged n place (f ∷ [])) x = compacted_times (exchanged n place (f ∷ [])) parent r x in
+    let same : times (exchanged n place (f ∷ [])) x ≡ times n x =
+    times_exchanged n place (f ∷ []) x (inner_of n place e h here)
+    ∙ sym (times_exchanged n place (e ∷ []) x (inner_of n place e h here))
+    ∙ ap (λ (m : Node). times m x) (exchanged_same n place e here) in
+    omega arith
 
-half_level : (t : Table) (c : ℕ) (m : Node) (own : List ℕ → Type 0) (half : Node) → IsNodeOf t (t.level c) m → IsHalf m own half → level_of half ≡ t.level c
-half_level t c m own half node is = is.level_is ∙ node.level_is
+pub one_names : (n : Node) (place c : ℕ) (e : Edge) (seen : ℕ) (parent : Node) → IsShape n → IsWayTo n place c e → IsCompacted (exchanged n place (as_seen e seen ∷ [])) parent → 1 ≤ times parent c
+one_names n place c e seen parent h way r =
+    let list : List Edge = as_seen e seen ∷ [] in
+    let one : count_names c (flat_map edge_names list) ≡ 1 = ap (λ (o : Option ℕ). count_names c (option_to_list o ++ [])) way.child_is ∙ count_own c in
+    omega (arith, compacted_named (exchanged n place list) parent r c, exchanged_named n place list c (inner_of n place e h way.here))
 
-half_made : (t : Table) (c : ℕ) (m : Node) (own : List ℕ → Type 0) (half : Node) → IsNodeOf t (t.level c) m → IsHalf m own half → IsMadeBelow t (t.level c) half
-half_made t c m own half node is = record {
-  shape = is.shape;
-  low = (let e : level_of half ≡ t.level c = half_level t c m own half node is in omega arith);
-  named = λ x one. subst (λ (l : ℕ). IsLower t l x) (sym (half_level t c m own half node is)) (half_named t c m own half node is x one);
-}
+pub size_exchanged : (n : Node) (place : ℕ) (list : List Edge) → buffer_size (exchanged n place list) ≡ buffer_size n
+size_exchanged (Leaf entries) place list = refl
+size_exchanged (Inner level es buffer) place list = refl
+
+pub compacted_small : (n : Node) (place : ℕ) (list : List Edge) (parent : Node) → IsCompacted (exchanged n place list) parent → buffer_size parent ≤ buffer_size n
+compacted_small n place list parent r = omega (arith, compacted_size (exchanged n place list) parent r, size_exchanged n place list)
+
+half_named : (t : Table) (c : ℕ) (m : Node) (own : List ℕ → Type 0) (half : Node) → AllByRecursion (IsLower t (t.level c)) (names m) → IsHalf m own half → (x : ℕ) → 1 ≤ times half x → IsLower t (t.level c) x
+half_named t c m own half below is x one =
+    named_has (IsLower t (t.level c)) x (names m) below (let less : times half x ≤ times m x = is.names x in omega arith)
+
+half_made : (t : Table) (c : ℕ) (m : Node) (own : List ℕ → Type 0) (half : Node) → level_of m ≡ t.level c → AllByRecursion (IsLower t (t.level c)) (names m) → IsHalf m own half → IsMadeBelow t (t.level c) half
+half_made t c m own half level below is =
+    let same : level_of half ≡ t.level c = is.level_is ∙ level in
+    record {
+      shape = is.shape;
+      low = omega arith;
+      named = λ x one. subst (λ (l : ℕ). IsLower t l x) (sym same) (half_named t c m own half below is x one);
+    }
 
 -- ---- the change
 
-parted_change : (t : Table) (p : ℕ) (n : Node) (place c : ℕ) (e : Edge) (m : Node) (first : Node) (pivot : List ℕ) (second parent : Node) → IsSplittable t p n place c e m → AreHalves m first pivot second → IsInside n place e (parting e pivot) → length (parting e pivot) ≤ key_limit
-    → IsCompacted (exchanged n place (both e pivot t.next)) parent → IsChildChange t p parent c first (second ∷ [])
-parted_change t p n place c e m first pivot second parent s halves inside short compacted =
-    let list : List Edge = both e pivot t.next in
+parted_change : (t : Table) (p : ℕ) (n : Node) (place c : ℕ) (e : Edge) (seen : ℕ) (m : Node) (first : Node) (pivot : List ℕ) (second parent : Node) → IsSplittable t p n place c e seen m → AreHalves m first pivot second → IsInside n place e (parting e pivot) → length (parting e pivot) ≤ key_limit
+    → IsCompacted (exchanged n place (both (as_seen e seen) pivot t.next)) parent → IsChildChange t p parent c first (second ∷ [])
+parted_change t p n place c e seen m first pivot second parent s halves inside short compacted =
+    let list : List Edge = both (as_seen e seen) pivot t.next in
     record {
       table = s.table;
       parent = s.kept;
-      child = lower_child t p n place c e m s;
-      shape = compacted_shape (exchanged n place list) parent (exchanged_shape n place e list s.own.shape (both_fit t p n place c e m pivot s inside short)) compacted;
+      child = lower_child t p n place c e seen m s;
+      shape = compacted_shape (exchanged n place list) parent (exchanged_shape n place e list s.own.shape (both_fit t p n place c e seen m pivot s inside short)) compacted;
       level = compacted_level (exchanged n place list) parent compacted ∙ level_exchanged n place list ∙ s.own.level_is;
-      named = λ x one. parent_named t p n place c e m pivot parent s compacted x one;
+      named = λ x one. parent_named t p n place c e seen m pivot parent s compacted x one;
       child_shape = halves.lower.shape;
-      child_level = half_level t c m (λ k. IsBelow k pivot) first s.child halves.lower;
-      child_named = half_named t c m (λ k. IsBelow k pivot) first s.child halves.lower;
-      each = (half_made t c m (λ k. IsAtLeast k pivot) second s.child halves.upper, tt);
+      child_level = halves.lower.level_is ∙ s.child_level;
+      child_named = half_named t c m (λ k. IsBelow k pivot) first s.child_names halves.lower;
+      each = (half_made t c m (λ k. IsAtLeast k pivot) second s.child_level s.child_names halves.upper, tt);
       used = λ x high low.
           let same : t.next ≡ x = omega arith in
           subst (λ (i : ℕ). 1 ≤ times parent i) same
-          (omega (arith, parent_names t p n place c e m pivot parent s compacted t.next, count_two t.next c t.next, count_own t.next));
+          (omega (arith, parent_names t p n place c e seen m pivot parent s compacted t.next, count_two t.next c t.next, count_own t.next));
     }
 
-halved_change : (t : Table) (p : ℕ) (n : Node) (place c : ℕ) (e : Edge) (m : Node) (own : List ℕ → Type 0) (half : Node) → IsSplittable t p n place c e m → IsHalf m own half → IsChildChange t p n c half []
-halved_change t p n place c e m own half s is = record {
-  table = s.table;
-  parent = s.kept;
-  child = lower_child t p n place c e m s;
-  shape = s.own.shape;
-  level = s.own.level_is;
-  named = λ x one. inl (named_has (IsLower t (t.level p)) x (names n) s.own.lower one);
-  child_shape = is.shape;
-  child_level = half_level t c m own half s.child is;
-  child_named = half_named t c m own half s.child is;
-  each = tt;
-  used = λ x high low. absurd (let l : x < t.next + 0 = low in omega arith);
-}
+-- where nothing is made
+pub one_change : (t : Table) (p : ℕ) (n : Node) (place c : ℕ) (e : Edge) (seen : ℕ) (m parent low : Node) → IsSplittable t p n place c e seen m → IsCompacted (exchanged n place (as_seen e seen ∷ [])) parent
+    → IsShape low → level_of low ≡ t.level c → ((x : ℕ) → 1 ≤ times low x → IsLower t (t.level c) x) → IsChildChange t p parent c low []
+one_change t p n place c e seen m parent low s r shape level named =
+    let list : List Edge = as_seen e seen ∷ [] in
+    record {
+      table = s.table;
+      parent = s.kept;
+      child = lower_child t p n place c e seen m s;
+      shape = compacted_shape (exchanged n place list) parent (exchanged_shape n place e list s.own.shape (one_fits t p n place c e seen m s)) r;
+      level = compacted_level (exchanged n place list) parent r ∙ level_exchanged n place list ∙ s.own.level_is;
+      named = λ x one. inl (named_has (IsLower t (t.level p)) x (names n) s.own.lower (let less : times parent x ≤ times n x = one_times n place e seen parent s.own.shape s.way.here r x in omega arith));
+      child_shape = shape;
+      child_level = level;
+      child_named = named;
+      each = tt;
+      used = λ x high below. absurd (let l : x < t.next + 0 = below in omega arith);
+    }
 
-pub split_change : (t : Table) (p : ℕ) (n : Node) (place c : ℕ) (e : Edge) (m parent half : Node) (made : List Node) → IsSplittable t p n place c e m → IsSplitInto n place e m t.next parent half made → IsChildChange t p parent c half made
-split_change t p n place c e m _ _ _ s (parted first pivot second parent halves inside short compacted) = parted_change t p n place c e m first pivot second parent s halves inside short compacted
-split_change t p n place c e m _ _ _ s (lower first pivot second halves outside) = halved_change t p n place c e m (λ k. IsBelow k pivot) first s halves.lower
-split_change t p n place c e m _ _ _ s (upper first pivot second halves outside) = halved_change t p n place c e m (λ k. IsAtLeast k pivot) second s halves.upper
+halved_change : (t : Table) (p : ℕ) (n : Node) (place c : ℕ) (e : Edge) (seen : ℕ) (m : Node) (own : List ℕ → Type 0) (half parent : Node) → IsSplittable t p n place c e seen m → IsHalf m own half → IsCompacted (exchanged n place (as_seen e seen ∷ [])) parent → IsChildChange t p parent c half []
+halved_change t p n place c e seen m own half parent s is r =
+    one_change t p n place c e seen m parent half s r is.shape (is.level_is ∙ s.child_level) (half_named t c m own half s.child_names is)
+
+pub split_change : (t : Table) (p : ℕ) (n : Node) (place c : ℕ) (e : Edge) (seen : ℕ) (m parent half : Node) (made : List Node) → IsSplittable t p n place c e seen m → IsSplitInto n place (as_seen e seen) m t.next parent half made → IsChildChange t p parent c half made
+split_change t p n place c e seen m _ _ _ s (parted first pivot second parent halves inside short compacted) = parted_change t p n place c e seen m first pivot second parent s halves inside short compacted
+split_change t p n place c e seen m _ _ _ s (lower first pivot second parent halves outside compacted) = halved_change t p n place c e seen m (λ k. IsBelow k pivot) first parent s halves.lower compacted
+split_change t p n place c e seen m _ _ _ s (upper first pivot second parent halves outside compacted) = halved_change t p n place c e seen m (λ k. IsAtLeast k pivot) second parent s halves.upper compacted
 
 -- ---- what the parent has
 
--- the child's other names, and what else the parent names, have what they had
-pub others_agree : (nodes : Nodes) (t : Table) (p : ℕ) (n : Node) (place c : ℕ) (e : Edge) (m half : Node) (made : List Node) → IsSplittableOf nodes t p n place c e m → AllByRecursion (Agree (has_below nodes t.next c half made) (at nodes)) (names (exchanged n place []))
-others_agree nodes t p n place c e m half made s =
-    each_named (Agree (has_below nodes t.next c half made) (at nodes)) (names (exchanged n place [])) (λ x one.
+-- what else the parent names has what it had
+pub others_agree : (nodes : Nodes) (t : Table) (p : ℕ) (n : Node) (place c : ℕ) (e : Edge) (seen : ℕ) (m : Node) (below : NodesAt) (half : Node) (made : List Node) → IsSplittableOf nodes t p n place c e seen m below → AllByRecursion (Agree (has_below nodes t.next c half made) below) (names (exchanged n place []))
+others_agree nodes t p n place c e seen m below half made s =
+    each_named (Agree (has_below nodes t.next c half made) below) (names (exchanged n place [])) (λ x one k.
     let named : 1 ≤ times n x = omega (arith, times_apart n place c e x s.of.own.shape s.of.way) in
     let low : x < t.next = s.of.table.below x (named_has (IsLower t (t.level p)) x (names n) s.of.own.lower named).kept in
-    has_old nodes t.next c half made x
-    (λ same. (let once : t.count c ≡ 1 = s.once in
+    let other : x ≡ c → ⊥ = λ same. (let once : t.count c ≡ 1 = s.once in
     let most : times n c + one_if t.root c ≤ t.count c = counted nodes t s.sound p n s.there c in
     let here : 1 ≤ times (exchanged n place []) c = subst (λ (i : ℕ). 1 ≤ times (exchanged n place []) i) same one in
-    omega (arith, times_apart n place c e c s.of.own.shape s.of.way, count_own c))) low)
-
-pub at_child : (nodes : Nodes) (t : Table) (p : ℕ) (n : Node) (place c : ℕ) (e : Edge) (m : Node) → IsSplittableOf nodes t p n place c e m → (x : List ℕ) → IsKey x → at nodes c x ≡ node_at (at nodes) m x
-at_child nodes t p n place c e m s x key = (at-meets nodes (sound-levelled nodes t s.sound)).each c m s.child_there x ∙ node_has-key (at nodes) m x key
+    omega (arith, times_apart n place c e c s.of.own.shape s.of.way, count_own c)) in
+    has_old nodes t.next c half made x other low k ∙ sym (s.others_have x other low k))
 
 -- what the edge asks, and what a half has there
 abbrev pub asks : NodesAt → Edge → List ℕ → Option (List ℕ)
@@ -352,198 +403,198 @@ asks_at below e c k child plain =
     ap (λ (o : Option ℕ). child_at below o (e.source ++ drop e.lift k)) child ∙ ap (λ (l : List ℕ). below c (l ++ drop e.lift k)) plain
 
 -- the child's half is asked for a key of its own
-pub child_value : (nodes : Nodes) (t : Table) (p : ℕ) (n : Node) (place c : ℕ) (e : Edge) (m : Node) (own : List ℕ → Type 0) (half : Node) (made : List Node) → IsSplittableOf nodes t p n place c e m → IsHalf m own half
-    → (k : List ℕ) → IsKey k → own (drop e.lift k) → asks (has_below nodes t.next c half made) e k ≡ asks (at nodes) e k
-child_value nodes t p n place c e m own half made s is k key mine =
+child_value : (nodes : Nodes) (t : Table) (p : ℕ) (n : Node) (place c : ℕ) (e : Edge) (seen : ℕ) (m : Node) (below : NodesAt) (own : List ℕ → Type 0) (half : Node) (made : List Node) → IsSplittableOf nodes t p n place c e seen m below → IsHalf m own half
+    → (k : List ℕ) → IsKey k → own (drop e.lift k) → asks (has_below nodes t.next c half made) e k ≡ asks below e k
+child_value nodes t p n place c e seen m below own half made s is k key mine =
     let x : List ℕ = drop e.lift k in
     asks_at (has_below nodes t.next c half made) e c k s.of.way.child_is s.of.way.plain
     ∙ has_child nodes t.next c half made x
     ∙ node_has-key (at nodes) half x (IsKey-drop e.lift k key)
     ∙ is.meaning (at nodes) x mine
-    ∙ sym (at_child nodes t p n place c e m s x (IsKey-drop e.lift k key))
-    ∙ sym (asks_at (at nodes) e c k s.of.way.child_is s.of.way.plain)
+    ∙ sym (s.child_has x (IsKey-drop e.lift k key))
+    ∙ sym (asks_at below e c k s.of.way.child_is s.of.way.plain)
 
 -- the made half is asked
-made_value : (nodes : Nodes) (t : Table) (p : ℕ) (n : Node) (place c : ℕ) (e : Edge) (m : Node) (own : List ℕ → Type 0) (first second : Node) (pivot : List ℕ) → IsSplittableOf nodes t p n place c e m → IsHalf m own second
-    → (k : List ℕ) → IsKey k → own (drop e.lift k) → asks (has_below nodes t.next c first (second ∷ [])) (upper_edge e pivot t.next) k ≡ asks (at nodes) e k
-made_value nodes t p n place c e m own first second pivot s is k key mine =
+made_value : (nodes : Nodes) (t : Table) (p : ℕ) (n : Node) (place c : ℕ) (e : Edge) (seen : ℕ) (m : Node) (below : NodesAt) (own : List ℕ → Type 0) (first second : Node) (pivot : List ℕ) → IsSplittableOf nodes t p n place c e seen m below → IsHalf m own second
+    → (k : List ℕ) → IsKey k → own (drop e.lift k) → asks (has_below nodes t.next c first (second ∷ [])) (upper_edge e pivot t.next) k ≡ asks below e k
+made_value nodes t p n place c e seen m below own first second pivot s is k key mine =
     let x : List ℕ = drop e.lift k in
-    let low : c < t.next = s.of.table.below c (lower_child t p n place c e m s.of).kept in
+    let low : c < t.next = s.of.table.below c (lower_child t p n place c e seen m s.of).kept in
     asks_at (has_below nodes t.next c first (second ∷ [])) (upper_edge e pivot t.next) t.next k refl s.of.way.plain
     ∙ has_new nodes t.next c first (second ∷ []) t.next second low (omega arith) (ap (λ (i : ℕ). slice_get (second ∷ []) i) (let z : t.next - t.next ≡ 0 = omega arith in z)) x
     ∙ node_has-key (at nodes) second x (IsKey-drop e.lift k key)
     ∙ is.meaning (at nodes) x mine
-    ∙ sym (at_child nodes t p n place c e m s x (IsKey-drop e.lift k key))
-    ∙ sym (asks_at (at nodes) e c k s.of.way.child_is s.of.way.plain)
+    ∙ sym (s.child_has x (IsKey-drop e.lift k key))
+    ∙ sym (asks_at below e c k s.of.way.child_is s.of.way.plain)
 
 -- the two edges together have what the one had
-both_have : (nodes : Nodes) (t : Table) (p : ℕ) (n : Node) (place c : ℕ) (e : Edge) (m first : Node) (pivot : List ℕ) (second : Node) → IsSplittableOf nodes t p n place c e m → AreHalves m first pivot second → (k : List ℕ) → IsKey k → IsKeyOf n place e k
-    → through (has_below nodes t.next c first (second ∷ [])) (edge_of (both e pivot t.next) k) (buffer_of n) k ≡ edge_at (at nodes) e (buffer_of n) k
-both_have nodes t p n place c e m first pivot second s halves k key range =
+both_have : (nodes : Nodes) (t : Table) (p : ℕ) (n : Node) (place c : ℕ) (e : Edge) (seen : ℕ) (m : Node) (below : NodesAt) (first : Node) (pivot : List ℕ) (second : Node) → IsSplittableOf nodes t p n place c e seen m below → AreHalves m first pivot second → (k : List ℕ) → IsKey k → IsKeyOf n place e k
+    → through (has_below nodes t.next c first (second ∷ [])) (edge_of (both (as_seen e seen) pivot t.next) k) (buffer_of n) k ≡ edge_at below (as_seen e seen) (buffer_of n) k
+both_have nodes t p n place c e seen m below first pivot second s halves k key range =
     let has : NodesAt = has_below nodes t.next c first (second ∷ []) in
-    let f : Edge = upper_edge e (parting e pivot) t.next in
-    let own : IsEdge (length (buffer_of n)) e (end_at n place) = edge_shape t p n place c e m s.of in
-    let same : key_cmp k (parting e pivot) ≡ key_cmp (drop e.lift k) pivot = parts_cmp (length (buffer_of n)) e (end_at n place) k pivot own key range in
+    let f : Edge = as_seen e seen in
+    let g : Edge = upper_edge f (parting f pivot) t.next in
+    let own : IsEdge (length (buffer_of n)) f (end_at n place) = edge_shape t p n place c e seen m s.of in
+    let same : key_cmp k (parting e pivot) ≡ key_cmp (drop e.lift k) pivot = parts_cmp (length (buffer_of n)) f (end_at n place) k pivot own key range in
     elim (cases_Bool (is_lt (key_cmp k (parting e pivot)))) [
-      | inl below ↦
-          ap (λ (d : Edge). through has (Some d) (buffer_of n) k) (cond-true (is_lt (key_cmp k (parting e pivot))) e f below)
-          ∙ edge_same (at nodes) has n place e e k (others_agree nodes t p n place c e m first (second ∷ []) s) refl
-          (child_value nodes t p n place c e m (λ l. IsBelow l pivot) first (second ∷ []) s halves.lower k key (sym same ∙ lt_is (key_cmp k (parting e pivot)) below))
+      | inl less ↦
+          ap (λ (d : Edge). through has (Some d) (buffer_of n) k) (cond-true (is_lt (key_cmp k (parting e pivot))) f g less)
+          ∙ edge_same below has n place f f k (others_agree nodes t p n place c e seen m below first (second ∷ []) s) refl
+          (child_value nodes t p n place c e seen m below (λ l. IsBelow l pivot) first (second ∷ []) s halves.lower k key (sym same ∙ lt_is (key_cmp k (parting e pivot)) less))
       | inr above ↦
-          ap (λ (d : Edge). through has (Some d) (buffer_of n) k) (cond-false (is_lt (key_cmp k (parting e pivot))) e f above)
-          ∙ edge_same (at nodes) has n place e f k (others_agree nodes t p n place c e m first (second ∷ []) s) refl
-          (made_value nodes t p n place c e m (λ l. IsAtLeast l pivot) first second (parting e pivot) s halves.upper k key (λ less. lt_isnt (key_cmp k (parting e pivot)) above (same ∙ less)))
+          ap (λ (d : Edge). through has (Some d) (buffer_of n) k) (cond-false (is_lt (key_cmp k (parting e pivot))) f g above)
+          ∙ edge_same below has n place f g k (others_agree nodes t p n place c e seen m below first (second ∷ []) s) refl
+          (made_value nodes t p n place c e seen m below (λ l. IsAtLeast l pivot) first second (parting e pivot) s halves.upper k key (λ less. lt_isnt (key_cmp k (parting e pivot)) above (same ∙ less)))
     ]
 
 -- the one half that has keys of the edge
-half_has : (nodes : Nodes) (t : Table) (p : ℕ) (n : Node) (place c : ℕ) (e : Edge) (m : Node) (own : List ℕ → Type 0) (half : Node) → IsSplittableOf nodes t p n place c e m → IsHalf m own half
-    → ((k : List ℕ) → IsKey k → IsKeyOf n place e k → own (drop e.lift k)) → (k : List ℕ) → IsKey k → node_at (has_below nodes t.next c half []) n k ≡ node_at (at nodes) n k
-half_has nodes t p n place c e m own half s is mine k key =
+half_has : (nodes : Nodes) (t : Table) (p : ℕ) (n : Node) (place c : ℕ) (e : Edge) (seen : ℕ) (m : Node) (below : NodesAt) (own : List ℕ → Type 0) (half parent : Node) → IsSplittableOf nodes t p n place c e seen m below → IsHalf m own half → IsCompacted (exchanged n place (as_seen e seen ∷ [])) parent
+    → ((k : List ℕ) → IsKey k → IsKeyOf n place e k → own (drop e.lift k)) → (k : List ℕ) → IsKey k → node_at (has_below nodes t.next c half []) parent k ≡ node_at below (exchanged n place (as_seen e seen ∷ [])) k
+half_has nodes t p n place c e seen m below own half parent s is compacted mine k key =
     let has : NodesAt = has_below nodes t.next c half [] in
-    ap (λ (d : Node). node_at has d k) (sym (exchanged_same n place e s.of.way.here))
-    ∙ edges_keep (at nodes) has n place e (e ∷ []) s.of.own.shape (one_fits t p n place c e m s.of)
+    let f : Edge = as_seen e seen in
+    let fits : FitsAt n place e (f ∷ []) = one_fits t p n place c e seen m s.of in
+    compacted_meaning has (exchanged n place (f ∷ [])) parent (exchanged_shape n place e (f ∷ []) s.of.own.shape fits) compacted k
+    ∙ edges_keep below has n place e f (f ∷ []) s.of.own.shape fits fits
     (λ l at_l range.
-    edge_same (at nodes) has n place e e l (others_agree nodes t p n place c e m half [] s) refl (child_value nodes t p n place c e m own half [] s is l at_l (mine l at_l range)))
-    (others_agree nodes t p n place c e m half [] s) k key
+    edge_same below has n place f f l (others_agree nodes t p n place c e seen m below half [] s) refl (child_value nodes t p n place c e seen m below own half [] s is l at_l (mine l at_l range)))
+    (others_agree nodes t p n place c e seen m below half [] s) k key
 
-split_meaning : (nodes : Nodes) (t : Table) (p : ℕ) (n : Node) (place c : ℕ) (e : Edge) (m parent half : Node) (made : List Node) → IsSplittableOf nodes t p n place c e m → IsSplitInto n place e m t.next parent half made
-    → (k : List ℕ) → IsKey k → node_at (has_below nodes t.next c half made) parent k ≡ node_at (at nodes) n k
-split_meaning nodes t p n place c e m _ _ _ s (parted first pivot second parent halves inside short compacted) = λ k key.
+-- how a key of the edge compares
+split_cmp : (nodes : Nodes) (t : Table) (p : ℕ) (n : Node) (place c : ℕ) (e : Edge) (seen : ℕ) (m : Node) (below : NodesAt) (pivot : List ℕ) → IsSplittableOf nodes t p n place c e seen m below → (k : List ℕ) → IsKey k → IsKeyOf n place e k → key_cmp k (parting e pivot) ≡ key_cmp (drop e.lift k) pivot
+split_cmp nodes t p n place c e seen m below pivot s k key range =
+    parts_cmp (length (buffer_of n)) (as_seen e seen) (end_at n place) k pivot (edge_shape t p n place c e seen m s.of) key range
+
+pub split_meaning : (nodes : Nodes) (t : Table) (p : ℕ) (n : Node) (place c : ℕ) (e : Edge) (seen : ℕ) (m : Node) (below : NodesAt) (parent half : Node) (made : List Node) → IsSplittableOf nodes t p n place c e seen m below → IsSplitInto n place (as_seen e seen) m t.next parent half made
+    → (k : List ℕ) → IsKey k → node_at (has_below nodes t.next c half made) parent k ≡ node_at below (exchanged n place (as_seen e seen ∷ [])) k
+split_meaning nodes t p n place c e seen m below _ _ _ s (parted first pivot second parent halves inside short compacted) = λ k key.
     let has : NodesAt = has_below nodes t.next c first (second ∷ []) in
-    let list : List Edge = both e pivot t.next in
-    let fits : FitsAt n place e list = both_fit t p n place c e m pivot s.of inside short in
+    let f : Edge = as_seen e seen in
+    let list : List Edge = both f pivot t.next in
+    let fits : FitsAt n place e list = both_fit t p n place c e seen m pivot s.of inside short in
     compacted_meaning has (exchanged n place list) parent (exchanged_shape n place e list s.of.own.shape fits) compacted k
-    ∙ edges_keep (at nodes) has n place e list s.of.own.shape fits (both_have nodes t p n place c e m first pivot second s halves) (others_agree nodes t p n place c e m first (second ∷ []) s) k key
-split_meaning nodes t p n place c e m _ _ _ s (lower first pivot second halves outside) =
-    half_has nodes t p n place c e m (λ k. IsBelow k pivot) first s halves.lower (λ k key range.
-    let own : IsEdge (length (buffer_of n)) e (end_at n place) = edge_shape t p n place c e m s.of in
-    let same : key_cmp k (parting e pivot) ≡ key_cmp (drop e.lift k) pivot = parts_cmp (length (buffer_of n)) e (end_at n place) k pivot own key range in
+    ∙ edges_keep below has n place e f list s.of.own.shape (one_fits t p n place c e seen m s.of) fits (both_have nodes t p n place c e seen m below first pivot second s halves)
+    (others_agree nodes t p n place c e seen m below first (second ∷ []) s) k key
+split_meaning nodes t p n place c e seen m below _ _ _ s (lower first pivot second parent halves outside compacted) =
+    half_has nodes t p n place c e seen m below (λ k. IsBelow k pivot) first parent s halves.lower compacted (λ k key range.
     elim (cases_Bool (is_lt (key_cmp k (parting e pivot)))) [
-      | inl below ↦ sym same ∙ lt_is (key_cmp k (parting e pivot)) below
+      | inl less ↦ sym (split_cmp nodes t p n place c e seen m below pivot s k key range) ∙ lt_is (key_cmp k (parting e pivot)) less
       | inr above ↦ absurd (none_between (parting e pivot) (end_at n place) k outside (lt_isnt (key_cmp k (parting e pivot)) above) range.1)
     ])
-split_meaning nodes t p n place c e m _ _ _ s (upper first pivot second halves outside) =
-    half_has nodes t p n place c e m (λ k. IsAtLeast k pivot) second s halves.upper (λ k key range less.
-    let own : IsEdge (length (buffer_of n)) e (end_at n place) = edge_shape t p n place c e m s.of in
-    let same : key_cmp k (parting e pivot) ≡ key_cmp (drop e.lift k) pivot = parts_cmp (length (buffer_of n)) e (end_at n place) k pivot own key range in
-    none_between e.pivot (Some (parting e pivot)) k outside range.0 (same ∙ less))
+split_meaning nodes t p n place c e seen m below _ _ _ s (upper first pivot second parent halves outside compacted) =
+    half_has nodes t p n place c e seen m below (λ k. IsAtLeast k pivot) second parent s halves.upper compacted (λ k key range less.
+    none_between e.pivot (Some (parting e pivot)) k outside range.0 (split_cmp nodes t p n place c e seen m below pivot s k key range ∙ less))
 
-pub split_change_of : (nodes : Nodes) (t : Table) (p : ℕ) (n : Node) (place c : ℕ) (e : Edge) (m parent half : Node) (made : List Node) → IsSplittableOf nodes t p n place c e m → IsSplitInto n place e m t.next parent half made → IsChildChangeOf nodes t p n parent c half made
+-- a child as it is
+pub split_change_of : (nodes : Nodes) (t : Table) (p : ℕ) (n : Node) (place c : ℕ) (e : Edge) (m parent half : Node) (made : List Node) → IsSplittableOf nodes t p n place c e e.seen m (at nodes) → IsSplitInto n place e m t.next parent half made → IsChildChangeOf nodes t p n parent c half made
 split_change_of nodes t p n place c e m parent half made s into = record {
-  step = split_change t p n place c e m parent half made s.of into;
+  step = split_change t p n place c e e.seen m parent half made s.of into;
   sound = s.sound;
   there = s.there;
   private = s.private;
   once = s.once;
   names_it = child_named n place c e s.of.own.shape s.of.way;
-  meaning = split_meaning nodes t p n place c e m parent half made s into;
+  meaning = λ k key. split_meaning nodes t p n place c e e.seen m (at nodes) parent half made s into k key ∙ ap (λ (d : Node). node_at (at nodes) d k) (exchanged_same n place e s.of.way.here);
 }
 
 -- ---- what is needed besides
 
 pub split_few : (n : Node) (place : ℕ) (e : Edge) (m : Node) (next : ℕ) (parent half : Node) (made : List Node) → IsSplitInto n place e m next parent half made → length made ≤ 1
 split_few n place e m next _ _ _ (parted first pivot second parent halves inside short compacted) = omega arith
-split_few n place e m next _ _ _ (lower first pivot second halves outside) = omega arith
-split_few n place e m next _ _ _ (upper first pivot second halves outside) = omega arith
+split_few n place e m next _ _ _ (lower first pivot second parent halves outside compacted) = omega arith
+split_few n place e m next _ _ _ (upper first pivot second parent halves outside compacted) = omega arith
 
-pub split_named : (t : Table) (p : ℕ) (n : Node) (place c : ℕ) (e : Edge) (m parent half : Node) (made : List Node) → IsSplittable t p n place c e m → IsSplitInto n place e m t.next parent half made → 1 ≤ times parent c
-split_named t p n place c e m _ _ _ s (parted first pivot second parent halves inside short compacted) =
-    omega (arith, parent_names t p n place c e m pivot parent s compacted c, count_two c c t.next, count_own c)
-split_named t p n place c e m _ _ _ s (lower first pivot second halves outside) = child_named n place c e s.own.shape s.way
-split_named t p n place c e m _ _ _ s (upper first pivot second halves outside) = child_named n place c e s.own.shape s.way
-
-pub size_exchanged : (n : Node) (place : ℕ) (list : List Edge) → buffer_size (exchanged n place list) ≡ buffer_size n
-size_exchanged (Leaf entries) place list = refl
-size_exchanged (Inner level es buffer) place list = refl
+pub split_named : (t : Table) (p : ℕ) (n : Node) (place c : ℕ) (e : Edge) (seen : ℕ) (m parent half : Node) (made : List Node) → IsSplittable t p n place c e seen m → IsSplitInto n place (as_seen e seen) m t.next parent half made → 1 ≤ times parent c
+split_named t p n place c e seen m _ _ _ s (parted first pivot second parent halves inside short compacted) =
+    omega (arith, parent_names t p n place c e seen m pivot parent s compacted c, count_two c c t.next, count_own c)
+split_named t p n place c e seen m _ _ _ s (lower first pivot second parent halves outside compacted) = one_names n place c e seen parent s.own.shape s.way compacted
+split_named t p n place c e seen m _ _ _ s (upper first pivot second parent halves outside compacted) = one_names n place c e seen parent s.own.shape s.way compacted
 
 pub split_size : (n : Node) (place : ℕ) (e : Edge) (m : Node) (next : ℕ) (parent half : Node) (made : List Node) → IsSplitInto n place e m next parent half made → (buffer_size parent ≤ buffer_size n) × (buffer_size half ≤ buffer_size m)
-split_size n place e m next _ _ _ (parted first pivot second parent halves inside short compacted) =
-    (omega (arith, compacted_size (exchanged n place (both e pivot next)) parent compacted, size_exchanged n place (both e pivot next)), halves.lower.size)
-split_size n place e m next _ _ _ (lower first pivot second halves outside) = (omega arith, halves.lower.size)
-split_size n place e m next _ _ _ (upper first pivot second halves outside) = (omega arith, halves.upper.size)
+split_size n place e m next _ _ _ (parted first pivot second parent halves inside short compacted) = (compacted_small n place (both e pivot next) parent compacted, halves.lower.size)
+split_size n place e m next _ _ _ (lower first pivot second parent halves outside compacted) = (compacted_small n place (e ∷ []) parent compacted, halves.lower.size)
+split_size n place e m next _ _ _ (upper first pivot second parent halves outside compacted) = (compacted_small n place (e ∷ []) parent compacted, halves.upper.size)
 
 -- ---- the parts as the code finds them
-
-pub record IsParting (n : Node) (place : ℕ) (m : Node) (e : Edge) (hi : Option (List ℕ)) (first : Node) (pivot : List ℕ) (second : Node) (key : List ℕ) : Type 0 where
-  pub shape : IsShape n
-  pub here : IsEdgeAt n place e
-  pub end : hi ≡ end_at n place
-  pub halves : AreHalves m first pivot second
-  pub key_is : key ≡ parting e pivot
 
 pub edge_here : (es : List Edge) (n : Node) (place : ℕ) (e : Edge) → es ≡ edges_of n → place < length (edges_of n) → e ≡ get_or es place e → IsEdgeAt n place e
 edge_here es n place e same low read =
     subst (λ (l : List Edge). slice_get l place ≡ Some e) same (slice_get_read es (length es) place e refl (subst (λ (l : List Edge). place < length l) (sym same) low) read)
 
-pub edge_lift : (n : Node) (place : ℕ) (e : Edge) → IsShape n → IsEdgeAt n place e → e.lift ≤ length e.pivot
-edge_lift n place e h here = (own_shape n place e h here).lift
+pub fits_here : (n : Node) (place : ℕ) (e : Edge) (list : List Edge) → FitsAt n place e list → (d : Edge) → IsEdgeAt n place d → FitsAt n place d list
+fits_here n place e list fits d there = subst (λ (x : Edge). FitsAt n place x list) (same_Some e d (sym fits.here ∙ there)) fits
 
-at_parting : (n : Node) (place : ℕ) (m : Node) (e : Edge) (hi : Option (List ℕ)) (first : Node) (pivot : List ℕ) (second : Node) (key : List ℕ) → IsParting n place m e hi first pivot second key → IsSide e hi key Both → IsInside n place e (parting e pivot)
-at_parting n place m e hi first pivot second key h side =
-    (subst (λ (l : List ℕ). IsBelow e.pivot l) h.key_is side.0, subst (λ (l : List ℕ). IsBelowEnd l (end_at n place)) h.key_is (subst (λ (o : Option (List ℕ)). IsBelowEnd key o) h.end side.1))
+-- the edge in its own place
+pub own_fits : (n : Node) (place : ℕ) (e : Edge) → IsShape n → IsEdgeAt n place e → (d : Edge) → IsEdgeAt n place d → FitsAt n place d (e ∷ [])
+own_fits n place e h here = fits_here n place e (e ∷ []) (seen_fits n place e e.seen h here (own_shape n place e h here).seen)
 
-pub parting_long : (n : Node) (place : ℕ) (m : Node) (e : Edge) (hi : Option (List ℕ)) (first : Node) (pivot : List ℕ) (second : Node) (key : List ℕ) → IsParting n place m e hi first pivot second key → IsSide e hi key Both → key_limit < length key → IsLongPivot n place m
-parting_long n place m e hi first pivot second key h side long = record {
-  edge = e;
-  here = h.here;
-  first = first;
-  pivot = pivot;
-  second = second;
-  halves = h.halves;
-  inside = at_parting n place m e hi first pivot second key h side;
-  long = subst (λ (l : List ℕ). key_limit < length l) h.key_is long;
-}
+-- an edge that fits in place of the node's own, and the key at which the halves part there
+pub record IsParting (n : Node) (place : ℕ) (f : Edge) (hi : Option (List ℕ)) (pivot key : List ℕ) : Type 0 where
+  pub own : Edge
+  pub fits : FitsAt n place own (f ∷ [])
+  pub end : hi ≡ end_at n place
+  pub key_is : key ≡ parting f pivot
 
-pub parting_fits : (n : Node) (place : ℕ) (m : Node) (e : Edge) (hi : Option (List ℕ)) (first : Node) (pivot : List ℕ) (second : Node) (key : List ℕ) (next : ℕ) → IsParting n place m e hi first pivot second key → IsSide e hi key Both → length key ≤ key_limit → length (edges_of n) ≤ 14 → 1 ≤ next → next < 2 ^ 64
-    → (d : Edge) → IsEdgeAt n place d → FitsAt n place d (d ∷ upper_edge d key next ∷ [])
-parting_fits n place m e hi first pivot second key next h side short few some small d there =
-    let same : e ≡ d = same_Some e d (sym h.here ∙ there) in
-    subst (λ (f : Edge). FitsAt n place f (f ∷ upper_edge f key next ∷ [])) same
-    (subst (λ (l : List ℕ). FitsAt n place e (e ∷ upper_edge e l next ∷ [])) (sym h.key_is)
-    (both_fit_in n place e pivot next h.shape h.here few some small (at_parting n place m e hi first pivot second key h side) (subst (λ (l : List ℕ). length l ≤ key_limit) h.key_is short)))
+pub is_parting : (n : Node) (place : ℕ) (f : Edge) (es : List Edge) (hi : Option (List ℕ)) (pivot key : List ℕ) → place < length (edges_of n) → ((e : Edge) → IsEdgeAt n place e → FitsAt n place e (f ∷ [])) → es ≡ edges_of n → hi ≡ end_before (drop (place + 1) es) → key ≡ parting f pivot
+    → IsParting n place f hi pivot key
+is_parting n place f es hi pivot key low fits same end key_is =
+    let found = some_edge n place low in
+    record {
+      own = found.0;
+      fits = fits found.0 found.1;
+      end = end ∙ ap (λ (l : List Edge). end_before (drop (place + 1) l)) same;
+      key_is = key_is;
+    }
 
-pub parting_both : (n : Node) (place : ℕ) (m : Node) (e : Edge) (hi : Option (List ℕ)) (first : Node) (pivot : List ℕ) (second : Node) (key : List ℕ) (next : ℕ) (parts : Parts) → IsParting n place m e hi first pivot second key → IsSide e hi key Both → length key ≤ key_limit
-    → ((d : Edge) → IsEdgeAt n place d → IsCompacted (exchanged n place (d ∷ upper_edge d key next ∷ [])) parts.node) → parts.half ≡ first → parts.made.items ≡ second ∷ [] → AreParts n place m next parts
-parting_both n place m e hi first pivot second key next parts h side short compacted half made = record {
-  edge = e;
-  here = h.here;
-  into = subst (λ (d : Node). IsSplitInto n place e m next parts.node d parts.made.items) (sym half)
-      (subst (λ (l : List Node). IsSplitInto n place e m next parts.node first l) (sym made)
-      (parted first pivot second parts.node h.halves (at_parting n place m e hi first pivot second key h side) (subst (λ (l : List ℕ). length l ≤ key_limit) h.key_is short)
-      (subst (λ (l : List ℕ). IsCompacted (exchanged n place (e ∷ upper_edge e l next ∷ [])) parts.node) h.key_is (compacted e h.here))));
-}
+pub edge_lift : (n : Node) (place : ℕ) (f : Edge) → place < length (edges_of n) → ((e : Edge) → IsEdgeAt n place e → FitsAt n place e (f ∷ [])) → f.lift ≤ length f.pivot
+edge_lift n place f low fits = let found = some_edge n place low in (fits found.0 found.1).each.0.lift
 
--- one half over the node as it is
-abbrev pub IsOneHalf : Node → Node → Parts → Type 0
-IsOneHalf n half parts = (parts.node ≡ n) × (parts.half ≡ half) × (parts.made.items ≡ [])
+pub at_parting : (n : Node) (place : ℕ) (f : Edge) (hi : Option (List ℕ)) (pivot key : List ℕ) → IsParting n place f hi pivot key → IsSide f hi key Both → IsInside n place f (parting f pivot)
+at_parting n place f hi pivot key h side =
+    (subst (λ (l : List ℕ). IsBelow f.pivot l) h.key_is side.0, subst (λ (l : List ℕ). IsBelowEnd l (end_at n place)) h.key_is (subst (λ (o : Option (List ℕ)). IsBelowEnd key o) h.end side.1))
 
-one_into : (n : Node) (place : ℕ) (e : Edge) (m : Node) (next : ℕ) (half : Node) (parts : Parts) → IsSplitInto n place e m next n half [] → IsOneHalf n half parts → IsSplitInto n place e m next parts.node parts.half parts.made.items
-one_into n place e m next half parts h one =
-    subst (λ (d : Node). IsSplitInto n place e m next d parts.half parts.made.items) (sym one.0)
-    (subst (λ (d : Node). IsSplitInto n place e m next n d parts.made.items) (sym one.1)
-    (subst (λ (l : List Node). IsSplitInto n place e m next n half l) (sym one.2) h))
+pub parting_long : (n : Node) (place : ℕ) (f : Edge) (hi : Option (List ℕ)) (pivot key : List ℕ) → IsParting n place f hi pivot key → IsSide f hi key Both → key_limit < length key → IsLongIn n place f pivot
+parting_long n place f hi pivot key h side long = (at_parting n place f hi pivot key h side, subst (λ (l : List ℕ). key_limit < length l) h.key_is long)
 
-pub parting_lower : (n : Node) (place : ℕ) (m : Node) (e : Edge) (hi : Option (List ℕ)) (first : Node) (pivot : List ℕ) (second : Node) (key : List ℕ) (next : ℕ) (parts : Parts) → IsParting n place m e hi first pivot second key → IsSide e hi key Lower → IsOneHalf n first parts → AreParts n place m next parts
-parting_lower n place m e hi first pivot second key next parts h side one = record {
-  edge = e;
-  here = h.here;
-  into = one_into n place e m next first parts
-      (lower first pivot second h.halves (λ below. side (subst (λ (o : Option (List ℕ)). IsBelowEnd key o) (sym h.end) (subst (λ (l : List ℕ). IsBelowEnd l (end_at n place)) (sym h.key_is) below)))) one;
-}
+pub parting_fits : (n : Node) (place : ℕ) (f : Edge) (hi : Option (List ℕ)) (pivot key : List ℕ) (next : ℕ) → IsParting n place f hi pivot key → IsSide f hi key Both → length key ≤ key_limit → length (edges_of n) ≤ 14 → 1 ≤ next → next < 2 ^ 64
+    → (d : Edge) → IsEdgeAt n place d → FitsAt n place d (f ∷ upper_edge f key next ∷ [])
+parting_fits n place f hi pivot key next h side short few some small =
+    fits_here n place h.own (f ∷ upper_edge f key next ∷ [])
+    (subst (λ (l : List ℕ). FitsAt n place h.own (f ∷ upper_edge f l next ∷ [])) (sym h.key_is)
+    (both_fit_in n place h.own f pivot next h.fits few some small (at_parting n place f hi pivot key h side) (subst (λ (l : List ℕ). length l ≤ key_limit) h.key_is short)))
 
-pub parting_upper : (n : Node) (place : ℕ) (m : Node) (e : Edge) (hi : Option (List ℕ)) (first : Node) (pivot : List ℕ) (second : Node) (key : List ℕ) (next : ℕ) (parts : Parts) → IsParting n place m e hi first pivot second key → IsSide e hi key Upper → IsOneHalf n second parts → AreParts n place m next parts
-parting_upper n place m e hi first pivot second key next parts h side one = record {
-  edge = e;
-  here = h.here;
-  into = one_into n place e m next second parts (upper first pivot second h.halves (λ below. side (subst (λ (l : List ℕ). IsBelow e.pivot l) (sym h.key_is) below))) one;
-}
+pub parting_both : (n : Node) (place : ℕ) (f : Edge) (hi : Option (List ℕ)) (first : Node) (pivot : List ℕ) (second : Node) (key : List ℕ) (next : ℕ) (parts : Parts) → IsParting n place f hi pivot key → IsSide f hi key Both → length key ≤ key_limit
+    → IsCompacted (exchanged n place (f ∷ upper_edge f key next ∷ [])) parts.node → parts.half ≡ first → parts.made.items ≡ second ∷ [] → (m : Node) → AreHalves m first pivot second → IsSplitInto n place f m next parts.node parts.half parts.made.items
+parting_both n place f hi first pivot second key next parts h side short compacted half made m halves =
+    subst (λ (d : Node). IsSplitInto n place f m next parts.node d parts.made.items) (sym half)
+    (subst (λ (l : List Node). IsSplitInto n place f m next parts.node first l) (sym made)
+    (parted first pivot second parts.node halves (at_parting n place f hi pivot key h side) (subst (λ (l : List ℕ). length l ≤ key_limit) h.key_is short)
+    (subst (λ (l : List ℕ). IsCompacted (exchanged n place (f ∷ upper_edge f l next ∷ [])) parts.node) h.key_is compacted)))
 
-pub is_parting : (n : Node) (place : ℕ) (m : Node) (e : Edge) (es : List Edge) (hi : Option (List ℕ)) (first : Node) (pivot : List ℕ) (second : Node) (key : List ℕ) → IsShape n → es ≡ edges_of n → place < length (edges_of n) → e ≡ get_or es place e → hi ≡ end_before (drop (place + 1) es) → AreHalves m first pivot second
-    → key ≡ parting e pivot → IsParting n place m e hi first pivot second key
-is_parting n place m e es hi first pivot second key shape same low read end halves key_is = record {
-  shape = shape;
-  here = edge_here es n place e same low read;
-  end = end ∙ ap (λ (l : List Edge). end_before (drop (place + 1) l)) same;
-  halves = halves;
-  key_is = key_is;
-}
+-- one half below the edge
+abbrev pub IsOneHalf : Node → ℕ → Edge → Node → Parts → Type 0
+IsOneHalf n place f half parts = IsCompacted (exchanged n place (f ∷ [])) parts.node × (parts.half ≡ half) × (parts.made.items ≡ [])
+
+one_into : (n : Node) (place : ℕ) (f : Edge) (m : Node) (next : ℕ) (half : Node) (parts : Parts) → IsSplitInto n place f m next parts.node half [] → IsOneHalf n place f half parts → IsSplitInto n place f m next parts.node parts.half parts.made.items
+one_into n place f m next half parts h one =
+    subst (λ (d : Node). IsSplitInto n place f m next parts.node d parts.made.items) (sym one.1)
+    (subst (λ (l : List Node). IsSplitInto n place f m next parts.node half l) (sym one.2) h)
+
+pub parting_lower : (n : Node) (place : ℕ) (f : Edge) (hi : Option (List ℕ)) (first : Node) (pivot : List ℕ) (second : Node) (key : List ℕ) (next : ℕ) (parts : Parts) → IsParting n place f hi pivot key → IsSide f hi key Lower → IsOneHalf n place f first parts
+    → (m : Node) → AreHalves m first pivot second → IsSplitInto n place f m next parts.node parts.half parts.made.items
+parting_lower n place f hi first pivot second key next parts h side one m halves =
+    one_into n place f m next first parts
+    (lower first pivot second parts.node halves (λ below. side (subst (λ (o : Option (List ℕ)). IsBelowEnd key o) (sym h.end) (subst (λ (l : List ℕ). IsBelowEnd l (end_at n place)) (sym h.key_is) below))) one.0) one
+
+pub parting_upper : (n : Node) (place : ℕ) (f : Edge) (hi : Option (List ℕ)) (first : Node) (pivot : List ℕ) (second : Node) (key : List ℕ) (next : ℕ) (parts : Parts) → IsParting n place f hi pivot key → IsSide f hi key Upper → IsOneHalf n place f second parts
+    → (m : Node) → AreHalves m first pivot second → IsSplitInto n place f m next parts.node parts.half parts.made.items
+parting_upper n place f hi first pivot second key next parts h side one m halves =
+    one_into n place f m next second parts (upper first pivot second parts.node halves (λ below. side (subst (λ (l : List ℕ). IsBelow f.pivot l) (sym h.key_is) below)) one.0) one
+
+-- what of a child's split follows
+pub on_over : {E : Type 0} (n : Node) (place : ℕ) (e : Edge) (m : Node) (next : ℕ) (first : Node) (pivot : List ℕ) (second : Node) (r : Result (Option Parts) E) → IsEdgeAt n place e → AreHalves m first pivot second
+    → IfOk r (λ found. MatchOption found (IsLongIn n place e pivot) (λ parts. (d : Node) → AreHalves d first pivot second → IsSplitInto n place e d next parts.node parts.half parts.made.items))
+    → IfOk r (λ found. MatchOption found (IsLongPivot n place m) (AreParts n place m next))
+on_over n place e m next first pivot second (Err x) here halves is = tt
+on_over n place e m next first pivot second (Ok None) here halves is = record { edge = e; here = here; first = first; pivot = pivot; second = second; halves = halves; long = is }
+on_over n place e m next first pivot second (Ok (Some parts)) here halves is = record { edge = e; here = here; into = is m halves }

@@ -1,5 +1,5 @@
 -- The way down.
-use Rattle.std.proofs.Common.{◌≡◌, ◌↔◌, ℕ, ◌+◌, ◌<◌, ◌≤◌, Bool, true, false, not, List, length, drop, get_or, refl, sym, ap, subst, ◌∙◌, Option, None, Some, IsTrue, arith}
+use Rattle.std.proofs.Common.{◌≡◌, ◌↔◌, ℕ, ◌+◌, ◌<◌, ◌≤◌, Bool, true, false, not, List, length, drop, get_or, refl, sym, ap, subst, ◌∙◌, Option, None, Some, IsTrue, arith, inl, inr}
 use Rattle.std.specs.List.{AllByRecursion}
 use Rattle.std.proofs.lemmas.Option.{same_Some}
 use Rattle.bd_limits.specs.Limits.{soft_limit}
@@ -23,7 +23,7 @@ use Rattle.bd_inner.proofs.Fitting.{own_shape}
 use Rattle.bd_flush.specs.declared.fetching.Fetched.{Fetched}
 use Rattle.bd_flush.specs.Children.{IsFetched, IsWayTo}
 use Rattle.bd_inner.specs.Moving.{IsPlainFor}
-use Rattle.bd_flush.specs.Ways.{IsFullestAt, IsOnWay, IsTarget, IsReadyToPush, IsNamed, IsNext, IsThere}
+use Rattle.bd_flush.specs.Ways.{IsFullestAt, IsOnWay, IsTarget, IsReadyToPush, IsNamed, IsNext, IsHigh, IsThere}
 use Rattle.bd_flush.specs.Ways.IsOnWay.{at_root, below}
 use Rattle.bd_flush.proofs.ChildSplits.{edge_here, child_named}
 
@@ -131,6 +131,23 @@ is_next t parent place child e fetched way child_is waits few = record {
   lower = (way_lower t parent place child.id e fetched way).lower;
   inner = waits_inner child.node.value child_is.own.shape waits;
   room = omega arith;
+  full = waits;
+}
+
+-- the root is as high as itself
+pub root_high : (t : Table) (root : Fetched) → root.id ≡ t.root → IsHigh t root
+root_high t root same = record {
+  under = (let level : t.level root.id ≡ t.level t.root = ap t.level same in omega arith);
+  full = inl same;
+}
+
+-- the next node isn't as high as the one above it
+pub next_high : (t : Table) (parent child : Fetched) → IsHigh t parent → IsNext t parent child → IsHigh t child
+next_high t parent child high next = record {
+  under = (let above : t.level parent.id ≤ t.level t.root = high.under in
+      let lower : t.level child.id < t.level parent.id = next.lower in
+      omega arith);
+  full = inr next.full;
 }
 
 pub next_there : (nodes : Nodes) (t : Table) (parent : Fetched) (place : ℕ) (child : Fetched) (e : Edge) → IsThere nodes t parent → IsShape parent.node.value → length (edges_of parent.node.value) ≤ 14 → IsFullestAt parent.node.value place → IsWayTo parent.node.value place child.id e → t.count child.id ≡ 1

@@ -14,13 +14,15 @@ use Rattle.bd_node.specs.Shape.{IsShape}
 use Rattle.bd_inner.specs.declared.batches.Batch.{Batch}
 use Rattle.bd_inner.specs.Halves.{edges_of, buffer_of}
 use Rattle.bd_inner.specs.Moving.{IsLifted}
-use Rattle.bd_inner.specs.Exchange.{end_at, IsEdgeAt, FitsAt, way_to}
+use Rattle.bd_inner.specs.Compaction.{IsCompacted}
+use Rattle.bd_inner.specs.Exchange.{exchanged, end_at, IsEdgeAt, FitsAt, way_to}
 use Rattle.bd_inner.proofs.Fitting.{own_shape, way_lifted}
 use Rattle.bd_leaf.specs.Leaves.{IsReceived}
 use Rattle.bd_flush.specs.declared.fetching.Fetched.{Fetched}
-use Rattle.bd_flush.specs.Pushes.{seen_by, leaf_step, IsWaitedFor, IsEdgeBatch, IsRelieved, IsWay, IsNewLeaf, IsNewStep}
+use Rattle.bd_flush.specs.Pushes.{seen_by, leaf_step, IsWaitedFor, IsEdgeBatch, IsWay, IsNewLeaf, IsNewStep}
 use Rattle.bd_flush.proofs.Pushed.{batch_plain}
-use Rattle.bd_flush.proofs.Batches.{few_messages, some_edge, all_plain}
+use Rattle.bd_flush.proofs.ChildSplits.{some_edge}
+use Rattle.bd_flush.proofs.Batches.{few_messages, all_plain}
 use Rattle.bd_flush.proofs.LeafPushes.{way_seen, way_waiting, way_low, way_fit}
 
 pub way_rising : (n : Node) (place : ℕ) (e : Edge) (hi : Option (List ℕ)) → IsShape n → IsEdgeAt n place e → hi ≡ end_at n place → IsBelowEnd e.pivot hi
@@ -61,18 +63,20 @@ of_small n place child f b h is =
     let few : length (buffer_of n) ≤ 2048 = few_messages n h.shape in
     omega arith
 
-pub of_fits : (n : Node) (place child : ℕ) (f : Edge) (b : Batch) → IsWayOf n place child f → IsEdgeBatch n place f b → 1 ≤ child → child < 2 ^ 64 → (e : Edge) → IsEdgeAt n place e → FitsAt n place e (seen_by f b.count ∷ [])
-of_fits n place child f b h is some small e here = way_fit n place child e f b.count h.shape here (h.way e here) some small (way_low n place child e f b h.shape here (h.way e here) is)
+pub of_fits : (n : Node) (place child : ℕ) (f g : Edge) (b : Batch) → IsWayOf n place child f → IsEdgeBatch n place f b → 1 ≤ child → child < 2 ^ 64 → g ≡ seen_by f b.count → (e : Edge) → IsEdgeAt n place e → FitsAt n place e (g ∷ [])
+of_fits n place child f g b h is some small same e here =
+    subst (λ (x : Edge). FitsAt n place e (x ∷ [])) (sym same)
+    (way_fit n place child e f b.count h.shape here (h.way e here) some small (way_low n place child e f b h.shape here (h.way e here) is))
 
-pub is_new_leaf : (n : Node) (place next : ℕ) (f : Edge) (b : Batch) (list : List Message) (entries : List Entry) (above : Node) → IsWayOf n place next f → IsEdgeBatch n place f b → list ≡ b.messages → IsReceived [] list entries → IsRelieved n place f b.count above
+pub is_new_leaf : (n : Node) (place next : ℕ) (f g : Edge) (b : Batch) (list : List Message) (entries : List Entry) (above : Node) → IsWayOf n place next f → IsEdgeBatch n place f b → list ≡ b.messages → IsReceived [] list entries → g ≡ seen_by f b.count → IsCompacted (exchanged n place (g ∷ [])) above
     → (e : Edge) → IsEdgeAt n place e → IsNewLeaf n place e next above entries
-is_new_leaf n place next f b list entries above h is same got relieved e here = record {
+is_new_leaf n place next f g b list entries above h is same got seen relieved e here = record {
   edge = f;
   way = h.way e here;
   batch = b;
   moved = is;
   got = subst (λ (l : List Message). IsReceived [] l entries) same got;
-  relieved = relieved;
+  relieved = subst (λ (x : Edge). IsCompacted (exchanged n place (x ∷ [])) above) seen relieved;
 }
 
 pub on_new_step : {E : Type 0} (root next : ℕ) (parent : Fetched) (place : ℕ) (n above : Node) (entries : List Entry) (r : Result Step E) → n ≡ parent.node.value → place < length (edges_of parent.node.value) → ((e : Edge) → IsEdgeAt n place e → IsNewLeaf n place e next above entries)

@@ -1,5 +1,5 @@
 -- The commit of a push.
-use Rattle.std.proofs.Common.{◌≡◌, ℕ, ◌+◌, ◌^◌, ◌<◌, ◌≤◌, length, sym, ap, subst, ◌∙◌, arith, Err}
+use Rattle.std.proofs.Common.{◌≡◌, ℕ, ◌+◌, ◌^◌, ◌<◌, ◌≤◌, length, refl, sym, ap, subst, ◌∙◌, arith, Err}
 use Rattle.std.proofs.lemmas.Option.{same_Some}
 use Rattle.bd_message.specs.declared.fault.MapFault.{MapFault}
 use Rattle.bd_message.specs.KeyMaps.{HasMapCause}
@@ -16,8 +16,8 @@ use Rattle.bd_flush.specs.Children.{IsWayTo, AreFamily, IsNoHigher}
 use Rattle.bd_flush.specs.Pushes.{IsWaitedFor, CanPush, IsPushStep, IsPushed}
 use Rattle.bd_flush.proofs.Worn.{cause_weaker}
 use Rattle.bd_flush.proofs.ChildSteps.{IsChildChange, IsChildChangeOf, IsChildChanged, below_step, below_in_place, child_flushed, parent_is, child_is, made_are, no_higher, child_worn}
-use Rattle.bd_flush.proofs.ChildSplits.{IsSplittable, lower_child}
-use Rattle.bd_flush.proofs.Pushed.{IsPushable, push_change, push_change_of, push_few, push_named, push_size}
+use Rattle.bd_flush.proofs.ChildSplits.{IsSplittable, at_child, lower_child}
+use Rattle.bd_flush.proofs.Pushed.{batch_low, IsPushable, push_change, push_change_of, push_few, push_named, push_size}
 
 -- a push, and the step
 pub record IsToPush (t : Table) (parent : Fetched) (place : ℕ) (child : Fetched) (step : Step) : Type 0 where
@@ -38,14 +38,16 @@ is_to_push t parent place child step root next table can same_root same_next roo
 same_edge : (t : Table) (parent : Fetched) (place : ℕ) (child : Fetched) (step : Step) → (h : IsToPush t parent place child step) → h.can.edge ≡ h.push.edge
 same_edge t parent place child step h = same_Some h.can.edge h.push.edge (sym h.can.way.here ∙ h.push.here)
 
-splittable : (t : Table) (parent : Fetched) (place : ℕ) (child : Fetched) (step : Step) → (h : IsToPush t parent place child step) → IsSplittable t parent.id parent.node.value place child.id h.push.edge child.node.value
+splittable : (t : Table) (parent : Fetched) (place : ℕ) (child : Fetched) (step : Step) → (h : IsToPush t parent place child step) → IsSplittable t parent.id parent.node.value place child.id h.push.edge (h.push.edge.seen + h.push.batch.count) child.node.value
 splittable t parent place child step h = record {
   table = h.table;
   kept = h.can.parent_is.kept;
   own = h.can.parent_is.own;
   few = h.can.room;
   way = subst (λ (e : Edge). IsWayTo parent.node.value place child.id e) (same_edge t parent place child step h) h.can.way;
-  child = h.can.child_is.own;
+  low = batch_low parent.node.value place h.push.edge h.push.batch h.can.parent_is.own.shape h.push.here h.push.moved;
+  child_level = h.can.child_is.own.level_is;
+  child_names = h.can.child_is.own.lower;
   next = h.next;
 }
 
@@ -54,6 +56,7 @@ pushable t parent place child step h = record {
   split = splittable t parent place child step h;
   waiting = subst (λ (e : Edge). IsWaitedFor parent.node.value place e) (same_edge t parent place child step h) h.can.waiting;
   moved = h.push.moved;
+  child = h.can.child_is.own;
   soft = h.can.soft;
 }
 
@@ -65,7 +68,7 @@ change_of : (nodes : Nodes) (t : Table) (parent : Fetched) (place : ℕ) (child 
     → IsChildChangeOf nodes t parent.id parent.node.value h.push.node child.id h.push.half h.push.made
 change_of nodes t parent place child step h sound family =
     push_change_of nodes t parent.id parent.node.value place child.id h.push.edge child.node.value h.push.batch h.push.node h.push.half h.push.made (pushable t parent place child step h)
-    (record { of = splittable t parent place child step h; sound = sound; there = family.parent_there; private = family.private; child_there = family.child_there; once = h.can.once }) h.push.into
+    (record { of = splittable t parent place child step h; sound = sound; there = family.parent_there; private = family.private; once = h.can.once; child_has = at_child nodes t child.id child.node.value sound family.child_there; others_have = λ x other low k. refl }) h.push.into
 
 changed : (nodes : Nodes) (t : Table) (parent : Fetched) (place : ℕ) (child : Fetched) (step : Step) (new : Nodes) (u : Table) → (h : IsToPush t parent place child step) → IsSound nodes t → AreFamily nodes t parent child → IsTableAfter t step u → IsCommitted nodes t step new u
     → IsChildChanged nodes t parent.id parent.node.value h.push.node child.id h.push.half h.push.made new u
@@ -117,7 +120,7 @@ push_is nodes t parent place child step new u h sound family after committed =
 pub push_no_higher : (t : Table) (parent : Fetched) (place : ℕ) (child : Fetched) (step : Step) (u : Table) → IsToPush t parent place child step → IsTableAfter t step u → IsNoHigher t u
 push_no_higher t parent place child step u h after =
     let less : buffer_size h.push.node ≤ buffer_size parent.node.value = push_size parent.node.value place h.push.edge child.node.value h.push.batch t.next h.push.node h.push.half h.push.made h.push.into in
-    let lower : IsLower t (t.level parent.id) child.id = lower_child t parent.id parent.node.value place child.id h.push.edge child.node.value (splittable t parent place child step h) in
+    let lower : IsLower t (t.level parent.id) child.id = lower_child t parent.id parent.node.value place child.id h.push.edge (h.push.edge.seen + h.push.batch.count) child.node.value (splittable t parent place child step h) in
     let down : t.level child.id < t.level parent.id = lower.lower in
     let under : t.level parent.id ≤ t.level t.root = h.can.under in
     no_higher t parent.id h.push.node child.id h.push.half h.push.made u (change t parent place child step h) (subst (λ (q : Step). IsTableAfter t q u) h.push.is after)

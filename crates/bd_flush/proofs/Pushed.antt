@@ -1,7 +1,6 @@
 -- Messages that have gone down to a child.
-use Rattle.std.proofs.Common.{◌≡◌, ℕ, zero, suc, ◌+◌, ◌<◌, ◌≤◌, List, [], ◌∷◌, ◌++◌, length, take, drop, refl, sym, ap, subst, ◌∙◌, Option, arith, inl, length-drop}
-use Rattle.std.specs.List.{AllByRecursion, flat_map, sum_by}
-use Rattle.std.specs.Option.{option_to_list}
+use Rattle.std.proofs.Common.{◌≡◌, ℕ, zero, suc, ◌+◌, ◌≤◌, List, [], ◌∷◌, length, take, drop, refl, sym, ap, subst, ◌∙◌, Option, arith, length-drop}
+use Rattle.std.specs.List.{AllByRecursion, sum_by}
 use Rattle.bd_limits.specs.Limits.{soft_limit, batch_limit}
 use Rattle.bd_keys.specs.Keys.{IsKey}
 use Rattle.bd_message.specs.declared.message.Message.{Message}
@@ -11,25 +10,25 @@ use Rattle.bd_node.specs.declared.node.Edge.{Edge}
 use Rattle.bd_node.specs.declared.node.Entry.{Entry}
 use Rattle.bd_node.specs.declared.node.Node.{Node}
 use Rattle.bd_node.specs.declared.node.Node.TheVariants.{Leaf}
-use Rattle.bd_node.specs.Nodes.{level_of, buffer_size, edge_names, names, times, node_at, appended}
+use Rattle.bd_node.specs.Nodes.{level_of, buffer_size, names, times, node_at, appended}
 use Rattle.bd_node.specs.Meaning.{Nodes, at}
 use Rattle.bd_node.specs.Shape.{IsLeaf, IsShape}
-use Rattle.bd_node.specs.Tables.{Table, IsLower}
+use Rattle.bd_node.specs.Tables.{Table, IsLower, IsNodeOf}
 use Rattle.bd_node.proofs.Lookup.{named_has, node_has-key}
 use Rattle.bd_node.proofs.Appending.{shape_appended, level_appended, names_appended, acts-plain, node_at-appended}
 use Rattle.bd_inner.specs.declared.batches.Batch.{Batch}
 use Rattle.bd_inner.specs.Halves.{buffer_of}
 use Rattle.bd_inner.specs.Moving.{IsPlainFor, IsMoved}
-use Rattle.bd_inner.specs.Exchange.{exchanged, end_at, IsKeyOf, IsEdgeAt, FitsAt}
-use Rattle.bd_inner.proofs.Compacting.{count_names, compacted_shape, compacted_level, compacted_meaning, compacted_size, compacted_times}
-use Rattle.bd_inner.proofs.Fitting.{own_shape, seen_fits}
+use Rattle.bd_inner.specs.Exchange.{exchanged, end_at, IsKeyOf, IsEdgeAt}
+use Rattle.bd_inner.proofs.Compacting.{count_names, compacted_meaning}
+use Rattle.bd_inner.proofs.Fitting.{own_shape}
 use Rattle.bd_inner.proofs.Exchanged.{exchanged_shape, pushed}
 use Rattle.bd_leaf.specs.Leaves.{IsReceived}
-use Rattle.bd_flush.specs.Children.{IsWayTo}
+use Rattle.bd_flush.specs.Children.{IsSplitInto}
 use Rattle.bd_flush.specs.Pushes.{seen_by, unseen, IsWaitedFor, IsEdgeBatch, IsRelieved, IsPushInto}
-use Rattle.bd_flush.specs.Pushes.IsPushInto.{received, fitted}
-use Rattle.bd_flush.proofs.ChildSteps.{has_below, has_child, IsChildChange, IsChildChangeOf}
-use Rattle.bd_flush.proofs.ChildSplits.{times_exchanged, exchanged_same, inner_of, count_own, child_named, lower_child, level_exchanged, compacted_named, exchanged_named, size_exchanged, others_agree, at_child, asks, asks_at, IsKey-drop, IsSplittable, IsSplittableOf}
+use Rattle.bd_flush.specs.Pushes.IsPushInto.{received, fitted, split}
+use Rattle.bd_flush.proofs.ChildSteps.{has_below, has_child, has_old, IsChildChange, IsChildChangeOf}
+use Rattle.bd_flush.proofs.ChildSplits.{child_named, one_fits, one_names, one_change, compacted_small, others_agree, asks, asks_at, IsKey-drop, IsSplittable, IsSplittableOf, split_change, split_meaning, split_few, split_named, split_size}
 
 -- ---- the node above
 
@@ -38,48 +37,6 @@ batch_low n place e b h here is =
     let within : b.count ≤ length (unseen n e) = is.batch.within in
     let seen : e.seen ≤ length (buffer_of n) = (own_shape n place e h here).seen in
     omega (arith, length-drop e.seen (buffer_of n))
-
-pub relieved_fits : (n : Node) (place : ℕ) (e : Edge) (count : ℕ) → IsShape n → IsEdgeAt n place e → e.seen + count ≤ length (buffer_of n) → FitsAt n place e (seen_by e count ∷ [])
-relieved_fits n place e count h here low = seen_fits n place e (e.seen + count) h here low
-
-relieved_times : (n : Node) (place : ℕ) (e : Edge) (count : ℕ) (parent : Node) → IsShape n → IsEdgeAt n place e → IsRelieved n place e count parent → (x : ℕ) → times parent x ≤ times n x
-relieved_times n place e count parent h here r x =
-    let less : times parent x ≤ times (exchanged n place (seen_by e count ∷ [])) x = compacted_times (exchanged n place (seen_by e count ∷ [])) parent r x in
-    let same : times (exchanged n place (seen_by e count ∷ [])) x ≡ times n x =
-    times_exchanged n place (seen_by e count ∷ []) x (inner_of n place e h here)
-    ∙ sym (times_exchanged n place (e ∷ []) x (inner_of n place e h here))
-    ∙ ap (λ (m : Node). times m x) (exchanged_same n place e here) in
-    omega arith
-
-pub relieved_names : (n : Node) (place c : ℕ) (e : Edge) (count : ℕ) (parent : Node) → IsShape n → IsWayTo n place c e → IsRelieved n place e count parent → 1 ≤ times parent c
-relieved_names n place c e count parent h way r =
-    let list : List Edge = seen_by e count ∷ [] in
-    let one : count_names c (flat_map edge_names list) ≡ 1 = ap (λ (o : Option ℕ). count_names c (option_to_list o ++ [])) way.child_is ∙ count_own c in
-    omega (arith, compacted_named (exchanged n place list) parent r c, exchanged_named n place list c (inner_of n place e h way.here))
-
-pub relieved_size : (n : Node) (place : ℕ) (e : Edge) (count : ℕ) (parent : Node) → IsRelieved n place e count parent → buffer_size parent ≤ buffer_size n
-relieved_size n place e count parent r =
-    omega (arith, compacted_size (exchanged n place (seen_by e count ∷ [])) parent r, size_exchanged n place (seen_by e count ∷ []))
-
--- ---- the change of both, where nothing is made
-
-relieved_change : (t : Table) (p : ℕ) (n : Node) (place c : ℕ) (e : Edge) (m : Node) (b : Batch) (parent low : Node) → IsSplittable t p n place c e m → IsEdgeBatch n place e b → IsRelieved n place e b.count parent
-    → IsShape low → level_of low ≡ t.level c → ((x : ℕ) → 1 ≤ times low x → IsLower t (t.level c) x) → IsChildChange t p parent c low []
-relieved_change t p n place c e m b parent low s is r shape level named =
-    let list : List Edge = seen_by e b.count ∷ [] in
-    record {
-      table = s.table;
-      parent = s.kept;
-      child = lower_child t p n place c e m s;
-      shape = compacted_shape (exchanged n place list) parent (exchanged_shape n place e list s.own.shape (relieved_fits n place e b.count s.own.shape s.way.here (batch_low n place e b s.own.shape s.way.here is))) r;
-      level = compacted_level (exchanged n place list) parent r ∙ level_exchanged n place list ∙ s.own.level_is;
-      named = λ x one. inl (named_has (IsLower t (t.level p)) x (names n) s.own.lower (let less : times parent x ≤ times n x = relieved_times n place e b.count parent s.own.shape s.way.here r x in omega arith));
-      child_shape = shape;
-      child_level = level;
-      child_named = named;
-      each = tt;
-      used = λ x high below. absurd (let l : x < t.next + 0 = below in omega arith);
-    }
 
 -- messages moved for an edge are so for the edge that has seen more
 pub moved_seen : (e : Edge) (hi : Option (List ℕ)) (count : ℕ) (list moved : List Message) → IsMoved e hi list moved → IsMoved (seen_by e count) hi list moved
@@ -103,25 +60,24 @@ abbrev HasReceived : NodesAt → Node → ℕ → Edge → Node → List Message
 HasReceived below n place e m list low =
     (k : List ℕ) → IsKey k → IsKeyOf n place e k → node_at below low (drop e.lift k) ≡ acts below list (drop e.lift k) (node_at below m (drop e.lift k))
 
-relieved_meaning : (nodes : Nodes) (t : Table) (p : ℕ) (n : Node) (place c : ℕ) (e : Edge) (m : Node) (b : Batch) (parent low : Node) → IsSplittableOf nodes t p n place c e m → IsEdgeBatch n place e b → AllByRecursion IsPlain b.messages
-    → IsRelieved n place e b.count parent → HasReceived (at nodes) n place e m b.messages low → (k : List ℕ) → IsKey k → node_at (has_below nodes t.next c low []) parent k ≡ node_at (at nodes) n k
-relieved_meaning nodes t p n place c e m b parent low s is plain r got k key =
+-- the node whose edge has seen more, over what its child has become
+relieved_inside : (nodes : Nodes) (t : Table) (p : ℕ) (n : Node) (place c : ℕ) (e : Edge) (m : Node) (b : Batch) (low : Node) → IsSplittableOf nodes t p n place c e (e.seen + b.count) m (at nodes) → IsEdgeBatch n place e b → AllByRecursion IsPlain b.messages
+    → HasReceived (at nodes) n place e m b.messages low → (k : List ℕ) → IsKey k → node_at (has_below nodes t.next c low []) (exchanged n place (seen_by e b.count ∷ [])) k ≡ node_at (at nodes) n k
+relieved_inside nodes t p n place c e m b low s is plain got k key =
     let has : NodesAt = has_below nodes t.next c low [] in
     let f : Edge = seen_by e b.count in
-    let fits : FitsAt n place e (f ∷ []) = relieved_fits n place e b.count s.of.own.shape s.of.way.here (batch_low n place e b s.of.own.shape s.of.way.here is) in
-    compacted_meaning has (exchanged n place (f ∷ [])) parent (exchanged_shape n place e (f ∷ []) s.of.own.shape fits) r k
-    ∙ pushed (at nodes) has n place e f b.count b.messages s.of.own.shape fits refl (moved_seen e (end_at n place) b.count (take b.count (unseen n e)) b.messages is.batch.moved)
+    pushed (at nodes) has n place e f b.count b.messages s.of.own.shape (one_fits t p n place c e (e.seen + b.count) m s.of) refl (moved_seen e (end_at n place) b.count (take b.count (unseen n e)) b.messages is.batch.moved)
     (λ l key_l range.
     let x : List ℕ = drop e.lift l in
     asks_at has f c l s.of.way.child_is s.of.way.plain
     ∙ has_child nodes t.next c low [] x
     ∙ node_has-key (at nodes) low x (IsKey-drop e.lift l key_l)
     ∙ got l key_l range
-    ∙ ap (λ (o : Option (List ℕ)). acts (at nodes) b.messages x o) (sym (at_child nodes t p n place c e m s x (IsKey-drop e.lift l key_l)) ∙ sym (asks_at (at nodes) e c l s.of.way.child_is s.of.way.plain))
+    ∙ ap (λ (o : Option (List ℕ)). acts (at nodes) b.messages x o) (sym (s.child_has x (IsKey-drop e.lift l key_l)) ∙ sym (asks_at (at nodes) e c l s.of.way.child_is s.of.way.plain))
     ∙ acts_alike (at nodes) has b.messages x (asks (at nodes) e l) plain)
-    (others_agree nodes t p n place c e m low [] s) k key
+    (others_agree nodes t p n place c e (e.seen + b.count) m (at nodes) low [] s) k key
 
-relieved_change_of : (nodes : Nodes) (t : Table) (p : ℕ) (n : Node) (place c : ℕ) (e : Edge) (m : Node) (b : Batch) (parent low : Node) → IsSplittableOf nodes t p n place c e m → IsEdgeBatch n place e b → AllByRecursion IsPlain b.messages
+relieved_change_of : (nodes : Nodes) (t : Table) (p : ℕ) (n : Node) (place c : ℕ) (e : Edge) (m : Node) (b : Batch) (parent low : Node) → IsSplittableOf nodes t p n place c e (e.seen + b.count) m (at nodes) → IsEdgeBatch n place e b → AllByRecursion IsPlain b.messages
     → IsRelieved n place e b.count parent → HasReceived (at nodes) n place e m b.messages low → IsChildChange t p parent c low [] → IsChildChangeOf nodes t p n parent c low []
 relieved_change_of nodes t p n place c e m b parent low s is plain r got change = record {
   step = change;
@@ -130,65 +86,122 @@ relieved_change_of nodes t p n place c e m b parent low s is plain r got change 
   private = s.private;
   once = s.once;
   names_it = child_named n place c e s.of.own.shape s.of.way;
-  meaning = relieved_meaning nodes t p n place c e m b parent low s is plain r got;
+  meaning = λ k key.
+      let list : List Edge = seen_by e b.count ∷ [] in
+      compacted_meaning (has_below nodes t.next c low []) (exchanged n place list) parent (exchanged_shape n place e list s.of.own.shape (one_fits t p n place c e (e.seen + b.count) m s.of)) r k
+      ∙ relieved_inside nodes t p n place c e m b low s is plain got k key;
 }
 
--- ---- an inner child
+-- ---- each way
 
-received_change : (t : Table) (p : ℕ) (n : Node) (place c : ℕ) (e : Edge) (m : Node) (b : Batch) (parent : Node) → IsSplittable t p n place c e m → IsEdgeBatch n place e b → AllByRecursion IsPlain b.messages → buffer_size m ≤ soft_limit
-    → IsRelieved n place e b.count parent → IsChildChange t p parent c (appended m b.messages) []
-received_change t p n place c e m b parent s is plain soft r =
-    let fits : sum_by size b.messages ≤ batch_limit = is.batch.fits in
-    relieved_change t p n place c e m b parent (appended m b.messages) s is r
-    (shape_appended m b.messages s.child.shape is.batch.moved.each (omega arith))
+-- what is pushed, and that it may be
+pub record IsPushable (t : Table) (p : ℕ) (n : Node) (place c : ℕ) (e : Edge) (m : Node) (b : Batch) : Type 0 where
+  pub split : IsSplittable t p n place c e (e.seen + b.count) m
+  pub waiting : IsWaitedFor n place e
+  pub moved : IsEdgeBatch n place e b
+  pub child : IsNodeOf t (t.level c) m
+  pub soft : buffer_size m ≤ soft_limit
+
+-- an inner child
+received_change : (t : Table) (p : ℕ) (n : Node) (place c : ℕ) (e : Edge) (m : Node) (b : Batch) (parent : Node) → IsPushable t p n place c e m b → IsRelieved n place e b.count parent → IsChildChange t p parent c (appended m b.messages) []
+received_change t p n place c e m b parent s r =
+    let fits : sum_by size b.messages ≤ batch_limit = s.moved.batch.fits in
+    let soft : buffer_size m ≤ soft_limit = s.soft in
+    one_change t p n place c e (e.seen + b.count) m parent (appended m b.messages) s.split r
+    (shape_appended m b.messages s.child.shape s.moved.batch.moved.each (omega arith))
     (level_appended m b.messages ∙ s.child.level_is)
     (λ x one. named_has (IsLower t (t.level c)) x (names m) s.child.lower
-    (subst (λ (l : List ℕ). 1 ≤ count_names x l) (names_appended m b.messages plain) one))
+    (subst (λ (l : List ℕ). 1 ≤ count_names x l) (names_appended m b.messages (batch_plain n place e b s.waiting s.moved)) one))
 
--- ---- a leaf
+-- a leaf
+leaf_level : (t : Table) (c : ℕ) (m : Node) (old new : List Entry) → m ≡ Leaf old → level_of m ≡ t.level c → level_of (Leaf new) ≡ t.level c
+leaf_level t c m old new leaf is = sym (ap level_of leaf) ∙ is
 
 leaf_received : (below : NodesAt) (n : Node) (place : ℕ) (e : Edge) (m : Node) (old new : List Entry) (list : List Message) → m ≡ Leaf old → IsReceived old list new → HasReceived below n place e m list (Leaf new)
 leaf_received below n place e m old new list is got k key range =
     let x : List ℕ = drop e.lift k in
     got.acted below x ∙ ap (λ (d : Node). acts below list x (node_at below d x)) (sym is)
 
-fitted_change : (t : Table) (p : ℕ) (n : Node) (place c : ℕ) (e : Edge) (m : Node) (b : Batch) (old new : List Entry) (parent : Node) → IsSplittable t p n place c e m → IsEdgeBatch n place e b → m ≡ Leaf old → IsLeaf new
-    → IsRelieved n place e b.count parent → IsChildChange t p parent c (Leaf new) []
-fitted_change t p n place c e m b old new parent s is leaf fits r =
-    relieved_change t p n place c e m b parent (Leaf new) s is r fits (sym (ap level_of leaf) ∙ s.child.level_is) (λ x one. absurd (omega arith))
+fitted_change : (t : Table) (p : ℕ) (n : Node) (place c : ℕ) (e : Edge) (m : Node) (b : Batch) (old new : List Entry) (parent : Node) → IsPushable t p n place c e m b → m ≡ Leaf old → IsLeaf new → IsRelieved n place e b.count parent → IsChildChange t p parent c (Leaf new) []
+fitted_change t p n place c e m b old new parent s leaf fits r =
+    one_change t p n place c e (e.seen + b.count) m parent (Leaf new) s.split r fits (leaf_level t c m old new leaf s.split.child_level) (λ x one. absurd (omega arith))
 
--- ---- each way
+-- a leaf that has received more than fits
+whole_splittable : (t : Table) (p : ℕ) (n : Node) (place c : ℕ) (e : Edge) (seen : ℕ) (m : Node) (old new : List Entry) → IsSplittable t p n place c e seen m → m ≡ Leaf old → IsSplittable t p n place c e seen (Leaf new)
+whole_splittable t p n place c e seen m old new s leaf = record {
+  table = s.table;
+  kept = s.kept;
+  own = s.own;
+  few = s.few;
+  way = s.way;
+  low = s.low;
+  child_level = leaf_level t c m old new leaf s.child_level;
+  child_names = tt;
+  next = s.next;
+}
 
--- what is pushed, and that it may be
-pub record IsPushable (t : Table) (p : ℕ) (n : Node) (place c : ℕ) (e : Edge) (m : Node) (b : Batch) : Type 0 where
-  pub split : IsSplittable t p n place c e m
-  pub waiting : IsWaitedFor n place e
-  pub moved : IsEdgeBatch n place e b
-  pub soft : buffer_size m ≤ soft_limit
+whole_of : (nodes : Nodes) (t : Table) (p : ℕ) (n : Node) (place c : ℕ) (e : Edge) (seen : ℕ) (m : Node) (old new : List Entry) → IsSplittableOf nodes t p n place c e seen m (at nodes) → m ≡ Leaf old
+    → IsSplittableOf nodes t p n place c e seen (Leaf new) (has_below nodes t.next c (Leaf new) [])
+whole_of nodes t p n place c e seen m old new s leaf = record {
+  of = whole_splittable t p n place c e seen m old new s.of leaf;
+  sound = s.sound;
+  there = s.there;
+  private = s.private;
+  once = s.once;
+  child_has = λ x key. has_child nodes t.next c (Leaf new) [] x ∙ node_has-key (at nodes) (Leaf new) x key;
+  others_have = λ x other low k. has_old nodes t.next c (Leaf new) [] x other low k;
+}
+
+whole_change_of : (nodes : Nodes) (t : Table) (p : ℕ) (n : Node) (place c : ℕ) (e : Edge) (m : Node) (b : Batch) (old new : List Entry) (parent half : Node) (made : List Node) → IsSplittableOf nodes t p n place c e (e.seen + b.count) m (at nodes) → IsEdgeBatch n place e b → AllByRecursion IsPlain b.messages
+    → m ≡ Leaf old → IsReceived old b.messages new → IsSplitInto n place (seen_by e b.count) (Leaf new) t.next parent half made → IsChildChangeOf nodes t p n parent c half made
+whole_change_of nodes t p n place c e m b old new parent half made s is plain leaf got into =
+    let seen : ℕ = e.seen + b.count in
+    let whole : IsSplittableOf nodes t p n place c e seen (Leaf new) (has_below nodes t.next c (Leaf new) []) = whole_of nodes t p n place c e seen m old new s leaf in
+    record {
+      step = split_change t p n place c e seen (Leaf new) parent half made whole.of into;
+      sound = s.sound;
+      there = s.there;
+      private = s.private;
+      once = s.once;
+      names_it = child_named n place c e s.of.own.shape s.of.way;
+      meaning = λ k key.
+          split_meaning nodes t p n place c e seen (Leaf new) (has_below nodes t.next c (Leaf new) []) parent half made whole into k key
+          ∙ relieved_inside nodes t p n place c e m b (Leaf new) s is plain (leaf_received (at nodes) n place e m old new b.messages leaf got) k key;
+    }
+
+-- ---- what a push changes
 
 pub push_change : (t : Table) (p : ℕ) (n : Node) (place c : ℕ) (e : Edge) (m : Node) (b : Batch) (parent low : Node) (made : List Node) → IsPushable t p n place c e m b → IsPushInto n place e m b t.next parent low made → IsChildChange t p parent c low made
-push_change t p n place c e m b _ _ _ s (received parent inner r) = received_change t p n place c e m b parent s.split s.moved (batch_plain n place e b s.waiting s.moved) s.soft r
-push_change t p n place c e m b _ _ _ s (fitted old new parent leaf got fits r) = fitted_change t p n place c e m b old new parent s.split s.moved leaf fits r
+push_change t p n place c e m b _ _ _ s (received parent inner r) = received_change t p n place c e m b parent s r
+push_change t p n place c e m b _ _ _ s (fitted old new parent leaf got fits r) = fitted_change t p n place c e m b old new parent s leaf fits r
+push_change t p n place c e m b _ _ _ s (split old new parent half made leaf got over into) =
+    split_change t p n place c e (e.seen + b.count) (Leaf new) parent half made (whole_splittable t p n place c e (e.seen + b.count) m old new s.split leaf) into
 
-pub push_change_of : (nodes : Nodes) (t : Table) (p : ℕ) (n : Node) (place c : ℕ) (e : Edge) (m : Node) (b : Batch) (parent low : Node) (made : List Node) → IsPushable t p n place c e m b → IsSplittableOf nodes t p n place c e m → IsPushInto n place e m b t.next parent low made
+pub push_change_of : (nodes : Nodes) (t : Table) (p : ℕ) (n : Node) (place c : ℕ) (e : Edge) (m : Node) (b : Batch) (parent low : Node) (made : List Node) → IsPushable t p n place c e m b → IsSplittableOf nodes t p n place c e (e.seen + b.count) m (at nodes) → IsPushInto n place e m b t.next parent low made
     → IsChildChangeOf nodes t p n parent c low made
 push_change_of nodes t p n place c e m b _ _ _ s of (received parent inner r) =
     relieved_change_of nodes t p n place c e m b parent (appended m b.messages) of s.moved (batch_plain n place e b s.waiting s.moved) r
-    (λ k key range. node_at-appended (at nodes) m b.messages (drop e.lift k) s.split.child.shape inner)
-    (push_change t p n place c e m b parent (appended m b.messages) [] s (received parent inner r))
+    (λ k key range. node_at-appended (at nodes) m b.messages (drop e.lift k) s.child.shape inner)
+    (received_change t p n place c e m b parent s r)
 push_change_of nodes t p n place c e m b _ _ _ s of (fitted old new parent leaf got fits r) =
     relieved_change_of nodes t p n place c e m b parent (Leaf new) of s.moved (batch_plain n place e b s.waiting s.moved) r
     (leaf_received (at nodes) n place e m old new b.messages leaf got)
-    (push_change t p n place c e m b parent (Leaf new) [] s (fitted old new parent leaf got fits r))
+    (fitted_change t p n place c e m b old new parent s leaf fits r)
+push_change_of nodes t p n place c e m b _ _ _ s of (split old new parent half made leaf got over into) =
+    whole_change_of nodes t p n place c e m b old new parent half made of s.moved (batch_plain n place e b s.waiting s.moved) leaf got into
 
 pub push_few : (n : Node) (place : ℕ) (e : Edge) (m : Node) (b : Batch) (next : ℕ) (parent low : Node) (made : List Node) → IsPushInto n place e m b next parent low made → length made ≤ 1
 push_few n place e m b next _ _ _ (received parent inner r) = omega arith
 push_few n place e m b next _ _ _ (fitted old new parent leaf got fits r) = omega arith
+push_few n place e m b next _ _ _ (split old new parent half made leaf got over into) = split_few n place (seen_by e b.count) (Leaf new) next parent half made into
 
 pub push_named : (t : Table) (p : ℕ) (n : Node) (place c : ℕ) (e : Edge) (m : Node) (b : Batch) (parent low : Node) (made : List Node) → IsPushable t p n place c e m b → IsPushInto n place e m b t.next parent low made → 1 ≤ times parent c
-push_named t p n place c e m b _ _ _ s (received parent inner r) = relieved_names n place c e b.count parent s.split.own.shape s.split.way r
-push_named t p n place c e m b _ _ _ s (fitted old new parent leaf got fits r) = relieved_names n place c e b.count parent s.split.own.shape s.split.way r
+push_named t p n place c e m b _ _ _ s (received parent inner r) = one_names n place c e (e.seen + b.count) parent s.split.own.shape s.split.way r
+push_named t p n place c e m b _ _ _ s (fitted old new parent leaf got fits r) = one_names n place c e (e.seen + b.count) parent s.split.own.shape s.split.way r
+push_named t p n place c e m b _ _ _ s (split old new parent half made leaf got over into) =
+    split_named t p n place c e (e.seen + b.count) (Leaf new) parent half made (whole_splittable t p n place c e (e.seen + b.count) m old new s.split leaf) into
 
 pub push_size : (n : Node) (place : ℕ) (e : Edge) (m : Node) (b : Batch) (next : ℕ) (parent low : Node) (made : List Node) → IsPushInto n place e m b next parent low made → buffer_size parent ≤ buffer_size n
-push_size n place e m b next _ _ _ (received parent inner r) = relieved_size n place e b.count parent r
-push_size n place e m b next _ _ _ (fitted old new parent leaf got fits r) = relieved_size n place e b.count parent r
+push_size n place e m b next _ _ _ (received parent inner r) = compacted_small n place (seen_by e b.count ∷ []) parent r
+push_size n place e m b next _ _ _ (fitted old new parent leaf got fits r) = compacted_small n place (seen_by e b.count ∷ []) parent r
+push_size n place e m b next _ _ _ (split old new parent half made leaf got over into) = (split_size n place (seen_by e b.count) (Leaf new) next parent half made into).0

@@ -51,8 +51,8 @@ upper_edge e pivot child = record e { pivot = pivot; child = Some child }
 abbrev pub IsInside : Node → ℕ → Edge → List ℕ → Type 0
 IsInside n place e pivot = IsBelow e.pivot pivot × IsBelowEnd pivot (end_at n place)
 
--- a node `n` and its child `m` after the child's split, and what is made: both halves, or the half
--- that alone has keys of the edge
+-- a node `n` and its child `m` after the child's split, and what is made, where the edge `e` stands
+-- in place of the node's own: both halves, or the half that alone has keys of the edge
 pub data IsSplitInto (n : Node) (place : ℕ) (e : Edge) (m : Node) (next : ℕ)
     : Node → Node → List Node → Type 0 where
   parted : (first : Node) (pivot : List ℕ) (second parent : Node)
@@ -60,10 +60,19 @@ pub data IsSplitInto (n : Node) (place : ℕ) (e : Edge) (m : Node) (next : ℕ)
       → length (parting e pivot) ≤ key_limit
       → IsCompacted (exchanged n place (e ∷ upper_edge e (parting e pivot) next ∷ [])) parent
       → IsSplitInto n place e m next parent first (second ∷ [])
-  lower : (first : Node) (pivot : List ℕ) (second : Node) → AreHalves m first pivot second
-      → ¬ IsBelowEnd (parting e pivot) (end_at n place) → IsSplitInto n place e m next n first []
-  upper : (first : Node) (pivot : List ℕ) (second : Node) → AreHalves m first pivot second
-      → ¬ IsBelow e.pivot (parting e pivot) → IsSplitInto n place e m next n second []
+  lower : (first : Node) (pivot : List ℕ) (second parent : Node) → AreHalves m first pivot second
+      → ¬ IsBelowEnd (parting e pivot) (end_at n place)
+      → IsCompacted (exchanged n place (e ∷ [])) parent
+      → IsSplitInto n place e m next parent first []
+  upper : (first : Node) (pivot : List ℕ) (second parent : Node) → AreHalves m first pivot second
+      → ¬ IsBelow e.pivot (parting e pivot)
+      → IsCompacted (exchanged n place (e ∷ [])) parent
+      → IsSplitInto n place e m next parent second []
+
+-- as a key of the edge the pivot lies inside the one at a place, and is too long for the node
+abbrev pub IsLongIn : Node → ℕ → Edge → List ℕ → Type 0
+IsLongIn n place e pivot =
+    IsInside n place e (parting e pivot) × (key_limit < length (parting e pivot))
 
 -- which of a child's halves have keys of an edge that ends there: `pivot` parts them
 abbrev pub IsSide : Edge → Option (List ℕ) → List ℕ → Side → Type 0
@@ -101,8 +110,7 @@ pub record IsLongPivot (n : Node) (place : ℕ) (m : Node) : Type 0 where
   pub pivot : List ℕ
   pub second : Node
   pub halves : AreHalves m first pivot second
-  pub inside : IsInside n place edge (parting edge pivot)
-  pub long : key_limit < length (parting edge pivot)
+  pub long : IsLongIn n place edge pivot
 
 -- the step of a child's split
 pub record IsChildStep (root next : ℕ) (parent : Fetched) (place : ℕ) (child : Fetched)

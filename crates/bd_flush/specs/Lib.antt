@@ -3,4 +3,5 @@ pub mod Flushed
 pub mod Splits
 pub mod Children
 pub mod Pushes
+pub mod Raising
 pub mod Ways

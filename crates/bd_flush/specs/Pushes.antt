@@ -22,7 +22,7 @@ use Rattle.bd_inner.specs.Exchange.{exchanged, end_at, IsEdgeAt, way_to}
 use Rattle.bd_leaf.specs.Leaves.{entries_size, IsReceived}
 use Rattle.bd_flush.specs.declared.fetching.Fetched.{Fetched}
 use Rattle.bd_flush.specs.declared.children.Parts.{Parts}
-use Rattle.bd_flush.specs.Children.{IsFetched, IsWayTo, child_step}
+use Rattle.bd_flush.specs.Children.{IsFetched, IsWayTo, IsSplitInto, IsLongPivot, child_step}
 
 -- the edge after its child has got so many more messages
 abbrev pub seen_by : Edge → ℕ → Edge
@@ -60,7 +60,8 @@ abbrev pub IsRelieved : Node → ℕ → Edge → ℕ → Node → Type 0
 IsRelieved n place e count parent =
     IsCompacted (exchanged n place (seen_by e count ∷ [])) parent
 
--- a node `n` and its child `m` after messages have gone down, and what is made
+-- a node `n` and its child `m` after messages have gone down, and what is made: a leaf that would have
+-- more than 40,960 bytes is split
 pub data IsPushInto (n : Node) (place : ℕ) (e : Edge) (m : Node) (b : Batch) (next : ℕ)
     : Node → Node → List Node → Type 0 where
   received : (parent : Node) → 1 ≤ level_of m → IsRelieved n place e b.count parent
@@ -68,9 +69,14 @@ pub data IsPushInto (n : Node) (place : ℕ) (e : Edge) (m : Node) (b : Batch) (
   fitted : (old new : List Entry) (parent : Node) → m ≡ Leaf old → IsReceived old b.messages new
       → IsLeaf new → IsRelieved n place e b.count parent
       → IsPushInto n place e m b next parent (Leaf new) []
+  split : (old new : List Entry) (parent half : Node) (made : List Node) → m ≡ Leaf old
+      → IsReceived old b.messages new → leaf_limit < entries_size new
+      → IsSplitInto n place (seen_by e b.count) (Leaf new) next parent half made
+      → IsPushInto n place e m b next parent half made
 
--- the child is a leaf that would have too many bytes
-pub record IsOverfull (n : Node) (place : ℕ) (m : Node) : Type 0 where
+-- the child is a leaf that would have too many bytes, and the pivot of its halves would be inside the
+-- edge and too long for the parent
+pub record IsLongPush (n : Node) (place : ℕ) (m : Node) : Type 0 where
   pub edge : Edge
   pub here : IsEdgeAt n place edge
   pub batch : Batch
@@ -80,6 +86,7 @@ pub record IsOverfull (n : Node) (place : ℕ) (m : Node) : Type 0 where
   pub leaf : m ≡ Leaf old
   pub got : IsReceived old batch.messages new
   pub over : leaf_limit < entries_size new
+  pub long : IsLongPivot n place (Leaf new)
 
 -- a node and its child after messages have gone down, and what is made
 pub record ArePushed (n : Node) (place : ℕ) (m : Node) (next : ℕ) (parts : Parts) : Type 0 where

@@ -1,11 +1,13 @@
 -- The way down that a step of a flush takes, and what is to be done at its end.
-use Rattle.std.specs.Prelude.{◌≡◌, ◌≢◌, ℕ, ◌<◌, ◌≤◌, ◌⊎◌, [], length, drop, Option, None, Some}
+use Rattle.std.specs.Prelude.{◌≡◌, ◌≢◌, ℕ, ◌<◌, ◌≤◌, ◌⊎◌, [], length, drop, Option, None, Some, slice_get}
 use Rattle.std.specs.List.{AllByRecursion}
 use Rattle.bd_limits.specs.Limits.{soft_limit}
+use Rattle.bd_message.specs.declared.message.Message.{Message}
 use Rattle.bd_node.specs.declared.node.Edge.{Edge}
 use Rattle.bd_node.specs.declared.node.Node.{Node}
 use Rattle.bd_node.specs.Nodes.{level_of, buffer_size}
 use Rattle.bd_node.specs.Meaning.{Nodes}
+use Rattle.bd_node.specs.Shape.{IsPending}
 use Rattle.bd_node.specs.Private.{IsPrivate}
 use Rattle.bd_node.specs.Tables.{Table}
 use Rattle.bd_inner.specs.Halves.{edges_of, buffer_of}
@@ -26,6 +28,13 @@ pub record IsFullestAt (n : Node) (place : ℕ) : Type 0 where
   pub bytes : ℕ
   pub fullest : IsFullest (edges_of n) (buffer_of n) place bytes
 
+-- a message is pending for a node's edge at a place
+pub record HasPending (n : Node) (place : ℕ) (e : Edge) : Type 0 where
+  pub index : ℕ
+  pub message : Message
+  pub there : slice_get (buffer_of n) index ≡ Some message
+  pub pending : IsPending index message e (end_at n place)
+
 -- a node on the way: the root, or the private child for which most bytes wait in one with at most
 -- 14 edges, if it is asked with nothing in front of a key and more than 16,384 bytes wait in it
 pub data IsOnWay (nodes : Nodes) (t : Table) : ℕ → Type 0 where
@@ -33,6 +42,12 @@ pub data IsOnWay (nodes : Nodes) (t : Table) : ℕ → Type 0 where
   below : (id place c : ℕ) (n m : Node) (e : Edge) → IsOnWay nodes t id → nodes id ≡ Some n
       → length (edges_of n) ≤ 14 → IsFullestAt n place → IsWayTo n place c e → t.count c ≡ 1
       → nodes c ≡ Some m → soft_limit < buffer_size m → IsOnWay nodes t c
+
+-- a fetched node of the way, at most as high as the root: it is the root, or more than 16,384 bytes
+-- wait in it
+pub record IsHigh (t : Table) (f : Fetched) : Type 0 where
+  pub under : t.level f.id ≤ t.level t.root
+  pub full : (f.id ≡ t.root) ⊎ (soft_limit < buffer_size f.node.value)
 
 -- the child of an edge that asks nothing, or a private one with nothing in front of a key, in which
 -- no more than 16,384 bytes wait
@@ -78,10 +93,10 @@ IsToDo t (SplitRoot root) =
     IsFetched t root × (root.id ≡ t.root) × (15 ≤ length (edges_of root.node.value))
 IsToDo t (SplitChild parent place child) =
     CanSplitChild t parent place child × IsFullestAt parent.node.value place
-    × (soft_limit < buffer_size child.node.value)
-IsToDo t (Push parent place child) = IsReadyToPush t parent place child
-IsToDo t (Privatise parent place) = IsShared t parent place
-IsToDo t (Carve parent place) = IsNamed t parent place
+    × (soft_limit < buffer_size child.node.value) × IsHigh t parent
+IsToDo t (Push parent place child) = IsReadyToPush t parent place child × IsHigh t parent
+IsToDo t (Privatise parent place) = IsShared t parent place × IsHigh t parent
+IsToDo t (Carve parent place) = IsNamed t parent place × IsHigh t parent
 
 -- a fetched node of the way
 pub record IsThere (nodes : Nodes) (t : Table) (f : Fetched) : Type 0 where
@@ -117,6 +132,7 @@ pub record IsNext (t : Table) (parent child : Fetched) : Type 0 where
   pub lower : t.level child.id < t.level parent.id
   pub inner : 1 ≤ level_of child.node.value
   pub room : length (edges_of child.node.value) ≤ 14
+  pub full : soft_limit < buffer_size child.node.value
 
 -- what is seen from a node on the way, as far as the table tells
 abbrev pub IsSeen : Table → Fetched → Look → Type 0

@@ -6,11 +6,11 @@ ghost use Rattle.bd_message.specs.KeyMaps.{HasMapCause};
 ghost use Rattle.bd_node.specs.declared.node.Edge.{Edge};
 ghost use Rattle.bd_node.specs.Shape.{IsShape};
 ghost use Rattle.bd_node.specs.Tables.{IsSound};
-ghost use Rattle.bd_inner.specs.Halves.{edges_of};
+ghost use Rattle.bd_inner.specs.Halves.{edges_of, AreHalves};
 ghost use Rattle.bd_inner.specs.Compaction.{IsCompacted};
 ghost use Rattle.bd_inner.specs.Exchange.{exchanged, IsEdgeAt, FitsAt};
 ghost use Rattle.bd_flush.specs.Flushed.{IsFlushed, IsWornFor};
-ghost use Rattle.bd_flush.specs.Children.{CanSplitChild, AreFamily, child_step, parting, upper_edge, IsSide, AreParts, IsLongPivot, IsChildStep, IsSplitChild, IsNoHigher};
+ghost use Rattle.bd_flush.specs.Children.{CanSplitChild, AreFamily, child_step, parting, upper_edge, IsSplitInto, IsSide, AreParts, IsLongIn, IsLongPivot, IsChildStep, IsSplitChild, IsNoHigher};
 
 use crate::Fetched;
 use crate::nodes::edges_of;
@@ -125,18 +125,41 @@ fn split_below(
     ensures { IfOk result (λ found. MatchOption found (IsLongPivot node.now place child.now)
         (AreParts node.now place child.now next)) }
 {
-    let edges = edges_of(node);
-    let edge = &edges[place];
-    let (first, pivot, second) = split(alloc, child)?;
-    let pivot = parting(alloc, edge, &pivot)?;
-    match asked_side(edge, end_of(edges, place), pivot.as_slice()) {
-        Side::Lower => Ok(Some(one_half(alloc, node, first)?)),
-        Side::Upper => Ok(Some(one_half(alloc, node, second)?)),
+    let edge = edges_of(node)[place].clone()?;
+    let halves = split(alloc, child)?;
+    over_halves(alloc, node, place, edge, halves, next)
+}
+
+// A node over the halves of a child, with an edge in place of the one that it has there, and what
+// is made; none where the pivot would be too long.
+pub fn over_halves(
+    alloc: Global,
+    node: &Node,
+    place: usize,
+    edge: Edge,
+    halves: (Node, Bytes, Node),
+    next: u64,
+) -> Result<Option<Parts>, AllocError>
+    requires shape { IsShape node.now }
+    requires room { length (edges_of node.now) ≤ 14 }
+    requires within { place < length (edges_of node.now) }
+    requires next { 1 ≤ next }
+    requires fits { (e : Edge) → IsEdgeAt node.now place e → FitsAt node.now place e (edge ∷ []) }
+    ensures { IfOk result (λ found. MatchOption found
+        (IsLongIn node.now place edge halves.1)
+        (λ parts. (m : Node) → AreHalves m halves.0 halves.1 halves.2
+        → IsSplitInto node.now place edge m next parts.node parts.half parts.made.items)) }
+{
+    let (first, pivot, second) = halves;
+    let pivot = parting(alloc, &edge, &pivot)?;
+    match asked_side(&edge, end_of(edges_of(node), place), pivot.as_slice()) {
+        Side::Lower => Ok(Some(one_half(alloc, node, place, edge, first)?)),
+        Side::Upper => Ok(Some(one_half(alloc, node, place, edge, second)?)),
         Side::Both => {
             if pivot.len() > MAX_KEY {
                 return Ok(None);
             }
-            let node = with_upper(alloc, node, place, pivot, next)?;
+            let node = with_upper(alloc, node, place, edge, pivot, next)?;
             let mut made = Vec::new(alloc);
             made.push(second)?;
             Ok(Some(Parts {
@@ -148,16 +171,38 @@ fn split_below(
     }
 }
 
-// A node as it is, over one half of its child.
-fn one_half(alloc: Global, node: &Node, half: Node) -> Result<Parts, AllocError>
-    ensures { IfOk result (λ parts.
-        (parts.node ≡ node.now) × (parts.half ≡ half) × (parts.made.items ≡ [])) }
+// A node with an edge in place of one, over one half of its child.
+fn one_half(
+    alloc: Global,
+    node: &Node,
+    place: usize,
+    edge: Edge,
+    half: Node,
+) -> Result<Parts, AllocError>
+    requires shape { IsShape node.now }
+    requires within { place < length (edges_of node.now) }
+    requires fits { (e : Edge) → IsEdgeAt node.now place e → FitsAt node.now place e (edge ∷ []) }
+    ensures { IfOk result (λ parts. IsCompacted (exchanged node.now place (edge ∷ [])) parts.node
+        × (parts.half ≡ half) × (parts.made.items ≡ [])) }
 {
+    let node = with_edge(alloc, node, place, edge)?;
     Ok(Parts {
-        node: node.clone()?,
+        node,
         half,
         made: Vec::new(alloc),
     })
+}
+
+// A copy of a node with an edge in place of one.
+pub fn with_edge(alloc: Global, node: &Node, place: usize, edge: Edge) -> Result<Node, AllocError>
+    requires shape { IsShape node.now }
+    requires within { place < length (edges_of node.now) }
+    requires fits { (e : Edge) → IsEdgeAt node.now place e → FitsAt node.now place e (edge ∷ []) }
+    ensures { IfOk result (IsCompacted (exchanged node.now place (edge ∷ []))) }
+{
+    let mut list = Vec::new(alloc);
+    list.push(edge)?;
+    exchange(alloc, node, place, Items::from_vec(list))
 }
 
 // Which halves have keys of an edge.
@@ -194,23 +239,23 @@ fn parting(alloc: Global, edge: &Edge, pivot: &Bytes) -> Result<Bytes, AllocErro
     Ok(Bytes::from_vec(key))
 }
 
-// A copy of a node whose edge at a place keeps its keys below a pivot, and with a new edge to a
-// child for the others.
+// A copy of a node with an edge for its keys below a pivot in place of one, and with a new edge to
+// another child for the others.
 fn with_upper(
     alloc: Global,
     node: &Node,
     place: usize,
+    edge: Edge,
     pivot: Bytes,
     child: u64,
 ) -> Result<Node, AllocError>
     requires shape { IsShape node.now }
     requires within { place < length (edges_of node.now) }
     requires fits { (e : Edge) → IsEdgeAt node.now place e
-        → FitsAt node.now place e (e ∷ upper_edge e pivot child ∷ []) }
-    ensures { IfOk result (λ n. (e : Edge) → IsEdgeAt node.now place e
-        → IsCompacted (exchanged node.now place (e ∷ upper_edge e pivot child ∷ [])) n) }
+        → FitsAt node.now place e (edge ∷ upper_edge edge pivot child ∷ []) }
+    ensures { IfOk result
+        (IsCompacted (exchanged node.now place (edge ∷ upper_edge edge pivot child ∷ []))) }
 {
-    let edge = &edges_of(node)[place];
     let upper = Edge {
         pivot,
         lift: edge.lift,
@@ -219,7 +264,7 @@ fn with_upper(
         seen: edge.seen,
     };
     let mut list = Vec::new(alloc);
-    list.push(edge.clone()?)?;
+    list.push(edge)?;
     list.push(upper)?;
     exchange(alloc, node, place, Items::from_vec(list))
 }

@@ -10,6 +10,7 @@ pub mod laws;
 mod nodes;
 mod planting;
 mod pushing;
+mod raising;
 mod splitting;
 mod ways;
 
@@ -18,5 +19,6 @@ pub use fetching::{Fetched, fetch};
 pub use filling::{FullEdge, fullest};
 pub use planting::push_new;
 pub use pushing::{ChildPush, push};
+pub use raising::{Way, raise_above, raised};
 pub use splitting::split_root;
 pub use ways::{FlushStep, next_step};

@@ -13,8 +13,9 @@ ghost use Rattle.bd_flush.specs.Children.{IsNoHigher};
 ghost use Rattle.bd_flush.specs.Pushes.{leaf_step, IsWaitedFor, CanPushNew, IsOwn, IsWay, IsNewLeaf, IsNewStep, IsPushedNew};
 
 use crate::Fetched;
+use crate::children::with_edge;
 use crate::nodes::edges_of;
-use crate::pushing::{batch_for, with_edge};
+use crate::pushing::{batch_for, seen_by};
 use bd_inner::{edge_to, end_of};
 use bd_leaf as leaf;
 use bd_message::MapFault;
@@ -93,7 +94,7 @@ fn new_leaf(
     let edge = way(alloc, node, place, next)?;
     let batch = batch_for(alloc, node, place, &edge)?;
     let entries = leaf::receive(alloc, &[], batch.messages.as_slice())?;
-    let above = with_edge(alloc, node, place, &edge, batch.count)?;
+    let above = with_edge(alloc, node, place, seen_by(&edge, batch.count)?)?;
     Ok((above, entries))
 }
 

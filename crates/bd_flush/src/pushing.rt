@@ -1,27 +1,29 @@
 //! Messages go down from a node to its child.
 
 ghost use Rattle.std.specs.Prelude.{◌≡◌, ◌≢◌, ◌+◌, ◌^◌, ◌<◌, ◌≤◌, ◌∷◌, [], length, drop, IfOk, MatchOption, Ok};
-ghost use Rattle.bd_limits.specs.Limits.{soft_limit};
+ghost use Rattle.bd_limits.specs.Limits.{soft_limit, leaf_limit, batch_limit};
 ghost use Rattle.bd_message.specs.KeyMaps.{HasMapCause};
 ghost use Rattle.bd_node.specs.declared.node.Edge.{Edge};
 ghost use Rattle.bd_node.specs.declared.node.Node.TheVariants as kind;
 ghost use Rattle.bd_node.specs.Nodes.{level_of, buffer_size};
 ghost use Rattle.bd_node.specs.Shape.{IsLeaf, IsShape};
 ghost use Rattle.bd_node.specs.Tables.{IsSound};
-ghost use Rattle.bd_inner.specs.Halves.{edges_of, buffer_of};
+ghost use Rattle.bd_inner.specs.Halves.{edges_of, buffer_of, AreHalves};
 ghost use Rattle.bd_inner.specs.Moving.{IsLifted};
-ghost use Rattle.bd_inner.specs.Exchange.{end_at, IsEdgeAt, FitsAt};
+ghost use Rattle.bd_inner.specs.Exchange.{end_at, IsEdgeAt};
 ghost use Rattle.bd_flush.specs.Flushed.{IsFlushed, IsWornFor};
-ghost use Rattle.bd_flush.specs.Children.{AreFamily, IsNoHigher};
-ghost use Rattle.bd_flush.specs.Pushes.{seen_by, unseen, CanPush, IsWaitedFor, IsEdgeBatch, IsRelieved, IsOverfull, ArePushed, IsPushStep, IsPushed};
+ghost use Rattle.bd_leaf.specs.Leaves.{AreEntries, entries_size};
+ghost use Rattle.bd_flush.specs.Children.{AreFamily, IsSplitInto, IsLongPivot, IsNoHigher};
+ghost use Rattle.bd_flush.specs.Pushes.{seen_by, unseen, CanPush, IsWaitedFor, IsEdgeBatch, IsRelieved, IsLongPush, ArePushed, IsPushStep, IsPushed};
 
 use crate::Fetched;
-use crate::children::{Parts, child_step};
+use crate::children::{Parts, child_step, over_halves, with_edge};
 use crate::nodes::edges_of;
-use bd_inner::{Batch, end_of, exchange, next_batch, receive};
+use bd_inner::{Batch, end_of, next_batch, receive};
+use bd_keys::Bytes;
 use bd_leaf as leaf;
 use bd_message::{MapFault, Message};
-use bd_node::{Edge, Entry, Items, Node, NodeStore, Step};
+use bd_node::{Edge, Entries, Entry, Node, NodeStore, Step};
 use std::alloc::{AllocError, Global};
 
 /// What became of messages that were to go down to a child.
@@ -29,13 +31,16 @@ use std::alloc::{AllocError, Global};
 pub enum ChildPush {
     /// The child has them.
     Done,
-    /// The child is a leaf that would have more than 40,960 bytes: nothing was changed.
-    Overfull,
+    /// The child is a leaf that would have more than 40,960 bytes, and the pivot of its halves would
+    /// have more than 518 bytes in the parent: nothing was changed.
+    LongPivot,
 }
 
 /// Moves the oldest messages that a private node's edge hasn't seen, at least one and at most
 /// 16,384 bytes, to its child, in which at most 16,384 bytes wait. Both were fetched before. No
-/// other node names the child, and the edge at the place asks it with nothing in front of a key.
+/// other node names the child, and the edge at the place asks it with nothing in front of a key. A
+/// leaf that would have more than 40,960 bytes is split: it is one half from now on, and the other
+/// half is made if it has keys of the edge.
 pub fn push<S: NodeStore>(
     alloc: Global,
     store: &mut S,
@@ -54,8 +59,8 @@ pub fn push<S: NodeStore>(
         (S.nodes store.new) (S.table store.new) }
     ensures table { result ≡ Ok ChildPush.Done
         → IsNoHigher (S.table store.old) (S.table store.new) }
-    ensures over { result ≡ Ok ChildPush.Overfull
-        → IsOverfull parent.now.node.value place child.now.node.value }
+    ensures long { result ≡ Ok ChildPush.LongPivot
+        → IsLongPush parent.now.node.value place child.now.node.value }
     ensures known { S.is_known store.old → S.is_known store.new }
     ensures same_table { result ≢ Ok ChildPush.Done → S.table store.new ≡ S.table store.old }
     ensures same_nodes { S.is_known store.old
@@ -68,13 +73,13 @@ pub fn push<S: NodeStore>(
     let root = store.root();
     let next = store.next_id();
     let Some(step) = push_step(alloc, root, next, parent, place, child)? else {
-        return Ok(ChildPush::Overfull);
+        return Ok(ChildPush::LongPivot);
     };
     store.commit(step)?;
     Ok(ChildPush::Done)
 }
 
-// The step of a push, and none where the child would be too large.
+// The step of a push, and none where a leaf's pivot would be too long in the parent.
 fn push_step(
     alloc: Global,
     root: u64,
@@ -86,11 +91,13 @@ fn push_step(
     requires shape { IsShape parent.now.node.value }
     requires child { IsShape child.now.node.value }
     requires soft { buffer_size child.now.node.value ≤ soft_limit }
+    requires room { length (edges_of parent.now.node.value) ≤ 14 }
     requires within { place < length (edges_of parent.now.node.value) }
+    requires next { 1 ≤ next }
     requires waiting { (e : Edge) → IsEdgeAt parent.now.node.value place e
         → IsWaitedFor parent.now.node.value place e }
     ensures { IfOk result (λ found. MatchOption found
-        (IsOverfull parent.now.node.value place child.now.node.value)
+        (IsLongPush parent.now.node.value place child.now.node.value)
         (λ step. IsPushStep root next parent.now place child.now step)) }
 {
     let node: &Node = &parent.node;
@@ -103,7 +110,8 @@ fn push_step(
     }
 }
 
-// A node and its child after messages have gone down, and none where the child would be too large.
+// A node and its child after messages have gone down, and none where a leaf's pivot would be too
+// long in the node.
 fn pushed_below(
     alloc: Global,
     node: &Node,
@@ -114,9 +122,11 @@ fn pushed_below(
     requires shape { IsShape node.now }
     requires child { IsShape child.now }
     requires soft { buffer_size child.now ≤ soft_limit }
+    requires room { length (edges_of node.now) ≤ 14 }
     requires within { place < length (edges_of node.now) }
+    requires next { 1 ≤ next }
     requires waiting { (e : Edge) → IsEdgeAt node.now place e → IsWaitedFor node.now place e }
-    ensures { IfOk result (λ found. MatchOption found (IsOverfull node.now place child.now)
+    ensures { IfOk result (λ found. MatchOption found (IsLongPush node.now place child.now)
         (ArePushed node.now place child.now next)) }
 {
     match child {
@@ -135,16 +145,18 @@ fn leaf_received(
 ) -> Result<Option<Parts>, AllocError>
     requires shape { IsShape node.now }
     requires leaf { IsLeaf entries.now }
+    requires room { length (edges_of node.now) ≤ 14 }
     requires within { place < length (edges_of node.now) }
+    requires next { 1 ≤ next }
     requires waiting { (e : Edge) → IsEdgeAt node.now place e → IsWaitedFor node.now place e }
     ensures { IfOk result (λ found. MatchOption found
-        (IsOverfull node.now place (kind.Leaf entries.now))
+        (IsLongPush node.now place (kind.Leaf entries.now))
         (ArePushed node.now place (kind.Leaf entries.now) next)) }
 {
     let batch = edge_batch(alloc, node, place)?;
     let new = leaf::receive(alloc, entries, batch.messages.as_slice())?;
     if !leaf::fits(new.as_slice()) {
-        return Ok(None);
+        return leaf_parted(alloc, node, place, batch.count, new, next);
     }
     let above = relieved(alloc, node, place, batch.count)?;
     Ok(Some(Parts {
@@ -152,6 +164,47 @@ fn leaf_received(
         half: Node::Leaf(new),
         made: Vec::new(alloc),
     }))
+}
+
+// The same of a leaf whose entries have become too many, after so many messages have gone down.
+fn leaf_parted(
+    alloc: Global,
+    node: &Node,
+    place: usize,
+    count: usize,
+    new: Entries,
+    next: u64,
+) -> Result<Option<Parts>, AllocError>
+    requires shape { IsShape node.now }
+    requires room { length (edges_of node.now) ≤ 14 }
+    requires within { place < length (edges_of node.now) }
+    requires next { 1 ≤ next }
+    requires there { (e : Edge) → IsEdgeAt node.now place e
+        → e.seen + count ≤ length (buffer_of node.now) }
+    requires entries { AreEntries new }
+    requires over { leaf_limit < entries_size new }
+    requires fits { entries_size new ≤ leaf_limit + batch_limit }
+    ensures { IfOk result (λ found. MatchOption found
+        (IsLongPivot node.now place (kind.Leaf new))
+        (λ parts. (e : Edge) → IsEdgeAt node.now place e
+        → IsSplitInto node.now place (seen_by e count) (kind.Leaf new) next
+        parts.node parts.half parts.made.items)) }
+{
+    let edge = seen_by(&edges_of(node)[place], count)?;
+    let halves = leaf_halves(new)?;
+    over_halves(alloc, node, place, edge, halves, next)
+}
+
+// The halves of a leaf whose entries a batch has made too many, and the key where they part.
+fn leaf_halves(new: Entries) -> Result<(Node, Bytes, Node), AllocError>
+    requires entries { AreEntries new }
+    requires over { leaf_limit < entries_size new }
+    requires fits { entries_size new ≤ leaf_limit + batch_limit }
+    ensures { IfOk result (λ halves. AreHalves (kind.Leaf new) halves.0 halves.1 halves.2) }
+{
+    let (first, second) = leaf::split(new)?;
+    let pivot = second.as_slice()[0].key.clone()?;
+    Ok((Node::Leaf(first), pivot, Node::Leaf(second)))
 }
 
 // The same of a child that is an inner node.
@@ -232,31 +285,12 @@ fn relieved(alloc: Global, node: &Node, place: usize, count: usize) -> Result<No
     ensures { IfOk result (λ n. (e : Edge) → IsEdgeAt node.now place e
         → IsRelieved node.now place e count n) }
 {
-    with_edge(alloc, node, place, &edges_of(node)[place], count)
-}
-
-// A copy of a node with an edge in place of one, after so many messages have gone down it.
-pub fn with_edge(
-    alloc: Global,
-    node: &Node,
-    place: usize,
-    edge: &Edge,
-    count: usize,
-) -> Result<Node, AllocError>
-    requires shape { IsShape node.now }
-    requires within { place < length (edges_of node.now) }
-    requires seen { edge.now.seen + count < 2 ^ 32 }
-    requires fits { (e : Edge) → IsEdgeAt node.now place e
-        → FitsAt node.now place e (seen_by edge.now count ∷ []) }
-    ensures { IfOk result (IsRelieved node.now place edge.now count) }
-{
-    let mut list = Vec::new(alloc);
-    list.push(seen_by(edge, count)?)?;
-    exchange(alloc, node, place, Items::from_vec(list))
+    let edge = seen_by(&edges_of(node)[place], count)?;
+    with_edge(alloc, node, place, edge)
 }
 
 // A copy of an edge after its child has got so many more messages.
-fn seen_by(edge: &Edge, count: usize) -> Result<Edge, AllocError>
+pub fn seen_by(edge: &Edge, count: usize) -> Result<Edge, AllocError>
     requires { edge.now.seen + count < 2 ^ 32 }
     ensures { IfOk result (λ e. e ≡ seen_by edge.now count) }
 {

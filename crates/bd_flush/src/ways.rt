@@ -14,7 +14,7 @@ ghost use Rattle.bd_inner.specs.Halves.{edges_of, buffer_of};
 ghost use Rattle.bd_inner.specs.Exchange.{end_at, IsEdgeAt};
 ghost use Rattle.bd_flush.specs.Children.{IsFetched, IsWayTo};
 ghost use Rattle.bd_inner.specs.Moving.{IsPlainFor};
-ghost use Rattle.bd_flush.specs.Ways.{IsFullestAt, IsTarget, IsToDo, IsToDoAt, IsThere, IsChildThere, IsAsked, IsSeen, IsSeenAt};
+ghost use Rattle.bd_flush.specs.Ways.{IsFullestAt, IsTarget, IsHigh, IsToDo, IsToDoAt, IsThere, IsChildThere, IsAsked, IsSeen, IsSeenAt};
 
 use crate::nodes::{buffer_of, buffer_size, edges_of};
 use crate::{Fetched, fetch, fullest};
@@ -102,6 +102,7 @@ fn look_from<S: NodeStore>(store: &mut S, parent: Fetched) -> Result<Look, MapFa
     requires fetched { IsFetched (S.table store.old) parent }
     requires inner { 1 ≤ level_of parent.node.value }
     requires room { length (edges_of parent.node.value) ≤ 14 }
+    requires high { IsHigh (S.table store.old) parent }
     ensures seen { IfOk result (IsSeen (S.table store.old) parent) }
     ensures at { S.is_known store.old → IsSound (S.nodes store.old) (S.table store.old)
         → IsThere (S.nodes store.old) (S.table store.old) parent
@@ -135,7 +136,7 @@ fn look_below(parent: Fetched, place: usize, child: Fetched) -> Look
     requires within { place < length (edges_of parent.node.value) }
     ensures seen { (t : Table) → IsFetched t parent → length (edges_of parent.node.value) ≤ 14
         → IsFullestAt parent.node.value place → (e : Edge) → IsWayTo parent.node.value place child.id e
-        → IsFetched t child → t.count child.id ≡ 1 → IsSeen t parent result }
+        → IsFetched t child → t.count child.id ≡ 1 → IsHigh t parent → IsSeen t parent result }
     ensures at { (nodes : Nodes) (t : Table) → IsThere nodes t parent
         → length (edges_of parent.node.value) ≤ 14 → IsFullestAt parent.node.value place
         → (e : Edge) → IsWayTo parent.node.value place child.id e → t.count child.id ≡ 1
@@ -161,7 +162,7 @@ fn push_or_carve(parent: Fetched, place: usize, child: Option<Fetched>) -> Flush
     requires within { place < length (edges_of parent.node.value) }
     ensures to_do { (t : Table) → IsFetched t parent → length (edges_of parent.node.value) ≤ 14
         → IsFullestAt parent.node.value place → (e : Edge)
-        → IsTarget t parent.node.value place e child → IsToDo t result }
+        → IsTarget t parent.node.value place e child → IsHigh t parent → IsToDo t result }
     ensures at { (nodes : Nodes) (t : Table) → IsThere nodes t parent → IsChildThere nodes child
         → IsToDoAt nodes t result }
 {

@@ -2,3 +2,5 @@ pub mod Finds
 mod Nexts
 mod EncodingSizes
 mod Views
+pub mod Prefixes
+pub mod Freed

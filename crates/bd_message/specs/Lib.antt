@@ -1,6 +1,7 @@
 pub mod Codec
 pub mod Effect
 pub mod Entries
+pub mod Freeing
 pub mod KeyMaps
 pub mod Messages
 pub mod Counters

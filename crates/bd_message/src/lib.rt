@@ -5,6 +5,7 @@
 mod codec;
 mod entries;
 mod fault;
+mod freeing;
 pub mod laws;
 mod list_map;
 mod map;

@@ -1,6 +1,5 @@
 //! Files and directories over a key map: rows whose replies come from the rules.
 
-use crate::message::{apply, graft};
 use crate::plain::text_of;
 use bd_command::{Command, Reply};
 use bd_dirs::{Plan, list, plan_command, stat};
@@ -10,6 +9,7 @@ use bd_message::{KeyMap, ListMap};
 use bd_names::Path;
 use bd_records::Record;
 use bd_script::{Line, read_line};
+use rows_tools::{apply, graft};
 use std::alloc::Global;
 use std::test::Fail;
 

@@ -1,10 +1,8 @@
-//! The tests of the libraries' public calls, a module for each crate that is tested. No other
-//! library has tests, and nothing stands on this crate. A test shows what no clause says: worked
+//! The tests of the libraries' public calls, a module for each crate that is tested; those of nodes
+//! stand in `rows_nodes`. No library has tests of its own, and nothing stands on this crate. A test shows what no clause says: worked
 //! rows, texts, and that memory is enough.
 #![tactic(auto)]
 
-#[cfg(test)]
-mod cache;
 #[cfg(test)]
 mod command;
 #[cfg(test)]
@@ -14,25 +12,15 @@ mod dirs;
 #[cfg(test)]
 mod filedev;
 #[cfg(test)]
-mod format;
-#[cfg(test)]
-mod inner;
-#[cfg(test)]
 mod io;
 #[cfg(test)]
 mod keys;
-#[cfg(test)]
-mod leaf;
 #[cfg(test)]
 mod log;
 #[cfg(test)]
 mod message;
 #[cfg(test)]
 mod names;
-#[cfg(test)]
-mod nodes;
-#[cfg(test)]
-mod numbers;
 #[cfg(test)]
 mod plain;
 #[cfg(test)]

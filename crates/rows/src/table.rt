@@ -1,10 +1,15 @@
-use bd_device::{BLOCK_SIZE, Device, MemDevice};
+use bd_device::{Attach, BLOCK_SIZE, Device, MemDevice};
+use bd_filedev::FileDevice;
 use bd_slots::{image_blocks, is_table_place, table_length};
 use bd_table::{Table, TableEntries, TableEntry, TableFault, read, write};
 use std::alloc::{AllocError, Global};
+use std::fs;
 use std::test::Fail;
 
 const NONE: [u64; 0] = [];
+
+/// The file of the largest image, which takes no room where nothing was written.
+const LARGEST: &str = "bd_table.img";
 
 /// The bytes of the table of a fresh image, before the zeros: `BDTABLE1`, the number of entries,
 /// the next id, the root, and of the one entry id, references, slot and level.
@@ -147,6 +152,48 @@ fn tables_of_one_slot_and_of_two(rt: HostRuntime) -> Result<(), Fail> {
         (2730, [1, 0].as_slice()),
     ] {
         assert!(rt; comes_back(rt.alloc(), nodes, at)?, "{nodes} nodes");
+    }
+    Ok(())
+}
+
+// The numbers from 0 on.
+fn first_slots(alloc: Global, count: u32) -> Result<Vec<u32>, AllocError> {
+    let mut slots = Vec::new(alloc);
+    for slot in 0..count {
+        slots.push(slot)?;
+    }
+    Ok(slots)
+}
+
+// The largest image has 65,536 slots: a table of 65,512 nodes takes 24 of them, and its nodes all
+// others.
+#[test]
+fn the_largest_table_comes_back(rt: HostRuntime) -> Result<(), Fail> {
+    let mut device = FileDevice::new(&rt);
+    assert_eq!(rt; device.attach(LARGEST, Some(1_048_708)), Ok(()));
+    let at = first_slots(rt.alloc(), 24)?;
+    let largest = table(rt.alloc(), 65_512, 24)?;
+    let back = write_and_read(rt.alloc(), &mut device, 65_536, &at, &largest)?;
+    assert_eq!(rt; (back.next_id, back.root), (65_513, 65_512));
+    assert!(rt; back.entries.as_slice() == largest.entries.as_slice());
+    drop(device);
+    fs::remove_file(&rt, LARGEST)?;
+    Ok(())
+}
+
+#[test]
+fn no_image_has_room_for_a_larger_table(rt: HostRuntime) -> Result<(), Fail> {
+    for (nodes, count, fits) in [
+        (65_512, 24, true),
+        (65_512, 25, false),
+        (65_513, 24, false),
+        (65_513, 25, false),
+        (65_536, 25, false),
+    ] {
+        let at = first_slots(rt.alloc(), count)?;
+        let largest = table(rt.alloc(), nodes, count)?;
+        let is_table = is_table_place(65_536, &at) && largest.is_table(rt.alloc(), 65_536, &at)?;
+        assert_eq!(rt; is_table, fits, "{nodes} nodes and {count} slots");
     }
     Ok(())
 }

@@ -1,12 +1,12 @@
 //! A volume and the plain program answer lines alike, which are made by a fixed rule.
 
-use crate::numbers::Numbers;
 use crate::plain::text_of;
 use bd_device::MemDevice;
 use bd_limits::MAX_WRITE;
 use bd_plain::PlainTree;
 use bd_script::{Line, read_line};
 use bd_volume::{Refused, Volume};
+use rows_tools::Numbers;
 use std::alloc::{AllocError, Global};
 use std::test::Fail;
 
@@ -27,11 +27,15 @@ const PLACES: &[u32] = &[
     0, 1, 5, 1_022, 1_023, 1_024, 1_025, 2_047, 2_048, 2_049, 3_000, 4_096,
 ];
 
-impl Numbers {
+/// Lines by a fixed rule.
+#[derive(Drop)]
+struct Lines(Numbers);
+
+impl Lines {
     /// The digits of 1 to 2,048 bytes, the same ones.
     fn digits(&mut self, alloc: Global) -> Result<String, Fail> {
-        let len = (*self.pick(PLACES)? as usize).clamp(1, MAX_WRITE);
-        let byte = *self.pick(&["00", "07", "61", "ff"])?;
+        let len = (*self.0.pick(PLACES)? as usize).clamp(1, MAX_WRITE);
+        let byte = *self.0.pick(&["00", "07", "61", "ff"])?;
         Ok(repeated(alloc, byte, len)?)
     }
 
@@ -39,17 +43,17 @@ impl Numbers {
     fn rest(&mut self, alloc: Global, verb: &str) -> Result<String, Fail> {
         Ok(match verb {
             "write" => {
-                let off = *self.pick(PLACES)?;
+                let off = *self.0.pick(PLACES)?;
                 let digits = self.digits(alloc)?;
                 format!(in alloc; " {off} {digits}")?
             }
             "read" => {
-                let off = *self.pick(PLACES)?;
-                let len = *self.pick(PLACES)?;
+                let off = *self.0.pick(PLACES)?;
+                let len = *self.0.pick(PLACES)?;
                 format!(in alloc; " {off} {len}")?
             }
-            "truncate" => format!(in alloc; " {}", *self.pick(PLACES)?)?,
-            "rename" | "clone" => format!(in alloc; " {}", *self.pick(PATHS)?)?,
+            "truncate" => format!(in alloc; " {}", *self.0.pick(PLACES)?)?,
+            "rename" | "clone" => format!(in alloc; " {}", *self.0.pick(PATHS)?)?,
             "after" => String::from_str(alloc, " a")?,
             _ => String::new(alloc),
         })
@@ -57,8 +61,8 @@ impl Numbers {
 
     /// A line.
     fn line(&mut self, alloc: Global) -> Result<String, Fail> {
-        let verb = *self.pick(VERBS)?;
-        let path = *self.pick(PATHS)?;
+        let verb = *self.0.pick(VERBS)?;
+        let path = *self.0.pick(PATHS)?;
         let rest = self.rest(alloc, verb)?;
         let word = if verb == "after" { "list" } else { verb };
         Ok(format!(in alloc; "{word} {path}{rest}")?)
@@ -102,9 +106,9 @@ fn alike(
 fn a_volume_answers_as_the_plain_program_does(rt: HostRuntime) -> Result<(), Fail> {
     let mut volume = started(rt.alloc())?;
     let mut tree = PlainTree::new(rt.alloc())?;
-    let mut numbers = Numbers(1);
+    let mut lines = Lines(Numbers(1));
     for _ in 0..600 {
-        let line = numbers.line(rt.alloc())?;
+        let line = lines.line(rt.alloc())?;
         let is_alike = alike(rt.alloc(), &mut volume, &mut tree, &line)?;
         assert!(rt; is_alike, "{line}");
     }

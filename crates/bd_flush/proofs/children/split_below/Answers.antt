@@ -1,38 +1,20 @@
-use Rattle.std.proofs.Common.{ℕ, List, [], ◌∷◌, ◌++◌, refl, ap, subst, ◌∙◌, arith}
-use Rattle.std.specs.Option.{option_copied}
-use Rattle.bd_node.specs.declared.node.Node.{Node}
-use Rattle.bd_flush.specs.declared.children.Side.TheVariants.{Lower, Both, Upper}
-use Rattle.bd_flush.specs.Children.{IsSide}
-use Rattle.bd_flush.proofs.ChildSplits.{is_parting, edge_here, edge_lift, parting_long, parting_fits, parting_both, parting_lower, parting_upper}
+use Rattle.bd_flush.proofs.ChildSplits.{edge_here, own_fits, on_over}
+use Rattle.std.proofs.Common.{◌≡◌, subst, sym, rules}
+use Rattle.bd_node.specs.declared.node.Edge.{Edge}
+use Rattle.bd_inner.specs.Exchange.{IsEdgeAt}
 use Rattle.bd_flush.proofs.children.split_below.Goals as goal
 
-pub parting-requires : goal.parting-requires
-parting-requires c =
-    edge_lift c.args.node.now c.args.place c.index-edges-place.result c.requires.shape
-    (edge_here c.edges_of-edges.result.now c.args.node.now c.args.place c.index-edges-place.result c.edges_of-edges.ensures c.requires.within c.index-edges-place.is)
+pub over_halves-requires-clause-fits : goal.over_halves-requires-clause-fits
+over_halves-requires-clause-fits c =
+    let same : c.in_ok-edge.edge ≡ c.index-edges_of-place.result = search rules in
+    own_fits c.args.node.now c.args.place c.in_ok-edge.edge c.requires.shape
+    (subst (λ (e : Edge). IsEdgeAt c.args.node.now c.args.place e) (sym same)
+    (edge_here c.edges_of.result.now c.args.node.now c.args.place c.index-edges_of-place.result c.edges_of.ensures c.requires.within c.index-edges_of-place.is))
 
-pub returns-then-len-gt-MAX_KEY : goal.returns-then-len-gt-MAX_KEY
-returns-then-len-gt-MAX_KEY c =
-    parting_long c.args.node.now c.args.place c.args.child.now c.index-edges-place.result (option_copied c.end_of.result) c.in_ok-first.first c.in_ok-first.pivot c.in_ok-first.second c.in_ok-pivot.pivot (is_parting c.args.node.now c.args.place c.args.child.now c.index-edges-place.result c.edges_of-edges.result.now (option_copied c.end_of.result) c.in_ok-first.first c.in_ok-first.pivot c.in_ok-first.second c.in_ok-pivot.pivot c.requires.shape c.edges_of-edges.ensures c.requires.within c.index-edges-place.is c.end_of.ensures c.in_ok-first.ensures c.in_ok-pivot.ensures)
-    (subst (λ (l : List ℕ). IsSide c.index-edges-place.result (option_copied c.end_of.result) l Both) c.as_slice.ensures c.in-Both.ensures) (omega (arith, c.len.ensures))
-
-pub with_upper-requires-clause-fits : goal.with_upper-requires-clause-fits
-with_upper-requires-clause-fits c =
-    parting_fits c.args.node.now c.args.place c.args.child.now c.index-edges-place.result (option_copied c.end_of.result) c.in_ok-first.first c.in_ok-first.pivot c.in_ok-first.second c.in_ok-pivot.pivot c.args.next (is_parting c.args.node.now c.args.place c.args.child.now c.index-edges-place.result c.edges_of-edges.result.now (option_copied c.end_of.result) c.in_ok-first.first c.in_ok-first.pivot c.in_ok-first.second c.in_ok-pivot.pivot c.requires.shape c.edges_of-edges.ensures c.requires.within c.index-edges-place.is c.end_of.ensures c.in_ok-first.ensures c.in_ok-pivot.ensures)
-    (subst (λ (l : List ℕ). IsSide c.index-edges-place.result (option_copied c.end_of.result) l Both) c.as_slice.ensures c.in-Both.ensures) (omega arith) c.requires.room c.requires.next (omega arith)
-
-pub returns-in_ok-one_half-in-Lower : goal.returns-in_ok-one_half-in-Lower
-returns-in_ok-one_half-in-Lower c =
-    parting_lower c.args.node.now c.args.place c.args.child.now c.index-edges-place.result (option_copied c.end_of.result) c.in_ok-first.first c.in_ok-first.pivot c.in_ok-first.second c.in_ok-pivot.pivot c.args.next c.in_ok-one_half-in-Lower.field-0 (is_parting c.args.node.now c.args.place c.args.child.now c.index-edges-place.result c.edges_of-edges.result.now (option_copied c.end_of.result) c.in_ok-first.first c.in_ok-first.pivot c.in_ok-first.second c.in_ok-pivot.pivot c.requires.shape c.edges_of-edges.ensures c.requires.within c.index-edges-place.is c.end_of.ensures c.in_ok-first.ensures c.in_ok-pivot.ensures)
-    (subst (λ (l : List ℕ). IsSide c.index-edges-place.result (option_copied c.end_of.result) l Lower) c.as_slice.ensures c.in-Lower.ensures) c.in_ok-one_half-in-Lower.ensures
-
-pub returns-in_ok-one_half-in-Upper : goal.returns-in_ok-one_half-in-Upper
-returns-in_ok-one_half-in-Upper c =
-    parting_upper c.args.node.now c.args.place c.args.child.now c.index-edges-place.result (option_copied c.end_of.result) c.in_ok-first.first c.in_ok-first.pivot c.in_ok-first.second c.in_ok-pivot.pivot c.args.next c.in_ok-one_half-in-Upper.field-0 (is_parting c.args.node.now c.args.place c.args.child.now c.index-edges-place.result c.edges_of-edges.result.now (option_copied c.end_of.result) c.in_ok-first.first c.in_ok-first.pivot c.in_ok-first.second c.in_ok-pivot.pivot c.requires.shape c.edges_of-edges.ensures c.requires.within c.index-edges-place.is c.end_of.ensures c.in_ok-first.ensures c.in_ok-pivot.ensures)
-    (subst (λ (l : List ℕ). IsSide c.index-edges-place.result (option_copied c.end_of.result) l Upper) c.as_slice.ensures c.in-Upper.ensures) c.in_ok-one_half-in-Upper.ensures
-
-pub returns-in_ok-push-in-Both : goal.returns-in_ok-push-in-Both
-returns-in_ok-push-in-Both c =
-    parting_both c.args.node.now c.args.place c.args.child.now c.index-edges-place.result (option_copied c.end_of.result) c.in_ok-first.first c.in_ok-first.pivot c.in_ok-first.second c.in_ok-pivot.pivot c.args.next (record { node = c.in_ok-node-in-Both.node; half = c.in_ok-first.first; made = c.push.new.self }) (is_parting c.args.node.now c.args.place c.args.child.now c.index-edges-place.result c.edges_of-edges.result.now (option_copied c.end_of.result) c.in_ok-first.first c.in_ok-first.pivot c.in_ok-first.second c.in_ok-pivot.pivot c.requires.shape c.edges_of-edges.ensures c.requires.within c.index-edges-place.is c.end_of.ensures c.in_ok-first.ensures c.in_ok-pivot.ensures)
-    (subst (λ (l : List ℕ). IsSide c.index-edges-place.result (option_copied c.end_of.result) l Both) c.as_slice.ensures c.in-Both.ensures) (omega arith) c.in_ok-node-in-Both.ensures
-    refl (c.in_ok-push-in-Both.ensures.items ∙ ap (λ (l : List Node). l ++ c.in_ok-first.second ∷ []) c.new-made.ensures.items)
+pub returns : goal.returns
+returns c =
+    let same : c.in_ok-edge.edge ≡ c.index-edges_of-place.result = search rules in
+    on_over c.args.node.now c.args.place c.in_ok-edge.edge c.args.child.now c.args.next c.in_ok-halves.halves.0 c.in_ok-halves.halves.1 c.in_ok-halves.halves.2 c.over_halves.result
+    (subst (λ (e : Edge). IsEdgeAt c.args.node.now c.args.place e) (sym same)
+    (edge_here c.edges_of.result.now c.args.node.now c.args.place c.index-edges_of-place.result c.edges_of.ensures c.requires.within c.index-edges_of-place.is))
+    c.in_ok-halves.ensures c.over_halves.ensures

@@ -8,12 +8,12 @@ use Rattle.bd_flush.proofs.Down.{is_next, next_there}
 use Rattle.bd_flush.proofs.ways.look_below.Goals as goal
 
 pub returns-then-buffer_size-le-SOFT_BUFFER-clause-seen : goal.returns-then-buffer_size-le-SOFT_BUFFER-clause-seen
-returns-then-buffer_size-le-SOFT_BUFFER-clause-seen c = λ t fetched room fullest e way child_is once.
+returns-then-buffer_size-le-SOFT_BUFFER-clause-seen c = λ t fetched room fullest e way child_is once high.
     let few : buffer_size c.args.child.node.value ≤ soft_limit = omega (arith, c.buffer_size.ensures, ap buffer_size c.deref.ensures) in
-    c.push_or_carve.ensures.to_do t fetched room fullest e (way, child_is, once, few)
+    c.push_or_carve.ensures.to_do t fetched room fullest e (way, child_is, once, few) high
 
 pub returns-then-edges_of-lt-MANY_EDGES-clause-seen : goal.returns-then-edges_of-lt-MANY_EDGES-clause-seen
-returns-then-edges_of-lt-MANY_EDGES-clause-seen c = λ t fetched room fullest e way child_is once.
+returns-then-edges_of-lt-MANY_EDGES-clause-seen c = λ t fetched room fullest e way child_is once high.
     let waits : soft_limit < buffer_size c.args.child.node.value = omega (arith, c.buffer_size.ensures, ap buffer_size c.deref.ensures) in
     is_next t c.args.parent c.args.place c.args.child e fetched way child_is waits
     (omega (arith, ap (λ (l : List Edge). length l) (c.edges_of.ensures ∙ ap edges_of c.deref-2.ensures)))

@@ -1,7 +1,7 @@
 use Rattle.std.proofs.Common.{ap, sym, ◌∙◌, length, arith, List}
 use Rattle.bd_node.specs.declared.node.Edge.{Edge}
 use Rattle.bd_inner.specs.Halves.{edges_of}
-use Rattle.bd_flush.proofs.Down.{root_there, root_inner, first_visit}
+use Rattle.bd_flush.proofs.Down.{root_there, root_inner, first_visit, root_high}
 use Rattle.bd_flush.proofs.ways.next_step.Goals as goal
 
 pub returns-then-edges_of-ge-MANY_EDGES-clause-at : goal.returns-then-edges_of-ge-MANY_EDGES-clause-at
@@ -15,6 +15,7 @@ loop-child-init g c = record {
   fetched = c.in_ok-parent.ensures.fetched;
   inner = root_inner (g.S.NodeStore.table c.args.store.now) c.in_ok-parent.parent c.root-root.ensures.table c.in_ok-parent.ensures.fetched (c.in_ok-parent.ensures.id ∙ c.root-root.ensures.value);
   room = omega (arith, ap (λ (l : List Edge). length l) (c.edges_of.ensures ∙ ap edges_of c.deref.ensures));
+  high = root_high (g.S.NodeStore.table c.args.store.now) c.in_ok-parent.parent (c.in_ok-parent.ensures.id ∙ c.root-root.ensures.value);
   known = c.in_ok-parent.ensures.known;
   nodes = c.in_ok-parent.ensures.kept;
   read = c.in_ok-parent.ensures.read;

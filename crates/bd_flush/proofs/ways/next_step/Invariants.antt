@@ -3,7 +3,7 @@ use Rattle.bd_node.specs.Nodes.{level_of}
 use Rattle.bd_node.specs.Tables.{IsSound}
 use Rattle.bd_inner.specs.Halves.{edges_of}
 use Rattle.bd_flush.specs.Children.{IsFetched}
-use Rattle.bd_flush.specs.Ways.{IsThere}
+use Rattle.bd_flush.specs.Ways.{IsHigh, IsThere}
 use Rattle.bd_flush.proofs.ways.next_step.Given as goal
 
 abbrev pub invariant-loop-child : goal.invariant-loop-child
@@ -12,6 +12,7 @@ invariant-loop-child g l = record {
   fetched : IsFetched (g.S.NodeStore.table l.fn.store) l.parent;
   inner : 1 ≤ level_of l.parent.node.value;
   room : length (edges_of l.parent.node.value) ≤ 14;
+  high : IsHigh (g.S.NodeStore.table l.fn.store) l.parent;
   known : g.S.NodeStore.is_known l.fn.store → g.S.NodeStore.is_known l.store;
   nodes : g.S.NodeStore.is_known l.fn.store → g.S.NodeStore.nodes l.store ≡ g.S.NodeStore.nodes l.fn.store;
   read : g.S.NodeStore.reads l.fn.store l.store;

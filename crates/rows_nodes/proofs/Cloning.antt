@@ -15,7 +15,7 @@ use Rattle.bd_node.proofs.Sound.{node_of, one_if-same}
 use Rattle.bd_node.proofs.Stepping.{root_step-step, root_step-in_place}
 use Rattle.bd_node.proofs.Privacy.{root_private}
 use Rattle.bd_node.proofs.LawLemmas.{new_sound}
-use Rattle.rows.specs.Cloned.{cloned_leaf, cloned_root, cloned}
+use Rattle.rows_nodes.specs.Cloned.{cloned_leaf, cloned_root, cloned}
 
 leaf_shape : IsShape cloned_leaf
 leaf_shape = record {

@@ -1,5 +1,5 @@
 use Rattle.std.proofs.Common.{length}
-use Rattle.rows.proofs.inner.+is_rising.Given as goal
+use Rattle.rows_nodes.proofs.inner.+is_rising.Given as goal
 
 abbrev pub decreases-is_rising : goal.decreases-is_rising
 decreases-is_rising l = length l.edges.now

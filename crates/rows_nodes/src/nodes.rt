@@ -5,10 +5,8 @@ ghost use Rattle.std.specs.Prelude.{◌≡◌, [], ◌∷◌, IfOk};
 ghost use Rattle.bd_message.specs.declared.message.Message.TheVariants.{Goto};
 ghost use Rattle.bd_node.specs.New.{new_root};
 ghost use Rattle.bd_node.specs.Steps.{root_step};
-ghost use Rattle.rows.specs.Cloned.{cloned_leaf, cloned};
+ghost use Rattle.rows_nodes.specs.Cloned.{cloned_leaf, cloned};
 
-use crate::message::{apply, message};
-use crate::numbers::Numbers;
 use bd_command::Command;
 use bd_dirs::{Plan, plan_command};
 use bd_files::put_record;
@@ -21,6 +19,7 @@ use bd_node::{Change, Edge, Edges, Entries, Entry, Items, Node, NodeStore, Step}
 use bd_records::Record;
 use bd_script::{Line, read_line};
 use bd_tree::Tree;
+use rows_tools::{Numbers, apply, message};
 use std::alloc::{AllocError, Global};
 use std::test::Fail;
 

@@ -8,13 +8,13 @@ ghost use Rattle.bd_inner.specs.Compaction.{IsFlat};
 ghost use Rattle.bd_inner.specs.Halves.{edges_of, buffer_of};
 ghost use Rattle.bd_inner.specs.Moving.{IsLifted};
 
-use crate::message::message;
 use bd_inner::laws::{compacted_nodes, edges_fit, flat_edges};
 use bd_inner::{compact, edge_to, exchange, next_batch, receive, split, strip};
 use bd_keys::Bytes;
 use bd_limits::{MAX_BUFFER, MAX_EDGES, MAX_KEY};
 use bd_message::Message;
 use bd_node::{Edge, Items, Messages, Node};
+use rows_tools::message;
 use std::alloc::{AllocError, Global};
 use std::test::Fail;
 

@@ -1,6 +1,6 @@
 use Rattle.bd_memnodes.specs.Seen.{nodes_of, table}
-use Rattle.rows.proofs.Cloning.{cloned_again}
-use Rattle.rows.proofs.nodes.with_clone.Goals as goal
+use Rattle.rows_nodes.proofs.Cloning.{cloned_again}
+use Rattle.rows_nodes.proofs.nodes.with_clone.Goals as goal
 
 pub commit-requires-clause-step : goal.commit-requires-clause-step
 commit-requires-clause-step c =

@@ -1,6 +1,6 @@
 use Rattle.bd_memnodes.specs.Seen.{nodes_of, table}
-use Rattle.rows.proofs.Cloning.{empty_in_place}
-use Rattle.rows.proofs.nodes.empty.Goals as goal
+use Rattle.rows_nodes.proofs.Cloning.{empty_in_place}
+use Rattle.rows_nodes.proofs.nodes.empty.Goals as goal
 
 pub commit-requires-clause-in_place : goal.commit-requires-clause-in_place
 commit-requires-clause-in_place c = λ known sound.

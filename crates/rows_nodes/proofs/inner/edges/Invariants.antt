@@ -1,6 +1,6 @@
 use Rattle.std.specs.List.{AllByRecursion}
 use Rattle.bd_inner.specs.Compaction.{IsFlat}
-use Rattle.rows.proofs.inner.edges.Given as goal
+use Rattle.rows_nodes.proofs.inner.edges.Given as goal
 
 abbrev pub invariant-loop-pivot : goal.invariant-loop-pivot
 invariant-loop-pivot l = AllByRecursion (IsFlat 0) l.edges.items

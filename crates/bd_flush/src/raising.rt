@@ -1,0 +1,64 @@
+//! Nodes rise by one level where a node below them has risen.
+
+ghost use Rattle.std.specs.Prelude.{◌≡◌, ◌++◌, map, reverse, IfOk, MatchOption};
+ghost use Rattle.std.specs.List.{AllByRecursion};
+ghost use Rattle.bd_node.specs.Shape.{IsShape};
+ghost use Rattle.bd_flush.specs.declared.fetching.Fetched.{Fetched};
+ghost use Rattle.bd_flush.specs.Raising.{raised, CannotRise, AreRaised};
+
+use crate::Fetched;
+use bd_limits::MAX_LEVEL;
+use bd_node::{Change, Items, Node};
+use std::alloc::AllocError;
+
+/// The nodes above one on the way down to it, the root first.
+pub type Way = Items<Fetched>;
+
+/// Puts behind some changes those of the nodes above one that gets a level: from the nearest on
+/// upwards each rises by one level that isn't above the one below it. There are none where one of
+/// level 1,000 would have to rise.
+pub fn raise_above(
+    changes: Vec<Change>,
+    above: &[Fetched],
+    level: u32,
+) -> Result<Option<Vec<Change>>, AllocError>
+    requires { AllByRecursion (λ (f : Fetched). IsShape f.node.value) (reverse above.now) }
+    ensures { IfOk result (λ found. MatchOption found (CannotRise level (reverse above.now))
+        (λ all. AreRaised level (reverse above.now) changes.items all.items)) }
+{
+    let Some((nearest, others)) = above.split_last() else {
+        return Ok(Some(changes));
+    };
+    let own = nearest.node.level();
+    if level < own {
+        return Ok(Some(changes));
+    }
+    if own >= MAX_LEVEL {
+        return Ok(None);
+    }
+    let mut changes = changes;
+    changes.push(Change {
+        id: nearest.id,
+        node: raised(&nearest.node)?,
+    })?;
+    raise_above(changes, others, own + 1)
+}
+
+/// A node one level higher, all else as it is.
+pub fn raised(node: &Node) -> Result<Node, AllocError>
+    requires { IsShape node.now }
+    ensures { IfOk result (λ n. n ≡ raised node.now) }
+{
+    match node {
+        Node::Leaf(entries) => Ok(Node::Leaf(entries.clone()?)),
+        Node::Inner {
+            level,
+            edges,
+            buffer,
+        } => Ok(Node::Inner {
+            level: *level + 1,
+            edges: edges.clone()?,
+            buffer: buffer.clone()?,
+        }),
+    }
+}
