@@ -150,8 +150,8 @@ begins_between (a ∷ p) (b ∷ low) (c ∷ k) from until begins =
     elim (cases_order a b) [
       | inl same ↦
           let rest : Begins low p = begins_between p low k
-              (λ less. from (subst (λ (d : ℕ). IsBelow (d ∷ low) (a ∷ p)) same (first_same a low p ∙ less)))
-              (λ less. until (subst (λ (d : ℕ). IsBelow (c ∷ k) (d ∷ low)) (parts.0 ∙ same) (first_same c k low ∙ less))) parts.1 in
+          (λ less. from (subst (λ (d : ℕ). IsBelow (d ∷ low) (a ∷ p)) same (first_same a low p ∙ less)))
+          (λ less. until (subst (λ (d : ℕ). IsBelow (c ∷ k) (d ∷ low)) (parts.0 ∙ same) (first_same c k low ∙ less))) parts.1 in
           subst (λ (d : ℕ). Begins (d ∷ low) (a ∷ p)) same (Begins-cons a low p rest)
       | inr o ↦ elim o [
         | inl lt ↦ absurd (until (first_less c b k low (let e : c ≡ a = parts.0 in omega arith)))
