@@ -3,7 +3,7 @@
 ghost use Rattle.std.specs.Prelude.{◌≡◌, ◌≢◌, ◌↔◌, ℕ, ◌+◌, ◌-◌, ◌≤◌, List, IfOk, OnOk, OnErr, Ok};
 ghost use Rattle.std.specs.Option.{option_map};
 ghost use Rattle.bd_limits.specs.Limits.{buffer_limit};
-ghost use Rattle.bd_message.specs.KeyMaps.{HasMapCause, NeverWorn, IsApplied};
+ghost use Rattle.bd_message.specs.KeyMaps.{HasMapCause, NeverWorn, IsApplied, IsNext};
 ghost use Rattle.bd_node.specs.Meaning.{at};
 ghost use Rattle.bd_node.specs.Tables.{IsKept, IsSound, root_at};
 ghost use Rattle.bd_node.specs.Steps.{grown};
@@ -15,7 +15,7 @@ ghost use Rattle.bd_step.specs.Steps.{IsFlushStep, IsFound, IsFoundAt};
 use bd_limits::MAX_BUFFER;
 use bd_message::{MapFault, Message};
 use bd_node::{Messages, NodeStore};
-use bd_query::get;
+use bd_query::{get, next};
 use bd_step::{Flush, flush_step};
 use std::alloc::Global;
 use std::marker::Model;
@@ -69,6 +69,23 @@ impl<S: NodeStore> Tree<S> {
     {
         let root = self.store.root();
         get(self.alloc, &mut self.store, root, key)
+    }
+
+    /// The least key, of any length, that is at least `from`, begins with `within` and has a value.
+    pub fn next(&mut self, from: &[u8], within: &[u8]) -> Result<Option<Vec<u8>>, MapFault>
+        ensures next { S.is_known self.old → IsSound (S.nodes self.old) (S.table self.old)
+            → IfOk result (λ found. IsNext (root_at (S.nodes self.old) (S.table self.old))
+            from.now within.now (option_map (λ key. key.items) found)) }
+        ensures table { S.table self.new ≡ S.table self.old }
+        ensures known { S.is_known self.old → S.is_known self.new }
+        ensures kept { S.is_known self.old → S.nodes self.new ≡ S.nodes self.old }
+        ensures read { S.reads self.old self.new }
+        ensures cause { HasMapCause (S.fault_count self.old) (S.fault_count self.new)
+            (S.bad self.new) NeverWorn result }
+        ensures same_loans { S.loans self.new ≡ S.loans self.old }
+    {
+        let root = self.store.root();
+        next(self.alloc, &mut self.store, root, from, within)
     }
 
     /// For how many bytes of messages there is room.
