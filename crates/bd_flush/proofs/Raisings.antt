@@ -1,5 +1,5 @@
 -- Nodes that rise by one level.
-use Rattle.std.proofs.Common.{◌≡◌, ℕ, ◌+◌, ◌<◌, ◌≤◌, List, [], ◌∷◌, ◌++◌, length, map, reverse, refl, sym, ap, subst, ◌∙◌, arith, Option, None, Some, Result, Ok, Err, IfOk, MatchOption}
+use Rattle.std.proofs.Common.{◌≡◌, ℕ, ◌+◌, ◌<◌, ◌≤◌, List, [], ◌∷◌, ◌++◌, length, map, reverse, sym, ap, subst, ◌∙◌, arith, Option, None, Some, Result, Ok, Err, IfOk, MatchOption}
 use Rattle.std.specs.List.{AllByRecursion, IsLastAndRest}
 use Rattle.std.proofs.lemmas.List.{reverse-append, append-nil, append_assoc}
 use Rattle.bd_limits.specs.Limits.{level_limit}
