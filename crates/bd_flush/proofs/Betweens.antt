@@ -34,7 +34,8 @@ use Rattle.bd_flush.specs.declared.fetching.Fetched.{Fetched}
 use Rattle.bd_flush.specs.Flushed.{LeadsTo, IsFlushed}
 use Rattle.bd_flush.specs.Flushed.LeadsTo.{itself, through}
 use Rattle.bd_flush.specs.Splits.{over_two}
-use Rattle.bd_flush.specs.Children.{IsWayTo, AreFamily, IsContents, IsLittleHigher}
+use Rattle.bd_flush.specs.Children.{IsWayTo, AreFamily, IsContents}
+use Rattle.bd_flush.specs.Between.{IsHardlyHigher}
 use Rattle.bd_flush.specs.Paths.{path_step}
 use Rattle.bd_flush.specs.Raising.{raised, raise, IsWayUp, IsRising, CannotRise, IsRaisedOver}
 use Rattle.bd_flush.specs.Raising.CannotRise.{here, further}
@@ -42,40 +43,11 @@ use Rattle.bd_flush.specs.Raising.IsRising.{at_top, high_enough, rises}
 use Rattle.bd_flush.specs.Raising.IsRaisedOver.{is_above, rises_too}
 use Rattle.bd_flush.specs.Pushes.{seen_by, IsWaitedFor, CanPush, IsPushBetween, IsPushedBetween}
 use Rattle.bd_flush.proofs.Raisings.{level_high}
-use Rattle.bd_flush.proofs.RootSplits.{over_shape, over_low, over_high, times_made}
+use Rattle.bd_flush.proofs.RootSplits.{over_shape, two_have, times_made}
 use Rattle.bd_flush.proofs.ChildSplits.{one_fits, one_times, one_names, child_named, lower_child, level_exchanged, compacted_small, some_next, other_names, at_child, IsKey-drop, IsSplittable, IsSplittableOf}
 use Rattle.bd_flush.proofs.Pushed.{batch_low, batch_plain, relieved_inside, leaf_received}
 use Rattle.bd_flush.proofs.PathSteps.{IsMadeUnder, IsUpper, IsPathStep, RisesByOne, level_bound, given_child, given_upper, has_made, has_path, made_new, path_child, path_old, each_change, IsUpperOf, IsPathStepOf, root_stays, root_rises, path_flushed}
 use Rattle.bd_flush.proofs.RisingSteps.{raised_level, raised_shape, raised_names, raised_has, IsLink, way_link, way_top, link_names, link_lower, only_namer, rising_rises, rising_uppers, rising_above, once_above, rising_once, rising_short, IsChangedBy, changed_more, all_changed, has_room, rising_of}
-
--- ---- two made halves
-
-made_first : (nodes : Nodes) (next : ℕ) (first second : Node) (k : List ℕ) → has_made nodes next (first ∷ second ∷ []) next k ≡ node_has (at nodes) first k
-made_first nodes next first second k =
-    made_new nodes next (first ∷ second ∷ []) next (omega arith) k
-    ∙ ap (λ (i : ℕ). found_at (at nodes) (slice_get (first ∷ second ∷ []) i) k) (let z : next - next ≡ 0 = omega arith in z)
-
-made_second : (nodes : Nodes) (next : ℕ) (first second : Node) (k : List ℕ) → has_made nodes next (first ∷ second ∷ []) (next + 1) k ≡ node_has (at nodes) second k
-made_second nodes next first second k =
-    made_new nodes next (first ∷ second ∷ []) (next + 1) (omega arith) k
-    ∙ ap (λ (i : ℕ). found_at (at nodes) (slice_get (first ∷ second ∷ []) i) k) (let z : next + 1 - next ≡ 1 = omega arith in z)
-
--- the node over both has what the whole had
-pub two_have : (nodes : Nodes) (next level : ℕ) (m first : Node) (pivot : List ℕ) (second : Node) → AreHalves m first pivot second → (k : List ℕ) → IsKey k → node_at (has_made nodes next (first ∷ second ∷ [])) (over_two level pivot next (next + 1)) k ≡ node_at (at nodes) m k
-two_have nodes next level m first pivot second halves k key =
-    let has : NodesAt = has_made nodes next (first ∷ second ∷ []) in
-    elim (cases_Bool (is_lt (key_cmp k pivot))) [
-      | inl less ↦
-          over_low has level pivot next (next + 1) k (lt_is (key_cmp k pivot) less)
-          ∙ made_first nodes next first second k
-          ∙ node_has-key (at nodes) first k key
-          ∙ halves.lower.meaning (at nodes) k (lt_is (key_cmp k pivot) less)
-      | inr more ↦
-          over_high has level pivot next (next + 1) k (lt_isnt (key_cmp k pivot) more)
-          ∙ made_second nodes next first second k
-          ∙ node_has-key (at nodes) second k key
-          ∙ halves.upper.meaning (at nodes) k (lt_isnt (key_cmp k pivot) more)
-    ]
 
 -- ---- the parent, one level higher where it has to be
 
@@ -541,7 +513,7 @@ rising_fit t x _ _ _ (rises level f fs rising few room rise) up =
       rising_fit t f.id (level_of f.node.value + 1) fs rising rise parts.1,
     )
 
-pub between_table : (t : Table) (way : List Fetched) (parent : Fetched) (place : ℕ) (child : Fetched) (first : Node) (pivot : List ℕ) (second node : Node) (rising : List Fetched) (u : Table) → IsToPutBetween t way parent place child first pivot second node rising → IsTableAfter t (the_step t parent child first pivot second node rising) u → IsLittleHigher t u
+pub between_table : (t : Table) (way : List Fetched) (parent : Fetched) (place : ℕ) (child : Fetched) (first : Node) (pivot : List ℕ) (second node : Node) (rising : List Fetched) (u : Table) → IsToPutBetween t way parent place child first pivot second node rising → IsTableAfter t (the_step t parent child first pivot second node rising) u → IsHardlyHigher t u
 between_table t way parent place child first pivot second node rising u b after =
     let c : ℕ = child.id in
     let top : Node = the_child t pivot in

@@ -4,12 +4,13 @@ pub mod Waiting
 pub mod Each
 pub mod Givens
 pub mod Worn
-pub mod RootSplits
 pub mod ChildSteps
 pub mod PathSteps
 pub mod Raisings
 pub mod ChildSplits
 pub mod RisingSteps
+pub mod RootSplits
+pub mod PutBetween
 pub mod ChildCommits
 pub mod Pushed
 pub mod PushCommits

@@ -242,7 +242,7 @@ made_agrees nodes t c h made d table own =
     sym (path_old nodes t.next c h made x (lower_apart t (level_of d) c x own.under (own.named x one)) (table.below x (own.named x one).kept) k))
 
 -- an equation at keys is one at all lists
-both_ways : (nodes : Nodes) (has : NodesAt) (id : ℕ) (n : Node) → ((k : List ℕ) → IsKey k → node_at has n k ≡ at nodes id k) → (k : List ℕ) → at nodes id k ≡ node_has has n k
+pub both_ways : (nodes : Nodes) (has : NodesAt) (id : ℕ) (n : Node) → ((k : List ℕ) → IsKey k → node_at has n k ≡ at nodes id k) → (k : List ℕ) → at nodes id k ≡ node_has has n k
 both_ways nodes has id n same k =
     elim (cases_Bool (is_key k)) [
       | inl bytes ↦ sym (same k (key-is_key k bytes)) ∙ sym (node_has-key has n k (key-is_key k bytes))

@@ -18,7 +18,8 @@ use Rattle.bd_flush.specs.declared.fetching.Fetched.{Fetched}
 use Rattle.bd_flush.specs.declared.pushing.Plan.{Plan}
 use Rattle.bd_flush.specs.declared.pushing.Plan.TheVariants.{Ready, NoLevel}
 use Rattle.bd_flush.specs.Flushed.{IsFlushed, IsWornFor}
-use Rattle.bd_flush.specs.Children.{AreFamily, IsContents, IsNoHigher, IsLittleHigher}
+use Rattle.bd_flush.specs.Children.{AreFamily, IsContents, IsNoHigher}
+use Rattle.bd_flush.specs.Between.{IsHardlyHigher}
 use Rattle.bd_flush.specs.Raising.{IsWayUp}
 use Rattle.bd_flush.specs.Pushes.{CanPush, IsSomePush, IsPlan, IsPushed, IsPushedBetween, IsLongPush, IsHighPush}
 use Rattle.bd_flush.proofs.Worn.{cause_weaker}
@@ -101,7 +102,7 @@ on_planned_pushed nodes t way parent place child step new u (Ok x) h after commi
     ]
 
 pub on_planned_table : {T E : Type 0} (t : Table) (way : List Fetched) (parent : Fetched) (place : ℕ) (child : Fetched) (step : Step) (u : Table) (r : Result T E) → IsPlanned t way parent place child step → OnOk r (IsTableAfter t step u)
-    → OnOk r (IsNoHigher t u ⊎ (IsLongPush parent.node.value place child.node.value × IsLittleHigher t u))
+    → OnOk r (IsNoHigher t u ⊎ (IsLongPush parent.node.value place child.node.value × IsHardlyHigher t u))
 on_planned_table t way parent place child step u (Err e) h after = tt
 on_planned_table t way parent place child step u (Ok x) h after =
     elim h.push [

@@ -157,10 +157,3 @@ pub record IsNoHigher (t u : Table) : Type 0 where
   pub root : u.root ≡ t.root
   pub level : u.level u.root ≡ t.level t.root
   pub size : u.size ≤ t.size
-
--- the root stays, at most one level higher, and no more waits in it
-pub record IsLittleHigher (t u : Table) : Type 0 where
-  pub root : u.root ≡ t.root
-  pub low : t.level t.root ≤ u.level u.root
-  pub high : u.level u.root ≤ t.level t.root + 1
-  pub size : u.size ≤ t.size

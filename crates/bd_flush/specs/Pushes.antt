@@ -1,5 +1,5 @@
 -- Messages that go down to a child.
-use Rattle.std.specs.Prelude.{◌≡◌, ℕ, ◌+◌, ◌^◌, ◌<◌, ◌≤◌, List, [], ◌∷◌, length, map, drop, ◌⊎◌, None, Some, slice_get}
+use Rattle.std.specs.Prelude.{◌≡◌, ℕ, ◌+◌, ◌^◌, ◌<◌, ◌≤◌, List, [], ◌∷◌, length, map, take, drop, ◌⊎◌, None, Some, slice_get}
 use Rattle.std.specs.List.{AllByRecursion}
 use Rattle.bd_limits.specs.Limits.{soft_limit, leaf_limit}
 use Rattle.bd_keys.specs.Keys.{IsLift}
@@ -17,7 +17,7 @@ use Rattle.bd_node.specs.Tables.{Table}
 use Rattle.bd_inner.specs.declared.batches.Batch.{Batch}
 use Rattle.bd_inner.specs.Compaction.{IsCompacted}
 use Rattle.bd_inner.specs.Halves.{edges_of, buffer_of, AreHalves}
-use Rattle.bd_inner.specs.Moving.{IsPlainFor, IsBatch}
+use Rattle.bd_inner.specs.Moving.{IsPlainFor, SomeCanTouch, IsBatch}
 use Rattle.bd_inner.specs.Exchange.{exchanged, end_at, IsEdgeAt, way_to}
 use Rattle.bd_leaf.specs.Leaves.{entries_size, IsReceived}
 use Rattle.bd_flush.specs.declared.fetching.Fetched.{Fetched}
@@ -40,9 +40,9 @@ seen_by e count = record e { seen = e.seen + count }
 abbrev pub unseen : Node → Edge → List Message
 unseen n e = drop e.seen (buffer_of n)
 
--- the edge hasn't seen all messages, and those that are pending for it name no node
+-- messages are pending for the edge, and none of them names a node
 pub record IsWaitedFor (n : Node) (place : ℕ) (e : Edge) : Type 0 where
-  pub some : e.seen < length (buffer_of n)
+  pub some : SomeCanTouch e (end_at n place) (unseen n e)
   pub plain : AllByRecursion (IsPlainFor e (end_at n place)) (unseen n e)
 
 -- messages may go down from a node, at most as high as the root, to a private child, as far as the
@@ -58,10 +58,10 @@ pub record CanPush (t : Table) (parent : Fetched) (place : ℕ) (child : Fetched
   pub once : t.count child.id ≡ 1
   pub soft : buffer_size child.node.value ≤ soft_limit
 
--- the oldest messages that the edge hasn't seen, at least one, for its child
+-- the oldest messages that are pending for the edge, at least one, for its child
 pub record IsEdgeBatch (n : Node) (place : ℕ) (e : Edge) (b : Batch) : Type 0 where
   pub batch : IsBatch e (end_at n place) (unseen n e) b
-  pub some : 1 ≤ b.count
+  pub some : SomeCanTouch e (end_at n place) (take b.count (unseen n e))
 
 -- the node after these messages have gone down its edge
 abbrev pub IsRelieved : Node → ℕ → Edge → ℕ → Node → Type 0
@@ -172,7 +172,7 @@ pub record IsPushBetween (n : Node) (place : ℕ) (m : Node) (way : List Fetched
   pub rise : IsRaisedOver 1 above way parent rising
 
 -- the step of a push that puts a node between
-pub record IsBetweenStep (root next : ℕ) (way : List Fetched) (parent : Fetched) (place : ℕ)
+pub record IsPushBetweenStep (root next : ℕ) (way : List Fetched) (parent : Fetched) (place : ℕ)
     (child : Fetched) (step : Step) : Type 0 where
   pub first : Node
   pub pivot : List ℕ
@@ -202,7 +202,7 @@ pub record IsPushedBetween (t : Table) (way : List Fetched) (parent : Fetched) (
 -- a push by one commit, with a node between or without
 abbrev pub IsSomePush : ℕ → ℕ → List Fetched → Fetched → ℕ → Fetched → Step → Type 0
 IsSomePush root next way parent place child step =
-    IsPushStep root next parent place child step ⊎ IsBetweenStep root next way parent place child step
+    IsPushStep root next parent place child step ⊎ IsPushBetweenStep root next way parent place child step
 
 -- the halves of the child, a leaf that would have too many bytes, would have too long a pivot in the
 -- parent

@@ -17,7 +17,8 @@ ghost use Rattle.bd_inner.specs.Exchange.{end_at, IsEdgeAt};
 ghost use Rattle.bd_leaf.specs.Leaves.{AreEntries, entries_size};
 ghost use Rattle.bd_flush.specs.declared.fetching.Fetched.{Fetched};
 ghost use Rattle.bd_flush.specs.Flushed.{IsFlushed, IsWornFor};
-ghost use Rattle.bd_flush.specs.Children.{AreFamily, IsContents, IsNoHigher, IsLittleHigher};
+ghost use Rattle.bd_flush.specs.Children.{AreFamily, IsContents, IsNoHigher};
+ghost use Rattle.bd_flush.specs.Between.{IsHardlyHigher};
 ghost use Rattle.bd_flush.specs.Raising.{IsWayUp};
 ghost use Rattle.bd_flush.specs.Pushes.{seen_by, unseen, CanPush, IsWaitedFor, IsEdgeBatch, IsRelieved, IsPartedOver, IsPushedOver, ArePushed, IsPlanOver, IsPlan, IsPushed, IsPushedBetween, IsLongPush, IsHighPush};
 
@@ -66,7 +67,7 @@ pub fn push<S: NodeStore>(
         (S.nodes store.new) (S.table store.new)) }
     ensures table { OnOk result (IsNoHigher (S.table store.old) (S.table store.new)
         ⊎ (IsLongPush parent.now.node.value place child.now.node.value
-        × IsLittleHigher (S.table store.old) (S.table store.new))) }
+        × IsHardlyHigher (S.table store.old) (S.table store.new))) }
     ensures worn { result ≡ Err (fault.Worn counter.Level)
         → IsHighPush parent.now.node.value place child.now.node.value (reverse above.now) }
     ensures known { S.is_known store.old → S.is_known store.new }
