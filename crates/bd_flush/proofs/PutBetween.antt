@@ -19,13 +19,14 @@ use Rattle.bd_node.specs.Stores.{visited}
 use Rattle.bd_inner.specs.Halves.{AreHalves}
 use Rattle.bd_flush.specs.declared.fetching.Fetched.{Fetched}
 use Rattle.bd_flush.specs.Flushed.{IsFlushed, IsWornFor}
-use Rattle.bd_flush.specs.Children.{IsFetched}
+use Rattle.bd_flush.specs.Children.{IsFetched, CanSplitChild, IsLongPivot}
 use Rattle.bd_flush.specs.Splits.{over_two, over_step}
 use Rattle.bd_flush.specs.Raising.{raised, raise, Stand, IsWayUp, IsRising, CannotRise, AreRaised}
 use Rattle.bd_flush.specs.Raising.IsWayUp.{top, one_up}
 use Rattle.bd_flush.specs.Raising.IsRising.{at_top, high_enough, rises}
 use Rattle.bd_flush.specs.Raising.CannotRise.{here, further}
-use Rattle.bd_flush.specs.Between.{IsBetweenStep, IsBetween, IsHardlyHigher}
+use Rattle.bd_flush.specs.Between.{IsBetweenStep, IsBetween, IsHardlyHigher, IsSplitChild}
+use Rattle.bd_flush.specs.Between.IsSplitChild.{long}
 use Rattle.bd_flush.proofs.Worn.{cause_weaker}
 use Rattle.bd_flush.proofs.Raisings.{level_high}
 use Rattle.bd_flush.proofs.RootSplits.{up_lower, IsSplit, IsSplitOf, IsMade, split_step, split_in_place, flushed, over_higher, top_there, lower_there, upper_there, all_risen, split_worn}
@@ -172,3 +173,14 @@ put_stuck before bad t way child found P up is h = record {
   later = omega arith;
   failed = at_last t child.id (level_of child.node.value + 1) way up (subst (λ (o : Option Step). MatchOption o (CannotRise (level_of child.node.value + 1) way) P) is h);
 }
+
+-- ---- a child's split
+
+pub split_long : {T E : Type 0} (t : Table) (way : List Fetched) (parent : Fetched) (place : ℕ) (child : Fetched) (first : Node) (pivot : List ℕ) (second : Node) (found : Option Step) (P : Step → Type 0) (new : Nodes) (u : Table) (r : Result T E) → AreHalves child.node.value first pivot second
+    → found ≡ None → MatchOption found (IsLongPivot parent.node.value place child.node.value) P → OnOk r (IsBetween t (parent ∷ way) child first pivot second new u) → OnOk r (IsSplitChild t way parent place child new u)
+split_long t way parent place child first pivot second found P new u (Ok x) halves is h between =
+    long first pivot second (subst (λ (o : Option Step). MatchOption o (IsLongPivot parent.node.value place child.node.value) P) is h) halves between
+split_long t way parent place child first pivot second found P new u (Err e) halves is h between = tt
+
+pub way_of : (t : Table) (way : List Fetched) (parent : Fetched) (place : ℕ) (child : Fetched) → CanSplitChild t parent place child → IsWayUp t parent.id way → IsWayUp t child.id (parent ∷ way)
+way_of t way parent place child can up = one_up child.id place parent can.edge way can.parent_is can.way can.once up

@@ -1,5 +1,5 @@
 -- A node that is put between its parent and its halves.
-use Rattle.std.specs.Prelude.{◌≡◌, ℕ, ◌+◌, ◌≤◌, List, Some, map}
+use Rattle.std.specs.Prelude.{◌≡◌, ℕ, ◌+◌, ◌≤◌, ◌⊎◌, List, ◌∷◌, Some, map}
 use Rattle.std.specs.List.{AllByRecursion}
 use Rattle.bd_node.specs.declared.node.Node.{Node}
 use Rattle.bd_node.specs.declared.node.Step.{Step}
@@ -7,7 +7,9 @@ use Rattle.bd_node.specs.Nodes.{level_of}
 use Rattle.bd_node.specs.Meaning.{Nodes}
 use Rattle.bd_node.specs.Tables.{Table}
 use Rattle.bd_flush.specs.declared.fetching.Fetched.{Fetched}
+use Rattle.bd_inner.specs.Halves.{AreHalves}
 use Rattle.bd_flush.specs.Splits.{over_two, over_step}
+use Rattle.bd_flush.specs.Children.{IsHalved, IsLongPivot, IsNoHigher}
 use Rattle.bd_flush.specs.Raising.{raised, raise, IsRising}
 
 -- the step that puts a child between its parent and its halves: the nodes of the way above it, the
@@ -38,3 +40,19 @@ pub record IsHardlyHigher (t u : Table) : Type 0 where
   pub low : t.level t.root ≤ u.level u.root
   pub high : u.level u.root ≤ t.level t.root + 1
   pub size : u.size ≤ t.size
+
+-- the child is split below its parent, or, where the pivot of its halves would be too long there, it
+-- is put between
+pub data IsSplitChild (t : Table) (above : List Fetched) (parent : Fetched) (place : ℕ)
+    (child : Fetched) (new : Nodes) (u : Table) : Type 0 where
+  short : IsHalved t parent place child new u → IsSplitChild t above parent place child new u
+  long : (first : Node) (pivot : List ℕ) (second : Node)
+      → IsLongPivot parent.node.value place child.node.value
+      → AreHalves child.node.value first pivot second
+      → IsBetween t (parent ∷ above) child first pivot second new u
+      → IsSplitChild t above parent place child new u
+
+-- the root is as high as it was after a child's split, or, where the pivot of the halves was too long,
+-- at most one level higher
+abbrev pub IsHighAfterSplit : Table → Node → ℕ → Node → Table → Type 0
+IsHighAfterSplit t n place m u = IsNoHigher t u ⊎ (IsLongPivot n place m × IsHardlyHigher t u)

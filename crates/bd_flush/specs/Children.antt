@@ -135,7 +135,7 @@ pub record IsChildStep (root next : ℕ) (parent : Fetched) (place : ℕ) (child
   pub is : step ≡ child_step root parent.id node child.id half made
 
 -- the child is split: it is one half from now on, and the other is made if it has keys of the edge
-pub record IsSplitChild (t : Table) (parent : Fetched) (place : ℕ) (child : Fetched) (new : Nodes)
+pub record IsHalved (t : Table) (parent : Fetched) (place : ℕ) (child : Fetched) (new : Nodes)
     (u : Table) : Type 0 where
   pub edge : Edge
   pub here : IsEdgeAt parent.node.value place edge

@@ -16,7 +16,7 @@ mod splitting;
 mod ways;
 
 pub use between::put_between;
-pub use children::{ChildSplit, split_child};
+pub use children::split_child;
 pub use fetching::{Fetched, fetch};
 pub use filling::{FullEdge, fullest};
 pub use planting::push_new;
