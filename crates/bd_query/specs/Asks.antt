@@ -80,7 +80,8 @@ pub record AreVisitsOfWay (nodes : Nodes) (id : ℕ) (k : List ℕ) (before afte
   pub counted : after ≡ visited before number
 
 -- as many as on ways down along rising keys, none where there is no way
-pub record AreVisitsOfWays (nodes : Nodes) (root : ℕ) (from : List ℕ) (before after : ℕ) : Type 0 where
+pub record AreVisitsOfWays (nodes : Nodes) (root : ℕ) (from : List ℕ) (before after : ℕ)
+    : Type 0 where
   pub number : ℕ
   pub last : Option (List ℕ)
   pub ways : AreWaysDown nodes root from last number

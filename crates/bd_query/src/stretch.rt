@@ -1,16 +1,14 @@
 //! What one node says of a key and of the keys after it.
 
-ghost use Rattle.std.specs.Prelude.{◌≡◌, ℕ, ◌+◌, ◌-◌, ◌*◌, ◌^◌, ◌<◌, ◌≤◌, true, List, [], ◌++◌, length, take, drop, Option, None, Some, IfOk, slice_get};
+ghost use Rattle.std.specs.Prelude.{◌≡◌, ℕ, ◌+◌, ◌-◌, ◌*◌, ◌<◌, ◌≤◌, true, List, [], ◌++◌, length, drop, Option, None, Some, IfOk, slice_get};
 ghost use Rattle.std.specs.List.{AllByRecursion, flat_map};
-ghost use Rattle.std.specs.Option.{option_copied, option_map};
-ghost use Rattle.bd_keys.specs.Keys.{IsKey, IsAtLeast, IsBelowEnd, InRange, IsCommon};
+ghost use Rattle.std.specs.Option.{option_map};
 ghost use Rattle.bd_message.specs.Messages.{IsMessage};
 ghost use Rattle.bd_message.specs.Effect.{NodesAt, act};
 ghost use Rattle.bd_node.specs.Touching.{touches};
 ghost use Rattle.bd_node.specs.Nodes.{node_at, names, message_names, edge_names, child_at, edge_of, edge_at, entry_at};
-ghost use Rattle.bd_node.specs.Shape.{IsShape, IsEntry, IsRising, AreRising, IsChild, end_before};
+ghost use Rattle.bd_node.specs.Shape.{IsShape, IsEntry, IsRising, AreRising};
 ghost use Rattle.bd_leaf.specs.Places.{IsPlace};
-ghost use Rattle.bd_limits.specs.Limits.{key_limit};
 ghost use Rattle.bd_query.specs.Asks.{asked_by, asked_first, asked_through, asked_at, asked_in};
 ghost use Rattle.bd_query.specs.Stretches.{IsEnd, IsWithin, IsNewest, IsWay, IsStretch, HasEnd, EndsBy, AsksOneOf, end_limit};
 

@@ -31,8 +31,8 @@ pub enum Turn {
     Passed { end: Option<Bytes> },
 }
 
-/// One way down from a kept node along a key: it finds a value there, or up to which end above it no
-/// key has one. A node asks at most one other, and none where a cut decides.
+/// One way down from a kept node along a key: it finds a value there, or up to which end above it
+/// no key has one. A node asks at most one other, and none where a cut decides.
 pub fn turn_at<S: NodeStore>(
     alloc: Global,
     store: &mut S,
