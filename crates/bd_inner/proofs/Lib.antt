@@ -6,3 +6,6 @@ pub mod Splitting
 pub mod Moved
 pub mod Exchanged
 pub mod Fitting
+mod FreedMessages
+pub mod ClippedEdges
+mod Clipped

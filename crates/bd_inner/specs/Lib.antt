@@ -2,3 +2,4 @@ pub mod Compaction
 pub mod Halves
 pub mod Moving
 pub mod Exchange
+pub mod Clipping

@@ -5,6 +5,7 @@
 #![tactic(auto)]
 
 mod batches;
+mod clipping;
 mod compaction;
 mod exchanging;
 mod halves;
@@ -18,6 +19,7 @@ ghost use Rattle.bd_node.specs.Shape.{AreRising};
 
 pub use batches::{Batch, next_batch};
 use bd_node::{Edge, Steps};
+pub use clipping::clip;
 pub use compaction::compact;
 pub use exchanging::{edge_to, end_of, exchange};
 pub use halves::split;
