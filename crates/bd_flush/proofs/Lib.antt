@@ -6,8 +6,10 @@ pub mod Givens
 pub mod Worn
 pub mod RootSplits
 pub mod ChildSteps
+pub mod PathSteps
 pub mod Raisings
 pub mod ChildSplits
+pub mod RisingSteps
 pub mod ChildCommits
 pub mod Pushed
 pub mod PushCommits

@@ -2,6 +2,7 @@ pub mod Pending
 pub mod Flushed
 pub mod Splits
 pub mod Children
+pub mod Paths
 pub mod Pushes
 pub mod Raising
 pub mod Ways

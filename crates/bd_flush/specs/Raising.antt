@@ -22,8 +22,8 @@ raise f = record { id = f.id; node = raised f.node.value }
 -- fetched nodes from the one above a node up to the root: each has an edge to the one below it, which
 -- nothing else names, with nothing in front of what is left of a key
 pub data IsWayUp (t : Table) : ℕ → List Fetched → Type 0 where
-  at_root : IsWayUp t t.root []
-  above : (c place : ℕ) (f : Fetched) (e : Edge) (fs : List Fetched) → IsFetched t f
+  top : IsWayUp t t.root []
+  one_up : (c place : ℕ) (f : Fetched) (e : Edge) (fs : List Fetched) → IsFetched t f
       → IsWayTo f.node.value place c e → t.count c ≡ 1 → IsWayUp t f.id fs → IsWayUp t c (f ∷ fs)
 
 -- the nodes above one that gets this level, the nearest first, and those of them that rise: each that

@@ -9,3 +9,6 @@ pub mod Fitting
 mod FreedMessages
 pub mod ClippedEdges
 mod Clipped
+pub mod CarvingParts
+pub mod CarvingOwned
+pub mod Carved

@@ -19,7 +19,7 @@ use Rattle.bd_node.proofs.Appending.{key_of, key_of-touched}
 -- ---- keys that begin alike
 
 -- a key between two that begin with a prefix begins with it
-between : (p x y f : List ℕ) → IsAtLeast f (p ++ x) → IsAtLeast (p ++ y) f → (z : List ℕ) × (f ≡ p ++ z) × IsAtLeast z x
+pub between : (p x y f : List ℕ) → IsAtLeast f (p ++ x) → IsAtLeast (p ++ y) f → (z : List ℕ) × (f ≡ p ++ z) × IsAtLeast z x
 between [] x y f least most = (f, refl, least)
 between (b ∷ p) x y [] least most = absurd (least refl)
 between (b ∷ p) x y (d ∷ f) least most =
@@ -49,7 +49,7 @@ cut_after p x z least =
     and_from _ _ (begins-append p z)
     (ap (λ (r : List ℕ). not (is_lt (key_cmp r x))) (rest-append p z) ∙ ap not (not_less_lt (key_cmp z x) least))
 
-cut_first : (p x k : List ℕ) → is_cut p x k ≡ true → IsAtLeast k (p ++ x)
+pub cut_first : (p x k : List ℕ) → is_cut p x k ≡ true → IsAtLeast k (p ++ x)
 cut_first p x k h =
     subst (λ (l : List ℕ). IsAtLeast l (p ++ x)) (sym (begins-is k p (and_parts _ _ h).0))
     (λ less. cut_least p x k h (sym (cmp_after p (rest p k) x) ∙ less))
@@ -100,19 +100,19 @@ touched_between (Goto prefix source child) k f h least most =
 -- ---- the keys of a range that a message can change
 
 -- what isn't above a key is below what the key is below
-not_above : (a k hi : List ℕ) → IsAtLeast k a → IsBelow k hi → IsBelow a hi
+pub not_above : (a k hi : List ℕ) → IsAtLeast k a → IsBelow k hi → IsBelow a hi
 not_above a k hi least below =
     elim (cases_Bool (is_lt (key_cmp a hi))) [
       | inl less ↦ lt_is (key_cmp a hi) less
       | inr more ↦ absurd (least (below_from k hi a below (λ less. lt_isnt (key_cmp a hi) more less)))
     ]
 
-not_above_end : (a k : List ℕ) (hi : Option (List ℕ)) → IsAtLeast k a → IsBelowEnd k hi → IsBelowEnd a hi
+pub not_above_end : (a k : List ℕ) (hi : Option (List ℕ)) → IsAtLeast k a → IsBelowEnd k hi → IsBelowEnd a hi
 not_above_end a k None least below = tt
 not_above_end a k (Some hi) least below = not_above a k hi least below
 
 -- of two keys one isn't below the other
-least_back : (a b : List ℕ) → IsBelow a b → IsAtLeast b a
+pub least_back : (a b : List ℕ) → IsBelow a b → IsAtLeast b a
 least_back a b below back = not_below_itself a (total.trans a b a below back)
 
 touched_in : (m : Message) (lo : List ℕ) (hi : Option (List ℕ)) → CanTouch m lo hi → (touches m lo ≡ true) ⊎ InRange lo hi (key_of m)

@@ -3,3 +3,4 @@ pub mod Halves
 pub mod Moving
 pub mod Exchange
 pub mod Clipping
+pub mod Carving

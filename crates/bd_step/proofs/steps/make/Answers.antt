@@ -1,0 +1,11 @@
+use Rattle.std.proofs.Common.{subst}
+use Rattle.bd_flush.specs.declared.ways.FlushStep.{FlushStep}
+use Rattle.bd_flush.specs.Ways.{IsToDo, IsToDoAt}
+use Rattle.bd_step.proofs.Making.{root_found}
+use Rattle.bd_step.proofs.steps.make.Goals as goal
+
+pub split_root-requires-clause-there : goal.split_root-requires-clause-there
+split_root-requires-clause-there g c = λ known sound.
+    root_found (g.S.NodeStore.nodes c.args.store.now) (g.S.NodeStore.table c.args.store.now) c.in-SplitRoot.root c.deref.result.now c.deref.ensures
+    (subst (λ (s : FlushStep). IsToDo (g.S.NodeStore.table c.args.store.now) s) c.in-SplitRoot.is c.requires.to_do)
+    (subst (λ (s : FlushStep). IsToDoAt (g.S.NodeStore.nodes c.args.store.now) (g.S.NodeStore.table c.args.store.now) s) c.in-SplitRoot.is (c.requires.here known sound))
