@@ -4,7 +4,6 @@ pub mod Waiting
 pub mod Each
 pub mod Givens
 pub mod Worn
-pub mod RootSplits
 pub mod ChildSteps
 pub mod PathSteps
 pub mod Raisings
@@ -20,3 +19,6 @@ pub mod LeafPushes
 pub mod LeafCommits
 pub mod NewWays
 pub mod Down
+pub mod Rising
+pub mod Over
+pub mod RootSplits

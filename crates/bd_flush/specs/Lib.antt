@@ -5,4 +5,5 @@ pub mod Children
 pub mod Paths
 pub mod Pushes
 pub mod Raising
+pub mod Between
 pub mod Ways

@@ -131,7 +131,7 @@ above_taken (a ∷ p) (b ∷ k) is_p is_k above (c ∷ l) is_l begins =
     elim (cases_order a b) [
       | inl same ↦
           let rest : IsAboveAll k p = λ m is_m m_begins. sym (first_same a m k)
-              ∙ subst (λ (d : ℕ). IsBelow (a ∷ m) (d ∷ k)) (sym same) (above (a ∷ m) (IsKey-cons a m (is_p 0) is_m) (Begins-cons a m p m_begins)) in
+          ∙ subst (λ (d : ℕ). IsBelow (a ∷ m) (d ∷ k)) (sym same) (above (a ∷ m) (IsKey-cons a m (is_p 0) is_m) (Begins-cons a m p m_begins)) in
           let found : IsBelow (a ∷ l) (a ∷ take (length p) k) = first_same a l (take (length p) k) ∙ above_taken p k (IsKey-rest a p is_p) (IsKey-rest b k is_k) rest l (IsKey-rest c l is_l) parts.1 in
           subst (λ (d : ℕ). IsBelow (d ∷ l) (b ∷ take (length p) k)) (sym parts.0) (subst (λ (d : ℕ). IsBelow (a ∷ l) (d ∷ take (length p) k)) same found)
       | inr o ↦ elim o [

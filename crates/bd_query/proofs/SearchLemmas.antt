@@ -10,55 +10,107 @@ use Rattle.bd_node.specs.Nodes.{is_key}
 use Rattle.bd_node.specs.Meaning.{Nodes, at}
 use Rattle.bd_node.proofs.Lookup.{key-is_key, is_key-key}
 use Rattle.bd_node.proofs.LawLemmas.{others_have_nothing}
-use Rattle.bd_query.specs.Stretches.{IsEnd, IsEmpty}
+use Rattle.bd_query.specs.declared.turns.Turn.{Turn}
+use Rattle.bd_query.specs.declared.turns.Turn.TheVariants.{Found, Passed}
+use Rattle.bd_query.specs.Stretches.{IsEnd, IsEmpty, IsTurn, PassesTo}
 use Rattle.bd_query.proofs.EndLemmas.{least_trans, below_or_least, begins_joined, begins_split}
 
 -- ---- the place of a key among all keys of at most so many bytes
 
+-- so many times a number
+times : ℕ → ℕ → ℕ
+times zero w = 0
+times (suc b) w = w + times b w
+
 -- how many places there are
 width : ℕ → ℕ
 width zero = 1
-width (suc n) = 257 * width n
+width (suc n) = times 257 (width n)
 
 -- the place of a key, which is that of its first bytes; the lower the key, the lower the place
 place : ℕ → List ℕ → ℕ
 place zero k = 0
 place (suc n) [] = 0
-place (suc n) (b ∷ k) = (b + 1) * width n + place n k
+place (suc n) (b ∷ k) = times (suc b) (width n) + place n k
 
 -- how many places are above a key's
 pub places_above : ℕ → List ℕ → ℕ
 places_above n k = width n - place n k
 
-times_more : (b c w : ℕ) → b < c → (b + 1) * w + w ≤ (c + 1) * w
-times_more b c w low = ?
+times_suc : (b w : ℕ) → times (suc b) w ≡ w + times b w
+unfolding times
+times_suc b w = refl
+
+times_le : (b c w : ℕ) → b ≤ c → times b w ≤ times c w
+unfolding times
+times_le zero c w le = omega arith
+times_le (suc b) zero w le = absurd (omega arith)
+times_le (suc b) (suc c) w le = (let h : times b w ≤ times c w = times_le b c w (omega arith) in omega arith)
+
+times_more : (b c w : ℕ) → b < c → times b w + w ≤ times c w
+times_more b c w low = (let h : times (suc b) w ≤ times c w = times_le (suc b) c w low in let e : times (suc b) w ≡ w + times b w = times_suc b w in omega arith)
+
+width_suc : (n : ℕ) → width (suc n) ≡ times 257 (width n)
+unfolding width
+width_suc n = refl
+
+place_cons : (n b : ℕ) (k : List ℕ) → place (suc n) (b ∷ k) ≡ times (suc b) (width n) + place n k
+unfolding place
+place_cons n b k = refl
+
+place_nil : (n : ℕ) → place n [] ≡ 0
+unfolding place
+place_nil zero = refl
+place_nil (suc n) = refl
+
+place_zero : (k : List ℕ) → place zero k ≡ 0
+unfolding place
+place_zero k = refl
+
+width_zero : width zero ≡ 1
+unfolding width
+width_zero = refl
+
+width_some : (n : ℕ) → 1 ≤ width n
+width_some zero = (let e : width zero ≡ 1 = width_zero in omega arith)
+width_some (suc n) =
+    let h : 1 ≤ width n = width_some n in
+    let e : width (suc n) ≡ times 257 (width n) = width_suc n in
+    let more : times 256 (width n) + width n ≤ times 257 (width n) = times_more 256 257 (width n) (omega arith) in
+    omega arith
 
 place_within : (n : ℕ) (k : List ℕ) → IsKey k → place n k < width n
-unfolding place, width
-place_within zero k is_k = omega arith
-place_within (suc n) [] is_k = (let h : place n [] < width n = place_within n [] is_k in omega arith)
+place_within zero k is_k = (let e : place zero k ≡ 0 = place_zero k in let f : width zero ≡ 1 = width_zero in omega arith)
+place_within (suc n) [] is_k = (let e : place (suc n) [] ≡ 0 = place_nil (suc n) in let some : 1 ≤ width (suc n) = width_some (suc n) in omega arith)
 place_within (suc n) (b ∷ k) is_k =
     let h : place n k < width n = place_within n k (IsKey-rest b k is_k) in
     let byte : b < 256 = is_k 0 in
-    let more : (b + 1) * width n + width n ≤ (256 + 1) * width n = times_more b 256 (width n) byte in
+    let more : times (suc b) (width n) + width n ≤ times 257 (width n) = times_more (suc b) 257 (width n) (omega arith) in
+    let e : width (suc n) ≡ times 257 (width n) = width_suc n in
+    let f : place (suc n) (b ∷ k) ≡ times (suc b) (width n) + place n k = place_cons n b k in
     omega arith
 
 place_rises : (n : ℕ) (k l : List ℕ) → IsKey k → IsKey l → IsBelow k l → length l ≤ n → place n k < place n l
-unfolding place
 place_rises n k [] is_k is_l below short = absurd (not_below_nil k below)
 place_rises zero k (c ∷ l) is_k is_l below short = absurd (omega arith)
 place_rises (suc n) [] (c ∷ l) is_k is_l below short =
-    let h : place n [] < width n = place_within n [] is_k in
-    let more : 1 * width n ≤ (c + 1) * width n = ? in
+    let e : place (suc n) [] ≡ 0 = place_nil (suc n) in
+    let f : place (suc n) (c ∷ l) ≡ times (suc c) (width n) + place n l = place_cons n c l in
+    let g : times (suc c) (width n) ≡ width n + times c (width n) = times_suc c (width n) in
+    let some : 1 ≤ width n = width_some n in
     omega arith
 place_rises (suc n) (b ∷ k) (c ∷ l) is_k is_l below short =
+    let e : place (suc n) (b ∷ k) ≡ times (suc b) (width n) + place n k = place_cons n b k in
+    let f : place (suc n) (c ∷ l) ≡ times (suc c) (width n) + place n l = place_cons n c l in
     elim (cases_order b c) [
       | inl same ↦
           let rest : place n k < place n l = place_rises n k l (IsKey-rest b k is_k) (IsKey-rest c l is_l) (sym (first_same b k l) ∙ subst (λ (d : ℕ). IsBelow (b ∷ k) (d ∷ l)) (sym same) below) (omega arith) in
-          subst (λ (d : ℕ). (b + 1) * width n + place n k < (d + 1) * width n + place n l) same (omega arith)
+          let head : times (suc b) (width n) ≡ times (suc c) (width n) = ap (λ (d : ℕ). times (suc d) (width n)) same in
+          omega arith
       | inr o ↦ elim o [
-        | inl lt ↦ (let h : place n k < width n = place_within n k (IsKey-rest b k is_k) in let more : (b + 1) * width n + width n ≤ (c + 1) * width n = times_more b c (width n) lt in omega arith)
-        | inr gt ↦ (let e : Less ≡ Greater = sym below ∙ first_more b c k l gt in absurd (cc))
+        | inl lt ↦ (let h : place n k < width n = place_within n k (IsKey-rest b k is_k) in
+            let more : times (suc b) (width n) + width n ≤ times (suc c) (width n) = times_more (suc b) (suc c) (width n) (omega arith) in omega arith)
+        | inr gt ↦ (let x : Less ≡ Greater = sym below ∙ first_more b c k l gt in absurd (cc))
       ]
     ]
 
@@ -98,8 +150,8 @@ begins_between (a ∷ p) (b ∷ low) (c ∷ k) from until begins =
     elim (cases_order a b) [
       | inl same ↦
           let rest : Begins low p = begins_between p low k
-              (λ less. from (subst (λ (d : ℕ). IsBelow (d ∷ low) (a ∷ p)) same (first_same a low p ∙ less)))
-              (λ less. until (subst (λ (d : ℕ). IsBelow (c ∷ k) (d ∷ low)) (parts.0 ∙ same) (first_same c k low ∙ less))) parts.1 in
+          (λ less. from (subst (λ (d : ℕ). IsBelow (d ∷ low) (a ∷ p)) same (first_same a low p ∙ less)))
+          (λ less. until (subst (λ (d : ℕ). IsBelow (c ∷ k) (d ∷ low)) (parts.0 ∙ same) (first_same c k low ∙ less))) parts.1 in
           subst (λ (d : ℕ). Begins (d ∷ low) (a ∷ p)) same (Begins-cons a low p rest)
       | inr o ↦ elim o [
         | inl lt ↦ absurd (until (first_less c b k low (let e : c ≡ a = parts.0 in omega arith)))
@@ -153,3 +205,34 @@ low_other has from within low h other k found = other (begins_between within low
 -- one that finds a value at the key has found it
 pub low_found : (has : At) (from within low : List ℕ) → IsLow has from within low → Begins low within → IsSome (has low) → IsNext has from within (Some low)
 low_found has from within low h begins some = ((some, h.from_on, begins), h.rest)
+
+-- ---- the search
+
+-- what is known of one turn of a search, where all keys are looked for from one on
+pub record IsTurned (from within low slice : List ℕ) (most : ℕ) (turn : Turn) : Type 0 where
+  pub slice_is : slice ≡ low
+  pub passes : PassesTo slice most turn
+  pub bytes : IsKey slice
+
+pub turned_fewer : (from within low slice end bytes items : List ℕ) (most : ℕ) (turn : Turn) (some : Option (List ℕ)) → IsTurned from within low slice most turn → turn ≡ Passed some → some ≡ Some end → bytes ≡ end → items ≡ end → IsKey bytes
+    → places_above most items < places_above most low
+turned_fewer from within low slice end bytes items most turn some h is_passed is_some same_bytes same_items is_end =
+    let passes : PassesTo slice most (Passed (Some end)) = subst (λ (t : Turn). PassesTo slice most t) (is_passed ∙ ap (λ (e : Option (List ℕ)). Passed e) is_some) h.passes in
+    subst (λ (k : List ℕ). places_above most k < places_above most low) (sym same_items)
+    (subst (λ (k : List ℕ). places_above most end < places_above most k) h.slice_is
+    (fewer_places most slice end h.bytes (subst (λ (k : List ℕ). IsKey k) same_bytes is_end) passes))
+
+pub turned_low : (nodes : Nodes) (id : ℕ) (from within low slice end items : List ℕ) (most : ℕ) (turn : Turn) (some : Option (List ℕ)) → IsTurned from within low slice most turn → turn ≡ Passed some → some ≡ Some end → items ≡ end
+    → IsTurn (at nodes id) slice turn → IsLow (at nodes id) from within low → IsLow (at nodes id) from within items
+turned_low nodes id from within low slice end items most turn some h is_passed is_some same_items said low_is =
+    let passed : turn ≡ Passed (Some end) = is_passed ∙ ap (λ (e : Option (List ℕ)). Passed e) is_some in
+    let passes : PassesTo slice most (Passed (Some end)) = subst (λ (t : Turn). PassesTo slice most t) passed h.passes in
+    let empty : IsTurn (at nodes id) slice (Passed (Some end)) = subst (λ (t : Turn). IsTurn (at nodes id) slice t) passed said in
+    subst (λ (k : List ℕ). IsLow (at nodes id) from within k) (sym same_items)
+    (low_passed nodes id from within slice end most (subst (λ (k : List ℕ). IsLow (at nodes id) from within k) (sym h.slice_is) low_is) empty passes)
+
+pub turned_past : (nodes : Nodes) (id : ℕ) (from within low slice : List ℕ) (turn : Turn) (some : Option (List ℕ)) → slice ≡ low → turn ≡ Passed some → some ≡ None
+    → IsTurn (at nodes id) slice turn → IsLow (at nodes id) from within low → IsNext (at nodes id) from within None
+turned_past nodes id from within low slice turn some slice_is is_passed is_none said low_is =
+    low_past nodes id from within slice (subst (λ (k : List ℕ). IsLow (at nodes id) from within k) (sym slice_is) low_is)
+    (subst (λ (t : Turn). IsTurn (at nodes id) slice t) (is_passed ∙ ap (λ (e : Option (List ℕ)). Passed e) is_none) said)

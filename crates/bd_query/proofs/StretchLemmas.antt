@@ -77,9 +77,10 @@ cut_begins lo prefix from h = true_begins lo prefix (and_parts _ _ h).0
 pub goto_asked : (below : NodesAt) (lo prefix source : List ℕ) (child : ℕ) (end old : Option (List ℕ)) → begins lo prefix ≡ true → ((k : List ℕ) → IsKey k → InRange lo end k → Begins k prefix)
     → IsAsked (λ k. cond (begins k prefix) (below child (source ++ rest prefix k)) old) (below child) lo end (length prefix) source
 goto_asked below lo prefix source child end old h begins_all k is_k within =
-    let begins_k : Begins k prefix = begins_all k is_k within in
-    (subst (λ (p : List ℕ). Begins k p) (sym (true_begins lo prefix h)) begins_k,
-    cond-true (begins k prefix) (below child (source ++ rest prefix k)) old (begins_true k prefix begins_k))
+    let begins_k : Begins k prefix = begins_all k is_k within in (
+      subst (λ (p : List ℕ). Begins k p) (sym (true_begins lo prefix h)) begins_k,
+      cond-true (begins k prefix) (below child (source ++ rest prefix k)) old (begins_true k prefix begins_k),
+    )
 
 pub begins_long : (lo prefix : List ℕ) → begins lo prefix ≡ true → length prefix ≤ length lo
 begins_long lo prefix h =
@@ -141,9 +142,11 @@ newest_decides : (below : NodesAt) (ms : List Message) (k : List ℕ) (from plac
     → (x : Option (List ℕ)) × (acts below (drop from ms) k first ≡ act below m k x)
 newest_decides below ms k from place m first le there none =
     let split = acts_split below ms k from place m first le there in
-    let more : suc place ≡ place + 1 = omega arith in
-    (split.0, split.1 ∙ ap (λ (j : ℕ). acts below (drop j ms) k (act below m k split.0)) more
-    ∙ acts_rest below ms k (place + 1) (act below m k split.0) (let w : place < length ms = slice_get_within ms place m there in omega arith) none)
+    let more : suc place ≡ place + 1 = omega arith in (
+      split.0,
+      split.1 ∙ ap (λ (j : ℕ). acts below (drop j ms) k (act below m k split.0)) more
+          ∙ acts_rest below ms k (place + 1) (act below m k split.0) (let w : place < length ms = slice_get_within ms place m there in omega arith) none,
+    )
 
 -- ---- stretches of what stands elsewhere
 

@@ -131,8 +131,8 @@ fn past_prefix(alloc: Global, prefix: &[u8]) -> Result<Option<Bytes>, AllocError
     }
 }
 
-// The bytes of a slice, each of which is a byte.
-fn bytes_of(key: &[u8]) -> &[u8]
+/// The bytes of a slice, each of which is a byte.
+pub fn bytes_of(key: &[u8]) -> &[u8]
     ensures same { result.now ≡ key.now }
     ensures bytes { IsKey key.now }
 {

@@ -7,6 +7,7 @@ ghost use Rattle.bd_message.specs.KeyMaps.{HasMapCause, NeverWorn, IsNext};
 ghost use Rattle.bd_node.specs.Meaning.{at};
 ghost use Rattle.bd_node.specs.Tables.{IsKept, IsSound};
 
+use crate::ends::bytes_of;
 use crate::turns::{Turn, turn_at};
 use bd_keys::starts;
 use bd_message::MapFault;
@@ -36,11 +37,14 @@ pub fn next<S: NodeStore>(
     ensures same_loans { S.loans store.new ≡ S.loans store.old }
 {
     let mut low = Vec::from_slice(alloc, greater(from, within))?;
-    while starts(low.as_slice(), within) {
+    'turns: while starts(low.as_slice(), within) {
         match turn_at(alloc, store, root, low.as_slice())? {
             Turn::Found => return Ok(Some(low)),
             Turn::Passed { end: None } => return Ok(None),
-            Turn::Passed { end: Some(end) } => low = end.into_vec(),
+            Turn::Passed { end: Some(end) } => {
+                let _bytes = bytes_of(end.as_slice());
+                low = end.into_vec();
+            }
         }
     }
     Ok(None)

@@ -28,7 +28,9 @@ pub enum Stretch {
     /// The key has a value.
     Present,
     /// No key from this one up to the end has one.
-    Absent { end: Option<Bytes> },
+    Absent {
+        end: Option<Bytes>,
+    },
     /// Each key from this one up to the end has what a node has at `source` and then the key
     /// without its first `lift` bytes, which these keys have in common.
     Child {

@@ -43,6 +43,7 @@ pub fn turn_at<S: NodeStore>(
         → IfOk result (λ turn. IsTurn (at (S.nodes store.old) id) key.now turn) }
     ensures passes { IfOk result (λ turn.
         PassesTo key.now (way_limit ((S.table store.old).level id)) turn) }
+    ensures bytes { IsKey key.now }
     ensures table { S.table store.new ≡ S.table store.old }
     ensures known { S.is_known store.old → S.is_known store.new }
     ensures kept { S.is_known store.old → S.nodes store.new ≡ S.nodes store.old }

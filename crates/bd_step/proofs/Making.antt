@@ -1,7 +1,6 @@
 -- What the way down finds is enough to make a step.
-use Rattle.std.proofs.Common.{◌≡◌, ℕ, ◌<◌, ◌≤◌, length, sym, ap, subst, ◌∙◌, None, Some, Result, Ok, IfOk, arith, inl, inr}
+use Rattle.std.proofs.Common.{◌≡◌, ℕ, List, ◌<◌, ◌≤◌, sym, ap, subst, ◌∙◌, None, Some, Result, Ok, IfOk, arith, inl, inr}
 use Rattle.std.specs.List.{AllByRecursion}
-use Rattle.std.proofs.lemmas.Option.{slice_get_within}
 use Rattle.bd_limits.specs.Limits.{soft_limit}
 use Rattle.bd_message.specs.declared.fault.MapFault.{MapFault}
 use Rattle.bd_node.specs.declared.node.Edge.{Edge}
@@ -11,18 +10,17 @@ use Rattle.bd_node.specs.Nodes.{buffer_size}
 use Rattle.bd_node.specs.Meaning.{Nodes}
 use Rattle.bd_node.specs.Shape.{IsShape}
 use Rattle.bd_node.specs.Tables.{Table, IsSound}
-use Rattle.bd_inner.specs.Halves.{buffer_of}
 use Rattle.bd_inner.specs.Moving.{IsPlainFor}
 use Rattle.bd_inner.specs.Exchange.{end_at, IsEdgeAt}
 use Rattle.bd_flush.specs.declared.fetching.Fetched.{Fetched}
 use Rattle.bd_flush.specs.declared.ways.FlushStep.{FlushStep}
 use Rattle.bd_flush.specs.declared.ways.FlushStep.TheVariants.{SplitRoot, SplitChild, Push, Privatise, Carve}
 use Rattle.bd_flush.specs.Flushed.{IsFlushed}
-use Rattle.bd_flush.specs.Children.{IsFetched, AreFamily}
-use Rattle.bd_flush.specs.Pushes.{CanPush, CanPushNew, IsWaitedFor, IsOwn, unseen}
-use Rattle.bd_flush.specs.Ways.{IsFullestAt, IsHigh, HasPending, IsToDo, IsToDoAt}
+use Rattle.bd_flush.specs.Children.{IsFetched}
+use Rattle.bd_flush.specs.Pushes.{CanPush, CanPushNew, IsWaitedFor, unseen}
+use Rattle.bd_flush.specs.Ways.{IsFullestAt, IsHigh, IsToDo, IsToDoAt}
 use Rattle.bd_flush.proofs.Abundance.{abundant}
-use Rattle.bd_flush.proofs.Waiting.{fullest_waits}
+use Rattle.bd_flush.proofs.Waiting.{fullest_waits, pending_waits}
 use Rattle.bd_step.specs.Steps.{IsMade, IsHighAfter, IsAbundantAt, IsAbundant, IsFlushStep, IsOutcome}
 use Rattle.bd_step.specs.declared.steps.Flush.{Flush}
 use Rattle.bd_step.specs.declared.steps.Flush.TheVariants.{Enough, LongPivot}
@@ -43,22 +41,17 @@ much_waits t f waits fetched high =
       | inr more ↦ more
     ]
 
--- an edge for which a message is pending hasn't seen all
-waited : (n : Node) (place : ℕ) (e : Edge) → HasPending n place e → AllByRecursion (IsPlainFor e (end_at n place)) (unseen n e) → IsWaitedFor n place e
-waited n place e h plain = record {
-  some = (let low : e.seen ≤ h.index = h.pending.0 in
-      let within : h.index < length (buffer_of n) = slice_get_within (buffer_of n) h.index h.message h.there in
-      omega arith);
-  plain = plain;
-}
-
+-- messages wait for the fullest edge
 waits_for : (t : Table) (parent : Fetched) (place : ℕ) (e : Edge) → 1 ≤ t.size → IsFetched t parent → IsHigh t parent → IsFullestAt parent.node.value place → IsEdgeAt parent.node.value place e
     → AllByRecursion (IsPlainFor e (end_at parent.node.value place)) (unseen parent.node.value e) → IsWaitedFor parent.node.value place e
 waits_for t parent place e waits fetched high full here plain =
-    waited parent.node.value place e (fullest_waits parent.node.value fetched.own.shape (some_wait t parent waits fetched high) place full e here) plain
+    record {
+      some = pending_waits parent.node.value place e (fullest_waits parent.node.value fetched.own.shape (some_wait t parent waits fetched high) place full e here);
+      plain = plain;
+    }
 
-pub can_push : (t : Table) (parent : Fetched) (place : ℕ) (child : Fetched) → 1 ≤ t.size → IsToDo t (Push parent place (Some child)) → CanPush t parent place child
-can_push t parent place child waits h = record {
+pub can_push : (t : Table) (above : List Fetched) (parent : Fetched) (place : ℕ) (child : Fetched) → 1 ≤ t.size → IsToDo t (Push above parent place (Some child)) → CanPush t parent place child
+can_push t above parent place child waits h = record {
   parent_is = h.0.parent_is;
   child_is = h.0.target.1;
   under = h.1.under;
@@ -70,25 +63,14 @@ can_push t parent place child waits h = record {
   soft = h.0.target.3;
 }
 
-pub can_push_new : (t : Table) (parent : Fetched) (place : ℕ) → 1 ≤ t.size → IsToDo t (Push parent place None) → CanPushNew t parent place
-can_push_new t parent place waits h = record {
+pub can_push_new : (t : Table) (above : List Fetched) (parent : Fetched) (place : ℕ) → 1 ≤ t.size → IsToDo t (Push above parent place None) → CanPushNew t parent place
+can_push_new t above parent place waits h = record {
   parent_is = h.0.parent_is;
   edge = h.0.edge;
   here = h.0.target.0;
   bare = h.0.target.1;
   waiting = waits_for t parent place h.0.edge waits h.0.parent_is h.1 h.0.fullest h.0.target.0 h.0.plain;
 }
-
--- ---- in known nodes
-
-pub pushed_family : (nodes : Nodes) (t : Table) (parent : Fetched) (place : ℕ) (child : Fetched) → IsToDoAt nodes t (Push parent place (Some child)) → AreFamily nodes t parent child
-pushed_family nodes t parent place child h = record { private = h.0.private; parent_there = h.0.there; child_there = h.1 }
-
-pub new_own : (nodes : Nodes) (t : Table) (parent : Fetched) (place : ℕ) → IsToDoAt nodes t (Push parent place None) → IsOwn nodes t parent
-new_own nodes t parent place h = record { private = h.0.private; there = h.0.there }
-
-pub split_family : (nodes : Nodes) (t : Table) (parent : Fetched) (place : ℕ) (child : Fetched) → IsToDoAt nodes t (SplitChild parent place child) → AreFamily nodes t parent child
-split_family nodes t parent place child h = record { private = h.0.private; parent_there = h.0.there; child_there = h.1.there }
 
 -- ---- abundance
 
@@ -106,10 +88,10 @@ abundant_at t parent place more fetched high full =
 
 pub is_abundant : (t : Table) (step : FlushStep) → IsToDo t step → soft_limit < t.size → IsAbundant step
 is_abundant t (SplitRoot root) h more = tt
-is_abundant t (SplitChild parent place child) h more = abundant_at t parent place more h.0.parent_is h.3 h.1
-is_abundant t (Push parent place child) h more = abundant_at t parent place more h.0.parent_is h.1 h.0.fullest
-is_abundant t (Privatise parent place) h more = abundant_at t parent place more h.0.parent_is h.1 h.0.fullest
-is_abundant t (Carve parent place) h more = abundant_at t parent place more h.0.parent_is h.1 h.0.fullest
+is_abundant t (SplitChild above parent place child) h more = abundant_at t parent place more h.0.parent_is h.3 h.1
+is_abundant t (Push above parent place child) h more = abundant_at t parent place more h.0.parent_is h.1 h.0.fullest
+is_abundant t (Privatise above parent place) h more = abundant_at t parent place more h.0.parent_is h.1 h.0.fullest
+is_abundant t (Carve above parent place) h more = abundant_at t parent place more h.0.parent_is h.1 h.0.fullest
 
 -- ---- the whole step
 
@@ -118,11 +100,11 @@ root_found nodes t root n same to_do here = ap nodes (sym to_do.1) ∙ (here.the
 
 outcome_made : (step : FlushStep) → IsOutcome step Enough → ⊥
 outcome_made (SplitRoot root) h = cc
-outcome_made (SplitChild parent place child) h = elim h [ inl done ↦ cc | inr long ↦ (let e : Enough ≡ LongPivot = long.0 in cc) ]
-outcome_made (Push parent place None) h = cc
-outcome_made (Push parent place (Some child)) h = elim h [ inl done ↦ cc | inr long ↦ (let e : Enough ≡ LongPivot = long.0 in cc) ]
-outcome_made (Privatise parent place) h = cc
-outcome_made (Carve parent place) h = cc
+outcome_made (SplitChild above parent place child) h = elim h [ inl done ↦ cc | inr long ↦ (let e : Enough ≡ LongPivot = long.0 in cc) ]
+outcome_made (Push above parent place None) h = cc
+outcome_made (Push above parent place (Some child)) h = elim h [ inl done ↦ cc | inr long ↦ (let e : Enough ≡ LongPivot = long.0 in cc) ]
+outcome_made (Privatise above parent place) h = cc
+outcome_made (Carve above parent place) h = cc
 
 pub never_enough : (r : Result Flush MapFault) (step : FlushStep) → IfOk r (IsOutcome step) → r ≡ Ok Enough → ⊥
 never_enough r step h is =

@@ -21,19 +21,19 @@ use Rattle.bd_step.specs.declared.steps.Flush.TheVariants.{Done, Shared, Named, 
 -- what a step leaves, by its kind: a root's or a child's split, or a push to a child or a new leaf
 abbrev pub IsMade : Table → FlushStep → Nodes → Table → Type 0
 IsMade t (SplitRoot root) new u = IsSplitRoot t root.node.value new
-IsMade t (SplitChild parent place child) new u = IsSplitChild t parent place child new u
-IsMade t (Push parent place None) new u = IsPushedNew t parent place new u
-IsMade t (Push parent place (Some child)) new u = IsPushed t parent place child new u
-IsMade t (Privatise parent place) new u = ⊥
-IsMade t (Carve parent place) new u = ⊥
+IsMade t (SplitChild above parent place child) new u = IsSplitChild t parent place child new u
+IsMade t (Push above parent place None) new u = IsPushedNew t parent place new u
+IsMade t (Push above parent place (Some child)) new u = IsPushed t parent place child new u
+IsMade t (Privatise above parent place) new u = ⊥
+IsMade t (Carve above parent place) new u = ⊥
 
 -- how high the root is after a step, by its kind: one level higher only after its split
 abbrev pub IsHighAfter : Table → FlushStep → Table → Type 0
 IsHighAfter t (SplitRoot root) u = IsRaised t u
-IsHighAfter t (SplitChild parent place child) u = IsNoHigher t u
-IsHighAfter t (Push parent place child) u = IsNoHigher t u
-IsHighAfter t (Privatise parent place) u = IsNoHigher t u
-IsHighAfter t (Carve parent place) u = IsNoHigher t u
+IsHighAfter t (SplitChild above parent place child) u = IsNoHigher t u
+IsHighAfter t (Push above parent place child) u = IsNoHigher t u
+IsHighAfter t (Privatise above parent place) u = IsNoHigher t u
+IsHighAfter t (Carve above parent place) u = IsNoHigher t u
 
 -- 1,024 bytes or more are pending for a node's edge at a place, the fullest one
 pub record IsAbundantAt (n : Node) (place : ℕ) : Type 0 where
@@ -44,10 +44,10 @@ pub record IsAbundantAt (n : Node) (place : ℕ) : Type 0 where
 -- much is pending for the edge to which a step goes
 abbrev pub IsAbundant : FlushStep → Type 0
 IsAbundant (SplitRoot root) = Unit {0}
-IsAbundant (SplitChild parent place child) = IsAbundantAt parent.node.value place
-IsAbundant (Push parent place child) = IsAbundantAt parent.node.value place
-IsAbundant (Privatise parent place) = IsAbundantAt parent.node.value place
-IsAbundant (Carve parent place) = IsAbundantAt parent.node.value place
+IsAbundant (SplitChild above parent place child) = IsAbundantAt parent.node.value place
+IsAbundant (Push above parent place child) = IsAbundantAt parent.node.value place
+IsAbundant (Privatise above parent place) = IsAbundantAt parent.node.value place
+IsAbundant (Carve above parent place) = IsAbundantAt parent.node.value place
 
 -- one step of a flush, between the nodes before and after it: what the way down finds is made, and
 -- the tree has what it had. Where more than 16,384 bytes wait in the root, much is pending there
@@ -65,13 +65,13 @@ pub record IsFlushStep (nodes : Nodes) (t : Table) (new : Nodes) (u : Table) : T
 -- what comes of the step that is to be done: it is made, or nothing is, for this cause
 abbrev pub IsOutcome : FlushStep → Flush → Type 0
 IsOutcome (SplitRoot root) flush = flush ≡ Done
-IsOutcome (SplitChild parent place child) flush = (flush ≡ Done)
+IsOutcome (SplitChild above parent place child) flush = (flush ≡ Done)
     ⊎ ((flush ≡ LongPivot) × IsLongPivot parent.node.value place child.node.value)
-IsOutcome (Push parent place None) flush = flush ≡ Done
-IsOutcome (Push parent place (Some child)) flush = (flush ≡ Done)
+IsOutcome (Push above parent place None) flush = flush ≡ Done
+IsOutcome (Push above parent place (Some child)) flush = (flush ≡ Done)
     ⊎ ((flush ≡ LongPivot) × IsLongPush parent.node.value place child.node.value)
-IsOutcome (Privatise parent place) flush = flush ≡ Shared
-IsOutcome (Carve parent place) flush = flush ≡ Named
+IsOutcome (Privatise above parent place) flush = flush ≡ Shared
+IsOutcome (Carve above parent place) flush = flush ≡ Named
 
 -- what the way down finds to do, as far as the tables tell, and what comes of it
 pub record IsFound (t u : Table) (flush : Flush) : Type 0 where

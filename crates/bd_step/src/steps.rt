@@ -10,7 +10,8 @@ ghost use Rattle.bd_flush.specs.Ways.{IsToDo, IsToDoAt};
 ghost use Rattle.bd_step.specs.Steps.{IsMade, IsHighAfter, IsFlushStep, IsOutcome, IsFound, IsFoundAt};
 
 use bd_flush::{
-    ChildPush, ChildSplit, Fetched, FlushStep, next_step, push, push_new, split_child, split_root,
+    ChildPush, ChildSplit, Fetched, FlushStep, Way, next_step, push, push_new, split_child,
+    split_root,
 };
 use bd_message::MapFault;
 use bd_node::NodeStore;
@@ -66,7 +67,7 @@ pub fn flush_step<S: NodeStore>(
     if store.root_size() <= limit {
         return Ok(Flush::Enough);
     }
-    let step = next_step(store)?;
+    let step = next_step(alloc, store)?;
     make(alloc, store, step)
 }
 
@@ -103,15 +104,17 @@ fn make<S: NodeStore>(alloc: Global, store: &mut S, step: FlushStep) -> Result<F
             parent,
             place,
             child,
+            ..
         } => match split_child(alloc, store, &parent, place, &child)? {
             ChildSplit::Done => Ok(Flush::Done),
             ChildSplit::LongPivot => Ok(Flush::LongPivot),
         },
         FlushStep::Push {
+            above,
             parent,
             place,
             child,
-        } => push_down(alloc, store, parent, place, child),
+        } => push_down(alloc, store, above, parent, place, child),
         FlushStep::Privatise { .. } => Ok(Flush::Shared),
         FlushStep::Carve { .. } => Ok(Flush::Named),
     }
@@ -121,23 +124,24 @@ fn make<S: NodeStore>(alloc: Global, store: &mut S, step: FlushStep) -> Result<F
 fn push_down<S: NodeStore>(
     alloc: Global,
     store: &mut S,
+    above: Way,
     parent: Fetched,
     place: usize,
     child: Option<Fetched>,
 ) -> Result<Flush, MapFault>
     requires waits { 1 ≤ (S.table store.old).size }
-    requires to_do { IsToDo (S.table store.old) (step.Push parent place child) }
+    requires to_do { IsToDo (S.table store.old) (step.Push above parent place child) }
     requires here { S.is_known store.old → IsSound (S.nodes store.old) (S.table store.old)
-        → IsToDoAt (S.nodes store.old) (S.table store.old) (step.Push parent place child) }
+        → IsToDoAt (S.nodes store.old) (S.table store.old) (step.Push above parent place child) }
     ensures flushed { S.is_known store.old → IsSound (S.nodes store.old) (S.table store.old)
         → result ≡ Ok Flush.Done → IsFlushed (S.nodes store.old) (S.table store.old)
         (S.nodes store.new) (S.table store.new) }
     ensures made { S.is_known store.old → IsSound (S.nodes store.old) (S.table store.old)
-        → result ≡ Ok Flush.Done → IsMade (S.table store.old) (step.Push parent place child)
+        → result ≡ Ok Flush.Done → IsMade (S.table store.old) (step.Push above parent place child)
         (S.nodes store.new) (S.table store.new) }
     ensures height { result ≡ Ok Flush.Done
         → IsNoHigher (S.table store.old) (S.table store.new) }
-    ensures outcome { IfOk result (IsOutcome (step.Push parent place child)) }
+    ensures outcome { IfOk result (IsOutcome (step.Push above parent place child)) }
     ensures known { S.is_known store.old → S.is_known store.new }
     ensures same_table { result ≢ Ok Flush.Done → S.table store.new ≡ S.table store.old }
     ensures same_nodes { S.is_known store.old

@@ -5,8 +5,8 @@ use Rattle.bd_query.specs.Stretches.{way_limit}
 use Rattle.bd_query.proofs.SearchLemmas.{IsLow, places_above}
 use Rattle.bd_query.proofs.search.next.Given as goal
 
-abbrev pub invariant-loop-low : goal.invariant-loop-low
-invariant-loop-low g l = record {
+abbrev pub invariant-turns : goal.invariant-turns
+invariant-turns g l = record {
   table : g.S.NodeStore.table l.store ≡ g.S.NodeStore.table l.fn.store;
   known : g.S.NodeStore.is_known l.fn.store → g.S.NodeStore.is_known l.store;
   nodes : g.S.NodeStore.is_known l.fn.store → g.S.NodeStore.nodes l.store ≡ g.S.NodeStore.nodes l.fn.store;
@@ -17,5 +17,5 @@ invariant-loop-low g l = record {
       → IsLow (at (g.S.NodeStore.nodes l.fn.store) l.fn.root) l.fn.from l.fn.within l.low.items;
 }
 
-abbrev pub decreases-loop-low : goal.decreases-loop-low
-decreases-loop-low g l = places_above (way_limit ((g.S.NodeStore.table l.fn.store).level l.fn.root)) l.low.items
+abbrev pub decreases-turns : goal.decreases-turns
+decreases-turns g l = places_above (way_limit ((g.S.NodeStore.table l.fn.store).level l.fn.root)) l.low.items

@@ -7,10 +7,10 @@ use Rattle.bd_step.proofs.steps.push_down.Goals as goal
 
 pub push_new-requires-clause-can : goal.push_new-requires-clause-can
 push_new-requires-clause-can g c =
-    can_push_new (g.S.NodeStore.table c.args.store.now) c.args.parent c.args.place c.requires.waits
-    (subst (λ (o : Option Fetched). IsToDo (g.S.NodeStore.table c.args.store.now) (Push c.args.parent c.args.place o)) c.in-None.is c.requires.to_do)
+    can_push_new (g.S.NodeStore.table c.args.store.now) c.args.above c.args.parent c.args.place c.requires.waits
+    (subst (λ (o : Option Fetched). IsToDo (g.S.NodeStore.table c.args.store.now) (Push c.args.above c.args.parent c.args.place o)) c.in-None.is c.requires.to_do)
 
 pub push-requires-clause-can : goal.push-requires-clause-can
 push-requires-clause-can g c =
-    can_push (g.S.NodeStore.table c.args.store.now) c.args.parent c.args.place c.in-Some.child c.requires.waits
-    (subst (λ (o : Option Fetched). IsToDo (g.S.NodeStore.table c.args.store.now) (Push c.args.parent c.args.place o)) c.in-Some.is c.requires.to_do)
+    can_push (g.S.NodeStore.table c.args.store.now) c.args.above c.args.parent c.args.place c.in-Some.child c.requires.waits
+    (subst (λ (o : Option Fetched). IsToDo (g.S.NodeStore.table c.args.store.now) (Push c.args.above c.args.parent c.args.place o)) c.in-Some.is c.requires.to_do)
