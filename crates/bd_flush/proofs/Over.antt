@@ -140,7 +140,7 @@ level_then t c n first pivot second way rising h x low =
     (λ none. (let e : level_after t step x ≡ t.level x = ap (λ (o : Option Node). level_or o (t.level x)) none in (omega arith, omega arith)))
     (λ m some. (let e : level_after t step x ≡ level_of m = ap (λ (o : Option Node). level_or o (t.level x)) some in
     let both : (t.level x ≤ level_of m) × (level_of m ≤ t.level x + 1) =
-        changed_has (λ (d : Change). (t.level d.id ≤ level_of d.node) × (level_of d.node ≤ t.level d.id + 1)) (the_changes t c n pivot rising) x m (hardly_higher t c n first pivot second way rising h) (sym (given-old t.next step x low) ∙ some) in
+    changed_has (λ (d : Change). (t.level d.id ≤ level_of d.node) × (level_of d.node ≤ t.level d.id + 1)) (the_changes t c n pivot rising) x m (hardly_higher t c n first pivot second way rising h) (sym (given-old t.next step x low) ∙ some) in
     (omega (arith, both.0), omega (arith, both.1))))
 
 half_put : (t : Table) (c : ℕ) (n first : Node) (pivot : List ℕ) (second : Node) (way rising : List Fetched) (own : List ℕ → Type 0) (half : Node) → IsSplit t c n first pivot second way rising → IsHalf n own half → IsPut t (the_step t c n first pivot second rising) half
@@ -255,9 +255,9 @@ pub split_in_place : (nodes : Nodes) (t : Table) (c : ℕ) (n first : Node) (piv
 split_in_place nodes t c n first pivot second way rising b =
     let step : Step = the_step t c n first pivot second rising in
     let rooms : AllByRecursion (λ (d : Change). HasRoom nodes t step d.id d.node) (the_changes t c n pivot rising) =
-        each_change (λ (d : Change). HasRoom nodes t step d.id d.node) t c n pivot rising
-        (has_room nodes t step c (level_of n + 1) way rising (the_top t n pivot) b.sound b.split.up b.stand b.split.rise (all_given t c n first pivot second way rising b.split) (omega arith))
-        (rising_room nodes t step c (level_of n + 1) way rising b.sound b.split.up b.stand b.split.rise (all_given t c n first pivot second way rising b.split)) in
+    each_change (λ (d : Change). HasRoom nodes t step d.id d.node) t c n pivot rising
+    (has_room nodes t step c (level_of n + 1) way rising (the_top t n pivot) b.sound b.split.up b.stand b.split.rise (all_given t c n first pivot second way rising b.split) (omega arith))
+    (rising_room nodes t step c (level_of n + 1) way rising b.sound b.split.up b.stand b.split.rise (all_given t c n first pivot second way rising b.split)) in
     record {
       private = each_change (λ (d : Change). IsPrivate nodes t d.id) t c n pivot rising
           (way_private nodes t c way b.sound b.split.up b.stand)
@@ -337,8 +337,8 @@ split_keeping nodes t c n first pivot second way rising h =
     let step : Step = the_step t c n first pivot second rising in
     let changes : List Change = the_changes t c n pivot rising in
     let keeps : AllByRecursion (λ (d : Change). (k : List ℕ) → IsKey k → node_at has d.node k ≡ at nodes d.id k) changes =
-        each_change (λ (d : Change). (k : List ℕ) → IsKey k → node_at has d.node k ≡ at nodes d.id k) t c n pivot rising (top_has nodes t c n first pivot second way rising h)
-        (all_keep nodes t (t.level c) first second rising h.sound (rising_stand nodes (level_of n + 1) way rising h.split.rise h.stand) (risen_are t c n first pivot second way rising h.split)) in
+    each_change (λ (d : Change). (k : List ℕ) → IsKey k → node_at has d.node k ≡ at nodes d.id k) t c n pivot rising (top_has nodes t c n first pivot second way rising h)
+    (all_keep nodes t (t.level c) first second rising h.sound (rising_stand nodes (level_of n + 1) way rising h.split.rise h.stand) (risen_are t c n first pivot second way rising h.split)) in
     record {
       old = λ id low k. has_old nodes t.next first second id low k;
       changed = λ id m low e. changed_has (λ (d : Change). (k : List ℕ) → IsKey k → node_at has d.node k ≡ at nodes d.id k) changes id m keeps (sym (given-old t.next step id low) ∙ e);
@@ -380,9 +380,9 @@ over_higher t c n first pivot second way rising u h after fits =
           (λ none. (let same : u.size ≡ t.size = after.same_size none refl in omega arith))
           (λ m some. (let is : u.size ≡ buffer_size m = after.size m some in
           let few : buffer_size m ≤ t.size = changed_has (λ (d : Change). d.id ≡ t.root → buffer_size d.node ≤ t.size) (the_changes t c n pivot rising) t.root m
-              (each_change (λ (d : Change). d.id ≡ t.root → buffer_size d.node ≤ t.size) t c n pivot rising (λ same. (omega arith))
-              (each_weaker (λ (f : Fetched). f.id ≡ t.root → buffer_size f.node.value ≤ t.size) (λ (f : Fetched). f.id ≡ t.root → buffer_size (raised f.node.value) ≤ t.size) (λ f own same. (let l : buffer_size f.node.value ≤ t.size = own same in omega (arith, raised_size f.node.value))) rising fits))
-              (sym (given-old t.next step t.root low) ∙ some) refl in
+          (each_change (λ (d : Change). d.id ≡ t.root → buffer_size d.node ≤ t.size) t c n pivot rising (λ same. (omega arith))
+          (each_weaker (λ (f : Fetched). f.id ≡ t.root → buffer_size f.node.value ≤ t.size) (λ (f : Fetched). f.id ≡ t.root → buffer_size (raised f.node.value) ≤ t.size) (λ f own same. (let l : buffer_size f.node.value ≤ t.size = own same in omega (arith, raised_size f.node.value))) rising fits))
+          (sym (given-old t.next step t.root low) ∙ some) refl in
           omega arith));
     }
 
@@ -399,7 +399,7 @@ flushed nodes t c n first pivot second way rising new u h =
     let level : u.level u.root ≡ level_after t step t.root = ap u.level h.after.root ∙ h.after.level t.root (root_stays t c n first pivot second rising u h.after) in
     let both : (t.level t.root ≤ level_after t step t.root) × (level_after t step t.root ≤ t.level t.root + 1) = level_then t c n first pivot second way rising h.of.split t.root root_low in
     let lead : AllByRecursion (λ (d : Change). LeadsTo nodes c d.id) (the_changes t c n pivot rising) =
-        each_change (λ (d : Change). LeadsTo nodes c d.id) t c n pivot rising itself (rising_lead nodes t c c (level_of n + 1) way rising h.of.split.up h.of.stand h.of.split.rise itself) in
+    each_change (λ (d : Change). LeadsTo nodes c d.id) t c n pivot rising itself (rising_lead nodes t c c (level_of n + 1) way rising h.of.split.up h.of.stand h.of.split.rise itself) in
     record {
       same = λ k.
           ap (λ (r : ℕ). at new r k) h.after.root
@@ -446,7 +446,7 @@ named_stays nodes t c n first pivot second way rising new u h id o old other kep
     by_given (IsKept u x) (given t.next step id)
     (λ none. (named_lower new u h.committed.sound id o (h.committed.stays id kept ∙ after-none nodes t step id none ∙ old) x one).kept)
     (λ m some. (let is : m ≡ raised o = changed_has (λ (d : Change). (d.id ≡ c → ⊥) → (o : Node) → nodes d.id ≡ Some o → d.node ≡ raised o) (the_changes t c n pivot rising) id m
-        (others_raised nodes t c n pivot rising (rising_there nodes t c n first pivot second way rising h.of)) (sym (given-old t.next step id low) ∙ some) other o old in
+    (others_raised nodes t c n pivot rising (rising_there nodes t c n first pivot second way rising h.of)) (sym (given-old t.next step id low) ∙ some) other o old in
     (named_lower new u h.committed.sound id m (given_stays nodes t step new u h.committed id m kept some) x (omega (arith, ap (λ (d : Node). times d x) is, raised_times o x))).kept))
 
 -- the nodes of the way stay
@@ -495,12 +495,11 @@ risen_there nodes t c n first pivot second way rising new u h level _ _ _ (one_u
     let step : Step = the_step t c n first pivot second rising in
     let lower : t.level d < t.level f.id = (way_lower t f place d e fetched edge).lower in
     let other : f.id ≡ c → ⊥ = λ same. (let z : t.level f.id ≡ t.level c = ap t.level same in omega arith) in
-    let low : f.id < t.next = h.of.split.table.below f.id fetched.kept in
-    (
+    let low : f.id < t.next = h.of.split.table.below f.id fetched.kept in (
       by_given (new f.id ≡ Some (raised f.node.value)) (given t.next step f.id)
           (λ none. absurd (no_some (subst (λ (o : Option Node). IsSome o) none given_too.0)))
           (λ m some. (let is : m ≡ raised f.node.value = changed_has (λ (d : Change). (d.id ≡ c → ⊥) → (o : Node) → nodes d.id ≡ Some o → d.node ≡ raised o) (the_changes t c n pivot rising) f.id m
-              (others_raised nodes t c n pivot rising (rising_there nodes t c n first pivot second way rising h.of)) (sym (given-old t.next step f.id low) ∙ some) other f.node.value there.0 in
+          (others_raised nodes t c n pivot rising (rising_there nodes t c n first pivot second way rising h.of)) (sym (given-old t.next step f.id low) ∙ some) other f.node.value there.0 in
           given_stays nodes t step new u h.committed f.id m (way_stays nodes t c n first pivot second way rising new u h f.id fs up there.1 (omega arith)) some ∙ ap (λ (d : Node). Some d) is)),
       risen_there nodes t c n first pivot second way rising new u h (level_of f.node.value + 1) f.id fs more up there.1 (omega arith) rise given_too.1,
     )
