@@ -18,3 +18,6 @@ pub mod LeafPushes
 pub mod LeafCommits
 pub mod NewWays
 pub mod Down
+pub mod CarveSteps
+pub mod CarveCommits
+pub mod OldestGotos

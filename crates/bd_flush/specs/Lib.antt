@@ -5,3 +5,4 @@ pub mod Children
 pub mod Pushes
 pub mod Raising
 pub mod Ways
+pub mod Carving

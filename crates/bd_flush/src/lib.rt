@@ -3,6 +3,7 @@
 //! it, with what each leaves, `IsFlushed`.
 #![tactic(auto)]
 
+mod carving;
 mod children;
 mod fetching;
 mod filling;
@@ -14,6 +15,7 @@ mod raising;
 mod splitting;
 mod ways;
 
+pub use carving::carve;
 pub use children::{ChildSplit, split_child};
 pub use fetching::{Fetched, fetch};
 pub use filling::{FullEdge, fullest};
