@@ -1,13 +1,12 @@
 -- What of a node's messages goes down an edge.
-use Rattle.std.proofs.Common.{◌≡◌, ℕ, zero, suc, ◌+◌, ◌^◌, ◌<◌, ◌≤◌, List, [], ◌∷◌, length, take, drop, refl, sym, ap, subst, ◌∙◌, Option, None, Some, arith, get_or, inl, inr, length-drop, Result, Ok, Err}
-use Rattle.std.specs.Prelude.{slice_get, IfOk, MatchOption}
+use Rattle.std.proofs.Common.{◌≡◌, ℕ, zero, suc, ◌+◌, ◌^◌, ◌<◌, ◌≤◌, List, [], ◌∷◌, length, drop, refl, sym, ap, subst, ◌∙◌, Option, None, Some, arith, get_or, inl, inr, Result, Ok, Err}
+use Rattle.std.specs.Prelude.{IfOk, MatchOption}
 use Rattle.std.specs.List.{AllByRecursion, All, sum_by}
 use Rattle.std.proofs.lemmas.List.Elements.{All-from_recursion}
 use Rattle.std.proofs.lemmas.Bool.{cases_lt}
 use Rattle.std.proofs.lemmas.Option.{same_Some}
 use Rattle.bd_limits.specs.Limits.{batch_limit, leaf_limit}
 use Rattle.bd_message.specs.declared.message.Message.{Message}
-use Rattle.bd_message.specs.declared.message.Message.TheVariants.{Put, Del, Patch, Cut, Goto}
 use Rattle.bd_message.specs.Messages.{IsMessage, IsPlain, size}
 use Rattle.bd_node.specs.declared.node.Edge.{Edge}
 use Rattle.bd_node.specs.declared.node.Entry.{Entry}
@@ -45,43 +44,15 @@ each_rest P zero list h = h
 each_rest P (suc count) [] h = tt
 each_rest P (suc count) (m ∷ list) h = each_rest P count list h.1
 
-message_small : (m : Message) → IsMessage m → size m ≤ batch_limit
-message_small (Put key value) h = omega arith
-message_small (Del key) h = omega arith
-message_small (Patch key off bytes) h = omega arith
-message_small (Cut prefix from) h = omega arith
-message_small (Goto prefix source child) h = omega arith
-
 -- ---- the batch
-
-some_first : (list : List Message) → 1 ≤ length list → AllByRecursion IsMessage list → (m : Message) × (slice_get list 0 ≡ Some m) × IsMessage m
-some_first [] some h = absurd (omega arith)
-some_first (m ∷ list) some h = (m, refl, h.0)
-
--- where there is a message, one fits
-pub batch_some : (e : Edge) (hi : Option (List ℕ)) (list : List Message) (b : Batch) → 1 ≤ length list → AllByRecursion IsMessage list → IsBatch e hi list b → 1 ≤ b.count
-batch_some e hi list b some each is =
-    elim b.count as (λ n. b.count ≡ n → 1 ≤ n) [
-      | zero ↦ (λ none.
-          let first = some_first list some each in
-          let there : slice_get list b.count ≡ Some first.0 = subst (λ (i : ℕ). slice_get list i ≡ Some first.0) (sym none) first.1 in
-          let full : batch_limit < sum_by size b.messages + size first.0 = is.full first.0 there in
-          let moved : sum_by size b.messages ≤ sum_by size (take b.count list) = is.moved.size in
-          let empty : sum_by size (take b.count list) ≡ 0 = ap (λ (i : ℕ). sum_by size (take i list)) none in
-          let small : size first.0 ≤ batch_limit = message_small first.0 first.2 in
-          absurd (omega arith))
-      | suc n ↦ (λ some. omega arith)
-    ] refl
 
 pub end_is : (n : Node) (place : ℕ) (es : List Edge) (hi : Option (List ℕ)) → es ≡ edges_of n → hi ≡ end_before (drop (place + 1) es) → hi ≡ end_at n place
 end_is n place es hi same end = end ∙ ap (λ (l : List Edge). end_before (drop (place + 1) l)) same
 
 batch_is : (n : Node) (place : ℕ) (f : Edge) (hi : Option (List ℕ)) (list : List Message) (b : Batch) → IsShape n → IsWaitedFor n place f → hi ≡ end_at n place → list ≡ unseen n f → IsBatch f hi list b → IsEdgeBatch n place f b
 batch_is n place f hi list b h w end list_is is =
-    let more : f.seen < length (buffer_of n) = w.some in
-    let long : 1 ≤ length (unseen n f) = omega (arith, length-drop f.seen (buffer_of n)) in
     let own : IsBatch f (end_at n place) (unseen n f) b = subst (λ (o : Option (List ℕ)). IsBatch f o (unseen n f) b) end (subst (λ (l : List Message). IsBatch f hi l b) list_is is) in
-    record { batch = own; some = batch_some f (end_at n place) (unseen n f) b long (each_rest IsMessage f.seen (buffer_of n) (messages_of n h)) own }
+    record { batch = own; some = own.some w.some }
 
 pub on_batch_for : {E : Type 0} (n : Node) (place : ℕ) (f : Edge) (hi : Option (List ℕ)) (list : List Message) (r : Result Batch E) → IsShape n → IsWaitedFor n place f → hi ≡ end_at n place → list ≡ unseen n f → IfOk r (IsBatch f hi list) → IfOk r (IsEdgeBatch n place f)
 on_batch_for n place f hi list (Ok b) h w end list_is is = batch_is n place f hi list b h w end list_is is

@@ -31,7 +31,7 @@ use Rattle.bd_inner.proofs.Fitting.{own_shape, seen_fits}
 use Rattle.bd_inner.specs.Halves.{edges_of, buffer_of, IsHalf, AreHalves}
 use Rattle.bd_inner.specs.Moving.{lifted}
 use Rattle.bd_inner.specs.Exchange.{exchanged, end_at, IsKeyOf, IsEdgeAt, FitsAt}
-use Rattle.bd_inner.proofs.Touched.{cmp_after}
+use Rattle.bd_message.proofs.Prefixes.{cmp_after}
 use Rattle.bd_inner.proofs.Compacting.{count_names, count_names-append, edge_names-lowered, compacted_shape, compacted_level, compacted_meaning, compacted_size, compacted_times}
 use Rattle.bd_inner.proofs.Exchanged.{in_range, at_place, exchanged_shape, meaning_inside, meaning_outside, meaning_without}
 use Rattle.bd_flush.specs.declared.children.Parts.{Parts}

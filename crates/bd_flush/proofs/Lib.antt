@@ -4,10 +4,11 @@ pub mod Waiting
 pub mod Each
 pub mod Givens
 pub mod Worn
-pub mod RootSplits
 pub mod ChildSteps
+pub mod PathSteps
 pub mod Raisings
 pub mod ChildSplits
+pub mod RisingSteps
 pub mod ChildCommits
 pub mod Pushed
 pub mod PushCommits
@@ -21,3 +22,6 @@ pub mod Down
 pub mod CarveSteps
 pub mod CarveCommits
 pub mod OldestGotos
+pub mod Rising
+pub mod Over
+pub mod RootSplits

@@ -2,7 +2,9 @@ pub mod Pending
 pub mod Flushed
 pub mod Splits
 pub mod Children
+pub mod Paths
 pub mod Pushes
 pub mod Raising
+pub mod Between
 pub mod Ways
 pub mod Carving

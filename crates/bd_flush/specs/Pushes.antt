@@ -1,5 +1,5 @@
 -- Messages that go down to a child.
-use Rattle.std.specs.Prelude.{◌≡◌, ℕ, ◌+◌, ◌<◌, ◌≤◌, List, [], ◌∷◌, length, drop, None, Some, slice_get}
+use Rattle.std.specs.Prelude.{◌≡◌, ℕ, ◌+◌, ◌<◌, ◌≤◌, List, [], ◌∷◌, length, take, drop, None, Some, slice_get}
 use Rattle.std.specs.List.{AllByRecursion}
 use Rattle.bd_limits.specs.Limits.{soft_limit, leaf_limit}
 use Rattle.bd_keys.specs.Keys.{IsLift}
@@ -17,7 +17,7 @@ use Rattle.bd_node.specs.Tables.{Table}
 use Rattle.bd_inner.specs.declared.batches.Batch.{Batch}
 use Rattle.bd_inner.specs.Compaction.{IsCompacted}
 use Rattle.bd_inner.specs.Halves.{edges_of, buffer_of}
-use Rattle.bd_inner.specs.Moving.{IsPlainFor, IsBatch}
+use Rattle.bd_inner.specs.Moving.{IsPlainFor, SomeCanTouch, IsBatch}
 use Rattle.bd_inner.specs.Exchange.{exchanged, end_at, IsEdgeAt, way_to}
 use Rattle.bd_leaf.specs.Leaves.{entries_size, IsReceived}
 use Rattle.bd_flush.specs.declared.fetching.Fetched.{Fetched}
@@ -32,9 +32,9 @@ seen_by e count = record e { seen = e.seen + count }
 abbrev pub unseen : Node → Edge → List Message
 unseen n e = drop e.seen (buffer_of n)
 
--- the edge hasn't seen all messages, and those that are pending for it name no node
+-- messages are pending for the edge, and none of them names a node
 pub record IsWaitedFor (n : Node) (place : ℕ) (e : Edge) : Type 0 where
-  pub some : e.seen < length (buffer_of n)
+  pub some : SomeCanTouch e (end_at n place) (unseen n e)
   pub plain : AllByRecursion (IsPlainFor e (end_at n place)) (unseen n e)
 
 -- messages may go down from a node, at most as high as the root, to a private child, as far as the
@@ -50,10 +50,10 @@ pub record CanPush (t : Table) (parent : Fetched) (place : ℕ) (child : Fetched
   pub once : t.count child.id ≡ 1
   pub soft : buffer_size child.node.value ≤ soft_limit
 
--- the oldest messages that the edge hasn't seen, at least one, for its child
+-- the oldest messages that are pending for the edge, at least one, for its child
 pub record IsEdgeBatch (n : Node) (place : ℕ) (e : Edge) (b : Batch) : Type 0 where
   pub batch : IsBatch e (end_at n place) (unseen n e) b
-  pub some : 1 ≤ b.count
+  pub some : SomeCanTouch e (end_at n place) (take b.count (unseen n e))
 
 -- the node after these messages have gone down its edge
 abbrev pub IsRelieved : Node → ℕ → Edge → ℕ → Node → Type 0

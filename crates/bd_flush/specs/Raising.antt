@@ -1,11 +1,13 @@
 -- Nodes that rise by one level, since the node below them has risen.
-use Rattle.std.specs.Prelude.{◌≡◌, ℕ, ◌+◌, ◌<◌, ◌≤◌, List, [], ◌∷◌, ◌++◌, map}
+use Rattle.std.specs.Prelude.{◌≡◌, ℕ, ◌+◌, ◌<◌, ◌≤◌, List, [], ◌∷◌, ◌++◌, map, Some}
+use Rattle.std.specs.List.{AllByRecursion}
 use Rattle.bd_limits.specs.Limits.{level_limit}
 use Rattle.bd_node.specs.declared.node.Edge.{Edge}
 use Rattle.bd_node.specs.declared.node.Node.{Node}
 use Rattle.bd_node.specs.declared.node.Node.TheVariants.{Leaf, Inner}
 use Rattle.bd_node.specs.declared.node.Change.{Change}
 use Rattle.bd_node.specs.Nodes.{level_of}
+use Rattle.bd_node.specs.Meaning.{Nodes}
 use Rattle.bd_node.specs.Tables.{Table}
 use Rattle.bd_flush.specs.declared.fetching.Fetched.{Fetched}
 use Rattle.bd_flush.specs.Children.{IsFetched, IsWayTo}
@@ -22,9 +24,13 @@ raise f = record { id = f.id; node = raised f.node.value }
 -- fetched nodes from the one above a node up to the root: each has an edge to the one below it, which
 -- nothing else names, with nothing in front of what is left of a key
 pub data IsWayUp (t : Table) : ℕ → List Fetched → Type 0 where
-  at_root : IsWayUp t t.root []
-  above : (c place : ℕ) (f : Fetched) (e : Edge) (fs : List Fetched) → IsFetched t f
+  top : IsWayUp t t.root []
+  one_up : (c place : ℕ) (f : Fetched) (e : Edge) (fs : List Fetched) → IsFetched t f
       → IsWayTo f.node.value place c e → t.count c ≡ 1 → IsWayUp t f.id fs → IsWayUp t c (f ∷ fs)
+
+-- the fetched nodes are those of the store
+abbrev pub Stand : Nodes → List Fetched → Type 0
+Stand nodes way = AllByRecursion (λ (f : Fetched). nodes f.id ≡ Some f.node.value) way
 
 -- the nodes above one that gets this level, the nearest first, and those of them that rise: each that
 -- isn't above the one below it, by one level

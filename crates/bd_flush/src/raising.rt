@@ -1,6 +1,6 @@
 //! Nodes rise by one level where a node below them has risen.
 
-ghost use Rattle.std.specs.Prelude.{◌≡◌, ◌++◌, map, reverse, IfOk, MatchOption};
+ghost use Rattle.std.specs.Prelude.{◌≡◌, ◌∷◌, reverse, IfOk, MatchOption};
 ghost use Rattle.std.specs.List.{AllByRecursion};
 ghost use Rattle.bd_node.specs.Shape.{IsShape};
 ghost use Rattle.bd_flush.specs.declared.fetching.Fetched.{Fetched};
@@ -42,6 +42,33 @@ pub fn raise_above(
         node: raised(&nearest.node)?,
     })?;
     raise_above(changes, others, own + 1)
+}
+
+/// The same where the nearest one stands apart.
+pub fn raise_way(
+    changes: Vec<Change>,
+    above: &[Fetched],
+    nearest: &Fetched,
+    level: u32,
+) -> Result<Option<Vec<Change>>, AllocError>
+    requires { AllByRecursion (λ (f : Fetched). IsShape f.node.value) (nearest.now ∷ reverse above.now) }
+    ensures { IfOk result (λ found. MatchOption found
+        (CannotRise level (nearest.now ∷ reverse above.now))
+        (λ all. AreRaised level (nearest.now ∷ reverse above.now) changes.items all.items)) }
+{
+    let own = nearest.node.level();
+    if level < own {
+        return Ok(Some(changes));
+    }
+    if own >= MAX_LEVEL {
+        return Ok(None);
+    }
+    let mut changes = changes;
+    changes.push(Change {
+        id: nearest.id,
+        node: raised(&nearest.node)?,
+    })?;
+    raise_above(changes, above, own + 1)
 }
 
 /// A node one level higher, all else as it is.

@@ -3,7 +3,6 @@ pub mod Touched
 pub mod Sweeping
 pub mod Compacting
 pub mod Splitting
-pub mod Stripped
 pub mod Moved
 pub mod Exchanged
 pub mod Fitting

@@ -1,48 +1,22 @@
 -- Which keys a message can change, in the order of keys.
 use Rattle.std.proofs.Common.{◌≡◌, ◌↔◌, ℕ, Bool, true, false, not, List, [], ◌∷◌, ◌++◌, refl, sym, ap, subst, ◌∙◌, Option, None, Some, inl, inr, IsTrue, ◌⊎◌, Less}
 use Rattle.std.specs.Ordering.{is_lt}
-use Rattle.std.specs.Cmp.{unsigned_Decides}
 use Rattle.std.proofs.lemmas.Cmp.{nat_list_cmp_total as total}
 use Rattle.std.proofs.lemmas.List.{append-nil}
 use Rattle.std.proofs.lemmas.Bool.{and_parts, and_from, cases_Bool, cases_order}
 use Rattle.bd_keys.specs.Keys.{key_cmp, IsBelow, IsBelowEnd, IsAtLeast, InRange}
-use Rattle.bd_keys.proofs.Order.{first_less, first_same, first_more, not_below_itself, below_from}
+use Rattle.bd_keys.proofs.Order.{first_less, first_same, not_below_itself, below_from}
 use Rattle.bd_message.specs.declared.message.Message.{Message}
 use Rattle.bd_message.specs.declared.message.Message.TheVariants.{Put, Del, Patch, Cut, Goto}
 use Rattle.bd_message.specs.Effect.{same_key, begins, rest, is_cut}
 use Rattle.bd_message.proofs.Finds.{same_key-true, same_key-refl, begins-is, begins-append, not_both}
+use Rattle.bd_message.proofs.Prefixes.{cmp_after, rest-append, least_nil}
 use Rattle.bd_node.specs.Touching.{touches}
+use Rattle.bd_inner.specs.Moving.{CanTouch}
 use Rattle.bd_node.proofs.Edges.{lt_is, lt_isnt, not_less_lt}
 use Rattle.bd_node.proofs.Appending.{key_of, key_of-touched}
 
 -- ---- keys that begin alike
-
-pub cmp_after : (p x y : List ℕ) → key_cmp (p ++ x) (p ++ y) ≡ key_cmp x y
-cmp_after [] x y = refl
-cmp_after (b ∷ p) x y = first_same b (p ++ x) (p ++ y) ∙ cmp_after p x y
-
-pub joined_begins : (front back key : List ℕ) → begins key front ≡ true → key_cmp (front ++ back) key ≡ key_cmp back (rest front key)
-joined_begins front back key h =
-    subst (λ (k : List ℕ). key_cmp (front ++ back) k ≡ key_cmp back (rest front key)) (sym (begins-is key front h)) (cmp_after front back (rest front key))
-
-pub begins_rest : (a : ℕ) (key front : List ℕ) → begins (a ∷ key) (a ∷ front) ≡ begins key front
-begins_rest a key front = rw ((unsigned_Decides a a).1 refl)
-
-pub joined_other : (front back key : List ℕ) → begins key front ≡ false → key_cmp (front ++ back) key ≡ key_cmp front key
-joined_other [] back key h = absurd (not_both refl h)
-joined_other (a ∷ front) back [] h = refl
-joined_other (a ∷ front) back (c ∷ key) h =
-    elim (cases_order a c) [
-      | inl e ↦
-          let at_a : begins (a ∷ key) (a ∷ front) ≡ false = subst (λ (d : ℕ). begins (d ∷ key) (a ∷ front) ≡ false) (sym e) h in
-          let same : key_cmp (a ∷ (front ++ back)) (a ∷ key) ≡ key_cmp (a ∷ front) (a ∷ key) =
-          first_same a (front ++ back) key ∙ joined_other front back key (sym (begins_rest a key front) ∙ at_a) ∙ sym (first_same a front key) in
-          subst (λ (d : ℕ). key_cmp (a ∷ (front ++ back)) (d ∷ key) ≡ key_cmp (a ∷ front) (d ∷ key)) e same
-      | inr o ↦ elim o [
-        | inl lt ↦ first_less a c (front ++ back) key lt ∙ sym (first_less a c front key lt)
-        | inr gt ↦ first_more a c (front ++ back) key gt ∙ sym (first_more a c front key gt)
-      ]
-    ]
 
 -- a key between two that begin with a prefix begins with it
 pub between : (p x y f : List ℕ) → IsAtLeast f (p ++ x) → IsAtLeast (p ++ y) f → (z : List ℕ) × (f ≡ p ++ z) × IsAtLeast z x
@@ -60,10 +34,6 @@ between (b ∷ p) x y (d ∷ f) least most =
         | inr gt ↦ absurd (most (first_less b d (p ++ y) f gt))
       ]
     ]
-
-pub rest-append : (p x : List ℕ) → rest p (p ++ x) ≡ x
-rest-append [] x = refl
-rest-append (b ∷ p) x = rest-append p x
 
 -- ---- what a cut takes
 
@@ -90,10 +60,6 @@ cut_between p x k f h least most =
     subst (λ (l : List ℕ). is_cut p x l ≡ true) (sym found.1) (cut_after p x found.0 found.2)
 
 -- ---- the keys that begin with a prefix
-
-pub least_nil : (k : List ℕ) → IsAtLeast k []
-least_nil [] h = cc
-least_nil (a ∷ k) h = cc
 
 begins_cut : (p k : List ℕ) → begins k p ≡ true → is_cut p [] k ≡ true
 begins_cut p k h = and_from _ _ h (ap not (not_less_lt (key_cmp (rest p k) []) (least_nil (rest p k))))
@@ -132,9 +98,6 @@ touched_between (Goto prefix source child) k f h least most =
     (and_parts _ _ (cut_between prefix [] k f (begins_cut prefix k h) (subst (λ (l : List ℕ). IsAtLeast f l) (sym (append-nil prefix)) least) most)).0
 
 -- ---- the keys of a range that a message can change
-
-abbrev pub CanTouch : Message → List ℕ → Option (List ℕ) → Type 0
-CanTouch m lo hi = (k : List ℕ) × InRange lo hi k × (touches m k ≡ true)
 
 -- what isn't above a key is below what the key is below
 pub not_above : (a k hi : List ℕ) → IsAtLeast k a → IsBelow k hi → IsBelow a hi

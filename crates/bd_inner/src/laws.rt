@@ -5,11 +5,11 @@ ghost use Rattle.std.specs.Prelude.{◌≡◌, ℕ, ◌+◌, ◌^◌, ◌<◌, �
 ghost use Rattle.std.specs.List.{AllByRecursion, sum_by};
 ghost use Rattle.bd_limits.specs.Limits.{buffer_limit, level_limit, edge_limit};
 ghost use Rattle.bd_keys.specs.Keys.{IsKey, IsLift};
-ghost use Rattle.std.specs.Option.{option_to_list};
 ghost use Rattle.bd_message.specs.declared.message.Message.{Message};
 ghost use Rattle.bd_message.specs.declared.message.Message.TheVariants.{Goto};
 ghost use Rattle.bd_message.specs.Messages.{IsMessage, size};
-ghost use Rattle.bd_message.specs.Effect.{NodesAt, begins, act, acts};
+ghost use Rattle.bd_message.specs.Effect.{NodesAt, begins, acts};
+ghost use Rattle.bd_message.specs.Freeing.{freed};
 ghost use Rattle.bd_node.specs.declared.node.Edge.{Edge};
 ghost use Rattle.bd_node.specs.declared.node.Node.{Node};
 ghost use Rattle.bd_node.specs.Nodes.{level_of, buffer_size, message_names, names, times, edge_of, child_at, edge_at, through, node_at};
@@ -17,7 +17,6 @@ ghost use Rattle.bd_node.specs.Shape.{end_before, AreRising, IsInner, IsShape};
 ghost use Rattle.bd_inner.specs.Compaction.{IsFlat, IsLoose, IsLooseNode, IsCompacted};
 ghost use Rattle.bd_inner.specs.Halves.{edges_of, buffer_of};
 ghost use Rattle.bd_inner.specs.Carving.{IsGotoWay, IsCarved};
-ghost use Rattle.bd_inner.specs.Stripping.{CanStrip, stripped};
 ghost use Rattle.bd_inner.specs.Moving.{IsLifted, IsMoved};
 ghost use Rattle.bd_inner.specs.Exchange.{exchanged, end_at, IsKeyOf, IsEdgeAt, FitsAt, way_to};
 
@@ -33,17 +32,10 @@ pub fn compacted_nodes()
     ensures names { (n m : Node) → IsCompacted n m → (c : ℕ) → times m c ≤ times n c }
 {}
 
-/// A message on the keys that begin with a prefix does to what follows it what it did to them. It
-/// is a message, no larger, and names no other node.
-pub fn stripped_messages()
-    ensures effect { (below : NodesAt) (s : List ℕ) (m : Message) → CanStrip s m
-        → (k : List ℕ) (old : Option (List ℕ))
-        → acts below (option_to_list (stripped s m)) k old ≡ act below m (s ++ k) old }
-    ensures message { (s : List ℕ) (m : Message) → IsMessage m
-        → IfSome (stripped s m) IsMessage }
-    ensures size { (s : List ℕ) (m : Message) → IfSome (stripped s m) (λ n. size n ≤ size m) }
-    ensures names { (s : List ℕ) (m : Message)
-        → IfSome (stripped s m) (λ n. message_names n ≡ message_names m) }
+/// A message freed of a prefix names the nodes that the message named.
+pub fn freed_names()
+    ensures { (s : List ℕ) (m : Message)
+        → IfSome (freed s m) (λ n. message_names n ≡ message_names m) }
 {}
 
 /// Edges with the keys of one can stand in its place: they are asked at its keys, and at the others

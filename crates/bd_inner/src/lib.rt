@@ -13,7 +13,6 @@ mod halves;
 pub mod laws;
 mod pending;
 mod receiving;
-mod stripping;
 
 ghost use Rattle.std.specs.Prelude.{◌≡◌, ◌+◌, ◌-◌, ◌*◌, ◌^◌, ◌<◌, ◌≤◌, length, slice_get};
 ghost use Rattle.bd_node.specs.Nodes.{edge_of};
@@ -29,7 +28,6 @@ pub use pending::{can_touch, end_before, is_pending};
 pub use receiving::receive;
 use std::marker::Brand;
 use std::sync::ledger::{Blank, Ledger};
-pub use stripping::strip;
 
 /// The place of the edge whose keys include a key, among edges with rising pivots.
 pub fn place<L: Ledger>(edges: &[Edge], key: &[u8], steps: &mut Steps<L>) -> usize

@@ -1,0 +1,101 @@
+use Rattle.std.proofs.Common.{ap, sym, ◌∙◌, subst, arith, List, ℕ, ◌≤◌, ◌<◌, ◌+◌, ◌++◌, ◌∷◌, [], ◌≡◌, Option, None, Some}
+use Rattle.bd_keys.specs.Keys.{IsKey}
+use Rattle.bd_message.specs.Effect.{NodesAt, acts}
+use Rattle.bd_node.specs.declared.node.Node.{Node}
+use Rattle.bd_node.specs.Nodes.{node_at}
+use Rattle.bd_node.specs.Meaning.{Nodes, at}
+use Rattle.bd_node.specs.Tables.{Table}
+use Rattle.bd_query.proofs.Visited.{visits_one_more}
+use Rattle.bd_resolve.specs.declared.following.Target.{Target}
+use Rattle.bd_resolve.specs.Following.{IsLowerTarget, target_at}
+use Rattle.bd_resolve.proofs.Going.{long_leaf, gone_down}
+use Rattle.bd_graft.specs.declared.layers.Layer.{Layer}
+use Rattle.bd_graft.specs.declared.walking.Passed.{Passed}
+use Rattle.bd_graft.specs.Laying.{laid, AreLayers, IsLayer}
+use Rattle.bd_graft.proofs.Laying.{layers_more, layers_ended, value_ended, one_further, some_is}
+use Rattle.bd_graft.proofs.walking.walk.Goals as goal
+
+pub returns-then-level-eq0-clause-value : goal.returns-then-level-eq0-clause-value
+returns-then-level-eq0-clause-value g c = λ known sound k key.
+    let inv = c.loop-store.invariant in
+    value_ended (at (g.S.NodeStore.nodes c.args.store.now)) c.loop-store.layers.items c.ended.result.layers.items c.loop-store.id c.loop-store.asked k c.ended.result.end _
+    c.ended.ensures.layers c.ended.ensures.end
+    (λ long. long_leaf (g.S.NodeStore.nodes c.args.store.now) (g.S.NodeStore.table c.args.store.now) c.loop-store.id c.loop-store.asked k sound inv.here
+    (ap (λ (t : Table). t.level c.loop-store.id) (sym inv.table) ∙ sym c.level.ensures ∙ c.if-level-eq0.true) long)
+    (inv.value known sound k key)
+
+pub returns-then-level-eq0-clause-layers : goal.returns-then-level-eq0-clause-layers
+returns-then-level-eq0-clause-layers g c =
+    layers_ended (g.S.NodeStore.table c.args.store.now) _ c.loop-store.layers.items c.ended.result.layers.items c.loop-store.id c.loop-store.asked c.ended.result.end
+    c.ended.ensures.layers c.ended.ensures.end c.loop-store.invariant.layers
+
+pub loop-store-preserved : goal.loop-store-preserved
+loop-store-preserved g c =
+    let nodes : Nodes = g.S.NodeStore.nodes c.args.store.now in
+    let t : Table = g.S.NodeStore.table c.args.store.now in
+    let now : Table = g.S.NodeStore.table c.loop-store.store in
+    let id : ℕ = c.loop-store.id in
+    let high : ℕ = t.level t.root in
+    let inv = c.loop-store.invariant in
+    let on : Passed = c.in-Some.field-0 in
+    let target : Target = c.in-Some-target.target in
+    let target_is : on.target ≡ Some target = c.in-Some-target.is in
+    let lower : IsLowerTarget t (t.level id) (Some target) =
+    subst (λ (o : Option Target). IsLowerTarget t (t.level id) o) target_is
+    (subst (λ (u : Table). IsLowerTarget u (u.level id) on.target) inv.table (some_is (λ (p : Passed). IsLowerTarget now (now.level id) p.target) c.in_ok-layer.field-0 on c.in-Some.is c.in_ok-layer.ensures.lower)) in
+    let less : t.level target.child < t.level id = lower.lower in
+    let layer : IsLayer t on.layer = subst (λ (u : Table). IsLayer u on.layer) inv.table (some_is (λ (p : Passed). IsLayer now p.layer) c.in_ok-layer.field-0 on c.in-Some.is c.in_ok-layer.ensures.layer) in
+    let level : on.layer.level ≡ t.level id = some_is (λ (p : Passed). p.layer.level ≡ now.level id) c.in_ok-layer.field-0 on c.in-Some.is c.in_ok-layer.ensures.level ∙ ap (λ (u : Table). u.level id) inv.table in
+    record {
+      table = c.in_ok-layer.ensures.table ∙ inv.table;
+      here = lower.kept;
+      layers = subst (λ (ls : List Layer). AreLayers t (high + 1) ls (Some target)) (sym c.in_ok-push.ensures.items)
+          (layers_more t (high + 1) c.loop-store.layers.items on.layer (record { child = id; source = c.loop-store.asked }) (Some target) inv.layers layer level (omega (arith, c.if-level-eq0.false, c.level.ensures, level, ap (λ (u : Table). u.level id) inv.table)) (subst (λ (l : ℕ). IsLowerTarget t l (Some target)) (sym level) lower));
+      known = λ k. c.in_ok-layer.ensures.known (inv.known k);
+      nodes = λ k. c.in_ok-layer.ensures.kept (inv.known k) ∙ inv.nodes k;
+      read = g.met.S.NodeStore.reads_both c.args.store.now c.loop-store.store c.passed_node.new.store inv.read c.in_ok-layer.ensures.read;
+      later = (let a : g.S.NodeStore.fault_count c.args.store.now ≤ g.S.NodeStore.fault_count c.loop-store.store = inv.later in
+          let b : g.S.NodeStore.fault_count c.loop-store.store ≤ g.S.NodeStore.fault_count c.passed_node.new.store = c.in_ok-layer.ensures.cause.later in omega arith);
+      visits = visits_one_more (g.S.NodeStore.visit_count c.args.store.now) (g.S.NodeStore.visit_count c.loop-store.store) (g.S.NodeStore.visit_count c.passed_node.new.store) high (t.level id)
+          inv.visits c.in_ok-layer.ensures.visits (t.level target.child) less;
+      counted = gone_down (g.S.NodeStore.visit_count c.args.store.now) (g.S.NodeStore.visit_count c.loop-store.store) (g.S.NodeStore.visit_count c.passed_node.new.store) high (t.level id)
+          inv.visits c.in_ok-layer.ensures.visits (t.level target.child) less;
+      loans = c.in_ok-layer.ensures.same_loans ∙ inv.loans;
+      value = λ known sound k key.
+          let says : (n : Node) → nodes id ≡ Some n → (below : NodesAt) (l : List ℕ) → node_at below n (c.loop-store.asked ++ l) ≡ acts below on.layer.messages l (target_at below on.target l) = λ n there below l.
+          ap (λ (q : List ℕ). node_at below n (q ++ l)) (sym c.as_slice.ensures)
+          ∙ some_is (λ (p : Passed). (n : Node) → g.S.NodeStore.nodes c.loop-store.store id ≡ Some n → (below : NodesAt) (l : List ℕ) → node_at below n (c.as_slice.result.now ++ l) ≡ acts below p.layer.messages l (target_at below p.target l)) c.in_ok-layer.field-0 on c.in-Some.is
+          (c.in_ok-layer.ensures.passed (inv.known known)) n (ap (λ (f : Nodes). f id) (inv.nodes known) ∙ there) below l in
+          ap (λ (ls : List Layer). acts (at nodes) (laid ls) k (target_at (at nodes) (Some target) k)) c.in_ok-push.ensures.items
+          ∙ ap (λ (o : Option Target). acts (at nodes) (laid (c.loop-store.layers.items ++ on.layer ∷ [])) k (target_at (at nodes) o k)) (sym target_is)
+          ∙ one_further nodes t id c.loop-store.asked on.layer on.target c.loop-store.layers.items k sound inv.here (subst (λ (q : List ℕ). IsKey q) c.as_slice.ensures c.in_ok-layer.ensures.bytes) key says
+          ∙ inv.value known sound k key;
+    }
+
+pub returns-in-None-clause-value : goal.returns-in-None-clause-value
+returns-in-None-clause-value g c = λ known sound k key.
+    let nodes : Nodes = g.S.NodeStore.nodes c.args.store.now in
+    let inv = c.loop-store.invariant in
+    let id : ℕ = c.loop-store.id in
+    let on : Passed = c.in-Some.field-0 in
+    let target_is : on.target ≡ None = c.in-None.is in
+    let says : (n : Node) → nodes id ≡ Some n → (below : NodesAt) (l : List ℕ) → node_at below n (c.loop-store.asked ++ l) ≡ acts below on.layer.messages l (target_at below on.target l) = λ n there below l.
+    ap (λ (q : List ℕ). node_at below n (q ++ l)) (sym c.as_slice.ensures)
+    ∙ some_is (λ (p : Passed). (n : Node) → g.S.NodeStore.nodes c.loop-store.store id ≡ Some n → (below : NodesAt) (l : List ℕ) → node_at below n (c.as_slice.result.now ++ l) ≡ acts below p.layer.messages l (target_at below p.target l)) c.in_ok-layer.field-0 on c.in-Some.is
+    (c.in_ok-layer.ensures.passed (inv.known known)) n (ap (λ (f : Nodes). f id) (inv.nodes known) ∙ there) below l in
+    ap (λ (ls : List Layer). acts (at nodes) (laid ls) k None) c.in_ok-push.ensures.items
+    ∙ ap (λ (o : Option Target). acts (at nodes) (laid (c.loop-store.layers.items ++ on.layer ∷ [])) k (target_at (at nodes) o k)) (sym target_is)
+    ∙ one_further nodes (g.S.NodeStore.table c.args.store.now) id c.loop-store.asked on.layer on.target c.loop-store.layers.items k sound inv.here (subst (λ (q : List ℕ). IsKey q) c.as_slice.ensures c.in_ok-layer.ensures.bytes) key says
+    ∙ inv.value known sound k key
+
+pub returns-in-None-clause-layers : goal.returns-in-None-clause-layers
+returns-in-None-clause-layers g c =
+    let t : Table = g.S.NodeStore.table c.args.store.now in
+    let now : Table = g.S.NodeStore.table c.loop-store.store in
+    let id : ℕ = c.loop-store.id in
+    let inv = c.loop-store.invariant in
+    let on : Passed = c.in-Some.field-0 in
+    let layer : IsLayer t on.layer = subst (λ (u : Table). IsLayer u on.layer) inv.table (some_is (λ (p : Passed). IsLayer now p.layer) c.in_ok-layer.field-0 on c.in-Some.is c.in_ok-layer.ensures.layer) in
+    let level : on.layer.level ≡ t.level id = some_is (λ (p : Passed). p.layer.level ≡ now.level id) c.in_ok-layer.field-0 on c.in-Some.is c.in_ok-layer.ensures.level ∙ ap (λ (u : Table). u.level id) inv.table in
+    subst (λ (ls : List Layer). AreLayers t (t.level t.root + 1) ls None) (sym c.in_ok-push.ensures.items)
+    (layers_more t (t.level t.root + 1) c.loop-store.layers.items on.layer (record { child = id; source = c.loop-store.asked }) None inv.layers layer level (omega (arith, c.if-level-eq0.false, c.level.ensures, level, ap (λ (u : Table). u.level id) inv.table)) tt)

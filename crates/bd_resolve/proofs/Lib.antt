@@ -1,0 +1,4 @@
+pub mod Prefixes
+pub mod Covers
+pub mod Follows
+pub mod Going

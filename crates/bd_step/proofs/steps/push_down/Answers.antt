@@ -1,0 +1,16 @@
+use Rattle.std.proofs.Common.{Option, subst}
+use Rattle.bd_flush.specs.declared.fetching.Fetched.{Fetched}
+use Rattle.bd_flush.specs.declared.ways.FlushStep.TheVariants.{Push}
+use Rattle.bd_flush.specs.Ways.{IsToDo}
+use Rattle.bd_step.proofs.Making.{can_push, can_push_new}
+use Rattle.bd_step.proofs.steps.push_down.Goals as goal
+
+pub push_new-requires-clause-can : goal.push_new-requires-clause-can
+push_new-requires-clause-can g c =
+    can_push_new (g.S.NodeStore.table c.args.store.now) c.args.above c.args.parent c.args.place c.requires.waits
+    (subst (λ (o : Option Fetched). IsToDo (g.S.NodeStore.table c.args.store.now) (Push c.args.above c.args.parent c.args.place o)) c.in-None.is c.requires.to_do)
+
+pub push-requires-clause-can : goal.push-requires-clause-can
+push-requires-clause-can g c =
+    can_push (g.S.NodeStore.table c.args.store.now) c.args.above c.args.parent c.args.place c.in-Some.child c.requires.waits
+    (subst (λ (o : Option Fetched). IsToDo (g.S.NodeStore.table c.args.store.now) (Push c.args.above c.args.parent c.args.place o)) c.in-Some.is c.requires.to_do)
