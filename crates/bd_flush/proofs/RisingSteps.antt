@@ -14,10 +14,10 @@ use Rattle.bd_node.specs.declared.node.Step.{Step}
 use Rattle.bd_node.specs.Nodes.{level_of, names, times, node_at}
 use Rattle.bd_node.specs.Meaning.{Nodes, at}
 use Rattle.bd_node.specs.Shape.{IsShape}
-use Rattle.bd_node.specs.Tables.{Table, IsKept, IsTable, IsLower, IsSound, one_if}
+use Rattle.bd_node.specs.Tables.{Table, IsTable, IsLower, IsSound, one_if}
 use Rattle.bd_node.specs.Private.{IsPrivate}
 use Rattle.bd_node.specs.Private.IsPrivate.{alone}
-use Rattle.bd_node.specs.Steps.{changed_at, given, level_after, AreOnce, IsOnlyNamed, HasRoom}
+use Rattle.bd_node.specs.Steps.{changed_at, given, level_after, AreOnce, HasRoom}
 use Rattle.bd_node.specs.Steps.HasRoom.{of_root, changed_too, under_all}
 use Rattle.bd_node.proofs.Lookup.{Agree, each_weaker, named_has, node_at-same, node_has-key}
 use Rattle.bd_node.proofs.Meanings.{at-meets}

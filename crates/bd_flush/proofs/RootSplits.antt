@@ -1,6 +1,6 @@
 -- A node that is put above its halves: the root that is split, or a child between its parent and its
 -- halves, where the nodes above rise.
-use Rattle.std.proofs.Common.{◌≡◌, ℕ, ◌+◌, ◌-◌, ◌^◌, ◌<◌, ◌≤◌, List, [], ◌∷◌, length, map, refl, sym, ap, subst, ◌∙◌, Option, None, Some, arith, inl, inr, IsSome, Result, Ok, Err, OnOk, ◌⊎◌}
+use Rattle.std.proofs.Common.{◌≡◌, ℕ, ◌+◌, ◌-◌, ◌^◌, ◌<◌, ◌≤◌, List, [], ◌∷◌, length, map, refl, sym, ap, subst, ◌∙◌, Option, Some, arith, inl, inr, IsSome, Result, Ok, Err, OnOk, ◌⊎◌}
 use Rattle.std.specs.Prelude.{slice_get}
 use Rattle.std.specs.List.{AllByRecursion}
 use Rattle.std.specs.Ordering.{is_lt}
@@ -21,7 +21,7 @@ use Rattle.bd_node.specs.Nodes.{level_of, buffer_size, names, times, through, no
 use Rattle.bd_node.specs.Meaning.{Nodes, at, found_at}
 use Rattle.bd_node.specs.Shape.{IsShape}
 use Rattle.bd_node.specs.Tables.{Table, IsKept, IsTable, IsLower, IsNodeOf, IsSound}
-use Rattle.bd_node.specs.Steps.{changed_at, given, level_or, IsStep, IsInPlace, IsTableAfter, IsCommitted, IsWornBy}
+use Rattle.bd_node.specs.Steps.{given, level_or, IsStep, IsInPlace, IsTableAfter, IsCommitted, IsWornBy}
 use Rattle.bd_node.proofs.Lookup.{Agree, each_weaker, each_named, named_has, node_has-key, count-cons_same, count-cons_le}
 use Rattle.bd_node.proofs.Meanings.{at-meets}
 use Rattle.bd_node.proofs.Sound.{sound-levelled, named_lower, kept_there}
@@ -41,8 +41,8 @@ use Rattle.bd_flush.specs.Between.{IsHardlyHigher}
 use Rattle.bd_flush.proofs.Worn.{cause_weaker}
 use Rattle.bd_flush.proofs.Givens.{given_first, given_second}
 use Rattle.bd_flush.proofs.ChildSplits.{child_named}
-use Rattle.bd_flush.proofs.PathSteps.{IsMadeUnder, IsUpper, IsPathStep, RisesByOne, given_child, each_change, has_made, has_path, made_old, made_new, path_child, path_old, both_ways, IsPathStepOf, IsPathDone, path_may, path_in_place, path_flushed, path_worn, root_rises, root_stays}
-use Rattle.bd_flush.proofs.RisingSteps.{raised_names, way_private, rising_rises, rising_uppers, rising_once, rising_short, IsChangedBy, changed_more, all_changed, has_room, rising_of}
+use Rattle.bd_flush.proofs.PathSteps.{IsMadeUnder, IsUpper, IsPathStep, RisesByOne, given_child, each_change, has_made, has_path, made_new, path_child, path_old, both_ways, IsPathStepOf, path_may, path_in_place, path_flushed, path_worn, root_rises, root_stays}
+use Rattle.bd_flush.proofs.RisingSteps.{way_private, rising_rises, rising_uppers, rising_once, rising_short, IsChangedBy, changed_more, all_changed, has_room, rising_of}
 
 -- ---- a node over two others
 
@@ -287,9 +287,9 @@ over_higher t c n first pivot second way rising u h after fits =
           (λ none. (let same : u.size ≡ t.size = after.same_size none refl in omega arith))
           (λ m some. (let is : u.size ≡ buffer_size m = after.size m some in
           let few : buffer_size m ≤ t.size = each_change (λ (d : Change). d.id ≡ t.root → buffer_size d.node ≤ t.size) t c (the_top t n pivot) (map raise rising) (both first second) t.root m (λ same. (omega arith))
-              (each_raise (λ (d : Change). d.id ≡ t.root → buffer_size d.node ≤ t.size) rising
-              (each_weaker (λ (f : Fetched). f.id ≡ t.root → buffer_size f.node.value ≤ t.size) (λ (f : Fetched). f.id ≡ t.root → buffer_size (raised f.node.value) ≤ t.size) (λ f own same. (let l : buffer_size f.node.value ≤ t.size = own same in omega (arith, raised_size f.node.value))) rising fits))
-              low some refl in
+          (each_raise (λ (d : Change). d.id ≡ t.root → buffer_size d.node ≤ t.size) rising
+          (each_weaker (λ (f : Fetched). f.id ≡ t.root → buffer_size f.node.value ≤ t.size) (λ (f : Fetched). f.id ≡ t.root → buffer_size (raised f.node.value) ≤ t.size) (λ f own same. (let l : buffer_size f.node.value ≤ t.size = own same in omega (arith, raised_size f.node.value))) rising fits))
+          low some refl in
           omega arith));
     }
 
@@ -375,8 +375,7 @@ risen_there nodes t c n first pivot second way rising new u h level _ _ _ (one_u
     let step : Step = the_step t c n first pivot second rising in
     let lower : t.level d < t.level f.id = (up_lower t f place d e fetched edge).lower in
     let other : f.id ≡ c → ⊥ = λ same. (let z : t.level f.id ≡ t.level c = ap t.level same in omega arith) in
-    let low : f.id < t.next = h.of.split.table.below f.id fetched.kept in
-    (
+    let low : f.id < t.next = h.of.split.table.below f.id fetched.kept in (
       by_given (new f.id ≡ Some (raised f.node.value)) (given t.next step f.id)
           (λ none. absurd (no_some (subst (λ (o : Option Node). IsSome o) none given_too.0)))
           (λ m some. (let is : m ≡ raised f.node.value = raised_is nodes t c n first pivot second way rising h.of f.id m f.node.value low some other there.0 in
