@@ -287,9 +287,9 @@ over_higher t c n first pivot second way rising u h after fits =
           (λ none. (let same : u.size ≡ t.size = after.same_size none refl in omega arith))
           (λ m some. (let is : u.size ≡ buffer_size m = after.size m some in
           let few : buffer_size m ≤ t.size = each_change (λ (d : Change). d.id ≡ t.root → buffer_size d.node ≤ t.size) t c (the_top t n pivot) (map raise rising) (both first second) t.root m (λ same. (omega arith))
-              (each_raise (λ (d : Change). d.id ≡ t.root → buffer_size d.node ≤ t.size) rising
-              (each_weaker (λ (f : Fetched). f.id ≡ t.root → buffer_size f.node.value ≤ t.size) (λ (f : Fetched). f.id ≡ t.root → buffer_size (raised f.node.value) ≤ t.size) (λ f own same. (let l : buffer_size f.node.value ≤ t.size = own same in omega (arith, raised_size f.node.value))) rising fits))
-              low some refl in
+          (each_raise (λ (d : Change). d.id ≡ t.root → buffer_size d.node ≤ t.size) rising
+          (each_weaker (λ (f : Fetched). f.id ≡ t.root → buffer_size f.node.value ≤ t.size) (λ (f : Fetched). f.id ≡ t.root → buffer_size (raised f.node.value) ≤ t.size) (λ f own same. (let l : buffer_size f.node.value ≤ t.size = own same in omega (arith, raised_size f.node.value))) rising fits))
+          low some refl in
           omega arith));
     }
 
@@ -375,8 +375,7 @@ risen_there nodes t c n first pivot second way rising new u h level _ _ _ (one_u
     let step : Step = the_step t c n first pivot second rising in
     let lower : t.level d < t.level f.id = (up_lower t f place d e fetched edge).lower in
     let other : f.id ≡ c → ⊥ = λ same. (let z : t.level f.id ≡ t.level c = ap t.level same in omega arith) in
-    let low : f.id < t.next = h.of.split.table.below f.id fetched.kept in
-    (
+    let low : f.id < t.next = h.of.split.table.below f.id fetched.kept in (
       by_given (new f.id ≡ Some (raised f.node.value)) (given t.next step f.id)
           (λ none. absurd (no_some (subst (λ (o : Option Node). IsSome o) none given_too.0)))
           (λ m some. (let is : m ≡ raised f.node.value = raised_is nodes t c n first pivot second way rising h.of f.id m f.node.value low some other there.0 in

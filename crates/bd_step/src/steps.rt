@@ -6,12 +6,11 @@ ghost use Rattle.bd_node.specs.Tables.{IsSound};
 ghost use Rattle.bd_flush.specs.declared.ways.FlushStep.TheVariants as step;
 ghost use Rattle.bd_flush.specs.Flushed.{IsFlushed, IsWornFor};
 ghost use Rattle.bd_flush.specs.Children.{IsNoHigher};
-ghost use Rattle.bd_flush.specs.Ways.{IsToDo, IsToDoAt};
+ghost use Rattle.bd_flush.specs.Ways.{IsToDo, IsToDoAt, IsWayOf, IsWayThere};
 ghost use Rattle.bd_step.specs.Steps.{IsMade, IsHighAfter, IsFlushStep, IsOutcome, IsFound, IsFoundAt};
 
 use bd_flush::{
-    ChildPush, ChildSplit, Fetched, FlushStep, Way, next_step, push, push_new, split_child,
-    split_root,
+    ChildPush, Fetched, FlushStep, Way, next_step, push, push_new, split_child, split_root,
 };
 use bd_message::MapFault;
 use bd_node::NodeStore;
@@ -29,8 +28,8 @@ pub enum Flush {
     Shared,
     /// A Goto is pending for the fullest edge of a node on the way: nothing was changed.
     Named,
-    /// A child or a leaf is to be split whose halves part at a pivot that would have more than 518
-    /// bytes in its parent: nothing was changed.
+    /// A leaf is to be split whose halves part at a pivot that would have more than 518 bytes in its
+    /// parent: nothing was changed.
     LongPivot,
 }
 
@@ -77,6 +76,9 @@ fn make<S: NodeStore>(alloc: Global, store: &mut S, step: FlushStep) -> Result<F
     requires to_do { IsToDo (S.table store.old) step }
     requires here { S.is_known store.old → IsSound (S.nodes store.old) (S.table store.old)
         → IsToDoAt (S.nodes store.old) (S.table store.old) step }
+    requires way { IsWayOf (S.table store.old) step }
+    requires way_here { S.is_known store.old → IsSound (S.nodes store.old) (S.table store.old)
+        → IsWayThere (S.nodes store.old) (S.table store.old) step }
     ensures flushed { S.is_known store.old → IsSound (S.nodes store.old) (S.table store.old)
         → result ≡ Ok Flush.Done → IsFlushed (S.nodes store.old) (S.table store.old)
         (S.nodes store.new) (S.table store.new) }
@@ -101,14 +103,14 @@ fn make<S: NodeStore>(alloc: Global, store: &mut S, step: FlushStep) -> Result<F
             Ok(Flush::Done)
         }
         FlushStep::SplitChild {
+            above,
             parent,
             place,
             child,
-            ..
-        } => match split_child(alloc, store, &parent, place, &child)? {
-            ChildSplit::Done => Ok(Flush::Done),
-            ChildSplit::LongPivot => Ok(Flush::LongPivot),
-        },
+        } => {
+            split_child(alloc, store, above.as_slice(), &parent, place, &child)?;
+            Ok(Flush::Done)
+        }
         FlushStep::Push {
             above,
             parent,
