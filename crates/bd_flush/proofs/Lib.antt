@@ -14,7 +14,9 @@ pub mod PutBetween
 pub mod ChildCommits
 pub mod Pushed
 pub mod PushCommits
+pub mod Betweens
 pub mod Batches
+pub mod PushPlans
 pub mod LeafHalves
 pub mod LeafSteps
 pub mod LeafPushes

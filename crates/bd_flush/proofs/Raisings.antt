@@ -9,7 +9,8 @@ use Rattle.bd_node.specs.declared.node.Node.TheVariants.{Leaf, Inner}
 use Rattle.bd_node.specs.Nodes.{level_of}
 use Rattle.bd_node.specs.Shape.{IsShape}
 use Rattle.bd_flush.specs.declared.fetching.Fetched.{Fetched}
-use Rattle.bd_flush.specs.Raising.{raised, raise, IsRising, CannotRise, AreRaised}
+use Rattle.bd_flush.specs.Raising.{raised, raise, IsRising, CannotRise, AreRaised, AreChangesOver, CannotRiseOver}
+use Rattle.bd_flush.specs.Raising.IsRaisedOver.{is_above, rises_too}
 use Rattle.bd_flush.specs.Raising.IsRising.{at_top, high_enough, rises}
 use Rattle.bd_flush.specs.Raising.CannotRise.{here, further}
 
@@ -54,3 +55,23 @@ more_raised items level own way rest f changes pushed n (Ok (Some all)) parts is
           ∙ append_assoc changes (raise f ∷ []) (map raise h.rising);
     })
 more_raised items level own way rest f changes pushed n (Err e) parts is low room more same h = tt
+
+-- ---- over a child
+
+pub none_over : (level own : ℕ) (child parent : Change) (above : List Fetched) (changes : List Change) → level ≡ level_of child.node → own ≡ level_of parent.node → level < own → changes ≡ child ∷ parent ∷ [] → AreChangesOver child parent (reverse above) changes
+none_over level own child parent above changes is own_is more are = record { node = parent.node; rising = []; rise = is_above (omega arith); are = are }
+
+pub on_over : {V E : Type 0} (items : V → List Change) (level own : ℕ) (child parent : Change) (above : List Fetched) (pushed : List Change) (n : Node) (r : Result (Option V) E) → level ≡ level_of child.node → own ≡ level_of parent.node → own ≤ level
+    → pushed ≡ child ∷ record { id = parent.id; node = n } ∷ [] → n ≡ raised parent.node
+    → IfOk r (λ found. MatchOption found (CannotRise (own + 1) (reverse above)) (λ all. AreRaised (own + 1) (reverse above) pushed (items all)))
+    → IfOk r (λ found. MatchOption found (CannotRiseOver (level_of child.node) parent.node (reverse above)) (λ all. AreChangesOver child parent (reverse above) (items all)))
+on_over items level own child parent above pushed n (Err e) is own_is low are same h = tt
+on_over items level own child parent above pushed n (Ok None) is own_is low are same h = (omega arith, subst (λ (i : ℕ). CannotRise (i + 1) (reverse above)) own_is h)
+on_over items level own child parent above pushed n (Ok (Some all)) is own_is low are same h = record {
+  node = raised parent.node;
+  rising = h.rising;
+  rise = rises_too h.rising (omega arith) (subst (λ (i : ℕ). IsRising (i + 1) (reverse above) h.rising) own_is h.rise);
+  are =
+      h.are
+      ∙ ap (λ (l : List Change). l ++ map raise h.rising) (are ∙ ap (λ (d : Node). child ∷ record { id = parent.id; node = d } ∷ []) same);
+}

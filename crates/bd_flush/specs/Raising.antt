@@ -55,3 +55,23 @@ pub record AreRaised (level : ℕ) (way : List Fetched) (changes all : List Chan
   pub rising : List Fetched
   pub rise : IsRising level way rising
   pub are : all ≡ changes ++ map raise rising
+
+-- a node over a child that gets this level, and the nodes above it, the nearest first: what the node
+-- becomes, one level higher where it has to be, and those that rise with it
+pub data IsRaisedOver (level : ℕ) (n : Node) (way : List Fetched) : Node → List Fetched → Type 0
+  where
+    is_above : level < level_of n → IsRaisedOver level n way n []
+    rises_too : (rising : List Fetched) → level_of n ≤ level → IsRising (level_of n + 1) way rising
+        → IsRaisedOver level n way (raised n) rising
+
+-- the changes of a child, of the node above it, and of those above that rise
+pub record AreChangesOver (child parent : Change) (way : List Fetched) (all : List Change) : Type 0
+  where
+    pub node : Node
+    pub rising : List Fetched
+    pub rise : IsRaisedOver (level_of child.node) parent.node way node rising
+    pub are : all ≡ child ∷ record { id = parent.id; node = node } ∷ map raise rising
+
+-- a node that has to rise over a child that gets this level, and one above it that cannot
+abbrev pub CannotRiseOver : ℕ → Node → List Fetched → Type 0
+CannotRiseOver level n way = (level_of n ≤ level) × CannotRise (level_of n + 1) way

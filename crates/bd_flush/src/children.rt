@@ -9,11 +9,11 @@ ghost use Rattle.bd_node.specs.declared.node.Edge.{Edge};
 ghost use Rattle.bd_node.specs.Nodes.{level_of};
 ghost use Rattle.bd_node.specs.Shape.{IsShape};
 ghost use Rattle.bd_node.specs.Tables.{IsSound};
-ghost use Rattle.bd_inner.specs.Halves.{edges_of, AreHalves};
+ghost use Rattle.bd_inner.specs.Halves.{edges_of};
 ghost use Rattle.bd_inner.specs.Compaction.{IsCompacted};
 ghost use Rattle.bd_inner.specs.Exchange.{exchanged, IsEdgeAt, FitsAt};
 ghost use Rattle.bd_flush.specs.Flushed.{IsFlushed, IsWornFor};
-ghost use Rattle.bd_flush.specs.Children.{CanSplitChild, AreFamily, child_step, parting, upper_edge, IsSplitInto, IsSide, AreParts, IsLongIn, IsLongPivot, IsChildStep};
+ghost use Rattle.bd_flush.specs.Children.{CanSplitChild, AreFamily, child_step, parting, upper_edge, IsSide, IsOver, AreParts, IsLongPivot, IsChildStep};
 ghost use Rattle.bd_flush.specs.Raising.{Stand, IsWayUp, CannotRise};
 ghost use Rattle.bd_flush.specs.Between.{IsSplitChild, IsHighAfterSplit};
 
@@ -134,11 +134,24 @@ fn split_below(
 {
     let edge = edges_of(node)[place].clone()?;
     let halves = split(alloc, child)?;
-    over_halves(alloc, node, place, edge, halves, next)
+    match over_halves(alloc, node, place, edge, halves, next)? {
+        Halving::Short(parts) => Ok(Some(parts)),
+        Halving::Long { .. } => Ok(None),
+    }
+}
+
+// A node over the halves of its child, or the halves and the edge, where the pivot would be too long.
+#[derive(Drop)]
+pub enum Halving {
+    Short(Parts),
+    Long {
+        edge: Edge,
+        halves: (Node, Bytes, Node),
+    },
 }
 
 // A node over the halves of a child, with an edge in place of the one that it has there, and what
-// is made; none where the pivot would be too long.
+// is made; or the edge and the halves, where the pivot would be too long.
 pub fn over_halves(
     alloc: Global,
     node: &Node,
@@ -146,30 +159,30 @@ pub fn over_halves(
     edge: Edge,
     halves: (Node, Bytes, Node),
     next: u64,
-) -> Result<Option<Parts>, AllocError>
+) -> Result<Halving, AllocError>
     requires shape { IsShape node.now }
     requires room { length (edges_of node.now) ≤ 14 }
     requires within { place < length (edges_of node.now) }
     requires next { 1 ≤ next }
     requires fits { (e : Edge) → IsEdgeAt node.now place e → FitsAt node.now place e (edge ∷ []) }
-    ensures { IfOk result (λ found. MatchOption found
-        (IsLongIn node.now place edge halves.1)
-        (λ parts. (m : Node) → AreHalves m halves.0 halves.1 halves.2
-        → IsSplitInto node.now place edge m next parts.node parts.half parts.made.items)) }
+    ensures { IfOk result (IsOver node.now place edge halves.0 halves.1 halves.2 next) }
 {
     let (first, pivot, second) = halves;
-    let pivot = parting(alloc, &edge, &pivot)?;
-    match asked_side(&edge, end_of(edges_of(node), place), pivot.as_slice()) {
-        Side::Lower => Ok(Some(one_half(alloc, node, place, edge, first)?)),
-        Side::Upper => Ok(Some(one_half(alloc, node, place, edge, second)?)),
+    let key = parting(alloc, &edge, &pivot)?;
+    match asked_side(&edge, end_of(edges_of(node), place), key.as_slice()) {
+        Side::Lower => Ok(Halving::Short(one_half(alloc, node, place, edge, first)?)),
+        Side::Upper => Ok(Halving::Short(one_half(alloc, node, place, edge, second)?)),
         Side::Both => {
-            if pivot.len() > MAX_KEY {
-                return Ok(None);
+            if key.len() > MAX_KEY {
+                return Ok(Halving::Long {
+                    edge,
+                    halves: (first, pivot, second),
+                });
             }
-            let node = with_upper(alloc, node, place, edge, pivot, next)?;
+            let node = with_upper(alloc, node, place, edge, key, next)?;
             let mut made = Vec::new(alloc);
             made.push(second)?;
-            Ok(Some(Parts {
+            Ok(Halving::Short(Parts {
                 node,
                 half: first,
                 made,

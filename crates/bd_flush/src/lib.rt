@@ -20,7 +20,7 @@ pub use children::split_child;
 pub use fetching::{Fetched, fetch};
 pub use filling::{FullEdge, fullest};
 pub use planting::push_new;
-pub use pushing::{ChildPush, push};
+pub use pushing::push;
 pub use raising::{Way, raise_above, raised};
 pub use splitting::split_root;
 pub use ways::{FlushStep, next_step};
