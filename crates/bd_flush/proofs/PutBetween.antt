@@ -1,14 +1,12 @@
 -- A child that is put between its parent and its halves.
-use Rattle.std.proofs.Common.{◌≡◌, ℕ, ◌+◌, ◌^◌, ◌<◌, ◌≤◌, List, [], ◌∷◌, ◌++◌, length, map, refl, sym, ap, subst, ◌∙◌, Option, None, Some, arith, Result, Ok, Err, OnOk, IfOk, MatchOption}
+use Rattle.std.proofs.Common.{◌≡◌, ℕ, ◌+◌, ◌^◌, ◌<◌, ◌≤◌, List, ◌∷◌, length, sym, ap, subst, ◌∙◌, Option, None, Some, arith, Result, Ok, Err, OnOk, MatchOption}
 use Rattle.std.specs.List.{AllByRecursion}
 use Rattle.bd_limits.specs.Limits.{level_limit}
-use Rattle.bd_message.specs.declared.fault.Counter.{Counter}
 use Rattle.bd_message.specs.declared.fault.Counter.TheVariants.{Level}
 use Rattle.bd_message.specs.declared.fault.MapFault.{MapFault}
 use Rattle.bd_message.specs.declared.fault.MapFault.TheVariants.{Worn}
 use Rattle.bd_message.specs.KeyMaps.{HasMapCause}
 use Rattle.bd_node.specs.declared.node.Node.{Node}
-use Rattle.bd_node.specs.declared.node.Change.{Change}
 use Rattle.bd_node.specs.declared.node.Step.{Step}
 use Rattle.bd_node.specs.Nodes.{level_of, buffer_size}
 use Rattle.bd_node.specs.Meaning.{Nodes}
@@ -20,8 +18,7 @@ use Rattle.bd_inner.specs.Halves.{AreHalves}
 use Rattle.bd_flush.specs.declared.fetching.Fetched.{Fetched}
 use Rattle.bd_flush.specs.Flushed.{IsFlushed, IsWornFor}
 use Rattle.bd_flush.specs.Children.{IsFetched, CanSplitChild, IsLongPivot}
-use Rattle.bd_flush.specs.Splits.{over_two, over_step}
-use Rattle.bd_flush.specs.Raising.{raised, raise, Stand, IsWayUp, IsRising, CannotRise, AreRaised}
+use Rattle.bd_flush.specs.Raising.{Stand, IsWayUp, IsRising, CannotRise}
 use Rattle.bd_flush.specs.Raising.IsWayUp.{top, one_up}
 use Rattle.bd_flush.specs.Raising.IsRising.{at_top, high_enough, rises}
 use Rattle.bd_flush.specs.Raising.CannotRise.{here, further}

@@ -1,6 +1,6 @@
 -- A node that is put above its halves: the root that is split, or a child between its parent and its
 -- halves, where the nodes above rise.
-use Rattle.std.proofs.Common.{◌≡◌, ℕ, ◌+◌, ◌-◌, ◌^◌, ◌<◌, ◌≤◌, List, [], ◌∷◌, length, map, refl, sym, ap, subst, ◌∙◌, Option, None, Some, arith, inl, inr, IsSome, Result, Ok, Err, OnOk, ◌⊎◌}
+use Rattle.std.proofs.Common.{◌≡◌, ℕ, ◌+◌, ◌-◌, ◌^◌, ◌<◌, ◌≤◌, List, [], ◌∷◌, length, map, refl, sym, ap, subst, ◌∙◌, Option, Some, arith, inl, inr, IsSome, Result, Ok, Err, OnOk, ◌⊎◌}
 use Rattle.std.specs.Prelude.{slice_get}
 use Rattle.std.specs.List.{AllByRecursion}
 use Rattle.std.specs.Ordering.{is_lt}
@@ -21,7 +21,7 @@ use Rattle.bd_node.specs.Nodes.{level_of, buffer_size, names, times, through, no
 use Rattle.bd_node.specs.Meaning.{Nodes, at, found_at}
 use Rattle.bd_node.specs.Shape.{IsShape}
 use Rattle.bd_node.specs.Tables.{Table, IsKept, IsTable, IsLower, IsNodeOf, IsSound}
-use Rattle.bd_node.specs.Steps.{changed_at, given, level_or, IsStep, IsInPlace, IsTableAfter, IsCommitted, IsWornBy}
+use Rattle.bd_node.specs.Steps.{given, level_or, IsStep, IsInPlace, IsTableAfter, IsCommitted, IsWornBy}
 use Rattle.bd_node.proofs.Lookup.{Agree, each_weaker, each_named, named_has, node_has-key, count-cons_same, count-cons_le}
 use Rattle.bd_node.proofs.Meanings.{at-meets}
 use Rattle.bd_node.proofs.Sound.{sound-levelled, named_lower, kept_there}
@@ -41,8 +41,8 @@ use Rattle.bd_flush.specs.Between.{IsHardlyHigher}
 use Rattle.bd_flush.proofs.Worn.{cause_weaker}
 use Rattle.bd_flush.proofs.Givens.{given_first, given_second}
 use Rattle.bd_flush.proofs.ChildSplits.{child_named}
-use Rattle.bd_flush.proofs.PathSteps.{IsMadeUnder, IsUpper, IsPathStep, RisesByOne, given_child, each_change, has_made, has_path, made_old, made_new, path_child, path_old, both_ways, IsPathStepOf, IsPathDone, path_may, path_in_place, path_flushed, path_worn, root_rises, root_stays}
-use Rattle.bd_flush.proofs.RisingSteps.{raised_names, way_private, rising_rises, rising_uppers, rising_once, rising_short, IsChangedBy, changed_more, all_changed, has_room, rising_of}
+use Rattle.bd_flush.proofs.PathSteps.{IsMadeUnder, IsUpper, IsPathStep, RisesByOne, given_child, each_change, has_made, has_path, made_new, path_child, path_old, both_ways, IsPathStepOf, path_may, path_in_place, path_flushed, path_worn, root_rises, root_stays}
+use Rattle.bd_flush.proofs.RisingSteps.{way_private, rising_rises, rising_uppers, rising_once, rising_short, IsChangedBy, changed_more, all_changed, has_room, rising_of}
 
 -- ---- a node over two others
 

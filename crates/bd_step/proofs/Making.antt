@@ -25,7 +25,7 @@ use Rattle.bd_flush.proofs.Abundance.{abundant}
 use Rattle.bd_flush.proofs.Waiting.{fullest_waits, pending_waits}
 use Rattle.bd_step.specs.Steps.{IsMade, IsHighAfter, IsAbundantAt, IsAbundant, IsFlushStep, IsOutcome}
 use Rattle.bd_step.specs.declared.steps.Flush.{Flush}
-use Rattle.bd_step.specs.declared.steps.Flush.TheVariants.{Enough, LongPivot}
+use Rattle.bd_step.specs.declared.steps.Flush.TheVariants.{Enough}
 
 -- messages wait in a node of the way
 some_wait : (t : Table) (f : Fetched) → 1 ≤ t.size → IsFetched t f → IsHigh t f → 1 ≤ buffer_size f.node.value
@@ -103,8 +103,7 @@ root_found nodes t root n same to_do here = ap nodes (sym to_do.1) ∙ (here.the
 outcome_made : (step : FlushStep) → IsOutcome step Enough → ⊥
 outcome_made (SplitRoot root) h = cc
 outcome_made (SplitChild above parent place child) h = cc
-outcome_made (Push above parent place None) h = cc
-outcome_made (Push above parent place (Some child)) h = elim h [ inl done ↦ cc | inr long ↦ (let e : Enough ≡ LongPivot = long.0 in cc) ]
+outcome_made (Push above parent place child) h = cc
 outcome_made (Privatise above parent place) h = cc
 outcome_made (Carve above parent place) h = cc
 

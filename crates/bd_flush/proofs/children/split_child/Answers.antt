@@ -1,4 +1,4 @@
-use Rattle.std.proofs.Common.{arith, subst, Option, inl, reverse, ◌∷◌}
+use Rattle.std.proofs.Common.{arith, subst, Option, inl, reverse}
 use Rattle.std.specs.Prelude.{MatchOption}
 use Rattle.std.proofs.lemmas.Result.{err_from_is_err_and}
 use Rattle.bd_node.specs.declared.node.Step.{Step}

@@ -14,3 +14,7 @@ pub split_child-requires-clause-there : goal.split_child-requires-clause-there
 split_child-requires-clause-there g c = λ known sound.
     way_stands (g.S.NodeStore.nodes c.args.store.now) (g.S.NodeStore.table c.args.store.now) (reverse c.in-SplitChild.above)
     (subst (λ (s : FlushStep). IsWayThere (g.S.NodeStore.nodes c.args.store.now) (g.S.NodeStore.table c.args.store.now) s) c.in-SplitChild.is (c.requires.way_here known sound))
+
+pub push_down-requires-clause-way_here : goal.push_down-requires-clause-way_here
+push_down-requires-clause-way_here g c = λ known sound.
+    subst (λ (s : FlushStep). IsWayThere (g.S.NodeStore.nodes c.args.store.now) (g.S.NodeStore.table c.args.store.now) s) c.in-Push.is (c.requires.way_here known sound)
