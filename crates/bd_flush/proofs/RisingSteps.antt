@@ -14,10 +14,10 @@ use Rattle.bd_node.specs.declared.node.Step.{Step}
 use Rattle.bd_node.specs.Nodes.{level_of, names, times, node_at}
 use Rattle.bd_node.specs.Meaning.{Nodes, at}
 use Rattle.bd_node.specs.Shape.{IsShape}
-use Rattle.bd_node.specs.Tables.{Table, IsTable, IsLower, IsSound, one_if}
+use Rattle.bd_node.specs.Tables.{Table, IsKept, IsTable, IsLower, IsSound, one_if}
 use Rattle.bd_node.specs.Private.{IsPrivate}
 use Rattle.bd_node.specs.Private.IsPrivate.{alone}
-use Rattle.bd_node.specs.Steps.{changed_at, given, level_after, AreOnce, HasRoom}
+use Rattle.bd_node.specs.Steps.{changed_at, given, level_after, AreOnce, IsOnlyNamed, HasRoom}
 use Rattle.bd_node.specs.Steps.HasRoom.{of_root, changed_too, under_all}
 use Rattle.bd_node.proofs.Lookup.{Agree, each_weaker, named_has, node_at-same, node_has-key}
 use Rattle.bd_node.proofs.Meanings.{at-meets}
@@ -27,7 +27,7 @@ use Rattle.bd_node.proofs.Stepping.{changed_at-same, changed_at-other}
 use Rattle.bd_flush.specs.declared.fetching.Fetched.{Fetched}
 use Rattle.bd_flush.specs.Flushed.{LeadsTo}
 use Rattle.bd_flush.specs.Flushed.LeadsTo.{through}
-use Rattle.bd_flush.specs.Children.{IsFetched, IsWayTo}
+use Rattle.bd_flush.specs.Children.{IsFetched, IsWayTo, IsContents}
 use Rattle.bd_flush.specs.Paths.{path_step}
 use Rattle.bd_flush.specs.Raising.{raised, raise, IsWayUp, IsRising}
 use Rattle.bd_flush.specs.Raising.IsWayUp.{top, one_up}
@@ -80,18 +80,14 @@ way_link t x f fs (one_up _ place _ e _ fetched way once up) = (record { place =
 pub way_top : (t : Table) (x : ℕ) → IsWayUp t x [] → x ≡ t.root
 way_top t x top = refl
 
-link_names : (t : Table) (x : ℕ) (f : Fetched) → IsLink t x f → 1 ≤ times f.node.value x
+pub link_names : (t : Table) (x : ℕ) (f : Fetched) → IsLink t x f → 1 ≤ times f.node.value x
 link_names t x f link = child_named f.node.value link.place x link.edge link.fetched.own.shape link.way
 
-link_lower : (t : Table) (x : ℕ) (f : Fetched) → IsLink t x f → IsLower t (t.level f.id) x
+pub link_lower : (t : Table) (x : ℕ) (f : Fetched) → IsLink t x f → IsLower t (t.level f.id) x
 link_lower t x f link = named_has (IsLower t (t.level f.id)) x (names f.node.value) link.fetched.own.lower (link_names t x f link)
 
-link_inner : (t : Table) (x : ℕ) (f : Fetched) → IsLink t x f → 1 ≤ level_of f.node.value
+pub link_inner : (t : Table) (x : ℕ) (f : Fetched) → IsLink t x f → 1 ≤ level_of f.node.value
 link_inner t x f link = inner_of f.node.value link.place link.edge link.fetched.own.shape link.way.here
-
--- the contents of a fetched node
-abbrev pub IsContents : Nodes → Fetched → Type 0
-IsContents nodes f = nodes f.id ≡ Some f.node.value
 
 pub way_private : (nodes : Nodes) (t : Table) (x : ℕ) (way : List Fetched) → IsSound nodes t → IsWayUp t x way → AllByRecursion (IsContents nodes) way → IsPrivate nodes t x
 way_private nodes t x [] s up there = subst (λ (i : ℕ). IsPrivate nodes t i) (sym (way_top t x up)) (root_private nodes t s)

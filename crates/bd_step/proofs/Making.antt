@@ -16,9 +16,8 @@ use Rattle.bd_flush.specs.declared.fetching.Fetched.{Fetched}
 use Rattle.bd_flush.specs.declared.ways.FlushStep.{FlushStep}
 use Rattle.bd_flush.specs.declared.ways.FlushStep.TheVariants.{SplitRoot, SplitChild, Push, Privatise, Carve}
 use Rattle.bd_flush.specs.Flushed.{IsFlushed}
-use Rattle.bd_flush.specs.Children.{IsFetched}
+use Rattle.bd_flush.specs.Children.{IsFetched, IsContents}
 use Rattle.bd_flush.specs.Pushes.{CanPush, CanPushNew, IsWaitedFor, unseen}
-use Rattle.bd_flush.specs.Raising.{Stand}
 use Rattle.bd_flush.specs.Ways.{IsFullestAt, IsHigh, IsThere, AreThere, IsToDo, IsToDoAt, IsWayThere}
 use Rattle.bd_node.proofs.Lookup.{each_weaker}
 use Rattle.bd_flush.proofs.Abundance.{abundant}
@@ -125,7 +124,7 @@ way_again nodes mid t m step same table sound here =
     (here (subst (λ (f : Nodes). IsSound f t) same (subst (λ (u : Table). IsSound mid u) table sound))))
 
 -- the nodes above are those of the store
-pub way_stands : (nodes : Nodes) (t : Table) (way : List Fetched) → AreThere nodes t way → Stand nodes way
+pub way_stands : (nodes : Nodes) (t : Table) (way : List Fetched) → AreThere nodes t way → AllByRecursion (IsContents nodes) way
 way_stands nodes t way h = each_weaker (IsThere nodes t) (λ (f : Fetched). nodes f.id ≡ Some f.node.value) (λ f there. there.there) way h
 
 -- what the way down found in nodes, and what was made of them as it left them
