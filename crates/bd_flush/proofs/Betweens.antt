@@ -1,21 +1,20 @@
 -- A push that puts a node between.
-use Rattle.std.proofs.Common.{◌≡◌, ℕ, ◌+◌, ◌-◌, ◌^◌, ◌<◌, ◌≤◌, List, [], ◌∷◌, length, map, drop, refl, sym, ap, subst, ◌∙◌, Option, None, Some, arith, inl, inr, IsSome, rules, ◌⊎◌}
+use Rattle.std.proofs.Common.{◌≡◌, ℕ, ◌+◌, ◌-◌, ◌^◌, ◌<◌, ◌≤◌, List, [], ◌∷◌, length, map, drop, refl, sym, ap, subst, ◌∙◌, Option, None, Some, arith, inl, inr, IsSome, rules}
 use Rattle.std.specs.Prelude.{slice_get}
 use Rattle.std.specs.List.{AllByRecursion}
-use Rattle.std.specs.Ordering.{is_lt}
-use Rattle.std.proofs.lemmas.Bool.{cases_Bool, cases_eq}
+use Rattle.std.proofs.lemmas.Bool.{cases_eq}
 use Rattle.std.proofs.lemmas.Option.{same_Some}
 use Rattle.bd_limits.specs.Limits.{level_limit}
-use Rattle.bd_keys.specs.Keys.{IsKey, IsBelow, IsAtLeast, key_cmp}
-use Rattle.bd_message.specs.Effect.{NodesAt, acts}
+use Rattle.bd_keys.specs.Keys.{IsKey, IsBelow, IsAtLeast}
+use Rattle.bd_message.specs.Effect.{NodesAt}
 use Rattle.bd_node.specs.declared.node.Edge.{Edge}
 use Rattle.bd_node.specs.declared.node.Entry.{Entry}
 use Rattle.bd_node.specs.declared.node.Node.{Node}
 use Rattle.bd_node.specs.declared.node.Node.TheVariants.{Leaf, Inner}
 use Rattle.bd_node.specs.declared.node.Change.{Change}
 use Rattle.bd_node.specs.declared.node.Step.{Step}
-use Rattle.bd_node.specs.Nodes.{level_of, buffer_size, names, times, node_at, node_has}
-use Rattle.bd_node.specs.Meaning.{Nodes, at, found_at}
+use Rattle.bd_node.specs.Nodes.{level_of, buffer_size, names, times, node_at}
+use Rattle.bd_node.specs.Meaning.{Nodes, at}
 use Rattle.bd_node.specs.Shape.{IsShape}
 use Rattle.bd_node.specs.Tables.{Table, IsKept, IsTable, IsLower, IsSound}
 use Rattle.bd_node.specs.Private.IsPrivate.{alone}
@@ -25,9 +24,8 @@ use Rattle.bd_node.proofs.Lookup.{Agree, each_weaker, each_named, named_has, nod
 use Rattle.bd_node.proofs.Meanings.{at-meets}
 use Rattle.bd_node.proofs.Sound.{sound-levelled, named_lower, root_unnamed}
 use Rattle.bd_node.proofs.Stepping.{given-old, given-new, given_stays, by_given, after-none, changed_has, changed_at-same, changed_at-other, changed_at-none}
-use Rattle.bd_node.proofs.Edges.{lt_is, lt_isnt}
-use Rattle.bd_inner.specs.Halves.{IsHalf, AreHalves}
-use Rattle.bd_inner.specs.Exchange.{exchanged, IsEdgeAt}
+use Rattle.bd_inner.specs.Halves.{IsHalf}
+use Rattle.bd_inner.specs.Exchange.{exchanged}
 use Rattle.bd_inner.proofs.Compacting.{compacted_shape, compacted_level, compacted_meaning}
 use Rattle.bd_inner.proofs.Exchanged.{exchanged_shape}
 use Rattle.bd_flush.specs.declared.fetching.Fetched.{Fetched}
