@@ -1,13 +1,12 @@
 -- What of a node's messages goes down an edge.
-use Rattle.std.proofs.Common.{◌≡◌, ℕ, zero, suc, ◌+◌, ◌^◌, ◌<◌, ◌≤◌, List, [], ◌∷◌, length, take, drop, refl, sym, ap, subst, ◌∙◌, Option, None, Some, arith, get_or, inl, inr, length-drop, Result, Ok, Err}
-use Rattle.std.specs.Prelude.{slice_get, IfOk, MatchOption}
+use Rattle.std.proofs.Common.{◌≡◌, ℕ, zero, suc, ◌+◌, ◌^◌, ◌<◌, ◌≤◌, List, [], ◌∷◌, length, drop, refl, sym, ap, subst, ◌∙◌, Option, arith, get_or, inl, inr, Result, Ok, Err}
+use Rattle.std.specs.Prelude.{IfOk}
 use Rattle.std.specs.List.{AllByRecursion, All, sum_by}
 use Rattle.std.proofs.lemmas.List.Elements.{All-from_recursion}
 use Rattle.std.proofs.lemmas.Bool.{cases_lt}
 use Rattle.std.proofs.lemmas.Option.{same_Some}
 use Rattle.bd_limits.specs.Limits.{batch_limit, leaf_limit}
 use Rattle.bd_message.specs.declared.message.Message.{Message}
-use Rattle.bd_message.specs.declared.message.Message.TheVariants.{Put, Del, Patch, Cut, Goto}
 use Rattle.bd_message.specs.Messages.{IsMessage, IsPlain, size}
 use Rattle.bd_node.specs.declared.node.Edge.{Edge}
 use Rattle.bd_node.specs.declared.node.Entry.{Entry}
@@ -22,13 +21,17 @@ use Rattle.bd_inner.specs.Compaction.{IsCompacted}
 use Rattle.bd_inner.specs.Exchange.{exchanged, end_at, IsEdgeAt, FitsAt}
 use Rattle.bd_inner.proofs.Splitting.{few_wait}
 use Rattle.bd_inner.proofs.Fitting.{seen_fits}
+use Rattle.bd_inner.proofs.Compacting.{compacted_shape}
+use Rattle.bd_inner.proofs.Exchanged.{exchanged_shape}
 use Rattle.bd_leaf.specs.Leaves.{entries_size, IsReceived}
 use Rattle.bd_flush.specs.declared.children.Parts.{Parts}
-use Rattle.bd_flush.specs.Pushes.{seen_by, unseen, IsWaitedFor, IsEdgeBatch, IsRelieved, IsPushInto, IsLongPush, ArePushed}
+use Rattle.bd_flush.specs.Pushes.{seen_by, unseen, IsWaitedFor, IsEdgeBatch, IsRelieved, IsPushInto, IsPartedOver, IsPushedOver, AreLongParts, ArePushed}
 use Rattle.bd_flush.specs.Pushes.IsPushInto.{received, fitted, split}
-use Rattle.bd_flush.specs.Children.{IsSplitInto, IsLongIn, IsLongPivot}
+use Rattle.bd_flush.specs.Children.{IsSplitInto, IsLongIn, IsOver}
+use Rattle.bd_flush.specs.declared.children.Halving.{Halving}
+use Rattle.bd_flush.specs.declared.children.Halving.TheVariants.{Short, Long}
 use Rattle.bd_flush.proofs.ChildSplits.{some_edge, edge_here, fits_here}
-use Rattle.bd_flush.proofs.Pushed.{batch_plain}
+use Rattle.bd_flush.proofs.Pushed.{batch_low, batch_plain}
 
 -- ---- a node's messages
 
@@ -45,43 +48,15 @@ each_rest P zero list h = h
 each_rest P (suc count) [] h = tt
 each_rest P (suc count) (m ∷ list) h = each_rest P count list h.1
 
-message_small : (m : Message) → IsMessage m → size m ≤ batch_limit
-message_small (Put key value) h = omega arith
-message_small (Del key) h = omega arith
-message_small (Patch key off bytes) h = omega arith
-message_small (Cut prefix from) h = omega arith
-message_small (Goto prefix source child) h = omega arith
-
 -- ---- the batch
-
-some_first : (list : List Message) → 1 ≤ length list → AllByRecursion IsMessage list → (m : Message) × (slice_get list 0 ≡ Some m) × IsMessage m
-some_first [] some h = absurd (omega arith)
-some_first (m ∷ list) some h = (m, refl, h.0)
-
--- where there is a message, one fits
-pub batch_some : (e : Edge) (hi : Option (List ℕ)) (list : List Message) (b : Batch) → 1 ≤ length list → AllByRecursion IsMessage list → IsBatch e hi list b → 1 ≤ b.count
-batch_some e hi list b some each is =
-    elim b.count as (λ n. b.count ≡ n → 1 ≤ n) [
-      | zero ↦ (λ none.
-          let first = some_first list some each in
-          let there : slice_get list b.count ≡ Some first.0 = subst (λ (i : ℕ). slice_get list i ≡ Some first.0) (sym none) first.1 in
-          let full : batch_limit < sum_by size b.messages + size first.0 = is.full first.0 there in
-          let moved : sum_by size b.messages ≤ sum_by size (take b.count list) = is.moved.size in
-          let empty : sum_by size (take b.count list) ≡ 0 = ap (λ (i : ℕ). sum_by size (take i list)) none in
-          let small : size first.0 ≤ batch_limit = message_small first.0 first.2 in
-          absurd (omega arith))
-      | suc n ↦ (λ some. omega arith)
-    ] refl
 
 pub end_is : (n : Node) (place : ℕ) (es : List Edge) (hi : Option (List ℕ)) → es ≡ edges_of n → hi ≡ end_before (drop (place + 1) es) → hi ≡ end_at n place
 end_is n place es hi same end = end ∙ ap (λ (l : List Edge). end_before (drop (place + 1) l)) same
 
 batch_is : (n : Node) (place : ℕ) (f : Edge) (hi : Option (List ℕ)) (list : List Message) (b : Batch) → IsShape n → IsWaitedFor n place f → hi ≡ end_at n place → list ≡ unseen n f → IsBatch f hi list b → IsEdgeBatch n place f b
 batch_is n place f hi list b h w end list_is is =
-    let more : f.seen < length (buffer_of n) = w.some in
-    let long : 1 ≤ length (unseen n f) = omega (arith, length-drop f.seen (buffer_of n)) in
     let own : IsBatch f (end_at n place) (unseen n f) b = subst (λ (o : Option (List ℕ)). IsBatch f o (unseen n f) b) end (subst (λ (l : List Message). IsBatch f hi l b) list_is is) in
-    record { batch = own; some = batch_some f (end_at n place) (unseen n f) b long (each_rest IsMessage f.seen (buffer_of n) (messages_of n h)) own }
+    record { batch = own; some = own.some w.some }
 
 pub on_batch_for : {E : Type 0} (n : Node) (place : ℕ) (f : Edge) (hi : Option (List ℕ)) (list : List Message) (r : Result Batch E) → IsShape n → IsWaitedFor n place f → hi ≡ end_at n place → list ≡ unseen n f → IfOk r (IsBatch f hi list) → IfOk r (IsEdgeBatch n place f)
 on_batch_for n place f hi list (Ok b) h w end list_is is = batch_is n place f hi list b h w end list_is is
@@ -168,42 +143,42 @@ leaf_room n place b old new leaf h =
     omega arith
 
 -- the halves in place of the leaf
-pub on_parted : {E : Type 0} (n : Node) (place count next : ℕ) (e f : Edge) (new : List Entry) (first : Node) (pivot : List ℕ) (second : Node) (r : Result (Option Parts) E) → IsEdgeAt n place e → f ≡ seen_by e count → AreHalves (Leaf new) first pivot second
-    → IfOk r (λ found. MatchOption found (IsLongIn n place f pivot) (λ parts. (m : Node) → AreHalves m first pivot second → IsSplitInto n place f m next parts.node parts.half parts.made.items))
-    → IfOk r (λ found. MatchOption found (IsLongPivot n place (Leaf new)) (λ parts. (d : Edge) → IsEdgeAt n place d → IsSplitInto n place (seen_by d count) (Leaf new) next parts.node parts.half parts.made.items))
+pub on_parted : {E : Type 0} (n : Node) (place count next : ℕ) (e f : Edge) (new : List Entry) (first : Node) (pivot : List ℕ) (second : Node) (r : Result Halving E) → IsEdgeAt n place e → f ≡ seen_by e count → AreHalves (Leaf new) first pivot second
+    → IfOk r (IsOver n place f first pivot second next) → IfOk r (IsPartedOver n place count new next)
 on_parted n place count next e f new first pivot second (Err x) here same halves is = tt
-on_parted n place count next e f new first pivot second (Ok None) here same halves is = record {
-  edge = e;
-  here = here;
-  first = first;
-  pivot = pivot;
-  second = second;
-  halves = halves;
-  long = subst (λ (g : Edge). IsLongIn n place g pivot) same is;
-}
-on_parted n place count next e f new first pivot second (Ok (Some parts)) here same halves is = λ d there.
+on_parted n place count next e f new first pivot second (Ok (Long g own)) here same halves is = (
+  subst (λ (h : Node × List ℕ × Node). AreHalves (Leaf new) h.0 h.1 h.2) (sym is.1) halves,
+  λ d there.
+      let one : e ≡ d = same_Some e d (sym here ∙ there) in (
+        is.0 ∙ same ∙ ap (λ (x : Edge). seen_by x count) one,
+        subst (λ (h : Node × List ℕ × Node). IsLongIn n place d h.1) (sym is.1) (subst (λ (x : Edge). IsLongIn n place x pivot) one (subst (λ (x : Edge). IsLongIn n place x pivot) same is.2)),
+      ),
+)
+on_parted n place count next e f new first pivot second (Ok (Short parts)) here same halves is = λ d there.
     subst (λ (x : Edge). IsSplitInto n place (seen_by x count) (Leaf new) next parts.node parts.half parts.made.items) (same_Some e d (sym here ∙ there))
     (subst (λ (g : Edge). IsSplitInto n place g (Leaf new) next parts.node parts.half parts.made.items) same (is (Leaf new) halves))
 
-pub on_split : {E : Type 0} (n : Node) (place next : ℕ) (b : Batch) (old new : List Entry) (r : Result (Option Parts) E) → IsLeafBatch n place b old new → leaf_limit < entries_size new
-    → IfOk r (λ found. MatchOption found (IsLongPivot n place (Leaf new)) (λ parts. (d : Edge) → IsEdgeAt n place d → IsSplitInto n place (seen_by d b.count) (Leaf new) next parts.node parts.half parts.made.items))
-    → IfOk r (λ found. MatchOption found (IsLongPush n place (Leaf old)) (ArePushed n place (Leaf old) next))
+pub on_split : {E : Type 0} (n : Node) (place next : ℕ) (b : Batch) (old new : List Entry) (r : Result Halving E) → IsLeafBatch n place b old new → leaf_limit < entries_size new → IfOk r (IsPartedOver n place b.count new next) → IfOk r (IsPushedOver n place (Leaf old) next)
 on_split n place next b old new (Err x) h over is = tt
-on_split n place next b old new (Ok None) h over is =
+on_split n place next b old new (Ok (Long f own)) h over is =
     let found = some_edge n place h.low in
     record {
       edge = found.0;
       here = found.1;
       batch = b;
       moved = h.batch found.0 found.1;
-      old = old;
-      new = new;
-      leaf = refl;
-      got = h.got;
-      over = over;
-      long = is;
+      seen = (is.1 found.0 found.1).0;
+      long = record {
+        old = old;
+        new = new;
+        leaf = refl;
+        got = h.got;
+        over = over;
+        halves = is.0;
+        long = (is.1 found.0 found.1).1;
+      };
     }
-on_split n place next b old new (Ok (Some parts)) h over is =
+on_split n place next b old new (Ok (Short parts)) h over is =
     let found = some_edge n place h.low in
     record {
       edge = found.0;
@@ -227,3 +202,16 @@ are_fitted n place next b old new shown parts h same fits above half_is made_is 
           (subst (λ (l : List Node). IsPushInto n place found.0 (Leaf old) b next parts.node (Leaf new) l) (sym made_is)
           (fitted old new parts.node refl h.got leaf (above found.0 found.1)));
     }
+
+-- ---- halves whose pivot would be too long
+
+pub long_fits : (n shown : Node) (place : ℕ) (m : Node) (f : Edge) (first : Node) (pivot : List ℕ) (second : Node) → shown ≡ n → IsShape n → AreLongParts shown place m f first pivot second → (e : Edge) → IsEdgeAt shown place e → FitsAt shown place e (f ∷ [])
+long_fits n shown place m f first pivot second same shape h =
+    let own : IsShape shown = subst (λ (d : Node). IsShape d) (sym same) shape in
+    subst (λ (g : Edge). (d : Edge) → IsEdgeAt shown place d → FitsAt shown place d (g ∷ [])) (sym h.seen)
+    (fits_here shown place h.edge (seen_by h.edge h.batch.count ∷ []) (seen_fits shown place h.edge (h.edge.seen + h.batch.count) own h.here (batch_low shown place h.edge h.batch own h.here h.moved)))
+
+pub long_shape : (n shown : Node) (place : ℕ) (m : Node) (f : Edge) (first : Node) (pivot : List ℕ) (second above : Node) → shown ≡ n → IsShape n → AreLongParts shown place m f first pivot second → IsCompacted (exchanged shown place (f ∷ [])) above → IsShape above
+long_shape n shown place m f first pivot second above same shape h is =
+    let own : IsShape shown = subst (λ (d : Node). IsShape d) (sym same) shape in
+    compacted_shape (exchanged shown place (f ∷ [])) above (exchanged_shape shown place h.edge (f ∷ []) own (long_fits n shown place m f first pivot second same shape h h.edge h.here)) is

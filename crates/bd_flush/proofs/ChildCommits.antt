@@ -12,7 +12,7 @@ use Rattle.bd_node.specs.Steps.{IsStep, IsInPlace, IsTableAfter, IsCommitted, Is
 use Rattle.bd_node.specs.Stores.{visited}
 use Rattle.bd_flush.specs.declared.fetching.Fetched.{Fetched}
 use Rattle.bd_flush.specs.Flushed.{IsFlushed, IsWornFor}
-use Rattle.bd_flush.specs.Children.{IsWayTo, CanSplitChild, AreFamily, IsChildStep, IsSplitChild, IsNoHigher}
+use Rattle.bd_flush.specs.Children.{IsWayTo, CanSplitChild, AreFamily, IsChildStep, IsHalved, IsNoHigher}
 use Rattle.bd_flush.proofs.Worn.{cause_weaker}
 use Rattle.bd_flush.proofs.ChildSteps.{IsChildChange, IsChildChangeOf, IsChildChanged, below_step, below_in_place, child_flushed, parent_is, child_is, made_are, no_higher, child_worn}
 use Rattle.bd_inner.proofs.Fitting.{own_shape}
@@ -83,7 +83,7 @@ split_flushed nodes t parent place child step new u h sound family after committ
     (let few : length h.split.made ≤ 1 = few_made t parent place child step h in omega arith)
 
 pub split_is : (nodes : Nodes) (t : Table) (parent : Fetched) (place : ℕ) (child : Fetched) (step : Step) (new : Nodes) (u : Table) → IsToSplitChild t parent place child step → IsSound nodes t → AreFamily nodes t parent child → IsTableAfter t step u → IsCommitted nodes t step new u
-    → IsSplitChild t parent place child new u
+    → IsHalved t parent place child new u
 split_is nodes t parent place child step new u h sound family after committed =
     let done = changed nodes t parent place child step new u h sound family after committed in
     let p : ℕ = parent.id in

@@ -1,6 +1,6 @@
 -- A child that is split below its parent.
-use Rattle.std.proofs.Common.{◌≡◌, ℕ, zero, suc, ◌+◌, ◌-◌, ◌^◌, ◌<◌, ◌≤◌, List, [], ◌∷◌, ◌++◌, length, take, drop, map, get_or, refl, sym, ap, subst, ◌∙◌, Option, None, Some, arith, inl, inr, ◌⊎◌, length-append, length-take, Result, Ok, Err}
-use Rattle.std.specs.Prelude.{slice_get, IfOk, MatchOption}
+use Rattle.std.proofs.Common.{◌≡◌, ℕ, zero, suc, ◌+◌, ◌-◌, ◌^◌, ◌<◌, ◌≤◌, List, [], ◌∷◌, ◌++◌, length, take, drop, map, get_or, refl, sym, ap, subst, ◌∙◌, Option, None, Some, arith, inl, inr, ◌⊎◌, length-append, length-take}
+use Rattle.std.specs.Prelude.{slice_get}
 use Rattle.std.specs.List.{AllByRecursion, flat_map}
 use Rattle.std.specs.Ordering.{is_lt}
 use Rattle.std.specs.Option.{option_to_list}
@@ -31,12 +31,13 @@ use Rattle.bd_inner.proofs.Fitting.{own_shape, seen_fits}
 use Rattle.bd_inner.specs.Halves.{edges_of, buffer_of, IsHalf, AreHalves}
 use Rattle.bd_inner.specs.Moving.{lifted}
 use Rattle.bd_inner.specs.Exchange.{exchanged, end_at, IsKeyOf, IsEdgeAt, FitsAt}
-use Rattle.bd_inner.proofs.Touched.{cmp_after}
+use Rattle.bd_message.proofs.Prefixes.{cmp_after}
 use Rattle.bd_inner.proofs.Compacting.{count_names, count_names-append, edge_names-lowered, compacted_shape, compacted_level, compacted_meaning, compacted_size, compacted_times}
 use Rattle.bd_inner.proofs.Exchanged.{in_range, at_place, exchanged_shape, meaning_inside, meaning_outside, meaning_without}
 use Rattle.bd_flush.specs.declared.children.Parts.{Parts}
 use Rattle.bd_flush.specs.declared.children.Side.TheVariants.{Lower, Both, Upper}
-use Rattle.bd_flush.specs.Children.{IsWayTo, parting, upper_edge, IsInside, IsSplitInto, IsSide, AreParts, IsLongIn, IsLongPivot}
+use Rattle.bd_flush.specs.Children.{IsWayTo, parting, upper_edge, IsInside, IsSplitInto, IsSide, IsOver, AreParts, IsLongPivot}
+use Rattle.bd_flush.specs.declared.children.Halving.TheVariants.{Short, Long}
 use Rattle.bd_flush.specs.Children.IsSplitInto.{parted, lower, upper}
 use Rattle.bd_flush.proofs.ChildSteps.{has_below, has_child, has_old, has_new, IsMadeBelow, IsChildChange, IsChildChangeOf}
 
@@ -46,6 +47,14 @@ at_of : (es : List Edge) (place : ℕ) → place < length es → (e : Edge) × (
 at_of [] place low = absurd (omega arith)
 at_of (e ∷ es) zero low = (e, refl)
 at_of (e ∷ es) (suc place) low = at_of es place (omega arith)
+
+within_of : (es : List Edge) (place : ℕ) (e : Edge) → slice_get es place ≡ Some e → place < length es
+within_of [] place e there = absurd (none-some e there)
+within_of (f ∷ es) zero e there = omega arith
+within_of (f ∷ es) (suc place) e there = (let low : place < length es = within_of es place e there in omega arith)
+
+pub edge_within : (n : Node) (place : ℕ) (e : Edge) → IsEdgeAt n place e → place < length (edges_of n)
+edge_within n place e here = within_of (edges_of n) place e here
 
 pub some_edge : (n : Node) (place : ℕ) → place < length (edges_of n) → (e : Edge) × IsEdgeAt n place e
 some_edge n place low = at_of (edges_of n) place low
@@ -382,17 +391,23 @@ split_change t p n place c e seen m _ _ _ s (upper first pivot second parent hal
 
 -- ---- what the parent has
 
--- what else the parent names has what it had
+-- what else the parent names is old, and not the child
+pub other_names : (nodes : Nodes) (t : Table) (p : ℕ) (n : Node) (place c : ℕ) (e : Edge) (seen : ℕ) (m : Node) (below : NodesAt) → IsSplittableOf nodes t p n place c e seen m below → (x : ℕ) → 1 ≤ times (exchanged n place []) x → (x ≡ c → ⊥) × (x < t.next)
+other_names nodes t p n place c e seen m below s x one =
+    let named : 1 ≤ times n x = omega (arith, times_apart n place c e x s.of.own.shape s.of.way) in (
+      λ same. (let once : t.count c ≡ 1 = s.once in
+          let most : times n c + one_if t.root c ≤ t.count c = counted nodes t s.sound p n s.there c in
+          let here : 1 ≤ times (exchanged n place []) c = subst (λ (i : ℕ). 1 ≤ times (exchanged n place []) i) same one in
+          omega (arith, times_apart n place c e c s.of.own.shape s.of.way, count_own c)),
+      s.of.table.below x (named_has (IsLower t (t.level p)) x (names n) s.of.own.lower named).kept,
+    )
+
+-- so it has what it had
 pub others_agree : (nodes : Nodes) (t : Table) (p : ℕ) (n : Node) (place c : ℕ) (e : Edge) (seen : ℕ) (m : Node) (below : NodesAt) (half : Node) (made : List Node) → IsSplittableOf nodes t p n place c e seen m below → AllByRecursion (Agree (has_below nodes t.next c half made) below) (names (exchanged n place []))
 others_agree nodes t p n place c e seen m below half made s =
     each_named (Agree (has_below nodes t.next c half made) below) (names (exchanged n place [])) (λ x one k.
-    let named : 1 ≤ times n x = omega (arith, times_apart n place c e x s.of.own.shape s.of.way) in
-    let low : x < t.next = s.of.table.below x (named_has (IsLower t (t.level p)) x (names n) s.of.own.lower named).kept in
-    let other : x ≡ c → ⊥ = λ same. (let once : t.count c ≡ 1 = s.once in
-    let most : times n c + one_if t.root c ≤ t.count c = counted nodes t s.sound p n s.there c in
-    let here : 1 ≤ times (exchanged n place []) c = subst (λ (i : ℕ). 1 ≤ times (exchanged n place []) i) same one in
-    omega (arith, times_apart n place c e c s.of.own.shape s.of.way, count_own c)) in
-    has_old nodes t.next c half made x other low k ∙ sym (s.others_have x other low k))
+    let other = other_names nodes t p n place c e seen m below s x one in
+    has_old nodes t.next c half made x other.0 other.1 k ∙ sym (s.others_have x other.0 other.1 k))
 
 -- what the edge asks, and what a half has there
 abbrev pub asks : NodesAt → Edge → List ℕ → Option (List ℕ)
@@ -553,9 +568,6 @@ pub at_parting : (n : Node) (place : ℕ) (f : Edge) (hi : Option (List ℕ)) (p
 at_parting n place f hi pivot key h side =
     (subst (λ (l : List ℕ). IsBelow f.pivot l) h.key_is side.0, subst (λ (l : List ℕ). IsBelowEnd l (end_at n place)) h.key_is (subst (λ (o : Option (List ℕ)). IsBelowEnd key o) h.end side.1))
 
-pub parting_long : (n : Node) (place : ℕ) (f : Edge) (hi : Option (List ℕ)) (pivot key : List ℕ) → IsParting n place f hi pivot key → IsSide f hi key Both → key_limit < length key → IsLongIn n place f pivot
-parting_long n place f hi pivot key h side long = (at_parting n place f hi pivot key h side, subst (λ (l : List ℕ). key_limit < length l) h.key_is long)
-
 pub parting_fits : (n : Node) (place : ℕ) (f : Edge) (hi : Option (List ℕ)) (pivot key : List ℕ) (next : ℕ) → IsParting n place f hi pivot key → IsSide f hi key Both → length key ≤ key_limit → length (edges_of n) ≤ 14 → 1 ≤ next → next < 2 ^ 64
     → (d : Edge) → IsEdgeAt n place d → FitsAt n place d (f ∷ upper_edge f key next ∷ [])
 parting_fits n place f hi pivot key next h side short few some small =
@@ -592,9 +604,8 @@ parting_upper n place f hi first pivot second key next parts h side one m halves
     one_into n place f m next second parts (upper first pivot second parts.node halves (λ below. side (subst (λ (l : List ℕ). IsBelow f.pivot l) (sym h.key_is) below)) one.0) one
 
 -- what of a child's split follows
-pub on_over : {E : Type 0} (n : Node) (place : ℕ) (e : Edge) (m : Node) (next : ℕ) (first : Node) (pivot : List ℕ) (second : Node) (r : Result (Option Parts) E) → IsEdgeAt n place e → AreHalves m first pivot second
-    → IfOk r (λ found. MatchOption found (IsLongIn n place e pivot) (λ parts. (d : Node) → AreHalves d first pivot second → IsSplitInto n place e d next parts.node parts.half parts.made.items))
-    → IfOk r (λ found. MatchOption found (IsLongPivot n place m) (AreParts n place m next))
-on_over n place e m next first pivot second (Err x) here halves is = tt
-on_over n place e m next first pivot second (Ok None) here halves is = record { edge = e; here = here; first = first; pivot = pivot; second = second; halves = halves; long = is }
-on_over n place e m next first pivot second (Ok (Some parts)) here halves is = record { edge = e; here = here; into = is m halves }
+pub short_is : (n : Node) (place : ℕ) (e : Edge) (m : Node) (next : ℕ) (first : Node) (pivot : List ℕ) (second : Node) (parts : Parts) → IsEdgeAt n place e → AreHalves m first pivot second → IsOver n place e first pivot second next (Short parts) → AreParts n place m next parts
+short_is n place e m next first pivot second parts here halves is = record { edge = e; here = here; into = is m halves }
+
+pub long_is : (n : Node) (place : ℕ) (e : Edge) (m : Node) (next : ℕ) (first : Node) (pivot : List ℕ) (second : Node) (f : Edge) (own : Node × List ℕ × Node) → IsEdgeAt n place e → AreHalves m first pivot second → IsOver n place e first pivot second next (Long f own) → IsLongPivot n place m
+long_is n place e m next first pivot second f own here halves is = record { edge = e; here = here; first = first; pivot = pivot; second = second; halves = halves; long = is.2 }

@@ -1,7 +1,8 @@
 -- The way down.
-use Rattle.std.proofs.Common.{◌≡◌, ◌↔◌, ℕ, ◌+◌, ◌<◌, ◌≤◌, Bool, true, false, not, List, length, drop, get_or, refl, sym, ap, subst, ◌∙◌, Option, None, Some, IsTrue, arith, inl, inr}
+use Rattle.std.proofs.Common.{◌≡◌, ◌↔◌, ℕ, ◌+◌, ◌<◌, ◌≤◌, Bool, true, false, not, List, [], ◌∷◌, ◌++◌, length, drop, reverse, get_or, refl, sym, ap, subst, ◌∙◌, Option, None, Some, IsTrue, arith, inl, inr}
 use Rattle.std.specs.List.{AllByRecursion}
 use Rattle.std.proofs.lemmas.Option.{same_Some}
+use Rattle.std.proofs.lemmas.List.{reverse-append}
 use Rattle.bd_limits.specs.Limits.{soft_limit}
 use Rattle.bd_keys.specs.Keys.{IsBelowEnd}
 use Rattle.bd_message.specs.declared.message.Message.{Message}
@@ -23,8 +24,10 @@ use Rattle.bd_inner.proofs.Fitting.{own_shape}
 use Rattle.bd_flush.specs.declared.fetching.Fetched.{Fetched}
 use Rattle.bd_flush.specs.Children.{IsFetched, IsWayTo}
 use Rattle.bd_inner.specs.Moving.{IsPlainFor}
-use Rattle.bd_flush.specs.Ways.{IsFullestAt, IsOnWay, IsTarget, IsReadyToPush, IsNamed, IsNext, IsHigh, IsThere}
+use Rattle.bd_flush.specs.Ways.{IsFullestAt, IsOnWay, IsTarget, IsReadyToPush, IsNamed, IsNext, IsHigh, IsThere, AreThere}
 use Rattle.bd_flush.specs.Ways.IsOnWay.{at_root, below}
+use Rattle.bd_flush.specs.Raising.{IsWayUp}
+use Rattle.bd_flush.specs.Raising.IsWayUp.{top, one_up}
 use Rattle.bd_flush.proofs.ChildSplits.{edge_here, child_named}
 
 -- ---- Gotos
@@ -92,12 +95,13 @@ target_here : (t : Table) (n : Node) (place : ℕ) (e : Edge) (child : Option Fe
 target_here t n place e None h = h.0
 target_here t n place e (Some child) h = h.0.here
 
-pub to_carve : (t : Table) (parent : Fetched) (n : Node) (place : ℕ) (child : Option Fetched) → n ≡ parent.node.value → ((d : Edge) → IsEdgeAt n place d → ArePlain n place d → ⊥) → IsFetched t parent → IsFullestAt parent.node.value place → (e : Edge)
+pub to_carve : (t : Table) (parent : Fetched) (n : Node) (place : ℕ) (child : Option Fetched) → n ≡ parent.node.value → ((d : Edge) → IsEdgeAt n place d → ArePlain n place d → ⊥) → IsFetched t parent → length (edges_of parent.node.value) ≤ 14 → IsFullestAt parent.node.value place → (e : Edge)
     → IsTarget t parent.node.value place e child → IsNamed t parent place
-to_carve t parent n place child same goto fetched fullest e target =
+to_carve t parent n place child same goto fetched room fullest e target =
     let here : IsEdgeAt parent.node.value place e = target_here t parent.node.value place e child target in
     record {
       parent_is = fetched;
+      room = room;
       fullest = fullest;
       edge = e;
       here = here;
@@ -185,3 +189,21 @@ pub first_visit : (t : Table) (id before now : ℕ) → id ≡ t.root → now �
 first_visit t id before now same is =
     let level : t.level id ≡ t.level t.root = ap t.level same in
     omega arith
+
+-- ---- the way upwards
+
+pub way_more : (t : Table) (above pushed : List Fetched) (parent : Fetched) (place c : ℕ) (e : Edge) → pushed ≡ above ++ (parent ∷ []) → IsFetched t parent → IsWayTo parent.node.value place c e → t.count c ≡ 1 → IsWayUp t parent.id (reverse above) → IsWayUp t c (reverse pushed)
+way_more t above pushed parent place c e more fetched way once up =
+    subst (λ (l : List Fetched). IsWayUp t c l) (sym (ap (λ (l : List Fetched). reverse l) more ∙ reverse-append above (parent ∷ [])))
+    (one_up c place parent e (reverse above) fetched way once up)
+
+pub root_way : (t : Table) (id : ℕ) (above : List Fetched) → id ≡ t.root → above ≡ [] → IsWayUp t id (reverse above)
+root_way t id above same none =
+    subst (λ (l : List Fetched). IsWayUp t id (reverse l)) (sym none) (subst (λ (i : ℕ). IsWayUp t i []) (sym same) top)
+
+pub none_there : (nodes : Nodes) (t : Table) (above : List Fetched) → above ≡ [] → AreThere nodes t (reverse above)
+none_there nodes t above none = subst (λ (l : List Fetched). AreThere nodes t (reverse l)) (sym none) tt
+
+-- the child that was asked, as it was fetched
+pub way_fetched : (n m : Node) (place c id : ℕ) → m ≡ n → id ≡ c → (asked : (e : Edge) × IsWayTo m place c e) → IsWayTo n place id asked.0
+way_fetched n m place c id same is asked = subst (λ (i : ℕ). IsWayTo n place i asked.0) (sym is) (subst (λ (d : Node). IsWayTo d place c asked.0) same asked.1)

@@ -1,20 +1,17 @@
 -- The commit of a push.
-use Rattle.std.proofs.Common.{◌≡◌, ℕ, ◌+◌, ◌^◌, ◌<◌, ◌≤◌, length, refl, sym, ap, subst, ◌∙◌, arith, Err}
+use Rattle.std.proofs.Common.{◌≡◌, ℕ, ◌+◌, ◌^◌, ◌<◌, ◌≤◌, length, refl, sym, ap, subst, ◌∙◌, arith}
 use Rattle.std.proofs.lemmas.Option.{same_Some}
-use Rattle.bd_message.specs.declared.fault.MapFault.{MapFault}
-use Rattle.bd_message.specs.KeyMaps.{HasMapCause}
+use Rattle.bd_message.specs.declared.fault.Counter.{Counter}
 use Rattle.bd_node.specs.declared.node.Edge.{Edge}
 use Rattle.bd_node.specs.declared.node.Step.{Step}
 use Rattle.bd_node.specs.Nodes.{buffer_size}
 use Rattle.bd_node.specs.Meaning.{Nodes}
 use Rattle.bd_node.specs.Tables.{Table, IsTable, IsLower, IsSound}
 use Rattle.bd_node.specs.Steps.{IsStep, IsInPlace, IsTableAfter, IsCommitted, IsWornBy}
-use Rattle.bd_node.specs.Stores.{visited}
 use Rattle.bd_flush.specs.declared.fetching.Fetched.{Fetched}
 use Rattle.bd_flush.specs.Flushed.{IsFlushed, IsWornFor}
 use Rattle.bd_flush.specs.Children.{IsWayTo, AreFamily, IsNoHigher}
 use Rattle.bd_flush.specs.Pushes.{IsWaitedFor, CanPush, IsPushStep, IsPushed}
-use Rattle.bd_flush.proofs.Worn.{cause_weaker}
 use Rattle.bd_flush.proofs.ChildSteps.{IsChildChange, IsChildChangeOf, IsChildChanged, below_step, below_in_place, child_flushed, parent_is, child_is, made_are, no_higher, child_worn}
 use Rattle.bd_flush.proofs.ChildSplits.{IsSplittable, at_child, lower_child}
 use Rattle.bd_flush.proofs.Pushed.{batch_low, IsPushable, push_change, push_change_of, push_few, push_named, push_size}
@@ -25,15 +22,6 @@ pub record IsToPush (t : Table) (parent : Fetched) (place : ℕ) (child : Fetche
   pub next : t.next < 2 ^ 64
   pub can : CanPush t parent place child
   pub push : IsPushStep t.root t.next parent place child step
-
-pub is_to_push : (t : Table) (parent : Fetched) (place : ℕ) (child : Fetched) (step : Step) (root next : ℕ) → IsTable t → CanPush t parent place child → root ≡ t.root → next ≡ t.next → next < 2 ^ 64 → IsPushStep root next parent place child step
-    → IsToPush t parent place child step
-is_to_push t parent place child step root next table can same_root same_next room push = record {
-  table = table;
-  next = omega arith;
-  can = can;
-  push = subst (λ (i : ℕ). IsPushStep t.root i parent place child step) same_next (subst (λ (r : ℕ). IsPushStep r next parent place child step) same_root push);
-}
 
 same_edge : (t : Table) (parent : Fetched) (place : ℕ) (child : Fetched) (step : Step) → (h : IsToPush t parent place child step) → h.can.edge ≡ h.push.edge
 same_edge t parent place child step h = same_Some h.can.edge h.push.edge (sym h.can.way.here ∙ h.push.here)
@@ -127,15 +115,13 @@ push_no_higher t parent place child step u h after =
     (λ root. let is : buffer_size parent.node.value ≡ t.size = h.can.parent_is.root root in omega arith)
     (λ root. absurd (let same : t.level child.id ≡ t.level t.root = ap t.level root in omega arith))
 
-pub push_visits : (t : Table) (parent : Fetched) (place : ℕ) (child : Fetched) (step : Step) (before now : ℕ) → IsToPush t parent place child step → now ≡ visited before (length step.made) → now ≤ before + 1
-push_visits t parent place child step before now h is =
+pub push_made : (t : Table) (parent : Fetched) (place : ℕ) (child : Fetched) (step : Step) → IsToPush t parent place child step → length step.made ≤ 1
+push_made t parent place child step h =
     let few : length h.push.made ≤ 1 = few_made t parent place child step h in
     let same : length step.made ≡ length h.push.made = ap (λ (q : Step). length q.made) h.push.is in
     omega arith
 
-pub push_cause : {T U : Type 0} (before now : ℕ) (bad : ℕ → Type 0) (t : Table) (parent : Fetched) (place : ℕ) (child : Fetched) (step : Step) (e : MapFault) → IsToPush t parent place child step → HasMapCause {T = T} before now bad (IsWornBy t step) (Err e)
-    → HasMapCause {T = U} before now bad (IsWornFor t) (Err e)
-push_cause {T} {U} before now bad t parent place child step e h cause =
-    cause_weaker {T = U} before now bad (IsWornBy t step) (IsWornFor t)
-    (λ counter worn. child_worn t parent.id h.push.node child.id h.push.half h.push.made (change t parent place child step h) (let few : length h.push.made ≤ 1 = few_made t parent place child step h in omega arith) counter
-    (subst (λ (q : Step). IsWornBy t q counter) h.push.is worn)) (Err e) (record { later = cause.later; failed = cause.failed })
+pub push_worn : (t : Table) (parent : Fetched) (place : ℕ) (child : Fetched) (step : Step) → IsToPush t parent place child step → (counter : Counter) → IsWornBy t step counter → IsWornFor t counter
+push_worn t parent place child step h counter worn =
+    child_worn t parent.id h.push.node child.id h.push.half h.push.made (change t parent place child step h) (let few : length h.push.made ≤ 1 = few_made t parent place child step h in omega arith) counter
+    (subst (λ (q : Step). IsWornBy t q counter) h.push.is worn)

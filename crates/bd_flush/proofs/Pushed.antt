@@ -14,7 +14,7 @@ use Rattle.bd_node.specs.Nodes.{level_of, buffer_size, names, times, node_at, ap
 use Rattle.bd_node.specs.Meaning.{Nodes, at}
 use Rattle.bd_node.specs.Shape.{IsLeaf, IsShape}
 use Rattle.bd_node.specs.Tables.{Table, IsLower, IsNodeOf}
-use Rattle.bd_node.proofs.Lookup.{named_has, node_has-key}
+use Rattle.bd_node.proofs.Lookup.{Agree, named_has, node_has-key}
 use Rattle.bd_node.proofs.Appending.{shape_appended, level_appended, names_appended, acts-plain, node_at-appended}
 use Rattle.bd_inner.specs.declared.batches.Batch.{Batch}
 use Rattle.bd_inner.specs.Halves.{buffer_of}
@@ -61,20 +61,26 @@ HasReceived below n place e m list low =
     (k : List ℕ) → IsKey k → IsKeyOf n place e k → node_at below low (drop e.lift k) ≡ acts below list (drop e.lift k) (node_at below m (drop e.lift k))
 
 -- the node whose edge has seen more, over what its child has become
-relieved_inside : (nodes : Nodes) (t : Table) (p : ℕ) (n : Node) (place c : ℕ) (e : Edge) (m : Node) (b : Batch) (low : Node) → IsSplittableOf nodes t p n place c e (e.seen + b.count) m (at nodes) → IsEdgeBatch n place e b → AllByRecursion IsPlain b.messages
-    → HasReceived (at nodes) n place e m b.messages low → (k : List ℕ) → IsKey k → node_at (has_below nodes t.next c low []) (exchanged n place (seen_by e b.count ∷ [])) k ≡ node_at (at nodes) n k
-relieved_inside nodes t p n place c e m b low s is plain got k key =
-    let has : NodesAt = has_below nodes t.next c low [] in
+pub relieved_inside : (nodes : Nodes) (t : Table) (p : ℕ) (n : Node) (place c : ℕ) (e : Edge) (m : Node) (b : Batch) (has : NodesAt) → IsSplittableOf nodes t p n place c e (e.seen + b.count) m (at nodes) → IsEdgeBatch n place e b → AllByRecursion IsPlain b.messages
+    → ((k : List ℕ) → IsKey k → IsKeyOf n place e k → has c (drop e.lift k) ≡ acts (at nodes) b.messages (drop e.lift k) (node_at (at nodes) m (drop e.lift k))) → AllByRecursion (Agree has (at nodes)) (names (exchanged n place []))
+    → (k : List ℕ) → IsKey k → node_at has (exchanged n place (seen_by e b.count ∷ [])) k ≡ node_at (at nodes) n k
+relieved_inside nodes t p n place c e m b has s is plain got others k key =
     let f : Edge = seen_by e b.count in
     pushed (at nodes) has n place e f b.count b.messages s.of.own.shape (one_fits t p n place c e (e.seen + b.count) m s.of) refl (moved_seen e (end_at n place) b.count (take b.count (unseen n e)) b.messages is.batch.moved)
     (λ l key_l range.
     let x : List ℕ = drop e.lift l in
     asks_at has f c l s.of.way.child_is s.of.way.plain
-    ∙ has_child nodes t.next c low [] x
-    ∙ node_has-key (at nodes) low x (IsKey-drop e.lift l key_l)
     ∙ got l key_l range
     ∙ ap (λ (o : Option (List ℕ)). acts (at nodes) b.messages x o) (sym (s.child_has x (IsKey-drop e.lift l key_l)) ∙ sym (asks_at (at nodes) e c l s.of.way.child_is s.of.way.plain))
     ∙ acts_alike (at nodes) has b.messages x (asks (at nodes) e l) plain)
+    others k key
+
+-- where the child is changed alone
+low_inside : (nodes : Nodes) (t : Table) (p : ℕ) (n : Node) (place c : ℕ) (e : Edge) (m : Node) (b : Batch) (low : Node) → IsSplittableOf nodes t p n place c e (e.seen + b.count) m (at nodes) → IsEdgeBatch n place e b → AllByRecursion IsPlain b.messages
+    → HasReceived (at nodes) n place e m b.messages low → (k : List ℕ) → IsKey k → node_at (has_below nodes t.next c low []) (exchanged n place (seen_by e b.count ∷ [])) k ≡ node_at (at nodes) n k
+low_inside nodes t p n place c e m b low s is plain got k key =
+    relieved_inside nodes t p n place c e m b (has_below nodes t.next c low []) s is plain
+    (λ l key_l range. has_child nodes t.next c low [] (drop e.lift l) ∙ node_has-key (at nodes) low (drop e.lift l) (IsKey-drop e.lift l key_l) ∙ got l key_l range)
     (others_agree nodes t p n place c e (e.seen + b.count) m (at nodes) low [] s) k key
 
 relieved_change_of : (nodes : Nodes) (t : Table) (p : ℕ) (n : Node) (place c : ℕ) (e : Edge) (m : Node) (b : Batch) (parent low : Node) → IsSplittableOf nodes t p n place c e (e.seen + b.count) m (at nodes) → IsEdgeBatch n place e b → AllByRecursion IsPlain b.messages
@@ -89,7 +95,7 @@ relieved_change_of nodes t p n place c e m b parent low s is plain r got change 
   meaning = λ k key.
       let list : List Edge = seen_by e b.count ∷ [] in
       compacted_meaning (has_below nodes t.next c low []) (exchanged n place list) parent (exchanged_shape n place e list s.of.own.shape (one_fits t p n place c e (e.seen + b.count) m s.of)) r k
-      ∙ relieved_inside nodes t p n place c e m b low s is plain got k key;
+      ∙ low_inside nodes t p n place c e m b low s is plain got k key;
 }
 
 -- ---- each way
@@ -117,7 +123,7 @@ received_change t p n place c e m b parent s r =
 leaf_level : (t : Table) (c : ℕ) (m : Node) (old new : List Entry) → m ≡ Leaf old → level_of m ≡ t.level c → level_of (Leaf new) ≡ t.level c
 leaf_level t c m old new leaf is = sym (ap level_of leaf) ∙ is
 
-leaf_received : (below : NodesAt) (n : Node) (place : ℕ) (e : Edge) (m : Node) (old new : List Entry) (list : List Message) → m ≡ Leaf old → IsReceived old list new → HasReceived below n place e m list (Leaf new)
+pub leaf_received : (below : NodesAt) (n : Node) (place : ℕ) (e : Edge) (m : Node) (old new : List Entry) (list : List Message) → m ≡ Leaf old → IsReceived old list new → HasReceived below n place e m list (Leaf new)
 leaf_received below n place e m old new list is got k key range =
     let x : List ℕ = drop e.lift k in
     got.acted below x ∙ ap (λ (d : Node). acts below list x (node_at below d x)) (sym is)
@@ -166,7 +172,7 @@ whole_change_of nodes t p n place c e m b old new parent half made s is plain le
       names_it = child_named n place c e s.of.own.shape s.of.way;
       meaning = λ k key.
           split_meaning nodes t p n place c e seen (Leaf new) (has_below nodes t.next c (Leaf new) []) parent half made whole into k key
-          ∙ relieved_inside nodes t p n place c e m b (Leaf new) s is plain (leaf_received (at nodes) n place e m old new b.messages leaf got) k key;
+          ∙ low_inside nodes t p n place c e m b (Leaf new) s is plain (leaf_received (at nodes) n place e m old new b.messages leaf got) k key;
     }
 
 -- ---- what a push changes

@@ -1,5 +1,5 @@
 -- Nodes that rise by one level.
-use Rattle.std.proofs.Common.{◌≡◌, ℕ, ◌+◌, ◌<◌, ◌≤◌, List, [], ◌∷◌, ◌++◌, length, map, reverse, refl, sym, ap, subst, ◌∙◌, arith, Option, None, Some, Result, Ok, Err, IfOk, MatchOption}
+use Rattle.std.proofs.Common.{◌≡◌, ℕ, ◌+◌, ◌<◌, ◌≤◌, List, [], ◌∷◌, ◌++◌, length, map, reverse, sym, ap, subst, ◌∙◌, arith, Option, None, Some, Result, Ok, Err, IfOk, MatchOption}
 use Rattle.std.specs.List.{AllByRecursion, IsLastAndRest}
 use Rattle.std.proofs.lemmas.List.{reverse-append, append-nil, append_assoc}
 use Rattle.bd_limits.specs.Limits.{level_limit}
@@ -9,7 +9,8 @@ use Rattle.bd_node.specs.declared.node.Node.TheVariants.{Leaf, Inner}
 use Rattle.bd_node.specs.Nodes.{level_of}
 use Rattle.bd_node.specs.Shape.{IsShape}
 use Rattle.bd_flush.specs.declared.fetching.Fetched.{Fetched}
-use Rattle.bd_flush.specs.Raising.{raised, raise, IsRising, CannotRise, AreRaised}
+use Rattle.bd_flush.specs.Raising.{raised, raise, IsRising, CannotRise, AreRaised, AreChangesOver, CannotRiseOver}
+use Rattle.bd_flush.specs.Raising.IsRaisedOver.{is_above, rises_too}
 use Rattle.bd_flush.specs.Raising.IsRising.{at_top, high_enough, rises}
 use Rattle.bd_flush.specs.Raising.CannotRise.{here, further}
 
@@ -26,34 +27,51 @@ pub all_raised : (level : ℕ) (above : List Fetched) (changes : List Change) �
 all_raised level [] changes none = none_more level [] changes (at_top level)
 all_raised level (f ∷ above) changes none = absurd (omega arith)
 
-pub raised_high : (level own : ℕ) (above others : List Fetched) (f : Fetched) (changes : List Change) → IsLastAndRest above f others → own ≡ level_of f.node.value → level < own → AreRaised level (reverse above) changes changes
-raised_high level own above others f changes parts is high =
-    subst (λ (l : List Fetched). AreRaised level l changes changes) (sym (upwards above others f parts)) (none_more level (f ∷ reverse others) changes (high_enough level f (reverse others) (omega arith)))
+pub raised_high : (level own : ℕ) (way rest : List Fetched) (f : Fetched) (changes : List Change) → way ≡ f ∷ rest → own ≡ level_of f.node.value → level < own → AreRaised level way changes changes
+raised_high level own way rest f changes parts is high = subst (λ (l : List Fetched). AreRaised level l changes changes) (sym parts) (none_more level (f ∷ rest) changes (high_enough level f rest (omega arith)))
 
 pub level_high : (n : Node) → IsShape n → level_of n ≤ level_limit
 level_high (Leaf entries) h = omega arith
 level_high (Inner level edges buffer) h = h.high
 
-pub cannot : (level own : ℕ) (above others : List Fetched) (f : Fetched) → AllByRecursion (λ (g : Fetched). IsShape g.node.value) (reverse above) → IsLastAndRest above f others → own ≡ level_of f.node.value → own ≤ level → level_limit ≤ own → CannotRise level (reverse above)
-cannot level own above others f shapes parts is low last =
-    let up : reverse above ≡ f ∷ reverse others = upwards above others f parts in
-    let shape : IsShape f.node.value = (subst (λ (l : List Fetched). AllByRecursion (λ (g : Fetched). IsShape g.node.value) l) up shapes).0 in
-    subst (λ (l : List Fetched). CannotRise level l) (sym up) (here level f (reverse others) (omega arith) (omega (arith, level_high f.node.value shape)))
+pub cannot : (level own : ℕ) (way rest : List Fetched) (f : Fetched) → AllByRecursion (λ (g : Fetched). IsShape g.node.value) way → way ≡ f ∷ rest → own ≡ level_of f.node.value → own ≤ level → level_limit ≤ own → CannotRise level way
+cannot level own way rest f shapes parts is low last =
+    let shape : IsShape f.node.value = (subst (λ (l : List Fetched). AllByRecursion (λ (g : Fetched). IsShape g.node.value) l) parts shapes).0 in
+    subst (λ (l : List Fetched). CannotRise level l) (sym parts) (here level f rest (omega arith) (omega (arith, level_high f.node.value shape)))
 
-pub more_raised : {V E : Type 0} (items : V → List Change) (level own : ℕ) (above others : List Fetched) (f : Fetched) (changes pushed : List Change) (n : Node) (r : Result (Option V) E) → IsLastAndRest above f others → own ≡ level_of f.node.value → own ≤ level → own < level_limit
+pub more_raised : {V E : Type 0} (items : V → List Change) (level own : ℕ) (way rest : List Fetched) (f : Fetched) (changes pushed : List Change) (n : Node) (r : Result (Option V) E) → way ≡ f ∷ rest → own ≡ level_of f.node.value → own ≤ level → own < level_limit
     → pushed ≡ changes ++ (record { id = f.id; node = n } ∷ []) → n ≡ raised f.node.value
-    → IfOk r (λ found. MatchOption found (CannotRise (own + 1) (reverse others)) (λ all. AreRaised (own + 1) (reverse others) pushed (items all)))
-    → IfOk r (λ found. MatchOption found (CannotRise level (reverse above)) (λ all. AreRaised level (reverse above) changes (items all)))
-more_raised items level own above others f changes pushed n (Ok None) parts is low room more same h =
-    subst (λ (l : List Fetched). CannotRise level l) (sym (upwards above others f parts))
-    (further level f (reverse others) (omega arith) (subst (λ (i : ℕ). CannotRise (i + 1) (reverse others)) is h))
-more_raised items level own above others f changes pushed n (Ok (Some all)) parts is low room more same h =
-    subst (λ (l : List Fetched). AreRaised level l changes (items all)) (sym (upwards above others f parts)) (record {
+    → IfOk r (λ found. MatchOption found (CannotRise (own + 1) rest) (λ all. AreRaised (own + 1) rest pushed (items all)))
+    → IfOk r (λ found. MatchOption found (CannotRise level way) (λ all. AreRaised level way changes (items all)))
+more_raised items level own way rest f changes pushed n (Ok None) parts is low room more same h =
+    subst (λ (l : List Fetched). CannotRise level l) (sym parts) (further level f rest (omega arith) (subst (λ (i : ℕ). CannotRise (i + 1) rest) is h))
+more_raised items level own way rest f changes pushed n (Ok (Some all)) parts is low room more same h =
+    subst (λ (l : List Fetched). AreRaised level l changes (items all)) (sym parts) (record {
       rising = f ∷ h.rising;
-      rise = rises level f (reverse others) h.rising (omega arith) (omega arith) (subst (λ (i : ℕ). IsRising (i + 1) (reverse others) h.rising) is h.rise);
+      rise = rises level f rest h.rising (omega arith) (omega arith) (subst (λ (i : ℕ). IsRising (i + 1) rest h.rising) is h.rise);
       are =
           h.are
           ∙ ap (λ (l : List Change). l ++ map raise h.rising) (more ∙ ap (λ (d : Node). changes ++ (record { id = f.id; node = d } ∷ [])) same)
           ∙ append_assoc changes (raise f ∷ []) (map raise h.rising);
     })
-more_raised items level own above others f changes pushed n (Err e) parts is low room more same h = tt
+more_raised items level own way rest f changes pushed n (Err e) parts is low room more same h = tt
+
+-- ---- over a child
+
+pub none_over : (level own : ℕ) (child parent : Change) (above : List Fetched) (changes : List Change) → level ≡ level_of child.node → own ≡ level_of parent.node → level < own → changes ≡ child ∷ parent ∷ [] → AreChangesOver child parent (reverse above) changes
+none_over level own child parent above changes is own_is more are = record { node = parent.node; rising = []; rise = is_above (omega arith); are = are }
+
+pub on_over : {V E : Type 0} (items : V → List Change) (level own : ℕ) (child parent : Change) (above : List Fetched) (pushed : List Change) (n : Node) (r : Result (Option V) E) → level ≡ level_of child.node → own ≡ level_of parent.node → own ≤ level
+    → pushed ≡ child ∷ record { id = parent.id; node = n } ∷ [] → n ≡ raised parent.node
+    → IfOk r (λ found. MatchOption found (CannotRise (own + 1) (reverse above)) (λ all. AreRaised (own + 1) (reverse above) pushed (items all)))
+    → IfOk r (λ found. MatchOption found (CannotRiseOver (level_of child.node) parent.node (reverse above)) (λ all. AreChangesOver child parent (reverse above) (items all)))
+on_over items level own child parent above pushed n (Err e) is own_is low are same h = tt
+on_over items level own child parent above pushed n (Ok None) is own_is low are same h = (omega arith, subst (λ (i : ℕ). CannotRise (i + 1) (reverse above)) own_is h)
+on_over items level own child parent above pushed n (Ok (Some all)) is own_is low are same h = record {
+  node = raised parent.node;
+  rising = h.rising;
+  rise = rises_too h.rising (omega arith) (subst (λ (i : ℕ). IsRising (i + 1) (reverse above) h.rising) own_is h.rise);
+  are =
+      h.are
+      ∙ ap (λ (l : List Change). l ++ map raise h.rising) (are ∙ ap (λ (d : Node). child ∷ record { id = parent.id; node = d } ∷ []) same);
+}

@@ -1,40 +1,48 @@
--- A root that is split.
-use Rattle.std.proofs.Common.{◌≡◌, ℕ, ◌+◌, ◌-◌, ◌^◌, ◌<◌, ◌≤◌, cond, List, [], ◌∷◌, length, refl, sym, ap, subst, ◌∙◌, Option, Some, arith, inl, inr, ltb, Result, Ok, Err, OnOk}
+-- A node that is put above its halves: the root that is split, or a child between its parent and its
+-- halves, where the nodes above rise.
+use Rattle.std.proofs.Common.{◌≡◌, ℕ, ◌+◌, ◌-◌, ◌^◌, ◌<◌, ◌≤◌, List, [], ◌∷◌, length, map, refl, sym, ap, subst, ◌∙◌, Option, Some, arith, inl, inr, IsSome, Result, Ok, Err, OnOk, ◌⊎◌}
 use Rattle.std.specs.Prelude.{slice_get}
+use Rattle.std.specs.List.{AllByRecursion}
 use Rattle.std.specs.Ordering.{is_lt}
-use Rattle.std.proofs.lemmas.Bool.{cases_lt, cases_Bool, lt-ltb, le-ltb, cond-true, cond-false}
-use Rattle.std.proofs.lemmas.Option.{none-some}
-use Rattle.std.proofs.lemmas.List.Sums.{sum_by-cons}
+use Rattle.std.proofs.lemmas.Bool.{cases_lt, cases_eq, cases_Bool, cond-true, cond-false}
+use Rattle.std.proofs.lemmas.Option.{same_Some, none-some}
 use Rattle.bd_limits.specs.Limits.{key_limit, level_limit}
 use Rattle.bd_keys.specs.Keys.{IsKey, IsBelow, IsAtLeast, key_cmp}
-use Rattle.bd_message.specs.declared.fault.Counter.{Counter}
-use Rattle.bd_message.specs.declared.fault.Counter.TheVariants.{Count, NextId, Level, Refs, Epoch, Flushes}
 use Rattle.bd_message.specs.declared.fault.MapFault.{MapFault}
 use Rattle.bd_message.specs.KeyMaps.{HasMapCause}
 use Rattle.bd_message.specs.Effect.{NodesAt}
+use Rattle.bd_message.specs.declared.fault.Counter.{Counter}
 use Rattle.bd_node.specs.declared.node.Edge.{Edge}
 use Rattle.bd_node.specs.declared.node.Node.{Node}
+use Rattle.bd_node.specs.declared.node.Node.TheVariants.{Leaf, Inner}
 use Rattle.bd_node.specs.declared.node.Change.{Change}
 use Rattle.bd_node.specs.declared.node.Step.{Step}
-use Rattle.bd_node.specs.Nodes.{level_of, names, times, through, node_at, node_has}
+use Rattle.bd_node.specs.Nodes.{level_of, buffer_size, names, times, through, node_at, node_has}
 use Rattle.bd_node.specs.Meaning.{Nodes, at, found_at}
 use Rattle.bd_node.specs.Shape.{IsShape}
-use Rattle.bd_node.specs.Tables.{Table, IsKept, IsTable, IsLower, IsNodeOf, IsSound, one_if}
-use Rattle.bd_node.specs.Steps.{level_or, level_after, given_times, IsNamable, IsPut, IsStep, IsInPlace, IsTableAfter, IsCommitted, IsWornBy, IsKeeping}
-use Rattle.bd_node.specs.Steps.HasRoom.{of_root}
-use Rattle.bd_node.proofs.Lookup.{Agree, each_named, named_has, node_has-same, node_has-key, count-cons_same, count-cons_le}
+use Rattle.bd_node.specs.Tables.{Table, IsKept, IsTable, IsLower, IsNodeOf, IsSound}
+use Rattle.bd_node.specs.Steps.{given, level_or, IsStep, IsInPlace, IsTableAfter, IsCommitted, IsWornBy}
+use Rattle.bd_node.proofs.Lookup.{Agree, each_weaker, each_named, named_has, node_has-key, count-cons_same, count-cons_le}
 use Rattle.bd_node.proofs.Meanings.{at-meets}
-use Rattle.bd_node.proofs.Sound.{sound-levelled, named_lower}
-use Rattle.bd_node.proofs.Privacy.{root_private}
-use Rattle.bd_node.proofs.Stepping.{keeping_meaning, after-none, given_stays}
-use Rattle.bd_node.proofs.Closing.{stay_above}
+use Rattle.bd_node.proofs.Sound.{sound-levelled, named_lower, kept_there}
+use Rattle.bd_node.proofs.Stepping.{by_given, no_some, given-old, after-none, given_stays}
 use Rattle.bd_node.proofs.Edges.{less_lt, lt_is, lt_isnt, not_less_lt}
 use Rattle.bd_inner.specs.Halves.{IsHalf, AreHalves}
-use Rattle.bd_flush.specs.Flushed.{LeadsTo, IsFlushed, IsWornFor}
+use Rattle.bd_flush.specs.declared.fetching.Fetched.{Fetched}
+use Rattle.bd_flush.specs.Flushed.{IsFlushed, IsWornFor}
 use Rattle.bd_flush.specs.Flushed.LeadsTo.{itself}
+use Rattle.bd_flush.specs.Children.{IsFetched, IsWayTo, IsContents}
+use Rattle.bd_flush.specs.Paths.{path_step}
 use Rattle.bd_flush.specs.Splits.{plain_edge, over_two, root_split, IsRootSplit, IsSplitRoot, IsRaised}
-use Rattle.bd_flush.proofs.Worn.{times_few, one_if_few, cause_weaker}
-use Rattle.bd_flush.proofs.Givens.{given_first, given_second, given_made, given_changed, given_unchanged, given_one}
+use Rattle.bd_flush.specs.Raising.{raised, raise, IsWayUp, IsRising}
+use Rattle.bd_flush.specs.Raising.IsWayUp.{top, one_up}
+use Rattle.bd_flush.specs.Raising.IsRising.{at_top, high_enough, rises}
+use Rattle.bd_flush.specs.Between.{IsHardlyHigher}
+use Rattle.bd_flush.proofs.Worn.{cause_weaker}
+use Rattle.bd_flush.proofs.Givens.{given_first, given_second}
+use Rattle.bd_flush.proofs.ChildSplits.{child_named}
+use Rattle.bd_flush.proofs.PathSteps.{IsMadeUnder, IsUpper, IsPathStep, RisesByOne, given_child, each_change, has_made, has_path, made_new, path_child, path_old, both_ways, IsPathStepOf, path_may, path_in_place, path_flushed, path_worn, root_rises, root_stays}
+use Rattle.bd_flush.proofs.RisingSteps.{raised_size, raised_times, way_private, rising_rises, rising_uppers, rising_once, rising_short, IsChangedBy, changed_more, all_changed, has_room, rising_of}
 
 -- ---- a node over two others
 
@@ -70,296 +78,330 @@ over_high has level pivot a b k least =
 
 -- ---- the step
 
-abbrev the_step : Table → Node → Node → List ℕ → Node → Step
-the_step t n first pivot second = root_split t.root t.next (level_of n) first pivot second
+-- a node, below those of a way, the nearest first, that is put above its halves
+pub record IsSplit (t : Table) (c : ℕ) (n first : Node) (pivot : List ℕ) (second : Node) (way rising : List Fetched) : Type 0 where
+  pub table : IsTable t
+  pub up : IsWayUp t c way
+  pub kept : IsKept t c
+  pub own : IsNodeOf t (t.level c) n
+  pub level : level_of n < level_limit
+  pub next : t.next + 1 < 2 ^ 64
+  pub halves : AreHalves n first pivot second
+  pub rise : IsRising (level_of n + 1) way rising
 
 abbrev the_top : Table → Node → List ℕ → Node
 the_top t n pivot = over_two (level_of n + 1) pivot t.next (t.next + 1)
 
--- a root to split, and its halves
-pub record IsSplit (t : Table) (n first : Node) (pivot : List ℕ) (second : Node) : Type 0 where
-  pub table : IsTable t
-  pub own : IsNodeOf t (t.level t.root) n
-  pub level : level_of n < level_limit
-  pub next : t.next + 1 < 2 ^ 64
-  pub halves : AreHalves n first pivot second
+abbrev both : Node → Node → List Node
+both first second = first ∷ second ∷ []
 
-root_low : (t : Table) → IsTable t → t.root < t.next
-root_low t table = table.below t.root table.root
+abbrev the_step : Table → ℕ → Node → Node → List ℕ → Node → List Fetched → Step
+the_step t c n first pivot second rising = path_step t.root c (the_top t n pivot) (map raise rising) (both first second)
 
-half_lower : (t : Table) (n : Node) (own : List ℕ → Type 0) (half : Node) → IsNodeOf t (t.level t.root) n → IsHalf n own half → (c : ℕ) → 1 ≤ times half c → IsLower t (t.level t.root) c
-half_lower t n own half node is c one =
-    let most : times half c ≤ times n c = is.names c in
-    named_has (IsLower t (t.level t.root)) c (names n) node.lower (omega arith)
-
-other_root : (t : Table) (c : ℕ) → IsLower t (t.level t.root) c → c ≡ t.root → ⊥
-other_root t c lower same =
-    let e : t.level c ≡ t.level t.root = ap t.level same in
-    let l : t.level c < t.level t.root = lower.lower in
-    omega arith
-
-level_kept : (t : Table) (n first : Node) (pivot : List ℕ) (second : Node) (c : ℕ) → IsTable t → IsLower t (t.level t.root) c → level_after t (the_step t n first pivot second) c ≡ t.level c
-level_kept t n first pivot second c table lower =
-    ap (λ (o : Option Node). level_or o (t.level c))
-    (given_unchanged t.next t.root c (the_top t n pivot) (first ∷ second ∷ []) t.root (table.below c lower.kept) (other_root t c lower))
-
-half_put : (t : Table) (n first : Node) (pivot : List ℕ) (second : Node) (own : List ℕ → Type 0) (half : Node) → IsSplit t n first pivot second → IsHalf n own half → IsPut t (the_step t n first pivot second) half
-half_put t n first pivot second own half h is = record {
-  shape = is.shape;
-  lower = each_named (IsNamable t (the_step t n first pivot second) (level_of half)) (names half) (λ c one.
-      let lower : IsLower t (t.level t.root) c = half_lower t n own half h.own is c one in
-      record {
-        there = inl lower.kept;
-        lower = (let a : level_after t (the_step t n first pivot second) c ≡ t.level c = level_kept t n first pivot second c h.table lower in
-            let b : t.level c < t.level t.root = lower.lower in
-            let d : level_of half ≡ level_of n = is.level_is in
-            let e : level_of n ≡ t.level t.root = h.own.level_is in
-            omega arith);
-      });
-}
-
-top_put : (t : Table) (n first : Node) (pivot : List ℕ) (second : Node) → IsSplit t n first pivot second → IsPut t (the_step t n first pivot second) (the_top t n pivot)
-top_put t n first pivot second h =
-    let step : Step = the_step t n first pivot second in
-    let changes : List Change = record { id = t.root; node = the_top t n pivot } ∷ [] in
-    let some : 1 ≤ t.root = h.table.low t.root h.table.root in
-    let below : t.root < t.next = root_low t h.table in
-    let next : t.next + 1 < 2 ^ 64 = h.next in
-    let low : level_of n < level_limit = h.level in
-    let at_first : level_after t step t.next ≡ level_of first = ap (λ (o : Option Node). level_or o (t.level t.next)) (given_first t.next first second changes t.root) in
-    let at_second : level_after t step (t.next + 1) ≡ level_of second = ap (λ (o : Option Node). level_or o (t.level (t.next + 1))) (given_second t.next first second changes t.root) in
-    let a : level_of first ≡ level_of n = h.halves.lower.level_is in
-    let b : level_of second ≡ level_of n = h.halves.upper.level_is in
-    record {
-      shape = over_shape (level_of n + 1) pivot t.next (t.next + 1) (omega arith) (omega arith) h.halves.some h.halves.short (omega arith, omega arith) (omega arith, omega arith);
-      lower = (
-        record { there = inr (omega arith, omega arith); lower = omega arith },
-        (record { there = inr (omega arith, omega arith); lower = omega arith }, tt),
-      );
-    }
-
-times_first : (level : ℕ) (pivot : List ℕ) (a b : ℕ) → 1 ≤ times (over_two level pivot a b) a
+pub times_first : (level : ℕ) (pivot : List ℕ) (a b : ℕ) → 1 ≤ times (over_two level pivot a b) a
 times_first level pivot a b = omega (arith, count-cons_same a (b ∷ []))
 
-times_second : (level : ℕ) (pivot : List ℕ) (a b : ℕ) → 1 ≤ times (over_two level pivot a b) b
+pub times_second : (level : ℕ) (pivot : List ℕ) (a b : ℕ) → 1 ≤ times (over_two level pivot a b) b
 times_second level pivot a b = omega (arith, count-cons_le a b (b ∷ []), count-cons_same b [])
 
-times_made : (level : ℕ) (pivot : List ℕ) (next id : ℕ) → next ≤ id → id < next + 2 → 1 ≤ times (over_two level pivot next (next + 1)) id
+pub times_made : (level : ℕ) (pivot : List ℕ) (next id : ℕ) → next ≤ id → id < next + 2 → 1 ≤ times (over_two level pivot next (next + 1)) id
 times_made level pivot next id high low =
     elim (cases_lt next id) [
       | inl later ↦ subst (λ (i : ℕ). 1 ≤ times (over_two level pivot next (next + 1)) i) (let z : next + 1 ≡ id = omega arith in z) (times_second level pivot next (next + 1))
       | inr here ↦ subst (λ (i : ℕ). 1 ≤ times (over_two level pivot next (next + 1)) i) (let z : next ≡ id = omega arith in z) (times_first level pivot next (next + 1))
     ]
 
-root_level : (t : Table) (n first : Node) (pivot : List ℕ) (second : Node) → IsTable t → level_after t (the_step t n first pivot second) t.root ≡ level_of n + 1
-root_level t n first pivot second table =
-    ap (λ (o : Option Node). level_or o (t.level t.root)) (given_changed t.next t.root (the_top t n pivot) (first ∷ second ∷ []) t.root (root_low t table))
+half_lower : (t : Table) (c : ℕ) (n : Node) (own : List ℕ → Type 0) (half : Node) → IsNodeOf t (t.level c) n → IsHalf n own half → (x : ℕ) → 1 ≤ times half x → IsLower t (t.level c) x
+half_lower t c n own half node is x one =
+    let most : times half x ≤ times n x = is.names x in
+    named_has (IsLower t (t.level c)) x (names n) node.lower (omega arith)
 
-pub split_step : (t : Table) (n first : Node) (pivot : List ℕ) (second : Node) → IsSplit t n first pivot second → IsStep t (the_step t n first pivot second)
-split_step t n first pivot second h = record {
-  made = (
-    half_put t n first pivot second (λ k. IsBelow k pivot) first h h.halves.lower,
-    (half_put t n first pivot second (λ k. IsAtLeast k pivot) second h h.halves.upper, tt),
-  );
-  changes = (record { kept = h.table.root; put = top_put t n first pivot second h }, tt);
-  once = (tt, tt);
-  root = inl h.table.root;
-  inner = (let e : level_after t (the_step t n first pivot second) t.root ≡ level_of n + 1 = root_level t n first pivot second h.table in omega arith);
-  used = λ id high low.
-      let change : Change = record { id = t.root; node = the_top t n pivot } in
-      let below : id < t.next + 2 = low in
-      let one : 1 ≤ times (the_top t n pivot) id = times_made (level_of n + 1) pivot t.next id high below in
-      omega (arith, sum_by-cons (λ (d : Change). times d.node id) change []);
-}
+half_made : (t : Table) (c : ℕ) (n first : Node) (pivot : List ℕ) (second : Node) (way rising : List Fetched) (own : List ℕ → Type 0) (half : Node) → IsSplit t c n first pivot second way rising → IsHalf n own half → IsMadeUnder t (level_of n + 1) c half
+half_made t c n first pivot second way rising own half h is =
+    let same : level_of half ≡ level_of n = is.level_is in
+    let level : level_of n ≡ t.level c = h.own.level_is in
+    record {
+      shape = is.shape;
+      low = omega arith;
+      under = omega arith;
+      named = λ x one. subst (λ (l : ℕ). IsLower t l x) (sym (same ∙ level)) (half_lower t c n own half h.own is x one);
+    }
 
-pub split_in_place : (nodes : Nodes) (t : Table) (n first : Node) (pivot : List ℕ) (second : Node) → IsSound nodes t → IsInPlace nodes t (the_step t n first pivot second)
-split_in_place nodes t n first pivot second s = record {
-  private = (root_private nodes t s, tt);
-  above = stay_above nodes t (the_step t n first pivot second) s
-      (λ id m low e. of_root (given_one t.next t.root id (the_top t n pivot) m (first ∷ second ∷ []) t.root low e).0);
-}
+top_shape : (t : Table) (c : ℕ) (n first : Node) (pivot : List ℕ) (second : Node) (way rising : List Fetched) → IsSplit t c n first pivot second way rising → IsShape (the_top t n pivot)
+top_shape t c n first pivot second way rising h =
+    let some : 1 ≤ t.root = h.table.low t.root h.table.root in
+    let below : t.root < t.next = h.table.below t.root h.table.root in
+    let next : t.next + 1 < 2 ^ 64 = h.next in
+    let low : level_of n < level_limit = h.level in
+    over_shape (level_of n + 1) pivot t.next (t.next + 1) (omega arith) (omega arith) h.halves.some h.halves.short (omega arith, omega arith) (omega arith, omega arith)
 
--- ---- what each id has then
+top_rises : (t : Table) (c : ℕ) (n first : Node) (pivot : List ℕ) (second : Node) (way rising : List Fetched) → IsSplit t c n first pivot second way rising → RisesByOne t (record { id = c; node = the_top t n pivot })
+top_rises t c n first pivot second way rising h = let level : level_of n ≡ t.level c = h.own.level_is in (omega arith, omega arith)
 
-abbrev has_over : Nodes → ℕ → Node → Node → NodesAt
-has_over nodes next first second id k = cond (ltb id next) (at nodes id k) (found_at (at nodes) (slice_get (first ∷ second ∷ []) (id - next)) k)
+over_path : (t : Table) (c : ℕ) (n first : Node) (pivot : List ℕ) (second : Node) (way rising : List Fetched) → IsSplit t c n first pivot second way rising → IsPathStep t c (the_top t n pivot) (map raise rising) (both first second)
+over_path t c n first pivot second way rising h =
+    let level : level_of n ≡ t.level c = h.own.level_is in
+    record {
+      table = h.table;
+      child = h.kept;
+      shape = top_shape t c n first pivot second way rising h;
+      low = omega arith;
+      high = omega arith;
+      named = λ x one.
+          named_has (λ y. IsLower t (t.level c) y ⊎ ((t.next ≤ y) × (y < t.next + 2))) x (t.next ∷ (t.next + 1) ∷ [])
+          (inr (omega arith, omega arith), (inr (omega arith, omega arith), tt)) one;
+      made_are = (
+        half_made t c n first pivot second way rising (λ k. IsBelow k pivot) first h h.halves.lower,
+        (half_made t c n first pivot second way rising (λ k. IsAtLeast k pivot) second h h.halves.upper, tt),
+      );
+      used = λ x high low. times_made (level_of n + 1) pivot t.next x high low;
+      uppers_are = rising_uppers t c (the_top t n pivot) (map raise rising) (both first second) c (level_of n + 1) way rising h.table (top_rises t c n first pivot second way rising h)
+          (rising_rises t c (level_of n + 1) way rising h.rise h.up) (omega arith) h.rise h.up;
+      once = rising_once t c (level_of n + 1) way rising h.rise h.up;
+    }
 
-has_old : (nodes : Nodes) (next : ℕ) (first second : Node) (id : ℕ) → id < next → (k : List ℕ) → has_over nodes next first second id k ≡ at nodes id k
-has_old nodes next first second id low k = cond-true (ltb id next) (at nodes id k) (found_at (at nodes) (slice_get (first ∷ second ∷ []) (id - next)) k) (lt-ltb id next low)
+pub split_step : (t : Table) (c : ℕ) (n first : Node) (pivot : List ℕ) (second : Node) (way rising : List Fetched) → IsSplit t c n first pivot second way rising → IsStep t (the_step t c n first pivot second rising)
+split_step t c n first pivot second way rising h = path_may t c (the_top t n pivot) (map raise rising) (both first second) (over_path t c n first pivot second way rising h)
 
-has_new : (nodes : Nodes) (next : ℕ) (first second : Node) (id : ℕ) → next ≤ id → (k : List ℕ) → has_over nodes next first second id k ≡ found_at (at nodes) (slice_get (first ∷ second ∷ []) (id - next)) k
-has_new nodes next first second id high k = cond-false (ltb id next) (at nodes id k) (found_at (at nodes) (slice_get (first ∷ second ∷ []) (id - next)) k) (le-ltb id next high)
+-- ---- of sound nodes
 
-has_first : (nodes : Nodes) (next : ℕ) (first second : Node) (k : List ℕ) → has_over nodes next first second next k ≡ node_has (at nodes) first k
-has_first nodes next first second k =
-    has_new nodes next first second next (omega arith) k
-    ∙ ap (λ (i : ℕ). found_at (at nodes) (slice_get (first ∷ second ∷ []) i) k) (let z : next - next ≡ 0 = omega arith in z)
-
-has_second : (nodes : Nodes) (next : ℕ) (first second : Node) (k : List ℕ) → has_over nodes next first second (next + 1) k ≡ node_has (at nodes) second k
-has_second nodes next first second k =
-    has_new nodes next first second (next + 1) (omega arith) k
-    ∙ ap (λ (i : ℕ). found_at (at nodes) (slice_get (first ∷ second ∷ []) i) k) (let z : next + 1 - next ≡ 1 = omega arith in z)
-
-at_root : (nodes : Nodes) (t : Table) (n : Node) → IsSound nodes t → nodes t.root ≡ Some n → (k : List ℕ) → IsKey k → at nodes t.root k ≡ node_at (at nodes) n k
-at_root nodes t n s there k key = (at-meets nodes (sound-levelled nodes t s)).each t.root n there k ∙ node_has-key (at nodes) n k key
-
--- a root to split of known nodes
-pub record IsSplitOf (nodes : Nodes) (t : Table) (n first : Node) (pivot : List ℕ) (second : Node) : Type 0 where
-  pub split : IsSplit t n first pivot second
+-- a node to be put above its halves, of known nodes
+pub record IsSplitOf (nodes : Nodes) (t : Table) (c : ℕ) (n first : Node) (pivot : List ℕ) (second : Node) (way rising : List Fetched) : Type 0 where
+  pub split : IsSplit t c n first pivot second way rising
   pub sound : IsSound nodes t
-  pub there : nodes t.root ≡ Some n
+  pub there : nodes c ≡ Some n
+  pub stand : AllByRecursion (IsContents nodes) way
 
-top_has : (nodes : Nodes) (t : Table) (n first : Node) (pivot : List ℕ) (second : Node) → IsSplitOf nodes t n first pivot second → (k : List ℕ) → IsKey k
-    → node_at (has_over nodes t.next first second) (the_top t n pivot) k ≡ at nodes t.root k
-top_has nodes t n first pivot second h k key =
-    let has : NodesAt = has_over nodes t.next first second in
+-- what holds of the changes of fetched nodes, and the other way round
+each_raise : (P : Change → Type 0) (fs : List Fetched) → AllByRecursion (λ (f : Fetched). P (raise f)) fs → AllByRecursion P (map raise fs)
+each_raise P [] h = tt
+each_raise P (f ∷ fs) h = (h.0, each_raise P fs h.1)
+
+from_raise : (P : Change → Type 0) (fs : List Fetched) → AllByRecursion P (map raise fs) → AllByRecursion (λ (f : Fetched). P (raise f)) fs
+from_raise P [] h = tt
+from_raise P (f ∷ fs) h = (h.0, from_raise P fs h.1)
+
+each_given : (t : Table) (c : ℕ) (h : Node) (uppers : List Change) (made : List Node) (fs : List Fetched) → AllByRecursion (λ (f : Fetched). f.id < t.next) fs → AllByRecursion (IsChangedBy uppers) fs → AllByRecursion (λ (f : Fetched). IsSome (given t.next (path_step t.root c h uppers made) f.id)) fs
+each_given t c h uppers made [] low changed = tt
+each_given t c h uppers made (f ∷ fs) low changed = (
+  subst (λ (o : Option Node). IsSome o) (sym (given-old t.next (path_step t.root c h uppers made) f.id low.0)) (changed_more (record { id = c; node = h }) uppers f changed.0),
+  each_given t c h uppers made fs low.1 changed.1,
+)
+
+all_given : (t : Table) (c : ℕ) (n first : Node) (pivot : List ℕ) (second : Node) (way rising : List Fetched) → IsSplit t c n first pivot second way rising → AllByRecursion (λ (f : Fetched). IsSome (given t.next (the_step t c n first pivot second rising) f.id)) rising
+all_given t c n first pivot second way rising h =
+    each_given t c (the_top t n pivot) (map raise rising) (both first second) rising
+    (from_raise (λ (u : Change). u.id < t.next) rising
+    (each_weaker (IsUpper t (the_step t c n first pivot second rising) c) (λ (u : Change). u.id < t.next) (λ u own. h.table.below u.id own.kept) (map raise rising) (over_path t c n first pivot second way rising h).uppers_are))
+    (all_changed rising)
+
+made_first : (nodes : Nodes) (next : ℕ) (first second : Node) (k : List ℕ) → has_made nodes next (both first second) next k ≡ node_has (at nodes) first k
+made_first nodes next first second k =
+    made_new nodes next (both first second) next (omega arith) k
+    ∙ ap (λ (i : ℕ). found_at (at nodes) (slice_get (both first second) i) k) (let z : next - next ≡ 0 = omega arith in z)
+
+made_second : (nodes : Nodes) (next : ℕ) (first second : Node) (k : List ℕ) → has_made nodes next (both first second) (next + 1) k ≡ node_has (at nodes) second k
+made_second nodes next first second k =
+    made_new nodes next (both first second) (next + 1) (omega arith) k
+    ∙ ap (λ (i : ℕ). found_at (at nodes) (slice_get (both first second) i) k) (let z : next + 1 - next ≡ 1 = omega arith in z)
+
+-- the node over both has what the whole had
+pub two_have : (nodes : Nodes) (next level : ℕ) (m first : Node) (pivot : List ℕ) (second : Node) → AreHalves m first pivot second → (k : List ℕ) → IsKey k → node_at (has_made nodes next (both first second)) (over_two level pivot next (next + 1)) k ≡ node_at (at nodes) m k
+two_have nodes next level m first pivot second halves k key =
+    let has : NodesAt = has_made nodes next (both first second) in
     elim (cases_Bool (is_lt (key_cmp k pivot))) [
-      | inl below ↦
-          over_low has (level_of n + 1) pivot t.next (t.next + 1) k (lt_is (key_cmp k pivot) below)
-          ∙ has_first nodes t.next first second k
+      | inl less ↦
+          over_low has level pivot next (next + 1) k (lt_is (key_cmp k pivot) less)
+          ∙ made_first nodes next first second k
           ∙ node_has-key (at nodes) first k key
-          ∙ h.split.halves.lower.meaning (at nodes) k (lt_is (key_cmp k pivot) below)
-          ∙ sym (at_root nodes t n h.sound h.there k key)
-      | inr above ↦
-          over_high has (level_of n + 1) pivot t.next (t.next + 1) k (lt_isnt (key_cmp k pivot) above)
-          ∙ has_second nodes t.next first second k
+          ∙ halves.lower.meaning (at nodes) k (lt_is (key_cmp k pivot) less)
+      | inr more ↦
+          over_high has level pivot next (next + 1) k (lt_isnt (key_cmp k pivot) more)
+          ∙ made_second nodes next first second k
           ∙ node_has-key (at nodes) second k key
-          ∙ h.split.halves.upper.meaning (at nodes) k (lt_isnt (key_cmp k pivot) above)
-          ∙ sym (at_root nodes t n h.sound h.there k key)
+          ∙ halves.upper.meaning (at nodes) k (lt_isnt (key_cmp k pivot) more)
     ]
 
-half_has : (nodes : Nodes) (t : Table) (n first : Node) (pivot : List ℕ) (second : Node) (own : List ℕ → Type 0) (half : Node) → IsSplit t n first pivot second → IsHalf n own half → (k : List ℕ)
-    → node_has (at nodes) half k ≡ node_has (has_over nodes t.next first second) half k
-half_has nodes t n first pivot second own half h is k =
-    node_has-same (at nodes) (has_over nodes t.next first second) half k
-    (each_named (Agree (at nodes) (has_over nodes t.next first second)) (names half) (λ c one l.
-    sym (has_old nodes t.next first second c (h.table.below c (half_lower t n own half h.own is c one).kept) l)))
+at_node : (nodes : Nodes) (t : Table) (id : ℕ) (n : Node) → IsSound nodes t → nodes id ≡ Some n → (k : List ℕ) → IsKey k → at nodes id k ≡ node_at (at nodes) n k
+at_node nodes t id n s there k key = (at-meets nodes (sound-levelled nodes t s)).each id n there k ∙ node_has-key (at nodes) n k key
 
-split_keeping : (nodes : Nodes) (t : Table) (n first : Node) (pivot : List ℕ) (second : Node) → IsSplitOf nodes t n first pivot second → IsKeeping nodes t (the_step t n first pivot second) (has_over nodes t.next first second)
-split_keeping nodes t n first pivot second h =
-    let has : NodesAt = has_over nodes t.next first second in
-    let changes : List Change = record { id = t.root; node = the_top t n pivot } ∷ [] in
+-- so it keeps what it had
+top_keeps : (nodes : Nodes) (t : Table) (c : ℕ) (n first : Node) (pivot : List ℕ) (second : Node) (way rising : List Fetched) → IsSplitOf nodes t c n first pivot second way rising → (k : List ℕ)
+    → has_path nodes t.next c (the_top t n pivot) (both first second) c k ≡ at nodes c k
+top_keeps nodes t c n first pivot second way rising b k =
+    path_child nodes t.next c (the_top t n pivot) (both first second) k
+    ∙ sym (both_ways nodes (has_made nodes t.next (both first second)) c (the_top t n pivot)
+    (λ l key. two_have nodes t.next (level_of n + 1) n first pivot second b.split.halves l key ∙ sym (at_node nodes t c n b.sound b.there l key)) k)
+
+over_of : (nodes : Nodes) (t : Table) (c : ℕ) (n first : Node) (pivot : List ℕ) (second : Node) (way rising : List Fetched) → IsSplitOf nodes t c n first pivot second way rising → IsPathStepOf nodes t c (the_top t n pivot) (map raise rising) (both first second)
+over_of nodes t c n first pivot second way rising b =
+    let step : Step = the_step t c n first pivot second rising in
+    let has : NodesAt = has_path nodes t.next c (the_top t n pivot) (both first second) in
+    let changed = all_given t c n first pivot second way rising b.split in
+    let keeps : (k : List ℕ) → has c k ≡ at nodes c k = top_keeps nodes t c n first pivot second way rising b in
     record {
-      old = λ id low k. has_old nodes t.next first second id low k;
-      changed = λ id m low e k key.
-          let one = given_one t.next t.root id (the_top t n pivot) m (first ∷ second ∷ []) t.root low e in
-          ap (λ (d : Node). node_at has d k) (sym one.1) ∙ top_has nodes t n first pivot second h k key ∙ ap (λ (i : ℕ). at nodes i k) (sym one.0);
-      made = λ id m high e k.
-          elim (given_made t.next id first second m changes t.root high e) [
-            | inl f ↦
-                ap (λ (i : ℕ). has i k) f.0 ∙ has_first nodes t.next first second k
-                ∙ half_has nodes t n first pivot second (λ l. IsBelow l pivot) first h.split h.split.halves.lower k ∙ ap (λ (d : Node). node_has has d k) f.1
-            | inr f ↦
-                ap (λ (i : ℕ). has i k) f.0 ∙ has_second nodes t.next first second k
-                ∙ half_has nodes t n first pivot second (λ l. IsAtLeast l pivot) second h.split h.split.halves.upper k ∙ ap (λ (d : Node). node_has has d k) f.1
-          ];
+      step = over_path t c n first pivot second way rising b.split;
+      sound = b.sound;
+      private = way_private nodes t c way b.sound b.split.up b.stand;
+      room = has_room nodes t step c (level_of n + 1) (the_top t n pivot) way rising refl b.sound b.split.rise b.split.up b.stand changed;
+      moves = inl keeps;
+      uppers_of = rising_of nodes t c (the_top t n pivot) (map raise rising) (both first second) c (level_of n + 1) way rising b.sound itself b.split.rise b.split.up b.stand changed
+          (λ q m at_q more. each_named (Agree has (at nodes)) (names m) (λ x one.
+          elim (cases_eq x c) [
+            | inl same ↦ (λ k. ap (λ (i : ℕ). has i k) same ∙ keeps k ∙ ap (λ (i : ℕ). at nodes i k) (sym same))
+            | inr other ↦ path_old nodes t.next c (the_top t n pivot) (both first second) x other (b.sound.table.below x (named_lower nodes t b.sound q m at_q x one).kept)
+          ]));
     }
+
+pub split_in_place : (nodes : Nodes) (t : Table) (c : ℕ) (n first : Node) (pivot : List ℕ) (second : Node) (way rising : List Fetched) → IsSplitOf nodes t c n first pivot second way rising → IsInPlace nodes t (the_step t c n first pivot second rising)
+split_in_place nodes t c n first pivot second way rising b = path_in_place nodes t c (the_top t n pivot) (map raise rising) (both first second) (over_of nodes t c n first pivot second way rising b)
 
 -- ---- what the step leaves
 
 -- the step was made
-pub record IsMade (nodes : Nodes) (t : Table) (n first : Node) (pivot : List ℕ) (second : Node) (new : Nodes) (u : Table) : Type 0 where
-  pub of : IsSplitOf nodes t n first pivot second
-  pub after : IsTableAfter t (the_step t n first pivot second) u
-  pub committed : IsCommitted nodes t (the_step t n first pivot second) new u
+pub record IsMade (nodes : Nodes) (t : Table) (c : ℕ) (n first : Node) (pivot : List ℕ) (second : Node) (way rising : List Fetched) (new : Nodes) (u : Table) : Type 0 where
+  pub of : IsSplitOf nodes t c n first pivot second way rising
+  pub after : IsTableAfter t (the_step t c n first pivot second rising) u
+  pub committed : IsCommitted nodes t (the_step t c n first pivot second rising) new u
 
-root_stays : (t : Table) (n first : Node) (pivot : List ℕ) (second : Node) (u : Table) → IsTableAfter t (the_step t n first pivot second) u → IsKept u t.root
-root_stays t n first pivot second u after = subst (λ (r : ℕ). IsKept u r) after.root after.table.root
+pub flushed : (nodes : Nodes) (t : Table) (c : ℕ) (n first : Node) (pivot : List ℕ) (second : Node) (way rising : List Fetched) (new : Nodes) (u : Table) → IsMade nodes t c n first pivot second way rising new u → IsFlushed nodes t new u
+flushed nodes t c n first pivot second way rising new u h =
+    path_flushed nodes t c (the_top t n pivot) (map raise rising) (both first second) new u (record { of = over_of nodes t c n first pivot second way rising h.of; after = h.after; committed = h.committed }) (omega arith)
 
-pub raised : (t : Table) (n first : Node) (pivot : List ℕ) (second : Node) (u : Table) → IsSplit t n first pivot second → IsTableAfter t (the_step t n first pivot second) u → IsRaised t u
-raised t n first pivot second u h after = record {
-  root = after.root;
-  level =
-      ap u.level after.root
-      ∙ after.level t.root (root_stays t n first pivot second u after)
-      ∙ root_level t n first pivot second h.table
-      ∙ ap (λ l. l + 1) h.own.level_is;
-  size = after.size (the_top t n pivot) (given_changed t.next t.root (the_top t n pivot) (first ∷ second ∷ []) t.root (root_low t h.table));
-  next = after.next;
-}
-
-has_then : (nodes : Nodes) (t : Table) (n first : Node) (pivot : List ℕ) (second : Node) (new : Nodes) (u : Table) → IsMade nodes t n first pivot second new u → (id : ℕ) → id < t.next → IsKept u id → (k : List ℕ) → at new id k ≡ at nodes id k
-has_then nodes t n first pivot second new u h id low kept k =
-    keeping_meaning nodes t (the_step t n first pivot second) new u (has_over nodes t.next first second) h.of.sound h.committed (split_keeping nodes t n first pivot second h.of) id kept k
-    ∙ has_old nodes t.next first second id low k
-
-pub flushed : (nodes : Nodes) (t : Table) (n first : Node) (pivot : List ℕ) (second : Node) (new : Nodes) (u : Table) → IsMade nodes t n first pivot second new u → IsFlushed nodes t new u
-flushed nodes t n first pivot second new u h =
-    let up : IsRaised t u = raised t n first pivot second u h.of.split h.after in
-    let next : u.next ≡ t.next + 2 = up.next in
-    let level : u.level u.root ≡ t.level t.root + 1 = up.level in
+-- the root's level, and the size of what waits in it
+pub over_higher : (t : Table) (c : ℕ) (n first : Node) (pivot : List ℕ) (second : Node) (way rising : List Fetched) (u : Table) → IsSplit t c n first pivot second way rising → IsTableAfter t (the_step t c n first pivot second rising) u
+    → AllByRecursion (λ (f : Fetched). f.id ≡ t.root → buffer_size f.node.value ≤ t.size) rising → IsHardlyHigher t u
+over_higher t c n first pivot second way rising u h after fits =
+    let step : Step = the_step t c n first pivot second rising in
+    let low : t.root < t.next = h.table.below t.root h.table.root in
+    let both_ends = root_rises t c (the_top t n pivot) (map raise rising) (both first second) u (over_path t c n first pivot second way rising h) after in
     record {
-      same = λ k.
-          ap (λ (r : ℕ). at new r k) up.root
-          ∙ has_then nodes t n first pivot second new u h t.root (root_low t h.of.split.table) (root_stays t n first pivot second u h.after) k;
-      sound = h.committed.sound;
-      later = omega arith;
-      few = omega arith;
-      last = t.root;
-      private = root_private nodes t h.of.sound;
-      others = λ id kept stays no.
-          let low : id < t.next = h.of.split.table.below id kept in
-          let other : id ≡ t.root → ⊥ = λ e. no (subst (λ (i : ℕ). LeadsTo nodes t.root i) (sym e) itself) in
-          record {
-            node = h.committed.stays id stays ∙ after-none nodes t (the_step t n first pivot second) id (given_unchanged t.next t.root id (the_top t n pivot) (first ∷ second ∷ []) t.root low other);
-            meaning = has_then nodes t n first pivot second new u h id low stays;
-          };
-      low = omega arith;
-      high = omega arith;
+      root = after.root;
+      low = both_ends.0;
+      high = both_ends.1;
+      size = by_given (u.size ≤ t.size) (given t.next step t.root)
+          (λ none. (let same : u.size ≡ t.size = after.same_size none refl in omega arith))
+          (λ m some. (let is : u.size ≡ buffer_size m = after.size m some in
+          let few : buffer_size m ≤ t.size = each_change (λ (d : Change). d.id ≡ t.root → buffer_size d.node ≤ t.size) t c (the_top t n pivot) (map raise rising) (both first second) t.root m (λ same. (omega arith))
+          (each_raise (λ (d : Change). d.id ≡ t.root → buffer_size d.node ≤ t.size) rising
+          (each_weaker (λ (f : Fetched). f.id ≡ t.root → buffer_size f.node.value ≤ t.size) (λ (f : Fetched). f.id ≡ t.root → buffer_size (raised f.node.value) ≤ t.size) (λ f own same. (let l : buffer_size f.node.value ≤ t.size = own same in omega (arith, raised_size f.node.value))) rising fits))
+          low some refl in
+          omega arith));
     }
 
-top_there : (nodes : Nodes) (t : Table) (n first : Node) (pivot : List ℕ) (second : Node) (new : Nodes) (u : Table) → IsMade nodes t n first pivot second new u → new t.root ≡ Some (the_top t n pivot)
-top_there nodes t n first pivot second new u h =
-    given_stays nodes t (the_step t n first pivot second) new u h.committed t.root (the_top t n pivot) (root_stays t n first pivot second u h.after)
-    (given_changed t.next t.root (the_top t n pivot) (first ∷ second ∷ []) t.root (root_low t h.of.split.table))
+-- ---- the given nodes are there
 
-made_stays : (nodes : Nodes) (t : Table) (n first : Node) (pivot : List ℕ) (second : Node) (new : Nodes) (u : Table) → IsMade nodes t n first pivot second new u → (id : ℕ) → 1 ≤ times (the_top t n pivot) id → IsKept u id
-made_stays nodes t n first pivot second new u h id one =
-    (named_lower new u h.committed.sound t.root (the_top t n pivot) (top_there nodes t n first pivot second new u h) id one).kept
+pub given_top : (t : Table) (c : ℕ) (n first : Node) (pivot : List ℕ) (second : Node) (way rising : List Fetched) → IsSplit t c n first pivot second way rising → given t.next (the_step t c n first pivot second rising) c ≡ Some (the_top t n pivot)
+given_top t c n first pivot second way rising h =
+    given_child t c (the_top t n pivot) (map raise rising) (both first second) (h.table.below c h.kept)
 
-pub split_over : (nodes : Nodes) (t : Table) (n first : Node) (pivot : List ℕ) (second : Node) (new : Nodes) (u : Table) → IsMade nodes t n first pivot second new u → IsSplitRoot t n new
-split_over nodes t n first pivot second new u h =
-    let step : Step = the_step t n first pivot second in
-    let changes : List Change = record { id = t.root; node = the_top t n pivot } ∷ [] in
-    record {
-      first = first;
-      pivot = pivot;
-      second = second;
-      halves = h.of.split.halves;
-      top = top_there nodes t n first pivot second new u h;
-      lower = given_stays nodes t step new u h.committed t.next first
-          (made_stays nodes t n first pivot second new u h t.next (times_first (level_of n + 1) pivot t.next (t.next + 1))) (given_first t.next first second changes t.root);
-      upper = given_stays nodes t step new u h.committed (t.next + 1) second
-          (made_stays nodes t n first pivot second new u h (t.next + 1) (times_second (level_of n + 1) pivot t.next (t.next + 1))) (given_second t.next first second changes t.root);
-    }
+rising_stand : (nodes : Nodes) (level : ℕ) (way rising : List Fetched) → IsRising level way rising → AllByRecursion (IsContents nodes) way → AllByRecursion (IsContents nodes) rising
+rising_stand nodes level _ _ (at_top _) there = tt
+rising_stand nodes level _ _ (high_enough _ f fs high) there = tt
+rising_stand nodes level _ _ (rises _ f fs rising under room more) there = (there.0, rising_stand nodes (level_of f.node.value + 1) fs rising more there.1)
+
+-- each other changed node is the one that was there, a level higher
+raised_is : (nodes : Nodes) (t : Table) (c : ℕ) (n first : Node) (pivot : List ℕ) (second : Node) (way rising : List Fetched) → IsSplitOf nodes t c n first pivot second way rising
+    → (id : ℕ) (m o : Node) → id < t.next → given t.next (the_step t c n first pivot second rising) id ≡ Some m → (id ≡ c → ⊥) → nodes id ≡ Some o → m ≡ raised o
+raised_is nodes t c n first pivot second way rising h id m o low some other old =
+    each_change (λ (d : Change). (d.id ≡ c → ⊥) → (o : Node) → nodes d.id ≡ Some o → d.node ≡ raised o) t c (the_top t n pivot) (map raise rising) (both first second) id m (λ apart o old. absurd (apart refl))
+    (each_raise (λ (d : Change). (d.id ≡ c → ⊥) → (o : Node) → nodes d.id ≡ Some o → d.node ≡ raised o) rising
+    (each_weaker (λ (f : Fetched). nodes f.id ≡ Some f.node.value) (λ (f : Fetched). (f.id ≡ c → ⊥) → (o : Node) → nodes f.id ≡ Some o → raised f.node.value ≡ raised o)
+    (λ f own apart o old. ap raised (same_Some f.node.value o (sym own ∙ old))) rising (rising_stand nodes (level_of n + 1) way rising h.split.rise h.stand)))
+    low some other o old
+
+-- a node of the way is above the one that it names
+pub up_lower : (t : Table) (f : Fetched) (place c : ℕ) (e : Edge) → IsFetched t f → IsWayTo f.node.value place c e → IsLower t (t.level f.id) c
+up_lower t f place c e fetched way = named_has (IsLower t (t.level f.id)) c (names f.node.value) fetched.own.lower (child_named f.node.value place c e fetched.own.shape way)
+
+-- what a node that stays names stays, if it isn't the one that is put above its halves
+named_stays : (nodes : Nodes) (t : Table) (c : ℕ) (n first : Node) (pivot : List ℕ) (second : Node) (way rising : List Fetched) (new : Nodes) (u : Table) → IsMade nodes t c n first pivot second way rising new u
+    → (id : ℕ) (o : Node) → nodes id ≡ Some o → (id ≡ c → ⊥) → IsKept u id → (x : ℕ) → 1 ≤ times o x → IsKept u x
+named_stays nodes t c n first pivot second way rising new u h id o old other kept x one =
+    let step : Step = the_step t c n first pivot second rising in
+    let low : id < t.next = h.of.sound.table.below id (kept_there nodes t h.of.sound id o old) in
+    by_given (IsKept u x) (given t.next step id)
+    (λ none. (named_lower new u h.committed.sound id o (h.committed.stays id kept ∙ after-none nodes t step id none ∙ old) x one).kept)
+    (λ m some. (let is : m ≡ raised o = raised_is nodes t c n first pivot second way rising h.of id m o low some other old in
+    (named_lower new u h.committed.sound id m (given_stays nodes t step new u h.committed id m kept some) x (omega (arith, ap (λ (d : Node). times d x) is, raised_times o x))).kept))
+
+-- the nodes of the way stay
+way_stays : (nodes : Nodes) (t : Table) (c : ℕ) (n first : Node) (pivot : List ℕ) (second : Node) (way rising : List Fetched) (new : Nodes) (u : Table) → IsMade nodes t c n first pivot second way rising new u
+    → (d : ℕ) (up : List Fetched) → IsWayUp t d up → AllByRecursion (IsContents nodes) up → t.level c ≤ t.level d → IsKept u d
+way_stays nodes t c n first pivot second way rising new u h _ _ top there high = root_stays t c (the_top t n pivot) (map raise rising) (both first second) u h.after
+way_stays nodes t c n first pivot second way rising new u h _ _ (one_up d place f e fs fetched edge once up) there high =
+    let lower : t.level d < t.level f.id = (up_lower t f place d e fetched edge).lower in
+    named_stays nodes t c n first pivot second way rising new u h f.id f.node.value there.0 (λ same. (let z : t.level f.id ≡ t.level c = ap t.level same in omega arith))
+    (way_stays nodes t c n first pivot second way rising new u h f.id fs up there.1 (omega arith)) d (child_named f.node.value place d e fetched.own.shape edge)
+
+node_stays : (nodes : Nodes) (t : Table) (c : ℕ) (n first : Node) (pivot : List ℕ) (second : Node) (way rising : List Fetched) (new : Nodes) (u : Table) → IsMade nodes t c n first pivot second way rising new u → IsKept u c
+node_stays nodes t c n first pivot second way rising new u h = way_stays nodes t c n first pivot second way rising new u h c way h.of.split.up h.of.stand (omega arith)
+
+pub top_there : (nodes : Nodes) (t : Table) (c : ℕ) (n first : Node) (pivot : List ℕ) (second : Node) (way rising : List Fetched) (new : Nodes) (u : Table) → IsMade nodes t c n first pivot second way rising new u → new c ≡ Some (the_top t n pivot)
+top_there nodes t c n first pivot second way rising new u h =
+    given_stays nodes t (the_step t c n first pivot second rising) new u h.committed c (the_top t n pivot) (node_stays nodes t c n first pivot second way rising new u h) (given_top t c n first pivot second way rising h.of.split)
+
+made_stays : (nodes : Nodes) (t : Table) (c : ℕ) (n first : Node) (pivot : List ℕ) (second : Node) (way rising : List Fetched) (new : Nodes) (u : Table) → IsMade nodes t c n first pivot second way rising new u → (id : ℕ) → 1 ≤ times (the_top t n pivot) id → IsKept u id
+made_stays nodes t c n first pivot second way rising new u h id one =
+    (named_lower new u h.committed.sound c (the_top t n pivot) (top_there nodes t c n first pivot second way rising new u h) id one).kept
+
+pub lower_there : (nodes : Nodes) (t : Table) (c : ℕ) (n first : Node) (pivot : List ℕ) (second : Node) (way rising : List Fetched) (new : Nodes) (u : Table) → IsMade nodes t c n first pivot second way rising new u → new t.next ≡ Some first
+lower_there nodes t c n first pivot second way rising new u h =
+    given_stays nodes t (the_step t c n first pivot second rising) new u h.committed t.next first
+    (made_stays nodes t c n first pivot second way rising new u h t.next (times_first (level_of n + 1) pivot t.next (t.next + 1)))
+    (given_first t.next first second (record { id = c; node = the_top t n pivot } ∷ map raise rising) t.root)
+
+pub upper_there : (nodes : Nodes) (t : Table) (c : ℕ) (n first : Node) (pivot : List ℕ) (second : Node) (way rising : List Fetched) (new : Nodes) (u : Table) → IsMade nodes t c n first pivot second way rising new u → new (t.next + 1) ≡ Some second
+upper_there nodes t c n first pivot second way rising new u h =
+    given_stays nodes t (the_step t c n first pivot second rising) new u h.committed (t.next + 1) second
+    (made_stays nodes t c n first pivot second way rising new u h (t.next + 1) (times_second (level_of n + 1) pivot t.next (t.next + 1)))
+    (given_second t.next first second (record { id = c; node = the_top t n pivot } ∷ map raise rising) t.root)
+
+-- and those that rise
+risen_there : (nodes : Nodes) (t : Table) (c : ℕ) (n first : Node) (pivot : List ℕ) (second : Node) (way rising : List Fetched) (new : Nodes) (u : Table) → IsMade nodes t c n first pivot second way rising new u
+    → (level d : ℕ) (up some : List Fetched) → IsWayUp t d up → AllByRecursion (IsContents nodes) up → t.level c ≤ t.level d → IsRising level up some
+    → AllByRecursion (λ (f : Fetched). IsSome (given t.next (the_step t c n first pivot second rising) f.id)) some → AllByRecursion (λ (f : Fetched). new f.id ≡ Some (raised f.node.value)) some
+risen_there nodes t c n first pivot second way rising new u h level d _ _ up there high (at_top _) given_too = tt
+risen_there nodes t c n first pivot second way rising new u h level d _ _ up there high (high_enough _ f fs enough) given_too = tt
+risen_there nodes t c n first pivot second way rising new u h level _ _ _ (one_up d place _ e _ fetched edge once up) there high (rises _ f fs more under room rise) given_too =
+    let step : Step = the_step t c n first pivot second rising in
+    let lower : t.level d < t.level f.id = (up_lower t f place d e fetched edge).lower in
+    let other : f.id ≡ c → ⊥ = λ same. (let z : t.level f.id ≡ t.level c = ap t.level same in omega arith) in
+    let low : f.id < t.next = h.of.split.table.below f.id fetched.kept in (
+      by_given (new f.id ≡ Some (raised f.node.value)) (given t.next step f.id)
+          (λ none. absurd (no_some (subst (λ (o : Option Node). IsSome o) none given_too.0)))
+          (λ m some. (let is : m ≡ raised f.node.value = raised_is nodes t c n first pivot second way rising h.of f.id m f.node.value low some other there.0 in
+          given_stays nodes t step new u h.committed f.id m (way_stays nodes t c n first pivot second way rising new u h f.id fs up there.1 (omega arith)) some ∙ ap (λ (d : Node). Some d) is)),
+      risen_there nodes t c n first pivot second way rising new u h (level_of f.node.value + 1) f.id fs more up there.1 (omega arith) rise given_too.1,
+    )
+
+pub all_risen : (nodes : Nodes) (t : Table) (c : ℕ) (n first : Node) (pivot : List ℕ) (second : Node) (way rising : List Fetched) (new : Nodes) (u : Table) → IsMade nodes t c n first pivot second way rising new u → AllByRecursion (λ (f : Fetched). new f.id ≡ Some (raised f.node.value)) rising
+all_risen nodes t c n first pivot second way rising new u h =
+    risen_there nodes t c n first pivot second way rising new u h (level_of n + 1) c way rising h.of.split.up h.of.stand (omega arith) h.of.split.rise (all_given t c n first pivot second way rising h.of.split)
 
 -- ---- a counter that is worn
 
-pub split_worn : (t : Table) (n first : Node) (pivot : List ℕ) (second : Node) → IsSplit t n first pivot second → (counter : Counter) → IsWornBy t (the_step t n first pivot second) counter → IsWornFor t counter
-split_worn t n first pivot second h NextId worn = omega arith
-split_worn t n first pivot second h Refs worn =
-    let id : ℕ = worn.0 in
-    let change : Change = record { id = t.root; node = the_top t n pivot } in
-    let most : 2 ^ 64 ≤ t.count id + given_times (the_step t n first pivot second) id + one_if t.root id = worn.1 in (
-      id,
-      omega (
-        arith,
-        most,
-        one_if_few t.root id,
-        times_few first id h.halves.lower.shape,
-        times_few second id h.halves.upper.shape,
-        times_few (the_top t n pivot) id (top_put t n first pivot second h).shape,
-        sum_by-cons (λ (m : Node). times m id) first (second ∷ []),
-        sum_by-cons (λ (m : Node). times m id) second [],
-        sum_by-cons (λ (d : Change). times d.node id) change [],
-      ),
-    )
-split_worn t n first pivot second h Count worn = worn
-split_worn t n first pivot second h Level worn = absurd worn
-split_worn t n first pivot second h Epoch worn = worn
-split_worn t n first pivot second h Flushes worn = worn
+pub split_worn : (t : Table) (c : ℕ) (n first : Node) (pivot : List ℕ) (second : Node) (way rising : List Fetched) → IsSplit t c n first pivot second way rising → (counter : Counter) → IsWornBy t (the_step t c n first pivot second rising) counter → IsWornFor t counter
+split_worn t c n first pivot second way rising h counter worn =
+    let few : length (map raise rising) + t.level c ≤ level_limit = rising_short t c (level_of n + 1) way rising (let e : level_of n ≡ t.level c = h.own.level_is in let l : level_of n < level_limit = h.level in omega arith) h.rise h.up in
+    path_worn t c (the_top t n pivot) (map raise rising) (both first second) (over_path t c n first pivot second way rising h) (omega arith) (omega arith) counter worn
 
--- ---- the step as it is returned
+-- ---- the root's split
+
+root_raised : (t : Table) (n first : Node) (pivot : List ℕ) (second : Node) (u : Table) → IsSplit t t.root n first pivot second [] [] → IsTableAfter t (root_split t.root t.next (level_of n) first pivot second) u → IsRaised t u
+root_raised t n first pivot second u h after =
+    let step : Step = root_split t.root t.next (level_of n) first pivot second in
+    let is : given t.next step t.root ≡ Some (over_two (level_of n + 1) pivot t.next (t.next + 1)) = given_top t t.root n first pivot second [] [] h in
+    record {
+      root = after.root;
+      level =
+          ap u.level after.root
+          ∙ after.level t.root (subst (λ (r : ℕ). IsKept u r) after.root after.table.root)
+          ∙ ap (λ (o : Option Node). level_or o (t.level t.root)) is
+          ∙ ap (λ l. l + 1) h.own.level_is;
+      size = after.size (over_two (level_of n + 1) pivot t.next (t.next + 1)) is;
+      next = after.next;
+    }
 
 -- a root to split, and the step
 pub record IsToSplit (t : Table) (n : Node) (step : Step) : Type 0 where
@@ -369,42 +411,58 @@ pub record IsToSplit (t : Table) (n : Node) (step : Step) : Type 0 where
   pub next : t.next + 1 < 2 ^ 64
   pub split : IsRootSplit t.root t.next n step
 
-to_split : (t : Table) (n : Node) (step : Step) (h : IsToSplit t n step) → IsSplit t n h.split.first h.split.pivot h.split.second
-to_split t n step h = record { table = h.table; own = h.own; level = h.level; next = h.next; halves = h.split.halves }
+to_split : (t : Table) (n : Node) (step : Step) (h : IsToSplit t n step) → IsSplit t t.root n h.split.first h.split.pivot h.split.second [] []
+to_split t n step h = record { table = h.table; up = top; kept = h.table.root; own = h.own; level = h.level; next = h.next; halves = h.split.halves; rise = at_top (level_of n + 1) }
 
 pub is_step : (t : Table) (n : Node) (step : Step) → IsToSplit t n step → IsStep t step
-is_step t n step h = subst (λ (s : Step). IsStep t s) (sym h.split.is) (split_step t n h.split.first h.split.pivot h.split.second (to_split t n step h))
+is_step t n step h = subst (λ (s : Step). IsStep t s) (sym h.split.is) (split_step t t.root n h.split.first h.split.pivot h.split.second [] [] (to_split t n step h))
 
-pub is_in_place : (nodes : Nodes) (t : Table) (n : Node) (step : Step) → IsToSplit t n step → IsSound nodes t → IsInPlace nodes t step
-is_in_place nodes t n step h s = subst (λ (q : Step). IsInPlace nodes t q) (sym h.split.is) (split_in_place nodes t n h.split.first h.split.pivot h.split.second s)
+split_of : (nodes : Nodes) (t : Table) (n : Node) (step : Step) (h : IsToSplit t n step) → IsSound nodes t → nodes t.root ≡ Some n → IsSplitOf nodes t t.root n h.split.first h.split.pivot h.split.second [] []
+split_of nodes t n step h s there = record { split = to_split t n step h; sound = s; there = there; stand = tt }
+
+pub is_in_place : (nodes : Nodes) (t : Table) (n : Node) (step : Step) → IsToSplit t n step → IsSound nodes t → nodes t.root ≡ Some n → IsInPlace nodes t step
+is_in_place nodes t n step h s there = subst (λ (q : Step). IsInPlace nodes t q) (sym h.split.is) (split_in_place nodes t t.root n h.split.first h.split.pivot h.split.second [] [] (split_of nodes t n step h s there))
 
 made_of : (nodes : Nodes) (t : Table) (n : Node) (step : Step) (new : Nodes) (u : Table) → (h : IsToSplit t n step) → IsSound nodes t → nodes t.root ≡ Some n → IsTableAfter t step u → IsCommitted nodes t step new u
-    → IsMade nodes t n h.split.first h.split.pivot h.split.second new u
+    → IsMade nodes t t.root n h.split.first h.split.pivot h.split.second [] [] new u
 made_of nodes t n step new u h s there after committed = record {
-  of = record { split = to_split t n step h; sound = s; there = there };
+  of = split_of nodes t n step h s there;
   after = subst (λ (q : Step). IsTableAfter t q u) h.split.is after;
   committed = subst (λ (q : Step). IsCommitted nodes t q new u) h.split.is committed;
 }
 
 pub on_flushed : {T E : Type 0} (nodes : Nodes) (t : Table) (n : Node) (step : Step) (new : Nodes) (u : Table) (r : Result T E) → IsToSplit t n step → IsSound nodes t → nodes t.root ≡ Some n
     → OnOk r (IsTableAfter t step u) → OnOk r (IsCommitted nodes t step new u) → OnOk r (IsFlushed nodes t new u)
-on_flushed nodes t n step new u (Ok x) h s there after committed = flushed nodes t n h.split.first h.split.pivot h.split.second new u (made_of nodes t n step new u h s there after committed)
+on_flushed nodes t n step new u (Ok x) h s there after committed = flushed nodes t t.root n h.split.first h.split.pivot h.split.second [] [] new u (made_of nodes t n step new u h s there after committed)
 on_flushed nodes t n step new u (Err e) h s there after committed = tt
 
 pub on_split : {T E : Type 0} (nodes : Nodes) (t : Table) (n : Node) (step : Step) (new : Nodes) (u : Table) (r : Result T E) → IsToSplit t n step → IsSound nodes t → nodes t.root ≡ Some n
     → OnOk r (IsTableAfter t step u) → OnOk r (IsCommitted nodes t step new u) → OnOk r (IsSplitRoot t n new)
-on_split nodes t n step new u (Ok x) h s there after committed = split_over nodes t n h.split.first h.split.pivot h.split.second new u (made_of nodes t n step new u h s there after committed)
+on_split nodes t n step new u (Ok x) h s there after committed =
+    let made = made_of nodes t n step new u h s there after committed in
+    let first : Node = h.split.first in
+    let pivot : List ℕ = h.split.pivot in
+    let second : Node = h.split.second in
+    record {
+      first = first;
+      pivot = pivot;
+      second = second;
+      halves = h.split.halves;
+      top = top_there nodes t t.root n first pivot second [] [] new u made;
+      lower = lower_there nodes t t.root n first pivot second [] [] new u made;
+      upper = upper_there nodes t t.root n first pivot second [] [] new u made;
+    }
 on_split nodes t n step new u (Err e) h s there after committed = tt
 
 pub on_raised : {T E : Type 0} (t : Table) (n : Node) (step : Step) (u : Table) (r : Result T E) → IsToSplit t n step → OnOk r (IsTableAfter t step u) → OnOk r (IsRaised t u)
 on_raised t n step u (Ok x) h after =
-    raised t n h.split.first h.split.pivot h.split.second u (to_split t n step h) (subst (λ (q : Step). IsTableAfter t q u) h.split.is after)
+    root_raised t n h.split.first h.split.pivot h.split.second u (to_split t n step h) (subst (λ (q : Step). IsTableAfter t q u) h.split.is after)
 on_raised t n step u (Err e) h after = tt
 
 pub on_worn : {T : Type 0} (before now : ℕ) (bad : ℕ → Type 0) (t : Table) (n : Node) (step : Step) (r : Result T MapFault) → IsToSplit t n step → HasMapCause before now bad (IsWornBy t step) r → HasMapCause before now bad (IsWornFor t) r
 on_worn before now bad t n step r h cause =
     cause_weaker before now bad (IsWornBy t step) (IsWornFor t)
-    (λ counter worn. split_worn t n h.split.first h.split.pivot h.split.second (to_split t n step h) counter (subst (λ (q : Step). IsWornBy t q counter) h.split.is worn)) r cause
+    (λ counter worn. split_worn t t.root n h.split.first h.split.pivot h.split.second [] [] (to_split t n step h) counter (subst (λ (q : Step). IsWornBy t q counter) h.split.is worn)) r cause
 
 pub is_to_split : (t : Table) (n : Node) (step : Step) (root next : ℕ) → IsTable t → IsNodeOf t (t.level t.root) n → level_of n < level_limit → root ≡ t.root → next ≡ t.next → next + 1 < 2 ^ 64 → IsRootSplit root next n step → IsToSplit t n step
 is_to_split t n step root next table own level same_root same_next room split = record {

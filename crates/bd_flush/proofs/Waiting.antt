@@ -10,7 +10,10 @@ use Rattle.bd_node.specs.declared.node.Node.{Node}
 use Rattle.bd_node.specs.declared.node.Node.TheVariants.{Leaf, Inner}
 use Rattle.bd_node.specs.Nodes.{buffer_size}
 use Rattle.bd_node.specs.Shape.{end_before, IsPending, IsInner, IsShape}
-use Rattle.bd_inner.specs.Exchange.{IsEdgeAt}
+use Rattle.bd_inner.specs.Halves.{buffer_of}
+use Rattle.bd_inner.specs.Moving.{CanTouch, SomeCanTouch}
+use Rattle.bd_inner.specs.Exchange.{end_at, IsEdgeAt}
+use Rattle.bd_flush.specs.Pushes.{unseen}
 use Rattle.bd_flush.specs.Pending.{IsPendingSize, ArePendingSizes, IsFullest}
 use Rattle.bd_flush.specs.Ways.{IsFullestAt, HasPending}
 use Rattle.bd_flush.proofs.Abundance.{some_bytes}
@@ -71,3 +74,20 @@ fullest_waits (Inner level edges buffer) shape some place full e here =
       there = one.there;
       pending = subst (λ (i : ℕ). IsPending i one.message e (end_before (drop (place + 1) edges))) (let z : 0 + one.index ≡ one.index = omega arith in z) one.pending;
     }
+
+-- ---- a message that is pending can go down
+
+some_in : (e : Edge) (hi : Option (List ℕ)) (m : Message) (ms : List Message) (i : ℕ) → slice_get ms i ≡ Some m → CanTouch m e.pivot hi → SomeCanTouch e hi ms
+some_in e hi m [] i there can = cc
+some_in e hi m (x ∷ ms) zero there can = inl (subst (λ (y : Message). CanTouch y e.pivot hi) (sym (same_Some x m there)) can)
+some_in e hi m (x ∷ ms) (suc i) there can = inr (some_in e hi m ms i there can)
+
+some_after : (e : Edge) (hi : Option (List ℕ)) (m : Message) (seen : ℕ) (ms : List Message) (i : ℕ) → slice_get ms i ≡ Some m → seen ≤ i → CanTouch m e.pivot hi → SomeCanTouch e hi (drop seen ms)
+some_after e hi m zero ms i there low can = some_in e hi m ms i there can
+some_after e hi m (suc seen) [] i there low can = cc
+some_after e hi m (suc seen) (x ∷ ms) zero there low can = absurd (omega arith)
+some_after e hi m (suc seen) (x ∷ ms) (suc i) there low can = some_after e hi m seen ms i there (omega arith) can
+
+-- one that the edge hasn't seen can change what stands at one of its keys
+pub pending_waits : (n : Node) (place : ℕ) (e : Edge) → HasPending n place e → SomeCanTouch e (end_at n place) (unseen n e)
+pending_waits n place e h = some_after e (end_at n place) h.message e.seen (buffer_of n) h.index h.there h.pending.0 h.pending.1

@@ -15,6 +15,8 @@ use Rattle.bd_inner.specs.Moving.{lifted}
 use Rattle.bd_inner.specs.Exchange.{exchanged, end_at, IsEdgeAt}
 use Rattle.bd_flush.specs.declared.fetching.Fetched.{Fetched}
 use Rattle.bd_flush.specs.declared.children.Parts.{Parts}
+use Rattle.bd_flush.specs.declared.children.Halving.{Halving}
+use Rattle.bd_flush.specs.declared.children.Halving.TheVariants.{Short, Long}
 use Rattle.bd_flush.specs.declared.children.Side.{Side}
 use Rattle.bd_flush.specs.declared.children.Side.TheVariants.{Lower, Both, Upper}
 
@@ -80,6 +82,15 @@ IsSide e hi pivot Lower = ¬ IsBelowEnd pivot hi
 IsSide e hi pivot Upper = ¬ IsBelow e.pivot pivot
 IsSide e hi pivot Both = IsBelow e.pivot pivot × IsBelowEnd pivot hi
 
+-- a node over the halves of a child, where the edge `e` stands in place of the node's own, or the edge
+-- and the halves, where the pivot would be too long
+abbrev pub IsOver : Node → ℕ → Edge → Node → List ℕ → Node → ℕ → Halving → Type 0
+IsOver n place e first pivot second next (Short parts) =
+    (m : Node) → AreHalves m first pivot second
+    → IsSplitInto n place e m next parts.node parts.half parts.made.items
+IsOver n place e first pivot second next (Long edge halves) =
+    (edge ≡ e) × (halves ≡ (first, pivot, second)) × IsLongIn n place e pivot
+
 -- a node and its child after the child's split, and what is made
 pub record AreParts (n : Node) (place : ℕ) (m : Node) (next : ℕ) (parts : Parts) : Type 0 where
   pub edge : Edge
@@ -124,7 +135,7 @@ pub record IsChildStep (root next : ℕ) (parent : Fetched) (place : ℕ) (child
   pub is : step ≡ child_step root parent.id node child.id half made
 
 -- the child is split: it is one half from now on, and the other is made if it has keys of the edge
-pub record IsSplitChild (t : Table) (parent : Fetched) (place : ℕ) (child : Fetched) (new : Nodes)
+pub record IsHalved (t : Table) (parent : Fetched) (place : ℕ) (child : Fetched) (new : Nodes)
     (u : Table) : Type 0 where
   pub edge : Edge
   pub here : IsEdgeAt parent.node.value place edge
@@ -136,6 +147,10 @@ pub record IsSplitChild (t : Table) (parent : Fetched) (place : ℕ) (child : Fe
   pub child_is : new child.id ≡ Some half
   pub made_are : (i : ℕ) (m : Node) → slice_get made i ≡ Some m → new (t.next + i) ≡ Some m
   pub next : u.next ≡ t.next + length made
+
+-- the contents of a fetched node
+abbrev pub IsContents : Nodes → Fetched → Type 0
+IsContents nodes f = nodes f.id ≡ Some f.node.value
 
 -- the root stays, as high as it was, and no more waits in it
 pub record IsNoHigher (t u : Table) : Type 0 where

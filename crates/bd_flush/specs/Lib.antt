@@ -1,7 +1,10 @@
 pub mod Pending
 pub mod Flushed
+pub mod Paths
 pub mod Splits
 pub mod Children
 pub mod Pushes
 pub mod Raising
+pub mod Between
 pub mod Ways
+pub mod Carving

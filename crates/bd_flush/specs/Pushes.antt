@@ -1,5 +1,5 @@
 -- Messages that go down to a child.
-use Rattle.std.specs.Prelude.{◌≡◌, ℕ, ◌+◌, ◌<◌, ◌≤◌, List, [], ◌∷◌, length, drop, None, Some, slice_get}
+use Rattle.std.specs.Prelude.{◌≡◌, ℕ, ◌+◌, ◌^◌, ◌<◌, ◌≤◌, List, [], ◌∷◌, length, map, take, drop, ◌⊎◌, None, Some, slice_get}
 use Rattle.std.specs.List.{AllByRecursion}
 use Rattle.bd_limits.specs.Limits.{soft_limit, leaf_limit}
 use Rattle.bd_keys.specs.Keys.{IsLift}
@@ -16,13 +16,21 @@ use Rattle.bd_node.specs.Private.{IsPrivate}
 use Rattle.bd_node.specs.Tables.{Table}
 use Rattle.bd_inner.specs.declared.batches.Batch.{Batch}
 use Rattle.bd_inner.specs.Compaction.{IsCompacted}
-use Rattle.bd_inner.specs.Halves.{edges_of, buffer_of}
-use Rattle.bd_inner.specs.Moving.{IsPlainFor, IsBatch}
+use Rattle.bd_inner.specs.Halves.{edges_of, buffer_of, AreHalves}
+use Rattle.bd_inner.specs.Moving.{IsPlainFor, SomeCanTouch, IsBatch}
 use Rattle.bd_inner.specs.Exchange.{exchanged, end_at, IsEdgeAt, way_to}
 use Rattle.bd_leaf.specs.Leaves.{entries_size, IsReceived}
 use Rattle.bd_flush.specs.declared.fetching.Fetched.{Fetched}
 use Rattle.bd_flush.specs.declared.children.Parts.{Parts}
-use Rattle.bd_flush.specs.Children.{IsFetched, IsWayTo, IsSplitInto, IsLongPivot, child_step}
+use Rattle.bd_node.specs.declared.node.Change.{Change}
+use Rattle.bd_flush.specs.declared.pushing.Plan.{Plan}
+use Rattle.bd_flush.specs.declared.pushing.Plan.TheVariants.{Ready, NoId, NoLevel}
+use Rattle.bd_flush.specs.declared.children.Halving.{Halving}
+use Rattle.bd_flush.specs.declared.children.Halving.TheVariants.{Short, Long}
+use Rattle.bd_flush.specs.Children.{IsFetched, IsWayTo, IsSplitInto, IsLongIn, child_step}
+use Rattle.bd_flush.specs.Paths.{path_step}
+use Rattle.bd_flush.specs.Splits.{over_two}
+use Rattle.bd_flush.specs.Raising.{raise, IsRaisedOver, CannotRiseOver}
 
 -- the edge after its child has got so many more messages
 abbrev pub seen_by : Edge → ℕ → Edge
@@ -32,9 +40,9 @@ seen_by e count = record e { seen = e.seen + count }
 abbrev pub unseen : Node → Edge → List Message
 unseen n e = drop e.seen (buffer_of n)
 
--- the edge hasn't seen all messages, and those that are pending for it name no node
+-- messages are pending for the edge, and none of them names a node
 pub record IsWaitedFor (n : Node) (place : ℕ) (e : Edge) : Type 0 where
-  pub some : e.seen < length (buffer_of n)
+  pub some : SomeCanTouch e (end_at n place) (unseen n e)
   pub plain : AllByRecursion (IsPlainFor e (end_at n place)) (unseen n e)
 
 -- messages may go down from a node, at most as high as the root, to a private child, as far as the
@@ -50,10 +58,10 @@ pub record CanPush (t : Table) (parent : Fetched) (place : ℕ) (child : Fetched
   pub once : t.count child.id ≡ 1
   pub soft : buffer_size child.node.value ≤ soft_limit
 
--- the oldest messages that the edge hasn't seen, at least one, for its child
+-- the oldest messages that are pending for the edge, at least one, for its child
 pub record IsEdgeBatch (n : Node) (place : ℕ) (e : Edge) (b : Batch) : Type 0 where
   pub batch : IsBatch e (end_at n place) (unseen n e) b
-  pub some : 1 ≤ b.count
+  pub some : SomeCanTouch e (end_at n place) (take b.count (unseen n e))
 
 -- the node after these messages have gone down its edge
 abbrev pub IsRelieved : Node → ℕ → Edge → ℕ → Node → Type 0
@@ -74,19 +82,17 @@ pub data IsPushInto (n : Node) (place : ℕ) (e : Edge) (m : Node) (b : Batch) (
       → IsSplitInto n place (seen_by e b.count) (Leaf new) next parent half made
       → IsPushInto n place e m b next parent half made
 
--- the child is a leaf that would have too many bytes, and the pivot of its halves would be inside the
--- edge and too long for the parent
-pub record IsLongPush (n : Node) (place : ℕ) (m : Node) : Type 0 where
-  pub edge : Edge
-  pub here : IsEdgeAt n place edge
-  pub batch : Batch
-  pub moved : IsEdgeBatch n place edge batch
+-- the halves of a leaf that would have more than 40,960 bytes after messages, whose pivot is inside the
+-- edge and too long for the node
+pub record AreLongHalves (n : Node) (place : ℕ) (e : Edge) (m : Node) (b : Batch) (first : Node)
+    (pivot : List ℕ) (second : Node) : Type 0 where
   pub old : List Entry
   pub new : List Entry
   pub leaf : m ≡ Leaf old
-  pub got : IsReceived old batch.messages new
+  pub got : IsReceived old b.messages new
   pub over : leaf_limit < entries_size new
-  pub long : IsLongPivot n place (Leaf new)
+  pub halves : AreHalves (Leaf new) first pivot second
+  pub long : IsLongIn n place e pivot
 
 -- a node and its child after messages have gone down, and what is made
 pub record ArePushed (n : Node) (place : ℕ) (m : Node) (next : ℕ) (parts : Parts) : Type 0 where
@@ -95,6 +101,31 @@ pub record ArePushed (n : Node) (place : ℕ) (m : Node) (next : ℕ) (parts : P
   pub batch : Batch
   pub moved : IsEdgeBatch n place edge batch
   pub into : IsPushInto n place edge m batch next parts.node parts.half parts.made.items
+
+-- a node over the halves of a leaf of these entries, after so many messages have gone down, or the edge
+-- and the halves, where the pivot would be too long
+abbrev pub IsPartedOver : Node → ℕ → ℕ → List Entry → ℕ → Halving → Type 0
+IsPartedOver n place count new next (Short parts) =
+    (e : Edge) → IsEdgeAt n place e
+    → IsSplitInto n place (seen_by e count) (Leaf new) next parts.node parts.half parts.made.items
+IsPartedOver n place count new next (Long edge halves) =
+    AreHalves (Leaf new) halves.0 halves.1 halves.2
+    × ((e : Edge) → IsEdgeAt n place e → (edge ≡ seen_by e count) × IsLongIn n place e halves.1)
+
+-- the edge after messages have gone down, and halves whose pivot would be too long
+pub record AreLongParts (n : Node) (place : ℕ) (m : Node) (f : Edge) (first : Node) (pivot : List ℕ)
+    (second : Node) : Type 0 where
+  pub edge : Edge
+  pub here : IsEdgeAt n place edge
+  pub batch : Batch
+  pub moved : IsEdgeBatch n place edge batch
+  pub seen : f ≡ seen_by edge batch.count
+  pub long : AreLongHalves n place edge m batch first pivot second
+
+-- the same, or the edge after messages have gone down, and the halves whose pivot would be too long
+abbrev pub IsPushedOver : Node → ℕ → Node → ℕ → Halving → Type 0
+IsPushedOver n place m next (Short parts) = ArePushed n place m next parts
+IsPushedOver n place m next (Long edge halves) = AreLongParts n place m edge halves.0 halves.1 halves.2
 
 -- the step of a push
 pub record IsPushStep (root next : ℕ) (parent : Fetched) (place : ℕ) (child : Fetched)
@@ -124,6 +155,96 @@ pub record IsPushed (t : Table) (parent : Fetched) (place : ℕ) (child : Fetche
   pub child_is : new child.id ≡ Some half
   pub made_are : (i : ℕ) (m : Node) → slice_get made i ≡ Some m → new (t.next + i) ≡ Some m
   pub next : u.next ≡ t.next + length made
+
+-- ---- to a leaf that becomes a node over two
+
+-- a node `n` after messages have gone down to a leaf of its own, the made halves of which are named by
+-- a node put between, and those of the nodes above, the nearest first, that rise
+pub record IsPushBetween (n : Node) (place : ℕ) (m : Node) (way : List Fetched) (first : Node)
+    (pivot : List ℕ) (second parent : Node) (rising : List Fetched) : Type 0 where
+  pub edge : Edge
+  pub here : IsEdgeAt n place edge
+  pub batch : Batch
+  pub moved : IsEdgeBatch n place edge batch
+  pub long : AreLongHalves n place edge m batch first pivot second
+  pub above : Node
+  pub relieved : IsRelieved n place edge batch.count above
+  pub rise : IsRaisedOver 1 above way parent rising
+
+-- the step of a push that puts a node between
+pub record IsPushBetweenStep (root next : ℕ) (way : List Fetched) (parent : Fetched) (place : ℕ)
+    (child : Fetched) (step : Step) : Type 0 where
+  pub first : Node
+  pub pivot : List ℕ
+  pub second : Node
+  pub node : Node
+  pub rising : List Fetched
+  pub into : IsPushBetween parent.node.value place child.node.value way first pivot second node rising
+  pub ids : next + 1 < 2 ^ 64
+  pub is : step ≡ path_step root child.id (over_two 1 pivot next (next + 1))
+      (record { id = parent.id; node = node } ∷ map raise rising) (first ∷ second ∷ [])
+
+-- messages have gone down to a leaf, which is a node over two now
+pub record IsPushedBetween (t : Table) (way : List Fetched) (parent : Fetched) (place : ℕ)
+    (child : Fetched) (new : Nodes) (u : Table) : Type 0 where
+  pub first : Node
+  pub pivot : List ℕ
+  pub second : Node
+  pub node : Node
+  pub rising : List Fetched
+  pub into : IsPushBetween parent.node.value place child.node.value way first pivot second node rising
+  pub parent_is : new parent.id ≡ Some node
+  pub child_is : new child.id ≡ Some (over_two 1 pivot t.next (t.next + 1))
+  pub first_is : new t.next ≡ Some first
+  pub second_is : new (t.next + 1) ≡ Some second
+  pub next : u.next ≡ t.next + 2
+
+-- a push by one commit, with a node between or without
+abbrev pub IsSomePush : ℕ → ℕ → List Fetched → Fetched → ℕ → Fetched → Step → Type 0
+IsSomePush root next way parent place child step =
+    IsPushStep root next parent place child step ⊎ IsPushBetweenStep root next way parent place child step
+
+-- the halves of the child, a leaf that would have too many bytes, would have too long a pivot in the
+-- parent
+pub record IsLongPush (n : Node) (place : ℕ) (m : Node) : Type 0 where
+  pub edge : Edge
+  pub here : IsEdgeAt n place edge
+  pub batch : Batch
+  pub moved : IsEdgeBatch n place edge batch
+  pub first : Node
+  pub pivot : List ℕ
+  pub second : Node
+  pub long : AreLongHalves n place edge m batch first pivot second
+
+-- such a push, where the parent has to rise, and one of the nodes above it that have to rise with it is
+-- at level 1,000
+pub record IsHighPush (n : Node) (place : ℕ) (m : Node) (way : List Fetched) : Type 0 where
+  pub long : IsLongPush n place m
+  pub high : CannotRiseOver 1 n way
+
+-- the step that makes halves and a node over them in a child's place, below a parent that is changed
+pub record IsStepOver (root next : ℕ) (way : List Fetched) (parent : Change) (c : ℕ) (first : Node)
+    (pivot : List ℕ) (second : Node) (step : Step) : Type 0 where
+  pub node : Node
+  pub rising : List Fetched
+  pub rise : IsRaisedOver 1 parent.node way node rising
+  pub ids : next + 1 < 2 ^ 64
+  pub is : step ≡ path_step root c (over_two 1 pivot next (next + 1))
+      (record { id = parent.id; node = node } ∷ map raise rising) (first ∷ second ∷ [])
+
+-- such a step, or why there is none
+abbrev pub IsPlanOver : ℕ → ℕ → List Fetched → Change → ℕ → Node → List ℕ → Node → Plan → Type 0
+IsPlanOver root next way parent c first pivot second (Ready step) =
+    IsStepOver root next way parent c first pivot second step
+IsPlanOver root next way parent c first pivot second NoId = 2 ^ 64 ≤ next + 1
+IsPlanOver root next way parent c first pivot second NoLevel = CannotRiseOver 1 parent.node way
+
+-- the step of a push, or why there is none
+abbrev pub IsPlan : ℕ → ℕ → List Fetched → Fetched → ℕ → Fetched → Plan → Type 0
+IsPlan root next way parent place child (Ready step) = IsSomePush root next way parent place child step
+IsPlan root next way parent place child NoId = 2 ^ 64 ≤ next + 1
+IsPlan root next way parent place child NoLevel =
+    IsHighPush parent.node.value place child.node.value way
 
 -- ---- to a new leaf
 

@@ -1,11 +1,13 @@
 -- Nodes that rise by one level, since the node below them has risen.
-use Rattle.std.specs.Prelude.{◌≡◌, ℕ, ◌+◌, ◌<◌, ◌≤◌, List, [], ◌∷◌, ◌++◌, map}
+use Rattle.std.specs.Prelude.{◌≡◌, ℕ, ◌+◌, ◌<◌, ◌≤◌, List, [], ◌∷◌, ◌++◌, map, Some}
+use Rattle.std.specs.List.{AllByRecursion}
 use Rattle.bd_limits.specs.Limits.{level_limit}
 use Rattle.bd_node.specs.declared.node.Edge.{Edge}
 use Rattle.bd_node.specs.declared.node.Node.{Node}
 use Rattle.bd_node.specs.declared.node.Node.TheVariants.{Leaf, Inner}
 use Rattle.bd_node.specs.declared.node.Change.{Change}
 use Rattle.bd_node.specs.Nodes.{level_of}
+use Rattle.bd_node.specs.Meaning.{Nodes}
 use Rattle.bd_node.specs.Tables.{Table}
 use Rattle.bd_flush.specs.declared.fetching.Fetched.{Fetched}
 use Rattle.bd_flush.specs.Children.{IsFetched, IsWayTo}
@@ -22,8 +24,8 @@ raise f = record { id = f.id; node = raised f.node.value }
 -- fetched nodes from the one above a node up to the root: each has an edge to the one below it, which
 -- nothing else names, with nothing in front of what is left of a key
 pub data IsWayUp (t : Table) : ℕ → List Fetched → Type 0 where
-  at_root : IsWayUp t t.root []
-  above : (c place : ℕ) (f : Fetched) (e : Edge) (fs : List Fetched) → IsFetched t f
+  top : IsWayUp t t.root []
+  one_up : (c place : ℕ) (f : Fetched) (e : Edge) (fs : List Fetched) → IsFetched t f
       → IsWayTo f.node.value place c e → t.count c ≡ 1 → IsWayUp t f.id fs → IsWayUp t c (f ∷ fs)
 
 -- the nodes above one that gets this level, the nearest first, and those of them that rise: each that
@@ -49,3 +51,23 @@ pub record AreRaised (level : ℕ) (way : List Fetched) (changes all : List Chan
   pub rising : List Fetched
   pub rise : IsRising level way rising
   pub are : all ≡ changes ++ map raise rising
+
+-- a node over a child that gets this level, and the nodes above it, the nearest first: what the node
+-- becomes, one level higher where it has to be, and those that rise with it
+pub data IsRaisedOver (level : ℕ) (n : Node) (way : List Fetched) : Node → List Fetched → Type 0
+  where
+    is_above : level < level_of n → IsRaisedOver level n way n []
+    rises_too : (rising : List Fetched) → level_of n ≤ level → IsRising (level_of n + 1) way rising
+        → IsRaisedOver level n way (raised n) rising
+
+-- the changes of a child, of the node above it, and of those above that rise
+pub record AreChangesOver (child parent : Change) (way : List Fetched) (all : List Change) : Type 0
+  where
+    pub node : Node
+    pub rising : List Fetched
+    pub rise : IsRaisedOver (level_of child.node) parent.node way node rising
+    pub are : all ≡ child ∷ record { id = parent.id; node = node } ∷ map raise rising
+
+-- a node that has to rise over a child that gets this level, and one above it that cannot
+abbrev pub CannotRiseOver : ℕ → Node → List Fetched → Type 0
+CannotRiseOver level n way = (level_of n ≤ level) × CannotRise (level_of n + 1) way

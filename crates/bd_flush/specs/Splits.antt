@@ -3,11 +3,13 @@ use Rattle.std.specs.Prelude.{◌≡◌, ℕ, ◌+◌, List, [], ◌∷◌, Some
 use Rattle.bd_node.specs.declared.node.Edge.{Edge}
 use Rattle.bd_node.specs.declared.node.Node.{Node}
 use Rattle.bd_node.specs.declared.node.Node.TheVariants.{Inner}
+use Rattle.bd_node.specs.declared.node.Change.{Change}
 use Rattle.bd_node.specs.declared.node.Step.{Step}
 use Rattle.bd_node.specs.Nodes.{level_of}
 use Rattle.bd_node.specs.Meaning.{Nodes}
 use Rattle.bd_node.specs.Tables.{Table}
 use Rattle.bd_inner.specs.Halves.{AreHalves}
+use Rattle.bd_flush.specs.Paths.{path_step}
 
 -- an edge to a child that is asked at the same key, over an empty buffer
 abbrev pub plain_edge : List ℕ → ℕ → Edge
@@ -19,14 +21,15 @@ abbrev pub over_two : ℕ → List ℕ → ℕ → ℕ → Node
 over_two level pivot first second =
     Inner level (plain_edge [] first ∷ plain_edge pivot second ∷ []) []
 
--- the step that puts the root above its halves, which are made
+-- the step that puts a node above its halves, which are made, and makes other changes
+abbrev pub over_step : ℕ → ℕ → ℕ → ℕ → Node → List ℕ → Node → List Change → Step
+over_step root next id level first pivot second others =
+    path_step root id (over_two (level + 1) pivot next (next + 1)) others (first ∷ second ∷ [])
+
+-- the step that puts the root above its halves
 abbrev pub root_split : ℕ → ℕ → ℕ → Node → List ℕ → Node → Step
 root_split root next level first pivot second =
-    record {
-      made = first ∷ second ∷ [];
-      changes = record { id = root; node = over_two (level + 1) pivot next (next + 1) } ∷ [];
-      root = root;
-    }
+    over_step root next root level first pivot second []
 
 -- the step of a root's split
 pub record IsRootSplit (root next : ℕ) (n : Node) (step : Step) : Type 0 where

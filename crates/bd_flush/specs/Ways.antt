@@ -1,5 +1,5 @@
 -- The way down that a step of a flush takes, and what is to be done at its end.
-use Rattle.std.specs.Prelude.{◌≡◌, ◌≢◌, ℕ, ◌<◌, ◌≤◌, ◌⊎◌, [], length, drop, Option, None, Some, slice_get}
+use Rattle.std.specs.Prelude.{◌≡◌, ◌≢◌, ℕ, ◌<◌, ◌≤◌, ◌⊎◌, List, [], length, drop, reverse, Option, None, Some, slice_get}
 use Rattle.std.specs.List.{AllByRecursion}
 use Rattle.bd_limits.specs.Limits.{soft_limit}
 use Rattle.bd_message.specs.declared.message.Message.{Message}
@@ -22,6 +22,7 @@ use Rattle.bd_flush.specs.declared.ways.Look.{Look}
 use Rattle.bd_flush.specs.declared.ways.Look.TheVariants.{Down, End}
 use Rattle.bd_flush.specs.Pending.{IsFullest}
 use Rattle.bd_flush.specs.Children.{IsFetched, IsWayTo, CanSplitChild}
+use Rattle.bd_flush.specs.Raising.{IsWayUp}
 
 -- most bytes of a node's messages are pending for the edge at a place
 pub record IsFullestAt (n : Node) (place : ℕ) : Type 0 where
@@ -81,6 +82,7 @@ pub record IsShared (t : Table) (parent : Fetched) (place : ℕ) : Type 0 where
 -- a node for whose fullest edge a Goto is pending
 pub record IsNamed (t : Table) (parent : Fetched) (place : ℕ) : Type 0 where
   pub parent_is : IsFetched t parent
+  pub room : length (edges_of parent.node.value) ≤ 14
   pub fullest : IsFullestAt parent.node.value place
   pub edge : Edge
   pub here : IsEdgeAt parent.node.value place edge
@@ -91,18 +93,22 @@ pub record IsNamed (t : Table) (parent : Fetched) (place : ℕ) : Type 0 where
 abbrev pub IsToDo : Table → FlushStep → Type 0
 IsToDo t (SplitRoot root) =
     IsFetched t root × (root.id ≡ t.root) × (15 ≤ length (edges_of root.node.value))
-IsToDo t (SplitChild parent place child) =
+IsToDo t (SplitChild above parent place child) =
     CanSplitChild t parent place child × IsFullestAt parent.node.value place
     × (soft_limit < buffer_size child.node.value) × IsHigh t parent
-IsToDo t (Push parent place child) = IsReadyToPush t parent place child × IsHigh t parent
-IsToDo t (Privatise parent place) = IsShared t parent place × IsHigh t parent
-IsToDo t (Carve parent place) = IsNamed t parent place × IsHigh t parent
+IsToDo t (Push above parent place child) = IsReadyToPush t parent place child × IsHigh t parent
+IsToDo t (Privatise above parent place) = IsShared t parent place × IsHigh t parent
+IsToDo t (Carve above parent place) = IsNamed t parent place × IsHigh t parent
 
 -- a fetched node of the way
 pub record IsThere (nodes : Nodes) (t : Table) (f : Fetched) : Type 0 where
   pub there : nodes f.id ≡ Some f.node.value
   pub way : IsOnWay nodes t f.id
   pub private : IsPrivate nodes t f.id
+
+-- fetched nodes of the way
+abbrev pub AreThere : Nodes → Table → List Fetched → Type 0
+AreThere nodes t way = AllByRecursion (IsThere nodes t) way
 
 -- the child, if there is one
 abbrev pub IsChildThere : Nodes → Option Fetched → Type 0
@@ -112,10 +118,26 @@ IsChildThere nodes (Some child) = nodes child.id ≡ Some child.node.value
 -- where it is to be done, in known nodes
 abbrev pub IsToDoAt : Nodes → Table → FlushStep → Type 0
 IsToDoAt nodes t (SplitRoot root) = IsThere nodes t root
-IsToDoAt nodes t (SplitChild parent place child) = IsThere nodes t parent × IsThere nodes t child
-IsToDoAt nodes t (Push parent place child) = IsThere nodes t parent × IsChildThere nodes child
-IsToDoAt nodes t (Privatise parent place) = IsThere nodes t parent
-IsToDoAt nodes t (Carve parent place) = IsThere nodes t parent
+IsToDoAt nodes t (SplitChild above parent place child) = IsThere nodes t parent × IsThere nodes t child
+IsToDoAt nodes t (Push above parent place child) = IsThere nodes t parent × IsChildThere nodes child
+IsToDoAt nodes t (Privatise above parent place) = IsThere nodes t parent
+IsToDoAt nodes t (Carve above parent place) = IsThere nodes t parent
+
+-- the nodes above the one where it is to be done, as far as the table tells
+abbrev pub IsWayOf : Table → FlushStep → Type 0
+IsWayOf t (SplitRoot root) = Unit {0}
+IsWayOf t (SplitChild above parent place child) = IsWayUp t parent.id (reverse above)
+IsWayOf t (Push above parent place child) = IsWayUp t parent.id (reverse above)
+IsWayOf t (Privatise above parent place) = IsWayUp t parent.id (reverse above)
+IsWayOf t (Carve above parent place) = IsWayUp t parent.id (reverse above)
+
+-- and in known nodes
+abbrev pub IsWayThere : Nodes → Table → FlushStep → Type 0
+IsWayThere nodes t (SplitRoot root) = Unit {0}
+IsWayThere nodes t (SplitChild above parent place child) = AreThere nodes t (reverse above)
+IsWayThere nodes t (Push above parent place child) = AreThere nodes t (reverse above)
+IsWayThere nodes t (Privatise above parent place) = AreThere nodes t (reverse above)
+IsWayThere nodes t (Carve above parent place) = AreThere nodes t (reverse above)
 
 -- ---- from one node
 
@@ -136,10 +158,20 @@ pub record IsNext (t : Table) (parent child : Fetched) : Type 0 where
 
 -- what is seen from a node on the way, as far as the table tells
 abbrev pub IsSeen : Table → Fetched → Look → Type 0
-IsSeen t parent (Down child) = IsNext t parent child
+IsSeen t parent (Down above child) = IsNext t parent child
 IsSeen t parent (End step) = IsToDo t step
 
 -- and in known nodes
 abbrev pub IsSeenAt : Nodes → Table → Look → Type 0
-IsSeenAt nodes t (Down child) = IsThere nodes t child
+IsSeenAt nodes t (Down above child) = IsThere nodes t child
 IsSeenAt nodes t (End step) = IsToDoAt nodes t step
+
+-- the nodes above the next one or the one where something is to be done, as far as the table tells
+abbrev pub IsWaySeen : Table → Look → Type 0
+IsWaySeen t (Down above child) = IsWayUp t child.id (reverse above.items)
+IsWaySeen t (End step) = IsWayOf t step
+
+-- and in known nodes
+abbrev pub IsWaySeenAt : Nodes → Table → Look → Type 0
+IsWaySeenAt nodes t (Down above child) = AreThere nodes t (reverse above.items)
+IsWaySeenAt nodes t (End step) = IsWayThere nodes t step

@@ -1,18 +1,25 @@
 //! A child with 15 or 16 edges is split below its parent.
 
-ghost use Rattle.std.specs.Prelude.{◌≡◌, ◌≢◌, ◌+◌, ◌<◌, ◌≤◌, ◌∷◌, [], length, IfOk, MatchOption, Ok};
+ghost use Rattle.std.specs.Prelude.{◌≡◌, ◌+◌, ◌<◌, ◌≤◌, ◌∷◌, [], length, reverse, IfOk, MatchOption, OnOk, OnErr, Err};
 ghost use Rattle.std.specs.Option.{option_copied};
+ghost use Rattle.std.specs.List.{AllByRecursion};
 ghost use Rattle.bd_message.specs.KeyMaps.{HasMapCause};
+ghost use Rattle.bd_message.specs.declared.fault.MapFault.TheVariants as fault;
+ghost use Rattle.bd_message.specs.declared.fault.Counter.TheVariants as counter;
 ghost use Rattle.bd_node.specs.declared.node.Edge.{Edge};
+ghost use Rattle.bd_node.specs.Nodes.{level_of};
 ghost use Rattle.bd_node.specs.Shape.{IsShape};
 ghost use Rattle.bd_node.specs.Tables.{IsSound};
-ghost use Rattle.bd_inner.specs.Halves.{edges_of, AreHalves};
+ghost use Rattle.bd_inner.specs.Halves.{edges_of};
 ghost use Rattle.bd_inner.specs.Compaction.{IsCompacted};
 ghost use Rattle.bd_inner.specs.Exchange.{exchanged, IsEdgeAt, FitsAt};
 ghost use Rattle.bd_flush.specs.Flushed.{IsFlushed, IsWornFor};
-ghost use Rattle.bd_flush.specs.Children.{CanSplitChild, AreFamily, child_step, parting, upper_edge, IsSplitInto, IsSide, AreParts, IsLongIn, IsLongPivot, IsChildStep, IsSplitChild, IsNoHigher};
+ghost use Rattle.bd_flush.specs.Children.{CanSplitChild, AreFamily, IsContents, child_step, parting, upper_edge, IsSide, IsOver, AreParts, IsLongPivot, IsChildStep};
+ghost use Rattle.bd_flush.specs.Raising.{IsWayUp, CannotRise};
+ghost use Rattle.bd_flush.specs.Between.{IsSplitChild, IsHighAfterSplit};
 
 use crate::Fetched;
+use crate::between::put_between;
 use crate::nodes::edges_of;
 use bd_inner::{end_of, exchange, split};
 use bd_keys::Bytes;
@@ -21,43 +28,43 @@ use bd_message::MapFault;
 use bd_node::{Change, Edge, Items, Node, NodeStore, Step};
 use std::alloc::{AllocError, Global};
 
-/// What became of a child to split.
-#[derive(Clone, Copy, Debug, PartialEq, Eq)]
-pub enum ChildSplit {
-    /// It is one half from now on, and the other half is made if it has keys of the edge.
-    Done,
-    /// The pivot of its halves would have more than 518 bytes in the parent: nothing was changed.
-    LongPivot,
-}
-
-/// Splits a child with 15 or 16 edges, below a parent with at most 14. Both were fetched before.
-/// The parent is private, no other node names the child, and the edge at the place asks it with
-/// nothing in front of a key.
+/// Splits a child with 15 or 16 edges, below a parent with at most 14. These and the nodes above
+/// them were fetched before. The parent is private, no other node names the child, and the edge at
+/// the place asks it with nothing in front of a key. The child is one half from now on, and the
+/// other half is made if it has keys of the edge. Where the pivot of the halves would have more than
+/// 518 bytes in the parent, the child stands between the parent and both halves, which are made, and
+/// from the parent on upwards each node rises by one level that isn't above the one below it. Then a
+/// root of level 1,000 can't rise, which is `Worn(Level)`.
 pub fn split_child<S: NodeStore>(
     alloc: Global,
     store: &mut S,
+    above: &[Fetched],
     parent: &Fetched,
     place: usize,
     child: &Fetched,
-) -> Result<ChildSplit, MapFault>
+) -> Result<(), MapFault>
     requires can { CanSplitChild (S.table store.old) parent.now place child.now }
+    requires way { IsWayUp (S.table store.old) parent.now.id (reverse above.now) }
     requires family { S.is_known store.old → IsSound (S.nodes store.old) (S.table store.old)
         → AreFamily (S.nodes store.old) (S.table store.old) parent.now child.now }
+    requires there { S.is_known store.old → IsSound (S.nodes store.old) (S.table store.old)
+        → AllByRecursion (IsContents (S.nodes store.old)) (reverse above.now) }
     ensures flushed { S.is_known store.old → IsSound (S.nodes store.old) (S.table store.old)
-        → result ≡ Ok ChildSplit.Done → IsFlushed (S.nodes store.old) (S.table store.old)
-        (S.nodes store.new) (S.table store.new) }
+        → OnOk result (IsFlushed (S.nodes store.old) (S.table store.old)
+        (S.nodes store.new) (S.table store.new)) }
     ensures split { S.is_known store.old → IsSound (S.nodes store.old) (S.table store.old)
-        → result ≡ Ok ChildSplit.Done → IsSplitChild (S.table store.old) parent.now place child.now
-        (S.nodes store.new) (S.table store.new) }
-    ensures table { result ≡ Ok ChildSplit.Done
-        → IsNoHigher (S.table store.old) (S.table store.new) }
-    ensures long { result ≡ Ok ChildSplit.LongPivot
-        → IsLongPivot parent.now.node.value place child.now.node.value }
+        → OnOk result (IsSplitChild (S.table store.old) (reverse above.now) parent.now place child.now
+        (S.nodes store.new) (S.table store.new)) }
+    ensures table { OnOk result (IsHighAfterSplit (S.table store.old) parent.now.node.value place
+        child.now.node.value (S.table store.new)) }
+    ensures worn { result ≡ Err (fault.Worn counter.Level)
+        → IsLongPivot parent.now.node.value place child.now.node.value
+        × CannotRise (level_of child.now.node.value + 1) (parent.now ∷ reverse above.now) }
     ensures known { S.is_known store.old → S.is_known store.new }
-    ensures same_table { result ≢ Ok ChildSplit.Done → S.table store.new ≡ S.table store.old }
-    ensures same_nodes { S.is_known store.old
-        → result ≢ Ok ChildSplit.Done → S.nodes store.new ≡ S.nodes store.old }
-    ensures few_visits { S.visit_count store.new ≤ S.visit_count store.old + 1 }
+    ensures err_table { OnErr result (S.table store.new ≡ S.table store.old) }
+    ensures err_nodes { S.is_known store.old
+        → OnErr result (S.nodes store.new ≡ S.nodes store.old) }
+    ensures few_visits { S.visit_count store.new ≤ S.visit_count store.old + 2 }
     ensures cause { HasMapCause (S.fault_count store.old) (S.fault_count store.new)
         (S.bad store.new) (IsWornFor (S.table store.old)) result }
     ensures same_loans { S.loans store.new ≡ S.loans store.old }
@@ -65,10 +72,11 @@ pub fn split_child<S: NodeStore>(
     let root = store.root();
     let next = store.next_id();
     let Some(step) = child_split(alloc, root, next, parent, place, child)? else {
-        return Ok(ChildSplit::LongPivot);
+        let halves = split(alloc, &child.node)?;
+        return put_between(alloc, store, above, parent, child, halves);
     };
     store.commit(step)?;
-    Ok(ChildSplit::Done)
+    Ok(())
 }
 
 // The step of a child's split, and none where the pivot would be too long in the parent.
@@ -127,11 +135,24 @@ fn split_below(
 {
     let edge = edges_of(node)[place].clone()?;
     let halves = split(alloc, child)?;
-    over_halves(alloc, node, place, edge, halves, next)
+    match over_halves(alloc, node, place, edge, halves, next)? {
+        Halving::Short(parts) => Ok(Some(parts)),
+        Halving::Long { .. } => Ok(None),
+    }
+}
+
+// A node over the halves of its child, or the halves and the edge, where the pivot would be too long.
+#[derive(Drop)]
+pub enum Halving {
+    Short(Parts),
+    Long {
+        edge: Edge,
+        halves: (Node, Bytes, Node),
+    },
 }
 
 // A node over the halves of a child, with an edge in place of the one that it has there, and what
-// is made; none where the pivot would be too long.
+// is made; or the edge and the halves, where the pivot would be too long.
 pub fn over_halves(
     alloc: Global,
     node: &Node,
@@ -139,30 +160,30 @@ pub fn over_halves(
     edge: Edge,
     halves: (Node, Bytes, Node),
     next: u64,
-) -> Result<Option<Parts>, AllocError>
+) -> Result<Halving, AllocError>
     requires shape { IsShape node.now }
     requires room { length (edges_of node.now) ≤ 14 }
     requires within { place < length (edges_of node.now) }
     requires next { 1 ≤ next }
     requires fits { (e : Edge) → IsEdgeAt node.now place e → FitsAt node.now place e (edge ∷ []) }
-    ensures { IfOk result (λ found. MatchOption found
-        (IsLongIn node.now place edge halves.1)
-        (λ parts. (m : Node) → AreHalves m halves.0 halves.1 halves.2
-        → IsSplitInto node.now place edge m next parts.node parts.half parts.made.items)) }
+    ensures { IfOk result (IsOver node.now place edge halves.0 halves.1 halves.2 next) }
 {
     let (first, pivot, second) = halves;
-    let pivot = parting(alloc, &edge, &pivot)?;
-    match asked_side(&edge, end_of(edges_of(node), place), pivot.as_slice()) {
-        Side::Lower => Ok(Some(one_half(alloc, node, place, edge, first)?)),
-        Side::Upper => Ok(Some(one_half(alloc, node, place, edge, second)?)),
+    let key = parting(alloc, &edge, &pivot)?;
+    match asked_side(&edge, end_of(edges_of(node), place), key.as_slice()) {
+        Side::Lower => Ok(Halving::Short(one_half(alloc, node, place, edge, first)?)),
+        Side::Upper => Ok(Halving::Short(one_half(alloc, node, place, edge, second)?)),
         Side::Both => {
-            if pivot.len() > MAX_KEY {
-                return Ok(None);
+            if key.len() > MAX_KEY {
+                return Ok(Halving::Long {
+                    edge,
+                    halves: (first, pivot, second),
+                });
             }
-            let node = with_upper(alloc, node, place, edge, pivot, next)?;
+            let node = with_upper(alloc, node, place, edge, key, next)?;
             let mut made = Vec::new(alloc);
             made.push(second)?;
-            Ok(Some(Parts {
+            Ok(Halving::Short(Parts {
                 node,
                 half: first,
                 made,

@@ -3,6 +3,8 @@
 //! it, with what each leaves, `IsFlushed`.
 #![tactic(auto)]
 
+mod between;
+mod carving;
 mod children;
 mod fetching;
 mod filling;
@@ -14,11 +16,13 @@ mod raising;
 mod splitting;
 mod ways;
 
-pub use children::{ChildSplit, split_child};
+pub use between::put_between;
+pub use carving::carve;
+pub use children::split_child;
 pub use fetching::{Fetched, fetch};
 pub use filling::{FullEdge, fullest};
 pub use planting::push_new;
-pub use pushing::{ChildPush, push};
+pub use pushing::push;
 pub use raising::{Way, raise_above, raised};
 pub use splitting::split_root;
 pub use ways::{FlushStep, next_step};

@@ -1,8 +1,11 @@
 //! Messages go down from a node to its child.
 
-ghost use Rattle.std.specs.Prelude.{◌≡◌, ◌≢◌, ◌+◌, ◌^◌, ◌<◌, ◌≤◌, ◌∷◌, [], length, drop, IfOk, MatchOption, Ok};
+ghost use Rattle.std.specs.Prelude.{◌≡◌, ◌+◌, ◌^◌, ◌<◌, ◌≤◌, ◌⊎◌, length, drop, reverse, IfOk, OnOk, OnErr, Err};
+ghost use Rattle.std.specs.List.{AllByRecursion};
 ghost use Rattle.bd_limits.specs.Limits.{soft_limit, leaf_limit, batch_limit};
 ghost use Rattle.bd_message.specs.KeyMaps.{HasMapCause};
+ghost use Rattle.bd_message.specs.declared.fault.MapFault.TheVariants as fault;
+ghost use Rattle.bd_message.specs.declared.fault.Counter.TheVariants as counter;
 ghost use Rattle.bd_node.specs.declared.node.Edge.{Edge};
 ghost use Rattle.bd_node.specs.declared.node.Node.TheVariants as kind;
 ghost use Rattle.bd_node.specs.Nodes.{level_of, buffer_size};
@@ -11,114 +14,138 @@ ghost use Rattle.bd_node.specs.Tables.{IsSound};
 ghost use Rattle.bd_inner.specs.Halves.{edges_of, buffer_of, AreHalves};
 ghost use Rattle.bd_inner.specs.Moving.{IsLifted};
 ghost use Rattle.bd_inner.specs.Exchange.{end_at, IsEdgeAt};
-ghost use Rattle.bd_flush.specs.Flushed.{IsFlushed, IsWornFor};
 ghost use Rattle.bd_leaf.specs.Leaves.{AreEntries, entries_size};
-ghost use Rattle.bd_flush.specs.Children.{AreFamily, IsSplitInto, IsLongPivot, IsNoHigher};
-ghost use Rattle.bd_flush.specs.Pushes.{seen_by, unseen, CanPush, IsWaitedFor, IsEdgeBatch, IsRelieved, IsLongPush, ArePushed, IsPushStep, IsPushed};
+ghost use Rattle.bd_flush.specs.declared.fetching.Fetched.{Fetched};
+ghost use Rattle.bd_flush.specs.Flushed.{IsFlushed, IsWornFor};
+ghost use Rattle.bd_flush.specs.Children.{AreFamily, IsContents, IsNoHigher};
+ghost use Rattle.bd_flush.specs.Between.{IsHardlyHigher};
+ghost use Rattle.bd_flush.specs.Raising.{IsWayUp};
+ghost use Rattle.bd_flush.specs.Pushes.{seen_by, unseen, CanPush, IsWaitedFor, IsEdgeBatch, IsRelieved, IsPartedOver, IsPushedOver, ArePushed, IsPlanOver, IsPlan, IsPushed, IsPushedBetween, IsLongPush, IsHighPush};
 
 use crate::Fetched;
-use crate::children::{Parts, child_step, over_halves, with_edge};
+use crate::children::{Halving, Parts, child_step, over_halves, with_edge};
 use crate::nodes::edges_of;
+use crate::raising::changes_over;
+use crate::splitting::over_two;
 use bd_inner::{Batch, end_of, next_batch, receive};
 use bd_keys::Bytes;
 use bd_leaf as leaf;
-use bd_message::{MapFault, Message};
-use bd_node::{Edge, Entries, Entry, Node, NodeStore, Step};
+use bd_message::{Counter, MapFault, Message};
+use bd_node::{Change, Edge, Entries, Entry, Items, Node, NodeStore, Step};
 use std::alloc::{AllocError, Global};
 
-/// What became of messages that were to go down to a child.
-#[derive(Clone, Copy, Debug, PartialEq, Eq)]
-pub enum ChildPush {
-    /// The child has them.
-    Done,
-    /// The child is a leaf that would have more than 40,960 bytes, and the pivot of its halves would
-    /// have more than 518 bytes in the parent: nothing was changed.
-    LongPivot,
-}
-
 /// Moves the oldest messages that a private node's edge hasn't seen, at least one and at most
-/// 16,384 bytes, to its child, in which at most 16,384 bytes wait. Both were fetched before. No
-/// other node names the child, and the edge at the place asks it with nothing in front of a key. A
-/// leaf that would have more than 40,960 bytes is split: it is one half from now on, and the other
-/// half is made if it has keys of the edge.
+/// 16,384 bytes, to its child, in which at most 16,384 bytes wait. Both were fetched before, and so
+/// were the nodes above, the root first. No other node names the child, and the edge at the place
+/// asks it with nothing in front of a key.
+/// A leaf that would have more than 40,960 bytes is split: it is one half from now on, and the other
+/// half is made if it has keys of the edge. Where the pivot would have more than 518 bytes in the
+/// parent, the leaf becomes a node over both halves, which are made, and each node above that isn't
+/// higher than the one below it then rises by one level. A root of level 1,000 can't rise, which is
+/// `Worn(Level)`.
 pub fn push<S: NodeStore>(
     alloc: Global,
     store: &mut S,
+    above: &[Fetched],
     parent: &Fetched,
     place: usize,
     child: &Fetched,
-) -> Result<ChildPush, MapFault>
+) -> Result<(), MapFault>
     requires can { CanPush (S.table store.old) parent.now place child.now }
+    requires way { IsWayUp (S.table store.old) parent.now.id (reverse above.now) }
     requires family { S.is_known store.old → IsSound (S.nodes store.old) (S.table store.old)
         → AreFamily (S.nodes store.old) (S.table store.old) parent.now child.now }
+    requires contents { S.is_known store.old → IsSound (S.nodes store.old) (S.table store.old)
+        → AllByRecursion (IsContents (S.nodes store.old)) (reverse above.now) }
     ensures flushed { S.is_known store.old → IsSound (S.nodes store.old) (S.table store.old)
-        → result ≡ Ok ChildPush.Done → IsFlushed (S.nodes store.old) (S.table store.old)
-        (S.nodes store.new) (S.table store.new) }
+        → OnOk result (IsFlushed (S.nodes store.old) (S.table store.old)
+        (S.nodes store.new) (S.table store.new)) }
     ensures pushed { S.is_known store.old → IsSound (S.nodes store.old) (S.table store.old)
-        → result ≡ Ok ChildPush.Done → IsPushed (S.table store.old) parent.now place child.now
-        (S.nodes store.new) (S.table store.new) }
-    ensures table { result ≡ Ok ChildPush.Done
-        → IsNoHigher (S.table store.old) (S.table store.new) }
-    ensures long { result ≡ Ok ChildPush.LongPivot
-        → IsLongPush parent.now.node.value place child.now.node.value }
+        → OnOk result (IsPushed (S.table store.old) parent.now place child.now
+        (S.nodes store.new) (S.table store.new)
+        ⊎ IsPushedBetween (S.table store.old) (reverse above.now) parent.now place child.now
+        (S.nodes store.new) (S.table store.new)) }
+    ensures table { OnOk result (IsNoHigher (S.table store.old) (S.table store.new)
+        ⊎ (IsLongPush parent.now.node.value place child.now.node.value
+        × IsHardlyHigher (S.table store.old) (S.table store.new))) }
+    ensures worn { result ≡ Err (fault.Worn counter.Level)
+        → IsHighPush parent.now.node.value place child.now.node.value (reverse above.now) }
     ensures known { S.is_known store.old → S.is_known store.new }
-    ensures same_table { result ≢ Ok ChildPush.Done → S.table store.new ≡ S.table store.old }
-    ensures same_nodes { S.is_known store.old
-        → result ≢ Ok ChildPush.Done → S.nodes store.new ≡ S.nodes store.old }
-    ensures few_visits { S.visit_count store.new ≤ S.visit_count store.old + 1 }
+    ensures err_table { OnErr result (S.table store.new ≡ S.table store.old) }
+    ensures err_nodes { S.is_known store.old
+        → OnErr result (S.nodes store.new ≡ S.nodes store.old) }
+    ensures few_visits { S.visit_count store.new ≤ S.visit_count store.old + 2 }
     ensures cause { HasMapCause (S.fault_count store.old) (S.fault_count store.new)
         (S.bad store.new) (IsWornFor (S.table store.old)) result }
     ensures same_loans { S.loans store.new ≡ S.loans store.old }
 {
     let root = store.root();
     let next = store.next_id();
-    let Some(step) = push_step(alloc, root, next, parent, place, child)? else {
-        return Ok(ChildPush::LongPivot);
+    let step = match push_plan(alloc, root, next, above, parent, place, child)? {
+        Plan::Ready(step) => step,
+        Plan::NoId => return Err(MapFault::Worn(Counter::NextId)),
+        Plan::NoLevel => return Err(MapFault::Worn(Counter::Level)),
     };
-    store.commit(step)?;
-    Ok(ChildPush::Done)
+    store.commit(step)
 }
 
-// The step of a push, and none where a leaf's pivot would be too long in the parent.
-fn push_step(
+// The step of a push; or that there is no id for a made node, or no level for a node that has to
+// rise.
+#[derive(Drop)]
+enum Plan {
+    Ready(Step),
+    NoId,
+    NoLevel,
+}
+
+// What a push does.
+fn push_plan(
     alloc: Global,
     root: u64,
     next: u64,
+    above: &[Fetched],
     parent: &Fetched,
     place: usize,
     child: &Fetched,
-) -> Result<Option<Step>, AllocError>
+) -> Result<Plan, AllocError>
     requires shape { IsShape parent.now.node.value }
     requires child { IsShape child.now.node.value }
+    requires above { AllByRecursion (λ (f : Fetched). IsShape f.node.value) (reverse above.now) }
     requires soft { buffer_size child.now.node.value ≤ soft_limit }
     requires room { length (edges_of parent.now.node.value) ≤ 14 }
     requires within { place < length (edges_of parent.now.node.value) }
     requires next { 1 ≤ next }
     requires waiting { (e : Edge) → IsEdgeAt parent.now.node.value place e
         → IsWaitedFor parent.now.node.value place e }
-    ensures { IfOk result (λ found. MatchOption found
-        (IsLongPush parent.now.node.value place child.now.node.value)
-        (λ step. IsPushStep root next parent.now place child.now step)) }
+    ensures { IfOk result (IsPlan root next (reverse above.now) parent.now place child.now) }
 {
     let node: &Node = &parent.node;
     let below: &Node = &child.node;
     match pushed_below(alloc, node, place, below, next)? {
-        Some(Parts { node, half, made }) => Ok(Some(child_step(
-            alloc, root, parent.id, node, child.id, half, made,
-        )?)),
-        None => Ok(None),
+        Halving::Short(Parts { node, half, made }) => {
+            let step = child_step(alloc, root, parent.id, node, child.id, half, made)?;
+            Ok(Plan::Ready(step))
+        }
+        Halving::Long { edge, halves } => {
+            let node = with_edge(alloc, node, place, edge)?;
+            let parent = Change {
+                id: parent.id,
+                node,
+            };
+            plan_over(alloc, root, next, above, parent, child.id, halves)
+        }
     }
 }
 
-// A node and its child after messages have gone down, and none where a leaf's pivot would be too
-// long in the node.
+// A node and its child after messages have gone down, or a leaf's halves where their pivot would be
+// too long in the node.
 fn pushed_below(
     alloc: Global,
     node: &Node,
     place: usize,
     child: &Node,
     next: u64,
-) -> Result<Option<Parts>, AllocError>
+) -> Result<Halving, AllocError>
     requires shape { IsShape node.now }
     requires child { IsShape child.now }
     requires soft { buffer_size child.now ≤ soft_limit }
@@ -126,12 +153,11 @@ fn pushed_below(
     requires within { place < length (edges_of node.now) }
     requires next { 1 ≤ next }
     requires waiting { (e : Edge) → IsEdgeAt node.now place e → IsWaitedFor node.now place e }
-    ensures { IfOk result (λ found. MatchOption found (IsLongPush node.now place child.now)
-        (ArePushed node.now place child.now next)) }
+    ensures { IfOk result (IsPushedOver node.now place child.now next) }
 {
     match child {
         Node::Leaf(entries) => leaf_received(alloc, node, place, entries.as_slice(), next),
-        Node::Inner { .. } => Ok(Some(received(alloc, node, place, child, next)?)),
+        Node::Inner { .. } => Ok(Halving::Short(received(alloc, node, place, child, next)?)),
     }
 }
 
@@ -142,16 +168,14 @@ fn leaf_received(
     place: usize,
     entries: &[Entry],
     next: u64,
-) -> Result<Option<Parts>, AllocError>
+) -> Result<Halving, AllocError>
     requires shape { IsShape node.now }
     requires leaf { IsLeaf entries.now }
     requires room { length (edges_of node.now) ≤ 14 }
     requires within { place < length (edges_of node.now) }
     requires next { 1 ≤ next }
     requires waiting { (e : Edge) → IsEdgeAt node.now place e → IsWaitedFor node.now place e }
-    ensures { IfOk result (λ found. MatchOption found
-        (IsLongPush node.now place (kind.Leaf entries.now))
-        (ArePushed node.now place (kind.Leaf entries.now) next)) }
+    ensures { IfOk result (IsPushedOver node.now place (kind.Leaf entries.now) next) }
 {
     let batch = edge_batch(alloc, node, place)?;
     let new = leaf::receive(alloc, entries, batch.messages.as_slice())?;
@@ -159,7 +183,7 @@ fn leaf_received(
         return leaf_parted(alloc, node, place, batch.count, new, next);
     }
     let above = relieved(alloc, node, place, batch.count)?;
-    Ok(Some(Parts {
+    Ok(Halving::Short(Parts {
         node: above,
         half: Node::Leaf(new),
         made: Vec::new(alloc),
@@ -174,7 +198,7 @@ fn leaf_parted(
     count: usize,
     new: Entries,
     next: u64,
-) -> Result<Option<Parts>, AllocError>
+) -> Result<Halving, AllocError>
     requires shape { IsShape node.now }
     requires room { length (edges_of node.now) ≤ 14 }
     requires within { place < length (edges_of node.now) }
@@ -184,11 +208,7 @@ fn leaf_parted(
     requires entries { AreEntries new }
     requires over { leaf_limit < entries_size new }
     requires fits { entries_size new ≤ leaf_limit + batch_limit }
-    ensures { IfOk result (λ found. MatchOption found
-        (IsLongPivot node.now place (kind.Leaf new))
-        (λ parts. (e : Edge) → IsEdgeAt node.now place e
-        → IsSplitInto node.now place (seen_by e count) (kind.Leaf new) next
-        parts.node parts.half parts.made.items)) }
+    ensures { IfOk result (IsPartedOver node.now place count new next) }
 {
     let edge = seen_by(&edges_of(node)[place], count)?;
     let halves = leaf_halves(new)?;
@@ -205,6 +225,42 @@ fn leaf_halves(new: Entries) -> Result<(Node, Bytes, Node), AllocError>
     let (first, second) = leaf::split(new)?;
     let pivot = second.as_slice()[0].key.clone()?;
     Ok((Node::Leaf(first), pivot, Node::Leaf(second)))
+}
+
+// What makes two halves of a leaf and puts a node over them in its place, below a changed parent.
+fn plan_over(
+    alloc: Global,
+    root: u64,
+    next: u64,
+    above: &[Fetched],
+    parent: Change,
+    child: u64,
+    halves: (Node, Bytes, Node),
+) -> Result<Plan, AllocError>
+    requires shape { IsShape parent.node }
+    requires above { AllByRecursion (λ (f : Fetched). IsShape f.node.value) (reverse above.now) }
+    ensures { IfOk result
+        (IsPlanOver root next (reverse above.now) parent child halves.0 halves.1 halves.2) }
+{
+    let (first, pivot, second) = halves;
+    let Some(upper) = next.checked_add(1) else {
+        return Ok(Plan::NoId);
+    };
+    let between = Change {
+        id: child,
+        node: over_two(alloc, 1, pivot, next, upper)?,
+    };
+    let Some(changes) = changes_over(alloc, between, parent, above)? else {
+        return Ok(Plan::NoLevel);
+    };
+    let mut made = Vec::new(alloc);
+    made.push(first)?;
+    made.push(second)?;
+    Ok(Plan::Ready(Step {
+        made: Items::from_vec(made),
+        changes: Items::from_vec(changes),
+        root,
+    }))
 }
 
 // The same of a child that is an inner node.

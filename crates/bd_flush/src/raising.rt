@@ -1,15 +1,17 @@
 //! Nodes rise by one level where a node below them has risen.
 
-ghost use Rattle.std.specs.Prelude.{◌≡◌, ◌++◌, map, reverse, IfOk, MatchOption};
+ghost use Rattle.std.specs.Prelude.{◌≡◌, ◌<◌, ◌++◌, ◌∷◌, map, reverse, IfOk, MatchOption};
 ghost use Rattle.std.specs.List.{AllByRecursion};
 ghost use Rattle.bd_node.specs.Shape.{IsShape};
 ghost use Rattle.bd_flush.specs.declared.fetching.Fetched.{Fetched};
-ghost use Rattle.bd_flush.specs.Raising.{raised, CannotRise, AreRaised};
+ghost use Rattle.bd_flush.specs.Raising.{raised, CannotRise, AreRaised, CannotRiseOver, AreChangesOver};
+ghost use Rattle.bd_limits.specs.Limits.{level_limit};
+ghost use Rattle.bd_node.specs.Nodes.{level_of};
 
 use crate::Fetched;
 use bd_limits::MAX_LEVEL;
 use bd_node::{Change, Items, Node};
-use std::alloc::AllocError;
+use std::alloc::{AllocError, Global};
 
 /// The nodes above one on the way down to it, the root first.
 pub type Way = Items<Fetched>;
@@ -42,6 +44,63 @@ pub fn raise_above(
         node: raised(&nearest.node)?,
     })?;
     raise_above(changes, others, own + 1)
+}
+
+/// The changes of a node's child, of the node, one level higher where it has to be, and of the nodes
+/// above it that rise with it. There are none where one of level 1,000 would have to rise.
+pub fn changes_over(
+    alloc: Global,
+    child: Change,
+    parent: Change,
+    above: &[Fetched],
+) -> Result<Option<Vec<Change>>, AllocError>
+    requires shape { IsShape parent.node }
+    requires low { level_of child.node < level_limit }
+    requires above { AllByRecursion (λ (f : Fetched). IsShape f.node.value) (reverse above.now) }
+    ensures { IfOk result (λ found. MatchOption found
+        (CannotRiseOver (level_of child.node) parent.node (reverse above.now))
+        (λ all. AreChangesOver child parent (reverse above.now) all.items)) }
+{
+    let level = child.node.level();
+    let own = parent.node.level();
+    let mut changes = Vec::new(alloc);
+    changes.push(child)?;
+    if level < own {
+        changes.push(parent)?;
+        return Ok(Some(changes));
+    }
+    changes.push(Change {
+        id: parent.id,
+        node: raised(&parent.node)?,
+    })?;
+    raise_above(changes, above, own + 1)
+}
+
+/// The same where the nearest one stands apart.
+pub fn raise_way(
+    changes: Vec<Change>,
+    above: &[Fetched],
+    nearest: &Fetched,
+    level: u32,
+) -> Result<Option<Vec<Change>>, AllocError>
+    requires { AllByRecursion (λ (f : Fetched). IsShape f.node.value) (nearest.now ∷ reverse above.now) }
+    ensures { IfOk result (λ found. MatchOption found
+        (CannotRise level (nearest.now ∷ reverse above.now))
+        (λ all. AreRaised level (nearest.now ∷ reverse above.now) changes.items all.items)) }
+{
+    let own = nearest.node.level();
+    if level < own {
+        return Ok(Some(changes));
+    }
+    if own >= MAX_LEVEL {
+        return Ok(None);
+    }
+    let mut changes = changes;
+    changes.push(Change {
+        id: nearest.id,
+        node: raised(&nearest.node)?,
+    })?;
+    raise_above(changes, above, own + 1)
 }
 
 /// A node one level higher, all else as it is.

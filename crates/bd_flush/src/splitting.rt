@@ -26,7 +26,7 @@ use std::alloc::{AllocError, Global};
 pub fn split_root<S: NodeStore>(alloc: Global, store: &mut S, root: &Node) -> Result<(), MapFault>
     requires node { IsNodeOf (S.table store.old)
         ((S.table store.old).level (S.table store.old).root) root.now }
-    requires there { S.is_known store.old
+    requires there { S.is_known store.old → IsSound (S.nodes store.old) (S.table store.old)
         → S.nodes store.old (S.table store.old).root ≡ Some root.now }
     requires full { 15 ≤ length (edges_of root.now) }
     ensures flushed { S.is_known store.old → IsSound (S.nodes store.old) (S.table store.old)
@@ -90,8 +90,8 @@ fn root_split(
     })
 }
 
-// A node over two others, the second one with the keys from a pivot on.
-fn over_two(
+/// A node over two others, the second one with the keys from a pivot on.
+pub fn over_two(
     alloc: Global,
     level: u32,
     pivot: Bytes,

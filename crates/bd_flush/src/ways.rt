@@ -1,6 +1,6 @@
 //! The way down that a step of a flush takes, and what is to be done at its end.
 
-ghost use Rattle.std.specs.Prelude.{◌≡◌, ◌↔◌, ◌+◌, ◌<◌, ◌≤◌, true, false, length, drop, IfOk, IsTrue, Some};
+ghost use Rattle.std.specs.Prelude.{◌≡◌, ◌↔◌, ◌+◌, ◌<◌, ◌≤◌, true, false, length, drop, reverse, IfOk, IsTrue, Some};
 ghost use Rattle.std.specs.Option.{option_copied};
 ghost use Rattle.std.specs.List.{AllByRecursion};
 ghost use Rattle.bd_keys.specs.Keys.{IsBelowEnd};
@@ -14,19 +14,22 @@ ghost use Rattle.bd_inner.specs.Halves.{edges_of, buffer_of};
 ghost use Rattle.bd_inner.specs.Exchange.{end_at, IsEdgeAt};
 ghost use Rattle.bd_flush.specs.Children.{IsFetched, IsWayTo};
 ghost use Rattle.bd_inner.specs.Moving.{IsPlainFor};
-ghost use Rattle.bd_flush.specs.Ways.{IsFullestAt, IsTarget, IsHigh, IsToDo, IsToDoAt, IsThere, IsChildThere, IsAsked, IsSeen, IsSeenAt};
+ghost use Rattle.bd_flush.specs.declared.ways.FlushStep.TheVariants as step;
+ghost use Rattle.bd_flush.specs.Raising.{IsWayUp};
+ghost use Rattle.bd_flush.specs.Ways.{IsFullestAt, IsTarget, IsHigh, IsToDo, IsToDoAt, IsWayOf, IsWayThere, IsThere, AreThere, IsChildThere, IsAsked, IsSeen, IsSeenAt, IsWaySeen, IsWaySeenAt};
 
-use crate::nodes::{buffer_of, buffer_size, edges_of};
-use crate::{Fetched, fetch, fullest};
+use crate::nodes::{buffer_of, edges_of};
+use crate::{Fetched, Way, fetch, fullest};
 use bd_inner::{can_touch, end_of};
 use bd_limits::SOFT_BUFFER;
 use bd_message::{MapFault, Message};
-use bd_node::{Edge, Node, NodeStore};
+use bd_node::{Edge, Items, Node, NodeStore};
+use std::alloc::{AllocError, Global};
 
 /// From this many edges on, a node on the way is split.
 const MANY_EDGES: usize = 15;
 
-/// What a step of a flush does, and where.
+/// What a step of a flush does, and where: at a node, with the nodes above it.
 #[derive(Debug, Drop)]
 pub enum FlushStep {
     /// The root has 15 or 16 edges, and is split.
@@ -35,6 +38,7 @@ pub enum FlushStep {
     },
     /// The child, the next node on the way, has 15 or 16 edges, and is split.
     SplitChild {
+        above: Way,
         parent: Fetched,
         place: usize,
         child: Fetched,
@@ -42,17 +46,20 @@ pub enum FlushStep {
     /// Messages go down the edge at the place to a private child, or to a new leaf where there is
     /// no child.
     Push {
+        above: Way,
         parent: Fetched,
         place: usize,
         child: Option<Fetched>,
     },
     /// The edge's child is shared, or asked with something in front of a key: it is copied.
     Privatise {
+        above: Way,
         parent: Fetched,
         place: usize,
     },
     /// A Goto is pending for the edge, and may not go down: its keys get edges of their own.
     Carve {
+        above: Way,
         parent: Fetched,
         place: usize,
     },
@@ -61,10 +68,13 @@ pub enum FlushStep {
 /// What a step of a flush is to do: it goes down from the root to the child for which most bytes
 /// wait, while that child is private, asked with nothing in front of a key, and has more than 16,384
 /// bytes of messages itself. At most as many nodes are fetched as the tree is high.
-pub fn next_step<S: NodeStore>(store: &mut S) -> Result<FlushStep, MapFault>
+pub fn next_step<S: NodeStore>(alloc: Global, store: &mut S) -> Result<FlushStep, MapFault>
     ensures to_do { IfOk result (IsToDo (S.table store.old)) }
     ensures at { S.is_known store.old → IsSound (S.nodes store.old) (S.table store.old)
         → IfOk result (IsToDoAt (S.nodes store.old) (S.table store.old)) }
+    ensures way { IfOk result (IsWayOf (S.table store.old)) }
+    ensures way_at { S.is_known store.old → IsSound (S.nodes store.old) (S.table store.old)
+        → IfOk result (IsWayThere (S.nodes store.old) (S.table store.old)) }
     ensures table { S.table store.new ≡ S.table store.old }
     ensures known { S.is_known store.old → S.is_known store.new }
     ensures kept { S.is_known store.old → S.nodes store.new ≡ S.nodes store.old }
@@ -80,9 +90,13 @@ pub fn next_step<S: NodeStore>(store: &mut S) -> Result<FlushStep, MapFault>
     if edges_of(&parent.node).len() >= MANY_EDGES {
         return Ok(FlushStep::SplitRoot { root: parent });
     }
+    let mut above = Vec::new(alloc);
     loop {
-        match look_from(store, parent)? {
-            Look::Down(child) => parent = child,
+        match look_from(store, above, parent)? {
+            Look::Down(nodes, child) => {
+                above = nodes;
+                parent = child;
+            }
             Look::End(step) => return Ok(step),
         }
     }
@@ -91,14 +105,19 @@ pub fn next_step<S: NodeStore>(store: &mut S) -> Result<FlushStep, MapFault>
 // What is seen from a node on the way.
 #[derive(Drop)]
 enum Look {
-    // The way goes on at this child.
-    Down(Fetched),
+    // The way goes on at this child, below these nodes.
+    Down(Vec<Fetched>, Fetched),
     // This is to be done here.
     End(FlushStep),
 }
 
 // What is seen from a node on the way: the child is fetched where it may be the next one.
-fn look_from<S: NodeStore>(store: &mut S, parent: Fetched) -> Result<Look, MapFault>
+fn look_from<S: NodeStore>(
+    store: &mut S,
+    above: Vec<Fetched>,
+    parent: Fetched,
+) -> Result<Look, MapFault>
+    requires way { IsWayUp (S.table store.old) parent.id (reverse above.items) }
     requires fetched { IsFetched (S.table store.old) parent }
     requires inner { 1 ≤ level_of parent.node.value }
     requires room { length (edges_of parent.node.value) ≤ 14 }
@@ -107,6 +126,11 @@ fn look_from<S: NodeStore>(store: &mut S, parent: Fetched) -> Result<Look, MapFa
     ensures at { S.is_known store.old → IsSound (S.nodes store.old) (S.table store.old)
         → IsThere (S.nodes store.old) (S.table store.old) parent
         → IfOk result (IsSeenAt (S.nodes store.old) (S.table store.old)) }
+    ensures way { IfOk result (IsWaySeen (S.table store.old)) }
+    ensures way_at { S.is_known store.old
+        → IsThere (S.nodes store.old) (S.table store.old) parent
+        → AreThere (S.nodes store.old) (S.table store.old) (reverse above.items)
+        → IfOk result (IsWaySeenAt (S.nodes store.old) (S.table store.old)) }
     ensures table { S.table store.new ≡ S.table store.old }
     ensures known { S.is_known store.old → S.is_known store.new }
     ensures kept { S.is_known store.old → S.nodes store.new ≡ S.nodes store.old }
@@ -118,46 +142,76 @@ fn look_from<S: NodeStore>(store: &mut S, parent: Fetched) -> Result<Look, MapFa
 {
     let place = fullest_place(&parent.node);
     let id = match asks(&parent.node, place) {
-        Asked::Nothing => return Ok(Look::End(push_or_carve(parent, place, None))),
-        Asked::Through => return Ok(Look::End(FlushStep::Privatise { parent, place })),
+        Asked::Nothing => return Ok(Look::End(push_or_carve(above, parent, place, None))),
+        Asked::Through => return Ok(Look::End(privatise(above, parent, place))),
         Asked::Child(id) => id,
     };
     if store.count(id) != 1 {
-        return Ok(Look::End(FlushStep::Privatise { parent, place }));
+        return Ok(Look::End(privatise(above, parent, place)));
     }
     let child = fetch(store, id)?;
-    Ok(look_below(parent, place, child))
+    Ok(look_below(above, parent, place, child)?)
 }
 
 // What is seen from a node on the way, where its private child was fetched.
-fn look_below(parent: Fetched, place: usize, child: Fetched) -> Look
+fn look_below(
+    above: Vec<Fetched>,
+    parent: Fetched,
+    place: usize,
+    child: Fetched,
+) -> Result<Look, AllocError>
     requires shape { IsShape parent.node.value }
     requires child { IsShape child.node.value }
     requires within { place < length (edges_of parent.node.value) }
     ensures seen { (t : Table) → IsFetched t parent → length (edges_of parent.node.value) ≤ 14
         → IsFullestAt parent.node.value place → (e : Edge) → IsWayTo parent.node.value place child.id e
-        → IsFetched t child → t.count child.id ≡ 1 → IsHigh t parent → IsSeen t parent result }
+        → IsFetched t child → t.count child.id ≡ 1 → IsHigh t parent → IfOk result (IsSeen t parent) }
     ensures at { (nodes : Nodes) (t : Table) → IsThere nodes t parent
         → length (edges_of parent.node.value) ≤ 14 → IsFullestAt parent.node.value place
         → (e : Edge) → IsWayTo parent.node.value place child.id e → t.count child.id ≡ 1
-        → nodes child.id ≡ Some child.node.value → IsSeenAt nodes t result }
+        → nodes child.id ≡ Some child.node.value → IfOk result (IsSeenAt nodes t) }
+    ensures way { (t : Table) (e : Edge) → IsFetched t parent
+        → IsWayTo parent.node.value place child.id e → t.count child.id ≡ 1
+        → IsWayUp t parent.id (reverse above.items) → IfOk result (IsWaySeen t) }
+    ensures way_at { (nodes : Nodes) (t : Table) → IsThere nodes t parent
+        → AreThere nodes t (reverse above.items)
+        → IfOk result (IsWaySeenAt nodes t) }
 {
-    if buffer_size(&child.node) <= SOFT_BUFFER {
-        return Look::End(push_or_carve(parent, place, Some(child)));
+    if child.node.buffer_size() <= SOFT_BUFFER {
+        return Ok(Look::End(push_or_carve(above, parent, place, Some(child))));
     }
     if edges_of(&child.node).len() < MANY_EDGES {
-        return Look::Down(child);
+        let mut above = above;
+        above.push(parent)?;
+        return Ok(Look::Down(above, child));
     }
-    Look::End(FlushStep::SplitChild {
+    Ok(Look::End(FlushStep::SplitChild {
+        above: Items::from_vec(above),
         parent,
         place,
         child,
-    })
+    }))
+}
+
+// A child is to be copied.
+fn privatise(above: Vec<Fetched>, parent: Fetched, place: usize) -> FlushStep
+    ensures { result ≡ step.Privatise above.items parent place }
+{
+    FlushStep::Privatise {
+        above: Items::from_vec(above),
+        parent,
+        place,
+    }
 }
 
 // What is to be done where messages go to a child or a new leaf: a push, or first the carving of a
 // Goto.
-fn push_or_carve(parent: Fetched, place: usize, child: Option<Fetched>) -> FlushStep
+fn push_or_carve(
+    above: Vec<Fetched>,
+    parent: Fetched,
+    place: usize,
+    child: Option<Fetched>,
+) -> FlushStep
     requires shape { IsShape parent.node.value }
     requires within { place < length (edges_of parent.node.value) }
     ensures to_do { (t : Table) → IsFetched t parent → length (edges_of parent.node.value) ≤ 14
@@ -165,11 +219,20 @@ fn push_or_carve(parent: Fetched, place: usize, child: Option<Fetched>) -> Flush
         → IsTarget t parent.node.value place e child → IsHigh t parent → IsToDo t result }
     ensures at { (nodes : Nodes) (t : Table) → IsThere nodes t parent → IsChildThere nodes child
         → IsToDoAt nodes t result }
+    ensures way { (t : Table) → IsWayUp t parent.id (reverse above.items) → IsWayOf t result }
+    ensures way_at { (nodes : Nodes) (t : Table)
+        → AreThere nodes t (reverse above.items) → IsWayThere nodes t result }
 {
+    let above = Items::from_vec(above);
     if goto_waits(&parent.node, place) {
-        FlushStep::Carve { parent, place }
+        FlushStep::Carve {
+            above,
+            parent,
+            place,
+        }
     } else {
         FlushStep::Push {
+            above,
             parent,
             place,
             child,

@@ -152,7 +152,7 @@ edge_from-lowered mask e (f ∷ es) k =
     ap (λ (d : Edge). cond (is_lt (key_cmp k f.pivot)) (lowered mask e) d) (edge_from-lowered mask f es k)
     ∙ cond_map (lowered mask) (is_lt (key_cmp k f.pivot)) e (edge_from f es k)
 
-edge_of-lowered : (mask : List Bool) (es : List Edge) (k : List ℕ) (e : Edge) → edge_of es k ≡ Some e → edge_of (map (lowered mask) es) k ≡ Some (lowered mask e)
+pub edge_of-lowered : (mask : List Bool) (es : List Edge) (k : List ℕ) (e : Edge) → edge_of es k ≡ Some e → edge_of (map (lowered mask) es) k ≡ Some (lowered mask e)
 edge_of-lowered mask [] k e h = absurd (none-some e h)
 edge_of-lowered mask (f ∷ es) k e h =
     ap (λ (d : Edge). Some d) (edge_from-lowered mask f es k ∙ ap (lowered mask) (same_Some (edge_from f es k) e h))

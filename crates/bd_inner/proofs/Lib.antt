@@ -3,7 +3,12 @@ pub mod Touched
 pub mod Sweeping
 pub mod Compacting
 pub mod Splitting
-pub mod Stripped
 pub mod Moved
 pub mod Exchanged
 pub mod Fitting
+mod FreedMessages
+pub mod ClippedEdges
+mod Clipped
+pub mod CarvingParts
+pub mod CarvingOwned
+pub mod Carved

@@ -1,51 +1,25 @@
 -- Which keys a message can change, in the order of keys.
 use Rattle.std.proofs.Common.{◌≡◌, ◌↔◌, ℕ, Bool, true, false, not, List, [], ◌∷◌, ◌++◌, refl, sym, ap, subst, ◌∙◌, Option, None, Some, inl, inr, IsTrue, ◌⊎◌, Less}
 use Rattle.std.specs.Ordering.{is_lt}
-use Rattle.std.specs.Cmp.{unsigned_Decides}
 use Rattle.std.proofs.lemmas.Cmp.{nat_list_cmp_total as total}
 use Rattle.std.proofs.lemmas.List.{append-nil}
 use Rattle.std.proofs.lemmas.Bool.{and_parts, and_from, cases_Bool, cases_order}
 use Rattle.bd_keys.specs.Keys.{key_cmp, IsBelow, IsBelowEnd, IsAtLeast, InRange}
-use Rattle.bd_keys.proofs.Order.{first_less, first_same, first_more, not_below_itself, below_from}
+use Rattle.bd_keys.proofs.Order.{first_less, first_same, not_below_itself, below_from}
 use Rattle.bd_message.specs.declared.message.Message.{Message}
 use Rattle.bd_message.specs.declared.message.Message.TheVariants.{Put, Del, Patch, Cut, Goto}
 use Rattle.bd_message.specs.Effect.{same_key, begins, rest, is_cut}
 use Rattle.bd_message.proofs.Finds.{same_key-true, same_key-refl, begins-is, begins-append, not_both}
+use Rattle.bd_message.proofs.Prefixes.{cmp_after, rest-append, least_nil}
 use Rattle.bd_node.specs.Touching.{touches}
+use Rattle.bd_inner.specs.Moving.{CanTouch}
 use Rattle.bd_node.proofs.Edges.{lt_is, lt_isnt, not_less_lt}
 use Rattle.bd_node.proofs.Appending.{key_of, key_of-touched}
 
 -- ---- keys that begin alike
 
-pub cmp_after : (p x y : List ℕ) → key_cmp (p ++ x) (p ++ y) ≡ key_cmp x y
-cmp_after [] x y = refl
-cmp_after (b ∷ p) x y = first_same b (p ++ x) (p ++ y) ∙ cmp_after p x y
-
-pub joined_begins : (front back key : List ℕ) → begins key front ≡ true → key_cmp (front ++ back) key ≡ key_cmp back (rest front key)
-joined_begins front back key h =
-    subst (λ (k : List ℕ). key_cmp (front ++ back) k ≡ key_cmp back (rest front key)) (sym (begins-is key front h)) (cmp_after front back (rest front key))
-
-pub begins_rest : (a : ℕ) (key front : List ℕ) → begins (a ∷ key) (a ∷ front) ≡ begins key front
-begins_rest a key front = rw ((unsigned_Decides a a).1 refl)
-
-pub joined_other : (front back key : List ℕ) → begins key front ≡ false → key_cmp (front ++ back) key ≡ key_cmp front key
-joined_other [] back key h = absurd (not_both refl h)
-joined_other (a ∷ front) back [] h = refl
-joined_other (a ∷ front) back (c ∷ key) h =
-    elim (cases_order a c) [
-      | inl e ↦
-          let at_a : begins (a ∷ key) (a ∷ front) ≡ false = subst (λ (d : ℕ). begins (d ∷ key) (a ∷ front) ≡ false) (sym e) h in
-          let same : key_cmp (a ∷ (front ++ back)) (a ∷ key) ≡ key_cmp (a ∷ front) (a ∷ key) =
-          first_same a (front ++ back) key ∙ joined_other front back key (sym (begins_rest a key front) ∙ at_a) ∙ sym (first_same a front key) in
-          subst (λ (d : ℕ). key_cmp (a ∷ (front ++ back)) (d ∷ key) ≡ key_cmp (a ∷ front) (d ∷ key)) e same
-      | inr o ↦ elim o [
-        | inl lt ↦ first_less a c (front ++ back) key lt ∙ sym (first_less a c front key lt)
-        | inr gt ↦ first_more a c (front ++ back) key gt ∙ sym (first_more a c front key gt)
-      ]
-    ]
-
 -- a key between two that begin with a prefix begins with it
-between : (p x y f : List ℕ) → IsAtLeast f (p ++ x) → IsAtLeast (p ++ y) f → (z : List ℕ) × (f ≡ p ++ z) × IsAtLeast z x
+pub between : (p x y f : List ℕ) → IsAtLeast f (p ++ x) → IsAtLeast (p ++ y) f → (z : List ℕ) × (f ≡ p ++ z) × IsAtLeast z x
 between [] x y f least most = (f, refl, least)
 between (b ∷ p) x y [] least most = absurd (least refl)
 between (b ∷ p) x y (d ∷ f) least most =
@@ -61,10 +35,6 @@ between (b ∷ p) x y (d ∷ f) least most =
       ]
     ]
 
-pub rest-append : (p x : List ℕ) → rest p (p ++ x) ≡ x
-rest-append [] x = refl
-rest-append (b ∷ p) x = rest-append p x
-
 -- ---- what a cut takes
 
 not_true : (b : Bool) → not b ≡ true → b ≡ false
@@ -79,7 +49,7 @@ cut_after p x z least =
     and_from _ _ (begins-append p z)
     (ap (λ (r : List ℕ). not (is_lt (key_cmp r x))) (rest-append p z) ∙ ap not (not_less_lt (key_cmp z x) least))
 
-cut_first : (p x k : List ℕ) → is_cut p x k ≡ true → IsAtLeast k (p ++ x)
+pub cut_first : (p x k : List ℕ) → is_cut p x k ≡ true → IsAtLeast k (p ++ x)
 cut_first p x k h =
     subst (λ (l : List ℕ). IsAtLeast l (p ++ x)) (sym (begins-is k p (and_parts _ _ h).0))
     (λ less. cut_least p x k h (sym (cmp_after p (rest p k) x) ∙ less))
@@ -90,10 +60,6 @@ cut_between p x k f h least most =
     subst (λ (l : List ℕ). is_cut p x l ≡ true) (sym found.1) (cut_after p x found.0 found.2)
 
 -- ---- the keys that begin with a prefix
-
-pub least_nil : (k : List ℕ) → IsAtLeast k []
-least_nil [] h = cc
-least_nil (a ∷ k) h = cc
 
 begins_cut : (p k : List ℕ) → begins k p ≡ true → is_cut p [] k ≡ true
 begins_cut p k h = and_from _ _ h (ap not (not_less_lt (key_cmp (rest p k) []) (least_nil (rest p k))))
@@ -133,23 +99,20 @@ touched_between (Goto prefix source child) k f h least most =
 
 -- ---- the keys of a range that a message can change
 
-abbrev pub CanTouch : Message → List ℕ → Option (List ℕ) → Type 0
-CanTouch m lo hi = (k : List ℕ) × InRange lo hi k × (touches m k ≡ true)
-
 -- what isn't above a key is below what the key is below
-not_above : (a k hi : List ℕ) → IsAtLeast k a → IsBelow k hi → IsBelow a hi
+pub not_above : (a k hi : List ℕ) → IsAtLeast k a → IsBelow k hi → IsBelow a hi
 not_above a k hi least below =
     elim (cases_Bool (is_lt (key_cmp a hi))) [
       | inl less ↦ lt_is (key_cmp a hi) less
       | inr more ↦ absurd (least (below_from k hi a below (λ less. lt_isnt (key_cmp a hi) more less)))
     ]
 
-not_above_end : (a k : List ℕ) (hi : Option (List ℕ)) → IsAtLeast k a → IsBelowEnd k hi → IsBelowEnd a hi
+pub not_above_end : (a k : List ℕ) (hi : Option (List ℕ)) → IsAtLeast k a → IsBelowEnd k hi → IsBelowEnd a hi
 not_above_end a k None least below = tt
 not_above_end a k (Some hi) least below = not_above a k hi least below
 
 -- of two keys one isn't below the other
-least_back : (a b : List ℕ) → IsBelow a b → IsAtLeast b a
+pub least_back : (a b : List ℕ) → IsBelow a b → IsAtLeast b a
 least_back a b below back = not_below_itself a (total.trans a b a below back)
 
 touched_in : (m : Message) (lo : List ℕ) (hi : Option (List ℕ)) → CanTouch m lo hi → (touches m lo ≡ true) ⊎ InRange lo hi (key_of m)

@@ -1,5 +1,6 @@
 pub mod Compaction
 pub mod Halves
-pub mod Stripping
 pub mod Moving
 pub mod Exchange
+pub mod Clipping
+pub mod Carving

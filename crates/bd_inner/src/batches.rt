@@ -4,10 +4,9 @@ ghost use Rattle.std.specs.Prelude.{◌≡◌, ◌≤◌, ◌∷◌, [], IfOk, I
 ghost use Rattle.std.specs.Option.{option_copied, option_to_list};
 ghost use Rattle.std.specs.List.{AllByRecursion};
 ghost use Rattle.bd_message.specs.Messages.{IsMessage, size};
-ghost use Rattle.bd_inner.specs.Moving.{IsLifted, CanMove, IsMoved, IsBatch};
+ghost use Rattle.bd_inner.specs.Moving.{IsLifted, CanMove, IsPart, IsMoved, IsBatch};
 
 use crate::pending::can_touch;
-use crate::stripping::strip;
 use bd_limits::MAX_BATCH;
 use bd_message::Message;
 use bd_node::{Edge, Messages};
@@ -23,9 +22,9 @@ pub struct Batch {
     pub messages: Messages,
 }
 
-/// The oldest of a node's messages that are pending for an edge, at most 16,384 bytes, as messages
-/// on the child's keys. The edge's keys end at `hi`, and `list` has the messages that it hasn't
-/// seen.
+/// The oldest of a node's messages that are pending for an edge, as many as fit in 16,384 bytes and
+/// at least one where one is pending, freed of the bytes that are left out of the child's keys. The
+/// edge's keys end at `hi`, and `list` has the messages that it hasn't seen.
 pub fn next_batch(
     alloc: Global,
     edge: &Edge,
@@ -67,11 +66,13 @@ fn moved(
     requires edge { IsLifted edge.now (option_copied hi) }
     requires message { IsMessage message.now }
     requires goto { CanMove edge.now (option_copied hi) message.now }
-    ensures { IfOk result (λ found. IsMoved edge.now (option_copied hi.entry)
+    ensures moved { IfOk result (λ found. IsMoved edge.now (option_copied hi.entry)
         (message.now ∷ []) (option_to_list found)) }
+    ensures part { IfOk result (λ found. IsPart edge.now (option_copied hi.entry) message.now
+        (option_to_list found)) }
 {
     if !can_touch(message, edge.pivot.as_slice(), hi) {
         return Ok(None);
     }
-    strip(alloc, message, &edge.pivot.as_slice()[..edge.lift as usize])
+    message.free(alloc, &edge.pivot.as_slice()[..edge.lift as usize])
 }

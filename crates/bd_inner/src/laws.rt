@@ -1,21 +1,23 @@
 //! What follows from the definitions of compacted nodes and of messages that go down. Each function
 //! here carries laws, and does nothing.
 
-ghost use Rattle.std.specs.Prelude.{◌≡◌, ℕ, ◌+◌, ◌^◌, ◌<◌, ◌≤◌, List, [], ◌∷◌, ◌++◌, length, take, drop, Option, Some, IfSome};
+ghost use Rattle.std.specs.Prelude.{◌≡◌, ℕ, ◌+◌, ◌^◌, ◌<◌, ◌≤◌, List, [], ◌∷◌, ◌++◌, length, take, drop, Option, Some, IfSome, true, slice_get};
 ghost use Rattle.std.specs.List.{AllByRecursion, sum_by};
-ghost use Rattle.bd_limits.specs.Limits.{buffer_limit, level_limit, edge_limit};
+ghost use Rattle.bd_limits.specs.Limits.{key_limit, buffer_limit, level_limit, edge_limit};
 ghost use Rattle.bd_keys.specs.Keys.{IsKey, IsLift};
-ghost use Rattle.std.specs.Option.{option_to_list};
 ghost use Rattle.bd_message.specs.declared.message.Message.{Message};
+ghost use Rattle.bd_message.specs.declared.message.Message.TheVariants.{Goto};
 ghost use Rattle.bd_message.specs.Messages.{IsMessage, size};
-ghost use Rattle.bd_message.specs.Effect.{NodesAt, act, acts};
+ghost use Rattle.bd_message.specs.Effect.{NodesAt, begins, acts};
+ghost use Rattle.bd_message.specs.Freeing.{freed, source_of};
+ghost use Rattle.bd_inner.specs.Clipping.{IsLong};
 ghost use Rattle.bd_node.specs.declared.node.Edge.{Edge};
 ghost use Rattle.bd_node.specs.declared.node.Node.{Node};
 ghost use Rattle.bd_node.specs.Nodes.{level_of, buffer_size, message_names, names, times, edge_of, child_at, edge_at, through, node_at};
 ghost use Rattle.bd_node.specs.Shape.{end_before, AreRising, IsInner, IsShape};
 ghost use Rattle.bd_inner.specs.Compaction.{IsFlat, IsLoose, IsLooseNode, IsCompacted};
-ghost use Rattle.bd_inner.specs.Halves.{buffer_of};
-ghost use Rattle.bd_inner.specs.Stripping.{CanStrip, stripped};
+ghost use Rattle.bd_inner.specs.Halves.{edges_of, buffer_of};
+ghost use Rattle.bd_inner.specs.Carving.{IsGotoWay, IsCarved};
 ghost use Rattle.bd_inner.specs.Moving.{IsLifted, IsMoved};
 ghost use Rattle.bd_inner.specs.Exchange.{exchanged, end_at, IsKeyOf, IsEdgeAt, FitsAt, way_to};
 
@@ -31,17 +33,19 @@ pub fn compacted_nodes()
     ensures names { (n m : Node) → IsCompacted n m → (c : ℕ) → times m c ≤ times n c }
 {}
 
-/// A message on the keys that begin with a prefix does to what follows it what it did to them. It
-/// is a message, no larger, and names no other node.
-pub fn stripped_messages()
-    ensures effect { (below : NodesAt) (s : List ℕ) (m : Message) → CanStrip s m
-        → (k : List ℕ) (old : Option (List ℕ))
-        → acts below (option_to_list (stripped s m)) k old ≡ act below m (s ++ k) old }
-    ensures message { (s : List ℕ) (m : Message) → IsMessage m
-        → IfSome (stripped s m) IsMessage }
-    ensures size { (s : List ℕ) (m : Message) → IfSome (stripped s m) (λ n. size n ≤ size m) }
-    ensures names { (s : List ℕ) (m : Message)
-        → IfSome (stripped s m) (λ n. message_names n ≡ message_names m) }
+/// A message freed of a prefix names the nodes that the message named.
+pub fn freed_names()
+    ensures { (s : List ℕ) (m : Message)
+        → IfSome (freed s m) (λ n. message_names n ≡ message_names m) }
+{}
+
+/// A clipped node whose sources have at most 518 bytes is well-formed, but that messages may be
+/// pending for no edge.
+pub fn clipped_nodes()
+    ensures { (level : ℕ) (edges : List Edge) (buffer : List Message)
+        → IsLong level edges buffer → AllByRecursion (λ e. length e.source ≤ key_limit) edges
+        → AllByRecursion (λ m. length (source_of m) ≤ key_limit) buffer
+        → IsLoose level edges buffer }
 {}
 
 /// Edges with the keys of one can stand in its place: they are asked at its keys, and at the others
@@ -62,6 +66,30 @@ pub fn exchanged_edges()
     ensures without { (below : NodesAt) (n : Node) (place : ℕ) (e : Edge) → IsShape n
         → IsEdgeAt n place e → (k : List ℕ) → ¬ IsKeyOf n place e k
         → node_at below (exchanged n place []) k ≡ node_at below n k }
+{}
+
+/// A node in which the keys of a Goto have edges of their own is well-formed, of the same level, and
+/// has what it had at each key. It has at most two edges more, no more waits in it, and it names
+/// only nodes that it named. The keys of the prefix whose edge hasn't seen the Goto are asked of
+/// the node that the Goto names.
+pub fn carved_nodes()
+    ensures shape { (n m : Node) (place : ℕ) → IsShape n → length (edges_of n) ≤ 14
+        → IsCarved n place m → IsShape m }
+    ensures level { (n m : Node) (place : ℕ) → IsCarved n place m → level_of m ≡ level_of n }
+    ensures meaning { (below : NodesAt) (n m : Node) (place : ℕ) → IsShape n
+        → length (edges_of n) ≤ 14 → IsCarved n place m → (k : List ℕ) → IsKey k
+        → node_at below m k ≡ node_at below n k }
+    ensures edges { (n m : Node) (place : ℕ) → IsShape n → IsCarved n place m
+        → length (edges_of m) ≤ length (edges_of n) + 2 }
+    ensures size { (n m : Node) (place : ℕ) → IsCarved n place m
+        → buffer_size m ≤ buffer_size n }
+    ensures names { (n m : Node) (place : ℕ) → IsShape n → IsCarved n place m → (c : ℕ)
+        → 1 ≤ times m c → 1 ≤ times n c }
+    ensures asked { (n m : Node) (place : ℕ) (prefix source : List ℕ) (child : ℕ) → IsShape n
+        → IsCarved n place m → slice_get (buffer_of n) place ≡ Some (Goto prefix source child)
+        → (k : List ℕ) → IsKey k → begins k prefix ≡ true
+        → (e : Edge) → edge_of (edges_of n) k ≡ Some e → e.seen ≤ place
+        → (f : Edge) × (edge_of (edges_of m) k ≡ Some f) × IsGotoWay prefix source child f }
 {}
 
 /// A push keeps what the node has: its edge has then seen the messages that its child has got, or

@@ -1,17 +1,19 @@
 //! Inner nodes: the edge of a key; nodes after messages, in halves, with other edges in place of one,
-//! and without the messages that are pending for no edge; and what a push moves to a child.
+//! with edges of a Goto's own, and without the messages that are pending for no edge; and what a push
+//! moves to a child.
 //! The layers above use `edge_of`, which is the edge that the definition finds first to last, the
-//! contracts of `receive`, `compact`, `split`, `next_batch` and `exchange`, and the laws.
+//! contracts of `receive`, `compact`, `split`, `carve`, `next_batch` and `exchange`, and the laws.
 #![tactic(auto)]
 
 mod batches;
+mod carving;
+mod clipping;
 mod compaction;
 mod exchanging;
 mod halves;
 pub mod laws;
 mod pending;
 mod receiving;
-mod stripping;
 
 ghost use Rattle.std.specs.Prelude.{◌≡◌, ◌+◌, ◌-◌, ◌*◌, ◌^◌, ◌<◌, ◌≤◌, length, slice_get};
 ghost use Rattle.bd_node.specs.Nodes.{edge_of};
@@ -19,6 +21,8 @@ ghost use Rattle.bd_node.specs.Shape.{AreRising};
 
 pub use batches::{Batch, next_batch};
 use bd_node::{Edge, Steps};
+pub use carving::carve;
+pub use clipping::clip;
 pub use compaction::compact;
 pub use exchanging::{edge_to, end_of, exchange};
 pub use halves::split;
@@ -26,7 +30,6 @@ pub use pending::{can_touch, end_before, is_pending};
 pub use receiving::receive;
 use std::marker::Brand;
 use std::sync::ledger::{Blank, Ledger};
-pub use stripping::strip;
 
 /// The place of the edge whose keys include a key, among edges with rising pivots.
 pub fn place<L: Ledger>(edges: &[Edge], key: &[u8], steps: &mut Steps<L>) -> usize

@@ -1,10 +1,10 @@
 //! Whether a message is pending for some edge.
 
-ghost use Rattle.std.specs.Prelude.{◌≡◌, ◌↔◌, ◌++◌, List, ℕ, true, IsTrue};
+ghost use Rattle.std.specs.Prelude.{◌≡◌, ◌↔◌, ◌++◌, IsTrue};
 ghost use Rattle.std.specs.Option.{option_copied};
 ghost use Rattle.bd_keys.specs.Keys.{key_cmp, IsBelowEnd, InRange};
-ghost use Rattle.bd_node.specs.Touching.{touches};
 ghost use Rattle.bd_node.specs.Shape.{AreRising, SomeEdge, IsPending, end_before};
+ghost use Rattle.bd_inner.specs.Moving.{CanTouch};
 
 use bd_message::Message;
 use bd_node::{Edge, touches};
@@ -38,8 +38,7 @@ pub fn end_before(edges: &[Edge]) -> Option<&[u8]>
 /// such key is `lo`, or else the first one that the message can change at all.
 pub fn can_touch(message: &Message, lo: &[u8], hi: Option<&[u8]>) -> bool
     requires { IsBelowEnd lo.now (option_copied hi) }
-    ensures { IsTrue result ↔ ((k : List ℕ) × InRange lo.now (option_copied hi.entry) k
-        × (touches message.now k ≡ true)) }
+    ensures { IsTrue result ↔ CanTouch message.now lo.now (option_copied hi.entry) }
 {
     touches(message, lo)
         || match message {

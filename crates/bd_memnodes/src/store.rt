@@ -93,6 +93,8 @@ impl NodeStore for MemNodes {
 
     ghost reads_both = { same_nodes-both };
 
+    ghost reads_known = { λ a b read known. known };
+
     fn fetch(&mut self, id: u64) -> Result<Rc<Node>, MapFault> {
         self.visits = self.visits.saturating_add(1);
         match self.kept.nodes.get(&id) {

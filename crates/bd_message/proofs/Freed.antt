@@ -1,5 +1,5 @@
 -- What messages on the keys that begin with a prefix do to what follows it.
-use Rattle.std.proofs.Common.{◌≡◌, ℕ, ◌+◌, ◌-◌, ◌≤◌, Bool, true, false, cond, not, ◌&&◌, List, [], ◌∷◌, ◌++◌, length, refl, sym, ap, subst, ◌∙◌, Option, None, Some, inl, inr, ◌⊎◌, arith, append_assoc, Ordering, Less, Equal, Greater}
+use Rattle.std.proofs.Common.{◌≡◌, ℕ, ◌+◌, ◌-◌, ◌≤◌, Bool, true, false, cond, not, ◌&&◌, List, [], ◌++◌, length, refl, sym, ap, subst, ◌∙◌, Option, None, Some, inl, inr, ◌⊎◌, arith, append_assoc, Ordering, Less, Equal, Greater}
 use Rattle.std.specs.Prelude.{IfSome}
 use Rattle.std.specs.Option.{option_to_list, option_map, unwrap_or}
 use Rattle.std.specs.Ordering.{is_lt, ordering_reverse}
@@ -226,7 +226,7 @@ some_mapped Q s None h = tt
 some_mapped Q s (Some n) h = h
 
 -- what holds of a freed message
-if_freed : (Q : Message → Type 0) (s : List ℕ) (m : Message)
+pub if_freed : (Q : Message → Type 0) (s : List ℕ) (m : Message)
     → (begins (stem m) s ≡ true → Q (stripped s m))
     → ((p x f : List ℕ) → m ≡ Cut p x → begins s p ≡ true → ((f ≡ rest (rest p s) x) × (begins x (rest p s) ≡ true)) ⊎ (f ≡ []) → Q (Cut [] f))
     → ((p source : List ℕ) (child : ℕ) → m ≡ Goto p source child → begins s p ≡ true → Q (Goto [] (source ++ rest p s) child))
@@ -256,7 +256,7 @@ freed_source s m =
     own ∙ ap (λ (x : Message). source_after s x) (sym is))
 
 -- a message
-stripped_message : (s : List ℕ) (m : Message) → IsMessage m → IsMessage (stripped s m)
+pub stripped_message : (s : List ℕ) (m : Message) → IsMessage m → IsMessage (stripped s m)
 stripped_message s (Put key value) h = (let a = rest_shorter s key in omega (arith, h.0), h.1, h.2)
 stripped_message s (Del key) h = omega (arith, h, rest_shorter s key)
 stripped_message s (Patch key off bytes) h = (omega (arith, h.0, rest_shorter s key), h.1, h.2)

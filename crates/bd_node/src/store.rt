@@ -134,6 +134,9 @@ pub trait NodeStore {
 
     /// What two reads change, one after the other, reads change.
     ghost reads_both: { (a b c : Self) → reads a b → reads b c → reads a c };
+
+    /// What is known after reads was known before them.
+    ghost reads_known: { (a b : Self) → reads a b → is_known b → is_known a };
 }
 
 impl<S: NodeStore> NodeStore for &mut S {
@@ -156,6 +159,8 @@ impl<S: NodeStore> NodeStore for &mut S {
     ghost reads_none = { λ s. S.reads_none s.now };
 
     ghost reads_both = { λ a b c. S.reads_both a.now b.now c.now };
+
+    ghost reads_known = { λ a b. S.reads_known a.now b.now };
 
     fn fetch(&mut self, id: u64) -> Result<Rc<Node>, MapFault> {
         NodeStore::fetch(&mut **self, id)

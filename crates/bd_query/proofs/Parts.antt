@@ -28,17 +28,17 @@ patched-append (p ∷ ps) qs old = patched-append ps qs _
 
 -- ---- names
 
-counted_first : (c : ℕ) (xs ys : List ℕ) → count_by (λ name. name == c) xs ≤ count_by (λ name. name == c) (xs ++ ys)
+pub counted_first : (c : ℕ) (xs ys : List ℕ) → count_by (λ name. name == c) xs ≤ count_by (λ name. name == c) (xs ++ ys)
 counted_first c xs ys = omega (arith, sum_by-append (λ (x : ℕ). cond (x == c) 1 0) xs ys)
 
-counted_second : (c : ℕ) (xs ys : List ℕ) → count_by (λ name. name == c) ys ≤ count_by (λ name. name == c) (xs ++ ys)
+pub counted_second : (c : ℕ) (xs ys : List ℕ) → count_by (λ name. name == c) ys ≤ count_by (λ name. name == c) (xs ++ ys)
 counted_second c xs ys = omega (arith, sum_by-append (λ (x : ℕ). cond (x == c) 1 0) xs ys)
 
 pub named_more : (xs ys : List ℕ) (base : Base) → ((c : ℕ) → count_by (λ name. name == c) xs ≤ count_by (λ name. name == c) ys) → IsNamedIn xs base → IsNamedIn ys base
 named_more xs ys (Value found) more h = tt
 named_more xs ys (Ask child key) more h = (let m : count_by (λ name. name == child) xs ≤ count_by (λ name. name == child) ys = more child in omega arith)
 
-message_counted : (ms : List Message) (i : ℕ) (m : Message) (c : ℕ) → slice_get ms i ≡ Some m → count_by (λ name. name == c) (message_names m) ≤ count_by (λ name. name == c) (flat_map message_names ms)
+pub message_counted : (ms : List Message) (i : ℕ) (m : Message) (c : ℕ) → slice_get ms i ≡ Some m → count_by (λ name. name == c) (message_names m) ≤ count_by (λ name. name == c) (flat_map message_names ms)
 message_counted [] i m c there = absurd (none-some m there)
 message_counted (n ∷ ms) zero m c there = subst (λ (q : Message). count_by (λ name. name == c) (message_names q) ≤ count_by (λ name. name == c) (flat_map message_names (n ∷ ms))) (same_Some n m there) (counted_first c (message_names n) (flat_map message_names ms))
 message_counted (n ∷ ms) (suc i) m c there =
@@ -64,7 +64,7 @@ edge_counted e (f ∷ es) k c =
           omega arith)
     ]
 
-edge_of_counted : (es : List Edge) (k : List ℕ) (e : Edge) (c : ℕ) → edge_of es k ≡ Some e → count_by (λ name. name == c) (edge_names e) ≤ count_by (λ name. name == c) (flat_map edge_names es)
+pub edge_of_counted : (es : List Edge) (k : List ℕ) (e : Edge) (c : ℕ) → edge_of es k ≡ Some e → count_by (λ name. name == c) (edge_names e) ≤ count_by (λ name. name == c) (flat_map edge_names es)
 edge_of_counted [] k e c there = absurd (none-some e there)
 edge_of_counted (f ∷ es) k e c there = subst (λ (d : Edge). count_by (λ name. name == c) (edge_names d) ≤ count_by (λ name. name == c) (flat_map edge_names (f ∷ es))) (same_Some (edge_from f es k) e there) (edge_counted f es k c)
 

@@ -51,3 +51,22 @@ visits_last before now after high low way one = record {
 pub visits_at_most : (before now after high low : ℕ) → VisitsTo before now high low → after ≡ visited now 1 → after ≤ before + (high + 1)
 visits_at_most before now after high low way one =
     let few : way.number + low ≤ high = way.few in let most : now ≤ before + way.number = way.at_most in omega arith
+
+pub visited_more : (before one number : ℕ) → visited (visited before one) number ≡ visited before (number + one)
+visited_more before one number = elim (cases_lt (before + one) (2 ^ 64 - 1)) [
+  | inl below ↦ ap (λ (n : ℕ). min (n + number) (2 ^ 64 - 1)) (min-eq_left (let b : before + one < 2 ^ 64 - 1 = below in omega arith))
+      ∙ ap (λ (n : ℕ). min n (2 ^ 64 - 1)) (omega arith)
+  | inr above ↦ (let a : 2 ^ 64 - 1 ≤ before + one = above in
+      let least : 2 ^ 64 - 1 ≤ (2 ^ 64 - 1) + number = omega arith in
+      let more : 2 ^ 64 - 1 ≤ before + (number + one) = omega arith in
+      ap (λ (n : ℕ). min (n + number) (2 ^ 64 - 1)) (min-eq_right a) ∙ min-eq_right least ∙ sym (min-eq_right more))
+]
+
+-- one visit and then those of a way from a lower level
+pub visits_then : (before now after low high : ℕ) → now ≡ visited before 1 → low < high → AreVisits 1 (low + 1) now after → AreVisits 1 (high + 1) before after
+visits_then before now after low high one below way = record {
+  number = way.number + 1;
+  some = (omega arith);
+  few = (let few : way.number ≤ low + 1 = way.few in let less : low < high = below in omega arith);
+  counted = way.counted ∙ ap (λ (n : ℕ). visited n way.number) one ∙ visited_more before 1 way.number;
+}

@@ -12,6 +12,7 @@ ghost use Rattle.bd_node.specs.Nodes.{node_at, names, message_names, edge_names,
 ghost use Rattle.bd_node.specs.Shape.{IsShape};
 ghost use Rattle.bd_query.specs.Looks.{part_at, IsNamedIn, IsOldOr};
 
+use crate::ends::joined;
 use crate::patch::Patch;
 use bd_inner::edge_of;
 use bd_keys::{Bytes, tail};
@@ -87,15 +88,6 @@ fn at_node(alloc: Global, child: u64, key: Bytes) -> Part
         base: Base::Ask { child, key },
         patches: Vec::new(alloc),
     }
-}
-
-// Bytes after others.
-fn joined(alloc: Global, front: &[u8], rest: &[u8]) -> Result<Bytes, AllocError>
-    ensures { IfOk result (λ made. made ≡ front.now ++ rest.now) }
-{
-    let mut made = Vec::from_slice(alloc, front)?;
-    made.extend_from_slice(rest)?;
-    Ok(Bytes::from_vec(made))
 }
 
 // What an edge's child has at the key's translation.

@@ -9,7 +9,7 @@ ghost use Rattle.bd_inner.specs.Halves.{edges_of, buffer_of};
 ghost use Rattle.bd_inner.specs.Moving.{IsLifted};
 
 use bd_inner::laws::{compacted_nodes, edges_fit, flat_edges};
-use bd_inner::{compact, edge_to, exchange, next_batch, receive, split, strip};
+use bd_inner::{clip, compact, edge_to, exchange, next_batch, receive, split};
 use bd_keys::Bytes;
 use bd_limits::{MAX_BUFFER, MAX_EDGES, MAX_KEY};
 use bd_message::Message;
@@ -19,13 +19,16 @@ use std::alloc::{AllocError, Global};
 use std::test::Fail;
 
 /// A message, a prefix, and the message on what follows it.
-const STRIPPED: [(&str, &str, &str, &str, Option<(&str, &str)>); 13] = [
+const FREED: [(&str, &str, &str, &str, Option<(&str, &str)>); 15] = [
     ("put", "ab", "v", "a", Some(("b", "v"))),
     ("put", "ab", "v", "ab", Some(("", "v"))),
     ("put", "ab", "v", "b", None),
     ("del", "ab", "", "a", Some(("b", ""))),
     ("patch", "ab", "v", "a", Some(("b", "v"))),
     ("goto", "ab", "s", "a", Some(("b", "s"))),
+    ("goto", "ab", "s", "b", None),
+    // A Goto of keys that begin with less: what follows goes to the end of its source.
+    ("goto", "a", "s", "abc", Some(("", "sbc"))),
     ("cut", "ab", "x", "a", Some(("b", "x"))),
     ("cut", "ab", "x", "b", None),
     // A cut of keys that begin with less: what is left of where it begins, all or nothing.
@@ -38,9 +41,9 @@ const STRIPPED: [(&str, &str, &str, &str, Option<(&str, &str)>); 13] = [
 
 #[test]
 fn messages_on_what_follows_a_prefix(rt: HostRuntime) -> Result<(), Fail> {
-    for (name, first, second, prefix, want) in STRIPPED {
+    for (name, first, second, prefix, want) in FREED {
         let whole = message(rt.alloc(), name, first, second)?;
-        let found = strip(rt.alloc(), &whole, prefix.as_bytes())?;
+        let found = whole.free(rt.alloc(), prefix.as_bytes())?;
         let wanted = match want {
             Some((first, second)) => Some(message(rt.alloc(), name, first, second)?),
             None => None,
@@ -243,5 +246,34 @@ fn an_edge_that_has_seen_a_message(rt: HostRuntime) -> Result<(), Fail> {
     assert_eq!(rt; edges.len(), 15);
     assert_eq!(rt; edges[0].seen, 0);
     assert!(rt; messages == [put(rt.alloc(), "z")?].as_slice());
+    Ok(())
+}
+
+// A node freed of a prefix.
+fn clipped(alloc: Global, node: &Node, prefix: &str) -> Result<Node, Fail>
+    requires { IsShape node.now }
+{
+    if prefix.len() > MAX_KEY {
+        return Err(Fail::new("too long a prefix"));
+    }
+    match node {
+        Node::Leaf(_) => Err(Fail::new("a leaf")),
+        Node::Inner { .. } => Ok(clip(alloc, node, prefix.as_bytes())?),
+    }
+}
+
+#[test]
+fn a_node_freed_of_a_prefix(rt: HostRuntime) -> Result<(), Fail> {
+    let node = full(rt.alloc())?;
+    let (_, waiting) = parts(&node);
+    let whole = clipped(rt.alloc(), &node, "")?;
+    let (edges, messages) = parts(&whole);
+    assert_eq!(rt; edges.len(), 15);
+    assert!(rt; messages == waiting);
+    let part = clipped(rt.alloc(), &node, "a")?;
+    let (edges, messages) = parts(&part);
+    assert_eq!(rt; edges.len(), 1);
+    assert!(rt; edges[0].pivot.is_empty());
+    assert!(rt; messages == [put(rt.alloc(), "")?].as_slice());
     Ok(())
 }

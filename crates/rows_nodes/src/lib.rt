@@ -13,3 +13,5 @@ mod inner;
 mod leaf;
 #[cfg(test)]
 mod nodes;
+#[cfg(test)]
+mod search;

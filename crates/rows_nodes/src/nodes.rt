@@ -19,7 +19,7 @@ use bd_node::{Change, Edge, Edges, Entries, Entry, Items, Node, NodeStore, Step}
 use bd_records::Record;
 use bd_script::{Line, read_line};
 use bd_tree::Tree;
-use rows_tools::{Numbers, apply, message};
+use rows_tools::{Numbers, apply, graft, message};
 use std::alloc::{AllocError, Global};
 use std::test::Fail;
 
@@ -37,14 +37,14 @@ fn pour(tree: &mut Tree<MemNodes>, message: Message) -> Result<(), Fail> {
 
 /// A map and a tree after the same messages.
 #[derive(Drop)]
-struct Both {
-    map: ListMap,
-    tree: Tree<MemNodes>,
+pub struct Both {
+    pub map: ListMap,
+    pub tree: Tree<MemNodes>,
 }
 
 impl Both {
     /// Without keys.
-    fn new(alloc: Global) -> Result<Both, Fail> {
+    pub fn new(alloc: Global) -> Result<Both, Fail> {
         Ok(Both {
             map: ListMap::new(alloc),
             tree: Tree::over(alloc, MemNodes::new(alloc)?),
@@ -52,7 +52,7 @@ impl Both {
     }
 
     /// After one more message.
-    fn apply(&mut self, message: Message) -> Result<(), Fail> {
+    pub fn apply(&mut self, message: Message) -> Result<(), Fail> {
         pour(&mut self.tree, message.clone()?)?;
         apply(&mut self.map, message)
     }
@@ -160,13 +160,13 @@ fn messages_of_files(rt: HostRuntime) -> Result<(), Fail> {
 const KINDS: &[&str] = &["put", "put", "put", "patch", "patch", "del", "cut"];
 
 /// Keys, and prefixes of them.
-const KEYS: &[&str] = &["", "a", "a/", "a/b", "a/bc", "ab", "abc", "b", "b/a", "ba"];
+pub const KEYS: &[&str] = &["", "a", "a/", "a/b", "a/bc", "ab", "abc", "b", "b/a", "ba"];
 
 /// Values, and keys from which on is cut.
 const SECONDS: &[&str] = &["1", "22", "a", "b", "bc"];
 
 /// A message by a fixed rule.
-fn generated(alloc: Global, numbers: &mut Numbers) -> Result<Message, Fail> {
+pub fn generated(alloc: Global, numbers: &mut Numbers) -> Result<Message, Fail> {
     let kind = *numbers.pick(KINDS)?;
     let key = *numbers.pick(KEYS)?;
     let second = *numbers.pick(SECONDS)?;
@@ -290,6 +290,15 @@ fn with_clone(alloc: Global) -> Result<MemNodes, Fail> {
     let step = clone_step(alloc)?;
     store.commit(step)?;
     Ok(store)
+}
+
+/// A map and a tree with a clone of `a` at `c`.
+pub fn clone_both(alloc: Global) -> Result<Both, Fail> {
+    let mut map = ListMap::new(alloc);
+    apply(&mut map, message(alloc, "put", "a/f", "1")?)?;
+    graft(&mut map, b"a/", b"c/", true)?;
+    let tree = Tree::over(alloc, with_clone(alloc)?);
+    Ok(Both { map, tree })
 }
 
 /// The step that makes this root one that has nothing at any key.

@@ -1,7 +1,9 @@
-use Rattle.bd_flush.proofs.ChildSplits.{edge_here, own_fits, on_over}
 use Rattle.std.proofs.Common.{◌≡◌, subst, sym, rules}
 use Rattle.bd_node.specs.declared.node.Edge.{Edge}
 use Rattle.bd_inner.specs.Exchange.{IsEdgeAt}
+use Rattle.bd_flush.specs.Children.{IsOver}
+use Rattle.bd_flush.specs.declared.children.Halving.{Halving}
+use Rattle.bd_flush.proofs.ChildSplits.{edge_here, own_fits, short_is, long_is}
 use Rattle.bd_flush.proofs.children.split_below.Goals as goal
 
 pub over_halves-requires-clause-fits : goal.over_halves-requires-clause-fits
@@ -11,10 +13,20 @@ over_halves-requires-clause-fits c =
     (subst (λ (e : Edge). IsEdgeAt c.args.node.now c.args.place e) (sym same)
     (edge_here c.edges_of.result.now c.args.node.now c.args.place c.index-edges_of-place.result c.edges_of.ensures c.requires.within c.index-edges_of-place.is))
 
+pub returns-in-Short : goal.returns-in-Short
+returns-in-Short c =
+    let same : c.in_ok-edge.edge ≡ c.index-edges_of-place.result = search rules in
+    short_is c.args.node.now c.args.place c.in_ok-edge.edge c.args.child.now c.args.next c.in_ok-halves.halves.0 c.in_ok-halves.halves.1 c.in_ok-halves.halves.2 c.in-Short.parts
+    (subst (λ (e : Edge). IsEdgeAt c.args.node.now c.args.place e) (sym same)
+    (edge_here c.edges_of.result.now c.args.node.now c.args.place c.index-edges_of-place.result c.edges_of.ensures c.requires.within c.index-edges_of-place.is))
+    c.in_ok-halves.ensures
+    (subst (λ (h : Halving). IsOver c.args.node.now c.args.place c.in_ok-edge.edge c.in_ok-halves.halves.0 c.in_ok-halves.halves.1 c.in_ok-halves.halves.2 c.args.next h) c.in-Short.is c.in_ok-parts.ensures)
+
 pub returns : goal.returns
 returns c =
     let same : c.in_ok-edge.edge ≡ c.index-edges_of-place.result = search rules in
-    on_over c.args.node.now c.args.place c.in_ok-edge.edge c.args.child.now c.args.next c.in_ok-halves.halves.0 c.in_ok-halves.halves.1 c.in_ok-halves.halves.2 c.over_halves.result
+    long_is c.args.node.now c.args.place c.in_ok-edge.edge c.args.child.now c.args.next c.in_ok-halves.halves.0 c.in_ok-halves.halves.1 c.in_ok-halves.halves.2 c.in-Long.edge c.in-Long.halves
     (subst (λ (e : Edge). IsEdgeAt c.args.node.now c.args.place e) (sym same)
     (edge_here c.edges_of.result.now c.args.node.now c.args.place c.index-edges_of-place.result c.edges_of.ensures c.requires.within c.index-edges_of-place.is))
-    c.in_ok-halves.ensures c.over_halves.ensures
+    c.in_ok-halves.ensures
+    (subst (λ (h : Halving). IsOver c.args.node.now c.args.place c.in_ok-edge.edge c.in_ok-halves.halves.0 c.in_ok-halves.halves.1 c.in_ok-halves.halves.2 c.args.next h) c.in-Long.is c.in_ok-parts.ensures)

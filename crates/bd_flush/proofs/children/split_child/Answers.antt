@@ -1,9 +1,13 @@
-use Rattle.std.proofs.Common.{arith, subst, Option}
+use Rattle.std.proofs.Common.{arith, subst, Option, inl, reverse}
 use Rattle.std.specs.Prelude.{MatchOption}
 use Rattle.std.proofs.lemmas.Result.{err_from_is_err_and}
 use Rattle.bd_node.specs.declared.node.Step.{Step}
 use Rattle.bd_flush.specs.Children.{IsLongPivot, IsChildStep}
+use Rattle.bd_flush.specs.Between.IsSplitChild.{short}
 use Rattle.bd_flush.proofs.ChildCommits.{is_to_split_child, may_split, split_in_place, split_flushed, split_is, split_no_higher, split_visits, split_cause}
+use Rattle.bd_node.specs.declared.node.Node.{Node}
+use Rattle.bd_inner.specs.Halves.{AreHalves}
+use Rattle.bd_flush.proofs.PutBetween.{way_of, split_long}
 use Rattle.bd_flush.proofs.children.split_child.Goals as goal
 
 pub commit-requires-clause-step : goal.commit-requires-clause-step
@@ -27,25 +31,39 @@ returns-in_err-commit-clause-cause g c =
     (subst (λ (o : Option Step). MatchOption o (IsLongPivot c.args.parent.now.node.value c.args.place c.args.child.now.node.value) (λ (s : Step). IsChildStep c.root-root.result c.next_id-next.result c.args.parent.now c.args.place c.args.child.now s)) c.in-Some.is c.in_ok-step.ensures)) c.in_err-commit.ensures.cause)
 
 pub returns-clause-flushed : goal.returns-clause-flushed
-returns-clause-flushed g c = λ known sound done.
+returns-clause-flushed g c = λ known sound.
     split_flushed (g.S.NodeStore.nodes c.args.store.now) (g.S.NodeStore.table c.args.store.now) c.args.parent.now c.args.place c.args.child.now c.in-Some.step (g.S.NodeStore.nodes c.commit.new.self) (g.S.NodeStore.table c.commit.new.self)
     (is_to_split_child (g.S.NodeStore.table c.args.store.now) c.args.parent.now c.args.place c.args.child.now c.in-Some.step c.root-root.result c.next_id-next.result c.root-root.ensures.table c.requires.can c.root-root.ensures.value c.next_id-next.ensures.value (omega arith)
     (subst (λ (o : Option Step). MatchOption o (IsLongPivot c.args.parent.now.node.value c.args.place c.args.child.now.node.value) (λ (s : Step). IsChildStep c.root-root.result c.next_id-next.result c.args.parent.now c.args.place c.args.child.now s)) c.in-Some.is c.in_ok-step.ensures)) sound (c.requires.family known sound) c.in_ok-commit.ensures.table (c.in_ok-commit.ensures.committed known sound)
 
 pub returns-clause-split : goal.returns-clause-split
-returns-clause-split g c = λ known sound done.
-    split_is (g.S.NodeStore.nodes c.args.store.now) (g.S.NodeStore.table c.args.store.now) c.args.parent.now c.args.place c.args.child.now c.in-Some.step (g.S.NodeStore.nodes c.commit.new.self) (g.S.NodeStore.table c.commit.new.self)
+returns-clause-split g c = λ known sound.
+    short (split_is (g.S.NodeStore.nodes c.args.store.now) (g.S.NodeStore.table c.args.store.now) c.args.parent.now c.args.place c.args.child.now c.in-Some.step (g.S.NodeStore.nodes c.commit.new.self) (g.S.NodeStore.table c.commit.new.self)
     (is_to_split_child (g.S.NodeStore.table c.args.store.now) c.args.parent.now c.args.place c.args.child.now c.in-Some.step c.root-root.result c.next_id-next.result c.root-root.ensures.table c.requires.can c.root-root.ensures.value c.next_id-next.ensures.value (omega arith)
-    (subst (λ (o : Option Step). MatchOption o (IsLongPivot c.args.parent.now.node.value c.args.place c.args.child.now.node.value) (λ (s : Step). IsChildStep c.root-root.result c.next_id-next.result c.args.parent.now c.args.place c.args.child.now s)) c.in-Some.is c.in_ok-step.ensures)) sound (c.requires.family known sound) c.in_ok-commit.ensures.table (c.in_ok-commit.ensures.committed known sound)
+    (subst (λ (o : Option Step). MatchOption o (IsLongPivot c.args.parent.now.node.value c.args.place c.args.child.now.node.value) (λ (s : Step). IsChildStep c.root-root.result c.next_id-next.result c.args.parent.now c.args.place c.args.child.now s)) c.in-Some.is c.in_ok-step.ensures)) sound (c.requires.family known sound) c.in_ok-commit.ensures.table (c.in_ok-commit.ensures.committed known sound))
 
 pub returns-clause-table : goal.returns-clause-table
-returns-clause-table g c = λ done.
-    split_no_higher (g.S.NodeStore.table c.args.store.now) c.args.parent.now c.args.place c.args.child.now c.in-Some.step (g.S.NodeStore.table c.commit.new.self)
+returns-clause-table g c =
+    inl (split_no_higher (g.S.NodeStore.table c.args.store.now) c.args.parent.now c.args.place c.args.child.now c.in-Some.step (g.S.NodeStore.table c.commit.new.self)
     (is_to_split_child (g.S.NodeStore.table c.args.store.now) c.args.parent.now c.args.place c.args.child.now c.in-Some.step c.root-root.result c.next_id-next.result c.root-root.ensures.table c.requires.can c.root-root.ensures.value c.next_id-next.ensures.value (omega arith)
-    (subst (λ (o : Option Step). MatchOption o (IsLongPivot c.args.parent.now.node.value c.args.place c.args.child.now.node.value) (λ (s : Step). IsChildStep c.root-root.result c.next_id-next.result c.args.parent.now c.args.place c.args.child.now s)) c.in-Some.is c.in_ok-step.ensures)) c.in_ok-commit.ensures.table
+    (subst (λ (o : Option Step). MatchOption o (IsLongPivot c.args.parent.now.node.value c.args.place c.args.child.now.node.value) (λ (s : Step). IsChildStep c.root-root.result c.next_id-next.result c.args.parent.now c.args.place c.args.child.now s)) c.in-Some.is c.in_ok-step.ensures)) c.in_ok-commit.ensures.table)
 
 pub returns-clause-few_visits : goal.returns-clause-few_visits
 returns-clause-few_visits g c =
-    split_visits (g.S.NodeStore.table c.args.store.now) c.args.parent.now c.args.place c.args.child.now c.in-Some.step (g.S.NodeStore.visit_count c.args.store.now) (g.S.NodeStore.visit_count c.commit.new.self)
-    (is_to_split_child (g.S.NodeStore.table c.args.store.now) c.args.parent.now c.args.place c.args.child.now c.in-Some.step c.root-root.result c.next_id-next.result c.root-root.ensures.table c.requires.can c.root-root.ensures.value c.next_id-next.ensures.value (omega arith)
-    (subst (λ (o : Option Step). MatchOption o (IsLongPivot c.args.parent.now.node.value c.args.place c.args.child.now.node.value) (λ (s : Step). IsChildStep c.root-root.result c.next_id-next.result c.args.parent.now c.args.place c.args.child.now s)) c.in-Some.is c.in_ok-step.ensures)) c.in_ok-commit.ensures.visits
+    omega (
+      arith,
+      split_visits (g.S.NodeStore.table c.args.store.now) c.args.parent.now c.args.place c.args.child.now c.in-Some.step (g.S.NodeStore.visit_count c.args.store.now) (g.S.NodeStore.visit_count c.commit.new.self)
+          (is_to_split_child (g.S.NodeStore.table c.args.store.now) c.args.parent.now c.args.place c.args.child.now c.in-Some.step c.root-root.result c.next_id-next.result c.root-root.ensures.table c.requires.can c.root-root.ensures.value c.next_id-next.ensures.value (omega arith)
+          (subst (λ (o : Option Step). MatchOption o (IsLongPivot c.args.parent.now.node.value c.args.place c.args.child.now.node.value) (λ (s : Step). IsChildStep c.root-root.result c.next_id-next.result c.args.parent.now c.args.place c.args.child.now s)) c.in-Some.is c.in_ok-step.ensures)) c.in_ok-commit.ensures.visits,
+    )
+
+pub put_between-requires-clause-way : goal.put_between-requires-clause-way
+put_between-requires-clause-way g c = way_of (g.S.NodeStore.table c.args.store.now) (reverse c.args.above.now) c.args.parent.now c.args.place c.args.child.now c.requires.can c.requires.way
+
+pub returns-in_default-clause-split : goal.returns-in_default-clause-split
+returns-in_default-clause-split g c = λ known sound.
+    split_long (g.S.NodeStore.table c.args.store.now) (reverse c.args.above.now) c.args.parent.now c.args.place c.args.child.now c.in_ok-halves.halves.0 c.in_ok-halves.halves.1 c.in_ok-halves.halves.2 c.in_ok-step.field-0
+    (λ (s : Step). IsChildStep c.root-root.result c.next_id-next.result c.args.parent.now c.args.place c.args.child.now s)
+    (g.S.NodeStore.nodes c.put_between.new.store) (g.S.NodeStore.table c.put_between.new.store) c.put_between.result
+    (subst (λ (n : Node). AreHalves n c.in_ok-halves.halves.0 c.in_ok-halves.halves.1 c.in_ok-halves.halves.2) c.deref.ensures c.in_ok-halves.ensures)
+    c.in_default.is c.in_ok-step.ensures (c.put_between.ensures.between known sound)

@@ -1,51 +1,54 @@
-use Rattle.std.proofs.Common.{arith, subst, Option}
-use Rattle.std.specs.Prelude.{MatchOption}
-use Rattle.std.proofs.lemmas.Result.{err_from_is_err_and}
-use Rattle.bd_node.specs.declared.node.Step.{Step}
-use Rattle.bd_flush.specs.Pushes.{IsLongPush, IsPushStep}
-use Rattle.bd_flush.proofs.PushCommits.{is_to_push, may_push, push_in_place, push_flushed, push_is, push_no_higher, push_visits, push_cause}
+use Rattle.std.proofs.Common.{arith, reverse}
+use Rattle.bd_flush.proofs.ChildSplits.{edge_within}
+use Rattle.bd_flush.proofs.Betweens.{way_shapes}
+use Rattle.bd_flush.proofs.PushPlans.{is_planned, planned_may, planned_in_place, on_planned_flushed, on_planned_pushed, on_planned_table, on_planned_visits, planned_worn, never_level, no_level_cause}
 use Rattle.bd_flush.proofs.pushing.push.Goals as goal
+
+pub push_plan-requires-clause-above : goal.push_plan-requires-clause-above
+push_plan-requires-clause-above g c = way_shapes (g.S.NodeStore.table c.args.store.now) c.args.parent.now.id (reverse c.args.above.now) c.requires.way
+
+pub push_plan-requires-clause-within : goal.push_plan-requires-clause-within
+push_plan-requires-clause-within g c = edge_within c.args.parent.now.node.value c.args.place c.requires.can.edge c.requires.can.way.here
 
 pub commit-requires-clause-step : goal.commit-requires-clause-step
 commit-requires-clause-step g c =
-    may_push (g.S.NodeStore.table c.args.store.now) c.args.parent.now c.args.place c.args.child.now c.in-Some.step
-    (is_to_push (g.S.NodeStore.table c.args.store.now) c.args.parent.now c.args.place c.args.child.now c.in-Some.step c.root-root.result c.next_id-next.result c.root-root.ensures.table c.requires.can c.root-root.ensures.value c.next_id-next.ensures.value (omega arith)
-    (subst (λ (o : Option Step). MatchOption o (IsLongPush c.args.parent.now.node.value c.args.place c.args.child.now.node.value) (λ (s : Step). IsPushStep c.root-root.result c.next_id-next.result c.args.parent.now c.args.place c.args.child.now s)) c.in-Some.is c.in_ok-step.ensures))
+    planned_may (g.S.NodeStore.table c.args.store.now) (reverse c.args.above.now) c.args.parent.now c.args.place c.args.child.now c.in-Ready.step
+    (is_planned (g.S.NodeStore.table c.args.store.now) (reverse c.args.above.now) c.args.parent.now c.args.place c.args.child.now c.in-Ready.step c.in_ok-step.field-0 c.root-root.result c.next_id-next.result c.root-root.ensures.table c.requires.can c.requires.way c.root-root.ensures.value c.next_id-next.ensures.value (omega arith) c.in-Ready.is c.in_ok-step.ensures)
 
 pub commit-requires-clause-in_place : goal.commit-requires-clause-in_place
 commit-requires-clause-in_place g c = λ known sound.
-    push_in_place (g.S.NodeStore.nodes c.args.store.now) (g.S.NodeStore.table c.args.store.now) c.args.parent.now c.args.place c.args.child.now c.in-Some.step
-    (is_to_push (g.S.NodeStore.table c.args.store.now) c.args.parent.now c.args.place c.args.child.now c.in-Some.step c.root-root.result c.next_id-next.result c.root-root.ensures.table c.requires.can c.root-root.ensures.value c.next_id-next.ensures.value (omega arith)
-    (subst (λ (o : Option Step). MatchOption o (IsLongPush c.args.parent.now.node.value c.args.place c.args.child.now.node.value) (λ (s : Step). IsPushStep c.root-root.result c.next_id-next.result c.args.parent.now c.args.place c.args.child.now s)) c.in-Some.is c.in_ok-step.ensures)) sound (c.requires.family known sound)
-
-pub returns-in_err-commit-clause-cause : goal.returns-in_err-commit-clause-cause
-returns-in_err-commit-clause-cause g c =
-    let p = err_from_is_err_and c.from_residual-in_err-commit.result c.from_residual-in_err-commit.ensures.1 in
-    rw (p.1, p.2)
-    (push_cause (g.S.NodeStore.fault_count c.args.store.now) (g.S.NodeStore.fault_count c.commit.new.self) (g.S.NodeStore.bad c.commit.new.self) (g.S.NodeStore.table c.args.store.now) c.args.parent.now c.args.place c.args.child.now c.in-Some.step c.in_err-commit.field-0.0
-    (is_to_push (g.S.NodeStore.table c.args.store.now) c.args.parent.now c.args.place c.args.child.now c.in-Some.step c.root-root.result c.next_id-next.result c.root-root.ensures.table c.requires.can c.root-root.ensures.value c.next_id-next.ensures.value (omega arith)
-    (subst (λ (o : Option Step). MatchOption o (IsLongPush c.args.parent.now.node.value c.args.place c.args.child.now.node.value) (λ (s : Step). IsPushStep c.root-root.result c.next_id-next.result c.args.parent.now c.args.place c.args.child.now s)) c.in-Some.is c.in_ok-step.ensures)) c.in_err-commit.ensures.cause)
+    planned_in_place (g.S.NodeStore.nodes c.args.store.now) (g.S.NodeStore.table c.args.store.now) (reverse c.args.above.now) c.args.parent.now c.args.place c.args.child.now c.in-Ready.step
+    (record { of = (is_planned (g.S.NodeStore.table c.args.store.now) (reverse c.args.above.now) c.args.parent.now c.args.place c.args.child.now c.in-Ready.step c.in_ok-step.field-0 c.root-root.result c.next_id-next.result c.root-root.ensures.table c.requires.can c.requires.way c.root-root.ensures.value c.next_id-next.ensures.value (omega arith) c.in-Ready.is c.in_ok-step.ensures); sound = sound; family = c.requires.family known sound; contents = c.requires.contents known sound })
 
 pub returns-clause-flushed : goal.returns-clause-flushed
-returns-clause-flushed g c = λ known sound done.
-    push_flushed (g.S.NodeStore.nodes c.args.store.now) (g.S.NodeStore.table c.args.store.now) c.args.parent.now c.args.place c.args.child.now c.in-Some.step (g.S.NodeStore.nodes c.commit.new.self) (g.S.NodeStore.table c.commit.new.self)
-    (is_to_push (g.S.NodeStore.table c.args.store.now) c.args.parent.now c.args.place c.args.child.now c.in-Some.step c.root-root.result c.next_id-next.result c.root-root.ensures.table c.requires.can c.root-root.ensures.value c.next_id-next.ensures.value (omega arith)
-    (subst (λ (o : Option Step). MatchOption o (IsLongPush c.args.parent.now.node.value c.args.place c.args.child.now.node.value) (λ (s : Step). IsPushStep c.root-root.result c.next_id-next.result c.args.parent.now c.args.place c.args.child.now s)) c.in-Some.is c.in_ok-step.ensures)) sound (c.requires.family known sound) c.in_ok-commit.ensures.table (c.in_ok-commit.ensures.committed known sound)
+returns-clause-flushed g c = λ known sound.
+    on_planned_flushed (g.S.NodeStore.nodes c.args.store.now) (g.S.NodeStore.table c.args.store.now) (reverse c.args.above.now) c.args.parent.now c.args.place c.args.child.now c.in-Ready.step (g.S.NodeStore.nodes c.commit.new.self) (g.S.NodeStore.table c.commit.new.self) c.commit.result
+    (record { of = (is_planned (g.S.NodeStore.table c.args.store.now) (reverse c.args.above.now) c.args.parent.now c.args.place c.args.child.now c.in-Ready.step c.in_ok-step.field-0 c.root-root.result c.next_id-next.result c.root-root.ensures.table c.requires.can c.requires.way c.root-root.ensures.value c.next_id-next.ensures.value (omega arith) c.in-Ready.is c.in_ok-step.ensures); sound = sound; family = c.requires.family known sound; contents = c.requires.contents known sound }) c.commit.ensures.table (c.commit.ensures.committed known sound)
 
 pub returns-clause-pushed : goal.returns-clause-pushed
-returns-clause-pushed g c = λ known sound done.
-    push_is (g.S.NodeStore.nodes c.args.store.now) (g.S.NodeStore.table c.args.store.now) c.args.parent.now c.args.place c.args.child.now c.in-Some.step (g.S.NodeStore.nodes c.commit.new.self) (g.S.NodeStore.table c.commit.new.self)
-    (is_to_push (g.S.NodeStore.table c.args.store.now) c.args.parent.now c.args.place c.args.child.now c.in-Some.step c.root-root.result c.next_id-next.result c.root-root.ensures.table c.requires.can c.root-root.ensures.value c.next_id-next.ensures.value (omega arith)
-    (subst (λ (o : Option Step). MatchOption o (IsLongPush c.args.parent.now.node.value c.args.place c.args.child.now.node.value) (λ (s : Step). IsPushStep c.root-root.result c.next_id-next.result c.args.parent.now c.args.place c.args.child.now s)) c.in-Some.is c.in_ok-step.ensures)) sound (c.requires.family known sound) c.in_ok-commit.ensures.table (c.in_ok-commit.ensures.committed known sound)
+returns-clause-pushed g c = λ known sound.
+    on_planned_pushed (g.S.NodeStore.nodes c.args.store.now) (g.S.NodeStore.table c.args.store.now) (reverse c.args.above.now) c.args.parent.now c.args.place c.args.child.now c.in-Ready.step (g.S.NodeStore.nodes c.commit.new.self) (g.S.NodeStore.table c.commit.new.self) c.commit.result
+    (record { of = (is_planned (g.S.NodeStore.table c.args.store.now) (reverse c.args.above.now) c.args.parent.now c.args.place c.args.child.now c.in-Ready.step c.in_ok-step.field-0 c.root-root.result c.next_id-next.result c.root-root.ensures.table c.requires.can c.requires.way c.root-root.ensures.value c.next_id-next.ensures.value (omega arith) c.in-Ready.is c.in_ok-step.ensures); sound = sound; family = c.requires.family known sound; contents = c.requires.contents known sound }) c.commit.ensures.table (c.commit.ensures.committed known sound)
 
 pub returns-clause-table : goal.returns-clause-table
-returns-clause-table g c = λ done.
-    push_no_higher (g.S.NodeStore.table c.args.store.now) c.args.parent.now c.args.place c.args.child.now c.in-Some.step (g.S.NodeStore.table c.commit.new.self)
-    (is_to_push (g.S.NodeStore.table c.args.store.now) c.args.parent.now c.args.place c.args.child.now c.in-Some.step c.root-root.result c.next_id-next.result c.root-root.ensures.table c.requires.can c.root-root.ensures.value c.next_id-next.ensures.value (omega arith)
-    (subst (λ (o : Option Step). MatchOption o (IsLongPush c.args.parent.now.node.value c.args.place c.args.child.now.node.value) (λ (s : Step). IsPushStep c.root-root.result c.next_id-next.result c.args.parent.now c.args.place c.args.child.now s)) c.in-Some.is c.in_ok-step.ensures)) c.in_ok-commit.ensures.table
+returns-clause-table g c =
+    on_planned_table (g.S.NodeStore.table c.args.store.now) (reverse c.args.above.now) c.args.parent.now c.args.place c.args.child.now c.in-Ready.step (g.S.NodeStore.table c.commit.new.self) c.commit.result
+    (is_planned (g.S.NodeStore.table c.args.store.now) (reverse c.args.above.now) c.args.parent.now c.args.place c.args.child.now c.in-Ready.step c.in_ok-step.field-0 c.root-root.result c.next_id-next.result c.root-root.ensures.table c.requires.can c.requires.way c.root-root.ensures.value c.next_id-next.ensures.value (omega arith) c.in-Ready.is c.in_ok-step.ensures) c.commit.ensures.table
 
 pub returns-clause-few_visits : goal.returns-clause-few_visits
 returns-clause-few_visits g c =
-    push_visits (g.S.NodeStore.table c.args.store.now) c.args.parent.now c.args.place c.args.child.now c.in-Some.step (g.S.NodeStore.visit_count c.args.store.now) (g.S.NodeStore.visit_count c.commit.new.self)
-    (is_to_push (g.S.NodeStore.table c.args.store.now) c.args.parent.now c.args.place c.args.child.now c.in-Some.step c.root-root.result c.next_id-next.result c.root-root.ensures.table c.requires.can c.root-root.ensures.value c.next_id-next.ensures.value (omega arith)
-    (subst (λ (o : Option Step). MatchOption o (IsLongPush c.args.parent.now.node.value c.args.place c.args.child.now.node.value) (λ (s : Step). IsPushStep c.root-root.result c.next_id-next.result c.args.parent.now c.args.place c.args.child.now s)) c.in-Some.is c.in_ok-step.ensures)) c.in_ok-commit.ensures.visits
+    on_planned_visits (g.S.NodeStore.table c.args.store.now) (reverse c.args.above.now) c.args.parent.now c.args.place c.args.child.now c.in-Ready.step (g.S.NodeStore.visit_count c.args.store.now) (g.S.NodeStore.visit_count c.commit.new.self) c.commit.result
+    (is_planned (g.S.NodeStore.table c.args.store.now) (reverse c.args.above.now) c.args.parent.now c.args.place c.args.child.now c.in-Ready.step c.in_ok-step.field-0 c.root-root.result c.next_id-next.result c.root-root.ensures.table c.requires.can c.requires.way c.root-root.ensures.value c.next_id-next.ensures.value (omega arith) c.in-Ready.is c.in_ok-step.ensures) c.commit.ensures.visits c.commit.ensures.err_visits
+
+pub returns-clause-worn : goal.returns-clause-worn
+returns-clause-worn g c = λ e. absurd (never_level (g.S.NodeStore.fault_count c.args.store.now) (g.S.NodeStore.fault_count c.commit.new.self) (g.S.NodeStore.bad c.commit.new.self) (g.S.NodeStore.table c.args.store.now) c.in-Ready.step c.commit.result c.commit.ensures.cause e)
+
+pub returns-clause-cause : goal.returns-clause-cause
+returns-clause-cause g c =
+    planned_worn (g.S.NodeStore.fault_count c.args.store.now) (g.S.NodeStore.fault_count c.commit.new.self) (g.S.NodeStore.bad c.commit.new.self) (g.S.NodeStore.table c.args.store.now) (reverse c.args.above.now) c.args.parent.now c.args.place c.args.child.now c.in-Ready.step c.commit.result
+    (is_planned (g.S.NodeStore.table c.args.store.now) (reverse c.args.above.now) c.args.parent.now c.args.place c.args.child.now c.in-Ready.step c.in_ok-step.field-0 c.root-root.result c.next_id-next.result c.root-root.ensures.table c.requires.can c.requires.way c.root-root.ensures.value c.next_id-next.ensures.value (omega arith) c.in-Ready.is c.in_ok-step.ensures) c.commit.ensures.cause
+
+pub returns-in-NoLevel-clause-cause : goal.returns-in-NoLevel-clause-cause
+returns-in-NoLevel-clause-cause g c =
+    no_level_cause (g.S.NodeStore.fault_count c.args.store.now) (g.S.NodeStore.bad c.args.store.now) (g.S.NodeStore.table c.args.store.now) (reverse c.args.above.now) c.args.parent.now c.args.place c.args.child.now c.in_ok-step.field-0 c.root-root.result c.next_id-next.result c.requires.way
+    c.in-NoLevel.is c.in_ok-step.ensures

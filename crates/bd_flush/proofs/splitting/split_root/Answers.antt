@@ -10,17 +10,17 @@ commit-requires-clause-step g c =
 pub commit-requires-clause-in_place : goal.commit-requires-clause-in_place
 commit-requires-clause-in_place g c = λ known sound.
     is_in_place (g.S.NodeStore.nodes c.args.store.now) (g.S.NodeStore.table c.args.store.now) c.args.root.now c.in_ok-step.step
-    (is_to_split (g.S.NodeStore.table c.args.store.now) c.args.root.now c.in_ok-step.step c.root.result c.next_id-next.result c.next_id-next.ensures.table c.requires.node (omega arith) c.root.ensures.value c.next_id-next.ensures.value (omega arith) c.in_ok-step.ensures) sound
+    (is_to_split (g.S.NodeStore.table c.args.store.now) c.args.root.now c.in_ok-step.step c.root.result c.next_id-next.result c.next_id-next.ensures.table c.requires.node (omega arith) c.root.ensures.value c.next_id-next.ensures.value (omega arith) c.in_ok-step.ensures) sound (c.requires.there known sound)
 
 pub returns-clause-flushed : goal.returns-clause-flushed
 returns-clause-flushed g c = λ known sound.
     on_flushed (g.S.NodeStore.nodes c.args.store.now) (g.S.NodeStore.table c.args.store.now) c.args.root.now c.in_ok-step.step (g.S.NodeStore.nodes c.commit.new.self) (g.S.NodeStore.table c.commit.new.self) c.commit.result
-    (is_to_split (g.S.NodeStore.table c.args.store.now) c.args.root.now c.in_ok-step.step c.root.result c.next_id-next.result c.next_id-next.ensures.table c.requires.node (omega arith) c.root.ensures.value c.next_id-next.ensures.value (omega arith) c.in_ok-step.ensures) sound (c.requires.there known) c.commit.ensures.table (c.commit.ensures.committed known sound)
+    (is_to_split (g.S.NodeStore.table c.args.store.now) c.args.root.now c.in_ok-step.step c.root.result c.next_id-next.result c.next_id-next.ensures.table c.requires.node (omega arith) c.root.ensures.value c.next_id-next.ensures.value (omega arith) c.in_ok-step.ensures) sound (c.requires.there known sound) c.commit.ensures.table (c.commit.ensures.committed known sound)
 
 pub returns-clause-split : goal.returns-clause-split
 returns-clause-split g c = λ known sound.
     on_split (g.S.NodeStore.nodes c.args.store.now) (g.S.NodeStore.table c.args.store.now) c.args.root.now c.in_ok-step.step (g.S.NodeStore.nodes c.commit.new.self) (g.S.NodeStore.table c.commit.new.self) c.commit.result
-    (is_to_split (g.S.NodeStore.table c.args.store.now) c.args.root.now c.in_ok-step.step c.root.result c.next_id-next.result c.next_id-next.ensures.table c.requires.node (omega arith) c.root.ensures.value c.next_id-next.ensures.value (omega arith) c.in_ok-step.ensures) sound (c.requires.there known) c.commit.ensures.table (c.commit.ensures.committed known sound)
+    (is_to_split (g.S.NodeStore.table c.args.store.now) c.args.root.now c.in_ok-step.step c.root.result c.next_id-next.result c.next_id-next.ensures.table c.requires.node (omega arith) c.root.ensures.value c.next_id-next.ensures.value (omega arith) c.in_ok-step.ensures) sound (c.requires.there known sound) c.commit.ensures.table (c.commit.ensures.committed known sound)
 
 pub returns-clause-table : goal.returns-clause-table
 returns-clause-table g c =

@@ -4,7 +4,7 @@ use Rattle.std.proofs.Common.{List}
 use Rattle.bd_limits.specs.Limits.{soft_limit}
 use Rattle.bd_node.specs.Nodes.{buffer_size}
 use Rattle.bd_inner.specs.Halves.{edges_of}
-use Rattle.bd_flush.proofs.Down.{is_next, next_there}
+use Rattle.bd_flush.proofs.Down.{is_next, next_there, way_more}
 use Rattle.bd_flush.proofs.ways.look_below.Goals as goal
 
 pub returns-then-buffer_size-le-SOFT_BUFFER-clause-seen : goal.returns-then-buffer_size-le-SOFT_BUFFER-clause-seen
@@ -27,3 +27,10 @@ pub returns-clause-at : goal.returns-clause-at
 returns-clause-at c = λ nodes t there room fullest e way once contents.
     let waits : soft_limit < buffer_size c.args.child.node.value = omega (arith, c.buffer_size.ensures, ap buffer_size c.deref.ensures) in
     (there, next_there nodes t c.args.parent c.args.place c.args.child e there c.requires.shape room fullest way once contents waits)
+
+pub returns-then-buffer_size-le-SOFT_BUFFER-clause-way_at : goal.returns-then-buffer_size-le-SOFT_BUFFER-clause-way_at
+returns-then-buffer_size-le-SOFT_BUFFER-clause-way_at c = λ nodes t there all. c.push_or_carve.ensures.way_at nodes t all
+
+pub returns-then-edges_of-lt-MANY_EDGES-clause-way : goal.returns-then-edges_of-lt-MANY_EDGES-clause-way
+returns-then-edges_of-lt-MANY_EDGES-clause-way c = λ t e fetched way once up.
+    way_more t c.args.above.items c.push.new.self.items c.args.parent c.args.place c.args.child.id e c.in_ok-push.ensures.items fetched way once up

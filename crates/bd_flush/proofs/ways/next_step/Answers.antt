@@ -1,7 +1,7 @@
 use Rattle.std.proofs.Common.{ap, sym, ◌∙◌, length, arith, List}
 use Rattle.bd_node.specs.declared.node.Edge.{Edge}
 use Rattle.bd_inner.specs.Halves.{edges_of}
-use Rattle.bd_flush.proofs.Down.{root_there, root_inner, first_visit, root_high}
+use Rattle.bd_flush.proofs.Down.{root_there, root_inner, first_visit, root_high, root_way, none_there}
 use Rattle.bd_flush.proofs.ways.next_step.Goals as goal
 
 pub returns-then-edges_of-ge-MANY_EDGES-clause-at : goal.returns-then-edges_of-ge-MANY_EDGES-clause-at
@@ -9,8 +9,8 @@ returns-then-edges_of-ge-MANY_EDGES-clause-at g c = λ known sound.
     root_there (g.S.NodeStore.nodes c.args.store.now) (g.S.NodeStore.table c.args.store.now) c.in_ok-parent.parent sound (c.in_ok-parent.ensures.id ∙ c.root-root.ensures.value)
     (ap (g.S.NodeStore.nodes c.args.store.now) (sym c.root-root.ensures.value) ∙ c.in_ok-parent.ensures.contents known)
 
-pub loop-child-init : goal.loop-child-init
-loop-child-init g c = record {
+pub loop-nodes-init : goal.loop-nodes-init
+loop-nodes-init g c = record {
   table = c.in_ok-parent.ensures.table;
   fetched = c.in_ok-parent.ensures.fetched;
   inner = root_inner (g.S.NodeStore.table c.args.store.now) c.in_ok-parent.parent c.root-root.ensures.table c.in_ok-parent.ensures.fetched (c.in_ok-parent.ensures.id ∙ c.root-root.ensures.value);
@@ -25,4 +25,6 @@ loop-child-init g c = record {
   there = λ known sound.
       root_there (g.S.NodeStore.nodes c.args.store.now) (g.S.NodeStore.table c.args.store.now) c.in_ok-parent.parent sound (c.in_ok-parent.ensures.id ∙ c.root-root.ensures.value)
       (ap (g.S.NodeStore.nodes c.args.store.now) (sym c.root-root.ensures.value) ∙ c.in_ok-parent.ensures.contents known);
+  way = root_way (g.S.NodeStore.table c.args.store.now) c.in_ok-parent.parent.id c.new-above.result.items (c.in_ok-parent.ensures.id ∙ c.root-root.ensures.value) c.new-above.ensures.items;
+  way_there = λ known sound. none_there (g.S.NodeStore.nodes c.args.store.now) (g.S.NodeStore.table c.args.store.now) c.new-above.result.items c.new-above.ensures.items;
 }

@@ -1,13 +1,14 @@
-use Rattle.std.proofs.Common.{◌≡◌, ◌+◌, ◌≤◌, length}
+use Rattle.std.proofs.Common.{◌≡◌, ◌+◌, ◌≤◌, length, reverse}
 use Rattle.bd_node.specs.Nodes.{level_of}
 use Rattle.bd_node.specs.Tables.{IsSound}
 use Rattle.bd_inner.specs.Halves.{edges_of}
 use Rattle.bd_flush.specs.Children.{IsFetched}
-use Rattle.bd_flush.specs.Ways.{IsHigh, IsThere}
+use Rattle.bd_flush.specs.Raising.{IsWayUp}
+use Rattle.bd_flush.specs.Ways.{IsHigh, IsThere, AreThere}
 use Rattle.bd_flush.proofs.ways.next_step.Given as goal
 
-abbrev pub invariant-loop-child : goal.invariant-loop-child
-invariant-loop-child g l = record {
+abbrev pub invariant-loop-nodes : goal.invariant-loop-nodes
+invariant-loop-nodes g l = record {
   table : g.S.NodeStore.table l.store ≡ g.S.NodeStore.table l.fn.store;
   fetched : IsFetched (g.S.NodeStore.table l.fn.store) l.parent;
   inner : 1 ≤ level_of l.parent.node.value;
@@ -22,7 +23,10 @@ invariant-loop-child g l = record {
   loans : g.S.NodeStore.loans l.store ≡ g.S.NodeStore.loans l.fn.store;
   there : g.S.NodeStore.is_known l.fn.store → IsSound (g.S.NodeStore.nodes l.fn.store) (g.S.NodeStore.table l.fn.store)
       → IsThere (g.S.NodeStore.nodes l.fn.store) (g.S.NodeStore.table l.fn.store) l.parent;
+  way : IsWayUp (g.S.NodeStore.table l.fn.store) l.parent.id (reverse l.above.items);
+  way_there : g.S.NodeStore.is_known l.fn.store → IsSound (g.S.NodeStore.nodes l.fn.store) (g.S.NodeStore.table l.fn.store)
+      → AreThere (g.S.NodeStore.nodes l.fn.store) (g.S.NodeStore.table l.fn.store) (reverse l.above.items);
 }
 
-abbrev pub decreases-loop-child : goal.decreases-loop-child
-decreases-loop-child g l = (g.S.NodeStore.table l.fn.store).level l.parent.id
+abbrev pub decreases-loop-nodes : goal.decreases-loop-nodes
+decreases-loop-nodes g l = (g.S.NodeStore.table l.fn.store).level l.parent.id

@@ -1,11 +1,17 @@
 use Rattle.std.proofs.Common.{List, ℕ, subst, ap, take}
 use Rattle.std.specs.Option.{option_copied}
-use Rattle.bd_inner.proofs.Touched.{CanTouch}
-use Rattle.bd_inner.proofs.Moved.{if_moved}
+use Rattle.bd_inner.specs.Moving.{CanTouch}
+use Rattle.bd_inner.proofs.Moved.{if_moved, if_part}
 use Rattle.bd_inner.proofs.batches.moved.Goals as goal
 
-pub returns : goal.returns
-returns c =
-    if_moved c.args.edge.now (option_copied c.args.hi) c.args.message.now (take c.args.edge.now.lift c.as_slice-2.result.now) c.strip.result c.requires.edge c.requires.message c.requires.goto
+pub returns-clause-moved : goal.returns-clause-moved
+returns-clause-moved c =
+    if_moved c.args.edge.now (option_copied c.args.hi) c.args.message.now (take c.args.edge.now.lift c.as_slice-2.result.now) c.free.result c.requires.edge c.requires.message c.requires.goto
     (subst (λ (p : List ℕ). CanTouch c.args.message.now p (option_copied c.args.hi)) c.as_slice.ensures (c.can_touch.ensures.0 c.if-not-can_touch.false))
-    (ap (λ (p : List ℕ). take c.args.edge.now.lift p) c.as_slice-2.ensures) c.strip.ensures
+    (ap (λ (p : List ℕ). take c.args.edge.now.lift p) c.as_slice-2.ensures) c.free.ensures
+
+pub returns-clause-part : goal.returns-clause-part
+returns-clause-part c =
+    if_part c.args.edge.now (option_copied c.args.hi) c.args.message.now (take c.args.edge.now.lift c.as_slice-2.result.now) c.free.result
+    (subst (λ (p : List ℕ). CanTouch c.args.message.now p (option_copied c.args.hi)) c.as_slice.ensures (c.can_touch.ensures.0 c.if-not-can_touch.false))
+    (ap (λ (p : List ℕ). take c.args.edge.now.lift p) c.as_slice-2.ensures) c.free.ensures

@@ -1,7 +1,7 @@
 use Rattle.std.proofs.Common.{List, ℕ, ◌-◌, length, drop, sym, ap, ◌∙◌, arith, length-drop}
 use Rattle.std.proofs.lemmas.List.{take_all}
 use Rattle.bd_keys.specs.Keys.{key_cmp}
-use Rattle.bd_inner.proofs.Touched.{joined_begins, joined_other}
+use Rattle.bd_message.proofs.Prefixes.{joined_begins, joined_other}
 use Rattle.bd_inner.proofs.pending.joined_cmp.Goals as goal
 
 pub returns-then-starts_with : goal.returns-then-starts_with

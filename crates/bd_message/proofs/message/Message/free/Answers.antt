@@ -1,7 +1,3 @@
-use Rattle.std.proofs.Common.{subst, Option}
-use Rattle.std.specs.Prelude.{IfSome}
-use Rattle.bd_message.specs.declared.message.Message.{Message}
-use Rattle.bd_message.specs.Freeing.{CanStrip}
 use Rattle.bd_message.proofs.Freed.{some_can}
 use Rattle.bd_message.proofs.message.Message.free.Goals as goal
 

@@ -1,0 +1,557 @@
+-- A push that puts a node between.
+use Rattle.std.proofs.Common.{◌≡◌, ℕ, ◌+◌, ◌-◌, ◌^◌, ◌<◌, ◌≤◌, List, [], ◌∷◌, length, map, drop, refl, sym, ap, subst, ◌∙◌, Option, None, Some, arith, inl, inr, IsSome, rules}
+use Rattle.std.specs.Prelude.{slice_get}
+use Rattle.std.specs.List.{AllByRecursion}
+use Rattle.std.proofs.lemmas.Bool.{cases_eq}
+use Rattle.std.proofs.lemmas.Option.{same_Some}
+use Rattle.bd_limits.specs.Limits.{level_limit}
+use Rattle.bd_keys.specs.Keys.{IsKey, IsBelow, IsAtLeast}
+use Rattle.bd_message.specs.Effect.{NodesAt}
+use Rattle.bd_node.specs.declared.node.Edge.{Edge}
+use Rattle.bd_node.specs.declared.node.Entry.{Entry}
+use Rattle.bd_node.specs.declared.node.Node.{Node}
+use Rattle.bd_node.specs.declared.node.Node.TheVariants.{Leaf, Inner}
+use Rattle.bd_node.specs.declared.node.Change.{Change}
+use Rattle.bd_node.specs.declared.node.Step.{Step}
+use Rattle.bd_node.specs.Nodes.{level_of, buffer_size, names, times, node_at}
+use Rattle.bd_node.specs.Meaning.{Nodes, at}
+use Rattle.bd_node.specs.Shape.{IsShape}
+use Rattle.bd_node.specs.Tables.{Table, IsKept, IsTable, IsLower, IsSound}
+use Rattle.bd_node.specs.Private.IsPrivate.{alone}
+use Rattle.bd_node.specs.Steps.{given, level_or, level_after, IsOnlyNamed, IsTableAfter, IsCommitted}
+use Rattle.bd_node.specs.Steps.HasRoom.{changed_too}
+use Rattle.bd_node.proofs.Lookup.{Agree, each_weaker, each_named, named_has, node_has-key}
+use Rattle.bd_node.proofs.Meanings.{at-meets}
+use Rattle.bd_node.proofs.Sound.{sound-levelled, named_lower, root_unnamed}
+use Rattle.bd_node.proofs.Stepping.{given-old, given-new, given_stays, by_given, after-none, changed_has, changed_at-same, changed_at-other, changed_at-none}
+use Rattle.bd_inner.specs.Halves.{IsHalf}
+use Rattle.bd_inner.specs.Exchange.{exchanged}
+use Rattle.bd_inner.proofs.Compacting.{compacted_shape, compacted_level, compacted_meaning}
+use Rattle.bd_inner.proofs.Exchanged.{exchanged_shape}
+use Rattle.bd_flush.specs.declared.fetching.Fetched.{Fetched}
+use Rattle.bd_flush.specs.Flushed.{LeadsTo, IsFlushed}
+use Rattle.bd_flush.specs.Flushed.LeadsTo.{itself, through}
+use Rattle.bd_flush.specs.Splits.{over_two}
+use Rattle.bd_flush.specs.Children.{IsWayTo, AreFamily, IsContents}
+use Rattle.bd_flush.specs.Between.{IsHardlyHigher}
+use Rattle.bd_flush.specs.Paths.{path_step}
+use Rattle.bd_flush.specs.Raising.{raised, raise, IsWayUp, IsRising, CannotRise, IsRaisedOver}
+use Rattle.bd_flush.specs.Raising.CannotRise.{here, further}
+use Rattle.bd_flush.specs.Raising.IsRising.{at_top, high_enough, rises}
+use Rattle.bd_flush.specs.Raising.IsRaisedOver.{is_above, rises_too}
+use Rattle.bd_flush.specs.Pushes.{seen_by, IsWaitedFor, CanPush, IsPushBetween, IsPushedBetween}
+use Rattle.bd_flush.proofs.Raisings.{level_high}
+use Rattle.bd_flush.proofs.RootSplits.{over_shape, two_have, times_made}
+use Rattle.bd_flush.proofs.ChildSplits.{one_fits, one_times, one_names, child_named, lower_child, level_exchanged, compacted_small, some_next, other_names, at_child, IsKey-drop, IsSplittable, IsSplittableOf}
+use Rattle.bd_flush.proofs.Pushed.{batch_low, batch_plain, relieved_inside, leaf_received}
+use Rattle.bd_flush.proofs.PathSteps.{IsMadeUnder, IsUpper, IsPathStep, RisesByOne, level_bound, given_child, given_upper, has_made, has_path, made_new, path_child, path_old, each_change, IsUpperOf, IsPathStepOf, root_stays, root_rises, path_flushed}
+use Rattle.bd_flush.proofs.RisingSteps.{raised_size, raised_times, raised_level, raised_shape, raised_names, raised_has, IsLink, way_link, way_top, link_names, link_lower, only_namer, rising_rises, rising_uppers, rising_above, once_above, rising_once, rising_short, IsChangedBy, changed_more, all_changed, has_room, rising_of}
+
+-- ---- the parent, one level higher where it has to be
+
+pub record IsRisen (above node : Node) : Type 0 where
+  pub shape : IsShape node
+  pub least : level_of above ≤ level_of node
+  pub most : level_of node ≤ level_of above + 1
+  pub over : 1 < level_of node
+  pub same : (x : ℕ) → times node x ≡ times above x
+  pub has : (f : NodesAt) (k : List ℕ) → node_at f node k ≡ node_at f above k
+  pub size : buffer_size node ≡ buffer_size above
+
+risen : (above node : Node) (way rising : List Fetched) → IsShape above → 1 ≤ level_of above → IsRaisedOver 1 above way node rising → IsRisen above node
+risen above _ way _ h inner (is_above more) = record { shape = h; least = omega arith; most = omega arith; over = more; same = λ x. refl; has = λ f k. refl; size = refl }
+risen above _ way _ h inner (rises_too rising few rise) =
+    let up : level_of (raised above) ≡ level_of above + 1 = raised_level above inner in
+    record {
+      shape = raised_shape above h (omega arith);
+      least = omega arith;
+      most = omega arith;
+      over = omega arith;
+      same = raised_times above;
+      has = λ f k. raised_has f above k;
+      size = raised_size above;
+    }
+
+none_rise : (t : Table) (p level : ℕ) (way : List Fetched) → IsWayUp t p way → level ≡ t.level p → IsRising level way []
+none_rise t p level [] up is = at_top level
+none_rise t p level (f ∷ fs) up is =
+    let link : IsLink t p f = (way_link t p f fs up).0 in
+    let lower : t.level p < t.level f.id = (link_lower t p f link).lower in
+    let own : level_of f.node.value ≡ t.level f.id = link.fetched.own.level_is in
+    high_enough level f fs (omega arith)
+
+risen_way : (t : Table) (p : ℕ) (above node : Node) (way rising : List Fetched) → IsWayUp t p way → level_of above ≡ t.level p → 1 ≤ level_of above → IsRaisedOver 1 above way node rising → IsRising (level_of node) way rising
+risen_way t p above _ way _ up is inner (is_above more) = none_rise t p (level_of above) way up is
+risen_way t p above _ way _ up is inner (rises_too rising few rise) = subst (λ (l : ℕ). IsRising l way rising) (sym (raised_level above inner)) rise
+
+-- ---- the situation
+
+pub record IsToPutBetween (t : Table) (way : List Fetched) (parent : Fetched) (place : ℕ) (child : Fetched) (first : Node) (pivot : List ℕ) (second node : Node) (rising : List Fetched) : Type 0 where
+  pub table : IsTable t
+  pub ids : t.next + 1 < 2 ^ 64
+  pub can : CanPush t parent place child
+  pub way_up : IsWayUp t parent.id way
+  pub into : IsPushBetween parent.node.value place child.node.value way first pivot second node rising
+
+abbrev pub the_child : Table → List ℕ → Node
+the_child t pivot = over_two 1 pivot t.next (t.next + 1)
+
+abbrev pub the_uppers : Fetched → Node → List Fetched → List Change
+the_uppers parent node rising = record { id = parent.id; node = node } ∷ map raise rising
+
+abbrev pub the_step : Table → Fetched → Fetched → Node → List ℕ → Node → Node → List Fetched → Step
+the_step t parent child first pivot second node rising = path_step t.root child.id (the_child t pivot) (the_uppers parent node rising) (first ∷ second ∷ [])
+
+same_edge : (t : Table) (way : List Fetched) (parent : Fetched) (place : ℕ) (child : Fetched) (first : Node) (pivot : List ℕ) (second node : Node) (rising : List Fetched) → (h : IsToPutBetween t way parent place child first pivot second node rising) → h.can.edge ≡ h.into.edge
+same_edge t way parent place child first pivot second node rising h = same_Some h.can.edge h.into.edge (sym h.can.way.here ∙ h.into.here)
+
+way_to_child : (t : Table) (way : List Fetched) (parent : Fetched) (place : ℕ) (child : Fetched) (first : Node) (pivot : List ℕ) (second node : Node) (rising : List Fetched) → (h : IsToPutBetween t way parent place child first pivot second node rising) → IsWayTo parent.node.value place child.id h.into.edge
+way_to_child t way parent place child first pivot second node rising h =
+    subst (λ (e : Edge). IsWayTo parent.node.value place child.id e) (same_edge t way parent place child first pivot second node rising h) h.can.way
+
+pub splittable : (t : Table) (way : List Fetched) (parent : Fetched) (place : ℕ) (child : Fetched) (first : Node) (pivot : List ℕ) (second node : Node) (rising : List Fetched) → (h : IsToPutBetween t way parent place child first pivot second node rising)
+    → IsSplittable t parent.id parent.node.value place child.id h.into.edge (h.into.edge.seen + h.into.batch.count) child.node.value
+splittable t way parent place child first pivot second node rising h = record {
+  table = h.table;
+  kept = h.can.parent_is.kept;
+  own = h.can.parent_is.own;
+  few = h.can.room;
+  way = way_to_child t way parent place child first pivot second node rising h;
+  low = batch_low parent.node.value place h.into.edge h.into.batch h.can.parent_is.own.shape h.into.here h.into.moved;
+  child_level = h.can.child_is.own.level_is;
+  child_names = h.can.child_is.own.lower;
+  next = (let ids : t.next + 1 < 2 ^ 64 = h.ids in omega arith);
+}
+
+-- the child is a leaf
+leaf_low : (t : Table) (way : List Fetched) (parent : Fetched) (place : ℕ) (child : Fetched) (first : Node) (pivot : List ℕ) (second node : Node) (rising : List Fetched) → IsToPutBetween t way parent place child first pivot second node rising → t.level child.id ≡ 0
+leaf_low t way parent place child first pivot second node rising h = sym h.can.child_is.own.level_is ∙ ap level_of h.into.long.leaf
+
+under_parent : (t : Table) (way : List Fetched) (parent : Fetched) (place : ℕ) (child : Fetched) (first : Node) (pivot : List ℕ) (second node : Node) (rising : List Fetched) → IsToPutBetween t way parent place child first pivot second node rising → IsLower t (t.level parent.id) child.id
+under_parent t way parent place child first pivot second node rising h =
+    lower_child t parent.id parent.node.value place child.id h.into.edge (h.into.edge.seen + h.into.batch.count) child.node.value (splittable t way parent place child first pivot second node rising h)
+
+-- the parent before it rises
+above_level : (t : Table) (way : List Fetched) (parent : Fetched) (place : ℕ) (child : Fetched) (first : Node) (pivot : List ℕ) (second node : Node) (rising : List Fetched) → (h : IsToPutBetween t way parent place child first pivot second node rising) → level_of h.into.above ≡ t.level parent.id
+above_level t way parent place child first pivot second node rising h =
+    let list : List Edge = seen_by h.into.edge h.into.batch.count ∷ [] in
+    compacted_level (exchanged parent.node.value place list) h.into.above h.into.relieved ∙ level_exchanged parent.node.value place list ∙ h.can.parent_is.own.level_is
+
+parent_risen : (t : Table) (way : List Fetched) (parent : Fetched) (place : ℕ) (child : Fetched) (first : Node) (pivot : List ℕ) (second node : Node) (rising : List Fetched) → (h : IsToPutBetween t way parent place child first pivot second node rising) → IsRisen h.into.above node
+parent_risen t way parent place child first pivot second node rising h =
+    let n : Node = parent.node.value in
+    let list : List Edge = seen_by h.into.edge h.into.batch.count ∷ [] in
+    let is : level_of h.into.above ≡ t.level parent.id = above_level t way parent place child first pivot second node rising h in
+    let lower : IsLower t (t.level parent.id) child.id = under_parent t way parent place child first pivot second node rising h in
+    let l : t.level child.id < t.level parent.id = lower.lower in
+    risen h.into.above node way rising
+    (compacted_shape (exchanged n place list) h.into.above (exchanged_shape n place h.into.edge list h.can.parent_is.own.shape (one_fits t parent.id n place child.id h.into.edge (h.into.edge.seen + h.into.batch.count) child.node.value (splittable t way parent place child first pivot second node rising h))) h.into.relieved) (omega arith)
+    h.into.rise
+
+rise_is : (t : Table) (way : List Fetched) (parent : Fetched) (place : ℕ) (child : Fetched) (first : Node) (pivot : List ℕ) (second node : Node) (rising : List Fetched) → IsToPutBetween t way parent place child first pivot second node rising → IsRising (level_of node) way rising
+rise_is t way parent place child first pivot second node rising h =
+    let is : level_of h.into.above ≡ t.level parent.id = above_level t way parent place child first pivot second node rising h in
+    let lower : IsLower t (t.level parent.id) child.id = under_parent t way parent place child first pivot second node rising h in
+    let l : t.level child.id < t.level parent.id = lower.lower in
+    risen_way t parent.id h.into.above node way rising h.way_up is (omega arith) h.into.rise
+
+-- it names what it named before
+parent_named : (t : Table) (way : List Fetched) (parent : Fetched) (place : ℕ) (child : Fetched) (first : Node) (pivot : List ℕ) (second node : Node) (rising : List Fetched) → IsToPutBetween t way parent place child first pivot second node rising → (x : ℕ) → 1 ≤ times node x → IsLower t (t.level parent.id) x
+parent_named t way parent place child first pivot second node rising h x one =
+    let same : times node x ≡ times h.into.above x = (parent_risen t way parent place child first pivot second node rising h).same x in
+    let less : times h.into.above x ≤ times parent.node.value x = one_times parent.node.value place h.into.edge (h.into.edge.seen + h.into.batch.count) h.into.above h.can.parent_is.own.shape h.into.here h.into.relieved x in
+    named_has (IsLower t (t.level parent.id)) x (names parent.node.value) h.can.parent_is.own.lower (omega arith)
+
+-- ---- as far as the table tells
+
+child_rises : (t : Table) (way : List Fetched) (parent : Fetched) (place : ℕ) (child : Fetched) (first : Node) (pivot : List ℕ) (second node : Node) (rising : List Fetched) → IsToPutBetween t way parent place child first pivot second node rising → RisesByOne t (record { id = child.id; node = the_child t pivot })
+child_rises t way parent place child first pivot second node rising h =
+    let zero_is : t.level child.id ≡ 0 = leaf_low t way parent place child first pivot second node rising h in
+    (omega arith, omega arith)
+
+all_rise : (t : Table) (way : List Fetched) (parent : Fetched) (place : ℕ) (child : Fetched) (first : Node) (pivot : List ℕ) (second node : Node) (rising : List Fetched) → IsToPutBetween t way parent place child first pivot second node rising → AllByRecursion (RisesByOne t) (the_uppers parent node rising)
+all_rise t way parent place child first pivot second node rising h =
+    let is : level_of h.into.above ≡ t.level parent.id = above_level t way parent place child first pivot second node rising h in
+    let own = parent_risen t way parent place child first pivot second node rising h in
+    let least : level_of h.into.above ≤ level_of node = own.least in
+    let most : level_of node ≤ level_of h.into.above + 1 = own.most in
+    ((omega arith, omega arith), rising_rises t parent.id (level_of node) way rising (rise_is t way parent place child first pivot second node rising h) h.way_up)
+
+-- a node below the parent is lower than it then
+after_low : (t : Table) (way : List Fetched) (parent : Fetched) (place : ℕ) (child : Fetched) (first : Node) (pivot : List ℕ) (second : Node) (above node : Node) (rising : List Fetched) → IsToPutBetween t way parent place child first pivot second node rising → 1 ≤ level_of above → level_of above ≡ t.level parent.id → IsRaisedOver 1 above way node rising
+    → (x : ℕ) → IsLower t (t.level parent.id) x → level_after t (the_step t parent child first pivot second node rising) x < level_of node
+after_low t way parent place child first pivot second above _ _ h inner is (rises_too rising few rise) x lower =
+    let node : Node = raised above in
+    let up : level_of (raised above) ≡ level_of above + 1 = raised_level above inner in
+    let l : t.level x < t.level parent.id = lower.lower in
+    let most : level_after t (the_step t parent child first pivot second node rising) x ≤ t.level x + 1 =
+    (level_bound t child.id (the_child t pivot) (the_uppers parent node rising) (first ∷ second ∷ []) (child_rises t way parent place child first pivot second node rising h) (all_rise t way parent place child first pivot second node rising h) x (h.table.below x lower.kept)).1 in
+    omega arith
+after_low t way parent place child first pivot second above _ _ h inner is (is_above more) x lower =
+    let step : Step = the_step t parent child first pivot second above [] in
+    let l : t.level x < t.level parent.id = lower.lower in
+    let below : x < t.next = h.table.below x lower.kept in
+    elim (cases_eq x child.id) [
+      | inl same ↦ (let most : level_after t step x ≤ t.level x + 1 =
+          (level_bound t child.id (the_child t pivot) (the_uppers parent above []) (first ∷ second ∷ []) (child_rises t way parent place child first pivot second above [] h) (all_rise t way parent place child first pivot second above [] h) x below).1 in
+          let zero_is : t.level child.id ≡ 0 = leaf_low t way parent place child first pivot second above [] h in
+          let e : t.level x ≡ t.level child.id = ap t.level same in
+          omega arith)
+      | inr other ↦ (let none : given t.next step x ≡ None =
+          given_upper t child.id (the_child t pivot) (the_uppers parent above []) (first ∷ second ∷ []) x below other
+          ∙ changed_at-none (λ i. t.level parent.id ≤ t.level i) (the_uppers parent above []) x (omega arith, tt) (λ up. omega arith) in
+          let e : level_after t step x ≡ t.level x = ap (λ (o : Option Node). level_or o (t.level x)) none in
+          omega arith)
+    ]
+
+parent_upper : (t : Table) (way : List Fetched) (parent : Fetched) (place : ℕ) (child : Fetched) (first : Node) (pivot : List ℕ) (second node : Node) (rising : List Fetched) → IsToPutBetween t way parent place child first pivot second node rising
+    → IsUpper t (the_step t parent child first pivot second node rising) child.id (record { id = parent.id; node = node })
+parent_upper t way parent place child first pivot second node rising h =
+    let is : level_of h.into.above ≡ t.level parent.id = above_level t way parent place child first pivot second node rising h in
+    let own = parent_risen t way parent place child first pivot second node rising h in
+    let least : level_of h.into.above ≤ level_of node = own.least in
+    let most : level_of node ≤ level_of h.into.above + 1 = own.most in
+    let down : t.level child.id < t.level parent.id = (under_parent t way parent place child first pivot second node rising h).lower in
+    record {
+      kept = h.can.parent_is.kept;
+      above = down;
+      shape = own.shape;
+      low = omega arith;
+      high = omega arith;
+      named = λ x one.
+          let lower : IsLower t (t.level parent.id) x = parent_named t way parent place child first pivot second node rising h x one in
+          (lower.kept, after_low t way parent place child first pivot second h.into.above node rising h (omega arith) is h.into.rise x lower);
+    }
+
+half_under : (t : Table) (c : ℕ) (new : List Entry) (own : List ℕ → Type 0) (half : Node) → IsHalf (Leaf new) own half → IsMadeUnder t 1 c half
+half_under t c new own half is = record {
+  shape = is.shape;
+  low = (let e : level_of half ≡ 0 = is.level_is in omega arith);
+  under = (let e : level_of half ≡ 0 = is.level_is in omega arith);
+  named = λ x one. absurd (let less : times half x ≤ times (Leaf new) x = is.names x in omega arith);
+}
+
+pub between_path : (t : Table) (way : List Fetched) (parent : Fetched) (place : ℕ) (child : Fetched) (first : Node) (pivot : List ℕ) (second node : Node) (rising : List Fetched) → IsToPutBetween t way parent place child first pivot second node rising
+    → IsPathStep t child.id (the_child t pivot) (the_uppers parent node rising) (first ∷ second ∷ [])
+between_path t way parent place child first pivot second node rising h =
+    let zero_is : t.level child.id ≡ 0 = leaf_low t way parent place child first pivot second node rising h in
+    let some : 1 ≤ t.next = some_next t h.table in
+    let ids : t.next + 1 < 2 ^ 64 = h.ids in
+    let rise : IsRising (level_of node) way rising = rise_is t way parent place child first pivot second node rising h in
+    let down : t.level child.id < t.level parent.id = (under_parent t way parent place child first pivot second node rising h).lower in
+    record {
+      table = h.table;
+      child = h.can.child_is.kept;
+      shape = over_shape 1 pivot t.next (t.next + 1) (omega arith) (omega arith) h.into.long.halves.some h.into.long.halves.short (omega arith, omega arith) (omega arith, omega arith);
+      low = omega arith;
+      high = omega arith;
+      named = λ x one. inr (named_has (λ (i : ℕ). (t.next ≤ i) × (i < t.next + 2)) x (t.next ∷ (t.next + 1) ∷ []) ((omega arith, omega arith), ((omega arith, omega arith), tt)) one);
+      made_are = (
+        half_under t child.id h.into.long.new (λ k. IsBelow k pivot) first h.into.long.halves.lower,
+        (half_under t child.id h.into.long.new (λ k. IsAtLeast k pivot) second h.into.long.halves.upper, tt),
+      );
+      used = λ x most least. times_made 1 pivot t.next x most least;
+      uppers_are = (
+        parent_upper t way parent place child first pivot second node rising h,
+        rising_uppers t child.id (the_child t pivot) (the_uppers parent node rising) (first ∷ second ∷ []) parent.id (level_of node) way rising h.table (child_rises t way parent place child first pivot second node rising h) (all_rise t way parent place child first pivot second node rising h) (omega arith) rise h.way_up,
+      );
+      once = (once_above t parent.id (map raise rising) (rising_above t parent.id (level_of node) way rising rise h.way_up), rising_once t parent.id (level_of node) way rising rise h.way_up);
+    }
+
+-- not more nodes than levels are changed
+pub between_short : (t : Table) (way : List Fetched) (parent : Fetched) (place : ℕ) (child : Fetched) (first : Node) (pivot : List ℕ) (second node : Node) (rising : List Fetched) → IsToPutBetween t way parent place child first pivot second node rising → length (the_uppers parent node rising) ≤ 1002
+between_short t way parent place child first pivot second node rising h =
+    let few : level_of parent.node.value ≤ level_limit = level_high parent.node.value h.can.parent_is.own.shape in
+    let is : level_of parent.node.value ≡ t.level parent.id = h.can.parent_is.own.level_is in
+    let short : length (map raise rising) + t.level parent.id ≤ level_limit = rising_short t parent.id (level_of node) way rising (omega arith) (rise_is t way parent place child first pivot second node rising h) h.way_up in
+    omega arith
+
+-- ---- of known nodes
+
+-- the nodes are those of the parent, of the child, and of the way above
+pub record IsToPutBetweenOf (nodes : Nodes) (t : Table) (way : List Fetched) (parent : Fetched) (place : ℕ) (child : Fetched) (first : Node) (pivot : List ℕ) (second node : Node) (rising : List Fetched) : Type 0 where
+  pub of : IsToPutBetween t way parent place child first pivot second node rising
+  pub sound : IsSound nodes t
+  pub family : AreFamily nodes t parent child
+  pub contents : AllByRecursion (IsContents nodes) way
+
+rising_given : (t : Table) (step : Step) (x level : ℕ) (way rising : List Fetched) → IsTable t → AllByRecursion (IsChangedBy step.changes) rising → IsRising level way rising → IsWayUp t x way → AllByRecursion (λ (g : Fetched). IsSome (given t.next step g.id)) rising
+rising_given t step x _ _ _ table changed (at_top level) up = tt
+rising_given t step x _ _ _ table changed (high_enough level f fs more) up = tt
+rising_given t step x _ _ _ table changed (rises level f fs rising few room rise) up =
+    let parts = way_link t x f fs up in (
+      subst (λ (o : Option Node). IsSome o) (sym (given-old t.next step f.id (table.below f.id parts.0.fetched.kept))) changed.0,
+      rising_given t step f.id (level_of f.node.value + 1) fs rising table changed.1 rise parts.1,
+    )
+
+the_link : (t : Table) (way : List Fetched) (parent : Fetched) (place : ℕ) (child : Fetched) (first : Node) (pivot : List ℕ) (second node : Node) (rising : List Fetched) → IsToPutBetween t way parent place child first pivot second node rising → IsLink t child.id parent
+the_link t way parent place child first pivot second node rising h = record {
+  place = place;
+  edge = h.into.edge;
+  fetched = h.can.parent_is;
+  way = way_to_child t way parent place child first pivot second node rising h;
+  once = h.can.once;
+}
+
+splittable_of : (nodes : Nodes) (t : Table) (way : List Fetched) (parent : Fetched) (place : ℕ) (child : Fetched) (first : Node) (pivot : List ℕ) (second node : Node) (rising : List Fetched) → (h : IsToPutBetweenOf nodes t way parent place child first pivot second node rising)
+    → IsSplittableOf nodes t parent.id parent.node.value place child.id h.of.into.edge (h.of.into.edge.seen + h.of.into.batch.count) child.node.value (at nodes)
+splittable_of nodes t way parent place child first pivot second node rising h = record {
+  of = splittable t way parent place child first pivot second node rising h.of;
+  sound = h.sound;
+  there = h.family.parent_there;
+  private = h.family.private;
+  once = h.of.can.once;
+  child_has = at_child nodes t child.id child.node.value h.sound h.family.child_there;
+  others_have = λ x other below k. refl;
+}
+
+-- what the child has then
+child_has : (nodes : Nodes) (t : Table) (way : List Fetched) (parent : Fetched) (place : ℕ) (child : Fetched) (first : Node) (pivot : List ℕ) (second node : Node) (rising : List Fetched) → (h : IsToPutBetweenOf nodes t way parent place child first pivot second node rising) → (x : List ℕ) → IsKey x
+    → has_path nodes t.next child.id (the_child t pivot) (first ∷ second ∷ []) child.id x ≡ node_at (at nodes) (Leaf h.of.into.long.new) x
+child_has nodes t way parent place child first pivot second node rising h x key =
+    path_child nodes t.next child.id (the_child t pivot) (first ∷ second ∷ []) x
+    ∙ node_has-key (has_made nodes t.next (first ∷ second ∷ [])) (the_child t pivot) x key
+    ∙ two_have nodes t.next 1 (Leaf h.of.into.long.new) first pivot second h.of.into.long.halves x key
+
+parent_meaning : (nodes : Nodes) (t : Table) (way : List Fetched) (parent : Fetched) (place : ℕ) (child : Fetched) (first : Node) (pivot : List ℕ) (second node : Node) (rising : List Fetched) → IsToPutBetweenOf nodes t way parent place child first pivot second node rising → (k : List ℕ) → IsKey k
+    → node_at (has_path nodes t.next child.id (the_child t pivot) (first ∷ second ∷ [])) node k ≡ at nodes parent.id k
+parent_meaning nodes t way parent place child first pivot second node rising h k key =
+    let n : Node = parent.node.value in
+    let c : ℕ = child.id in
+    let e : Edge = h.of.into.edge in
+    let has : NodesAt = has_path nodes t.next c (the_child t pivot) (first ∷ second ∷ []) in
+    let list : List Edge = seen_by e h.of.into.batch.count ∷ [] in
+    let s = splittable_of nodes t way parent place child first pivot second node rising h in
+    let waiting : IsWaitedFor n place e = subst (λ (d : Edge). IsWaitedFor n place d) (same_edge t way parent place child first pivot second node rising h.of) h.of.can.waiting in
+    (parent_risen t way parent place child first pivot second node rising h.of).has has k
+    ∙ compacted_meaning has (exchanged n place list) h.of.into.above (exchanged_shape n place e list h.of.can.parent_is.own.shape (one_fits t parent.id n place c e (e.seen + h.of.into.batch.count) child.node.value s.of)) h.of.into.relieved k
+    ∙ relieved_inside nodes t parent.id n place c e child.node.value h.of.into.batch has s h.of.into.moved (batch_plain n place e h.of.into.batch waiting h.of.into.moved)
+    (λ l key_l range.
+    child_has nodes t way parent place child first pivot second node rising h (drop e.lift l) (IsKey-drop e.lift l key_l)
+    ∙ leaf_received (at nodes) n place e child.node.value h.of.into.long.old h.of.into.long.new h.of.into.batch.messages h.of.into.long.leaf h.of.into.long.got l key_l range)
+    (each_named (Agree has (at nodes)) (names (exchanged n place [])) (λ x one j.
+    let other = other_names nodes t parent.id n place c e (e.seen + h.of.into.batch.count) child.node.value (at nodes) s x one in
+    path_old nodes t.next c (the_child t pivot) (first ∷ second ∷ []) x other.0 other.1 j)) k key
+    ∙ sym (node_has-key (at nodes) n k key)
+    ∙ sym ((at-meets nodes (sound-levelled nodes t h.sound)).each parent.id n h.family.parent_there k)
+
+only_parent : (nodes : Nodes) (t : Table) (way : List Fetched) (parent : Fetched) (place : ℕ) (child : Fetched) (first : Node) (pivot : List ℕ) (second node : Node) (rising : List Fetched) → IsToPutBetweenOf nodes t way parent place child first pivot second node rising
+    → IsOnlyNamed nodes t (the_step t parent child first pivot second node rising) child.id
+only_parent nodes t way parent place child first pivot second node rising h = record {
+  each = λ q m at_q one.
+      let same : q ≡ parent.id = only_namer nodes t child.id parent h.sound (the_link t way parent place child first pivot second node rising h.of) h.family.parent_there q m at_q one in
+      let down : t.level child.id < t.level parent.id = (under_parent t way parent place child first pivot second node rising h.of).lower in
+      let is : given t.next (the_step t parent child first pivot second node rising) parent.id ≡ Some node =
+      given_upper t child.id (the_child t pivot) (the_uppers parent node rising) (first ∷ second ∷ []) parent.id (h.of.table.below parent.id h.of.can.parent_is.kept)
+      (λ e. (let l : t.level parent.id ≡ t.level child.id = ap t.level e in omega arith))
+      ∙ changed_at-same (record { id = parent.id; node = node }) (map raise rising) parent.id refl in
+      let some : IsSome (Some node) = search rules in
+      subst (λ (o : Option Node). IsSome o) (sym (ap (λ (i : ℕ). given t.next (the_step t parent child first pivot second node rising) i) same ∙ is)) some;
+}
+
+pub between_path_of : (nodes : Nodes) (t : Table) (way : List Fetched) (parent : Fetched) (place : ℕ) (child : Fetched) (first : Node) (pivot : List ℕ) (second node : Node) (rising : List Fetched) → IsToPutBetweenOf nodes t way parent place child first pivot second node rising
+    → IsPathStepOf nodes t child.id (the_child t pivot) (the_uppers parent node rising) (first ∷ second ∷ [])
+between_path_of nodes t way parent place child first pivot second node rising h =
+    let n : Node = parent.node.value in
+    let p : ℕ = parent.id in
+    let c : ℕ = child.id in
+    let top : Node = the_child t pivot in
+    let uppers : List Change = the_uppers parent node rising in
+    let made : List Node = first ∷ second ∷ [] in
+    let step : Step = path_step t.root c top uppers made in
+    let rise : IsRising (level_of node) way rising = rise_is t way parent place child first pivot second node rising h.of in
+    let named : 1 ≤ times n c = child_named n place c h.of.into.edge h.of.can.parent_is.own.shape (way_to_child t way parent place child first pivot second node rising h.of) in
+    let leads : LeadsTo nodes c p = through p c n h.family.parent_there named itself in
+    let only : IsOnlyNamed nodes t step c = only_parent nodes t way parent place child first pivot second node rising h in
+    let changed : AllByRecursion (λ (g : Fetched). IsSome (given t.next step g.id)) rising =
+    rising_given t step p (level_of node) way rising h.of.table
+    (each_weaker (IsChangedBy (map raise rising)) (IsChangedBy step.changes) (λ g some. changed_more (record { id = c; node = top }) uppers g (changed_more (record { id = p; node = node }) (map raise rising) g some)) rising (all_changed rising))
+    rise h.of.way_up in
+    record {
+      step = between_path t way parent place child first pivot second node rising h.of;
+      sound = h.sound;
+      private = alone p c n h.family.private h.family.parent_there named h.of.can.once;
+      room = changed_too only;
+      moves = inr (λ same. root_unnamed nodes t h.sound p n h.family.parent_there (subst (λ (i : ℕ). 1 ≤ times n i) (sym same) named), only);
+      uppers_of = (
+        record {
+          private = h.family.private;
+          leads = leads;
+          room = has_room nodes t step p (level_of node) node way rising refl h.sound rise h.of.way_up h.contents changed;
+          meaning = parent_meaning nodes t way parent place child first pivot second node rising h;
+        },
+        rising_of nodes t c top uppers made p (level_of node) way rising h.sound leads rise h.of.way_up h.contents changed
+            (λ q m at_q more.
+            each_named (Agree (has_path nodes t.next c top made) (at nodes)) (names m) (λ x one k.
+            path_old nodes t.next c top made x
+            (λ same. (let is : q ≡ p = only_namer nodes t c parent h.sound (the_link t way parent place child first pivot second node rising h.of) h.family.parent_there q m at_q (subst (λ (i : ℕ). 1 ≤ times m i) same one) in
+            let e : t.level q ≡ t.level p = ap t.level is in
+            let l : t.level p < t.level q = more in
+            omega arith))
+            (h.of.table.below x (named_lower nodes t h.sound q m at_q x one).kept) k)),
+      );
+    }
+
+-- ---- what stays of the way
+
+-- what is given for a fetched node names what it named
+abbrev KeepsNames : Table → Step → Fetched → Type 0
+KeepsNames t step f = (d : Node) → given t.next step f.id ≡ Some d → (y : ℕ) → times f.node.value y ≤ times d y
+
+way_stays : (nodes : Nodes) (t : Table) (step : Step) (new : Nodes) (u : Table) (x : ℕ) (way : List Fetched) → IsCommitted nodes t step new u → IsKept u t.root → IsWayUp t x way → AllByRecursion (KeepsNames t step) way → AllByRecursion (IsContents nodes) way → IsKept u x
+way_stays nodes t step new u x [] committed root up keeps there = subst (λ (i : ℕ). IsKept u i) (sym (way_top t x up)) root
+way_stays nodes t step new u x (f ∷ fs) committed root up keeps there =
+    let parts = way_link t x f fs up in
+    let kept : IsKept u f.id = way_stays nodes t step new u f.id fs committed root parts.1 keeps.1 there.1 in
+    let one : 1 ≤ times f.node.value x = link_names t x f parts.0 in
+    by_given (IsKept u x) (given t.next step f.id)
+    (λ none. (named_lower new u committed.sound f.id f.node.value (committed.stays f.id kept ∙ after-none nodes t step f.id none ∙ there.0) x one).kept)
+    (λ d some. (named_lower new u committed.sound f.id d (given_stays nodes t step new u committed f.id d kept some) x (let more : times f.node.value x ≤ times d x = keeps.0 d some x in omega arith)).kept)
+
+-- a change names what the old node named
+abbrev NamesOn : Nodes → Change → Type 0
+NamesOn nodes v = (m : Node) → nodes v.id ≡ Some m → (y : ℕ) → times m y ≤ times v.node y
+
+rising_names : (nodes : Nodes) (t : Table) (x level : ℕ) (way rising : List Fetched) → IsRising level way rising → IsWayUp t x way → AllByRecursion (IsContents nodes) way → AllByRecursion (NamesOn nodes) (map raise rising)
+rising_names nodes t x _ _ _ (at_top level) up there = tt
+rising_names nodes t x _ _ _ (high_enough level f fs more) up there = tt
+rising_names nodes t x _ _ _ (rises level f fs rising few room rise) up there =
+    let parts = way_link t x f fs up in (
+      λ m at_f y. (let same : f.node.value ≡ m = same_Some f.node.value m (sym there.0 ∙ at_f) in
+          let e : times (raised f.node.value) y ≡ times f.node.value y = raised_times f.node.value y in
+          let d : times f.node.value y ≡ times m y = ap (λ (n : Node). times n y) same in
+          omega arith),
+      rising_names nodes t f.id (level_of f.node.value + 1) fs rising rise parts.1 there.1,
+    )
+
+way_keeps : (nodes : Nodes) (t : Table) (c : ℕ) (top : Node) (p : ℕ) (node : Node) (rising : List Fetched) (made : List Node) (x : ℕ) (way : List Fetched) → IsTable t → t.level c < t.level p → t.level p ≤ t.level x → AllByRecursion (NamesOn nodes) (map raise rising) → IsWayUp t x way → AllByRecursion (IsContents nodes) way
+    → AllByRecursion (KeepsNames t (path_step t.root c top (record { id = p; node = node } ∷ map raise rising) made)) way
+way_keeps nodes t c top p node rising made x [] table down over names_on up there = tt
+way_keeps nodes t c top p node rising made x (f ∷ fs) table down over names_on up there =
+    let parts = way_link t x f fs up in
+    let more : t.level x < t.level f.id = (link_lower t x f parts.0).lower in (
+      λ d some y.
+          let moved = sym (given_upper t c top (record { id = p; node = node } ∷ map raise rising) made f.id (table.below f.id parts.0.fetched.kept) (λ e. (let l : t.level f.id ≡ t.level c = ap t.level e in omega arith))
+          ∙ changed_at-other (record { id = p; node = node }) (map raise rising) f.id (λ e. (let l : t.level f.id ≡ t.level p = ap t.level e in omega arith))) ∙ some in
+          (changed_has (NamesOn nodes) (map raise rising) f.id d names_on moved) f.node.value there.0 y,
+      way_keeps nodes t c top p node rising made f.id fs table down (omega arith) names_on parts.1 there.1,
+    )
+
+-- ---- what the step leaves
+
+pub record IsPutBetween (nodes : Nodes) (t : Table) (way : List Fetched) (parent : Fetched) (place : ℕ) (child : Fetched) (first : Node) (pivot : List ℕ) (second node : Node) (rising : List Fetched) (new : Nodes) (u : Table) : Type 0 where
+  pub of : IsToPutBetweenOf nodes t way parent place child first pivot second node rising
+  pub after : IsTableAfter t (the_step t parent child first pivot second node rising) u
+  pub committed : IsCommitted nodes t (the_step t parent child first pivot second node rising) new u
+
+pub between_flushed : (nodes : Nodes) (t : Table) (way : List Fetched) (parent : Fetched) (place : ℕ) (child : Fetched) (first : Node) (pivot : List ℕ) (second node : Node) (rising : List Fetched) (new : Nodes) (u : Table) → IsPutBetween nodes t way parent place child first pivot second node rising new u → IsFlushed nodes t new u
+between_flushed nodes t way parent place child first pivot second node rising new u h =
+    path_flushed nodes t child.id (the_child t pivot) (the_uppers parent node rising) (first ∷ second ∷ []) new u
+    (record { of = between_path_of nodes t way parent place child first pivot second node rising h.of; after = h.after; committed = h.committed }) (omega arith)
+
+pub between_pushed : (nodes : Nodes) (t : Table) (way : List Fetched) (parent : Fetched) (place : ℕ) (child : Fetched) (first : Node) (pivot : List ℕ) (second node : Node) (rising : List Fetched) (new : Nodes) (u : Table) → IsPutBetween nodes t way parent place child first pivot second node rising new u → IsPushedBetween t way parent place child new u
+between_pushed nodes t way parent place child first pivot second node rising new u h =
+    let p : ℕ = parent.id in
+    let c : ℕ = child.id in
+    let top : Node = the_child t pivot in
+    let made : List Node = first ∷ second ∷ [] in
+    let step : Step = the_step t parent child first pivot second node rising in
+    let b : IsToPutBetween t way parent place child first pivot second node rising = h.of.of in
+    let down : t.level c < t.level p = (under_parent t way parent place child first pivot second node rising b).lower in
+    let rise : IsRising (level_of node) way rising = rise_is t way parent place child first pivot second node rising b in
+    let root : IsKept u t.root = root_stays t c top (the_uppers parent node rising) made u h.after in
+    let kept : IsKept u p = way_stays nodes t step new u p way h.committed root b.way_up
+    (way_keeps nodes t c top p node rising made p way b.table down (omega arith) (rising_names nodes t p (level_of node) way rising rise b.way_up h.of.contents) b.way_up h.of.contents) h.of.contents in
+    let given_p : given t.next step p ≡ Some node =
+    given_upper t c top (the_uppers parent node rising) made p (b.table.below p b.can.parent_is.kept) (λ e. (let l : t.level p ≡ t.level c = ap t.level e in omega arith))
+    ∙ changed_at-same (record { id = p; node = node }) (map raise rising) p refl in
+    let at_p : new p ≡ Some node = given_stays nodes t step new u h.committed p node kept given_p in
+    let names_c : 1 ≤ times node c =
+    (let one : 1 ≤ times b.into.above c = one_names parent.node.value place c b.into.edge (b.into.edge.seen + b.into.batch.count) b.into.above b.can.parent_is.own.shape (way_to_child t way parent place child first pivot second node rising b) b.into.relieved in
+    let same : times node c ≡ times b.into.above c = (parent_risen t way parent place child first pivot second node rising b).same c in
+    omega arith) in
+    let kept_c : IsKept u c = (named_lower new u h.committed.sound p node at_p c names_c).kept in
+    let at_c : new c ≡ Some top = given_stays nodes t step new u h.committed c top kept_c (given_child t c top (the_uppers parent node rising) made (b.table.below c b.can.child_is.kept)) in
+    record {
+      first = first;
+      pivot = pivot;
+      second = second;
+      node = node;
+      rising = rising;
+      into = b.into;
+      parent_is = at_p;
+      child_is = at_c;
+      first_is = given_stays nodes t step new u h.committed t.next first (named_lower new u h.committed.sound c top at_c t.next (times_made 1 pivot t.next t.next (omega arith) (omega arith))).kept
+          (given-new t.next step t.next (omega arith) ∙ ap (λ (i : ℕ). slice_get made i) (let z : t.next - t.next ≡ 0 = omega arith in z));
+      second_is = given_stays nodes t step new u h.committed (t.next + 1) second (named_lower new u h.committed.sound c top at_c (t.next + 1) (times_made 1 pivot t.next (t.next + 1) (omega arith) (omega arith))).kept
+          (given-new t.next step (t.next + 1) (omega arith) ∙ ap (λ (i : ℕ). slice_get made i) (let z : t.next + 1 - t.next ≡ 1 = omega arith in z));
+      next = h.after.next;
+    }
+
+-- ---- the table
+
+-- the root's messages are no more than before
+abbrev FitsRoot : Table → Change → Type 0
+FitsRoot t v = v.id ≡ t.root → buffer_size v.node ≤ t.size
+
+rising_fit : (t : Table) (x level : ℕ) (way rising : List Fetched) → IsRising level way rising → IsWayUp t x way → AllByRecursion (FitsRoot t) (map raise rising)
+rising_fit t x _ _ _ (at_top level) up = tt
+rising_fit t x _ _ _ (high_enough level f fs more) up = tt
+rising_fit t x _ _ _ (rises level f fs rising few room rise) up =
+    let parts = way_link t x f fs up in (
+      λ root. (let is : buffer_size f.node.value ≡ t.size = parts.0.fetched.root root in let same : buffer_size (raised f.node.value) ≡ buffer_size f.node.value = raised_size f.node.value in omega arith),
+      rising_fit t f.id (level_of f.node.value + 1) fs rising rise parts.1,
+    )
+
+pub between_table : (t : Table) (way : List Fetched) (parent : Fetched) (place : ℕ) (child : Fetched) (first : Node) (pivot : List ℕ) (second node : Node) (rising : List Fetched) (u : Table) → IsToPutBetween t way parent place child first pivot second node rising → IsTableAfter t (the_step t parent child first pivot second node rising) u → IsHardlyHigher t u
+between_table t way parent place child first pivot second node rising u b after =
+    let c : ℕ = child.id in
+    let top : Node = the_child t pivot in
+    let made : List Node = first ∷ second ∷ [] in
+    let uppers : List Change = the_uppers parent node rising in
+    let step : Step = the_step t parent child first pivot second node rising in
+    let levels = root_rises t c top uppers made u (between_path t way parent place child first pivot second node rising b) after in
+    let low_root : t.root < t.next = b.table.below t.root b.table.root in
+    let down : t.level c < t.level parent.id = (under_parent t way parent place child first pivot second node rising b).lower in
+    let under : t.level parent.id ≤ t.level t.root = b.can.under in
+    let own : FitsRoot t (record { id = c; node = top }) = λ root. absurd (let e : t.level c ≡ t.level t.root = ap t.level root in omega arith) in
+    let above_fits : FitsRoot t (record { id = parent.id; node = node }) =
+    λ root.
+    let is : buffer_size parent.node.value ≡ t.size = b.can.parent_is.root root in
+    let same : buffer_size node ≡ buffer_size b.into.above = (parent_risen t way parent place child first pivot second node rising b).size in
+    let less : buffer_size b.into.above ≤ buffer_size parent.node.value = compacted_small parent.node.value place (seen_by b.into.edge b.into.batch.count ∷ []) b.into.above b.into.relieved in
+    omega arith in
+    record {
+      root = after.root;
+      low = levels.0;
+      high = levels.1;
+      size =
+          by_given (u.size ≤ t.size) (given t.next step t.root)
+          (λ none. let is : u.size ≡ t.size = after.same_size none refl in omega arith)
+          (λ d some.
+          let is : u.size ≡ buffer_size d = after.size d some in
+          let fits : FitsRoot t (record { id = t.root; node = d }) = each_change (FitsRoot t) t c top uppers made t.root d own (above_fits, rising_fit t parent.id (level_of node) way rising (rise_is t way parent place child first pivot second node rising b) b.way_up) low_root some in
+          let less : buffer_size d ≤ t.size = fits refl in
+          omega arith);
+    }
+
+-- ---- a root that can't rise
+
+pub cannot_rise : (t : Table) (x level : ℕ) (way : List Fetched) → CannotRise level way → IsWayUp t x way → t.level t.root ≡ level_limit
+cannot_rise t x _ _ (here level f [] few last) up =
+    let parts = way_link t x f [] up in
+    let own : level_of f.node.value ≡ t.level f.id = parts.0.fetched.own.level_is in
+    ap t.level (sym (way_top t f.id parts.1)) ∙ sym own ∙ last
+cannot_rise t x _ _ (here level f (g ∷ gs) few last) up =
+    let parts = way_link t x f (g ∷ gs) up in
+    let next = way_link t f.id g gs parts.1 in
+    let own : level_of f.node.value ≡ t.level f.id = parts.0.fetched.own.level_is in
+    let own_next : level_of g.node.value ≡ t.level g.id = next.0.fetched.own.level_is in
+    let more : t.level f.id < t.level g.id = (link_lower t f.id g next.0).lower in
+    let most : level_of g.node.value ≤ level_limit = level_high g.node.value next.0.fetched.own.shape in
+    absurd (omega arith)
+cannot_rise t x _ _ (further level f fs few rest) up = cannot_rise t f.id (level_of f.node.value + 1) fs rest (way_link t x f fs up).1
+
+pub way_shapes : (t : Table) (x : ℕ) (way : List Fetched) → IsWayUp t x way → AllByRecursion (λ (f : Fetched). IsShape f.node.value) way
+way_shapes t x [] up = tt
+way_shapes t x (f ∷ fs) up = let parts = way_link t x f fs up in (parts.0.fetched.own.shape, way_shapes t f.id fs parts.1)

@@ -1,0 +1,53 @@
+-- The keys between two entries of a leaf.
+use Rattle.std.proofs.Common.{◌≡◌, ℕ, zero, suc, ◌≤◌, List, [], ◌∷◌, length, refl, sym, ap, subst, ◌∙◌, Option, None, Some, Err, arith, inl, inr}
+use Rattle.std.specs.Prelude.{slice_get}
+use Rattle.std.specs.List.{AllByRecursion}
+use Rattle.std.specs.Option.{option_map}
+use Rattle.std.proofs.lemmas.Bool.{cases_lt}
+use Rattle.std.proofs.lemmas.Option.{same_Some, none-some}
+use Rattle.bd_limits.specs.Limits.{key_limit}
+use Rattle.bd_keys.specs.Keys.{IsBelow, IsBelowEnd}
+use Rattle.bd_keys.proofs.Order.{below_from}
+use Rattle.bd_node.specs.declared.node.Entry.{Entry}
+use Rattle.bd_node.specs.Nodes.{entry_at}
+use Rattle.bd_node.specs.Shape.{IsEntry, IsRising}
+use Rattle.bd_leaf.specs.Places.{AreAbove, IsPlace}
+use Rattle.bd_leaf.proofs.Finds.{nothing_at, rising_at, each_at}
+use Rattle.bd_query.specs.Stretches.{IsEmpty, IsEnd, end_limit}
+
+-- before an entry there is one at each place
+some_before : (es : List Entry) (i place : ℕ) (e : Entry) → place ≤ i → slice_get es i ≡ Some e → (f : Entry) × (slice_get es place ≡ Some f)
+some_before [] i place e le there = absurd (none-some e there)
+some_before (g ∷ es) i zero e le there = (g, refl)
+some_before (g ∷ es) zero (suc place) e le there = absurd (omega arith)
+some_before (g ∷ es) (suc i) (suc place) e le there = some_before es i place e (omega arith) there
+
+-- what is below an entry's key is below that of each later one
+below_later : (es : List Entry) (place i : ℕ) (f e : Entry) (k : List ℕ) → IsRising es → place ≤ i → slice_get es place ≡ Some f → slice_get es i ≡ Some e → IsBelow k f.key → IsBelow k e.key
+below_later es place i f e k rising le at_place at_i below =
+    elim (cases_lt place i) [
+      | inl more ↦ Rattle.std.proofs.lemmas.Cmp.nat_list_cmp_total.trans k f.key e.key below (rising_at es place i f e rising more at_place at_i)
+      | inr here ↦ (let same : i ≡ place = omega arith in
+          let is : f ≡ e = same_Some f e (sym at_place ∙ ap (λ (j : ℕ). slice_get es j) (sym same) ∙ at_i) in
+          subst (λ (d : Entry). IsBelow k d.key) is below)
+    ]
+
+-- nothing stands from a key up to the next entry's
+pub gap_empty : (es : List Entry) (place : ℕ) (lo : List ℕ) → IsRising es → IsPlace es lo (Err place) → IsEmpty (λ k. entry_at es k) lo (option_map (λ (e : Entry). e.key) (slice_get es place))
+gap_empty es place lo rising h k is_k within =
+    nothing_at es place k
+    (λ i e low there. below_from e.key lo k (h.1 i e low there) within.0)
+    (λ i e high there.
+    let first = some_before es i place e high there in
+    below_later es place i first.0 e k rising high first.1 there
+    (subst (λ (o : Option Entry). IsBelowEnd k (option_map (λ (d : Entry). d.key) o)) first.1 within.1))
+
+gap_end_at : (es : List Entry) (place : ℕ) (lo : List ℕ) (o : Option Entry) → slice_get es place ≡ o → AllByRecursion IsEntry es → AreAbove es place lo → IsEnd lo end_limit (option_map (λ (e : Entry). e.key) o)
+gap_end_at es place lo None there each over = record { above = tt; short = tt }
+gap_end_at es place lo (Some e) there each over = record {
+  above = over place e (omega arith) there;
+  short = (let own : IsEntry e = each_at IsEntry es place e each there in let a : length e.key ≤ key_limit = own.key in omega arith);
+}
+
+pub gap_end : (es : List Entry) (place : ℕ) (lo : List ℕ) → AllByRecursion IsEntry es → IsPlace es lo (Err place) → IsEnd lo end_limit (option_map (λ (e : Entry). e.key) (slice_get es place))
+gap_end es place lo each h = gap_end_at es place lo (slice_get es place) refl each h.2

@@ -1,0 +1,67 @@
+use Rattle.std.proofs.Common.{◌≡◌, ℕ, ◌+◌, ◌≤◌, ◌++◌, sym, ap, subst, ◌∙◌, arith, List, Option, drop, length}
+use Rattle.bd_message.specs.declared.message.Message.{Message}
+use Rattle.bd_message.specs.Effect.{NodesAt}
+use Rattle.bd_node.specs.declared.node.Edge.{Edge}
+use Rattle.bd_node.specs.declared.node.Entry.{Entry}
+use Rattle.bd_node.specs.declared.node.Node.{Node}
+use Rattle.bd_node.specs.Nodes.{node_at, names, edge_at, edge_names, message_names, entry_at}
+use Rattle.bd_node.specs.Shape.{end_before}
+use Rattle.std.specs.List.{flat_map}
+use Rattle.bd_query.specs.declared.stretch.Stretch.{Stretch}
+use Rattle.bd_query.specs.Stretches.{IsEnd, IsWay, IsStretch, EndsBy, AsksOneOf, end_limit}
+use Rattle.bd_query.proofs.Parts.{if_ok}
+use Rattle.bd_query.proofs.StretchLemmas.{if_both, IsPlaced, placed, placed_way, placed_seen, placed_end, placed_stretch, asks_of_node}
+use Rattle.bd_query.proofs.stretch.stretch_of.Goals as goal
+
+pub through-requires-clause-edge : goal.through-requires-clause-edge
+through-requires-clause-edge c =
+    let at_place : IsPlaced c.in-Inner.level c.in-Inner.edges c.in-Inner.buffer c.args.key.now c.edge_place-place.result c.index-edges-place.result =
+    placed c.args.node.now c.in-Inner.level c.in-Inner.edges c.as_slice-edges.result.now c.in-Inner.buffer c.args.key.now c.edge_place-place.result c.index-edges-place.result c.requires c.in-Inner.is c.as_slice-edges.ensures c.edge_place-place.ensures.edge c.edge_place-place.ensures.within c.index-edges-place.is in
+    let end : end_before (drop (c.edge_place-place.result + 1) c.in-Inner.edges) ≡ c.in_ok-end-in-Inner.end =
+    ap (λ (es : List Edge). end_before (drop (c.edge_place-place.result + 1) es)) (sym c.as_slice-edges.ensures) ∙ sym c.end_of.ensures ∙ sym c.in_ok-end-in-Inner.ensures in
+    subst (λ (e : Option (List ℕ)). IsWay c.index-edges-place.result c.args.key.now e) end
+    (placed_way c.in-Inner.level c.in-Inner.edges c.in-Inner.buffer c.args.key.now c.edge_place-place.result c.index-edges-place.result at_place (λ i. omega (arith, c.type_inv.key i)))
+
+pub through-requires-clause-seen : goal.through-requires-clause-seen
+through-requires-clause-seen c =
+    let at_place : IsPlaced c.in-Inner.level c.in-Inner.edges c.in-Inner.buffer c.args.key.now c.edge_place-place.result c.index-edges-place.result =
+    placed c.args.node.now c.in-Inner.level c.in-Inner.edges c.as_slice-edges.result.now c.in-Inner.buffer c.args.key.now c.edge_place-place.result c.index-edges-place.result c.requires c.in-Inner.is c.as_slice-edges.ensures c.edge_place-place.ensures.edge c.edge_place-place.ensures.within c.index-edges-place.is in
+    subst (λ (ms : List Message). c.index-edges-place.result.seen ≤ length ms) (sym c.as_slice-in-Inner.ensures)
+    (placed_seen c.in-Inner.level c.in-Inner.edges c.in-Inner.buffer c.args.key.now c.edge_place-place.result c.index-edges-place.result at_place)
+
+pub through-requires-clause-end : goal.through-requires-clause-end
+through-requires-clause-end c =
+    let at_place : IsPlaced c.in-Inner.level c.in-Inner.edges c.in-Inner.buffer c.args.key.now c.edge_place-place.result c.index-edges-place.result =
+    placed c.args.node.now c.in-Inner.level c.in-Inner.edges c.as_slice-edges.result.now c.in-Inner.buffer c.args.key.now c.edge_place-place.result c.index-edges-place.result c.requires c.in-Inner.is c.as_slice-edges.ensures c.edge_place-place.ensures.edge c.edge_place-place.ensures.within c.index-edges-place.is in
+    let end : end_before (drop (c.edge_place-place.result + 1) c.in-Inner.edges) ≡ c.in_ok-end-in-Inner.end =
+    ap (λ (es : List Edge). end_before (drop (c.edge_place-place.result + 1) es)) (sym c.as_slice-edges.ensures) ∙ sym c.end_of.ensures ∙ sym c.in_ok-end-in-Inner.ensures in
+    subst (λ (e : Option (List ℕ)). IsEnd c.args.key.now end_limit e) end
+    (placed_end c.in-Inner.level c.in-Inner.edges c.in-Inner.buffer c.args.key.now c.edge_place-place.result c.index-edges-place.result at_place)
+
+pub returns-in-Leaf-clause-stretch : goal.returns-in-Leaf-clause-stretch
+returns-in-Leaf-clause-stretch c =
+    if_ok _ _ c.among.result c.among.ensures.stretch (λ (s : Stretch) said below.
+    subst (λ (n : Node). IsStretch below (node_at below n) c.args.key.now s) (sym c.in-Leaf.is)
+    (subst (λ (es : List Entry). IsStretch below (entry_at es) c.args.key.now s) c.as_slice.ensures (said below)))
+
+pub returns-in_ok-end-in-Inner-clause-stretch : goal.returns-in_ok-end-in-Inner-clause-stretch
+returns-in_ok-end-in-Inner-clause-stretch c =
+    let at_place : IsPlaced c.in-Inner.level c.in-Inner.edges c.in-Inner.buffer c.args.key.now c.edge_place-place.result c.index-edges-place.result =
+    placed c.args.node.now c.in-Inner.level c.in-Inner.edges c.as_slice-edges.result.now c.in-Inner.buffer c.args.key.now c.edge_place-place.result c.index-edges-place.result c.requires c.in-Inner.is c.as_slice-edges.ensures c.edge_place-place.ensures.edge c.edge_place-place.ensures.within c.index-edges-place.is in
+    let end : end_before (drop (c.edge_place-place.result + 1) c.in-Inner.edges) ≡ c.in_ok-end-in-Inner.end =
+    ap (λ (es : List Edge). end_before (drop (c.edge_place-place.result + 1) es)) (sym c.as_slice-edges.ensures) ∙ sym c.end_of.ensures ∙ sym c.in_ok-end-in-Inner.ensures in
+    if_both _ _ (λ (s : Stretch). (below : NodesAt) → IsStretch below (node_at below c.args.node.now) c.args.key.now s) c.through.result c.through.ensures.stretch c.through.ensures.within
+    (λ s said by below.
+    subst (λ (n : Node). IsStretch below (node_at below n) c.args.key.now s) (sym c.in-Inner.is)
+    (placed_stretch below c.in-Inner.level c.in-Inner.edges c.in-Inner.buffer c.args.key.now c.edge_place-place.result c.index-edges-place.result s at_place (λ i. omega (arith, c.type_inv.key i))
+    (subst (λ (e : Option (List ℕ)). EndsBy e s) (sym end) by)
+    (subst (λ (ms : List Message). IsStretch below (edge_at below c.index-edges-place.result ms) c.args.key.now s) c.as_slice-in-Inner.ensures (said below))))
+
+pub returns-in_ok-end-in-Inner-clause-named : goal.returns-in_ok-end-in-Inner-clause-named
+returns-in_ok-end-in-Inner-clause-named c =
+    let at_place : IsPlaced c.in-Inner.level c.in-Inner.edges c.in-Inner.buffer c.args.key.now c.edge_place-place.result c.index-edges-place.result =
+    placed c.args.node.now c.in-Inner.level c.in-Inner.edges c.as_slice-edges.result.now c.in-Inner.buffer c.args.key.now c.edge_place-place.result c.index-edges-place.result c.requires c.in-Inner.is c.as_slice-edges.ensures c.edge_place-place.ensures.edge c.edge_place-place.ensures.within c.index-edges-place.is in
+    if_ok _ _ c.through.result c.through.ensures.named (λ (s : Stretch) h.
+    subst (λ (n : Node). AsksOneOf (names n) s) (sym c.in-Inner.is)
+    (asks_of_node c.in-Inner.edges c.in-Inner.buffer c.args.key.now c.index-edges-place.result s (sym at_place.edge ∙ at_place.there)
+    (subst (λ (ms : List Message). AsksOneOf (edge_names c.index-edges-place.result ++ flat_map message_names ms) s) c.as_slice-in-Inner.ensures h)))

@@ -1,0 +1,61 @@
+use Rattle.std.proofs.Common.{ℕ, subst, ◌∙◌, arith, Option}
+use Rattle.bd_message.specs.Effect.{NodesAt}
+use Rattle.bd_node.specs.Nodes.{edge_at, edge_names}
+use Rattle.bd_query.specs.declared.stretch.Stretch.{Stretch}
+use Rattle.bd_query.specs.Stretches.{IsNewest, IsStretch}
+use Rattle.bd_query.specs.Asks.{asked_first}
+use Rattle.bd_query.proofs.AskLemmas.{newest_asks, none_asks}
+use Rattle.bd_query.proofs.Parts.{if_ok}
+use Rattle.bd_query.proofs.StretchLemmas.{if_both, newest_there, through_message, through_edge, ends_within, way_within, asks_of_message, asks_of_edge}
+use Rattle.bd_query.proofs.stretch.through.Goals as goal
+
+pub of_edge-requires-clause-edge : goal.of_edge-requires-clause-edge
+of_edge-requires-clause-edge c = way_within c.args.edge.now c.args.key.now c.in_ok-place.field-0.end c.args.end c.in_ok-place.ensures.within c.requires.edge
+
+pub returns-in-Some-clause-stretch : goal.returns-in-Some-clause-stretch
+returns-in-Some-clause-stretch c =
+    let newest = subst (λ (p : Option ℕ). IsNewest c.args.buffer.now c.args.edge.now.seen c.args.key.now p c.in_ok-place.field-0.end) c.in-Some.is c.in_ok-place.ensures.newest in
+    if_both _ _ (λ (s : Stretch). (below : NodesAt) → IsStretch below (edge_at below c.args.edge.now c.args.buffer.now) c.args.key.now s) c.of_message.result c.of_message.ensures.stretch c.of_message.ensures.within
+    (λ s said by below.
+    through_message below c.args.edge.now c.args.buffer.now c.args.key.now c.in_ok-place.field-0.end c.in-Some.place c.index-buffer-place.result s newest
+    (newest_there c.args.buffer.now c.args.edge.now.seen c.args.key.now c.in_ok-place.field-0.end c.in-Some.place c.index-buffer-place.result newest c.index-buffer-place.is)
+    by (λ i. omega (arith, c.type_inv.key i)) c.in_ok-place.ensures.end.above (said below))
+
+pub returns-in-Some-clause-within : goal.returns-in-Some-clause-within
+returns-in-Some-clause-within c =
+    if_ok _ _ c.of_message.result c.of_message.ensures.within (λ (s : Stretch) by. ends_within c.in_ok-place.field-0.end c.args.end s c.in_ok-place.ensures.within by)
+
+pub returns-in-Some-clause-named : goal.returns-in-Some-clause-named
+returns-in-Some-clause-named c =
+    let newest = subst (λ (p : Option ℕ). IsNewest c.args.buffer.now c.args.edge.now.seen c.args.key.now p c.in_ok-place.field-0.end) c.in-Some.is c.in_ok-place.ensures.newest in
+    if_ok _ _ c.of_message.result c.of_message.ensures.named (λ (s : Stretch) h.
+    asks_of_message (edge_names c.args.edge.now) c.args.buffer.now c.in-Some.place c.index-buffer-place.result s
+    (newest_there c.args.buffer.now c.args.edge.now.seen c.args.key.now c.in_ok-place.field-0.end c.in-Some.place c.index-buffer-place.result newest c.index-buffer-place.is) h)
+
+pub returns-in-None-clause-stretch : goal.returns-in-None-clause-stretch
+returns-in-None-clause-stretch c =
+    let newest = subst (λ (p : Option ℕ). IsNewest c.args.buffer.now c.args.edge.now.seen c.args.key.now p c.in_ok-place.field-0.end) c.in-None.is c.in_ok-place.ensures.newest in
+    if_both _ _ (λ (s : Stretch). (below : NodesAt) → IsStretch below (edge_at below c.args.edge.now c.args.buffer.now) c.args.key.now s) c.of_edge.result c.of_edge.ensures.stretch c.of_edge.ensures.within
+    (λ s said by below.
+    through_edge below c.args.edge.now c.args.buffer.now c.args.key.now c.in_ok-place.field-0.end s newest c.requires.seen
+    by (λ i. omega (arith, c.type_inv.key i)) c.in_ok-place.ensures.end.above (said below))
+
+pub returns-in-None-clause-within : goal.returns-in-None-clause-within
+returns-in-None-clause-within c =
+    if_ok _ _ c.of_edge.result c.of_edge.ensures.within (λ (s : Stretch) by. ends_within c.in_ok-place.field-0.end c.args.end s c.in_ok-place.ensures.within by)
+
+pub returns-in-None-clause-named : goal.returns-in-None-clause-named
+returns-in-None-clause-named c =
+    if_ok _ _ c.of_edge.result c.of_edge.ensures.named (λ (s : Stretch) h. asks_of_edge (edge_names c.args.edge.now) _ s h)
+
+pub returns-in-Some-clause-asks : goal.returns-in-Some-clause-asks
+returns-in-Some-clause-asks c =
+    let newest = subst (λ (p : Option ℕ). IsNewest c.args.buffer.now c.args.edge.now.seen c.args.key.now p c.in_ok-place.field-0.end) c.in-Some.is c.in_ok-place.ensures.newest in
+    if_ok _ _ c.of_message.result c.of_message.ensures.asks (λ (s : Stretch) h.
+    newest_asks c.args.buffer.now c.args.edge.now.seen c.args.key.now c.in_ok-place.field-0.end c.in-Some.place c.index-buffer-place.result (asked_first c.args.edge.now c.args.key.now) newest c.in_ok-place.ensures.end.above c.index-buffer-place.is ∙ h)
+
+pub returns-in-None-clause-asks : goal.returns-in-None-clause-asks
+returns-in-None-clause-asks c =
+    let newest = subst (λ (p : Option ℕ). IsNewest c.args.buffer.now c.args.edge.now.seen c.args.key.now p c.in_ok-place.field-0.end) c.in-None.is c.in_ok-place.ensures.newest in
+    if_ok _ _ c.of_edge.result c.of_edge.ensures.asks (λ (s : Stretch) h.
+    none_asks c.args.buffer.now c.args.edge.now.seen c.args.key.now c.in_ok-place.field-0.end (asked_first c.args.edge.now c.args.key.now) newest c.in_ok-place.ensures.end.above ∙ h)

@@ -1,0 +1,86 @@
+use Rattle.std.proofs.Common.{◌≡◌, ℕ, ◌+◌, ◌<◌, ◌++◌, sym, ap, subst, ◌∙◌, arith, List, drop}
+use Rattle.bd_node.specs.Meaning.{Nodes, at}
+use Rattle.bd_node.specs.Tables.{Table, IsLower, IsSound}
+use Rattle.bd_query.specs.declared.stretch.Stretch.{Stretch}
+use Rattle.bd_query.specs.Stretches.{IsStretch, IsAsked, AsksLower, IsTurn, PassesTo, end_limit, way_limit}
+use Rattle.bd_query.specs.Asks.{asked_in, AreVisitsOfWay}
+use Rattle.bd_query.proofs.AskLemmas.{way_ends, way_goes_on}
+use Rattle.bd_query.proofs.TurnLemmas.{node_says, passes_weaker, level_more}
+use Rattle.bd_query.proofs.Visited.{visits_then}
+use Rattle.bd_query.proofs.turns.+turn_at.Goals as goal
+
+pub returns-in-Present-clause-turn : goal.returns-in-Present-clause-turn
+returns-in-Present-clause-turn g t c known sound =
+    let nodes : Nodes = g.S.NodeStore.nodes c.args.store.now in
+    subst (λ (s : Stretch). IsStretch (at nodes) (at nodes c.args.id) c.args.key.now s) c.in-Present.is
+    (node_says nodes (g.S.NodeStore.table c.args.store.now) c.args.id c.args.key.now c.in_ok-stretch_at.field-0 sound c.requires (λ i. omega (arith, c.type_inv.key i)) (c.in_ok-stretch_at.ensures.stretch known))
+
+pub returns-in-Absent-clause-turn : goal.returns-in-Absent-clause-turn
+returns-in-Absent-clause-turn g t c known sound =
+    let nodes : Nodes = g.S.NodeStore.nodes c.args.store.now in
+    subst (λ (s : Stretch). IsStretch (at nodes) (at nodes c.args.id) c.args.key.now s) c.in-Absent.is
+    (node_says nodes (g.S.NodeStore.table c.args.store.now) c.args.id c.args.key.now c.in_ok-stretch_at.field-0 sound c.requires (λ i. omega (arith, c.type_inv.key i)) (c.in_ok-stretch_at.ensures.stretch known))
+
+pub returns-in_ok-turn-in-Child-2-clause-turn : goal.returns-in_ok-turn-in-Child-2-clause-turn
+returns-in_ok-turn-in-Child-2-clause-turn g t c known sound =
+    let nodes : Nodes = g.S.NodeStore.nodes c.args.store.now in
+    let same : g.S.NodeStore.nodes c.stretch_at.new.store ≡ nodes = c.in_ok-stretch_at.ensures.kept known in
+    let still : IsSound (g.S.NodeStore.nodes c.stretch_at.new.store) (g.S.NodeStore.table c.stretch_at.new.store) =
+    subst (λ (n : Nodes). IsSound n (g.S.NodeStore.table c.stretch_at.new.store)) (sym same) (subst (λ (u : Table). IsSound nodes u) (sym c.in_ok-stretch_at.ensures.table) sound) in
+    let source : c.as_slice-in-Child-2.result.now ≡ c.in-Child.source = c.as_slice-in-Child-2.ensures in
+    let asked : c.as_slice-in-Child.result.now ≡ c.as_slice-in-Child-2.result.now ++ drop c.in-Child.lift c.args.key.now =
+    c.as_slice-in-Child.ensures ∙ c.in_ok-asked-in-Child.ensures ∙ ap (λ (l : List ℕ). l ++ c.tail.result.now) (c.as_slice.ensures ∙ sym source) ∙ ap (λ (l : List ℕ). c.as_slice-in-Child-2.result.now ++ l) c.tail.ensures in
+    c.in_ok-turn-in-Child-2.ensures.turn (way_limit ((g.S.NodeStore.table c.stretch_at.new.store).level c.in-Child.child))
+    (subst (λ (k : List ℕ). PassesTo k (way_limit ((g.S.NodeStore.table c.stretch_at.new.store).level c.in-Child.child)) c.in_ok-turn-in-Child.turn) asked c.in_ok-turn-in-Child.ensures.passes)
+    (at nodes c.args.id) (at nodes c.in-Child.child)
+    (subst (λ (l : List ℕ). IsAsked (at nodes c.args.id) (at nodes c.in-Child.child) c.args.key.now c.in-Child.end c.in-Child.lift l) (sym source)
+    (subst (λ (s : Stretch). IsStretch (at nodes) (at nodes c.args.id) c.args.key.now s) c.in-Child.is
+    (node_says nodes (g.S.NodeStore.table c.args.store.now) c.args.id c.args.key.now c.in_ok-stretch_at.field-0 sound c.requires (λ i. omega (arith, c.type_inv.key i)) (c.in_ok-stretch_at.ensures.stretch known))))
+    (subst (λ (k : List ℕ). IsTurn (at nodes c.in-Child.child) k c.in_ok-turn-in-Child.turn) asked
+    (subst (λ (n : Nodes). IsTurn (at n c.in-Child.child) c.as_slice-in-Child.result.now c.in_ok-turn-in-Child.turn) same
+    (c.in_ok-turn-in-Child.ensures.turn (c.in_ok-stretch_at.ensures.known known) still)))
+
+pub returns-in_ok-turn-in-Child-2-clause-passes : goal.returns-in_ok-turn-in-Child-2-clause-passes
+returns-in_ok-turn-in-Child-2-clause-passes g t c =
+    let lower : IsLower (g.S.NodeStore.table c.args.store.now) ((g.S.NodeStore.table c.args.store.now).level c.args.id) c.in-Child.child =
+    subst (λ (s : Stretch). AsksLower (g.S.NodeStore.table c.args.store.now) ((g.S.NodeStore.table c.args.store.now).level c.args.id) s) c.in-Child.is c.in_ok-stretch_at.ensures.lower in
+    let source : c.as_slice-in-Child-2.result.now ≡ c.in-Child.source = c.as_slice-in-Child-2.ensures in
+    let asked : c.as_slice-in-Child.result.now ≡ c.as_slice-in-Child-2.result.now ++ drop c.in-Child.lift c.args.key.now =
+    c.as_slice-in-Child.ensures ∙ c.in_ok-asked-in-Child.ensures ∙ ap (λ (l : List ℕ). l ++ c.tail.result.now) (c.as_slice.ensures ∙ sym source) ∙ ap (λ (l : List ℕ). c.as_slice-in-Child-2.result.now ++ l) c.tail.ensures in
+    let passes : PassesTo c.as_slice-in-Child.result.now (way_limit ((g.S.NodeStore.table c.args.store.now).level c.in-Child.child)) c.in_ok-turn-in-Child.turn =
+    subst (λ (u : Table). PassesTo c.as_slice-in-Child.result.now (way_limit (u.level c.in-Child.child)) c.in_ok-turn-in-Child.turn) c.in_ok-stretch_at.ensures.table c.in_ok-turn-in-Child.ensures.passes in
+    passes_weaker c.args.key.now (end_limit + way_limit ((g.S.NodeStore.table c.args.store.now).level c.in-Child.child)) (way_limit ((g.S.NodeStore.table c.args.store.now).level c.args.id)) c.in_ok-turn-in-Child-2.turn
+    (level_more ((g.S.NodeStore.table c.args.store.now).level c.in-Child.child) ((g.S.NodeStore.table c.args.store.now).level c.args.id) lower.lower)
+    (c.in_ok-turn-in-Child-2.ensures.passes (way_limit ((g.S.NodeStore.table c.args.store.now).level c.in-Child.child))
+    (subst (λ (k : List ℕ). PassesTo k (way_limit ((g.S.NodeStore.table c.args.store.now).level c.in-Child.child)) c.in_ok-turn-in-Child.turn) asked passes))
+
+pub returns-in_ok-turn-in-Child-2-clause-visits : goal.returns-in_ok-turn-in-Child-2-clause-visits
+returns-in_ok-turn-in-Child-2-clause-visits g t c =
+    let lower : IsLower (g.S.NodeStore.table c.args.store.now) ((g.S.NodeStore.table c.args.store.now).level c.args.id) c.in-Child.child =
+    subst (λ (s : Stretch). AsksLower (g.S.NodeStore.table c.args.store.now) ((g.S.NodeStore.table c.args.store.now).level c.args.id) s) c.in-Child.is c.in_ok-stretch_at.ensures.lower in
+    visits_then (g.S.NodeStore.visit_count c.args.store.now) (g.S.NodeStore.visit_count c.stretch_at.new.store) (g.S.NodeStore.visit_count c.turn_at.new.store) ((g.S.NodeStore.table c.stretch_at.new.store).level c.in-Child.child) ((g.S.NodeStore.table c.args.store.now).level c.args.id)
+    c.in_ok-stretch_at.ensures.visits (subst (λ (u : Table). u.level c.in-Child.child < (g.S.NodeStore.table c.args.store.now).level c.args.id) (sym c.in_ok-stretch_at.ensures.table) lower.lower) c.in_ok-turn-in-Child.ensures.visits
+
+pub returns-in-Present-clause-way : goal.returns-in-Present-clause-way
+returns-in-Present-clause-way g t c known sound =
+    way_ends (g.S.NodeStore.nodes c.args.store.now) (g.S.NodeStore.table c.args.store.now) c.args.id c.args.key.now (g.S.NodeStore.visit_count c.args.store.now) (g.S.NodeStore.visit_count c.stretch_at.new.store) sound c.requires
+    (λ n there. c.in_ok-stretch_at.ensures.asks known n there ∙ ap (λ (s : Stretch). asked_in s c.args.key.now) c.in-Present.is) c.in_ok-stretch_at.ensures.visits
+
+pub returns-in-Absent-clause-way : goal.returns-in-Absent-clause-way
+returns-in-Absent-clause-way g t c known sound =
+    way_ends (g.S.NodeStore.nodes c.args.store.now) (g.S.NodeStore.table c.args.store.now) c.args.id c.args.key.now (g.S.NodeStore.visit_count c.args.store.now) (g.S.NodeStore.visit_count c.stretch_at.new.store) sound c.requires
+    (λ n there. c.in_ok-stretch_at.ensures.asks known n there ∙ ap (λ (s : Stretch). asked_in s c.args.key.now) c.in-Absent.is) c.in_ok-stretch_at.ensures.visits
+
+pub returns-in_ok-turn-in-Child-2-clause-way : goal.returns-in_ok-turn-in-Child-2-clause-way
+returns-in_ok-turn-in-Child-2-clause-way g t c known sound =
+    let nodes : Nodes = g.S.NodeStore.nodes c.args.store.now in
+    let same : g.S.NodeStore.nodes c.stretch_at.new.store ≡ nodes = c.in_ok-stretch_at.ensures.kept known in
+    let still : IsSound (g.S.NodeStore.nodes c.stretch_at.new.store) (g.S.NodeStore.table c.stretch_at.new.store) =
+    subst (λ (n : Nodes). IsSound n (g.S.NodeStore.table c.stretch_at.new.store)) (sym same) (subst (λ (u : Table). IsSound nodes u) (sym c.in_ok-stretch_at.ensures.table) sound) in
+    let asked : c.as_slice-in-Child.result.now ≡ c.in-Child.source ++ drop c.in-Child.lift c.args.key.now =
+    c.as_slice-in-Child.ensures ∙ c.in_ok-asked-in-Child.ensures ∙ ap (λ (l : List ℕ). l ++ c.tail.result.now) c.as_slice.ensures ∙ ap (λ (l : List ℕ). c.in-Child.source ++ l) c.tail.ensures in
+    way_goes_on nodes (g.S.NodeStore.table c.args.store.now) c.args.id c.in-Child.child c.args.key.now (c.in-Child.source ++ drop c.in-Child.lift c.args.key.now) (g.S.NodeStore.visit_count c.args.store.now) (g.S.NodeStore.visit_count c.stretch_at.new.store) (g.S.NodeStore.visit_count c.turn_at.new.store) sound c.requires
+    (λ n there. c.in_ok-stretch_at.ensures.asks known n there ∙ ap (λ (s : Stretch). asked_in s c.args.key.now) c.in-Child.is) c.in_ok-stretch_at.ensures.visits
+    (subst (λ (k : List ℕ). AreVisitsOfWay nodes c.in-Child.child k (g.S.NodeStore.visit_count c.stretch_at.new.store) (g.S.NodeStore.visit_count c.turn_at.new.store)) asked
+    (subst (λ (n : Nodes). AreVisitsOfWay n c.in-Child.child c.as_slice-in-Child.result.now (g.S.NodeStore.visit_count c.stretch_at.new.store) (g.S.NodeStore.visit_count c.turn_at.new.store)) same
+    (c.in_ok-turn-in-Child.ensures.way (c.in_ok-stretch_at.ensures.known known) still)))

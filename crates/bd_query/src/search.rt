@@ -1,0 +1,67 @@
+//! The search for the least key.
+
+ghost use Rattle.std.specs.Prelude.{◌≡◌, ℕ, List, IfOk, OnOk};
+ghost use Rattle.std.specs.Option.{option_map};
+ghost use Rattle.bd_keys.specs.Keys.{IsAtLeast};
+ghost use Rattle.bd_message.specs.KeyMaps.{HasMapCause, NeverWorn, IsNext};
+ghost use Rattle.bd_node.specs.Meaning.{at};
+ghost use Rattle.bd_node.specs.Tables.{IsKept, IsSound};
+ghost use Rattle.bd_query.specs.Asks.{AreVisitsOfWays};
+
+use crate::ends::bytes_of;
+use crate::turns::{Turn, turn_at};
+use bd_keys::starts;
+use bd_message::MapFault;
+use bd_node::NodeStore;
+use std::alloc::Global;
+
+/// The least key of a kept node, of any length, that is at least `from`, begins with `within` and
+/// has a value. Each turn rules out the keys from one up to another and goes on at that one. The
+/// nodes that are visited are those that are asked on ways down along these keys; a way goes no
+/// further where a cut decides, so what lies below a range that was cut is not visited.
+pub fn next<S: NodeStore>(
+    alloc: Global,
+    store: &mut S,
+    root: u64,
+    from: &[u8],
+    within: &[u8],
+) -> Result<Option<Vec<u8>>, MapFault>
+    requires { IsKept (S.table store.old) root }
+    ensures next { S.is_known store.old → IsSound (S.nodes store.old) (S.table store.old)
+        → IfOk result (λ found. IsNext (at (S.nodes store.old) root) from.now within.now
+        (option_map (λ key. key.items) found)) }
+    ensures table { S.table store.new ≡ S.table store.old }
+    ensures known { S.is_known store.old → S.is_known store.new }
+    ensures kept { S.is_known store.old → S.nodes store.new ≡ S.nodes store.old }
+    ensures read { S.reads store.old store.new }
+    ensures cause { HasMapCause (S.fault_count store.old) (S.fault_count store.new)
+        (S.bad store.new) NeverWorn result }
+    ensures ways { S.is_known store.old → IsSound (S.nodes store.old) (S.table store.old)
+        → OnOk result (AreVisitsOfWays (S.nodes store.old) root from.now
+        (S.visit_count store.old) (S.visit_count store.new)) }
+    ensures same_loans { S.loans store.new ≡ S.loans store.old }
+{
+    // The measure is how many keys of a bounded length are above `low`: each end is above the key
+    // that was asked, and no longer than the node's level allows, whatever the nodes are.
+    let mut low = Vec::from_slice(alloc, greater(from, within))?;
+    'turns: while starts(low.as_slice(), within) {
+        match turn_at(alloc, store, root, low.as_slice())? {
+            Turn::Found => return Ok(Some(low)),
+            Turn::Passed { end: None } => return Ok(None),
+            Turn::Passed { end: Some(end) } => {
+                let _bytes = bytes_of(end.as_slice());
+                low = end.into_vec();
+            }
+        }
+    }
+    Ok(None)
+}
+
+// The greater of two keys.
+fn greater<'a>(a: &'a [u8], b: &'a [u8]) -> &'a [u8]
+    ensures first { IsAtLeast result.now a.now }
+    ensures second { IsAtLeast result.now b.now }
+    ensures least { (k : List ℕ) → IsAtLeast k a.now → IsAtLeast k b.now → IsAtLeast k result.now }
+{
+    if a.cmp(b).is_lt() { b } else { a }
+}

@@ -1,0 +1,269 @@
+//! What one node says of a key and of the keys after it.
+
+ghost use Rattle.std.specs.Prelude.{◌≡◌, ℕ, ◌+◌, ◌-◌, ◌*◌, ◌<◌, ◌≤◌, true, List, [], ◌++◌, length, drop, Option, None, Some, IfOk, slice_get};
+ghost use Rattle.std.specs.List.{AllByRecursion, flat_map};
+ghost use Rattle.std.specs.Option.{option_map};
+ghost use Rattle.bd_message.specs.Messages.{IsMessage};
+ghost use Rattle.bd_message.specs.Effect.{NodesAt, act};
+ghost use Rattle.bd_node.specs.Touching.{touches};
+ghost use Rattle.bd_node.specs.Nodes.{node_at, names, message_names, edge_names, child_at, edge_of, edge_at, entry_at};
+ghost use Rattle.bd_node.specs.Shape.{IsShape, IsEntry, IsRising, AreRising};
+ghost use Rattle.bd_leaf.specs.Places.{IsPlace};
+ghost use Rattle.bd_query.specs.Asks.{asked_by, asked_first, asked_through, asked_at, asked_in};
+ghost use Rattle.bd_query.specs.Stretches.{IsEnd, IsWithin, IsNewest, IsWay, IsStretch, HasEnd, EndsBy, AsksOneOf, end_limit};
+
+use crate::ends::{copied_end, end_within, narrowed, successor};
+use bd_inner::end_of;
+use bd_keys::Bytes;
+use bd_message::Message;
+use bd_node::{Edge, Entry, Node, Steps, touches};
+use std::alloc::{AllocError, Global};
+use std::marker::Brand;
+use std::sync::ledger::{Blank, Ledger};
+
+/// What one node says of a key and of the keys after it.
+#[derive(Drop)]
+pub enum Stretch {
+    /// The key has a value.
+    Present,
+    /// No key from this one up to the end has one.
+    Absent {
+        end: Option<Bytes>,
+    },
+    /// Each key from this one up to the end has what a node has at `source` and then the key
+    /// without its first `lift` bytes, which these keys have in common.
+    Child {
+        end: Option<Bytes>,
+        child: u64,
+        lift: usize,
+        source: Bytes,
+    },
+}
+
+/// The newest message that can change a key, if there is one, and an end up to which newer ones
+/// change no key from that one on.
+#[derive(Drop)]
+struct Newest {
+    place: Option<usize>,
+    end: Option<Bytes>,
+}
+
+/// What a node says of a key and of the keys after it.
+pub fn stretch_of(alloc: Global, node: &Node, key: &[u8]) -> Result<Stretch, AllocError>
+    requires { IsShape node.now }
+    ensures stretch { IfOk result (λ stretch. (below : NodesAt)
+        → IsStretch below (node_at below node.now) key.now stretch) }
+    ensures end { IfOk result (λ stretch. HasEnd key.now stretch) }
+    ensures named { IfOk result (λ stretch. AsksOneOf (names node.now) stretch) }
+    ensures asks { IfOk result (λ stretch.
+        asked_at node.now key.now ≡ asked_in stretch key.now) }
+{
+    match node {
+        Node::Leaf(entries) => among(entries.as_slice(), key),
+        Node::Inner { edges, buffer, .. } => {
+            let edges = edges.as_slice();
+            let place = edge_place(edges, key);
+            let end = copied_end(alloc, end_of(edges, place))?;
+            through(alloc, &edges[place], buffer.as_slice(), key, end)
+        }
+    }
+}
+
+// What the entries of a leaf say.
+fn among(entries: &[Entry], key: &[u8]) -> Result<Stretch, AllocError>
+    requires rising { IsRising entries.now }
+    requires short { AllByRecursion IsEntry entries.now }
+    ensures stretch { IfOk result (λ stretch. (below : NodesAt)
+        → IsStretch below (entry_at entries.now) key.now stretch) }
+    ensures end { IfOk result (λ stretch. HasEnd key.now stretch) }
+    ensures named { IfOk result (λ stretch. AsksOneOf [] stretch) }
+    ensures asks { IfOk result (λ stretch. asked_in stretch key.now ≡ None) }
+{
+    match search(entries, key) {
+        Ok(_place) => Ok(Stretch::Present),
+        Err(place) => {
+            let end = key_at(entries, place)?;
+            Ok(Stretch::Absent { end })
+        }
+    }
+}
+
+// The key of the entry at a place, if there is one.
+fn key_at(entries: &[Entry], place: usize) -> Result<Option<Bytes>, AllocError>
+    ensures { IfOk result (λ key. key ≡ option_map (λ e. e.key) (slice_get entries.now place)) }
+{
+    match entries.get(place) {
+        Some(entry) => Ok(Some(entry.key.clone()?)),
+        None => Ok(None),
+    }
+}
+
+// The place of a key among entries, where nobody asks for the number of comparisons.
+fn search(entries: &[Entry], key: &[u8]) -> Result<usize, usize>
+    requires { IsRising entries.now }
+    ensures { IsPlace entries.now key.now result }
+{
+    search_with::<Brand>(entries, key, Blank::new(1))
+}
+
+// The same, counted in a ledger.
+fn search_with<L: Ledger>(entries: &[Entry], key: &[u8], blank: Blank) -> Result<usize, usize>
+    requires rising { IsRising entries.now }
+    requires name { blank.name ≡ L.name }
+    requires parts { blank.parts ≡ L.parts }
+    requires some { 0 < L.parts }
+    ensures { IsPlace entries.now key.now result }
+{
+    let mut steps = Steps::<L>::new(blank);
+    bd_leaf::place(entries, key, &mut steps)
+}
+
+// The place of the edge whose keys include a key.
+fn edge_place(edges: &[Edge], key: &[u8]) -> usize
+    requires some { 1 ≤ length edges.now }
+    requires rising { AreRising edges.now }
+    ensures edge { slice_get edges.now result ≡ edge_of edges.now key.now }
+    ensures within { result < length edges.now }
+{
+    edge_place_with::<Brand>(edges, key, Blank::new(1))
+}
+
+// The same, counted in a ledger.
+fn edge_place_with<L: Ledger>(edges: &[Edge], key: &[u8], blank: Blank) -> usize
+    requires some { 1 ≤ length edges.now }
+    requires rising { AreRising edges.now }
+    requires name { blank.name ≡ L.name }
+    requires parts { blank.parts ≡ L.parts }
+    requires all { 0 < L.parts }
+    ensures edge { slice_get edges.now result ≡ edge_of edges.now key.now }
+    ensures within { result < length edges.now }
+{
+    let mut steps = Steps::<L>::new(blank);
+    bd_inner::place(edges, key, &mut steps)
+}
+
+// What an edge and the messages that it hasn't seen say, where the edge's keys end at `end`.
+fn through(
+    alloc: Global,
+    edge: &Edge,
+    buffer: &[Message],
+    key: &[u8],
+    end: Option<Bytes>,
+) -> Result<Stretch, AllocError>
+    requires edge { IsWay edge.now key.now end }
+    requires seen { edge.now.seen ≤ length buffer.now }
+    requires messages { AllByRecursion IsMessage buffer.now }
+    requires end { IsEnd key.now end_limit end }
+    ensures stretch { IfOk result (λ stretch. (below : NodesAt)
+        → IsStretch below (edge_at below edge.now buffer.now) key.now stretch) }
+    ensures end { IfOk result (λ stretch. HasEnd key.now stretch) }
+    ensures within { IfOk result (λ stretch. EndsBy end stretch) }
+    ensures named { IfOk result (λ stretch.
+        AsksOneOf (edge_names edge.now ++ flat_map message_names buffer.now) stretch) }
+    ensures asks { IfOk result (λ stretch.
+        asked_through (Some edge.now) buffer.now key.now ≡ asked_in stretch key.now) }
+{
+    let Newest { place, end } = newest_touching(alloc, buffer, edge.seen as usize, key, end)?;
+    match place {
+        Some(place) => of_message(alloc, &buffer[place], key, end),
+        None => of_edge(edge, key, end),
+    }
+}
+
+// The newest message from a place on that can change the key.
+fn newest_touching(
+    alloc: Global,
+    buffer: &[Message],
+    seen: usize,
+    key: &[u8],
+    end: Option<Bytes>,
+) -> Result<Newest, AllocError>
+    requires seen { seen ≤ length buffer.now }
+    requires messages { AllByRecursion IsMessage buffer.now }
+    requires end { IsEnd key.now end_limit end }
+    ensures newest { IfOk result (λ newest.
+        IsNewest buffer.now seen key.now newest.place newest.end) }
+    ensures end { IfOk result (λ newest. IsEnd key.now end_limit newest.end) }
+    ensures within { IfOk result (λ newest. IsWithin newest.end end) }
+{
+    let mut end = end;
+    let mut place = buffer.len();
+    while place > seen {
+        place -= 1;
+        let message = &buffer[place];
+        if touches(message, key) {
+            return Ok(Newest {
+                place: Some(place),
+                end,
+            });
+        }
+        end = narrowed(alloc, message, key, end)?;
+    }
+    Ok(Newest { place: None, end })
+}
+
+// What a message says that can change the key.
+fn of_message(
+    alloc: Global,
+    message: &Message,
+    key: &[u8],
+    end: Option<Bytes>,
+) -> Result<Stretch, AllocError>
+    requires message { IsMessage message.now }
+    requires touches { touches message.now key.now ≡ true }
+    requires end { IsEnd key.now end_limit end }
+    ensures stretch { IfOk result (λ stretch. (below : NodesAt) (old : Option (List ℕ))
+        → IsStretch below (λ k. act below message.now k old) key.now stretch) }
+    ensures end { IfOk result (λ stretch. HasEnd key.now stretch) }
+    ensures within { IfOk result (λ stretch. EndsBy end stretch) }
+    ensures named { IfOk result (λ stretch. AsksOneOf (message_names message.now) stretch) }
+    ensures asks { IfOk result (λ stretch.
+        asked_by message.now key.now ≡ asked_in stretch key.now) }
+{
+    match message {
+        Message::Put { .. } | Message::Patch { .. } => Ok(Stretch::Present),
+        Message::Del { .. } => {
+            let end = Some(successor(alloc, key)?);
+            Ok(Stretch::Absent { end })
+        }
+        Message::Cut { prefix, .. } => {
+            let end = end_within(alloc, prefix.as_slice(), key, end)?;
+            Ok(Stretch::Absent { end })
+        }
+        Message::Goto {
+            prefix,
+            source,
+            child,
+        } => Ok(Stretch::Child {
+            end: end_within(alloc, prefix.as_slice(), key, end)?,
+            child: *child,
+            lift: prefix.len(),
+            source: source.clone()?,
+        }),
+    }
+}
+
+// What an edge says where no message changes that.
+fn of_edge(edge: &Edge, key: &[u8], end: Option<Bytes>) -> Result<Stretch, AllocError>
+    requires edge { IsWay edge.now key.now end }
+    requires end { IsEnd key.now end_limit end }
+    ensures stretch { IfOk result (λ stretch. (below : NodesAt)
+        → IsStretch below
+        (λ k. child_at below edge.now.child (edge.now.source ++ drop edge.now.lift k))
+        key.now stretch) }
+    ensures end { IfOk result (λ stretch. HasEnd key.now stretch) }
+    ensures within { IfOk result (λ stretch. EndsBy end stretch) }
+    ensures named { IfOk result (λ stretch. AsksOneOf (edge_names edge.now) stretch) }
+    ensures asks { IfOk result (λ stretch.
+        asked_first edge.now key.now ≡ asked_in stretch key.now) }
+{
+    match edge.child {
+        Some(child) => Ok(Stretch::Child {
+            end,
+            child,
+            lift: edge.lift as usize,
+            source: edge.source.clone()?,
+        }),
+        None => Ok(Stretch::Absent { end }),
+    }
+}

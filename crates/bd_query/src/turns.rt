@@ -1,0 +1,165 @@
+//! Turns of a search: each is one way down along a key, and finds that the key has a value, or up
+//! to which key none has one.
+
+ghost use Rattle.std.specs.Prelude.{◌≡◌, ℕ, ◌+◌, ◌≤◌, List, ◌++◌, length, take, drop, Some, IfOk, OnOk};
+ghost use Rattle.bd_limits.specs.Limits.{key_limit};
+ghost use Rattle.bd_keys.specs.Keys.{IsKey, InRange, Begins};
+ghost use Rattle.bd_message.specs.Effect.{NodesAt};
+ghost use Rattle.bd_message.specs.KeyMaps.{At, HasMapCause, NeverWorn};
+ghost use Rattle.bd_node.specs.declared.node.Node.{Node};
+ghost use Rattle.bd_node.specs.Nodes.{node_at};
+ghost use Rattle.bd_node.specs.Meaning.{at};
+ghost use Rattle.bd_node.specs.Tables.{IsKept, IsSound};
+ghost use Rattle.bd_node.specs.Stores.{visited};
+ghost use Rattle.bd_query.specs.Stretches.{IsEnd, IsAsked, IsStretch, HasEnd, AsksLower, IsTurn, PassesTo, end_limit, way_limit};
+ghost use Rattle.bd_query.specs.Asks.{asked_at, asked_in, AreVisitsOfWay};
+ghost use Rattle.bd_query.specs.Visits.{AreVisits};
+
+use crate::ends::{joined, lesser};
+use crate::stretch::{Stretch, stretch_of};
+use bd_keys::{Bytes, front, starts, tail};
+use bd_message::MapFault;
+use bd_node::NodeStore;
+use std::alloc::{AllocError, Global};
+
+/// What a turn finds.
+#[derive(Drop)]
+pub enum Turn {
+    /// The key has a value.
+    Found,
+    /// No key from this one up to the end has one.
+    Passed { end: Option<Bytes> },
+}
+
+/// One way down from a kept node along a key: it finds a value there, or up to which end above it
+/// no key has one. A node asks at most one other, and none where a cut decides.
+pub fn turn_at<S: NodeStore>(
+    alloc: Global,
+    store: &mut S,
+    id: u64,
+    key: &[u8],
+) -> Result<Turn, MapFault>
+    requires { IsKept (S.table store.old) id }
+    ensures turn { S.is_known store.old → IsSound (S.nodes store.old) (S.table store.old)
+        → IfOk result (λ turn. IsTurn (at (S.nodes store.old) id) key.now turn) }
+    ensures passes { IfOk result (λ turn.
+        PassesTo key.now (way_limit ((S.table store.old).level id)) turn) }
+    ensures bytes { IsKey key.now }
+    ensures table { S.table store.new ≡ S.table store.old }
+    ensures known { S.is_known store.old → S.is_known store.new }
+    ensures kept { S.is_known store.old → S.nodes store.new ≡ S.nodes store.old }
+    ensures read { S.reads store.old store.new }
+    ensures cause { HasMapCause (S.fault_count store.old) (S.fault_count store.new)
+        (S.bad store.new) NeverWorn result }
+    ensures visits { OnOk result (AreVisits 1 ((S.table store.old).level id + 1)
+        (S.visit_count store.old) (S.visit_count store.new)) }
+    ensures few_visits { S.visit_count store.new
+        ≤ S.visit_count store.old + ((S.table store.old).level id + 1) }
+    ensures way { S.is_known store.old → IsSound (S.nodes store.old) (S.table store.old)
+        → OnOk result (AreVisitsOfWay (S.nodes store.old) id key.now
+        (S.visit_count store.old) (S.visit_count store.new)) }
+    ensures same_loans { S.loans store.new ≡ S.loans store.old }
+{
+    match stretch_at(alloc, store, id, key)? {
+        Stretch::Present => Ok(Turn::Found),
+        Stretch::Absent { end } => Ok(Turn::Passed { end }),
+        Stretch::Child {
+            end,
+            child,
+            lift,
+            source,
+        } => {
+            let asked = joined(alloc, source.as_slice(), tail(key, lift))?;
+            let turn = turn_at(alloc, store, child, asked.as_slice())?;
+            let turn = raised(alloc, turn, end, key, lift, source.as_slice())?;
+            Ok(turn)
+        }
+    }
+}
+
+// What the node of an id says of a key and of the keys after it.
+fn stretch_at<S: NodeStore>(
+    alloc: Global,
+    store: &mut S,
+    id: u64,
+    key: &[u8],
+) -> Result<Stretch, MapFault>
+    requires { IsKept (S.table store.old) id }
+    ensures stretch { S.is_known store.old → IfOk result (λ stretch. (n : Node)
+        → S.nodes store.old id ≡ Some n → (below : NodesAt)
+        → IsStretch below (node_at below n) key.now stretch) }
+    ensures end { IfOk result (λ stretch. HasEnd key.now stretch) }
+    ensures lower { IfOk result (λ stretch.
+        AsksLower (S.table store.old) ((S.table store.old).level id) stretch) }
+    ensures asks { S.is_known store.old → IfOk result (λ stretch. (n : Node)
+        → S.nodes store.old id ≡ Some n → asked_at n key.now ≡ asked_in stretch key.now) }
+    ensures bytes { IsKey key.now }
+    ensures table { S.table store.new ≡ S.table store.old }
+    ensures known { S.is_known store.old → S.is_known store.new }
+    ensures kept { S.is_known store.old → S.nodes store.new ≡ S.nodes store.old }
+    ensures read { S.reads store.old store.new }
+    ensures cause { HasMapCause (S.fault_count store.old) (S.fault_count store.new)
+        (S.bad store.new) NeverWorn result }
+    ensures visits { S.visit_count store.new ≡ visited (S.visit_count store.old) 1 }
+    ensures same_loans { S.loans store.new ≡ S.loans store.old }
+{
+    let node = store.fetch(id)?;
+    Ok(stretch_of(alloc, &node, key)?)
+}
+
+// What a child's turn says of the keys that it was asked for.
+fn raised(
+    alloc: Global,
+    turn: Turn,
+    end: Option<Bytes>,
+    key: &[u8],
+    lift: usize,
+    source: &[u8],
+) -> Result<Turn, AllocError>
+    requires end { IsEnd key.now end_limit end }
+    requires long { lift ≤ length key.now }
+    requires few { lift ≤ key_limit }
+    ensures turn { IfOk result (λ new. (most : ℕ)
+        → PassesTo (source.now ++ drop lift key.now) most turn → (at child : At)
+        → IsAsked at child key.now end lift source.now
+        → IsTurn child (source.now ++ drop lift key.now) turn → IsTurn at key.now new) }
+    ensures passes { IfOk result (λ new. (most : ℕ)
+        → PassesTo (source.now ++ drop lift key.now) most turn
+        → PassesTo key.now (end_limit + most) new) }
+{
+    match turn {
+        Turn::Found => Ok(Turn::Found),
+        Turn::Passed { end: below } => {
+            let below = end_above(alloc, below, key, lift, source)?;
+            let end = lesser(end, below);
+            Ok(Turn::Passed { end })
+        }
+    }
+}
+
+// Where the keys end whose translations, which a child is asked for, are below an end.
+fn end_above(
+    alloc: Global,
+    end: Option<Bytes>,
+    key: &[u8],
+    lift: usize,
+    source: &[u8],
+) -> Result<Option<Bytes>, AllocError>
+    requires { lift ≤ length key.now }
+    ensures end { IfOk result (λ new. (most : ℕ)
+        → IsEnd (source.now ++ drop lift key.now) most end → IsEnd key.now (lift + most) new) }
+    ensures inside { IfOk result (λ new. (most : ℕ)
+        → IsEnd (source.now ++ drop lift key.now) most end → (k : List ℕ)
+        → Begins k (take lift key.now) → InRange key.now new k
+        → InRange (source.now ++ drop lift key.now) end (source.now ++ drop lift k)) }
+{
+    let Some(end) = end else {
+        return Ok(None);
+    };
+    if starts(end.as_slice(), source) {
+        let rest = tail(end.as_slice(), source.len());
+        Ok(Some(joined(alloc, front(key, lift), rest)?))
+    } else {
+        Ok(None)
+    }
+}

@@ -1,0 +1,152 @@
+-- What the way down finds is enough to make a step.
+use Rattle.std.proofs.Common.{◌≡◌, ℕ, List, ◌<◌, ◌≤◌, sym, ap, subst, ◌∙◌, None, Some, Result, Ok, IfOk, arith, inl, inr}
+use Rattle.std.specs.List.{AllByRecursion}
+use Rattle.bd_limits.specs.Limits.{soft_limit}
+use Rattle.bd_message.specs.declared.fault.MapFault.{MapFault}
+use Rattle.bd_node.specs.declared.node.Edge.{Edge}
+use Rattle.bd_node.specs.declared.node.Node.{Node}
+use Rattle.bd_node.specs.declared.node.Node.TheVariants.{Leaf, Inner}
+use Rattle.bd_node.specs.Nodes.{buffer_size}
+use Rattle.bd_node.specs.Meaning.{Nodes}
+use Rattle.bd_node.specs.Shape.{IsShape}
+use Rattle.bd_node.specs.Tables.{Table, IsSound}
+use Rattle.bd_inner.specs.Moving.{IsPlainFor}
+use Rattle.bd_inner.specs.Exchange.{end_at, IsEdgeAt}
+use Rattle.bd_flush.specs.declared.fetching.Fetched.{Fetched}
+use Rattle.bd_flush.specs.declared.ways.FlushStep.{FlushStep}
+use Rattle.bd_flush.specs.declared.ways.FlushStep.TheVariants.{SplitRoot, SplitChild, Push, Privatise, Carve}
+use Rattle.bd_flush.specs.Flushed.{IsFlushed}
+use Rattle.bd_flush.specs.Children.{IsFetched, IsContents}
+use Rattle.bd_flush.specs.Pushes.{CanPush, CanPushNew, IsWaitedFor, unseen}
+use Rattle.bd_flush.specs.Ways.{IsFullestAt, IsHigh, IsThere, AreThere, IsToDo, IsToDoAt, IsWayThere}
+use Rattle.bd_node.proofs.Lookup.{each_weaker}
+use Rattle.bd_flush.proofs.Abundance.{abundant}
+use Rattle.bd_flush.proofs.Waiting.{fullest_waits, pending_waits}
+use Rattle.bd_step.specs.Steps.{IsMade, IsHighAfter, IsAbundantAt, IsAbundant, IsFlushStep, IsOutcome}
+use Rattle.bd_step.specs.declared.steps.Flush.{Flush}
+use Rattle.bd_step.specs.declared.steps.Flush.TheVariants.{Enough}
+
+-- messages wait in a node of the way
+some_wait : (t : Table) (f : Fetched) → 1 ≤ t.size → IsFetched t f → IsHigh t f → 1 ≤ buffer_size f.node.value
+some_wait t f waits fetched high =
+    elim high.full [
+      | inl root ↦ (let is : buffer_size f.node.value ≡ t.size = fetched.root root in omega arith)
+      | inr more ↦ omega arith
+    ]
+
+-- more than 16,384 bytes, where so many wait in the root
+much_waits : (t : Table) (f : Fetched) → soft_limit < t.size → IsFetched t f → IsHigh t f → soft_limit < buffer_size f.node.value
+much_waits t f waits fetched high =
+    elim high.full [
+      | inl root ↦ (let is : buffer_size f.node.value ≡ t.size = fetched.root root in omega arith)
+      | inr more ↦ more
+    ]
+
+-- messages wait for the fullest edge
+waits_for : (t : Table) (parent : Fetched) (place : ℕ) (e : Edge) → 1 ≤ t.size → IsFetched t parent → IsHigh t parent → IsFullestAt parent.node.value place → IsEdgeAt parent.node.value place e
+    → AllByRecursion (IsPlainFor e (end_at parent.node.value place)) (unseen parent.node.value e) → IsWaitedFor parent.node.value place e
+waits_for t parent place e waits fetched high full here plain =
+    record {
+      some = pending_waits parent.node.value place e (fullest_waits parent.node.value fetched.own.shape (some_wait t parent waits fetched high) place full e here);
+      plain = plain;
+    }
+
+pub can_push : (t : Table) (above : List Fetched) (parent : Fetched) (place : ℕ) (child : Fetched) → 1 ≤ t.size → IsToDo t (Push above parent place (Some child)) → CanPush t parent place child
+can_push t above parent place child waits h = record {
+  parent_is = h.0.parent_is;
+  child_is = h.0.target.1;
+  under = h.1.under;
+  room = h.0.room;
+  edge = h.0.edge;
+  way = h.0.target.0;
+  waiting = waits_for t parent place h.0.edge waits h.0.parent_is h.1 h.0.fullest h.0.target.0.here h.0.plain;
+  once = h.0.target.2;
+  soft = h.0.target.3;
+}
+
+pub can_push_new : (t : Table) (above : List Fetched) (parent : Fetched) (place : ℕ) → 1 ≤ t.size → IsToDo t (Push above parent place None) → CanPushNew t parent place
+can_push_new t above parent place waits h = record {
+  parent_is = h.0.parent_is;
+  edge = h.0.edge;
+  here = h.0.target.0;
+  bare = h.0.target.1;
+  waiting = waits_for t parent place h.0.edge waits h.0.parent_is h.1 h.0.fullest h.0.target.0 h.0.plain;
+}
+
+-- ---- abundance
+
+abundant_in : (n : Node) → IsShape n → soft_limit < buffer_size n → (place : ℕ) → IsFullestAt n place → IsAbundantAt n place
+abundant_in (Leaf entries) shape more place full = absurd (omega arith)
+abundant_in (Inner level edges buffer) shape more place full = record {
+  bytes = full.bytes;
+  fullest = full.fullest;
+  many = abundant level edges buffer shape more place full.bytes full.fullest;
+}
+
+abundant_at : (t : Table) (parent : Fetched) (place : ℕ) → soft_limit < t.size → IsFetched t parent → IsHigh t parent → IsFullestAt parent.node.value place → IsAbundantAt parent.node.value place
+abundant_at t parent place more fetched high full =
+    abundant_in parent.node.value fetched.own.shape (much_waits t parent more fetched high) place full
+
+pub is_abundant : (t : Table) (step : FlushStep) → IsToDo t step → soft_limit < t.size → IsAbundant step
+is_abundant t (SplitRoot root) h more = tt
+is_abundant t (SplitChild above parent place child) h more = abundant_at t parent place more h.0.parent_is h.3 h.1
+is_abundant t (Push above parent place child) h more = abundant_at t parent place more h.0.parent_is h.1 h.0.fullest
+is_abundant t (Privatise above parent place) h more = abundant_at t parent place more h.0.parent_is h.1 h.0.fullest
+is_abundant t (Carve above parent place) h more = abundant_at t parent place more h.0.parent_is h.1 h.0.fullest
+
+-- ---- the whole step
+
+pub root_found : (nodes : Nodes) (t : Table) (root : Fetched) (n : Node) → n ≡ root.node.value → IsToDo t (SplitRoot root) → IsToDoAt nodes t (SplitRoot root) → nodes t.root ≡ Some n
+root_found nodes t root n same to_do here = ap nodes (sym to_do.1) ∙ (here.there ∙ ap (λ (m : Node). Some m) (sym same))
+
+outcome_made : (step : FlushStep) → IsOutcome step Enough → ⊥
+outcome_made (SplitRoot root) h = cc
+outcome_made (SplitChild above parent place child) h = cc
+outcome_made (Push above parent place child) h = cc
+outcome_made (Privatise above parent place) h = cc
+outcome_made (Carve above parent place) h = cc
+
+pub never_enough : (r : Result Flush MapFault) (step : FlushStep) → IfOk r (IsOutcome step) → r ≡ Ok Enough → ⊥
+never_enough r step h is =
+    let of_ok : IsOutcome step Enough = subst (λ (q : Result Flush MapFault). IfOk q (IsOutcome step)) is h in
+    outcome_made step of_ok
+
+pub here_again : (nodes mid : Nodes) (t m : Table) (step : FlushStep) → mid ≡ nodes → m ≡ t → IsSound mid m → (IsSound nodes t → IsToDoAt nodes t step) → IsToDoAt mid m step
+here_again nodes mid t m step same table sound here =
+    subst (λ (u : Table). IsToDoAt mid u step) (sym table)
+    (subst (λ (f : Nodes). IsToDoAt f t step) (sym same)
+    (here (subst (λ (f : Nodes). IsSound f t) same (subst (λ (u : Table). IsSound mid u) table sound))))
+
+pub way_again : (nodes mid : Nodes) (t m : Table) (step : FlushStep) → mid ≡ nodes → m ≡ t → IsSound mid m → (IsSound nodes t → IsWayThere nodes t step) → IsWayThere mid m step
+way_again nodes mid t m step same table sound here =
+    subst (λ (u : Table). IsWayThere mid u step) (sym table)
+    (subst (λ (f : Nodes). IsWayThere f t step) (sym same)
+    (here (subst (λ (f : Nodes). IsSound f t) same (subst (λ (u : Table). IsSound mid u) table sound))))
+
+-- the nodes above are those of the store
+pub way_stands : (nodes : Nodes) (t : Table) (way : List Fetched) → AreThere nodes t way → AllByRecursion (IsContents nodes) way
+way_stands nodes t way h = each_weaker (IsThere nodes t) (λ (f : Fetched). nodes f.id ≡ Some f.node.value) (λ f there. there.there) way h
+
+-- what the way down found in nodes, and what was made of them as it left them
+pub record IsStepMade (nodes mid : Nodes) (t m : Table) (new : Nodes) (u : Table) (step : FlushStep) : Type 0 where
+  pub nodes_are : mid ≡ nodes
+  pub table_is : m ≡ t
+  pub sound : IsSound nodes t
+  pub to_do : IsToDo t step
+  pub here : IsToDoAt nodes t step
+  pub made : IsSound mid m → IsMade m step new u
+  pub height : IsHighAfter m step u
+  pub flushed : IsSound mid m → IsFlushed mid m new u
+
+pub is_flush_step : (nodes mid : Nodes) (t m : Table) (new : Nodes) (u : Table) (step : FlushStep) → IsStepMade nodes mid t m new u step → IsFlushStep nodes t new u
+is_flush_step nodes mid t m new u step h =
+    let again : IsSound mid m = subst (λ (v : Table). IsSound mid v) (sym h.table_is) (subst (λ (f : Nodes). IsSound f t) (sym h.nodes_are) h.sound) in
+    record {
+      step = step;
+      to_do = h.to_do;
+      here = h.here;
+      abundant = is_abundant t step h.to_do;
+      made = subst (λ (v : Table). IsMade v step new u) h.table_is (h.made again);
+      height = subst (λ (v : Table). IsHighAfter v step u) h.table_is h.height;
+      flushed = subst (λ (v : Table). IsFlushed nodes v new u) h.table_is (subst (λ (f : Nodes). IsFlushed f m new u) h.nodes_are (h.flushed again));
+    }

@@ -1,0 +1,35 @@
+use Rattle.std.proofs.Common.{arith}
+use Rattle.bd_step.proofs.Making.{never_enough, here_again, way_again, is_flush_step}
+use Rattle.bd_step.proofs.steps.flush_step.Goals as goal
+
+pub make-requires-clause-here : goal.make-requires-clause-here
+make-requires-clause-here g c = λ known sound.
+    let was = g.met.S.NodeStore.reads_known c.args.store.now c.next_step.new.store c.next_step.ensures.read known in
+    here_again (g.S.NodeStore.nodes c.args.store.now) (g.S.NodeStore.nodes c.next_step.new.store) (g.S.NodeStore.table c.args.store.now) (g.S.NodeStore.table c.next_step.new.store) c.in_ok-step.step
+    (c.next_step.ensures.kept was) c.next_step.ensures.table sound (c.in_ok-step.ensures.at was)
+
+pub make-requires-clause-way_here : goal.make-requires-clause-way_here
+make-requires-clause-way_here g c = λ known sound.
+    let was = g.met.S.NodeStore.reads_known c.args.store.now c.next_step.new.store c.next_step.ensures.read known in
+    way_again (g.S.NodeStore.nodes c.args.store.now) (g.S.NodeStore.nodes c.next_step.new.store) (g.S.NodeStore.table c.args.store.now) (g.S.NodeStore.table c.next_step.new.store) c.in_ok-step.step
+    (c.next_step.ensures.kept was) c.next_step.ensures.table sound (c.in_ok-step.ensures.way_at was)
+
+pub returns-clause-enough : goal.returns-clause-enough
+returns-clause-enough g c = (λ is. absurd (never_enough c.make.result c.in_ok-step.step c.make.ensures.outcome is), λ few. absurd (omega arith))
+
+pub returns-clause-no_visit : goal.returns-clause-no_visit
+returns-clause-no_visit g c = λ is. absurd (never_enough c.make.result c.in_ok-step.step c.make.ensures.outcome is)
+
+pub returns-clause-step : goal.returns-clause-step
+returns-clause-step g c = λ known sound done.
+    is_flush_step (g.S.NodeStore.nodes c.args.store.now) (g.S.NodeStore.nodes c.next_step.new.store) (g.S.NodeStore.table c.args.store.now) (g.S.NodeStore.table c.next_step.new.store) (g.S.NodeStore.nodes c.make.new.store) (g.S.NodeStore.table c.make.new.store) c.in_ok-step.step
+    (record {
+      nodes_are = c.next_step.ensures.kept known;
+      table_is = c.next_step.ensures.table;
+      sound = sound;
+      to_do = c.in_ok-step.ensures.to_do;
+      here = c.in_ok-step.ensures.at known sound;
+      made = λ again. c.make.ensures.made (c.next_step.ensures.known known) again done;
+      height = c.make.ensures.height done;
+      flushed = λ again. c.make.ensures.flushed (c.next_step.ensures.known known) again done;
+    })

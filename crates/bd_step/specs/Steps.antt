@@ -1,0 +1,93 @@
+-- One step of a flush: what it comes to, and the kinds of such steps.
+use Rattle.std.specs.Prelude.{◌≡◌, ℕ, ◌<◌, ◌≤◌, ◌⊎◌, reverse, None, Some}
+use Rattle.bd_limits.specs.Limits.{soft_limit, abundant_limit}
+use Rattle.bd_node.specs.declared.node.Node.{Node}
+use Rattle.bd_node.specs.Meaning.{Nodes}
+use Rattle.bd_node.specs.Tables.{Table}
+use Rattle.bd_inner.specs.Halves.{edges_of, buffer_of}
+use Rattle.bd_flush.specs.declared.ways.FlushStep.{FlushStep}
+use Rattle.bd_flush.specs.declared.ways.FlushStep.TheVariants.{SplitRoot, SplitChild, Push, Privatise, Carve}
+use Rattle.bd_flush.specs.Pending.{IsFullest}
+use Rattle.bd_flush.specs.Flushed.{IsFlushed}
+use Rattle.bd_flush.specs.Splits.{IsSplitRoot, IsRaised}
+use Rattle.bd_flush.specs.Children.{IsNoHigher}
+use Rattle.bd_flush.specs.Between.{IsSplitChild, IsHighAfterSplit, IsHardlyHigher}
+use Rattle.bd_flush.specs.Pushes.{IsPushed, IsPushedBetween, IsPushedNew, IsLongPush}
+use Rattle.bd_flush.specs.Ways.{IsToDo, IsToDoAt}
+use Rattle.bd_step.specs.declared.steps.Flush.{Flush}
+use Rattle.bd_step.specs.declared.steps.Flush.TheVariants.{Done, Shared, Named}
+
+-- ---- the kinds of a step
+
+-- what a step leaves, by its kind: a root's or a child's split, or a push to a child or a new leaf
+abbrev pub IsMade : Table → FlushStep → Nodes → Table → Type 0
+IsMade t (SplitRoot root) new u = IsSplitRoot t root.node.value new
+IsMade t (SplitChild above parent place child) new u =
+    IsSplitChild t (reverse above) parent place child new u
+IsMade t (Push above parent place None) new u = IsPushedNew t parent place new u
+IsMade t (Push above parent place (Some child)) new u =
+    IsPushed t parent place child new u
+    ⊎ IsPushedBetween t (reverse above) parent place child new u
+IsMade t (Privatise above parent place) new u = ⊥
+IsMade t (Carve above parent place) new u = ⊥
+
+-- how high the root is after a step, by its kind: one level higher only after its split, or where the
+-- pivot of a child's or a leaf's halves would have more than 518 bytes in its parent
+abbrev pub IsHighAfter : Table → FlushStep → Table → Type 0
+IsHighAfter t (SplitRoot root) u = IsRaised t u
+IsHighAfter t (SplitChild above parent place child) u =
+    IsHighAfterSplit t parent.node.value place child.node.value u
+IsHighAfter t (Push above parent place None) u = IsNoHigher t u
+IsHighAfter t (Push above parent place (Some child)) u = IsNoHigher t u
+    ⊎ (IsLongPush parent.node.value place child.node.value × IsHardlyHigher t u)
+IsHighAfter t (Privatise above parent place) u = IsNoHigher t u
+IsHighAfter t (Carve above parent place) u = IsNoHigher t u
+
+-- 1,024 bytes or more are pending for a node's edge at a place, the fullest one
+pub record IsAbundantAt (n : Node) (place : ℕ) : Type 0 where
+  pub bytes : ℕ
+  pub fullest : IsFullest (edges_of n) (buffer_of n) place bytes
+  pub many : abundant_limit ≤ bytes
+
+-- much is pending for the edge to which a step goes
+abbrev pub IsAbundant : FlushStep → Type 0
+IsAbundant (SplitRoot root) = Unit {0}
+IsAbundant (SplitChild above parent place child) = IsAbundantAt parent.node.value place
+IsAbundant (Push above parent place child) = IsAbundantAt parent.node.value place
+IsAbundant (Privatise above parent place) = IsAbundantAt parent.node.value place
+IsAbundant (Carve above parent place) = IsAbundantAt parent.node.value place
+
+-- one step of a flush, between the nodes before and after it: what the way down finds is made, and
+-- the tree has what it had. Where more than 16,384 bytes wait in the root, much is pending there
+pub record IsFlushStep (nodes : Nodes) (t : Table) (new : Nodes) (u : Table) : Type 0 where
+  pub step : FlushStep
+  pub to_do : IsToDo t step
+  pub here : IsToDoAt nodes t step
+  pub abundant : soft_limit < t.size → IsAbundant step
+  pub made : IsMade t step new u
+  pub height : IsHighAfter t step u
+  pub flushed : IsFlushed nodes t new u
+
+-- ---- what a step comes to
+
+-- what comes of the step that is to be done: it is made, or nothing is, for this cause
+abbrev pub IsOutcome : FlushStep → Flush → Type 0
+IsOutcome (SplitRoot root) flush = flush ≡ Done
+IsOutcome (SplitChild above parent place child) flush = flush ≡ Done
+IsOutcome (Push above parent place child) flush = flush ≡ Done
+IsOutcome (Privatise above parent place) flush = flush ≡ Shared
+IsOutcome (Carve above parent place) flush = flush ≡ Named
+
+-- what the way down finds to do, as far as the tables tell, and what comes of it
+pub record IsFound (t u : Table) (flush : Flush) : Type 0 where
+  pub step : FlushStep
+  pub to_do : IsToDo t step
+  pub outcome : IsOutcome step flush
+  pub height : flush ≡ Done → IsHighAfter t step u
+
+-- the same in known nodes
+pub record IsFoundAt (nodes : Nodes) (t : Table) (flush : Flush) : Type 0 where
+  pub step : FlushStep
+  pub to_do : IsToDo t step
+  pub here : IsToDoAt nodes t step
+  pub outcome : IsOutcome step flush

@@ -1,0 +1,7 @@
+//! One step of a flush: what waits in the root goes down, and the tree has what it had.
+//! The layers above use `flush_step`, whose steps are of the kinds of `IsFlushStep`.
+#![tactic(auto)]
+
+mod steps;
+
+pub use steps::{Flush, flush_step};

@@ -1,0 +1,166 @@
+//! One step of a flush.
+
+ghost use Rattle.std.specs.Prelude.{◌≡◌, ◌≢◌, ◌↔◌, ◌+◌, ◌<◌, ◌≤◌, reverse, IfOk, Ok};
+ghost use Rattle.bd_message.specs.KeyMaps.{HasMapCause};
+ghost use Rattle.bd_node.specs.Tables.{IsSound};
+ghost use Rattle.bd_flush.specs.declared.ways.FlushStep.TheVariants as step;
+ghost use Rattle.bd_flush.specs.Flushed.{IsFlushed, IsWornFor};
+ghost use Rattle.bd_flush.specs.Raising.{IsWayUp};
+ghost use Rattle.bd_flush.specs.Ways.{IsToDo, IsToDoAt, AreThere, IsWayOf, IsWayThere};
+ghost use Rattle.bd_step.specs.Steps.{IsMade, IsHighAfter, IsFlushStep, IsOutcome, IsFound, IsFoundAt};
+
+use bd_flush::{
+    Fetched, FlushStep, Way, next_step, push, push_new, split_child, split_root,
+};
+use bd_message::MapFault;
+use bd_node::NodeStore;
+use std::alloc::Global;
+
+/// What became of a step of a flush.
+#[derive(Clone, Copy, Debug, PartialEq, Eq)]
+pub enum Flush {
+    /// No more bytes wait in the root than were to be left: no step was needed.
+    Enough,
+    /// One step was made.
+    Done,
+    /// The fullest edge of a node on the way asks a shared child, or one with something in front of
+    /// a key: nothing was changed.
+    Shared,
+    /// A Goto is pending for the fullest edge of a node on the way: nothing was changed.
+    Named,
+}
+
+/// Makes one step of a flush where more than `limit` bytes of messages wait in the root: at the
+/// place that the way down from the root finds, a node is split, or messages go down to a child or
+/// to a new leaf. All changes are made at once or not at all. At most as many nodes are fetched as
+/// the tree is high, and at most four are made.
+pub fn flush_step<S: NodeStore>(
+    alloc: Global,
+    store: &mut S,
+    limit: usize,
+) -> Result<Flush, MapFault>
+    ensures enough { (result ≡ Ok Flush.Enough) ↔ ((S.table store.old).size ≤ limit) }
+    ensures step { S.is_known store.old → IsSound (S.nodes store.old) (S.table store.old)
+        → result ≡ Ok Flush.Done → IsFlushStep (S.nodes store.old) (S.table store.old)
+        (S.nodes store.new) (S.table store.new) }
+    ensures found { IfOk result (λ flush. flush ≢ Flush.Enough
+        → IsFound (S.table store.old) (S.table store.new) flush) }
+    ensures found_at { S.is_known store.old → IsSound (S.nodes store.old) (S.table store.old)
+        → IfOk result (λ flush. flush ≢ Flush.Enough
+        → IsFoundAt (S.nodes store.old) (S.table store.old) flush) }
+    ensures known { S.is_known store.old → S.is_known store.new }
+    ensures same_table { result ≢ Ok Flush.Done → S.table store.new ≡ S.table store.old }
+    ensures same_nodes { S.is_known store.old
+        → result ≢ Ok Flush.Done → S.nodes store.new ≡ S.nodes store.old }
+    ensures no_visit { result ≡ Ok Flush.Enough
+        → S.visit_count store.new ≡ S.visit_count store.old }
+    ensures few_visits { S.visit_count store.new
+        ≤ S.visit_count store.old + ((S.table store.old).level (S.table store.old).root + 1) + 4 }
+    ensures cause { HasMapCause (S.fault_count store.old) (S.fault_count store.new)
+        (S.bad store.new) (IsWornFor (S.table store.old)) result }
+    ensures same_loans { S.loans store.new ≡ S.loans store.old }
+{
+    if store.root_size() <= limit {
+        return Ok(Flush::Enough);
+    }
+    let step = next_step(alloc, store)?;
+    make(alloc, store, step)
+}
+
+// Makes a step that was found.
+fn make<S: NodeStore>(alloc: Global, store: &mut S, step: FlushStep) -> Result<Flush, MapFault>
+    requires waits { 1 ≤ (S.table store.old).size }
+    requires to_do { IsToDo (S.table store.old) step }
+    requires here { S.is_known store.old → IsSound (S.nodes store.old) (S.table store.old)
+        → IsToDoAt (S.nodes store.old) (S.table store.old) step }
+    requires way { IsWayOf (S.table store.old) step }
+    requires way_here { S.is_known store.old → IsSound (S.nodes store.old) (S.table store.old)
+        → IsWayThere (S.nodes store.old) (S.table store.old) step }
+    ensures flushed { S.is_known store.old → IsSound (S.nodes store.old) (S.table store.old)
+        → result ≡ Ok Flush.Done → IsFlushed (S.nodes store.old) (S.table store.old)
+        (S.nodes store.new) (S.table store.new) }
+    ensures made { S.is_known store.old → IsSound (S.nodes store.old) (S.table store.old)
+        → result ≡ Ok Flush.Done → IsMade (S.table store.old) step
+        (S.nodes store.new) (S.table store.new) }
+    ensures height { result ≡ Ok Flush.Done
+        → IsHighAfter (S.table store.old) step (S.table store.new) }
+    ensures outcome { IfOk result (IsOutcome step) }
+    ensures known { S.is_known store.old → S.is_known store.new }
+    ensures same_table { result ≢ Ok Flush.Done → S.table store.new ≡ S.table store.old }
+    ensures same_nodes { S.is_known store.old
+        → result ≢ Ok Flush.Done → S.nodes store.new ≡ S.nodes store.old }
+    ensures few_visits { S.visit_count store.new ≤ S.visit_count store.old + 4 }
+    ensures cause { HasMapCause (S.fault_count store.old) (S.fault_count store.new)
+        (S.bad store.new) (IsWornFor (S.table store.old)) result }
+    ensures same_loans { S.loans store.new ≡ S.loans store.old }
+{
+    match step {
+        FlushStep::SplitRoot { root } => {
+            split_root(alloc, store, &root.node)?;
+            Ok(Flush::Done)
+        }
+        FlushStep::SplitChild {
+            above,
+            parent,
+            place,
+            child,
+        } => {
+            split_child(alloc, store, above.as_slice(), &parent, place, &child)?;
+            Ok(Flush::Done)
+        }
+        FlushStep::Push {
+            above,
+            parent,
+            place,
+            child,
+        } => push_down(alloc, store, above, parent, place, child),
+        FlushStep::Privatise { .. } => Ok(Flush::Shared),
+        FlushStep::Carve { .. } => Ok(Flush::Named),
+    }
+}
+
+// Moves messages down to a child, or to a new leaf where there is no child.
+fn push_down<S: NodeStore>(
+    alloc: Global,
+    store: &mut S,
+    above: Way,
+    parent: Fetched,
+    place: usize,
+    child: Option<Fetched>,
+) -> Result<Flush, MapFault>
+    requires waits { 1 ≤ (S.table store.old).size }
+    requires to_do { IsToDo (S.table store.old) (step.Push above parent place child) }
+    requires here { S.is_known store.old → IsSound (S.nodes store.old) (S.table store.old)
+        → IsToDoAt (S.nodes store.old) (S.table store.old) (step.Push above parent place child) }
+    requires way { IsWayUp (S.table store.old) parent.id (reverse above) }
+    requires way_here { S.is_known store.old → IsSound (S.nodes store.old) (S.table store.old)
+        → AreThere (S.nodes store.old) (S.table store.old) (reverse above) }
+    ensures flushed { S.is_known store.old → IsSound (S.nodes store.old) (S.table store.old)
+        → result ≡ Ok Flush.Done → IsFlushed (S.nodes store.old) (S.table store.old)
+        (S.nodes store.new) (S.table store.new) }
+    ensures made { S.is_known store.old → IsSound (S.nodes store.old) (S.table store.old)
+        → result ≡ Ok Flush.Done → IsMade (S.table store.old) (step.Push above parent place child)
+        (S.nodes store.new) (S.table store.new) }
+    ensures height { result ≡ Ok Flush.Done → IsHighAfter (S.table store.old)
+        (step.Push above parent place child) (S.table store.new) }
+    ensures outcome { IfOk result (IsOutcome (step.Push above parent place child)) }
+    ensures known { S.is_known store.old → S.is_known store.new }
+    ensures same_table { result ≢ Ok Flush.Done → S.table store.new ≡ S.table store.old }
+    ensures same_nodes { S.is_known store.old
+        → result ≢ Ok Flush.Done → S.nodes store.new ≡ S.nodes store.old }
+    ensures few_visits { S.visit_count store.new ≤ S.visit_count store.old + 4 }
+    ensures cause { HasMapCause (S.fault_count store.old) (S.fault_count store.new)
+        (S.bad store.new) (IsWornFor (S.table store.old)) result }
+    ensures same_loans { S.loans store.new ≡ S.loans store.old }
+{
+    match child {
+        None => {
+            push_new(alloc, store, &parent, place)?;
+            Ok(Flush::Done)
+        }
+        Some(child) => {
+            push(alloc, store, above.as_slice(), &parent, place, &child)?;
+            Ok(Flush::Done)
+        }
+    }
+}

@@ -1,0 +1,28 @@
+-- A step of a flush leaves what the tree has.
+use Rattle.std.proofs.Common.{◌≡◌, ℕ, ◌⊎◌, List, refl, ap, ◌∙◌, Result, Ok, Err, inl, inr}
+use Rattle.bd_message.specs.declared.fault.MapFault.{MapFault}
+use Rattle.bd_node.specs.Meaning.{Nodes}
+use Rattle.bd_node.specs.Tables.{Table, root_at}
+use Rattle.bd_step.specs.declared.steps.Flush.{Flush}
+use Rattle.bd_step.specs.declared.steps.Flush.TheVariants.{Enough, Done, Shared, Named}
+use Rattle.bd_step.specs.Steps.{IsFlushStep}
+
+is_done : (r : Result Flush MapFault) → r ≡ Ok Done ⊎ (r ≡ Ok Done → ⊥)
+is_done (Ok Done) = inl refl
+is_done (Ok Enough) = inr (λ e. cc)
+is_done (Ok Shared) = inr (λ e. cc)
+is_done (Ok Named) = inr (λ e. cc)
+is_done (Err fault) = inr (λ e. cc)
+
+-- nodes after a call that makes a step of a flush or nothing
+pub record IsAfterFlush (nodes : Nodes) (t : Table) (new : Nodes) (u : Table) (r : Result Flush MapFault) : Type 0 where
+  pub step : r ≡ Ok Done → IsFlushStep nodes t new u
+  pub table : (r ≡ Ok Done → ⊥) → u ≡ t
+  pub same : (r ≡ Ok Done → ⊥) → new ≡ nodes
+
+pub same_tree : (nodes : Nodes) (t : Table) (new : Nodes) (u : Table) (r : Result Flush MapFault) → IsAfterFlush nodes t new u r → (k : List ℕ) → root_at new u k ≡ root_at nodes t k
+same_tree nodes t new u r h k =
+    elim (is_done r) [
+      | inl done ↦ (h.step done).flushed.same k
+      | inr not ↦ ap (λ (f : Nodes). root_at f u k) (h.same not) ∙ ap (λ (v : Table). root_at nodes v k) (h.table not)
+    ]
