@@ -37,7 +37,7 @@ use Rattle.bd_node.proofs.Privacy.{root_private}
 use Rattle.bd_node.specs.Steps.HasRoom.{of_root}
 use Rattle.bd_node.specs.declared.node.Node.TheVariants.{Leaf, Inner}
 use Rattle.std.proofs.lemmas.Grind.{flat_map-append}
-use Rattle.bd_inner.proofs.Touched.{least_nil}
+use Rattle.bd_message.proofs.Prefixes.{least_nil}
 use Rattle.bd_resolve.specs.declared.following.Target.{Target}
 use Rattle.bd_resolve.specs.Following.{target_at, IsLowerTarget}
 use Rattle.bd_graft.specs.declared.layers.Layer.{Layer}

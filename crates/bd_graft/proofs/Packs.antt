@@ -19,7 +19,7 @@ use Rattle.bd_node.specs.Shape.{IsEdge, IsShape}
 use Rattle.bd_node.specs.Tables.{Table, IsTable, IsLower}
 use Rattle.bd_node.proofs.Lookup.{each_weaker, each_both, count-cons_same}
 use Rattle.bd_node.proofs.Appending.{acts-append, key_of, key_of-touched}
-use Rattle.bd_inner.proofs.Touched.{least_nil}
+use Rattle.bd_message.proofs.Prefixes.{least_nil}
 use Rattle.bd_resolve.specs.declared.following.Target.{Target}
 use Rattle.bd_resolve.specs.Following.{target_at, IsLowerTarget, IsShort}
 use Rattle.bd_graft.specs.declared.layers.Layer.{Layer}
