@@ -18,6 +18,7 @@ use Rattle.bd_flush.specs.declared.ways.FlushStep.TheVariants.{SplitRoot, SplitC
 use Rattle.bd_flush.specs.Flushed.{IsFlushed}
 use Rattle.bd_flush.specs.Children.{IsFetched, IsContents}
 use Rattle.bd_flush.specs.Pushes.{CanPush, CanPushNew, IsWaitedFor, unseen}
+use Rattle.bd_flush.specs.Carving.{CanCarve}
 use Rattle.bd_flush.specs.Ways.{IsFullestAt, IsHigh, IsThere, AreThere, IsToDo, IsToDoAt, IsWayThere}
 use Rattle.bd_node.proofs.Lookup.{each_weaker}
 use Rattle.bd_flush.proofs.Abundance.{abundant}
@@ -71,6 +72,15 @@ can_push_new t above parent place waits h = record {
   here = h.0.target.0;
   bare = h.0.target.1;
   waiting = waits_for t parent place h.0.edge waits h.0.parent_is h.1 h.0.fullest h.0.target.0 h.0.plain;
+}
+
+pub can_carve : (t : Table) (above : List Fetched) (parent : Fetched) (place : ℕ) → IsToDo t (Carve above parent place) → CanCarve t parent place
+can_carve t above parent place h = record {
+  parent_is = h.0.parent_is;
+  room = h.0.room;
+  edge = h.0.edge;
+  here = h.0.here;
+  waiting = h.0.plain;
 }
 
 -- ---- abundance
