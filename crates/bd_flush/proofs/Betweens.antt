@@ -44,8 +44,8 @@ use Rattle.bd_flush.proofs.Raisings.{level_high}
 use Rattle.bd_flush.proofs.RootSplits.{over_shape, two_have, times_made}
 use Rattle.bd_flush.proofs.ChildSplits.{one_fits, one_times, one_names, child_named, lower_child, level_exchanged, compacted_small, some_next, other_names, at_child, IsKey-drop, IsSplittable, IsSplittableOf}
 use Rattle.bd_flush.proofs.Pushed.{batch_low, batch_plain, relieved_inside, leaf_received}
-use Rattle.bd_flush.proofs.PathSteps.{IsMadeUnder, IsUpper, IsPathStep, RisesByOne, level_bound, given_child, given_upper, has_made, has_path, path_child, path_old, each_change, IsPathStepOf, root_stays, root_rises, path_flushed}
-use Rattle.bd_flush.proofs.RisingSteps.{raised_level, raised_shape, raised_has, IsLink, way_link, way_top, link_names, link_lower, only_namer, rising_rises, rising_uppers, rising_above, once_above, rising_once, rising_short, IsChangedBy, changed_more, all_changed, has_room, rising_of}
+use Rattle.bd_flush.proofs.PathSteps.{IsMadeUnder, IsUpper, IsPathStep, RisesByOne, level_bound, given_child, given_upper, has_made, has_path, made_new, path_child, path_old, each_change, IsUpperOf, IsPathStepOf, root_stays, root_rises, path_flushed}
+use Rattle.bd_flush.proofs.RisingSteps.{raised_size, raised_times, raised_level, raised_shape, raised_names, raised_has, IsLink, way_link, way_top, link_names, link_lower, only_namer, rising_rises, rising_uppers, rising_above, once_above, rising_once, rising_short, IsChangedBy, changed_more, all_changed, has_room, rising_of}
 
 -- ---- the parent, one level higher where it has to be
 
@@ -57,14 +57,6 @@ pub record IsRisen (above node : Node) : Type 0 where
   pub same : (x : ℕ) → times node x ≡ times above x
   pub has : (f : NodesAt) (k : List ℕ) → node_at f node k ≡ node_at f above k
   pub size : buffer_size node ≡ buffer_size above
-
-raised_size : (n : Node) → buffer_size (raised n) ≡ buffer_size n
-raised_size (Leaf entries) = refl
-raised_size (Inner level es buffer) = refl
-
-raised_times : (n : Node) (x : ℕ) → times (raised n) x ≡ times n x
-raised_times (Leaf entries) x = refl
-raised_times (Inner level es buffer) x = refl
 
 risen : (above node : Node) (way rising : List Fetched) → IsShape above → 1 ≤ level_of above → IsRaisedOver 1 above way node rising → IsRisen above node
 risen above _ way _ h inner (is_above more) = record { shape = h; least = omega arith; most = omega arith; over = more; same = λ x. refl; has = λ f k. refl; size = refl }

@@ -95,12 +95,13 @@ target_here : (t : Table) (n : Node) (place : ℕ) (e : Edge) (child : Option Fe
 target_here t n place e None h = h.0
 target_here t n place e (Some child) h = h.0.here
 
-pub to_carve : (t : Table) (parent : Fetched) (n : Node) (place : ℕ) (child : Option Fetched) → n ≡ parent.node.value → ((d : Edge) → IsEdgeAt n place d → ArePlain n place d → ⊥) → IsFetched t parent → IsFullestAt parent.node.value place → (e : Edge)
+pub to_carve : (t : Table) (parent : Fetched) (n : Node) (place : ℕ) (child : Option Fetched) → n ≡ parent.node.value → ((d : Edge) → IsEdgeAt n place d → ArePlain n place d → ⊥) → IsFetched t parent → length (edges_of parent.node.value) ≤ 14 → IsFullestAt parent.node.value place → (e : Edge)
     → IsTarget t parent.node.value place e child → IsNamed t parent place
-to_carve t parent n place child same goto fetched fullest e target =
+to_carve t parent n place child same goto fetched room fullest e target =
     let here : IsEdgeAt parent.node.value place e = target_here t parent.node.value place e child target in
     record {
       parent_is = fetched;
+      room = room;
       fullest = fullest;
       edge = e;
       here = here;

@@ -23,3 +23,6 @@ pub mod LeafPushes
 pub mod LeafCommits
 pub mod NewWays
 pub mod Down
+pub mod CarveSteps
+pub mod CarveCommits
+pub mod OldestGotos

@@ -9,6 +9,7 @@ use Rattle.bd_message.specs.declared.message.Message.{Message}
 use Rattle.bd_message.specs.Messages.{size}
 use Rattle.bd_node.specs.declared.node.Edge.{Edge}
 use Rattle.bd_node.specs.Shape.{end_before}
+use Rattle.bd_inner.proofs.ClippedEdges.{others_of, parted}
 use Rattle.bd_node.proofs.Lookup.{each_weaker}
 use Rattle.bd_flush.specs.Pending.{IsWaiting, IsPendingSize, ArePendingSizes, IsFullest}
 
@@ -81,15 +82,6 @@ fullest_later e rest buffer n place bytes h other lt =
     })
 
 -- ---- the same of a slice's first element and the others
-
-abbrev pub others_of : List Edge → List Edge
-others_of es = take (length es - 1) (drop 1 es)
-
-parted : (es : List Edge) (e : Edge) → 1 ≤ length es → e ≡ get_or es 0 e → es ≡ e ∷ others_of es
-parted [] e some first = absurd (omega arith)
-parted (x ∷ es) e some first =
-    let less : suc (length es) - 1 ≡ length es = omega arith in
-    ap (λ (d : Edge). d ∷ es) (sym first) ∙ ap (λ (ds : List Edge). e ∷ ds) (sym (take-length es) ∙ ap (λ (n : ℕ). take n es) (sym less))
 
 -- the first edge of a slice, and how many bytes are pending for it
 pub record IsFirst (edges : List Edge) (buffer : List Message) (e : Edge) (hi : Option (List ℕ)) (n : ℕ) : Type 0 where

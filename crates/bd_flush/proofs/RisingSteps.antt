@@ -11,7 +11,7 @@ use Rattle.bd_node.specs.declared.node.Node.{Node}
 use Rattle.bd_node.specs.declared.node.Node.TheVariants.{Leaf, Inner}
 use Rattle.bd_node.specs.declared.node.Change.{Change}
 use Rattle.bd_node.specs.declared.node.Step.{Step}
-use Rattle.bd_node.specs.Nodes.{level_of, names, times, node_at}
+use Rattle.bd_node.specs.Nodes.{level_of, buffer_size, names, times, node_at}
 use Rattle.bd_node.specs.Meaning.{Nodes, at}
 use Rattle.bd_node.specs.Shape.{IsShape}
 use Rattle.bd_node.specs.Tables.{Table, IsTable, IsLower, IsSound, one_if}
@@ -59,6 +59,14 @@ raised_shape (Inner level es buffer) h low = record {
 pub raised_names : (n : Node) → names (raised n) ≡ names n
 raised_names (Leaf entries) = refl
 raised_names (Inner level es buffer) = refl
+
+pub raised_times : (n : Node) (c : ℕ) → times (raised n) c ≡ times n c
+raised_times (Leaf entries) c = refl
+raised_times (Inner level es buffer) c = refl
+
+pub raised_size : (n : Node) → buffer_size (raised n) ≡ buffer_size n
+raised_size (Leaf entries) = refl
+raised_size (Inner level es buffer) = refl
 
 pub raised_has : (has : NodesAt) (n : Node) (k : List ℕ) → node_at has (raised n) k ≡ node_at has n k
 raised_has has (Leaf entries) k = refl

@@ -7,3 +7,4 @@ pub mod Pushes
 pub mod Raising
 pub mod Between
 pub mod Ways
+pub mod Carving

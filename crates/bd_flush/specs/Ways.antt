@@ -82,6 +82,7 @@ pub record IsShared (t : Table) (parent : Fetched) (place : ℕ) : Type 0 where
 -- a node for whose fullest edge a Goto is pending
 pub record IsNamed (t : Table) (parent : Fetched) (place : ℕ) : Type 0 where
   pub parent_is : IsFetched t parent
+  pub room : length (edges_of parent.node.value) ≤ 14
   pub fullest : IsFullestAt parent.node.value place
   pub edge : Edge
   pub here : IsEdgeAt parent.node.value place edge

@@ -4,6 +4,7 @@
 #![tactic(auto)]
 
 mod between;
+mod carving;
 mod children;
 mod fetching;
 mod filling;
@@ -16,6 +17,7 @@ mod splitting;
 mod ways;
 
 pub use between::put_between;
+pub use carving::carve;
 pub use children::split_child;
 pub use fetching::{Fetched, fetch};
 pub use filling::{FullEdge, fullest};

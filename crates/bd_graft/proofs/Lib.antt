@@ -1,2 +1,3 @@
 pub mod Freeing
 pub mod Laying
+pub mod Packs

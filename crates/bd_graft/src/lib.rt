@@ -3,7 +3,9 @@
 #![tactic(auto)]
 
 mod layers;
+mod packing;
 mod walking;
 
 pub use layers::Layer;
+pub use packing::{Packed, Stack, pack};
 pub use walking::{Walked, walk};

@@ -3,13 +3,14 @@
 
 ghost use Rattle.std.specs.Prelude.{◌≡◌, ℕ, ◌+◌, ◌^◌, ◌<◌, ◌≤◌, List, [], ◌∷◌, ◌++◌, length, take, drop, Option, Some, IfSome, true, slice_get};
 ghost use Rattle.std.specs.List.{AllByRecursion, sum_by};
-ghost use Rattle.bd_limits.specs.Limits.{buffer_limit, level_limit, edge_limit};
+ghost use Rattle.bd_limits.specs.Limits.{key_limit, buffer_limit, level_limit, edge_limit};
 ghost use Rattle.bd_keys.specs.Keys.{IsKey, IsLift};
 ghost use Rattle.bd_message.specs.declared.message.Message.{Message};
 ghost use Rattle.bd_message.specs.declared.message.Message.TheVariants.{Goto};
 ghost use Rattle.bd_message.specs.Messages.{IsMessage, size};
 ghost use Rattle.bd_message.specs.Effect.{NodesAt, begins, acts};
-ghost use Rattle.bd_message.specs.Freeing.{freed};
+ghost use Rattle.bd_message.specs.Freeing.{freed, source_of};
+ghost use Rattle.bd_inner.specs.Clipping.{IsLong};
 ghost use Rattle.bd_node.specs.declared.node.Edge.{Edge};
 ghost use Rattle.bd_node.specs.declared.node.Node.{Node};
 ghost use Rattle.bd_node.specs.Nodes.{level_of, buffer_size, message_names, names, times, edge_of, child_at, edge_at, through, node_at};
@@ -36,6 +37,15 @@ pub fn compacted_nodes()
 pub fn freed_names()
     ensures { (s : List ℕ) (m : Message)
         → IfSome (freed s m) (λ n. message_names n ≡ message_names m) }
+{}
+
+/// A clipped node whose sources have at most 518 bytes is well-formed, but that messages may be
+/// pending for no edge.
+pub fn clipped_nodes()
+    ensures { (level : ℕ) (edges : List Edge) (buffer : List Message)
+        → IsLong level edges buffer → AllByRecursion (λ e. length e.source ≤ key_limit) edges
+        → AllByRecursion (λ m. length (source_of m) ≤ key_limit) buffer
+        → IsLoose level edges buffer }
 {}
 
 /// Edges with the keys of one can stand in its place: they are asked at its keys, and at the others

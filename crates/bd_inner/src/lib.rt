@@ -7,6 +7,7 @@
 
 mod batches;
 mod carving;
+mod clipping;
 mod compaction;
 mod exchanging;
 mod halves;
@@ -21,6 +22,7 @@ ghost use Rattle.bd_node.specs.Shape.{AreRising};
 pub use batches::{Batch, next_batch};
 use bd_node::{Edge, Steps};
 pub use carving::carve;
+pub use clipping::clip;
 pub use compaction::compact;
 pub use exchanging::{edge_to, end_of, exchange};
 pub use halves::split;

@@ -256,7 +256,7 @@ freed_source s m =
     own ∙ ap (λ (x : Message). source_after s x) (sym is))
 
 -- a message
-stripped_message : (s : List ℕ) (m : Message) → IsMessage m → IsMessage (stripped s m)
+pub stripped_message : (s : List ℕ) (m : Message) → IsMessage m → IsMessage (stripped s m)
 stripped_message s (Put key value) h = (let a = rest_shorter s key in omega (arith, h.0), h.1, h.2)
 stripped_message s (Del key) h = omega (arith, h, rest_shorter s key)
 stripped_message s (Patch key off bytes) h = (omega (arith, h.0, rest_shorter s key), h.1, h.2)

@@ -1,6 +1,6 @@
 -- Ends of stretches of keys, and translated keys.
-use Rattle.std.proofs.Common.{◌≡◌, ◌≢◌, ℕ, zero, suc, ◌+◌, ◌<◌, ◌≤◌, true, false, List, [], ◌∷◌, ◌++◌, length, take, drop, refl, sym, ap, subst, ◌∙◌, Option, None, Some, arith, inl, inr, Less, Equal, Greater, Ordering, length-append, take-append-drop}
-use Rattle.std.specs.Prelude.{◌⊎◌, ◌↔◌, IfSome, slice_index, IsTrue}
+use Rattle.std.proofs.Common.{◌≡◌, ℕ, zero, suc, ◌+◌, ◌≤◌, true, false, List, [], ◌∷◌, ◌++◌, length, take, drop, refl, sym, ap, subst, ◌∙◌, Option, None, Some, arith, inl, inr, Less, Equal, Greater, Ordering, length-append, take-append-drop}
+use Rattle.std.specs.Prelude.{◌⊎◌, ◌↔◌, IfSome}
 use Rattle.std.specs.Ordering.{ord_min, is_lt}
 use Rattle.std.proofs.Common.{cond}
 use Rattle.std.proofs.lemmas.Bool.{cases_Bool, cases_order, cases_lt}
@@ -15,7 +15,9 @@ use Rattle.bd_message.proofs.Finds.{tied, not_both}
 use Rattle.bd_node.specs.Touching.{touches}
 use Rattle.bd_node.proofs.Appending.{key_of, key_of-touched}
 use Rattle.bd_node.proofs.Edges.{lt_is, lt_isnt}
-use Rattle.bd_inner.proofs.Touched.{cmp_after, touched_first, touched_between, CanTouch}
+use Rattle.bd_message.proofs.Prefixes.{cmp_after}
+use Rattle.bd_inner.specs.Moving.{CanTouch}
+use Rattle.bd_inner.proofs.Touched.{touched_first, touched_between}
 use Rattle.bd_query.specs.Stretches.{IsEnd, IsWithin, end_limit, first_key}
 
 -- ---- the order of keys

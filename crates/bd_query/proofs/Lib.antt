@@ -6,3 +6,4 @@ pub mod LeafLemmas
 pub mod StretchLemmas
 pub mod TurnLemmas
 pub mod SearchLemmas
+pub mod AskLemmas

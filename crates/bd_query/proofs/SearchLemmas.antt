@@ -1,19 +1,21 @@
 -- How a search goes on, and that it ends.
-use Rattle.std.proofs.Common.{◌≡◌, ℕ, zero, suc, ◌+◌, ◌-◌, ◌*◌, ◌<◌, ◌≤◌, List, [], ◌∷◌, length, take, refl, sym, ap, subst, ◌∙◌, Option, None, Some, arith, inl, inr, Less, Greater, true, false}
-use Rattle.std.specs.Prelude.{◌⊎◌, IsSome, slice_index}
+use Rattle.std.proofs.Common.{◌≡◌, ℕ, zero, suc, ◌+◌, ◌-◌, ◌<◌, ◌≤◌, List, [], ◌∷◌, length, refl, sym, ap, subst, ◌∙◌, Option, None, Some, arith, inl, inr, Less, Greater, true, false}
+use Rattle.std.specs.Prelude.{IsSome}
 use Rattle.std.proofs.lemmas.Bool.{cases_order, cases_Bool}
 use Rattle.std.proofs.lemmas.Cmp.{nat_list_cmp_total as total}
-use Rattle.bd_keys.specs.Keys.{IsKey, IsBelow, IsBelowEnd, IsAtLeast, InRange, Begins}
-use Rattle.bd_keys.proofs.Order.{first_less, first_same, first_more, not_below_itself, not_below_nil, IsKey-rest, Begins-cons, Begins-uncons}
+use Rattle.bd_keys.specs.Keys.{IsKey, IsBelow, IsAtLeast, Begins}
+use Rattle.bd_keys.proofs.Order.{first_less, first_same, first_more, not_below_nil, IsKey-rest, Begins-cons, Begins-uncons}
 use Rattle.bd_message.specs.KeyMaps.{At, IsFound, IsNext}
 use Rattle.bd_node.specs.Nodes.{is_key}
 use Rattle.bd_node.specs.Meaning.{Nodes, at}
 use Rattle.bd_node.proofs.Lookup.{key-is_key, is_key-key}
 use Rattle.bd_node.proofs.LawLemmas.{others_have_nothing}
 use Rattle.bd_query.specs.declared.turns.Turn.{Turn}
-use Rattle.bd_query.specs.declared.turns.Turn.TheVariants.{Found, Passed}
+use Rattle.bd_query.specs.declared.turns.Turn.TheVariants.{Passed}
 use Rattle.bd_query.specs.Stretches.{IsEnd, IsEmpty, IsTurn, PassesTo}
-use Rattle.bd_query.proofs.EndLemmas.{least_trans, below_or_least, begins_joined, begins_split}
+use Rattle.bd_query.specs.Asks.{AreVisitsOfWay}
+use Rattle.bd_query.proofs.AskLemmas.{IsSearching, searching_on}
+use Rattle.bd_query.proofs.EndLemmas.{below_or_least}
 
 -- ---- the place of a key among all keys of at most so many bytes
 
@@ -236,3 +238,10 @@ pub turned_past : (nodes : Nodes) (id : ℕ) (from within low slice : List ℕ) 
 turned_past nodes id from within low slice turn some slice_is is_passed is_none said low_is =
     low_past nodes id from within slice (subst (λ (k : List ℕ). IsLow (at nodes id) from within k) (sym slice_is) low_is)
     (subst (λ (t : Turn). IsTurn (at nodes id) slice t) (is_passed ∙ ap (λ (e : Option (List ℕ)). Passed e) is_none) said)
+
+pub turned_ways : (nodes : Nodes) (id : ℕ) (from within low slice end items : List ℕ) (most : ℕ) (turn : Turn) (some : Option (List ℕ)) (before now after : ℕ) → IsTurned from within low slice most turn → turn ≡ Passed some → some ≡ Some end → items ≡ end
+    → IsSearching nodes id from low before now → AreVisitsOfWay nodes id slice now after → IsSearching nodes id from items before after
+turned_ways nodes id from within low slice end items most turn some before now after h is_passed is_some same_items searching way =
+    let passes : PassesTo slice most (Passed (Some end)) = subst (λ (t : Turn). PassesTo slice most t) (is_passed ∙ ap (λ (e : Option (List ℕ)). Passed e) is_some) h.passes in
+    subst (λ (k : List ℕ). IsSearching nodes id from k before after) (sym same_items)
+    (searching_on nodes id from slice end before now after (subst (λ (k : List ℕ). IsSearching nodes id from k before now) (sym h.slice_is) searching) way passes.above)

@@ -1,9 +1,8 @@
 -- What messages and edges say of a stretch of keys.
 use Rattle.std.proofs.Common.{◌≡◌, ℕ, zero, suc, ◌+◌, ◌<◌, ◌≤◌, true, false, not, cond, List, [], ◌∷◌, ◌++◌, length, take, drop, refl, sym, ap, subst, ◌∙◌, Option, None, Some, arith, inl, inr}
-use Rattle.std.specs.Prelude.{◌⊎◌, IsSome, IfSome, slice_get, count_by, ◌==◌}
-use Rattle.std.specs.List.{AllByRecursion, flat_map}
+use Rattle.std.specs.Prelude.{IsSome, IfSome, slice_get, count_by, ◌==◌}
+use Rattle.std.specs.List.{flat_map}
 use Rattle.std.specs.Ordering.{is_lt}
-use Rattle.std.specs.Option.{option_map}
 use Rattle.std.proofs.lemmas.Bool.{and_parts, and_from, cond-true, cases_lt}
 use Rattle.std.proofs.Common.{get_or, Result, Ok, Err}
 use Rattle.std.specs.Prelude.{IfOk}
@@ -11,29 +10,29 @@ use Rattle.std.proofs.lemmas.Option.{same_Some, none-some, slice_get_within, sli
 use Rattle.std.proofs.lemmas.List.Sums.{sum_by-append}
 use Rattle.std.proofs.lemmas.Cmp.{nat_list_cmp_total as total}
 use Rattle.bd_limits.specs.Limits.{key_limit}
-use Rattle.bd_keys.specs.Keys.{key_cmp, IsKey, IsBelow, IsBelowEnd, IsAtLeast, InRange, Begins, IsCommon}
+use Rattle.bd_keys.specs.Keys.{key_cmp, IsKey, IsBelow, IsBelowEnd, IsAtLeast, InRange, Begins}
 use Rattle.bd_keys.proofs.Order.{not_below_itself}
 use Rattle.bd_message.specs.declared.message.Message.{Message}
-use Rattle.bd_message.specs.declared.message.Message.TheVariants.{Put, Del, Patch, Cut, Goto}
+use Rattle.bd_message.specs.declared.message.Message.TheVariants.{Del, Cut}
 use Rattle.bd_message.specs.KeyMaps.{At}
 use Rattle.bd_message.specs.Messages.{IsMessage}
 use Rattle.bd_message.specs.Effect.{NodesAt, same_key, begins, is_cut, rest, act, acts}
 use Rattle.bd_message.proofs.Finds.{same_key-true, begins-is, begins-append}
 use Rattle.bd_node.specs.declared.node.Edge.{Edge}
-use Rattle.bd_node.specs.declared.node.Entry.{Entry}
 use Rattle.bd_node.specs.declared.node.Node.{Node}
-use Rattle.bd_node.specs.declared.node.Node.TheVariants.{Leaf, Inner}
+use Rattle.bd_node.specs.declared.node.Node.TheVariants.{Inner}
 use Rattle.bd_node.specs.Touching.{touches, NoneTouches}
 use Rattle.bd_node.specs.Nodes.{edge_names, message_names, names, child_at, edge_at, edge_of, entry_at, node_at}
-use Rattle.bd_node.specs.Shape.{end_before, EachEdge, SomeEdge, IsEdge, IsInner, IsShape, AreRising, IsEntry, IsRising}
+use Rattle.bd_node.specs.Shape.{end_before, EachEdge, SomeEdge, IsEdge, IsInner, IsShape, AreRising}
 use Rattle.bd_node.proofs.Edges.{not_less_lt}
 use Rattle.bd_node.proofs.LawLemmas.{edge_some, edge_only}
-use Rattle.bd_inner.proofs.Touched.{cmp_after, touched_first, rest-append}
+use Rattle.bd_message.proofs.Prefixes.{cmp_after, rest-append}
+use Rattle.bd_inner.proofs.Touched.{touched_first}
 use Rattle.bd_query.proofs.Parts.{acts_rest, inner_rising, counted_first, counted_second, message_counted, edge_of_counted}
-use Rattle.bd_query.proofs.EndLemmas.{least_trans, begins_split, begins_joined, no_key_between, below_or_least, below_longer, length-take, below_or_same}
+use Rattle.bd_query.proofs.EndLemmas.{least_trans, begins_split, begins_joined, no_key_between, below_or_least, below_longer, length-take}
 use Rattle.bd_query.specs.declared.stretch.Stretch.{Stretch}
 use Rattle.bd_query.specs.declared.stretch.Stretch.TheVariants.{Present, Absent, Child}
-use Rattle.bd_query.specs.Stretches.{IsEnd, IsWithin, end_limit, NoneFrom, IsNewest, IsWay, IsEmpty, IsAsked, IsStretch, HasEnd, EndsBy, AsksOneOf}
+use Rattle.bd_query.specs.Stretches.{IsEnd, IsWithin, end_limit, NoneFrom, IsNewest, IsWay, IsEmpty, IsAsked, IsStretch, EndsBy, AsksOneOf}
 
 pub if_both : {T E : Type 0} (P Q R : T → Type 0) (r : Result T E) → IfOk r P → IfOk r Q → ((x : T) → P x → Q x → R x) → IfOk r R
 if_both P Q R (Ok x) h i f = f x h i

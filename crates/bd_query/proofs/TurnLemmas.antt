@@ -1,8 +1,8 @@
 -- What turns find.
-use Rattle.std.proofs.Common.{◌≡◌, ℕ, zero, suc, ◌+◌, ◌*◌, ◌<◌, ◌≤◌, List, [], ◌∷◌, ◌++◌, length, take, drop, refl, sym, ap, subst, ◌∙◌, Option, None, Some, arith}
-use Rattle.std.specs.Prelude.{◌⊎◌, ◌↔◌, IsSome, slice_index}
+use Rattle.std.proofs.Common.{◌≡◌, ℕ, zero, suc, ◌+◌, ◌<◌, ◌≤◌, List, [], ◌∷◌, ◌++◌, take, drop, sym, subst, ◌∙◌, Option, None, Some, arith}
+use Rattle.std.specs.Prelude.{◌⊎◌, ◌↔◌, IsSome}
 use Rattle.bd_limits.specs.Limits.{key_limit}
-use Rattle.bd_keys.specs.Keys.{IsKey, IsBelowEnd, IsAtLeast, InRange, Begins}
+use Rattle.bd_keys.specs.Keys.{IsKey, IsBelowEnd, InRange, Begins}
 use Rattle.bd_keys.proofs.Order.{not_below_itself, IsKey-rest, IsKey-cons}
 use Rattle.bd_message.specs.KeyMaps.{At}
 use Rattle.bd_message.specs.Effect.{NodesAt}

@@ -52,7 +52,7 @@ pub visits_at_most : (before now after high low : ℕ) → VisitsTo before now h
 visits_at_most before now after high low way one =
     let few : way.number + low ≤ high = way.few in let most : now ≤ before + way.number = way.at_most in omega arith
 
-visited_more : (before one number : ℕ) → visited (visited before one) number ≡ visited before (number + one)
+pub visited_more : (before one number : ℕ) → visited (visited before one) number ≡ visited before (number + one)
 visited_more before one number = elim (cases_lt (before + one) (2 ^ 64 - 1)) [
   | inl below ↦ ap (λ (n : ℕ). min (n + number) (2 ^ 64 - 1)) (min-eq_left (let b : before + one < 2 ^ 64 - 1 = below in omega arith))
       ∙ ap (λ (n : ℕ). min n (2 ^ 64 - 1)) (omega arith)

@@ -1,3 +1,4 @@
 pub mod Looks
 pub mod Visits
 pub mod Stretches
+pub mod Asks

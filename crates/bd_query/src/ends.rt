@@ -3,7 +3,7 @@
 ghost use Rattle.std.specs.Prelude.{◌≡◌, ◌↔◌, ◌⊎◌, ℕ, ◌≤◌, false, List, [], ◌∷◌, ◌++◌, length, IfOk, IfSome};
 ghost use Rattle.std.specs.Option.{option_copied};
 ghost use Rattle.bd_limits.specs.Limits.{key_limit};
-ghost use Rattle.bd_keys.specs.Keys.{key_cmp, IsKey, IsBelow, IsBelowEnd, InRange, Begins, IsPrefixRange};
+ghost use Rattle.bd_keys.specs.Keys.{IsKey, IsBelow, IsBelowEnd, InRange, Begins, IsPrefixRange};
 ghost use Rattle.bd_message.specs.Messages.{IsMessage};
 ghost use Rattle.bd_node.specs.Touching.{touches};
 ghost use Rattle.bd_query.specs.Stretches.{IsEnd, IsWithin, end_limit, first_key};

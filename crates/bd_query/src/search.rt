@@ -1,11 +1,12 @@
 //! The search for the least key.
 
-ghost use Rattle.std.specs.Prelude.{◌≡◌, ℕ, List, IfOk};
+ghost use Rattle.std.specs.Prelude.{◌≡◌, ℕ, List, IfOk, OnOk};
 ghost use Rattle.std.specs.Option.{option_map};
 ghost use Rattle.bd_keys.specs.Keys.{IsAtLeast};
 ghost use Rattle.bd_message.specs.KeyMaps.{HasMapCause, NeverWorn, IsNext};
 ghost use Rattle.bd_node.specs.Meaning.{at};
 ghost use Rattle.bd_node.specs.Tables.{IsKept, IsSound};
+ghost use Rattle.bd_query.specs.Asks.{AreVisitsOfWays};
 
 use crate::ends::bytes_of;
 use crate::turns::{Turn, turn_at};
@@ -15,8 +16,9 @@ use bd_node::NodeStore;
 use std::alloc::Global;
 
 /// The least key of a kept node, of any length, that is at least `from`, begins with `within` and
-/// has a value. Each turn rules out the keys from one up to another and goes on at that one; what
-/// lies below a range that was cut is not visited.
+/// has a value. Each turn rules out the keys from one up to another and goes on at that one. The
+/// nodes that are visited are those that are asked on ways down along these keys; a way goes no
+/// further where a cut decides, so what lies below a range that was cut is not visited.
 pub fn next<S: NodeStore>(
     alloc: Global,
     store: &mut S,
@@ -34,8 +36,13 @@ pub fn next<S: NodeStore>(
     ensures read { S.reads store.old store.new }
     ensures cause { HasMapCause (S.fault_count store.old) (S.fault_count store.new)
         (S.bad store.new) NeverWorn result }
+    ensures ways { S.is_known store.old → IsSound (S.nodes store.old) (S.table store.old)
+        → OnOk result (AreVisitsOfWays (S.nodes store.old) root from.now
+        (S.visit_count store.old) (S.visit_count store.new)) }
     ensures same_loans { S.loans store.new ≡ S.loans store.old }
 {
+    // The measure is how many keys of a bounded length are above `low`: each end is above the key
+    // that was asked, and no longer than the node's level allows, whatever the nodes are.
     let mut low = Vec::from_slice(alloc, greater(from, within))?;
     'turns: while starts(low.as_slice(), within) {
         match turn_at(alloc, store, root, low.as_slice())? {

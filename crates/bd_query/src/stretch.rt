@@ -1,16 +1,15 @@
 //! What one node says of a key and of the keys after it.
 
-ghost use Rattle.std.specs.Prelude.{◌≡◌, ℕ, ◌+◌, ◌-◌, ◌*◌, ◌^◌, ◌<◌, ◌≤◌, true, List, [], ◌++◌, length, take, drop, Option, None, Some, IfOk, slice_get};
+ghost use Rattle.std.specs.Prelude.{◌≡◌, ℕ, ◌+◌, ◌-◌, ◌*◌, ◌<◌, ◌≤◌, true, List, [], ◌++◌, length, drop, Option, None, Some, IfOk, slice_get};
 ghost use Rattle.std.specs.List.{AllByRecursion, flat_map};
-ghost use Rattle.std.specs.Option.{option_copied, option_map};
-ghost use Rattle.bd_keys.specs.Keys.{IsKey, IsAtLeast, IsBelowEnd, InRange, IsCommon};
+ghost use Rattle.std.specs.Option.{option_map};
 ghost use Rattle.bd_message.specs.Messages.{IsMessage};
 ghost use Rattle.bd_message.specs.Effect.{NodesAt, act};
 ghost use Rattle.bd_node.specs.Touching.{touches};
 ghost use Rattle.bd_node.specs.Nodes.{node_at, names, message_names, edge_names, child_at, edge_of, edge_at, entry_at};
-ghost use Rattle.bd_node.specs.Shape.{IsShape, IsEntry, IsRising, AreRising, IsChild, end_before};
+ghost use Rattle.bd_node.specs.Shape.{IsShape, IsEntry, IsRising, AreRising};
 ghost use Rattle.bd_leaf.specs.Places.{IsPlace};
-ghost use Rattle.bd_limits.specs.Limits.{key_limit};
+ghost use Rattle.bd_query.specs.Asks.{asked_by, asked_first, asked_through, asked_at, asked_in};
 ghost use Rattle.bd_query.specs.Stretches.{IsEnd, IsWithin, IsNewest, IsWay, IsStretch, HasEnd, EndsBy, AsksOneOf, end_limit};
 
 use crate::ends::{copied_end, end_within, narrowed, successor};
@@ -56,6 +55,8 @@ pub fn stretch_of(alloc: Global, node: &Node, key: &[u8]) -> Result<Stretch, All
         → IsStretch below (node_at below node.now) key.now stretch) }
     ensures end { IfOk result (λ stretch. HasEnd key.now stretch) }
     ensures named { IfOk result (λ stretch. AsksOneOf (names node.now) stretch) }
+    ensures asks { IfOk result (λ stretch.
+        asked_at node.now key.now ≡ asked_in stretch key.now) }
 {
     match node {
         Node::Leaf(entries) => among(entries.as_slice(), key),
@@ -76,6 +77,7 @@ fn among(entries: &[Entry], key: &[u8]) -> Result<Stretch, AllocError>
         → IsStretch below (entry_at entries.now) key.now stretch) }
     ensures end { IfOk result (λ stretch. HasEnd key.now stretch) }
     ensures named { IfOk result (λ stretch. AsksOneOf [] stretch) }
+    ensures asks { IfOk result (λ stretch. asked_in stretch key.now ≡ None) }
 {
     match search(entries, key) {
         Ok(_place) => Ok(Stretch::Present),
@@ -158,6 +160,8 @@ fn through(
     ensures within { IfOk result (λ stretch. EndsBy end stretch) }
     ensures named { IfOk result (λ stretch.
         AsksOneOf (edge_names edge.now ++ flat_map message_names buffer.now) stretch) }
+    ensures asks { IfOk result (λ stretch.
+        asked_through (Some edge.now) buffer.now key.now ≡ asked_in stretch key.now) }
 {
     let Newest { place, end } = newest_touching(alloc, buffer, edge.seen as usize, key, end)?;
     match place {
@@ -213,6 +217,8 @@ fn of_message(
     ensures end { IfOk result (λ stretch. HasEnd key.now stretch) }
     ensures within { IfOk result (λ stretch. EndsBy end stretch) }
     ensures named { IfOk result (λ stretch. AsksOneOf (message_names message.now) stretch) }
+    ensures asks { IfOk result (λ stretch.
+        asked_by message.now key.now ≡ asked_in stretch key.now) }
 {
     match message {
         Message::Put { .. } | Message::Patch { .. } => Ok(Stretch::Present),
@@ -248,6 +254,8 @@ fn of_edge(edge: &Edge, key: &[u8], end: Option<Bytes>) -> Result<Stretch, Alloc
     ensures end { IfOk result (λ stretch. HasEnd key.now stretch) }
     ensures within { IfOk result (λ stretch. EndsBy end stretch) }
     ensures named { IfOk result (λ stretch. AsksOneOf (edge_names edge.now) stretch) }
+    ensures asks { IfOk result (λ stretch.
+        asked_first edge.now key.now ≡ asked_in stretch key.now) }
 {
     match edge.child {
         Some(child) => Ok(Stretch::Child {

@@ -12,6 +12,7 @@ ghost use Rattle.bd_node.specs.Meaning.{at};
 ghost use Rattle.bd_node.specs.Tables.{IsKept, IsSound};
 ghost use Rattle.bd_node.specs.Stores.{visited};
 ghost use Rattle.bd_query.specs.Stretches.{IsEnd, IsAsked, IsStretch, HasEnd, AsksLower, IsTurn, PassesTo, end_limit, way_limit};
+ghost use Rattle.bd_query.specs.Asks.{asked_at, asked_in, AreVisitsOfWay};
 ghost use Rattle.bd_query.specs.Visits.{AreVisits};
 
 use crate::ends::{joined, lesser};
@@ -30,8 +31,8 @@ pub enum Turn {
     Passed { end: Option<Bytes> },
 }
 
-/// One way down from a kept node along a key. The keys that it passes are not asked again, and the
-/// end, if there is one, is above the key. What lies below a range that was cut is not visited.
+/// One way down from a kept node along a key: it finds a value there, or up to which end above it
+/// no key has one. A node asks at most one other, and none where a cut decides.
 pub fn turn_at<S: NodeStore>(
     alloc: Global,
     store: &mut S,
@@ -54,6 +55,9 @@ pub fn turn_at<S: NodeStore>(
         (S.visit_count store.old) (S.visit_count store.new)) }
     ensures few_visits { S.visit_count store.new
         ≤ S.visit_count store.old + ((S.table store.old).level id + 1) }
+    ensures way { S.is_known store.old → IsSound (S.nodes store.old) (S.table store.old)
+        → OnOk result (AreVisitsOfWay (S.nodes store.old) id key.now
+        (S.visit_count store.old) (S.visit_count store.new)) }
     ensures same_loans { S.loans store.new ≡ S.loans store.old }
 {
     match stretch_at(alloc, store, id, key)? {
@@ -87,6 +91,8 @@ fn stretch_at<S: NodeStore>(
     ensures end { IfOk result (λ stretch. HasEnd key.now stretch) }
     ensures lower { IfOk result (λ stretch.
         AsksLower (S.table store.old) ((S.table store.old).level id) stretch) }
+    ensures asks { S.is_known store.old → IfOk result (λ stretch. (n : Node)
+        → S.nodes store.old id ≡ Some n → asked_at n key.now ≡ asked_in stretch key.now) }
     ensures bytes { IsKey key.now }
     ensures table { S.table store.new ≡ S.table store.old }
     ensures known { S.is_known store.old → S.is_known store.new }

@@ -8,7 +8,7 @@ use Rattle.bd_keys.proofs.Order.{IsKey-cons, IsKey-rest}
 use Rattle.bd_message.specs.Effect.{begins, rest, is_cut}
 use Rattle.bd_message.proofs.Finds.{begins-is, begins-append}
 use Rattle.bd_node.proofs.Edges.{lt_isnt, not_less_lt, not_below_itself}
-use Rattle.bd_inner.proofs.Touched.{cmp_after, joined_other, rest-append, least_nil}
+use Rattle.bd_message.proofs.Prefixes.{cmp_after, joined_other, rest-append, least_nil}
 
 -- bytes after bytes are bytes
 pub IsKey-append : (k l : List ℕ) → IsKey k → IsKey l → IsKey (k ++ l)

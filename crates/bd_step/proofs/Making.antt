@@ -16,14 +16,15 @@ use Rattle.bd_flush.specs.declared.fetching.Fetched.{Fetched}
 use Rattle.bd_flush.specs.declared.ways.FlushStep.{FlushStep}
 use Rattle.bd_flush.specs.declared.ways.FlushStep.TheVariants.{SplitRoot, SplitChild, Push, Privatise, Carve}
 use Rattle.bd_flush.specs.Flushed.{IsFlushed}
-use Rattle.bd_flush.specs.Children.{IsFetched}
+use Rattle.bd_flush.specs.Children.{IsFetched, IsContents}
 use Rattle.bd_flush.specs.Pushes.{CanPush, CanPushNew, IsWaitedFor, unseen}
-use Rattle.bd_flush.specs.Ways.{IsFullestAt, IsHigh, IsToDo, IsToDoAt}
+use Rattle.bd_flush.specs.Ways.{IsFullestAt, IsHigh, IsThere, AreThere, IsToDo, IsToDoAt, IsWayThere}
+use Rattle.bd_node.proofs.Lookup.{each_weaker}
 use Rattle.bd_flush.proofs.Abundance.{abundant}
 use Rattle.bd_flush.proofs.Waiting.{fullest_waits, pending_waits}
 use Rattle.bd_step.specs.Steps.{IsMade, IsHighAfter, IsAbundantAt, IsAbundant, IsFlushStep, IsOutcome}
 use Rattle.bd_step.specs.declared.steps.Flush.{Flush}
-use Rattle.bd_step.specs.declared.steps.Flush.TheVariants.{Enough, LongPivot}
+use Rattle.bd_step.specs.declared.steps.Flush.TheVariants.{Enough}
 
 -- messages wait in a node of the way
 some_wait : (t : Table) (f : Fetched) → 1 ≤ t.size → IsFetched t f → IsHigh t f → 1 ≤ buffer_size f.node.value
@@ -100,9 +101,8 @@ root_found nodes t root n same to_do here = ap nodes (sym to_do.1) ∙ (here.the
 
 outcome_made : (step : FlushStep) → IsOutcome step Enough → ⊥
 outcome_made (SplitRoot root) h = cc
-outcome_made (SplitChild above parent place child) h = elim h [ inl done ↦ cc | inr long ↦ (let e : Enough ≡ LongPivot = long.0 in cc) ]
-outcome_made (Push above parent place None) h = cc
-outcome_made (Push above parent place (Some child)) h = elim h [ inl done ↦ cc | inr long ↦ (let e : Enough ≡ LongPivot = long.0 in cc) ]
+outcome_made (SplitChild above parent place child) h = cc
+outcome_made (Push above parent place child) h = cc
 outcome_made (Privatise above parent place) h = cc
 outcome_made (Carve above parent place) h = cc
 
@@ -116,6 +116,16 @@ here_again nodes mid t m step same table sound here =
     subst (λ (u : Table). IsToDoAt mid u step) (sym table)
     (subst (λ (f : Nodes). IsToDoAt f t step) (sym same)
     (here (subst (λ (f : Nodes). IsSound f t) same (subst (λ (u : Table). IsSound mid u) table sound))))
+
+pub way_again : (nodes mid : Nodes) (t m : Table) (step : FlushStep) → mid ≡ nodes → m ≡ t → IsSound mid m → (IsSound nodes t → IsWayThere nodes t step) → IsWayThere mid m step
+way_again nodes mid t m step same table sound here =
+    subst (λ (u : Table). IsWayThere mid u step) (sym table)
+    (subst (λ (f : Nodes). IsWayThere f t step) (sym same)
+    (here (subst (λ (f : Nodes). IsSound f t) same (subst (λ (u : Table). IsSound mid u) table sound))))
+
+-- the nodes above are those of the store
+pub way_stands : (nodes : Nodes) (t : Table) (way : List Fetched) → AreThere nodes t way → AllByRecursion (IsContents nodes) way
+way_stands nodes t way h = each_weaker (IsThere nodes t) (λ (f : Fetched). nodes f.id ≡ Some f.node.value) (λ f there. there.there) way h
 
 -- what the way down found in nodes, and what was made of them as it left them
 pub record IsStepMade (nodes mid : Nodes) (t m : Table) (new : Nodes) (u : Table) (step : FlushStep) : Type 0 where

@@ -8,6 +8,7 @@ ghost use Rattle.bd_node.specs.Meaning.{at};
 ghost use Rattle.bd_node.specs.Tables.{IsKept, IsSound, root_at};
 ghost use Rattle.bd_node.specs.Steps.{grown};
 ghost use Rattle.bd_node.specs.Stores.{FitsRoot};
+ghost use Rattle.bd_query.specs.Asks.{AreVisitsOfWays};
 ghost use Rattle.bd_query.specs.Visits.{AreVisits};
 ghost use Rattle.bd_flush.specs.Flushed.{IsWornFor};
 ghost use Rattle.bd_step.specs.Steps.{IsFlushStep, IsFound, IsFoundAt};
@@ -72,6 +73,8 @@ impl<S: NodeStore> Tree<S> {
     }
 
     /// The least key, of any length, that is at least `from`, begins with `within` and has a value.
+    /// The nodes that are visited are those that are asked on ways down along rising keys. A way
+    /// goes no further where a cut decides.
     pub fn next(&mut self, from: &[u8], within: &[u8]) -> Result<Option<Vec<u8>>, MapFault>
         ensures next { S.is_known self.old → IsSound (S.nodes self.old) (S.table self.old)
             → IfOk result (λ found. IsNext (root_at (S.nodes self.old) (S.table self.old))
@@ -82,6 +85,9 @@ impl<S: NodeStore> Tree<S> {
         ensures read { S.reads self.old self.new }
         ensures cause { HasMapCause (S.fault_count self.old) (S.fault_count self.new)
             (S.bad self.new) NeverWorn result }
+        ensures ways { S.is_known self.old → IsSound (S.nodes self.old) (S.table self.old)
+            → OnOk result (AreVisitsOfWays (S.nodes self.old) (S.table self.old).root from.now
+            (S.visit_count self.old) (S.visit_count self.new)) }
         ensures same_loans { S.loans self.new ≡ S.loans self.old }
     {
         let root = self.store.root();

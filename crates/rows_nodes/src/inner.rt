@@ -9,7 +9,7 @@ ghost use Rattle.bd_inner.specs.Halves.{edges_of, buffer_of};
 ghost use Rattle.bd_inner.specs.Moving.{IsLifted};
 
 use bd_inner::laws::{compacted_nodes, edges_fit, flat_edges};
-use bd_inner::{compact, edge_to, exchange, next_batch, receive, split};
+use bd_inner::{clip, compact, edge_to, exchange, next_batch, receive, split};
 use bd_keys::Bytes;
 use bd_limits::{MAX_BUFFER, MAX_EDGES, MAX_KEY};
 use bd_message::Message;
@@ -246,5 +246,34 @@ fn an_edge_that_has_seen_a_message(rt: HostRuntime) -> Result<(), Fail> {
     assert_eq!(rt; edges.len(), 15);
     assert_eq!(rt; edges[0].seen, 0);
     assert!(rt; messages == [put(rt.alloc(), "z")?].as_slice());
+    Ok(())
+}
+
+// A node freed of a prefix.
+fn clipped(alloc: Global, node: &Node, prefix: &str) -> Result<Node, Fail>
+    requires { IsShape node.now }
+{
+    if prefix.len() > MAX_KEY {
+        return Err(Fail::new("too long a prefix"));
+    }
+    match node {
+        Node::Leaf(_) => Err(Fail::new("a leaf")),
+        Node::Inner { .. } => Ok(clip(alloc, node, prefix.as_bytes())?),
+    }
+}
+
+#[test]
+fn a_node_freed_of_a_prefix(rt: HostRuntime) -> Result<(), Fail> {
+    let node = full(rt.alloc())?;
+    let (_, waiting) = parts(&node);
+    let whole = clipped(rt.alloc(), &node, "")?;
+    let (edges, messages) = parts(&whole);
+    assert_eq!(rt; edges.len(), 15);
+    assert!(rt; messages == waiting);
+    let part = clipped(rt.alloc(), &node, "a")?;
+    let (edges, messages) = parts(&part);
+    assert_eq!(rt; edges.len(), 1);
+    assert!(rt; edges[0].pivot.is_empty());
+    assert!(rt; messages == [put(rt.alloc(), "")?].as_slice());
     Ok(())
 }

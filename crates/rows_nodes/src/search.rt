@@ -2,6 +2,7 @@
 //! under a clone.
 
 use crate::nodes::{Both, KEYS, clone_both, generated};
+use bd_message::KeyMap;
 use rows_tools::{Numbers, message};
 use std::alloc::Global;
 use std::test::Fail;

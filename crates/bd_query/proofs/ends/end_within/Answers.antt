@@ -1,5 +1,5 @@
-use Rattle.std.proofs.Common.{ℕ, arith}
-use Rattle.bd_query.proofs.EndLemmas.{IsPrefixEnd, prefix_end, prefix_end_within, prefix_end_begins}
+use Rattle.std.proofs.Common.{arith}
+use Rattle.bd_query.proofs.EndLemmas.{prefix_end, prefix_end_within, prefix_end_begins}
 use Rattle.bd_query.proofs.ends.end_within.Goals as goal
 
 pub returns-clause-end : goal.returns-clause-end

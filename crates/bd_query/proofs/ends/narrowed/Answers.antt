@@ -1,6 +1,6 @@
-use Rattle.std.proofs.Common.{sym, ◌∙◌, subst, List, ℕ, Option, Some}
-use Rattle.bd_inner.proofs.Touched.{CanTouch}
-use Rattle.bd_query.proofs.EndLemmas.{CanLater, later_end, later_bound, later_untouched}
+use Rattle.std.proofs.Common.{subst, List, ℕ, Option}
+use Rattle.bd_inner.specs.Moving.{CanTouch}
+use Rattle.bd_query.proofs.EndLemmas.{later_end, later_bound, later_untouched}
 use Rattle.bd_query.proofs.ends.narrowed.Goals as goal
 
 pub returns-in_ok-first_key-clause-end : goal.returns-in_ok-first_key-clause-end

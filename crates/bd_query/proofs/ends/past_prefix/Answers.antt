@@ -1,4 +1,4 @@
-use Rattle.std.proofs.Common.{sym, ap, subst, List, ℕ, length, arith, ◌∙◌, ◌≡◌, ◌≤◌, Option, Vec, Global}
+use Rattle.std.proofs.Common.{sym, subst, List, ℕ, arith, Option, Vec, Global}
 use Rattle.std.specs.Prelude.{IfSome}
 use Rattle.bd_keys.specs.Keys.{IsKey, IsAfter}
 use Rattle.bd_query.proofs.EndLemmas.{after_short}

@@ -1,11 +1,12 @@
-use Rattle.std.proofs.Common.{◌≡◌, ℕ, ◌≤◌, refl, sym, ap, subst, ◌∙◌, arith, List, Option, Some, None}
-use Rattle.bd_keys.specs.Keys.{IsKey, IsAtLeast, Begins}
+use Rattle.std.proofs.Common.{ℕ, ◌≤◌, refl, sym, subst, ◌∙◌, arith, List}
+use Rattle.bd_keys.specs.Keys.{Begins}
 use Rattle.bd_message.proofs.Finds.{not_both}
 use Rattle.bd_node.specs.Meaning.{Nodes, at}
 use Rattle.bd_node.specs.Tables.{Table, IsSound}
-use Rattle.bd_query.specs.declared.turns.Turn.{Turn}
 use Rattle.bd_query.specs.Stretches.{IsTurn, PassesTo, way_limit}
-use Rattle.bd_query.proofs.SearchLemmas.{IsLow, IsTurned, low_first, low_other, turned_fewer, turned_low, turned_past}
+use Rattle.bd_query.specs.Asks.{AreVisitsOfWay}
+use Rattle.bd_query.proofs.AskLemmas.{IsSearching, searching_begun, searched_last}
+use Rattle.bd_query.proofs.SearchLemmas.{IsLow, turned_ways, low_first, low_other, turned_fewer, turned_low, turned_past}
 use Rattle.bd_query.proofs.search.next.Goals as goal
 
 pub turns-init : goal.turns-init
@@ -19,6 +20,9 @@ turns-init g c = record {
   low = λ known sound.
       subst (λ (k : List ℕ). IsLow (at (g.S.NodeStore.nodes c.args.store.now) c.args.root) c.args.from.now c.args.within.now k) (sym c.in_ok-low.ensures.items)
       (low_first (at (g.S.NodeStore.nodes c.args.store.now) c.args.root) c.args.from.now c.args.within.now c.greater.result.now c.greater.ensures.first c.greater.ensures.second c.greater.ensures.least);
+  ways = λ known sound.
+      subst (λ (k : List ℕ). IsSearching (g.S.NodeStore.nodes c.args.store.now) c.args.root c.args.from.now k (g.S.NodeStore.visit_count c.args.store.now) (g.S.NodeStore.visit_count c.args.store.now)) (sym c.in_ok-low.ensures.items)
+      (searching_begun (g.S.NodeStore.nodes c.args.store.now) c.args.root c.args.from.now c.greater.result.now (g.S.NodeStore.visit_count c.args.store.now) c.greater.ensures.first);
 }
 
 pub returns-in-Passed-None-clause-next : goal.returns-in-Passed-None-clause-next
@@ -62,6 +66,16 @@ turns-preserved g c =
             bytes = c.in_ok-turn_at.ensures.bytes;
           }) c.in-Passed-Some.is c.in-Passed-Some.end-is c.into_vec-low.ensures
           (subst (λ (n : Nodes). IsTurn (at n c.args.root) c.as_slice-in-turns.result.now c.in_ok-turn_at.field-0) (inv.nodes known) (c.in_ok-turn_at.ensures.turn (inv.known known) still)) (inv.low known sound);
+      ways = λ known sound.
+          let still : IsSound (g.S.NodeStore.nodes c.turns.store) (g.S.NodeStore.table c.turns.store) =
+          subst (λ (n : Nodes). IsSound n (g.S.NodeStore.table c.turns.store)) (sym (inv.nodes known)) (subst (λ (u : Table). IsSound nodes u) (sym inv.table) sound) in
+          turned_ways nodes c.args.root c.args.from.now c.args.within.now c.turns.low.items c.as_slice-in-turns.result.now c.in-Passed-Some.end c.into_vec-low.result.items (way_limit ((g.S.NodeStore.table c.args.store.now).level c.args.root)) c.in_ok-turn_at.field-0 c.in-Passed-Some.end' (g.S.NodeStore.visit_count c.args.store.now) (g.S.NodeStore.visit_count c.turns.store) (g.S.NodeStore.visit_count c.turn_at.new.store)
+          (record {
+            slice_is = c.as_slice-in-turns.ensures.value;
+            passes = subst (λ (u : Table). PassesTo c.as_slice-in-turns.result.now (way_limit (u.level c.args.root)) c.in_ok-turn_at.field-0) inv.table c.in_ok-turn_at.ensures.passes;
+            bytes = c.in_ok-turn_at.ensures.bytes;
+          }) c.in-Passed-Some.is c.in-Passed-Some.end-is c.into_vec-low.ensures (inv.ways known sound)
+          (subst (λ (n : Nodes). AreVisitsOfWay n c.args.root c.as_slice-in-turns.result.now (g.S.NodeStore.visit_count c.turns.store) (g.S.NodeStore.visit_count c.turn_at.new.store)) (inv.nodes known) (c.in_ok-turn_at.ensures.way (inv.known known) still));
     }
 
 pub returns-clause-next : goal.returns-clause-next
@@ -69,3 +83,24 @@ returns-clause-next g c known sound =
     let inv = c.turns.invariant in
     low_other (at (g.S.NodeStore.nodes c.args.store.now) c.args.root) c.args.from.now c.args.within.now c.turns.low.items (inv.low known sound)
     (λ starts. not_both (c.starts.ensures.1 (subst (λ (k : List ℕ). Begins k c.args.within.now) (sym c.as_slice.ensures.value) starts)) c.turns-test.false)
+
+pub returns-in-Found-clause-ways : goal.returns-in-Found-clause-ways
+returns-in-Found-clause-ways g c known sound =
+    let nodes : Nodes = g.S.NodeStore.nodes c.args.store.now in
+    let inv = c.turns.invariant in
+    let still : IsSound (g.S.NodeStore.nodes c.turns.store) (g.S.NodeStore.table c.turns.store) =
+    subst (λ (n : Nodes). IsSound n (g.S.NodeStore.table c.turns.store)) (sym (inv.nodes known)) (subst (λ (u : Table). IsSound nodes u) (sym inv.table) sound) in
+    searched_last nodes c.args.root c.args.from.now c.turns.low.items c.as_slice-in-turns.result.now (g.S.NodeStore.visit_count c.args.store.now) (g.S.NodeStore.visit_count c.turns.store) (g.S.NodeStore.visit_count c.turn_at.new.store) c.as_slice-in-turns.ensures.value (inv.ways known sound)
+    (subst (λ (n : Nodes). AreVisitsOfWay n c.args.root c.as_slice-in-turns.result.now (g.S.NodeStore.visit_count c.turns.store) (g.S.NodeStore.visit_count c.turn_at.new.store)) (inv.nodes known) (c.in_ok-turn_at.ensures.way (inv.known known) still))
+
+pub returns-in-Passed-None-clause-ways : goal.returns-in-Passed-None-clause-ways
+returns-in-Passed-None-clause-ways g c known sound =
+    let nodes : Nodes = g.S.NodeStore.nodes c.args.store.now in
+    let inv = c.turns.invariant in
+    let still : IsSound (g.S.NodeStore.nodes c.turns.store) (g.S.NodeStore.table c.turns.store) =
+    subst (λ (n : Nodes). IsSound n (g.S.NodeStore.table c.turns.store)) (sym (inv.nodes known)) (subst (λ (u : Table). IsSound nodes u) (sym inv.table) sound) in
+    searched_last nodes c.args.root c.args.from.now c.turns.low.items c.as_slice-in-turns.result.now (g.S.NodeStore.visit_count c.args.store.now) (g.S.NodeStore.visit_count c.turns.store) (g.S.NodeStore.visit_count c.turn_at.new.store) c.as_slice-in-turns.ensures.value (inv.ways known sound)
+    (subst (λ (n : Nodes). AreVisitsOfWay n c.args.root c.as_slice-in-turns.result.now (g.S.NodeStore.visit_count c.turns.store) (g.S.NodeStore.visit_count c.turn_at.new.store)) (inv.nodes known) (c.in_ok-turn_at.ensures.way (inv.known known) still))
+
+pub returns-clause-ways : goal.returns-clause-ways
+returns-clause-ways g c known sound = (c.turns.invariant.ways known sound).visits

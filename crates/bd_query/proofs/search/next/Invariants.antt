@@ -2,6 +2,7 @@ use Rattle.std.proofs.Common.{◌≡◌, ◌≤◌}
 use Rattle.bd_node.specs.Meaning.{at}
 use Rattle.bd_node.specs.Tables.{IsSound}
 use Rattle.bd_query.specs.Stretches.{way_limit}
+use Rattle.bd_query.proofs.AskLemmas.{IsSearching}
 use Rattle.bd_query.proofs.SearchLemmas.{IsLow, places_above}
 use Rattle.bd_query.proofs.search.next.Given as goal
 
@@ -15,6 +16,8 @@ invariant-turns g l = record {
   loans : g.S.NodeStore.loans l.store ≡ g.S.NodeStore.loans l.fn.store;
   low : g.S.NodeStore.is_known l.fn.store → IsSound (g.S.NodeStore.nodes l.fn.store) (g.S.NodeStore.table l.fn.store)
       → IsLow (at (g.S.NodeStore.nodes l.fn.store) l.fn.root) l.fn.from l.fn.within l.low.items;
+  ways : g.S.NodeStore.is_known l.fn.store → IsSound (g.S.NodeStore.nodes l.fn.store) (g.S.NodeStore.table l.fn.store)
+      → IsSearching (g.S.NodeStore.nodes l.fn.store) l.fn.root l.fn.from l.low.items (g.S.NodeStore.visit_count l.fn.store) (g.S.NodeStore.visit_count l.store);
 }
 
 abbrev pub decreases-turns : goal.decreases-turns

@@ -1,4 +1,4 @@
-use Rattle.std.proofs.Common.{sym, ◌∙◌, subst, List, ℕ, Option}
+use Rattle.std.proofs.Common.{sym, subst, List, ℕ, Option}
 use Rattle.bd_query.specs.Stretches.{IsEmpty, IsEnd, end_limit}
 use Rattle.bd_node.specs.Nodes.{entry_at}
 use Rattle.bd_query.proofs.LeafLemmas.{gap_empty, gap_end}

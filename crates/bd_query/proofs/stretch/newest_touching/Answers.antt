@@ -1,7 +1,6 @@
-use Rattle.std.proofs.Common.{◌≡◌, ℕ, ◌+◌, ◌-◌, ◌<◌, ◌≤◌, length, refl, sym, ap, subst, ◌∙◌, Some, arith, List, Option}
+use Rattle.std.proofs.Common.{◌≡◌, ℕ, ◌+◌, ◌-◌, ◌<◌, ◌≤◌, length, refl, subst, Some, arith}
 use Rattle.std.specs.Prelude.{slice_get}
 use Rattle.std.proofs.lemmas.Option.{slice_get_read}
-use Rattle.bd_message.specs.declared.message.Message.{Message}
 use Rattle.bd_query.specs.Stretches.{NoneFrom}
 use Rattle.bd_query.proofs.StretchLemmas.{none_from_more}
 use Rattle.bd_query.proofs.stretch.newest_touching.Goals as goal

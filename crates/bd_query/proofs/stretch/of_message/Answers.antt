@@ -1,7 +1,7 @@
-use Rattle.std.proofs.Common.{sym, ap, subst, List, ℕ, Option, Some, None, arith, length, true, ◌≡◌, cond}
+use Rattle.std.proofs.Common.{sym, subst, List, ℕ, Some, None, true, ◌≡◌, cond}
 use Rattle.bd_keys.specs.Keys.{Begins}
 use Rattle.bd_message.specs.declared.message.Message.{Message}
-use Rattle.bd_message.specs.Effect.{act, same_key, is_cut}
+use Rattle.bd_message.specs.Effect.{act, same_key}
 use Rattle.bd_node.specs.Touching.{touches}
 use Rattle.bd_query.specs.Stretches.{IsEmpty, IsEnd, IsWithin, end_limit}
 use Rattle.bd_query.proofs.StretchLemmas.{del_empty, del_short, alone_end, alone_within, cut_empty}

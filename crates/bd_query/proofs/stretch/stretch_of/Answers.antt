@@ -1,10 +1,9 @@
-use Rattle.std.proofs.Common.{◌≡◌, ℕ, ◌+◌, ◌≤◌, ◌++◌, sym, ap, subst, ◌∙◌, Some, None, arith, List, Option, drop, length}
+use Rattle.std.proofs.Common.{◌≡◌, ℕ, ◌+◌, ◌≤◌, ◌++◌, sym, ap, subst, ◌∙◌, arith, List, Option, drop, length}
 use Rattle.bd_message.specs.declared.message.Message.{Message}
 use Rattle.bd_message.specs.Effect.{NodesAt}
 use Rattle.bd_node.specs.declared.node.Edge.{Edge}
 use Rattle.bd_node.specs.declared.node.Entry.{Entry}
 use Rattle.bd_node.specs.declared.node.Node.{Node}
-use Rattle.bd_node.specs.declared.node.Node.TheVariants.{Leaf, Inner}
 use Rattle.bd_node.specs.Nodes.{node_at, names, edge_at, edge_names, message_names, entry_at}
 use Rattle.bd_node.specs.Shape.{end_before}
 use Rattle.std.specs.List.{flat_map}

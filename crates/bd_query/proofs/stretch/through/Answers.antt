@@ -1,10 +1,10 @@
-use Rattle.std.proofs.Common.{◌≡◌, ℕ, sym, ap, subst, ◌∙◌, Some, None, arith, List, Option}
-use Rattle.bd_keys.specs.Keys.{IsKey}
-use Rattle.bd_message.specs.Effect.{NodesAt, act}
-use Rattle.bd_message.specs.declared.message.Message.{Message}
-use Rattle.bd_node.specs.Nodes.{edge_at, edge_names, message_names, child_at}
+use Rattle.std.proofs.Common.{ℕ, subst, ◌∙◌, arith, Option}
+use Rattle.bd_message.specs.Effect.{NodesAt}
+use Rattle.bd_node.specs.Nodes.{edge_at, edge_names}
 use Rattle.bd_query.specs.declared.stretch.Stretch.{Stretch}
-use Rattle.bd_query.specs.Stretches.{IsNewest, IsStretch, EndsBy, AsksOneOf}
+use Rattle.bd_query.specs.Stretches.{IsNewest, IsStretch}
+use Rattle.bd_query.specs.Asks.{asked_first}
+use Rattle.bd_query.proofs.AskLemmas.{newest_asks, none_asks}
 use Rattle.bd_query.proofs.Parts.{if_ok}
 use Rattle.bd_query.proofs.StretchLemmas.{if_both, newest_there, through_message, through_edge, ends_within, way_within, asks_of_message, asks_of_edge}
 use Rattle.bd_query.proofs.stretch.through.Goals as goal
@@ -47,3 +47,15 @@ returns-in-None-clause-within c =
 pub returns-in-None-clause-named : goal.returns-in-None-clause-named
 returns-in-None-clause-named c =
     if_ok _ _ c.of_edge.result c.of_edge.ensures.named (λ (s : Stretch) h. asks_of_edge (edge_names c.args.edge.now) _ s h)
+
+pub returns-in-Some-clause-asks : goal.returns-in-Some-clause-asks
+returns-in-Some-clause-asks c =
+    let newest = subst (λ (p : Option ℕ). IsNewest c.args.buffer.now c.args.edge.now.seen c.args.key.now p c.in_ok-place.field-0.end) c.in-Some.is c.in_ok-place.ensures.newest in
+    if_ok _ _ c.of_message.result c.of_message.ensures.asks (λ (s : Stretch) h.
+    newest_asks c.args.buffer.now c.args.edge.now.seen c.args.key.now c.in_ok-place.field-0.end c.in-Some.place c.index-buffer-place.result (asked_first c.args.edge.now c.args.key.now) newest c.in_ok-place.ensures.end.above c.index-buffer-place.is ∙ h)
+
+pub returns-in-None-clause-asks : goal.returns-in-None-clause-asks
+returns-in-None-clause-asks c =
+    let newest = subst (λ (p : Option ℕ). IsNewest c.args.buffer.now c.args.edge.now.seen c.args.key.now p c.in_ok-place.field-0.end) c.in-None.is c.in_ok-place.ensures.newest in
+    if_ok _ _ c.of_edge.result c.of_edge.ensures.asks (λ (s : Stretch) h.
+    none_asks c.args.buffer.now c.args.edge.now.seen c.args.key.now c.in_ok-place.field-0.end (asked_first c.args.edge.now c.args.key.now) newest c.in_ok-place.ensures.end.above ∙ h)

@@ -1,9 +1,10 @@
-use Rattle.std.proofs.Common.{◌≡◌, ℕ, ◌+◌, ◌<◌, ◌≤◌, ◌++◌, sym, ap, subst, ◌∙◌, arith, List, drop}
+use Rattle.std.proofs.Common.{◌≡◌, ℕ, ◌+◌, ◌<◌, ◌++◌, sym, ap, subst, ◌∙◌, arith, List, drop}
 use Rattle.bd_node.specs.Meaning.{Nodes, at}
-use Rattle.bd_node.specs.Tables.{Table, IsKept, IsLower, IsSound}
+use Rattle.bd_node.specs.Tables.{Table, IsLower, IsSound}
 use Rattle.bd_query.specs.declared.stretch.Stretch.{Stretch}
-use Rattle.bd_query.specs.declared.stretch.Stretch.TheVariants.{Child}
 use Rattle.bd_query.specs.Stretches.{IsStretch, IsAsked, AsksLower, IsTurn, PassesTo, end_limit, way_limit}
+use Rattle.bd_query.specs.Asks.{asked_in, AreVisitsOfWay}
+use Rattle.bd_query.proofs.AskLemmas.{way_ends, way_goes_on}
 use Rattle.bd_query.proofs.TurnLemmas.{node_says, passes_weaker, level_more}
 use Rattle.bd_query.proofs.Visited.{visits_then}
 use Rattle.bd_query.proofs.turns.+turn_at.Goals as goal
@@ -59,3 +60,27 @@ returns-in_ok-turn-in-Child-2-clause-visits g t c =
     subst (λ (s : Stretch). AsksLower (g.S.NodeStore.table c.args.store.now) ((g.S.NodeStore.table c.args.store.now).level c.args.id) s) c.in-Child.is c.in_ok-stretch_at.ensures.lower in
     visits_then (g.S.NodeStore.visit_count c.args.store.now) (g.S.NodeStore.visit_count c.stretch_at.new.store) (g.S.NodeStore.visit_count c.turn_at.new.store) ((g.S.NodeStore.table c.stretch_at.new.store).level c.in-Child.child) ((g.S.NodeStore.table c.args.store.now).level c.args.id)
     c.in_ok-stretch_at.ensures.visits (subst (λ (u : Table). u.level c.in-Child.child < (g.S.NodeStore.table c.args.store.now).level c.args.id) (sym c.in_ok-stretch_at.ensures.table) lower.lower) c.in_ok-turn-in-Child.ensures.visits
+
+pub returns-in-Present-clause-way : goal.returns-in-Present-clause-way
+returns-in-Present-clause-way g t c known sound =
+    way_ends (g.S.NodeStore.nodes c.args.store.now) (g.S.NodeStore.table c.args.store.now) c.args.id c.args.key.now (g.S.NodeStore.visit_count c.args.store.now) (g.S.NodeStore.visit_count c.stretch_at.new.store) sound c.requires
+    (λ n there. c.in_ok-stretch_at.ensures.asks known n there ∙ ap (λ (s : Stretch). asked_in s c.args.key.now) c.in-Present.is) c.in_ok-stretch_at.ensures.visits
+
+pub returns-in-Absent-clause-way : goal.returns-in-Absent-clause-way
+returns-in-Absent-clause-way g t c known sound =
+    way_ends (g.S.NodeStore.nodes c.args.store.now) (g.S.NodeStore.table c.args.store.now) c.args.id c.args.key.now (g.S.NodeStore.visit_count c.args.store.now) (g.S.NodeStore.visit_count c.stretch_at.new.store) sound c.requires
+    (λ n there. c.in_ok-stretch_at.ensures.asks known n there ∙ ap (λ (s : Stretch). asked_in s c.args.key.now) c.in-Absent.is) c.in_ok-stretch_at.ensures.visits
+
+pub returns-in_ok-turn-in-Child-2-clause-way : goal.returns-in_ok-turn-in-Child-2-clause-way
+returns-in_ok-turn-in-Child-2-clause-way g t c known sound =
+    let nodes : Nodes = g.S.NodeStore.nodes c.args.store.now in
+    let same : g.S.NodeStore.nodes c.stretch_at.new.store ≡ nodes = c.in_ok-stretch_at.ensures.kept known in
+    let still : IsSound (g.S.NodeStore.nodes c.stretch_at.new.store) (g.S.NodeStore.table c.stretch_at.new.store) =
+    subst (λ (n : Nodes). IsSound n (g.S.NodeStore.table c.stretch_at.new.store)) (sym same) (subst (λ (u : Table). IsSound nodes u) (sym c.in_ok-stretch_at.ensures.table) sound) in
+    let asked : c.as_slice-in-Child.result.now ≡ c.in-Child.source ++ drop c.in-Child.lift c.args.key.now =
+    c.as_slice-in-Child.ensures ∙ c.in_ok-asked-in-Child.ensures ∙ ap (λ (l : List ℕ). l ++ c.tail.result.now) c.as_slice.ensures ∙ ap (λ (l : List ℕ). c.in-Child.source ++ l) c.tail.ensures in
+    way_goes_on nodes (g.S.NodeStore.table c.args.store.now) c.args.id c.in-Child.child c.args.key.now (c.in-Child.source ++ drop c.in-Child.lift c.args.key.now) (g.S.NodeStore.visit_count c.args.store.now) (g.S.NodeStore.visit_count c.stretch_at.new.store) (g.S.NodeStore.visit_count c.turn_at.new.store) sound c.requires
+    (λ n there. c.in_ok-stretch_at.ensures.asks known n there ∙ ap (λ (s : Stretch). asked_in s c.args.key.now) c.in-Child.is) c.in_ok-stretch_at.ensures.visits
+    (subst (λ (k : List ℕ). AreVisitsOfWay nodes c.in-Child.child k (g.S.NodeStore.visit_count c.stretch_at.new.store) (g.S.NodeStore.visit_count c.turn_at.new.store)) asked
+    (subst (λ (n : Nodes). AreVisitsOfWay n c.in-Child.child c.as_slice-in-Child.result.now (g.S.NodeStore.visit_count c.stretch_at.new.store) (g.S.NodeStore.visit_count c.turn_at.new.store)) same
+    (c.in_ok-turn-in-Child.ensures.way (c.in_ok-stretch_at.ensures.known known) still)))

@@ -1,4 +1,4 @@
-use Rattle.std.proofs.Common.{◌≡◌, ℕ, ◌++◌, refl, sym, ap, subst, ◌∙◌, Some, None, List, Option, take, drop, length}
+use Rattle.std.proofs.Common.{ℕ, ◌++◌, sym, ap, subst, ◌∙◌, Some, None, List, Option, take, drop, length}
 use Rattle.bd_keys.specs.Keys.{Begins}
 use Rattle.bd_message.proofs.Finds.{not_both}
 use Rattle.bd_query.proofs.EndLemmas.{IsRaised, past_all, no_end, raised_here, end_above_end, end_above_inside}

@@ -1,8 +1,7 @@
-use Rattle.std.proofs.Common.{◌≡◌, ℕ, ◌++◌, sym, subst, arith, List, drop}
+use Rattle.std.proofs.Common.{◌++◌, subst, arith, drop}
 use Rattle.bd_query.specs.declared.turns.Turn.{Turn}
-use Rattle.bd_query.specs.declared.turns.Turn.TheVariants.{Passed}
 use Rattle.bd_query.specs.Stretches.{IsTurn, PassesTo}
-use Rattle.bd_query.proofs.TurnLemmas.{IsRaisedTurn, raised_empty, raised_passes, raised_found}
+use Rattle.bd_query.proofs.TurnLemmas.{raised_empty, raised_found}
 use Rattle.bd_query.proofs.turns.raised.Goals as goal
 
 pub returns-in-Found-clause-turn : goal.returns-in-Found-clause-turn

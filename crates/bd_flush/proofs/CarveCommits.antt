@@ -1,0 +1,122 @@
+-- The commit that carves a Goto out.
+use Rattle.std.proofs.Common.{◌≡◌, ℕ, ◌+◌, ◌<◌, ◌≤◌, length, sym, ap, subst, ◌∙◌, arith, Result, Ok, Err}
+use Rattle.std.specs.Prelude.{OnOk, OnErr, slice_get, Some}
+use Rattle.std.proofs.lemmas.Option.{same_Some, slice_get_within}
+use Rattle.bd_message.specs.declared.fault.MapFault.{MapFault}
+use Rattle.bd_message.specs.KeyMaps.{HasMapCause}
+use Rattle.bd_node.specs.declared.node.Edge.{Edge}
+use Rattle.bd_node.specs.declared.node.Node.{Node}
+use Rattle.bd_node.specs.declared.node.Step.{Step}
+use Rattle.bd_node.specs.Nodes.{buffer_size, names}
+use Rattle.bd_node.specs.Meaning.{Nodes, at}
+use Rattle.bd_node.specs.Tables.{Table, IsTable, IsLower, IsSound}
+use Rattle.bd_node.specs.Steps.{IsStep, IsInPlace, IsTableAfter, IsCommitted, IsWornBy}
+use Rattle.bd_node.specs.Stores.{visited}
+use Rattle.bd_node.proofs.Lookup.{named_has}
+use Rattle.bd_inner.specs.Halves.{edges_of}
+use Rattle.bd_inner.specs.Carving.{IsCarved}
+use Rattle.bd_inner.proofs.Carved.{carved_shape, carved_level, carved_meaning, carved_size, carved_times}
+use Rattle.bd_flush.specs.declared.fetching.Fetched.{Fetched}
+use Rattle.bd_flush.specs.Flushed.{IsFlushed, IsWornFor}
+use Rattle.bd_flush.specs.Children.{IsNoHigher}
+use Rattle.bd_flush.specs.Pushes.{IsOwn}
+use Rattle.bd_flush.specs.Carving.{CanCarve, IsCarveStep, IsCarvedAt}
+use Rattle.bd_flush.proofs.Worn.{cause_weaker}
+use Rattle.bd_flush.proofs.CarveSteps.{IsOneChange, IsOneChangeOf, IsOneChanged, one_step, one_in_place, one_flushed, one_there, one_no_higher, one_worn}
+
+pub record IsToCarve (t : Table) (parent : Fetched) (place : ℕ) (step : Step) : Type 0 where
+  pub table : IsTable t
+  pub can : CanCarve t parent place
+  pub carve : IsCarveStep t.root parent place step
+
+pub is_to_carve : (t : Table) (parent : Fetched) (place : ℕ) (step : Step) (root : ℕ) → IsTable t → CanCarve t parent place → root ≡ t.root → IsCarveStep root parent place step → IsToCarve t parent place step
+is_to_carve t parent place step root table can same carve = record {
+  table = table;
+  can = can;
+  carve = subst (λ (r : ℕ). IsCarveStep r parent place step) same carve;
+}
+
+change : (t : Table) (parent : Fetched) (place : ℕ) (step : Step) → (h : IsToCarve t parent place step) → IsOneChange t parent.id h.carve.node
+change t parent place step h =
+    let old : Node = parent.node.value in
+    let made : IsCarved old h.carve.carved.index h.carve.node = h.carve.carved.carved in
+    let shape = h.can.parent_is.own.shape in
+    record {
+      table = h.table;
+      kept = h.can.parent_is.kept;
+      shape = carved_shape old h.carve.carved.index h.carve.node shape h.can.room made;
+      level = carved_level old h.carve.carved.index h.carve.node made ∙ h.can.parent_is.own.level_is;
+      named = λ x one. named_has (IsLower t (t.level parent.id)) x (names old) h.can.parent_is.own.lower (carved_times old h.carve.carved.index h.carve.node shape made x one);
+    }
+
+change_of : (nodes : Nodes) (t : Table) (parent : Fetched) (place : ℕ) (step : Step) → (h : IsToCarve t parent place step) → IsSound nodes t → IsOwn nodes t parent → IsOneChangeOf nodes t parent.id parent.node.value h.carve.node
+change_of nodes t parent place step h sound own = record {
+  step = change t parent place step h;
+  sound = sound;
+  there = own.there;
+  private = own.private;
+  meaning = λ k key. carved_meaning (at nodes) parent.node.value h.carve.carved.index h.carve.node h.can.parent_is.own.shape h.can.room h.carve.carved.carved k key;
+}
+
+changed : (nodes : Nodes) (t : Table) (parent : Fetched) (place : ℕ) (step : Step) (new : Nodes) (u : Table) → (h : IsToCarve t parent place step) → IsSound nodes t → IsOwn nodes t parent → IsTableAfter t step u → IsCommitted nodes t step new u
+    → IsOneChanged nodes t parent.id parent.node.value h.carve.node new u
+changed nodes t parent place step new u h sound own after committed = record {
+  of = change_of nodes t parent place step h sound own;
+  after = subst (λ (q : Step). IsTableAfter t q u) h.carve.is after;
+  committed = subst (λ (q : Step). IsCommitted nodes t q new u) h.carve.is committed;
+}
+
+pub may_carve : (t : Table) (parent : Fetched) (place : ℕ) (step : Step) → IsToCarve t parent place step → IsStep t step
+may_carve t parent place step h = subst (λ (q : Step). IsStep t q) (sym h.carve.is) (one_step t parent.id h.carve.node (change t parent place step h))
+
+pub carve_in_place : (nodes : Nodes) (t : Table) (parent : Fetched) (place : ℕ) (step : Step) → IsToCarve t parent place step → IsSound nodes t → IsOwn nodes t parent → IsInPlace nodes t step
+carve_in_place nodes t parent place step h sound own =
+    subst (λ (q : Step). IsInPlace nodes t q) (sym h.carve.is) (one_in_place nodes t parent.id parent.node.value h.carve.node (change_of nodes t parent place step h sound own))
+
+-- ---- the result
+
+pub on_carve_flushed : {T E : Type 0} (nodes : Nodes) (t : Table) (parent : Fetched) (place : ℕ) (step : Step) (new : Nodes) (u : Table) (r : Result T E) → IsToCarve t parent place step → IsSound nodes t → IsOwn nodes t parent
+    → OnOk r (IsTableAfter t step u) → OnOk r (IsCommitted nodes t step new u) → OnOk r (IsFlushed nodes t new u)
+on_carve_flushed nodes t parent place step new u (Ok x) h s own after committed = one_flushed nodes t parent.id parent.node.value h.carve.node new u (changed nodes t parent place step new u h s own after committed)
+on_carve_flushed nodes t parent place step new u (Err e) h s own after committed = tt
+
+pub on_carve_carved : {T E : Type 0} (nodes : Nodes) (t : Table) (parent : Fetched) (place : ℕ) (step : Step) (new : Nodes) (u : Table) (r : Result T E) → IsToCarve t parent place step → IsSound nodes t → IsOwn nodes t parent
+    → OnOk r (IsTableAfter t step u) → OnOk r (IsCommitted nodes t step new u) → OnOk r (IsCarvedAt t parent place new u)
+on_carve_carved nodes t parent place step new u (Ok x) h s own after committed =
+    let done = changed nodes t parent place step new u h s own after committed in
+    let next : u.next ≡ t.next + 0 = done.after.next in
+    record {
+      node = h.carve.node;
+      carved = h.carve.carved;
+      parent_is = one_there nodes t parent.id parent.node.value h.carve.node new u done;
+      next = omega arith;
+    }
+on_carve_carved nodes t parent place step new u (Err e) h s own after committed = tt
+
+pub on_carve_table : {T E : Type 0} (t : Table) (parent : Fetched) (place : ℕ) (step : Step) (u : Table) (r : Result T E) → IsToCarve t parent place step → OnOk r (IsTableAfter t step u) → OnOk r (IsNoHigher t u)
+on_carve_table t parent place step u (Ok x) h after =
+    one_no_higher t parent.id h.carve.node u (change t parent place step h) (subst (λ (q : Step). IsTableAfter t q u) h.carve.is after)
+    (λ root. let is : buffer_size parent.node.value ≡ t.size = h.can.parent_is.root root in
+    let less : buffer_size h.carve.node ≤ buffer_size parent.node.value = carved_size parent.node.value h.carve.carved.index h.carve.node h.carve.carved.carved in omega arith)
+on_carve_table t parent place step u (Err e) h after = tt
+
+pub carve_worn : {T : Type 0} (before now : ℕ) (bad : ℕ → Type 0) (t : Table) (parent : Fetched) (place : ℕ) (step : Step) (r : Result T MapFault) → IsToCarve t parent place step → HasMapCause before now bad (IsWornBy t step) r → HasMapCause before now bad (IsWornFor t) r
+carve_worn before now bad t parent place step r h cause =
+    cause_weaker before now bad (IsWornBy t step) (IsWornFor t)
+    (λ counter worn. one_worn t parent.id h.carve.node (change t parent place step h) counter (subst (λ (q : Step). IsWornBy t q counter) h.carve.is worn)) r cause
+
+pub carve_visits : {T E : Type 0} (t : Table) (parent : Fetched) (place : ℕ) (step : Step) (before now : ℕ) (r : Result T E) → IsToCarve t parent place step → OnOk r (now ≡ visited before (length step.made)) → (OnErr r (now ≡ before)) → now ≤ before
+carve_visits t parent place step before now (Ok x) h is err =
+    let none : length step.made ≡ 0 = ap (λ (q : Step). length q.made) h.carve.is in
+    let counted : now ≡ visited before 0 = is ∙ ap (λ (i : ℕ). visited before i) none in
+    omega arith
+carve_visits t parent place step before now (Err e) h is err = omega (arith, err)
+
+-- ---- the edge
+
+-- what is asked of the edge at a place
+pub waits_at : (t : Table) (parent : Fetched) (place : ℕ) → (can : CanCarve t parent place) → (P : Edge → Type 0) → P can.edge → (e : Edge) → slice_get (edges_of parent.node.value) place ≡ Some e → P e
+waits_at t parent place can P h e here = subst P (same_Some can.edge e (sym can.here ∙ here)) h
+
+pub place_within : (t : Table) (parent : Fetched) (place : ℕ) → CanCarve t parent place → place < length (edges_of parent.node.value)
+place_within t parent place can = slice_get_within (edges_of parent.node.value) place can.edge can.here

@@ -1,0 +1,335 @@
+-- Overlay nodes over the end of a way.
+use Rattle.std.proofs.Common.{◌≡◌, ℕ, zero, suc, ◌+◌, ◌<◌, ◌≤◌, ◌^◌, max, List, [], ◌∷◌, ◌++◌, length, take, drop, get_or, ◌-◌, Bool, false, refl, sym, ap, subst, ◌∙◌, Option, None, Some, inl, inr, ◌⊎◌, arith, length-append}
+use Rattle.std.specs.Prelude.{slice_get}
+use Rattle.std.specs.Option.{is_some}
+use Rattle.std.specs.List.{AllByRecursion, flat_map, sum_by}
+use Rattle.std.proofs.lemmas.Option.{same_Some, none-some}
+use Rattle.std.proofs.lemmas.List.{take_all}
+use Rattle.std.proofs.lemmas.List.Sums.{sum_by-append}
+use Rattle.std.proofs.Math.Nat.{le-max_left, le-max_right, max-le}
+use Rattle.bd_limits.specs.Limits.{buffer_limit, level_limit}
+use Rattle.bd_keys.specs.Keys.{IsAtLeast}
+use Rattle.bd_message.specs.declared.message.Message.{Message}
+use Rattle.bd_message.specs.Messages.{IsMessage, size}
+use Rattle.bd_message.specs.Effect.{NodesAt, acts}
+use Rattle.bd_message.proofs.Finds.{not_both}
+use Rattle.bd_node.specs.declared.node.Node.{Node}
+use Rattle.bd_node.specs.Nodes.{level_of, names, times, message_names, node_at}
+use Rattle.bd_node.specs.Shape.{IsEdge, IsShape}
+use Rattle.bd_node.specs.Tables.{Table, IsTable, IsLower}
+use Rattle.bd_node.proofs.Lookup.{each_weaker, each_both, count-cons_same}
+use Rattle.bd_node.proofs.Appending.{acts-append, key_of, key_of-touched}
+use Rattle.bd_inner.proofs.Touched.{least_nil}
+use Rattle.bd_resolve.specs.declared.following.Target.{Target}
+use Rattle.bd_resolve.specs.Following.{target_at, IsLowerTarget, IsShort}
+use Rattle.bd_graft.specs.declared.layers.Layer.{Layer}
+use Rattle.bd_graft.specs.declared.packing.Stack.{Stack}
+use Rattle.bd_graft.specs.declared.packing.Packed.{Packed}
+use Rattle.bd_graft.specs.Laying.{above, laid, IsLayer, AreLayers}
+use Rattle.bd_graft.specs.Packing.{edge_over, overlay, target_names, HasMade, IsUnder, AreOverlays, IsOver, IsStackOf, IsStack, IsPacked, IsClosed, IsJoined, IsLaidOn, IsEnded, IsFinished, IsBegun, level_over}
+use Rattle.bd_graft.specs.Packing.IsLaidOn.{fit, new}
+use Rattle.bd_graft.specs.Packing.IsFinished.{as_it_is, made_too}
+use Rattle.bd_graft.proofs.Freeing.{names_both}
+
+-- ---- one element more
+
+pub get_first : {A : Type 0} (xs ys : List A) (i : ℕ) (x : A) → slice_get xs i ≡ Some x → slice_get (xs ++ ys) i ≡ Some x
+get_first [] ys i x there = absurd (none-some x there)
+get_first (y ∷ xs) ys zero x there = there
+get_first (y ∷ xs) ys (suc i) x there = get_first xs ys i x there
+
+pub get_last : {A : Type 0} (xs : List A) (x : A) → slice_get (xs ++ x ∷ []) (length xs) ≡ Some x
+get_last [] x = refl
+get_last (y ∷ xs) x = get_last xs x
+
+pub get_cases : {A : Type 0} (xs : List A) (x : A) (i : ℕ) (y : A) → slice_get (xs ++ x ∷ []) i ≡ Some y → (slice_get xs i ≡ Some y) ⊎ ((i ≡ length xs) × (x ≡ y))
+get_cases [] x zero y there = inr (refl, same_Some x y there)
+get_cases [] x (suc i) y there = absurd (none-some y there)
+get_cases (z ∷ xs) x zero y there = inl there
+get_cases (z ∷ xs) x (suc i) y there = elim (get_cases xs x i y there) [
+  | inl before ↦ inl before
+  | inr last ↦ inr ((let e : i ≡ length xs = last.0 in omega arith), last.1)
+]
+
+-- ---- levels
+
+pub lower_more : (t : Table) (low high : ℕ) → low ≤ high → (ns : List ℕ) → AllByRecursion (IsLower t low) ns → AllByRecursion (IsLower t high) ns
+lower_more t low high le ns h = each_weaker (IsLower t low) (IsLower t high) (λ c own. record { kept = own.kept; lower = (let l : t.level c < low = own.lower in omega arith) }) ns h
+
+pub under_more : (t : Table) (made more : List Node) (place later low high : ℕ) → place ≤ later → low ≤ high → (ns : List ℕ) → AllByRecursion (IsUnder t made place low) ns → AllByRecursion (IsUnder t (made ++ more) later high) ns
+under_more t made more place later low high le higher ns h =
+    each_weaker (IsUnder t made place low) (IsUnder t (made ++ more) later high)
+    (λ c own. elim own [
+      | inl old ↦ inl (record { kept = old.kept; lower = (let l : t.level c < low = old.lower in omega arith) })
+      | inr older ↦ inr (record { at = older.at; node = older.node; id = older.id; before = (let b : older.at < place = older.before in omega arith); there = get_first made more older.at older.node older.there; lower = (let l : level_of older.node < low = older.lower in omega arith) })
+    ]) ns h
+
+-- each is below the level above them
+pub below_above : (level : ℕ → ℕ) (ns : List ℕ) → AllByRecursion (λ c. level c < above level ns) ns
+below_above level [] = tt
+below_above level (c ∷ cs) = (
+  omega (arith, le-max_left (level c + 1) (above level cs)),
+  each_weaker (λ d. level d < above level cs) (λ d. level d < above level (c ∷ cs)) (λ d less. (let l : level d < above level cs = less in omega (arith, le-max_right (level c + 1) (above level cs)))) cs (below_above level cs),
+)
+
+kept_lower : (t : Table) (level most : ℕ) (ns : List ℕ) → AllByRecursion (IsLower t level) ns → AllByRecursion (λ c. t.level c < most) ns → AllByRecursion (IsLower t most) ns
+kept_lower t level most [] h g = tt
+kept_lower t level most (c ∷ cs) h g = (record { kept = h.0.kept; lower = g.0 }, kept_lower t level most cs h.1 g.1)
+
+pub layer_lower : (t : Table) (l : Layer) → IsLayer t l → AllByRecursion (IsLower t l.over) (flat_map message_names l.messages)
+layer_lower t l own =
+    kept_lower t l.level l.over (flat_map message_names l.messages) own.lower
+    (subst (λ (n : ℕ). AllByRecursion (λ c. t.level c < n) (flat_map message_names l.messages)) (sym own.over) (below_above t.level (flat_map message_names l.messages)))
+
+-- ---- a node over a target
+
+pub overlay_has : (has : NodesAt) (level : ℕ) (under : Option Target) (list : List Message) (k : List ℕ) → node_at has (overlay level under list) k ≡ acts has list k (target_at has under k)
+overlay_has has level None list k = refl
+overlay_has has level (Some target) list k = refl
+
+pub overlay_names : (P : ℕ → Type 0) (level : ℕ) (under : Option Target) (list : List Message) → AllByRecursion P (target_names under) → AllByRecursion P (flat_map message_names list) → AllByRecursion P (names (overlay level under list))
+overlay_names P level None list h g = g
+overlay_names P level (Some target) list h g = (h.0, g)
+
+edge_of_over : (under : Option Target) → IsShort under → AllByRecursion (λ c. (1 ≤ c) × (c < 2 ^ 64)) (target_names under) → (n : ℕ) → IsEdge n (edge_over under) None
+edge_of_over None short child n = record { pivot = omega arith; rising = tt; lift = omega arith; common = λ k key range. refl; source = omega arith; child = refl; seen = omega arith }
+edge_of_over (Some target) short child n = record { pivot = omega arith; rising = tt; lift = omega arith; common = λ k key range. refl; source = short; child = child.0; seen = omega arith }
+
+pivot_of_over : (under : Option Target) → (edge_over under).pivot ≡ []
+pivot_of_over None = refl
+pivot_of_over (Some target) = refl
+
+seen_of_over : (under : Option Target) → (edge_over under).seen ≡ 0
+seen_of_over None = refl
+seen_of_over (Some target) = refl
+
+pub overlay_shape : (level : ℕ) (under : Option Target) (list : List Message) → 1 ≤ level → level ≤ level_limit → IsShort under → AllByRecursion (λ c. (1 ≤ c) × (c < 2 ^ 64)) (target_names under) → AllByRecursion IsMessage list → sum_by size list ≤ buffer_limit → IsShape (overlay level under list)
+overlay_shape level under list low high short child each fits = record {
+  low = low;
+  high = high;
+  few = omega arith;
+  first = ap (λ (p : List ℕ). Some p) (pivot_of_over under);
+  each = (edge_of_over under short child (length list), tt);
+  messages = each;
+  size = fits;
+  pending = λ place m there. inl ((let z : (edge_over under).seen ≡ 0 = seen_of_over under in omega arith), (key_of m, (subst (λ (p : List ℕ). IsAtLeast (key_of m) p) (sym (pivot_of_over under)) (least_nil (key_of m)), tt), key_of-touched m));
+}
+
+-- ids of nodes
+id_range : (t : Table) (made : List Node) (level : ℕ) → IsTable t → t.next + length made < 2 ^ 64 → (ns : List ℕ) → AllByRecursion (IsUnder t made (length made) level) ns → AllByRecursion (λ c. (1 ≤ c) × (c < 2 ^ 64)) ns
+id_range t made level table room ns h =
+    each_weaker (IsUnder t made (length made) level) (λ c. (1 ≤ c) × (c < 2 ^ 64))
+    (λ c own. elim own [
+      | inl old ↦ (table.low c old.kept, (let b : c < t.next = table.below c old.kept in omega arith))
+      | inr older ↦ (let root : 1 ≤ t.root = table.low t.root table.root in let below : t.root < t.next = table.below t.root table.root in let e : c ≡ t.next + older.at = older.id in let b : older.at < length made = older.before in (omega arith, omega arith))
+    ]) ns h
+
+-- ---- stacks
+
+pub restack : (t : Table) (end : Option Target) (done : List Message) (made made2 : List Node) (under under2 : Option Target) (waiting waiting2 : List Message) (bytes bytes2 top top2 : ℕ)
+    → made2 ≡ made → under2 ≡ under → waiting2 ≡ waiting → bytes2 ≡ bytes → top2 ≡ top → IsStackOf t end done made under waiting bytes top → IsStackOf t end done made2 under2 waiting2 bytes2 top2
+restack t end done made made2 under under2 waiting waiting2 bytes bytes2 top top2 e1 e2 e3 e4 e5 h =
+    subst (λ (x : List Node). IsStackOf t end done x under2 waiting2 bytes2 top2) (sym e1)
+    (subst (λ (x : Option Target). IsStackOf t end done made x waiting2 bytes2 top2) (sym e2)
+    (subst (λ (x : List Message). IsStackOf t end done made under x bytes2 top2) (sym e3)
+    (subst (λ (x : ℕ). IsStackOf t end done made under waiting x top2) (sym e4)
+    (subst (λ (x : ℕ). IsStackOf t end done made under waiting bytes x) (sym e5) h))))
+
+none_made : (t : Table) → AreOverlays t []
+none_made t = record { shape = λ place n there. absurd (none-some n there); lower = λ place n there. absurd (none-some n there); used = λ place n there. absurd (none-some n there) }
+
+end_under : (t : Table) (high : ℕ) (end : Option Target) → IsLowerTarget t high end → AllByRecursion (IsUnder t [] 0 (above t.level (target_names end))) (target_names end)
+end_under t high None h = tt
+end_under t high (Some target) h = (inl (record { kept = h.kept; lower = omega (arith, le-max_left (t.level target.child + 1) 0) }), tt)
+
+zero_suc : (n : ℕ) → 0 ≡ suc n → ⊥
+zero_suc n e = omega arith
+
+pub begun_of : (t : Table) (high : ℕ) (end : Option Target) → IsLowerTarget t high end → IsShort end → IsStackOf t end [] [] end [] 0 (above t.level (target_names end))
+begun_of t high end lower short = record {
+  overlays = none_made t;
+  over = record { lower = end_under t high end lower; short = short; last = λ place e. absurd (zero_suc place e) };
+  each = tt;
+  counted = refl;
+  fits = omega arith;
+  lower = tt;
+  meaning = λ has made k key. refl;
+}
+
+no_more : (t : Table) (made : List Node) (level high : ℕ) → level ≤ high → (ns : List ℕ) → AllByRecursion (IsUnder t made (length made) level) ns → AllByRecursion (IsUnder t made (length made) high) ns
+no_more t made level high le ns h = each_weaker (IsUnder t made (length made) level) (IsUnder t made (length made) high)
+    (λ c own. elim own [
+      | inl old ↦ inl (record { kept = old.kept; lower = (let l : t.level c < level = old.lower in omega arith) })
+      | inr older ↦ inr (record { at = older.at; node = older.node; id = older.id; before = older.before; there = older.there; lower = (let l : level_of older.node < level = older.lower in omega arith) })
+    ]) ns h
+
+pub joined_of : (t : Table) (end : Option Target) (done : List Message) (made : List Node) (under : Option Target) (waiting : List Message) (bytes top : ℕ) (l : Layer) → IsStackOf t end done made under waiting bytes top → IsLayer t l → bytes + sum_by size l.messages ≤ buffer_limit
+    → IsStackOf t end (done ++ l.messages) made under (waiting ++ l.messages) (bytes + sum_by size l.messages) (max top l.over)
+joined_of t end done made under waiting bytes top l h own fits = record {
+  overlays = h.overlays;
+  over = record { lower = no_more t made top (max top l.over) (le-max_left top l.over) (target_names under) h.over.lower; short = h.over.short; last = h.over.last };
+  each = each_both IsMessage waiting l.messages h.each own.each;
+  counted = omega (arith, h.counted, sum_by-append size waiting l.messages);
+  fits = fits;
+  lower = names_both (IsLower t (max top l.over)) waiting l.messages (lower_more t top (max top l.over) (le-max_left top l.over) (flat_map message_names waiting) h.lower)
+      (lower_more t l.over (max top l.over) (le-max_right top l.over) (flat_map message_names l.messages) (layer_lower t l own));
+  meaning = λ has made_has k key.
+      acts-append has waiting l.messages k (target_at has under k)
+      ∙ ap (λ v. acts has l.messages k v) (h.meaning has made_has k key)
+      ∙ sym (acts-append has done l.messages k (target_at has end k));
+}
+
+-- the last made node is what is named
+last_named : (t : Table) (made : List Node) (place : ℕ) (n : Node) (level top : ℕ) (under : Option Target) (waiting : List Message) → IsOver t made top under → suc place ≡ length made → 1 ≤ times (overlay level under waiting) (t.next + place)
+last_named t made place n level top under waiting over last =
+    subst (λ (u : Option Target). 1 ≤ times (overlay level u waiting) (t.next + place)) (sym (over.last place (sym last)))
+    (omega (arith, count-cons_same (t.next + place) (flat_map message_names waiting)))
+
+pub closed_of : (t : Table) (end : Option Target) (done : List Message) (made : List Node) (under : Option Target) (waiting : List Message) (bytes top : ℕ) → IsTable t → t.next + length made < 2 ^ 64 → top ≤ level_limit → IsStackOf t end done made under waiting bytes top
+    → IsStackOf t end done (made ++ overlay (max top 1) under waiting ∷ []) (Some (record { child = t.next + length made; source = [] })) [] 0 (max top 1 + 1)
+closed_of t end done made under waiting bytes top table room high h =
+    let hat : Node = overlay (max top 1) under waiting in
+    let level : max top 1 ≤ level_limit = max-le high (omega arith) in
+    let names_under : AllByRecursion (IsUnder t made (length made) (max top 1)) (names hat) =
+    overlay_names (IsUnder t made (length made) (max top 1)) (max top 1) under waiting (no_more t made top (max top 1) (le-max_left top 1) (target_names under) h.over.lower)
+    (each_weaker (IsLower t (max top 1)) (IsUnder t made (length made) (max top 1)) (λ c own. inl own) (flat_map message_names waiting) (lower_more t top (max top 1) (le-max_left top 1) (flat_map message_names waiting) h.lower)) in
+    let shape : IsShape hat = overlay_shape (max top 1) under waiting (le-max_right top 1) level h.over.short (id_range t made top table room (target_names under) h.over.lower) h.each (let c : bytes ≡ sum_by size waiting = h.counted in let f : bytes ≤ buffer_limit = h.fits in omega arith) in
+    let long : length (made ++ hat ∷ []) ≡ length made + 1 = length-append made (hat ∷ []) in
+    record {
+      overlays = record {
+        shape = λ place n there. elim (get_cases made hat place n there) [
+          | inl before ↦ h.overlays.shape place n before
+          | inr last ↦ subst (λ (m : Node). IsShape m) last.1 shape
+        ];
+        lower = λ place n there. elim (get_cases made hat place n there) [
+          | inl before ↦ under_more t made (hat ∷ []) place place (level_of n) (level_of n) (omega arith) (omega arith) (names n) (h.overlays.lower place n before)
+          | inr last ↦ subst (λ (m : Node). AllByRecursion (IsUnder t (made ++ hat ∷ []) place (level_of m)) (names m)) last.1
+              (under_more t made (hat ∷ []) (length made) place (max top 1) (max top 1) (let e : place ≡ length made = last.0 in omega arith) (omega arith) (names hat) names_under)
+        ];
+        used = λ place n there. elim (get_cases made hat (suc place) n there) [
+          | inl before ↦ h.overlays.used place n before
+          | inr last ↦ subst (λ (m : Node). 1 ≤ times m (t.next + place)) last.1 (last_named t made place n (max top 1) top under waiting h.over last.0)
+        ];
+      };
+      over = record {
+        lower = (inr (record { at = length made; node = hat; id = refl; before = omega (arith, long); there = get_last made hat; lower = omega arith }), tt);
+        short = omega arith;
+        last = λ place e. ap (λ (p : ℕ). Some (record { child = t.next + p; source = [] })) (let p : length made ≡ place = omega (arith, long, e) in p);
+      };
+      each = tt;
+      counted = refl;
+      fits = omega arith;
+      lower = tt;
+      meaning = λ has made_has k key.
+          made_has (length made) hat (get_last made hat) k key
+          ∙ overlay_has has (max top 1) under waiting k
+          ∙ h.meaning has (λ place n there l more. made_has place n (get_first made (hat ∷ []) place n there) l more) k key;
+    }
+
+-- ---- layer by layer
+
+above_most : (level : ℕ → ℕ) (most : ℕ) (ns : List ℕ) → AllByRecursion (λ c. level c < most) ns → above level ns ≤ most
+above_most level most [] h = omega arith
+above_most level most (c ∷ cs) h = max-le (let l : level c < most = h.0 in omega arith) (above_most level most cs h.1)
+
+over_low : (t : Table) (l : Layer) → IsLayer t l → l.over ≤ l.level
+over_low t l own =
+    let a : above t.level (flat_map message_names l.messages) ≤ l.level = above_most t.level l.level (flat_map message_names l.messages) (each_weaker (IsLower t l.level) (λ c. t.level c < l.level) (λ c lower. lower.lower) (flat_map message_names l.messages) own.lower) in
+    omega (arith, own.over, a)
+
+end_low : (t : Table) (high : ℕ) (end : Option Target) → IsLowerTarget t high end → above t.level (target_names end) ≤ high
+end_low t high None h = omega arith
+end_low t high (Some target) h = max-le (let l : t.level target.child < high = h.lower in omega arith) (omega arith)
+
+over_next : (t : Table) (high : ℕ) (ls : List Layer) (end : Option Target) → AreLayers t high ls end → level_over t ls end ≤ high
+over_next t high [] end h = end_low t high end h
+over_next t high (l ∷ ls) end h = (let low : l.level < high = h.1 in omega arith)
+
+abbrev pub tail_of : List Layer → List Layer
+tail_of ls = take (length ls - 1) (drop 1 ls)
+
+tail_is : (l : Layer) (ls : List Layer) → tail_of (l ∷ ls) ≡ ls
+tail_is l ls = take_all (length (l ∷ ls) - 1) ls (omega arith)
+
+-- what the stack of the older layers is
+pub record IsBefore (t : Table) (end : Option Target) (ls : List Layer) (a : Stack) : Type 0 where
+  pub stack : IsStack t end (laid ls) a
+  pub low : a.level ≤ level_over t ls end
+  pub few : length a.made.items ≤ length ls
+  pub begun : length ls ≡ 0 → IsBegun end a
+
+joined_more : (t : Table) (end : Option Target) (done : List Message) (l : Layer) (a s : Stack) → IsLayer t l → IsStack t end done a → a.size + sum_by size l.messages ≤ buffer_limit → IsJoined a l s → IsStack t end (done ++ l.messages) s
+joined_more t end done l a s own h fits joined =
+    restack t end (done ++ l.messages) a.made.items s.made.items a.under s.under (a.waiting.items ++ l.messages) s.waiting.items (a.size + sum_by size l.messages) s.size (max a.level l.over) s.level
+    joined.made joined.under joined.waiting joined.size joined.level (joined_of t end done a.made.items a.under a.waiting.items a.size a.level l h own fits)
+
+closed_more : (t : Table) (end : Option Target) (done : List Message) (next : ℕ) (a b : Stack) → IsTable t → next ≡ t.next → t.next + length a.made.items < 2 ^ 64 → a.level ≤ level_limit → IsStack t end done a → IsClosed next a b → IsStack t end done b
+closed_more t end done next a b table is room low h closed =
+    restack t end done (a.made.items ++ overlay (max a.level 1) a.under a.waiting.items ∷ []) b.made.items (Some (record { child = t.next + length a.made.items; source = [] })) b.under [] b.waiting.items 0 b.size (max a.level 1 + 1) b.level
+    closed.made (closed.under ∙ ap (λ (n : ℕ). Some (record { child = n + length a.made.items; source = [] })) is) closed.waiting closed.size closed.level
+    (closed_of t end done a.made.items a.under a.waiting.items a.size a.level table room low h)
+
+not_begun_at : (t : Table) (end : Option Target) (ls : List Layer) (a : Stack) → IsBefore t end ls a → 1 ≤ a.size → (high : ℕ) → AreLayers t high ls end → max a.level 1 + 1 ≤ high
+not_begun_at t end [] a h some high lower = absurd (let z : a.size ≡ 0 = (h.begun refl).2 in omega arith)
+not_begun_at t end (l ∷ ls) a h some high lower =
+    let one : 1 ≤ l.level = lower.0 in
+    let less : l.level < high = lower.1 in
+    let most : max a.level 1 ≤ l.level = max-le h.low one in
+    omega arith
+
+laid_more_on : (t : Table) (end : Option Target) (next : ℕ) (l : Layer) (ls : List Layer) (a s : Stack) → IsTable t → next ≡ t.next → t.next + (length ls + 1) + 1 < 2 ^ 64 → AreLayers t (level_limit + 1) (l ∷ ls) end → IsBefore t end ls a → IsLaidOn next a l s
+    → IsStack t end (laid (l ∷ ls)) s × (s.level ≤ l.level)
+laid_more_on t end next l ls a s table is room layers h (fit fits joined) =
+    let low : a.level ≤ level_over t ls end = h.low in
+    let over : level_over t ls end ≤ l.level = over_next t l.level ls end layers.3 in (
+      joined_more t end (laid ls) l a s layers.2 h.stack fits joined,
+      (let m : max a.level l.over ≤ l.level = max-le (omega arith) (over_low t l layers.2) in omega (arith, joined.level, m)),
+    )
+laid_more_on t end next l ls a s table is room layers h (new b full closed joined) =
+    let low : a.level ≤ level_over t ls end = h.low in
+    let over : level_over t ls end ≤ l.level = over_next t l.level ls end layers.3 in
+    let high : l.level < level_limit + 1 = layers.1 in
+    let few : length a.made.items ≤ length ls = h.few in
+    let own : sum_by size l.messages ≤ buffer_limit = layers.2.fits in
+    let raised : max a.level 1 + 1 ≤ l.level = not_begun_at t end ls a h (omega arith) l.level layers.3 in
+    let size_is : b.size ≡ 0 = closed.size in (
+      joined_more t end (laid ls) l b s layers.2 (closed_more t end (laid ls) next a b table is (omega arith) (omega arith) h.stack closed) (omega arith) joined,
+      (let m : max b.level l.over ≤ l.level = max-le (omega (arith, closed.level, raised)) (over_low t l layers.2) in omega (arith, joined.level, m)),
+    )
+
+pub stack_more : (t : Table) (end : Option Target) (next : ℕ) (ls : List Layer) (l : Layer) (a s : Stack) → IsTable t → next ≡ t.next → t.next + length ls + 1 < 2 ^ 64 → AreLayers t (level_limit + 1) ls end → 1 ≤ length ls → l ≡ get_or ls 0 l → IsBefore t end (tail_of ls) a → IsLaidOn next a l s
+    → IsStack t end (laid ls) s × (s.level ≤ level_over t ls end)
+stack_more t end next [] l a s table is room layers some at before on = absurd (omega arith)
+stack_more t end next (h ∷ ls) l a s table is room layers some at before on =
+    laid_more_on t end next h ls a s table is (omega arith) layers (subst (λ (x : List Layer). IsBefore t end x a) (tail_is h ls) before) (subst (λ (x : Layer). IsLaidOn next a x s) at on)
+
+-- ---- all made
+
+ended_of : (t : Table) (end : Option Target) (done : List Message) (s : Stack) (p : Packed) → IsStack t end done s → s.waiting.items ≡ [] → IsEnded s p → IsPacked t end done p
+ended_of t end done s p h none ended = record {
+  overlays = subst (λ (ns : List Node). AreOverlays t ns) (sym ended.made) h.overlays;
+  over = subst (λ (ns : List Node). IsOver t ns (p.level + 1) (Some p.target)) (sym ended.made)
+      (subst (λ (o : Option Target). IsOver t s.made.items (p.level + 1) o) ended.target (subst (λ (n : ℕ). IsOver t s.made.items n s.under) ended.level h.over));
+  meaning = λ has made k key.
+      ap (λ (o : Option Target). target_at has o k) (sym ended.target)
+      ∙ ap (λ (ms : List Message). acts has ms k (target_at has s.under k)) (sym none)
+      ∙ h.meaning has (subst (λ (ns : List Node). HasMade has t.next ns) ended.made made) k key;
+}
+
+first_low : (t : Table) (end : Option Target) (ls : List Layer) (a : Stack) → AreLayers t (level_limit + 1) ls end → IsBefore t end ls a → (a.waiting.items ≡ [] → a.under ≡ None) → a.level ≤ level_limit
+first_low t end [] a layers h none =
+    let begun : IsBegun end a = h.begun refl in
+    let nothing : end ≡ None = sym begun.1 ∙ none begun.0 in
+    let zero_level : level_over t [] end ≡ 0 = ap (λ (o : Option Target). above t.level (target_names o)) nothing in
+    omega (arith, h.low, zero_level)
+first_low t end (l ∷ ls) a layers h none = (let low : a.level ≤ l.level = h.low in let high : l.level < level_limit + 1 = layers.1 in omega arith)
+
+pub packed_of : (t : Table) (end : Option Target) (next : ℕ) (ls : List Layer) (a : Stack) (p : Packed) → IsTable t → next ≡ t.next → t.next + length ls + 1 < 2 ^ 64 → AreLayers t (level_limit + 1) ls end → IsBefore t end ls a → IsFinished next a p → IsPacked t end (laid ls) p
+packed_of t end next ls a p table is room layers h (as_it_is none ended) = ended_of t end (laid ls) a p h.stack none ended
+packed_of t end next ls a p table is room layers h (made_too b none closed ended) =
+    let few : length a.made.items ≤ length ls = h.few in
+    ended_of t end (laid ls) b p (closed_more t end (laid ls) next a b table is (omega arith) (first_low t end ls a layers h none) h.stack closed) closed.waiting ended
+
+pub not_some : (o : Option Target) (b : Bool) → b ≡ is_some o → b ≡ false → o ≡ None
+not_some None b is not = refl
+not_some (Some target) b is not = absurd (not_both is not)

@@ -1,0 +1,145 @@
+-- Overlay nodes, which have the messages of layers over the end of a way.
+use Rattle.std.specs.Prelude.{◌≡◌, ℕ, suc, ◌+◌, ◌<◌, ◌≤◌, ◌⊎◌, max, List, [], ◌∷◌, ◌++◌, length, Option, None, Some, slice_get}
+use Rattle.std.specs.List.{AllByRecursion, flat_map, sum_by}
+use Rattle.bd_limits.specs.Limits.{buffer_limit}
+use Rattle.bd_keys.specs.Keys.{IsKey}
+use Rattle.bd_message.specs.declared.message.Message.{Message}
+use Rattle.bd_message.specs.Messages.{IsMessage, size}
+use Rattle.bd_message.specs.Effect.{NodesAt, acts}
+use Rattle.bd_node.specs.declared.node.Edge.{Edge}
+use Rattle.bd_node.specs.declared.node.Node.{Node}
+use Rattle.bd_node.specs.declared.node.Node.TheVariants.{Inner}
+use Rattle.bd_node.specs.Nodes.{level_of, names, times, message_names, node_at}
+use Rattle.bd_node.specs.Shape.{IsShape}
+use Rattle.bd_node.specs.Tables.{Table, IsLower}
+use Rattle.bd_resolve.specs.declared.following.Target.{Target}
+use Rattle.bd_resolve.specs.Following.{target_at, target_level, IsShort}
+use Rattle.bd_graft.specs.declared.layers.Layer.{Layer}
+use Rattle.bd_graft.specs.declared.packing.Stack.{Stack}
+use Rattle.bd_graft.specs.declared.packing.Packed.{Packed}
+use Rattle.bd_graft.specs.Laying.{above}
+
+-- ---- a node over a target
+
+-- an edge with all keys, to a target or to nothing
+abbrev pub edge_over : Option Target → Edge
+edge_over None = record { pivot = []; lift = 0; source = []; child = None; seen = 0 }
+edge_over (Some target) =
+    record { pivot = []; lift = 0; source = target.source; child = Some target.child; seen = 0 }
+
+-- a node with messages over a target
+abbrev pub overlay : ℕ → Option Target → List Message → Node
+overlay level under list = Inner level (edge_over under ∷ []) list
+
+-- the node that a target names
+abbrev pub target_names : Option Target → List ℕ
+target_names None = []
+target_names (Some target) = target.child ∷ []
+
+-- ---- nodes over one another
+
+-- the made nodes have at their ids, from one on, what their contents say
+abbrev pub HasMade : NodesAt → ℕ → List Node → Type 0
+HasMade has next made = (place : ℕ) (n : Node) → slice_get made place ≡ Some n → (k : List ℕ)
+    → IsKey k → has (next + place) k ≡ node_at has n k
+
+-- one of the nodes made before a place, of a lower level
+pub record IsMadeBefore (next : ℕ) (made : List Node) (place level c : ℕ) : Type 0 where
+  pub at : ℕ
+  pub node : Node
+  pub id : c ≡ next + at
+  pub before : at < place
+  pub there : slice_get made at ≡ Some node
+  pub lower : level_of node < level
+
+-- a node may name it: a kept one or one made before, of a lower level
+abbrev pub IsUnder : Table → List Node → ℕ → ℕ → ℕ → Type 0
+IsUnder t made place level c = IsLower t level c ⊎ IsMadeBefore t.next made place level c
+
+-- well-formed nodes, made from the next id on, each named by the one after it
+pub record AreOverlays (t : Table) (made : List Node) : Type 0 where
+  pub shape : (place : ℕ) (n : Node) → slice_get made place ≡ Some n → IsShape n
+  pub lower : (place : ℕ) (n : Node) → slice_get made place ≡ Some n
+      → AllByRecursion (IsUnder t made place (level_of n)) (names n)
+  pub used : (place : ℕ) (n : Node) → slice_get made (suc place) ≡ Some n
+      → 1 ≤ times n (t.next + place)
+
+-- a target that is below a level, the last made node where there is one
+pub record IsOver (t : Table) (made : List Node) (level : ℕ) (target : Option Target) : Type 0 where
+  pub lower : AllByRecursion (IsUnder t made (length made) level) (target_names target)
+  pub short : IsShort target
+  pub last : (place : ℕ) → length made ≡ suc place
+      → target ≡ Some (record { child = t.next + place; source = [] })
+
+-- overlay nodes with these messages over the end of a way, and one that is still open
+pub record IsStackOf (t : Table) (end : Option Target) (done : List Message) (made : List Node)
+    (under : Option Target) (waiting : List Message) (bytes top : ℕ) : Type 0 where
+  pub overlays : AreOverlays t made
+  pub over : IsOver t made top under
+  pub each : AllByRecursion IsMessage waiting
+  pub counted : bytes ≡ sum_by size waiting
+  pub fits : bytes ≤ buffer_limit
+  pub lower : AllByRecursion (IsLower t top) (flat_map message_names waiting)
+  pub meaning : (has : NodesAt) → HasMade has t.next made → (k : List ℕ) → IsKey k
+      → acts has waiting k (target_at has under k) ≡ acts has done k (target_at has end k)
+
+abbrev pub IsStack : Table → Option Target → List Message → Stack → Type 0
+IsStack t end done s =
+    IsStackOf t end done s.made.items s.under s.waiting.items s.size s.level
+
+-- the same, all made
+pub record IsPacked (t : Table) (end : Option Target) (done : List Message) (p : Packed) : Type 0
+  where
+    pub overlays : AreOverlays t p.made.items
+    pub over : IsOver t p.made.items (p.level + 1) (Some p.target)
+    pub meaning : (has : NodesAt) → HasMade has t.next p.made.items → (k : List ℕ) → IsKey k
+        → target_at has (Some p.target) k ≡ acts has done k (target_at has end k)
+
+-- the level of the first of these layers, and without one the level above the end
+abbrev pub level_over : Table → List Layer → Option Target → ℕ
+level_over t [] end = above t.level (target_names end)
+level_over t (l ∷ ls) end = l.level
+
+-- the level of the first of these layers, and without one the level of the end
+abbrev pub highest : Table → List Layer → Option Target → ℕ
+highest t [] end = target_level t end
+highest t (l ∷ ls) end = l.level
+
+-- without layers nothing waits over the end
+abbrev pub IsBegun : Option Target → Stack → Type 0
+IsBegun end s = (s.waiting.items ≡ []) × (s.under ≡ end) × (s.size ≡ 0)
+
+-- ---- how they grow
+
+-- the open node is made, and the next one stands over it
+pub record IsClosed (next : ℕ) (a b : Stack) : Type 0 where
+  pub made : b.made.items ≡ a.made.items ++ overlay (max a.level 1) a.under a.waiting.items ∷ []
+  pub under : b.under ≡ Some (record { child = next + length a.made.items; source = [] })
+  pub waiting : b.waiting.items ≡ []
+  pub size : b.size ≡ 0
+  pub level : b.level ≡ max a.level 1 + 1
+
+-- the open node gets the messages of a layer
+pub record IsJoined (a : Stack) (l : Layer) (b : Stack) : Type 0 where
+  pub made : b.made.items ≡ a.made.items
+  pub under : b.under ≡ a.under
+  pub waiting : b.waiting.items ≡ a.waiting.items ++ l.messages
+  pub size : b.size ≡ a.size + sum_by size l.messages
+  pub level : b.level ≡ max a.level l.over
+
+-- the layer's messages go into the open node where they fit, and else into a new one over it
+pub data IsLaidOn (next : ℕ) (a : Stack) (l : Layer) (c : Stack) : Type 0 where
+  fit : a.size + sum_by size l.messages ≤ buffer_limit → IsJoined a l c → IsLaidOn next a l c
+  new : (b : Stack) → buffer_limit < a.size + sum_by size l.messages → IsClosed next a b
+      → IsJoined b l c → IsLaidOn next a l c
+
+-- what the open node is over, where no message waits in it
+pub record IsEnded (s : Stack) (p : Packed) : Type 0 where
+  pub made : p.made.items ≡ s.made.items
+  pub target : s.under ≡ Some p.target
+  pub level : s.level ≡ p.level + 1
+
+-- the open node is made where it has messages or is over nothing
+pub data IsFinished (next : ℕ) (a : Stack) (p : Packed) : Type 0 where
+  as_it_is : a.waiting.items ≡ [] → IsEnded a p → IsFinished next a p
+  made_too : (b : Stack) → (a.waiting.items ≡ [] → a.under ≡ None) → IsClosed next a b → IsEnded b p → IsFinished next a p
