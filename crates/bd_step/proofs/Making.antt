@@ -1,5 +1,5 @@
 -- What the way down finds is enough to make a step.
-use Rattle.std.proofs.Common.{◌≡◌, ℕ, List, ◌<◌, ◌≤◌, sym, ap, subst, ◌∙◌, None, Some, Result, Ok, IfOk, arith, inl, inr}
+use Rattle.std.proofs.Common.{◌≡◌, ℕ, List, reverse, ◌<◌, ◌≤◌, sym, ap, subst, ◌∙◌, None, Some, Result, Ok, IfOk, arith, inl, inr}
 use Rattle.std.specs.List.{AllByRecursion}
 use Rattle.bd_limits.specs.Limits.{soft_limit}
 use Rattle.bd_message.specs.declared.fault.MapFault.{MapFault}
@@ -124,8 +124,10 @@ way_again nodes mid t m step same table sound here =
     (here (subst (λ (f : Nodes). IsSound f t) same (subst (λ (u : Table). IsSound mid u) table sound))))
 
 -- the nodes above are those of the store
-pub way_stands : (nodes : Nodes) (t : Table) (way : List Fetched) → AreThere nodes t way → AllByRecursion (IsContents nodes) way
-way_stands nodes t way h = each_weaker (IsThere nodes t) (λ (f : Fetched). nodes f.id ≡ Some f.node.value) (λ f there. there.there) way h
+pub way_stands : (nodes : Nodes) (t : Table) (way list : List Fetched) → list ≡ way → AreThere nodes t (reverse way) → AllByRecursion (IsContents nodes) (reverse list)
+way_stands nodes t way list same h =
+    subst (λ (l : List Fetched). AllByRecursion (IsContents nodes) (reverse l)) (sym same)
+    (each_weaker (IsThere nodes t) (IsContents nodes) (λ f there. there.there) (reverse way) h)
 
 -- what the way down found in nodes, and what was made of them as it left them
 pub record IsStepMade (nodes mid : Nodes) (t m : Table) (new : Nodes) (u : Table) (step : FlushStep) : Type 0 where

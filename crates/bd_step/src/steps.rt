@@ -9,9 +9,7 @@ ghost use Rattle.bd_flush.specs.Raising.{IsWayUp};
 ghost use Rattle.bd_flush.specs.Ways.{IsToDo, IsToDoAt, AreThere, IsWayOf, IsWayThere};
 ghost use Rattle.bd_step.specs.Steps.{IsMade, IsHighAfter, IsFlushStep, IsOutcome, IsFound, IsFoundAt};
 
-use bd_flush::{
-    Fetched, FlushStep, Way, next_step, push, push_new, split_child, split_root,
-};
+use bd_flush::{Fetched, FlushStep, Way, next_step, push, push_new, split_child, split_root};
 use bd_message::MapFault;
 use bd_node::NodeStore;
 use std::alloc::Global;

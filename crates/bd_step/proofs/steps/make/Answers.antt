@@ -1,4 +1,4 @@
-use Rattle.std.proofs.Common.{subst, reverse}
+use Rattle.std.proofs.Common.{subst}
 use Rattle.bd_flush.specs.declared.ways.FlushStep.{FlushStep}
 use Rattle.bd_flush.specs.Ways.{IsToDo, IsToDoAt, IsWayThere}
 use Rattle.bd_step.proofs.Making.{root_found, way_stands}
@@ -12,7 +12,7 @@ split_root-requires-clause-there g c = λ known sound.
 
 pub split_child-requires-clause-there : goal.split_child-requires-clause-there
 split_child-requires-clause-there g c = λ known sound.
-    way_stands (g.S.NodeStore.nodes c.args.store.now) (g.S.NodeStore.table c.args.store.now) (reverse c.in-SplitChild.above)
+    way_stands (g.S.NodeStore.nodes c.args.store.now) (g.S.NodeStore.table c.args.store.now) c.in-SplitChild.above c.as_slice.result.now c.as_slice.ensures
     (subst (λ (s : FlushStep). IsWayThere (g.S.NodeStore.nodes c.args.store.now) (g.S.NodeStore.table c.args.store.now) s) c.in-SplitChild.is (c.requires.way_here known sound))
 
 pub push_down-requires-clause-way_here : goal.push_down-requires-clause-way_here
