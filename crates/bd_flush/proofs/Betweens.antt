@@ -32,10 +32,10 @@ use Rattle.bd_flush.specs.declared.fetching.Fetched.{Fetched}
 use Rattle.bd_flush.specs.Flushed.{LeadsTo, IsFlushed}
 use Rattle.bd_flush.specs.Flushed.LeadsTo.{itself, through}
 use Rattle.bd_flush.specs.Splits.{over_two}
-use Rattle.bd_flush.specs.Children.{IsWayTo, AreFamily}
+use Rattle.bd_flush.specs.Children.{IsWayTo, AreFamily, IsContents}
 use Rattle.bd_flush.specs.Between.{IsHardlyHigher}
 use Rattle.bd_flush.specs.Paths.{path_step}
-use Rattle.bd_flush.specs.Raising.{Stand, raised, raise, IsWayUp, IsRising, CannotRise, IsRaisedOver}
+use Rattle.bd_flush.specs.Raising.{raised, raise, IsWayUp, IsRising, CannotRise, IsRaisedOver}
 use Rattle.bd_flush.specs.Raising.CannotRise.{here, further}
 use Rattle.bd_flush.specs.Raising.IsRising.{at_top, high_enough, rises}
 use Rattle.bd_flush.specs.Raising.IsRaisedOver.{is_above, rises_too}
@@ -273,7 +273,7 @@ pub record IsToPutBetweenOf (nodes : Nodes) (t : Table) (way : List Fetched) (pa
   pub of : IsToPutBetween t way parent place child first pivot second node rising
   pub sound : IsSound nodes t
   pub family : AreFamily nodes t parent child
-  pub contents : Stand nodes way
+  pub contents : AllByRecursion (IsContents nodes) way
 
 rising_given : (t : Table) (step : Step) (x level : ℕ) (way rising : List Fetched) → IsTable t → AllByRecursion (IsChangedBy step.changes) rising → IsRising level way rising → IsWayUp t x way → AllByRecursion (λ (g : Fetched). IsSome (given t.next step g.id)) rising
 rising_given t step x _ _ _ table changed (at_top level) up = tt
@@ -404,7 +404,7 @@ between_path_of nodes t way parent place child first pivot second node rising h 
 abbrev KeepsNames : Table → Step → Fetched → Type 0
 KeepsNames t step f = (d : Node) → given t.next step f.id ≡ Some d → (y : ℕ) → times f.node.value y ≤ times d y
 
-way_stays : (nodes : Nodes) (t : Table) (step : Step) (new : Nodes) (u : Table) (x : ℕ) (way : List Fetched) → IsCommitted nodes t step new u → IsKept u t.root → IsWayUp t x way → AllByRecursion (KeepsNames t step) way → Stand nodes way → IsKept u x
+way_stays : (nodes : Nodes) (t : Table) (step : Step) (new : Nodes) (u : Table) (x : ℕ) (way : List Fetched) → IsCommitted nodes t step new u → IsKept u t.root → IsWayUp t x way → AllByRecursion (KeepsNames t step) way → AllByRecursion (IsContents nodes) way → IsKept u x
 way_stays nodes t step new u x [] committed root up keeps there = subst (λ (i : ℕ). IsKept u i) (sym (way_top t x up)) root
 way_stays nodes t step new u x (f ∷ fs) committed root up keeps there =
     let parts = way_link t x f fs up in
@@ -418,7 +418,7 @@ way_stays nodes t step new u x (f ∷ fs) committed root up keeps there =
 abbrev IsRaisedOf : Nodes → Change → Type 0
 IsRaisedOf nodes v = (m : Node) → nodes v.id ≡ Some m → v.node ≡ raised m
 
-rising_raised : (nodes : Nodes) (t : Table) (x level : ℕ) (way rising : List Fetched) → IsRising level way rising → Stand nodes way → AllByRecursion (IsRaisedOf nodes) (map raise rising)
+rising_raised : (nodes : Nodes) (t : Table) (x level : ℕ) (way rising : List Fetched) → IsRising level way rising → AllByRecursion (IsContents nodes) way → AllByRecursion (IsRaisedOf nodes) (map raise rising)
 rising_raised nodes t x _ _ _ (at_top level) there = tt
 rising_raised nodes t x _ _ _ (high_enough level f fs more) there = tt
 rising_raised nodes t x _ _ _ (rises level f fs rising few room rise) there = (
@@ -434,7 +434,7 @@ given_raised nodes t c top p node rising made f d below down over all there some
     ∙ changed_at-other (record { id = p; node = node }) (map raise rising) f.id (λ e. (let l : t.level f.id ≡ t.level p = ap t.level e in omega arith))) ∙ some in
     (changed_has (IsRaisedOf nodes) (map raise rising) f.id d all moved) f.node.value there
 
-way_keeps : (nodes : Nodes) (t : Table) (c : ℕ) (top : Node) (p : ℕ) (node : Node) (rising : List Fetched) (made : List Node) (x : ℕ) (way : List Fetched) → IsTable t → t.level c < t.level p → t.level p ≤ t.level x → AllByRecursion (IsRaisedOf nodes) (map raise rising) → IsWayUp t x way → Stand nodes way
+way_keeps : (nodes : Nodes) (t : Table) (c : ℕ) (top : Node) (p : ℕ) (node : Node) (rising : List Fetched) (made : List Node) (x : ℕ) (way : List Fetched) → IsTable t → t.level c < t.level p → t.level p ≤ t.level x → AllByRecursion (IsRaisedOf nodes) (map raise rising) → IsWayUp t x way → AllByRecursion (IsContents nodes) way
     → AllByRecursion (KeepsNames t (path_step t.root c top (record { id = p; node = node } ∷ map raise rising) made)) way
 way_keeps nodes t c top p node rising made x [] table down over all up there = tt
 way_keeps nodes t c top p node rising made x (f ∷ fs) table down over all up there =
@@ -450,7 +450,7 @@ way_keeps nodes t c top p node rising made x (f ∷ fs) table down over all up t
 
 -- those that rise are there
 risen_there : (nodes : Nodes) (t : Table) (c : ℕ) (top : Node) (p : ℕ) (node : Node) (rising : List Fetched) (made : List Node) (new : Nodes) (u : Table) → IsCommitted nodes t (path_step t.root c top (record { id = p; node = node } ∷ map raise rising) made) new u → IsTable t → IsKept u t.root → t.level c < t.level p → AllByRecursion (IsRaisedOf nodes) (map raise rising)
-    → (x level : ℕ) (way own : List Fetched) → t.level p ≤ t.level x → IsRising level way own → IsWayUp t x way → Stand nodes way → AllByRecursion (λ (g : Fetched). IsSome (given t.next (path_step t.root c top (record { id = p; node = node } ∷ map raise rising) made) g.id)) own
+    → (x level : ℕ) (way own : List Fetched) → t.level p ≤ t.level x → IsRising level way own → IsWayUp t x way → AllByRecursion (IsContents nodes) way → AllByRecursion (λ (g : Fetched). IsSome (given t.next (path_step t.root c top (record { id = p; node = node } ∷ map raise rising) made) g.id)) own
     → AllByRecursion (λ (g : Fetched). new g.id ≡ Some (raised g.node.value)) own
 risen_there nodes t c top p node rising made new u committed table root down all x _ _ _ over (at_top level) up there some = tt
 risen_there nodes t c top p node rising made new u committed table root down all x _ _ _ over (high_enough level f fs more) up there some = tt

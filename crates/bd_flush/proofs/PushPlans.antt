@@ -1,5 +1,6 @@
 -- The commit of a push, with a node between or without.
 use Rattle.std.proofs.Common.{◌≡◌, ℕ, ◌+◌, ◌^◌, ◌<◌, ◌≤◌, List, [], ◌∷◌, length, sym, ap, subst, arith, inl, inr, ◌⊎◌, Result, Ok, Err, OnOk, OnErr}
+use Rattle.std.specs.List.{AllByRecursion}
 use Rattle.bd_message.specs.declared.fault.Counter.TheVariants.{Level}
 use Rattle.bd_message.specs.declared.fault.MapFault.{MapFault}
 use Rattle.bd_message.specs.declared.fault.MapFault.TheVariants.{Worn}
@@ -14,9 +15,9 @@ use Rattle.bd_flush.specs.declared.fetching.Fetched.{Fetched}
 use Rattle.bd_flush.specs.declared.pushing.Plan.{Plan}
 use Rattle.bd_flush.specs.declared.pushing.Plan.TheVariants.{Ready, NoLevel}
 use Rattle.bd_flush.specs.Flushed.{IsFlushed, IsWornFor}
-use Rattle.bd_flush.specs.Children.{AreFamily, IsNoHigher}
+use Rattle.bd_flush.specs.Children.{AreFamily, IsNoHigher, IsContents}
 use Rattle.bd_flush.specs.Between.{IsHardlyHigher}
-use Rattle.bd_flush.specs.Raising.{Stand, IsWayUp}
+use Rattle.bd_flush.specs.Raising.{IsWayUp}
 use Rattle.bd_flush.specs.Pushes.{CanPush, IsSomePush, IsPlan, IsPushed, IsPushedBetween, IsLongPush, IsHighPush}
 use Rattle.bd_flush.proofs.Worn.{cause_weaker}
 use Rattle.bd_flush.proofs.PathSteps.{path_may, path_in_place, path_worn}
@@ -46,7 +47,7 @@ pub record IsPlannedOf (nodes : Nodes) (t : Table) (way : List Fetched) (parent 
   pub of : IsPlanned t way parent place child step
   pub sound : IsSound nodes t
   pub family : AreFamily nodes t parent child
-  pub contents : Stand nodes way
+  pub contents : AllByRecursion (IsContents nodes) way
 
 pub planned_may : (t : Table) (way : List Fetched) (parent : Fetched) (place : ℕ) (child : Fetched) (step : Step) → IsPlanned t way parent place child step → IsStep t step
 planned_may t way parent place child step h =

@@ -27,9 +27,9 @@ use Rattle.bd_node.proofs.Stepping.{changed_at-same, changed_at-other}
 use Rattle.bd_flush.specs.declared.fetching.Fetched.{Fetched}
 use Rattle.bd_flush.specs.Flushed.{LeadsTo}
 use Rattle.bd_flush.specs.Flushed.LeadsTo.{through}
-use Rattle.bd_flush.specs.Children.{IsFetched, IsWayTo}
+use Rattle.bd_flush.specs.Children.{IsFetched, IsWayTo, IsContents}
 use Rattle.bd_flush.specs.Paths.{path_step}
-use Rattle.bd_flush.specs.Raising.{Stand, raised, raise, IsWayUp, IsRising}
+use Rattle.bd_flush.specs.Raising.{raised, raise, IsWayUp, IsRising}
 use Rattle.bd_flush.specs.Raising.IsWayUp.{top, one_up}
 use Rattle.bd_flush.specs.Raising.IsRising.{at_top, high_enough, rises}
 use Rattle.bd_inner.proofs.Compacting.{count_names}
@@ -97,7 +97,7 @@ link_lower t x f link = named_has (IsLower t (t.level f.id)) x (names f.node.val
 pub link_inner : (t : Table) (x : ℕ) (f : Fetched) → IsLink t x f → 1 ≤ level_of f.node.value
 link_inner t x f link = inner_of f.node.value link.place link.edge link.fetched.own.shape link.way.here
 
-pub way_private : (nodes : Nodes) (t : Table) (x : ℕ) (way : List Fetched) → IsSound nodes t → IsWayUp t x way → Stand nodes way → IsPrivate nodes t x
+pub way_private : (nodes : Nodes) (t : Table) (x : ℕ) (way : List Fetched) → IsSound nodes t → IsWayUp t x way → AllByRecursion (IsContents nodes) way → IsPrivate nodes t x
 way_private nodes t x [] s up there = subst (λ (i : ℕ). IsPrivate nodes t i) (sym (way_top t x up)) (root_private nodes t s)
 way_private nodes t x (f ∷ fs) s up there =
     let parts = way_link t x f fs up in
@@ -223,7 +223,7 @@ all_changed (f ∷ rising) = (
 )
 
 -- a node whose level rises has room below the next one
-pub has_room : (nodes : Nodes) (t : Table) (step : Step) (x level : ℕ) (n : Node) (way rising : List Fetched) → level ≡ level_of n → IsSound nodes t → IsRising level way rising → IsWayUp t x way → Stand nodes way → AllByRecursion (λ (g : Fetched). IsSome (given t.next step g.id)) rising → HasRoom nodes t step x n
+pub has_room : (nodes : Nodes) (t : Table) (step : Step) (x level : ℕ) (n : Node) (way rising : List Fetched) → level ≡ level_of n → IsSound nodes t → IsRising level way rising → IsWayUp t x way → AllByRecursion (IsContents nodes) way → AllByRecursion (λ (g : Fetched). IsSome (given t.next step g.id)) rising → HasRoom nodes t step x n
 has_room nodes t step x _ n _ _ is s (at_top level) up there changed = of_root (way_top t x up)
 has_room nodes t step x _ n _ _ is s (high_enough level g gs high) up there changed =
     let link = (way_link t x g gs up).0 in
@@ -246,7 +246,7 @@ raise_meaning nodes t has f s there agree k key =
     ∙ sym (node_has-key (at nodes) f.node.value k key)
     ∙ sym ((at-meets nodes (sound-levelled nodes t s)).each f.id f.node.value there k)
 
-pub rising_of : (nodes : Nodes) (t : Table) (c : ℕ) (h : Node) (uppers : List Change) (made : List Node) (x level : ℕ) (way rising : List Fetched) → IsSound nodes t → LeadsTo nodes c x → IsRising level way rising → IsWayUp t x way → Stand nodes way
+pub rising_of : (nodes : Nodes) (t : Table) (c : ℕ) (h : Node) (uppers : List Change) (made : List Node) (x level : ℕ) (way rising : List Fetched) → IsSound nodes t → LeadsTo nodes c x → IsRising level way rising → IsWayUp t x way → AllByRecursion (IsContents nodes) way
     → AllByRecursion (λ (g : Fetched). IsSome (given t.next (path_step t.root c h uppers made) g.id)) rising
     → ((q : ℕ) (m : Node) → nodes q ≡ Some m → t.level x < t.level q → AllByRecursion (Agree (has_path nodes t.next c h made) (at nodes)) (names m))
     → AllByRecursion (IsUpperOf nodes t c h uppers made) (map raise rising)

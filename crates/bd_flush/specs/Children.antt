@@ -148,6 +148,10 @@ pub record IsHalved (t : Table) (parent : Fetched) (place : ℕ) (child : Fetche
   pub made_are : (i : ℕ) (m : Node) → slice_get made i ≡ Some m → new (t.next + i) ≡ Some m
   pub next : u.next ≡ t.next + length made
 
+-- the contents of a fetched node
+abbrev pub IsContents : Nodes → Fetched → Type 0
+IsContents nodes f = nodes f.id ≡ Some f.node.value
+
 -- the root stays, as high as it was, and no more waits in it
 pub record IsNoHigher (t u : Table) : Type 0 where
   pub root : u.root ≡ t.root

@@ -17,9 +17,9 @@ ghost use Rattle.bd_inner.specs.Exchange.{end_at, IsEdgeAt};
 ghost use Rattle.bd_leaf.specs.Leaves.{AreEntries, entries_size};
 ghost use Rattle.bd_flush.specs.declared.fetching.Fetched.{Fetched};
 ghost use Rattle.bd_flush.specs.Flushed.{IsFlushed, IsWornFor};
-ghost use Rattle.bd_flush.specs.Children.{AreFamily, IsNoHigher};
+ghost use Rattle.bd_flush.specs.Children.{AreFamily, IsContents, IsNoHigher};
 ghost use Rattle.bd_flush.specs.Between.{IsHardlyHigher};
-ghost use Rattle.bd_flush.specs.Raising.{Stand, IsWayUp};
+ghost use Rattle.bd_flush.specs.Raising.{IsWayUp};
 ghost use Rattle.bd_flush.specs.Pushes.{seen_by, unseen, CanPush, IsWaitedFor, IsEdgeBatch, IsRelieved, IsPartedOver, IsPushedOver, ArePushed, IsPlanOver, IsPlan, IsPushed, IsPushedBetween, IsLongPush, IsHighPush};
 
 use crate::Fetched;
@@ -56,7 +56,7 @@ pub fn push<S: NodeStore>(
     requires family { S.is_known store.old → IsSound (S.nodes store.old) (S.table store.old)
         → AreFamily (S.nodes store.old) (S.table store.old) parent.now child.now }
     requires contents { S.is_known store.old → IsSound (S.nodes store.old) (S.table store.old)
-        → Stand (S.nodes store.old) (reverse above.now) }
+        → AllByRecursion (IsContents (S.nodes store.old)) (reverse above.now) }
     ensures flushed { S.is_known store.old → IsSound (S.nodes store.old) (S.table store.old)
         → OnOk result (IsFlushed (S.nodes store.old) (S.table store.old)
         (S.nodes store.new) (S.table store.new)) }
