@@ -37,7 +37,6 @@ pub way_shapes : (t : Table) (c : ℕ) (way : List Fetched) → IsWayUp t c way 
 way_shapes t _ _ top = tt
 way_shapes t _ _ (one_up c place f e fs fetched way once up) = (fetched.own.shape, way_shapes t f.id fs up)
 
-
 -- if one of level 1,000 has to rise, it is the root
 pub at_last : (t : Table) (c level : ℕ) (way : List Fetched) → IsWayUp t c way → CannotRise level way → t.level t.root ≡ level_limit
 at_last t _ level _ top cannot = elim cannot [ ]

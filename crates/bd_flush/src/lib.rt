@@ -6,6 +6,7 @@
 mod between;
 mod carving;
 mod children;
+mod copying;
 mod fetching;
 mod filling;
 pub mod laws;
@@ -19,6 +20,7 @@ mod ways;
 pub use between::put_between;
 pub use carving::carve;
 pub use children::split_child;
+pub use copying::put_copy;
 pub use fetching::{Fetched, fetch};
 pub use filling::{FullEdge, fullest};
 pub use planting::push_new;
