@@ -1,19 +1,28 @@
 -- A copy that becomes the child of an edge alone.
 use Rattle.std.proofs.Common.{◌≡◌, ℕ, zero, suc, ◌+◌, ◌-◌, ◌^◌, ◌<◌, ◌≤◌, List, [], ◌∷◌, ◌++◌, length, take, drop, refl, sym, ap, subst, ◌∙◌, Option, None, Some, arith, inl, inr, ◌⊎◌, get_or, Result, Ok, Err, OnOk}
-use Rattle.std.specs.Prelude.{IfOk}
+use Rattle.std.specs.Prelude.{IfOk, MatchOption}
 use Rattle.std.specs.Prelude.{slice_get}
 use Rattle.std.specs.List.{AllByRecursion, flat_map}
+use Rattle.std.specs.Option.{option_to_list}
 use Rattle.std.proofs.lemmas.Bool.{cases_eq}
-use Rattle.std.proofs.lemmas.Option.{same_Some}
+use Rattle.std.proofs.lemmas.Option.{same_Some, slice_get_within}
 use Rattle.bd_keys.specs.Keys.{IsKey}
 use Rattle.bd_message.specs.declared.fault.MapFault.{MapFault}
 use Rattle.bd_message.specs.KeyMaps.{HasMapCause}
 use Rattle.bd_node.specs.declared.node.Edge.{Edge}
 use Rattle.bd_node.specs.declared.node.Node.{Node}
+use Rattle.bd_node.specs.declared.node.Node.TheVariants.{Leaf, Inner}
+use Rattle.bd_node.specs.declared.node.Entry.{Entry}
+use Rattle.bd_limits.specs.Limits.{key_limit, leaf_limit}
+use Rattle.bd_leaf.specs.Leaves.{entries_size}
+use Rattle.bd_leaf.specs.Leaves.{IsClipped as LeafClipped}
+use Rattle.bd_inner.specs.Clipping.{IsLong, IsClipped}
+use Rattle.bd_inner.proofs.Clipped.{short_loose}
+use Rattle.bd_inner.proofs.ClippedEdges.{IsKey-append}
 use Rattle.bd_node.specs.declared.node.Step.{Step}
-use Rattle.bd_node.specs.Nodes.{level_of, buffer_size, edge_names, names, times, child_at, node_at, node_has}
+use Rattle.bd_node.specs.Nodes.{level_of, buffer_size, message_names, edge_names, names, times, child_at, node_at, node_has}
 use Rattle.bd_node.specs.Meaning.{Nodes, at, found_at}
-use Rattle.bd_node.specs.Shape.{IsEdge, IsShape}
+use Rattle.bd_node.specs.Shape.{IsEdge, IsLeaf, IsShape}
 use Rattle.bd_node.specs.Tables.{Table, IsKept, IsTable, IsLower, IsNodeOf, IsSound}
 use Rattle.bd_node.specs.Private.{IsPrivate}
 use Rattle.bd_node.specs.Private.IsPrivate.{root_alone, alone}
@@ -25,20 +34,20 @@ use Rattle.bd_node.proofs.Meanings.{at-meets}
 use Rattle.bd_node.proofs.Sound.{sound-levelled, named_lower, kept_there}
 use Rattle.bd_node.proofs.Stepping.{given-new, after-none, given_stays}
 use Rattle.bd_inner.specs.Halves.{edges_of, buffer_of}
-use Rattle.bd_inner.specs.Compaction.{IsCompacted}
+use Rattle.bd_inner.specs.Compaction.{IsLooseNode, IsCompacted}
 use Rattle.bd_inner.specs.Exchange.{exchanged, end_at, IsEdgeAt, FitsAt, way_to}
-use Rattle.bd_inner.proofs.Compacting.{count_names, compacted_shape, compacted_level, compacted_meaning, compacted_size, compacted_times}
+use Rattle.bd_inner.proofs.Compacting.{count_names, count_names-append, compacted_shape, compacted_level, compacted_meaning, compacted_size, compacted_times}
 use Rattle.bd_inner.proofs.Fitting.{own_shape, one_fits}
 use Rattle.bd_inner.proofs.Moved.{moved_none}
 use Rattle.bd_inner.proofs.Exchanged.{exchanged_shape, pushed}
 use Rattle.bd_flush.specs.declared.fetching.Fetched.{Fetched}
 use Rattle.bd_flush.specs.Flushed.{IsFlushed, IsWornFor}
-use Rattle.bd_flush.specs.Children.{IsNoHigher}
+use Rattle.bd_flush.specs.Children.{IsFetched, IsNoHigher}
 use Rattle.bd_flush.specs.Paths.{path_step}
 use Rattle.bd_flush.specs.Pushes.{IsOwn}
-use Rattle.bd_flush.specs.Copies.{CanPutCopy, IsCopyFor, IsCopyAt, IsRedirected, IsCopyStep, IsCopyPut}
+use Rattle.bd_flush.specs.Copies.{CanPutCopy, IsCopyFor, IsCopyAt, IsRedirected, IsCopyStep, IsCopyPut, AreShort, IsFreed, HasLongSource, HasChild, IsPrivatised, IsTooLong}
 use Rattle.bd_flush.proofs.Worn.{cause_weaker}
-use Rattle.bd_flush.proofs.ChildSplits.{some_edge, times_exchanged, inner_of, count_own, level_exchanged, compacted_named, exchanged_named, size_exchanged, some_next, IsKey-drop, edge_here}
+use Rattle.bd_flush.proofs.ChildSplits.{some_edge, exchanged_same, times_exchanged, inner_of, count_own, level_exchanged, compacted_named, exchanged_named, size_exchanged, some_next, IsKey-drop, edge_here}
 use Rattle.bd_flush.proofs.LeafPushes.{times_without}
 use Rattle.bd_flush.proofs.PathSteps.{IsMadeUnder, IsPathStep, IsPathStepOf, IsPathDone, given_child, given_upper, has_made, made_old, made_new, path_child, path_may, path_in_place, path_flushed, path_worn, root_stays, both_ways}
 
@@ -305,3 +314,136 @@ on_copy_step root next parent place copy shown above (Ok step) same low into is 
       is = is;
     }
 on_copy_step root next parent place copy shown above (Err x) same low into is = tt
+
+-- ---- nodes freed of a prefix
+
+pub freed_leaf : (old new : List Entry) (s : List ℕ) → IsLeaf old → LeafClipped old s new → IsFreed (Leaf old) s (Leaf new)
+freed_leaf old new s own h = record {
+  shape = record { each = h.entries.each; rising = h.entries.rising; size = (let less : entries_size new ≤ entries_size old = h.size in let few : entries_size old ≤ leaf_limit = own.size in omega arith) };
+  level_is = refl;
+  meaning = λ below k. h.has k;
+  names = λ c. omega arith;
+}
+
+loose_clipped : (n m : Node) (s : List ℕ) → IsClipped n s m → AreShort m → IsLooseNode m
+loose_clipped n (Leaf entries) s h short = absurd (let low : 1 ≤ 0 = h.shape.low in omega arith)
+loose_clipped n (Inner level es buffer) s h short = short_loose level es buffer h.shape short.edges short.messages
+
+pub short_loose_node : (m : Node) → IsLong (level_of m) (edges_of m) (buffer_of m) → AreShort m → IsLooseNode m
+short_loose_node (Leaf entries) h short = absurd (let low : 1 ≤ 0 = h.low in omega arith)
+short_loose_node (Inner level es buffer) h short = short_loose level es buffer h short.edges short.messages
+
+pub freed_node : (n m d : Node) (s : List ℕ) → IsClipped n s m → AreShort m → IsCompacted m d → IsFreed n s d
+freed_node n m d s h short c =
+    let loose : IsLooseNode m = loose_clipped n m s h short in
+    record {
+      shape = compacted_shape m d loose c;
+      level_is = compacted_level m d c ∙ h.level_is;
+      meaning = λ below k. compacted_meaning below m d loose c k ∙ h.meaning below k;
+      names = λ x. (let a : times d x ≤ times m x = compacted_times m d c x in let b : times m x ≤ times n x = h.names x in omega arith);
+    }
+
+pub on_freed : {E : Type 0} (n shown m : Node) (s : List ℕ) (r : Result (Option Node) E) → shown ≡ m → IsClipped n s m → IfOk r (λ found. MatchOption found (¬ AreShort shown) (λ d. AreShort shown × IsCompacted shown d))
+    → IfOk r (λ found. MatchOption found (HasLongSource n s) (IsFreed n s))
+on_freed n shown m s (Ok None) same h g = (m, h, subst (λ (d : Node). ¬ AreShort d) same g)
+on_freed n shown m s (Ok (Some d)) same h g = freed_node n m d s h (subst (λ (x : Node). AreShort x) same g.0) (subst (λ (x : Node). IsCompacted x d) same g.1)
+on_freed n shown m s (Err x) same h g = tt
+
+-- the copy of a fetched child
+freed_has : (nodes : Nodes) (t : Table) (c : ℕ) (n copy : Node) (s k : List ℕ) → IsSound nodes t → nodes c ≡ Some n → IsFreed n s copy → IsKey s → IsKey k → node_at (at nodes) copy k ≡ at nodes c (s ++ k)
+freed_has nodes t c n copy s k sound there h key_s key =
+    h.meaning (at nodes) k
+    ∙ sym (node_has-key (at nodes) n (s ++ k) (IsKey-append s k key_s key))
+    ∙ sym ((at-meets nodes (sound-levelled nodes t sound)).each c n there (s ++ k))
+
+pub copied_at : (nodes : Nodes) (t : Table) (parent : Node) (place : ℕ) (e : Edge) (c : ℕ) (n copy : Node) → IsSound nodes t → IsEdgeAt parent place e → e.child ≡ Some c → nodes c ≡ Some n → IsFreed n e.source copy → IsKey e.source → IsCopyAt nodes parent place copy
+copied_at nodes t parent place e c n copy sound here child there h key_s d here_d x child_x k key =
+    let same : e ≡ d = same_Some e d (sym here ∙ here_d) in
+    let same_c : c ≡ x = same_Some c x (sym child ∙ ap (λ (y : Edge). y.child) same ∙ child_x) in
+    subst (λ (y : Edge). node_at (at nodes) copy k ≡ at nodes x (y.source ++ k)) same
+    (subst (λ (i : ℕ). node_at (at nodes) copy k ≡ at nodes i (e.source ++ k)) same_c (freed_has nodes t c n copy e.source k sound there h key_s key))
+
+edges_named : (n : Node) (c : ℕ) → count_names c (flat_map edge_names (edges_of n)) ≤ times n c
+edges_named (Leaf entries) c = omega arith
+edges_named (Inner level es buffer) c = omega (arith, count_names-append c (flat_map edge_names es) (flat_map message_names buffer))
+
+edge_named : (n : Node) (place c : ℕ) (e : Edge) → IsShape n → IsEdgeAt n place e → e.child ≡ Some c → 1 ≤ times n c
+edge_named n place c e h here child_is =
+    let one : count_names c (flat_map edge_names (e ∷ [])) ≡ 1 = ap (λ (o : Option ℕ). count_names c (option_to_list o ++ [])) child_is ∙ count_own c in
+    let most : count_names c (flat_map edge_names (e ∷ [])) ≤ count_names c (flat_map edge_names (edges_of (exchanged n place (e ∷ [])))) = exchanged_named n place (e ∷ []) c (inner_of n place e h here) in
+    let same : count_names c (flat_map edge_names (edges_of (exchanged n place (e ∷ [])))) ≡ count_names c (flat_map edge_names (edges_of n)) = ap (λ (m : Node). count_names c (flat_map edge_names (edges_of m))) (exchanged_same n place e here) in
+    let less : count_names c (flat_map edge_names (edges_of n)) ≤ times n c = edges_named n c in
+    omega arith
+
+pub can_put : (t : Table) (parent : Fetched) (place : ℕ) (e : Edge) (child : Fetched) (copy : Node) → IsFetched t parent → IsEdgeAt parent.node.value place e → e.child ≡ Some child.id → IsFetched t child → IsFreed child.node.value e.source copy → CanPutCopy t parent place copy
+can_put t parent place e child copy own here child_is below h =
+    let level : level_of copy ≡ level_of child.node.value = h.level_is in
+    let at : level_of child.node.value ≡ t.level child.id = below.own.level_is in
+    let named : 1 ≤ times parent.node.value child.id = edge_named parent.node.value place child.id e own.own.shape here child_is in
+    let lower : IsLower t (t.level parent.id) child.id = named_has (IsLower t (t.level parent.id)) child.id (names parent.node.value) own.own.lower named in
+    let above : level_of parent.node.value ≡ t.level parent.id = own.own.level_is in
+    let down : t.level child.id < t.level parent.id = lower.lower in
+    record {
+      parent_is = own;
+      edge = e;
+      here = here;
+      child = child.id;
+      child_is = child_is;
+      own = record {
+        shape = h.shape;
+        level_is = refl;
+        lower = each_named (IsLower t (level_of copy)) (names copy) (λ x one.
+            let less : times copy x ≤ times child.node.value x = h.names x in
+            subst (λ (l : ℕ). IsLower t l x) (sym (level ∙ at)) (named_has (IsLower t (t.level child.id)) x (names child.node.value) below.own.lower (omega arith)));
+      };
+      lower = omega arith;
+    }
+
+-- ---- the child that is copied
+
+pub here_of : (t : Table) (parent : Fetched) (place : ℕ) (shown : Node) (es : List Edge) (e : Edge) → HasChild t parent place → shown ≡ parent.node.value → es ≡ edges_of shown → e ≡ get_or es place e → IsEdgeAt parent.node.value place e
+here_of t parent place shown es e can same es_is read =
+    edge_here es parent.node.value place e (es_is ∙ ap edges_of same) (slice_get_within (edges_of parent.node.value) place can.edge can.here) read
+
+pub kept_child : (t : Table) (parent : Fetched) (place id : ℕ) (e : Edge) → IsFetched t parent → IsEdgeAt parent.node.value place e → e.child ≡ Some id → IsKept t id
+kept_child t parent place id e own here child =
+    (named_has (IsLower t (t.level parent.id)) id (names parent.node.value) own.own.lower (edge_named parent.node.value place id e own.own.shape here child)).kept
+
+pub source_short : (t : Table) (parent : Fetched) (place : ℕ) (e : Edge) (s : List ℕ) → IsFetched t parent → IsEdgeAt parent.node.value place e → s ≡ e.source → length s ≤ key_limit
+source_short t parent place e s own here is = subst (λ (l : List ℕ). length l ≤ key_limit) (sym is) (own_shape parent.node.value place e own.own.shape here).source
+
+pub freed_is : (shown old : Node) (s : List ℕ) (e : Edge) (found : Option Node) (copy : Node) → shown ≡ old → s ≡ e.source → found ≡ Some copy → MatchOption found (HasLongSource shown s) (IsFreed shown s) → IsFreed old e.source copy
+freed_is shown old s e found copy same s_is some h =
+    subst (λ (n : Node). IsFreed n e.source copy) same
+    (subst (λ (l : List ℕ). IsFreed shown l copy) s_is (subst (λ (o : Option Node). MatchOption o (HasLongSource shown s) (IsFreed shown s)) some h))
+
+pub too_long : (nodes : Nodes) (parent : Fetched) (place id : ℕ) (e : Edge) (shown old : Node) (s : List ℕ) (found : Option Node) → IsEdgeAt parent.node.value place e → e.child ≡ Some id → nodes id ≡ Some old → shown ≡ old → s ≡ e.source → found ≡ None
+    → MatchOption found (HasLongSource shown s) (IsFreed shown s) → IsTooLong nodes parent place
+too_long nodes parent place id e shown old s found here child there same s_is none h = record {
+  edge = e;
+  here = here;
+  child = id;
+  child_is = child;
+  old = old;
+  there = there;
+  long = subst (λ (n : Node). HasLongSource n e.source) same
+      (subst (λ (l : List ℕ). HasLongSource shown l) s_is (subst (λ (o : Option Node). MatchOption o (HasLongSource shown s) (IsFreed shown s)) none h));
+}
+
+pub is_privatised : (nodes mid : Nodes) (t v : Table) (parent : Fetched) (place id : ℕ) (e : Edge) (old copy : Node) (new : Nodes) (u : Table) → mid ≡ nodes → v ≡ t → IsSound nodes t → IsEdgeAt parent.node.value place e → e.child ≡ Some id → nodes id ≡ Some old → IsFreed old e.source copy
+    → (IsSound mid v → IsCopyPut v parent place copy new u) → IsPrivatised nodes t parent place new u
+is_privatised nodes mid t v parent place id e old copy new u mid_is v_is sound here child there freed put = record {
+  edge = e;
+  here = here;
+  child = id;
+  child_is = child;
+  old = old;
+  there = there;
+  copy = copy;
+  freed = freed;
+  put = subst (λ (x : Table). IsCopyPut x parent place copy new u) v_is
+      (put (subst (λ (f : Nodes). IsSound f v) (sym mid_is) (subst (λ (x : Table). IsSound nodes x) (sym v_is) sound)));
+}
+
+pub put_again : (t v : Table) (parent : Fetched) (place : ℕ) (e : Edge) (child : Fetched) (copy : Node) → v ≡ t → IsFetched t parent → IsEdgeAt parent.node.value place e → e.child ≡ Some child.id → IsFetched t child → IsFreed child.node.value e.source copy → CanPutCopy v parent place copy
+put_again t v parent place e child copy same own here child_is below h = subst (λ (x : Table). CanPutCopy x parent place copy) (sym same) (can_put t parent place e child copy own here child_is below h)
