@@ -1,6 +1,6 @@
 -- A child that is split below its parent.
-use Rattle.std.proofs.Common.{◌≡◌, ℕ, zero, suc, ◌+◌, ◌-◌, ◌^◌, ◌<◌, ◌≤◌, List, [], ◌∷◌, ◌++◌, length, take, drop, map, get_or, refl, sym, ap, subst, ◌∙◌, Option, None, Some, arith, inl, inr, ◌⊎◌, length-append, length-take, Result, Ok, Err}
-use Rattle.std.specs.Prelude.{slice_get, IfOk, MatchOption}
+use Rattle.std.proofs.Common.{◌≡◌, ℕ, zero, suc, ◌+◌, ◌-◌, ◌^◌, ◌<◌, ◌≤◌, List, [], ◌∷◌, ◌++◌, length, take, drop, map, get_or, refl, sym, ap, subst, ◌∙◌, Option, None, Some, arith, inl, inr, ◌⊎◌, length-append, length-take}
+use Rattle.std.specs.Prelude.{slice_get}
 use Rattle.std.specs.List.{AllByRecursion, flat_map}
 use Rattle.std.specs.Ordering.{is_lt}
 use Rattle.std.specs.Option.{option_to_list}
@@ -36,7 +36,7 @@ use Rattle.bd_inner.proofs.Compacting.{count_names, count_names-append, edge_nam
 use Rattle.bd_inner.proofs.Exchanged.{in_range, at_place, exchanged_shape, meaning_inside, meaning_outside, meaning_without}
 use Rattle.bd_flush.specs.declared.children.Parts.{Parts}
 use Rattle.bd_flush.specs.declared.children.Side.TheVariants.{Lower, Both, Upper}
-use Rattle.bd_flush.specs.Children.{IsWayTo, parting, upper_edge, IsInside, IsSplitInto, IsSide, IsOver, AreParts, IsLongIn, IsLongPivot}
+use Rattle.bd_flush.specs.Children.{IsWayTo, parting, upper_edge, IsInside, IsSplitInto, IsSide, IsOver, AreParts, IsLongPivot}
 use Rattle.bd_flush.specs.declared.children.Halving.TheVariants.{Short, Long}
 use Rattle.bd_flush.specs.Children.IsSplitInto.{parted, lower, upper}
 use Rattle.bd_flush.proofs.ChildSteps.{has_below, has_child, has_old, has_new, IsMadeBelow, IsChildChange, IsChildChangeOf}

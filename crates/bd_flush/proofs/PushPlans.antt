@@ -1,31 +1,28 @@
 -- The commit of a push, with a node between or without.
-use Rattle.std.proofs.Common.{◌≡◌, ℕ, ◌+◌, ◌^◌, ◌<◌, ◌≤◌, List, [], ◌∷◌, length, reverse, sym, ap, subst, ◌∙◌, arith, inl, inr, ◌⊎◌, Result, Ok, Err, OnOk, OnErr}
+use Rattle.std.proofs.Common.{◌≡◌, ℕ, ◌+◌, ◌^◌, ◌<◌, ◌≤◌, List, [], ◌∷◌, length, sym, ap, subst, arith, inl, inr, ◌⊎◌, Result, Ok, Err, OnOk, OnErr}
 use Rattle.std.specs.List.{AllByRecursion}
-use Rattle.bd_message.specs.declared.fault.Counter.{Counter}
 use Rattle.bd_message.specs.declared.fault.Counter.TheVariants.{Level}
 use Rattle.bd_message.specs.declared.fault.MapFault.{MapFault}
 use Rattle.bd_message.specs.declared.fault.MapFault.TheVariants.{Worn}
 use Rattle.bd_message.specs.KeyMaps.{HasMapCause}
-use Rattle.bd_node.specs.declared.node.Node.{Node}
 use Rattle.bd_node.specs.declared.node.Step.{Step}
 use Rattle.bd_node.specs.Nodes.{level_of}
 use Rattle.bd_node.specs.Meaning.{Nodes}
 use Rattle.bd_node.specs.Tables.{Table, IsTable, IsSound}
 use Rattle.bd_node.specs.Steps.{IsStep, IsInPlace, IsTableAfter, IsCommitted, IsWornBy}
 use Rattle.bd_node.specs.Stores.{visited}
-use Rattle.bd_inner.specs.Halves.{edges_of}
 use Rattle.bd_flush.specs.declared.fetching.Fetched.{Fetched}
 use Rattle.bd_flush.specs.declared.pushing.Plan.{Plan}
 use Rattle.bd_flush.specs.declared.pushing.Plan.TheVariants.{Ready, NoLevel}
 use Rattle.bd_flush.specs.Flushed.{IsFlushed, IsWornFor}
-use Rattle.bd_flush.specs.Children.{AreFamily, IsContents, IsNoHigher}
+use Rattle.bd_flush.specs.Children.{AreFamily, IsNoHigher, IsContents}
 use Rattle.bd_flush.specs.Between.{IsHardlyHigher}
 use Rattle.bd_flush.specs.Raising.{IsWayUp}
 use Rattle.bd_flush.specs.Pushes.{CanPush, IsSomePush, IsPlan, IsPushed, IsPushedBetween, IsLongPush, IsHighPush}
 use Rattle.bd_flush.proofs.Worn.{cause_weaker}
 use Rattle.bd_flush.proofs.PathSteps.{path_may, path_in_place, path_worn}
-use Rattle.bd_flush.proofs.PushCommits.{IsToPush, may_push, push_in_place, push_flushed, push_is, push_no_higher, push_made, push_worn}
-use Rattle.bd_flush.proofs.Betweens.{IsToPutBetween, IsToPutBetweenOf, IsPutBetween, the_child, the_uppers, between_path, between_path_of, between_short, between_flushed, between_pushed, between_table, cannot_rise}
+use Rattle.bd_flush.proofs.PushCommits.{may_push, push_in_place, push_flushed, push_is, push_no_higher, push_made, push_worn}
+use Rattle.bd_flush.proofs.Betweens.{IsToPutBetween, the_child, the_uppers, between_path, between_path_of, between_short, between_flushed, between_pushed, between_table, cannot_rise}
 
 -- a push, and its step
 pub record IsPlanned (t : Table) (way : List Fetched) (parent : Fetched) (place : ℕ) (child : Fetched) (step : Step) : Type 0 where

@@ -1,14 +1,12 @@
 -- A child that is put between its parent and its halves.
-use Rattle.std.proofs.Common.{◌≡◌, ℕ, ◌+◌, ◌^◌, ◌<◌, ◌≤◌, List, [], ◌∷◌, ◌++◌, length, map, refl, sym, ap, subst, ◌∙◌, Option, None, Some, arith, Result, Ok, Err, OnOk, IfOk, MatchOption}
+use Rattle.std.proofs.Common.{◌≡◌, ℕ, ◌+◌, ◌^◌, ◌<◌, ◌≤◌, List, ◌∷◌, length, sym, ap, subst, ◌∙◌, Option, None, Some, arith, Result, Ok, Err, OnOk, MatchOption}
 use Rattle.std.specs.List.{AllByRecursion}
 use Rattle.bd_limits.specs.Limits.{level_limit}
-use Rattle.bd_message.specs.declared.fault.Counter.{Counter}
 use Rattle.bd_message.specs.declared.fault.Counter.TheVariants.{Level}
 use Rattle.bd_message.specs.declared.fault.MapFault.{MapFault}
 use Rattle.bd_message.specs.declared.fault.MapFault.TheVariants.{Worn}
 use Rattle.bd_message.specs.KeyMaps.{HasMapCause}
 use Rattle.bd_node.specs.declared.node.Node.{Node}
-use Rattle.bd_node.specs.declared.node.Change.{Change}
 use Rattle.bd_node.specs.declared.node.Step.{Step}
 use Rattle.bd_node.specs.Nodes.{level_of, buffer_size}
 use Rattle.bd_node.specs.Meaning.{Nodes}
@@ -19,9 +17,8 @@ use Rattle.bd_node.specs.Stores.{visited}
 use Rattle.bd_inner.specs.Halves.{AreHalves}
 use Rattle.bd_flush.specs.declared.fetching.Fetched.{Fetched}
 use Rattle.bd_flush.specs.Flushed.{IsFlushed, IsWornFor}
-use Rattle.bd_flush.specs.Children.{IsFetched, CanSplitChild, IsLongPivot}
-use Rattle.bd_flush.specs.Splits.{over_two, over_step}
-use Rattle.bd_flush.specs.Raising.{raised, raise, Stand, IsWayUp, IsRising, CannotRise, AreRaised}
+use Rattle.bd_flush.specs.Children.{IsFetched, IsContents, CanSplitChild, IsLongPivot}
+use Rattle.bd_flush.specs.Raising.{IsWayUp, IsRising, CannotRise}
 use Rattle.bd_flush.specs.Raising.IsWayUp.{top, one_up}
 use Rattle.bd_flush.specs.Raising.IsRising.{at_top, high_enough, rises}
 use Rattle.bd_flush.specs.Raising.CannotRise.{here, further}
@@ -105,17 +102,17 @@ is_to_put t f fs child first pivot second step root next table fetched up halves
 to_put : (t : Table) (way : List Fetched) (child : Fetched) (first : Node) (pivot : List ℕ) (second : Node) (step : Step) (h : IsToPut t way child first pivot second step) → IsSplit t child.id child.node.value first pivot second way h.put.rising
 to_put t way child first pivot second step h = record { table = h.table; up = h.up; kept = h.fetched.kept; own = h.fetched.own; level = h.level; next = h.next; halves = h.halves; rise = h.put.rise }
 
-put_of : (nodes : Nodes) (t : Table) (way : List Fetched) (child : Fetched) (first : Node) (pivot : List ℕ) (second : Node) (step : Step) (h : IsToPut t way child first pivot second step) → IsSound nodes t → Stand nodes (child ∷ way) → IsSplitOf nodes t child.id child.node.value first pivot second way h.put.rising
+put_of : (nodes : Nodes) (t : Table) (way : List Fetched) (child : Fetched) (first : Node) (pivot : List ℕ) (second : Node) (step : Step) (h : IsToPut t way child first pivot second step) → IsSound nodes t → AllByRecursion (IsContents nodes) (child ∷ way) → IsSplitOf nodes t child.id child.node.value first pivot second way h.put.rising
 put_of nodes t way child first pivot second step h s there = record { split = to_put t way child first pivot second step h; sound = s; there = there.0; stand = there.1 }
 
 pub may_put : (t : Table) (way : List Fetched) (child : Fetched) (first : Node) (pivot : List ℕ) (second : Node) (step : Step) → IsToPut t way child first pivot second step → IsStep t step
 may_put t way child first pivot second step h = subst (λ (s : Step). IsStep t s) (sym h.put.is) (split_step t child.id child.node.value first pivot second way h.put.rising (to_put t way child first pivot second step h))
 
-pub put_in_place : (nodes : Nodes) (t : Table) (way : List Fetched) (child : Fetched) (first : Node) (pivot : List ℕ) (second : Node) (step : Step) → IsToPut t way child first pivot second step → IsSound nodes t → Stand nodes (child ∷ way) → IsInPlace nodes t step
+pub put_in_place : (nodes : Nodes) (t : Table) (way : List Fetched) (child : Fetched) (first : Node) (pivot : List ℕ) (second : Node) (step : Step) → IsToPut t way child first pivot second step → IsSound nodes t → AllByRecursion (IsContents nodes) (child ∷ way) → IsInPlace nodes t step
 put_in_place nodes t way child first pivot second step h s there =
     subst (λ (q : Step). IsInPlace nodes t q) (sym h.put.is) (split_in_place nodes t child.id child.node.value first pivot second way h.put.rising (put_of nodes t way child first pivot second step h s there))
 
-made_of : (nodes : Nodes) (t : Table) (way : List Fetched) (child : Fetched) (first : Node) (pivot : List ℕ) (second : Node) (step : Step) (new : Nodes) (u : Table) → (h : IsToPut t way child first pivot second step) → IsSound nodes t → Stand nodes (child ∷ way) → IsTableAfter t step u → IsCommitted nodes t step new u
+made_of : (nodes : Nodes) (t : Table) (way : List Fetched) (child : Fetched) (first : Node) (pivot : List ℕ) (second : Node) (step : Step) (new : Nodes) (u : Table) → (h : IsToPut t way child first pivot second step) → IsSound nodes t → AllByRecursion (IsContents nodes) (child ∷ way) → IsTableAfter t step u → IsCommitted nodes t step new u
     → IsMade nodes t child.id child.node.value first pivot second way h.put.rising new u
 made_of nodes t way child first pivot second step new u h s there after committed = record {
   of = put_of nodes t way child first pivot second step h s there;
@@ -123,13 +120,13 @@ made_of nodes t way child first pivot second step new u h s there after committe
   committed = subst (λ (q : Step). IsCommitted nodes t q new u) h.put.is committed;
 }
 
-pub put_flushed : {T E : Type 0} (nodes : Nodes) (t : Table) (way : List Fetched) (child : Fetched) (first : Node) (pivot : List ℕ) (second : Node) (step : Step) (new : Nodes) (u : Table) (r : Result T E) → IsToPut t way child first pivot second step → IsSound nodes t → Stand nodes (child ∷ way)
+pub put_flushed : {T E : Type 0} (nodes : Nodes) (t : Table) (way : List Fetched) (child : Fetched) (first : Node) (pivot : List ℕ) (second : Node) (step : Step) (new : Nodes) (u : Table) (r : Result T E) → IsToPut t way child first pivot second step → IsSound nodes t → AllByRecursion (IsContents nodes) (child ∷ way)
     → OnOk r (IsTableAfter t step u) → OnOk r (IsCommitted nodes t step new u) → OnOk r (IsFlushed nodes t new u)
 put_flushed nodes t way child first pivot second step new u (Ok x) h s there after committed =
     flushed nodes t child.id child.node.value first pivot second way h.put.rising new u (made_of nodes t way child first pivot second step new u h s there after committed)
 put_flushed nodes t way child first pivot second step new u (Err e) h s there after committed = tt
 
-pub put_is : {T E : Type 0} (nodes : Nodes) (t : Table) (way : List Fetched) (child : Fetched) (first : Node) (pivot : List ℕ) (second : Node) (step : Step) (new : Nodes) (u : Table) (r : Result T E) → IsToPut t way child first pivot second step → IsSound nodes t → Stand nodes (child ∷ way)
+pub put_is : {T E : Type 0} (nodes : Nodes) (t : Table) (way : List Fetched) (child : Fetched) (first : Node) (pivot : List ℕ) (second : Node) (step : Step) (new : Nodes) (u : Table) (r : Result T E) → IsToPut t way child first pivot second step → IsSound nodes t → AllByRecursion (IsContents nodes) (child ∷ way)
     → OnOk r (IsTableAfter t step u) → OnOk r (IsCommitted nodes t step new u) → OnOk r (IsBetween t way child first pivot second new u)
 put_is nodes t way child first pivot second step new u (Ok x) h s there after committed =
     let made = made_of nodes t way child first pivot second step new u h s there after committed in

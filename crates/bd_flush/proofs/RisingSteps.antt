@@ -11,13 +11,13 @@ use Rattle.bd_node.specs.declared.node.Node.{Node}
 use Rattle.bd_node.specs.declared.node.Node.TheVariants.{Leaf, Inner}
 use Rattle.bd_node.specs.declared.node.Change.{Change}
 use Rattle.bd_node.specs.declared.node.Step.{Step}
-use Rattle.bd_node.specs.Nodes.{level_of, names, times, node_at}
+use Rattle.bd_node.specs.Nodes.{level_of, buffer_size, names, times, node_at}
 use Rattle.bd_node.specs.Meaning.{Nodes, at}
 use Rattle.bd_node.specs.Shape.{IsShape}
-use Rattle.bd_node.specs.Tables.{Table, IsKept, IsTable, IsLower, IsSound, one_if}
+use Rattle.bd_node.specs.Tables.{Table, IsTable, IsLower, IsSound, one_if}
 use Rattle.bd_node.specs.Private.{IsPrivate}
 use Rattle.bd_node.specs.Private.IsPrivate.{alone}
-use Rattle.bd_node.specs.Steps.{changed_at, given, level_after, AreOnce, IsOnlyNamed, HasRoom}
+use Rattle.bd_node.specs.Steps.{changed_at, given, level_after, AreOnce, HasRoom}
 use Rattle.bd_node.specs.Steps.HasRoom.{of_root, changed_too, under_all}
 use Rattle.bd_node.proofs.Lookup.{Agree, each_weaker, named_has, node_at-same, node_has-key}
 use Rattle.bd_node.proofs.Meanings.{at-meets}
@@ -60,6 +60,14 @@ pub raised_names : (n : Node) → names (raised n) ≡ names n
 raised_names (Leaf entries) = refl
 raised_names (Inner level es buffer) = refl
 
+pub raised_times : (n : Node) (c : ℕ) → times (raised n) c ≡ times n c
+raised_times (Leaf entries) c = refl
+raised_times (Inner level es buffer) c = refl
+
+pub raised_size : (n : Node) → buffer_size (raised n) ≡ buffer_size n
+raised_size (Leaf entries) = refl
+raised_size (Inner level es buffer) = refl
+
 pub raised_has : (has : NodesAt) (n : Node) (k : List ℕ) → node_at has (raised n) k ≡ node_at has n k
 raised_has has (Leaf entries) k = refl
 raised_has has (Inner level es buffer) k = refl
@@ -96,7 +104,7 @@ way_private nodes t x (f ∷ fs) s up there =
     alone f.id x f.node.value (way_private nodes t f.id fs s parts.1 there.1) there.0 (link_names t x f parts.0) parts.0.once
 
 -- no other node names the one below
-pub only_namer : (nodes : Nodes) (t : Table) (x : ℕ) (f : Fetched) → IsSound nodes t → IsLink t x f → IsContents nodes f → (q : ℕ) (m : Node) → nodes q ≡ Some m → 1 ≤ times m x → q ≡ f.id
+pub only_namer : (nodes : Nodes) (t : Table) (x : ℕ) (f : Fetched) → IsSound nodes t → IsLink t x f → nodes f.id ≡ Some f.node.value → (q : ℕ) (m : Node) → nodes q ≡ Some m → 1 ≤ times m x → q ≡ f.id
 only_namer nodes t x f s link there q m other one =
     elim (cases_eq q f.id) [
       | inl same ↦ same
@@ -231,7 +239,7 @@ has_room nodes t step x _ n _ _ is s (rises level g gs rising low room rise) up 
     })
 
 -- the raised node has what it had
-raise_meaning : (nodes : Nodes) (t : Table) (has : NodesAt) (f : Fetched) → IsSound nodes t → IsContents nodes f → AllByRecursion (Agree has (at nodes)) (names f.node.value) → (k : List ℕ) → IsKey k → node_at has (raised f.node.value) k ≡ at nodes f.id k
+raise_meaning : (nodes : Nodes) (t : Table) (has : NodesAt) (f : Fetched) → IsSound nodes t → nodes f.id ≡ Some f.node.value → AllByRecursion (Agree has (at nodes)) (names f.node.value) → (k : List ℕ) → IsKey k → node_at has (raised f.node.value) k ≡ at nodes f.id k
 raise_meaning nodes t has f s there agree k key =
     raised_has has f.node.value k
     ∙ node_at-same has (at nodes) f.node.value k agree

@@ -1,6 +1,6 @@
 -- A node that is put above its halves: the root that is split, or a child between its parent and its
 -- halves, where the nodes above rise.
-use Rattle.std.proofs.Common.{◌≡◌, ℕ, ◌+◌, ◌-◌, ◌^◌, ◌<◌, ◌≤◌, List, [], ◌∷◌, length, map, refl, sym, ap, subst, ◌∙◌, Option, None, Some, arith, inl, inr, IsSome, Result, Ok, Err, OnOk, ◌⊎◌}
+use Rattle.std.proofs.Common.{◌≡◌, ℕ, ◌+◌, ◌-◌, ◌^◌, ◌<◌, ◌≤◌, List, [], ◌∷◌, length, map, refl, sym, ap, subst, ◌∙◌, Option, Some, arith, inl, inr, IsSome, Result, Ok, Err, OnOk, ◌⊎◌}
 use Rattle.std.specs.Prelude.{slice_get}
 use Rattle.std.specs.List.{AllByRecursion}
 use Rattle.std.specs.Ordering.{is_lt}
@@ -21,7 +21,7 @@ use Rattle.bd_node.specs.Nodes.{level_of, buffer_size, names, times, through, no
 use Rattle.bd_node.specs.Meaning.{Nodes, at, found_at}
 use Rattle.bd_node.specs.Shape.{IsShape}
 use Rattle.bd_node.specs.Tables.{Table, IsKept, IsTable, IsLower, IsNodeOf, IsSound}
-use Rattle.bd_node.specs.Steps.{changed_at, given, level_or, IsStep, IsInPlace, IsTableAfter, IsCommitted, IsWornBy}
+use Rattle.bd_node.specs.Steps.{given, level_or, IsStep, IsInPlace, IsTableAfter, IsCommitted, IsWornBy}
 use Rattle.bd_node.proofs.Lookup.{Agree, each_weaker, each_named, named_has, node_has-key, count-cons_same, count-cons_le}
 use Rattle.bd_node.proofs.Meanings.{at-meets}
 use Rattle.bd_node.proofs.Sound.{sound-levelled, named_lower, kept_there}
@@ -31,18 +31,18 @@ use Rattle.bd_inner.specs.Halves.{IsHalf, AreHalves}
 use Rattle.bd_flush.specs.declared.fetching.Fetched.{Fetched}
 use Rattle.bd_flush.specs.Flushed.{IsFlushed, IsWornFor}
 use Rattle.bd_flush.specs.Flushed.LeadsTo.{itself}
-use Rattle.bd_flush.specs.Children.{IsFetched, IsWayTo}
+use Rattle.bd_flush.specs.Children.{IsFetched, IsWayTo, IsContents}
 use Rattle.bd_flush.specs.Paths.{path_step}
 use Rattle.bd_flush.specs.Splits.{plain_edge, over_two, root_split, IsRootSplit, IsSplitRoot, IsRaised}
-use Rattle.bd_flush.specs.Raising.{raised, raise, Stand, IsWayUp, IsRising}
+use Rattle.bd_flush.specs.Raising.{raised, raise, IsWayUp, IsRising}
 use Rattle.bd_flush.specs.Raising.IsWayUp.{top, one_up}
 use Rattle.bd_flush.specs.Raising.IsRising.{at_top, high_enough, rises}
 use Rattle.bd_flush.specs.Between.{IsHardlyHigher}
 use Rattle.bd_flush.proofs.Worn.{cause_weaker}
 use Rattle.bd_flush.proofs.Givens.{given_first, given_second}
 use Rattle.bd_flush.proofs.ChildSplits.{child_named}
-use Rattle.bd_flush.proofs.PathSteps.{IsMadeUnder, IsUpper, IsPathStep, RisesByOne, given_child, each_change, has_made, has_path, made_old, made_new, path_child, path_old, both_ways, IsPathStepOf, IsPathDone, path_may, path_in_place, path_flushed, path_worn, root_rises, root_stays}
-use Rattle.bd_flush.proofs.RisingSteps.{raised_names, way_private, rising_rises, rising_uppers, rising_once, rising_short, IsChangedBy, changed_more, all_changed, has_room, rising_of}
+use Rattle.bd_flush.proofs.PathSteps.{IsMadeUnder, IsUpper, IsPathStep, RisesByOne, given_child, each_change, has_made, has_path, made_new, path_child, path_old, both_ways, IsPathStepOf, path_may, path_in_place, path_flushed, path_worn, root_rises, root_stays}
+use Rattle.bd_flush.proofs.RisingSteps.{raised_size, raised_times, way_private, rising_rises, rising_uppers, rising_once, rising_short, IsChangedBy, changed_more, all_changed, has_room, rising_of}
 
 -- ---- a node over two others
 
@@ -170,7 +170,7 @@ pub record IsSplitOf (nodes : Nodes) (t : Table) (c : ℕ) (n first : Node) (piv
   pub split : IsSplit t c n first pivot second way rising
   pub sound : IsSound nodes t
   pub there : nodes c ≡ Some n
-  pub stand : Stand nodes way
+  pub stand : AllByRecursion (IsContents nodes) way
 
 -- what holds of the changes of fetched nodes, and the other way round
 each_raise : (P : Change → Type 0) (fs : List Fetched) → AllByRecursion (λ (f : Fetched). P (raise f)) fs → AllByRecursion P (map raise fs)
@@ -268,10 +268,6 @@ pub flushed : (nodes : Nodes) (t : Table) (c : ℕ) (n first : Node) (pivot : Li
 flushed nodes t c n first pivot second way rising new u h =
     path_flushed nodes t c (the_top t n pivot) (map raise rising) (both first second) new u (record { of = over_of nodes t c n first pivot second way rising h.of; after = h.after; committed = h.committed }) (omega arith)
 
-raised_size : (n : Node) → buffer_size (raised n) ≡ buffer_size n
-raised_size (Leaf entries) = refl
-raised_size (Inner level es buffer) = refl
-
 -- the root's level, and the size of what waits in it
 pub over_higher : (t : Table) (c : ℕ) (n first : Node) (pivot : List ℕ) (second : Node) (way rising : List Fetched) (u : Table) → IsSplit t c n first pivot second way rising → IsTableAfter t (the_step t c n first pivot second rising) u
     → AllByRecursion (λ (f : Fetched). f.id ≡ t.root → buffer_size f.node.value ≤ t.size) rising → IsHardlyHigher t u
@@ -287,9 +283,9 @@ over_higher t c n first pivot second way rising u h after fits =
           (λ none. (let same : u.size ≡ t.size = after.same_size none refl in omega arith))
           (λ m some. (let is : u.size ≡ buffer_size m = after.size m some in
           let few : buffer_size m ≤ t.size = each_change (λ (d : Change). d.id ≡ t.root → buffer_size d.node ≤ t.size) t c (the_top t n pivot) (map raise rising) (both first second) t.root m (λ same. (omega arith))
-              (each_raise (λ (d : Change). d.id ≡ t.root → buffer_size d.node ≤ t.size) rising
-              (each_weaker (λ (f : Fetched). f.id ≡ t.root → buffer_size f.node.value ≤ t.size) (λ (f : Fetched). f.id ≡ t.root → buffer_size (raised f.node.value) ≤ t.size) (λ f own same. (let l : buffer_size f.node.value ≤ t.size = own same in omega (arith, raised_size f.node.value))) rising fits))
-              low some refl in
+          (each_raise (λ (d : Change). d.id ≡ t.root → buffer_size d.node ≤ t.size) rising
+          (each_weaker (λ (f : Fetched). f.id ≡ t.root → buffer_size f.node.value ≤ t.size) (λ (f : Fetched). f.id ≡ t.root → buffer_size (raised f.node.value) ≤ t.size) (λ f own same. (let l : buffer_size f.node.value ≤ t.size = own same in omega (arith, raised_size f.node.value))) rising fits))
+          low some refl in
           omega arith));
     }
 
@@ -299,7 +295,7 @@ pub given_top : (t : Table) (c : ℕ) (n first : Node) (pivot : List ℕ) (secon
 given_top t c n first pivot second way rising h =
     given_child t c (the_top t n pivot) (map raise rising) (both first second) (h.table.below c h.kept)
 
-rising_stand : (nodes : Nodes) (level : ℕ) (way rising : List Fetched) → IsRising level way rising → Stand nodes way → Stand nodes rising
+rising_stand : (nodes : Nodes) (level : ℕ) (way rising : List Fetched) → IsRising level way rising → AllByRecursion (IsContents nodes) way → AllByRecursion (IsContents nodes) rising
 rising_stand nodes level _ _ (at_top _) there = tt
 rising_stand nodes level _ _ (high_enough _ f fs high) there = tt
 rising_stand nodes level _ _ (rises _ f fs rising under room more) there = (there.0, rising_stand nodes (level_of f.node.value + 1) fs rising more there.1)
@@ -313,10 +309,6 @@ raised_is nodes t c n first pivot second way rising h id m o low some other old 
     (each_weaker (λ (f : Fetched). nodes f.id ≡ Some f.node.value) (λ (f : Fetched). (f.id ≡ c → ⊥) → (o : Node) → nodes f.id ≡ Some o → raised f.node.value ≡ raised o)
     (λ f own apart o old. ap raised (same_Some f.node.value o (sym own ∙ old))) rising (rising_stand nodes (level_of n + 1) way rising h.split.rise h.stand)))
     low some other o old
-
-raised_times : (n : Node) (c : ℕ) → times (raised n) c ≡ times n c
-raised_times (Leaf entries) c = refl
-raised_times (Inner level edges buffer) c = refl
 
 -- a node of the way is above the one that it names
 pub up_lower : (t : Table) (f : Fetched) (place c : ℕ) (e : Edge) → IsFetched t f → IsWayTo f.node.value place c e → IsLower t (t.level f.id) c
@@ -335,7 +327,7 @@ named_stays nodes t c n first pivot second way rising new u h id o old other kep
 
 -- the nodes of the way stay
 way_stays : (nodes : Nodes) (t : Table) (c : ℕ) (n first : Node) (pivot : List ℕ) (second : Node) (way rising : List Fetched) (new : Nodes) (u : Table) → IsMade nodes t c n first pivot second way rising new u
-    → (d : ℕ) (up : List Fetched) → IsWayUp t d up → Stand nodes up → t.level c ≤ t.level d → IsKept u d
+    → (d : ℕ) (up : List Fetched) → IsWayUp t d up → AllByRecursion (IsContents nodes) up → t.level c ≤ t.level d → IsKept u d
 way_stays nodes t c n first pivot second way rising new u h _ _ top there high = root_stays t c (the_top t n pivot) (map raise rising) (both first second) u h.after
 way_stays nodes t c n first pivot second way rising new u h _ _ (one_up d place f e fs fetched edge once up) there high =
     let lower : t.level d < t.level f.id = (up_lower t f place d e fetched edge).lower in
@@ -367,7 +359,7 @@ upper_there nodes t c n first pivot second way rising new u h =
 
 -- and those that rise
 risen_there : (nodes : Nodes) (t : Table) (c : ℕ) (n first : Node) (pivot : List ℕ) (second : Node) (way rising : List Fetched) (new : Nodes) (u : Table) → IsMade nodes t c n first pivot second way rising new u
-    → (level d : ℕ) (up some : List Fetched) → IsWayUp t d up → Stand nodes up → t.level c ≤ t.level d → IsRising level up some
+    → (level d : ℕ) (up some : List Fetched) → IsWayUp t d up → AllByRecursion (IsContents nodes) up → t.level c ≤ t.level d → IsRising level up some
     → AllByRecursion (λ (f : Fetched). IsSome (given t.next (the_step t c n first pivot second rising) f.id)) some → AllByRecursion (λ (f : Fetched). new f.id ≡ Some (raised f.node.value)) some
 risen_there nodes t c n first pivot second way rising new u h level d _ _ up there high (at_top _) given_too = tt
 risen_there nodes t c n first pivot second way rising new u h level d _ _ up there high (high_enough _ f fs enough) given_too = tt
@@ -375,8 +367,7 @@ risen_there nodes t c n first pivot second way rising new u h level _ _ _ (one_u
     let step : Step = the_step t c n first pivot second rising in
     let lower : t.level d < t.level f.id = (up_lower t f place d e fetched edge).lower in
     let other : f.id ≡ c → ⊥ = λ same. (let z : t.level f.id ≡ t.level c = ap t.level same in omega arith) in
-    let low : f.id < t.next = h.of.split.table.below f.id fetched.kept in
-    (
+    let low : f.id < t.next = h.of.split.table.below f.id fetched.kept in (
       by_given (new f.id ≡ Some (raised f.node.value)) (given t.next step f.id)
           (λ none. absurd (no_some (subst (λ (o : Option Node). IsSome o) none given_too.0)))
           (λ m some. (let is : m ≡ raised f.node.value = raised_is nodes t c n first pivot second way rising h.of f.id m f.node.value low some other there.0 in

@@ -28,10 +28,6 @@ pub data IsWayUp (t : Table) : ℕ → List Fetched → Type 0 where
   one_up : (c place : ℕ) (f : Fetched) (e : Edge) (fs : List Fetched) → IsFetched t f
       → IsWayTo f.node.value place c e → t.count c ≡ 1 → IsWayUp t f.id fs → IsWayUp t c (f ∷ fs)
 
--- the fetched nodes are those of the store
-abbrev pub Stand : Nodes → List Fetched → Type 0
-Stand nodes way = AllByRecursion (λ (f : Fetched). nodes f.id ≡ Some f.node.value) way
-
 -- the nodes above one that gets this level, the nearest first, and those of them that rise: each that
 -- isn't above the one below it, by one level
 pub data IsRising : ℕ → List Fetched → List Fetched → Type 0 where

@@ -13,8 +13,8 @@ ghost use Rattle.bd_node.specs.Tables.{IsSound};
 ghost use Rattle.bd_inner.specs.Halves.{AreHalves};
 ghost use Rattle.bd_flush.specs.declared.fetching.Fetched.{Fetched};
 ghost use Rattle.bd_flush.specs.Flushed.{IsFlushed, IsWornFor};
-ghost use Rattle.bd_flush.specs.Children.{IsFetched};
-ghost use Rattle.bd_flush.specs.Raising.{Stand, IsWayUp, CannotRise};
+ghost use Rattle.bd_flush.specs.Children.{IsFetched, IsContents};
+ghost use Rattle.bd_flush.specs.Raising.{IsWayUp, CannotRise};
 ghost use Rattle.bd_flush.specs.Between.{IsBetweenStep, IsBetween, IsHardlyHigher};
 
 use crate::Fetched;
@@ -40,7 +40,8 @@ pub fn put_between<S: NodeStore>(
     requires way { IsWayUp (S.table store.old) child.now.id (parent.now ∷ reverse above.now) }
     requires halves { AreHalves child.now.node.value halves.0 halves.1 halves.2 }
     requires there { S.is_known store.old → IsSound (S.nodes store.old) (S.table store.old)
-        → Stand (S.nodes store.old) (child.now ∷ parent.now ∷ reverse above.now) }
+        → AllByRecursion (IsContents (S.nodes store.old))
+        (child.now ∷ parent.now ∷ reverse above.now) }
     ensures flushed { S.is_known store.old → IsSound (S.nodes store.old) (S.table store.old)
         → OnOk result (IsFlushed (S.nodes store.old) (S.table store.old)
         (S.nodes store.new) (S.table store.new)) }

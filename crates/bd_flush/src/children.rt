@@ -2,6 +2,7 @@
 
 ghost use Rattle.std.specs.Prelude.{◌≡◌, ◌+◌, ◌<◌, ◌≤◌, ◌∷◌, [], length, reverse, IfOk, MatchOption, OnOk, OnErr, Err};
 ghost use Rattle.std.specs.Option.{option_copied};
+ghost use Rattle.std.specs.List.{AllByRecursion};
 ghost use Rattle.bd_message.specs.KeyMaps.{HasMapCause};
 ghost use Rattle.bd_message.specs.declared.fault.MapFault.TheVariants as fault;
 ghost use Rattle.bd_message.specs.declared.fault.Counter.TheVariants as counter;
@@ -13,8 +14,8 @@ ghost use Rattle.bd_inner.specs.Halves.{edges_of};
 ghost use Rattle.bd_inner.specs.Compaction.{IsCompacted};
 ghost use Rattle.bd_inner.specs.Exchange.{exchanged, IsEdgeAt, FitsAt};
 ghost use Rattle.bd_flush.specs.Flushed.{IsFlushed, IsWornFor};
-ghost use Rattle.bd_flush.specs.Children.{CanSplitChild, AreFamily, child_step, parting, upper_edge, IsSide, IsOver, AreParts, IsLongPivot, IsChildStep};
-ghost use Rattle.bd_flush.specs.Raising.{Stand, IsWayUp, CannotRise};
+ghost use Rattle.bd_flush.specs.Children.{CanSplitChild, AreFamily, IsContents, child_step, parting, upper_edge, IsSide, IsOver, AreParts, IsLongPivot, IsChildStep};
+ghost use Rattle.bd_flush.specs.Raising.{IsWayUp, CannotRise};
 ghost use Rattle.bd_flush.specs.Between.{IsSplitChild, IsHighAfterSplit};
 
 use crate::Fetched;
@@ -47,7 +48,7 @@ pub fn split_child<S: NodeStore>(
     requires family { S.is_known store.old → IsSound (S.nodes store.old) (S.table store.old)
         → AreFamily (S.nodes store.old) (S.table store.old) parent.now child.now }
     requires there { S.is_known store.old → IsSound (S.nodes store.old) (S.table store.old)
-        → Stand (S.nodes store.old) (reverse above.now) }
+        → AllByRecursion (IsContents (S.nodes store.old)) (reverse above.now) }
     ensures flushed { S.is_known store.old → IsSound (S.nodes store.old) (S.table store.old)
         → OnOk result (IsFlushed (S.nodes store.old) (S.table store.old)
         (S.nodes store.new) (S.table store.new)) }

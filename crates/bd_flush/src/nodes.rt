@@ -1,8 +1,6 @@
 //! The parts of nodes.
 
 ghost use Rattle.std.specs.Prelude.{◌≡◌};
-ghost use Rattle.bd_node.specs.Nodes.{buffer_size};
-ghost use Rattle.bd_node.specs.Shape.{IsShape};
 ghost use Rattle.bd_inner.specs.Halves.{edges_of, buffer_of};
 
 use bd_message::Message;
@@ -26,16 +24,4 @@ pub fn buffer_of(node: &Node) -> &[Message]
         Node::Leaf(_) => &[],
         Node::Inner { buffer, .. } => buffer.as_slice(),
     }
-}
-
-/// The size in bytes of the messages that wait in a node.
-pub fn buffer_size(node: &Node) -> usize
-    requires { IsShape node.now }
-    ensures { result ≡ buffer_size node.now }
-{
-    let mut size = 0;
-    for message in buffer_of(node) {
-        size += message.size();
-    }
-    size
 }

@@ -18,7 +18,7 @@ ghost use Rattle.bd_flush.specs.declared.ways.FlushStep.TheVariants as step;
 ghost use Rattle.bd_flush.specs.Raising.{IsWayUp};
 ghost use Rattle.bd_flush.specs.Ways.{IsFullestAt, IsTarget, IsHigh, IsToDo, IsToDoAt, IsWayOf, IsWayThere, IsThere, AreThere, IsChildThere, IsAsked, IsSeen, IsSeenAt, IsWaySeen, IsWaySeenAt};
 
-use crate::nodes::{buffer_of, buffer_size, edges_of};
+use crate::nodes::{buffer_of, edges_of};
 use crate::{Fetched, Way, fetch, fullest};
 use bd_inner::{can_touch, end_of};
 use bd_limits::SOFT_BUFFER;
@@ -177,7 +177,7 @@ fn look_below(
         → AreThere nodes t (reverse above.items)
         → IfOk result (IsWaySeenAt nodes t) }
 {
-    if buffer_size(&child.node) <= SOFT_BUFFER {
+    if child.node.buffer_size() <= SOFT_BUFFER {
         return Ok(Look::End(push_or_carve(above, parent, place, Some(child))));
     }
     if edges_of(&child.node).len() < MANY_EDGES {

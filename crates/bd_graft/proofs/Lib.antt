@@ -1,3 +1,4 @@
 pub mod Freeing
 pub mod Laying
 pub mod Packs
+pub mod Grafts

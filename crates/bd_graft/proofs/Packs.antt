@@ -19,7 +19,7 @@ use Rattle.bd_node.specs.Shape.{IsEdge, IsShape}
 use Rattle.bd_node.specs.Tables.{Table, IsTable, IsLower}
 use Rattle.bd_node.proofs.Lookup.{each_weaker, each_both, count-cons_same}
 use Rattle.bd_node.proofs.Appending.{acts-append, key_of, key_of-touched}
-use Rattle.bd_inner.proofs.Touched.{least_nil}
+use Rattle.bd_message.proofs.Prefixes.{least_nil}
 use Rattle.bd_resolve.specs.declared.following.Target.{Target}
 use Rattle.bd_resolve.specs.Following.{target_at, IsLowerTarget, IsShort}
 use Rattle.bd_graft.specs.declared.layers.Layer.{Layer}
@@ -116,7 +116,7 @@ overlay_shape level under list low high short child each fits = record {
 }
 
 -- ids of nodes
-id_range : (t : Table) (made : List Node) (level : ℕ) → IsTable t → t.next + length made < 2 ^ 64 → (ns : List ℕ) → AllByRecursion (IsUnder t made (length made) level) ns → AllByRecursion (λ c. (1 ≤ c) × (c < 2 ^ 64)) ns
+pub id_range : (t : Table) (made : List Node) (level : ℕ) → IsTable t → t.next + length made < 2 ^ 64 → (ns : List ℕ) → AllByRecursion (IsUnder t made (length made) level) ns → AllByRecursion (λ c. (1 ≤ c) × (c < 2 ^ 64)) ns
 id_range t made level table room ns h =
     each_weaker (IsUnder t made (length made) level) (λ c. (1 ≤ c) × (c < 2 ^ 64))
     (λ c own. elim own [
@@ -153,10 +153,11 @@ begun_of t high end lower short = record {
   counted = refl;
   fits = omega arith;
   lower = tt;
+  over_end = omega arith;
   meaning = λ has made k key. refl;
 }
 
-no_more : (t : Table) (made : List Node) (level high : ℕ) → level ≤ high → (ns : List ℕ) → AllByRecursion (IsUnder t made (length made) level) ns → AllByRecursion (IsUnder t made (length made) high) ns
+pub no_more : (t : Table) (made : List Node) (level high : ℕ) → level ≤ high → (ns : List ℕ) → AllByRecursion (IsUnder t made (length made) level) ns → AllByRecursion (IsUnder t made (length made) high) ns
 no_more t made level high le ns h = each_weaker (IsUnder t made (length made) level) (IsUnder t made (length made) high)
     (λ c own. elim own [
       | inl old ↦ inl (record { kept = old.kept; lower = (let l : t.level c < level = old.lower in omega arith) })
@@ -173,6 +174,7 @@ joined_of t end done made under waiting bytes top l h own fits = record {
   fits = fits;
   lower = names_both (IsLower t (max top l.over)) waiting l.messages (lower_more t top (max top l.over) (le-max_left top l.over) (flat_map message_names waiting) h.lower)
       (lower_more t l.over (max top l.over) (le-max_right top l.over) (flat_map message_names l.messages) (layer_lower t l own));
+  over_end = omega (arith, h.over_end, le-max_left top l.over);
   meaning = λ has made_has k key.
       acts-append has waiting l.messages k (target_at has under k)
       ∙ ap (λ v. acts has l.messages k v) (h.meaning has made_has k key)
@@ -185,6 +187,24 @@ last_named t made place n level top under waiting over last =
     subst (λ (u : Option Target). 1 ≤ times (overlay level u waiting) (t.next + place)) (sym (over.last place (sym last)))
     (omega (arith, count-cons_same (t.next + place) (flat_map message_names waiting)))
 
+-- one node more over overlay nodes
+pub one_more : (t : Table) (made : List Node) (top : Node) → AreOverlays t made → IsShape top → AllByRecursion (IsUnder t made (length made) (level_of top)) (names top) → ((place : ℕ) → length made ≡ suc place → 1 ≤ times top (t.next + place)) → AreOverlays t (made ++ top ∷ [])
+one_more t made top h shape lower last = record {
+  shape = λ place n there. elim (get_cases made top place n there) [
+    | inl before ↦ h.shape place n before
+    | inr here ↦ subst (λ (m : Node). IsShape m) here.1 shape
+  ];
+  lower = λ place n there. elim (get_cases made top place n there) [
+    | inl before ↦ under_more t made (top ∷ []) place place (level_of n) (level_of n) (omega arith) (omega arith) (names n) (h.lower place n before)
+    | inr here ↦ subst (λ (m : Node). AllByRecursion (IsUnder t (made ++ top ∷ []) place (level_of m)) (names m)) here.1
+        (under_more t made (top ∷ []) (length made) place (level_of top) (level_of top) (let e : place ≡ length made = here.0 in omega arith) (omega arith) (names top) lower)
+  ];
+  used = λ place n there. elim (get_cases made top (suc place) n there) [
+    | inl before ↦ h.used place n before
+    | inr here ↦ subst (λ (m : Node). 1 ≤ times m (t.next + place)) here.1 (last place (sym here.0))
+  ];
+}
+
 pub closed_of : (t : Table) (end : Option Target) (done : List Message) (made : List Node) (under : Option Target) (waiting : List Message) (bytes top : ℕ) → IsTable t → t.next + length made < 2 ^ 64 → top ≤ level_limit → IsStackOf t end done made under waiting bytes top
     → IsStackOf t end done (made ++ overlay (max top 1) under waiting ∷ []) (Some (record { child = t.next + length made; source = [] })) [] 0 (max top 1 + 1)
 closed_of t end done made under waiting bytes top table room high h =
@@ -196,21 +216,7 @@ closed_of t end done made under waiting bytes top table room high h =
     let shape : IsShape hat = overlay_shape (max top 1) under waiting (le-max_right top 1) level h.over.short (id_range t made top table room (target_names under) h.over.lower) h.each (let c : bytes ≡ sum_by size waiting = h.counted in let f : bytes ≤ buffer_limit = h.fits in omega arith) in
     let long : length (made ++ hat ∷ []) ≡ length made + 1 = length-append made (hat ∷ []) in
     record {
-      overlays = record {
-        shape = λ place n there. elim (get_cases made hat place n there) [
-          | inl before ↦ h.overlays.shape place n before
-          | inr last ↦ subst (λ (m : Node). IsShape m) last.1 shape
-        ];
-        lower = λ place n there. elim (get_cases made hat place n there) [
-          | inl before ↦ under_more t made (hat ∷ []) place place (level_of n) (level_of n) (omega arith) (omega arith) (names n) (h.overlays.lower place n before)
-          | inr last ↦ subst (λ (m : Node). AllByRecursion (IsUnder t (made ++ hat ∷ []) place (level_of m)) (names m)) last.1
-              (under_more t made (hat ∷ []) (length made) place (max top 1) (max top 1) (let e : place ≡ length made = last.0 in omega arith) (omega arith) (names hat) names_under)
-        ];
-        used = λ place n there. elim (get_cases made hat (suc place) n there) [
-          | inl before ↦ h.overlays.used place n before
-          | inr last ↦ subst (λ (m : Node). 1 ≤ times m (t.next + place)) last.1 (last_named t made place n (max top 1) top under waiting h.over last.0)
-        ];
-      };
+      overlays = one_more t made hat h.overlays shape names_under (λ place last. last_named t made place hat (max top 1) top under waiting h.over (sym last));
       over = record {
         lower = (inr (record { at = length made; node = hat; id = refl; before = omega (arith, long); there = get_last made hat; lower = omega arith }), tt);
         short = omega arith;
@@ -220,6 +226,7 @@ closed_of t end done made under waiting bytes top table room high h =
       counted = refl;
       fits = omega arith;
       lower = tt;
+      over_end = omega (arith, h.over_end, le-max_left top 1);
       meaning = λ has made_has k key.
           made_has (length made) hat (get_last made hat) k key
           ∙ overlay_has has (max top 1) under waiting k
@@ -310,6 +317,7 @@ ended_of t end done s p h none ended = record {
   overlays = subst (λ (ns : List Node). AreOverlays t ns) (sym ended.made) h.overlays;
   over = subst (λ (ns : List Node). IsOver t ns (p.level + 1) (Some p.target)) (sym ended.made)
       (subst (λ (o : Option Target). IsOver t s.made.items (p.level + 1) o) ended.target (subst (λ (n : ℕ). IsOver t s.made.items n s.under) ended.level h.over));
+  over_end = (let o : above t.level (target_names end) ≤ s.level = h.over_end in omega (arith, ended.level));
   meaning = λ has made k key.
       ap (λ (o : Option Target). target_at has o k) (sym ended.target)
       ∙ ap (λ (ms : List Message). acts has ms k (target_at has s.under k)) (sym none)

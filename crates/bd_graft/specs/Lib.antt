@@ -1,2 +1,3 @@
 pub mod Laying
 pub mod Packing
+pub mod Grafting

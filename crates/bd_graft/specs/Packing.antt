@@ -80,6 +80,7 @@ pub record IsStackOf (t : Table) (end : Option Target) (done : List Message) (ma
   pub counted : bytes ≡ sum_by size waiting
   pub fits : bytes ≤ buffer_limit
   pub lower : AllByRecursion (IsLower t top) (flat_map message_names waiting)
+  pub over_end : above t.level (target_names end) ≤ top
   pub meaning : (has : NodesAt) → HasMade has t.next made → (k : List ℕ) → IsKey k
       → acts has waiting k (target_at has under k) ≡ acts has done k (target_at has end k)
 
@@ -92,6 +93,7 @@ pub record IsPacked (t : Table) (end : Option Target) (done : List Message) (p :
   where
     pub overlays : AreOverlays t p.made.items
     pub over : IsOver t p.made.items (p.level + 1) (Some p.target)
+    pub over_end : above t.level (target_names end) ≤ p.level + 1
     pub meaning : (has : NodesAt) → HasMade has t.next p.made.items → (k : List ℕ) → IsKey k
         → target_at has (Some p.target) k ≡ acts has done k (target_at has end k)
 

@@ -2,10 +2,12 @@
 //! The layers above use the contract of `graft`.
 #![tactic(auto)]
 
+mod grafting;
 mod layers;
 mod packing;
 mod walking;
 
+pub use grafting::{put_over, put_under};
 pub use layers::Layer;
 pub use packing::{Packed, Stack, pack};
 pub use walking::{Walked, walk};

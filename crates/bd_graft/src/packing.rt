@@ -179,8 +179,8 @@ fn closed(alloc: Global, stack: Stack, next: u64) -> Result<Stack, AllocError>
     })
 }
 
-// A node with messages over a target.
-fn overlay(
+/// A node with messages over a target.
+pub fn overlay(
     alloc: Global,
     level: u32,
     under: Option<Target>,

@@ -1,5 +1,5 @@
 -- One step of a flush: what it comes to, and the kinds of such steps.
-use Rattle.std.specs.Prelude.{◌≡◌, ℕ, ◌<◌, ◌≤◌, ◌⊎◌, None, Some}
+use Rattle.std.specs.Prelude.{◌≡◌, ℕ, ◌<◌, ◌≤◌, ◌⊎◌, reverse, None, Some}
 use Rattle.bd_limits.specs.Limits.{soft_limit, abundant_limit}
 use Rattle.bd_node.specs.declared.node.Node.{Node}
 use Rattle.bd_node.specs.Meaning.{Nodes}
@@ -10,28 +10,38 @@ use Rattle.bd_flush.specs.declared.ways.FlushStep.TheVariants.{SplitRoot, SplitC
 use Rattle.bd_flush.specs.Pending.{IsFullest}
 use Rattle.bd_flush.specs.Flushed.{IsFlushed}
 use Rattle.bd_flush.specs.Splits.{IsSplitRoot, IsRaised}
-use Rattle.bd_flush.specs.Children.{IsSplitChild, IsLongPivot, IsNoHigher}
-use Rattle.bd_flush.specs.Pushes.{IsPushed, IsPushedNew, IsLongPush}
+use Rattle.bd_flush.specs.Children.{IsNoHigher}
+use Rattle.bd_flush.specs.Between.{IsSplitChild, IsHighAfterSplit, IsHardlyHigher}
+use Rattle.bd_flush.specs.Pushes.{IsPushed, IsPushedBetween, IsPushedNew, IsLongPush}
+use Rattle.bd_flush.specs.Carving.{IsCarvedAt}
 use Rattle.bd_flush.specs.Ways.{IsToDo, IsToDoAt}
 use Rattle.bd_step.specs.declared.steps.Flush.{Flush}
-use Rattle.bd_step.specs.declared.steps.Flush.TheVariants.{Done, Shared, Named, LongPivot}
+use Rattle.bd_step.specs.declared.steps.Flush.TheVariants.{Done, Shared}
 
 -- ---- the kinds of a step
 
--- what a step leaves, by its kind: a root's or a child's split, or a push to a child or a new leaf
+-- what a step leaves, by its kind: a root's or a child's split, a push to a child or a new leaf, or a
+-- Goto whose keys have got edges of their own
 abbrev pub IsMade : Table → FlushStep → Nodes → Table → Type 0
 IsMade t (SplitRoot root) new u = IsSplitRoot t root.node.value new
-IsMade t (SplitChild above parent place child) new u = IsSplitChild t parent place child new u
+IsMade t (SplitChild above parent place child) new u =
+    IsSplitChild t (reverse above) parent place child new u
 IsMade t (Push above parent place None) new u = IsPushedNew t parent place new u
-IsMade t (Push above parent place (Some child)) new u = IsPushed t parent place child new u
+IsMade t (Push above parent place (Some child)) new u =
+    IsPushed t parent place child new u
+    ⊎ IsPushedBetween t (reverse above) parent place child new u
 IsMade t (Privatise above parent place) new u = ⊥
-IsMade t (Carve above parent place) new u = ⊥
+IsMade t (Carve above parent place) new u = IsCarvedAt t parent place new u
 
--- how high the root is after a step, by its kind: one level higher only after its split
+-- how high the root is after a step, by its kind: one level higher only after its split, or where the
+-- pivot of a child's or a leaf's halves would have more than 518 bytes in its parent
 abbrev pub IsHighAfter : Table → FlushStep → Table → Type 0
 IsHighAfter t (SplitRoot root) u = IsRaised t u
-IsHighAfter t (SplitChild above parent place child) u = IsNoHigher t u
-IsHighAfter t (Push above parent place child) u = IsNoHigher t u
+IsHighAfter t (SplitChild above parent place child) u =
+    IsHighAfterSplit t parent.node.value place child.node.value u
+IsHighAfter t (Push above parent place None) u = IsNoHigher t u
+IsHighAfter t (Push above parent place (Some child)) u = IsNoHigher t u
+    ⊎ (IsLongPush parent.node.value place child.node.value × IsHardlyHigher t u)
 IsHighAfter t (Privatise above parent place) u = IsNoHigher t u
 IsHighAfter t (Carve above parent place) u = IsNoHigher t u
 
@@ -65,13 +75,10 @@ pub record IsFlushStep (nodes : Nodes) (t : Table) (new : Nodes) (u : Table) : T
 -- what comes of the step that is to be done: it is made, or nothing is, for this cause
 abbrev pub IsOutcome : FlushStep → Flush → Type 0
 IsOutcome (SplitRoot root) flush = flush ≡ Done
-IsOutcome (SplitChild above parent place child) flush = (flush ≡ Done)
-    ⊎ ((flush ≡ LongPivot) × IsLongPivot parent.node.value place child.node.value)
-IsOutcome (Push above parent place None) flush = flush ≡ Done
-IsOutcome (Push above parent place (Some child)) flush = (flush ≡ Done)
-    ⊎ ((flush ≡ LongPivot) × IsLongPush parent.node.value place child.node.value)
+IsOutcome (SplitChild above parent place child) flush = flush ≡ Done
+IsOutcome (Push above parent place child) flush = flush ≡ Done
 IsOutcome (Privatise above parent place) flush = flush ≡ Shared
-IsOutcome (Carve above parent place) flush = flush ≡ Named
+IsOutcome (Carve above parent place) flush = flush ≡ Done
 
 -- what the way down finds to do, as far as the tables tell, and what comes of it
 pub record IsFound (t u : Table) (flush : Flush) : Type 0 where

@@ -1,17 +1,16 @@
 //! One step of a flush.
 
-ghost use Rattle.std.specs.Prelude.{◌≡◌, ◌≢◌, ◌↔◌, ◌+◌, ◌<◌, ◌≤◌, IfOk, Ok};
+ghost use Rattle.std.specs.Prelude.{◌≡◌, ◌≢◌, ◌↔◌, ◌+◌, ◌<◌, ◌≤◌, reverse, IfOk, Ok};
 ghost use Rattle.bd_message.specs.KeyMaps.{HasMapCause};
 ghost use Rattle.bd_node.specs.Tables.{IsSound};
 ghost use Rattle.bd_flush.specs.declared.ways.FlushStep.TheVariants as step;
 ghost use Rattle.bd_flush.specs.Flushed.{IsFlushed, IsWornFor};
-ghost use Rattle.bd_flush.specs.Children.{IsNoHigher};
-ghost use Rattle.bd_flush.specs.Ways.{IsToDo, IsToDoAt};
+ghost use Rattle.bd_flush.specs.Raising.{IsWayUp};
+ghost use Rattle.bd_flush.specs.Ways.{IsToDo, IsToDoAt, AreThere, IsWayOf, IsWayThere};
 ghost use Rattle.bd_step.specs.Steps.{IsMade, IsHighAfter, IsFlushStep, IsOutcome, IsFound, IsFoundAt};
 
 use bd_flush::{
-    ChildPush, ChildSplit, Fetched, FlushStep, Way, next_step, push, push_new, split_child,
-    split_root,
+    Fetched, FlushStep, Way, carve, next_step, push, push_new, split_child, split_root,
 };
 use bd_message::MapFault;
 use bd_node::NodeStore;
@@ -27,23 +26,19 @@ pub enum Flush {
     /// The fullest edge of a node on the way asks a shared child, or one with something in front of
     /// a key: nothing was changed.
     Shared,
-    /// A Goto is pending for the fullest edge of a node on the way: nothing was changed.
-    Named,
-    /// A child or a leaf is to be split whose halves part at a pivot that would have more than 518
-    /// bytes in its parent: nothing was changed.
-    LongPivot,
 }
 
 /// Makes one step of a flush where more than `limit` bytes of messages wait in the root: at the
-/// place that the way down from the root finds, a node is split, or messages go down to a child or
-/// to a new leaf. All changes are made at once or not at all. At most as many nodes are fetched as
-/// the tree is high, and at most four are made.
+/// place that the way down from the root finds, a node is split, messages go down to a child or to a
+/// new leaf, or the keys of a Goto get edges of their own. All changes are made at once or not at
+/// all. At most as many nodes are fetched as the tree is high, and at most four are made.
 pub fn flush_step<S: NodeStore>(
     alloc: Global,
     store: &mut S,
     limit: usize,
 ) -> Result<Flush, MapFault>
     ensures enough { (result ≡ Ok Flush.Enough) ↔ ((S.table store.old).size ≤ limit) }
+    ensures unchanged { result ≡ Ok Flush.Enough → store.new ≡ store.old }
     ensures step { S.is_known store.old → IsSound (S.nodes store.old) (S.table store.old)
         → result ≡ Ok Flush.Done → IsFlushStep (S.nodes store.old) (S.table store.old)
         (S.nodes store.new) (S.table store.new) }
@@ -56,8 +51,6 @@ pub fn flush_step<S: NodeStore>(
     ensures same_table { result ≢ Ok Flush.Done → S.table store.new ≡ S.table store.old }
     ensures same_nodes { S.is_known store.old
         → result ≢ Ok Flush.Done → S.nodes store.new ≡ S.nodes store.old }
-    ensures no_visit { result ≡ Ok Flush.Enough
-        → S.visit_count store.new ≡ S.visit_count store.old }
     ensures few_visits { S.visit_count store.new
         ≤ S.visit_count store.old + ((S.table store.old).level (S.table store.old).root + 1) + 4 }
     ensures cause { HasMapCause (S.fault_count store.old) (S.fault_count store.new)
@@ -77,6 +70,9 @@ fn make<S: NodeStore>(alloc: Global, store: &mut S, step: FlushStep) -> Result<F
     requires to_do { IsToDo (S.table store.old) step }
     requires here { S.is_known store.old → IsSound (S.nodes store.old) (S.table store.old)
         → IsToDoAt (S.nodes store.old) (S.table store.old) step }
+    requires way { IsWayOf (S.table store.old) step }
+    requires way_here { S.is_known store.old → IsSound (S.nodes store.old) (S.table store.old)
+        → IsWayThere (S.nodes store.old) (S.table store.old) step }
     ensures flushed { S.is_known store.old → IsSound (S.nodes store.old) (S.table store.old)
         → result ≡ Ok Flush.Done → IsFlushed (S.nodes store.old) (S.table store.old)
         (S.nodes store.new) (S.table store.new) }
@@ -101,14 +97,14 @@ fn make<S: NodeStore>(alloc: Global, store: &mut S, step: FlushStep) -> Result<F
             Ok(Flush::Done)
         }
         FlushStep::SplitChild {
+            above,
             parent,
             place,
             child,
-            ..
-        } => match split_child(alloc, store, &parent, place, &child)? {
-            ChildSplit::Done => Ok(Flush::Done),
-            ChildSplit::LongPivot => Ok(Flush::LongPivot),
-        },
+        } => {
+            split_child(alloc, store, above.as_slice(), &parent, place, &child)?;
+            Ok(Flush::Done)
+        }
         FlushStep::Push {
             above,
             parent,
@@ -116,7 +112,10 @@ fn make<S: NodeStore>(alloc: Global, store: &mut S, step: FlushStep) -> Result<F
             child,
         } => push_down(alloc, store, above, parent, place, child),
         FlushStep::Privatise { .. } => Ok(Flush::Shared),
-        FlushStep::Carve { .. } => Ok(Flush::Named),
+        FlushStep::Carve { parent, place, .. } => {
+            carve(alloc, store, &parent, place)?;
+            Ok(Flush::Done)
+        }
     }
 }
 
@@ -133,14 +132,17 @@ fn push_down<S: NodeStore>(
     requires to_do { IsToDo (S.table store.old) (step.Push above parent place child) }
     requires here { S.is_known store.old → IsSound (S.nodes store.old) (S.table store.old)
         → IsToDoAt (S.nodes store.old) (S.table store.old) (step.Push above parent place child) }
+    requires way { IsWayUp (S.table store.old) parent.id (reverse above) }
+    requires way_here { S.is_known store.old → IsSound (S.nodes store.old) (S.table store.old)
+        → AreThere (S.nodes store.old) (S.table store.old) (reverse above) }
     ensures flushed { S.is_known store.old → IsSound (S.nodes store.old) (S.table store.old)
         → result ≡ Ok Flush.Done → IsFlushed (S.nodes store.old) (S.table store.old)
         (S.nodes store.new) (S.table store.new) }
     ensures made { S.is_known store.old → IsSound (S.nodes store.old) (S.table store.old)
         → result ≡ Ok Flush.Done → IsMade (S.table store.old) (step.Push above parent place child)
         (S.nodes store.new) (S.table store.new) }
-    ensures height { result ≡ Ok Flush.Done
-        → IsNoHigher (S.table store.old) (S.table store.new) }
+    ensures height { result ≡ Ok Flush.Done → IsHighAfter (S.table store.old)
+        (step.Push above parent place child) (S.table store.new) }
     ensures outcome { IfOk result (IsOutcome (step.Push above parent place child)) }
     ensures known { S.is_known store.old → S.is_known store.new }
     ensures same_table { result ≢ Ok Flush.Done → S.table store.new ≡ S.table store.old }
@@ -156,9 +158,9 @@ fn push_down<S: NodeStore>(
             push_new(alloc, store, &parent, place)?;
             Ok(Flush::Done)
         }
-        Some(child) => match push(alloc, store, &parent, place, &child)? {
-            ChildPush::Done => Ok(Flush::Done),
-            ChildPush::LongPivot => Ok(Flush::LongPivot),
-        },
+        Some(child) => {
+            push(alloc, store, above.as_slice(), &parent, place, &child)?;
+            Ok(Flush::Done)
+        }
     }
 }

@@ -1,5 +1,5 @@
 use Rattle.std.proofs.Common.{arith, reverse, ◌∷◌}
-use Rattle.bd_flush.proofs.PutBetween.{at_last, way_shapes, below_last, found_step, is_to_put, may_put, put_in_place, put_flushed, put_is, put_higher, put_risen, put_worn, put_stuck}
+use Rattle.bd_flush.proofs.PutBetween.{way_shapes, below_last, found_step, is_to_put, may_put, put_in_place, put_flushed, put_is, put_higher, put_risen, put_worn, put_stuck}
 use Rattle.bd_flush.specs.Between.{IsBetweenStep}
 use Rattle.bd_flush.proofs.between.put_between.Goals as goal
 

@@ -1,3 +1,18 @@
+use Rattle.std.proofs.Common.{◌≡◌, subst, sym, rules}
+use Rattle.bd_node.specs.declared.node.Edge.{Edge}
+use Rattle.bd_inner.specs.Exchange.{IsEdgeAt}
+use Rattle.bd_flush.specs.Children.{IsOver}
+use Rattle.bd_flush.specs.declared.children.Halving.{Halving}
+use Rattle.bd_flush.proofs.ChildSplits.{edge_here, own_fits, short_is, long_is}
+use Rattle.bd_flush.proofs.children.split_below.Goals as goal
+
+pub over_halves-requires-clause-fits : goal.over_halves-requires-clause-fits
+over_halves-requires-clause-fits c =
+    let same : c.in_ok-edge.edge ≡ c.index-edges_of-place.result = search rules in
+    own_fits c.args.node.now c.args.place c.in_ok-edge.edge c.requires.shape
+    (subst (λ (e : Edge). IsEdgeAt c.args.node.now c.args.place e) (sym same)
+    (edge_here c.edges_of.result.now c.args.node.now c.args.place c.index-edges_of-place.result c.edges_of.ensures c.requires.within c.index-edges_of-place.is))
+
 pub returns-in-Short : goal.returns-in-Short
 returns-in-Short c =
     let same : c.in_ok-edge.edge ≡ c.index-edges_of-place.result = search rules in

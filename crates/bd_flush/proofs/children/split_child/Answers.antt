@@ -1,4 +1,4 @@
-use Rattle.std.proofs.Common.{arith, subst, Option, inl, reverse, ◌∷◌}
+use Rattle.std.proofs.Common.{arith, subst, Option, inl, reverse}
 use Rattle.std.specs.Prelude.{MatchOption}
 use Rattle.std.proofs.lemmas.Result.{err_from_is_err_and}
 use Rattle.bd_node.specs.declared.node.Step.{Step}
@@ -50,9 +50,12 @@ returns-clause-table g c =
 
 pub returns-clause-few_visits : goal.returns-clause-few_visits
 returns-clause-few_visits g c =
-    omega (arith, split_visits (g.S.NodeStore.table c.args.store.now) c.args.parent.now c.args.place c.args.child.now c.in-Some.step (g.S.NodeStore.visit_count c.args.store.now) (g.S.NodeStore.visit_count c.commit.new.self)
-    (is_to_split_child (g.S.NodeStore.table c.args.store.now) c.args.parent.now c.args.place c.args.child.now c.in-Some.step c.root-root.result c.next_id-next.result c.root-root.ensures.table c.requires.can c.root-root.ensures.value c.next_id-next.ensures.value (omega arith)
-    (subst (λ (o : Option Step). MatchOption o (IsLongPivot c.args.parent.now.node.value c.args.place c.args.child.now.node.value) (λ (s : Step). IsChildStep c.root-root.result c.next_id-next.result c.args.parent.now c.args.place c.args.child.now s)) c.in-Some.is c.in_ok-step.ensures)) c.in_ok-commit.ensures.visits)
+    omega (
+      arith,
+      split_visits (g.S.NodeStore.table c.args.store.now) c.args.parent.now c.args.place c.args.child.now c.in-Some.step (g.S.NodeStore.visit_count c.args.store.now) (g.S.NodeStore.visit_count c.commit.new.self)
+          (is_to_split_child (g.S.NodeStore.table c.args.store.now) c.args.parent.now c.args.place c.args.child.now c.in-Some.step c.root-root.result c.next_id-next.result c.root-root.ensures.table c.requires.can c.root-root.ensures.value c.next_id-next.ensures.value (omega arith)
+          (subst (λ (o : Option Step). MatchOption o (IsLongPivot c.args.parent.now.node.value c.args.place c.args.child.now.node.value) (λ (s : Step). IsChildStep c.root-root.result c.next_id-next.result c.args.parent.now c.args.place c.args.child.now s)) c.in-Some.is c.in_ok-step.ensures)) c.in_ok-commit.ensures.visits,
+    )
 
 pub put_between-requires-clause-way : goal.put_between-requires-clause-way
 put_between-requires-clause-way g c = way_of (g.S.NodeStore.table c.args.store.now) (reverse c.args.above.now) c.args.parent.now c.args.place c.args.child.now c.requires.can c.requires.way

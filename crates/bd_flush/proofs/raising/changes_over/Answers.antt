@@ -1,6 +1,5 @@
-use Rattle.std.proofs.Common.{arith, ap, refl, ◌∙◌, ◌++◌, ◌∷◌, [], List}
+use Rattle.std.proofs.Common.{arith, ap, ◌∙◌, ◌++◌, ◌∷◌, [], List}
 use Rattle.bd_node.specs.declared.node.Change.{Change}
-use Rattle.bd_flush.specs.Raising.{raised}
 use Rattle.bd_flush.proofs.Raisings.{none_over, on_over}
 use Rattle.bd_flush.proofs.raising.changes_over.Goals as goal
 

@@ -1,5 +1,5 @@
 use Rattle.std.proofs.Common.{arith}
-use Rattle.bd_step.proofs.Making.{never_enough, here_again, is_flush_step}
+use Rattle.bd_step.proofs.Making.{never_enough, here_again, way_again, is_flush_step}
 use Rattle.bd_step.proofs.steps.flush_step.Goals as goal
 
 pub make-requires-clause-here : goal.make-requires-clause-here
@@ -8,11 +8,17 @@ make-requires-clause-here g c = λ known sound.
     here_again (g.S.NodeStore.nodes c.args.store.now) (g.S.NodeStore.nodes c.next_step.new.store) (g.S.NodeStore.table c.args.store.now) (g.S.NodeStore.table c.next_step.new.store) c.in_ok-step.step
     (c.next_step.ensures.kept was) c.next_step.ensures.table sound (c.in_ok-step.ensures.at was)
 
+pub make-requires-clause-way_here : goal.make-requires-clause-way_here
+make-requires-clause-way_here g c = λ known sound.
+    let was = g.met.S.NodeStore.reads_known c.args.store.now c.next_step.new.store c.next_step.ensures.read known in
+    way_again (g.S.NodeStore.nodes c.args.store.now) (g.S.NodeStore.nodes c.next_step.new.store) (g.S.NodeStore.table c.args.store.now) (g.S.NodeStore.table c.next_step.new.store) c.in_ok-step.step
+    (c.next_step.ensures.kept was) c.next_step.ensures.table sound (c.in_ok-step.ensures.way_at was)
+
 pub returns-clause-enough : goal.returns-clause-enough
 returns-clause-enough g c = (λ is. absurd (never_enough c.make.result c.in_ok-step.step c.make.ensures.outcome is), λ few. absurd (omega arith))
 
-pub returns-clause-no_visit : goal.returns-clause-no_visit
-returns-clause-no_visit g c = λ is. absurd (never_enough c.make.result c.in_ok-step.step c.make.ensures.outcome is)
+pub returns-clause-unchanged : goal.returns-clause-unchanged
+returns-clause-unchanged g c = λ is. absurd (never_enough c.make.result c.in_ok-step.step c.make.ensures.outcome is)
 
 pub returns-clause-step : goal.returns-clause-step
 returns-clause-step g c = λ known sound done.

@@ -1,0 +1,64 @@
+-- The step of a graft.
+use Rattle.std.specs.Prelude.{◌≡◌, ℕ, ◌+◌, ◌^◌, ◌<◌, ◌≤◌, Bool, if◌then◌else◌, List, [], ◌∷◌, ◌++◌, length, Option, Some}
+use Rattle.bd_limits.specs.Limits.{level_limit}
+use Rattle.bd_message.specs.declared.fault.Counter.{Counter}
+use Rattle.bd_message.specs.declared.fault.Counter.TheVariants.{Count, NextId, Level, Refs, Epoch, Flushes}
+use Rattle.bd_message.specs.declared.message.Message.{Message}
+use Rattle.bd_message.specs.declared.message.Message.TheVariants.{Goto, Cut}
+use Rattle.bd_node.specs.declared.node.Node.{Node}
+use Rattle.bd_node.specs.declared.node.Step.{Step}
+use Rattle.bd_node.specs.Nodes.{appended}
+use Rattle.bd_node.specs.Tables.{Table, IsSound, root_at}
+use Rattle.bd_resolve.specs.declared.following.Target.{Target}
+use Rattle.bd_graft.specs.declared.packing.Packed.{Packed}
+use Rattle.bd_graft.specs.declared.layers.Layer.{Layer}
+use Rattle.bd_graft.specs.Laying.{laid, AreLayers}
+use Rattle.bd_graft.specs.Packing.{overlay, IsPacked}
+use Rattle.bd_node.specs.Meaning.{Nodes, at}
+use Rattle.bd_keys.specs.Keys.{IsKey}
+use Rattle.bd_message.specs.Effect.{acts}
+use Rattle.bd_resolve.specs.Following.{target_at}
+
+-- the messages of a graft: one prefix is sent to a target, and without `keep` the other one is cut
+abbrev pub graft_messages : List ℕ → List ℕ → Bool → Target → List Message
+graft_messages s d keep target =
+    Goto d target.source target.child ∷ (if keep then [] else Cut s [] ∷ [])
+
+-- the step that changes the root, over made nodes
+abbrev pub root_change : ℕ → Node → List Node → Step
+root_change root n made =
+    record { made = made; changes = record { id = root; node = n } ∷ []; root = root }
+
+-- the step that puts messages into the root, over made nodes
+abbrev pub step_under : Table → Node → List Node → List Message → Step
+step_under t n made list = root_change t.root (appended n list) made
+
+-- the step that makes nodes and a new root after them
+abbrev pub top_made : List Node → Node → ℕ → Step
+top_made made top next =
+    record { made = made ++ top ∷ []; changes = []; root = next + length made }
+
+-- the step that puts messages into a new root over the old one
+abbrev pub step_over : Table → List Node → List Message → Step
+step_over t made list = top_made made
+    (overlay (t.level t.root + 1) (Some (record { child = t.root; source = [] })) list) t.next
+
+-- what is packed has, under the made nodes, what stands at the keys that begin with a prefix
+pub record IsReady (known : Type 0) (nodes : Nodes) (t : Table) (s : List ℕ) (packed : Packed)
+    : Type 0 where
+  pub layers : List Layer
+  pub end : Option Target
+  pub packed_is : IsPacked t end (laid layers) packed
+  pub layers_are : AreLayers t (t.level t.root + 1) layers end
+  pub value : known → IsSound nodes t → (k : List ℕ) → IsKey k
+      → acts (at nodes) (laid layers) k (target_at (at nodes) end k) ≡ root_at nodes t (s ++ k)
+
+-- a counter that has no room for a graft: ids for its nodes, a level above the root's, more
+-- references to a node
+abbrev pub IsWornForGraft : Table → Counter → Type 0
+IsWornForGraft t NextId = 2 ^ 64 ≤ t.next + t.level t.root + 4
+IsWornForGraft t Level = t.level t.root ≡ level_limit
+IsWornForGraft t Refs = (id : ℕ) × (2 ^ 63 ≤ t.count id)
+IsWornForGraft t Count = ⊥
+IsWornForGraft t Epoch = ⊥
+IsWornForGraft t Flushes = ⊥

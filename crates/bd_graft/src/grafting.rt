@@ -1,0 +1,171 @@
+//! The graft of what stands under one prefix to another.
+
+ghost use Rattle.std.specs.Prelude.{◌≡◌, ◌+◌, ◌<◌, ◌≤◌, ◌^◌, length, Some, IfOk, OnOk, OnErr};
+ghost use Rattle.bd_limits.specs.Limits.{key_limit, buffer_limit, level_limit};
+ghost use Rattle.bd_message.specs.KeyMaps.{HasMapCause, IsGrafted};
+ghost use Rattle.bd_node.specs.Nodes.{buffer_size};
+ghost use Rattle.bd_node.specs.Tables.{IsNodeOf, IsSound, root_at};
+ghost use Rattle.bd_node.specs.Steps.{IsWornBy};
+ghost use Rattle.bd_node.specs.Stores.{visited};
+ghost use Rattle.bd_graft.specs.Grafting.{graft_messages, root_change, top_made, step_under, step_over, IsReady};
+
+use crate::packing::{Packed, overlay};
+use bd_inner::receive;
+use bd_keys::Bytes;
+use bd_message::{MapFault, Message};
+use bd_node::{Change, Items, Messages, Node, NodeStore, Step};
+use bd_resolve::Target;
+use std::alloc::{AllocError, Global};
+
+// What is packed goes into the root, which is higher: one prefix is sent to it.
+pub fn put_under<S: NodeStore>(
+    alloc: Global,
+    store: &mut S,
+    node: &Node,
+    packed: Packed,
+    s: &[u8],
+    d: &[u8],
+    keep: bool,
+) -> Result<(), MapFault>
+    requires own { IsNodeOf (S.table store.old)
+        ((S.table store.old).level (S.table store.old).root) node.now }
+    requires there { S.is_known store.old
+        → S.nodes store.old (S.table store.old).root ≡ Some node.now }
+    requires source { length s.now ≤ key_limit }
+    requires target { length d.now ≤ key_limit }
+    requires fits { buffer_size node.now + 1600 ≤ buffer_limit }
+    requires room { (S.table store.old).next + length packed.made.items < 2 ^ 64 }
+    requires low { packed.level < (S.table store.old).level (S.table store.old).root }
+    requires ready { IsReady (S.is_known store.old) (S.nodes store.old) (S.table store.old)
+        s.now packed }
+    ensures grafted { S.is_known store.old → IsSound (S.nodes store.old) (S.table store.old)
+        → OnOk result (IsGrafted (root_at (S.nodes store.old) (S.table store.old)) s.now d.now keep
+        (root_at (S.nodes store.new) (S.table store.new))) }
+    ensures sound { S.is_known store.old → IsSound (S.nodes store.old) (S.table store.old)
+        → OnOk result (IsSound (S.nodes store.new) (S.table store.new)) }
+    ensures next { OnOk result ((S.table store.new).next
+        ≡ (S.table store.old).next + length packed.made.items) }
+    ensures level { OnOk result ((S.table store.new).level (S.table store.new).root
+        ≡ (S.table store.old).level (S.table store.old).root) }
+    ensures known { S.is_known store.old → S.is_known store.new }
+    ensures err_table { OnErr result (S.table store.new ≡ S.table store.old) }
+    ensures err_nodes { S.is_known store.old
+        → OnErr result (S.nodes store.new ≡ S.nodes store.old) }
+    ensures cause { HasMapCause (S.fault_count store.old) (S.fault_count store.new)
+        (S.bad store.new) (IsWornBy (S.table store.old) (step_under (S.table store.old) node.now
+        packed.made.items (graft_messages s.now d.now keep packed.target))) result }
+    ensures visits { OnOk result (S.visit_count store.new
+        ≡ visited (S.visit_count store.old) (length packed.made.items)) }
+    ensures err_visits { OnErr result (S.visit_count store.new ≡ S.visit_count store.old) }
+    ensures same_loans { S.loans store.new ≡ S.loans store.old }
+{
+    let root = store.root();
+    let list = messages(alloc, s, d, keep, &packed.target)?;
+    let new = receive(alloc, node, list.as_slice())?;
+    let step = under(alloc, root, new, packed.made)?;
+    store.commit(step)
+}
+
+// What is packed goes into a new root over the old one: one prefix is sent to it.
+pub fn put_over<S: NodeStore>(
+    alloc: Global,
+    store: &mut S,
+    packed: Packed,
+    s: &[u8],
+    d: &[u8],
+    keep: bool,
+) -> Result<(), MapFault>
+    requires source { length s.now ≤ key_limit }
+    requires target { length d.now ≤ key_limit }
+    requires room { (S.table store.old).next + length packed.made.items + 1 < 2 ^ 64 }
+    requires level { (S.table store.old).level (S.table store.old).root < level_limit }
+    requires low { packed.level ≤ (S.table store.old).level (S.table store.old).root }
+    requires ready { IsReady (S.is_known store.old) (S.nodes store.old) (S.table store.old)
+        s.now packed }
+    ensures grafted { S.is_known store.old → IsSound (S.nodes store.old) (S.table store.old)
+        → OnOk result (IsGrafted (root_at (S.nodes store.old) (S.table store.old)) s.now d.now keep
+        (root_at (S.nodes store.new) (S.table store.new))) }
+    ensures sound { S.is_known store.old → IsSound (S.nodes store.old) (S.table store.old)
+        → OnOk result (IsSound (S.nodes store.new) (S.table store.new)) }
+    ensures next { OnOk result ((S.table store.new).next
+        ≡ (S.table store.old).next + (length packed.made.items + 1)) }
+    ensures level { OnOk result ((S.table store.new).level (S.table store.new).root
+        ≡ (S.table store.old).level (S.table store.old).root + 1) }
+    ensures known { S.is_known store.old → S.is_known store.new }
+    ensures err_table { OnErr result (S.table store.new ≡ S.table store.old) }
+    ensures err_nodes { S.is_known store.old
+        → OnErr result (S.nodes store.new ≡ S.nodes store.old) }
+    ensures cause { HasMapCause (S.fault_count store.old) (S.fault_count store.new)
+        (S.bad store.new) (IsWornBy (S.table store.old) (step_over (S.table store.old)
+        packed.made.items (graft_messages s.now d.now keep packed.target))) result }
+    ensures visits { OnOk result (S.visit_count store.new
+        ≡ visited (S.visit_count store.old) (length packed.made.items + 1)) }
+    ensures err_visits { OnErr result (S.visit_count store.new ≡ S.visit_count store.old) }
+    ensures same_loans { S.loans store.new ≡ S.loans store.old }
+{
+    let root = store.root();
+    let next = store.next_id();
+    let level = store.level(root) + 1;
+    let list = messages(alloc, s, d, keep, &packed.target)?;
+    let old = Target {
+        child: root,
+        source: Bytes::from_vec(Vec::new(alloc)),
+    };
+    let top = overlay(alloc, level, Some(old), Messages::from_vec(list))?;
+    let step = over(alloc, packed.made, top, next)?;
+    store.commit(step)
+}
+
+// The messages of a graft.
+fn messages(
+    alloc: Global,
+    s: &[u8],
+    d: &[u8],
+    keep: bool,
+    target: &Target,
+) -> Result<Vec<Message>, AllocError>
+    ensures { IfOk result (λ list. list.items ≡ graft_messages s.now d.now keep target.now) }
+{
+    let mut list = Vec::new(alloc);
+    list.push(Message::Goto {
+        prefix: Bytes::from_slice(alloc, d)?,
+        source: target.source.clone()?,
+        child: target.child,
+    })?;
+    if keep {
+        return Ok(list);
+    }
+    list.push(Message::Cut {
+        prefix: Bytes::from_slice(alloc, s)?,
+        from: Bytes::from_vec(Vec::new(alloc)),
+    })?;
+    Ok(list)
+}
+
+// The step that changes the root and makes nodes.
+fn under(alloc: Global, root: u64, node: Node, made: Vec<Node>) -> Result<Step, AllocError>
+    ensures { IfOk result (λ step. step ≡ root_change root node made.items) }
+{
+    let mut changes = Vec::new(alloc);
+    changes.push(Change { id: root, node })?;
+    Ok(Step {
+        made: Items::from_vec(made),
+        changes: Items::from_vec(changes),
+        root,
+    })
+}
+
+// The step that makes nodes and a new root after them.
+fn over(alloc: Global, made: Vec<Node>, top: Node, next: u64) -> Result<Step, AllocError>
+    requires { next + length made.items < 2 ^ 64 }
+    ensures { IfOk result (λ step. step ≡ top_made made.items top next) }
+{
+    let root = next + made.len() as u64;
+    let mut made = made;
+    made.push(top)?;
+    Ok(Step {
+        made: Items::from_vec(made),
+        changes: Items::from_vec(Vec::new(alloc)),
+        root,
+    })
+}
