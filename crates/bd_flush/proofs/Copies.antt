@@ -5,24 +5,27 @@ use Rattle.std.specs.Prelude.{slice_get}
 use Rattle.std.specs.List.{AllByRecursion, flat_map}
 use Rattle.std.specs.Option.{option_to_list}
 use Rattle.std.proofs.lemmas.Bool.{cases_eq}
-use Rattle.std.proofs.lemmas.Option.{same_Some, slice_get_within}
+use Rattle.std.proofs.lemmas.Option.{same_Some, none-some, slice_get_within}
 use Rattle.bd_keys.specs.Keys.{IsKey}
+use Rattle.bd_keys.proofs.Order.{IsKey-cons, IsKey-rest}
+use Rattle.bd_message.specs.declared.message.Message.{Message}
+use Rattle.bd_message.specs.declared.message.Message.TheVariants.{Put, Del, Patch, Cut, Goto}
+use Rattle.bd_message.specs.Messages.{IsMessage}
+use Rattle.bd_message.specs.Freeing.{source_of}
 use Rattle.bd_message.specs.declared.fault.MapFault.{MapFault}
 use Rattle.bd_message.specs.KeyMaps.{HasMapCause}
 use Rattle.bd_node.specs.declared.node.Edge.{Edge}
 use Rattle.bd_node.specs.declared.node.Node.{Node}
 use Rattle.bd_node.specs.declared.node.Node.TheVariants.{Leaf, Inner}
 use Rattle.bd_node.specs.declared.node.Entry.{Entry}
-use Rattle.bd_limits.specs.Limits.{key_limit, leaf_limit}
+use Rattle.bd_limits.specs.Limits.{key_limit, leaf_limit, edge_limit}
 use Rattle.bd_leaf.specs.Leaves.{entries_size}
 use Rattle.bd_leaf.specs.Leaves.{IsClipped as LeafClipped}
-use Rattle.bd_inner.specs.Clipping.{IsLong, IsClipped}
-use Rattle.bd_inner.proofs.Clipped.{short_loose}
-use Rattle.bd_inner.proofs.ClippedEdges.{IsKey-append}
+use Rattle.bd_inner.specs.Clipping.{IsLongEdge, IsLongMessage, IsLong, IsClipped}
 use Rattle.bd_node.specs.declared.node.Step.{Step}
 use Rattle.bd_node.specs.Nodes.{level_of, buffer_size, message_names, edge_names, names, times, child_at, node_at, node_has}
 use Rattle.bd_node.specs.Meaning.{Nodes, at, found_at}
-use Rattle.bd_node.specs.Shape.{IsEdge, IsLeaf, IsShape}
+use Rattle.bd_node.specs.Shape.{EachEdge, IsEdge, IsLeaf, IsShape}
 use Rattle.bd_node.specs.Tables.{Table, IsKept, IsTable, IsLower, IsNodeOf, IsSound}
 use Rattle.bd_node.specs.Private.{IsPrivate}
 use Rattle.bd_node.specs.Private.IsPrivate.{root_alone, alone}
@@ -34,10 +37,10 @@ use Rattle.bd_node.proofs.Meanings.{at-meets}
 use Rattle.bd_node.proofs.Sound.{sound-levelled, named_lower, kept_there}
 use Rattle.bd_node.proofs.Stepping.{given-new, after-none, given_stays}
 use Rattle.bd_inner.specs.Halves.{edges_of, buffer_of}
-use Rattle.bd_inner.specs.Compaction.{IsLooseNode, IsCompacted}
+use Rattle.bd_inner.specs.Compaction.{IsLoose, IsLooseNode, IsCompacted}
 use Rattle.bd_inner.specs.Exchange.{exchanged, end_at, IsEdgeAt, FitsAt, way_to}
 use Rattle.bd_inner.proofs.Compacting.{count_names, count_names-append, compacted_shape, compacted_level, compacted_meaning, compacted_size, compacted_times}
-use Rattle.bd_inner.proofs.Fitting.{own_shape, one_fits}
+use Rattle.bd_inner.proofs.Fitting.{own_shape}
 use Rattle.bd_inner.proofs.Moved.{moved_none}
 use Rattle.bd_inner.proofs.Exchanged.{exchanged_shape, pushed}
 use Rattle.bd_flush.specs.declared.fetching.Fetched.{Fetched}
@@ -52,6 +55,18 @@ use Rattle.bd_flush.proofs.LeafPushes.{times_without}
 use Rattle.bd_flush.proofs.PathSteps.{IsMadeUnder, IsPathStep, IsPathStepOf, IsPathDone, given_child, given_upper, has_made, made_old, made_new, path_child, path_may, path_in_place, path_flushed, path_worn, root_stays, both_ways}
 
 -- ---- the node above
+
+few_edges : (n : Node) (place : ℕ) (e : Edge) → IsShape n → IsEdgeAt n place e → length (edges_of n) ≤ edge_limit
+few_edges (Leaf entries) place e h here = absurd (none-some e here)
+few_edges (Inner level es buffer) place e h here = h.few
+
+one_fits : (n : Node) (place : ℕ) (e f : Edge) → IsShape n → IsEdgeAt n place e → f.pivot ≡ e.pivot → IsEdge (length (buffer_of n)) f (end_at n place) → FitsAt n place e (f ∷ [])
+one_fits n place e f h here same own = record {
+  here = here;
+  few = (let few : length (edges_of n) ≤ edge_limit = few_edges n place e h here in omega arith);
+  first = ap (λ (p : List ℕ). Some p) same;
+  each = (own, tt);
+}
 
 way_fits_so : (n : Node) (place : ℕ) (e : Edge) (child : ℕ) → IsShape n → IsEdgeAt n place e → 1 ≤ child → child < 2 ^ 64 → FitsAt n place e (way_to e e.lift child ∷ [])
 way_fits_so n place e child h here some small =
@@ -316,6 +331,48 @@ on_copy_step root next parent place copy shown above (Ok step) same low into is 
 on_copy_step root next parent place copy shown above (Err x) same low into is = tt
 
 -- ---- nodes freed of a prefix
+
+short_message : (m : Message) → IsLongMessage m → length (source_of m) ≤ key_limit → IsMessage m
+short_message (Put key value) h short = h
+short_message (Del key) h short = h
+short_message (Patch key off bytes) h short = h
+short_message (Cut prefix from) h short = h
+short_message (Goto prefix source child) h short = (h.0, short, h.2, h.3)
+
+short_messages : (ms : List Message) → AllByRecursion IsLongMessage ms → AllByRecursion (λ (m : Message). length (source_of m) ≤ key_limit) ms → AllByRecursion IsMessage ms
+short_messages [] h short = tt
+short_messages (m ∷ ms) h short = (short_message m h.0 short.0, short_messages ms h.1 short.1)
+
+short_edges : (n : ℕ) (es : List Edge) → EachEdge (IsLongEdge n) es → AllByRecursion (λ (e : Edge). length e.source ≤ key_limit) es → EachEdge (IsEdge n) es
+short_edges n [] h short = tt
+short_edges n (e ∷ es) h short = (
+  record {
+    pivot = h.0.pivot;
+    rising = h.0.rising;
+    lift = h.0.lift;
+    common = h.0.common;
+    source = short.0;
+    child = h.0.child;
+    seen = h.0.seen;
+  },
+  short_edges n es h.1 short.1,
+)
+
+short_loose : (level : ℕ) (edges : List Edge) (buffer : List Message) → IsLong level edges buffer → AllByRecursion (λ (e : Edge). length e.source ≤ key_limit) edges → AllByRecursion (λ (m : Message). length (source_of m) ≤ key_limit) buffer → IsLoose level edges buffer
+short_loose level edges buffer h short_e short_m = record {
+  low = h.low;
+  high = h.high;
+  few = h.few;
+  first = h.first;
+  each = short_edges (length buffer) edges h.each short_e;
+  messages = short_messages buffer h.messages short_m;
+  size = h.size;
+}
+
+-- bytes after bytes are bytes
+IsKey-append : (s k : List ℕ) → IsKey s → IsKey k → IsKey (s ++ k)
+IsKey-append [] k hs hk = hk
+IsKey-append (b ∷ s) k hs hk = IsKey-cons b (s ++ k) (hs 0) (IsKey-append s k (IsKey-rest b s hs) hk)
 
 pub freed_leaf : (old new : List Entry) (s : List ℕ) → IsLeaf old → LeafClipped old s new → IsFreed (Leaf old) s (Leaf new)
 freed_leaf old new s own h = record {

@@ -159,7 +159,7 @@ same_edge s parts start k d c (f ∷ fs) same high up =
 
 -- ---- the shape
 
-pub IsKey-append : (s k : List ℕ) → IsKey s → IsKey k → IsKey (s ++ k)
+IsKey-append : (s k : List ℕ) → IsKey s → IsKey k → IsKey (s ++ k)
 IsKey-append [] k hs hk = hk
 IsKey-append (b ∷ s) k hs hk = IsKey-cons b (s ++ k) (hs 0) (IsKey-append s k (IsKey-rest b s hs) hk)
 

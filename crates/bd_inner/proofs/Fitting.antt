@@ -29,7 +29,7 @@ few_edges : (n : Node) (place : ℕ) (e : Edge) → IsShape n → IsEdgeAt n pla
 few_edges (Leaf entries) place e h here = absurd (none-some e here)
 few_edges (Inner level es buffer) place e h here = h.few
 
-pub one_fits : (n : Node) (place : ℕ) (e f : Edge) → IsShape n → IsEdgeAt n place e → f.pivot ≡ e.pivot → IsEdge (length (buffer_of n)) f (end_at n place) → FitsAt n place e (f ∷ [])
+one_fits : (n : Node) (place : ℕ) (e f : Edge) → IsShape n → IsEdgeAt n place e → f.pivot ≡ e.pivot → IsEdge (length (buffer_of n)) f (end_at n place) → FitsAt n place e (f ∷ [])
 one_fits n place e f h here same own = record {
   here = here;
   few = (let few : length (edges_of n) ≤ edge_limit = few_edges n place e h here in omega arith);

@@ -8,7 +8,7 @@ pub mod Exchanged
 pub mod Fitting
 mod FreedMessages
 pub mod ClippedEdges
-pub mod Clipped
+mod Clipped
 pub mod CarvingParts
 pub mod CarvingOwned
 pub mod Carved
