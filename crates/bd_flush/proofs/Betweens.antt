@@ -10,7 +10,7 @@ use Rattle.bd_message.specs.Effect.{NodesAt}
 use Rattle.bd_node.specs.declared.node.Edge.{Edge}
 use Rattle.bd_node.specs.declared.node.Entry.{Entry}
 use Rattle.bd_node.specs.declared.node.Node.{Node}
-use Rattle.bd_node.specs.declared.node.Node.TheVariants.{Leaf, Inner}
+use Rattle.bd_node.specs.declared.node.Node.TheVariants.{Leaf}
 use Rattle.bd_node.specs.declared.node.Change.{Change}
 use Rattle.bd_node.specs.declared.node.Step.{Step}
 use Rattle.bd_node.specs.Nodes.{level_of, buffer_size, names, times, node_at}
@@ -44,8 +44,8 @@ use Rattle.bd_flush.proofs.Raisings.{level_high}
 use Rattle.bd_flush.proofs.RootSplits.{over_shape, two_have, times_made}
 use Rattle.bd_flush.proofs.ChildSplits.{one_fits, one_times, one_names, child_named, lower_child, level_exchanged, compacted_small, some_next, other_names, at_child, IsKey-drop, IsSplittable, IsSplittableOf}
 use Rattle.bd_flush.proofs.Pushed.{batch_low, batch_plain, relieved_inside, leaf_received}
-use Rattle.bd_flush.proofs.PathSteps.{IsMadeUnder, IsUpper, IsPathStep, RisesByOne, level_bound, given_child, given_upper, has_made, has_path, made_new, path_child, path_old, each_change, IsUpperOf, IsPathStepOf, root_stays, root_rises, path_flushed}
-use Rattle.bd_flush.proofs.RisingSteps.{raised_size, raised_times, raised_level, raised_shape, raised_names, raised_has, IsLink, way_link, way_top, link_names, link_lower, only_namer, rising_rises, rising_uppers, rising_above, once_above, rising_once, rising_short, IsChangedBy, changed_more, all_changed, has_room, rising_of}
+use Rattle.bd_flush.proofs.PathSteps.{IsMadeUnder, IsUpper, IsPathStep, RisesByOne, level_bound, given_child, given_upper, has_made, has_path, path_child, path_old, each_change, IsPathStepOf, root_stays, root_rises, path_flushed}
+use Rattle.bd_flush.proofs.RisingSteps.{raised_size, raised_times, raised_level, raised_shape, raised_has, IsLink, way_link, way_top, link_names, link_lower, only_namer, rising_rises, rising_uppers, rising_above, once_above, rising_once, rising_short, IsChangedBy, changed_more, all_changed, has_room, rising_of}
 
 -- ---- the parent, one level higher where it has to be
 
