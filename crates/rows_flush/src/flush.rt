@@ -1,0 +1,174 @@
+//! A tree over nodes in memory whose root is flushed after each write, beside a map.
+
+use bd_keys::Bytes;
+use bd_memnodes::MemNodes;
+use bd_message::{KeyMap, ListMap, Message};
+use bd_step::Flush;
+use bd_tree::Tree;
+use rows_tools::apply;
+use std::alloc::{AllocError, Global};
+use std::test::Fail;
+
+/// A map and a tree after the same messages.
+#[derive(Drop)]
+struct Both {
+    map: ListMap,
+    tree: Tree<MemNodes>,
+}
+
+impl Both {
+    /// Without keys.
+    fn new(alloc: Global) -> Result<Both, Fail> {
+        Ok(Both {
+            map: ListMap::new(alloc),
+            tree: Tree::over(alloc, MemNodes::new(alloc)?),
+        })
+    }
+
+    /// After one more message.
+    fn apply(&mut self, message: Message) -> Result<(), Fail> {
+        pour(&mut self.tree, message.clone()?)?;
+        apply(&mut self.map, message)
+    }
+
+    /// Whether both have the same at a key.
+    fn is_same(&mut self, key: &[u8]) -> Result<bool, Fail> {
+        let found = self.tree.get(key)?;
+        let want = self.map.get(key)?;
+        Ok(found == want)
+    }
+
+    /// Whether both have the same at each key of the map and at the one before the next key. How
+    /// many keys there are, if so.
+    fn same_keys(&mut self, alloc: Global) -> Result<Option<usize>, Fail> {
+        let mut at = Vec::new(alloc);
+        for count in 0..10_000 {
+            let Some(key) = self.map.next(at.as_slice(), &[])? else {
+                return Ok(Some(count));
+            };
+            at = key;
+            let is_same = self.is_same(at.as_slice())?;
+            at.push(0)?;
+            if !is_same || !self.is_same(at.as_slice())? {
+                return Ok(None);
+            }
+        }
+        Ok(None)
+    }
+}
+
+/// Puts a message that names no node into a tree, where there is room.
+fn pour(tree: &mut Tree<MemNodes>, message: Message) -> Result<(), Fail> {
+    if !message.is_message() || message.size() > tree.room() {
+        return Err(Fail::new("no such message"));
+    }
+    if let Message::Goto { .. } = message {
+        return Err(Fail::new("a message that names a node"));
+    }
+    tree.apply(&[message])?;
+    Ok(())
+}
+
+/// Flushes until at most 16,384 bytes wait in the root.
+fn flush(tree: &mut Tree<MemNodes>) -> Result<(), Fail> {
+    for _ in 0..100 {
+        match tree.flush_step(16_384)? {
+            Flush::Done => {}
+            Flush::Enough => return Ok(()),
+            Flush::Shared => return Err(Fail::new("a step that isn't made")),
+        }
+    }
+    Err(Fail::new("too many steps"))
+}
+
+/// In which order the 1,000 pieces of a file are written.
+#[derive(Clone, Copy, Debug)]
+enum Order {
+    Rising,
+    Falling,
+    Scattered,
+}
+
+/// The piece that comes after so many others.
+fn piece(order: Order, count: u32) -> u32 {
+    match order {
+        Order::Rising => count % 1_000,
+        Order::Falling => 999 - count % 1_000,
+        Order::Scattered => count % 1_000 * 617 % 1_000,
+    }
+}
+
+/// The message that puts a block of `/f`, of 1,024 bytes, at its key.
+fn block(alloc: Global, index: u32) -> Result<Message, AllocError> {
+    let mut key = Vec::new(alloc);
+    key.extend_from_slice(&[b'f', 0, 0, 1, 0, 0])?;
+    key.push((index / 256 % 256) as u8)?;
+    key.push((index % 256) as u8)?;
+    let mut value = Vec::new(alloc);
+    value.resize(1_024, (index % 251) as u8)?;
+    Ok(Message::Put {
+        key: Bytes::from_vec(key),
+        value: Bytes::from_vec(value),
+    })
+}
+
+/// A map and a tree after the pieces of `/f`, of 2,048 bytes each, were written in an order.
+fn written(alloc: Global, order: Order) -> Result<Both, Fail> {
+    let mut both = Both::new(alloc)?;
+    for count in 0..1_000 {
+        let number = piece(order, count) % 1_000;
+        let first = block(alloc, number * 2)?;
+        both.apply(first)?;
+        let second = block(alloc, number * 2 + 1)?;
+        both.apply(second)?;
+        flush(&mut both.tree)?;
+    }
+    Ok(both)
+}
+
+#[test]
+fn a_file_in_pieces(rt: HostRuntime) -> Result<(), Fail> {
+    for order in [Order::Rising, Order::Falling, Order::Scattered] {
+        let mut both = written(rt.alloc(), order)?;
+        assert!(rt; both.tree.height() > 2, "{order:?}");
+        assert_eq!(rt; both.same_keys(rt.alloc())?, Some(2_000), "{order:?}");
+    }
+    Ok(())
+}
+
+/// A key of 300 bytes, of which the first ones are those of other keys.
+fn long_key(alloc: Global, number: u32) -> Result<Bytes, AllocError> {
+    let digits = number % 500;
+    let common = (digits % 297) as usize;
+    let mut key = Vec::new(alloc);
+    key.resize(common, b'b')?;
+    key.push(b'0' + (digits / 100) as u8)?;
+    key.push(b'0' + (digits / 10 % 10) as u8)?;
+    key.push(b'0' + (digits % 10) as u8)?;
+    key.resize(300, b'c')?;
+    Ok(Bytes::from_vec(key))
+}
+
+/// The message that puts 1,000 bytes at a key of 300.
+fn long_put(alloc: Global, number: u32) -> Result<Message, AllocError> {
+    let key = long_key(alloc, number)?;
+    let mut value = Vec::new(alloc);
+    value.resize(1_000, (number % 251) as u8)?;
+    Ok(Message::Put {
+        key,
+        value: Bytes::from_vec(value),
+    })
+}
+
+#[test]
+fn long_keys(rt: HostRuntime) -> Result<(), Fail> {
+    let mut both = Both::new(rt.alloc())?;
+    for count in 0..500 {
+        let message = long_put(rt.alloc(), count * 137 % 500)?;
+        both.apply(message)?;
+        flush(&mut both.tree)?;
+    }
+    assert!(rt; both.tree.height() > 2);
+    assert_eq!(rt; both.same_keys(rt.alloc())?, Some(500));
+    Ok(())
+}
