@@ -18,6 +18,7 @@ use Rattle.bd_flush.specs.declared.ways.FlushStep.TheVariants.{SplitRoot, SplitC
 use Rattle.bd_flush.specs.Flushed.{IsFlushed}
 use Rattle.bd_flush.specs.Children.{IsFetched, IsContents}
 use Rattle.bd_flush.specs.Pushes.{CanPush, CanPushNew, IsWaitedFor, unseen}
+use Rattle.bd_flush.specs.Copies.{HasChild}
 use Rattle.bd_flush.specs.Carving.{CanCarve}
 use Rattle.bd_flush.specs.Ways.{IsFullestAt, IsHigh, IsThere, AreThere, IsToDo, IsToDoAt, IsWayThere}
 use Rattle.bd_node.proofs.Lookup.{each_weaker}
@@ -83,6 +84,15 @@ can_carve t above parent place h = record {
   waiting = h.0.plain;
 }
 
+pub has_child : (t : Table) (above : List Fetched) (parent : Fetched) (place : ℕ) → IsToDo t (Privatise above parent place) → HasChild t parent place
+has_child t above parent place h = record {
+  parent_is = h.0.parent_is;
+  edge = h.0.edge;
+  here = h.0.here;
+  child = h.0.child;
+  child_is = h.0.child_is;
+}
+
 -- ---- abundance
 
 abundant_in : (n : Node) → IsShape n → soft_limit < buffer_size n → (place : ℕ) → IsFullestAt n place → IsAbundantAt n place
@@ -113,7 +123,7 @@ outcome_made : (step : FlushStep) → IsOutcome step Enough → ⊥
 outcome_made (SplitRoot root) h = cc
 outcome_made (SplitChild above parent place child) h = cc
 outcome_made (Push above parent place child) h = cc
-outcome_made (Privatise above parent place) h = cc
+outcome_made (Privatise above parent place) h = elim h [ inl done ↦ cc | inr long ↦ cc ]
 outcome_made (Carve above parent place) h = cc
 
 pub never_enough : (r : Result Flush MapFault) (step : FlushStep) → IfOk r (IsOutcome step) → r ≡ Ok Enough → ⊥
@@ -146,7 +156,7 @@ pub record IsStepMade (nodes mid : Nodes) (t m : Table) (new : Nodes) (u : Table
   pub sound : IsSound nodes t
   pub to_do : IsToDo t step
   pub here : IsToDoAt nodes t step
-  pub made : IsSound mid m → IsMade m step new u
+  pub made : IsSound mid m → IsMade mid m step new u
   pub height : IsHighAfter m step u
   pub flushed : IsSound mid m → IsFlushed mid m new u
 
@@ -158,7 +168,7 @@ is_flush_step nodes mid t m new u step h =
       to_do = h.to_do;
       here = h.here;
       abundant = is_abundant t step h.to_do;
-      made = subst (λ (v : Table). IsMade v step new u) h.table_is (h.made again);
+      made = subst (λ (v : Table). IsMade nodes v step new u) h.table_is (subst (λ (f : Nodes). IsMade f m step new u) h.nodes_are (h.made again));
       height = subst (λ (v : Table). IsHighAfter v step u) h.table_is h.height;
       flushed = subst (λ (v : Table). IsFlushed nodes v new u) h.table_is (subst (λ (f : Nodes). IsFlushed f m new u) h.nodes_are (h.flushed again));
     }

@@ -13,25 +13,27 @@ use Rattle.bd_flush.specs.Splits.{IsSplitRoot, IsRaised}
 use Rattle.bd_flush.specs.Children.{IsNoHigher}
 use Rattle.bd_flush.specs.Between.{IsSplitChild, IsHighAfterSplit, IsHardlyHigher}
 use Rattle.bd_flush.specs.Pushes.{IsPushed, IsPushedBetween, IsPushedNew, IsLongPush}
+use Rattle.bd_flush.specs.Copies.{IsPrivatised, IsTooLong}
 use Rattle.bd_flush.specs.Carving.{IsCarvedAt}
 use Rattle.bd_flush.specs.Ways.{IsToDo, IsToDoAt}
 use Rattle.bd_step.specs.declared.steps.Flush.{Flush}
-use Rattle.bd_step.specs.declared.steps.Flush.TheVariants.{Done, Shared}
+use Rattle.bd_step.specs.declared.steps.Flush.TheVariants.{Done, LongSource}
 
 -- ---- the kinds of a step
 
--- what a step leaves, by its kind: a root's or a child's split, a push to a child or a new leaf, or a
--- Goto whose keys have got edges of their own
-abbrev pub IsMade : Table → FlushStep → Nodes → Table → Type 0
-IsMade t (SplitRoot root) new u = IsSplitRoot t root.node.value new
-IsMade t (SplitChild above parent place child) new u =
+-- what a step leaves, by its kind: a root's or a child's split, a push to a child or a new leaf, a
+-- child that is copied, or a Goto whose keys have got edges of their own
+abbrev pub IsMade : Nodes → Table → FlushStep → Nodes → Table → Type 0
+IsMade nodes t (SplitRoot root) new u = IsSplitRoot t root.node.value new
+IsMade nodes t (SplitChild above parent place child) new u =
     IsSplitChild t (reverse above) parent place child new u
-IsMade t (Push above parent place None) new u = IsPushedNew t parent place new u
-IsMade t (Push above parent place (Some child)) new u =
+IsMade nodes t (Push above parent place None) new u = IsPushedNew t parent place new u
+IsMade nodes t (Push above parent place (Some child)) new u =
     IsPushed t parent place child new u
     ⊎ IsPushedBetween t (reverse above) parent place child new u
-IsMade t (Privatise above parent place) new u = ⊥
-IsMade t (Carve above parent place) new u = IsCarvedAt t parent place new u
+IsMade nodes t (Privatise above parent place) new u =
+    IsPrivatised nodes t parent place new u
+IsMade nodes t (Carve above parent place) new u = IsCarvedAt t parent place new u
 
 -- how high the root is after a step, by its kind: one level higher only after its split, or where the
 -- pivot of a child's or a leaf's halves would have more than 518 bytes in its parent
@@ -66,19 +68,28 @@ pub record IsFlushStep (nodes : Nodes) (t : Table) (new : Nodes) (u : Table) : T
   pub to_do : IsToDo t step
   pub here : IsToDoAt nodes t step
   pub abundant : soft_limit < t.size → IsAbundant step
-  pub made : IsMade t step new u
+  pub made : IsMade nodes t step new u
   pub height : IsHighAfter t step u
   pub flushed : IsFlushed nodes t new u
 
 -- ---- what a step comes to
 
--- what comes of the step that is to be done: it is made, or nothing is, for this cause
+-- what comes of the step that is to be done: it is made, but for a child whose copy would have a
+-- source that is too long
 abbrev pub IsOutcome : FlushStep → Flush → Type 0
 IsOutcome (SplitRoot root) flush = flush ≡ Done
 IsOutcome (SplitChild above parent place child) flush = flush ≡ Done
 IsOutcome (Push above parent place child) flush = flush ≡ Done
-IsOutcome (Privatise above parent place) flush = flush ≡ Shared
+IsOutcome (Privatise above parent place) flush = (flush ≡ Done) ⊎ (flush ≡ LongSource)
 IsOutcome (Carve above parent place) flush = flush ≡ Done
+
+-- a child is to be copied, and its copy would have a source of more than 518 bytes
+abbrev pub IsStuck : Nodes → FlushStep → Type 0
+IsStuck nodes (SplitRoot root) = ⊥
+IsStuck nodes (SplitChild above parent place child) = ⊥
+IsStuck nodes (Push above parent place child) = ⊥
+IsStuck nodes (Privatise above parent place) = IsTooLong nodes parent place
+IsStuck nodes (Carve above parent place) = ⊥
 
 -- what the way down finds to do, as far as the tables tell, and what comes of it
 pub record IsFound (t u : Table) (flush : Flush) : Type 0 where
@@ -93,3 +104,4 @@ pub record IsFoundAt (nodes : Nodes) (t : Table) (flush : Flush) : Type 0 where
   pub to_do : IsToDo t step
   pub here : IsToDoAt nodes t step
   pub outcome : IsOutcome step flush
+  pub stuck : flush ≡ LongSource → IsStuck nodes step

@@ -7,10 +7,11 @@ ghost use Rattle.bd_flush.specs.declared.ways.FlushStep.TheVariants as step;
 ghost use Rattle.bd_flush.specs.Flushed.{IsFlushed, IsWornFor};
 ghost use Rattle.bd_flush.specs.Raising.{IsWayUp};
 ghost use Rattle.bd_flush.specs.Ways.{IsToDo, IsToDoAt, AreThere, IsWayOf, IsWayThere};
-ghost use Rattle.bd_step.specs.Steps.{IsMade, IsHighAfter, IsFlushStep, IsOutcome, IsFound, IsFoundAt};
+ghost use Rattle.bd_step.specs.Steps.{IsMade, IsHighAfter, IsFlushStep, IsOutcome, IsStuck, IsFound, IsFoundAt};
 
 use bd_flush::{
-    Fetched, FlushStep, Way, carve, next_step, push, push_new, split_child, split_root,
+    Fetched, FlushStep, Privatised, Way, carve, next_step, privatise, push, push_new, split_child,
+    split_root,
 };
 use bd_message::MapFault;
 use bd_node::NodeStore;
@@ -24,14 +25,15 @@ pub enum Flush {
     /// One step was made.
     Done,
     /// The fullest edge of a node on the way asks a shared child, or one with something in front of
-    /// a key: nothing was changed.
-    Shared,
+    /// a key, whose copy would have a source of more than 518 bytes: nothing was changed.
+    LongSource,
 }
 
 /// Makes one step of a flush where more than `limit` bytes of messages wait in the root: at the
 /// place that the way down from the root finds, a node is split, messages go down to a child or to a
-/// new leaf, or the keys of a Goto get edges of their own. All changes are made at once or not at
-/// all. At most as many nodes are fetched as the tree is high, and at most four are made.
+/// new leaf, a shared child is copied, or the keys of a Goto get edges of their own. All changes are
+/// made at once or not at all. At most four nodes are made, and there are at most as many visits as
+/// the tree is high, and four more.
 pub fn flush_step<S: NodeStore>(
     alloc: Global,
     store: &mut S,
@@ -77,11 +79,14 @@ fn make<S: NodeStore>(alloc: Global, store: &mut S, step: FlushStep) -> Result<F
         → result ≡ Ok Flush.Done → IsFlushed (S.nodes store.old) (S.table store.old)
         (S.nodes store.new) (S.table store.new) }
     ensures made { S.is_known store.old → IsSound (S.nodes store.old) (S.table store.old)
-        → result ≡ Ok Flush.Done → IsMade (S.table store.old) step
+        → result ≡ Ok Flush.Done → IsMade (S.nodes store.old)
+        (S.table store.old) step
         (S.nodes store.new) (S.table store.new) }
     ensures height { result ≡ Ok Flush.Done
         → IsHighAfter (S.table store.old) step (S.table store.new) }
     ensures outcome { IfOk result (IsOutcome step) }
+    ensures stuck { S.is_known store.old → result ≡ Ok Flush.LongSource
+        → IsStuck (S.nodes store.old) step }
     ensures known { S.is_known store.old → S.is_known store.new }
     ensures same_table { result ≢ Ok Flush.Done → S.table store.new ≡ S.table store.old }
     ensures same_nodes { S.is_known store.old
@@ -111,7 +116,12 @@ fn make<S: NodeStore>(alloc: Global, store: &mut S, step: FlushStep) -> Result<F
             place,
             child,
         } => push_down(alloc, store, above, parent, place, child),
-        FlushStep::Privatise { .. } => Ok(Flush::Shared),
+        FlushStep::Privatise { parent, place, .. } => {
+            match privatise(alloc, store, &parent, place)? {
+                Privatised::Done => Ok(Flush::Done),
+                Privatised::LongSource => Ok(Flush::LongSource),
+            }
+        }
         FlushStep::Carve { parent, place, .. } => {
             carve(alloc, store, &parent, place)?;
             Ok(Flush::Done)
@@ -139,7 +149,8 @@ fn push_down<S: NodeStore>(
         → result ≡ Ok Flush.Done → IsFlushed (S.nodes store.old) (S.table store.old)
         (S.nodes store.new) (S.table store.new) }
     ensures made { S.is_known store.old → IsSound (S.nodes store.old) (S.table store.old)
-        → result ≡ Ok Flush.Done → IsMade (S.table store.old) (step.Push above parent place child)
+        → result ≡ Ok Flush.Done → IsMade (S.nodes store.old)
+        (S.table store.old) (step.Push above parent place child)
         (S.nodes store.new) (S.table store.new) }
     ensures height { result ≡ Ok Flush.Done → IsHighAfter (S.table store.old)
         (step.Push above parent place child) (S.table store.new) }

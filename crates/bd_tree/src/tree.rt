@@ -137,8 +137,8 @@ impl<S: NodeStore> Tree<S> {
     }
 
     /// Makes one step of a flush where more than `limit` bytes of messages wait in the root: what
-    /// the tree has stays. At most as many nodes are fetched as the tree is high, and at most four
-    /// are made. A fault leaves all as it was.
+    /// the tree has stays. At most four nodes are made, and there are at most as many visits as the
+    /// tree is high, and four more. A fault leaves all as it was.
     pub fn flush_step(&mut self, limit: usize) -> Result<Flush, MapFault>
         ensures same { S.is_known self.old → IsSound (S.nodes self.old) (S.table self.old)
             → (k : List ℕ) → root_at (S.nodes self.new) (S.table self.new) k

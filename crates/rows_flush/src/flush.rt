@@ -75,7 +75,7 @@ fn flush(tree: &mut Tree<MemNodes>) -> Result<(), Fail> {
         match tree.flush_step(16_384)? {
             Flush::Done => {}
             Flush::Enough => return Ok(()),
-            Flush::Shared => return Err(Fail::new("a step that isn't made")),
+            Flush::LongSource => return Err(Fail::new("a step that isn't made")),
         }
     }
     Err(Fail::new("too many steps"))

@@ -1,7 +1,7 @@
 use Rattle.std.proofs.Common.{subst}
 use Rattle.bd_flush.specs.declared.ways.FlushStep.{FlushStep}
 use Rattle.bd_flush.specs.Ways.{IsToDo, IsToDoAt, IsWayThere}
-use Rattle.bd_step.proofs.Making.{can_carve, root_found, way_stands}
+use Rattle.bd_step.proofs.Making.{can_carve, has_child, root_found, way_stands}
 use Rattle.bd_step.proofs.steps.make.Goals as goal
 
 pub split_root-requires-clause-there : goal.split_root-requires-clause-there
@@ -23,3 +23,8 @@ pub carve-requires-clause-can : goal.carve-requires-clause-can
 carve-requires-clause-can g c =
     can_carve (g.S.NodeStore.table c.args.store.now) c.in-Carve.above c.in-Carve.parent c.in-Carve.place
     (subst (λ (s : FlushStep). IsToDo (g.S.NodeStore.table c.args.store.now) s) c.in-Carve.is c.requires.to_do)
+
+pub privatise-requires-clause-can : goal.privatise-requires-clause-can
+privatise-requires-clause-can g c =
+    has_child (g.S.NodeStore.table c.args.store.now) c.in-Privatise.above c.in-Privatise.parent c.in-Privatise.place
+    (subst (λ (s : FlushStep). IsToDo (g.S.NodeStore.table c.args.store.now) s) c.in-Privatise.is c.requires.to_do)
