@@ -155,7 +155,7 @@ old_agree nodes t step level s none =
 
 -- ---- the way's messages and its end
 
-raised_target : (t : Table) (low high : ℕ) (end : Option Target) → low ≤ high → IsLowerTarget t low end → IsLowerTarget t high end
+pub raised_target : (t : Table) (low high : ℕ) (end : Option Target) → low ≤ high → IsLowerTarget t low end → IsLowerTarget t high end
 raised_target t low high None le h = tt
 raised_target t low high (Some target) le h = record { kept = h.kept; lower = (let l : t.level target.child < low = h.lower in omega arith) }
 

@@ -1,12 +1,12 @@
 -- Why a graft does nothing, and what it adds.
-use Rattle.std.proofs.Common.{◌≡◌, ℕ, zero, suc, ◌+◌, ◌*◌, ◌-◌, ◌<◌, ◌≤◌, ◌^◌, max, List, [], ◌∷◌, ◌++◌, length, refl, sym, ap, subst, ◌∙◌, Option, None, Some, inl, inr, arith, length-append}
+use Rattle.std.proofs.Common.{◌≡◌, ℕ, zero, suc, ◌+◌, ◌*◌, ◌-◌, ◌<◌, ◌≤◌, ◌^◌, max, List, [], ◌∷◌, ◌++◌, length, refl, sym, ap, subst, ◌∙◌, Option, None, Some, inl, inr, arith, length-append, Bool, Result, Ok, Err, OnOk}
 use Rattle.std.specs.Prelude.{slice_get, ◌==◌}
 use Rattle.std.specs.Option.{option_to_list}
 use Rattle.std.specs.List.{AllByRecursion, flat_map, sum_by}
 use Rattle.std.proofs.lemmas.Bool.{cases_eq}
 use Rattle.std.proofs.lemmas.List.Sums.{sum_by-cons, sum_by-append, count_by-le-length}
 use Rattle.std.proofs.Math.Nat.{max-le}
-use Rattle.bd_limits.specs.Limits.{edge_limit, level_limit}
+use Rattle.bd_limits.specs.Limits.{key_limit, buffer_limit, edge_limit, level_limit}
 use Rattle.bd_message.specs.declared.message.Message.{Message}
 use Rattle.bd_message.specs.declared.message.Message.TheVariants.{Put, Del, Patch, Cut, Goto}
 use Rattle.bd_message.specs.declared.fault.Counter.{Counter}
@@ -16,9 +16,15 @@ use Rattle.bd_node.specs.declared.node.Node.{Node}
 use Rattle.bd_node.specs.declared.node.Node.TheVariants.{Leaf, Inner}
 use Rattle.bd_node.specs.declared.node.Change.{Change}
 use Rattle.bd_node.specs.declared.node.Step.{Step}
-use Rattle.bd_node.specs.Nodes.{level_of, message_names, edge_names, times}
+use Rattle.bd_node.specs.Nodes.{level_of, buffer_size, appended, message_names, edge_names, times}
 use Rattle.bd_node.specs.Shape.{IsShape}
-use Rattle.bd_node.specs.Tables.{Table, IsLower, one_if}
+use Rattle.bd_node.specs.Meaning.{Nodes}
+use Rattle.bd_node.proofs.Appending.{shape_appended}
+use Rattle.bd_message.specs.Messages.{size}
+use Rattle.bd_message.specs.KeyMaps.{HasMapCause}
+use Rattle.bd_message.specs.declared.fault.MapFault.{MapFault}
+use Rattle.bd_message.specs.declared.fault.MapFault.TheVariants.{DeviceFault, Damaged, Worn, NoMemory}
+use Rattle.bd_node.specs.Tables.{Table, IsTable, IsNodeOf, IsLower, one_if}
 use Rattle.bd_node.specs.Steps.{given_times, IsWornBy, IsPut, IsChange, IsStep}
 use Rattle.bd_node.proofs.Lookup.{each_weaker}
 use Rattle.bd_node.proofs.Sound.{one_if-same, one_if-other}
@@ -28,8 +34,10 @@ use Rattle.bd_resolve.specs.Following.{IsLowerTarget, target_level}
 use Rattle.bd_graft.specs.declared.layers.Layer.{Layer}
 use Rattle.bd_graft.specs.Laying.{IsLayer, AreLayers}
 use Rattle.bd_graft.specs.Packing.{highest}
-use Rattle.bd_graft.specs.Grafting.{IsWornForGraft}
-use Rattle.bd_graft.proofs.Grafts.{raised_target}
+use Rattle.bd_graft.specs.declared.packing.Packed.{Packed}
+use Rattle.bd_graft.specs.Laying.{laid}
+use Rattle.bd_graft.specs.Grafting.{graft_messages, step_under, step_over, IsReady, IsGrown, IsWornForGraft}
+use Rattle.bd_graft.proofs.Grafts.{raised_target, messages_are, id_some, overlaying_step, under_overlaying, over_overlaying}
 
 -- ---- layers
 
@@ -107,3 +115,36 @@ graft_worn t step h few high one Count worn = worn
 graft_worn t step h few high one Level worn = absurd worn
 graft_worn t step h few high one Epoch worn = worn
 graft_worn t step h few high one Flushes worn = worn
+
+-- ---- what is returned
+
+pub cause_of : {T : Type 0} (before now : ℕ) (bad : ℕ → Type 0) (t : Table) (step : Step) (r : Result T MapFault) → IsStep t step → length step.made ≤ t.level t.root + 2 → t.level t.root ≤ level_limit → length step.changes ≤ 1 → HasMapCause before now bad (IsWornBy t step) r → HasMapCause before now bad (IsWornForGraft t) r
+cause_of before now bad t step (Ok x) ok few high one h = record { later = h.later; failed = tt }
+cause_of before now bad t step (Err DeviceFault) ok few high one h = record { later = h.later; failed = h.failed }
+cause_of before now bad t step (Err (Damaged block)) ok few high one h = record { later = h.later; failed = h.failed }
+cause_of before now bad t step (Err (Worn counter)) ok few high one h = record { later = h.later; failed = graft_worn t step ok few high one counter h.failed }
+cause_of before now bad t step (Err NoMemory) ok few high one h = record { later = h.later; failed = tt }
+
+pub grown_under : {T E : Type 0} (t u : Table) (made : ℕ) (r : Result T E) → made ≤ t.level t.root + 1 → OnOk r (u.next ≡ t.next + made) → OnOk r (u.level u.root ≡ t.level t.root) → OnOk r (IsGrown t u)
+grown_under t u made (Ok x) few next level = record { few = (let e : u.next ≡ t.next + made = next in omega arith); low = (let e : u.level u.root ≡ t.level t.root = level in omega arith); high = (let e : u.level u.root ≡ t.level t.root = level in omega arith) }
+grown_under t u made (Err e) few next level = tt
+
+pub grown_over : {T E : Type 0} (t u : Table) (made : ℕ) (r : Result T E) → made ≤ t.level t.root + 1 → OnOk r (u.next ≡ t.next + (made + 1)) → OnOk r (u.level u.root ≡ t.level t.root + 1) → OnOk r (IsGrown t u)
+grown_over t u made (Ok x) few next level = record { few = (let e : u.next ≡ t.next + (made + 1) = next in omega arith); low = (let e : u.level u.root ≡ t.level t.root + 1 = level in omega arith); high = (let e : u.level u.root ≡ t.level t.root + 1 = level in omega arith) }
+grown_over t u made (Err e) few next level = tt
+
+pub under_ok : (known : Type 0) (nodes : Nodes) (t : Table) (n : Node) (packed : Packed) (s d : List ℕ) (keep : Bool) → IsReady known nodes t s packed → IsTable t → IsNodeOf t (t.level t.root) n → packed.level < t.level t.root → length s ≤ key_limit → length d ≤ key_limit → buffer_size n + 1600 ≤ buffer_limit → t.next + length packed.made.items < 2 ^ 64
+    → IsStep t (step_under t n packed.made.items (graft_messages s d keep packed.target))
+under_ok known nodes t n packed s d keep ready table own low hs hd fits room =
+    let list : List Message = graft_messages s d keep packed.target in
+    let messages = messages_are s d keep packed.target hs hd ready.packed_is.over.short (id_some t packed.made.items (packed.level + 1) packed.target table room ready.packed_is.over) in
+    let shape : IsShape (appended n list) = shape_appended n list own.shape messages.0 (let m : sum_by size list ≤ 1600 = messages.1 in omega arith) in
+    overlaying_step t (step_under t n packed.made.items list) (under_overlaying t n ready.end (laid ready.layers) packed s d keep ready.packed_is (record { table = table; own = own; shape = shape; low = low }))
+
+pub over_ok : (known : Type 0) (nodes : Nodes) (t : Table) (packed : Packed) (s d : List ℕ) (keep : Bool) → IsReady known nodes t s packed → IsTable t → t.level t.root < level_limit → packed.level ≤ t.level t.root → length s ≤ key_limit → length d ≤ key_limit → t.next + length packed.made.items < 2 ^ 64
+    → IsStep t (step_over t packed.made.items (graft_messages s d keep packed.target))
+over_ok known nodes t packed s d keep ready table high low hs hd room =
+    let list : List Message = graft_messages s d keep packed.target in
+    let messages = messages_are s d keep packed.target hs hd ready.packed_is.over.short (id_some t packed.made.items (packed.level + 1) packed.target table room ready.packed_is.over) in
+    overlaying_step t (step_over t packed.made.items list) (over_overlaying t ready.end (laid ready.layers) packed s d keep ready.packed_is
+    (record { table = table; next = (omega arith); level = high; low = low; messages = messages.0; fits = (let m : sum_by size list ≤ 1600 = messages.1 in omega arith) }))
