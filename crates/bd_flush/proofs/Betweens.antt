@@ -10,7 +10,7 @@ use Rattle.bd_message.specs.Effect.{NodesAt}
 use Rattle.bd_node.specs.declared.node.Edge.{Edge}
 use Rattle.bd_node.specs.declared.node.Entry.{Entry}
 use Rattle.bd_node.specs.declared.node.Node.{Node}
-use Rattle.bd_node.specs.declared.node.Node.TheVariants.{Leaf, Inner}
+use Rattle.bd_node.specs.declared.node.Node.TheVariants.{Leaf}
 use Rattle.bd_node.specs.declared.node.Change.{Change}
 use Rattle.bd_node.specs.declared.node.Step.{Step}
 use Rattle.bd_node.specs.Nodes.{level_of, buffer_size, names, times, node_at}
@@ -23,7 +23,7 @@ use Rattle.bd_node.specs.Steps.HasRoom.{changed_too}
 use Rattle.bd_node.proofs.Lookup.{Agree, each_weaker, each_named, named_has, node_has-key}
 use Rattle.bd_node.proofs.Meanings.{at-meets}
 use Rattle.bd_node.proofs.Sound.{sound-levelled, named_lower, root_unnamed}
-use Rattle.bd_node.proofs.Stepping.{given-old, given-new, given_stays, by_given, after-none, changed_has, changed_at-same, changed_at-other, changed_at-none}
+use Rattle.bd_node.proofs.Stepping.{given-old, given-new, given_stays, by_given, no_some, after-none, changed_has, changed_at-same, changed_at-other, changed_at-none}
 use Rattle.bd_inner.specs.Halves.{IsHalf}
 use Rattle.bd_inner.specs.Exchange.{exchanged}
 use Rattle.bd_inner.proofs.Compacting.{compacted_shape, compacted_level, compacted_meaning}
@@ -44,8 +44,8 @@ use Rattle.bd_flush.proofs.Raisings.{level_high}
 use Rattle.bd_flush.proofs.RootSplits.{over_shape, two_have, times_made}
 use Rattle.bd_flush.proofs.ChildSplits.{one_fits, one_times, one_names, child_named, lower_child, level_exchanged, compacted_small, some_next, other_names, at_child, IsKey-drop, IsSplittable, IsSplittableOf}
 use Rattle.bd_flush.proofs.Pushed.{batch_low, batch_plain, relieved_inside, leaf_received}
-use Rattle.bd_flush.proofs.PathSteps.{IsMadeUnder, IsUpper, IsPathStep, RisesByOne, level_bound, given_child, given_upper, has_made, has_path, made_new, path_child, path_old, each_change, IsUpperOf, IsPathStepOf, root_stays, root_rises, path_flushed}
-use Rattle.bd_flush.proofs.RisingSteps.{raised_size, raised_times, raised_level, raised_shape, raised_names, raised_has, IsLink, way_link, way_top, link_names, link_lower, only_namer, rising_rises, rising_uppers, rising_above, once_above, rising_once, rising_short, IsChangedBy, changed_more, all_changed, has_room, rising_of}
+use Rattle.bd_flush.proofs.PathSteps.{IsMadeUnder, IsUpper, IsPathStep, RisesByOne, level_bound, given_child, given_upper, has_made, has_path, path_child, path_old, each_change, IsPathStepOf, root_stays, root_rises, path_flushed}
+use Rattle.bd_flush.proofs.RisingSteps.{raised_size, raised_times, raised_level, raised_shape, raised_has, IsLink, way_link, way_top, link_names, link_lower, only_namer, rising_rises, rising_uppers, rising_above, once_above, rising_once, rising_short, IsChangedBy, changed_more, all_changed, has_room, rising_of}
 
 -- ---- the parent, one level higher where it has to be
 
@@ -349,6 +349,15 @@ only_parent nodes t way parent place child first pivot second node rising h = re
       subst (λ (o : Option Node). IsSome o) (sym (ap (λ (i : ℕ). given t.next (the_step t parent child first pivot second node rising) i) same ∙ is)) some;
 }
 
+all_given : (t : Table) (way : List Fetched) (parent : Fetched) (place : ℕ) (child : Fetched) (first : Node) (pivot : List ℕ) (second node : Node) (rising : List Fetched) → IsToPutBetween t way parent place child first pivot second node rising
+    → AllByRecursion (λ (g : Fetched). IsSome (given t.next (the_step t parent child first pivot second node rising) g.id)) rising
+all_given t way parent place child first pivot second node rising h =
+    let step : Step = the_step t parent child first pivot second node rising in
+    rising_given t step parent.id (level_of node) way rising h.table
+    (each_weaker (IsChangedBy (map raise rising)) (IsChangedBy step.changes)
+    (λ g some. changed_more (record { id = child.id; node = the_child t pivot }) (the_uppers parent node rising) g (changed_more (record { id = parent.id; node = node }) (map raise rising) g some)) rising (all_changed rising))
+    (rise_is t way parent place child first pivot second node rising h) h.way_up
+
 pub between_path_of : (nodes : Nodes) (t : Table) (way : List Fetched) (parent : Fetched) (place : ℕ) (child : Fetched) (first : Node) (pivot : List ℕ) (second node : Node) (rising : List Fetched) → IsToPutBetweenOf nodes t way parent place child first pivot second node rising
     → IsPathStepOf nodes t child.id (the_child t pivot) (the_uppers parent node rising) (first ∷ second ∷ [])
 between_path_of nodes t way parent place child first pivot second node rising h =
@@ -363,10 +372,7 @@ between_path_of nodes t way parent place child first pivot second node rising h 
     let named : 1 ≤ times n c = child_named n place c h.of.into.edge h.of.can.parent_is.own.shape (way_to_child t way parent place child first pivot second node rising h.of) in
     let leads : LeadsTo nodes c p = through p c n h.family.parent_there named itself in
     let only : IsOnlyNamed nodes t step c = only_parent nodes t way parent place child first pivot second node rising h in
-    let changed : AllByRecursion (λ (g : Fetched). IsSome (given t.next step g.id)) rising =
-    rising_given t step p (level_of node) way rising h.of.table
-    (each_weaker (IsChangedBy (map raise rising)) (IsChangedBy step.changes) (λ g some. changed_more (record { id = c; node = top }) uppers g (changed_more (record { id = p; node = node }) (map raise rising) g some)) rising (all_changed rising))
-    rise h.of.way_up in
+    let changed : AllByRecursion (λ (g : Fetched). IsSome (given t.next step g.id)) rising = all_given t way parent place child first pivot second node rising h.of in
     record {
       step = between_path t way parent place child first pivot second node rising h.of;
       sound = h.sound;
@@ -408,33 +414,57 @@ way_stays nodes t step new u x (f ∷ fs) committed root up keeps there =
     (λ none. (named_lower new u committed.sound f.id f.node.value (committed.stays f.id kept ∙ after-none nodes t step f.id none ∙ there.0) x one).kept)
     (λ d some. (named_lower new u committed.sound f.id d (given_stays nodes t step new u committed f.id d kept some) x (let more : times f.node.value x ≤ times d x = keeps.0 d some x in omega arith)).kept)
 
--- a change names what the old node named
-abbrev NamesOn : Nodes → Change → Type 0
-NamesOn nodes v = (m : Node) → nodes v.id ≡ Some m → (y : ℕ) → times m y ≤ times v.node y
+-- a change of a node to the one a level higher
+abbrev IsRaisedOf : Nodes → Change → Type 0
+IsRaisedOf nodes v = (m : Node) → nodes v.id ≡ Some m → v.node ≡ raised m
 
-rising_names : (nodes : Nodes) (t : Table) (x level : ℕ) (way rising : List Fetched) → IsRising level way rising → IsWayUp t x way → AllByRecursion (IsContents nodes) way → AllByRecursion (NamesOn nodes) (map raise rising)
-rising_names nodes t x _ _ _ (at_top level) up there = tt
-rising_names nodes t x _ _ _ (high_enough level f fs more) up there = tt
-rising_names nodes t x _ _ _ (rises level f fs rising few room rise) up there =
-    let parts = way_link t x f fs up in (
-      λ m at_f y. (let same : f.node.value ≡ m = same_Some f.node.value m (sym there.0 ∙ at_f) in
-          let e : times (raised f.node.value) y ≡ times f.node.value y = raised_times f.node.value y in
-          let d : times f.node.value y ≡ times m y = ap (λ (n : Node). times n y) same in
-          omega arith),
-      rising_names nodes t f.id (level_of f.node.value + 1) fs rising rise parts.1 there.1,
-    )
+rising_raised : (nodes : Nodes) (t : Table) (x level : ℕ) (way rising : List Fetched) → IsRising level way rising → AllByRecursion (IsContents nodes) way → AllByRecursion (IsRaisedOf nodes) (map raise rising)
+rising_raised nodes t x _ _ _ (at_top level) there = tt
+rising_raised nodes t x _ _ _ (high_enough level f fs more) there = tt
+rising_raised nodes t x _ _ _ (rises level f fs rising few room rise) there = (
+  λ m at_f. ap raised (same_Some f.node.value m (sym there.0 ∙ at_f)),
+  rising_raised nodes t x (level_of f.node.value + 1) fs rising rise there.1,
+)
 
-way_keeps : (nodes : Nodes) (t : Table) (c : ℕ) (top : Node) (p : ℕ) (node : Node) (rising : List Fetched) (made : List Node) (x : ℕ) (way : List Fetched) → IsTable t → t.level c < t.level p → t.level p ≤ t.level x → AllByRecursion (NamesOn nodes) (map raise rising) → IsWayUp t x way → AllByRecursion (IsContents nodes) way
+-- what is given for a node above the parent
+given_raised : (nodes : Nodes) (t : Table) (c : ℕ) (top : Node) (p : ℕ) (node : Node) (rising : List Fetched) (made : List Node) (f : Fetched) (d : Node) → f.id < t.next → t.level c < t.level p → t.level p < t.level f.id → AllByRecursion (IsRaisedOf nodes) (map raise rising) → nodes f.id ≡ Some f.node.value
+    → given t.next (path_step t.root c top (record { id = p; node = node } ∷ map raise rising) made) f.id ≡ Some d → d ≡ raised f.node.value
+given_raised nodes t c top p node rising made f d below down over all there some =
+    let moved = sym (given_upper t c top (record { id = p; node = node } ∷ map raise rising) made f.id below (λ e. (let l : t.level f.id ≡ t.level c = ap t.level e in omega arith))
+    ∙ changed_at-other (record { id = p; node = node }) (map raise rising) f.id (λ e. (let l : t.level f.id ≡ t.level p = ap t.level e in omega arith))) ∙ some in
+    (changed_has (IsRaisedOf nodes) (map raise rising) f.id d all moved) f.node.value there
+
+way_keeps : (nodes : Nodes) (t : Table) (c : ℕ) (top : Node) (p : ℕ) (node : Node) (rising : List Fetched) (made : List Node) (x : ℕ) (way : List Fetched) → IsTable t → t.level c < t.level p → t.level p ≤ t.level x → AllByRecursion (IsRaisedOf nodes) (map raise rising) → IsWayUp t x way → AllByRecursion (IsContents nodes) way
     → AllByRecursion (KeepsNames t (path_step t.root c top (record { id = p; node = node } ∷ map raise rising) made)) way
-way_keeps nodes t c top p node rising made x [] table down over names_on up there = tt
-way_keeps nodes t c top p node rising made x (f ∷ fs) table down over names_on up there =
+way_keeps nodes t c top p node rising made x [] table down over all up there = tt
+way_keeps nodes t c top p node rising made x (f ∷ fs) table down over all up there =
     let parts = way_link t x f fs up in
     let more : t.level x < t.level f.id = (link_lower t x f parts.0).lower in (
       λ d some y.
-          let moved = sym (given_upper t c top (record { id = p; node = node } ∷ map raise rising) made f.id (table.below f.id parts.0.fetched.kept) (λ e. (let l : t.level f.id ≡ t.level c = ap t.level e in omega arith))
-          ∙ changed_at-other (record { id = p; node = node }) (map raise rising) f.id (λ e. (let l : t.level f.id ≡ t.level p = ap t.level e in omega arith))) ∙ some in
-          (changed_has (NamesOn nodes) (map raise rising) f.id d names_on moved) f.node.value there.0 y,
-      way_keeps nodes t c top p node rising made f.id fs table down (omega arith) names_on parts.1 there.1,
+          let is : d ≡ raised f.node.value = given_raised nodes t c top p node rising made f d (table.below f.id parts.0.fetched.kept) down (omega arith) all there.0 some in
+          let same : times (raised f.node.value) y ≡ times f.node.value y = raised_times f.node.value y in
+          let e : times d y ≡ times (raised f.node.value) y = ap (λ (n : Node). times n y) is in
+          omega arith,
+      way_keeps nodes t c top p node rising made f.id fs table down (omega arith) all parts.1 there.1,
+    )
+
+-- those that rise are there
+risen_there : (nodes : Nodes) (t : Table) (c : ℕ) (top : Node) (p : ℕ) (node : Node) (rising : List Fetched) (made : List Node) (new : Nodes) (u : Table) → IsCommitted nodes t (path_step t.root c top (record { id = p; node = node } ∷ map raise rising) made) new u → IsTable t → IsKept u t.root → t.level c < t.level p → AllByRecursion (IsRaisedOf nodes) (map raise rising)
+    → (x level : ℕ) (way own : List Fetched) → t.level p ≤ t.level x → IsRising level way own → IsWayUp t x way → AllByRecursion (IsContents nodes) way → AllByRecursion (λ (g : Fetched). IsSome (given t.next (path_step t.root c top (record { id = p; node = node } ∷ map raise rising) made) g.id)) own
+    → AllByRecursion (λ (g : Fetched). new g.id ≡ Some (raised g.node.value)) own
+risen_there nodes t c top p node rising made new u committed table root down all x _ _ _ over (at_top level) up there some = tt
+risen_there nodes t c top p node rising made new u committed table root down all x _ _ _ over (high_enough level f fs more) up there some = tt
+risen_there nodes t c top p node rising made new u committed table root down all x _ _ _ over (rises level f fs own few room rise) up there some =
+    let step : Step = path_step t.root c top (record { id = p; node = node } ∷ map raise rising) made in
+    let parts = way_link t x f fs up in
+    let more : t.level x < t.level f.id = (link_lower t x f parts.0).lower in
+    let kept : IsKept u f.id = way_stays nodes t step new u f.id fs committed root parts.1 (way_keeps nodes t c top p node rising made f.id fs table down (omega arith) all parts.1 there.1) there.1 in (
+      by_given (new f.id ≡ Some (raised f.node.value)) (given t.next step f.id)
+          (λ none. absurd (no_some (subst (λ (o : Option Node). IsSome o) none some.0)))
+          (λ d is.
+          given_stays nodes t step new u committed f.id d kept is
+          ∙ ap (λ (n : Node). Some n) (given_raised nodes t c top p node rising made f d (table.below f.id parts.0.fetched.kept) down (omega arith) all there.0 is)),
+      risen_there nodes t c top p node rising made new u committed table root down all f.id (level_of f.node.value + 1) fs own (omega arith) rise parts.1 there.1 some.1,
     )
 
 -- ---- what the step leaves
@@ -460,8 +490,9 @@ between_pushed nodes t way parent place child first pivot second node rising new
     let down : t.level c < t.level p = (under_parent t way parent place child first pivot second node rising b).lower in
     let rise : IsRising (level_of node) way rising = rise_is t way parent place child first pivot second node rising b in
     let root : IsKept u t.root = root_stays t c top (the_uppers parent node rising) made u h.after in
+    let all : AllByRecursion (IsRaisedOf nodes) (map raise rising) = rising_raised nodes t p (level_of node) way rising rise h.of.contents in
     let kept : IsKept u p = way_stays nodes t step new u p way h.committed root b.way_up
-    (way_keeps nodes t c top p node rising made p way b.table down (omega arith) (rising_names nodes t p (level_of node) way rising rise b.way_up h.of.contents) b.way_up h.of.contents) h.of.contents in
+    (way_keeps nodes t c top p node rising made p way b.table down (omega arith) all b.way_up h.of.contents) h.of.contents in
     let given_p : given t.next step p ≡ Some node =
     given_upper t c top (the_uppers parent node rising) made p (b.table.below p b.can.parent_is.kept) (λ e. (let l : t.level p ≡ t.level c = ap t.level e in omega arith))
     ∙ changed_at-same (record { id = p; node = node }) (map raise rising) p refl in
@@ -485,6 +516,8 @@ between_pushed nodes t way parent place child first pivot second node rising new
           (given-new t.next step t.next (omega arith) ∙ ap (λ (i : ℕ). slice_get made i) (let z : t.next - t.next ≡ 0 = omega arith in z));
       second_is = given_stays nodes t step new u h.committed (t.next + 1) second (named_lower new u h.committed.sound c top at_c (t.next + 1) (times_made 1 pivot t.next (t.next + 1) (omega arith) (omega arith))).kept
           (given-new t.next step (t.next + 1) (omega arith) ∙ ap (λ (i : ℕ). slice_get made i) (let z : t.next + 1 - t.next ≡ 1 = omega arith in z));
+      risen = risen_there nodes t c top p node rising made new u h.committed b.table root down all p (level_of node) way rising (omega arith) rise b.way_up h.of.contents
+          (all_given t way parent place child first pivot second node rising b);
       next = h.after.next;
     }
 

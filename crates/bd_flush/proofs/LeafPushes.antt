@@ -68,7 +68,7 @@ new_fits t p n place e parent entries s h =
 new_names : (n : Node) (place next : ℕ) (e f : Edge) (count : ℕ) → IsWay n place next e f → flat_map edge_names (seen_by f count ∷ []) ≡ next ∷ []
 new_names n place next e f count way = ap (λ (o : Option ℕ). option_to_list o ++ []) (ap (λ (g : Edge). g.child) way.0)
 
-times_without : (n : Node) (place : ℕ) (e : Edge) (x : ℕ) → IsShape n → IsEdgeAt n place e → times (exchanged n place []) x ≤ times n x
+pub times_without : (n : Node) (place : ℕ) (e : Edge) (x : ℕ) → IsShape n → IsEdgeAt n place e → times (exchanged n place []) x ≤ times n x
 times_without n place e x h here =
     let same : times (exchanged n place (e ∷ [])) x ≡ times n x = ap (λ (m : Node). times m x) (exchanged_same n place e here) in
     omega (arith, times_exchanged n place (e ∷ []) x (inner_of n place e h here))

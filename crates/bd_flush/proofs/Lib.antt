@@ -26,3 +26,4 @@ pub mod Down
 pub mod CarveSteps
 pub mod CarveCommits
 pub mod OldestGotos
+pub mod Copies

@@ -104,7 +104,7 @@ way_private nodes t x (f ∷ fs) s up there =
     alone f.id x f.node.value (way_private nodes t f.id fs s parts.1 there.1) there.0 (link_names t x f parts.0) parts.0.once
 
 -- no other node names the one below
-pub only_namer : (nodes : Nodes) (t : Table) (x : ℕ) (f : Fetched) → IsSound nodes t → IsLink t x f → IsContents nodes f → (q : ℕ) (m : Node) → nodes q ≡ Some m → 1 ≤ times m x → q ≡ f.id
+pub only_namer : (nodes : Nodes) (t : Table) (x : ℕ) (f : Fetched) → IsSound nodes t → IsLink t x f → nodes f.id ≡ Some f.node.value → (q : ℕ) (m : Node) → nodes q ≡ Some m → 1 ≤ times m x → q ≡ f.id
 only_namer nodes t x f s link there q m other one =
     elim (cases_eq q f.id) [
       | inl same ↦ same
@@ -239,7 +239,7 @@ has_room nodes t step x _ n _ _ is s (rises level g gs rising low room rise) up 
     })
 
 -- the raised node has what it had
-raise_meaning : (nodes : Nodes) (t : Table) (has : NodesAt) (f : Fetched) → IsSound nodes t → IsContents nodes f → AllByRecursion (Agree has (at nodes)) (names f.node.value) → (k : List ℕ) → IsKey k → node_at has (raised f.node.value) k ≡ at nodes f.id k
+raise_meaning : (nodes : Nodes) (t : Table) (has : NodesAt) (f : Fetched) → IsSound nodes t → nodes f.id ≡ Some f.node.value → AllByRecursion (Agree has (at nodes)) (names f.node.value) → (k : List ℕ) → IsKey k → node_at has (raised f.node.value) k ≡ at nodes f.id k
 raise_meaning nodes t has f s there agree k key =
     raised_has has f.node.value k
     ∙ node_at-same has (at nodes) f.node.value k agree

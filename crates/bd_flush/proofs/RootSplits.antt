@@ -14,7 +14,6 @@ use Rattle.bd_message.specs.Effect.{NodesAt}
 use Rattle.bd_message.specs.declared.fault.Counter.{Counter}
 use Rattle.bd_node.specs.declared.node.Edge.{Edge}
 use Rattle.bd_node.specs.declared.node.Node.{Node}
-use Rattle.bd_node.specs.declared.node.Node.TheVariants.{Leaf, Inner}
 use Rattle.bd_node.specs.declared.node.Change.{Change}
 use Rattle.bd_node.specs.declared.node.Step.{Step}
 use Rattle.bd_node.specs.Nodes.{level_of, buffer_size, names, times, through, node_at, node_has}

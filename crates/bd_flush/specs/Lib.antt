@@ -8,3 +8,4 @@ pub mod Raising
 pub mod Between
 pub mod Ways
 pub mod Carving
+pub mod Copies

@@ -30,7 +30,7 @@ use Rattle.bd_flush.specs.declared.children.Halving.TheVariants.{Short, Long}
 use Rattle.bd_flush.specs.Children.{IsFetched, IsWayTo, IsSplitInto, IsLongIn, child_step}
 use Rattle.bd_flush.specs.Paths.{path_step}
 use Rattle.bd_flush.specs.Splits.{over_two}
-use Rattle.bd_flush.specs.Raising.{raise, IsRaisedOver, CannotRiseOver}
+use Rattle.bd_flush.specs.Raising.{raised, raise, IsRaisedOver, CannotRiseOver}
 
 -- the edge after its child has got so many more messages
 abbrev pub seen_by : Edge → ℕ → Edge
@@ -197,6 +197,7 @@ pub record IsPushedBetween (t : Table) (way : List Fetched) (parent : Fetched) (
   pub child_is : new child.id ≡ Some (over_two 1 pivot t.next (t.next + 1))
   pub first_is : new t.next ≡ Some first
   pub second_is : new (t.next + 1) ≡ Some second
+  pub risen : AllByRecursion (λ (f : Fetched). new f.id ≡ Some (raised f.node.value)) rising
   pub next : u.next ≡ t.next + 2
 
 -- a push by one commit, with a node between or without

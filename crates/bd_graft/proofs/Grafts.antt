@@ -119,9 +119,9 @@ namable t step place low high levels within le ns h =
 pub overlaying_step : (t : Table) (step : Step) → IsOverlaying t step → IsStep t step
 overlaying_step t step h = record {
   made = each_from_get (IsPut t step) step.made (λ place n there. record {
-      shape = h.overlays.shape place n there;
-      lower = namable t step place (level_of n) (level_of n) h.levels (let w : place < length step.made = slice_get_within step.made place n there in omega arith) (omega arith) (names n) (h.overlays.lower place n there);
-    });
+    shape = h.overlays.shape place n there;
+    lower = namable t step place (level_of n) (level_of n) h.levels (let w : place < length step.made = slice_get_within step.made place n there in omega arith) (omega arith) (names n) (h.overlays.lower place n there);
+  });
   changes = h.changes;
   once = h.once;
   root = h.root;
@@ -359,9 +359,9 @@ pub under_in_place : (nodes : Nodes) (t : Table) (n : Node) (made : List Node) (
 under_in_place nodes t n made list s = record {
   private = (root_private nodes t s, tt);
   above = stay_above nodes t (step_under t n made list) s (λ id m low e. of_root (elim (cases_eq id t.root) [
-      | inl same ↦ same
-      | inr other ↦ absurd (none-some m (sym (other_given t n made list id low other) ∙ e))
-    ]));
+    | inl same ↦ same
+    | inr other ↦ absurd (none-some m (sym (other_given t n made list id low other) ∙ e))
+  ]));
 }
 
 lower_other : (t : Table) (c : ℕ) → IsLower t (t.level t.root) c → c ≡ t.root → ⊥

@@ -1,5 +1,5 @@
 -- What the way down finds is enough to make a step.
-use Rattle.std.proofs.Common.{◌≡◌, ℕ, List, ◌<◌, ◌≤◌, sym, ap, subst, ◌∙◌, None, Some, Result, Ok, IfOk, arith, inl, inr}
+use Rattle.std.proofs.Common.{◌≡◌, ℕ, List, reverse, ◌<◌, ◌≤◌, sym, ap, subst, ◌∙◌, None, Some, Result, Ok, IfOk, arith, inl, inr}
 use Rattle.std.specs.List.{AllByRecursion}
 use Rattle.bd_limits.specs.Limits.{soft_limit}
 use Rattle.bd_message.specs.declared.fault.MapFault.{MapFault}
@@ -18,6 +18,7 @@ use Rattle.bd_flush.specs.declared.ways.FlushStep.TheVariants.{SplitRoot, SplitC
 use Rattle.bd_flush.specs.Flushed.{IsFlushed}
 use Rattle.bd_flush.specs.Children.{IsFetched, IsContents}
 use Rattle.bd_flush.specs.Pushes.{CanPush, CanPushNew, IsWaitedFor, unseen}
+use Rattle.bd_flush.specs.Carving.{CanCarve}
 use Rattle.bd_flush.specs.Ways.{IsFullestAt, IsHigh, IsThere, AreThere, IsToDo, IsToDoAt, IsWayThere}
 use Rattle.bd_node.proofs.Lookup.{each_weaker}
 use Rattle.bd_flush.proofs.Abundance.{abundant}
@@ -73,6 +74,15 @@ can_push_new t above parent place waits h = record {
   waiting = waits_for t parent place h.0.edge waits h.0.parent_is h.1 h.0.fullest h.0.target.0 h.0.plain;
 }
 
+pub can_carve : (t : Table) (above : List Fetched) (parent : Fetched) (place : ℕ) → IsToDo t (Carve above parent place) → CanCarve t parent place
+can_carve t above parent place h = record {
+  parent_is = h.0.parent_is;
+  room = h.0.room;
+  edge = h.0.edge;
+  here = h.0.here;
+  waiting = h.0.plain;
+}
+
 -- ---- abundance
 
 abundant_in : (n : Node) → IsShape n → soft_limit < buffer_size n → (place : ℕ) → IsFullestAt n place → IsAbundantAt n place
@@ -124,8 +134,10 @@ way_again nodes mid t m step same table sound here =
     (here (subst (λ (f : Nodes). IsSound f t) same (subst (λ (u : Table). IsSound mid u) table sound))))
 
 -- the nodes above are those of the store
-pub way_stands : (nodes : Nodes) (t : Table) (way : List Fetched) → AreThere nodes t way → AllByRecursion (IsContents nodes) way
-way_stands nodes t way h = each_weaker (IsThere nodes t) (λ (f : Fetched). nodes f.id ≡ Some f.node.value) (λ f there. there.there) way h
+pub way_stands : (nodes : Nodes) (t : Table) (way list : List Fetched) → list ≡ way → AreThere nodes t (reverse way) → AllByRecursion (IsContents nodes) (reverse list)
+way_stands nodes t way list same h =
+    subst (λ (l : List Fetched). AllByRecursion (IsContents nodes) (reverse l)) (sym same)
+    (each_weaker (IsThere nodes t) (IsContents nodes) (λ f there. there.there) (reverse way) h)
 
 -- what the way down found in nodes, and what was made of them as it left them
 pub record IsStepMade (nodes mid : Nodes) (t m : Table) (new : Nodes) (u : Table) (step : FlushStep) : Type 0 where

@@ -13,13 +13,15 @@ use Rattle.bd_flush.specs.Splits.{IsSplitRoot, IsRaised}
 use Rattle.bd_flush.specs.Children.{IsNoHigher}
 use Rattle.bd_flush.specs.Between.{IsSplitChild, IsHighAfterSplit, IsHardlyHigher}
 use Rattle.bd_flush.specs.Pushes.{IsPushed, IsPushedBetween, IsPushedNew, IsLongPush}
+use Rattle.bd_flush.specs.Carving.{IsCarvedAt}
 use Rattle.bd_flush.specs.Ways.{IsToDo, IsToDoAt}
 use Rattle.bd_step.specs.declared.steps.Flush.{Flush}
-use Rattle.bd_step.specs.declared.steps.Flush.TheVariants.{Done, Shared, Named}
+use Rattle.bd_step.specs.declared.steps.Flush.TheVariants.{Done, Shared}
 
 -- ---- the kinds of a step
 
--- what a step leaves, by its kind: a root's or a child's split, or a push to a child or a new leaf
+-- what a step leaves, by its kind: a root's or a child's split, a push to a child or a new leaf, or a
+-- Goto whose keys have got edges of their own
 abbrev pub IsMade : Table → FlushStep → Nodes → Table → Type 0
 IsMade t (SplitRoot root) new u = IsSplitRoot t root.node.value new
 IsMade t (SplitChild above parent place child) new u =
@@ -29,7 +31,7 @@ IsMade t (Push above parent place (Some child)) new u =
     IsPushed t parent place child new u
     ⊎ IsPushedBetween t (reverse above) parent place child new u
 IsMade t (Privatise above parent place) new u = ⊥
-IsMade t (Carve above parent place) new u = ⊥
+IsMade t (Carve above parent place) new u = IsCarvedAt t parent place new u
 
 -- how high the root is after a step, by its kind: one level higher only after its split, or where the
 -- pivot of a child's or a leaf's halves would have more than 518 bytes in its parent
@@ -76,7 +78,7 @@ IsOutcome (SplitRoot root) flush = flush ≡ Done
 IsOutcome (SplitChild above parent place child) flush = flush ≡ Done
 IsOutcome (Push above parent place child) flush = flush ≡ Done
 IsOutcome (Privatise above parent place) flush = flush ≡ Shared
-IsOutcome (Carve above parent place) flush = flush ≡ Named
+IsOutcome (Carve above parent place) flush = flush ≡ Done
 
 -- what the way down finds to do, as far as the tables tell, and what comes of it
 pub record IsFound (t u : Table) (flush : Flush) : Type 0 where

@@ -10,7 +10,7 @@ ghost use Rattle.bd_flush.specs.Ways.{IsToDo, IsToDoAt, AreThere, IsWayOf, IsWay
 ghost use Rattle.bd_step.specs.Steps.{IsMade, IsHighAfter, IsFlushStep, IsOutcome, IsFound, IsFoundAt};
 
 use bd_flush::{
-    Fetched, FlushStep, Way, next_step, push, push_new, split_child, split_root,
+    Fetched, FlushStep, Way, carve, next_step, push, push_new, split_child, split_root,
 };
 use bd_message::MapFault;
 use bd_node::NodeStore;
@@ -26,20 +26,19 @@ pub enum Flush {
     /// The fullest edge of a node on the way asks a shared child, or one with something in front of
     /// a key: nothing was changed.
     Shared,
-    /// A Goto is pending for the fullest edge of a node on the way: nothing was changed.
-    Named,
 }
 
 /// Makes one step of a flush where more than `limit` bytes of messages wait in the root: at the
-/// place that the way down from the root finds, a node is split, or messages go down to a child or
-/// to a new leaf. All changes are made at once or not at all. At most as many nodes are fetched as
-/// the tree is high, and at most four are made.
+/// place that the way down from the root finds, a node is split, messages go down to a child or to a
+/// new leaf, or the keys of a Goto get edges of their own. All changes are made at once or not at
+/// all. At most as many nodes are fetched as the tree is high, and at most four are made.
 pub fn flush_step<S: NodeStore>(
     alloc: Global,
     store: &mut S,
     limit: usize,
 ) -> Result<Flush, MapFault>
     ensures enough { (result ≡ Ok Flush.Enough) ↔ ((S.table store.old).size ≤ limit) }
+    ensures unchanged { result ≡ Ok Flush.Enough → store.new ≡ store.old }
     ensures step { S.is_known store.old → IsSound (S.nodes store.old) (S.table store.old)
         → result ≡ Ok Flush.Done → IsFlushStep (S.nodes store.old) (S.table store.old)
         (S.nodes store.new) (S.table store.new) }
@@ -52,8 +51,6 @@ pub fn flush_step<S: NodeStore>(
     ensures same_table { result ≢ Ok Flush.Done → S.table store.new ≡ S.table store.old }
     ensures same_nodes { S.is_known store.old
         → result ≢ Ok Flush.Done → S.nodes store.new ≡ S.nodes store.old }
-    ensures no_visit { result ≡ Ok Flush.Enough
-        → S.visit_count store.new ≡ S.visit_count store.old }
     ensures few_visits { S.visit_count store.new
         ≤ S.visit_count store.old + ((S.table store.old).level (S.table store.old).root + 1) + 4 }
     ensures cause { HasMapCause (S.fault_count store.old) (S.fault_count store.new)
@@ -115,7 +112,10 @@ fn make<S: NodeStore>(alloc: Global, store: &mut S, step: FlushStep) -> Result<F
             child,
         } => push_down(alloc, store, above, parent, place, child),
         FlushStep::Privatise { .. } => Ok(Flush::Shared),
-        FlushStep::Carve { .. } => Ok(Flush::Named),
+        FlushStep::Carve { parent, place, .. } => {
+            carve(alloc, store, &parent, place)?;
+            Ok(Flush::Done)
+        }
     }
 }
 

@@ -4,14 +4,13 @@ use Rattle.bd_message.specs.declared.fault.MapFault.{MapFault}
 use Rattle.bd_node.specs.Meaning.{Nodes}
 use Rattle.bd_node.specs.Tables.{Table, root_at}
 use Rattle.bd_step.specs.declared.steps.Flush.{Flush}
-use Rattle.bd_step.specs.declared.steps.Flush.TheVariants.{Enough, Done, Shared, Named}
+use Rattle.bd_step.specs.declared.steps.Flush.TheVariants.{Enough, Done, Shared}
 use Rattle.bd_step.specs.Steps.{IsFlushStep}
 
 is_done : (r : Result Flush MapFault) → r ≡ Ok Done ⊎ (r ≡ Ok Done → ⊥)
 is_done (Ok Done) = inl refl
 is_done (Ok Enough) = inr (λ e. cc)
 is_done (Ok Shared) = inr (λ e. cc)
-is_done (Ok Named) = inr (λ e. cc)
 is_done (Err fault) = inr (λ e. cc)
 
 -- nodes after a call that makes a step of a flush or nothing

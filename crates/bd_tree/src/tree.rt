@@ -144,6 +144,7 @@ impl<S: NodeStore> Tree<S> {
             → (k : List ℕ) → root_at (S.nodes self.new) (S.table self.new) k
             ≡ root_at (S.nodes self.old) (S.table self.old) k }
         ensures enough { (result ≡ Ok Flush.Enough) ↔ ((S.table self.old).size ≤ limit) }
+        ensures unchanged { result ≡ Ok Flush.Enough → self.new ≡ self.old }
         ensures step { S.is_known self.old → IsSound (S.nodes self.old) (S.table self.old)
             → result ≡ Ok Flush.Done → IsFlushStep (S.nodes self.old) (S.table self.old)
             (S.nodes self.new) (S.table self.new) }
@@ -156,8 +157,6 @@ impl<S: NodeStore> Tree<S> {
         ensures same_table { result ≢ Ok Flush.Done → S.table self.new ≡ S.table self.old }
         ensures same_nodes { S.is_known self.old
             → result ≢ Ok Flush.Done → S.nodes self.new ≡ S.nodes self.old }
-        ensures no_visit { result ≡ Ok Flush.Enough
-            → S.visit_count self.new ≡ S.visit_count self.old }
         ensures few_visits { S.visit_count self.new ≤ S.visit_count self.old
             + ((S.table self.old).level (S.table self.old).root + 1) + 4 }
         ensures cause { HasMapCause (S.fault_count self.old) (S.fault_count self.new)

@@ -101,7 +101,7 @@ fn is_before(edge: &Edge, rest: &[Edge]) -> bool
 }
 
 // A node with such edges, the first one from the empty key on, and without messages.
-fn node(alloc: Global, pivots: &str) -> Result<Node, Fail>
+pub fn node(alloc: Global, pivots: &str) -> Result<Node, Fail>
     ensures shape { IfOk result IsShape }
     ensures level { IfOk result (λ node. level_of node ≡ 1) }
     ensures empty { IfOk result (λ node. buffer_size node ≡ 0) }
@@ -122,7 +122,7 @@ fn node(alloc: Global, pivots: &str) -> Result<Node, Fail>
 }
 
 // The edges and the messages of a node.
-fn parts(node: &Node) -> (&[Edge], &[Message])
+pub fn parts(node: &Node) -> (&[Edge], &[Message])
     ensures edges { result.0.now ≡ edges_of node.now }
     ensures messages { result.1.now ≡ buffer_of node.now }
 {
@@ -133,7 +133,7 @@ fn parts(node: &Node) -> (&[Edge], &[Message])
 }
 
 // A Put of a key.
-fn put(alloc: Global, key: &str) -> Result<Message, Fail>
+pub fn put(alloc: Global, key: &str) -> Result<Message, Fail>
     ensures { IfOk result (λ m. IsMessage m × IsPlain m) }
 {
     let message = message(alloc, "put", key, "v")?;
@@ -230,7 +230,7 @@ fn raised(alloc: Global, node: &Node) -> Result<Node, Fail>
 }
 
 // The edge after so many messages.
-fn seen(edge: &Edge, seen: u32) -> Result<Edge, AllocError>
+pub fn seen(edge: &Edge, seen: u32) -> Result<Edge, AllocError>
     ensures { IfOk result (λ copy. copy ≡ record edge.now { seen = seen }) }
 {
     let mut copy = edge.clone()?;

@@ -6,6 +6,8 @@
 #[cfg(test)]
 mod cache;
 #[cfg(test)]
+mod carving;
+#[cfg(test)]
 mod format;
 #[cfg(test)]
 mod inner;

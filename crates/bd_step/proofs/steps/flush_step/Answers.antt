@@ -17,8 +17,8 @@ make-requires-clause-way_here g c = λ known sound.
 pub returns-clause-enough : goal.returns-clause-enough
 returns-clause-enough g c = (λ is. absurd (never_enough c.make.result c.in_ok-step.step c.make.ensures.outcome is), λ few. absurd (omega arith))
 
-pub returns-clause-no_visit : goal.returns-clause-no_visit
-returns-clause-no_visit g c = λ is. absurd (never_enough c.make.result c.in_ok-step.step c.make.ensures.outcome is)
+pub returns-clause-unchanged : goal.returns-clause-unchanged
+returns-clause-unchanged g c = λ is. absurd (never_enough c.make.result c.in_ok-step.step c.make.ensures.outcome is)
 
 pub returns-clause-step : goal.returns-clause-step
 returns-clause-step g c = λ known sound done.

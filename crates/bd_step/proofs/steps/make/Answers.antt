@@ -1,7 +1,7 @@
-use Rattle.std.proofs.Common.{subst, reverse}
+use Rattle.std.proofs.Common.{subst}
 use Rattle.bd_flush.specs.declared.ways.FlushStep.{FlushStep}
 use Rattle.bd_flush.specs.Ways.{IsToDo, IsToDoAt, IsWayThere}
-use Rattle.bd_step.proofs.Making.{root_found, way_stands}
+use Rattle.bd_step.proofs.Making.{can_carve, root_found, way_stands}
 use Rattle.bd_step.proofs.steps.make.Goals as goal
 
 pub split_root-requires-clause-there : goal.split_root-requires-clause-there
@@ -12,9 +12,14 @@ split_root-requires-clause-there g c = λ known sound.
 
 pub split_child-requires-clause-there : goal.split_child-requires-clause-there
 split_child-requires-clause-there g c = λ known sound.
-    way_stands (g.S.NodeStore.nodes c.args.store.now) (g.S.NodeStore.table c.args.store.now) (reverse c.in-SplitChild.above)
+    way_stands (g.S.NodeStore.nodes c.args.store.now) (g.S.NodeStore.table c.args.store.now) c.in-SplitChild.above c.as_slice.result.now c.as_slice.ensures
     (subst (λ (s : FlushStep). IsWayThere (g.S.NodeStore.nodes c.args.store.now) (g.S.NodeStore.table c.args.store.now) s) c.in-SplitChild.is (c.requires.way_here known sound))
 
 pub push_down-requires-clause-way_here : goal.push_down-requires-clause-way_here
 push_down-requires-clause-way_here g c = λ known sound.
     subst (λ (s : FlushStep). IsWayThere (g.S.NodeStore.nodes c.args.store.now) (g.S.NodeStore.table c.args.store.now) s) c.in-Push.is (c.requires.way_here known sound)
+
+pub carve-requires-clause-can : goal.carve-requires-clause-can
+carve-requires-clause-can g c =
+    can_carve (g.S.NodeStore.table c.args.store.now) c.in-Carve.above c.in-Carve.parent c.in-Carve.place
+    (subst (λ (s : FlushStep). IsToDo (g.S.NodeStore.table c.args.store.now) s) c.in-Carve.is c.requires.to_do)

@@ -1,4 +1,4 @@
-use Rattle.std.proofs.Common.{Option, subst, reverse}
+use Rattle.std.proofs.Common.{Option, subst}
 use Rattle.bd_flush.specs.declared.fetching.Fetched.{Fetched}
 use Rattle.bd_flush.specs.declared.ways.FlushStep.TheVariants.{Push}
 use Rattle.bd_flush.specs.Ways.{IsToDo}
@@ -16,4 +16,4 @@ push-requires-clause-can g c =
     (subst (λ (o : Option Fetched). IsToDo (g.S.NodeStore.table c.args.store.now) (Push c.args.above c.args.parent c.args.place o)) c.in-Some.is c.requires.to_do)
 
 pub push-requires-clause-contents : goal.push-requires-clause-contents
-push-requires-clause-contents g c = λ known sound. way_stands (g.S.NodeStore.nodes c.args.store.now) (g.S.NodeStore.table c.args.store.now) (reverse c.args.above) (c.requires.way_here known sound)
+push-requires-clause-contents g c = λ known sound. way_stands (g.S.NodeStore.nodes c.args.store.now) (g.S.NodeStore.table c.args.store.now) c.args.above c.as_slice.result.now c.as_slice.ensures (c.requires.way_here known sound)

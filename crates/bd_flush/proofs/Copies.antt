@@ -1,0 +1,506 @@
+-- A copy that becomes the child of an edge alone.
+use Rattle.std.proofs.Common.{◌≡◌, ℕ, zero, suc, ◌+◌, ◌-◌, ◌^◌, ◌<◌, ◌≤◌, List, [], ◌∷◌, ◌++◌, length, take, drop, refl, sym, ap, subst, ◌∙◌, Option, None, Some, arith, inl, inr, ◌⊎◌, get_or, Result, Ok, Err, OnOk}
+use Rattle.std.specs.Prelude.{IfOk, MatchOption}
+use Rattle.std.specs.Prelude.{slice_get}
+use Rattle.std.specs.List.{AllByRecursion, flat_map}
+use Rattle.std.specs.Option.{option_to_list}
+use Rattle.std.proofs.lemmas.Bool.{cases_eq}
+use Rattle.std.proofs.lemmas.Option.{same_Some, none-some, slice_get_within}
+use Rattle.bd_keys.specs.Keys.{IsKey}
+use Rattle.bd_keys.proofs.Order.{IsKey-cons, IsKey-rest}
+use Rattle.bd_message.specs.declared.message.Message.{Message}
+use Rattle.bd_message.specs.declared.message.Message.TheVariants.{Put, Del, Patch, Cut, Goto}
+use Rattle.bd_message.specs.Messages.{IsMessage}
+use Rattle.bd_message.specs.Freeing.{source_of}
+use Rattle.bd_message.specs.declared.fault.MapFault.{MapFault}
+use Rattle.bd_message.specs.KeyMaps.{HasMapCause}
+use Rattle.bd_node.specs.declared.node.Edge.{Edge}
+use Rattle.bd_node.specs.declared.node.Node.{Node}
+use Rattle.bd_node.specs.declared.node.Node.TheVariants.{Leaf, Inner}
+use Rattle.bd_node.specs.declared.node.Entry.{Entry}
+use Rattle.bd_limits.specs.Limits.{key_limit, leaf_limit, edge_limit}
+use Rattle.bd_leaf.specs.Leaves.{entries_size}
+use Rattle.bd_leaf.specs.Leaves.{IsClipped as LeafClipped}
+use Rattle.bd_inner.specs.Clipping.{IsLongEdge, IsLongMessage, IsLong, IsClipped}
+use Rattle.bd_node.specs.declared.node.Step.{Step}
+use Rattle.bd_node.specs.Nodes.{level_of, buffer_size, message_names, edge_names, names, times, child_at, node_at, node_has}
+use Rattle.bd_node.specs.Meaning.{Nodes, at, found_at}
+use Rattle.bd_node.specs.Shape.{EachEdge, IsEdge, IsLeaf, IsShape}
+use Rattle.bd_node.specs.Tables.{Table, IsKept, IsTable, IsLower, IsNodeOf, IsSound}
+use Rattle.bd_node.specs.Private.{IsPrivate}
+use Rattle.bd_node.specs.Private.IsPrivate.{root_alone, alone}
+use Rattle.bd_node.specs.Steps.{given, level_or, level_after, IsStep, IsInPlace, IsTableAfter, IsCommitted, IsWornBy}
+use Rattle.bd_node.specs.Steps.HasRoom.{no_rise}
+use Rattle.bd_node.specs.Stores.{visited}
+use Rattle.bd_node.proofs.Lookup.{Agree, named_has, each_named, node_has-key, count-cons_other}
+use Rattle.bd_node.proofs.Meanings.{at-meets}
+use Rattle.bd_node.proofs.Sound.{sound-levelled, named_lower, kept_there}
+use Rattle.bd_node.proofs.Stepping.{given-new, after-none, given_stays}
+use Rattle.bd_inner.specs.Halves.{edges_of, buffer_of}
+use Rattle.bd_inner.specs.Compaction.{IsLoose, IsLooseNode, IsCompacted}
+use Rattle.bd_inner.specs.Exchange.{exchanged, end_at, IsEdgeAt, FitsAt, way_to}
+use Rattle.bd_inner.proofs.Compacting.{count_names, count_names-append, compacted_shape, compacted_level, compacted_meaning, compacted_size, compacted_times}
+use Rattle.bd_inner.proofs.Fitting.{own_shape}
+use Rattle.bd_inner.proofs.Moved.{moved_none}
+use Rattle.bd_inner.proofs.Exchanged.{exchanged_shape, pushed}
+use Rattle.bd_flush.specs.declared.fetching.Fetched.{Fetched}
+use Rattle.bd_flush.specs.Flushed.{IsFlushed, IsWornFor}
+use Rattle.bd_flush.specs.Children.{IsFetched, IsNoHigher}
+use Rattle.bd_flush.specs.Paths.{path_step}
+use Rattle.bd_flush.specs.Pushes.{IsOwn}
+use Rattle.bd_flush.specs.Copies.{CanPutCopy, IsCopyFor, IsCopyAt, IsRedirected, IsCopyStep, IsCopyPut, AreShort, IsFreed, HasLongSource, HasChild, IsPrivatised, IsTooLong}
+use Rattle.bd_flush.proofs.Worn.{cause_weaker}
+use Rattle.bd_flush.proofs.ChildSplits.{some_edge, exchanged_same, times_exchanged, inner_of, count_own, level_exchanged, compacted_named, exchanged_named, size_exchanged, some_next, IsKey-drop, edge_here}
+use Rattle.bd_flush.proofs.LeafPushes.{times_without}
+use Rattle.bd_flush.proofs.PathSteps.{IsMadeUnder, IsPathStep, IsPathStepOf, IsPathDone, given_child, given_upper, has_made, made_old, made_new, path_child, path_may, path_in_place, path_flushed, path_worn, root_stays, both_ways}
+
+-- ---- the node above
+
+few_edges : (n : Node) (place : ℕ) (e : Edge) → IsShape n → IsEdgeAt n place e → length (edges_of n) ≤ edge_limit
+few_edges (Leaf entries) place e h here = absurd (none-some e here)
+few_edges (Inner level es buffer) place e h here = h.few
+
+one_fits : (n : Node) (place : ℕ) (e f : Edge) → IsShape n → IsEdgeAt n place e → f.pivot ≡ e.pivot → IsEdge (length (buffer_of n)) f (end_at n place) → FitsAt n place e (f ∷ [])
+one_fits n place e f h here same own = record {
+  here = here;
+  few = (let few : length (edges_of n) ≤ edge_limit = few_edges n place e h here in omega arith);
+  first = ap (λ (p : List ℕ). Some p) same;
+  each = (own, tt);
+}
+
+way_fits_so : (n : Node) (place : ℕ) (e : Edge) (child : ℕ) → IsShape n → IsEdgeAt n place e → 1 ≤ child → child < 2 ^ 64 → FitsAt n place e (way_to e e.lift child ∷ [])
+way_fits_so n place e child h here some small =
+    let own : IsEdge (length (buffer_of n)) e (end_at n place) = own_shape n place e h here in
+    one_fits n place e (way_to e e.lift child) h here refl
+    (record { pivot = own.pivot; rising = own.rising; lift = own.lift; common = own.common; source = omega arith; child = (some, small); seen = own.seen })
+
+-- a node, an edge of it, and a copy for that, as far as the table tells
+pub record IsForCopy (t : Table) (p : ℕ) (n : Node) (place : ℕ) (e : Edge) (child : ℕ) (copy : Node) : Type 0 where
+  pub table : IsTable t
+  pub kept : IsKept t p
+  pub own : IsNodeOf t (t.level p) n
+  pub here : IsEdgeAt n place e
+  pub child_is : e.child ≡ Some child
+  pub copy_own : IsNodeOf t (level_of copy) copy
+  pub copy_low : level_of copy < level_of n
+  pub next : t.next < 2 ^ 64
+
+fits_next : (t : Table) (p : ℕ) (n : Node) (place : ℕ) (e : Edge) (child : ℕ) (copy : Node) → IsForCopy t p n place e child copy → FitsAt n place e (way_to e e.lift t.next ∷ [])
+fits_next t p n place e child copy s = way_fits_so n place e t.next s.own.shape s.here (some_next t s.table) s.next
+
+named_then : (t : Table) (p : ℕ) (n : Node) (place : ℕ) (e : Edge) (child : ℕ) (copy h : Node) → IsForCopy t p n place e child copy → IsRedirected n place e t.next h → (x : ℕ) → 1 ≤ times h x → IsLower t (t.level p) x ⊎ (x ≡ t.next)
+named_then t p n place e child copy h s into x one =
+    let list : List Edge = way_to e e.lift t.next ∷ [] in
+    elim (cases_eq t.next x) [
+      | inl same ↦ inr (sym same)
+      | inr other ↦ (let less : times h x ≤ times (exchanged n place list) x = compacted_times (exchanged n place list) h into x in
+          let none : count_names x (t.next ∷ []) ≡ 0 = count-cons_other t.next x [] other in
+          let named : 1 ≤ times n x = omega (arith, times_exchanged n place list x (inner_of n place e s.own.shape s.here), times_without n place e x s.own.shape s.here) in
+          inl (named_has (IsLower t (t.level p)) x (names n) s.own.lower named))
+    ]
+
+used_then : (t : Table) (p : ℕ) (n : Node) (place : ℕ) (e : Edge) (child : ℕ) (copy h : Node) → IsForCopy t p n place e child copy → IsRedirected n place e t.next h → 1 ≤ times h t.next
+used_then t p n place e child copy h s into =
+    let list : List Edge = way_to e e.lift t.next ∷ [] in
+    omega (arith, count_own t.next, compacted_named (exchanged n place list) h into t.next, exchanged_named n place list t.next (inner_of n place e s.own.shape s.here))
+
+level_then : (t : Table) (p : ℕ) (n : Node) (place : ℕ) (e : Edge) (child : ℕ) (copy h : Node) → IsForCopy t p n place e child copy → IsRedirected n place e t.next h → level_of h ≡ t.level p
+level_then t p n place e child copy h s into = compacted_level (exchanged n place (way_to e e.lift t.next ∷ [])) h into ∙ level_exchanged n place (way_to e e.lift t.next ∷ []) ∙ s.own.level_is
+
+pub copy_path : (t : Table) (p : ℕ) (n : Node) (place : ℕ) (e : Edge) (child : ℕ) (copy h : Node) → IsForCopy t p n place e child copy → IsRedirected n place e t.next h → IsPathStep t p h [] (copy ∷ [])
+copy_path t p n place e child copy h s into =
+    let list : List Edge = way_to e e.lift t.next ∷ [] in
+    let level : level_of h ≡ t.level p = level_then t p n place e child copy h s into in
+    let own : level_of n ≡ t.level p = s.own.level_is in
+    let low : level_of copy < level_of n = s.copy_low in
+    record {
+      table = s.table;
+      child = s.kept;
+      shape = compacted_shape (exchanged n place list) h (exchanged_shape n place e list s.own.shape (fits_next t p n place e child copy s)) into;
+      low = omega arith;
+      high = omega arith;
+      named = λ x one. elim (named_then t p n place e child copy h s into x one) [
+        | inl lower ↦ inl lower
+        | inr new ↦ inr (omega arith, omega arith)
+      ];
+      made_are = (record { shape = s.copy_own.shape; low = omega arith; under = omega arith; named = λ x one. named_has (IsLower t (level_of copy)) x (names copy) s.copy_own.lower one }, tt);
+      used = λ x high below. (let same : t.next ≡ x = omega arith in subst (λ (i : ℕ). 1 ≤ times h i) same (used_then t p n place e child copy h s into));
+      uppers_are = tt;
+      once = tt;
+    }
+
+-- ---- of sound nodes
+
+-- what the copy has there
+copy_has : (nodes : Nodes) (next : ℕ) (copy : Node) (k : List ℕ) → has_made nodes next (copy ∷ []) next k ≡ node_has (at nodes) copy k
+copy_has nodes next copy k =
+    made_new nodes next (copy ∷ []) next (omega arith) k
+    ∙ ap (λ (i : ℕ). found_at (at nodes) (slice_get (copy ∷ []) i) k) (let z : next - next ≡ 0 = omega arith in z)
+
+meaning_then : (nodes : Nodes) (t : Table) (p : ℕ) (n : Node) (place : ℕ) (e : Edge) (child : ℕ) (copy h : Node) → IsForCopy t p n place e child copy → IsRedirected n place e t.next h → IsCopyFor nodes e copy
+    → (k : List ℕ) → IsKey k → node_at (has_made nodes t.next (copy ∷ [])) h k ≡ node_at (at nodes) n k
+meaning_then nodes t p n place e child copy h s into copied k key =
+    let has = has_made nodes t.next (copy ∷ []) in
+    let f : Edge = way_to e e.lift t.next in
+    let fits : FitsAt n place e (f ∷ []) = fits_next t p n place e child copy s in
+    compacted_meaning has (exchanged n place (f ∷ [])) h (exchanged_shape n place e (f ∷ []) s.own.shape fits) into k
+    ∙ pushed (at nodes) has n place e f 0 [] s.own.shape fits (let z : e.seen ≡ e.seen + 0 = omega arith in z) (moved_none f (end_at n place))
+    (λ l key_l range.
+    let x : List ℕ = drop e.lift l in
+    copy_has nodes t.next copy x
+    ∙ node_has-key (at nodes) copy x (IsKey-drop e.lift l key_l)
+    ∙ copied child s.child_is x (IsKey-drop e.lift l key_l)
+    ∙ sym (ap (λ (o : Option ℕ). child_at (at nodes) o (e.source ++ x)) s.child_is))
+    (each_named (Agree has (at nodes)) (names (exchanged n place [])) (λ x one.
+    let named : 1 ≤ times n x = omega (arith, times_without n place e x s.own.shape s.here) in
+    made_old nodes t.next (copy ∷ []) x (s.table.below x (named_has (IsLower t (t.level p)) x (names n) s.own.lower named).kept)))
+    k key
+
+pub copy_path_of : (nodes : Nodes) (t : Table) (p : ℕ) (n : Node) (place : ℕ) (e : Edge) (child : ℕ) (copy h : Node) → IsForCopy t p n place e child copy → IsRedirected n place e t.next h → IsSound nodes t → IsPrivate nodes t p → nodes p ≡ Some n → IsCopyFor nodes e copy
+    → IsPathStepOf nodes t p h [] (copy ∷ [])
+copy_path_of nodes t p n place e child copy h s into sound private there copied =
+    let level : level_of h ≡ t.level p = level_then t p n place e child copy h s into in
+    record {
+      step = copy_path t p n place e child copy h s into;
+      sound = sound;
+      private = private;
+      room = no_rise (omega arith);
+      moves = inl (λ k.
+          path_child nodes t.next p h (copy ∷ []) k
+          ∙ sym (both_ways nodes (has_made nodes t.next (copy ∷ [])) p h
+          (λ l key.
+          meaning_then nodes t p n place e child copy h s into copied l key
+          ∙ sym (node_has-key (at nodes) n l key)
+          ∙ sym ((at-meets nodes (sound-levelled nodes t sound)).each p n there l))
+          k));
+      uppers_of = tt;
+    }
+
+-- ---- what is there then
+
+stays : (nodes : Nodes) (t : Table) (p : ℕ) (h copy : Node) (new : Nodes) (u : Table) → IsPathDone nodes t p h [] (copy ∷ []) new u → (q : ℕ) → IsPrivate nodes t q → t.level p ≤ t.level q → IsKept u q
+stays nodes t p h copy new u b q (root_alone one) high = root_stays t p h [] (copy ∷ []) u b.after
+stays nodes t p h copy new u b q (alone id _ m above there one count) high =
+    let lower : IsLower t (t.level id) q = named_lower nodes t b.of.sound id m there q one in
+    let down : t.level q < t.level id = lower.lower in
+    let kept : IsKept u id = stays nodes t p h copy new u b id above (omega arith) in
+    let other : id ≡ p → ⊥ = λ e. (let l : t.level id ≡ t.level p = ap t.level e in omega arith) in
+    let low : id < t.next = b.of.step.table.below id (kept_there nodes t b.of.sound id m there) in
+    let still : new id ≡ Some m = b.committed.stays id kept ∙ after-none nodes t (path_step t.root p h [] (copy ∷ [])) id (given_upper t p h [] (copy ∷ []) id low other) ∙ there in
+    (named_lower new u b.committed.sound id m still q one).kept
+
+parent_then : (nodes : Nodes) (t : Table) (p : ℕ) (h copy : Node) (new : Nodes) (u : Table) → IsPathDone nodes t p h [] (copy ∷ []) new u → new p ≡ Some h
+parent_then nodes t p h copy new u b =
+    given_stays nodes t (path_step t.root p h [] (copy ∷ [])) new u b.committed p h (stays nodes t p h copy new u b p b.of.private (omega arith))
+    (given_child t p h [] (copy ∷ []) (b.of.step.table.below p b.of.step.child))
+
+copy_then : (nodes : Nodes) (t : Table) (p : ℕ) (h copy : Node) (new : Nodes) (u : Table) → IsPathDone nodes t p h [] (copy ∷ []) new u → new t.next ≡ Some copy
+copy_then nodes t p h copy new u b =
+    given_stays nodes t (path_step t.root p h [] (copy ∷ [])) new u b.committed t.next copy
+    (named_lower new u b.committed.sound p h (parent_then nodes t p h copy new u b) t.next (b.of.step.used t.next (omega arith) (omega arith))).kept
+    (given-new t.next (path_step t.root p h [] (copy ∷ [])) t.next (omega arith) ∙ ap (λ (i : ℕ). slice_get (copy ∷ []) i) (let z : t.next - t.next ≡ 0 = omega arith in z))
+
+no_higher : (t : Table) (p : ℕ) (h copy : Node) (u : Table) → IsPathStep t p h [] (copy ∷ []) → level_of h ≡ t.level p → IsTableAfter t (path_step t.root p h [] (copy ∷ [])) u → (p ≡ t.root → buffer_size h ≤ t.size) → IsNoHigher t u
+no_higher t p h copy u b level after fits =
+    let low : t.root < t.next = b.table.below t.root b.table.root in
+    let step : Step = path_step t.root p h [] (copy ∷ []) in
+    elim (cases_eq t.root p) [
+      | inl same ↦
+          let is : given t.next step t.root ≡ Some h = ap (λ (i : ℕ). given t.next step i) same ∙ given_child t p h [] (copy ∷ []) (b.table.below p b.child) in
+          record {
+            root = after.root;
+            level = ap u.level after.root ∙ after.level t.root (root_stays t p h [] (copy ∷ []) u after) ∙ ap (λ (o : Option Node). level_or o (t.level t.root)) is ∙ level ∙ ap t.level (sym same);
+            size = (let size : u.size ≡ buffer_size h = after.size h is in let few : buffer_size h ≤ t.size = fits (sym same) in omega arith);
+          }
+      | inr other ↦
+          let is : given t.next step t.root ≡ None = given_upper t p h [] (copy ∷ []) t.root low other in
+          record {
+            root = after.root;
+            level = ap u.level after.root ∙ after.level t.root (root_stays t p h [] (copy ∷ []) u after) ∙ ap (λ (o : Option Node). level_or o (t.level t.root)) is;
+            size = (let size : u.size ≡ t.size = after.same_size is refl in omega arith);
+          }
+    ]
+
+-- ---- the commit
+
+pub record IsToPut (t : Table) (parent : Fetched) (place : ℕ) (copy : Node) (step : Step) : Type 0 where
+  pub table : IsTable t
+  pub next : t.next < 2 ^ 64
+  pub can : CanPutCopy t parent place copy
+  pub put : IsCopyStep t.root t.next parent place copy step
+
+pub is_to_put : (t : Table) (parent : Fetched) (place : ℕ) (copy : Node) (step : Step) (root next : ℕ) → IsTable t → CanPutCopy t parent place copy → root ≡ t.root → next ≡ t.next → next < 2 ^ 64 → IsCopyStep root next parent place copy step → IsToPut t parent place copy step
+is_to_put t parent place copy step root next table can same_root same_next room put = record {
+  table = table;
+  next = omega arith;
+  can = can;
+  put = subst (λ (i : ℕ). IsCopyStep t.root i parent place copy step) same_next (subst (λ (r : ℕ). IsCopyStep r next parent place copy step) same_root put);
+}
+
+for_copy : (t : Table) (parent : Fetched) (place : ℕ) (copy : Node) (step : Step) → (h : IsToPut t parent place copy step) → IsForCopy t parent.id parent.node.value place h.put.edge h.can.child copy
+for_copy t parent place copy step h =
+    subst (λ (e : Edge). IsForCopy t parent.id parent.node.value place e h.can.child copy) (same_Some h.can.edge h.put.edge (sym h.can.here ∙ h.put.here))
+    (record { table = h.table; kept = h.can.parent_is.kept; own = h.can.parent_is.own; here = h.can.here; child_is = h.can.child_is; copy_own = h.can.own; copy_low = h.can.lower; next = h.next })
+
+path : (t : Table) (parent : Fetched) (place : ℕ) (copy : Node) (step : Step) → (h : IsToPut t parent place copy step) → IsPathStep t parent.id h.put.node [] (copy ∷ [])
+path t parent place copy step h = copy_path t parent.id parent.node.value place h.put.edge h.can.child copy h.put.node (for_copy t parent place copy step h) h.put.into
+
+path_of : (nodes : Nodes) (t : Table) (parent : Fetched) (place : ℕ) (copy : Node) (step : Step) → (h : IsToPut t parent place copy step) → IsSound nodes t → IsOwn nodes t parent → IsCopyAt nodes parent.node.value place copy → IsPathStepOf nodes t parent.id h.put.node [] (copy ∷ [])
+path_of nodes t parent place copy step h sound own copied =
+    copy_path_of nodes t parent.id parent.node.value place h.put.edge h.can.child copy h.put.node (for_copy t parent place copy step h) h.put.into sound own.private own.there (copied h.put.edge h.put.here)
+
+pub may_put : (t : Table) (parent : Fetched) (place : ℕ) (copy : Node) (step : Step) → IsToPut t parent place copy step → IsStep t step
+may_put t parent place copy step h = subst (λ (q : Step). IsStep t q) (sym h.put.is) (path_may t parent.id h.put.node [] (copy ∷ []) (path t parent place copy step h))
+
+pub put_in_place : (nodes : Nodes) (t : Table) (parent : Fetched) (place : ℕ) (copy : Node) (step : Step) → IsToPut t parent place copy step → IsSound nodes t → IsOwn nodes t parent → IsCopyAt nodes parent.node.value place copy → IsInPlace nodes t step
+put_in_place nodes t parent place copy step h sound own copied =
+    subst (λ (q : Step). IsInPlace nodes t q) (sym h.put.is) (path_in_place nodes t parent.id h.put.node [] (copy ∷ []) (path_of nodes t parent place copy step h sound own copied))
+
+done : (nodes : Nodes) (t : Table) (parent : Fetched) (place : ℕ) (copy : Node) (step : Step) (new : Nodes) (u : Table) → (h : IsToPut t parent place copy step) → IsSound nodes t → IsOwn nodes t parent → IsCopyAt nodes parent.node.value place copy → IsTableAfter t step u → IsCommitted nodes t step new u
+    → IsPathDone nodes t parent.id h.put.node [] (copy ∷ []) new u
+done nodes t parent place copy step new u h sound own copied after committed = record {
+  of = path_of nodes t parent place copy step h sound own copied;
+  after = subst (λ (q : Step). IsTableAfter t q u) h.put.is after;
+  committed = subst (λ (q : Step). IsCommitted nodes t q new u) h.put.is committed;
+}
+
+pub on_put_flushed : {T E : Type 0} (nodes : Nodes) (t : Table) (parent : Fetched) (place : ℕ) (copy : Node) (step : Step) (new : Nodes) (u : Table) (r : Result T E) → IsToPut t parent place copy step → IsSound nodes t → IsOwn nodes t parent → IsCopyAt nodes parent.node.value place copy
+    → OnOk r (IsTableAfter t step u) → OnOk r (IsCommitted nodes t step new u) → OnOk r (IsFlushed nodes t new u)
+on_put_flushed nodes t parent place copy step new u (Ok x) h s own copied after committed = path_flushed nodes t parent.id h.put.node [] (copy ∷ []) new u (done nodes t parent place copy step new u h s own copied after committed) (omega arith)
+on_put_flushed nodes t parent place copy step new u (Err e) h s own copied after committed = tt
+
+pub on_put : {T E : Type 0} (nodes : Nodes) (t : Table) (parent : Fetched) (place : ℕ) (copy : Node) (step : Step) (new : Nodes) (u : Table) (r : Result T E) → IsToPut t parent place copy step → IsSound nodes t → IsOwn nodes t parent → IsCopyAt nodes parent.node.value place copy
+    → OnOk r (IsTableAfter t step u) → OnOk r (IsCommitted nodes t step new u) → OnOk r (IsCopyPut t parent place copy new u)
+on_put nodes t parent place copy step new u (Ok x) h s own copied after committed =
+    let all = done nodes t parent place copy step new u h s own copied after committed in
+    record {
+      edge = h.put.edge;
+      here = h.put.here;
+      node = h.put.node;
+      into = h.put.into;
+      parent_is = parent_then nodes t parent.id h.put.node copy new u all;
+      copy_is = copy_then nodes t parent.id h.put.node copy new u all;
+      next = all.after.next;
+    }
+on_put nodes t parent place copy step new u (Err e) h s own copied after committed = tt
+
+pub on_put_table : {T E : Type 0} (t : Table) (parent : Fetched) (place : ℕ) (copy : Node) (step : Step) (u : Table) (r : Result T E) → IsToPut t parent place copy step → OnOk r (IsTableAfter t step u) → OnOk r (IsNoHigher t u)
+on_put_table t parent place copy step u (Ok x) h after =
+    no_higher t parent.id h.put.node copy u (path t parent place copy step h) (level_then t parent.id parent.node.value place h.put.edge h.can.child copy h.put.node (for_copy t parent place copy step h) h.put.into) (subst (λ (q : Step). IsTableAfter t q u) h.put.is after)
+    (λ root. let list : List Edge = way_to h.put.edge h.put.edge.lift t.next ∷ [] in
+    let is : buffer_size parent.node.value ≡ t.size = h.can.parent_is.root root in
+    omega (arith, compacted_size (exchanged parent.node.value place list) h.put.node h.put.into, size_exchanged parent.node.value place list))
+on_put_table t parent place copy step u (Err e) h after = tt
+
+pub put_worn : {T : Type 0} (before now : ℕ) (bad : ℕ → Type 0) (t : Table) (parent : Fetched) (place : ℕ) (copy : Node) (step : Step) (r : Result T MapFault) → IsToPut t parent place copy step → HasMapCause before now bad (IsWornBy t step) r → HasMapCause before now bad (IsWornFor t) r
+put_worn before now bad t parent place copy step r h cause =
+    cause_weaker before now bad (IsWornBy t step) (IsWornFor t)
+    (λ counter worn. path_worn t parent.id h.put.node [] (copy ∷ []) (path t parent place copy step h) (omega arith) (omega arith) counter (subst (λ (q : Step). IsWornBy t q counter) h.put.is worn)) r cause
+
+pub on_put_visits : {T E : Type 0} (t : Table) (parent : Fetched) (place : ℕ) (copy : Node) (step : Step) (before now : ℕ) (r : Result T E) → IsToPut t parent place copy step → OnOk r (now ≡ visited before (length step.made)) → OnOk r (now ≡ visited before 1)
+on_put_visits t parent place copy step before now (Ok x) h is = is ∙ ap (λ (q : Step). visited before (length q.made)) h.put.is
+on_put_visits t parent place copy step before now (Err e) h is = tt
+
+-- ---- the parts
+
+pub redirected_fits : (n : Node) (place child : ℕ) (es list : List Edge) (e f : Edge) → IsShape n → es ≡ edges_of n → place < length (edges_of n) → e ≡ get_or es place e → 1 ≤ child → child < 2 ^ 64 → list ≡ f ∷ [] → f ≡ way_to e e.lift child → (d : Edge) → IsEdgeAt n place d → FitsAt n place d list
+redirected_fits n place child es list e f h same low read some small list_is f_is d there =
+    let here : IsEdgeAt n place e = edge_here es n place e same low read in
+    subst (λ (x : Edge). FitsAt n place x list) (same_Some e d (sym here ∙ there))
+    (subst (λ (l : List Edge). FitsAt n place e l) (sym (list_is ∙ ap (λ (x : Edge). x ∷ []) f_is)) (way_fits_so n place e child h here some small))
+
+pub on_redirected : {E : Type 0} (n : Node) (place child : ℕ) (es list : List Edge) (e f : Edge) (r : Result Node E) → es ≡ edges_of n → place < length (edges_of n) → e ≡ get_or es place e → list ≡ f ∷ [] → f ≡ way_to e e.lift child
+    → IfOk r (λ m. IsCompacted (exchanged n place list) m) → IfOk r (λ m. (d : Edge) → IsEdgeAt n place d → IsRedirected n place d child m)
+on_redirected n place child es list e f (Ok m) same low read list_is f_is h = λ d there.
+    let here : IsEdgeAt n place e = edge_here es n place e same low read in
+    subst (λ (x : Edge). IsRedirected n place x child m) (same_Some e d (sym here ∙ there))
+    (subst (λ (l : List Edge). IsCompacted (exchanged n place l) m) (list_is ∙ ap (λ (x : Edge). x ∷ []) f_is) h)
+on_redirected n place child es list e f (Err x) same low read list_is f_is h = tt
+
+pub on_copy_step : {E : Type 0} (root next : ℕ) (parent : Fetched) (place : ℕ) (copy shown above : Node) (r : Result Step E) → shown ≡ parent.node.value → place < length (edges_of parent.node.value) → ((e : Edge) → IsEdgeAt shown place e → IsRedirected shown place e next above)
+    → IfOk r (λ step. step ≡ path_step root parent.id above [] (copy ∷ [])) → IfOk r (λ step. IsCopyStep root next parent place copy step)
+on_copy_step root next parent place copy shown above (Ok step) same low into is =
+    let found = some_edge parent.node.value place low in
+    record {
+      edge = found.0;
+      here = found.1;
+      node = above;
+      into = subst (λ (n : Node). IsRedirected n place found.0 next above) same (into found.0 (subst (λ (n : Node). IsEdgeAt n place found.0) (sym same) found.1));
+      is = is;
+    }
+on_copy_step root next parent place copy shown above (Err x) same low into is = tt
+
+-- ---- nodes freed of a prefix
+
+short_message : (m : Message) → IsLongMessage m → length (source_of m) ≤ key_limit → IsMessage m
+short_message (Put key value) h short = h
+short_message (Del key) h short = h
+short_message (Patch key off bytes) h short = h
+short_message (Cut prefix from) h short = h
+short_message (Goto prefix source child) h short = (h.0, short, h.2, h.3)
+
+short_messages : (ms : List Message) → AllByRecursion IsLongMessage ms → AllByRecursion (λ (m : Message). length (source_of m) ≤ key_limit) ms → AllByRecursion IsMessage ms
+short_messages [] h short = tt
+short_messages (m ∷ ms) h short = (short_message m h.0 short.0, short_messages ms h.1 short.1)
+
+short_edges : (n : ℕ) (es : List Edge) → EachEdge (IsLongEdge n) es → AllByRecursion (λ (e : Edge). length e.source ≤ key_limit) es → EachEdge (IsEdge n) es
+short_edges n [] h short = tt
+short_edges n (e ∷ es) h short = (
+  record {
+    pivot = h.0.pivot;
+    rising = h.0.rising;
+    lift = h.0.lift;
+    common = h.0.common;
+    source = short.0;
+    child = h.0.child;
+    seen = h.0.seen;
+  },
+  short_edges n es h.1 short.1,
+)
+
+short_loose : (level : ℕ) (edges : List Edge) (buffer : List Message) → IsLong level edges buffer → AllByRecursion (λ (e : Edge). length e.source ≤ key_limit) edges → AllByRecursion (λ (m : Message). length (source_of m) ≤ key_limit) buffer → IsLoose level edges buffer
+short_loose level edges buffer h short_e short_m = record {
+  low = h.low;
+  high = h.high;
+  few = h.few;
+  first = h.first;
+  each = short_edges (length buffer) edges h.each short_e;
+  messages = short_messages buffer h.messages short_m;
+  size = h.size;
+}
+
+-- bytes after bytes are bytes
+IsKey-append : (s k : List ℕ) → IsKey s → IsKey k → IsKey (s ++ k)
+IsKey-append [] k hs hk = hk
+IsKey-append (b ∷ s) k hs hk = IsKey-cons b (s ++ k) (hs 0) (IsKey-append s k (IsKey-rest b s hs) hk)
+
+pub freed_leaf : (old new : List Entry) (s : List ℕ) → IsLeaf old → LeafClipped old s new → IsFreed (Leaf old) s (Leaf new)
+freed_leaf old new s own h = record {
+  shape = record { each = h.entries.each; rising = h.entries.rising; size = (let less : entries_size new ≤ entries_size old = h.size in let few : entries_size old ≤ leaf_limit = own.size in omega arith) };
+  level_is = refl;
+  meaning = λ below k. h.has k;
+  names = λ c. omega arith;
+}
+
+loose_clipped : (n m : Node) (s : List ℕ) → IsClipped n s m → AreShort m → IsLooseNode m
+loose_clipped n (Leaf entries) s h short = absurd (let low : 1 ≤ 0 = h.shape.low in omega arith)
+loose_clipped n (Inner level es buffer) s h short = short_loose level es buffer h.shape short.edges short.messages
+
+pub short_loose_node : (m : Node) → IsLong (level_of m) (edges_of m) (buffer_of m) → AreShort m → IsLooseNode m
+short_loose_node (Leaf entries) h short = absurd (let low : 1 ≤ 0 = h.low in omega arith)
+short_loose_node (Inner level es buffer) h short = short_loose level es buffer h short.edges short.messages
+
+pub freed_node : (n m d : Node) (s : List ℕ) → IsClipped n s m → AreShort m → IsCompacted m d → IsFreed n s d
+freed_node n m d s h short c =
+    let loose : IsLooseNode m = loose_clipped n m s h short in
+    record {
+      shape = compacted_shape m d loose c;
+      level_is = compacted_level m d c ∙ h.level_is;
+      meaning = λ below k. compacted_meaning below m d loose c k ∙ h.meaning below k;
+      names = λ x. (let a : times d x ≤ times m x = compacted_times m d c x in let b : times m x ≤ times n x = h.names x in omega arith);
+    }
+
+pub on_freed : {E : Type 0} (n shown m : Node) (s : List ℕ) (r : Result (Option Node) E) → shown ≡ m → IsClipped n s m → IfOk r (λ found. MatchOption found (¬ AreShort shown) (λ d. AreShort shown × IsCompacted shown d))
+    → IfOk r (λ found. MatchOption found (HasLongSource n s) (IsFreed n s))
+on_freed n shown m s (Ok None) same h g = (m, h, subst (λ (d : Node). ¬ AreShort d) same g)
+on_freed n shown m s (Ok (Some d)) same h g = freed_node n m d s h (subst (λ (x : Node). AreShort x) same g.0) (subst (λ (x : Node). IsCompacted x d) same g.1)
+on_freed n shown m s (Err x) same h g = tt
+
+-- the copy of a fetched child
+freed_has : (nodes : Nodes) (t : Table) (c : ℕ) (n copy : Node) (s k : List ℕ) → IsSound nodes t → nodes c ≡ Some n → IsFreed n s copy → IsKey s → IsKey k → node_at (at nodes) copy k ≡ at nodes c (s ++ k)
+freed_has nodes t c n copy s k sound there h key_s key =
+    h.meaning (at nodes) k
+    ∙ sym (node_has-key (at nodes) n (s ++ k) (IsKey-append s k key_s key))
+    ∙ sym ((at-meets nodes (sound-levelled nodes t sound)).each c n there (s ++ k))
+
+pub copied_at : (nodes : Nodes) (t : Table) (parent : Node) (place : ℕ) (e : Edge) (c : ℕ) (n copy : Node) → IsSound nodes t → IsEdgeAt parent place e → e.child ≡ Some c → nodes c ≡ Some n → IsFreed n e.source copy → IsKey e.source → IsCopyAt nodes parent place copy
+copied_at nodes t parent place e c n copy sound here child there h key_s d here_d x child_x k key =
+    let same : e ≡ d = same_Some e d (sym here ∙ here_d) in
+    let same_c : c ≡ x = same_Some c x (sym child ∙ ap (λ (y : Edge). y.child) same ∙ child_x) in
+    subst (λ (y : Edge). node_at (at nodes) copy k ≡ at nodes x (y.source ++ k)) same
+    (subst (λ (i : ℕ). node_at (at nodes) copy k ≡ at nodes i (e.source ++ k)) same_c (freed_has nodes t c n copy e.source k sound there h key_s key))
+
+edges_named : (n : Node) (c : ℕ) → count_names c (flat_map edge_names (edges_of n)) ≤ times n c
+edges_named (Leaf entries) c = omega arith
+edges_named (Inner level es buffer) c = omega (arith, count_names-append c (flat_map edge_names es) (flat_map message_names buffer))
+
+edge_named : (n : Node) (place c : ℕ) (e : Edge) → IsShape n → IsEdgeAt n place e → e.child ≡ Some c → 1 ≤ times n c
+edge_named n place c e h here child_is =
+    let one : count_names c (flat_map edge_names (e ∷ [])) ≡ 1 = ap (λ (o : Option ℕ). count_names c (option_to_list o ++ [])) child_is ∙ count_own c in
+    let most : count_names c (flat_map edge_names (e ∷ [])) ≤ count_names c (flat_map edge_names (edges_of (exchanged n place (e ∷ [])))) = exchanged_named n place (e ∷ []) c (inner_of n place e h here) in
+    let same : count_names c (flat_map edge_names (edges_of (exchanged n place (e ∷ [])))) ≡ count_names c (flat_map edge_names (edges_of n)) = ap (λ (m : Node). count_names c (flat_map edge_names (edges_of m))) (exchanged_same n place e here) in
+    let less : count_names c (flat_map edge_names (edges_of n)) ≤ times n c = edges_named n c in
+    omega arith
+
+pub can_put : (t : Table) (parent : Fetched) (place : ℕ) (e : Edge) (child : Fetched) (copy : Node) → IsFetched t parent → IsEdgeAt parent.node.value place e → e.child ≡ Some child.id → IsFetched t child → IsFreed child.node.value e.source copy → CanPutCopy t parent place copy
+can_put t parent place e child copy own here child_is below h =
+    let level : level_of copy ≡ level_of child.node.value = h.level_is in
+    let at : level_of child.node.value ≡ t.level child.id = below.own.level_is in
+    let named : 1 ≤ times parent.node.value child.id = edge_named parent.node.value place child.id e own.own.shape here child_is in
+    let lower : IsLower t (t.level parent.id) child.id = named_has (IsLower t (t.level parent.id)) child.id (names parent.node.value) own.own.lower named in
+    let above : level_of parent.node.value ≡ t.level parent.id = own.own.level_is in
+    let down : t.level child.id < t.level parent.id = lower.lower in
+    record {
+      parent_is = own;
+      edge = e;
+      here = here;
+      child = child.id;
+      child_is = child_is;
+      own = record {
+        shape = h.shape;
+        level_is = refl;
+        lower = each_named (IsLower t (level_of copy)) (names copy) (λ x one.
+            let less : times copy x ≤ times child.node.value x = h.names x in
+            subst (λ (l : ℕ). IsLower t l x) (sym (level ∙ at)) (named_has (IsLower t (t.level child.id)) x (names child.node.value) below.own.lower (omega arith)));
+      };
+      lower = omega arith;
+    }
+
+-- ---- the child that is copied
+
+pub here_of : (t : Table) (parent : Fetched) (place : ℕ) (shown : Node) (es : List Edge) (e : Edge) → HasChild t parent place → shown ≡ parent.node.value → es ≡ edges_of shown → e ≡ get_or es place e → IsEdgeAt parent.node.value place e
+here_of t parent place shown es e can same es_is read =
+    edge_here es parent.node.value place e (es_is ∙ ap edges_of same) (slice_get_within (edges_of parent.node.value) place can.edge can.here) read
+
+pub kept_child : (t : Table) (parent : Fetched) (place id : ℕ) (e : Edge) → IsFetched t parent → IsEdgeAt parent.node.value place e → e.child ≡ Some id → IsKept t id
+kept_child t parent place id e own here child =
+    (named_has (IsLower t (t.level parent.id)) id (names parent.node.value) own.own.lower (edge_named parent.node.value place id e own.own.shape here child)).kept
+
+pub source_short : (t : Table) (parent : Fetched) (place : ℕ) (e : Edge) (s : List ℕ) → IsFetched t parent → IsEdgeAt parent.node.value place e → s ≡ e.source → length s ≤ key_limit
+source_short t parent place e s own here is = subst (λ (l : List ℕ). length l ≤ key_limit) (sym is) (own_shape parent.node.value place e own.own.shape here).source
+
+pub freed_is : (shown old : Node) (s : List ℕ) (e : Edge) (found : Option Node) (copy : Node) → shown ≡ old → s ≡ e.source → found ≡ Some copy → MatchOption found (HasLongSource shown s) (IsFreed shown s) → IsFreed old e.source copy
+freed_is shown old s e found copy same s_is some h =
+    subst (λ (n : Node). IsFreed n e.source copy) same
+    (subst (λ (l : List ℕ). IsFreed shown l copy) s_is (subst (λ (o : Option Node). MatchOption o (HasLongSource shown s) (IsFreed shown s)) some h))
+
+pub too_long : (nodes : Nodes) (parent : Fetched) (place id : ℕ) (e : Edge) (shown old : Node) (s : List ℕ) (found : Option Node) → IsEdgeAt parent.node.value place e → e.child ≡ Some id → nodes id ≡ Some old → shown ≡ old → s ≡ e.source → found ≡ None
+    → MatchOption found (HasLongSource shown s) (IsFreed shown s) → IsTooLong nodes parent place
+too_long nodes parent place id e shown old s found here child there same s_is none h = record {
+  edge = e;
+  here = here;
+  child = id;
+  child_is = child;
+  old = old;
+  there = there;
+  long = subst (λ (n : Node). HasLongSource n e.source) same
+      (subst (λ (l : List ℕ). HasLongSource shown l) s_is (subst (λ (o : Option Node). MatchOption o (HasLongSource shown s) (IsFreed shown s)) none h));
+}
+
+pub is_privatised : (nodes mid : Nodes) (t v : Table) (parent : Fetched) (place id : ℕ) (e : Edge) (old copy : Node) (new : Nodes) (u : Table) → mid ≡ nodes → v ≡ t → IsSound nodes t → IsEdgeAt parent.node.value place e → e.child ≡ Some id → nodes id ≡ Some old → IsFreed old e.source copy
+    → (IsSound mid v → IsCopyPut v parent place copy new u) → IsPrivatised nodes t parent place new u
+is_privatised nodes mid t v parent place id e old copy new u mid_is v_is sound here child there freed put = record {
+  edge = e;
+  here = here;
+  child = id;
+  child_is = child;
+  old = old;
+  there = there;
+  copy = copy;
+  freed = freed;
+  put = subst (λ (x : Table). IsCopyPut x parent place copy new u) v_is
+      (put (subst (λ (f : Nodes). IsSound f v) (sym mid_is) (subst (λ (x : Table). IsSound nodes x) (sym v_is) sound)));
+}
+
+pub put_again : (t v : Table) (parent : Fetched) (place : ℕ) (e : Edge) (child : Fetched) (copy : Node) → v ≡ t → IsFetched t parent → IsEdgeAt parent.node.value place e → e.child ≡ Some child.id → IsFetched t child → IsFreed child.node.value e.source copy → CanPutCopy v parent place copy
+put_again t v parent place e child copy same own here child_is below h = subst (λ (x : Table). CanPutCopy x parent place copy) (sym same) (can_put t parent place e child copy own here child_is below h)

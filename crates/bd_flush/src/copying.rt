@@ -1,0 +1,128 @@
+//! An edge gets a child of its own.
+
+ghost use Rattle.std.specs.Prelude.{◌≡◌, ◌∷◌, [], ◌^◌, ◌<◌, ◌≤◌, length, IfOk, OnOk, OnErr};
+ghost use Rattle.bd_message.specs.KeyMaps.{HasMapCause};
+ghost use Rattle.bd_node.specs.declared.node.Edge.{Edge};
+ghost use Rattle.bd_node.specs.Shape.{IsShape};
+ghost use Rattle.bd_node.specs.Stores.{visited};
+ghost use Rattle.bd_node.specs.Tables.{IsSound};
+ghost use Rattle.bd_inner.specs.Halves.{edges_of};
+ghost use Rattle.bd_inner.specs.Exchange.{IsEdgeAt, way_to};
+ghost use Rattle.bd_flush.specs.Flushed.{IsFlushed, IsWornFor};
+ghost use Rattle.bd_flush.specs.Children.{IsNoHigher};
+ghost use Rattle.bd_flush.specs.Paths.{path_step};
+ghost use Rattle.bd_flush.specs.Pushes.{IsOwn};
+ghost use Rattle.bd_flush.specs.Copies.{CanPutCopy, IsCopyAt, IsRedirected, IsCopyStep, IsCopyPut};
+
+use crate::Fetched;
+use crate::nodes::edges_of;
+use bd_inner::exchange;
+use bd_keys::Bytes;
+use bd_message::MapFault;
+use bd_node::{Change, Edge, Items, Node, NodeStore, Step};
+use std::alloc::{AllocError, Global};
+
+/// Makes a node the child of a private node's edge that has a child: the node has at each key what
+/// that child has behind the edge's source. The edge then asks it with nothing in front of a key.
+pub fn put_copy<S: NodeStore>(
+    alloc: Global,
+    store: &mut S,
+    parent: &Fetched,
+    place: usize,
+    copy: Node,
+) -> Result<(), MapFault>
+    requires can { CanPutCopy (S.table store.old) parent.now place copy }
+    requires own { S.is_known store.old → IsSound (S.nodes store.old) (S.table store.old)
+        → IsOwn (S.nodes store.old) (S.table store.old) parent.now }
+    requires copied { S.is_known store.old → IsSound (S.nodes store.old) (S.table store.old)
+        → IsCopyAt (S.nodes store.old) parent.now.node.value place copy }
+    ensures flushed { S.is_known store.old → IsSound (S.nodes store.old) (S.table store.old)
+        → OnOk result (IsFlushed (S.nodes store.old) (S.table store.old)
+        (S.nodes store.new) (S.table store.new)) }
+    ensures put { S.is_known store.old → IsSound (S.nodes store.old) (S.table store.old)
+        → OnOk result (IsCopyPut (S.table store.old) parent.now place copy
+        (S.nodes store.new) (S.table store.new)) }
+    ensures table { OnOk result (IsNoHigher (S.table store.old) (S.table store.new)) }
+    ensures known { S.is_known store.old → S.is_known store.new }
+    ensures err_table { OnErr result (S.table store.new ≡ S.table store.old) }
+    ensures err_nodes { S.is_known store.old
+        → OnErr result (S.nodes store.new ≡ S.nodes store.old) }
+    ensures visits { OnOk result
+        (S.visit_count store.new ≡ visited (S.visit_count store.old) 1) }
+    ensures err_visits { OnErr result (S.visit_count store.new ≡ S.visit_count store.old) }
+    ensures cause { HasMapCause (S.fault_count store.old) (S.fault_count store.new)
+        (S.bad store.new) (IsWornFor (S.table store.old)) result }
+    ensures same_loans { S.loans store.new ≡ S.loans store.old }
+{
+    let root = store.root();
+    let next = store.next_id();
+    let step = copy_step(alloc, root, next, parent, place, copy)?;
+    store.commit(step)
+}
+
+// The step that makes a copy for an edge.
+fn copy_step(
+    alloc: Global,
+    root: u64,
+    next: u64,
+    parent: &Fetched,
+    place: usize,
+    copy: Node,
+) -> Result<Step, AllocError>
+    requires shape { IsShape parent.now.node.value }
+    requires within { place < length (edges_of parent.now.node.value) }
+    requires next { 1 ≤ next }
+    ensures { IfOk result (λ step. IsCopyStep root next parent.now place copy step) }
+{
+    let node: &Node = &parent.node;
+    let above = redirected(alloc, node, place, next)?;
+    path_step(alloc, root, parent.id, above, copy)
+}
+
+// A copy of a node whose edge at a place asks another child, with nothing in front of a key.
+fn redirected(alloc: Global, node: &Node, place: usize, child: u64) -> Result<Node, AllocError>
+    requires shape { IsShape node.now }
+    requires within { place < length (edges_of node.now) }
+    requires child { 1 ≤ child }
+    ensures { IfOk result (λ n. (e : Edge) → IsEdgeAt node.now place e
+        → IsRedirected node.now place e child n) }
+{
+    let edge = way_to(alloc, &edges_of(node)[place], child)?;
+    let mut list = Vec::new(alloc);
+    list.push(edge)?;
+    exchange(alloc, node, place, Items::from_vec(list))
+}
+
+// The way of an edge to another child, with nothing in front of what is left of a key.
+fn way_to(alloc: Global, edge: &Edge, child: u64) -> Result<Edge, AllocError>
+    ensures { IfOk result (λ e. e ≡ way_to edge.now edge.now.lift child) }
+{
+    Ok(Edge {
+        pivot: edge.pivot.clone()?,
+        lift: edge.lift,
+        source: Bytes::from_vec(Vec::new(alloc)),
+        child: Some(child),
+        seen: edge.seen,
+    })
+}
+
+// The step that changes a node, and makes one below it.
+fn path_step(
+    alloc: Global,
+    root: u64,
+    parent: u64,
+    node: Node,
+    copy: Node,
+) -> Result<Step, AllocError>
+    ensures { IfOk result (λ step. step ≡ path_step root parent node [] (copy ∷ [])) }
+{
+    let mut made = Vec::new(alloc);
+    made.push(copy)?;
+    let mut changes = Vec::new(alloc);
+    changes.push(Change { id: parent, node })?;
+    Ok(Step {
+        made: Items::from_vec(made),
+        changes: Items::from_vec(changes),
+        root,
+    })
+}
