@@ -207,7 +207,7 @@ named_last f t made level target place F over last h = subst F (ap (λ (x : Targ
 
 -- ---- into a new root over the old one
 
-abbrev the_top : Table → List Message → Node
+abbrev pub the_top : Table → List Message → Node
 the_top t list = overlay (t.level t.root + 1) (Some (record { child = t.root; source = [] })) list
 
 message_times : (level : ℕ) (under : Option Target) (list : List Message) (c : ℕ) → 1 ≤ count_by (λ name. name == c) (flat_map message_names list) → 1 ≤ times (overlay level under list) c

@@ -1,7 +1,8 @@
 -- Why a graft does nothing, and what it adds.
-use Rattle.std.proofs.Common.{◌≡◌, ℕ, zero, suc, ◌+◌, ◌*◌, ◌-◌, ◌<◌, ◌≤◌, ◌^◌, max, List, [], ◌∷◌, ◌++◌, length, refl, sym, ap, subst, ◌∙◌, Option, None, Some, inl, inr, arith, length-append, Bool, Result, Ok, Err, OnOk}
-use Rattle.std.specs.Prelude.{slice_get, ◌==◌}
-use Rattle.std.specs.Option.{option_to_list}
+use Rattle.std.proofs.Common.{◌≡◌, ℕ, zero, suc, ◌+◌, ◌*◌, ◌-◌, ◌<◌, ◌≤◌, ◌^◌, max, List, [], ◌∷◌, ◌++◌, length, refl, sym, ap, subst, ◌∙◌, Option, None, Some, inl, inr, arith, length-append, Bool, true, false, Result, Ok, Err, OnOk, OnErr}
+use Rattle.std.specs.Prelude.{slice_get, ◌==◌, not}
+use Rattle.std.specs.Option.{option_to_list, SomeIff, is_some}
+use Rattle.bd_message.proofs.Finds.{not_both}
 use Rattle.std.specs.List.{AllByRecursion, flat_map, sum_by}
 use Rattle.std.proofs.lemmas.Bool.{cases_eq}
 use Rattle.std.proofs.lemmas.List.Sums.{sum_by-cons, sum_by-append, count_by-le-length}
@@ -25,6 +26,7 @@ use Rattle.bd_message.specs.KeyMaps.{HasMapCause}
 use Rattle.bd_message.specs.declared.fault.MapFault.{MapFault}
 use Rattle.bd_message.specs.declared.fault.MapFault.TheVariants.{DeviceFault, Damaged, Worn, NoMemory}
 use Rattle.bd_node.specs.Tables.{Table, IsTable, IsNodeOf, IsLower, one_if}
+use Rattle.bd_node.specs.Stores.{visited}
 use Rattle.bd_node.specs.Steps.{given_times, IsWornBy, IsPut, IsChange, IsStep}
 use Rattle.bd_node.proofs.Lookup.{each_weaker}
 use Rattle.bd_node.proofs.Sound.{one_if-same, one_if-other}
@@ -37,7 +39,7 @@ use Rattle.bd_graft.specs.Packing.{highest}
 use Rattle.bd_graft.specs.declared.packing.Packed.{Packed}
 use Rattle.bd_graft.specs.Laying.{laid}
 use Rattle.bd_graft.specs.Grafting.{graft_messages, step_under, step_over, IsReady, IsGrown, IsWornForGraft}
-use Rattle.bd_graft.proofs.Grafts.{raised_target, messages_are, id_some, overlaying_step, under_overlaying, over_overlaying}
+use Rattle.bd_graft.proofs.Grafts.{raised_target, messages_are, the_top, id_some, overlaying_step, under_overlaying, over_overlaying}
 
 -- ---- layers
 
@@ -148,3 +150,29 @@ over_ok known nodes t packed s d keep ready table high low hs hd room =
     let messages = messages_are s d keep packed.target hs hd ready.packed_is.over.short (id_some t packed.made.items (packed.level + 1) packed.target table room ready.packed_is.over) in
     overlaying_step t (step_over t packed.made.items list) (over_overlaying t ready.end (laid ready.layers) packed s d keep ready.packed_is
     (record { table = table; next = (omega arith); level = high; low = low; messages = messages.0; fits = (let m : sum_by size list ≤ 1600 = messages.1 in omega arith) }))
+
+-- the visits of few made nodes
+pub few_visited : {T E : Type 0} (before now made most : ℕ) (r : Result T E) → made ≤ most → OnOk r (now ≡ visited before made) → OnErr r (now ≡ before) → now ≤ before + most
+few_visited before now made most (Ok x) few is same = omega arith
+few_visited before now made most (Err e) few is same = omega arith
+
+-- a sum that is there is below the bound, and one that isn't there isn't
+pub sum_past : (o : Option ℕ) (P : Type 0) (v : ℕ) (b : Bool) → SomeIff o P v → is_some o ≡ not b → b ≡ true → ¬ P
+sum_past None P v b h is none = h
+sum_past (Some x) P v b h is none = absurd (not_both (sym is) (ap (λ (c : Bool). not c) none))
+
+pub sum_within : (o : Option ℕ) (P : Type 0) (v : ℕ) (b : Bool) → SomeIff o P v → is_some o ≡ not b → b ≡ false → P
+sum_within None P v b h is some = absurd (not_both (ap (λ (c : Bool). not c) some) (sym is))
+sum_within (Some x) P v b h is some = h.0
+
+-- the root over made nodes is one more
+pub over_few : (t : Table) (made : List Node) (list : List Message) (most : ℕ) → length made + 1 ≤ most → length (step_over t made list).made ≤ most
+over_few t made list most few = omega (arith, few, length-append made (the_top t list ∷ []))
+
+-- what is packed isn't higher than the root
+pub packed_low : (t : Table) (ls used : List Layer) (end : Option Target) (level : ℕ) → IsTable t → used ≡ ls → AreLayers t (t.level t.root + 1) ls end → level ≤ max (highest t used end) 1 → level ≤ t.level t.root
+packed_low t ls used end level table same h low =
+    let inner : 1 ≤ t.level t.root = table.inner in
+    let high : highest t used end ≤ t.level t.root = subst (λ (l : List Layer). highest t l end ≤ t.level t.root) (sym same) (highest_low t (t.level t.root) ls end h) in
+    let most : max (highest t used end) 1 ≤ t.level t.root = max-le high inner in
+    omega arith
