@@ -1,11 +1,11 @@
 -- Why a graft does nothing, and what it adds.
-use Rattle.std.proofs.Common.{◌≡◌, ℕ, zero, suc, ◌+◌, ◌*◌, ◌-◌, ◌<◌, ◌≤◌, ◌^◌, max, List, [], ◌∷◌, ◌++◌, length, refl, sym, ap, subst, ◌∙◌, Option, None, Some, inl, inr, arith, length-append, Bool, true, false, Result, Ok, Err, OnOk, OnErr}
-use Rattle.std.specs.Prelude.{slice_get, ◌==◌, not}
+use Rattle.std.proofs.Common.{◌≡◌, ℕ, zero, suc, ◌+◌, ◌*◌, ◌-◌, ◌<◌, ◌≤◌, ◌^◌, max, List, [], ◌∷◌, ◌++◌, length, sym, ap, subst, ◌∙◌, Option, None, Some, inl, inr, arith, length-append, Bool, true, false, Result, Ok, Err, OnOk, OnErr}
+use Rattle.std.specs.Prelude.{◌==◌, not}
 use Rattle.std.specs.Option.{option_to_list, SomeIff, is_some}
 use Rattle.bd_message.proofs.Finds.{not_both}
 use Rattle.std.specs.List.{AllByRecursion, flat_map, sum_by}
 use Rattle.std.proofs.lemmas.Bool.{cases_eq}
-use Rattle.std.proofs.lemmas.List.Sums.{sum_by-cons, sum_by-append, count_by-le-length}
+use Rattle.std.proofs.lemmas.List.Sums.{sum_by-cons, count_by-le-length}
 use Rattle.std.proofs.Math.Nat.{max-le}
 use Rattle.bd_limits.specs.Limits.{key_limit, buffer_limit, edge_limit, level_limit}
 use Rattle.bd_message.specs.declared.message.Message.{Message}
@@ -17,7 +17,7 @@ use Rattle.bd_node.specs.declared.node.Node.{Node}
 use Rattle.bd_node.specs.declared.node.Node.TheVariants.{Leaf, Inner}
 use Rattle.bd_node.specs.declared.node.Change.{Change}
 use Rattle.bd_node.specs.declared.node.Step.{Step}
-use Rattle.bd_node.specs.Nodes.{level_of, buffer_size, appended, message_names, edge_names, times}
+use Rattle.bd_node.specs.Nodes.{buffer_size, appended, message_names, edge_names, times}
 use Rattle.bd_node.specs.Shape.{IsShape}
 use Rattle.bd_node.specs.Meaning.{Nodes}
 use Rattle.bd_node.proofs.Appending.{shape_appended}
@@ -25,16 +25,15 @@ use Rattle.bd_message.specs.Messages.{size}
 use Rattle.bd_message.specs.KeyMaps.{HasMapCause}
 use Rattle.bd_message.specs.declared.fault.MapFault.{MapFault}
 use Rattle.bd_message.specs.declared.fault.MapFault.TheVariants.{DeviceFault, Damaged, Worn, NoMemory}
-use Rattle.bd_node.specs.Tables.{Table, IsTable, IsNodeOf, IsLower, one_if}
+use Rattle.bd_node.specs.Tables.{Table, IsTable, IsNodeOf, one_if}
 use Rattle.bd_node.specs.Stores.{visited}
 use Rattle.bd_node.specs.Steps.{given_times, IsWornBy, IsPut, IsChange, IsStep}
 use Rattle.bd_node.proofs.Lookup.{each_weaker}
 use Rattle.bd_node.proofs.Sound.{one_if-same, one_if-other}
 use Rattle.bd_inner.proofs.Splitting.{few_wait}
 use Rattle.bd_resolve.specs.declared.following.Target.{Target}
-use Rattle.bd_resolve.specs.Following.{IsLowerTarget, target_level}
 use Rattle.bd_graft.specs.declared.layers.Layer.{Layer}
-use Rattle.bd_graft.specs.Laying.{IsLayer, AreLayers}
+use Rattle.bd_graft.specs.Laying.{AreLayers}
 use Rattle.bd_graft.specs.Packing.{highest}
 use Rattle.bd_graft.specs.declared.packing.Packed.{Packed}
 use Rattle.bd_graft.specs.Laying.{laid}

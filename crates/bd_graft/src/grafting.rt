@@ -16,9 +16,9 @@ ghost use Rattle.bd_graft.specs.Grafting.{graft_messages, root_change, top_made,
 
 use crate::packing::{Packed, overlay, pack};
 use crate::walking::{Walked, walk};
-use bd_limits::MAX_LEVEL;
 use bd_inner::receive;
 use bd_keys::Bytes;
+use bd_limits::MAX_LEVEL;
 use bd_message::{Counter, MapFault, Message};
 use bd_node::{Change, Items, Messages, Node, NodeStore, Step};
 use bd_resolve::Target;
