@@ -1,9 +1,8 @@
 -- What the step of a graft leaves.
-use Rattle.std.proofs.Common.{◌≡◌, ℕ, zero, suc, ◌+◌, ◌-◌, ◌<◌, ◌≤◌, ◌^◌, Bool, true, false, not, cond, ◌&&◌, List, [], ◌∷◌, ◌++◌, length, drop, refl, sym, ap, subst, ◌∙◌, Option, None, Some, inl, inr, ◌⊎◌, arith, length-append, Result, Ok, Err, OnOk}
+use Rattle.std.proofs.Common.{◌≡◌, ℕ, zero, suc, ◌+◌, ◌-◌, ◌<◌, ◌≤◌, ◌^◌, Bool, true, false, not, cond, ◌&&◌, List, [], ◌∷◌, ◌++◌, length, drop, refl, sym, ap, subst, ◌∙◌, Option, None, Some, inl, inr, arith, length-append, Result, Ok, Err, OnOk}
 use Rattle.std.specs.Prelude.{slice_get, count_by, ◌==◌}
 use Rattle.std.proofs.Math.Nat.{le-max_left}
 use Rattle.std.specs.List.{AllByRecursion, flat_map, sum_by}
-use Rattle.std.specs.Ordering.{is_lt}
 use Rattle.std.proofs.lemmas.Option.{same_Some, none-some, slice_get_within}
 use Rattle.std.proofs.lemmas.Bool.{cases_lt, cases_eq}
 use Rattle.std.proofs.lemmas.List.Sums.{sum_by-cons, sum_by-append}
@@ -22,10 +21,10 @@ use Rattle.bd_node.specs.Nodes.{level_of, names, times, message_names, edge_name
 use Rattle.bd_node.specs.Meaning.{Nodes, at, IsLevelled}
 use Rattle.bd_node.specs.Shape.{IsShape}
 use Rattle.bd_node.specs.Tables.{Table, IsKept, IsTable, IsLower, IsNodeOf, IsStored, IsSound, one_if, root_at}
-use Rattle.bd_node.specs.Steps.{given, after, level_or, level_after, given_times, IsThere, IsNamable, IsPut, IsChange, AreOnce, IsStep, StayAbove, IsInPlace, IsTableAfter, IsCommitted, IsWornBy}
+use Rattle.bd_node.specs.Steps.{given, after, level_or, level_after, given_times, IsThere, IsNamable, IsPut, IsChange, AreOnce, IsStep, IsInPlace, IsTableAfter, IsCommitted, IsWornBy}
 use Rattle.bd_node.specs.Stores.{visited}
 use Rattle.bd_message.specs.declared.fault.MapFault.{MapFault}
-use Rattle.bd_node.proofs.Lookup.{Agree, acts-same, node_at-same, each_weaker, each_first, each_second, each_both, each_named, named_has, count-cons_same, count-cons_le}
+use Rattle.bd_node.proofs.Lookup.{Agree, acts-same, node_at-same, each_weaker, each_first, each_second, each_both, count-cons_same, count-cons_le}
 use Rattle.bd_node.proofs.Meanings.{at-meets, at_untouched}
 use Rattle.bd_node.proofs.LawLemmas.{keys_meet}
 use Rattle.bd_node.proofs.Sound.{sound-levelled, one_if-same}
@@ -42,10 +41,10 @@ use Rattle.bd_resolve.specs.declared.following.Target.{Target}
 use Rattle.bd_resolve.specs.Following.{target_at, IsLowerTarget}
 use Rattle.bd_graft.specs.declared.layers.Layer.{Layer}
 use Rattle.bd_graft.specs.declared.packing.Packed.{Packed}
-use Rattle.bd_graft.specs.Laying.{above, laid, IsLayer, AreLayers}
-use Rattle.bd_graft.specs.Packing.{overlay, target_names, HasMade, IsMadeBefore, IsUnder, AreOverlays, IsOver, IsPacked}
+use Rattle.bd_graft.specs.Laying.{above, laid, AreLayers}
+use Rattle.bd_graft.specs.Packing.{overlay, target_names, HasMade, IsUnder, AreOverlays, IsOver, IsPacked}
 use Rattle.bd_graft.proofs.Freeing.{names_both}
-use Rattle.bd_graft.proofs.Packs.{get_first, get_last, lower_more, under_more, no_more, one_more, id_range, overlay_has, overlay_shape}
+use Rattle.bd_graft.proofs.Packs.{get_first, get_last, lower_more, no_more, one_more, id_range, overlay_has, overlay_shape}
 use Rattle.bd_graft.specs.Grafting.{graft_messages, root_change, top_made, step_under, step_over, IsReady}
 
 -- ---- what the messages of a graft do
@@ -155,7 +154,7 @@ old_agree nodes t step level s none =
 
 -- ---- the way's messages and its end
 
-raised_target : (t : Table) (low high : ℕ) (end : Option Target) → low ≤ high → IsLowerTarget t low end → IsLowerTarget t high end
+pub raised_target : (t : Table) (low high : ℕ) (end : Option Target) → low ≤ high → IsLowerTarget t low end → IsLowerTarget t high end
 raised_target t low high None le h = tt
 raised_target t low high (Some target) le h = record { kept = h.kept; lower = (let l : t.level target.child < low = h.lower in omega arith) }
 
@@ -207,7 +206,7 @@ named_last f t made level target place F over last h = subst F (ap (λ (x : Targ
 
 -- ---- into a new root over the old one
 
-abbrev the_top : Table → List Message → Node
+abbrev pub the_top : Table → List Message → Node
 the_top t list = overlay (t.level t.root + 1) (Some (record { child = t.root; source = [] })) list
 
 message_times : (level : ℕ) (under : Option Target) (list : List Message) (c : ℕ) → 1 ≤ count_by (λ name. name == c) (flat_map message_names list) → 1 ≤ times (overlay level under list) c

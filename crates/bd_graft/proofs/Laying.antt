@@ -31,7 +31,7 @@ use Rattle.bd_graft.specs.declared.layers.Layer.{Layer}
 use Rattle.bd_graft.specs.Laying.{all_freed, above, laid, IsLayer, AreLayers}
 use Rattle.bd_graft.proofs.Freeing.{all_freed_effect, all_freed_names, all_freed_small, uncovered_from, IsSmall}
 
-level_high : (n : Node) → IsShape n → level_of n ≤ level_limit
+pub level_high : (n : Node) → IsShape n → level_of n ≤ level_limit
 level_high (Leaf entries) shape = omega arith
 level_high (Inner level es buffer) shape = shape.high
 

@@ -2,3 +2,4 @@ pub mod Freeing
 pub mod Laying
 pub mod Packs
 pub mod Grafts
+pub mod Wearing

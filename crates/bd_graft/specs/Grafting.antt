@@ -1,5 +1,5 @@
 -- The step of a graft.
-use Rattle.std.specs.Prelude.{◌≡◌, ℕ, ◌+◌, ◌^◌, ◌<◌, ◌≤◌, Bool, if◌then◌else◌, List, [], ◌∷◌, ◌++◌, length, Option, Some}
+use Rattle.std.specs.Prelude.{◌≡◌, ℕ, ◌+◌, ◌^◌, ◌≤◌, Bool, if◌then◌else◌, List, [], ◌∷◌, ◌++◌, length, Option, Some}
 use Rattle.bd_limits.specs.Limits.{level_limit}
 use Rattle.bd_message.specs.declared.fault.Counter.{Counter}
 use Rattle.bd_message.specs.declared.fault.Counter.TheVariants.{Count, NextId, Level, Refs, Epoch, Flushes}
@@ -62,3 +62,9 @@ IsWornForGraft t Refs = (id : ℕ) × (2 ^ 63 ≤ t.count id)
 IsWornForGraft t Count = ⊥
 IsWornForGraft t Epoch = ⊥
 IsWornForGraft t Flushes = ⊥
+
+-- at most as many nodes are made as the tree was high, and one; the root is at most one level higher
+pub record IsGrown (t u : Table) : Type 0 where
+  pub few : u.next ≤ t.next + (t.level t.root + 2)
+  pub low : t.level t.root ≤ u.level u.root
+  pub high : u.level u.root ≤ t.level t.root + 1

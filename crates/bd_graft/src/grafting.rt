@@ -1,24 +1,139 @@
 //! The graft of what stands under one prefix to another.
 
-ghost use Rattle.std.specs.Prelude.{◌≡◌, ◌+◌, ◌<◌, ◌≤◌, ◌^◌, length, Some, IfOk, OnOk, OnErr};
+ghost use Rattle.std.specs.Prelude.{ℕ, List, IfOk, ◌++◌, ◌-◌, ◌*◌, ◌≡◌, ◌+◌, ◌<◌, ◌≤◌, ◌^◌, length, Some, IfOk, OnOk, OnErr};
 ghost use Rattle.bd_limits.specs.Limits.{key_limit, buffer_limit, level_limit};
-ghost use Rattle.bd_message.specs.KeyMaps.{HasMapCause, IsGrafted};
+ghost use Rattle.bd_message.specs.KeyMaps.{HasMapCause, CanGraft, IsGrafted};
 ghost use Rattle.bd_node.specs.Nodes.{buffer_size};
 ghost use Rattle.bd_node.specs.Tables.{IsNodeOf, IsSound, root_at};
 ghost use Rattle.bd_node.specs.Steps.{IsWornBy};
 ghost use Rattle.bd_node.specs.Stores.{visited};
-ghost use Rattle.bd_graft.specs.Grafting.{graft_messages, root_change, top_made, step_under, step_over, IsReady};
+ghost use Rattle.bd_keys.specs.Keys.{IsKey};
+ghost use Rattle.bd_message.specs.Effect.{acts};
+ghost use Rattle.bd_node.specs.Meaning.{at};
+ghost use Rattle.bd_resolve.specs.Following.{target_at, IsShort};
+ghost use Rattle.bd_graft.specs.Laying.{laid, AreLayers};
+ghost use Rattle.bd_graft.specs.Grafting.{graft_messages, root_change, top_made, step_under, step_over, IsReady, IsGrown, IsWornForGraft};
 
-use crate::packing::{Packed, overlay};
+use crate::packing::{Packed, overlay, pack};
+use crate::walking::{Walked, walk};
 use bd_inner::receive;
 use bd_keys::Bytes;
-use bd_message::{MapFault, Message};
+use bd_limits::MAX_LEVEL;
+use bd_message::{Counter, MapFault, Message};
 use bd_node::{Change, Items, Messages, Node, NodeStore, Step};
 use bd_resolve::Target;
 use std::alloc::{AllocError, Global};
 
+/// How a graft went.
+#[derive(Clone, Copy, Debug, PartialEq, Eq)]
+pub struct Walk {
+    /// How many nodes were fetched or made.
+    pub visits: u64,
+    /// How many nodes stood one below the other from the root down, before it.
+    pub height: u32,
+}
+
+/// Gives each key `d x` what stands at `s x`, and then, without `keep`, nothing at each `s x`. The way
+/// of `s` is followed from the root down; the newer messages met on it go into overlay nodes over its
+/// end, and one `Goto` to them goes into the root, without `keep` with a `Cut` of `s`. Where what it
+/// names isn't lower than the root, they go into a new root, one level above the old one. A call
+/// that fails leaves all as it was.
+pub fn graft<S: NodeStore>(
+    alloc: Global,
+    store: &mut S,
+    s: &[u8],
+    d: &[u8],
+    keep: bool,
+) -> Result<Walk, MapFault>
+    requires { CanGraft s.now d.now keep (buffer_limit - (S.table store.old).size) }
+    ensures grafted { S.is_known store.old → IsSound (S.nodes store.old) (S.table store.old)
+        → OnOk result (IsGrafted (root_at (S.nodes store.old) (S.table store.old)) s.now d.now keep
+        (root_at (S.nodes store.new) (S.table store.new))) }
+    ensures sound { S.is_known store.old → IsSound (S.nodes store.old) (S.table store.old)
+        → OnOk result (IsSound (S.nodes store.new) (S.table store.new)) }
+    ensures table { OnOk result (IsGrown (S.table store.old) (S.table store.new)) }
+    ensures visits { IfOk result (λ walk. walk.visits
+        ≡ S.visit_count store.new - S.visit_count store.old) }
+    ensures few_visits { S.visit_count store.new ≤ S.visit_count store.old
+        + (5 * ((S.table store.old).level (S.table store.old).root + 1) + 2) }
+    ensures height { IfOk result (λ walk. walk.height
+        ≡ (S.table store.old).level (S.table store.old).root + 1) }
+    ensures known { S.is_known store.old → S.is_known store.new }
+    ensures err_table { OnErr result (S.table store.new ≡ S.table store.old) }
+    ensures err_nodes { S.is_known store.old
+        → OnErr result (S.nodes store.new ≡ S.nodes store.old) }
+    ensures cause { HasMapCause (S.fault_count store.old) (S.fault_count store.new)
+        (S.bad store.new) (IsWornForGraft (S.table store.old)) result }
+    ensures same_loans { S.loans store.new ≡ S.loans store.old }
+{
+    let before = store.visits();
+    let root = store.root();
+    let way = walk(alloc, store, s)?;
+    let node = store.fetch(root)?;
+    finish(alloc, store, &node, way, s, d, keep)?;
+    Ok(Walk {
+        visits: store.visits().saturating_sub(before),
+        height: node.level() + 1,
+    })
+}
+
+// What a way leads to is packed and put under the other prefix.
+fn finish<S: NodeStore>(
+    alloc: Global,
+    store: &mut S,
+    node: &Node,
+    way: Walked,
+    s: &[u8],
+    d: &[u8],
+    keep: bool,
+) -> Result<(), MapFault>
+    requires own { IsNodeOf (S.table store.old)
+        ((S.table store.old).level (S.table store.old).root) node.now }
+    requires there { S.is_known store.old
+        → S.nodes store.old (S.table store.old).root ≡ Some node.now }
+    requires source { length s.now ≤ key_limit }
+    requires target { length d.now ≤ key_limit }
+    requires fits { buffer_size node.now + 1600 ≤ buffer_limit }
+    requires layers { AreLayers (S.table store.old)
+        ((S.table store.old).level (S.table store.old).root + 1) way.layers.items way.end }
+    requires short { IsShort way.end }
+    requires value { S.is_known store.old → IsSound (S.nodes store.old) (S.table store.old)
+        → (k : List ℕ) → IsKey k → acts (at (S.nodes store.old)) (laid way.layers.items) k
+        (target_at (at (S.nodes store.old)) way.end k)
+        ≡ root_at (S.nodes store.old) (S.table store.old) (s.now ++ k) }
+    ensures grafted { S.is_known store.old → IsSound (S.nodes store.old) (S.table store.old)
+        → OnOk result (IsGrafted (root_at (S.nodes store.old) (S.table store.old)) s.now d.now keep
+        (root_at (S.nodes store.new) (S.table store.new))) }
+    ensures sound { S.is_known store.old → IsSound (S.nodes store.old) (S.table store.old)
+        → OnOk result (IsSound (S.nodes store.new) (S.table store.new)) }
+    ensures table { OnOk result (IsGrown (S.table store.old) (S.table store.new)) }
+    ensures known { S.is_known store.old → S.is_known store.new }
+    ensures err_table { OnErr result (S.table store.new ≡ S.table store.old) }
+    ensures err_nodes { S.is_known store.old
+        → OnErr result (S.nodes store.new ≡ S.nodes store.old) }
+    ensures few_visits { S.visit_count store.new ≤ S.visit_count store.old
+        + ((S.table store.old).level (S.table store.old).root + 2) }
+    ensures cause { HasMapCause (S.fault_count store.old) (S.fault_count store.new)
+        (S.bad store.new) (IsWornForGraft (S.table store.old)) result }
+    ensures same_loans { S.loans store.new ≡ S.loans store.old }
+{
+    let Walked { layers, end } = way;
+    let room = layers.len() as u64 + 3;
+    if store.next_id().checked_add(room).is_none() {
+        return Err(MapFault::Worn(Counter::NextId));
+    }
+    let packed = pack(alloc, &*store, layers.as_slice(), end)?;
+    if packed.level < node.level() {
+        return put_under(alloc, store, node, packed, s, d, keep);
+    }
+    if node.level() >= MAX_LEVEL {
+        return Err(MapFault::Worn(Counter::Level));
+    }
+    put_over(alloc, store, packed, s, d, keep)
+}
+
 // What is packed goes into the root, which is higher: one prefix is sent to it.
-pub fn put_under<S: NodeStore>(
+fn put_under<S: NodeStore>(
     alloc: Global,
     store: &mut S,
     node: &Node,
@@ -67,7 +182,7 @@ pub fn put_under<S: NodeStore>(
 }
 
 // What is packed goes into a new root over the old one: one prefix is sent to it.
-pub fn put_over<S: NodeStore>(
+fn put_over<S: NodeStore>(
     alloc: Global,
     store: &mut S,
     packed: Packed,

@@ -7,7 +7,7 @@ mod layers;
 mod packing;
 mod walking;
 
-pub use grafting::{put_over, put_under};
+pub use grafting::{Walk, graft};
 pub use layers::Layer;
 pub use packing::{Packed, Stack, pack};
 pub use walking::{Walked, walk};

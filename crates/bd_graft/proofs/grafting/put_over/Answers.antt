@@ -1,7 +1,7 @@
 use Rattle.std.proofs.Common.{ap, ◌∙◌, ◌+◌, ℕ, List, Some}
 use Rattle.bd_graft.specs.Packing.{overlay}
 use Rattle.bd_graft.specs.Grafting.{graft_messages, step_over}
-use Rattle.bd_graft.proofs.Grafts.{over_ready, over_step, over_place, over_done, over_next, over_level, over_visits, worn_step, IsOverStep}
+use Rattle.bd_graft.proofs.Grafts.{over_ready, over_step, over_place, over_done, over_next, over_level, over_visits, worn_step}
 use Rattle.bd_graft.proofs.grafting.put_over.Goals as goal
 
 pub commit-requires-clause-step : goal.commit-requires-clause-step

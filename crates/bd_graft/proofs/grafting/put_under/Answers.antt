@@ -3,7 +3,7 @@ use Rattle.std.specs.List.{AllByRecursion}
 use Rattle.bd_message.specs.declared.message.Message.{Message}
 use Rattle.bd_message.specs.Messages.{IsMessage}
 use Rattle.bd_graft.specs.Grafting.{graft_messages, step_under}
-use Rattle.bd_graft.proofs.Grafts.{id_some, messages_are, under_ready, under_step, under_place, under_done, under_next, under_level, worn_step, IsUnderStep}
+use Rattle.bd_graft.proofs.Grafts.{id_some, messages_are, under_ready, under_step, under_place, under_done, under_next, under_level, worn_step}
 use Rattle.bd_graft.proofs.grafting.put_under.Goals as goal
 
 pub receive-requires-clause-each : goal.receive-requires-clause-each

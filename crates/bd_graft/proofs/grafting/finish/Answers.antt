@@ -1,0 +1,87 @@
+use Rattle.std.proofs.Common.{arith, subst, sym, List, length, ◌+◌, ◌≤◌, ◌<◌, ◌^◌}
+use Rattle.bd_limits.specs.Limits.{level_limit}
+use Rattle.bd_node.specs.Tables.{Table}
+use Rattle.bd_graft.specs.declared.layers.Layer.{Layer}
+use Rattle.bd_graft.specs.Laying.{AreLayers, laid}
+use Rattle.bd_graft.specs.Packing.{IsPacked}
+use Rattle.bd_graft.specs.Grafting.{graft_messages, step_under, step_over, IsReady}
+use Rattle.bd_graft.proofs.Laying.{level_high}
+use Rattle.bd_graft.proofs.Wearing.{layers_raise, layers_few, grown_under, grown_over, few_visited, sum_past, sum_within, over_few, cause_of, under_ok, over_ok, packed_low}
+use Rattle.bd_graft.proofs.grafting.finish.Goals as goal
+
+pub pack-requires-clause-layers : goal.pack-requires-clause-layers
+pack-requires-clause-layers g c =
+    let t : Table = g.S.NodeStore.table c.args.store.now in
+    subst (λ (ls : List Layer). AreLayers t (level_limit + 1) ls c.args.way.end) (sym c.as_slice.ensures.value)
+    (layers_raise t (t.level t.root + 1) (level_limit + 1) c.args.way.layers.items c.args.way.end (omega (arith, level_high c.args.node.now c.requires.own.shape, c.requires.own.level_is)) c.requires.layers)
+
+pub returns-then-packed-level-clause-table : goal.returns-then-packed-level-clause-table
+returns-then-packed-level-clause-table g c =
+    let t : Table = g.S.NodeStore.table c.args.store.now in
+    grown_under t (g.S.NodeStore.table c.put_under.new.store) (length c.in_ok-packed.packed.made.items) c.put_under.result
+    (omega (arith, c.in_ok-packed.ensures.few, c.as_slice.ensures.len, layers_few t (t.level t.root) c.args.way.layers.items c.args.way.end c.requires.layers)) c.put_under.ensures.next c.put_under.ensures.level
+
+pub returns-clause-table : goal.returns-clause-table
+returns-clause-table g c =
+    let t : Table = g.S.NodeStore.table c.args.store.now in
+    grown_over t (g.S.NodeStore.table c.put_over.new.store) (length c.in_ok-packed.packed.made.items) c.put_over.result
+    (omega (arith, c.in_ok-packed.ensures.few, c.as_slice.ensures.len, layers_few t (t.level t.root) c.args.way.layers.items c.args.way.end c.requires.layers)) c.put_over.ensures.next c.put_over.ensures.level
+
+pub returns-then-packed-level-clause-few_visits : goal.returns-then-packed-level-clause-few_visits
+returns-then-packed-level-clause-few_visits g c =
+    let t : Table = g.S.NodeStore.table c.args.store.now in
+    few_visited (g.S.NodeStore.visit_count c.args.store.now) (g.S.NodeStore.visit_count c.put_under.new.store) (length c.in_ok-packed.packed.made.items) (t.level t.root + 2) c.put_under.result
+    (omega (arith, c.in_ok-packed.ensures.few, c.as_slice.ensures.len, layers_few t (t.level t.root) c.args.way.layers.items c.args.way.end c.requires.layers)) c.put_under.ensures.visits c.put_under.ensures.err_visits
+
+pub returns-clause-few_visits : goal.returns-clause-few_visits
+returns-clause-few_visits g c =
+    let t : Table = g.S.NodeStore.table c.args.store.now in
+    few_visited (g.S.NodeStore.visit_count c.args.store.now) (g.S.NodeStore.visit_count c.put_over.new.store) (length c.in_ok-packed.packed.made.items + 1) (t.level t.root + 2) c.put_over.result
+    (omega (arith, c.in_ok-packed.ensures.few, c.as_slice.ensures.len, layers_few t (t.level t.root) c.args.way.layers.items c.args.way.end c.requires.layers)) c.put_over.ensures.visits c.put_over.ensures.err_visits
+
+pub returns-then-is_none-clause-cause : goal.returns-then-is_none-clause-cause
+returns-then-is_none-clause-cause g c =
+    let t : Table = g.S.NodeStore.table c.args.store.now in
+    record {
+      later = omega arith;
+      failed = omega (arith, sum_past _ _ _ _ c.checked_add.ensures c.is_none.ensures c.if-is_none.true, c.next_id.ensures.value, c.len.ensures, layers_few t (t.level t.root) c.args.way.layers.items c.args.way.end c.requires.layers);
+    }
+
+pub returns-then-packed-level-clause-cause : goal.returns-then-packed-level-clause-cause
+returns-then-packed-level-clause-cause g c =
+    let t : Table = g.S.NodeStore.table c.args.store.now in
+    let made : length c.in_ok-packed.packed.made.items ≤ t.level t.root + 1 = omega (arith, c.in_ok-packed.ensures.few, c.as_slice.ensures.len, layers_few t (t.level t.root) c.args.way.layers.items c.args.way.end c.requires.layers) in
+    let high : t.level t.root ≤ level_limit = omega (arith, level_high c.args.node.now c.requires.own.shape, c.requires.own.level_is) in
+    let room : t.next + length c.in_ok-packed.packed.made.items < 2 ^ 64 = omega (arith, sum_within _ _ _ _ c.checked_add.ensures c.is_none.ensures c.if-is_none.false, c.next_id.ensures.value, c.len.ensures, c.in_ok-packed.ensures.few, c.as_slice.ensures.len) in
+    let ready : IsReady (g.S.NodeStore.is_known c.args.store.now) (g.S.NodeStore.nodes c.args.store.now) t c.args.s.now c.in_ok-packed.packed = record {
+      layers = c.args.way.layers.items;
+      end = c.args.way.end;
+      packed_is = subst (λ (ls : List Layer). IsPacked t c.args.way.end (laid ls) c.in_ok-packed.packed) c.as_slice.ensures.value c.in_ok-packed.ensures.packed;
+      layers_are = c.requires.layers;
+      value = c.requires.value;
+    } in
+    cause_of (g.S.NodeStore.fault_count c.args.store.now) (g.S.NodeStore.fault_count c.put_under.new.store) (g.S.NodeStore.bad c.put_under.new.store) t
+    (step_under t c.args.node.now c.in_ok-packed.packed.made.items (graft_messages c.args.s.now c.args.d.now c.args.keep c.in_ok-packed.packed.target)) c.put_under.result
+    (under_ok (g.S.NodeStore.is_known c.args.store.now) (g.S.NodeStore.nodes c.args.store.now) t c.args.node.now c.in_ok-packed.packed c.args.s.now c.args.d.now c.args.keep ready c.next_id.ensures.table c.requires.own
+    (omega (arith, c.if-packed-level.true, c.level.ensures, c.requires.own.level_is)) c.requires.source c.requires.target c.requires.fits room)
+    (omega (arith, made)) high (omega arith) c.put_under.ensures.cause
+
+pub returns-clause-cause : goal.returns-clause-cause
+returns-clause-cause g c =
+    let t : Table = g.S.NodeStore.table c.args.store.now in
+    let made : length c.in_ok-packed.packed.made.items ≤ t.level t.root + 1 = omega (arith, c.in_ok-packed.ensures.few, c.as_slice.ensures.len, layers_few t (t.level t.root) c.args.way.layers.items c.args.way.end c.requires.layers) in
+    let high : t.level t.root < level_limit = omega (arith, c.if-level-ge-MAX_LEVEL.false, c.level-2.ensures, c.requires.own.level_is) in
+    let room : t.next + length c.in_ok-packed.packed.made.items < 2 ^ 64 = omega (arith, sum_within _ _ _ _ c.checked_add.ensures c.is_none.ensures c.if-is_none.false, c.next_id.ensures.value, c.len.ensures, c.in_ok-packed.ensures.few, c.as_slice.ensures.len) in
+    let ready : IsReady (g.S.NodeStore.is_known c.args.store.now) (g.S.NodeStore.nodes c.args.store.now) t c.args.s.now c.in_ok-packed.packed = record {
+      layers = c.args.way.layers.items;
+      end = c.args.way.end;
+      packed_is = subst (λ (ls : List Layer). IsPacked t c.args.way.end (laid ls) c.in_ok-packed.packed) c.as_slice.ensures.value c.in_ok-packed.ensures.packed;
+      layers_are = c.requires.layers;
+      value = c.requires.value;
+    } in
+    cause_of (g.S.NodeStore.fault_count c.args.store.now) (g.S.NodeStore.fault_count c.put_over.new.store) (g.S.NodeStore.bad c.put_over.new.store) t
+    (step_over t c.in_ok-packed.packed.made.items (graft_messages c.args.s.now c.args.d.now c.args.keep c.in_ok-packed.packed.target)) c.put_over.result
+    (over_ok (g.S.NodeStore.is_known c.args.store.now) (g.S.NodeStore.nodes c.args.store.now) t c.in_ok-packed.packed c.args.s.now c.args.d.now c.args.keep ready c.next_id.ensures.table high
+    (packed_low t c.args.way.layers.items c.as_slice.result.now c.args.way.end c.in_ok-packed.packed.level c.next_id.ensures.table c.as_slice.ensures.value c.requires.layers c.in_ok-packed.ensures.low)
+    c.requires.source c.requires.target room)
+    (over_few t c.in_ok-packed.packed.made.items (graft_messages c.args.s.now c.args.d.now c.args.keep c.in_ok-packed.packed.target) (t.level t.root + 2) (omega (arith, made))) (omega (arith, high)) (omega arith) c.put_over.ensures.cause
