@@ -3,12 +3,11 @@ ghost use Rattle.bd_message.specs.Messages.{IsMessage};
 ghost use Rattle.bd_node.specs.Nodes.{level_of};
 ghost use Rattle.bd_node.specs.Shape.{IsShape};
 
-use crate::inner::{node, parts, put, seen};
-use bd_inner::laws::edges_fit;
-use bd_inner::{carve, exchange, receive};
+use crate::inner::{node, parts, put, raised};
+use bd_inner::{carve, receive};
 use bd_limits::MAX_BUFFER;
 use bd_message::Message;
-use bd_node::{Edge, Items, Node};
+use bd_node::{Edge, Node};
 use rows_tools::message;
 use std::alloc::Global;
 use std::test::Fail;
@@ -38,20 +37,6 @@ fn with_goto(alloc: Global, pivots: &str, prefix: &str) -> Result<Node, Fail>
         return Err(Fail::new("too many messages"));
     }
     Ok(receive(alloc, &node, &list)?)
-}
-
-// The node whose edge at a place has seen its first message.
-fn seen_at(alloc: Global, node: &Node, place: usize) -> Result<Node, Fail>
-    requires { IsShape node.now }
-    ensures { IfOk result IsShape }
-{
-    edges_fit();
-    let (edges, messages) = parts(node);
-    if place >= edges.len() || messages.is_empty() {
-        return Err(Fail::new("no edge or no message"));
-    }
-    let list = vec![in alloc; seen(&edges[place], 1)?]?;
-    Ok(exchange(alloc, node, place, Items::from_vec(list))?)
 }
 
 // The node after its first message is carved out.
@@ -113,17 +98,11 @@ fn a_goto_over_several_edges(rt: HostRuntime) -> Result<(), Fail> {
 }
 
 #[test]
-fn a_goto_that_an_edge_between_has_seen(rt: HostRuntime) -> Result<(), Fail> {
-    let node = with_goto(rt.alloc(), " c cb cd d", "c")?;
-    let node = seen_at(rt.alloc(), &node, 2)?;
+fn a_goto_that_the_first_edge_has_seen(rt: HostRuntime) -> Result<(), Fail> {
+    let node = with_goto(rt.alloc(), " c cb", "")?;
+    let node = raised(rt.alloc(), &node)?;
     let node = carved(rt.alloc(), &node)?;
-    let rows = [
-        ("", 0, "", None, 0),
-        ("c", 1, "s", Some(7), 0),
-        ("cb", 0, "", None, 0),
-        ("cd", 1, "s", Some(7), 0),
-        ("d", 0, "", None, 0),
-    ];
+    let rows = [("", 0, "", None, 0), ("c", 0, "s", Some(7), 0)];
     assert!(rt; has(rt.alloc(), &node, &rows)?);
     Ok(())
 }

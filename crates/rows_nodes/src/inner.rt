@@ -216,7 +216,7 @@ fn a_batch_for_a_child(rt: HostRuntime) -> Result<(), Fail> {
 }
 
 // The node whose first edge has seen its first message.
-fn raised(alloc: Global, node: &Node) -> Result<Node, Fail>
+pub fn raised(alloc: Global, node: &Node) -> Result<Node, Fail>
     requires { IsShape node.now }
     ensures { IfOk result IsShape }
 {
@@ -230,7 +230,7 @@ fn raised(alloc: Global, node: &Node) -> Result<Node, Fail>
 }
 
 // The edge after so many messages.
-pub fn seen(edge: &Edge, seen: u32) -> Result<Edge, AllocError>
+fn seen(edge: &Edge, seen: u32) -> Result<Edge, AllocError>
     ensures { IfOk result (λ copy. copy ≡ record edge.now { seen = seen }) }
 {
     let mut copy = edge.clone()?;
