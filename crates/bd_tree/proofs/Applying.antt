@@ -7,6 +7,7 @@ use Rattle.bd_node.specs.Meaning.{Nodes, at}
 use Rattle.bd_node.specs.Tables.{Table, IsKept, IsStored, IsSound, root_at}
 use Rattle.bd_node.specs.Steps.{IsCommitted, append_step, grown}
 use Rattle.bd_node.specs.Stores.{FitsRoot}
+use Rattle.bd_tree.specs.Trees.{TreeState}
 use Rattle.bd_node.proofs.Appending.{append-meaning}
 use Rattle.bd_node.proofs.Stepping.{isolated_root}
 
@@ -42,6 +43,6 @@ pub stays_sound : {T E : Type 0} (nodes : Nodes) (t : Table) (list : List Messag
 stays_sound nodes t list new u r h = then nodes t list new u r (IsSound new u) h (λ root there c is. c.sound)
 
 -- what fits fits the same store, and so do equal messages
-pub fits_again : {S : Type 0} (table : S → Table) {a b : S} {l m : List Message} → m ≡ l → a ≡ b → FitsRoot (table b) l → FitsRoot (table a) m
-fits_again {S} table {a} {b} {l} {m} same_list same_store h =
-    subst (λ (s : S). FitsRoot (table s) m) (sym same_store) (subst (λ (k : List Message). FitsRoot (table b) k) (sym same_list) h)
+pub fits_again : {S : Type 0} (table : S → Table) {a b : TreeState S} {l m : List Message} → m ≡ l → a ≡ b → FitsRoot (table b.store) l → FitsRoot (table a.store) m
+fits_again {S} table {a} {b} {l} {m} same_list same_tree h =
+    subst (λ (s : TreeState S). FitsRoot (table s.store) m) (sym same_tree) (subst (λ (k : List Message). FitsRoot (table b.store) k) (sym same_list) h)

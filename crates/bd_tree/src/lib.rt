@@ -2,6 +2,7 @@
 //! The layers above use `Tree`.
 #![tactic(auto)]
 
+mod map;
 mod tree;
 
 pub use tree::Tree;

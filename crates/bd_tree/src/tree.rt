@@ -1,18 +1,22 @@
 //! The tree.
 
-ghost use Rattle.std.specs.Prelude.{◌≡◌, ◌≢◌, ◌↔◌, ℕ, ◌+◌, ◌-◌, ◌≤◌, List, IfOk, OnOk, OnErr, Ok};
+ghost use Rattle.std.specs.Prelude.{◌≡◌, ◌≢◌, ◌↔◌, ℕ, ◌+◌, ◌-◌, ◌*◌, ◌≤◌, List, IfOk, OnOk};
+ghost use Rattle.std.specs.Prelude.{OnErr, Ok};
 ghost use Rattle.std.specs.Option.{option_map};
 ghost use Rattle.bd_limits.specs.Limits.{buffer_limit};
 ghost use Rattle.bd_message.specs.KeyMaps.{HasMapCause, NeverWorn, IsApplied, IsNext};
+ghost use Rattle.bd_message.specs.KeyMaps.{CanGraft, IsGrafted};
 ghost use Rattle.bd_node.specs.Meaning.{at};
 ghost use Rattle.bd_node.specs.Tables.{IsKept, IsSound, root_at};
 ghost use Rattle.bd_node.specs.Steps.{grown};
 ghost use Rattle.bd_node.specs.Stores.{FitsRoot};
 ghost use Rattle.bd_query.specs.Asks.{AreVisitsOfWays};
 ghost use Rattle.bd_query.specs.Visits.{AreVisits};
+ghost use Rattle.bd_graft.specs.Grafting.{IsGrown, IsWornForGraft};
 ghost use Rattle.bd_flush.specs.Flushed.{IsWornFor};
 ghost use Rattle.bd_step.specs.Steps.{IsFlushStep, IsFound, IsFoundAt};
 
+use bd_graft::{Walk, graft};
 use bd_limits::MAX_BUFFER;
 use bd_message::{MapFault, Message};
 use bd_node::{Messages, NodeStore};
@@ -26,47 +30,60 @@ use std::marker::Model;
 pub struct Tree<S: NodeStore> {
     alloc: Global,
     store: S,
+    walk: Walk,
 }
 
 impl<S: NodeStore> Model for Tree<S> {
-    ghost Value = { S };
+    ghost use Rattle.bd_tree.specs.Trees.{TreeState};
 
-    ghost view = { λ tree. tree.store };
+    ghost Value = { TreeState S };
+
+    ghost view = { λ tree. record { store = tree.store; walk = tree.walk } };
 }
 
 impl<S: NodeStore> Tree<S> {
-    /// The tree of a store's root.
+    /// The tree of a store's root. Nothing was grafted in it.
     pub fn over(alloc: Global, store: S) -> Tree<S>
-        ensures { result ≡ store }
+        ensures store { result.store ≡ store }
+        ensures walk { result.walk ≡ record { visits = 0; height = 0 } }
     {
-        Tree { alloc, store }
+        Tree {
+            alloc,
+            store,
+            walk: Walk {
+                visits: 0,
+                height: 0,
+            },
+        }
     }
 
     /// The store.
     pub fn into_store(self) -> S
-        ensures { result ≡ self }
+        ensures { result ≡ self.store }
     {
-        let Tree { alloc: _, store } = self;
+        let Tree { store, .. } = self;
         store
     }
 
     /// What stands at a key, of any length. At most as many nodes are visited as the tree is high.
     pub fn get(&mut self, key: &[u8]) -> Result<Option<Vec<u8>>, MapFault>
-        ensures value { S.is_known self.old → IsSound (S.nodes self.old) (S.table self.old)
+        ensures value { S.is_known self.old.store
+            → IsSound (S.nodes self.old.store) (S.table self.old.store)
             → IfOk result (λ found. option_map (λ value. value.items) found
-            ≡ root_at (S.nodes self.old) (S.table self.old) key.now) }
-        ensures table { S.table self.new ≡ S.table self.old }
-        ensures known { S.is_known self.old → S.is_known self.new }
-        ensures kept { S.is_known self.old → S.nodes self.new ≡ S.nodes self.old }
-        ensures read { S.reads self.old self.new }
-        ensures cause { HasMapCause (S.fault_count self.old) (S.fault_count self.new)
-            (S.bad self.new) NeverWorn result }
+            ≡ root_at (S.nodes self.old.store) (S.table self.old.store) key.now) }
+        ensures table { S.table self.new.store ≡ S.table self.old.store }
+        ensures known { S.is_known self.old.store → S.is_known self.new.store }
+        ensures kept { S.is_known self.old.store → S.nodes self.new.store ≡ S.nodes self.old.store }
+        ensures read { S.reads self.old.store self.new.store }
+        ensures cause { HasMapCause (S.fault_count self.old.store) (S.fault_count self.new.store)
+            (S.bad self.new.store) NeverWorn result }
         ensures visits { OnOk result (AreVisits 1
-            ((S.table self.old).level (S.table self.old).root + 1) (S.visit_count self.old)
-            (S.visit_count self.new)) }
-        ensures few_visits { S.visit_count self.new ≤ S.visit_count self.old
-            + ((S.table self.old).level (S.table self.old).root + 1) }
-        ensures same_loans { S.loans self.new ≡ S.loans self.old }
+            ((S.table self.old.store).level (S.table self.old.store).root + 1)
+            (S.visit_count self.old.store) (S.visit_count self.new.store)) }
+        ensures few_visits { S.visit_count self.new.store ≤ S.visit_count self.old.store
+            + ((S.table self.old.store).level (S.table self.old.store).root + 1) }
+        ensures same_loans { S.loans self.new.store ≡ S.loans self.old.store }
+        ensures walk { self.new.walk ≡ self.old.walk }
     {
         let root = self.store.root();
         get(self.alloc, &mut self.store, root, key)
@@ -76,19 +93,24 @@ impl<S: NodeStore> Tree<S> {
     /// The nodes that are visited are those that are asked on ways down along rising keys. A way
     /// goes no further where a cut decides.
     pub fn next(&mut self, from: &[u8], within: &[u8]) -> Result<Option<Vec<u8>>, MapFault>
-        ensures next { S.is_known self.old → IsSound (S.nodes self.old) (S.table self.old)
-            → IfOk result (λ found. IsNext (root_at (S.nodes self.old) (S.table self.old))
-            from.now within.now (option_map (λ key. key.items) found)) }
-        ensures table { S.table self.new ≡ S.table self.old }
-        ensures known { S.is_known self.old → S.is_known self.new }
-        ensures kept { S.is_known self.old → S.nodes self.new ≡ S.nodes self.old }
-        ensures read { S.reads self.old self.new }
-        ensures cause { HasMapCause (S.fault_count self.old) (S.fault_count self.new)
-            (S.bad self.new) NeverWorn result }
-        ensures ways { S.is_known self.old → IsSound (S.nodes self.old) (S.table self.old)
-            → OnOk result (AreVisitsOfWays (S.nodes self.old) (S.table self.old).root from.now
-            (S.visit_count self.old) (S.visit_count self.new)) }
-        ensures same_loans { S.loans self.new ≡ S.loans self.old }
+        ensures next { S.is_known self.old.store
+            → IsSound (S.nodes self.old.store) (S.table self.old.store)
+            → IfOk result (λ found. IsNext
+            (root_at (S.nodes self.old.store) (S.table self.old.store)) from.now within.now
+            (option_map (λ key. key.items) found)) }
+        ensures table { S.table self.new.store ≡ S.table self.old.store }
+        ensures known { S.is_known self.old.store → S.is_known self.new.store }
+        ensures kept { S.is_known self.old.store → S.nodes self.new.store ≡ S.nodes self.old.store }
+        ensures read { S.reads self.old.store self.new.store }
+        ensures cause { HasMapCause (S.fault_count self.old.store) (S.fault_count self.new.store)
+            (S.bad self.new.store) NeverWorn result }
+        ensures ways { S.is_known self.old.store
+            → IsSound (S.nodes self.old.store) (S.table self.old.store)
+            → OnOk result (AreVisitsOfWays (S.nodes self.old.store)
+            (S.table self.old.store).root from.now (S.visit_count self.old.store)
+            (S.visit_count self.new.store)) }
+        ensures same_loans { S.loans self.new.store ≡ S.loans self.old.store }
+        ensures walk { self.new.walk ≡ self.old.walk }
     {
         let root = self.store.root();
         next(self.alloc, &mut self.store, root, from, within)
@@ -96,14 +118,14 @@ impl<S: NodeStore> Tree<S> {
 
     /// For how many bytes of messages there is room.
     pub fn room(&self) -> usize
-        ensures { result ≡ buffer_limit - (S.table self.now).size }
+        ensures { result ≡ buffer_limit - (S.table self.now.store).size }
     {
         MAX_BUFFER.saturating_sub(self.store.root_size())
     }
 
     /// How many nodes stand one below the other from the root down: its level and 1.
     pub fn height(&self) -> u64
-        ensures { result ≡ (S.table self.now).level (S.table self.now).root + 1 }
+        ensures { result ≡ (S.table self.now.store).level (S.table self.now.store).root + 1 }
     {
         let root = self.store.root();
         self.store.level(root) as u64 + 1
@@ -112,56 +134,114 @@ impl<S: NodeStore> Tree<S> {
     /// Changes what stands at the keys by messages, the first one first: they are put after those
     /// that wait in the root. No other node has anything else, none is dropped, and none is visited.
     pub fn apply(&mut self, list: &[Message]) -> Result<(), MapFault>
-        requires { FitsRoot (S.table self.old) list.now }
-        ensures applied { S.is_known self.old → IsSound (S.nodes self.old) (S.table self.old)
-            → OnOk result (IsApplied (root_at (S.nodes self.old) (S.table self.old)) list.now
-            (root_at (S.nodes self.new) (S.table self.new))) }
-        ensures others { S.is_known self.old → IsSound (S.nodes self.old) (S.table self.old)
-            → OnOk result ((id : ℕ) → IsKept (S.table self.old) id
-            → ¬ (id ≡ (S.table self.old).root) → (k : List ℕ)
-            → at (S.nodes self.new) id k ≡ at (S.nodes self.old) id k) }
-        ensures sound { S.is_known self.old → IsSound (S.nodes self.old) (S.table self.old)
-            → OnOk result (IsSound (S.nodes self.new) (S.table self.new)) }
-        ensures table { OnOk result (S.table self.new ≡ grown (S.table self.old) list.now) }
-        ensures known { S.is_known self.old → S.is_known self.new }
-        ensures err_table { OnErr result (S.table self.new ≡ S.table self.old) }
-        ensures err_nodes { S.is_known self.old
-            → OnErr result (S.nodes self.new ≡ S.nodes self.old) }
-        ensures cause { HasMapCause (S.fault_count self.old) (S.fault_count self.new)
-            (S.bad self.new) NeverWorn result }
-        ensures visits { S.visit_count self.new ≡ S.visit_count self.old }
-        ensures same_loans { S.loans self.new ≡ S.loans self.old }
+        requires { FitsRoot (S.table self.old.store) list.now }
+        ensures applied { S.is_known self.old.store
+            → IsSound (S.nodes self.old.store) (S.table self.old.store)
+            → OnOk result (IsApplied
+            (root_at (S.nodes self.old.store) (S.table self.old.store)) list.now
+            (root_at (S.nodes self.new.store) (S.table self.new.store))) }
+        ensures others { S.is_known self.old.store
+            → IsSound (S.nodes self.old.store) (S.table self.old.store)
+            → OnOk result ((id : ℕ) → IsKept (S.table self.old.store) id
+            → ¬ (id ≡ (S.table self.old.store).root) → (k : List ℕ)
+            → at (S.nodes self.new.store) id k ≡ at (S.nodes self.old.store) id k) }
+        ensures sound { S.is_known self.old.store
+            → IsSound (S.nodes self.old.store) (S.table self.old.store)
+            → OnOk result (IsSound (S.nodes self.new.store) (S.table self.new.store)) }
+        ensures table { OnOk result
+            (S.table self.new.store ≡ grown (S.table self.old.store) list.now) }
+        ensures known { S.is_known self.old.store → S.is_known self.new.store }
+        ensures err_table { OnErr result (S.table self.new.store ≡ S.table self.old.store) }
+        ensures err_nodes { S.is_known self.old.store
+            → OnErr result (S.nodes self.new.store ≡ S.nodes self.old.store) }
+        ensures cause { HasMapCause (S.fault_count self.old.store) (S.fault_count self.new.store)
+            (S.bad self.new.store) NeverWorn result }
+        ensures visits { S.visit_count self.new.store ≡ S.visit_count self.old.store }
+        ensures same_loans { S.loans self.new.store ≡ S.loans self.old.store }
+        ensures walk { self.new.walk ≡ self.old.walk }
     {
         let list = Messages::from_vec(Vec::from_clones(self.alloc, list)?);
         self.store.append(list)
+    }
+
+    /// Gives each key `d x` what stands at `s x`, and then, without `keep`, nothing at each `s x`.
+    /// Where the tree is of height `h`, at most `5h + 2` nodes are visited and at most `h + 1` get
+    /// new ids, and it is at most one node higher after it. A fault leaves all as it was.
+    pub fn graft(&mut self, s: &[u8], d: &[u8], keep: bool) -> Result<(), MapFault>
+        requires { CanGraft s.now d.now keep (buffer_limit - (S.table self.old.store).size) }
+        ensures grafted { S.is_known self.old.store
+            → IsSound (S.nodes self.old.store) (S.table self.old.store)
+            → OnOk result (IsGrafted (root_at (S.nodes self.old.store) (S.table self.old.store))
+            s.now d.now keep (root_at (S.nodes self.new.store) (S.table self.new.store))) }
+        ensures sound { S.is_known self.old.store
+            → IsSound (S.nodes self.old.store) (S.table self.old.store)
+            → OnOk result (IsSound (S.nodes self.new.store) (S.table self.new.store)) }
+        ensures table { OnOk result (IsGrown (S.table self.old.store) (S.table self.new.store)) }
+        ensures visits { OnOk result (self.new.walk.visits
+            ≡ S.visit_count self.new.store - S.visit_count self.old.store) }
+        ensures height { OnOk result (self.new.walk.height
+            ≡ (S.table self.old.store).level (S.table self.old.store).root + 1) }
+        ensures few_visits { S.visit_count self.new.store ≤ S.visit_count self.old.store
+            + (5 * ((S.table self.old.store).level (S.table self.old.store).root + 1) + 2) }
+        ensures known { S.is_known self.old.store → S.is_known self.new.store }
+        ensures err_table { OnErr result (S.table self.new.store ≡ S.table self.old.store) }
+        ensures err_nodes { S.is_known self.old.store
+            → OnErr result (S.nodes self.new.store ≡ S.nodes self.old.store) }
+        ensures err_walk { OnErr result (self.new.walk ≡ self.old.walk) }
+        ensures cause { HasMapCause (S.fault_count self.old.store) (S.fault_count self.new.store)
+            (S.bad self.new.store) (IsWornForGraft (S.table self.old.store)) result }
+        ensures same_loans { S.loans self.new.store ≡ S.loans self.old.store }
+    {
+        let walk = graft(self.alloc, &mut self.store, s, d, keep)?;
+        self.walk = walk;
+        Ok(())
+    }
+
+    /// How often what the store stands on has failed.
+    pub fn faults(&self) -> u64
+        ensures { result ≡ S.fault_count self.now.store }
+    {
+        self.store.faults()
+    }
+
+    /// How the last graft went that gave no fault: no visits and no height, where there was none.
+    pub fn last_walk(&self) -> Walk
+        ensures { result ≡ self.now.walk }
+    {
+        self.walk
     }
 
     /// Makes one step of a flush where more than `limit` bytes of messages wait in the root: what
     /// the tree has stays. At most four nodes are made, and there are at most as many visits as the
     /// tree is high, and four more. A fault leaves all as it was.
     pub fn flush_step(&mut self, limit: usize) -> Result<Flush, MapFault>
-        ensures same { S.is_known self.old → IsSound (S.nodes self.old) (S.table self.old)
-            → (k : List ℕ) → root_at (S.nodes self.new) (S.table self.new) k
-            ≡ root_at (S.nodes self.old) (S.table self.old) k }
-        ensures enough { (result ≡ Ok Flush.Enough) ↔ ((S.table self.old).size ≤ limit) }
-        ensures unchanged { result ≡ Ok Flush.Enough → self.new ≡ self.old }
-        ensures step { S.is_known self.old → IsSound (S.nodes self.old) (S.table self.old)
-            → result ≡ Ok Flush.Done → IsFlushStep (S.nodes self.old) (S.table self.old)
-            (S.nodes self.new) (S.table self.new) }
+        ensures same { S.is_known self.old.store
+            → IsSound (S.nodes self.old.store) (S.table self.old.store)
+            → (k : List ℕ) → root_at (S.nodes self.new.store) (S.table self.new.store) k
+            ≡ root_at (S.nodes self.old.store) (S.table self.old.store) k }
+        ensures enough { (result ≡ Ok Flush.Enough) ↔ ((S.table self.old.store).size ≤ limit) }
+        ensures unchanged { result ≡ Ok Flush.Enough → self.new.store ≡ self.old.store }
+        ensures step { S.is_known self.old.store
+            → IsSound (S.nodes self.old.store) (S.table self.old.store)
+            → result ≡ Ok Flush.Done → IsFlushStep (S.nodes self.old.store) (S.table self.old.store)
+            (S.nodes self.new.store) (S.table self.new.store) }
         ensures found { IfOk result (λ flush. flush ≢ Flush.Enough
-            → IsFound (S.table self.old) (S.table self.new) flush) }
-        ensures found_at { S.is_known self.old → IsSound (S.nodes self.old) (S.table self.old)
+            → IsFound (S.table self.old.store) (S.table self.new.store) flush) }
+        ensures found_at { S.is_known self.old.store
+            → IsSound (S.nodes self.old.store) (S.table self.old.store)
             → IfOk result (λ flush. flush ≢ Flush.Enough
-            → IsFoundAt (S.nodes self.old) (S.table self.old) flush) }
-        ensures known { S.is_known self.old → S.is_known self.new }
-        ensures same_table { result ≢ Ok Flush.Done → S.table self.new ≡ S.table self.old }
-        ensures same_nodes { S.is_known self.old
-            → result ≢ Ok Flush.Done → S.nodes self.new ≡ S.nodes self.old }
-        ensures few_visits { S.visit_count self.new ≤ S.visit_count self.old
-            + ((S.table self.old).level (S.table self.old).root + 1) + 4 }
-        ensures cause { HasMapCause (S.fault_count self.old) (S.fault_count self.new)
-            (S.bad self.new) (IsWornFor (S.table self.old)) result }
-        ensures same_loans { S.loans self.new ≡ S.loans self.old }
+            → IsFoundAt (S.nodes self.old.store) (S.table self.old.store) flush) }
+        ensures known { S.is_known self.old.store → S.is_known self.new.store }
+        ensures same_table { result ≢ Ok Flush.Done
+            → S.table self.new.store ≡ S.table self.old.store }
+        ensures same_nodes { S.is_known self.old.store
+            → result ≢ Ok Flush.Done → S.nodes self.new.store ≡ S.nodes self.old.store }
+        ensures few_visits { S.visit_count self.new.store ≤ S.visit_count self.old.store
+            + ((S.table self.old.store).level (S.table self.old.store).root + 1) + 4 }
+        ensures cause { HasMapCause (S.fault_count self.old.store) (S.fault_count self.new.store)
+            (S.bad self.new.store) (IsWornFor (S.table self.old.store)) result }
+        ensures same_loans { S.loans self.new.store ≡ S.loans self.old.store }
+        ensures walk { self.new.walk ≡ self.old.walk }
     {
         flush_step(self.alloc, &mut self.store, limit)
     }
