@@ -1,0 +1,102 @@
+//! A map and a tree over nodes in memory, after the same calls.
+
+use bd_keys::starts;
+use bd_limits::MAX_KEY;
+use bd_memnodes::MemNodes;
+use bd_message::{KeyMap, ListMap, Message};
+use bd_step::Flush;
+use bd_tree::Tree;
+use rows_tools::{apply, graft};
+use std::alloc::Global;
+use std::test::Fail;
+
+/// A map and a tree after the same calls.
+#[derive(Drop)]
+pub struct Both {
+    pub map: ListMap,
+    pub tree: Tree<MemNodes>,
+}
+
+impl Both {
+    /// Without keys.
+    pub fn new(alloc: Global) -> Result<Both, Fail> {
+        Ok(Both {
+            map: ListMap::new(alloc),
+            tree: Tree::over(alloc, MemNodes::new(alloc)?),
+        })
+    }
+
+    /// After one more message.
+    pub fn apply(&mut self, message: Message) -> Result<(), Fail> {
+        pour(&mut self.tree, message.clone()?)?;
+        apply(&mut self.map, message)
+    }
+
+    /// After one more graft.
+    pub fn graft(&mut self, s: &[u8], d: &[u8], keep: bool) -> Result<(), Fail> {
+        plant(&mut self.tree, s, d, keep)?;
+        graft(&mut self.map, s, d, keep)
+    }
+
+    /// Whether both have the same at a key.
+    pub fn is_same(&mut self, key: &[u8]) -> Result<bool, Fail> {
+        let found = self.tree.get(key)?;
+        let want = self.map.get(key)?;
+        Ok(found == want)
+    }
+
+    /// Whether both have the same keys and the same at each. How many there are, if so.
+    pub fn same_keys(&mut self, alloc: Global) -> Result<Option<usize>, Fail> {
+        let mut at = Vec::new(alloc);
+        for count in 0..10_000 {
+            let want = self.map.next(at.as_slice(), &[])?;
+            let found = self.tree.next(at.as_slice(), &[])?;
+            if found != want {
+                return Ok(None);
+            }
+            let Some(key) = found else {
+                return Ok(Some(count));
+            };
+            at = key;
+            if !self.is_same(at.as_slice())? {
+                return Ok(None);
+            }
+            at.push(0)?;
+        }
+        Ok(None)
+    }
+}
+
+/// Puts a message that names no node into a tree, where there is room.
+fn pour(tree: &mut Tree<MemNodes>, message: Message) -> Result<(), Fail> {
+    if !message.is_message() || message.size() > tree.room() {
+        return Err(Fail::new("no such message"));
+    }
+    if let Message::Goto { .. } = message {
+        return Err(Fail::new("a message that names a node"));
+    }
+    tree.apply(&[message])?;
+    Ok(())
+}
+
+/// Grafts, where it is allowed.
+fn plant(tree: &mut Tree<MemNodes>, s: &[u8], d: &[u8], keep: bool) -> Result<(), Fail> {
+    let is_short = s.len() <= MAX_KEY && d.len() <= MAX_KEY;
+    if !is_short || tree.room() < 1600 || (!keep && starts(d, s)) {
+        return Err(Fail::new("no such graft"));
+    }
+    tree.graft(s, d, keep)?;
+    Ok(())
+}
+
+/// Flushes until at most so many bytes wait in the root.
+pub fn flush(tree: &mut Tree<MemNodes>, limit: usize) -> Result<(), Fail> {
+    for _ in 0..1_000 {
+        match tree.flush_step(limit)? {
+            Flush::Done => {}
+            Flush::Enough => return Ok(()),
+            Flush::LongSource => return Err(Fail::new("a step that isn't made")),
+        }
+    }
+    Err(Fail::new("too many steps"))
+}

@@ -1,0 +1,8 @@
+//! The tests of grafts: a tree into which prefixes are grafted has what a map has, with its root
+//! flushed and without. Nothing stands on this crate, and the rules of `rows_nodes` hold for it.
+#![tactic(auto)]
+
+#[cfg(test)]
+mod both;
+#[cfg(test)]
+mod graft;
