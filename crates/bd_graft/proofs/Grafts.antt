@@ -79,7 +79,7 @@ pub each_from_get : {A : Type 0} (P : A → Type 0) (xs : List A) → ((i : ℕ)
 each_from_get P [] h = tt
 each_from_get P (x ∷ xs) h = (h 0 x refl, each_from_get P xs (λ i y there. h (suc i) y there))
 
-get_some : {A : Type 0} (xs : List A) (i : ℕ) → i < length xs → (x : A) × (slice_get xs i ≡ Some x)
+pub get_some : {A : Type 0} (xs : List A) (i : ℕ) → i < length xs → (x : A) × (slice_get xs i ≡ Some x)
 get_some [] i less = absurd (omega arith)
 get_some (x ∷ xs) zero less = (x, refl)
 get_some (x ∷ xs) (suc i) less = get_some xs i (omega arith)
@@ -100,7 +100,7 @@ pub record IsOverlaying (t : Table) (step : Step) : Type 0 where
   pub inner : 1 ≤ level_after t step step.root
   pub last : (place : ℕ) → length step.made ≡ suc place → 1 ≤ given_times step (t.next + place) + one_if step.root (t.next + place)
 
-made_given : (t : Table) (step : Step) (place : ℕ) (n : Node) → slice_get step.made place ≡ Some n → given t.next step (t.next + place) ≡ Some n
+pub made_given : (t : Table) (step : Step) (place : ℕ) (n : Node) → slice_get step.made place ≡ Some n → given t.next step (t.next + place) ≡ Some n
 made_given t step place n there = given-new t.next step (t.next + place) (omega arith) ∙ ap (λ (i : ℕ). slice_get step.made i) (let z : t.next + place - t.next ≡ place = omega arith in z) ∙ there
 
 pub namable : (t : Table) (step : Step) (place low high : ℕ) → ((c : ℕ) → IsKept t c → level_after t step c ≡ t.level c) → place ≤ length step.made → low ≤ high → (ns : List ℕ) → AllByRecursion (IsUnder t step.made place low) ns → AllByRecursion (IsNamable t step high) ns
@@ -197,11 +197,11 @@ graft_names : (P : ℕ → Type 0) (s d : List ℕ) (keep : Bool) (target : Targ
 graft_names P s d true target h = (h, tt)
 graft_names P s d false target h = (h, tt)
 
-graft_named : (s d : List ℕ) (keep : Bool) (target : Target) → 1 ≤ count_by (λ name. name == target.child) (flat_map message_names (graft_messages s d keep target))
+pub graft_named : (s d : List ℕ) (keep : Bool) (target : Target) → 1 ≤ count_by (λ name. name == target.child) (flat_map message_names (graft_messages s d keep target))
 graft_named s d true target = omega (arith, count-cons_same target.child [])
 graft_named s d false target = omega (arith, count-cons_same target.child [])
 
-named_last : (f : Node → Type 0) (t : Table) (made : List Node) (level : ℕ) (target : Target) (place : ℕ) (F : ℕ → Type 0) → IsOver t made level (Some target) → length made ≡ suc place → F target.child → F (t.next + place)
+pub named_last : (f : Node → Type 0) (t : Table) (made : List Node) (level : ℕ) (target : Target) (place : ℕ) (F : ℕ → Type 0) → IsOver t made level (Some target) → length made ≡ suc place → F target.child → F (t.next + place)
 named_last f t made level target place F over last h = subst F (ap (λ (x : Target). x.child) (same_Some target (record { child = t.next + place; source = [] }) (over.last place last))) h
 
 -- ---- into a new root over the old one
@@ -209,7 +209,7 @@ named_last f t made level target place F over last h = subst F (ap (λ (x : Targ
 abbrev pub the_top : Table → List Message → Node
 the_top t list = overlay (t.level t.root + 1) (Some (record { child = t.root; source = [] })) list
 
-message_times : (level : ℕ) (under : Option Target) (list : List Message) (c : ℕ) → 1 ≤ count_by (λ name. name == c) (flat_map message_names list) → 1 ≤ times (overlay level under list) c
+pub message_times : (level : ℕ) (under : Option Target) (list : List Message) (c : ℕ) → 1 ≤ count_by (λ name. name == c) (flat_map message_names list) → 1 ≤ times (overlay level under list) c
 message_times level None list c one = one
 message_times level (Some target) list c one = omega (arith, one, count-cons_le target.child c (flat_map message_names list))
 
@@ -249,7 +249,7 @@ over_overlaying t end done packed s d keep p h =
           let one : one_if (t.next + length made) (t.next + place) ≡ 1 = ap (λ (i : ℕ). one_if (t.next + length made) (t.next + i)) (sym p) ∙ one_if-same (t.next + length made) in omega arith);
     }
 
-over_none : (t : Table) (made : List Node) (list : List Message) (id : ℕ) → id < t.next → given t.next (step_over t made list) id ≡ None
+pub over_none : (t : Table) (made : List Node) (list : List Message) (id : ℕ) → id < t.next → given t.next (step_over t made list) id ≡ None
 over_none t made list id low = given-old t.next (step_over t made list) id low
 
 pub over_in_place : (nodes : Nodes) (t : Table) (made : List Node) (list : List Message) → IsSound nodes t → IsInPlace nodes t (step_over t made list)
@@ -299,7 +299,7 @@ names_more P (Inner level es buffer) list h g =
     each_both P (flat_map edge_names es) (flat_map message_names (buffer ++ list)) (each_first P (flat_map edge_names es) (flat_map message_names buffer) h)
     (names_both P buffer list (each_second P (flat_map edge_names es) (flat_map message_names buffer) h) g)
 
-times_more : (n : Node) (list : List Message) (c : ℕ) → 1 ≤ level_of n → 1 ≤ count_by (λ name. name == c) (flat_map message_names list) → 1 ≤ times (appended n list) c
+pub times_more : (n : Node) (list : List Message) (c : ℕ) → 1 ≤ level_of n → 1 ≤ count_by (λ name. name == c) (flat_map message_names list) → 1 ≤ times (appended n list) c
 times_more (Leaf entries) list c inner one = absurd (omega arith)
 times_more (Inner level es buffer) list c inner one =
     omega (
@@ -310,13 +310,13 @@ times_more (Inner level es buffer) list c inner one =
       sum_by-append (λ (x : ℕ). cond (x == c) 1 0) (flat_map message_names buffer) (flat_map message_names list),
     )
 
-root_given : (t : Table) (n : Node) (made : List Node) (list : List Message) → t.root < t.next → given t.next (step_under t n made list) t.root ≡ Some (appended n list)
+pub root_given : (t : Table) (n : Node) (made : List Node) (list : List Message) → t.root < t.next → given t.next (step_under t n made list) t.root ≡ Some (appended n list)
 root_given t n made list low = given-old t.next (step_under t n made list) t.root low ∙ changed_at-same (the_root t n list) [] t.root refl
 
-other_given : (t : Table) (n : Node) (made : List Node) (list : List Message) (c : ℕ) → c < t.next → (c ≡ t.root → ⊥) → given t.next (step_under t n made list) c ≡ None
+pub other_given : (t : Table) (n : Node) (made : List Node) (list : List Message) (c : ℕ) → c < t.next → (c ≡ t.root → ⊥) → given t.next (step_under t n made list) c ≡ None
 other_given t n made list c low other = given-old t.next (step_under t n made list) c low ∙ changed_at-other (the_root t n list) [] c other
 
-root_levels : (t : Table) (n : Node) (made : List Node) (list : List Message) → IsTable t → IsNodeOf t (t.level t.root) n → (c : ℕ) → IsKept t c → level_after t (step_under t n made list) c ≡ t.level c
+pub root_levels : (t : Table) (n : Node) (made : List Node) (list : List Message) → IsTable t → IsNodeOf t (t.level t.root) n → (c : ℕ) → IsKept t c → level_after t (step_under t n made list) c ≡ t.level c
 root_levels t n made list table own c kept = elim (cases_eq c t.root) [
   | inl same ↦
       ap (λ (i : ℕ). level_after t (step_under t n made list) i) same
@@ -363,7 +363,7 @@ under_in_place nodes t n made list s = record {
   ]));
 }
 
-lower_other : (t : Table) (c : ℕ) → IsLower t (t.level t.root) c → c ≡ t.root → ⊥
+pub lower_other : (t : Table) (c : ℕ) → IsLower t (t.level t.root) c → c ≡ t.root → ⊥
 lower_other t c own same = (let e : t.level c ≡ t.level t.root = ap t.level same in let l : t.level c < t.level t.root = own.lower in omega arith)
 
 pub under_grafted : (nodes : Nodes) (t : Table) (n : Node) (ls : List Layer) (end : Option Target) (packed : Packed) (s d : List ℕ) (keep : Bool) (new : Nodes) (u : Table) → IsSound nodes t → nodes t.root ≡ Some n → IsPacked t end (laid ls) packed → IsLow t n packed (graft_messages s d keep packed.target)
@@ -423,21 +423,6 @@ under_done known nodes t n packed s d keep step new u (Ok x) h k sound there aft
     (subst (λ (q : Step). IsCommitted nodes t q new u) h.is committed) (after.root ∙ ap (λ (q : Step). q.root) h.is)
 under_done known nodes t n packed s d keep step new u (Err e) h k sound there after committed = tt
 
-pub under_next : {T E : Type 0} (known : Type 0) (nodes : Nodes) (t : Table) (n : Node) (packed : Packed) (s d : List ℕ) (keep : Bool) (step : Step) (u : Table) (r : Result T E) → IsUnderStep known nodes t n packed s d keep step
-    → OnOk r (IsTableAfter t step u) → OnOk r (u.next ≡ t.next + length packed.made.items)
-under_next known nodes t n packed s d keep step u (Ok x) h after = after.next ∙ ap (λ (q : Step). t.next + length q.made) h.is
-under_next known nodes t n packed s d keep step u (Err e) h after = tt
-
-pub under_level : {T E : Type 0} (known : Type 0) (nodes : Nodes) (t : Table) (n : Node) (packed : Packed) (s d : List ℕ) (keep : Bool) (step : Step) (u : Table) (r : Result T E) → IsUnderStep known nodes t n packed s d keep step
-    → OnOk r (IsTableAfter t step u) → OnOk r (u.level u.root ≡ t.level t.root)
-under_level known nodes t n packed s d keep step u (Ok x) h after =
-    let root : u.root ≡ t.root = after.root ∙ ap (λ (q : Step). q.root) h.is in
-    after.level u.root after.table.root
-    ∙ ap (λ (i : ℕ). level_after t step i) root
-    ∙ ap (λ (q : Step). level_after t q t.root) h.is
-    ∙ root_levels t n packed.made.items (graft_messages s d keep packed.target) h.low.table h.low.own t.root h.low.table.root
-under_level known nodes t n packed s d keep step u (Err e) h after = tt
-
 pub ok_sound : {T E : Type 0} (nodes : Nodes) (t : Table) (step : Step) (new : Nodes) (u : Table) (r : Result T E) → OnOk r (IsCommitted nodes t step new u) → OnOk r (IsSound new u)
 ok_sound nodes t step new u (Ok x) committed = committed.sound
 ok_sound nodes t step new u (Err e) committed = tt
@@ -475,24 +460,6 @@ over_done known nodes t packed s d keep step new u (Ok x) h k sound after commit
     over_grafted nodes t h.ready.layers h.ready.end packed s d keep new u sound h.ready.packed_is h.high h.ready.layers_are (h.ready.value k sound)
     (subst (λ (q : Step). IsCommitted nodes t q new u) h.is committed) (after.root ∙ ap (λ (q : Step). q.root) h.is)
 over_done known nodes t packed s d keep step new u (Err e) h k sound after committed = tt
-
-pub over_next : {T E : Type 0} (known : Type 0) (nodes : Nodes) (t : Table) (packed : Packed) (s d : List ℕ) (keep : Bool) (step : Step) (u : Table) (r : Result T E) → IsOverStep known nodes t packed s d keep step
-    → OnOk r (IsTableAfter t step u) → OnOk r (u.next ≡ t.next + (length packed.made.items + 1))
-over_next known nodes t packed s d keep step u (Ok x) h after =
-    let top : Node = the_top t (graft_messages s d keep packed.target) in
-    after.next ∙ ap (λ (q : Step). t.next + length q.made) h.is ∙ ap (λ (n : ℕ). t.next + n) (length-append packed.made.items (top ∷ []))
-over_next known nodes t packed s d keep step u (Err e) h after = tt
-
-pub over_level : {T E : Type 0} (known : Type 0) (nodes : Nodes) (t : Table) (packed : Packed) (s d : List ℕ) (keep : Bool) (step : Step) (u : Table) (r : Result T E) → IsOverStep known nodes t packed s d keep step
-    → OnOk r (IsTableAfter t step u) → OnOk r (u.level u.root ≡ t.level t.root + 1)
-over_level known nodes t packed s d keep step u (Ok x) h after =
-    let list : List Message = graft_messages s d keep packed.target in
-    let made : List Node = packed.made.items in
-    after.level u.root after.table.root
-    ∙ ap (λ (i : ℕ). level_after t step i) (after.root ∙ ap (λ (q : Step). q.root) h.is)
-    ∙ ap (λ (q : Step). level_after t q (t.next + length made)) h.is
-    ∙ ap (λ (o : Option Node). level_or o (t.level (t.next + length made))) (made_given t (step_over t made list) (length made) (the_top t list) (get_last made (the_top t list)))
-over_level known nodes t packed s d keep step u (Err e) h after = tt
 
 pub over_visits : {T E : Type 0} (known : Type 0) (nodes : Nodes) (t : Table) (packed : Packed) (s d : List ℕ) (keep : Bool) (step : Step) (before now : ℕ) (r : Result T E) → IsOverStep known nodes t packed s d keep step
     → OnOk r (now ≡ visited before (length step.made)) → OnOk r (now ≡ visited before (length packed.made.items + 1))

@@ -3,3 +3,4 @@ pub mod Laying
 pub mod Packs
 pub mod Grafts
 pub mod Wearing
+pub mod Leaving

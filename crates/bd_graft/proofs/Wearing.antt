@@ -37,7 +37,7 @@ use Rattle.bd_graft.specs.Laying.{AreLayers}
 use Rattle.bd_graft.specs.Packing.{highest}
 use Rattle.bd_graft.specs.declared.packing.Packed.{Packed}
 use Rattle.bd_graft.specs.Laying.{laid}
-use Rattle.bd_graft.specs.Grafting.{graft_messages, step_under, step_over, IsReady, IsGrown, IsWornForGraft}
+use Rattle.bd_graft.specs.Grafting.{graft_messages, step_under, step_over, IsReady, IsWornForGraft}
 use Rattle.bd_graft.proofs.Grafts.{raised_target, messages_are, the_top, id_some, overlaying_step, under_overlaying, over_overlaying}
 
 -- ---- layers
@@ -125,14 +125,6 @@ cause_of before now bad t step (Err DeviceFault) ok few high one h = record { la
 cause_of before now bad t step (Err (Damaged block)) ok few high one h = record { later = h.later; failed = h.failed }
 cause_of before now bad t step (Err (Worn counter)) ok few high one h = record { later = h.later; failed = graft_worn t step ok few high one counter h.failed }
 cause_of before now bad t step (Err NoMemory) ok few high one h = record { later = h.later; failed = tt }
-
-pub grown_under : {T E : Type 0} (t u : Table) (made : ℕ) (r : Result T E) → made ≤ t.level t.root + 1 → OnOk r (u.next ≡ t.next + made) → OnOk r (u.level u.root ≡ t.level t.root) → OnOk r (IsGrown t u)
-grown_under t u made (Ok x) few next level = record { few = (let e : u.next ≡ t.next + made = next in omega arith); low = (let e : u.level u.root ≡ t.level t.root = level in omega arith); high = (let e : u.level u.root ≡ t.level t.root = level in omega arith) }
-grown_under t u made (Err e) few next level = tt
-
-pub grown_over : {T E : Type 0} (t u : Table) (made : ℕ) (r : Result T E) → made ≤ t.level t.root + 1 → OnOk r (u.next ≡ t.next + (made + 1)) → OnOk r (u.level u.root ≡ t.level t.root + 1) → OnOk r (IsGrown t u)
-grown_over t u made (Ok x) few next level = record { few = (let e : u.next ≡ t.next + (made + 1) = next in omega arith); low = (let e : u.level u.root ≡ t.level t.root + 1 = level in omega arith); high = (let e : u.level u.root ≡ t.level t.root + 1 = level in omega arith) }
-grown_over t u made (Err e) few next level = tt
 
 pub under_ok : (known : Type 0) (nodes : Nodes) (t : Table) (n : Node) (packed : Packed) (s d : List ℕ) (keep : Bool) → IsReady known nodes t s packed → IsTable t → IsNodeOf t (t.level t.root) n → packed.level < t.level t.root → length s ≤ key_limit → length d ≤ key_limit → buffer_size n + 1600 ≤ buffer_limit → t.next + length packed.made.items < 2 ^ 64
     → IsStep t (step_under t n packed.made.items (graft_messages s d keep packed.target))

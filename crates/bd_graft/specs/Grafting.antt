@@ -1,5 +1,5 @@
 -- The step of a graft.
-use Rattle.std.specs.Prelude.{◌≡◌, ℕ, ◌+◌, ◌^◌, ◌≤◌, Bool, if◌then◌else◌, List, [], ◌∷◌, ◌++◌, length, Option, Some}
+use Rattle.std.specs.Prelude.{◌≡◌, ℕ, suc, ◌+◌, ◌^◌, ◌<◌, ◌≤◌, ◌⊎◌, Bool, if◌then◌else◌, List, [], ◌∷◌, ◌++◌, length, Option, Some, slice_get}
 use Rattle.bd_limits.specs.Limits.{level_limit}
 use Rattle.bd_message.specs.declared.fault.Counter.{Counter}
 use Rattle.bd_message.specs.declared.fault.Counter.TheVariants.{Count, NextId, Level, Refs, Epoch, Flushes}
@@ -8,12 +8,12 @@ use Rattle.bd_message.specs.declared.message.Message.TheVariants.{Goto, Cut}
 use Rattle.bd_node.specs.declared.node.Node.{Node}
 use Rattle.bd_node.specs.declared.node.Step.{Step}
 use Rattle.bd_node.specs.Nodes.{appended}
-use Rattle.bd_node.specs.Tables.{Table, IsSound, root_at}
+use Rattle.bd_node.specs.Tables.{Table, IsKept, IsSound, root_at}
 use Rattle.bd_resolve.specs.declared.following.Target.{Target}
 use Rattle.bd_graft.specs.declared.packing.Packed.{Packed}
 use Rattle.bd_graft.specs.declared.layers.Layer.{Layer}
 use Rattle.bd_graft.specs.Laying.{laid, AreLayers}
-use Rattle.bd_graft.specs.Packing.{overlay, IsPacked}
+use Rattle.bd_graft.specs.Packing.{overlay, IsOverlay, IsPacked}
 use Rattle.bd_node.specs.Meaning.{Nodes, at}
 use Rattle.bd_keys.specs.Keys.{IsKey}
 use Rattle.bd_message.specs.Effect.{acts}
@@ -63,8 +63,63 @@ IsWornForGraft t Count = ⊥
 IsWornForGraft t Epoch = ⊥
 IsWornForGraft t Flushes = ⊥
 
--- at most as many nodes are made as the tree was high, and one; the root is at most one level higher
+-- at most as many nodes are made as the tree was high, and one; the root keeps its id and its level,
+-- or the newest node is the root, one level higher; the old nodes keep their levels
 pub record IsGrown (t u : Table) : Type 0 where
+  pub later : t.next ≤ u.next
   pub few : u.next ≤ t.next + (t.level t.root + 2)
   pub low : t.level t.root ≤ u.level u.root
   pub high : u.level u.root ≤ t.level t.root + 1
+  pub same_root : u.level u.root ≡ t.level t.root → u.root ≡ t.root
+  pub new_root : t.level t.root < u.level u.root → (t.next ≤ u.root) × (u.next ≡ u.root + 1)
+  pub levels : (id : ℕ) → IsKept t id → IsKept u id → u.level id ≡ t.level id
+
+-- ---- what a graft leaves of the nodes
+
+-- the made nodes are there, from an id on, and each is an overlay node
+abbrev pub AreMade : Nodes → Table → ℕ → List Node → Type 0
+AreMade new u next made = (place : ℕ) (n : Node) → slice_get made place ≡ Some n
+    → (new (next + place) ≡ Some n) × IsOverlay u.level n
+
+-- the root stays the root, with the messages after its own, and is above what they name
+pub record IsRootKept (nodes : Nodes) (t : Table) (list : List Message) (child next : ℕ)
+    (new : Nodes) (u : Table) : Type 0 where
+  pub root : u.root ≡ t.root
+  pub next_is : u.next ≡ next
+  pub old : Node
+  pub old_is : nodes t.root ≡ Some old
+  pub new_is : new t.root ≡ Some (appended old list)
+  pub low : u.level child < t.level t.root
+
+-- a new root, one level above the old one and over it, has the messages, and the old one is as it
+-- was: it isn't above what they name
+pub record IsRootRaised (nodes : Nodes) (t : Table) (list : List Message) (child next : ℕ)
+    (new : Nodes) (u : Table) : Type 0 where
+  pub root : u.root ≡ next
+  pub next_is : u.next ≡ next + 1
+  pub old_is : new t.root ≡ nodes t.root
+  pub new_is : new next ≡ Some
+      (overlay (t.level t.root + 1) (Some (record { child = t.root; source = [] })) list)
+  pub high : t.level t.root ≤ u.level child
+
+-- what a graft leaves: overlay nodes from the next id on, and a root with the messages that send one
+-- prefix to the last of them, or to a kept node where there are none; each old node is still kept
+pub record IsGraftStep (nodes : Nodes) (t : Table) (s d : List ℕ) (keep : Bool) (new : Nodes)
+    (u : Table) : Type 0 where
+  pub target : Target
+  pub made : List Node
+  pub overlays : AreMade new u t.next made
+  pub last : (place : ℕ) → length made ≡ suc place
+      → target ≡ record { child = t.next + place; source = [] }
+  pub old : made ≡ [] → IsKept t target.child
+  pub root : IsRootKept nodes t (graft_messages s d keep target) target.child
+      (t.next + length made) new u
+      ⊎ IsRootRaised nodes t (graft_messages s d keep target) target.child
+      (t.next + length made) new u
+  pub stay : (id : ℕ) → IsKept t id → IsKept u id
+
+-- each kept node that stays, but for the root, is what it was, and has at each key what it had
+pub record AreOthersSame (nodes : Nodes) (t : Table) (new : Nodes) (u : Table) : Type 0 where
+  pub node : (id : ℕ) → IsKept t id → IsKept u id → ¬ (id ≡ u.root) → new id ≡ nodes id
+  pub meaning : (id : ℕ) → IsKept t id → IsKept u id → ¬ (id ≡ u.root) → (k : List ℕ)
+      → at new id k ≡ at nodes id k

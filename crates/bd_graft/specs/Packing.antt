@@ -1,5 +1,5 @@
 -- Overlay nodes, which have the messages of layers over the end of a way.
-use Rattle.std.specs.Prelude.{◌≡◌, ℕ, suc, ◌+◌, ◌<◌, ◌≤◌, ◌⊎◌, max, List, [], ◌∷◌, ◌++◌, length, Option, None, Some, slice_get}
+use Rattle.std.specs.Prelude.{◌≡◌, ℕ, suc, ◌+◌, ◌-◌, ◌<◌, ◌≤◌, ◌⊎◌, max, nat_lt, if◌then◌else◌, List, [], ◌∷◌, ◌++◌, length, Option, None, Some, slice_get}
 use Rattle.std.specs.List.{AllByRecursion, flat_map, sum_by}
 use Rattle.bd_limits.specs.Limits.{buffer_limit}
 use Rattle.bd_keys.specs.Keys.{IsKey}
@@ -12,6 +12,8 @@ use Rattle.bd_node.specs.declared.node.Node.TheVariants.{Inner}
 use Rattle.bd_node.specs.Nodes.{level_of, names, times, message_names, node_at}
 use Rattle.bd_node.specs.Shape.{IsShape}
 use Rattle.bd_node.specs.Tables.{Table, IsLower}
+use Rattle.bd_node.specs.Steps.{level_or}
+use Rattle.bd_inner.specs.Halves.{buffer_of}
 use Rattle.bd_resolve.specs.declared.following.Target.{Target}
 use Rattle.bd_resolve.specs.Following.{target_at, target_level, IsShort}
 use Rattle.bd_graft.specs.declared.layers.Layer.{Layer}
@@ -64,6 +66,20 @@ pub record AreOverlays (t : Table) (made : List Node) : Type 0 where
   pub used : (place : ℕ) (n : Node) → slice_get made (suc place) ≡ Some n
       → 1 ≤ times n (t.next + place)
 
+-- the level of a node that is kept, or made from the next id on
+unfoldable pub level_in : Table → List Node → ℕ → ℕ
+level_in t made c = level_or (if nat_lt c t.next then None else slice_get made (c - t.next)) (t.level c)
+
+-- a node one level above the highest that it names, at level 1 where it names none; messages wait in
+-- it, unless it names none
+pub record IsOverlay (level : ℕ → ℕ) (n : Node) : Type 0 where
+  pub one_above : level_of n ≡ max (above level (names n)) 1
+  pub waiting : buffer_of n ≡ [] → names n ≡ []
+
+-- each made node is one level above the highest that it names, and has messages
+abbrev pub AreExact : Table → List Node → Type 0
+AreExact t made = (place : ℕ) (n : Node) → slice_get made place ≡ Some n → IsOverlay (level_in t made) n
+
 -- a target that is below a level, the last made node where there is one
 pub record IsOver (t : Table) (made : List Node) (level : ℕ) (target : Option Target) : Type 0 where
   pub lower : AllByRecursion (IsUnder t made (length made) level) (target_names target)
@@ -81,6 +97,8 @@ pub record IsStackOf (t : Table) (end : Option Target) (done : List Message) (ma
   pub fits : bytes ≤ buffer_limit
   pub lower : AllByRecursion (IsLower t top) (flat_map message_names waiting)
   pub over_end : above t.level (target_names end) ≤ top
+  pub exact : AreExact t made
+  pub top_is : top ≡ above (level_in t made) (target_names under ++ flat_map message_names waiting)
   pub meaning : (has : NodesAt) → HasMade has t.next made → (k : List ℕ) → IsKey k
       → acts has waiting k (target_at has under k) ≡ acts has done k (target_at has end k)
 
@@ -94,6 +112,8 @@ pub record IsPacked (t : Table) (end : Option Target) (done : List Message) (p :
     pub overlays : AreOverlays t p.made.items
     pub over : IsOver t p.made.items (p.level + 1) (Some p.target)
     pub over_end : above t.level (target_names end) ≤ p.level + 1
+    pub exact : AreExact t p.made.items
+    pub level_is : p.level ≡ level_in t p.made.items p.target.child
     pub meaning : (has : NodesAt) → HasMade has t.next p.made.items → (k : List ℕ) → IsKey k
         → target_at has (Some p.target) k ≡ acts has done k (target_at has end k)
 

@@ -12,7 +12,7 @@ ghost use Rattle.bd_message.specs.Effect.{acts};
 ghost use Rattle.bd_node.specs.Meaning.{at};
 ghost use Rattle.bd_resolve.specs.Following.{target_at, IsShort};
 ghost use Rattle.bd_graft.specs.Laying.{laid, AreLayers};
-ghost use Rattle.bd_graft.specs.Grafting.{graft_messages, root_change, top_made, step_under, step_over, IsReady, IsGrown, IsWornForGraft};
+ghost use Rattle.bd_graft.specs.Grafting.{graft_messages, root_change, top_made, step_under, step_over, IsReady, IsGrown, IsGraftStep, AreOthersSame, IsWornForGraft};
 
 use crate::packing::{Packed, overlay, pack};
 use crate::walking::{Walked, walk};
@@ -35,9 +35,10 @@ pub struct Walk {
 
 /// Gives each key `d x` what stands at `s x`, and then, without `keep`, nothing at each `s x`. The way
 /// of `s` is followed from the root down; the newer messages met on it go into overlay nodes over its
-/// end, and one `Goto` to them goes into the root, without `keep` with a `Cut` of `s`. Where what it
-/// names isn't lower than the root, they go into a new root, one level above the old one. A call
-/// that fails leaves all as it was.
+/// end, and one `Goto` to them goes into the root, without `keep` with a `Cut` of `s`. Only where what
+/// it names isn't lower than the root, they go into a new root, one level above the old one. An
+/// overlay node stands one level above the highest node that it names. Each other node that was kept
+/// stays, is what it was and has what it had. A call that fails leaves all as it was.
 pub fn graft<S: NodeStore>(
     alloc: Global,
     store: &mut S,
@@ -51,6 +52,12 @@ pub fn graft<S: NodeStore>(
         (root_at (S.nodes store.new) (S.table store.new))) }
     ensures sound { S.is_known store.old → IsSound (S.nodes store.old) (S.table store.old)
         → OnOk result (IsSound (S.nodes store.new) (S.table store.new)) }
+    ensures step { S.is_known store.old → IsSound (S.nodes store.old) (S.table store.old)
+        → OnOk result (IsGraftStep (S.nodes store.old) (S.table store.old) s.now d.now keep
+        (S.nodes store.new) (S.table store.new)) }
+    ensures others { S.is_known store.old → IsSound (S.nodes store.old) (S.table store.old)
+        → OnOk result (AreOthersSame (S.nodes store.old) (S.table store.old)
+        (S.nodes store.new) (S.table store.new)) }
     ensures table { OnOk result (IsGrown (S.table store.old) (S.table store.new)) }
     ensures visits { IfOk result (λ walk. walk.visits
         ≡ S.visit_count store.new - S.visit_count store.old) }
@@ -106,6 +113,12 @@ fn finish<S: NodeStore>(
         (root_at (S.nodes store.new) (S.table store.new))) }
     ensures sound { S.is_known store.old → IsSound (S.nodes store.old) (S.table store.old)
         → OnOk result (IsSound (S.nodes store.new) (S.table store.new)) }
+    ensures step { S.is_known store.old → IsSound (S.nodes store.old) (S.table store.old)
+        → OnOk result (IsGraftStep (S.nodes store.old) (S.table store.old) s.now d.now keep
+        (S.nodes store.new) (S.table store.new)) }
+    ensures others { S.is_known store.old → IsSound (S.nodes store.old) (S.table store.old)
+        → OnOk result (AreOthersSame (S.nodes store.old) (S.table store.old)
+        (S.nodes store.new) (S.table store.new)) }
     ensures table { OnOk result (IsGrown (S.table store.old) (S.table store.new)) }
     ensures known { S.is_known store.old → S.is_known store.new }
     ensures err_table { OnErr result (S.table store.new ≡ S.table store.old) }
@@ -150,6 +163,8 @@ fn put_under<S: NodeStore>(
     requires target { length d.now ≤ key_limit }
     requires fits { buffer_size node.now + 1600 ≤ buffer_limit }
     requires room { (S.table store.old).next + length packed.made.items < 2 ^ 64 }
+    requires few { length packed.made.items
+        ≤ (S.table store.old).level (S.table store.old).root + 1 }
     requires low { packed.level < (S.table store.old).level (S.table store.old).root }
     requires ready { IsReady (S.is_known store.old) (S.nodes store.old) (S.table store.old)
         s.now packed }
@@ -158,10 +173,13 @@ fn put_under<S: NodeStore>(
         (root_at (S.nodes store.new) (S.table store.new))) }
     ensures sound { S.is_known store.old → IsSound (S.nodes store.old) (S.table store.old)
         → OnOk result (IsSound (S.nodes store.new) (S.table store.new)) }
-    ensures next { OnOk result ((S.table store.new).next
-        ≡ (S.table store.old).next + length packed.made.items) }
-    ensures level { OnOk result ((S.table store.new).level (S.table store.new).root
-        ≡ (S.table store.old).level (S.table store.old).root) }
+    ensures step { S.is_known store.old → IsSound (S.nodes store.old) (S.table store.old)
+        → OnOk result (IsGraftStep (S.nodes store.old) (S.table store.old) s.now d.now keep
+        (S.nodes store.new) (S.table store.new)) }
+    ensures others { S.is_known store.old → IsSound (S.nodes store.old) (S.table store.old)
+        → OnOk result (AreOthersSame (S.nodes store.old) (S.table store.old)
+        (S.nodes store.new) (S.table store.new)) }
+    ensures table { OnOk result (IsGrown (S.table store.old) (S.table store.new)) }
     ensures known { S.is_known store.old → S.is_known store.new }
     ensures err_table { OnErr result (S.table store.new ≡ S.table store.old) }
     ensures err_nodes { S.is_known store.old
@@ -194,7 +212,10 @@ fn put_over<S: NodeStore>(
     requires target { length d.now ≤ key_limit }
     requires room { (S.table store.old).next + length packed.made.items + 1 < 2 ^ 64 }
     requires level { (S.table store.old).level (S.table store.old).root < level_limit }
+    requires few { length packed.made.items
+        ≤ (S.table store.old).level (S.table store.old).root + 1 }
     requires low { packed.level ≤ (S.table store.old).level (S.table store.old).root }
+    requires high { (S.table store.old).level (S.table store.old).root ≤ packed.level }
     requires ready { IsReady (S.is_known store.old) (S.nodes store.old) (S.table store.old)
         s.now packed }
     ensures grafted { S.is_known store.old → IsSound (S.nodes store.old) (S.table store.old)
@@ -202,10 +223,13 @@ fn put_over<S: NodeStore>(
         (root_at (S.nodes store.new) (S.table store.new))) }
     ensures sound { S.is_known store.old → IsSound (S.nodes store.old) (S.table store.old)
         → OnOk result (IsSound (S.nodes store.new) (S.table store.new)) }
-    ensures next { OnOk result ((S.table store.new).next
-        ≡ (S.table store.old).next + (length packed.made.items + 1)) }
-    ensures level { OnOk result ((S.table store.new).level (S.table store.new).root
-        ≡ (S.table store.old).level (S.table store.old).root + 1) }
+    ensures step { S.is_known store.old → IsSound (S.nodes store.old) (S.table store.old)
+        → OnOk result (IsGraftStep (S.nodes store.old) (S.table store.old) s.now d.now keep
+        (S.nodes store.new) (S.table store.new)) }
+    ensures others { S.is_known store.old → IsSound (S.nodes store.old) (S.table store.old)
+        → OnOk result (AreOthersSame (S.nodes store.old) (S.table store.old)
+        (S.nodes store.new) (S.table store.new)) }
+    ensures table { OnOk result (IsGrown (S.table store.old) (S.table store.new)) }
     ensures known { S.is_known store.old → S.is_known store.new }
     ensures err_table { OnErr result (S.table store.new ≡ S.table store.old) }
     ensures err_nodes { S.is_known store.old

@@ -12,7 +12,7 @@ ghost use Rattle.bd_node.specs.Steps.{grown};
 ghost use Rattle.bd_node.specs.Stores.{FitsRoot};
 ghost use Rattle.bd_query.specs.Asks.{AreVisitsOfWays};
 ghost use Rattle.bd_query.specs.Visits.{AreVisits};
-ghost use Rattle.bd_graft.specs.Grafting.{IsGrown, IsWornForGraft};
+ghost use Rattle.bd_graft.specs.Grafting.{IsGrown, IsGraftStep, AreOthersSame, IsWornForGraft};
 ghost use Rattle.bd_flush.specs.Flushed.{IsWornFor};
 ghost use Rattle.bd_step.specs.Steps.{IsFlushStep, IsFound, IsFoundAt};
 
@@ -166,7 +166,9 @@ impl<S: NodeStore> Tree<S> {
 
     /// Gives each key `d x` what stands at `s x`, and then, without `keep`, nothing at each `s x`.
     /// Where the tree is of height `h`, at most `5h + 2` nodes are visited and at most `h + 1` get
-    /// new ids, and it is at most one node higher after it. A fault leaves all as it was.
+    /// new ids; it is one node higher after it only where what the prefix is sent to isn't lower than
+    /// the root. Each other node that was kept stays, is what it was and has what it had. A fault
+    /// leaves all as it was.
     pub fn graft(&mut self, s: &[u8], d: &[u8], keep: bool) -> Result<(), MapFault>
         requires { CanGraft s.now d.now keep (buffer_limit - (S.table self.old.store).size) }
         ensures grafted { S.is_known self.old.store
@@ -176,6 +178,14 @@ impl<S: NodeStore> Tree<S> {
         ensures sound { S.is_known self.old.store
             → IsSound (S.nodes self.old.store) (S.table self.old.store)
             → OnOk result (IsSound (S.nodes self.new.store) (S.table self.new.store)) }
+        ensures step { S.is_known self.old.store
+            → IsSound (S.nodes self.old.store) (S.table self.old.store)
+            → OnOk result (IsGraftStep (S.nodes self.old.store) (S.table self.old.store)
+            s.now d.now keep (S.nodes self.new.store) (S.table self.new.store)) }
+        ensures others { S.is_known self.old.store
+            → IsSound (S.nodes self.old.store) (S.table self.old.store)
+            → OnOk result (AreOthersSame (S.nodes self.old.store) (S.table self.old.store)
+            (S.nodes self.new.store) (S.table self.new.store)) }
         ensures table { OnOk result (IsGrown (S.table self.old.store) (S.table self.new.store)) }
         ensures visits { OnOk result (self.new.walk.visits
             ≡ S.visit_count self.new.store - S.visit_count self.old.store) }

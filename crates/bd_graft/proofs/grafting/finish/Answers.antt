@@ -6,7 +6,7 @@ use Rattle.bd_graft.specs.Laying.{AreLayers, laid}
 use Rattle.bd_graft.specs.Packing.{IsPacked}
 use Rattle.bd_graft.specs.Grafting.{graft_messages, step_under, step_over, IsReady}
 use Rattle.bd_graft.proofs.Laying.{level_high}
-use Rattle.bd_graft.proofs.Wearing.{layers_raise, layers_few, grown_under, grown_over, few_visited, sum_past, sum_within, over_few, cause_of, under_ok, over_ok, packed_low}
+use Rattle.bd_graft.proofs.Wearing.{layers_raise, layers_few, few_visited, sum_past, sum_within, over_few, cause_of, under_ok, over_ok, packed_low}
 use Rattle.bd_graft.proofs.grafting.finish.Goals as goal
 
 pub pack-requires-clause-layers : goal.pack-requires-clause-layers
@@ -15,17 +15,15 @@ pack-requires-clause-layers g c =
     subst (λ (ls : List Layer). AreLayers t (level_limit + 1) ls c.args.way.end) (sym c.as_slice.ensures.value)
     (layers_raise t (t.level t.root + 1) (level_limit + 1) c.args.way.layers.items c.args.way.end (omega (arith, level_high c.args.node.now c.requires.own.shape, c.requires.own.level_is)) c.requires.layers)
 
-pub returns-then-packed-level-clause-table : goal.returns-then-packed-level-clause-table
-returns-then-packed-level-clause-table g c =
+pub put_under-requires-clause-few : goal.put_under-requires-clause-few
+put_under-requires-clause-few g c =
     let t : Table = g.S.NodeStore.table c.args.store.now in
-    grown_under t (g.S.NodeStore.table c.put_under.new.store) (length c.in_ok-packed.packed.made.items) c.put_under.result
-    (omega (arith, c.in_ok-packed.ensures.few, c.as_slice.ensures.len, layers_few t (t.level t.root) c.args.way.layers.items c.args.way.end c.requires.layers)) c.put_under.ensures.next c.put_under.ensures.level
+    omega (arith, c.in_ok-packed.ensures.few, c.as_slice.ensures.len, layers_few t (t.level t.root) c.args.way.layers.items c.args.way.end c.requires.layers)
 
-pub returns-clause-table : goal.returns-clause-table
-returns-clause-table g c =
+pub put_over-requires-clause-few : goal.put_over-requires-clause-few
+put_over-requires-clause-few g c =
     let t : Table = g.S.NodeStore.table c.args.store.now in
-    grown_over t (g.S.NodeStore.table c.put_over.new.store) (length c.in_ok-packed.packed.made.items) c.put_over.result
-    (omega (arith, c.in_ok-packed.ensures.few, c.as_slice.ensures.len, layers_few t (t.level t.root) c.args.way.layers.items c.args.way.end c.requires.layers)) c.put_over.ensures.next c.put_over.ensures.level
+    omega (arith, c.in_ok-packed.ensures.few, c.as_slice.ensures.len, layers_few t (t.level t.root) c.args.way.layers.items c.args.way.end c.requires.layers)
 
 pub returns-then-packed-level-clause-few_visits : goal.returns-then-packed-level-clause-few_visits
 returns-then-packed-level-clause-few_visits g c =

@@ -1,7 +1,8 @@
 use Rattle.std.proofs.Common.{ap, ◌∙◌, ◌+◌, ℕ, List, Some}
 use Rattle.bd_graft.specs.Packing.{overlay}
 use Rattle.bd_graft.specs.Grafting.{graft_messages, step_over}
-use Rattle.bd_graft.proofs.Grafts.{over_ready, over_step, over_place, over_done, over_next, over_level, over_visits, worn_step}
+use Rattle.bd_graft.proofs.Grafts.{over_ready, over_step, over_place, over_done, over_visits, worn_step}
+use Rattle.bd_graft.proofs.Leaving.{over_left, over_same, over_grown}
 use Rattle.bd_graft.proofs.grafting.put_over.Goals as goal
 
 pub commit-requires-clause-step : goal.commit-requires-clause-step
@@ -28,21 +29,29 @@ returns-clause-grafted g c = λ known sound.
     (ap (λ (n : ℕ). n + 1) (c.level-level.ensures ∙ ap (g.S.NodeStore.table c.args.store.now).level c.root-root.ensures.value)) (c.from_vec-2.ensures ∙ c.in_ok-list.ensures)
     (c.in_ok-top.ensures ∙ ap (λ (q : List ℕ). overlay (c.level-level.result + 1) (Some (record { child = c.root-root.result; source = q })) c.from_vec-2.result) (c.from_vec.ensures ∙ c.new.ensures.items)) c.in_ok-step.ensures) known sound c.commit.ensures.table (c.commit.ensures.committed known sound)
 
-pub returns-clause-next : goal.returns-clause-next
-returns-clause-next g c =
-    over_next (g.S.NodeStore.is_known c.args.store.now) (g.S.NodeStore.nodes c.args.store.now) (g.S.NodeStore.table c.args.store.now) c.args.packed c.args.s.now c.args.d.now c.args.keep c.in_ok-step.step (g.S.NodeStore.table c.commit.new.self) c.commit.result
+pub returns-clause-step : goal.returns-clause-step
+returns-clause-step g c = λ known sound.
+    over_left (g.S.NodeStore.is_known c.args.store.now) (g.S.NodeStore.nodes c.args.store.now) (g.S.NodeStore.table c.args.store.now) c.args.packed c.args.s.now c.args.d.now c.args.keep c.in_ok-step.step (g.S.NodeStore.nodes c.commit.new.self) (g.S.NodeStore.table c.commit.new.self) c.commit.result
     (over_ready (g.S.NodeStore.is_known c.args.store.now) (g.S.NodeStore.nodes c.args.store.now) (g.S.NodeStore.table c.args.store.now) c.in_ok-top.top c.args.packed c.args.s.now c.args.d.now c.args.keep c.in_ok-step.step c.root-root.result c.next_id-next.result (c.level-level.result + 1) c.from_vec-2.result
     c.requires.ready c.root-root.ensures.table c.requires.room c.requires.level c.requires.low c.requires.source c.requires.target c.root-root.ensures.value c.next_id-next.ensures.value
     (ap (λ (n : ℕ). n + 1) (c.level-level.ensures ∙ ap (g.S.NodeStore.table c.args.store.now).level c.root-root.ensures.value)) (c.from_vec-2.ensures ∙ c.in_ok-list.ensures)
-    (c.in_ok-top.ensures ∙ ap (λ (q : List ℕ). overlay (c.level-level.result + 1) (Some (record { child = c.root-root.result; source = q })) c.from_vec-2.result) (c.from_vec.ensures ∙ c.new.ensures.items)) c.in_ok-step.ensures) c.commit.ensures.table
+    (c.in_ok-top.ensures ∙ ap (λ (q : List ℕ). overlay (c.level-level.result + 1) (Some (record { child = c.root-root.result; source = q })) c.from_vec-2.result) (c.from_vec.ensures ∙ c.new.ensures.items)) c.in_ok-step.ensures) c.requires.high sound c.commit.ensures.table (c.commit.ensures.committed known sound)
 
-pub returns-clause-level : goal.returns-clause-level
-returns-clause-level g c =
-    over_level (g.S.NodeStore.is_known c.args.store.now) (g.S.NodeStore.nodes c.args.store.now) (g.S.NodeStore.table c.args.store.now) c.args.packed c.args.s.now c.args.d.now c.args.keep c.in_ok-step.step (g.S.NodeStore.table c.commit.new.self) c.commit.result
+pub returns-clause-others : goal.returns-clause-others
+returns-clause-others g c = λ known sound.
+    over_same (g.S.NodeStore.is_known c.args.store.now) (g.S.NodeStore.nodes c.args.store.now) (g.S.NodeStore.table c.args.store.now) c.args.packed c.args.s.now c.args.d.now c.args.keep c.in_ok-step.step (g.S.NodeStore.nodes c.commit.new.self) (g.S.NodeStore.table c.commit.new.self) c.commit.result
     (over_ready (g.S.NodeStore.is_known c.args.store.now) (g.S.NodeStore.nodes c.args.store.now) (g.S.NodeStore.table c.args.store.now) c.in_ok-top.top c.args.packed c.args.s.now c.args.d.now c.args.keep c.in_ok-step.step c.root-root.result c.next_id-next.result (c.level-level.result + 1) c.from_vec-2.result
     c.requires.ready c.root-root.ensures.table c.requires.room c.requires.level c.requires.low c.requires.source c.requires.target c.root-root.ensures.value c.next_id-next.ensures.value
     (ap (λ (n : ℕ). n + 1) (c.level-level.ensures ∙ ap (g.S.NodeStore.table c.args.store.now).level c.root-root.ensures.value)) (c.from_vec-2.ensures ∙ c.in_ok-list.ensures)
-    (c.in_ok-top.ensures ∙ ap (λ (q : List ℕ). overlay (c.level-level.result + 1) (Some (record { child = c.root-root.result; source = q })) c.from_vec-2.result) (c.from_vec.ensures ∙ c.new.ensures.items)) c.in_ok-step.ensures) c.commit.ensures.table
+    (c.in_ok-top.ensures ∙ ap (λ (q : List ℕ). overlay (c.level-level.result + 1) (Some (record { child = c.root-root.result; source = q })) c.from_vec-2.result) (c.from_vec.ensures ∙ c.new.ensures.items)) c.in_ok-step.ensures) c.requires.high sound c.commit.ensures.table (c.commit.ensures.committed known sound)
+
+pub returns-clause-table : goal.returns-clause-table
+returns-clause-table g c =
+    over_grown (g.S.NodeStore.is_known c.args.store.now) (g.S.NodeStore.nodes c.args.store.now) (g.S.NodeStore.table c.args.store.now) c.args.packed c.args.s.now c.args.d.now c.args.keep c.in_ok-step.step (g.S.NodeStore.table c.commit.new.self) c.commit.result
+    (over_ready (g.S.NodeStore.is_known c.args.store.now) (g.S.NodeStore.nodes c.args.store.now) (g.S.NodeStore.table c.args.store.now) c.in_ok-top.top c.args.packed c.args.s.now c.args.d.now c.args.keep c.in_ok-step.step c.root-root.result c.next_id-next.result (c.level-level.result + 1) c.from_vec-2.result
+    c.requires.ready c.root-root.ensures.table c.requires.room c.requires.level c.requires.low c.requires.source c.requires.target c.root-root.ensures.value c.next_id-next.ensures.value
+    (ap (λ (n : ℕ). n + 1) (c.level-level.ensures ∙ ap (g.S.NodeStore.table c.args.store.now).level c.root-root.ensures.value)) (c.from_vec-2.ensures ∙ c.in_ok-list.ensures)
+    (c.in_ok-top.ensures ∙ ap (λ (q : List ℕ). overlay (c.level-level.result + 1) (Some (record { child = c.root-root.result; source = q })) c.from_vec-2.result) (c.from_vec.ensures ∙ c.new.ensures.items)) c.in_ok-step.ensures) c.requires.few c.commit.ensures.table
 
 pub returns-clause-visits : goal.returns-clause-visits
 returns-clause-visits g c =

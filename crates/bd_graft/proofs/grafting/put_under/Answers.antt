@@ -3,7 +3,8 @@ use Rattle.std.specs.List.{AllByRecursion}
 use Rattle.bd_message.specs.declared.message.Message.{Message}
 use Rattle.bd_message.specs.Messages.{IsMessage}
 use Rattle.bd_graft.specs.Grafting.{graft_messages, step_under}
-use Rattle.bd_graft.proofs.Grafts.{id_some, messages_are, under_ready, under_step, under_place, under_done, under_next, under_level, worn_step}
+use Rattle.bd_graft.proofs.Grafts.{id_some, messages_are, under_ready, under_step, under_place, under_done, worn_step}
+use Rattle.bd_graft.proofs.Leaving.{under_left, under_same, under_grown}
 use Rattle.bd_graft.proofs.grafting.put_under.Goals as goal
 
 pub receive-requires-clause-each : goal.receive-requires-clause-each
@@ -30,17 +31,23 @@ returns-clause-grafted g c = λ known sound.
     (under_ready (g.S.NodeStore.is_known c.args.store.now) (g.S.NodeStore.nodes c.args.store.now) (g.S.NodeStore.table c.args.store.now) c.args.node.now c.in_ok-new.new c.args.packed c.args.s.now c.args.d.now c.args.keep c.in_ok-step.step c.root-root.result c.as_slice.result.now c.requires.ready c.root-root.ensures.table c.requires.own c.requires.low c.root-root.ensures.value
     (c.as_slice.ensures.value ∙ c.in_ok-list.ensures) c.in_ok-new.ensures.node c.in_ok-new.ensures.shape c.in_ok-step.ensures) known sound (c.requires.there known) c.commit.ensures.table (c.commit.ensures.committed known sound)
 
-pub returns-clause-next : goal.returns-clause-next
-returns-clause-next g c =
-    under_next (g.S.NodeStore.is_known c.args.store.now) (g.S.NodeStore.nodes c.args.store.now) (g.S.NodeStore.table c.args.store.now) c.args.node.now c.args.packed c.args.s.now c.args.d.now c.args.keep c.in_ok-step.step (g.S.NodeStore.table c.commit.new.self) c.commit.result
+pub returns-clause-step : goal.returns-clause-step
+returns-clause-step g c = λ known sound.
+    under_left (g.S.NodeStore.is_known c.args.store.now) (g.S.NodeStore.nodes c.args.store.now) (g.S.NodeStore.table c.args.store.now) c.args.node.now c.args.packed c.args.s.now c.args.d.now c.args.keep c.in_ok-step.step (g.S.NodeStore.nodes c.commit.new.self) (g.S.NodeStore.table c.commit.new.self) c.commit.result
     (under_ready (g.S.NodeStore.is_known c.args.store.now) (g.S.NodeStore.nodes c.args.store.now) (g.S.NodeStore.table c.args.store.now) c.args.node.now c.in_ok-new.new c.args.packed c.args.s.now c.args.d.now c.args.keep c.in_ok-step.step c.root-root.result c.as_slice.result.now c.requires.ready c.root-root.ensures.table c.requires.own c.requires.low c.root-root.ensures.value
-    (c.as_slice.ensures.value ∙ c.in_ok-list.ensures) c.in_ok-new.ensures.node c.in_ok-new.ensures.shape c.in_ok-step.ensures) c.commit.ensures.table
+    (c.as_slice.ensures.value ∙ c.in_ok-list.ensures) c.in_ok-new.ensures.node c.in_ok-new.ensures.shape c.in_ok-step.ensures) sound (c.requires.there known) c.commit.ensures.table (c.commit.ensures.committed known sound)
 
-pub returns-clause-level : goal.returns-clause-level
-returns-clause-level g c =
-    under_level (g.S.NodeStore.is_known c.args.store.now) (g.S.NodeStore.nodes c.args.store.now) (g.S.NodeStore.table c.args.store.now) c.args.node.now c.args.packed c.args.s.now c.args.d.now c.args.keep c.in_ok-step.step (g.S.NodeStore.table c.commit.new.self) c.commit.result
+pub returns-clause-others : goal.returns-clause-others
+returns-clause-others g c = λ known sound.
+    under_same (g.S.NodeStore.is_known c.args.store.now) (g.S.NodeStore.nodes c.args.store.now) (g.S.NodeStore.table c.args.store.now) c.args.node.now c.args.packed c.args.s.now c.args.d.now c.args.keep c.in_ok-step.step (g.S.NodeStore.nodes c.commit.new.self) (g.S.NodeStore.table c.commit.new.self) c.commit.result
     (under_ready (g.S.NodeStore.is_known c.args.store.now) (g.S.NodeStore.nodes c.args.store.now) (g.S.NodeStore.table c.args.store.now) c.args.node.now c.in_ok-new.new c.args.packed c.args.s.now c.args.d.now c.args.keep c.in_ok-step.step c.root-root.result c.as_slice.result.now c.requires.ready c.root-root.ensures.table c.requires.own c.requires.low c.root-root.ensures.value
-    (c.as_slice.ensures.value ∙ c.in_ok-list.ensures) c.in_ok-new.ensures.node c.in_ok-new.ensures.shape c.in_ok-step.ensures) c.commit.ensures.table
+    (c.as_slice.ensures.value ∙ c.in_ok-list.ensures) c.in_ok-new.ensures.node c.in_ok-new.ensures.shape c.in_ok-step.ensures) sound (c.requires.there known) c.commit.ensures.table (c.commit.ensures.committed known sound)
+
+pub returns-clause-table : goal.returns-clause-table
+returns-clause-table g c =
+    under_grown (g.S.NodeStore.is_known c.args.store.now) (g.S.NodeStore.nodes c.args.store.now) (g.S.NodeStore.table c.args.store.now) c.args.node.now c.args.packed c.args.s.now c.args.d.now c.args.keep c.in_ok-step.step (g.S.NodeStore.table c.commit.new.self) c.commit.result
+    (under_ready (g.S.NodeStore.is_known c.args.store.now) (g.S.NodeStore.nodes c.args.store.now) (g.S.NodeStore.table c.args.store.now) c.args.node.now c.in_ok-new.new c.args.packed c.args.s.now c.args.d.now c.args.keep c.in_ok-step.step c.root-root.result c.as_slice.result.now c.requires.ready c.root-root.ensures.table c.requires.own c.requires.low c.root-root.ensures.value
+    (c.as_slice.ensures.value ∙ c.in_ok-list.ensures) c.in_ok-new.ensures.node c.in_ok-new.ensures.shape c.in_ok-step.ensures) c.requires.few c.commit.ensures.table
 
 pub returns-clause-cause : goal.returns-clause-cause
 returns-clause-cause g c =

@@ -1,6 +1,6 @@
 use Rattle.bd_query.proofs.Parts.{if_ok}
 use Rattle.bd_graft.specs.declared.packing.Stack.{Stack}
-use Rattle.bd_graft.proofs.Packs.{stack_more}
+use Rattle.bd_graft.proofs.Packs.{begun_stack, stack_more}
 use Rattle.bd_graft.proofs.packing.+stacked.Goals as goal
 
 pub returns-clause-stack : goal.returns-clause-stack
@@ -14,3 +14,8 @@ returns-clause-low g t c =
     if_ok _ _ c.laid_on.result c.laid_on.ensures (λ (s : Stack) on.
     (stack_more (g.S.NodeStore.table c.args.store.now) c.args.end c.args.next c.args.layers.now c.layer-item.result c.in_ok-stack.stack s c.requires.table c.requires.next c.requires.room c.requires.layers c.in-len1-up.len_at_least c.layer-item.is
     (record { stack = c.in_ok-stack.ensures.stack; low = c.in_ok-stack.ensures.low; few = c.in_ok-stack.ensures.few; begun = c.in_ok-stack.ensures.begun }) on).1)
+
+pub returns-in_default-clause-stack : goal.returns-in_default-clause-stack
+returns-in_default-clause-stack g t c =
+    begun_stack (g.S.NodeStore.table c.args.store.now) c.args.end c.args.layers.now c.begun.result c.requires.table c.requires.layers c.requires.short c.in_default.len_below
+    c.begun.ensures.made c.begun.ensures.under c.begun.ensures.waiting c.begun.ensures.size c.begun.ensures.level
