@@ -1,9 +1,9 @@
 -- What a graft leaves of the nodes, and of the table.
-use Rattle.std.proofs.Common.{◌≡◌, ℕ, zero, suc, ◌+◌, ◌-◌, ◌<◌, ◌≤◌, Bool, List, [], ◌∷◌, ◌++◌, length, refl, sym, ap, subst, ◌∙◌, Option, Some, inl, inr, arith, length-append, Result, Ok, Err, OnOk, cond}
-use Rattle.std.specs.Prelude.{slice_get, count_by, ◌==◌}
+use Rattle.std.proofs.Common.{◌≡◌, ℕ, zero, suc, ◌+◌, ◌-◌, ◌<◌, ◌≤◌, Bool, List, [], ◌∷◌, ◌++◌, length, refl, sym, ap, subst, ◌∙◌, Option, None, Some, inl, inr, arith, length-append, Result, Ok, Err, OnOk, cond}
+use Rattle.std.specs.Prelude.{◌⊎◌, slice_get, count_by, ◌==◌}
 use Rattle.std.specs.List.{AllByRecursion, flat_map}
-use Rattle.std.proofs.lemmas.Option.{same_Some, slice_get_within}
-use Rattle.std.proofs.lemmas.Bool.{cases_eq}
+use Rattle.std.proofs.lemmas.Option.{same_Some, none-some, slice_get_within}
+use Rattle.std.proofs.lemmas.Bool.{cases_lt, cases_eq}
 use Rattle.std.proofs.lemmas.List.Sums.{sum_by-append}
 use Rattle.std.proofs.lemmas.Grind.{flat_map-append}
 use Rattle.bd_message.specs.declared.message.Message.{Message}
@@ -13,7 +13,7 @@ use Rattle.bd_node.specs.declared.node.Step.{Step}
 use Rattle.bd_node.specs.Nodes.{level_of, names, times, message_names, edge_names, appended}
 use Rattle.bd_node.specs.Meaning.{Nodes}
 use Rattle.bd_node.specs.Tables.{Table, IsKept, IsTable, IsLower, IsSound}
-use Rattle.bd_node.specs.Steps.{level_or, level_after, after, IsTableAfter, IsCommitted}
+use Rattle.bd_node.specs.Steps.{given, level_or, level_after, after, IsTableAfter, IsCommitted}
 use Rattle.bd_node.specs.Private.{IsReached}
 use Rattle.bd_node.specs.Private.IsReached.{at_root, named}
 use Rattle.bd_node.proofs.Lookup.{each_named, named_has, count-cons_same}
@@ -97,6 +97,25 @@ times_kept (Inner level es buffer) list c one =
       sum_by-append (λ (x : ℕ). cond (x == c) 1 0) (flat_map message_names buffer) (flat_map message_names list),
     )
 
+-- no other id below the next one is kept then
+none_back : (nodes : Nodes) (t : Table) (step : Step) (new : Nodes) (u : Table) → IsSound nodes t → IsCommitted nodes t step new u → ((id : ℕ) → id < t.next → (IsKept t id → ⊥) → given t.next step id ≡ None) → (id : ℕ) → IsKept u id → IsKept t id ⊎ (t.next ≤ id)
+none_back nodes t step new u sound committed none id kept = elim (cases_lt id t.next) [
+  | inr high ↦ inr high
+  | inl low ↦ elim (cases_lt 0 (t.count id)) [
+    | inl some ↦ inl (omega arith)
+    | inr zero_is ↦ absurd (
+        let stored = committed.sound.each id kept in
+        none-some stored.node (sym (sound.others id (omega arith)) ∙ sym (after-none nodes t step id (none id low (λ old. omega arith))) ∙ sym (committed.stays id kept) ∙ stored.there))
+  ]
+]
+
+-- each made id is kept then
+fresh_made : (nodes : Nodes) (t : Table) (step : Step) (made : List Node) (new : Nodes) (u : Table) → IsMaking nodes t step made new u → (id : ℕ) → t.next ≤ id → id < t.next + length made → IsKept u id
+fresh_made nodes t step made new u h id high low =
+    let place : ℕ = id - t.next in
+    let found = get_some made place (omega arith) in
+    subst (λ (i : ℕ). IsKept u i) (let is : t.next + place ≡ id = omega arith in is) (kept_there new u h.committed.sound (t.next + place) found.0 (made_left nodes t step made new u h place found.0 found.1).0)
+
 -- what is packed stands where it is named
 last_kept : (t : Table) (made : List Node) (level : ℕ) (target : Target) (u : Table) → IsOver t made level (Some target) → IsKept u target.child → (place : ℕ) → length made ≡ suc place → IsKept u (t.next + place)
 last_kept t made level target u over kept place long = named_last (λ n. Unit {0}) t made level target place (λ (c : ℕ). IsKept u c) over long kept
@@ -152,19 +171,21 @@ under_step_left known nodes t n packed s d keep new u h =
     let target : IsLower u (u.level t.root) packed.target.child = under_target known nodes t n packed s d keep new u h in
     let levels : (c : ℕ) → IsKept t c → level_after t step c ≡ t.level c = root_levels t n made list h.step.low.table h.step.low.own in
     let level : u.level t.root ≡ t.level t.root = h.after.level t.root kept ∙ levels t.root h.sound.table.root in
+    let making : IsMaking nodes t step made new u = record {
+      table = h.sound.table;
+      levels = levels;
+      first = λ place m there. there;
+      after = h.after;
+      committed = h.committed;
+      overlays = h.step.ready.packed_is.overlays;
+      exact = h.step.ready.packed_is.exact;
+      last = last_kept t made (packed.level + 1) packed.target u h.step.ready.packed_is.over target.kept;
+    } in
+    let next : u.next ≡ t.next + length made = h.after.next in
     record {
       target = packed.target;
       made = made;
-      overlays = made_left nodes t step made new u (record {
-        table = h.sound.table;
-        levels = levels;
-        first = λ place m there. there;
-        after = h.after;
-        committed = h.committed;
-        overlays = h.step.ready.packed_is.overlays;
-        exact = h.step.ready.packed_is.exact;
-        last = last_kept t made (packed.level + 1) packed.target u h.step.ready.packed_is.over target.kept;
-      });
+      overlays = made_left nodes t step made new u making;
       last = target_last t made (packed.level + 1) packed.target h.step.ready.packed_is.over;
       old = target_old t made (packed.level + 1) packed.target h.step.ready.packed_is.over;
       root = inl (record {
@@ -176,6 +197,8 @@ under_step_left known nodes t n packed s d keep new u h =
         low = (let low : u.level packed.target.child < u.level t.root = target.lower in omega (arith, level));
       });
       stay = λ id kept_id. all_stay nodes t step new u h.committed kept (under_on nodes t n made list h.sound h.there) id (reached nodes t h.sound id kept_id);
+      fresh = λ id high low. fresh_made nodes t step made new u making id high (omega (arith, low, next));
+      only = none_back nodes t step new u h.sound h.committed (λ id low no. other_given t n made list id low (λ same. no (subst (λ (r : ℕ). IsKept t r) (sym same) h.sound.table.root)));
     }
 
 under_others : (known : Type 0) (nodes : Nodes) (t : Table) (n : Node) (packed : Packed) (s d : List ℕ) (keep : Bool) (new : Nodes) (u : Table) → IsUnderDone known nodes t n packed s d keep new u → AreOthersSame nodes t new u
@@ -279,6 +302,8 @@ over_step_left known nodes t packed s d keep new u h =
     let making : IsMaking nodes t step made new u = over_making known nodes t packed s d keep new u h target in
     let level : u.level packed.target.child ≡ packed.level =
     sym (h.step.ready.packed_is.level_is ∙ level_left nodes t step made new u making (length made) (packed.level + 1) packed.target.child h.step.ready.packed_is.over.lower.0 target) in
+    let next : u.next ≡ t.next + length (made ++ top ∷ []) = h.after.next in
+    let long : length (made ++ top ∷ []) ≡ length made + 1 = length-append made (top ∷ []) in
     record {
       target = packed.target;
       made = made;
@@ -287,13 +312,18 @@ over_step_left known nodes t packed s d keep new u h =
       old = target_old t made (packed.level + 1) packed.target h.step.ready.packed_is.over;
       root = inr (record {
         root = h.after.root;
-        next_is = (let next : u.next ≡ t.next + length (made ++ top ∷ []) = h.after.next in omega (arith, length-append made (top ∷ [])));
+        next_is = omega (arith, next, long);
         old_is = h.committed.stays t.root kept ∙ after-none nodes t step t.root (over_none t made list t.root (h.sound.table.below t.root h.sound.table.root));
         new_is = over_new known nodes t packed s d keep new u h;
         high = (let tight : t.level t.root ≤ packed.level = h.tight in omega (arith, level));
       });
       stay = λ id kept_id. all_stay nodes t step new u h.committed kept
           (λ p m c there one. (m, after-none nodes t step p (over_none t made list p (h.sound.table.below p (kept_there nodes t h.sound p m there))) ∙ there, one)) id (reached nodes t h.sound id kept_id);
+      fresh = λ id high low. elim (cases_lt id (t.next + length made)) [
+        | inl less ↦ fresh_made nodes t step made new u making id high less
+        | inr last ↦ subst (λ (i : ℕ). IsKept u i) (let is : u.root ≡ id = omega (arith, h.after.root, next, long, low, last) in is) h.after.table.root
+      ];
+      only = none_back nodes t step new u h.sound h.committed (λ id low no. over_none t made list id low);
     }
 
 over_others : (known : Type 0) (nodes : Nodes) (t : Table) (packed : Packed) (s d : List ℕ) (keep : Bool) (new : Nodes) (u : Table) → IsOverDone known nodes t packed s d keep new u → AreOthersSame nodes t new u

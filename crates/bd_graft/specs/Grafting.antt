@@ -63,8 +63,8 @@ IsWornForGraft t Count = ⊥
 IsWornForGraft t Epoch = ⊥
 IsWornForGraft t Flushes = ⊥
 
--- at most as many nodes are made as the tree was high, and one; the root keeps its id and its level,
--- or the newest node is the root, one level higher; the old nodes keep their levels
+-- at most as many nodes are made as the tree was high, and one; the root keeps its id and level, or
+-- the newest node is the root, one level higher; the old nodes keep their levels
 pub record IsGrown (t u : Table) : Type 0 where
   pub later : t.next ≤ u.next
   pub few : u.next ≤ t.next + (t.level t.root + 2)
@@ -102,8 +102,9 @@ pub record IsRootRaised (nodes : Nodes) (t : Table) (list : List Message) (child
       (overlay (t.level t.root + 1) (Some (record { child = t.root; source = [] })) list)
   pub high : t.level t.root ≤ u.level child
 
--- what a graft leaves: overlay nodes from the next id on, and a root with the messages that send one
--- prefix to the last of them, or to a kept node where there are none; each old node is still kept
+-- what a graft leaves: overlay nodes from the next id on, and a root with the messages that send
+-- one prefix to the last of them, or to a kept node where there are none; each old node and each
+-- new id is kept, and nothing else
 pub record IsGraftStep (nodes : Nodes) (t : Table) (s d : List ℕ) (keep : Bool) (new : Nodes)
     (u : Table) : Type 0 where
   pub target : Target
@@ -117,6 +118,8 @@ pub record IsGraftStep (nodes : Nodes) (t : Table) (s d : List ℕ) (keep : Bool
       ⊎ IsRootRaised nodes t (graft_messages s d keep target) target.child
       (t.next + length made) new u
   pub stay : (id : ℕ) → IsKept t id → IsKept u id
+  pub fresh : (id : ℕ) → t.next ≤ id → id < u.next → IsKept u id
+  pub only : (id : ℕ) → IsKept u id → IsKept t id ⊎ (t.next ≤ id)
 
 -- each kept node that stays, but for the root, is what it was, and has at each key what it had
 pub record AreOthersSame (nodes : Nodes) (t : Table) (new : Nodes) (u : Table) : Type 0 where

@@ -68,17 +68,19 @@ pub record AreOverlays (t : Table) (made : List Node) : Type 0 where
 
 -- the level of a node that is kept, or made from the next id on
 unfoldable pub level_in : Table → List Node → ℕ → ℕ
-level_in t made c = level_or (if nat_lt c t.next then None else slice_get made (c - t.next)) (t.level c)
+level_in t made c =
+    level_or (if nat_lt c t.next then None else slice_get made (c - t.next)) (t.level c)
 
--- a node one level above the highest that it names, at level 1 where it names none; messages wait in
--- it, unless it names none
+-- a node one level above the highest that it names, at level 1 where it names none; messages wait
+-- in it, unless it names none
 pub record IsOverlay (level : ℕ → ℕ) (n : Node) : Type 0 where
   pub one_above : level_of n ≡ max (above level (names n)) 1
   pub waiting : buffer_of n ≡ [] → names n ≡ []
 
 -- each made node is one level above the highest that it names, and has messages
 abbrev pub AreExact : Table → List Node → Type 0
-AreExact t made = (place : ℕ) (n : Node) → slice_get made place ≡ Some n → IsOverlay (level_in t made) n
+AreExact t made = (place : ℕ) (n : Node) → slice_get made place ≡ Some n
+    → IsOverlay (level_in t made) n
 
 -- a target that is below a level, the last made node where there is one
 pub record IsOver (t : Table) (made : List Node) (level : ℕ) (target : Option Target) : Type 0 where

@@ -33,12 +33,13 @@ pub struct Walk {
     pub height: u32,
 }
 
-/// Gives each key `d x` what stands at `s x`, and then, without `keep`, nothing at each `s x`. The way
-/// of `s` is followed from the root down; the newer messages met on it go into overlay nodes over its
-/// end, and one `Goto` to them goes into the root, without `keep` with a `Cut` of `s`. Only where what
-/// it names isn't lower than the root, they go into a new root, one level above the old one. An
-/// overlay node stands one level above the highest node that it names. Each other node that was kept
-/// stays, is what it was and has what it had. A call that fails leaves all as it was.
+/// Gives each key `d x` what stands at `s x`, and then, without `keep`, nothing at each `s x`. The
+/// way of `s` is followed from the root down; the newer messages met on it go into overlay nodes
+/// over its end, and one `Goto` to them goes into the root, without `keep` with a `Cut` of `s`.
+/// Only where what it names isn't lower than the root, they go into a new root, one level above
+/// the old one. An overlay node stands one level above the highest node that it names. Each other
+/// node that was kept stays, is what it was and has what it had. A call that fails leaves all as
+/// it was.
 pub fn graft<S: NodeStore>(
     alloc: Global,
     store: &mut S,

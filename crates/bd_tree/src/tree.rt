@@ -166,9 +166,9 @@ impl<S: NodeStore> Tree<S> {
 
     /// Gives each key `d x` what stands at `s x`, and then, without `keep`, nothing at each `s x`.
     /// Where the tree is of height `h`, at most `5h + 2` nodes are visited and at most `h + 1` get
-    /// new ids; it is one node higher after it only where what the prefix is sent to isn't lower than
-    /// the root. Each other node that was kept stays, is what it was and has what it had. A fault
-    /// leaves all as it was.
+    /// new ids; it is one node higher after it only where what the prefix is sent to isn't lower
+    /// than the root. Each other node that was kept stays, is what it was and has what it had. A
+    /// fault leaves all as it was.
     pub fn graft(&mut self, s: &[u8], d: &[u8], keep: bool) -> Result<(), MapFault>
         requires { CanGraft s.now d.now keep (buffer_limit - (S.table self.old.store).size) }
         ensures grafted { S.is_known self.old.store
