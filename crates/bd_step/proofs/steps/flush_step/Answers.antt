@@ -13,8 +13,8 @@ make-requires-clause-way_here g c = λ known sound.
     way_again (g.S.NodeStore.nodes c.args.store.now) (g.S.NodeStore.nodes c.next_step.new.store) (g.S.NodeStore.table c.args.store.now) (g.S.NodeStore.table c.next_step.new.store) c.in_ok-step.step
     (c.next_step.ensures.kept was) c.next_step.ensures.table sound (c.in_ok-step.ensures.way_at was)
 
-pub returns-in_ok-make-clause-step : goal.returns-in_ok-make-clause-step
-returns-in_ok-make-clause-step g c = λ known sound done.
+pub returns-clause-step : goal.returns-clause-step
+returns-clause-step g c = λ known sound done.
     is_flush_step (g.S.NodeStore.nodes c.args.store.now) (g.S.NodeStore.nodes c.next_step.new.store) (g.S.NodeStore.table c.args.store.now) (g.S.NodeStore.table c.next_step.new.store) (g.S.NodeStore.nodes c.make.new.store) (g.S.NodeStore.table c.make.new.store) c.in_ok-step.step
     (record {
       nodes_are = c.next_step.ensures.kept known;
