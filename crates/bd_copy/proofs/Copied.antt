@@ -1,5 +1,5 @@
 -- A child's copy.
-use Rattle.std.proofs.Common.{◌≡◌, ℕ, suc, ◌+◌, ◌*◌, ◌<◌, ◌≤◌, Bool, true, false, cond, List, [], ◌∷◌, ◌++◌, length, drop, refl, sym, ap, subst, ◌∙◌, Option, None, Some, Result, Ok, Err, IfOk, arith, get_or}
+use Rattle.std.proofs.Common.{◌≡◌, ℕ, zero, suc, ◌+◌, ◌*◌, ◌<◌, ◌≤◌, Bool, true, false, cond, List, [], ◌∷◌, ◌++◌, length, drop, refl, sym, ap, subst, ◌∙◌, Option, None, Some, Result, Ok, Err, OnOk, OnErr, arith, get_or}
 use Rattle.std.specs.Prelude.{nat_lt}
 use Rattle.std.specs.List.{AllByRecursion, flat_map, sum_by}
 use Rattle.std.specs.Option.{option_to_list}
@@ -22,6 +22,7 @@ use Rattle.bd_node.specs.Nodes.{level_of, message_names, edge_names, names, time
 use Rattle.bd_node.specs.Meaning.{Nodes, at}
 use Rattle.bd_node.specs.Shape.{IsLeaf, IsShape}
 use Rattle.bd_node.specs.Tables.{Table, IsKept, IsLower, IsNodeOf, IsSound}
+use Rattle.bd_node.specs.Stores.{visited}
 use Rattle.bd_node.proofs.Lookup.{named_has, each_named, each_first, each_second, node_has-key}
 use Rattle.bd_node.proofs.Meanings.{at-meets}
 use Rattle.bd_node.proofs.Sound.{sound-levelled}
@@ -68,7 +69,7 @@ way_few t level (Some target) h =
 
 edges_few : (t : Table) (level n : ℕ) (es : List Edge) → length es ≤ n → AllByRecursion (IsLower t level) (flat_map edge_names es) → sum_by (λ e. way_visits t (edge_way e)) es ≤ n * level
 edges_few t level n [] few h = omega arith
-edges_few t level 0 (e ∷ es) few h = absurd (omega arith)
+edges_few t level zero (e ∷ es) few h = absurd (omega arith)
 edges_few t level (suc n) (e ∷ es) few h =
     let first : way_visits t (edge_way e) ≤ level = way_few t level (edge_way e) (option_lower t level e.child e.source (each_first (IsLower t level) (edge_names e) (flat_map edge_names es) h)) in
     let others : sum_by (λ (d : Edge). way_visits t (edge_way d)) es ≤ n * level = edges_few t level n es (omega arith) (each_second (IsLower t level) (edge_names e) (flat_map edge_names es) h) in
@@ -104,31 +105,6 @@ few_long t n m s own h = few_in t (level_of n) m h.shape.few h.later (clipped_lo
 
 -- ---- what the copy is
 
-leaf_own : (t : Table) (old new : List Entry) (s : List ℕ) → IsLeaf old → IsClippedLeaf old s new → IsNodeOf t 0 (Leaf new)
-leaf_own t old new s own h = record {
-  shape = record { each = h.entries.each; rising = h.entries.rising; size = (let less : entries_size new ≤ entries_size old = h.size in let few : entries_size old ≤ leaf_limit = own.size in omega arith) };
-  level_is = refl;
-  lower = tt;
-}
-
-pub leaf_copied : (t : Table) (n : Node) (old new shown : List Entry) (s : List ℕ) → n ≡ Leaf old → shown ≡ old → IsClippedLeaf shown s new → IsCopyOf t n s (Leaf new)
-leaf_copied t n old new shown s n_is same h =
-    subst (λ (m : Node). IsCopyOf t m s (Leaf new)) (sym n_is)
-    (record { list = new; clip = subst (λ (l : List Entry). IsClippedLeaf l s new) same h; copy_is = refl })
-
-pub leaf_copy_own : (t : Table) (n : Node) (old new shown : List Entry) (s : List ℕ) → n ≡ Leaf old → shown ≡ old → IsNodeOf t (level_of n) n → IsClippedLeaf shown s new → IsNodeOf t (level_of n) (Leaf new)
-leaf_copy_own t n old new shown s n_is same own h =
-    subst (λ (l : ℕ). IsNodeOf t l (Leaf new)) (sym (ap level_of n_is))
-    (leaf_own t old new s (subst IsShape n_is own.shape) (subst (λ (l : List Entry). IsClippedLeaf l s new) same h))
-
-pub leaf_copy_has : (nodes : Nodes) (n : Node) (old new shown : List Entry) (s : List ℕ) → n ≡ Leaf old → shown ≡ old → IsClippedLeaf shown s new → (k : List ℕ) → IsKey k → node_at (at nodes) (Leaf new) k ≡ node_at (at nodes) n (s ++ k)
-leaf_copy_has nodes n old new shown s n_is same h k key =
-    (subst (λ (l : List Entry). IsClippedLeaf l s new) same h).has k ∙ sym (ap (λ (m : Node). node_at (at nodes) m (s ++ k)) n_is)
-
-inner_copied : (t : Table) (n : Node) (s : List ℕ) (copy : Node) → 1 ≤ level_of n → IsInnerCopy t n s copy → IsCopyOf t n s copy
-inner_copied t (Leaf entries) s copy low h = absurd (omega arith)
-inner_copied t (Inner level es ms) s copy low h = h
-
 -- a clipped node, what became of it, and what is stored
 pub record IsWayOfCopy (t : Table) (n : Node) (s : List ℕ) (clipped short copy : Node) : Type 0 where
   pub own : IsNodeOf t (level_of n) n
@@ -138,12 +114,6 @@ pub record IsWayOfCopy (t : Table) (n : Node) (s : List ℕ) (clipped short copy
 
 copy_level : (t : Table) (n : Node) (s : List ℕ) (clipped short copy : Node) → IsWayOfCopy t n s clipped short copy → level_of copy ≡ level_of n
 copy_level t n s clipped short copy h = compacted_level short copy h.compacted ∙ h.shortened.level_is ∙ h.clip.level_is
-
-pub is_copied : (t : Table) (n : Node) (s : List ℕ) (clipped short copy : Node) → IsWayOfCopy t n s clipped short copy → IsCopyOf t n s copy
-is_copied t n s clipped short copy h =
-    inner_copied t n s copy
-    (let low : 1 ≤ level_of clipped = h.clip.shape.low in let same : level_of clipped ≡ level_of n = h.clip.level_is in omega arith)
-    (record { clipped = clipped; clip = h.clip; short = short; shortened = h.shortened; compacted = h.compacted })
 
 pub copy_own : (t : Table) (n : Node) (s : List ℕ) (clipped short copy : Node) → IsWayOfCopy t n s clipped short copy → IsNodeOf t (level_of n) copy
 copy_own t n s clipped short copy h = record {
@@ -173,7 +143,7 @@ edge_named n place c e h here child_is =
     let less : count_names c (flat_map edge_names (edges_of n)) ≤ times n c = edges_named n c in
     omega arith
 
-child_lower : (t : Table) (parent : Fetched) (place id : ℕ) (e : Edge) → IsFetched t parent → IsEdgeAt parent.node.value place e → e.child ≡ Some id → IsLower t (t.level parent.id) id
+pub child_lower : (t : Table) (parent : Fetched) (place id : ℕ) (e : Edge) → IsFetched t parent → IsEdgeAt parent.node.value place e → e.child ≡ Some id → IsLower t (t.level parent.id) id
 child_lower t parent place id e own here child =
     named_has (IsLower t (t.level parent.id)) id (names parent.node.value) own.own.lower (edge_named parent.node.value place id e own.own.shape here child)
 
@@ -196,11 +166,6 @@ kept_child t parent place id e h = (child_lower t parent place id e h.parent_is 
 pub source_short : (t : Table) (parent : Fetched) (place id : ℕ) (e : Edge) (s : List ℕ) → IsChildRead t parent place e id → s ≡ e.source → length s ≤ key_limit
 source_short t parent place id e s h is = subst (λ (l : List ℕ). length l ≤ key_limit) (sym is) (own_shape parent.node.value place e h.parent_is.own.shape h.here).source
 
-pub fetched_own : (t v : Table) (child : Fetched) (shown : Node) → IsFetched t child → v ≡ t → shown ≡ child.node.value → IsNodeOf v (level_of shown) shown
-fetched_own t v child shown h v_is is =
-    subst (λ (x : Table). IsNodeOf x (level_of shown) shown) (sym v_is)
-    (subst (λ (m : Node). IsNodeOf t (level_of m) m) (sym is) (record { shape = h.own.shape; level_is = refl; lower = subst (λ (l : ℕ). AllByRecursion (IsLower t l) (names child.node.value)) (sym h.own.level_is) h.own.lower }))
-
 -- ---- the copy of a fetched child
 
 -- a child that was fetched, and its copy
@@ -210,7 +175,28 @@ pub record IsCopyRead (t : Table) (parent : Fetched) (place : ℕ) (e : Edge) (c
   pub copied : IsCopyOf t child.node.value e.source copy
   pub own : IsNodeOf t (level_of child.node.value) copy
 
-pub can_put : (t : Table) (parent : Fetched) (place : ℕ) (e : Edge) (child : Fetched) (copy : Node) → IsCopyRead t parent place e child copy → CanPutCopy t parent place copy
+-- how an edge's child was fetched and copied
+pub record IsCopying (t v : Table) (parent : Fetched) (place : ℕ) (e : Edge) (id : ℕ) (child : Fetched) (shown : Node) (s : List ℕ) (copy : Node) : Type 0 where
+  pub read : IsChildRead t parent place e id
+  pub id_is : child.id ≡ id
+  pub fetched : IsFetched t child
+  pub table_is : v ≡ t
+  pub shown_is : shown ≡ child.node.value
+  pub source_is : s ≡ e.source
+  pub copied : IsCopyOf v shown s copy
+  pub own : IsNodeOf v (level_of shown) copy
+  pub bytes : IsKey s
+
+copy_read : (t v : Table) (parent : Fetched) (place : ℕ) (e : Edge) (id : ℕ) (child : Fetched) (shown : Node) (s : List ℕ) (copy : Node) → IsCopying t v parent place e id child shown s copy → IsCopyRead t parent place e child copy
+copy_read t v parent place e id child shown s copy h = record {
+  read = subst (λ (i : ℕ). IsChildRead t parent place e i) (sym h.id_is) h.read;
+  fetched = h.fetched;
+  copied = subst (λ (l : List ℕ). IsCopyOf t child.node.value l copy) h.source_is
+      (subst (λ (n : Node). IsCopyOf t n s copy) h.shown_is (subst (λ (u : Table). IsCopyOf u shown s copy) h.table_is h.copied));
+  own = subst (λ (n : Node). IsNodeOf t (level_of n) copy) h.shown_is (subst (λ (u : Table). IsNodeOf u (level_of shown) copy) h.table_is h.own);
+}
+
+can_put : (t : Table) (parent : Fetched) (place : ℕ) (e : Edge) (child : Fetched) (copy : Node) → IsCopyRead t parent place e child copy → CanPutCopy t parent place copy
 can_put t parent place e child copy h =
     let level : level_of copy ≡ level_of child.node.value = h.own.level_is in
     let at : level_of child.node.value ≡ t.level child.id = h.fetched.own.level_is in
@@ -229,6 +215,10 @@ can_put t parent place e child copy h =
       };
       lower = omega arith;
     }
+
+pub put_again : (t v w : Table) (parent : Fetched) (place : ℕ) (e : Edge) (id : ℕ) (child : Fetched) (shown : Node) (s : List ℕ) (copy : Node) → IsCopying t v parent place e id child shown s copy → w ≡ t → CanPutCopy w parent place copy
+put_again t v w parent place e id child shown s copy h same =
+    subst (λ (u : Table). CanPutCopy u parent place copy) (sym same) (can_put t parent place e child copy (copy_read t v parent place e id child shown s copy h))
 
 -- bytes after bytes are bytes
 IsKey-append : (s k : List ℕ) → IsKey s → IsKey k → IsKey (s ++ k)
@@ -251,14 +241,32 @@ pub record IsCopyThere (nodes : Nodes) (t : Table) (parent : Fetched) (place : �
   pub bytes : IsKey e.source
   pub has : (k : List ℕ) → IsKey k → node_at (at nodes) copy k ≡ node_at (at nodes) child.node.value (e.source ++ k)
 
-pub is_copy_for : (nodes : Nodes) (t : Table) (parent : Fetched) (place : ℕ) (e : Edge) (child : Fetched) (copy : Node) → IsCopyThere nodes t parent place e child copy → IsCopyFor nodes e copy
+pub copy_there : (nodes mid : Nodes) (t v : Table) (parent : Fetched) (place : ℕ) (e : Edge) (id : ℕ) (child : Fetched) (shown : Node) (s : List ℕ) (copy : Node) → IsCopying t v parent place e id child shown s copy → IsSound nodes t → mid ≡ nodes → nodes id ≡ Some child.node.value
+    → ((k : List ℕ) → IsKey k → node_at (at mid) copy k ≡ node_at (at mid) shown (s ++ k)) → IsCopyThere nodes t parent place e child copy
+copy_there nodes mid t v parent place e id child shown s copy h sound same there has = record {
+  read = copy_read t v parent place e id child shown s copy h;
+  sound = sound;
+  there = ap nodes h.id_is ∙ there;
+  bytes = subst (λ (l : List ℕ). IsKey l) h.source_is h.bytes;
+  has = λ k key.
+      ap (λ (f : Nodes). node_at (at f) copy k) (sym same)
+      ∙ has k key
+      ∙ ap (λ (f : Nodes). node_at (at f) shown (s ++ k)) same
+      ∙ ap (λ (n : Node). node_at (at nodes) n (s ++ k)) h.shown_is
+      ∙ ap (λ (l : List ℕ). node_at (at nodes) child.node.value (l ++ k)) h.source_is;
+}
+
+is_copy_for : (nodes : Nodes) (t : Table) (parent : Fetched) (place : ℕ) (e : Edge) (child : Fetched) (copy : Node) → IsCopyThere nodes t parent place e child copy → IsCopyFor nodes e copy
 is_copy_for nodes t parent place e child copy h = copy_for nodes t e child.id child.node.value copy h.sound h.read.read.child_is h.there h.bytes h.has
 
-pub copied_at : (nodes : Nodes) (t : Table) (parent : Fetched) (place : ℕ) (e : Edge) (child : Fetched) (copy : Node) → IsCopyThere nodes t parent place e child copy → IsCopyAt nodes parent.node.value place copy
+copied_at : (nodes : Nodes) (t : Table) (parent : Fetched) (place : ℕ) (e : Edge) (child : Fetched) (copy : Node) → IsCopyThere nodes t parent place e child copy → IsCopyAt nodes parent.node.value place copy
 copied_at nodes t parent place e child copy h d here_d =
     subst (λ (x : Edge). IsCopyFor nodes x copy) (same_Some e d (sym h.read.read.here ∙ here_d)) (is_copy_for nodes t parent place e child copy h)
 
-pub is_privatised : (nodes : Nodes) (t : Table) (parent : Fetched) (place : ℕ) (e : Edge) (child : Fetched) (copy : Node) (new : Nodes) (u : Table) → IsCopyThere nodes t parent place e child copy → IsCopyPut t parent place copy new u → IsPrivatised nodes t parent place new u
+pub copied_again : (nodes mid : Nodes) (t : Table) (parent : Fetched) (place : ℕ) (e : Edge) (child : Fetched) (copy : Node) → mid ≡ nodes → IsCopyThere nodes t parent place e child copy → IsCopyAt mid parent.node.value place copy
+copied_again nodes mid t parent place e child copy same h = subst (λ (f : Nodes). IsCopyAt f parent.node.value place copy) (sym same) (copied_at nodes t parent place e child copy h)
+
+is_privatised : (nodes : Nodes) (t : Table) (parent : Fetched) (place : ℕ) (e : Edge) (child : Fetched) (copy : Node) (new : Nodes) (u : Table) → IsCopyThere nodes t parent place e child copy → IsCopyPut t parent place copy new u → IsPrivatised nodes t parent place new u
 is_privatised nodes t parent place e child copy new u h put = record {
   edge = e;
   here = h.read.read.here;
@@ -273,12 +281,26 @@ is_privatised nodes t parent place e child copy new u h put = record {
   put = put;
 }
 
+pub on_privatised : {T E : Type 0} (nodes : Nodes) (t w : Table) (parent : Fetched) (place : ℕ) (e : Edge) (child : Fetched) (copy : Node) (new : Nodes) (u : Table) (r : Result T E) → IsCopyThere nodes t parent place e child copy → w ≡ t
+    → OnOk r (IsCopyPut w parent place copy new u) → OnOk r (IsPrivatised nodes t parent place new u)
+on_privatised nodes t w parent place e child copy new u (Ok x) h same put =
+    is_privatised nodes t parent place e child copy new u h (subst (λ (v : Table). IsCopyPut v parent place copy new u) same put)
+on_privatised nodes t w parent place e child copy new u (Err x) h same put = tt
+
 -- ---- visits
 
-pub copy_visits : (t : Table) (parent : Fetched) (place : ℕ) (e : Edge) (child : Fetched) (shown : Node) (before now : ℕ) → IsChildRead t parent place e child.id → IsFetched t child → shown ≡ child.node.value → now ≤ before + (2 + 17 * level_of shown)
+pub visits_few : (before now most few : ℕ) → now ≤ before + most → most ≤ few → now ≤ before + few
+visits_few before now most few h less = omega arith
+
+-- a node is made, or none
+pub put_few : {T E : Type 0} (before now : ℕ) (r : Result T E) → OnOk r (now ≡ visited before 1) → OnErr r (now ≡ before) → now ≤ before + 1
+put_few before now (Ok x) made none = omega arith
+put_few before now (Err x) made none = omega arith
+
+pub copy_visits : (t : Table) (parent : Fetched) (place : ℕ) (e : Edge) (id : ℕ) (child : Fetched) (shown : Node) (before now : ℕ) → IsChildRead t parent place e id → child.id ≡ id → IsFetched t child → shown ≡ child.node.value → now ≤ before + (2 + 17 * level_of shown)
     → (d : Edge) (c : ℕ) → IsEdgeAt parent.node.value place d → d.child ≡ Some c → now ≤ before + (2 + 17 * t.level c)
-copy_visits t parent place e child shown before now h fetched is few d c here child_d =
+copy_visits t parent place e id child shown before now h id_is fetched is few d c here child_d =
     let same : e ≡ d = same_Some e d (sym h.here ∙ here) in
-    let same_c : child.id ≡ c = same_Some child.id c (sym h.child_is ∙ ap (λ (x : Edge). x.child) same ∙ child_d) in
+    let same_c : child.id ≡ c = id_is ∙ same_Some id c (sym h.child_is ∙ ap (λ (x : Edge). x.child) same ∙ child_d) in
     let level : level_of shown ≡ t.level c = ap level_of is ∙ fetched.own.level_is ∙ ap t.level same_c in
     omega arith

@@ -1,9 +1,10 @@
 -- Nodes whose long sources were looked through.
-use Rattle.std.proofs.Common.{◌≡◌, ℕ, zero, suc, ◌+◌, ◌^◌, ◌<◌, ◌≤◌, Bool, true, false, not, ◌&&◌, cond, List, [], ◌∷◌, ◌++◌, length, drop, refl, sym, ap, subst, ◌∙◌, Option, None, Some, arith, inl, inr, ◌⊎◌}
+use Rattle.std.proofs.Common.{◌≡◌, ℕ, zero, suc, ◌+◌, ◌^◌, ◌<◌, ◌≤◌, Bool, true, false, not, ◌&&◌, cond, List, [], ◌∷◌, ◌++◌, length, take, drop, get_or, refl, sym, ap, subst, ◌∙◌, Option, None, Some, arith, inl, inr, ◌⊎◌}
 use Rattle.std.specs.List.{AllByRecursion, AllZip, flat_map, sum_by}
 use Rattle.std.specs.Option.{option_to_list}
 use Rattle.std.proofs.lemmas.Bool.{cases_lt}
-use Rattle.std.proofs.lemmas.List.Sums.{sum_by-cons}
+use Rattle.std.proofs.lemmas.List.Elements.{all_zip_more}
+use Rattle.std.proofs.lemmas.List.Sums.{sum_by-cons, sum_by_more, sum_by-take-le}
 use Rattle.std.proofs.lemmas.Slice.Zip.{AllZip-long}
 use Rattle.std.specs.Ordering.{is_lt}
 use Rattle.bd_limits.specs.Limits.{key_limit, buffer_limit, edge_limit}
@@ -20,14 +21,14 @@ use Rattle.bd_node.specs.declared.node.Node.TheVariants.{Leaf, Inner}
 use Rattle.bd_node.specs.Nodes.{message_names, edge_names, names, edge_from, child_at, edge_at, node_at}
 use Rattle.bd_node.specs.Meaning.{Nodes, at}
 use Rattle.bd_node.specs.Shape.{end_before, EachEdge, IsChild, IsEdge}
-use Rattle.bd_node.specs.Tables.{Table, IsKept, IsTable, IsLower}
+use Rattle.bd_node.specs.Tables.{Table, IsKept, IsTable, IsLower, IsSound}
 use Rattle.bd_node.proofs.Lookup.{each_first, each_second, each_both}
 use Rattle.bd_node.proofs.Edges.{not_less_lt}
 use Rattle.bd_inner.specs.Clipping.{IsLongEdge, IsLongMessage, IsLong}
 use Rattle.bd_inner.specs.Compaction.{IsLoose}
 use Rattle.bd_resolve.specs.declared.following.Target.{Target}
 use Rattle.bd_resolve.specs.Following.{target_at, IsLowerTarget, IsShort, target_level, target_of}
-use Rattle.bd_copy.specs.Shortening.{edge_way, goto_way, IsKeptTarget, IsShortWay, target_child, target_source, sent_edge, IsShortEdge, IsSameEdge, sent_keys, IsShortGoto, IsShortMessage, IsSameMessage}
+use Rattle.bd_copy.specs.Shortening.{edge_way, goto_way, IsKeptTarget, IsShortWay, target_child, target_source, sent_edge, IsShortEdge, IsSameEdge, sent_keys, IsShortGoto, IsShortMessage, IsSameMessage, CanShorten, IsShortened}
 
 -- ---- what stands at a key
 
@@ -317,3 +318,75 @@ parts_loose t level es fs ms ns ids h more own = record {
   messages = messages_short t ms ns ids more own.messages;
   size = (let few : sum_by size ms ≤ buffer_limit = own.size in omega (arith, sizes_less t ms ns more));
 }
+
+-- ---- the loops
+
+pub zipped_more : {X : Type 0} (R : X → X → Type 0) (xs ys new : List X) (i : ℕ) (x y : X) → i < length xs → x ≡ get_or xs i x → new ≡ ys ++ (y ∷ []) → AllZip R (take i xs) ys → R x y → AllZip R (take (i + 1) xs) new
+zipped_more {X} R xs ys new i x y low read is h own = subst (λ (l : List X). AllZip R (take (i + 1) xs) l) (sym is) (all_zip_more R xs ys i x y low read h own)
+
+pub visits_more : {X : Type 0} (f : Table → X → ℕ) (t m : Table) (xs : List X) (i : ℕ) (x : X) (before mid now : ℕ) → m ≡ t → i < length xs → x ≡ get_or xs i x → mid ≤ before + sum_by (f t) (take i xs) → now ≤ mid + f m x → now ≤ before + sum_by (f t) (take (i + 1) xs)
+visits_more f t m xs i x before mid now same low read h one =
+    let own : f m x ≡ f t (get_or xs i x) = ap (λ u. f u x) same ∙ ap (f t) read in
+    omega (arith, sum_by_more (f t) xs i x low)
+
+pub visits_within : {X : Type 0} (f : Table → X → ℕ) (t m : Table) (xs : List X) (i : ℕ) (x : X) (before mid now : ℕ) → m ≡ t → i < length xs → x ≡ get_or xs i x → mid ≤ before + sum_by (f t) (take i xs) → now ≤ mid + f m x → now ≤ before + sum_by (f t) xs
+visits_within f t m xs i x before mid now same low read h one =
+    let more : now ≤ before + sum_by (f t) (take (i + 1) xs) = visits_more f t m xs i x before mid now same low read h one in
+    omega (arith, sum_by-take-le (f t) xs (i + 1))
+
+pub sound_again : (nodes mid : Nodes) (t m : Table) → mid ≡ nodes → m ≡ t → IsSound nodes t → IsSound mid m
+sound_again nodes mid t m same table sound = subst (λ (f : Nodes). IsSound f m) (sym same) (subst (λ (u : Table). IsSound nodes u) (sym table) sound)
+
+-- ---- the whole node
+
+pub edges_kept : (t : Table) (n : Node) (level : ℕ) (es shown : List Edge) (ms : List Message) → n ≡ Inner level es ms → shown ≡ es → CanShorten t n → AllByRecursion (λ (e : Edge). IsKeptTarget t (edge_way e)) shown
+edges_kept t n level es shown ms is same can =
+    let own : CanShorten t (Inner level es ms) = subst (λ (m : Node). CanShorten t m) is can in
+    subst (λ (l : List Edge). AllByRecursion (λ (e : Edge). IsKeptTarget t (edge_way e)) l) (sym same)
+    (kept_edges t level es (each_first (IsLower t level) (flat_map edge_names es) (flat_map message_names ms) own.lower))
+
+pub messages_kept : (t v : Table) (n : Node) (level : ℕ) (es : List Edge) (ms shown : List Message) → n ≡ Inner level es ms → shown ≡ ms → v ≡ t → CanShorten t n → AllByRecursion (λ (m : Message). IsKeptTarget v (goto_way m)) shown
+messages_kept t v n level es ms shown is same table can =
+    let own : CanShorten t (Inner level es ms) = subst (λ (m : Node). CanShorten t m) is can in
+    subst (λ (u : Table). AllByRecursion (λ (m : Message). IsKeptTarget u (goto_way m)) shown) (sym table)
+    (subst (λ (l : List Message). AllByRecursion (λ (m : Message). IsKeptTarget t (goto_way m)) l) (sym same)
+    (kept_messages t level ms (each_second (IsLower t level) (flat_map edge_names es) (flat_map message_names ms) own.lower)))
+
+-- a node's parts, as they were read, and those in place of them
+pub record AreParts (n : Node) (level : ℕ) (es es_read fs fs_given : List Edge) (ms ms_read ns ns_given : List Message) : Type 0 where
+  pub node_is : n ≡ Inner level es ms
+  pub edges_read : es_read ≡ es
+  pub messages_read : ms_read ≡ ms
+  pub edges_given : fs_given ≡ fs
+  pub messages_given : ns_given ≡ ns
+
+parts_shortened : (t : Table) (level : ℕ) (es fs : List Edge) (ms ns : List Message) → HasIds t → CanShorten t (Inner level es ms) → AllZip (IsShortEdge t) es fs → AllZip (IsShortMessage t) ms ns → IsShortened t (Inner level es ms) (Inner level fs ns)
+parts_shortened t level es fs ms ns ids can h more = record {
+  level_is = refl;
+  edges = h;
+  messages = more;
+  loose = parts_loose t level es fs ms ns ids h more can.shape;
+  size = sizes_less t ms ns more;
+  lower = names_lower t level es fs ms ns h more can.lower;
+}
+
+pub is_shortened : (t v : Table) (n : Node) (level : ℕ) (es es_read fs fs_given : List Edge) (ms ms_read ns ns_given : List Message) → AreParts n level es es_read fs fs_given ms ms_read ns ns_given → HasIds t → CanShorten t n → v ≡ t → AllZip (IsShortEdge t) es_read fs
+    → AllZip (IsShortMessage v) ms_read ns → IsShortened t n (Inner level fs_given ns_given)
+is_shortened t v n level es es_read fs fs_given ms ms_read ns ns_given parts ids can same h more =
+    let own : CanShorten t (Inner level es ms) = subst (λ (m : Node). CanShorten t m) parts.node_is can in
+    subst (λ (m : Node). IsShortened t m (Inner level fs_given ns_given)) (sym parts.node_is)
+    (subst (λ (l : List Edge). IsShortened t (Inner level es ms) (Inner level l ns_given)) (sym parts.edges_given)
+    (subst (λ (l : List Message). IsShortened t (Inner level es ms) (Inner level fs l)) (sym parts.messages_given)
+    (parts_shortened t level es fs ms ns ids own
+    (subst (λ (l : List Edge). AllZip (IsShortEdge t) l fs) parts.edges_read h)
+    (subst (λ (l : List Message). AllZip (IsShortMessage t) l ns) parts.messages_read (subst (λ (u : Table). AllZip (IsShortMessage u) ms_read ns) same more)))))
+
+pub has_same : (nodes mid : Nodes) (n : Node) (level : ℕ) (es es_read fs fs_given : List Edge) (ms ms_read ns ns_given : List Message) → AreParts n level es es_read fs fs_given ms ms_read ns ns_given → mid ≡ nodes → AllZip (IsSameEdge nodes) es_read fs → AllZip (IsSameMessage mid) ms_read ns
+    → (k : List ℕ) → IsKey k → node_at (at nodes) (Inner level fs_given ns_given) k ≡ node_at (at nodes) n k
+has_same nodes mid n level es es_read fs fs_given ms ms_read ns ns_given parts same h more k key =
+    ap (λ (l : List Edge). node_at (at nodes) (Inner level l ns_given) k) parts.edges_given
+    ∙ ap (λ (l : List Message). node_at (at nodes) (Inner level fs l) k) parts.messages_given
+    ∙ parts_same nodes level es fs ms ns k
+    (subst (λ (l : List Edge). AllZip (IsSameEdge nodes) l fs) parts.edges_read h)
+    (subst (λ (l : List Message). AllZip (IsSameMessage nodes) l ns) parts.messages_read (subst (λ (f : Nodes). AllZip (IsSameMessage f) ms_read ns) same more)) key
+    ∙ sym (ap (λ (m : Node). node_at (at nodes) m k) parts.node_is)

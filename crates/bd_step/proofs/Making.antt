@@ -1,5 +1,5 @@
 -- What the way down finds is enough to make a step.
-use Rattle.std.proofs.Common.{◌≡◌, ℕ, List, reverse, ◌<◌, ◌≤◌, sym, ap, subst, ◌∙◌, None, Some, arith, inl, inr}
+use Rattle.std.proofs.Common.{◌≡◌, ℕ, ◌+◌, ◌*◌, List, reverse, ◌<◌, ◌≤◌, sym, ap, subst, ◌∙◌, None, Some, arith, inl, inr}
 use Rattle.std.specs.List.{AllByRecursion}
 use Rattle.bd_limits.specs.Limits.{soft_limit}
 use Rattle.bd_node.specs.declared.node.Edge.{Edge}
@@ -17,8 +17,9 @@ use Rattle.bd_flush.specs.declared.ways.FlushStep.TheVariants.{SplitRoot, SplitC
 use Rattle.bd_flush.specs.Flushed.{IsFlushed}
 use Rattle.bd_flush.specs.Children.{IsFetched, IsContents}
 use Rattle.bd_flush.specs.Pushes.{CanPush, CanPushNew, IsWaitedFor, unseen}
-use Rattle.bd_flush.specs.Copies.{HasChild}
 use Rattle.bd_flush.specs.Carving.{CanCarve}
+use Rattle.bd_copy.specs.Copying.{HasChild}
+use Rattle.bd_copy.proofs.Copied.{child_lower}
 use Rattle.bd_flush.specs.Ways.{IsFullestAt, IsHigh, IsThere, AreThere, IsToDo, IsToDoAt, IsWayThere}
 use Rattle.bd_node.proofs.Lookup.{each_weaker}
 use Rattle.bd_flush.proofs.Abundance.{abundant}
@@ -89,6 +90,14 @@ has_child t above parent place h = record {
   child = h.0.child;
   child_is = h.0.child_is;
 }
+
+pub privatise_few : (t : Table) (above : List Fetched) (parent : Fetched) (place before now : ℕ) → IsToDo t (Privatise above parent place) → ((e : Edge) (child : ℕ) → IsEdgeAt parent.node.value place e → e.child ≡ Some child → now ≤ before + (2 + 17 * t.level child))
+    → now ≤ before + (4 + 17 * t.level t.root)
+privatise_few t above parent place before now h few =
+    let visits : now ≤ before + (2 + 17 * t.level h.0.child) = few h.0.edge h.0.child h.0.here h.0.child_is in
+    let lower : t.level h.0.child < t.level parent.id = (child_lower t parent place h.0.child h.0.edge h.0.parent_is h.0.here h.0.child_is).lower in
+    let under : t.level parent.id ≤ t.level t.root = h.1.under in
+    omega arith
 
 -- ---- abundance
 

@@ -13,9 +13,9 @@ use Rattle.bd_flush.specs.Splits.{IsSplitRoot, IsRaised}
 use Rattle.bd_flush.specs.Children.{IsNoHigher}
 use Rattle.bd_flush.specs.Between.{IsSplitChild, IsHighAfterSplit, IsHardlyHigher}
 use Rattle.bd_flush.specs.Pushes.{IsPushed, IsPushedBetween, IsPushedNew, IsLongPush}
-use Rattle.bd_flush.specs.Copies.{IsPrivatised}
 use Rattle.bd_flush.specs.Carving.{IsCarvedAt}
 use Rattle.bd_flush.specs.Ways.{IsToDo, IsToDoAt}
+use Rattle.bd_copy.specs.Copying.{IsPrivatised}
 
 -- ---- the kinds of a step
 

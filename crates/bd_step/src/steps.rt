@@ -9,9 +9,9 @@ ghost use Rattle.bd_flush.specs.Raising.{IsWayUp};
 ghost use Rattle.bd_flush.specs.Ways.{IsToDo, IsToDoAt, AreThere, IsWayOf, IsWayThere};
 ghost use Rattle.bd_step.specs.Steps.{IsMade, IsHighAfter, IsFlushStep, IsFound, step_visits};
 
+use bd_copy::privatise;
 use bd_flush::{
-    Fetched, FlushStep, Privatised, Way, carve, next_step, privatise, push, push_new, split_child,
-    split_root,
+    Fetched, FlushStep, Way, carve, next_step, push, push_new, split_child, split_root,
 };
 use bd_message::MapFault;
 use bd_node::NodeStore;
@@ -92,13 +92,7 @@ fn make<S: NodeStore>(alloc: Global, store: &mut S, step: FlushStep) -> Result<(
             place,
             child,
         } => push_down(alloc, store, above, parent, place, child),
-        FlushStep::Privatise { parent, place, .. } => {
-            match privatise(alloc, store, &parent, place)? {
-                Privatised::Done => Ok(()),
-                // A stand-in: the copy will have its long sources looked through.
-                Privatised::LongSource => Err(MapFault::NoMemory),
-            }
-        }
+        FlushStep::Privatise { parent, place, .. } => privatise(alloc, store, &parent, place),
         FlushStep::Carve { parent, place, .. } => carve(alloc, store, &parent, place),
     }
 }
