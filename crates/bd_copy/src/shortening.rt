@@ -165,10 +165,8 @@ fn short_message<S: NodeStore>(
             let target = short_way(alloc, store, *child, source)?;
             Ok(sent_keys(alloc, prefix, target)?)
         }
-        Message::Put { .. }
-        | Message::Del { .. }
-        | Message::Patch { .. }
-        | Message::Cut { .. } => Ok(copy(message)?),
+        Message::Put { .. } | Message::Del { .. } | Message::Patch { .. } | Message::Cut { .. } =>
+            Ok(copy(message)?),
     }
 }
 
