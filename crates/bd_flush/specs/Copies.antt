@@ -1,20 +1,12 @@
 -- A copy that becomes the child of an edge alone.
-use Rattle.std.specs.Prelude.{◌≡◌, ℕ, ◌+◌, ◌<◌, ◌≤◌, List, [], ◌∷◌, ◌++◌, length, Some}
-use Rattle.std.specs.List.{AllByRecursion}
-use Rattle.bd_limits.specs.Limits.{key_limit}
+use Rattle.std.specs.Prelude.{◌≡◌, ℕ, ◌+◌, ◌<◌, List, [], ◌∷◌, ◌++◌, Some}
 use Rattle.bd_keys.specs.Keys.{IsKey}
-use Rattle.bd_message.specs.declared.message.Message.{Message}
-use Rattle.bd_message.specs.Effect.{NodesAt}
-use Rattle.bd_message.specs.Freeing.{source_of}
 use Rattle.bd_node.specs.declared.node.Edge.{Edge}
 use Rattle.bd_node.specs.declared.node.Node.{Node}
 use Rattle.bd_node.specs.declared.node.Step.{Step}
-use Rattle.bd_node.specs.Nodes.{level_of, times, node_at}
+use Rattle.bd_node.specs.Nodes.{level_of, node_at}
 use Rattle.bd_node.specs.Meaning.{Nodes, at}
-use Rattle.bd_node.specs.Shape.{IsShape}
 use Rattle.bd_node.specs.Tables.{Table, IsNodeOf}
-use Rattle.bd_inner.specs.Halves.{edges_of, buffer_of}
-use Rattle.bd_inner.specs.Clipping.{IsClipped}
 use Rattle.bd_inner.specs.Compaction.{IsCompacted}
 use Rattle.bd_inner.specs.Exchange.{exchanged, IsEdgeAt, way_to}
 use Rattle.bd_flush.specs.declared.fetching.Fetched.{Fetched}
@@ -64,54 +56,3 @@ pub record IsCopyPut (t : Table) (parent : Fetched) (place : ℕ) (copy : Node) 
   pub parent_is : new parent.id ≡ Some node
   pub copy_is : new t.next ≡ Some copy
   pub next : u.next ≡ t.next + 1
-
--- ---- nodes freed of a prefix
-
--- no source has more than 518 bytes
-pub record AreShort (n : Node) : Type 0 where
-  pub edges : AllByRecursion (λ (e : Edge). length e.source ≤ key_limit) (edges_of n)
-  pub messages : AllByRecursion (λ (m : Message). length (source_of m) ≤ key_limit) (buffer_of n)
-
--- a well-formed node that has at each key what another has at a prefix and the key
-pub record IsFreed (n : Node) (s : List ℕ) (m : Node) : Type 0 where
-  pub shape : IsShape m
-  pub level_is : level_of m ≡ level_of n
-  pub meaning : (below : NodesAt) (k : List ℕ) → node_at below m k ≡ node_at below n (s ++ k)
-  pub names : (c : ℕ) → times m c ≤ times n c
-
--- freed of the prefix, the node would have a source of more than 518 bytes
-abbrev pub HasLongSource : Node → List ℕ → Type 0
-HasLongSource n s = (m : Node) × IsClipped n s m × (¬ AreShort m)
-
--- ---- a child that is copied
-
--- a fetched node whose edge at a place has a child
-pub record HasChild (t : Table) (parent : Fetched) (place : ℕ) : Type 0 where
-  pub parent_is : IsFetched t parent
-  pub edge : Edge
-  pub here : IsEdgeAt parent.node.value place edge
-  pub child : ℕ
-  pub child_is : edge.child ≡ Some child
-
--- the edge's child is copied, freed of the edge's source, and the edge asks the copy alone
-pub record IsPrivatised (nodes : Nodes) (t : Table) (parent : Fetched) (place : ℕ) (new : Nodes)
-    (u : Table) : Type 0 where
-  pub edge : Edge
-  pub here : IsEdgeAt parent.node.value place edge
-  pub child : ℕ
-  pub child_is : edge.child ≡ Some child
-  pub old : Node
-  pub there : nodes child ≡ Some old
-  pub copy : Node
-  pub freed : IsFreed old edge.source copy
-  pub put : IsCopyPut t parent place copy new u
-
--- the copy of the edge's child would have a source of more than 518 bytes
-pub record IsTooLong (nodes : Nodes) (parent : Fetched) (place : ℕ) : Type 0 where
-  pub edge : Edge
-  pub here : IsEdgeAt parent.node.value place edge
-  pub child : ℕ
-  pub child_is : edge.child ≡ Some child
-  pub old : Node
-  pub there : nodes child ≡ Some old
-  pub long : HasLongSource old edge.source

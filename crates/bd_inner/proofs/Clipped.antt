@@ -20,7 +20,7 @@ use Rattle.bd_inner.specs.Compaction.{IsLoose}
 use Rattle.bd_inner.specs.Clipping.{IsLongEdge, IsLongMessage, IsLong, IsStart, count_before, count_within, source_below, clipped_edge, inside_edge, AreClippedEdges, IsClipped}
 use Rattle.bd_inner.proofs.Compacting.{count_names, count_names-append}
 use Rattle.bd_inner.proofs.Splitting.{rising}
-use Rattle.bd_inner.proofs.FreedMessages.{all_freed, map_drop, acts_unseen, seen_within, freed_fit, freed_longs, freed_ones, freed_count}
+use Rattle.bd_inner.proofs.FreedMessages.{all_freed, map_drop, acts_unseen, seen_within, freed_fit, freed_longs, freed_later, freed_ones, freed_count}
 use Rattle.bd_inner.proofs.ClippedEdges.{IsFrom, from_facts, least_begun, clipped_child, IsSame, same_edge, long_all, clipped_count, clipped_ones, clipped_few}
 
 -- what an edge has behind the prefix
@@ -62,6 +62,7 @@ clipped_parts level e es buffer s start first others h key short start_is is =
           ∙ sym (ap (λ (x : Edge). edge_at below x buffer (s ++ k)) (from.at (s ++ k) (least_begun s k)));
       edges = clipped_ones s parts start place n (e ∷ es) first others is;
       messages = freed_ones s start buffer;
+      later = freed_later s start buffer h.messages start_is;
       names = λ c.
           let new_edges : List Edge = clipped_edge s parts start [] first ∷ map (inside_edge s parts start) (take n others) in
           let a : count_names c (flat_map edge_names new_edges) ≤ count_names c (flat_map edge_names (e ∷ es)) = clipped_count c s parts start place n (e ∷ es) first others is in

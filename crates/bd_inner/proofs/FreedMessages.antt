@@ -270,13 +270,16 @@ fits_from : (s : List ℕ) (ms : List Message) → length s ≤ key_limit → Al
 fits_from s [] short own none fits = omega arith
 fits_from s (m ∷ ms) short own none fits = fitting s m ms short own.0 (λ i n there. none (suc i) n (omega arith) there) fits
 
+-- none of those after the newest that decides all does
+newer_dropped : (s : List ℕ) (start : ℕ) (ms : List Message) → IsStart (map (freed s) ms) start → (i : ℕ) (n : Message) → 1 ≤ i → slice_get (map (freed s) (drop start ms)) i ≡ Some (Some n) → ¬ CoversAll n
+newer_dropped s start ms h i n some there =
+    h.newer (start + i) n (omega arith)
+    (sym (dropped_at start i (map (freed s) ms)) ∙ ap (λ (l : List (Option Message)). slice_get l i) (map_drop s start ms) ∙ there)
+
 pub freed_fit : (s : List ℕ) (start : ℕ) (ms : List Message) → length s ≤ key_limit → AllByRecursion IsMessage ms → IsStart (map (freed s) ms) start → sum_by size ms ≤ buffer_limit → sum_by size (all_freed s (drop start ms)) ≤ buffer_limit
 freed_fit s start ms short own h fits =
     let less : sum_by size (drop start ms) ≤ sum_by size ms = drop_sum start ms in
-    fits_from s (drop start ms) short (each_dropped IsMessage start ms own)
-    (λ i n some there. h.newer (start + i) n (omega arith)
-    (sym (dropped_at start i (map (freed s) ms)) ∙ ap (λ (l : List (Option Message)). slice_get l i) (map_drop s start ms) ∙ there))
-    (omega arith)
+    fits_from s (drop start ms) short (each_dropped IsMessage start ms own) (newer_dropped s start ms h) (omega arith)
 
 -- ---- what they are
 
@@ -310,6 +313,44 @@ all_long s (m ∷ ms) h = some_all IsLongMessage (freed s m) (all_freed s ms) (f
 
 pub freed_longs : (s : List ℕ) (start : ℕ) (ms : List Message) → AllByRecursion IsMessage ms → AllByRecursion IsLongMessage (all_freed s (drop start ms))
 freed_longs s start ms h = all_long s (drop start ms) (each_dropped IsMessage start ms h)
+
+-- but for the oldest, none of them has a source of more than 518 bytes
+short_of : (m : Message) → IsMessage m → length (source_of m) ≤ key_limit
+short_of (Put key value) h = omega arith
+short_of (Del key) h = omega arith
+short_of (Patch key off bytes) h = omega arith
+short_of (Cut prefix from) h = omega arith
+short_of (Goto prefix source child) h = h.1
+
+covers_or_short : (s : List ℕ) (m : Message) → IsMessage m → IfSome (freed s m) (λ n. CoversAll n ⊎ (length (source_of n) ≤ key_limit))
+covers_or_short s m own =
+    if_freed (λ n. CoversAll n ⊎ (length (source_of n) ≤ key_limit)) s m (λ h. inr (short_of (stripped s m) (stripped_message s m own)))
+    (λ p x f is within any. inr (omega arith))
+    (λ p source child is within. inl refl)
+
+uncovering_short : (o : Option Message) → ((n : Message) → o ≡ Some n → ¬ CoversAll n) → IfSome o (λ n. CoversAll n ⊎ (length (source_of n) ≤ key_limit)) → IfSome o (λ n. length (source_of n) ≤ key_limit)
+uncovering_short None none h = tt
+uncovering_short (Some n) none h = elim h [ inl covers ↦ absurd (none n refl covers) | inr short ↦ short ]
+
+all_short : (s : List ℕ) (ms : List Message) → AllByRecursion IsMessage ms → NoneCovers s ms → AllByRecursion (λ (n : Message). length (source_of n) ≤ key_limit) (all_freed s ms)
+all_short s [] h none = tt
+all_short s (m ∷ ms) h none =
+    some_all (λ (n : Message). length (source_of n) ≤ key_limit) (freed s m) (all_freed s ms)
+    (uncovering_short (freed s m) (λ n is. none 0 n (ap Some is)) (covers_or_short s m h.0))
+    (all_short s ms h.1 (λ i n there. none (suc i) n there))
+
+without_first : (P : Message → Type 0) (o : Option Message) (list : List Message) → AllByRecursion P list → AllByRecursion P (drop 1 (option_to_list o ++ list))
+without_first P None list h = each_dropped P 1 list h
+without_first P (Some n) list h = h
+
+later_from : (s : List ℕ) (ms : List Message) → AllByRecursion IsMessage ms → ((i : ℕ) (n : Message) → 1 ≤ i → slice_get (map (freed s) ms) i ≡ Some (Some n) → ¬ CoversAll n) → AllByRecursion (λ (n : Message). length (source_of n) ≤ key_limit) (drop 1 (all_freed s ms))
+later_from s [] own none = tt
+later_from s (m ∷ ms) own none =
+    without_first (λ (n : Message). length (source_of n) ≤ key_limit) (freed s m) (all_freed s ms)
+    (all_short s ms own.1 (λ i n there. none (suc i) n (omega arith) there))
+
+pub freed_later : (s : List ℕ) (start : ℕ) (ms : List Message) → AllByRecursion IsMessage ms → IsStart (map (freed s) ms) start → AllByRecursion (λ (n : Message). length (source_of n) ≤ key_limit) (drop 1 (all_freed s (drop start ms)))
+freed_later s start ms own h = later_from s (drop start ms) (each_dropped IsMessage start ms own) (newer_dropped s start ms h)
 
 one_of_them : (s : List ℕ) (buffer : List Message) (m : Message) (i : ℕ) (o : Option Message) → slice_get buffer i ≡ Some m → freed s m ≡ o → IfSome o (IsFreedMessage s buffer)
 one_of_them s buffer m i None there is = tt

@@ -1,7 +1,7 @@
 use Rattle.std.proofs.Common.{subst}
 use Rattle.bd_flush.specs.declared.ways.FlushStep.{FlushStep}
 use Rattle.bd_flush.specs.Ways.{IsToDo, IsToDoAt, IsWayThere}
-use Rattle.bd_step.proofs.Making.{can_carve, has_child, root_found, way_stands}
+use Rattle.bd_step.proofs.Making.{can_carve, has_child, privatise_few, root_found, way_stands}
 use Rattle.bd_step.proofs.steps.make.Goals as goal
 
 pub split_root-requires-clause-there : goal.split_root-requires-clause-there
@@ -28,3 +28,8 @@ pub privatise-requires-clause-can : goal.privatise-requires-clause-can
 privatise-requires-clause-can g c =
     has_child (g.S.NodeStore.table c.args.store.now) c.in-Privatise.above c.in-Privatise.parent c.in-Privatise.place
     (subst (λ (s : FlushStep). IsToDo (g.S.NodeStore.table c.args.store.now) s) c.in-Privatise.is c.requires.to_do)
+
+pub returns-in-Privatise-clause-few_visits : goal.returns-in-Privatise-clause-few_visits
+returns-in-Privatise-clause-few_visits g c =
+    privatise_few (g.S.NodeStore.table c.args.store.now) c.in-Privatise.above c.in-Privatise.parent c.in-Privatise.place (g.S.NodeStore.visit_count c.args.store.now) (g.S.NodeStore.visit_count c.privatise.new.store)
+    (subst (λ (s : FlushStep). IsToDo (g.S.NodeStore.table c.args.store.now) s) c.in-Privatise.is c.requires.to_do) c.privatise.ensures.few_visits

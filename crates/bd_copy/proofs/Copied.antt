@@ -1,0 +1,306 @@
+-- A child's copy.
+use Rattle.std.proofs.Common.{◌≡◌, ℕ, zero, suc, ◌+◌, ◌*◌, ◌<◌, ◌≤◌, Bool, true, false, cond, List, [], ◌∷◌, ◌++◌, length, drop, refl, sym, ap, subst, ◌∙◌, Option, None, Some, Result, Ok, Err, OnOk, OnErr, arith, get_or}
+use Rattle.std.specs.Prelude.{nat_lt}
+use Rattle.std.specs.List.{AllByRecursion, flat_map, sum_by}
+use Rattle.std.specs.Option.{option_to_list}
+use Rattle.std.proofs.lemmas.Bool.{le-ltb}
+use Rattle.std.proofs.lemmas.List.Sums.{sum_by-cons}
+use Rattle.std.proofs.lemmas.Option.{same_Some, slice_get_within}
+use Rattle.bd_limits.specs.Limits.{key_limit, leaf_limit, edge_limit}
+use Rattle.bd_keys.specs.Keys.{IsKey}
+use Rattle.bd_keys.proofs.Order.{IsKey-cons, IsKey-rest}
+use Rattle.bd_message.specs.declared.message.Message.{Message}
+use Rattle.bd_message.specs.declared.message.Message.TheVariants.{Put, Del, Patch, Cut, Goto}
+use Rattle.bd_message.specs.Freeing.{source_of}
+use Rattle.bd_leaf.specs.Leaves.{entries_size}
+use Rattle.bd_leaf.specs.Leaves.{IsClipped as IsClippedLeaf}
+use Rattle.bd_node.specs.declared.node.Edge.{Edge}
+use Rattle.bd_node.specs.declared.node.Entry.{Entry}
+use Rattle.bd_node.specs.declared.node.Node.{Node}
+use Rattle.bd_node.specs.declared.node.Node.TheVariants.{Leaf, Inner}
+use Rattle.bd_node.specs.Nodes.{level_of, message_names, edge_names, names, times, node_at}
+use Rattle.bd_node.specs.Meaning.{Nodes, at}
+use Rattle.bd_node.specs.Shape.{IsLeaf, IsShape}
+use Rattle.bd_node.specs.Tables.{Table, IsKept, IsLower, IsNodeOf, IsSound}
+use Rattle.bd_node.specs.Stores.{visited}
+use Rattle.bd_node.proofs.Lookup.{named_has, each_named, each_first, each_second, node_has-key}
+use Rattle.bd_node.proofs.Meanings.{at-meets}
+use Rattle.bd_node.proofs.Sound.{sound-levelled}
+use Rattle.bd_inner.specs.Clipping.{IsClipped}
+use Rattle.bd_inner.specs.Compaction.{IsCompacted}
+use Rattle.bd_inner.specs.Exchange.{exchanged, IsEdgeAt}
+use Rattle.bd_inner.specs.Halves.{edges_of, buffer_of}
+use Rattle.bd_inner.proofs.Compacting.{count_names, count_names-append, compacted_shape, compacted_level, compacted_meaning, compacted_times}
+use Rattle.bd_inner.proofs.Fitting.{own_shape}
+use Rattle.bd_resolve.specs.declared.following.Target.{Target}
+use Rattle.bd_resolve.specs.Following.{IsLowerTarget}
+use Rattle.bd_flush.specs.declared.fetching.Fetched.{Fetched}
+use Rattle.bd_flush.specs.Children.{IsFetched}
+use Rattle.bd_flush.specs.Copies.{CanPutCopy, IsCopyFor, IsCopyAt, IsCopyPut}
+use Rattle.bd_flush.proofs.ChildSplits.{exchanged_same, inner_of, count_own, exchanged_named, edge_here}
+use Rattle.bd_copy.specs.Shortening.{edge_way, goto_way, way_visits, CanShorten, IsShortened}
+use Rattle.bd_copy.specs.Copying.{IsLeafCopy, IsInnerCopy, IsCopyOf, HasChild, IsPrivatised}
+use Rattle.bd_copy.proofs.Shortened.{option_lower, goto_lower}
+
+-- ---- a clipped node
+
+clipped_lower : (t : Table) (n m : Node) (s : List ℕ) → IsNodeOf t (level_of n) n → IsClipped n s m → AllByRecursion (IsLower t (level_of n)) (names m)
+clipped_lower t n m s own h =
+    each_named (IsLower t (level_of n)) (names m) (λ x one.
+    let less : times m x ≤ times n x = h.names x in
+    named_has (IsLower t (level_of n)) x (names n) own.lower (omega arith))
+
+pub can_shorten : (t : Table) (n m : Node) (s : List ℕ) → IsNodeOf t (level_of n) n → IsClipped n s m → CanShorten t m
+can_shorten t n m s own h = record {
+  shape = h.shape;
+  lower = subst (λ (l : ℕ). AllByRecursion (IsLower t l) (names m)) (sym h.level_is) (clipped_lower t n m s own h);
+}
+
+-- ---- how many nodes are looked through
+
+either_few : (b : Bool) (l level : ℕ) → l ≤ level → cond b l 0 ≤ level
+either_few true l level h = h
+either_few false l level h = omega arith
+
+way_few : (t : Table) (level : ℕ) (target : Option Target) → IsLowerTarget t level target → way_visits t target ≤ level
+way_few t level None h = omega arith
+way_few t level (Some target) h =
+    either_few (nat_lt key_limit (length target.source)) (t.level target.child) level (let low : t.level target.child < level = h.lower in omega arith)
+
+edges_few : (t : Table) (level n : ℕ) (es : List Edge) → length es ≤ n → AllByRecursion (IsLower t level) (flat_map edge_names es) → sum_by (λ e. way_visits t (edge_way e)) es ≤ n * level
+edges_few t level n [] few h = omega arith
+edges_few t level zero (e ∷ es) few h = absurd (omega arith)
+edges_few t level (suc n) (e ∷ es) few h =
+    let first : way_visits t (edge_way e) ≤ level = way_few t level (edge_way e) (option_lower t level e.child e.source (each_first (IsLower t level) (edge_names e) (flat_map edge_names es) h)) in
+    let others : sum_by (λ (d : Edge). way_visits t (edge_way d)) es ≤ n * level = edges_few t level n es (omega arith) (each_second (IsLower t level) (edge_names e) (flat_map edge_names es) h) in
+    omega (arith, sum_by-cons (λ (d : Edge). way_visits t (edge_way d)) e es)
+
+none_short : (t : Table) (m : Message) → length (source_of m) ≤ key_limit → way_visits t (goto_way m) ≡ 0
+none_short t (Put key value) h = refl
+none_short t (Del key) h = refl
+none_short t (Patch key off bytes) h = refl
+none_short t (Cut prefix from) h = refl
+none_short t (Goto prefix source child) h = ap (λ (b : Bool). cond b (t.level child) 0) (le-ltb key_limit (length source) h)
+
+all_none : (t : Table) (ms : List Message) → AllByRecursion (λ (m : Message). length (source_of m) ≤ key_limit) ms → sum_by (λ m. way_visits t (goto_way m)) ms ≡ 0
+all_none t [] h = refl
+all_none t (m ∷ ms) h = omega (arith, sum_by-cons (λ (l : Message). way_visits t (goto_way l)) m ms, none_short t m h.0, all_none t ms h.1)
+
+messages_few : (t : Table) (level : ℕ) (ms : List Message) → AllByRecursion (λ (m : Message). length (source_of m) ≤ key_limit) (drop 1 ms) → AllByRecursion (IsLower t level) (flat_map message_names ms) → sum_by (λ m. way_visits t (goto_way m)) ms ≤ level
+messages_few t level [] later h = omega arith
+messages_few t level (m ∷ ms) later h =
+    let first : way_visits t (goto_way m) ≤ level = way_few t level (goto_way m) (goto_lower t level m (each_first (IsLower t level) (message_names m) (flat_map message_names ms) h)) in
+    omega (arith, sum_by-cons (λ (l : Message). way_visits t (goto_way l)) m ms, all_none t ms later)
+
+few_in : (t : Table) (level : ℕ) (m : Node) → length (edges_of m) ≤ edge_limit → AllByRecursion (λ (l : Message). length (source_of l) ≤ key_limit) (drop 1 (buffer_of m)) → AllByRecursion (IsLower t level) (names m)
+    → sum_by (λ e. way_visits t (edge_way e)) (edges_of m) + sum_by (λ l. way_visits t (goto_way l)) (buffer_of m) ≤ 17 * level
+few_in t level (Leaf entries) few later h = omega arith
+few_in t level (Inner own es ms) few later h =
+    let a : sum_by (λ (e : Edge). way_visits t (edge_way e)) es ≤ 16 * level = edges_few t level 16 es few (each_first (IsLower t level) (flat_map edge_names es) (flat_map message_names ms) h) in
+    let b : sum_by (λ (l : Message). way_visits t (goto_way l)) ms ≤ level = messages_few t level ms later (each_second (IsLower t level) (flat_map edge_names es) (flat_map message_names ms) h) in
+    omega arith
+
+pub few_long : (t : Table) (n m : Node) (s : List ℕ) → IsNodeOf t (level_of n) n → IsClipped n s m → sum_by (λ e. way_visits t (edge_way e)) (edges_of m) + sum_by (λ l. way_visits t (goto_way l)) (buffer_of m) ≤ 17 * level_of n
+few_long t n m s own h = few_in t (level_of n) m h.shape.few h.later (clipped_lower t n m s own h)
+
+-- ---- what the copy is
+
+-- a clipped node, what became of it, and what is stored
+pub record IsWayOfCopy (t : Table) (n : Node) (s : List ℕ) (clipped short copy : Node) : Type 0 where
+  pub own : IsNodeOf t (level_of n) n
+  pub clip : IsClipped n s clipped
+  pub shortened : IsShortened t clipped short
+  pub compacted : IsCompacted short copy
+
+copy_level : (t : Table) (n : Node) (s : List ℕ) (clipped short copy : Node) → IsWayOfCopy t n s clipped short copy → level_of copy ≡ level_of n
+copy_level t n s clipped short copy h = compacted_level short copy h.compacted ∙ h.shortened.level_is ∙ h.clip.level_is
+
+pub copy_own : (t : Table) (n : Node) (s : List ℕ) (clipped short copy : Node) → IsWayOfCopy t n s clipped short copy → IsNodeOf t (level_of n) copy
+copy_own t n s clipped short copy h = record {
+  shape = compacted_shape short copy h.shortened.loose h.compacted;
+  level_is = copy_level t n s clipped short copy h;
+  lower = each_named (IsLower t (level_of n)) (names copy) (λ x one.
+      let less : times copy x ≤ times short x = compacted_times short copy h.compacted x in
+      subst (λ (l : ℕ). IsLower t l x) (h.shortened.level_is ∙ h.clip.level_is)
+      (named_has (IsLower t (level_of short)) x (names short) h.shortened.lower (omega arith)));
+}
+
+pub copy_has : (nodes : Nodes) (t : Table) (n : Node) (s : List ℕ) (clipped short copy : Node) → IsWayOfCopy t n s clipped short copy → ((k : List ℕ) → IsKey k → node_at (at nodes) short k ≡ node_at (at nodes) clipped k) → (k : List ℕ) → IsKey k → node_at (at nodes) copy k ≡ node_at (at nodes) n (s ++ k)
+copy_has nodes t n s clipped short copy h same k key =
+    compacted_meaning (at nodes) short copy h.shortened.loose h.compacted k ∙ same k key ∙ h.clip.meaning (at nodes) k
+
+-- ---- the child
+
+edges_named : (n : Node) (c : ℕ) → count_names c (flat_map edge_names (edges_of n)) ≤ times n c
+edges_named (Leaf entries) c = omega arith
+edges_named (Inner level es buffer) c = omega (arith, count_names-append c (flat_map edge_names es) (flat_map message_names buffer))
+
+edge_named : (n : Node) (place c : ℕ) (e : Edge) → IsShape n → IsEdgeAt n place e → e.child ≡ Some c → 1 ≤ times n c
+edge_named n place c e h here child_is =
+    let one : count_names c (flat_map edge_names (e ∷ [])) ≡ 1 = ap (λ (o : Option ℕ). count_names c (option_to_list o ++ [])) child_is ∙ count_own c in
+    let most : count_names c (flat_map edge_names (e ∷ [])) ≤ count_names c (flat_map edge_names (edges_of (exchanged n place (e ∷ [])))) = exchanged_named n place (e ∷ []) c (inner_of n place e h here) in
+    let same : count_names c (flat_map edge_names (edges_of (exchanged n place (e ∷ [])))) ≡ count_names c (flat_map edge_names (edges_of n)) = ap (λ (m : Node). count_names c (flat_map edge_names (edges_of m))) (exchanged_same n place e here) in
+    let less : count_names c (flat_map edge_names (edges_of n)) ≤ times n c = edges_named n c in
+    omega arith
+
+pub child_lower : (t : Table) (parent : Fetched) (place id : ℕ) (e : Edge) → IsFetched t parent → IsEdgeAt parent.node.value place e → e.child ≡ Some id → IsLower t (t.level parent.id) id
+child_lower t parent place id e own here child =
+    named_has (IsLower t (t.level parent.id)) id (names parent.node.value) own.own.lower (edge_named parent.node.value place id e own.own.shape here child)
+
+-- an edge of a fetched node, as it is read, and its child
+pub record IsChildRead (t : Table) (parent : Fetched) (place : ℕ) (e : Edge) (id : ℕ) : Type 0 where
+  pub parent_is : IsFetched t parent
+  pub here : IsEdgeAt parent.node.value place e
+  pub child_is : e.child ≡ Some id
+
+pub child_read : (t : Table) (parent : Fetched) (place id : ℕ) (shown : Node) (es : List Edge) (e : Edge) → HasChild t parent place → shown ≡ parent.node.value → es ≡ edges_of shown → e ≡ get_or es place e → e.child ≡ Some id → IsChildRead t parent place e id
+child_read t parent place id shown es e can same es_is read child = record {
+  parent_is = can.parent_is;
+  here = edge_here es parent.node.value place e (es_is ∙ ap edges_of same) (slice_get_within (edges_of parent.node.value) place can.edge can.here) read;
+  child_is = child;
+}
+
+pub kept_child : (t : Table) (parent : Fetched) (place id : ℕ) (e : Edge) → IsChildRead t parent place e id → IsKept t id
+kept_child t parent place id e h = (child_lower t parent place id e h.parent_is h.here h.child_is).kept
+
+pub source_short : (t : Table) (parent : Fetched) (place id : ℕ) (e : Edge) (s : List ℕ) → IsChildRead t parent place e id → s ≡ e.source → length s ≤ key_limit
+source_short t parent place id e s h is = subst (λ (l : List ℕ). length l ≤ key_limit) (sym is) (own_shape parent.node.value place e h.parent_is.own.shape h.here).source
+
+-- ---- the copy of a fetched child
+
+-- a child that was fetched, and its copy
+pub record IsCopyRead (t : Table) (parent : Fetched) (place : ℕ) (e : Edge) (child : Fetched) (copy : Node) : Type 0 where
+  pub read : IsChildRead t parent place e child.id
+  pub fetched : IsFetched t child
+  pub copied : IsCopyOf t child.node.value e.source copy
+  pub own : IsNodeOf t (level_of child.node.value) copy
+
+-- how an edge's child was fetched and copied
+pub record IsCopying (t v : Table) (parent : Fetched) (place : ℕ) (e : Edge) (id : ℕ) (child : Fetched) (shown : Node) (s : List ℕ) (copy : Node) : Type 0 where
+  pub read : IsChildRead t parent place e id
+  pub id_is : child.id ≡ id
+  pub fetched : IsFetched t child
+  pub table_is : v ≡ t
+  pub shown_is : shown ≡ child.node.value
+  pub source_is : s ≡ e.source
+  pub copied : IsCopyOf v shown s copy
+  pub own : IsNodeOf v (level_of shown) copy
+  pub bytes : IsKey s
+
+copy_read : (t v : Table) (parent : Fetched) (place : ℕ) (e : Edge) (id : ℕ) (child : Fetched) (shown : Node) (s : List ℕ) (copy : Node) → IsCopying t v parent place e id child shown s copy → IsCopyRead t parent place e child copy
+copy_read t v parent place e id child shown s copy h = record {
+  read = subst (λ (i : ℕ). IsChildRead t parent place e i) (sym h.id_is) h.read;
+  fetched = h.fetched;
+  copied = subst (λ (l : List ℕ). IsCopyOf t child.node.value l copy) h.source_is
+      (subst (λ (n : Node). IsCopyOf t n s copy) h.shown_is (subst (λ (u : Table). IsCopyOf u shown s copy) h.table_is h.copied));
+  own = subst (λ (n : Node). IsNodeOf t (level_of n) copy) h.shown_is (subst (λ (u : Table). IsNodeOf u (level_of shown) copy) h.table_is h.own);
+}
+
+can_put : (t : Table) (parent : Fetched) (place : ℕ) (e : Edge) (child : Fetched) (copy : Node) → IsCopyRead t parent place e child copy → CanPutCopy t parent place copy
+can_put t parent place e child copy h =
+    let level : level_of copy ≡ level_of child.node.value = h.own.level_is in
+    let at : level_of child.node.value ≡ t.level child.id = h.fetched.own.level_is in
+    let above : level_of parent.node.value ≡ t.level parent.id = h.read.parent_is.own.level_is in
+    let down : t.level child.id < t.level parent.id = (child_lower t parent place child.id e h.read.parent_is h.read.here h.read.child_is).lower in
+    record {
+      parent_is = h.read.parent_is;
+      edge = e;
+      here = h.read.here;
+      child = child.id;
+      child_is = h.read.child_is;
+      own = record {
+        shape = h.own.shape;
+        level_is = refl;
+        lower = subst (λ (l : ℕ). AllByRecursion (IsLower t l) (names copy)) (sym level) h.own.lower;
+      };
+      lower = omega arith;
+    }
+
+pub put_again : (t v w : Table) (parent : Fetched) (place : ℕ) (e : Edge) (id : ℕ) (child : Fetched) (shown : Node) (s : List ℕ) (copy : Node) → IsCopying t v parent place e id child shown s copy → w ≡ t → CanPutCopy w parent place copy
+put_again t v w parent place e id child shown s copy h same =
+    subst (λ (u : Table). CanPutCopy u parent place copy) (sym same) (can_put t parent place e child copy (copy_read t v parent place e id child shown s copy h))
+
+-- bytes after bytes are bytes
+IsKey-append : (s k : List ℕ) → IsKey s → IsKey k → IsKey (s ++ k)
+IsKey-append [] k hs hk = hk
+IsKey-append (b ∷ s) k hs hk = IsKey-cons b (s ++ k) (hs 0) (IsKey-append s k (IsKey-rest b s hs) hk)
+
+copy_for : (nodes : Nodes) (t : Table) (e : Edge) (c : ℕ) (n copy : Node) → IsSound nodes t → e.child ≡ Some c → nodes c ≡ Some n → IsKey e.source → ((k : List ℕ) → IsKey k → node_at (at nodes) copy k ≡ node_at (at nodes) n (e.source ++ k)) → IsCopyFor nodes e copy
+copy_for nodes t e c n copy sound child there bytes has x child_x k key =
+    let same : c ≡ x = same_Some c x (sym child ∙ child_x) in
+    subst (λ (i : ℕ). node_at (at nodes) copy k ≡ at nodes i (e.source ++ k)) same
+    (has k key
+    ∙ sym (node_has-key (at nodes) n (e.source ++ k) (IsKey-append e.source k bytes key))
+    ∙ sym ((at-meets nodes (sound-levelled nodes t sound)).each c n there (e.source ++ k)))
+
+-- a child in sound nodes, and its copy
+pub record IsCopyThere (nodes : Nodes) (t : Table) (parent : Fetched) (place : ℕ) (e : Edge) (child : Fetched) (copy : Node) : Type 0 where
+  pub read : IsCopyRead t parent place e child copy
+  pub sound : IsSound nodes t
+  pub there : nodes child.id ≡ Some child.node.value
+  pub bytes : IsKey e.source
+  pub has : (k : List ℕ) → IsKey k → node_at (at nodes) copy k ≡ node_at (at nodes) child.node.value (e.source ++ k)
+
+pub copy_there : (nodes mid : Nodes) (t v : Table) (parent : Fetched) (place : ℕ) (e : Edge) (id : ℕ) (child : Fetched) (shown : Node) (s : List ℕ) (copy : Node) → IsCopying t v parent place e id child shown s copy → IsSound nodes t → mid ≡ nodes → nodes id ≡ Some child.node.value
+    → ((k : List ℕ) → IsKey k → node_at (at mid) copy k ≡ node_at (at mid) shown (s ++ k)) → IsCopyThere nodes t parent place e child copy
+copy_there nodes mid t v parent place e id child shown s copy h sound same there has = record {
+  read = copy_read t v parent place e id child shown s copy h;
+  sound = sound;
+  there = ap nodes h.id_is ∙ there;
+  bytes = subst (λ (l : List ℕ). IsKey l) h.source_is h.bytes;
+  has = λ k key.
+      ap (λ (f : Nodes). node_at (at f) copy k) (sym same)
+      ∙ has k key
+      ∙ ap (λ (f : Nodes). node_at (at f) shown (s ++ k)) same
+      ∙ ap (λ (n : Node). node_at (at nodes) n (s ++ k)) h.shown_is
+      ∙ ap (λ (l : List ℕ). node_at (at nodes) child.node.value (l ++ k)) h.source_is;
+}
+
+is_copy_for : (nodes : Nodes) (t : Table) (parent : Fetched) (place : ℕ) (e : Edge) (child : Fetched) (copy : Node) → IsCopyThere nodes t parent place e child copy → IsCopyFor nodes e copy
+is_copy_for nodes t parent place e child copy h = copy_for nodes t e child.id child.node.value copy h.sound h.read.read.child_is h.there h.bytes h.has
+
+copied_at : (nodes : Nodes) (t : Table) (parent : Fetched) (place : ℕ) (e : Edge) (child : Fetched) (copy : Node) → IsCopyThere nodes t parent place e child copy → IsCopyAt nodes parent.node.value place copy
+copied_at nodes t parent place e child copy h d here_d =
+    subst (λ (x : Edge). IsCopyFor nodes x copy) (same_Some e d (sym h.read.read.here ∙ here_d)) (is_copy_for nodes t parent place e child copy h)
+
+pub copied_again : (nodes mid : Nodes) (t : Table) (parent : Fetched) (place : ℕ) (e : Edge) (child : Fetched) (copy : Node) → mid ≡ nodes → IsCopyThere nodes t parent place e child copy → IsCopyAt mid parent.node.value place copy
+copied_again nodes mid t parent place e child copy same h = subst (λ (f : Nodes). IsCopyAt f parent.node.value place copy) (sym same) (copied_at nodes t parent place e child copy h)
+
+is_privatised : (nodes : Nodes) (t : Table) (parent : Fetched) (place : ℕ) (e : Edge) (child : Fetched) (copy : Node) (new : Nodes) (u : Table) → IsCopyThere nodes t parent place e child copy → IsCopyPut t parent place copy new u → IsPrivatised nodes t parent place new u
+is_privatised nodes t parent place e child copy new u h put = record {
+  edge = e;
+  here = h.read.read.here;
+  child = child.id;
+  child_is = h.read.read.child_is;
+  old = child.node.value;
+  there = h.there;
+  copy = copy;
+  copied = h.read.copied;
+  level_is = h.read.own.level_is;
+  has = is_copy_for nodes t parent place e child copy h;
+  put = put;
+}
+
+pub on_privatised : {T E : Type 0} (nodes : Nodes) (t w : Table) (parent : Fetched) (place : ℕ) (e : Edge) (child : Fetched) (copy : Node) (new : Nodes) (u : Table) (r : Result T E) → IsCopyThere nodes t parent place e child copy → w ≡ t
+    → OnOk r (IsCopyPut w parent place copy new u) → OnOk r (IsPrivatised nodes t parent place new u)
+on_privatised nodes t w parent place e child copy new u (Ok x) h same put =
+    is_privatised nodes t parent place e child copy new u h (subst (λ (v : Table). IsCopyPut v parent place copy new u) same put)
+on_privatised nodes t w parent place e child copy new u (Err x) h same put = tt
+
+-- ---- visits
+
+pub visits_few : (before now most few : ℕ) → now ≤ before + most → most ≤ few → now ≤ before + few
+visits_few before now most few h less = omega arith
+
+-- a node is made, or none
+pub put_few : {T E : Type 0} (before now : ℕ) (r : Result T E) → OnOk r (now ≡ visited before 1) → OnErr r (now ≡ before) → now ≤ before + 1
+put_few before now (Ok x) made none = omega arith
+put_few before now (Err x) made none = omega arith
+
+pub copy_visits : (t : Table) (parent : Fetched) (place : ℕ) (e : Edge) (id : ℕ) (child : Fetched) (shown : Node) (before now : ℕ) → IsChildRead t parent place e id → child.id ≡ id → IsFetched t child → shown ≡ child.node.value → now ≤ before + (2 + 17 * level_of shown)
+    → (d : Edge) (c : ℕ) → IsEdgeAt parent.node.value place d → d.child ≡ Some c → now ≤ before + (2 + 17 * t.level c)
+copy_visits t parent place e id child shown before now h id_is fetched is few d c here child_d =
+    let same : e ≡ d = same_Some e d (sym h.here ∙ here) in
+    let same_c : child.id ≡ c = id_is ∙ same_Some id c (sym h.child_is ∙ ap (λ (x : Edge). x.child) same ∙ child_d) in
+    let level : level_of shown ≡ t.level c = ap level_of is ∙ fetched.own.level_is ∙ ap t.level same_c in
+    omega arith

@@ -1,0 +1,20 @@
+use Rattle.std.proofs.Common.{◌≡◌, ◌+◌, ◌≤◌, take}
+use Rattle.std.specs.List.{AllZip, sum_by}
+use Rattle.bd_node.specs.Tables.{IsSound}
+use Rattle.bd_copy.specs.Shortening.{edge_way, way_visits, IsShortEdge, IsSameEdge}
+use Rattle.bd_copy.proofs.shortening.short_edges.Given as goal
+
+abbrev pub invariant-loop-edge : goal.invariant-loop-edge
+invariant-loop-edge g l = record {
+  table : g.S.NodeStore.table l.store ≡ g.S.NodeStore.table l.fn.store;
+  known : g.S.NodeStore.is_known l.fn.store → g.S.NodeStore.is_known l.store;
+  nodes : g.S.NodeStore.is_known l.fn.store → g.S.NodeStore.nodes l.store ≡ g.S.NodeStore.nodes l.fn.store;
+  read : g.S.NodeStore.reads l.fn.store l.store;
+  later : g.S.NodeStore.fault_count l.fn.store ≤ g.S.NodeStore.fault_count l.store;
+  visits : g.S.NodeStore.visit_count l.store ≤ g.S.NodeStore.visit_count l.fn.store
+      + sum_by (λ e. way_visits (g.S.NodeStore.table l.fn.store) (edge_way e)) (take l.edge-index l.edges);
+  loans : g.S.NodeStore.loans l.store ≡ g.S.NodeStore.loans l.fn.store;
+  short : AllZip (IsShortEdge (g.S.NodeStore.table l.fn.store)) (take l.edge-index l.edges) l.made.items;
+  same : g.S.NodeStore.is_known l.fn.store → IsSound (g.S.NodeStore.nodes l.fn.store) (g.S.NodeStore.table l.fn.store)
+      → AllZip (IsSameEdge (g.S.NodeStore.nodes l.fn.store)) (take l.edge-index l.edges) l.made.items;
+}

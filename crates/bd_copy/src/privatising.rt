@@ -1,0 +1,100 @@
+//! A child that is shared, or asked through a source, is copied.
+
+ghost use Rattle.std.specs.Prelude.{◌≡◌, ◌+◌, ◌*◌, ◌≤◌, ◌++◌, ℕ, List, length, Some, IfOk, OnOk, OnErr};
+ghost use Rattle.bd_keys.specs.Keys.{IsKey};
+ghost use Rattle.bd_limits.specs.Limits.{key_limit};
+ghost use Rattle.bd_message.specs.KeyMaps.{HasMapCause, NeverWorn};
+ghost use Rattle.bd_node.specs.declared.node.Edge.{Edge};
+ghost use Rattle.bd_node.specs.Nodes.{level_of, node_at};
+ghost use Rattle.bd_node.specs.Meaning.{at};
+ghost use Rattle.bd_node.specs.Tables.{IsNodeOf, IsSound};
+ghost use Rattle.bd_inner.specs.Exchange.{IsEdgeAt};
+ghost use Rattle.bd_flush.specs.Flushed.{IsFlushed, IsWornFor};
+ghost use Rattle.bd_flush.specs.Children.{IsNoHigher};
+ghost use Rattle.bd_flush.specs.Pushes.{IsOwn};
+ghost use Rattle.bd_copy.specs.Copying.{IsCopyOf, HasChild, IsPrivatised};
+
+use crate::shortening::shorten;
+use bd_flush::{Fetched, edges_of, fetch, put_copy};
+use bd_inner::{clip, compact};
+use bd_leaf as leaf;
+use bd_message::MapFault;
+use bd_node::{Node, NodeStore};
+use std::alloc::Global;
+
+/// Copies the child of a private node's edge, which was fetched before: the copy is made, keeps the
+/// keys that begin with the edge's source, without it, and the edge then asks it with nothing in
+/// front of a key. Where a source in the copy would have more than 518 bytes, what answers for it is
+/// looked for below: at most 17 sources, each with as many visits as the child is high. One node is
+/// fetched besides, and one made.
+pub fn privatise<S: NodeStore>(
+    alloc: Global,
+    store: &mut S,
+    parent: &Fetched,
+    place: usize,
+) -> Result<(), MapFault>
+    requires can { HasChild (S.table store.old) parent.now place }
+    requires own { S.is_known store.old → IsSound (S.nodes store.old) (S.table store.old)
+        → IsOwn (S.nodes store.old) (S.table store.old) parent.now }
+    ensures flushed { S.is_known store.old → IsSound (S.nodes store.old) (S.table store.old)
+        → OnOk result (IsFlushed (S.nodes store.old) (S.table store.old)
+        (S.nodes store.new) (S.table store.new)) }
+    ensures privatised { S.is_known store.old → IsSound (S.nodes store.old) (S.table store.old)
+        → OnOk result (IsPrivatised (S.nodes store.old) (S.table store.old) parent.now place
+        (S.nodes store.new) (S.table store.new)) }
+    ensures table { OnOk result (IsNoHigher (S.table store.old) (S.table store.new)) }
+    ensures known { S.is_known store.old → S.is_known store.new }
+    ensures err_table { OnErr result (S.table store.new ≡ S.table store.old) }
+    ensures err_nodes { S.is_known store.old
+        → OnErr result (S.nodes store.new ≡ S.nodes store.old) }
+    ensures few_visits { (e : Edge) (child : ℕ) → IsEdgeAt parent.now.node.value place e
+        → e.child ≡ Some child → S.visit_count store.new
+        ≤ S.visit_count store.old + (2 + 17 * (S.table store.old).level child) }
+    ensures cause { HasMapCause (S.fault_count store.old) (S.fault_count store.new)
+        (S.bad store.new) (IsWornFor (S.table store.old)) result }
+    ensures same_loans { S.loans store.new ≡ S.loans store.old }
+{
+    let edge = &edges_of(&parent.node)[place];
+    let Some(id) = edge.child else { unreachable!() };
+    let child = fetch(store, id)?;
+    let copy = freed(alloc, store, &child.node, edge.source.as_slice())?;
+    put_copy(alloc, store, parent, place, copy)
+}
+
+// What a copy keeps of a node below a prefix.
+fn freed<S: NodeStore>(
+    alloc: Global,
+    store: &mut S,
+    node: &Node,
+    s: &[u8],
+) -> Result<Node, MapFault>
+    requires own { IsNodeOf (S.table store.old) (level_of node.now) node.now }
+    requires short { length s.now ≤ key_limit }
+    ensures copied { IfOk result (IsCopyOf (S.table store.old) node.now s.now) }
+    ensures own { IfOk result (IsNodeOf (S.table store.old) (level_of node.now)) }
+    ensures has { S.is_known store.old → IsSound (S.nodes store.old) (S.table store.old)
+        → IfOk result (λ copy. (k : List ℕ) → IsKey k → node_at (at (S.nodes store.old)) copy k
+        ≡ node_at (at (S.nodes store.old)) node.now (s.now ++ k)) }
+    ensures bytes { IsKey s.now }
+    ensures table { S.table store.new ≡ S.table store.old }
+    ensures known { S.is_known store.old → S.is_known store.new }
+    ensures kept { S.is_known store.old → S.nodes store.new ≡ S.nodes store.old }
+    ensures read { S.reads store.old store.new }
+    ensures cause { HasMapCause (S.fault_count store.old) (S.fault_count store.new)
+        (S.bad store.new) NeverWorn result }
+    ensures few_visits { S.visit_count store.new
+        ≤ S.visit_count store.old + 17 * level_of node.now }
+    ensures same_loans { S.loans store.new ≡ S.loans store.old }
+{
+    match node {
+        Node::Leaf(entries) => {
+            let entries = leaf::clip(alloc, entries.as_slice(), s)?;
+            Ok(Node::Leaf(entries))
+        }
+        Node::Inner { .. } => {
+            let clipped = clip(alloc, node, s)?;
+            let short = shorten(alloc, store, &clipped)?;
+            Ok(compact(alloc, &short)?)
+        }
+    }
+}
