@@ -5,4 +5,6 @@
 #[cfg(test)]
 mod both;
 #[cfg(test)]
+mod down;
+#[cfg(test)]
 mod graft;
