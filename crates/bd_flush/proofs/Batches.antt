@@ -25,7 +25,7 @@ use Rattle.bd_inner.proofs.Compacting.{compacted_shape}
 use Rattle.bd_inner.proofs.Exchanged.{exchanged_shape}
 use Rattle.bd_leaf.specs.Leaves.{entries_size, IsReceived}
 use Rattle.bd_flush.specs.declared.children.Parts.{Parts}
-use Rattle.bd_flush.specs.Pushes.{seen_by, unseen, IsWaitedFor, IsEdgeBatch, IsRelieved, IsPushInto, IsPartedOver, IsPushedOver, AreLongParts, ArePushed}
+use Rattle.bd_flush.specs.Pushes.{seen_by, unseen, CanMoveSome, IsWaitedFor, IsEdgeBatch, IsRelieved, IsPushInto, IsPartedOver, IsPushedOver, AreLongParts, ArePushed}
 use Rattle.bd_flush.specs.Pushes.IsPushInto.{received, fitted, split}
 use Rattle.bd_flush.specs.Children.{IsSplitInto, IsLongIn, IsOver}
 use Rattle.bd_flush.specs.declared.children.Halving.{Halving}
@@ -53,12 +53,12 @@ each_rest P (suc count) (m ∷ list) h = each_rest P count list h.1
 pub end_is : (n : Node) (place : ℕ) (es : List Edge) (hi : Option (List ℕ)) → es ≡ edges_of n → hi ≡ end_before (drop (place + 1) es) → hi ≡ end_at n place
 end_is n place es hi same end = end ∙ ap (λ (l : List Edge). end_before (drop (place + 1) l)) same
 
-batch_is : (n : Node) (place : ℕ) (f : Edge) (hi : Option (List ℕ)) (list : List Message) (b : Batch) → IsShape n → IsWaitedFor n place f → hi ≡ end_at n place → list ≡ unseen n f → IsBatch f hi list b → IsEdgeBatch n place f b
+batch_is : (n : Node) (place : ℕ) (f : Edge) (hi : Option (List ℕ)) (list : List Message) (b : Batch) → IsShape n → CanMoveSome n place f → hi ≡ end_at n place → list ≡ unseen n f → IsBatch f hi list b → IsEdgeBatch n place f b
 batch_is n place f hi list b h w end list_is is =
     let own : IsBatch f (end_at n place) (unseen n f) b = subst (λ (o : Option (List ℕ)). IsBatch f o (unseen n f) b) end (subst (λ (l : List Message). IsBatch f hi l b) list_is is) in
     record { batch = own; some = own.some w.some }
 
-pub on_batch_for : {E : Type 0} (n : Node) (place : ℕ) (f : Edge) (hi : Option (List ℕ)) (list : List Message) (r : Result Batch E) → IsShape n → IsWaitedFor n place f → hi ≡ end_at n place → list ≡ unseen n f → IfOk r (IsBatch f hi list) → IfOk r (IsEdgeBatch n place f)
+pub on_batch_for : {E : Type 0} (n : Node) (place : ℕ) (f : Edge) (hi : Option (List ℕ)) (list : List Message) (r : Result Batch E) → IsShape n → CanMoveSome n place f → hi ≡ end_at n place → list ≡ unseen n f → IfOk r (IsBatch f hi list) → IfOk r (IsEdgeBatch n place f)
 on_batch_for n place f hi list (Ok b) h w end list_is is = batch_is n place f hi list b h w end list_is is
 on_batch_for n place f hi list (Err x) h w end list_is is = tt
 

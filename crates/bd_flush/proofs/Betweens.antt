@@ -39,11 +39,11 @@ use Rattle.bd_flush.specs.Raising.{raised, raise, IsWayUp, IsRising, CannotRise,
 use Rattle.bd_flush.specs.Raising.CannotRise.{here, further}
 use Rattle.bd_flush.specs.Raising.IsRising.{at_top, high_enough, rises}
 use Rattle.bd_flush.specs.Raising.IsRaisedOver.{is_above, rises_too}
-use Rattle.bd_flush.specs.Pushes.{seen_by, IsWaitedFor, CanPush, IsPushBetween, IsPushedBetween}
+use Rattle.bd_flush.specs.Pushes.{seen_by, CanPush, IsPushBetween, IsPushedBetween}
 use Rattle.bd_flush.proofs.Raisings.{level_high}
 use Rattle.bd_flush.proofs.RootSplits.{over_shape, two_have, times_made}
 use Rattle.bd_flush.proofs.ChildSplits.{one_fits, one_times, one_names, child_named, lower_child, level_exchanged, compacted_small, some_next, other_names, at_child, IsKey-drop, IsSplittable, IsSplittableOf}
-use Rattle.bd_flush.proofs.Pushed.{batch_low, batch_plain, relieved_inside, leaf_received}
+use Rattle.bd_flush.proofs.Pushed.{batch_low, relieved_inside, leaf_received}
 use Rattle.bd_flush.proofs.PathSteps.{IsMadeUnder, IsUpper, IsPathStep, RisesByOne, level_bound, given_child, given_upper, has_made, has_path, path_child, path_old, each_change, IsPathStepOf, root_stays, root_rises, path_flushed}
 use Rattle.bd_flush.proofs.RisingSteps.{raised_size, raised_times, raised_level, raised_shape, raised_has, IsLink, way_link, way_top, link_names, link_lower, only_namer, rising_rises, rising_uppers, rising_above, once_above, rising_once, rising_short, IsChangedBy, changed_more, all_changed, has_room, rising_of}
 
@@ -322,10 +322,9 @@ parent_meaning nodes t way parent place child first pivot second node rising h k
     let has : NodesAt = has_path nodes t.next c (the_child t pivot) (first ∷ second ∷ []) in
     let list : List Edge = seen_by e h.of.into.batch.count ∷ [] in
     let s = splittable_of nodes t way parent place child first pivot second node rising h in
-    let waiting : IsWaitedFor n place e = subst (λ (d : Edge). IsWaitedFor n place d) (same_edge t way parent place child first pivot second node rising h.of) h.of.can.waiting in
     (parent_risen t way parent place child first pivot second node rising h.of).has has k
     ∙ compacted_meaning has (exchanged n place list) h.of.into.above (exchanged_shape n place e list h.of.can.parent_is.own.shape (one_fits t parent.id n place c e (e.seen + h.of.into.batch.count) child.node.value s.of)) h.of.into.relieved k
-    ∙ relieved_inside nodes t parent.id n place c e child.node.value h.of.into.batch has s h.of.into.moved (batch_plain n place e h.of.into.batch waiting h.of.into.moved)
+    ∙ relieved_inside nodes t parent.id n place c e child.node.value h.of.into.batch has s h.of.into.moved
     (λ l key_l range.
     child_has nodes t way parent place child first pivot second node rising h (drop e.lift l) (IsKey-drop e.lift l key_l)
     ∙ leaf_received (at nodes) n place e child.node.value h.of.into.long.old h.of.into.long.new h.of.into.batch.messages h.of.into.long.leaf h.of.into.long.got l key_l range)

@@ -1,10 +1,9 @@
 -- The commit that carves a Goto out.
 use Rattle.std.proofs.Common.{◌≡◌, ℕ, ◌+◌, ◌<◌, ◌≤◌, length, sym, ap, subst, ◌∙◌, arith, Result, Ok, Err}
-use Rattle.std.specs.Prelude.{OnOk, OnErr, slice_get, Some}
-use Rattle.std.proofs.lemmas.Option.{same_Some, slice_get_within}
+use Rattle.std.specs.Prelude.{OnOk, OnErr}
+use Rattle.std.proofs.lemmas.Option.{slice_get_within}
 use Rattle.bd_message.specs.declared.fault.MapFault.{MapFault}
 use Rattle.bd_message.specs.KeyMaps.{HasMapCause}
-use Rattle.bd_node.specs.declared.node.Edge.{Edge}
 use Rattle.bd_node.specs.declared.node.Node.{Node}
 use Rattle.bd_node.specs.declared.node.Step.{Step}
 use Rattle.bd_node.specs.Nodes.{buffer_size, names}
@@ -27,14 +26,7 @@ use Rattle.bd_flush.proofs.CarveSteps.{IsOneChange, IsOneChangeOf, IsOneChanged,
 pub record IsToCarve (t : Table) (parent : Fetched) (place : ℕ) (step : Step) : Type 0 where
   pub table : IsTable t
   pub can : CanCarve t parent place
-  pub carve : IsCarveStep t.root parent place step
-
-pub is_to_carve : (t : Table) (parent : Fetched) (place : ℕ) (step : Step) (root : ℕ) → IsTable t → CanCarve t parent place → root ≡ t.root → IsCarveStep root parent place step → IsToCarve t parent place step
-is_to_carve t parent place step root table can same carve = record {
-  table = table;
-  can = can;
-  carve = subst (λ (r : ℕ). IsCarveStep r parent place step) same carve;
-}
+  pub carve : IsCarveStep t parent place step
 
 change : (t : Table) (parent : Fetched) (place : ℕ) (step : Step) → (h : IsToCarve t parent place step) → IsOneChange t parent.id h.carve.node
 change t parent place step h =
@@ -113,10 +105,6 @@ carve_visits t parent place step before now (Ok x) h is err =
 carve_visits t parent place step before now (Err e) h is err = omega (arith, err)
 
 -- ---- the edge
-
--- what is asked of the edge at a place
-pub waits_at : (t : Table) (parent : Fetched) (place : ℕ) → (can : CanCarve t parent place) → (P : Edge → Type 0) → P can.edge → (e : Edge) → slice_get (edges_of parent.node.value) place ≡ Some e → P e
-waits_at t parent place can P h e here = subst P (same_Some can.edge e (sym can.here ∙ here)) h
 
 pub place_within : (t : Table) (parent : Fetched) (place : ℕ) → CanCarve t parent place → place < length (edges_of parent.node.value)
 place_within t parent place can = slice_get_within (edges_of parent.node.value) place can.edge can.here

@@ -1,93 +1,32 @@
 -- The way down.
-use Rattle.std.proofs.Common.{◌≡◌, ◌↔◌, ℕ, ◌+◌, ◌<◌, ◌≤◌, Bool, true, false, not, List, [], ◌∷◌, ◌++◌, length, drop, reverse, get_or, refl, sym, ap, subst, ◌∙◌, Option, None, Some, IsTrue, arith, inl, inr}
-use Rattle.std.specs.List.{AllByRecursion}
-use Rattle.std.proofs.lemmas.Option.{same_Some}
+use Rattle.std.proofs.Common.{◌≡◌, ℕ, ◌+◌, ◌<◌, ◌≤◌, List, [], ◌∷◌, ◌++◌, length, reverse, sym, ap, subst, ◌∙◌, Option, None, Some, arith, inl, inr}
 use Rattle.std.proofs.lemmas.List.{reverse-append}
 use Rattle.bd_limits.specs.Limits.{soft_limit}
-use Rattle.bd_keys.specs.Keys.{IsBelowEnd}
-use Rattle.bd_message.specs.declared.message.Message.{Message}
 use Rattle.bd_node.specs.declared.node.Edge.{Edge}
 use Rattle.bd_node.specs.declared.node.Node.{Node}
 use Rattle.bd_node.specs.declared.node.Node.TheVariants.{Leaf, Inner}
 use Rattle.bd_node.specs.Nodes.{level_of, buffer_size, names}
 use Rattle.bd_node.specs.Meaning.{Nodes}
-use Rattle.bd_node.specs.Shape.{end_before, IsEdge, IsShape}
+use Rattle.bd_node.specs.Shape.{IsShape}
 use Rattle.bd_node.specs.Private.{IsPrivate}
 use Rattle.bd_node.specs.Private.IsPrivate.{alone}
 use Rattle.bd_node.specs.Tables.{Table, IsKept, IsTable, IsLower, IsSound}
 use Rattle.bd_node.specs.Stores.{visited}
 use Rattle.bd_node.proofs.Lookup.{named_has}
 use Rattle.bd_node.proofs.Privacy.{root_private}
-use Rattle.bd_inner.specs.Halves.{edges_of, buffer_of}
-use Rattle.bd_inner.specs.Exchange.{end_at, IsEdgeAt}
-use Rattle.bd_inner.proofs.Fitting.{own_shape}
+use Rattle.bd_inner.specs.Halves.{edges_of}
+use Rattle.bd_inner.specs.Exchange.{IsEdgeAt}
 use Rattle.bd_flush.specs.declared.fetching.Fetched.{Fetched}
 use Rattle.bd_flush.specs.Children.{IsFetched, IsWayTo}
-use Rattle.bd_inner.specs.Moving.{IsPlainFor}
+use Rattle.bd_flush.specs.GoingDown.{child_level}
+use Rattle.bd_flush.specs.Pushes.{AllGoDown}
+use Rattle.bd_flush.specs.Carving.{IsOldestAt}
 use Rattle.bd_flush.specs.Ways.{IsFullestAt, IsOnWay, IsTarget, IsReadyToPush, IsNamed, IsNext, IsHigh, IsThere, AreThere}
 use Rattle.bd_flush.specs.Ways.IsOnWay.{at_root, below}
 use Rattle.bd_flush.specs.Raising.{IsWayUp}
 use Rattle.bd_flush.specs.Raising.IsWayUp.{top, one_up}
-use Rattle.bd_flush.proofs.ChildSplits.{edge_here, child_named}
-
--- ---- Gotos
-
--- an edge of a node, as it is read
-pub record IsRead (n : Node) (place : ℕ) (e : Edge) (es : List Edge) : Type 0 where
-  pub shape : IsShape n
-  pub same : es ≡ edges_of n
-  pub low : place < length (edges_of n)
-  pub read : e ≡ get_or es place e
-
-here_of : (n : Node) (place : ℕ) (e : Edge) (es : List Edge) → IsRead n place e es → IsEdgeAt n place e
-here_of n place e es h = edge_here es n place e h.same h.low h.read
-
-pub read_shape : (n : Node) (place : ℕ) (e : Edge) (es : List Edge) → IsRead n place e es → IsEdge (length (buffer_of n)) e (end_at n place)
-read_shape n place e es h = own_shape n place e h.shape (here_of n place e es h)
-
-pub read_seen : (n : Node) (place : ℕ) (e : Edge) (es : List Edge) (buffer : List Message) → IsRead n place e es → buffer ≡ buffer_of n → e.seen ≤ length buffer
-read_seen n place e es buffer h same = subst (λ (l : List Message). e.seen ≤ length l) (sym same) (read_shape n place e es h).seen
-
-pub read_end : (n : Node) (place : ℕ) (e : Edge) (es : List Edge) (hi : Option (List ℕ)) → IsRead n place e es → hi ≡ end_before (drop (place + 1) es) → hi ≡ end_at n place
-read_end n place e es hi h end = end ∙ ap (λ (l : List Edge). end_before (drop (place + 1) l)) h.same
-
-pub read_rising : (n : Node) (place : ℕ) (e : Edge) (es : List Edge) (hi : Option (List ℕ)) → IsRead n place e es → hi ≡ end_before (drop (place + 1) es) → IsBelowEnd e.pivot hi
-read_rising n place e es hi h end = subst (λ (o : Option (List ℕ)). IsBelowEnd e.pivot o) (sym (read_end n place e es hi h end)) (read_shape n place e es h).rising
-
--- each message that the edge hasn't seen is plain for it
-abbrev pub ArePlain : Node → ℕ → Edge → Type 0
-ArePlain n place e = AllByRecursion (IsPlainFor e (end_at n place)) (drop e.seen (buffer_of n))
-
-plain_there : (n : Node) (place : ℕ) (e : Edge) (es : List Edge) (buffer unseen : List Message) (hi : Option (List ℕ)) → IsRead n place e es → hi ≡ end_before (drop (place + 1) es) → buffer ≡ buffer_of n → unseen ≡ drop e.seen buffer
-    → AllByRecursion (IsPlainFor e hi) unseen ≡ ArePlain n place e
-plain_there n place e es buffer unseen hi h end same is =
-    ap (λ (o : Option (List ℕ)). AllByRecursion (IsPlainFor e o) unseen) (read_end n place e es hi h end)
-    ∙ ap (λ (l : List Message). AllByRecursion (IsPlainFor e (end_at n place)) l) (is ∙ ap (λ (l : List Message). drop e.seen l) same)
-
-not_false : (b : Bool) → not b ≡ false → b ≡ true
-not_false true h = refl
-not_false false h = cc
-
-not_true : (b : Bool) → not b ≡ true → b ≡ false
-not_true true h = cc
-not_true false h = refl
-
-true_false : (b : Bool) → b ≡ false → b ≡ true → ⊥
-true_false b f t = cc
-
-pub no_goto : (n : Node) (place : ℕ) (e : Edge) (es : List Edge) (buffer unseen : List Message) (hi : Option (List ℕ)) (r : Bool) → IsRead n place e es → hi ≡ end_before (drop (place + 1) es) → buffer ≡ buffer_of n → unseen ≡ drop e.seen buffer
-    → IsTrue r ↔ AllByRecursion (IsPlainFor e hi) unseen → not r ≡ false → (d : Edge) → IsEdgeAt n place d → ArePlain n place d
-no_goto n place e es buffer unseen hi r h end same is decides none d there =
-    let own : e ≡ d = same_Some e d (sym (here_of n place e es h) ∙ there) in
-    subst (λ (f : Edge). ArePlain n place f) own
-    (subst (λ (P : Type 0). P) (plain_there n place e es buffer unseen hi h end same is) (decides.0 (not_false r none)))
-
-pub some_goto : (n : Node) (place : ℕ) (e : Edge) (es : List Edge) (buffer unseen : List Message) (hi : Option (List ℕ)) (r : Bool) → IsRead n place e es → hi ≡ end_before (drop (place + 1) es) → buffer ≡ buffer_of n → unseen ≡ drop e.seen buffer
-    → IsTrue r ↔ AllByRecursion (IsPlainFor e hi) unseen → not r ≡ true → (d : Edge) → IsEdgeAt n place d → ArePlain n place d → ⊥
-some_goto n place e es buffer unseen hi r h end same is decides some d there plain =
-    let own : e ≡ d = same_Some e d (sym (here_of n place e es h) ∙ there) in
-    let at_e : ArePlain n place e = subst (λ (f : Edge). ArePlain n place f) (sym own) plain in
-    true_false r (not_true r some) (decides.1 (subst (λ (P : Type 0). P) (sym (plain_there n place e es buffer unseen hi h end same is)) at_e))
+use Rattle.bd_flush.proofs.ChildSplits.{child_named}
+use Rattle.bd_flush.proofs.OldestGotos.{oldest_held}
 
 -- ---- what is to be done
 
@@ -95,9 +34,9 @@ target_here : (t : Table) (n : Node) (place : ℕ) (e : Edge) (child : Option Fe
 target_here t n place e None h = h.0
 target_here t n place e (Some child) h = h.0.here
 
-pub to_carve : (t : Table) (parent : Fetched) (n : Node) (place : ℕ) (child : Option Fetched) → n ≡ parent.node.value → ((d : Edge) → IsEdgeAt n place d → ArePlain n place d → ⊥) → IsFetched t parent → length (edges_of parent.node.value) ≤ 14 → IsFullestAt parent.node.value place → (e : Edge)
+pub to_carve : (t : Table) (parent : Fetched) (place index : ℕ) (child : Option Fetched) → ((d : Edge) → IsEdgeAt parent.node.value place d → IsOldestAt t.level parent.node.value place d index) → IsFetched t parent → length (edges_of parent.node.value) ≤ 14 → IsFullestAt parent.node.value place → (e : Edge)
     → IsTarget t parent.node.value place e child → IsNamed t parent place
-to_carve t parent n place child same goto fetched room fullest e target =
+to_carve t parent place index child held fetched room fullest e target =
     let here : IsEdgeAt parent.node.value place e = target_here t parent.node.value place e child target in
     record {
       parent_is = fetched;
@@ -105,18 +44,18 @@ to_carve t parent n place child same goto fetched room fullest e target =
       fullest = fullest;
       edge = e;
       here = here;
-      plain = subst (λ (m : Node). IsEdgeAt m place e → ArePlain m place e → ⊥) same (goto e) here;
+      held = oldest_held t.level parent.node.value place e index (held e here);
     }
 
-pub to_push : (t : Table) (parent : Fetched) (n : Node) (place : ℕ) (child : Option Fetched) → n ≡ parent.node.value → ((d : Edge) → IsEdgeAt n place d → ArePlain n place d) → IsFetched t parent → length (edges_of parent.node.value) ≤ 14 → IsFullestAt parent.node.value place → (e : Edge)
+pub to_push : (t : Table) (parent : Fetched) (place : ℕ) (child : Option Fetched) → ((d : Edge) → IsEdgeAt parent.node.value place d → AllGoDown t.level (child_level t.level d.child) parent.node.value place d) → IsFetched t parent → length (edges_of parent.node.value) ≤ 14 → IsFullestAt parent.node.value place → (e : Edge)
     → IsTarget t parent.node.value place e child → IsReadyToPush t parent place child
-to_push t parent n place child same plain fetched room fullest e target = record {
+to_push t parent place child down fetched room fullest e target = record {
   parent_is = fetched;
   room = room;
   fullest = fullest;
   edge = e;
   target = target;
-  plain = subst (λ (m : Node). IsEdgeAt m place e → ArePlain m place e) same (plain e) (target_here t parent.node.value place e child target);
+  down = down e (target_here t parent.node.value place e child target);
 }
 
 -- ---- the next node

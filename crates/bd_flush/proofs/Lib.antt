@@ -12,6 +12,7 @@ pub mod RisingSteps
 pub mod RootSplits
 pub mod PutBetween
 pub mod ChildCommits
+pub mod GoingDown
 pub mod Pushed
 pub mod PushCommits
 pub mod Betweens
@@ -22,8 +23,9 @@ pub mod LeafSteps
 pub mod LeafPushes
 pub mod LeafCommits
 pub mod NewWays
+pub mod Reading
+pub mod OldestGotos
 pub mod Down
 pub mod CarveSteps
 pub mod CarveCommits
-pub mod OldestGotos
 pub mod Copies

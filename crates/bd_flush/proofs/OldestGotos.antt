@@ -1,62 +1,64 @@
--- The oldest Goto that is pending for an edge.
-use Rattle.std.proofs.Common.{◌≡◌, ℕ, zero, suc, ◌+◌, ◌<◌, ◌≤◌, List, [], ◌∷◌, length, drop, refl, sym, ap, subst, ◌∙◌, Option, Some, arith, inl, inr}
-use Rattle.std.specs.Prelude.{slice_get, Result, Ok, Err, IfOk}
-use Rattle.std.specs.List.{AllByRecursion}
+-- The oldest Goto that is pending for an edge, and may not go down it.
+use Rattle.std.proofs.Common.{◌≡◌, ℕ, zero, suc, ◌+◌, ◌<◌, ◌≤◌, List, [], ◌∷◌, length, drop, refl, sym, ap, subst, ◌∙◌, Option, None, Some, arith, inl, inr, get_or}
+use Rattle.std.specs.Prelude.{slice_get, Result, Ok, Err, IfOk, MatchOption, IfSome}
+use Rattle.std.specs.List.{AllByRecursion, flat_map}
 use Rattle.std.proofs.lemmas.Bool.{cases_lt}
 use Rattle.std.proofs.lemmas.Option.{same_Some, none-some, slice_get_within}
 use Rattle.bd_message.specs.declared.message.Message.{Message}
 use Rattle.bd_message.specs.declared.message.Message.TheVariants.{Put, Del, Patch, Cut, Goto}
-use Rattle.bd_message.specs.Messages.{IsPlain}
 use Rattle.bd_node.specs.declared.node.Edge.{Edge}
 use Rattle.bd_node.specs.declared.node.Node.{Node}
 use Rattle.bd_node.specs.declared.node.Step.{Step}
+use Rattle.bd_node.specs.Nodes.{message_names, names}
 use Rattle.bd_node.specs.Shape.{end_before}
+use Rattle.bd_node.specs.Tables.{Table, IsKept, IsLower, IsNodeOf}
+use Rattle.bd_node.proofs.Lookup.{each_weaker, each_first, each_second}
 use Rattle.bd_inner.specs.Carving.{IsGotoAt, IsCarved}
-use Rattle.bd_inner.specs.Halves.{edges_of, buffer_of}
-use Rattle.bd_inner.specs.Moving.{IsPlainFor}
+use Rattle.bd_inner.specs.Halves.{buffer_of}
 use Rattle.bd_inner.specs.Exchange.{end_at, IsEdgeAt}
-use Rattle.bd_inner.proofs.Places.{edge_within}
 use Rattle.bd_flush.specs.declared.fetching.Fetched.{Fetched}
-use Rattle.bd_flush.specs.Carving.{IsPendingGoto, HasNoGoto, IsOldestGoto, IsCarvedFor, change_step, IsCarveStep}
+use Rattle.bd_flush.specs.GoingDown.{MayGoDown, GoesDown, child_level}
+use Rattle.bd_flush.specs.Pushes.{AllGoDown}
+use Rattle.bd_flush.specs.Carving.{IsHeldGoto, IsFreeAt, AreFree, IsOldestGoto, IsOldestAt, CanCarve, change_step, IsCarveStep}
 use Rattle.bd_flush.proofs.ChildSplits.{edge_here}
-use Rattle.bd_flush.proofs.Down.{IsRead, read_end}
+use Rattle.bd_flush.proofs.Pushed.{buffer_lower}
+use Rattle.bd_flush.proofs.Reading.{IsRead, read_end}
 
--- no message before a place is a Goto that is pending for the edge
-abbrev pub NoneBefore : List Message → Edge → Option (List ℕ) → ℕ → Type 0
-NoneBefore buffer e hi n = (i : ℕ) (m : Message) → i < n → slice_get buffer i ≡ Some m → IsPendingGoto i m e hi → ⊥
+-- each message before a place that is pending for the edge may go down it
+abbrev pub FreeBefore : (ℕ → ℕ) → ℕ → List Message → Edge → Option (List ℕ) → ℕ → Type 0
+FreeBefore level top buffer e hi n = (i : ℕ) (m : Message) → i < n → slice_get buffer i ≡ Some m → IsFreeAt level top i m e hi
 
 -- one message further
-pub none_more : (buffer : List Message) (e : Edge) (hi : Option (List ℕ)) (i : ℕ) (m : Message) → NoneBefore buffer e hi i → slice_get buffer i ≡ Some m → (IsPendingGoto i m e hi → ⊥) → NoneBefore buffer e hi (i + 1)
-none_more buffer e hi i m before there other j x low at_j pending =
+pub free_more : (level : ℕ → ℕ) (top : ℕ) (buffer : List Message) (e : Edge) (hi : Option (List ℕ)) (i : ℕ) (m : Message) → FreeBefore level top buffer e hi i → slice_get buffer i ≡ Some m → IsFreeAt level top i m e hi → FreeBefore level top buffer e hi (i + 1)
+free_more level top buffer e hi i m before there own j x low at_j =
     elim (cases_lt j i) [
-      | inl earlier ↦ before j x earlier at_j pending
+      | inl earlier ↦ before j x earlier at_j
       | inr later ↦
-          let same : j ≡ i = omega arith in
-          let own : x ≡ m = same_Some x m (sym at_j ∙ ap (λ (n : ℕ). slice_get buffer n) same ∙ there) in
-          other (subst (λ (y : Message). IsPendingGoto i y e hi) own (subst (λ (n : ℕ). IsPendingGoto n x e hi) same pending))
+          let same : i ≡ j = omega arith in
+          let is : m ≡ x = same_Some m x (sym there ∙ ap (λ (n : ℕ). slice_get buffer n) same ∙ at_j) in
+          subst (λ (y : Message). IsFreeAt level top j y e hi) is (subst (λ (n : ℕ). IsFreeAt level top n m e hi) same own)
     ]
 
-pub first_found : (buffer : List Message) (e : Edge) (hi : Option (List ℕ)) (i : ℕ) (m : Message) → NoneBefore buffer e hi i → slice_get buffer i ≡ Some m → IsPendingGoto i m e hi → IsOldestGoto buffer e hi i
-first_found buffer e hi i m before there pending = record { message = m; there = there; pending = pending; oldest = before }
+pub first_found : (level : ℕ → ℕ) (top : ℕ) (buffer : List Message) (e : Edge) (hi : Option (List ℕ)) (i : ℕ) (m : Message) → FreeBefore level top buffer e hi i → slice_get buffer i ≡ Some m → IsHeldGoto level top i m e hi → IsOldestGoto level top buffer e hi i
+first_found level top buffer e hi i m before there held = record { message = m; there = there; held = held; oldest = before }
 
-pub none_found : (buffer : List Message) (e : Edge) (hi : Option (List ℕ)) (n : ℕ) → NoneBefore buffer e hi n → length buffer ≤ n → HasNoGoto buffer e hi
-none_found buffer e hi n before long i m there = before i m (let low : i < length buffer = slice_get_within buffer i m there in omega arith) there
+pub none_found : (level : ℕ → ℕ) (top : ℕ) (buffer : List Message) (e : Edge) (hi : Option (List ℕ)) (n : ℕ) → FreeBefore level top buffer e hi n → length buffer ≤ n → AreFree level top buffer e hi
+none_found level top buffer e hi n before long i m there = before i m (let low : i < length buffer = slice_get_within buffer i m there in omega arith) there
 
--- ---- where there is none, each message is plain
+-- the names of one message are among those of all
+pub message_named : (P : ℕ → Type 0) (ms : List Message) (i : ℕ) (m : Message) → AllByRecursion P (flat_map message_names ms) → i < length ms → m ≡ get_or ms i m → AllByRecursion P (message_names m)
+message_named P [] i m h low is = absurd (omega arith)
+message_named P (x ∷ ms) zero m h low is = subst (λ (y : Message). AllByRecursion P (message_names y)) (sym is) (each_first P (message_names x) (flat_map message_names ms) h)
+message_named P (x ∷ ms) (suc i) m h low is = message_named P ms i m (each_second P (message_names x) (flat_map message_names ms) h) (omega arith) is
 
-plain_alone : (e : Edge) (hi : Option (List ℕ)) (i : ℕ) (m : Message) → e.seen ≤ i → (IsPendingGoto i m e hi → ⊥) → IsPlainFor e hi m
-plain_alone e hi i (Put key value) low h = λ k range touch. tt
-plain_alone e hi i (Del key) low h = λ k range touch. tt
-plain_alone e hi i (Patch key off bytes) low h = λ k range touch. tt
-plain_alone e hi i (Cut prefix from) low h = λ k range touch. tt
-plain_alone e hi i (Goto prefix source child) low h = λ k range touch. absurd (h ((low, (k, range, touch)), λ plain. plain))
+-- ---- where there is none, each message may go down
 
 -- of the messages from a place on
-plain_from : (e : Edge) (hi : Option (List ℕ)) (xs : List Message) (start : ℕ) → e.seen ≤ start → ((i : ℕ) (m : Message) → slice_get xs i ≡ Some m → IsPendingGoto (start + i) m e hi → ⊥) → AllByRecursion (IsPlainFor e hi) xs
-plain_from e hi [] start low h = tt
-plain_from e hi (x ∷ xs) start low h = (
-  plain_alone e hi start x low (λ pending. h 0 x refl (subst (λ (n : ℕ). IsPendingGoto n x e hi) (let z : start ≡ start + 0 = omega arith in z) pending)),
-  plain_from e hi xs (suc start) (omega arith) (λ i m there pending. h (suc i) m there (subst (λ (n : ℕ). IsPendingGoto n m e hi) (let z : suc start + i ≡ start + suc i = omega arith in z) pending)),
+free_from : (level : ℕ → ℕ) (top : ℕ) (e : Edge) (hi : Option (List ℕ)) (xs : List Message) (start : ℕ) → e.seen ≤ start → ((i : ℕ) (m : Message) → slice_get xs i ≡ Some m → IsFreeAt level top (start + i) m e hi) → AllByRecursion (GoesDown level top e hi) xs
+free_from level top e hi [] start low h = tt
+free_from level top e hi (x ∷ xs) start low h = (
+  λ can. h 0 x refl (omega arith, can),
+  free_from level top e hi xs (suc start) (omega arith) (λ i m there. subst (λ (n : ℕ). IsFreeAt level top n m e hi) (let z : start + suc i ≡ suc start + i = omega arith in z) (h (suc i) m there)),
 )
 
 dropped_at : (buffer : List Message) (n i : ℕ) (m : Message) → slice_get (drop n buffer) i ≡ Some m → slice_get buffer (n + i) ≡ Some m
@@ -65,56 +67,89 @@ dropped_at [] (suc n) i m there = absurd (none-some m there)
 dropped_at (x ∷ xs) (suc n) i m there =
     ap (λ (j : ℕ). slice_get (x ∷ xs) j) (let z : suc n + i ≡ suc (n + i) = omega arith in z) ∙ dropped_at xs n i m there
 
-pub all_plain : (buffer : List Message) (e : Edge) (hi : Option (List ℕ)) → HasNoGoto buffer e hi → AllByRecursion (IsPlainFor e hi) (drop e.seen buffer)
-all_plain buffer e hi h =
-    plain_from e hi (drop e.seen buffer) e.seen (omega arith) (λ i m there. h (e.seen + i) m (dropped_at buffer e.seen i m there))
+all_free : (level : ℕ → ℕ) (top : ℕ) (buffer : List Message) (e : Edge) (hi : Option (List ℕ)) → AreFree level top buffer e hi → AllByRecursion (GoesDown level top e hi) (drop e.seen buffer)
+all_free level top buffer e hi h =
+    free_from level top e hi (drop e.seen buffer) e.seen (omega arith) (λ i m there. h (e.seen + i) m (dropped_at buffer e.seen i m there))
+
+-- where there is one, that may not
+message_goes : (level : ℕ → ℕ) (top : ℕ) (e : Edge) (hi : Option (List ℕ)) (seen : ℕ) (ms : List Message) (i : ℕ) (m : Message) → AllByRecursion (GoesDown level top e hi) (drop seen ms) → seen ≤ i → slice_get ms i ≡ Some m → GoesDown level top e hi m
+message_goes level top e hi seen [] i m down low there = absurd (none-some m there)
+message_goes level top e hi zero (x ∷ ms) zero m down low there = subst (λ (y : Message). GoesDown level top e hi y) (same_Some x m there) down.0
+message_goes level top e hi zero (x ∷ ms) (suc i) m down low there = message_goes level top e hi zero ms i m down.1 (omega arith) there
+message_goes level top e hi (suc seen) (x ∷ ms) zero m down low there = absurd (omega arith)
+message_goes level top e hi (suc seen) (x ∷ ms) (suc i) m down low there = message_goes level top e hi seen ms i m down (omega arith) there
+
+pub oldest_held : (level : ℕ → ℕ) (n : Node) (place : ℕ) (e : Edge) (index : ℕ) → IsOldestAt level n place e index → AllGoDown level (child_level level e.child) n place e → ⊥
+oldest_held level n place e index h down =
+    h.held.1 (message_goes level (child_level level e.child) e (end_at n place) e.seen (buffer_of n) index h.message down h.held.0.0 h.there h.held.0.1)
 
 -- ---- it is a Goto
 
-goto_there : (n : Node) (index : ℕ) (m : Message) → slice_get (buffer_of n) index ≡ Some m → (IsPlain m → ⊥) → IsGotoAt n index
-goto_there n index (Put key value) there other = absurd (other tt)
-goto_there n index (Del key) there other = absurd (other tt)
-goto_there n index (Patch key off bytes) there other = absurd (other tt)
-goto_there n index (Cut prefix from) there other = absurd (other tt)
-goto_there n index (Goto prefix source child) there other = record { prefix = prefix; source = source; child = child; there = there }
+goto_there : (level : ℕ → ℕ) (top : ℕ) (e : Edge) (hi : Option (List ℕ)) (n : Node) (index : ℕ) (m : Message) → slice_get (buffer_of n) index ≡ Some m → (MayGoDown level top e hi m → ⊥) → IsGotoAt n index
+goto_there level top e hi n index (Put key value) there other = absurd (other tt)
+goto_there level top e hi n index (Del key) there other = absurd (other tt)
+goto_there level top e hi n index (Patch key off bytes) there other = absurd (other tt)
+goto_there level top e hi n index (Cut prefix from) there other = absurd (other tt)
+goto_there level top e hi n index (Goto prefix source child) there other = record { prefix = prefix; source = source; child = child; there = there }
 
-pub oldest_there : (n : Node) (e : Edge) (hi : Option (List ℕ)) (index : ℕ) → IsOldestGoto (buffer_of n) e hi index → IsGotoAt n index
-oldest_there n e hi index h = goto_there n index h.message h.there h.pending.1
+oldest_there : (level : ℕ → ℕ) (n : Node) (place : ℕ) (e : Edge) (index : ℕ) → IsOldestAt level n place e index → IsGotoAt n index
+oldest_there level n place e index h = goto_there level (child_level level e.child) e (end_at n place) n index h.message h.there h.held.1
 
 -- ---- of a node
 
--- an edge for which a Goto is pending has an oldest one
-pub some_found : (n : Node) (place : ℕ) (e : Edge) (es : List Edge) (buffer : List Message) (hi : Option (List ℕ)) → IsRead n place e es → hi ≡ end_before (drop (place + 1) es) → buffer ≡ buffer_of n
-    → ((d : Edge) → IsEdgeAt n place d → AllByRecursion (IsPlainFor d (end_at n place)) (drop d.seen (buffer_of n)) → ⊥) → HasNoGoto buffer e hi → ⊥
-some_found n place e es buffer hi h end same waits none =
-    waits e (edge_here es n place e h.same h.low h.read)
-    (all_plain (buffer_of n) e (end_at n place)
-    (subst (λ (o : Option (List ℕ)). HasNoGoto (buffer_of n) e o) (read_end n place e es hi h end) (subst (λ (l : List Message). HasNoGoto l e hi) same none)))
+-- the nodes that its messages name are kept
+pub names_kept : (t : Table) (level : ℕ) (n : Node) (buffer : List Message) → IsNodeOf t level n → buffer ≡ buffer_of n → AllByRecursion (IsKept t) (flat_map message_names buffer)
+names_kept t level n buffer own same =
+    subst (λ (l : List Message). AllByRecursion (IsKept t) (flat_map message_names l)) (sym same)
+    (buffer_lower (IsKept t) n (each_weaker (IsLower t level) (IsKept t) (λ x lower. lower.kept) (names n) own.lower))
 
-pub oldest_of : (n : Node) (place : ℕ) (e : Edge) (es : List Edge) (buffer : List Message) (hi : Option (List ℕ)) (index : ℕ) → IsRead n place e es → hi ≡ end_before (drop (place + 1) es) → buffer ≡ buffer_of n → IsOldestGoto buffer e hi index
-    → (d : Edge) → IsEdgeAt n place d → IsOldestGoto (buffer_of n) d (end_at n place) index
-oldest_of n place e es buffer hi index h end same found d here =
-    subst (λ (x : Edge). IsOldestGoto (buffer_of n) x (end_at n place) index) (same_Some e d (sym (edge_here es n place e h.same h.low h.read) ∙ here))
-    (subst (λ (o : Option (List ℕ)). IsOldestGoto (buffer_of n) e o index) (read_end n place e es hi h end) (subst (λ (l : List Message). IsOldestGoto l e hi index) same found))
+-- the child's level, as it is read
+pub level_read : (level : ℕ → ℕ) (o : Option ℕ) (child top : ℕ) → o ≡ Some child → top ≡ level child → top ≡ child_level level o
+level_read level o child top is read = read ∙ sym (ap (λ (x : Option ℕ). child_level level x) is)
 
--- the edge at a place, and its oldest Goto
-oldest_edge : (n m : Node) (place index : ℕ) → n ≡ m → place < length (edges_of m) → ((e : Edge) → IsEdgeAt n place e → IsOldestGoto (buffer_of n) e (end_at n place) index)
-    → (e : Edge) × IsEdgeAt n place e × IsOldestGoto (buffer_of n) e (end_at n place) index
-oldest_edge n m place index same low each =
-    let found = edge_within (edges_of n) place (subst (λ (x : Node). place < length (edges_of x)) (sym same) low) in
-    (found.0, found.1, each found.0 found.1)
+pub level_none : (level : ℕ → ℕ) (o : Option ℕ) (top : ℕ) → o ≡ None → top ≡ 0 → top ≡ child_level level o
+level_none level o top is read = read ∙ sym (ap (λ (x : Option ℕ). child_level level x) is)
 
-pub goto_of : (n m : Node) (place index : ℕ) → n ≡ m → place < length (edges_of m) → ((e : Edge) → IsEdgeAt n place e → IsOldestGoto (buffer_of n) e (end_at n place) index) → IsGotoAt n index
-goto_of n m place index same low each =
-    let found = oldest_edge n m place index same low each in
-    oldest_there n found.0 (end_at n place) index found.2
+pub none_of : (level : ℕ → ℕ) (top : ℕ) (n : Node) (place : ℕ) (e : Edge) (es : List Edge) (buffer : List Message) (hi : Option (List ℕ)) → IsRead n place e es → hi ≡ end_before (drop (place + 1) es) → buffer ≡ buffer_of n → top ≡ child_level level e.child → AreFree level top buffer e hi
+    → (d : Edge) → IsEdgeAt n place d → AllGoDown level (child_level level d.child) n place d
+none_of level top n place e es buffer hi h end same top_is free d here =
+    subst (λ (x : Edge). AllGoDown level (child_level level x.child) n place x) (same_Some e d (sym (edge_here es n place e h.same h.low h.read) ∙ here))
+    (all_free level (child_level level e.child) (buffer_of n) e (end_at n place)
+    (subst (λ (x : ℕ). AreFree level x (buffer_of n) e (end_at n place)) top_is
+    (subst (λ (o : Option (List ℕ)). AreFree level top (buffer_of n) e o) (read_end n place e es hi h end) (subst (λ (l : List Message). AreFree level top l e hi) same free))))
 
-pub carved_for : (n m : Node) (place index : ℕ) (made : Node) → n ≡ m → place < length (edges_of m) → ((e : Edge) → IsEdgeAt n place e → IsOldestGoto (buffer_of n) e (end_at n place) index) → IsCarved n index made → IsCarvedFor m place made
-carved_for n m place index made same low each carved =
-    let found = oldest_edge n m place index same low each in
-    subst (λ (x : Node). IsCarvedFor x place made) same
-    (record { edge = found.0; here = found.1; index = index; oldest = found.2; carved = carved })
+pub oldest_of : (level : ℕ → ℕ) (top : ℕ) (n : Node) (place : ℕ) (e : Edge) (es : List Edge) (buffer : List Message) (hi : Option (List ℕ)) (index : ℕ) → IsRead n place e es → hi ≡ end_before (drop (place + 1) es) → buffer ≡ buffer_of n → top ≡ child_level level e.child → IsOldestGoto level top buffer e hi index
+    → (d : Edge) → IsEdgeAt n place d → IsOldestAt level n place d index
+oldest_of level top n place e es buffer hi index h end same top_is found d here =
+    subst (λ (x : Edge). IsOldestAt level n place x index) (same_Some e d (sym (edge_here es n place e h.same h.low h.read) ∙ here))
+    (subst (λ (x : ℕ). IsOldestGoto level x (buffer_of n) e (end_at n place) index) top_is
+    (subst (λ (o : Option (List ℕ)). IsOldestGoto level top (buffer_of n) e o index) (read_end n place e es hi h end) (subst (λ (l : List Message). IsOldestGoto level top l e hi index) same found)))
 
-pub on_carve_step : {E : Type 0} (root : ℕ) (parent : Fetched) (place : ℕ) (made : Node) (r : Result Step E) → IsCarvedFor parent.node.value place made → IfOk r (λ step. step ≡ change_step root parent.id made) → IfOk r (λ step. IsCarveStep root parent place step)
-on_carve_step root parent place made (Ok step) carved is = record { node = made; carved = carved; is = is }
-on_carve_step root parent place made (Err e) carved is = tt
+-- what is found, where there may be none
+pub on_none : (level : ℕ → ℕ) (top : ℕ) (n : Node) (place : ℕ) (e : Edge) (es : List Edge) (buffer : List Message) (hi : Option (List ℕ)) (r : Option ℕ) → IsRead n place e es → hi ≡ end_before (drop (place + 1) es) → buffer ≡ buffer_of n → top ≡ child_level level e.child
+    → MatchOption r (AreFree level top buffer e hi) (IsOldestGoto level top buffer e hi) → r ≡ None → (d : Edge) → IsEdgeAt n place d → AllGoDown level (child_level level d.child) n place d
+on_none level top n place e es buffer hi None h end same top_is found none = none_of level top n place e es buffer hi h end same top_is found
+on_none level top n place e es buffer hi (Some index) h end same top_is found none = absurd (none-some index (sym none))
+
+pub on_some : (level : ℕ → ℕ) (top : ℕ) (n : Node) (place : ℕ) (e : Edge) (es : List Edge) (buffer : List Message) (hi : Option (List ℕ)) (r : Option ℕ) → IsRead n place e es → hi ≡ end_before (drop (place + 1) es) → buffer ≡ buffer_of n → top ≡ child_level level e.child
+    → MatchOption r (AreFree level top buffer e hi) (IsOldestGoto level top buffer e hi) → IfSome r (λ index. (d : Edge) → IsEdgeAt n place d → IsOldestAt level n place d index)
+on_some level top n place e es buffer hi None h end same top_is found = tt
+on_some level top n place e es buffer hi (Some index) h end same top_is found = oldest_of level top n place e es buffer hi index h end same top_is found
+
+-- what may not go down isn't all that there is
+pub none_held : (t : Table) (parent : Fetched) (place : ℕ) → (can : CanCarve t parent place) → ((d : Edge) → IsEdgeAt parent.node.value place d → AllGoDown t.level (child_level t.level d.child) parent.node.value place d) → ⊥
+none_held t parent place can down = can.held (down can.edge can.here)
+
+-- ---- the step
+
+pub goto_of : (level : ℕ → ℕ) (n m : Node) (place index : ℕ) (e : Edge) → n ≡ m → IsEdgeAt m place e → ((d : Edge) → IsEdgeAt m place d → IsOldestAt level m place d index) → IsGotoAt n index
+goto_of level n m place index e same here each = subst (λ (x : Node). IsGotoAt x index) (sym same) (oldest_there level m place e index (each e here))
+
+pub on_carve_step : {E : Type 0} (t : Table) (parent : Fetched) (place index : ℕ) (n made : Node) (e : Edge) (root : ℕ) (r : Result Step E) → n ≡ parent.node.value → root ≡ t.root → IsEdgeAt parent.node.value place e → ((d : Edge) → IsEdgeAt parent.node.value place d → IsOldestAt t.level parent.node.value place d index)
+    → IsCarved n index made → IfOk r (λ step. step ≡ change_step root parent.id made) → IfOk r (λ step. IsCarveStep t parent place step)
+on_carve_step t parent place index n made e root (Ok step) same root_is here each carved is = record {
+  node = made;
+  carved = record { edge = e; here = here; index = index; oldest = each e here; carved = subst (λ (x : Node). IsCarved x index made) same carved };
+  is = is ∙ ap (λ (i : ℕ). change_step i parent.id made) root_is;
+}
+on_carve_step t parent place index n made e root (Err x) same root_is here each carved is = tt

@@ -11,7 +11,7 @@ use Rattle.bd_node.specs.Steps.{IsStep, IsInPlace, IsTableAfter, IsCommitted, Is
 use Rattle.bd_flush.specs.declared.fetching.Fetched.{Fetched}
 use Rattle.bd_flush.specs.Flushed.{IsFlushed, IsWornFor}
 use Rattle.bd_flush.specs.Children.{IsWayTo, AreFamily, IsNoHigher}
-use Rattle.bd_flush.specs.Pushes.{IsWaitedFor, CanPush, IsPushStep, IsPushed}
+use Rattle.bd_flush.specs.Pushes.{AllGoDown, CanPush, IsPushStep, IsPushed}
 use Rattle.bd_flush.proofs.ChildSteps.{IsChildChange, IsChildChangeOf, IsChildChanged, below_step, below_in_place, child_flushed, parent_is, child_is, made_are, no_higher, child_worn}
 use Rattle.bd_flush.proofs.ChildSplits.{IsSplittable, at_child, lower_child}
 use Rattle.bd_flush.proofs.Pushed.{batch_low, IsPushable, push_change, push_change_of, push_few, push_named, push_size}
@@ -42,7 +42,7 @@ splittable t parent place child step h = record {
 pushable : (t : Table) (parent : Fetched) (place : ℕ) (child : Fetched) (step : Step) → (h : IsToPush t parent place child step) → IsPushable t parent.id parent.node.value place child.id h.push.edge child.node.value h.push.batch
 pushable t parent place child step h = record {
   split = splittable t parent place child step h;
-  waiting = subst (λ (e : Edge). IsWaitedFor parent.node.value place e) (same_edge t parent place child step h) h.can.waiting;
+  down = subst (λ (e : Edge). AllGoDown t.level (t.level child.id) parent.node.value place e) (same_edge t parent place child step h) h.can.down;
   moved = h.push.moved;
   child = h.can.child_is.own;
   soft = h.can.soft;

@@ -1,16 +1,19 @@
 -- The commit of a push, with a node between or without.
-use Rattle.std.proofs.Common.{◌≡◌, ℕ, ◌+◌, ◌^◌, ◌<◌, ◌≤◌, List, [], ◌∷◌, length, sym, ap, subst, arith, inl, inr, ◌⊎◌, Result, Ok, Err, OnOk, OnErr}
+use Rattle.std.proofs.Common.{◌≡◌, ℕ, ◌+◌, ◌^◌, ◌<◌, ◌≤◌, List, [], ◌∷◌, length, sym, ap, subst, ◌∙◌, arith, inl, inr, ◌⊎◌, Result, Ok, Err, OnOk, OnErr}
 use Rattle.std.specs.List.{AllByRecursion}
+use Rattle.std.proofs.lemmas.Option.{same_Some}
 use Rattle.bd_message.specs.declared.fault.Counter.TheVariants.{Level}
 use Rattle.bd_message.specs.declared.fault.MapFault.{MapFault}
 use Rattle.bd_message.specs.declared.fault.MapFault.TheVariants.{Worn}
 use Rattle.bd_message.specs.KeyMaps.{HasMapCause}
+use Rattle.bd_node.specs.declared.node.Edge.{Edge}
 use Rattle.bd_node.specs.declared.node.Step.{Step}
 use Rattle.bd_node.specs.Nodes.{level_of}
 use Rattle.bd_node.specs.Meaning.{Nodes}
 use Rattle.bd_node.specs.Tables.{Table, IsTable, IsSound}
 use Rattle.bd_node.specs.Steps.{IsStep, IsInPlace, IsTableAfter, IsCommitted, IsWornBy}
 use Rattle.bd_node.specs.Stores.{visited}
+use Rattle.bd_inner.specs.Exchange.{IsEdgeAt}
 use Rattle.bd_flush.specs.declared.fetching.Fetched.{Fetched}
 use Rattle.bd_flush.specs.declared.pushing.Plan.{Plan}
 use Rattle.bd_flush.specs.declared.pushing.Plan.TheVariants.{Ready, NoLevel}
@@ -18,8 +21,9 @@ use Rattle.bd_flush.specs.Flushed.{IsFlushed, IsWornFor}
 use Rattle.bd_flush.specs.Children.{AreFamily, IsNoHigher, IsContents}
 use Rattle.bd_flush.specs.Between.{IsHardlyHigher}
 use Rattle.bd_flush.specs.Raising.{IsWayUp}
-use Rattle.bd_flush.specs.Pushes.{CanPush, IsSomePush, IsPlan, IsPushed, IsPushedBetween, IsLongPush, IsHighPush}
+use Rattle.bd_flush.specs.Pushes.{AllGoDown, CanMoveSome, IsWaitedFor, CanPush, IsSomePush, IsPlan, IsPushed, IsPushedBetween, IsLongPush, IsHighPush}
 use Rattle.bd_flush.proofs.Worn.{cause_weaker}
+use Rattle.bd_flush.proofs.GoingDown.{all_move, all_plain}
 use Rattle.bd_flush.proofs.PathSteps.{path_may, path_in_place, path_worn}
 use Rattle.bd_flush.proofs.PushCommits.{may_push, push_in_place, push_flushed, push_is, push_no_higher, push_made, push_worn}
 use Rattle.bd_flush.proofs.Betweens.{IsToPutBetween, the_child, the_uppers, between_path, between_path_of, between_short, between_flushed, between_pushed, between_table, cannot_rise}
@@ -41,6 +45,18 @@ is_planned t way parent place child step plan root next table can up same_root s
   way_up = up;
   push = subst (λ (i : ℕ). IsSomePush t.root i way parent place child step) same_next (subst (λ (r : ℕ). IsSomePush r next way parent place child step) same_root (subst (λ (p : Plan). IsPlan root next way parent place child p) ready push));
 }
+
+-- what waits can be moved, and names no node where the child is a leaf
+pub waiting_moves : (t : Table) (parent : Fetched) (place : ℕ) (child : Fetched) → CanPush t parent place child → (e : Edge) → IsEdgeAt parent.node.value place e → CanMoveSome parent.node.value place e
+waiting_moves t parent place child can e here =
+    subst (λ (d : Edge). CanMoveSome parent.node.value place d) (same_Some can.edge e (sym can.way.here ∙ here))
+    (record { some = can.some; each = all_move t.level (t.level child.id) parent.node.value place can.edge can.parent_is.own.shape can.way.here can.down })
+
+pub waiting_plain : (t : Table) (parent : Fetched) (place : ℕ) (child : Fetched) → CanPush t parent place child → level_of child.node.value ≡ 0 → (e : Edge) → IsEdgeAt parent.node.value place e → IsWaitedFor parent.node.value place e
+waiting_plain t parent place child can leaf e here =
+    let low : t.level child.id ≡ 0 = sym can.child_is.own.level_is ∙ leaf in
+    subst (λ (d : Edge). IsWaitedFor parent.node.value place d) (same_Some can.edge e (sym can.way.here ∙ here))
+    (record { some = can.some; plain = all_plain t.level parent.node.value place can.edge (subst (λ (top : ℕ). AllGoDown t.level top parent.node.value place can.edge) low can.down) })
 
 -- and its nodes
 pub record IsPlannedOf (nodes : Nodes) (t : Table) (way : List Fetched) (parent : Fetched) (place : ℕ) (child : Fetched) (step : Step) : Type 0 where

@@ -1,6 +1,7 @@
 pub mod Pending
 pub mod Flushed
 pub mod Paths
+pub mod GoingDown
 pub mod Splits
 pub mod Children
 pub mod Pushes

@@ -17,7 +17,7 @@ use Rattle.bd_node.specs.Tables.{Table}
 use Rattle.bd_inner.specs.declared.batches.Batch.{Batch}
 use Rattle.bd_inner.specs.Compaction.{IsCompacted}
 use Rattle.bd_inner.specs.Halves.{edges_of, buffer_of, AreHalves}
-use Rattle.bd_inner.specs.Moving.{IsPlainFor, SomeCanTouch, IsBatch}
+use Rattle.bd_inner.specs.Moving.{CanMove, IsPlainFor, SomeCanTouch, IsBatch}
 use Rattle.bd_inner.specs.Exchange.{exchanged, end_at, IsEdgeAt, way_to}
 use Rattle.bd_leaf.specs.Leaves.{entries_size, IsReceived}
 use Rattle.bd_flush.specs.declared.fetching.Fetched.{Fetched}
@@ -29,6 +29,7 @@ use Rattle.bd_flush.specs.declared.children.Halving.{Halving}
 use Rattle.bd_flush.specs.declared.children.Halving.TheVariants.{Short, Long}
 use Rattle.bd_flush.specs.Children.{IsFetched, IsWayTo, IsSplitInto, IsLongIn, child_step}
 use Rattle.bd_flush.specs.Paths.{path_step}
+use Rattle.bd_flush.specs.GoingDown.{GoesDown}
 use Rattle.bd_flush.specs.Splits.{over_two}
 use Rattle.bd_flush.specs.Raising.{raised, raise, IsRaisedOver, CannotRiseOver}
 
@@ -39,6 +40,15 @@ seen_by e count = record e { seen = e.seen + count }
 -- the messages that a node's edge hasn't seen
 abbrev pub unseen : Node → Edge → List Message
 unseen n e = drop e.seen (buffer_of n)
+
+-- each message that a node's edge hasn't seen may go down the edge to a child of a level
+abbrev pub AllGoDown : (ℕ → ℕ) → ℕ → Node → ℕ → Edge → Type 0
+AllGoDown level top n place e = AllByRecursion (GoesDown level top e (end_at n place)) (unseen n e)
+
+-- messages are pending for the edge, and each of them can go down it
+pub record CanMoveSome (n : Node) (place : ℕ) (e : Edge) : Type 0 where
+  pub some : SomeCanTouch e (end_at n place) (unseen n e)
+  pub each : AllByRecursion (CanMove e (end_at n place)) (unseen n e)
 
 -- messages are pending for the edge, and none of them names a node
 pub record IsWaitedFor (n : Node) (place : ℕ) (e : Edge) : Type 0 where
@@ -54,7 +64,8 @@ pub record CanPush (t : Table) (parent : Fetched) (place : ℕ) (child : Fetched
   pub room : length (edges_of parent.node.value) ≤ 14
   pub edge : Edge
   pub way : IsWayTo parent.node.value place child.id edge
-  pub waiting : IsWaitedFor parent.node.value place edge
+  pub some : SomeCanTouch edge (end_at parent.node.value place) (unseen parent.node.value edge)
+  pub down : AllGoDown t.level (t.level child.id) parent.node.value place edge
   pub once : t.count child.id ≡ 1
   pub soft : buffer_size child.node.value ≤ soft_limit
 

@@ -1,5 +1,5 @@
 -- The way down that a step of a flush takes, and what is to be done at its end.
-use Rattle.std.specs.Prelude.{◌≡◌, ◌≢◌, ℕ, ◌<◌, ◌≤◌, ◌⊎◌, List, [], length, drop, reverse, Option, None, Some, slice_get}
+use Rattle.std.specs.Prelude.{◌≡◌, ◌≢◌, ℕ, ◌<◌, ◌≤◌, ◌⊎◌, List, [], length, reverse, Option, None, Some, slice_get}
 use Rattle.std.specs.List.{AllByRecursion}
 use Rattle.bd_limits.specs.Limits.{soft_limit}
 use Rattle.bd_message.specs.declared.message.Message.{Message}
@@ -11,7 +11,6 @@ use Rattle.bd_node.specs.Shape.{IsPending}
 use Rattle.bd_node.specs.Private.{IsPrivate}
 use Rattle.bd_node.specs.Tables.{Table}
 use Rattle.bd_inner.specs.Halves.{edges_of, buffer_of}
-use Rattle.bd_inner.specs.Moving.{IsPlainFor}
 use Rattle.bd_inner.specs.Exchange.{end_at, IsEdgeAt}
 use Rattle.bd_flush.specs.declared.fetching.Fetched.{Fetched}
 use Rattle.bd_flush.specs.declared.ways.FlushStep.{FlushStep}
@@ -23,6 +22,8 @@ use Rattle.bd_flush.specs.declared.ways.Look.TheVariants.{Down, End}
 use Rattle.bd_flush.specs.Pending.{IsFullest}
 use Rattle.bd_flush.specs.Children.{IsFetched, IsWayTo, CanSplitChild}
 use Rattle.bd_flush.specs.Raising.{IsWayUp}
+use Rattle.bd_flush.specs.GoingDown.{child_level}
+use Rattle.bd_flush.specs.Pushes.{AllGoDown}
 
 -- most bytes of a node's messages are pending for the edge at a place
 pub record IsFullestAt (n : Node) (place : ℕ) : Type 0 where
@@ -66,8 +67,7 @@ pub record IsReadyToPush (t : Table) (parent : Fetched) (place : ℕ) (child : O
     pub fullest : IsFullestAt parent.node.value place
     pub edge : Edge
     pub target : IsTarget t parent.node.value place edge child
-    pub plain : AllByRecursion (IsPlainFor edge (end_at parent.node.value place))
-        (drop edge.seen (buffer_of parent.node.value))
+    pub down : AllGoDown t.level (child_level t.level edge.child) parent.node.value place edge
 
 -- a node whose fullest edge asks a shared child, or one with something in front of a key
 pub record IsShared (t : Table) (parent : Fetched) (place : ℕ) : Type 0 where
@@ -79,15 +79,14 @@ pub record IsShared (t : Table) (parent : Fetched) (place : ℕ) : Type 0 where
   pub child_is : edge.child ≡ Some child
   pub shared : (edge.source ≢ []) ⊎ (t.count child ≢ 1)
 
--- a node for whose fullest edge a Goto is pending
+-- a node for whose fullest edge a Goto is pending that may not go down it
 pub record IsNamed (t : Table) (parent : Fetched) (place : ℕ) : Type 0 where
   pub parent_is : IsFetched t parent
   pub room : length (edges_of parent.node.value) ≤ 14
   pub fullest : IsFullestAt parent.node.value place
   pub edge : Edge
   pub here : IsEdgeAt parent.node.value place edge
-  pub plain : ¬ AllByRecursion (IsPlainFor edge (end_at parent.node.value place))
-      (drop edge.seen (buffer_of parent.node.value))
+  pub held : ¬ AllGoDown t.level (child_level t.level edge.child) parent.node.value place edge
 
 -- what is to be done, as far as the table tells
 abbrev pub IsToDo : Table → FlushStep → Type 0

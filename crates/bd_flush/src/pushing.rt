@@ -20,7 +20,7 @@ ghost use Rattle.bd_flush.specs.Flushed.{IsFlushed, IsWornFor};
 ghost use Rattle.bd_flush.specs.Children.{AreFamily, IsContents, IsNoHigher};
 ghost use Rattle.bd_flush.specs.Between.{IsHardlyHigher};
 ghost use Rattle.bd_flush.specs.Raising.{IsWayUp};
-ghost use Rattle.bd_flush.specs.Pushes.{seen_by, unseen, CanPush, IsWaitedFor, IsEdgeBatch, IsRelieved, IsPartedOver, IsPushedOver, ArePushed, IsPlanOver, IsPlan, IsPushed, IsPushedBetween, IsLongPush, IsHighPush};
+ghost use Rattle.bd_flush.specs.Pushes.{seen_by, unseen, IsWaitedFor, CanMoveSome, CanPush, IsEdgeBatch, IsRelieved, IsPartedOver, IsPushedOver, ArePushed, IsPlanOver, IsPlan, IsPushed, IsPushedBetween, IsLongPush, IsHighPush};
 
 use crate::Fetched;
 use crate::children::{Halving, Parts, child_step, over_halves, with_edge};
@@ -37,7 +37,8 @@ use std::alloc::{AllocError, Global};
 /// Moves the oldest messages that a private node's edge hasn't seen, at least one and at most
 /// 16,384 bytes, to its child, in which at most 16,384 bytes wait. Both were fetched before, and so
 /// were the nodes above, the root first. No other node names the child, and the edge at the place
-/// asks it with nothing in front of a key.
+/// asks it with nothing in front of a key. A Goto goes down like any other message; each is of keys
+/// of the edge alone, and names a node of a lower level than the child's.
 /// A leaf that would have more than 40,960 bytes is split: it is one half from now on, and the other
 /// half is made if it has keys of the edge. Where the pivot would have more than 518 bytes in the
 /// parent, the leaf becomes a node over both halves, which are made, and each node above that isn't
@@ -116,7 +117,9 @@ fn push_plan(
     requires within { place < length (edges_of parent.now.node.value) }
     requires next { 1 ≤ next }
     requires waiting { (e : Edge) → IsEdgeAt parent.now.node.value place e
-        → IsWaitedFor parent.now.node.value place e }
+        → CanMoveSome parent.now.node.value place e }
+    requires plain { level_of child.now.node.value ≡ 0 → (e : Edge)
+        → IsEdgeAt parent.now.node.value place e → IsWaitedFor parent.now.node.value place e }
     ensures { IfOk result (IsPlan root next (reverse above.now) parent.now place child.now) }
 {
     let node: &Node = &parent.node;
@@ -152,7 +155,9 @@ fn pushed_below(
     requires room { length (edges_of node.now) ≤ 14 }
     requires within { place < length (edges_of node.now) }
     requires next { 1 ≤ next }
-    requires waiting { (e : Edge) → IsEdgeAt node.now place e → IsWaitedFor node.now place e }
+    requires waiting { (e : Edge) → IsEdgeAt node.now place e → CanMoveSome node.now place e }
+    requires plain { level_of child.now ≡ 0 → (e : Edge) → IsEdgeAt node.now place e
+        → IsWaitedFor node.now place e }
     ensures { IfOk result (IsPushedOver node.now place child.now next) }
 {
     match child {
@@ -276,7 +281,7 @@ fn received(
     requires inner { 1 ≤ level_of child.now }
     requires soft { buffer_size child.now ≤ soft_limit }
     requires within { place < length (edges_of node.now) }
-    requires waiting { (e : Edge) → IsEdgeAt node.now place e → IsWaitedFor node.now place e }
+    requires waiting { (e : Edge) → IsEdgeAt node.now place e → CanMoveSome node.now place e }
     ensures { IfOk result (λ parts. ArePushed node.now place child.now next parts) }
 {
     let batch = edge_batch(alloc, node, place)?;
@@ -293,7 +298,7 @@ fn received(
 fn edge_batch(alloc: Global, node: &Node, place: usize) -> Result<Batch, AllocError>
     requires shape { IsShape node.now }
     requires within { place < length (edges_of node.now) }
-    requires waiting { (e : Edge) → IsEdgeAt node.now place e → IsWaitedFor node.now place e }
+    requires waiting { (e : Edge) → IsEdgeAt node.now place e → CanMoveSome node.now place e }
     ensures { IfOk result (λ b. (e : Edge) → IsEdgeAt node.now place e
         → IsEdgeBatch node.now place e b) }
 {
@@ -305,7 +310,7 @@ pub fn batch_for(alloc: Global, node: &Node, place: usize, edge: &Edge) -> Resul
     requires shape { IsShape node.now }
     requires within { place < length (edges_of node.now) }
     requires lifted { IsLifted edge.now (end_at node.now place) }
-    requires waiting { IsWaitedFor node.now place edge.now }
+    requires waiting { CanMoveSome node.now place edge.now }
     ensures { IfOk result (IsEdgeBatch node.now place edge.now) }
 {
     let edges = edges_of(node);

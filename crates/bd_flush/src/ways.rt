@@ -1,29 +1,24 @@
 //! The way down that a step of a flush takes, and what is to be done at its end.
 
-ghost use Rattle.std.specs.Prelude.{◌≡◌, ◌↔◌, ◌+◌, ◌<◌, ◌≤◌, true, false, length, drop, reverse, IfOk, IsTrue, Some};
-ghost use Rattle.std.specs.Option.{option_copied};
-ghost use Rattle.std.specs.List.{AllByRecursion};
-ghost use Rattle.bd_keys.specs.Keys.{IsBelowEnd};
+ghost use Rattle.std.specs.Prelude.{◌≡◌, ◌+◌, ◌<◌, ◌≤◌, length, reverse, IfOk, Some};
 ghost use Rattle.bd_message.specs.KeyMaps.{HasMapCause, NeverWorn};
 ghost use Rattle.bd_node.specs.declared.node.Edge.{Edge};
 ghost use Rattle.bd_node.specs.Nodes.{level_of};
 ghost use Rattle.bd_node.specs.Meaning.{Nodes};
 ghost use Rattle.bd_node.specs.Shape.{IsShape};
 ghost use Rattle.bd_node.specs.Tables.{Table, IsSound};
-ghost use Rattle.bd_inner.specs.Halves.{edges_of, buffer_of};
-ghost use Rattle.bd_inner.specs.Exchange.{end_at, IsEdgeAt};
+ghost use Rattle.bd_inner.specs.Halves.{edges_of};
 ghost use Rattle.bd_flush.specs.Children.{IsFetched, IsWayTo};
-ghost use Rattle.bd_inner.specs.Moving.{IsPlainFor};
 ghost use Rattle.bd_flush.specs.declared.ways.FlushStep.TheVariants as step;
 ghost use Rattle.bd_flush.specs.Raising.{IsWayUp};
 ghost use Rattle.bd_flush.specs.Ways.{IsFullestAt, IsTarget, IsHigh, IsToDo, IsToDoAt, IsWayOf, IsWayThere, IsThere, AreThere, IsChildThere, IsAsked, IsSeen, IsSeenAt, IsWaySeen, IsWaySeenAt};
 
+use crate::carving::held_goto;
 use crate::nodes::{buffer_of, edges_of};
 use crate::{Fetched, Way, fetch, fullest};
-use bd_inner::{can_touch, end_of};
 use bd_limits::SOFT_BUFFER;
-use bd_message::{MapFault, Message};
-use bd_node::{Edge, Items, Node, NodeStore};
+use bd_message::MapFault;
+use bd_node::{Items, Node, NodeStore};
 use std::alloc::{AllocError, Global};
 
 /// From this many edges on, a node on the way is split.
@@ -142,7 +137,7 @@ fn look_from<S: NodeStore>(
 {
     let place = fullest_place(&parent.node);
     let id = match asks(&parent.node, place) {
-        Asked::Nothing => return Ok(Look::End(push_or_carve(above, parent, place, None))),
+        Asked::Nothing => return Ok(Look::End(push_or_carve(store, above, parent, place, None))),
         Asked::Through => return Ok(Look::End(privatise(above, parent, place))),
         Asked::Child(id) => id,
     };
@@ -150,22 +145,24 @@ fn look_from<S: NodeStore>(
         return Ok(Look::End(privatise(above, parent, place)));
     }
     let child = fetch(store, id)?;
-    Ok(look_below(above, parent, place, child)?)
+    Ok(look_below(store, above, parent, place, child)?)
 }
 
 // What is seen from a node on the way, where its private child was fetched.
-fn look_below(
+fn look_below<S: NodeStore>(
+    store: &S,
     above: Vec<Fetched>,
     parent: Fetched,
     place: usize,
     child: Fetched,
 ) -> Result<Look, AllocError>
-    requires shape { IsShape parent.node.value }
-    requires child { IsShape child.node.value }
+    requires fetched { IsFetched (S.table store.now) parent }
+    requires child { IsFetched (S.table store.now) child }
     requires within { place < length (edges_of parent.node.value) }
-    ensures seen { (t : Table) → IsFetched t parent → length (edges_of parent.node.value) ≤ 14
+    ensures seen { length (edges_of parent.node.value) ≤ 14
         → IsFullestAt parent.node.value place → (e : Edge) → IsWayTo parent.node.value place child.id e
-        → IsFetched t child → t.count child.id ≡ 1 → IsHigh t parent → IfOk result (IsSeen t parent) }
+        → (S.table store.now).count child.id ≡ 1 → IsHigh (S.table store.now) parent
+        → IfOk result (IsSeen (S.table store.now) parent) }
     ensures at { (nodes : Nodes) (t : Table) → IsThere nodes t parent
         → length (edges_of parent.node.value) ≤ 14 → IsFullestAt parent.node.value place
         → (e : Edge) → IsWayTo parent.node.value place child.id e → t.count child.id ≡ 1
@@ -178,7 +175,7 @@ fn look_below(
         → IfOk result (IsWaySeenAt nodes t) }
 {
     if child.node.buffer_size() <= SOFT_BUFFER {
-        return Ok(Look::End(push_or_carve(above, parent, place, Some(child))));
+        return Ok(Look::End(push_or_carve(store, above, parent, place, Some(child))));
     }
     if edges_of(&child.node).len() < MANY_EDGES {
         let mut above = above;
@@ -205,18 +202,20 @@ fn privatise(above: Vec<Fetched>, parent: Fetched, place: usize) -> FlushStep
 }
 
 // What is to be done where messages go to a child or a new leaf: a push, or first the carving of a
-// Goto.
-fn push_or_carve(
+// Goto that may not go down.
+fn push_or_carve<S: NodeStore>(
+    store: &S,
     above: Vec<Fetched>,
     parent: Fetched,
     place: usize,
     child: Option<Fetched>,
 ) -> FlushStep
-    requires shape { IsShape parent.node.value }
+    requires fetched { IsFetched (S.table store.now) parent }
     requires within { place < length (edges_of parent.node.value) }
-    ensures to_do { (t : Table) → IsFetched t parent → length (edges_of parent.node.value) ≤ 14
+    ensures to_do { length (edges_of parent.node.value) ≤ 14
         → IsFullestAt parent.node.value place → (e : Edge)
-        → IsTarget t parent.node.value place e child → IsHigh t parent → IsToDo t result }
+        → IsTarget (S.table store.now) parent.node.value place e child
+        → IsHigh (S.table store.now) parent → IsToDo (S.table store.now) result }
     ensures at { (nodes : Nodes) (t : Table) → IsThere nodes t parent → IsChildThere nodes child
         → IsToDoAt nodes t result }
     ensures way { (t : Table) → IsWayUp t parent.id (reverse above.items) → IsWayOf t result }
@@ -224,62 +223,18 @@ fn push_or_carve(
         → AreThere nodes t (reverse above.items) → IsWayThere nodes t result }
 {
     let above = Items::from_vec(above);
-    if goto_waits(&parent.node, place) {
-        FlushStep::Carve {
+    match held_goto(store, &parent, place) {
+        Some(_) => FlushStep::Carve {
             above,
             parent,
             place,
-        }
-    } else {
-        FlushStep::Push {
+        },
+        None => FlushStep::Push {
             above,
             parent,
             place,
             child,
-        }
-    }
-}
-
-// Whether a Goto is pending for the edge at a place.
-fn goto_waits(node: &Node, place: usize) -> bool
-    requires shape { IsShape node.now }
-    requires within { place < length (edges_of node.now) }
-    ensures none { result ≡ false → (e : Edge) → IsEdgeAt node.now place e
-        → AllByRecursion (IsPlainFor e (end_at node.now place)) (drop e.seen (buffer_of node.now)) }
-    ensures some { result ≡ true → (e : Edge) → IsEdgeAt node.now place e
-        → ¬ AllByRecursion (IsPlainFor e (end_at node.now place)) (drop e.seen (buffer_of node.now)) }
-{
-    let edges = edges_of(node);
-    let edge = &edges[place];
-    let (_, unseen) = buffer_of(node).split_at(edge.seen as usize);
-    !are_plain(edge, end_of(edges, place), unseen)
-}
-
-// Whether no Goto among messages changes anything at a key of an edge whose keys end at `hi`.
-fn are_plain(edge: &Edge, hi: Option<&[u8]>, list: &[Message]) -> bool
-    requires { IsBelowEnd edge.now.pivot (option_copied hi) }
-    ensures { IsTrue result
-        ↔ AllByRecursion (IsPlainFor edge.now (option_copied hi.entry)) list.now }
-{
-    for message in list {
-        if !is_plain(edge, hi, message) {
-            return false;
-        }
-    }
-    true
-}
-
-// Whether a message is no Goto, or changes nothing at a key of an edge whose keys end at `hi`.
-fn is_plain(edge: &Edge, hi: Option<&[u8]>, message: &Message) -> bool
-    requires { IsBelowEnd edge.now.pivot (option_copied hi) }
-    ensures { IsTrue result ↔ IsPlainFor edge.now (option_copied hi.entry) message.now }
-{
-    match message {
-        Message::Goto { .. } => !can_touch(message, edge.pivot.as_slice(), hi),
-        Message::Put { .. } => true,
-        Message::Del { .. } => true,
-        Message::Patch { .. } => true,
-        Message::Cut { .. } => true,
+        },
     }
 }
 

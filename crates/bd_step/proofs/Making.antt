@@ -1,5 +1,5 @@
 -- What the way down finds is enough to make a step.
-use Rattle.std.proofs.Common.{◌≡◌, ℕ, ◌+◌, ◌*◌, List, reverse, ◌<◌, ◌≤◌, sym, ap, subst, ◌∙◌, None, Some, arith, inl, inr}
+use Rattle.std.proofs.Common.{◌≡◌, ℕ, ◌+◌, ◌*◌, List, reverse, ◌<◌, ◌≤◌, sym, ap, subst, ◌∙◌, Option, None, Some, Result, Ok, IfOk, arith, inl, inr}
 use Rattle.std.specs.List.{AllByRecursion}
 use Rattle.bd_limits.specs.Limits.{soft_limit}
 use Rattle.bd_node.specs.declared.node.Edge.{Edge}
@@ -9,20 +9,22 @@ use Rattle.bd_node.specs.Nodes.{buffer_size}
 use Rattle.bd_node.specs.Meaning.{Nodes}
 use Rattle.bd_node.specs.Shape.{IsShape}
 use Rattle.bd_node.specs.Tables.{Table, IsSound}
-use Rattle.bd_inner.specs.Moving.{IsPlainFor}
+use Rattle.bd_inner.specs.Moving.{SomeCanTouch}
 use Rattle.bd_inner.specs.Exchange.{end_at, IsEdgeAt}
 use Rattle.bd_flush.specs.declared.fetching.Fetched.{Fetched}
 use Rattle.bd_flush.specs.declared.ways.FlushStep.{FlushStep}
 use Rattle.bd_flush.specs.declared.ways.FlushStep.TheVariants.{SplitRoot, SplitChild, Push, Privatise, Carve}
 use Rattle.bd_flush.specs.Flushed.{IsFlushed}
 use Rattle.bd_flush.specs.Children.{IsFetched, IsContents}
-use Rattle.bd_flush.specs.Pushes.{CanPush, CanPushNew, IsWaitedFor, unseen}
+use Rattle.bd_flush.specs.Pushes.{CanPush, CanPushNew, AllGoDown, unseen}
+use Rattle.bd_flush.specs.GoingDown.{child_level}
 use Rattle.bd_flush.specs.Carving.{CanCarve}
 use Rattle.bd_copy.specs.Copying.{HasChild}
 use Rattle.bd_copy.proofs.Copied.{child_lower}
 use Rattle.bd_flush.specs.Ways.{IsFullestAt, IsHigh, IsThere, AreThere, IsToDo, IsToDoAt, IsWayThere}
 use Rattle.bd_node.proofs.Lookup.{each_weaker}
 use Rattle.bd_flush.proofs.Abundance.{abundant}
+use Rattle.bd_flush.proofs.GoingDown.{all_plain}
 use Rattle.bd_flush.proofs.Waiting.{fullest_waits, pending_waits}
 use Rattle.bd_step.specs.Steps.{IsMade, IsHighAfter, IsAbundantAt, IsAbundant, IsFlushStep}
 
@@ -43,13 +45,13 @@ much_waits t f waits fetched high =
     ]
 
 -- messages wait for the fullest edge
-waits_for : (t : Table) (parent : Fetched) (place : ℕ) (e : Edge) → 1 ≤ t.size → IsFetched t parent → IsHigh t parent → IsFullestAt parent.node.value place → IsEdgeAt parent.node.value place e
-    → AllByRecursion (IsPlainFor e (end_at parent.node.value place)) (unseen parent.node.value e) → IsWaitedFor parent.node.value place e
-waits_for t parent place e waits fetched high full here plain =
-    record {
-      some = pending_waits parent.node.value place e (fullest_waits parent.node.value fetched.own.shape (some_wait t parent waits fetched high) place full e here);
-      plain = plain;
-    }
+waits_for : (t : Table) (parent : Fetched) (place : ℕ) (e : Edge) → 1 ≤ t.size → IsFetched t parent → IsHigh t parent → IsFullestAt parent.node.value place → IsEdgeAt parent.node.value place e → SomeCanTouch e (end_at parent.node.value place) (unseen parent.node.value e)
+waits_for t parent place e waits fetched high full here =
+    pending_waits parent.node.value place e (fullest_waits parent.node.value fetched.own.shape (some_wait t parent waits fetched high) place full e here)
+
+-- what may go down to the edge's child
+goes_to : (t : Table) (n : Node) (place : ℕ) (e : Edge) (o : Option ℕ) → e.child ≡ o → AllGoDown t.level (child_level t.level e.child) n place e → AllGoDown t.level (child_level t.level o) n place e
+goes_to t n place e o is h = subst (λ (x : Option ℕ). AllGoDown t.level (child_level t.level x) n place e) is h
 
 pub can_push : (t : Table) (above : List Fetched) (parent : Fetched) (place : ℕ) (child : Fetched) → 1 ≤ t.size → IsToDo t (Push above parent place (Some child)) → CanPush t parent place child
 can_push t above parent place child waits h = record {
@@ -59,7 +61,8 @@ can_push t above parent place child waits h = record {
   room = h.0.room;
   edge = h.0.edge;
   way = h.0.target.0;
-  waiting = waits_for t parent place h.0.edge waits h.0.parent_is h.1 h.0.fullest h.0.target.0.here h.0.plain;
+  some = waits_for t parent place h.0.edge waits h.0.parent_is h.1 h.0.fullest h.0.target.0.here;
+  down = goes_to t parent.node.value place h.0.edge (Some child.id) h.0.target.0.child_is h.0.down;
   once = h.0.target.2;
   soft = h.0.target.3;
 }
@@ -70,7 +73,10 @@ can_push_new t above parent place waits h = record {
   edge = h.0.edge;
   here = h.0.target.0;
   bare = h.0.target.1;
-  waiting = waits_for t parent place h.0.edge waits h.0.parent_is h.1 h.0.fullest h.0.target.0 h.0.plain;
+  waiting = record {
+    some = waits_for t parent place h.0.edge waits h.0.parent_is h.1 h.0.fullest h.0.target.0;
+    plain = all_plain t.level parent.node.value place h.0.edge (goes_to t parent.node.value place h.0.edge None h.0.target.1 h.0.down);
+  };
 }
 
 pub can_carve : (t : Table) (above : List Fetched) (parent : Fetched) (place : ℕ) → IsToDo t (Carve above parent place) → CanCarve t parent place
@@ -79,7 +85,7 @@ can_carve t above parent place h = record {
   room = h.0.room;
   edge = h.0.edge;
   here = h.0.here;
-  waiting = h.0.plain;
+  held = h.0.held;
 }
 
 pub has_child : (t : Table) (above : List Fetched) (parent : Fetched) (place : ℕ) → IsToDo t (Privatise above parent place) → HasChild t parent place

@@ -1,9 +1,11 @@
 //! A map and a tree over nodes in memory, after the same calls.
 
+use bd_flush::{FlushStep, next_step};
 use bd_keys::starts;
 use bd_limits::MAX_KEY;
 use bd_memnodes::MemNodes;
 use bd_message::{KeyMap, ListMap, Message};
+use bd_node::Node;
 use bd_tree::Tree;
 use rows_tools::{apply, graft};
 use std::alloc::Global;
@@ -37,6 +39,16 @@ impl Both {
         graft(&mut self.map, s, d, keep)
     }
 
+    /// Both as they are, and whether a Goto waits in the node below the root to which a flush would
+    /// move messages next.
+    pub fn with_goto_below(self, alloc: Global) -> Result<(Both, bool), Fail> {
+        let Both { map, tree } = self;
+        let mut store = tree.into_store();
+        let waits = waits_below(alloc, &mut store)?;
+        let tree = Tree::over(alloc, store);
+        Ok((Both { map, tree }, waits))
+    }
+
     /// Whether both have the same at a key.
     pub fn is_same(&mut self, key: &[u8]) -> Result<bool, Fail> {
         let found = self.tree.get(key)?;
@@ -63,6 +75,28 @@ impl Both {
             at.push(0)?;
         }
         Ok(None)
+    }
+}
+
+/// Whether a Goto waits in the node below the root to which a flush would move messages next.
+fn waits_below(alloc: Global, store: &mut MemNodes) -> Result<bool, Fail> {
+    match next_step(alloc, store)? {
+        FlushStep::Push {
+            child: Some(child),
+            ..
+        } => Ok(holds_goto(&child.node)),
+        _ => Ok(false),
+    }
+}
+
+/// Whether a Goto is among the messages of a node.
+fn holds_goto(node: &Node) -> bool {
+    match node {
+        Node::Leaf(_) => false,
+        Node::Inner { buffer, .. } => buffer
+            .as_slice()
+            .iter()
+            .any(|message| matches!(message, Message::Goto { .. })),
     }
 }
 

@@ -7,4 +7,6 @@ mod both;
 #[cfg(test)]
 mod copies;
 #[cfg(test)]
+mod down;
+#[cfg(test)]
 mod graft;

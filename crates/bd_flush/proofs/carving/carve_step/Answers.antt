@@ -1,10 +1,17 @@
-use Rattle.bd_flush.proofs.OldestGotos.{goto_of, carved_for, on_carve_step}
+use Rattle.bd_flush.proofs.CarveCommits.{place_within}
+use Rattle.bd_flush.proofs.OldestGotos.{goto_of, none_held, on_carve_step}
 use Rattle.bd_flush.proofs.carving.carve_step.Goals as goal
 
+pub held_goto-requires-clause-within : goal.held_goto-requires-clause-within
+held_goto-requires-clause-within g c = place_within (g.S.NodeStore.table c.args.store.now) c.args.parent.now c.args.place c.requires.can
+
+pub unreachable-requires : goal.unreachable-requires
+unreachable-requires g c = none_held (g.S.NodeStore.table c.args.store.now) c.args.parent.now c.args.place c.requires.can (c.held_goto.ensures.none c.in_default.is)
+
 pub carve-requires-clause-goto : goal.carve-requires-clause-goto
-carve-requires-clause-goto c = goto_of c.deref-node.result.now c.args.parent.now.node.value c.args.place c.pending_goto-index.result c.deref-node.ensures c.requires.within c.pending_goto-index.ensures
+carve-requires-clause-goto g c =
+    goto_of (g.S.NodeStore.table c.args.store.now).level c.deref-node.result.now c.args.parent.now.node.value c.args.place c.in-Some.index c.requires.can.edge c.deref-node.ensures c.requires.can.here c.in-Some.ensures.some
 
 pub returns : goal.returns
-returns c =
-    on_carve_step c.args.root c.args.parent.now c.args.place c.in_ok-carved.carved c.change_step.result
-    (carved_for c.deref-node.result.now c.args.parent.now.node.value c.args.place c.pending_goto-index.result c.in_ok-carved.carved c.deref-node.ensures c.requires.within c.pending_goto-index.ensures c.in_ok-carved.ensures.node) c.change_step.ensures
+returns g c =
+    on_carve_step (g.S.NodeStore.table c.args.store.now) c.args.parent.now c.args.place c.in-Some.index c.deref-node.result.now c.in_ok-carved.carved c.requires.can.edge c.args.root c.change_step.result c.deref-node.ensures c.requires.root c.requires.can.here c.in-Some.ensures.some c.in_ok-carved.ensures.node c.change_step.ensures

@@ -1,4 +1,5 @@
 use Rattle.std.proofs.Common.{arith}
+use Rattle.bd_flush.proofs.GoingDown.{waits_move}
 use Rattle.bd_flush.proofs.NewWays.{of_lifted, of_waiting, of_plain, of_small, of_fits, is_new_leaf}
 use Rattle.bd_flush.proofs.planting.new_leaf.Goals as goal
 
@@ -6,7 +7,9 @@ pub batch_for-requires-clause-lifted : goal.batch_for-requires-clause-lifted
 batch_for-requires-clause-lifted c = of_lifted c.args.node.now c.args.place c.args.next c.in_ok-edge.edge (record { shape = c.requires.shape; within = c.requires.within; waiting = c.requires.waiting; way = c.in_ok-edge.ensures })
 
 pub batch_for-requires-clause-waiting : goal.batch_for-requires-clause-waiting
-batch_for-requires-clause-waiting c = of_waiting c.args.node.now c.args.place c.args.next c.in_ok-edge.edge (record { shape = c.requires.shape; within = c.requires.within; waiting = c.requires.waiting; way = c.in_ok-edge.ensures })
+batch_for-requires-clause-waiting c =
+    waits_move c.args.node.now c.args.place c.in_ok-edge.edge
+    (of_waiting c.args.node.now c.args.place c.args.next c.in_ok-edge.edge (record { shape = c.requires.shape; within = c.requires.within; waiting = c.requires.waiting; way = c.in_ok-edge.ensures }))
 
 pub receive-requires-clause-plain : goal.receive-requires-clause-plain
 receive-requires-clause-plain c = of_plain c.args.node.now c.args.place c.args.next c.in_ok-edge.edge c.in_ok-batch.batch c.as_slice.result.now (record { shape = c.requires.shape; within = c.requires.within; waiting = c.requires.waiting; way = c.in_ok-edge.ensures }) c.in_ok-batch.ensures c.as_slice.ensures

@@ -2,8 +2,12 @@ use Rattle.std.proofs.Common.{refl, sym, ◌∙◌}
 use Rattle.bd_keys.proofs.Order.{not_false}
 use Rattle.bd_node.specs.declared.node.Node.TheVariants.{Leaf}
 use Rattle.bd_flush.proofs.Batches.{batch_messages, batch_plain_at, all_messages, all_plain, is_leaf_batch, more_than_fits, leaf_room, on_split, are_fitted}
+use Rattle.bd_flush.proofs.GoingDown.{waits_move}
 use Rattle.bd_flush.proofs.Pushed.{batch_low}
 use Rattle.bd_flush.proofs.pushing.leaf_received.Goals as goal
+
+pub edge_batch-requires-clause-waiting : goal.edge_batch-requires-clause-waiting
+edge_batch-requires-clause-waiting c = λ e here. waits_move c.args.node.now c.args.place e (c.requires.waiting e here)
 
 pub receive-requires-clause-messages : goal.receive-requires-clause-messages
 receive-requires-clause-messages c =

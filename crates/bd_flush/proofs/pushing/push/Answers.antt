@@ -1,7 +1,7 @@
 use Rattle.std.proofs.Common.{arith, reverse}
 use Rattle.bd_flush.proofs.ChildSplits.{edge_within}
 use Rattle.bd_flush.proofs.Betweens.{way_shapes}
-use Rattle.bd_flush.proofs.PushPlans.{is_planned, planned_may, planned_in_place, on_planned_flushed, on_planned_pushed, on_planned_table, on_planned_visits, planned_worn, never_level, no_level_cause}
+use Rattle.bd_flush.proofs.PushPlans.{waiting_moves, waiting_plain, is_planned, planned_may, planned_in_place, on_planned_flushed, on_planned_pushed, on_planned_table, on_planned_visits, planned_worn, never_level, no_level_cause}
 use Rattle.bd_flush.proofs.pushing.push.Goals as goal
 
 pub push_plan-requires-clause-above : goal.push_plan-requires-clause-above
@@ -9,6 +9,12 @@ push_plan-requires-clause-above g c = way_shapes (g.S.NodeStore.table c.args.sto
 
 pub push_plan-requires-clause-within : goal.push_plan-requires-clause-within
 push_plan-requires-clause-within g c = edge_within c.args.parent.now.node.value c.args.place c.requires.can.edge c.requires.can.way.here
+
+pub push_plan-requires-clause-waiting : goal.push_plan-requires-clause-waiting
+push_plan-requires-clause-waiting g c = waiting_moves (g.S.NodeStore.table c.args.store.now) c.args.parent.now c.args.place c.args.child.now c.requires.can
+
+pub push_plan-requires-clause-plain : goal.push_plan-requires-clause-plain
+push_plan-requires-clause-plain g c = waiting_plain (g.S.NodeStore.table c.args.store.now) c.args.parent.now c.args.place c.args.child.now c.requires.can
 
 pub commit-requires-clause-step : goal.commit-requires-clause-step
 commit-requires-clause-step g c =

@@ -8,29 +8,29 @@ use Rattle.bd_flush.proofs.Down.{is_next, next_there, way_more}
 use Rattle.bd_flush.proofs.ways.look_below.Goals as goal
 
 pub returns-then-buffer_size-le-SOFT_BUFFER-clause-seen : goal.returns-then-buffer_size-le-SOFT_BUFFER-clause-seen
-returns-then-buffer_size-le-SOFT_BUFFER-clause-seen c = λ t fetched room fullest e way child_is once high.
+returns-then-buffer_size-le-SOFT_BUFFER-clause-seen g c = λ room fullest e way once high.
     let few : buffer_size c.args.child.node.value ≤ soft_limit = omega (arith, c.buffer_size.ensures, ap buffer_size c.deref.ensures) in
-    c.push_or_carve.ensures.to_do t fetched room fullest e (way, child_is, once, few) high
+    c.push_or_carve.ensures.to_do room fullest e (way, c.requires.child, once, few) high
 
 pub returns-then-edges_of-lt-MANY_EDGES-clause-seen : goal.returns-then-edges_of-lt-MANY_EDGES-clause-seen
-returns-then-edges_of-lt-MANY_EDGES-clause-seen c = λ t fetched room fullest e way child_is once high.
+returns-then-edges_of-lt-MANY_EDGES-clause-seen g c = λ room fullest e way once high.
     let waits : soft_limit < buffer_size c.args.child.node.value = omega (arith, c.buffer_size.ensures, ap buffer_size c.deref.ensures) in
-    is_next t c.args.parent c.args.place c.args.child e fetched way child_is waits
+    is_next (g.S.NodeStore.table c.args.store.now) c.args.parent c.args.place c.args.child e c.requires.fetched way c.requires.child waits
     (omega (arith, ap (λ (l : List Edge). length l) (c.edges_of.ensures ∙ ap edges_of c.deref-2.ensures)))
 
 pub returns-then-edges_of-lt-MANY_EDGES-clause-at : goal.returns-then-edges_of-lt-MANY_EDGES-clause-at
-returns-then-edges_of-lt-MANY_EDGES-clause-at c = λ nodes t there room fullest e way once contents.
+returns-then-edges_of-lt-MANY_EDGES-clause-at g c = λ nodes t there room fullest e way once contents.
     let waits : soft_limit < buffer_size c.args.child.node.value = omega (arith, c.buffer_size.ensures, ap buffer_size c.deref.ensures) in
-    next_there nodes t c.args.parent c.args.place c.args.child e there c.requires.shape room fullest way once contents waits
+    next_there nodes t c.args.parent c.args.place c.args.child e there c.requires.fetched.own.shape room fullest way once contents waits
 
 pub returns-clause-at : goal.returns-clause-at
-returns-clause-at c = λ nodes t there room fullest e way once contents.
+returns-clause-at g c = λ nodes t there room fullest e way once contents.
     let waits : soft_limit < buffer_size c.args.child.node.value = omega (arith, c.buffer_size.ensures, ap buffer_size c.deref.ensures) in
-    (there, next_there nodes t c.args.parent c.args.place c.args.child e there c.requires.shape room fullest way once contents waits)
+    (there, next_there nodes t c.args.parent c.args.place c.args.child e there c.requires.fetched.own.shape room fullest way once contents waits)
 
 pub returns-then-buffer_size-le-SOFT_BUFFER-clause-way_at : goal.returns-then-buffer_size-le-SOFT_BUFFER-clause-way_at
-returns-then-buffer_size-le-SOFT_BUFFER-clause-way_at c = λ nodes t there all. c.push_or_carve.ensures.way_at nodes t all
+returns-then-buffer_size-le-SOFT_BUFFER-clause-way_at g c = λ nodes t there all. c.push_or_carve.ensures.way_at nodes t all
 
 pub returns-then-edges_of-lt-MANY_EDGES-clause-way : goal.returns-then-edges_of-lt-MANY_EDGES-clause-way
-returns-then-edges_of-lt-MANY_EDGES-clause-way c = λ t e fetched way once up.
+returns-then-edges_of-lt-MANY_EDGES-clause-way g c = λ t e fetched way once up.
     way_more t c.args.above.items c.push.new.self.items c.args.parent c.args.place c.args.child.id e c.in_ok-push.ensures.items fetched way once up
