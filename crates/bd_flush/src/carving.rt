@@ -120,8 +120,8 @@ fn is_pending_goto(index: usize, message: &Message, edge: &Edge, hi: Option<&[u8
     }
 }
 
-// The step that changes one node.
-fn change_step(alloc: Global, root: u64, id: u64, node: Node) -> Result<Step, AllocError>
+/// The step that changes one node.
+pub fn change_step(alloc: Global, root: u64, id: u64, node: Node) -> Result<Step, AllocError>
     ensures { IfOk result (λ step. step ≡ change_step root id node) }
 {
     let mut changes = Vec::new(alloc);
