@@ -4,3 +4,4 @@ pub mod Falls
 pub mod Decisions
 pub mod Shrinks
 pub mod Looks
+pub mod Visits

@@ -128,7 +128,7 @@ pub record IsAtEdge (t : Table) (f clean : Fetched) (shown : Node) (es : List Ed
   pub low : place < length es
   pub read : e ≡ get_or es place e
 
-edges_are : (f clean : Fetched) (shown : Node) (es : List Edge) → clean ≡ f → shown ≡ clean.node.value → es ≡ edges_of shown → es ≡ edges_of f.node.value
+pub edges_are : (f clean : Fetched) (shown : Node) (es : List Edge) → clean ≡ f → shown ≡ clean.node.value → es ≡ edges_of shown → es ≡ edges_of f.node.value
 edges_are f clean shown es same shown_is edges = edges ∙ ap edges_of (shown_is ∙ ap (λ (x : Fetched). x.node.value) same)
 
 pub edge_read : (t : Table) (f clean : Fetched) (shown : Node) (es : List Edge) (place : ℕ) (e : Edge) → IsAtEdge t f clean shown es place e → slice_get es place ≡ Some e

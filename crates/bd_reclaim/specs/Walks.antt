@@ -1,5 +1,6 @@
 -- The walk that looks for a change, and the first one that it finds.
-use Rattle.std.specs.Prelude.{◌≡◌, ℕ, ◌<◌, ◌≤◌, List, [], ◌∷◌, Some, slice_get}
+use Rattle.std.specs.Prelude.{◌≡◌, ℕ, zero, suc, ◌<◌, ◌≤◌, nat_lt, ◌==◌, ◌&&◌, if◌then◌else◌, List, [], ◌∷◌, Option, None, Some, slice_get}
+use Rattle.std.specs.List.{sum_by}
 use Rattle.bd_node.specs.declared.node.Edge.{Edge}
 use Rattle.bd_node.specs.declared.node.Node.{Node}
 use Rattle.bd_node.specs.Meaning.{Nodes}
@@ -30,6 +31,22 @@ pub data IsUnder (nodes : Nodes) (t : Table) (last : ℕ) : ℕ → Type 0 where
   itself : IsUnder nodes t last last
   through : (id place c : ℕ) (n : Node) (e : Edge) → nodes id ≡ Some n → IsEdgeAt n place e
       → IsWalked t e c → IsUnder nodes t last c → IsUnder nodes t last id
+
+-- what a function has at an edge's child, if the walk goes on there, and else 0
+abbrev pub at_walked : Table → (ℕ → ℕ) → Option ℕ → ℕ
+at_walked t f None = 0
+at_walked t f (Some child) = if t.count child == 1 && nat_lt 0 (t.level child) then f child else 0
+
+-- the edges of a node, if there is one
+abbrev pub edges_in : Option Node → List Edge
+edges_in None = []
+edges_in (Some n) = edges_of n
+
+-- how many nodes the walk from one comes to, where it goes at most so deep
+unfoldable pub walk_size : Nodes → Table → ℕ → ℕ → ℕ
+walk_size nodes t zero id = 0
+walk_size nodes t (suc depth) id =
+    suc (sum_by (λ e. at_walked t (walk_size nodes t depth) e.child) (edges_in (nodes id)))
 
 -- ---- what is to be changed at a node
 

@@ -1,13 +1,13 @@
 //! The walk that looks for the first change to make.
 
-ghost use Rattle.std.specs.Prelude.{◌≡◌, ℕ, ◌≤◌, ◌+◌, length, IfOk, IfSome, MatchOption, Some};
+ghost use Rattle.std.specs.Prelude.{◌≡◌, ℕ, ◌<◌, ◌≤◌, ◌+◌, length, IfOk, IfSome, MatchOption, Some};
 ghost use Rattle.bd_message.specs.KeyMaps.{HasMapCause, NeverWorn};
 ghost use Rattle.bd_node.specs.declared.node.Node.{Node};
 ghost use Rattle.bd_node.specs.Shape.{IsShape};
 ghost use Rattle.bd_node.specs.Tables.{Table, IsKept, IsLower, IsSound};
 ghost use Rattle.bd_inner.specs.Halves.{edges_of};
 ghost use Rattle.bd_flush.specs.Children.{IsFetched};
-ghost use Rattle.bd_reclaim.specs.Walks.{IsWalked, IsThinWay, IsThin, IsLook, IsEdgeLook, IsFirst, HasNone, IsToDo, IsToDoAt};
+ghost use Rattle.bd_reclaim.specs.Walks.{IsWalked, IsThinWay, IsThin, IsLook, IsEdgeLook, IsFirst, HasNone, IsToDo, IsToDoAt, walk_size};
 
 use crate::Cover;
 use crate::covering::first_covered;
@@ -40,7 +40,8 @@ pub enum Reclaim {
 
 /// The first change that is still to be made, and none exactly where there is none. The walk looks at
 /// the root, and at each inner node that an edge of such a node asks and that nothing else names: at
-/// each node first, and then below its edges, in their order. Nothing is changed.
+/// each node first, and then below its edges, in their order. Nothing is changed. At most those
+/// nodes are visited, each once.
 pub fn reclaim_next<S: NodeStore>(store: &mut S) -> Result<Option<Reclaim>, MapFault>
     ensures first { S.is_known store.old → IsSound (S.nodes store.old) (S.table store.old)
         → IfOk result (λ found. MatchOption found
@@ -56,6 +57,9 @@ pub fn reclaim_next<S: NodeStore>(store: &mut S) -> Result<Option<Reclaim>, MapF
     ensures read { S.reads store.old store.new }
     ensures cause { HasMapCause (S.fault_count store.old) (S.fault_count store.new)
         (S.bad store.new) NeverWorn result }
+    ensures few_visits { S.is_known store.old → S.visit_count store.new
+        ≤ S.visit_count store.old + walk_size (S.nodes store.old) (S.table store.old)
+        ((S.table store.old).level (S.table store.old).root + 1) (S.table store.old).root }
     ensures same_loans { S.loans store.new ≡ S.loans store.old }
 {
     let root = store.root();
@@ -76,6 +80,9 @@ fn first_from<S: NodeStore>(store: &mut S, id: u64) -> Result<Option<Reclaim>, M
     ensures read { S.reads store.old store.new }
     ensures cause { HasMapCause (S.fault_count store.old) (S.fault_count store.new)
         (S.bad store.new) NeverWorn result }
+    ensures few_visits { S.is_known store.old → (depth : ℕ) → (S.table store.old).level id < depth
+        → S.visit_count store.new ≤ S.visit_count store.old
+        + walk_size (S.nodes store.old) (S.table store.old) depth id }
     ensures same_loans { S.loans store.new ≡ S.loans store.old }
 {
     let here = fetch(store, id)?;

@@ -1,7 +1,8 @@
-use Rattle.std.proofs.Common.{rules, ◌≡◌, ◌∙◌, ℕ, ◌<◌, sym, ap, subst, arith, None, Some}
+use Rattle.std.proofs.Common.{rules, ◌≡◌, ◌+◌, ◌∙◌, ℕ, ◌<◌, sym, ap, subst, arith, None, Some}
 use Rattle.bd_node.specs.Tables.{Table, IsKept, IsLower}
 use Rattle.bd_reclaim.specs.Walks.{IsWalked, IsClean, IsFirstAt}
-use Rattle.bd_reclaim.proofs.Looks.{first_here, none_past, none_of_child, edge_read, edge_lower, first_below, none_at_end, as_found, still_sound}
+use Rattle.bd_reclaim.proofs.Looks.{edges_are, first_here, none_past, none_of_child, edge_read, edge_lower, first_below, none_at_end, as_found, still_sound}
+use Rattle.bd_reclaim.proofs.Visits.{one_visit, more_visits, child_visits, all_visits, child_depth, same_size}
 use Rattle.bd_reclaim.proofs.walking.+first_from.Goals as goal
 
 pub returns-in-Change-clause-first : goal.returns-in-Change-clause-first
@@ -22,6 +23,7 @@ loop-edge-preserved-in_default g t c = record {
   read = c.loop-edge.invariant.read;
   later = c.loop-edge.invariant.later;
   loans = c.loop-edge.invariant.loans;
+  visits = λ known depth low. more_visits (g.S.NodeStore.nodes c.args.store.now) (g.S.NodeStore.table c.args.store.now) depth c.edges_of-edges.result.now c.loop-edge.edge-index c.edge-item.result (g.S.NodeStore.visit_count c.args.store.now) (g.S.NodeStore.visit_count c.loop-edge.store) c.loop-edge-test.true c.edge-item.is (c.loop-edge.invariant.visits known depth low);
   none = λ known sound.
       none_past (g.S.NodeStore.nodes c.args.store.now) (g.S.NodeStore.table c.args.store.now) c.edges_of-edges.result.now c.loop-edge.edge-index c.edge-item.result (c.loop-edge.invariant.none known sound)
       (edge_read (g.S.NodeStore.table c.args.store.now) c.in_ok-here.here c.in-Clean.here c.deref.result.now c.edges_of-edges.result.now c.loop-edge.edge-index c.edge-item.result (record { fetched = c.in_ok-here.ensures.fetched; same = c.in-Clean.ensures.0; shown_is = c.deref.ensures; edges = c.edges_of-edges.ensures; low = c.loop-edge-test.true; read = c.edge-item.is }))
@@ -52,6 +54,11 @@ loop-edge-preserved g t c = record {
   read = g.met.S.NodeStore.reads_both c.args.store.now c.loop-edge.store c.first_from.new.store c.loop-edge.invariant.read c.in_ok-step.ensures.read;
   later = (let more = c.in_ok-step.ensures.cause.later in omega (arith, c.loop-edge.invariant.later, more));
   loans = c.in_ok-step.ensures.same_loans ∙ c.loop-edge.invariant.loans;
+  visits = λ known depth low.
+      child_visits (g.S.NodeStore.nodes c.args.store.now) (g.S.NodeStore.table c.args.store.now) depth c.edges_of-edges.result.now c.loop-edge.edge-index c.edge-item.result c.in-Some.child (g.S.NodeStore.visit_count c.args.store.now) (g.S.NodeStore.visit_count c.loop-edge.store) (g.S.NodeStore.visit_count c.first_from.new.store) c.loop-edge-test.true c.edge-item.is
+      (subst (λ (u : Table). IsWalked u c.edge-item.result c.in-Some.child) c.loop-edge.invariant.table c.in-Some.ensures) (c.loop-edge.invariant.visits known depth low)
+      (same_size (g.S.NodeStore.nodes c.args.store.now) (g.S.NodeStore.nodes c.loop-edge.store) (g.S.NodeStore.table c.args.store.now) (g.S.NodeStore.table c.loop-edge.store) depth c.in-Some.child (g.S.NodeStore.visit_count c.loop-edge.store) (g.S.NodeStore.visit_count c.first_from.new.store) (c.loop-edge.invariant.nodes known) c.loop-edge.invariant.table
+      (c.in_ok-step.ensures.few_visits (c.loop-edge.invariant.known known) depth (child_depth (g.S.NodeStore.table c.args.store.now) (g.S.NodeStore.table c.loop-edge.store) c.args.id c.in_ok-here.here.id c.in-Some.child depth c.loop-edge.invariant.table c.in_ok-here.ensures.id (edge_lower (g.S.NodeStore.table c.args.store.now) c.in_ok-here.here c.in-Clean.here c.deref.result.now c.edges_of-edges.result.now c.loop-edge.edge-index c.edge-item.result (record { fetched = c.in_ok-here.ensures.fetched; same = c.in-Clean.ensures.0; shown_is = c.deref.ensures; edges = c.edges_of-edges.ensures; low = c.loop-edge-test.true; read = c.edge-item.is }) c.in-Some.child c.in-Some.ensures.child_is).lower low)));
   none = λ known sound.
       none_past (g.S.NodeStore.nodes c.args.store.now) (g.S.NodeStore.table c.args.store.now) c.edges_of-edges.result.now c.loop-edge.edge-index c.edge-item.result (c.loop-edge.invariant.none known sound)
       (edge_read (g.S.NodeStore.table c.args.store.now) c.in_ok-here.here c.in-Clean.here c.deref.result.now c.edges_of-edges.result.now c.loop-edge.edge-index c.edge-item.result (record { fetched = c.in_ok-here.ensures.fetched; same = c.in-Clean.ensures.0; shown_is = c.deref.ensures; edges = c.edges_of-edges.ensures; low = c.loop-edge-test.true; read = c.edge-item.is }))
@@ -64,3 +71,30 @@ pub returns-clause-first : goal.returns-clause-first
 returns-clause-first g t c = λ known sound.
     none_at_end (g.S.NodeStore.nodes c.args.store.now) (g.S.NodeStore.table c.args.store.now) c.args.id c.in_ok-here.here c.in-Clean.here c.deref.result.now c.edges_of-edges.result.now c.loop-edge.edge-index c.in-Clean.ensures.0 c.deref.ensures c.edges_of-edges.ensures c.in_ok-here.ensures.id (c.in_ok-here.ensures.contents known)
     (subst (λ (u : Table). IsClean u c.in_ok-here.here.id c.in_ok-here.here.node.value) c.in_ok-here.ensures.table c.in-Clean.ensures.1) c.loop-edge-test.false (c.loop-edge.invariant.none known sound)
+
+pub returns-in_err-step-clause-few_visits : goal.returns-in_err-step-clause-few_visits
+returns-in_err-step-clause-few_visits g t c = λ known depth low.
+    all_visits (g.S.NodeStore.nodes c.args.store.now) (g.S.NodeStore.table c.args.store.now) depth c.args.id c.in_ok-here.here.node.value c.edges_of-edges.result.now (c.loop-edge.edge-index + 1) (g.S.NodeStore.visit_count c.args.store.now) (g.S.NodeStore.visit_count c.first_from.new.store) (c.in_ok-here.ensures.contents known) (edges_are c.in_ok-here.here c.in-Clean.here c.deref.result.now c.edges_of-edges.result.now c.in-Clean.ensures.0 c.deref.ensures c.edges_of-edges.ensures) low
+    (λ d under. child_visits (g.S.NodeStore.nodes c.args.store.now) (g.S.NodeStore.table c.args.store.now) d c.edges_of-edges.result.now c.loop-edge.edge-index c.edge-item.result c.in-Some.child (g.S.NodeStore.visit_count c.args.store.now) (g.S.NodeStore.visit_count c.loop-edge.store) (g.S.NodeStore.visit_count c.first_from.new.store) c.loop-edge-test.true c.edge-item.is
+    (subst (λ (u : Table). IsWalked u c.edge-item.result c.in-Some.child) c.loop-edge.invariant.table c.in-Some.ensures) (c.loop-edge.invariant.visits known d under)
+    (same_size (g.S.NodeStore.nodes c.args.store.now) (g.S.NodeStore.nodes c.loop-edge.store) (g.S.NodeStore.table c.args.store.now) (g.S.NodeStore.table c.loop-edge.store) d c.in-Some.child (g.S.NodeStore.visit_count c.loop-edge.store) (g.S.NodeStore.visit_count c.first_from.new.store) (c.loop-edge.invariant.nodes known) c.loop-edge.invariant.table
+    (c.in_err-step.ensures.few_visits (c.loop-edge.invariant.known known) d (child_depth (g.S.NodeStore.table c.args.store.now) (g.S.NodeStore.table c.loop-edge.store) c.args.id c.in_ok-here.here.id c.in-Some.child d c.loop-edge.invariant.table c.in_ok-here.ensures.id (edge_lower (g.S.NodeStore.table c.args.store.now) c.in_ok-here.here c.in-Clean.here c.deref.result.now c.edges_of-edges.result.now c.loop-edge.edge-index c.edge-item.result (record { fetched = c.in_ok-here.ensures.fetched; same = c.in-Clean.ensures.0; shown_is = c.deref.ensures; edges = c.edges_of-edges.ensures; low = c.loop-edge-test.true; read = c.edge-item.is }) c.in-Some.child c.in-Some.ensures.child_is).lower under))))
+
+pub returns-in-Some-2-clause-few_visits : goal.returns-in-Some-2-clause-few_visits
+returns-in-Some-2-clause-few_visits g t c = λ known depth low.
+    all_visits (g.S.NodeStore.nodes c.args.store.now) (g.S.NodeStore.table c.args.store.now) depth c.args.id c.in_ok-here.here.node.value c.edges_of-edges.result.now (c.loop-edge.edge-index + 1) (g.S.NodeStore.visit_count c.args.store.now) (g.S.NodeStore.visit_count c.first_from.new.store) (c.in_ok-here.ensures.contents known) (edges_are c.in_ok-here.here c.in-Clean.here c.deref.result.now c.edges_of-edges.result.now c.in-Clean.ensures.0 c.deref.ensures c.edges_of-edges.ensures) low
+    (λ d under. child_visits (g.S.NodeStore.nodes c.args.store.now) (g.S.NodeStore.table c.args.store.now) d c.edges_of-edges.result.now c.loop-edge.edge-index c.edge-item.result c.in-Some.child (g.S.NodeStore.visit_count c.args.store.now) (g.S.NodeStore.visit_count c.loop-edge.store) (g.S.NodeStore.visit_count c.first_from.new.store) c.loop-edge-test.true c.edge-item.is
+    (subst (λ (u : Table). IsWalked u c.edge-item.result c.in-Some.child) c.loop-edge.invariant.table c.in-Some.ensures) (c.loop-edge.invariant.visits known d under)
+    (same_size (g.S.NodeStore.nodes c.args.store.now) (g.S.NodeStore.nodes c.loop-edge.store) (g.S.NodeStore.table c.args.store.now) (g.S.NodeStore.table c.loop-edge.store) d c.in-Some.child (g.S.NodeStore.visit_count c.loop-edge.store) (g.S.NodeStore.visit_count c.first_from.new.store) (c.loop-edge.invariant.nodes known) c.loop-edge.invariant.table
+    (c.in_ok-step.ensures.few_visits (c.loop-edge.invariant.known known) d (child_depth (g.S.NodeStore.table c.args.store.now) (g.S.NodeStore.table c.loop-edge.store) c.args.id c.in_ok-here.here.id c.in-Some.child d c.loop-edge.invariant.table c.in_ok-here.ensures.id (edge_lower (g.S.NodeStore.table c.args.store.now) c.in_ok-here.here c.in-Clean.here c.deref.result.now c.edges_of-edges.result.now c.loop-edge.edge-index c.edge-item.result (record { fetched = c.in_ok-here.ensures.fetched; same = c.in-Clean.ensures.0; shown_is = c.deref.ensures; edges = c.edges_of-edges.ensures; low = c.loop-edge-test.true; read = c.edge-item.is }) c.in-Some.child c.in-Some.ensures.child_is).lower under))))
+
+pub returns-clause-few_visits : goal.returns-clause-few_visits
+returns-clause-few_visits g t c = λ known depth low.
+    all_visits (g.S.NodeStore.nodes c.args.store.now) (g.S.NodeStore.table c.args.store.now) depth c.args.id c.in_ok-here.here.node.value c.edges_of-edges.result.now c.loop-edge.edge-index (g.S.NodeStore.visit_count c.args.store.now) (g.S.NodeStore.visit_count c.loop-edge.store) (c.in_ok-here.ensures.contents known) (edges_are c.in_ok-here.here c.in-Clean.here c.deref.result.now c.edges_of-edges.result.now c.in-Clean.ensures.0 c.deref.ensures c.edges_of-edges.ensures) low
+    (λ d under. c.loop-edge.invariant.visits known d under)
+
+pub returns-in_err-here-clause-few_visits : goal.returns-in_err-here-clause-few_visits
+returns-in_err-here-clause-few_visits g t c = λ known depth low. one_visit (g.S.NodeStore.nodes c.args.store.now) (g.S.NodeStore.table c.args.store.now) depth c.args.id (g.S.NodeStore.visit_count c.args.store.now) (g.S.NodeStore.visit_count c.fetch.new.store) c.in_err-here.ensures.visits low
+
+pub returns-in-Change-clause-few_visits : goal.returns-in-Change-clause-few_visits
+returns-in-Change-clause-few_visits g t c = λ known depth low. one_visit (g.S.NodeStore.nodes c.args.store.now) (g.S.NodeStore.table c.args.store.now) depth c.args.id (g.S.NodeStore.visit_count c.args.store.now) (g.S.NodeStore.visit_count c.fetch.new.store) c.in_ok-here.ensures.visits low

@@ -1,6 +1,7 @@
-use Rattle.std.proofs.Common.{◌≡◌, ◌≤◌}
+use Rattle.std.proofs.Common.{◌≡◌, ℕ, suc, ◌+◌, ◌≤◌}
 use Rattle.bd_node.specs.Tables.{IsSound}
 use Rattle.bd_reclaim.specs.Walks.{HasNoneBefore}
+use Rattle.bd_reclaim.proofs.Visits.{walked_before}
 use Rattle.bd_reclaim.proofs.walking.+first_from.Given as goal
 
 abbrev pub decreases-first_from : goal.decreases-first_from
@@ -14,6 +15,8 @@ invariant-loop-edge g l = record {
   read : g.S.NodeStore.reads l.fn.store l.store;
   later : g.S.NodeStore.fault_count l.fn.store ≤ g.S.NodeStore.fault_count l.store;
   loans : g.S.NodeStore.loans l.store ≡ g.S.NodeStore.loans l.fn.store;
+  visits : g.S.NodeStore.is_known l.fn.store → (depth : ℕ) → (g.S.NodeStore.table l.fn.store).level l.fn.id ≤ depth
+      → g.S.NodeStore.visit_count l.store ≤ g.S.NodeStore.visit_count l.fn.store + suc (walked_before (g.S.NodeStore.nodes l.fn.store) (g.S.NodeStore.table l.fn.store) depth l.edges l.edge-index);
   none : g.S.NodeStore.is_known l.fn.store → IsSound (g.S.NodeStore.nodes l.fn.store) (g.S.NodeStore.table l.fn.store)
       → HasNoneBefore (g.S.NodeStore.nodes l.fn.store) (g.S.NodeStore.table l.fn.store) l.edges l.edge-index;
 }
