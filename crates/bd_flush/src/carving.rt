@@ -203,8 +203,8 @@ fn ends_below(prefix: &[u8], key: &[u8]) -> bool
     prefix.cmp(key).is_lt() && !key.starts_with(prefix)
 }
 
-// The step that changes one node.
-fn change_step(alloc: Global, root: u64, id: u64, node: Node) -> Result<Step, AllocError>
+/// The step that changes one node.
+pub fn change_step(alloc: Global, root: u64, id: u64, node: Node) -> Result<Step, AllocError>
     ensures { IfOk result (λ step. step ≡ change_step root id node) }
 {
     let mut changes = Vec::new(alloc);

@@ -18,12 +18,12 @@ mod splitting;
 mod ways;
 
 pub use between::put_between;
-pub use carving::carve;
+pub use carving::{carve, change_step};
 pub use children::split_child;
 pub use copying::put_copy;
 pub use fetching::{Fetched, fetch};
 pub use filling::{FullEdge, fullest};
-pub use nodes::edges_of;
+pub use nodes::{buffer_of, edges_of};
 pub use planting::push_new;
 pub use pushing::push;
 pub use raising::{Way, raise_above, raised};

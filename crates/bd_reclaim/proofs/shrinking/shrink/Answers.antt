@@ -1,0 +1,28 @@
+use Rattle.std.proofs.Common.{sym, subst}
+use Rattle.std.specs.Prelude.{OnOk}
+use Rattle.bd_node.specs.declared.node.Step.{Step}
+use Rattle.bd_node.specs.Steps.{IsInPlace, IsTableAfter, IsCommitted}
+use Rattle.bd_reclaim.proofs.Shrinks.{shrink_in_place, on_shrink}
+use Rattle.bd_reclaim.proofs.shrinking.shrink.Goals as goal
+
+pub commit-requires-clause-in_place : goal.commit-requires-clause-in_place
+commit-requires-clause-in_place g c = λ known sound.
+    subst (λ (q : Step). IsInPlace (g.S.NodeStore.nodes c.args.store.now) (g.S.NodeStore.table c.args.store.now) q) (sym c.root_only.ensures) (shrink_in_place (g.S.NodeStore.nodes c.args.store.now) (g.S.NodeStore.table c.args.store.now) c.args.child sound)
+
+pub returns-clause-reclaimed : goal.returns-clause-reclaimed
+returns-clause-reclaimed g c = λ known sound.
+    (on_shrink (g.S.NodeStore.nodes c.args.store.now) (g.S.NodeStore.table c.args.store.now) c.args.child (g.S.NodeStore.nodes c.commit.new.self) (g.S.NodeStore.table c.commit.new.self) c.commit.result sound c.requires.lower (c.requires.thin known sound)
+    (subst (λ (q : Step). OnOk c.commit.result (IsTableAfter (g.S.NodeStore.table c.args.store.now) q (g.S.NodeStore.table c.commit.new.self))) c.root_only.ensures c.commit.ensures.table)
+    (subst (λ (q : Step). OnOk c.commit.result (IsCommitted (g.S.NodeStore.nodes c.args.store.now) (g.S.NodeStore.table c.args.store.now) q (g.S.NodeStore.nodes c.commit.new.self) (g.S.NodeStore.table c.commit.new.self))) c.root_only.ensures (c.commit.ensures.committed known sound))).0
+
+pub returns-clause-shrunk : goal.returns-clause-shrunk
+returns-clause-shrunk g c = λ known sound.
+    (on_shrink (g.S.NodeStore.nodes c.args.store.now) (g.S.NodeStore.table c.args.store.now) c.args.child (g.S.NodeStore.nodes c.commit.new.self) (g.S.NodeStore.table c.commit.new.self) c.commit.result sound c.requires.lower (c.requires.thin known sound)
+    (subst (λ (q : Step). OnOk c.commit.result (IsTableAfter (g.S.NodeStore.table c.args.store.now) q (g.S.NodeStore.table c.commit.new.self))) c.root_only.ensures c.commit.ensures.table)
+    (subst (λ (q : Step). OnOk c.commit.result (IsCommitted (g.S.NodeStore.nodes c.args.store.now) (g.S.NodeStore.table c.args.store.now) q (g.S.NodeStore.nodes c.commit.new.self) (g.S.NodeStore.table c.commit.new.self))) c.root_only.ensures (c.commit.ensures.committed known sound))).1
+
+pub returns-clause-falls : goal.returns-clause-falls
+returns-clause-falls g c = λ known sound.
+    (on_shrink (g.S.NodeStore.nodes c.args.store.now) (g.S.NodeStore.table c.args.store.now) c.args.child (g.S.NodeStore.nodes c.commit.new.self) (g.S.NodeStore.table c.commit.new.self) c.commit.result sound c.requires.lower (c.requires.thin known sound)
+    (subst (λ (q : Step). OnOk c.commit.result (IsTableAfter (g.S.NodeStore.table c.args.store.now) q (g.S.NodeStore.table c.commit.new.self))) c.root_only.ensures c.commit.ensures.table)
+    (subst (λ (q : Step). OnOk c.commit.result (IsCommitted (g.S.NodeStore.nodes c.args.store.now) (g.S.NodeStore.table c.args.store.now) q (g.S.NodeStore.nodes c.commit.new.self) (g.S.NodeStore.table c.commit.new.self))) c.root_only.ensures (c.commit.ensures.committed known sound))).2

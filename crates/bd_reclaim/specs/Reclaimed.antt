@@ -1,0 +1,81 @@
+-- What a change leaves.
+use Rattle.std.specs.Prelude.{◌≡◌, ℕ, ◌+◌, ◌≤◌, List, [], length, Option, None, Some}
+use Rattle.std.specs.List.{sum_by}
+use Rattle.bd_node.specs.declared.node.Node.{Node}
+use Rattle.bd_node.specs.declared.node.Step.{Step}
+use Rattle.bd_node.specs.Meaning.{Nodes}
+use Rattle.bd_node.specs.Private.{IsPrivate}
+use Rattle.bd_node.specs.Tables.{Table, IsKept, IsSound, root_at, sum_below}
+use Rattle.bd_inner.specs.Halves.{edges_of}
+use Rattle.bd_flush.specs.declared.fetching.Fetched.{Fetched}
+use Rattle.bd_flush.specs.Flushed.{LeadsTo, IsUntouched}
+use Rattle.bd_flush.specs.Children.{IsNoHigher}
+use Rattle.bd_flush.specs.Carving.{change_step}
+use Rattle.bd_flush.specs.Pushes.{unseen}
+use Rattle.bd_reclaim.specs.declared.walking.Reclaim.{Reclaim}
+use Rattle.bd_reclaim.specs.declared.walking.Reclaim.TheVariants.{Shrink, Drop, Carve}
+use Rattle.bd_reclaim.specs.Covering.{IsDecided}
+
+-- what a change leaves: the tree has what it had, in sound nodes, and none is made; only nodes on the
+-- one way from the root to a private node are changed or let go with what they alone named, and each
+-- other one that stays is untouched; the root is no higher
+pub record IsReclaimed (nodes : Nodes) (t : Table) (new : Nodes) (u : Table) : Type 0 where
+  pub same : (k : List ℕ) → root_at new u k ≡ root_at nodes t k
+  pub sound : IsSound new u
+  pub next : u.next ≡ t.next
+  pub last : ℕ
+  pub private : IsPrivate nodes t last
+  pub others : (id : ℕ) → IsKept t id → IsKept u id → ¬ LeadsTo nodes last id
+      → IsUntouched nodes new id
+  pub no_higher : u.level u.root ≤ t.level t.root
+
+-- the node has what the message at a place makes of its edge at a place, and all others that stay are
+-- what they were
+pub record IsDecidedAt (nodes : Nodes) (node : Fetched) (place at : ℕ) (new : Nodes) (u : Table)
+    : Type 0 where
+  pub made : Node
+  pub decided : IsDecided node.node.value place at made
+  pub there : new node.id ≡ Some made
+  pub rest : (id : ℕ) → IsKept u id → ¬ (id ≡ node.id) → new id ≡ nodes id
+
+-- the child is the root, and all nodes that stay are what they were
+pub record IsShrunk (nodes : Nodes) (child : ℕ) (new : Nodes) (u : Table) : Type 0 where
+  pub root : u.root ≡ child
+  pub rest : (id : ℕ) → IsKept u id → new id ≡ nodes id
+
+-- the step that changes a node to what the message at a place makes of its edge at a place
+pub record IsDecideStep (root : ℕ) (node : Fetched) (place at : ℕ) (step : Step) : Type 0 where
+  pub made : Node
+  pub decided : IsDecided node.node.value place at made
+  pub is : step ≡ change_step root node.id made
+
+-- the step that makes another node the root, and no other change
+abbrev pub root_only : ℕ → Step
+root_only root = record { made = []; changes = []; root = root }
+
+-- what became of the nodes, by the change
+abbrev pub IsMade : Nodes → Reclaim → Nodes → Table → Type 0
+IsMade nodes (Shrink child) new u = IsShrunk nodes child new u
+IsMade nodes (Drop node place at) new u = IsDecidedAt nodes node place at new u
+IsMade nodes (Carve node place at) new u = IsDecidedAt nodes node place at new u
+
+-- what became of the root, by the change, as far as the tables tell
+abbrev pub IsRootAfter : Table → Reclaim → Table → Type 0
+IsRootAfter t (Shrink child) u = (u.root ≡ child) × (u.level u.root ≡ t.level child)
+IsRootAfter t (Drop node place at) u = IsNoHigher t u
+IsRootAfter t (Carve node place at) u = IsNoHigher t u
+
+-- ---- how much is left to change
+
+-- how many messages the edges of a node haven't seen, in sum
+abbrev pub unseen_count : Node → ℕ
+unseen_count n = sum_by (λ e. length (unseen n e)) (edges_of n)
+
+-- the same of a node, if there is one
+abbrev pub unseen_in : Option Node → ℕ
+unseen_in None = 0
+unseen_in (Some n) = unseen_count n
+
+-- how many messages the edges of all nodes haven't seen, in sum, and the root's level
+abbrev pub left_over : Nodes → Table → ℕ
+left_over nodes t = sum_below t.next (λ id. unseen_in (nodes id)) + t.level t.root

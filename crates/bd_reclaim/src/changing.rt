@@ -1,0 +1,94 @@
+//! Changes that were found are made.
+
+ghost use Rattle.std.specs.Prelude.{◌≡◌, ◌<◌, ◌≤◌, OnOk, OnErr};
+ghost use Rattle.bd_message.specs.KeyMaps.{HasMapCause};
+ghost use Rattle.bd_node.specs.Tables.{IsSound};
+ghost use Rattle.bd_flush.specs.Flushed.{IsWornFor};
+ghost use Rattle.bd_flush.specs.Children.{IsFetched, IsNoHigher};
+ghost use Rattle.bd_flush.specs.Pushes.{IsOwn};
+ghost use Rattle.bd_reclaim.specs.declared.covering.Cover.{Cover};
+ghost use Rattle.bd_reclaim.specs.Covering.{IsCovered};
+ghost use Rattle.bd_reclaim.specs.Walks.{IsToDo, IsToDoAt};
+ghost use Rattle.bd_reclaim.specs.Reclaimed.{IsReclaimed, IsDecidedAt, IsMade, IsRootAfter, left_over};
+
+use crate::Reclaim;
+use crate::deciding::decide_step;
+use crate::shrinking::shrink;
+use bd_flush::Fetched;
+use bd_message::MapFault;
+use bd_node::NodeStore;
+use std::alloc::Global;
+
+/// Makes a change that `reclaim_next` just found. All of it is done or nothing; what the tree has
+/// stays, and no node is fetched or made.
+pub fn reclaim_step<S: NodeStore>(
+    alloc: Global,
+    store: &mut S,
+    step: Reclaim,
+) -> Result<(), MapFault>
+    requires to_do { IsToDo (S.table store.old) step }
+    requires at { S.is_known store.old → IsSound (S.nodes store.old) (S.table store.old)
+        → IsToDoAt (S.nodes store.old) (S.table store.old) step }
+    ensures reclaimed { S.is_known store.old → IsSound (S.nodes store.old) (S.table store.old)
+        → OnOk result (IsReclaimed (S.nodes store.old) (S.table store.old)
+        (S.nodes store.new) (S.table store.new)) }
+    ensures made { S.is_known store.old → IsSound (S.nodes store.old) (S.table store.old)
+        → OnOk result (IsMade (S.nodes store.old) step (S.nodes store.new) (S.table store.new)) }
+    ensures falls { S.is_known store.old → IsSound (S.nodes store.old) (S.table store.old)
+        → OnOk result (left_over (S.nodes store.new) (S.table store.new)
+        < left_over (S.nodes store.old) (S.table store.old)) }
+    ensures next { OnOk result ((S.table store.new).next ≡ (S.table store.old).next) }
+    ensures root { OnOk result (IsRootAfter (S.table store.old) step (S.table store.new)) }
+    ensures known { S.is_known store.old → S.is_known store.new }
+    ensures err_table { OnErr result (S.table store.new ≡ S.table store.old) }
+    ensures err_nodes { S.is_known store.old
+        → OnErr result (S.nodes store.new ≡ S.nodes store.old) }
+    ensures few_visits { S.visit_count store.new ≤ S.visit_count store.old }
+    ensures cause { HasMapCause (S.fault_count store.old) (S.fault_count store.new)
+        (S.bad store.new) (IsWornFor (S.table store.old)) result }
+    ensures same_loans { S.loans store.new ≡ S.loans store.old }
+{
+    match step {
+        Reclaim::Shrink { child } => shrink(alloc, store, child),
+        Reclaim::Drop { node, place, at } => change_edge(alloc, store, &node, place, at),
+        Reclaim::Carve { node, place, at } => change_edge(alloc, store, &node, place, at),
+    }
+}
+
+// Changes the edge at a place of a private node to what the message at a place makes of it, which
+// decides all its keys.
+fn change_edge<S: NodeStore>(
+    alloc: Global,
+    store: &mut S,
+    node: &Fetched,
+    place: usize,
+    at: usize,
+) -> Result<(), MapFault>
+    requires fetched { IsFetched (S.table store.old) node.now }
+    requires covered { (cover : Cover) × IsCovered cover node.now.node.value place at }
+    requires own { S.is_known store.old → IsSound (S.nodes store.old) (S.table store.old)
+        → IsOwn (S.nodes store.old) (S.table store.old) node.now }
+    ensures reclaimed { S.is_known store.old → IsSound (S.nodes store.old) (S.table store.old)
+        → OnOk result (IsReclaimed (S.nodes store.old) (S.table store.old)
+        (S.nodes store.new) (S.table store.new)) }
+    ensures decided { S.is_known store.old → IsSound (S.nodes store.old) (S.table store.old)
+        → OnOk result (IsDecidedAt (S.nodes store.old) node.now place at
+        (S.nodes store.new) (S.table store.new)) }
+    ensures falls { S.is_known store.old → IsSound (S.nodes store.old) (S.table store.old)
+        → OnOk result (left_over (S.nodes store.new) (S.table store.new)
+        < left_over (S.nodes store.old) (S.table store.old)) }
+    ensures next { OnOk result ((S.table store.new).next ≡ (S.table store.old).next) }
+    ensures root { OnOk result (IsNoHigher (S.table store.old) (S.table store.new)) }
+    ensures known { S.is_known store.old → S.is_known store.new }
+    ensures err_table { OnErr result (S.table store.new ≡ S.table store.old) }
+    ensures err_nodes { S.is_known store.old
+        → OnErr result (S.nodes store.new ≡ S.nodes store.old) }
+    ensures few_visits { S.visit_count store.new ≤ S.visit_count store.old }
+    ensures cause { HasMapCause (S.fault_count store.old) (S.fault_count store.new)
+        (S.bad store.new) (IsWornFor (S.table store.old)) result }
+    ensures same_loans { S.loans store.new ≡ S.loans store.old }
+{
+    let root = store.root();
+    let step = decide_step(alloc, root, node, place, at)?;
+    store.commit(step)
+}
