@@ -1,6 +1,6 @@
 -- How the lines of a script grow with its bytes.
 use Rattle.std.proofs.Common.{◌≡◌, ℕ, ◌+◌, ◌<◌, ◌≤◌, Bool, true, false, cond, List, [], ◌∷◌, ◌++◌, length, refl, sym, ap, subst, ◌∙◌, append_assoc, length-append, nat_eq, arith, eqb-true, leb-true, leb-false}
-use Rattle.std.specs.List.{onto_first, All}
+use Rattle.std.specs.List.{onto_first}
 use Rattle.std.specs.Prelude.{map, nat_le}
 use Rattle.std.proofs.lemmas.List.{append-nil, map-append, take_all, length-take, length-take-le, take-append-le}
 use Rattle.std.proofs.lemmas.List.Elements.{All-take, All-append, All-nil, All-cons}

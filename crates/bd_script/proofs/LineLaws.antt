@@ -13,10 +13,11 @@ use Rattle.bd_command.specs.declared.Command.{Command}
 use Rattle.bd_command.specs.declared.Command.TheVariants.{Mkdir, Create, Write, Truncate, Remove, Rename, Clone, Read, Stat, List as Ls}
 use Rattle.bd_command.specs.declared.refusal.Refusal.{Refusal}
 use Rattle.bd_command.specs.declared.refusal.Refusal.TheVariants.{BadPath, BadLine}
-use Rattle.bd_script.specs.declared.line.Line.TheVariants.{Stop}
+use Rattle.bd_script.specs.declared.line.Line.{Line}
+use Rattle.bd_script.specs.declared.line.Line.TheVariants.{Walk, Stop}
 use Rattle.bd_script.specs.declared.verb.Verb.{Verb}
 use Rattle.bd_script.specs.declared.verb.Verb.TheVariants as verb
-use Rattle.bd_script.specs.Lines.{Path, LineMeaning, IsLine, runs, is_empty, number_of, hex_of, path_in, only_path, both_paths, two_paths, with_path, with_number, with_bytes, run_path, run_paths, line_of_write, line_of_truncate, line_of_read, line_of_list, line_of_stop, verb_of, with_verb, line_of_verb, words_of, line_of_words, line_of_parts, line_of}
+use Rattle.bd_script.specs.Lines.{Path, LineMeaning, IsLine, runs, is_empty, number_of, hex_of, path_in, only_path, both_paths, two_paths, with_path, with_number, with_bytes, run_path, run_paths, line_of_write, line_of_truncate, line_of_read, line_of_list, alone, verb_of, with_verb, line_of_verb, words_of, line_of_words, line_of_parts, line_of}
 use Rattle.bd_script.proofs.WordLemmas.{IsWritten-hex_of, number_of-below}
 use Rattle.bd_script.proofs.ReadLemmas.{IsShortPath-read}
 
@@ -123,9 +124,9 @@ kept_list (p ∷ name ∷ []) =
     kept_path p _ (λ path h. kept_cond (is_name name) (runs (Ls path (Some name))) (Err BadPath) (λ e. kept (runs (Ls path (Some name))) (h, e)) bad_path)
 kept_list (p ∷ name ∷ w ∷ words) = bad_line
 
-kept_stop : (words : List (List ℕ)) → Kept (line_of_stop words)
-kept_stop [] = kept (Ok Stop) tt
-kept_stop (w ∷ words) = bad_line
+kept_alone : (line : Line) (words : List (List ℕ)) → IsLine line → Kept (alone line words)
+kept_alone line [] h = kept (Ok line) h
+kept_alone line (w ∷ words) h = bad_line
 
 kept_verb : (v : Verb) (words : List (List ℕ)) → Kept (line_of_verb v words)
 kept_verb verb.Mkdir words = kept_run Mkdir words (λ p h. h)
@@ -138,7 +139,8 @@ kept_verb verb.Clone words = kept_run_paths Clone words (λ a b h k. (h, k))
 kept_verb verb.Read words = kept_read words
 kept_verb verb.Stat words = kept_run Stat words (λ p h. h)
 kept_verb verb.List words = kept_list words
-kept_verb verb.Stop words = kept_stop words
+kept_verb verb.Walk words = kept_alone Walk words tt
+kept_verb verb.Stop words = kept_alone Stop words tt
 
 kept_words : (ws : List (List ℕ)) → Kept (line_of_words ws)
 kept_words [] = bad_line

@@ -17,7 +17,7 @@ use Rattle.bd_command.specs.declared.Command.TheVariants.{Mkdir, Create, Write, 
 use Rattle.bd_command.specs.declared.refusal.Refusal.{Refusal}
 use Rattle.bd_command.specs.declared.refusal.Refusal.TheVariants.{BadPath, BadLine}
 use Rattle.bd_script.specs.declared.line.Line.{Line}
-use Rattle.bd_script.specs.declared.line.Line.TheVariants.{Run, Stop}
+use Rattle.bd_script.specs.declared.line.Line.TheVariants.{Run, Walk, Stop}
 use Rattle.bd_script.specs.declared.verb.Verb.{Verb}
 use Rattle.bd_script.specs.declared.verb.Verb.TheVariants as verb
 
@@ -189,10 +189,10 @@ line_of_list (p ∷ name ∷ []) =
     with_path (path_in p) (λ path. if is_name name then runs (Ls path (Some name)) else Err BadPath)
 line_of_list words = Err BadLine
 
--- nothing follows `stop`
-abbrev pub line_of_stop : List (List ℕ) → LineMeaning
-line_of_stop [] = Ok Stop
-line_of_stop (word ∷ words) = Err BadLine
+-- a line of a verb alone: nothing follows it
+abbrev pub alone : Line → List (List ℕ) → LineMeaning
+alone line [] = Ok line
+alone line (word ∷ words) = Err BadLine
 
 -- the verb that a word is, if it is one
 abbrev pub verb_of : List ℕ → Option Verb
@@ -207,6 +207,7 @@ verb_of word =
     else if same_text word (codes "read") then Some verb.Read
     else if same_text word (codes "stat") then Some verb.Stat
     else if same_text word (codes "list") then Some verb.List
+    else if same_text word (codes "walk") then Some verb.Walk
     else if same_text word (codes "stop") then Some verb.Stop
     else None
 
@@ -222,7 +223,8 @@ line_of_verb verb.Clone words = run_paths Clone (two_paths words)
 line_of_verb verb.Read words = line_of_read words
 line_of_verb verb.Stat words = run_path Stat (only_path words)
 line_of_verb verb.List words = line_of_list words
-line_of_verb verb.Stop words = line_of_stop words
+line_of_verb verb.Walk words = alone Walk words
+line_of_verb verb.Stop words = alone Stop words
 
 -- the line of a verb, if there is one
 abbrev pub with_verb : Option Verb → List (List ℕ) → LineMeaning
@@ -252,11 +254,13 @@ line_of line =
 -- the fields of a line's command are within their limits
 abbrev pub IsLine : Line → Type 0
 IsLine (Run command) = IsCommand command
+IsLine Walk = Unit {0}
 IsLine Stop = Unit {0}
 
 -- the line is `stop`
 abbrev pub is_stop : LineMeaning → Bool
 is_stop (Ok (Run command)) = false
+is_stop (Ok Walk) = false
 is_stop (Ok Stop) = true
 is_stop (Err refusal) = false
 

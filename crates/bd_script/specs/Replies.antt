@@ -1,9 +1,8 @@
 -- The bytes of a reply, and which replies can be written.
-use Rattle.std.specs.Prelude.{ℕ, ◌≤◌, List, [], ◌∷◌, ◌++◌, length, codes, if◌then◌else◌}
+use Rattle.std.specs.Prelude.{ℕ, List, [], ◌∷◌, ◌++◌, codes, if◌then◌else◌}
 use Rattle.std.specs.List.{flat_map}
 use Rattle.std.specs.Fmt.{decimal}
 use Rattle.hex.specs.Hex.{encode_lower}
-use Rattle.bd_limits.specs.Limits.{read_limit, listing_limit}
 use Rattle.bd_command.specs.Command.{IsReply}
 use Rattle.bd_command.specs.declared.refusal.Refusal.{Refusal}
 use Rattle.bd_command.specs.declared.refusal.Refusal.TheVariants.{NotFound, Exists, NoParent, NotDir, IsDir, Inside, Root, TooBig, BadPath, BadLine}
@@ -12,7 +11,7 @@ use Rattle.bd_command.specs.declared.reply.Listing.{Listing}
 use Rattle.bd_command.specs.declared.reply.Reply.{Reply}
 use Rattle.bd_command.specs.declared.reply.Reply.TheVariants.{Done, Bytes, Dir, File, Names, Refused}
 use Rattle.bd_script.specs.declared.replies.LineReply.{LineReply}
-use Rattle.bd_script.specs.declared.replies.LineReply.TheVariants.{Command, Unread, Stopped}
+use Rattle.bd_script.specs.declared.replies.LineReply.TheVariants.{Command, Unread, Walk, Stopped}
 
 -- the number and the name of a refusal
 abbrev pub refusal_text : Refusal → List ℕ
@@ -57,10 +56,15 @@ reply_text (Refused refusal) = no_text refusal
 abbrev pub reply_line : Reply → List ℕ
 reply_line reply = reply_text reply ++ 10 ∷ []
 
+-- what the last walk visited, and how high the tree was before it
+abbrev pub walk_text : ℕ → ℕ → List ℕ
+walk_text visits height = codes "ok walk " ++ decimal visits ++ codes " of " ++ decimal height
+
 -- the reply to a line
 abbrev pub line_reply_text : LineReply → List ℕ
 line_reply_text (Command reply) = reply_text reply
 line_reply_text (Unread refusal) = no_text refusal
+line_reply_text (Walk visits height) = walk_text visits height
 line_reply_text Stopped = codes "ok"
 
 -- a line's reply as it is written, with its newline
@@ -73,4 +77,5 @@ line_reply_line reply = line_reply_text reply ++ 10 ∷ []
 abbrev pub IsLineReply : LineReply → Type 0
 IsLineReply (Command reply) = IsReply reply
 IsLineReply (Unread refusal) = Unit {0}
+IsLineReply (Walk visits height) = Unit {0}
 IsLineReply Stopped = Unit {0}

@@ -14,6 +14,8 @@ use std::fmt;
 pub enum Line {
     /// Runs a command of the plain map.
     Run(Command),
+    /// Tells how the last walk went.
+    Walk,
     /// Ends the run.
     Stop,
 }

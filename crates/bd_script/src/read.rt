@@ -1,7 +1,7 @@
 //! Reading a line.
 
 ghost use Rattle.std.specs.Prelude.{◌≡◌, ◌↔◌, Ok, Err, IsTrue, is_ok, IfOk};
-ghost use Rattle.bd_script.specs.Lines.{line_of, line_of_words, line_of_verb, line_of_write, line_of_truncate, line_of_read, line_of_list, line_of_stop, path_in, only_path, two_paths, IsLine};
+ghost use Rattle.bd_script.specs.Lines.{line_of, line_of_words, line_of_verb, line_of_write, line_of_truncate, line_of_read, line_of_list, alone, path_in, only_path, two_paths, IsLine};
 ghost use Rattle.bd_script.specs.Reading.{texts, IsRead, IsPathRead, ArePathsRead};
 ghost use Rattle.bd_command.specs.declared.refusal.Refusal.TheVariants as refusal;
 
@@ -75,7 +75,8 @@ fn read_verb(alloc: Global, verb: Verb, words: &[&[u8]]) -> Result<Line, LineFau
             Ok(Line::Run(Command::Stat { path }))
         }
         Verb::List => read_list(alloc, words),
-        Verb::Stop => read_stop(words),
+        Verb::Walk => alone(Line::Walk, words),
+        Verb::Stop => alone(Line::Stop, words),
     }
 }
 
@@ -143,12 +144,13 @@ fn read_list(alloc: Global, words: &[&[u8]]) -> Result<Line, LineFault>
     }
 }
 
-/// Reads what follows `stop`, which is nothing.
-fn read_stop(words: &[&[u8]]) -> Result<Line, LineFault>
-    ensures { IsRead result (line_of_stop (texts words.now)) }
+/// A line of a verb alone, where no words follow it.
+fn alone(line: Line, words: &[&[u8]]) -> Result<Line, LineFault>
+    requires { IsLine line }
+    ensures { IsRead result (alone line (texts words.now)) }
 {
     match words {
-        [] => Ok(Line::Stop),
+        [] => Ok(line),
         _ => Err(LineFault::BadLine),
     }
 }

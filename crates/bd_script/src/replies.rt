@@ -4,7 +4,7 @@ ghost use Rattle.std.specs.Prelude.{◌≡◌, ◌+◌, ◌*◌, ◌≤◌, ◌+
 ghost use Rattle.std.specs.List.{flat_map};
 ghost use Rattle.hex.specs.Hex.{encode_lower};
 ghost use Rattle.bd_command.specs.Command.{IsReply};
-ghost use Rattle.bd_script.specs.Replies.{IsLineReply, reply_text, reply_line, line_reply_text, line_reply_line, no_text, refusal_text, chunk_text, listed_text, listing_text};
+ghost use Rattle.bd_script.specs.Replies.{IsLineReply, reply_text, reply_line, line_reply_text, line_reply_line, no_text, refusal_text, chunk_text, listed_text, listing_text, walk_text};
 ghost use Rattle.bd_limits.specs.Limits.{listing_limit};
 
 use bd_command::{Listed, Listing, Refusal, Reply};
@@ -20,6 +20,9 @@ pub enum LineReply {
     Command(Reply),
     /// The line is refused before it is run.
     Unread(Refusal),
+    /// How the last walk went: how many nodes it fetched or made, and how many nodes stood one below
+    /// the other before it.
+    Walk { visits: u64, height: u32 },
     /// The line ends the run.
     Stopped,
 }
@@ -46,6 +49,7 @@ fn put_line_reply(into: &mut [u8; REPLY_SIZE], reply: &LineReply) -> usize
     match reply {
         LineReply::Command(reply) => put_reply(into, reply),
         LineReply::Unread(refusal) => put_refusal(into, *refusal),
+        LineReply::Walk { visits, height } => put_walk(into, *visits, *height),
         LineReply::Stopped => put(into, 0, b"ok"),
     }
 }
@@ -78,7 +82,7 @@ fn put_reply(into: &mut [u8; REPLY_SIZE], reply: &Reply) -> usize
         Reply::Dir => put(into, 0, b"ok dir"),
         Reply::File(len) => {
             let end = put(into, 0, b"ok file ");
-            put_number(into, end, *len)
+            put_number(into, end, u64::from(*len))
         }
         Reply::Names(listing) => put_listing(into, listing),
         Reply::Refused(refusal) => put_refusal(into, *refusal),
@@ -121,7 +125,7 @@ fn put_hex(into: &mut [u8; REPLY_SIZE], at: usize, bytes: &[u8]) -> usize
 }
 
 /// Writes a number at a place, and returns the place after it.
-fn put_number(into: &mut [u8; REPLY_SIZE], at: usize, number: u32) -> usize
+fn put_number(into: &mut [u8; REPLY_SIZE], at: usize, number: u64) -> usize
     requires room { at + 40 ≤ REPLY_SIZE }
     ensures text { take result into.new ≡ take at into.old ++ decimal number }
     ensures end { result ≡ at + length (decimal number) }
@@ -129,6 +133,18 @@ fn put_number(into: &mut [u8; REPLY_SIZE], at: usize, number: u32) -> usize
 {
     let mut buffer = Buffer::new();
     put(into, at, buffer.format(number).as_bytes())
+}
+
+/// Writes how a walk went at the front.
+fn put_walk(into: &mut [u8; REPLY_SIZE], visits: u64, height: u32) -> usize
+    ensures text { take result into.new ≡ walk_text visits height }
+    ensures length { result ≡ length (walk_text visits height) }
+    ensures bound { result ≤ 100 }
+{
+    let end = put(into, 0, b"ok walk ");
+    let end = put_number(into, end, visits);
+    let end = put(into, end, b" of ");
+    put_number(into, end, u64::from(height))
 }
 
 /// Writes a listing at the front.

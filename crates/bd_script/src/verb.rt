@@ -16,6 +16,7 @@ pub enum Verb {
     Read,
     Stat,
     List,
+    Walk,
     Stop,
 }
 
@@ -35,6 +36,7 @@ impl Verb {
             b"read" => Verb::Read,
             b"stat" => Verb::Stat,
             b"list" => Verb::List,
+            b"walk" => Verb::Walk,
             b"stop" => Verb::Stop,
             _ => return None,
         })
