@@ -37,7 +37,8 @@ use Rattle.bd_resolve.specs.Following.{IsLowerTarget}
 use Rattle.bd_flush.specs.declared.fetching.Fetched.{Fetched}
 use Rattle.bd_flush.specs.Children.{IsFetched}
 use Rattle.bd_flush.specs.Copies.{CanPutCopy, IsCopyFor, IsCopyAt, IsCopyPut}
-use Rattle.bd_flush.proofs.ChildSplits.{exchanged_same, inner_of, count_own, exchanged_named, edge_here}
+use Rattle.bd_flush.proofs.ChildSplits.{edge_here}
+use Rattle.bd_flush.proofs.EdgeChildren.{child_lower}
 use Rattle.bd_copy.specs.Shortening.{edge_way, goto_way, way_visits, CanShorten, IsShortened}
 use Rattle.bd_copy.specs.Copying.{IsLeafCopy, IsInnerCopy, IsCopyOf, HasChild, IsPrivatised}
 use Rattle.bd_copy.proofs.Shortened.{option_lower, goto_lower}
@@ -130,22 +131,6 @@ copy_has nodes t n s clipped short copy h same k key =
     compacted_meaning (at nodes) short copy h.shortened.loose h.compacted k ∙ same k key ∙ h.clip.meaning (at nodes) k
 
 -- ---- the child
-
-edges_named : (n : Node) (c : ℕ) → count_names c (flat_map edge_names (edges_of n)) ≤ times n c
-edges_named (Leaf entries) c = omega arith
-edges_named (Inner level es buffer) c = omega (arith, count_names-append c (flat_map edge_names es) (flat_map message_names buffer))
-
-edge_named : (n : Node) (place c : ℕ) (e : Edge) → IsShape n → IsEdgeAt n place e → e.child ≡ Some c → 1 ≤ times n c
-edge_named n place c e h here child_is =
-    let one : count_names c (flat_map edge_names (e ∷ [])) ≡ 1 = ap (λ (o : Option ℕ). count_names c (option_to_list o ++ [])) child_is ∙ count_own c in
-    let most : count_names c (flat_map edge_names (e ∷ [])) ≤ count_names c (flat_map edge_names (edges_of (exchanged n place (e ∷ [])))) = exchanged_named n place (e ∷ []) c (inner_of n place e h here) in
-    let same : count_names c (flat_map edge_names (edges_of (exchanged n place (e ∷ [])))) ≡ count_names c (flat_map edge_names (edges_of n)) = ap (λ (m : Node). count_names c (flat_map edge_names (edges_of m))) (exchanged_same n place e here) in
-    let less : count_names c (flat_map edge_names (edges_of n)) ≤ times n c = edges_named n c in
-    omega arith
-
-pub child_lower : (t : Table) (parent : Fetched) (place id : ℕ) (e : Edge) → IsFetched t parent → IsEdgeAt parent.node.value place e → e.child ≡ Some id → IsLower t (t.level parent.id) id
-child_lower t parent place id e own here child =
-    named_has (IsLower t (t.level parent.id)) id (names parent.node.value) own.own.lower (edge_named parent.node.value place id e own.own.shape here child)
 
 -- an edge of a fetched node, as it is read, and its child
 pub record IsChildRead (t : Table) (parent : Fetched) (place : ℕ) (e : Edge) (id : ℕ) : Type 0 where

@@ -8,6 +8,7 @@ pub mod ChildSteps
 pub mod PathSteps
 pub mod Raisings
 pub mod ChildSplits
+pub mod EdgeChildren
 pub mod RisingSteps
 pub mod RootSplits
 pub mod PutBetween

@@ -20,7 +20,7 @@ use Rattle.bd_flush.specs.Pushes.{CanPush, CanPushNew, AllGoDown, unseen}
 use Rattle.bd_flush.specs.GoingDown.{child_level}
 use Rattle.bd_flush.specs.Carving.{CanCarve}
 use Rattle.bd_copy.specs.Copying.{HasChild}
-use Rattle.bd_copy.proofs.Copied.{child_lower}
+use Rattle.bd_flush.proofs.EdgeChildren.{child_lower}
 use Rattle.bd_flush.specs.Ways.{IsFullestAt, IsHigh, IsThere, AreThere, IsToDo, IsToDoAt, IsWayThere}
 use Rattle.bd_node.proofs.Lookup.{each_weaker}
 use Rattle.bd_flush.proofs.Abundance.{abundant}

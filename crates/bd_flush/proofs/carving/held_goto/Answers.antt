@@ -4,7 +4,7 @@ use Rattle.bd_inner.specs.Halves.{edges_of, buffer_of}
 use Rattle.bd_flush.specs.GoingDown.{child_level}
 use Rattle.bd_flush.proofs.ChildSplits.{edge_here}
 use Rattle.bd_flush.proofs.Reading.{read_rising}
-use Rattle.bd_flush.proofs.Copies.{kept_child}
+use Rattle.bd_flush.proofs.EdgeChildren.{kept_child}
 use Rattle.bd_flush.proofs.OldestGotos.{names_kept, level_read, level_none, on_none, on_some}
 use Rattle.bd_flush.proofs.carving.held_goto.Goals as goal
 use Rattle.bd_flush.proofs.carving.held_goto.Goals.{in-Some, in-None}
