@@ -6,21 +6,18 @@ use Rattle.std.specs.Option.{option_to_list}
 use Rattle.std.proofs.lemmas.Bool.{le-ltb}
 use Rattle.std.proofs.lemmas.List.Sums.{sum_by-cons}
 use Rattle.std.proofs.lemmas.Option.{same_Some, slice_get_within}
-use Rattle.bd_limits.specs.Limits.{key_limit, leaf_limit, edge_limit}
+use Rattle.bd_limits.specs.Limits.{key_limit, edge_limit}
 use Rattle.bd_keys.specs.Keys.{IsKey}
 use Rattle.bd_keys.proofs.Order.{IsKey-cons, IsKey-rest}
 use Rattle.bd_message.specs.declared.message.Message.{Message}
 use Rattle.bd_message.specs.declared.message.Message.TheVariants.{Put, Del, Patch, Cut, Goto}
 use Rattle.bd_message.specs.Freeing.{source_of}
-use Rattle.bd_leaf.specs.Leaves.{entries_size}
-use Rattle.bd_leaf.specs.Leaves.{IsClipped as IsClippedLeaf}
 use Rattle.bd_node.specs.declared.node.Edge.{Edge}
-use Rattle.bd_node.specs.declared.node.Entry.{Entry}
 use Rattle.bd_node.specs.declared.node.Node.{Node}
 use Rattle.bd_node.specs.declared.node.Node.TheVariants.{Leaf, Inner}
 use Rattle.bd_node.specs.Nodes.{level_of, message_names, edge_names, names, times, node_at}
 use Rattle.bd_node.specs.Meaning.{Nodes, at}
-use Rattle.bd_node.specs.Shape.{IsLeaf, IsShape}
+use Rattle.bd_node.specs.Shape.{IsShape}
 use Rattle.bd_node.specs.Tables.{Table, IsKept, IsLower, IsNodeOf, IsSound}
 use Rattle.bd_node.specs.Stores.{visited}
 use Rattle.bd_node.proofs.Lookup.{named_has, each_named, each_first, each_second, node_has-key}
@@ -40,7 +37,7 @@ use Rattle.bd_flush.specs.Copies.{CanPutCopy, IsCopyFor, IsCopyAt, IsCopyPut}
 use Rattle.bd_flush.proofs.ChildSplits.{edge_here}
 use Rattle.bd_flush.proofs.EdgeChildren.{child_lower}
 use Rattle.bd_copy.specs.Shortening.{edge_way, goto_way, way_visits, CanShorten, IsShortened}
-use Rattle.bd_copy.specs.Copying.{IsLeafCopy, IsInnerCopy, IsCopyOf, HasChild, IsPrivatised}
+use Rattle.bd_copy.specs.Copying.{IsCopyOf, HasChild, IsPrivatised}
 use Rattle.bd_copy.proofs.Shortened.{option_lower, goto_lower}
 
 -- ---- a clipped node

@@ -1,5 +1,5 @@
 -- Nodes whose long sources were looked through.
-use Rattle.std.proofs.Common.{◌≡◌, ℕ, zero, suc, ◌+◌, ◌^◌, ◌<◌, ◌≤◌, Bool, true, false, not, ◌&&◌, cond, List, [], ◌∷◌, ◌++◌, length, take, drop, get_or, refl, sym, ap, subst, ◌∙◌, Option, None, Some, arith, inl, inr, ◌⊎◌}
+use Rattle.std.proofs.Common.{◌≡◌, ℕ, zero, suc, ◌+◌, ◌^◌, ◌<◌, ◌≤◌, Bool, true, false, not, ◌&&◌, cond, List, [], ◌∷◌, ◌++◌, length, take, drop, get_or, refl, sym, ap, subst, ◌∙◌, Option, None, Some, arith, inl, inr}
 use Rattle.std.specs.List.{AllByRecursion, AllZip, flat_map, sum_by}
 use Rattle.std.specs.Option.{option_to_list}
 use Rattle.std.proofs.lemmas.Bool.{cases_lt}
@@ -17,18 +17,18 @@ use Rattle.bd_message.specs.Effect.{begins, rest, is_cut, act, acts}
 use Rattle.bd_message.proofs.Prefixes.{least_nil}
 use Rattle.bd_node.specs.declared.node.Edge.{Edge}
 use Rattle.bd_node.specs.declared.node.Node.{Node}
-use Rattle.bd_node.specs.declared.node.Node.TheVariants.{Leaf, Inner}
+use Rattle.bd_node.specs.declared.node.Node.TheVariants.{Inner}
 use Rattle.bd_node.specs.Nodes.{message_names, edge_names, names, edge_from, child_at, edge_at, node_at}
 use Rattle.bd_node.specs.Meaning.{Nodes, at}
 use Rattle.bd_node.specs.Shape.{end_before, EachEdge, IsChild, IsEdge}
-use Rattle.bd_node.specs.Tables.{Table, IsKept, IsTable, IsLower, IsSound}
+use Rattle.bd_node.specs.Tables.{Table, IsTable, IsLower, IsSound}
 use Rattle.bd_node.proofs.Lookup.{each_first, each_second, each_both}
 use Rattle.bd_node.proofs.Edges.{not_less_lt}
 use Rattle.bd_inner.specs.Clipping.{IsLongEdge, IsLongMessage, IsLong}
 use Rattle.bd_inner.specs.Compaction.{IsLoose}
 use Rattle.bd_resolve.specs.declared.following.Target.{Target}
 use Rattle.bd_resolve.specs.Following.{target_at, IsLowerTarget, IsShort, target_level, target_of}
-use Rattle.bd_copy.specs.Shortening.{edge_way, goto_way, IsKeptTarget, IsShortWay, target_child, target_source, sent_edge, IsShortEdge, IsSameEdge, sent_keys, IsShortGoto, IsShortMessage, IsSameMessage, CanShorten, IsShortened}
+use Rattle.bd_copy.specs.Shortening.{edge_way, goto_way, IsKeptTarget, IsShortWay, target_child, target_source, sent_edge, IsShortEdge, IsSameEdge, sent_keys, IsShortMessage, IsSameMessage, CanShorten, IsShortened}
 
 -- ---- what stands at a key
 

@@ -22,8 +22,8 @@ pub record IsLeafCopy (entries : List Entry) (s : List ℕ) (copy : Node) : Type
   pub clip : IsClippedLeaf entries s list
   pub copy_is : copy ≡ Leaf list
 
--- an inner node freed of a prefix, with sources of at most 518 bytes, and without the messages that are
--- pending for no edge
+-- an inner node freed of a prefix, with sources of at most 518 bytes, and without the messages that
+-- are pending for no edge
 pub record IsInnerCopy (t : Table) (n : Node) (s : List ℕ) (copy : Node) : Type 0 where
   pub clipped : Node
   pub clip : IsClipped n s clipped
@@ -44,8 +44,8 @@ pub record HasChild (t : Table) (parent : Fetched) (place : ℕ) : Type 0 where
   pub child : ℕ
   pub child_is : edge.child ≡ Some child
 
--- the edge's child is copied, freed of the edge's source, and the edge asks the copy alone, which has
--- at each key what the child has behind the source
+-- the edge's child is copied, freed of the edge's source, and the edge asks the copy alone, which
+-- has at each key what the child has behind the source
 pub record IsPrivatised (nodes : Nodes) (t : Table) (parent : Fetched) (place : ℕ) (new : Nodes)
     (u : Table) : Type 0 where
   pub edge : Edge

@@ -1,5 +1,5 @@
 -- Nodes whose sources were longer than 518 bytes.
-use Rattle.std.specs.Prelude.{◌≡◌, ℕ, ◌+◌, ◌<◌, ◌≤◌, nat_lt, if◌then◌else◌, List, [], ◌++◌, length, Option, None, Some}
+use Rattle.std.specs.Prelude.{◌≡◌, ℕ, ◌+◌, ◌≤◌, nat_lt, if◌then◌else◌, List, [], ◌++◌, length, Option, None, Some}
 use Rattle.std.specs.List.{AllByRecursion, AllZip}
 use Rattle.bd_limits.specs.Limits.{key_limit}
 use Rattle.bd_keys.specs.Keys.{IsKey}
@@ -36,15 +36,15 @@ abbrev pub IsKeptTarget : Table → Option Target → Type 0
 IsKeptTarget t None = Unit {0}
 IsKeptTarget t (Some target) = IsKept t target.child
 
--- a target stands for another: its source has at most 518 bytes, and its node is kept and no higher;
--- one whose source is so short stands for itself
+-- a target stands for another: its source has at most 518 bytes, its node is kept and no higher; one
+-- whose source is so short stands for itself
 pub record IsShortWay (t : Table) (old new : Option Target) : Type 0 where
   pub stays : IsShort old → new ≡ old
   pub short : IsShort new
   pub lower : IsLowerTarget t (target_level t old + 1) new
 
--- how many nodes are looked through for a target at most: as many as its node is high, and none for a
--- source of at most 518 bytes
+-- how many nodes are looked through for a target at most: as many as its node is high, and none for
+-- a source of at most 518 bytes
 abbrev pub way_visits : Table → Option Target → ℕ
 way_visits t None = 0
 way_visits t (Some target) =
@@ -108,14 +108,14 @@ pub record IsSameMessage (nodes : Nodes) (m n : Message) : Type 0 where
 
 -- ---- nodes
 
--- an inner node, but that sources may be longer, and messages pending for no edge; each node that it
--- names is kept and lower
+-- an inner node, but that sources may be longer, and messages pending for no edge; each node that
+-- it names is kept and lower
 pub record CanShorten (t : Table) (n : Node) : Type 0 where
   pub shape : IsLong (level_of n) (edges_of n) (buffer_of n)
   pub lower : AllByRecursion (IsLower t (level_of n)) (names n)
 
--- the node with sources of at most 518 bytes: its edges and messages are those of the node, but that a
--- longer source has become the way to another kept node that is no higher, or to nothing
+-- the node with sources of at most 518 bytes: its edges and messages are those of the node, but
+-- that a longer source has become the way to another kept node that is no higher, or to nothing
 pub record IsShortened (t : Table) (n m : Node) : Type 0 where
   pub level_is : level_of m ≡ level_of n
   pub edges : AllZip (IsShortEdge t) (edges_of n) (edges_of m)

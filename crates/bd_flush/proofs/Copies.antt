@@ -1,35 +1,24 @@
 -- A copy that becomes the child of an edge alone.
-use Rattle.std.proofs.Common.{◌≡◌, ℕ, zero, suc, ◌+◌, ◌-◌, ◌^◌, ◌<◌, ◌≤◌, List, [], ◌∷◌, ◌++◌, length, take, drop, refl, sym, ap, subst, ◌∙◌, Option, None, Some, arith, inl, inr, ◌⊎◌, get_or, Result, Ok, Err, OnOk}
-use Rattle.std.specs.Prelude.{IfOk, MatchOption}
+use Rattle.std.proofs.Common.{◌≡◌, ℕ, ◌+◌, ◌-◌, ◌^◌, ◌<◌, ◌≤◌, List, [], ◌∷◌, ◌++◌, length, drop, refl, sym, ap, subst, ◌∙◌, Option, None, Some, arith, inl, inr, ◌⊎◌, get_or, Result, Ok, Err, OnOk}
+use Rattle.std.specs.Prelude.{IfOk}
 use Rattle.std.specs.Prelude.{slice_get}
-use Rattle.std.specs.List.{AllByRecursion, flat_map}
-use Rattle.std.specs.Option.{option_to_list}
 use Rattle.std.proofs.lemmas.Bool.{cases_eq}
-use Rattle.std.proofs.lemmas.Option.{same_Some, none-some, slice_get_within}
+use Rattle.std.proofs.lemmas.Option.{same_Some, none-some}
 use Rattle.bd_keys.specs.Keys.{IsKey}
-use Rattle.bd_keys.proofs.Order.{IsKey-cons, IsKey-rest}
-use Rattle.bd_message.specs.declared.message.Message.{Message}
-use Rattle.bd_message.specs.declared.message.Message.TheVariants.{Put, Del, Patch, Cut, Goto}
-use Rattle.bd_message.specs.Messages.{IsMessage}
-use Rattle.bd_message.specs.Freeing.{source_of}
 use Rattle.bd_message.specs.declared.fault.MapFault.{MapFault}
 use Rattle.bd_message.specs.KeyMaps.{HasMapCause}
 use Rattle.bd_node.specs.declared.node.Edge.{Edge}
 use Rattle.bd_node.specs.declared.node.Node.{Node}
 use Rattle.bd_node.specs.declared.node.Node.TheVariants.{Leaf, Inner}
-use Rattle.bd_node.specs.declared.node.Entry.{Entry}
-use Rattle.bd_limits.specs.Limits.{key_limit, leaf_limit, edge_limit}
-use Rattle.bd_leaf.specs.Leaves.{entries_size}
-use Rattle.bd_leaf.specs.Leaves.{IsClipped as LeafClipped}
-use Rattle.bd_inner.specs.Clipping.{IsLongEdge, IsLongMessage, IsLong, IsClipped}
+use Rattle.bd_limits.specs.Limits.{edge_limit}
 use Rattle.bd_node.specs.declared.node.Step.{Step}
-use Rattle.bd_node.specs.Nodes.{level_of, buffer_size, message_names, edge_names, names, times, child_at, node_at, node_has}
+use Rattle.bd_node.specs.Nodes.{level_of, buffer_size, names, times, child_at, node_at, node_has}
 use Rattle.bd_node.specs.Meaning.{Nodes, at, found_at}
-use Rattle.bd_node.specs.Shape.{EachEdge, IsEdge, IsLeaf, IsShape}
+use Rattle.bd_node.specs.Shape.{IsEdge, IsShape}
 use Rattle.bd_node.specs.Tables.{Table, IsKept, IsTable, IsLower, IsNodeOf, IsSound}
 use Rattle.bd_node.specs.Private.{IsPrivate}
 use Rattle.bd_node.specs.Private.IsPrivate.{root_alone, alone}
-use Rattle.bd_node.specs.Steps.{given, level_or, level_after, IsStep, IsInPlace, IsTableAfter, IsCommitted, IsWornBy}
+use Rattle.bd_node.specs.Steps.{given, level_or, IsStep, IsInPlace, IsTableAfter, IsCommitted, IsWornBy}
 use Rattle.bd_node.specs.Steps.HasRoom.{no_rise}
 use Rattle.bd_node.specs.Stores.{visited}
 use Rattle.bd_node.proofs.Lookup.{Agree, named_has, each_named, node_has-key, count-cons_other}
@@ -37,22 +26,22 @@ use Rattle.bd_node.proofs.Meanings.{at-meets}
 use Rattle.bd_node.proofs.Sound.{sound-levelled, named_lower, kept_there}
 use Rattle.bd_node.proofs.Stepping.{given-new, after-none, given_stays}
 use Rattle.bd_inner.specs.Halves.{edges_of, buffer_of}
-use Rattle.bd_inner.specs.Compaction.{IsLoose, IsLooseNode, IsCompacted}
+use Rattle.bd_inner.specs.Compaction.{IsCompacted}
 use Rattle.bd_inner.specs.Exchange.{exchanged, end_at, IsEdgeAt, FitsAt, way_to}
-use Rattle.bd_inner.proofs.Compacting.{count_names, count_names-append, compacted_shape, compacted_level, compacted_meaning, compacted_size, compacted_times}
+use Rattle.bd_inner.proofs.Compacting.{count_names, compacted_shape, compacted_level, compacted_meaning, compacted_size, compacted_times}
 use Rattle.bd_inner.proofs.Fitting.{own_shape}
 use Rattle.bd_inner.proofs.Moved.{moved_none}
 use Rattle.bd_inner.proofs.Exchanged.{exchanged_shape, pushed}
 use Rattle.bd_flush.specs.declared.fetching.Fetched.{Fetched}
 use Rattle.bd_flush.specs.Flushed.{IsFlushed, IsWornFor}
-use Rattle.bd_flush.specs.Children.{IsFetched, IsNoHigher}
+use Rattle.bd_flush.specs.Children.{IsNoHigher}
 use Rattle.bd_flush.specs.Paths.{path_step}
 use Rattle.bd_flush.specs.Pushes.{IsOwn}
 use Rattle.bd_flush.specs.Copies.{CanPutCopy, IsCopyFor, IsCopyAt, IsRedirected, IsCopyStep, IsCopyPut}
 use Rattle.bd_flush.proofs.Worn.{cause_weaker}
-use Rattle.bd_flush.proofs.ChildSplits.{some_edge, exchanged_same, times_exchanged, inner_of, count_own, level_exchanged, compacted_named, exchanged_named, size_exchanged, some_next, IsKey-drop, edge_here}
+use Rattle.bd_flush.proofs.ChildSplits.{some_edge, times_exchanged, inner_of, count_own, level_exchanged, compacted_named, exchanged_named, size_exchanged, some_next, IsKey-drop, edge_here}
 use Rattle.bd_flush.proofs.LeafPushes.{times_without}
-use Rattle.bd_flush.proofs.PathSteps.{IsMadeUnder, IsPathStep, IsPathStepOf, IsPathDone, given_child, given_upper, has_made, made_old, made_new, path_child, path_may, path_in_place, path_flushed, path_worn, root_stays, both_ways}
+use Rattle.bd_flush.proofs.PathSteps.{IsPathStep, IsPathStepOf, IsPathDone, given_child, given_upper, has_made, made_old, made_new, path_child, path_may, path_in_place, path_flushed, path_worn, root_stays, both_ways}
 
 -- ---- the node above
 

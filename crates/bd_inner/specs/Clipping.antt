@@ -65,15 +65,16 @@ IsFreedMessage s buffer n =
     (m : Message) × (i : ℕ) × (slice_get buffer i ≡ Some m) × (freed s m ≡ Some n)
 
 -- an inner node freed of a prefix has at each key what the node had at the prefix and the key; its
--- edges and messages are those of the node, freed of it; sources of edges and of the oldest message may
--- be longer
+-- edges and messages are those of the node, freed of it; sources may be longer, of the messages that
+-- of the oldest alone
 pub record IsClipped (n : Node) (s : List ℕ) (m : Node) : Type 0 where
   pub level_is : level_of m ≡ level_of n
   pub shape : IsLong (level_of m) (edges_of m) (buffer_of m)
   pub meaning : (below : NodesAt) (k : List ℕ) → node_at below m k ≡ node_at below n (s ++ k)
   pub edges : AllByRecursion (IsFreedEdge s (edges_of n)) (edges_of m)
   pub messages : AllByRecursion (IsFreedMessage s (buffer_of n)) (buffer_of m)
-  pub later : AllByRecursion (λ (l : Message). length (source_of l) ≤ key_limit) (drop 1 (buffer_of m))
+  pub later : AllByRecursion (λ (l : Message). length (source_of l) ≤ key_limit)
+      (drop 1 (buffer_of m))
   pub names : (c : ℕ) → times m c ≤ times n c
 
 -- ---- the parts

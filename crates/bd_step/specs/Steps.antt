@@ -76,7 +76,7 @@ pub record IsFound (t u : Table) : Type 0 where
   pub to_do : IsToDo t step
   pub height : IsHighAfter t step u
 
--- how many visits a step takes at most: as many as the tree is high, and four more, and where a child
--- is copied, those of at most 17 sources that are looked through
+-- how many visits a step takes at most: as many as the tree is high, and four more, and where a
+-- child is copied, those of at most 17 sources that are looked through
 abbrev pub step_visits : Table → ℕ
 step_visits t = (t.level t.root + 1) + (4 + 17 * t.level t.root)

@@ -55,30 +55,36 @@ fn planted(alloc: Global, both: &mut Both) -> Result<(), Fail> {
     flush(&mut both.tree, 0)
 }
 
-/// Clones what `q` has below a long name to a short one, and writes so much there that the keys in
-/// front of it are asked through 280 bytes more.
-fn grown(alloc: Global, both: &mut Both, name: [(&str, usize); 2], d: &str) -> Result<(), Fail> {
-    let [first, second] = name;
-    clone(alloc, both, &[("e/", 1)], &[("q", 1), first, second, ("o", 10)])?;
-    clone(alloc, both, &[("q", 1), first, second], &[(d, 1)])?;
+/// Clones what `q` has below a name of 280 bytes to `v`, and writes so much there that the keys in
+/// front of it are asked through these 280 bytes, and the 400 behind them.
+fn grown(alloc: Global, both: &mut Both, name: &str) -> Result<(), Fail> {
+    let [first, second] = [(name, 50), ("n", 230)];
+    clone(
+        alloc,
+        both,
+        &[("e/", 1)],
+        &[("q", 1), first, second, ("o", 10)],
+    )?;
+    clone(alloc, both, &[("q", 1), first, second], &[("v", 1)])?;
     for count in 0..40 {
-        put(alloc, both, &[(d, 1), ("a", 1), ("b", count)], 1_000)?;
+        put(alloc, both, &[("va", 1), ("b", count)], 1_000)?;
         flush(&mut both.tree, 0)?;
     }
     Ok(())
 }
 
+/// With which letter the name begins, and whether a key stands below it.
+const GROWN: &[(&str, bool)] = &[("m", true), ("p", false)];
+
 #[test]
 fn copies_of_nodes_whose_sources_grow_too_long(rt: HostRuntime) -> Result<(), Fail> {
     let alloc = rt.alloc();
-    let mut both = Both::new(alloc)?;
-    planted(alloc, &mut both)?;
-    assert!(rt; both.same_keys(alloc)?.is_some(), "planted");
-    for (name, d) in [([("m", 50), ("n", 230)], "v"), ([("p", 50), ("n", 230)], "w")] {
-        grown(alloc, &mut both, name, d)?;
-        assert!(rt; both.same_keys(alloc)?.is_some(), "{d}");
-        let key = bytes(alloc, &[(d, 1), ("k", 1)])?;
-        assert_eq!(rt; both.tree.get(key.as_slice())?.is_some(), d == "v", "{d}");
+    for (name, has) in GROWN {
+        let mut both = Both::new(alloc)?;
+        planted(alloc, &mut both)?;
+        grown(alloc, &mut both, name)?;
+        assert!(rt; both.same_keys(alloc)?.is_some(), "{name}");
+        assert_eq!(rt; both.tree.get(b"vk")?.is_some(), *has, "{name}");
     }
     Ok(())
 }
@@ -129,8 +135,8 @@ fn child_of(
     Ok((Tree::over(alloc, store), child))
 }
 
-/// How many messages of 1,023 bytes wait for one of two edges with a shared child, how many of 1,024
-/// bytes wait for another edge, and whether a step leaves the child shared.
+/// How many messages of 1,023 bytes wait for one of two edges with a shared child, how many of
+/// 1,024 bytes wait for another edge, and whether a step leaves the child shared.
 const SHARED: &[(&str, usize, usize, bool)] = &[
     ("little waits there", 1, 16, true),
     ("most waits there", 17, 0, false),

@@ -1,4 +1,3 @@
-use Rattle.std.proofs.Common.{◌∙◌}
 use Rattle.bd_copy.proofs.Shortened.{edges_kept, messages_kept, is_shortened, has_same, sound_again}
 use Rattle.bd_copy.proofs.shortening.shorten.Goals as goal
 
