@@ -80,12 +80,13 @@ impl Both {
 
 /// Whether a Goto waits in the node below the root to which a flush would move messages next.
 fn waits_below(alloc: Global, store: &mut MemNodes) -> Result<bool, Fail> {
-    match next_step(alloc, store)? {
-        FlushStep::Push {
-            child: Some(child),
-            ..
-        } => Ok(holds_goto(&child.node)),
-        _ => Ok(false),
+    let step = next_step(alloc, store)?;
+    let FlushStep::Push { child, .. } = &step else {
+        return Ok(false);
+    };
+    match child {
+        Some(child) => Ok(holds_goto(&child.node)),
+        None => Ok(false),
     }
 }
 
