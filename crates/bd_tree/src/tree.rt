@@ -1,14 +1,15 @@
 //! The tree.
 
 ghost use Rattle.std.specs.Prelude.{◌≡◌, ◌≢◌, ◌↔◌, ℕ, ◌+◌, ◌-◌, ◌*◌, ◌≤◌, List, IfOk, OnOk};
-ghost use Rattle.std.specs.Prelude.{true, false, OnErr, Ok};
+ghost use Rattle.std.specs.Prelude.{true, false, OnErr, Ok, Some};
 ghost use Rattle.std.specs.Option.{option_map};
 ghost use Rattle.bd_limits.specs.Limits.{buffer_limit};
 ghost use Rattle.bd_message.specs.KeyMaps.{HasMapCause, NeverWorn, IsApplied, IsNext};
 ghost use Rattle.bd_message.specs.KeyMaps.{CanGraft, IsGrafted};
 ghost use Rattle.bd_node.specs.Meaning.{at};
 ghost use Rattle.bd_node.specs.Tables.{IsKept, IsSound, root_at};
-ghost use Rattle.bd_node.specs.Steps.{grown};
+ghost use Rattle.bd_node.specs.declared.node.Node.{Node};
+ghost use Rattle.bd_node.specs.Steps.{IsCommitted, append_step, grown};
 ghost use Rattle.bd_node.specs.Stores.{FitsRoot};
 ghost use Rattle.bd_query.specs.Asks.{AreVisitsOfWays};
 ghost use Rattle.bd_query.specs.Visits.{AreVisits};
@@ -63,6 +64,13 @@ impl<S: NodeStore> Tree<S> {
     {
         let Tree { store, .. } = self;
         store
+    }
+
+    /// The store, which is lent.
+    pub fn store(&self) -> &S
+        ensures { result.now ≡ self.now.store }
+    {
+        &self.store
     }
 
     /// What stands at a key, of any length. At most as many nodes are visited as the tree is high.
@@ -140,6 +148,12 @@ impl<S: NodeStore> Tree<S> {
             → OnOk result (IsApplied
             (root_at (S.nodes self.old.store) (S.table self.old.store)) list.now
             (root_at (S.nodes self.new.store) (S.table self.new.store))) }
+        ensures committed { S.is_known self.old.store
+            → IsSound (S.nodes self.old.store) (S.table self.old.store)
+            → (root : Node) → S.nodes self.old.store (S.table self.old.store).root ≡ Some root
+            → OnOk result (IsCommitted (S.nodes self.old.store) (S.table self.old.store)
+            (append_step (S.table self.old.store) root list.now)
+            (S.nodes self.new.store) (S.table self.new.store)) }
         ensures others { S.is_known self.old.store
             → IsSound (S.nodes self.old.store) (S.table self.old.store)
             → OnOk result ((id : ℕ) → IsKept (S.table self.old.store) id
