@@ -1,6 +1,6 @@
 //! The store in memory.
 
-ghost use Rattle.std.specs.Prelude.{◌≡◌, ℕ, OnOk, OnErr, IfOk};
+ghost use Rattle.std.specs.Prelude.{◌≡◌, ℕ, length, OnOk, OnErr, IfOk};
 ghost use Rattle.bd_node.specs.Tables.{IsSound};
 ghost use Rattle.bd_node.specs.New.{new_root, new_nodes, new_table};
 ghost use Rattle.bd_memnodes.specs.Seen.{nodes_of, table, SameNodes};
@@ -64,6 +64,13 @@ impl MemNodes {
             },
             visits: 0,
         })
+    }
+
+    /// How many nodes it keeps.
+    pub fn node_count(&self) -> usize
+        ensures { result ≡ length self.now.nodes }
+    {
+        self.kept.nodes.len()
     }
 
     /// Whatever was done with it before, the nodes are sound. It does nothing.

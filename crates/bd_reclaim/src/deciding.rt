@@ -54,13 +54,14 @@ fn decided_edge(
     requires low { at + 1 < 2 ^ 32 }
     ensures { IfOk result (λ made. made ≡ decided_edge edge.now at message.now) }
 {
+    let seen = at as u32 + 1;
     match message {
         Message::Cut { .. } => Ok(Edge {
             pivot: edge.pivot.clone()?,
             lift: 0,
             source: Bytes::from_vec(Vec::new(alloc)),
             child: None,
-            seen: at as u32 + 1,
+            seen,
         }),
         Message::Goto {
             prefix,
@@ -71,7 +72,7 @@ fn decided_edge(
             lift: prefix.len() as u16,
             source: source.clone()?,
             child: Some(*child),
-            seen: at as u32 + 1,
+            seen,
         }),
         Message::Put { .. } => edge.clone(),
         Message::Del { .. } => edge.clone(),

@@ -1,6 +1,6 @@
 //! The tree.
 
-ghost use Rattle.std.specs.Prelude.{◌≡◌, ◌≢◌, ◌↔◌, ℕ, ◌+◌, ◌-◌, ◌*◌, ◌≤◌, List, IfOk, OnOk};
+ghost use Rattle.std.specs.Prelude.{◌≡◌, ◌≢◌, ◌↔◌, ℕ, ◌+◌, ◌-◌, ◌*◌, ◌<◌, ◌≤◌, List, IfOk, IfSome, MatchOption, OnOk};
 ghost use Rattle.std.specs.Prelude.{true, false, OnErr, Ok, Some};
 ghost use Rattle.std.specs.Option.{option_map};
 ghost use Rattle.bd_limits.specs.Limits.{buffer_limit};
@@ -15,6 +15,8 @@ ghost use Rattle.bd_query.specs.Asks.{AreVisitsOfWays};
 ghost use Rattle.bd_query.specs.Visits.{AreVisits};
 ghost use Rattle.bd_graft.specs.Grafting.{IsGrown, IsGraftStep, AreOthersSame, IsWornForGraft};
 ghost use Rattle.bd_flush.specs.Flushed.{IsWornFor};
+ghost use Rattle.bd_reclaim.specs.Walks.{IsFirst, HasNone, IsToDo, IsToDoAt, walk_size};
+ghost use Rattle.bd_reclaim.specs.Reclaimed.{IsReclaimed, IsMade, IsRootAfter, left_over};
 ghost use Rattle.bd_step.specs.Steps.{IsFlushStep, IsFound, step_visits};
 
 use bd_graft::{Walk, graft};
@@ -22,6 +24,7 @@ use bd_limits::MAX_BUFFER;
 use bd_message::{MapFault, Message};
 use bd_node::{Messages, NodeStore};
 use bd_query::{get, next};
+use bd_reclaim::{Reclaim, reclaim_next, reclaim_step};
 use bd_step::flush_step;
 use std::alloc::Global;
 use std::marker::Model;
@@ -219,6 +222,73 @@ impl<S: NodeStore> Tree<S> {
         let walk = graft(self.alloc, &mut self.store, s, d, keep)?;
         self.walk = walk;
         Ok(())
+    }
+
+    /// The first change of reclaiming that is still to be made, and none exactly where there is
+    /// none. Only the root and inner nodes that nothing else names are visited, each at most once.
+    pub fn reclaim_next(&mut self) -> Result<Option<Reclaim>, MapFault>
+        ensures first { S.is_known self.old.store
+            → IsSound (S.nodes self.old.store) (S.table self.old.store)
+            → IfOk result (λ found. MatchOption found
+            (HasNone (S.nodes self.old.store) (S.table self.old.store) (S.table self.old.store).root)
+            (λ step. IsFirst (S.nodes self.old.store) (S.table self.old.store) step
+            (S.table self.old.store).root)) }
+        ensures to_do { IfOk result (λ found. IfSome found (IsToDo (S.table self.old.store))) }
+        ensures at { S.is_known self.old.store
+            → IsSound (S.nodes self.old.store) (S.table self.old.store)
+            → IfOk result (λ found. IfSome found
+            (IsToDoAt (S.nodes self.old.store) (S.table self.old.store))) }
+        ensures table { S.table self.new.store ≡ S.table self.old.store }
+        ensures known { S.is_known self.old.store → S.is_known self.new.store }
+        ensures kept { S.is_known self.old.store
+            → S.nodes self.new.store ≡ S.nodes self.old.store }
+        ensures read { S.reads self.old.store self.new.store }
+        ensures cause { HasMapCause (S.fault_count self.old.store) (S.fault_count self.new.store)
+            (S.bad self.new.store) NeverWorn result }
+        ensures few_visits { S.is_known self.old.store → S.visit_count self.new.store
+            ≤ S.visit_count self.old.store + walk_size (S.nodes self.old.store)
+            (S.table self.old.store)
+            ((S.table self.old.store).level (S.table self.old.store).root + 1)
+            (S.table self.old.store).root }
+        ensures same_loans { S.loans self.new.store ≡ S.loans self.old.store }
+        ensures walk { self.new.walk ≡ self.old.walk }
+    {
+        reclaim_next(&mut self.store)
+    }
+
+    /// Makes a change of reclaiming that `reclaim_next` just found: what the tree has stays, and no
+    /// node is fetched or made. A fault leaves all as it was.
+    pub fn reclaim_step(&mut self, step: Reclaim) -> Result<(), MapFault>
+        requires to_do { IsToDo (S.table self.old.store) step }
+        requires at { S.is_known self.old.store
+            → IsSound (S.nodes self.old.store) (S.table self.old.store)
+            → IsToDoAt (S.nodes self.old.store) (S.table self.old.store) step }
+        ensures reclaimed { S.is_known self.old.store
+            → IsSound (S.nodes self.old.store) (S.table self.old.store)
+            → OnOk result (IsReclaimed (S.nodes self.old.store) (S.table self.old.store)
+            (S.nodes self.new.store) (S.table self.new.store)) }
+        ensures made { S.is_known self.old.store
+            → IsSound (S.nodes self.old.store) (S.table self.old.store)
+            → OnOk result (IsMade (S.nodes self.old.store) step
+            (S.nodes self.new.store) (S.table self.new.store)) }
+        ensures falls { S.is_known self.old.store
+            → IsSound (S.nodes self.old.store) (S.table self.old.store)
+            → OnOk result (left_over (S.nodes self.new.store) (S.table self.new.store)
+            < left_over (S.nodes self.old.store) (S.table self.old.store)) }
+        ensures next { OnOk result ((S.table self.new.store).next ≡ (S.table self.old.store).next) }
+        ensures root { OnOk result
+            (IsRootAfter (S.table self.old.store) step (S.table self.new.store)) }
+        ensures known { S.is_known self.old.store → S.is_known self.new.store }
+        ensures err_table { OnErr result (S.table self.new.store ≡ S.table self.old.store) }
+        ensures err_nodes { S.is_known self.old.store
+            → OnErr result (S.nodes self.new.store ≡ S.nodes self.old.store) }
+        ensures few_visits { S.visit_count self.new.store ≤ S.visit_count self.old.store }
+        ensures cause { HasMapCause (S.fault_count self.old.store) (S.fault_count self.new.store)
+            (S.bad self.new.store) (IsWornFor (S.table self.old.store)) result }
+        ensures same_loans { S.loans self.new.store ≡ S.loans self.old.store }
+        ensures walk { self.new.walk ≡ self.old.walk }
+    {
+        reclaim_step(self.alloc, &mut self.store, step)
     }
 
     /// How often what the store stands on has failed.

@@ -10,3 +10,5 @@ mod copies;
 mod down;
 #[cfg(test)]
 mod graft;
+#[cfg(test)]
+mod reclaims;

@@ -1,0 +1,137 @@
+//! Nodes that go once their keys are cut, beside a map.
+
+use crate::both::{Both, flush};
+use bd_keys::Bytes;
+use bd_memnodes::MemNodes;
+use bd_message::Message;
+use bd_tree::Tree;
+use rows_tools::message;
+use std::alloc::{AllocError, Global};
+use std::test::Fail;
+
+/// Makes changes of reclaiming until there is none.
+fn reclaim(tree: &mut Tree<MemNodes>) -> Result<(), Fail> {
+    for _ in 0..1_000 {
+        let Some(step) = tree.reclaim_next()? else {
+            return Ok(());
+        };
+        tree.reclaim_step(step)?;
+    }
+    Err(Fail::new("too many steps"))
+}
+
+/// The message that puts 1,024 bytes at a key of so many below a prefix.
+fn block(alloc: Global, prefix: &str, index: u32) -> Result<Message, AllocError> {
+    let mut key = Vec::from_slice(alloc, prefix.as_bytes())?;
+    key.push((index / 256 % 256) as u8)?;
+    key.push((index % 256) as u8)?;
+    let mut value = Vec::new(alloc);
+    value.resize(1_024, (index % 251) as u8)?;
+    Ok(Message::Put {
+        key: Bytes::from_vec(key),
+        value: Bytes::from_vec(value),
+    })
+}
+
+/// Puts 100 kilobytes below a prefix, and flushes.
+fn fill(alloc: Global, both: &mut Both, prefix: &str) -> Result<(), Fail> {
+    for index in 0..100 {
+        let message = block(alloc, prefix, index)?;
+        both.apply(message)?;
+        flush(&mut both.tree, 16_384)?;
+    }
+    flush(&mut both.tree, 0)
+}
+
+/// One call, written as a word and two arguments.
+fn call(alloc: Global, both: &mut Both, words: (&str, &str, &str)) -> Result<(), Fail> {
+    let (name, first, second) = words;
+    match name {
+        "fill" => fill(alloc, both, first),
+        "flush" => flush(&mut both.tree, 0),
+        "reclaim" => reclaim(&mut both.tree),
+        "clone" => both.graft(first.as_bytes(), second.as_bytes(), true),
+        "move" => both.graft(first.as_bytes(), second.as_bytes(), false),
+        _ => both.apply(message(alloc, name, first, second)?),
+    }
+}
+
+/// Several calls.
+fn calls(alloc: Global, both: &mut Both, list: &[(&str, &str, &str)]) -> Result<(), Fail> {
+    for words in list {
+        call(alloc, both, *words)?;
+    }
+    Ok(())
+}
+
+/// A map and a tree, and how many nodes the tree keeps.
+fn counted(alloc: Global, both: Both) -> Result<(Both, usize), Fail> {
+    let Both { map, tree } = both;
+    let store = tree.into_store();
+    let count = store.node_count();
+    let tree = Tree::over(alloc, store);
+    Ok((Both { map, tree }, count))
+}
+
+/// Calls, and then calls after which hardly more nodes are kept than before them, and how many keys
+/// there are then.
+const ROWS: &[(&str, &[(&str, &str, &str)], &[(&str, &str, &str)], usize)] = &[
+    (
+        "a file is cut",
+        &[("put", "a", "1"), ("put", "z", "1"), ("flush", "", "")],
+        &[("fill", "f", ""), ("cut", "f", ""), ("reclaim", "", "")],
+        2,
+    ),
+    (
+        "a file is cut, and what waits goes down",
+        &[("put", "a", "1"), ("put", "z", "1"), ("flush", "", "")],
+        &[
+            ("fill", "f", ""),
+            ("fill", "g", ""),
+            ("cut", "f", ""),
+            ("cut", "g", ""),
+            ("reclaim", "", ""),
+            ("flush", "", ""),
+            ("reclaim", "", ""),
+        ],
+        2,
+    ),
+    (
+        "a clone is cut",
+        &[("fill", "a/", "")],
+        &[
+            ("clone", "a/", "b/"),
+            ("put", "b/x", "1"),
+            ("flush", "", ""),
+            ("cut", "b/", ""),
+            ("reclaim", "", ""),
+        ],
+        100,
+    ),
+    (
+        "a range is moved",
+        &[("fill", "a/", "")],
+        &[("move", "a/", "c/"), ("flush", "", ""), ("reclaim", "", "")],
+        100,
+    ),
+    (
+        "all keys are cloned to themselves",
+        &[("fill", "a/", "")],
+        &[("clone", "", ""), ("reclaim", "", "")],
+        100,
+    ),
+];
+
+#[test]
+fn nodes_go_with_their_keys(rt: HostRuntime) -> Result<(), Fail> {
+    for (label, first, then, keys) in ROWS {
+        let mut both = Both::new(rt.alloc())?;
+        calls(rt.alloc(), &mut both, first)?;
+        let (mut both, before) = counted(rt.alloc(), both)?;
+        calls(rt.alloc(), &mut both, then)?;
+        assert_eq!(rt; both.same_keys(rt.alloc())?, Some(*keys), "{label}");
+        let (_, after) = counted(rt.alloc(), both)?;
+        assert!(rt; after <= before + 3, "{label}: {before} {after}");
+    }
+    Ok(())
+}
