@@ -17,7 +17,7 @@ use Rattle.bd_node.specs.declared.node.Node.{Node}
 use Rattle.bd_node.specs.Tables.{Table, IsSound, IsStored}
 use Rattle.bd_node.specs.Steps.{IsCommitted, append_step, grown}
 use Rattle.bd_node.specs.Stores.{FitsRoot}
-use Rattle.bd_graft.specs.Grafting.{IsGrown}
+use Rattle.bd_graft.specs.Grafting.{IsGrown, IsGraftStep, AreOthersSame}
 use Rattle.bd_volume.specs.Views.{View, HasAppended, HasGrafted, HasSent}
 use Rattle.bd_volume.proofs.Carried.{size_few}
 
@@ -66,11 +66,20 @@ messages_sent (Ls path after) list old new w kind h = cc
 pub can_graft : (s d : List ℕ) (keep : Bool) (t : Table) → IsReady (Graft s d keep) → t.size ≤ late_limit → CanGraft s d keep (buffer_limit - t.size)
 can_graft s d keep t ready low = record { source = ready.0; target = ready.1; outside = ready.2; fits = omega (arith, low) }
 
-pub grafted : {T E : Type 0} (r : Result T E) (old new : View) (before now : ℕ) → OnOk r (IsGrown old.table new.table) → OnOk r (new.walk.visits ≡ now - before)
+pub grafted : {T E : Type 0} (r : Result T E) (old new : View) (s d : List ℕ) (keep : Bool) (before now : ℕ) → OnOk r (IsGraftStep old.nodes old.table s d keep new.nodes new.table)
+    → OnOk r (AreOthersSame old.nodes old.table new.nodes new.table) → OnOk r (IsGrown old.table new.table) → OnOk r (new.walk.visits ≡ now - before)
     → OnOk r (new.walk.height ≡ old.table.level old.table.root + 1) → now ≤ before + (5 * (old.table.level old.table.root + 1) + 2) → OnOk r (HasGrafted old new)
-grafted (Err e) old new before now table visits height few = tt
-grafted (Ok x) old new before now table visits height few =
-    record { table_is = table; height_is = height; visits_are = omega (arith, visits, height, few) }
+grafted (Err e) old new s d keep before now step others table visits height few = tt
+grafted (Ok x) old new s d keep before now step others table visits height few = record {
+  s = s;
+  d = d;
+  keep = keep;
+  step = step;
+  others = others;
+  table_is = table;
+  height_is = height;
+  visits_are = omega (arith, visits, height, few);
+}
 
 pub graft_sent : (c : Command) (s d : List ℕ) (keep : Bool) (old new : View) → IsTrue (writes c) → IsPlanKind c (Graft s d keep) → HasGrafted old new → HasSent c old new
 graft_sent (Mkdir path) s d keep old new w kind h = absurd kind

@@ -1,5 +1,5 @@
 -- What is seen of a volume's tree of nodes, and how commands change it.
-use Rattle.std.specs.Prelude.{◌≡◌, ℕ, ◌+◌, ◌*◌, ◌^◌, ◌<◌, ◌≤◌, ◌⊎◌, ◌==◌, if◌then◌else◌, List, [], ◌∷◌, None, Some, IsTrue}
+use Rattle.std.specs.Prelude.{◌≡◌, ℕ, ◌+◌, ◌*◌, ◌^◌, ◌<◌, ◌≤◌, ◌⊎◌, ◌==◌, Bool, if◌then◌else◌, List, [], ◌∷◌, None, Some, IsTrue}
 use Rattle.bd_limits.specs.Limits.{soft_limit, late_limit, flush_limit}
 use Rattle.bd_command.specs.Command.{writes}
 use Rattle.bd_command.specs.declared.Command.{Command}
@@ -21,7 +21,7 @@ use Rattle.bd_node.specs.Steps.{IsCommitted, append_step, grown}
 use Rattle.bd_memnodes.specs.Seen.{Seen, nodes_of, table}
 use Rattle.bd_flush.specs.Flushed.{IsWornFor}
 use Rattle.bd_graft.specs.declared.grafting.Walk.{Walk}
-use Rattle.bd_graft.specs.Grafting.{IsGrown, IsWornForGraft}
+use Rattle.bd_graft.specs.Grafting.{IsGrown, IsGraftStep, AreOthersSame, IsWornForGraft}
 use Rattle.bd_step.specs.Steps.{IsFlushStep}
 use Rattle.bd_tree.specs.Trees.{TreeState}
 
@@ -98,8 +98,14 @@ pub record HasAppended (old new : View) : Type 0 where
   pub table_is : new.table ≡ grown old.table list
   pub walk_is : new.walk ≡ old.walk
 
--- a graft was made: in a tree of height h it visited at most 5h + 2 nodes
+-- a graft was made: in a tree of height h it visited at most 5h + 2 nodes, and each other kept node
+-- is what it was and has what it had
 pub record HasGrafted (old new : View) : Type 0 where
+  pub s : List ℕ
+  pub d : List ℕ
+  pub keep : Bool
+  pub step : IsGraftStep old.nodes old.table s d keep new.nodes new.table
+  pub others : AreOthersSame old.nodes old.table new.nodes new.table
   pub table_is : IsGrown old.table new.table
   pub height_is : new.walk.height ≡ old.table.level old.table.root + 1
   pub visits_are : new.walk.visits ≤ 5 * new.walk.height + 2
