@@ -22,7 +22,7 @@ use Rattle.bd_inner.specs.Exchange.{end_at, IsEdgeAt}
 use Rattle.bd_inner.proofs.Touched.{cut_first}
 use Rattle.bd_inner.proofs.CarvingOwned.{begins_front, front_begins}
 use Rattle.bd_flush.proofs.ChildSplits.{edge_within}
-use Rattle.bd_flush.proofs.Down.{IsRead, read_end}
+use Rattle.bd_flush.proofs.Reading.{IsRead, read_end}
 use Rattle.bd_reclaim.specs.declared.covering.Cover.{Cover}
 use Rattle.bd_reclaim.specs.declared.covering.Cover.TheVariants.{Gone, Elsewhere}
 use Rattle.bd_reclaim.specs.Covering.{Says, TouchesAll, Decides, NoneDecides, IsNewest, IsCovered, HasNoCovered, IsFirstCovered}

@@ -3,7 +3,7 @@ use Rattle.std.specs.Option.{option_copied}
 use Rattle.bd_node.specs.declared.node.Edge.{Edge}
 use Rattle.bd_inner.specs.Halves.{edges_of}
 use Rattle.bd_flush.proofs.ChildSplits.{edge_here}
-use Rattle.bd_flush.proofs.Down.{read_end, read_rising}
+use Rattle.bd_flush.proofs.Reading.{read_end, read_rising}
 use Rattle.bd_reclaim.proofs.Covers.{place_low, past_all, none_more, first_one, none_at_all}
 use Rattle.bd_reclaim.proofs.covering.first_covered.Goals as goal
 
