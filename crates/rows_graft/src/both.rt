@@ -89,13 +89,20 @@ fn plant(tree: &mut Tree<MemNodes>, s: &[u8], d: &[u8], keep: bool) -> Result<()
     Ok(())
 }
 
+/// Whether one step of a flush was made, where more than so many bytes wait in the root.
+pub fn one_step(tree: &mut Tree<MemNodes>, limit: usize) -> Result<bool, Fail> {
+    match tree.flush_step(limit)? {
+        Flush::Done => Ok(true),
+        Flush::Enough => Ok(false),
+        Flush::LongSource => Err(Fail::new("a step that isn't made")),
+    }
+}
+
 /// Flushes until at most so many bytes wait in the root.
 pub fn flush(tree: &mut Tree<MemNodes>, limit: usize) -> Result<(), Fail> {
     for _ in 0..1_000 {
-        match tree.flush_step(limit)? {
-            Flush::Done => {}
-            Flush::Enough => return Ok(()),
-            Flush::LongSource => return Err(Fail::new("a step that isn't made")),
+        if !one_step(tree, limit)? {
+            return Ok(());
         }
     }
     Err(Fail::new("too many steps"))

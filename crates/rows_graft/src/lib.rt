@@ -6,3 +6,5 @@
 mod both;
 #[cfg(test)]
 mod graft;
+#[cfg(test)]
+mod shared;
