@@ -12,3 +12,5 @@ mod down;
 mod graft;
 #[cfg(test)]
 mod reclaims;
+#[cfg(test)]
+mod shared;
