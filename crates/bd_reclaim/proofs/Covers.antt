@@ -15,14 +15,14 @@ use Rattle.bd_message.proofs.Prefixes.{cmp_after}
 use Rattle.bd_node.specs.declared.node.Edge.{Edge}
 use Rattle.bd_node.specs.declared.node.Node.{Node}
 use Rattle.bd_node.specs.Touching.{touches}
-use Rattle.bd_node.specs.Shape.{end_before}
+use Rattle.bd_node.specs.Shape.{end_before, IsShape}
 use Rattle.bd_node.proofs.Edges.{not_less_lt}
 use Rattle.bd_inner.specs.Halves.{edges_of, buffer_of}
 use Rattle.bd_inner.specs.Exchange.{end_at, IsEdgeAt}
+use Rattle.bd_inner.proofs.Fitting.{own_shape}
 use Rattle.bd_inner.proofs.Touched.{cut_first}
 use Rattle.bd_inner.proofs.CarvingOwned.{begins_front, front_begins}
 use Rattle.bd_flush.proofs.ChildSplits.{edge_within}
-use Rattle.bd_flush.proofs.Reading.{IsRead, read_end}
 use Rattle.bd_reclaim.specs.declared.covering.Cover.{Cover}
 use Rattle.bd_reclaim.specs.declared.covering.Cover.TheVariants.{Gone, Elsewhere}
 use Rattle.bd_reclaim.specs.Covering.{Says, TouchesAll, Decides, NoneDecides, IsNewest, IsCovered, HasNoCovered, IsFirstCovered}
@@ -195,6 +195,13 @@ none_common p lo hi r key below begun not = (
 
 pub place_low : (n : Node) (es : List Edge) (place : ℕ) → es ≡ edges_of n → place < length es → place < length (edges_of n)
 place_low n es place same low = subst (λ (l : List Edge). place < length l) same low
+
+-- where the keys of an edge end, as it is read
+pub end_read : (n : Node) (es : List Edge) (place : ℕ) (hi : Option (List ℕ)) → es ≡ edges_of n → hi ≡ end_before (drop (place + 1) es) → hi ≡ end_at n place
+end_read n es place hi same end = end ∙ ap (λ (l : List Edge). end_before (drop (place + 1) l)) same
+
+pub rising_read : (n : Node) (place : ℕ) (e : Edge) (hi : Option (List ℕ)) → IsShape n → IsEdgeAt n place e → hi ≡ end_at n place → IsBelowEnd e.pivot hi
+rising_read n place e hi shape here end = subst (λ (o : Option (List ℕ)). IsBelowEnd e.pivot o) (sym end) (own_shape n place e shape here).rising
 
 pub past_all : (n : Node) (es : List Edge) (place : ℕ) → es ≡ edges_of n → length es ≤ place → length (edges_of n) ≤ place
 past_all n es place same high = subst (λ (l : List Edge). length l ≤ place) same high

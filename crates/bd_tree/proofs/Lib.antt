@@ -1,2 +1,3 @@
 pub mod Applying
 pub mod Flushing
+pub mod Reclaiming

@@ -263,6 +263,10 @@ impl<S: NodeStore> Tree<S> {
         requires at { S.is_known self.old.store
             → IsSound (S.nodes self.old.store) (S.table self.old.store)
             → IsToDoAt (S.nodes self.old.store) (S.table self.old.store) step }
+        ensures same { S.is_known self.old.store
+            → IsSound (S.nodes self.old.store) (S.table self.old.store)
+            → (k : List ℕ) → root_at (S.nodes self.new.store) (S.table self.new.store) k
+            ≡ root_at (S.nodes self.old.store) (S.table self.old.store) k }
         ensures reclaimed { S.is_known self.old.store
             → IsSound (S.nodes self.old.store) (S.table self.old.store)
             → OnOk result (IsReclaimed (S.nodes self.old.store) (S.table self.old.store)

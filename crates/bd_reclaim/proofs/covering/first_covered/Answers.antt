@@ -1,24 +1,20 @@
-use Rattle.std.proofs.Common.{ap, sym, ◌∙◌, length, List, arith, subst}
 use Rattle.std.specs.Option.{option_copied}
-use Rattle.bd_node.specs.declared.node.Edge.{Edge}
-use Rattle.bd_inner.specs.Halves.{edges_of}
 use Rattle.bd_flush.proofs.ChildSplits.{edge_here}
-use Rattle.bd_flush.proofs.Reading.{read_end, read_rising}
-use Rattle.bd_reclaim.proofs.Covers.{place_low, past_all, none_more, first_one, none_at_all}
+use Rattle.bd_reclaim.proofs.Covers.{place_low, end_read, rising_read, past_all, none_more, first_one, none_at_all}
 use Rattle.bd_reclaim.proofs.covering.first_covered.Goals as goal
 
 pub newest-requires : goal.newest-requires
 newest-requires c =
-    read_rising c.args.node.now c.loop-place.place c.index-edges-place.result c.edges_of-edges.result.now (option_copied c.end_of.result)
-    (record { shape = c.requires; same = c.edges_of-edges.ensures; low = place_low c.args.node.now c.edges_of-edges.result.now c.loop-place.place c.edges_of-edges.ensures c.loop-place-test.true; read = c.index-edges-place.is }) c.end_of.ensures
+    rising_read c.args.node.now c.loop-place.place c.index-edges-place.result (option_copied c.end_of.result) c.requires
+    (edge_here c.edges_of-edges.result.now c.args.node.now c.loop-place.place c.index-edges-place.result c.edges_of-edges.ensures (place_low c.args.node.now c.edges_of-edges.result.now c.loop-place.place c.edges_of-edges.ensures c.loop-place-test.true) c.index-edges-place.is)
+    (end_read c.args.node.now c.edges_of-edges.result.now c.loop-place.place (option_copied c.end_of.result) c.edges_of-edges.ensures c.end_of.ensures)
 
 pub returns-in-Some : goal.returns-in-Some
 returns-in-Some c =
     first_one c.args.cover c.args.node.now c.loop-place.place c.in-Some.at c.index-edges-place.result c.buffer_of-buffer.result.now (option_copied c.end_of.result) c.loop-place.invariant
     (edge_here c.edges_of-edges.result.now c.args.node.now c.loop-place.place c.index-edges-place.result c.edges_of-edges.ensures (place_low c.args.node.now c.edges_of-edges.result.now c.loop-place.place c.edges_of-edges.ensures c.loop-place-test.true) c.index-edges-place.is)
     c.buffer_of-buffer.ensures
-    (read_end c.args.node.now c.loop-place.place c.index-edges-place.result c.edges_of-edges.result.now (option_copied c.end_of.result)
-    (record { shape = c.requires; same = c.edges_of-edges.ensures; low = place_low c.args.node.now c.edges_of-edges.result.now c.loop-place.place c.edges_of-edges.ensures c.loop-place-test.true; read = c.index-edges-place.is }) c.end_of.ensures)
+    (end_read c.args.node.now c.edges_of-edges.result.now c.loop-place.place (option_copied c.end_of.result) c.edges_of-edges.ensures c.end_of.ensures)
     c.in-Some.ensures
 
 pub loop-place-preserved : goal.loop-place-preserved
@@ -26,8 +22,7 @@ loop-place-preserved c =
     none_more c.args.cover c.args.node.now c.loop-place.place c.index-edges-place.result c.buffer_of-buffer.result.now (option_copied c.end_of.result) c.loop-place.invariant
     (edge_here c.edges_of-edges.result.now c.args.node.now c.loop-place.place c.index-edges-place.result c.edges_of-edges.ensures (place_low c.args.node.now c.edges_of-edges.result.now c.loop-place.place c.edges_of-edges.ensures c.loop-place-test.true) c.index-edges-place.is)
     c.buffer_of-buffer.ensures
-    (read_end c.args.node.now c.loop-place.place c.index-edges-place.result c.edges_of-edges.result.now (option_copied c.end_of.result)
-    (record { shape = c.requires; same = c.edges_of-edges.ensures; low = place_low c.args.node.now c.edges_of-edges.result.now c.loop-place.place c.edges_of-edges.ensures c.loop-place-test.true; read = c.index-edges-place.is }) c.end_of.ensures)
+    (end_read c.args.node.now c.edges_of-edges.result.now c.loop-place.place (option_copied c.end_of.result) c.edges_of-edges.ensures c.end_of.ensures)
     c.in_default.ensures
 
 pub returns : goal.returns
