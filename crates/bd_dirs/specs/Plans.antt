@@ -44,6 +44,31 @@ IsReady (Apply list) = IsSmallBatch list
 IsReady (Graft s d keep) =
     (length s ≤ key_limit) × (length d ≤ key_limit) × (keep ≡ false → ¬ Begins d s)
 
+-- a refusal, or messages
+abbrev pub SendsMessages : Plan → Type 0
+SendsMessages (Refused refusal) = Unit {0}
+SendsMessages (Apply list) = Unit {0}
+SendsMessages (Graft s d keep) = ⊥
+
+-- a refusal, or a graft
+abbrev pub IsGraftPlan : Plan → Type 0
+IsGraftPlan (Refused refusal) = Unit {0}
+IsGraftPlan (Apply list) = ⊥
+IsGraftPlan (Graft s d keep) = Unit {0}
+
+-- a rename and a clone are grafts, and each other command sends messages
+abbrev pub IsPlanKind : Command → Plan → Type 0
+IsPlanKind (Mkdir path) plan = SendsMessages plan
+IsPlanKind (Create path) plan = SendsMessages plan
+IsPlanKind (Write path off bytes) plan = SendsMessages plan
+IsPlanKind (Truncate path len) plan = SendsMessages plan
+IsPlanKind (Remove path) plan = SendsMessages plan
+IsPlanKind (Rename a b) plan = IsGraftPlan plan
+IsPlanKind (Clone a b) plan = IsGraftPlan plan
+IsPlanKind (Read path off len) plan = SendsMessages plan
+IsPlanKind (Stat path) plan = SendsMessages plan
+IsPlanKind (Ls path after) plan = SendsMessages plan
+
 -- the refusal to make an entry at the path, or the message that makes any entry with this record
 abbrev pub IsNewPlan : At → Tree → List (List ℕ) → Record → Plan → Type 0
 IsNewPlan at t path r (Refused refusal) = new_refusal t path ≡ Some refusal

@@ -5,7 +5,7 @@ ghost use Rattle.bd_command.specs.declared.Command.TheVariants as command;
 ghost use Rattle.bd_model.specs.Tree.{Tree, IsTree};
 ghost use Rattle.bd_message.specs.KeyMaps.{IsLeft, HasMapCause, NeverWorn};
 ghost use Rattle.bd_represent.specs.Represents.{Represents};
-ghost use Rattle.bd_dirs.specs.Plans.{IsPlan, IsNewPlan, IsReady};
+ghost use Rattle.bd_dirs.specs.Plans.{IsPlan, IsNewPlan, IsReady, SendsMessages, IsGraftPlan};
 
 use crate::lookups::{absent, unmakeable};
 use crate::plan::Plan;
@@ -21,6 +21,7 @@ use std::alloc::Global;
 pub fn mkdir<M: KeyMap>(alloc: Global, m: &mut M, path: &Path) -> Result<Plan, MapFault>
     ensures plan { M.is_known m.old → (t : Tree) → IsTree t → Represents (M.has m.old) t
         → IfOk result (IsPlan (M.has m.old) t (command.Mkdir path.now)) }
+    ensures kind { IfOk result SendsMessages }
     ensures ready { IfOk result IsReady }
     ensures left { IsLeft M.is_known M.has M.room_of M.worn M.reads M.loans m.old m.new }
     ensures cause { HasMapCause (M.fault_count m.old) (M.fault_count m.new)
@@ -33,6 +34,7 @@ pub fn mkdir<M: KeyMap>(alloc: Global, m: &mut M, path: &Path) -> Result<Plan, M
 pub fn create<M: KeyMap>(alloc: Global, m: &mut M, path: &Path) -> Result<Plan, MapFault>
     ensures plan { M.is_known m.old → (t : Tree) → IsTree t → Represents (M.has m.old) t
         → IfOk result (IsPlan (M.has m.old) t (command.Create path.now)) }
+    ensures kind { IfOk result SendsMessages }
     ensures ready { IfOk result IsReady }
     ensures left { IsLeft M.is_known M.has M.room_of M.worn M.reads M.loans m.old m.new }
     ensures cause { HasMapCause (M.fault_count m.old) (M.fault_count m.new)
@@ -45,6 +47,7 @@ pub fn create<M: KeyMap>(alloc: Global, m: &mut M, path: &Path) -> Result<Plan, 
 fn make<M: KeyMap>(alloc: Global, m: &mut M, path: &Path, entry: Record) -> Result<Plan, MapFault>
     ensures plan { M.is_known m.old → (t : Tree) → IsTree t → Represents (M.has m.old) t
         → IfOk result (IsNewPlan (M.has m.old) t path.now entry) }
+    ensures kind { IfOk result SendsMessages }
     ensures ready { IfOk result IsReady }
     ensures left { IsLeft M.is_known M.has M.room_of M.worn M.reads M.loans m.old m.new }
     ensures cause { HasMapCause (M.fault_count m.old) (M.fault_count m.new)
@@ -62,6 +65,7 @@ fn make<M: KeyMap>(alloc: Global, m: &mut M, path: &Path, entry: Record) -> Resu
 pub fn remove<M: KeyMap>(alloc: Global, m: &mut M, path: &Path) -> Result<Plan, MapFault>
     ensures plan { M.is_known m.old → (t : Tree) → IsTree t → Represents (M.has m.old) t
         → IfOk result (IsPlan (M.has m.old) t (command.Remove path.now)) }
+    ensures kind { IfOk result SendsMessages }
     ensures ready { IfOk result IsReady }
     ensures left { IsLeft M.is_known M.has M.room_of M.worn M.reads M.loans m.old m.new }
     ensures cause { HasMapCause (M.fault_count m.old) (M.fault_count m.new)
@@ -85,6 +89,7 @@ pub fn remove<M: KeyMap>(alloc: Global, m: &mut M, path: &Path) -> Result<Plan, 
 pub fn clone_to<M: KeyMap>(alloc: Global, m: &mut M, a: &Path, b: &Path) -> Result<Plan, MapFault>
     ensures plan { M.is_known m.old → (t : Tree) → IsTree t → Represents (M.has m.old) t
         → IfOk result (IsPlan (M.has m.old) t (command.Clone a.now b.now)) }
+    ensures kind { IfOk result IsGraftPlan }
     ensures ready { IfOk result IsReady }
     ensures left { IsLeft M.is_known M.has M.room_of M.worn M.reads M.loans m.old m.new }
     ensures cause { HasMapCause (M.fault_count m.old) (M.fault_count m.new)
@@ -107,6 +112,7 @@ pub fn clone_to<M: KeyMap>(alloc: Global, m: &mut M, a: &Path, b: &Path) -> Resu
 pub fn rename<M: KeyMap>(alloc: Global, m: &mut M, a: &Path, b: &Path) -> Result<Plan, MapFault>
     ensures plan { M.is_known m.old → (t : Tree) → IsTree t → Represents (M.has m.old) t
         → IfOk result (IsPlan (M.has m.old) t (command.Rename a.now b.now)) }
+    ensures kind { IfOk result IsGraftPlan }
     ensures ready { IfOk result IsReady }
     ensures left { IsLeft M.is_known M.has M.room_of M.worn M.reads M.loans m.old m.new }
     ensures cause { HasMapCause (M.fault_count m.old) (M.fault_count m.new)

@@ -7,7 +7,7 @@ ghost use Rattle.bd_model.specs.Tree.{Tree, IsTree};
 ghost use Rattle.bd_message.specs.KeyMaps.{At, IsLeft, HasMapCause, NeverWorn};
 ghost use Rattle.bd_represent.specs.Represents.{Represents};
 ghost use Rattle.bd_files.specs.FilePlans as files;
-ghost use Rattle.bd_dirs.specs.Plans.{HasSize, IsPlan, IsReady};
+ghost use Rattle.bd_dirs.specs.Plans.{HasSize, IsPlan, IsReady, SendsMessages, IsPlanKind};
 
 use crate::changes::{clone_to, create, mkdir, remove, rename};
 use crate::plan::Plan;
@@ -27,6 +27,7 @@ pub fn plan_command<M: KeyMap>(
     requires size { HasSize command.now }
     ensures plan { M.is_known m.old → (t : Tree) → IsTree t → Represents (M.has m.old) t
         → IfOk result (IsPlan (M.has m.old) t command.now) }
+    ensures kind { IfOk result (IsPlanKind command.now) }
     ensures ready { IfOk result IsReady }
     ensures left { IsLeft M.is_known M.has M.room_of M.worn M.reads M.loans m.old m.new }
     ensures cause { HasMapCause (M.fault_count m.old) (M.fault_count m.new)
@@ -50,6 +51,7 @@ pub fn plan_command<M: KeyMap>(
 fn of_file(plan: FilePlan) -> Plan
     ensures plan { (at : At) (t : Tree) (c : Command) → files.IsFilePlan at t c plan
         → IsPlan at t c result }
+    ensures kind { SendsMessages result }
     ensures ready { files.IsReady plan → IsReady result }
 {
     match plan {

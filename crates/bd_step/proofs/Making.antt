@@ -1,8 +1,7 @@
 -- What the way down finds is enough to make a step.
-use Rattle.std.proofs.Common.{◌≡◌, ℕ, List, reverse, ◌<◌, ◌≤◌, sym, ap, subst, ◌∙◌, None, Some, Result, Ok, IfOk, arith, inl, inr}
+use Rattle.std.proofs.Common.{◌≡◌, ℕ, List, reverse, ◌<◌, ◌≤◌, sym, ap, subst, ◌∙◌, None, Some, arith, inl, inr}
 use Rattle.std.specs.List.{AllByRecursion}
 use Rattle.bd_limits.specs.Limits.{soft_limit}
-use Rattle.bd_message.specs.declared.fault.MapFault.{MapFault}
 use Rattle.bd_node.specs.declared.node.Edge.{Edge}
 use Rattle.bd_node.specs.declared.node.Node.{Node}
 use Rattle.bd_node.specs.declared.node.Node.TheVariants.{Leaf, Inner}
@@ -24,9 +23,7 @@ use Rattle.bd_flush.specs.Ways.{IsFullestAt, IsHigh, IsThere, AreThere, IsToDo, 
 use Rattle.bd_node.proofs.Lookup.{each_weaker}
 use Rattle.bd_flush.proofs.Abundance.{abundant}
 use Rattle.bd_flush.proofs.Waiting.{fullest_waits, pending_waits}
-use Rattle.bd_step.specs.Steps.{IsMade, IsHighAfter, IsAbundantAt, IsAbundant, IsFlushStep, IsOutcome}
-use Rattle.bd_step.specs.declared.steps.Flush.{Flush}
-use Rattle.bd_step.specs.declared.steps.Flush.TheVariants.{Enough}
+use Rattle.bd_step.specs.Steps.{IsMade, IsHighAfter, IsAbundantAt, IsAbundant, IsFlushStep}
 
 -- messages wait in a node of the way
 some_wait : (t : Table) (f : Fetched) → 1 ≤ t.size → IsFetched t f → IsHigh t f → 1 ≤ buffer_size f.node.value
@@ -118,18 +115,6 @@ is_abundant t (Carve above parent place) h more = abundant_at t parent place mor
 
 pub root_found : (nodes : Nodes) (t : Table) (root : Fetched) (n : Node) → n ≡ root.node.value → IsToDo t (SplitRoot root) → IsToDoAt nodes t (SplitRoot root) → nodes t.root ≡ Some n
 root_found nodes t root n same to_do here = ap nodes (sym to_do.1) ∙ (here.there ∙ ap (λ (m : Node). Some m) (sym same))
-
-outcome_made : (step : FlushStep) → IsOutcome step Enough → ⊥
-outcome_made (SplitRoot root) h = cc
-outcome_made (SplitChild above parent place child) h = cc
-outcome_made (Push above parent place child) h = cc
-outcome_made (Privatise above parent place) h = elim h [ inl done ↦ cc | inr long ↦ cc ]
-outcome_made (Carve above parent place) h = cc
-
-pub never_enough : (r : Result Flush MapFault) (step : FlushStep) → IfOk r (IsOutcome step) → r ≡ Ok Enough → ⊥
-never_enough r step h is =
-    let of_ok : IsOutcome step Enough = subst (λ (q : Result Flush MapFault). IfOk q (IsOutcome step)) is h in
-    outcome_made step of_ok
 
 pub here_again : (nodes mid : Nodes) (t m : Table) (step : FlushStep) → mid ≡ nodes → m ≡ t → IsSound mid m → (IsSound nodes t → IsToDoAt nodes t step) → IsToDoAt mid m step
 here_again nodes mid t m step same table sound here =

@@ -1,5 +1,5 @@
--- One step of a flush: what it comes to, and the kinds of such steps.
-use Rattle.std.specs.Prelude.{◌≡◌, ℕ, ◌<◌, ◌≤◌, ◌⊎◌, reverse, None, Some}
+-- The kinds of a step of a flush, and what it takes.
+use Rattle.std.specs.Prelude.{ℕ, ◌+◌, ◌*◌, ◌<◌, ◌≤◌, ◌⊎◌, reverse, None, Some}
 use Rattle.bd_limits.specs.Limits.{soft_limit, abundant_limit}
 use Rattle.bd_node.specs.declared.node.Node.{Node}
 use Rattle.bd_node.specs.Meaning.{Nodes}
@@ -13,11 +13,9 @@ use Rattle.bd_flush.specs.Splits.{IsSplitRoot, IsRaised}
 use Rattle.bd_flush.specs.Children.{IsNoHigher}
 use Rattle.bd_flush.specs.Between.{IsSplitChild, IsHighAfterSplit, IsHardlyHigher}
 use Rattle.bd_flush.specs.Pushes.{IsPushed, IsPushedBetween, IsPushedNew, IsLongPush}
-use Rattle.bd_flush.specs.Copies.{IsPrivatised, IsTooLong}
+use Rattle.bd_flush.specs.Copies.{IsPrivatised}
 use Rattle.bd_flush.specs.Carving.{IsCarvedAt}
 use Rattle.bd_flush.specs.Ways.{IsToDo, IsToDoAt}
-use Rattle.bd_step.specs.declared.steps.Flush.{Flush}
-use Rattle.bd_step.specs.declared.steps.Flush.TheVariants.{Done, LongSource}
 
 -- ---- the kinds of a step
 
@@ -72,36 +70,13 @@ pub record IsFlushStep (nodes : Nodes) (t : Table) (new : Nodes) (u : Table) : T
   pub height : IsHighAfter t step u
   pub flushed : IsFlushed nodes t new u
 
--- ---- what a step comes to
-
--- what comes of the step that is to be done: it is made, but for a child whose copy would have a
--- source that is too long
-abbrev pub IsOutcome : FlushStep → Flush → Type 0
-IsOutcome (SplitRoot root) flush = flush ≡ Done
-IsOutcome (SplitChild above parent place child) flush = flush ≡ Done
-IsOutcome (Push above parent place child) flush = flush ≡ Done
-IsOutcome (Privatise above parent place) flush = (flush ≡ Done) ⊎ (flush ≡ LongSource)
-IsOutcome (Carve above parent place) flush = flush ≡ Done
-
--- a child is to be copied, and its copy would have a source of more than 518 bytes
-abbrev pub IsStuck : Nodes → FlushStep → Type 0
-IsStuck nodes (SplitRoot root) = ⊥
-IsStuck nodes (SplitChild above parent place child) = ⊥
-IsStuck nodes (Push above parent place child) = ⊥
-IsStuck nodes (Privatise above parent place) = IsTooLong nodes parent place
-IsStuck nodes (Carve above parent place) = ⊥
-
--- what the way down finds to do, as far as the tables tell, and what comes of it
-pub record IsFound (t u : Table) (flush : Flush) : Type 0 where
+-- the step that the way down finds by the tables alone, and how high the root is after it
+pub record IsFound (t u : Table) : Type 0 where
   pub step : FlushStep
   pub to_do : IsToDo t step
-  pub outcome : IsOutcome step flush
-  pub height : flush ≡ Done → IsHighAfter t step u
+  pub height : IsHighAfter t step u
 
--- the same in known nodes
-pub record IsFoundAt (nodes : Nodes) (t : Table) (flush : Flush) : Type 0 where
-  pub step : FlushStep
-  pub to_do : IsToDo t step
-  pub here : IsToDoAt nodes t step
-  pub outcome : IsOutcome step flush
-  pub stuck : flush ≡ LongSource → IsStuck nodes step
+-- how many visits a step takes at most: as many as the tree is high, and four more, and where a child
+-- is copied, those of at most 17 sources that are looked through
+abbrev pub step_visits : Table → ℕ
+step_visits t = (t.level t.root + 1) + (4 + 17 * t.level t.root)

@@ -4,4 +4,4 @@
 
 mod steps;
 
-pub use steps::{Flush, flush_step};
+pub use steps::flush_step;

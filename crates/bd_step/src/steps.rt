@@ -1,13 +1,13 @@
 //! One step of a flush.
 
-ghost use Rattle.std.specs.Prelude.{◌≡◌, ◌≢◌, ◌↔◌, ◌+◌, ◌<◌, ◌≤◌, reverse, IfOk, Ok};
+ghost use Rattle.std.specs.Prelude.{◌≡◌, ◌≢◌, ◌↔◌, ◌+◌, ◌*◌, ◌<◌, ◌≤◌, true, false, reverse, OnOk, OnErr, Ok};
 ghost use Rattle.bd_message.specs.KeyMaps.{HasMapCause};
 ghost use Rattle.bd_node.specs.Tables.{IsSound};
 ghost use Rattle.bd_flush.specs.declared.ways.FlushStep.TheVariants as step;
 ghost use Rattle.bd_flush.specs.Flushed.{IsFlushed, IsWornFor};
 ghost use Rattle.bd_flush.specs.Raising.{IsWayUp};
 ghost use Rattle.bd_flush.specs.Ways.{IsToDo, IsToDoAt, AreThere, IsWayOf, IsWayThere};
-ghost use Rattle.bd_step.specs.Steps.{IsMade, IsHighAfter, IsFlushStep, IsOutcome, IsStuck, IsFound, IsFoundAt};
+ghost use Rattle.bd_step.specs.Steps.{IsMade, IsHighAfter, IsFlushStep, IsFound, step_visits};
 
 use bd_flush::{
     Fetched, FlushStep, Privatised, Way, carve, next_step, privatise, push, push_new, split_child,
@@ -17,57 +17,43 @@ use bd_message::MapFault;
 use bd_node::NodeStore;
 use std::alloc::Global;
 
-/// What became of a step of a flush.
-#[derive(Clone, Copy, Debug, PartialEq, Eq)]
-pub enum Flush {
-    /// No more bytes wait in the root than were to be left: no step was needed.
-    Enough,
-    /// One step was made.
-    Done,
-    /// The fullest edge of a node on the way asks a shared child, or one with something in front of
-    /// a key, whose copy would have a source of more than 518 bytes: nothing was changed.
-    LongSource,
-}
-
-/// Makes one step of a flush where more than `limit` bytes of messages wait in the root: at the
-/// place that the way down from the root finds, a node is split, messages go down to a child or to a
-/// new leaf, a shared child is copied, or the keys of a Goto get edges of their own. All changes are
-/// made at once or not at all. At most four nodes are made, and there are at most as many visits as
-/// the tree is high, and four more.
+/// Makes one step of a flush where more than `limit` bytes of messages wait in the root, and says
+/// whether it did: at the place that the way down from the root finds, a node is split, messages go
+/// down to a child or to a new leaf, a shared child is copied, or the keys of a Goto get edges of
+/// their own. All changes are made at once or not at all. At most four nodes are made, and there are
+/// at most as many visits as the tree is high, and four more; where a child is copied, also those of
+/// at most 17 sources that are looked through, each at most as many as the tree is high.
 pub fn flush_step<S: NodeStore>(
     alloc: Global,
     store: &mut S,
     limit: usize,
-) -> Result<Flush, MapFault>
-    ensures enough { (result ≡ Ok Flush.Enough) ↔ ((S.table store.old).size ≤ limit) }
-    ensures unchanged { result ≡ Ok Flush.Enough → store.new ≡ store.old }
+) -> Result<bool, MapFault>
+    ensures enough { (result ≡ Ok false) ↔ ((S.table store.old).size ≤ limit) }
+    ensures unchanged { result ≡ Ok false → store.new ≡ store.old }
     ensures step { S.is_known store.old → IsSound (S.nodes store.old) (S.table store.old)
-        → result ≡ Ok Flush.Done → IsFlushStep (S.nodes store.old) (S.table store.old)
+        → result ≡ Ok true → IsFlushStep (S.nodes store.old) (S.table store.old)
         (S.nodes store.new) (S.table store.new) }
-    ensures found { IfOk result (λ flush. flush ≢ Flush.Enough
-        → IsFound (S.table store.old) (S.table store.new) flush) }
-    ensures found_at { S.is_known store.old → IsSound (S.nodes store.old) (S.table store.old)
-        → IfOk result (λ flush. flush ≢ Flush.Enough
-        → IsFoundAt (S.nodes store.old) (S.table store.old) flush) }
+    ensures found { result ≡ Ok true → IsFound (S.table store.old) (S.table store.new) }
     ensures known { S.is_known store.old → S.is_known store.new }
-    ensures same_table { result ≢ Ok Flush.Done → S.table store.new ≡ S.table store.old }
+    ensures same_table { result ≢ Ok true → S.table store.new ≡ S.table store.old }
     ensures same_nodes { S.is_known store.old
-        → result ≢ Ok Flush.Done → S.nodes store.new ≡ S.nodes store.old }
+        → result ≢ Ok true → S.nodes store.new ≡ S.nodes store.old }
     ensures few_visits { S.visit_count store.new
-        ≤ S.visit_count store.old + ((S.table store.old).level (S.table store.old).root + 1) + 4 }
+        ≤ S.visit_count store.old + step_visits (S.table store.old) }
     ensures cause { HasMapCause (S.fault_count store.old) (S.fault_count store.new)
         (S.bad store.new) (IsWornFor (S.table store.old)) result }
     ensures same_loans { S.loans store.new ≡ S.loans store.old }
 {
     if store.root_size() <= limit {
-        return Ok(Flush::Enough);
+        return Ok(false);
     }
     let step = next_step(alloc, store)?;
-    make(alloc, store, step)
+    make(alloc, store, step)?;
+    Ok(true)
 }
 
 // Makes a step that was found.
-fn make<S: NodeStore>(alloc: Global, store: &mut S, step: FlushStep) -> Result<Flush, MapFault>
+fn make<S: NodeStore>(alloc: Global, store: &mut S, step: FlushStep) -> Result<(), MapFault>
     requires waits { 1 ≤ (S.table store.old).size }
     requires to_do { IsToDo (S.table store.old) step }
     requires here { S.is_known store.old → IsSound (S.nodes store.old) (S.table store.old)
@@ -76,40 +62,30 @@ fn make<S: NodeStore>(alloc: Global, store: &mut S, step: FlushStep) -> Result<F
     requires way_here { S.is_known store.old → IsSound (S.nodes store.old) (S.table store.old)
         → IsWayThere (S.nodes store.old) (S.table store.old) step }
     ensures flushed { S.is_known store.old → IsSound (S.nodes store.old) (S.table store.old)
-        → result ≡ Ok Flush.Done → IsFlushed (S.nodes store.old) (S.table store.old)
-        (S.nodes store.new) (S.table store.new) }
+        → OnOk result (IsFlushed (S.nodes store.old) (S.table store.old)
+        (S.nodes store.new) (S.table store.new)) }
     ensures made { S.is_known store.old → IsSound (S.nodes store.old) (S.table store.old)
-        → result ≡ Ok Flush.Done → IsMade (S.nodes store.old)
-        (S.table store.old) step
-        (S.nodes store.new) (S.table store.new) }
-    ensures height { result ≡ Ok Flush.Done
-        → IsHighAfter (S.table store.old) step (S.table store.new) }
-    ensures outcome { IfOk result (IsOutcome step) }
-    ensures stuck { S.is_known store.old → result ≡ Ok Flush.LongSource
-        → IsStuck (S.nodes store.old) step }
+        → OnOk result (IsMade (S.nodes store.old) (S.table store.old) step
+        (S.nodes store.new) (S.table store.new)) }
+    ensures height { OnOk result (IsHighAfter (S.table store.old) step (S.table store.new)) }
     ensures known { S.is_known store.old → S.is_known store.new }
-    ensures same_table { result ≢ Ok Flush.Done → S.table store.new ≡ S.table store.old }
-    ensures same_nodes { S.is_known store.old
-        → result ≢ Ok Flush.Done → S.nodes store.new ≡ S.nodes store.old }
-    ensures few_visits { S.visit_count store.new ≤ S.visit_count store.old + 4 }
+    ensures err_table { OnErr result (S.table store.new ≡ S.table store.old) }
+    ensures err_nodes { S.is_known store.old
+        → OnErr result (S.nodes store.new ≡ S.nodes store.old) }
+    ensures few_visits { S.visit_count store.new ≤ S.visit_count store.old
+        + (4 + 17 * (S.table store.old).level (S.table store.old).root) }
     ensures cause { HasMapCause (S.fault_count store.old) (S.fault_count store.new)
         (S.bad store.new) (IsWornFor (S.table store.old)) result }
     ensures same_loans { S.loans store.new ≡ S.loans store.old }
 {
     match step {
-        FlushStep::SplitRoot { root } => {
-            split_root(alloc, store, &root.node)?;
-            Ok(Flush::Done)
-        }
+        FlushStep::SplitRoot { root } => split_root(alloc, store, &root.node),
         FlushStep::SplitChild {
             above,
             parent,
             place,
             child,
-        } => {
-            split_child(alloc, store, above.as_slice(), &parent, place, &child)?;
-            Ok(Flush::Done)
-        }
+        } => split_child(alloc, store, above.as_slice(), &parent, place, &child),
         FlushStep::Push {
             above,
             parent,
@@ -118,14 +94,12 @@ fn make<S: NodeStore>(alloc: Global, store: &mut S, step: FlushStep) -> Result<F
         } => push_down(alloc, store, above, parent, place, child),
         FlushStep::Privatise { parent, place, .. } => {
             match privatise(alloc, store, &parent, place)? {
-                Privatised::Done => Ok(Flush::Done),
-                Privatised::LongSource => Ok(Flush::LongSource),
+                Privatised::Done => Ok(()),
+                // A stand-in: the copy will have its long sources looked through.
+                Privatised::LongSource => Err(MapFault::NoMemory),
             }
         }
-        FlushStep::Carve { parent, place, .. } => {
-            carve(alloc, store, &parent, place)?;
-            Ok(Flush::Done)
-        }
+        FlushStep::Carve { parent, place, .. } => carve(alloc, store, &parent, place),
     }
 }
 
@@ -137,7 +111,7 @@ fn push_down<S: NodeStore>(
     parent: Fetched,
     place: usize,
     child: Option<Fetched>,
-) -> Result<Flush, MapFault>
+) -> Result<(), MapFault>
     requires waits { 1 ≤ (S.table store.old).size }
     requires to_do { IsToDo (S.table store.old) (step.Push above parent place child) }
     requires here { S.is_known store.old → IsSound (S.nodes store.old) (S.table store.old)
@@ -146,32 +120,24 @@ fn push_down<S: NodeStore>(
     requires way_here { S.is_known store.old → IsSound (S.nodes store.old) (S.table store.old)
         → AreThere (S.nodes store.old) (S.table store.old) (reverse above) }
     ensures flushed { S.is_known store.old → IsSound (S.nodes store.old) (S.table store.old)
-        → result ≡ Ok Flush.Done → IsFlushed (S.nodes store.old) (S.table store.old)
-        (S.nodes store.new) (S.table store.new) }
+        → OnOk result (IsFlushed (S.nodes store.old) (S.table store.old)
+        (S.nodes store.new) (S.table store.new)) }
     ensures made { S.is_known store.old → IsSound (S.nodes store.old) (S.table store.old)
-        → result ≡ Ok Flush.Done → IsMade (S.nodes store.old)
-        (S.table store.old) (step.Push above parent place child)
-        (S.nodes store.new) (S.table store.new) }
-    ensures height { result ≡ Ok Flush.Done → IsHighAfter (S.table store.old)
-        (step.Push above parent place child) (S.table store.new) }
-    ensures outcome { IfOk result (IsOutcome (step.Push above parent place child)) }
+        → OnOk result (IsMade (S.nodes store.old) (S.table store.old)
+        (step.Push above parent place child) (S.nodes store.new) (S.table store.new)) }
+    ensures height { OnOk result (IsHighAfter (S.table store.old)
+        (step.Push above parent place child) (S.table store.new)) }
     ensures known { S.is_known store.old → S.is_known store.new }
-    ensures same_table { result ≢ Ok Flush.Done → S.table store.new ≡ S.table store.old }
-    ensures same_nodes { S.is_known store.old
-        → result ≢ Ok Flush.Done → S.nodes store.new ≡ S.nodes store.old }
+    ensures err_table { OnErr result (S.table store.new ≡ S.table store.old) }
+    ensures err_nodes { S.is_known store.old
+        → OnErr result (S.nodes store.new ≡ S.nodes store.old) }
     ensures few_visits { S.visit_count store.new ≤ S.visit_count store.old + 4 }
     ensures cause { HasMapCause (S.fault_count store.old) (S.fault_count store.new)
         (S.bad store.new) (IsWornFor (S.table store.old)) result }
     ensures same_loans { S.loans store.new ≡ S.loans store.old }
 {
     match child {
-        None => {
-            push_new(alloc, store, &parent, place)?;
-            Ok(Flush::Done)
-        }
-        Some(child) => {
-            push(alloc, store, above.as_slice(), &parent, place, &child)?;
-            Ok(Flush::Done)
-        }
+        None => push_new(alloc, store, &parent, place),
+        Some(child) => push(alloc, store, above.as_slice(), &parent, place, &child),
     }
 }

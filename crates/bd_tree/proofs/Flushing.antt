@@ -1,25 +1,22 @@
 -- A step of a flush leaves what the tree has.
-use Rattle.std.proofs.Common.{◌≡◌, ℕ, ◌⊎◌, List, refl, ap, ◌∙◌, Result, Ok, Err, inl, inr}
+use Rattle.std.proofs.Common.{◌≡◌, ℕ, ◌⊎◌, Bool, true, false, List, refl, ap, ◌∙◌, Result, Ok, Err, inl, inr}
 use Rattle.bd_message.specs.declared.fault.MapFault.{MapFault}
 use Rattle.bd_node.specs.Meaning.{Nodes}
 use Rattle.bd_node.specs.Tables.{Table, root_at}
-use Rattle.bd_step.specs.declared.steps.Flush.{Flush}
-use Rattle.bd_step.specs.declared.steps.Flush.TheVariants.{Enough, Done, LongSource}
 use Rattle.bd_step.specs.Steps.{IsFlushStep}
 
-is_done : (r : Result Flush MapFault) → r ≡ Ok Done ⊎ (r ≡ Ok Done → ⊥)
-is_done (Ok Done) = inl refl
-is_done (Ok Enough) = inr (λ e. cc)
-is_done (Ok LongSource) = inr (λ e. cc)
+is_done : (r : Result Bool MapFault) → r ≡ Ok true ⊎ (r ≡ Ok true → ⊥)
+is_done (Ok true) = inl refl
+is_done (Ok false) = inr (λ e. cc)
 is_done (Err fault) = inr (λ e. cc)
 
 -- nodes after a call that makes a step of a flush or nothing
-pub record IsAfterFlush (nodes : Nodes) (t : Table) (new : Nodes) (u : Table) (r : Result Flush MapFault) : Type 0 where
-  pub step : r ≡ Ok Done → IsFlushStep nodes t new u
-  pub table : (r ≡ Ok Done → ⊥) → u ≡ t
-  pub same : (r ≡ Ok Done → ⊥) → new ≡ nodes
+pub record IsAfterFlush (nodes : Nodes) (t : Table) (new : Nodes) (u : Table) (r : Result Bool MapFault) : Type 0 where
+  pub step : r ≡ Ok true → IsFlushStep nodes t new u
+  pub table : (r ≡ Ok true → ⊥) → u ≡ t
+  pub same : (r ≡ Ok true → ⊥) → new ≡ nodes
 
-pub same_tree : (nodes : Nodes) (t : Table) (new : Nodes) (u : Table) (r : Result Flush MapFault) → IsAfterFlush nodes t new u r → (k : List ℕ) → root_at new u k ≡ root_at nodes t k
+pub same_tree : (nodes : Nodes) (t : Table) (new : Nodes) (u : Table) (r : Result Bool MapFault) → IsAfterFlush nodes t new u r → (k : List ℕ) → root_at new u k ≡ root_at nodes t k
 same_tree nodes t new u r h k =
     elim (is_done r) [
       | inl done ↦ (h.step done).flushed.same k

@@ -1,6 +1,7 @@
 //! The tree as a key map.
 
-ghost use Rattle.std.specs.Prelude.{◌-◌};
+ghost use Rattle.std.specs.Prelude.{◌≡◌, ◌-◌, refl};
+ghost use Rattle.std.proofs.Common.{◌∙◌};
 ghost use Rattle.bd_limits.specs.Limits.{buffer_limit};
 ghost use Rattle.bd_node.specs.Tables.{IsSound, root_at};
 ghost use Rattle.bd_graft.specs.Grafting.{IsWornForGraft};
@@ -23,13 +24,14 @@ impl<S: NodeStore> KeyMap for Tree<S> {
 
     ghost worn = { λ tree. IsWornForGraft (S.table tree.store) };
 
-    ghost reads = { λ a b. S.reads a.store b.store };
+    ghost reads = { λ a b. S.reads a.store b.store × (b.walk ≡ a.walk) };
 
     ghost loans = { λ tree. S.loans tree.store };
 
-    ghost reads_none = { λ tree. S.reads_none tree.store };
+    ghost reads_none = { λ tree. (S.reads_none tree.store, refl) };
 
-    ghost reads_both = { λ a b c. S.reads_both a.store b.store c.store };
+    ghost reads_both = { λ a b c first second.
+        (S.reads_both a.store b.store c.store first.0 second.0, second.1 ∙ first.1) };
 
     fn get(&mut self, key: &[u8]) -> Result<Option<Vec<u8>>, MapFault> {
         Tree::get(self, key)

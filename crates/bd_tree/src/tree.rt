@@ -1,27 +1,28 @@
 //! The tree.
 
 ghost use Rattle.std.specs.Prelude.{◌≡◌, ◌≢◌, ◌↔◌, ℕ, ◌+◌, ◌-◌, ◌*◌, ◌≤◌, List, IfOk, OnOk};
-ghost use Rattle.std.specs.Prelude.{OnErr, Ok};
+ghost use Rattle.std.specs.Prelude.{true, false, OnErr, Ok, Some};
 ghost use Rattle.std.specs.Option.{option_map};
 ghost use Rattle.bd_limits.specs.Limits.{buffer_limit};
 ghost use Rattle.bd_message.specs.KeyMaps.{HasMapCause, NeverWorn, IsApplied, IsNext};
 ghost use Rattle.bd_message.specs.KeyMaps.{CanGraft, IsGrafted};
 ghost use Rattle.bd_node.specs.Meaning.{at};
 ghost use Rattle.bd_node.specs.Tables.{IsKept, IsSound, root_at};
-ghost use Rattle.bd_node.specs.Steps.{grown};
+ghost use Rattle.bd_node.specs.declared.node.Node.{Node};
+ghost use Rattle.bd_node.specs.Steps.{IsCommitted, append_step, grown};
 ghost use Rattle.bd_node.specs.Stores.{FitsRoot};
 ghost use Rattle.bd_query.specs.Asks.{AreVisitsOfWays};
 ghost use Rattle.bd_query.specs.Visits.{AreVisits};
 ghost use Rattle.bd_graft.specs.Grafting.{IsGrown, IsWornForGraft};
 ghost use Rattle.bd_flush.specs.Flushed.{IsWornFor};
-ghost use Rattle.bd_step.specs.Steps.{IsFlushStep, IsFound, IsFoundAt};
+ghost use Rattle.bd_step.specs.Steps.{IsFlushStep, IsFound, step_visits};
 
 use bd_graft::{Walk, graft};
 use bd_limits::MAX_BUFFER;
 use bd_message::{MapFault, Message};
 use bd_node::{Messages, NodeStore};
 use bd_query::{get, next};
-use bd_step::{Flush, flush_step};
+use bd_step::flush_step;
 use std::alloc::Global;
 use std::marker::Model;
 
@@ -63,6 +64,13 @@ impl<S: NodeStore> Tree<S> {
     {
         let Tree { store, .. } = self;
         store
+    }
+
+    /// The store, which is lent.
+    pub fn store(&self) -> &S
+        ensures { result.now ≡ self.now.store }
+    {
+        &self.store
     }
 
     /// What stands at a key, of any length. At most as many nodes are visited as the tree is high.
@@ -140,6 +148,12 @@ impl<S: NodeStore> Tree<S> {
             → OnOk result (IsApplied
             (root_at (S.nodes self.old.store) (S.table self.old.store)) list.now
             (root_at (S.nodes self.new.store) (S.table self.new.store))) }
+        ensures committed { S.is_known self.old.store
+            → IsSound (S.nodes self.old.store) (S.table self.old.store)
+            → (root : Node) → S.nodes self.old.store (S.table self.old.store).root ≡ Some root
+            → OnOk result (IsCommitted (S.nodes self.old.store) (S.table self.old.store)
+            (append_step (S.table self.old.store) root list.now)
+            (S.nodes self.new.store) (S.table self.new.store)) }
         ensures others { S.is_known self.old.store
             → IsSound (S.nodes self.old.store) (S.table self.old.store)
             → OnOk result ((id : ℕ) → IsKept (S.table self.old.store) id
@@ -211,33 +225,31 @@ impl<S: NodeStore> Tree<S> {
         self.walk
     }
 
-    /// Makes one step of a flush where more than `limit` bytes of messages wait in the root: what
-    /// the tree has stays. At most four nodes are made, and there are at most as many visits as the
-    /// tree is high, and four more. A fault leaves all as it was.
-    pub fn flush_step(&mut self, limit: usize) -> Result<Flush, MapFault>
+    /// Makes one step of a flush where more than `limit` bytes of messages wait in the root, and says
+    /// whether it did: what the tree has stays. At most four nodes are made, and there are at most as
+    /// many visits as the tree is high, and four more; where a child is copied, also those of at most
+    /// 17 sources that are looked through, each at most as many as the tree is high. A fault leaves
+    /// all as it was.
+    pub fn flush_step(&mut self, limit: usize) -> Result<bool, MapFault>
         ensures same { S.is_known self.old.store
             → IsSound (S.nodes self.old.store) (S.table self.old.store)
             → (k : List ℕ) → root_at (S.nodes self.new.store) (S.table self.new.store) k
             ≡ root_at (S.nodes self.old.store) (S.table self.old.store) k }
-        ensures enough { (result ≡ Ok Flush.Enough) ↔ ((S.table self.old.store).size ≤ limit) }
-        ensures unchanged { result ≡ Ok Flush.Enough → self.new.store ≡ self.old.store }
+        ensures enough { (result ≡ Ok false) ↔ ((S.table self.old.store).size ≤ limit) }
+        ensures unchanged { result ≡ Ok false → self.new.store ≡ self.old.store }
         ensures step { S.is_known self.old.store
             → IsSound (S.nodes self.old.store) (S.table self.old.store)
-            → result ≡ Ok Flush.Done → IsFlushStep (S.nodes self.old.store) (S.table self.old.store)
+            → result ≡ Ok true → IsFlushStep (S.nodes self.old.store) (S.table self.old.store)
             (S.nodes self.new.store) (S.table self.new.store) }
-        ensures found { IfOk result (λ flush. flush ≢ Flush.Enough
-            → IsFound (S.table self.old.store) (S.table self.new.store) flush) }
-        ensures found_at { S.is_known self.old.store
-            → IsSound (S.nodes self.old.store) (S.table self.old.store)
-            → IfOk result (λ flush. flush ≢ Flush.Enough
-            → IsFoundAt (S.nodes self.old.store) (S.table self.old.store) flush) }
+        ensures found { result ≡ Ok true
+            → IsFound (S.table self.old.store) (S.table self.new.store) }
         ensures known { S.is_known self.old.store → S.is_known self.new.store }
-        ensures same_table { result ≢ Ok Flush.Done
+        ensures same_table { result ≢ Ok true
             → S.table self.new.store ≡ S.table self.old.store }
         ensures same_nodes { S.is_known self.old.store
-            → result ≢ Ok Flush.Done → S.nodes self.new.store ≡ S.nodes self.old.store }
-        ensures few_visits { S.visit_count self.new.store ≤ S.visit_count self.old.store
-            + ((S.table self.old.store).level (S.table self.old.store).root + 1) + 4 }
+            → result ≢ Ok true → S.nodes self.new.store ≡ S.nodes self.old.store }
+        ensures few_visits { S.visit_count self.new.store
+            ≤ S.visit_count self.old.store + step_visits (S.table self.old.store) }
         ensures cause { HasMapCause (S.fault_count self.old.store) (S.fault_count self.new.store)
             (S.bad self.new.store) (IsWornFor (S.table self.old.store)) result }
         ensures same_loans { S.loans self.new.store ≡ S.loans self.old.store }

@@ -1,7 +1,6 @@
 -- What a plan that is carried out makes of a map and of the tree that it represents.
-use Rattle.std.proofs.Common.{◌≡◌, ℕ, ◌+◌, ◌≤◌, arith, List, Bool, false, not, cond, ◌++◌, refl, sym, ap, subst, ◌∙◌}
-use Rattle.std.specs.Prelude.{Option, Some, None, ◌&&◌, IsTrue, slice_index_or}
-use Rattle.std.proofs.lemmas.List.Sums.{sum_by-le}
+use Rattle.std.proofs.Common.{rules, ◌≡◌, ℕ, ◌+◌, ◌≤◌, arith, List, Bool, false, not, cond, ◌++◌, refl, sym, ap, subst, ◌∙◌}
+use Rattle.std.specs.Prelude.{Option, Some, None, IsNone, Result, Err, OnErr, ◌&&◌, IsTrue}
 use Rattle.bd_limits.specs.Limits.{key_limit, block_limit}
 use Rattle.bd_command.specs.Command.{writes}
 use Rattle.bd_command.specs.declared.Command.{Command}
@@ -16,34 +15,22 @@ use Rattle.bd_message.specs.declared.message.Message.{Message}
 use Rattle.bd_message.specs.declared.message.Message.TheVariants.{Put, Del, Patch, Cut, Goto}
 use Rattle.bd_message.specs.Messages.{IsMessage, size}
 use Rattle.bd_message.specs.Effect.{acts, no_nodes, begins, rest}
-use Rattle.bd_message.specs.KeyMaps.{At, SameAt, IsBatch, IsApplied, IsGrafted, grafted}
-use Rattle.bd_represent.specs.Plans.{IsSmallBatch}
+use Rattle.bd_message.specs.KeyMaps.{At, SameAt, IsApplied, IsGrafted, grafted}
 use Rattle.bd_represent.specs.Represents.{Represents}
 use Rattle.bd_represent.proofs.TreeLemmas.{Represents-along}
-use Rattle.bd_dirs.specs.Plans.{IsPlan, IsReady}
+use Rattle.bd_dirs.specs.Plans.{IsPlan}
 use Rattle.bd_dirs.specs.declared.plan.Plan.{Plan}
 use Rattle.bd_dirs.specs.declared.plan.Plan.TheVariants.{Refused, Apply, Graft}
-use Rattle.bd_volume.specs.Over.{command_room, TakesStep}
+use Rattle.bd_volume.specs.Over.{accepts, TakesStep}
 
--- ---- a plan's messages have room
+-- ---- the size of a message
 
-size_few : (m : Message) → IsMessage m → size m ≤ 16 + key_limit + block_limit
+pub size_few : (m : Message) → IsMessage m → size m ≤ 16 + key_limit + block_limit
 size_few (Put key value) h = omega (arith, h.0, h.2)
 size_few (Del key) h = omega (arith, h)
 size_few (Patch key off bytes) h = omega (arith, h.0, h.2)
 size_few (Cut prefix from) h = omega (arith, h)
 size_few (Goto prefix source child) h = omega (arith, h.0, h.1)
-
-pub planned_batch : (plan : Plan) (list slice : List Message) (room : ℕ) → IsReady plan → plan ≡ Apply list → slice ≡ list → command_room ≤ room → IsBatch slice room
-planned_batch plan list slice room ready is same space = subst (λ (xs : List Message). IsBatch xs room) (sym same) (record {
-  few = small.few;
-  each = small.each;
-  plain = small.plain;
-  fits = omega (arith, sum_by-le size (16 + key_limit + block_limit) list (λ k d h. size_few (slice_index_or list k d) (small.each k d h)), small.few, space);
-})
-  where
-    small : IsSmallBatch list
-    small = subst IsReady is ready
 
 -- ---- a plan for a map is one for a map that has the same
 
@@ -107,3 +94,16 @@ read_step old new t c said w same r e = record {
   reply_is = e;
   represents = subst (Represents new) (sym (after-reading t c w)) (Represents-along old new t (λ k key. same k) r);
 }
+
+-- a plan that is done is of a command that is accepted
+pub done_accepted : (at : At) (t : Tree) (c : Command) (plan : Plan) → IsTrue (accepts plan) → IsPlan at t c plan → refusal_of t c ≡ None
+done_accepted at t c (Refused refusal) does h = cc
+done_accepted at t c (Apply list) does h = h.0
+done_accepted at t c (Graft s d keep) does h = h.0
+
+-- so where it is begun and fails
+pub accepted_plan : {T E : Type 0} (at : At) (t : Tree) (c : Command) (plan : Plan) (r : Result T E) (e : E) → r ≡ Err e → OnErr r (IsTrue (accepts plan)) → IsPlan at t c plan → IsNone (refusal_of t c)
+accepted_plan {T} {E} at t c plan r e is does h =
+    let begun : IsTrue (accepts plan) = subst (λ (s : Result T E). OnErr s (IsTrue (accepts plan))) is does in
+    let none : refusal_of t c ≡ None = done_accepted at t c plan begun h in
+    subst (λ (o : Option Refusal). IsNone o) (sym none) (search rules)

@@ -1,9 +1,9 @@
 -- What the record of `/` alone makes of a map that has nothing.
-use Rattle.std.proofs.Common.{◌≡◌, ℕ, ◌+◌, ◌*◌, List, [], ◌∷◌, refl, sym, ap, subst, ◌∙◌}
-use Rattle.std.specs.Prelude.{Result, Ok, Err, OnOk, Option, None, IfSome, slice_index}
+use Rattle.std.proofs.Common.{rules, lit≤, ◌≤◌, ◌≡◌, ℕ, ◌+◌, ◌*◌, List, [], ◌∷◌, refl, sym, ap, subst, ◌∙◌}
+use Rattle.std.specs.Prelude.{Option, None, IfSome, slice_index}
 use Rattle.std.specs.Option.{option_map, unwrap_or}
 use Rattle.std.specs.FinMap.{empty, get-empty}
-use Rattle.bd_limits.specs.Limits.{block_limit}
+use Rattle.bd_limits.specs.Limits.{block_limit, late_limit}
 use Rattle.bd_keys.specs.Keys.{IsKey}
 use Rattle.bd_names.specs.Names.{AreNames}
 use Rattle.bd_model.specs.Tree.{Entry, Directory, root_only, path_cmp}
@@ -20,6 +20,12 @@ use Rattle.bd_represent.proofs.ActLemmas.{put-here, IsKey-record_key, IsKey-bloc
 use Rattle.bd_represent.proofs.FileLemmas.{HasBytes-along}
 use Rattle.bd_represent.proofs.TreeLemmas.{Represents-along, Represents-insert}
 use Rattle.bd_files.proofs.Writes.{put_at, put_only, put_beside, put_blocks}
+use Rattle.bd_represent.specs.Plans.{IsSmallBatch}
+use Rattle.bd_node.specs.New.{new_table}
+use Rattle.bd_node.specs.Tables.{Table}
+use Rattle.bd_node.specs.Stores.{FitsRoot}
+use Rattle.bd_volume.specs.Views.{root_messages}
+use Rattle.bd_volume.proofs.Sent.{small_fits}
 
 -- nothing stands at any key
 abbrev HasNone : At → Type 0
@@ -48,7 +54,12 @@ root_made at new list none is applied =
     Represents-along mid new root_only (subst (λ (ms : List Message). (k : List ℕ) → IsKey k → new k ≡ acts no_nodes ms k (at k)) is applied)
     (Represents-insert at mid empty [] Directory (nothing at none) (put_beside [] value at refl) (put-here (record_key []) value (at (record_key []))) bytes (put_only [] value at refl (nothing at none).only))
 
--- what follows where a call succeeded
-pub on_ok : {T E : Type 0} (result : Result T E) (A B : Type 0) → OnOk result A → (A → B) → OnOk result B
-on_ok (Ok x) A B h f = f h
-on_ok (Err e) A B h f = tt
+-- ---- its message
+
+root_small : IsSmallBatch root_messages
+root_small = record { few = lit≤ tt; each = search rules; plain = search rules }
+
+-- it has room in a new store
+pub root_fits : (m : Message) (t : Table) → m ≡ Put (record_key []) (record_bytes Dir) → t ≡ new_table → FitsRoot t (m ∷ [])
+root_fits m t is same =
+    subst (λ (x : Message). FitsRoot t (x ∷ [])) (sym is) (small_fits root_messages t root_small (subst (λ (u : Table). u.size ≤ late_limit) (sym same) (lit≤ tt)))

@@ -1,15 +1,15 @@
 -- What a volume stands for after a command.
-use Rattle.std.proofs.Common.{◌≡◌, ℕ, ◌+◌, List, ap, ◌∙◌}
-use Rattle.std.specs.Prelude.{Result, Ok, Err, IfOk}
-use Rattle.std.specs.FinMap.{FinMap, get}
-use Rattle.bd_keys.specs.Keys.{key_cmp}
+use Rattle.std.proofs.Common.{◌≡◌, ℕ, ◌+◌, ap, ◌∙◌}
+use Rattle.std.specs.Prelude.{Result, Ok, Err, IfOk, OnErr, IsSome}
+use Rattle.bd_message.specs.KeyMaps.{At, SameAt}
 use Rattle.bd_command.specs.Command.{IsCommand, accepted}
 use Rattle.bd_command.specs.declared.Command.{Command}
 use Rattle.bd_command.specs.declared.reply.Reply.{Reply}
 use Rattle.bd_model.specs.Tree.{Tree, IsTree}
-use Rattle.bd_model.specs.Step.{step}
+use Rattle.bd_model.specs.Step.{step, refusal_of}
 use Rattle.bd_model.proofs.TreeStays.{after_stays}
 use Rattle.bd_represent.specs.Represents.{Represents}
+use Rattle.bd_represent.proofs.TreeLemmas.{Represents-along}
 use Rattle.bd_volume.specs.Over.{TakesStep}
 use Rattle.bd_volume.specs.Volume.{StandsFor, keys_of, count_of}
 use Rattle.bd_volume.specs.declared.Fault.{Fault}
@@ -28,8 +28,24 @@ stands_after old new c (Ok reply) limits steps counts = λ t n s. record {
 stands_after old new c (Err e) limits steps counts = tt
 
 -- and the reply is the step's
-pub replied : {D : Type 0} (old : Volume D) (new : FinMap key_cmp (List ℕ)) (c : Command) (result : Result Reply Fault)
-    → ((t : Tree) → IsTree t → Represents (keys_of old) t → IfOk result (TakesStep t c (λ k. get new k)))
+pub replied : {D : Type 0} (old : Volume D) (new : At) (c : Command) (result : Result Reply Fault)
+    → ((t : Tree) → IsTree t → Represents (keys_of old) t → IfOk result (TakesStep t c new))
     → IfOk result (λ reply. (t : Tree) (n : ℕ) → StandsFor old t n → reply ≡ (step t c).1)
 replied old new c (Ok reply) steps = λ t n s. (steps t s.is_tree s.represents).reply_is
 replied old new c (Err e) steps = tt
+
+-- where a fault leaves the keys and the count, the volume stands for what it did
+pub stays_after : {D : Type 0} (old new : Volume D) (result : Result Reply Fault) → OnErr result (SameAt (keys_of old) (keys_of new)) → OnErr result (count_of new ≡ count_of old)
+    → OnErr result ((t : Tree) (n : ℕ) → StandsFor old t n → StandsFor new t n)
+stays_after old new (Ok reply) same counts = tt
+stays_after old new (Err e) same counts = λ t n s. record {
+  is_tree = s.is_tree;
+  represents = Represents-along (keys_of old) (keys_of new) t (λ k key. same k) s.represents;
+  count_is = counts ∙ s.count_is;
+}
+
+-- where it was refused, the view stays
+pub refused_after : {D : Type 0} (old : Volume D) (c : Command) (result : Result Reply Fault) (P : Type 0) → OnErr result ((t : Tree) → IsTree t → Represents (keys_of old) t → IsSome (refusal_of t c) → P)
+    → OnErr result ((t : Tree) (n : ℕ) → StandsFor old t n → IsSome (refusal_of t c) → P)
+refused_after old c (Ok reply) P h = tt
+refused_after old c (Err e) P h = λ t n s. h t s.is_tree s.represents

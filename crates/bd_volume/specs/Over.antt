@@ -1,26 +1,21 @@
--- What executing a command over a key map comes to.
-use Rattle.std.specs.Prelude.{◌≡◌, ℕ, ◌+◌, ◌*◌, ◌^◌, ◌≤◌, Bool, true, false, IsTrue, Result, IfErr}
-use Rattle.bd_io.specs.Cause.{Rose}
-use Rattle.bd_limits.specs.Limits.{key_limit, block_limit}
-use Rattle.bd_command.specs.Command.{writes}
+-- What executing a command comes to.
+use Rattle.std.specs.Prelude.{◌≡◌, ℕ, ◌⊎◌, Bool, true, false}
 use Rattle.bd_command.specs.declared.Command.{Command}
 use Rattle.bd_command.specs.declared.reply.Reply.{Reply}
 use Rattle.bd_model.specs.Tree.{Tree}
 use Rattle.bd_model.specs.Step.{step}
 use Rattle.bd_message.specs.declared.fault.Counter.{Counter}
-use Rattle.bd_message.specs.declared.fault.Counter.TheVariants.{Count}
 use Rattle.bd_message.specs.declared.fault.MapFault.{MapFault}
 use Rattle.bd_message.specs.declared.fault.MapFault.TheVariants as map
 use Rattle.bd_message.specs.KeyMaps.{At}
 use Rattle.bd_represent.specs.Represents.{Represents}
 use Rattle.bd_dirs.specs.declared.plan.Plan.{Plan}
 use Rattle.bd_dirs.specs.declared.plan.Plan.TheVariants.{Refused, Apply, Graft}
+use Rattle.bd_node.specs.Tables.{Table}
+use Rattle.bd_graft.specs.Grafting.{IsWornForGraft}
+use Rattle.bd_volume.specs.Views.{View, HasFlushed, Wears, HasMade, IsStoppedBy}
 use Rattle.bd_volume.specs.declared.Fault.{Fault}
 use Rattle.bd_volume.specs.declared.Fault.TheVariants.{Device, Damaged, Worn, NoMemory, Full, Stopped}
-
--- room for what any command sends: four messages, each with a longest key and a whole block
-abbrev pub command_room : ℕ
-command_room = 4 * (16 + key_limit + block_limit)
 
 -- what is planned is done: the command is accepted
 abbrev pub accepts : Plan → Bool
@@ -40,23 +35,29 @@ fault_of (map.Damaged block) = Damaged block
 fault_of (map.Worn counter) = Worn counter
 fault_of map.NoMemory = NoMemory
 
--- the count of accepted commands stands at its last value, and the command would raise it
-abbrev pub IsCountWorn : ℕ → Command → Counter → Type 0
-IsCountWorn count command counter =
-    (counter ≡ Count) × (2 ^ 64 ≤ count + 1) × IsTrue (writes command)
+-- why flush steps stopped
+abbrev pub IsFlushFault : MapFault → View → View → Type 0
+IsFlushFault map.DeviceFault old new = ⊥
+IsFlushFault (map.Damaged block) old new = ⊥
+IsFlushFault (map.Worn which) old new = IsStoppedBy which old new
+IsFlushFault map.NoMemory old new = HasMade old new
 
--- a fault of the device is returned only where the map's count of faults rose, damage only of a
--- bad block, a worn counter only where it is; want of room and a stop never
-abbrev pub IsVolumeCause : ℕ → ℕ → (ℕ → Type 0) → (Counter → Type 0) → Fault → Type 0
-IsVolumeCause before now bad worn Device = Rose before now
-IsVolumeCause before now bad worn (Damaged block) = bad block
-IsVolumeCause before now bad worn (Worn counter) = worn counter
-IsVolumeCause before now bad worn NoMemory = Unit {0}
-IsVolumeCause before now bad worn (Full free need) = ⊥
-IsVolumeCause before now bad worn (Stopped call) = ⊥
+-- why a graft wasn't made
+abbrev pub IsGraftFault : MapFault → Table → Type 0
+IsGraftFault map.DeviceFault t = ⊥
+IsGraftFault (map.Damaged block) t = ⊥
+IsGraftFault (map.Worn which) t = IsWornForGraft t which
+IsGraftFault map.NoMemory t = Unit {0}
 
--- the map's count of faults never falls, and a call fails only for a cause
-pub record HasVolumeCause {T : Type 0} (before now : ℕ) (bad : ℕ → Type 0)
-    (worn : Counter → Type 0) (result : Result T Fault) : Type 0 where
-  pub later : before ≤ now
-  pub failed : IfErr result (IsVolumeCause before now bad worn)
+-- no memory, or a counter
+abbrev pub IsVolumeFault : Fault → Type 0
+IsVolumeFault fault = (fault ≡ NoMemory) ⊎ ((which : Counter) × (fault ≡ Worn which))
+
+-- what a fault leaves of the view, after so many commands
+abbrev pub IsHalted : Fault → ℕ → Command → View → View → Type 0
+IsHalted Device count c old new = ⊥
+IsHalted (Damaged block) count c old new = ⊥
+IsHalted (Worn which) count c old new = Wears which count c old new
+IsHalted NoMemory count c old new = (made : ℕ) × HasFlushed c old new made
+IsHalted (Full free need) count c old new = ⊥
+IsHalted (Stopped call) count c old new = ⊥

@@ -1,74 +1,61 @@
-//! A command executed over a key map, and the record of `/` put into one. What is said here holds
-//! for each key map.
+//! A command executed over a tree of nodes in memory.
 
-ghost use Rattle.std.specs.Prelude.{◌≡◌, ◌≤◌, ◌+◌, ◌⊎◌, ℕ, List, None, false, IsTrue, IfOk, OnOk, OnErr};
-ghost use Rattle.bd_command.specs.Command.{writes, is_done, accepted, IsCommand, IsReply};
-ghost use Rattle.bd_command.specs.declared.Command.{Command};
-ghost use Rattle.bd_model.specs.Tree.{Tree, IsTree, root_only};
-ghost use Rattle.bd_model.specs.Step.{step};
-ghost use Rattle.bd_keys.specs.Keys.{IsKey};
+ghost use Rattle.std.specs.Prelude.{◌≡◌, ◌+◌, ℕ, false, IsTrue, IsSome, IsNone, IfOk, IfErr, OnErr, Err};
+ghost use Rattle.bd_command.specs.Command.{writes, accepted, IsCommand, IsReply};
+ghost use Rattle.bd_model.specs.Tree.{Tree, IsTree};
+ghost use Rattle.bd_model.specs.Step.{step, refusal_of};
+ghost use Rattle.bd_message.specs.declared.fault.Counter.{Counter};
 ghost use Rattle.bd_message.specs.KeyMaps.{SameAt, IsLeft, HasMapCause, NeverWorn};
 ghost use Rattle.bd_represent.specs.Represents.{Represents};
-ghost use Rattle.bd_dirs.specs.Plans.{IsPlan, IsReady};
-ghost use Rattle.bd_volume.specs.Volume.{WearsCount};
-ghost use Rattle.bd_volume.specs.Over.{command_room, accepts, TakesStep, IsCountWorn, HasVolumeCause};
+ghost use Rattle.bd_dirs.specs.Plans.{IsPlan, IsReady, IsPlanKind};
+ghost use Rattle.bd_volume.specs.Views.{view_in, keys_in, IsMoved};
+ghost use Rattle.bd_volume.specs.Over.{accepts, TakesStep, IsHalted};
 
-use crate::Fault;
+use crate::flushing::{make_ready, nodes_are_sound};
+use crate::sending::{append, graft};
+use crate::{Fault, MemTree};
 use bd_command::{Command, Reply};
 use bd_dirs::{Plan, list, plan_command, stat};
-use bd_files::{put_record, read};
-use bd_message::{Counter, KeyMap, MapFault};
-use bd_names::Path;
-use bd_records::Record;
+use bd_files::read;
+use bd_message::{KeyMap, MapFault};
 use std::alloc::Global;
 
-/// Executes a command whose fields are within their limits, over a key map that has room for what it
-/// sends, and counts it where it is an accepted writing command. A fault leaves the count and what
-/// stands at the keys as they were. `Worn(Counter::Count)` comes for an accepted writing command
-/// where the count stands at its last value; each other fault is the map's.
-pub fn execute<M: KeyMap>(
+/// Executes a command whose fields are within their limits, and counts it where it is an accepted
+/// writing command. A fault leaves the count and what stands at the keys.
+pub fn execute(
     alloc: Global,
-    m: &mut M,
+    tree: &mut MemTree,
     count: &mut u64,
     command: &Command,
 ) -> Result<Reply, Fault>
-    requires limits { IsCommand command.now }
-    requires room { command_room ≤ M.room_of m.old }
-    ensures step { M.is_known m.old → (t : Tree) → IsTree t → Represents (M.has m.old) t
-        → IfOk result (TakesStep t command.now (M.has m.new)) }
-    ensures known { M.is_known m.old → M.is_known m.new }
-    ensures stays { M.is_known m.old → OnErr result (SameAt (M.has m.old) (M.has m.new)) }
-    ensures worn { result ≡ Err (Fault.Worn Counter.Count) → M.is_known m.old → (t : Tree)
-        → IsTree t → Represents (M.has m.old) t
-        → M.worn m.old Counter.Count ⊎ WearsCount t count.old command.now }
-
-    // Whatever the map is, known or not.
+    requires { IsCommand command.now }
+    ensures step { (t : Tree) → IsTree t → Represents (keys_in tree.old) t
+        → IfOk result (TakesStep t command.now (keys_in tree.new)) }
+    ensures stays { OnErr result (SameAt (keys_in tree.old) (keys_in tree.new)) }
+    ensures moved { IfOk result (λ reply. accepted command.now reply ≡ 1
+        → IsMoved command.now (view_in tree.old) (view_in tree.new)) }
+    ensures unmoved { IfOk result (λ reply. accepted command.now reply ≡ 0
+        → view_in tree.new ≡ view_in tree.old) }
+    ensures halted { IfErr result (λ fault.
+        IsHalted fault count.old command.now (view_in tree.old) (view_in tree.new)) }
+    ensures refused { OnErr result ((t : Tree) → IsTree t → Represents (keys_in tree.old) t
+        → IsSome (refusal_of t command.now) → view_in tree.new ≡ view_in tree.old) }
+    ensures worn { (which : Counter) → result ≡ Err (Fault.Worn which) → (t : Tree) → IsTree t
+        → Represents (keys_in tree.old) t → IsNone (refusal_of t command.now) }
     ensures small { IfOk result IsReply }
     ensures counts { IfOk result (λ reply.
         count.new ≡ count.old + accepted command.now reply) }
     ensures count_stays { OnErr result (count.new ≡ count.old) }
-    ensures read { IfOk result (λ reply. accepted command.now reply ≡ 0
-        → IsLeft M.is_known M.has M.room_of M.worn M.reads M.loans m.old m.new) }
-    ensures room_stays { OnErr result (M.room_of m.new ≡ M.room_of m.old) }
-    ensures cause { HasVolumeCause (M.fault_count m.old) (M.fault_count m.new) (M.bad m.new)
-        (λ counter. M.worn m.old counter ⊎ IsCountWorn count.old command.now counter) result }
-    ensures same_loans { M.loans m.new ≡ M.loans m.old }
 {
+    nodes_are_sound(tree);
     if !command.writes() {
-        return Ok(answer(alloc, m, command)?);
+        return Ok(answer(alloc, tree, command)?);
     }
-    let plan = plan_command(alloc, m, command)?;
-    if *count == u64::MAX && accepts(&plan) {
-        return Err(Fault::Worn(Counter::Count));
-    }
-    let reply = carry_out(m, &plan)?;
-    if reply.is_done() {
-        *count += 1;
-    }
-    Ok(reply)
+    let plan = plan_command(alloc, tree, command)?;
+    carry_out(tree, count, command, plan)
 }
 
-/// What a reading command is answered.
+/// What a reading command is answered, over any key map.
 fn answer<M: KeyMap>(alloc: Global, m: &mut M, command: &Command) -> Result<Reply, MapFault>
     requires limits { IsCommand command.now }
     requires reads { writes command.now ≡ false }
@@ -93,60 +80,45 @@ fn answer<M: KeyMap>(alloc: Global, m: &mut M, command: &Command) -> Result<Repl
     }
 }
 
-/// Whether a plan has something done with the key map: the command is accepted.
-fn accepts(plan: &Plan) -> bool
-    ensures { result ≡ accepts plan.now }
-{
-    match plan {
-        Plan::Refused(_) => false,
-        Plan::Apply(_) | Plan::Graft { .. } => true,
-    }
-}
-
-/// Does what is planned, and answers the command. A refused one leaves the key map as it was, and a
-/// fault leaves what stands at its keys.
-fn carry_out<M: KeyMap>(m: &mut M, plan: &Plan) -> Result<Reply, MapFault>
-    requires ready { IsReady plan.now }
-    requires room { command_room ≤ M.room_of m.old }
-    ensures step { M.is_known m.old → (t : Tree) (c : Command) → Represents (M.has m.old) t
-        → IsTrue (writes c) → IsPlan (M.has m.old) t c plan.now
-        → IfOk result (TakesStep t c (M.has m.new)) }
-    ensures known { M.is_known m.old → M.is_known m.new }
-    ensures stays { M.is_known m.old → OnErr result (SameAt (M.has m.old) (M.has m.new)) }
-    ensures done { IfOk result (λ reply. is_done reply ≡ accepts plan.now) }
+// Does what is planned for a writing command, and answers it.
+fn carry_out(
+    tree: &mut MemTree,
+    count: &mut u64,
+    command: &Command,
+    plan: Plan,
+) -> Result<Reply, Fault>
+    requires writes { IsTrue (writes command.now) }
+    requires ready { IsReady plan }
+    requires kind { IsPlanKind command.now plan }
+    ensures step { (t : Tree) → Represents (keys_in tree.old) t
+        → IsPlan (keys_in tree.old) t command.now plan
+        → IfOk result (TakesStep t command.now (keys_in tree.new)) }
+    ensures stays { OnErr result (SameAt (keys_in tree.old) (keys_in tree.new)) }
+    ensures moved { IfOk result (λ reply. accepted command.now reply ≡ 1
+        → IsMoved command.now (view_in tree.old) (view_in tree.new)) }
+    ensures unmoved { IfOk result (λ reply. accepted command.now reply ≡ 0
+        → view_in tree.new ≡ view_in tree.old) }
+    ensures halted { IfErr result (λ fault.
+        IsHalted fault count.old command.now (view_in tree.old) (view_in tree.new)) }
+    ensures accepting { OnErr result (IsTrue (accepts plan)) }
     ensures small { IfOk result IsReply }
-    ensures refused { IfOk result (λ reply. is_done reply ≡ false → m.new ≡ m.old) }
-    ensures room_stays { OnErr result (M.room_of m.new ≡ M.room_of m.old) }
-    ensures cause { HasMapCause (M.fault_count m.old) (M.fault_count m.new)
-        (M.bad m.new) (M.worn m.old) result }
-    ensures same_loans { M.loans m.new ≡ M.loans m.old }
+    ensures counts { IfOk result (λ reply.
+        count.new ≡ count.old + accepted command.now reply) }
+    ensures count_stays { OnErr result (count.new ≡ count.old) }
 {
     match plan {
-        Plan::Refused(refusal) => Ok(Reply::Refused(*refusal)),
+        Plan::Refused(refusal) => Ok(Reply::Refused(refusal)),
         Plan::Apply(list) => {
-            m.apply(list.as_slice())?;
+            make_ready(tree, command, *count)?;
+            append(tree, list.as_slice())?;
+            *count += 1;
             Ok(Reply::Done)
         }
         Plan::Graft { s, d, keep } => {
-            m.graft(s.as_slice(), d.as_slice(), *keep)?;
+            make_ready(tree, command, *count)?;
+            graft(tree, s.as_slice(), d.as_slice(), keep)?;
+            *count += 1;
             Ok(Reply::Done)
         }
     }
-}
-
-/// Puts the record of `/` into a key map that has nothing.
-pub fn make_root<M: KeyMap>(alloc: Global, m: &mut M) -> Result<(), MapFault>
-    requires { command_room ≤ M.room_of m.old }
-    ensures root { M.is_known m.old → ((k : List ℕ) → IsKey k → M.has m.old k ≡ None)
-        → OnOk result (Represents (M.has m.new) root_only) }
-    ensures known { M.is_known m.old → M.is_known m.new }
-    ensures stays { M.is_known m.old → OnErr result (SameAt (M.has m.old) (M.has m.new)) }
-    ensures room_stays { OnErr result (M.room_of m.new ≡ M.room_of m.old) }
-    ensures cause { HasMapCause (M.fault_count m.old) (M.fault_count m.new)
-        (M.bad m.new) (M.worn m.old) result }
-    ensures same_loans { M.loans m.new ≡ M.loans m.old }
-{
-    let root = Path::root(alloc)?;
-    let record = put_record(alloc, &root, Record::Dir)?;
-    m.apply(&[record])
 }

@@ -3,7 +3,6 @@
 use bd_keys::Bytes;
 use bd_memnodes::MemNodes;
 use bd_message::{KeyMap, ListMap, Message};
-use bd_step::Flush;
 use bd_tree::Tree;
 use rows_tools::apply;
 use std::alloc::{AllocError, Global};
@@ -72,10 +71,8 @@ fn pour(tree: &mut Tree<MemNodes>, message: Message) -> Result<(), Fail> {
 /// Flushes until at most 16,384 bytes wait in the root.
 fn flush(tree: &mut Tree<MemNodes>) -> Result<(), Fail> {
     for _ in 0..100 {
-        match tree.flush_step(16_384)? {
-            Flush::Done => {}
-            Flush::Enough => return Ok(()),
-            Flush::LongSource => return Err(Fail::new("a step that isn't made")),
+        if !tree.flush_step(16_384)? {
+            return Ok(());
         }
     }
     Err(Fail::new("too many steps"))

@@ -4,7 +4,6 @@ use bd_keys::starts;
 use bd_limits::MAX_KEY;
 use bd_memnodes::MemNodes;
 use bd_message::{KeyMap, ListMap, Message};
-use bd_step::Flush;
 use bd_tree::Tree;
 use rows_tools::{apply, graft};
 use std::alloc::Global;
@@ -92,10 +91,8 @@ fn plant(tree: &mut Tree<MemNodes>, s: &[u8], d: &[u8], keep: bool) -> Result<()
 /// Flushes until at most so many bytes wait in the root.
 pub fn flush(tree: &mut Tree<MemNodes>, limit: usize) -> Result<(), Fail> {
     for _ in 0..1_000 {
-        match tree.flush_step(limit)? {
-            Flush::Done => {}
-            Flush::Enough => return Ok(()),
-            Flush::LongSource => return Err(Fail::new("a step that isn't made")),
+        if !tree.flush_step(limit)? {
+            return Ok(());
         }
     }
     Err(Fail::new("too many steps"))

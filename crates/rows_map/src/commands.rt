@@ -10,7 +10,6 @@ use bd_names::Path;
 use bd_plain::PlainTree;
 use bd_records::Record;
 use bd_script::{Line, read_line};
-use bd_step::Flush;
 use bd_tree::Tree;
 use rows_tools::{apply, graft};
 use std::alloc::Global;
@@ -81,12 +80,11 @@ fn execute<M: KeyMap>(alloc: Global, map: &mut M, command: &Command) -> Result<R
     Ok(Reply::Done)
 }
 
-/// Flushes until at most so many bytes wait in the root, or a step isn't made.
+/// Flushes until at most so many bytes wait in the root.
 fn flush(tree: &mut Tree<MemNodes>, limit: usize) -> Result<(), Fail> {
     for _ in 0..1_000 {
-        match tree.flush_step(limit)? {
-            Flush::Done => {}
-            Flush::Enough | Flush::LongSource => return Ok(()),
+        if !tree.flush_step(limit)? {
+            return Ok(());
         }
     }
     Err(Fail::new("too many steps"))

@@ -1,5 +1,4 @@
-use Rattle.std.proofs.Common.{arith}
-use Rattle.bd_step.proofs.Making.{never_enough, here_again, way_again, is_flush_step}
+use Rattle.bd_step.proofs.Making.{here_again, way_again, is_flush_step}
 use Rattle.bd_step.proofs.steps.flush_step.Goals as goal
 
 pub make-requires-clause-here : goal.make-requires-clause-here
@@ -14,12 +13,6 @@ make-requires-clause-way_here g c = λ known sound.
     way_again (g.S.NodeStore.nodes c.args.store.now) (g.S.NodeStore.nodes c.next_step.new.store) (g.S.NodeStore.table c.args.store.now) (g.S.NodeStore.table c.next_step.new.store) c.in_ok-step.step
     (c.next_step.ensures.kept was) c.next_step.ensures.table sound (c.in_ok-step.ensures.way_at was)
 
-pub returns-clause-enough : goal.returns-clause-enough
-returns-clause-enough g c = (λ is. absurd (never_enough c.make.result c.in_ok-step.step c.make.ensures.outcome is), λ few. absurd (omega arith))
-
-pub returns-clause-unchanged : goal.returns-clause-unchanged
-returns-clause-unchanged g c = λ is. absurd (never_enough c.make.result c.in_ok-step.step c.make.ensures.outcome is)
-
 pub returns-clause-step : goal.returns-clause-step
 returns-clause-step g c = λ known sound done.
     is_flush_step (g.S.NodeStore.nodes c.args.store.now) (g.S.NodeStore.nodes c.next_step.new.store) (g.S.NodeStore.table c.args.store.now) (g.S.NodeStore.table c.next_step.new.store) (g.S.NodeStore.nodes c.make.new.store) (g.S.NodeStore.table c.make.new.store) c.in_ok-step.step
@@ -29,7 +22,7 @@ returns-clause-step g c = λ known sound done.
       sound = sound;
       to_do = c.in_ok-step.ensures.to_do;
       here = c.in_ok-step.ensures.at known sound;
-      made = λ again. c.make.ensures.made (c.next_step.ensures.known known) again done;
-      height = c.make.ensures.height done;
-      flushed = λ again. c.make.ensures.flushed (c.next_step.ensures.known known) again done;
+      made = λ again. c.in_ok-make.ensures.made (c.next_step.ensures.known known) again;
+      height = c.in_ok-make.ensures.height;
+      flushed = λ again. c.in_ok-make.ensures.flushed (c.next_step.ensures.known known) again;
     })

@@ -1,24 +1,43 @@
--- What is planned has room, and gives the step.
+-- What is planned is right after the flush too, and gives the step.
 use Rattle.std.proofs.Common.{ℕ, List, subst}
+use Rattle.std.proofs.lemmas.Result.{err_from_is_err_and}
 use Rattle.bd_message.specs.declared.message.Message.{Message}
 use Rattle.bd_message.specs.KeyMaps.{IsApplied, IsGrafted}
-use Rattle.bd_volume.proofs.Carried.{planned_batch, applied_plan, grafted_plan}
+use Rattle.bd_volume.specs.Views.{view_in, keys_in}
+use Rattle.bd_volume.proofs.Carried.{plan_along, applied_plan, grafted_plan}
+use Rattle.bd_volume.proofs.Flushes.{keys_stay}
+use Rattle.bd_volume.proofs.Worn.{graft_stops}
 use Rattle.bd_volume.proofs.over.carry_out.Goals as goal
 
-pub apply-requires : goal.apply-requires
-apply-requires g c = planned_batch c.args.plan.now c.in-Apply.list c.as_slice.result.now (g.M.KeyMap.room_of c.args.m.now) c.requires.ready c.in-Apply.is c.as_slice.ensures c.requires.room
+pub returns-in_err-append-in-Apply-clause-stays : goal.returns-in_err-append-in-Apply-clause-stays
+returns-in_err-append-in-Apply-clause-stays c =
+    let p = err_from_is_err_and c.from_residual-in_err-append-in-Apply.result c.from_residual-in_err-append-in-Apply.ensures.1 in
+    rw p.1 (keys_stay c.args.tree.now c.make_ready.new.tree c.append.new.tree c.in_ok-make_ready-in-Apply.ensures.same c.in_err-append-in-Apply.ensures.stays)
 
-pub returns-in_ok-apply-in-Apply-clause-step : goal.returns-in_ok-apply-in-Apply-clause-step
-returns-in_ok-apply-in-Apply-clause-step g c = λ known t command r w h.
-    let at = g.M.KeyMap.has c.args.m.now in
-    let new = g.M.KeyMap.has c.apply.new.self in
-    applied_plan at new t command c.args.plan.now c.in-Apply.list w c.in-Apply.is h
-    (subst (λ (xs : List Message). IsApplied at xs new) c.as_slice.ensures (c.in_ok-apply-in-Apply.ensures.applied known))
+pub returns-in_err-graft-in-Graft-clause-stays : goal.returns-in_err-graft-in-Graft-clause-stays
+returns-in_err-graft-in-Graft-clause-stays c =
+    let p = err_from_is_err_and c.from_residual-in_err-graft-in-Graft.result c.from_residual-in_err-graft-in-Graft.ensures.1 in
+    rw p.1 (keys_stay c.args.tree.now c.make_ready-in-Graft.new.tree c.graft.new.tree c.in_ok-make_ready-in-Graft.ensures.same c.in_err-graft-in-Graft.ensures.stays)
+
+pub returns-in_err-graft-in-Graft-clause-halted : goal.returns-in_err-graft-in-Graft-clause-halted
+returns-in_err-graft-in-Graft-clause-halted c =
+    let p = err_from_is_err_and c.from_residual-in_err-graft-in-Graft.result c.from_residual-in_err-graft-in-Graft.ensures.1 in
+    rw (p.1, p.2) (graft_stops c.in_err-graft-in-Graft.field-0.0 c.args.count.now c.args.command.now (view_in c.args.tree.now) (view_in c.make_ready-in-Graft.new.tree) (view_in c.graft.new.tree) c.in-Graft.s c.in-Graft.d c.in-Graft.keep
+    c.args.plan c.requires.writes c.in-Graft.is c.requires.kind c.in_ok-make_ready-in-Graft.ensures.ready c.in_err-graft-in-Graft.ensures.fault c.in_err-graft-in-Graft.ensures.stays)
+
+pub returns-in_ok-append-in-Apply-clause-step : goal.returns-in_ok-append-in-Apply-clause-step
+returns-in_ok-append-in-Apply-clause-step c = λ t r h.
+    let mid = keys_in c.make_ready.new.tree in
+    let new = keys_in c.append.new.tree in
+    applied_plan mid new t c.args.command.now c.args.plan c.in-Apply.list c.requires.writes c.in-Apply.is
+    (plan_along (keys_in c.args.tree.now) mid t c.args.command.now c.args.plan c.in_ok-make_ready-in-Apply.ensures.same h)
+    (subst (λ (xs : List Message). IsApplied mid xs new) c.as_slice.ensures c.in_ok-append-in-Apply.ensures.applied)
 
 pub returns-in_ok-graft-in-Graft-clause-step : goal.returns-in_ok-graft-in-Graft-clause-step
-returns-in_ok-graft-in-Graft-clause-step g c = λ known t command r w h.
-    let at = g.M.KeyMap.has c.args.m.now in
-    let new = g.M.KeyMap.has c.graft.new.self in
-    grafted_plan at new t command c.args.plan.now c.in-Graft.s c.in-Graft.d c.in-Graft.keep w c.in-Graft.is h
-    (subst (λ (k : List ℕ). IsGrafted at k c.in-Graft.d c.in-Graft.keep new) c.as_slice-in-Graft.ensures
-    (subst (λ (k : List ℕ). IsGrafted at c.as_slice-in-Graft.result.now k c.in-Graft.keep new) c.as_slice-in-Graft-2.ensures (c.in_ok-graft-in-Graft.ensures.grafted known)))
+returns-in_ok-graft-in-Graft-clause-step c = λ t r h.
+    let mid = keys_in c.make_ready-in-Graft.new.tree in
+    let new = keys_in c.graft.new.tree in
+    grafted_plan mid new t c.args.command.now c.args.plan c.in-Graft.s c.in-Graft.d c.in-Graft.keep c.requires.writes c.in-Graft.is
+    (plan_along (keys_in c.args.tree.now) mid t c.args.command.now c.args.plan c.in_ok-make_ready-in-Graft.ensures.same h)
+    (subst (λ (k : List ℕ). IsGrafted mid k c.in-Graft.d c.in-Graft.keep new) c.as_slice-in-Graft.ensures
+    (subst (λ (k : List ℕ). IsGrafted mid c.as_slice-in-Graft.result.now k c.in-Graft.keep new) c.as_slice-in-Graft-2.ensures c.in_ok-graft-in-Graft.ensures.grafted))

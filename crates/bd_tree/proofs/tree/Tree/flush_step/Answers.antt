@@ -6,6 +6,3 @@ returns-clause-same g c =
     rw (← c.self.view_is) (λ known sound.
     same_tree (g.S.NodeStore.nodes c.self.inside.store) (g.S.NodeStore.table c.self.inside.store) (g.S.NodeStore.nodes c.flush_step.new.store) (g.S.NodeStore.table c.flush_step.new.store) c.flush_step.result
     (record { step = c.flush_step.ensures.step known sound; table = c.flush_step.ensures.same_table; same = c.flush_step.ensures.same_nodes known }))
-
-pub returns-clause-found_at : goal.returns-clause-found_at
-returns-clause-found_at g c = rw (← c.self.view_is) c.flush_step.ensures.found_at

@@ -1,0 +1,180 @@
+-- Which counter has no room, and what a fault leaves.
+use Rattle.std.proofs.Common.{◌≡◌, ℕ, ◌<◌, ◌≤◌, List, Bool, arith, refl, sym, subst, ap, inl, inr, ◌∙◌}
+use Rattle.std.specs.Prelude.{IsTrue, Result, Ok, Err, IfErr, OnErr}
+use Rattle.bd_io.specs.Cause.{Rose}
+use Rattle.bd_limits.specs.Limits.{soft_limit}
+use Rattle.bd_command.specs.Command.{writes}
+use Rattle.bd_command.specs.declared.Command.{Command}
+use Rattle.bd_command.specs.declared.Command.TheVariants.{Mkdir, Create, Write, Truncate, Remove, Rename, Clone, Read, Stat, List as Ls}
+use Rattle.bd_message.specs.declared.fault.Counter.{Counter}
+use Rattle.bd_message.specs.declared.fault.Counter.TheVariants.{Count, NextId, Level, Refs, Epoch, Flushes}
+use Rattle.bd_message.specs.declared.fault.MapFault.{MapFault}
+use Rattle.bd_message.specs.declared.fault.MapFault.TheVariants as map
+use Rattle.bd_message.specs.KeyMaps.{SameAt, HasMapCause, IsCause, NeverWorn}
+use Rattle.bd_node.specs.Tables.{Table, root_at}
+use Rattle.bd_flush.specs.Flushed.{IsWornFor}
+use Rattle.bd_graft.specs.Grafting.{IsWornForGraft}
+use Rattle.bd_dirs.specs.declared.plan.Plan.{Plan}
+use Rattle.bd_dirs.specs.declared.plan.Plan.TheVariants.{Graft}
+use Rattle.bd_dirs.specs.Plans.{IsPlanKind}
+use Rattle.bd_volume.specs.declared.Fault.{Fault}
+use Rattle.bd_volume.specs.declared.Fault.TheVariants.{Device, Damaged, Worn, NoMemory, Full, Stopped}
+use Rattle.bd_volume.specs.Views.{View, AreFlushes, waiting_limit, HasFlushed, IsStoppedBy, IsReadyFor, IsWornAfter, IsWornForStep, IsWornForMove, IsWornForSending, IsWornNow, Wears}
+use Rattle.bd_volume.specs.Over.{fault_of, IsFlushFault, IsGraftFault, IsVolumeFault, IsHalted}
+use Rattle.bd_volume.proofs.Flushes.{flushes_same, flushed_as_called}
+use Rattle.bd_volume.proofs.Sent.{view_is}
+
+-- ---- the causes of a tree in memory
+
+no_rise : {A : Type 0} → Rose 0 0 → A
+no_rise (inl h) = absurd (omega (arith, h))
+no_rise (inr h) = absurd (omega (arith, h))
+
+-- a call of a tree in memory that never wears a counter fails for want of memory alone
+pub no_memory : {T : Type 0} (r : Result T MapFault) → HasMapCause 0 0 (λ _. ⊥) NeverWorn r → IfErr r (λ fault. fault ≡ map.NoMemory)
+no_memory (Ok x) h = tt
+no_memory (Err map.DeviceFault) h = no_rise h.failed
+no_memory (Err (map.Damaged block)) h = absurd h.failed
+no_memory (Err (map.Worn which)) h = absurd h.failed
+no_memory (Err map.NoMemory) h = refl
+
+-- a graft's fault is one of its causes
+pub graft_fault : {T : Type 0} (r : Result T MapFault) (t : Table) → HasMapCause 0 0 (λ _. ⊥) (IsWornForGraft t) r → IfErr r (λ fault. IsGraftFault fault t)
+graft_fault (Ok x) t h = tt
+graft_fault (Err map.DeviceFault) t h = no_rise h.failed
+graft_fault (Err (map.Damaged block)) t h = absurd h.failed
+graft_fault (Err (map.Worn which)) t h = h.failed
+graft_fault (Err map.NoMemory) t h = tt
+
+worn_after : (which : Counter) (made : ℕ) (t : Table) → IsWornFor t which → IsWornAfter which made t
+worn_after Count made t h = h
+worn_after NextId made t h = h
+worn_after Level made t h = h
+worn_after Refs made t h = h
+worn_after Epoch made t h = h
+worn_after Flushes made t h = absurd h
+
+-- a step's fault after some steps stops the flush
+pub step_fault : (fault : MapFault) (made : ℕ) (old new : View) → AreFlushes made old new → made ≤ 65536 → soft_limit < new.table.size
+    → IsCause 0 0 (λ _. ⊥) (IsWornFor new.table) fault → IsFlushFault fault old new
+step_fault map.DeviceFault made old new flushes few waits h = no_rise h
+step_fault (map.Damaged block) made old new flushes few waits h = h
+step_fault (map.Worn which) made old new flushes few waits h = record { made = made; flushes = flushes; few = few; waits = waits; worn = worn_after which made new.table h }
+step_fault map.NoMemory made old new flushes few waits h = record { made = made; flushes = flushes; few = few }
+
+-- where a flush stops, the tree has what it had
+pub stopped_same : (fault : MapFault) (old new : View) → IsFlushFault fault old new → SameAt (root_at old.nodes old.table) (root_at new.nodes new.table)
+stopped_same map.DeviceFault old new h = absurd h
+stopped_same (map.Damaged block) old new h = absurd h
+stopped_same (map.Worn which) old new h = flushes_same h.made old new h.flushes
+stopped_same map.NoMemory old new h = flushes_same h.made old new h.flushes
+
+-- ---- what a command's fault leaves
+
+worn_now : (which : Counter) (count : ℕ) (c : Command) (made : ℕ) (old new : View) → IsWornForStep which c made old new → IsWornNow which count c made old new
+worn_now Count count c made old new h = absurd h.worn
+worn_now NextId count c made old new h = inl h
+worn_now Level count c made old new h = inl h
+worn_now Refs count c made old new h = inl h
+worn_now Epoch count c made old new h = absurd h.worn
+worn_now Flushes count c made old new h = h
+
+stopped_wears : (which : Counter) (count : ℕ) (c : Command) (old new : View) → IsTrue (writes c) → waiting_limit c < old.table.size → IsStoppedBy which old new → Wears which count c old new
+stopped_wears which count c old new counts many h = record {
+  counts = counts;
+  made = h.made;
+  flushed = flushed_as_called c old new h.made counts many h.flushes h.few;
+  worn = worn_now which count c h.made old new (record { called = many; waits = h.waits; worn = h.worn });
+}
+
+-- where the flush of a command stops
+pub flush_halts : (fault : MapFault) (count : ℕ) (c : Command) (old new : View) → IsTrue (writes c) → waiting_limit c < old.table.size → IsFlushFault fault old new → IsHalted (fault_of fault) count c old new
+flush_halts map.DeviceFault count c old new counts many h = absurd h
+flush_halts (map.Damaged block) count c old new counts many h = absurd h
+flush_halts (map.Worn which) count c old new counts many h = stopped_wears which count c old new counts many h
+flush_halts map.NoMemory count c old new counts many h = (h.made, flushed_as_called c old new h.made counts many h.flushes h.few)
+
+-- where its graft isn't made
+sending : (which : Counter) (c : Command) (old new : View) (s d : List ℕ) (keep : Bool) → IsTrue (writes c) → IsPlanKind c (Graft s d keep) → IsWornForMove which c old new → IsWornForSending which c old new
+sending which (Mkdir path) old new s d keep w kind h = absurd kind
+sending which (Create path) old new s d keep w kind h = absurd kind
+sending which (Write path off bytes) old new s d keep w kind h = absurd kind
+sending which (Truncate path len) old new s d keep w kind h = absurd kind
+sending which (Remove path) old new s d keep w kind h = absurd kind
+sending which (Rename a b) old new s d keep w kind h = h
+sending which (Clone a b) old new s d keep w kind h = h
+sending which (Read path off len) old new s d keep w kind h = absurd kind
+sending which (Stat path) old new s d keep w kind h = absurd kind
+sending which (Ls path after) old new s d keep w kind h = absurd kind
+
+graft_worn : (which : Counter) (count : ℕ) (c : Command) (made : ℕ) (old new : View) → IsWornForGraft new.table which → IsWornForSending which c old new → IsWornNow which count c made old new
+graft_worn Count count c made old new h s = absurd h
+graft_worn NextId count c made old new h s = inr s
+graft_worn Level count c made old new h s = inr s
+graft_worn Refs count c made old new h s = inr s
+graft_worn Epoch count c made old new h s = absurd h
+graft_worn Flushes count c made old new h s = absurd h
+
+pub graft_halts : (fault : MapFault) (count : ℕ) (c : Command) (old new : View) (s d : List ℕ) (keep : Bool) → IsTrue (writes c) → IsPlanKind c (Graft s d keep) → IsReadyFor c old new → IsGraftFault fault new.table
+    → IsHalted (fault_of fault) count c old new
+graft_halts map.DeviceFault count c old new s d keep w kind ready h = absurd h
+graft_halts (map.Damaged block) count c old new s d keep w kind ready h = absurd h
+graft_halts (map.Worn which) count c old new s d keep w kind ready h = record {
+  counts = w;
+  made = ready.made;
+  flushed = ready.flushed;
+  worn = graft_worn which count c ready.made old new h (sending which c old new s d keep w kind (record { enough = ready.enough; worn = h }));
+}
+graft_halts map.NoMemory count c old new s d keep w kind ready h = (ready.made, ready.flushed)
+
+-- ---- a fault, by cases
+
+halted_fault : (fault : Fault) (count : ℕ) (c : Command) (old new : View) → IsHalted fault count c old new → IsVolumeFault fault
+halted_fault Device count c old new h = absurd h
+halted_fault (Damaged block) count c old new h = absurd h
+halted_fault (Worn which) count c old new h = inr (which, refl)
+halted_fault NoMemory count c old new h = inl refl
+halted_fault (Full free need) count c old new h = absurd h
+halted_fault (Stopped call) count c old new h = absurd h
+
+halted_flushes : (fault : Fault) (count : ℕ) (c : Command) (old new : View) → IsHalted fault count c old new → (made : ℕ) × HasFlushed c old new made
+halted_flushes Device count c old new h = absurd h
+halted_flushes (Damaged block) count c old new h = absurd h
+halted_flushes (Worn which) count c old new h = (h.made, h.flushed)
+halted_flushes NoMemory count c old new h = h
+halted_flushes (Full free need) count c old new h = absurd h
+halted_flushes (Stopped call) count c old new h = absurd h
+
+pub halted_made : {T : Type 0} (result : Result T Fault) (count : ℕ) (c : Command) (old new : View) → IfErr result (λ fault. IsHalted fault count c old new) → OnErr result ((made : ℕ) × HasFlushed c old new made)
+halted_made (Ok x) count c old new h = tt
+halted_made (Err e) count c old new h = halted_flushes e count c old new h
+
+pub halted_faults : {T : Type 0} (result : Result T Fault) (count : ℕ) (c : Command) (old new : View) → IfErr result (λ fault. IsHalted fault count c old new) → IfErr result IsVolumeFault
+halted_faults (Ok x) count c old new h = tt
+halted_faults (Err e) count c old new h = halted_fault e count c old new h
+
+pub halted_wears : {T : Type 0} (result : Result T Fault) (count : ℕ) (c : Command) (old new : View) → IfErr result (λ fault. IsHalted fault count c old new)
+    → (which : Counter) → result ≡ Err (Worn which) → Wears which count c old new
+halted_wears {T} result count c old new h which is = subst (λ (r : Result T Fault). IfErr r (λ fault. IsHalted fault count c old new)) is h
+
+pub no_memory_halts : (fault : MapFault) (count : ℕ) (c : Command) (old new : View) (made : ℕ) → HasFlushed c old new made → fault ≡ map.NoMemory → IsHalted (fault_of fault) count c old new
+no_memory_halts fault count c old new made flushed is = subst (λ (f : MapFault). IsHalted (fault_of f) count c old new) (sym is) (made, flushed)
+
+-- a step that fails leaves what the steps before it made
+pub step_stops : (fault : MapFault) (made : ℕ) (old mid new : View) → AreFlushes made old mid → made ≤ 65536 → soft_limit < mid.table.size
+    → new.nodes ≡ mid.nodes → new.table ≡ mid.table → new.walk ≡ mid.walk → IsCause 0 0 (λ _. ⊥) (IsWornFor mid.table) fault → IsFlushFault fault old new
+step_stops fault made old mid new flushes few waits nodes table walk cause =
+    subst (IsFlushFault fault old) (sym (view_is new mid nodes table walk)) (step_fault fault made old mid flushes few waits cause)
+
+-- a graft that isn't made leaves what the flush made
+pub graft_stops : (fault : MapFault) (count : ℕ) (c : Command) (old mid new : View) (s d : List ℕ) (keep : Bool) (plan : Plan) → IsTrue (writes c) → plan ≡ Graft s d keep → IsPlanKind c plan
+    → IsReadyFor c old mid → IsGraftFault fault mid.table → new ≡ mid → IsHalted (fault_of fault) count c old new
+graft_stops fault count c old mid new s d keep plan w is kind ready h same =
+    subst (λ (v : View). IsHalted (fault_of fault) count c old v) (sym same) (graft_halts fault count c old mid s d keep w (subst (IsPlanKind c) is kind) ready h)
+
+-- want of memory wears no counter
+pub not_worn : {A T : Type 0} (r : Result T Fault) (e : Fault) (fault : MapFault) (which : Counter) → r ≡ Err e → e ≡ fault_of fault → fault ≡ map.NoMemory → r ≡ Err (Worn which) → A
+not_worn r e fault which is from none worn =
+    let same : e ≡ NoMemory = from ∙ ap fault_of none in
+    let bad : ⊥ = cc in
+    absurd bad
