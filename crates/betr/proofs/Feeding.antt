@@ -19,10 +19,11 @@ use Rattle.bd_script.proofs.CutLines.{no_newline-open_line, whole_lines-newline,
 use Rattle.betr.specs.declared.fault.Fault.{Fault}
 use Rattle.betr.specs.declared.fault.Fault.TheVariants.{Device, Source, Memory, TooLong, Worn, Sink}
 use Rattle.betr.specs.Transcript.{State, Entry, IsTranscript, text, executed, state_after, meanings, IsFront}
-use Rattle.betr.specs.Session.{Executes, Replied}
+use Rattle.betr.specs.Session.{Executes, Leaves, Replied}
 use Rattle.betr.specs.Shell.{breaks, IsHeld, CutsAt, RunFails, HasMore, BreaksOff}
 use Rattle.betr.proofs.Transcripts.{up_to_stop-none, up_to_stop-stopped, up_to_stop-append, up_to_stop-one, up_to_stop_front, IsFront-append, IsTranscript-append, state_after-append, executed-append}
 use Rattle.betr.proofs.Executes.{append_known-nil, executes_more, executes_as}
+use Rattle.betr.proofs.Left.{leaves_worn}
 
 -- what is held has no newline
 pub held_plain : (line : List ℕ) → IsHeld line → HasNoNewline line
@@ -234,7 +235,7 @@ ends_fed first now begun piece rest line a b at plain s h =
 
 -- want of memory while bytes are left
 pub memory_fed : (first mid now : State → Type 0) (begun piece rest line : List ℕ) (a b c : Option (List ℕ)) → FedTo first mid begun piece rest line a b
-    → is_empty rest ≡ false → ((t : State) → mid t → now t × (c ≡ b)) → (s : State) → first s → BreaksOff Memory s begun piece now a c
+    → is_empty rest ≡ false → ((t : State) → mid t → Leaves t now × (c ≡ b)) → (s : State) → first s → BreaksOff Memory s begun piece now a c
 memory_fed first mid now begun piece rest line a b c at some stays s h =
     let x : Executes s (meanings (begun ++ at.front)) mid a b = at.ran s h in
     let kept = stays (state_after s x.entries) x.reached in
@@ -280,9 +281,9 @@ fails_fed (Worn which) first mid now begun piece rest x tail line a b c at cut f
           rest = rest_of;
           lines_are = upto begun piece at.front line x next.all.0 at.no_stop next.all.1 ∙ ap (λ l. l ++ line_of (line ++ x) ∷ rest_of) (sym run.lines_are);
         },
-        worn.2,
+        worn.0.0,
       );
-      reached = worn.0;
+      reached = leaves_worn which (state_after s run.entries) (line_of (line ++ x)) now worn.0;
       replied = worn.1 ∙ run.written;
     }
 fails_fed Sink first mid now begun piece rest x tail line a b c at cut fails s h =

@@ -6,3 +6,5 @@ pub mod Lines
 pub mod Scripts
 pub mod Runs
 pub mod Trees
+pub mod Walks
+pub mod Left

@@ -1,22 +1,24 @@
 -- How a whole run begins and ends.
-use Rattle.std.proofs.Common.{◌≡◌, ℕ, ◌+◌, ◌≤◌, List, [], ◌∷◌, ◌++◌, length, refl, sym, ap, subst, ◌∙◌, arith, inl, inr, length-append}
+use Rattle.std.proofs.Common.{◌≡◌, ◌⊎◌, ℕ, ◌+◌, ◌≤◌, List, [], ◌∷◌, ◌++◌, length, refl, sym, ap, subst, ◌∙◌, arith, inl, inr, length-append}
 use Rattle.std.specs.Prelude.{map, IfSome, IsSomeAnd}
 use Rattle.std.proofs.lemmas.List.{length-map}
+use Rattle.std.specs.declared.result.Result.{Result}
+use Rattle.std.specs.declared.result.Result.TheVariants.{Ok, Err}
 use Rattle.std.specs.declared.option.Option.{Option}
 use Rattle.std.specs.declared.option.Option.TheVariants.{None, Some}
 use Rattle.std.specs.Io.KnownBytes.{append_known, prepend_known}
 use Rattle.bd_limits.specs.Limits.{script_limit}
 use Rattle.bd_io.specs.Cause.{Rose}
 use Rattle.bd_io.specs.Written.{WrotePart}
-use Rattle.bd_message.specs.declared.fault.Counter.{Counter}
+use Rattle.bd_message.specs.declared.fault.Counter.TheVariants.{Count}
 use Rattle.bd_script.specs.Lines.{LineMeaning, line_of, lines_of}
 use Rattle.bd_script.proofs.CutLines.{lines_of-few}
 use Rattle.betr.specs.declared.fault.Fault.{Fault}
 use Rattle.betr.specs.declared.fault.Fault.TheVariants.{Device, Source, Memory, TooLong, Worn, Sink}
 use Rattle.betr.specs.declared.outcome.Ack.{Ack}
-use Rattle.betr.specs.Fault.{status_of, fault_line, Faults, Caused}
+use Rattle.betr.specs.Fault.{status_of, fault_line, Faults, Caused, IsCaused, of_ends}
 use Rattle.betr.specs.Transcript.{State, Entry, first_state, IsTranscript, executed, state_after, lines_to_run}
-use Rattle.betr.specs.Session.{HasNext, WornBy, Session}
+use Rattle.betr.specs.Session.{end_of, HasNext, WornBy, RunsFrom, Session}
 use Rattle.betr.specs.Words.{Call}
 use Rattle.betr.specs.Run.{end_status, ends, WritesLast, WritesEnd, Went, IsFaultless}
 use Rattle.betr.proofs.Transcripts.{up_to_stop-few, counts_few}
@@ -25,6 +27,31 @@ use Rattle.betr.proofs.Transcripts.{up_to_stop-few, counts_few}
 pub of_any : {A : Type 0} (P : Type 0) (o : Option A) → P → IfSome o (λ _. P)
 of_any P None h = tt
 of_any P (Some x) h = h
+
+-- a script within the limit can't bring the count to its last value
+never_worn : (es : List Entry) (taken : List ℕ) (next : LineMeaning) → IsTranscript first_state es → length taken ≤ script_limit
+    → HasNext next (executed es) (lines_to_run taken) → WornBy Count (state_after first_state es) next → ⊥
+never_worn es taken next chain few has worn =
+    omega (
+      arith,
+      few,
+      worn.wears.worn.0,
+      counts_few first_state es chain,
+      length-map es (λ e. e.line),
+      ap length has.lines_are,
+      length-append (executed es) (next ∷ has.rest),
+      up_to_stop-few (map line_of (lines_of taken)),
+      length-map (lines_of taken) line_of,
+      lines_of-few taken,
+    )
+
+-- so no session wears it
+never_counted : (end : Option Fault) (script rest old new : Option (List ℕ)) → Session end (λ s. s ≡ first_state) (λ _. Unit {0}) script rest old new
+    → end ≡ Some (Worn Count) → ⊥
+never_counted end script rest old new s is =
+    let P : Option Fault → Type 0 = λ e. RunsFrom e first_state (λ _. Unit {0}) s.taken script old new in
+    let r : RunsFrom (Some (Worn Count)) first_state (λ _. Unit {0}) s.taken script old new = subst P is (s.runs first_state refl) in
+    never_worn r.entries s.taken r.among_taken.0 r.transcript r.taken_at r.among_taken.1 r.among_taken.2
 
 -- a session is a run, with its status and its last line
 pub went : (end : Option Fault) (status : ℕ) (acks : List Ack) (script rest old mid new : Option (List ℕ)) (before now : Faults)
@@ -36,6 +63,7 @@ went end status acks script rest old mid new before now s is last cause none =
     record {
       end = end;
       status_is = is;
+      uncounted = λ worn. never_counted end script rest old mid s worn;
       entries = r.entries;
       transcript = r.transcript;
       taken = s.taken;
@@ -77,6 +105,21 @@ writes_end e line mid new first before now is later (inl whole) = inl (whole ∙
 writes_end e line mid new first before now is later (inr part) =
     inr (subst (λ l. WrotePart l mid new) is part.0, rose_before first before now later part.1)
 
+never_rose : Rose 0 0 → ⊥
+never_rose (inl r) = omega arith
+never_rose (inr r) = omega arith
+
+-- source and sink alone never make the device's fault
+pub never_device : {T : Type 0} (r : Result T Fault) (source sink source2 sink2 : ℕ) → IsCaused (of_ends source sink) (of_ends source2 sink2) r
+    → end_status (end_of r) ≡ 3 → ⊥
+never_device (Ok x) a b d e h three = omega (arith, three)
+never_device (Err Device) a b d e h three = never_rose h.cause
+never_device (Err Source) a b d e h three = omega (arith, three)
+never_device (Err Memory) a b d e h three = omega (arith, three)
+never_device (Err TooLong) a b d e h three = omega (arith, three)
+never_device (Err (Worn which)) a b d e h three = omega (arith, three)
+never_device (Err Sink) a b d e h three = omega (arith, three)
+
 -- ---- where nothing fails
 
 -- a script of which more came than the limit is longer
@@ -87,32 +130,18 @@ too_long script (Some more) taken long is short =
     let few : length (taken ++ more) ≤ script_limit = subst (λ o. IsSomeAnd o (λ bytes. length bytes ≤ script_limit)) is short in
     omega (arith, few, long, length-append taken more)
 
--- a script within the limit can't bring the count to its last value
-never_worn : (which : Counter) (es : List Entry) (taken : List ℕ) (next : LineMeaning) → IsTranscript first_state es → length taken ≤ script_limit
-    → HasNext next (executed es) (lines_to_run taken) → WornBy which (state_after first_state es) next → ⊥
-never_worn which es taken next chain few has worn =
-    omega (
-      arith,
-      few,
-      worn.wears.last,
-      counts_few first_state es chain,
-      length-map es (λ e. e.line),
-      ap length has.lines_are,
-      length-append (executed es) (next ∷ has.rest),
-      up_to_stop-few (map line_of (lines_of taken)),
-      length-map (lines_of taken) line_of,
-      lines_of-few taken,
-    )
-
--- without a failure of the outside, only memory ended the run
+-- without a failure of the outside, memory or a counter ended the run
 pub faultless : (e : Fault) (call : Option Call) (script rest old new : Option (List ℕ)) (before now : Faults)
     → Session (Some e) (λ s. s ≡ first_state) (λ _. Unit {0}) script rest old new → Caused e before now → IsFaultless call script before now
-    → status_of e ≡ 6
+    → (status_of e ≡ 6) ⊎ (status_of e ≡ 8)
 faultless Device call script rest old new before now s cause f = absurd (f.device cause)
 faultless Source call script rest old new before now s cause f = absurd (f.source cause)
-faultless Memory call script rest old new before now s cause f = refl
+faultless Memory call script rest old new before now s cause f = inl refl
 faultless TooLong call script rest old new before now s cause f = absurd (too_long script rest s.taken (s.runs first_state refl).taken_at.0 s.taken_is f.short)
-faultless (Worn which) call script rest old new before now s cause f =
-    let r = s.runs first_state refl in
-    absurd (never_worn which r.entries s.taken r.among_taken.0 r.transcript r.taken_at r.among_taken.1 r.among_taken.2)
+faultless (Worn which) call script rest old new before now s cause f = inr refl
 faultless Sink call script rest old new before now s cause f = absurd (f.sink cause)
+
+-- a status of either kind, past the first
+pub either_status : (status of : ℕ) → status ≡ of → (of ≡ 6) ⊎ (of ≡ 8) → (status ≡ 0) ⊎ (status ≡ 6) ⊎ (status ≡ 8)
+either_status status of is (inl six) = inr (inl (is ∙ six))
+either_status status of is (inr eight) = inr (inr (is ∙ eight))

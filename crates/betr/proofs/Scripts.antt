@@ -22,13 +22,14 @@ use Rattle.bd_script.proofs.CutLines.{some_pieces, whole_lines-more, open_line-m
 use Rattle.betr.specs.declared.fault.Fault.{Fault}
 use Rattle.betr.specs.declared.fault.Fault.TheVariants.{Device, Source, Memory, TooLong, Worn, Sink}
 use Rattle.betr.specs.Transcript.{State, Entry, IsTranscript, text, executed, state_after, meanings, lines_to_run, IsFront}
-use Rattle.betr.specs.Session.{end_of, Executes, HasNext, Among, AllComplete, TakenAt, Replied, IsCutShort, WornBy, RunsFrom, Session}
+use Rattle.betr.specs.Session.{end_of, Executes, HasNext, Among, AllComplete, TakenAt, Replied, IsCutShort, WornBy, Leaves, RunsFrom, Session}
 use Rattle.betr.specs.Shell.{last_lines, IsHeld, RunFails, BreaksOff, HasMore}
 use Rattle.betr.specs.declared.session.Taken.{Taken}
 use Rattle.betr.specs.declared.session.Taken.TheVariants as source_gave
 use Rattle.betr.specs.Taken.{IsTaken, taken_by, TakesNoMore, TookLast}
+use Rattle.betr.proofs.Left.{leaves_worn, ends_any}
 use Rattle.betr.proofs.Transcripts.{up_to_stop-none, up_to_stop-stopped, up_to_stop-append, up_to_stop-one, up_to_stop_front, IsFront-append, IsFront-trans, IsTranscript-append, state_after-append, executed-append}
-use Rattle.betr.proofs.Executes.{executes_none, executes_more, executes_as, text-twice}
+use Rattle.betr.proofs.Executes.{append_known-nil, executes_none, executes_more, executes_as, text-twice}
 use Rattle.betr.proofs.Feeding.{either, neither}
 
 pub prepend_known-nil : (o : Option (List ℕ)) → prepend_known [] o ≡ o
@@ -371,7 +372,7 @@ broken Memory s mid now bytes line piece script rest a b c is none taken few x y
           (λ more _. subst (λ bs. Among (Some Memory) s bs all) (sym (ap (λ l. l ++ more) joined ∙ append_assoc front y.halts.rest more))
           (inr (next_of_more front (y.halts.rest ++ more) all lines no_stop (some-before y.halts.rest more y.halts.some))));
       taken_at = few;
-      reached = subst now (sym (state_after-append s x.entries y.entries)) y.reached;
+      reached = subst (λ t. Leaves t now) (sym (state_after-append s x.entries y.entries)) y.reached;
       replied = text-twice x.entries y.entries a b c x.written y.replied;
     }
 broken (Worn which) s mid now bytes line piece script rest a b c is none taken few x y =
@@ -389,7 +390,7 @@ broken (Worn which) s mid now bytes line piece script rest a b c is none taken f
       among_script = known (λ bs. Among (Some (Worn which)) s bs all) (bytes ++ piece) script rest taken
           (λ more _. (next, HasNext-front next (executed all) upto (lines_to_run ((bytes ++ piece) ++ more)) has (fed_front bytes piece line more is none), worn));
       taken_at = few;
-      reached = subst now (sym (state_after-append s x.entries y.entries)) y.reached;
+      reached = subst (λ t. Leaves t now) (sym (state_after-append s x.entries y.entries)) y.reached;
       replied = text-twice x.entries y.entries a b c x.written y.replied;
     }
 broken Sink s mid now bytes line piece script rest a b c is none taken few x y =
@@ -451,14 +452,14 @@ failed Memory s mid now bytes line script a b c all same few x y =
     }
 failed (Worn which) s mid now bytes line script a b c all same few x y =
     let among : Among (Some (Worn which)) s bytes x.entries =
-    (line_of line, record { rest = []; lines_are = all ∙ ap (λ l. l ++ line_of line ∷ []) (sym x.lines_are) }, y.2) in
+    (line_of line, record { rest = []; lines_are = all ∙ ap (λ l. l ++ line_of line ∷ []) (sym x.lines_are) }, y.0.0) in
     record {
       entries = x.entries;
       transcript = x.transcript;
       among_taken = among;
       among_script = same_script (λ bs. Among (Some (Worn which)) s bs x.entries) script bytes same among;
       taken_at = few;
-      reached = y.0;
+      reached = leaves_worn which (state_after s x.entries) (line_of line) now y.0;
       replied = y.1 ∙ x.written;
     }
 failed Sink s mid now bytes line script a b c all same few x y =
@@ -582,6 +583,26 @@ gave_end t taken place old new before after is h told =
     let got : IsTaken source_gave.End taken place old new = subst (λ t. IsTaken t taken place old new) is h in
     (got.0, got.1, told ∙ ap (λ t. option_map (takes_after (taken_by (Ok t) place)) before) is)
 
+-- want of memory before the first take
+pub session_none : (start : State) (script w : Option (List ℕ)) → Session (Some Memory) (λ s. s ≡ start) (λ _. Unit {0}) script script w w
+session_none start script w = record {
+  taken = [];
+  taken_is = sym (prepend_known-nil script);
+  runs = λ s is. record {
+    entries = [];
+    transcript = tt;
+    among_taken = inl refl;
+    among_script = none_of script;
+    taken_at = omega arith;
+    reached = ends_any (Some Memory) s;
+    replied = sym (append_known-nil w);
+  };
+}
+  where
+    none_of : (o : Option (List ℕ)) → IfSome o (λ bytes. Among (Some Memory) start bytes [])
+    none_of None = tt
+    none_of (Some bytes) = inl refl
+
 -- a session from the one state at which it begins
 pub session_from : (end : Option Fault) (start : State) (first last : State → Type 0) (script rest old new : Option (List ℕ)) → first start
     → Session end first last script rest old new → Session end (λ s. s ≡ start) (λ _. Unit {0}) script rest old new
@@ -595,7 +616,7 @@ session_from end start first last script rest old new begins s = record {
         among_taken = r.among_taken;
         among_script = r.among_script;
         taken_at = r.taken_at;
-        reached = tt;
+        reached = ends_any end (state_after t r.entries);
         replied = r.replied;
       };
 }

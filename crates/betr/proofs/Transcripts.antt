@@ -11,7 +11,7 @@ use Rattle.bd_command.specs.declared.reply.Reply.{Reply}
 use Rattle.bd_model.specs.Step.{step}
 use Rattle.bd_script.specs.Lines.{LineMeaning, is_stop, up_to_stop}
 use Rattle.bd_script.specs.Replies.{line_reply_line}
-use Rattle.bd_script.specs.declared.line.Line.TheVariants.{Run, Stop}
+use Rattle.bd_script.specs.declared.line.Line.TheVariants.{Run, Walk, Stop}
 use Rattle.bd_script.specs.declared.replies.LineReply.{LineReply}
 use Rattle.betr.specs.Transcript.{State, Entry, Follows, IsTranscript, text, executed, state_after, IsFront}
 
@@ -109,6 +109,7 @@ accepted_few c r = one_by (writes c && is_done r)
 counts_one : (s : State) (l : LineMeaning) (said : LineReply) (after : State) → Follows s l said after → after.count ≤ s.count + 1
 counts_one s (Ok (Run c)) said after h =
     omega (arith, ap (λ (t : State). t.count) h.after_is, accepted_few c (step s.tree c).1)
+counts_one s (Ok Walk) said after h = omega (arith, ap (λ (t : State). t.count) h.1)
 counts_one s (Ok Stop) said after h = omega (arith, ap (λ (t : State). t.count) h.1)
 counts_one s (Err refusal) said after h = omega (arith, ap (λ (t : State). t.count) h.1)
 

@@ -8,7 +8,9 @@ use Rattle.bd_io.specs.Cause.{Rose, next_count}
 use Rattle.bd_io.specs.Written.{WrotePart}
 use Rattle.bd_device.specs.Blocks.{Image}
 use Rattle.bd_device.specs.Memory.{MemoryDevice, attached_image, attached_size, held_image}
+use Rattle.bd_message.specs.declared.fault.Counter.TheVariants.{Count}
 use Rattle.betr.specs.declared.fault.Fault.{Fault}
+use Rattle.betr.specs.declared.fault.Fault.TheVariants.{Worn}
 use Rattle.betr.specs.declared.outcome.Ack.{Ack}
 use Rattle.betr.specs.Fault.{status_of, fault_line, Faults, Caused}
 use Rattle.betr.specs.Transcript.{Known, State, Entry, IsTranscript}
@@ -40,10 +42,12 @@ abbrev pub WritesEnd : Option Fault → Known → Known → ℕ → ℕ → Type
 WritesEnd None old new before now = new ≡ old
 WritesEnd (Some e) old new before now = WritesLast (fault_line e) old new before now
 
--- how a run went: its one transcript, to which outcome, script and what was written are tied
+-- how a run went: its one transcript, to which outcome, script and what was written are tied; the
+-- count of accepted commands is never worn
 pub record Went (start : State) (status : ℕ) (acks : List Ack) (before now : Ends) : Type 0 where
   pub end : Option Fault
   pub status_is : status ≡ end_status end
+  pub uncounted : end ≢ Some (Worn Count)
   pub entries : List Entry
   pub transcript : IsTranscript start entries
   pub taken : List ℕ

@@ -1,20 +1,20 @@
 -- What a session does with the lines of a script, and how it ends.
-use Rattle.std.specs.Prelude.{◌≡◌, ◌⊎◌, ℕ, ◌+◌, ◌≤◌, false, List, [], ◌∷◌, ◌++◌, length, take, IfSome}
+use Rattle.std.specs.Prelude.{◌≡◌, ◌⊎◌, ℕ, ◌+◌, ◌≤◌, false, List, [], ◌∷◌, ◌++◌, length, take, IfSome, IsNone}
 use Rattle.std.specs.List.{list_any}
 use Rattle.std.specs.Io.KnownBytes.{append_known, prepend_known}
 use Rattle.std.specs.declared.option.Option.{Option}
 use Rattle.std.specs.declared.option.Option.TheVariants.{None, Some}
 use Rattle.std.specs.declared.result.Result.{Result}
 use Rattle.std.specs.declared.result.Result.TheVariants.{Ok, Err}
-use Rattle.bd_limits.specs.Limits.{script_limit}
+use Rattle.bd_limits.specs.Limits.{script_limit, flush_limit}
 use Rattle.bd_io.specs.Written.{WrotePart}
 use Rattle.bd_command.specs.declared.Command.{Command}
 use Rattle.bd_message.specs.declared.fault.Counter.{Counter}
-use Rattle.bd_message.specs.declared.fault.Counter.TheVariants.{Count}
+use Rattle.bd_model.specs.Step.{refusal_of}
 use Rattle.bd_script.specs.Lines.{LineMeaning, is_stop}
 use Rattle.bd_script.specs.Replies.{line_reply_line}
 use Rattle.bd_script.specs.declared.line.Line.TheVariants.{Run}
-use Rattle.bd_volume.specs.Volume.{WearsCount}
+use Rattle.bd_volume.specs.Views.{View, AreFlushes, Wears}
 use Rattle.betr.specs.declared.fault.Fault.{Fault}
 use Rattle.betr.specs.declared.fault.Fault.TheVariants.{Device, Source, Memory, TooLong, Worn, Sink}
 use Rattle.betr.specs.Transcript.{Known, State, Entry, IsTranscript, text, executed, state_after, meanings, lines_to_run, IsFront}
@@ -40,12 +40,26 @@ pub record HasNext (next : LineMeaning) (done lines : List LineMeaning) : Type 0
   pub rest : List LineMeaning
   pub lines_are : lines ≡ done ++ next ∷ rest
 
--- the line is a command that would bring the count past its last value
+-- the line is a writing command that the tree accepts; flush steps for it lead from the state's view
+-- to the one that is left, and a counter has no room for what is next
 pub record WornBy (which : Counter) (s : State) (line : LineMeaning) : Type 0 where
   pub command : Command
   pub line_is : line ≡ Ok (Run command)
-  pub counter : which ≡ Count
-  pub wears : WearsCount s.tree s.count command
+  pub accepted : IsNone (refusal_of s.tree command)
+  pub left : View
+  pub wears : Wears which s.count command s.view left
+
+-- the state with another view
+abbrev pub with_view : State → View → State
+with_view s view = record { tree = s.tree; count = s.count; view = view }
+
+-- what a fault of a line leaves: at most 65,536 flush steps were made for it, and nothing else
+pub record Leaves (s : State) (at : State → Type 0) : Type 0 where
+  pub made : ℕ
+  pub few : made ≤ flush_limit
+  pub left : View
+  pub flushes : AreFlushes made s.view left
+  pub reached : at (with_view s left)
 
 -- ---- what an end leaves of the lines
 
@@ -99,8 +113,18 @@ Replied (Some Sink) es old new = IsCutShort es old new
 
 -- ---- a whole session
 
+-- `at` holds of the state after the executed lines, or of what a fault of a next line leaves of it
+abbrev pub Ends : Option Fault → State → (State → Type 0) → Type 0
+Ends None s at = at s
+Ends (Some Device) s at = at s
+Ends (Some Source) s at = at s
+Ends (Some Memory) s at = Leaves s at
+Ends (Some TooLong) s at = at s
+Ends (Some (Worn which)) s at = Leaves s at
+Ends (Some Sink) s at = at s
+
 -- from a state on: the one transcript of a session, its lines among those taken and those of the
--- script, its replies; `at` holds of the state then
+-- script, its replies; `at` holds at the end
 pub record RunsFrom (end : Option Fault) (from : State) (at : State → Type 0) (taken : List ℕ)
     (script old new : Known) : Type 0 where
   pub entries : List Entry
@@ -108,7 +132,7 @@ pub record RunsFrom (end : Option Fault) (from : State) (at : State → Type 0) 
   pub among_taken : Among end from taken entries
   pub among_script : IfSome script (λ bytes. Among end from bytes entries)
   pub taken_at : TakenAt end taken entries
-  pub reached : at (state_after from entries)
+  pub reached : Ends end (state_after from entries) at
   pub replied : Replied end entries old new
 
 -- a session with a script, of which `script` is left of the source before and `rest` after: from

@@ -7,7 +7,7 @@ use Rattle.std.specs.declared.option.Option.TheVariants.{None, Some}
 use Rattle.std.specs.declared.ops.ControlFlow.{ControlFlow}
 use Rattle.std.specs.declared.ops.ControlFlow.TheVariants.{Continue, Break}
 use Rattle.bd_io.specs.Written.{WrotePart}
-use Rattle.bd_message.specs.declared.fault.Counter.TheVariants.{Count}
+use Rattle.bd_message.specs.declared.fault.Counter.{Counter}
 use Rattle.bd_script.specs.Lines.{LineMeaning, HasNoNewline, line_of, held, open_line, is_empty, is_stop, up_to_stop}
 use Rattle.bd_script.specs.Replies.{line_reply_line}
 use Rattle.bd_script.specs.declared.replies.LineReply.{LineReply}
@@ -15,16 +15,17 @@ use Rattle.bd_script.specs.declared.replies.LineReply.TheVariants as reply
 use Rattle.bd_volume.specs.declared.Fault.{Fault as VolumeFault}
 use Rattle.bd_volume.specs.declared.Fault.TheVariants as volume
 use Rattle.bd_volume.specs.declared.Volume.{Volume}
-use Rattle.bd_volume.specs.Volume.{StandsFor, device_of}
+use Rattle.bd_volume.specs.Volume.{StandsFor, view_of, device_of}
 use Rattle.betr.specs.declared.fault.Fault.{Fault}
 use Rattle.betr.specs.declared.fault.Fault.TheVariants.{Device, Source, Memory, TooLong, Worn, Sink}
 use Rattle.betr.specs.declared.shell.Shell.{Shell}
 use Rattle.betr.specs.Transcript.{Known, State, Entry, Follows, IsTranscript, executed, state_after, meanings, IsFront}
-use Rattle.betr.specs.Session.{HasNext, WornBy, Replied}
+use Rattle.betr.specs.Session.{HasNext, WornBy, Leaves, with_view, Ends, Replied}
 
--- a volume stands for a state
-abbrev pub VolumeAt : {D : Type 0} → Volume D → State → Type 0
-VolumeAt v s = StandsFor v s.tree s.count
+-- a volume stands for a state, whose view is the volume's own
+pub record VolumeAt {D : Type 0} (v : Volume D) (s : State) : Type 0 where
+  pub stands : StandsFor v s.tree s.count
+  pub view_is : view_of v ≡ s.view
 
 -- a shell's volume stands for a state
 abbrev pub ShellAt : {D : Type 0} → Shell D → State → Type 0
@@ -47,6 +48,7 @@ breaks (Break b) = true
 abbrev pub is_stopped : LineReply → Bool
 is_stopped (reply.Command r) = false
 is_stopped (reply.Unread refusal) = false
+is_stopped (reply.Walk visits height) = false
 is_stopped reply.Stopped = true
 
 -- the last line of a script, where it isn't empty
@@ -81,16 +83,16 @@ pub record CutsAt (bytes line rest : List ℕ) : Type 0 where
 
 -- the faults of a volume that come today
 abbrev pub ComesNow : VolumeFault → Type 0
-ComesNow e = (e ≡ volume.NoMemory) ⊎ (e ≡ volume.Worn Count)
+ComesNow e = (e ≡ volume.NoMemory) ⊎ ((which : Counter) × (e ≡ volume.Worn which))
 
--- a line's fault before its reply: memory, or a counter that the line wears
-abbrev pub LineFails : Fault → State → LineMeaning → Type 0
-LineFails Device s line = ⊥
-LineFails Source s line = ⊥
-LineFails Memory s line = Unit {0}
-LineFails TooLong s line = ⊥
-LineFails (Worn which) s line = WornBy which s line
-LineFails Sink s line = ⊥
+-- a line's fault before its reply, and what it leaves: memory, or a counter that the line wears
+abbrev pub LineFails : Fault → State → LineMeaning → (State → Type 0) → Type 0
+LineFails Device s line at = ⊥
+LineFails Source s line at = ⊥
+LineFails Memory s line at = Leaves s at
+LineFails TooLong s line at = ⊥
+LineFails (Worn which) s line at = (worn : WornBy which s line) × at (with_view s worn.left)
+LineFails Sink s line at = ⊥
 
 -- the faults that a line has before its reply
 abbrev pub IsLineFault : Fault → Type 0
@@ -108,13 +110,13 @@ pub record IsCut (s : State) (line : LineMeaning) (at : State → Type 0) (old n
   pub replies : Replies s line said at
   pub part : WrotePart (line_reply_line said) old new
 
--- a fault of a line: before its reply, and all stays, or within it
+-- a fault of a line: before its reply, and nothing is written, or within it
 abbrev pub RunFails : Fault → State → LineMeaning → (State → Type 0) → Known → Known → Type 0
 RunFails Device s line at old new = ⊥
 RunFails Source s line at old new = ⊥
-RunFails Memory s line at old new = at s × (new ≡ old)
+RunFails Memory s line at old new = LineFails Memory s line at × (new ≡ old)
 RunFails TooLong s line at old new = ⊥
-RunFails (Worn which) s line at old new = at s × (new ≡ old) × WornBy which s line
+RunFails (Worn which) s line at old new = LineFails (Worn which) s line at × (new ≡ old)
 RunFails Sink s line at old new = IsCut s line at old new
 
 -- some complete lines were executed, of what was begun and of a front of a piece, none of them a
@@ -144,5 +146,5 @@ pub record BreaksOff (e : Fault) (from : State) (begun piece : List ℕ) (at : S
   pub entries : List Entry
   pub transcript : IsTranscript from entries
   pub halts : Halts e from begun piece entries
-  pub reached : at (state_after from entries)
+  pub reached : Ends (Some e) (state_after from entries) at
   pub replied : Replied (Some e) entries old new

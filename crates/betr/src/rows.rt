@@ -90,6 +90,31 @@ ok file 0
 ok p/
 > list /
 ok p/ q/ s/
+# a clone fetches the root twice and makes two nodes; what is refused and other lines keep the walk
+> walk
+ok walk 0 of 0
+> create /a
+ok
+> write /a 0 01
+ok
+> walk
+ok walk 0 of 0
+> clone /a /b
+ok
+> walk
+ok walk 4 of 2
+> clone /a /b
+no 2 exists
+> write /b 0 02
+ok
+> read /a 0 9
+ok 01
+> remove /a
+ok
+> walk
+ok walk 4 of 2
+> walk /b
+no 10 bad-line
 # what a truncate cuts off reads as zeros
 > create /f
 ok
@@ -296,11 +321,41 @@ fn repeated(alloc: Global, text: &str, count: usize) -> Result<String, AllocErro
 #[test]
 fn rows_of_the_map_give_their_replies(rt: HostRuntime) -> Result<(), Fail> {
     let rows = all_rows(rt.alloc())?;
-    assert_eq!(rt; rows.len(), 17);
+    assert_eq!(rt; rows.len(), 18);
     for row in &rows {
         let written = replies(rt.alloc(), row.script.as_str())?.ok_or("another status")?;
         assert_eq!(rt; written.as_slice(), row.replies.as_bytes(), "{}", row.label);
     }
+    Ok(())
+}
+
+/// The visits and the height that a reply to `walk` tells.
+fn walk_in(reply: &str) -> Option<(u64, u64)> {
+    let (visits, height) = reply.strip_prefix("ok walk ")?.split_once(" of ")?;
+    Some((visits.parse().ok()?, height.parse().ok()?))
+}
+
+#[test]
+fn clones_of_the_root_take_short_walks(rt: HostRuntime) -> Result<(), Fail> {
+    let made = "clone / /s1\nwalk\nclone / /s2\nwalk\nclone / /s3\nwalk\n";
+    let script = format!(in rt.alloc(); "{made}list /s3\nlist /\n")?;
+    let written = replies(rt.alloc(), script.as_str())?.ok_or("another status")?;
+    let text = std::str::from_utf8(written.as_slice())
+        .ok()
+        .ok_or("no text")?;
+    let mut walks = Vec::new(rt.alloc());
+    let mut others = String::new(rt.alloc());
+    for reply in text.lines() {
+        if let Some((visits, height)) = walk_in(reply) {
+            let most = height.saturating_mul(5).saturating_add(2);
+            assert!(rt; height >= 2 && visits <= most, "{reply}");
+            walks.push(visits)?;
+        } else {
+            put_line(&mut others, reply)?;
+        }
+    }
+    assert_eq!(rt; walks.len(), 3);
+    assert_eq!(rt; others.as_str(), "ok\nok\nok\nok s1/ s2/\nok s1/ s2/ s3/\n");
     Ok(())
 }
 

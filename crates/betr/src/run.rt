@@ -129,11 +129,12 @@ pub fn run<D: Attach, S: Source, K: Sink>(
         → faults (D.fault_count dev.new) 0 (S.fault_count src.new) (K.fault_count sink.new)
         ≡ faults (D.fault_count dev.old) 0 (S.fault_count src.old) (K.fault_count sink.old) }
 
-    // Where nothing fails, the script is executed, unless memory runs out.
+    // Where nothing fails, the script is executed, unless memory runs out or a counter of the nodes
+    // is worn.
     ensures complete { IsFaultless (call_of (map string_bytes words.now)) (S.left src.old)
         (faults (D.fault_count dev.old) 0 (S.fault_count src.old) (K.fault_count sink.old))
         (faults (D.fault_count dev.new) 0 (S.fault_count src.new) (K.fault_count sink.new))
-        → (result.status ≡ 0) ⊎ (result.status ≡ 6) }
+        → (result.status ≡ 0) ⊎ (result.status ≡ 6) ⊎ (result.status ≡ 8) }
 {
     let acks = Acks::none(alloc);
     let Some(Call::Run { image }) = read_words(words) else {

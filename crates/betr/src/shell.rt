@@ -6,7 +6,7 @@ ghost use Rattle.bd_io.specs.Written.{WrotePart};
 ghost use Rattle.bd_message.specs.declared.fault.Counter.{Counter};
 ghost use Rattle.bd_script.specs.Lines.{line_of, open_line, held, held_limit, is_empty, is_stop, up_to_stop, IsLine, HasNoNewline};
 ghost use Rattle.bd_script.specs.Replies.{line_reply_line, IsLineReply};
-ghost use Rattle.bd_volume.specs.Volume.{StandsFor, device_of};
+ghost use Rattle.bd_volume.specs.Volume.{device_of};
 ghost use Rattle.betr.specs.Fault.{IsCaused, of_sink};
 ghost use Rattle.betr.specs.Transcript.{State, first_state, meanings};
 ghost use Rattle.betr.specs.Session.{Executes};
@@ -43,7 +43,8 @@ fn fault_of(fault: VolumeFault) -> Fault
     }
 }
 
-/// Executes a line that was read. A fault leaves the volume as it was.
+/// Executes a line that was read. A fault leaves what the volume stands for; flush steps may have
+/// been made.
 fn execute<D: Device + Drop>(
     alloc: Global,
     volume: &mut Volume<D>,
@@ -53,7 +54,7 @@ fn execute<D: Device + Drop>(
     ensures ok { IfOk result (λ said. (s : State) → VolumeAt volume.old s
         → Replies s (Ok line) said (VolumeAt volume.new)) }
     ensures err { IfErr result (λ e. (s : State) → VolumeAt volume.old s
-        → VolumeAt volume.new s × LineFails e s (Ok line)) }
+        → LineFails e s (Ok line) (VolumeAt volume.new)) }
 
     // Whatever the volume stands for.
     ensures fault { IfErr result IsLineFault }
@@ -66,11 +67,19 @@ fn execute<D: Device + Drop>(
             Ok(reply) => Ok(LineReply::Command(reply)),
             Err(fault) => Err(fault_of(fault)),
         },
+        Line::Walk => {
+            let walk = volume.last_walk();
+            Ok(LineReply::Walk {
+                visits: walk.visits,
+                height: walk.height,
+            })
+        }
         Line::Stop => Ok(LineReply::Stopped),
     }
 }
 
-/// Executes a line of a script, also a bad one. A fault leaves the volume as it was.
+/// Executes a line of a script, also a bad one. A fault leaves what the volume stands for; flush
+/// steps may have been made.
 fn execute_line<D: Device + Drop>(
     alloc: Global,
     volume: &mut Volume<D>,
@@ -79,7 +88,7 @@ fn execute_line<D: Device + Drop>(
     ensures ok { IfOk result (λ said. (s : State) → VolumeAt volume.old s
         → Replies s (line_of line.now) said (VolumeAt volume.new)) }
     ensures err { IfErr result (λ e. (s : State) → VolumeAt volume.old s
-        → VolumeAt volume.new s × LineFails e s (line_of line.now)) }
+        → LineFails e s (line_of line.now) (VolumeAt volume.new)) }
 
     // Whatever the volume stands for.
     ensures fault { IfErr result IsLineFault }
@@ -118,12 +127,14 @@ fn flow_after(said: &LineReply) -> ControlFlow<()>
 {
     match said {
         LineReply::Stopped => ControlFlow::Break(()),
-        LineReply::Command(_) | LineReply::Unread(_) => ControlFlow::Continue(()),
+        LineReply::Command(_) | LineReply::Unread(_) | LineReply::Walk { .. } => {
+            ControlFlow::Continue(())
+        }
     }
 }
 
 /// Executes a line, and writes its reply. At `Fault::Sink` the line was executed, and a part of its
-/// reply written; another fault leaves the volume and the sink as they were.
+/// reply written; another fault leaves what the volume stands for, and the sink as it was.
 fn run_line<D: Device + Drop, K: Sink>(
     alloc: Global,
     volume: &mut Volume<D>,

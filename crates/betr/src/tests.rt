@@ -149,6 +149,31 @@ fn each_failing_call_ends_the_run(rt: HostRuntime) -> Result<(), Fail> {
 }
 
 #[test]
+fn clones_of_the_root_wear_the_level(rt: HostRuntime) -> Result<(), Fail> {
+    let mut script = String::new(rt.alloc());
+    for i in 0..4000u32 {
+        script.push_str(format!(in rt.alloc(); "clone / /s{i}\n")?.as_str())?;
+    }
+    let (status, written) = called(rt.alloc(), &["betr", "run", "img"], script.as_bytes())?;
+    assert_eq!(rt; status, 8);
+    let text = std::str::from_utf8(written.as_slice())
+        .ok()
+        .ok_or("no text")?;
+    let oks = text
+        .strip_suffix("fault worn level\n")
+        .ok_or("another fault")?;
+    assert!(rt;
+        oks.lines().all(|reply| reply == "ok"),
+        "a clone was refused"
+    );
+    assert!(rt;
+        oks.lines().count() >= 999,
+        "a clone added more than one level"
+    );
+    Ok(())
+}
+
+#[test]
 fn a_script_past_the_limit_is_too_long(rt: HostRuntime) -> Result<(), Fail> {
     let script = vec![in rt.alloc(); b'\n'; 16_777_217]?;
     let mut dev = MemDevice::new(rt.alloc(), 516, 0, &[])?;

@@ -1,7 +1,7 @@
 -- A session that ends well, or by a fault whose line is written.
 use Rattle.std.proofs.Common.{refl, ◌∙◌, inr}
 use Rattle.std.specs.declared.option.Option.TheVariants.{None, Some}
-use Rattle.betr.proofs.Runs.{of_any, went, cause_later, writes_end, faultless}
+use Rattle.betr.proofs.Runs.{of_any, went, cause_later, writes_end, faultless, either_status}
 use Rattle.betr.proofs.run.run.Goals as goal
 
 pub returns-in-Ok-clause-went : goal.returns-in-Ok-clause-went
@@ -18,4 +18,4 @@ returns-in-Err-clause-went g c =
 pub returns-in-Err-clause-complete : goal.returns-in-Err-clause-complete
 returns-in-Err-clause-complete g c f =
     let e = c.in-Err.fault in
-    inr (c.status.ensures ∙ faultless e _ _ _ _ _ _ _ c.in-Err.ensures.session (cause_later e _ _ _ _ _ _ c.write_last-in-Err.ensures.later c.in-Err.ensures.cause.cause) f)
+    either_status _ _ c.status.ensures (faultless e _ _ _ _ _ _ _ c.in-Err.ensures.session (cause_later e _ _ _ _ _ _ c.write_last-in-Err.ensures.later c.in-Err.ensures.cause.cause) f)

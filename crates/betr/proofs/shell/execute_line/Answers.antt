@@ -1,6 +1,7 @@
 -- A line that was read means what its bytes mean.
 use Rattle.std.proofs.Common.{ap}
 use Rattle.std.specs.declared.result.Result.TheVariants.{Err}
+use Rattle.betr.proofs.Left.{leaves_all}
 use Rattle.betr.proofs.Lines.{unread_replies}
 use Rattle.betr.proofs.shell.execute_line.Goals as goal
 
@@ -17,3 +18,6 @@ returns-in-Err-BadLine-clause-ok g c s at =
 pub returns-in-Err-BadPath-clause-ok : goal.returns-in-Err-BadPath-clause-ok
 returns-in-Err-BadPath-clause-ok g c s at =
     unread_replies s _ _ _ (c.in-Err-BadPath.ensures.bad_path.0 (ap Err c.in-Err-BadPath.field-0-is)) at
+
+pub returns-in-Err-NoMemory-clause-err : goal.returns-in-Err-NoMemory-clause-err
+returns-in-Err-NoMemory-clause-err g c s at = leaves_all s _ at

@@ -7,7 +7,7 @@ use Rattle.betr.proofs.shell.run_line.Goals as goal
 pub returns-in_err-said-clause-err : goal.returns-in_err-said-clause-err
 returns-in_err-said-clause-err g c =
     let p = err_from_is_err_and c.from_residual.result c.from_residual.ensures.1 in
-    rw (p.1, p.2) (λ s at. let left = c.in_err-said.ensures.err s at in line_fails c.in_err-said.field-0.0 s _ _ _ left.0 left.1)
+    rw (p.1, p.2) (λ s at. line_fails c.in_err-said.field-0.0 s _ _ _ (c.in_err-said.ensures.err s at))
 
 pub returns-in_err-said-clause-cause : goal.returns-in_err-said-clause-cause
 returns-in_err-said-clause-cause g c =

@@ -1,10 +1,11 @@
 -- What is held of a line and its last bytes mean what the line does.
-use Rattle.std.proofs.Common.{◌≡◌, ◌++◌, [], ap, ◌∙◌, arith}
+use Rattle.std.proofs.Common.{◌≡◌, refl, ◌++◌, [], ap, ◌∙◌, arith}
 use Rattle.std.proofs.lemmas.Grind.{common_steps}
 use Rattle.std.proofs.lemmas.List.{nil_from_length}
 use Rattle.std.proofs.lemmas.Result.{err_from_is_err_and}
 use Rattle.bd_script.specs.Lines.{line_of, is_stop}
 use Rattle.bd_script.proofs.CutLines.{line_of-held}
+use Rattle.betr.proofs.Left.{leaves_all}
 use Rattle.betr.proofs.shell.Shell.end_line.Goals as goal
 
 pub returns-then-is_empty-clause-ok : goal.returns-then-is_empty-clause-ok
@@ -30,3 +31,8 @@ pub returns-clause-flow : goal.returns-clause-flow
 returns-clause-flow g c =
     c.in_ok-flow.ensures.flow
     ∙ ap is_stop (ap line_of (c.deref.ensures.value ∙ c.in_ok-hold.ensures.ok) ∙ line_of-held (c.args.self.now.line.items ++ c.args.last.now))
+
+pub returns-in_err-hold-clause-err : goal.returns-in_err-hold-clause-err
+returns-in_err-hold-clause-err g c =
+    let p = err_from_is_err_and c.from_residual.result c.from_residual.ensures.1 in
+    rw (p.1, p.2) (λ s at. (leaves_all s _ at, refl))

@@ -4,6 +4,7 @@ use Rattle.std.proofs.lemmas.Result.{err_from_is_err_and}
 use Rattle.betr.specs.Fault.{Faults}
 use Rattle.betr.specs.Shell.{breaks}
 use Rattle.betr.proofs.Executes.{executes_none, executes_one}
+use Rattle.betr.proofs.Left.{leaves_all}
 use Rattle.betr.proofs.Feeding.{fed_none, fed_more, fed_stops, stops_fed, fed_ends, ends_fed, memory_fed, fails_fed, fed_short, at_none, not_break}
 use Rattle.betr.proofs.shell.Shell.feed.Goals as goal
 
@@ -63,4 +64,4 @@ returns-clause-flow g c =
 pub returns-in_err-hold-clause-err : goal.returns-in_err-hold-clause-err
 returns-in_err-hold-clause-err g c =
     let p = err_from_is_err_and c.from_residual-in_err-hold.result c.from_residual-in_err-hold.ensures.1 in
-    rw (p.1, p.2) (memory_fed _ _ _ _ _ _ _ _ _ _ c.lines.invariant.fed c.in_err-hold.ensures.some (λ t h. (h, refl)))
+    rw (p.1, p.2) (memory_fed _ _ _ _ _ _ _ _ _ _ c.lines.invariant.fed c.in_err-hold.ensures.some (λ t h. (leaves_all t _ h, refl)))

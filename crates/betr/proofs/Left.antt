@@ -1,0 +1,36 @@
+-- What faults leave of a state.
+use Rattle.std.proofs.Common.{ℕ, ◌≤◌, arith}
+use Rattle.std.specs.declared.option.Option.{Option}
+use Rattle.std.specs.declared.option.Option.TheVariants.{None, Some}
+use Rattle.bd_message.specs.declared.fault.Counter.{Counter}
+use Rattle.bd_script.specs.Lines.{LineMeaning}
+use Rattle.bd_volume.specs.Views.AreFlushes.{none}
+use Rattle.betr.specs.declared.fault.Fault.{Fault}
+use Rattle.betr.specs.declared.fault.Fault.TheVariants.{Device, Source, Memory, TooLong, Worn, Sink}
+use Rattle.betr.specs.Transcript.{State}
+use Rattle.betr.specs.Session.{WornBy, Leaves, with_view, Ends}
+
+-- without a flush step all is left as it was
+pub leaves_all : (s : State) (at : State → Type 0) → at s → Leaves s at
+leaves_all s at h = record { made = 0; few = omega arith; left = s.view; flushes = none s.view; reached = h }
+
+-- the flush steps before a counter was worn are left
+pub leaves_worn : (which : Counter) (s : State) (line : LineMeaning) (at : State → Type 0)
+    → (worn : WornBy which s line) × at (with_view s worn.left) → Leaves s at
+leaves_worn which s line at h = record {
+  made = h.0.wears.made;
+  few = h.0.wears.flushed.few;
+  left = h.0.left;
+  flushes = h.0.wears.flushed.flushes;
+  reached = h.1;
+}
+
+-- at any end something is left
+pub ends_any : (end : Option Fault) (s : State) → Ends end s (λ _. Unit {0})
+ends_any None s = tt
+ends_any (Some Device) s = tt
+ends_any (Some Source) s = tt
+ends_any (Some Memory) s = leaves_all s (λ _. Unit {0}) tt
+ends_any (Some TooLong) s = tt
+ends_any (Some (Worn which)) s = leaves_all s (λ _. Unit {0}) tt
+ends_any (Some Sink) s = tt
