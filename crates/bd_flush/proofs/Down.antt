@@ -21,8 +21,10 @@ use Rattle.bd_flush.specs.Children.{IsFetched, IsWayTo}
 use Rattle.bd_flush.specs.GoingDown.{child_level}
 use Rattle.bd_flush.specs.Pushes.{AllGoDown}
 use Rattle.bd_flush.specs.Carving.{IsOldestAt}
-use Rattle.bd_flush.specs.Ways.{IsFullestAt, IsOnWay, IsTarget, IsReadyToPush, IsNamed, IsNext, IsHigh, IsThere, AreThere}
+use Rattle.bd_flush.specs.Ways.{IsFullestAt, IsOnWay, IsTarget, IsReadyToPush, HasHeldGoto, IsFull, IsUnder, IsDue, IsFullestIn, IsAtFullest, IsToDo, IsStepAt, IsNext, IsThere, AreThere}
 use Rattle.bd_flush.specs.Ways.IsOnWay.{at_root, below}
+use Rattle.bd_flush.specs.declared.ways.FlushStep.{FlushStep}
+use Rattle.bd_flush.specs.declared.ways.FlushStep.TheVariants.{SplitRoot, SplitChild, Push, Privatise, Carve}
 use Rattle.bd_flush.specs.Raising.{IsWayUp}
 use Rattle.bd_flush.specs.Raising.IsWayUp.{top, one_up}
 use Rattle.bd_flush.proofs.ChildSplits.{child_named}
@@ -34,25 +36,23 @@ target_here : (t : Table) (n : Node) (place : ℕ) (e : Edge) (child : Option Fe
 target_here t n place e None h = h.0
 target_here t n place e (Some child) h = h.0.here
 
-pub to_carve : (t : Table) (parent : Fetched) (place index : ℕ) (child : Option Fetched) → ((d : Edge) → IsEdgeAt parent.node.value place d → IsOldestAt t.level parent.node.value place d index) → IsFetched t parent → length (edges_of parent.node.value) ≤ 14 → IsFullestAt parent.node.value place → (e : Edge)
-    → IsTarget t parent.node.value place e child → IsNamed t parent place
-to_carve t parent place index child held fetched room fullest e target =
+pub to_carve : (t : Table) (parent : Fetched) (place index : ℕ) (child : Option Fetched) → ((d : Edge) → IsEdgeAt parent.node.value place d → IsOldestAt t.level parent.node.value place d index) → IsFetched t parent → length (edges_of parent.node.value) ≤ 14 → (e : Edge)
+    → IsTarget t parent.node.value place e child → HasHeldGoto t parent place
+to_carve t parent place index child held fetched room e target =
     let here : IsEdgeAt parent.node.value place e = target_here t parent.node.value place e child target in
     record {
       parent_is = fetched;
       room = room;
-      fullest = fullest;
       edge = e;
       here = here;
       held = oldest_held t.level parent.node.value place e index (held e here);
     }
 
-pub to_push : (t : Table) (parent : Fetched) (place : ℕ) (child : Option Fetched) → ((d : Edge) → IsEdgeAt parent.node.value place d → AllGoDown t.level (child_level t.level d.child) parent.node.value place d) → IsFetched t parent → length (edges_of parent.node.value) ≤ 14 → IsFullestAt parent.node.value place → (e : Edge)
+pub to_push : (t : Table) (parent : Fetched) (place : ℕ) (child : Option Fetched) → ((d : Edge) → IsEdgeAt parent.node.value place d → AllGoDown t.level (child_level t.level d.child) parent.node.value place d) → IsFetched t parent → length (edges_of parent.node.value) ≤ 14 → (e : Edge)
     → IsTarget t parent.node.value place e child → IsReadyToPush t parent place child
-to_push t parent place child down fetched room fullest e target = record {
+to_push t parent place child down fetched room e target = record {
   parent_is = fetched;
   room = room;
-  fullest = fullest;
   edge = e;
   target = target;
   down = down e (target_here t parent.node.value place e child target);
@@ -77,6 +77,11 @@ is_next t parent place child e fetched way child_is waits few = record {
   full = waits;
 }
 
+-- a node of the way
+pub record IsHigh (t : Table) (f : Fetched) : Type 0 where
+  pub under : IsUnder t f
+  pub full : IsFull t f
+
 -- the root is as high as itself
 pub root_high : (t : Table) (root : Fetched) → root.id ≡ t.root → IsHigh t root
 root_high t root same = record {
@@ -92,6 +97,17 @@ next_high t parent child high next = record {
       omega arith);
   full = inr next.full;
 }
+
+-- the step at the fullest edge of a node of the way
+at_fullest : (t : Table) (parent : Fetched) (place : ℕ) (step : FlushStep) → IsFullestIn t parent place → IsStepAt parent place step → IsAtFullest t step
+at_fullest t parent place (SplitRoot root) h here = absurd here
+at_fullest t parent place (SplitChild above p at child) h here = subst (λ (i : ℕ). IsFullestIn t p i) (sym here.1) (subst (λ (f : Fetched). IsFullestIn t f place) (sym here.0) h)
+at_fullest t parent place (Push above p at child) h here = subst (λ (i : ℕ). IsFullestIn t p i) (sym here.1) (subst (λ (f : Fetched). IsFullestIn t f place) (sym here.0) h)
+at_fullest t parent place (Privatise above p at) h here = subst (λ (i : ℕ). IsFullestIn t p i) (sym here.1) (subst (λ (f : Fetched). IsFullestIn t f place) (sym here.0) h)
+at_fullest t parent place (Carve above p at) h here = subst (λ (i : ℕ). IsFullestIn t p i) (sym here.1) (subst (λ (f : Fetched). IsFullestIn t f place) (sym here.0) h)
+
+pub step_found : (t : Table) (parent : Fetched) (n : Node) (place : ℕ) (step : FlushStep) → n ≡ parent.node.value → IsFullestAt n place → IsHigh t parent → IsDue t step × IsStepAt parent place step → IsToDo t step
+step_found t parent n place step same fullest high h = (h.0, at_fullest t parent place step (record { fullest = subst (λ (m : Node). IsFullestAt m place) same fullest; full = high.full }) h.1)
 
 pub next_there : (nodes : Nodes) (t : Table) (parent : Fetched) (place : ℕ) (child : Fetched) (e : Edge) → IsThere nodes t parent → IsShape parent.node.value → length (edges_of parent.node.value) ≤ 14 → IsFullestAt parent.node.value place → IsWayTo parent.node.value place child.id e → t.count child.id ≡ 1
     → nodes child.id ≡ Some child.node.value → soft_limit < buffer_size child.node.value → IsThere nodes t child

@@ -45,11 +45,15 @@ pub data IsOnWay (nodes : Nodes) (t : Table) : ℕ → Type 0 where
       → length (edges_of n) ≤ 14 → IsFullestAt n place → IsWayTo n place c e → t.count c ≡ 1
       → nodes c ≡ Some m → soft_limit < buffer_size m → IsOnWay nodes t c
 
--- a fetched node of the way, at most as high as the root: it is the root, or more than 16,384 bytes
--- wait in it
-pub record IsHigh (t : Table) (f : Fetched) : Type 0 where
-  pub under : t.level f.id ≤ t.level t.root
-  pub full : (f.id ≡ t.root) ⊎ (soft_limit < buffer_size f.node.value)
+-- the fetched node is the root, or more than 16,384 bytes wait in it
+abbrev pub IsFull : Table → Fetched → Type 0
+IsFull t f = (f.id ≡ t.root) ⊎ (soft_limit < buffer_size f.node.value)
+
+-- it is at most as high as the root
+abbrev pub IsUnder : Table → Fetched → Type 0
+IsUnder t f = t.level f.id ≤ t.level t.root
+
+-- ---- what is to be done at an edge
 
 -- the child of an edge that asks nothing, or a private one with nothing in front of a key, in which
 -- no more than 16,384 bytes wait
@@ -59,45 +63,59 @@ IsTarget t n place e (Some child) =
     IsWayTo n place child.id e × IsFetched t child × (t.count child.id ≡ 1)
     × (buffer_size child.node.value ≤ soft_limit)
 
--- a node from whose fullest edge messages can be pushed to a child, or to a new leaf
+-- a node from whose edge messages can be pushed to a child, or to a new leaf
 pub record IsReadyToPush (t : Table) (parent : Fetched) (place : ℕ) (child : Option Fetched) : Type 0
   where
     pub parent_is : IsFetched t parent
     pub room : length (edges_of parent.node.value) ≤ 14
-    pub fullest : IsFullestAt parent.node.value place
     pub edge : Edge
     pub target : IsTarget t parent.node.value place edge child
     pub down : AllGoDown t.level (child_level t.level edge.child) parent.node.value place edge
 
--- a node whose fullest edge asks a shared child, or one with something in front of a key
+-- a node whose edge asks a shared child, or one with something in front of a key
 pub record IsShared (t : Table) (parent : Fetched) (place : ℕ) : Type 0 where
   pub parent_is : IsFetched t parent
-  pub fullest : IsFullestAt parent.node.value place
   pub edge : Edge
   pub here : IsEdgeAt parent.node.value place edge
   pub child : ℕ
   pub child_is : edge.child ≡ Some child
   pub shared : (edge.source ≢ []) ⊎ (t.count child ≢ 1)
 
--- a node for whose fullest edge a Goto is pending that may not go down it
-pub record IsNamed (t : Table) (parent : Fetched) (place : ℕ) : Type 0 where
+-- a node for whose edge a Goto is pending that may not go down it
+pub record HasHeldGoto (t : Table) (parent : Fetched) (place : ℕ) : Type 0 where
   pub parent_is : IsFetched t parent
   pub room : length (edges_of parent.node.value) ≤ 14
-  pub fullest : IsFullestAt parent.node.value place
   pub edge : Edge
   pub here : IsEdgeAt parent.node.value place edge
   pub held : ¬ AllGoDown t.level (child_level t.level edge.child) parent.node.value place edge
 
--- what is to be done, as far as the table tells
-abbrev pub IsToDo : Table → FlushStep → Type 0
-IsToDo t (SplitRoot root) =
+-- what is to be done at an edge, as far as the table tells
+abbrev pub IsDue : Table → FlushStep → Type 0
+IsDue t (SplitRoot root) =
     IsFetched t root × (root.id ≡ t.root) × (15 ≤ length (edges_of root.node.value))
-IsToDo t (SplitChild above parent place child) =
-    CanSplitChild t parent place child × IsFullestAt parent.node.value place
-    × (soft_limit < buffer_size child.node.value) × IsHigh t parent
-IsToDo t (Push above parent place child) = IsReadyToPush t parent place child × IsHigh t parent
-IsToDo t (Privatise above parent place) = IsShared t parent place × IsHigh t parent
-IsToDo t (Carve above parent place) = IsNamed t parent place × IsHigh t parent
+IsDue t (SplitChild above parent place child) =
+    CanSplitChild t parent place child × (soft_limit < buffer_size child.node.value)
+    × IsUnder t parent
+IsDue t (Push above parent place child) = IsReadyToPush t parent place child × IsUnder t parent
+IsDue t (Privatise above parent place) = IsShared t parent place × IsUnder t parent
+IsDue t (Carve above parent place) = HasHeldGoto t parent place × IsUnder t parent
+
+-- most bytes wait for the edge at a place of a node of the way
+pub record IsFullestIn (t : Table) (f : Fetched) (place : ℕ) : Type 0 where
+  pub fullest : IsFullestAt f.node.value place
+  pub full : IsFull t f
+
+-- the step is at the edge for which most bytes wait
+abbrev pub IsAtFullest : Table → FlushStep → Type 0
+IsAtFullest t (SplitRoot root) = Unit {0}
+IsAtFullest t (SplitChild above parent place child) = IsFullestIn t parent place
+IsAtFullest t (Push above parent place child) = IsFullestIn t parent place
+IsAtFullest t (Privatise above parent place) = IsFullestIn t parent place
+IsAtFullest t (Carve above parent place) = IsFullestIn t parent place
+
+-- what is to be done on the way by the edges for which most bytes wait, as far as the table tells
+abbrev pub IsToDo : Table → FlushStep → Type 0
+IsToDo t step = IsDue t step × IsAtFullest t step
 
 -- a fetched node of the way
 pub record IsThere (nodes : Nodes) (t : Table) (f : Fetched) : Type 0 where
@@ -155,10 +173,18 @@ pub record IsNext (t : Table) (parent child : Fetched) : Type 0 where
   pub room : length (edges_of child.node.value) ≤ 14
   pub full : soft_limit < buffer_size child.node.value
 
--- what is seen from a node on the way, as far as the table tells
-abbrev pub IsSeen : Table → Fetched → Look → Type 0
-IsSeen t parent (Down above child) = IsNext t parent child
-IsSeen t parent (End step) = IsToDo t step
+-- the step is at this edge of a node
+abbrev pub IsStepAt : Fetched → ℕ → FlushStep → Type 0
+IsStepAt parent place (SplitRoot root) = ⊥
+IsStepAt parent place (SplitChild above p at child) = (p ≡ parent) × (at ≡ place)
+IsStepAt parent place (Push above p at child) = (p ≡ parent) × (at ≡ place)
+IsStepAt parent place (Privatise above p at) = (p ≡ parent) × (at ≡ place)
+IsStepAt parent place (Carve above p at) = (p ≡ parent) × (at ≡ place)
+
+-- what is seen from an edge of a node, as far as the table tells
+abbrev pub IsSeen : Table → Fetched → ℕ → Look → Type 0
+IsSeen t parent place (Down above child) = IsNext t parent child
+IsSeen t parent place (End step) = IsDue t step × IsStepAt parent place step
 
 -- and in known nodes
 abbrev pub IsSeenAt : Nodes → Table → Look → Type 0

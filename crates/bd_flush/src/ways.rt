@@ -11,7 +11,7 @@ ghost use Rattle.bd_inner.specs.Halves.{edges_of};
 ghost use Rattle.bd_flush.specs.Children.{IsFetched, IsWayTo};
 ghost use Rattle.bd_flush.specs.declared.ways.FlushStep.TheVariants as step;
 ghost use Rattle.bd_flush.specs.Raising.{IsWayUp};
-ghost use Rattle.bd_flush.specs.Ways.{IsFullestAt, IsTarget, IsHigh, IsToDo, IsToDoAt, IsWayOf, IsWayThere, IsThere, AreThere, IsChildThere, IsAsked, IsSeen, IsSeenAt, IsWaySeen, IsWaySeenAt};
+ghost use Rattle.bd_flush.specs.Ways.{IsFullestAt, IsTarget, IsUnder, IsDue, IsStepAt, IsToDo, IsToDoAt, IsWayOf, IsWayThere, IsThere, AreThere, IsChildThere, IsAsked, IsSeen, IsSeenAt, IsWaySeen, IsWaySeenAt};
 
 use crate::carving::held_goto;
 use crate::nodes::{buffer_of, edges_of};
@@ -87,7 +87,8 @@ pub fn next_step<S: NodeStore>(alloc: Global, store: &mut S) -> Result<FlushStep
     }
     let mut above = Vec::new(alloc);
     loop {
-        match look_from(store, above, parent)? {
+        let place = fullest_place(&parent.node);
+        match look_from(store, above, parent, place)? {
             Look::Down(nodes, child) => {
                 above = nodes;
                 parent = child;
@@ -106,20 +107,22 @@ enum Look {
     End(FlushStep),
 }
 
-// What is seen from a node on the way: the child is fetched where it may be the next one.
+// What is seen from the edge at a place: the child is fetched where it may be the next one.
 fn look_from<S: NodeStore>(
     store: &mut S,
     above: Vec<Fetched>,
     parent: Fetched,
+    place: usize,
 ) -> Result<Look, MapFault>
     requires way { IsWayUp (S.table store.old) parent.id (reverse above.items) }
     requires fetched { IsFetched (S.table store.old) parent }
-    requires inner { 1 ≤ level_of parent.node.value }
     requires room { length (edges_of parent.node.value) ≤ 14 }
-    requires high { IsHigh (S.table store.old) parent }
-    ensures seen { IfOk result (IsSeen (S.table store.old) parent) }
+    requires within { place < length (edges_of parent.node.value) }
+    requires under { IsUnder (S.table store.old) parent }
+    ensures seen { IfOk result (IsSeen (S.table store.old) parent place) }
     ensures at { S.is_known store.old → IsSound (S.nodes store.old) (S.table store.old)
         → IsThere (S.nodes store.old) (S.table store.old) parent
+        → IsFullestAt parent.node.value place
         → IfOk result (IsSeenAt (S.nodes store.old) (S.table store.old)) }
     ensures way { IfOk result (IsWaySeen (S.table store.old)) }
     ensures way_at { S.is_known store.old
@@ -135,7 +138,6 @@ fn look_from<S: NodeStore>(
     ensures few_visits { S.visit_count store.new ≤ S.visit_count store.old + 1 }
     ensures same_loans { S.loans store.new ≡ S.loans store.old }
 {
-    let place = fullest_place(&parent.node);
     let id = match asks(&parent.node, place) {
         Asked::Nothing => return Ok(Look::End(push_or_carve(store, above, parent, place, None))),
         Asked::Through => return Ok(Look::End(privatise(above, parent, place))),
@@ -160,9 +162,9 @@ fn look_below<S: NodeStore>(
     requires child { IsFetched (S.table store.now) child }
     requires within { place < length (edges_of parent.node.value) }
     ensures seen { length (edges_of parent.node.value) ≤ 14
-        → IsFullestAt parent.node.value place → (e : Edge) → IsWayTo parent.node.value place child.id e
-        → (S.table store.now).count child.id ≡ 1 → IsHigh (S.table store.now) parent
-        → IfOk result (IsSeen (S.table store.now) parent) }
+        → (e : Edge) → IsWayTo parent.node.value place child.id e
+        → (S.table store.now).count child.id ≡ 1 → IsUnder (S.table store.now) parent
+        → IfOk result (IsSeen (S.table store.now) parent place) }
     ensures at { (nodes : Nodes) (t : Table) → IsThere nodes t parent
         → length (edges_of parent.node.value) ≤ 14 → IsFullestAt parent.node.value place
         → (e : Edge) → IsWayTo parent.node.value place child.id e → t.count child.id ≡ 1
@@ -212,10 +214,10 @@ fn push_or_carve<S: NodeStore>(
 ) -> FlushStep
     requires fetched { IsFetched (S.table store.now) parent }
     requires within { place < length (edges_of parent.node.value) }
-    ensures to_do { length (edges_of parent.node.value) ≤ 14
-        → IsFullestAt parent.node.value place → (e : Edge)
-        → IsTarget (S.table store.now) parent.node.value place e child
-        → IsHigh (S.table store.now) parent → IsToDo (S.table store.now) result }
+    ensures due { length (edges_of parent.node.value) ≤ 14
+        → (e : Edge) → IsTarget (S.table store.now) parent.node.value place e child
+        → IsUnder (S.table store.now) parent → IsDue (S.table store.now) result }
+    ensures here { IsStepAt parent place result }
     ensures at { (nodes : Nodes) (t : Table) → IsThere nodes t parent → IsChildThere nodes child
         → IsToDoAt nodes t result }
     ensures way { (t : Table) → IsWayUp t parent.id (reverse above.items) → IsWayOf t result }

@@ -21,7 +21,7 @@ use Rattle.bd_flush.specs.GoingDown.{child_level}
 use Rattle.bd_flush.specs.Carving.{CanCarve}
 use Rattle.bd_copy.specs.Copying.{HasChild}
 use Rattle.bd_flush.proofs.EdgeChildren.{child_lower}
-use Rattle.bd_flush.specs.Ways.{IsFullestAt, IsHigh, IsThere, AreThere, IsToDo, IsToDoAt, IsWayThere}
+use Rattle.bd_flush.specs.Ways.{IsFullestAt, IsFull, IsFullestIn, IsThere, AreThere, IsToDo, IsToDoAt, IsWayThere}
 use Rattle.bd_node.proofs.Lookup.{each_weaker}
 use Rattle.bd_flush.proofs.Abundance.{abundant}
 use Rattle.bd_flush.proofs.GoingDown.{all_plain}
@@ -29,25 +29,25 @@ use Rattle.bd_flush.proofs.Waiting.{fullest_waits, pending_waits}
 use Rattle.bd_step.specs.Steps.{IsMade, IsHighAfter, IsAbundantAt, IsAbundant, IsFlushStep}
 
 -- messages wait in a node of the way
-some_wait : (t : Table) (f : Fetched) → 1 ≤ t.size → IsFetched t f → IsHigh t f → 1 ≤ buffer_size f.node.value
-some_wait t f waits fetched high =
-    elim high.full [
+some_wait : (t : Table) (f : Fetched) → 1 ≤ t.size → IsFetched t f → IsFull t f → 1 ≤ buffer_size f.node.value
+some_wait t f waits fetched full =
+    elim full [
       | inl root ↦ (let is : buffer_size f.node.value ≡ t.size = fetched.root root in omega arith)
       | inr more ↦ omega arith
     ]
 
 -- more than 16,384 bytes, where so many wait in the root
-much_waits : (t : Table) (f : Fetched) → soft_limit < t.size → IsFetched t f → IsHigh t f → soft_limit < buffer_size f.node.value
-much_waits t f waits fetched high =
-    elim high.full [
+much_waits : (t : Table) (f : Fetched) → soft_limit < t.size → IsFetched t f → IsFull t f → soft_limit < buffer_size f.node.value
+much_waits t f waits fetched full =
+    elim full [
       | inl root ↦ (let is : buffer_size f.node.value ≡ t.size = fetched.root root in omega arith)
       | inr more ↦ more
     ]
 
 -- messages wait for the fullest edge
-waits_for : (t : Table) (parent : Fetched) (place : ℕ) (e : Edge) → 1 ≤ t.size → IsFetched t parent → IsHigh t parent → IsFullestAt parent.node.value place → IsEdgeAt parent.node.value place e → SomeCanTouch e (end_at parent.node.value place) (unseen parent.node.value e)
-waits_for t parent place e waits fetched high full here =
-    pending_waits parent.node.value place e (fullest_waits parent.node.value fetched.own.shape (some_wait t parent waits fetched high) place full e here)
+waits_for : (t : Table) (parent : Fetched) (place : ℕ) (e : Edge) → 1 ≤ t.size → IsFetched t parent → IsFullestIn t parent place → IsEdgeAt parent.node.value place e → SomeCanTouch e (end_at parent.node.value place) (unseen parent.node.value e)
+waits_for t parent place e waits fetched most here =
+    pending_waits parent.node.value place e (fullest_waits parent.node.value fetched.own.shape (some_wait t parent waits fetched most.full) place most.fullest e here)
 
 -- what may go down to the edge's child
 goes_to : (t : Table) (n : Node) (place : ℕ) (e : Edge) (o : Option ℕ) → e.child ≡ o → AllGoDown t.level (child_level t.level e.child) n place e → AllGoDown t.level (child_level t.level o) n place e
@@ -55,54 +55,54 @@ goes_to t n place e o is h = subst (λ (x : Option ℕ). AllGoDown t.level (chil
 
 pub can_push : (t : Table) (above : List Fetched) (parent : Fetched) (place : ℕ) (child : Fetched) → 1 ≤ t.size → IsToDo t (Push above parent place (Some child)) → CanPush t parent place child
 can_push t above parent place child waits h = record {
-  parent_is = h.0.parent_is;
-  child_is = h.0.target.1;
-  under = h.1.under;
-  room = h.0.room;
-  edge = h.0.edge;
-  way = h.0.target.0;
-  some = waits_for t parent place h.0.edge waits h.0.parent_is h.1 h.0.fullest h.0.target.0.here;
-  down = goes_to t parent.node.value place h.0.edge (Some child.id) h.0.target.0.child_is h.0.down;
-  once = h.0.target.2;
-  soft = h.0.target.3;
+  parent_is = h.0.0.parent_is;
+  child_is = h.0.0.target.1;
+  under = h.0.1;
+  room = h.0.0.room;
+  edge = h.0.0.edge;
+  way = h.0.0.target.0;
+  some = waits_for t parent place h.0.0.edge waits h.0.0.parent_is h.1 h.0.0.target.0.here;
+  down = goes_to t parent.node.value place h.0.0.edge (Some child.id) h.0.0.target.0.child_is h.0.0.down;
+  once = h.0.0.target.2;
+  soft = h.0.0.target.3;
 }
 
 pub can_push_new : (t : Table) (above : List Fetched) (parent : Fetched) (place : ℕ) → 1 ≤ t.size → IsToDo t (Push above parent place None) → CanPushNew t parent place
 can_push_new t above parent place waits h = record {
-  parent_is = h.0.parent_is;
-  edge = h.0.edge;
-  here = h.0.target.0;
-  bare = h.0.target.1;
+  parent_is = h.0.0.parent_is;
+  edge = h.0.0.edge;
+  here = h.0.0.target.0;
+  bare = h.0.0.target.1;
   waiting = record {
-    some = waits_for t parent place h.0.edge waits h.0.parent_is h.1 h.0.fullest h.0.target.0;
-    plain = all_plain t.level parent.node.value place h.0.edge (goes_to t parent.node.value place h.0.edge None h.0.target.1 h.0.down);
+    some = waits_for t parent place h.0.0.edge waits h.0.0.parent_is h.1 h.0.0.target.0;
+    plain = all_plain t.level parent.node.value place h.0.0.edge (goes_to t parent.node.value place h.0.0.edge None h.0.0.target.1 h.0.0.down);
   };
 }
 
 pub can_carve : (t : Table) (above : List Fetched) (parent : Fetched) (place : ℕ) → IsToDo t (Carve above parent place) → CanCarve t parent place
 can_carve t above parent place h = record {
-  parent_is = h.0.parent_is;
-  room = h.0.room;
-  edge = h.0.edge;
-  here = h.0.here;
-  held = h.0.held;
+  parent_is = h.0.0.parent_is;
+  room = h.0.0.room;
+  edge = h.0.0.edge;
+  here = h.0.0.here;
+  held = h.0.0.held;
 }
 
 pub has_child : (t : Table) (above : List Fetched) (parent : Fetched) (place : ℕ) → IsToDo t (Privatise above parent place) → HasChild t parent place
 has_child t above parent place h = record {
-  parent_is = h.0.parent_is;
-  edge = h.0.edge;
-  here = h.0.here;
-  child = h.0.child;
-  child_is = h.0.child_is;
+  parent_is = h.0.0.parent_is;
+  edge = h.0.0.edge;
+  here = h.0.0.here;
+  child = h.0.0.child;
+  child_is = h.0.0.child_is;
 }
 
 pub privatise_few : (t : Table) (above : List Fetched) (parent : Fetched) (place before now : ℕ) → IsToDo t (Privatise above parent place) → ((e : Edge) (child : ℕ) → IsEdgeAt parent.node.value place e → e.child ≡ Some child → now ≤ before + (2 + 17 * t.level child))
     → now ≤ before + (4 + 17 * t.level t.root)
 privatise_few t above parent place before now h few =
-    let visits : now ≤ before + (2 + 17 * t.level h.0.child) = few h.0.edge h.0.child h.0.here h.0.child_is in
-    let lower : t.level h.0.child < t.level parent.id = (child_lower t parent place h.0.child h.0.edge h.0.parent_is h.0.here h.0.child_is).lower in
-    let under : t.level parent.id ≤ t.level t.root = h.1.under in
+    let visits : now ≤ before + (2 + 17 * t.level h.0.0.child) = few h.0.0.edge h.0.0.child h.0.0.here h.0.0.child_is in
+    let lower : t.level h.0.0.child < t.level parent.id = (child_lower t parent place h.0.0.child h.0.0.edge h.0.0.parent_is h.0.0.here h.0.0.child_is).lower in
+    let under : t.level parent.id ≤ t.level t.root = h.0.1 in
     omega arith
 
 -- ---- abundance
@@ -115,21 +115,21 @@ abundant_in (Inner level edges buffer) shape more place full = record {
   many = abundant level edges buffer shape more place full.bytes full.fullest;
 }
 
-abundant_at : (t : Table) (parent : Fetched) (place : ℕ) → soft_limit < t.size → IsFetched t parent → IsHigh t parent → IsFullestAt parent.node.value place → IsAbundantAt parent.node.value place
-abundant_at t parent place more fetched high full =
-    abundant_in parent.node.value fetched.own.shape (much_waits t parent more fetched high) place full
+abundant_at : (t : Table) (parent : Fetched) (place : ℕ) → soft_limit < t.size → IsFetched t parent → IsFullestIn t parent place → IsAbundantAt parent.node.value place
+abundant_at t parent place more fetched most =
+    abundant_in parent.node.value fetched.own.shape (much_waits t parent more fetched most.full) place most.fullest
 
 pub is_abundant : (t : Table) (step : FlushStep) → IsToDo t step → soft_limit < t.size → IsAbundant step
 is_abundant t (SplitRoot root) h more = tt
-is_abundant t (SplitChild above parent place child) h more = abundant_at t parent place more h.0.parent_is h.3 h.1
-is_abundant t (Push above parent place child) h more = abundant_at t parent place more h.0.parent_is h.1 h.0.fullest
-is_abundant t (Privatise above parent place) h more = abundant_at t parent place more h.0.parent_is h.1 h.0.fullest
-is_abundant t (Carve above parent place) h more = abundant_at t parent place more h.0.parent_is h.1 h.0.fullest
+is_abundant t (SplitChild above parent place child) h more = abundant_at t parent place more h.0.0.parent_is h.1
+is_abundant t (Push above parent place child) h more = abundant_at t parent place more h.0.0.parent_is h.1
+is_abundant t (Privatise above parent place) h more = abundant_at t parent place more h.0.0.parent_is h.1
+is_abundant t (Carve above parent place) h more = abundant_at t parent place more h.0.0.parent_is h.1
 
 -- ---- the whole step
 
 pub root_found : (nodes : Nodes) (t : Table) (root : Fetched) (n : Node) → n ≡ root.node.value → IsToDo t (SplitRoot root) → IsToDoAt nodes t (SplitRoot root) → nodes t.root ≡ Some n
-root_found nodes t root n same to_do here = ap nodes (sym to_do.1) ∙ (here.there ∙ ap (λ (m : Node). Some m) (sym same))
+root_found nodes t root n same to_do here = ap nodes (sym to_do.0.1) ∙ (here.there ∙ ap (λ (m : Node). Some m) (sym same))
 
 pub here_again : (nodes mid : Nodes) (t m : Table) (step : FlushStep) → mid ≡ nodes → m ≡ t → IsSound mid m → (IsSound nodes t → IsToDoAt nodes t step) → IsToDoAt mid m step
 here_again nodes mid t m step same table sound here =

@@ -8,12 +8,12 @@ use Rattle.bd_flush.proofs.Down.{is_next, next_there, way_more}
 use Rattle.bd_flush.proofs.ways.look_below.Goals as goal
 
 pub returns-then-buffer_size-le-SOFT_BUFFER-clause-seen : goal.returns-then-buffer_size-le-SOFT_BUFFER-clause-seen
-returns-then-buffer_size-le-SOFT_BUFFER-clause-seen g c = λ room fullest e way once high.
+returns-then-buffer_size-le-SOFT_BUFFER-clause-seen g c = λ room e way once under.
     let few : buffer_size c.args.child.node.value ≤ soft_limit = omega (arith, c.buffer_size.ensures, ap buffer_size c.deref.ensures) in
-    c.push_or_carve.ensures.to_do room fullest e (way, c.requires.child, once, few) high
+    (c.push_or_carve.ensures.due room e (way, c.requires.child, once, few) under, c.push_or_carve.ensures.here)
 
 pub returns-then-edges_of-lt-MANY_EDGES-clause-seen : goal.returns-then-edges_of-lt-MANY_EDGES-clause-seen
-returns-then-edges_of-lt-MANY_EDGES-clause-seen g c = λ room fullest e way once high.
+returns-then-edges_of-lt-MANY_EDGES-clause-seen g c = λ room e way once under.
     let waits : soft_limit < buffer_size c.args.child.node.value = omega (arith, c.buffer_size.ensures, ap buffer_size c.deref.ensures) in
     is_next (g.S.NodeStore.table c.args.store.now) c.args.parent c.args.place c.args.child e c.requires.fetched way c.requires.child waits
     (omega (arith, ap (λ (l : List Edge). length l) (c.edges_of.ensures ∙ ap edges_of c.deref-2.ensures)))

@@ -4,7 +4,8 @@ use Rattle.bd_node.specs.Tables.{IsSound}
 use Rattle.bd_inner.specs.Halves.{edges_of}
 use Rattle.bd_flush.specs.Children.{IsFetched}
 use Rattle.bd_flush.specs.Raising.{IsWayUp}
-use Rattle.bd_flush.specs.Ways.{IsHigh, IsThere, AreThere}
+use Rattle.bd_flush.specs.Ways.{IsThere, AreThere}
+use Rattle.bd_flush.proofs.Down.{IsHigh}
 use Rattle.bd_flush.proofs.ways.next_step.Given as goal
 
 abbrev pub invariant-loop-nodes : goal.invariant-loop-nodes

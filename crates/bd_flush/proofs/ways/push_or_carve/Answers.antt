@@ -1,10 +1,10 @@
 use Rattle.bd_flush.proofs.Down.{to_carve, to_push}
 use Rattle.bd_flush.proofs.ways.push_or_carve.Goals as goal
 
-pub returns-in-Some-clause-to_do : goal.returns-in-Some-clause-to_do
-returns-in-Some-clause-to_do g c = λ room fullest e target high.
-    (to_carve (g.S.NodeStore.table c.args.store.now) c.args.parent c.args.place c.in-Some.field-0 c.args.child c.in-Some.ensures.some c.requires.fetched room fullest e target, high)
+pub returns-in-Some-clause-due : goal.returns-in-Some-clause-due
+returns-in-Some-clause-due g c = λ room e target under.
+    (to_carve (g.S.NodeStore.table c.args.store.now) c.args.parent c.args.place c.in-Some.field-0 c.args.child c.in-Some.ensures.some c.requires.fetched room e target, under)
 
-pub returns-in-None-clause-to_do : goal.returns-in-None-clause-to_do
-returns-in-None-clause-to_do g c = λ room fullest e target high.
-    (to_push (g.S.NodeStore.table c.args.store.now) c.args.parent c.args.place c.args.child (c.held_goto.ensures.none c.in-None.is) c.requires.fetched room fullest e target, high)
+pub returns-in-None-clause-due : goal.returns-in-None-clause-due
+returns-in-None-clause-due g c = λ room e target under.
+    (to_push (g.S.NodeStore.table c.args.store.now) c.args.parent c.args.place c.args.child (c.held_goto.ensures.none c.in-None.is) c.requires.fetched room e target, under)
