@@ -1,11 +1,10 @@
 -- Which messages decide all keys of a range.
-use Rattle.std.proofs.Common.{◌≡◌, ◌↔◌, ℕ, ◌+◌, ◌<◌, ◌≤◌, Bool, true, false, not, ◌&&◌, List, [], ◌∷◌, ◌++◌, length, take, drop, get_or, refl, sym, ap, subst, ◌∙◌, Option, None, Some, IsTrue, arith, inl, inr, ◌⊎◌, Less}
-use Rattle.std.specs.Prelude.{slice_get, MatchOption}
-use Rattle.std.specs.Ordering.{is_lt}
+use Rattle.std.proofs.Common.{◌≡◌, ◌↔◌, ℕ, ◌+◌, ◌<◌, ◌≤◌, Bool, true, false, not, List, [], ◌++◌, length, take, drop, sym, ap, subst, ◌∙◌, Option, Some, IsTrue, arith, inl, inr}
+use Rattle.std.specs.Prelude.{slice_get}
 use Rattle.std.proofs.lemmas.Bool.{and_parts, and_from, cases_eq}
 use Rattle.std.proofs.lemmas.List.{take-take, length-take-le}
-use Rattle.std.proofs.lemmas.Option.{same_Some, none-some, slice_get_within, slice_get_read}
-use Rattle.bd_keys.specs.Keys.{key_cmp, IsKey, IsBelow, IsBelowEnd, IsAtLeast, InRange, Begins, IsCommon, IsLift}
+use Rattle.std.proofs.lemmas.Option.{same_Some, slice_get_within}
+use Rattle.bd_keys.specs.Keys.{key_cmp, IsKey, IsBelowEnd, IsAtLeast, Begins, IsCommon, IsLift}
 use Rattle.bd_keys.proofs.Order.{not_below_itself, below_from}
 use Rattle.bd_message.specs.declared.message.Message.{Message}
 use Rattle.bd_message.specs.declared.message.Message.TheVariants.{Put, Del, Patch, Cut, Goto}

@@ -1,12 +1,12 @@
 -- Nodes with what a message makes of an edge all of whose keys it decides.
-use Rattle.std.proofs.Common.{◌≡◌, ℕ, zero, suc, ◌+◌, ◌^◌, ◌<◌, ◌≤◌, cond, List, [], ◌∷◌, length, take, drop, get_or, refl, sym, ap, subst, ◌∙◌, Option, None, Some, true, ◌++◌, arith, inl, inr, add-one, Result, Ok, Err}
+use Rattle.std.proofs.Common.{◌≡◌, ℕ, zero, suc, ◌+◌, ◌^◌, ◌<◌, ◌≤◌, List, [], ◌∷◌, length, drop, get_or, refl, sym, ap, subst, ◌∙◌, Option, None, Some, true, ◌++◌, arith, inl, inr, add-one, Result, Ok, Err}
 use Rattle.std.specs.Prelude.{slice_get, IfOk}
 use Rattle.std.specs.List.{flat_map}
 use Rattle.std.proofs.lemmas.Bool.{cases_eq, cond-true}
 use Rattle.std.proofs.lemmas.List.{length-append}
 use Rattle.std.proofs.lemmas.Option.{same_Some, none-some, slice_get_within, get_or_from_slice_get}
-use Rattle.bd_limits.specs.Limits.{key_limit, edge_limit}
-use Rattle.bd_keys.specs.Keys.{IsKey, InRange, Begins, IsCommon}
+use Rattle.bd_limits.specs.Limits.{edge_limit}
+use Rattle.bd_keys.specs.Keys.{IsKey, IsCommon}
 use Rattle.bd_message.specs.declared.message.Message.{Message}
 use Rattle.bd_message.specs.declared.message.Message.TheVariants.{Put, Del, Patch, Cut, Goto}
 use Rattle.bd_message.specs.Messages.{IsMessage}
@@ -16,12 +16,12 @@ use Rattle.bd_node.specs.declared.node.Edge.{Edge}
 use Rattle.bd_node.specs.declared.node.Node.{Node}
 use Rattle.bd_node.specs.declared.node.Node.TheVariants.{Leaf, Inner}
 use Rattle.bd_node.specs.Touching.{touches}
-use Rattle.bd_node.specs.Nodes.{level_of, buffer_size, message_names, edge_names, times, edge_of, child_at, edge_at, through, node_at}
+use Rattle.bd_node.specs.Nodes.{level_of, buffer_size, message_names, edge_names, times, child_at, edge_at, node_at}
 use Rattle.bd_node.specs.Shape.{IsEdge, IsShape}
 use Rattle.bd_node.proofs.Lookup.{count-cons_other}
 use Rattle.bd_inner.specs.Compaction.{IsCompacted}
 use Rattle.bd_inner.specs.Halves.{edges_of, buffer_of}
-use Rattle.bd_inner.specs.Exchange.{exchanged, end_at, IsKeyOf, IsEdgeAt, FitsAt}
+use Rattle.bd_inner.specs.Exchange.{exchanged, end_at, IsEdgeAt, FitsAt}
 use Rattle.bd_inner.proofs.CarvingOwned.{begins_front}
 use Rattle.bd_inner.proofs.Compacting.{count_names, count_names-append, compacted_shape, compacted_level, compacted_meaning, compacted_times}
 use Rattle.bd_inner.proofs.Exchanged.{in_range, exchanged_shape, meaning_before, meaning_inside, meaning_outside}

@@ -1,6 +1,5 @@
 -- How much is left to change falls.
-use Rattle.std.proofs.Common.{◌≡◌, ℕ, zero, suc, ◌+◌, ◌-◌, ◌<◌, ◌≤◌, Bool, true, false, cond, List, [], ◌∷◌, ◌++◌, length, take, drop, map, count_by, refl, sym, ap, subst, ◌∙◌, Option, None, Some, arith, inl, inr, length-drop}
-use Rattle.std.specs.Prelude.{slice_get}
+use Rattle.std.proofs.Common.{◌≡◌, ℕ, zero, suc, ◌+◌, ◌<◌, ◌≤◌, Bool, true, false, cond, List, [], ◌∷◌, ◌++◌, length, take, drop, map, count_by, sym, ap, subst, ◌∙◌, arith, inl, inr, length-drop}
 use Rattle.std.specs.List.{sum_by}
 use Rattle.std.proofs.lemmas.Bool.{cases_eq}
 use Rattle.std.proofs.lemmas.List.Sums.{sum_by-cons, sum_by-append}
@@ -11,9 +10,7 @@ use Rattle.bd_node.specs.declared.node.Edge.{Edge}
 use Rattle.bd_node.specs.declared.node.Node.{Node}
 use Rattle.bd_node.specs.declared.node.Node.TheVariants.{Leaf, Inner}
 use Rattle.bd_node.specs.Tables.{sum_below}
-use Rattle.bd_inner.specs.Compaction.{staying, lowered, IsSwept}
-use Rattle.bd_inner.specs.Halves.{edges_of, buffer_of}
-use Rattle.bd_inner.specs.Exchange.{exchanged, IsEdgeAt}
+use Rattle.bd_inner.specs.Compaction.{staying, lowered}
 use Rattle.bd_inner.proofs.Compacting.{stay_count}
 use Rattle.bd_inner.proofs.Exchanged.{at_place}
 use Rattle.bd_reclaim.specs.declared.covering.Cover.{Cover}

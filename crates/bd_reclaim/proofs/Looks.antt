@@ -4,7 +4,7 @@ use Rattle.std.specs.Prelude.{slice_get, MatchOption, IfOk, IfSome}
 use Rattle.std.specs.List.{flat_map}
 use Rattle.std.specs.Option.{option_to_list}
 use Rattle.std.proofs.lemmas.Bool.{cases_eq}
-use Rattle.std.proofs.lemmas.Option.{same_Some, none-some, slice_get_within, slice_get_read}
+use Rattle.std.proofs.lemmas.Option.{same_Some, slice_get_read}
 use Rattle.bd_node.specs.declared.node.Edge.{Edge}
 use Rattle.bd_node.specs.declared.node.Node.{Node}
 use Rattle.bd_node.specs.Nodes.{edge_names, names, times}
@@ -12,17 +12,17 @@ use Rattle.bd_node.specs.Meaning.{Nodes}
 use Rattle.bd_node.specs.Shape.{IsShape}
 use Rattle.bd_node.specs.Private.{IsPrivate}
 use Rattle.bd_node.specs.Private.IsPrivate.{alone}
-use Rattle.bd_node.specs.Tables.{Table, IsKept, IsLower, IsSound}
+use Rattle.bd_node.specs.Tables.{Table, IsLower, IsSound}
 use Rattle.bd_node.proofs.Lookup.{named_has}
 use Rattle.bd_node.proofs.Privacy.{root_private}
 use Rattle.bd_node.proofs.Sound.{node_of}
-use Rattle.bd_inner.specs.Halves.{edges_of, buffer_of}
+use Rattle.bd_inner.specs.Halves.{edges_of}
 use Rattle.bd_inner.specs.Exchange.{exchanged, IsEdgeAt}
 use Rattle.bd_inner.proofs.Compacting.{count_names}
 use Rattle.bd_flush.specs.declared.fetching.Fetched.{Fetched}
 use Rattle.bd_flush.specs.Children.{IsFetched}
 use Rattle.bd_flush.specs.Pushes.{IsOwn}
-use Rattle.bd_flush.proofs.ChildSplits.{edge_within, edge_here, times_exchanged, exchanged_same, inner_of, count_own}
+use Rattle.bd_flush.proofs.ChildSplits.{edge_within, times_exchanged, exchanged_same, inner_of, count_own}
 use Rattle.bd_reclaim.specs.declared.covering.Cover.{Cover}
 use Rattle.bd_reclaim.specs.declared.covering.Cover.TheVariants.{Gone, Elsewhere}
 use Rattle.bd_reclaim.specs.declared.walking.Reclaim.{Reclaim}

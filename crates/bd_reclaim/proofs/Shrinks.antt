@@ -1,6 +1,6 @@
 -- The commit that makes another node the root.
-use Rattle.std.proofs.Common.{◌≡◌, ℕ, zero, suc, ◌+◌, ◌-◌, ◌<◌, ◌≤◌, Bool, true, false, cond, List, [], ◌∷◌, ◌++◌, length, drop, refl, sym, ap, subst, ◌∙◌, Option, None, Some, arith, inl, inr, Result, Ok, Err}
-use Rattle.std.specs.Prelude.{OnOk, OnErr, slice_get}
+use Rattle.std.proofs.Common.{◌≡◌, ℕ, zero, suc, ◌+◌, ◌<◌, ◌≤◌, List, [], ◌∷◌, ◌++◌, drop, refl, sym, ap, subst, ◌∙◌, Option, None, Some, arith, inl, inr, Result, Ok, Err}
+use Rattle.std.specs.Prelude.{OnOk}
 use Rattle.std.proofs.lemmas.Bool.{cases_eq, cases_lt, cases_Bool, cond-true, cond-false}
 use Rattle.std.proofs.lemmas.Option.{none-some}
 use Rattle.bd_message.specs.declared.message.Message.{Message}
@@ -8,16 +8,15 @@ use Rattle.bd_message.specs.Effect.{NodesAt, acts}
 use Rattle.bd_node.specs.declared.node.Edge.{Edge}
 use Rattle.bd_node.specs.declared.node.Node.{Node}
 use Rattle.bd_node.specs.declared.node.Node.TheVariants.{Leaf, Inner}
-use Rattle.bd_node.specs.Nodes.{is_key, edge_of, child_at, edge_at, through, node_at, node_has}
+use Rattle.bd_node.specs.Nodes.{is_key, edge_of, child_at, edge_at, through, node_at}
 use Rattle.bd_node.specs.Meaning.{Nodes, at}
-use Rattle.bd_node.specs.Tables.{Table, IsKept, IsTable, IsLower, IsSound, sum_below}
-use Rattle.bd_node.specs.Steps.{given, level_or, level_after, IsInPlace, IsTableAfter, IsCommitted}
+use Rattle.bd_node.specs.Tables.{Table, IsKept, IsLower, IsSound, sum_below}
+use Rattle.bd_node.specs.Steps.{given, level_or, IsInPlace, IsTableAfter, IsCommitted}
 use Rattle.bd_node.proofs.Meanings.{at-meets, at-others}
 use Rattle.bd_node.proofs.Privacy.{root_private}
 use Rattle.bd_node.proofs.Sound.{sound-levelled}
 use Rattle.bd_node.proofs.Stepping.{given-old, given-new, after-none, isolated_none}
 use Rattle.bd_node.proofs.Closing.{stay_above}
-use Rattle.bd_inner.specs.Halves.{edges_of, buffer_of}
 use Rattle.bd_reclaim.specs.Walks.{IsThinWay, IsThin}
 use Rattle.bd_reclaim.specs.Reclaimed.{IsReclaimed, IsShrunk, root_only, unseen_in, left_over}
 use Rattle.bd_reclaim.proofs.Falls.{sum_no_more}

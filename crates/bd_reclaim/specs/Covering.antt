@@ -6,14 +6,15 @@ use Rattle.bd_message.specs.declared.message.Message.TheVariants.{Put, Del, Patc
 use Rattle.bd_node.specs.declared.node.Edge.{Edge}
 use Rattle.bd_node.specs.declared.node.Node.{Node}
 use Rattle.bd_node.specs.Touching.{touches}
-use Rattle.bd_inner.specs.Halves.{edges_of, buffer_of, bare_edge}
+use Rattle.bd_inner.specs.Halves.{buffer_of, bare_edge}
 use Rattle.bd_inner.specs.Carving.{from_key, goto_edge}
 use Rattle.bd_inner.specs.Compaction.{IsCompacted}
 use Rattle.bd_inner.specs.Exchange.{exchanged, end_at, IsEdgeAt}
 use Rattle.bd_reclaim.specs.declared.covering.Cover.{Cover}
 use Rattle.bd_reclaim.specs.declared.covering.Cover.TheVariants.{Gone, Elsewhere}
 
--- the message says so of its keys: a Cut that nothing stands there, a Goto that another node is asked
+-- the message says so of its keys: a Cut that nothing stands there, a Goto that another node is
+-- asked
 abbrev pub Says : Cover → Message → Type 0
 Says Gone (Put key value) = ⊥
 Says Gone (Del key) = ⊥
@@ -41,8 +42,8 @@ NoneDecides cover buffer e hi =
     (i : ℕ) (m : Message) → slice_get buffer i ≡ Some m → ¬ Decides cover i m e hi
 
 -- the newest one that does stands at this place
-pub record IsNewest (cover : Cover) (buffer : List Message) (e : Edge) (hi : Option (List ℕ)) (at : ℕ)
-    : Type 0 where
+pub record IsNewest (cover : Cover) (buffer : List Message) (e : Edge) (hi : Option (List ℕ))
+    (at : ℕ) : Type 0 where
   pub message : Message
   pub there : slice_get buffer at ≡ Some message
   pub decides : Decides cover at message e hi
@@ -51,8 +52,8 @@ pub record IsNewest (cover : Cover) (buffer : List Message) (e : Edge) (hi : Opt
 
 -- ---- of a node
 
--- the message at a place of a node's buffer decides all keys of the edge at a place, which hasn't seen
--- it
+-- the message at a place of a node's buffer decides all keys of the edge at a place, which hasn't
+-- seen it
 pub record IsCovered (cover : Cover) (n : Node) (place at : ℕ) : Type 0 where
   pub edge : Edge
   pub here : IsEdgeAt n place edge
@@ -79,8 +80,8 @@ decided_edge e at (Patch key off bytes) = e
 decided_edge e at (Cut prefix from) = bare_edge e.pivot (at + 1)
 decided_edge e at (Goto prefix source child) = from_key (goto_edge at prefix source child) e.pivot
 
--- the node `m` is `n` with what the message at a place makes of the edge at a place, and without the
--- messages that are then pending for no edge
+-- the node `m` is `n` with what the message at a place makes of the edge at a place, and without
+-- the messages that are then pending for no edge
 pub record IsDecided (n : Node) (place at : ℕ) (m : Node) : Type 0 where
   pub edge : Edge
   pub here : IsEdgeAt n place edge

@@ -16,9 +16,9 @@ use Rattle.bd_reclaim.specs.declared.walking.Reclaim.{Reclaim}
 use Rattle.bd_reclaim.specs.declared.walking.Reclaim.TheVariants.{Shrink, Drop, Carve}
 use Rattle.bd_reclaim.specs.Covering.{IsDecided}
 
--- what a change leaves: the tree has what it had, in sound nodes, and none is made; only nodes on the
--- one way from the root to a private node are changed or let go with what they alone named, and each
--- other one that stays is untouched; the root is no higher
+-- what a change leaves: the tree has what it had, in sound nodes, and none is made; only nodes on
+-- the one way from the root to a private node are changed or let go with what they alone named, and
+-- each other one that stays is untouched; the root is no higher
 pub record IsReclaimed (nodes : Nodes) (t : Table) (new : Nodes) (u : Table) : Type 0 where
   pub same : (k : List ℕ) → root_at new u k ≡ root_at nodes t k
   pub sound : IsSound new u
@@ -29,8 +29,8 @@ pub record IsReclaimed (nodes : Nodes) (t : Table) (new : Nodes) (u : Table) : T
       → IsUntouched nodes new id
   pub no_higher : u.level u.root ≤ t.level t.root
 
--- the node has what the message at a place makes of its edge at a place, and all others that stay are
--- what they were
+-- the node has what the message at a place makes of its edge at a place, and all others that stay
+-- are what they were
 pub record IsDecidedAt (nodes : Nodes) (node : Fetched) (place at : ℕ) (new : Nodes) (u : Table)
     : Type 0 where
   pub made : Node

@@ -10,7 +10,6 @@ use Rattle.bd_inner.specs.Exchange.{IsEdgeAt}
 use Rattle.bd_flush.specs.declared.fetching.Fetched.{Fetched}
 use Rattle.bd_flush.specs.Children.{IsFetched}
 use Rattle.bd_flush.specs.Pushes.{IsOwn}
-use Rattle.bd_reclaim.specs.declared.covering.Cover.{Cover}
 use Rattle.bd_reclaim.specs.declared.covering.Cover.TheVariants.{Gone, Elsewhere}
 use Rattle.bd_reclaim.specs.declared.walking.Reclaim.{Reclaim}
 use Rattle.bd_reclaim.specs.declared.walking.Reclaim.TheVariants.{Shrink, Drop, Carve}
@@ -50,8 +49,8 @@ walk_size nodes t (suc depth) id =
 
 -- ---- what is to be changed at a node
 
--- a node adds nothing to a child: it has one edge, which leaves out nothing of a key and puts nothing
--- in front, and nothing waits in it
+-- a node adds nothing to a child: it has one edge, which leaves out nothing of a key and puts
+-- nothing in front, and nothing waits in it
 pub record IsThinWay (n : Node) (child : ℕ) : Type 0 where
   pub edge : Edge
   pub only : edges_of n ≡ edge ∷ []

@@ -1,4 +1,5 @@
-//! What follows from the definitions of reclaiming. Each function here carries laws, and does nothing.
+//! What follows from the definitions of reclaiming. Each function here carries laws, and does
+//! nothing.
 
 ghost use Rattle.std.specs.Prelude.{◌≡◌, ℕ, Some};
 ghost use Rattle.bd_node.specs.declared.node.Node.{Node};

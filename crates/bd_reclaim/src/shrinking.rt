@@ -14,8 +14,8 @@ use std::alloc::Global;
 
 /// Makes an inner node the root to which the root adds nothing. No node is fetched or made.
 pub fn shrink<S: NodeStore>(alloc: Global, store: &mut S, child: u64) -> Result<(), MapFault>
-    requires lower { IsLower (S.table store.old) ((S.table store.old).level (S.table store.old).root)
-        child }
+    requires lower { IsLower (S.table store.old)
+        ((S.table store.old).level (S.table store.old).root) child }
     requires inner { 1 ≤ (S.table store.old).level child }
     requires thin { S.is_known store.old → IsSound (S.nodes store.old) (S.table store.old)
         → (n : Node) × (S.nodes store.old (S.table store.old).root ≡ Some n)

@@ -38,9 +38,9 @@ pub enum Reclaim {
     },
 }
 
-/// The first change that is still to be made, and none exactly where there is none. The walk looks at
-/// the root, and at each inner node that an edge of such a node asks and that nothing else names: at
-/// each node first, and then below its edges, in their order. Nothing is changed. At most those
+/// The first change that is still to be made, and none exactly where there is none. The walk looks
+/// at the root, and at each inner node that an edge of such a node asks and that nothing else names:
+/// at each node first, and then below its edges, in their order. Nothing is changed. At most those
 /// nodes are visited, each once.
 pub fn reclaim_next<S: NodeStore>(store: &mut S) -> Result<Option<Reclaim>, MapFault>
     ensures first { S.is_known store.old → IsSound (S.nodes store.old) (S.table store.old)
@@ -127,7 +127,8 @@ fn look_at<S: NodeStore>(store: &S, here: Fetched) -> Look
 // The child of a node that adds nothing to it, an inner node.
 fn thin_child<S: NodeStore>(store: &S, here: &Fetched) -> Option<u64>
     requires { IsFetched (S.table store.now) here.now }
-    ensures { MatchOption result ((child : ℕ) → ¬ IsThin (S.table store.now) here.now.node.value child)
+    ensures { MatchOption result
+        ((child : ℕ) → ¬ IsThin (S.table store.now) here.now.node.value child)
         (IsThin (S.table store.now) here.now.node.value) }
 {
     let child = only_child(&here.node)?;

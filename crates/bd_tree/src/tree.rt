@@ -230,7 +230,8 @@ impl<S: NodeStore> Tree<S> {
         ensures first { S.is_known self.old.store
             → IsSound (S.nodes self.old.store) (S.table self.old.store)
             → IfOk result (λ found. MatchOption found
-            (HasNone (S.nodes self.old.store) (S.table self.old.store) (S.table self.old.store).root)
+            (HasNone (S.nodes self.old.store) (S.table self.old.store)
+            (S.table self.old.store).root)
             (λ step. IsFirst (S.nodes self.old.store) (S.table self.old.store) step
             (S.table self.old.store).root)) }
         ensures to_do { IfOk result (λ found. IfSome found (IsToDo (S.table self.old.store))) }

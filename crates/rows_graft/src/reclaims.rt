@@ -131,7 +131,22 @@ fn nodes_go_with_their_keys(rt: HostRuntime) -> Result<(), Fail> {
         calls(rt.alloc(), &mut both, then)?;
         assert_eq!(rt; both.same_keys(rt.alloc())?, Some(*keys), "{label}");
         let (_, after) = counted(rt.alloc(), both)?;
-        assert!(rt; after <= before + 3, "{label}: {before} {after}");
+        assert!(rt;
+            after.saturating_sub(before) <= 3,
+            "{label}: {before} {after}"
+        );
     }
+    Ok(())
+}
+
+#[test]
+fn a_root_that_adds_nothing_goes(rt: HostRuntime) -> Result<(), Fail> {
+    let mut both = Both::new(rt.alloc())?;
+    fill(rt.alloc(), &mut both, "a/")?;
+    let height = both.tree.height();
+    both.graft(b"", b"", true)?;
+    let higher = both.tree.height();
+    reclaim(&mut both.tree)?;
+    assert_eq!(rt; (height, higher, both.tree.height()), (2, 3, 2));
     Ok(())
 }

@@ -1,4 +1,4 @@
-use Rattle.std.proofs.Common.{rules, ◌≡◌, ◌+◌, ◌∙◌, ℕ, ◌<◌, sym, ap, subst, arith, None, Some}
+use Rattle.std.proofs.Common.{rules, ◌≡◌, ◌+◌, ◌∙◌, ◌<◌, sym, ap, subst, arith, None, Some}
 use Rattle.bd_node.specs.Tables.{Table, IsKept, IsLower}
 use Rattle.bd_reclaim.specs.Walks.{IsWalked, IsClean, IsFirstAt}
 use Rattle.bd_reclaim.proofs.Looks.{edges_are, first_here, none_past, none_of_child, edge_read, edge_lower, first_below, none_at_end, as_found, still_sound}

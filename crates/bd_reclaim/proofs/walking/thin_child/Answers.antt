@@ -1,7 +1,3 @@
-use Rattle.std.proofs.Common.{ℕ, sym, subst}
-use Rattle.std.specs.Prelude.{MatchOption}
-use Rattle.bd_node.specs.declared.node.Node.{Node}
-use Rattle.bd_reclaim.specs.Walks.{IsThinWay}
 use Rattle.bd_reclaim.proofs.Looks.{no_thin}
 use Rattle.bd_reclaim.proofs.walking.thin_child.Goals as goal
 
