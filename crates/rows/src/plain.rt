@@ -8,7 +8,8 @@ use bd_script::{Line, LineFault, REPLY_SIZE, read_line, reply};
 use std::alloc::Global;
 use std::test::Fail;
 
-const LINES: &[(&str, &str)] = &[
+/// Lines that take each command, and lines that are none, with their replies.
+pub const LINES: &[(&str, &str)] = &[
     ("mkdir /d", "ok"),
     ("create /d/f", "ok"),
     ("write /d/f 2 6869", "ok"),

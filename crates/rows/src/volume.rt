@@ -1,6 +1,6 @@
 //! A volume and the plain program answer lines alike, which are made by a fixed rule.
 
-use crate::plain::text_of;
+use crate::plain::{LINES, text_of};
 use bd_device::MemDevice;
 use bd_limits::MAX_WRITE;
 use bd_plain::PlainTree;
@@ -103,15 +103,32 @@ fn alike(
 }
 
 #[test]
+fn a_volume_takes_each_command(rt: HostRuntime) -> Result<(), Fail> {
+    let mut volume = started(rt.alloc())?;
+    for (line, want) in LINES {
+        if let Ok(Line::Run(command)) = read_line(rt.alloc(), line.as_bytes()) {
+            let found = volume.do_command(rt.alloc(), &command)?;
+            let found = text_of(rt.alloc(), &found)?;
+            assert_eq!(rt; found.as_str(), *want, "{line}");
+        }
+    }
+    Ok(())
+}
+
+/// Enough lines that the tree becomes three nodes high.
+#[test]
 fn a_volume_answers_as_the_plain_program_does(rt: HostRuntime) -> Result<(), Fail> {
     let mut volume = started(rt.alloc())?;
     let mut tree = PlainTree::new(rt.alloc())?;
     let mut lines = Lines(Numbers(1));
-    for _ in 0..600 {
+    for _ in 0..3_000 {
         let line = lines.line(rt.alloc())?;
         let is_alike = alike(rt.alloc(), &mut volume, &mut tree, &line)?;
         assert!(rt; is_alike, "{line}");
     }
+    let walk = volume.last_walk();
+    assert!(rt; walk.height >= 3, "the tree stays low: {walk:?}");
+    assert!(rt; walk.visits <= 5 * walk.height as u64 + 2, "{walk:?}");
     for path in PATHS {
         for (verb, rest) in [
             ("stat", ""),
