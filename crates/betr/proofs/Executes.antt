@@ -7,9 +7,9 @@ use Rattle.std.proofs.lemmas.List.{append-nil}
 use Rattle.bd_io.proofs.Written.{append_known-twice}
 use Rattle.bd_script.specs.Lines.{LineMeaning, line_of}
 use Rattle.bd_script.specs.Replies.{line_reply_line}
-use Rattle.betr.specs.Transcript.{State, Entry, IsTranscript, text, executed, state_after}
+use Rattle.betr.specs.Transcript.{State, Entry, text, executed, state_after}
 use Rattle.betr.specs.Session.{Executes}
-use Rattle.betr.specs.Shell.{ExecutesOne, Replies, last_lines}
+use Rattle.betr.specs.Shell.{ExecutesOne, last_lines}
 use Rattle.betr.proofs.Transcripts.{IsTranscript-append, state_after-append, text-append, executed-append}
 
 pub append_known-nil : (w : Option (List ℕ)) → append_known w [] ≡ w

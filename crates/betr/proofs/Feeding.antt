@@ -1,12 +1,11 @@
 -- How the lines of a piece are executed, line by line.
-use Rattle.std.proofs.Common.{◌≡◌, ℕ, ◌+◌, ◌<◌, ◌≤◌, Bool, true, false, cond, List, [], ◌∷◌, ◌++◌, length, take, drop, get_or, refl, sym, ap, subst, ◌∙◌, append_assoc, arith, nat_eq, drop-cons, add-one}
+use Rattle.std.proofs.Common.{◌≡◌, ℕ, ◌+◌, ◌≤◌, Bool, true, false, cond, List, [], ◌∷◌, ◌++◌, length, take, drop, get_or, refl, sym, ap, subst, ◌∙◌, append_assoc, arith, nat_eq, drop-cons, add-one}
 use Rattle.std.specs.Prelude.{map, MatchOption, not, ◌||◌, ◌==◌, ltb}
-use Rattle.std.specs.List.{list_any, position, position_or_len, All}
+use Rattle.std.specs.List.{list_any, position, position_or_len}
 use Rattle.std.specs.declared.option.Option.{Option}
 use Rattle.std.specs.declared.option.Option.TheVariants.{None, Some}
 use Rattle.std.specs.declared.ops.ControlFlow.{ControlFlow}
 use Rattle.std.specs.declared.ops.ControlFlow.TheVariants.{Continue, Break}
-use Rattle.std.specs.Io.KnownBytes.{append_known}
 use Rattle.bd_io.specs.Written.{WrotePart}
 use Rattle.bd_script.specs.Replies.{line_reply_line}
 use Rattle.std.proofs.lemmas.List.{append-nil, map-append, take-append-drop, get_or-take, length-take}
@@ -18,11 +17,11 @@ use Rattle.bd_script.specs.Lines.{LineMeaning, HasNoNewline, held_limit, line_of
 use Rattle.bd_script.proofs.CutLines.{no_newline-open_line, whole_lines-newline, open_line-newline, whole_lines-more, open_line-more, whole_lines-none, open_line-none, line_of-held, held-append}
 use Rattle.betr.specs.declared.fault.Fault.{Fault}
 use Rattle.betr.specs.declared.fault.Fault.TheVariants.{Device, Source, Memory, TooLong, Worn, Sink}
-use Rattle.betr.specs.Transcript.{State, Entry, IsTranscript, text, executed, state_after, meanings, IsFront}
-use Rattle.betr.specs.Session.{Executes, Leaves, Replied}
-use Rattle.betr.specs.Shell.{breaks, IsHeld, CutsAt, RunFails, HasMore, BreaksOff}
-use Rattle.betr.proofs.Transcripts.{up_to_stop-none, up_to_stop-stopped, up_to_stop-append, up_to_stop-one, up_to_stop_front, IsFront-append, IsTranscript-append, state_after-append, executed-append}
-use Rattle.betr.proofs.Executes.{append_known-nil, executes_more, executes_as}
+use Rattle.betr.specs.Transcript.{State, Entry, state_after, meanings}
+use Rattle.betr.specs.Session.{Executes, Leaves}
+use Rattle.betr.specs.Shell.{breaks, IsHeld, CutsAt, RunFails, BreaksOff}
+use Rattle.betr.proofs.Transcripts.{up_to_stop-none, up_to_stop-append, IsTranscript-append, state_after-append, executed-append}
+use Rattle.betr.proofs.Executes.{executes_more, executes_as}
 use Rattle.betr.proofs.Left.{leaves_worn}
 
 -- what is held has no newline

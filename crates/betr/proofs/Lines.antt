@@ -1,5 +1,5 @@
 -- One line: its reply, or its fault.
-use Rattle.std.proofs.Common.{◌≡◌, ◌⊎◌, ℕ, Bool, true, false, cond, List, inl, inr, refl, sym, ap, subst, ◌∙◌}
+use Rattle.std.proofs.Common.{◌≡◌, ℕ, Bool, true, false, cond, List, inl, inr, refl, sym, ap, subst, ◌∙◌}
 use Rattle.std.specs.declared.option.Option.{Option}
 use Rattle.std.specs.declared.result.Result.TheVariants.{Ok, Err}
 use Rattle.std.specs.Prelude.{◌+◌, ◌&&◌, MatchBool, IsNone}
@@ -21,7 +21,7 @@ use Rattle.bd_volume.specs.declared.Fault.{Fault as VolumeFault}
 use Rattle.bd_volume.specs.declared.Fault.TheVariants as volume
 use Rattle.betr.specs.declared.fault.Fault.{Fault}
 use Rattle.betr.specs.declared.fault.Fault.TheVariants.{Device, Source, Memory, TooLong, Worn, Sink}
-use Rattle.betr.specs.Fault.{IsCaused, Caused, of_sink}
+use Rattle.betr.specs.Fault.{Caused, of_sink}
 use Rattle.betr.specs.Transcript.{State, Follows, Moves, state_of_step, told}
 use Rattle.betr.specs.Shell.{VolumeAt, Replies, ComesNow, IsLineFault, LineFails, RunFails}
 

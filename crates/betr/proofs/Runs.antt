@@ -1,5 +1,5 @@
 -- How a whole run begins and ends.
-use Rattle.std.proofs.Common.{◌≡◌, ◌⊎◌, ℕ, ◌+◌, ◌≤◌, List, [], ◌∷◌, ◌++◌, length, refl, sym, ap, subst, ◌∙◌, arith, inl, inr, length-append}
+use Rattle.std.proofs.Common.{◌≡◌, ◌⊎◌, ℕ, ◌+◌, ◌≤◌, List, [], ◌∷◌, ◌++◌, length, refl, ap, subst, ◌∙◌, arith, inl, inr, length-append}
 use Rattle.std.specs.Prelude.{map, IfSome, IsSomeAnd}
 use Rattle.std.proofs.lemmas.List.{length-map}
 use Rattle.std.specs.declared.result.Result.{Result}
@@ -17,7 +17,7 @@ use Rattle.betr.specs.declared.fault.Fault.{Fault}
 use Rattle.betr.specs.declared.fault.Fault.TheVariants.{Device, Source, Memory, TooLong, Worn, Sink}
 use Rattle.betr.specs.declared.outcome.Ack.{Ack}
 use Rattle.betr.specs.Fault.{status_of, fault_line, Faults, Caused, IsCaused, of_ends}
-use Rattle.betr.specs.Transcript.{State, Entry, first_state, IsTranscript, executed, state_after, lines_to_run}
+use Rattle.betr.specs.Transcript.{Entry, first_state, IsTranscript, executed, state_after, lines_to_run}
 use Rattle.betr.specs.Session.{end_of, HasNext, WornBy, RunsFrom, Session}
 use Rattle.betr.specs.Words.{Call}
 use Rattle.betr.specs.Run.{end_status, ends, WritesLast, WritesEnd, Went, IsFaultless}

@@ -1,6 +1,6 @@
 -- How the lines of a script are executed, piece by piece.
-use Rattle.std.proofs.Common.{◌≡◌, ℕ, ◌+◌, ◌<◌, ◌≤◌, Bool, true, false, cond, List, [], ◌∷◌, ◌++◌, length, take, get_or, refl, sym, ap, subst, ◌∙◌, append_assoc, arith, length-append, nat_eq, inl, inr}
-use Rattle.std.specs.Prelude.{map, IfSome, IfErr, OnOk, OnErr, ◌||◌}
+use Rattle.std.proofs.Common.{◌≡◌, ℕ, ◌+◌, ◌<◌, ◌≤◌, Bool, true, false, cond, List, [], ◌∷◌, ◌++◌, length, take, refl, sym, ap, subst, ◌∙◌, append_assoc, arith, length-append, nat_eq, inl, inr}
+use Rattle.std.specs.Prelude.{map, IfSome, IfErr, OnOk, OnErr}
 use Rattle.std.specs.declared.result.Result.{Result}
 use Rattle.std.specs.declared.result.Result.TheVariants.{Ok, Err}
 use Rattle.std.specs.declared.option.Option.{Option}
@@ -21,9 +21,9 @@ use Rattle.bd_script.specs.Replies.{line_reply_line}
 use Rattle.bd_script.proofs.CutLines.{some_pieces, whole_lines-more, open_line-more, held_goes_on, line_of-held}
 use Rattle.betr.specs.declared.fault.Fault.{Fault}
 use Rattle.betr.specs.declared.fault.Fault.TheVariants.{Device, Source, Memory, TooLong, Worn, Sink}
-use Rattle.betr.specs.Transcript.{State, Entry, IsTranscript, text, executed, state_after, meanings, lines_to_run, IsFront}
-use Rattle.betr.specs.Session.{end_of, Executes, HasNext, Among, AllComplete, TakenAt, Replied, IsCutShort, WornBy, Leaves, RunsFrom, Session}
-use Rattle.betr.specs.Shell.{last_lines, IsHeld, RunFails, BreaksOff, HasMore}
+use Rattle.betr.specs.Transcript.{State, Entry, text, executed, state_after, meanings, lines_to_run, IsFront}
+use Rattle.betr.specs.Session.{end_of, Executes, HasNext, Among, IsCutShort, WornBy, Leaves, RunsFrom, Session}
+use Rattle.betr.specs.Shell.{last_lines, IsHeld, RunFails, BreaksOff}
 use Rattle.betr.specs.declared.session.Taken.{Taken}
 use Rattle.betr.specs.declared.session.Taken.TheVariants as source_gave
 use Rattle.betr.specs.Taken.{IsTaken, taken_by, TakesNoMore, TookLast}

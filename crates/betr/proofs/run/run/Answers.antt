@@ -1,5 +1,5 @@
 -- A session that ends well, or by a fault whose line is written.
-use Rattle.std.proofs.Common.{refl, ◌∙◌, inr}
+use Rattle.std.proofs.Common.{refl}
 use Rattle.std.specs.declared.option.Option.TheVariants.{None, Some}
 use Rattle.betr.proofs.Runs.{of_any, went, cause_later, writes_end, faultless, either_status}
 use Rattle.betr.proofs.run.run.Goals as goal

@@ -7,7 +7,7 @@ use Rattle.betr.specs.Fault.{Faults}
 use Rattle.betr.specs.declared.fault.Fault.TheVariants.{Source}
 use Rattle.betr.specs.Session.{Session}
 use Rattle.betr.specs.Shell.{ShellAt, held_of, breaks}
-use Rattle.betr.proofs.Scripts.{Stands, Gave, gave, gave_more, gave_end, prepend_known-nil, stands_first, stands_held, stands_more, session_stops, session_ends, session_breaks, session_fails, session_source, session_too_long, takes_no_more, ends_by}
+use Rattle.betr.proofs.Scripts.{Stands, gave, gave_more, gave_end, prepend_known-nil, stands_held, stands_more, session_stops, session_ends, session_breaks, session_fails, session_source, session_too_long, takes_no_more, ends_by}
 use Rattle.betr.proofs.session.run_script.Goals as goal
 
 pub feed-requires : goal.feed-requires

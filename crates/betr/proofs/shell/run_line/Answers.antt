@@ -1,5 +1,5 @@
 -- The line is executed and its reply written, or a fault comes before it or within it.
-use Rattle.std.proofs.Common.{refl, arith}
+use Rattle.std.proofs.Common.{arith}
 use Rattle.std.proofs.lemmas.Result.{err_from_is_err_and}
 use Rattle.betr.proofs.Lines.{line_fails, line_fault_caused}
 use Rattle.betr.proofs.shell.run_line.Goals as goal

@@ -1,5 +1,5 @@
 -- What is held at the end is the last line.
-use Rattle.std.proofs.Common.{ap, sym, ◌∙◌, arith}
+use Rattle.std.proofs.Common.{sym, arith}
 use Rattle.std.proofs.lemmas.Grind.{common_steps}
 use Rattle.betr.proofs.Executes.{executes_as, executes_one, last_some}
 use Rattle.betr.proofs.shell.Shell.finish.Goals as goal
