@@ -36,7 +36,7 @@ use Rattle.bd_inner.proofs.Compacting.{count_names, count_names-append, edge_nam
 use Rattle.bd_inner.proofs.Exchanged.{in_range, at_place, exchanged_shape, meaning_inside, meaning_outside, meaning_without}
 use Rattle.bd_flush.specs.declared.children.Parts.{Parts}
 use Rattle.bd_flush.specs.declared.children.Side.TheVariants.{Lower, Both, Upper}
-use Rattle.bd_flush.specs.Children.{IsWayTo, parting, upper_edge, IsInside, IsSplitInto, IsSide, IsOver, AreParts, IsLongPivot}
+use Rattle.bd_flush.specs.Children.{IsEdgeTo, IsWayTo, parting, upper_edge, IsInside, IsSplitInto, IsSide, IsOver, AreParts, IsLongPivot}
 use Rattle.bd_flush.specs.declared.children.Halving.TheVariants.{Short, Long}
 use Rattle.bd_flush.specs.Children.IsSplitInto.{parted, lower, upper}
 use Rattle.bd_flush.proofs.ChildSteps.{has_below, has_child, has_old, has_new, IsMadeBelow, IsChildChange, IsChildChangeOf}
@@ -89,17 +89,26 @@ inner_of (Leaf entries) place e h here = absurd (none-some e here)
 inner_of (Inner level es buffer) place e h here = h.low
 
 -- the edge's child, and what the node names besides
-pub times_apart : (n : Node) (place child : ℕ) (e : Edge) (c : ℕ) → IsShape n → IsWayTo n place child e → times n c ≡ times (exchanged n place []) c + count_names c (child ∷ [])
-times_apart n place child e c h way =
+pub as_edge : (n : Node) (place child : ℕ) (e : Edge) → IsWayTo n place child e → IsEdgeTo n place child e
+as_edge n place child e way = record { here = way.here; child_is = way.child_is }
+
+edge_apart : (n : Node) (place child : ℕ) (e : Edge) (c : ℕ) → IsShape n → IsEdgeTo n place child e → times n c ≡ times (exchanged n place []) c + count_names c (child ∷ [])
+edge_apart n place child e c h way =
     ap (λ (m : Node). times m c) (sym (exchanged_same n place e way.here))
     ∙ times_exchanged n place (e ∷ []) c (inner_of n place e h way.here)
     ∙ ap (λ (o : Option ℕ). times (exchanged n place []) c + count_names c (option_to_list o ++ [])) way.child_is
 
+pub times_apart : (n : Node) (place child : ℕ) (e : Edge) (c : ℕ) → IsShape n → IsWayTo n place child e → times n c ≡ times (exchanged n place []) c + count_names c (child ∷ [])
+times_apart n place child e c h way = edge_apart n place child e c h (as_edge n place child e way)
+
 pub count_own : (c : ℕ) → count_names c (c ∷ []) ≡ 1
 count_own c = omega (arith, count-cons_same c [])
 
+pub edge_named : (n : Node) (place child : ℕ) (e : Edge) → IsShape n → IsEdgeTo n place child e → 1 ≤ times n child
+edge_named n place child e h way = omega (arith, edge_apart n place child e child h way, count_own child)
+
 pub child_named : (n : Node) (place child : ℕ) (e : Edge) → IsShape n → IsWayTo n place child e → 1 ≤ times n child
-child_named n place child e h way = omega (arith, times_apart n place child e child h way, count_own child)
+child_named n place child e h way = edge_named n place child e h (as_edge n place child e way)
 
 -- ---- what the node has, if what else it names has what it had
 

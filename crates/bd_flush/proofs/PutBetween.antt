@@ -26,6 +26,7 @@ use Rattle.bd_flush.specs.Between.{IsBetweenStep, IsBetween, IsHardlyHigher, IsS
 use Rattle.bd_flush.specs.Between.IsSplitChild.{long}
 use Rattle.bd_flush.proofs.Worn.{cause_weaker}
 use Rattle.bd_flush.proofs.Raisings.{level_high}
+use Rattle.bd_flush.proofs.ChildSplits.{as_edge}
 use Rattle.bd_flush.proofs.RootSplits.{up_lower, IsSplit, IsSplitOf, IsMade, split_step, split_in_place, flushed, over_higher, top_there, lower_there, upper_there, all_risen, split_worn}
 
 -- ---- the way
@@ -179,4 +180,4 @@ split_long t way parent place child first pivot second found P new u (Ok x) halv
 split_long t way parent place child first pivot second found P new u (Err e) halves is h between = tt
 
 pub way_of : (t : Table) (way : List Fetched) (parent : Fetched) (place : ℕ) (child : Fetched) → CanSplitChild t parent place child → IsWayUp t parent.id way → IsWayUp t child.id (parent ∷ way)
-way_of t way parent place child can up = one_up child.id place parent can.edge way can.parent_is can.way can.once up
+way_of t way parent place child can up = one_up child.id place parent can.edge way can.parent_is (as_edge parent.node.value place child.id can.edge can.way) can.once up

@@ -27,14 +27,14 @@ use Rattle.bd_node.proofs.Stepping.{changed_at-same, changed_at-other}
 use Rattle.bd_flush.specs.declared.fetching.Fetched.{Fetched}
 use Rattle.bd_flush.specs.Flushed.{LeadsTo}
 use Rattle.bd_flush.specs.Flushed.LeadsTo.{through}
-use Rattle.bd_flush.specs.Children.{IsFetched, IsWayTo, IsContents}
+use Rattle.bd_flush.specs.Children.{IsFetched, IsEdgeTo, IsContents}
 use Rattle.bd_flush.specs.Paths.{path_step}
 use Rattle.bd_flush.specs.Raising.{raised, raise, IsWayUp, IsRising}
 use Rattle.bd_flush.specs.Raising.IsWayUp.{top, one_up}
 use Rattle.bd_flush.specs.Raising.IsRising.{at_top, high_enough, rises}
 use Rattle.bd_inner.proofs.Compacting.{count_names}
 use Rattle.bd_flush.proofs.Raisings.{level_high}
-use Rattle.bd_flush.proofs.ChildSplits.{child_named, inner_of}
+use Rattle.bd_flush.proofs.ChildSplits.{edge_named, inner_of}
 use Rattle.bd_flush.proofs.PathSteps.{IsUpper, RisesByOne, level_bound, has_path, IsUpperOf}
 
 -- ---- a node one level higher
@@ -79,7 +79,7 @@ pub record IsLink (t : Table) (x : ℕ) (f : Fetched) : Type 0 where
   pub place : ℕ
   pub edge : Edge
   pub fetched : IsFetched t f
-  pub way : IsWayTo f.node.value place x edge
+  pub way : IsEdgeTo f.node.value place x edge
   pub once : t.count x ≡ 1
 
 pub way_link : (t : Table) (x : ℕ) (f : Fetched) (fs : List Fetched) → IsWayUp t x (f ∷ fs) → IsLink t x f × IsWayUp t f.id fs
@@ -89,7 +89,7 @@ pub way_top : (t : Table) (x : ℕ) → IsWayUp t x [] → x ≡ t.root
 way_top t x top = refl
 
 pub link_names : (t : Table) (x : ℕ) (f : Fetched) → IsLink t x f → 1 ≤ times f.node.value x
-link_names t x f link = child_named f.node.value link.place x link.edge link.fetched.own.shape link.way
+link_names t x f link = edge_named f.node.value link.place x link.edge link.fetched.own.shape link.way
 
 pub link_lower : (t : Table) (x : ℕ) (f : Fetched) → IsLink t x f → IsLower t (t.level f.id) x
 link_lower t x f link = named_has (IsLower t (t.level f.id)) x (names f.node.value) link.fetched.own.lower (link_names t x f link)

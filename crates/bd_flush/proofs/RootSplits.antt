@@ -30,7 +30,7 @@ use Rattle.bd_inner.specs.Halves.{IsHalf, AreHalves}
 use Rattle.bd_flush.specs.declared.fetching.Fetched.{Fetched}
 use Rattle.bd_flush.specs.Flushed.{IsFlushed, IsWornFor}
 use Rattle.bd_flush.specs.Flushed.LeadsTo.{itself}
-use Rattle.bd_flush.specs.Children.{IsFetched, IsWayTo, IsContents}
+use Rattle.bd_flush.specs.Children.{IsFetched, IsEdgeTo, IsContents}
 use Rattle.bd_flush.specs.Paths.{path_step}
 use Rattle.bd_flush.specs.Splits.{plain_edge, over_two, root_split, IsRootSplit, IsSplitRoot, IsRaised}
 use Rattle.bd_flush.specs.Raising.{raised, raise, IsWayUp, IsRising}
@@ -39,7 +39,7 @@ use Rattle.bd_flush.specs.Raising.IsRising.{at_top, high_enough, rises}
 use Rattle.bd_flush.specs.Between.{IsHardlyHigher}
 use Rattle.bd_flush.proofs.Worn.{cause_weaker}
 use Rattle.bd_flush.proofs.Givens.{given_first, given_second}
-use Rattle.bd_flush.proofs.ChildSplits.{child_named}
+use Rattle.bd_flush.proofs.ChildSplits.{edge_named}
 use Rattle.bd_flush.proofs.PathSteps.{IsMadeUnder, IsUpper, IsPathStep, RisesByOne, given_child, each_change, has_made, has_path, made_new, path_child, path_old, both_ways, IsPathStepOf, path_may, path_in_place, path_flushed, path_worn, root_rises, root_stays}
 use Rattle.bd_flush.proofs.RisingSteps.{raised_size, raised_times, way_private, rising_rises, rising_uppers, rising_once, rising_short, IsChangedBy, changed_more, all_changed, has_room, rising_of}
 
@@ -310,8 +310,8 @@ raised_is nodes t c n first pivot second way rising h id m o low some other old 
     low some other o old
 
 -- a node of the way is above the one that it names
-pub up_lower : (t : Table) (f : Fetched) (place c : ℕ) (e : Edge) → IsFetched t f → IsWayTo f.node.value place c e → IsLower t (t.level f.id) c
-up_lower t f place c e fetched way = named_has (IsLower t (t.level f.id)) c (names f.node.value) fetched.own.lower (child_named f.node.value place c e fetched.own.shape way)
+pub up_lower : (t : Table) (f : Fetched) (place c : ℕ) (e : Edge) → IsFetched t f → IsEdgeTo f.node.value place c e → IsLower t (t.level f.id) c
+up_lower t f place c e fetched way = named_has (IsLower t (t.level f.id)) c (names f.node.value) fetched.own.lower (edge_named f.node.value place c e fetched.own.shape way)
 
 -- what a node that stays names stays, if it isn't the one that is put above its halves
 named_stays : (nodes : Nodes) (t : Table) (c : ℕ) (n first : Node) (pivot : List ℕ) (second : Node) (way rising : List Fetched) (new : Nodes) (u : Table) → IsMade nodes t c n first pivot second way rising new u
@@ -331,7 +331,7 @@ way_stays nodes t c n first pivot second way rising new u h _ _ top there high =
 way_stays nodes t c n first pivot second way rising new u h _ _ (one_up d place f e fs fetched edge once up) there high =
     let lower : t.level d < t.level f.id = (up_lower t f place d e fetched edge).lower in
     named_stays nodes t c n first pivot second way rising new u h f.id f.node.value there.0 (λ same. (let z : t.level f.id ≡ t.level c = ap t.level same in omega arith))
-    (way_stays nodes t c n first pivot second way rising new u h f.id fs up there.1 (omega arith)) d (child_named f.node.value place d e fetched.own.shape edge)
+    (way_stays nodes t c n first pivot second way rising new u h f.id fs up there.1 (omega arith)) d (edge_named f.node.value place d e fetched.own.shape edge)
 
 node_stays : (nodes : Nodes) (t : Table) (c : ℕ) (n first : Node) (pivot : List ℕ) (second : Node) (way rising : List Fetched) (new : Nodes) (u : Table) → IsMade nodes t c n first pivot second way rising new u → IsKept u c
 node_stays nodes t c n first pivot second way rising new u h = way_stays nodes t c n first pivot second way rising new u h c way h.of.split.up h.of.stand (omega arith)

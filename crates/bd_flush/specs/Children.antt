@@ -26,6 +26,11 @@ pub record IsFetched (t : Table) (f : Fetched) : Type 0 where
   pub own : IsNodeOf t (t.level f.id) f.node.value
   pub root : f.id ≡ t.root → buffer_size f.node.value ≡ t.size
 
+-- the node's edge at a place asks the child
+pub record IsEdgeTo (n : Node) (place child : ℕ) (e : Edge) : Type 0 where
+  pub here : IsEdgeAt n place e
+  pub child_is : e.child ≡ Some child
+
 -- the node's edge at a place asks the child, with nothing in front of what is left of a key
 pub record IsWayTo (n : Node) (place child : ℕ) (e : Edge) : Type 0 where
   pub here : IsEdgeAt n place e

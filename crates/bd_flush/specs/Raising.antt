@@ -8,7 +8,7 @@ use Rattle.bd_node.specs.declared.node.Change.{Change}
 use Rattle.bd_node.specs.Nodes.{level_of}
 use Rattle.bd_node.specs.Tables.{Table}
 use Rattle.bd_flush.specs.declared.fetching.Fetched.{Fetched}
-use Rattle.bd_flush.specs.Children.{IsFetched, IsWayTo}
+use Rattle.bd_flush.specs.Children.{IsFetched, IsEdgeTo}
 
 -- the node one level higher, all else as it is; a leaf stays a leaf
 abbrev pub raised : Node → Node
@@ -20,11 +20,11 @@ abbrev pub raise : Fetched → Change
 raise f = record { id = f.id; node = raised f.node.value }
 
 -- fetched nodes from the one above a node up to the root: each has an edge to the one below it, which
--- nothing else names, with nothing in front of what is left of a key
+-- nothing else names
 pub data IsWayUp (t : Table) : ℕ → List Fetched → Type 0 where
   top : IsWayUp t t.root []
   one_up : (c place : ℕ) (f : Fetched) (e : Edge) (fs : List Fetched) → IsFetched t f
-      → IsWayTo f.node.value place c e → t.count c ≡ 1 → IsWayUp t f.id fs → IsWayUp t c (f ∷ fs)
+      → IsEdgeTo f.node.value place c e → t.count c ≡ 1 → IsWayUp t f.id fs → IsWayUp t c (f ∷ fs)
 
 -- the nodes above one that gets this level, the nearest first, and those of them that rise: each that
 -- isn't above the one below it, by one level

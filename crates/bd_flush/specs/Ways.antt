@@ -8,9 +8,9 @@ use Rattle.bd_node.specs.declared.node.Node.{Node}
 use Rattle.bd_node.specs.Nodes.{level_of, buffer_size}
 use Rattle.bd_node.specs.Meaning.{Nodes}
 use Rattle.bd_node.specs.Shape.{IsPending}
-use Rattle.bd_node.specs.Private.{IsPrivate}
 use Rattle.bd_node.specs.Tables.{Table}
 use Rattle.bd_inner.specs.Halves.{edges_of, buffer_of}
+use Rattle.bd_inner.specs.Moving.{SomeCanTouch}
 use Rattle.bd_inner.specs.Exchange.{end_at, IsEdgeAt}
 use Rattle.bd_flush.specs.declared.fetching.Fetched.{Fetched}
 use Rattle.bd_flush.specs.declared.ways.FlushStep.{FlushStep}
@@ -23,7 +23,7 @@ use Rattle.bd_flush.specs.Pending.{IsFullest}
 use Rattle.bd_flush.specs.Children.{IsFetched, IsWayTo, CanSplitChild}
 use Rattle.bd_flush.specs.Raising.{IsWayUp}
 use Rattle.bd_flush.specs.GoingDown.{child_level}
-use Rattle.bd_flush.specs.Pushes.{AllGoDown}
+use Rattle.bd_flush.specs.Pushes.{AllGoDown, IsOwn, unseen}
 
 -- most bytes of a node's messages are pending for the edge at a place
 pub record IsFullestAt (n : Node) (place : ℕ) : Type 0 where
@@ -37,13 +37,15 @@ pub record HasPending (n : Node) (place : ℕ) (e : Edge) : Type 0 where
   pub there : slice_get (buffer_of n) index ≡ Some message
   pub pending : IsPending index message e (end_at n place)
 
--- a node on the way: the root, or the private child for which most bytes wait in one with at most
--- 14 edges, if it is asked with nothing in front of a key and more than 16,384 bytes wait in it
-pub data IsOnWay (nodes : Nodes) (t : Table) : ℕ → Type 0 where
-  at_root : IsOnWay nodes t t.root
-  below : (id place c : ℕ) (n m : Node) (e : Edge) → IsOnWay nodes t id → nodes id ≡ Some n
-      → length (edges_of n) ≤ 14 → IsFullestAt n place → IsWayTo n place c e → t.count c ≡ 1
-      → nodes c ≡ Some m → soft_limit < buffer_size m → IsOnWay nodes t c
+-- an edge of a node, on the way down from one: that one, or the edge for which most bytes wait, of the
+-- child of such an edge of a node with at most 14 edges, if the child is private, asked with nothing
+-- in front of a key, and more than 16,384 bytes wait in it
+pub data IsOnWay (nodes : Nodes) (t : Table) (from at : ℕ) : ℕ → ℕ → Type 0 where
+  start : IsOnWay nodes t from at from at
+  below : (id place c next : ℕ) (n m : Node) (e : Edge) → IsOnWay nodes t from at id place
+      → nodes id ≡ Some n → length (edges_of n) ≤ 14 → IsWayTo n place c e → t.count c ≡ 1
+      → nodes c ≡ Some m → soft_limit < buffer_size m → IsFullestAt m next
+      → IsOnWay nodes t from at c next
 
 -- the fetched node is the root, or more than 16,384 bytes wait in it
 abbrev pub IsFull : Table → Fetched → Type 0
@@ -94,18 +96,61 @@ abbrev pub IsDue : Table → FlushStep → Type 0
 IsDue t (SplitRoot root) =
     IsFetched t root × (root.id ≡ t.root) × (15 ≤ length (edges_of root.node.value))
 IsDue t (SplitChild above parent place child) =
-    CanSplitChild t parent place child × (soft_limit < buffer_size child.node.value)
-    × IsUnder t parent
+    CanSplitChild t parent place child × IsUnder t parent
 IsDue t (Push above parent place child) = IsReadyToPush t parent place child × IsUnder t parent
 IsDue t (Privatise above parent place) = IsShared t parent place × IsUnder t parent
 IsDue t (Carve above parent place) = HasHeldGoto t parent place × IsUnder t parent
 
--- most bytes wait for the edge at a place of a node of the way
+-- more than 16,384 bytes wait in a child that is to be split
+abbrev pub HasFullChild : FlushStep → Type 0
+HasFullChild (SplitRoot root) = Unit {0}
+HasFullChild (SplitChild above parent place child) = soft_limit < buffer_size child.node.value
+HasFullChild (Push above parent place child) = Unit {0}
+HasFullChild (Privatise above parent place) = Unit {0}
+HasFullChild (Carve above parent place) = Unit {0}
+
+-- a message is pending for the edge from which messages go down
+abbrev pub IsWaited : FlushStep → Type 0
+IsWaited (SplitRoot root) = Unit {0}
+IsWaited (SplitChild above parent place child) = Unit {0}
+IsWaited (Push above parent place child) = (e : Edge) → IsEdgeAt parent.node.value place e
+    → SomeCanTouch e (end_at parent.node.value place) (unseen parent.node.value e)
+IsWaited (Privatise above parent place) = Unit {0}
+IsWaited (Carve above parent place) = Unit {0}
+
+-- ---- where it is to be done
+
+-- the step is at a node's edge, of which this holds
+abbrev pub AtEdge : (Fetched → ℕ → Type 0) → FlushStep → Type 0
+AtEdge P (SplitRoot root) = ⊥
+AtEdge P (SplitChild above parent place child) = P parent place
+AtEdge P (Push above parent place child) = P parent place
+AtEdge P (Privatise above parent place) = P parent place
+AtEdge P (Carve above parent place) = P parent place
+
+-- the edge is this one
+abbrev pub IsSameEdge : Fetched → ℕ → Fetched → ℕ → Type 0
+IsSameEdge parent place p at = (p ≡ parent) × (at ≡ place)
+
+-- most bytes wait for the edge, of a node in which more than 16,384 do
+pub record IsFullEdge (f : Fetched) (place : ℕ) : Type 0 where
+  pub fullest : IsFullestAt f.node.value place
+  pub full : soft_limit < buffer_size f.node.value
+
+-- the edge is this one, or further down
+abbrev pub IsFromEdge : Fetched → ℕ → Fetched → ℕ → Type 0
+IsFromEdge parent place p at = IsSameEdge parent place p at ⊎ IsFullEdge p at
+
+-- the step is at this edge, or at one further down
+abbrev pub IsStepFrom : Fetched → ℕ → FlushStep → Type 0
+IsStepFrom parent place step = AtEdge (IsFromEdge parent place) step
+
+-- most bytes wait for the edge at a place of a node of the way from the root
 pub record IsFullestIn (t : Table) (f : Fetched) (place : ℕ) : Type 0 where
   pub fullest : IsFullestAt f.node.value place
   pub full : IsFull t f
 
--- the step is at the edge for which most bytes wait
+-- the root is split, or the step is at the edge for which most bytes wait
 abbrev pub IsAtFullest : Table → FlushStep → Type 0
 IsAtFullest t (SplitRoot root) = Unit {0}
 IsAtFullest t (SplitChild above parent place child) = IsFullestIn t parent place
@@ -115,30 +160,46 @@ IsAtFullest t (Carve above parent place) = IsFullestIn t parent place
 
 -- what is to be done on the way by the edges for which most bytes wait, as far as the table tells
 abbrev pub IsToDo : Table → FlushStep → Type 0
-IsToDo t step = IsDue t step × IsAtFullest t step
-
--- a fetched node of the way
-pub record IsThere (nodes : Nodes) (t : Table) (f : Fetched) : Type 0 where
-  pub there : nodes f.id ≡ Some f.node.value
-  pub way : IsOnWay nodes t f.id
-  pub private : IsPrivate nodes t f.id
-
--- fetched nodes of the way
-abbrev pub AreThere : Nodes → Table → List Fetched → Type 0
-AreThere nodes t way = AllByRecursion (IsThere nodes t) way
+IsToDo t step = IsDue t step × IsAtFullest t step × HasFullChild step
 
 -- the child, if there is one
 abbrev pub IsChildThere : Nodes → Option Fetched → Type 0
 IsChildThere nodes None = Unit {0}
 IsChildThere nodes (Some child) = nodes child.id ≡ Some child.node.value
 
+-- it is to be done at private nodes of known ones
+abbrev pub IsStanding : Nodes → Table → FlushStep → Type 0
+IsStanding nodes t (SplitRoot root) = IsOwn nodes t root
+IsStanding nodes t (SplitChild above parent place child) =
+    IsOwn nodes t parent × IsOwn nodes t child
+IsStanding nodes t (Push above parent place child) = IsOwn nodes t parent × IsChildThere nodes child
+IsStanding nodes t (Privatise above parent place) = IsOwn nodes t parent
+IsStanding nodes t (Carve above parent place) = IsOwn nodes t parent
+
+-- the step is at an edge on the way down from this one
+abbrev pub IsReached : Nodes → Table → ℕ → ℕ → FlushStep → Type 0
+IsReached nodes t from at step = AtEdge (λ f place. IsOnWay nodes t from at f.id place) step
+
+-- the step is at an edge on the way down from the root's edge for which most bytes wait
+pub record IsFromRoot (nodes : Nodes) (t : Table) (step : FlushStep) : Type 0 where
+  pub node : Node
+  pub there : nodes t.root ≡ Some node
+  pub place : ℕ
+  pub fullest : IsFullestAt node place
+  pub way : IsReached nodes t t.root place step
+
+-- the root is split, or the step is at an edge on the way from it
+abbrev pub HasWay : Nodes → Table → FlushStep → Type 0
+HasWay nodes t (SplitRoot root) = Unit {0}
+HasWay nodes t (SplitChild above parent place child) =
+    IsFromRoot nodes t (SplitChild above parent place child)
+HasWay nodes t (Push above parent place child) = IsFromRoot nodes t (Push above parent place child)
+HasWay nodes t (Privatise above parent place) = IsFromRoot nodes t (Privatise above parent place)
+HasWay nodes t (Carve above parent place) = IsFromRoot nodes t (Carve above parent place)
+
 -- where it is to be done, in known nodes
 abbrev pub IsToDoAt : Nodes → Table → FlushStep → Type 0
-IsToDoAt nodes t (SplitRoot root) = IsThere nodes t root
-IsToDoAt nodes t (SplitChild above parent place child) = IsThere nodes t parent × IsThere nodes t child
-IsToDoAt nodes t (Push above parent place child) = IsThere nodes t parent × IsChildThere nodes child
-IsToDoAt nodes t (Privatise above parent place) = IsThere nodes t parent
-IsToDoAt nodes t (Carve above parent place) = IsThere nodes t parent
+IsToDoAt nodes t step = IsStanding nodes t step × HasWay nodes t step
 
 -- the nodes above the one where it is to be done, as far as the table tells
 abbrev pub IsWayOf : Table → FlushStep → Type 0
@@ -148,13 +209,17 @@ IsWayOf t (Push above parent place child) = IsWayUp t parent.id (reverse above)
 IsWayOf t (Privatise above parent place) = IsWayUp t parent.id (reverse above)
 IsWayOf t (Carve above parent place) = IsWayUp t parent.id (reverse above)
 
--- and in known nodes
+-- private nodes of known ones
+abbrev pub AreOwn : Nodes → Table → List Fetched → Type 0
+AreOwn nodes t way = AllByRecursion (IsOwn nodes t) way
+
+-- the nodes above are such ones
 abbrev pub IsWayThere : Nodes → Table → FlushStep → Type 0
 IsWayThere nodes t (SplitRoot root) = Unit {0}
-IsWayThere nodes t (SplitChild above parent place child) = AreThere nodes t (reverse above)
-IsWayThere nodes t (Push above parent place child) = AreThere nodes t (reverse above)
-IsWayThere nodes t (Privatise above parent place) = AreThere nodes t (reverse above)
-IsWayThere nodes t (Carve above parent place) = AreThere nodes t (reverse above)
+IsWayThere nodes t (SplitChild above parent place child) = AreOwn nodes t (reverse above)
+IsWayThere nodes t (Push above parent place child) = AreOwn nodes t (reverse above)
+IsWayThere nodes t (Privatise above parent place) = AreOwn nodes t (reverse above)
+IsWayThere nodes t (Carve above parent place) = AreOwn nodes t (reverse above)
 
 -- ---- from one node
 
@@ -165,8 +230,11 @@ IsAsked n place Through =
     (e : Edge) × (c : ℕ) × IsEdgeAt n place e × (e.child ≡ Some c) × (e.source ≢ [])
 IsAsked n place (Child c) = (e : Edge) × IsWayTo n place c e
 
--- the way goes on at a private child
-pub record IsNext (t : Table) (parent child : Fetched) : Type 0 where
+-- the way goes on at the private child of the edge at a place
+pub record IsNext (t : Table) (parent : Fetched) (place : ℕ) (child : Fetched) : Type 0 where
+  pub edge : Edge
+  pub way : IsWayTo parent.node.value place child.id edge
+  pub once : t.count child.id ≡ 1
   pub child_is : IsFetched t child
   pub lower : t.level child.id < t.level parent.id
   pub inner : 1 ≤ level_of child.node.value
@@ -175,21 +243,17 @@ pub record IsNext (t : Table) (parent child : Fetched) : Type 0 where
 
 -- the step is at this edge of a node
 abbrev pub IsStepAt : Fetched → ℕ → FlushStep → Type 0
-IsStepAt parent place (SplitRoot root) = ⊥
-IsStepAt parent place (SplitChild above p at child) = (p ≡ parent) × (at ≡ place)
-IsStepAt parent place (Push above p at child) = (p ≡ parent) × (at ≡ place)
-IsStepAt parent place (Privatise above p at) = (p ≡ parent) × (at ≡ place)
-IsStepAt parent place (Carve above p at) = (p ≡ parent) × (at ≡ place)
+IsStepAt parent place step = AtEdge (IsSameEdge parent place) step
 
 -- what is seen from an edge of a node, as far as the table tells
 abbrev pub IsSeen : Table → Fetched → ℕ → Look → Type 0
-IsSeen t parent place (Down above child) = IsNext t parent child
-IsSeen t parent place (End step) = IsDue t step × IsStepAt parent place step
+IsSeen t parent place (Down above child) = IsNext t parent place child
+IsSeen t parent place (End step) = IsDue t step × IsStepAt parent place step × HasFullChild step
 
 -- and in known nodes
 abbrev pub IsSeenAt : Nodes → Table → Look → Type 0
-IsSeenAt nodes t (Down above child) = IsThere nodes t child
-IsSeenAt nodes t (End step) = IsToDoAt nodes t step
+IsSeenAt nodes t (Down above child) = IsOwn nodes t child
+IsSeenAt nodes t (End step) = IsStanding nodes t step
 
 -- the nodes above the next one or the one where something is to be done, as far as the table tells
 abbrev pub IsWaySeen : Table → Look → Type 0
@@ -198,5 +262,5 @@ IsWaySeen t (End step) = IsWayOf t step
 
 -- and in known nodes
 abbrev pub IsWaySeenAt : Nodes → Table → Look → Type 0
-IsWaySeenAt nodes t (Down above child) = AreThere nodes t (reverse above.items)
+IsWaySeenAt nodes t (Down above child) = AreOwn nodes t (reverse above.items)
 IsWaySeenAt nodes t (End step) = IsWayThere nodes t step

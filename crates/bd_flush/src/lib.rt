@@ -1,6 +1,7 @@
 //! Steps of a flush: what waits in a node goes down, and the tree has what it had.
-//! The layers above use `next_step`, which finds what is to be done (`IsToDo`), and the steps that do
-//! it, with what each leaves, `IsFlushed`.
+//! The layers above use `next_step`, which finds what is to be done (`IsToDo`), `step_from`, which
+//! finds what is to be done from an edge on, and the steps that do it, with what each leaves,
+//! `IsFlushed`.
 #![tactic(auto)]
 
 mod between;
@@ -28,4 +29,4 @@ pub use planting::push_new;
 pub use pushing::push;
 pub use raising::{Way, raise_above, raised};
 pub use splitting::split_root;
-pub use ways::{FlushStep, next_step};
+pub use ways::{FlushStep, MANY_EDGES, next_step, step_from};

@@ -11,7 +11,8 @@ ghost use Rattle.bd_inner.specs.Halves.{edges_of};
 ghost use Rattle.bd_flush.specs.Children.{IsFetched, IsWayTo};
 ghost use Rattle.bd_flush.specs.declared.ways.FlushStep.TheVariants as step;
 ghost use Rattle.bd_flush.specs.Raising.{IsWayUp};
-ghost use Rattle.bd_flush.specs.Ways.{IsFullestAt, IsTarget, IsUnder, IsDue, IsStepAt, IsToDo, IsToDoAt, IsWayOf, IsWayThere, IsThere, AreThere, IsChildThere, IsAsked, IsSeen, IsSeenAt, IsWaySeen, IsWaySeenAt};
+ghost use Rattle.bd_flush.specs.Pushes.{IsOwn};
+ghost use Rattle.bd_flush.specs.Ways.{IsFullestAt, IsTarget, IsUnder, IsDue, HasFullChild, IsStepAt, IsStepFrom, IsStanding, IsReached, IsToDo, IsToDoAt, IsWayOf, IsWayThere, AreOwn, IsChildThere, IsAsked, IsSeen, IsSeenAt, IsWaySeen, IsWaySeenAt};
 
 use crate::carving::held_goto;
 use crate::nodes::{buffer_of, edges_of};
@@ -22,7 +23,7 @@ use bd_node::{Items, Node, NodeStore};
 use std::alloc::{AllocError, Global};
 
 /// From this many edges on, a node on the way is split.
-const MANY_EDGES: usize = 15;
+pub const MANY_EDGES: usize = 15;
 
 /// What a step of a flush does, and where: at a node, with the nodes above it.
 #[derive(Debug, Drop)]
@@ -61,8 +62,8 @@ pub enum FlushStep {
 }
 
 /// What a step of a flush is to do: it goes down from the root to the child for which most bytes
-/// wait, while that child is private, asked with nothing in front of a key, and has more than 16,384
-/// bytes of messages itself. At most as many nodes are fetched as the tree is high.
+/// wait, while that child is private, asked with nothing in front of a key, and has more than
+/// 16,384 bytes of messages itself. At most as many nodes are fetched as the tree is high.
 pub fn next_step<S: NodeStore>(alloc: Global, store: &mut S) -> Result<FlushStep, MapFault>
     ensures to_do { IfOk result (IsToDo (S.table store.old)) }
     ensures at { S.is_known store.old → IsSound (S.nodes store.old) (S.table store.old)
@@ -81,17 +82,60 @@ pub fn next_step<S: NodeStore>(alloc: Global, store: &mut S) -> Result<FlushStep
     ensures same_loans { S.loans store.new ≡ S.loans store.old }
 {
     let root = store.root();
-    let mut parent = fetch(store, root)?;
-    if edges_of(&parent.node).len() >= MANY_EDGES {
-        return Ok(FlushStep::SplitRoot { root: parent });
+    let root = fetch(store, root)?;
+    if edges_of(&root.node).len() >= MANY_EDGES {
+        return Ok(FlushStep::SplitRoot { root });
     }
-    let mut above = Vec::new(alloc);
+    let place = fullest_place(&root.node);
+    step_from(store, Vec::new(alloc), root, place)
+}
+
+/// What a step is to do that begins at the edge at a place of a node, which has at most 14 edges
+/// and was fetched before, as those above it were: at that edge, or further down, where its child
+/// is private, asked with nothing in front of a key, and has more than 16,384 bytes of messages.
+/// From there on it goes down as a step of a flush does. At most as many nodes are fetched as the
+/// node's level says.
+pub fn step_from<S: NodeStore>(
+    store: &mut S,
+    above: Vec<Fetched>,
+    parent: Fetched,
+    place: usize,
+) -> Result<FlushStep, MapFault>
+    requires way { IsWayUp (S.table store.old) parent.id (reverse above.items) }
+    requires fetched { IsFetched (S.table store.old) parent }
+    requires room { length (edges_of parent.node.value) ≤ 14 }
+    requires within { place < length (edges_of parent.node.value) }
+    requires under { IsUnder (S.table store.old) parent }
+    ensures due { IfOk result (IsDue (S.table store.old)) }
+    ensures edge { IfOk result (IsStepFrom parent place) }
+    ensures full { IfOk result HasFullChild }
+    ensures stands { S.is_known store.old → IsOwn (S.nodes store.old) (S.table store.old) parent
+        → IfOk result (IsStanding (S.nodes store.old) (S.table store.old)) }
+    ensures reached { S.is_known store.old → IsOwn (S.nodes store.old) (S.table store.old) parent
+        → IfOk result (IsReached (S.nodes store.old) (S.table store.old) parent.id place) }
+    ensures way { IfOk result (IsWayOf (S.table store.old)) }
+    ensures way_at { S.is_known store.old → IsOwn (S.nodes store.old) (S.table store.old) parent
+        → AreOwn (S.nodes store.old) (S.table store.old) (reverse above.items)
+        → IfOk result (IsWayThere (S.nodes store.old) (S.table store.old)) }
+    ensures table { S.table store.new ≡ S.table store.old }
+    ensures known { S.is_known store.old → S.is_known store.new }
+    ensures kept { S.is_known store.old → S.nodes store.new ≡ S.nodes store.old }
+    ensures read { S.reads store.old store.new }
+    ensures cause { HasMapCause (S.fault_count store.old) (S.fault_count store.new)
+        (S.bad store.new) NeverWorn result }
+    ensures few_visits { S.visit_count store.new
+        ≤ S.visit_count store.old + (S.table store.old).level parent.id }
+    ensures same_loans { S.loans store.new ≡ S.loans store.old }
+{
+    let mut above = above;
+    let mut here = parent;
+    let mut at = place;
     loop {
-        let place = fullest_place(&parent.node);
-        match look_from(store, above, parent, place)? {
+        match look_from(store, above, here, at)? {
             Look::Down(nodes, child) => {
+                at = fullest_place(&child.node);
                 above = nodes;
-                parent = child;
+                here = child;
             }
             Look::End(step) => return Ok(step),
         }
@@ -120,14 +164,11 @@ fn look_from<S: NodeStore>(
     requires within { place < length (edges_of parent.node.value) }
     requires under { IsUnder (S.table store.old) parent }
     ensures seen { IfOk result (IsSeen (S.table store.old) parent place) }
-    ensures at { S.is_known store.old → IsSound (S.nodes store.old) (S.table store.old)
-        → IsThere (S.nodes store.old) (S.table store.old) parent
-        → IsFullestAt parent.node.value place
+    ensures at { S.is_known store.old → IsOwn (S.nodes store.old) (S.table store.old) parent
         → IfOk result (IsSeenAt (S.nodes store.old) (S.table store.old)) }
     ensures way { IfOk result (IsWaySeen (S.table store.old)) }
-    ensures way_at { S.is_known store.old
-        → IsThere (S.nodes store.old) (S.table store.old) parent
-        → AreThere (S.nodes store.old) (S.table store.old) (reverse above.items)
+    ensures way_at { S.is_known store.old → IsOwn (S.nodes store.old) (S.table store.old) parent
+        → AreOwn (S.nodes store.old) (S.table store.old) (reverse above.items)
         → IfOk result (IsWaySeenAt (S.nodes store.old) (S.table store.old)) }
     ensures table { S.table store.new ≡ S.table store.old }
     ensures known { S.is_known store.old → S.is_known store.new }
@@ -165,15 +206,14 @@ fn look_below<S: NodeStore>(
         → (e : Edge) → IsWayTo parent.node.value place child.id e
         → (S.table store.now).count child.id ≡ 1 → IsUnder (S.table store.now) parent
         → IfOk result (IsSeen (S.table store.now) parent place) }
-    ensures at { (nodes : Nodes) (t : Table) → IsThere nodes t parent
-        → length (edges_of parent.node.value) ≤ 14 → IsFullestAt parent.node.value place
+    ensures at { (nodes : Nodes) (t : Table) → IsOwn nodes t parent
         → (e : Edge) → IsWayTo parent.node.value place child.id e → t.count child.id ≡ 1
         → nodes child.id ≡ Some child.node.value → IfOk result (IsSeenAt nodes t) }
     ensures way { (t : Table) (e : Edge) → IsFetched t parent
         → IsWayTo parent.node.value place child.id e → t.count child.id ≡ 1
         → IsWayUp t parent.id (reverse above.items) → IfOk result (IsWaySeen t) }
-    ensures way_at { (nodes : Nodes) (t : Table) → IsThere nodes t parent
-        → AreThere nodes t (reverse above.items)
+    ensures way_at { (nodes : Nodes) (t : Table) → IsOwn nodes t parent
+        → AreOwn nodes t (reverse above.items)
         → IfOk result (IsWaySeenAt nodes t) }
 {
     if child.node.buffer_size() <= SOFT_BUFFER {
@@ -218,11 +258,12 @@ fn push_or_carve<S: NodeStore>(
         → (e : Edge) → IsTarget (S.table store.now) parent.node.value place e child
         → IsUnder (S.table store.now) parent → IsDue (S.table store.now) result }
     ensures here { IsStepAt parent place result }
-    ensures at { (nodes : Nodes) (t : Table) → IsThere nodes t parent → IsChildThere nodes child
-        → IsToDoAt nodes t result }
+    ensures full { HasFullChild result }
+    ensures at { (nodes : Nodes) (t : Table) → IsOwn nodes t parent → IsChildThere nodes child
+        → IsStanding nodes t result }
     ensures way { (t : Table) → IsWayUp t parent.id (reverse above.items) → IsWayOf t result }
     ensures way_at { (nodes : Nodes) (t : Table)
-        → AreThere nodes t (reverse above.items) → IsWayThere nodes t result }
+        → AreOwn nodes t (reverse above.items) → IsWayThere nodes t result }
 {
     let above = Items::from_vec(above);
     match held_goto(store, &parent, place) {

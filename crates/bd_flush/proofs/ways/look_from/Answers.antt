@@ -10,9 +10,8 @@ pub returns-in-Nothing-clause-way_at : goal.returns-in-Nothing-clause-way_at
 returns-in-Nothing-clause-way_at g c = λ known there all. c.push_or_carve.ensures.way_at (g.S.NodeStore.nodes c.args.store.now) (g.S.NodeStore.table c.args.store.now) all
 
 pub returns-clause-at : goal.returns-clause-at
-returns-clause-at g c = λ known sound there fullest.
-    c.in_ok-look_below.ensures.at (g.S.NodeStore.nodes c.args.store.now) (g.S.NodeStore.table c.args.store.now) there c.requires.room
-    fullest c.in-Child.ensures.0
+returns-clause-at g c = λ known own.
+    c.in_ok-look_below.ensures.at (g.S.NodeStore.nodes c.args.store.now) (g.S.NodeStore.table c.args.store.now) own c.in-Child.ensures.0
     (way_fetched c.args.parent.node.value c.deref.result.now c.args.place c.in-Child.id c.in_ok-child.child.id c.deref.ensures c.in_ok-child.ensures.id c.in-Child.ensures)
     (ap (λ (i : ℕ). (g.S.NodeStore.table c.args.store.now).count i) c.in_ok-child.ensures.id ∙ sym c.count.ensures ∙ c.if-count-ne1.false)
     (ap (λ (i : ℕ). g.S.NodeStore.nodes c.args.store.now i) c.in_ok-child.ensures.id ∙ c.in_ok-child.ensures.contents known)
