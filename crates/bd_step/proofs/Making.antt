@@ -1,5 +1,5 @@
 -- What the way down finds is enough to make a step.
-use Rattle.std.proofs.Common.{◌≡◌, ℕ, ◌+◌, ◌*◌, List, reverse, ◌<◌, ◌≤◌, sym, ap, subst, ◌∙◌, Option, None, Some, Result, Ok, IfOk, arith, inl, inr}
+use Rattle.std.proofs.Common.{◌≡◌, ℕ, ◌+◌, ◌*◌, List, reverse, ◌<◌, ◌≤◌, sym, ap, subst, ◌∙◌, Option, None, Some, arith, inl, inr}
 use Rattle.std.specs.List.{AllByRecursion}
 use Rattle.bd_limits.specs.Limits.{soft_limit}
 use Rattle.bd_node.specs.declared.node.Edge.{Edge}
@@ -16,12 +16,12 @@ use Rattle.bd_flush.specs.declared.ways.FlushStep.{FlushStep}
 use Rattle.bd_flush.specs.declared.ways.FlushStep.TheVariants.{SplitRoot, SplitChild, Push, Privatise, Carve}
 use Rattle.bd_flush.specs.Flushed.{IsFlushed}
 use Rattle.bd_flush.specs.Children.{IsFetched, IsContents}
-use Rattle.bd_flush.specs.Pushes.{CanPush, CanPushNew, AllGoDown, unseen}
+use Rattle.bd_flush.specs.Pushes.{CanPush, CanPushNew, AllGoDown, IsOwn, unseen}
 use Rattle.bd_flush.specs.GoingDown.{child_level}
 use Rattle.bd_flush.specs.Carving.{CanCarve}
 use Rattle.bd_copy.specs.Copying.{HasChild}
 use Rattle.bd_flush.proofs.EdgeChildren.{child_lower}
-use Rattle.bd_flush.specs.Ways.{IsFullestAt, IsFull, IsFullestIn, IsThere, AreThere, IsToDo, IsToDoAt, IsWayThere}
+use Rattle.bd_flush.specs.Ways.{IsFullestAt, IsFull, IsFullestIn, AreOwn, IsDue, IsWaited, IsStanding, IsToDo, IsToDoAt, IsWayThere}
 use Rattle.bd_node.proofs.Lookup.{each_weaker}
 use Rattle.bd_flush.proofs.Abundance.{abundant}
 use Rattle.bd_flush.proofs.GoingDown.{all_plain}
@@ -53,56 +53,64 @@ waits_for t parent place e waits fetched most here =
 goes_to : (t : Table) (n : Node) (place : ℕ) (e : Edge) (o : Option ℕ) → e.child ≡ o → AllGoDown t.level (child_level t.level e.child) n place e → AllGoDown t.level (child_level t.level o) n place e
 goes_to t n place e o is h = subst (λ (x : Option ℕ). AllGoDown t.level (child_level t.level x) n place e) is h
 
-pub can_push : (t : Table) (above : List Fetched) (parent : Fetched) (place : ℕ) (child : Fetched) → 1 ≤ t.size → IsToDo t (Push above parent place (Some child)) → CanPush t parent place child
-can_push t above parent place child waits h = record {
-  parent_is = h.0.0.parent_is;
-  child_is = h.0.0.target.1;
-  under = h.0.1;
-  room = h.0.0.room;
-  edge = h.0.0.edge;
-  way = h.0.0.target.0;
-  some = waits_for t parent place h.0.0.edge waits h.0.0.parent_is h.1 h.0.0.target.0.here;
-  down = goes_to t parent.node.value place h.0.0.edge (Some child.id) h.0.0.target.0.child_is h.0.0.down;
-  once = h.0.0.target.2;
-  soft = h.0.0.target.3;
+-- some messages wait, if a step goes down on the way to the fullest edge
+pub is_waited : (t : Table) (step : FlushStep) → 1 ≤ t.size → IsToDo t step → IsWaited step
+is_waited t (SplitRoot root) waits h = tt
+is_waited t (SplitChild above parent place child) waits h = tt
+is_waited t (Push above parent place child) waits h = λ e here. waits_for t parent place e waits h.0.0.parent_is h.1 here
+is_waited t (Privatise above parent place) waits h = tt
+is_waited t (Carve above parent place) waits h = tt
+
+pub can_push : (t : Table) (above : List Fetched) (parent : Fetched) (place : ℕ) (child : Fetched) → IsWaited (Push above parent place (Some child)) → IsDue t (Push above parent place (Some child)) → CanPush t parent place child
+can_push t above parent place child waited h = record {
+  parent_is = h.0.parent_is;
+  child_is = h.0.target.1;
+  under = h.1;
+  room = h.0.room;
+  edge = h.0.edge;
+  way = h.0.target.0;
+  some = waited h.0.edge h.0.target.0.here;
+  down = goes_to t parent.node.value place h.0.edge (Some child.id) h.0.target.0.child_is h.0.down;
+  once = h.0.target.2;
+  soft = h.0.target.3;
 }
 
-pub can_push_new : (t : Table) (above : List Fetched) (parent : Fetched) (place : ℕ) → 1 ≤ t.size → IsToDo t (Push above parent place None) → CanPushNew t parent place
-can_push_new t above parent place waits h = record {
-  parent_is = h.0.0.parent_is;
-  edge = h.0.0.edge;
-  here = h.0.0.target.0;
-  bare = h.0.0.target.1;
+pub can_push_new : (t : Table) (above : List Fetched) (parent : Fetched) (place : ℕ) → IsWaited (Push above parent place None) → IsDue t (Push above parent place None) → CanPushNew t parent place
+can_push_new t above parent place waited h = record {
+  parent_is = h.0.parent_is;
+  edge = h.0.edge;
+  here = h.0.target.0;
+  bare = h.0.target.1;
   waiting = record {
-    some = waits_for t parent place h.0.0.edge waits h.0.0.parent_is h.1 h.0.0.target.0;
-    plain = all_plain t.level parent.node.value place h.0.0.edge (goes_to t parent.node.value place h.0.0.edge None h.0.0.target.1 h.0.0.down);
+    some = waited h.0.edge h.0.target.0;
+    plain = all_plain t.level parent.node.value place h.0.edge (goes_to t parent.node.value place h.0.edge None h.0.target.1 h.0.down);
   };
 }
 
-pub can_carve : (t : Table) (above : List Fetched) (parent : Fetched) (place : ℕ) → IsToDo t (Carve above parent place) → CanCarve t parent place
+pub can_carve : (t : Table) (above : List Fetched) (parent : Fetched) (place : ℕ) → IsDue t (Carve above parent place) → CanCarve t parent place
 can_carve t above parent place h = record {
-  parent_is = h.0.0.parent_is;
-  room = h.0.0.room;
-  edge = h.0.0.edge;
-  here = h.0.0.here;
-  held = h.0.0.held;
+  parent_is = h.0.parent_is;
+  room = h.0.room;
+  edge = h.0.edge;
+  here = h.0.here;
+  held = h.0.held;
 }
 
-pub has_child : (t : Table) (above : List Fetched) (parent : Fetched) (place : ℕ) → IsToDo t (Privatise above parent place) → HasChild t parent place
+pub has_child : (t : Table) (above : List Fetched) (parent : Fetched) (place : ℕ) → IsDue t (Privatise above parent place) → HasChild t parent place
 has_child t above parent place h = record {
-  parent_is = h.0.0.parent_is;
-  edge = h.0.0.edge;
-  here = h.0.0.here;
-  child = h.0.0.child;
-  child_is = h.0.0.child_is;
+  parent_is = h.0.parent_is;
+  edge = h.0.edge;
+  here = h.0.here;
+  child = h.0.child;
+  child_is = h.0.child_is;
 }
 
-pub privatise_few : (t : Table) (above : List Fetched) (parent : Fetched) (place before now : ℕ) → IsToDo t (Privatise above parent place) → ((e : Edge) (child : ℕ) → IsEdgeAt parent.node.value place e → e.child ≡ Some child → now ≤ before + (2 + 17 * t.level child))
+pub privatise_few : (t : Table) (above : List Fetched) (parent : Fetched) (place before now : ℕ) → IsDue t (Privatise above parent place) → ((e : Edge) (child : ℕ) → IsEdgeAt parent.node.value place e → e.child ≡ Some child → now ≤ before + (2 + 17 * t.level child))
     → now ≤ before + (4 + 17 * t.level t.root)
 privatise_few t above parent place before now h few =
-    let visits : now ≤ before + (2 + 17 * t.level h.0.0.child) = few h.0.0.edge h.0.0.child h.0.0.here h.0.0.child_is in
-    let lower : t.level h.0.0.child < t.level parent.id = (child_lower t parent place h.0.0.child h.0.0.edge h.0.0.parent_is h.0.0.here h.0.0.child_is).lower in
-    let under : t.level parent.id ≤ t.level t.root = h.0.1 in
+    let visits : now ≤ before + (2 + 17 * t.level h.0.child) = few h.0.edge h.0.child h.0.here h.0.child_is in
+    let lower : t.level h.0.child < t.level parent.id = (child_lower t parent place h.0.child h.0.edge h.0.parent_is h.0.here h.0.child_is).lower in
+    let under : t.level parent.id ≤ t.level t.root = h.1 in
     omega arith
 
 -- ---- abundance
@@ -128,14 +136,14 @@ is_abundant t (Carve above parent place) h more = abundant_at t parent place mor
 
 -- ---- the whole step
 
-pub root_found : (nodes : Nodes) (t : Table) (root : Fetched) (n : Node) → n ≡ root.node.value → IsToDo t (SplitRoot root) → IsToDoAt nodes t (SplitRoot root) → nodes t.root ≡ Some n
-root_found nodes t root n same to_do here = ap nodes (sym to_do.0.1) ∙ (here.there ∙ ap (λ (m : Node). Some m) (sym same))
+pub root_found : (nodes : Nodes) (t : Table) (root : Fetched) (n : Node) → n ≡ root.node.value → IsDue t (SplitRoot root) → IsStanding nodes t (SplitRoot root) → nodes t.root ≡ Some n
+root_found nodes t root n same due here = ap nodes (sym due.1) ∙ (here.there ∙ ap (λ (m : Node). Some m) (sym same))
 
-pub here_again : (nodes mid : Nodes) (t m : Table) (step : FlushStep) → mid ≡ nodes → m ≡ t → IsSound mid m → (IsSound nodes t → IsToDoAt nodes t step) → IsToDoAt mid m step
+pub here_again : (nodes mid : Nodes) (t m : Table) (step : FlushStep) → mid ≡ nodes → m ≡ t → IsSound mid m → (IsSound nodes t → IsToDoAt nodes t step) → IsStanding mid m step
 here_again nodes mid t m step same table sound here =
-    subst (λ (u : Table). IsToDoAt mid u step) (sym table)
-    (subst (λ (f : Nodes). IsToDoAt f t step) (sym same)
-    (here (subst (λ (f : Nodes). IsSound f t) same (subst (λ (u : Table). IsSound mid u) table sound))))
+    subst (λ (u : Table). IsStanding mid u step) (sym table)
+    (subst (λ (f : Nodes). IsStanding f t step) (sym same)
+    (here (subst (λ (f : Nodes). IsSound f t) same (subst (λ (u : Table). IsSound mid u) table sound))).0)
 
 pub way_again : (nodes mid : Nodes) (t m : Table) (step : FlushStep) → mid ≡ nodes → m ≡ t → IsSound mid m → (IsSound nodes t → IsWayThere nodes t step) → IsWayThere mid m step
 way_again nodes mid t m step same table sound here =
@@ -144,10 +152,10 @@ way_again nodes mid t m step same table sound here =
     (here (subst (λ (f : Nodes). IsSound f t) same (subst (λ (u : Table). IsSound mid u) table sound))))
 
 -- the nodes above are those of the store
-pub way_stands : (nodes : Nodes) (t : Table) (way list : List Fetched) → list ≡ way → AreThere nodes t (reverse way) → AllByRecursion (IsContents nodes) (reverse list)
+pub way_stands : (nodes : Nodes) (t : Table) (way list : List Fetched) → list ≡ way → AreOwn nodes t (reverse way) → AllByRecursion (IsContents nodes) (reverse list)
 way_stands nodes t way list same h =
     subst (λ (l : List Fetched). AllByRecursion (IsContents nodes) (reverse l)) (sym same)
-    (each_weaker (IsThere nodes t) (IsContents nodes) (λ f there. there.there) (reverse way) h)
+    (each_weaker (IsOwn nodes t) (IsContents nodes) (λ f there. there.there) (reverse way) h)
 
 -- what the way down found in nodes, and what was made of them as it left them
 pub record IsStepMade (nodes mid : Nodes) (t m : Table) (new : Nodes) (u : Table) (step : FlushStep) : Type 0 where

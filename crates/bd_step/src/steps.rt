@@ -6,7 +6,7 @@ ghost use Rattle.bd_node.specs.Tables.{IsSound};
 ghost use Rattle.bd_flush.specs.declared.ways.FlushStep.TheVariants as step;
 ghost use Rattle.bd_flush.specs.Flushed.{IsFlushed, IsWornFor};
 ghost use Rattle.bd_flush.specs.Raising.{IsWayUp};
-ghost use Rattle.bd_flush.specs.Ways.{IsToDo, IsToDoAt, AreThere, IsWayOf, IsWayThere};
+ghost use Rattle.bd_flush.specs.Ways.{IsDue, IsWaited, IsStanding, AreOwn, IsWayOf, IsWayThere};
 ghost use Rattle.bd_step.specs.Steps.{IsMade, IsHighAfter, IsFlushStep, IsFound, step_visits};
 
 use bd_copy::privatise;
@@ -20,9 +20,9 @@ use std::alloc::Global;
 /// Makes one step of a flush where more than `limit` bytes of messages wait in the root, and says
 /// whether it did: at the place that the way down from the root finds, a node is split, messages go
 /// down to a child or to a new leaf, a shared child is copied, or the keys of a Goto get edges of
-/// their own. All changes are made at once or not at all. At most four nodes are made, and there are
-/// at most as many visits as the tree is high, and four more; where a child is copied, also those of
-/// at most 17 sources that are looked through, each at most as many as the tree is high.
+/// their own. All changes are made at once or not at all. At most four nodes are made, and there
+/// are at most as many visits as the tree is high, and four more; where a child is copied, also
+/// those of at most 17 sources that are looked through, each at most as many as the tree is high.
 pub fn flush_step<S: NodeStore>(
     alloc: Global,
     store: &mut S,
@@ -52,12 +52,14 @@ pub fn flush_step<S: NodeStore>(
     Ok(true)
 }
 
-// Makes a step that was found.
-fn make<S: NodeStore>(alloc: Global, store: &mut S, step: FlushStep) -> Result<(), MapFault>
-    requires waits { 1 ≤ (S.table store.old).size }
-    requires to_do { IsToDo (S.table store.old) step }
+/// Makes a step that was found. All changes are made at once or not at all. At most four nodes are
+/// made, and there are at most four visits; where a child is copied, also those of at most 17
+/// sources that are looked through, each at most as many as the tree is high.
+pub fn make<S: NodeStore>(alloc: Global, store: &mut S, step: FlushStep) -> Result<(), MapFault>
+    requires due { IsDue (S.table store.old) step }
+    requires waited { IsWaited step }
     requires here { S.is_known store.old → IsSound (S.nodes store.old) (S.table store.old)
-        → IsToDoAt (S.nodes store.old) (S.table store.old) step }
+        → IsStanding (S.nodes store.old) (S.table store.old) step }
     requires way { IsWayOf (S.table store.old) step }
     requires way_here { S.is_known store.old → IsSound (S.nodes store.old) (S.table store.old)
         → IsWayThere (S.nodes store.old) (S.table store.old) step }
@@ -106,13 +108,13 @@ fn push_down<S: NodeStore>(
     place: usize,
     child: Option<Fetched>,
 ) -> Result<(), MapFault>
-    requires waits { 1 ≤ (S.table store.old).size }
-    requires to_do { IsToDo (S.table store.old) (step.Push above parent place child) }
+    requires due { IsDue (S.table store.old) (step.Push above parent place child) }
+    requires waited { IsWaited (step.Push above parent place child) }
     requires here { S.is_known store.old → IsSound (S.nodes store.old) (S.table store.old)
-        → IsToDoAt (S.nodes store.old) (S.table store.old) (step.Push above parent place child) }
+        → IsStanding (S.nodes store.old) (S.table store.old) (step.Push above parent place child) }
     requires way { IsWayUp (S.table store.old) parent.id (reverse above) }
     requires way_here { S.is_known store.old → IsSound (S.nodes store.old) (S.table store.old)
-        → AreThere (S.nodes store.old) (S.table store.old) (reverse above) }
+        → AreOwn (S.nodes store.old) (S.table store.old) (reverse above) }
     ensures flushed { S.is_known store.old → IsSound (S.nodes store.old) (S.table store.old)
         → OnOk result (IsFlushed (S.nodes store.old) (S.table store.old)
         (S.nodes store.new) (S.table store.new)) }

@@ -1,5 +1,10 @@
-use Rattle.bd_step.proofs.Making.{here_again, way_again, is_flush_step}
+use Rattle.std.proofs.Common.{arith}
+use Rattle.bd_step.proofs.Making.{is_waited, here_again, way_again, is_flush_step}
 use Rattle.bd_step.proofs.steps.flush_step.Goals as goal
+
+pub make-requires-clause-waited : goal.make-requires-clause-waited
+make-requires-clause-waited g c =
+    is_waited (g.S.NodeStore.table c.args.store.now) c.in_ok-step.step (omega (arith, c.root_size.ensures)) c.in_ok-step.ensures.to_do
 
 pub make-requires-clause-here : goal.make-requires-clause-here
 make-requires-clause-here g c = λ known sound.

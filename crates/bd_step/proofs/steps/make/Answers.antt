@@ -1,14 +1,14 @@
 use Rattle.std.proofs.Common.{subst}
 use Rattle.bd_flush.specs.declared.ways.FlushStep.{FlushStep}
-use Rattle.bd_flush.specs.Ways.{IsToDo, IsToDoAt, IsWayThere}
+use Rattle.bd_flush.specs.Ways.{IsDue, IsStanding, IsWayThere}
 use Rattle.bd_step.proofs.Making.{can_carve, has_child, privatise_few, root_found, way_stands}
 use Rattle.bd_step.proofs.steps.make.Goals as goal
 
 pub split_root-requires-clause-there : goal.split_root-requires-clause-there
 split_root-requires-clause-there g c = λ known sound.
     root_found (g.S.NodeStore.nodes c.args.store.now) (g.S.NodeStore.table c.args.store.now) c.in-SplitRoot.root c.deref.result.now c.deref.ensures
-    (subst (λ (s : FlushStep). IsToDo (g.S.NodeStore.table c.args.store.now) s) c.in-SplitRoot.is c.requires.to_do)
-    (subst (λ (s : FlushStep). IsToDoAt (g.S.NodeStore.nodes c.args.store.now) (g.S.NodeStore.table c.args.store.now) s) c.in-SplitRoot.is (c.requires.here known sound))
+    (subst (λ (s : FlushStep). IsDue (g.S.NodeStore.table c.args.store.now) s) c.in-SplitRoot.is c.requires.due)
+    (subst (λ (s : FlushStep). IsStanding (g.S.NodeStore.nodes c.args.store.now) (g.S.NodeStore.table c.args.store.now) s) c.in-SplitRoot.is (c.requires.here known sound))
 
 pub split_child-requires-clause-there : goal.split_child-requires-clause-there
 split_child-requires-clause-there g c = λ known sound.
@@ -22,14 +22,14 @@ push_down-requires-clause-way_here g c = λ known sound.
 pub carve-requires-clause-can : goal.carve-requires-clause-can
 carve-requires-clause-can g c =
     can_carve (g.S.NodeStore.table c.args.store.now) c.in-Carve.above c.in-Carve.parent c.in-Carve.place
-    (subst (λ (s : FlushStep). IsToDo (g.S.NodeStore.table c.args.store.now) s) c.in-Carve.is c.requires.to_do)
+    (subst (λ (s : FlushStep). IsDue (g.S.NodeStore.table c.args.store.now) s) c.in-Carve.is c.requires.due)
 
 pub privatise-requires-clause-can : goal.privatise-requires-clause-can
 privatise-requires-clause-can g c =
     has_child (g.S.NodeStore.table c.args.store.now) c.in-Privatise.above c.in-Privatise.parent c.in-Privatise.place
-    (subst (λ (s : FlushStep). IsToDo (g.S.NodeStore.table c.args.store.now) s) c.in-Privatise.is c.requires.to_do)
+    (subst (λ (s : FlushStep). IsDue (g.S.NodeStore.table c.args.store.now) s) c.in-Privatise.is c.requires.due)
 
 pub returns-in-Privatise-clause-few_visits : goal.returns-in-Privatise-clause-few_visits
 returns-in-Privatise-clause-few_visits g c =
     privatise_few (g.S.NodeStore.table c.args.store.now) c.in-Privatise.above c.in-Privatise.parent c.in-Privatise.place (g.S.NodeStore.visit_count c.args.store.now) (g.S.NodeStore.visit_count c.privatise.new.store)
-    (subst (λ (s : FlushStep). IsToDo (g.S.NodeStore.table c.args.store.now) s) c.in-Privatise.is c.requires.to_do) c.privatise.ensures.few_visits
+    (subst (λ (s : FlushStep). IsDue (g.S.NodeStore.table c.args.store.now) s) c.in-Privatise.is c.requires.due) c.privatise.ensures.few_visits
