@@ -116,19 +116,22 @@ same_next t node place at step u h after =
     let next : u.next ≡ t.next + 0 = (subst (λ (q : Step). IsTableAfter t q u) h.decide.is after).next in
     omega arith
 
+-- what a step of a flush leaves, and more
+pub as_reclaimed : (nodes : Nodes) (t : Table) (new : Nodes) (u : Table) → IsFlushed nodes t new u → IsReclaimed nodes t new u
+as_reclaimed nodes t new u h = record {
+  same = h.same;
+  sound = h.sound;
+  later = h.later;
+  few = h.few;
+  last = h.last;
+  private = h.private;
+  others = h.others;
+  high = h.high;
+}
+
 reclaimed : (nodes : Nodes) (t : Table) (node : Fetched) (place at : ℕ) (step : Step) (new : Nodes) (u : Table) → IsToDecide t node place at step → IsSound nodes t → IsOwn nodes t node → IsTableAfter t step u → IsCommitted nodes t step new u → IsReclaimed nodes t new u
 reclaimed nodes t node place at step new u h sound own after committed =
-    let f : IsFlushed nodes t new u = one_flushed nodes t node.id node.node.value h.decide.made new u (changed nodes t node place at step new u h sound own after committed) in
-    let level : u.level u.root ≡ t.level t.root = (no_higher t node place at step u h after).level in
-    record {
-      same = f.same;
-      sound = f.sound;
-      next = same_next t node place at step u h after;
-      last = f.last;
-      private = f.private;
-      others = f.others;
-      no_higher = omega arith;
-    }
+    as_reclaimed nodes t new u (one_flushed nodes t node.id node.node.value h.decide.made new u (changed nodes t node place at step new u h sound own after committed))
 
 rest_same : (nodes : Nodes) (t : Table) (node : Fetched) (place at : ℕ) (step : Step) (new : Nodes) (u : Table) → IsToDecide t node place at step → IsTableAfter t step u → IsCommitted nodes t step new u → (id : ℕ) → IsKept u id → (id ≡ node.id → ⊥) → new id ≡ nodes id
 rest_same nodes t node place at step new u h after committed id kept other =

@@ -100,14 +100,15 @@ shrink_reclaimed nodes t child new u h =
           ∙ isolated_none nodes t (root_only child) new u h.sound h.committed refl child h.lower.kept (child_kept nodes t child new u h) k
           ∙ sym (thin_meaning nodes t h.root child h.sound h.there h.thin k);
       sound = h.committed.sound;
-      next = shrink_next t child u h.after;
+      later = omega (arith, shrink_next t child u h.after);
+      few = omega (arith, shrink_next t child u h.after);
       last = t.root;
       private = root_private nodes t h.sound;
       others = λ id kept stays no. record {
         node = rest_same nodes t child new u h.committed id stays;
         meaning = λ k. isolated_none nodes t (root_only child) new u h.sound h.committed refl id kept stays k;
       };
-      no_higher = omega arith;
+      high = omega arith;
     }
 
 shrink_shrunk : (nodes : Nodes) (t : Table) (child : ℕ) (new : Nodes) (u : Table) → IsToShrink nodes t child new u → IsShrunk nodes child new u

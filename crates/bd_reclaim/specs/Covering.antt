@@ -5,6 +5,7 @@ use Rattle.bd_message.specs.declared.message.Message.{Message}
 use Rattle.bd_message.specs.declared.message.Message.TheVariants.{Put, Del, Patch, Cut, Goto}
 use Rattle.bd_node.specs.declared.node.Edge.{Edge}
 use Rattle.bd_node.specs.declared.node.Node.{Node}
+use Rattle.bd_node.specs.Shape.{IsPending}
 use Rattle.bd_node.specs.Touching.{touches}
 use Rattle.bd_inner.specs.Halves.{buffer_of, bare_edge}
 use Rattle.bd_inner.specs.Carving.{from_key, goto_edge}
@@ -70,6 +71,33 @@ pub record IsFirstCovered (cover : Cover) (n : Node) (place at : ℕ) : Type 0 w
   pub covered : IsCovered cover n place at
   pub newest : (j : ℕ) → at < j → ¬ IsCovered cover n place j
   pub first : (i j : ℕ) → i < place → ¬ IsCovered cover n i j
+
+-- ---- Cuts that are pending
+
+-- a Cut of a buffer is pending for an edge, whose keys end there
+pub record IsCutFor (buffer : List Message) (e : Edge) (hi : Option (List ℕ)) : Type 0 where
+  pub at : ℕ
+  pub message : Message
+  pub there : slice_get buffer at ≡ Some message
+  pub cut : Says Gone message
+  pub pending : IsPending at message e hi
+
+-- a Cut is pending for the edge at a place of a node
+pub record HasCut (n : Node) (place : ℕ) : Type 0 where
+  pub edge : Edge
+  pub here : IsEdgeAt n place edge
+  pub cut : IsCutFor (buffer_of n) edge (end_at n place)
+
+-- there is no such edge
+abbrev pub HasNoCut : Node → Type 0
+HasNoCut n = (place : ℕ) → ¬ HasCut n place
+
+-- the first such edge
+pub record IsFirstCut (n : Node) (place : ℕ) : Type 0 where
+  pub cut : HasCut n place
+  pub first : (i : ℕ) → i < place → ¬ HasCut n i
+
+-- ---- what a covering message makes of an edge
 
 -- what the message at a place makes of an edge all of whose keys it decides: after a Cut it has no
 -- child, after a Goto it asks the Goto's node; it has seen all up to the message

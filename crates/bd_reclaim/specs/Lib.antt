@@ -1,3 +1,4 @@
 pub mod Covering
 pub mod Walks
+pub mod Pushing
 pub mod Reclaimed

@@ -1,5 +1,5 @@
 -- What a change leaves.
-use Rattle.std.specs.Prelude.{◌≡◌, ℕ, ◌+◌, ◌≤◌, List, [], length, Option, None, Some}
+use Rattle.std.specs.Prelude.{◌≡◌, ℕ, ◌+◌, ◌<◌, ◌≤◌, List, [], length, Option, None, Some}
 use Rattle.std.specs.List.{sum_by}
 use Rattle.bd_node.specs.declared.node.Node.{Node}
 use Rattle.bd_node.specs.declared.node.Step.{Step}
@@ -13,21 +13,24 @@ use Rattle.bd_flush.specs.Children.{IsNoHigher}
 use Rattle.bd_flush.specs.Carving.{change_step}
 use Rattle.bd_flush.specs.Pushes.{unseen}
 use Rattle.bd_reclaim.specs.declared.walking.Reclaim.{Reclaim}
-use Rattle.bd_reclaim.specs.declared.walking.Reclaim.TheVariants.{Shrink, Drop, Carve}
+use Rattle.bd_reclaim.specs.declared.walking.Reclaim.TheVariants.{Shrink, Drop, Carve, Push}
+use Rattle.bd_step.specs.Steps.{step_visits}
 use Rattle.bd_reclaim.specs.Covering.{IsDecided}
+use Rattle.bd_reclaim.specs.Pushing.{IsPushFound, IsPushMade}
 
--- what a change leaves: the tree has what it had, in sound nodes, and none is made; only nodes on
--- the one way from the root to a private node are changed or let go with what they alone named, and
--- each other one that stays is untouched; the root is no higher
+-- what a change leaves: the tree has what it had, in sound nodes, and at most four are made; only
+-- nodes on the one way from the root to a private node are changed or let go with what they alone
+-- named, and each other one that stays is untouched; the root is at most one level higher
 pub record IsReclaimed (nodes : Nodes) (t : Table) (new : Nodes) (u : Table) : Type 0 where
   pub same : (k : List ℕ) → root_at new u k ≡ root_at nodes t k
   pub sound : IsSound new u
-  pub next : u.next ≡ t.next
+  pub later : t.next ≤ u.next
+  pub few : u.next ≤ t.next + 4
   pub last : ℕ
   pub private : IsPrivate nodes t last
   pub others : (id : ℕ) → IsKept t id → IsKept u id → ¬ LeadsTo nodes last id
       → IsUntouched nodes new id
-  pub no_higher : u.level u.root ≤ t.level t.root
+  pub high : u.level u.root ≤ t.level t.root + 1
 
 -- the node has what the message at a place makes of its edge at a place, and all others that stay
 -- are what they were
@@ -54,16 +57,33 @@ abbrev pub root_only : ℕ → Step
 root_only root = record { made = []; changes = []; root = root }
 
 -- what became of the nodes, by the change
-abbrev pub IsMade : Nodes → Reclaim → Nodes → Table → Type 0
-IsMade nodes (Shrink child) new u = IsShrunk nodes child new u
-IsMade nodes (Drop node place at) new u = IsDecidedAt nodes node place at new u
-IsMade nodes (Carve node place at) new u = IsDecidedAt nodes node place at new u
+abbrev pub IsMade : Nodes → Table → Reclaim → Nodes → Table → Type 0
+IsMade nodes t (Shrink child) new u = IsShrunk nodes child new u
+IsMade nodes t (Drop node place at) new u = IsDecidedAt nodes node place at new u
+IsMade nodes t (Carve node place at) new u = IsDecidedAt nodes node place at new u
+IsMade nodes t (Push above node place) new u = IsPushMade nodes t above node place new u
 
 -- what became of the root, by the change, as far as the tables tell
 abbrev pub IsRootAfter : Table → Reclaim → Table → Type 0
 IsRootAfter t (Shrink child) u = (u.root ≡ child) × (u.level u.root ≡ t.level child)
 IsRootAfter t (Drop node place at) u = IsNoHigher t u
 IsRootAfter t (Carve node place at) u = IsNoHigher t u
+IsRootAfter t (Push above node place) u = IsPushFound t above node place u
+
+-- a change makes no nodes, unless it is a push
+abbrev pub IsNextAfter : Table → Reclaim → Table → Type 0
+IsNextAfter t (Shrink child) u = u.next ≡ t.next
+IsNextAfter t (Drop node place at) u = u.next ≡ t.next
+IsNextAfter t (Carve node place at) u = u.next ≡ t.next
+IsNextAfter t (Push above node place) u = Unit {0}
+
+-- how many visits a change takes at most: none, unless it is a push, and then as many as a step of a
+-- flush
+abbrev pub reclaim_visits : Table → Reclaim → ℕ
+reclaim_visits t (Shrink child) = 0
+reclaim_visits t (Drop node place at) = 0
+reclaim_visits t (Carve node place at) = 0
+reclaim_visits t (Push above node place) = step_visits t
 
 -- ---- how much is left to change
 
@@ -79,3 +99,10 @@ unseen_in (Some n) = unseen_count n
 -- how many messages the edges of all nodes haven't seen, in sum, and the root's level
 abbrev pub left_over : Nodes → Table → ℕ
 left_over nodes t = sum_below t.next (λ id. unseen_in (nodes id)) + t.level t.root
+
+-- a change leaves less to change, unless it is a push
+abbrev pub LeavesLess : Nodes → Table → Reclaim → Nodes → Table → Type 0
+LeavesLess nodes t (Shrink child) new u = left_over new u < left_over nodes t
+LeavesLess nodes t (Drop node place at) new u = left_over new u < left_over nodes t
+LeavesLess nodes t (Carve node place at) new u = left_over new u < left_over nodes t
+LeavesLess nodes t (Push above node place) new u = Unit {0}

@@ -1,6 +1,6 @@
 -- The walk that looks for a change, and the first one that it finds.
-use Rattle.std.specs.Prelude.{◌≡◌, ℕ, zero, suc, ◌<◌, ◌≤◌, nat_lt, ◌==◌, ◌&&◌, if◌then◌else◌, List, [], ◌∷◌, Option, None, Some, slice_get}
-use Rattle.std.specs.List.{sum_by}
+use Rattle.std.specs.Prelude.{◌≡◌, ℕ, zero, suc, Bool, IsTrue, ◌<◌, ◌≤◌, nat_lt, ◌==◌, ◌&&◌, if◌then◌else◌, List, [], ◌∷◌, reverse, Option, None, Some, slice_get}
+use Rattle.std.specs.List.{sum_by, AllByRecursion}
 use Rattle.bd_node.specs.declared.node.Edge.{Edge}
 use Rattle.bd_node.specs.declared.node.Node.{Node}
 use Rattle.bd_node.specs.Meaning.{Nodes}
@@ -8,14 +8,16 @@ use Rattle.bd_node.specs.Tables.{Table, IsLower}
 use Rattle.bd_inner.specs.Halves.{edges_of, buffer_of}
 use Rattle.bd_inner.specs.Exchange.{IsEdgeAt}
 use Rattle.bd_flush.specs.declared.fetching.Fetched.{Fetched}
-use Rattle.bd_flush.specs.Children.{IsFetched}
+use Rattle.bd_flush.specs.Children.{IsFetched, IsContents, IsEdgeTo}
 use Rattle.bd_flush.specs.Pushes.{IsOwn}
+use Rattle.bd_flush.specs.Raising.{IsWayUp}
+use Rattle.bd_flush.specs.Ways.{AreOwn}
 use Rattle.bd_reclaim.specs.declared.covering.Cover.TheVariants.{Gone, Elsewhere}
 use Rattle.bd_reclaim.specs.declared.walking.Reclaim.{Reclaim}
-use Rattle.bd_reclaim.specs.declared.walking.Reclaim.TheVariants.{Shrink, Drop, Carve}
+use Rattle.bd_reclaim.specs.declared.walking.Reclaim.TheVariants.{Shrink, Drop, Carve, Push}
 use Rattle.bd_reclaim.specs.declared.walking.Look.{Look}
 use Rattle.bd_reclaim.specs.declared.walking.Look.TheVariants.{Change, Clean}
-use Rattle.bd_reclaim.specs.Covering.{IsCovered, HasNoCovered, IsFirstCovered}
+use Rattle.bd_reclaim.specs.Covering.{IsCovered, HasNoCovered, IsFirstCovered, HasCut, HasNoCut, IsFirstCut}
 
 -- ---- which nodes are looked at
 
@@ -67,42 +69,46 @@ IsThin t n child = IsThinWay n child × (1 ≤ t.level child)
 abbrev pub IsNoThinRoot : Table → ℕ → Node → Type 0
 IsNoThinRoot t id n = id ≡ t.root → (child : ℕ) → ¬ IsThin t n child
 
--- nothing is to be changed at the node
-pub record IsClean (t : Table) (id : ℕ) (n : Node) : Type 0 where
+-- nothing is to be changed at the node, where pushes may be asked for
+pub record IsClean (pushes : Bool) (t : Table) (id : ℕ) (n : Node) : Type 0 where
   pub thin : IsNoThinRoot t id n
   pub cuts : HasNoCovered Gone n
   pub gotos : HasNoCovered Elsewhere n
+  pub pushed : IsTrue pushes → HasNoCut n
 
 -- the first change to make at a fetched node: a root that adds nothing goes, then come edges that a
--- Cut covers, then those that a Goto covers
-abbrev pub IsFirstAt : Table → Fetched → Reclaim → Type 0
-IsFirstAt t f (Shrink child) = (f.id ≡ t.root) × IsThin t f.node.value child
-IsFirstAt t f (Drop node place at) =
+-- Cut covers, then those that a Goto covers, then those for which another Cut is pending
+abbrev pub IsFirstAt : Bool → Table → Fetched → Reclaim → Type 0
+IsFirstAt pushes t f (Shrink child) = (f.id ≡ t.root) × IsThin t f.node.value child
+IsFirstAt pushes t f (Drop node place at) =
     (node ≡ f) × IsNoThinRoot t f.id f.node.value × IsFirstCovered Gone f.node.value place at
-IsFirstAt t f (Carve node place at) =
+IsFirstAt pushes t f (Carve node place at) =
     (node ≡ f) × IsNoThinRoot t f.id f.node.value × HasNoCovered Gone f.node.value
     × IsFirstCovered Elsewhere f.node.value place at
+IsFirstAt pushes t f (Push above node place) =
+    (node ≡ f) × IsNoThinRoot t f.id f.node.value × HasNoCovered Gone f.node.value
+    × HasNoCovered Elsewhere f.node.value × IsTrue pushes × IsFirstCut f.node.value place
 
 -- ---- the first change
 
 -- nothing is to be changed at any node to which the walk leads from this one
-abbrev pub HasNone : Nodes → Table → ℕ → Type 0
-HasNone nodes t from = (id : ℕ) (n : Node) → IsUnder nodes t id from → nodes id ≡ Some n
-    → IsClean t id n
+abbrev pub HasNone : Bool → Nodes → Table → ℕ → Type 0
+HasNone pushes nodes t from = (id : ℕ) (n : Node) → IsUnder nodes t id from → nodes id ≡ Some n
+    → IsClean pushes t id n
 
 -- nor below the edges before a place
-abbrev pub HasNoneBefore : Nodes → Table → List Edge → ℕ → Type 0
-HasNoneBefore nodes t edges place = (i c : ℕ) (e : Edge) → i < place → slice_get edges i ≡ Some e
-    → IsWalked t e c → HasNone nodes t c
+abbrev pub HasNoneBefore : Bool → Nodes → Table → List Edge → ℕ → Type 0
+HasNoneBefore pushes nodes t edges place = (i c : ℕ) (e : Edge) → i < place
+    → slice_get edges i ≡ Some e → IsWalked t e c → HasNone pushes nodes t c
 
 -- the walk from a node finds this change first: at the node itself, or below the first of its edges
 -- below which there is one
-pub data IsFirst (nodes : Nodes) (t : Table) (step : Reclaim) : ℕ → Type 0 where
-  here : (f : Fetched) → nodes f.id ≡ Some f.node.value → IsFirstAt t f step
-      → IsFirst nodes t step f.id
-  below : (id place c : ℕ) (n : Node) (e : Edge) → nodes id ≡ Some n → IsClean t id n
-      → HasNoneBefore nodes t (edges_of n) place → IsEdgeAt n place e → IsWalked t e c
-      → IsFirst nodes t step c → IsFirst nodes t step id
+pub data IsFirst (pushes : Bool) (nodes : Nodes) (t : Table) (step : Reclaim) : ℕ → Type 0 where
+  here : (f : Fetched) → nodes f.id ≡ Some f.node.value → IsFirstAt pushes t f step
+      → IsFirst pushes nodes t step f.id
+  below : (id place c : ℕ) (n : Node) (e : Edge) → nodes id ≡ Some n → IsClean pushes t id n
+      → HasNoneBefore pushes nodes t (edges_of n) place → IsEdgeAt n place e → IsWalked t e c
+      → IsFirst pushes nodes t step c → IsFirst pushes nodes t step id
 
 -- ---- changes that may be made
 
@@ -111,20 +117,62 @@ abbrev pub IsToDo : Table → Reclaim → Type 0
 IsToDo t (Shrink child) = IsLower t (t.level t.root) child × (1 ≤ t.level child)
 IsToDo t (Drop node place at) = IsFetched t node × IsCovered Gone node.node.value place at
 IsToDo t (Carve node place at) = IsFetched t node × IsCovered Elsewhere node.node.value place at
+IsToDo t (Push above node place) =
+    IsFetched t node × HasCut node.node.value place × IsWayUp t node.id (reverse above)
 
 -- where it may be made, in known nodes: at the root, or at a private node
 abbrev pub IsToDoAt : Nodes → Table → Reclaim → Type 0
 IsToDoAt nodes t (Shrink child) = (n : Node) × (nodes t.root ≡ Some n) × IsThin t n child
 IsToDoAt nodes t (Drop node place at) = IsOwn nodes t node
 IsToDoAt nodes t (Carve node place at) = IsOwn nodes t node
+IsToDoAt nodes t (Push above node place) = IsOwn nodes t node × AreOwn nodes t (reverse above)
+
+-- ---- the way that the walk has come
+
+-- fetched nodes from the one above a node up to another: each has an edge to the one below it, which
+-- nothing else names
+pub data IsWayBetween (t : Table) (top : ℕ) : ℕ → List Fetched → Type 0 where
+  at_top : IsWayBetween t top top []
+  one_up : (c place : ℕ) (f : Fetched) (e : Edge) (fs : List Fetched) → IsFetched t f
+      → IsEdgeTo f.node.value place c e → t.count c ≡ 1 → IsWayBetween t top f.id fs
+      → IsWayBetween t top c (f ∷ fs)
+
+-- the change, where the walk from a node has found it: the nodes above it up to that one
+abbrev pub IsFoundFrom : Table → ℕ → Reclaim → Type 0
+IsFoundFrom t top (Shrink child) = IsToDo t (Shrink child)
+IsFoundFrom t top (Drop node place at) = IsToDo t (Drop node place at)
+IsFoundFrom t top (Carve node place at) = IsToDo t (Carve node place at)
+IsFoundFrom t top (Push above node place) =
+    IsFetched t node × HasCut node.node.value place × IsWayBetween t top node.id (reverse above)
+
+-- in known nodes, those above are what was fetched
+abbrev pub IsFoundIn : Nodes → Reclaim → Type 0
+IsFoundIn nodes (Shrink child) = Unit {0}
+IsFoundIn nodes (Drop node place at) = Unit {0}
+IsFoundIn nodes (Carve node place at) = Unit {0}
+IsFoundIn nodes (Push above node place) = AllByRecursion (IsContents nodes) (reverse above)
+
+-- the change that was found below a node, where a push gets that node above it
+abbrev pub IsBelow : Fetched → Reclaim → Reclaim → Type 0
+IsBelow f (Shrink child) found = found ≡ Shrink child
+IsBelow f (Drop node place at) found = found ≡ Drop node place at
+IsBelow f (Carve node place at) found = found ≡ Carve node place at
+IsBelow f (Push above node place) found = found ≡ Push (f ∷ above) node place
 
 -- ---- what is seen at a node
 
+-- a push is found with no nodes above its own
+abbrev pub HasNoneAbove : Reclaim → Type 0
+HasNoneAbove (Shrink child) = Unit {0}
+HasNoneAbove (Drop node place at) = Unit {0}
+HasNoneAbove (Carve node place at) = Unit {0}
+HasNoneAbove (Push above node place) = above ≡ []
+
 -- a fetched node is to be changed so, or nothing is to be changed at it
-abbrev pub IsLook : Table → Fetched → Look → Type 0
-IsLook t f (Change step) = IsFirstAt t f step
-IsLook t f (Clean node) = (node ≡ f) × IsClean t f.id f.node.value
+abbrev pub IsLook : Bool → Table → Fetched → Look → Type 0
+IsLook pushes t f (Change step) = IsFirstAt pushes t f step × HasNoneAbove step
+IsLook pushes t f (Clean node) = (node ≡ f) × IsClean pushes t f.id f.node.value
 
 -- the same of its edges alone
-abbrev pub IsEdgeLook : Fetched → Look → Type 0
-IsEdgeLook f look = (t : Table) → IsNoThinRoot t f.id f.node.value → IsLook t f look
+abbrev pub IsEdgeLook : Bool → Fetched → Look → Type 0
+IsEdgeLook pushes f look = (t : Table) → IsNoThinRoot t f.id f.node.value → IsLook pushes t f look

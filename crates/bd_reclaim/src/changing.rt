@@ -1,6 +1,6 @@
 //! Changes that were found are made.
 
-ghost use Rattle.std.specs.Prelude.{◌≡◌, ◌<◌, ◌≤◌, OnOk, OnErr};
+ghost use Rattle.std.specs.Prelude.{◌≡◌, ◌+◌, ◌<◌, ◌≤◌, OnOk, OnErr};
 ghost use Rattle.bd_message.specs.KeyMaps.{HasMapCause};
 ghost use Rattle.bd_node.specs.Tables.{IsSound};
 ghost use Rattle.bd_flush.specs.Flushed.{IsWornFor};
@@ -9,18 +9,20 @@ ghost use Rattle.bd_flush.specs.Pushes.{IsOwn};
 ghost use Rattle.bd_reclaim.specs.declared.covering.Cover.{Cover};
 ghost use Rattle.bd_reclaim.specs.Covering.{IsCovered};
 ghost use Rattle.bd_reclaim.specs.Walks.{IsToDo, IsToDoAt};
-ghost use Rattle.bd_reclaim.specs.Reclaimed.{IsReclaimed, IsDecidedAt, IsMade, IsRootAfter, left_over};
+ghost use Rattle.bd_reclaim.specs.Reclaimed.{IsReclaimed, IsDecidedAt, IsMade, IsRootAfter, IsNextAfter, LeavesLess, left_over, reclaim_visits};
 
 use crate::Reclaim;
 use crate::deciding::decide_step;
+use crate::pushing::push_from;
 use crate::shrinking::shrink;
 use bd_flush::Fetched;
 use bd_message::MapFault;
 use bd_node::NodeStore;
 use std::alloc::Global;
 
-/// Makes a change that `reclaim_next` just found. All of it is done or nothing; what the tree has
-/// stays, and no node is fetched or made.
+/// Makes a change that `reclaim_next` just found. All of it is done or nothing, and what the tree
+/// has stays. A push makes at most four nodes, and has at most as many visits as a step of a flush;
+/// the other changes fetch and make none.
 pub fn reclaim_step<S: NodeStore>(
     alloc: Global,
     store: &mut S,
@@ -33,17 +35,19 @@ pub fn reclaim_step<S: NodeStore>(
         → OnOk result (IsReclaimed (S.nodes store.old) (S.table store.old)
         (S.nodes store.new) (S.table store.new)) }
     ensures made { S.is_known store.old → IsSound (S.nodes store.old) (S.table store.old)
-        → OnOk result (IsMade (S.nodes store.old) step (S.nodes store.new) (S.table store.new)) }
+        → OnOk result (IsMade (S.nodes store.old) (S.table store.old) step
+        (S.nodes store.new) (S.table store.new)) }
     ensures falls { S.is_known store.old → IsSound (S.nodes store.old) (S.table store.old)
-        → OnOk result (left_over (S.nodes store.new) (S.table store.new)
-        < left_over (S.nodes store.old) (S.table store.old)) }
-    ensures next { OnOk result ((S.table store.new).next ≡ (S.table store.old).next) }
+        → OnOk result (LeavesLess (S.nodes store.old) (S.table store.old) step
+        (S.nodes store.new) (S.table store.new)) }
+    ensures next { OnOk result (IsNextAfter (S.table store.old) step (S.table store.new)) }
     ensures root { OnOk result (IsRootAfter (S.table store.old) step (S.table store.new)) }
     ensures known { S.is_known store.old → S.is_known store.new }
     ensures err_table { OnErr result (S.table store.new ≡ S.table store.old) }
     ensures err_nodes { S.is_known store.old
         → OnErr result (S.nodes store.new ≡ S.nodes store.old) }
-    ensures few_visits { S.visit_count store.new ≤ S.visit_count store.old }
+    ensures few_visits { S.visit_count store.new
+        ≤ S.visit_count store.old + reclaim_visits (S.table store.old) step }
     ensures cause { HasMapCause (S.fault_count store.old) (S.fault_count store.new)
         (S.bad store.new) (IsWornFor (S.table store.old)) result }
     ensures same_loans { S.loans store.new ≡ S.loans store.old }
@@ -52,6 +56,7 @@ pub fn reclaim_step<S: NodeStore>(
         Reclaim::Shrink { child } => shrink(alloc, store, child),
         Reclaim::Drop { node, place, at } => change_edge(alloc, store, &node, place, at),
         Reclaim::Carve { node, place, at } => change_edge(alloc, store, &node, place, at),
+        Reclaim::Push { above, node, place } => push_from(alloc, store, above, node, place),
     }
 }
 

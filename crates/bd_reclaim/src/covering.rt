@@ -5,10 +5,10 @@ ghost use Rattle.std.specs.Option.{option_copied};
 ghost use Rattle.bd_keys.specs.Keys.{IsBelowEnd, IsCommon};
 ghost use Rattle.bd_node.specs.Shape.{IsShape};
 ghost use Rattle.bd_reclaim.specs.declared.covering.Cover.{Cover};
-ghost use Rattle.bd_reclaim.specs.Covering.{Says, TouchesAll, NoneDecides, IsNewest, HasNoCovered, IsFirstCovered};
+ghost use Rattle.bd_reclaim.specs.Covering.{Says, TouchesAll, NoneDecides, IsNewest, HasNoCovered, IsFirstCovered, IsCutFor, HasNoCut, IsFirstCut};
 
 use bd_flush::{buffer_of, edges_of};
-use bd_inner::end_of;
+use bd_inner::{can_touch, end_of};
 use bd_keys::{lift, starts};
 use bd_message::Message;
 use bd_node::{Edge, Node, touches};
@@ -37,6 +37,37 @@ pub fn first_covered(cover: Cover, node: &Node) -> Option<(usize, usize)>
         }
     }
     None
+}
+
+/// The place of the first edge of a node for which a Cut is pending.
+pub fn first_cut(node: &Node) -> Option<usize>
+    requires { IsShape node.now }
+    ensures { MatchOption result (HasNoCut node.now) (IsFirstCut node.now) }
+{
+    let edges = edges_of(node);
+    let buffer = buffer_of(node);
+    for (place, edge) in edges.iter().enumerate() {
+        if has_cut(edge, end_of(edges, place), buffer) {
+            return Some(place);
+        }
+    }
+    None
+}
+
+// Whether a Cut is pending for an edge, whose keys end at `hi`.
+fn has_cut(edge: &Edge, hi: Option<&[u8]>, buffer: &[Message]) -> bool
+    requires { IsBelowEnd edge.now.pivot (option_copied hi) }
+    ensures { IsTrue result ↔ IsCutFor buffer.now edge.now (option_copied hi.entry) }
+{
+    for (at, message) in buffer.iter().enumerate() {
+        if edge.seen as usize <= at
+            && says(Cover::Gone, message)
+            && can_touch(message, edge.pivot.as_slice(), hi)
+        {
+            return true;
+        }
+    }
+    false
 }
 
 // The place of the newest message that an edge hasn't seen and that decides all its keys, which end

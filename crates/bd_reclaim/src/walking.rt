@@ -7,13 +7,14 @@ ghost use Rattle.bd_node.specs.Shape.{IsShape};
 ghost use Rattle.bd_node.specs.Tables.{Table, IsKept, IsLower, IsSound};
 ghost use Rattle.bd_inner.specs.Halves.{edges_of};
 ghost use Rattle.bd_flush.specs.Children.{IsFetched};
-ghost use Rattle.bd_reclaim.specs.Walks.{IsWalked, IsThinWay, IsThin, IsLook, IsEdgeLook, IsFirst, HasNone, IsToDo, IsToDoAt, walk_size};
+ghost use Rattle.bd_reclaim.specs.Walks.{IsWalked, IsThinWay, IsThin, IsLook, IsEdgeLook, IsFirst, HasNone, IsToDo, IsToDoAt, IsFoundFrom, IsFoundIn, IsBelow, walk_size};
 
 use crate::Cover;
-use crate::covering::first_covered;
-use bd_flush::{Fetched, buffer_of, edges_of, fetch};
+use crate::covering::{first_covered, first_cut};
+use bd_flush::{Fetched, Way, buffer_of, edges_of, fetch};
 use bd_message::MapFault;
-use bd_node::{Edge, Node, NodeStore};
+use bd_node::{Edge, Items, Node, NodeStore};
+use std::alloc::{AllocError, Global};
 
 /// A change to make, and where.
 #[derive(Debug, Drop)]
@@ -36,17 +37,29 @@ pub enum Reclaim {
         place: usize,
         at: usize,
     },
+    /// A Cut is pending for the edge at the place of the node, below those above it: a step of a
+    /// flush begins there.
+    Push {
+        above: Way,
+        node: Fetched,
+        place: usize,
+    },
 }
 
 /// The first change that is still to be made, and none exactly where there is none. The walk looks
-/// at the root, and at each inner node that an edge of such a node asks and that nothing else names:
-/// at each node first, and then below its edges, in their order. Nothing is changed. At most those
-/// nodes are visited, each once.
-pub fn reclaim_next<S: NodeStore>(store: &mut S) -> Result<Option<Reclaim>, MapFault>
+/// at the root, and at each inner node that an edge of such a node asks and that nothing else
+/// names: at each node first, and then below its edges, in their order. Pushes are passed over
+/// unless `pushes` asks for them. Nothing is changed. At most those nodes are visited, each once.
+pub fn reclaim_next<S: NodeStore>(
+    alloc: Global,
+    store: &mut S,
+    pushes: bool,
+) -> Result<Option<Reclaim>, MapFault>
     ensures first { S.is_known store.old → IsSound (S.nodes store.old) (S.table store.old)
         → IfOk result (λ found. MatchOption found
-        (HasNone (S.nodes store.old) (S.table store.old) (S.table store.old).root)
-        (λ step. IsFirst (S.nodes store.old) (S.table store.old) step (S.table store.old).root)) }
+        (HasNone pushes (S.nodes store.old) (S.table store.old) (S.table store.old).root)
+        (λ step. IsFirst pushes (S.nodes store.old) (S.table store.old) step
+        (S.table store.old).root)) }
     ensures to_do { IfOk result (λ found. IfSome found (IsToDo (S.table store.old))) }
     ensures at { S.is_known store.old → IsSound (S.nodes store.old) (S.table store.old)
         → IfOk result (λ found. IfSome found
@@ -63,17 +76,25 @@ pub fn reclaim_next<S: NodeStore>(store: &mut S) -> Result<Option<Reclaim>, MapF
     ensures same_loans { S.loans store.new ≡ S.loans store.old }
 {
     let root = store.root();
-    first_from(store, root)
+    first_from(alloc, store, root, pushes)
 }
 
-// The first change to make at a node or below it.
-fn first_from<S: NodeStore>(store: &mut S, id: u64) -> Result<Option<Reclaim>, MapFault>
+// The first change to make at a node or below it. A push has the nodes above its own, up to this
+// one.
+fn first_from<S: NodeStore>(
+    alloc: Global,
+    store: &mut S,
+    id: u64,
+    pushes: bool,
+) -> Result<Option<Reclaim>, MapFault>
     requires { IsKept (S.table store.old) id }
     ensures first { S.is_known store.old → IsSound (S.nodes store.old) (S.table store.old)
         → IfOk result (λ found. MatchOption found
-        (HasNone (S.nodes store.old) (S.table store.old) id)
-        (λ step. IsFirst (S.nodes store.old) (S.table store.old) step id)) }
-    ensures to_do { IfOk result (λ found. IfSome found (IsToDo (S.table store.old))) }
+        (HasNone pushes (S.nodes store.old) (S.table store.old) id)
+        (λ step. IsFirst pushes (S.nodes store.old) (S.table store.old) step id)) }
+    ensures found { IfOk result (λ found. IfSome found (IsFoundFrom (S.table store.old) id)) }
+    ensures there { S.is_known store.old
+        → IfOk result (λ found. IfSome found (IsFoundIn (S.nodes store.old))) }
     ensures table { S.table store.new ≡ S.table store.old }
     ensures known { S.is_known store.old → S.is_known store.new }
     ensures kept { S.is_known store.old → S.nodes store.new ≡ S.nodes store.old }
@@ -86,7 +107,7 @@ fn first_from<S: NodeStore>(store: &mut S, id: u64) -> Result<Option<Reclaim>, M
     ensures same_loans { S.loans store.new ≡ S.loans store.old }
 {
     let here = fetch(store, id)?;
-    let here = match look_at(store, here) {
+    let here = match look_at(alloc, store, here, pushes) {
         Look::Change(step) => return Ok(Some(step)),
         Look::Clean(here) => here,
     };
@@ -95,11 +116,29 @@ fn first_from<S: NodeStore>(store: &mut S, id: u64) -> Result<Option<Reclaim>, M
         let Some(child) = walked(store, edge) else {
             continue;
         };
-        if let Some(step) = first_from(store, child)? {
-            return Ok(Some(step));
+        if let Some(step) = first_from(alloc, store, child, pushes)? {
+            return Ok(Some(found_below(here, step)?));
         }
     }
     Ok(None)
+}
+
+// A change that was found below a node. A push has that node above it too.
+fn found_below(here: Fetched, step: Reclaim) -> Result<Reclaim, AllocError>
+    ensures { IfOk result (IsBelow here step) }
+{
+    match step {
+        Reclaim::Push { above, node, place } => {
+            let mut above = above.into_vec();
+            above.insert(0, here)?;
+            Ok(Reclaim::Push {
+                above: Items::from_vec(above),
+                node,
+                place,
+            })
+        }
+        other => Ok(other),
+    }
 }
 
 // What is seen at a node.
@@ -112,16 +151,16 @@ enum Look {
 }
 
 // What is seen at a node.
-fn look_at<S: NodeStore>(store: &S, here: Fetched) -> Look
+fn look_at<S: NodeStore>(alloc: Global, store: &S, here: Fetched, pushes: bool) -> Look
     requires { IsFetched (S.table store.now) here }
-    ensures { IsLook (S.table store.now) here result }
+    ensures { IsLook pushes (S.table store.now) here result }
 {
     if here.id == store.root() {
         if let Some(child) = thin_child(store, &here) {
             return Look::Change(Reclaim::Shrink { child });
         }
     }
-    look_at_edges(here)
+    look_at_edges(alloc, here, pushes)
 }
 
 // The child of a node that adds nothing to it, an inner node.
@@ -154,9 +193,9 @@ fn only_child(node: &Node) -> Option<u64>
 }
 
 // What is seen at a node's edges.
-fn look_at_edges(here: Fetched) -> Look
+fn look_at_edges(alloc: Global, here: Fetched, pushes: bool) -> Look
     requires { IsShape here.node.value }
-    ensures { IsEdgeLook here result }
+    ensures { IsEdgeLook pushes here result }
 {
     if let Some((place, at)) = first_covered(Cover::Gone, &here.node) {
         return Look::Change(Reclaim::Drop {
@@ -172,7 +211,17 @@ fn look_at_edges(here: Fetched) -> Look
             at,
         });
     }
-    Look::Clean(here)
+    if !pushes {
+        return Look::Clean(here);
+    }
+    match first_cut(&here.node) {
+        Some(place) => Look::Change(Reclaim::Push {
+            above: Items::new(alloc),
+            node: here,
+            place,
+        }),
+        None => Look::Clean(here),
+    }
 }
 
 // The child of an edge, if the walk goes on there.

@@ -18,5 +18,5 @@ invariant-loop-edge g l = record {
   visits : g.S.NodeStore.is_known l.fn.store → (depth : ℕ) → (g.S.NodeStore.table l.fn.store).level l.fn.id ≤ depth
       → g.S.NodeStore.visit_count l.store ≤ g.S.NodeStore.visit_count l.fn.store + suc (walked_before (g.S.NodeStore.nodes l.fn.store) (g.S.NodeStore.table l.fn.store) depth l.edges l.edge-index);
   none : g.S.NodeStore.is_known l.fn.store → IsSound (g.S.NodeStore.nodes l.fn.store) (g.S.NodeStore.table l.fn.store)
-      → HasNoneBefore (g.S.NodeStore.nodes l.fn.store) (g.S.NodeStore.table l.fn.store) l.edges l.edge-index;
+      → HasNoneBefore l.pushes (g.S.NodeStore.nodes l.fn.store) (g.S.NodeStore.table l.fn.store) l.edges l.edge-index;
 }

@@ -1,0 +1,285 @@
+-- The edge that asks a child, and the steps that begin at an edge.
+use Rattle.std.proofs.Common.{◌≡◌, ◌≢◌, ℕ, ◌+◌, ◌<◌, ◌≤◌, Bool, true, false, nat_eq, List, [], ◌∷◌, ◌++◌, length, reverse, refl, sym, ap, subst, ◌∙◌, Option, None, Some, arith, inl, inr, Result, Ok, Err}
+use Rattle.std.specs.List.{AllByRecursion}
+use Rattle.std.proofs.lemmas.List.{reverse-append, reverse-reverse}
+use Rattle.std.specs.Prelude.{◌↔◌, IsTrue, IfOk, OnOk}
+use Rattle.std.specs.Option.{option_eq}
+use Rattle.std.proofs.lemmas.Bool.{cases_eq, eqb-true, eq-eqb, false≢true}
+use Rattle.std.proofs.lemmas.Option.{same_Some, none-some}
+use Rattle.bd_message.specs.declared.fault.Counter.{Counter}
+use Rattle.bd_message.specs.declared.fault.MapFault.{MapFault}
+use Rattle.bd_message.specs.declared.fault.MapFault.TheVariants.{DeviceFault, Damaged, Worn, NoMemory}
+use Rattle.bd_message.specs.KeyMaps.{IsCause, HasMapCause}
+use Rattle.bd_node.specs.declared.node.Edge.{Edge}
+use Rattle.bd_node.specs.declared.node.Node.{Node}
+use Rattle.bd_inner.specs.Halves.{edges_of}
+use Rattle.bd_inner.specs.Exchange.{end_at, IsEdgeAt}
+use Rattle.bd_node.specs.Nodes.{buffer_size}
+use Rattle.bd_node.specs.Meaning.{Nodes}
+use Rattle.bd_node.specs.Shape.{IsPending}
+use Rattle.bd_node.specs.Tables.{Table, IsSound}
+use Rattle.bd_flush.specs.declared.fetching.Fetched.{Fetched}
+use Rattle.bd_flush.specs.declared.ways.FlushStep.{FlushStep}
+use Rattle.bd_flush.specs.declared.ways.FlushStep.TheVariants.{SplitRoot, SplitChild, Push, Privatise, Carve}
+use Rattle.bd_flush.specs.Children.{IsFetched, IsEdgeTo, IsWayTo, CanSplitChild}
+use Rattle.bd_flush.specs.Raising.{IsWayUp}
+use Rattle.bd_flush.specs.Raising.IsWayUp.{top, one_up}
+use Rattle.bd_flush.specs.Flushed.{IsFlushed, IsWornFor}
+use Rattle.bd_flush.specs.Ways.{HasPending, IsUnder, IsShared, IsDue, IsWaited, IsFromEdge, IsStepFrom, IsStanding, IsReached, IsWayThere}
+use Rattle.bd_step.specs.Steps.{IsMade as IsStepMade, IsHighAfter}
+use Rattle.bd_flush.proofs.ChildSplits.{edge_within}
+use Rattle.bd_flush.proofs.RootSplits.{up_lower}
+use Rattle.bd_flush.proofs.Waiting.{fullest_waits, pending_waits}
+use Rattle.bd_reclaim.proofs.Decisions.{as_reclaimed}
+use Rattle.bd_reclaim.specs.Covering.{HasCut}
+use Rattle.bd_reclaim.specs.Reclaimed.{IsReclaimed}
+use Rattle.bd_reclaim.specs.Pushing.{IsSplitFirst, IsPushStep, IsPushFound, IsPushMade}
+use Rattle.bd_reclaim.specs.Pushing.IsSplitFirst.{at_root, asked_through, below, further}
+
+-- ---- the edge that asks a child
+
+asks_it : (o : Option ℕ) (c : ℕ) → option_eq nat_eq o (Some c) ≡ true → o ≡ Some c
+asks_it None c h = absurd (false≢true h)
+asks_it (Some x) c h = ap (λ (i : ℕ). Some i) (eqb-true x c h)
+
+asks_other : (o : Option ℕ) (c : ℕ) → option_eq nat_eq o (Some c) ≡ false → o ≡ Some c → ⊥
+asks_other None c h same = absurd (none-some c same)
+asks_other (Some x) c h same = false≢true (sym h ∙ eq-eqb x c (same_Some x c same))
+
+-- no edge before a place asks the child
+abbrev pub NoneAsks : Node → ℕ → ℕ → Type 0
+NoneAsks n child place = (i : ℕ) (e : Edge) → i < place → IsEdgeAt n i e → e.child ≡ Some child → ⊥
+
+pub found_it : (n : Node) (place child : ℕ) (e : Edge) → IsEdgeAt n place e → option_eq nat_eq e.child (Some child) ≡ true → (d : Edge) × IsEdgeTo n place child d
+found_it n place child e here is = (e, record { here = here; child_is = asks_it e.child child is })
+
+pub none_asks_more : (n : Node) (place child : ℕ) (e : Edge) → IsEdgeAt n place e → option_eq nat_eq e.child (Some child) ≡ false → NoneAsks n child place → NoneAsks n child (place + 1)
+none_asks_more n place child e here other none i d low at_i is =
+    elim (cases_eq i place) [
+      | inl same ↦
+          let own : d ≡ e = same_Some d e (sym at_i ∙ subst (λ (j : ℕ). IsEdgeAt n j e) (sym same) here) in
+          asks_other e.child child other (sym (ap (λ (x : Edge). x.child) own) ∙ is)
+      | inr apart ↦ none i d (omega arith) at_i is
+    ]
+
+pub some_asks : (n : Node) (place child : ℕ) → NoneAsks n child place → length (edges_of n) ≤ place → (at : ℕ) × (e : Edge) × IsEdgeTo n at child e → ⊥
+some_asks n place child none all found = none found.0 found.1 (let low : found.0 < length (edges_of n) = edge_within n found.0 found.1 found.2.here in omega arith) found.2.here found.2.child_is
+
+-- ---- the nodes above one
+
+-- the last of some nodes
+pub popped : (old new : List Fetched) (p : Fetched) → old ≡ new ++ (p ∷ []) → reverse old ≡ p ∷ reverse new
+popped old new p same = ap (λ (l : List Fetched). reverse l) same ∙ reverse-append new (p ∷ [])
+
+pub popped_all : (P : Fetched → Type 0) (old new : List Fetched) (p : Fetched) → old ≡ new ++ (p ∷ []) → AllByRecursion P (reverse old) → P p × AllByRecursion P (reverse new)
+popped_all P old new p same all = subst (λ (l : List Fetched). AllByRecursion P l) (popped old new p same) all
+
+-- a node and the nearest one above it, as far as the table tells
+pub record IsUpLink (t : Table) (p node : Fetched) (rest : List Fetched) : Type 0 where
+  pub fetched : IsFetched t p
+  pub place : ℕ
+  pub edge : Edge
+  pub way : IsEdgeTo p.node.value place node.id edge
+  pub once : t.count node.id ≡ 1
+  pub up : IsWayUp t p.id rest
+
+link_of : (t : Table) (p node : Fetched) (rest : List Fetched) (c : ℕ) → c ≡ node.id → IsWayUp t c (p ∷ rest) → IsUpLink t p node rest
+link_of t p node rest _ same (one_up c place _ e _ fetched way once up) = record {
+  fetched = fetched;
+  place = place;
+  edge = e;
+  way = subst (λ (i : ℕ). IsEdgeTo p.node.value place i e) same way;
+  once = ap t.count (sym same) ∙ once;
+  up = up;
+}
+
+pub up_link : (t : Table) (old new : List Fetched) (p node : Fetched) → old ≡ new ++ (p ∷ []) → IsWayUp t node.id (reverse old) → IsUpLink t p node (reverse new)
+up_link t old new p node same way = link_of t p node (reverse new) node.id refl (subst (λ (l : List Fetched). IsWayUp t node.id l) (popped old new p same) way)
+
+-- no node of the way is above the root
+pub way_under : (t : Table) (c : ℕ) (way : List Fetched) → IsWayUp t c way → t.level c ≤ t.level t.root
+way_under t _ _ top = omega arith
+way_under t _ _ (one_up c place f e fs fetched edge once up) =
+    let lower : t.level c < t.level f.id = (up_lower t f place c e fetched edge).lower in
+    let above : t.level f.id ≤ t.level t.root = way_under t f.id fs up in
+    omega arith
+
+at_the_root : (t : Table) (c : ℕ) (way : List Fetched) → length way ≡ 0 → IsWayUp t c way → c ≡ t.root
+at_the_root t _ _ none top = refl
+at_the_root t _ _ none (one_up c place f e fs fetched edge once up) = absurd (omega arith)
+
+pub nothing_above : (t : Table) (c : ℕ) (above : List Fetched) → length above ≡ 0 → IsWayUp t c (reverse above) → c ≡ t.root
+nothing_above t c [] none way = at_the_root t c [] refl way
+nothing_above t c (f ∷ fs) none way = absurd (omega arith)
+
+-- ---- what is to be split first
+
+pub first_root : (above : List Fetched) (node : Fetched) → length above ≡ 0 → IsSplitFirst (reverse above) node (SplitRoot node)
+first_root [] node none = at_root node
+first_root (f ∷ fs) node none = absurd (omega arith)
+
+-- an edge that asks a child, of a node in another spelling
+pub asked_here : (n m : Node) (place child : ℕ) → n ≡ m → (e : Edge) × IsEdgeTo n place child e → (e : Edge) × IsEdgeTo m place child e
+asked_here n m place child same asked = subst (λ (x : Node). (e : Edge) × IsEdgeTo x place child e) same asked
+
+-- whether it asks with something in front of a key
+plainly : (n m : Node) (place child : ℕ) (b : Bool) (asked : (e : Edge) × IsEdgeTo m place child e) → n ≡ m → ((e : Edge) → IsEdgeAt n place e → IsTrue b ↔ (e.source ≡ [])) → IsTrue b ↔ (asked.0.source ≡ [])
+plainly n m place child b asked same tells = tells asked.0 (subst (λ (x : Node). IsEdgeAt x place asked.0) (sym same) asked.1.here)
+
+pub asks_through : (n m : Node) (place child : ℕ) (b : Bool) (asked : (e : Edge) × IsEdgeTo m place child e) → n ≡ m → ((e : Edge) → IsEdgeAt n place e → IsTrue b ↔ (e.source ≡ [])) → b ≡ false → asked.0.source ≢ []
+asks_through n m place child b asked same tells other plain = false≢true (sym other ∙ (plainly n m place child b asked same tells).1 plain)
+
+pub asks_plain : (n m : Node) (place child : ℕ) (b : Bool) (asked : (e : Edge) × IsEdgeTo m place child e) → n ≡ m → ((e : Edge) → IsEdgeAt n place e → IsTrue b ↔ (e.source ≡ [])) → b ≡ true → asked.0.source ≡ []
+asks_plain n m place child b asked same tells own = (plainly n m place child b asked same tells).0 own
+
+-- a node and the one above it, as the code finds them
+pub record IsAsking (old new : List Fetched) (p node : Fetched) (place : ℕ) : Type 0 where
+  pub more : old ≡ new ++ (p ∷ [])
+  pub asked : (e : Edge) × IsEdgeTo p.node.value place node.id e
+
+-- of its nodes in another spelling
+in_front : (P : List Fetched → List Fetched → Type 0) (old new list : List Fetched) (p : Fetched) → old ≡ new ++ (p ∷ []) → list ≡ new → P (p ∷ reverse new) (reverse (reverse new)) → P (reverse old) list
+in_front P old new list p more same h =
+    subst (λ (l : List Fetched). P l list) (sym (popped old new p more))
+    (subst (λ (l : List Fetched). P (p ∷ reverse new) l) (reverse-reverse new ∙ sym same) h)
+
+pub first_copied : (old new list : List Fetched) (p node : Fetched) (place : ℕ) (h : IsAsking old new p node place) → list ≡ new → h.asked.0.source ≢ [] → IsSplitFirst (reverse old) node (Privatise list p place)
+first_copied old new list p node place h same through =
+    in_front (λ up whole. IsSplitFirst up node (Privatise whole p place)) old new list p h.more same
+    (asked_through (reverse new) p node place h.asked.0 h.asked.1 through)
+
+-- the edge asks with nothing in front of a key
+pub plain_way : (n : Node) (place child : ℕ) (e : Edge) → IsEdgeTo n place child e → e.source ≡ [] → IsWayTo n place child e
+plain_way n place child e edge plain = record { here = edge.here; child_is = edge.child_is; plain = plain }
+
+pub first_below : (old new list : List Fetched) (p node : Fetched) (place : ℕ) (h : IsAsking old new p node place) → list ≡ new → h.asked.0.source ≡ [] → length (edges_of p.node.value) ≤ 14 → IsSplitFirst (reverse old) node (SplitChild list p place node)
+first_below old new list p node place h same plain room =
+    in_front (λ up whole. IsSplitFirst up node (SplitChild whole p place node)) old new list p h.more same
+    (below (reverse new) p node place h.asked.0 (plain_way p.node.value place node.id h.asked.0 h.asked.1 plain) room)
+
+pub first_further : (old new : List Fetched) (p node : Fetched) (place : ℕ) (h : IsAsking old new p node place) (step : FlushStep) → h.asked.0.source ≡ [] → 15 ≤ length (edges_of p.node.value) → IsSplitFirst (reverse new) p step → IsSplitFirst (reverse old) node step
+first_further old new p node place h step plain wide rest =
+    subst (λ (l : List Fetched). IsSplitFirst l node step) (sym (popped old new p h.more))
+    (further (reverse new) p node place h.asked.0 step (plain_way p.node.value place node.id h.asked.0 h.asked.1 plain) wide rest)
+
+-- ---- it is due
+
+pub copy_due : (t : Table) (old new : List Fetched) (p node : Fetched) (place : ℕ) (h : IsAsking old new p node place) → h.asked.0.source ≢ [] → IsWayUp t node.id (reverse old) → IsShared t p place × IsUnder t p
+copy_due t old new p node place h through way =
+    let link : IsUpLink t p node (reverse new) = up_link t old new p node h.more way in
+    (record { parent_is = link.fetched; edge = h.asked.0; here = h.asked.1.here; child = node.id; child_is = h.asked.1.child_is; shared = inl through }, way_under t p.id (reverse new) link.up)
+
+pub split_due : (t : Table) (old new : List Fetched) (p node : Fetched) (place : ℕ) (h : IsAsking old new p node place) → h.asked.0.source ≡ [] → length (edges_of p.node.value) ≤ 14 → 15 ≤ length (edges_of node.node.value) → IsFetched t node → IsWayUp t node.id (reverse old) → CanSplitChild t p place node × IsUnder t p
+split_due t old new p node place h plain room wide fetched way =
+    let link : IsUpLink t p node (reverse new) = up_link t old new p node h.more way in
+    (record { parent_is = link.fetched; child_is = fetched; room = room; full = wide; edge = h.asked.0; way = plain_way p.node.value place node.id h.asked.0 h.asked.1 plain; once = link.once }, way_under t p.id (reverse new) link.up)
+
+-- ---- messages wait where a step goes down
+
+-- at the edge at which a step begins, and at one further down
+edge_waited : (t : Table) (node : Fetched) (from : ℕ) (p : Fetched) (place : ℕ) → HasCut node.node.value from → IsFetched t p → IsFromEdge node from p place → (e : Edge) → IsEdgeAt p.node.value place e → HasPending p.node.value place e
+edge_waited t node from p place cut fetched from_edge e here =
+    elim from_edge [
+      | inl own ↦
+          let at_cut : IsEdgeAt node.node.value from e = subst (λ (x : Fetched). IsEdgeAt x.node.value from e) own.0 (subst (λ (i : ℕ). IsEdgeAt p.node.value i e) own.1 here) in
+          let same : cut.edge ≡ e = same_Some cut.edge e (sym cut.here ∙ at_cut) in
+          let there : HasPending node.node.value from e = record {
+            index = cut.cut.at;
+            message = cut.cut.message;
+            there = cut.cut.there;
+            pending = subst (λ (x : Edge). IsPending cut.cut.at cut.cut.message x (end_at node.node.value from)) same cut.cut.pending;
+          } in
+          subst (λ (i : ℕ). HasPending p.node.value i e) (sym own.1) (subst (λ (x : Fetched). HasPending x.node.value from e) (sym own.0) there)
+      | inr more ↦
+          let some : 1 ≤ buffer_size p.node.value = omega (arith, more.full) in
+          fullest_waits p.node.value fetched.own.shape some place more.fullest e here
+    ]
+
+step_waited : (t : Table) (node : Fetched) (from : ℕ) (step : FlushStep) → HasCut node.node.value from → IsDue t step → IsStepFrom node from step → IsWaited step
+step_waited t node from (SplitRoot root) cut due at = tt
+step_waited t node from (SplitChild above parent place child) cut due at = tt
+step_waited t node from (Push above parent place child) cut due at = λ e here. pending_waits parent.node.value place e (edge_waited t node from parent place cut due.0.parent_is at e here)
+step_waited t node from (Privatise above parent place) cut due at = tt
+step_waited t node from (Carve above parent place) cut due at = tt
+
+pub all_waited : {E : Type 0} (t : Table) (node : Fetched) (from : ℕ) (r : Result FlushStep E) → HasCut node.node.value from → IfOk r (IsDue t) → IfOk r (IsStepFrom node from) → IfOk r IsWaited
+all_waited t node from (Ok step) cut due at = step_waited t node from step cut due at
+all_waited t node from (Err e) cut due at = tt
+
+-- ---- what a push leaves
+
+-- a step that was found in nodes, and what became of them
+pub record IsPushing (nodes mid : Nodes) (t m : Table) (above : List Fetched) (node : Fetched) (place : ℕ) (step : FlushStep) : Type 0 where
+  pub nodes_are : mid ≡ nodes
+  pub table_is : m ≡ t
+  pub sound : IsSound nodes t
+  pub due : IsDue t step
+  pub begins : IsPushStep above node place step
+  pub stands : IsStanding nodes t step
+  pub reached : length (edges_of node.node.value) ≤ 14 → IsReached nodes t node.id place step
+
+sound_again : (nodes mid : Nodes) (t m : Table) → mid ≡ nodes → m ≡ t → IsSound nodes t → IsSound mid m
+sound_again nodes mid t m same table sound = subst (λ (v : Table). IsSound mid v) (sym table) (subst (λ (f : Nodes). IsSound f t) (sym same) sound)
+
+flushed_so : (nodes mid : Nodes) (t m : Table) (new : Nodes) (u : Table) → mid ≡ nodes → m ≡ t → IsFlushed mid m new u → IsFlushed nodes t new u
+flushed_so nodes mid t m new u same table h = subst (λ (v : Table). IsFlushed nodes v new u) table (subst (λ (f : Nodes). IsFlushed f m new u) same h)
+
+push_reclaimed : (nodes mid : Nodes) (t m : Table) (new : Nodes) (u : Table) → mid ≡ nodes → m ≡ t → IsSound nodes t → (IsSound mid m → IsFlushed mid m new u) → IsReclaimed nodes t new u
+push_reclaimed nodes mid t m new u same table sound flushed =
+    as_reclaimed nodes t new u (flushed_so nodes mid t m new u same table (flushed (sound_again nodes mid t m same table sound)))
+
+push_made : (nodes mid : Nodes) (t m : Table) (new : Nodes) (u : Table) (above : List Fetched) (node : Fetched) (place : ℕ) (step : FlushStep) → IsPushing nodes mid t m above node place step → (IsSound mid m → IsStepMade mid m step new u) → IsHighAfter m step u → (IsSound mid m → IsFlushed mid m new u) → IsPushMade nodes t above node place new u
+push_made nodes mid t m new u above node place step h made height flushed =
+    let again : IsSound mid m = sound_again nodes mid t m h.nodes_are h.table_is h.sound in
+    record {
+      step = step;
+      begins = h.begins;
+      due = h.due;
+      stands = h.stands;
+      reached = h.reached;
+      made = subst (λ (v : Table). IsStepMade nodes v step new u) h.table_is (subst (λ (f : Nodes). IsStepMade f m step new u) h.nodes_are (made again));
+      height = subst (λ (v : Table). IsHighAfter v step u) h.table_is height;
+      flushed = flushed_so nodes mid t m new u h.nodes_are h.table_is (flushed again);
+    }
+
+-- it stands in the nodes as they were left
+pub stands_again : (nodes mid : Nodes) (t m : Table) (step : FlushStep) → mid ≡ nodes → m ≡ t → IsStanding nodes t step → IsStanding mid m step
+stands_again nodes mid t m step same table h = subst (λ (v : Table). IsStanding mid v step) (sym table) (subst (λ (f : Nodes). IsStanding f t step) (sym same) h)
+
+pub way_again : (nodes mid : Nodes) (t m : Table) (step : FlushStep) → mid ≡ nodes → m ≡ t → IsWayThere nodes t step → IsWayThere mid m step
+way_again nodes mid t m step same table h = subst (λ (v : Table). IsWayThere mid v step) (sym table) (subst (λ (f : Nodes). IsWayThere f t step) (sym same) h)
+
+pub sound_before : (nodes mid : Nodes) (t m : Table) → mid ≡ nodes → m ≡ t → IsSound mid m → IsSound nodes t
+sound_before nodes mid t m same table sound = subst (λ (f : Nodes). IsSound f t) same (subst (λ (v : Table). IsSound mid v) table sound)
+
+-- ---- what a push gives
+
+pub push_on_ok : {T E : Type 0} (nodes mid : Nodes) (t m : Table) (new : Nodes) (u : Table) (r : Result T E) → mid ≡ nodes → m ≡ t → IsSound nodes t → (IsSound mid m → OnOk r (IsFlushed mid m new u)) → OnOk r (IsReclaimed nodes t new u)
+push_on_ok nodes mid t m new u (Ok x) same table sound flushed = push_reclaimed nodes mid t m new u same table sound flushed
+push_on_ok nodes mid t m new u (Err e) same table sound flushed = tt
+
+pub push_on_made : {T E : Type 0} (nodes mid : Nodes) (t m : Table) (new : Nodes) (u : Table) (above : List Fetched) (node : Fetched) (place : ℕ) (step : FlushStep) (r : Result T E) → IsPushing nodes mid t m above node place step → (IsSound mid m → OnOk r (IsStepMade mid m step new u)) → OnOk r (IsHighAfter m step u) → (IsSound mid m → OnOk r (IsFlushed mid m new u)) → OnOk r (IsPushMade nodes t above node place new u)
+push_on_made nodes mid t m new u above node place step (Ok x) h made height flushed = push_made nodes mid t m new u above node place step h made height flushed
+push_on_made nodes mid t m new u above node place step (Err e) h made height flushed = tt
+
+pub push_on_found : {T E : Type 0} (t m u : Table) (above : List Fetched) (node : Fetched) (place : ℕ) (step : FlushStep) (r : Result T E) → m ≡ t → IsPushStep above node place step → IsDue t step → OnOk r (IsHighAfter m step u) → OnOk r (IsPushFound t above node place u)
+push_on_found t m u above node place step (Ok x) table begins due height = record { step = step; begins = begins; due = due; height = subst (λ (v : Table). IsHighAfter v step u) table height }
+push_on_found t m u above node place step (Err e) table begins due height = tt
+
+-- a fault of the step that is made, after the one before went well
+caused : (before mid now : ℕ) (bad : ℕ → Type 0) (worn : Counter → Type 0) (e : MapFault) → before ≤ mid → IsCause mid now bad worn e → IsCause before now bad worn e
+caused before mid now bad worn DeviceFault early rose =
+    elim rose [
+      | inl more ↦ inl (omega arith)
+      | inr full ↦ inr full
+    ]
+caused before mid now bad worn (Damaged block) early is = is
+caused before mid now bad worn (Worn which) early is = is
+caused before mid now bad worn NoMemory early is = tt
+
+pub push_cause : {T : Type 0} (before mid now : ℕ) (bad : ℕ → Type 0) (t m : Table) (r : Result T MapFault) → before ≤ mid → m ≡ t → HasMapCause mid now bad (IsWornFor m) r → HasMapCause before now bad (IsWornFor t) r
+push_cause before mid now bad t m (Ok x) early table h = record { later = (let more : mid ≤ now = h.later in omega arith); failed = tt }
+push_cause before mid now bad t m (Err e) early table h = record {
+  later = (let more : mid ≤ now = h.later in omega arith);
+  failed = caused before mid now bad (IsWornFor t) e early (subst (λ (v : Table). IsCause mid now bad (IsWornFor v) e) table h.failed);
+}

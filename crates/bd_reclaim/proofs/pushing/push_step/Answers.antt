@@ -1,0 +1,30 @@
+use Rattle.std.proofs.Common.{List, length, reverse, ap, sym, subst, arith}
+use Rattle.bd_node.specs.declared.node.Edge.{Edge}
+use Rattle.bd_node.specs.declared.node.Node.{Node}
+use Rattle.bd_inner.specs.Halves.{edges_of}
+use Rattle.bd_flush.specs.declared.fetching.Fetched.{Fetched}
+use Rattle.bd_flush.specs.Ways.{AreOwn}
+use Rattle.bd_reclaim.specs.Pushing.{IsSplitFirst}
+use Rattle.bd_reclaim.proofs.Begins.{way_under, all_waited}
+use Rattle.bd_reclaim.proofs.pushing.push_step.Goals as goal
+
+pub step_from-requires-clause-under : goal.step_from-requires-clause-under
+step_from-requires-clause-under g c = way_under (g.S.NodeStore.table c.args.store.now) c.args.node.id (reverse c.args.above) c.requires.way
+
+pub returns-then-edges_of-lt-MANY_EDGES-clause-waited : goal.returns-then-edges_of-lt-MANY_EDGES-clause-waited
+returns-then-edges_of-lt-MANY_EDGES-clause-waited g c = all_waited (g.S.NodeStore.table c.args.store.now) c.args.node c.args.place c.step_from.result c.requires.cut c.step_from.ensures.due c.step_from.ensures.edge
+
+pub returns-then-edges_of-lt-MANY_EDGES-clause-few_visits : goal.returns-then-edges_of-lt-MANY_EDGES-clause-few_visits
+returns-then-edges_of-lt-MANY_EDGES-clause-few_visits g c =
+    omega (arith, c.step_from.ensures.few_visits, way_under (g.S.NodeStore.table c.args.store.now) c.args.node.id (reverse c.args.above) c.requires.way)
+
+pub returns-clause-begins : goal.returns-clause-begins
+returns-clause-begins g c = record {
+  narrow = λ few. absurd (omega (arith, few, c.if-edges_of-lt-MANY_EDGES.false, ap (λ (n : Node). length (edges_of n)) c.deref.ensures, ap (λ (l : List Edge). length l) c.edges_of.ensures));
+  wide = λ many. subst (λ (l : List Fetched). IsSplitFirst (reverse l) c.args.node c.split_first.result) c.into_vec-above.ensures c.split_first.ensures.first;
+}
+
+pub returns-clause-way_at : goal.returns-clause-way_at
+returns-clause-way_at g c = λ known own all.
+    c.split_first.ensures.way_at (g.S.NodeStore.nodes c.args.store.now) (g.S.NodeStore.table c.args.store.now)
+    (subst (λ (l : List Fetched). AreOwn (g.S.NodeStore.nodes c.args.store.now) (g.S.NodeStore.table c.args.store.now) (reverse l)) (sym c.into_vec-above.ensures) all)

@@ -1,0 +1,163 @@
+//! Steps of a flush that begin at an edge.
+
+ghost use Rattle.std.specs.Prelude.{◌≡◌, ◌↔◌, ℕ, ◌+◌, ◌<◌, ◌≤◌, [], length, reverse, IsTrue, IfOk, OnOk, OnErr};
+ghost use Rattle.bd_message.specs.KeyMaps.{HasMapCause, NeverWorn};
+ghost use Rattle.bd_node.specs.declared.node.Edge.{Edge};
+ghost use Rattle.bd_node.specs.Meaning.{Nodes};
+ghost use Rattle.bd_node.specs.Tables.{Table, IsSound};
+ghost use Rattle.bd_inner.specs.Halves.{edges_of};
+ghost use Rattle.bd_inner.specs.Exchange.{IsEdgeAt};
+ghost use Rattle.bd_flush.specs.Flushed.{IsWornFor};
+ghost use Rattle.bd_flush.specs.Children.{IsFetched, IsEdgeTo};
+ghost use Rattle.bd_flush.specs.Pushes.{IsOwn};
+ghost use Rattle.bd_flush.specs.Raising.{IsWayUp};
+ghost use Rattle.bd_flush.specs.Ways.{IsDue, IsWaited, IsStanding, IsReached, IsWayOf, IsWayThere, AreOwn};
+ghost use Rattle.bd_step.specs.Steps.{step_visits};
+ghost use Rattle.bd_reclaim.specs.Covering.{HasCut};
+ghost use Rattle.bd_reclaim.specs.Reclaimed.{IsReclaimed};
+ghost use Rattle.bd_reclaim.specs.Pushing.{IsSplitFirst, IsPushStep, IsPushFound, IsPushMade};
+
+use bd_flush::{Fetched, FlushStep, MANY_EDGES, Way, edges_of, step_from};
+use bd_message::MapFault;
+use bd_node::{Items, Node, NodeStore};
+use bd_step::make;
+use std::alloc::Global;
+
+/// Makes a step of a flush that begins at the edge at a place of a private node, for which a Cut is
+/// pending. The node and those above it were fetched before.
+pub fn push_from<S: NodeStore>(
+    alloc: Global,
+    store: &mut S,
+    above: Way,
+    node: Fetched,
+    place: usize,
+) -> Result<(), MapFault>
+    requires fetched { IsFetched (S.table store.old) node }
+    requires cut { HasCut node.node.value place }
+    requires way { IsWayUp (S.table store.old) node.id (reverse above) }
+    requires own { S.is_known store.old → IsSound (S.nodes store.old) (S.table store.old)
+        → IsOwn (S.nodes store.old) (S.table store.old) node }
+    requires all_own { S.is_known store.old → IsSound (S.nodes store.old) (S.table store.old)
+        → AreOwn (S.nodes store.old) (S.table store.old) (reverse above) }
+    ensures reclaimed { S.is_known store.old → IsSound (S.nodes store.old) (S.table store.old)
+        → OnOk result (IsReclaimed (S.nodes store.old) (S.table store.old)
+        (S.nodes store.new) (S.table store.new)) }
+    ensures made { S.is_known store.old → IsSound (S.nodes store.old) (S.table store.old)
+        → OnOk result (IsPushMade (S.nodes store.old) (S.table store.old) above node place
+        (S.nodes store.new) (S.table store.new)) }
+    ensures found { OnOk result
+        (IsPushFound (S.table store.old) above node place (S.table store.new)) }
+    ensures known { S.is_known store.old → S.is_known store.new }
+    ensures err_table { OnErr result (S.table store.new ≡ S.table store.old) }
+    ensures err_nodes { S.is_known store.old
+        → OnErr result (S.nodes store.new ≡ S.nodes store.old) }
+    ensures few_visits { S.visit_count store.new
+        ≤ S.visit_count store.old + step_visits (S.table store.old) }
+    ensures cause { HasMapCause (S.fault_count store.old) (S.fault_count store.new)
+        (S.bad store.new) (IsWornFor (S.table store.old)) result }
+    ensures same_loans { S.loans store.new ≡ S.loans store.old }
+{
+    let step = push_step(store, above, node, place)?;
+    make(alloc, store, step)
+}
+
+// The step of a flush that begins at the edge at a place of a node.
+fn push_step<S: NodeStore>(
+    store: &mut S,
+    above: Way,
+    node: Fetched,
+    place: usize,
+) -> Result<FlushStep, MapFault>
+    requires fetched { IsFetched (S.table store.old) node }
+    requires cut { HasCut node.node.value place }
+    requires way { IsWayUp (S.table store.old) node.id (reverse above) }
+    ensures due { IfOk result (IsDue (S.table store.old)) }
+    ensures begins { IfOk result (IsPushStep above node place) }
+    ensures waited { IfOk result IsWaited }
+    ensures stands { S.is_known store.old → IsOwn (S.nodes store.old) (S.table store.old) node
+        → AreOwn (S.nodes store.old) (S.table store.old) (reverse above)
+        → IfOk result (IsStanding (S.nodes store.old) (S.table store.old)) }
+    ensures reached { S.is_known store.old → IsOwn (S.nodes store.old) (S.table store.old) node
+        → length (edges_of node.node.value) ≤ 14
+        → IfOk result (IsReached (S.nodes store.old) (S.table store.old) node.id place) }
+    ensures way { IfOk result (IsWayOf (S.table store.old)) }
+    ensures way_at { S.is_known store.old → IsOwn (S.nodes store.old) (S.table store.old) node
+        → AreOwn (S.nodes store.old) (S.table store.old) (reverse above)
+        → IfOk result (IsWayThere (S.nodes store.old) (S.table store.old)) }
+    ensures table { S.table store.new ≡ S.table store.old }
+    ensures known { S.is_known store.old → S.is_known store.new }
+    ensures kept { S.is_known store.old → S.nodes store.new ≡ S.nodes store.old }
+    ensures read { S.reads store.old store.new }
+    ensures cause { HasMapCause (S.fault_count store.old) (S.fault_count store.new)
+        (S.bad store.new) NeverWorn result }
+    ensures few_visits { S.visit_count store.new
+        ≤ S.visit_count store.old + (S.table store.old).level (S.table store.old).root }
+    ensures same_loans { S.loans store.new ≡ S.loans store.old }
+{
+    let above = above.into_vec();
+    if edges_of(&node.node).len() < MANY_EDGES {
+        return step_from(store, above, node, place);
+    }
+    Ok(split_first(above, node))
+}
+
+// What is to be split or copied before a step can begin at an edge of a node with 15 or 16 edges:
+// the node itself, where the one above it has room for its halves, or that one.
+fn split_first(above: Vec<Fetched>, node: Fetched) -> FlushStep
+    requires wide { 15 ≤ length (edges_of node.node.value) }
+    requires way { (t : Table) × IsFetched t node × IsWayUp t node.id (reverse above.items) }
+    ensures first { IsSplitFirst (reverse above.items) node result }
+    ensures due { (t : Table) → IsFetched t node → IsWayUp t node.id (reverse above.items)
+        → IsDue t result }
+    ensures waited { IsWaited result }
+    ensures stands { (nodes : Nodes) (t : Table) → IsOwn nodes t node
+        → AreOwn nodes t (reverse above.items) → IsStanding nodes t result }
+    ensures way { (t : Table) → IsWayUp t node.id (reverse above.items) → IsWayOf t result }
+    ensures way_at { (nodes : Nodes) (t : Table) → AreOwn nodes t (reverse above.items)
+        → IsWayThere nodes t result }
+{
+    let mut above = above;
+    let Some(parent) = above.pop() else {
+        return FlushStep::SplitRoot { root: node };
+    };
+    let place = place_of(&parent.node, node.id);
+    if !asks_plainly(&parent.node, place) {
+        return FlushStep::Privatise {
+            above: Items::from_vec(above),
+            parent,
+            place,
+        };
+    }
+    if edges_of(&parent.node).len() >= MANY_EDGES {
+        return split_first(above, parent);
+    }
+    FlushStep::SplitChild {
+        above: Items::from_vec(above),
+        parent,
+        place,
+        child: node,
+    }
+}
+
+// Whether the edge at a place of a node asks with nothing in front of what is left of a key.
+fn asks_plainly(node: &Node, place: usize) -> bool
+    requires { place < length (edges_of node.now) }
+    ensures { (e : Edge) → IsEdgeAt node.now place e → IsTrue result ↔ (e.source ≡ []) }
+{
+    edges_of(node)[place].source.is_empty()
+}
+
+// The place of the first edge of a node that asks a child, which one of them does.
+fn place_of(node: &Node, child: u64) -> usize
+    requires { (place : ℕ) × (e : Edge) × IsEdgeTo node.now place child e }
+    ensures edge { (e : Edge) × IsEdgeTo node.now result child e }
+    ensures within { result < length (edges_of node.now) }
+{
+    let edges = edges_of(node);
+    for (place, edge) in edges.iter().enumerate() {
+        if edge.child == Some(child) {
+            return place;
+        }
+    }
+    0
+}
