@@ -1,7 +1,7 @@
 -- A change of reclaiming leaves what the tree has.
 use Rattle.std.proofs.Common.{◌≡◌, ℕ, List, ap, ◌∙◌, Result, Ok, Err}
 use Rattle.std.specs.Prelude.{OnOk, OnErr}
-use Rattle.bd_node.specs.Meaning.{Nodes, at}
+use Rattle.bd_node.specs.Meaning.{Nodes}
 use Rattle.bd_node.specs.Tables.{Table, root_at}
 use Rattle.bd_reclaim.specs.Reclaimed.{IsReclaimed}
 

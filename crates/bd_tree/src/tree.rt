@@ -16,7 +16,7 @@ ghost use Rattle.bd_query.specs.Visits.{AreVisits};
 ghost use Rattle.bd_graft.specs.Grafting.{IsGrown, IsGraftStep, AreOthersSame, IsWornForGraft};
 ghost use Rattle.bd_flush.specs.Flushed.{IsWornFor};
 ghost use Rattle.bd_reclaim.specs.Walks.{IsFirst, HasNone, IsToDo, IsToDoAt, walk_size};
-ghost use Rattle.bd_reclaim.specs.Reclaimed.{IsReclaimed, IsMade, IsRootAfter, left_over};
+ghost use Rattle.bd_reclaim.specs.Reclaimed.{IsReclaimed, IsMade, IsRootAfter, IsNextAfter, LeavesLess, reclaim_visits};
 ghost use Rattle.bd_step.specs.Steps.{IsFlushStep, IsFound, step_visits};
 
 use bd_graft::{Walk, graft};
@@ -225,14 +225,15 @@ impl<S: NodeStore> Tree<S> {
     }
 
     /// The first change of reclaiming that is still to be made, and none exactly where there is
-    /// none. Only the root and inner nodes that nothing else names are visited, each at most once.
-    pub fn reclaim_next(&mut self) -> Result<Option<Reclaim>, MapFault>
+    /// none; pushes are passed over unless `pushes` asks for them. Only the root and inner nodes that
+    /// nothing else names are visited, each at most once.
+    pub fn reclaim_next(&mut self, pushes: bool) -> Result<Option<Reclaim>, MapFault>
         ensures first { S.is_known self.old.store
             → IsSound (S.nodes self.old.store) (S.table self.old.store)
             → IfOk result (λ found. MatchOption found
-            (HasNone (S.nodes self.old.store) (S.table self.old.store)
+            (HasNone pushes (S.nodes self.old.store) (S.table self.old.store)
             (S.table self.old.store).root)
-            (λ step. IsFirst (S.nodes self.old.store) (S.table self.old.store) step
+            (λ step. IsFirst pushes (S.nodes self.old.store) (S.table self.old.store) step
             (S.table self.old.store).root)) }
         ensures to_do { IfOk result (λ found. IfSome found (IsToDo (S.table self.old.store))) }
         ensures at { S.is_known self.old.store
@@ -254,11 +255,12 @@ impl<S: NodeStore> Tree<S> {
         ensures same_loans { S.loans self.new.store ≡ S.loans self.old.store }
         ensures walk { self.new.walk ≡ self.old.walk }
     {
-        reclaim_next(&mut self.store)
+        reclaim_next(self.alloc, &mut self.store, pushes)
     }
 
-    /// Makes a change of reclaiming that `reclaim_next` just found: what the tree has stays, and no
-    /// node is fetched or made. A fault leaves all as it was.
+    /// Makes a change of reclaiming that `reclaim_next` just found: what the tree has stays. A push
+    /// makes at most four nodes, and has at most as many visits as a step of a flush; the other
+    /// changes fetch and make none. A fault leaves all as it was.
     pub fn reclaim_step(&mut self, step: Reclaim) -> Result<(), MapFault>
         requires to_do { IsToDo (S.table self.old.store) step }
         requires at { S.is_known self.old.store
@@ -274,20 +276,22 @@ impl<S: NodeStore> Tree<S> {
             (S.nodes self.new.store) (S.table self.new.store)) }
         ensures made { S.is_known self.old.store
             → IsSound (S.nodes self.old.store) (S.table self.old.store)
-            → OnOk result (IsMade (S.nodes self.old.store) step
+            → OnOk result (IsMade (S.nodes self.old.store) (S.table self.old.store) step
             (S.nodes self.new.store) (S.table self.new.store)) }
         ensures falls { S.is_known self.old.store
             → IsSound (S.nodes self.old.store) (S.table self.old.store)
-            → OnOk result (left_over (S.nodes self.new.store) (S.table self.new.store)
-            < left_over (S.nodes self.old.store) (S.table self.old.store)) }
-        ensures next { OnOk result ((S.table self.new.store).next ≡ (S.table self.old.store).next) }
+            → OnOk result (LeavesLess (S.nodes self.old.store) (S.table self.old.store) step
+            (S.nodes self.new.store) (S.table self.new.store)) }
+        ensures next { OnOk result
+            (IsNextAfter (S.table self.old.store) step (S.table self.new.store)) }
         ensures root { OnOk result
             (IsRootAfter (S.table self.old.store) step (S.table self.new.store)) }
         ensures known { S.is_known self.old.store → S.is_known self.new.store }
         ensures err_table { OnErr result (S.table self.new.store ≡ S.table self.old.store) }
         ensures err_nodes { S.is_known self.old.store
             → OnErr result (S.nodes self.new.store ≡ S.nodes self.old.store) }
-        ensures few_visits { S.visit_count self.new.store ≤ S.visit_count self.old.store }
+        ensures few_visits { S.visit_count self.new.store
+            ≤ S.visit_count self.old.store + reclaim_visits (S.table self.old.store) step }
         ensures cause { HasMapCause (S.fault_count self.old.store) (S.fault_count self.new.store)
             (S.bad self.new.store) (IsWornFor (S.table self.old.store)) result }
         ensures same_loans { S.loans self.new.store ≡ S.loans self.old.store }
