@@ -125,7 +125,7 @@ const SECONDS: &[&str] = &["1", "22", "a", "b"];
 const LIMITS: &[usize] = &[0, 40, 200, 1_000];
 
 /// One call by a fixed rule. Nothing is moved into itself.
-fn generated(alloc: Global, both: &mut Both, numbers: &mut Numbers) -> Result<(), Fail> {
+pub fn generated(alloc: Global, both: &mut Both, numbers: &mut Numbers) -> Result<(), Fail> {
     let name = *numbers.pick(CALLS)?;
     let first = *numbers.pick(KEYS)?;
     let is_graft = matches!(name, "clone" | "move");
