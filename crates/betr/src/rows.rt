@@ -2,6 +2,7 @@
 
 use crate::row::row;
 use bd_device::MemDevice;
+use bd_io::MemSink;
 use std::alloc::{AllocError, Global};
 use std::test::Fail;
 
@@ -305,8 +306,12 @@ fn replies(alloc: Global, script: &str) -> Result<Option<Vec<u8>>, AllocError> {
         words.push(String::from_str(alloc, word)?)?;
     }
     let mut dev = MemDevice::new(alloc, 516, 0, &[])?;
-    let (outcome, written) = row(alloc, &mut dev, &words, script.as_bytes(), 1 << 16)?;
-    Ok((outcome.status == 0).then_some(written))
+    let mut sink = MemSink::new(alloc, 1 << 16, &[])?;
+    let outcome = row(alloc, &mut dev, &words, script.as_bytes(), &mut sink)?;
+    if outcome.status != 0 {
+        return Ok(None);
+    }
+    Ok(Some(Vec::from_slice(alloc, sink.bytes())?))
 }
 
 /// A text, `count` times.

@@ -47,8 +47,9 @@ fn words(alloc: Global, texts: &[&str]) -> Result<Vec<String>, AllocError> {
 /// A call with these words over a script, and what it wrote.
 fn called(alloc: Global, texts: &[&str], script: &[u8]) -> Result<(u8, Vec<u8>), AllocError> {
     let mut dev = MemDevice::new(alloc, 516, 0, &[])?;
-    let (outcome, written) = row(alloc, &mut dev, &words(alloc, texts)?, script, 1 << 16)?;
-    Ok((outcome.status, written))
+    let mut sink = MemSink::new(alloc, 1 << 16, &[])?;
+    let outcome = row(alloc, &mut dev, &words(alloc, texts)?, script, &mut sink)?;
+    Ok((outcome.status, Vec::from_slice(alloc, sink.bytes())?))
 }
 
 /// The first example with one failing call: of the source, which gives at most 7 bytes a take, of
