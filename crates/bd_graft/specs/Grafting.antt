@@ -1,5 +1,5 @@
 -- The step of a graft.
-use Rattle.std.specs.Prelude.{◌≡◌, ℕ, suc, ◌+◌, ◌^◌, ◌<◌, ◌≤◌, ◌⊎◌, Bool, if◌then◌else◌, List, [], ◌∷◌, ◌++◌, length, Option, Some, slice_get}
+use Rattle.std.specs.Prelude.{◌≡◌, ℕ, suc, ◌+◌, ◌^◌, ◌<◌, ◌≤◌, ◌⊎◌, Bool, if◌then◌else◌, List, [], ◌∷◌, ◌++◌, length, Option, Some, slice_get, IsTrue}
 use Rattle.bd_limits.specs.Limits.{level_limit}
 use Rattle.bd_message.specs.declared.fault.Counter.{Counter}
 use Rattle.bd_message.specs.declared.fault.Counter.TheVariants.{Count, NextId, Level, Refs, Epoch, Flushes}
@@ -64,7 +64,8 @@ IsWornForGraft t Epoch = ⊥
 IsWornForGraft t Flushes = ⊥
 
 -- at most as many nodes are made as the tree was high, and one; the root keeps its id and level, or
--- the newest node is the root, one level higher; the old nodes keep their levels
+-- the newest node is the root, one level higher; the old nodes keep their levels, and none but the
+-- old root is told as touched
 pub record IsGrown (t u : Table) : Type 0 where
   pub later : t.next ≤ u.next
   pub few : u.next ≤ t.next + (t.level t.root + 2)
@@ -73,6 +74,7 @@ pub record IsGrown (t u : Table) : Type 0 where
   pub same_root : u.level u.root ≡ t.level t.root → u.root ≡ t.root
   pub new_root : t.level t.root < u.level u.root → (t.next ≤ u.root) × (u.next ≡ u.root + 1)
   pub levels : (id : ℕ) → IsKept t id → IsKept u id → u.level id ≡ t.level id
+  pub touched : (id : ℕ) → IsTrue (u.touched id) → IsTrue (t.touched id) ⊎ (id ≡ t.root)
 
 -- ---- what a graft leaves of the nodes
 

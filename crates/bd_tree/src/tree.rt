@@ -10,7 +10,7 @@ ghost use Rattle.bd_node.specs.Frames.{OfSound, OnlyReads, Stays};
 ghost use Rattle.bd_node.specs.Meaning.{at};
 ghost use Rattle.bd_node.specs.Tables.{IsKept, IsSound, root_at};
 ghost use Rattle.bd_node.specs.declared.node.Node.{Node};
-ghost use Rattle.bd_node.specs.Steps.{IsCommitted, append_step, grown};
+ghost use Rattle.bd_node.specs.Steps.{IsCommitted, HasGrown, append_step};
 ghost use Rattle.bd_node.specs.Stores.{FitsRoot};
 ghost use Rattle.bd_query.specs.Asks.{AreVisitsOfWays};
 ghost use Rattle.bd_query.specs.Visits.{AreVisits};

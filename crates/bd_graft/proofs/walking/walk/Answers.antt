@@ -54,8 +54,7 @@ loop-store-preserved g c =
       known = λ k. c.in_ok-layer.ensures.left.known (inv.known k);
       nodes = λ k. c.in_ok-layer.ensures.left.kept (inv.known k) ∙ inv.nodes k;
       read = g.met.S.NodeStore.reads_both c.args.store.now c.loop-store.store c.passed_node.new.store inv.read c.in_ok-layer.ensures.left.read;
-      later = (let a : g.S.NodeStore.fault_count c.args.store.now ≤ g.S.NodeStore.fault_count c.loop-store.store = inv.later in
-          let b : g.S.NodeStore.fault_count c.loop-store.store ≤ g.S.NodeStore.fault_count c.passed_node.new.store = c.in_ok-layer.ensures.cause.later in omega arith);
+      faults = c.in_ok-layer.ensures.cause.kept ∙ inv.faults;
       visits = visits_one_more (g.S.NodeStore.visit_count c.args.store.now) (g.S.NodeStore.visit_count c.loop-store.store) (g.S.NodeStore.visit_count c.passed_node.new.store) high (t.level id)
           inv.visits c.in_ok-layer.ensures.visits (t.level target.child) less;
       counted = gone_down (g.S.NodeStore.visit_count c.args.store.now) (g.S.NodeStore.visit_count c.loop-store.store) (g.S.NodeStore.visit_count c.passed_node.new.store) high (t.level id)

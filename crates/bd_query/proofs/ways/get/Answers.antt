@@ -28,7 +28,7 @@ loop-patches-init g c = record {
   known = λ k. k;
   nodes = λ k. refl;
   read = g.met.S.NodeStore.reads_none c.args.store.now;
-  later = (omega arith);
+  faults = refl;
   visits = no_visit (g.S.NodeStore.visit_count c.args.store.now) ((g.S.NodeStore.table c.args.store.now).level c.args.root);
   loans = refl;
   value = λ known sound. ap (λ (ps : List Patch). patched ps (at (g.S.NodeStore.nodes c.args.store.now) c.args.root c.in_ok-asked.asked)) c.new-patches.ensures.items
@@ -47,8 +47,7 @@ loop-patches-preserved g c =
       known = λ k. c.in_ok-part.ensures.left.known (inv.known k);
       nodes = λ k. c.in_ok-part.ensures.left.kept (inv.known k) ∙ inv.nodes k;
       read = g.met.S.NodeStore.reads_both c.args.store.now c.loop-patches.store c.fetched.new.store inv.read c.in_ok-part.ensures.left.read;
-      later = (let a : g.S.NodeStore.fault_count c.args.store.now ≤ g.S.NodeStore.fault_count c.loop-patches.store = inv.later in
-          let b : g.S.NodeStore.fault_count c.loop-patches.store ≤ g.S.NodeStore.fault_count c.fetched.new.store = c.in_ok-part.ensures.cause.later in omega arith);
+      faults = c.in_ok-part.ensures.cause.kept ∙ inv.faults;
       visits = visits_one_more (g.S.NodeStore.visit_count c.args.store.now) (g.S.NodeStore.visit_count c.loop-patches.store) (g.S.NodeStore.visit_count c.fetched.new.store) ((g.S.NodeStore.table c.args.store.now).level c.args.root) ((g.S.NodeStore.table c.args.store.now).level c.loop-patches.id)
           inv.visits c.in_ok-part.ensures.visits ((g.S.NodeStore.table c.args.store.now).level c.in-Ask.child) (subst (λ (t : Table). t.level c.in-Ask.child < t.level c.loop-patches.id) inv.table lower.lower);
       loans = c.in_ok-part.ensures.left.same_loans ∙ inv.loans;

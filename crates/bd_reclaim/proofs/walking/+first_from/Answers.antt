@@ -26,7 +26,7 @@ loop-edge-preserved-in_default g t c = record {
   known = c.loop-edge.invariant.known;
   nodes = c.loop-edge.invariant.nodes;
   read = c.loop-edge.invariant.read;
-  later = c.loop-edge.invariant.later;
+  faults = c.loop-edge.invariant.faults;
   loans = c.loop-edge.invariant.loans;
   visits = λ known depth low. more_visits (g.S.NodeStore.nodes c.args.store.now) (g.S.NodeStore.table c.args.store.now) depth c.edges_of-edges.result.now c.loop-edge.edge-index c.edge-item.result (g.S.NodeStore.visit_count c.args.store.now) (g.S.NodeStore.visit_count c.loop-edge.store) c.loop-edge-test.true c.edge-item.is (c.loop-edge.invariant.visits known depth low);
   none = λ known sound.
@@ -69,7 +69,7 @@ loop-edge-preserved g t c = record {
   known = λ known. c.in_ok-step.ensures.left.known (c.loop-edge.invariant.known known);
   nodes = λ known. c.in_ok-step.ensures.left.kept (c.loop-edge.invariant.known known) ∙ c.loop-edge.invariant.nodes known;
   read = g.met.S.NodeStore.reads_both c.args.store.now c.loop-edge.store c.first_from.new.store c.loop-edge.invariant.read c.in_ok-step.ensures.left.read;
-  later = (let more = c.in_ok-step.ensures.cause.later in omega (arith, c.loop-edge.invariant.later, more));
+  faults = c.in_ok-step.ensures.cause.kept ∙ c.loop-edge.invariant.faults;
   loans = c.in_ok-step.ensures.left.same_loans ∙ c.loop-edge.invariant.loans;
   visits = λ known depth low.
       child_visits (g.S.NodeStore.nodes c.args.store.now) (g.S.NodeStore.table c.args.store.now) depth c.edges_of-edges.result.now c.loop-edge.edge-index c.edge-item.result c.in-Some.child (g.S.NodeStore.visit_count c.args.store.now) (g.S.NodeStore.visit_count c.loop-edge.store) (g.S.NodeStore.visit_count c.first_from.new.store) c.loop-edge-test.true c.edge-item.is

@@ -18,7 +18,7 @@ loop-store-init g c = record {
   known = λ k. k;
   nodes = λ k. refl;
   read = g.met.S.NodeStore.reads_none c.args.store.now;
-  later = (omega arith);
+  faults = refl;
   visits = no_visit (g.S.NodeStore.visit_count c.args.store.now) ((g.S.NodeStore.table c.args.store.now).level c.args.child);
   counted = inl refl;
   loans = refl;
@@ -53,8 +53,7 @@ loop-store-preserved g c =
       known = λ k. c.in_ok-target.ensures.left.known (inv.known k);
       nodes = λ k. c.in_ok-target.ensures.left.kept (inv.known k) ∙ inv.nodes k;
       read = g.met.S.NodeStore.reads_both c.args.store.now c.loop-store.store c.looked_through.new.store inv.read c.in_ok-target.ensures.left.read;
-      later = (let a : g.S.NodeStore.fault_count c.args.store.now ≤ g.S.NodeStore.fault_count c.loop-store.store = inv.later in
-          let b : g.S.NodeStore.fault_count c.loop-store.store ≤ g.S.NodeStore.fault_count c.looked_through.new.store = c.in_ok-target.ensures.cause.later in omega arith);
+      faults = c.in_ok-target.ensures.cause.kept ∙ inv.faults;
       visits = visits_one_more (g.S.NodeStore.visit_count c.args.store.now) (g.S.NodeStore.visit_count c.loop-store.store) (g.S.NodeStore.visit_count c.looked_through.new.store) (t.level c.args.child) (t.level c.loop-store.id)
           inv.visits c.in_ok-target.ensures.visits (t.level c.in-Some.target.child) less;
       counted = gone_down (g.S.NodeStore.visit_count c.args.store.now) (g.S.NodeStore.visit_count c.loop-store.store) (g.S.NodeStore.visit_count c.looked_through.new.store) (t.level c.args.child) (t.level c.loop-store.id)
