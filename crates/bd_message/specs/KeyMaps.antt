@@ -3,7 +3,7 @@ use Rattle.std.specs.Prelude.{◌≡◌, ℕ, ◌≤◌, Bool, not, false, ◌&&
 use Rattle.std.specs.List.{sum_by}
 use Rattle.bd_io.specs.Cause.{Rose}
 use Rattle.bd_keys.specs.Keys.{Begins, IsAtLeast, IsKey}
-use Rattle.bd_limits.specs.Limits.{key_limit}
+use Rattle.bd_limits.specs.Limits.{key_limit, graft_size}
 use Rattle.bd_message.specs.declared.fault.Counter.{Counter}
 use Rattle.bd_message.specs.declared.fault.MapFault.{MapFault}
 use Rattle.bd_message.specs.declared.fault.MapFault.TheVariants.{DeviceFault, Damaged, Worn, NoMemory}
@@ -54,7 +54,7 @@ pub record CanGraft (s d : List ℕ) (keep : Bool) (room : ℕ) : Type 0 where
   pub source : length s ≤ key_limit
   pub target : length d ≤ key_limit
   pub outside : keep ≡ false → ¬ Begins d s
-  pub fits : 1600 ≤ room
+  pub fits : graft_size ≤ room
 
 -- a fault of the device is returned only where its count rose, damage only of a bad block, a worn
 -- counter only where it is
