@@ -1,5 +1,6 @@
 pub mod Blocks
 pub mod Calls
+pub mod Device
 pub mod Crash
 pub mod Faulty
 pub mod Fuse

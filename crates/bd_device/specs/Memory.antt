@@ -4,7 +4,7 @@ use Rattle.std.proofs.Common.{ap, sym, inl, inr, ⊎_elim, arith}
 use Rattle.bd_io.specs.Cause.{next_count}
 use Rattle.bd_io.specs.Plan.{PlannedCalls, next_fails, calls_after}
 use Rattle.bd_device.specs.Blocks.{Image, IsBlock}
-use Rattle.bd_device.specs.Calls.{write_faults_after}
+use Rattle.bd_device.specs.Calls.{faults_after}
 use Rattle.bd_device.specs.Moments.{TornAt}
 use Rattle.bd_device.specs.declared.write_record.WriteRecord.{WriteRecord}
 
@@ -74,7 +74,7 @@ abbrev pub after_write : {T E : Type 0} → ℕ → List ℕ → Result T E → 
 after_write b bytes result d = record (recorded d.plan.calls b bytes (is_ok result) d) {
   blocks = if is_ok result then slice_set d.blocks b bytes else d.blocks;
   plan = calls_after d.plan result;
-  write_faults = write_faults_after d.write_faults result;
+  write_faults = faults_after d.write_faults result;
 }
 
 -- after a barrier that ended so
@@ -82,7 +82,7 @@ abbrev pub after_barrier : {T E : Type 0} → Result T E → MemoryDevice → Me
 after_barrier result d = record d {
   barrier = if is_ok result && d.barrier == 0 then next_count d.plan.calls else d.barrier;
   plan = calls_after d.plan result;
-  write_faults = write_faults_after d.write_faults result;
+  write_faults = faults_after d.write_faults result;
 }
 
 -- a record of a write to one of so many blocks, which was a block before

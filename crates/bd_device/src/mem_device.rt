@@ -4,7 +4,7 @@ ghost use Rattle.bd_io.specs.Plan.{planned, next_fails, calls_after};
 ghost use Rattle.bd_device.specs.Blocks.{HasBlocks, IsBlock, ChangesOnly};
 ghost use Rattle.bd_device.specs.Crash.{torn_blocks, after_crash};
 ghost use Rattle.bd_device.specs.Moments.{Nothing, TornAt, Elapses, IsOnly};
-ghost use Rattle.bd_device.specs.Calls.{write_faults_after};
+ghost use Rattle.bd_device.specs.Calls.{faults_after};
 ghost use Rattle.bd_device.specs.Memory.{held_image, held-attached, attached_image, attached_size, write_fails, attach_fails, recorded, after_write, after_barrier, left_of, HasLeft-earlier, IsRecordIn, IsZero};
 
 use crate::{Attach, BLOCK_SIZE, Device, Torn, WriteRecord};
@@ -115,7 +115,7 @@ impl MemDevice {
         ensures fails { is_err result ≡ (next_fails self.old.plan || refused) }
         ensures after { self.new ≡ record self.old {
           plan = calls_after self.old.plan result;
-          write_faults = write_faults_after self.old.write_faults result;
+          write_faults = faults_after self.old.write_faults result;
         } }
         ensures cause { HasCause self.old.plan.faults self.new.plan.faults result }
         ensures calls { IsCounted self.old.plan.calls self.new.plan.calls result }
@@ -190,6 +190,8 @@ impl Device for MemDevice {
     ghost write_fault_count = { λ d. d.write_faults };
 
     ghost call_count = { λ d. d.plan.calls };
+
+    ghost last_failed = { λ d. d.plan.last_failed };
 
     ghost left_since = { left_of };
 

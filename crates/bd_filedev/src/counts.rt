@@ -1,6 +1,6 @@
 ghost use Rattle.std.specs.Prelude.{◌≡◌, ◌+◌, ◌^◌, ◌||◌, not, nat_le, is_err};
 ghost use Rattle.bd_io.specs.Cause.{HasCause, IsCounted};
-ghost use Rattle.bd_device.specs.Calls.{write_faults_after};
+ghost use Rattle.bd_device.specs.Calls.{faults_after};
 
 use bd_io::Failed;
 
@@ -47,7 +47,7 @@ impl Counts {
         ensures cause { HasCause self.old.faults self.new.faults result }
         ensures calls { IsCounted self.old.calls self.new.calls result }
         ensures write_faults { self.new.write_faults
-            ≡ write_faults_after self.old.write_faults result }
+            ≡ faults_after self.old.write_faults result }
     {
         let result = self.settle(is_done);
         if result.is_err() {

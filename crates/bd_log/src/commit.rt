@@ -3,7 +3,7 @@
 ghost use Rattle.std.specs.Prelude.{◌≡◌, ◌≤◌, ◌<◌, ◌+◌, ◌*◌, ◌^◌, ℕ, List, length, take, drop, slice_index, OnOk, IfSome};
 ghost use Rattle.bd_io.specs.Cause.{HasCause};
 ghost use Rattle.bd_device.specs.Blocks.{Image, HasBlocks, with_block};
-ghost use Rattle.bd_device.specs.Calls.{write_faults_after};
+ghost use Rattle.bd_device.specs.Calls.{faults_after};
 ghost use Rattle.bd_device.specs.Moments.{Elapses, TornAt, IsOnly};
 ghost use Rattle.bd_log.specs.Commits.{KeepsOutside, ChangedWithin, bytes_at, IsNoneOrWhole, WasWritten};
 
@@ -39,7 +39,7 @@ fn write_blocks<D: Device>(
     ensures count { D.block_count dev.new ≡ D.block_count dev.old }
     ensures cause { HasCause (D.fault_count dev.old) (D.fault_count dev.new) result }
     ensures write_faults { D.write_fault_count dev.new
-        ≡ write_faults_after (D.write_fault_count dev.old) result }
+        ≡ faults_after (D.write_fault_count dev.old) result }
     ensures same_name { (name : List ℕ) → D.is_named dev.old name → D.is_named dev.new name }
     ensures same_loans { D.loans dev.new ≡ D.loans dev.old }
 {
@@ -65,7 +65,7 @@ fn settle<D: Device>(dev: &mut D, b: u64, block: &[u8; BLOCK_SIZE]) -> Result<()
     ensures count { D.block_count dev.new ≡ D.block_count dev.old }
     ensures cause { HasCause (D.fault_count dev.old) (D.fault_count dev.new) result }
     ensures write_faults { D.write_fault_count dev.new
-        ≡ write_faults_after (D.write_fault_count dev.old) result }
+        ≡ faults_after (D.write_fault_count dev.old) result }
     ensures same_name { (name : List ℕ) → D.is_named dev.old name → D.is_named dev.new name }
     ensures same_loans { D.loans dev.new ≡ D.loans dev.old }
 {
@@ -103,7 +103,7 @@ pub fn write_committed<D: Device>(
     ensures count { D.block_count dev.new ≡ D.block_count dev.old }
     ensures cause { HasCause (D.fault_count dev.old) (D.fault_count dev.new) result }
     ensures write_faults { D.write_fault_count dev.new
-        ≡ write_faults_after (D.write_fault_count dev.old) result }
+        ≡ faults_after (D.write_fault_count dev.old) result }
     ensures same_name { (name : List ℕ) → D.is_named dev.old name → D.is_named dev.new name }
     ensures same_loans { D.loans dev.new ≡ D.loans dev.old }
 {

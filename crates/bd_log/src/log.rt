@@ -3,7 +3,7 @@
 ghost use Rattle.std.specs.Prelude.{◌≡◌, ◌≤◌, ◌+◌, ◌++◌, ◌∷◌, [], ℕ, List, length, IfOk, IfSome, OnOk, OnErr, IsTrue, is_ok};
 ghost use Rattle.bd_io.specs.Cause.{HasCause};
 ghost use Rattle.bd_device.specs.Blocks.{Image};
-ghost use Rattle.bd_device.specs.Calls.{write_faults_after};
+ghost use Rattle.bd_device.specs.Calls.{faults_after};
 ghost use Rattle.bd_device.specs.Moments.{Elapses, Nothing};
 ghost use Rattle.bd_log.specs.Batches.{IsRecord, AreBatches, IsDamagedAt};
 ghost use Rattle.bd_log.specs.Commits.{KeepsOutside};
@@ -175,7 +175,7 @@ impl Log {
         ensures count { D.block_count dev.new ≡ D.block_count dev.old }
         ensures cause { HasCause (D.fault_count dev.old) (D.fault_count dev.new) result }
         ensures write_faults { D.write_fault_count dev.new
-            ≡ write_faults_after (D.write_fault_count dev.old) result }
+            ≡ faults_after (D.write_fault_count dev.old) result }
         ensures same_name { (name : List ℕ) → D.is_named dev.old name → D.is_named dev.new name }
         ensures same_loans { D.loans dev.new ≡ D.loans dev.old }
     {

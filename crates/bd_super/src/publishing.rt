@@ -4,7 +4,7 @@ ghost use Rattle.std.specs.Prelude.{◌≡◌, ◌<◌, ◌≤◌, ◌⊎◌, �
 ghost use Rattle.bd_io.specs.Cause.{Rose, HasCause};
 ghost use Rattle.bd_slots.specs.Layout.{image_blocks};
 ghost use Rattle.bd_device.specs.Blocks.{HasBlocks, with_block, ChangesOnly};
-ghost use Rattle.bd_device.specs.Calls.{write_faults_after};
+ghost use Rattle.bd_device.specs.Calls.{faults_after};
 ghost use Rattle.bd_device.specs.Moments.{Nothing, TornAt, Elapses, IsOnly};
 ghost use Rattle.bd_device.specs.Commits.{IsCommitted};
 ghost use Rattle.bd_super.specs.Published.{AreSettled, CanFollow, CountsWrites, IsLiveBeside, IsUnwritten, IsPublished, IsStaged, IsStagedOrPublished, StaysOutside};
@@ -25,7 +25,7 @@ fn settle<D: Device>(dev: &mut D, b: u64, block: &[u8; BLOCK_SIZE]) -> Result<()
     ensures count { D.block_count dev.new ≡ D.block_count dev.old }
     ensures cause { HasCause (D.fault_count dev.old) (D.fault_count dev.new) result }
     ensures write_faults { D.write_fault_count dev.new
-        ≡ write_faults_after (D.write_fault_count dev.old) result }
+        ≡ faults_after (D.write_fault_count dev.old) result }
     ensures time { Elapses (D.call_count dev.old) (D.call_count dev.new)
         (D.left_since dev.old) (D.left_since dev.new)
         (TornAt b (D.left_since dev.old (D.call_count dev.old))) }

@@ -3,7 +3,7 @@
 ghost use Rattle.std.specs.Prelude.{◌≡◌, ◌<◌, ◌≤◌, ◌*◌, ℕ, List, length, slice_index_or, IfSome, OnOk};
 ghost use Rattle.bd_io.specs.Cause.{HasCause};
 ghost use Rattle.bd_slots.specs.Layout.{IsTablePlace, image_blocks};
-ghost use Rattle.bd_device.specs.Calls.{write_faults_after};
+ghost use Rattle.bd_device.specs.Calls.{faults_after};
 ghost use Rattle.bd_device.specs.Moments.{Elapses};
 ghost use Rattle.bd_wire.specs.Text.{zeros};
 ghost use Rattle.bd_wire.specs.Writing.{Puts, room};
@@ -36,7 +36,7 @@ pub fn write<D: Device>(dev: &mut D, slots: u32, at: &[u32], table: &Table) -> R
         (IsBeforeElsewhere at.now (D.left_since dev.old (D.call_count dev.old))) }
     ensures cause { HasCause (D.fault_count dev.old) (D.fault_count dev.new) result }
     ensures write_faults { D.write_fault_count dev.new
-        ≡ write_faults_after (D.write_fault_count dev.old) result }
+        ≡ faults_after (D.write_fault_count dev.old) result }
     ensures count { D.block_count dev.new ≡ D.block_count dev.old }
     ensures same_name { (name : List ℕ) → D.is_named dev.old name → D.is_named dev.new name }
     ensures same_loans { D.loans dev.new ≡ D.loans dev.old }
