@@ -1,5 +1,5 @@
 -- A device in memory, as its callers see it.
-use Rattle.std.specs.Prelude.{◌≡◌, ℕ, Bool, ◌||◌, nat_lt, nat_le, IsTrue, if◌then◌else◌, List, [], Option, Some, ◌∷◌, ◌++◌, length, take, reverse, slice_set, slice_index_or, ◌+◌, ◌-◌, ◌^◌, ◌<◌, ◌≤◌, ◌⊎◌, ◌&&◌, ◌==◌, Result, is_ok, unwrap_or, slice_index, EachIndex}
+use Rattle.std.specs.Prelude.{◌≡◌, ⊤, ℕ, Bool, ◌||◌, nat_lt, nat_le, IsTrue, if◌then◌else◌, List, [], Option, Some, ◌∷◌, ◌++◌, length, take, reverse, slice_set, slice_index_or, ◌+◌, ◌-◌, ◌^◌, ◌<◌, ◌≤◌, ◌⊎◌, ◌&&◌, ◌==◌, Result, is_ok, unwrap_or, slice_index, EachIndex}
 use Rattle.std.proofs.Common.{ap, sym, inl, inr, ⊎_elim, arith}
 use Rattle.bd_io.specs.Cause.{next_count}
 use Rattle.bd_io.specs.Plan.{PlannedCalls, next_fails, calls_after}
@@ -91,7 +91,7 @@ IsRecordIn count w = (w.block < count) × IsBlock w.before
 
 -- the last of these writes, the last first, is among so many calls
 abbrev pub IsPast : ℕ → List WriteRecord → Type 0
-IsPast calls [] = Unit {0}
+IsPast calls [] = ⊤
 IsPast calls (w ∷ ws) = w.call ≤ calls
 
 -- the image before a write

@@ -1,4 +1,4 @@
-ghost use Rattle.std.specs.Prelude.{◌≡◌, ◌<◌, ℕ, List, Option, Some, IfSome, IfNone, is_some, [], ◌∷◌, OnOk, OnErr, slice_get, ◌≤◌, ◌↔◌, Bool, is_ok, is_err};
+ghost use Rattle.std.specs.Prelude.{◌≡◌, ◌<◌, ⊤, ℕ, List, Option, Some, IfSome, IfNone, is_some, [], ◌∷◌, OnOk, OnErr, slice_get, ◌≤◌, ◌↔◌, Bool, is_ok, is_err};
 ghost use Rattle.bd_io.specs.Cause.{HasCause, IsCounted};
 ghost use Rattle.bd_device.specs.Blocks.{Image, HasBlocks, with_block, ChangesOnly};
 ghost use Rattle.bd_device.specs.Calls.{faults_after};
@@ -43,7 +43,7 @@ pub trait Device {
 
     /// What else a read, a write, a barrier or an attach of this device does, from before it to
     /// after it, and whether it was Ok. In general nothing is said.
-    ghost also: { Self → Self → Bool → Type 0 } = { λ _ _ _. Unit {0} };
+    ghost also: { Self → Self → Bool → Type 0 } = { λ _ _ _. ⊤ };
 
     /// How many blocks it has. Only an attach changes it.
     fn blocks(&self) -> u64
