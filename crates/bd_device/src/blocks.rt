@@ -20,6 +20,7 @@ pub fn read_block<D: Device>(dev: &mut D, b: u64) -> Result<[u8; BLOCK_SIZE], Fa
     requires { b < D.block_count dev.old }
     ensures bytes { IfOk result (λ block. IfSome (D.contents dev.old)
         (λ image. slice_get image b ≡ Some block)) }
+    ensures size { IfOk result (λ block. length block ≡ 4096) }
     ensures reads { OnlyReads D.Device dev.old dev.new }
     ensures cause { FailsLast D.Device dev.old dev.new result }
 {

@@ -6,10 +6,10 @@ use Rattle.std.specs.List.{concat}
 use Rattle.bd_device.specs.Blocks.{Image}
 use Rattle.bd_wire.specs.Text.{zeros}
 use Rattle.bd_log.specs.Batches.{IsBatchAt, LeadsTo, AreBatches, IsDamagedAt, body_blocks, header_bytes}
-use Rattle.bd_log.specs.Commits.{bytes_at}
+use Rattle.bd_device.specs.Changes.{bytes_at}
 use Rattle.bd_log.specs.Reading.{IsBodyOf, IsBodyAt, IsBodyRead, IsNext, IsBroken}
 use Rattle.bd_log.specs.declared.batch.Batch.{Batch}
-use Rattle.bd_log.proofs.Images.{bytes_first}
+use Rattle.bd_device.proofs.Changes.{bytes_first}
 use Rattle.bd_log.proofs.Buffers.{header_length, records_size}
 use Rattle.bd_log.proofs.Chains.{leads_more}
 

@@ -1,17 +1,35 @@
 -- Batches that follow each other, in images that agree up to a block.
-use Rattle.std.proofs.Common.{◌≡◌, ℕ, ◌+◌, ◌-◌, ◌*◌, ◌<◌, ◌≤◌, List, [], ◌∷◌, ◌++◌, length, take, drop, refl, sym, ap, subst, ◌∙◌, arith, append-nil, inl, inr}
-use Rattle.std.proofs.lemmas.List.{drop-take, take-append-le}
+use Rattle.std.proofs.Common.{◌≡◌, ℕ, ◌+◌, ◌-◌, ◌*◌, ◌<◌, ◌≤◌, List, [], ◌∷◌, ◌++◌, length, take, drop, refl, sym, ap, subst, ◌∙◌, arith, append-nil, inl, inr, get_or, zero, suc}
+use Rattle.std.proofs.lemmas.List.{drop-take, take-append-le, get_or-take}
 use Rattle.bd_wire.specs.Text.{zeros}
 use Rattle.std.specs.List.{concat, AllByRecursion}
 use Rattle.std.specs.Prelude.{slice_index}
 use Rattle.bd_device.specs.Blocks.{Image}
 use Rattle.bd_log.specs.Batches.{IsRecord, IsBatchAt, LeadsTo, AreBatches, records_in, blocks_for, body_blocks, header_bytes, body_bytes}
 use Rattle.bd_device.specs.Commits.{IsCommitted}
-use Rattle.bd_log.specs.Commits.{SameOutside, IsWhole, IsNoneOrWhole, WasWritten, bytes_at}
+use Rattle.bd_device.specs.Changes.{SameBut, IsWithin, bytes_at}
+use Rattle.bd_device.proofs.Changes.{same_same, same_wider, same_before}
+use Rattle.bd_log.specs.Commits.{IsWhole, IsNoneOrWhole, WasWritten}
 use Rattle.bd_log.specs.Logs.{LogState, IsBuffer, HasAll, IsSyncing, IsSynced, batches_of, place_after, after_sync}
 use Rattle.bd_log.specs.declared.batch.Batch.{Batch}
 use Rattle.bd_log.proofs.Buffers.{length-records_in, waiting_size, fits_half, body_is, sealed_length, take_take}
-use Rattle.bd_log.proofs.Images.{take_fewer, same_below, outside_wider}
+
+-- fewer first items agree too
+take_fewer : {A : Type 0} (n m : ℕ) (xs ys : List A) → n ≤ m → take m xs ≡ take m ys → take n xs ≡ take n ys
+take_fewer zero m xs ys le e = refl
+take_fewer (suc n) zero xs ys le e = absurd (omega arith)
+take_fewer (suc n) (suc m) [] [] le e = refl
+take_fewer (suc n) (suc m) [] (y ∷ ys) le e = cc
+take_fewer (suc n) (suc m) (x ∷ xs) [] le e = cc
+take_fewer (suc n) (suc m) (x ∷ xs) (y ∷ ys) le e =
+    let heads : x ≡ y = cc in
+    let tails : take m xs ≡ take m ys = cc in
+    let rest : take n xs ≡ take n ys = take_fewer n m xs ys (omega arith) tails in
+    cc
+
+-- an item below the range
+same_below : {A : Type 0} (n i : ℕ) (d : A) (xs ys : List A) → i < n → take n xs ≡ take n ys → get_or xs i d ≡ get_or ys i d
+same_below n i d xs ys lt e = sym (get_or-take n xs i d lt) ∙ ap (λ l. get_or l i d) e ∙ get_or-take n ys i d lt
 
 -- blocks below an end where images agree
 same_bytes : (c d : Image) (end b count : ℕ) → b + count ≤ end → take end c ≡ take end d → bytes_at c b count ≡ bytes_at d b count
@@ -91,7 +109,7 @@ waiting_is first place size count epoch blocks len batches body old new value h 
 
 -- where the batch is whole, all is there
 all_there : (log : LogState) (blocks : ℕ) (bytes : List ℕ) (d c : Image) → IsWaiting log blocks bytes
-    → SameOutside (log.first + log.place) (log.first + log.place + blocks + 2) d c → IsWhole (log.first + log.place) blocks bytes c → HasAll log d c
+    → SameBut (IsWithin (log.first + log.place) (log.first + log.place + blocks + 2)) d c → IsWhole (log.first + log.place) blocks bytes c → HasAll log d c
 all_there log blocks bytes d c w same whole batches was =
     let batch : Batch = record { body = log.first + log.place + 1; records = log.waiting } in
     let added = some_waiting (log.first + log.place + 1) log.place log.waiting w.some in
@@ -104,15 +122,15 @@ all_there log blocks bytes d c w same whole batches was =
     } in
     let next : log.first + log.place + 1 + blocks ≡ log.first + (log.place + 1 + body_blocks log.waiting) = omega (arith, w.size) in
     let now : AreBatches c log.first log.epoch (batches ++ batch ∷ []) (log.place + 1 + body_blocks log.waiting) = record {
-      follow = leads_more c log.first log.epoch 0 batches log.place batch (leads_same c d log.first log.epoch 0 batches log.place same.below was.follow) whole.committed there;
+      follow = leads_more c log.first log.epoch 0 batches log.place batch (leads_same c d log.first log.epoch 0 batches log.place (same_before (log.first + log.place) (log.first + log.place + blocks + 2) d c same) was.follow) whole.committed there;
       closed = subst (λ b. ¬ IsCommitted c b) next whole.ends;
     } in
     subst (λ end. AreBatches c log.first log.epoch (batches ++ batches_of (log.first + log.place + 1) log.waiting) end) (sym added.1)
     (subst (λ bs. AreBatches c log.first log.epoch (batches ++ bs) (log.place + 1 + body_blocks log.waiting)) (sym added.0) now)
 
 half_outside : (log : LogState) (blocks : ℕ) (bytes : List ℕ) (d c : Image) → IsWaiting log blocks bytes
-    → SameOutside (log.first + log.place) (log.first + log.place + blocks + 2) d c → SameOutside log.first (log.first + 64) d c
-half_outside log blocks bytes d c w same = outside_wider log.first (log.first + 64) (omega arith) (omega (arith, w.room)) same
+    → SameBut (IsWithin (log.first + log.place) (log.first + log.place + blocks + 2)) d c → SameBut (IsWithin log.first (log.first + 64)) d c
+half_outside log blocks bytes d c w same = same_wider (IsWithin (log.first + log.place) (log.first + log.place + blocks + 2)) (IsWithin log.first (log.first + 64)) (λ i is. (omega (arith, is.0), omega (arith, is.1, w.room))) same
 
 pub syncing : (log : LogState) (blocks : ℕ) (bytes : List ℕ) (before : Image → Type 0) (c : Image) → IsWaiting log blocks bytes
     → IsNoneOrWhole (log.first + log.place) blocks bytes before c → IsSyncing log before c
@@ -121,7 +139,7 @@ syncing log blocks bytes before c w h = (
   h.1,
   half_outside log blocks bytes h.0 c w h.2,
   λ batches was. elim h.3 [
-    | inl none ↦ inl (record { follow = leads_same c h.0 log.first log.epoch 0 batches log.place h.2.below was.follow; closed = none was.closed })
+    | inl none ↦ inl (record { follow = leads_same c h.0 log.first log.epoch 0 batches log.place (same_before (log.first + log.place) (log.first + log.place + blocks + 2) h.0 c h.2) was.follow; closed = none was.closed })
     | inr whole ↦ inr (all_there log blocks bytes h.0 c w h.2 whole batches was)
   ],
 )
@@ -135,7 +153,7 @@ pub synced_idle : (log : LogState) (before : Image → Type 0) (c : Image) → l
 synced_idle log before c none was = (
   c,
   was,
-  record { below = refl; above = refl },
+  same_same (IsWithin log.first (log.first + 64)) c,
   λ batches there.
       subst (λ rs. AreBatches c log.first log.epoch (batches ++ batches_of (log.first + log.place + 1) rs) (place_after log.place rs)) (sym none)
       (subst (λ bs. AreBatches c log.first log.epoch bs log.place) (sym (append-nil batches)) there),

@@ -9,7 +9,7 @@ use Rattle.bd_device.specs.Blocks.{Image}
 use Rattle.bd_wire.specs.Text.{zeros}
 use Rattle.bd_log.specs.Batches.{IsRecord, IsBatchAt, LeadsTo, records_in, body_blocks, header_bytes, body_bytes}
 use Rattle.bd_device.specs.Commits.{IsCommitted}
-use Rattle.bd_log.specs.Commits.{bytes_at}
+use Rattle.bd_device.specs.Changes.{bytes_at}
 use Rattle.bd_log.specs.declared.batch.Batch.{Batch}
 use Rattle.bd_log.proofs.Buffers.{records_in-concat, records_size}
 use Rattle.bd_log.proofs.Headers.{headers_same}

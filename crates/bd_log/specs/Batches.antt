@@ -7,7 +7,7 @@ use Rattle.bd_device.specs.Blocks.{Image}
 use Rattle.bd_wire.specs.Numbers.{be, number_at}
 use Rattle.bd_wire.specs.Text.{text16, FitsText16, zeros}
 use Rattle.bd_device.specs.Commits.{IsCommitted}
-use Rattle.bd_log.specs.Commits.{bytes_at}
+use Rattle.bd_device.specs.Changes.{bytes_at}
 use Rattle.bd_log.specs.declared.batch.Batch.{Batch}
 
 -- a record: a length of two bytes, and that many bytes

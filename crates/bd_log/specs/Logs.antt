@@ -2,8 +2,8 @@
 use Rattle.std.specs.Prelude.{◌≡◌, ℕ, ◌+◌, ◌-◌, ◌*◌, ◌≤◌, ◌⊎◌, List, [], ◌∷◌, ◌++◌, length, take, drop}
 use Rattle.std.specs.List.{concat, AllByRecursion}
 use Rattle.bd_device.specs.Blocks.{Image}
+use Rattle.bd_device.specs.Changes.{SameBut, IsWithin}
 use Rattle.bd_log.specs.Batches.{IsRecord, records_in, body_blocks, AreBatches}
-use Rattle.bd_log.specs.Commits.{SameOutside}
 use Rattle.bd_log.specs.declared.batch.Batch.{Batch}
 
 -- the first block of its half, the epoch of its batches, the place of the next batch's commit
@@ -67,12 +67,12 @@ HasAllOrNone log old new = (batches : List Batch)
 -- batches of before and all or none of what waits
 abbrev pub IsSyncing : LogState → (Image → Type 0) → Image → Type 0
 IsSyncing log before c =
-    (d : Image) × before d × SameOutside log.first (log.first + 64) d c × HasAllOrNone log d c
+    (d : Image) × before d × SameBut (IsWithin log.first (log.first + 64)) d c × HasAllOrNone log d c
 
 -- an image that a crash after a sync leaves: the same, with all that waited
 abbrev pub IsSynced : LogState → (Image → Type 0) → Image → Type 0
 IsSynced log before c =
-    (d : Image) × before d × SameOutside log.first (log.first + 64) d c × HasAll log d c
+    (d : Image) × before d × SameBut (IsWithin log.first (log.first + 64)) d c × HasAll log d c
 
 -- the body of the next batch has room for the waiting records, which are so many and of so many
 -- bytes after its header

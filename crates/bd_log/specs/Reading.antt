@@ -6,7 +6,7 @@ use Rattle.bd_device.specs.Blocks.{Image}
 use Rattle.bd_wire.specs.Numbers.{be}
 use Rattle.bd_log.specs.Batches.{IsRecord, IsBatchAt, body_blocks, body_bytes}
 use Rattle.bd_device.specs.Commits.{IsCommitted}
-use Rattle.bd_log.specs.Commits.{bytes_at}
+use Rattle.bd_device.specs.Changes.{bytes_at}
 use Rattle.bd_log.specs.declared.batch.Batch.{Batch}
 use Rattle.bd_log.specs.declared.decode.Header.{Header}
 

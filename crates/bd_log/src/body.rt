@@ -4,7 +4,7 @@ ghost use Rattle.std.specs.Prelude.{◌≡◌, ◌≤◌, ◌<◌, ◌+◌, ◌-
 ghost use Rattle.bd_wire.specs.Text.{zeros};
 ghost use Rattle.bd_log.specs.Batches.{blocks_for, header_bytes};
 
-use bd_device::BLOCK_SIZE;
+use bd_device::{BLOCK_SIZE, put};
 use bd_wire::Out;
 
 /// The bytes of a body's header.
@@ -54,12 +54,4 @@ fn header(blocks: u32, epoch: u64, count: u32, size: u32) -> [u8; HEADER]
     out.put_u32(count);
     out.put_u32(size);
     bytes
-}
-
-/// Puts bytes over those from a place on.
-pub fn put(into: &mut [u8], at: usize, bytes: &[u8])
-    requires { at + length bytes.now ≤ length into.old }
-    ensures { into.new ≡ take at into.old ++ bytes.now ++ drop (at + length bytes.now) into.old }
-{
-    into[at..at + bytes.len()].copy_from_slice(bytes);
 }
