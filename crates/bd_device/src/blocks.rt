@@ -1,6 +1,7 @@
 //! Blocks that are read, written and settled, and commit blocks.
 
 ghost use Rattle.std.specs.Prelude.{◌≡◌, ◌↔◌, ◌≤◌, ◌<◌, ◌+◌, ◌*◌, ◌^◌, ◌++◌, Some, IsTrue, IfOk, IfSome, OnOk, OnErr, length, take, drop, slice_get};
+ghost use Rattle.bd_limits.specs.Limits.{block_size};
 ghost use Rattle.bd_device.specs.Blocks.{HasBlocks, with_block, ChangesOnly};
 ghost use Rattle.bd_device.specs.Calls.{faults_after};
 ghost use Rattle.bd_device.specs.Changes.{StaysBut, IsBeforeBut, IsWithin, bytes_at};
@@ -20,7 +21,7 @@ pub fn read_block<D: Device>(dev: &mut D, b: u64) -> Result<[u8; BLOCK_SIZE], Fa
     requires { b < D.block_count dev.old }
     ensures bytes { IfOk result (λ block. IfSome (D.contents dev.old)
         (λ image. slice_get image b ≡ Some block)) }
-    ensures size { IfOk result (λ block. length block ≡ 4096) }
+    ensures size { IfOk result (λ block. length block ≡ block_size) }
     ensures reads { OnlyReads D.Device dev.old dev.new }
     ensures cause { FailsLast D.Device dev.old dev.new result }
 {
@@ -39,9 +40,9 @@ pub fn read_blocks<D: Device>(
 ) -> Result<(), Failed>
     requires room { first + count ≤ D.block_count dev.old }
     requires fits { first + count < 2 ^ 64 }
-    requires length { count * 4096 ≤ length into.old }
+    requires length { count * block_size ≤ length into.old }
     ensures bytes { OnOk result (IfSome (D.contents dev.old) (λ image.
-        take (count * 4096) into.new ≡ bytes_at image first count)) }
+        take (count * block_size) into.new ≡ bytes_at image first count)) }
     ensures reads { OnlyReads D.Device dev.old dev.new }
     ensures cause { FailsLast D.Device dev.old dev.new result }
 {
@@ -63,8 +64,8 @@ pub fn put(into: &mut [u8], at: usize, bytes: &[u8])
 
 // The block of these bytes at this index.
 fn block_at(bytes: &[u8], i: usize) -> [u8; BLOCK_SIZE]
-    requires { i * 4096 + 4096 ≤ length bytes.now }
-    ensures { result ≡ take 4096 (drop (i * 4096) bytes.now) }
+    requires { i * block_size + block_size ≤ length bytes.now }
+    ensures { result ≡ take block_size (drop (i * block_size) bytes.now) }
 {
     let mut block = [0; BLOCK_SIZE];
     block.copy_from_slice(&bytes[i * BLOCK_SIZE..i * BLOCK_SIZE + BLOCK_SIZE]);
@@ -81,10 +82,10 @@ pub fn write_blocks<D: Device>(
     count: usize,
 ) -> Result<(), Failed>
     requires room { first + count ≤ D.block_count dev.old }
-    requires bytes { count * 4096 ≤ length bytes.now }
+    requires bytes { count * block_size ≤ length bytes.now }
     requires fits { first + count < 2 ^ 64 }
     ensures written { OnOk result (IfSome (D.contents dev.new) (λ image.
-        bytes_at image first count ≡ take (count * 4096) bytes.now)) }
+        bytes_at image first count ≡ take (count * block_size) bytes.now)) }
     ensures others { StaysBut (IsWithin first (first + count))
         (D.contents dev.old) (D.contents dev.new) }
     ensures time { Goes D.Device dev.old dev.new

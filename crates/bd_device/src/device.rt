@@ -5,9 +5,7 @@ ghost use Rattle.bd_device.specs.Calls.{faults_after};
 ghost use Rattle.bd_device.specs.Moments.{Nothing, TornAt, Elapses, IsOnly};
 
 use bd_io::Failed;
-
-/// The bytes of a block.
-pub const BLOCK_SIZE: usize = 4096;
+use bd_limits::BLOCK_SIZE;
 
 /// A device of numbered blocks. Its counts never fall, and each stays at a u64's last value.
 pub trait Device {

@@ -17,7 +17,8 @@ mod write_record;
 pub use blocks::{
     committed_block, is_committed, put, read_block, read_blocks, settle, write_blocks,
 };
-pub use device::{Attach, BLOCK_SIZE, Device};
+pub use bd_limits::BLOCK_SIZE;
+pub use device::{Attach, Device};
 pub use fault::ImageFault;
 pub use faulty_device::FaultyDevice;
 pub use fuse_device::FuseDevice;

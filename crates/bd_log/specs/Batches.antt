@@ -1,8 +1,9 @@
 -- Batches of records, and how they stand in a half of the log. A half has 64 blocks; places are
 -- counted from its first one.
-use Rattle.std.specs.Prelude.{◌≡◌, ℕ, zero, suc, ◌+◌, ◌-◌, ◌*◌, ◌/◌, ◌≤◌, List, [], ◌∷◌, ◌++◌, length, take, drop}
+use Rattle.std.specs.Prelude.{◌≡◌, ℕ, zero, suc, ◌+◌, ◌-◌, ◌*◌, ◌/◌, ◌<◌, ◌≤◌, List, [], ◌∷◌, ◌++◌, length, take, drop}
 use Rattle.std.specs.List.{concat, AllByRecursion}
 use Rattle.std.specs.Int.{w16, w32, w64}
+use Rattle.bd_limits.specs.Limits.{block_size, log_blocks}
 use Rattle.bd_device.specs.Blocks.{Image}
 use Rattle.bd_wire.specs.Numbers.{be, number_at}
 use Rattle.bd_wire.specs.Text.{text16, FitsText16, zeros}
@@ -22,7 +23,7 @@ records_in (suc count) bytes =
 
 -- the blocks that a header of 24 bytes and so many bytes of records take
 abbrev pub blocks_for : ℕ → ℕ
-blocks_for size = (24 + size + 4095) / 4096
+blocks_for size = (24 + size + (block_size - 1)) / block_size
 
 -- the blocks of a body with these records
 abbrev pub body_blocks : List (List ℕ) → ℕ
@@ -42,7 +43,7 @@ abbrev pub body_bytes : ℕ → List (List ℕ) → List ℕ
 body_bytes epoch records =
     header_bytes (body_blocks records) epoch (length records) (length (concat records))
     ++ concat records
-    ++ zeros (body_blocks records * 4096 - (24 + length (concat records)))
+    ++ zeros (body_blocks records * block_size - (24 + length (concat records)))
 
 -- A batch whose commit block has this place: one record or more, whose body is in the blocks after
 -- the commit block, so that the next batch's commit block is in the half too.
@@ -50,7 +51,7 @@ pub record IsBatchAt (image : Image) (first epoch place : ℕ) (batch : Batch) :
   pub body : batch.body ≡ first + place + 1
   pub some : 1 ≤ length batch.records
   pub each : AllByRecursion IsRecord batch.records
-  pub room : place + 1 + body_blocks batch.records ≤ 63
+  pub room : place + 1 + body_blocks batch.records < log_blocks
   pub bytes : bytes_at image batch.body (body_blocks batch.records)
       ≡ body_bytes epoch batch.records
 

@@ -1,6 +1,7 @@
 //! Blocks that are written and then committed.
 
 ghost use Rattle.std.specs.Prelude.{◌≡◌, ◌≤◌, ◌<◌, ◌+◌, ◌*◌, ◌^◌, length, OnOk};
+ghost use Rattle.bd_limits.specs.Limits.{block_size};
 ghost use Rattle.bd_device.specs.Blocks.{Image};
 ghost use Rattle.bd_device.specs.Calls.{faults_after};
 ghost use Rattle.bd_device.specs.Changes.{StaysBut, IsWithin};
@@ -21,7 +22,7 @@ pub fn write_committed<D: Device>(
 ) -> Result<(), Failed>
     requires room { commit + blocks + 2 ≤ D.block_count dev.old }
     requires fits { commit + blocks + 2 < 2 ^ 64 }
-    requires body { blocks * 4096 ≡ length body.now }
+    requires body { blocks * block_size ≡ length body.now }
     ensures time { Goes D.Device dev.old dev.new
         (IsNoneOrWhole commit blocks body.now (left_now D.Device dev.old)) }
     ensures whole { OnOk result ((c : Image) → left_now D.Device dev.new c

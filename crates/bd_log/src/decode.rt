@@ -1,6 +1,7 @@
 //! Reading the body of a batch.
 
 ghost use Rattle.std.specs.Prelude.{◌≡◌, ◌≤◌, ◌<◌, ◌+◌, ◌*◌, ◌^◌, ◌↔◌, ◌++◌, ℕ, List, length, IfOk, IfSome, IfNone, IsTrue};
+ghost use Rattle.bd_limits.specs.Limits.{block_size, body_block_limit};
 ghost use Rattle.bd_wire.specs.Encoding.{BeginsNone};
 ghost use Rattle.bd_wire.specs.Reading.{Reads};
 ghost use Rattle.bd_wire.specs.Text.{text16, FitsText16};
@@ -26,7 +27,7 @@ struct Header {
 impl Header {
     // Whether it is the header of a body of this epoch and of so many blocks.
     fn is_of(&self, epoch: u64, blocks: u64) -> bool
-        requires { blocks ≤ 62 }
+        requires { blocks ≤ body_block_limit }
         ensures { IsTrue result ↔ ((self.now.magic ≡ magic) × (self.now.blocks ≡ blocks)
             × (self.now.epoch ≡ epoch) × (1 ≤ self.now.count)
             × (blocks_for self.now.size ≡ blocks)) }
@@ -93,8 +94,8 @@ pub fn decode(
     epoch: u64,
     blocks: u64,
 ) -> Result<Option<Records>, AllocError>
-    requires blocks { blocks ≤ 62 }
-    requires length { length bytes.now ≡ blocks * 4096 }
+    requires blocks { blocks ≤ body_block_limit }
+    requires length { length bytes.now ≡ blocks * block_size }
     ensures body { IfOk result (λ found. IsBodyOf bytes.now epoch found) }
     ensures blocks { IfOk result (λ found. IfSome found (λ rs. body_blocks rs ≡ blocks)) }
 {

@@ -1,6 +1,7 @@
 //! The log.
 
 ghost use Rattle.std.specs.Prelude.{◌≡◌, ◌≤◌, ◌+◌, ◌++◌, ◌∷◌, [], ℕ, List, length, IfOk, IfSome, OnOk, OnErr, IsTrue, is_ok};
+ghost use Rattle.bd_limits.specs.Limits.{first_slot_block, log_blocks};
 ghost use Rattle.bd_device.specs.Blocks.{Image};
 ghost use Rattle.bd_device.specs.Calls.{faults_after};
 ghost use Rattle.bd_device.specs.Changes.{StaysBut, IsWithin};
@@ -9,11 +10,12 @@ ghost use Rattle.bd_log.specs.Batches.{IsRecord, AreBatches, IsDamagedAt};
 ghost use Rattle.bd_log.specs.Logs.{IsHalf, room_at, room_left, fresh_log, after_sync, IsSyncing, IsSynced};
 
 use crate::batch::Batches;
-use crate::body::{HEADER, MAX_BLOCKS, MAX_BODY, blocks_for, seal};
+use crate::body::{HEADER, MAX_BODY, blocks_for, seal};
 use crate::commit::write_committed;
 use crate::read::read_batches;
 use bd_device::{BLOCK_SIZE, Device, ImageFault, put};
 use bd_io::Failed;
+use bd_limits::MAX_BODY_BLOCKS;
 use std::alloc::{AllocError, Global};
 use std::marker::Model;
 
@@ -31,7 +33,8 @@ pub struct Log {
 }
 
 impl Model for Log {
-    ghost use Rattle.std.specs.Prelude.{◌≤◌, take, drop};
+    ghost use Rattle.std.specs.Prelude.{◌<◌, take, drop};
+    ghost use Rattle.bd_limits.specs.Limits.{log_blocks};
     ghost use Rattle.bd_log.specs.Batches.{records_in};
     ghost use Rattle.bd_log.specs.Logs.{LogState, IsHalf, IsBuffer};
 
@@ -45,7 +48,7 @@ impl Model for Log {
       batches = l.batches;
     } };
 
-    ghost invariant = { λ l. IsHalf l.first × (l.place ≤ 63)
+    ghost invariant = { λ l. IsHalf l.first × (l.place < log_blocks)
         × IsBuffer l.place l.size l.count l.body.items };
 }
 
@@ -79,7 +82,7 @@ impl Log {
         first: u64,
         epoch: u64,
     ) -> Result<Log, ImageFault>
-        requires room { 132 ≤ D.block_count dev.old }
+        requires room { first_slot_block ≤ D.block_count dev.old }
         requires half { IsHalf first }
         ensures batches { IfOk result (λ log. IfSome (D.contents dev.old) (λ image.
             AreBatches image first epoch log.batches log.place)) }
@@ -152,14 +155,14 @@ impl Log {
     /// the last one then; the records then still wait. It takes no memory.
     #[tactic(auto, using(bd_device::proofs::Calls::calls))]
     pub fn sync<D: Device>(&mut self, dev: &mut D) -> Result<(), Failed>
-        requires { 132 ≤ D.block_count dev.old }
+        requires { first_slot_block ≤ D.block_count dev.old }
         ensures ok { OnOk result (self.new ≡ after_sync self.old) }
         ensures err { OnErr result (self.new ≡ self.old) }
         ensures time { Goes D.Device dev.old dev.new
             (IsSyncing self.old (left_now D.Device dev.old)) }
         ensures synced { OnOk result ((c : Image) → left_now D.Device dev.new c
             → IsSynced self.old (left_now D.Device dev.old) c) }
-        ensures others { StaysBut (IsWithin self.old.first (self.old.first + 64))
+        ensures others { StaysBut (IsWithin self.old.first (self.old.first + log_blocks))
             (D.contents dev.old) (D.contents dev.new) }
         ensures idle { self.old.waiting ≡ [] → dev.new ≡ dev.old }
         ensures idle_ok { self.old.waiting ≡ [] → IsTrue (is_ok result) }
@@ -186,6 +189,6 @@ impl Log {
 fn room_at(place: u64) -> usize
     ensures { result ≡ room_at place }
 {
-    let blocks = MAX_BLOCKS.saturating_sub(place) as usize;
+    let blocks = MAX_BODY_BLOCKS.saturating_sub(place) as usize;
     (blocks * BLOCK_SIZE).saturating_sub(HEADER)
 }

@@ -1,6 +1,7 @@
 //! Reading the batches of a half.
 
 ghost use Rattle.std.specs.Prelude.{◌≡◌, ◌≤◌, ◌<◌, ◌+◌, ◌*◌, ◌^◌, length, IfOk, IfSome};
+ghost use Rattle.bd_limits.specs.Limits.{block_size, body_block_limit, first_slot_block, log_blocks};
 ghost use Rattle.bd_device.specs.Changes.{bytes_at};
 ghost use Rattle.bd_device.specs.Device.{OnlyReads, HasImageCause};
 ghost use Rattle.bd_log.specs.Batches.{body_blocks, AreBatches, IsDamagedAt};
@@ -8,9 +9,9 @@ ghost use Rattle.bd_log.specs.Logs.{IsHalf};
 ghost use Rattle.bd_log.specs.Reading.{IsBodyOf, IsBodyRead, IsNext, IsBroken};
 
 use crate::batch::{Batch, Records};
-use crate::body::MAX_BLOCKS;
 use crate::decode::{decode, named_blocks};
 use bd_device::{BLOCK_SIZE, Device, ImageFault, is_committed, read_block, read_blocks};
+use bd_limits::MAX_BODY_BLOCKS;
 use std::alloc::Global;
 
 // Reads a body of so many blocks, from block `b` on.
@@ -25,8 +26,8 @@ fn read_records<D: Device>(
 ) -> Result<Option<Records>, ImageFault>
     requires room { b + blocks ≤ D.block_count dev.old }
     requires fits { b + blocks < 2 ^ 64 }
-    requires few { blocks ≤ 62 }
-    requires buffer { length buffer.old ≡ 253952 }
+    requires few { blocks ≤ body_block_limit }
+    requires buffer { length buffer.old ≡ body_block_limit * block_size }
     ensures body { IfOk result (λ found. IfSome (D.contents dev.old) (λ image.
         IsBodyOf (bytes_at image b blocks) epoch found)) }
     ensures blocks { IfOk result (λ found. IfSome found (λ rs. body_blocks rs ≡ blocks)) }
@@ -52,8 +53,8 @@ fn read_body<D: Device>(
     requires room { b + most ≤ D.block_count dev.old }
     requires fits { b + most < 2 ^ 64 }
     requires most { 1 ≤ most }
-    requires few { most ≤ 62 }
-    requires buffer { length buffer.old ≡ 253952 }
+    requires few { most ≤ body_block_limit }
+    requires buffer { length buffer.old ≡ body_block_limit * block_size }
     ensures body { IfOk result (λ found. IfSome (D.contents dev.old) (λ image.
         IsBodyRead image b most epoch found)) }
     ensures blocks { IfOk result (λ found. IfSome found (λ f.
@@ -83,14 +84,14 @@ fn next_batch<D: Device>(
     place: u64,
     buffer: &mut [u8],
 ) -> Result<Option<(Batch, u64)>, ImageFault>
-    requires room { 132 ≤ D.block_count dev.old }
+    requires room { first_slot_block ≤ D.block_count dev.old }
     requires half { IsHalf first }
-    requires place { place ≤ 63 }
-    requires buffer { length buffer.old ≡ 253952 }
+    requires place { place < log_blocks }
+    requires buffer { length buffer.old ≡ body_block_limit * block_size }
     ensures next { IfOk result (λ found. IfSome (D.contents dev.old) (λ image.
         IsNext image first epoch place found)) }
     ensures blocks { IfOk result (λ found. IfSome found (λ f.
-        (f.1 ≡ body_blocks f.0.records) × (place + 1 + f.1 ≤ 63))) }
+        (f.1 ≡ body_blocks f.0.records) × (place + 1 + f.1 < log_blocks))) }
     ensures reads { OnlyReads D.Device dev.old dev.new }
     ensures cause { HasImageCause D.Device dev.old dev.new (λ block.
         IfSome (D.contents dev.old) (λ image. IsBroken image first epoch place block)) result }
@@ -99,10 +100,10 @@ fn next_batch<D: Device>(
         return Ok(None);
     }
     let body = first + place + 1;
-    if place >= MAX_BLOCKS {
+    if place >= MAX_BODY_BLOCKS {
         return Err(ImageFault::Damaged { block: body });
     }
-    match read_body(alloc, dev, body, MAX_BLOCKS - place, epoch, buffer)? {
+    match read_body(alloc, dev, body, MAX_BODY_BLOCKS - place, epoch, buffer)? {
         Some((records, blocks)) => Ok(Some((Batch { body, records }, blocks))),
         None => Err(ImageFault::Damaged { block: body }),
     }
@@ -117,12 +118,12 @@ pub fn read_batches<D: Device>(
     epoch: u64,
     buffer: &mut [u8],
 ) -> Result<(Vec<Batch>, u64), ImageFault>
-    requires room { 132 ≤ D.block_count dev.old }
+    requires room { first_slot_block ≤ D.block_count dev.old }
     requires half { IsHalf first }
-    requires buffer { length buffer.old ≡ 253952 }
+    requires buffer { length buffer.old ≡ body_block_limit * block_size }
     ensures batches { IfOk result (λ read. IfSome (D.contents dev.old) (λ image.
         AreBatches image first epoch read.0.items read.1)) }
-    ensures place { IfOk result (λ read. read.1 ≤ 63) }
+    ensures place { IfOk result (λ read. read.1 < log_blocks) }
     ensures reads { OnlyReads D.Device dev.old dev.new }
     ensures cause { HasImageCause D.Device dev.old dev.new (λ block.
         IfSome (D.contents dev.old) (λ image. IsDamagedAt image first epoch block)) result }

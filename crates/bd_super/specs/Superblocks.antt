@@ -2,6 +2,7 @@
 use Rattle.std.specs.Prelude.{◌≡◌, ◌≢◌, ◌-◌, ◌*◌, ◌^◌, ◌<◌, ◌≤◌, ℕ, List, [], ◌∷◌, ◌++◌, length, Option, Some, None}
 use Rattle.std.specs.Int.{w32, w64}
 use Rattle.std.specs.List.{flat_map}
+use Rattle.bd_limits.specs.Limits.{block_size}
 use Rattle.bd_slots.specs.Layout.{IsSlotCount, IsTablePlace}
 use Rattle.bd_wire.specs.Numbers.{be}
 use Rattle.bd_wire.specs.Text.{zeros}
@@ -56,7 +57,7 @@ FitsHead slots epoch count table =
 abbrev pub body_bytes : Super → List ℕ
 body_bytes s =
     head_bytes s.slots s.epoch s.count (length s.table) ++ flat_map (be w32) s.table
-    ++ zeros (4060 - 4 * length s.table)
+    ++ zeros (block_size - 36 - 4 * length s.table)
 
 -- the block is the body of the half's superblock, or of none
 abbrev pub IsReadAs : Half → List ℕ → Option Super → Type 0

@@ -3,6 +3,7 @@
 ghost use Rattle.std.specs.Prelude.{◌≡◌, ◌≢◌, ◌<◌, ◌≤◌, ◌*◌, ℕ, List, ◌++◌, ◌↔◌, length, All, IsTrue, IfOk, OnErr, IfSome, IfNone};
 ghost use Rattle.std.specs.Int.{w32};
 ghost use Rattle.std.specs.List.{flat_map};
+ghost use Rattle.bd_limits.specs.Limits.{block_size};
 ghost use Rattle.bd_wire.specs.Numbers.{be, FitsWidth};
 ghost use Rattle.bd_wire.specs.Reading.{Reads};
 ghost use Rattle.bd_wire.specs.Writing.{Puts, room};
@@ -45,7 +46,7 @@ impl Super {
     // Writes its body into a block.
     fn put(&self, out: &mut Out)
         requires super_is { IsSuper self.now }
-        requires room { length (room out.old) ≡ 4096 }
+        requires room { length (room out.old) ≡ block_size }
         ensures { Puts out.old out.new (body_bytes self.now) }
     {
         out.put_bytes(&MAGIC);

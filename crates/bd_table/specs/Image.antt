@@ -1,6 +1,7 @@
 -- Where a table stands in an image.
 use Rattle.std.specs.Prelude.{◌≡◌, ◌+◌, ◌*◌, ◌/◌, ◌%◌, ◌<◌, ℕ, List, [], length, map, slice_index, slice_index_or}
 use Rattle.std.specs.List.{flat_map, range_with_len}
+use Rattle.bd_limits.specs.Limits.{slot_blocks}
 use Rattle.bd_slots.specs.Layout.{slot_block}
 use Rattle.bd_device.specs.Blocks.{Image}
 use Rattle.bd_table.specs.Tables.{IsTable, table_bytes}
@@ -8,11 +9,11 @@ use Rattle.bd_table.specs.declared.table.Table.{Table}
 
 -- the block that has the k-th part of a table in these slots
 abbrev pub table_block : List ℕ → ℕ → ℕ
-table_block at k = slot_block (slice_index at (k / 16)) + k % 16
+table_block at k = slot_block (slice_index at (k / slot_blocks)) + k % slot_blocks
 
 -- how many blocks they have
 abbrev pub block_total : List ℕ → ℕ
-block_total at = 16 * length at
+block_total at = slot_blocks * length at
 
 -- the first of these blocks
 abbrev pub first_blocks : List ℕ → ℕ → List ℕ

@@ -1,7 +1,7 @@
 //! A table is read from its slots.
 
-ghost use Rattle.std.specs.Prelude.{◌≡◌, ◌<◌, ◌+◌, ◌*◌, ◌++◌, ℕ, [], length, slice_index, slice_index_or, IfOk, IfSome, OnOk};
-ghost use Rattle.bd_limits.specs.Limits.{slot_size};
+ghost use Rattle.std.specs.Prelude.{◌≡◌, ◌<◌, ◌≤◌, ◌+◌, ◌*◌, ◌++◌, ℕ, [], length, slice_index, slice_index_or, IfOk, IfSome, OnOk};
+ghost use Rattle.bd_limits.specs.Limits.{slot_size, block_size, table_slot_limit};
 ghost use Rattle.bd_slots.specs.Layout.{IsTablePlace, image_blocks, slot_block};
 ghost use Rattle.bd_device.specs.Device.{OnlyReads, HasImageCause};
 ghost use Rattle.bd_table.specs.Image.{HasNoTable, HoldsTable, block_total, bytes_in, table_block};
@@ -9,8 +9,8 @@ ghost use Rattle.bd_table.specs.Tables.{IsTable};
 
 use crate::Table;
 use bd_device::{Device, ImageFault, read_block};
-use bd_limits::SLOT_SIZE;
-use bd_slots::{SLOT_BLOCKS, slot_block};
+use bd_limits::{SLOT_BLOCKS, SLOT_SIZE};
+use bd_slots::slot_block;
 use std::alloc::Global;
 
 // The blocks of a slot.
@@ -51,7 +51,7 @@ pub fn read<D: Device>(
 fn read_slots<D: Device>(alloc: Global, dev: &mut D, at: &[u32]) -> Result<Vec<u8>, ImageFault>
     requires inside { (k : ℕ) → k < block_total at.now
         → table_block at.now k < D.block_count dev.old }
-    requires few { length at.now < 26 }
+    requires few { length at.now ≤ table_slot_limit }
     ensures bytes { IfSome (D.contents dev.old)
         (λ image. IfOk result (λ bytes. bytes.items ≡ bytes_in image at.now)) }
     ensures length { IfOk result (λ bytes. length bytes.items ≡ slot_size * length at.now) }
@@ -72,7 +72,7 @@ fn append_block<D: Device>(dev: &mut D, b: u64, bytes: &mut Vec<u8>) -> Result<(
     ensures bytes { OnOk result (IfSome (D.contents dev.old)
         (λ image. bytes.new.items ≡ bytes.old.items ++ slice_index_or image b [])) }
     ensures length { OnOk result
-        (length bytes.new.items ≡ length bytes.old.items + 4096) }
+        (length bytes.new.items ≡ length bytes.old.items + block_size) }
     ensures cause { HasImageCause D.Device dev.old dev.new (λ _. ⊥) result }
     ensures reads { OnlyReads D.Device dev.old dev.new }
 {

@@ -1,6 +1,7 @@
 //! A table is written to its slots.
 
 ghost use Rattle.std.specs.Prelude.{◌≡◌, ◌<◌, ◌≤◌, ◌*◌, length, slice_index_or, IfSome, OnOk};
+ghost use Rattle.bd_limits.specs.Limits.{block_size, slot_blocks, table_slot_limit};
 ghost use Rattle.bd_slots.specs.Layout.{IsTablePlace, image_blocks};
 ghost use Rattle.bd_device.specs.Calls.{faults_after};
 ghost use Rattle.bd_device.specs.Changes.{StaysBut, IsBeforeBut};
@@ -49,8 +50,8 @@ impl Table {
     // The k-th block of its encoding in this many slots.
     #[tactic(auto, using(crate::proofs::WordLemmas::filled))]
     fn part(&self, taken: usize, k: usize) -> [u8; BLOCK_SIZE]
-        requires inside { k < 16 * taken }
-        requires few { taken < 26 }
+        requires inside { k < slot_blocks * taken }
+        requires few { taken ≤ table_slot_limit }
         ensures { result ≡ part taken self.now k }
     {
         let mut block = [0; BLOCK_SIZE];
@@ -61,9 +62,9 @@ impl Table {
 
     // Writes the k-th block of its encoding.
     fn put_part(&self, out: &mut Out, taken: usize, k: usize)
-        requires inside { k < 16 * taken }
-        requires few { taken < 26 }
-        requires room { length (room out.old) ≡ 4096 }
+        requires inside { k < slot_blocks * taken }
+        requires few { taken ≤ table_slot_limit }
+        requires room { length (room out.old) ≡ block_size }
         ensures { Puts out.old out.new (part taken self.now k) }
     {
         for word in 0..WORDS {
