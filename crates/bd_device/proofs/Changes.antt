@@ -6,7 +6,7 @@ use Rattle.std.proofs.lemmas.List.Folds.{concat-append}
 use Rattle.std.specs.List.{concat}
 use Rattle.std.specs.Prelude.{slice_get, slice_set, IfSome}
 use Rattle.bd_device.specs.Blocks.{Image, HasBlocks, with_block, ChangesOnly}
-use Rattle.bd_device.specs.Changes.{SameBut, StaysBut, IsBeforeBut, IsWithin, bytes_at}
+use Rattle.bd_device.specs.Changes.{SameBut, StaysBut, IsBeforeBut, IsInRange, bytes_at}
 use Rattle.bd_device.specs.Moments.{Elapses, TornAt}
 use Rattle.bd_device.proofs.Moments.{goes_on, within, after}
 
@@ -33,7 +33,7 @@ same_set changed i image bytes is = record {
 }
 
 -- what stands before a range of blocks
-pub same_before : (from to : ℕ) (a b : Image) → SameBut (IsWithin from to) a b → take from b ≡ take from a
+pub same_before : (from to : ℕ) (a b : Image) → SameBut (IsInRange from to) a b → take from b ≡ take from a
 same_before from to a b p = ext_get_or [] (take from b) (take from a)
     (length-take from b ∙ ap (λ n. min from n) p.size ∙ sym (length-take from a))
     (λ i lt.

@@ -20,8 +20,8 @@ abbrev pub IsBeforeBut : (ℕ → Type 0) → (Image → Type 0) → Image → T
 IsBeforeBut changed before new = (old : Image) × before old × SameBut changed old new
 
 -- the block is in a range, which begins at `from` and ends before `to`
-abbrev pub IsWithin : ℕ → ℕ → ℕ → Type 0
-IsWithin from to b = (from ≤ b) × (b < to)
+abbrev pub IsInRange : ℕ → ℕ → ℕ → Type 0
+IsInRange from to b = (from ≤ b) × (b < to)
 
 -- the bytes of so many blocks in a row
 abbrev pub bytes_at : Image → ℕ → ℕ → List ℕ

@@ -90,9 +90,9 @@ abbrev pub IsRecordIn : ℕ → WriteRecord → Type 0
 IsRecordIn count w = (w.block < count) × IsBlock w.before
 
 -- the last of these writes, the last first, is among so many calls
-abbrev pub IsPast : ℕ → List WriteRecord → Type 0
-IsPast calls [] = ⊤
-IsPast calls (w ∷ ws) = w.call ≤ calls
+abbrev pub IsAmongCalls : ℕ → List WriteRecord → Type 0
+IsAmongCalls calls [] = ⊤
+IsAmongCalls calls (w ∷ ws) = w.call ≤ calls
 
 -- the image before a write
 abbrev pub image_before : WriteRecord → Image → Image

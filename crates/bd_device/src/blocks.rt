@@ -4,7 +4,7 @@ ghost use Rattle.std.specs.Prelude.{◌≡◌, ◌↔◌, ◌≤◌, ◌<◌, �
 ghost use Rattle.bd_limits.specs.Limits.{block_size};
 ghost use Rattle.bd_device.specs.Blocks.{HasBlocks, with_block, ChangesOnly};
 ghost use Rattle.bd_device.specs.Calls.{faults_after};
-ghost use Rattle.bd_device.specs.Changes.{StaysBut, IsBeforeBut, IsWithin, bytes_at};
+ghost use Rattle.bd_device.specs.Changes.{StaysBut, IsBeforeBut, IsInRange, bytes_at};
 ghost use Rattle.bd_device.specs.Commits.{IsCommit};
 ghost use Rattle.bd_device.specs.Device.{left_now, Goes, Stays, OnlyReads, FailsLast};
 ghost use Rattle.bd_device.specs.Moments.{TornAt, IsOnly};
@@ -86,10 +86,10 @@ pub fn write_blocks<D: Device>(
     requires fits { first + count < 2 ^ 64 }
     ensures written { OnOk result (IfSome (D.contents dev.new) (λ image.
         bytes_at image first count ≡ take (count * block_size) bytes.now)) }
-    ensures others { StaysBut (IsWithin first (first + count))
+    ensures others { StaysBut (IsInRange first (first + count))
         (D.contents dev.old) (D.contents dev.new) }
     ensures time { Goes D.Device dev.old dev.new
-        (IsBeforeBut (IsWithin first (first + count)) (left_now D.Device dev.old)) }
+        (IsBeforeBut (IsInRange first (first + count)) (left_now D.Device dev.old)) }
     ensures stays { Stays D.Device dev.old dev.new }
     ensures cause { FailsLast D.Device dev.old dev.new result }
     ensures write_faults { D.write_fault_count dev.new

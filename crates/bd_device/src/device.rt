@@ -7,7 +7,8 @@ ghost use Rattle.bd_device.specs.Moments.{Nothing, TornAt, Elapses, IsOnly};
 use bd_io::Failed;
 use bd_limits::BLOCK_SIZE;
 
-/// A device of numbered blocks. Its counts never fall, and each stays at a u64's last value.
+/// A device of numbered blocks. Its counts never fall, and each stays at a u64's last value. A call
+/// that fails counts one fault.
 pub trait Device {
     /// How many blocks it has.
     ghost block_count: { Self → ℕ };
@@ -24,7 +25,7 @@ pub trait Device {
     /// How many reads, writes, barriers and attaches there were, also those that failed.
     ghost call_count: { Self → ℕ };
 
-    /// The last of them failed.
+    /// Whether the last of them failed.
     ghost last_failed: { Self → Bool };
 
     /// A crash at some moment after the device's first `t` calls, also inside a later call, might

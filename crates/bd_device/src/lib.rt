@@ -14,10 +14,10 @@ mod mem_device;
 mod torn;
 mod write_record;
 
+pub use bd_limits::BLOCK_SIZE;
 pub use blocks::{
     committed_block, is_committed, put, read_block, read_blocks, settle, write_blocks,
 };
-pub use bd_limits::BLOCK_SIZE;
 pub use device::{Attach, Device};
 pub use fault::ImageFault;
 pub use faulty_device::FaultyDevice;

@@ -34,7 +34,7 @@ impl Model for MemDevice {
     ghost use Rattle.std.specs.Prelude.{◌≤◌, length, reverse, All};
     ghost use Rattle.std.specs.Vec.{vec_capacity};
     ghost use Rattle.bd_device.specs.Blocks.{IsBlock};
-    ghost use Rattle.bd_device.specs.Memory.{MemoryDevice, IsPast, IsRecordIn};
+    ghost use Rattle.bd_device.specs.Memory.{MemoryDevice, IsAmongCalls, IsRecordIn};
 
     ghost Value = { MemoryDevice };
 
@@ -52,7 +52,7 @@ impl Model for MemDevice {
     ghost invariant = { λ d. (d.size ≤ length d.blocks.items) × All IsBlock d.blocks.items
         × (length d.writes.items ≤ d.room) × (d.room ≤ vec_capacity d.writes)
         × All (IsRecordIn (length d.blocks.items)) d.writes.items
-        × (d.barrier ≤ d.plan.calls) × IsPast d.plan.calls (reverse d.writes.items) };
+        × (d.barrier ≤ d.plan.calls) × IsAmongCalls d.plan.calls (reverse d.writes.items) };
 }
 
 impl MemDevice {

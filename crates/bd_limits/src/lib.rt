@@ -102,7 +102,8 @@ pub const MAX_TABLE_SLOTS: usize = 25;
 /// The blocks of a half of the log.
 pub const LOG_BLOCKS: u64 = 64;
 
-/// The most blocks of the body of a batch in the log: all of a half but the commit blocks around it.
+/// The most blocks of the body of a batch in the log: those of a half without the commit blocks
+/// around it.
 pub const MAX_BODY_BLOCKS: u64 = 62;
 
 /// Each constant is the limit that definitions and contracts name.

@@ -7,12 +7,12 @@ use Rattle.std.specs.List.{concat}
 use Rattle.std.specs.Prelude.{slice_set, slice_index_or}
 use Rattle.std.specs.Prelude.{IfSome, slice_index}
 use Rattle.bd_device.specs.Blocks.{Image, HasBlocks, with_block}
-use Rattle.bd_device.specs.Changes.{SameBut, IsBeforeBut, IsWithin, bytes_at}
+use Rattle.bd_device.specs.Changes.{SameBut, IsBeforeBut, IsInRange, bytes_at}
 use Rattle.bd_device.specs.Moments.{Elapses, TornAt}
 use Rattle.bd_device.proofs.Changes.{same_wider, same_then, same_set, before_wider, before_now, write_more}
 use Rattle.bd_device.proofs.Moments.{goes_on, within, after}
 use Rattle.bd_device.specs.Commits.{IsCommitted}
-use Rattle.bd_log.specs.Commits.{IsWhole, IsNoneOrWhole, WasWritten}
+use Rattle.bd_log.specs.Commits.{IsWholeBody, IsNoneOrWhole, WasWritten}
 
 -- a block replaced after the others changes none of them
 bytes_before : (image : Image) (b count : ℕ) (block : List ℕ) → bytes_at (slice_set image (b + count) block) b count ≡ bytes_at image b count
@@ -28,12 +28,12 @@ not_committed image b block zero_byte is =
 
 -- while the body is written, nothing is committed
 pub none_yet : (commit blocks : ℕ) (bytes : List ℕ) (before : Image → Type 0) (image : Image)
-    → IsBeforeBut (IsWithin (commit + 1) (commit + blocks + 2)) before image → IsNoneOrWhole commit blocks bytes before image
+    → IsBeforeBut (IsInRange (commit + 1) (commit + blocks + 2)) before image → IsNoneOrWhole commit blocks bytes before image
 none_yet commit blocks bytes before image h =
     let same = h.2.others commit (λ is. omega (arith, is.0)) in (
       h.0,
       h.1,
-      same_wider (IsWithin (commit + 1) (commit + blocks + 2)) (IsWithin commit (commit + blocks + 2)) (λ i is. (omega (arith, is.0), is.1)) h.2,
+      same_wider (IsInRange (commit + 1) (commit + blocks + 2)) (IsInRange commit (commit + blocks + 2)) (λ i is. (omega (arith, is.0), is.1)) h.2,
       inl (λ closed is. closed (sym (ap (λ (l : List ℕ). slice_index l 0) same) ∙ is)),
     )
 
@@ -60,7 +60,7 @@ settled count commit blocks bytes block (Some old) new image lt size body zero_b
 
 -- what stands after the commit block stays, whatever it holds
 after_commit : (commit blocks : ℕ) (bytes block : List ℕ) (image : Image) → IsSettled commit blocks bytes image → IsCommitted (slice_set image commit block) commit
-    → IsWhole commit blocks bytes (slice_set image commit block)
+    → IsWholeBody commit blocks bytes (slice_set image commit block)
 after_commit commit blocks bytes block image h is =
     let next = get_or-set_other image commit (commit + 1 + blocks) block [] (omega arith) in
     record {
@@ -69,13 +69,13 @@ after_commit commit blocks bytes block image h is =
       ends = λ on. h.ends (sym (ap (λ (l : List ℕ). slice_index l 0) next) ∙ on);
     }
 
-opened_outside : (commit blocks : ℕ) (block : List ℕ) (d image : Image) → SameBut (IsWithin (commit + 1) (commit + blocks + 2)) d image → SameBut (IsWithin commit (commit + blocks + 2)) d (slice_set image commit block)
+opened_outside : (commit blocks : ℕ) (block : List ℕ) (d image : Image) → SameBut (IsInRange (commit + 1) (commit + blocks + 2)) d image → SameBut (IsInRange commit (commit + blocks + 2)) d (slice_set image commit block)
 opened_outside commit blocks block d image p =
-    let range = IsWithin commit (commit + blocks + 2) in
-    same_then (same_wider (IsWithin (commit + 1) (commit + blocks + 2)) range (λ i is. (omega (arith, is.0), is.1)) p) (same_set range commit image block (omega arith, omega arith))
+    let range = IsInRange commit (commit + blocks + 2) in
+    same_then (same_wider (IsInRange (commit + 1) (commit + blocks + 2)) range (λ i is. (omega (arith, is.0), is.1)) p) (same_set range commit image block (omega arith, omega arith))
 
 torn_either : (commit blocks : ℕ) (bytes block : List ℕ) (d image : Image) → IsSettled commit blocks bytes image
-    → (¬ IsCommitted d commit → ¬ IsCommitted (slice_set image commit block) commit) ⊎ IsWhole commit blocks bytes (slice_set image commit block)
+    → (¬ IsCommitted d commit → ¬ IsCommitted (slice_set image commit block) commit) ⊎ IsWholeBody commit blocks bytes (slice_set image commit block)
 torn_either commit blocks bytes block d image s =
     elim (cases_eq (slice_index (slice_index_or (slice_set image commit block) commit []) 0) 1) [
       | inl on ↦ inr (after_commit commit blocks bytes block image s on)
@@ -84,7 +84,7 @@ torn_either commit blocks bytes block d image s =
 
 -- a torn opening leaves either
 pub torn_open : (commit blocks : ℕ) (bytes block : List ℕ) (before : Image → Type 0) (image opened : Image)
-    → IsBeforeBut (IsWithin (commit + 1) (commit + blocks + 2)) before image → IsSettled commit blocks bytes image → opened ≡ slice_set image commit block
+    → IsBeforeBut (IsInRange (commit + 1) (commit + blocks + 2)) before image → IsSettled commit blocks bytes image → opened ≡ slice_set image commit block
     → IsNoneOrWhole commit blocks bytes before opened
 torn_open commit blocks bytes block before image opened h s is =
     let P : Image → Type 0 = IsNoneOrWhole commit blocks bytes before in
@@ -92,7 +92,7 @@ torn_open commit blocks bytes block before image opened h s is =
 
 -- an opening leaves it whole
 pub whole_open : (commit blocks : ℕ) (bytes block : List ℕ) (before : Image → Type 0) (image opened : Image)
-    → IsBeforeBut (IsWithin (commit + 1) (commit + blocks + 2)) before image → IsSettled commit blocks bytes image → slice_index block 0 ≡ 1 → opened ≡ slice_set image commit block
+    → IsBeforeBut (IsInRange (commit + 1) (commit + blocks + 2)) before image → IsSettled commit blocks bytes image → slice_index block 0 ≡ 1 → opened ≡ slice_set image commit block
     → WasWritten commit blocks bytes before opened
 whole_open commit blocks bytes block before image opened h s one is =
     let P : Image → Type 0 = WasWritten commit blocks bytes before in
@@ -119,21 +119,21 @@ committed_from commit block old new e image done was is =
 
 -- the body and the next commit block
 pub body_time : {a b c : ℕ} {first mid last : ℕ → Image → Type 0} (commit blocks : ℕ)
-    → Elapses a b first mid (IsBeforeBut (IsWithin (commit + 1) (commit + 1 + blocks)) (first a))
+    → Elapses a b first mid (IsBeforeBut (IsInRange (commit + 1) (commit + 1 + blocks)) (first a))
     → ((t u : ℕ) (image : Image) → t ≤ u → mid u image → mid t image)
     → Elapses b c mid last (TornAt (commit + 1 + blocks) (mid b))
-    → Elapses a c first last (IsBeforeBut (IsWithin (commit + 1) (commit + blocks + 2)) (first a))
+    → Elapses a c first last (IsBeforeBut (IsInRange (commit + 1) (commit + blocks + 2)) (first a))
 body_time {a} {b} {c} {first} {mid} {last} commit blocks body earlier next =
     let low = commit + 1 in
     let high = commit + blocks + 2 in
-    write_more (IsWithin low high) (commit + 1 + blocks) (omega arith, omega arith)
-    (within (IsBeforeBut (IsWithin low (commit + 1 + blocks)) (first a)) (IsBeforeBut (IsWithin low high) (first a)) body
-    (λ image h. before_wider (IsWithin low (commit + 1 + blocks)) (IsWithin low high) (first a) image (λ i is. (is.0, omega (arith, is.1))) h))
+    write_more (IsInRange low high) (commit + 1 + blocks) (omega arith, omega arith)
+    (within (IsBeforeBut (IsInRange low (commit + 1 + blocks)) (first a)) (IsBeforeBut (IsInRange low high) (first a)) body
+    (λ image h. before_wider (IsInRange low (commit + 1 + blocks)) (IsInRange low high) (first a) image (λ i is. (is.0, omega (arith, is.1))) h))
     earlier next
 
 -- then the commit block
 pub commit_time : {a b c : ℕ} {first mid last : ℕ → Image → Type 0} (commit blocks : ℕ) (bytes : List ℕ) (known : Option Image)
-    → Elapses a b first mid (IsBeforeBut (IsWithin (commit + 1) (commit + blocks + 2)) (first a))
+    → Elapses a b first mid (IsBeforeBut (IsInRange (commit + 1) (commit + blocks + 2)) (first a))
     → ((t u : ℕ) (image : Image) → t ≤ u → mid u image → mid t image)
     → ((image : Image) → mid b image → known ≡ Some image)
     → ((image : Image) → known ≡ Some image → IsSettled commit blocks bytes image)
@@ -143,14 +143,14 @@ commit_time {a} {b} {c} {first} {mid} {last} commit blocks bytes known body earl
     let low = commit + 1 in
     let high = commit + blocks + 2 in
     goes_on (IsNoneOrWhole commit blocks bytes (first a)) (TornAt commit (mid b))
-    (within (IsBeforeBut (IsWithin low high) (first a)) (IsNoneOrWhole commit blocks bytes (first a)) body (none_yet commit blocks bytes (first a)))
+    (within (IsBeforeBut (IsInRange low high) (first a)) (IsNoneOrWhole commit blocks bytes (first a)) body (none_yet commit blocks bytes (first a)))
     time
-    (λ image torn. torn_open commit blocks bytes torn.2 (first a) torn.0 image (before_now (IsWithin low high) body earlier torn.0 torn.1)
+    (λ image torn. torn_open commit blocks bytes torn.2 (first a) torn.0 image (before_now (IsInRange low high) body earlier torn.0 torn.1)
     (facts torn.0 (only torn.0 torn.1)) torn.4)
 
 -- and once that is settled, the body is there
 pub commit_whole : {a b c : ℕ} {first mid last : ℕ → Image → Type 0} (commit blocks : ℕ) (bytes block : List ℕ) (known known' : Option Image)
-    → Elapses a b first mid (IsBeforeBut (IsWithin (commit + 1) (commit + blocks + 2)) (first a))
+    → Elapses a b first mid (IsBeforeBut (IsInRange (commit + 1) (commit + blocks + 2)) (first a))
     → ((t u : ℕ) (image : Image) → t ≤ u → mid u image → mid t image)
     → ((t u : ℕ) (image : Image) → t ≤ u → last u image → last t image)
     → ((image : Image) → mid b image → known ≡ Some image)
@@ -160,5 +160,5 @@ pub commit_whole : {a b c : ℕ} {first mid last : ℕ → Image → Type 0} (co
     → (image : Image) → last c image → WasWritten commit blocks bytes (first a) image
 commit_whole {a} {b} {c} {first} {mid} {last} commit blocks bytes block known known' body earlier earlier' only facts time done only' one image left =
     let from = settled_from commit known time earlier' only image left in
-    whole_open commit blocks bytes block (first a) from.0 image (before_now (IsWithin (commit + 1) (commit + blocks + 2)) body earlier from.0 from.1) (facts from.0 from.2) one
+    whole_open commit blocks bytes block (first a) from.0 image (before_now (IsInRange (commit + 1) (commit + blocks + 2)) body earlier from.0 from.1) (facts from.0 from.2) one
     (committed_from commit block known known' from.0 image done from.2 (only' image left))

@@ -4,7 +4,7 @@ ghost use Rattle.std.specs.Prelude.{◌≡◌, ◌≤◌, ◌<◌, ◌+◌, ◌*
 ghost use Rattle.bd_limits.specs.Limits.{block_size};
 ghost use Rattle.bd_device.specs.Blocks.{Image};
 ghost use Rattle.bd_device.specs.Calls.{faults_after};
-ghost use Rattle.bd_device.specs.Changes.{StaysBut, IsWithin};
+ghost use Rattle.bd_device.specs.Changes.{StaysBut, IsInRange};
 ghost use Rattle.bd_device.specs.Device.{left_now, Goes, Stays, FailsLast};
 ghost use Rattle.bd_log.specs.Commits.{IsNoneOrWhole, WasWritten};
 
@@ -27,7 +27,7 @@ pub fn write_committed<D: Device>(
         (IsNoneOrWhole commit blocks body.now (left_now D.Device dev.old)) }
     ensures whole { OnOk result ((c : Image) → left_now D.Device dev.new c
         → WasWritten commit blocks body.now (left_now D.Device dev.old) c) }
-    ensures others { StaysBut (IsWithin commit (commit + blocks + 2))
+    ensures others { StaysBut (IsInRange commit (commit + blocks + 2))
         (D.contents dev.old) (D.contents dev.new) }
     ensures stays { Stays D.Device dev.old dev.new }
     ensures cause { FailsLast D.Device dev.old dev.new result }

@@ -8,7 +8,7 @@ use Rattle.bd_device.specs.Blocks.{Image, HasBlocks, with_block}
 use Rattle.bd_device.specs.Changes.{SameBut, StaysBut}
 use Rattle.bd_device.specs.Moments.{TornAt}
 use Rattle.bd_device.proofs.Changes.{stays_both, stays_written}
-use Rattle.bd_super.specs.Superblocks.{IsSuper, body_bytes, commit_block, body_block, log_block, other}
+use Rattle.bd_super.specs.Superblocks.{IsSuper, super_body, commit_block, body_block, log_block, other}
 use Rattle.bd_device.specs.Commits.{block_at, IsCommitted}
 use Rattle.bd_super.specs.Live.{HoldsOlder, NoneIsCommitted}
 use Rattle.bd_super.specs.Published.{IsOfHalf, IsStaged, IsPublished, IsStagedOrPublished, CanFollow}
@@ -34,7 +34,7 @@ none_committed image none B = none.1
 pub record IsReady (s : Super) (known : Option Image) (d : Image) : Type 0 where
   pub outside : StaysBut (IsOfHalf s.half) known (Some d)
   pub size : length d ≡ image_blocks s.slots
-  pub body : block_at d (body_block s.half) ≡ body_bytes s
+  pub body : block_at d (body_block s.half) ≡ super_body s
   pub closed : ¬ IsCommitted d (commit_block s.half)
   pub log : ¬ IsCommitted d (log_block s.half)
 
@@ -45,19 +45,19 @@ closed_other d b a bytes ne closed is = closed (sym (ap (λ l. slice_index l 0) 
 -- it is so once the half is taken back, its log closed and the body settled
 pub ready : (known taken logged settled : Option Image) (s : Super) (count : ℕ) (bytes : List ℕ) → StaysBut (IsOfHalf s.half) known taken
     → IfSome taken (λ image. ¬ IsCommitted image (commit_block s.half)) → logged ≡ with_block (log_block s.half) bytes taken → slice_index bytes 0 ≢ 1
-    → settled ≡ with_block (body_block s.half) (body_bytes s) logged → IfSome settled (HasBlocks count) → count ≡ image_blocks s.slots
+    → settled ≡ with_block (body_block s.half) (super_body s) logged → IfSome settled (HasBlocks count) → count ≡ image_blocks s.slots
     → IfSome settled (IsReady s known)
 ready known None logged settled s count bytes outside closed log shut body shape size =
-    let none : settled ≡ None = body ∙ ap (with_block (body_block s.half) (body_bytes s)) log in
+    let none : settled ≡ None = body ∙ ap (with_block (body_block s.half) (super_body s)) log in
     subst (λ (o : Option Image). IfSome o (IsReady s known)) (sym none) tt
 ready known (Some m) logged settled s count bytes outside closed log shut body shape size =
     let half = s.half in
     let d1 = slice_set m (log_block half) bytes in
-    let d = slice_set d1 (body_block half) (body_bytes s) in
-    let some : settled ≡ Some d = body ∙ ap (with_block (body_block half) (body_bytes s)) log in
+    let d = slice_set d1 (body_block half) (super_body s) in
+    let some : settled ≡ Some d = body ∙ ap (with_block (body_block half) (super_body s)) log in
     let blocks : HasBlocks count d = subst (λ (o : Option Image). IfSome o (HasBlocks count)) some shape in
     let whole : length d ≡ image_blocks s.slots = blocks.count_is ∙ size in
-    let l1 : length d ≡ length d1 = length-set d1 (body_block half) (body_bytes s) in
+    let l1 : length d ≡ length d1 = length-set d1 (body_block half) (super_body s) in
     let l0 : length d1 ≡ length m = length-set m (log_block half) bytes in
     let shut1 : ¬ IsCommitted d1 (log_block half) = λ is.
     shut (sym (ap (λ l. slice_index l 0) (block_same m (log_block half) bytes (omega (arith, whole, l1, l0, log_first half)))) ∙ is) in
@@ -65,12 +65,12 @@ ready known (Some m) logged settled s count bytes outside closed log shut body s
     (record {
       outside = stays_both (IsOfHalf half) known (Some m) (Some d) outside
           (stays_both (IsOfHalf half) (Some m) (Some d1) (Some d) (stays_written (IsOfHalf half) (log_block half) bytes (Some m) (Some d1) (inr (inr refl)) refl)
-          (stays_written (IsOfHalf half) (body_block half) (body_bytes s) (Some d1) (Some d) (inr (inl refl)) refl));
+          (stays_written (IsOfHalf half) (body_block half) (super_body s) (Some d1) (Some d) (inr (inl refl)) refl));
       size = whole;
-      body = block_same d1 (body_block half) (body_bytes s) (omega (arith, whole, l1, body_first half));
-      closed = closed_other d1 (body_block half) (commit_block half) (body_bytes s) (commit_not_body half half)
+      body = block_same d1 (body_block half) (super_body s) (omega (arith, whole, l1, body_first half));
+      closed = closed_other d1 (body_block half) (commit_block half) (super_body s) (commit_not_body half half)
           (closed_other m (log_block half) (commit_block half) bytes (commit_not_log half half) closed);
-      log = closed_other d1 (body_block half) (log_block half) (body_bytes s) (λ e. body_not_log half half (sym e)) shut1;
+      log = closed_other d1 (body_block half) (log_block half) (super_body s) (λ e. body_not_log half half (sym e)) shut1;
     })
 
 -- committed, it is published

@@ -5,7 +5,7 @@ ghost use Rattle.bd_limits.specs.Limits.{slot_minimum};
 ghost use Rattle.bd_slots.specs.Layout.{image_blocks};
 ghost use Rattle.bd_device.specs.Blocks.{Image, HasBlocks};
 ghost use Rattle.bd_device.specs.Device.{OnlyReads, HasImageCause, IsDamageOf};
-ghost use Rattle.bd_super.specs.Live.{IsLive, IsBad, IsHalf, IsDamaged};
+ghost use Rattle.bd_super.specs.Live.{IsLive, IsBad, HasInHalf, IsDamaged};
 ghost use Rattle.bd_super.specs.Superblocks.{IsSuper, body_block};
 
 use crate::{Half, Super};
@@ -16,9 +16,9 @@ use std::alloc::Global;
 
 /// Reads the superblock that an image starts from: of the halves that are committed the one of the
 /// higher epoch. `DeviceFault` comes only where a call of the device failed, which is the last one
-/// then. `Damaged` names block 0 where no half is committed or there are fewer than 516
-/// blocks, a committed half's body, 1 or 3, where it is of no superblock of an image of this size,
-/// the first one first, and 3 where the epochs are equal.
+/// then. `Damaged` names block 0 where no half is committed or there are fewer than 516 blocks, a
+/// committed half's body, 1 or 3, where it is of no superblock of an image of this size, the first
+/// one first, and 3 where the epochs are equal.
 #[tactic(auto, using(bd_device::proofs::Calls::calls))]
 pub fn read_live<D: Device>(alloc: Global, dev: &mut D) -> Result<Super, ImageFault>
     ensures live { IfSome (D.contents dev.old) (λ image. IfOk result (IsLive image)) }
@@ -41,9 +41,9 @@ pub fn read_live<D: Device>(alloc: Global, dev: &mut D) -> Result<Super, ImageFa
 
 // Of what the halves hold the one of the higher epoch.
 fn newest(first: Option<Super>, second: Option<Super>) -> Result<Super, ImageFault>
-    ensures live { (image : Image) → IsHalf image Half.A first → IsHalf image Half.B second
+    ensures live { (image : Image) → HasInHalf image Half.A first → HasInHalf image Half.B second
         → IfOk result (IsLive image) }
-    ensures damaged { (image : Image) → IsHalf image Half.A first → IsHalf image Half.B second
+    ensures damaged { (image : Image) → HasInHalf image Half.A first → HasInHalf image Half.B second
         → image_blocks slot_minimum ≤ length image
         → IfErr result (IsDamageOf (IsDamaged image)) }
     ensures one { IfOk result (λ s. (first ≡ Some s) ⊎ (second ≡ Some s)) }
@@ -78,7 +78,7 @@ fn read_half<D: Device>(
     requires blocks { blocks ≡ D.block_count dev.old }
     requires room { 4 ≤ blocks }
     requires shape { IfSome (D.contents dev.old) (HasBlocks blocks) }
-    ensures half { IfSome (D.contents dev.old) (λ image. IfOk result (IsHalf image half)) }
+    ensures half { IfSome (D.contents dev.old) (λ image. IfOk result (HasInHalf image half)) }
     ensures cause { HasImageCause D.Device dev.old dev.new
         (λ b. (b ≡ body_block half)
         × IfSome (D.contents dev.old) (λ image. IsBad image half)) result }

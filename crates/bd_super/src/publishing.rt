@@ -39,8 +39,8 @@ fn take_back<D: Device>(dev: &mut D, half: Half) -> Result<(), Failed>
 /// Publishes a superblock: all of a checkpoint after its nodes and its table. It takes its half's
 /// last superblock back, closes the half's log, writes the body and commits it, with a barrier
 /// after each but the first. Whenever the power is lost, the image has the old live superblock,
-/// with all that its slots hold, or the new one. It takes no memory. `Failed`
-/// comes only where a call of the device failed, which is the last one then.
+/// with all that its slots hold, or the new one. It takes no memory. `Failed` comes only where a
+/// call of the device failed, which is the last one then.
 #[tactic(auto, using(bd_device::proofs::Calls::calls))]
 pub fn publish<D: Device>(dev: &mut D, s: &Super) -> Result<(), Failed>
     requires fits { IsSuper s.now }

@@ -10,7 +10,7 @@ use Rattle.bd_slots.specs.Layout.{AreSlots, image_blocks}
 use Rattle.bd_device.specs.Blocks.{Image, HasBlocks, with_block}
 use Rattle.bd_device.specs.Moments.{TornAt}
 use Rattle.bd_wire.specs.Text.{zeros}
-use Rattle.bd_table.specs.Tables.{IsTable, entry_bytes, head_bytes, magic, table_bytes}
+use Rattle.bd_table.specs.Tables.{IsTable, table_entry, table_head, table_magic, table_bytes}
 use Rattle.bd_table.specs.Words.{part}
 use Rattle.bd_table.specs.declared.table.Table.{Table}
 use Rattle.bd_table.specs.Image.{HoldsTable, block_total, first_bytes, bytes_in, table_block}
@@ -70,8 +70,8 @@ all_written (Some image) at bytes whole parts = all_parts image at bytes (block_
 length-whole : (slots : ℕ) (at : List ℕ) (t : Table) → IsTable slots at t → length (table_bytes (length at) t) ≡ 65536 * length at
 length-whole slots at t is =
     let taken = length at in
-    let head = head_bytes (length t.entries) t.next_id t.root in
-    let all = flat_map entry_bytes t.entries in
+    let head = table_head (length t.entries) t.next_id t.root in
+    let all = flat_map table_entry t.entries in
     let fits : 32 + 24 * length t.entries ≤ 65536 * taken = omega (arith, is.place) in
     omega (
       arith,
@@ -79,7 +79,7 @@ length-whole slots at t is =
       length-append (head ++ all) (zeros (zero_count taken t)),
       length-append head all,
       length-entries t.entries,
-      length-fields magic (length t.entries) t.next_id t.root,
+      length-fields table_magic (length t.entries) t.next_id t.root,
       length-replicate {A = ℕ} (zero_count taken t) 0,
     )
 

@@ -17,7 +17,8 @@ use std::alloc::Global;
 pub(crate) const BLOCKS: usize = SLOT_BLOCKS as usize;
 
 /// Reads the table that takes the slots `at` of an image of `slots` slots. `DeviceFault` comes only
-/// where a call of the device failed, which is the last one then. `Damaged` comes exactly where the slots have no table, and names the first block of the first of them.
+/// where a call of the device failed, which is the last one then. `Damaged` comes exactly where the
+/// slots have no table, and names the first block of the first of them.
 #[tactic(auto, using(bd_device::proofs::Calls::calls))]
 pub fn read<D: Device>(
     alloc: Global,

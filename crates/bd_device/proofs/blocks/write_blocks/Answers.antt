@@ -1,5 +1,5 @@
 use Rattle.std.proofs.Common.{◌+◌, arith, ◌∙◌}
-use Rattle.bd_device.specs.Changes.{IsWithin}
+use Rattle.bd_device.specs.Changes.{IsInRange}
 use Rattle.bd_device.proofs.Changes.{write_more, written_more, stays_both, stays_written, stays_changed}
 use Rattle.bd_device.proofs.Calls.{stays_then}
 use Rattle.bd_device.proofs.blocks.write_blocks.Goals as goal
@@ -9,12 +9,12 @@ overflow_add-first g c = omega (arith, c.requires.fits, c.loop-i-test.true)
 
 pub returns-in_err-write-clause-time : goal.returns-in_err-write-clause-time
 returns-in_err-write-clause-time g c =
-    write_more (IsWithin c.args.first (c.args.first + c.args.count)) (c.args.first + c.loop-i.i) (omega arith, omega arith)
+    write_more (IsInRange c.args.first (c.args.first + c.args.count)) (c.args.first + c.loop-i.i) (omega arith, omega arith)
     c.loop-i.invariant.time (g.met.D.Device.since_earlier c.loop-i.dev) c.write.ensures.time
 
 pub returns-in_err-write-clause-others : goal.returns-in_err-write-clause-others
 returns-in_err-write-clause-others g c =
-    let range = IsWithin c.args.first (c.args.first + c.args.count) in
+    let range = IsInRange c.args.first (c.args.first + c.args.count) in
     let known = g.D.Device.contents c.loop-i.dev in
     let new = g.D.Device.contents c.write.new.self in
     stays_both range (g.D.Device.contents c.args.dev.now) known new c.loop-i.invariant.others
@@ -23,7 +23,7 @@ returns-in_err-write-clause-others g c =
 pub loop-i-preserved : goal.loop-i-preserved
 loop-i-preserved g c =
     let first = c.args.first in
-    let range = IsWithin first (first + c.args.count) in
+    let range = IsInRange first (first + c.args.count) in
     let b = c.args.first + c.loop-i.i in
     let known = g.D.Device.contents c.loop-i.dev in
     let new = g.D.Device.contents c.write.new.self in

@@ -10,6 +10,9 @@ returns-in-None-clause-cause g c =
     record {
       later = omega (arith, c.read_block.ensures.cause.later, c.read_body.ensures.cause.later);
       kept = tt;
-      failed = (broken (g.D.Device.contents c.args.dev.now) (g.D.Device.contents c.read_block.new.dev) c.args.first c.args.epoch c.args.place c.in_ok-read_block.field-0
-          c.read_block.ensures.reads.kept c.in_ok-read_block.ensures.bytes (c.is_committed.ensures.0 c.if-not-is_committed.false) none, c.in_ok-records.ensures.cause.kept ∙ c.in_ok-read_block.ensures.cause.kept);
+      failed = (
+        broken (g.D.Device.contents c.args.dev.now) (g.D.Device.contents c.read_block.new.dev) c.args.first c.args.epoch c.args.place c.in_ok-read_block.field-0
+            c.read_block.ensures.reads.kept c.in_ok-read_block.ensures.bytes (c.is_committed.ensures.0 c.if-not-is_committed.false) none,
+        c.in_ok-records.ensures.cause.kept ∙ c.in_ok-read_block.ensures.cause.kept,
+      );
     }

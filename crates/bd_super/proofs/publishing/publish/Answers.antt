@@ -4,7 +4,7 @@ use Rattle.bd_device.specs.Blocks.{with_block}
 use Rattle.bd_device.specs.Moments.{TornAt, Elapses}
 use Rattle.bd_device.proofs.Moments.{goes_on, within, after}
 use Rattle.bd_wire.specs.Text.{zeros}
-use Rattle.bd_super.specs.Superblocks.{body_bytes, commit_block, body_block, log_block}
+use Rattle.bd_super.specs.Superblocks.{super_body, commit_block, body_block, log_block}
 use Rattle.bd_device.proofs.Changes.{stays_both, stays_written, stays_changed}
 use Rattle.bd_super.specs.Published.{IsOfHalf, IsStaged, IsStagedOrPublished}
 use Rattle.bd_super.proofs.Staging.{staged_same, either_way}
@@ -92,7 +92,7 @@ returns-clause-time g c =
     subst (λ b. Elapses (D.call_count d2) (D.call_count d3) (D.left_since d2) (D.left_since d3) (TornAt b left2)) c.body_block.ensures c.settle-2.ensures.time in
     let so_far3 = goes_on S (TornAt (body_block half) left2) so_far2 time3 (torn_body_staged half (D.contents d2) before left2 closed2 c.in_ok-settle.ensures.durable now2) in
     let now3 = after S S so_far3 (g.met.D.Device.since_earlier d3) (staged_same half before) (λ _ staged. staged) in
-    let settled : D.contents d3 ≡ with_block (body_block half) (body_bytes s) (D.contents d2) =
+    let settled : D.contents d3 ≡ with_block (body_block half) (super_body s) (D.contents d2) =
     subst (λ l. D.contents d3 ≡ with_block (body_block half) l (D.contents d2)) c.body.ensures (subst (λ b. D.contents d3 ≡ with_block b c.body.result (D.contents d2)) c.body_block.ensures c.in_ok-settle-2.ensures.written) in
     let is_ready = ready known (D.contents d1) (D.contents d2) (D.contents d3) s (D.block_count d3) (zeros 4096) c.in_ok-take_back.ensures.outside c.in_ok-take_back.ensures.taken logged (λ e. omega (arith, e)) settled c.in_ok-settle-2.ensures.shape
     (c.in_ok-settle-2.ensures.stays.count ∙ c.in_ok-settle.ensures.stays.count ∙ c.in_ok-take_back.ensures.stays.count ∙ c.requires.size) in
@@ -112,7 +112,7 @@ returns-clause-published g c =
     let d2 = c.settle.new.dev in
     let d3 = c.settle-2.new.dev in
     let logged : D.contents d2 ≡ with_block (log_block half) (zeros 4096) (D.contents d1) = subst (λ b. D.contents d2 ≡ with_block b (zeros 4096) (D.contents d1)) c.log_block.ensures c.in_ok-settle.ensures.written in
-    let settled : D.contents d3 ≡ with_block (body_block half) (body_bytes s) (D.contents d2) =
+    let settled : D.contents d3 ≡ with_block (body_block half) (super_body s) (D.contents d2) =
     subst (λ l. D.contents d3 ≡ with_block (body_block half) l (D.contents d2)) c.body.ensures (subst (λ b. D.contents d3 ≡ with_block b c.body.result (D.contents d2)) c.body_block.ensures c.in_ok-settle-2.ensures.written) in
     let is_ready = ready known (D.contents d1) (D.contents d2) (D.contents d3) s (D.block_count d3) (zeros 4096) c.in_ok-take_back.ensures.outside c.in_ok-take_back.ensures.taken logged (λ e. omega (arith, e)) settled c.in_ok-settle-2.ensures.shape
     (c.in_ok-settle-2.ensures.stays.count ∙ c.in_ok-settle.ensures.stays.count ∙ c.in_ok-take_back.ensures.stays.count ∙ c.requires.size) in
