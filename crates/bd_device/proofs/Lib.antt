@@ -1,3 +1,5 @@
+pub mod Calls
+pub mod Changes
 pub mod Crash
 pub mod Images
 pub mod Left

@@ -83,7 +83,7 @@ through-now fail n calls left =
 
 -- so it is of a device, of which one call was passed on
 pub passed-time : {D : Type 0} (count : D → ℕ) (left : D → ℕ → Image → Type 0) (old mid : FaultyDevice D) (m : ℕ) (new : ℕ → Image → Type 0) (I : Image → Type 0)
-    → mid ≡ old → false ≡ refuses_after old.fail.items (with_refused (count old.inner) old.refused) → m ≡ next_count (count mid.inner) → Elapses (count mid.inner) m (left mid.inner) new I
+    → mid ≡ record old { refused_last = false } → false ≡ refuses_after old.fail.items (with_refused (count old.inner) old.refused) → m ≡ next_count (count mid.inner) → Elapses (count mid.inner) m (left mid.inner) new I
     → Elapses (with_refused (count old.inner) old.refused) (with_refused m mid.refused)
     (through old.fail.items (count old.inner) (with_refused (count old.inner) old.refused) (left old.inner))
     (through mid.fail.items m (with_refused m mid.refused) new) I
@@ -96,7 +96,7 @@ passed-time {D} count left old mid m new I same passes counted time =
 
 -- and of one that refused a call
 pub refused-time : {D : Type 0} (count : D → ℕ) (left : D → ℕ → Image → Type 0) (old new : FaultyDevice D) (refused_writes : ℕ) (I : Image → Type 0)
-    → true ≡ refuses_after old.fail.items (with_refused (count old.inner) old.refused) → new ≡ record old { refused = next_count old.refused; refused_writes = refused_writes }
+    → true ≡ refuses_after old.fail.items (with_refused (count old.inner) old.refused) → new ≡ record old { refused = next_count old.refused; refused_writes = refused_writes; refused_last = true }
     → Elapses (with_refused (count old.inner) old.refused) (with_refused (count new.inner) new.refused)
     (through old.fail.items (count old.inner) (with_refused (count old.inner) old.refused) (left old.inner))
     (through new.fail.items (count new.inner) (with_refused (count new.inner) new.refused) (left new.inner)) I

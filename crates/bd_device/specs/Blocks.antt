@@ -1,6 +1,7 @@
 -- What the blocks of a device hold, where that is known.
 use Rattle.std.specs.Prelude.{◌≡◌, ℕ, ◌^◌, ◌<◌, List, Option, All, length, slice_index, slice_set}
 use Rattle.std.specs.Option.{option_map}
+use Rattle.bd_limits.specs.Limits.{block_size}
 
 -- the bytes of each block of an image
 abbrev pub Image : Type 0
@@ -8,7 +9,7 @@ Image = List (List ℕ)
 
 -- a block has 4,096 bytes
 abbrev pub IsBlock : List ℕ → Type 0
-IsBlock bytes = (length bytes ≡ 4096) × ((i : ℕ) → slice_index bytes i < 2 ^ 8)
+IsBlock bytes = (length bytes ≡ block_size) × ((i : ℕ) → slice_index bytes i < 2 ^ 8)
 
 -- an image of this many whole blocks
 pub record HasBlocks (count : ℕ) (image : Image) : Type 0 where

@@ -6,6 +6,10 @@ use Rattle.bd_device.specs.Blocks.{Image}
 abbrev pub block_at : Image → ℕ → List ℕ
 block_at image b = slice_index_or image b []
 
--- a commit block is committed exactly where its first byte is 1
+-- the bytes of a commit block that is committed: exactly those whose first byte is 1
+abbrev pub IsCommit : List ℕ → Type 0
+IsCommit bytes = slice_index bytes 0 ≡ 1
+
+-- the block is committed
 abbrev pub IsCommitted : Image → ℕ → Type 0
-IsCommitted image b = slice_index (block_at image b) 0 ≡ 1
+IsCommitted image b = IsCommit (block_at image b)

@@ -1,5 +1,6 @@
 -- What a loss of power leaves of a device in memory.
 use Rattle.std.specs.Prelude.{◌≡◌, ℕ, ◌⊎◌, ◌==◌, if◌then◌else◌, List, [], ◌∷◌, reverse, replicate, slice_index_or, slice_set}
+use Rattle.bd_limits.specs.Limits.{block_size}
 use Rattle.bd_device.specs.Blocks.{Image}
 use Rattle.bd_device.specs.Memory.{MemoryDevice}
 use Rattle.bd_device.specs.declared.torn.Torn.{Torn}
@@ -15,7 +16,7 @@ IsInFlight barrier (w ∷ ws) b = (barrier ≡ 0) × ((b ≡ w.block) ⊎ IsInFl
 abbrev pub torn_bytes : Torn → WriteRecord → List ℕ → List ℕ
 torn_bytes Old w bytes = w.before
 torn_bytes New w bytes = bytes
-torn_bytes (Fill byte) w bytes = replicate 4096 byte
+torn_bytes (Fill byte) w bytes = replicate block_size byte
 
 -- the blocks with each that these writes, the last first, left in flight torn
 abbrev pub torn_blocks : Torn → ℕ → List WriteRecord → Image → Image

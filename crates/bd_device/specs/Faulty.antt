@@ -27,6 +27,10 @@ faulty_refused f = f.refused
 abbrev pub faulty_writes : {D : Type 0} → FaultyDevice D → ℕ
 faulty_writes f = f.refused_writes
 
+-- it has refused the last call
+abbrev pub has_refused_last : {D : Type 0} → FaultyDevice D → Bool
+has_refused_last f = f.refused_last
+
 -- it has refused the last attach
 abbrev pub faulty_detached : {D : Type 0} → FaultyDevice D → Bool
 faulty_detached f = f.detached

@@ -1,5 +1,5 @@
 -- What a device with a fuse shows.
-use Rattle.std.specs.Prelude.{◌≡◌, ℕ, ◌+◌, ◌-◌, ◌^◌, ◌<◌, ◌≤◌, min, Bool, false, if◌then◌else◌, [], Option}
+use Rattle.std.specs.Prelude.{◌≡◌, ℕ, ◌+◌, ◌-◌, ◌^◌, ◌<◌, ◌≤◌, min, Bool, true, false, if◌then◌else◌, [], Option}
 use Rattle.std.proofs.Common.{ap, sym, ◌∙◌, arith}
 use Rattle.std.specs.Option.{option_map}
 use Rattle.bd_io.specs.Cause.{next_count}
@@ -18,6 +18,11 @@ abbrev pub refused_by : Fuse → ℕ
 refused_by (Whole left) = 0
 refused_by (Blown refused) = refused
 
+-- it has refused a call
+abbrev pub is_blown : Fuse → Bool
+is_blown (Whole left) = false
+is_blown (Blown refused) = true
+
 -- the device that it passes calls on to
 abbrev pub inner_of : {D : Type 0} → FuseDevice D → D
 inner_of f = f.inner
@@ -29,6 +34,10 @@ calls_left f = passes_left f.fuse
 -- how many calls it has refused
 abbrev pub refused_count : {D : Type 0} → FuseDevice D → ℕ
 refused_count f = refused_by f.fuse
+
+-- it has refused a call, and so the last one
+abbrev pub has_blown : {D : Type 0} → FuseDevice D → Bool
+has_blown f = is_blown f.fuse
 
 -- how many writes and barriers it has refused
 abbrev pub refused_writes : {D : Type 0} → FuseDevice D → ℕ

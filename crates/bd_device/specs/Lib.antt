@@ -1,8 +1,10 @@
 pub mod Blocks
 pub mod Calls
+pub mod Changes
+pub mod Commits
 pub mod Crash
+pub mod Device
 pub mod Faulty
 pub mod Fuse
 pub mod Memory
 pub mod Moments
-pub mod Commits

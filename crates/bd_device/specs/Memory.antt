@@ -1,10 +1,10 @@
 -- A device in memory, as its callers see it.
-use Rattle.std.specs.Prelude.{◌≡◌, ℕ, Bool, ◌||◌, nat_lt, nat_le, IsTrue, if◌then◌else◌, List, [], Option, Some, ◌∷◌, ◌++◌, length, take, reverse, slice_set, slice_index_or, ◌+◌, ◌-◌, ◌^◌, ◌<◌, ◌≤◌, ◌⊎◌, ◌&&◌, ◌==◌, Result, is_ok, unwrap_or, slice_index, EachIndex}
+use Rattle.std.specs.Prelude.{◌≡◌, ⊤, ℕ, Bool, ◌||◌, nat_lt, nat_le, IsTrue, if◌then◌else◌, List, [], Option, Some, ◌∷◌, ◌++◌, length, take, reverse, slice_set, slice_index_or, ◌+◌, ◌-◌, ◌^◌, ◌<◌, ◌≤◌, ◌⊎◌, ◌&&◌, ◌==◌, Result, is_ok, unwrap_or, slice_index, EachIndex}
 use Rattle.std.proofs.Common.{ap, sym, inl, inr, ⊎_elim, arith}
 use Rattle.bd_io.specs.Cause.{next_count}
 use Rattle.bd_io.specs.Plan.{PlannedCalls, next_fails, calls_after}
 use Rattle.bd_device.specs.Blocks.{Image, IsBlock}
-use Rattle.bd_device.specs.Calls.{write_faults_after}
+use Rattle.bd_device.specs.Calls.{faults_after}
 use Rattle.bd_device.specs.Moments.{TornAt}
 use Rattle.bd_device.specs.declared.write_record.WriteRecord.{WriteRecord}
 
@@ -74,7 +74,7 @@ abbrev pub after_write : {T E : Type 0} → ℕ → List ℕ → Result T E → 
 after_write b bytes result d = record (recorded d.plan.calls b bytes (is_ok result) d) {
   blocks = if is_ok result then slice_set d.blocks b bytes else d.blocks;
   plan = calls_after d.plan result;
-  write_faults = write_faults_after d.write_faults result;
+  write_faults = faults_after d.write_faults result;
 }
 
 -- after a barrier that ended so
@@ -82,7 +82,7 @@ abbrev pub after_barrier : {T E : Type 0} → Result T E → MemoryDevice → Me
 after_barrier result d = record d {
   barrier = if is_ok result && d.barrier == 0 then next_count d.plan.calls else d.barrier;
   plan = calls_after d.plan result;
-  write_faults = write_faults_after d.write_faults result;
+  write_faults = faults_after d.write_faults result;
 }
 
 -- a record of a write to one of so many blocks, which was a block before
@@ -90,9 +90,9 @@ abbrev pub IsRecordIn : ℕ → WriteRecord → Type 0
 IsRecordIn count w = (w.block < count) × IsBlock w.before
 
 -- the last of these writes, the last first, is among so many calls
-abbrev pub IsPast : ℕ → List WriteRecord → Type 0
-IsPast calls [] = Unit {0}
-IsPast calls (w ∷ ws) = w.call ≤ calls
+abbrev pub IsAmongCalls : ℕ → List WriteRecord → Type 0
+IsAmongCalls calls [] = ⊤
+IsAmongCalls calls (w ∷ ws) = w.call ≤ calls
 
 -- the image before a write
 abbrev pub image_before : WriteRecord → Image → Image

@@ -1,15 +1,14 @@
-ghost use Rattle.std.specs.Prelude.{◌≡◌, ◌<◌, ℕ, List, Option, Some, IfSome, IfNone, is_some, [], ◌∷◌, OnOk, OnErr, slice_get, ◌≤◌, ◌↔◌, Bool, is_ok};
+ghost use Rattle.std.specs.Prelude.{◌≡◌, ◌<◌, ⊤, ℕ, List, Option, Some, IfSome, IfNone, is_some, [], ◌∷◌, OnOk, OnErr, slice_get, ◌≤◌, ◌↔◌, Bool, is_ok, is_err};
 ghost use Rattle.bd_io.specs.Cause.{HasCause, IsCounted};
 ghost use Rattle.bd_device.specs.Blocks.{Image, HasBlocks, with_block, ChangesOnly};
-ghost use Rattle.bd_device.specs.Calls.{write_faults_after};
+ghost use Rattle.bd_device.specs.Calls.{faults_after};
 ghost use Rattle.bd_device.specs.Moments.{Nothing, TornAt, Elapses, IsOnly};
 
 use bd_io::Failed;
+use bd_limits::BLOCK_SIZE;
 
-/// The bytes of a block.
-pub const BLOCK_SIZE: usize = 4096;
-
-/// A device of numbered blocks. Its counts never fall, and each stays at a u64's last value.
+/// A device of numbered blocks. Its counts never fall, and each stays at a u64's last value. A call
+/// that fails counts one fault.
 pub trait Device {
     /// How many blocks it has.
     ghost block_count: { Self → ℕ };
@@ -26,6 +25,9 @@ pub trait Device {
     /// How many reads, writes, barriers and attaches there were, also those that failed.
     ghost call_count: { Self → ℕ };
 
+    /// Whether the last of them failed.
+    ghost last_failed: { Self → Bool };
+
     /// A crash at some moment after the device's first `t` calls, also inside a later call, might
     /// have left this image. So a crash now may leave what is left since the count of calls today.
     /// Of a device whose contents aren't known nothing is said.
@@ -40,7 +42,7 @@ pub trait Device {
 
     /// What else a read, a write, a barrier or an attach of this device does, from before it to
     /// after it, and whether it was Ok. In general nothing is said.
-    ghost also: { Self → Self → Bool → Type 0 } = { λ _ _ _. Unit {0} };
+    ghost also: { Self → Self → Bool → Type 0 } = { λ _ _ _. ⊤ };
 
     /// How many blocks it has. Only an attach changes it.
     fn blocks(&self) -> u64
@@ -62,6 +64,8 @@ pub trait Device {
         ensures kept { contents self.new ≡ contents self.old }
         ensures count { block_count self.new ≡ block_count self.old }
         ensures cause { HasCause (fault_count self.old) (fault_count self.new) result }
+        ensures faults { fault_count self.new ≡ faults_after (fault_count self.old) result }
+        ensures last { last_failed self.new ≡ is_err result }
         ensures write_faults { write_fault_count self.new ≡ write_fault_count self.old }
         ensures calls { IsCounted (call_count self.old) (call_count self.new) result }
         ensures time { Elapses (call_count self.old) (call_count self.new)
@@ -81,8 +85,10 @@ pub trait Device {
         ensures shape { IfSome (contents self.new) (HasBlocks (block_count self.new)) }
         ensures count { block_count self.new ≡ block_count self.old }
         ensures cause { HasCause (fault_count self.old) (fault_count self.new) result }
+        ensures faults { fault_count self.new ≡ faults_after (fault_count self.old) result }
+        ensures last { last_failed self.new ≡ is_err result }
         ensures write_faults { write_fault_count self.new
-            ≡ write_faults_after (write_fault_count self.old) result }
+            ≡ faults_after (write_fault_count self.old) result }
         ensures calls { IsCounted (call_count self.old) (call_count self.new) result }
         ensures time { Elapses (call_count self.old) (call_count self.new)
             (left_since self.old) (left_since self.new)
@@ -97,8 +103,10 @@ pub trait Device {
         ensures kept { contents self.new ≡ contents self.old }
         ensures count { block_count self.new ≡ block_count self.old }
         ensures cause { HasCause (fault_count self.old) (fault_count self.new) result }
+        ensures faults { fault_count self.new ≡ faults_after (fault_count self.old) result }
+        ensures last { last_failed self.new ≡ is_err result }
         ensures write_faults { write_fault_count self.new
-            ≡ write_faults_after (write_fault_count self.old) result }
+            ≡ faults_after (write_fault_count self.old) result }
         ensures calls { IsCounted (call_count self.old) (call_count self.new) result }
         ensures time { Elapses (call_count self.old) (call_count self.new)
             (left_since self.old) (left_since self.new) Nothing }
@@ -157,6 +165,9 @@ pub trait Attach: Device {
             (left_behind self.old other) (left_behind self.new other) Nothing)) }
         ensures shape { IfSome (Self.contents self.new) (HasBlocks (Self.block_count self.new)) }
         ensures cause { HasCause (Self.fault_count self.old) (Self.fault_count self.new) result }
+        ensures faults { Self.fault_count self.new
+            ≡ faults_after (Self.fault_count self.old) result }
+        ensures last { Self.last_failed self.new ≡ is_err result }
         ensures write_faults { Self.write_fault_count self.new ≡ Self.write_fault_count self.old }
         ensures calls { IsCounted (Self.call_count self.old) (Self.call_count self.new) result }
         ensures same_loans { Self.loans self.new ≡ Self.loans self.old }
@@ -182,6 +193,8 @@ impl<D: Device> Device for &mut D {
     ghost write_fault_count = { λ d. D.write_fault_count d.now };
 
     ghost call_count = { λ d. D.call_count d.now };
+
+    ghost last_failed = { λ d. D.last_failed d.now };
 
     ghost left_since = { λ d. D.left_since d.now };
 

@@ -1,4 +1,4 @@
-ghost use Rattle.std.specs.Prelude.{◌≡◌, OnOk, OnErr, is_err};
+ghost use Rattle.std.specs.Prelude.{◌≡◌, true, false, OnOk, OnErr, is_err};
 ghost use Rattle.bd_io.specs.Cause.{next_count};
 ghost use Rattle.bd_device.specs.Fuse.{with_refused};
 ghost use Rattle.bd_device.specs.Faulty.{refuses_after};
@@ -16,6 +16,7 @@ pub struct FaultyDevice<D> {
     fail: Vec<u64>,
     refused: u64,
     refused_writes: u64,
+    refused_last: bool,
     detached: bool,
 }
 
@@ -34,6 +35,7 @@ impl<D> FaultyDevice<D> {
             fail,
             refused: 0,
             refused_writes: 0,
+            refused_last: false,
             detached: false,
         }
     }
@@ -47,6 +49,7 @@ impl<D> FaultyDevice<D> {
             fail: _,
             refused: _,
             refused_writes: _,
+            refused_last: _,
             detached: _,
         } = self;
         inner
@@ -59,12 +62,15 @@ impl<D: Device> FaultyDevice<D> {
         ensures fails { is_err result
             ≡ refuses_after self.old.fail.items
             (with_refused (D.call_count self.old.inner) self.old.refused) }
-        ensures ok { OnOk result (self.new ≡ self.old) }
-        ensures err { OnErr result (self.new
-            ≡ record self.old { refused = next_count self.old.refused }) }
+        ensures ok { OnOk result (self.new ≡ record self.old { refused_last = false }) }
+        ensures err { OnErr result (self.new ≡ record self.old {
+          refused = next_count self.old.refused;
+          refused_last = true;
+        }) }
     {
         let calls = self.inner.calls().saturating_add(self.refused);
-        if calls == u64::MAX || self.fail.contains(&(calls + 1)) {
+        self.refused_last = calls == u64::MAX || self.fail.contains(&(calls + 1));
+        if self.refused_last {
             self.refused = self.refused.saturating_add(1);
             return Err(Failed);
         }
@@ -76,10 +82,11 @@ impl<D: Device> FaultyDevice<D> {
         ensures fails { is_err result
             ≡ refuses_after self.old.fail.items
             (with_refused (D.call_count self.old.inner) self.old.refused) }
-        ensures ok { OnOk result (self.new ≡ self.old) }
+        ensures ok { OnOk result (self.new ≡ record self.old { refused_last = false }) }
         ensures err { OnErr result (self.new ≡ record self.old {
           refused = next_count self.old.refused;
           refused_writes = next_count self.old.refused_writes;
+          refused_last = true;
         }) }
     {
         let result = self.pass();
@@ -91,9 +98,9 @@ impl<D: Device> FaultyDevice<D> {
 }
 
 impl<D: Device> Device for FaultyDevice<D> {
-    ghost use Rattle.std.specs.Prelude.{◌≡◌, false, if◌then◌else◌};
+    ghost use Rattle.std.specs.Prelude.{◌≡◌, ◌||◌, false, if◌then◌else◌};
     ghost use Rattle.bd_device.specs.Fuse.{with_refused, unless_detached};
-    ghost use Rattle.bd_device.specs.Faulty.{faulty_inner, listed_calls, faulty_refused, faulty_writes, faulty_detached, through, through-earlier, refuses_after, Refuses};
+    ghost use Rattle.bd_device.specs.Faulty.{faulty_inner, listed_calls, faulty_refused, faulty_writes, faulty_detached, has_refused_last, through, through-earlier, refuses_after, Refuses};
 
     ghost block_count = { λ f. if faulty_detached f then 0 else D.block_count (faulty_inner f) };
 
@@ -105,6 +112,8 @@ impl<D: Device> Device for FaultyDevice<D> {
         with_refused (D.write_fault_count (faulty_inner f)) (faulty_writes f) };
 
     ghost call_count = { λ f. with_refused (D.call_count (faulty_inner f)) (faulty_refused f) };
+
+    ghost last_failed = { λ f. has_refused_last f || D.last_failed (faulty_inner f) };
 
     ghost left_since = { λ f. through (listed_calls f) (D.call_count (faulty_inner f))
         (with_refused (D.call_count (faulty_inner f)) (faulty_refused f))

@@ -1,9 +1,9 @@
-ghost use Rattle.std.specs.Prelude.{◌≡◌, ◌<◌, ◌-◌, ◌↔◌, false, if◌then◌else◌, ℕ, List, Some, IfSome, IfNone, is_some, is_ok, OnOk, OnErr, IsErr, min, slice_get};
+ghost use Rattle.std.specs.Prelude.{◌≡◌, ◌<◌, ◌-◌, ◌↔◌, false, if◌then◌else◌, ℕ, List, Some, IfSome, IfNone, is_some, is_ok, is_err, OnOk, OnErr, IsErr, min, slice_get};
 ghost use Rattle.bd_io.specs.Cause.{HasCause, IsCounted, next_count};
 ghost use Rattle.bd_device.specs.Blocks.{HasBlocks, with_block, ChangesOnly};
-ghost use Rattle.bd_device.specs.Calls.{write_faults_after};
+ghost use Rattle.bd_device.specs.Calls.{faults_after};
 ghost use Rattle.bd_device.specs.Moments.{Nothing, TornAt, Elapses, IsOnly};
-ghost use Rattle.bd_device.specs.Fuse.{passes_left, refused_by};
+ghost use Rattle.bd_device.specs.Fuse.{passes_left, refused_by, is_blown};
 
 use crate::{Attach, BLOCK_SIZE, Device};
 use bd_io::Failed;
@@ -24,6 +24,7 @@ impl Fuse {
         ensures spent { passes_left self.new ≡ passes_left self.old - 1 }
         ensures whole { OnOk result ((refused_by self.old ≡ 0) × (refused_by self.new ≡ 0)) }
         ensures refused { OnErr result (refused_by self.new ≡ next_count (refused_by self.old)) }
+        ensures last { is_blown self.new ≡ is_err result }
     {
         match *self {
             Fuse::Whole(0) => {
@@ -105,6 +106,7 @@ impl<D> FuseDevice<D> {
               fuse = self.new.fuse;
               refused_writes = next_count self.old.refused_writes;
             })) }
+        ensures last { is_blown self.new.fuse ≡ is_err result }
     {
         let result = self.fuse.spend();
         if result.is_err() {
@@ -115,8 +117,8 @@ impl<D> FuseDevice<D> {
 }
 
 impl<D: Device> Device for FuseDevice<D> {
-    ghost use Rattle.std.specs.Prelude.{◌≡◌, false, if◌then◌else◌};
-    ghost use Rattle.bd_device.specs.Fuse.{inner_of, is_detached, refused_writes, refused_count, with_refused, unless_detached, up_to, up_to-earlier, Spends};
+    ghost use Rattle.std.specs.Prelude.{◌≡◌, ◌||◌, false, if◌then◌else◌};
+    ghost use Rattle.bd_device.specs.Fuse.{inner_of, has_blown, is_detached, refused_writes, refused_count, with_refused, unless_detached, up_to, up_to-earlier, Spends};
 
     ghost block_count = { λ f. if is_detached f then 0 else D.block_count (inner_of f) };
 
@@ -128,6 +130,8 @@ impl<D: Device> Device for FuseDevice<D> {
         with_refused (D.write_fault_count (inner_of f)) (refused_writes f) };
 
     ghost call_count = { λ f. with_refused (D.call_count (inner_of f)) (refused_count f) };
+
+    ghost last_failed = { λ f. has_blown f || D.last_failed (inner_of f) };
 
     ghost left_since = { λ f. up_to (D.call_count (inner_of f)) (D.left_since (inner_of f)) };
 

@@ -4,7 +4,9 @@
 //! and `Attach`: contents and crash images where they are known, and a cause for each fault.
 #![tactic(auto)]
 
+mod blocks;
 mod device;
+mod fault;
 mod faulty_device;
 mod fuse_device;
 mod laws;
@@ -12,7 +14,12 @@ mod mem_device;
 mod torn;
 mod write_record;
 
-pub use device::{Attach, BLOCK_SIZE, Device};
+pub use bd_limits::BLOCK_SIZE;
+pub use blocks::{
+    committed_block, is_committed, put, read_block, read_blocks, settle, write_blocks,
+};
+pub use device::{Attach, Device};
+pub use fault::ImageFault;
 pub use faulty_device::FaultyDevice;
 pub use fuse_device::FuseDevice;
 pub use laws::{law_of_a_barrier, law_of_a_write};

@@ -4,7 +4,7 @@ ghost use Rattle.bd_io.specs.Plan.{planned, next_fails, calls_after};
 ghost use Rattle.bd_device.specs.Blocks.{HasBlocks, IsBlock, ChangesOnly};
 ghost use Rattle.bd_device.specs.Crash.{torn_blocks, after_crash};
 ghost use Rattle.bd_device.specs.Moments.{Nothing, TornAt, Elapses, IsOnly};
-ghost use Rattle.bd_device.specs.Calls.{write_faults_after};
+ghost use Rattle.bd_device.specs.Calls.{faults_after};
 ghost use Rattle.bd_device.specs.Memory.{held_image, held-attached, attached_image, attached_size, write_fails, attach_fails, recorded, after_write, after_barrier, left_of, HasLeft-earlier, IsRecordIn, IsZero};
 
 use crate::{Attach, BLOCK_SIZE, Device, Torn, WriteRecord};
@@ -34,7 +34,7 @@ impl Model for MemDevice {
     ghost use Rattle.std.specs.Prelude.{◌≤◌, length, reverse, All};
     ghost use Rattle.std.specs.Vec.{vec_capacity};
     ghost use Rattle.bd_device.specs.Blocks.{IsBlock};
-    ghost use Rattle.bd_device.specs.Memory.{MemoryDevice, IsPast, IsRecordIn};
+    ghost use Rattle.bd_device.specs.Memory.{MemoryDevice, IsAmongCalls, IsRecordIn};
 
     ghost Value = { MemoryDevice };
 
@@ -52,7 +52,7 @@ impl Model for MemDevice {
     ghost invariant = { λ d. (d.size ≤ length d.blocks.items) × All IsBlock d.blocks.items
         × (length d.writes.items ≤ d.room) × (d.room ≤ vec_capacity d.writes)
         × All (IsRecordIn (length d.blocks.items)) d.writes.items
-        × (d.barrier ≤ d.plan.calls) × IsPast d.plan.calls (reverse d.writes.items) };
+        × (d.barrier ≤ d.plan.calls) × IsAmongCalls d.plan.calls (reverse d.writes.items) };
 }
 
 impl MemDevice {
@@ -115,7 +115,7 @@ impl MemDevice {
         ensures fails { is_err result ≡ (next_fails self.old.plan || refused) }
         ensures after { self.new ≡ record self.old {
           plan = calls_after self.old.plan result;
-          write_faults = write_faults_after self.old.write_faults result;
+          write_faults = faults_after self.old.write_faults result;
         } }
         ensures cause { HasCause self.old.plan.faults self.new.plan.faults result }
         ensures calls { IsCounted self.old.plan.calls self.new.plan.calls result }
@@ -190,6 +190,8 @@ impl Device for MemDevice {
     ghost write_fault_count = { λ d. d.write_faults };
 
     ghost call_count = { λ d. d.plan.calls };
+
+    ghost last_failed = { λ d. d.plan.last_failed };
 
     ghost left_since = { left_of };
 

@@ -1,4 +1,5 @@
 ghost use Rattle.std.specs.Prelude.{◌≡◌, replicate};
+ghost use Rattle.bd_limits.specs.Limits.{block_size};
 ghost use Rattle.bd_device.specs.Blocks.{IsBlock};
 
 use crate::{BLOCK_SIZE, WriteRecord};
@@ -34,7 +35,7 @@ impl Torn {
 
 // A block of this byte.
 fn full_block(byte: u8) -> [u8; BLOCK_SIZE]
-    ensures bytes { result ≡ replicate 4096 byte }
+    ensures bytes { result ≡ replicate block_size byte }
     ensures whole { IsBlock result }
 {
     [byte; BLOCK_SIZE]

@@ -36,6 +36,7 @@ impl<'a, R: Files<File = File>> Model for FileDevice<'a, R> {
       calls = d.counts.calls;
       faults = d.counts.faults;
       write_faults = d.counts.write_faults;
+      last_failed = d.counts.last_failed;
     } };
 }
 
@@ -54,7 +55,7 @@ impl<'a, R: Files<File = File>> FileDevice<'a, R> {
 }
 
 impl<'a, R: Files<File = File>> Device for FileDevice<'a, R> {
-    ghost use Rattle.std.specs.Prelude.{None};
+    ghost use Rattle.std.specs.Prelude.{⊤, None};
 
     ghost block_count = { λ d. d.blocks };
 
@@ -66,7 +67,9 @@ impl<'a, R: Files<File = File>> Device for FileDevice<'a, R> {
 
     ghost call_count = { λ d. d.calls };
 
-    ghost is_named = { λ _ _. Unit {0} };
+    ghost last_failed = { λ d. d.last_failed };
+
+    ghost is_named = { λ _ _. ⊤ };
 
     ghost since_earlier = { λ _ _ _ _ _ left. left };
 

@@ -13,6 +13,7 @@ pub struct CallPlan {
     fail: Vec<u64>,
     calls: u64,
     faults: u64,
+    last_failed: bool,
 }
 
 impl Model for CallPlan {
@@ -20,7 +21,12 @@ impl Model for CallPlan {
 
     ghost Value = { PlannedCalls };
 
-    ghost view = { λ p. record { fail = p.fail.items; calls = p.calls; faults = p.faults } };
+    ghost view = { λ p. record {
+      fail = p.fail.items;
+      calls = p.calls;
+      faults = p.faults;
+      last_failed = p.last_failed;
+    } };
 }
 
 impl CallPlan {
@@ -32,6 +38,7 @@ impl CallPlan {
             fail: Vec::from_slice(alloc, fail)?,
             calls: 0,
             faults: 0,
+            last_failed: false,
         })
     }
 
@@ -44,6 +51,7 @@ impl CallPlan {
     {
         let fails = self.calls == u64::MAX || self.fail.contains(&(self.calls + 1)) || refused;
         self.calls = self.calls.saturating_add(1);
+        self.last_failed = fails;
         if fails {
             self.faults = self.faults.saturating_add(1);
             return Err(Failed);

@@ -105,3 +105,27 @@ slot_limit = 65536
 -- a slot
 abbrev pub slot_size : ℕ
 slot_size = 65536
+
+-- a block of a device
+abbrev pub block_size : ℕ
+block_size = 4096
+
+-- the blocks of an image before its first slot
+abbrev pub first_slot_block : ℕ
+first_slot_block = 132
+
+-- the blocks of a slot
+abbrev pub slot_blocks : ℕ
+slot_blocks = 16
+
+-- the most slots of a table
+abbrev pub table_slot_limit : ℕ
+table_slot_limit = 25
+
+-- the blocks of a half of the log
+abbrev pub log_blocks : ℕ
+log_blocks = 64
+
+-- the most blocks of the body of a batch in the log
+abbrev pub body_block_limit : ℕ
+body_block_limit = 62

@@ -4,7 +4,7 @@
 #![tactic(auto)]
 
 ghost use Rattle.std.specs.Prelude.{◌≡◌};
-ghost use Rattle.bd_limits.specs.Limits.{path_limit, name_limit, key_limit, block_limit, file_limit, write_limit, read_limit, listing_limit, line_limit, script_limit, piece_limit, buffer_limit, leaf_limit, level_limit, edge_limit, soft_limit, batch_limit, abundant_limit, late_limit, flush_limit, base_size, room_edges, full_edges, graft_size, slot_minimum, slot_limit, slot_size};
+ghost use Rattle.bd_limits.specs.Limits.{path_limit, name_limit, key_limit, block_limit, file_limit, write_limit, read_limit, listing_limit, line_limit, script_limit, piece_limit, buffer_limit, leaf_limit, level_limit, edge_limit, soft_limit, batch_limit, abundant_limit, late_limit, flush_limit, base_size, room_edges, full_edges, graft_size, slot_minimum, slot_limit, slot_size, block_size, first_slot_block, slot_blocks, table_slot_limit, log_blocks, body_block_limit};
 
 /// The most bytes of a path in a command.
 pub const MAX_PATH: usize = 512;
@@ -87,6 +87,25 @@ pub const MAX_SLOTS: u32 = 65_536;
 /// The bytes of a slot, which holds one node or a part of the table.
 pub const SLOT_SIZE: usize = 65_536;
 
+/// The bytes of a block of a device.
+pub const BLOCK_SIZE: usize = 4096;
+
+/// The blocks of an image before its first slot: superblocks and logs.
+pub const FIRST_SLOT_BLOCK: u64 = 132;
+
+/// The blocks of a slot.
+pub const SLOT_BLOCKS: u64 = 16;
+
+/// The most slots of a table: those of one with an entry for each slot.
+pub const MAX_TABLE_SLOTS: usize = 25;
+
+/// The blocks of a half of the log.
+pub const LOG_BLOCKS: u64 = 64;
+
+/// The most blocks of the body of a batch in the log: those of a half without the commit blocks
+/// around it.
+pub const MAX_BODY_BLOCKS: u64 = 62;
+
 /// Each constant is the limit that definitions and contracts name.
 pub fn law_of_limits()
     ensures path { MAX_PATH ≡ path_limit }
@@ -116,4 +135,10 @@ pub fn law_of_limits()
     ensures fewest_slots { MIN_SLOTS ≡ slot_minimum }
     ensures slot { MAX_SLOTS ≡ slot_limit }
     ensures slot_size { SLOT_SIZE ≡ slot_size }
+    ensures block_size { BLOCK_SIZE ≡ block_size }
+    ensures first_slot_block { FIRST_SLOT_BLOCK ≡ first_slot_block }
+    ensures slot_blocks { SLOT_BLOCKS ≡ slot_blocks }
+    ensures table_slots { MAX_TABLE_SLOTS ≡ table_slot_limit }
+    ensures log_blocks { LOG_BLOCKS ≡ log_blocks }
+    ensures body_blocks { MAX_BODY_BLOCKS ≡ body_block_limit }
 {}

@@ -1,5 +1,4 @@
 pub mod Batches
 pub mod Commits
-pub mod Faults
 pub mod Logs
 pub mod Reading

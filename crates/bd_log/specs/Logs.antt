@@ -1,9 +1,10 @@
 -- The log as its callers see it.
 use Rattle.std.specs.Prelude.{◌≡◌, ℕ, ◌+◌, ◌-◌, ◌*◌, ◌≤◌, ◌⊎◌, List, [], ◌∷◌, ◌++◌, length, take, drop}
 use Rattle.std.specs.List.{concat, AllByRecursion}
+use Rattle.bd_limits.specs.Limits.{block_size, log_blocks, body_block_limit}
 use Rattle.bd_device.specs.Blocks.{Image}
-use Rattle.bd_log.specs.Batches.{IsRecord, records_in, body_blocks, AreBatches}
-use Rattle.bd_log.specs.Commits.{SameOutside}
+use Rattle.bd_device.specs.Changes.{SameBut, IsInRange}
+use Rattle.bd_log.specs.Batches.{IsLogRecord, records_in, body_blocks, AreBatches}
 use Rattle.bd_log.specs.declared.batch.Batch.{Batch}
 
 -- the first block of its half, the epoch of its batches, the place of the next batch's commit
@@ -16,12 +17,12 @@ pub record LogState : Type 0 where
   pub batches : List Batch
 
 -- a half begins at block 4 or at block 68
-abbrev pub IsHalf : ℕ → Type 0
-IsHalf first = (first ≡ 4) ⊎ (first ≡ 68)
+abbrev pub IsLogHalf : ℕ → Type 0
+IsLogHalf first = (first ≡ 4) ⊎ (first ≡ 68)
 
 -- the bytes of records that a batch has room for whose commit block has this place
 abbrev pub room_at : ℕ → ℕ
-room_at place = (62 - place) * 4096 - 24
+room_at place = (body_block_limit - place) * block_size - 24
 
 -- and how many more there is room for
 abbrev pub room_left : LogState → ℕ
@@ -67,17 +68,19 @@ HasAllOrNone log old new = (batches : List Batch)
 -- batches of before and all or none of what waits
 abbrev pub IsSyncing : LogState → (Image → Type 0) → Image → Type 0
 IsSyncing log before c =
-    (d : Image) × before d × SameOutside log.first (log.first + 64) d c × HasAllOrNone log d c
+    (d : Image) × before d × SameBut (IsInRange log.first (log.first + log_blocks)) d c
+    × HasAllOrNone log d c
 
 -- an image that a crash after a sync leaves: the same, with all that waited
 abbrev pub IsSynced : LogState → (Image → Type 0) → Image → Type 0
 IsSynced log before c =
-    (d : Image) × before d × SameOutside log.first (log.first + 64) d c × HasAll log d c
+    (d : Image) × before d × SameBut (IsInRange log.first (log.first + log_blocks)) d c
+    × HasAll log d c
 
 -- the body of the next batch has room for the waiting records, which are so many and of so many
 -- bytes after its header
 pub record IsBuffer (place size count : ℕ) (body : List ℕ) : Type 0 where
-  pub total : length body ≡ 253952
+  pub total : length body ≡ body_block_limit * block_size
   pub room : size ≤ room_at place
   pub whole : concat (records_in count (take size (drop 24 body))) ≡ take size (drop 24 body)
-  pub each : AllByRecursion IsRecord (records_in count (take size (drop 24 body)))
+  pub each : AllByRecursion IsLogRecord (records_in count (take size (drop 24 body)))

@@ -1,11 +1,12 @@
 //! Reading the body of a batch.
 
 ghost use Rattle.std.specs.Prelude.{◌≡◌, ◌≤◌, ◌<◌, ◌+◌, ◌*◌, ◌^◌, ◌↔◌, ◌++◌, ℕ, List, length, IfOk, IfSome, IfNone, IsTrue};
+ghost use Rattle.bd_limits.specs.Limits.{block_size, body_block_limit};
 ghost use Rattle.bd_wire.specs.Encoding.{BeginsNone};
 ghost use Rattle.bd_wire.specs.Reading.{Reads};
 ghost use Rattle.bd_wire.specs.Text.{text16, FitsText16};
-ghost use Rattle.bd_log.specs.Batches.{IsRecord, blocks_for, body_blocks, header_bytes, magic};
-ghost use Rattle.bd_log.specs.Reading.{head_bytes, FitsHeader, AreRecordsOf, IsBodyOf};
+ghost use Rattle.bd_log.specs.Batches.{IsLogRecord, blocks_for, body_blocks, header_bytes, batch_magic};
+ghost use Rattle.bd_log.specs.Reading.{header_fields, FitsHeader, AreRecordsOf, IsBodyOf};
 
 use crate::batch::Records;
 use crate::body::{HEADER, MAGIC, MAX_BODY, blocks_for};
@@ -26,8 +27,8 @@ struct Header {
 impl Header {
     // Whether it is the header of a body of this epoch and of so many blocks.
     fn is_of(&self, epoch: u64, blocks: u64) -> bool
-        requires { blocks ≤ 62 }
-        ensures { IsTrue result ↔ ((self.now.magic ≡ magic) × (self.now.blocks ≡ blocks)
+        requires { blocks ≤ body_block_limit }
+        ensures { IsTrue result ↔ ((self.now.magic ≡ batch_magic) × (self.now.blocks ≡ blocks)
             × (self.now.epoch ≡ epoch) × (1 ≤ self.now.count)
             × (blocks_for self.now.size ≡ blocks)) }
     {
@@ -45,7 +46,7 @@ impl Header {
 #[tactic(auto, using(bd_wire::proofs::WritingLemmas::writing))]
 fn header_of(bytes: &[u8]) -> Option<Header>
     ensures some { IfSome result (λ header.
-        (rest : List ℕ) × (bytes.now ≡ head_bytes header ++ rest)) }
+        (rest : List ℕ) × (bytes.now ≡ header_fields header ++ rest)) }
     ensures fits { IfSome result FitsHeader }
     ensures none { IfNone result (length bytes.now < 24) }
 {
@@ -93,8 +94,8 @@ pub fn decode(
     epoch: u64,
     blocks: u64,
 ) -> Result<Option<Records>, AllocError>
-    requires blocks { blocks ≤ 62 }
-    requires length { length bytes.now ≡ blocks * 4096 }
+    requires blocks { blocks ≤ body_block_limit }
+    requires length { length bytes.now ≡ blocks * block_size }
     ensures body { IfOk result (λ found. IsBodyOf bytes.now epoch found) }
     ensures blocks { IfOk result (λ found. IfSome found (λ rs. body_blocks rs ≡ blocks)) }
 {
@@ -133,7 +134,7 @@ fn records_of(alloc: Global, bytes: &[u8], count: u32) -> Result<Option<Records>
 // Reads a record, with its length.
 #[tactic(auto, using(bd_wire::proofs::WritingLemmas::writing))]
 fn next_record<'a>(cursor: &mut Cursor<'a>) -> Option<&'a [u8]>
-    ensures record { IfSome result (λ bytes. IsRecord bytes.now) }
+    ensures record { IfSome result (λ bytes. IsLogRecord bytes.now) }
     ensures read { IfSome result (λ bytes. Reads cursor.old cursor.new bytes.now) }
     ensures none { IfNone result (BeginsNone FitsText16 text16 cursor.old.left) }
 {

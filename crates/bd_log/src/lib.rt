@@ -7,11 +7,10 @@ mod batch;
 mod body;
 mod commit;
 mod decode;
-mod fault;
 pub mod laws;
 mod log;
 mod read;
 
 pub use batch::{Batch, Batches, Records, is_record};
-pub use fault::LogFault;
+pub use bd_device::ImageFault as LogFault;
 pub use log::Log;

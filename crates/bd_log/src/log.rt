@@ -1,22 +1,21 @@
 //! The log.
 
 ghost use Rattle.std.specs.Prelude.{◌≡◌, ◌≤◌, ◌+◌, ◌++◌, ◌∷◌, [], ℕ, List, length, IfOk, IfSome, OnOk, OnErr, IsTrue, is_ok};
-ghost use Rattle.bd_io.specs.Cause.{HasCause};
+ghost use Rattle.bd_limits.specs.Limits.{first_slot_block, log_blocks};
 ghost use Rattle.bd_device.specs.Blocks.{Image};
-ghost use Rattle.bd_device.specs.Calls.{write_faults_after};
-ghost use Rattle.bd_device.specs.Moments.{Elapses, Nothing};
-ghost use Rattle.bd_log.specs.Batches.{IsRecord, AreBatches, IsDamagedAt};
-ghost use Rattle.bd_log.specs.Commits.{KeepsOutside};
-ghost use Rattle.bd_log.specs.Faults.{HasLogCause};
-ghost use Rattle.bd_log.specs.Logs.{IsHalf, room_at, room_left, fresh_log, after_sync, IsSyncing, IsSynced};
+ghost use Rattle.bd_device.specs.Calls.{faults_after};
+ghost use Rattle.bd_device.specs.Changes.{StaysBut, IsInRange};
+ghost use Rattle.bd_device.specs.Device.{left_now, Goes, Stays, OnlyReads, FailsLast, HasImageCause};
+ghost use Rattle.bd_log.specs.Batches.{IsLogRecord, AreBatches, IsDamagedAt};
+ghost use Rattle.bd_log.specs.Logs.{IsLogHalf, room_at, room_left, fresh_log, after_sync, IsSyncing, IsSynced};
 
 use crate::batch::Batches;
-use crate::body::{HEADER, MAX_BLOCKS, MAX_BODY, blocks_for, put, seal};
+use crate::body::{HEADER, MAX_BODY, blocks_for, seal};
 use crate::commit::write_committed;
-use crate::fault::LogFault;
 use crate::read::read_batches;
-use bd_device::{BLOCK_SIZE, Device};
+use bd_device::{BLOCK_SIZE, Device, ImageFault, put};
 use bd_io::Failed;
+use bd_limits::MAX_BODY_BLOCKS;
 use std::alloc::{AllocError, Global};
 use std::marker::Model;
 
@@ -34,9 +33,10 @@ pub struct Log {
 }
 
 impl Model for Log {
-    ghost use Rattle.std.specs.Prelude.{◌≤◌, take, drop};
+    ghost use Rattle.std.specs.Prelude.{◌<◌, take, drop};
+    ghost use Rattle.bd_limits.specs.Limits.{log_blocks};
     ghost use Rattle.bd_log.specs.Batches.{records_in};
-    ghost use Rattle.bd_log.specs.Logs.{LogState, IsHalf, IsBuffer};
+    ghost use Rattle.bd_log.specs.Logs.{LogState, IsLogHalf, IsBuffer};
 
     ghost Value = { LogState };
 
@@ -48,7 +48,7 @@ impl Model for Log {
       batches = l.batches;
     } };
 
-    ghost invariant = { λ l. IsHalf l.first × (l.place ≤ 63)
+    ghost invariant = { λ l. IsLogHalf l.first × (l.place < log_blocks)
         × IsBuffer l.place l.size l.count l.body.items };
 }
 
@@ -56,7 +56,7 @@ impl Log {
     /// A log without batches and with nothing waiting, in the half that begins at block `first`, 4
     /// or 68. It makes no call of a device.
     pub fn fresh(alloc: Global, first: u64, epoch: u64) -> Result<Log, AllocError>
-        requires { IsHalf first }
+        requires { IsLogHalf first }
         ensures { IfOk result (λ log. log ≡ fresh_log first epoch) }
     {
         Ok(Log {
@@ -71,33 +71,27 @@ impl Log {
     }
 
     /// Reads the batches of the half that begins at block `first`, 4 or 68, and goes on after them.
-    /// `DeviceFault` comes only where the device's count of faults rose in this call or stands at
-    /// its last value, `Damaged` exactly where after a batch a commit block is committed and no
-    /// batch of this epoch stands there, and names the first block of its body. It reads, and
-    /// writes nothing.
+    /// `DeviceFault` comes only where a call of the device failed, which is the last one then,
+    /// `Damaged` exactly where after a batch a commit block is committed and no batch of this epoch
+    /// stands there, and names the first block of its body. It reads, and writes nothing.
+    #[tactic(auto, using(bd_device::proofs::Calls::calls))]
     pub fn resume<D: Device>(
         alloc: Global,
         dev: &mut D,
         first: u64,
         epoch: u64,
-    ) -> Result<Log, LogFault>
-        requires room { 132 ≤ D.block_count dev.old }
-        requires half { IsHalf first }
+    ) -> Result<Log, ImageFault>
+        requires room { first_slot_block ≤ D.block_count dev.old }
+        requires half { IsLogHalf first }
         ensures batches { IfOk result (λ log. IfSome (D.contents dev.old) (λ image.
             AreBatches image first epoch log.batches log.place)) }
         ensures idle { IfOk result (λ log. log ≡ record (fresh_log first epoch) {
           place = log.place;
           batches = log.batches;
         }) }
-        ensures cause { HasLogCause (D.fault_count dev.old) (D.fault_count dev.new) (λ block.
+        ensures cause { HasImageCause D.Device dev.old dev.new (λ block.
             IfSome (D.contents dev.old) (λ image. IsDamagedAt image first epoch block)) result }
-        ensures kept { D.contents dev.new ≡ D.contents dev.old }
-        ensures time { Elapses (D.call_count dev.old) (D.call_count dev.new)
-            (D.left_since dev.old) (D.left_since dev.new) Nothing }
-        ensures count { D.block_count dev.new ≡ D.block_count dev.old }
-        ensures write_faults { D.write_fault_count dev.new ≡ D.write_fault_count dev.old }
-        ensures same_name { (name : List ℕ) → D.is_named dev.old name → D.is_named dev.new name }
-        ensures same_loans { D.loans dev.new ≡ D.loans dev.old }
+        ensures reads { OnlyReads D.Device dev.old dev.new }
     {
         let mut body = vec![in alloc; 0; MAX_BODY]?;
         let (batches, place) = read_batches(alloc, dev, first, epoch, &mut body)?;
@@ -129,7 +123,7 @@ impl Log {
     /// Appends a record, which has its length of two bytes in front: it waits for the next sync.
     /// It takes no memory.
     pub fn append(&mut self, bytes: &[u8])
-        requires is_record { IsRecord bytes.now }
+        requires is_record { IsLogRecord bytes.now }
         requires room { length bytes.now ≤ room_left self.old }
         ensures { self.new ≡ record self.old {
           waiting = self.old.waiting ++ bytes.now ∷ [];
@@ -143,7 +137,7 @@ impl Log {
     /// Goes on in the half that begins at block `first`, 4 or 68, with another epoch: without
     /// batches, and with nothing waiting. It takes no memory.
     pub fn turn(&mut self, first: u64, epoch: u64)
-        requires { IsHalf first }
+        requires { IsLogHalf first }
         ensures { self.new ≡ fresh_log first epoch }
     {
         self.first = first;
@@ -156,28 +150,25 @@ impl Log {
 
     /// Commits the waiting records as one batch. Inside it and after it a crash leaves all of them
     /// or none, and all once it is Ok; what stood outside this half stays. With nothing waiting it
-    /// makes no call of the device. `Failed` comes only where the device's count of faults rose in
-    /// this call or stands at its last value; the records then still wait. It takes no memory.
+    /// makes no call of the device. `Failed` comes only where a call of the device failed, which is
+    /// the last one then; the records then still wait. It takes no memory.
+    #[tactic(auto, using(bd_device::proofs::Calls::calls))]
     pub fn sync<D: Device>(&mut self, dev: &mut D) -> Result<(), Failed>
-        requires { 132 ≤ D.block_count dev.old }
+        requires { first_slot_block ≤ D.block_count dev.old }
         ensures ok { OnOk result (self.new ≡ after_sync self.old) }
         ensures err { OnErr result (self.new ≡ self.old) }
-        ensures time { Elapses (D.call_count dev.old) (D.call_count dev.new)
-            (D.left_since dev.old) (D.left_since dev.new)
-            (IsSyncing self.old (D.left_since dev.old (D.call_count dev.old))) }
-        ensures synced { OnOk result ((c : Image)
-            → D.left_since dev.new (D.call_count dev.new) c
-            → IsSynced self.old (D.left_since dev.old (D.call_count dev.old)) c) }
-        ensures others { KeepsOutside self.old.first (self.old.first + 64)
+        ensures time { Goes D.Device dev.old dev.new
+            (IsSyncing self.old (left_now D.Device dev.old)) }
+        ensures synced { OnOk result ((c : Image) → left_now D.Device dev.new c
+            → IsSynced self.old (left_now D.Device dev.old) c) }
+        ensures others { StaysBut (IsInRange self.old.first (self.old.first + log_blocks))
             (D.contents dev.old) (D.contents dev.new) }
         ensures idle { self.old.waiting ≡ [] → dev.new ≡ dev.old }
         ensures idle_ok { self.old.waiting ≡ [] → IsTrue (is_ok result) }
-        ensures count { D.block_count dev.new ≡ D.block_count dev.old }
-        ensures cause { HasCause (D.fault_count dev.old) (D.fault_count dev.new) result }
+        ensures stays { Stays D.Device dev.old dev.new }
+        ensures cause { FailsLast D.Device dev.old dev.new result }
         ensures write_faults { D.write_fault_count dev.new
-            ≡ write_faults_after (D.write_fault_count dev.old) result }
-        ensures same_name { (name : List ℕ) → D.is_named dev.old name → D.is_named dev.new name }
-        ensures same_loans { D.loans dev.new ≡ D.loans dev.old }
+            ≡ faults_after (D.write_fault_count dev.old) result }
     {
         if self.count == 0 {
             return Ok(());
@@ -197,6 +188,6 @@ impl Log {
 fn room_at(place: u64) -> usize
     ensures { result ≡ room_at place }
 {
-    let blocks = MAX_BLOCKS.saturating_sub(place) as usize;
+    let blocks = MAX_BODY_BLOCKS.saturating_sub(place) as usize;
     (blocks * BLOCK_SIZE).saturating_sub(HEADER)
 }

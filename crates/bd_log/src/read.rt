@@ -1,52 +1,21 @@
 //! Reading the batches of a half.
 
-ghost use Rattle.std.specs.Prelude.{◌≡◌, ◌≤◌, ◌<◌, ◌+◌, ◌*◌, ◌^◌, ℕ, List, length, take, IfOk, OnOk, IfSome};
-ghost use Rattle.bd_io.specs.Cause.{HasCause};
-ghost use Rattle.bd_device.specs.Moments.{Elapses, Nothing};
+ghost use Rattle.std.specs.Prelude.{◌≡◌, ◌≤◌, ◌<◌, ◌+◌, ◌*◌, ◌^◌, length, IfOk, IfSome};
+ghost use Rattle.bd_limits.specs.Limits.{block_size, body_block_limit, first_slot_block, log_blocks};
+ghost use Rattle.bd_device.specs.Changes.{bytes_at};
+ghost use Rattle.bd_device.specs.Device.{OnlyReads, HasImageCause};
 ghost use Rattle.bd_log.specs.Batches.{body_blocks, AreBatches, IsDamagedAt};
-ghost use Rattle.bd_log.specs.Commits.{bytes_at};
-ghost use Rattle.bd_log.specs.Faults.{HasLogCause};
-ghost use Rattle.bd_log.specs.Logs.{IsHalf};
-ghost use Rattle.bd_log.specs.Reading.{IsBodyOf, IsBodyRead, IsNext, IsBroken};
+ghost use Rattle.bd_log.specs.Logs.{IsLogHalf};
+ghost use Rattle.bd_log.specs.Reading.{IsBodyOf, IsBodyRead, IsNextBatch, IsBroken};
 
 use crate::batch::{Batch, Records};
-use crate::body::{MAX_BLOCKS, put};
 use crate::decode::{decode, named_blocks};
-use crate::fault::LogFault;
-use bd_device::{BLOCK_SIZE, Device};
-use bd_io::Failed;
+use bd_device::{BLOCK_SIZE, Device, ImageFault, is_committed, read_block, read_blocks};
+use bd_limits::MAX_BODY_BLOCKS;
 use std::alloc::Global;
 
-// Reads so many blocks, from block `first` on.
-fn read_blocks<D: Device>(
-    dev: &mut D,
-    first: u64,
-    into: &mut [u8],
-    count: usize,
-) -> Result<(), Failed>
-    requires room { first + count ≤ D.block_count dev.old }
-    requires fits { first + count < 2 ^ 64 }
-    requires length { count * 4096 ≤ length into.old }
-    ensures bytes { OnOk result (IfSome (D.contents dev.old) (λ image.
-        take (count * 4096) into.new ≡ bytes_at image first count)) }
-    ensures kept { D.contents dev.new ≡ D.contents dev.old }
-    ensures count { D.block_count dev.new ≡ D.block_count dev.old }
-    ensures cause { HasCause (D.fault_count dev.old) (D.fault_count dev.new) result }
-    ensures write_faults { D.write_fault_count dev.new ≡ D.write_fault_count dev.old }
-    ensures time { Elapses (D.call_count dev.old) (D.call_count dev.new)
-        (D.left_since dev.old) (D.left_since dev.new) Nothing }
-    ensures same_name { (name : List ℕ) → D.is_named dev.old name → D.is_named dev.new name }
-    ensures same_loans { D.loans dev.new ≡ D.loans dev.old }
-{
-    let mut block = [0; BLOCK_SIZE];
-    for i in 0..count {
-        dev.read(first + i as u64, &mut block)?;
-        put(into, i * BLOCK_SIZE, &block);
-    }
-    Ok(())
-}
-
 // Reads a body of so many blocks, from block `b` on.
+#[tactic(auto, using(bd_device::proofs::Calls::calls))]
 fn read_records<D: Device>(
     alloc: Global,
     dev: &mut D,
@@ -54,22 +23,16 @@ fn read_records<D: Device>(
     blocks: u64,
     epoch: u64,
     buffer: &mut [u8],
-) -> Result<Option<Records>, LogFault>
+) -> Result<Option<Records>, ImageFault>
     requires room { b + blocks ≤ D.block_count dev.old }
     requires fits { b + blocks < 2 ^ 64 }
-    requires few { blocks ≤ 62 }
-    requires buffer { length buffer.old ≡ 253952 }
+    requires few { blocks ≤ body_block_limit }
+    requires buffer { length buffer.old ≡ body_block_limit * block_size }
     ensures body { IfOk result (λ found. IfSome (D.contents dev.old) (λ image.
         IsBodyOf (bytes_at image b blocks) epoch found)) }
     ensures blocks { IfOk result (λ found. IfSome found (λ rs. body_blocks rs ≡ blocks)) }
-    ensures kept { D.contents dev.new ≡ D.contents dev.old }
-    ensures count { D.block_count dev.new ≡ D.block_count dev.old }
-    ensures cause { HasLogCause (D.fault_count dev.old) (D.fault_count dev.new) (λ _. ⊥) result }
-    ensures write_faults { D.write_fault_count dev.new ≡ D.write_fault_count dev.old }
-    ensures time { Elapses (D.call_count dev.old) (D.call_count dev.new)
-        (D.left_since dev.old) (D.left_since dev.new) Nothing }
-    ensures same_name { (name : List ℕ) → D.is_named dev.old name → D.is_named dev.new name }
-    ensures same_loans { D.loans dev.new ≡ D.loans dev.old }
+    ensures reads { OnlyReads D.Device dev.old dev.new }
+    ensures cause { HasImageCause D.Device dev.old dev.new (λ _. ⊥) result }
 {
     let count = blocks as usize;
     read_blocks(dev, b, buffer, count)?;
@@ -78,6 +41,7 @@ fn read_records<D: Device>(
 
 // Reads the body from block `b` on, of at most so many blocks, and says how many it has. It is
 // `None` exactly where no body of this epoch stands there.
+#[tactic(auto, using(bd_device::proofs::Calls::calls))]
 fn read_body<D: Device>(
     alloc: Global,
     dev: &mut D,
@@ -85,27 +49,20 @@ fn read_body<D: Device>(
     most: u64,
     epoch: u64,
     buffer: &mut [u8],
-) -> Result<Option<(Records, u64)>, LogFault>
+) -> Result<Option<(Records, u64)>, ImageFault>
     requires room { b + most ≤ D.block_count dev.old }
     requires fits { b + most < 2 ^ 64 }
     requires most { 1 ≤ most }
-    requires few { most ≤ 62 }
-    requires buffer { length buffer.old ≡ 253952 }
+    requires few { most ≤ body_block_limit }
+    requires buffer { length buffer.old ≡ body_block_limit * block_size }
     ensures body { IfOk result (λ found. IfSome (D.contents dev.old) (λ image.
         IsBodyRead image b most epoch found)) }
     ensures blocks { IfOk result (λ found. IfSome found (λ f.
         (f.1 ≡ body_blocks f.0) × (f.1 ≤ most))) }
-    ensures kept { D.contents dev.new ≡ D.contents dev.old }
-    ensures count { D.block_count dev.new ≡ D.block_count dev.old }
-    ensures cause { HasLogCause (D.fault_count dev.old) (D.fault_count dev.new) (λ _. ⊥) result }
-    ensures write_faults { D.write_fault_count dev.new ≡ D.write_fault_count dev.old }
-    ensures time { Elapses (D.call_count dev.old) (D.call_count dev.new)
-        (D.left_since dev.old) (D.left_since dev.new) Nothing }
-    ensures same_name { (name : List ℕ) → D.is_named dev.old name → D.is_named dev.new name }
-    ensures same_loans { D.loans dev.new ≡ D.loans dev.old }
+    ensures reads { OnlyReads D.Device dev.old dev.new }
+    ensures cause { HasImageCause D.Device dev.old dev.new (λ _. ⊥) result }
 {
-    let mut block = [0; BLOCK_SIZE];
-    dev.read(b, &mut block)?;
+    let block = read_block(dev, b)?;
     let blocks = named_blocks(&block);
     if blocks == 0 || blocks > most {
         return Ok(None);
@@ -118,6 +75,7 @@ fn read_body<D: Device>(
 
 // Reads the batch whose commit block has this place, and says how many blocks its body has. It is
 // `None` where the commit block isn't committed, and damage where no batch stands there.
+#[tactic(auto, using(bd_device::proofs::Calls::calls))]
 fn next_batch<D: Device>(
     alloc: Global,
     dev: &mut D,
@@ -125,63 +83,50 @@ fn next_batch<D: Device>(
     epoch: u64,
     place: u64,
     buffer: &mut [u8],
-) -> Result<Option<(Batch, u64)>, LogFault>
-    requires room { 132 ≤ D.block_count dev.old }
-    requires half { IsHalf first }
-    requires place { place ≤ 63 }
-    requires buffer { length buffer.old ≡ 253952 }
+) -> Result<Option<(Batch, u64)>, ImageFault>
+    requires room { first_slot_block ≤ D.block_count dev.old }
+    requires half { IsLogHalf first }
+    requires place { place < log_blocks }
+    requires buffer { length buffer.old ≡ body_block_limit * block_size }
     ensures next { IfOk result (λ found. IfSome (D.contents dev.old) (λ image.
-        IsNext image first epoch place found)) }
+        IsNextBatch image first epoch place found)) }
     ensures blocks { IfOk result (λ found. IfSome found (λ f.
-        (f.1 ≡ body_blocks f.0.records) × (place + 1 + f.1 ≤ 63))) }
-    ensures kept { D.contents dev.new ≡ D.contents dev.old }
-    ensures count { D.block_count dev.new ≡ D.block_count dev.old }
-    ensures cause { HasLogCause (D.fault_count dev.old) (D.fault_count dev.new) (λ block.
+        (f.1 ≡ body_blocks f.0.records) × (place + 1 + f.1 < log_blocks))) }
+    ensures reads { OnlyReads D.Device dev.old dev.new }
+    ensures cause { HasImageCause D.Device dev.old dev.new (λ block.
         IfSome (D.contents dev.old) (λ image. IsBroken image first epoch place block)) result }
-    ensures write_faults { D.write_fault_count dev.new ≡ D.write_fault_count dev.old }
-    ensures time { Elapses (D.call_count dev.old) (D.call_count dev.new)
-        (D.left_since dev.old) (D.left_since dev.new) Nothing }
-    ensures same_name { (name : List ℕ) → D.is_named dev.old name → D.is_named dev.new name }
-    ensures same_loans { D.loans dev.new ≡ D.loans dev.old }
 {
-    let mut block = [0; BLOCK_SIZE];
-    dev.read(first + place, &mut block)?;
-    if block[0] != 1 {
+    if !is_committed(&read_block(dev, first + place)?) {
         return Ok(None);
     }
     let body = first + place + 1;
-    if place >= MAX_BLOCKS {
-        return Err(LogFault::Damaged { block: body });
+    if place >= MAX_BODY_BLOCKS {
+        return Err(ImageFault::Damaged { block: body });
     }
-    match read_body(alloc, dev, body, MAX_BLOCKS - place, epoch, buffer)? {
+    match read_body(alloc, dev, body, MAX_BODY_BLOCKS - place, epoch, buffer)? {
         Some((records, blocks)) => Ok(Some((Batch { body, records }, blocks))),
-        None => Err(LogFault::Damaged { block: body }),
+        None => Err(ImageFault::Damaged { block: body }),
     }
 }
 
 /// Reads the batches of the half that begins at block `first`, and the place of the next one.
+#[tactic(auto, using(bd_device::proofs::Calls::calls))]
 pub fn read_batches<D: Device>(
     alloc: Global,
     dev: &mut D,
     first: u64,
     epoch: u64,
     buffer: &mut [u8],
-) -> Result<(Vec<Batch>, u64), LogFault>
-    requires room { 132 ≤ D.block_count dev.old }
-    requires half { IsHalf first }
-    requires buffer { length buffer.old ≡ 253952 }
+) -> Result<(Vec<Batch>, u64), ImageFault>
+    requires room { first_slot_block ≤ D.block_count dev.old }
+    requires half { IsLogHalf first }
+    requires buffer { length buffer.old ≡ body_block_limit * block_size }
     ensures batches { IfOk result (λ read. IfSome (D.contents dev.old) (λ image.
         AreBatches image first epoch read.0.items read.1)) }
-    ensures place { IfOk result (λ read. read.1 ≤ 63) }
-    ensures kept { D.contents dev.new ≡ D.contents dev.old }
-    ensures count { D.block_count dev.new ≡ D.block_count dev.old }
-    ensures cause { HasLogCause (D.fault_count dev.old) (D.fault_count dev.new) (λ block.
+    ensures place { IfOk result (λ read. read.1 < log_blocks) }
+    ensures reads { OnlyReads D.Device dev.old dev.new }
+    ensures cause { HasImageCause D.Device dev.old dev.new (λ block.
         IfSome (D.contents dev.old) (λ image. IsDamagedAt image first epoch block)) result }
-    ensures write_faults { D.write_fault_count dev.new ≡ D.write_fault_count dev.old }
-    ensures time { Elapses (D.call_count dev.old) (D.call_count dev.new)
-        (D.left_since dev.old) (D.left_since dev.new) Nothing }
-    ensures same_name { (name : List ℕ) → D.is_named dev.old name → D.is_named dev.new name }
-    ensures same_loans { D.loans dev.new ≡ D.loans dev.old }
 {
     let mut batches = Vec::new(alloc);
     let mut place = 0;

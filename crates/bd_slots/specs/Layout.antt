@@ -1,18 +1,18 @@
 -- Where the parts of an image stand, in blocks and in slots.
-use Rattle.std.specs.Prelude.{◌≢◌, ◌+◌, ◌*◌, ◌/◌, ◌<◌, ◌≤◌, ℕ, List, length, All, AllPairs}
-use Rattle.bd_limits.specs.Limits.{slot_minimum, slot_limit}
+use Rattle.std.specs.Prelude.{◌≢◌, ◌+◌, ◌-◌, ◌*◌, ◌/◌, ◌<◌, ◌≤◌, ℕ, List, length, All, AllPairs}
+use Rattle.bd_limits.specs.Limits.{slot_minimum, slot_limit, slot_size, first_slot_block, slot_blocks}
 
 -- the blocks of an image of this many slots: 132 of superblocks and logs, then 16 a slot
 abbrev pub image_blocks : ℕ → ℕ
-image_blocks slots = 132 + 16 * slots
+image_blocks slots = first_slot_block + slot_blocks * slots
 
 -- the first block of a slot
 abbrev pub slot_block : ℕ → ℕ
-slot_block slot = 132 + 16 * slot
+slot_block slot = first_slot_block + slot_blocks * slot
 
 -- the slots that a table of this many entries takes: 32 bytes and 24 an entry
 abbrev pub table_length : ℕ → ℕ
-table_length count = (24 * count + 32 + 65535) / 65536
+table_length count = (24 * count + 32 + (slot_size - 1)) / slot_size
 
 -- an image has 24 to 65,536 slots
 abbrev pub IsSlotCount : ℕ → Type 0

@@ -3,16 +3,7 @@ ghost use Rattle.std.specs.Prelude.{◌≡◌, ◌↔◌, ◌≤◌, ◌+◌, Is
 ghost use Rattle.bd_limits.specs.Limits.{slot_limit};
 ghost use Rattle.bd_slots.specs.Layout.{image_blocks, slot_block, table_length, AreSlots, IsTablePlace};
 
-use bd_limits::MAX_SLOTS;
-
-/// The blocks of an image before its first slot: superblocks and logs.
-pub const FIRST_SLOT_BLOCK: u64 = 132;
-
-/// The blocks of a slot.
-pub const SLOT_BLOCKS: u64 = 16;
-
-/// The most slots of a table: those of one with an entry for each slot.
-pub const MAX_TABLE_SLOTS: usize = 25;
+use bd_limits::{FIRST_SLOT_BLOCK, MAX_SLOTS, MAX_TABLE_SLOTS, SLOT_BLOCKS, SLOT_SIZE};
 
 // The bytes of a table before its entries.
 const TABLE_HEADER: usize = 32;
@@ -39,7 +30,7 @@ pub fn table_length(entries: usize) -> usize
     requires { entries ≤ slot_limit }
     ensures { result ≡ table_length entries }
 {
-    (TABLE_HEADER + TABLE_ENTRY * entries).div_ceil(bd_limits::SLOT_SIZE)
+    (TABLE_HEADER + TABLE_ENTRY * entries).div_ceil(SLOT_SIZE)
 }
 
 /// Whether all of them are slots of an image of this many, and differ.

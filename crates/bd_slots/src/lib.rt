@@ -8,9 +8,6 @@ mod slots;
 mod table_slots;
 mod words;
 
-pub use layout::{
-    FIRST_SLOT_BLOCK, MAX_TABLE_SLOTS, SLOT_BLOCKS, are_slots, image_blocks, is_table_place,
-    slot_block, table_length,
-};
+pub use layout::{are_slots, image_blocks, is_table_place, slot_block, table_length};
 pub use slots::SlotSet;
 pub use table_slots::TableSlots;

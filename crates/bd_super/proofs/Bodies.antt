@@ -11,7 +11,7 @@ use Rattle.bd_wire.specs.Text.{zeros, AreZeros}
 use Rattle.bd_wire.specs.Writing.{written, room, Puts}
 use Rattle.bd_wire.specs.declared.writer.Out.{Out}
 use Rattle.bd_wire.proofs.NumberLemmas.{length-be, IsPrefixFree-be}
-use Rattle.bd_super.specs.Superblocks.{IsSuper, magic, head_bytes, body_bytes}
+use Rattle.bd_super.specs.Superblocks.{IsSuper, super_magic, super_head, super_body}
 use Rattle.bd_super.specs.declared.superblock.Half.{Half}
 use Rattle.bd_super.specs.declared.superblock.Super.{Super}
 use Rattle.bd_super.proofs.Heads.{fields_alone, length-fields}
@@ -25,17 +25,17 @@ length-table table = length-items (be w32) 4 (length-be w32) table
 
 -- the head, and what follows it
 body_in_order : (s : Super)
-    → body_bytes s ≡ head_bytes s.slots s.epoch s.count (length s.table) ++ (table_bytes s.table ++ zeros (4060 - 4 * length s.table))
-body_in_order s = append_assoc (head_bytes s.slots s.epoch s.count (length s.table)) (table_bytes s.table) (zeros (4060 - 4 * length s.table))
+    → super_body s ≡ super_head s.slots s.epoch s.count (length s.table) ++ (table_bytes s.table ++ zeros (4060 - 4 * length s.table))
+body_in_order s = append_assoc (super_head s.slots s.epoch s.count (length s.table)) (table_bytes s.table) (zeros (4060 - 4 * length s.table))
 
 -- each number fits
 table_fits : (s : Super) → IsSuper s → All (FitsWidth w32) s.table
 table_fits s is k d lt = omega (arith, is.table.differ.below k d lt, is.slots.1)
 
 -- a body is a block long
-pub length-body : (s : Super) → IsSuper s → length (body_bytes s) ≡ 4096
+pub length-body : (s : Super) → IsSuper s → length (super_body s) ≡ 4096
 length-body s is =
-    let head = head_bytes s.slots s.epoch s.count (length s.table) in
+    let head = super_head s.slots s.epoch s.count (length s.table) in
     let rest = zeros (4060 - 4 * length s.table) in
     omega (
       arith,
@@ -43,18 +43,18 @@ length-body s is =
       length-append head (table_bytes s.table ++ rest),
       length-append (table_bytes s.table) rest,
       length-table s.table,
-      length-fields magic 1 s.slots s.epoch s.count (length s.table),
+      length-fields super_magic 1 s.slots s.epoch s.count (length s.table),
       length-replicate {A = ℕ} (4060 - 4 * length s.table) 0,
       is.table.most,
     )
 
 -- what a head is followed by in a body is the table's slots and zeros
 pub head_alone : (slots epoch count table : ℕ) (left : List ℕ) (s : Super) → slots < 2 ^ 32 → epoch < 2 ^ 64 → count < 2 ^ 64 → table < 2 ^ 32 → IsSuper s
-    → head_bytes slots epoch count table ++ left ≡ body_bytes s
+    → super_head slots epoch count table ++ left ≡ super_body s
     → (slots ≡ s.slots) × (epoch ≡ s.epoch) × (count ≡ s.count) × (table ≡ length s.table) × (left ≡ table_bytes s.table ++ zeros (4060 - 4 * length s.table))
 head_alone slots epoch count table left s hs he hc ht is e =
     let rest = table_bytes s.table ++ zeros (4060 - 4 * length s.table) in
-    let same = fields_alone magic magic 1 slots epoch count table 1 s.slots s.epoch s.count (length s.table) left rest refl
+    let same = fields_alone super_magic super_magic 1 slots epoch count table 1 s.slots s.epoch s.count (length s.table) left rest refl
     (omega arith) hs he hc ht (omega arith) (omega (arith, is.slots.1)) is.last_epoch is.count (omega (arith, is.table.most)) (e ∙ body_in_order s) in
     (same.2, same.3, same.4, same.5, same.6)
 
@@ -73,9 +73,9 @@ table_alone table left s fits is count e =
 
 -- a block with a head, as many slots as it says and zeros is a body
 pub body_whole : (s : Super) (block left after : List ℕ) → length block ≡ 4096
-    → block ≡ head_bytes s.slots s.epoch s.count (length s.table) ++ left → left ≡ table_bytes s.table ++ after → AreZeros after → block ≡ body_bytes s
+    → block ≡ super_head s.slots s.epoch s.count (length s.table) ++ left → left ≡ table_bytes s.table ++ after → AreZeros after → block ≡ super_body s
 body_whole s block left after whole front table rest =
-    let head = head_bytes s.slots s.epoch s.count (length s.table) in
+    let head = super_head s.slots s.epoch s.count (length s.table) in
     let count : length after ≡ 4060 - 4 * length s.table =
     omega (
       arith,
@@ -85,7 +85,7 @@ body_whole s block left after whole front table rest =
       length-append head left,
       length-append (table_bytes s.table) after,
       length-table s.table,
-      length-fields magic 1 s.slots s.epoch s.count (length s.table),
+      length-fields super_magic 1 s.slots s.epoch s.count (length s.table),
     ) in
     front ∙ ap (λ l. head ++ l) (table ∙ ap (λ z. table_bytes s.table ++ z) (rest ∙ ap zeros count)) ∙ sym (body_in_order s)
 
@@ -108,7 +108,7 @@ unfolding made
 is_made s = refl
 
 -- one body is of one superblock of a half
-pub one_super : (a b : Super) → IsSuper a → IsSuper b → a.half ≡ b.half → body_bytes a ≡ body_bytes b → a ≡ b
+pub one_super : (a b : Super) → IsSuper a → IsSuper b → a.half ≡ b.half → super_body a ≡ super_body b → a ≡ b
 one_super a b is_a is_b half e =
     let head = head_alone a.slots a.epoch a.count (length a.table) (table_bytes a.table ++ zeros (4060 - 4 * length a.table)) b
     (omega (arith, is_a.slots.1)) is_a.last_epoch is_a.count (omega (arith, is_a.table.most)) is_b (sym (body_in_order a) ∙ e) in
@@ -121,9 +121,9 @@ one_super a b is_a is_b half e =
     is_made a ∙ same ∙ sym (is_made b)
 
 -- a body fills the block into which it is put
-pub filled : (old new : Out) (s : Super) → Puts old new (body_bytes s) → IsSuper s → written old ≡ [] → length (room old) ≡ 4096 → new.bytes.now ≡ body_bytes s
-filled old new s puts is none space = filled_array old new (body_bytes s) puts none (omega (arith, space, length-body s is))
+pub filled : (old new : Out) (s : Super) → Puts old new (super_body s) → IsSuper s → written old ≡ [] → length (room old) ≡ 4096 → new.bytes.now ≡ super_body s
+filled old new s puts is none space = filled_array old new (super_body s) puts none (omega (arith, space, length-body s is))
 
 -- without a head there is no body
-pub no_head : (block : List ℕ) (s : Super) → ((slots epoch count table : ℕ) (rest : List ℕ) → block ≢ head_bytes slots epoch count table ++ rest) → block ≢ body_bytes s
+pub no_head : (block : List ℕ) (s : Super) → ((slots epoch count table : ℕ) (rest : List ℕ) → block ≢ super_head slots epoch count table ++ rest) → block ≢ super_body s
 no_head block s none e = none s.slots s.epoch s.count (length s.table) (table_bytes s.table ++ zeros (4060 - 4 * length s.table)) (e ∙ body_in_order s)

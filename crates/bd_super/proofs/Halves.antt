@@ -3,9 +3,9 @@ use Rattle.std.proofs.Common.{◌≡◌, ◌≢◌, ℕ, List, [], Option, None,
 use Rattle.std.proofs.lemmas.Option.{get_or_from_slice_get}
 use Rattle.bd_slots.specs.Layout.{image_blocks}
 use Rattle.bd_device.specs.Blocks.{Image, HasBlocks}
-use Rattle.bd_super.specs.Superblocks.{IsReadAs, commit_block, body_block}
+use Rattle.bd_super.specs.Superblocks.{IsSuperIn, commit_block, body_block}
 use Rattle.bd_device.specs.Commits.{block_at}
-use Rattle.bd_super.specs.Live.{IsBad, IsHalf}
+use Rattle.bd_super.specs.Live.{IsBad, HasInHalf}
 use Rattle.bd_super.specs.declared.superblock.Half.{Half}
 use Rattle.bd_super.specs.declared.superblock.Super.{Super}
 use Rattle.bd_super.proofs.Bodies.{one_super}
@@ -17,8 +17,8 @@ block_read image b bytes e = get_or_from_slice_get image b bytes [] e
 -- a committed half with a superblock's body that names the size holds it
 pub half_held : (contents : Option Image) (half : Half) (s : Super) (commit body : List ℕ) (blocks : ℕ)
     → IfSome contents (λ image. slice_get image (commit_block half) ≡ Some commit) → IfSome contents (λ image. slice_get image (body_block half) ≡ Some body)
-    → IfSome contents (HasBlocks blocks) → slice_index commit 0 ≡ 1 → IsReadAs half body (Some s) → image_blocks s.slots ≡ blocks
-    → IfSome contents (λ image. IsHalf image half (Some s))
+    → IfSome contents (HasBlocks blocks) → slice_index commit 0 ≡ 1 → IsSuperIn half body (Some s) → image_blocks s.slots ≡ blocks
+    → IfSome contents (λ image. HasInHalf image half (Some s))
 half_held None half s commit body blocks c b shape committed read size = tt
 half_held (Some image) half s commit body blocks c b shape committed read size = (
   read.0,
@@ -33,7 +33,7 @@ half_held (Some image) half s commit body blocks c b shape committed read size =
 -- a committed half with any other body is bad
 pub half_bad : (contents : Option Image) (half : Half) (found : Option Super) (commit body : List ℕ) (blocks : ℕ)
     → IfSome contents (λ image. slice_get image (commit_block half) ≡ Some commit) → IfSome contents (λ image. slice_get image (body_block half) ≡ Some body)
-    → IfSome contents (HasBlocks blocks) → slice_index commit 0 ≡ 1 → IsReadAs half body found → IfSome found (λ s. image_blocks s.slots ≢ blocks)
+    → IfSome contents (HasBlocks blocks) → slice_index commit 0 ≡ 1 → IsSuperIn half body found → IfSome found (λ s. image_blocks s.slots ≢ blocks)
     → IfSome contents (λ image. IsBad image half)
 half_bad None half found commit body blocks c b shape committed read other = tt
 half_bad (Some image) half None commit body blocks c b shape committed read other = record {

@@ -5,16 +5,18 @@ use Rattle.std.proofs.lemmas.Bool.{cases_eq}
 use Rattle.std.proofs.lemmas.List.{length-set}
 use Rattle.bd_slots.specs.Layout.{image_blocks}
 use Rattle.bd_device.specs.Blocks.{Image, HasBlocks, with_block}
+use Rattle.bd_device.specs.Changes.{SameBut, StaysBut}
 use Rattle.bd_device.specs.Moments.{TornAt}
-use Rattle.bd_super.specs.Superblocks.{IsSuper, body_bytes, commit_block, body_block, log_block, other}
+use Rattle.bd_device.proofs.Changes.{stays_both, stays_written}
+use Rattle.bd_super.specs.Superblocks.{IsSuper, super_body, commit_block, body_block, log_block, other}
 use Rattle.bd_device.specs.Commits.{block_at, IsCommitted}
 use Rattle.bd_super.specs.Live.{HoldsOlder, NoneIsCommitted}
-use Rattle.bd_super.specs.Published.{IsOfHalf, SameOutside, StaysOutside, IsStaged, IsPublished, IsStagedOrPublished, CanFollow}
+use Rattle.bd_super.specs.Published.{IsOfHalf, IsStaged, IsPublished, IsStagedOrPublished, CanFollow}
 use Rattle.bd_super.specs.declared.superblock.Half.{Half}
 use Rattle.bd_super.specs.declared.superblock.Half.TheVariants.{A, B}
 use Rattle.bd_super.specs.declared.superblock.Super.{Super}
 use Rattle.bd_super.proofs.LiveLemmas.{same_halves, other_differs, still_held, block_other, block_same}
-use Rattle.bd_super.proofs.Staging.{outside_written, outside_outside, staged_torn, same_flag, torn_log, torn_body, commit_not_log, commit_not_body, body_not_log, body_not_commit, same_commit_block, same_body_block, commit_first}
+use Rattle.bd_super.proofs.Staging.{staged_torn, same_flag, torn_log, torn_body, commit_not_log, commit_not_body, body_not_log, body_not_commit, same_commit_block, same_body_block, commit_first}
 
 pub log_first : (h : Half) → log_block h < 132
 log_first A = omega arith
@@ -30,9 +32,9 @@ none_committed image none B = none.1
 
 -- the superblock only has to be committed
 pub record IsReady (s : Super) (known : Option Image) (d : Image) : Type 0 where
-  pub outside : StaysOutside s.half known (Some d)
+  pub outside : StaysBut (IsOfHalf s.half) known (Some d)
   pub size : length d ≡ image_blocks s.slots
-  pub body : block_at d (body_block s.half) ≡ body_bytes s
+  pub body : block_at d (body_block s.half) ≡ super_body s
   pub closed : ¬ IsCommitted d (commit_block s.half)
   pub log : ¬ IsCommitted d (log_block s.half)
 
@@ -41,34 +43,34 @@ closed_other : (d : Image) (b a : ℕ) (bytes : List ℕ) → a ≢ b → ¬ IsC
 closed_other d b a bytes ne closed is = closed (sym (ap (λ l. slice_index l 0) (block_other d b a bytes ne)) ∙ is)
 
 -- it is so once the half is taken back, its log closed and the body settled
-pub ready : (known taken logged settled : Option Image) (s : Super) (count : ℕ) (bytes : List ℕ) → StaysOutside s.half known taken
+pub ready : (known taken logged settled : Option Image) (s : Super) (count : ℕ) (bytes : List ℕ) → StaysBut (IsOfHalf s.half) known taken
     → IfSome taken (λ image. ¬ IsCommitted image (commit_block s.half)) → logged ≡ with_block (log_block s.half) bytes taken → slice_index bytes 0 ≢ 1
-    → settled ≡ with_block (body_block s.half) (body_bytes s) logged → IfSome settled (HasBlocks count) → count ≡ image_blocks s.slots
+    → settled ≡ with_block (body_block s.half) (super_body s) logged → IfSome settled (HasBlocks count) → count ≡ image_blocks s.slots
     → IfSome settled (IsReady s known)
 ready known None logged settled s count bytes outside closed log shut body shape size =
-    let none : settled ≡ None = body ∙ ap (with_block (body_block s.half) (body_bytes s)) log in
+    let none : settled ≡ None = body ∙ ap (with_block (body_block s.half) (super_body s)) log in
     subst (λ (o : Option Image). IfSome o (IsReady s known)) (sym none) tt
 ready known (Some m) logged settled s count bytes outside closed log shut body shape size =
     let half = s.half in
     let d1 = slice_set m (log_block half) bytes in
-    let d = slice_set d1 (body_block half) (body_bytes s) in
-    let some : settled ≡ Some d = body ∙ ap (with_block (body_block half) (body_bytes s)) log in
+    let d = slice_set d1 (body_block half) (super_body s) in
+    let some : settled ≡ Some d = body ∙ ap (with_block (body_block half) (super_body s)) log in
     let blocks : HasBlocks count d = subst (λ (o : Option Image). IfSome o (HasBlocks count)) some shape in
     let whole : length d ≡ image_blocks s.slots = blocks.count_is ∙ size in
-    let l1 : length d ≡ length d1 = length-set d1 (body_block half) (body_bytes s) in
+    let l1 : length d ≡ length d1 = length-set d1 (body_block half) (super_body s) in
     let l0 : length d1 ≡ length m = length-set m (log_block half) bytes in
     let shut1 : ¬ IsCommitted d1 (log_block half) = λ is.
     shut (sym (ap (λ l. slice_index l 0) (block_same m (log_block half) bytes (omega (arith, whole, l1, l0, log_first half)))) ∙ is) in
     subst (λ (o : Option Image). IfSome o (IsReady s known)) (sym some)
     (record {
-      outside = outside_outside known (Some m) (Some d) half outside
-          (outside_outside (Some m) (Some d1) (Some d) half (outside_written (Some m) (Some d1) half (log_block half) bytes (inr (inr refl)) refl)
-          (outside_written (Some d1) (Some d) half (body_block half) (body_bytes s) (inr (inl refl)) refl));
+      outside = stays_both (IsOfHalf half) known (Some m) (Some d) outside
+          (stays_both (IsOfHalf half) (Some m) (Some d1) (Some d) (stays_written (IsOfHalf half) (log_block half) bytes (Some m) (Some d1) (inr (inr refl)) refl)
+          (stays_written (IsOfHalf half) (body_block half) (super_body s) (Some d1) (Some d) (inr (inl refl)) refl));
       size = whole;
-      body = block_same d1 (body_block half) (body_bytes s) (omega (arith, whole, l1, body_first half));
-      closed = closed_other d1 (body_block half) (commit_block half) (body_bytes s) (commit_not_body half half)
+      body = block_same d1 (body_block half) (super_body s) (omega (arith, whole, l1, body_first half));
+      closed = closed_other d1 (body_block half) (commit_block half) (super_body s) (commit_not_body half half)
           (closed_other m (log_block half) (commit_block half) bytes (commit_not_log half half) closed);
-      log = closed_other d1 (body_block half) (log_block half) (body_bytes s) (λ e. body_not_log half half (sym e)) shut1;
+      log = closed_other d1 (body_block half) (log_block half) (super_body s) (λ e. body_not_log half half (sym e)) shut1;
     })
 
 -- committed, it is published
@@ -80,7 +82,7 @@ committed_ready (Some old) s d bytes is follows fits one =
     let c = slice_set d (commit_block half) bytes in
     let size : length c ≡ length d = length-set d (commit_block half) bytes in
     let lt : commit_block half < length d = omega (arith, is.size, commit_first half) in
-    let outside : SameOutside half old c = outside_outside (Some old) (Some d) (Some c) half is.outside (outside_written (Some d) (Some c) half (commit_block half) bytes (inl refl) refl) in
+    let outside : SameBut (IsOfHalf half) old c = stays_both (IsOfHalf half) (Some old) (Some d) (Some c) is.outside (stays_written (IsOfHalf half) (commit_block half) bytes (Some d) (Some c) (inl refl) refl) in
     let commit_outside : ¬ IsOfHalf half (commit_block (other half)) = λ e. elim e [
       | inl same ↦ other_differs half (same_commit_block (other half) half same)
       | inr (inl same) ↦ commit_not_body (other half) half same

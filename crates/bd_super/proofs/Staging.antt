@@ -8,7 +8,7 @@ use Rattle.bd_device.specs.Moments.{TornAt, IsOnly}
 use Rattle.bd_super.specs.Superblocks.{commit_block, body_block, log_block, other}
 use Rattle.bd_device.specs.Commits.{block_at, IsCommitted}
 use Rattle.bd_super.specs.Live.{Holds, IsLive}
-use Rattle.bd_super.specs.Published.{IsOfHalf, StaysOutside, SameLive, IsStaged, AreSettled, IsLiveBeside, SameSuperblocks}
+use Rattle.bd_super.specs.Published.{IsOfHalf, SameLive, IsStaged, AreSettled, IsLiveBeside, SameSuperblocks}
 use Rattle.bd_super.specs.declared.superblock.Half.{Half}
 use Rattle.bd_super.specs.declared.superblock.Half.TheVariants.{A, B}
 use Rattle.bd_super.specs.declared.superblock.Super.{Super}
@@ -158,27 +158,6 @@ written_closed (Some image) new b count bytes e shape lt closed =
     let now : HasBlocks count (slice_set image b bytes) = subst (λ (n : Option Image). IfSome n (HasBlocks count)) e shape in
     subst (λ (n : Option Image). IfSome n (λ image. ¬ IsCommitted image b)) (sym e)
     (λ is. closed (sym (ap (λ l. slice_index l 0) (block_same image b bytes (omega (arith, lt, now.count_is, length-set image b bytes)))) ∙ is))
-
--- a write to a block of the half leaves the others
-pub outside_written : (old new : Option Image) (half : Half) (b : ℕ) (bytes : List ℕ) → IsOfHalf half b → new ≡ with_block b bytes old → StaysOutside half old new
-outside_written None new half b bytes of_half e = subst (StaysOutside half None) (sym e) tt
-outside_written (Some image) new half b bytes of_half e = subst (StaysOutside half (Some image)) (sym e) (record {
-  size = length-set image b bytes;
-  others = λ a outside. block_other image b a bytes (λ e. outside (subst (IsOfHalf half) (sym e) of_half));
-})
-
-pub outside_same : (old : Option Image) (half : Half) → StaysOutside half old old
-outside_same None half = tt
-outside_same (Some image) half = record { size = refl; others = λ b _. refl }
-
-pub outside_outside : (a b c : Option Image) (half : Half) → StaysOutside half a b → StaysOutside half b c → StaysOutside half a c
-outside_outside None None None half p q = tt
-outside_outside (Some a) (Some b) (Some c) half p q =
-    record { size = q.size ∙ p.size; others = λ n outside. q.others n outside ∙ p.others n outside }
-outside_outside None (Some b) c half p q = absurd p
-outside_outside (Some a) None c half p q = absurd p
-outside_outside None None (Some c) half p q = absurd q
-outside_outside (Some a) (Some b) None half p q = absurd q
 
 -- what follows from either outcome
 pub either_way : {T E P Q S : Type 0} (r : Result T E) → OnOk r P → OnErr r Q → (P → S) → (Q → S) → S

@@ -1,4 +1,3 @@
-pub mod Cause
 pub mod Live
 pub mod Published
 pub mod Superblocks

@@ -4,7 +4,7 @@ use Rattle.bd_limits.specs.Limits.{slot_minimum}
 use Rattle.bd_slots.specs.Layout.{image_blocks}
 use Rattle.bd_device.specs.Blocks.{Image}
 use Rattle.bd_device.specs.Commits.{block_at, IsCommitted}
-use Rattle.bd_super.specs.Superblocks.{IsSuper, body_bytes, commit_block, body_block, other}
+use Rattle.bd_super.specs.Superblocks.{IsSuper, super_body, commit_block, body_block, other}
 use Rattle.bd_super.specs.declared.superblock.Half.{Half}
 use Rattle.bd_super.specs.declared.superblock.Half.TheVariants.{A, B}
 use Rattle.bd_super.specs.declared.superblock.Super.{Super}
@@ -19,7 +19,7 @@ NoneIsCommitted image =
 pub record Holds (image : Image) (s : Super) : Type 0 where
   pub committed : IsCommitted image (commit_block s.half)
   pub fits : IsSuper s
-  pub body : block_at image (body_block s.half) ≡ body_bytes s
+  pub body : block_at image (body_block s.half) ≡ super_body s
   pub size : length image ≡ image_blocks s.slots
 
 -- this half holds a superblock
@@ -63,6 +63,6 @@ IsDamaged image b =
     ⊎ ((b ≡ 3) × (¬ IsNoImage image) × IsBadLater image)
 
 -- what a half holds: a superblock, or none, as it isn't committed
-abbrev pub IsHalf : Image → Half → Option Super → Type 0
-IsHalf image half (Some s) = (s.half ≡ half) × Holds image s
-IsHalf image half None = ¬ IsCommitted image (commit_block half)
+abbrev pub HasInHalf : Image → Half → Option Super → Type 0
+HasInHalf image half (Some s) = (s.half ≡ half) × Holds image s
+HasInHalf image half None = ¬ IsCommitted image (commit_block half)

@@ -2,7 +2,9 @@
 use Rattle.std.specs.Prelude.{◌≡◌, ◌<◌, ◌⊎◌, ◌↔◌, ℕ, length, Option, Some, None, IsSomeAnd, Result, OnOk, OnErr}
 use Rattle.bd_io.specs.Cause.{next_count}
 use Rattle.bd_device.specs.Blocks.{Image}
-use Rattle.bd_device.specs.Moments.{Nothing, Elapses}
+use Rattle.bd_device.specs.Changes.{SameBut}
+use Rattle.bd_device.specs.Device.{OnlyReads}
+use Rattle.bd_device.specs.declared.device.Device.{Ghosts}
 use Rattle.bd_device.specs.Commits.{block_at, IsCommitted}
 use Rattle.bd_super.specs.Live.{IsLive, NoneIsCommitted}
 use Rattle.bd_super.specs.Superblocks.{commit_block, body_block, log_block, other}
@@ -13,17 +15,6 @@ use Rattle.bd_super.specs.declared.superblock.Super.{Super}
 abbrev pub IsOfHalf : Half → ℕ → Type 0
 IsOfHalf half b = (b ≡ commit_block half) ⊎ (b ≡ body_block half) ⊎ (b ≡ log_block half)
 
--- as many blocks, of which all but those three are the same
-pub record SameOutside (half : Half) (old new : Image) : Type 0 where
-  pub size : length new ≡ length old
-  pub others : (b : ℕ) → ¬ IsOfHalf half b → block_at new b ≡ block_at old b
-
--- the same of what reads give, where it is known
-abbrev pub StaysOutside : Half → Option Image → Option Image → Type 0
-StaysOutside half None None = Unit {0}
-StaysOutside half (Some old) (Some new) = SameOutside half old new
-StaysOutside half _ _ = ⊥
-
 -- the same superblock is live, or none
 abbrev pub SameLive : Image → Image → Type 0
 SameLive old new = (s : Super) → IsLive old s ↔ IsLive new s
@@ -33,13 +24,13 @@ SameLive old new = (s : Super) → IsLive old s ↔ IsLive new s
 pub record IsStaged (half : Half) (before : Image → Type 0) (new : Image) : Type 0 where
   pub old : Image
   pub was : before old
-  pub outside : SameOutside half old new
+  pub outside : SameBut (IsOfHalf half) old new
   pub live : SameLive old new
 
 -- published: the superblock is live, its log is empty, and all blocks but those three are what
 -- reads gave
 pub record IsPublished (s : Super) (known : Option Image) (new : Image) : Type 0 where
-  pub outside : IsSomeAnd known (λ old. SameOutside s.half old new)
+  pub outside : IsSomeAnd known (λ old. SameBut (IsOfHalf s.half) old new)
   pub live : IsLive new s
   pub log : ¬ IsCommitted new (log_block s.half)
 
@@ -65,15 +56,10 @@ abbrev pub CanFollow : Super → Image → Type 0
 CanFollow s image = NoneIsCommitted image
     ⊎ ((l : Super) × IsLive image l × (l.half ≡ other s.half) × (l.epoch < s.epoch))
 
--- the count of failed writes: an Ok call leaves it; a call that fails adds one, or else it has
--- written nothing
-pub record CountsWrites {T E : Type 0} (before now : ℕ) (unwritten : Type 0) (result : Result T E)
+-- the count of failed writes: an Ok call leaves it; a call that fails adds one, or else it has only
+-- read
+pub record CountsWrites {D T E : Type 0} (g : Ghosts D) (old new : D) (result : Result T E)
     : Type 0 where
-  pub kept : OnOk result (now ≡ before)
-  pub failed : OnErr result ((now ≡ next_count before) ⊎ ((now ≡ before) × unwritten))
-
--- what reads give stays, and what a crash may leave
-pub record IsUnwritten (before now : ℕ) (old new : ℕ → Image → Type 0)
-    (known known_now : Option Image) : Type 0 where
-  pub contents : known_now ≡ known
-  pub time : Elapses before now old new Nothing
+  pub kept : OnOk result (g.write_fault_count new ≡ g.write_fault_count old)
+  pub failed : OnErr result
+      ((g.write_fault_count new ≡ next_count (g.write_fault_count old)) ⊎ OnlyReads g old new)

@@ -2,6 +2,7 @@
 use Rattle.std.specs.Prelude.{◌≡◌, ◌≢◌, ◌-◌, ◌*◌, ◌^◌, ◌<◌, ◌≤◌, ℕ, List, [], ◌∷◌, ◌++◌, length, Option, Some, None}
 use Rattle.std.specs.Int.{w32, w64}
 use Rattle.std.specs.List.{flat_map}
+use Rattle.bd_limits.specs.Limits.{block_size}
 use Rattle.bd_slots.specs.Layout.{IsSlotCount, IsTablePlace}
 use Rattle.bd_wire.specs.Numbers.{be}
 use Rattle.bd_wire.specs.Text.{zeros}
@@ -38,27 +39,27 @@ pub record IsSuper (s : Super) : Type 0 where
   pub table : IsTablePlace s.slots s.table
 
 -- `BDSUPER1`
-abbrev pub magic : List ℕ
-magic = 66 ∷ 68 ∷ 83 ∷ 85 ∷ 80 ∷ 69 ∷ 82 ∷ 49 ∷ []
+abbrev pub super_magic : List ℕ
+super_magic = 66 ∷ 68 ∷ 83 ∷ 85 ∷ 80 ∷ 69 ∷ 82 ∷ 49 ∷ []
 
 -- the magic, the version 1, the image's slots, the epoch, the count and the number of the table's
 -- slots
-abbrev pub head_bytes : ℕ → ℕ → ℕ → ℕ → List ℕ
-head_bytes slots epoch count table =
-    magic ++ be w32 1 ++ be w32 slots ++ be w64 epoch ++ be w64 count ++ be w32 table
+abbrev pub super_head : ℕ → ℕ → ℕ → ℕ → List ℕ
+super_head slots epoch count table =
+    super_magic ++ be w32 1 ++ be w32 slots ++ be w64 epoch ++ be w64 count ++ be w32 table
 
 -- such fields are as wide as their numbers
-abbrev pub FitsHead : ℕ → ℕ → ℕ → ℕ → Type 0
-FitsHead slots epoch count table =
+abbrev pub FitsSuperHead : ℕ → ℕ → ℕ → ℕ → Type 0
+FitsSuperHead slots epoch count table =
     (slots < 2 ^ 32) × (epoch < 2 ^ 64) × (count < 2 ^ 64) × (table < 2 ^ 32)
 
 -- the head, the table's slots, and zeros to the end of the block
-abbrev pub body_bytes : Super → List ℕ
-body_bytes s =
-    head_bytes s.slots s.epoch s.count (length s.table) ++ flat_map (be w32) s.table
-    ++ zeros (4060 - 4 * length s.table)
+abbrev pub super_body : Super → List ℕ
+super_body s =
+    super_head s.slots s.epoch s.count (length s.table) ++ flat_map (be w32) s.table
+    ++ zeros (block_size - 36 - 4 * length s.table)
 
 -- the block is the body of the half's superblock, or of none
-abbrev pub IsReadAs : Half → List ℕ → Option Super → Type 0
-IsReadAs half bytes (Some s) = (s.half ≡ half) × IsSuper s × (bytes ≡ body_bytes s)
-IsReadAs half bytes None = (s : Super) → IsSuper s → bytes ≢ body_bytes s
+abbrev pub IsSuperIn : Half → List ℕ → Option Super → Type 0
+IsSuperIn half bytes (Some s) = (s.half ≡ half) × IsSuper s × (bytes ≡ super_body s)
+IsSuperIn half bytes None = (s : Super) → IsSuper s → bytes ≢ super_body s

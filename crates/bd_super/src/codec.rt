@@ -3,10 +3,11 @@
 ghost use Rattle.std.specs.Prelude.{◌≡◌, ◌≢◌, ◌<◌, ◌≤◌, ◌*◌, ℕ, List, ◌++◌, ◌↔◌, length, All, IsTrue, IfOk, OnErr, IfSome, IfNone};
 ghost use Rattle.std.specs.Int.{w32};
 ghost use Rattle.std.specs.List.{flat_map};
+ghost use Rattle.bd_limits.specs.Limits.{block_size};
 ghost use Rattle.bd_wire.specs.Numbers.{be, FitsWidth};
 ghost use Rattle.bd_wire.specs.Reading.{Reads};
 ghost use Rattle.bd_wire.specs.Writing.{Puts, room};
-ghost use Rattle.bd_super.specs.Superblocks.{IsSuper, IsReadAs, FitsHead, magic, head_bytes, body_bytes};
+ghost use Rattle.bd_super.specs.Superblocks.{IsSuper, IsSuperIn, FitsSuperHead, super_magic, super_head, super_body};
 
 use crate::{Half, Super};
 use bd_device::BLOCK_SIZE;
@@ -34,7 +35,7 @@ impl Super {
     #[tactic(auto, using(crate::proofs::Bodies::filled))]
     pub(crate) fn body(&self) -> [u8; BLOCK_SIZE]
         requires { IsSuper self.now }
-        ensures { result ≡ body_bytes self.now }
+        ensures { result ≡ super_body self.now }
     {
         let mut block = [0; BLOCK_SIZE];
         let mut out = Out::new(&mut block);
@@ -45,8 +46,8 @@ impl Super {
     // Writes its body into a block.
     fn put(&self, out: &mut Out)
         requires super_is { IsSuper self.now }
-        requires room { length (room out.old) ≡ 4096 }
-        ensures { Puts out.old out.new (body_bytes self.now) }
+        requires room { length (room out.old) ≡ block_size }
+        ensures { Puts out.old out.new (super_body self.now) }
     {
         out.put_bytes(&MAGIC);
         out.put_u32(VERSION);
@@ -65,7 +66,7 @@ impl Super {
         half: Half,
         block: &[u8; BLOCK_SIZE],
     ) -> Result<Option<Super>, AllocError>
-        ensures { IfOk result (λ found. IsReadAs half block.now found) }
+        ensures { IfOk result (λ found. IsSuperIn half block.now found) }
     {
         let mut cursor = Cursor::new(block);
         let head = match read_head(&mut cursor) {
@@ -107,11 +108,11 @@ fn put_numbers(out: &mut Out, numbers: &[u32])
 #[tactic(auto, using(bd_wire::proofs::WritingLemmas::writing))]
 fn read_head(cursor: &mut Cursor) -> Result<Option<Head>, Short>
     ensures found { IfOk result (λ found. IfSome found (λ head. Reads cursor.old cursor.new
-        (head_bytes head.slots head.epoch head.count head.table))) }
+        (super_head head.slots head.epoch head.count head.table))) }
     ensures fits { IfOk result (λ found. IfSome found
-        (λ head. FitsHead head.slots head.epoch head.count head.table)) }
+        (λ head. FitsSuperHead head.slots head.epoch head.count head.table)) }
     ensures none { IfOk result (λ found. IfNone found ((s e c t : ℕ) (rest : List ℕ)
-        → cursor.old.left ≢ head_bytes s e c t ++ rest)) }
+        → cursor.old.left ≢ super_head s e c t ++ rest)) }
     ensures short { OnErr result (length cursor.old.left < 36) }
 {
     let magic = cursor.bytes(MAGIC.len())?;
@@ -128,7 +129,7 @@ fn read_head(cursor: &mut Cursor) -> Result<Option<Head>, Short>
 
 // Whether these are the first bytes of a body.
 fn is_magic(bytes: &[u8]) -> bool
-    ensures { IsTrue result ↔ (bytes.now ≡ magic) }
+    ensures { IsTrue result ↔ (bytes.now ≡ super_magic) }
 {
     bytes == MAGIC.as_slice()
 }

@@ -4,7 +4,7 @@ ghost use Rattle.std.specs.Prelude.{◌≡◌, ◌≤◌, ℕ, length};
 ghost use Rattle.bd_limits.specs.Limits.{slot_minimum};
 ghost use Rattle.bd_slots.specs.Layout.{image_blocks};
 ghost use Rattle.bd_device.specs.Blocks.{Image};
-ghost use Rattle.bd_super.specs.Superblocks.{IsSuper, body_bytes};
+ghost use Rattle.bd_super.specs.Superblocks.{IsSuper, super_body};
 ghost use Rattle.bd_super.specs.Live.{IsLive, IsDamaged};
 ghost use Rattle.bd_super.specs.Published.{CanFollow};
 ghost use Rattle.bd_super.specs.declared.superblock.Super.{Super};
@@ -12,7 +12,7 @@ ghost use Rattle.bd_super.specs.declared.superblock.Super.{Super};
 /// No two superblocks of a half have one body, so what was written is read again.
 pub fn superblocks_are_read_again()
     ensures { (a b : Super) → IsSuper a → IsSuper b → a.half ≡ b.half
-        → body_bytes a ≡ body_bytes b → a ≡ b }
+        → super_body a ≡ super_body b → a ≡ b }
 {}
 
 /// An image starts from one superblock.

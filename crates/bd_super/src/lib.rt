@@ -4,13 +4,12 @@
 #![tactic(auto)]
 
 mod codec;
-mod fault;
 pub mod laws;
 mod live;
 mod publishing;
 mod superblock;
 
-pub use fault::SuperFault;
+pub use bd_device::ImageFault as SuperFault;
 pub use live::read_live;
 pub use publishing::publish;
 pub use superblock::{Half, Super};

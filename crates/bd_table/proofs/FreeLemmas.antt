@@ -10,11 +10,11 @@ use Rattle.std.proofs.Math.Seq.{take-append-add, get_or-append_seam}
 use Rattle.std.proofs.Math.ListN.{get_or-append}
 use Rattle.bd_slots.specs.Layout.{AreSlots}
 use Rattle.bd_slots.specs.Slots.{IsFree}
-use Rattle.bd_table.specs.Tables.{AreFree, slots_of}
+use Rattle.bd_table.specs.Tables.{AreFreeSlots, slots_of}
 use Rattle.bd_table.specs.declared.table.TableEntry.{TableEntry}
 
 -- no slot that is taken is free, once one more is taken
-pub hold_free : (slots : ℕ) (taken : List ℕ) (flags : List Bool) (x : ℕ) → x < slots → AreFree slots taken flags → AreFree slots (taken ++ x ∷ []) (slice_set flags x false)
+pub hold_free : (slots : ℕ) (taken : List ℕ) (flags : List Bool) (x : ℕ) → x < slots → AreFreeSlots slots taken flags → AreFreeSlots slots (taken ++ x ∷ []) (slice_set flags x false)
 hold_free slots taken flags x lt are = record {
   count = length-set flags x false ∙ are.count;
   free = λ k inside. elim (cases_eq k x) [
@@ -36,7 +36,7 @@ hold_free slots taken flags x lt are = record {
 }
 
 -- a free one is one more that differs
-pub one_more : (slots : ℕ) (taken : List ℕ) (flags : List Bool) (x : ℕ) → x < slots → AreFree slots taken flags → IsFree flags x → AreSlots slots taken → AreSlots slots (taken ++ x ∷ [])
+pub one_more : (slots : ℕ) (taken : List ℕ) (flags : List Bool) (x : ℕ) → x < slots → AreFreeSlots slots taken flags → IsFree flags x → AreSlots slots taken → AreSlots slots (taken ++ x ∷ [])
 one_more slots taken flags x lt are free differ = record {
   below = All-push (λ slot. slot < slots) taken x differ.below lt;
   different = all_pairs_push (λ slot other. slot ≢ other) taken x differ.different ((are.free x lt).0 free);

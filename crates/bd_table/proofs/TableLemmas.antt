@@ -11,7 +11,7 @@ use Rattle.bd_wire.specs.Text.{zeros, AreZeros}
 use Rattle.bd_wire.specs.Reading.{Unread, Reads}
 use Rattle.bd_wire.proofs.NumberLemmas.{length-be, IsPrefixFree-be}
 use Rattle.bd_wire.proofs.ReadingLemmas.{Reads-append}
-use Rattle.bd_table.specs.Tables.{IsTable, FitsEntry, FitsHead, entry_bytes, head_bytes, magic, table_bytes}
+use Rattle.bd_table.specs.Tables.{IsTable, FitsTableEntry, FitsTableHead, table_entry, table_head, table_magic, table_bytes}
 use Rattle.bd_table.specs.declared.table.Table.{Table}
 use Rattle.bd_table.specs.declared.table.TableEntry.{TableEntry}
 
@@ -40,21 +40,21 @@ one_magic m n c x r c' x' r' a b same e =
     (sym (fields_in_order m c x r a) ∙ e ∙ fields_in_order n c' x' r' b)).0
 
 -- heads of numbers that fit are prefix-free
-heads_alone : (c x r c' x' r' : ℕ) (a b : List ℕ) → FitsHead c x r → FitsHead c' x' r' → head_bytes c x r ++ a ≡ head_bytes c' x' r' ++ b
+heads_alone : (c x r c' x' r' : ℕ) (a b : List ℕ) → FitsTableHead c x r → FitsTableHead c' x' r' → table_head c x r ++ a ≡ table_head c' x' r' ++ b
     → (c ≡ c') × (x ≡ x') × (r ≡ r') × (a ≡ b)
 heads_alone c x r c' x' r' a b fits fits' e =
-    let r0 = fronts_alone magic magic (be w64 c ++ (be w64 x ++ (be w64 r ++ a))) (be w64 c' ++ (be w64 x' ++ (be w64 r' ++ b))) refl
-    (sym (fields_in_order magic c x r a) ∙ e ∙ fields_in_order magic c' x' r' b) in
+    let r0 = fronts_alone table_magic table_magic (be w64 c ++ (be w64 x ++ (be w64 r ++ a))) (be w64 c' ++ (be w64 x' ++ (be w64 r' ++ b))) refl
+    (sym (fields_in_order table_magic c x r a) ∙ e ∙ fields_in_order table_magic c' x' r' b) in
     let r1 = IsPrefixFree-be w64 c c' (be w64 x ++ (be w64 r ++ a)) (be w64 x' ++ (be w64 r' ++ b)) fits.0 fits'.0 r0.1 in
     let r2 = IsPrefixFree-be w64 x x' (be w64 r ++ a) (be w64 r' ++ b) fits.1 fits'.1 r1.1 in
     let r3 = IsPrefixFree-be w64 r r' a b fits.2 fits'.2 r2.1 in
     (r1.0, r2.0, r3.0, r3.1)
 
 -- an entry takes 24 bytes
-pub length-entry : (e : TableEntry) → length (entry_bytes e) ≡ 24
+pub length-entry : (e : TableEntry) → length (table_entry e) ≡ 24
 length-entry e = simp (length-append, length-be) (omega arith)
 
-entry_in_order : (e : TableEntry) (x : List ℕ) → entry_bytes e ++ x ≡ be w64 e.id ++ (be w64 e.refs ++ (be w32 e.slot ++ (be w32 e.level ++ x)))
+entry_in_order : (e : TableEntry) (x : List ℕ) → table_entry e ++ x ≡ be w64 e.id ++ (be w64 e.refs ++ (be w32 e.slot ++ (be w32 e.level ++ x)))
 entry_in_order e x = simp append_assoc refl
 
 made : ℕ → ℕ → ℕ → ℕ → TableEntry
@@ -65,7 +65,7 @@ unfolding made
 is_made e = refl
 
 -- entries are prefix-free
-pub IsPrefixFree-entry : IsPrefixFree FitsEntry entry_bytes
+pub IsPrefixFree-entry : IsPrefixFree FitsTableEntry table_entry
 IsPrefixFree-entry a b x y fa fb e =
     let all = sym (entry_in_order a x) ∙ e ∙ entry_in_order b y in
     let r0 = IsPrefixFree-be w64 a.id b.id (be w64 a.refs ++ (be w32 a.slot ++ (be w32 a.level ++ x))) (be w64 b.refs ++ (be w32 b.slot ++ (be w32 b.level ++ y))) fa.0 fb.0 all in
@@ -83,60 +83,60 @@ IsPrefixFree-entry a b x y fa fb e =
 abbrev pub zero_count : ℕ → Table → ℕ
 zero_count taken t = slot_size * taken - (32 + 24 * length t.entries)
 
-table_in_order : (taken : ℕ) (t : Table) → table_bytes taken t ≡ head_bytes (length t.entries) t.next_id t.root ++ (flat_map entry_bytes t.entries ++ zeros (zero_count taken t))
-table_in_order taken t = append_assoc (head_bytes (length t.entries) t.next_id t.root) (flat_map entry_bytes t.entries) (zeros (zero_count taken t))
+table_in_order : (taken : ℕ) (t : Table) → table_bytes taken t ≡ table_head (length t.entries) t.next_id t.root ++ (flat_map table_entry t.entries ++ zeros (zero_count taken t))
+table_in_order taken t = append_assoc (table_head (length t.entries) t.next_id t.root) (flat_map table_entry t.entries) (zeros (zero_count taken t))
 
 -- the entries of a table fit
-entries_fit : (slots : ℕ) (at : List ℕ) (t : Table) → IsTable slots at t → All FitsEntry t.entries
+entries_fit : (slots : ℕ) (at : List ℕ) (t : Table) → IsTable slots at t → All FitsTableEntry t.entries
 entries_fit slots at t is k d lt =
     let e = is.entries.each k d lt in
     (e.last_id, e.last_refs, e.slot, omega (arith, e.level))
 
 -- so does its head: the root is one of the nodes
-head_fits : (slots : ℕ) (at : List ℕ) (t : Table) → IsTable slots at t → FitsHead (length t.entries) t.next_id t.root
+head_fits : (slots : ℕ) (at : List ℕ) (t : Table) → IsTable slots at t → FitsTableHead (length t.entries) t.next_id t.root
 head_fits slots at t is =
     let r = is.entries.has_root in
     let below : r.1.id < t.next_id = subst (λ (e : TableEntry). e.id < t.next_id) r.3 (is.entries.below_next r.0 r.1 r.2) in
     (omega (arith, is.entries.most), is.last_id, omega (arith, below, r.4.0, is.last_id))
 
-pub length-entries : (entries : List TableEntry) → length (flat_map entry_bytes entries) ≡ 24 * length entries
-length-entries entries = length-items entry_bytes 24 length-entry entries
+pub length-entries : (entries : List TableEntry) → length (flat_map table_entry entries) ≡ 24 * length entries
+length-entries entries = length-items table_entry 24 length-entry entries
 
 -- what a head is followed by in a table is its entries and zeros
-pub head_alone : (slots : ℕ) (at : List ℕ) (count next root : ℕ) (left : List ℕ) (t : Table) → FitsHead count next root → IsTable slots at t
-    → head_bytes count next root ++ left ≡ table_bytes (length at) t
-    → (count ≡ length t.entries) × (next ≡ t.next_id) × (root ≡ t.root) × (left ≡ flat_map entry_bytes t.entries ++ zeros (zero_count (length at) t))
+pub head_alone : (slots : ℕ) (at : List ℕ) (count next root : ℕ) (left : List ℕ) (t : Table) → FitsTableHead count next root → IsTable slots at t
+    → table_head count next root ++ left ≡ table_bytes (length at) t
+    → (count ≡ length t.entries) × (next ≡ t.next_id) × (root ≡ t.root) × (left ≡ flat_map table_entry t.entries ++ zeros (zero_count (length at) t))
 head_alone slots at count next root left t fits is e =
-    heads_alone count next root (length t.entries) t.next_id t.root left (flat_map entry_bytes t.entries ++ zeros (zero_count (length at) t)) fits (head_fits slots at t is)
+    heads_alone count next root (length t.entries) t.next_id t.root left (flat_map table_entry t.entries ++ zeros (zero_count (length at) t)) fits (head_fits slots at t is)
     (e ∙ table_in_order (length at) t)
 
 -- without a head there is no table
-pub no_head : (bytes : List ℕ) (taken : ℕ) (t : Table) → ((count next root : ℕ) (rest : List ℕ) → bytes ≢ head_bytes count next root ++ rest) → bytes ≢ table_bytes taken t
+pub no_head : (bytes : List ℕ) (taken : ℕ) (t : Table) → ((count next root : ℕ) (rest : List ℕ) → bytes ≢ table_head count next root ++ rest) → bytes ≢ table_bytes taken t
 no_head bytes taken t none e =
-    none (length t.entries) t.next_id t.root (flat_map entry_bytes t.entries ++ zeros (zero_count taken t)) (e ∙ table_in_order taken t)
+    none (length t.entries) t.next_id t.root (flat_map table_entry t.entries ++ zeros (zero_count taken t)) (e ∙ table_in_order taken t)
 
 -- too few bytes for the entries are left after no table's head
-pub no_entries : (taken count : ℕ) (left : List ℕ) (t : Table) → count ≡ length t.entries → left ≡ flat_map entry_bytes t.entries ++ zeros (zero_count taken t)
+pub no_entries : (taken count : ℕ) (left : List ℕ) (t : Table) → count ≡ length t.entries → left ≡ flat_map table_entry t.entries ++ zeros (zero_count taken t)
     → length left < 24 * count → ⊥
 no_entries taken count left t same e short =
-    omega (arith, same, short, ap length e, length-append (flat_map entry_bytes t.entries) (zeros (zero_count taken t)), length-entries t.entries)
+    omega (arith, same, short, ap length e, length-append (flat_map table_entry t.entries) (zeros (zero_count taken t)), length-entries t.entries)
 
 -- as many entries as the table has are those, and only zeros follow them
-pub entries_alone : (slots : ℕ) (at : List ℕ) (entries : List TableEntry) (left : List ℕ) (t : Table) → All FitsEntry entries → IsTable slots at t → length entries ≡ length t.entries
-    → flat_map entry_bytes entries ++ left ≡ flat_map entry_bytes t.entries ++ zeros (zero_count (length at) t) → (entries ≡ t.entries) × AreZeros left
+pub entries_alone : (slots : ℕ) (at : List ℕ) (entries : List TableEntry) (left : List ℕ) (t : Table) → All FitsTableEntry entries → IsTable slots at t → length entries ≡ length t.entries
+    → flat_map table_entry entries ++ left ≡ flat_map table_entry t.entries ++ zeros (zero_count (length at) t) → (entries ≡ t.entries) × AreZeros left
 entries_alone slots at entries left t fits is count e =
     let rest = zeros (zero_count (length at) t) in
-    let same = items_alone FitsEntry entry_bytes IsPrefixFree-entry entries t.entries left rest count fits (entries_fit slots at t is) e in
+    let same = items_alone FitsTableEntry table_entry IsPrefixFree-entry entries t.entries left rest count fits (entries_fit slots at t is) e in
     (same.0, same.1 ∙ ap zeros (sym (ap length same.1 ∙ length-replicate {A = ℕ} (zero_count (length at) t) 0)))
 
 -- as many bytes as the slots have, with a head, as many entries as it says and zeros, are a table
 pub table_whole : (taken : ℕ) (t : Table) (bytes left after : List ℕ) → length bytes ≡ slot_size * taken
-    → bytes ≡ head_bytes (length t.entries) t.next_id t.root ++ left → left ≡ flat_map entry_bytes t.entries ++ after → AreZeros after → bytes ≡ table_bytes taken t
+    → bytes ≡ table_head (length t.entries) t.next_id t.root ++ left → left ≡ flat_map table_entry t.entries ++ after → AreZeros after → bytes ≡ table_bytes taken t
 table_whole taken t bytes left after whole front entries rest =
-    let head = head_bytes (length t.entries) t.next_id t.root in
-    let all = flat_map entry_bytes t.entries in
+    let head = table_head (length t.entries) t.next_id t.root in
+    let all = flat_map table_entry t.entries in
     let count : length after ≡ zero_count taken t =
-    omega (arith, whole, ap length front, ap length entries, length-append head left, length-append all after, length-entries t.entries, length-fields magic (length t.entries) t.next_id t.root) in
+    omega (arith, whole, ap length front, ap length entries, length-append head left, length-append all after, length-entries t.entries, length-fields table_magic (length t.entries) t.next_id t.root) in
     front ∙ ap (λ l. head ++ l) (entries ∙ ap (λ z. all ++ z) (rest ∙ ap zeros count)) ∙ sym (table_in_order taken t)
 
 table_of : ℕ → ℕ → List TableEntry → Table
@@ -155,7 +155,7 @@ same_table a b next root entries =
 -- one encoding is of one table
 pub one_table : (slots : ℕ) (at : List ℕ) (a b : Table) → IsTable slots at a → IsTable slots at b → table_bytes (length at) a ≡ table_bytes (length at) b → a ≡ b
 one_table slots at a b is_a is_b e =
-    let left = flat_map entry_bytes a.entries ++ zeros (zero_count (length at) a) in
+    let left = flat_map table_entry a.entries ++ zeros (zero_count (length at) a) in
     let head = head_alone slots at (length a.entries) a.next_id a.root left b (head_fits slots at a is_a) is_b (sym (table_in_order (length at) a) ∙ e) in
     let entries = entries_alone slots at a.entries (zeros (zero_count (length at) a)) b (entries_fit slots at a is_a) is_b head.0 head.3 in
     same_table a b head.1 head.2 entries.0

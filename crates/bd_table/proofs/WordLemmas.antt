@@ -12,7 +12,7 @@ use Rattle.bd_wire.specs.Text.{zeros}
 use Rattle.bd_wire.specs.Writing.{written, room, Puts}
 use Rattle.bd_wire.specs.declared.writer.Out.{Out}
 use Rattle.bd_wire.proofs.NumberLemmas.{length-be}
-use Rattle.bd_table.specs.Tables.{entry_bytes, head_bytes, magic, table_bytes}
+use Rattle.bd_table.specs.Tables.{table_entry, table_head, table_magic, table_bytes}
 use Rattle.bd_table.specs.Words.{entry_words, entry_word, words, word_at, part}
 use Rattle.bd_table.specs.declared.table.Table.{Table}
 use Rattle.bd_table.specs.declared.table.TableEntry.{TableEntry}
@@ -22,7 +22,7 @@ use Rattle.bd_table.proofs.TableLemmas.{zero_count, length-fields, length-entrie
 abbrev joined : List (List ℕ) → List ℕ
 joined ws = flat_map (λ w. w) ws
 
-joined_entries : (entries : List TableEntry) → joined (flat_map entry_words entries) ≡ flat_map entry_bytes entries
+joined_entries : (entries : List TableEntry) → joined (flat_map entry_words entries) ≡ flat_map table_entry entries
 joined_entries [] = refl
 joined_entries (e ∷ es) = simp (joined_entries es, append_assoc) refl
 
@@ -47,7 +47,7 @@ are_words : (t : Table) → AreWords (words t)
 are_words t =
     let P : List ℕ → Type 0 = λ w. length w ≡ 8 in
     let es = flat_map entry_words t.entries in
-    All-cons P magic (be w64 (length t.entries) ∷ be w64 t.next_id ∷ be w64 t.root ∷ es) refl
+    All-cons P table_magic (be w64 (length t.entries) ∷ be w64 t.next_id ∷ be w64 t.root ∷ es) refl
     (All-cons P (be w64 (length t.entries)) (be w64 t.next_id ∷ be w64 t.root ∷ es) (length-be w64 (length t.entries))
     (All-cons P (be w64 t.next_id) (be w64 t.root ∷ es) (length-be w64 t.next_id)
     (All-cons P (be w64 t.root) es (length-be w64 t.root) (entries_are_words t.entries))))
@@ -73,14 +73,14 @@ word_in (w ∷ ws) z (suc i) are fits =
 -- so long is the encoding at least
 pub length-table : (taken : ℕ) (t : Table) → 65536 * taken ≤ length (table_bytes taken t)
 length-table taken t =
-    let head = head_bytes (length t.entries) t.next_id t.root in
-    let all = flat_map entry_bytes t.entries in
+    let head = table_head (length t.entries) t.next_id t.root in
+    let all = flat_map table_entry t.entries in
     omega (
       arith,
       length-append (head ++ all) (zeros (zero_count taken t)),
       length-append head all,
       length-entries t.entries,
-      length-fields magic (length t.entries) t.next_id t.root,
+      length-fields table_magic (length t.entries) t.next_id t.root,
       length-replicate {A = ℕ} (zero_count taken t) 0,
     )
 

@@ -10,10 +10,10 @@ use Rattle.bd_slots.specs.Layout.{AreSlots, image_blocks}
 use Rattle.bd_device.specs.Blocks.{Image, HasBlocks, with_block}
 use Rattle.bd_device.specs.Moments.{TornAt}
 use Rattle.bd_wire.specs.Text.{zeros}
-use Rattle.bd_table.specs.Tables.{IsTable, entry_bytes, head_bytes, magic, table_bytes}
+use Rattle.bd_table.specs.Tables.{IsTable, table_entry, table_head, table_magic, table_bytes}
 use Rattle.bd_table.specs.Words.{part}
 use Rattle.bd_table.specs.declared.table.Table.{Table}
-use Rattle.bd_table.specs.Image.{HoldsTable, StaysElsewhere, IsBeforeElsewhere, block_total, first_bytes, bytes_in, table_block}
+use Rattle.bd_table.specs.Image.{HoldsTable, block_total, first_bytes, bytes_in, table_block}
 use Rattle.bd_table.proofs.BlockLemmas.{first_bytes_more, inside}
 use Rattle.bd_table.proofs.TableLemmas.{zero_count, length-entries, length-fields}
 
@@ -66,43 +66,12 @@ all_written : (known : Option Image) (at : List ℕ) (bytes : List ℕ) → leng
 all_written None at bytes whole parts = tt
 all_written (Some image) at bytes whole parts = all_parts image at bytes (block_total at) parts ∙ take_all (4096 * block_total at) bytes (omega (arith, whole))
 
-pub elsewhere_same : (known : Option Image) (at : List ℕ) → StaysElsewhere at known known
-elsewhere_same None at = tt
-elsewhere_same (Some image) at = record { size = refl; others = λ b _. refl }
-
--- a write to a block of the table leaves the others
-pub elsewhere_more : (old known new : Option Image) (at : List ℕ) (k : ℕ) (bytes : List ℕ) → k < block_total at → StaysElsewhere at old known
-    → new ≡ with_block (table_block at k) bytes known → StaysElsewhere at old new
-elsewhere_more None None new at k bytes lt stays e = subst (StaysElsewhere at None) (sym e) tt
-elsewhere_more (Some old) (Some image) new at k bytes lt stays e = subst (StaysElsewhere at (Some old)) (sym e) (record {
-  size = length-set image (table_block at k) bytes ∙ stays.size;
-  others = λ b elsewhere. get_or-set_other image (table_block at k) b bytes [] (elsewhere k lt) ∙ stays.others b elsewhere;
-})
-elsewhere_more None (Some image) new at k bytes lt stays e = absurd stays
-elsewhere_more (Some old) None new at k bytes lt stays e = absurd stays
-
-pub before_self : (at : List ℕ) (before : Image → Type 0) (d : Image) → before d → IsBeforeElsewhere at before d
-before_self at before d was = (d, was, record { size = refl; others = λ b _. refl })
-
-pub torn_elsewhere : (at : List ℕ) (k : ℕ) (before left : Image → Type 0) → k < block_total at → ((image : Image) → left image → IsBeforeElsewhere at before image)
-    → (c : Image) → TornAt (table_block at k) left c → IsBeforeElsewhere at before c
-torn_elsewhere at k before left lt was c (d, there, bytes, whole, e) =
-    let old = was d there in
-    subst (IsBeforeElsewhere at before) (sym e) (
-      old.0,
-      old.1,
-      record {
-        size = length-set d (table_block at k) bytes ∙ old.2.size;
-        others = λ b elsewhere. get_or-set_other d (table_block at k) b bytes [] (elsewhere k lt) ∙ old.2.others b elsewhere;
-      },
-    )
-
 -- a table's encoding has as many bytes as its slots
 length-whole : (slots : ℕ) (at : List ℕ) (t : Table) → IsTable slots at t → length (table_bytes (length at) t) ≡ 65536 * length at
 length-whole slots at t is =
     let taken = length at in
-    let head = head_bytes (length t.entries) t.next_id t.root in
-    let all = flat_map entry_bytes t.entries in
+    let head = table_head (length t.entries) t.next_id t.root in
+    let all = flat_map table_entry t.entries in
     let fits : 32 + 24 * length t.entries ≤ 65536 * taken = omega (arith, is.place) in
     omega (
       arith,
@@ -110,7 +79,7 @@ length-whole slots at t is =
       length-append (head ++ all) (zeros (zero_count taken t)),
       length-append head all,
       length-entries t.entries,
-      length-fields magic (length t.entries) t.next_id t.root,
+      length-fields table_magic (length t.entries) t.next_id t.root,
       length-replicate {A = ℕ} (zero_count taken t) 0,
     )
 

@@ -1,4 +1,3 @@
-pub mod Cause
 pub mod Image
 pub mod Tables
 pub mod Words

@@ -2,9 +2,10 @@
 use Rattle.std.specs.Prelude.{◌*◌, ◌++◌, ℕ, List, [], ◌∷◌, length, take, drop, slice_index_or}
 use Rattle.std.specs.Int.{w32, w64}
 use Rattle.std.specs.List.{flat_map}
+use Rattle.bd_limits.specs.Limits.{block_size}
 use Rattle.bd_wire.specs.Numbers.{be}
 use Rattle.bd_wire.specs.Text.{zeros}
-use Rattle.bd_table.specs.Tables.{magic, table_bytes}
+use Rattle.bd_table.specs.Tables.{table_magic, table_bytes}
 use Rattle.bd_table.specs.declared.table.Table.{Table}
 use Rattle.bd_table.specs.declared.table.TableEntry.{TableEntry}
 
@@ -18,7 +19,7 @@ entry_word entries index = slice_index_or (flat_map entry_words entries) index (
 
 -- a table's words
 abbrev pub words : Table → List (List ℕ)
-words t = magic ∷ be w64 (length t.entries) ∷ be w64 t.next_id ∷ be w64 t.root
+words t = table_magic ∷ be w64 (length t.entries) ∷ be w64 t.next_id ∷ be w64 t.root
     ∷ flat_map entry_words t.entries
 
 -- one of them, and zeros after the last
@@ -27,4 +28,4 @@ word_at t index = slice_index_or (words t) index (zeros 8)
 
 -- the k-th block of a table's encoding
 abbrev pub part : ℕ → Table → ℕ → List ℕ
-part taken t k = take 4096 (drop (4096 * k) (table_bytes taken t))
+part taken t k = take block_size (drop (block_size * k) (table_bytes taken t))

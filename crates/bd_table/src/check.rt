@@ -3,7 +3,7 @@
 ghost use Rattle.std.specs.Prelude.{◌≡◌, ◌↔◌, ◌<◌, ◌≤◌, ◌++◌, length, All, AllPairs, Any, IsTrue, IfOk};
 ghost use Rattle.bd_limits.specs.Limits.{slot_limit};
 ghost use Rattle.bd_slots.specs.Layout.{AreSlots, table_length};
-ghost use Rattle.bd_table.specs.Tables.{AreEntries, AreFree, IsEntry, IsRoot, IsTable, slots_of};
+ghost use Rattle.bd_table.specs.Tables.{AreTableEntries, AreFreeSlots, IsTableEntry, IsRoot, IsTable, slots_of};
 
 use crate::{Table, TableEntry};
 use bd_limits::{MAX_LEVEL, MAX_SLOTS};
@@ -29,7 +29,7 @@ impl Table {
 
 // Whether they are the entries of a table with this next id and this root.
 fn are_entries(next_id: u64, root: u64, entries: &[TableEntry]) -> bool
-    ensures { IsTrue result ↔ AreEntries next_id root entries.now }
+    ensures { IsTrue result ↔ AreTableEntries next_id root entries.now }
 {
     !entries.is_empty()
         && entries.len() <= MAX_SLOTS as usize
@@ -41,7 +41,7 @@ fn are_entries(next_id: u64, root: u64, entries: &[TableEntry]) -> bool
 // Whether each entry is one by itself, with an id below the next one.
 fn are_below(next_id: u64, entries: &[TableEntry]) -> bool
     ensures each { IsTrue result
-        ↔ (All IsEntry entries.now × All (λ e. e.id < next_id) entries.now) }
+        ↔ (All IsTableEntry entries.now × All (λ e. e.id < next_id) entries.now) }
 {
     for entry in entries {
         if !is_entry(*entry) || entry.id >= next_id {
@@ -53,7 +53,7 @@ fn are_below(next_id: u64, entries: &[TableEntry]) -> bool
 
 // Whether it is an entry by itself.
 fn is_entry(entry: TableEntry) -> bool
-    ensures { IsTrue result ↔ IsEntry entry }
+    ensures { IsTrue result ↔ IsTableEntry entry }
 {
     entry.id >= 1 && entry.refs >= 1 && entry.level <= MAX_LEVEL
 }
@@ -104,7 +104,7 @@ fn slots_differ(
 // The slots of an image of this many that aren't taken.
 fn free_beside(alloc: Global, slots: u32, taken: &[u32]) -> Result<SlotSet, AllocError>
     requires { AreSlots slots taken.now }
-    ensures { IfOk result (λ free. AreFree slots taken.now free) }
+    ensures { IfOk result (λ free. AreFreeSlots slots taken.now free) }
 {
     let mut free = SlotSet::new(alloc, slots)?;
     for slot in taken {

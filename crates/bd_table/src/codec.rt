@@ -5,7 +5,7 @@ ghost use Rattle.std.specs.List.{flat_map};
 ghost use Rattle.bd_limits.specs.Limits.{slot_size};
 ghost use Rattle.bd_slots.specs.Layout.{AreSlots};
 ghost use Rattle.bd_wire.specs.Reading.{Reads};
-ghost use Rattle.bd_table.specs.Tables.{FitsEntry, FitsHead, IsReadAs, entry_bytes, head_bytes, magic};
+ghost use Rattle.bd_table.specs.Tables.{FitsTableEntry, FitsTableHead, IsTableIn, table_entry, table_head, table_magic};
 
 use crate::{Table, TableEntries, TableEntry};
 use bd_wire::{Cursor, Short};
@@ -34,7 +34,7 @@ impl Table {
         requires differ { AreSlots slots at.now }
         requires whole { length bytes.now ≡ slot_size * length at.now }
         requires some { 1 ≤ length at.now }
-        ensures { IfOk result (λ found. IsReadAs slots at.now bytes.now found) }
+        ensures { IfOk result (λ found. IsTableIn slots at.now bytes.now found) }
     {
         let mut cursor = Cursor::new(bytes);
         let head = match read_head(&mut cursor) {
@@ -63,11 +63,11 @@ impl Table {
 #[tactic(auto, using(bd_wire::proofs::WritingLemmas::writing))]
 fn read_head(cursor: &mut Cursor) -> Result<Option<Head>, Short>
     ensures found { IfOk result (λ found. IfSome found (λ head. Reads cursor.old cursor.new
-        (head_bytes head.count head.next_id head.root))) }
+        (table_head head.count head.next_id head.root))) }
     ensures fits { IfOk result (λ found. IfSome found
-        (λ head. FitsHead head.count head.next_id head.root)) }
+        (λ head. FitsTableHead head.count head.next_id head.root)) }
     ensures none { IfOk result (λ found. IfNone found ((count next_id root : ℕ) (rest : List ℕ)
-        → cursor.old.left ≢ head_bytes count next_id root ++ rest)) }
+        → cursor.old.left ≢ table_head count next_id root ++ rest)) }
     ensures short { OnErr result (length cursor.old.left < 32) }
 {
     let magic = cursor.bytes(MAGIC.len())?;
@@ -81,7 +81,7 @@ fn read_head(cursor: &mut Cursor) -> Result<Option<Head>, Short>
 
 // Whether these are the first bytes of a table.
 fn is_magic(bytes: &[u8]) -> bool
-    ensures { IsTrue result ↔ (bytes.now ≡ magic) }
+    ensures { IsTrue result ↔ (bytes.now ≡ table_magic) }
 {
     bytes == MAGIC.as_slice()
 }
@@ -93,9 +93,9 @@ fn read_entries(
     count: u64,
 ) -> Result<Option<Vec<TableEntry>>, AllocError>
     ensures read { IfOk result (λ found. IfSome found (λ entries.
-        Reads cursor.old cursor.new (flat_map entry_bytes entries.items))) }
+        Reads cursor.old cursor.new (flat_map table_entry entries.items))) }
     ensures count { IfOk result (λ found. IfSome found (λ entries. length entries.items ≡ count)) }
-    ensures fits { IfOk result (λ found. IfSome found (λ entries. All FitsEntry entries.items)) }
+    ensures fits { IfOk result (λ found. IfSome found (λ entries. All FitsTableEntry entries.items)) }
     ensures short { IfOk result (λ found. IfNone found (length cursor.old.left < 24 * count)) }
 {
     let mut entries = Vec::new(alloc);
@@ -111,8 +111,8 @@ fn read_entries(
 // Reads an entry.
 #[tactic(auto, using(bd_wire::proofs::WritingLemmas::writing))]
 fn read_entry(cursor: &mut Cursor) -> Result<TableEntry, Short>
-    ensures read { IfOk result (λ entry. Reads cursor.old cursor.new (entry_bytes entry)) }
-    ensures fits { IfOk result FitsEntry }
+    ensures read { IfOk result (λ entry. Reads cursor.old cursor.new (table_entry entry)) }
+    ensures fits { IfOk result FitsTableEntry }
     ensures short { OnErr result (length cursor.old.left < 24) }
 {
     Ok(TableEntry {

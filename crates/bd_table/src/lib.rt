@@ -5,13 +5,12 @@
 
 mod check;
 mod codec;
-mod fault;
 pub mod laws;
 mod reading;
 mod table;
 mod writing;
 
-pub use fault::TableFault;
+pub use bd_device::ImageFault as TableFault;
 pub use reading::read;
 pub use table::{Table, TableEntries, TableEntry};
 pub use writing::write;

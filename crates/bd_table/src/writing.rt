@@ -1,13 +1,14 @@
 //! A table is written to its slots.
 
-ghost use Rattle.std.specs.Prelude.{◌≡◌, ◌<◌, ◌≤◌, ◌*◌, ℕ, List, length, slice_index_or, IfSome, OnOk};
-ghost use Rattle.bd_io.specs.Cause.{HasCause};
+ghost use Rattle.std.specs.Prelude.{◌≡◌, ◌<◌, ◌≤◌, ◌*◌, length, slice_index_or, IfSome, OnOk};
+ghost use Rattle.bd_limits.specs.Limits.{block_size, slot_blocks, table_slot_limit};
 ghost use Rattle.bd_slots.specs.Layout.{IsTablePlace, image_blocks};
-ghost use Rattle.bd_device.specs.Calls.{write_faults_after};
-ghost use Rattle.bd_device.specs.Moments.{Elapses};
+ghost use Rattle.bd_device.specs.Calls.{faults_after};
+ghost use Rattle.bd_device.specs.Changes.{StaysBut, IsBeforeBut};
+ghost use Rattle.bd_device.specs.Device.{left_now, Goes, Stays, FailsLast};
 ghost use Rattle.bd_wire.specs.Text.{zeros};
 ghost use Rattle.bd_wire.specs.Writing.{Puts, room};
-ghost use Rattle.bd_table.specs.Image.{HoldsTable, IsBeforeElsewhere, StaysElsewhere, block_total};
+ghost use Rattle.bd_table.specs.Image.{HoldsTable, IsOfTable};
 ghost use Rattle.bd_table.specs.Tables.{IsTable};
 ghost use Rattle.bd_table.specs.Words.{entry_word, entry_words, part, word_at};
 
@@ -22,24 +23,22 @@ use bd_wire::Out;
 const WORDS: usize = 512;
 
 /// Writes a table to the slots `at` of an image of `slots` slots, without a barrier: until one
-/// succeeds a crash may leave any bytes there. It takes no memory. `Failed` comes only where the
-/// device's count of faults rose or stands at its last value.
+/// succeeds a crash may leave any bytes there. It takes no memory. `Failed` comes only where a
+/// call of the device failed, which is the last one then.
+#[tactic(auto, using(bd_device::proofs::Calls::calls))]
 pub fn write<D: Device>(dev: &mut D, slots: u32, at: &[u32], table: &Table) -> Result<(), Failed>
     requires place { IsTablePlace slots at.now }
     requires table { IsTable slots at.now table.now }
     requires size { D.block_count dev.old ≡ image_blocks slots }
     ensures written { OnOk result (IfSome (D.contents dev.new)
         (λ image. HoldsTable image slots at.now table.now)) }
-    ensures elsewhere { StaysElsewhere at.now (D.contents dev.old) (D.contents dev.new) }
-    ensures time { Elapses (D.call_count dev.old) (D.call_count dev.new)
-        (D.left_since dev.old) (D.left_since dev.new)
-        (IsBeforeElsewhere at.now (D.left_since dev.old (D.call_count dev.old))) }
-    ensures cause { HasCause (D.fault_count dev.old) (D.fault_count dev.new) result }
+    ensures elsewhere { StaysBut (IsOfTable at.now) (D.contents dev.old) (D.contents dev.new) }
+    ensures time { Goes D.Device dev.old dev.new
+        (IsBeforeBut (IsOfTable at.now) (left_now D.Device dev.old)) }
+    ensures cause { FailsLast D.Device dev.old dev.new result }
     ensures write_faults { D.write_fault_count dev.new
-        ≡ write_faults_after (D.write_fault_count dev.old) result }
-    ensures count { D.block_count dev.new ≡ D.block_count dev.old }
-    ensures same_name { (name : List ℕ) → D.is_named dev.old name → D.is_named dev.new name }
-    ensures same_loans { D.loans dev.new ≡ D.loans dev.old }
+        ≡ faults_after (D.write_fault_count dev.old) result }
+    ensures stays { Stays D.Device dev.old dev.new }
 {
     for k in 0..BLOCKS * at.len() {
         dev.write(table_block(at, k), &table.part(at.len(), k))?;
@@ -51,8 +50,8 @@ impl Table {
     // The k-th block of its encoding in this many slots.
     #[tactic(auto, using(crate::proofs::WordLemmas::filled))]
     fn part(&self, taken: usize, k: usize) -> [u8; BLOCK_SIZE]
-        requires inside { k < 16 * taken }
-        requires few { taken < 26 }
+        requires inside { k < slot_blocks * taken }
+        requires few { taken ≤ table_slot_limit }
         ensures { result ≡ part taken self.now k }
     {
         let mut block = [0; BLOCK_SIZE];
@@ -63,9 +62,9 @@ impl Table {
 
     // Writes the k-th block of its encoding.
     fn put_part(&self, out: &mut Out, taken: usize, k: usize)
-        requires inside { k < 16 * taken }
-        requires few { taken < 26 }
-        requires room { length (room out.old) ≡ 4096 }
+        requires inside { k < slot_blocks * taken }
+        requires few { taken ≤ table_slot_limit }
+        requires room { length (room out.old) ≡ block_size }
         ensures { Puts out.old out.new (part taken self.now k) }
     {
         for word in 0..WORDS {

@@ -1,6 +1,6 @@
 use Rattle.std.proofs.Common.{take}
-use Rattle.bd_table.specs.Tables.{AreFree}
+use Rattle.bd_table.specs.Tables.{AreFreeSlots}
 use Rattle.bd_table.proofs.check.free_beside.Given as goal
 
 abbrev pub invariant-loop-slot : goal.invariant-loop-slot
-invariant-loop-slot l = AreFree l.slots (take l.slot-index l.taken) l.free
+invariant-loop-slot l = AreFreeSlots l.slots (take l.slot-index l.taken) l.free

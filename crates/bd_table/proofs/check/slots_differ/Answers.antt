@@ -1,7 +1,7 @@
 use Rattle.std.proofs.Common.{◌++◌, ◌∷◌, [], get_or, take, sym, subst, ◌∙◌, arith}
 use Rattle.std.proofs.lemmas.Bool.{true≢false}
 use Rattle.bd_slots.specs.Layout.{AreSlots}
-use Rattle.bd_table.specs.Tables.{AreFree, slots_of}
+use Rattle.bd_table.specs.Tables.{AreFreeSlots, slots_of}
 use Rattle.bd_table.specs.declared.table.TableEntry.{TableEntry}
 use Rattle.bd_table.proofs.FreeLemmas.{hold_free, one_more, slots_more, next_differs}
 use Rattle.bd_table.proofs.check.slots_differ.Goals as goal
@@ -34,6 +34,6 @@ loop-entry-preserved c =
     let more = sym (slots_more at entries i d c.loop-entry-test.true) in
     let held = hold_free c.args.slots taken c.loop-entry.free x c.if-entry-slots.false c.loop-entry.invariant.free in
     record {
-      free = subst (λ l. AreFree c.args.slots l c.hold.new.self) more (subst (AreFree c.args.slots (taken ++ x ∷ [])) (sym c.hold.ensures) held);
+      free = subst (λ l. AreFreeSlots c.args.slots l c.hold.new.self) more (subst (AreFreeSlots c.args.slots (taken ++ x ∷ [])) (sym c.hold.ensures) held);
       slots = subst (AreSlots c.args.slots) more (one_more c.args.slots taken c.loop-entry.free x c.if-entry-slots.false c.loop-entry.invariant.free (c.is_free.ensures.0 c.if-not-is_free.false) c.loop-entry.invariant.slots);
     }

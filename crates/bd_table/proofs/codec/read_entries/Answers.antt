@@ -1,7 +1,7 @@
 use Rattle.std.proofs.Common.{length, ap, arith, length-append}
 use Rattle.std.specs.List.{flat_map}
 use Rattle.bd_slots.proofs.Items.{length-items}
-use Rattle.bd_table.specs.Tables.{entry_bytes}
+use Rattle.bd_table.specs.Tables.{table_entry}
 use Rattle.bd_table.proofs.TableLemmas.{length-entry}
 use Rattle.bd_table.proofs.codec.read_entries.Goals as goal
 
@@ -14,6 +14,6 @@ returns-in-Err-clause-short c =
       c.in-Err.ensures.short,
       ap length c.loop.invariant.read.front,
       c.loop.invariant.count,
-      length-items entry_bytes 24 length-entry entries,
-      length-append (flat_map entry_bytes entries) c.loop.cursor.left,
+      length-items table_entry 24 length-entry entries,
+      length-append (flat_map table_entry entries) c.loop.cursor.left,
     )

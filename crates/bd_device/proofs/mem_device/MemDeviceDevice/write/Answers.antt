@@ -2,7 +2,7 @@ use Rattle.std.proofs.Common.{◌≡◌, ℕ, ◌<◌, ◌≤◌, All, true, if�
 use Rattle.std.proofs.lemmas.Grind.{common_steps}
 use Rattle.bd_io.specs.Plan.{calls_after}
 use Rattle.bd_device.specs.Blocks.{Image, IsBlock, ChangesOnly}
-use Rattle.bd_device.specs.Calls.{write_faults_after}
+use Rattle.bd_device.specs.Calls.{faults_after}
 use Rattle.bd_device.specs.Moments.{Elapses, TornAt}
 use Rattle.bd_device.specs.Memory.{MemoryDevice, attached_image, attached_size, left_of, recorded, with_record, is_recorded}
 use Rattle.bd_device.specs.contracts.mem_device.MemDevice.{the_view}
@@ -29,7 +29,7 @@ returns-in_err-result-clause-time c =
     let p = c.writing_call-result.new.self in
     let m : MemoryDevice = record d {
       plan = calls_after d.plan c.writing_call-result.result;
-      write_faults = write_faults_after d.write_faults c.writing_call-result.result;
+      write_faults = faults_after d.write_faults c.writing_call-result.result;
     } in
     let fits = subst (λ (m : MemoryDevice). m.size ≤ length m.blocks) c.self.view_is c.self.invariant.0 in
     let whole = subst (λ (m : MemoryDevice). All IsBlock m.blocks) c.self.view_is c.self.invariant.1 in
@@ -64,7 +64,7 @@ returns-clause-time c =
     let p = c.writing_call-result.new.self in
     let m : MemoryDevice = record d {
       plan = calls_after d.plan c.writing_call-result.result;
-      write_faults = write_faults_after d.write_faults c.writing_call-result.result;
+      write_faults = faults_after d.write_faults c.writing_call-result.result;
     } in
     let counted = ap (λ (m : MemoryDevice). m.plan.calls) (sym c.writing_call-result.ensures.after) ∙ c.writing_call-result.ensures.calls.counted in
     let in_size : c.args.b < d.size = attached_in_size d c.args.b c.requires in

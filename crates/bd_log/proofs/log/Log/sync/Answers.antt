@@ -1,9 +1,10 @@
 use Rattle.std.proofs.Common.{◌+◌, ◌*◌, length, take, drop, arith, sym, ap, subst, ◌∙◌, refl}
 use Rattle.bd_device.proofs.Moments.{within}
 use Rattle.bd_log.specs.Batches.{records_in}
-use Rattle.bd_log.specs.Commits.{IsNoneOrWhole, KeepsOutside}
+use Rattle.bd_device.specs.Changes.{StaysBut, IsInRange}
+use Rattle.bd_log.specs.Commits.{IsNoneOrWhole}
 use Rattle.bd_log.specs.Logs.{LogState, IsSyncing, IsSynced, after_sync}
-use Rattle.bd_log.proofs.Images.{keeps_wider}
+use Rattle.bd_device.proofs.Changes.{stays_wider}
 use Rattle.bd_log.proofs.Chains.{waiting_is, syncing, synced, after_some, none_counted}
 use Rattle.bd_log.proofs.Buffers.{fits_half}
 use Rattle.bd_log.proofs.log.Log.sync.Goals as goal
@@ -33,8 +34,9 @@ returns-in_err-write_committed-clause-others g c =
     let room = fits_half l.place l.size l.count blocks l.body.items c.self.invariant.2 c.if-self-eq0.false c.blocks_for-blocks.ensures in
     let old = g.D.Device.contents c.args.dev.now in
     let new = g.D.Device.contents c.write_committed.new.dev in
-    subst (λ (s : LogState). KeepsOutside s.first (s.first + 64) old new) c.self.view_is
-    (keeps_wider (l.first + l.place) (l.first + l.place + blocks + 2) l.first (l.first + 64) old new (omega arith) (omega (arith, room)) c.write_committed.ensures.others)
+    subst (λ (s : LogState). StaysBut (IsInRange s.first (s.first + 64)) old new) c.self.view_is
+    (stays_wider (IsInRange (l.first + l.place) (l.first + l.place + blocks + 2)) (IsInRange l.first (l.first + 64)) old new
+    (λ i is. (omega (arith, is.0), omega (arith, is.1, room))) c.write_committed.ensures.others)
 
 pub returns-in_err-write_committed-clause-idle : goal.returns-in_err-write_committed-clause-idle
 returns-in_err-write_committed-clause-idle g c =
@@ -101,8 +103,9 @@ returns-clause-others g c =
     let room = fits_half l.place l.size l.count blocks l.body.items c.self.invariant.2 c.if-self-eq0.false c.blocks_for-blocks.ensures in
     let old = g.D.Device.contents c.args.dev.now in
     let new = g.D.Device.contents c.write_committed.new.dev in
-    subst (λ (s : LogState). KeepsOutside s.first (s.first + 64) old new) c.self.view_is
-    (keeps_wider (l.first + l.place) (l.first + l.place + blocks + 2) l.first (l.first + 64) old new (omega arith) (omega (arith, room)) c.write_committed.ensures.others)
+    subst (λ (s : LogState). StaysBut (IsInRange s.first (s.first + 64)) old new) c.self.view_is
+    (stays_wider (IsInRange (l.first + l.place) (l.first + l.place + blocks + 2)) (IsInRange l.first (l.first + 64)) old new
+    (λ i is. (omega (arith, is.0), omega (arith, is.1, room))) c.write_committed.ensures.others)
 
 pub returns-clause-idle : goal.returns-clause-idle
 returns-clause-idle g c =

@@ -8,7 +8,7 @@ use Rattle.bd_wire.specs.Text.{zeros}
 use Rattle.bd_wire.specs.Writing.{Puts, room}
 use Rattle.bd_wire.proofs.NumberLemmas.{length-be}
 use Rattle.bd_wire.proofs.WritingLemmas.{Puts-append}
-use Rattle.bd_super.specs.Superblocks.{magic}
+use Rattle.bd_super.specs.Superblocks.{super_magic}
 use Rattle.bd_super.proofs.superblock.Super.put.Goals as goal
 
 pub put_numbers-requires : goal.put_numbers-requires
@@ -59,10 +59,10 @@ returns c =
       c.put_u32-3.ensures.left,
     ) in
     let rest : Puts o7 c.put_zeros.new.self (zeros (4060 - 4 * length s.table)) = subst (λ n. Puts o7 c.put_zeros.new.self (zeros n)) left c.put_zeros.ensures in
-    let two = Puts-append start c.put_bytes.new.self c.put_u32.new.self magic x1 c.put_bytes.ensures.puts c.put_u32.ensures.puts in
-    let three = Puts-append start c.put_u32.new.self c.put_u32-2.new.self (magic ++ x1) x2 two c.put_u32-2.ensures.puts in
-    let four = Puts-append start c.put_u32-2.new.self c.put_u64.new.self (magic ++ x1 ++ x2) x3 three c.put_u64.ensures.puts in
-    let five = Puts-append start c.put_u64.new.self c.put_u64-2.new.self (magic ++ x1 ++ x2 ++ x3) x4 four c.put_u64-2.ensures.puts in
-    let six = Puts-append start c.put_u64-2.new.self o6 (magic ++ x1 ++ x2 ++ x3 ++ x4) x5 five count in
-    let seven = Puts-append start o6 o7 (magic ++ x1 ++ x2 ++ x3 ++ x4 ++ x5) x6 six table in
-    Puts-append start o7 c.put_zeros.new.self (magic ++ x1 ++ x2 ++ x3 ++ x4 ++ x5 ++ x6) (zeros (4060 - 4 * length s.table)) seven rest
+    let two = Puts-append start c.put_bytes.new.self c.put_u32.new.self super_magic x1 c.put_bytes.ensures.puts c.put_u32.ensures.puts in
+    let three = Puts-append start c.put_u32.new.self c.put_u32-2.new.self (super_magic ++ x1) x2 two c.put_u32-2.ensures.puts in
+    let four = Puts-append start c.put_u32-2.new.self c.put_u64.new.self (super_magic ++ x1 ++ x2) x3 three c.put_u64.ensures.puts in
+    let five = Puts-append start c.put_u64.new.self c.put_u64-2.new.self (super_magic ++ x1 ++ x2 ++ x3) x4 four c.put_u64-2.ensures.puts in
+    let six = Puts-append start c.put_u64-2.new.self o6 (super_magic ++ x1 ++ x2 ++ x3 ++ x4) x5 five count in
+    let seven = Puts-append start o6 o7 (super_magic ++ x1 ++ x2 ++ x3 ++ x4 ++ x5) x6 six table in
+    Puts-append start o7 c.put_zeros.new.self (super_magic ++ x1 ++ x2 ++ x3 ++ x4 ++ x5 ++ x6) (zeros (4060 - 4 * length s.table)) seven rest

@@ -4,7 +4,7 @@ use Rattle.std.specs.Int.{w32}
 use Rattle.std.specs.List.{flat_map}
 use Rattle.bd_wire.specs.Numbers.{be, FitsWidth}
 use Rattle.bd_wire.specs.Reading.{Reads}
-use Rattle.bd_super.specs.Superblocks.{FitsHead, head_bytes}
+use Rattle.bd_super.specs.Superblocks.{FitsSuperHead, super_head}
 use Rattle.bd_super.specs.declared.superblock.Super.{Super}
 use Rattle.bd_super.proofs.Bodies.{head_alone, no_head, no_table, table_alone, body_whole, same_fields}
 use Rattle.bd_super.proofs.superblock.Super.read.Goals as goal
@@ -19,10 +19,10 @@ returns-in-Err c = λ s is e. let h = c.in-Err.ensures.short in absurd (omega (a
 pub returns-in_default : goal.returns-in_default
 returns-in_default c = λ s is e.
     let h = c.in-Ok-Some.head in
-    let found : Reads c.new-cursor.result c.read_head.new.cursor (head_bytes h.slots h.epoch h.count h.table) = rw c.in-Ok-Some.field-0-is at c.in-Ok-Some.ensures.found in
+    let found : Reads c.new-cursor.result c.read_head.new.cursor (super_head h.slots h.epoch h.count h.table) = rw c.in-Ok-Some.field-0-is at c.in-Ok-Some.ensures.found in
     let short = rw c.in_default.is at c.in_ok-table.ensures.short in
     let left = c.read_head.new.cursor.left in
-    let fits_head : FitsHead h.slots h.epoch h.count h.table = rw c.in-Ok-Some.field-0-is at c.in-Ok-Some.ensures.fits in
+    let fits_head : FitsSuperHead h.slots h.epoch h.count h.table = rw c.in-Ok-Some.field-0-is at c.in-Ok-Some.ensures.fits in
     let head = head_alone h.slots h.epoch h.count h.table left s fits_head.0 fits_head.1 fits_head.2 fits_head.3 is (sym found.front ∙ c.new-cursor.ensures.left ∙ e) in
     no_table h.table left s head.3 head.4 short
 
@@ -30,12 +30,12 @@ pub returns-then-is_super : goal.returns-then-is_super
 returns-then-is_super c =
     let h = c.in-Ok-Some.head in
     let table = c.in-Some.table.items in
-    let found : Reads c.new-cursor.result c.read_head.new.cursor (head_bytes h.slots h.epoch h.count h.table) = rw c.in-Ok-Some.field-0-is at c.in-Ok-Some.ensures.found in
+    let found : Reads c.new-cursor.result c.read_head.new.cursor (super_head h.slots h.epoch h.count h.table) = rw c.in-Ok-Some.field-0-is at c.in-Ok-Some.ensures.found in
     let numbers : Reads c.read_head.new.cursor c.read_numbers.new.cursor (flat_map (be w32) table) = rw c.in-Some.is at c.in_ok-table.ensures.read in
     let count : length table ≡ h.table = rw c.in-Some.is at c.in_ok-table.ensures.count in
     let s : Super = record { half = c.args.half; slots = h.slots; epoch = h.epoch; count = h.count; table = c.from_vec.result } in
     let made : c.from_vec.result ≡ table = c.from_vec.ensures in
-    let front = subst (λ n. c.args.block.now ≡ head_bytes h.slots h.epoch h.count n ++ c.read_head.new.cursor.left) (sym count ∙ ap length (sym made)) (sym c.new-cursor.ensures.left ∙ found.front) in (
+    let front = subst (λ n. c.args.block.now ≡ super_head h.slots h.epoch h.count n ++ c.read_head.new.cursor.left) (sym count ∙ ap length (sym made)) (sym c.new-cursor.ensures.left ∙ found.front) in (
       refl,
       c.is_super.ensures.0 c.if-is_super.true,
       body_whole s c.args.block.now c.read_head.new.cursor.left c.read_numbers.new.cursor.left c.told-block front
@@ -46,11 +46,11 @@ pub returns-else-rest_is_zero : goal.returns-else-rest_is_zero
 returns-else-rest_is_zero c = λ s is e.
     let h = c.in-Ok-Some.head in
     let table = c.in-Some.table.items in
-    let found : Reads c.new-cursor.result c.read_head.new.cursor (head_bytes h.slots h.epoch h.count h.table) = rw c.in-Ok-Some.field-0-is at c.in-Ok-Some.ensures.found in
+    let found : Reads c.new-cursor.result c.read_head.new.cursor (super_head h.slots h.epoch h.count h.table) = rw c.in-Ok-Some.field-0-is at c.in-Ok-Some.ensures.found in
     let numbers : Reads c.read_head.new.cursor c.read_numbers.new.cursor (flat_map (be w32) table) = rw c.in-Some.is at c.in_ok-table.ensures.read in
     let count : length table ≡ h.table = rw c.in-Some.is at c.in_ok-table.ensures.count in
     let left = c.read_head.new.cursor.left in
-    let fits_head : FitsHead h.slots h.epoch h.count h.table = rw c.in-Ok-Some.field-0-is at c.in-Ok-Some.ensures.fits in
+    let fits_head : FitsSuperHead h.slots h.epoch h.count h.table = rw c.in-Ok-Some.field-0-is at c.in-Ok-Some.ensures.fits in
     let head = head_alone h.slots h.epoch h.count h.table left s fits_head.0 fits_head.1 fits_head.2 fits_head.3 is (sym found.front ∙ c.new-cursor.ensures.left ∙ e) in
     let fits : All (FitsWidth w32) table = rw c.in-Some.is at c.in_ok-table.ensures.fits in
     let same = table_alone table c.read_numbers.new.cursor.left s fits is (count ∙ head.3) (sym numbers.front ∙ head.4) in
