@@ -1,6 +1,6 @@
 //! The graft of what stands under one prefix to another.
 
-ghost use Rattle.std.specs.Prelude.{ℕ, List, IfOk, ◌++◌, ◌-◌, ◌*◌, ◌≡◌, ◌+◌, ◌<◌, ◌≤◌, ◌^◌, length, Some, IfOk, OnOk, OnErr};
+ghost use Rattle.std.specs.Prelude.{ℕ, List, IfOk, IfErr, ◌++◌, ◌-◌, ◌*◌, ◌≡◌, ◌+◌, ◌<◌, ◌≤◌, ◌^◌, length, Some, IfOk, OnOk, OnErr};
 ghost use Rattle.bd_limits.specs.Limits.{key_limit, buffer_limit, level_limit};
 ghost use Rattle.bd_message.specs.KeyMaps.{HasMapCause, CanGraft, IsGrafted};
 ghost use Rattle.bd_node.specs.Nodes.{buffer_size};
@@ -12,9 +12,10 @@ ghost use Rattle.bd_message.specs.Effect.{acts};
 ghost use Rattle.bd_node.specs.Meaning.{at};
 ghost use Rattle.bd_resolve.specs.Following.{target_at, IsShort};
 ghost use Rattle.bd_graft.specs.Laying.{laid, AreLayers};
-ghost use Rattle.bd_graft.specs.Grafting.{graft_messages, root_change, top_made, step_under, step_over, IsReady, IsGrown, IsGraftStep, AreOthersSame, IsWornForGraft};
+ghost use Rattle.bd_graft.specs.Ways.{IsWay, messages_in};
+ghost use Rattle.bd_graft.specs.Grafting.{graft_messages, root_change, top_made, step_under, step_over, IsReady, IsGrown, IsGraftStep, AreOthersSame, IsWornForGraft, IsWornByGraft, OnWorn};
 
-use crate::packing::{Packed, overlay, pack};
+use crate::packing::{Packed, overlay, overlay_count, pack};
 use crate::walking::{Walked, walk};
 use bd_inner::receive;
 use bd_keys::Bytes;
@@ -62,6 +63,8 @@ pub fn graft<S: NodeStore>(
     ensures table { OnOk result (IsGrown (S.table store.old) (S.table store.new)) }
     ensures visits { IfOk result (λ walk. walk.visits
         ≡ S.visit_count store.new - S.visit_count store.old) }
+    ensures rise { IfOk result (λ walk. S.visit_count store.new
+        ≡ visited (S.visit_count store.old) walk.visits) }
     ensures few_visits { S.visit_count store.new ≤ S.visit_count store.old
         + (5 * ((S.table store.old).level (S.table store.old).root + 1) + 2) }
     ensures height { IfOk result (λ walk. walk.height
@@ -72,6 +75,9 @@ pub fn graft<S: NodeStore>(
         → OnErr result (S.nodes store.new ≡ S.nodes store.old) }
     ensures cause { HasMapCause (S.fault_count store.old) (S.fault_count store.new)
         (S.bad store.new) (IsWornForGraft (S.table store.old)) result }
+    ensures worn { S.is_known store.old → IsSound (S.nodes store.old) (S.table store.old)
+        → IfErr result (OnWorn (IsWornByGraft (S.nodes store.old) (S.table store.old)
+        s.now d.now keep)) }
     ensures same_loans { S.loans store.new ≡ S.loans store.old }
 {
     let before = store.visits();
@@ -109,6 +115,9 @@ fn finish<S: NodeStore>(
         → (k : List ℕ) → IsKey k → acts (at (S.nodes store.old)) (laid way.layers.items) k
         (target_at (at (S.nodes store.old)) way.end k)
         ≡ root_at (S.nodes store.old) (S.table store.old) (s.now ++ k) }
+    requires way { S.is_known store.old → IsSound (S.nodes store.old) (S.table store.old)
+        → IsWay (S.nodes store.old) (S.table store.old).root s.now
+        (messages_in way.layers.items) way.end }
     ensures grafted { S.is_known store.old → IsSound (S.nodes store.old) (S.table store.old)
         → OnOk result (IsGrafted (root_at (S.nodes store.old) (S.table store.old)) s.now d.now keep
         (root_at (S.nodes store.new) (S.table store.new))) }
@@ -125,15 +134,20 @@ fn finish<S: NodeStore>(
     ensures err_table { OnErr result (S.table store.new ≡ S.table store.old) }
     ensures err_nodes { S.is_known store.old
         → OnErr result (S.nodes store.new ≡ S.nodes store.old) }
+    ensures rise { OnOk result ((count : ℕ)
+        × (S.visit_count store.new ≡ visited (S.visit_count store.old) count)) }
     ensures few_visits { S.visit_count store.new ≤ S.visit_count store.old
         + ((S.table store.old).level (S.table store.old).root + 2) }
     ensures cause { HasMapCause (S.fault_count store.old) (S.fault_count store.new)
         (S.bad store.new) (IsWornForGraft (S.table store.old)) result }
+    ensures worn { S.is_known store.old → IsSound (S.nodes store.old) (S.table store.old)
+        → IfErr result (OnWorn (IsWornByGraft (S.nodes store.old) (S.table store.old)
+        s.now d.now keep)) }
     ensures same_loans { S.loans store.new ≡ S.loans store.old }
 {
     let Walked { layers, end } = way;
-    let room = layers.len() as u64 + 3;
-    if store.next_id().checked_add(room).is_none() {
+    let count = overlay_count(layers.as_slice(), &end);
+    if store.next_id().checked_add(count).is_none() {
         return Err(MapFault::Worn(Counter::NextId));
     }
     let packed = pack(alloc, &*store, layers.as_slice(), end)?;
@@ -142,6 +156,9 @@ fn finish<S: NodeStore>(
     }
     if node.level() >= MAX_LEVEL {
         return Err(MapFault::Worn(Counter::Level));
+    }
+    if store.next_id().checked_add(count + 1).is_none() {
+        return Err(MapFault::Worn(Counter::NextId));
     }
     put_over(alloc, store, packed, s, d, keep)
 }

@@ -9,5 +9,5 @@ mod walking;
 
 pub use grafting::{Walk, graft};
 pub use layers::Layer;
-pub use packing::{Packed, Stack, pack};
+pub use packing::{Groups, Packed, Stack, overlay_count, pack};
 pub use walking::{Walked, walk};
