@@ -56,7 +56,7 @@ pub fn overlay_count(layers: &[Layer], end: &Option<Target>) -> u64
     requires few { length layers.now < 2 ^ 63 }
     ensures { result ≡ length (overlaid end.now (packs (messages_in layers.now))) }
 {
-    let count = groups(layers).count;
+    let count = count_groups(layers).count;
     if count == 0 && end.is_none() {
         1
     } else {
@@ -65,7 +65,7 @@ pub fn overlay_count(layers: &[Layer], end: &Option<Target>) -> u64
 }
 
 // The groups of the messages of layers, the last of which are the oldest.
-fn groups(layers: &[Layer]) -> Groups
+fn count_groups(layers: &[Layer]) -> Groups
     requires fits { AllByRecursion Fits layers.now }
     requires few { length layers.now < 2 ^ 63 }
     ensures groups { AreGroups (packs (messages_in layers.now)) result }
@@ -75,7 +75,7 @@ fn groups(layers: &[Layer]) -> Groups
     let [layer, rest @ ..] = layers else {
         return Groups { count: 0, size: 0 };
     };
-    grown(groups(rest), layer)
+    grown(count_groups(rest), layer)
 }
 
 // The groups with the messages of one layer more.
