@@ -1,12 +1,11 @@
 //! Replies to commands.
 
-ghost use Rattle.std.specs.Prelude.{◌≡◌, ◌↔◌, [], length, IsTrue};
+ghost use Rattle.std.specs.Prelude.{◌≡◌};
 ghost use Rattle.bd_command.specs.Command.{is_done};
 
 use crate::refusal::Refusal;
-use bd_keys::Bytes;
+use bd_keys::{Bytes, Items};
 use bd_names::Name;
-use std::marker::Model;
 
 /// The bytes that a `read` gives.
 pub type Chunk = Bytes;
@@ -19,50 +18,8 @@ pub struct Listed {
     pub is_dir: bool,
 }
 
-/// The names of a listing, seen as a list. They are made of a `Vec` without taking memory.
-#[derive(Debug, Drop)]
-pub struct Names {
-    items: Vec<Listed>,
-}
-
-impl Model for Names {
-    ghost use Rattle.std.specs.Prelude.{List};
-    ghost use Rattle.bd_command.specs.declared.reply.Listed.{Listed};
-
-    ghost Value = { List Listed };
-
-    ghost view = { λ n. n.items.items };
-}
-
-impl Names {
-    /// The names of a `Vec`.
-    pub fn from_vec(names: Vec<Listed>) -> Names
-        ensures { result ≡ names.items }
-    {
-        Names { items: names }
-    }
-
-    /// The names.
-    pub fn as_slice(&self) -> &[Listed]
-        ensures { result.now ≡ self.now }
-    {
-        self.items.as_slice()
-    }
-
-    /// How many names there are.
-    pub fn len(&self) -> usize
-        ensures { result ≡ length self.now }
-    {
-        self.items.len()
-    }
-
-    /// Whether there are no names.
-    pub fn is_empty(&self) -> bool
-        ensures { IsTrue result ↔ (self.now ≡ []) }
-    {
-        self.items.is_empty()
-    }
-}
+/// The names of a listing.
+pub type Names = Items<Listed>;
 
 /// The names that a `list` gives.
 #[derive(Debug, Drop)]

@@ -4,6 +4,7 @@ ghost use Rattle.std.specs.Prelude.{◌≡◌, ◌+◌, ◌*◌, ◌≤◌, ◌+
 ghost use Rattle.bd_keys.specs.Keys.{IsKey};
 ghost use Rattle.bd_limits.specs.Limits.{key_limit};
 ghost use Rattle.bd_message.specs.KeyMaps.{HasMapCause, NeverWorn};
+ghost use Rattle.bd_node.specs.Frames.{OfSound, OnlyReads, Stays};
 ghost use Rattle.bd_node.specs.declared.node.Edge.{Edge};
 ghost use Rattle.bd_node.specs.Nodes.{level_of, node_at};
 ghost use Rattle.bd_node.specs.Meaning.{at};
@@ -34,25 +35,22 @@ pub fn privatise<S: NodeStore>(
     place: usize,
 ) -> Result<(), MapFault>
     requires can { HasChild (S.table store.old) parent.now place }
-    requires own { S.is_known store.old → IsSound (S.nodes store.old) (S.table store.old)
-        → IsOwn (S.nodes store.old) (S.table store.old) parent.now }
-    ensures flushed { S.is_known store.old → IsSound (S.nodes store.old) (S.table store.old)
-        → OnOk result (IsFlushed (S.nodes store.old) (S.table store.old)
-        (S.nodes store.new) (S.table store.new)) }
-    ensures privatised { S.is_known store.old → IsSound (S.nodes store.old) (S.table store.old)
-        → OnOk result (IsPrivatised (S.nodes store.old) (S.table store.old) parent.now place
-        (S.nodes store.new) (S.table store.new)) }
+    requires own { OfSound S.NodeStore store.old
+        (IsOwn (S.nodes store.old) (S.table store.old) parent.now) }
+    ensures flushed { OfSound S.NodeStore store.old
+        (OnOk result (IsFlushed (S.nodes store.old) (S.table store.old)
+        (S.nodes store.new) (S.table store.new))) }
+    ensures privatised { OfSound S.NodeStore store.old
+        (OnOk result (IsPrivatised (S.nodes store.old) (S.table store.old) parent.now place
+        (S.nodes store.new) (S.table store.new))) }
     ensures table { OnOk result (IsNoHigher (S.table store.old) (S.table store.new)) }
-    ensures known { S.is_known store.old → S.is_known store.new }
-    ensures err_table { OnErr result (S.table store.new ≡ S.table store.old) }
-    ensures err_nodes { S.is_known store.old
-        → OnErr result (S.nodes store.new ≡ S.nodes store.old) }
+    ensures stays { Stays S.NodeStore store.old store.new }
+    ensures err { OnErr result (OnlyReads S.NodeStore store.old store.new) }
     ensures few_visits { (e : Edge) (child : ℕ) → IsEdgeAt parent.now.node.value place e
         → e.child ≡ Some child → S.visit_count store.new
         ≤ S.visit_count store.old + (2 + 17 * (S.table store.old).level child) }
     ensures cause { HasMapCause (S.fault_count store.old) (S.fault_count store.new)
         (S.bad store.new) (IsWornFor (S.table store.old)) result }
-    ensures same_loans { S.loans store.new ≡ S.loans store.old }
 {
     let edge = &edges_of(&parent.node)[place];
     let Some(id) = edge.child else { unreachable!() };
@@ -72,19 +70,15 @@ fn freed<S: NodeStore>(
     requires short { length s.now ≤ key_limit }
     ensures copied { IfOk result (IsCopyOf (S.table store.old) node.now s.now) }
     ensures own { IfOk result (IsNodeOf (S.table store.old) (level_of node.now)) }
-    ensures has { S.is_known store.old → IsSound (S.nodes store.old) (S.table store.old)
-        → IfOk result (λ copy. (k : List ℕ) → IsKey k → node_at (at (S.nodes store.old)) copy k
-        ≡ node_at (at (S.nodes store.old)) node.now (s.now ++ k)) }
+    ensures has { OfSound S.NodeStore store.old
+        (IfOk result (λ copy. (k : List ℕ) → IsKey k → node_at (at (S.nodes store.old)) copy k
+        ≡ node_at (at (S.nodes store.old)) node.now (s.now ++ k))) }
     ensures bytes { IsKey s.now }
-    ensures table { S.table store.new ≡ S.table store.old }
-    ensures known { S.is_known store.old → S.is_known store.new }
-    ensures kept { S.is_known store.old → S.nodes store.new ≡ S.nodes store.old }
-    ensures read { S.reads store.old store.new }
+    ensures left { OnlyReads S.NodeStore store.old store.new }
     ensures cause { HasMapCause (S.fault_count store.old) (S.fault_count store.new)
         (S.bad store.new) NeverWorn result }
     ensures few_visits { S.visit_count store.new
         ≤ S.visit_count store.old + 17 * level_of node.now }
-    ensures same_loans { S.loans store.new ≡ S.loans store.old }
 {
     match node {
         Node::Leaf(entries) => {

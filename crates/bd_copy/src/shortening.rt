@@ -4,6 +4,7 @@ ghost use Rattle.std.specs.Prelude.{◌≡◌, ◌+◌, ◌^◌, ◌<◌, ◌≤
 ghost use Rattle.std.specs.List.{AllByRecursion, AllZip, sum_by};
 ghost use Rattle.bd_keys.specs.Keys.{IsKey};
 ghost use Rattle.bd_message.specs.KeyMaps.{HasMapCause, NeverWorn};
+ghost use Rattle.bd_node.specs.Frames.{OfSound, OnlyReads};
 ghost use Rattle.bd_node.specs.Nodes.{node_at};
 ghost use Rattle.bd_node.specs.Meaning.{at};
 ghost use Rattle.bd_node.specs.Tables.{IsKept, IsTable, IsSound};
@@ -25,19 +26,15 @@ use std::alloc::{AllocError, Global};
 pub fn shorten<S: NodeStore>(alloc: Global, store: &mut S, node: &Node) -> Result<Node, MapFault>
     requires { CanShorten (S.table store.old) node.now }
     ensures shortened { IfOk result (IsShortened (S.table store.old) node.now) }
-    ensures same { S.is_known store.old → IsSound (S.nodes store.old) (S.table store.old)
-        → IfOk result (λ made. (k : List ℕ) → IsKey k
-        → node_at (at (S.nodes store.old)) made k ≡ node_at (at (S.nodes store.old)) node.now k) }
-    ensures table { S.table store.new ≡ S.table store.old }
-    ensures known { S.is_known store.old → S.is_known store.new }
-    ensures kept { S.is_known store.old → S.nodes store.new ≡ S.nodes store.old }
-    ensures read { S.reads store.old store.new }
+    ensures same { OfSound S.NodeStore store.old
+        (IfOk result (λ made. (k : List ℕ) → IsKey k
+        → node_at (at (S.nodes store.old)) made k ≡ node_at (at (S.nodes store.old)) node.now k)) }
+    ensures left { OnlyReads S.NodeStore store.old store.new }
     ensures cause { HasMapCause (S.fault_count store.old) (S.fault_count store.new)
         (S.bad store.new) NeverWorn result }
     ensures few_visits { S.visit_count store.new ≤ S.visit_count store.old
         + (sum_by (λ e. way_visits (S.table store.old) (edge_way e)) (edges_of node.now)
         + sum_by (λ m. way_visits (S.table store.old) (goto_way m)) (buffer_of node.now)) }
-    ensures same_loans { S.loans store.new ≡ S.loans store.old }
 {
     let Node::Inner {
         level,
@@ -66,17 +63,13 @@ fn short_edges<S: NodeStore>(
     requires { AllByRecursion (λ e. IsKeptTarget (S.table store.old) (edge_way e)) edges.now }
     ensures edges { IfOk result (λ made.
         AllZip (IsShortEdge (S.table store.old)) edges.now made.items) }
-    ensures same { S.is_known store.old → IsSound (S.nodes store.old) (S.table store.old)
-        → IfOk result (λ made. AllZip (IsSameEdge (S.nodes store.old)) edges.now made.items) }
-    ensures table { S.table store.new ≡ S.table store.old }
-    ensures known { S.is_known store.old → S.is_known store.new }
-    ensures kept { S.is_known store.old → S.nodes store.new ≡ S.nodes store.old }
-    ensures read { S.reads store.old store.new }
+    ensures same { OfSound S.NodeStore store.old
+        (IfOk result (λ made. AllZip (IsSameEdge (S.nodes store.old)) edges.now made.items)) }
+    ensures left { OnlyReads S.NodeStore store.old store.new }
     ensures cause { HasMapCause (S.fault_count store.old) (S.fault_count store.new)
         (S.bad store.new) NeverWorn result }
     ensures few_visits { S.visit_count store.new ≤ S.visit_count store.old
         + sum_by (λ e. way_visits (S.table store.old) (edge_way e)) edges.now }
-    ensures same_loans { S.loans store.new ≡ S.loans store.old }
 {
     let mut made = Vec::with_capacity(alloc, edges.len())?;
     for edge in edges {
@@ -94,17 +87,13 @@ fn short_messages<S: NodeStore>(
     requires { AllByRecursion (λ m. IsKeptTarget (S.table store.old) (goto_way m)) list.now }
     ensures messages { IfOk result (λ made.
         AllZip (IsShortMessage (S.table store.old)) list.now made.items) }
-    ensures same { S.is_known store.old → IsSound (S.nodes store.old) (S.table store.old)
-        → IfOk result (λ made. AllZip (IsSameMessage (S.nodes store.old)) list.now made.items) }
-    ensures table { S.table store.new ≡ S.table store.old }
-    ensures known { S.is_known store.old → S.is_known store.new }
-    ensures kept { S.is_known store.old → S.nodes store.new ≡ S.nodes store.old }
-    ensures read { S.reads store.old store.new }
+    ensures same { OfSound S.NodeStore store.old
+        (IfOk result (λ made. AllZip (IsSameMessage (S.nodes store.old)) list.now made.items)) }
+    ensures left { OnlyReads S.NodeStore store.old store.new }
     ensures cause { HasMapCause (S.fault_count store.old) (S.fault_count store.new)
         (S.bad store.new) NeverWorn result }
     ensures few_visits { S.visit_count store.new ≤ S.visit_count store.old
         + sum_by (λ m. way_visits (S.table store.old) (goto_way m)) list.now }
-    ensures same_loans { S.loans store.new ≡ S.loans store.old }
 {
     let mut made = Vec::with_capacity(alloc, list.len())?;
     for message in list {
@@ -117,17 +106,13 @@ fn short_messages<S: NodeStore>(
 fn short_edge<S: NodeStore>(alloc: Global, store: &mut S, edge: &Edge) -> Result<Edge, MapFault>
     requires { IsKeptTarget (S.table store.old) (edge_way edge.now) }
     ensures edge { IfOk result (IsShortEdge (S.table store.old) edge.now) }
-    ensures same { S.is_known store.old → IsSound (S.nodes store.old) (S.table store.old)
-        → IfOk result (IsSameEdge (S.nodes store.old) edge.now) }
-    ensures table { S.table store.new ≡ S.table store.old }
-    ensures known { S.is_known store.old → S.is_known store.new }
-    ensures kept { S.is_known store.old → S.nodes store.new ≡ S.nodes store.old }
-    ensures read { S.reads store.old store.new }
+    ensures same { OfSound S.NodeStore store.old
+        (IfOk result (IsSameEdge (S.nodes store.old) edge.now)) }
+    ensures left { OnlyReads S.NodeStore store.old store.new }
     ensures cause { HasMapCause (S.fault_count store.old) (S.fault_count store.new)
         (S.bad store.new) NeverWorn result }
     ensures few_visits { S.visit_count store.new
         ≤ S.visit_count store.old + way_visits (S.table store.old) (edge_way edge.now) }
-    ensures same_loans { S.loans store.new ≡ S.loans store.old }
 {
     let Some(child) = edge.child else {
         return Ok(sent_edge(alloc, edge, None)?);
@@ -144,17 +129,13 @@ fn short_message<S: NodeStore>(
 ) -> Result<Message, MapFault>
     requires { IsKeptTarget (S.table store.old) (goto_way message.now) }
     ensures message { IfOk result (IsShortMessage (S.table store.old) message.now) }
-    ensures same { S.is_known store.old → IsSound (S.nodes store.old) (S.table store.old)
-        → IfOk result (IsSameMessage (S.nodes store.old) message.now) }
-    ensures table { S.table store.new ≡ S.table store.old }
-    ensures known { S.is_known store.old → S.is_known store.new }
-    ensures kept { S.is_known store.old → S.nodes store.new ≡ S.nodes store.old }
-    ensures read { S.reads store.old store.new }
+    ensures same { OfSound S.NodeStore store.old
+        (IfOk result (IsSameMessage (S.nodes store.old) message.now)) }
+    ensures left { OnlyReads S.NodeStore store.old store.new }
     ensures cause { HasMapCause (S.fault_count store.old) (S.fault_count store.new)
         (S.bad store.new) NeverWorn result }
     ensures few_visits { S.visit_count store.new
         ≤ S.visit_count store.old + way_visits (S.table store.old) (goto_way message.now) }
-    ensures same_loans { S.loans store.new ≡ S.loans store.old }
 {
     match message {
         Message::Goto {
@@ -180,19 +161,15 @@ fn short_way<S: NodeStore>(
 ) -> Result<Option<Target>, MapFault>
     requires { IsKept (S.table store.old) child }
     ensures way { IfOk result (IsShortWay (S.table store.old) (target_of (Some child) source.now)) }
-    ensures value { S.is_known store.old → IsSound (S.nodes store.old) (S.table store.old)
-        → IfOk result (λ found. (k : List ℕ) → IsKey k
+    ensures value { OfSound S.NodeStore store.old
+        (IfOk result (λ found. (k : List ℕ) → IsKey k
         → target_at (at (S.nodes store.old)) found k
-        ≡ at (S.nodes store.old) child (source.now ++ k)) }
-    ensures table { S.table store.new ≡ S.table store.old }
-    ensures known { S.is_known store.old → S.is_known store.new }
-    ensures kept { S.is_known store.old → S.nodes store.new ≡ S.nodes store.old }
-    ensures read { S.reads store.old store.new }
+        ≡ at (S.nodes store.old) child (source.now ++ k))) }
+    ensures left { OnlyReads S.NodeStore store.old store.new }
     ensures cause { HasMapCause (S.fault_count store.old) (S.fault_count store.new)
         (S.bad store.new) NeverWorn result }
     ensures few_visits { S.visit_count store.new ≤ S.visit_count store.old
         + way_visits (S.table store.old) (target_of (Some child) source.now) }
-    ensures same_loans { S.loans store.new ≡ S.loans store.old }
 {
     let source = source.clone()?;
     if source.len() <= MAX_KEY {

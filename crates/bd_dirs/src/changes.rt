@@ -3,7 +3,8 @@
 ghost use Rattle.std.specs.Prelude.{◌≡◌, IfOk, OnOk};
 ghost use Rattle.bd_command.specs.declared.Command.TheVariants as command;
 ghost use Rattle.bd_model.specs.Tree.{Tree, IsTree};
-ghost use Rattle.bd_message.specs.KeyMaps.{IsLeft, HasMapCause, NeverWorn};
+ghost use Rattle.bd_message.specs.KeyMaps.{HasMapCause, NeverWorn};
+ghost use Rattle.bd_message.specs.Reads.{IsLeft};
 ghost use Rattle.bd_represent.specs.Represents.{Represents};
 ghost use Rattle.bd_dirs.specs.Plans.{IsPlan, IsNewPlan, IsReady, SendsMessages, IsGraftPlan};
 
@@ -23,7 +24,7 @@ pub fn mkdir<M: KeyMap>(alloc: Global, m: &mut M, path: &Path) -> Result<Plan, M
         → IfOk result (IsPlan (M.has m.old) t (command.Mkdir path.now)) }
     ensures kind { IfOk result SendsMessages }
     ensures ready { IfOk result IsReady }
-    ensures left { IsLeft M.is_known M.has M.room_of M.worn M.reads M.loans m.old m.new }
+    ensures left { IsLeft M.KeyMap m.old m.new }
     ensures cause { HasMapCause (M.fault_count m.old) (M.fault_count m.new)
         (M.bad m.new) NeverWorn result }
 {
@@ -36,7 +37,7 @@ pub fn create<M: KeyMap>(alloc: Global, m: &mut M, path: &Path) -> Result<Plan, 
         → IfOk result (IsPlan (M.has m.old) t (command.Create path.now)) }
     ensures kind { IfOk result SendsMessages }
     ensures ready { IfOk result IsReady }
-    ensures left { IsLeft M.is_known M.has M.room_of M.worn M.reads M.loans m.old m.new }
+    ensures left { IsLeft M.KeyMap m.old m.new }
     ensures cause { HasMapCause (M.fault_count m.old) (M.fault_count m.new)
         (M.bad m.new) NeverWorn result }
 {
@@ -49,7 +50,7 @@ fn make<M: KeyMap>(alloc: Global, m: &mut M, path: &Path, entry: Record) -> Resu
         → IfOk result (IsNewPlan (M.has m.old) t path.now entry) }
     ensures kind { IfOk result SendsMessages }
     ensures ready { IfOk result IsReady }
-    ensures left { IsLeft M.is_known M.has M.room_of M.worn M.reads M.loans m.old m.new }
+    ensures left { IsLeft M.KeyMap m.old m.new }
     ensures cause { HasMapCause (M.fault_count m.old) (M.fault_count m.new)
         (M.bad m.new) NeverWorn result }
 {
@@ -67,7 +68,7 @@ pub fn remove<M: KeyMap>(alloc: Global, m: &mut M, path: &Path) -> Result<Plan, 
         → IfOk result (IsPlan (M.has m.old) t (command.Remove path.now)) }
     ensures kind { IfOk result SendsMessages }
     ensures ready { IfOk result IsReady }
-    ensures left { IsLeft M.is_known M.has M.room_of M.worn M.reads M.loans m.old m.new }
+    ensures left { IsLeft M.KeyMap m.old m.new }
     ensures cause { HasMapCause (M.fault_count m.old) (M.fault_count m.new)
         (M.bad m.new) NeverWorn result }
 {
@@ -91,7 +92,7 @@ pub fn clone_to<M: KeyMap>(alloc: Global, m: &mut M, a: &Path, b: &Path) -> Resu
         → IfOk result (IsPlan (M.has m.old) t (command.Clone a.now b.now)) }
     ensures kind { IfOk result IsGraftPlan }
     ensures ready { IfOk result IsReady }
-    ensures left { IsLeft M.is_known M.has M.room_of M.worn M.reads M.loans m.old m.new }
+    ensures left { IsLeft M.KeyMap m.old m.new }
     ensures cause { HasMapCause (M.fault_count m.old) (M.fault_count m.new)
         (M.bad m.new) NeverWorn result }
 {
@@ -114,7 +115,7 @@ pub fn rename<M: KeyMap>(alloc: Global, m: &mut M, a: &Path, b: &Path) -> Result
         → IfOk result (IsPlan (M.has m.old) t (command.Rename a.now b.now)) }
     ensures kind { IfOk result IsGraftPlan }
     ensures ready { IfOk result IsReady }
-    ensures left { IsLeft M.is_known M.has M.room_of M.worn M.reads M.loans m.old m.new }
+    ensures left { IsLeft M.KeyMap m.old m.new }
     ensures cause { HasMapCause (M.fault_count m.old) (M.fault_count m.new)
         (M.bad m.new) NeverWorn result }
 {

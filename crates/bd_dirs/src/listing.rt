@@ -12,7 +12,8 @@ ghost use Rattle.bd_command.specs.declared.reply.Listed.{Listed};
 ghost use Rattle.bd_model.specs.Tree.{Entry, Tree, IsTree};
 ghost use Rattle.bd_model.specs.Step.{step, children, those_after, listing_of, is_directory};
 ghost use Rattle.bd_message.specs.declared.fault.MapFault.TheVariants as fault;
-ghost use Rattle.bd_message.specs.KeyMaps.{IsNext, IsLeft, HasMapCause, NeverWorn};
+ghost use Rattle.bd_message.specs.KeyMaps.{IsNext, HasMapCause, NeverWorn};
+ghost use Rattle.bd_message.specs.Reads.{IsLeft};
 ghost use Rattle.bd_represent.specs.Represents.{Represents, record_of};
 ghost use Rattle.bd_dirs.specs.Listings.{first_of, lower, key_after};
 
@@ -37,7 +38,7 @@ pub fn list<M: KeyMap>(
         → IfOk result (λ reply.
         reply ≡ (step t (command.List path.now (option_copied after.entry))).1) }
     ensures small { IfOk result IsReply }
-    ensures left { IsLeft M.is_known M.has M.room_of M.worn M.reads M.loans m.old m.new }
+    ensures left { IsLeft M.KeyMap m.old m.new }
     ensures cause { HasMapCause (M.fault_count m.old) (M.fault_count m.new)
         (M.bad m.new) NeverWorn result }
 {
@@ -59,7 +60,7 @@ fn listing<M: KeyMap>(
         → IfOk result (λ listing.
         listing ≡ listing_of (those_after (option_copied after.entry) (children path.now t))) }
     ensures few { IfOk result (λ listing. length listing.names ≤ listing_limit) }
-    ensures left { IsLeft M.is_known M.has M.room_of M.worn M.reads M.loans m.old m.new }
+    ensures left { IsLeft M.KeyMap m.old m.new }
     ensures cause { HasMapCause (M.fault_count m.old) (M.fault_count m.new)
         (M.bad m.new) NeverWorn result }
 {
@@ -89,7 +90,7 @@ fn add_children<M: KeyMap>(
         ≡ nat_lt room (length (those_after (option_copied after.entry) (children path.now t)))) }
     ensures few { IfOk result (λ more.
         length names.new.items ≤ length names.old.items + room) }
-    ensures left { IsLeft M.is_known M.has M.room_of M.worn M.reads M.loans m.old m.new }
+    ensures left { IsLeft M.KeyMap m.old m.new }
     ensures cause { HasMapCause (M.fault_count m.old) (M.fault_count m.new)
         (M.bad m.new) NeverWorn result }
 {
@@ -114,7 +115,7 @@ fn next_child<M: KeyMap>(
     ensures child { M.is_known m.old → (t : Tree) → IsTree t → Represents (M.has m.old) t
         → IfOk result (λ child.
         child ≡ first_of (those_after (option_copied after.entry) (children path.now t))) }
-    ensures left { IsLeft M.is_known M.has M.room_of M.worn M.reads M.loans m.old m.new }
+    ensures left { IsLeft M.KeyMap m.old m.new }
     ensures cause { HasMapCause (M.fault_count m.old) (M.fault_count m.new)
         (M.bad m.new) NeverWorn result }
 {
@@ -153,7 +154,7 @@ fn child_at<M: KeyMap>(
         → IsTrue (list_all is_name_byte (lower after)) → within.now ≡ key_of path
         → IsNext (M.has m.old) (key_after path after) (key_of path) (Some key.now)
         → IfOk result (λ child. child ≡ first_of (those_after after (children path t))) }
-    ensures left { IsLeft M.is_known M.has M.room_of M.worn M.reads M.loans m.old m.new }
+    ensures left { IsLeft M.KeyMap m.old m.new }
     ensures cause { HasMapCause (M.fault_count m.old) (M.fault_count m.new)
         (M.bad m.new) NeverWorn result }
 {
@@ -174,7 +175,7 @@ fn listed<M: KeyMap>(
         → (path : List (List ℕ)) (e : Entry) → within.now ≡ key_of path
         → get t (path ++ name ∷ []) ≡ Some e → IfOk result (λ child.
         child ≡ Some (record { name = name; is_dir = is_directory e })) }
-    ensures left { IsLeft M.is_known M.has M.room_of M.worn M.reads M.loans m.old m.new }
+    ensures left { IsLeft M.KeyMap m.old m.new }
     ensures cause { HasMapCause (M.fault_count m.old) (M.fault_count m.new)
         (M.bad m.new) NeverWorn result }
 {

@@ -7,7 +7,8 @@ ghost use Rattle.bd_command.specs.Command.{IsReply};
 ghost use Rattle.bd_command.specs.declared.Command.TheVariants as command;
 ghost use Rattle.bd_model.specs.Tree.{Tree, IsTree};
 ghost use Rattle.bd_model.specs.Step.{step, absent_refusal, new_refusal, parent_refusal};
-ghost use Rattle.bd_message.specs.KeyMaps.{IsLeft, HasMapCause, NeverWorn};
+ghost use Rattle.bd_message.specs.KeyMaps.{HasMapCause, NeverWorn};
+ghost use Rattle.bd_message.specs.Reads.{IsLeft};
 ghost use Rattle.bd_represent.specs.Represents.{Represents};
 
 use bd_command::{Refusal, Reply};
@@ -22,7 +23,7 @@ pub fn stat<M: KeyMap>(alloc: Global, m: &mut M, path: &Path) -> Result<Reply, M
     ensures reply { M.is_known m.old → (t : Tree) → IsTree t → Represents (M.has m.old) t
         → IfOk result (λ reply. reply ≡ (step t (command.Stat path.now)).1) }
     ensures small { IfOk result IsReply }
-    ensures left { IsLeft M.is_known M.has M.room_of M.worn M.reads M.loans m.old m.new }
+    ensures left { IsLeft M.KeyMap m.old m.new }
     ensures cause { HasMapCause (M.fault_count m.old) (M.fault_count m.new)
         (M.bad m.new) NeverWorn result }
 {
@@ -38,7 +39,7 @@ pub fn absent<M: KeyMap>(alloc: Global, m: &mut M, path: &Path) -> Result<Option
     ensures refusal { M.is_known m.old → (t : Tree) → IsTree t → Represents (M.has m.old) t
         → IfOk result (λ refusal. refusal ≡ absent_refusal (get t path.now)) }
     ensures names { OnOk result (AreNames path.now) }
-    ensures left { IsLeft M.is_known M.has M.room_of M.worn M.reads M.loans m.old m.new }
+    ensures left { IsLeft M.KeyMap m.old m.new }
     ensures cause { HasMapCause (M.fault_count m.old) (M.fault_count m.new)
         (M.bad m.new) NeverWorn result }
 {
@@ -57,7 +58,7 @@ pub fn unmakeable<M: KeyMap>(
     ensures refusal { M.is_known m.old → (t : Tree) → IsTree t → Represents (M.has m.old) t
         → IfOk result (λ refusal. refusal ≡ new_refusal t path.now) }
     ensures names { OnOk result (AreNames path.now) }
-    ensures left { IsLeft M.is_known M.has M.room_of M.worn M.reads M.loans m.old m.new }
+    ensures left { IsLeft M.KeyMap m.old m.new }
     ensures cause { HasMapCause (M.fault_count m.old) (M.fault_count m.new)
         (M.bad m.new) NeverWorn result }
 {
@@ -74,7 +75,7 @@ pub fn unmakeable<M: KeyMap>(
 fn no_parent<M: KeyMap>(alloc: Global, m: &mut M, path: &Path) -> Result<Option<Refusal>, MapFault>
     ensures refusal { M.is_known m.old → (t : Tree) → IsTree t → Represents (M.has m.old) t
         → IfOk result (λ refusal. refusal ≡ parent_refusal (get t path.now)) }
-    ensures left { IsLeft M.is_known M.has M.room_of M.worn M.reads M.loans m.old m.new }
+    ensures left { IsLeft M.KeyMap m.old m.new }
     ensures cause { HasMapCause (M.fault_count m.old) (M.fault_count m.new)
         (M.bad m.new) NeverWorn result }
 {

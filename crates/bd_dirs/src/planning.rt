@@ -4,7 +4,8 @@ ghost use Rattle.std.specs.Prelude.{IsTrue, IfOk};
 ghost use Rattle.bd_command.specs.Command.{writes};
 ghost use Rattle.bd_command.specs.declared.Command.{Command};
 ghost use Rattle.bd_model.specs.Tree.{Tree, IsTree};
-ghost use Rattle.bd_message.specs.KeyMaps.{At, IsLeft, HasMapCause, NeverWorn};
+ghost use Rattle.bd_message.specs.KeyMaps.{At, HasMapCause, NeverWorn};
+ghost use Rattle.bd_message.specs.Reads.{IsLeft};
 ghost use Rattle.bd_represent.specs.Represents.{Represents};
 ghost use Rattle.bd_files.specs.FilePlans as files;
 ghost use Rattle.bd_dirs.specs.Plans.{HasSize, IsPlan, IsReady, SendsMessages, IsPlanKind};
@@ -29,7 +30,7 @@ pub fn plan_command<M: KeyMap>(
         → IfOk result (IsPlan (M.has m.old) t command.now) }
     ensures kind { IfOk result (IsPlanKind command.now) }
     ensures ready { IfOk result IsReady }
-    ensures left { IsLeft M.is_known M.has M.room_of M.worn M.reads M.loans m.old m.new }
+    ensures left { IsLeft M.KeyMap m.old m.new }
     ensures cause { HasMapCause (M.fault_count m.old) (M.fault_count m.new)
         (M.bad m.new) NeverWorn result }
 {

@@ -15,7 +15,9 @@ use Rattle.bd_model.specs.Step.{file_bytes, file_refusal, step, stepped}
 use Rattle.bd_command.specs.declared.Command.TheVariants.{Read}
 use Rattle.bd_command.specs.declared.reply.Reply.TheVariants.{Bytes}
 use Rattle.bd_message.specs.declared.fault.Counter.{Counter}
-use Rattle.bd_message.specs.KeyMaps.{At, IsLeft}
+use Rattle.bd_message.specs.KeyMaps.{At}
+use Rattle.bd_message.specs.Reads.{IsLeft}
+use Rattle.bd_message.specs.declared.map.KeyMap.{Ghosts}
 use Rattle.bd_represent.specs.Represents.{stored, HasBytes, Represents}
 
 -- a byte of a block, where it is extended far enough
@@ -79,9 +81,9 @@ ends off end place past within none = by (cases_lt off end)
     by (inr over) = omega (arith, none over)
 
 -- what two reads leave, one after the other, a read leaves
-pub left_both : {M : Type 0} (is_known : M → Type 0) (has : M → At) (room_of : M → ℕ) (worn : M → Counter → Type 0) (reads : M → M → Type 0) (loans : M → List ℕ) → ((a b c : M) → reads a b → reads b c → reads a c)
-    → (a b c : M) → IsLeft is_known has room_of worn reads loans a b → IsLeft is_known has room_of worn reads loans b c → IsLeft is_known has room_of worn reads loans a c
-left_both is_known has room_of worn reads loans both a b c first second =
+pub left_both : {M : Type 0} (g : Ghosts M) → ((a b c : M) → g.reads a b → g.reads b c → g.reads a c)
+    → (a b c : M) → IsLeft g a b → IsLeft g b c → IsLeft g a c
+left_both g both a b c first second =
     record {
       known = λ k. second.known (first.known k);
       kept = λ k key. second.kept (first.known k) key ∙ first.kept k key;

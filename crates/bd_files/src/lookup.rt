@@ -5,7 +5,8 @@ ghost use Rattle.std.specs.Option.{option_map};
 ghost use Rattle.std.specs.FinMap.{get};
 ghost use Rattle.bd_names.specs.Names.{AreNames};
 ghost use Rattle.bd_model.specs.Tree.{Tree, IsTree};
-ghost use Rattle.bd_message.specs.KeyMaps.{IsLeft, HasMapCause, NeverWorn};
+ghost use Rattle.bd_message.specs.KeyMaps.{HasMapCause, NeverWorn};
+ghost use Rattle.bd_message.specs.Reads.{IsLeft};
 ghost use Rattle.bd_represent.specs.Represents.{Represents, record_of};
 ghost use Rattle.bd_files.specs.Files.{IsLenOf};
 
@@ -21,7 +22,7 @@ pub fn record<M: KeyMap>(alloc: Global, m: &mut M, path: &Path) -> Result<Option
     ensures record { M.is_known m.old → (t : Tree) → IsTree t → Represents (M.has m.old) t
         → IfOk result (λ found. found ≡ option_map record_of (get t path.now)) }
     ensures names { OnOk result (AreNames path.now) }
-    ensures left { IsLeft M.is_known M.has M.room_of M.worn M.reads M.loans m.old m.new }
+    ensures left { IsLeft M.KeyMap m.old m.new }
     ensures cause { HasMapCause (M.fault_count m.old) (M.fault_count m.new)
         (M.bad m.new) NeverWorn result }
 {
@@ -41,7 +42,7 @@ pub fn file_len<M: KeyMap>(
     ensures len { M.is_known m.old → (t : Tree) → IsTree t → Represents (M.has m.old) t
         → IfOk result (IsLenOf (get t path.now)) }
     ensures names { OnOk result (AreNames path.now) }
-    ensures left { IsLeft M.is_known M.has M.room_of M.worn M.reads M.loans m.old m.new }
+    ensures left { IsLeft M.KeyMap m.old m.new }
     ensures cause { HasMapCause (M.fault_count m.old) (M.fault_count m.new)
         (M.bad m.new) NeverWorn result }
 {

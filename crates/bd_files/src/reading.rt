@@ -8,7 +8,8 @@ ghost use Rattle.bd_command.specs.Command.{IsReply};
 ghost use Rattle.bd_command.specs.declared.Command.TheVariants as command;
 ghost use Rattle.bd_model.specs.Tree.{Tree, IsTree, FileWith};
 ghost use Rattle.bd_model.specs.Step.{step};
-ghost use Rattle.bd_message.specs.KeyMaps.{IsLeft, HasMapCause, NeverWorn};
+ghost use Rattle.bd_message.specs.KeyMaps.{HasMapCause, NeverWorn};
+ghost use Rattle.bd_message.specs.Reads.{IsLeft};
 ghost use Rattle.bd_represent.specs.Represents.{Represents, stored};
 
 use crate::lookup::file_len;
@@ -32,7 +33,7 @@ pub fn read<M: KeyMap>(
     ensures reply { M.is_known m.old → (t : Tree) → IsTree t → Represents (M.has m.old) t
         → IfOk result (λ reply. reply ≡ (step t (command.Read path.now off len)).1) }
     ensures small { IfOk result IsReply }
-    ensures left { IsLeft M.is_known M.has M.room_of M.worn M.reads M.loans m.old m.new }
+    ensures left { IsLeft M.KeyMap m.old m.new }
     ensures cause { HasMapCause (M.fault_count m.old) (M.fault_count m.new)
         (M.bad m.new) NeverWorn result }
 {
@@ -58,7 +59,7 @@ fn bytes_between<M: KeyMap>(
         → get t path.now ≡ Some (FileWith file) → end ≤ length file
         → IfOk result (λ read. read.items ≡ take (end - off) (drop off file)) }
     ensures length { IfOk result (λ read. length read.items ≤ end - off) }
-    ensures left { IsLeft M.is_known M.has M.room_of M.worn M.reads M.loans m.old m.new }
+    ensures left { IsLeft M.KeyMap m.old m.new }
     ensures cause { HasMapCause (M.fault_count m.old) (M.fault_count m.new)
         (M.bad m.new) NeverWorn result }
 {
@@ -84,7 +85,7 @@ pub fn stored<M: KeyMap>(
 ) -> Result<Vec<u8>, MapFault>
     ensures bytes { M.is_known m.old
         → IfOk result (λ found. found.items ≡ stored (M.has m.old) path.now block) }
-    ensures left { IsLeft M.is_known M.has M.room_of M.worn M.reads M.loans m.old m.new }
+    ensures left { IsLeft M.KeyMap m.old m.new }
     ensures cause { HasMapCause (M.fault_count m.old) (M.fault_count m.new)
         (M.bad m.new) NeverWorn result }
 {

@@ -8,7 +8,8 @@ ghost use Rattle.bd_names.specs.Names.{AreNames};
 ghost use Rattle.bd_command.specs.declared.Command.TheVariants as command;
 ghost use Rattle.bd_model.specs.Tree.{Tree, IsTree, FileWith};
 ghost use Rattle.bd_message.specs.Messages.{IsMessage, IsPlain};
-ghost use Rattle.bd_message.specs.KeyMaps.{At, IsLeft, HasMapCause, NeverWorn};
+ghost use Rattle.bd_message.specs.KeyMaps.{At, HasMapCause, NeverWorn};
+ghost use Rattle.bd_message.specs.Reads.{IsLeft};
 ghost use Rattle.bd_represent.specs.Represents.{Represents};
 ghost use Rattle.bd_represent.specs.Plans.{Makes};
 ghost use Rattle.bd_files.specs.Sends.{growth};
@@ -39,7 +40,7 @@ pub fn plan_write<M: KeyMap>(
     ensures plan { M.is_known m.old → (t : Tree) → IsTree t → Represents (M.has m.old) t
         → IfOk result (IsFilePlan (M.has m.old) t (command.Write path.now off bytes.now)) }
     ensures ready { IfOk result IsReady }
-    ensures left { IsLeft M.is_known M.has M.room_of M.worn M.reads M.loans m.old m.new }
+    ensures left { IsLeft M.KeyMap m.old m.new }
     ensures cause { HasMapCause (M.fault_count m.old) (M.fault_count m.new)
         (M.bad m.new) NeverWorn result }
 {

@@ -20,7 +20,7 @@ use Rattle.bd_flush.specs.Flushed.{IsFlushed, IsWornFor}
 use Rattle.bd_flush.specs.Children.{IsNoHigher}
 use Rattle.bd_flush.specs.Pushes.{IsOwn}
 use Rattle.bd_flush.specs.Carving.{CanCarve, IsCarveStep, IsCarvedAt}
-use Rattle.bd_flush.proofs.Worn.{cause_weaker}
+use Rattle.bd_message.proofs.Causes.{cause_weaker}
 use Rattle.bd_flush.proofs.CarveSteps.{IsOneChange, IsOneChangeOf, IsOneChanged, one_step, one_in_place, one_flushed, one_there, one_no_higher, one_worn}
 
 pub record IsToCarve (t : Table) (parent : Fetched) (place : ℕ) (step : Step) : Type 0 where

@@ -19,7 +19,7 @@ use Rattle.bd_node.specs.Steps.HasRoom.{no_rise}
 use Rattle.bd_node.proofs.Lookup.{each_named, node_has-key}
 use Rattle.bd_node.proofs.Meanings.{at-meets}
 use Rattle.bd_node.proofs.Sound.{sound-levelled, named_lower, kept_there}
-use Rattle.bd_node.proofs.Stepping.{given-new, after-none, given_stays, keeping_meaning}
+use Rattle.bd_node.proofs.Stepping.{touched_in, given-new, after-none, given_stays, keeping_meaning}
 use Rattle.bd_node.proofs.Closing.{stay_above}
 use Rattle.bd_flush.specs.Flushed.{LeadsTo, IsFlushed, IsWornFor}
 use Rattle.bd_flush.specs.Flushed.LeadsTo.{itself}
@@ -144,6 +144,7 @@ one_flushed nodes t p old n new u b =
             node = b.committed.stays id stays ∙ after-none nodes t (change_step t.root p n) id (given_unchanged t.next p id n [] t.root below other);
             meaning = one_has nodes t p old n new u b id stays;
           };
+      touched = touched_in (LeadsTo nodes p) t u (change_step t.root p n) b.after (itself, tt);
       low = omega arith;
       high = omega arith;
     }

@@ -13,7 +13,7 @@ use Rattle.bd_node.specs.Stores.{visited}
 use Rattle.bd_flush.specs.declared.fetching.Fetched.{Fetched}
 use Rattle.bd_flush.specs.Flushed.{IsFlushed, IsWornFor}
 use Rattle.bd_flush.specs.Children.{IsWayTo, CanSplitChild, AreFamily, IsChildStep, IsHalved, IsNoHigher}
-use Rattle.bd_flush.proofs.Worn.{cause_weaker}
+use Rattle.bd_message.proofs.Causes.{cause_weaker, cause_passed}
 use Rattle.bd_flush.proofs.ChildSteps.{IsChildChange, IsChildChangeOf, IsChildChanged, below_step, below_in_place, child_flushed, parent_is, child_is, made_are, no_higher, child_worn}
 use Rattle.bd_inner.proofs.Fitting.{own_shape}
 use Rattle.bd_flush.proofs.ChildSplits.{at_child, IsSplittable, split_change, split_change_of, split_few, split_named, split_size}
@@ -120,4 +120,4 @@ pub split_cause : {T U : Type 0} (before now : ℕ) (bad : ℕ → Type 0) (t : 
 split_cause {T} {U} before now bad t parent place child step e h cause =
     cause_weaker {T = U} before now bad (IsWornBy t step) (IsWornFor t)
     (λ counter worn. child_worn t parent.id h.split.node child.id h.split.half h.split.made (change t parent place child step h) (let few : length h.split.made ≤ 1 = few_made t parent place child step h in omega arith) counter
-    (subst (λ (q : Step). IsWornBy t q counter) h.split.is worn)) (Err e) (record { later = cause.later; failed = cause.failed })
+    (subst (λ (q : Step). IsWornBy t q counter) h.split.is worn)) (Err e) (cause_passed before now bad (IsWornBy t step) e cause)

@@ -23,7 +23,7 @@ use Rattle.bd_node.specs.Steps.HasRoom.{no_rise}
 use Rattle.bd_node.proofs.Lookup.{Agree, each_weaker, each_named, node_has-same, node_has-key, key-is_key}
 use Rattle.bd_node.proofs.Meanings.{at-meets, at-others, at-none}
 use Rattle.bd_node.proofs.Sound.{sound-levelled, named_lower, counted_twice, root_unnamed, kept_there}
-use Rattle.bd_node.proofs.Stepping.{given-old, given-new, moving_meaning, after-none, given_stays}
+use Rattle.bd_node.proofs.Stepping.{touched_in, given-old, given-new, moving_meaning, after-none, given_stays}
 use Rattle.bd_node.proofs.Closing.{stay_above}
 use Rattle.bd_flush.specs.Flushed.{LeadsTo, IsFlushed, IsWornFor}
 use Rattle.bd_flush.specs.Flushed.LeadsTo.{itself, through}
@@ -372,6 +372,7 @@ child_flushed nodes t p old n c h made new u b few =
             node = b.committed.stays id stays ∙ after-none nodes t step id (given_else t.next p c id n h made t.root below not_parent not_child);
             meaning = has_then nodes t p old n c h made new u b id not_child below stays;
           };
+      touched = touched_in (LeadsTo nodes c) t u step b.after (through p c old b.of.there b.of.names_it itself, (itself, tt));
       low = omega arith;
       high = omega arith;
     }

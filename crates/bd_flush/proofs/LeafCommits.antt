@@ -15,7 +15,7 @@ use Rattle.bd_flush.specs.declared.fetching.Fetched.{Fetched}
 use Rattle.bd_flush.specs.Flushed.{IsFlushed, IsWornFor}
 use Rattle.bd_flush.specs.Children.{IsNoHigher}
 use Rattle.bd_flush.specs.Pushes.{CanPushNew, IsOwn, IsNewStep, IsPushedNew}
-use Rattle.bd_flush.proofs.Worn.{cause_weaker}
+use Rattle.bd_message.proofs.Causes.{cause_weaker}
 use Rattle.bd_flush.proofs.LeafSteps.{IsLeafChange, IsLeafChangeOf, IsLeafChanged, leaf_step_step, leaf_in_place, leaf_flushed, leaf_parent, leaf_there, leaf_no_higher, leaf_worn}
 use Rattle.bd_flush.proofs.LeafPushes.{IsBare, new_change, new_change_of, new_size}
 

@@ -25,7 +25,7 @@ use Rattle.bd_node.specs.Steps.HasRoom.{no_rise}
 use Rattle.bd_node.proofs.Lookup.{Agree, each_named, node_has-same, node_has-key}
 use Rattle.bd_node.proofs.Meanings.{at-meets}
 use Rattle.bd_node.proofs.Sound.{sound-levelled, named_lower, kept_there}
-use Rattle.bd_node.proofs.Stepping.{given-new, after-none, given_stays, keeping_meaning}
+use Rattle.bd_node.proofs.Stepping.{touched_in, given-new, after-none, given_stays, keeping_meaning}
 use Rattle.bd_node.proofs.Closing.{stay_above}
 use Rattle.bd_flush.specs.Flushed.{LeadsTo, IsFlushed, IsWornFor}
 use Rattle.bd_flush.specs.Flushed.LeadsTo.{itself}
@@ -197,6 +197,7 @@ leaf_flushed nodes t p old n entries new u b =
             node = b.committed.stays id stays ∙ after-none nodes t step id (given_unchanged t.next p id n (Leaf entries ∷ []) t.root below other);
             meaning = has_then nodes t p old n entries new u b id below stays;
           };
+      touched = touched_in (LeadsTo nodes p) t u step b.after (itself, tt);
       low = omega arith;
       high = omega arith;
     }

@@ -21,7 +21,7 @@ use Rattle.bd_node.specs.Private.{IsPrivate}
 use Rattle.bd_node.specs.Steps.{changed_at, given, level_or, level_after, given_times, IsNamable, IsPut, IsChange, AreOnce, IsStep, IsOnlyNamed, HasRoom, IsInPlace, IsTableAfter, IsCommitted, IsWornBy, IsMoving}
 use Rattle.bd_node.proofs.Lookup.{Agree, each_weaker, each_named, node_has-same, node_has-key, key-is_key}
 use Rattle.bd_node.proofs.Meanings.{at-others, at-none}
-use Rattle.bd_node.proofs.Stepping.{given-old, given-new, changed_at-same, changed_at-other, changed_at-none, changed_has, moving_meaning, after-none, by_given}
+use Rattle.bd_node.proofs.Stepping.{touched_in, given-old, given-new, changed_at-same, changed_at-other, changed_at-none, changed_has, moving_meaning, after-none, by_given}
 use Rattle.bd_node.proofs.Closing.{stay_above}
 use Rattle.bd_flush.specs.Flushed.{LeadsTo, IsFlushed, IsWornFor}
 use Rattle.bd_flush.specs.Flushed.LeadsTo.{itself}
@@ -373,6 +373,8 @@ path_flushed nodes t c h uppers made new u b few =
             node = b.committed.stays id stays ∙ after-none nodes t step id none;
             meaning = λ k. then id stays k ∙ path_old nodes t.next c h made id other below k;
           };
+      touched = touched_in (LeadsTo nodes c) t u step b.after
+          (itself, each_weaker (IsUpperOf nodes t c h uppers made) (λ (v : Change). LeadsTo nodes c v.id) (λ v own. own.leads) uppers b.of.uppers_of);
       low = rises.0;
       high = rises.1;
     }

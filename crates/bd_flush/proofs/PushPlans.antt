@@ -1,5 +1,5 @@
 -- The commit of a push, with a node between or without.
-use Rattle.std.proofs.Common.{◌≡◌, ℕ, ◌+◌, ◌^◌, ◌<◌, ◌≤◌, List, [], ◌∷◌, length, sym, ap, subst, ◌∙◌, arith, inl, inr, ◌⊎◌, Result, Ok, Err, OnOk, OnErr}
+use Rattle.std.proofs.Common.{◌≡◌, ℕ, ◌+◌, ◌^◌, ◌<◌, ◌≤◌, List, [], ◌∷◌, length, refl, sym, ap, subst, ◌∙◌, arith, inl, inr, ◌⊎◌, Result, Ok, Err, OnOk, OnErr}
 use Rattle.std.specs.List.{AllByRecursion}
 use Rattle.std.proofs.lemmas.Option.{same_Some}
 use Rattle.bd_message.specs.declared.fault.Counter.TheVariants.{Level}
@@ -22,7 +22,7 @@ use Rattle.bd_flush.specs.Children.{AreFamily, IsNoHigher, IsContents}
 use Rattle.bd_flush.specs.Between.{IsHardlyHigher}
 use Rattle.bd_flush.specs.Raising.{IsWayUp}
 use Rattle.bd_flush.specs.Pushes.{AllGoDown, CanMoveSome, IsWaitedFor, CanPush, IsSomePush, IsPlan, IsPushed, IsPushedBetween, IsLongPush, IsHighPush}
-use Rattle.bd_flush.proofs.Worn.{cause_weaker}
+use Rattle.bd_message.proofs.Causes.{cause_weaker}
 use Rattle.bd_flush.proofs.GoingDown.{all_move, all_plain}
 use Rattle.bd_flush.proofs.PathSteps.{path_may, path_in_place, path_worn}
 use Rattle.bd_flush.proofs.PushCommits.{may_push, push_in_place, push_flushed, push_is, push_no_higher, push_made, push_worn}
@@ -156,4 +156,4 @@ never_level before now bad t step r cause e = (subst (λ s. HasMapCause before n
 pub no_level_cause : {T : Type 0} (count : ℕ) (bad : ℕ → Type 0) (t : Table) (way : List Fetched) (parent : Fetched) (place : ℕ) (child : Fetched) (plan : Plan) (root next : ℕ) → IsWayUp t parent.id way → plan ≡ NoLevel → IsPlan root next way parent place child plan → HasMapCause {T = T} count count bad (IsWornFor t) (Err (Worn Level))
 no_level_cause count bad t way parent place child plan root next up is h =
     let high : IsHighPush parent.node.value place child.node.value way = subst (λ (p : Plan). IsPlan root next way parent place child p) is h in
-    record { later = omega arith; failed = cannot_rise t parent.id (level_of parent.node.value + 1) way high.high.1 up }
+    record { later = omega arith; kept = tt; stays = refl; failed = cannot_rise t parent.id (level_of parent.node.value + 1) way high.high.1 up }

@@ -1,5 +1,5 @@
 -- A child that is put between its parent and its halves.
-use Rattle.std.proofs.Common.{◌≡◌, ℕ, ◌+◌, ◌^◌, ◌<◌, ◌≤◌, List, ◌∷◌, length, sym, ap, subst, ◌∙◌, Option, None, Some, arith, Result, Ok, Err, OnOk, MatchOption}
+use Rattle.std.proofs.Common.{◌≡◌, ℕ, ◌+◌, ◌^◌, ◌<◌, ◌≤◌, List, ◌∷◌, length, refl, sym, ap, subst, ◌∙◌, Option, None, Some, arith, Result, Ok, Err, OnOk, MatchOption}
 use Rattle.std.specs.List.{AllByRecursion}
 use Rattle.bd_limits.specs.Limits.{level_limit}
 use Rattle.bd_message.specs.declared.fault.Counter.TheVariants.{Level}
@@ -24,7 +24,7 @@ use Rattle.bd_flush.specs.Raising.IsRising.{at_top, high_enough, rises}
 use Rattle.bd_flush.specs.Raising.CannotRise.{here, further}
 use Rattle.bd_flush.specs.Between.{IsBetweenStep, IsBetween, IsHardlyHigher, IsSplitChild}
 use Rattle.bd_flush.specs.Between.IsSplitChild.{long}
-use Rattle.bd_flush.proofs.Worn.{cause_weaker}
+use Rattle.bd_message.proofs.Causes.{cause_weaker}
 use Rattle.bd_flush.proofs.Raisings.{level_high}
 use Rattle.bd_flush.proofs.ChildSplits.{as_edge}
 use Rattle.bd_flush.proofs.RootSplits.{up_lower, IsSplit, IsSplitOf, IsMade, split_step, split_in_place, flushed, over_higher, top_there, lower_there, upper_there, all_risen, split_worn}
@@ -168,6 +168,8 @@ pub put_stuck : {T : Type 0} (before : ℕ) (bad : ℕ → Type 0) (t : Table) (
     → HasMapCause {T = T} before before bad (IsWornFor t) (Err (Worn Level))
 put_stuck before bad t way child found P up is h = record {
   later = omega arith;
+  kept = tt;
+  stays = refl;
   failed = at_last t child.id (level_of child.node.value + 1) way up (subst (λ (o : Option Step). MatchOption o (CannotRise (level_of child.node.value + 1) way) P) is h);
 }
 

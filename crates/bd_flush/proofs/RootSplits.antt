@@ -37,7 +37,7 @@ use Rattle.bd_flush.specs.Raising.{raised, raise, IsWayUp, IsRising}
 use Rattle.bd_flush.specs.Raising.IsWayUp.{top, one_up}
 use Rattle.bd_flush.specs.Raising.IsRising.{at_top, high_enough, rises}
 use Rattle.bd_flush.specs.Between.{IsHardlyHigher}
-use Rattle.bd_flush.proofs.Worn.{cause_weaker}
+use Rattle.bd_message.proofs.Causes.{cause_weaker}
 use Rattle.bd_flush.proofs.Givens.{given_first, given_second}
 use Rattle.bd_flush.proofs.ChildSplits.{edge_named}
 use Rattle.bd_flush.proofs.PathSteps.{IsMadeUnder, IsUpper, IsPathStep, RisesByOne, given_child, each_change, has_made, has_path, made_new, path_child, path_old, both_ways, IsPathStepOf, path_may, path_in_place, path_flushed, path_worn, root_rises, root_stays}

@@ -60,12 +60,3 @@ one_if_few root c =
       | inl same ↦ (let e : one_if root c ≡ 1 = ap (λ d. one_if root d) (sym same) ∙ one_if-same root in omega arith)
       | inr other ↦ (let e : one_if root c ≡ 0 = one_if-other root c other in omega arith)
     ]
-
--- ---- causes
-
-pub cause_weaker : {T : Type 0} (before now : ℕ) (bad : ℕ → Type 0) (worn weaker : Counter → Type 0) → ((c : Counter) → worn c → weaker c) → (r : Result T MapFault) → HasMapCause before now bad worn r → HasMapCause before now bad weaker r
-cause_weaker before now bad worn weaker f (Ok x) h = record { later = h.later; failed = tt }
-cause_weaker before now bad worn weaker f (Err DeviceFault) h = record { later = h.later; failed = h.failed }
-cause_weaker before now bad worn weaker f (Err (Damaged block)) h = record { later = h.later; failed = h.failed }
-cause_weaker before now bad worn weaker f (Err (Worn counter)) h = record { later = h.later; failed = f counter h.failed }
-cause_weaker before now bad worn weaker f (Err NoMemory) h = record { later = h.later; failed = tt }

@@ -1,5 +1,5 @@
 -- What one step of a flush leaves, and why it does nothing.
-use Rattle.std.specs.Prelude.{◌≡◌, ℕ, ◌+◌, ◌^◌, ◌≤◌, List, Some}
+use Rattle.std.specs.Prelude.{◌≡◌, ℕ, ◌+◌, ◌^◌, ◌≤◌, ◌⊎◌, List, Some, IsTrue}
 use Rattle.bd_limits.specs.Limits.{level_limit}
 use Rattle.bd_message.specs.declared.fault.Counter.{Counter}
 use Rattle.bd_message.specs.declared.fault.Counter.TheVariants.{Count, NextId, Level, Refs, Epoch, Flushes}
@@ -22,7 +22,8 @@ pub record IsUntouched (nodes new : Nodes) (id : ℕ) : Type 0 where
 
 -- what one step of a flush leaves: the tree has what it had, in sound nodes; at most four nodes are
 -- made; only nodes on the one way from the root to a private node are changed, and each other one
--- that stays is untouched; the root is at most one level higher
+-- that stays is untouched, and no other one is told as touched; the root is at most one level
+-- higher
 pub record IsFlushed (nodes : Nodes) (t : Table) (new : Nodes) (u : Table) : Type 0 where
   pub same : (k : List ℕ) → root_at new u k ≡ root_at nodes t k
   pub sound : IsSound new u
@@ -32,6 +33,7 @@ pub record IsFlushed (nodes : Nodes) (t : Table) (new : Nodes) (u : Table) : Typ
   pub private : IsPrivate nodes t last
   pub others : (id : ℕ) → IsKept t id → IsKept u id → ¬ LeadsTo nodes last id
       → IsUntouched nodes new id
+  pub touched : (id : ℕ) → IsTrue (u.touched id) → IsTrue (t.touched id) ⊎ LeadsTo nodes last id
   pub low : t.level t.root ≤ u.level u.root
   pub high : u.level u.root ≤ t.level t.root + 1
 

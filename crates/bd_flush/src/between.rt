@@ -7,6 +7,7 @@ ghost use Rattle.bd_limits.specs.Limits.{level_limit};
 ghost use Rattle.bd_message.specs.declared.fault.MapFault.TheVariants as fault;
 ghost use Rattle.bd_message.specs.declared.fault.Counter.TheVariants as counter;
 ghost use Rattle.bd_message.specs.KeyMaps.{HasMapCause};
+ghost use Rattle.bd_node.specs.Frames.{OfSound, OnlyReads, Stays};
 ghost use Rattle.bd_node.specs.Nodes.{level_of};
 ghost use Rattle.bd_node.specs.Shape.{IsShape};
 ghost use Rattle.bd_node.specs.Tables.{IsSound};
@@ -39,28 +40,25 @@ pub fn put_between<S: NodeStore>(
     requires child { IsFetched (S.table store.old) child.now }
     requires way { IsWayUp (S.table store.old) child.now.id (parent.now ∷ reverse above.now) }
     requires halves { AreHalves child.now.node.value halves.0 halves.1 halves.2 }
-    requires there { S.is_known store.old → IsSound (S.nodes store.old) (S.table store.old)
-        → AllByRecursion (IsContents (S.nodes store.old))
-        (child.now ∷ parent.now ∷ reverse above.now) }
-    ensures flushed { S.is_known store.old → IsSound (S.nodes store.old) (S.table store.old)
-        → OnOk result (IsFlushed (S.nodes store.old) (S.table store.old)
-        (S.nodes store.new) (S.table store.new)) }
-    ensures between { S.is_known store.old → IsSound (S.nodes store.old) (S.table store.old)
-        → OnOk result (IsBetween (S.table store.old) (parent.now ∷ reverse above.now) child.now
-        halves.0 halves.1 halves.2 (S.nodes store.new) (S.table store.new)) }
+    requires there { OfSound S.NodeStore store.old
+        (AllByRecursion (IsContents (S.nodes store.old))
+        (child.now ∷ parent.now ∷ reverse above.now)) }
+    ensures flushed { OfSound S.NodeStore store.old
+        (OnOk result (IsFlushed (S.nodes store.old) (S.table store.old)
+        (S.nodes store.new) (S.table store.new))) }
+    ensures between { OfSound S.NodeStore store.old
+        (OnOk result (IsBetween (S.table store.old) (parent.now ∷ reverse above.now) child.now
+        halves.0 halves.1 halves.2 (S.nodes store.new) (S.table store.new))) }
     ensures table { OnOk result (IsHardlyHigher (S.table store.old) (S.table store.new)) }
     ensures worn { result ≡ Err (fault.Worn counter.Level)
         → CannotRise (level_of child.now.node.value + 1) (parent.now ∷ reverse above.now) }
     ensures risen { OnOk result
         (¬ CannotRise (level_of child.now.node.value + 1) (parent.now ∷ reverse above.now)) }
-    ensures known { S.is_known store.old → S.is_known store.new }
-    ensures err_table { OnErr result (S.table store.new ≡ S.table store.old) }
-    ensures err_nodes { S.is_known store.old
-        → OnErr result (S.nodes store.new ≡ S.nodes store.old) }
+    ensures stays { Stays S.NodeStore store.old store.new }
+    ensures err { OnErr result (OnlyReads S.NodeStore store.old store.new) }
     ensures few_visits { S.visit_count store.new ≤ S.visit_count store.old + 2 }
     ensures cause { HasMapCause (S.fault_count store.old) (S.fault_count store.new)
         (S.bad store.new) (IsWornFor (S.table store.old)) result }
-    ensures same_loans { S.loans store.new ≡ S.loans store.old }
 {
     let root = store.root();
     let next = store.next_id();

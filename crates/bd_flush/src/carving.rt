@@ -5,6 +5,7 @@ ghost use Rattle.std.specs.Option.{option_copied};
 ghost use Rattle.std.specs.List.{AllByRecursion, flat_map};
 ghost use Rattle.bd_keys.specs.Keys.{IsKey, IsBelowEnd, IsAtLeast};
 ghost use Rattle.bd_message.specs.KeyMaps.{HasMapCause};
+ghost use Rattle.bd_node.specs.Frames.{OfSound, OnlyReads, Stays};
 ghost use Rattle.bd_node.specs.declared.node.Edge.{Edge};
 ghost use Rattle.bd_node.specs.Nodes.{message_names};
 ghost use Rattle.bd_node.specs.Tables.{IsKept, IsSound};
@@ -34,23 +35,20 @@ pub fn carve<S: NodeStore>(
     place: usize,
 ) -> Result<(), MapFault>
     requires can { CanCarve (S.table store.old) parent.now place }
-    requires own { S.is_known store.old → IsSound (S.nodes store.old) (S.table store.old)
-        → IsOwn (S.nodes store.old) (S.table store.old) parent.now }
-    ensures flushed { S.is_known store.old → IsSound (S.nodes store.old) (S.table store.old)
-        → OnOk result (IsFlushed (S.nodes store.old) (S.table store.old)
-        (S.nodes store.new) (S.table store.new)) }
-    ensures carved { S.is_known store.old → IsSound (S.nodes store.old) (S.table store.old)
-        → OnOk result (IsCarvedAt (S.table store.old) parent.now place
-        (S.nodes store.new) (S.table store.new)) }
+    requires own { OfSound S.NodeStore store.old
+        (IsOwn (S.nodes store.old) (S.table store.old) parent.now) }
+    ensures flushed { OfSound S.NodeStore store.old
+        (OnOk result (IsFlushed (S.nodes store.old) (S.table store.old)
+        (S.nodes store.new) (S.table store.new))) }
+    ensures carved { OfSound S.NodeStore store.old
+        (OnOk result (IsCarvedAt (S.table store.old) parent.now place
+        (S.nodes store.new) (S.table store.new))) }
     ensures table { OnOk result (IsNoHigher (S.table store.old) (S.table store.new)) }
-    ensures known { S.is_known store.old → S.is_known store.new }
-    ensures err_table { OnErr result (S.table store.new ≡ S.table store.old) }
-    ensures err_nodes { S.is_known store.old
-        → OnErr result (S.nodes store.new ≡ S.nodes store.old) }
+    ensures stays { Stays S.NodeStore store.old store.new }
+    ensures err { OnErr result (OnlyReads S.NodeStore store.old store.new) }
     ensures few_visits { S.visit_count store.new ≤ S.visit_count store.old }
     ensures cause { HasMapCause (S.fault_count store.old) (S.fault_count store.new)
         (S.bad store.new) (IsWornFor (S.table store.old)) result }
-    ensures same_loans { S.loans store.new ≡ S.loans store.old }
 {
     let root = store.root();
     let step = carve_step(alloc, store, root, parent, place)?;

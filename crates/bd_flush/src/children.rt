@@ -6,6 +6,7 @@ ghost use Rattle.std.specs.List.{AllByRecursion};
 ghost use Rattle.bd_message.specs.KeyMaps.{HasMapCause};
 ghost use Rattle.bd_message.specs.declared.fault.MapFault.TheVariants as fault;
 ghost use Rattle.bd_message.specs.declared.fault.Counter.TheVariants as counter;
+ghost use Rattle.bd_node.specs.Frames.{OfSound, OnlyReads, Stays};
 ghost use Rattle.bd_node.specs.declared.node.Edge.{Edge};
 ghost use Rattle.bd_node.specs.Nodes.{level_of};
 ghost use Rattle.bd_node.specs.Shape.{IsShape};
@@ -45,29 +46,26 @@ pub fn split_child<S: NodeStore>(
 ) -> Result<(), MapFault>
     requires can { CanSplitChild (S.table store.old) parent.now place child.now }
     requires way { IsWayUp (S.table store.old) parent.now.id (reverse above.now) }
-    requires family { S.is_known store.old → IsSound (S.nodes store.old) (S.table store.old)
-        → AreFamily (S.nodes store.old) (S.table store.old) parent.now child.now }
-    requires there { S.is_known store.old → IsSound (S.nodes store.old) (S.table store.old)
-        → AllByRecursion (IsContents (S.nodes store.old)) (reverse above.now) }
-    ensures flushed { S.is_known store.old → IsSound (S.nodes store.old) (S.table store.old)
-        → OnOk result (IsFlushed (S.nodes store.old) (S.table store.old)
-        (S.nodes store.new) (S.table store.new)) }
-    ensures split { S.is_known store.old → IsSound (S.nodes store.old) (S.table store.old)
-        → OnOk result (IsSplitChild (S.table store.old) (reverse above.now) parent.now place child.now
-        (S.nodes store.new) (S.table store.new)) }
+    requires family { OfSound S.NodeStore store.old
+        (AreFamily (S.nodes store.old) (S.table store.old) parent.now child.now) }
+    requires there { OfSound S.NodeStore store.old
+        (AllByRecursion (IsContents (S.nodes store.old)) (reverse above.now)) }
+    ensures flushed { OfSound S.NodeStore store.old
+        (OnOk result (IsFlushed (S.nodes store.old) (S.table store.old)
+        (S.nodes store.new) (S.table store.new))) }
+    ensures split { OfSound S.NodeStore store.old
+        (OnOk result (IsSplitChild (S.table store.old) (reverse above.now) parent.now place
+        child.now (S.nodes store.new) (S.table store.new))) }
     ensures table { OnOk result (IsHighAfterSplit (S.table store.old) parent.now.node.value place
         child.now.node.value (S.table store.new)) }
     ensures worn { result ≡ Err (fault.Worn counter.Level)
         → IsLongPivot parent.now.node.value place child.now.node.value
         × CannotRise (level_of child.now.node.value + 1) (parent.now ∷ reverse above.now) }
-    ensures known { S.is_known store.old → S.is_known store.new }
-    ensures err_table { OnErr result (S.table store.new ≡ S.table store.old) }
-    ensures err_nodes { S.is_known store.old
-        → OnErr result (S.nodes store.new ≡ S.nodes store.old) }
+    ensures stays { Stays S.NodeStore store.old store.new }
+    ensures err { OnErr result (OnlyReads S.NodeStore store.old store.new) }
     ensures few_visits { S.visit_count store.new ≤ S.visit_count store.old + 2 }
     ensures cause { HasMapCause (S.fault_count store.old) (S.fault_count store.new)
         (S.bad store.new) (IsWornFor (S.table store.old)) result }
-    ensures same_loans { S.loans store.new ≡ S.loans store.old }
 {
     let root = store.root();
     let next = store.next_id();

@@ -2,6 +2,7 @@
 
 ghost use Rattle.std.specs.Prelude.{◌≡◌, IfOk, Some};
 ghost use Rattle.bd_message.specs.KeyMaps.{HasMapCause, NeverWorn};
+ghost use Rattle.bd_node.specs.Frames.{OnlyReads};
 ghost use Rattle.bd_node.specs.Tables.{IsKept};
 ghost use Rattle.bd_node.specs.Stores.{visited};
 ghost use Rattle.bd_flush.specs.Children.{IsFetched};
@@ -24,14 +25,10 @@ pub fn fetch<S: NodeStore>(store: &mut S, id: u64) -> Result<Fetched, MapFault>
     ensures fetched { IfOk result (IsFetched (S.table store.old)) }
     ensures contents { S.is_known store.old
         → IfOk result (λ found. S.nodes store.old id ≡ Some found.node.value) }
-    ensures table { S.table store.new ≡ S.table store.old }
-    ensures known { S.is_known store.old → S.is_known store.new }
-    ensures kept { S.is_known store.old → S.nodes store.new ≡ S.nodes store.old }
+    ensures left { OnlyReads S.NodeStore store.old store.new }
     ensures visits { S.visit_count store.new ≡ visited (S.visit_count store.old) 1 }
-    ensures read { S.reads store.old store.new }
     ensures cause { HasMapCause (S.fault_count store.old) (S.fault_count store.new)
         (S.bad store.new) NeverWorn result }
-    ensures same_loans { S.loans store.new ≡ S.loans store.old }
 {
     let node = store.fetch(id)?;
     Ok(Fetched { id, node })

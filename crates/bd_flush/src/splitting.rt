@@ -5,6 +5,7 @@ ghost use Rattle.bd_limits.specs.Limits.{level_limit};
 ghost use Rattle.bd_message.specs.KeyMaps.{HasMapCause};
 ghost use Rattle.bd_message.specs.declared.fault.MapFault.TheVariants as fault;
 ghost use Rattle.bd_message.specs.declared.fault.Counter.TheVariants as counter;
+ghost use Rattle.bd_node.specs.Frames.{OfSound, OnlyReads, Stays};
 ghost use Rattle.bd_node.specs.Nodes.{level_of};
 ghost use Rattle.bd_node.specs.Shape.{IsShape};
 ghost use Rattle.bd_node.specs.Tables.{IsNodeOf, IsSound};
@@ -26,27 +27,24 @@ use std::alloc::{AllocError, Global};
 pub fn split_root<S: NodeStore>(alloc: Global, store: &mut S, root: &Node) -> Result<(), MapFault>
     requires node { IsNodeOf (S.table store.old)
         ((S.table store.old).level (S.table store.old).root) root.now }
-    requires there { S.is_known store.old → IsSound (S.nodes store.old) (S.table store.old)
-        → S.nodes store.old (S.table store.old).root ≡ Some root.now }
+    requires there { OfSound S.NodeStore store.old
+        (S.nodes store.old (S.table store.old).root ≡ Some root.now) }
     requires full { 15 ≤ length (edges_of root.now) }
-    ensures flushed { S.is_known store.old → IsSound (S.nodes store.old) (S.table store.old)
-        → OnOk result (IsFlushed (S.nodes store.old) (S.table store.old)
-        (S.nodes store.new) (S.table store.new)) }
-    ensures split { S.is_known store.old → IsSound (S.nodes store.old) (S.table store.old)
-        → OnOk result (IsSplitRoot (S.table store.old) root.now (S.nodes store.new)) }
+    ensures flushed { OfSound S.NodeStore store.old
+        (OnOk result (IsFlushed (S.nodes store.old) (S.table store.old)
+        (S.nodes store.new) (S.table store.new))) }
+    ensures split { OfSound S.NodeStore store.old
+        (OnOk result (IsSplitRoot (S.table store.old) root.now (S.nodes store.new))) }
     ensures table { OnOk result (IsRaised (S.table store.old) (S.table store.new)) }
     ensures worn { ((S.table store.old).level (S.table store.old).root ≡ level_limit)
         ↔ (result ≡ Err (fault.Worn counter.Level)) }
-    ensures known { S.is_known store.old → S.is_known store.new }
-    ensures err_table { OnErr result (S.table store.new ≡ S.table store.old) }
-    ensures err_nodes { S.is_known store.old
-        → OnErr result (S.nodes store.new ≡ S.nodes store.old) }
+    ensures stays { Stays S.NodeStore store.old store.new }
+    ensures err { OnErr result (OnlyReads S.NodeStore store.old store.new) }
     ensures visits { OnOk result
         (S.visit_count store.new ≡ visited (S.visit_count store.old) 2) }
     ensures err_visits { OnErr result (S.visit_count store.new ≡ S.visit_count store.old) }
     ensures cause { HasMapCause (S.fault_count store.old) (S.fault_count store.new)
         (S.bad store.new) (IsWornFor (S.table store.old)) result }
-    ensures same_loans { S.loans store.new ≡ S.loans store.old }
 {
     if root.level() >= MAX_LEVEL {
         return Err(MapFault::Worn(Counter::Level));

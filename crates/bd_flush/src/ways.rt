@@ -2,6 +2,7 @@
 
 ghost use Rattle.std.specs.Prelude.{◌≡◌, ◌+◌, ◌<◌, ◌≤◌, length, reverse, IfOk, Some};
 ghost use Rattle.bd_message.specs.KeyMaps.{HasMapCause, NeverWorn};
+ghost use Rattle.bd_node.specs.Frames.{OfSound, OnlyReads};
 ghost use Rattle.bd_node.specs.declared.node.Edge.{Edge};
 ghost use Rattle.bd_node.specs.Nodes.{level_of};
 ghost use Rattle.bd_node.specs.Meaning.{Nodes};
@@ -66,20 +67,16 @@ pub enum FlushStep {
 /// 16,384 bytes of messages itself. At most as many nodes are fetched as the tree is high.
 pub fn next_step<S: NodeStore>(alloc: Global, store: &mut S) -> Result<FlushStep, MapFault>
     ensures to_do { IfOk result (IsToDo (S.table store.old)) }
-    ensures at { S.is_known store.old → IsSound (S.nodes store.old) (S.table store.old)
-        → IfOk result (IsToDoAt (S.nodes store.old) (S.table store.old)) }
+    ensures at { OfSound S.NodeStore store.old
+        (IfOk result (IsToDoAt (S.nodes store.old) (S.table store.old))) }
     ensures way { IfOk result (IsWayOf (S.table store.old)) }
-    ensures way_at { S.is_known store.old → IsSound (S.nodes store.old) (S.table store.old)
-        → IfOk result (IsWayThere (S.nodes store.old) (S.table store.old)) }
-    ensures table { S.table store.new ≡ S.table store.old }
-    ensures known { S.is_known store.old → S.is_known store.new }
-    ensures kept { S.is_known store.old → S.nodes store.new ≡ S.nodes store.old }
-    ensures read { S.reads store.old store.new }
+    ensures way_at { OfSound S.NodeStore store.old
+        (IfOk result (IsWayThere (S.nodes store.old) (S.table store.old))) }
+    ensures left { OnlyReads S.NodeStore store.old store.new }
     ensures cause { HasMapCause (S.fault_count store.old) (S.fault_count store.new)
         (S.bad store.new) NeverWorn result }
     ensures few_visits { S.visit_count store.new
         ≤ S.visit_count store.old + ((S.table store.old).level (S.table store.old).root + 1) }
-    ensures same_loans { S.loans store.new ≡ S.loans store.old }
 {
     let root = store.root();
     let root = fetch(store, root)?;
@@ -117,15 +114,11 @@ pub fn step_from<S: NodeStore>(
     ensures way_at { S.is_known store.old → IsOwn (S.nodes store.old) (S.table store.old) parent
         → AreOwn (S.nodes store.old) (S.table store.old) (reverse above.items)
         → IfOk result (IsWayThere (S.nodes store.old) (S.table store.old)) }
-    ensures table { S.table store.new ≡ S.table store.old }
-    ensures known { S.is_known store.old → S.is_known store.new }
-    ensures kept { S.is_known store.old → S.nodes store.new ≡ S.nodes store.old }
-    ensures read { S.reads store.old store.new }
+    ensures left { OnlyReads S.NodeStore store.old store.new }
     ensures cause { HasMapCause (S.fault_count store.old) (S.fault_count store.new)
         (S.bad store.new) NeverWorn result }
     ensures few_visits { S.visit_count store.new
         ≤ S.visit_count store.old + (S.table store.old).level parent.id }
-    ensures same_loans { S.loans store.new ≡ S.loans store.old }
 {
     let mut above = above;
     let mut here = parent;
@@ -170,14 +163,10 @@ fn look_from<S: NodeStore>(
     ensures way_at { S.is_known store.old → IsOwn (S.nodes store.old) (S.table store.old) parent
         → AreOwn (S.nodes store.old) (S.table store.old) (reverse above.items)
         → IfOk result (IsWaySeenAt (S.nodes store.old) (S.table store.old)) }
-    ensures table { S.table store.new ≡ S.table store.old }
-    ensures known { S.is_known store.old → S.is_known store.new }
-    ensures kept { S.is_known store.old → S.nodes store.new ≡ S.nodes store.old }
-    ensures read { S.reads store.old store.new }
+    ensures left { OnlyReads S.NodeStore store.old store.new }
     ensures cause { HasMapCause (S.fault_count store.old) (S.fault_count store.new)
         (S.bad store.new) NeverWorn result }
     ensures few_visits { S.visit_count store.new ≤ S.visit_count store.old + 1 }
-    ensures same_loans { S.loans store.new ≡ S.loans store.old }
 {
     let id = match asks(&parent.node, place) {
         Asked::Nothing => return Ok(Look::End(push_or_carve(store, above, parent, place, None))),

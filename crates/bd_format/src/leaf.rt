@@ -5,11 +5,8 @@ ghost use Rattle.std.specs.List.{AllByRecursion, sum_by};
 ghost use Rattle.bd_limits.specs.Limits.{leaf_limit};
 ghost use Rattle.bd_node.specs.Shape.{IsLeaf, IsEntry, IsRising, entry_size};
 
-use bd_limits::{MAX_BLOCK, MAX_KEY, MAX_LEAF};
+use bd_limits::{BASE_SIZE, MAX_BLOCK, MAX_KEY, MAX_LEAF};
 use bd_node::Entry;
-
-// What each entry counts beside its bytes.
-const BASE_SIZE: usize = 16;
 
 /// Whether these are the entries of a well-formed leaf.
 pub fn is_leaf(entries: &[Entry]) -> bool

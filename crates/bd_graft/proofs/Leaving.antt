@@ -19,7 +19,7 @@ use Rattle.bd_node.specs.Private.IsReached.{at_root, named}
 use Rattle.bd_node.proofs.Lookup.{each_named, named_has, count-cons_same}
 use Rattle.bd_node.proofs.Sound.{kept_there, named_lower}
 use Rattle.bd_node.proofs.Privacy.{reached}
-use Rattle.bd_node.proofs.Stepping.{after-none, after-some, isolated_root, isolated_none}
+use Rattle.bd_node.proofs.Stepping.{touched_in, after-none, after-some, isolated_root, isolated_none}
 use Rattle.bd_resolve.specs.declared.following.Target.{Target}
 use Rattle.bd_graft.specs.declared.packing.Packed.{Packed}
 use Rattle.bd_graft.specs.Ways.{messages_in}
@@ -253,6 +253,7 @@ under_grown known nodes t n packed s d keep step u (Ok x) h few ok =
       same_root = λ e. after.root;
       new_root = λ less. absurd (omega (arith, less, level));
       levels = levels;
+      touched = touched_in (λ (i : ℕ). i ≡ t.root) t u (step_under t n made list) after (refl, tt);
     }
 under_grown known nodes t n packed s d keep step u (Err e) h few ok = tt
 
@@ -385,5 +386,6 @@ over_grown known nodes t packed s d keep step u (Ok x) h few ok =
       same_root = λ e. absurd (omega (arith, e, level));
       new_root = λ less. (omega arith, omega arith);
       levels = λ id kept stays. after.level id stays ∙ over_levels t made list h.high.table id kept;
+      touched = touched_in (λ (i : ℕ). i ≡ t.root) t u (step_over t made list) after tt;
     }
 over_grown known nodes t packed s d keep step u (Err e) h few ok = tt

@@ -22,6 +22,7 @@ use Rattle.bd_node.specs.Shape.{IsShape}
 use Rattle.bd_node.specs.Meaning.{Nodes}
 use Rattle.bd_node.proofs.Appending.{shape_appended}
 use Rattle.bd_message.specs.Messages.{size}
+use Rattle.bd_message.proofs.Causes.{cause_weaker}
 use Rattle.bd_message.specs.KeyMaps.{HasMapCause}
 use Rattle.bd_message.specs.declared.fault.MapFault.{MapFault}
 use Rattle.bd_message.specs.declared.fault.MapFault.TheVariants.{DeviceFault, Damaged, Worn, NoMemory}
@@ -120,11 +121,8 @@ graft_worn t step h few high one Flushes worn = worn
 -- ---- what is returned
 
 pub cause_of : {T : Type 0} (before now : ℕ) (bad : ℕ → Type 0) (t : Table) (step : Step) (r : Result T MapFault) → IsStep t step → length step.made ≤ t.level t.root + 2 → t.level t.root ≤ level_limit → length step.changes ≤ 1 → HasMapCause before now bad (IsWornBy t step) r → HasMapCause before now bad (IsWornForGraft t) r
-cause_of before now bad t step (Ok x) ok few high one h = record { later = h.later; failed = tt }
-cause_of before now bad t step (Err DeviceFault) ok few high one h = record { later = h.later; failed = h.failed }
-cause_of before now bad t step (Err (Damaged block)) ok few high one h = record { later = h.later; failed = h.failed }
-cause_of before now bad t step (Err (Worn counter)) ok few high one h = record { later = h.later; failed = graft_worn t step ok few high one counter h.failed }
-cause_of before now bad t step (Err NoMemory) ok few high one h = record { later = h.later; failed = tt }
+cause_of before now bad t step r ok few high one h =
+    cause_weaker before now bad (IsWornBy t step) (IsWornForGraft t) (graft_worn t step ok few high one) r h
 
 pub under_ok : (known : Type 0) (nodes : Nodes) (t : Table) (n : Node) (packed : Packed) (s d : List ℕ) (keep : Bool) → IsReady known nodes t s packed → IsTable t → IsNodeOf t (t.level t.root) n → packed.level < t.level t.root → length s ≤ key_limit → length d ≤ key_limit → buffer_size n + 1600 ≤ buffer_limit → t.next + length packed.made.items < 2 ^ 64
     → IsStep t (step_under t n packed.made.items (graft_messages s d keep packed.target))

@@ -1,5 +1,5 @@
 -- The step of a graft.
-use Rattle.std.specs.Prelude.{◌≡◌, ℕ, ◌+◌, ◌^◌, ◌<◌, ◌≤◌, ◌⊎◌, Bool, if◌then◌else◌, List, [], ◌∷◌, ◌++◌, length, Option, Some, slice_get}
+use Rattle.std.specs.Prelude.{◌≡◌, ℕ, ◌+◌, ◌^◌, ◌<◌, ◌≤◌, ◌⊎◌, Bool, if◌then◌else◌, List, [], ◌∷◌, ◌++◌, length, Option, Some, slice_get, IsTrue, ⊤}
 use Rattle.bd_limits.specs.Limits.{level_limit}
 use Rattle.bd_message.specs.declared.fault.Counter.{Counter}
 use Rattle.bd_message.specs.declared.fault.Counter.TheVariants.{Count, NextId, Level, Refs, Epoch, Flushes}
@@ -62,7 +62,7 @@ pub record IsReady (known : Type 0) (nodes : Nodes) (t : Table) (s : List ℕ) (
 -- whatever the nodes are, a counter that has no room for a graft is near its end: ids for its nodes,
 -- a level above the root's, more references to a node
 abbrev pub IsWornForGraft : Table → Counter → Type 0
-IsWornForGraft t NextId = 2 ^ 64 ≤ t.next + t.level t.root + 4
+IsWornForGraft t NextId = 2 ^ 64 ≤ t.next + t.level t.root + 2
 IsWornForGraft t Level = t.level t.root ≡ level_limit
 IsWornForGraft t Refs = (id : ℕ) × (2 ^ 63 ≤ t.count id)
 IsWornForGraft t Count = ⊥
@@ -97,13 +97,14 @@ pub record IsWornByGraft (nodes : Nodes) (t : Table) (s d : List ℕ) (keep : Bo
 
 -- where a fault says that a counter is worn, it is one of these
 abbrev pub OnWorn : (Counter → Type 0) → MapFault → Type 0
-OnWorn worn DeviceFault = Unit {0}
-OnWorn worn (Damaged block) = Unit {0}
+OnWorn worn DeviceFault = ⊤
+OnWorn worn (Damaged block) = ⊤
 OnWorn worn (Worn counter) = worn counter
-OnWorn worn NoMemory = Unit {0}
+OnWorn worn NoMemory = ⊤
 
 -- at most as many nodes are made as the tree was high, and one; the root keeps its id and level, or
--- the newest node is the root, one level higher; the old nodes keep their levels
+-- the newest node is the root, one level higher; the old nodes keep their levels, and none but the
+-- old root is told as touched
 pub record IsGrown (t u : Table) : Type 0 where
   pub later : t.next ≤ u.next
   pub few : u.next ≤ t.next + (t.level t.root + 2)
@@ -112,6 +113,7 @@ pub record IsGrown (t u : Table) : Type 0 where
   pub same_root : u.level u.root ≡ t.level t.root → u.root ≡ t.root
   pub new_root : t.level t.root < u.level u.root → (t.next ≤ u.root) × (u.next ≡ u.root + 1)
   pub levels : (id : ℕ) → IsKept t id → IsKept u id → u.level id ≡ t.level id
+  pub touched : (id : ℕ) → IsTrue (u.touched id) → IsTrue (t.touched id) ⊎ (id ≡ t.root)
 
 -- ---- what a graft leaves of the nodes
 

@@ -3,6 +3,7 @@
 ghost use Rattle.std.specs.Prelude.{ℕ, List, IfOk, IfErr, ◌++◌, ◌-◌, ◌*◌, ◌≡◌, ◌+◌, ◌<◌, ◌≤◌, ◌^◌, length, Some, IfOk, OnOk, OnErr};
 ghost use Rattle.bd_limits.specs.Limits.{key_limit, buffer_limit, level_limit};
 ghost use Rattle.bd_message.specs.KeyMaps.{HasMapCause, CanGraft, IsGrafted};
+ghost use Rattle.bd_node.specs.Frames.{OfSound, OnlyReads, Stays};
 ghost use Rattle.bd_node.specs.Nodes.{buffer_size};
 ghost use Rattle.bd_node.specs.Tables.{IsNodeOf, IsSound, root_at};
 ghost use Rattle.bd_node.specs.Steps.{IsWornBy};
@@ -49,17 +50,17 @@ pub fn graft<S: NodeStore>(
     keep: bool,
 ) -> Result<Walk, MapFault>
     requires { CanGraft s.now d.now keep (buffer_limit - (S.table store.old).size) }
-    ensures grafted { S.is_known store.old → IsSound (S.nodes store.old) (S.table store.old)
-        → OnOk result (IsGrafted (root_at (S.nodes store.old) (S.table store.old)) s.now d.now keep
-        (root_at (S.nodes store.new) (S.table store.new))) }
-    ensures sound { S.is_known store.old → IsSound (S.nodes store.old) (S.table store.old)
-        → OnOk result (IsSound (S.nodes store.new) (S.table store.new)) }
-    ensures step { S.is_known store.old → IsSound (S.nodes store.old) (S.table store.old)
-        → OnOk result (IsGraftStep (S.nodes store.old) (S.table store.old) s.now d.now keep
-        (S.nodes store.new) (S.table store.new)) }
-    ensures others { S.is_known store.old → IsSound (S.nodes store.old) (S.table store.old)
-        → OnOk result (AreOthersSame (S.nodes store.old) (S.table store.old)
-        (S.nodes store.new) (S.table store.new)) }
+    ensures grafted { OfSound S.NodeStore store.old
+        (OnOk result (IsGrafted (root_at (S.nodes store.old) (S.table store.old)) s.now d.now keep
+        (root_at (S.nodes store.new) (S.table store.new)))) }
+    ensures sound { OfSound S.NodeStore store.old
+        (OnOk result (IsSound (S.nodes store.new) (S.table store.new))) }
+    ensures step { OfSound S.NodeStore store.old
+        (OnOk result (IsGraftStep (S.nodes store.old) (S.table store.old) s.now d.now keep
+        (S.nodes store.new) (S.table store.new))) }
+    ensures others { OfSound S.NodeStore store.old
+        (OnOk result (AreOthersSame (S.nodes store.old) (S.table store.old)
+        (S.nodes store.new) (S.table store.new))) }
     ensures table { OnOk result (IsGrown (S.table store.old) (S.table store.new)) }
     ensures visits { IfOk result (λ walk. walk.visits
         ≡ S.visit_count store.new - S.visit_count store.old) }
@@ -69,16 +70,13 @@ pub fn graft<S: NodeStore>(
         + (5 * ((S.table store.old).level (S.table store.old).root + 1) + 2) }
     ensures height { IfOk result (λ walk. walk.height
         ≡ (S.table store.old).level (S.table store.old).root + 1) }
-    ensures known { S.is_known store.old → S.is_known store.new }
-    ensures err_table { OnErr result (S.table store.new ≡ S.table store.old) }
-    ensures err_nodes { S.is_known store.old
-        → OnErr result (S.nodes store.new ≡ S.nodes store.old) }
+    ensures stays { Stays S.NodeStore store.old store.new }
+    ensures err { OnErr result (OnlyReads S.NodeStore store.old store.new) }
     ensures cause { HasMapCause (S.fault_count store.old) (S.fault_count store.new)
         (S.bad store.new) (IsWornForGraft (S.table store.old)) result }
-    ensures worn { S.is_known store.old → IsSound (S.nodes store.old) (S.table store.old)
-        → IfErr result (OnWorn (IsWornByGraft (S.nodes store.old) (S.table store.old)
-        s.now d.now keep)) }
-    ensures same_loans { S.loans store.new ≡ S.loans store.old }
+    ensures worn { OfSound S.NodeStore store.old
+        (IfErr result (OnWorn (IsWornByGraft (S.nodes store.old) (S.table store.old)
+        s.now d.now keep))) }
 {
     let before = store.visits();
     let root = store.root();
@@ -111,39 +109,36 @@ fn finish<S: NodeStore>(
     requires layers { AreLayers (S.table store.old)
         ((S.table store.old).level (S.table store.old).root + 1) way.layers.items way.end }
     requires short { IsShort way.end }
-    requires value { S.is_known store.old → IsSound (S.nodes store.old) (S.table store.old)
-        → (k : List ℕ) → IsKey k → acts (at (S.nodes store.old)) (laid way.layers.items) k
+    requires value { OfSound S.NodeStore store.old
+        ((k : List ℕ) → IsKey k → acts (at (S.nodes store.old)) (laid way.layers.items) k
         (target_at (at (S.nodes store.old)) way.end k)
-        ≡ root_at (S.nodes store.old) (S.table store.old) (s.now ++ k) }
-    requires way { S.is_known store.old → IsSound (S.nodes store.old) (S.table store.old)
-        → IsWay (S.nodes store.old) (S.table store.old).root s.now
-        (messages_in way.layers.items) way.end }
-    ensures grafted { S.is_known store.old → IsSound (S.nodes store.old) (S.table store.old)
-        → OnOk result (IsGrafted (root_at (S.nodes store.old) (S.table store.old)) s.now d.now keep
-        (root_at (S.nodes store.new) (S.table store.new))) }
-    ensures sound { S.is_known store.old → IsSound (S.nodes store.old) (S.table store.old)
-        → OnOk result (IsSound (S.nodes store.new) (S.table store.new)) }
-    ensures step { S.is_known store.old → IsSound (S.nodes store.old) (S.table store.old)
-        → OnOk result (IsGraftStep (S.nodes store.old) (S.table store.old) s.now d.now keep
-        (S.nodes store.new) (S.table store.new)) }
-    ensures others { S.is_known store.old → IsSound (S.nodes store.old) (S.table store.old)
-        → OnOk result (AreOthersSame (S.nodes store.old) (S.table store.old)
-        (S.nodes store.new) (S.table store.new)) }
+        ≡ root_at (S.nodes store.old) (S.table store.old) (s.now ++ k)) }
+    requires way { OfSound S.NodeStore store.old
+        (IsWay (S.nodes store.old) (S.table store.old).root s.now
+        (messages_in way.layers.items) way.end) }
+    ensures grafted { OfSound S.NodeStore store.old
+        (OnOk result (IsGrafted (root_at (S.nodes store.old) (S.table store.old)) s.now d.now keep
+        (root_at (S.nodes store.new) (S.table store.new)))) }
+    ensures sound { OfSound S.NodeStore store.old
+        (OnOk result (IsSound (S.nodes store.new) (S.table store.new))) }
+    ensures step { OfSound S.NodeStore store.old
+        (OnOk result (IsGraftStep (S.nodes store.old) (S.table store.old) s.now d.now keep
+        (S.nodes store.new) (S.table store.new))) }
+    ensures others { OfSound S.NodeStore store.old
+        (OnOk result (AreOthersSame (S.nodes store.old) (S.table store.old)
+        (S.nodes store.new) (S.table store.new))) }
     ensures table { OnOk result (IsGrown (S.table store.old) (S.table store.new)) }
-    ensures known { S.is_known store.old → S.is_known store.new }
-    ensures err_table { OnErr result (S.table store.new ≡ S.table store.old) }
-    ensures err_nodes { S.is_known store.old
-        → OnErr result (S.nodes store.new ≡ S.nodes store.old) }
+    ensures stays { Stays S.NodeStore store.old store.new }
+    ensures err { OnErr result (OnlyReads S.NodeStore store.old store.new) }
     ensures rise { OnOk result ((count : ℕ)
         × (S.visit_count store.new ≡ visited (S.visit_count store.old) count)) }
     ensures few_visits { S.visit_count store.new ≤ S.visit_count store.old
         + ((S.table store.old).level (S.table store.old).root + 2) }
     ensures cause { HasMapCause (S.fault_count store.old) (S.fault_count store.new)
         (S.bad store.new) (IsWornForGraft (S.table store.old)) result }
-    ensures worn { S.is_known store.old → IsSound (S.nodes store.old) (S.table store.old)
-        → IfErr result (OnWorn (IsWornByGraft (S.nodes store.old) (S.table store.old)
-        s.now d.now keep)) }
-    ensures same_loans { S.loans store.new ≡ S.loans store.old }
+    ensures worn { OfSound S.NodeStore store.old
+        (IfErr result (OnWorn (IsWornByGraft (S.nodes store.old) (S.table store.old)
+        s.now d.now keep))) }
 {
     let Walked { layers, end } = way;
     let count = overlay_count(layers.as_slice(), &end);
@@ -186,29 +181,26 @@ fn put_under<S: NodeStore>(
     requires low { packed.level < (S.table store.old).level (S.table store.old).root }
     requires ready { IsReady (S.is_known store.old) (S.nodes store.old) (S.table store.old)
         s.now packed }
-    ensures grafted { S.is_known store.old → IsSound (S.nodes store.old) (S.table store.old)
-        → OnOk result (IsGrafted (root_at (S.nodes store.old) (S.table store.old)) s.now d.now keep
-        (root_at (S.nodes store.new) (S.table store.new))) }
-    ensures sound { S.is_known store.old → IsSound (S.nodes store.old) (S.table store.old)
-        → OnOk result (IsSound (S.nodes store.new) (S.table store.new)) }
-    ensures step { S.is_known store.old → IsSound (S.nodes store.old) (S.table store.old)
-        → OnOk result (IsGraftStep (S.nodes store.old) (S.table store.old) s.now d.now keep
-        (S.nodes store.new) (S.table store.new)) }
-    ensures others { S.is_known store.old → IsSound (S.nodes store.old) (S.table store.old)
-        → OnOk result (AreOthersSame (S.nodes store.old) (S.table store.old)
-        (S.nodes store.new) (S.table store.new)) }
+    ensures grafted { OfSound S.NodeStore store.old
+        (OnOk result (IsGrafted (root_at (S.nodes store.old) (S.table store.old)) s.now d.now keep
+        (root_at (S.nodes store.new) (S.table store.new)))) }
+    ensures sound { OfSound S.NodeStore store.old
+        (OnOk result (IsSound (S.nodes store.new) (S.table store.new))) }
+    ensures step { OfSound S.NodeStore store.old
+        (OnOk result (IsGraftStep (S.nodes store.old) (S.table store.old) s.now d.now keep
+        (S.nodes store.new) (S.table store.new))) }
+    ensures others { OfSound S.NodeStore store.old
+        (OnOk result (AreOthersSame (S.nodes store.old) (S.table store.old)
+        (S.nodes store.new) (S.table store.new))) }
     ensures table { OnOk result (IsGrown (S.table store.old) (S.table store.new)) }
-    ensures known { S.is_known store.old → S.is_known store.new }
-    ensures err_table { OnErr result (S.table store.new ≡ S.table store.old) }
-    ensures err_nodes { S.is_known store.old
-        → OnErr result (S.nodes store.new ≡ S.nodes store.old) }
+    ensures stays { Stays S.NodeStore store.old store.new }
+    ensures err { OnErr result (OnlyReads S.NodeStore store.old store.new) }
     ensures cause { HasMapCause (S.fault_count store.old) (S.fault_count store.new)
         (S.bad store.new) (IsWornBy (S.table store.old) (step_under (S.table store.old) node.now
         packed.made.items (graft_messages s.now d.now keep packed.target))) result }
     ensures visits { OnOk result (S.visit_count store.new
         ≡ visited (S.visit_count store.old) (length packed.made.items)) }
     ensures err_visits { OnErr result (S.visit_count store.new ≡ S.visit_count store.old) }
-    ensures same_loans { S.loans store.new ≡ S.loans store.old }
 {
     let root = store.root();
     let list = messages(alloc, s, d, keep, &packed.target)?;
@@ -236,29 +228,26 @@ fn put_over<S: NodeStore>(
     requires high { (S.table store.old).level (S.table store.old).root ≤ packed.level }
     requires ready { IsReady (S.is_known store.old) (S.nodes store.old) (S.table store.old)
         s.now packed }
-    ensures grafted { S.is_known store.old → IsSound (S.nodes store.old) (S.table store.old)
-        → OnOk result (IsGrafted (root_at (S.nodes store.old) (S.table store.old)) s.now d.now keep
-        (root_at (S.nodes store.new) (S.table store.new))) }
-    ensures sound { S.is_known store.old → IsSound (S.nodes store.old) (S.table store.old)
-        → OnOk result (IsSound (S.nodes store.new) (S.table store.new)) }
-    ensures step { S.is_known store.old → IsSound (S.nodes store.old) (S.table store.old)
-        → OnOk result (IsGraftStep (S.nodes store.old) (S.table store.old) s.now d.now keep
-        (S.nodes store.new) (S.table store.new)) }
-    ensures others { S.is_known store.old → IsSound (S.nodes store.old) (S.table store.old)
-        → OnOk result (AreOthersSame (S.nodes store.old) (S.table store.old)
-        (S.nodes store.new) (S.table store.new)) }
+    ensures grafted { OfSound S.NodeStore store.old
+        (OnOk result (IsGrafted (root_at (S.nodes store.old) (S.table store.old)) s.now d.now keep
+        (root_at (S.nodes store.new) (S.table store.new)))) }
+    ensures sound { OfSound S.NodeStore store.old
+        (OnOk result (IsSound (S.nodes store.new) (S.table store.new))) }
+    ensures step { OfSound S.NodeStore store.old
+        (OnOk result (IsGraftStep (S.nodes store.old) (S.table store.old) s.now d.now keep
+        (S.nodes store.new) (S.table store.new))) }
+    ensures others { OfSound S.NodeStore store.old
+        (OnOk result (AreOthersSame (S.nodes store.old) (S.table store.old)
+        (S.nodes store.new) (S.table store.new))) }
     ensures table { OnOk result (IsGrown (S.table store.old) (S.table store.new)) }
-    ensures known { S.is_known store.old → S.is_known store.new }
-    ensures err_table { OnErr result (S.table store.new ≡ S.table store.old) }
-    ensures err_nodes { S.is_known store.old
-        → OnErr result (S.nodes store.new ≡ S.nodes store.old) }
+    ensures stays { Stays S.NodeStore store.old store.new }
+    ensures err { OnErr result (OnlyReads S.NodeStore store.old store.new) }
     ensures cause { HasMapCause (S.fault_count store.old) (S.fault_count store.new)
         (S.bad store.new) (IsWornBy (S.table store.old) (step_over (S.table store.old)
         packed.made.items (graft_messages s.now d.now keep packed.target))) result }
     ensures visits { OnOk result (S.visit_count store.new
         ≡ visited (S.visit_count store.old) (length packed.made.items + 1)) }
     ensures err_visits { OnErr result (S.visit_count store.new ≡ S.visit_count store.old) }
-    ensures same_loans { S.loans store.new ≡ S.loans store.old }
 {
     let root = store.root();
     let next = store.next_id();

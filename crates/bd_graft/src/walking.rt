@@ -5,6 +5,7 @@ ghost use Rattle.bd_limits.specs.Limits.{key_limit};
 ghost use Rattle.bd_keys.specs.Keys.{IsKey};
 ghost use Rattle.bd_message.specs.Effect.{NodesAt, acts};
 ghost use Rattle.bd_message.specs.KeyMaps.{HasMapCause, NeverWorn};
+ghost use Rattle.bd_node.specs.Frames.{OfSound, OnlyReads};
 ghost use Rattle.bd_node.specs.declared.node.Node.{Node};
 ghost use Rattle.bd_node.specs.Nodes.{node_at};
 ghost use Rattle.bd_node.specs.Meaning.{at};
@@ -45,21 +46,18 @@ pub struct Passed {
 /// answers for all these keys. At most one visit a level.
 pub fn walk<S: NodeStore>(alloc: Global, store: &mut S, prefix: &[u8]) -> Result<Walked, MapFault>
     requires { length prefix.now ≤ key_limit }
-    ensures value { S.is_known store.old → IsSound (S.nodes store.old) (S.table store.old)
-        → IfOk result (λ way. (k : List ℕ) → IsKey k
+    ensures value { OfSound S.NodeStore store.old
+        (IfOk result (λ way. (k : List ℕ) → IsKey k
         → acts (at (S.nodes store.old)) (laid way.layers.items) k
         (target_at (at (S.nodes store.old)) way.end k)
-        ≡ root_at (S.nodes store.old) (S.table store.old) (prefix.now ++ k)) }
-    ensures way { S.is_known store.old → IsSound (S.nodes store.old) (S.table store.old)
-        → IfOk result (λ way. IsWay (S.nodes store.old) (S.table store.old).root prefix.now
-        (messages_in way.layers.items) way.end) }
+        ≡ root_at (S.nodes store.old) (S.table store.old) (prefix.now ++ k))) }
+    ensures way { OfSound S.NodeStore store.old
+        (IfOk result (λ way. IsWay (S.nodes store.old) (S.table store.old).root prefix.now
+        (messages_in way.layers.items) way.end)) }
     ensures layers { IfOk result (λ way. AreLayers (S.table store.old)
         ((S.table store.old).level (S.table store.old).root + 1) way.layers.items way.end) }
     ensures short { IfOk result (λ way. IsShort way.end) }
-    ensures table { S.table store.new ≡ S.table store.old }
-    ensures known { S.is_known store.old → S.is_known store.new }
-    ensures kept { S.is_known store.old → S.nodes store.new ≡ S.nodes store.old }
-    ensures read { S.reads store.old store.new }
+    ensures left { OnlyReads S.NodeStore store.old store.new }
     ensures cause { HasMapCause (S.fault_count store.old) (S.fault_count store.new)
         (S.bad store.new) NeverWorn result }
     ensures visits { IfOk result (λ way. AreNoneOr
@@ -67,7 +65,6 @@ pub fn walk<S: NodeStore>(alloc: Global, store: &mut S, prefix: &[u8]) -> Result
         (S.visit_count store.old) (S.visit_count store.new)) }
     ensures few_visits { S.visit_count store.new ≤ S.visit_count store.old
         + (S.table store.old).level (S.table store.old).root }
-    ensures same_loans { S.loans store.new ≡ S.loans store.old }
 {
     let mut id = store.root();
     let mut asked = Bytes::from_slice(alloc, prefix)?;
@@ -120,21 +117,18 @@ fn passed_node<S: NodeStore>(
         ≡ acts below on.layer.messages k (target_at below on.target k))) }
     ensures led { S.is_known store.old → IfOk result (λ found. (n : Node)
         → S.nodes store.old id ≡ Some n → IsPassed n prefix.now found) }
-    ensures layer { IfOk result (λ found. IfSome found (λ on. IsLayer (S.table store.old) on.layer)) }
+    ensures layer { IfOk result (λ found. IfSome found (λ on.
+        IsLayer (S.table store.old) on.layer)) }
     ensures level { IfOk result (λ found. IfSome found (λ on.
         on.layer.level ≡ (S.table store.old).level id)) }
     ensures lower { IfOk result (λ found. IfSome found (λ on.
         IsLowerTarget (S.table store.old) ((S.table store.old).level id) on.target)) }
     ensures end { IfOk result (λ found. IfNone found (length prefix.now ≤ key_limit)) }
     ensures bytes { IsKey prefix.now }
-    ensures table { S.table store.new ≡ S.table store.old }
-    ensures known { S.is_known store.old → S.is_known store.new }
-    ensures kept { S.is_known store.old → S.nodes store.new ≡ S.nodes store.old }
-    ensures read { S.reads store.old store.new }
+    ensures left { OnlyReads S.NodeStore store.old store.new }
     ensures cause { HasMapCause (S.fault_count store.old) (S.fault_count store.new)
         (S.bad store.new) NeverWorn result }
     ensures visits { S.visit_count store.new ≡ visited (S.visit_count store.old) 1 }
-    ensures same_loans { S.loans store.new ≡ S.loans store.old }
 {
     let node = store.fetch(id)?;
     match follow(alloc, &node, prefix)? {

@@ -4,6 +4,7 @@
 #![tactic(auto)]
 
 mod bytes;
+mod items;
 mod edits;
 pub mod laws;
 mod prefix;
@@ -11,5 +12,6 @@ mod range;
 
 pub use bytes::Bytes;
 pub use edits::{front, overwritten, resized, tail};
+pub use items::Items;
 pub use prefix::{after, lift, starts, translate};
 pub use range::{Range, clip};

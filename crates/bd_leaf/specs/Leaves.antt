@@ -1,7 +1,7 @@
 -- The entries of a leaf after messages, and in two parts.
 use Rattle.std.specs.Prelude.{◌≡◌, ℕ, ◌+◌, ◌<◌, ◌≤◌, if◌then◌else◌, List, ◌++◌, length, take, drop, true, false, Option, None, Some, slice_get}
 use Rattle.std.specs.List.{AllByRecursion, sum_by}
-use Rattle.bd_limits.specs.Limits.{leaf_limit, batch_limit}
+use Rattle.bd_limits.specs.Limits.{leaf_limit, batch_limit, base_size}
 use Rattle.bd_keys.specs.Keys.{IsBelow, IsAtLeast}
 use Rattle.bd_message.specs.declared.message.Message.{Message}
 use Rattle.bd_message.specs.Messages.{size}
@@ -43,7 +43,7 @@ pub record IsClipped (old : List Entry) (prefix : List ℕ) (new : List Entry) :
 -- how many bytes a key counts with its value, if it has one
 abbrev pub size_with : List ℕ → Option (List ℕ) → ℕ
 size_with key None = 0
-size_with key (Some value) = 16 + length key + length value
+size_with key (Some value) = base_size + length key + length value
 
 -- what is left where a key gets a value in place of the one that it had
 pub record IsPut (old : List Entry) (key value : List ℕ) (new : List Entry) : Type 0 where

@@ -7,12 +7,9 @@ ghost use Rattle.bd_node.specs.declared.node.Entry.{Entry};
 ghost use Rattle.bd_node.specs.Shape.{entry_size, IsEntry, IsLeaf};
 ghost use Rattle.bd_leaf.specs.Leaves.{AreEntries, entries_size, AreApart, IsMiddle};
 
-use bd_limits::MAX_LEAF;
+use bd_limits::{BASE_SIZE, MAX_LEAF};
 use bd_node::{Entries, Entry};
 use std::alloc::AllocError;
-
-/// What an entry counts beside its bytes.
-const BASE_SIZE: usize = 16;
 
 /// Whether entries count at most 40,960 bytes, as those of a kept leaf do.
 pub fn fits(entries: &[Entry]) -> bool

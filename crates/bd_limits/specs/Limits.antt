@@ -78,6 +78,22 @@ late_limit = 24576
 abbrev pub flush_limit : ℕ
 flush_limit = 65536
 
+-- what a message or an entry counts beside its own bytes
+abbrev pub base_size : ℕ
+base_size = 16
+
+-- a node with at most so many edges has room for the halves of a child
+abbrev pub room_edges : ℕ
+room_edges = 14
+
+-- a node with so many edges or more is split before anything goes below it
+abbrev pub full_edges : ℕ
+full_edges = 15
+
+-- for what there is room in the root before a graft
+abbrev pub graft_size : ℕ
+graft_size = 1600
+
 -- the fewest slots of an image
 abbrev pub slot_minimum : ℕ
 slot_minimum = 24

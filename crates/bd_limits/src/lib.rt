@@ -4,7 +4,7 @@
 #![tactic(auto)]
 
 ghost use Rattle.std.specs.Prelude.{◌≡◌};
-ghost use Rattle.bd_limits.specs.Limits.{path_limit, name_limit, key_limit, block_limit, file_limit, write_limit, read_limit, listing_limit, line_limit, script_limit, piece_limit, buffer_limit, leaf_limit, level_limit, edge_limit, soft_limit, batch_limit, abundant_limit, late_limit, flush_limit, slot_minimum, slot_limit, slot_size};
+ghost use Rattle.bd_limits.specs.Limits.{path_limit, name_limit, key_limit, block_limit, file_limit, write_limit, read_limit, listing_limit, line_limit, script_limit, piece_limit, buffer_limit, leaf_limit, level_limit, edge_limit, soft_limit, batch_limit, abundant_limit, late_limit, flush_limit, base_size, room_edges, full_edges, graft_size, slot_minimum, slot_limit, slot_size};
 
 /// The most bytes of a path in a command.
 pub const MAX_PATH: usize = 512;
@@ -66,6 +66,18 @@ pub const LATE_ROOT: usize = 24_576;
 /// The most flush steps of one command.
 pub const MAX_FLUSHES: usize = 65_536;
 
+/// What a message or an entry counts, in bytes, beside its own bytes.
+pub const BASE_SIZE: usize = 16;
+
+/// A node with at most so many edges has room for the halves of a child.
+pub const ROOM_EDGES: usize = 14;
+
+/// A node with so many edges or more is split before anything goes below it.
+pub const FULL_EDGES: usize = 15;
+
+/// The bytes for which there is room in the root before a graft.
+pub const GRAFT_SIZE: usize = 1600;
+
 /// The fewest slots of an image.
 pub const MIN_SLOTS: u32 = 24;
 
@@ -97,6 +109,10 @@ pub fn law_of_limits()
     ensures abundant { ABUNDANT ≡ abundant_limit }
     ensures late { LATE_ROOT ≡ late_limit }
     ensures flush { MAX_FLUSHES ≡ flush_limit }
+    ensures base { BASE_SIZE ≡ base_size }
+    ensures room { ROOM_EDGES ≡ room_edges }
+    ensures full { FULL_EDGES ≡ full_edges }
+    ensures graft { GRAFT_SIZE ≡ graft_size }
     ensures fewest_slots { MIN_SLOTS ≡ slot_minimum }
     ensures slot { MAX_SLOTS ≡ slot_limit }
     ensures slot_size { SLOT_SIZE ≡ slot_size }

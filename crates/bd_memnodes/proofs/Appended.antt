@@ -1,5 +1,5 @@
 -- The root with more messages.
-use Rattle.std.proofs.Common.{◌≡◌, ℕ, ◌+◌, ◌-◌, suc, sym, ap, subst, ◌∙◌, inl, inr, List, Some, cond, eqb}
+use Rattle.std.proofs.Common.{◌≡◌, ℕ, ◌+◌, ◌-◌, suc, Bool, false, sym, ap, subst, ◌∙◌, inl, inr, List, Some, cond, eqb, Result, Ok, Err, OnOk, IsTrue}
 use Rattle.std.specs.List.{sum_by}
 use Rattle.std.proofs.lemmas.Bool.{cases_eq, cond-true, cond-false, eq-eqb, ne_eqb}
 use Rattle.bd_message.specs.declared.message.Message.{Message}
@@ -9,7 +9,7 @@ use Rattle.bd_node.specs.Nodes.{height_of, appended}
 use Rattle.bd_node.specs.Meaning.{Nodes}
 use Rattle.bd_node.specs.Tables.{Table, IsSound}
 use Rattle.bd_node.specs.Stores.{FitsRoot}
-use Rattle.bd_node.specs.Steps.{after, append_step, grown, IsCommitted}
+use Rattle.bd_node.specs.Steps.{after, append_step, grown, with_touched, HasGrown, IsCommitted}
 use Rattle.bd_node.proofs.Appending.{level_appended, append_sound}
 use Rattle.bd_node.proofs.Stepping.{given_at_root, given_other, after-some, after-none}
 use Rattle.bd_memnodes.specs.Stored.{table_of}
@@ -47,6 +47,7 @@ grown_table nodes new counts at more all next root list there is all_is = λ j. 
   root = at;
   size = all_is j;
   next = next;
+  touched = λ id. false;
 }
 
 -- what a store has after it
@@ -58,3 +59,11 @@ append_done nodes new t u root list s fits there is table =
       stays = λ id kept. ap (λ (m : Nodes). m id) same;
       sound = subst (λ (v : Table). IsSound new v) (sym table) (subst (λ (m : Nodes). IsSound m (grown t list)) (sym same) (append_sound nodes t root list s there fits));
     }
+
+-- and none of its nodes is told as touched
+pub on_ok_grown : {T E : Type 0} (t : Table) (list : List Message) (u : Table) (r : Result T E) → OnOk r (u ≡ grown t list) → ((id : ℕ) → IsTrue (u.touched id) → ⊥) → OnOk r (HasGrown t list u)
+on_ok_grown t list u (Ok x) is none = record {
+  is = is ∙ ap (λ (f : ℕ → Bool). with_touched f (grown t list)) (ap (λ (v : Table). v.touched) (sym is));
+  touched = λ id on. absurd (none id on);
+}
+on_ok_grown t list u (Err e) is none = tt

@@ -8,3 +8,4 @@ pub mod Fresh
 pub mod Same
 pub mod Appended
 pub mod Views
+pub mod Keeping

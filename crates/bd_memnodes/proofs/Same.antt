@@ -1,9 +1,9 @@
 -- What is kept in other memory is the same.
-use Rattle.std.proofs.Common.{◌≡◌, ℕ, ◌+◌, sym, subst, ◌∙◌, arith}
+use Rattle.std.proofs.Common.{◌≡◌, ℕ, ◌+◌, refl, sym, subst, ◌∙◌, arith}
 use Rattle.bd_message.specs.declared.fault.Counter.TheVariants.{Count, NextId, Level, Refs, Epoch, Flushes}
 use Rattle.bd_message.specs.declared.fault.MapFault.{MapFault}
 use Rattle.bd_message.specs.declared.fault.MapFault.TheVariants.{DeviceFault, Damaged, Worn, NoMemory}
-use Rattle.bd_message.specs.KeyMaps.{IsCause}
+use Rattle.bd_message.specs.KeyMaps.{IsCause, StaysUnlessDevice}
 use Rattle.bd_node.specs.declared.node.Step.{Step}
 use Rattle.bd_node.specs.Meaning.{Nodes}
 use Rattle.bd_node.specs.Tables.{Table, IsSound}
@@ -38,6 +38,13 @@ to_old P old new h p =
 
 pub same_whole : (old new : Kept) → SameKept old new → IsWhole old → IsWhole new
 same_whole old new h whole = record { sound = of_same IsSound old new h whole.sound; idle = h.dead ∙ whole.idle }
+
+-- a store in memory counts no fault
+pub never_counts : (f : MapFault) → StaysUnlessDevice 0 0 f
+never_counts DeviceFault = tt
+never_counts (Damaged block) = refl
+never_counts (Worn counter) = refl
+never_counts NoMemory = refl
 
 -- counts that can't rise by the names in a step are worn by it
 pub worn_by_names : (kept : Kept) (step : Step) (f : MapFault) → IsCheckFault (λ c. count_in kept.counts c + times_among (step_names step) c) f → IsCause 0 0 (λ _. ⊥) (IsWornBy (table_in kept) step) f

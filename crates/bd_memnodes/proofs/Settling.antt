@@ -1,5 +1,5 @@
 -- How a step begins, and what is left when no node waits.
-use Rattle.std.proofs.Common.{◌≡◌, ℕ, ◌+◌, ◌-◌, ◌<◌, ◌≤◌, refl, sym, ap, subst, ◌∙◌, arith, inl, inr, List, [], ◌∷◌, ◌++◌, length, Some, ltb}
+use Rattle.std.proofs.Common.{◌≡◌, ℕ, ◌+◌, ◌-◌, ◌<◌, ◌≤◌, refl, sym, ap, subst, ◌∙◌, arith, inl, inr, false, true, List, [], ◌∷◌, ◌++◌, length, Some, ltb}
 use Rattle.std.specs.Prelude.{slice_get, flat_map}
 use Rattle.std.specs.List.{AllByRecursion, sum_by}
 use Rattle.std.proofs.lemmas.Bool.{cases_lt, cond-true, cond-false, lt-ltb, le-ltb}
@@ -169,5 +169,6 @@ settled_done nodes t step size new counts s h size_is =
         same_size = λ none same.
             root_there new (t.next + length step.made) step.root h.closed (size ≡ t.size) (λ n there.
             sym (size_is n there) ∙ s.size n (ap nodes (sym same) ∙ sym (after-none nodes t step step.root none) ∙ sym root_is ∙ there));
+        touched = λ id on. absurd (let e : false ≡ true = on in cc);
       };
     }

@@ -1,5 +1,5 @@
 -- The nodes that are kept, as a store tells of them.
-use Rattle.std.specs.Prelude.{◌≡◌, ℕ, ◌+◌, ◌-◌, ◌≤◌, nat_lt, if◌then◌else◌, List, [], slice_get, vec_capacity}
+use Rattle.std.specs.Prelude.{◌≡◌, ℕ, ◌+◌, ◌-◌, ◌≤◌, nat_lt, if◌then◌else◌, false, List, [], slice_get, vec_capacity}
 use Rattle.std.specs.HashMap.{hash_map_len, spare}
 use Rattle.bd_node.specs.declared.node.Node.{Node}
 use Rattle.bd_node.specs.Nodes.{height_of}
@@ -17,6 +17,7 @@ table_of nodes counts root size next = record {
   root = root;
   size = size;
   next = next;
+  touched = λ id. false;
 }
 
 -- the table of what is kept

@@ -1,6 +1,6 @@
 //! The store in memory.
 
-ghost use Rattle.std.specs.Prelude.{◌≡◌, ℕ, length, OnOk, OnErr, IfOk};
+ghost use Rattle.std.specs.Prelude.{◌≡◌, ℕ, length, OnOk, OnErr, IfOk, ⊤};
 ghost use Rattle.bd_node.specs.Tables.{IsSound};
 ghost use Rattle.bd_node.specs.New.{new_root, new_nodes, new_table};
 ghost use Rattle.bd_memnodes.specs.Seen.{nodes_of, table, SameNodes};
@@ -82,7 +82,7 @@ impl MemNodes {
 }
 
 impl NodeStore for MemNodes {
-    ghost is_known = { λ _. Unit {0} };
+    ghost is_known = { λ _. ⊤ };
 
     ghost nodes = { nodes_of };
 
@@ -101,6 +101,12 @@ impl NodeStore for MemNodes {
     ghost reads_both = { same_nodes-both };
 
     ghost reads_known = { λ a b read known. known };
+
+    ghost keeps = { λ _ _. ⊤ };
+
+    ghost reads_keep = { λ a b read. tt };
+
+    ghost keeps_both = { λ a b c first second. tt };
 
     fn fetch(&mut self, id: u64) -> Result<Rc<Node>, MapFault> {
         self.visits = self.visits.saturating_add(1);
@@ -131,6 +137,10 @@ impl NodeStore for MemNodes {
 
     fn next_id(&self) -> u64 {
         self.kept.next
+    }
+
+    fn kept(&self) -> u64 {
+        self.kept.nodes.len() as u64
     }
 
     fn count(&self, id: u64) -> u64 {

@@ -4,3 +4,4 @@ mod EncodingSizes
 mod Views
 pub mod Prefixes
 pub mod Freed
+pub mod Causes

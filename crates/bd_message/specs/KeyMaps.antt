@@ -1,9 +1,9 @@
 -- What key maps have, what their calls need, and why they fail.
-use Rattle.std.specs.Prelude.{◌≡◌, ℕ, ◌≤◌, Bool, not, false, ◌&&◌, if◌then◌else◌, List, ◌++◌, length, Option, None, Some, IsSome, Result, IfErr, All}
+use Rattle.std.specs.Prelude.{◌≡◌, ℕ, ◌≤◌, Bool, not, false, ◌&&◌, if◌then◌else◌, List, ◌++◌, length, Option, None, Some, IsSome, Result, OnOk, IfErr, All, ⊤}
 use Rattle.std.specs.List.{sum_by}
 use Rattle.bd_io.specs.Cause.{Rose}
 use Rattle.bd_keys.specs.Keys.{Begins, IsAtLeast, IsKey}
-use Rattle.bd_limits.specs.Limits.{key_limit}
+use Rattle.bd_limits.specs.Limits.{key_limit, graft_size}
 use Rattle.bd_message.specs.declared.fault.Counter.{Counter}
 use Rattle.bd_message.specs.declared.fault.MapFault.{MapFault}
 use Rattle.bd_message.specs.declared.fault.MapFault.TheVariants.{DeviceFault, Damaged, Worn, NoMemory}
@@ -54,7 +54,7 @@ pub record CanGraft (s d : List ℕ) (keep : Bool) (room : ℕ) : Type 0 where
   pub source : length s ≤ key_limit
   pub target : length d ≤ key_limit
   pub outside : keep ≡ false → ¬ Begins d s
-  pub fits : 1600 ≤ room
+  pub fits : graft_size ≤ room
 
 -- a fault of the device is returned only where its count rose, damage only of a bad block, a worn
 -- counter only where it is
@@ -62,21 +62,31 @@ abbrev pub IsCause : ℕ → ℕ → (ℕ → Type 0) → (Counter → Type 0) �
 IsCause before now bad worn DeviceFault = Rose before now
 IsCause before now bad worn (Damaged block) = bad block
 IsCause before now bad worn (Worn counter) = worn counter
-IsCause before now bad worn NoMemory = Unit {0}
+IsCause before now bad worn NoMemory = ⊤
 
 -- no counter is at its end
 abbrev pub NeverWorn : Counter → Type 0
 NeverWorn _ = ⊥
 
--- the count of faults never falls, and a call fails only for a cause
+-- the count of faults stays at each fault but the device's
+abbrev pub StaysUnlessDevice : ℕ → ℕ → MapFault → Type 0
+StaysUnlessDevice before now DeviceFault = ⊤
+StaysUnlessDevice before now (Damaged block) = now ≡ before
+StaysUnlessDevice before now (Worn counter) = now ≡ before
+StaysUnlessDevice before now NoMemory = now ≡ before
+
+-- the count of faults never falls, and rises in no call but one that answers with the device's
+-- fault; a call fails only for a cause
 pub record HasMapCause {T : Type 0} (before now : ℕ) (bad : ℕ → Type 0) (worn : Counter → Type 0)
     (result : Result T MapFault) : Type 0 where
   pub later : before ≤ now
+  pub kept : OnOk result (now ≡ before)
+  pub stays : IfErr result (StaysUnlessDevice before now)
   pub failed : IfErr result (IsCause before now bad worn)
 
 -- what a read leaves: what is known and has a value, the room, the loans; no counter comes nearer
 -- to its end
-pub record IsLeft {M : Type 0} (is_known : M → Type 0) (has : M → At) (room_of : M → ℕ)
+pub record IsLeftBy {M : Type 0} (is_known : M → Type 0) (has : M → At) (room_of : M → ℕ)
     (worn : M → Counter → Type 0) (reads : M → M → Type 0) (loans : M → List ℕ) (old new : M)
     : Type 0 where
   pub known : is_known old → is_known new

@@ -5,3 +5,4 @@ pub mod Freeing
 pub mod KeyMaps
 pub mod Messages
 pub mod Counters
+pub mod Reads

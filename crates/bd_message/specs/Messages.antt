@@ -1,6 +1,6 @@
 -- Messages: what they may hold, and how large they count.
 use Rattle.std.specs.Prelude.{ℕ, ◌+◌, ◌^◌, ◌<◌, ◌≤◌, length}
-use Rattle.bd_limits.specs.Limits.{key_limit, block_limit}
+use Rattle.bd_limits.specs.Limits.{key_limit, block_limit, base_size}
 use Rattle.bd_message.specs.declared.message.Message.{Message}
 use Rattle.bd_message.specs.declared.message.Message.TheVariants.{Put, Del, Patch, Cut, Goto}
 
@@ -23,8 +23,8 @@ IsPlain _ = Unit {0}
 
 -- how many bytes it counts in a buffer
 abbrev pub size : Message → ℕ
-size (Put key value) = 16 + length key + length value
-size (Del key) = 16 + length key
-size (Patch key off bytes) = 16 + length key + off + length bytes
-size (Cut prefix from) = 16 + length prefix + length from
-size (Goto prefix source child) = 16 + length prefix + length source
+size (Put key value) = base_size + length key + length value
+size (Del key) = base_size + length key
+size (Patch key off bytes) = base_size + length key + off + length bytes
+size (Cut prefix from) = base_size + length prefix + length from
+size (Goto prefix source child) = base_size + length prefix + length source

@@ -3,7 +3,7 @@
 ghost use Rattle.std.specs.Prelude.{◌≡◌, ℕ, List, [], ◌∷◌, Option, IfOk, OnOk, OnErr};
 ghost use Rattle.std.specs.Option.{option_map};
 ghost use Rattle.bd_message.specs.declared.fault.Counter.{Counter};
-ghost use Rattle.bd_message.specs.KeyMaps.{At, SameAt, IsNext, IsBatch, CanGraft, IsApplied, IsGrafted, IsLeft, HasMapCause, NeverWorn};
+ghost use Rattle.bd_message.specs.KeyMaps.{At, SameAt, IsNext, IsBatch, CanGraft, IsApplied, IsGrafted, IsLeftBy, HasMapCause, NeverWorn};
 
 use crate::{MapFault, Message};
 
@@ -39,7 +39,7 @@ pub trait KeyMap {
     fn get(&mut self, key: &[u8]) -> Result<Option<Vec<u8>>, MapFault>
         ensures value { is_known self.old → IfOk result (λ found.
             option_map (λ value. value.items) found ≡ has self.old key.now) }
-        ensures left { IsLeft is_known has room_of worn reads loans self.old self.new }
+        ensures left { IsLeftBy is_known has room_of worn reads loans self.old self.new }
         ensures cause { HasMapCause (fault_count self.old) (fault_count self.new)
             (bad self.new) NeverWorn result };
 
@@ -47,7 +47,7 @@ pub trait KeyMap {
     fn next(&mut self, from: &[u8], within: &[u8]) -> Result<Option<Vec<u8>>, MapFault>
         ensures next { is_known self.old → IfOk result (λ found.
             IsNext (has self.old) from.now within.now (option_map (λ key. key.items) found)) }
-        ensures left { IsLeft is_known has room_of worn reads loans self.old self.new }
+        ensures left { IsLeftBy is_known has room_of worn reads loans self.old self.new }
         ensures cause { HasMapCause (fault_count self.old) (fault_count self.new)
             (bad self.new) NeverWorn result };
 

@@ -5,10 +5,7 @@ ghost use Rattle.bd_limits.specs.Limits.{key_limit, block_limit};
 ghost use Rattle.bd_message.specs.Messages.{IsMessage, size};
 
 use bd_keys::Bytes;
-use bd_limits::{MAX_BLOCK, MAX_KEY};
-
-// What each message counts beside its bytes.
-const BASE_SIZE: usize = 16;
+use bd_limits::{BASE_SIZE, MAX_BLOCK, MAX_KEY};
 
 /// A change of a key map.
 #[derive(Clone, Debug, PartialEq, Eq, Drop)]

@@ -1,5 +1,5 @@
 -- What nodes have after a step.
-use Rattle.std.proofs.Common.{◌≡◌, ℕ, ◌+◌, ◌-◌, ◌<◌, ◌≤◌, cond, List, [], ◌∷◌, refl, sym, ap, subst, ◌∙◌, Option, None, Some, arith, inl, inr, IsSome, ltb, eqb}
+use Rattle.std.proofs.Common.{◌≡◌, ℕ, ◌+◌, ◌-◌, ◌<◌, ◌≤◌, cond, List, [], ◌∷◌, refl, sym, ap, subst, ◌∙◌, Option, None, Some, arith, inl, inr, IsSome, IsTrue, ◌⊎◌, ltb, eqb}
 use Rattle.std.specs.Prelude.{slice_get}
 use Rattle.std.specs.List.{AllByRecursion}
 use Rattle.std.proofs.lemmas.Bool.{cases_eq, cases_lt, cases_Bool, eq-eqb, ne_eqb, lt-ltb, le-ltb, cond-true, cond-false}
@@ -13,7 +13,7 @@ use Rattle.bd_node.specs.Nodes.{level_of, names, times, node_at, node_has, is_ke
 use Rattle.bd_node.specs.Meaning.{Nodes, at, IsLevelled, Meets}
 use Rattle.bd_node.specs.Tables.{Table, IsKept, IsTable, IsLower, IsNodeOf, IsStored, IsSound, root_at}
 use Rattle.bd_node.specs.Private.{IsPrivate}
-use Rattle.bd_node.specs.Steps.{changed_at, given, given_or, after, level_or, level_after, IsNamable, IsStep, IsInPlace, IsCommitted, root_step, IsKeeping, IsMoving}
+use Rattle.bd_node.specs.Steps.{changed_at, given, given_or, after, level_or, level_after, IsNamable, IsStep, IsInPlace, IsTableAfter, IsCommitted, root_step, IsKeeping, IsMoving}
 use Rattle.bd_node.proofs.Lookup.{Agree, each_weaker, each_named, named_has, node_at-same, node_has-same, node_has-key, key-is_key}
 use Rattle.bd_node.proofs.Meanings.{at-meets, meets_agree, at_untouched, at-others}
 use Rattle.bd_node.proofs.Sound.{kept_there, node_of, sound-levelled, named_lower, root_unnamed}
@@ -49,6 +49,18 @@ changed_has P (c ∷ cs) id n h e =
           let R : Node → Type 0 = λ m. P (record { id = id; node = m }) in
           subst R node (subst Q (sym same) h.0))
       | inr other ↦ changed_has P cs id n h.1 (sym (changed_at-other c cs id other) ∙ e)
+    ]
+
+-- what holds of each changed id holds of each that a step may have touched
+touched_by : (P : ℕ → Type 0) (cs : List Change) (id : ℕ) (o : Option Node) → AllByRecursion (λ (c : Change). P c.id) cs → changed_at cs id ≡ o → IsSome o → P id
+touched_by P cs id None all is some = cc
+touched_by P cs id (Some n) all is some = changed_has (λ (c : Change). P c.id) cs id n all is
+
+pub touched_in : (P : ℕ → Type 0) (t u : Table) (step : Step) → IsTableAfter t step u → AllByRecursion (λ (c : Change). P c.id) step.changes → (id : ℕ) → IsTrue (u.touched id) → IsTrue (t.touched id) ⊎ P id
+touched_in P t u step after all id on =
+    elim (after.touched id on) [
+      | inl was ↦ inl was
+      | inr some ↦ inr (touched_by P step.changes id (changed_at step.changes id) all refl some)
     ]
 
 -- the node of an id that isn't given one stays

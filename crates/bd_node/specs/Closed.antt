@@ -1,5 +1,5 @@
 -- Nodes that are sound but for ones that nothing names.
-use Rattle.std.specs.Prelude.{◌≡◌, ℕ, ◌-◌, ◌<◌, ◌≤◌, ◌==◌, if◌then◌else◌, Option, None, Some}
+use Rattle.std.specs.Prelude.{◌≡◌, ℕ, ◌-◌, ◌<◌, ◌≤◌, ◌==◌, if◌then◌else◌, false, Option, None, Some}
 use Rattle.bd_node.specs.declared.node.Node.{Node}
 use Rattle.bd_node.specs.Nodes.{height_of, buffer_size}
 use Rattle.bd_node.specs.Meaning.{Nodes, IsLevelled}
@@ -32,4 +32,5 @@ table_from nodes next root = record {
   root = root;
   size = buffer_size_in (nodes root);
   next = next;
+  touched = λ id. false;
 }

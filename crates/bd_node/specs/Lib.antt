@@ -6,5 +6,6 @@ pub mod Tables
 pub mod Private
 pub mod Steps
 pub mod Stores
+pub mod Frames
 pub mod Closed
 pub mod New

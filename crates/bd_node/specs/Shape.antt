@@ -1,7 +1,7 @@
 -- Well-formed nodes.
 use Rattle.std.specs.Prelude.{◌≡◌, ℕ, ◌+◌, ◌<◌, ◌≤◌, ◌^◌, ◌⊎◌, true, List, [], ◌∷◌, length, take, Option, None, Some, slice_get}
 use Rattle.std.specs.List.{AllByRecursion, sum_by}
-use Rattle.bd_limits.specs.Limits.{key_limit, block_limit, buffer_limit, leaf_limit, level_limit, edge_limit}
+use Rattle.bd_limits.specs.Limits.{key_limit, block_limit, buffer_limit, leaf_limit, level_limit, edge_limit, base_size}
 use Rattle.bd_keys.specs.Keys.{IsBelow, IsBelowEnd, InRange, IsCommon}
 use Rattle.bd_message.specs.declared.message.Message.{Message}
 use Rattle.bd_message.specs.Messages.{IsMessage, size}
@@ -15,7 +15,7 @@ use Rattle.bd_node.specs.Touching.{touches}
 
 -- how many bytes an entry counts: as its Put
 abbrev pub entry_size : Entry → ℕ
-entry_size e = 16 + length e.key + length e.value
+entry_size e = base_size + length e.key + length e.value
 
 -- a key of at most 518 bytes and a value of 1 to 1,024
 pub record IsEntry (e : Entry) : Type 0 where

@@ -1,5 +1,5 @@
 -- Steps from nodes to nodes.
-use Rattle.std.specs.Prelude.{◌≡◌, ◌≢◌, ℕ, ◌+◌, ◌-◌, ◌^◌, ◌<◌, ◌≤◌, ◌⊎◌, ◌==◌, nat_lt, if◌then◌else◌, List, [], ◌∷◌, length, Option, None, Some, slice_get, IsSome}
+use Rattle.std.specs.Prelude.{◌≡◌, ◌≢◌, ℕ, ◌+◌, ◌-◌, ◌^◌, ◌<◌, ◌≤◌, ◌⊎◌, ◌==◌, nat_lt, if◌then◌else◌, List, [], ◌∷◌, length, Option, None, Some, slice_get, IsSome, IsTrue, Bool, ⊤}
 use Rattle.std.specs.List.{AllByRecursion, sum_by}
 use Rattle.bd_keys.specs.Keys.{IsKey}
 use Rattle.bd_message.specs.declared.fault.Counter.{Counter}
@@ -74,7 +74,7 @@ pub record IsChange (t : Table) (step : Step) (c : Change) : Type 0 where
 
 -- no two changes are of one node
 abbrev pub AreOnce : List Change → Type 0
-AreOnce [] = Unit {0}
+AreOnce [] = ⊤
 AreOnce (c ∷ cs) = AllByRecursion (λ (d : Change). d.id ≢ c.id) cs × AreOnce cs
 
 -- a step that may be made, whatever the nodes are
@@ -120,6 +120,8 @@ pub record IsTableAfter (t : Table) (step : Step) (new : Table) : Type 0 where
   pub level : (id : ℕ) → IsKept new id → new.level id ≡ level_after t step id
   pub size : (n : Node) → given t.next step step.root ≡ Some n → new.size ≡ buffer_size n
   pub same_size : given t.next step step.root ≡ None → step.root ≡ t.root → new.size ≡ t.size
+  pub touched : (id : ℕ) → IsTrue (new.touched id)
+      → IsTrue (t.touched id) ⊎ IsSome (changed_at step.changes id)
 
 -- the nodes that stay are as the step leaves them, and sound
 pub record IsCommitted (nodes : Nodes) (t : Table) (step : Step) (new : Nodes) (u : Table) : Type 0
@@ -150,6 +152,15 @@ append_step t root list = root_step t.root (appended root list)
 -- the table after it: only the size of the root's messages has grown
 abbrev pub grown : Table → List Message → Table
 grown t list = record t { size = t.size + sum_by size list }
+
+-- the table with these nodes as those that steps may have changed
+abbrev pub with_touched : (ℕ → Bool) → Table → Table
+with_touched touched t = record t { touched = touched }
+
+-- a table that has only grown, in which the root may have been changed
+pub record HasGrown (t : Table) (list : List Message) (new : Table) : Type 0 where
+  pub is : new ≡ with_touched new.touched (grown t list)
+  pub touched : (id : ℕ) → IsTrue (new.touched id) → IsTrue (t.touched id) ⊎ (id ≡ t.root)
 
 -- ---- what each id has after a step
 

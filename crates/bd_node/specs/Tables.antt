@@ -1,5 +1,5 @@
 -- What a store knows of its nodes whatever their contents are, and sound nodes.
-use Rattle.std.specs.Prelude.{◌≡◌, ℕ, zero, suc, ◌+◌, ◌<◌, ◌≤◌, ◌==◌, if◌then◌else◌, Option, None, Some}
+use Rattle.std.specs.Prelude.{◌≡◌, ℕ, zero, suc, ◌+◌, ◌<◌, ◌≤◌, ◌==◌, nat_le, if◌then◌else◌, Bool, Option, None, Some}
 use Rattle.std.specs.List.{AllByRecursion}
 use Rattle.bd_message.specs.KeyMaps.{At}
 use Rattle.bd_node.specs.declared.node.Node.{Node}
@@ -8,13 +8,15 @@ use Rattle.bd_node.specs.Meaning.{Nodes, at}
 use Rattle.bd_node.specs.Shape.{IsShape}
 
 -- how often each node is named, 0 where it isn't kept; the levels; the root, and the size of the
--- messages that wait in it; the id that the next new node gets
+-- messages that wait in it; the id that the next new node gets; the nodes that steps may have
+-- changed in place since the store's last checkpoint
 pub record Table : Type 0 where
   pub count : ℕ → ℕ
   pub level : ℕ → ℕ
   pub root : ℕ
   pub size : ℕ
   pub next : ℕ
+  pub touched : ℕ → Bool
 
 -- the store holds the node
 abbrev pub IsKept : Table → ℕ → Type 0
@@ -24,6 +26,10 @@ IsKept t id = 1 ≤ t.count id
 unfoldable pub sum_below : ℕ → (ℕ → ℕ) → ℕ
 sum_below zero f = 0
 sum_below (suc n) f = f n + sum_below n f
+
+-- how many nodes are kept
+unfoldable pub kept_count : Table → ℕ
+kept_count t = sum_below t.next (λ id. if nat_le 1 (t.count id) then 1 else 0)
 
 -- how often the node, if there is one, names another
 abbrev pub times_in : Option Node → ℕ → ℕ

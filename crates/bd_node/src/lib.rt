@@ -3,14 +3,13 @@
 //! The layers above use the contract of `NodeStore`, what a node has at a key, and the laws.
 #![tactic(auto)]
 
-mod items;
 pub mod laws;
 mod messages;
 mod node;
 mod steps;
 mod store;
 
-pub use items::Items;
+pub use bd_keys::Items;
 pub use messages::{Messages, touches};
 pub use node::{Change, Changes, Edge, Edges, Entries, Entry, Node, Nodes, Step};
 pub use steps::Steps;

@@ -5,9 +5,9 @@ ghost use Rattle.bd_message.specs.KeyMaps.{HasMapCause, NeverWorn};
 ghost use Rattle.bd_node.specs.declared.node.Node.{Node};
 ghost use Rattle.bd_node.specs.Nodes.{buffer_size};
 ghost use Rattle.bd_node.specs.Meaning.{Nodes};
-ghost use Rattle.bd_node.specs.Tables.{Table, IsKept, IsTable, IsNodeOf, IsSound};
-ghost use Rattle.bd_node.specs.Steps.{IsStep, IsInPlace, IsTableAfter, IsCommitted, IsWornBy, append_step, grown};
-ghost use Rattle.bd_node.specs.Stores.{visited, FitsRoot};
+ghost use Rattle.bd_node.specs.Tables.{Table, kept_count, IsKept, IsTable, IsNodeOf, IsSound};
+ghost use Rattle.bd_node.specs.Steps.{IsStep, IsInPlace, IsTableAfter, IsCommitted, IsWornBy, append_step, HasGrown};
+ghost use Rattle.bd_node.specs.Stores.{visited, FitsRoot, OnlyReadsBy, StaysBy};
 
 use crate::{Messages, Node, Step};
 use bd_message::MapFault;
@@ -38,6 +38,10 @@ pub trait NodeStore {
     /// what is counted has changed.
     ghost reads: { Self → Self → Type 0 };
 
+    /// What any call may change beside the nodes: from the first store to the second nothing has
+    /// changed that a loss of power or a later start could tell.
+    ghost keeps: { Self → Self → Type 0 };
+
     /// The loans through which calls reach the store, the outermost first: none for the store
     /// itself.
     ghost loans: { Self → List ℕ } = { λ _. [] };
@@ -51,14 +55,10 @@ pub trait NodeStore {
             IsNodeOf (table self.old) ((table self.old).level id) node.value) }
         ensures root { IfOk result (λ node.
             id ≡ (table self.old).root → buffer_size node.value ≡ (table self.old).size) }
-        ensures table { table self.new ≡ table self.old }
-        ensures known { is_known self.old → is_known self.new }
-        ensures kept { is_known self.old → nodes self.new ≡ nodes self.old }
+        ensures left { OnlyReadsBy is_known nodes table reads loans self.old self.new }
         ensures visits { visit_count self.new ≡ visited (visit_count self.old) 1 }
-        ensures read { reads self.old self.new }
         ensures cause { HasMapCause (fault_count self.old) (fault_count self.new)
-            (bad self.new) NeverWorn result }
-        ensures same_loans { loans self.new ≡ loans self.old };
+            (bad self.new) NeverWorn result };
 
     /// Makes a step, all of it or nothing. The counts are exact after it; a node whose count has
     /// fallen to 0 goes, and what it alone named too. One visit for each made node.
@@ -70,32 +70,30 @@ pub trait NodeStore {
         ensures committed { is_known self.old → IsSound (nodes self.old) (table self.old)
             → OnOk result (IsCommitted (nodes self.old) (table self.old) step
             (nodes self.new) (table self.new)) }
-        ensures known { is_known self.old → is_known self.new }
+        ensures stays { StaysBy is_known keeps loans self.old self.new }
+        ensures err { OnErr result
+            (OnlyReadsBy is_known nodes table reads loans self.old self.new) }
         ensures visits { OnOk result
             (visit_count self.new ≡ visited (visit_count self.old) (length step.made)) }
-        ensures err_table { OnErr result (table self.new ≡ table self.old) }
-        ensures err_nodes { is_known self.old → OnErr result (nodes self.new ≡ nodes self.old) }
         ensures err_visits { OnErr result (visit_count self.new ≡ visit_count self.old) }
         ensures cause { HasMapCause (fault_count self.old) (fault_count self.new)
-            (bad self.new) (IsWornBy (table self.old) step) result }
-        ensures same_loans { loans self.new ≡ loans self.old };
+            (bad self.new) (IsWornBy (table self.old) step) result };
 
     /// Puts messages after those that wait in the root: the commit of the root changed so, for the
     /// cost of the messages alone where nobody else holds the root's node. No visit.
     fn append(&mut self, list: Messages) -> Result<(), MapFault>
         requires { FitsRoot (table self.old) list }
-        ensures table { OnOk result (table self.new ≡ grown (table self.old) list) }
+        ensures table { OnOk result (HasGrown (table self.old) list (table self.new)) }
         ensures committed { is_known self.old → IsSound (nodes self.old) (table self.old)
             → (root : Node) → nodes self.old (table self.old).root ≡ Some root
             → OnOk result (IsCommitted (nodes self.old) (table self.old)
             (append_step (table self.old) root list) (nodes self.new) (table self.new)) }
-        ensures known { is_known self.old → is_known self.new }
-        ensures err_table { OnErr result (table self.new ≡ table self.old) }
-        ensures err_nodes { is_known self.old → OnErr result (nodes self.new ≡ nodes self.old) }
+        ensures stays { StaysBy is_known keeps loans self.old self.new }
+        ensures err { OnErr result
+            (OnlyReadsBy is_known nodes table reads loans self.old self.new) }
         ensures visits { visit_count self.new ≡ visit_count self.old }
         ensures cause { HasMapCause (fault_count self.old) (fault_count self.new)
-            (bad self.new) NeverWorn result }
-        ensures same_loans { loans self.new ≡ loans self.old };
+            (bad self.new) NeverWorn result };
 
     /// The root's id. It is kept, and an inner node.
     fn root(&self) -> u64
@@ -106,6 +104,10 @@ pub trait NodeStore {
     fn next_id(&self) -> u64
         ensures value { result ≡ (table self.now).next }
         ensures table { IsTable (table self.now) };
+
+    /// How many nodes it keeps.
+    fn kept(&self) -> u64
+        ensures { result ≡ kept_count (table self.now) };
 
     /// How often a node is named.
     fn count(&self, id: u64) -> u64
@@ -137,6 +139,12 @@ pub trait NodeStore {
 
     /// What is known after reads was known before them.
     ghost reads_known: { (a b : Self) → reads a b → is_known b → is_known a };
+
+    /// Reads change no more than any call may.
+    ghost reads_keep: { (a b : Self) → reads a b → keeps a b };
+
+    /// What two calls may change, one after the other, calls may.
+    ghost keeps_both: { (a b c : Self) → keeps a b → keeps b c → keeps a c };
 }
 
 impl<S: NodeStore> NodeStore for &mut S {
@@ -154,6 +162,8 @@ impl<S: NodeStore> NodeStore for &mut S {
 
     ghost reads = { λ a b. S.reads a.now b.now };
 
+    ghost keeps = { λ a b. S.keeps a.now b.now };
+
     ghost loans = { λ s. s.ghost_name ∷ S.loans s.now };
 
     ghost reads_none = { λ s. S.reads_none s.now };
@@ -161,6 +171,10 @@ impl<S: NodeStore> NodeStore for &mut S {
     ghost reads_both = { λ a b c. S.reads_both a.now b.now c.now };
 
     ghost reads_known = { λ a b. S.reads_known a.now b.now };
+
+    ghost reads_keep = { λ a b. S.reads_keep a.now b.now };
+
+    ghost keeps_both = { λ a b c. S.keeps_both a.now b.now c.now };
 
     fn fetch(&mut self, id: u64) -> Result<Rc<Node>, MapFault> {
         NodeStore::fetch(&mut **self, id)
@@ -180,6 +194,10 @@ impl<S: NodeStore> NodeStore for &mut S {
 
     fn next_id(&self) -> u64 {
         NodeStore::next_id(&**self)
+    }
+
+    fn kept(&self) -> u64 {
+        NodeStore::kept(&**self)
     }
 
     fn count(&self, id: u64) -> u64 {

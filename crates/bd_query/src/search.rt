@@ -4,6 +4,7 @@ ghost use Rattle.std.specs.Prelude.{◌≡◌, ℕ, List, IfOk, OnOk};
 ghost use Rattle.std.specs.Option.{option_map};
 ghost use Rattle.bd_keys.specs.Keys.{IsAtLeast};
 ghost use Rattle.bd_message.specs.KeyMaps.{HasMapCause, NeverWorn, IsNext};
+ghost use Rattle.bd_node.specs.Frames.{OfSound, OnlyReads};
 ghost use Rattle.bd_node.specs.Meaning.{at};
 ghost use Rattle.bd_node.specs.Tables.{IsKept, IsSound};
 ghost use Rattle.bd_query.specs.Asks.{AreVisitsOfWays};
@@ -27,19 +28,15 @@ pub fn next<S: NodeStore>(
     within: &[u8],
 ) -> Result<Option<Vec<u8>>, MapFault>
     requires { IsKept (S.table store.old) root }
-    ensures next { S.is_known store.old → IsSound (S.nodes store.old) (S.table store.old)
-        → IfOk result (λ found. IsNext (at (S.nodes store.old) root) from.now within.now
-        (option_map (λ key. key.items) found)) }
-    ensures table { S.table store.new ≡ S.table store.old }
-    ensures known { S.is_known store.old → S.is_known store.new }
-    ensures kept { S.is_known store.old → S.nodes store.new ≡ S.nodes store.old }
-    ensures read { S.reads store.old store.new }
+    ensures next { OfSound S.NodeStore store.old
+        (IfOk result (λ found. IsNext (at (S.nodes store.old) root) from.now within.now
+        (option_map (λ key. key.items) found))) }
+    ensures left { OnlyReads S.NodeStore store.old store.new }
     ensures cause { HasMapCause (S.fault_count store.old) (S.fault_count store.new)
         (S.bad store.new) NeverWorn result }
-    ensures ways { S.is_known store.old → IsSound (S.nodes store.old) (S.table store.old)
-        → OnOk result (AreVisitsOfWays (S.nodes store.old) root from.now
-        (S.visit_count store.old) (S.visit_count store.new)) }
-    ensures same_loans { S.loans store.new ≡ S.loans store.old }
+    ensures ways { OfSound S.NodeStore store.old
+        (OnOk result (AreVisitsOfWays (S.nodes store.old) root from.now
+        (S.visit_count store.old) (S.visit_count store.new))) }
 {
     // The measure is how many keys of a bounded length are above `low`: each end is above the key
     // that was asked, and no longer than the node's level allows, whatever the nodes are.

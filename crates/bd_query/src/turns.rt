@@ -6,6 +6,7 @@ ghost use Rattle.bd_limits.specs.Limits.{key_limit};
 ghost use Rattle.bd_keys.specs.Keys.{IsKey, InRange, Begins};
 ghost use Rattle.bd_message.specs.Effect.{NodesAt};
 ghost use Rattle.bd_message.specs.KeyMaps.{At, HasMapCause, NeverWorn};
+ghost use Rattle.bd_node.specs.Frames.{OfSound, OnlyReads};
 ghost use Rattle.bd_node.specs.declared.node.Node.{Node};
 ghost use Rattle.bd_node.specs.Nodes.{node_at};
 ghost use Rattle.bd_node.specs.Meaning.{at};
@@ -40,25 +41,21 @@ pub fn turn_at<S: NodeStore>(
     key: &[u8],
 ) -> Result<Turn, MapFault>
     requires { IsKept (S.table store.old) id }
-    ensures turn { S.is_known store.old → IsSound (S.nodes store.old) (S.table store.old)
-        → IfOk result (λ turn. IsTurn (at (S.nodes store.old) id) key.now turn) }
+    ensures turn { OfSound S.NodeStore store.old
+        (IfOk result (λ turn. IsTurn (at (S.nodes store.old) id) key.now turn)) }
     ensures passes { IfOk result (λ turn.
         PassesTo key.now (way_limit ((S.table store.old).level id)) turn) }
     ensures bytes { IsKey key.now }
-    ensures table { S.table store.new ≡ S.table store.old }
-    ensures known { S.is_known store.old → S.is_known store.new }
-    ensures kept { S.is_known store.old → S.nodes store.new ≡ S.nodes store.old }
-    ensures read { S.reads store.old store.new }
+    ensures left { OnlyReads S.NodeStore store.old store.new }
     ensures cause { HasMapCause (S.fault_count store.old) (S.fault_count store.new)
         (S.bad store.new) NeverWorn result }
     ensures visits { OnOk result (AreVisits 1 ((S.table store.old).level id + 1)
         (S.visit_count store.old) (S.visit_count store.new)) }
     ensures few_visits { S.visit_count store.new
         ≤ S.visit_count store.old + ((S.table store.old).level id + 1) }
-    ensures way { S.is_known store.old → IsSound (S.nodes store.old) (S.table store.old)
-        → OnOk result (AreVisitsOfWay (S.nodes store.old) id key.now
-        (S.visit_count store.old) (S.visit_count store.new)) }
-    ensures same_loans { S.loans store.new ≡ S.loans store.old }
+    ensures way { OfSound S.NodeStore store.old
+        (OnOk result (AreVisitsOfWay (S.nodes store.old) id key.now
+        (S.visit_count store.old) (S.visit_count store.new))) }
 {
     match stretch_at(alloc, store, id, key)? {
         Stretch::Present => Ok(Turn::Found),
@@ -94,14 +91,10 @@ fn stretch_at<S: NodeStore>(
     ensures asks { S.is_known store.old → IfOk result (λ stretch. (n : Node)
         → S.nodes store.old id ≡ Some n → asked_at n key.now ≡ asked_in stretch key.now) }
     ensures bytes { IsKey key.now }
-    ensures table { S.table store.new ≡ S.table store.old }
-    ensures known { S.is_known store.old → S.is_known store.new }
-    ensures kept { S.is_known store.old → S.nodes store.new ≡ S.nodes store.old }
-    ensures read { S.reads store.old store.new }
+    ensures left { OnlyReads S.NodeStore store.old store.new }
     ensures cause { HasMapCause (S.fault_count store.old) (S.fault_count store.new)
         (S.bad store.new) NeverWorn result }
     ensures visits { S.visit_count store.new ≡ visited (S.visit_count store.old) 1 }
-    ensures same_loans { S.loans store.new ≡ S.loans store.old }
 {
     let node = store.fetch(id)?;
     Ok(stretch_of(alloc, &node, key)?)

@@ -5,6 +5,7 @@ ghost use Rattle.std.specs.Option.{option_map, unwrap_or};
 ghost use Rattle.bd_keys.specs.Keys.{IsKey};
 ghost use Rattle.bd_message.specs.Effect.{NodesAt};
 ghost use Rattle.bd_message.specs.KeyMaps.{HasMapCause, NeverWorn};
+ghost use Rattle.bd_node.specs.Frames.{OfSound, OnlyReads};
 ghost use Rattle.bd_node.specs.declared.node.Node.{Node};
 ghost use Rattle.bd_node.specs.Nodes.{node_at};
 ghost use Rattle.bd_node.specs.Meaning.{at};
@@ -29,20 +30,16 @@ pub fn get<S: NodeStore>(
     key: &[u8],
 ) -> Result<Option<Vec<u8>>, MapFault>
     requires { IsKept (S.table store.old) root }
-    ensures value { S.is_known store.old → IsSound (S.nodes store.old) (S.table store.old)
-        → IfOk result (λ found.
-        option_map (λ value. value.items) found ≡ at (S.nodes store.old) root key.now) }
-    ensures table { S.table store.new ≡ S.table store.old }
-    ensures known { S.is_known store.old → S.is_known store.new }
-    ensures kept { S.is_known store.old → S.nodes store.new ≡ S.nodes store.old }
-    ensures read { S.reads store.old store.new }
+    ensures value { OfSound S.NodeStore store.old
+        (IfOk result (λ found.
+        option_map (λ value. value.items) found ≡ at (S.nodes store.old) root key.now)) }
+    ensures left { OnlyReads S.NodeStore store.old store.new }
     ensures cause { HasMapCause (S.fault_count store.old) (S.fault_count store.new)
         (S.bad store.new) NeverWorn result }
     ensures visits { OnOk result (AreVisits 1 ((S.table store.old).level root + 1)
         (S.visit_count store.old) (S.visit_count store.new)) }
     ensures few_visits { S.visit_count store.new
         ≤ S.visit_count store.old + ((S.table store.old).level root + 1) }
-    ensures same_loans { S.loans store.new ≡ S.loans store.old }
 {
     let mut id = root;
     let mut asked = Bytes::from_slice(alloc, key)?;
@@ -79,14 +76,10 @@ fn fetched<S: NodeStore>(
     ensures lower { IfOk result (λ part.
         IsLowerBase (S.table store.old) ((S.table store.old).level id) part.base) }
     ensures bytes { IsKey key.now }
-    ensures table { S.table store.new ≡ S.table store.old }
-    ensures known { S.is_known store.old → S.is_known store.new }
-    ensures kept { S.is_known store.old → S.nodes store.new ≡ S.nodes store.old }
-    ensures read { S.reads store.old store.new }
+    ensures left { OnlyReads S.NodeStore store.old store.new }
     ensures cause { HasMapCause (S.fault_count store.old) (S.fault_count store.new)
         (S.bad store.new) NeverWorn result }
     ensures visits { S.visit_count store.new ≡ visited (S.visit_count store.old) 1 }
-    ensures same_loans { S.loans store.new ≡ S.loans store.old }
 {
     let node = store.fetch(id)?;
     Ok(part_of(alloc, &node, key)?)

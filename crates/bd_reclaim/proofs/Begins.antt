@@ -9,6 +9,7 @@ use Rattle.std.proofs.lemmas.Option.{same_Some, none-some}
 use Rattle.bd_message.specs.declared.fault.Counter.{Counter}
 use Rattle.bd_message.specs.declared.fault.MapFault.{MapFault}
 use Rattle.bd_message.specs.declared.fault.MapFault.TheVariants.{DeviceFault, Damaged, Worn, NoMemory}
+use Rattle.bd_message.proofs.Causes.{cause_after}
 use Rattle.bd_message.specs.KeyMaps.{IsCause, HasMapCause}
 use Rattle.bd_node.specs.declared.node.Edge.{Edge}
 use Rattle.bd_node.specs.declared.node.Node.{Node}
@@ -267,19 +268,6 @@ push_on_found t m u above node place step (Ok x) table begins due height = recor
 push_on_found t m u above node place step (Err e) table begins due height = tt
 
 -- a fault of the step that is made, after the one before went well
-caused : (before mid now : ℕ) (bad : ℕ → Type 0) (worn : Counter → Type 0) (e : MapFault) → before ≤ mid → IsCause mid now bad worn e → IsCause before now bad worn e
-caused before mid now bad worn DeviceFault early rose =
-    elim rose [
-      | inl more ↦ inl (omega arith)
-      | inr full ↦ inr full
-    ]
-caused before mid now bad worn (Damaged block) early is = is
-caused before mid now bad worn (Worn which) early is = is
-caused before mid now bad worn NoMemory early is = tt
-
-pub push_cause : {T : Type 0} (before mid now : ℕ) (bad : ℕ → Type 0) (t m : Table) (r : Result T MapFault) → before ≤ mid → m ≡ t → HasMapCause mid now bad (IsWornFor m) r → HasMapCause before now bad (IsWornFor t) r
-push_cause before mid now bad t m (Ok x) early table h = record { later = (let more : mid ≤ now = h.later in omega arith); failed = tt }
-push_cause before mid now bad t m (Err e) early table h = record {
-  later = (let more : mid ≤ now = h.later in omega arith);
-  failed = caused before mid now bad (IsWornFor t) e early (subst (λ (v : Table). IsCause mid now bad (IsWornFor v) e) table h.failed);
-}
+pub push_cause : {T : Type 0} (before mid now : ℕ) (bad : ℕ → Type 0) (t m : Table) (r : Result T MapFault) → mid ≡ before → m ≡ t → HasMapCause mid now bad (IsWornFor m) r → HasMapCause before now bad (IsWornFor t) r
+push_cause before mid now bad t m r same table h =
+    cause_after before mid now bad (IsWornFor t) r same (subst (λ (v : Table). HasMapCause mid now bad (IsWornFor v) r) table h)

@@ -23,7 +23,7 @@ use Rattle.bd_flush.specs.Children.{IsFetched, IsNoHigher}
 use Rattle.bd_flush.specs.Pushes.{IsOwn}
 use Rattle.bd_flush.specs.Carving.{change_step}
 use Rattle.bd_flush.proofs.Givens.{given_unchanged}
-use Rattle.bd_flush.proofs.Worn.{cause_weaker}
+use Rattle.bd_message.proofs.Causes.{cause_weaker}
 use Rattle.bd_flush.proofs.CarveSteps.{IsOneChange, IsOneChangeOf, IsOneChanged, one_step, one_in_place, one_flushed, one_there, one_no_higher, one_worn}
 use Rattle.bd_reclaim.specs.declared.covering.Cover.{Cover}
 use Rattle.bd_reclaim.specs.Covering.{Decides, IsCovered, IsDecided}
@@ -126,6 +126,7 @@ as_reclaimed nodes t new u h = record {
   last = h.last;
   private = h.private;
   others = h.others;
+  touched = h.touched;
   high = h.high;
 }
 

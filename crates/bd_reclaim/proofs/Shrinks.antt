@@ -15,9 +15,10 @@ use Rattle.bd_node.specs.Steps.{given, level_or, IsInPlace, IsTableAfter, IsComm
 use Rattle.bd_node.proofs.Meanings.{at-meets, at-others}
 use Rattle.bd_node.proofs.Privacy.{root_private}
 use Rattle.bd_node.proofs.Sound.{sound-levelled}
-use Rattle.bd_node.proofs.Stepping.{given-old, given-new, after-none, isolated_none}
+use Rattle.bd_node.proofs.Stepping.{touched_in, given-old, given-new, after-none, isolated_none}
 use Rattle.bd_node.proofs.Closing.{stay_above}
 use Rattle.bd_reclaim.specs.Walks.{IsThinWay, IsThin}
+use Rattle.bd_flush.specs.Flushed.{LeadsTo}
 use Rattle.bd_reclaim.specs.Reclaimed.{IsReclaimed, IsShrunk, root_only, unseen_in, left_over}
 use Rattle.bd_reclaim.proofs.Falls.{sum_no_more}
 
@@ -108,6 +109,7 @@ shrink_reclaimed nodes t child new u h =
         node = rest_same nodes t child new u h.committed id stays;
         meaning = λ k. isolated_none nodes t (root_only child) new u h.sound h.committed refl id kept stays k;
       };
+      touched = touched_in (LeadsTo nodes t.root) t u (root_only child) h.after tt;
       high = omega arith;
     }
 

@@ -1,5 +1,5 @@
 -- What a change leaves.
-use Rattle.std.specs.Prelude.{◌≡◌, ℕ, ◌+◌, ◌<◌, ◌≤◌, List, [], length, Option, None, Some}
+use Rattle.std.specs.Prelude.{◌≡◌, ℕ, ◌+◌, ◌<◌, ◌≤◌, List, [], length, Option, None, Some, ◌⊎◌, IsTrue}
 use Rattle.std.specs.List.{sum_by}
 use Rattle.bd_node.specs.declared.node.Node.{Node}
 use Rattle.bd_node.specs.declared.node.Step.{Step}
@@ -30,6 +30,7 @@ pub record IsReclaimed (nodes : Nodes) (t : Table) (new : Nodes) (u : Table) : T
   pub private : IsPrivate nodes t last
   pub others : (id : ℕ) → IsKept t id → IsKept u id → ¬ LeadsTo nodes last id
       → IsUntouched nodes new id
+  pub touched : (id : ℕ) → IsTrue (u.touched id) → IsTrue (t.touched id) ⊎ LeadsTo nodes last id
   pub high : u.level u.root ≤ t.level t.root + 1
 
 -- the node has what the message at a place makes of its edge at a place, and all others that stay

@@ -2,6 +2,7 @@
 
 ghost use Rattle.std.specs.Prelude.{◌≡◌, ◌+◌, ◌<◌, ◌≤◌, OnOk, OnErr};
 ghost use Rattle.bd_message.specs.KeyMaps.{HasMapCause};
+ghost use Rattle.bd_node.specs.Frames.{OfSound, OnlyReads, Stays};
 ghost use Rattle.bd_node.specs.Tables.{IsSound};
 ghost use Rattle.bd_flush.specs.Flushed.{IsWornFor};
 ghost use Rattle.bd_flush.specs.Children.{IsFetched, IsNoHigher};
@@ -29,28 +30,25 @@ pub fn reclaim_step<S: NodeStore>(
     step: Reclaim,
 ) -> Result<(), MapFault>
     requires to_do { IsToDo (S.table store.old) step }
-    requires at { S.is_known store.old → IsSound (S.nodes store.old) (S.table store.old)
-        → IsToDoAt (S.nodes store.old) (S.table store.old) step }
-    ensures reclaimed { S.is_known store.old → IsSound (S.nodes store.old) (S.table store.old)
-        → OnOk result (IsReclaimed (S.nodes store.old) (S.table store.old)
-        (S.nodes store.new) (S.table store.new)) }
-    ensures made { S.is_known store.old → IsSound (S.nodes store.old) (S.table store.old)
-        → OnOk result (IsMade (S.nodes store.old) (S.table store.old) step
-        (S.nodes store.new) (S.table store.new)) }
-    ensures falls { S.is_known store.old → IsSound (S.nodes store.old) (S.table store.old)
-        → OnOk result (LeavesLess (S.nodes store.old) (S.table store.old) step
-        (S.nodes store.new) (S.table store.new)) }
+    requires at { OfSound S.NodeStore store.old
+        (IsToDoAt (S.nodes store.old) (S.table store.old) step) }
+    ensures reclaimed { OfSound S.NodeStore store.old
+        (OnOk result (IsReclaimed (S.nodes store.old) (S.table store.old)
+        (S.nodes store.new) (S.table store.new))) }
+    ensures made { OfSound S.NodeStore store.old
+        (OnOk result (IsMade (S.nodes store.old) (S.table store.old) step
+        (S.nodes store.new) (S.table store.new))) }
+    ensures falls { OfSound S.NodeStore store.old
+        (OnOk result (LeavesLess (S.nodes store.old) (S.table store.old) step
+        (S.nodes store.new) (S.table store.new))) }
     ensures next { OnOk result (IsNextAfter (S.table store.old) step (S.table store.new)) }
     ensures root { OnOk result (IsRootAfter (S.table store.old) step (S.table store.new)) }
-    ensures known { S.is_known store.old → S.is_known store.new }
-    ensures err_table { OnErr result (S.table store.new ≡ S.table store.old) }
-    ensures err_nodes { S.is_known store.old
-        → OnErr result (S.nodes store.new ≡ S.nodes store.old) }
+    ensures stays { Stays S.NodeStore store.old store.new }
+    ensures err { OnErr result (OnlyReads S.NodeStore store.old store.new) }
     ensures few_visits { S.visit_count store.new
         ≤ S.visit_count store.old + reclaim_visits (S.table store.old) step }
     ensures cause { HasMapCause (S.fault_count store.old) (S.fault_count store.new)
         (S.bad store.new) (IsWornFor (S.table store.old)) result }
-    ensures same_loans { S.loans store.new ≡ S.loans store.old }
 {
     match step {
         Reclaim::Shrink { child } => shrink(alloc, store, child),
@@ -71,27 +69,24 @@ fn change_edge<S: NodeStore>(
 ) -> Result<(), MapFault>
     requires fetched { IsFetched (S.table store.old) node.now }
     requires covered { (cover : Cover) × IsCovered cover node.now.node.value place at }
-    requires own { S.is_known store.old → IsSound (S.nodes store.old) (S.table store.old)
-        → IsOwn (S.nodes store.old) (S.table store.old) node.now }
-    ensures reclaimed { S.is_known store.old → IsSound (S.nodes store.old) (S.table store.old)
-        → OnOk result (IsReclaimed (S.nodes store.old) (S.table store.old)
-        (S.nodes store.new) (S.table store.new)) }
-    ensures decided { S.is_known store.old → IsSound (S.nodes store.old) (S.table store.old)
-        → OnOk result (IsDecidedAt (S.nodes store.old) node.now place at
-        (S.nodes store.new) (S.table store.new)) }
-    ensures falls { S.is_known store.old → IsSound (S.nodes store.old) (S.table store.old)
-        → OnOk result (left_over (S.nodes store.new) (S.table store.new)
-        < left_over (S.nodes store.old) (S.table store.old)) }
+    requires own { OfSound S.NodeStore store.old
+        (IsOwn (S.nodes store.old) (S.table store.old) node.now) }
+    ensures reclaimed { OfSound S.NodeStore store.old
+        (OnOk result (IsReclaimed (S.nodes store.old) (S.table store.old)
+        (S.nodes store.new) (S.table store.new))) }
+    ensures decided { OfSound S.NodeStore store.old
+        (OnOk result (IsDecidedAt (S.nodes store.old) node.now place at
+        (S.nodes store.new) (S.table store.new))) }
+    ensures falls { OfSound S.NodeStore store.old
+        (OnOk result (left_over (S.nodes store.new) (S.table store.new)
+        < left_over (S.nodes store.old) (S.table store.old))) }
     ensures next { OnOk result ((S.table store.new).next ≡ (S.table store.old).next) }
     ensures root { OnOk result (IsNoHigher (S.table store.old) (S.table store.new)) }
-    ensures known { S.is_known store.old → S.is_known store.new }
-    ensures err_table { OnErr result (S.table store.new ≡ S.table store.old) }
-    ensures err_nodes { S.is_known store.old
-        → OnErr result (S.nodes store.new ≡ S.nodes store.old) }
+    ensures stays { Stays S.NodeStore store.old store.new }
+    ensures err { OnErr result (OnlyReads S.NodeStore store.old store.new) }
     ensures few_visits { S.visit_count store.new ≤ S.visit_count store.old }
     ensures cause { HasMapCause (S.fault_count store.old) (S.fault_count store.new)
         (S.bad store.new) (IsWornFor (S.table store.old)) result }
-    ensures same_loans { S.loans store.new ≡ S.loans store.old }
 {
     let root = store.root();
     let step = decide_step(alloc, root, node, place, at)?;

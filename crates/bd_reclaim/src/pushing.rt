@@ -2,6 +2,7 @@
 
 ghost use Rattle.std.specs.Prelude.{◌≡◌, ◌↔◌, ℕ, ◌+◌, ◌<◌, ◌≤◌, [], length, reverse, IsTrue, IfOk, OnOk, OnErr};
 ghost use Rattle.bd_message.specs.KeyMaps.{HasMapCause, NeverWorn};
+ghost use Rattle.bd_node.specs.Frames.{OfSound, OnlyReads, Stays};
 ghost use Rattle.bd_node.specs.declared.node.Edge.{Edge};
 ghost use Rattle.bd_node.specs.Meaning.{Nodes};
 ghost use Rattle.bd_node.specs.Tables.{Table, IsSound};
@@ -35,27 +36,24 @@ pub fn push_from<S: NodeStore>(
     requires fetched { IsFetched (S.table store.old) node }
     requires cut { HasCut node.node.value place }
     requires way { IsWayUp (S.table store.old) node.id (reverse above) }
-    requires own { S.is_known store.old → IsSound (S.nodes store.old) (S.table store.old)
-        → IsOwn (S.nodes store.old) (S.table store.old) node }
-    requires all_own { S.is_known store.old → IsSound (S.nodes store.old) (S.table store.old)
-        → AreOwn (S.nodes store.old) (S.table store.old) (reverse above) }
-    ensures reclaimed { S.is_known store.old → IsSound (S.nodes store.old) (S.table store.old)
-        → OnOk result (IsReclaimed (S.nodes store.old) (S.table store.old)
-        (S.nodes store.new) (S.table store.new)) }
-    ensures made { S.is_known store.old → IsSound (S.nodes store.old) (S.table store.old)
-        → OnOk result (IsPushMade (S.nodes store.old) (S.table store.old) above node place
-        (S.nodes store.new) (S.table store.new)) }
+    requires own { OfSound S.NodeStore store.old
+        (IsOwn (S.nodes store.old) (S.table store.old) node) }
+    requires all_own { OfSound S.NodeStore store.old
+        (AreOwn (S.nodes store.old) (S.table store.old) (reverse above)) }
+    ensures reclaimed { OfSound S.NodeStore store.old
+        (OnOk result (IsReclaimed (S.nodes store.old) (S.table store.old)
+        (S.nodes store.new) (S.table store.new))) }
+    ensures made { OfSound S.NodeStore store.old
+        (OnOk result (IsPushMade (S.nodes store.old) (S.table store.old) above node place
+        (S.nodes store.new) (S.table store.new))) }
     ensures found { OnOk result
         (IsPushFound (S.table store.old) above node place (S.table store.new)) }
-    ensures known { S.is_known store.old → S.is_known store.new }
-    ensures err_table { OnErr result (S.table store.new ≡ S.table store.old) }
-    ensures err_nodes { S.is_known store.old
-        → OnErr result (S.nodes store.new ≡ S.nodes store.old) }
+    ensures stays { Stays S.NodeStore store.old store.new }
+    ensures err { OnErr result (OnlyReads S.NodeStore store.old store.new) }
     ensures few_visits { S.visit_count store.new
         ≤ S.visit_count store.old + step_visits (S.table store.old) }
     ensures cause { HasMapCause (S.fault_count store.old) (S.fault_count store.new)
         (S.bad store.new) (IsWornFor (S.table store.old)) result }
-    ensures same_loans { S.loans store.new ≡ S.loans store.old }
 {
     let step = push_step(store, above, node, place)?;
     make(alloc, store, step)
@@ -84,15 +82,11 @@ fn push_step<S: NodeStore>(
     ensures way_at { S.is_known store.old → IsOwn (S.nodes store.old) (S.table store.old) node
         → AreOwn (S.nodes store.old) (S.table store.old) (reverse above)
         → IfOk result (IsWayThere (S.nodes store.old) (S.table store.old)) }
-    ensures table { S.table store.new ≡ S.table store.old }
-    ensures known { S.is_known store.old → S.is_known store.new }
-    ensures kept { S.is_known store.old → S.nodes store.new ≡ S.nodes store.old }
-    ensures read { S.reads store.old store.new }
+    ensures left { OnlyReads S.NodeStore store.old store.new }
     ensures cause { HasMapCause (S.fault_count store.old) (S.fault_count store.new)
         (S.bad store.new) NeverWorn result }
     ensures few_visits { S.visit_count store.new
         ≤ S.visit_count store.old + (S.table store.old).level (S.table store.old).root }
-    ensures same_loans { S.loans store.new ≡ S.loans store.old }
 {
     let above = above.into_vec();
     if edges_of(&node.node).len() < MANY_EDGES {

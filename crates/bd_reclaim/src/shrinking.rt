@@ -2,6 +2,7 @@
 
 ghost use Rattle.std.specs.Prelude.{◌≡◌, ◌<◌, ◌≤◌, OnOk, OnErr, Some};
 ghost use Rattle.bd_message.specs.KeyMaps.{HasMapCause};
+ghost use Rattle.bd_node.specs.Frames.{OfSound, OnlyReads, Stays};
 ghost use Rattle.bd_node.specs.declared.node.Node.{Node};
 ghost use Rattle.bd_node.specs.Tables.{IsLower, IsSound};
 ghost use Rattle.bd_flush.specs.Flushed.{IsWornFor};
@@ -17,30 +18,27 @@ pub fn shrink<S: NodeStore>(alloc: Global, store: &mut S, child: u64) -> Result<
     requires lower { IsLower (S.table store.old)
         ((S.table store.old).level (S.table store.old).root) child }
     requires inner { 1 ≤ (S.table store.old).level child }
-    requires thin { S.is_known store.old → IsSound (S.nodes store.old) (S.table store.old)
-        → (n : Node) × (S.nodes store.old (S.table store.old).root ≡ Some n)
-        × IsThin (S.table store.old) n child }
-    ensures reclaimed { S.is_known store.old → IsSound (S.nodes store.old) (S.table store.old)
-        → OnOk result (IsReclaimed (S.nodes store.old) (S.table store.old)
-        (S.nodes store.new) (S.table store.new)) }
-    ensures shrunk { S.is_known store.old → IsSound (S.nodes store.old) (S.table store.old)
-        → OnOk result (IsShrunk (S.nodes store.old) child
-        (S.nodes store.new) (S.table store.new)) }
-    ensures falls { S.is_known store.old → IsSound (S.nodes store.old) (S.table store.old)
-        → OnOk result (left_over (S.nodes store.new) (S.table store.new)
-        < left_over (S.nodes store.old) (S.table store.old)) }
+    requires thin { OfSound S.NodeStore store.old
+        ((n : Node) × (S.nodes store.old (S.table store.old).root ≡ Some n)
+        × IsThin (S.table store.old) n child) }
+    ensures reclaimed { OfSound S.NodeStore store.old
+        (OnOk result (IsReclaimed (S.nodes store.old) (S.table store.old)
+        (S.nodes store.new) (S.table store.new))) }
+    ensures shrunk { OfSound S.NodeStore store.old
+        (OnOk result (IsShrunk (S.nodes store.old) child
+        (S.nodes store.new) (S.table store.new))) }
+    ensures falls { OfSound S.NodeStore store.old
+        (OnOk result (left_over (S.nodes store.new) (S.table store.new)
+        < left_over (S.nodes store.old) (S.table store.old))) }
     ensures next { OnOk result ((S.table store.new).next ≡ (S.table store.old).next) }
     ensures root { OnOk result ((S.table store.new).root ≡ child) }
     ensures level { OnOk result ((S.table store.new).level (S.table store.new).root
         ≡ (S.table store.old).level child) }
-    ensures known { S.is_known store.old → S.is_known store.new }
-    ensures err_table { OnErr result (S.table store.new ≡ S.table store.old) }
-    ensures err_nodes { S.is_known store.old
-        → OnErr result (S.nodes store.new ≡ S.nodes store.old) }
+    ensures stays { Stays S.NodeStore store.old store.new }
+    ensures err { OnErr result (OnlyReads S.NodeStore store.old store.new) }
     ensures few_visits { S.visit_count store.new ≤ S.visit_count store.old }
     ensures cause { HasMapCause (S.fault_count store.old) (S.fault_count store.new)
         (S.bad store.new) (IsWornFor (S.table store.old)) result }
-    ensures same_loans { S.loans store.new ≡ S.loans store.old }
 {
     store.commit(root_only(alloc, child))
 }

@@ -2,6 +2,7 @@
 
 ghost use Rattle.std.specs.Prelude.{◌≡◌, ℕ, ◌<◌, ◌≤◌, ◌+◌, length, IfOk, IfSome, MatchOption, Some};
 ghost use Rattle.bd_message.specs.KeyMaps.{HasMapCause, NeverWorn};
+ghost use Rattle.bd_node.specs.Frames.{OfSound, OnlyReads};
 ghost use Rattle.bd_node.specs.declared.node.Node.{Node};
 ghost use Rattle.bd_node.specs.Shape.{IsShape};
 ghost use Rattle.bd_node.specs.Tables.{Table, IsKept, IsLower, IsSound};
@@ -55,25 +56,21 @@ pub fn reclaim_next<S: NodeStore>(
     store: &mut S,
     pushes: bool,
 ) -> Result<Option<Reclaim>, MapFault>
-    ensures first { S.is_known store.old → IsSound (S.nodes store.old) (S.table store.old)
-        → IfOk result (λ found. MatchOption found
+    ensures first { OfSound S.NodeStore store.old
+        (IfOk result (λ found. MatchOption found
         (HasNone pushes (S.nodes store.old) (S.table store.old) (S.table store.old).root)
         (λ step. IsFirst pushes (S.nodes store.old) (S.table store.old) step
-        (S.table store.old).root)) }
+        (S.table store.old).root))) }
     ensures to_do { IfOk result (λ found. IfSome found (IsToDo (S.table store.old))) }
-    ensures at { S.is_known store.old → IsSound (S.nodes store.old) (S.table store.old)
-        → IfOk result (λ found. IfSome found
-        (IsToDoAt (S.nodes store.old) (S.table store.old))) }
-    ensures table { S.table store.new ≡ S.table store.old }
-    ensures known { S.is_known store.old → S.is_known store.new }
-    ensures kept { S.is_known store.old → S.nodes store.new ≡ S.nodes store.old }
-    ensures read { S.reads store.old store.new }
+    ensures at { OfSound S.NodeStore store.old
+        (IfOk result (λ found. IfSome found
+        (IsToDoAt (S.nodes store.old) (S.table store.old)))) }
+    ensures left { OnlyReads S.NodeStore store.old store.new }
     ensures cause { HasMapCause (S.fault_count store.old) (S.fault_count store.new)
         (S.bad store.new) NeverWorn result }
     ensures few_visits { S.is_known store.old → S.visit_count store.new
         ≤ S.visit_count store.old + walk_size (S.nodes store.old) (S.table store.old)
         ((S.table store.old).level (S.table store.old).root + 1) (S.table store.old).root }
-    ensures same_loans { S.loans store.new ≡ S.loans store.old }
 {
     let root = store.root();
     first_from(alloc, store, root, pushes)
@@ -88,23 +85,19 @@ fn first_from<S: NodeStore>(
     pushes: bool,
 ) -> Result<Option<Reclaim>, MapFault>
     requires { IsKept (S.table store.old) id }
-    ensures first { S.is_known store.old → IsSound (S.nodes store.old) (S.table store.old)
-        → IfOk result (λ found. MatchOption found
+    ensures first { OfSound S.NodeStore store.old
+        (IfOk result (λ found. MatchOption found
         (HasNone pushes (S.nodes store.old) (S.table store.old) id)
-        (λ step. IsFirst pushes (S.nodes store.old) (S.table store.old) step id)) }
+        (λ step. IsFirst pushes (S.nodes store.old) (S.table store.old) step id))) }
     ensures found { IfOk result (λ found. IfSome found (IsFoundFrom (S.table store.old) id)) }
     ensures there { S.is_known store.old
         → IfOk result (λ found. IfSome found (IsFoundIn (S.nodes store.old))) }
-    ensures table { S.table store.new ≡ S.table store.old }
-    ensures known { S.is_known store.old → S.is_known store.new }
-    ensures kept { S.is_known store.old → S.nodes store.new ≡ S.nodes store.old }
-    ensures read { S.reads store.old store.new }
+    ensures left { OnlyReads S.NodeStore store.old store.new }
     ensures cause { HasMapCause (S.fault_count store.old) (S.fault_count store.new)
         (S.bad store.new) NeverWorn result }
     ensures few_visits { S.is_known store.old → (depth : ℕ) → (S.table store.old).level id < depth
         → S.visit_count store.new ≤ S.visit_count store.old
         + walk_size (S.nodes store.old) (S.table store.old) depth id }
-    ensures same_loans { S.loans store.new ≡ S.loans store.old }
 {
     let here = fetch(store, id)?;
     let here = match look_at(alloc, store, here, pushes) {

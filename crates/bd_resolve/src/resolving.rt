@@ -5,6 +5,7 @@ ghost use Rattle.bd_limits.specs.Limits.{key_limit};
 ghost use Rattle.bd_keys.specs.Keys.{IsKey};
 ghost use Rattle.bd_message.specs.Effect.{NodesAt};
 ghost use Rattle.bd_message.specs.KeyMaps.{HasMapCause, NeverWorn};
+ghost use Rattle.bd_node.specs.Frames.{OfSound, OnlyReads};
 ghost use Rattle.bd_node.specs.declared.node.Node.{Node};
 ghost use Rattle.bd_node.specs.Nodes.{node_at};
 ghost use Rattle.bd_node.specs.Meaning.{at};
@@ -30,17 +31,14 @@ pub fn resolve<S: NodeStore>(
     source: Bytes,
 ) -> Result<Option<Target>, MapFault>
     requires { IsKept (S.table store.old) child }
-    ensures value { S.is_known store.old → IsSound (S.nodes store.old) (S.table store.old)
-        → IfOk result (λ found. (k : List ℕ) → IsKey k
+    ensures value { OfSound S.NodeStore store.old
+        (IfOk result (λ found. (k : List ℕ) → IsKey k
         → target_at (at (S.nodes store.old)) found k
-        ≡ at (S.nodes store.old) child (source ++ k)) }
+        ≡ at (S.nodes store.old) child (source ++ k))) }
     ensures short { IfOk result IsShort }
     ensures lower { IfOk result
         (IsLowerTarget (S.table store.old) ((S.table store.old).level child + 1)) }
-    ensures table { S.table store.new ≡ S.table store.old }
-    ensures known { S.is_known store.old → S.is_known store.new }
-    ensures kept { S.is_known store.old → S.nodes store.new ≡ S.nodes store.old }
-    ensures read { S.reads store.old store.new }
+    ensures left { OnlyReads S.NodeStore store.old store.new }
     ensures cause { HasMapCause (S.fault_count store.old) (S.fault_count store.new)
         (S.bad store.new) NeverWorn result }
     ensures visits { IfOk result (λ found. AreNoneOr
@@ -48,7 +46,6 @@ pub fn resolve<S: NodeStore>(
         (S.visit_count store.old) (S.visit_count store.new)) }
     ensures few_visits { S.visit_count store.new
         ≤ S.visit_count store.old + (S.table store.old).level child }
-    ensures same_loans { S.loans store.new ≡ S.loans store.old }
 {
     let mut id = child;
     let mut prefix = source;
@@ -86,14 +83,10 @@ fn looked_through<S: NodeStore>(
     ensures lower { IfOk result
         (IsLowerTarget (S.table store.old) ((S.table store.old).level id)) }
     ensures bytes { IsKey prefix.now }
-    ensures table { S.table store.new ≡ S.table store.old }
-    ensures known { S.is_known store.old → S.is_known store.new }
-    ensures kept { S.is_known store.old → S.nodes store.new ≡ S.nodes store.old }
-    ensures read { S.reads store.old store.new }
+    ensures left { OnlyReads S.NodeStore store.old store.new }
     ensures cause { HasMapCause (S.fault_count store.old) (S.fault_count store.new)
         (S.bad store.new) NeverWorn result }
     ensures visits { S.visit_count store.new ≡ visited (S.visit_count store.old) 1 }
-    ensures same_loans { S.loans store.new ≡ S.loans store.old }
 {
     let node = store.fetch(id)?;
     match follow(alloc, &node, prefix)? {

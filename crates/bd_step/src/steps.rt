@@ -2,6 +2,7 @@
 
 ghost use Rattle.std.specs.Prelude.{◌≡◌, ◌≢◌, ◌↔◌, ◌+◌, ◌*◌, ◌<◌, ◌≤◌, true, false, reverse, OnOk, OnErr, Ok};
 ghost use Rattle.bd_message.specs.KeyMaps.{HasMapCause};
+ghost use Rattle.bd_node.specs.Frames.{OfSound, OnlyReads, Stays};
 ghost use Rattle.bd_node.specs.Tables.{IsSound};
 ghost use Rattle.bd_flush.specs.declared.ways.FlushStep.TheVariants as step;
 ghost use Rattle.bd_flush.specs.Flushed.{IsFlushed, IsWornFor};
@@ -30,19 +31,16 @@ pub fn flush_step<S: NodeStore>(
 ) -> Result<bool, MapFault>
     ensures enough { (result ≡ Ok false) ↔ ((S.table store.old).size ≤ limit) }
     ensures unchanged { result ≡ Ok false → store.new ≡ store.old }
-    ensures step { S.is_known store.old → IsSound (S.nodes store.old) (S.table store.old)
-        → result ≡ Ok true → IsFlushStep (S.nodes store.old) (S.table store.old)
-        (S.nodes store.new) (S.table store.new) }
+    ensures step { OfSound S.NodeStore store.old
+        (result ≡ Ok true → IsFlushStep (S.nodes store.old) (S.table store.old)
+        (S.nodes store.new) (S.table store.new)) }
     ensures found { result ≡ Ok true → IsFound (S.table store.old) (S.table store.new) }
-    ensures known { S.is_known store.old → S.is_known store.new }
-    ensures same_table { result ≢ Ok true → S.table store.new ≡ S.table store.old }
-    ensures same_nodes { S.is_known store.old
-        → result ≢ Ok true → S.nodes store.new ≡ S.nodes store.old }
+    ensures stays { Stays S.NodeStore store.old store.new }
+    ensures rest { result ≢ Ok true → OnlyReads S.NodeStore store.old store.new }
     ensures few_visits { S.visit_count store.new
         ≤ S.visit_count store.old + step_visits (S.table store.old) }
     ensures cause { HasMapCause (S.fault_count store.old) (S.fault_count store.new)
         (S.bad store.new) (IsWornFor (S.table store.old)) result }
-    ensures same_loans { S.loans store.new ≡ S.loans store.old }
 {
     if store.root_size() <= limit {
         return Ok(false);
@@ -58,27 +56,24 @@ pub fn flush_step<S: NodeStore>(
 pub fn make<S: NodeStore>(alloc: Global, store: &mut S, step: FlushStep) -> Result<(), MapFault>
     requires due { IsDue (S.table store.old) step }
     requires waited { IsWaited step }
-    requires here { S.is_known store.old → IsSound (S.nodes store.old) (S.table store.old)
-        → IsStanding (S.nodes store.old) (S.table store.old) step }
+    requires here { OfSound S.NodeStore store.old
+        (IsStanding (S.nodes store.old) (S.table store.old) step) }
     requires way { IsWayOf (S.table store.old) step }
-    requires way_here { S.is_known store.old → IsSound (S.nodes store.old) (S.table store.old)
-        → IsWayThere (S.nodes store.old) (S.table store.old) step }
-    ensures flushed { S.is_known store.old → IsSound (S.nodes store.old) (S.table store.old)
-        → OnOk result (IsFlushed (S.nodes store.old) (S.table store.old)
-        (S.nodes store.new) (S.table store.new)) }
-    ensures made { S.is_known store.old → IsSound (S.nodes store.old) (S.table store.old)
-        → OnOk result (IsMade (S.nodes store.old) (S.table store.old) step
-        (S.nodes store.new) (S.table store.new)) }
+    requires way_here { OfSound S.NodeStore store.old
+        (IsWayThere (S.nodes store.old) (S.table store.old) step) }
+    ensures flushed { OfSound S.NodeStore store.old
+        (OnOk result (IsFlushed (S.nodes store.old) (S.table store.old)
+        (S.nodes store.new) (S.table store.new))) }
+    ensures made { OfSound S.NodeStore store.old
+        (OnOk result (IsMade (S.nodes store.old) (S.table store.old) step
+        (S.nodes store.new) (S.table store.new))) }
     ensures height { OnOk result (IsHighAfter (S.table store.old) step (S.table store.new)) }
-    ensures known { S.is_known store.old → S.is_known store.new }
-    ensures err_table { OnErr result (S.table store.new ≡ S.table store.old) }
-    ensures err_nodes { S.is_known store.old
-        → OnErr result (S.nodes store.new ≡ S.nodes store.old) }
+    ensures stays { Stays S.NodeStore store.old store.new }
+    ensures err { OnErr result (OnlyReads S.NodeStore store.old store.new) }
     ensures few_visits { S.visit_count store.new ≤ S.visit_count store.old
         + (4 + 17 * (S.table store.old).level (S.table store.old).root) }
     ensures cause { HasMapCause (S.fault_count store.old) (S.fault_count store.new)
         (S.bad store.new) (IsWornFor (S.table store.old)) result }
-    ensures same_loans { S.loans store.new ≡ S.loans store.old }
 {
     match step {
         FlushStep::SplitRoot { root } => split_root(alloc, store, &root.node),
@@ -110,27 +105,24 @@ fn push_down<S: NodeStore>(
 ) -> Result<(), MapFault>
     requires due { IsDue (S.table store.old) (step.Push above parent place child) }
     requires waited { IsWaited (step.Push above parent place child) }
-    requires here { S.is_known store.old → IsSound (S.nodes store.old) (S.table store.old)
-        → IsStanding (S.nodes store.old) (S.table store.old) (step.Push above parent place child) }
+    requires here { OfSound S.NodeStore store.old
+        (IsStanding (S.nodes store.old) (S.table store.old) (step.Push above parent place child)) }
     requires way { IsWayUp (S.table store.old) parent.id (reverse above) }
-    requires way_here { S.is_known store.old → IsSound (S.nodes store.old) (S.table store.old)
-        → AreOwn (S.nodes store.old) (S.table store.old) (reverse above) }
-    ensures flushed { S.is_known store.old → IsSound (S.nodes store.old) (S.table store.old)
-        → OnOk result (IsFlushed (S.nodes store.old) (S.table store.old)
-        (S.nodes store.new) (S.table store.new)) }
-    ensures made { S.is_known store.old → IsSound (S.nodes store.old) (S.table store.old)
-        → OnOk result (IsMade (S.nodes store.old) (S.table store.old)
-        (step.Push above parent place child) (S.nodes store.new) (S.table store.new)) }
+    requires way_here { OfSound S.NodeStore store.old
+        (AreOwn (S.nodes store.old) (S.table store.old) (reverse above)) }
+    ensures flushed { OfSound S.NodeStore store.old
+        (OnOk result (IsFlushed (S.nodes store.old) (S.table store.old)
+        (S.nodes store.new) (S.table store.new))) }
+    ensures made { OfSound S.NodeStore store.old
+        (OnOk result (IsMade (S.nodes store.old) (S.table store.old)
+        (step.Push above parent place child) (S.nodes store.new) (S.table store.new))) }
     ensures height { OnOk result (IsHighAfter (S.table store.old)
         (step.Push above parent place child) (S.table store.new)) }
-    ensures known { S.is_known store.old → S.is_known store.new }
-    ensures err_table { OnErr result (S.table store.new ≡ S.table store.old) }
-    ensures err_nodes { S.is_known store.old
-        → OnErr result (S.nodes store.new ≡ S.nodes store.old) }
+    ensures stays { Stays S.NodeStore store.old store.new }
+    ensures err { OnErr result (OnlyReads S.NodeStore store.old store.new) }
     ensures few_visits { S.visit_count store.new ≤ S.visit_count store.old + 4 }
     ensures cause { HasMapCause (S.fault_count store.old) (S.fault_count store.new)
         (S.bad store.new) (IsWornFor (S.table store.old)) result }
-    ensures same_loans { S.loans store.new ≡ S.loans store.old }
 {
     match child {
         None => push_new(alloc, store, &parent, place),

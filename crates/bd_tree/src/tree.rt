@@ -6,10 +6,11 @@ ghost use Rattle.std.specs.Option.{option_map};
 ghost use Rattle.bd_limits.specs.Limits.{buffer_limit};
 ghost use Rattle.bd_message.specs.KeyMaps.{HasMapCause, NeverWorn, IsApplied, IsNext};
 ghost use Rattle.bd_message.specs.KeyMaps.{CanGraft, IsGrafted};
+ghost use Rattle.bd_node.specs.Frames.{OfSound, OnlyReads, Stays};
 ghost use Rattle.bd_node.specs.Meaning.{at};
 ghost use Rattle.bd_node.specs.Tables.{IsKept, IsSound, root_at};
 ghost use Rattle.bd_node.specs.declared.node.Node.{Node};
-ghost use Rattle.bd_node.specs.Steps.{IsCommitted, append_step, grown};
+ghost use Rattle.bd_node.specs.Steps.{IsCommitted, HasGrown, append_step};
 ghost use Rattle.bd_node.specs.Stores.{FitsRoot, visited};
 ghost use Rattle.bd_query.specs.Asks.{AreVisitsOfWays};
 ghost use Rattle.bd_query.specs.Visits.{AreVisits};
@@ -78,14 +79,10 @@ impl<S: NodeStore> Tree<S> {
 
     /// What stands at a key, of any length. At most as many nodes are visited as the tree is high.
     pub fn get(&mut self, key: &[u8]) -> Result<Option<Vec<u8>>, MapFault>
-        ensures value { S.is_known self.old.store
-            → IsSound (S.nodes self.old.store) (S.table self.old.store)
-            → IfOk result (λ found. option_map (λ value. value.items) found
-            ≡ root_at (S.nodes self.old.store) (S.table self.old.store) key.now) }
-        ensures table { S.table self.new.store ≡ S.table self.old.store }
-        ensures known { S.is_known self.old.store → S.is_known self.new.store }
-        ensures kept { S.is_known self.old.store → S.nodes self.new.store ≡ S.nodes self.old.store }
-        ensures read { S.reads self.old.store self.new.store }
+        ensures value { OfSound S.NodeStore self.old.store
+            (IfOk result (λ found. option_map (λ value. value.items) found
+            ≡ root_at (S.nodes self.old.store) (S.table self.old.store) key.now)) }
+        ensures left { OnlyReads S.NodeStore self.old.store self.new.store }
         ensures cause { HasMapCause (S.fault_count self.old.store) (S.fault_count self.new.store)
             (S.bad self.new.store) NeverWorn result }
         ensures visits { OnOk result (AreVisits 1
@@ -93,7 +90,6 @@ impl<S: NodeStore> Tree<S> {
             (S.visit_count self.old.store) (S.visit_count self.new.store)) }
         ensures few_visits { S.visit_count self.new.store ≤ S.visit_count self.old.store
             + ((S.table self.old.store).level (S.table self.old.store).root + 1) }
-        ensures same_loans { S.loans self.new.store ≡ S.loans self.old.store }
         ensures walk { self.new.walk ≡ self.old.walk }
     {
         let root = self.store.root();
@@ -104,23 +100,17 @@ impl<S: NodeStore> Tree<S> {
     /// The nodes that are visited are those that are asked on ways down along rising keys. A way
     /// goes no further where a cut decides.
     pub fn next(&mut self, from: &[u8], within: &[u8]) -> Result<Option<Vec<u8>>, MapFault>
-        ensures next { S.is_known self.old.store
-            → IsSound (S.nodes self.old.store) (S.table self.old.store)
-            → IfOk result (λ found. IsNext
+        ensures next { OfSound S.NodeStore self.old.store
+            (IfOk result (λ found. IsNext
             (root_at (S.nodes self.old.store) (S.table self.old.store)) from.now within.now
-            (option_map (λ key. key.items) found)) }
-        ensures table { S.table self.new.store ≡ S.table self.old.store }
-        ensures known { S.is_known self.old.store → S.is_known self.new.store }
-        ensures kept { S.is_known self.old.store → S.nodes self.new.store ≡ S.nodes self.old.store }
-        ensures read { S.reads self.old.store self.new.store }
+            (option_map (λ key. key.items) found))) }
+        ensures left { OnlyReads S.NodeStore self.old.store self.new.store }
         ensures cause { HasMapCause (S.fault_count self.old.store) (S.fault_count self.new.store)
             (S.bad self.new.store) NeverWorn result }
-        ensures ways { S.is_known self.old.store
-            → IsSound (S.nodes self.old.store) (S.table self.old.store)
-            → OnOk result (AreVisitsOfWays (S.nodes self.old.store)
+        ensures ways { OfSound S.NodeStore self.old.store
+            (OnOk result (AreVisitsOfWays (S.nodes self.old.store)
             (S.table self.old.store).root from.now (S.visit_count self.old.store)
-            (S.visit_count self.new.store)) }
-        ensures same_loans { S.loans self.new.store ≡ S.loans self.old.store }
+            (S.visit_count self.new.store))) }
         ensures walk { self.new.walk ≡ self.old.walk }
     {
         let root = self.store.root();
@@ -146,35 +136,28 @@ impl<S: NodeStore> Tree<S> {
     /// that wait in the root. No other node has anything else, none is dropped, and none is visited.
     pub fn apply(&mut self, list: &[Message]) -> Result<(), MapFault>
         requires { FitsRoot (S.table self.old.store) list.now }
-        ensures applied { S.is_known self.old.store
-            → IsSound (S.nodes self.old.store) (S.table self.old.store)
-            → OnOk result (IsApplied
+        ensures applied { OfSound S.NodeStore self.old.store
+            (OnOk result (IsApplied
             (root_at (S.nodes self.old.store) (S.table self.old.store)) list.now
-            (root_at (S.nodes self.new.store) (S.table self.new.store))) }
-        ensures committed { S.is_known self.old.store
-            → IsSound (S.nodes self.old.store) (S.table self.old.store)
-            → (root : Node) → S.nodes self.old.store (S.table self.old.store).root ≡ Some root
+            (root_at (S.nodes self.new.store) (S.table self.new.store)))) }
+        ensures committed { OfSound S.NodeStore self.old.store
+            ((root : Node) → S.nodes self.old.store (S.table self.old.store).root ≡ Some root
             → OnOk result (IsCommitted (S.nodes self.old.store) (S.table self.old.store)
             (append_step (S.table self.old.store) root list.now)
-            (S.nodes self.new.store) (S.table self.new.store)) }
-        ensures others { S.is_known self.old.store
-            → IsSound (S.nodes self.old.store) (S.table self.old.store)
-            → OnOk result ((id : ℕ) → IsKept (S.table self.old.store) id
+            (S.nodes self.new.store) (S.table self.new.store))) }
+        ensures others { OfSound S.NodeStore self.old.store
+            (OnOk result ((id : ℕ) → IsKept (S.table self.old.store) id
             → ¬ (id ≡ (S.table self.old.store).root) → (k : List ℕ)
-            → at (S.nodes self.new.store) id k ≡ at (S.nodes self.old.store) id k) }
-        ensures sound { S.is_known self.old.store
-            → IsSound (S.nodes self.old.store) (S.table self.old.store)
-            → OnOk result (IsSound (S.nodes self.new.store) (S.table self.new.store)) }
+            → at (S.nodes self.new.store) id k ≡ at (S.nodes self.old.store) id k)) }
+        ensures sound { OfSound S.NodeStore self.old.store
+            (OnOk result (IsSound (S.nodes self.new.store) (S.table self.new.store))) }
         ensures table { OnOk result
-            (S.table self.new.store ≡ grown (S.table self.old.store) list.now) }
-        ensures known { S.is_known self.old.store → S.is_known self.new.store }
-        ensures err_table { OnErr result (S.table self.new.store ≡ S.table self.old.store) }
-        ensures err_nodes { S.is_known self.old.store
-            → OnErr result (S.nodes self.new.store ≡ S.nodes self.old.store) }
+            (HasGrown (S.table self.old.store) list.now (S.table self.new.store)) }
+        ensures stays { Stays S.NodeStore self.old.store self.new.store }
+        ensures err { OnErr result (OnlyReads S.NodeStore self.old.store self.new.store) }
         ensures cause { HasMapCause (S.fault_count self.old.store) (S.fault_count self.new.store)
             (S.bad self.new.store) NeverWorn result }
         ensures visits { S.visit_count self.new.store ≡ S.visit_count self.old.store }
-        ensures same_loans { S.loans self.new.store ≡ S.loans self.old.store }
         ensures walk { self.new.walk ≡ self.old.walk }
     {
         let list = Messages::from_vec(Vec::from_clones(self.alloc, list)?);
@@ -188,21 +171,17 @@ impl<S: NodeStore> Tree<S> {
     /// fault leaves all as it was.
     pub fn graft(&mut self, s: &[u8], d: &[u8], keep: bool) -> Result<(), MapFault>
         requires { CanGraft s.now d.now keep (buffer_limit - (S.table self.old.store).size) }
-        ensures grafted { S.is_known self.old.store
-            → IsSound (S.nodes self.old.store) (S.table self.old.store)
-            → OnOk result (IsGrafted (root_at (S.nodes self.old.store) (S.table self.old.store))
-            s.now d.now keep (root_at (S.nodes self.new.store) (S.table self.new.store))) }
-        ensures sound { S.is_known self.old.store
-            → IsSound (S.nodes self.old.store) (S.table self.old.store)
-            → OnOk result (IsSound (S.nodes self.new.store) (S.table self.new.store)) }
-        ensures step { S.is_known self.old.store
-            → IsSound (S.nodes self.old.store) (S.table self.old.store)
-            → OnOk result (IsGraftStep (S.nodes self.old.store) (S.table self.old.store)
-            s.now d.now keep (S.nodes self.new.store) (S.table self.new.store)) }
-        ensures others { S.is_known self.old.store
-            → IsSound (S.nodes self.old.store) (S.table self.old.store)
-            → OnOk result (AreOthersSame (S.nodes self.old.store) (S.table self.old.store)
-            (S.nodes self.new.store) (S.table self.new.store)) }
+        ensures grafted { OfSound S.NodeStore self.old.store
+            (OnOk result (IsGrafted (root_at (S.nodes self.old.store) (S.table self.old.store))
+            s.now d.now keep (root_at (S.nodes self.new.store) (S.table self.new.store)))) }
+        ensures sound { OfSound S.NodeStore self.old.store
+            (OnOk result (IsSound (S.nodes self.new.store) (S.table self.new.store))) }
+        ensures step { OfSound S.NodeStore self.old.store
+            (OnOk result (IsGraftStep (S.nodes self.old.store) (S.table self.old.store)
+            s.now d.now keep (S.nodes self.new.store) (S.table self.new.store))) }
+        ensures others { OfSound S.NodeStore self.old.store
+            (OnOk result (AreOthersSame (S.nodes self.old.store) (S.table self.old.store)
+            (S.nodes self.new.store) (S.table self.new.store))) }
         ensures table { OnOk result (IsGrown (S.table self.old.store) (S.table self.new.store)) }
         ensures visits { OnOk result (self.new.walk.visits
             ≡ S.visit_count self.new.store - S.visit_count self.old.store) }
@@ -212,18 +191,14 @@ impl<S: NodeStore> Tree<S> {
             ≡ (S.table self.old.store).level (S.table self.old.store).root + 1) }
         ensures few_visits { S.visit_count self.new.store ≤ S.visit_count self.old.store
             + (5 * ((S.table self.old.store).level (S.table self.old.store).root + 1) + 2) }
-        ensures known { S.is_known self.old.store → S.is_known self.new.store }
-        ensures err_table { OnErr result (S.table self.new.store ≡ S.table self.old.store) }
-        ensures err_nodes { S.is_known self.old.store
-            → OnErr result (S.nodes self.new.store ≡ S.nodes self.old.store) }
+        ensures stays { Stays S.NodeStore self.old.store self.new.store }
+        ensures err { OnErr result (OnlyReads S.NodeStore self.old.store self.new.store) }
         ensures err_walk { OnErr result (self.new.walk ≡ self.old.walk) }
         ensures cause { HasMapCause (S.fault_count self.old.store) (S.fault_count self.new.store)
             (S.bad self.new.store) (IsWornForGraft (S.table self.old.store)) result }
-        ensures worn { S.is_known self.old.store
-            → IsSound (S.nodes self.old.store) (S.table self.old.store)
-            → IfErr result (OnWorn (IsWornByGraft (S.nodes self.old.store)
-            (S.table self.old.store) s.now d.now keep)) }
-        ensures same_loans { S.loans self.new.store ≡ S.loans self.old.store }
+        ensures worn { OfSound S.NodeStore self.old.store
+            (IfErr result (OnWorn (IsWornByGraft (S.nodes self.old.store)
+            (S.table self.old.store) s.now d.now keep))) }
     {
         let walk = graft(self.alloc, &mut self.store, s, d, keep)?;
         self.walk = walk;
@@ -234,23 +209,17 @@ impl<S: NodeStore> Tree<S> {
     /// none; pushes are passed over unless `pushes` asks for them. Only the root and inner nodes that
     /// nothing else names are visited, each at most once.
     pub fn reclaim_next(&mut self, pushes: bool) -> Result<Option<Reclaim>, MapFault>
-        ensures first { S.is_known self.old.store
-            → IsSound (S.nodes self.old.store) (S.table self.old.store)
-            → IfOk result (λ found. MatchOption found
+        ensures first { OfSound S.NodeStore self.old.store
+            (IfOk result (λ found. MatchOption found
             (HasNone pushes (S.nodes self.old.store) (S.table self.old.store)
             (S.table self.old.store).root)
             (λ step. IsFirst pushes (S.nodes self.old.store) (S.table self.old.store) step
-            (S.table self.old.store).root)) }
+            (S.table self.old.store).root))) }
         ensures to_do { IfOk result (λ found. IfSome found (IsToDo (S.table self.old.store))) }
-        ensures at { S.is_known self.old.store
-            → IsSound (S.nodes self.old.store) (S.table self.old.store)
-            → IfOk result (λ found. IfSome found
-            (IsToDoAt (S.nodes self.old.store) (S.table self.old.store))) }
-        ensures table { S.table self.new.store ≡ S.table self.old.store }
-        ensures known { S.is_known self.old.store → S.is_known self.new.store }
-        ensures kept { S.is_known self.old.store
-            → S.nodes self.new.store ≡ S.nodes self.old.store }
-        ensures read { S.reads self.old.store self.new.store }
+        ensures at { OfSound S.NodeStore self.old.store
+            (IfOk result (λ found. IfSome found
+            (IsToDoAt (S.nodes self.old.store) (S.table self.old.store)))) }
+        ensures left { OnlyReads S.NodeStore self.old.store self.new.store }
         ensures cause { HasMapCause (S.fault_count self.old.store) (S.fault_count self.new.store)
             (S.bad self.new.store) NeverWorn result }
         ensures few_visits { S.is_known self.old.store → S.visit_count self.new.store
@@ -258,7 +227,6 @@ impl<S: NodeStore> Tree<S> {
             (S.table self.old.store)
             ((S.table self.old.store).level (S.table self.old.store).root + 1)
             (S.table self.old.store).root }
-        ensures same_loans { S.loans self.new.store ≡ S.loans self.old.store }
         ensures walk { self.new.walk ≡ self.old.walk }
     {
         reclaim_next(self.alloc, &mut self.store, pushes)
@@ -269,38 +237,30 @@ impl<S: NodeStore> Tree<S> {
     /// changes fetch and make none. A fault leaves all as it was.
     pub fn reclaim_step(&mut self, step: Reclaim) -> Result<(), MapFault>
         requires to_do { IsToDo (S.table self.old.store) step }
-        requires at { S.is_known self.old.store
-            → IsSound (S.nodes self.old.store) (S.table self.old.store)
-            → IsToDoAt (S.nodes self.old.store) (S.table self.old.store) step }
-        ensures same { S.is_known self.old.store
-            → IsSound (S.nodes self.old.store) (S.table self.old.store)
-            → (k : List ℕ) → root_at (S.nodes self.new.store) (S.table self.new.store) k
-            ≡ root_at (S.nodes self.old.store) (S.table self.old.store) k }
-        ensures reclaimed { S.is_known self.old.store
-            → IsSound (S.nodes self.old.store) (S.table self.old.store)
-            → OnOk result (IsReclaimed (S.nodes self.old.store) (S.table self.old.store)
-            (S.nodes self.new.store) (S.table self.new.store)) }
-        ensures made { S.is_known self.old.store
-            → IsSound (S.nodes self.old.store) (S.table self.old.store)
-            → OnOk result (IsMade (S.nodes self.old.store) (S.table self.old.store) step
-            (S.nodes self.new.store) (S.table self.new.store)) }
-        ensures falls { S.is_known self.old.store
-            → IsSound (S.nodes self.old.store) (S.table self.old.store)
-            → OnOk result (LeavesLess (S.nodes self.old.store) (S.table self.old.store) step
-            (S.nodes self.new.store) (S.table self.new.store)) }
+        requires at { OfSound S.NodeStore self.old.store
+            (IsToDoAt (S.nodes self.old.store) (S.table self.old.store) step) }
+        ensures same { OfSound S.NodeStore self.old.store
+            ((k : List ℕ) → root_at (S.nodes self.new.store) (S.table self.new.store) k
+            ≡ root_at (S.nodes self.old.store) (S.table self.old.store) k) }
+        ensures reclaimed { OfSound S.NodeStore self.old.store
+            (OnOk result (IsReclaimed (S.nodes self.old.store) (S.table self.old.store)
+            (S.nodes self.new.store) (S.table self.new.store))) }
+        ensures made { OfSound S.NodeStore self.old.store
+            (OnOk result (IsMade (S.nodes self.old.store) (S.table self.old.store) step
+            (S.nodes self.new.store) (S.table self.new.store))) }
+        ensures falls { OfSound S.NodeStore self.old.store
+            (OnOk result (LeavesLess (S.nodes self.old.store) (S.table self.old.store) step
+            (S.nodes self.new.store) (S.table self.new.store))) }
         ensures next { OnOk result
             (IsNextAfter (S.table self.old.store) step (S.table self.new.store)) }
         ensures root { OnOk result
             (IsRootAfter (S.table self.old.store) step (S.table self.new.store)) }
-        ensures known { S.is_known self.old.store → S.is_known self.new.store }
-        ensures err_table { OnErr result (S.table self.new.store ≡ S.table self.old.store) }
-        ensures err_nodes { S.is_known self.old.store
-            → OnErr result (S.nodes self.new.store ≡ S.nodes self.old.store) }
+        ensures stays { Stays S.NodeStore self.old.store self.new.store }
+        ensures err { OnErr result (OnlyReads S.NodeStore self.old.store self.new.store) }
         ensures few_visits { S.visit_count self.new.store
             ≤ S.visit_count self.old.store + reclaim_visits (S.table self.old.store) step }
         ensures cause { HasMapCause (S.fault_count self.old.store) (S.fault_count self.new.store)
             (S.bad self.new.store) (IsWornFor (S.table self.old.store)) result }
-        ensures same_loans { S.loans self.new.store ≡ S.loans self.old.store }
         ensures walk { self.new.walk ≡ self.old.walk }
     {
         reclaim_step(self.alloc, &mut self.store, step)
@@ -326,28 +286,22 @@ impl<S: NodeStore> Tree<S> {
     /// 17 sources that are looked through, each at most as many as the tree is high. A fault leaves
     /// all as it was.
     pub fn flush_step(&mut self, limit: usize) -> Result<bool, MapFault>
-        ensures same { S.is_known self.old.store
-            → IsSound (S.nodes self.old.store) (S.table self.old.store)
-            → (k : List ℕ) → root_at (S.nodes self.new.store) (S.table self.new.store) k
-            ≡ root_at (S.nodes self.old.store) (S.table self.old.store) k }
+        ensures same { OfSound S.NodeStore self.old.store
+            ((k : List ℕ) → root_at (S.nodes self.new.store) (S.table self.new.store) k
+            ≡ root_at (S.nodes self.old.store) (S.table self.old.store) k) }
         ensures enough { (result ≡ Ok false) ↔ ((S.table self.old.store).size ≤ limit) }
         ensures unchanged { result ≡ Ok false → self.new.store ≡ self.old.store }
-        ensures step { S.is_known self.old.store
-            → IsSound (S.nodes self.old.store) (S.table self.old.store)
-            → result ≡ Ok true → IsFlushStep (S.nodes self.old.store) (S.table self.old.store)
-            (S.nodes self.new.store) (S.table self.new.store) }
+        ensures step { OfSound S.NodeStore self.old.store
+            (result ≡ Ok true → IsFlushStep (S.nodes self.old.store) (S.table self.old.store)
+            (S.nodes self.new.store) (S.table self.new.store)) }
         ensures found { result ≡ Ok true
             → IsFound (S.table self.old.store) (S.table self.new.store) }
-        ensures known { S.is_known self.old.store → S.is_known self.new.store }
-        ensures same_table { result ≢ Ok true
-            → S.table self.new.store ≡ S.table self.old.store }
-        ensures same_nodes { S.is_known self.old.store
-            → result ≢ Ok true → S.nodes self.new.store ≡ S.nodes self.old.store }
+        ensures stays { Stays S.NodeStore self.old.store self.new.store }
+        ensures rest { result ≢ Ok true → OnlyReads S.NodeStore self.old.store self.new.store }
         ensures few_visits { S.visit_count self.new.store
             ≤ S.visit_count self.old.store + step_visits (S.table self.old.store) }
         ensures cause { HasMapCause (S.fault_count self.old.store) (S.fault_count self.new.store)
             (S.bad self.new.store) (IsWornFor (S.table self.old.store)) result }
-        ensures same_loans { S.loans self.new.store ≡ S.loans self.old.store }
         ensures walk { self.new.walk ≡ self.old.walk }
     {
         flush_step(self.alloc, &mut self.store, limit)

@@ -5,7 +5,8 @@ ghost use Rattle.bd_command.specs.Command.{writes, accepted, IsCommand, IsReply}
 ghost use Rattle.bd_model.specs.Tree.{Tree, IsTree};
 ghost use Rattle.bd_model.specs.Step.{step, refusal_of};
 ghost use Rattle.bd_message.specs.declared.fault.Counter.{Counter};
-ghost use Rattle.bd_message.specs.KeyMaps.{SameAt, IsLeft, HasMapCause, NeverWorn};
+ghost use Rattle.bd_message.specs.KeyMaps.{SameAt, HasMapCause, NeverWorn};
+ghost use Rattle.bd_message.specs.Reads.{IsLeft};
 ghost use Rattle.bd_represent.specs.Represents.{Represents};
 ghost use Rattle.bd_dirs.specs.Plans.{IsPlan, IsReady, IsPlanKind};
 ghost use Rattle.bd_volume.specs.Views.{view_in, keys_in, IsMoved};
@@ -62,7 +63,7 @@ fn answer<M: KeyMap>(alloc: Global, m: &mut M, command: &Command) -> Result<Repl
     ensures reply { M.is_known m.old → (t : Tree) → IsTree t → Represents (M.has m.old) t
         → IfOk result (λ reply. reply ≡ (step t command.now).1) }
     ensures small { IfOk result IsReply }
-    ensures left { IsLeft M.is_known M.has M.room_of M.worn M.reads M.loans m.old m.new }
+    ensures left { IsLeft M.KeyMap m.old m.new }
     ensures cause { HasMapCause (M.fault_count m.old) (M.fault_count m.new)
         (M.bad m.new) NeverWorn result }
 {

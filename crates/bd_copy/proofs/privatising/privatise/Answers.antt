@@ -21,57 +21,57 @@ put_copy-requires-clause-can g c =
       read = child_read (g.S.NodeStore.table c.args.store.now) c.args.parent.now c.args.place c.in-Some.id c.deref.result.now c.edges_of.result.now c.index-edges_of-place.result c.requires.can c.deref.ensures c.edges_of.ensures c.index-edges_of-place.is c.in-Some.is;
       id_is = c.in_ok-child.ensures.id;
       fetched = c.in_ok-child.ensures.fetched;
-      table_is = c.fetch.ensures.table;
+      table_is = c.fetch.ensures.left.table;
       shown_is = c.deref-2.ensures;
       source_is = c.as_slice.ensures;
       copied = c.in_ok-copy.ensures.copied;
       own = c.in_ok-copy.ensures.own;
       bytes = c.freed.ensures.bytes;
     })
-    (c.freed.ensures.table ∙ c.fetch.ensures.table)
+    (c.freed.ensures.left.table ∙ c.fetch.ensures.left.table)
 
 pub put_copy-requires-clause-copied : goal.put_copy-requires-clause-copied
 put_copy-requires-clause-copied g c = λ known sound.
-    let was = g.met.S.NodeStore.reads_known c.args.store.now c.freed.new.store (g.met.S.NodeStore.reads_both c.args.store.now c.fetch.new.store c.freed.new.store c.fetch.ensures.read c.freed.ensures.read) known in
-    let same = c.freed.ensures.kept (c.fetch.ensures.known was) ∙ c.fetch.ensures.kept was in
-    let sound_was = sound_again (g.S.NodeStore.nodes c.freed.new.store) (g.S.NodeStore.nodes c.args.store.now) (g.S.NodeStore.table c.freed.new.store) (g.S.NodeStore.table c.args.store.now) (sym same) (sym (c.freed.ensures.table ∙ c.fetch.ensures.table)) sound in
+    let was = g.met.S.NodeStore.reads_known c.args.store.now c.freed.new.store (g.met.S.NodeStore.reads_both c.args.store.now c.fetch.new.store c.freed.new.store c.fetch.ensures.left.read c.freed.ensures.left.read) known in
+    let same = c.freed.ensures.left.kept (c.fetch.ensures.left.known was) ∙ c.fetch.ensures.left.kept was in
+    let sound_was = sound_again (g.S.NodeStore.nodes c.freed.new.store) (g.S.NodeStore.nodes c.args.store.now) (g.S.NodeStore.table c.freed.new.store) (g.S.NodeStore.table c.args.store.now) (sym same) (sym (c.freed.ensures.left.table ∙ c.fetch.ensures.left.table)) sound in
     copied_again (g.S.NodeStore.nodes c.args.store.now) (g.S.NodeStore.nodes c.freed.new.store) (g.S.NodeStore.table c.args.store.now) c.args.parent.now c.args.place c.index-edges_of-place.result c.in_ok-child.child c.in_ok-copy.copy same
     (copy_there (g.S.NodeStore.nodes c.args.store.now) (g.S.NodeStore.nodes c.fetch.new.store) (g.S.NodeStore.table c.args.store.now) (g.S.NodeStore.table c.fetch.new.store) c.args.parent.now c.args.place c.index-edges_of-place.result c.in-Some.id c.in_ok-child.child c.deref-2.result.now c.as_slice.result.now c.in_ok-copy.copy
     (record {
       read = child_read (g.S.NodeStore.table c.args.store.now) c.args.parent.now c.args.place c.in-Some.id c.deref.result.now c.edges_of.result.now c.index-edges_of-place.result c.requires.can c.deref.ensures c.edges_of.ensures c.index-edges_of-place.is c.in-Some.is;
       id_is = c.in_ok-child.ensures.id;
       fetched = c.in_ok-child.ensures.fetched;
-      table_is = c.fetch.ensures.table;
+      table_is = c.fetch.ensures.left.table;
       shown_is = c.deref-2.ensures;
       source_is = c.as_slice.ensures;
       copied = c.in_ok-copy.ensures.copied;
       own = c.in_ok-copy.ensures.own;
       bytes = c.freed.ensures.bytes;
     })
-    sound_was (c.fetch.ensures.kept was) (c.in_ok-child.ensures.contents was)
-    (c.in_ok-copy.ensures.has (c.fetch.ensures.known was) (sound_again (g.S.NodeStore.nodes c.args.store.now) (g.S.NodeStore.nodes c.fetch.new.store) (g.S.NodeStore.table c.args.store.now) (g.S.NodeStore.table c.fetch.new.store) (c.fetch.ensures.kept was) c.fetch.ensures.table sound_was)))
+    sound_was (c.fetch.ensures.left.kept was) (c.in_ok-child.ensures.contents was)
+    (c.in_ok-copy.ensures.has (c.fetch.ensures.left.known was) (sound_again (g.S.NodeStore.nodes c.args.store.now) (g.S.NodeStore.nodes c.fetch.new.store) (g.S.NodeStore.table c.args.store.now) (g.S.NodeStore.table c.fetch.new.store) (c.fetch.ensures.left.kept was) c.fetch.ensures.left.table sound_was)))
 
 pub returns-clause-privatised : goal.returns-clause-privatised
 returns-clause-privatised g c = λ known sound.
-    let same = c.freed.ensures.kept (c.fetch.ensures.known known) ∙ c.fetch.ensures.kept known in
-    let table = c.freed.ensures.table ∙ c.fetch.ensures.table in
+    let same = c.freed.ensures.left.kept (c.fetch.ensures.left.known known) ∙ c.fetch.ensures.left.kept known in
+    let table = c.freed.ensures.left.table ∙ c.fetch.ensures.left.table in
     on_privatised (g.S.NodeStore.nodes c.args.store.now) (g.S.NodeStore.table c.args.store.now) (g.S.NodeStore.table c.freed.new.store) c.args.parent.now c.args.place c.index-edges_of-place.result c.in_ok-child.child c.in_ok-copy.copy (g.S.NodeStore.nodes c.put_copy.new.store) (g.S.NodeStore.table c.put_copy.new.store) c.put_copy.result
     (copy_there (g.S.NodeStore.nodes c.args.store.now) (g.S.NodeStore.nodes c.fetch.new.store) (g.S.NodeStore.table c.args.store.now) (g.S.NodeStore.table c.fetch.new.store) c.args.parent.now c.args.place c.index-edges_of-place.result c.in-Some.id c.in_ok-child.child c.deref-2.result.now c.as_slice.result.now c.in_ok-copy.copy
     (record {
       read = child_read (g.S.NodeStore.table c.args.store.now) c.args.parent.now c.args.place c.in-Some.id c.deref.result.now c.edges_of.result.now c.index-edges_of-place.result c.requires.can c.deref.ensures c.edges_of.ensures c.index-edges_of-place.is c.in-Some.is;
       id_is = c.in_ok-child.ensures.id;
       fetched = c.in_ok-child.ensures.fetched;
-      table_is = c.fetch.ensures.table;
+      table_is = c.fetch.ensures.left.table;
       shown_is = c.deref-2.ensures;
       source_is = c.as_slice.ensures;
       copied = c.in_ok-copy.ensures.copied;
       own = c.in_ok-copy.ensures.own;
       bytes = c.freed.ensures.bytes;
     })
-    sound (c.fetch.ensures.kept known) (c.in_ok-child.ensures.contents known)
-    (c.in_ok-copy.ensures.has (c.fetch.ensures.known known) (sound_again (g.S.NodeStore.nodes c.args.store.now) (g.S.NodeStore.nodes c.fetch.new.store) (g.S.NodeStore.table c.args.store.now) (g.S.NodeStore.table c.fetch.new.store) (c.fetch.ensures.kept known) c.fetch.ensures.table sound)))
+    sound (c.fetch.ensures.left.kept known) (c.in_ok-child.ensures.contents known)
+    (c.in_ok-copy.ensures.has (c.fetch.ensures.left.known known) (sound_again (g.S.NodeStore.nodes c.args.store.now) (g.S.NodeStore.nodes c.fetch.new.store) (g.S.NodeStore.table c.args.store.now) (g.S.NodeStore.table c.fetch.new.store) (c.fetch.ensures.left.kept known) c.fetch.ensures.left.table sound)))
     table
-    (c.put_copy.ensures.put (c.freed.ensures.known (c.fetch.ensures.known known)) (sound_again (g.S.NodeStore.nodes c.args.store.now) (g.S.NodeStore.nodes c.freed.new.store) (g.S.NodeStore.table c.args.store.now) (g.S.NodeStore.table c.freed.new.store) same table sound))
+    (c.put_copy.ensures.put (c.freed.ensures.left.known (c.fetch.ensures.left.known known)) (sound_again (g.S.NodeStore.nodes c.args.store.now) (g.S.NodeStore.nodes c.freed.new.store) (g.S.NodeStore.table c.args.store.now) (g.S.NodeStore.table c.freed.new.store) same table sound))
 
 pub returns-clause-few_visits : goal.returns-clause-few_visits
 returns-clause-few_visits g c =

@@ -25,8 +25,7 @@ loop-edge-preserved g c =
       known = λ k. one.known (inv.known k);
       nodes = λ k. one.kept (inv.known k) ∙ inv.nodes k;
       read = g.met.S.NodeStore.reads_both c.args.store.now c.loop-edge.store c.short_edge.new.store inv.read one.read;
-      later = (let a : g.S.NodeStore.fault_count c.args.store.now ≤ g.S.NodeStore.fault_count c.loop-edge.store = inv.later in
-          let b : g.S.NodeStore.fault_count c.loop-edge.store ≤ g.S.NodeStore.fault_count c.short_edge.new.store = one.cause.later in omega arith);
+      faults = one.cause.kept ∙ inv.faults;
       visits = visits_more (λ (u : Table) (e : Edge). way_visits u (edge_way e)) t m c.args.edges.now c.loop-edge.edge-index c.edge-item.result
           (g.S.NodeStore.visit_count c.args.store.now) (g.S.NodeStore.visit_count c.loop-edge.store) (g.S.NodeStore.visit_count c.short_edge.new.store)
           inv.table (omega arith) c.edge-item.is inv.visits one.few_visits;

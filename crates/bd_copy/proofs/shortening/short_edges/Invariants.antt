@@ -10,7 +10,7 @@ invariant-loop-edge g l = record {
   known : g.S.NodeStore.is_known l.fn.store → g.S.NodeStore.is_known l.store;
   nodes : g.S.NodeStore.is_known l.fn.store → g.S.NodeStore.nodes l.store ≡ g.S.NodeStore.nodes l.fn.store;
   read : g.S.NodeStore.reads l.fn.store l.store;
-  later : g.S.NodeStore.fault_count l.fn.store ≤ g.S.NodeStore.fault_count l.store;
+  faults : g.S.NodeStore.fault_count l.store ≡ g.S.NodeStore.fault_count l.fn.store;
   visits : g.S.NodeStore.visit_count l.store ≤ g.S.NodeStore.visit_count l.fn.store
       + sum_by (λ e. way_visits (g.S.NodeStore.table l.fn.store) (edge_way e)) (take l.edge-index l.edges);
   loans : g.S.NodeStore.loans l.store ≡ g.S.NodeStore.loans l.fn.store;

@@ -25,8 +25,7 @@ loop-message-preserved g c =
       known = λ k. one.known (inv.known k);
       nodes = λ k. one.kept (inv.known k) ∙ inv.nodes k;
       read = g.met.S.NodeStore.reads_both c.args.store.now c.loop-message.store c.short_message.new.store inv.read one.read;
-      later = (let a : g.S.NodeStore.fault_count c.args.store.now ≤ g.S.NodeStore.fault_count c.loop-message.store = inv.later in
-          let b : g.S.NodeStore.fault_count c.loop-message.store ≤ g.S.NodeStore.fault_count c.short_message.new.store = one.cause.later in omega arith);
+      faults = one.cause.kept ∙ inv.faults;
       visits = visits_more (λ (u : Table) (e : Message). way_visits u (goto_way e)) t m c.args.list.now c.loop-message.message-index c.message-item.result
           (g.S.NodeStore.visit_count c.args.store.now) (g.S.NodeStore.visit_count c.loop-message.store) (g.S.NodeStore.visit_count c.short_message.new.store)
           inv.table (omega arith) c.message-item.is inv.visits one.few_visits;

@@ -2,7 +2,7 @@ use Rattle.std.proofs.Common.{◌≡◌, ℕ, ◌-◌, ◌≤◌, ◌<◌, List,
 use Rattle.std.specs.Prelude.{Some}
 use Rattle.std.specs.FinMap.{get}
 use Rattle.bd_model.specs.Tree.{Tree, FileWith}
-use Rattle.bd_message.specs.KeyMaps.{IsLeft}
+use Rattle.bd_message.specs.Reads.{IsLeft}
 use Rattle.bd_represent.specs.Represents.{Represents}
 use Rattle.bd_files.proofs.reading.bytes_between.Given as goal
 
@@ -13,8 +13,8 @@ invariant-loop-place g l = record {
   within : l.off < l.end → l.place ≤ l.end;
   none : l.end ≤ l.off → l.place ≡ l.off;
   count : length l.read.items ≤ l.place - l.off;
-  left : IsLeft g.M.KeyMap.is_known g.M.KeyMap.has g.M.KeyMap.room_of g.M.KeyMap.worn g.M.KeyMap.reads g.M.KeyMap.loans l.initial.m l.m;
-  later : g.M.KeyMap.fault_count l.initial.m ≤ g.M.KeyMap.fault_count l.m;
+  left : IsLeft g.M.KeyMap l.initial.m l.m;
+  faults : g.M.KeyMap.fault_count l.m ≡ g.M.KeyMap.fault_count l.initial.m;
   bytes : g.M.KeyMap.is_known l.initial.m → (t : Tree) (file : List ℕ) → Represents (g.M.KeyMap.has l.initial.m) t
       → get t l.path ≡ Some (FileWith file) → l.end ≤ length file → l.read.items ≡ take (l.place - l.off) (drop l.off file);
 }

@@ -23,7 +23,7 @@ loop-nodes-init g c = record {
   known = λ known. known;
   nodes = λ known. refl;
   read = g.met.S.NodeStore.reads_none c.args.store.now;
-  later = omega arith;
+  faults = refl;
   visits = omega arith;
   loans = refl;
   own = λ known own. own;
@@ -49,19 +49,19 @@ loop-nodes-preserved g c =
     (subst (λ (u : Table). IsOwn m u here → IsSeenAt m u c.in_ok-nodes.field-0) c.loop-nodes.invariant.table (c.in_ok-nodes.ensures.at (c.loop-nodes.invariant.known known)))
     (c.loop-nodes.invariant.own known own)) in
     record {
-      table = c.in_ok-nodes.ensures.table ∙ c.loop-nodes.invariant.table;
+      table = c.in_ok-nodes.ensures.left.table ∙ c.loop-nodes.invariant.table;
       fetched = next.child_is;
       inner = next.inner;
       room = next.room;
       within = subst (λ (d : Node). c.fullest_place-at.result < length (edges_of d)) c.deref.ensures c.fullest_place-at.ensures.within;
       under = next_under t here at child c.loop-nodes.invariant.under next;
       edge = next_from t c.args.parent c.args.place here at child c.deref.result.now c.fullest_place-at.result next c.deref.ensures c.fullest_place-at.ensures.fullest;
-      known = λ known. c.in_ok-nodes.ensures.known (c.loop-nodes.invariant.known known);
-      nodes = λ known. c.in_ok-nodes.ensures.kept (c.loop-nodes.invariant.known known) ∙ c.loop-nodes.invariant.nodes known;
-      read = g.met.S.NodeStore.reads_both c.args.store.now c.loop-nodes.store c.look_from.new.store c.loop-nodes.invariant.read c.in_ok-nodes.ensures.read;
-      later = omega (arith, c.in_ok-nodes.ensures.cause.later, c.loop-nodes.invariant.later);
+      known = λ known. c.in_ok-nodes.ensures.left.known (c.loop-nodes.invariant.known known);
+      nodes = λ known. c.in_ok-nodes.ensures.left.kept (c.loop-nodes.invariant.known known) ∙ c.loop-nodes.invariant.nodes known;
+      read = g.met.S.NodeStore.reads_both c.args.store.now c.loop-nodes.store c.look_from.new.store c.loop-nodes.invariant.read c.in_ok-nodes.ensures.left.read;
+      faults = c.in_ok-nodes.ensures.cause.kept ∙ c.loop-nodes.invariant.faults;
       visits = omega (arith, c.in_ok-nodes.ensures.few_visits, c.loop-nodes.invariant.visits, next.lower);
-      loans = c.in_ok-nodes.ensures.same_loans ∙ c.loop-nodes.invariant.loans;
+      loans = c.in_ok-nodes.ensures.left.same_loans ∙ c.loop-nodes.invariant.loans;
       own = own_child;
       reached = λ known own.
           next_way n t c.args.parent.id c.args.place here at child c.deref.result.now c.fullest_place-at.result next c.deref.ensures c.fullest_place-at.ensures.fullest c.loop-nodes.invariant.room

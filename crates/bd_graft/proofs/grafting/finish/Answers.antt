@@ -1,4 +1,4 @@
-use Rattle.std.proofs.Common.{arith, subst, sym, ◌∙◌, List, length, ◌+◌, ◌≤◌, ◌<◌, ◌^◌}
+use Rattle.std.proofs.Common.{refl, arith, subst, sym, ◌∙◌, List, length, ◌+◌, ◌≤◌, ◌<◌, ◌^◌}
 use Rattle.bd_limits.specs.Limits.{level_limit}
 use Rattle.bd_node.specs.Tables.{Table}
 use Rattle.bd_graft.specs.declared.layers.Layer.{Layer}
@@ -46,6 +46,8 @@ returns-then-is_none-clause-cause g c =
     let t : Table = g.S.NodeStore.table c.args.store.now in
     record {
       later = omega arith;
+      kept = tt;
+      stays = refl;
       failed = omega (arith, sum_past _ _ _ _ c.checked_add.ensures c.is_none.ensures c.if-is_none.true, c.next_id.ensures.value, count_is c.args.way.end c.args.way.layers.items c.as_slice.result.now c.overlay_count-count.result c.as_slice.ensures.value c.overlay_count-count.ensures, count_few c.args.way.end c.args.way.layers.items, layers_few t (t.level t.root) c.args.way.layers.items c.args.way.end c.requires.layers);
     }
 
@@ -184,5 +186,7 @@ returns-then-is_none-2-clause-cause g c =
     let t : Table = g.S.NodeStore.table c.args.store.now in
     record {
       later = omega arith;
+      kept = tt;
+      stays = refl;
       failed = omega (arith, sum_past _ _ _ _ c.checked_add-2.ensures c.is_none-2.ensures c.if-is_none-2.true, c.next_id-2.ensures.value, count_is c.args.way.end c.args.way.layers.items c.as_slice.result.now c.overlay_count-count.result c.as_slice.ensures.value c.overlay_count-count.ensures, count_few c.args.way.end c.args.way.layers.items, layers_few t (t.level t.root) c.args.way.layers.items c.args.way.end c.requires.layers);
     }

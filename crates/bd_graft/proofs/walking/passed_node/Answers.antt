@@ -15,7 +15,7 @@ use Rattle.bd_graft.proofs.walking.passed_node.Goals as goal
 
 pub above-requires : goal.above-requires
 above-requires g c =
-    subst (λ (t : Table). AllByRecursion (IsLower t level_limit) (flat_map message_names c.as_slice.result.now)) (sym c.in_ok-node.ensures.table)
+    subst (λ (t : Table). AllByRecursion (IsLower t level_limit) (flat_map message_names c.as_slice.result.now)) (sym c.in_ok-node.ensures.left.table)
     (passed_limit (g.S.NodeStore.table c.args.store.now) ((g.S.NodeStore.table c.args.store.now).level c.args.id) c.in_ok-node.node.value c.deref-in-Past.result.now c.args.prefix.now c.in-Past.newer c.as_slice.result.now
     c.in_ok-node.ensures.shape c.deref-in-Past.ensures (c.as_slice.ensures ∙ c.in_ok-messages-in-Past.ensures))
 
@@ -28,7 +28,7 @@ pub returns-clause-layer : goal.returns-clause-layer
 returns-clause-layer g c =
     passed_layer (g.S.NodeStore.table c.args.store.now) ((g.S.NodeStore.table c.args.store.now).level c.args.id) c.in_ok-node.node.value c.deref.result.now c.deref-in-Past.result.now c.args.prefix.now c.in_ok-follow.field-0 c.in-Past.newer c.in-Past.target c.in_ok-messages-in-Past.messages c.above.result c.level.result
     c.in_ok-node.ensures.shape c.deref.ensures c.deref-in-Past.ensures c.in_ok-follow.ensures.followed c.in-Past.is c.in_ok-messages-in-Past.ensures
-    (c.above.ensures ∙ ap (λ (t : Table). above t.level (flat_map message_names c.as_slice.result.now)) c.in_ok-node.ensures.table ∙ ap (λ (ms : List Message). above (g.S.NodeStore.table c.args.store.now).level (flat_map message_names ms)) c.as_slice.ensures)
+    (c.above.ensures ∙ ap (λ (t : Table). above t.level (flat_map message_names c.as_slice.result.now)) c.in_ok-node.ensures.left.table ∙ ap (λ (ms : List Message). above (g.S.NodeStore.table c.args.store.now).level (flat_map message_names ms)) c.as_slice.ensures)
     (c.level.ensures ∙ ap level_of c.deref-in-Past-2.ensures ∙ c.in_ok-node.ensures.shape.level_is)
 
 pub returns-clause-lower : goal.returns-clause-lower

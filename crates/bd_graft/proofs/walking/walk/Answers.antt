@@ -48,20 +48,19 @@ loop-store-preserved g c =
     let layer : IsLayer t on.layer = subst (λ (u : Table). IsLayer u on.layer) inv.table (some_is (λ (p : Passed). IsLayer now p.layer) c.in_ok-layer.field-0 on c.in-Some.is c.in_ok-layer.ensures.layer) in
     let level : on.layer.level ≡ t.level id = some_is (λ (p : Passed). p.layer.level ≡ now.level id) c.in_ok-layer.field-0 on c.in-Some.is c.in_ok-layer.ensures.level ∙ ap (λ (u : Table). u.level id) inv.table in
     record {
-      table = c.in_ok-layer.ensures.table ∙ inv.table;
+      table = c.in_ok-layer.ensures.left.table ∙ inv.table;
       here = lower.kept;
       layers = subst (λ (ls : List Layer). AreLayers t (high + 1) ls (Some target)) (sym c.in_ok-push.ensures.items)
           (layers_more t (high + 1) c.loop-store.layers.items on.layer (record { child = id; source = c.loop-store.asked }) (Some target) inv.layers layer level (omega (arith, c.if-level-eq0.false, c.level.ensures, level, ap (λ (u : Table). u.level id) inv.table)) (subst (λ (l : ℕ). IsLowerTarget t l (Some target)) (sym level) lower));
-      known = λ k. c.in_ok-layer.ensures.known (inv.known k);
-      nodes = λ k. c.in_ok-layer.ensures.kept (inv.known k) ∙ inv.nodes k;
-      read = g.met.S.NodeStore.reads_both c.args.store.now c.loop-store.store c.passed_node.new.store inv.read c.in_ok-layer.ensures.read;
-      later = (let a : g.S.NodeStore.fault_count c.args.store.now ≤ g.S.NodeStore.fault_count c.loop-store.store = inv.later in
-          let b : g.S.NodeStore.fault_count c.loop-store.store ≤ g.S.NodeStore.fault_count c.passed_node.new.store = c.in_ok-layer.ensures.cause.later in omega arith);
+      known = λ k. c.in_ok-layer.ensures.left.known (inv.known k);
+      nodes = λ k. c.in_ok-layer.ensures.left.kept (inv.known k) ∙ inv.nodes k;
+      read = g.met.S.NodeStore.reads_both c.args.store.now c.loop-store.store c.passed_node.new.store inv.read c.in_ok-layer.ensures.left.read;
+      faults = c.in_ok-layer.ensures.cause.kept ∙ inv.faults;
       visits = visits_one_more (g.S.NodeStore.visit_count c.args.store.now) (g.S.NodeStore.visit_count c.loop-store.store) (g.S.NodeStore.visit_count c.passed_node.new.store) high (t.level id)
           inv.visits c.in_ok-layer.ensures.visits (t.level target.child) less;
       counted = gone_down (g.S.NodeStore.visit_count c.args.store.now) (g.S.NodeStore.visit_count c.loop-store.store) (g.S.NodeStore.visit_count c.passed_node.new.store) high (t.level id)
           inv.visits c.in_ok-layer.ensures.visits (t.level target.child) less;
-      loans = c.in_ok-layer.ensures.same_loans ∙ inv.loans;
+      loans = c.in_ok-layer.ensures.left.same_loans ∙ inv.loans;
       way = λ known sound_at.
           way_on nodes t t.root id c.args.prefix.now c.loop-store.asked c.loop-store.layers.items _ on target sound_at inv.here
           (led_as nodes (g.S.NodeStore.nodes c.loop-store.store) id c.loop-store.asked c.as_slice.result.now c.in_ok-layer.field-0 (Some on) (inv.nodes known) c.as_slice.ensures c.in-Some.is (c.in_ok-layer.ensures.led (inv.known known)))

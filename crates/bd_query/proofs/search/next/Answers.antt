@@ -15,7 +15,7 @@ turns-init g c = record {
   known = λ k. k;
   nodes = λ k. refl;
   read = g.met.S.NodeStore.reads_none c.args.store.now;
-  later = (omega arith);
+  faults = refl;
   loans = refl;
   low = λ known sound.
       subst (λ (k : List ℕ). IsLow (at (g.S.NodeStore.nodes c.args.store.now) c.args.root) c.args.from.now c.args.within.now k) (sym c.in_ok-low.ensures.items)
@@ -49,13 +49,12 @@ turns-preserved g c =
     let nodes : Nodes = g.S.NodeStore.nodes c.args.store.now in
     let inv = c.turns.invariant in
     record {
-      table = c.in_ok-turn_at.ensures.table ∙ inv.table;
-      known = λ k. c.in_ok-turn_at.ensures.known (inv.known k);
-      nodes = λ k. c.in_ok-turn_at.ensures.kept (inv.known k) ∙ inv.nodes k;
-      read = g.met.S.NodeStore.reads_both c.args.store.now c.turns.store c.turn_at.new.store inv.read c.in_ok-turn_at.ensures.read;
-      later = (let a : g.S.NodeStore.fault_count c.args.store.now ≤ g.S.NodeStore.fault_count c.turns.store = inv.later in
-          let b : g.S.NodeStore.fault_count c.turns.store ≤ g.S.NodeStore.fault_count c.turn_at.new.store = c.in_ok-turn_at.ensures.cause.later in omega arith);
-      loans = c.in_ok-turn_at.ensures.same_loans ∙ inv.loans;
+      table = c.in_ok-turn_at.ensures.left.table ∙ inv.table;
+      known = λ k. c.in_ok-turn_at.ensures.left.known (inv.known k);
+      nodes = λ k. c.in_ok-turn_at.ensures.left.kept (inv.known k) ∙ inv.nodes k;
+      read = g.met.S.NodeStore.reads_both c.args.store.now c.turns.store c.turn_at.new.store inv.read c.in_ok-turn_at.ensures.left.read;
+      faults = c.in_ok-turn_at.ensures.cause.kept ∙ inv.faults;
+      loans = c.in_ok-turn_at.ensures.left.same_loans ∙ inv.loans;
       low = λ known sound.
           let still : IsSound (g.S.NodeStore.nodes c.turns.store) (g.S.NodeStore.table c.turns.store) =
           subst (λ (n : Nodes). IsSound n (g.S.NodeStore.table c.turns.store)) (sym (inv.nodes known)) (subst (λ (u : Table). IsSound nodes u) (sym inv.table) sound) in

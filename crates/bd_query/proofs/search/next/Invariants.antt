@@ -12,7 +12,7 @@ invariant-turns g l = record {
   known : g.S.NodeStore.is_known l.fn.store → g.S.NodeStore.is_known l.store;
   nodes : g.S.NodeStore.is_known l.fn.store → g.S.NodeStore.nodes l.store ≡ g.S.NodeStore.nodes l.fn.store;
   read : g.S.NodeStore.reads l.fn.store l.store;
-  later : g.S.NodeStore.fault_count l.fn.store ≤ g.S.NodeStore.fault_count l.store;
+  faults : g.S.NodeStore.fault_count l.store ≡ g.S.NodeStore.fault_count l.fn.store;
   loans : g.S.NodeStore.loans l.store ≡ g.S.NodeStore.loans l.fn.store;
   low : g.S.NodeStore.is_known l.fn.store → IsSound (g.S.NodeStore.nodes l.fn.store) (g.S.NodeStore.table l.fn.store)
       → IsLow (at (g.S.NodeStore.nodes l.fn.store) l.fn.root) l.fn.from l.fn.within l.low.items;

@@ -24,9 +24,9 @@ returns-in-Absent-clause-turn g t c known sound =
 pub returns-in_ok-turn-in-Child-2-clause-turn : goal.returns-in_ok-turn-in-Child-2-clause-turn
 returns-in_ok-turn-in-Child-2-clause-turn g t c known sound =
     let nodes : Nodes = g.S.NodeStore.nodes c.args.store.now in
-    let same : g.S.NodeStore.nodes c.stretch_at.new.store ≡ nodes = c.in_ok-stretch_at.ensures.kept known in
+    let same : g.S.NodeStore.nodes c.stretch_at.new.store ≡ nodes = c.in_ok-stretch_at.ensures.left.kept known in
     let still : IsSound (g.S.NodeStore.nodes c.stretch_at.new.store) (g.S.NodeStore.table c.stretch_at.new.store) =
-    subst (λ (n : Nodes). IsSound n (g.S.NodeStore.table c.stretch_at.new.store)) (sym same) (subst (λ (u : Table). IsSound nodes u) (sym c.in_ok-stretch_at.ensures.table) sound) in
+    subst (λ (n : Nodes). IsSound n (g.S.NodeStore.table c.stretch_at.new.store)) (sym same) (subst (λ (u : Table). IsSound nodes u) (sym c.in_ok-stretch_at.ensures.left.table) sound) in
     let source : c.as_slice-in-Child-2.result.now ≡ c.in-Child.source = c.as_slice-in-Child-2.ensures in
     let asked : c.as_slice-in-Child.result.now ≡ c.as_slice-in-Child-2.result.now ++ drop c.in-Child.lift c.args.key.now =
     c.as_slice-in-Child.ensures ∙ c.in_ok-asked-in-Child.ensures ∙ ap (λ (l : List ℕ). l ++ c.tail.result.now) (c.as_slice.ensures ∙ sym source) ∙ ap (λ (l : List ℕ). c.as_slice-in-Child-2.result.now ++ l) c.tail.ensures in
@@ -38,7 +38,7 @@ returns-in_ok-turn-in-Child-2-clause-turn g t c known sound =
     (node_says nodes (g.S.NodeStore.table c.args.store.now) c.args.id c.args.key.now c.in_ok-stretch_at.field-0 sound c.requires (λ i. omega (arith, c.type_inv.key i)) (c.in_ok-stretch_at.ensures.stretch known))))
     (subst (λ (k : List ℕ). IsTurn (at nodes c.in-Child.child) k c.in_ok-turn-in-Child.turn) asked
     (subst (λ (n : Nodes). IsTurn (at n c.in-Child.child) c.as_slice-in-Child.result.now c.in_ok-turn-in-Child.turn) same
-    (c.in_ok-turn-in-Child.ensures.turn (c.in_ok-stretch_at.ensures.known known) still)))
+    (c.in_ok-turn-in-Child.ensures.turn (c.in_ok-stretch_at.ensures.left.known known) still)))
 
 pub returns-in_ok-turn-in-Child-2-clause-passes : goal.returns-in_ok-turn-in-Child-2-clause-passes
 returns-in_ok-turn-in-Child-2-clause-passes g t c =
@@ -48,7 +48,7 @@ returns-in_ok-turn-in-Child-2-clause-passes g t c =
     let asked : c.as_slice-in-Child.result.now ≡ c.as_slice-in-Child-2.result.now ++ drop c.in-Child.lift c.args.key.now =
     c.as_slice-in-Child.ensures ∙ c.in_ok-asked-in-Child.ensures ∙ ap (λ (l : List ℕ). l ++ c.tail.result.now) (c.as_slice.ensures ∙ sym source) ∙ ap (λ (l : List ℕ). c.as_slice-in-Child-2.result.now ++ l) c.tail.ensures in
     let passes : PassesTo c.as_slice-in-Child.result.now (way_limit ((g.S.NodeStore.table c.args.store.now).level c.in-Child.child)) c.in_ok-turn-in-Child.turn =
-    subst (λ (u : Table). PassesTo c.as_slice-in-Child.result.now (way_limit (u.level c.in-Child.child)) c.in_ok-turn-in-Child.turn) c.in_ok-stretch_at.ensures.table c.in_ok-turn-in-Child.ensures.passes in
+    subst (λ (u : Table). PassesTo c.as_slice-in-Child.result.now (way_limit (u.level c.in-Child.child)) c.in_ok-turn-in-Child.turn) c.in_ok-stretch_at.ensures.left.table c.in_ok-turn-in-Child.ensures.passes in
     passes_weaker c.args.key.now (end_limit + way_limit ((g.S.NodeStore.table c.args.store.now).level c.in-Child.child)) (way_limit ((g.S.NodeStore.table c.args.store.now).level c.args.id)) c.in_ok-turn-in-Child-2.turn
     (level_more ((g.S.NodeStore.table c.args.store.now).level c.in-Child.child) ((g.S.NodeStore.table c.args.store.now).level c.args.id) lower.lower)
     (c.in_ok-turn-in-Child-2.ensures.passes (way_limit ((g.S.NodeStore.table c.args.store.now).level c.in-Child.child))
@@ -59,7 +59,7 @@ returns-in_ok-turn-in-Child-2-clause-visits g t c =
     let lower : IsLower (g.S.NodeStore.table c.args.store.now) ((g.S.NodeStore.table c.args.store.now).level c.args.id) c.in-Child.child =
     subst (λ (s : Stretch). AsksLower (g.S.NodeStore.table c.args.store.now) ((g.S.NodeStore.table c.args.store.now).level c.args.id) s) c.in-Child.is c.in_ok-stretch_at.ensures.lower in
     visits_then (g.S.NodeStore.visit_count c.args.store.now) (g.S.NodeStore.visit_count c.stretch_at.new.store) (g.S.NodeStore.visit_count c.turn_at.new.store) ((g.S.NodeStore.table c.stretch_at.new.store).level c.in-Child.child) ((g.S.NodeStore.table c.args.store.now).level c.args.id)
-    c.in_ok-stretch_at.ensures.visits (subst (λ (u : Table). u.level c.in-Child.child < (g.S.NodeStore.table c.args.store.now).level c.args.id) (sym c.in_ok-stretch_at.ensures.table) lower.lower) c.in_ok-turn-in-Child.ensures.visits
+    c.in_ok-stretch_at.ensures.visits (subst (λ (u : Table). u.level c.in-Child.child < (g.S.NodeStore.table c.args.store.now).level c.args.id) (sym c.in_ok-stretch_at.ensures.left.table) lower.lower) c.in_ok-turn-in-Child.ensures.visits
 
 pub returns-in-Present-clause-way : goal.returns-in-Present-clause-way
 returns-in-Present-clause-way g t c known sound =
@@ -74,13 +74,13 @@ returns-in-Absent-clause-way g t c known sound =
 pub returns-in_ok-turn-in-Child-2-clause-way : goal.returns-in_ok-turn-in-Child-2-clause-way
 returns-in_ok-turn-in-Child-2-clause-way g t c known sound =
     let nodes : Nodes = g.S.NodeStore.nodes c.args.store.now in
-    let same : g.S.NodeStore.nodes c.stretch_at.new.store ≡ nodes = c.in_ok-stretch_at.ensures.kept known in
+    let same : g.S.NodeStore.nodes c.stretch_at.new.store ≡ nodes = c.in_ok-stretch_at.ensures.left.kept known in
     let still : IsSound (g.S.NodeStore.nodes c.stretch_at.new.store) (g.S.NodeStore.table c.stretch_at.new.store) =
-    subst (λ (n : Nodes). IsSound n (g.S.NodeStore.table c.stretch_at.new.store)) (sym same) (subst (λ (u : Table). IsSound nodes u) (sym c.in_ok-stretch_at.ensures.table) sound) in
+    subst (λ (n : Nodes). IsSound n (g.S.NodeStore.table c.stretch_at.new.store)) (sym same) (subst (λ (u : Table). IsSound nodes u) (sym c.in_ok-stretch_at.ensures.left.table) sound) in
     let asked : c.as_slice-in-Child.result.now ≡ c.in-Child.source ++ drop c.in-Child.lift c.args.key.now =
     c.as_slice-in-Child.ensures ∙ c.in_ok-asked-in-Child.ensures ∙ ap (λ (l : List ℕ). l ++ c.tail.result.now) c.as_slice.ensures ∙ ap (λ (l : List ℕ). c.in-Child.source ++ l) c.tail.ensures in
     way_goes_on nodes (g.S.NodeStore.table c.args.store.now) c.args.id c.in-Child.child c.args.key.now (c.in-Child.source ++ drop c.in-Child.lift c.args.key.now) (g.S.NodeStore.visit_count c.args.store.now) (g.S.NodeStore.visit_count c.stretch_at.new.store) (g.S.NodeStore.visit_count c.turn_at.new.store) sound c.requires
     (λ n there. c.in_ok-stretch_at.ensures.asks known n there ∙ ap (λ (s : Stretch). asked_in s c.args.key.now) c.in-Child.is) c.in_ok-stretch_at.ensures.visits
     (subst (λ (k : List ℕ). AreVisitsOfWay nodes c.in-Child.child k (g.S.NodeStore.visit_count c.stretch_at.new.store) (g.S.NodeStore.visit_count c.turn_at.new.store)) asked
     (subst (λ (n : Nodes). AreVisitsOfWay n c.in-Child.child c.as_slice-in-Child.result.now (g.S.NodeStore.visit_count c.stretch_at.new.store) (g.S.NodeStore.visit_count c.turn_at.new.store)) same
-    (c.in_ok-turn-in-Child.ensures.way (c.in_ok-stretch_at.ensures.known known) still)))
+    (c.in_ok-turn-in-Child.ensures.way (c.in_ok-stretch_at.ensures.left.known known) still)))

@@ -28,7 +28,7 @@ loop-patches-init g c = record {
   known = λ k. k;
   nodes = λ k. refl;
   read = g.met.S.NodeStore.reads_none c.args.store.now;
-  later = (omega arith);
+  faults = refl;
   visits = no_visit (g.S.NodeStore.visit_count c.args.store.now) ((g.S.NodeStore.table c.args.store.now).level c.args.root);
   loans = refl;
   value = λ known sound. ap (λ (ps : List Patch). patched ps (at (g.S.NodeStore.nodes c.args.store.now) c.args.root c.in_ok-asked.asked)) c.new-patches.ensures.items
@@ -42,16 +42,15 @@ loop-patches-preserved g c =
     let lower : IsLower (g.S.NodeStore.table c.loop-patches.store) ((g.S.NodeStore.table c.loop-patches.store).level c.loop-patches.id) c.in-Ask.child =
     lower_ask (g.S.NodeStore.table c.loop-patches.store) ((g.S.NodeStore.table c.loop-patches.store).level c.loop-patches.id) c.in_ok-part.part.base c.in-Ask.child c.in-Ask.key c.in-Ask.is c.in_ok-part.ensures.lower in
     record {
-      table = c.in_ok-part.ensures.table ∙ inv.table;
+      table = c.in_ok-part.ensures.left.table ∙ inv.table;
       here = subst (λ (t : Table). IsKept t c.in-Ask.child) inv.table lower.kept;
-      known = λ k. c.in_ok-part.ensures.known (inv.known k);
-      nodes = λ k. c.in_ok-part.ensures.kept (inv.known k) ∙ inv.nodes k;
-      read = g.met.S.NodeStore.reads_both c.args.store.now c.loop-patches.store c.fetched.new.store inv.read c.in_ok-part.ensures.read;
-      later = (let a : g.S.NodeStore.fault_count c.args.store.now ≤ g.S.NodeStore.fault_count c.loop-patches.store = inv.later in
-          let b : g.S.NodeStore.fault_count c.loop-patches.store ≤ g.S.NodeStore.fault_count c.fetched.new.store = c.in_ok-part.ensures.cause.later in omega arith);
+      known = λ k. c.in_ok-part.ensures.left.known (inv.known k);
+      nodes = λ k. c.in_ok-part.ensures.left.kept (inv.known k) ∙ inv.nodes k;
+      read = g.met.S.NodeStore.reads_both c.args.store.now c.loop-patches.store c.fetched.new.store inv.read c.in_ok-part.ensures.left.read;
+      faults = c.in_ok-part.ensures.cause.kept ∙ inv.faults;
       visits = visits_one_more (g.S.NodeStore.visit_count c.args.store.now) (g.S.NodeStore.visit_count c.loop-patches.store) (g.S.NodeStore.visit_count c.fetched.new.store) ((g.S.NodeStore.table c.args.store.now).level c.args.root) ((g.S.NodeStore.table c.args.store.now).level c.loop-patches.id)
           inv.visits c.in_ok-part.ensures.visits ((g.S.NodeStore.table c.args.store.now).level c.in-Ask.child) (subst (λ (t : Table). t.level c.in-Ask.child < t.level c.loop-patches.id) inv.table lower.lower);
-      loans = c.in_ok-part.ensures.same_loans ∙ inv.loans;
+      loans = c.in_ok-part.ensures.left.same_loans ∙ inv.loans;
       value = λ known sound.
           let said : IsSaid nodes c.loop-patches.id c.loop-patches.asked c.in_ok-part.part = λ n there below.
           ap (λ (k : List ℕ). node_at below n k) (sym c.as_slice.ensures) ∙ c.in_ok-part.ensures.part (inv.known known) n (ap (λ (f : Nodes). f c.loop-patches.id) (inv.nodes known) ∙ there) below in

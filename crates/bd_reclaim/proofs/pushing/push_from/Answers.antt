@@ -3,37 +3,37 @@ use Rattle.bd_reclaim.proofs.pushing.push_from.Goals as goal
 
 pub make-requires-clause-here : goal.make-requires-clause-here
 make-requires-clause-here g c = λ known sound.
-    let was = g.met.S.NodeStore.reads_known c.args.store.now c.push_step.new.store c.push_step.ensures.read known in
-    let before = sound_before (g.S.NodeStore.nodes c.args.store.now) (g.S.NodeStore.nodes c.push_step.new.store) (g.S.NodeStore.table c.args.store.now) (g.S.NodeStore.table c.push_step.new.store) (c.push_step.ensures.kept was) c.push_step.ensures.table sound in
-    stands_again (g.S.NodeStore.nodes c.args.store.now) (g.S.NodeStore.nodes c.push_step.new.store) (g.S.NodeStore.table c.args.store.now) (g.S.NodeStore.table c.push_step.new.store) c.in_ok-step.step (c.push_step.ensures.kept was) c.push_step.ensures.table (c.in_ok-step.ensures.stands was (c.requires.own was before) (c.requires.all_own was before))
+    let was = g.met.S.NodeStore.reads_known c.args.store.now c.push_step.new.store c.push_step.ensures.left.read known in
+    let before = sound_before (g.S.NodeStore.nodes c.args.store.now) (g.S.NodeStore.nodes c.push_step.new.store) (g.S.NodeStore.table c.args.store.now) (g.S.NodeStore.table c.push_step.new.store) (c.push_step.ensures.left.kept was) c.push_step.ensures.left.table sound in
+    stands_again (g.S.NodeStore.nodes c.args.store.now) (g.S.NodeStore.nodes c.push_step.new.store) (g.S.NodeStore.table c.args.store.now) (g.S.NodeStore.table c.push_step.new.store) c.in_ok-step.step (c.push_step.ensures.left.kept was) c.push_step.ensures.left.table (c.in_ok-step.ensures.stands was (c.requires.own was before) (c.requires.all_own was before))
 
 pub make-requires-clause-way_here : goal.make-requires-clause-way_here
 make-requires-clause-way_here g c = λ known sound.
-    let was = g.met.S.NodeStore.reads_known c.args.store.now c.push_step.new.store c.push_step.ensures.read known in
-    let before = sound_before (g.S.NodeStore.nodes c.args.store.now) (g.S.NodeStore.nodes c.push_step.new.store) (g.S.NodeStore.table c.args.store.now) (g.S.NodeStore.table c.push_step.new.store) (c.push_step.ensures.kept was) c.push_step.ensures.table sound in
-    way_again (g.S.NodeStore.nodes c.args.store.now) (g.S.NodeStore.nodes c.push_step.new.store) (g.S.NodeStore.table c.args.store.now) (g.S.NodeStore.table c.push_step.new.store) c.in_ok-step.step (c.push_step.ensures.kept was) c.push_step.ensures.table (c.in_ok-step.ensures.way_at was (c.requires.own was before) (c.requires.all_own was before))
+    let was = g.met.S.NodeStore.reads_known c.args.store.now c.push_step.new.store c.push_step.ensures.left.read known in
+    let before = sound_before (g.S.NodeStore.nodes c.args.store.now) (g.S.NodeStore.nodes c.push_step.new.store) (g.S.NodeStore.table c.args.store.now) (g.S.NodeStore.table c.push_step.new.store) (c.push_step.ensures.left.kept was) c.push_step.ensures.left.table sound in
+    way_again (g.S.NodeStore.nodes c.args.store.now) (g.S.NodeStore.nodes c.push_step.new.store) (g.S.NodeStore.table c.args.store.now) (g.S.NodeStore.table c.push_step.new.store) c.in_ok-step.step (c.push_step.ensures.left.kept was) c.push_step.ensures.left.table (c.in_ok-step.ensures.way_at was (c.requires.own was before) (c.requires.all_own was before))
 
 pub returns-clause-reclaimed : goal.returns-clause-reclaimed
 returns-clause-reclaimed g c = λ known sound.
-    push_on_ok (g.S.NodeStore.nodes c.args.store.now) (g.S.NodeStore.nodes c.push_step.new.store) (g.S.NodeStore.table c.args.store.now) (g.S.NodeStore.table c.push_step.new.store) (g.S.NodeStore.nodes c.make.new.store) (g.S.NodeStore.table c.make.new.store) c.make.result (c.push_step.ensures.kept known) c.push_step.ensures.table sound (c.make.ensures.flushed (c.push_step.ensures.known known))
+    push_on_ok (g.S.NodeStore.nodes c.args.store.now) (g.S.NodeStore.nodes c.push_step.new.store) (g.S.NodeStore.table c.args.store.now) (g.S.NodeStore.table c.push_step.new.store) (g.S.NodeStore.nodes c.make.new.store) (g.S.NodeStore.table c.make.new.store) c.make.result (c.push_step.ensures.left.kept known) c.push_step.ensures.left.table sound (c.make.ensures.flushed (c.push_step.ensures.left.known known))
 
 pub returns-clause-made : goal.returns-clause-made
 returns-clause-made g c = λ known sound.
     push_on_made (g.S.NodeStore.nodes c.args.store.now) (g.S.NodeStore.nodes c.push_step.new.store) (g.S.NodeStore.table c.args.store.now) (g.S.NodeStore.table c.push_step.new.store) (g.S.NodeStore.nodes c.make.new.store) (g.S.NodeStore.table c.make.new.store) c.args.above c.args.node c.args.place c.in_ok-step.step c.make.result
     (record {
-      nodes_are = c.push_step.ensures.kept known;
-      table_is = c.push_step.ensures.table;
+      nodes_are = c.push_step.ensures.left.kept known;
+      table_is = c.push_step.ensures.left.table;
       sound = sound;
       due = c.in_ok-step.ensures.due;
       begins = c.in_ok-step.ensures.begins;
       stands = c.in_ok-step.ensures.stands known (c.requires.own known sound) (c.requires.all_own known sound);
       reached = c.in_ok-step.ensures.reached known (c.requires.own known sound);
-    }) (c.make.ensures.made (c.push_step.ensures.known known)) c.make.ensures.height (c.make.ensures.flushed (c.push_step.ensures.known known))
+    }) (c.make.ensures.made (c.push_step.ensures.left.known known)) c.make.ensures.height (c.make.ensures.flushed (c.push_step.ensures.left.known known))
 
 pub returns-clause-found : goal.returns-clause-found
 returns-clause-found g c =
-    push_on_found (g.S.NodeStore.table c.args.store.now) (g.S.NodeStore.table c.push_step.new.store) (g.S.NodeStore.table c.make.new.store) c.args.above c.args.node c.args.place c.in_ok-step.step c.make.result c.push_step.ensures.table c.in_ok-step.ensures.begins c.in_ok-step.ensures.due c.make.ensures.height
+    push_on_found (g.S.NodeStore.table c.args.store.now) (g.S.NodeStore.table c.push_step.new.store) (g.S.NodeStore.table c.make.new.store) c.args.above c.args.node c.args.place c.in_ok-step.step c.make.result c.push_step.ensures.left.table c.in_ok-step.ensures.begins c.in_ok-step.ensures.due c.make.ensures.height
 
 pub returns-clause-cause : goal.returns-clause-cause
 returns-clause-cause g c =
-    push_cause (g.S.NodeStore.fault_count c.args.store.now) (g.S.NodeStore.fault_count c.push_step.new.store) (g.S.NodeStore.fault_count c.make.new.store) (g.S.NodeStore.bad c.make.new.store) (g.S.NodeStore.table c.args.store.now) (g.S.NodeStore.table c.push_step.new.store) c.make.result c.push_step.ensures.cause.later c.push_step.ensures.table c.make.ensures.cause
+    push_cause (g.S.NodeStore.fault_count c.args.store.now) (g.S.NodeStore.fault_count c.push_step.new.store) (g.S.NodeStore.fault_count c.make.new.store) (g.S.NodeStore.bad c.make.new.store) (g.S.NodeStore.table c.args.store.now) (g.S.NodeStore.table c.push_step.new.store) c.make.result c.push_step.ensures.cause.kept c.push_step.ensures.left.table c.make.ensures.cause

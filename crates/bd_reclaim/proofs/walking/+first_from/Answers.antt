@@ -8,12 +8,12 @@ use Rattle.bd_reclaim.proofs.walking.+first_from.Goals as goal
 pub returns-in-Change-clause-first : goal.returns-in-Change-clause-first
 returns-in-Change-clause-first g t c = λ known sound.
     first_here c.args.pushes (g.S.NodeStore.nodes c.args.store.now) (g.S.NodeStore.table c.args.store.now) c.in-Change.step c.args.id c.in_ok-here.here c.in_ok-here.ensures.id (c.in_ok-here.ensures.contents known)
-    (subst (λ (u : Table). IsFirstAt c.args.pushes u c.in_ok-here.here c.in-Change.step) c.in_ok-here.ensures.table c.in-Change.ensures.0)
+    (subst (λ (u : Table). IsFirstAt c.args.pushes u c.in_ok-here.here c.in-Change.step) c.in_ok-here.ensures.left.table c.in-Change.ensures.0)
 
 pub returns-in-Change-clause-found : goal.returns-in-Change-clause-found
 returns-in-Change-clause-found g t c =
     found_here c.args.pushes (g.S.NodeStore.table c.args.store.now) c.args.id c.in_ok-here.here c.in-Change.step c.in_ok-here.ensures.id c.in_ok-here.ensures.fetched
-    (subst (λ (u : Table). IsFirstAt c.args.pushes u c.in_ok-here.here c.in-Change.step × HasNoneAbove c.in-Change.step) c.in_ok-here.ensures.table c.in-Change.ensures)
+    (subst (λ (u : Table). IsFirstAt c.args.pushes u c.in_ok-here.here c.in-Change.step × HasNoneAbove c.in-Change.step) c.in_ok-here.ensures.left.table c.in-Change.ensures)
 
 pub walked-requires : goal.walked-requires
 walked-requires g t c = λ child is.
@@ -26,7 +26,7 @@ loop-edge-preserved-in_default g t c = record {
   known = c.loop-edge.invariant.known;
   nodes = c.loop-edge.invariant.nodes;
   read = c.loop-edge.invariant.read;
-  later = c.loop-edge.invariant.later;
+  faults = c.loop-edge.invariant.faults;
   loans = c.loop-edge.invariant.loans;
   visits = λ known depth low. more_visits (g.S.NodeStore.nodes c.args.store.now) (g.S.NodeStore.table c.args.store.now) depth c.edges_of-edges.result.now c.loop-edge.edge-index c.edge-item.result (g.S.NodeStore.visit_count c.args.store.now) (g.S.NodeStore.visit_count c.loop-edge.store) c.loop-edge-test.true c.edge-item.is (c.loop-edge.invariant.visits known depth low);
   none = λ known sound.
@@ -48,7 +48,7 @@ pub returns-in-Some-2-clause-first : goal.returns-in-Some-2-clause-first
 returns-in-Some-2-clause-first g t c = λ known sound.
     first_found c.args.pushes (g.S.NodeStore.nodes c.args.store.now) (g.S.NodeStore.table c.args.store.now) c.in-Clean.here c.in-Some-2.step c.in_ok-found_below.field-0 c.args.id c.in_ok-found_below.ensures
     (first_below c.args.pushes (g.S.NodeStore.nodes c.args.store.now) (g.S.NodeStore.table c.args.store.now) c.in-Some-2.step c.args.id c.in_ok-here.here c.in-Clean.here c.deref.result.now c.edges_of-edges.result.now c.loop-edge.edge-index c.edge-item.result c.in-Some.child (record { fetched = c.in_ok-here.ensures.fetched; same = c.in-Clean.ensures.0; shown_is = c.deref.ensures; edges = c.edges_of-edges.ensures; low = c.loop-edge-test.true; read = c.edge-item.is }) c.in_ok-here.ensures.id (c.in_ok-here.ensures.contents known)
-    (subst (λ (u : Table). IsClean c.args.pushes u c.in_ok-here.here.id c.in_ok-here.here.node.value) c.in_ok-here.ensures.table c.in-Clean.ensures.1) (c.loop-edge.invariant.none known sound) (subst (λ (u : Table). IsWalked u c.edge-item.result c.in-Some.child) c.loop-edge.invariant.table c.in-Some.ensures)
+    (subst (λ (u : Table). IsClean c.args.pushes u c.in_ok-here.here.id c.in_ok-here.here.node.value) c.in_ok-here.ensures.left.table c.in-Clean.ensures.1) (c.loop-edge.invariant.none known sound) (subst (λ (u : Table). IsWalked u c.edge-item.result c.in-Some.child) c.loop-edge.invariant.table c.in-Some.ensures)
     (as_found c.args.pushes (g.S.NodeStore.nodes c.args.store.now) (g.S.NodeStore.nodes c.loop-edge.store) (g.S.NodeStore.table c.args.store.now) (g.S.NodeStore.table c.loop-edge.store) c.in-Some.child c.in_ok-step.field-0 (Some c.in-Some-2.step) (c.loop-edge.invariant.nodes known) c.loop-edge.invariant.table c.in-Some-2.is
     (c.in_ok-step.ensures.first (c.loop-edge.invariant.known known) (still_sound (g.S.NodeStore.nodes c.args.store.now) (g.S.NodeStore.nodes c.loop-edge.store) (g.S.NodeStore.table c.args.store.now) (g.S.NodeStore.table c.loop-edge.store) (c.loop-edge.invariant.nodes known) c.loop-edge.invariant.table sound))))
 
@@ -65,12 +65,12 @@ returns-in-Some-2-clause-there g t c = λ known.
 
 pub loop-edge-preserved : goal.loop-edge-preserved
 loop-edge-preserved g t c = record {
-  table = c.in_ok-step.ensures.table ∙ c.loop-edge.invariant.table;
-  known = λ known. c.in_ok-step.ensures.known (c.loop-edge.invariant.known known);
-  nodes = λ known. c.in_ok-step.ensures.kept (c.loop-edge.invariant.known known) ∙ c.loop-edge.invariant.nodes known;
-  read = g.met.S.NodeStore.reads_both c.args.store.now c.loop-edge.store c.first_from.new.store c.loop-edge.invariant.read c.in_ok-step.ensures.read;
-  later = (let more = c.in_ok-step.ensures.cause.later in omega (arith, c.loop-edge.invariant.later, more));
-  loans = c.in_ok-step.ensures.same_loans ∙ c.loop-edge.invariant.loans;
+  table = c.in_ok-step.ensures.left.table ∙ c.loop-edge.invariant.table;
+  known = λ known. c.in_ok-step.ensures.left.known (c.loop-edge.invariant.known known);
+  nodes = λ known. c.in_ok-step.ensures.left.kept (c.loop-edge.invariant.known known) ∙ c.loop-edge.invariant.nodes known;
+  read = g.met.S.NodeStore.reads_both c.args.store.now c.loop-edge.store c.first_from.new.store c.loop-edge.invariant.read c.in_ok-step.ensures.left.read;
+  faults = c.in_ok-step.ensures.cause.kept ∙ c.loop-edge.invariant.faults;
+  loans = c.in_ok-step.ensures.left.same_loans ∙ c.loop-edge.invariant.loans;
   visits = λ known depth low.
       child_visits (g.S.NodeStore.nodes c.args.store.now) (g.S.NodeStore.table c.args.store.now) depth c.edges_of-edges.result.now c.loop-edge.edge-index c.edge-item.result c.in-Some.child (g.S.NodeStore.visit_count c.args.store.now) (g.S.NodeStore.visit_count c.loop-edge.store) (g.S.NodeStore.visit_count c.first_from.new.store) c.loop-edge-test.true c.edge-item.is
       (subst (λ (u : Table). IsWalked u c.edge-item.result c.in-Some.child) c.loop-edge.invariant.table c.in-Some.ensures) (c.loop-edge.invariant.visits known depth low)
@@ -87,7 +87,7 @@ loop-edge-preserved g t c = record {
 pub returns-clause-first : goal.returns-clause-first
 returns-clause-first g t c = λ known sound.
     none_at_end c.args.pushes (g.S.NodeStore.nodes c.args.store.now) (g.S.NodeStore.table c.args.store.now) c.args.id c.in_ok-here.here c.in-Clean.here c.deref.result.now c.edges_of-edges.result.now c.loop-edge.edge-index c.in-Clean.ensures.0 c.deref.ensures c.edges_of-edges.ensures c.in_ok-here.ensures.id (c.in_ok-here.ensures.contents known)
-    (subst (λ (u : Table). IsClean c.args.pushes u c.in_ok-here.here.id c.in_ok-here.here.node.value) c.in_ok-here.ensures.table c.in-Clean.ensures.1) c.loop-edge-test.false (c.loop-edge.invariant.none known sound)
+    (subst (λ (u : Table). IsClean c.args.pushes u c.in_ok-here.here.id c.in_ok-here.here.node.value) c.in_ok-here.ensures.left.table c.in-Clean.ensures.1) c.loop-edge-test.false (c.loop-edge.invariant.none known sound)
 
 pub returns-in_err-step-clause-few_visits : goal.returns-in_err-step-clause-few_visits
 returns-in_err-step-clause-few_visits g t c = λ known depth low.

@@ -13,7 +13,7 @@ invariant-loop-edge g l = record {
   known : g.S.NodeStore.is_known l.fn.store → g.S.NodeStore.is_known l.store;
   nodes : g.S.NodeStore.is_known l.fn.store → g.S.NodeStore.nodes l.store ≡ g.S.NodeStore.nodes l.fn.store;
   read : g.S.NodeStore.reads l.fn.store l.store;
-  later : g.S.NodeStore.fault_count l.fn.store ≤ g.S.NodeStore.fault_count l.store;
+  faults : g.S.NodeStore.fault_count l.store ≡ g.S.NodeStore.fault_count l.fn.store;
   loans : g.S.NodeStore.loans l.store ≡ g.S.NodeStore.loans l.fn.store;
   visits : g.S.NodeStore.is_known l.fn.store → (depth : ℕ) → (g.S.NodeStore.table l.fn.store).level l.fn.id ≤ depth
       → g.S.NodeStore.visit_count l.store ≤ g.S.NodeStore.visit_count l.fn.store + suc (walked_before (g.S.NodeStore.nodes l.fn.store) (g.S.NodeStore.table l.fn.store) depth l.edges l.edge-index);

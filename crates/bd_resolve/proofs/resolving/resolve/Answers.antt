@@ -18,7 +18,7 @@ loop-store-init g c = record {
   known = λ k. k;
   nodes = λ k. refl;
   read = g.met.S.NodeStore.reads_none c.args.store.now;
-  later = (omega arith);
+  faults = refl;
   visits = no_visit (g.S.NodeStore.visit_count c.args.store.now) ((g.S.NodeStore.table c.args.store.now).level c.args.child);
   counted = inl refl;
   loans = refl;
@@ -47,19 +47,18 @@ loop-store-preserved g c =
     (subst (λ (o : Option Target). IsLowerTarget (g.S.NodeStore.table c.loop-store.store) ((g.S.NodeStore.table c.loop-store.store).level c.loop-store.id) o) c.in-Some.is c.in_ok-target.ensures.lower) in
     let less : t.level c.in-Some.target.child < t.level c.loop-store.id = lower.lower in
     record {
-      table = c.in_ok-target.ensures.table ∙ inv.table;
+      table = c.in_ok-target.ensures.left.table ∙ inv.table;
       here = lower.kept;
       low = (let l : t.level c.loop-store.id ≤ t.level c.args.child = inv.low in omega arith);
-      known = λ k. c.in_ok-target.ensures.known (inv.known k);
-      nodes = λ k. c.in_ok-target.ensures.kept (inv.known k) ∙ inv.nodes k;
-      read = g.met.S.NodeStore.reads_both c.args.store.now c.loop-store.store c.looked_through.new.store inv.read c.in_ok-target.ensures.read;
-      later = (let a : g.S.NodeStore.fault_count c.args.store.now ≤ g.S.NodeStore.fault_count c.loop-store.store = inv.later in
-          let b : g.S.NodeStore.fault_count c.loop-store.store ≤ g.S.NodeStore.fault_count c.looked_through.new.store = c.in_ok-target.ensures.cause.later in omega arith);
+      known = λ k. c.in_ok-target.ensures.left.known (inv.known k);
+      nodes = λ k. c.in_ok-target.ensures.left.kept (inv.known k) ∙ inv.nodes k;
+      read = g.met.S.NodeStore.reads_both c.args.store.now c.loop-store.store c.looked_through.new.store inv.read c.in_ok-target.ensures.left.read;
+      faults = c.in_ok-target.ensures.cause.kept ∙ inv.faults;
       visits = visits_one_more (g.S.NodeStore.visit_count c.args.store.now) (g.S.NodeStore.visit_count c.loop-store.store) (g.S.NodeStore.visit_count c.looked_through.new.store) (t.level c.args.child) (t.level c.loop-store.id)
           inv.visits c.in_ok-target.ensures.visits (t.level c.in-Some.target.child) less;
       counted = gone_down (g.S.NodeStore.visit_count c.args.store.now) (g.S.NodeStore.visit_count c.loop-store.store) (g.S.NodeStore.visit_count c.looked_through.new.store) (t.level c.args.child) (t.level c.loop-store.id)
           inv.visits c.in_ok-target.ensures.visits (t.level c.in-Some.target.child) less;
-      loans = c.in_ok-target.ensures.same_loans ∙ inv.loans;
+      loans = c.in_ok-target.ensures.left.same_loans ∙ inv.loans;
       value = λ known sound k key.
           led_on nodes t c.loop-store.id c.loop-store.prefix (Some c.in-Some.target) sound inv.here (subst (λ (q : List ℕ). IsKey q) c.as_slice.ensures c.in_ok-target.ensures.bytes)
           (λ n there below l. ap (λ (q : List ℕ). node_at below n (q ++ l)) (sym c.as_slice.ensures) ∙ c.in_ok-target.ensures.target (inv.known known) n (ap (λ (f : Nodes). f c.loop-store.id) (inv.nodes known) ∙ there) below l

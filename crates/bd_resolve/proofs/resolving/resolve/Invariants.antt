@@ -14,7 +14,7 @@ invariant-loop-store g l = record {
   known : g.S.NodeStore.is_known l.fn.store → g.S.NodeStore.is_known l.store;
   nodes : g.S.NodeStore.is_known l.fn.store → g.S.NodeStore.nodes l.store ≡ g.S.NodeStore.nodes l.fn.store;
   read : g.S.NodeStore.reads l.fn.store l.store;
-  later : g.S.NodeStore.fault_count l.fn.store ≤ g.S.NodeStore.fault_count l.store;
+  faults : g.S.NodeStore.fault_count l.store ≡ g.S.NodeStore.fault_count l.fn.store;
   visits : VisitsTo (g.S.NodeStore.visit_count l.fn.store) (g.S.NodeStore.visit_count l.store) ((g.S.NodeStore.table l.fn.store).level l.fn.child) ((g.S.NodeStore.table l.fn.store).level l.id);
   counted : AreNoneOr ((g.S.NodeStore.table l.fn.store).level l.fn.child - (g.S.NodeStore.table l.fn.store).level l.id) (g.S.NodeStore.visit_count l.fn.store) (g.S.NodeStore.visit_count l.store);
   loans : g.S.NodeStore.loans l.store ≡ g.S.NodeStore.loans l.fn.store;

@@ -8,26 +8,26 @@ make-requires-clause-waited g c =
 
 pub make-requires-clause-here : goal.make-requires-clause-here
 make-requires-clause-here g c = λ known sound.
-    let was = g.met.S.NodeStore.reads_known c.args.store.now c.next_step.new.store c.next_step.ensures.read known in
+    let was = g.met.S.NodeStore.reads_known c.args.store.now c.next_step.new.store c.next_step.ensures.left.read known in
     here_again (g.S.NodeStore.nodes c.args.store.now) (g.S.NodeStore.nodes c.next_step.new.store) (g.S.NodeStore.table c.args.store.now) (g.S.NodeStore.table c.next_step.new.store) c.in_ok-step.step
-    (c.next_step.ensures.kept was) c.next_step.ensures.table sound (c.in_ok-step.ensures.at was)
+    (c.next_step.ensures.left.kept was) c.next_step.ensures.left.table sound (c.in_ok-step.ensures.at was)
 
 pub make-requires-clause-way_here : goal.make-requires-clause-way_here
 make-requires-clause-way_here g c = λ known sound.
-    let was = g.met.S.NodeStore.reads_known c.args.store.now c.next_step.new.store c.next_step.ensures.read known in
+    let was = g.met.S.NodeStore.reads_known c.args.store.now c.next_step.new.store c.next_step.ensures.left.read known in
     way_again (g.S.NodeStore.nodes c.args.store.now) (g.S.NodeStore.nodes c.next_step.new.store) (g.S.NodeStore.table c.args.store.now) (g.S.NodeStore.table c.next_step.new.store) c.in_ok-step.step
-    (c.next_step.ensures.kept was) c.next_step.ensures.table sound (c.in_ok-step.ensures.way_at was)
+    (c.next_step.ensures.left.kept was) c.next_step.ensures.left.table sound (c.in_ok-step.ensures.way_at was)
 
 pub returns-clause-step : goal.returns-clause-step
 returns-clause-step g c = λ known sound done.
     is_flush_step (g.S.NodeStore.nodes c.args.store.now) (g.S.NodeStore.nodes c.next_step.new.store) (g.S.NodeStore.table c.args.store.now) (g.S.NodeStore.table c.next_step.new.store) (g.S.NodeStore.nodes c.make.new.store) (g.S.NodeStore.table c.make.new.store) c.in_ok-step.step
     (record {
-      nodes_are = c.next_step.ensures.kept known;
-      table_is = c.next_step.ensures.table;
+      nodes_are = c.next_step.ensures.left.kept known;
+      table_is = c.next_step.ensures.left.table;
       sound = sound;
       to_do = c.in_ok-step.ensures.to_do;
       here = c.in_ok-step.ensures.at known sound;
-      made = λ again. c.in_ok-make.ensures.made (c.next_step.ensures.known known) again;
+      made = λ again. c.in_ok-make.ensures.made (c.next_step.ensures.left.known known) again;
       height = c.in_ok-make.ensures.height;
-      flushed = λ again. c.in_ok-make.ensures.flushed (c.next_step.ensures.known known) again;
+      flushed = λ again. c.in_ok-make.ensures.flushed (c.next_step.ensures.left.known known) again;
     })

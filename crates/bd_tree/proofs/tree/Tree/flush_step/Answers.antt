@@ -5,4 +5,4 @@ pub returns-clause-same : goal.returns-clause-same
 returns-clause-same g c =
     rw (← c.self.view_is) (λ known sound.
     same_tree (g.S.NodeStore.nodes c.self.inside.store) (g.S.NodeStore.table c.self.inside.store) (g.S.NodeStore.nodes c.flush_step.new.store) (g.S.NodeStore.table c.flush_step.new.store) c.flush_step.result
-    (record { step = c.flush_step.ensures.step known sound; table = c.flush_step.ensures.same_table; same = c.flush_step.ensures.same_nodes known }))
+    (record { step = c.flush_step.ensures.step known sound; table = λ not. (c.flush_step.ensures.rest not).table; same = λ not. (c.flush_step.ensures.rest not).kept known }))
