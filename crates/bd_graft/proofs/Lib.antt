@@ -7,3 +7,4 @@ pub mod Leaving
 pub mod Grouping
 pub mod Ways
 pub mod Counters
+pub mod Once

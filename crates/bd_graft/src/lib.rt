@@ -3,6 +3,7 @@
 #![tactic(auto)]
 
 mod grafting;
+pub mod laws;
 mod layers;
 mod packing;
 mod walking;
