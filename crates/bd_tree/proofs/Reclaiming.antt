@@ -1,10 +1,24 @@
--- A change of reclaiming leaves what the tree has.
+-- What the tree has after a call that failed, and after a change of reclaiming.
 use Rattle.std.proofs.Common.{◌≡◌, ℕ, List, ap, ◌∙◌, Result, Ok, Err}
 use Rattle.std.specs.Prelude.{OnOk, OnErr}
+use Rattle.bd_message.specs.KeyMaps.{SameAt}
+use Rattle.bd_node.specs.declared.store.NodeStore.{Ghosts}
+use Rattle.bd_node.specs.Frames.{OnlyReads}
 use Rattle.bd_node.specs.Meaning.{Nodes}
 use Rattle.bd_node.specs.Tables.{Table, root_at}
 use Rattle.bd_reclaim.specs.Reclaimed.{IsReclaimed}
 
-pub same_after : {T E : Type 0} (nodes : Nodes) (t : Table) (new : Nodes) (u : Table) (r : Result T E) → OnOk r (IsReclaimed nodes t new u) → OnErr r (u ≡ t) → OnErr r (new ≡ nodes) → (k : List ℕ) → root_at new u k ≡ root_at nodes t k
-same_after nodes t new u (Ok x) done table same k = done.same k
-same_after nodes t new u (Err e) done table same k = ap (λ (v : Table). root_at new v k) table ∙ ap (λ (n : Nodes). root_at n t k) same
+-- reads leave what the tree has
+pub same_read : {S : Type 0} (g : Ghosts S) (old new : S) → g.is_known old → OnlyReads g old new → SameAt (root_at (g.nodes old) (g.table old)) (root_at (g.nodes new) (g.table new))
+same_read g old new known left k =
+    ap (λ (v : Table). root_at (g.nodes new) v k) left.table ∙ ap (λ (n : Nodes). root_at n (g.table old) k) (left.kept known)
+
+-- and so does a call that failed
+pub same_failed : {S T E : Type 0} (g : Ghosts S) (old new : S) (r : Result T E) → g.is_known old → OnErr r (OnlyReads g old new) → OnErr r (SameAt (root_at (g.nodes old) (g.table old)) (root_at (g.nodes new) (g.table new)))
+same_failed g old new (Ok _) known left = tt
+same_failed g old new (Err _) known left = same_read g old new known left
+
+-- and a change of reclaiming, made or not
+pub same_after : {S T E : Type 0} (g : Ghosts S) (old new : S) (r : Result T E) → g.is_known old → OnOk r (IsReclaimed (g.nodes old) (g.table old) (g.nodes new) (g.table new)) → OnErr r (OnlyReads g old new) → SameAt (root_at (g.nodes old) (g.table old)) (root_at (g.nodes new) (g.table new))
+same_after g old new (Ok _) known done left = done.same
+same_after g old new (Err _) known done left = same_read g old new known left

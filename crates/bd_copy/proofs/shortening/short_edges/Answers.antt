@@ -21,15 +21,15 @@ loop-edge-preserved g c =
     let inv = c.loop-edge.invariant in
     let one = c.in_ok-short_edge.ensures in
     record {
-      table = one.table ∙ inv.table;
-      known = λ k. one.known (inv.known k);
-      nodes = λ k. one.kept (inv.known k) ∙ inv.nodes k;
-      read = g.met.S.NodeStore.reads_both c.args.store.now c.loop-edge.store c.short_edge.new.store inv.read one.read;
+      table = one.left.table ∙ inv.table;
+      known = λ k. one.left.known (inv.known k);
+      nodes = λ k. one.left.kept (inv.known k) ∙ inv.nodes k;
+      read = g.met.S.NodeStore.reads_both c.args.store.now c.loop-edge.store c.short_edge.new.store inv.read one.left.read;
       faults = one.cause.kept ∙ inv.faults;
       visits = visits_more (λ (u : Table) (e : Edge). way_visits u (edge_way e)) t m c.args.edges.now c.loop-edge.edge-index c.edge-item.result
           (g.S.NodeStore.visit_count c.args.store.now) (g.S.NodeStore.visit_count c.loop-edge.store) (g.S.NodeStore.visit_count c.short_edge.new.store)
           inv.table (omega arith) c.edge-item.is inv.visits one.few_visits;
-      loans = one.same_loans ∙ inv.loans;
+      loans = one.left.same_loans ∙ inv.loans;
       short = zipped_more (IsShortEdge t) c.args.edges.now c.loop-edge.made.items c.push.new.self.items c.loop-edge.edge-index c.edge-item.result c.in_ok-short_edge.field-0
           (omega arith) c.edge-item.is c.in_ok-push.ensures.items inv.short (subst (λ (u : Table). IsShortEdge u c.edge-item.result c.in_ok-short_edge.field-0) inv.table one.edge);
       same = λ known sound.

@@ -21,15 +21,15 @@ loop-message-preserved g c =
     let inv = c.loop-message.invariant in
     let one = c.in_ok-short_message.ensures in
     record {
-      table = one.table ∙ inv.table;
-      known = λ k. one.known (inv.known k);
-      nodes = λ k. one.kept (inv.known k) ∙ inv.nodes k;
-      read = g.met.S.NodeStore.reads_both c.args.store.now c.loop-message.store c.short_message.new.store inv.read one.read;
+      table = one.left.table ∙ inv.table;
+      known = λ k. one.left.known (inv.known k);
+      nodes = λ k. one.left.kept (inv.known k) ∙ inv.nodes k;
+      read = g.met.S.NodeStore.reads_both c.args.store.now c.loop-message.store c.short_message.new.store inv.read one.left.read;
       faults = one.cause.kept ∙ inv.faults;
       visits = visits_more (λ (u : Table) (e : Message). way_visits u (goto_way e)) t m c.args.list.now c.loop-message.message-index c.message-item.result
           (g.S.NodeStore.visit_count c.args.store.now) (g.S.NodeStore.visit_count c.loop-message.store) (g.S.NodeStore.visit_count c.short_message.new.store)
           inv.table (omega arith) c.message-item.is inv.visits one.few_visits;
-      loans = one.same_loans ∙ inv.loans;
+      loans = one.left.same_loans ∙ inv.loans;
       short = zipped_more (IsShortMessage t) c.args.list.now c.loop-message.made.items c.push.new.self.items c.loop-message.message-index c.message-item.result c.in_ok-short_message.field-0
           (omega arith) c.message-item.is c.in_ok-push.ensures.items inv.short (subst (λ (u : Table). IsShortMessage u c.message-item.result c.in_ok-short_message.field-0) inv.table one.message);
       same = λ known sound.

@@ -36,4 +36,4 @@ returns-clause-found g c =
 
 pub returns-clause-cause : goal.returns-clause-cause
 returns-clause-cause g c =
-    push_cause (g.S.NodeStore.fault_count c.args.store.now) (g.S.NodeStore.fault_count c.push_step.new.store) (g.S.NodeStore.fault_count c.make.new.store) (g.S.NodeStore.bad c.make.new.store) (g.S.NodeStore.table c.args.store.now) (g.S.NodeStore.table c.push_step.new.store) c.make.result c.push_step.ensures.cause.kept c.push_step.ensures.left.table c.make.ensures.cause
+    push_cause (g.S.NodeStore.fault_count c.args.store.now) (g.S.NodeStore.fault_count c.push_step.new.store) (g.S.NodeStore.fault_count c.make.new.store) (g.S.NodeStore.bad c.make.new.store) (g.S.NodeStore.table c.args.store.now) (g.S.NodeStore.table c.push_step.new.store) c.make.result c.in_ok-step.ensures.cause.kept c.push_step.ensures.left.table c.make.ensures.cause

@@ -4,5 +4,5 @@ use Rattle.bd_tree.proofs.tree.Tree.reclaim_step.Goals as goal
 pub returns-clause-same : goal.returns-clause-same
 returns-clause-same g c =
     rw (← c.self.view_is) (λ known sound.
-    same_after (g.S.NodeStore.nodes c.self.inside.store) (g.S.NodeStore.table c.self.inside.store) (g.S.NodeStore.nodes c.reclaim_step.new.store) (g.S.NodeStore.table c.reclaim_step.new.store) c.reclaim_step.result
-    (c.reclaim_step.ensures.reclaimed known sound) c.reclaim_step.ensures.err.table (c.reclaim_step.ensures.err.kept known))
+    same_after g.S.NodeStore c.self.inside.store c.reclaim_step.new.store c.reclaim_step.result known
+    (c.reclaim_step.ensures.reclaimed known sound) c.reclaim_step.ensures.err)

@@ -1,0 +1,6 @@
+use Rattle.bd_tree.proofs.Reclaiming.{same_failed}
+use Rattle.bd_tree.proofs.map.TreeKeyMap.apply.Goals as goal
+
+pub returns-clause-kept : goal.returns-clause-kept
+returns-clause-kept g c = λ known.
+    same_failed g.S.NodeStore c.args.self.now.store c.apply.new.self.store c.apply.result known.0 c.apply.ensures.err
