@@ -22,6 +22,7 @@ use Rattle.bd_node.proofs.Privacy.{reached}
 use Rattle.bd_node.proofs.Stepping.{touched_in, after-none, after-some, isolated_root, isolated_none}
 use Rattle.bd_resolve.specs.declared.following.Target.{Target}
 use Rattle.bd_graft.specs.declared.packing.Packed.{Packed}
+use Rattle.bd_graft.specs.Ways.{messages_in}
 use Rattle.bd_graft.specs.Packing.{IsUnder, AreOverlays, level_in, AreExact, IsOver}
 use Rattle.bd_graft.specs.Grafting.{graft_messages, step_under, step_over, IsGrown, AreMade, IsGraftStep, AreOthersSame}
 use Rattle.bd_graft.proofs.Packs.{get_first, get_last, level_kept, level_made, overlay_same}
@@ -126,9 +127,6 @@ target_old t made level target over none = elim over.lower.0 [
   | inr older ↦ absurd (let less : older.at < length made = older.before in let e : length made ≡ 0 = ap (λ (ns : List Node). length ns) none in omega arith)
 ]
 
-target_last : (t : Table) (made : List Node) (level : ℕ) (target : Target) → IsOver t made level (Some target) → (place : ℕ) → length made ≡ suc place → target ≡ record { child = t.next + place; source = [] }
-target_last t made level target over place long = same_Some target (record { child = t.next + place; source = [] }) (over.last place long)
-
 -- ---- into the root
 
 -- the step of a graft into the root was made
@@ -162,8 +160,8 @@ under_on nodes t n made list sound here p m c there one = elim (cases_eq p t.roo
   | inr other ↦ (m, after-none nodes t (step_under t n made list) p (other_given t n made list p (sound.table.below p (kept_there nodes t sound p m there)) other) ∙ there, one)
 ]
 
-under_step_left : (known : Type 0) (nodes : Nodes) (t : Table) (n : Node) (packed : Packed) (s d : List ℕ) (keep : Bool) (new : Nodes) (u : Table) → IsUnderDone known nodes t n packed s d keep new u → IsGraftStep nodes t s d keep new u
-under_step_left known nodes t n packed s d keep new u h =
+under_step_left : (known : Type 0) (nodes : Nodes) (t : Table) (n : Node) (packed : Packed) (s d : List ℕ) (keep : Bool) (new : Nodes) (u : Table) → IsUnderDone known nodes t n packed s d keep new u → known → IsGraftStep nodes t s d keep new u
+under_step_left known nodes t n packed s d keep new u h k =
     let list : List Message = graft_messages s d keep packed.target in
     let made : List Node = packed.made.items in
     let step : Step = step_under t n made list in
@@ -183,10 +181,14 @@ under_step_left known nodes t n packed s d keep new u h =
     } in
     let next : u.next ≡ t.next + length made = h.after.next in
     record {
+      travel = messages_in h.step.ready.layers;
+      end = h.step.ready.end;
+      way = h.step.ready.way k h.sound;
       target = packed.target;
+      target_is = h.step.ready.groups.target;
       made = made;
-      overlays = made_left nodes t step made new u making;
-      last = target_last t made (packed.level + 1) packed.target h.step.ready.packed_is.over;
+      made_are = h.step.ready.groups.made;
+      there = made_left nodes t step made new u making;
       old = target_old t made (packed.level + 1) packed.target h.step.ready.packed_is.over;
       root = inl (record {
         root = h.after.root;
@@ -223,10 +225,10 @@ under_was known nodes t n packed s d keep step new u h sound there after committ
   committed = subst (λ (q : Step). IsCommitted nodes t q new u) h.is committed;
 }
 
-pub under_left : {T E : Type 0} (known : Type 0) (nodes : Nodes) (t : Table) (n : Node) (packed : Packed) (s d : List ℕ) (keep : Bool) (step : Step) (new : Nodes) (u : Table) (r : Result T E) → IsUnderStep known nodes t n packed s d keep step → IsSound nodes t → nodes t.root ≡ Some n
+pub under_left : {T E : Type 0} (known : Type 0) (nodes : Nodes) (t : Table) (n : Node) (packed : Packed) (s d : List ℕ) (keep : Bool) (step : Step) (new : Nodes) (u : Table) (r : Result T E) → IsUnderStep known nodes t n packed s d keep step → known → IsSound nodes t → nodes t.root ≡ Some n
     → OnOk r (IsTableAfter t step u) → OnOk r (IsCommitted nodes t step new u) → OnOk r (IsGraftStep nodes t s d keep new u)
-under_left known nodes t n packed s d keep step new u (Ok x) h sound there after committed = under_step_left known nodes t n packed s d keep new u (under_was known nodes t n packed s d keep step new u h sound there after committed)
-under_left known nodes t n packed s d keep step new u (Err e) h sound there after committed = tt
+under_left known nodes t n packed s d keep step new u (Ok x) h k sound there after committed = under_step_left known nodes t n packed s d keep new u (under_was known nodes t n packed s d keep step new u h sound there after committed) k
+under_left known nodes t n packed s d keep step new u (Err e) h k sound there after committed = tt
 
 pub under_same : {T E : Type 0} (known : Type 0) (nodes : Nodes) (t : Table) (n : Node) (packed : Packed) (s d : List ℕ) (keep : Bool) (step : Step) (new : Nodes) (u : Table) (r : Result T E) → IsUnderStep known nodes t n packed s d keep step → IsSound nodes t → nodes t.root ≡ Some n
     → OnOk r (IsTableAfter t step u) → OnOk r (IsCommitted nodes t step new u) → OnOk r (AreOthersSame nodes t new u)
@@ -292,8 +294,8 @@ over_making known nodes t packed s d keep new u h kept = record {
   last = last_kept t packed.made.items (packed.level + 1) packed.target u h.step.ready.packed_is.over kept;
 }
 
-over_step_left : (known : Type 0) (nodes : Nodes) (t : Table) (packed : Packed) (s d : List ℕ) (keep : Bool) (new : Nodes) (u : Table) → IsOverDone known nodes t packed s d keep new u → IsGraftStep nodes t s d keep new u
-over_step_left known nodes t packed s d keep new u h =
+over_step_left : (known : Type 0) (nodes : Nodes) (t : Table) (packed : Packed) (s d : List ℕ) (keep : Bool) (new : Nodes) (u : Table) → IsOverDone known nodes t packed s d keep new u → known → IsGraftStep nodes t s d keep new u
+over_step_left known nodes t packed s d keep new u h k =
     let list : List Message = graft_messages s d keep packed.target in
     let made : List Node = packed.made.items in
     let step : Step = step_over t made list in
@@ -306,10 +308,14 @@ over_step_left known nodes t packed s d keep new u h =
     let next : u.next ≡ t.next + length (made ++ top ∷ []) = h.after.next in
     let long : length (made ++ top ∷ []) ≡ length made + 1 = length-append made (top ∷ []) in
     record {
+      travel = messages_in h.step.ready.layers;
+      end = h.step.ready.end;
+      way = h.step.ready.way k h.sound;
       target = packed.target;
+      target_is = h.step.ready.groups.target;
       made = made;
-      overlays = made_left nodes t step made new u making;
-      last = target_last t made (packed.level + 1) packed.target h.step.ready.packed_is.over;
+      made_are = h.step.ready.groups.made;
+      there = made_left nodes t step made new u making;
       old = target_old t made (packed.level + 1) packed.target h.step.ready.packed_is.over;
       root = inr (record {
         root = h.after.root;
@@ -347,10 +353,10 @@ over_was known nodes t packed s d keep step new u h tight sound after committed 
   committed = subst (λ (q : Step). IsCommitted nodes t q new u) h.is committed;
 }
 
-pub over_left : {T E : Type 0} (known : Type 0) (nodes : Nodes) (t : Table) (packed : Packed) (s d : List ℕ) (keep : Bool) (step : Step) (new : Nodes) (u : Table) (r : Result T E) → IsOverStep known nodes t packed s d keep step → t.level t.root ≤ packed.level → IsSound nodes t
+pub over_left : {T E : Type 0} (known : Type 0) (nodes : Nodes) (t : Table) (packed : Packed) (s d : List ℕ) (keep : Bool) (step : Step) (new : Nodes) (u : Table) (r : Result T E) → IsOverStep known nodes t packed s d keep step → t.level t.root ≤ packed.level → known → IsSound nodes t
     → OnOk r (IsTableAfter t step u) → OnOk r (IsCommitted nodes t step new u) → OnOk r (IsGraftStep nodes t s d keep new u)
-over_left known nodes t packed s d keep step new u (Ok x) h tight sound after committed = over_step_left known nodes t packed s d keep new u (over_was known nodes t packed s d keep step new u h tight sound after committed)
-over_left known nodes t packed s d keep step new u (Err e) h tight sound after committed = tt
+over_left known nodes t packed s d keep step new u (Ok x) h tight k sound after committed = over_step_left known nodes t packed s d keep new u (over_was known nodes t packed s d keep step new u h tight sound after committed) k
+over_left known nodes t packed s d keep step new u (Err e) h tight k sound after committed = tt
 
 pub over_same : {T E : Type 0} (known : Type 0) (nodes : Nodes) (t : Table) (packed : Packed) (s d : List ℕ) (keep : Bool) (step : Step) (new : Nodes) (u : Table) (r : Result T E) → IsOverStep known nodes t packed s d keep step → t.level t.root ≤ packed.level → IsSound nodes t
     → OnOk r (IsTableAfter t step u) → OnOk r (IsCommitted nodes t step new u) → OnOk r (AreOthersSame nodes t new u)

@@ -4,3 +4,7 @@ pub mod Packs
 pub mod Grafts
 pub mod Wearing
 pub mod Leaving
+pub mod Grouping
+pub mod Ways
+pub mod Counters
+pub mod Once

@@ -77,7 +77,7 @@ below_above level (c ∷ cs) = (
 
 -- ---- the level above nodes
 
-max_assoc : (a b c : ℕ) → max a (max b c) ≡ max (max a b) c
+pub max_assoc : (a b c : ℕ) → max a (max b c) ≡ max (max a b) c
 max_assoc a b c =
     let left : max a (max b c) ≤ max (max a b) c = max-le (omega (arith, le-max_left a b, le-max_left (max a b) c)) (max-le (omega (arith, le-max_right a b, le-max_left (max a b) c)) (le-max_right (max a b) c)) in
     let right : max (max a b) c ≤ max a (max b c) = max-le (max-le (le-max_left a (max b c)) (omega (arith, le-max_left b c, le-max_right a (max b c)))) (omega (arith, le-max_right b c, le-max_right a (max b c))) in
@@ -356,7 +356,7 @@ over_next t high (l ∷ ls) end h = (let low : l.level < high = h.1 in omega ari
 abbrev pub tail_of : List Layer → List Layer
 tail_of ls = take (length ls - 1) (drop 1 ls)
 
-tail_is : (l : Layer) (ls : List Layer) → tail_of (l ∷ ls) ≡ ls
+pub tail_is : (l : Layer) (ls : List Layer) → tail_of (l ∷ ls) ≡ ls
 tail_is l ls = take_all (length (l ∷ ls) - 1) ls (omega arith)
 
 -- what the stack of the older layers is
@@ -389,7 +389,7 @@ not_begun_at t end (l ∷ ls) a h some high lower =
 some_waits : (t : Table) (end : Option Target) (done : List Message) (a : Stack) → IsStack t end done a → 1 ≤ a.size → a.waiting.items ≡ [] → a.under ≡ None
 some_waits t end done a h some none = absurd (let c : a.size ≡ sum_by size a.waiting.items = h.counted in let e : sum_by size a.waiting.items ≡ 0 = ap (λ (ms : List Message). sum_by size ms) none in omega arith)
 
-laid_more_on : (t : Table) (end : Option Target) (next : ℕ) (l : Layer) (ls : List Layer) (a s : Stack) → IsTable t → next ≡ t.next → t.next + (length ls + 1) + 1 < 2 ^ 64 → AreLayers t (level_limit + 1) (l ∷ ls) end → IsBefore t end ls a → IsLaidOn next a l s
+laid_more_on : (t : Table) (end : Option Target) (next : ℕ) (l : Layer) (ls : List Layer) (a s : Stack) → IsTable t → next ≡ t.next → t.next + length a.made.items < 2 ^ 64 → AreLayers t (level_limit + 1) (l ∷ ls) end → IsBefore t end ls a → IsLaidOn next a l s
     → IsStack t end (laid (l ∷ ls)) s × (s.level ≤ l.level)
 laid_more_on t end next l ls a s table is room layers h (fit fits joined) =
     let low : a.level ≤ level_over t ls end = h.low in
@@ -401,19 +401,18 @@ laid_more_on t end next l ls a s table is room layers h (new b full closed joine
     let low : a.level ≤ level_over t ls end = h.low in
     let over : level_over t ls end ≤ l.level = over_next t l.level ls end layers.3 in
     let high : l.level < level_limit + 1 = layers.1 in
-    let few : length a.made.items ≤ length ls = h.few in
     let own : sum_by size l.messages ≤ buffer_limit = layers.2.fits in
     let raised : max a.level 1 + 1 ≤ l.level = not_begun_at t end ls a h (omega arith) l.level layers.3 in
     let size_is : b.size ≡ 0 = closed.size in (
-      joined_more t end (laid ls) l b s table layers.2 (closed_more t end (laid ls) next a b table is (omega arith) (omega arith) (some_waits t end (laid ls) a h.stack (omega arith)) h.stack closed) (omega arith) joined,
+      joined_more t end (laid ls) l b s table layers.2 (closed_more t end (laid ls) next a b table is room (omega arith) (some_waits t end (laid ls) a h.stack (omega arith)) h.stack closed) (omega arith) joined,
       (let m : max b.level l.over ≤ l.level = max-le (omega (arith, closed.level, raised)) (over_low t l layers.2) in omega (arith, joined.level, m)),
     )
 
-pub stack_more : (t : Table) (end : Option Target) (next : ℕ) (ls : List Layer) (l : Layer) (a s : Stack) → IsTable t → next ≡ t.next → t.next + length ls + 1 < 2 ^ 64 → AreLayers t (level_limit + 1) ls end → 1 ≤ length ls → l ≡ get_or ls 0 l → IsBefore t end (tail_of ls) a → IsLaidOn next a l s
+pub stack_more : (t : Table) (end : Option Target) (next : ℕ) (ls : List Layer) (l : Layer) (a s : Stack) → IsTable t → next ≡ t.next → t.next + length a.made.items < 2 ^ 64 → AreLayers t (level_limit + 1) ls end → 1 ≤ length ls → l ≡ get_or ls 0 l → IsBefore t end (tail_of ls) a → IsLaidOn next a l s
     → IsStack t end (laid ls) s × (s.level ≤ level_over t ls end)
 stack_more t end next [] l a s table is room layers some at before on = absurd (omega arith)
 stack_more t end next (h ∷ ls) l a s table is room layers some at before on =
-    laid_more_on t end next h ls a s table is (omega arith) layers (subst (λ (x : List Layer). IsBefore t end x a) (tail_is h ls) before) (subst (λ (x : Layer). IsLaidOn next a x s) at on)
+    laid_more_on t end next h ls a s table is room layers (subst (λ (x : List Layer). IsBefore t end x a) (tail_is h ls) before) (subst (λ (x : Layer). IsLaidOn next a x s) at on)
 
 -- ---- all made
 
@@ -444,11 +443,10 @@ first_low t end [] a layers h none =
     omega (arith, h.low, zero_level)
 first_low t end (l ∷ ls) a layers h none = (let low : a.level ≤ l.level = h.low in let high : l.level < level_limit + 1 = layers.1 in omega arith)
 
-pub packed_of : (t : Table) (end : Option Target) (next : ℕ) (ls : List Layer) (a : Stack) (p : Packed) → IsTable t → next ≡ t.next → t.next + length ls + 1 < 2 ^ 64 → AreLayers t (level_limit + 1) ls end → IsBefore t end ls a → IsFinished next a p → IsPacked t end (laid ls) p
+pub packed_of : (t : Table) (end : Option Target) (next : ℕ) (ls : List Layer) (a : Stack) (p : Packed) → IsTable t → next ≡ t.next → t.next + length a.made.items < 2 ^ 64 → AreLayers t (level_limit + 1) ls end → IsBefore t end ls a → IsFinished next a p → IsPacked t end (laid ls) p
 packed_of t end next ls a p table is room layers h (as_it_is none ended) = ended_of t end (laid ls) a p h.stack none ended
 packed_of t end next ls a p table is room layers h (made_too b none closed ended) =
-    let few : length a.made.items ≤ length ls = h.few in
-    ended_of t end (laid ls) b p (closed_more t end (laid ls) next a b table is (omega arith) (first_low t end ls a layers h none) none h.stack closed) closed.waiting ended
+    ended_of t end (laid ls) b p (closed_more t end (laid ls) next a b table is room (first_low t end ls a layers h none) none h.stack closed) closed.waiting ended
 
 pub not_some : (o : Option Target) (b : Bool) → b ≡ is_some o → b ≡ false → o ≡ None
 not_some None b is not = refl

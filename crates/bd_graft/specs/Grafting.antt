@@ -1,19 +1,23 @@
 -- The step of a graft.
-use Rattle.std.specs.Prelude.{◌≡◌, ℕ, suc, ◌+◌, ◌^◌, ◌<◌, ◌≤◌, ◌⊎◌, Bool, if◌then◌else◌, List, [], ◌∷◌, ◌++◌, length, Option, Some, slice_get, IsTrue}
+use Rattle.std.specs.Prelude.{◌≡◌, ℕ, ◌+◌, ◌^◌, ◌<◌, ◌≤◌, ◌⊎◌, Bool, if◌then◌else◌, List, [], ◌∷◌, ◌++◌, length, Option, Some, slice_get, IsTrue, ⊤}
 use Rattle.bd_limits.specs.Limits.{level_limit}
 use Rattle.bd_message.specs.declared.fault.Counter.{Counter}
 use Rattle.bd_message.specs.declared.fault.Counter.TheVariants.{Count, NextId, Level, Refs, Epoch, Flushes}
+use Rattle.bd_message.specs.declared.fault.MapFault.{MapFault}
+use Rattle.bd_message.specs.declared.fault.MapFault.TheVariants.{DeviceFault, Damaged, Worn, NoMemory}
 use Rattle.bd_message.specs.declared.message.Message.{Message}
 use Rattle.bd_message.specs.declared.message.Message.TheVariants.{Goto, Cut}
 use Rattle.bd_node.specs.declared.node.Node.{Node}
 use Rattle.bd_node.specs.declared.node.Step.{Step}
 use Rattle.bd_node.specs.Nodes.{appended}
 use Rattle.bd_node.specs.Tables.{Table, IsKept, IsSound, root_at}
+use Rattle.bd_node.specs.Steps.{IsWornBy}
 use Rattle.bd_resolve.specs.declared.following.Target.{Target}
 use Rattle.bd_graft.specs.declared.packing.Packed.{Packed}
 use Rattle.bd_graft.specs.declared.layers.Layer.{Layer}
 use Rattle.bd_graft.specs.Laying.{laid, AreLayers}
-use Rattle.bd_graft.specs.Packing.{overlay, IsOverlay, IsPacked}
+use Rattle.bd_graft.specs.Ways.{IsWay, messages_in}
+use Rattle.bd_graft.specs.Packing.{overlay, IsOverlay, IsPacked, packs, overlaid, over_all, top_over, overlays_over, IsPackedWith}
 use Rattle.bd_node.specs.Meaning.{Nodes, at}
 use Rattle.bd_keys.specs.Keys.{IsKey}
 use Rattle.bd_message.specs.Effect.{acts}
@@ -52,16 +56,51 @@ pub record IsReady (known : Type 0) (nodes : Nodes) (t : Table) (s : List ℕ) (
   pub layers_are : AreLayers t (t.level t.root + 1) layers end
   pub value : known → IsSound nodes t → (k : List ℕ) → IsKey k
       → acts (at nodes) (laid layers) k (target_at (at nodes) end k) ≡ root_at nodes t (s ++ k)
+  pub way : known → IsSound nodes t → IsWay nodes t.root s (messages_in layers) end
+  pub groups : IsPackedWith t end (overlaid end (packs (messages_in layers))) packed
 
--- a counter that has no room for a graft: ids for its nodes, a level above the root's, more
--- references to a node
+-- whatever the nodes are, a counter that has no room for a graft is near its end: ids for its nodes,
+-- a level above the root's, more references to a node
 abbrev pub IsWornForGraft : Table → Counter → Type 0
-IsWornForGraft t NextId = 2 ^ 64 ≤ t.next + t.level t.root + 4
+IsWornForGraft t NextId = 2 ^ 64 ≤ t.next + t.level t.root + 2
 IsWornForGraft t Level = t.level t.root ≡ level_limit
 IsWornForGraft t Refs = (id : ℕ) × (2 ^ 63 ≤ t.count id)
 IsWornForGraft t Count = ⊥
 IsWornForGraft t Epoch = ⊥
 IsWornForGraft t Flushes = ⊥
+
+-- a counter has to pass its last value for overlay nodes of these groups over an end and the
+-- messages that name what stands over all: for the ids that they get and the names that they add in
+-- the root, where it is higher, and else in a new root, or for the level of that
+pub data IsWornOver (t : Table) (root : Node) (s d : List ℕ) (keep : Bool) (end : Option Target)
+    (groups : List (List Message)) (target : Target) (counter : Counter) : Type 0 where
+  root_kept : top_over t end groups ≤ t.level t.root
+      → IsWornBy t (step_under t root (overlays_over t end groups) (graft_messages s d keep target))
+      counter → IsWornOver t root s d keep end groups target counter
+  root_raised : t.level t.root < top_over t end groups
+      → IsWornBy t (step_over t (overlays_over t end groups) (graft_messages s d keep target))
+      counter → IsWornOver t root s d keep end groups target counter
+  level_raised : t.level t.root < top_over t end groups → counter ≡ Level
+      → t.level t.root ≡ level_limit → IsWornOver t root s d keep end groups target counter
+
+-- a counter has to pass its last value for all that a graft adds
+pub record IsWornByGraft (nodes : Nodes) (t : Table) (s d : List ℕ) (keep : Bool)
+    (counter : Counter) : Type 0 where
+  pub root : Node
+  pub root_is : nodes t.root ≡ Some root
+  pub travel : List (List Message)
+  pub end : Option Target
+  pub way : IsWay nodes t.root s travel end
+  pub target : Target
+  pub target_is : over_all t.next end (overlaid end (packs travel)) ≡ Some target
+  pub worn : IsWornOver t root s d keep end (overlaid end (packs travel)) target counter
+
+-- where a fault says that a counter is worn, it is one of these
+abbrev pub OnWorn : (Counter → Type 0) → MapFault → Type 0
+OnWorn worn DeviceFault = ⊤
+OnWorn worn (Damaged block) = ⊤
+OnWorn worn (Worn counter) = worn counter
+OnWorn worn NoMemory = ⊤
 
 -- at most as many nodes are made as the tree was high, and one; the root keeps its id and level, or
 -- the newest node is the root, one level higher; the old nodes keep their levels, and none but the
@@ -104,16 +143,19 @@ pub record IsRootRaised (nodes : Nodes) (t : Table) (list : List Message) (child
       (overlay (t.level t.root + 1) (Some (record { child = t.root; source = [] })) list)
   pub high : t.level t.root ≤ u.level child
 
--- what a graft leaves: overlay nodes from the next id on, and a root with the messages that send
--- one prefix to the last of them, or to a kept node where there are none; each old node and each
--- new id is kept, and nothing else
+-- what a graft leaves: from the next id on the overlay nodes of what travels on the way of one
+-- prefix, over its end, and a root with the messages that send the other prefix to what stands over
+-- all; each old node and each new id is kept, and nothing else
 pub record IsGraftStep (nodes : Nodes) (t : Table) (s d : List ℕ) (keep : Bool) (new : Nodes)
     (u : Table) : Type 0 where
+  pub travel : List (List Message)
+  pub end : Option Target
+  pub way : IsWay nodes t.root s travel end
   pub target : Target
+  pub target_is : over_all t.next end (overlaid end (packs travel)) ≡ Some target
   pub made : List Node
-  pub overlays : AreMade new u t.next made
-  pub last : (place : ℕ) → length made ≡ suc place
-      → target ≡ record { child = t.next + place; source = [] }
+  pub made_are : made ≡ overlays_over t end (overlaid end (packs travel))
+  pub there : AreMade new u t.next made
   pub old : made ≡ [] → IsKept t target.child
   pub root : IsRootKept nodes t (graft_messages s d keep target) target.child
       (t.next + length made) new u

@@ -1,3 +1,4 @@
 pub mod Laying
+pub mod Ways
 pub mod Packing
 pub mod Grafting

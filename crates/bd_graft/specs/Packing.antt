@@ -1,5 +1,5 @@
 -- Overlay nodes, which have the messages of layers over the end of a way.
-use Rattle.std.specs.Prelude.{◌≡◌, ℕ, suc, ◌+◌, ◌-◌, ◌<◌, ◌≤◌, ◌⊎◌, max, nat_lt, if◌then◌else◌, List, [], ◌∷◌, ◌++◌, length, Option, None, Some, slice_get}
+use Rattle.std.specs.Prelude.{◌≡◌, ◌≢◌, ℕ, suc, ◌+◌, ◌-◌, ◌<◌, ◌≤◌, ◌⊎◌, max, nat_lt, if◌then◌else◌, List, [], ◌∷◌, ◌++◌, length, Option, None, Some, slice_get}
 use Rattle.std.specs.List.{AllByRecursion, flat_map, sum_by}
 use Rattle.bd_limits.specs.Limits.{buffer_limit}
 use Rattle.bd_keys.specs.Keys.{IsKey}
@@ -19,6 +19,7 @@ use Rattle.bd_resolve.specs.Following.{target_at, target_level, IsShort}
 use Rattle.bd_graft.specs.declared.layers.Layer.{Layer}
 use Rattle.bd_graft.specs.declared.packing.Stack.{Stack}
 use Rattle.bd_graft.specs.declared.packing.Packed.{Packed}
+use Rattle.bd_graft.specs.declared.packing.Groups.{Groups}
 use Rattle.bd_graft.specs.Laying.{above}
 
 -- ---- a node over a target
@@ -132,6 +133,95 @@ highest t (l ∷ ls) end = l.level
 -- without layers nothing waits over the end
 abbrev pub IsBegun : Option Target → Stack → Type 0
 IsBegun end s = (s.waiting.items ≡ []) × (s.under ≡ end) × (s.size ≡ 0)
+
+-- ---- which messages stand together
+
+-- newer messages join the newest group where they fit with it, and are else a new one; none make
+-- none
+abbrev pub gathered : List Message → List (List Message) → List (List Message)
+gathered [] groups = groups
+gathered (m ∷ ms) [] = (m ∷ ms) ∷ []
+gathered (m ∷ ms) (g ∷ groups) =
+    if nat_lt buffer_limit (sum_by size g + sum_by size (m ∷ ms)) then (m ∷ ms) ∷ g ∷ groups
+    else (g ++ m ∷ ms) ∷ groups
+
+-- the messages that travel from the nodes of a way, packed from the last node on up to the limit of
+-- a buffer: those of one node stand in one group; the newest group first
+abbrev pub packs : List (List Message) → List (List Message)
+packs [] = []
+packs (ms ∷ more) = gathered ms (packs more)
+
+-- the groups that get overlay nodes: over nothing there is one, though it be empty
+abbrev pub overlaid : Option Target → List (List Message) → List (List Message)
+overlaid None [] = [] ∷ []
+overlaid None (g ∷ groups) = g ∷ groups
+overlaid (Some target) groups = groups
+
+-- ---- overlay nodes of such groups
+
+-- what stands over all: the last of their nodes, made from an id on, and without one the end
+abbrev pub over_all : ℕ → Option Target → List (List Message) → Option Target
+over_all next end [] = end
+over_all next end (g ∷ groups) = Some (record { child = next + length groups; source = [] })
+
+-- the level of a node with messages over a target below a level: one above the highest that it names
+abbrev pub overlay_level : Table → ℕ → List Message → ℕ
+overlay_level t top list = max (max top (above t.level (flat_map message_names list))) 1
+
+-- one above what stands over all, and 0 where that is nothing
+abbrev pub top_over : Table → Option Target → List (List Message) → ℕ
+top_over t end [] = above t.level (target_names end)
+top_over t end (g ∷ groups) = overlay_level t (top_over t end groups) g + 1
+
+-- the overlay nodes of the groups, the oldest's first, each over the one before
+abbrev pub overlays_over : Table → Option Target → List (List Message) → List Node
+overlays_over t end [] = []
+overlays_over t end (g ∷ groups) = overlays_over t end groups
+    ++ overlay (overlay_level t (top_over t end groups) g) (over_all t.next end groups) g ∷ []
+
+-- overlay nodes of closed groups, and an open one
+pub record IsStackWith (t : Table) (end : Option Target) (closed : List (List Message))
+    (open_one : List Message) (s : Stack) : Type 0 where
+  pub made : s.made.items ≡ overlays_over t end closed
+  pub under : s.under ≡ over_all t.next end closed
+  pub waiting : s.waiting.items ≡ open_one
+  pub bytes : s.size ≡ sum_by size open_one
+  pub top : s.level ≡ max (top_over t end closed) (above t.level (flat_map message_names open_one))
+
+-- the newest group, which is open, and the others
+abbrev pub newest_of : List (List Message) → List Message
+newest_of [] = []
+newest_of (g ∷ groups) = g
+
+abbrev pub older_of : List (List Message) → List (List Message)
+older_of [] = []
+older_of (g ∷ groups) = groups
+
+-- the overlay nodes of these groups, and what stands over all
+pub record IsPackedWith (t : Table) (end : Option Target) (groups : List (List Message))
+    (p : Packed) : Type 0 where
+  pub made : p.made.items ≡ overlays_over t end groups
+  pub target : over_all t.next end groups ≡ Some p.target
+  pub top : p.level + 1 ≡ top_over t end groups
+
+-- how many groups there are, and how many bytes the newest has
+pub record AreGroups (groups : List (List Message)) (g : Groups) : Type 0 where
+  pub count : g.count ≡ length groups
+  pub bytes : g.size ≡ sum_by size (newest_of groups)
+
+-- the layer's messages fit a node
+pub record Fits (l : Layer) : Type 0 where
+  pub each : AllByRecursion IsMessage l.messages
+  pub fits : sum_by size l.messages ≤ buffer_limit
+
+-- the groups with the messages of one layer more
+pub record IsGrownBy (a : Groups) (l : Layer) (b : Groups) : Type 0 where
+  pub none : l.messages ≡ [] → b ≡ a
+  pub new : l.messages ≢ []
+      → (a.count ≡ 0) ⊎ (buffer_limit < a.size + sum_by size l.messages)
+      → (b.count ≡ a.count + 1) × (b.size ≡ sum_by size l.messages)
+  pub fit : l.messages ≢ [] → a.count ≢ 0 → a.size + sum_by size l.messages ≤ buffer_limit
+      → (b.count ≡ a.count) × (b.size ≡ a.size + sum_by size l.messages)
 
 -- ---- how they grow
 

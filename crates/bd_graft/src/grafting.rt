@@ -1,6 +1,6 @@
 //! The graft of what stands under one prefix to another.
 
-ghost use Rattle.std.specs.Prelude.{ℕ, List, IfOk, ◌++◌, ◌-◌, ◌*◌, ◌≡◌, ◌+◌, ◌<◌, ◌≤◌, ◌^◌, length, Some, IfOk, OnOk, OnErr};
+ghost use Rattle.std.specs.Prelude.{ℕ, List, IfOk, IfErr, ◌++◌, ◌-◌, ◌*◌, ◌≡◌, ◌+◌, ◌<◌, ◌≤◌, ◌^◌, length, Some, IfOk, OnOk, OnErr};
 ghost use Rattle.bd_limits.specs.Limits.{key_limit, buffer_limit, level_limit};
 ghost use Rattle.bd_message.specs.KeyMaps.{HasMapCause, CanGraft, IsGrafted};
 ghost use Rattle.bd_node.specs.Frames.{OfSound, OnlyReads, Stays};
@@ -13,9 +13,10 @@ ghost use Rattle.bd_message.specs.Effect.{acts};
 ghost use Rattle.bd_node.specs.Meaning.{at};
 ghost use Rattle.bd_resolve.specs.Following.{target_at, IsShort};
 ghost use Rattle.bd_graft.specs.Laying.{laid, AreLayers};
-ghost use Rattle.bd_graft.specs.Grafting.{graft_messages, root_change, top_made, step_under, step_over, IsReady, IsGrown, IsGraftStep, AreOthersSame, IsWornForGraft};
+ghost use Rattle.bd_graft.specs.Ways.{IsWay, messages_in};
+ghost use Rattle.bd_graft.specs.Grafting.{graft_messages, root_change, top_made, step_under, step_over, IsReady, IsGrown, IsGraftStep, AreOthersSame, IsWornForGraft, IsWornByGraft, OnWorn};
 
-use crate::packing::{Packed, overlay, pack};
+use crate::packing::{Packed, overlay, overlay_count, pack};
 use crate::walking::{Walked, walk};
 use bd_inner::receive;
 use bd_keys::Bytes;
@@ -63,6 +64,8 @@ pub fn graft<S: NodeStore>(
     ensures table { OnOk result (IsGrown (S.table store.old) (S.table store.new)) }
     ensures visits { IfOk result (λ walk. walk.visits
         ≡ S.visit_count store.new - S.visit_count store.old) }
+    ensures rise { IfOk result (λ walk. S.visit_count store.new
+        ≡ visited (S.visit_count store.old) walk.visits) }
     ensures few_visits { S.visit_count store.new ≤ S.visit_count store.old
         + (5 * ((S.table store.old).level (S.table store.old).root + 1) + 2) }
     ensures height { IfOk result (λ walk. walk.height
@@ -71,6 +74,9 @@ pub fn graft<S: NodeStore>(
     ensures err { OnErr result (OnlyReads S.NodeStore store.old store.new) }
     ensures cause { HasMapCause (S.fault_count store.old) (S.fault_count store.new)
         (S.bad store.new) (IsWornForGraft (S.table store.old)) result }
+    ensures worn { OfSound S.NodeStore store.old
+        (IfErr result (OnWorn (IsWornByGraft (S.nodes store.old) (S.table store.old)
+        s.now d.now keep))) }
 {
     let before = store.visits();
     let root = store.root();
@@ -107,6 +113,9 @@ fn finish<S: NodeStore>(
         ((k : List ℕ) → IsKey k → acts (at (S.nodes store.old)) (laid way.layers.items) k
         (target_at (at (S.nodes store.old)) way.end k)
         ≡ root_at (S.nodes store.old) (S.table store.old) (s.now ++ k)) }
+    requires way { OfSound S.NodeStore store.old
+        (IsWay (S.nodes store.old) (S.table store.old).root s.now
+        (messages_in way.layers.items) way.end) }
     ensures grafted { OfSound S.NodeStore store.old
         (OnOk result (IsGrafted (root_at (S.nodes store.old) (S.table store.old)) s.now d.now keep
         (root_at (S.nodes store.new) (S.table store.new)))) }
@@ -121,14 +130,19 @@ fn finish<S: NodeStore>(
     ensures table { OnOk result (IsGrown (S.table store.old) (S.table store.new)) }
     ensures stays { Stays S.NodeStore store.old store.new }
     ensures err { OnErr result (OnlyReads S.NodeStore store.old store.new) }
+    ensures rise { OnOk result ((count : ℕ)
+        × (S.visit_count store.new ≡ visited (S.visit_count store.old) count)) }
     ensures few_visits { S.visit_count store.new ≤ S.visit_count store.old
         + ((S.table store.old).level (S.table store.old).root + 2) }
     ensures cause { HasMapCause (S.fault_count store.old) (S.fault_count store.new)
         (S.bad store.new) (IsWornForGraft (S.table store.old)) result }
+    ensures worn { OfSound S.NodeStore store.old
+        (IfErr result (OnWorn (IsWornByGraft (S.nodes store.old) (S.table store.old)
+        s.now d.now keep))) }
 {
     let Walked { layers, end } = way;
-    let room = layers.len() as u64 + 3;
-    if store.next_id().checked_add(room).is_none() {
+    let count = overlay_count(layers.as_slice(), &end);
+    if store.next_id().checked_add(count).is_none() {
         return Err(MapFault::Worn(Counter::NextId));
     }
     let packed = pack(alloc, &*store, layers.as_slice(), end)?;
@@ -137,6 +151,9 @@ fn finish<S: NodeStore>(
     }
     if node.level() >= MAX_LEVEL {
         return Err(MapFault::Worn(Counter::Level));
+    }
+    if store.next_id().checked_add(count + 1).is_none() {
+        return Err(MapFault::Worn(Counter::NextId));
     }
     put_over(alloc, store, packed, s, d, keep)
 }

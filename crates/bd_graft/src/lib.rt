@@ -3,11 +3,12 @@
 #![tactic(auto)]
 
 mod grafting;
+pub mod laws;
 mod layers;
 mod packing;
 mod walking;
 
 pub use grafting::{Walk, graft};
 pub use layers::Layer;
-pub use packing::{Packed, Stack, pack};
+pub use packing::{Groups, Packed, Stack, overlay_count, pack};
 pub use walking::{Walked, walk};

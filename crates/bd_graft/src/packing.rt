@@ -7,7 +7,8 @@ ghost use Rattle.bd_message.specs.Messages.{IsMessage, size};
 ghost use Rattle.bd_node.specs.Tables.{IsTable};
 ghost use Rattle.bd_resolve.specs.Following.{IsLowerTarget, IsShort};
 ghost use Rattle.bd_graft.specs.Laying.{above, laid, AreLayers};
-ghost use Rattle.bd_graft.specs.Packing.{overlay, target_names, IsStack, IsPacked, IsClosed, IsJoined, IsLaidOn, IsEnded, IsFinished, IsBegun, level_over, highest};
+ghost use Rattle.bd_graft.specs.Ways.{messages_in};
+ghost use Rattle.bd_graft.specs.Packing.{overlay, target_names, packs, overlaid, newest_of, older_of, AreGroups, Fits, IsStackWith, IsPackedWith, IsGrownBy, IsStack, IsPacked, IsClosed, IsJoined, IsLaidOn, IsEnded, IsFinished, IsBegun, level_over, highest};
 
 use crate::layers::Layer;
 use bd_keys::Bytes;
@@ -40,20 +41,83 @@ pub struct Packed {
     pub level: u32,
 }
 
-/// Packs the messages of layers into overlay nodes over the end of a way: the first gets the
-/// store's next id, the others the ids after it. The messages of one layer stand in one node, and
-/// each node has at most 32,768 bytes of them. Without messages there is no node, but over nothing
-/// there is one.
+/// How many messages stand together, group by group, where those of layers are packed.
+#[derive(Clone, Copy, Debug)]
+pub struct Groups {
+    /// How many groups there are.
+    pub count: u64,
+    /// How many bytes the newest has.
+    pub size: usize,
+}
+
+/// How many overlay nodes `pack` makes.
+pub fn overlay_count(layers: &[Layer], end: &Option<Target>) -> u64
+    requires fits { AllByRecursion Fits layers.now }
+    requires few { length layers.now < 2 ^ 63 }
+    ensures { result ≡ length (overlaid end.now (packs (messages_in layers.now))) }
+{
+    let count = count_groups(layers).count;
+    if count == 0 && end.is_none() {
+        1
+    } else {
+        count
+    }
+}
+
+// The groups of the messages of layers, the last of which are the oldest.
+fn count_groups(layers: &[Layer]) -> Groups
+    requires fits { AllByRecursion Fits layers.now }
+    requires few { length layers.now < 2 ^ 63 }
+    ensures groups { AreGroups (packs (messages_in layers.now)) result }
+    ensures fits { result.size ≤ buffer_limit }
+    ensures few { result.count ≤ length layers.now }
+{
+    let [layer, rest @ ..] = layers else {
+        return Groups { count: 0, size: 0 };
+    };
+    grown(count_groups(rest), layer)
+}
+
+// The groups with the messages of one layer more.
+fn grown(groups: Groups, layer: &Layer) -> Groups
+    requires layer { Fits layer.now }
+    requires fits { groups.size ≤ buffer_limit }
+    requires few { groups.count < 2 ^ 63 }
+    ensures { IsGrownBy groups layer.now result }
+{
+    if layer.messages.is_empty() {
+        return groups;
+    }
+    let more = layer.messages.size();
+    if groups.count == 0 || more > MAX_BUFFER - groups.size {
+        return Groups {
+            count: groups.count + 1,
+            size: more,
+        };
+    }
+    Groups {
+        count: groups.count,
+        size: groups.size + more,
+    }
+}
+
+/// Packs the messages of layers into overlay nodes over the end of a way, from the last layer on:
+/// the first node gets the store's next id, the others the ids after it. The messages of one layer
+/// stand in one node, and each node has at most 32,768 bytes of them; where those of one more layer
+/// fit, they stand in it too. Without messages there is no node, but over nothing there is one.
 pub fn pack<S: NodeStore>(
     alloc: Global,
     store: &S,
     layers: &[Layer],
     end: Option<Target>,
 ) -> Result<Packed, AllocError>
-    requires room { (S.table store.now).next + length layers.now + 1 < 2 ^ 64 }
+    requires room { (S.table store.now).next
+        + length (overlaid end (packs (messages_in layers.now))) < 2 ^ 64 }
     requires layers { AreLayers (S.table store.now) (level_limit + 1) layers.now end }
     requires short { IsShort end }
     ensures packed { IfOk result (IsPacked (S.table store.now) end (laid layers.now)) }
+    ensures groups { IfOk result (IsPackedWith (S.table store.now) end
+        (overlaid end (packs (messages_in layers.now)))) }
     ensures low { IfOk result (λ p. p.level
         ≤ max (highest (S.table store.now) layers.now end) 1) }
     ensures few { IfOk result (λ p. length p.made.items ≤ length layers.now + 1) }
@@ -73,10 +137,12 @@ fn stacked<S: NodeStore>(
 ) -> Result<Stack, AllocError>
     requires next { next ≡ (S.table store.now).next }
     requires table { IsTable (S.table store.now) }
-    requires room { (S.table store.now).next + length layers.now + 1 < 2 ^ 64 }
+    requires room { (S.table store.now).next + length (packs (messages_in layers.now)) < 2 ^ 64 }
     requires layers { AreLayers (S.table store.now) (level_limit + 1) layers.now end }
     requires short { IsShort end }
     ensures stack { IfOk result (IsStack (S.table store.now) end (laid layers.now)) }
+    ensures groups { IfOk result (IsStackWith (S.table store.now) end
+        (older_of (packs (messages_in layers.now))) (newest_of (packs (messages_in layers.now)))) }
     ensures low { IfOk result (λ s. s.level ≤ level_over (S.table store.now) layers.now end) }
     ensures few { IfOk result (λ s. length s.made.items ≤ length layers.now) }
     ensures begun { length layers.now ≡ 0 → IfOk result (IsBegun end) }

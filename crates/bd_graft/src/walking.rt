@@ -15,6 +15,7 @@ ghost use Rattle.bd_node.specs.Shape.{IsShape};
 ghost use Rattle.bd_inner.specs.Halves.{buffer_of};
 ghost use Rattle.bd_resolve.specs.Following.{target_at, IsLowerTarget, IsShort, AreNoneOr, IsEnd, IsPast};
 ghost use Rattle.bd_graft.specs.Laying.{all_freed, laid, IsLayer, AreLayers};
+ghost use Rattle.bd_graft.specs.Ways.{end_at, IsWay, IsPassed, messages_in};
 
 use crate::layers::{Layer, above, all_freed};
 use bd_keys::Bytes;
@@ -41,7 +42,8 @@ pub struct Passed {
 }
 
 /// The way of a prefix from the root down: at each key that begins with it the tree has what stands
-/// at the way's end, changed by the messages met on the way. At most one visit a level.
+/// at the way's end, changed by the messages met on the way. It leads on where one message or edge
+/// answers for all these keys. At most one visit a level.
 pub fn walk<S: NodeStore>(alloc: Global, store: &mut S, prefix: &[u8]) -> Result<Walked, MapFault>
     requires { length prefix.now ≤ key_limit }
     ensures value { OfSound S.NodeStore store.old
@@ -49,6 +51,9 @@ pub fn walk<S: NodeStore>(alloc: Global, store: &mut S, prefix: &[u8]) -> Result
         → acts (at (S.nodes store.old)) (laid way.layers.items) k
         (target_at (at (S.nodes store.old)) way.end k)
         ≡ root_at (S.nodes store.old) (S.table store.old) (prefix.now ++ k))) }
+    ensures way { OfSound S.NodeStore store.old
+        (IfOk result (λ way. IsWay (S.nodes store.old) (S.table store.old).root prefix.now
+        (messages_in way.layers.items) way.end)) }
     ensures layers { IfOk result (λ way. AreLayers (S.table store.old)
         ((S.table store.old).level (S.table store.old).root + 1) way.layers.items way.end) }
     ensures short { IfOk result (λ way. IsShort way.end) }
@@ -85,8 +90,7 @@ pub fn walk<S: NodeStore>(alloc: Global, store: &mut S, prefix: &[u8]) -> Result
 // A way that ends at a node, or at nothing where no key can begin with what is asked.
 fn ended(layers: Vec<Layer>, child: u64, source: Bytes) -> Walked
     ensures layers { result.layers.items ≡ layers.items }
-    ensures end { result.end ≡ (if nat_lt key_limit (length source) then None
-        else Some (record { child = child; source = source })) }
+    ensures end { result.end ≡ end_at child source }
 {
     if source.len() > MAX_KEY {
         Walked { layers, end: None }
@@ -111,6 +115,8 @@ fn passed_node<S: NodeStore>(
         → S.nodes store.old id ≡ Some n → (below : NodesAt) (k : List ℕ)
         → node_at below n (prefix.now ++ k)
         ≡ acts below on.layer.messages k (target_at below on.target k))) }
+    ensures led { S.is_known store.old → IfOk result (λ found. (n : Node)
+        → S.nodes store.old id ≡ Some n → IsPassed n prefix.now found) }
     ensures layer { IfOk result (λ found. IfSome found (λ on.
         IsLayer (S.table store.old) on.layer)) }
     ensures level { IfOk result (λ found. IfSome found (λ on.

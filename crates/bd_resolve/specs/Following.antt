@@ -1,5 +1,5 @@
 -- What answers for all keys that begin with a prefix.
-use Rattle.std.specs.Prelude.{◌≡◌, ℕ, ◌+◌, ◌<◌, ◌≤◌, ◌⊎◌, ◌==◌, Bool, true, false, List, [], ◌++◌, length, drop, Option, None, Some, count_by, slice_get}
+use Rattle.std.specs.Prelude.{◌≡◌, ◌≢◌, ℕ, ◌+◌, ◌<◌, ◌≤◌, ◌⊎◌, ◌==◌, Bool, true, false, List, [], ◌++◌, length, drop, Option, None, Some, count_by, slice_get}
 use Rattle.bd_limits.specs.Limits.{key_limit}
 use Rattle.bd_keys.specs.Keys.{InRange}
 use Rattle.bd_message.specs.declared.message.Message.{Message}
@@ -8,7 +8,7 @@ use Rattle.bd_message.specs.Effect.{NodesAt, begins, rest, is_cut, acts}
 use Rattle.bd_node.specs.declared.node.Edge.{Edge}
 use Rattle.bd_node.specs.declared.node.Node.{Node}
 use Rattle.bd_node.specs.declared.node.Node.TheVariants.{Leaf, Inner}
-use Rattle.bd_node.specs.Nodes.{names, node_at}
+use Rattle.bd_node.specs.Nodes.{names, node_at, edge_of}
 use Rattle.bd_node.specs.Shape.{EachEdge, SomeEdge}
 use Rattle.bd_node.specs.Tables.{Table, IsLower}
 use Rattle.bd_inner.specs.Halves.{buffer_of}
@@ -146,6 +146,40 @@ IsSpreadOver edges buffer q f = (seen : ℕ)
 abbrev pub IsThroughEdge : Edge → List Message → List ℕ → Followed → Type 0
 IsThroughEdge e buffer q f = IsByCover buffer e.seen q f
     ⊎ (NoneCovers buffer e.seen q × (f ≡ Past e.seen (edge_target e q)))
+
+-- ---- which message or edge leads on
+
+-- the message at a place covers the prefix, and is pending for each edge with a key that begins
+-- with it
+pub record Decides (edges : List Edge) (buffer : List Message) (q : List ℕ) (place : ℕ)
+    (m : Message) : Type 0 where
+  pub here : slice_get buffer place ≡ Some m
+  pub covering : covers m q ≡ true
+  pub pending : EachEdge (λ e hi. IsUnder q e hi → e.seen ≤ place) edges
+
+-- no message from a place on decides
+abbrev pub NoneDecides : List Edge → List Message → List ℕ → ℕ → Type 0
+NoneDecides edges buffer q from =
+    (place : ℕ) (m : Message) → from ≤ place → ¬ Decides edges buffer q place m
+
+-- the way ends where the prefix is empty; the newest message that decides leads on, and without
+-- one the edge of the prefix; where its keys are of several edges, the way ends
+pub data IsLed (edges : List Edge) (buffer : List Message) (q : List ℕ) (f : Followed) : Type 0
+  where
+    at_all : q ≡ [] → f ≡ Here → IsLed edges buffer q f
+    by_message : (place : ℕ) (m : Message) → q ≢ [] → Decides edges buffer q place m
+        → NoneDecides edges buffer q (place + 1) → f ≡ Past (place + 1) (covered m q)
+        → IsLed edges buffer q f
+    by_edge : (e : Edge) → q ≢ [] → NoneDecides edges buffer q 0
+        → ¬ SomeEdge (GoesOn q) edges → edge_of edges q ≡ Some e
+        → f ≡ Past e.seen (edge_target e q) → IsLed edges buffer q f
+    at_several : q ≢ [] → NoneDecides edges buffer q 0 → SomeEdge (GoesOn q) edges
+        → f ≡ Here → IsLed edges buffer q f
+
+-- where the way of a prefix leads from a node; it ends at a leaf
+abbrev pub LeadsTo : Node → List ℕ → Followed → Type 0
+LeadsTo (Leaf entries) q f = f ≡ Here
+LeadsTo (Inner level edges buffer) q f = IsLed edges buffer q f
 
 -- ---- long prefixes
 

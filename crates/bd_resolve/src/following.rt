@@ -6,7 +6,7 @@ ghost use Rattle.bd_keys.specs.Keys.{IsKey, IsBelowEnd, InRange};
 ghost use Rattle.bd_message.specs.Effect.{begins};
 ghost use Rattle.bd_node.specs.Shape.{AreRising, EachEdge, SomeEdge, IsShape};
 ghost use Rattle.bd_resolve.specs.declared.following.Followed.TheVariants as followed;
-ghost use Rattle.bd_resolve.specs.Following.{GoesOn, IsUnder, IsFollowed, IsSpreadOver, IsThroughEdge, IsCoverAt, IsPastCover, edge_target};
+ghost use Rattle.bd_resolve.specs.Following.{GoesOn, IsUnder, IsFollowed, IsSpreadOver, IsThroughEdge, IsCoverAt, IsPastCover, edge_target, LeadsTo};
 
 use crate::covering::{covered, joined, newest_cover};
 use bd_inner::{edge_of, end_before};
@@ -42,6 +42,7 @@ pub enum Followed {
 /// way ends at a leaf, where the prefix is empty, and where its keys are of several edges.
 pub fn follow(alloc: Global, node: &Node, prefix: &[u8]) -> Result<Followed, AllocError>
     requires { IsShape node.now }
+    ensures leads { IfOk result (LeadsTo node.now prefix.now) }
     ensures followed { IfOk result (IsFollowed node.now prefix.now) }
     ensures bytes { IsKey prefix.now }
 {

@@ -1,6 +1,6 @@
 //! The tree.
 
-ghost use Rattle.std.specs.Prelude.{◌≡◌, ◌≢◌, ◌↔◌, ℕ, ◌+◌, ◌-◌, ◌*◌, ◌<◌, ◌≤◌, List, IfOk, IfSome, MatchOption, OnOk};
+ghost use Rattle.std.specs.Prelude.{◌≡◌, ◌≢◌, ◌↔◌, ℕ, ◌+◌, ◌-◌, ◌*◌, ◌<◌, ◌≤◌, List, IfOk, IfErr, IfSome, MatchOption, OnOk};
 ghost use Rattle.std.specs.Prelude.{true, false, OnErr, Ok, Some};
 ghost use Rattle.std.specs.Option.{option_map};
 ghost use Rattle.bd_limits.specs.Limits.{buffer_limit};
@@ -11,10 +11,10 @@ ghost use Rattle.bd_node.specs.Meaning.{at};
 ghost use Rattle.bd_node.specs.Tables.{IsKept, IsSound, root_at};
 ghost use Rattle.bd_node.specs.declared.node.Node.{Node};
 ghost use Rattle.bd_node.specs.Steps.{IsCommitted, HasGrown, append_step};
-ghost use Rattle.bd_node.specs.Stores.{FitsRoot};
+ghost use Rattle.bd_node.specs.Stores.{FitsRoot, visited};
 ghost use Rattle.bd_query.specs.Asks.{AreVisitsOfWays};
 ghost use Rattle.bd_query.specs.Visits.{AreVisits};
-ghost use Rattle.bd_graft.specs.Grafting.{IsGrown, IsGraftStep, AreOthersSame, IsWornForGraft};
+ghost use Rattle.bd_graft.specs.Grafting.{IsGrown, IsGraftStep, AreOthersSame, IsWornForGraft, IsWornByGraft, OnWorn};
 ghost use Rattle.bd_flush.specs.Flushed.{IsWornFor};
 ghost use Rattle.bd_reclaim.specs.Walks.{IsFirst, HasNone, IsToDo, IsToDoAt, walk_size};
 ghost use Rattle.bd_reclaim.specs.Reclaimed.{IsReclaimed, IsMade, IsRootAfter, IsNextAfter, LeavesLess, reclaim_visits};
@@ -185,6 +185,8 @@ impl<S: NodeStore> Tree<S> {
         ensures table { OnOk result (IsGrown (S.table self.old.store) (S.table self.new.store)) }
         ensures visits { OnOk result (self.new.walk.visits
             ≡ S.visit_count self.new.store - S.visit_count self.old.store) }
+        ensures rise { OnOk result (S.visit_count self.new.store
+            ≡ visited (S.visit_count self.old.store) self.new.walk.visits) }
         ensures height { OnOk result (self.new.walk.height
             ≡ (S.table self.old.store).level (S.table self.old.store).root + 1) }
         ensures few_visits { S.visit_count self.new.store ≤ S.visit_count self.old.store
@@ -194,6 +196,9 @@ impl<S: NodeStore> Tree<S> {
         ensures err_walk { OnErr result (self.new.walk ≡ self.old.walk) }
         ensures cause { HasMapCause (S.fault_count self.old.store) (S.fault_count self.new.store)
             (S.bad self.new.store) (IsWornForGraft (S.table self.old.store)) result }
+        ensures worn { OfSound S.NodeStore self.old.store
+            (IfErr result (OnWorn (IsWornByGraft (S.nodes self.old.store)
+            (S.table self.old.store) s.now d.now keep))) }
     {
         let walk = graft(self.alloc, &mut self.store, s, d, keep)?;
         self.walk = walk;

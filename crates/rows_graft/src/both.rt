@@ -102,7 +102,7 @@ fn holds_goto(node: &Node) -> bool {
 }
 
 /// Puts a message that names no node into a tree, where there is room.
-fn pour(tree: &mut Tree<MemNodes>, message: Message) -> Result<(), Fail> {
+pub fn pour(tree: &mut Tree<MemNodes>, message: Message) -> Result<(), Fail> {
     if !message.is_message() || message.size() > tree.room() {
         return Err(Fail::new("no such message"));
     }
@@ -114,7 +114,7 @@ fn pour(tree: &mut Tree<MemNodes>, message: Message) -> Result<(), Fail> {
 }
 
 /// Grafts, where it is allowed.
-fn plant(tree: &mut Tree<MemNodes>, s: &[u8], d: &[u8], keep: bool) -> Result<(), Fail> {
+pub fn plant(tree: &mut Tree<MemNodes>, s: &[u8], d: &[u8], keep: bool) -> Result<(), Fail> {
     let is_short = s.len() <= MAX_KEY && d.len() <= MAX_KEY;
     if !is_short || tree.room() < 1600 || (!keep && starts(d, s)) {
         return Err(Fail::new("no such graft"));

@@ -1,9 +1,13 @@
-use Rattle.std.proofs.Common.{refl, arith, subst, sym, List, length, ◌+◌, ◌≤◌, ◌<◌, ◌^◌}
+use Rattle.std.proofs.Common.{refl, arith, subst, sym, ◌∙◌, List, length, ◌+◌, ◌≤◌, ◌<◌, ◌^◌}
 use Rattle.bd_limits.specs.Limits.{level_limit}
 use Rattle.bd_node.specs.Tables.{Table}
 use Rattle.bd_graft.specs.declared.layers.Layer.{Layer}
 use Rattle.bd_graft.specs.Laying.{AreLayers, laid}
-use Rattle.bd_graft.specs.Packing.{IsPacked}
+use Rattle.std.specs.List.{AllByRecursion}
+use Rattle.bd_graft.specs.Ways.{messages_in}
+use Rattle.bd_graft.specs.Packing.{IsPacked, IsPackedWith, Fits, packs, overlaid}
+use Rattle.bd_graft.proofs.Grouping.{layers_fit, packed_length}
+use Rattle.bd_graft.proofs.Counters.{count_few, count_is, worn_ids, worn_top, worn_level, worn_under, worn_over}
 use Rattle.bd_graft.specs.Grafting.{graft_messages, step_under, step_over, IsReady}
 use Rattle.bd_graft.proofs.Laying.{level_high}
 use Rattle.bd_graft.proofs.Wearing.{layers_raise, layers_few, few_visited, sum_past, sum_within, over_few, cause_of, under_ok, over_ok, packed_low}
@@ -12,30 +16,30 @@ use Rattle.bd_graft.proofs.grafting.finish.Goals as goal
 pub pack-requires-clause-layers : goal.pack-requires-clause-layers
 pack-requires-clause-layers g c =
     let t : Table = g.S.NodeStore.table c.args.store.now in
-    subst (λ (ls : List Layer). AreLayers t (level_limit + 1) ls c.args.way.end) (sym c.as_slice.ensures.value)
+    subst (λ (ls : List Layer). AreLayers t (level_limit + 1) ls c.args.way.end) (sym c.as_slice-2.ensures.value)
     (layers_raise t (t.level t.root + 1) (level_limit + 1) c.args.way.layers.items c.args.way.end (omega (arith, level_high c.args.node.now c.requires.own.shape, c.requires.own.level_is)) c.requires.layers)
 
 pub put_under-requires-clause-few : goal.put_under-requires-clause-few
 put_under-requires-clause-few g c =
     let t : Table = g.S.NodeStore.table c.args.store.now in
-    omega (arith, c.in_ok-packed.ensures.few, c.as_slice.ensures.len, layers_few t (t.level t.root) c.args.way.layers.items c.args.way.end c.requires.layers)
+    omega (arith, c.in_ok-packed.ensures.few, c.as_slice-2.ensures.len, layers_few t (t.level t.root) c.args.way.layers.items c.args.way.end c.requires.layers)
 
 pub put_over-requires-clause-few : goal.put_over-requires-clause-few
 put_over-requires-clause-few g c =
     let t : Table = g.S.NodeStore.table c.args.store.now in
-    omega (arith, c.in_ok-packed.ensures.few, c.as_slice.ensures.len, layers_few t (t.level t.root) c.args.way.layers.items c.args.way.end c.requires.layers)
+    omega (arith, c.in_ok-packed.ensures.few, c.as_slice-2.ensures.len, layers_few t (t.level t.root) c.args.way.layers.items c.args.way.end c.requires.layers)
 
 pub returns-then-packed-level-clause-few_visits : goal.returns-then-packed-level-clause-few_visits
 returns-then-packed-level-clause-few_visits g c =
     let t : Table = g.S.NodeStore.table c.args.store.now in
     few_visited (g.S.NodeStore.visit_count c.args.store.now) (g.S.NodeStore.visit_count c.put_under.new.store) (length c.in_ok-packed.packed.made.items) (t.level t.root + 2) c.put_under.result
-    (omega (arith, c.in_ok-packed.ensures.few, c.as_slice.ensures.len, layers_few t (t.level t.root) c.args.way.layers.items c.args.way.end c.requires.layers)) c.put_under.ensures.visits c.put_under.ensures.err_visits
+    (omega (arith, c.in_ok-packed.ensures.few, c.as_slice-2.ensures.len, layers_few t (t.level t.root) c.args.way.layers.items c.args.way.end c.requires.layers)) c.put_under.ensures.visits c.put_under.ensures.err_visits
 
 pub returns-clause-few_visits : goal.returns-clause-few_visits
 returns-clause-few_visits g c =
     let t : Table = g.S.NodeStore.table c.args.store.now in
     few_visited (g.S.NodeStore.visit_count c.args.store.now) (g.S.NodeStore.visit_count c.put_over.new.store) (length c.in_ok-packed.packed.made.items + 1) (t.level t.root + 2) c.put_over.result
-    (omega (arith, c.in_ok-packed.ensures.few, c.as_slice.ensures.len, layers_few t (t.level t.root) c.args.way.layers.items c.args.way.end c.requires.layers)) c.put_over.ensures.visits c.put_over.ensures.err_visits
+    (omega (arith, c.in_ok-packed.ensures.few, c.as_slice-2.ensures.len, layers_few t (t.level t.root) c.args.way.layers.items c.args.way.end c.requires.layers)) c.put_over.ensures.visits c.put_over.ensures.err_visits
 
 pub returns-then-is_none-clause-cause : goal.returns-then-is_none-clause-cause
 returns-then-is_none-clause-cause g c =
@@ -44,21 +48,23 @@ returns-then-is_none-clause-cause g c =
       later = omega arith;
       kept = tt;
       stays = refl;
-      failed = omega (arith, sum_past _ _ _ _ c.checked_add.ensures c.is_none.ensures c.if-is_none.true, c.next_id.ensures.value, c.len.ensures, layers_few t (t.level t.root) c.args.way.layers.items c.args.way.end c.requires.layers);
+      failed = omega (arith, sum_past _ _ _ _ c.checked_add.ensures c.is_none.ensures c.if-is_none.true, c.next_id.ensures.value, count_is c.args.way.end c.args.way.layers.items c.as_slice.result.now c.overlay_count-count.result c.as_slice.ensures.value c.overlay_count-count.ensures, count_few c.args.way.end c.args.way.layers.items, layers_few t (t.level t.root) c.args.way.layers.items c.args.way.end c.requires.layers);
     }
 
 pub returns-then-packed-level-clause-cause : goal.returns-then-packed-level-clause-cause
 returns-then-packed-level-clause-cause g c =
     let t : Table = g.S.NodeStore.table c.args.store.now in
-    let made : length c.in_ok-packed.packed.made.items ≤ t.level t.root + 1 = omega (arith, c.in_ok-packed.ensures.few, c.as_slice.ensures.len, layers_few t (t.level t.root) c.args.way.layers.items c.args.way.end c.requires.layers) in
+    let made : length c.in_ok-packed.packed.made.items ≤ t.level t.root + 1 = omega (arith, c.in_ok-packed.ensures.few, c.as_slice-2.ensures.len, layers_few t (t.level t.root) c.args.way.layers.items c.args.way.end c.requires.layers) in
     let high : t.level t.root ≤ level_limit = omega (arith, level_high c.args.node.now c.requires.own.shape, c.requires.own.level_is) in
-    let room : t.next + length c.in_ok-packed.packed.made.items < 2 ^ 64 = omega (arith, sum_within _ _ _ _ c.checked_add.ensures c.is_none.ensures c.if-is_none.false, c.next_id.ensures.value, c.len.ensures, c.in_ok-packed.ensures.few, c.as_slice.ensures.len) in
+    let room : t.next + length c.in_ok-packed.packed.made.items < 2 ^ 64 = omega (arith, sum_within _ _ _ _ c.checked_add.ensures c.is_none.ensures c.if-is_none.false, c.next_id.ensures.value, count_is c.args.way.end c.as_slice-2.result.now c.as_slice.result.now c.overlay_count-count.result (c.as_slice.ensures.value ∙ sym c.as_slice-2.ensures.value) c.overlay_count-count.ensures, packed_length t c.args.way.end (overlaid c.args.way.end (packs (messages_in c.as_slice-2.result.now))) c.in_ok-packed.packed c.in_ok-packed.ensures.groups) in
     let ready : IsReady (g.S.NodeStore.is_known c.args.store.now) (g.S.NodeStore.nodes c.args.store.now) t c.args.s.now c.in_ok-packed.packed = record {
       layers = c.args.way.layers.items;
       end = c.args.way.end;
-      packed_is = subst (λ (ls : List Layer). IsPacked t c.args.way.end (laid ls) c.in_ok-packed.packed) c.as_slice.ensures.value c.in_ok-packed.ensures.packed;
+      packed_is = subst (λ (ls : List Layer). IsPacked t c.args.way.end (laid ls) c.in_ok-packed.packed) c.as_slice-2.ensures.value c.in_ok-packed.ensures.packed;
       layers_are = c.requires.layers;
       value = c.requires.value;
+      way = c.requires.way;
+      groups = subst (λ (ls : List Layer). IsPackedWith t c.args.way.end (overlaid c.args.way.end (packs (messages_in ls))) c.in_ok-packed.packed) c.as_slice-2.ensures.value c.in_ok-packed.ensures.groups;
     } in
     cause_of (g.S.NodeStore.fault_count c.args.store.now) (g.S.NodeStore.fault_count c.put_under.new.store) (g.S.NodeStore.bad c.put_under.new.store) t
     (step_under t c.args.node.now c.in_ok-packed.packed.made.items (graft_messages c.args.s.now c.args.d.now c.args.keep c.in_ok-packed.packed.target)) c.put_under.result
@@ -69,19 +75,118 @@ returns-then-packed-level-clause-cause g c =
 pub returns-clause-cause : goal.returns-clause-cause
 returns-clause-cause g c =
     let t : Table = g.S.NodeStore.table c.args.store.now in
-    let made : length c.in_ok-packed.packed.made.items ≤ t.level t.root + 1 = omega (arith, c.in_ok-packed.ensures.few, c.as_slice.ensures.len, layers_few t (t.level t.root) c.args.way.layers.items c.args.way.end c.requires.layers) in
+    let made : length c.in_ok-packed.packed.made.items ≤ t.level t.root + 1 = omega (arith, c.in_ok-packed.ensures.few, c.as_slice-2.ensures.len, layers_few t (t.level t.root) c.args.way.layers.items c.args.way.end c.requires.layers) in
     let high : t.level t.root < level_limit = omega (arith, c.if-level-ge-MAX_LEVEL.false, c.level-2.ensures, c.requires.own.level_is) in
-    let room : t.next + length c.in_ok-packed.packed.made.items < 2 ^ 64 = omega (arith, sum_within _ _ _ _ c.checked_add.ensures c.is_none.ensures c.if-is_none.false, c.next_id.ensures.value, c.len.ensures, c.in_ok-packed.ensures.few, c.as_slice.ensures.len) in
+    let room : t.next + length c.in_ok-packed.packed.made.items < 2 ^ 64 = omega (arith, sum_within _ _ _ _ c.checked_add.ensures c.is_none.ensures c.if-is_none.false, c.next_id.ensures.value, count_is c.args.way.end c.as_slice-2.result.now c.as_slice.result.now c.overlay_count-count.result (c.as_slice.ensures.value ∙ sym c.as_slice-2.ensures.value) c.overlay_count-count.ensures, packed_length t c.args.way.end (overlaid c.args.way.end (packs (messages_in c.as_slice-2.result.now))) c.in_ok-packed.packed c.in_ok-packed.ensures.groups) in
     let ready : IsReady (g.S.NodeStore.is_known c.args.store.now) (g.S.NodeStore.nodes c.args.store.now) t c.args.s.now c.in_ok-packed.packed = record {
       layers = c.args.way.layers.items;
       end = c.args.way.end;
-      packed_is = subst (λ (ls : List Layer). IsPacked t c.args.way.end (laid ls) c.in_ok-packed.packed) c.as_slice.ensures.value c.in_ok-packed.ensures.packed;
+      packed_is = subst (λ (ls : List Layer). IsPacked t c.args.way.end (laid ls) c.in_ok-packed.packed) c.as_slice-2.ensures.value c.in_ok-packed.ensures.packed;
       layers_are = c.requires.layers;
       value = c.requires.value;
+      way = c.requires.way;
+      groups = subst (λ (ls : List Layer). IsPackedWith t c.args.way.end (overlaid c.args.way.end (packs (messages_in ls))) c.in_ok-packed.packed) c.as_slice-2.ensures.value c.in_ok-packed.ensures.groups;
     } in
     cause_of (g.S.NodeStore.fault_count c.args.store.now) (g.S.NodeStore.fault_count c.put_over.new.store) (g.S.NodeStore.bad c.put_over.new.store) t
     (step_over t c.in_ok-packed.packed.made.items (graft_messages c.args.s.now c.args.d.now c.args.keep c.in_ok-packed.packed.target)) c.put_over.result
     (over_ok (g.S.NodeStore.is_known c.args.store.now) (g.S.NodeStore.nodes c.args.store.now) t c.in_ok-packed.packed c.args.s.now c.args.d.now c.args.keep ready c.next_id.ensures.table high
-    (packed_low t c.args.way.layers.items c.as_slice.result.now c.args.way.end c.in_ok-packed.packed.level c.next_id.ensures.table c.as_slice.ensures.value c.requires.layers c.in_ok-packed.ensures.low)
+    (packed_low t c.args.way.layers.items c.as_slice-2.result.now c.args.way.end c.in_ok-packed.packed.level c.next_id.ensures.table c.as_slice-2.ensures.value c.requires.layers c.in_ok-packed.ensures.low)
     c.requires.source c.requires.target room)
     (over_few t c.in_ok-packed.packed.made.items (graft_messages c.args.s.now c.args.d.now c.args.keep c.in_ok-packed.packed.target) (t.level t.root + 2) (omega (arith, made))) (omega (arith, high)) (omega arith) c.put_over.ensures.cause
+
+pub overlay_count-count-requires-clause-fits : goal.overlay_count-count-requires-clause-fits
+overlay_count-count-requires-clause-fits g c =
+    let t : Table = g.S.NodeStore.table c.args.store.now in
+    subst (λ (ls : List Layer). AllByRecursion Fits ls) (sym c.as_slice.ensures.value) (layers_fit t (t.level t.root + 1) c.args.way.layers.items c.args.way.end c.requires.layers)
+
+pub pack-requires-clause-room : goal.pack-requires-clause-room
+pack-requires-clause-room g c =
+    let t : Table = g.S.NodeStore.table c.args.store.now in
+    omega (arith, sum_within _ _ _ _ c.checked_add.ensures c.is_none.ensures c.if-is_none.false, c.next_id.ensures.value, count_is c.args.way.end c.as_slice-2.result.now c.as_slice.result.now c.overlay_count-count.result (c.as_slice.ensures.value ∙ sym c.as_slice-2.ensures.value) c.overlay_count-count.ensures)
+
+pub put_under-requires-clause-room : goal.put_under-requires-clause-room
+put_under-requires-clause-room g c =
+    let t : Table = g.S.NodeStore.table c.args.store.now in
+    omega (arith, sum_within _ _ _ _ c.checked_add.ensures c.is_none.ensures c.if-is_none.false, c.next_id.ensures.value, count_is c.args.way.end c.as_slice-2.result.now c.as_slice.result.now c.overlay_count-count.result (c.as_slice.ensures.value ∙ sym c.as_slice-2.ensures.value) c.overlay_count-count.ensures, packed_length t c.args.way.end (overlaid c.args.way.end (packs (messages_in c.as_slice-2.result.now))) c.in_ok-packed.packed c.in_ok-packed.ensures.groups)
+
+pub put_over-requires-clause-room : goal.put_over-requires-clause-room
+put_over-requires-clause-room g c =
+    let t : Table = g.S.NodeStore.table c.args.store.now in
+    omega (arith, sum_within _ _ _ _ c.checked_add-2.ensures c.is_none-2.ensures c.if-is_none-2.false, c.next_id-2.ensures.value, count_is c.args.way.end c.as_slice-2.result.now c.as_slice.result.now c.overlay_count-count.result (c.as_slice.ensures.value ∙ sym c.as_slice-2.ensures.value) c.overlay_count-count.ensures, packed_length t c.args.way.end (overlaid c.args.way.end (packs (messages_in c.as_slice-2.result.now))) c.in_ok-packed.packed c.in_ok-packed.ensures.groups)
+
+pub returns-then-is_none-clause-worn : goal.returns-then-is_none-clause-worn
+returns-then-is_none-clause-worn g c = λ known sound.
+    let t : Table = g.S.NodeStore.table c.args.store.now in
+    worn_ids (g.S.NodeStore.nodes c.args.store.now) t c.args.node.now c.args.s.now c.args.d.now c.args.keep (messages_in c.args.way.layers.items) c.args.way.end (c.requires.there known) (c.requires.way known sound)
+    (omega (arith, sum_past _ _ _ _ c.checked_add.ensures c.is_none.ensures c.if-is_none.true, c.next_id.ensures.value, count_is c.args.way.end c.args.way.layers.items c.as_slice.result.now c.overlay_count-count.result c.as_slice.ensures.value c.overlay_count-count.ensures))
+
+pub returns-then-packed-level-clause-worn : goal.returns-then-packed-level-clause-worn
+returns-then-packed-level-clause-worn g c = λ known sound.
+    let t : Table = g.S.NodeStore.table c.args.store.now in
+    let ready : IsReady (g.S.NodeStore.is_known c.args.store.now) (g.S.NodeStore.nodes c.args.store.now) t c.args.s.now c.in_ok-packed.packed = record {
+      layers = c.args.way.layers.items;
+      end = c.args.way.end;
+      packed_is = subst (λ (ls : List Layer). IsPacked t c.args.way.end (laid ls) c.in_ok-packed.packed) c.as_slice-2.ensures.value c.in_ok-packed.ensures.packed;
+      layers_are = c.requires.layers;
+      value = c.requires.value;
+      way = c.requires.way;
+      groups = subst (λ (ls : List Layer). IsPackedWith t c.args.way.end (overlaid c.args.way.end (packs (messages_in ls))) c.in_ok-packed.packed) c.as_slice-2.ensures.value c.in_ok-packed.ensures.groups;
+    } in
+    worn_under (g.S.NodeStore.fault_count c.args.store.now) (g.S.NodeStore.fault_count c.put_under.new.store) (g.S.NodeStore.bad c.put_under.new.store) (g.S.NodeStore.is_known c.args.store.now) (g.S.NodeStore.nodes c.args.store.now) t c.args.node.now c.in_ok-packed.packed c.args.s.now c.args.d.now c.args.keep c.put_under.result
+    ready known sound (c.requires.there known) (omega (arith, c.if-packed-level.true, c.level.ensures, c.requires.own.level_is)) c.put_under.ensures.cause
+
+pub returns-then-level-ge-MAX_LEVEL-clause-worn : goal.returns-then-level-ge-MAX_LEVEL-clause-worn
+returns-then-level-ge-MAX_LEVEL-clause-worn g c = λ known sound.
+    let t : Table = g.S.NodeStore.table c.args.store.now in
+    let ready : IsReady (g.S.NodeStore.is_known c.args.store.now) (g.S.NodeStore.nodes c.args.store.now) t c.args.s.now c.in_ok-packed.packed = record {
+      layers = c.args.way.layers.items;
+      end = c.args.way.end;
+      packed_is = subst (λ (ls : List Layer). IsPacked t c.args.way.end (laid ls) c.in_ok-packed.packed) c.as_slice-2.ensures.value c.in_ok-packed.ensures.packed;
+      layers_are = c.requires.layers;
+      value = c.requires.value;
+      way = c.requires.way;
+      groups = subst (λ (ls : List Layer). IsPackedWith t c.args.way.end (overlaid c.args.way.end (packs (messages_in ls))) c.in_ok-packed.packed) c.as_slice-2.ensures.value c.in_ok-packed.ensures.groups;
+    } in
+    worn_level (g.S.NodeStore.is_known c.args.store.now) (g.S.NodeStore.nodes c.args.store.now) t c.args.node.now c.in_ok-packed.packed c.args.s.now c.args.d.now c.args.keep
+    ready known sound (c.requires.there known) (omega (arith, c.if-packed-level.false, c.level.ensures, c.requires.own.level_is)) (omega (arith, c.if-level-ge-MAX_LEVEL.true, c.level-2.ensures, c.requires.own.level_is, level_high c.args.node.now c.requires.own.shape))
+
+pub returns-then-is_none-2-clause-worn : goal.returns-then-is_none-2-clause-worn
+returns-then-is_none-2-clause-worn g c = λ known sound.
+    let t : Table = g.S.NodeStore.table c.args.store.now in
+    let ready : IsReady (g.S.NodeStore.is_known c.args.store.now) (g.S.NodeStore.nodes c.args.store.now) t c.args.s.now c.in_ok-packed.packed = record {
+      layers = c.args.way.layers.items;
+      end = c.args.way.end;
+      packed_is = subst (λ (ls : List Layer). IsPacked t c.args.way.end (laid ls) c.in_ok-packed.packed) c.as_slice-2.ensures.value c.in_ok-packed.ensures.packed;
+      layers_are = c.requires.layers;
+      value = c.requires.value;
+      way = c.requires.way;
+      groups = subst (λ (ls : List Layer). IsPackedWith t c.args.way.end (overlaid c.args.way.end (packs (messages_in ls))) c.in_ok-packed.packed) c.as_slice-2.ensures.value c.in_ok-packed.ensures.groups;
+    } in
+    worn_top (g.S.NodeStore.is_known c.args.store.now) (g.S.NodeStore.nodes c.args.store.now) t c.args.node.now c.in_ok-packed.packed c.args.s.now c.args.d.now c.args.keep
+    ready known sound (c.requires.there known) (omega (arith, c.if-packed-level.false, c.level.ensures, c.requires.own.level_is))
+    (omega (arith, sum_past _ _ _ _ c.checked_add-2.ensures c.is_none-2.ensures c.if-is_none-2.true, c.next_id-2.ensures.value, count_is c.args.way.end c.as_slice-2.result.now c.as_slice.result.now c.overlay_count-count.result (c.as_slice.ensures.value ∙ sym c.as_slice-2.ensures.value) c.overlay_count-count.ensures, packed_length t c.args.way.end (overlaid c.args.way.end (packs (messages_in c.as_slice-2.result.now))) c.in_ok-packed.packed c.in_ok-packed.ensures.groups))
+
+pub returns-clause-worn : goal.returns-clause-worn
+returns-clause-worn g c = λ known sound.
+    let t : Table = g.S.NodeStore.table c.args.store.now in
+    let ready : IsReady (g.S.NodeStore.is_known c.args.store.now) (g.S.NodeStore.nodes c.args.store.now) t c.args.s.now c.in_ok-packed.packed = record {
+      layers = c.args.way.layers.items;
+      end = c.args.way.end;
+      packed_is = subst (λ (ls : List Layer). IsPacked t c.args.way.end (laid ls) c.in_ok-packed.packed) c.as_slice-2.ensures.value c.in_ok-packed.ensures.packed;
+      layers_are = c.requires.layers;
+      value = c.requires.value;
+      way = c.requires.way;
+      groups = subst (λ (ls : List Layer). IsPackedWith t c.args.way.end (overlaid c.args.way.end (packs (messages_in ls))) c.in_ok-packed.packed) c.as_slice-2.ensures.value c.in_ok-packed.ensures.groups;
+    } in
+    worn_over (g.S.NodeStore.fault_count c.args.store.now) (g.S.NodeStore.fault_count c.put_over.new.store) (g.S.NodeStore.bad c.put_over.new.store) (g.S.NodeStore.is_known c.args.store.now) (g.S.NodeStore.nodes c.args.store.now) t c.args.node.now c.in_ok-packed.packed c.args.s.now c.args.d.now c.args.keep c.put_over.result
+    ready known sound (c.requires.there known) (omega (arith, c.if-packed-level.false, c.level.ensures, c.requires.own.level_is)) c.put_over.ensures.cause
+
+pub returns-then-is_none-2-clause-cause : goal.returns-then-is_none-2-clause-cause
+returns-then-is_none-2-clause-cause g c =
+    let t : Table = g.S.NodeStore.table c.args.store.now in
+    record {
+      later = omega arith;
+      kept = tt;
+      stays = refl;
+      failed = omega (arith, sum_past _ _ _ _ c.checked_add-2.ensures c.is_none-2.ensures c.if-is_none-2.true, c.next_id-2.ensures.value, count_is c.args.way.end c.args.way.layers.items c.as_slice.result.now c.overlay_count-count.result c.as_slice.ensures.value c.overlay_count-count.ensures, count_few c.args.way.end c.args.way.layers.items, layers_few t (t.level t.root) c.args.way.layers.items c.args.way.end c.requires.layers);
+    }

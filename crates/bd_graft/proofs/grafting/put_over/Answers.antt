@@ -35,7 +35,7 @@ returns-clause-step g c = λ known sound.
     (over_ready (g.S.NodeStore.is_known c.args.store.now) (g.S.NodeStore.nodes c.args.store.now) (g.S.NodeStore.table c.args.store.now) c.in_ok-top.top c.args.packed c.args.s.now c.args.d.now c.args.keep c.in_ok-step.step c.root-root.result c.next_id-next.result (c.level-level.result + 1) c.from_vec-2.result
     c.requires.ready c.root-root.ensures.table c.requires.room c.requires.level c.requires.low c.requires.source c.requires.target c.root-root.ensures.value c.next_id-next.ensures.value
     (ap (λ (n : ℕ). n + 1) (c.level-level.ensures ∙ ap (g.S.NodeStore.table c.args.store.now).level c.root-root.ensures.value)) (c.from_vec-2.ensures ∙ c.in_ok-list.ensures)
-    (c.in_ok-top.ensures ∙ ap (λ (q : List ℕ). overlay (c.level-level.result + 1) (Some (record { child = c.root-root.result; source = q })) c.from_vec-2.result) (c.from_vec.ensures ∙ c.new.ensures.items)) c.in_ok-step.ensures) c.requires.high sound c.commit.ensures.table (c.commit.ensures.committed known sound)
+    (c.in_ok-top.ensures ∙ ap (λ (q : List ℕ). overlay (c.level-level.result + 1) (Some (record { child = c.root-root.result; source = q })) c.from_vec-2.result) (c.from_vec.ensures ∙ c.new.ensures.items)) c.in_ok-step.ensures) c.requires.high known sound c.commit.ensures.table (c.commit.ensures.committed known sound)
 
 pub returns-clause-others : goal.returns-clause-others
 returns-clause-others g c = λ known sound.

@@ -35,7 +35,7 @@ pub returns-clause-step : goal.returns-clause-step
 returns-clause-step g c = λ known sound.
     under_left (g.S.NodeStore.is_known c.args.store.now) (g.S.NodeStore.nodes c.args.store.now) (g.S.NodeStore.table c.args.store.now) c.args.node.now c.args.packed c.args.s.now c.args.d.now c.args.keep c.in_ok-step.step (g.S.NodeStore.nodes c.commit.new.self) (g.S.NodeStore.table c.commit.new.self) c.commit.result
     (under_ready (g.S.NodeStore.is_known c.args.store.now) (g.S.NodeStore.nodes c.args.store.now) (g.S.NodeStore.table c.args.store.now) c.args.node.now c.in_ok-new.new c.args.packed c.args.s.now c.args.d.now c.args.keep c.in_ok-step.step c.root-root.result c.as_slice.result.now c.requires.ready c.root-root.ensures.table c.requires.own c.requires.low c.root-root.ensures.value
-    (c.as_slice.ensures.value ∙ c.in_ok-list.ensures) c.in_ok-new.ensures.node c.in_ok-new.ensures.shape c.in_ok-step.ensures) sound (c.requires.there known) c.commit.ensures.table (c.commit.ensures.committed known sound)
+    (c.as_slice.ensures.value ∙ c.in_ok-list.ensures) c.in_ok-new.ensures.node c.in_ok-new.ensures.shape c.in_ok-step.ensures) known sound (c.requires.there known) c.commit.ensures.table (c.commit.ensures.committed known sound)
 
 pub returns-clause-others : goal.returns-clause-others
 returns-clause-others g c = λ known sound.

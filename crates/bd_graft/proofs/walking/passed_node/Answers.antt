@@ -10,6 +10,7 @@ use Rattle.bd_resolve.specs.Following.{IsFollowed, IsPast}
 use Rattle.bd_resolve.proofs.Going.{lower_target}
 use Rattle.bd_graft.specs.Laying.{above}
 use Rattle.bd_graft.proofs.Laying.{passed_limit, passed_has, passed_layer}
+use Rattle.bd_graft.proofs.Ways.{passed_led, ended_led}
 use Rattle.bd_graft.proofs.walking.passed_node.Goals as goal
 
 pub above-requires : goal.above-requires
@@ -35,3 +36,13 @@ returns-clause-lower g c =
     let past : IsPast c.in_ok-node.node.value c.args.prefix.now c.in-Past.newer c.in-Past.target =
     subst (λ (f : Followed). IsFollowed c.in_ok-node.node.value c.args.prefix.now f) c.in-Past.is (subst (λ (n : Node). IsFollowed n c.args.prefix.now c.in_ok-follow.field-0) c.deref.ensures c.in_ok-follow.ensures.followed) in
     lower_target (g.S.NodeStore.table c.args.store.now) ((g.S.NodeStore.table c.args.store.now).level c.args.id) c.in_ok-node.node.value c.in-Past.target c.in_ok-node.ensures.shape past.named
+
+pub returns-clause-led : goal.returns-clause-led
+returns-clause-led g c = λ known.
+    passed_led (g.S.NodeStore.nodes c.args.store.now) c.args.id c.in_ok-node.node.value c.deref.result.now c.deref-in-Past.result.now c.args.prefix.now c.in_ok-follow.field-0 c.in-Past.newer (record { layer = record { messages = c.in_ok-messages-in-Past.messages; over = c.above.result; level = c.level.result }; target = c.in-Past.target })
+    c.deref.ensures c.deref-in-Past.ensures c.in_ok-follow.ensures.leads c.in-Past.is c.in_ok-messages-in-Past.ensures (c.in_ok-node.ensures.contents known)
+
+pub returns-in-Here-clause-led : goal.returns-in-Here-clause-led
+returns-in-Here-clause-led g c = λ known.
+    ended_led (g.S.NodeStore.nodes c.args.store.now) c.args.id c.in_ok-node.node.value c.deref.result.now c.args.prefix.now c.in_ok-follow.field-0
+    c.deref.ensures c.in_ok-follow.ensures.leads c.in-Here.is (c.in_ok-node.ensures.contents known)

@@ -13,6 +13,7 @@ use Rattle.bd_graft.specs.declared.layers.Layer.{Layer}
 use Rattle.bd_graft.specs.declared.walking.Passed.{Passed}
 use Rattle.bd_graft.specs.Laying.{laid, AreLayers, IsLayer}
 use Rattle.bd_graft.proofs.Laying.{layers_more, layers_ended, value_ended, one_further, some_is}
+use Rattle.bd_graft.proofs.Ways.{way_at_leaf, way_at_node, way_to_nothing, way_on, led_as}
 use Rattle.bd_graft.proofs.walking.walk.Goals as goal
 
 pub returns-then-level-eq0-clause-value : goal.returns-then-level-eq0-clause-value
@@ -60,6 +61,10 @@ loop-store-preserved g c =
       counted = gone_down (g.S.NodeStore.visit_count c.args.store.now) (g.S.NodeStore.visit_count c.loop-store.store) (g.S.NodeStore.visit_count c.passed_node.new.store) high (t.level id)
           inv.visits c.in_ok-layer.ensures.visits (t.level target.child) less;
       loans = c.in_ok-layer.ensures.left.same_loans ∙ inv.loans;
+      way = λ known sound_at.
+          way_on nodes t t.root id c.args.prefix.now c.loop-store.asked c.loop-store.layers.items _ on target sound_at inv.here
+          (led_as nodes (g.S.NodeStore.nodes c.loop-store.store) id c.loop-store.asked c.as_slice.result.now c.in_ok-layer.field-0 (Some on) (inv.nodes known) c.as_slice.ensures c.in-Some.is (c.in_ok-layer.ensures.led (inv.known known)))
+          target_is c.in_ok-push.ensures.items (inv.way known sound_at);
       value = λ known sound k key.
           let says : (n : Node) → nodes id ≡ Some n → (below : NodesAt) (l : List ℕ) → node_at below n (c.loop-store.asked ++ l) ≡ acts below on.layer.messages l (target_at below on.target l) = λ n there below l.
           ap (λ (q : List ℕ). node_at below n (q ++ l)) (sym c.as_slice.ensures)
@@ -98,3 +103,24 @@ returns-in-None-clause-layers g c =
     let level : on.layer.level ≡ t.level id = some_is (λ (p : Passed). p.layer.level ≡ now.level id) c.in_ok-layer.field-0 on c.in-Some.is c.in_ok-layer.ensures.level ∙ ap (λ (u : Table). u.level id) inv.table in
     subst (λ (ls : List Layer). AreLayers t (t.level t.root + 1) ls None) (sym c.in_ok-push.ensures.items)
     (layers_more t (t.level t.root + 1) c.loop-store.layers.items on.layer (record { child = id; source = c.loop-store.asked }) None inv.layers layer level (omega (arith, c.if-level-eq0.false, c.level.ensures, level, ap (λ (u : Table). u.level id) inv.table)) tt)
+
+pub returns-then-level-eq0-clause-way : goal.returns-then-level-eq0-clause-way
+returns-then-level-eq0-clause-way g c = λ known sound.
+    let inv = c.loop-store.invariant in
+    way_at_leaf (g.S.NodeStore.nodes c.args.store.now) (g.S.NodeStore.table c.args.store.now) (g.S.NodeStore.table c.args.store.now).root c.loop-store.id c.args.prefix.now c.loop-store.asked c.loop-store.layers.items c.ended.result.layers.items c.ended.result.end sound inv.here
+    (ap (λ (t : Table). t.level c.loop-store.id) (sym inv.table) ∙ sym c.level.ensures ∙ c.if-level-eq0.true) c.ended.ensures.layers c.ended.ensures.end (inv.way known sound)
+
+pub returns-in_default-clause-way : goal.returns-in_default-clause-way
+returns-in_default-clause-way g c = λ known sound.
+    let inv = c.loop-store.invariant in
+    way_at_node (g.S.NodeStore.nodes c.args.store.now) (g.S.NodeStore.table c.args.store.now) (g.S.NodeStore.table c.args.store.now).root c.loop-store.id c.args.prefix.now c.loop-store.asked c.loop-store.layers.items c.ended-in_default.result.layers.items c.ended-in_default.result.end sound inv.here
+    (led_as (g.S.NodeStore.nodes c.args.store.now) (g.S.NodeStore.nodes c.loop-store.store) c.loop-store.id c.loop-store.asked c.as_slice.result.now c.in_ok-layer.field-0 None (inv.nodes known) c.as_slice.ensures c.in_default.is (c.in_ok-layer.ensures.led (inv.known known)))
+    c.ended-in_default.ensures.layers c.ended-in_default.ensures.end (inv.way known sound)
+
+pub returns-in-None-clause-way : goal.returns-in-None-clause-way
+returns-in-None-clause-way g c = λ known sound.
+    let inv = c.loop-store.invariant in
+    let on : Passed = c.in-Some.field-0 in
+    way_to_nothing (g.S.NodeStore.nodes c.args.store.now) (g.S.NodeStore.table c.args.store.now) (g.S.NodeStore.table c.args.store.now).root c.loop-store.id c.args.prefix.now c.loop-store.asked c.loop-store.layers.items _ on sound inv.here
+    (led_as (g.S.NodeStore.nodes c.args.store.now) (g.S.NodeStore.nodes c.loop-store.store) c.loop-store.id c.loop-store.asked c.as_slice.result.now c.in_ok-layer.field-0 (Some on) (inv.nodes known) c.as_slice.ensures c.in-Some.is (c.in_ok-layer.ensures.led (inv.known known)))
+    c.in-None.is c.in_ok-push.ensures.items (inv.way known sound)

@@ -6,6 +6,7 @@ use Rattle.bd_node.specs.Tables.{IsKept, IsSound, root_at}
 use Rattle.bd_resolve.specs.Following.{AreNoneOr}
 use Rattle.bd_query.proofs.Visited.{VisitsTo}
 use Rattle.bd_graft.specs.Laying.{laid, AreLayers}
+use Rattle.bd_graft.proofs.Ways.{IsWayOn}
 use Rattle.bd_graft.proofs.walking.walk.Given as goal
 
 abbrev pub invariant-loop-store : goal.invariant-loop-store
@@ -20,6 +21,7 @@ invariant-loop-store g l = record {
   visits : VisitsTo (g.S.NodeStore.visit_count l.fn.store) (g.S.NodeStore.visit_count l.store) ((g.S.NodeStore.table l.fn.store).level (g.S.NodeStore.table l.fn.store).root) ((g.S.NodeStore.table l.fn.store).level l.id);
   counted : AreNoneOr ((g.S.NodeStore.table l.fn.store).level (g.S.NodeStore.table l.fn.store).root - (g.S.NodeStore.table l.fn.store).level l.id) (g.S.NodeStore.visit_count l.fn.store) (g.S.NodeStore.visit_count l.store);
   loans : g.S.NodeStore.loans l.store ≡ g.S.NodeStore.loans l.fn.store;
+  way : g.S.NodeStore.is_known l.fn.store → IsSound (g.S.NodeStore.nodes l.fn.store) (g.S.NodeStore.table l.fn.store) → IsWayOn (g.S.NodeStore.nodes l.fn.store) (g.S.NodeStore.table l.fn.store).root l.fn.prefix l.layers.items l.id l.asked;
   value : g.S.NodeStore.is_known l.fn.store → IsSound (g.S.NodeStore.nodes l.fn.store) (g.S.NodeStore.table l.fn.store) → (k : List ℕ) → IsKey k
       → acts (at (g.S.NodeStore.nodes l.fn.store)) (laid l.layers.items) k (at (g.S.NodeStore.nodes l.fn.store) l.id (l.asked ++ k)) ≡ root_at (g.S.NodeStore.nodes l.fn.store) (g.S.NodeStore.table l.fn.store) (l.fn.prefix ++ k);
 }
