@@ -120,7 +120,7 @@ line_fails Sink s line at w f = absurd f
 pub line_fault_caused : (e : Fault) (n : ℕ) → IsLineFault e → Caused e (of_sink n) (of_sink n)
 line_fault_caused Device n f = absurd f
 line_fault_caused Source n f = absurd f
-line_fault_caused Memory n f = tt
-line_fault_caused TooLong n f = tt
-line_fault_caused (Worn which) n f = tt
+line_fault_caused Memory n f = refl
+line_fault_caused TooLong n f = refl
+line_fault_caused (Worn which) n f = refl
 line_fault_caused Sink n f = absurd f

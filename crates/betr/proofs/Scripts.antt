@@ -378,6 +378,7 @@ cut_more xs ys a b c first cut = record {
 broken : (e : Fault) (s : State) (mid now : State → Type 0) (bytes line piece : List ℕ) (script rest a b c : Option (List ℕ))
     → line ≡ held (open_line bytes) → list_any is_stop (meanings bytes) ≡ false → script ≡ prepend_known (bytes ++ piece) rest → length (bytes ++ piece) ≤ script_limit
     → (x : Executes s (meanings bytes) mid a b) → BreaksOff e (state_after s x.entries) line piece now b c → RunsFrom (Some e) s now bytes (bytes ++ piece) script a c
+unfolding cut_more
 broken Device s mid now bytes line piece script rest a b c is none taken few x y = absurd y.halts
 broken Source s mid now bytes line piece script rest a b c is none taken few x y = absurd y.halts
 broken TooLong s mid now bytes line piece script rest a b c is none taken few x y = absurd y.halts
