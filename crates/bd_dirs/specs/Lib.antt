@@ -1,2 +1,4 @@
+pub mod Kinds
+pub mod Sendings
 pub mod Plans
 pub mod Listings

@@ -11,6 +11,8 @@ use Rattle.bd_records.specs.declared.Record.{Record}
 use Rattle.bd_message.specs.KeyMaps.{At, IsGrafted}
 use Rattle.bd_represent.specs.Represents.{record_of, Represents}
 use Rattle.bd_represent.specs.Plans.{IsSmallBatch, Makes}
+use Rattle.bd_dirs.specs.Kinds.{Kind, Reads, Sends, SendsLate, Grafts, kind_of}
+use Rattle.bd_dirs.specs.Sendings.{Batch, Move, made, sending}
 use Rattle.bd_dirs.specs.declared.plan.Plan.{Plan}
 use Rattle.bd_dirs.specs.declared.plan.Plan.TheVariants.{Refused, Apply, Graft}
 
@@ -31,11 +33,14 @@ HasSize (Ls path after) = Unit {0}
 abbrev pub MakesByGraft : At → List ℕ → List ℕ → Bool → Tree → Type 0
 MakesByGraft at s d keep t = (new : At) → IsGrafted at s d keep new → Represents new t
 
--- the refusal of the tree, or what makes the tree after the command
+-- the refusal of the tree, or what the command sends, which makes the tree after it
 abbrev pub IsPlan : At → Tree → Command → Plan → Type 0
 IsPlan at t c (Refused refusal) = refusal_of t c ≡ Some refusal
-IsPlan at t c (Apply list) = (refusal_of t c ≡ None) × Makes at list (changed t c)
-IsPlan at t c (Graft s d keep) = (refusal_of t c ≡ None) × MakesByGraft at s d keep (changed t c)
+IsPlan at t c (Apply list) =
+    (refusal_of t c ≡ None) × Makes at list (changed t c) × (sending at t c ≡ Batch list)
+IsPlan at t c (Graft s d keep) =
+    (refusal_of t c ≡ None) × MakesByGraft at s d keep (changed t c)
+    × (sending at t c ≡ Move s d keep)
 
 -- what is planned can be done wherever there is room
 abbrev pub IsReady : Plan → Type 0
@@ -56,18 +61,16 @@ IsGraftPlan (Refused refusal) = Unit {0}
 IsGraftPlan (Apply list) = ⊥
 IsGraftPlan (Graft s d keep) = Unit {0}
 
+-- what commands that read, send or graft may have planned
+abbrev pub IsPlanOf : Kind → Plan → Type 0
+IsPlanOf Reads plan = SendsMessages plan
+IsPlanOf Sends plan = SendsMessages plan
+IsPlanOf SendsLate plan = SendsMessages plan
+IsPlanOf Grafts plan = IsGraftPlan plan
+
 -- a rename and a clone are grafts, and each other command sends messages
 abbrev pub IsPlanKind : Command → Plan → Type 0
-IsPlanKind (Mkdir path) plan = SendsMessages plan
-IsPlanKind (Create path) plan = SendsMessages plan
-IsPlanKind (Write path off bytes) plan = SendsMessages plan
-IsPlanKind (Truncate path len) plan = SendsMessages plan
-IsPlanKind (Remove path) plan = SendsMessages plan
-IsPlanKind (Rename a b) plan = IsGraftPlan plan
-IsPlanKind (Clone a b) plan = IsGraftPlan plan
-IsPlanKind (Read path off len) plan = SendsMessages plan
-IsPlanKind (Stat path) plan = SendsMessages plan
-IsPlanKind (Ls path after) plan = SendsMessages plan
+IsPlanKind c plan = IsPlanOf (kind_of c) plan
 
 -- the refusal to make an entry at the path, or the message that makes any entry with this record
 abbrev pub IsNewPlan : At → Tree → List (List ℕ) → Record → Plan → Type 0
@@ -75,4 +78,5 @@ IsNewPlan at t path r (Refused refusal) = new_refusal t path ≡ Some refusal
 IsNewPlan at t path r (Apply list) =
     (new_refusal t path ≡ None)
     × ((e : Entry) → record_of e ≡ r → file_bytes (Some e) ≡ [] → Makes at list (insert t path e))
+    × (list ≡ made path r)
 IsNewPlan at t path r (Graft s d keep) = ⊥

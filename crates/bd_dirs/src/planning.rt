@@ -1,13 +1,15 @@
 //! What each writing command sends.
 
-ghost use Rattle.std.specs.Prelude.{IsTrue, IfOk};
+ghost use Rattle.std.specs.Prelude.{◌≡◌, List, IsTrue, IfOk};
 ghost use Rattle.bd_command.specs.Command.{writes};
 ghost use Rattle.bd_command.specs.declared.Command.{Command};
 ghost use Rattle.bd_model.specs.Tree.{Tree, IsTree};
+ghost use Rattle.bd_message.specs.declared.message.Message.{Message};
 ghost use Rattle.bd_message.specs.KeyMaps.{At, HasMapCause, NeverWorn};
 ghost use Rattle.bd_message.specs.Reads.{IsLeft};
 ghost use Rattle.bd_represent.specs.Represents.{Represents};
 ghost use Rattle.bd_files.specs.FilePlans as files;
+ghost use Rattle.bd_dirs.specs.Sendings.{Batch, sending};
 ghost use Rattle.bd_dirs.specs.Plans.{HasSize, IsPlan, IsReady, SendsMessages, IsPlanKind};
 
 use crate::changes::{clone_to, create, mkdir, remove, rename};
@@ -50,8 +52,8 @@ pub fn plan_command<M: KeyMap>(
 
 /// The plan of a file as one of a command.
 fn of_file(plan: FilePlan) -> Plan
-    ensures plan { (at : At) (t : Tree) (c : Command) → files.IsFilePlan at t c plan
-        → IsPlan at t c result }
+    ensures plan { (sent : List Message) (at : At) (t : Tree) (c : Command)
+        → sending at t c ≡ Batch sent → files.IsFilePlan sent at t c plan → IsPlan at t c result }
     ensures kind { SendsMessages result }
     ensures ready { files.IsReady plan → IsReady result }
 {

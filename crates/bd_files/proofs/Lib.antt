@@ -3,3 +3,4 @@ pub mod Overwriting
 pub mod Writes
 pub mod Pieces
 pub mod Truncations
+pub mod Sent

@@ -5,7 +5,7 @@ use Rattle.std.specs.Option.{option_or, unwrap_or}
 use Rattle.std.specs.FinMap.{get, insert}
 use Rattle.std.specs.Ordering.{is_lt}
 use Rattle.std.specs.Int.{w32}
-use Rattle.std.proofs.lemmas.Bool.{cases_lt, cases_Bool, ltb-true, lt-ltb, le-leb, and_parts, and_from, false_from_ne_true}
+use Rattle.std.proofs.lemmas.Bool.{cases_lt, cases_Bool, ltb-true, lt-ltb, le-ltb, le-leb, and_parts, and_from, false_from_ne_true}
 use Rattle.std.proofs.lemmas.List.{take_all}
 use Rattle.std.proofs.Math.Seq.{drop-append_seam}
 use Rattle.bd_limits.specs.Limits.{block_limit, file_limit}
@@ -33,7 +33,8 @@ use Rattle.bd_represent.proofs.ActLemmas.{put-here, put-other}
 use Rattle.bd_represent.proofs.FileLemmas.{HasBytes-along, HasBytes-longer, HasBytes-cut}
 use Rattle.bd_represent.proofs.NumberOrder.{be-below, be-from}
 use Rattle.bd_represent.proofs.TreeLemmas.{Represents-along, Represents-insert}
-use Rattle.bd_files.specs.Sends.{put_length, first_past, cut_past, shortened}
+use Rattle.bd_files.specs.Sends.{put_length, first_past, cut_past, shortened, truncated}
+use Rattle.bd_files.specs.FilePlans.{size_at}
 use Rattle.bd_files.proofs.Writes.{put_at, put_only, put_beside, put_blocks}
 
 bytes_at : (at : At) (t : Tree) (path : List (List ℕ)) (file : List ℕ) → AreNames path → Represents at t → get t path ≡ Some (FileWith file) → HasBytes at path file
@@ -235,9 +236,22 @@ shorter_makes path len last at t file names r found short_of limit is new applie
 -- ---- the plan
 
 pub truncate_planned : (at : At) (t : Tree) (path : List (List ℕ)) (len : ℕ) (file : List ℕ) (items list : List Message) → get t path ≡ Some (FileWith file) → len ≤ file_limit → list ≡ items
-    → Makes at items (insert t path (FileWith (resized file len))) → (refusal_of t (Truncate path len) ≡ None) × Makes at list (changed t (Truncate path len))
-truncate_planned at t path len file items list found fits is makes = (
+    → Makes at items (insert t path (FileWith (resized file len))) → items ≡ truncated at path (length file) len
+    → (refusal_of t (Truncate path len) ≡ None) × Makes at list (changed t (Truncate path len)) × (list ≡ truncated at path (size_at t path) len)
+truncate_planned at t path len file items list found fits is makes sent = (
   ap (λ (o : Option Entry). option_or (file_refusal o) (size_refusal len)) found ∙ ap (λ b. cond b None (Some TooBig)) (le-leb len file_limit fits),
   subst (λ (ms : List Message). Makes at ms (insert t path (FileWith (resized (file_bytes (get t path)) len)))) (sym is)
       (subst (λ (o : Option Entry). Makes at items (insert t path (FileWith (resized (file_bytes o) len)))) (sym found) makes),
+  is ∙ sent ∙ ap (λ (o : Option Entry). truncated at path (length (file_bytes o)) len) (sym found),
 )
+
+-- a file that gets no shorter, and one that does
+pub longer_sent : (at : At) (path : List (List ℕ)) (size len : ℕ) → size ≤ len → put_length path len ∷ [] ≡ truncated at path size len
+longer_sent at path size len h =
+    sym (ap (λ (b : Bool). put_length path len ∷ cond b (cut_past path len ∷ shortened path len (stored at path (len / block_limit))) []) (le-ltb len size h))
+
+pub shorter_sent : (at : At) (path : List (List ℕ)) (size len : ℕ) (last : List ℕ) → len < size → last ≡ stored at path (len / block_limit)
+    → put_length path len ∷ cut_past path len ∷ shortened path len last ≡ truncated at path size len
+shorter_sent at path size len last h is =
+    ap (λ (x : List ℕ). put_length path len ∷ cut_past path len ∷ shortened path len x) is
+    ∙ sym (ap (λ (b : Bool). put_length path len ∷ cond b (cut_past path len ∷ shortened path len (stored at path (len / block_limit))) []) (lt-ltb len size h))

@@ -26,7 +26,8 @@ use Rattle.bd_represent.proofs.KeyLemmas.{record_key-injective, record_key-block
 use Rattle.bd_represent.proofs.ActLemmas.{put-here, put-other}
 use Rattle.bd_represent.proofs.FileLemmas.{longer, beside, within, HasBytes-along, HasBytes-same, HasBytes-longer}
 use Rattle.bd_represent.proofs.TreeLemmas.{Represents-along, Represents-insert}
-use Rattle.bd_files.specs.Sends.{put_length, growth, IsOverwriting}
+use Rattle.bd_files.specs.Sends.{put_length, growth, IsOverwriting, written}
+use Rattle.bd_files.specs.FilePlans.{size_at}
 use Rattle.bd_files.proofs.Overwriting.{acts-append}
 
 -- ---- a record that is put
@@ -113,10 +114,12 @@ write_makes path off len end bytes list patches names ends is writes at t file r
 
 -- ---- the plan
 
-pub write_planned : (at : At) (t : Tree) (path : List (List ℕ)) (off : ℕ) (bytes file : List ℕ) (items list : List Message) → get t path ≡ Some (FileWith file) → off + length bytes ≤ file_limit → list ≡ items
-    → Makes at items (insert t path (FileWith (overwritten file off bytes))) → (refusal_of t (Write path off bytes) ≡ None) × Makes at list (changed t (Write path off bytes))
-write_planned at t path off bytes file items list found fits is makes = (
+pub write_planned : (at : At) (t : Tree) (path : List (List ℕ)) (off len : ℕ) (bytes file : List ℕ) (items list : List Message) → get t path ≡ Some (FileWith file) → off + length bytes ≤ file_limit → list ≡ items
+    → Makes at items (insert t path (FileWith (overwritten file off bytes))) → len ≡ length file → items ≡ written path len off bytes
+    → (refusal_of t (Write path off bytes) ≡ None) × Makes at list (changed t (Write path off bytes)) × (list ≡ written path (size_at t path) off bytes)
+write_planned at t path off len bytes file items list found fits is makes long sent = (
   ap (λ (o : Option Entry). option_or (file_refusal o) (size_refusal (off + length bytes))) found ∙ ap (λ b. cond b None (Some TooBig)) (le-leb (off + length bytes) file_limit fits),
   subst (λ (ms : List Message). Makes at ms (insert t path (FileWith (overwritten (file_bytes (get t path)) off bytes)))) (sym is)
       (subst (λ (o : Option Entry). Makes at items (insert t path (FileWith (overwritten (file_bytes o) off bytes)))) (sym found) makes),
+  is ∙ sent ∙ ap (λ (n : ℕ). written path n off bytes) (long ∙ ap (λ (o : Option Entry). length (file_bytes o)) (sym found)),
 )

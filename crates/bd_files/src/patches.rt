@@ -6,7 +6,7 @@ ghost use Rattle.bd_message.specs.Messages.{IsMessage, IsPlain};
 ghost use Rattle.bd_message.specs.declared.message.Message.TheVariants as message;
 ghost use Rattle.bd_represent.specs.EntryKeys.{block_key};
 ghost use Rattle.bd_names.specs.Names.{AreNames};
-ghost use Rattle.bd_files.specs.Sends.{IsOverwriting};
+ghost use Rattle.bd_files.specs.Sends.{IsOverwriting, patches_of};
 
 use bd_keys::Bytes;
 use bd_limits::MAX_BLOCK;
@@ -29,6 +29,7 @@ pub fn patches(
     ensures few { IfOk result (λ list. length list.items ≤ 3) }
     ensures each { IfOk result (λ list. All IsMessage list.items) }
     ensures plain { IfOk result (λ list. All IsPlain list.items) }
+    ensures list { IfOk result (λ list. list.items ≡ patches_of 3 path.now off bytes.now) }
     ensures writes { IfOk result (λ list. IsOverwriting path.now off bytes.now list.items) }
 {
     let mut list = Vec::new(alloc);

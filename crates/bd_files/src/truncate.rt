@@ -11,8 +11,8 @@ ghost use Rattle.bd_message.specs.Reads.{IsLeft};
 ghost use Rattle.bd_represent.specs.Represents.{Represents, stored};
 ghost use Rattle.bd_message.specs.declared.message.Message.TheVariants as message;
 ghost use Rattle.bd_represent.specs.EntryKeys.{block_key};
-ghost use Rattle.bd_files.specs.Sends.{put_length, cut_past, shortened};
-ghost use Rattle.bd_files.specs.FilePlans.{IsFilePlan, IsReady};
+ghost use Rattle.bd_files.specs.Sends.{put_length, cut_past, shortened, truncated};
+ghost use Rattle.bd_files.specs.FilePlans.{IsFilePlan, IsReady, size_at};
 
 use crate::lookup::file_len;
 use crate::plan::FilePlan;
@@ -36,7 +36,8 @@ pub fn plan_truncate<M: KeyMap>(
     len: u32,
 ) -> Result<FilePlan, MapFault>
     ensures plan { M.is_known m.old → (t : Tree) → IsTree t → Represents (M.has m.old) t
-        → IfOk result (IsFilePlan (M.has m.old) t (command.Truncate path.now len)) }
+        → IfOk result (IsFilePlan (truncated (M.has m.old) path.now (size_at t path.now) len)
+        (M.has m.old) t (command.Truncate path.now len)) }
     ensures ready { IfOk result IsReady }
     ensures left { IsLeft M.KeyMap m.old m.new }
     ensures cause { HasMapCause (M.fault_count m.old) (M.fault_count m.new)

@@ -12,8 +12,8 @@ ghost use Rattle.bd_message.specs.KeyMaps.{At, HasMapCause, NeverWorn};
 ghost use Rattle.bd_message.specs.Reads.{IsLeft};
 ghost use Rattle.bd_represent.specs.Represents.{Represents};
 ghost use Rattle.bd_represent.specs.Plans.{Makes};
-ghost use Rattle.bd_files.specs.Sends.{growth};
-ghost use Rattle.bd_files.specs.FilePlans.{IsFilePlan, IsReady};
+ghost use Rattle.bd_files.specs.Sends.{growth, written};
+ghost use Rattle.bd_files.specs.FilePlans.{IsFilePlan, IsReady, size_at};
 
 use crate::lookup::file_len;
 use crate::patches::patches;
@@ -38,7 +38,8 @@ pub fn plan_write<M: KeyMap>(
     requires some { 1 ≤ length bytes.now }
     requires short { length bytes.now ≤ write_limit }
     ensures plan { M.is_known m.old → (t : Tree) → IsTree t → Represents (M.has m.old) t
-        → IfOk result (IsFilePlan (M.has m.old) t (command.Write path.now off bytes.now)) }
+        → IfOk result (IsFilePlan (written path.now (size_at t path.now) off bytes.now)
+        (M.has m.old) t (command.Write path.now off bytes.now)) }
     ensures ready { IfOk result IsReady }
     ensures left { IsLeft M.KeyMap m.old m.new }
     ensures cause { HasMapCause (M.fault_count m.old) (M.fault_count m.new)
@@ -70,6 +71,7 @@ fn messages(
     ensures few { IfOk result (λ list. length list.items ≤ 4) }
     ensures each { IfOk result (λ list. All IsMessage list.items) }
     ensures plain { IfOk result (λ list. All IsPlain list.items) }
+    ensures list { IfOk result (λ list. list.items ≡ written path.now len off bytes.now) }
     ensures makes { IfOk result (λ list. (at : At) (t : Tree) (file : List ℕ) → Represents at t
         → get t path.now ≡ Some (FileWith file) → len ≡ length file
         → Makes at list.items (insert t path.now (FileWith (overwritten file off bytes.now)))) }

@@ -1,4 +1,5 @@
 pub mod Cause
+pub mod Gathering
 pub mod Memory
 pub mod Plan
 pub mod Takes

@@ -1,4 +1,4 @@
-ghost use Rattle.std.specs.Prelude.{◌≡◌, ◌≤◌, ◌<◌, ◌++◌, Some, [], length, take, IfOk, OnErr, is_err};
+ghost use Rattle.std.specs.Prelude.{◌≡◌, ◌≤◌, ◌<◌, ◌++◌, Some, [], length, take, IfOk, OnErr, is_err, IsOk};
 ghost use Rattle.bd_io.specs.Cause.{HasCause};
 ghost use Rattle.bd_io.specs.Memory.{taken_count, put_fails};
 ghost use Rattle.bd_io.specs.Plan.{planned, calls_after};
@@ -8,8 +8,8 @@ use std::alloc::{AllocError, Global};
 use std::marker::Model;
 
 /// A sink in memory. It tells its contents, takes no memory after it is made, and fails at the
-/// listed calls, at a count of calls that stands at its last value, and at a piece of some bytes
-/// without a byte of room, and nowhere else.
+/// listed calls of `put`, at a count of them that stands at its last value, and at a piece of some
+/// bytes without a byte of room, and nowhere else.
 #[derive(Drop)]
 pub struct MemSink {
     written: Vec<u8>,
@@ -57,6 +57,8 @@ impl Sink for MemSink {
 
     ghost fault_count = { λ s. s.plan.faults };
 
+    ghost waiting = { λ _. 0 };
+
     fn put(&mut self, piece: &[u8]) -> Result<usize, Failed>
         ensures within { IfOk result (λ n. n ≤ length piece.now) }
         ensures advances { IfOk result (λ n. 0 < length piece.now → 0 < n) }
@@ -75,6 +77,14 @@ impl Sink for MemSink {
         let count = piece.len().min(free);
         self.written.extend_from_slice(&piece[..count]).unwrap();
         Ok(count)
+    }
+
+    fn flush(&mut self) -> Result<(), Failed>
+        // It keeps nothing back.
+        ensures flushed { IsOk result }
+        ensures unchanged { self.new ≡ self.old }
+    {
+        Ok(())
     }
 
     fn faults(&self) -> u64 {

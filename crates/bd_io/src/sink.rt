@@ -13,6 +13,9 @@ pub trait Sink {
     /// How often it has failed, up to a u64's last value.
     ghost fault_count: { Self → ℕ };
 
+    /// How many of the written bytes it still keeps back, 0 where it passes each on at once.
+    ghost waiting: { Self → ℕ };
+
     /// Writes a front part of `piece`, and says how many bytes: at least 1 of a piece that isn't
     /// empty. At `Failed` nothing was written, and the count of faults has risen in this call or
     /// stands at its last value.
@@ -22,6 +25,13 @@ pub trait Sink {
         ensures bytes { IfOk result
             (λ n. written self.new ≡ append_known (written self.old) (take n piece.now)) }
         ensures kept { OnErr result (written self.new ≡ written self.old) }
+        ensures cause { HasCause (fault_count self.old) (fault_count self.new) result };
+
+    /// Passes on what it still keeps back of the written bytes. At `Failed` some of them may still
+    /// be kept back, and the count of faults has risen in this call or stands at its last value.
+    fn flush(&mut self) -> Result<(), Failed>
+        ensures flushed { OnOk result (waiting self.new ≡ 0) }
+        ensures bytes { written self.new ≡ written self.old }
         ensures cause { HasCause (fault_count self.old) (fault_count self.new) result };
 
     /// How often it has failed. It never falls, and stays at a u64's last value.
@@ -34,8 +44,14 @@ impl<K: Sink> Sink for &mut K {
 
     ghost fault_count = { λ k. K.fault_count k.now };
 
+    ghost waiting = { λ k. K.waiting k.now };
+
     fn put(&mut self, piece: &[u8]) -> Result<usize, Failed> {
         Sink::put(&mut **self, piece)
+    }
+
+    fn flush(&mut self) -> Result<(), Failed> {
+        Sink::flush(&mut **self)
     }
 
     fn faults(&self) -> u64 {

@@ -5,12 +5,12 @@ use Rattle.std.proofs.lemmas.Bool.{cases_lt}
 use Rattle.bd_limits.specs.Limits.{late_limit}
 use Rattle.bd_command.specs.Command.{writes}
 use Rattle.bd_command.specs.declared.Command.{Command}
-use Rattle.bd_command.specs.declared.Command.TheVariants.{Mkdir, Create, Write, Truncate, Remove, Rename, Clone, Read, Stat, List as Ls}
+use Rattle.bd_dirs.specs.Kinds.{Kind, Reads, Sends, SendsLate, Grafts, kind_of}
 use Rattle.bd_node.specs.Tables.{IsSound, root_at}
 use Rattle.bd_message.specs.KeyMaps.{SameAt}
 use Rattle.bd_memnodes.specs.Seen.{Seen}
 use Rattle.bd_tree.specs.Trees.{TreeState}
-use Rattle.bd_volume.specs.Views.{View, view_in, keys_in, AreFlushes, waiting_limit, HasFlushed, HasDrained, IsReadyFor}
+use Rattle.bd_volume.specs.Views.{View, view_in, keys_in, AreFlushes, limit_of, waiting_limit, HasFlushed, HasDrained, IsReadyFor}
 use Rattle.bd_volume.specs.Views.AreFlushes.{none, more}
 
 -- the tree has what it had
@@ -27,17 +27,14 @@ flushes_sound n v w (more m _ u _ h waits step walk) sound = step.flushed.sound
 pub not_flushed : (c : Command) (v : View) → HasFlushed c v v 0
 not_flushed c v = record { flushes = none v; few = lit≤ tt; called = λ h. absurd (omega (arith, h)) }
 
+kind_low : (kind : Kind) → limit_of kind ≤ late_limit
+kind_low Reads = lit≤ tt
+kind_low Sends = lit≤ tt
+kind_low SendsLate = lit≤ tt
+kind_low Grafts = lit≤ tt
+
 limit_low : (c : Command) → waiting_limit c ≤ late_limit
-limit_low (Mkdir path) = lit≤ tt
-limit_low (Create path) = lit≤ tt
-limit_low (Write path off bytes) = lit≤ tt
-limit_low (Truncate path len) = lit≤ tt
-limit_low (Remove path) = lit≤ tt
-limit_low (Rename a b) = lit≤ tt
-limit_low (Clone a b) = lit≤ tt
-limit_low (Read path off len) = lit≤ tt
-limit_low (Stat path) = lit≤ tt
-limit_low (Ls path after) = lit≤ tt
+limit_low c = kind_low (kind_of c)
 
 -- ---- a command is ready
 

@@ -1,24 +1,25 @@
 -- What messages and grafts make of a view.
-use Rattle.std.proofs.Common.{◌≡◌, ℕ, ◌+◌, ◌-◌, ◌*◌, ◌≤◌, List, Bool, arith}
-use Rattle.std.specs.Prelude.{Result, Ok, Err, OnOk, OnErr, Some, IsTrue}
+use Rattle.std.proofs.Common.{◌≡◌, ℕ, ◌+◌, ◌-◌, ◌*◌, ◌≤◌, List, Bool, sym, subst, arith}
+use Rattle.std.specs.Prelude.{Result, Ok, Err, OnOk, OnErr, Some}
 use Rattle.std.proofs.lemmas.List.Sums.{sum_by-le}
 use Rattle.std.specs.Prelude.{slice_index_or}
 use Rattle.bd_limits.specs.Limits.{key_limit, block_limit, late_limit, buffer_limit}
-use Rattle.bd_command.specs.Command.{writes}
 use Rattle.bd_command.specs.declared.Command.{Command}
-use Rattle.bd_command.specs.declared.Command.TheVariants.{Mkdir, Create, Write, Truncate, Remove, Rename, Clone, Read, Stat, List as Ls}
+use Rattle.bd_model.specs.Tree.{Tree}
 use Rattle.bd_message.specs.declared.message.Message.{Message}
 use Rattle.bd_message.specs.Messages.{size}
-use Rattle.bd_message.specs.KeyMaps.{CanGraft}
+use Rattle.bd_message.specs.KeyMaps.{At, CanGraft}
 use Rattle.bd_represent.specs.Plans.{IsSmallBatch}
+use Rattle.bd_dirs.specs.declared.plan.Plan.{Plan}
 use Rattle.bd_dirs.specs.declared.plan.Plan.TheVariants.{Apply, Graft}
-use Rattle.bd_dirs.specs.Plans.{IsPlanKind, IsReady}
+use Rattle.bd_dirs.specs.Plans.{IsPlan, IsReady}
+use Rattle.bd_dirs.specs.Sendings.{Sending}
 use Rattle.bd_node.specs.declared.node.Node.{Node}
-use Rattle.bd_node.specs.Tables.{Table, IsSound, IsStored}
+use Rattle.bd_node.specs.Tables.{Table, IsSound, IsStored, root_at}
 use Rattle.bd_node.specs.Steps.{IsCommitted, append_step, grown}
 use Rattle.bd_node.specs.Stores.{FitsRoot}
 use Rattle.bd_graft.specs.Grafting.{IsGrown, IsGraftStep, AreOthersSame}
-use Rattle.bd_volume.specs.Views.{View, HasAppended, HasGrafted, HasSent}
+use Rattle.bd_volume.specs.Views.{View, HasAppended, HasGrafted, HasSent, IsReadyFor, IsMoved}
 use Rattle.bd_volume.proofs.Carried.{size_few}
 
 -- views with the same parts are the same
@@ -43,23 +44,25 @@ small_fits list t small low = record {
 
 pub appended : {T E : Type 0} (r : Result T E) (old new : View) (list : List Message) → IsSound old.nodes old.table
     → ((root : Node) → old.nodes old.table.root ≡ Some root → OnOk r (IsCommitted old.nodes old.table (append_step old.table root list) new.nodes new.table))
-    → OnOk r (new.table ≡ grown old.table list) → new.walk ≡ old.walk → OnOk r (HasAppended old new)
+    → OnOk r (new.table ≡ grown old.table list) → new.walk ≡ old.walk → OnOk r (HasAppended list old new)
 appended (Err e) old new list sound committed table walk = tt
 appended (Ok x) old new list sound committed table walk =
     let root : IsStored old.nodes old.table old.table.root = sound.each old.table.root sound.table.root in
-    record { list = list; root = root.node; there = root.there; node_is = committed root.node root.there; table_is = table; walk_is = walk }
+    record { root = root.node; there = root.there; node_is = committed root.node root.there; table_is = table; walk_is = walk }
 
-pub messages_sent : (c : Command) (list : List Message) (old new : View) → IsTrue (writes c) → IsPlanKind c (Apply list) → HasAppended old new → HasSent c old new
-messages_sent (Mkdir path) list old new w kind h = h
-messages_sent (Create path) list old new w kind h = h
-messages_sent (Write path off bytes) list old new w kind h = h
-messages_sent (Truncate path len) list old new w kind h = h
-messages_sent (Remove path) list old new w kind h = h
-messages_sent (Rename a b) list old new w kind h = absurd kind
-messages_sent (Clone a b) list old new w kind h = absurd kind
-messages_sent (Read path off len) list old new w kind h = cc
-messages_sent (Stat path) list old new w kind h = cc
-messages_sent (Ls path after) list old new w kind h = cc
+-- messages that were planned are those that the command sends
+pub messages_moved : (t : Tree) (c : Command) (plan : Plan) (list sent : List Message) (old mid new : View) → plan ≡ Apply list → sent ≡ list → IsPlan (root_at old.nodes old.table) t c plan
+    → IsReadyFor c old mid → HasAppended sent mid new → IsMoved t c old new
+messages_moved t c plan list sent old mid new is same h ready appended =
+    let at : At = root_at old.nodes old.table in
+    let p : IsPlan at t c (Apply list) = subst (IsPlan at t c) is h in
+    record {
+      made = ready.made;
+      mid = mid;
+      flushed = ready.flushed;
+      enough = ready.enough;
+      sent = subst (λ (x : Sending). HasSent x mid new) (sym p.2) (subst (λ (x : List Message). HasAppended x mid new) same appended);
+    }
 
 -- ---- grafts
 
@@ -68,12 +71,9 @@ can_graft s d keep t ready low = record { source = ready.0; target = ready.1; ou
 
 pub grafted : {T E : Type 0} (r : Result T E) (old new : View) (s d : List ℕ) (keep : Bool) (before now : ℕ) → OnOk r (IsGraftStep old.nodes old.table s d keep new.nodes new.table)
     → OnOk r (AreOthersSame old.nodes old.table new.nodes new.table) → OnOk r (IsGrown old.table new.table) → OnOk r (new.walk.visits ≡ now - before)
-    → OnOk r (new.walk.height ≡ old.table.level old.table.root + 1) → now ≤ before + (5 * (old.table.level old.table.root + 1) + 2) → OnOk r (HasGrafted old new)
+    → OnOk r (new.walk.height ≡ old.table.level old.table.root + 1) → now ≤ before + (5 * (old.table.level old.table.root + 1) + 2) → OnOk r (HasGrafted s d keep old new)
 grafted (Err e) old new s d keep before now step others table visits height few = tt
 grafted (Ok x) old new s d keep before now step others table visits height few = record {
-  s = s;
-  d = d;
-  keep = keep;
   step = step;
   others = others;
   table_is = table;
@@ -81,14 +81,17 @@ grafted (Ok x) old new s d keep before now step others table visits height few =
   visits_are = omega (arith, visits, height, few);
 }
 
-pub graft_sent : (c : Command) (s d : List ℕ) (keep : Bool) (old new : View) → IsTrue (writes c) → IsPlanKind c (Graft s d keep) → HasGrafted old new → HasSent c old new
-graft_sent (Mkdir path) s d keep old new w kind h = absurd kind
-graft_sent (Create path) s d keep old new w kind h = absurd kind
-graft_sent (Write path off bytes) s d keep old new w kind h = absurd kind
-graft_sent (Truncate path len) s d keep old new w kind h = absurd kind
-graft_sent (Remove path) s d keep old new w kind h = absurd kind
-graft_sent (Rename a b) s d keep old new w kind h = h
-graft_sent (Clone a b) s d keep old new w kind h = h
-graft_sent (Read path off len) s d keep old new w kind h = absurd kind
-graft_sent (Stat path) s d keep old new w kind h = absurd kind
-graft_sent (Ls path after) s d keep old new w kind h = absurd kind
+-- a graft that was planned is the one that the command comes to
+pub graft_moved : (t : Tree) (c : Command) (plan : Plan) (s d s2 d2 : List ℕ) (keep : Bool) (old mid new : View) → plan ≡ Graft s d keep → s2 ≡ s → d2 ≡ d → IsPlan (root_at old.nodes old.table) t c plan
+    → IsReadyFor c old mid → HasGrafted s2 d2 keep mid new → IsMoved t c old new
+graft_moved t c plan s d s2 d2 keep old mid new is es ed h ready grafted =
+    let at : At = root_at old.nodes old.table in
+    let p : IsPlan at t c (Graft s d keep) = subst (IsPlan at t c) is h in
+    record {
+      made = ready.made;
+      mid = mid;
+      flushed = ready.flushed;
+      enough = ready.enough;
+      sent = subst (λ (x : Sending). HasSent x mid new) (sym p.2)
+          (subst (λ (x : List ℕ). HasGrafted x d keep mid new) es (subst (λ (x : List ℕ). HasGrafted s2 x keep mid new) ed grafted));
+    }

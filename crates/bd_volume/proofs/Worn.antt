@@ -5,7 +5,6 @@ use Rattle.bd_io.specs.Cause.{Rose}
 use Rattle.bd_limits.specs.Limits.{soft_limit}
 use Rattle.bd_command.specs.Command.{writes}
 use Rattle.bd_command.specs.declared.Command.{Command}
-use Rattle.bd_command.specs.declared.Command.TheVariants.{Mkdir, Create, Write, Truncate, Remove, Rename, Clone, Read, Stat, List as Ls}
 use Rattle.bd_message.specs.declared.fault.Counter.{Counter}
 use Rattle.bd_message.specs.declared.fault.Counter.TheVariants.{Count, NextId, Level, Refs, Epoch, Flushes}
 use Rattle.bd_message.specs.declared.fault.MapFault.{MapFault}
@@ -16,10 +15,11 @@ use Rattle.bd_flush.specs.Flushed.{IsWornFor}
 use Rattle.bd_graft.specs.Grafting.{IsWornForGraft}
 use Rattle.bd_dirs.specs.declared.plan.Plan.{Plan}
 use Rattle.bd_dirs.specs.declared.plan.Plan.TheVariants.{Graft}
-use Rattle.bd_dirs.specs.Plans.{IsPlanKind}
+use Rattle.bd_dirs.specs.Kinds.{Kind, Reads, Sends, SendsLate, Grafts, kind_of}
+use Rattle.bd_dirs.specs.Plans.{IsPlanOf, IsPlanKind}
 use Rattle.bd_volume.specs.declared.Fault.{Fault}
 use Rattle.bd_volume.specs.declared.Fault.TheVariants.{Device, Damaged, Worn, NoMemory, Full, Stopped}
-use Rattle.bd_volume.specs.Views.{View, AreFlushes, waiting_limit, HasFlushed, IsStoppedBy, IsReadyFor, IsWornAfter, IsWornForStep, IsWornForMove, IsWornForSending, IsWornNow, Wears}
+use Rattle.bd_volume.specs.Views.{View, AreFlushes, waiting_limit, HasFlushed, IsStoppedBy, IsReadyFor, IsWornAfter, IsWornForStep, IsWornForMove, IsWornByKind, IsWornForSending, IsWornNow, Wears}
 use Rattle.bd_volume.specs.Over.{fault_of, IsFlushFault, IsGraftFault, IsVolumeFault, IsHalted}
 use Rattle.bd_volume.proofs.Flushes.{flushes_same, flushed_as_called}
 use Rattle.bd_volume.proofs.Sent.{view_is}
@@ -95,17 +95,11 @@ flush_halts (map.Worn which) count c old new counts many h = stopped_wears which
 flush_halts map.NoMemory count c old new counts many h = (h.made, flushed_as_called c old new h.made counts many h.flushes h.few)
 
 -- where its graft isn't made
-sending : (which : Counter) (c : Command) (old new : View) (s d : List ℕ) (keep : Bool) → IsTrue (writes c) → IsPlanKind c (Graft s d keep) → IsWornForMove which c old new → IsWornForSending which c old new
-sending which (Mkdir path) old new s d keep w kind h = absurd kind
-sending which (Create path) old new s d keep w kind h = absurd kind
-sending which (Write path off bytes) old new s d keep w kind h = absurd kind
-sending which (Truncate path len) old new s d keep w kind h = absurd kind
-sending which (Remove path) old new s d keep w kind h = absurd kind
-sending which (Rename a b) old new s d keep w kind h = h
-sending which (Clone a b) old new s d keep w kind h = h
-sending which (Read path off len) old new s d keep w kind h = absurd kind
-sending which (Stat path) old new s d keep w kind h = absurd kind
-sending which (Ls path after) old new s d keep w kind h = absurd kind
+worn_kind : (kind : Kind) (which : Counter) (c : Command) (old new : View) (s d : List ℕ) (keep : Bool) → IsPlanOf kind (Graft s d keep) → IsWornForMove which c old new → IsWornByKind kind which c old new
+worn_kind Reads which c old new s d keep plan h = absurd plan
+worn_kind Sends which c old new s d keep plan h = absurd plan
+worn_kind SendsLate which c old new s d keep plan h = absurd plan
+worn_kind Grafts which c old new s d keep plan h = h
 
 graft_worn : (which : Counter) (count : ℕ) (c : Command) (made : ℕ) (old new : View) → IsWornForGraft new.table which → IsWornForSending which c old new → IsWornNow which count c made old new
 graft_worn Count count c made old new h s = absurd h
@@ -123,7 +117,7 @@ graft_halts (map.Worn which) count c old new s d keep w kind ready h = record {
   counts = w;
   made = ready.made;
   flushed = ready.flushed;
-  worn = graft_worn which count c ready.made old new h (sending which c old new s d keep w kind (record { enough = ready.enough; worn = h }));
+  worn = graft_worn which count c ready.made old new h (worn_kind (kind_of c) which c old new s d keep kind (record { enough = ready.enough; worn = h }));
 }
 graft_halts map.NoMemory count c old new s d keep w kind ready h = (ready.made, ready.flushed)
 

@@ -3,7 +3,7 @@ use Rattle.std.specs.Prelude.{◌≡◌, ℕ, ◌+◌, ◌*◌, ◌^◌, ◌<◌
 use Rattle.bd_limits.specs.Limits.{soft_limit, late_limit, flush_limit}
 use Rattle.bd_command.specs.Command.{writes}
 use Rattle.bd_command.specs.declared.Command.{Command}
-use Rattle.bd_command.specs.declared.Command.TheVariants.{Mkdir, Create, Write, Truncate, Remove, Rename, Clone, Read, Stat, List as Ls}
+use Rattle.bd_model.specs.Tree.{Tree}
 use Rattle.bd_records.specs.declared.Record.TheVariants.{Dir}
 use Rattle.bd_records.specs.Records.{record_bytes}
 use Rattle.bd_message.specs.declared.fault.Counter.{Counter}
@@ -12,6 +12,8 @@ use Rattle.bd_message.specs.declared.message.Message.{Message}
 use Rattle.bd_message.specs.declared.message.Message.TheVariants.{Put}
 use Rattle.bd_message.specs.KeyMaps.{At}
 use Rattle.bd_represent.specs.EntryKeys.{record_key}
+use Rattle.bd_dirs.specs.Kinds.{Kind, Reads, Sends, SendsLate, Grafts, kind_of}
+use Rattle.bd_dirs.specs.Sendings.{Sending, Nothing, Batch, Move, sending}
 use Rattle.bd_node.specs.declared.node.Node.{Node}
 use Rattle.bd_node.specs.Nodes.{appended}
 use Rattle.bd_node.specs.Meaning.{Nodes}
@@ -62,18 +64,15 @@ pub data AreFlushes : ℕ → View → View → Type 0 where
   more : (n : ℕ) (v w x : View) → AreFlushes n v w → soft_limit < w.table.size
       → IsFlushStep w.nodes w.table x.nodes x.table → x.walk ≡ w.walk → AreFlushes (n + 1) v x
 
--- up to this many bytes that wait in the root, the command flushes nothing
+-- up to this many bytes that wait in the root, a command flushes nothing
+abbrev pub limit_of : Kind → ℕ
+limit_of Reads = soft_limit
+limit_of Sends = soft_limit
+limit_of SendsLate = late_limit
+limit_of Grafts = soft_limit
+
 abbrev pub waiting_limit : Command → ℕ
-waiting_limit (Mkdir path) = soft_limit
-waiting_limit (Create path) = soft_limit
-waiting_limit (Write path off bytes) = soft_limit
-waiting_limit (Truncate path len) = late_limit
-waiting_limit (Remove path) = late_limit
-waiting_limit (Rename a b) = soft_limit
-waiting_limit (Clone a b) = soft_limit
-waiting_limit (Read path off len) = soft_limit
-waiting_limit (Stat path) = soft_limit
-waiting_limit (Ls path after) = soft_limit
+waiting_limit c = limit_of (kind_of c)
 
 -- so many flush steps were made for a command: at most 65,536, and none but for a writing command
 -- that finds more bytes than its limit
@@ -88,9 +87,8 @@ HasEnough c old mid = waiting_limit c < old.table.size → mid.table.size ≤ so
 
 -- ---- what an accepted command leaves
 
--- messages were put after those of the root, and no more
-pub record HasAppended (old new : View) : Type 0 where
-  pub list : List Message
+-- these messages were put after those of the root, and no more
+pub record HasAppended (list : List Message) (old new : View) : Type 0 where
   pub root : Node
   pub there : old.nodes old.table.root ≡ Some root
   pub node_is : IsCommitted old.nodes old.table (append_step old.table root list)
@@ -98,38 +96,28 @@ pub record HasAppended (old new : View) : Type 0 where
   pub table_is : new.table ≡ grown old.table list
   pub walk_is : new.walk ≡ old.walk
 
--- a graft was made: in a tree of height h it visited at most 5h + 2 nodes, and each other kept node
--- is what it was and has what it had
-pub record HasGrafted (old new : View) : Type 0 where
-  pub s : List ℕ
-  pub d : List ℕ
-  pub keep : Bool
+-- this graft was made: in a tree of height h it visited at most 5h + 2 nodes, and each other kept
+-- node is what it was and has what it had
+pub record HasGrafted (s d : List ℕ) (keep : Bool) (old new : View) : Type 0 where
   pub step : IsGraftStep old.nodes old.table s d keep new.nodes new.table
   pub others : AreOthersSame old.nodes old.table new.nodes new.table
   pub table_is : IsGrown old.table new.table
   pub height_is : new.walk.height ≡ old.table.level old.table.root + 1
   pub visits_are : new.walk.visits ≤ 5 * new.walk.height + 2
 
--- a clone and a rename are grafts, and each other command sends messages
-abbrev pub HasSent : Command → View → View → Type 0
-HasSent (Mkdir path) old new = HasAppended old new
-HasSent (Create path) old new = HasAppended old new
-HasSent (Write path off bytes) old new = HasAppended old new
-HasSent (Truncate path len) old new = HasAppended old new
-HasSent (Remove path) old new = HasAppended old new
-HasSent (Rename a b) old new = HasGrafted old new
-HasSent (Clone a b) old new = HasGrafted old new
-HasSent (Read path off len) old new = ⊥
-HasSent (Stat path) old new = ⊥
-HasSent (Ls path after) old new = ⊥
+-- what a command sends was sent
+abbrev pub HasSent : Sending → View → View → Type 0
+HasSent Nothing old new = ⊥
+HasSent (Batch list) old new = HasAppended list old new
+HasSent (Move s d keep) old new = HasGrafted s d keep old new
 
--- an accepted writing command flushes what it has to, and is then sent
-pub record IsMoved (c : Command) (old new : View) : Type 0 where
+-- a writing command that a tree accepts flushes what it has to, and then sends just what it comes to
+pub record IsMoved (t : Tree) (c : Command) (old new : View) : Type 0 where
   pub made : ℕ
   pub mid : View
   pub flushed : HasFlushed c old mid made
   pub enough : HasEnough c old mid
-  pub sent : HasSent c mid new
+  pub sent : HasSent (sending (root_at old.nodes old.table) t c) mid new
 
 -- ---- what a fault leaves
 
@@ -155,17 +143,14 @@ pub record IsWornForMove (which : Counter) (c : Command) (old new : View) : Type
   pub worn : IsWornForGraft new.table which
 
 -- the counter has no room for the sending of a command: it is a graft
+abbrev pub IsWornByKind : Kind → Counter → Command → View → View → Type 0
+IsWornByKind Reads which c old new = ⊥
+IsWornByKind Sends which c old new = ⊥
+IsWornByKind SendsLate which c old new = ⊥
+IsWornByKind Grafts which c old new = IsWornForMove which c old new
+
 abbrev pub IsWornForSending : Counter → Command → View → View → Type 0
-IsWornForSending which (Mkdir path) old new = ⊥
-IsWornForSending which (Create path) old new = ⊥
-IsWornForSending which (Write path off bytes) old new = ⊥
-IsWornForSending which (Truncate path len) old new = ⊥
-IsWornForSending which (Remove path) old new = ⊥
-IsWornForSending which (Rename a b) old new = IsWornForMove which (Rename a b) old new
-IsWornForSending which (Clone a b) old new = IsWornForMove which (Clone a b) old new
-IsWornForSending which (Read path off len) old new = ⊥
-IsWornForSending which (Stat path) old new = ⊥
-IsWornForSending which (Ls path after) old new = ⊥
+IsWornForSending which c old new = IsWornByKind (kind_of c) which c old new
 
 -- which counter has no room, where so many commands were accepted and this one has made so many
 -- flush steps from the first view to the second

@@ -130,10 +130,11 @@ impl<D: Device + Drop> Volume<D> {
         ensures stays { OnErr result ((t : Tree) (n : ℕ) → StandsFor self.old t n
             → StandsFor self.new t n) }
 
-        // An accepted writing command moves the view by flush steps and what it sends; a fault
-        // leaves flush steps alone, and none for a command that is refused.
+        // An accepted writing command moves the view by flush steps and by just what it sends; a
+        // fault leaves flush steps alone, and none for a command that is refused.
         ensures moved { IfOk result (λ reply. accepted command.now reply ≡ 1
-            → IsMoved command.now (view_of self.old) (view_of self.new)) }
+            → (t : Tree) (n : ℕ) → StandsFor self.old t n
+            → IsMoved t command.now (view_of self.old) (view_of self.new)) }
         ensures unmoved { IfOk result (λ reply. accepted command.now reply ≡ 0
             → view_of self.new ≡ view_of self.old) }
         ensures halted { OnErr result ((made : ℕ)

@@ -33,8 +33,9 @@ pub fn execute(
     ensures step { (t : Tree) → IsTree t → Represents (keys_in tree.old) t
         → IfOk result (TakesStep t command.now (keys_in tree.new)) }
     ensures stays { OnErr result (SameAt (keys_in tree.old) (keys_in tree.new)) }
-    ensures moved { IfOk result (λ reply. accepted command.now reply ≡ 1
-        → IsMoved command.now (view_in tree.old) (view_in tree.new)) }
+    ensures moved { (t : Tree) → IsTree t → Represents (keys_in tree.old) t
+        → IfOk result (λ reply. accepted command.now reply ≡ 1
+        → IsMoved t command.now (view_in tree.old) (view_in tree.new)) }
     ensures unmoved { IfOk result (λ reply. accepted command.now reply ≡ 0
         → view_in tree.new ≡ view_in tree.old) }
     ensures halted { IfErr result (λ fault.
@@ -95,8 +96,9 @@ fn carry_out(
         → IsPlan (keys_in tree.old) t command.now plan
         → IfOk result (TakesStep t command.now (keys_in tree.new)) }
     ensures stays { OnErr result (SameAt (keys_in tree.old) (keys_in tree.new)) }
-    ensures moved { IfOk result (λ reply. accepted command.now reply ≡ 1
-        → IsMoved command.now (view_in tree.old) (view_in tree.new)) }
+    ensures moved { (t : Tree) → IsPlan (keys_in tree.old) t command.now plan
+        → IfOk result (λ reply. accepted command.now reply ≡ 1
+        → IsMoved t command.now (view_in tree.old) (view_in tree.new)) }
     ensures unmoved { IfOk result (λ reply. accepted command.now reply ≡ 0
         → view_in tree.new ≡ view_in tree.old) }
     ensures halted { IfErr result (λ fault.

@@ -18,7 +18,7 @@ use bd_message::{MapFault, Message};
 pub fn append(tree: &mut MemTree, list: &[Message]) -> Result<(), MapFault>
     requires small { IsSmallBatch list.now }
     requires room { (table tree.old.store).size ≤ late_limit }
-    ensures appended { OnOk result (HasAppended (view_in tree.old) (view_in tree.new)) }
+    ensures appended { OnOk result (HasAppended list.now (view_in tree.old) (view_in tree.new)) }
     ensures applied { OnOk result (IsApplied (keys_in tree.old) list.now (keys_in tree.new)) }
     ensures stays { OnErr result (view_in tree.new ≡ view_in tree.old) }
     ensures fault { IfErr result (λ fault. fault ≡ MapFault.NoMemory) }
@@ -31,7 +31,8 @@ pub fn append(tree: &mut MemTree, list: &[Message]) -> Result<(), MapFault>
 pub fn graft(tree: &mut MemTree, s: &[u8], d: &[u8], keep: bool) -> Result<(), MapFault>
     requires ready { IsReady (plan.Graft s.now d.now keep) }
     requires room { (table tree.old.store).size ≤ late_limit }
-    ensures made { OnOk result (HasGrafted (view_in tree.old) (view_in tree.new)) }
+    ensures made { OnOk result (HasGrafted s.now d.now keep
+        (view_in tree.old) (view_in tree.new)) }
     ensures grafted { OnOk result (IsGrafted (keys_in tree.old) s.now d.now keep
         (keys_in tree.new)) }
     ensures stays { OnErr result (view_in tree.new ≡ view_in tree.old) }

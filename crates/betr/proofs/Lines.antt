@@ -32,17 +32,17 @@ moves_by false P Q moved unmoved = unmoved refl
 -- a command's reply is the step's, and the view moves by it
 pub run_replies : {D : Type 0} (v w : Volume D) (s : State) (line : Line) (c : Command) (said : Reply) → VolumeAt v s → line ≡ Run c
     → IsLine line → said ≡ (step s.tree c).1 → StandsFor w (step s.tree c).0 (s.count + accepted c said)
-    → (accepted c said ≡ 1 → IsMoved c (view_of v) (view_of w)) → (accepted c said ≡ 0 → view_of w ≡ view_of v)
+    → (accepted c said ≡ 1 → IsMoved s.tree c (view_of v) (view_of w)) → (accepted c said ≡ 0 → view_of w ≡ view_of v)
     → Replies s (Ok line) (reply.Command said) (VolumeAt w)
 run_replies v w s line c said at is limits said_is stands moved unmoved =
     let after : State = state_of_step s c (view_of w) in
-    let move : Moves c said (view_of v) (view_of w) =
-    moves_by (writes c && is_done said) (IsMoved c (view_of v) (view_of w)) (view_of w ≡ view_of v) moved unmoved in
+    let move : Moves s.tree c said (view_of v) (view_of w) =
+    moves_by (writes c && is_done said) (IsMoved s.tree c (view_of v) (view_of w)) (view_of w ≡ view_of v) moved unmoved in
     let follows : Follows s (Ok (Run c)) (reply.Command said) after = record {
       limits = subst IsLine is limits;
       said_is = ap reply.Command said_is;
       after_is = refl;
-      moved = subst (λ r. Moves c r s.view (view_of w)) said_is (subst (λ old. Moves c said old (view_of w)) at.view_is move);
+      moved = subst (λ r. Moves s.tree c r s.view (view_of w)) said_is (subst (λ old. Moves s.tree c said old (view_of w)) at.view_is move);
       represents = stands.represents;
     } in
     record {
@@ -120,7 +120,7 @@ line_fails Sink s line at w f = absurd f
 pub line_fault_caused : (e : Fault) (n : ℕ) → IsLineFault e → Caused e (of_sink n) (of_sink n)
 line_fault_caused Device n f = absurd f
 line_fault_caused Source n f = absurd f
-line_fault_caused Memory n f = tt
-line_fault_caused TooLong n f = tt
-line_fault_caused (Worn which) n f = tt
+line_fault_caused Memory n f = refl
+line_fault_caused TooLong n f = refl
+line_fault_caused (Worn which) n f = refl
 line_fault_caused Sink n f = absurd f

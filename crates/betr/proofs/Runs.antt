@@ -1,15 +1,15 @@
 -- How a whole run begins and ends.
-use Rattle.std.proofs.Common.{◌≡◌, ◌⊎◌, ℕ, ◌+◌, ◌≤◌, List, [], ◌∷◌, ◌++◌, length, refl, ap, subst, ◌∙◌, arith, inl, inr, length-append}
+use Rattle.std.proofs.Common.{◌≡◌, ◌⊎◌, ℕ, ◌+◌, ◌<◌, ◌≤◌, List, [], ◌∷◌, ◌++◌, length, refl, ap, subst, ◌∙◌, arith, inl, inr, length-append}
 use Rattle.std.specs.Prelude.{map, IfSome, IsSomeAnd}
 use Rattle.std.proofs.lemmas.List.{length-map}
 use Rattle.std.specs.declared.result.Result.{Result}
 use Rattle.std.specs.declared.result.Result.TheVariants.{Ok, Err}
 use Rattle.std.specs.declared.option.Option.{Option}
 use Rattle.std.specs.declared.option.Option.TheVariants.{None, Some}
-use Rattle.std.specs.Io.KnownBytes.{append_known, prepend_known}
+use Rattle.std.specs.Io.KnownBytes.{prepend_known}
 use Rattle.bd_limits.specs.Limits.{script_limit}
 use Rattle.bd_io.specs.Cause.{Rose}
-use Rattle.bd_io.specs.Written.{WrotePart}
+use Rattle.bd_io.specs.Takes.{Takes}
 use Rattle.bd_message.specs.declared.fault.Counter.TheVariants.{Count}
 use Rattle.bd_script.specs.Lines.{LineMeaning, line_of, lines_of}
 use Rattle.bd_script.proofs.CutLines.{lines_of-few}
@@ -20,7 +20,7 @@ use Rattle.betr.specs.Fault.{status_of, fault_line, Faults, Caused, IsCaused, of
 use Rattle.betr.specs.Transcript.{Entry, first_state, IsTranscript, executed, state_after, lines_to_run}
 use Rattle.betr.specs.Session.{end_of, HasNext, WornBy, RunsFrom, Session}
 use Rattle.betr.specs.Words.{Call}
-use Rattle.betr.specs.Run.{end_status, ends, WritesLast, WritesEnd, Went, IsFaultless}
+use Rattle.betr.specs.Run.{end_status, ends, WritesLast, WritesEnd, IsFlushed, Went, IsFaultless}
 use Rattle.betr.proofs.Transcripts.{up_to_stop-few, counts_few}
 
 -- what holds anyway holds of a call
@@ -46,39 +46,51 @@ never_worn es taken next chain few has worn =
     )
 
 -- so no session wears it
-never_counted : (end : Option Fault) (script rest old new : Option (List ℕ)) → Session end (λ s. s ≡ first_state) (λ _. Unit {0}) script rest old new
-    → end ≡ Some (Worn Count) → ⊥
-never_counted end script rest old new s is =
-    let P : Option Fault → Type 0 = λ e. RunsFrom e first_state (λ _. Unit {0}) s.taken script old new in
-    let r : RunsFrom (Some (Worn Count)) first_state (λ _. Unit {0}) s.taken script old new = subst P is (s.runs first_state refl) in
+never_counted : (end : Option Fault) (script rest old new : Option (List ℕ)) (first last : Option Takes)
+    → Session end (λ s. s ≡ first_state) (λ _. Unit {0}) script rest first last old new → end ≡ Some (Worn Count) → ⊥
+never_counted end script rest old new first last s is =
+    let P : Option Fault → Type 0 = λ e. RunsFrom e first_state (λ _. Unit {0}) s.front s.taken script old new in
+    let r : RunsFrom (Some (Worn Count)) first_state (λ _. Unit {0}) s.front s.taken script old new = subst P is (s.runs first_state refl) in
     never_worn r.entries s.taken r.among_taken.0 r.transcript r.taken_at r.among_taken.1 r.among_taken.2
 
 -- a session is a run, with its status and its last line
-pub went : (end : Option Fault) (status : ℕ) (acks : List Ack) (script rest old mid new : Option (List ℕ)) (before now : Faults)
-    → Session end (λ s. s ≡ first_state) (λ _. Unit {0}) script rest old mid → status ≡ end_status end
-    → WritesEnd end mid new before.sink now.sink → IfSome end (λ e. Caused e before now) → acks ≡ []
-    → Went first_state status acks (ends script old before) (ends rest new now)
-went end status acks script rest old mid new before now s is last cause none =
+pub went : (end : Option Fault) (status : ℕ) (acks : List Ack) (script rest : Option (List ℕ)) (first last : Option Takes) (old mid new : Option (List ℕ)) (before ended now : Faults)
+    → Session end (λ s. s ≡ first_state) (λ _. Unit {0}) script rest first last old mid → status ≡ end_status end
+    → IfSome end (λ e. Caused e before ended) → WritesEnd end mid new ended now → acks ≡ []
+    → Went first_state status acks (ends script first old before) (ends rest last new now)
+went end status acks script rest first last old mid new before ended now s is cause written none =
     let r = s.runs first_state refl in
     record {
       end = end;
       status_is = is;
-      uncounted = λ worn. never_counted end script rest old mid s worn;
+      uncounted = λ worn. never_counted end script rest old mid first last s worn;
       entries = r.entries;
       transcript = r.transcript;
+      front = s.front;
+      final = s.final;
       taken = s.taken;
       taken_is = s.taken_is;
+      script_is = s.script_is;
+      took = s.took;
+      begins = r.begins;
       among_taken = r.among_taken;
       among_script = r.among_script;
       taken_at = r.taken_at;
       replies = mid;
       replied = r.replied;
-      last = last;
+      ended = ended;
       cause = cause;
+      last = written;
       acked = none;
     }
 
--- ---- causes, where the sink's count goes on
+-- ---- the last line
+
+-- a last line is a fault's
+pub writes_end : (e : Fault) (line : List ℕ) (mid new : Option (List ℕ)) (device writes source sink later : ℕ) → line ≡ fault_line e
+    → WritesLast line mid new sink later
+    → WritesEnd (Some e) mid new (record { device = device; writes = writes; source = source; sink = sink }) (record { device = device; writes = writes; source = source; sink = later })
+writes_end e line mid new d w s sink later is h = (subst (λ l. WritesLast l mid new sink later) is h, refl)
 
 rose_later : (a b d : ℕ) → b ≤ d → Rose a b → Rose a d
 rose_later a b d h (inl r) = inl (omega arith)
@@ -88,22 +100,28 @@ rose_before : (a b d : ℕ) → a ≤ b → Rose b d → Rose a d
 rose_before a b d h (inl r) = inl (omega arith)
 rose_before a b d h (inr r) = inr r
 
-pub cause_later : (e : Fault) (before : Faults) (device writes source sink later : ℕ) → sink ≤ later
-    → Caused e before (record { device = device; writes = writes; source = source; sink = sink })
-    → Caused e before (record { device = device; writes = writes; source = source; sink = later })
-cause_later Device before d w s k l h c = c
-cause_later Source before d w s k l h c = c
-cause_later Memory before d w s k l h c = tt
-cause_later TooLong before d w s k l h c = tt
-cause_later (Worn which) before d w s k l h c = tt
-cause_later Sink before d w s k l h c = rose_later before.sink k l h c
+flushed_before : (waiting a b d : ℕ) → a ≤ b → IsFlushed waiting b d → IsFlushed waiting a d
+flushed_before waiting a b d h (inl none) = inl none
+flushed_before waiting a b d h (inr rose) = inr (rose_before a b d h rose)
 
--- a last line is a fault's, and the sink's count rose since the run began
-pub writes_end : (e : Fault) (line : List ℕ) (mid new : Option (List ℕ)) (first before now : ℕ) → line ≡ fault_line e → first ≤ before
-    → WritesLast line mid new before now → WritesEnd (Some e) mid new first now
-writes_end e line mid new first before now is later (inl whole) = inl (whole ∙ ap (append_known mid) is)
-writes_end e line mid new first before now is later (inr part) =
-    inr (subst (λ l. WrotePart l mid new) is part.0, rose_before first before now later part.1)
+-- with a fault's line all that was written is passed on, and where there is none the sink has failed
+pub flushed_end : (e : Fault) (line : List ℕ) (waiting : ℕ) (before ended : Faults) (later : ℕ) → line ≡ fault_line e → Caused e before ended
+    → before.sink ≤ ended.sink → ended.sink ≤ later → (0 < length line → IsFlushed waiting ended.sink later) → IsFlushed waiting before.sink later
+flushed_end Device line waiting before ended later is cause h k flushed = flushed_before waiting before.sink ended.sink later h (flushed (omega (arith, ap length is)))
+flushed_end Source line waiting before ended later is cause h k flushed = flushed_before waiting before.sink ended.sink later h (flushed (omega (arith, ap length is)))
+flushed_end Memory line waiting before ended later is cause h k flushed = flushed_before waiting before.sink ended.sink later h (flushed (omega (arith, ap length is)))
+flushed_end TooLong line waiting before ended later is cause h k flushed = flushed_before waiting before.sink ended.sink later h (flushed (omega (arith, ap length is)))
+flushed_end (Worn which) line waiting before ended later is cause h k flushed = flushed_before waiting before.sink ended.sink later h (flushed (omega (arith, ap length is)))
+flushed_end Sink line waiting before ended later is cause h k flushed = inr (rose_later before.sink ended.sink later k cause.0)
+
+-- a fault has a status of its own
+pub never_zero : (e : Fault) (status : ℕ) → status ≡ status_of e → status ≡ 0 → ⊥
+never_zero Device status is zero = omega (arith, is, zero)
+never_zero Source status is zero = omega (arith, is, zero)
+never_zero Memory status is zero = omega (arith, is, zero)
+never_zero TooLong status is zero = omega (arith, is, zero)
+never_zero (Worn which) status is zero = omega (arith, is, zero)
+never_zero Sink status is zero = omega (arith, is, zero)
 
 never_rose : Rose 0 0 → ⊥
 never_rose (inl r) = omega arith
@@ -113,7 +131,7 @@ never_rose (inr r) = omega arith
 pub never_device : {T : Type 0} (r : Result T Fault) (source sink source2 sink2 : ℕ) → IsCaused (of_ends source sink) (of_ends source2 sink2) r
     → end_status (end_of r) ≡ 3 → ⊥
 never_device (Ok x) a b d e h three = omega (arith, three)
-never_device (Err Device) a b d e h three = never_rose h.cause
+never_device (Err Device) a b d e h three = never_rose h.cause.0
 never_device (Err Source) a b d e h three = omega (arith, three)
 never_device (Err Memory) a b d e h three = omega (arith, three)
 never_device (Err TooLong) a b d e h three = omega (arith, three)
@@ -131,15 +149,17 @@ too_long script (Some more) taken long is short =
     omega (arith, few, long, length-append taken more)
 
 -- without a failure of the outside, memory or a counter ended the run
-pub faultless : (e : Fault) (call : Option Call) (script rest old new : Option (List ℕ)) (before now : Faults)
-    → Session (Some e) (λ s. s ≡ first_state) (λ _. Unit {0}) script rest old new → Caused e before now → IsFaultless call script before now
-    → (status_of e ≡ 6) ⊎ (status_of e ≡ 8)
-faultless Device call script rest old new before now s cause f = absurd (f.device cause)
-faultless Source call script rest old new before now s cause f = absurd (f.source cause)
-faultless Memory call script rest old new before now s cause f = inl refl
-faultless TooLong call script rest old new before now s cause f = absurd (too_long script rest s.taken (s.runs first_state refl).taken_at.0 s.taken_is f.short)
-faultless (Worn which) call script rest old new before now s cause f = inr refl
-faultless Sink call script rest old new before now s cause f = absurd (f.sink cause)
+pub faultless : (e : Fault) (call : Option Call) (script rest : Option (List ℕ)) (first last : Option Takes) (old new : Option (List ℕ)) (before : Faults)
+    (device writes source sink later : ℕ) → Session (Some e) (λ s. s ≡ first_state) (λ _. Unit {0}) script rest first last old new
+    → Caused e before (record { device = device; writes = writes; source = source; sink = sink }) → sink ≤ later
+    → IsFaultless call script before (record { device = device; writes = writes; source = source; sink = later }) → (status_of e ≡ 6) ⊎ (status_of e ≡ 8)
+faultless Device call script rest first last old new before d w o k l s cause h f = absurd (f.device cause.0)
+faultless Source call script rest first last old new before d w o k l s cause h f = absurd (f.source cause.0)
+faultless Memory call script rest first last old new before d w o k l s cause h f = inl refl
+faultless TooLong call script rest first last old new before d w o k l s cause h f =
+    absurd (too_long script rest s.taken (s.runs first_state refl).taken_at.0 s.script_is f.short)
+faultless (Worn which) call script rest first last old new before d w o k l s cause h f = inr refl
+faultless Sink call script rest first last old new before d w o k l s cause h f = absurd (f.sink (rose_later before.sink k l h cause.0))
 
 -- a status of either kind, past the first
 pub either_status : (status of : ℕ) → status ≡ of → (of ≡ 6) ⊎ (of ≡ 8) → (status ≡ 0) ⊎ (status ≡ 6) ⊎ (status ≡ 8)

@@ -1,5 +1,5 @@
 -- How the lines of a script are executed, piece by piece.
-use Rattle.std.proofs.Common.{◌≡◌, ℕ, ◌+◌, ◌<◌, ◌≤◌, Bool, true, false, cond, List, [], ◌∷◌, ◌++◌, length, take, refl, sym, ap, subst, ◌∙◌, append_assoc, arith, length-append, nat_eq, inl, inr}
+use Rattle.std.proofs.Common.{◌≡◌, ℕ, ◌+◌, ◌<◌, ◌≤◌, Bool, true, false, cond, ◌||◌, List, [], ◌∷◌, ◌++◌, length, take, refl, sym, ap, subst, ◌∙◌, append_assoc, arith, length-append, nat_eq, inl, inr}
 use Rattle.std.specs.Prelude.{map, IfSome, IfErr, OnOk, OnErr}
 use Rattle.std.specs.declared.result.Result.{Result}
 use Rattle.std.specs.declared.result.Result.TheVariants.{Ok, Err}
@@ -22,11 +22,11 @@ use Rattle.bd_script.proofs.CutLines.{some_pieces, whole_lines-more, open_line-m
 use Rattle.betr.specs.declared.fault.Fault.{Fault}
 use Rattle.betr.specs.declared.fault.Fault.TheVariants.{Device, Source, Memory, TooLong, Worn, Sink}
 use Rattle.betr.specs.Transcript.{State, Entry, text, executed, state_after, meanings, lines_to_run, IsFront}
-use Rattle.betr.specs.Session.{end_of, Executes, HasNext, Among, IsCutShort, WornBy, Leaves, RunsFrom, Session}
+use Rattle.betr.specs.Session.{end_of, Executes, HasNext, Among, AllComplete, BeginsWith, IsCutShort, WornBy, Leaves, RunsFrom, Session}
 use Rattle.betr.specs.Shell.{last_lines, IsHeld, RunFails, BreaksOff}
 use Rattle.betr.specs.declared.session.Taken.{Taken}
 use Rattle.betr.specs.declared.session.Taken.TheVariants as source_gave
-use Rattle.betr.specs.Taken.{IsTaken, taken_by, TakesNoMore, TookLast}
+use Rattle.betr.specs.Taken.{IsTaken, taken_by, Took, TookLast}
 use Rattle.betr.proofs.Left.{leaves_worn, ends_any}
 use Rattle.betr.proofs.Transcripts.{up_to_stop-none, up_to_stop-stopped, up_to_stop-append, up_to_stop-one, up_to_stop_front, IsFront-append, IsFront-trans, IsTranscript-append, state_after-append, executed-append}
 use Rattle.betr.proofs.Executes.{append_known-nil, executes_none, executes_more, executes_as, text-twice}
@@ -182,37 +182,30 @@ idle_more None (Some t) given h some = h
 idle_more (Some b) None given h some = h
 idle_more (Some b) (Some t) given h some = idle_by given t false (ne_zero given some) ∙ h
 
-took : (before t : Takes) (bytes given rest : List ℕ) (b : Bool) → nat_eq (length given) 0 ≡ b → list_any is_stop (meanings bytes) ≡ false
-    → length given ≤ piece_limit → t.idle ≡ before.idle → TookLast (bytes ++ (given ++ rest)) rest before (takes_after given t)
-took before t bytes given rest true e none short idle = record {
-  front = bytes;
-  script_is = refl;
-  no_stop = none;
+took_by : (given : List ℕ) (before t : Takes) (b : Bool) → nat_eq (length given) 0 ≡ b → length given ≤ piece_limit → t.idle ≡ before.idle
+    → TookLast given before (takes_after given t)
+took_by given before t true e short idle = record {
+  last_is = refl;
   short = short;
   idle = inr (nil_from_length given (eqb-true (length given) 0 e), idle_by given t true e ∙ ap next_count idle);
 }
-took before t bytes given rest false e none short idle = record {
-  front = bytes;
-  script_is = refl;
-  no_stop = none;
-  short = short;
-  idle = inl (idle_by given t false e ∙ idle);
-}
+took_by given before t false e short idle = record { last_is = refl; short = short; idle = inl (idle_by given t false e ∙ idle) }
 
 -- a last take, which gave these bytes
-pub takes_no_more : (script mid rest : Option (List ℕ)) (before at now : Option Takes) (bytes given : List ℕ)
-    → script ≡ prepend_known bytes mid → mid ≡ prepend_known given rest → list_any is_stop (meanings bytes) ≡ false → length given ≤ piece_limit
-    → IdleAlike before at → now ≡ option_map (takes_after given) at → TakesNoMore script rest before now
-takes_no_more script mid rest before at now bytes given first second none short idle told =
-    subst (λ n. TakesNoMore script rest before n) (sym told)
-    (subst (λ s. TakesNoMore s rest before (option_map (takes_after given) at)) (sym (first ∙ ap (prepend_known bytes) second)) (by rest before at idle))
+pub took : (front given : List ℕ) (before at now : Option Takes) → length given ≤ piece_limit → IdleAlike before at
+    → now ≡ option_map (takes_after given) at → Took front given before now
+took front given before at now short idle told =
+    subst (λ n. Took front given before n) (sym told) (by before at idle)
   where
-    by : (r : Option (List ℕ)) (b a : Option Takes) → IdleAlike b a
-        → TakesNoMore (prepend_known bytes (prepend_known given r)) r b (option_map (takes_after given) a)
-    by None b a h = tt
-    by (Some more) None a h = tt
-    by (Some more) (Some b) None h = h
-    by (Some more) (Some b) (Some t) h = inr (took b t bytes given more (nat_eq (length given) 0) refl none short h)
+    by : (b a : Option Takes) → IdleAlike b a → Took front given b (option_map (takes_after given) a)
+    by None a h = tt
+    by (Some b) None h = h
+    by (Some b) (Some t) h = inr (took_by given b t (nat_eq (length given) 0) refl short h)
+
+-- no take
+took_none : (t : Option Takes) → Took [] [] t t
+took_none None = tt
+took_none (Some t) = inl (refl, refl, refl)
 
 -- ---- where a session stands
 
@@ -225,6 +218,10 @@ pub record Stands (first now : State → Type 0) (line : List ℕ) (taken : ℕ)
   pub no_stop : list_any is_stop (meanings bytes) ≡ false
   pub line_is : line ≡ held (open_line bytes)
   pub idle : IdleAlike before at
+  pub front : List ℕ
+  pub final : List ℕ
+  pub split : bytes ≡ front ++ final
+  pub took : Took front final before at
   pub ran : (s : State) → first s → Executes s (meanings bytes) now old new
 
 -- nothing was taken yet
@@ -238,8 +235,17 @@ stands_first first line script w t none = record {
   no_stop = refl;
   line_is = none;
   idle = idle_alike t;
+  front = [];
+  final = [];
+  split = refl;
+  took = took_none t;
   ran = λ s h. executes_none s first w h;
 }
+
+-- a flush keeps what was written
+pub stands_kept : (first now : State → Type 0) (line : List ℕ) (taken : ℕ) (script rest a b c : Option (List ℕ)) (before at : Option Takes)
+    → Stands first now line taken script rest a b before at → c ≡ b → Stands first now line taken script rest a c before at
+stands_kept first now line taken script rest a b c before at s same = subst (λ w. Stands first now line taken script rest a w before at) (sym same) s
 
 held_twice : (bytes line : List ℕ) → line ≡ held (open_line bytes) → IsHeld line
 held_twice bytes line is =
@@ -252,10 +258,10 @@ stands_held {line = line} s = held_twice s.bytes line s.line_is
 -- a piece more
 pub stands_more : (first mid now : State → Type 0) (line line2 piece : List ℕ) (taken : ℕ) (script left rest a b c : Option (List ℕ)) (before at after : Option Takes)
     → Stands first mid line taken script left a b before at → taken + length piece ≤ script_limit → left ≡ prepend_known piece rest → 0 < length piece
-    → after ≡ option_map (takes_after piece) at
+    → length piece ≤ piece_limit → after ≡ option_map (takes_after piece) at
     → ((s : State) → mid s → Executes s (up_to_stop (meanings (line ++ piece))) now b c) → list_any is_stop (meanings (line ++ piece)) ≡ false
     → line2 ≡ held (open_line (line ++ piece)) → Stands first now line2 (taken + length piece) script rest a c before after
-stands_more first mid now line line2 piece taken script left rest a b c before at after s fits got some told x none is =
+stands_more first mid now line line2 piece taken script left rest a b c before at after s fits got some short told x none is =
     let lines = meanings-more s.bytes piece line s.line_is in
     record {
       bytes = s.bytes ++ piece;
@@ -265,17 +271,28 @@ stands_more first mid now line line2 piece taken script left rest a b c before a
       no_stop = ap (list_any is_stop) lines ∙ list_any-append is_stop (meanings s.bytes) (meanings (line ++ piece)) ∙ neither _ _ s.no_stop none;
       line_is = is ∙ held-more s.bytes piece line s.line_is;
       idle = subst (IdleAlike before) (sym told) (idle_more before at piece s.idle some);
+      front = s.bytes;
+      final = piece;
+      split = refl;
+      took = took s.bytes piece before at after short s.idle told;
       ran = λ t h. executes_as t _ _ now a c (sym lines) (executes_more t (meanings s.bytes) (meanings (line ++ piece)) mid now a b c (s.ran t h)
           (λ u k. executes_as u _ _ now b c (up_to_stop-none (meanings (line ++ piece)) none) (x u k)));
     }
 
 -- ---- a session's ends without a fault
 
-all_run : (s : State) (lines : List LineMeaning) (at : State → Type 0) (taken : List ℕ) (script old new : Option (List ℕ)) → Executes s lines at old new
-    → lines ≡ lines_to_run taken → IfSome script (λ bytes. lines ≡ lines_to_run bytes) → length taken ≤ script_limit → RunsFrom None s at taken script old new
-all_run s lines at taken script old new x among all few = record {
+-- lines that begin with those that are complete in some bytes
+begins_with : (bytes : List ℕ) (es : List Entry) (lines more : List LineMeaning) → executed es ≡ lines → lines ≡ meanings bytes ++ more
+    → list_any is_stop (meanings bytes) ≡ false → BeginsWith bytes es
+begins_with bytes es lines more are is none = record { rest = more; lines_are = are ∙ is; no_stop = none }
+
+all_run : (s : State) (lines more : List LineMeaning) (at : State → Type 0) (front taken : List ℕ) (script old new : Option (List ℕ)) → Executes s lines at old new
+    → lines ≡ meanings front ++ more → list_any is_stop (meanings front) ≡ false
+    → lines ≡ lines_to_run taken → IfSome script (λ bytes. lines ≡ lines_to_run bytes) → length taken ≤ script_limit → RunsFrom None s at front taken script old new
+all_run s lines more at front taken script old new x begins none among all few = record {
   entries = x.entries;
   transcript = x.transcript;
+  begins = begins_with front x.entries lines more x.lines_are begins none;
   among_taken = x.lines_are ∙ among;
   among_script = by script all;
   taken_at = few;
@@ -288,35 +305,44 @@ all_run s lines at taken script old new x among all few = record {
     by (Some bytes) h = x.lines_are ∙ h
 
 -- a `stop` ends the script
-pub session_stops : (first mid now : State → Type 0) (line piece : List ℕ) (taken : ℕ) (script left rest a b c : Option (List ℕ)) (before at : Option Takes)
+pub session_stops : (first mid now : State → Type 0) (line piece : List ℕ) (taken : ℕ) (script left rest a b c : Option (List ℕ)) (before at after : Option Takes)
     → Stands first mid line taken script left a b before at → taken + length piece ≤ script_limit → left ≡ prepend_known piece rest
+    → length piece ≤ piece_limit → after ≡ option_map (takes_after piece) at
     → ((s : State) → mid s → Executes s (up_to_stop (meanings (line ++ piece))) now b c) → list_any is_stop (meanings (line ++ piece)) ≡ true
-    → Session None first now script rest a c
-session_stops first mid now line piece taken script left rest a b c before at s fits got x some =
+    → Session None first now script rest before after a c
+session_stops first mid now line piece taken script left rest a b c before at after s fits got short told x some =
     let is = s.taken_is ∙ ap (prepend_known s.bytes) got ∙ prepend_known-append s.bytes piece rest in
     let lines : List LineMeaning = meanings s.bytes ++ up_to_stop (meanings (line ++ piece)) in
     let all = λ (more : List ℕ). sym (run_stopped s.bytes piece line more s.line_is s.no_stop some) in
     record {
+      front = s.bytes;
+      final = piece;
       taken = s.bytes ++ piece;
-      taken_is = is;
-      runs = λ t h. all_run t lines now (s.bytes ++ piece) script a c
-          (executes_more t (meanings s.bytes) (up_to_stop (meanings (line ++ piece))) mid now a b c (s.ran t h) x)
+      taken_is = refl;
+      script_is = is;
+      took = took s.bytes piece before at after short s.idle told;
+      runs = λ t h. all_run t lines (up_to_stop (meanings (line ++ piece))) now s.bytes (s.bytes ++ piece) script a c
+          (executes_more t (meanings s.bytes) (up_to_stop (meanings (line ++ piece))) mid now a b c (s.ran t h) x) refl s.no_stop
           (all [] ∙ ap lines_to_run (append-nil (s.bytes ++ piece)))
           (known (λ bytes. lines ≡ lines_to_run bytes) (s.bytes ++ piece) script rest is (λ more e. all more))
           (omega (arith, length-append s.bytes piece, s.count));
     }
 
 -- the script's end
-pub session_ends : (first mid now : State → Type 0) (line : List ℕ) (taken : ℕ) (script rest a b c : Option (List ℕ)) (before at : Option Takes)
-    → Stands first mid line taken script rest a b before at → IsAtEnd rest → ((s : State) → mid s → Executes s (last_lines line) now b c)
-    → Session None first now script rest a c
-session_ends first mid now line taken script rest a b c before at s end x =
+pub session_ends : (first mid now : State → Type 0) (line : List ℕ) (taken : ℕ) (script rest a b c : Option (List ℕ)) (before at after : Option Takes)
+    → Stands first mid line taken script rest a b before at → IsAtEnd rest → after ≡ option_map (takes_after []) at
+    → ((s : State) → mid s → Executes s (last_lines line) now b c) → Session None first now script rest before after a c
+session_ends first mid now line taken script rest a b c before at after s end told x =
     let lines : List LineMeaning = meanings s.bytes ++ last_lines line in
     let all : lines ≡ lines_to_run s.bytes = sym (run_ended s.bytes line s.line_is s.no_stop) in
     record {
+      front = s.bytes;
+      final = [];
       taken = s.bytes;
-      taken_is = s.taken_is;
-      runs = λ t h. all_run t lines now s.bytes script a c (executes_more t (meanings s.bytes) (last_lines line) mid now a b c (s.ran t h) x) all
+      taken_is = sym (append-nil s.bytes);
+      script_is = s.taken_is;
+      took = took s.bytes [] before at after (omega arith) s.idle told;
+      runs = λ t h. all_run t lines (last_lines line) now s.bytes s.bytes script a c (executes_more t (meanings s.bytes) (last_lines line) mid now a b c (s.ran t h) x) refl s.no_stop all
           (known (λ bytes. lines ≡ lines_to_run bytes) s.bytes script rest s.taken_is
           (λ more e. all ∙ ap lines_to_run (sym (ap (λ l. s.bytes ++ l) (end_is rest end more e) ∙ append-nil s.bytes))))
           (omega (arith, s.count, s.few));
@@ -351,7 +377,8 @@ cut_more xs ys a b c first cut = record {
 -- some lines, and then a fault within a piece
 broken : (e : Fault) (s : State) (mid now : State → Type 0) (bytes line piece : List ℕ) (script rest a b c : Option (List ℕ))
     → line ≡ held (open_line bytes) → list_any is_stop (meanings bytes) ≡ false → script ≡ prepend_known (bytes ++ piece) rest → length (bytes ++ piece) ≤ script_limit
-    → (x : Executes s (meanings bytes) mid a b) → BreaksOff e (state_after s x.entries) line piece now b c → RunsFrom (Some e) s now (bytes ++ piece) script a c
+    → (x : Executes s (meanings bytes) mid a b) → BreaksOff e (state_after s x.entries) line piece now b c → RunsFrom (Some e) s now bytes (bytes ++ piece) script a c
+unfolding cut_more
 broken Device s mid now bytes line piece script rest a b c is none taken few x y = absurd y.halts
 broken Source s mid now bytes line piece script rest a b c is none taken few x y = absurd y.halts
 broken TooLong s mid now bytes line piece script rest a b c is none taken few x y = absurd y.halts
@@ -364,9 +391,11 @@ broken Memory s mid now bytes line piece script rest a b c is none taken few x y
     let no_stop : list_any is_stop (meanings front) ≡ false =
     ap (list_any is_stop) lines_of_front ∙ list_any-append is_stop (meanings bytes) (meanings (line ++ y.halts.front)) ∙ neither _ _ none y.halts.no_stop in
     let joined : bytes ++ piece ≡ front ++ y.halts.rest = ap (λ l. bytes ++ l) y.halts.piece_is ∙ sym (append_assoc bytes y.halts.front y.halts.rest) in
+    let done : executed all ≡ meanings bytes ++ executed y.entries = executed-append x.entries y.entries ∙ ap (λ l. l ++ executed y.entries) x.lines_are in
     record {
       entries = all;
       transcript = IsTranscript-append s x.entries y.entries x.transcript y.transcript;
+      begins = begins_with bytes all _ (executed y.entries) done refl none;
       among_taken = subst (λ bs. Among (Some Memory) s bs all) (sym joined) (inr (next_of_more front y.halts.rest all lines no_stop y.halts.some));
       among_script = known (λ bs. Among (Some Memory) s bs all) (bytes ++ piece) script rest taken
           (λ more _. subst (λ bs. Among (Some Memory) s bs all) (sym (ap (λ l. l ++ more) joined ∙ append_assoc front y.halts.rest more))
@@ -385,6 +414,7 @@ broken (Worn which) s mid now bytes line piece script rest a b c is none taken f
     record {
       entries = all;
       transcript = IsTranscript-append s x.entries y.entries x.transcript y.transcript;
+      begins = begins_with bytes all _ (executed y.entries) done refl none;
       among_taken = subst (λ bs. Among (Some (Worn which)) s bs all) (append-nil (bytes ++ piece))
           (next, HasNext-front next (executed all) upto (lines_to_run ((bytes ++ piece) ++ [])) has (fed_front bytes piece line [] is none), worn);
       among_script = known (λ bs. Among (Some (Worn which)) s bs all) (bytes ++ piece) script rest taken
@@ -398,27 +428,37 @@ broken Sink s mid now bytes line piece script rest a b c is none taken few x y =
     let upto : List LineMeaning = meanings bytes ++ up_to_stop (meanings (line ++ piece)) in
     let done : executed all ≡ meanings bytes ++ executed y.entries = executed-append x.entries y.entries ∙ ap (λ l. l ++ executed y.entries) x.lines_are in
     let front : IsFront (executed all) upto = subst (λ d. IsFront d upto) (sym done) (IsFront-append (meanings bytes) (executed y.entries) (up_to_stop (meanings (line ++ piece))) y.halts) in
+    let cut : IsCutShort all a c = cut_more x.entries y.entries a b c x.written y.replied in
     record {
       entries = all;
       transcript = IsTranscript-append s x.entries y.entries x.transcript y.transcript;
+      begins = begins_with bytes all _ (executed y.entries) done refl none;
       among_taken = subst (λ bs. IsFront (executed all) (lines_to_run bs)) (append-nil (bytes ++ piece))
           (IsFront-trans (executed all) upto (lines_to_run ((bytes ++ piece) ++ [])) front (fed_front bytes piece line [] is none));
       among_script = known (λ bs. IsFront (executed all) (lines_to_run bs)) (bytes ++ piece) script rest taken
           (λ more _. IsFront-trans (executed all) upto (lines_to_run ((bytes ++ piece) ++ more)) front (fed_front bytes piece line more is none));
       taken_at = few;
       reached = subst now (sym (state_after-append s x.entries y.entries)) y.reached;
-      replied = cut_more x.entries y.entries a b c x.written y.replied;
+      replied = inl (record {
+        cut = cut;
+        begins = begins_with bytes cut.front _ (executed y.replied.front) (executed-append x.entries y.replied.front ∙ ap (λ l. l ++ executed y.replied.front) x.lines_are) refl none;
+      });
     }
 
 -- a fault within a piece
-pub session_breaks : (e : Fault) (first mid now : State → Type 0) (line piece : List ℕ) (taken : ℕ) (script left rest a b c : Option (List ℕ)) (before at : Option Takes)
+pub session_breaks : (e : Fault) (first mid now : State → Type 0) (line piece : List ℕ) (taken : ℕ) (script left rest a b c : Option (List ℕ)) (before at after : Option Takes)
     → Stands first mid line taken script left a b before at → taken + length piece ≤ script_limit → left ≡ prepend_known piece rest
-    → ((s : State) → mid s → BreaksOff e s line piece now b c) → Session (Some e) first now script rest a c
-session_breaks e first mid now line piece taken script left rest a b c before at s fits got fails =
+    → length piece ≤ piece_limit → after ≡ option_map (takes_after piece) at
+    → ((s : State) → mid s → BreaksOff e s line piece now b c) → Session (Some e) first now script rest before after a c
+session_breaks e first mid now line piece taken script left rest a b c before at after s fits got short told fails =
     let is = s.taken_is ∙ ap (prepend_known s.bytes) got ∙ prepend_known-append s.bytes piece rest in
     record {
+      front = s.bytes;
+      final = piece;
       taken = s.bytes ++ piece;
-      taken_is = is;
+      taken_is = refl;
+      script_is = is;
+      took = took s.bytes piece before at after short s.idle told;
       runs = λ t h. broken e t mid now s.bytes line piece script rest a b c s.line_is s.no_stop is (omega (arith, length-append s.bytes piece, s.count)) (s.ran t h)
           (fails (state_after t (s.ran t h).entries) (s.ran t h).reached);
     }
@@ -433,36 +473,38 @@ last_one (b ∷ line) some = refl
 
 -- a fault at the last line
 failed : (e : Fault) (s : State) (mid now : State → Type 0) (bytes line : List ℕ) (script a b c : Option (List ℕ))
-    → lines_to_run bytes ≡ meanings bytes ++ line_of line ∷ [] → IfSome script (λ bs. bs ≡ bytes) → length bytes ≤ script_limit
-    → (x : Executes s (meanings bytes) mid a b) → RunFails e (state_after s x.entries) (line_of line) now b c → RunsFrom (Some e) s now bytes script a c
-failed Device s mid now bytes line script a b c all same few x y = absurd y
-failed Source s mid now bytes line script a b c all same few x y = absurd y
-failed TooLong s mid now bytes line script a b c all same few x y = absurd y
-failed Memory s mid now bytes line script a b c all same few x y =
+    → list_any is_stop (meanings bytes) ≡ false → lines_to_run bytes ≡ meanings bytes ++ line_of line ∷ [] → IfSome script (λ bs. bs ≡ bytes) → length bytes ≤ script_limit
+    → (x : Executes s (meanings bytes) mid a b) → RunFails e (state_after s x.entries) (line_of line) now b c → RunsFrom (Some e) s now bytes bytes script a c
+failed Device s mid now bytes line script a b c none all same few x y = absurd y
+failed Source s mid now bytes line script a b c none all same few x y = absurd y
+failed TooLong s mid now bytes line script a b c none all same few x y = absurd y
+failed Memory s mid now bytes line script a b c none all same few x y =
     let among : Among (Some Memory) s bytes x.entries =
     inr (line_of line, record { rest = []; lines_are = all ∙ ap (λ l. l ++ line_of line ∷ []) (sym x.lines_are) }) in
     record {
       entries = x.entries;
       transcript = x.transcript;
+      begins = begins_with bytes x.entries _ [] x.lines_are (sym (append-nil (meanings bytes))) none;
       among_taken = among;
       among_script = same_script (λ bs. Among (Some Memory) s bs x.entries) script bytes same among;
       taken_at = few;
       reached = y.0;
       replied = y.1 ∙ x.written;
     }
-failed (Worn which) s mid now bytes line script a b c all same few x y =
+failed (Worn which) s mid now bytes line script a b c none all same few x y =
     let among : Among (Some (Worn which)) s bytes x.entries =
     (line_of line, record { rest = []; lines_are = all ∙ ap (λ l. l ++ line_of line ∷ []) (sym x.lines_are) }, y.0.0) in
     record {
       entries = x.entries;
       transcript = x.transcript;
+      begins = begins_with bytes x.entries _ [] x.lines_are (sym (append-nil (meanings bytes))) none;
       among_taken = among;
       among_script = same_script (λ bs. Among (Some (Worn which)) s bs x.entries) script bytes same among;
       taken_at = few;
       reached = leaves_worn which (state_after s x.entries) (line_of line) now y.0;
       replied = y.1 ∙ x.written;
     }
-failed Sink s mid now bytes line script a b c all same few x y =
+failed Sink s mid now bytes line script a b c none all same few x y =
     let last : Entry = record { line = line_of line; said = y.said; state = y.replies.after } in
     let es : List Entry = x.entries ++ last ∷ [] in
     let among : IsFront (executed es) (lines_to_run bytes) =
@@ -470,20 +512,28 @@ failed Sink s mid now bytes line script a b c all same few x y =
     record {
       entries = es;
       transcript = IsTranscript-append s x.entries (last ∷ []) x.transcript (y.replies.follows, tt);
+      begins = begins_with bytes es _ (line_of line ∷ []) (executed-append x.entries (last ∷ []) ∙ ap (λ l. l ++ line_of line ∷ []) x.lines_are) refl none;
       among_taken = among;
       among_script = same_script (λ bs. IsFront (executed es) (lines_to_run bs)) script bytes same among;
       taken_at = few;
       reached = subst now (sym (state_after-append s x.entries (last ∷ []))) y.replies.reached;
-      replied = record { front = x.entries; last = last; entries_are = refl; part = subst (λ w. WrotePart (line_reply_line y.said) w c) x.written y.part };
+      replied = inl (record {
+        cut = record { front = x.entries; last = last; entries_are = refl; part = subst (λ w. WrotePart (line_reply_line y.said) w c) x.written y.part };
+        begins = begins_with bytes x.entries _ [] x.lines_are (sym (append-nil (meanings bytes))) none;
+      });
     }
 
-pub session_fails : (e : Fault) (first mid now : State → Type 0) (line : List ℕ) (taken : ℕ) (script rest a b c : Option (List ℕ)) (before at : Option Takes)
-    → Stands first mid line taken script rest a b before at → IsAtEnd rest → is_empty line ≡ false
-    → ((s : State) → mid s → RunFails e s (line_of line) now b c) → Session (Some e) first now script rest a c
-session_fails e first mid now line taken script rest a b c before at s end some fails = record {
+pub session_fails : (e : Fault) (first mid now : State → Type 0) (line : List ℕ) (taken : ℕ) (script rest a b c : Option (List ℕ)) (before at after : Option Takes)
+    → Stands first mid line taken script rest a b before at → IsAtEnd rest → after ≡ option_map (takes_after []) at → is_empty line ≡ false
+    → ((s : State) → mid s → RunFails e s (line_of line) now b c) → Session (Some e) first now script rest before after a c
+session_fails e first mid now line taken script rest a b c before at after s end told some fails = record {
+  front = s.bytes;
+  final = [];
   taken = s.bytes;
-  taken_is = s.taken_is;
-  runs = λ t h. failed e t mid now s.bytes line script a b c
+  taken_is = sym (append-nil s.bytes);
+  script_is = s.taken_is;
+  took = took s.bytes [] before at after (omega arith) s.idle told;
+  runs = λ t h. failed e t mid now s.bytes line script a b c s.no_stop
       (run_ended s.bytes line s.line_is s.no_stop ∙ ap (λ l. meanings s.bytes ++ l) (last_one line some))
       (known (λ bs. bs ≡ s.bytes) s.bytes script rest s.taken_is (λ more e. ap (λ l. s.bytes ++ l) (end_is rest end more e) ∙ append-nil s.bytes))
       (omega (arith, s.count, s.few)) (s.ran t h) (fails (state_after t (s.ran t h).entries) (s.ran t h).reached);
@@ -492,40 +542,131 @@ session_fails e first mid now line taken script rest a b c before at s end some 
 complete_front : (bytes more : List ℕ) → list_any is_stop (meanings bytes) ≡ false → IsFront (meanings bytes) (lines_to_run (bytes ++ more))
 complete_front bytes more none = (lines_to_run (open_line bytes ++ more), run_front bytes more none)
 
+-- what was executed, where all lines that are complete in what was taken were
+complete : (bytes : List ℕ) (es : List Entry) → executed es ≡ meanings bytes → list_any is_stop (meanings bytes) ≡ false → AllComplete bytes es
+complete bytes es are none = record { lines_are = are; no_stop = ap (list_any is_stop) are ∙ none }
+
 -- the source's fault
-pub session_source : (first now : State → Type 0) (line : List ℕ) (taken : ℕ) (script rest a b : Option (List ℕ)) (before at : Option Takes)
-    → Stands first now line taken script rest a b before at → Session (Some Source) first now script rest a b
-session_source first now line taken script rest a b before at s = record {
+pub session_source : (first now : State → Type 0) (line : List ℕ) (taken : ℕ) (script rest a b : Option (List ℕ)) (before at after : Option Takes)
+    → Stands first now line taken script rest a b before at → after ≡ option_map (takes_after []) at → Session (Some Source) first now script rest before after a b
+session_source first now line taken script rest a b before at after s told = record {
+  front = s.bytes;
+  final = [];
   taken = s.bytes;
-  taken_is = s.taken_is;
+  taken_is = sym (append-nil s.bytes);
+  script_is = s.taken_is;
+  took = took s.bytes [] before at after (omega arith) s.idle told;
   runs = λ t h. let x = s.ran t h in
       let front = λ (more : List ℕ). subst (λ l. IsFront l (lines_to_run (s.bytes ++ more))) (sym x.lines_are) (complete_front s.bytes more s.no_stop) in
       record {
         entries = x.entries;
         transcript = x.transcript;
+        begins = begins_with s.bytes x.entries _ [] x.lines_are (sym (append-nil (meanings s.bytes))) s.no_stop;
         among_taken = subst (λ bs. IsFront (executed x.entries) (lines_to_run bs)) (append-nil s.bytes) (front []);
         among_script = known (λ bs. IsFront (executed x.entries) (lines_to_run bs)) s.bytes script rest s.taken_is (λ more _. front more);
-        taken_at = (omega (arith, s.count, s.few), record { lines_are = x.lines_are; no_stop = ap (list_any is_stop) x.lines_are ∙ s.no_stop });
+        taken_at = (omega (arith, s.count, s.few), complete s.bytes x.entries x.lines_are s.no_stop);
         reached = x.reached;
         replied = x.written;
       };
 }
 
+neither_left : (a b : Bool) → (a || b) ≡ false → a ≡ false
+neither_left true b e = cc
+neither_left false b e = refl
+
+-- what is complete in a front of some bytes comes first
+begins_front : (front final bytes : List ℕ) (es : List Entry) → bytes ≡ front ++ final → executed es ≡ meanings bytes
+    → list_any is_stop (meanings bytes) ≡ false → BeginsWith front es
+begins_front front final bytes es split are none =
+    let more : List LineMeaning = meanings (open_line front ++ final) in
+    let lines : meanings bytes ≡ meanings front ++ more =
+    ap meanings split ∙ ap (map line_of) (whole_lines-more front final) ∙ map-append line_of (whole_lines front) (whole_lines (open_line front ++ final)) in
+    begins_with front es (meanings bytes) more are lines
+    (neither_left (list_any is_stop (meanings front)) (list_any is_stop more)
+    (sym (list_any-append is_stop (meanings front) more) ∙ sym (ap (list_any is_stop) lines) ∙ none))
+
+-- the sink's fault where it has to pass on the replies before a take
+pub session_keeps : (first now : State → Type 0) (line : List ℕ) (taken : ℕ) (script rest a b c : Option (List ℕ)) (before at : Option Takes)
+    → Stands first now line taken script rest a b before at → c ≡ b → Session (Some Sink) first now script rest before at a c
+session_keeps first now line taken script rest a b c before at s same = record {
+  front = s.front;
+  final = s.final;
+  taken = s.bytes;
+  taken_is = s.split;
+  script_is = s.taken_is;
+  took = s.took;
+  runs = λ t h. let x = s.ran t h in
+      let front = λ (more : List ℕ). subst (λ l. IsFront l (lines_to_run (s.bytes ++ more))) (sym x.lines_are) (complete_front s.bytes more s.no_stop) in
+      record {
+        entries = x.entries;
+        transcript = x.transcript;
+        begins = begins_front s.front s.final s.bytes x.entries s.split x.lines_are s.no_stop;
+        among_taken = subst (λ bs. IsFront (executed x.entries) (lines_to_run bs)) (append-nil s.bytes) (front []);
+        among_script = known (λ bs. IsFront (executed x.entries) (lines_to_run bs)) s.bytes script rest s.taken_is (λ more _. front more);
+        taken_at = omega (arith, s.count, s.few);
+        reached = x.reached;
+        replied = inr (record { written = same ∙ x.written; lines_are = inl (complete s.bytes x.entries x.lines_are s.no_stop) });
+      };
+}
+
+all_front : (xs ys : List LineMeaning) → xs ≡ ys → IsFront xs ys
+all_front xs ys is = ([], sym is ∙ sym (append-nil xs))
+
+-- the sink's fault where it has to pass on the last replies
+pub session_keeps_last : (first now : State → Type 0) (script rest a b c : Option (List ℕ)) (before at : Option Takes)
+    → Session None first now script rest before at a b → c ≡ b → Session (Some Sink) first now script rest before at a c
+session_keeps_last first now script rest a b c before at s same = record {
+  front = s.front;
+  final = s.final;
+  taken = s.taken;
+  taken_is = s.taken_is;
+  script_is = s.script_is;
+  took = s.took;
+  runs = λ t h. let r = s.runs t h in
+      record {
+        entries = r.entries;
+        transcript = r.transcript;
+        begins = r.begins;
+        among_taken = all_front (executed r.entries) (lines_to_run s.taken) r.among_taken;
+        among_script = by r.entries script r.among_script;
+        taken_at = r.taken_at;
+        reached = r.reached;
+        replied = inr (record { written = same ∙ r.replied; lines_are = inr r.among_taken });
+      };
+}
+  where
+    by : (es : List Entry) (o : Option (List ℕ)) → IfSome o (λ bytes. executed es ≡ lines_to_run bytes) → IfSome o (λ bytes. IsFront (executed es) (lines_to_run bytes))
+    by es None h = tt
+    by es (Some bytes) h = all_front (executed es) (lines_to_run bytes) h
+
+-- a session that ended well, and then passes on the last replies
+pub ended_flushed : {T : Type 0} (first now : State → Type 0) (script rest a b c : Option (List ℕ)) (before at : Option Takes) (r : Result T Fault)
+    → Session None first now script rest before at a b → c ≡ b → IfErr r (λ e. e ≡ Sink) → Session (end_of r) first now script rest before at a c
+ended_flushed first now script rest a b c before at (Ok x) s same kind =
+    subst (λ w. Session None first now script rest before at a w) (sym same) s
+ended_flushed first now script rest a b c before at (Err e) s same kind =
+    subst (λ f. Session (Some f) first now script rest before at a c) (sym kind) (session_keeps_last first now script rest a b c before at s same)
+
 -- a byte past the limit
-pub session_too_long : (first now : State → Type 0) (line piece : List ℕ) (taken : ℕ) (script left rest a b : Option (List ℕ)) (before at : Option Takes)
+pub session_too_long : (first now : State → Type 0) (line piece : List ℕ) (taken : ℕ) (script left rest a b : Option (List ℕ)) (before at after : Option Takes)
     → Stands first now line taken script left a b before at → taken ≡ script_limit → left ≡ prepend_known piece rest → length piece ≡ 1
-    → Session (Some TooLong) first now script rest a b
-session_too_long first now line piece taken script left rest a b before at s full got one =
+    → after ≡ option_map (takes_after piece) at → Session (Some TooLong) first now script rest before after a b
+session_too_long first now line piece taken script left rest a b before at after s full got one told =
     let is = s.taken_is ∙ ap (prepend_known s.bytes) got ∙ prepend_known-append s.bytes piece rest in
     let cut : take script_limit (s.bytes ++ piece) ≡ s.bytes = ap (λ n. take n (s.bytes ++ piece)) (sym (s.count ∙ full)) ∙ take-append_seam s.bytes piece in
     record {
+      front = s.bytes;
+      final = piece;
       taken = s.bytes ++ piece;
-      taken_is = is;
+      taken_is = refl;
+      script_is = is;
+      took = took s.bytes piece before at after (omega (arith, one)) s.idle told;
       runs = λ t h. let x = s.ran t h in
           let front = λ (more : List ℕ). subst (λ l. IsFront l (lines_to_run (s.bytes ++ more))) (sym x.lines_are) (complete_front s.bytes more s.no_stop) in
           record {
             entries = x.entries;
             transcript = x.transcript;
+            begins = begins_with s.bytes x.entries _ [] x.lines_are (sym (append-nil (meanings s.bytes))) s.no_stop;
             among_taken = front piece;
             among_script = known (λ bs. IsFront (executed x.entries) (lines_to_run bs)) (s.bytes ++ piece) script rest is
                 (λ more _. subst (λ bs. IsFront (executed x.entries) (lines_to_run bs)) (sym (append_assoc s.bytes piece more)) (front (piece ++ more)));
@@ -584,13 +725,18 @@ gave_end t taken place old new before after is h told =
     (got.0, got.1, told ∙ ap (λ t. option_map (takes_after (taken_by (Ok t) place)) before) is)
 
 -- want of memory before the first take
-pub session_none : (start : State) (script w : Option (List ℕ)) → Session (Some Memory) (λ s. s ≡ start) (λ _. Unit {0}) script script w w
-session_none start script w = record {
+pub session_none : (start : State) (script w : Option (List ℕ)) (t : Option Takes) → Session (Some Memory) (λ s. s ≡ start) (λ _. Unit {0}) script script t t w w
+session_none start script w t = record {
+  front = [];
+  final = [];
   taken = [];
-  taken_is = sym (prepend_known-nil script);
+  taken_is = refl;
+  script_is = sym (prepend_known-nil script);
+  took = took_none t;
   runs = λ s is. record {
     entries = [];
     transcript = tt;
+    begins = record { rest = []; lines_are = refl; no_stop = refl };
     among_taken = inl refl;
     among_script = none_of script;
     taken_at = omega arith;
@@ -603,16 +749,46 @@ session_none start script w = record {
     none_of None = tt
     none_of (Some bytes) = inl refl
 
+-- the device's fault
+pub session_device : (start : State) (script w : Option (List ℕ)) (t : Option Takes) → Session (Some Device) (λ s. s ≡ start) (λ _. Unit {0}) script script t t w w
+session_device start script w t = record {
+  front = [];
+  final = [];
+  taken = [];
+  taken_is = refl;
+  script_is = sym (prepend_known-nil script);
+  took = took_none t;
+  runs = λ s is. record {
+    entries = [];
+    transcript = tt;
+    begins = record { rest = []; lines_are = refl; no_stop = refl };
+    among_taken = refl;
+    among_script = none_of script;
+    taken_at = refl;
+    reached = tt;
+    replied = sym (append_known-nil w);
+  };
+}
+  where
+    none_of : (o : Option (List ℕ)) → IfSome o (λ bytes. Among (Some Device) start bytes [])
+    none_of None = tt
+    none_of (Some bytes) = refl
+
 -- a session from the one state at which it begins
-pub session_from : (end : Option Fault) (start : State) (first last : State → Type 0) (script rest old new : Option (List ℕ)) → first start
-    → Session end first last script rest old new → Session end (λ s. s ≡ start) (λ _. Unit {0}) script rest old new
-session_from end start first last script rest old new begins s = record {
+pub session_from : (end : Option Fault) (start : State) (first last : State → Type 0) (script rest old new : Option (List ℕ)) (before now : Option Takes) → first start
+    → Session end first last script rest before now old new → Session end (λ s. s ≡ start) (λ _. Unit {0}) script rest before now old new
+session_from end start first last script rest old new before now begins s = record {
+  front = s.front;
+  final = s.final;
   taken = s.taken;
   taken_is = s.taken_is;
+  script_is = s.script_is;
+  took = s.took;
   runs = λ t is. let r = s.runs t (subst first (sym is) begins) in
       record {
         entries = r.entries;
         transcript = r.transcript;
+        begins = r.begins;
         among_taken = r.among_taken;
         among_script = r.among_script;
         taken_at = r.taken_at;

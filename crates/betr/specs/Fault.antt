@@ -1,5 +1,5 @@
 -- The faults that end a run: their statuses and lines, and their causes.
-use Rattle.std.specs.Prelude.{◌≡◌, ℕ, ◌≤◌, List, [], ◌∷◌, ◌++◌, codes, ⊤, Result, OnOk, IfErr}
+use Rattle.std.specs.Prelude.{◌≡◌, ℕ, ◌≤◌, List, [], ◌∷◌, ◌++◌, codes, Result, OnOk, IfErr}
 use Rattle.bd_io.specs.Cause.{Rose}
 use Rattle.bd_message.specs.Counters.{counter_name}
 use Rattle.betr.specs.declared.fault.Fault.{Fault}
@@ -45,15 +45,17 @@ pub record NeverFall (before now : Faults) : Type 0 where
   pub source : before.source ≤ now.source
   pub sink : before.sink ≤ now.sink
 
--- the count that is a fault's cause rose; want of memory is free, and what they leave shows the
--- cause of the others
+-- the count that is a fault's cause rose, and every other one stays; want of memory is free, and what
+-- they leave shows the cause of the others
 abbrev pub Caused : Fault → Faults → Faults → Type 0
-Caused Device before now = Rose before.device now.device
-Caused Source before now = Rose before.source now.source
-Caused Memory before now = ⊤
-Caused TooLong before now = ⊤
-Caused (Worn which) before now = ⊤
-Caused Sink before now = Rose before.sink now.sink
+Caused Device before now =
+    Rose before.device now.device × (now ≡ record before { device = now.device })
+Caused Source before now =
+    Rose before.source now.source × (now ≡ record before { source = now.source })
+Caused Memory before now = now ≡ before
+Caused TooLong before now = now ≡ before
+Caused (Worn which) before now = now ≡ before
+Caused Sink before now = Rose before.sink now.sink × (now ≡ record before { sink = now.sink })
 
 -- no count falls, none rises where all went well, and a fault has its cause
 pub record IsCaused {T : Type 0} (before now : Faults) (result : Result T Fault) : Type 0 where

@@ -7,6 +7,7 @@ use Rattle.std.specs.declared.option.Option.TheVariants.{None, Some}
 use Rattle.std.specs.declared.result.Result.{Result}
 use Rattle.std.specs.declared.result.Result.TheVariants.{Ok, Err}
 use Rattle.bd_limits.specs.Limits.{script_limit, flush_limit}
+use Rattle.bd_io.specs.Takes.{Takes}
 use Rattle.bd_io.specs.Written.{WrotePart}
 use Rattle.bd_command.specs.declared.Command.{Command}
 use Rattle.bd_message.specs.declared.fault.Counter.{Counter}
@@ -17,6 +18,7 @@ use Rattle.bd_script.specs.declared.line.Line.TheVariants.{Run}
 use Rattle.bd_volume.specs.Views.{View, AreFlushes, Wears}
 use Rattle.betr.specs.declared.fault.Fault.{Fault}
 use Rattle.betr.specs.declared.fault.Fault.TheVariants.{Device, Source, Memory, TooLong, Worn, Sink}
+use Rattle.betr.specs.Taken.{Took}
 use Rattle.betr.specs.Transcript.{Known, State, Entry, IsTranscript, text, executed, state_after, meanings, lines_to_run, IsFront}
 
 -- how a session ends: by a fault, or with the script
@@ -81,6 +83,13 @@ pub record AllComplete (bytes : List ℕ) (es : List Entry) : Type 0 where
   pub lines_are : executed es ≡ meanings bytes
   pub no_stop : list_any is_stop (executed es) ≡ false
 
+-- the lines that are complete in these bytes were executed before all others, and none of them is
+-- `stop`
+pub record BeginsWith (bytes : List ℕ) (es : List Entry) : Type 0 where
+  pub rest : List LineMeaning
+  pub lines_are : executed es ≡ meanings bytes ++ rest
+  pub no_stop : list_any is_stop (meanings bytes) ≡ false
+
 -- what was taken of the script when a session ends
 abbrev pub TakenAt : Option Fault → List ℕ → List Entry → Type 0
 TakenAt None taken es = length taken ≤ script_limit
@@ -101,15 +110,29 @@ pub record IsCutShort (es : List Entry) (old new : Known) : Type 0 where
   pub entries_are : es ≡ front ++ last ∷ []
   pub part : WrotePart (line_reply_line last.said) (append_known old (text front)) new
 
--- what was written of the replies when a session ends
-abbrev pub Replied : Option Fault → List Entry → Known → Known → Type 0
-Replied None es old new = new ≡ append_known old (text es)
-Replied (Some Device) es old new = new ≡ append_known old (text es)
-Replied (Some Source) es old new = new ≡ append_known old (text es)
-Replied (Some Memory) es old new = new ≡ append_known old (text es)
-Replied (Some TooLong) es old new = new ≡ append_known old (text es)
-Replied (Some (Worn which)) es old new = new ≡ append_known old (text es)
-Replied (Some Sink) es old new = IsCutShort es old new
+-- a reply was cut short, and those of the lines that are complete in these bytes were written before
+pub record IsCutAfter (bytes : List ℕ) (es : List Entry) (old new : Known) : Type 0 where
+  pub cut : IsCutShort es old new
+  pub begins : BeginsWith bytes cut.front
+
+-- all replies were written, and the sink didn't pass them on: before a take, when all lines that are
+-- complete in what was taken were executed, or at the end
+pub record IsKeptBack (taken : List ℕ) (es : List Entry) (old new : Known) : Type 0 where
+  pub written : new ≡ append_known old (text es)
+  pub lines_are : AllComplete taken es ⊎ (executed es ≡ lines_to_run taken)
+
+-- what was written of the replies when a session ends, which took `front` before its last take, and
+-- `taken` in all
+abbrev pub Replied :
+    Option Fault → List ℕ → List ℕ → List Entry → Known → Known → Type 0
+Replied None front taken es old new = new ≡ append_known old (text es)
+Replied (Some Device) front taken es old new = new ≡ append_known old (text es)
+Replied (Some Source) front taken es old new = new ≡ append_known old (text es)
+Replied (Some Memory) front taken es old new = new ≡ append_known old (text es)
+Replied (Some TooLong) front taken es old new = new ≡ append_known old (text es)
+Replied (Some (Worn which)) front taken es old new = new ≡ append_known old (text es)
+Replied (Some Sink) front taken es old new =
+    IsCutAfter front es old new ⊎ IsKeptBack taken es old new
 
 -- ---- a whole session
 
@@ -123,22 +146,28 @@ Ends (Some TooLong) s at = at s
 Ends (Some (Worn which)) s at = Leaves s at
 Ends (Some Sink) s at = at s
 
--- from a state on: the one transcript of a session, its lines among those taken and those of the
--- script, its replies; `at` holds at the end
-pub record RunsFrom (end : Option Fault) (from : State) (at : State → Type 0) (taken : List ℕ)
-    (script old new : Known) : Type 0 where
+-- from a state on: the one transcript of a session, which took `front` before its last take, and
+-- `taken` in all; its lines among those taken and those of the script, its replies; `at` holds at the
+-- end
+pub record RunsFrom (end : Option Fault) (from : State) (at : State → Type 0)
+    (front taken : List ℕ) (script old new : Known) : Type 0 where
   pub entries : List Entry
   pub transcript : IsTranscript from entries
+  pub begins : BeginsWith front entries
   pub among_taken : Among end from taken entries
   pub among_script : IfSome script (λ bytes. Among end from bytes entries)
   pub taken_at : TakenAt end taken entries
   pub reached : Ends end (state_after from entries) at
-  pub replied : Replied end entries old new
+  pub replied : Replied end front taken entries old new
 
--- a session with a script, of which `script` is left of the source before and `rest` after: from
--- each state at which it may begin
-pub record Session (end : Option Fault) (first last : State → Type 0) (script rest old new : Known)
-    : Type 0 where
+-- a session with a script, of which `script` is left of the source before and `rest` after, and how
+-- it was asked for: from each state at which the session may begin
+pub record Session (end : Option Fault) (first last : State → Type 0) (script rest : Known)
+    (before now : Option Takes) (old new : Known) : Type 0 where
+  pub front : List ℕ
+  pub final : List ℕ
   pub taken : List ℕ
-  pub taken_is : script ≡ prepend_known taken rest
-  pub runs : (s : State) → first s → RunsFrom end s last taken script old new
+  pub taken_is : taken ≡ front ++ final
+  pub script_is : script ≡ prepend_known taken rest
+  pub took : Took front final before now
+  pub runs : (s : State) → first s → RunsFrom end s last front taken script old new

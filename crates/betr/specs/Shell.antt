@@ -18,8 +18,8 @@ use Rattle.bd_volume.specs.Volume.{StandsFor, view_of, device_of}
 use Rattle.betr.specs.declared.fault.Fault.{Fault}
 use Rattle.betr.specs.declared.fault.Fault.TheVariants.{Device, Source, Memory, TooLong, Worn, Sink}
 use Rattle.betr.specs.declared.shell.Shell.{Shell}
-use Rattle.betr.specs.Transcript.{Known, State, Entry, Follows, IsTranscript, executed, state_after, meanings, IsFront}
-use Rattle.betr.specs.Session.{HasNext, WornBy, Leaves, with_view, Ends, Replied}
+use Rattle.betr.specs.Transcript.{Known, State, Entry, Follows, IsTranscript, text, executed, state_after, meanings, IsFront}
+use Rattle.betr.specs.Session.{HasNext, WornBy, Leaves, with_view, Ends, IsCutShort}
 
 -- a volume stands for a state, whose view is the volume's own
 pub record VolumeAt {D : Type 0} (v : Volume D) (s : State) : Type 0 where
@@ -139,6 +139,15 @@ Halts (Worn which) s begun piece es =
     × WornBy which (state_after s es) next
 Halts Sink s begun piece es = IsFront (executed es) (up_to_stop (meanings (begun ++ piece)))
 
+-- what was written of the replies before a fault
+abbrev pub RepliesUpTo : Fault → List Entry → Known → Known → Type 0
+RepliesUpTo Device es old new = new ≡ append_known old (text es)
+RepliesUpTo Source es old new = new ≡ append_known old (text es)
+RepliesUpTo Memory es old new = new ≡ append_known old (text es)
+RepliesUpTo TooLong es old new = new ≡ append_known old (text es)
+RepliesUpTo (Worn which) es old new = new ≡ append_known old (text es)
+RepliesUpTo Sink es old new = IsCutShort es old new
+
 -- a fault came while the lines that a piece completes were executed
 pub record BreaksOff (e : Fault) (from : State) (begun piece : List ℕ) (at : State → Type 0)
     (old new : Known) : Type 0 where
@@ -146,4 +155,4 @@ pub record BreaksOff (e : Fault) (from : State) (begun piece : List ℕ) (at : S
   pub transcript : IsTranscript from entries
   pub halts : Halts e from begun piece entries
   pub reached : Ends (Some e) (state_after from entries) at
-  pub replied : Replied (Some e) entries old new
+  pub replied : RepliesUpTo e entries old new

@@ -5,8 +5,8 @@ use Rattle.std.specs.declared.option.Option.{Option}
 use Rattle.std.specs.declared.result.Result.TheVariants.{Ok, Err}
 use Rattle.bd_command.specs.Command.{writes, is_done, accepted, IsCommand}
 use Rattle.bd_command.specs.declared.Command.{Command}
-use Rattle.bd_command.specs.declared.Command.TheVariants.{Mkdir, Create, Write, Truncate, Remove, Rename, Clone, Read, Stat, List as Ls}
 use Rattle.bd_command.specs.declared.reply.Reply.{Reply}
+use Rattle.bd_dirs.specs.Kinds.{Kind, Reads, Sends, SendsLate, Grafts, kind_of}
 use Rattle.bd_graft.specs.declared.grafting.Walk.{Walk as WalkTaken}
 use Rattle.bd_node.specs.Tables.{root_at}
 use Rattle.bd_represent.specs.Represents.{Represents}
@@ -43,15 +43,15 @@ state_of_step s c view = record {
 }
 
 -- a writing command that is accepted moves the view, and every other reply leaves it
-abbrev pub Moves : Command → Reply → View → View → Type 0
-Moves c said old new = MatchBool (writes c && is_done said) (IsMoved c old new) (new ≡ old)
+abbrev pub Moves : Tree → Command → Reply → View → View → Type 0
+Moves t c said old new = MatchBool (writes c && is_done said) (IsMoved t c old new) (new ≡ old)
 
 -- a command within its limits takes the model's step, and the nodes after it represent the tree
 pub record Steps (s : State) (c : Command) (said : LineReply) (after : State) : Type 0 where
   pub limits : IsCommand c
   pub said_is : said ≡ reply.Command (step s.tree c).1
   pub after_is : after ≡ state_of_step s c after.view
-  pub moved : Moves c (step s.tree c).1 s.view after.view
+  pub moved : Moves s.tree c (step s.tree c).1 s.view after.view
   pub represents : Represents (root_at after.view.nodes after.view.table) after.tree
 
 -- what is said of a walk
@@ -120,17 +120,14 @@ pub record CanBe (e : Entry) : Type 0 where
 -- ---- what each clone costs
 
 -- a clone or a rename
+abbrev pub is_graft : Kind → Bool
+is_graft Reads = false
+is_graft Sends = false
+is_graft SendsLate = false
+is_graft Grafts = true
+
 abbrev pub grafts : Command → Bool
-grafts (Mkdir path) = false
-grafts (Create path) = false
-grafts (Write path off bytes) = false
-grafts (Truncate path len) = false
-grafts (Remove path) = false
-grafts (Rename a b) = true
-grafts (Clone a b) = true
-grafts (Read path off len) = false
-grafts (Stat path) = false
-grafts (Ls path after) = false
+grafts c = is_graft (kind_of c)
 
 -- the line is a clone or a rename, and was accepted
 abbrev pub is_grafted : LineMeaning → LineReply → Bool

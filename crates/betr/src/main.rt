@@ -36,7 +36,7 @@ fn status(rt: &HostRuntime) -> io::Result<u8> {
     let words = called_with(rt)?;
     let mut dev = MemDevice::new(rt.alloc(), BLOCKS, 0, &[])?;
     let mut src = StdSource::new(rt.reader());
-    let mut sink = StdSink::new(io::writer(rt));
+    let mut sink = StdSink::new(rt.alloc(), io::writer(rt))?;
     Ok(run::run(rt.alloc(), &words, &mut dev, &mut src, &mut sink).status)
 }
 

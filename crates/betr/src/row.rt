@@ -1,4 +1,5 @@
 ghost use Rattle.std.specs.Prelude.{◌≡◌, ◌↔◌, ℕ, List, Option, Some, map, string_bytes, IsNone, IfSome, IfOk};
+ghost use Rattle.bd_io.specs.Takes.{Takes, no_takes};
 ghost use Rattle.betr.specs.Fault.{faults};
 ghost use Rattle.betr.specs.Transcript.{first_state};
 ghost use Rattle.betr.specs.Words.{call_of, usage_line};
@@ -20,11 +21,11 @@ pub fn row(
     sink: &mut MemSink,
 ) -> Result<Outcome, AllocError>
     ensures went { IfOk result (λ r. IfSome (call_of (map string_bytes words.now)) (λ call.
-        (rest : Option (List ℕ)) × (source : ℕ)
+        (rest : Option (List ℕ)) × (takes : Option Takes) × (source : ℕ)
         × Went first_state r.status r.acks
-        (ends (Some script.now) (Some sink.old.written)
+        (ends (Some script.now) (Some no_takes) (Some sink.old.written)
         (faults dev.old.plan.faults 0 0 sink.old.plan.faults))
-        (ends rest (Some sink.new.written)
+        (ends rest takes (Some sink.new.written)
         (faults dev.new.plan.faults 0 source sink.new.plan.faults)))) }
     ensures device { IfOk result (λ r. IfSome (call_of (map string_bytes words.now))
         (λ call. Uses call r.status (seen_in_memory dev.old) (seen_in_memory dev.new))) }

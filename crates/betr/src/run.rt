@@ -1,11 +1,10 @@
-ghost use Rattle.std.specs.Prelude.{◌≡◌, ◌≢◌, ◌≤◌, ◌⊎◌, ◌↔◌, [], map, string_bytes, IsNone, IfSome};
+ghost use Rattle.std.specs.Prelude.{◌≡◌, ◌≢◌, ◌<◌, ◌≤◌, ◌⊎◌, ◌↔◌, [], length, map, string_bytes, IsNone, IfSome, OnOk};
 ghost use Rattle.betr.specs.declared.fault.Fault.{Fault};
 ghost use Rattle.betr.specs.Fault.{faults, of_ends, NeverFall, IsCaused};
 ghost use Rattle.betr.specs.Transcript.{first_state};
 ghost use Rattle.betr.specs.Session.{Session, end_of};
-ghost use Rattle.betr.specs.Taken.{TakesNoMore};
 ghost use Rattle.betr.specs.Words.{call_of, usage_line};
-ghost use Rattle.betr.specs.Run.{image_of, end_status, ends, Went, WritesLast, seen, Uses, OnlyAttaches, IsFaultless};
+ghost use Rattle.betr.specs.Run.{image_of, end_status, ends, Went, WritesLast, IsFlushed, seen, Uses, OnlyAttaches, IsFaultless};
 
 use crate::fault::{FAULT_SIZE, Fault};
 use crate::outcome::{Acks, Outcome};
@@ -33,9 +32,9 @@ fn run_image<D: Attach, S: Source, K: Sink>(
     sink: &mut K,
 ) -> Result<(), Fault>
     ensures session { Session (end_of result) (λ s. s ≡ first_state) (λ _. Unit {0})
-        (S.left src.old) (S.left src.new) (K.written sink.old) (K.written sink.new) }
-    ensures no_more { TakesNoMore
-        (S.left src.old) (S.left src.new) (S.takes src.old) (S.takes src.new) }
+        (S.left src.old) (S.left src.new) (S.takes src.old) (S.takes src.new)
+        (K.written sink.old) (K.written sink.new) }
+    ensures flushed { OnOk result (K.waiting sink.new ≡ 0) }
     ensures untouched { result ≡ Err Fault.Device → src.new ≡ src.old }
     ensures device { OnlyAttaches image.now (end_status (end_of result))
         (seen (D.contents dev.old) (D.block_count dev.old)
@@ -67,13 +66,21 @@ fn run_image<D: Attach, S: Source, K: Sink>(
     }
 }
 
-/// Writes the last line of a run, as far as the sink takes it.
+/// Writes the last line of a run and has the sink pass on all that was written, as far as the sink
+/// does so. An empty line leaves the sink.
 fn write_last<K: Sink>(sink: &mut K, line: &[u8])
     ensures line { WritesLast line.now (K.written sink.old) (K.written sink.new)
         (K.fault_count sink.old) (K.fault_count sink.new) }
+    ensures flushed { 0 < length line.now → IsFlushed (K.waiting sink.new)
+        (K.fault_count sink.old) (K.fault_count sink.new) }
     ensures later { K.fault_count sink.old ≤ K.fault_count sink.new }
 {
-    let _ = put_all(sink, line);
+    if line.is_empty() {
+        return;
+    }
+    if put_all(sink, line).is_ok() {
+        let _ = sink.flush();
+    }
 }
 
 /// Runs the program over a device, a source and a sink. The words are `PROGRAM run IMAGE`: the
@@ -81,7 +88,8 @@ fn write_last<K: Sink>(sink: &mut K, line: &[u8])
 /// of `/` alone, with a reply a line, to its end or to `stop` (status 0). Other words have the
 /// usage line written, and nothing else is done (status 2). The first fault ends the run with its
 /// status, and its line where the sink takes it: the device 3, the source 5, memory 6, a script of
-/// more than 16,777,216 bytes 7, a counter 8, the sink 9.
+/// more than 16,777,216 bytes 7, a counter 8, the sink 9. Before each take and at the end the sink
+/// passes on all that was written; after its own fault it isn't called again.
 pub fn run<D: Attach, S: Source, K: Sink>(
     alloc: Global,
     words: &[String],
@@ -92,9 +100,9 @@ pub fn run<D: Attach, S: Source, K: Sink>(
     // With right words there is one transcript, to which all else is tied.
     ensures went { IfSome (call_of (map string_bytes words.now)) (λ call.
         Went first_state result.status result.acks
-        (ends (S.left src.old) (K.written sink.old)
+        (ends (S.left src.old) (S.takes src.old) (K.written sink.old)
         (faults (D.fault_count dev.old) 0 (S.fault_count src.old) (K.fault_count sink.old)))
-        (ends (S.left src.new) (K.written sink.new)
+        (ends (S.left src.new) (S.takes src.new) (K.written sink.new)
         (faults (D.fault_count dev.new) 0 (S.fault_count src.new) (K.fault_count sink.new)))) }
 
     // What is done with the device is what the call says.
@@ -115,11 +123,13 @@ pub fn run<D: Attach, S: Source, K: Sink>(
     ensures device_untouched { result.status ≡ 2 → dev.new ≡ dev.old }
     ensures unacknowledged { result.status ≡ 2 → result.acks ≡ [] }
 
-    // Nothing is taken where the words or the device are refused, and nothing after `stop`, after
-    // the script's end or after a fault.
+    // Nothing is taken where the words or the device are refused.
     ensures source_untouched { (result.status ≡ 2) ⊎ (result.status ≡ 3) → src.new ≡ src.old }
-    ensures no_more { TakesNoMore
-        (S.left src.old) (S.left src.new) (S.takes src.old) (S.takes src.new) }
+
+    // At the end the sink has passed on all that was written, or it has failed.
+    ensures flushed { IsFlushed (K.waiting sink.new)
+        (K.fault_count sink.old) (K.fault_count sink.new) }
+    ensures all_flushed { result.status ≡ 0 → K.waiting sink.new ≡ 0 }
 
     // No count of faults falls, and at status 0 none rose.
     ensures later { NeverFall

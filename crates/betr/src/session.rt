@@ -1,12 +1,12 @@
-ghost use Rattle.std.specs.Prelude.{◌≡◌, ◌≤◌, [], IfOk, OnErr};
+ghost use Rattle.std.specs.Prelude.{◌≡◌, ◌≤◌, [], IfOk, IfErr, OnOk, OnErr};
 ghost use Rattle.std.specs.Option.{option_map};
 ghost use Rattle.bd_limits.specs.Limits.{script_limit};
 ghost use Rattle.bd_io.specs.Cause.{HasCause};
 ghost use Rattle.bd_io.specs.Takes.{takes_after};
-ghost use Rattle.betr.specs.Fault.{IsCaused, of_ends};
+ghost use Rattle.betr.specs.Fault.{IsCaused, of_sink, of_ends};
 ghost use Rattle.betr.specs.Session.{Session, end_of};
 ghost use Rattle.betr.specs.Shell.{ShellAt, held_of, device_in};
-ghost use Rattle.betr.specs.Taken.{IsTaken, TakesNoMore, taken_by};
+ghost use Rattle.betr.specs.Taken.{IsTaken, taken_by};
 
 use crate::fault::Fault;
 use crate::shell::Shell;
@@ -27,13 +27,16 @@ pub enum Taken {
     TooLong,
 }
 
-/// Takes the next piece of a script of which `taken` bytes were taken before.
-fn next_piece<S: Source>(
+/// Takes the next piece of a script of which `taken` bytes were taken before, when the sink keeps
+/// nothing back.
+fn next_piece<S: Source, K: Sink>(
     src: &mut S,
+    _sink: &K,
     piece: &mut [u8; MAX_PIECE],
     taken: usize,
 ) -> Result<Taken, Failed>
-    requires { taken ≤ script_limit }
+    requires within { taken ≤ script_limit }
+    requires flushed { K.waiting _sink.now ≡ 0 }
     ensures ok { IfOk result (λ got.
         IsTaken got taken piece.new (S.left src.old) (S.left src.new)) }
     ensures err { OnErr result (S.left src.new ≡ S.left src.old) }
@@ -52,7 +55,22 @@ fn next_piece<S: Source>(
     })
 }
 
+/// Has the sink pass on what it keeps back.
+fn flush<K: Sink>(sink: &mut K) -> Result<(), Fault>
+    ensures flushed { OnOk result (K.waiting sink.new ≡ 0) }
+    ensures bytes { K.written sink.new ≡ K.written sink.old }
+    ensures kind { IfErr result (λ e. e ≡ Fault.Sink) }
+    ensures cause { IsCaused (of_sink (K.fault_count sink.old)) (of_sink (K.fault_count sink.new))
+        result }
+{
+    match sink.flush() {
+        Ok(()) => Ok(()),
+        Err(Failed) => Err(Fault::Sink),
+    }
+}
+
 /// Executes a script, to its end or to a `stop`. At a fault the lines before it were executed.
+/// Before each take and at the end the sink passes on what was written.
 pub fn run_script<D: Device + Drop, S: Source, K: Sink>(
     alloc: Global,
     shell: &mut Shell<D>,
@@ -61,9 +79,28 @@ pub fn run_script<D: Device + Drop, S: Source, K: Sink>(
 ) -> Result<(), Fault>
     requires { held_of shell.old ≡ [] }
     ensures session { Session (end_of result) (ShellAt shell.old) (ShellAt shell.new)
-        (S.left src.old) (S.left src.new) (K.written sink.old) (K.written sink.new) }
-    ensures no_more { TakesNoMore
-        (S.left src.old) (S.left src.new) (S.takes src.old) (S.takes src.new) }
+        (S.left src.old) (S.left src.new) (S.takes src.old) (S.takes src.new)
+        (K.written sink.old) (K.written sink.new) }
+    ensures flushed { OnOk result (K.waiting sink.new ≡ 0) }
+    ensures device { device_in shell.new ≡ device_in shell.old }
+    ensures cause { IsCaused (of_ends (S.fault_count src.old) (K.fault_count sink.old))
+        (of_ends (S.fault_count src.new) (K.fault_count sink.new)) result }
+{
+    run_pieces(alloc, shell, src, sink)?;
+    flush(sink)
+}
+
+/// Executes a script piece by piece. What the last replies are isn't passed on yet.
+fn run_pieces<D: Device + Drop, S: Source, K: Sink>(
+    alloc: Global,
+    shell: &mut Shell<D>,
+    src: &mut S,
+    sink: &mut K,
+) -> Result<(), Fault>
+    requires { held_of shell.old ≡ [] }
+    ensures session { Session (end_of result) (ShellAt shell.old) (ShellAt shell.new)
+        (S.left src.old) (S.left src.new) (S.takes src.old) (S.takes src.new)
+        (K.written sink.old) (K.written sink.new) }
     ensures device { device_in shell.new ≡ device_in shell.old }
     ensures cause { IsCaused (of_ends (S.fault_count src.old) (K.fault_count sink.old))
         (of_ends (S.fault_count src.new) (K.fault_count sink.new)) result }
@@ -71,7 +108,8 @@ pub fn run_script<D: Device + Drop, S: Source, K: Sink>(
     let mut piece = [0; MAX_PIECE];
     let mut taken = 0;
     'pieces: loop {
-        match next_piece(src, &mut piece, taken) {
+        flush(sink)?;
+        match next_piece(src, sink, &mut piece, taken) {
             Ok(Taken::Piece(size)) => match shell.feed(alloc, &piece[..size], sink)? {
                 ControlFlow::Continue(()) => taken += size,
                 ControlFlow::Break(()) => return Ok(()),

@@ -2,8 +2,9 @@ use crate::outcome::Outcome;
 use crate::row::row;
 use crate::run::run;
 use bd_device::MemDevice;
-use bd_io::{Failed, MemSink, MemSource, Sink};
+use bd_io::{Failed, MemSink, MemSource, Sink, Source};
 use std::alloc::{AllocError, Global};
+use std::cell::Cell;
 use std::test::Fail;
 
 /// The script of the first example.
@@ -23,11 +24,90 @@ impl Sink for LastPiece {
 
     ghost fault_count = { λ _. 0 };
 
+    ghost waiting = { λ _. 0 };
+
     fn put(&mut self, piece: &[u8]) -> Result<usize, Failed> {
         self.bytes = self.bytes.saturating_add(piece.len() as u64);
         self.piece.clear();
         let _ = self.piece.extend_from_slice(piece);
         Ok(piece.len())
+    }
+
+    fn flush(&mut self) -> Result<(), Failed> {
+        Ok(())
+    }
+
+    fn faults(&self) -> u64 {
+        0
+    }
+}
+
+/// A sink that keeps all bytes back until it is flushed, and counts there how many it has passed on.
+/// The flush of the number `fail` fails, the first being 1.
+#[derive(Drop)]
+struct KeepingSink<'a> {
+    kept: usize,
+    passed_on: &'a Cell<usize>,
+    flushes: u64,
+    fail: u64,
+    faults: u64,
+}
+
+impl Sink for KeepingSink<'_> {
+    ghost use Rattle.std.specs.Prelude.{None};
+
+    ghost written = { λ _. None };
+
+    ghost fault_count = { λ s. s.faults };
+
+    ghost waiting = { λ s. s.kept };
+
+    fn put(&mut self, piece: &[u8]) -> Result<usize, Failed> {
+        self.kept = self.kept.saturating_add(piece.len());
+        Ok(piece.len())
+    }
+
+    fn flush(&mut self) -> Result<(), Failed> {
+        self.flushes = self.flushes.saturating_add(1);
+        if self.flushes == self.fail {
+            self.faults = self.faults.saturating_add(1);
+            return Err(Failed);
+        }
+        self.passed_on
+            .set(self.passed_on.get().saturating_add(self.kept));
+        self.kept = 0;
+        Ok(())
+    }
+
+    fn faults(&self) -> u64 {
+        self.faults
+    }
+}
+
+/// A script in pieces of up to nine bytes, which notes at each take how many bytes a sink has
+/// passed on.
+#[derive(Drop)]
+struct NotingSource<'a> {
+    left: &'a [u8],
+    passed_on: &'a Cell<usize>,
+    seen: Vec<usize>,
+}
+
+impl Source for NotingSource<'_> {
+    ghost use Rattle.std.specs.Prelude.{None};
+
+    ghost left = { λ _. None };
+
+    ghost fault_count = { λ _. 0 };
+
+    ghost takes = { λ _. None };
+
+    fn take(&mut self, into: &mut [u8]) -> Result<usize, Failed> {
+        let _ = self.seen.push(self.passed_on.get());
+        let count = self.left.len().min(9).min(into.len());
+        into[..count].copy_from_slice(&self.left[..count]);
+        self.left = &self.left[count..];
+        Ok(count)
     }
 
     fn faults(&self) -> u64 {
@@ -145,6 +225,45 @@ fn each_failing_call_ends_the_run(rt: HostRuntime) -> Result<(), Fail> {
             text.as_bytes(),
             "take {take}, put {put}, attach {attach}"
         );
+    }
+    Ok(())
+}
+
+/// The first example over a sink of which one flush fails: the status, how many bytes were passed on
+/// at each take, and how many at the end.
+fn first_passed_on(alloc: Global, fail: u64) -> Result<(u8, Vec<usize>, usize), AllocError> {
+    let passed_on = Cell::new(0);
+    let mut dev = MemDevice::new(alloc, 516, 0, &[])?;
+    let mut src = NotingSource {
+        left: FIRST,
+        passed_on: &passed_on,
+        seen: Vec::new(alloc),
+    };
+    let mut sink = KeepingSink {
+        kept: 0,
+        passed_on: &passed_on,
+        flushes: 0,
+        fail,
+        faults: 0,
+    };
+    let words = words(alloc, &["betr", "run", "img"])?;
+    let outcome = run(alloc, &words, &mut dev, &mut src, &mut sink);
+    Ok((outcome.status, src.seen, passed_on.get()))
+}
+
+#[test]
+fn replies_are_passed_on_before_the_next_take(rt: HostRuntime) -> Result<(), Fail> {
+    let rows: [(u64, u8, &[usize], usize); 4] = [
+        (0, 0, &[0, 3, 3, 6, 13, 23], 41),
+        (1, 9, &[], 0),
+        (3, 9, &[0, 3], 3),
+        (7, 9, &[0, 3, 3, 6, 13, 23], 23),
+    ];
+    for (fail, want, at_takes, at_end) in rows {
+        let (status, seen, passed_on) = first_passed_on(rt.alloc(), fail)?;
+        assert_eq!(rt; status, want, "flush {fail} fails");
+        assert_eq!(rt; seen.as_slice(), at_takes, "flush {fail} fails");
+        assert_eq!(rt; passed_on, at_end, "flush {fail} fails");
     }
     Ok(())
 }

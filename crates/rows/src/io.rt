@@ -116,17 +116,27 @@ fn a_reader_of_std_is_a_source(rt: HostRuntime) {
     assert_eq!(rt; source.faults(), 1);
 }
 
+// Writes bytes through a sink over a writer of std, and has it pass them on.
+fn put_through(alloc: Global, into: &mut Vec<u8>, bytes: &[u8]) -> Result<(), Fail> {
+    let mut sink = StdSink::new(alloc, into)?;
+    put_all(&mut sink, bytes)?;
+    sink.flush()?;
+    Ok(())
+}
+
 #[test]
 fn a_writer_of_std_is_a_sink(rt: HostRuntime) -> Result<(), Fail> {
     let mut bytes = Vec::new(rt.alloc());
-    put_all(&mut StdSink::new(&mut bytes), b"abc")?;
+    put_through(rt.alloc(), &mut bytes, b"abc")?;
     assert_eq!(rt; bytes.as_slice(), b"abc".as_slice());
     let mut flaky = Flaky { calls: 0 };
-    let mut sink = StdSink::new(&mut flaky);
-    for (call, want) in [(1, Ok(1)), (2, Err(Failed)), (3, Err(Failed))] {
-        assert_eq!(rt; sink.put(b"ab"), want, "call {call}");
+    let mut sink = StdSink::new(rt.alloc(), &mut flaky)?;
+    assert_eq!(rt; sink.put(b"ab"), Ok(2));
+    assert_eq!(rt; sink.put(b"cd"), Ok(2));
+    for (flush, want) in [(1, Err(Failed)), (2, Ok(())), (3, Ok(()))] {
+        assert_eq!(rt; sink.flush(), want, "flush {flush}");
     }
     assert_eq!(rt; sink.put(b""), Ok(0));
-    assert_eq!(rt; sink.faults(), 2);
+    assert_eq!(rt; sink.faults(), 1);
     Ok(())
 }

@@ -1,10 +1,11 @@
-use Rattle.std.proofs.Common.{◌≡◌, sym, ◌∙◌}
+use Rattle.std.proofs.Common.{◌≡◌, true, sym, ◌∙◌}
 use Rattle.std.specs.Prelude.{Some, None}
 use Rattle.std.specs.FinMap.{get}
 use Rattle.bd_command.specs.declared.Command.TheVariants.{Clone}
 use Rattle.bd_model.specs.Step.{absent_refusal, new_refusal, refusal_of}
 use Rattle.bd_represent.proofs.TreeLemmas.{Represents-along}
 use Rattle.bd_dirs.proofs.Makes.{both_free, second_of, makes_clone}
+use Rattle.bd_dirs.proofs.NewPlans.{moved}
 use Rattle.bd_dirs.proofs.changes.clone_to.Goals as goal
 
 pub returns-in-Some-2-clause-plan : goal.returns-in-Some-2-clause-plan
@@ -26,4 +27,5 @@ returns-clause-plan g c = λ known t tree r.
       free,
       makes_clone (g.M.KeyMap.has c.args.m.now) t c.args.a.now c.args.b.now c.from_vec.result c.from_vec-2.result c.in_ok-refusal.ensures.names c.in_ok-refusal-2.ensures.names tree r free
           (c.from_vec.ensures ∙ c.in_ok-key.ensures.key) (c.from_vec-2.ensures ∙ c.in_ok-key-2.ensures.key),
+      moved c.from_vec.result c.from_vec-2.result _ _ true (c.from_vec.ensures ∙ c.in_ok-key.ensures.key) (c.from_vec-2.ensures ∙ c.in_ok-key-2.ensures.key),
     )

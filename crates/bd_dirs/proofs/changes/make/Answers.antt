@@ -12,4 +12,4 @@ returns-clause-plan g c = λ known t tree r.
     let path = c.args.path.now in
     let free : new_refusal t path ≡ None = sym (c.in_ok-refusal.ensures.refusal known t tree r) ∙ c.in_default.is in
     let is : c.from_vec.result ≡ Put (record_key path) (record_bytes c.args.entry) ∷ [] = search rules in
-    (free, makes_entry (g.M.KeyMap.has c.args.m.now) t path c.args.entry c.from_vec.result c.in_ok-refusal.ensures.names r free is)
+    (free, makes_entry (g.M.KeyMap.has c.args.m.now) t path c.args.entry c.from_vec.result c.in_ok-refusal.ensures.names r free is, is)

@@ -8,6 +8,7 @@ use Rattle.bd_command.specs.declared.Command.TheVariants.{Rename}
 use Rattle.bd_model.specs.Step.{absent_refusal, new_refusal, root_refusal, inside_refusal, refusal_of}
 use Rattle.bd_represent.proofs.TreeLemmas.{Represents-along}
 use Rattle.bd_dirs.proofs.Makes.{both_free, second_of, root_free, makes_rename, not_inside}
+use Rattle.bd_dirs.proofs.NewPlans.{moved}
 use Rattle.bd_dirs.proofs.changes.rename.Goals as goal
 
 pub returns-in-Some-2-clause-plan : goal.returns-in-Some-2-clause-plan
@@ -37,6 +38,7 @@ returns-clause-plan g c = λ known t tree r.
       free,
       makes_rename (g.M.KeyMap.has c.args.m.now) t a b c.from_vec.result c.from_vec-2.result c.in_ok-refusal.ensures.names c.in_ok-refusal-2.ensures.names tree r free
           (c.from_vec.ensures ∙ c.in_ok-key.ensures.key) (c.from_vec-2.ensures ∙ c.in_ok-key-2.ensures.key),
+      moved c.from_vec.result c.from_vec-2.result _ _ false (c.from_vec.ensures ∙ c.in_ok-key.ensures.key) (c.from_vec-2.ensures ∙ c.in_ok-key-2.ensures.key),
     )
 
 pub returns-clause-ready : goal.returns-clause-ready

@@ -5,6 +5,8 @@ use Rattle.bd_message.specs.declared.message.Message.TheVariants.{Patch}
 use Rattle.bd_message.specs.Messages.{IsMessage, IsPlain}
 use Rattle.bd_represent.specs.EntryKeys.{block_key}
 use Rattle.bd_files.proofs.Overwriting.{next_patch, next_more, next_first}
+use Rattle.bd_files.specs.Sends.{patches_of}
+use Rattle.bd_files.proofs.Sent.{next_sent, all_sent}
 use Rattle.bd_files.proofs.patches.patches.Goals as goal
 
 pub loop-done-preserved : goal.loop-done-preserved
@@ -31,6 +33,11 @@ loop-done-preserved c =
       first = λ left. inr (next_first c.args.off d n (length c.args.bytes.now) least left);
       each = rw items (All-push IsMessage c.loop-done.list.items c.in_ok-patch.field-0 c.loop-done.invariant.each c.in_ok-patch.ensures.is_message);
       plain = rw items (All-push IsPlain c.loop-done.list.items c.in_ok-patch.field-0 c.loop-done.invariant.plain (subst IsPlain (sym m) tt));
+      rest = next_sent c.args.path.now c.args.off c.args.bytes.now c.loop-done.list.items c.push.new.self.items (patches_of 3 c.args.path.now c.args.off c.args.bytes.now) c.in_ok-patch.field-0 d n (omega (arith, so_far, under, c.requires.short)) least under
+          (m ∙ ap (Patch (block_key c.args.path.now ((c.args.off + d) / block_limit)) o) piece) items c.loop-done.invariant.rest;
       writes = next_patch c.args.path.now c.args.off c.args.bytes.now c.loop-done.list.items c.push.new.self.items c.in_ok-patch.field-0 d n c.in_ok-patch.ensures.names c.requires.fits fits some room
           (m ∙ ap (Patch (block_key c.args.path.now ((c.args.off + d) / block_limit)) o) piece) items c.loop-done.invariant.writes;
     }
+
+pub returns-clause-list : goal.returns-clause-list
+returns-clause-list c = all_sent c.args.path.now c.args.off c.args.bytes.now c.loop-done.list.items (patches_of 3 c.args.path.now c.args.off c.args.bytes.now) c.loop-done.done (omega arith) c.loop-done.invariant.rest

@@ -13,5 +13,5 @@ returns-clause-plan g c = λ known t tree r.
     let path = c.args.path.now in
     let file = subst (λ (found : Result ℕ Refusal). IsLenOf (get t path) found) c.in-Ok.is (c.in_ok-len.ensures.len known t tree r) in
     let fits : c.args.off + length c.args.bytes.now ≤ file_limit = omega arith in
-    write_planned at t path c.args.off c.args.bytes.now file.0 c.in_ok-list.list.items c.from_vec.result file.1 fits c.from_vec.ensures
-    (c.in_ok-list.ensures.makes at t file.0 r file.1 file.2)
+    write_planned at t path c.args.off _ c.args.bytes.now file.0 c.in_ok-list.list.items c.from_vec.result file.1 fits c.from_vec.ensures
+    (c.in_ok-list.ensures.makes at t file.0 r file.1 file.2) file.2 c.in_ok-list.ensures.list

@@ -1,7 +1,7 @@
 -- The tree of nodes takes the step, and the tree stays one.
 use Rattle.std.proofs.Common.{◌≡◌}
 use Rattle.bd_volume.specs.Views.{view_in, keys_in}
-use Rattle.bd_volume.proofs.Steps.{stands_after, replied, stays_after, refused_after}
+use Rattle.bd_volume.proofs.Steps.{stands_after, replied, stays_after, refused_after, moved_after}
 use Rattle.bd_volume.proofs.Worn.{halted_wears, halted_faults, halted_made}
 use Rattle.bd_volume.proofs.Volume.do_command.Goals as goal
 
@@ -29,3 +29,6 @@ returns-clause-refused g c =
 
 pub returns-clause-worn : goal.returns-clause-worn
 returns-clause-worn g c = λ which is t n s. c.execute.ensures.worn which is t s.is_tree s.represents
+
+pub returns-clause-moved : goal.returns-clause-moved
+returns-clause-moved g c = moved_after c.args.self.now c.args.command.now c.execute.result (view_in c.execute.new.tree) c.execute.ensures.moved

@@ -6,6 +6,7 @@ use Rattle.bd_message.specs.KeyMaps.{IsApplied, IsGrafted}
 use Rattle.bd_volume.specs.Views.{view_in, keys_in}
 use Rattle.bd_volume.proofs.Carried.{plan_along, applied_plan, grafted_plan}
 use Rattle.bd_volume.proofs.Flushes.{keys_stay}
+use Rattle.bd_volume.proofs.Sent.{messages_moved, graft_moved}
 use Rattle.bd_volume.proofs.Worn.{graft_stops}
 use Rattle.bd_volume.proofs.over.carry_out.Goals as goal
 
@@ -41,3 +42,13 @@ returns-in_ok-graft-in-Graft-clause-step c = λ t r h.
     (plan_along (keys_in c.args.tree.now) mid t c.args.command.now c.args.plan c.in_ok-make_ready-in-Graft.ensures.same h)
     (subst (λ (k : List ℕ). IsGrafted mid k c.in-Graft.d c.in-Graft.keep new) c.as_slice-in-Graft.ensures
     (subst (λ (k : List ℕ). IsGrafted mid c.as_slice-in-Graft.result.now k c.in-Graft.keep new) c.as_slice-in-Graft-2.ensures c.in_ok-graft-in-Graft.ensures.grafted))
+
+pub returns-in_ok-append-in-Apply-clause-moved : goal.returns-in_ok-append-in-Apply-clause-moved
+returns-in_ok-append-in-Apply-clause-moved c = λ t h _.
+    messages_moved t c.args.command.now c.args.plan c.in-Apply.list c.as_slice.result.now (view_in c.args.tree.now) (view_in c.make_ready.new.tree) (view_in c.append.new.tree) c.in-Apply.is c.as_slice.ensures h
+    c.in_ok-make_ready-in-Apply.ensures.ready c.in_ok-append-in-Apply.ensures.appended
+
+pub returns-in_ok-graft-in-Graft-clause-moved : goal.returns-in_ok-graft-in-Graft-clause-moved
+returns-in_ok-graft-in-Graft-clause-moved c = λ t h _.
+    graft_moved t c.args.command.now c.args.plan c.in-Graft.s c.in-Graft.d c.as_slice-in-Graft.result.now c.as_slice-in-Graft-2.result.now c.in-Graft.keep (view_in c.args.tree.now) (view_in c.make_ready-in-Graft.new.tree) (view_in c.graft.new.tree)
+    c.in-Graft.is c.as_slice-in-Graft.ensures c.as_slice-in-Graft-2.ensures h c.in_ok-make_ready-in-Graft.ensures.ready c.in_ok-graft-in-Graft.ensures.made

@@ -67,9 +67,12 @@ returns-clause-stays c =
     subst Stay (planned c) c.carry_out.ensures.stays
 
 pub returns-clause-moved : goal.returns-clause-moved
-returns-clause-moved c =
-    let Moved : View → Type 0 = λ v. IfOk c.carry_out.result (λ reply. accepted c.args.command.now reply ≡ 1 → IsMoved c.args.command.now v (view_in c.carry_out.new.tree)) in
-    subst Moved (planned c) c.carry_out.ensures.moved
+returns-clause-moved c = λ t tree r.
+    let at = keys_in c.args.tree.now in
+    let mid = keys_in c.plan_command.new.m in
+    let same = c.in_ok-plan.ensures.left.kept (tt, c.nodes_are_sound.ensures) in
+    let Moved : View → Type 0 = λ v. IfOk c.carry_out.result (λ reply. accepted c.args.command.now reply ≡ 1 → IsMoved t c.args.command.now v (view_in c.carry_out.new.tree)) in
+    subst Moved (planned c) (c.carry_out.ensures.moved t (plan_along at mid t c.args.command.now c.in_ok-plan.plan same (c.in_ok-plan.ensures.plan (tt, c.nodes_are_sound.ensures) t tree r)))
 
 pub returns-clause-unmoved : goal.returns-clause-unmoved
 returns-clause-unmoved c =

@@ -7,7 +7,8 @@ use Rattle.betr.proofs.shell.execute.Goals as goal
 pub returns-in-Ok-clause-ok : goal.returns-in-Ok-clause-ok
 returns-in-Ok-clause-ok g c s at =
     run_replies c.args.volume.now c.do_command.new.self s c.args.line c.in-Run.command c.in-Ok.reply at c.in-Run.is c.requires
-    (c.in-Ok.ensures.replies s.tree s.count at.stands) (c.in-Ok.ensures.step s.tree s.count at.stands) c.in-Ok.ensures.moved c.in-Ok.ensures.unmoved
+    (c.in-Ok.ensures.replies s.tree s.count at.stands) (c.in-Ok.ensures.step s.tree s.count at.stands)
+    (λ counts. c.in-Ok.ensures.moved counts s.tree s.count at.stands) c.in-Ok.ensures.unmoved
 
 pub returns-in-Run-clause-err : goal.returns-in-Run-clause-err
 returns-in-Run-clause-err g c s at =

@@ -3,7 +3,7 @@ use Rattle.std.proofs.Common.{◌≡◌, ◌-◌}
 use Rattle.bd_limits.specs.Limits.{script_limit}
 use Rattle.betr.specs.Shell.{ShellAt, held_of, device_in}
 use Rattle.betr.proofs.Scripts.{Stands}
-use Rattle.betr.proofs.session.run_script.Given as goal
+use Rattle.betr.proofs.session.run_pieces.Given as goal
 
 abbrev pub invariant-pieces : goal.invariant-pieces
 invariant-pieces g l = record {
