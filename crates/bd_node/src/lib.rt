@@ -3,9 +3,11 @@
 //! The layers above use the contract of `NodeStore`, what a node has at a key, and the laws.
 #![tactic(auto)]
 
+mod index;
 pub mod laws;
 mod messages;
 mod node;
+mod scans;
 mod steps;
 mod store;
 

@@ -26,8 +26,7 @@ pub through-requires-clause-seen : goal.through-requires-clause-seen
 through-requires-clause-seen c =
     let at_place : IsPlaced c.in-Inner.level c.in-Inner.edges c.in-Inner.buffer c.args.key.now c.edge_place-place.result c.index-edges-place.result =
     placed c.args.node.now c.in-Inner.level c.in-Inner.edges c.as_slice-edges.result.now c.in-Inner.buffer c.args.key.now c.edge_place-place.result c.index-edges-place.result c.requires c.in-Inner.is c.as_slice-edges.ensures c.edge_place-place.ensures.edge c.edge_place-place.ensures.within c.index-edges-place.is in
-    subst (λ (ms : List Message). c.index-edges-place.result.seen ≤ length ms) (sym c.as_slice-in-Inner.ensures)
-    (placed_seen c.in-Inner.level c.in-Inner.edges c.in-Inner.buffer c.args.key.now c.edge_place-place.result c.index-edges-place.result at_place)
+    placed_seen c.in-Inner.level c.in-Inner.edges c.in-Inner.buffer c.args.key.now c.edge_place-place.result c.index-edges-place.result at_place
 
 pub through-requires-clause-end : goal.through-requires-clause-end
 through-requires-clause-end c =
@@ -55,7 +54,7 @@ returns-in_ok-end-in-Inner-clause-stretch c =
     subst (λ (n : Node). IsStretch below (node_at below n) c.args.key.now s) (sym c.in-Inner.is)
     (placed_stretch below c.in-Inner.level c.in-Inner.edges c.in-Inner.buffer c.args.key.now c.edge_place-place.result c.index-edges-place.result s at_place (λ i. omega (arith, c.type_inv.key i))
     (subst (λ (e : Option (List ℕ)). EndsBy e s) (sym end) by)
-    (subst (λ (ms : List Message). IsStretch below (edge_at below c.index-edges-place.result ms) c.args.key.now s) c.as_slice-in-Inner.ensures (said below))))
+    (said below)))
 
 pub returns-in_ok-end-in-Inner-clause-named : goal.returns-in_ok-end-in-Inner-clause-named
 returns-in_ok-end-in-Inner-clause-named c =
@@ -64,4 +63,4 @@ returns-in_ok-end-in-Inner-clause-named c =
     if_ok _ _ c.through.result c.through.ensures.named (λ (s : Stretch) h.
     subst (λ (n : Node). AsksOneOf (names n) s) (sym c.in-Inner.is)
     (asks_of_node c.in-Inner.edges c.in-Inner.buffer c.args.key.now c.index-edges-place.result s (sym at_place.edge ∙ at_place.there)
-    (subst (λ (ms : List Message). AsksOneOf (edge_names c.index-edges-place.result ++ flat_map message_names ms) s) c.as_slice-in-Inner.ensures h)))
+    h))
