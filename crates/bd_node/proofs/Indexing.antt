@@ -16,8 +16,8 @@ use Rattle.bd_keys.proofs.Order.{nat_less, nat_same, nat_more}
 use Rattle.bd_message.specs.declared.message.Message.{Message}
 use Rattle.bd_message.specs.declared.message.Message.TheVariants.{Put, Del, Patch, Cut, Goto}
 use Rattle.bd_message.proofs.Finds.{tied, same_key-true, same_key-refl}
-use Rattle.bd_node.specs.Index.{own_key, is_point_in, is_range_in, key_in, touches_in, is_point_at, is_range_at, key_at, touches_at, spot, is_before, has, AreInOrder, IsIndex, IsPosition, IsCountBelow, IsNextAmong, IsNewestAmong, IsNextRange, IsNextPoint}
-use Rattle.bd_node.proofs.Spots.{true_false, before_too, not_after, has_place, has_at}
+use Rattle.bd_node.specs.Index.{own_key, is_point_in, is_range_in, key_in, touches_in, is_point_at, is_range_at, key_at, touches_at, spot, is_before, has, IsIndex, IsPosition, IsCountBelow, IsNextAmong, IsNewestAmong, IsNextRange, IsNextPoint}
+use Rattle.bd_node.proofs.Spots.{true_false, not_after, has_place, has_at}
 
 -- ---- messages on one key
 

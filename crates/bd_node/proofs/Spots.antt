@@ -1,16 +1,14 @@
 -- The order of keys and places, and halving among places that are in it.
 use Rattle.std.proofs.Common.{◌≡◌, ℕ, zero, suc, ◌+◌, ◌-◌, ◌*◌, ◌/◌, ◌^◌, ◌<◌, ◌≤◌, true, false, List, [], ◌∷◌, length, get_or, refl, sym, ap, subst, ◌∙◌, arith, inl, inr, ⊎_elim}
-use Rattle.std.specs.Prelude.{◌==◌, ◌||◌, slice_get}
-use Rattle.std.specs.declared.cmp.Ordering.{Ordering}
-use Rattle.std.specs.declared.cmp.Ordering.TheVariants.{Less, Equal, Greater}
-use Rattle.std.specs.Ordering.{is_lt, nat_cmp, ordering_reverse}
+use Rattle.std.specs.Prelude.{◌==◌, ◌||◌}
+use Rattle.std.specs.Ordering.{is_lt}
 use Rattle.std.proofs.lemmas.Bool.{cases_Bool, cases_lt}
 use Rattle.std.proofs.lemmas.Bool.Decides.{nat_tests}
 use Rattle.std.proofs.lemmas.Cmp.{nat_list_cmp_total, nat_cmp_total, on_total, then_total}
 use Rattle.std.specs.Cmp.{IsTotalOrder}
 use Rattle.bd_message.specs.declared.message.Message.{Message}
-use Rattle.bd_node.specs.Index.{spot_cmp, spot, is_before, has, AreInOrder, IsPosition, IsCountBelow}
-use Rattle.bd_node.proofs.Edges.{lt_is, lt_isnt, less_lt, not_less_lt}
+use Rattle.bd_node.specs.Index.{spot_cmp, spot, is_before, has, AreInOrder}
+use Rattle.bd_node.proofs.Edges.{lt_is, less_lt}
 use Rattle.bd_node.proofs.Halving.{step_few, step_left}
 
 pub spot_total : IsTotalOrder spot_cmp

@@ -12,6 +12,7 @@ mod steps;
 mod store;
 
 pub use bd_keys::Items;
+pub use index::{is_point, own_key};
 pub use messages::{Messages, touches};
 pub use node::{Change, Changes, Edge, Edges, Entries, Entry, Node, Nodes, Step};
 pub use steps::Steps;

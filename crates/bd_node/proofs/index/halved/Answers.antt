@@ -1,4 +1,4 @@
-use Rattle.std.proofs.Common.{◌+◌, ◌-◌, ◌/◌, ◌<◌, ◌≤◌, ℕ, refl, sym, subst, ◌∙◌}
+use Rattle.std.proofs.Common.{◌+◌, ◌-◌, ◌/◌, ℕ, refl, sym, subst, ◌∙◌}
 use Rattle.bd_node.proofs.Spots.{IsSpotHalving, spot_up, spot_down}
 use Rattle.bd_node.proofs.index.halved.Goals as goal
 

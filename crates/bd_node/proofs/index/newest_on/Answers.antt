@@ -1,6 +1,5 @@
-use Rattle.std.proofs.Common.{◌≡◌, ℕ, ◌+◌, ◌-◌, ◌<◌, ◌≤◌, true, false, List, length, get_or, refl, sym, subst, ◌∙◌, arith, inl, inr}
-use Rattle.std.proofs.lemmas.Bool.{cases_lt}
-use Rattle.bd_node.specs.Index.{IsIndex, touches_at, is_before, key_at}
+use Rattle.std.proofs.Common.{◌≡◌, ℕ, ◌-◌, ◌<◌, ◌≤◌, List, length, get_or, sym, subst, ◌∙◌, arith}
+use Rattle.bd_node.specs.Index.{IsIndex, key_at}
 use Rattle.bd_node.proofs.Indexing.{newest_on_some, newest_on_none, read_key, read_other}
 use Rattle.bd_node.proofs.index.newest_on.Goals as goal
 use Rattle.bd_node.proofs.index.newest_on.Goals.{else-at-gt0-via-then-at-gt0+then-points-at+else-eq, else-at-gt0-via-then-at-gt0+else-points-at, else-at-gt0-via-else-at-gt0}

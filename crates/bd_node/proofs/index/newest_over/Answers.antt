@@ -1,6 +1,6 @@
-use Rattle.std.proofs.Common.{◌≡◌, ℕ, ◌+◌, ◌-◌, ◌<◌, ◌≤◌, true, false, List, length, get_or, refl, sym, subst, ◌∙◌, arith, inl, inr}
+use Rattle.std.proofs.Common.{◌≡◌, ℕ, ◌+◌, ◌-◌, ◌<◌, ◌≤◌, true, false, List, length, get_or, sym, subst, arith, inl, inr}
 use Rattle.std.proofs.lemmas.Bool.{cases_lt}
-use Rattle.bd_node.specs.Index.{IsIndex, touches_at, is_before, key_at}
+use Rattle.bd_node.specs.Index.{IsIndex, touches_at}
 use Rattle.bd_node.proofs.Indexing.{newest_over_some, newest_over_none, read_touches}
 use Rattle.bd_node.proofs.index.newest_over.Goals as goal
 

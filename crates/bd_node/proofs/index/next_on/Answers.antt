@@ -1,6 +1,5 @@
-use Rattle.std.proofs.Common.{◌≡◌, ℕ, ◌+◌, ◌-◌, ◌<◌, ◌≤◌, true, false, List, length, get_or, refl, sym, subst, ◌∙◌, arith, inl, inr}
-use Rattle.std.proofs.lemmas.Bool.{cases_lt}
-use Rattle.bd_node.specs.Index.{IsIndex, touches_at, is_before, key_at}
+use Rattle.std.proofs.Common.{ℕ, ◌≤◌, List, length, get_or, sym, subst, ◌∙◌, arith}
+use Rattle.bd_node.specs.Index.{IsIndex}
 use Rattle.bd_node.proofs.Indexing.{next_on_some, next_on_none, read_key, read_other}
 use Rattle.bd_node.proofs.index.next_on.Goals as goal
 use Rattle.bd_node.proofs.index.next_on.Goals.{else-at-points-via-then-at-points+else-eq, else-at-points-via-else-at-points}

@@ -1,6 +1,5 @@
-use Rattle.std.proofs.Common.{◌≡◌, ℕ, ◌+◌, ◌-◌, ◌<◌, ◌≤◌, true, false, List, length, get_or, refl, sym, subst, ◌∙◌, arith, inl, inr}
-use Rattle.std.proofs.lemmas.Bool.{cases_lt}
-use Rattle.bd_node.specs.Index.{IsIndex, touches_at, is_before, key_at}
+use Rattle.std.proofs.Common.{ℕ, List, length, sym, subst}
+use Rattle.bd_node.specs.Index.{IsIndex}
 use Rattle.bd_node.proofs.Indexing.{next_range_some, next_range_none}
 use Rattle.bd_node.proofs.index.next_range.Goals as goal
 

@@ -1,7 +1,6 @@
-use Rattle.std.proofs.Common.{◌≡◌, ℕ, ◌+◌, ◌<◌, ◌++◌, ◌∷◌, [], true, false, not, List, Option, length, get_or, refl, sym, ap, subst, ◌∙◌, arith}
+use Rattle.std.proofs.Common.{◌≡◌, ℕ, true, not, List, length, refl, sym, ap, subst, ◌∙◌}
 use Rattle.std.proofs.lemmas.Option.{slice_get_read}
-use Rattle.bd_message.specs.declared.message.Message.{Message}
-use Rattle.bd_node.specs.Index.{IsIndex, IsPosition, is_point_in, is_range_in, key_in, is_point_at, is_range_at, key_at}
+use Rattle.bd_node.specs.Index.{IsPosition, is_point_in, is_range_in, key_in, is_point_at, is_range_at, key_at}
 use Rattle.bd_node.proofs.Indexing.{with_point, with_range}
 use Rattle.bd_node.proofs.index.with_place.Goals as goal
 use Rattle.bd_node.proofs.index.with_place.Goals.{then-is_point+in_ok-insert, else-is_point+in_ok-push}

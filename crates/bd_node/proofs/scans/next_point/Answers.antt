@@ -1,4 +1,4 @@
-use Rattle.std.proofs.Common.{◌≡◌, ℕ, ◌+◌, ◌<◌, ◌≤◌, true, false, length, sym, subst, ◌∙◌, arith, Option, Some}
+use Rattle.std.proofs.Common.{ℕ, ◌+◌, ◌<◌, length, sym, subst, ◌∙◌, arith, Option}
 use Rattle.bd_node.specs.Index.{IsNearest}
 use Rattle.bd_node.proofs.Asking.{nearest_within, nearer_step, further_step, nearest_end}
 use Rattle.bd_node.proofs.scans.next_point.Goals as goal

@@ -1,4 +1,4 @@
-use Rattle.std.proofs.Common.{ℕ, List, ◌++◌, length, sym, subst, ◌∙◌}
+use Rattle.std.proofs.Common.{List, ◌++◌, length, sym, subst, ◌∙◌}
 use Rattle.bd_message.specs.declared.message.Message.{Message}
 use Rattle.bd_node.specs.Index.{IsIndex}
 use Rattle.bd_node.proofs.Indexing.{with_more}
