@@ -67,13 +67,25 @@ pub fn can_touch(message: &Message, lo: &[u8], hi: Option<&[u8]>) -> bool
     requires { IsBelowEnd lo.now (option_copied hi) }
     ensures { IsTrue result ↔ CanTouch message.now lo.now (option_copied hi.entry) }
 {
-    touches(message, lo)
-        || match message {
-            Message::Put { key, .. } => is_within(key.as_slice(), &[], lo, hi),
-            Message::Del { key } => is_within(key.as_slice(), &[], lo, hi),
-            Message::Patch { key, .. } => is_within(key.as_slice(), &[], lo, hi),
-            Message::Cut { prefix, from } => is_within(prefix.as_slice(), from.as_slice(), lo, hi),
-            Message::Goto { prefix, .. } => is_within(prefix.as_slice(), &[], lo, hi),
+    match message {
+        Message::Cut { prefix, from } => {
+            touches(message, lo) || is_within(prefix.as_slice(), from.as_slice(), lo, hi)
+        }
+        Message::Goto { prefix, .. } => {
+            touches(message, lo) || is_within(prefix.as_slice(), &[], lo, hi)
+        }
+        _ => is_inside(own_key(message), lo, hi),
+    }
+}
+
+// Whether a key is at least `lo` and below `hi`.
+fn is_inside(key: &[u8], lo: &[u8], hi: Option<&[u8]>) -> bool
+    ensures { IsTrue result ↔ InRange lo.now (option_copied hi.entry) key.now }
+{
+    !key.cmp(lo).is_lt()
+        && match hi {
+            Some(hi) => key.cmp(hi).is_lt(),
+            None => true,
         }
 }
 
