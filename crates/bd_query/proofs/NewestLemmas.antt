@@ -1,5 +1,5 @@
 -- The newest message that changes a key, and how far no newer one changes a key.
-use Rattle.std.proofs.Common.{◌≡◌, ℕ, zero, suc, ◌+◌, ◌-◌, ◌<◌, ◌≤◌, Bool, true, false, List, [], ◌∷◌, length, refl, sym, ap, subst, ◌∙◌, arith, inl, inr, Option, None, Some}
+use Rattle.std.proofs.Common.{◌≡◌, ℕ, ◌+◌, ◌<◌, ◌≤◌, true, false, List, length, refl, sym, ap, subst, ◌∙◌, arith, inl, inr, Option, None, Some}
 use Rattle.std.specs.Prelude.{slice_get, IfSome}
 use Rattle.std.proofs.lemmas.Bool.{cases_Bool, cases_lt}
 use Rattle.bd_keys.specs.Keys.{IsBelow, IsBelowEnd, IsAtLeast, InRange}
@@ -7,7 +7,7 @@ use Rattle.bd_message.specs.declared.message.Message.{Message}
 use Rattle.bd_node.specs.Touching.{touches, NoneTouches}
 use Rattle.bd_node.specs.Index.{touches_in, is_point_at, is_range_at, key_at, touches_at, IsNewestTouching, IsNextPoint, IsNextRange}
 use Rattle.bd_node.proofs.Spots.{true_false}
-use Rattle.bd_node.proofs.Indexing.{point_touches, touches_point, range_within}
+use Rattle.bd_node.proofs.Indexing.{point_touches, touches_point}
 use Rattle.bd_node.proofs.Asking.{neither, none_touches, there_in}
 use Rattle.bd_query.proofs.EndLemmas.{least_trans, least_back, below_or_same, below_or_least}
 use Rattle.bd_query.specs.Stretches.{IsWithin, NoneFrom, NoneAmong, IsNewest, after}

@@ -1,4 +1,4 @@
-use Rattle.std.proofs.Common.{ℕ, ◌<◌, length, refl, sym, subst, ◌∙◌, ◌≡◌, Some, List}
+use Rattle.std.proofs.Common.{◌<◌, length, refl, sym, subst, ◌≡◌, Some, List}
 use Rattle.std.specs.Prelude.{slice_get}
 use Rattle.std.proofs.lemmas.Option.{slice_get_read}
 use Rattle.bd_message.specs.declared.message.Message.{Message}

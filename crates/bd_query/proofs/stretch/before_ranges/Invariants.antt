@@ -1,4 +1,4 @@
-use Rattle.std.proofs.Common.{◌-◌, ◌≤◌, length}
+use Rattle.std.proofs.Common.{◌-◌, length}
 use Rattle.bd_query.specs.Stretches.{IsEnd, IsWithin, end_limit}
 use Rattle.bd_query.proofs.NewestLemmas.{IsPassed}
 use Rattle.bd_query.proofs.stretch.before_ranges.Given as goal

@@ -1,4 +1,4 @@
-use Rattle.std.proofs.Common.{ℕ, sym, subst}
+use Rattle.std.proofs.Common.{ℕ, subst}
 use Rattle.bd_query.specs.Stretches.{NoneFrom}
 use Rattle.bd_query.proofs.NewestLemmas.{none_of_both, newest_is}
 use Rattle.bd_query.proofs.stretch.newest_touching.Goals as goal

@@ -1,12 +1,10 @@
-use Rattle.std.proofs.Common.{◌≡◌, ℕ, ◌+◌, ◌≤◌, ◌++◌, sym, ap, subst, ◌∙◌, arith, List, Option, drop, length}
-use Rattle.bd_message.specs.declared.message.Message.{Message}
+use Rattle.std.proofs.Common.{◌≡◌, ℕ, ◌+◌, sym, ap, subst, ◌∙◌, arith, List, Option, drop}
 use Rattle.bd_message.specs.Effect.{NodesAt}
 use Rattle.bd_node.specs.declared.node.Edge.{Edge}
 use Rattle.bd_node.specs.declared.node.Entry.{Entry}
 use Rattle.bd_node.specs.declared.node.Node.{Node}
-use Rattle.bd_node.specs.Nodes.{node_at, names, edge_at, edge_names, message_names, entry_at}
+use Rattle.bd_node.specs.Nodes.{node_at, names, entry_at}
 use Rattle.bd_node.specs.Shape.{end_before}
-use Rattle.std.specs.List.{flat_map}
 use Rattle.bd_query.specs.declared.stretch.Stretch.{Stretch}
 use Rattle.bd_query.specs.Stretches.{IsEnd, IsWay, IsStretch, EndsBy, AsksOneOf, end_limit}
 use Rattle.bd_query.proofs.Parts.{if_ok}
