@@ -107,7 +107,7 @@ fn read_inner(alloc: Global, head: Head, cursor: &mut Cursor) -> Result<Option<N
         Some(messages) => Ok(Some(Node::Inner {
             level: head.level,
             edges: Items::from_vec(edges),
-            buffer: Messages::from_vec(messages),
+            buffer: Messages::indexed(messages)?,
         })),
         None => Ok(None),
     }

@@ -1,3 +1,4 @@
+pub mod Unseen
 pub mod Places
 pub mod Touched
 pub mod Sweeping

@@ -56,7 +56,7 @@ fn clip_inner(
     Ok(Node::Inner {
         level,
         edges: Items::from_vec(edges),
-        buffer: Messages::from_vec(list),
+        buffer: Messages::indexed(list)?,
     })
 }
 

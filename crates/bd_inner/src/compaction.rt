@@ -40,7 +40,7 @@ pub fn sweep(
     Ok(Node::Inner {
         level,
         edges: lower(edges, &mask),
-        buffer: Messages::from_vec(staying),
+        buffer: Messages::indexed(staying)?,
     })
 }
 

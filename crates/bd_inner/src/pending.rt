@@ -4,15 +4,42 @@ ghost use Rattle.std.specs.Prelude.{◌≡◌, ◌↔◌, ◌++◌, IsTrue};
 ghost use Rattle.std.specs.Option.{option_copied};
 ghost use Rattle.bd_keys.specs.Keys.{key_cmp, IsBelowEnd, InRange};
 ghost use Rattle.bd_node.specs.Shape.{AreRising, SomeEdge, IsPending, end_before};
+ghost use Rattle.bd_inner.specs.Compaction.{IsUnseen};
 ghost use Rattle.bd_inner.specs.Moving.{CanTouch};
 
+use crate::edge_of;
 use bd_message::Message;
-use bd_node::{Edge, touches};
+use bd_node::{Edge, is_point, own_key, touches};
 use std::cmp::Ordering;
 
 /// Whether the message at a place of the buffer is pending for some edge: one that hasn't seen it,
-/// and at one of whose keys it can change what stands there.
+/// and at one of whose keys it can change what stands there. Of a message on one key, the edge of
+/// the key is looked up by halving.
 pub fn is_pending(place: usize, message: &Message, edges: &[Edge]) -> bool
+    requires { AreRising edges.now }
+    ensures { IsTrue result ↔ SomeEdge (IsPending place message.now) edges.now }
+{
+    if is_point(message) {
+        is_unseen(place, own_key(message), edges)
+    } else {
+        is_spread(place, message, edges)
+    }
+}
+
+// Whether the edge of a key hasn't seen the message at a place.
+fn is_unseen(place: usize, key: &[u8], edges: &[Edge]) -> bool
+    requires { AreRising edges.now }
+    ensures { IsTrue result ↔ SomeEdge (IsUnseen place key.now) edges.now }
+{
+    if edges.is_empty() {
+        return false;
+    }
+    let edge = edge_of(edges, key);
+    edge.seen as usize <= place && !key.cmp(edge.pivot.as_slice()).is_lt()
+}
+
+// Whether the message at a place is pending for some edge, asked of each.
+fn is_spread(place: usize, message: &Message, edges: &[Edge]) -> bool
     requires { AreRising edges.now }
     ensures { IsTrue result ↔ SomeEdge (IsPending place message.now) edges.now }
 {
@@ -21,7 +48,7 @@ pub fn is_pending(place: usize, message: &Message, edges: &[Edge]) -> bool
     };
     let waits = edge.seen as usize <= place
         && can_touch(message, edge.pivot.as_slice(), end_before(rest));
-    waits || is_pending(place, message, rest)
+    waits || is_spread(place, message, rest)
 }
 
 /// Where the keys of the edge before these end.
@@ -40,13 +67,25 @@ pub fn can_touch(message: &Message, lo: &[u8], hi: Option<&[u8]>) -> bool
     requires { IsBelowEnd lo.now (option_copied hi) }
     ensures { IsTrue result ↔ CanTouch message.now lo.now (option_copied hi.entry) }
 {
-    touches(message, lo)
-        || match message {
-            Message::Put { key, .. } => is_within(key.as_slice(), &[], lo, hi),
-            Message::Del { key } => is_within(key.as_slice(), &[], lo, hi),
-            Message::Patch { key, .. } => is_within(key.as_slice(), &[], lo, hi),
-            Message::Cut { prefix, from } => is_within(prefix.as_slice(), from.as_slice(), lo, hi),
-            Message::Goto { prefix, .. } => is_within(prefix.as_slice(), &[], lo, hi),
+    match message {
+        Message::Cut { prefix, from } => {
+            touches(message, lo) || is_within(prefix.as_slice(), from.as_slice(), lo, hi)
+        }
+        Message::Goto { prefix, .. } => {
+            touches(message, lo) || is_within(prefix.as_slice(), &[], lo, hi)
+        }
+        _ => is_inside(own_key(message), lo, hi),
+    }
+}
+
+// Whether a key is at least `lo` and below `hi`.
+fn is_inside(key: &[u8], lo: &[u8], hi: Option<&[u8]>) -> bool
+    ensures { IsTrue result ↔ InRange lo.now (option_copied hi.entry) key.now }
+{
+    !key.cmp(lo).is_lt()
+        && match hi {
+            Some(hi) => key.cmp(hi).is_lt(),
+            None => true,
         }
 }
 

@@ -1,3 +1,6 @@
+pub mod Spots
+pub mod Indexing
+pub mod Asking
 pub mod Lookup
 pub mod Meanings
 pub mod Sums

@@ -1,4 +1,6 @@
 pub mod Touching
+pub mod Index
+pub mod Indexes
 pub mod Nodes
 pub mod Meaning
 pub mod Shape

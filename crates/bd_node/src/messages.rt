@@ -1,30 +1,41 @@
 //! The messages that wait in a node.
 
-ghost use Rattle.std.specs.Prelude.{◌≡◌, ◌≤◌, ◌↔◌, ◌++◌, [], length, IsTrue, OnOk, OnErr};
+ghost use Rattle.std.specs.Prelude.{◌≡◌, ◌≤◌, ◌↔◌, ◌++◌, [], length, IfOk, IsTrue, OnOk, OnErr};
 ghost use Rattle.std.specs.List.{AllByRecursion, sum_by};
 ghost use Rattle.bd_limits.specs.Limits.{buffer_limit};
 ghost use Rattle.bd_message.specs.Effect.{is_cut};
 ghost use Rattle.bd_message.specs.Messages.{IsMessage, size};
+ghost use Rattle.bd_node.specs.Index.{IsNewestTouching, IsNextPoint, IsNextRange, is_point_at};
 ghost use Rattle.bd_node.specs.Touching.{IsNextTouching, touches};
 
+use crate::index::{self, Index};
+use crate::scans;
 use bd_message::Message;
 use std::alloc::{AllocError, Global};
 use std::marker::Model;
 
 /// The messages that wait in a node, the oldest first. It says itself which of them can change what
-/// stands at a key: today it scans.
+/// stands at a key: by an index of their keys, or by a scan where it has none, as a list of messages
+/// that goes from node to node.
 #[derive(Debug, Drop)]
 pub struct Messages {
     items: Vec<Message>,
+    index: Option<Index>,
 }
 
 impl Model for Messages {
-    ghost use Rattle.std.specs.Prelude.{List};
+    ghost use Rattle.std.specs.Prelude.{List, length};
+    ghost use Rattle.std.specs.Option.{ForSome};
     ghost use Rattle.bd_message.specs.declared.message.Message.{Message};
 
     ghost Value = { List Message };
 
+    ghost use Rattle.bd_node.specs.Index.{IsIndex};
+
     ghost view = { λ list. list.items.items };
+
+    ghost invariant = { λ list. ForSome list.index (λ index.
+        IsIndex list.items.items (length list.items.items) index.points.items index.ranges.items) };
 }
 
 impl Messages {
@@ -34,14 +45,26 @@ impl Messages {
     {
         Messages {
             items: Vec::new(alloc),
+            index: None,
         }
     }
 
-    /// The messages of a `Vec`, the oldest first.
+    /// The messages of a `Vec`, the oldest first, without an index.
     pub fn from_vec(items: Vec<Message>) -> Messages
         ensures { result ≡ items.items }
     {
-        Messages { items }
+        Messages { items, index: None }
+    }
+
+    /// The messages of a `Vec`, the oldest first, with an index.
+    pub fn indexed(items: Vec<Message>) -> Result<Messages, AllocError>
+        ensures { IfOk result (λ list. list ≡ items.items) }
+    {
+        let index = index::regrown(*items.allocator(), None, items.as_slice(), 0)?;
+        Ok(Messages {
+            items,
+            index: Some(index),
+        })
     }
 
     /// The messages, the oldest first.
@@ -55,7 +78,7 @@ impl Messages {
     pub fn into_vec(self) -> Vec<Message>
         ensures { result.items ≡ self }
     {
-        let Messages { items } = self;
+        let Messages { items, index: _ } = self;
         items
     }
 
@@ -86,14 +109,26 @@ impl Messages {
         total
     }
 
-    /// Puts messages after these. Where there is no memory, these stay as they are.
+    /// Puts messages after these, and into their index, which is made where there is none. Where
+    /// there is no memory, these stay as they are.
     pub fn append(&mut self, list: Messages) -> Result<(), AllocError>
         ensures ok { OnOk result (self.new ≡ self.old ++ list) }
         ensures err { OnErr result (self.new ≡ self.old) }
     {
-        let Messages { items } = list;
-        let mut items = items;
-        self.items.append(&mut items)
+        let count = self.items.as_slice().len();
+        let mut more = list.into_vec();
+        self.items.append(&mut more)?;
+        let alloc = *self.items.allocator();
+        match index::regrown(alloc, self.index.take(), self.items.as_slice(), count) {
+            Ok(index) => {
+                self.index = Some(index);
+                Ok(())
+            }
+            Err(fault) => {
+                self.items.truncate(count);
+                Err(fault)
+            }
+        }
     }
 
     /// The place of the oldest message from a place on that can change what stands at a key. It is
@@ -101,12 +136,47 @@ impl Messages {
     pub fn next_touching(&self, from: usize, key: &[u8]) -> Option<usize>
         ensures { IsNextTouching self.now from key.now result }
     {
-        for place in from..self.items.len() {
-            if touches(&self.items[place], key) {
-                return Some(place);
-            }
+        let items = self.items.as_slice();
+        match &self.index {
+            Some(index) => index::next_touching(items, index, from, key),
+            None => scans::next_touching(items, from, key),
         }
-        None
+    }
+
+    /// The place of the newest message from a place on that can change what stands at a key. It is
+    /// `None` where there is none.
+    pub fn newest_touching(&self, from: usize, key: &[u8]) -> Option<usize>
+        ensures { IsNewestTouching self.now from key.now result }
+    {
+        let items = self.items.as_slice();
+        match &self.index {
+            Some(index) => index::newest_touching(items, index, from, key),
+            None => scans::newest_touching(items, from, key),
+        }
+    }
+
+    /// The place of the first message from a place on that can change what stands at more than one
+    /// key. It is `None` where there is none.
+    pub fn next_range(&self, from: usize) -> Option<usize>
+        ensures { IsNextRange self.now from result }
+    {
+        let items = self.items.as_slice();
+        match &self.index {
+            Some(index) => index::next_range(items, index, from),
+            None => scans::next_range(items, from),
+        }
+    }
+
+    /// The place of a message from a place on that can change what stands at one key alone, the
+    /// least of these above this one. It is `None` where there is none.
+    pub fn next_point(&self, from: usize, key: &[u8]) -> Option<usize>
+        ensures { IsNextPoint self.now from key.now result }
+    {
+        let items = self.items.as_slice();
+        match &self.index {
+            Some(index) => index::next_point(items, index, from, key),
+            None => scans::next_point(items, from, key),
+        }
     }
 }
 
@@ -114,8 +184,18 @@ impl Clone for Messages {
     ghost is_clone = { λ list copy. copy ≡ list };
 
     fn clone(&self) -> Result<Messages, AllocError> {
-        Ok(Messages::from_vec(self.items.clone()?))
+        Ok(Messages {
+            items: copied(&self.items)?,
+            index: index::copied(&self.index)?,
+        })
     }
+}
+
+// A copy of messages.
+fn copied(items: &Vec<Message>) -> Result<Vec<Message>, AllocError>
+    ensures { IfOk result (λ copy. copy.items ≡ items.now.items) }
+{
+    items.clone()
 }
 
 /// Whether a message can change what stands at a key.

@@ -7,3 +7,4 @@ pub mod StretchLemmas
 pub mod TurnLemmas
 pub mod SearchLemmas
 pub mod AskLemmas
+pub mod NewestLemmas

@@ -1,5 +1,5 @@
 -- What is known of a key and of the keys after it.
-use Rattle.std.specs.Prelude.{◌≡◌, ℕ, ◌+◌, ◌*◌, ◌≤◌, ◌==◌, true, List, ◌++◌, length, take, drop, Option, None, Some, IsSome, IfSome, count_by, slice_get}
+use Rattle.std.specs.Prelude.{◌≡◌, ℕ, ◌+◌, ◌*◌, ◌<◌, ◌≤◌, ◌==◌, Bool, true, false, List, ◌++◌, length, take, drop, Option, None, Some, IsSome, IfSome, count_by, slice_get}
 use Rattle.bd_limits.specs.Limits.{key_limit}
 use Rattle.bd_keys.specs.Keys.{IsKey, IsBelowEnd, InRange, Begins}
 use Rattle.bd_message.specs.declared.message.Message.{Message}
@@ -8,6 +8,7 @@ use Rattle.bd_message.specs.KeyMaps.{At}
 use Rattle.bd_message.specs.Effect.{NodesAt}
 use Rattle.bd_node.specs.declared.node.Edge.{Edge}
 use Rattle.bd_node.specs.Tables.{Table, IsLower}
+use Rattle.bd_node.specs.Index.{touches_at}
 use Rattle.bd_node.specs.Touching.{touches, NoneTouches}
 use Rattle.bd_query.specs.declared.stretch.Stretch.{Stretch}
 use Rattle.bd_query.specs.declared.stretch.Stretch.TheVariants.{Present, Absent, Child}
@@ -42,6 +43,17 @@ first_key (Goto prefix source child) = prefix
 -- no message from a place on changes a key from this one up to the end
 abbrev pub NoneFrom : List Message → ℕ → List ℕ → Option (List ℕ) → Type 0
 NoneFrom list from lo end = (k : List ℕ) → InRange lo end k → NoneTouches list from (length list) k
+
+-- no message of a kind from a place on changes a key from this one up to the end
+abbrev pub NoneAmong : (List Message → ℕ → Bool) → List Message → ℕ → List ℕ → Option (List ℕ)
+    → Type 0
+NoneAmong among list from lo end = (k : List ℕ) → InRange lo end k → (i : ℕ) → from ≤ i
+    → i < length list → among list i ≡ true → touches_at list i k ≡ false
+
+-- the place after one, and where there is none, the other
+abbrev pub after : Option ℕ → ℕ → ℕ
+after None seen = seen
+after (Some place) seen = place + 1
 
 -- the place of the newest message from a place on that can change the key, such that newer ones
 -- change no key from it up to the end

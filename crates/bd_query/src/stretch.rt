@@ -1,22 +1,23 @@
 //! What one node says of a key and of the keys after it.
 
-ghost use Rattle.std.specs.Prelude.{◌≡◌, ℕ, ◌+◌, ◌-◌, ◌*◌, ◌<◌, ◌≤◌, true, List, [], ◌++◌, length, drop, Option, None, Some, IfOk, slice_get};
+ghost use Rattle.std.specs.Prelude.{◌≡◌, ℕ, ◌+◌, ◌-◌, ◌*◌, ◌<◌, ◌≤◌, true, List, [], ◌++◌, length, drop, Option, None, Some, IfOk, IfSome, slice_get};
 ghost use Rattle.std.specs.List.{AllByRecursion, flat_map};
 ghost use Rattle.std.specs.Option.{option_map};
 ghost use Rattle.bd_message.specs.Messages.{IsMessage};
 ghost use Rattle.bd_message.specs.Effect.{NodesAt, act};
-ghost use Rattle.bd_node.specs.Touching.{touches};
+ghost use Rattle.bd_node.specs.Index.{is_point_at, is_range_at};
+ghost use Rattle.bd_node.specs.Touching.{NoneTouches, touches};
 ghost use Rattle.bd_node.specs.Nodes.{node_at, names, message_names, edge_names, child_at, edge_of, edge_at, entry_at};
 ghost use Rattle.bd_node.specs.Shape.{IsShape, IsEntry, IsRising, AreRising};
 ghost use Rattle.bd_leaf.specs.Places.{IsPlace};
 ghost use Rattle.bd_query.specs.Asks.{asked_by, asked_first, asked_through, asked_at, asked_in};
-ghost use Rattle.bd_query.specs.Stretches.{IsEnd, IsWithin, IsNewest, IsWay, IsStretch, HasEnd, EndsBy, AsksOneOf, end_limit};
+ghost use Rattle.bd_query.specs.Stretches.{IsEnd, IsWithin, IsNewest, NoneAmong, after, IsWay, IsStretch, HasEnd, EndsBy, AsksOneOf, end_limit};
 
 use crate::ends::{copied_end, end_within, narrowed, successor};
 use bd_inner::end_of;
 use bd_keys::Bytes;
 use bd_message::Message;
-use bd_node::{Edge, Entry, Node, Steps, touches};
+use bd_node::{Edge, Entry, Messages, Node, Steps};
 use std::alloc::{AllocError, Global};
 use std::marker::Brand;
 use std::sync::ledger::{Blank, Ledger};
@@ -64,7 +65,7 @@ pub fn stretch_of(alloc: Global, node: &Node, key: &[u8]) -> Result<Stretch, All
             let edges = edges.as_slice();
             let place = edge_place(edges, key);
             let end = copied_end(alloc, end_of(edges, place))?;
-            through(alloc, &edges[place], buffer.as_slice(), key, end)
+            through(alloc, &edges[place], buffer, key, end)
         }
     }
 }
@@ -146,7 +147,7 @@ fn edge_place_with<L: Ledger>(edges: &[Edge], key: &[u8], blank: Blank) -> usize
 fn through(
     alloc: Global,
     edge: &Edge,
-    buffer: &[Message],
+    buffer: &Messages,
     key: &[u8],
     end: Option<Bytes>,
 ) -> Result<Stretch, AllocError>
@@ -164,8 +165,9 @@ fn through(
         asked_through (Some edge.now) buffer.now key.now ≡ asked_in stretch key.now) }
 {
     let Newest { place, end } = newest_touching(alloc, buffer, edge.seen as usize, key, end)?;
+    let list = buffer.as_slice();
     match place {
-        Some(place) => of_message(alloc, &buffer[place], key, end),
+        Some(place) => of_message(alloc, &list[place], key, end),
         None => of_edge(edge, key, end),
     }
 }
@@ -173,12 +175,11 @@ fn through(
 // The newest message from a place on that can change the key.
 fn newest_touching(
     alloc: Global,
-    buffer: &[Message],
+    buffer: &Messages,
     seen: usize,
     key: &[u8],
     end: Option<Bytes>,
 ) -> Result<Newest, AllocError>
-    requires seen { seen ≤ length buffer.now }
     requires messages { AllByRecursion IsMessage buffer.now }
     requires end { IsEnd key.now end_limit end }
     ensures newest { IfOk result (λ newest.
@@ -186,20 +187,74 @@ fn newest_touching(
     ensures end { IfOk result (λ newest. IsEnd key.now end_limit newest.end) }
     ensures within { IfOk result (λ newest. IsWithin newest.end end) }
 {
-    let mut end = end;
-    let mut place = buffer.len();
-    while place > seen {
-        place -= 1;
-        let message = &buffer[place];
-        if touches(message, key) {
-            return Ok(Newest {
-                place: Some(place),
-                end,
-            });
-        }
-        end = narrowed(alloc, message, key, end)?;
+    let place = buffer.newest_touching(seen, key);
+    let from = after(buffer, place, seen);
+    let end = before_points(alloc, buffer, from, key, end)?;
+    let end = before_ranges(alloc, buffer, from, key, end)?;
+    Ok(Newest { place, end })
+}
+
+// The place after one, and where there is none, `seen`.
+fn after(buffer: &Messages, place: Option<usize>, seen: usize) -> usize
+    requires { IfSome place (λ place. place < length buffer.now) }
+    ensures { result ≡ after place seen }
+{
+    let _count = buffer.len();
+    match place {
+        Some(place) => place + 1,
+        None => seen,
     }
-    Ok(Newest { place: None, end })
+}
+
+// The end of the keys from this one up to `end` before the first that a message on one key changes,
+// of those from a place on.
+fn before_points(
+    alloc: Global,
+    buffer: &Messages,
+    from: usize,
+    key: &[u8],
+    end: Option<Bytes>,
+) -> Result<Option<Bytes>, AllocError>
+    requires messages { AllByRecursion IsMessage buffer.now }
+    requires none { NoneTouches buffer.now from (length buffer.now) key.now }
+    requires end { IsEnd key.now end_limit end }
+    ensures end { IfOk result (λ new. IsEnd key.now end_limit new) }
+    ensures within { IfOk result (λ new. IsWithin new end) }
+    ensures none { IfOk result (λ new. NoneAmong is_point_at buffer.now from key.now new) }
+{
+    match buffer.next_point(from, key) {
+        Some(place) => {
+            let list = buffer.as_slice();
+            Ok(narrowed(alloc, &list[place], key, end)?)
+        }
+        None => Ok(end),
+    }
+}
+
+// The end of the keys from this one up to `end` before the first that a message on a range of keys
+// changes, of those from a place on.
+fn before_ranges(
+    alloc: Global,
+    buffer: &Messages,
+    from: usize,
+    key: &[u8],
+    end: Option<Bytes>,
+) -> Result<Option<Bytes>, AllocError>
+    requires messages { AllByRecursion IsMessage buffer.now }
+    requires none { NoneTouches buffer.now from (length buffer.now) key.now }
+    requires end { IsEnd key.now end_limit end }
+    ensures end { IfOk result (λ new. IsEnd key.now end_limit new) }
+    ensures within { IfOk result (λ new. IsWithin new end) }
+    ensures none { IfOk result (λ new. NoneAmong is_range_at buffer.now from key.now new) }
+{
+    let list = buffer.as_slice();
+    let mut end = end;
+    let mut at = from;
+    while let Some(place) = buffer.next_range(at) {
+        end = narrowed(alloc, &list[place], key, end)?;
+        at = place + 1;
+    }
+    Ok(end)
 }
 
 // What a message says that can change the key.

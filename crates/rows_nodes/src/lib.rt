@@ -10,6 +10,8 @@ mod carving;
 #[cfg(test)]
 mod format;
 #[cfg(test)]
+mod index;
+#[cfg(test)]
 mod inner;
 #[cfg(test)]
 mod leaf;

@@ -1,4 +1,4 @@
-use Rattle.std.proofs.Common.{ℕ, ◌≤◌, refl, sym, subst, ◌∙◌, arith, List}
+use Rattle.std.proofs.Common.{ℕ, refl, sym, subst, ◌∙◌, List}
 use Rattle.bd_keys.specs.Keys.{Begins}
 use Rattle.bd_message.proofs.Finds.{not_both}
 use Rattle.bd_node.specs.Meaning.{Nodes, at}

@@ -1,4 +1,4 @@
-use Rattle.std.proofs.Common.{◌≡◌, ◌≤◌}
+use Rattle.std.proofs.Common.{◌≡◌}
 use Rattle.bd_node.specs.Meaning.{at}
 use Rattle.bd_node.specs.Tables.{IsSound}
 use Rattle.bd_query.specs.Stretches.{way_limit}

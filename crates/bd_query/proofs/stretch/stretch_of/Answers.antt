@@ -1,12 +1,10 @@
-use Rattle.std.proofs.Common.{◌≡◌, ℕ, ◌+◌, ◌≤◌, ◌++◌, sym, ap, subst, ◌∙◌, arith, List, Option, drop, length}
-use Rattle.bd_message.specs.declared.message.Message.{Message}
+use Rattle.std.proofs.Common.{◌≡◌, ℕ, ◌+◌, sym, ap, subst, ◌∙◌, arith, List, Option, drop}
 use Rattle.bd_message.specs.Effect.{NodesAt}
 use Rattle.bd_node.specs.declared.node.Edge.{Edge}
 use Rattle.bd_node.specs.declared.node.Entry.{Entry}
 use Rattle.bd_node.specs.declared.node.Node.{Node}
-use Rattle.bd_node.specs.Nodes.{node_at, names, edge_at, edge_names, message_names, entry_at}
+use Rattle.bd_node.specs.Nodes.{node_at, names, entry_at}
 use Rattle.bd_node.specs.Shape.{end_before}
-use Rattle.std.specs.List.{flat_map}
 use Rattle.bd_query.specs.declared.stretch.Stretch.{Stretch}
 use Rattle.bd_query.specs.Stretches.{IsEnd, IsWay, IsStretch, EndsBy, AsksOneOf, end_limit}
 use Rattle.bd_query.proofs.Parts.{if_ok}
@@ -26,8 +24,7 @@ pub through-requires-clause-seen : goal.through-requires-clause-seen
 through-requires-clause-seen c =
     let at_place : IsPlaced c.in-Inner.level c.in-Inner.edges c.in-Inner.buffer c.args.key.now c.edge_place-place.result c.index-edges-place.result =
     placed c.args.node.now c.in-Inner.level c.in-Inner.edges c.as_slice-edges.result.now c.in-Inner.buffer c.args.key.now c.edge_place-place.result c.index-edges-place.result c.requires c.in-Inner.is c.as_slice-edges.ensures c.edge_place-place.ensures.edge c.edge_place-place.ensures.within c.index-edges-place.is in
-    subst (λ (ms : List Message). c.index-edges-place.result.seen ≤ length ms) (sym c.as_slice-in-Inner.ensures)
-    (placed_seen c.in-Inner.level c.in-Inner.edges c.in-Inner.buffer c.args.key.now c.edge_place-place.result c.index-edges-place.result at_place)
+    placed_seen c.in-Inner.level c.in-Inner.edges c.in-Inner.buffer c.args.key.now c.edge_place-place.result c.index-edges-place.result at_place
 
 pub through-requires-clause-end : goal.through-requires-clause-end
 through-requires-clause-end c =
@@ -55,7 +52,7 @@ returns-in_ok-end-in-Inner-clause-stretch c =
     subst (λ (n : Node). IsStretch below (node_at below n) c.args.key.now s) (sym c.in-Inner.is)
     (placed_stretch below c.in-Inner.level c.in-Inner.edges c.in-Inner.buffer c.args.key.now c.edge_place-place.result c.index-edges-place.result s at_place (λ i. omega (arith, c.type_inv.key i))
     (subst (λ (e : Option (List ℕ)). EndsBy e s) (sym end) by)
-    (subst (λ (ms : List Message). IsStretch below (edge_at below c.index-edges-place.result ms) c.args.key.now s) c.as_slice-in-Inner.ensures (said below))))
+    (said below)))
 
 pub returns-in_ok-end-in-Inner-clause-named : goal.returns-in_ok-end-in-Inner-clause-named
 returns-in_ok-end-in-Inner-clause-named c =
@@ -64,4 +61,4 @@ returns-in_ok-end-in-Inner-clause-named c =
     if_ok _ _ c.through.result c.through.ensures.named (λ (s : Stretch) h.
     subst (λ (n : Node). AsksOneOf (names n) s) (sym c.in-Inner.is)
     (asks_of_node c.in-Inner.edges c.in-Inner.buffer c.args.key.now c.index-edges-place.result s (sym at_place.edge ∙ at_place.there)
-    (subst (λ (ms : List Message). AsksOneOf (edge_names c.index-edges-place.result ++ flat_map message_names ms) s) c.as_slice-in-Inner.ensures h)))
+    h))

@@ -1,4 +1,5 @@
-use Rattle.std.proofs.Common.{ℕ, subst, ◌∙◌, arith, Option}
+use Rattle.std.proofs.Common.{◌≡◌, ℕ, List, get_or, subst, ◌∙◌, arith, Option}
+use Rattle.bd_message.specs.declared.message.Message.{Message}
 use Rattle.bd_message.specs.Effect.{NodesAt}
 use Rattle.bd_node.specs.Nodes.{edge_at, edge_names}
 use Rattle.bd_query.specs.declared.stretch.Stretch.{Stretch}
@@ -17,8 +18,8 @@ returns-in-Some-clause-stretch c =
     let newest = subst (λ (p : Option ℕ). IsNewest c.args.buffer.now c.args.edge.now.seen c.args.key.now p c.in_ok-place.field-0.end) c.in-Some.is c.in_ok-place.ensures.newest in
     if_both _ _ (λ (s : Stretch). (below : NodesAt) → IsStretch below (edge_at below c.args.edge.now c.args.buffer.now) c.args.key.now s) c.of_message.result c.of_message.ensures.stretch c.of_message.ensures.within
     (λ s said by below.
-    through_message below c.args.edge.now c.args.buffer.now c.args.key.now c.in_ok-place.field-0.end c.in-Some.place c.index-buffer-place.result s newest
-    (newest_there c.args.buffer.now c.args.edge.now.seen c.args.key.now c.in_ok-place.field-0.end c.in-Some.place c.index-buffer-place.result newest c.index-buffer-place.is)
+    through_message below c.args.edge.now c.args.buffer.now c.args.key.now c.in_ok-place.field-0.end c.in-Some.place c.index-list-place.result s newest
+    (newest_there c.args.buffer.now c.args.edge.now.seen c.args.key.now c.in_ok-place.field-0.end c.in-Some.place c.index-list-place.result newest (subst (λ (list : List Message). c.index-list-place.result ≡ get_or list c.in-Some.place c.index-list-place.result) c.as_slice-list.ensures c.index-list-place.is))
     by (λ i. omega (arith, c.type_inv.key i)) c.in_ok-place.ensures.end.above (said below))
 
 pub returns-in-Some-clause-within : goal.returns-in-Some-clause-within
@@ -29,8 +30,8 @@ pub returns-in-Some-clause-named : goal.returns-in-Some-clause-named
 returns-in-Some-clause-named c =
     let newest = subst (λ (p : Option ℕ). IsNewest c.args.buffer.now c.args.edge.now.seen c.args.key.now p c.in_ok-place.field-0.end) c.in-Some.is c.in_ok-place.ensures.newest in
     if_ok _ _ c.of_message.result c.of_message.ensures.named (λ (s : Stretch) h.
-    asks_of_message (edge_names c.args.edge.now) c.args.buffer.now c.in-Some.place c.index-buffer-place.result s
-    (newest_there c.args.buffer.now c.args.edge.now.seen c.args.key.now c.in_ok-place.field-0.end c.in-Some.place c.index-buffer-place.result newest c.index-buffer-place.is) h)
+    asks_of_message (edge_names c.args.edge.now) c.args.buffer.now c.in-Some.place c.index-list-place.result s
+    (newest_there c.args.buffer.now c.args.edge.now.seen c.args.key.now c.in_ok-place.field-0.end c.in-Some.place c.index-list-place.result newest (subst (λ (list : List Message). c.index-list-place.result ≡ get_or list c.in-Some.place c.index-list-place.result) c.as_slice-list.ensures c.index-list-place.is)) h)
 
 pub returns-in-None-clause-stretch : goal.returns-in-None-clause-stretch
 returns-in-None-clause-stretch c =
@@ -52,7 +53,7 @@ pub returns-in-Some-clause-asks : goal.returns-in-Some-clause-asks
 returns-in-Some-clause-asks c =
     let newest = subst (λ (p : Option ℕ). IsNewest c.args.buffer.now c.args.edge.now.seen c.args.key.now p c.in_ok-place.field-0.end) c.in-Some.is c.in_ok-place.ensures.newest in
     if_ok _ _ c.of_message.result c.of_message.ensures.asks (λ (s : Stretch) h.
-    newest_asks c.args.buffer.now c.args.edge.now.seen c.args.key.now c.in_ok-place.field-0.end c.in-Some.place c.index-buffer-place.result (asked_first c.args.edge.now c.args.key.now) newest c.in_ok-place.ensures.end.above c.index-buffer-place.is ∙ h)
+    newest_asks c.args.buffer.now c.args.edge.now.seen c.args.key.now c.in_ok-place.field-0.end c.in-Some.place c.index-list-place.result (asked_first c.args.edge.now c.args.key.now) newest c.in_ok-place.ensures.end.above (subst (λ (list : List Message). c.index-list-place.result ≡ get_or list c.in-Some.place c.index-list-place.result) c.as_slice-list.ensures c.index-list-place.is) ∙ h)
 
 pub returns-in-None-clause-asks : goal.returns-in-None-clause-asks
 returns-in-None-clause-asks c =

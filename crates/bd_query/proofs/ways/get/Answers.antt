@@ -1,4 +1,4 @@
-use Rattle.std.proofs.Common.{ap, sym, ◌∙◌, subst, refl, arith, List, ℕ, ◌≤◌, ◌<◌}
+use Rattle.std.proofs.Common.{ap, sym, ◌∙◌, subst, refl, List, ℕ, ◌<◌}
 use Rattle.bd_keys.specs.Keys.{IsKey}
 use Rattle.bd_node.specs.Nodes.{node_at}
 use Rattle.bd_node.specs.Meaning.{Nodes, at}
