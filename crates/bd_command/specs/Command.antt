@@ -1,5 +1,5 @@
 -- Which commands write, and which are commands at all.
-use Rattle.std.specs.Prelude.{ℕ, ◌^◌, ◌<◌, ◌≤◌, Bool, true, false, ◌&&◌, if◌then◌else◌, List, length, IsTrue}
+use Rattle.std.specs.Prelude.{ℕ, ◌^◌, ◌<◌, ◌≤◌, Bool, true, false, ◌&&◌, if◌then◌else◌, List, length, IsTrue, ⊤}
 use Rattle.std.specs.List.{AllByRecursion}
 use Rattle.std.specs.declared.option.Option.{Option}
 use Rattle.std.specs.declared.option.Option.TheVariants.{None, Some}
@@ -46,7 +46,7 @@ IsWritten bytes =
 
 -- a name, where one is given
 abbrev pub IsAfter : Option (List ℕ) → Type 0
-IsAfter None = Unit {0}
+IsAfter None = ⊤
 IsAfter (Some name) = IsTrue (is_name name)
 
 -- the fields of a command are within their limits
@@ -64,9 +64,9 @@ IsCommand (Ls path after) = IsShortPath path × IsAfter after
 
 -- at most 4,096 bytes, and at most 100 names
 abbrev pub IsReply : Reply → Type 0
-IsReply Done = Unit {0}
+IsReply Done = ⊤
 IsReply (Bytes bytes) = length bytes ≤ read_limit
-IsReply Dir = Unit {0}
-IsReply (File len) = Unit {0}
+IsReply Dir = ⊤
+IsReply (File len) = ⊤
 IsReply (Names l) = length l.names ≤ listing_limit
-IsReply (Refused r) = Unit {0}
+IsReply (Refused r) = ⊤

@@ -9,12 +9,12 @@ use Rattle.std.proofs.lemmas.Slice.Zip.{AllZip-long}
 use Rattle.std.specs.Ordering.{is_lt}
 use Rattle.bd_limits.specs.Limits.{key_limit, buffer_limit, edge_limit}
 use Rattle.bd_keys.specs.Keys.{key_cmp, IsKey}
-use Rattle.bd_keys.proofs.Order.{IsKey-rest}
+use Rattle.bd_keys.proofs.Order.{IsKey-rest, IsKey-drop}
 use Rattle.bd_message.specs.declared.message.Message.{Message}
 use Rattle.bd_message.specs.declared.message.Message.TheVariants.{Put, Del, Patch, Cut, Goto}
 use Rattle.bd_message.specs.Messages.{IsMessage, size}
 use Rattle.bd_message.specs.Effect.{begins, rest, is_cut, act, acts}
-use Rattle.bd_message.proofs.Prefixes.{least_nil}
+use Rattle.bd_message.proofs.Prefixes.{least_nil, is_cut-all}
 use Rattle.bd_node.specs.declared.node.Edge.{Edge}
 use Rattle.bd_node.specs.declared.node.Node.{Node}
 use Rattle.bd_node.specs.declared.node.Node.TheVariants.{Inner}
@@ -31,11 +31,6 @@ use Rattle.bd_resolve.specs.Following.{target_at, IsLowerTarget, IsShort, target
 use Rattle.bd_copy.specs.Shortening.{edge_way, goto_way, IsKeptTarget, IsShortWay, target_child, target_source, sent_edge, IsShortEdge, IsSameEdge, sent_keys, IsShortMessage, IsSameMessage, CanShorten, IsShortened}
 
 -- ---- what stands at a key
-
-IsKey-drop : (n : ℕ) (k : List ℕ) → IsKey k → IsKey (drop n k)
-IsKey-drop zero k key = key
-IsKey-drop (suc n) [] key = key
-IsKey-drop (suc n) (b ∷ k) key = IsKey-drop n k (IsKey-rest b k key)
 
 acts_dropped_same : (nodes : Nodes) (n : ℕ) (ms ns : List Message) (k : List ℕ) → AllZip (IsSameMessage nodes) ms ns → IsKey k → (old : Option (List ℕ)) → acts (at nodes) (drop n ns) k old ≡ acts (at nodes) (drop n ms) k old
 acts_dropped_same nodes zero [] [] k h key old = refl
@@ -101,17 +96,10 @@ edge_to_nothing nodes e f child is =
 
 -- ---- messages to other targets
 
-and_true : (b : Bool) → b && not false ≡ b
-and_true true = refl
-and_true false = refl
-
-cut_all : (s k : List ℕ) → is_cut s [] k ≡ begins k s
-cut_all s k = ap (λ (b : Bool). begins k s && not b) (not_less_lt (key_cmp (rest s k) []) (least_nil (rest s k))) ∙ and_true (begins k s)
-
 sent_does : (nodes : Nodes) (prefix source : List ℕ) (c : ℕ) (target : Option Target) → ((k : List ℕ) → IsKey k → target_at (at nodes) target k ≡ at nodes c (source ++ k)) → IsSameMessage nodes (Goto prefix source c) (sent_keys prefix target)
 sent_does nodes prefix source c None h = record {
   does = λ k key old.
-      ap (λ (b : Bool). cond b None old) (cut_all prefix k)
+      ap (λ (b : Bool). cond b None old) (is_cut-all prefix k)
       ∙ ap (λ (v : Option (List ℕ)). cond (begins k prefix) v old) (h (rest prefix k) (IsKey-drop (length prefix) k key));
 }
 sent_does nodes prefix source c (Some target) h = record {

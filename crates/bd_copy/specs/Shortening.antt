@@ -1,5 +1,5 @@
 -- Nodes whose sources were longer than 518 bytes.
-use Rattle.std.specs.Prelude.{◌≡◌, ℕ, ◌+◌, ◌≤◌, nat_lt, if◌then◌else◌, List, [], ◌++◌, length, Option, None, Some}
+use Rattle.std.specs.Prelude.{◌≡◌, ℕ, ◌+◌, ◌≤◌, nat_lt, if◌then◌else◌, List, [], ◌++◌, length, Option, None, Some, ⊤}
 use Rattle.std.specs.List.{AllByRecursion, AllZip}
 use Rattle.bd_limits.specs.Limits.{key_limit}
 use Rattle.bd_keys.specs.Keys.{IsKey}
@@ -33,7 +33,7 @@ goto_way (Goto prefix source child) = target_of (Some child) source
 
 -- the target's node is kept, if there is one
 abbrev pub IsKeptTarget : Table → Option Target → Type 0
-IsKeptTarget t None = Unit {0}
+IsKeptTarget t None = ⊤
 IsKeptTarget t (Some target) = IsKept t target.child
 
 -- a target stands for another: its source has at most 518 bytes, its node is kept and no higher; one

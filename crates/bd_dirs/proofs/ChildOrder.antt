@@ -11,7 +11,7 @@ use Rattle.bd_wire.specs.Numbers.{be}
 use Rattle.bd_represent.proofs.KeyLemmas.{key_of-apart}
 use Rattle.bd_represent.specs.EntryKeys.{record_key, IsEntryKey}
 use Rattle.bd_keys.specs.Keys.{key_cmp, IsBelow, IsAtLeast}
-use Rattle.bd_keys.proofs.Order.{first_less, first_same, first_more, not_below_itself, not_below_nil}
+use Rattle.bd_keys.proofs.Order.{first_less, first_same, first_more, not_below_itself, not_below_nil, key_cmp-front}
 
 -- two numbers, compared
 compared : (a b : ℕ) → (a < b) ⊎ ((a ≡ b) ⊎ (b < a))
@@ -46,11 +46,6 @@ before_byte (b ∷ m) (c ∷ n) a x y bytes small below = by (compared b c) (bef
         let shorter : IsBelow m n = sym (first_same b m n) ∙ ap (λ (d : ℕ). key_cmp (b ∷ m) (d ∷ n)) h ∙ below in
         ap (λ (d : ℕ). key_cmp (b ∷ (m ++ a ∷ x)) (d ∷ (n ++ y))) (sym h) ∙ first_same b (m ++ a ∷ x) (n ++ y) ∙ ih shorter
     by (inr (inr h)) ih = absurd (not_more_less (key_cmp (b ∷ m) (c ∷ n)) (first_more b c m n h) below)
-
--- after one front, keys compare as their rests do
-pub key_cmp-front : (p x y : List ℕ) → key_cmp (p ++ x) (p ++ y) ≡ key_cmp x y
-key_cmp-front [] x y = refl
-key_cmp-front (b ∷ p) x y = first_same b (p ++ x) (p ++ y) ∙ key_cmp-front p x y
 
 -- two names, compared
 pub name_cases : (m n : List ℕ) → (IsBelow m n) ⊎ ((m ≡ n) ⊎ IsBelow n m)

@@ -24,8 +24,9 @@ use Rattle.bd_records.specs.declared.Record.{Record}
 use Rattle.bd_records.specs.Records.{IsReadAs}
 use Rattle.bd_files.proofs.Records.{record-found}
 use Rattle.bd_dirs.specs.Listings.{first_of, lower, key_after}
-use Rattle.bd_dirs.proofs.ChildOrder.{key_cmp-front, child_key, name_from, from_name, names_as_keys, zero_below, above_nil}
+use Rattle.bd_dirs.proofs.ChildOrder.{child_key, name_from, from_name, names_as_keys, zero_below, above_nil}
 use Rattle.bd_dirs.proofs.Listings.{those-has, those-first, first-least}
+use Rattle.bd_keys.proofs.Order.{key_cmp-front}
 
 some_entry : (o : Option Entry) → IsSome (option_map record_value o) → IsSome o
 some_entry None h = h

@@ -25,9 +25,10 @@ use Rattle.bd_represent.specs.Plans.{Makes, source, source_of}
 use Rattle.bd_represent.proofs.ActLemmas.{put-here}
 use Rattle.bd_represent.proofs.FileLemmas.{HasBytes-along}
 use Rattle.bd_represent.proofs.TreeLemmas.{Represents-along, Represents-insert}
-use Rattle.bd_represent.proofs.SubtreeLemmas.{is_cut-all, Represents-without, Represents-grafted}
+use Rattle.bd_represent.proofs.SubtreeLemmas.{Represents-without, Represents-grafted}
 use Rattle.bd_files.proofs.Writes.{put_at, put_only, put_beside, put_blocks}
 use Rattle.bd_dirs.specs.Plans.{MakesByGraft}
+use Rattle.bd_message.proofs.Prefixes.{is_cut-all}
 
 -- ---- a new entry
 

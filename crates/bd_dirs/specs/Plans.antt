@@ -1,5 +1,5 @@
 -- What is planned for a command.
-use Rattle.std.specs.Prelude.{◌≡◌, ◌≤◌, Bool, false, List, ℕ, [], length, Some, None}
+use Rattle.std.specs.Prelude.{◌≡◌, ◌≤◌, Bool, false, List, ℕ, [], length, Some, None, ⊤}
 use Rattle.bd_limits.specs.Limits.{key_limit, write_limit}
 use Rattle.bd_keys.specs.Keys.{Begins}
 use Rattle.bd_command.specs.declared.Command.{Command}
@@ -18,16 +18,16 @@ use Rattle.bd_dirs.specs.declared.plan.Plan.TheVariants.{Refused, Apply, Graft}
 
 -- a write carries 1 to 2,048 bytes
 abbrev pub HasSize : Command → Type 0
-HasSize (Mkdir path) = Unit {0}
-HasSize (Create path) = Unit {0}
+HasSize (Mkdir path) = ⊤
+HasSize (Create path) = ⊤
 HasSize (Write path off bytes) = (1 ≤ length bytes) × (length bytes ≤ write_limit)
-HasSize (Truncate path len) = Unit {0}
-HasSize (Remove path) = Unit {0}
-HasSize (Rename a b) = Unit {0}
-HasSize (Clone a b) = Unit {0}
-HasSize (Read path off len) = Unit {0}
-HasSize (Stat path) = Unit {0}
-HasSize (Ls path after) = Unit {0}
+HasSize (Truncate path len) = ⊤
+HasSize (Remove path) = ⊤
+HasSize (Rename a b) = ⊤
+HasSize (Clone a b) = ⊤
+HasSize (Read path off len) = ⊤
+HasSize (Stat path) = ⊤
+HasSize (Ls path after) = ⊤
 
 -- a map that had this represents the tree once the graft is done
 abbrev pub MakesByGraft : At → List ℕ → List ℕ → Bool → Tree → Type 0
@@ -44,22 +44,22 @@ IsPlan at t c (Graft s d keep) =
 
 -- what is planned can be done wherever there is room
 abbrev pub IsReady : Plan → Type 0
-IsReady (Refused refusal) = Unit {0}
+IsReady (Refused refusal) = ⊤
 IsReady (Apply list) = IsSmallBatch list
 IsReady (Graft s d keep) =
     (length s ≤ key_limit) × (length d ≤ key_limit) × (keep ≡ false → ¬ Begins d s)
 
 -- a refusal, or messages
 abbrev pub SendsMessages : Plan → Type 0
-SendsMessages (Refused refusal) = Unit {0}
-SendsMessages (Apply list) = Unit {0}
+SendsMessages (Refused refusal) = ⊤
+SendsMessages (Apply list) = ⊤
 SendsMessages (Graft s d keep) = ⊥
 
 -- a refusal, or a graft
 abbrev pub IsGraftPlan : Plan → Type 0
-IsGraftPlan (Refused refusal) = Unit {0}
+IsGraftPlan (Refused refusal) = ⊤
 IsGraftPlan (Apply list) = ⊥
-IsGraftPlan (Graft s d keep) = Unit {0}
+IsGraftPlan (Graft s d keep) = ⊤
 
 -- what commands that read, send or graft may have planned
 abbrev pub IsPlanOf : Kind → Plan → Type 0

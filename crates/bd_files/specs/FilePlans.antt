@@ -1,5 +1,5 @@
 -- What is planned for a file.
-use Rattle.std.specs.Prelude.{◌≡◌, ℕ, List, length, Some, None}
+use Rattle.std.specs.Prelude.{◌≡◌, ℕ, List, length, Some, None, ⊤}
 use Rattle.std.specs.FinMap.{get}
 use Rattle.bd_command.specs.declared.Command.{Command}
 use Rattle.bd_model.specs.Tree.{Tree}
@@ -22,5 +22,5 @@ size_at t path = length (file_bytes (get t path))
 
 -- messages that are planned can be done wherever there is room
 abbrev pub IsReady : FilePlan → Type 0
-IsReady (Refused refusal) = Unit {0}
+IsReady (Refused refusal) = ⊤
 IsReady (Apply list) = IsSmallBatch list

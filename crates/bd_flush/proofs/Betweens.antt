@@ -42,10 +42,11 @@ use Rattle.bd_flush.specs.Raising.IsRaisedOver.{is_above, rises_too}
 use Rattle.bd_flush.specs.Pushes.{seen_by, CanPush, IsPushBetween, IsPushedBetween}
 use Rattle.bd_flush.proofs.Raisings.{level_high}
 use Rattle.bd_flush.proofs.RootSplits.{over_shape, two_have, times_made}
-use Rattle.bd_flush.proofs.ChildSplits.{one_fits, one_times, one_names, as_edge, child_named, lower_child, level_exchanged, compacted_small, some_next, other_names, at_child, IsKey-drop, IsSplittable, IsSplittableOf}
+use Rattle.bd_flush.proofs.ChildSplits.{one_fits, one_times, one_names, as_edge, child_named, lower_child, level_exchanged, compacted_small, some_next, other_names, at_child, IsSplittable, IsSplittableOf}
 use Rattle.bd_flush.proofs.Pushed.{batch_low, relieved_inside, leaf_received}
 use Rattle.bd_flush.proofs.PathSteps.{IsMadeUnder, IsUpper, IsPathStep, RisesByOne, level_bound, given_child, given_upper, has_made, has_path, path_child, path_old, each_change, IsPathStepOf, root_stays, root_rises, path_flushed}
 use Rattle.bd_flush.proofs.RisingSteps.{raised_size, raised_times, raised_level, raised_shape, raised_has, IsLink, way_link, way_top, link_names, link_lower, only_namer, rising_rises, rising_uppers, rising_above, once_above, rising_once, rising_short, IsChangedBy, changed_more, all_changed, has_room, rising_of}
+use Rattle.bd_keys.proofs.Order.{IsKey-drop}
 
 -- ---- the parent, one level higher where it has to be
 

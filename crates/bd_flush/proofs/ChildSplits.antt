@@ -12,7 +12,7 @@ use Rattle.std.proofs.lemmas.Cmp.{nat_list_cmp_total as total}
 use Rattle.std.proofs.Math.Seq.{take-append_seam}
 use Rattle.bd_limits.specs.Limits.{key_limit}
 use Rattle.bd_keys.specs.Keys.{key_cmp, IsKey, IsBelow, IsBelowEnd, IsAtLeast, InRange, IsCommon}
-use Rattle.bd_keys.proofs.Order.{none_between}
+use Rattle.bd_keys.proofs.Order.{none_between, IsKey-drop, key_cmp-front}
 use Rattle.bd_message.specs.Effect.{NodesAt, acts}
 use Rattle.bd_node.specs.declared.node.Edge.{Edge}
 use Rattle.bd_node.specs.declared.node.Node.{Node}
@@ -31,7 +31,6 @@ use Rattle.bd_inner.proofs.Fitting.{own_shape, seen_fits}
 use Rattle.bd_inner.specs.Halves.{edges_of, buffer_of, IsHalf, AreHalves}
 use Rattle.bd_inner.specs.Moving.{lifted}
 use Rattle.bd_inner.specs.Exchange.{exchanged, end_at, IsKeyOf, IsEdgeAt, FitsAt}
-use Rattle.bd_message.proofs.Prefixes.{cmp_after}
 use Rattle.bd_inner.proofs.Compacting.{count_names, count_names-append, edge_names-lowered, compacted_shape, compacted_level, compacted_meaning, compacted_size, compacted_times}
 use Rattle.bd_inner.proofs.Exchanged.{in_range, at_place, exchanged_shape, meaning_inside, meaning_outside, meaning_without}
 use Rattle.bd_flush.specs.declared.children.Parts.{Parts}
@@ -145,9 +144,6 @@ edge_same below has n place e f k others seen child =
 
 -- ---- a key of the edge, and what the child is asked for it
 
-pub IsKey-drop : (count : ℕ) (k : List ℕ) → IsKey k → IsKey (drop count k)
-IsKey-drop count k h i = subst (λ (b : ℕ). b < 256) (sym (get_or-drop count k i 0)) (h (count + i))
-
 pub lifted_length : (e : Edge) → e.lift ≤ length e.pivot → length (lifted e) ≡ e.lift
 lifted_length e low = omega (arith, length-take e.lift e.pivot)
 
@@ -159,7 +155,7 @@ key_parts n e hi k h key range =
 -- the parts compare as the keys do
 pub parts_cmp : (n : ℕ) (e : Edge) (hi : Option (List ℕ)) (k pivot : List ℕ) → IsEdge n e hi → IsKey k → InRange e.pivot hi k → key_cmp k (parting e pivot) ≡ key_cmp (drop e.lift k) pivot
 parts_cmp n e hi k pivot h key range =
-    ap (λ (l : List ℕ). key_cmp l (parting e pivot)) (key_parts n e hi k h key range) ∙ cmp_after (lifted e) (drop e.lift k) pivot
+    ap (λ (l : List ℕ). key_cmp l (parting e pivot)) (key_parts n e hi k h key range) ∙ key_cmp-front (lifted e) (drop e.lift k) pivot
 
 -- ---- the situation
 

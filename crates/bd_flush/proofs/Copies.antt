@@ -39,9 +39,10 @@ use Rattle.bd_flush.specs.Paths.{path_step}
 use Rattle.bd_flush.specs.Pushes.{IsOwn}
 use Rattle.bd_flush.specs.Copies.{CanPutCopy, IsCopyFor, IsCopyAt, IsRedirected, IsCopyStep, IsCopyPut}
 use Rattle.bd_message.proofs.Causes.{cause_weaker}
-use Rattle.bd_flush.proofs.ChildSplits.{some_edge, times_exchanged, inner_of, count_own, level_exchanged, compacted_named, exchanged_named, size_exchanged, some_next, IsKey-drop, edge_here}
+use Rattle.bd_flush.proofs.ChildSplits.{some_edge, times_exchanged, inner_of, count_own, level_exchanged, compacted_named, exchanged_named, size_exchanged, some_next, edge_here}
 use Rattle.bd_flush.proofs.LeafPushes.{times_without}
 use Rattle.bd_flush.proofs.PathSteps.{IsPathStep, IsPathStepOf, IsPathDone, given_child, given_upper, has_made, made_old, made_new, path_child, path_may, path_in_place, path_flushed, path_worn, root_stays, both_ways}
+use Rattle.bd_keys.proofs.Order.{IsKey-drop}
 
 -- ---- the node above
 

@@ -26,9 +26,10 @@ use Rattle.bd_inner.proofs.Compacting.{count_names, compacted_shape, compacted_l
 use Rattle.bd_inner.proofs.Fitting.{own_shape, way_fits}
 use Rattle.bd_inner.proofs.Exchanged.{exchanged_shape, pushed}
 use Rattle.bd_flush.specs.Pushes.{seen_by, unseen, IsWaitedFor, IsEdgeBatch, IsWay, IsNewLeaf}
-use Rattle.bd_flush.proofs.ChildSplits.{times_exchanged, exchanged_same, inner_of, count_own, level_exchanged, compacted_named, exchanged_named, size_exchanged, some_next, asks_at, IsKey-drop}
+use Rattle.bd_flush.proofs.ChildSplits.{times_exchanged, exchanged_same, inner_of, count_own, level_exchanged, compacted_named, exchanged_named, size_exchanged, some_next, asks_at}
 use Rattle.bd_flush.proofs.Pushed.{moved_seen, acts_alike, batch_plain}
 use Rattle.bd_flush.proofs.LeafSteps.{has_leaf, leaf_old, leaf_new, IsLeafChange, IsLeafChangeOf}
+use Rattle.bd_keys.proofs.Order.{IsKey-drop}
 
 -- ---- the way
 

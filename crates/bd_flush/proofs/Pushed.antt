@@ -32,7 +32,8 @@ use Rattle.bd_flush.specs.Pushes.{seen_by, unseen, AllGoDown, IsWaitedFor, IsEdg
 use Rattle.bd_flush.specs.Pushes.IsPushInto.{received, fitted, split}
 use Rattle.bd_flush.proofs.GoingDown.{parts_low}
 use Rattle.bd_flush.proofs.ChildSteps.{has_below, has_child, has_old, IsChildChange, IsChildChangeOf}
-use Rattle.bd_flush.proofs.ChildSplits.{child_named, one_fits, one_names, one_change, compacted_small, others_agree, gotos_agree, asks, asks_at, IsKey-drop, IsSplittable, IsSplittableOf, split_change, split_meaning, split_few, split_named, split_size}
+use Rattle.bd_flush.proofs.ChildSplits.{child_named, one_fits, one_names, one_change, compacted_small, others_agree, gotos_agree, asks, asks_at, IsSplittable, IsSplittableOf, split_change, split_meaning, split_few, split_named, split_size}
+use Rattle.bd_keys.proofs.Order.{IsKey-drop}
 
 -- ---- the node above
 

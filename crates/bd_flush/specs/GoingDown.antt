@@ -1,5 +1,5 @@
 -- Which messages may go down an edge.
-use Rattle.std.specs.Prelude.{◌≡◌, ℕ, ◌<◌, true, List, Option, None, Some}
+use Rattle.std.specs.Prelude.{◌≡◌, ℕ, ◌<◌, true, List, Option, None, Some, ⊤}
 use Rattle.bd_keys.specs.Keys.{IsKey, IsBelow, InRange}
 use Rattle.bd_message.specs.declared.message.Message.{Message}
 use Rattle.bd_message.specs.declared.message.Message.TheVariants.{Put, Del, Patch, Cut, Goto}
@@ -19,10 +19,10 @@ IsBelowAll prefix key = (k : List ℕ) → begins k prefix ≡ true → IsBelow 
 -- the message may go down an edge, whose keys end there, to a child of a level: it names no node, or
 -- it is a Goto of keys that are all the edge's, and names a node of a lower level than the child's
 abbrev pub MayGoDown : (ℕ → ℕ) → ℕ → Edge → Option (List ℕ) → Message → Type 0
-MayGoDown level top e hi (Put key value) = Unit {0}
-MayGoDown level top e hi (Del key) = Unit {0}
-MayGoDown level top e hi (Patch key off bytes) = Unit {0}
-MayGoDown level top e hi (Cut prefix from) = Unit {0}
+MayGoDown level top e hi (Put key value) = ⊤
+MayGoDown level top e hi (Del key) = ⊤
+MayGoDown level top e hi (Patch key off bytes) = ⊤
+MayGoDown level top e hi (Cut prefix from) = ⊤
 MayGoDown level top e hi (Goto prefix source child) =
     (level child < top) × LiesWithin prefix e.pivot hi
 

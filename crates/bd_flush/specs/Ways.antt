@@ -1,5 +1,5 @@
 -- The way down that a step of a flush takes, and what is to be done at its end.
-use Rattle.std.specs.Prelude.{◌≡◌, ◌≢◌, ℕ, ◌<◌, ◌≤◌, ◌⊎◌, List, [], length, reverse, Option, None, Some, slice_get}
+use Rattle.std.specs.Prelude.{◌≡◌, ◌≢◌, ℕ, ◌<◌, ◌≤◌, ◌⊎◌, List, [], length, reverse, Option, None, Some, slice_get, ⊤}
 use Rattle.std.specs.List.{AllByRecursion}
 use Rattle.bd_limits.specs.Limits.{soft_limit}
 use Rattle.bd_message.specs.declared.message.Message.{Message}
@@ -103,20 +103,20 @@ IsDue t (Carve above parent place) = HasHeldGoto t parent place × IsUnder t par
 
 -- more than 16,384 bytes wait in a child that is to be split
 abbrev pub HasFullChild : FlushStep → Type 0
-HasFullChild (SplitRoot root) = Unit {0}
+HasFullChild (SplitRoot root) = ⊤
 HasFullChild (SplitChild above parent place child) = soft_limit < buffer_size child.node.value
-HasFullChild (Push above parent place child) = Unit {0}
-HasFullChild (Privatise above parent place) = Unit {0}
-HasFullChild (Carve above parent place) = Unit {0}
+HasFullChild (Push above parent place child) = ⊤
+HasFullChild (Privatise above parent place) = ⊤
+HasFullChild (Carve above parent place) = ⊤
 
 -- a message is pending for the edge from which messages go down
 abbrev pub IsWaited : FlushStep → Type 0
-IsWaited (SplitRoot root) = Unit {0}
-IsWaited (SplitChild above parent place child) = Unit {0}
+IsWaited (SplitRoot root) = ⊤
+IsWaited (SplitChild above parent place child) = ⊤
 IsWaited (Push above parent place child) = (e : Edge) → IsEdgeAt parent.node.value place e
     → SomeCanTouch e (end_at parent.node.value place) (unseen parent.node.value e)
-IsWaited (Privatise above parent place) = Unit {0}
-IsWaited (Carve above parent place) = Unit {0}
+IsWaited (Privatise above parent place) = ⊤
+IsWaited (Carve above parent place) = ⊤
 
 -- ---- where it is to be done
 
@@ -152,7 +152,7 @@ pub record IsFullestIn (t : Table) (f : Fetched) (place : ℕ) : Type 0 where
 
 -- the root is split, or the step is at the edge for which most bytes wait
 abbrev pub IsAtFullest : Table → FlushStep → Type 0
-IsAtFullest t (SplitRoot root) = Unit {0}
+IsAtFullest t (SplitRoot root) = ⊤
 IsAtFullest t (SplitChild above parent place child) = IsFullestIn t parent place
 IsAtFullest t (Push above parent place child) = IsFullestIn t parent place
 IsAtFullest t (Privatise above parent place) = IsFullestIn t parent place
@@ -164,7 +164,7 @@ IsToDo t step = IsDue t step × IsAtFullest t step × HasFullChild step
 
 -- the child, if there is one
 abbrev pub IsChildThere : Nodes → Option Fetched → Type 0
-IsChildThere nodes None = Unit {0}
+IsChildThere nodes None = ⊤
 IsChildThere nodes (Some child) = nodes child.id ≡ Some child.node.value
 
 -- it is to be done at private nodes of known ones
@@ -190,7 +190,7 @@ pub record IsFromRoot (nodes : Nodes) (t : Table) (step : FlushStep) : Type 0 wh
 
 -- the root is split, or the step is at an edge on the way from it
 abbrev pub HasWay : Nodes → Table → FlushStep → Type 0
-HasWay nodes t (SplitRoot root) = Unit {0}
+HasWay nodes t (SplitRoot root) = ⊤
 HasWay nodes t (SplitChild above parent place child) =
     IsFromRoot nodes t (SplitChild above parent place child)
 HasWay nodes t (Push above parent place child) = IsFromRoot nodes t (Push above parent place child)
@@ -203,7 +203,7 @@ IsToDoAt nodes t step = IsStanding nodes t step × HasWay nodes t step
 
 -- the nodes above the one where it is to be done, as far as the table tells
 abbrev pub IsWayOf : Table → FlushStep → Type 0
-IsWayOf t (SplitRoot root) = Unit {0}
+IsWayOf t (SplitRoot root) = ⊤
 IsWayOf t (SplitChild above parent place child) = IsWayUp t parent.id (reverse above)
 IsWayOf t (Push above parent place child) = IsWayUp t parent.id (reverse above)
 IsWayOf t (Privatise above parent place) = IsWayUp t parent.id (reverse above)
@@ -215,7 +215,7 @@ AreOwn nodes t way = AllByRecursion (IsOwn nodes t) way
 
 -- the nodes above are such ones
 abbrev pub IsWayThere : Nodes → Table → FlushStep → Type 0
-IsWayThere nodes t (SplitRoot root) = Unit {0}
+IsWayThere nodes t (SplitRoot root) = ⊤
 IsWayThere nodes t (SplitChild above parent place child) = AreOwn nodes t (reverse above)
 IsWayThere nodes t (Push above parent place child) = AreOwn nodes t (reverse above)
 IsWayThere nodes t (Privatise above parent place) = AreOwn nodes t (reverse above)

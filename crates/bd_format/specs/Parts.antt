@@ -1,5 +1,5 @@
 -- What is read of an image part by part, before it is known whether the node is well-formed.
-use Rattle.std.specs.Prelude.{◌≡◌, ℕ, ◌^◌, ◌<◌, ◌≤◌, List, ◌++◌, length, Option, None, Some}
+use Rattle.std.specs.Prelude.{◌≡◌, ℕ, ◌^◌, ◌<◌, ◌≤◌, List, ◌++◌, length, Option, None, Some, ⊤}
 use Rattle.std.specs.List.{AllByRecursion, flat_map}
 use Rattle.std.specs.Int.{w32, w64}
 use Rattle.bd_wire.specs.Numbers.{be, FitsWidth}
@@ -39,7 +39,7 @@ FitsEntry e = FitsText16 e.key × FitsText16 e.value
 
 -- a child's id has eight bytes, and isn't 0
 abbrev pub FitsChild : Option ℕ → Type 0
-FitsChild None = Unit {0}
+FitsChild None = ⊤
 FitsChild (Some child) = (1 ≤ child) × (child < 2 ^ 64)
 
 -- a child's number and how many messages it has already

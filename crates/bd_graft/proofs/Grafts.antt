@@ -8,7 +8,7 @@ use Rattle.std.proofs.lemmas.Bool.{cases_lt, cases_eq}
 use Rattle.std.proofs.lemmas.List.Sums.{sum_by-cons, sum_by-append}
 use Rattle.bd_limits.specs.Limits.{key_limit, buffer_limit, level_limit}
 use Rattle.bd_keys.specs.Keys.{IsKey, key_cmp}
-use Rattle.bd_keys.proofs.Order.{IsKey-rest}
+use Rattle.bd_keys.proofs.Order.{IsKey-rest, IsKey-drop}
 use Rattle.bd_message.specs.declared.message.Message.{Message}
 use Rattle.bd_message.specs.declared.message.Message.TheVariants.{Goto, Cut}
 use Rattle.bd_message.specs.Messages.{IsMessage, size}
@@ -36,7 +36,7 @@ use Rattle.bd_node.proofs.Privacy.{root_private}
 use Rattle.bd_node.specs.Steps.HasRoom.{of_root}
 use Rattle.bd_node.specs.declared.node.Node.TheVariants.{Leaf, Inner}
 use Rattle.std.proofs.lemmas.Grind.{flat_map-append}
-use Rattle.bd_message.proofs.Prefixes.{least_nil}
+use Rattle.bd_message.proofs.Prefixes.{least_nil, is_cut-all}
 use Rattle.bd_resolve.specs.declared.following.Target.{Target}
 use Rattle.bd_resolve.specs.Following.{target_at, IsLowerTarget}
 use Rattle.bd_graft.specs.declared.layers.Layer.{Layer}
@@ -49,18 +49,6 @@ use Rattle.bd_graft.specs.Grafting.{graft_messages, root_change, top_made, step_
 
 -- ---- what the messages of a graft do
 
-IsKey-drop : (n : ℕ) (k : List ℕ) → IsKey k → IsKey (drop n k)
-IsKey-drop zero k key = key
-IsKey-drop (suc n) [] key = key
-IsKey-drop (suc n) (b ∷ k) key = IsKey-drop n k (IsKey-rest b k key)
-
-and_true : (b : Bool) → b && not false ≡ b
-and_true true = refl
-and_true false = refl
-
-cut_all : (s k : List ℕ) → is_cut s [] k ≡ begins k s
-cut_all s k = ap (λ (b : Bool). begins k s && not b) (not_less_lt (key_cmp (rest s k) []) (least_nil (rest s k))) ∙ and_true (begins k s)
-
 if_begins : (b : Bool) (x y v w : Option (List ℕ)) → x ≡ y → v ≡ w → cond b x v ≡ cond b y w
 if_begins true x y v w e f = e
 if_begins false x y v w e f = f
@@ -69,7 +57,7 @@ pub graft_acts : (has : NodesAt) (old : At) (s d : List ℕ) (keep : Bool) (targ
 graft_acts has old s d true target k v moved same key =
     if_begins (begins k d) (has target.child (target.source ++ rest d k)) (old (s ++ rest d k)) v (old k) (moved (rest d k) (IsKey-drop (length d) k key)) same
 graft_acts has old s d false target k v moved same key =
-    ap (λ (b : Bool). cond b None (cond (begins k d) (has target.child (target.source ++ rest d k)) v)) (cut_all s k)
+    ap (λ (b : Bool). cond b None (cond (begins k d) (has target.child (target.source ++ rest d k)) v)) (is_cut-all s k)
     ∙ ap (λ (x : Option (List ℕ)). cond (begins k s) None x)
     (if_begins (begins k d) (has target.child (target.source ++ rest d k)) (old (s ++ rest d k)) v (old k) (moved (rest d k) (IsKey-drop (length d) k key)) same)
 

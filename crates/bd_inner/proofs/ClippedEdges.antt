@@ -10,12 +10,12 @@ use Rattle.std.proofs.lemmas.List.Folds.{flat_map-map}
 use Rattle.std.proofs.lemmas.List.Sums.{prefix_len-le-length}
 use Rattle.std.proofs.Math.Seq.{take-append-add, take-nil, take-length}
 use Rattle.bd_keys.specs.Keys.{key_cmp, IsKey, IsBelow, IsBelowEnd, IsAtLeast, Begins}
-use Rattle.bd_keys.proofs.Order.{below_from, IsKey-cons, IsKey-rest}
+use Rattle.bd_keys.proofs.Order.{below_from, IsKey-cons, IsKey-rest, key_cmp-front}
 use Rattle.bd_limits.specs.Limits.{key_limit}
 use Rattle.bd_message.specs.declared.message.Message.{Message}
 use Rattle.bd_message.specs.Effect.{NodesAt, begins, rest}
 use Rattle.bd_message.proofs.Finds.{begins-is}
-use Rattle.bd_message.proofs.Prefixes.{cmp_after, joined_other, least_nil, rest-append, rest_shorter}
+use Rattle.bd_message.proofs.Prefixes.{joined_other, least_nil, rest-append, rest_shorter}
 use Rattle.bd_node.specs.declared.node.Edge.{Edge}
 use Rattle.bd_node.specs.Nodes.{edge_names, edge_from, child_at}
 use Rattle.bd_node.specs.Shape.{end_before, EachEdge, IsChild, IsEdge}
@@ -81,7 +81,7 @@ from_facts s e (f ∷ es) first others low is =
 
 -- a key that begins with a prefix isn't below it
 pub least_begun : (s k : List ℕ) → IsAtLeast (s ++ k) s
-least_begun s k less = least_nil k (sym (cmp_after s k []) ∙ ap (λ (l : List ℕ). key_cmp (s ++ k) l) (append-nil s) ∙ less)
+least_begun s k less = least_nil k (sym (key_cmp-front s k []) ∙ ap (λ (l : List ℕ). key_cmp (s ++ k) l) (append-nil s) ∙ less)
 
 -- ---- what an edge asks
 
@@ -122,7 +122,7 @@ below_other s k p below out = joined_other s k p out ∙ below
 
 -- keys behind the prefix are in the order of the pivots behind it
 pivot_after : (s k p : List ℕ) → begins p s ≡ true → key_cmp (s ++ k) p ≡ key_cmp k (rest s p)
-pivot_after s k p h = ap (λ (l : List ℕ). key_cmp (s ++ k) l) (begins-is p s h) ∙ cmp_after s k (rest s p)
+pivot_after s k p h = ap (λ (l : List ℕ). key_cmp (s ++ k) l) (begins-is p s h) ∙ key_cmp-front s k (rest s p)
 
 -- what is below a pivot is below the next one
 below_next : (s : List ℕ) (f : Edge) (fs : List Edge) → IsBelow s f.pivot → IsBelowEnd f.pivot (end_before fs) → IsBelowEnd s (end_before fs)

@@ -5,12 +5,12 @@ use Rattle.std.proofs.lemmas.Cmp.{nat_list_cmp_total as total}
 use Rattle.std.proofs.lemmas.List.{append-nil}
 use Rattle.std.proofs.lemmas.Bool.{and_parts, and_from, cases_Bool, cases_order}
 use Rattle.bd_keys.specs.Keys.{key_cmp, IsBelow, IsBelowEnd, IsAtLeast, InRange}
-use Rattle.bd_keys.proofs.Order.{first_less, first_same, not_below_itself, below_from}
+use Rattle.bd_keys.proofs.Order.{first_less, first_same, not_below_itself, below_from, key_cmp-front}
 use Rattle.bd_message.specs.declared.message.Message.{Message}
 use Rattle.bd_message.specs.declared.message.Message.TheVariants.{Put, Del, Patch, Cut, Goto}
 use Rattle.bd_message.specs.Effect.{same_key, begins, rest, is_cut}
 use Rattle.bd_message.proofs.Finds.{same_key-true, same_key-refl, begins-is, begins-append, not_both}
-use Rattle.bd_message.proofs.Prefixes.{cmp_after, rest-append, least_nil}
+use Rattle.bd_message.proofs.Prefixes.{rest-append, least_nil}
 use Rattle.bd_node.specs.Touching.{touches}
 use Rattle.bd_inner.specs.Moving.{CanTouch}
 use Rattle.bd_node.proofs.Edges.{lt_is, lt_isnt, not_less_lt}
@@ -52,7 +52,7 @@ cut_after p x z least =
 pub cut_first : (p x k : List ℕ) → is_cut p x k ≡ true → IsAtLeast k (p ++ x)
 cut_first p x k h =
     subst (λ (l : List ℕ). IsAtLeast l (p ++ x)) (sym (begins-is k p (and_parts _ _ h).0))
-    (λ less. cut_least p x k h (sym (cmp_after p (rest p k) x) ∙ less))
+    (λ less. cut_least p x k h (sym (key_cmp-front p (rest p k) x) ∙ less))
 
 cut_between : (p x k f : List ℕ) → is_cut p x k ≡ true → IsAtLeast f (p ++ x) → IsAtLeast k f → is_cut p x f ≡ true
 cut_between p x k f h least most =

@@ -1,5 +1,5 @@
 -- Nodes with other edges in place of one.
-use Rattle.std.specs.Prelude.{◌≡◌, ℕ, ◌+◌, ◌≤◌, List, [], ◌∷◌, ◌++◌, length, take, drop, Option, Some, slice_get}
+use Rattle.std.specs.Prelude.{◌≡◌, ℕ, ◌+◌, ◌≤◌, List, [], ◌∷◌, ◌++◌, length, take, drop, Option, Some, slice_get, ⊤}
 use Rattle.bd_limits.specs.Limits.{edge_limit}
 use Rattle.bd_keys.specs.Keys.{InRange}
 use Rattle.bd_node.specs.declared.node.Edge.{Edge}
@@ -29,7 +29,7 @@ end_within hi (e ∷ es) = Some e.pivot
 
 -- each edge has the property, which also takes where its keys end, if the last one's end there
 abbrev pub EachEdgeTo : (Edge → Option (List ℕ) → Type 0) → Option (List ℕ) → List Edge → Type 0
-EachEdgeTo P hi [] = Unit {0}
+EachEdgeTo P hi [] = ⊤
 EachEdgeTo P hi (e ∷ es) = P e (end_within hi es) × EachEdgeTo P hi es
 
 -- a node's edge at a place

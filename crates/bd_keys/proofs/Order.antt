@@ -1,5 +1,5 @@
 -- The order of keys, byte by byte.
-use Rattle.std.proofs.Common.{◌≡◌, ◌≢◌, ℕ, zero, suc, ◌<◌, List, [], ◌∷◌, refl, sym, ap, ◌∙◌, arith}
+use Rattle.std.proofs.Common.{◌≡◌, ◌≢◌, ℕ, zero, suc, ◌<◌, List, [], ◌∷◌, refl, sym, ap, ◌∙◌, arith, drop, ◌++◌}
 use Rattle.std.proofs.Common.{Ordering, Less, Equal, Greater, true, false}
 use Rattle.std.specs.Ordering.{nat_cmp, ordering_reverse, is_lt, ord_max, ord_min}
 use Rattle.std.specs.Option.{MatchOption, IsSomeAnd, option_copied}
@@ -57,6 +57,11 @@ pub IsKey-rest : (a : ℕ) (k : List ℕ) → IsKey (a ∷ k) → IsKey k
 IsKey-rest a k h i = h (suc i)
 
 -- and one with a byte in front
+pub IsKey-drop : (n : ℕ) (k : List ℕ) → IsKey k → IsKey (drop n k)
+IsKey-drop zero k key = key
+IsKey-drop (suc n) [] key = key
+IsKey-drop (suc n) (b ∷ k) key = IsKey-drop n k (IsKey-rest b k key)
+
 pub IsKey-cons : (a : ℕ) (k : List ℕ) → a < 256 → IsKey k → IsKey (a ∷ k)
 IsKey-cons a k ha h zero = ha
 IsKey-cons a k ha h (suc i) = h i
@@ -131,3 +136,8 @@ pub in_both : (k lo a b : List ℕ) (hi ha hb : Option (List ℕ)) → IsAtLeast
     → InRange lo hi k ↔ (InRange a ha k × InRange b hb k)
 in_both k lo a b hi ha hb from below =
     ((λ h. let f = from.0 h.0 in let e = below.0 h.1 in ((f.0, e.0), (f.1, e.1))), λ h. (from.1 (h.0.0, h.1.0), below.1 (h.0.1, h.1.1)))
+
+-- after one front, keys compare as their rests do
+pub key_cmp-front : (p x y : List ℕ) → key_cmp (p ++ x) (p ++ y) ≡ key_cmp x y
+key_cmp-front [] x y = refl
+key_cmp-front (b ∷ p) x y = first_same b (p ++ x) (p ++ y) ∙ key_cmp-front p x y

@@ -1,5 +1,5 @@
 -- Keys, their order, and sets of them.
-use Rattle.std.specs.Prelude.{◌≡◌, ◌≢◌, ◌<◌, ◌≤◌, ℕ, List, length, take, slice_index, Option, Some, None}
+use Rattle.std.specs.Prelude.{◌≡◌, ◌≢◌, ◌<◌, ◌≤◌, ℕ, List, length, take, slice_index, Option, Some, None, ⊤}
 use Rattle.std.specs.declared.cmp.Ordering.{Ordering}
 use Rattle.std.specs.declared.cmp.Ordering.TheVariants.{Less}
 use Rattle.std.specs.Ordering.{nat_cmp}
@@ -23,7 +23,7 @@ IsAtLeast k lo = key_cmp k lo ≢ Less
 
 -- the key is below the end, if there is one
 abbrev pub IsBelowEnd : List ℕ → Option (List ℕ) → Type 0
-IsBelowEnd k None = Unit {0}
+IsBelowEnd k None = ⊤
 IsBelowEnd k (Some hi) = IsBelow k hi
 
 -- the key is at least lo and below hi

@@ -8,7 +8,7 @@ use Rattle.std.proofs.lemmas.List.Sums.{sum_by-cons}
 use Rattle.bd_keys.specs.Keys.{key_cmp}
 use Rattle.bd_keys.proofs.Order.{not_below_nil}
 use Rattle.bd_message.specs.Effect.{same_key, begins, rest, is_cut}
-use Rattle.bd_message.proofs.Finds.{begins-is, begins-append}
+use Rattle.bd_message.proofs.Finds.{begins-is, begins-append, same_key-after}
 use Rattle.bd_node.specs.declared.node.Entry.{Entry}
 use Rattle.bd_node.specs.Nodes.{entry_at}
 use Rattle.bd_node.specs.Shape.{entry_size, IsEntry, IsRising, IsBelowAll}
@@ -23,11 +23,6 @@ Begun p es = AllByRecursion (λ (e : Entry). begins e.key p ≡ true) es
 
 abbrev all_without : List ℕ → List Entry → List Entry
 all_without p es = map (without (length p)) es
-
--- after the same bytes the rest decides
-same_key-after : (p k l : List ℕ) → same_key (p ++ k) (p ++ l) ≡ same_key k l
-same_key-after [] k l = refl
-same_key-after (b ∷ p) k l = rw ((unsigned_Decides b b).1 refl) (same_key-after p k l)
 
 -- what is found without the prefix is what is found with it
 entry_at-without : (p : List ℕ) (es : List Entry) (k : List ℕ) → Begun p es → entry_at (all_without p es) k ≡ entry_at es (p ++ k)

@@ -1,5 +1,5 @@
 -- Steps in memory that is taken.
-use Rattle.std.specs.Prelude.{ℕ, ◌≤◌, ◌^◌, List, [], ◌∷◌, ◌++◌, map}
+use Rattle.std.specs.Prelude.{ℕ, ◌≤◌, ◌^◌, List, [], ◌∷◌, ◌++◌, map, ⊤}
 use Rattle.std.specs.List.{flat_map}
 use Rattle.bd_message.specs.declared.fault.Counter.TheVariants.{Count, NextId, Level, Refs, Epoch, Flushes}
 use Rattle.bd_message.specs.declared.fault.MapFault.{MapFault}
@@ -40,4 +40,4 @@ IsCheckFault raised (Worn NextId) = ⊥
 IsCheckFault raised (Worn Level) = ⊥
 IsCheckFault raised (Worn Epoch) = ⊥
 IsCheckFault raised (Worn Flushes) = ⊥
-IsCheckFault raised NoMemory = Unit {0}
+IsCheckFault raised NoMemory = ⊤

@@ -40,7 +40,7 @@ same_key-refl [] = refl
 same_key-refl (b ∷ k) = rw ((unsigned_Decides b b).1 refl) (same_key-refl k)
 
 -- after the same bytes the rest decides
-same_key-after : (p k l : List ℕ) → same_key (p ++ k) (p ++ l) ≡ same_key k l
+pub same_key-after : (p k l : List ℕ) → same_key (p ++ k) (p ++ l) ≡ same_key k l
 same_key-after [] k l = refl
 same_key-after (b ∷ p) k l = rw ((unsigned_Decides b b).1 refl) (same_key-after p k l)
 

@@ -15,7 +15,8 @@ use Rattle.bd_message.specs.Messages.{IsMessage, size}
 use Rattle.bd_message.specs.Effect.{NodesAt, same_key, begins, rest, is_cut, act, acts}
 use Rattle.bd_message.specs.Freeing.{stem, CanStrip, from_after, narrowed, restricted, stripped, freed, KeepsSource, source_of, source_after, CoversAll}
 use Rattle.bd_message.proofs.Finds.{tied, same_key-true, begins-is, begins-append, not_both}
-use Rattle.bd_message.proofs.Prefixes.{cmp_after, joined_other, least_nil, rest-append, rest-itself, rest_shorter, begins_itself, begins-both, rest-both, is_cut-both, neither, same_key-in, same_key-out, begins-more}
+use Rattle.bd_message.proofs.Prefixes.{joined_other, least_nil, rest-append, rest-itself, rest_shorter, begins_itself, begins-both, rest-both, is_cut-both, neither, same_key-in, same_key-out, begins-more}
+use Rattle.bd_keys.proofs.Order.{key_cmp-front}
 
 -- ---- the order
 
@@ -77,7 +78,7 @@ after_effect below s t x k old =
       | inl inside ↦
           ap (λ (o : Option (List ℕ)). acts below (option_to_list (cut_of s o)) k old) (cond-true (begins x t) (Some (rest t x)) (cond (is_lt (key_cmp x t)) (Some []) None) inside)
           ∙ ap (λ (b : Bool). cond b None old) (whole_cut s (rest t x) k)
-          ∙ ap (λ (o : Ordering). cond (not (is_lt o)) None old) (sym (ap (λ (l : List ℕ). key_cmp (t ++ k) l) (begins-is x t inside) ∙ cmp_after t k (rest t x)))
+          ∙ ap (λ (o : Ordering). cond (not (is_lt o)) None old) (sym (ap (λ (l : List ℕ). key_cmp (t ++ k) l) (begins-is x t inside) ∙ key_cmp-front t k (rest t x)))
       | inr outside ↦
           ap (λ (o : Option (List ℕ)). acts below (option_to_list (cut_of s o)) k old) (cond-false (begins x t) (Some (rest t x)) (cond (is_lt (key_cmp x t)) (Some []) None) outside)
           ∙ elim (cases_Bool (is_lt (key_cmp x t))) [

@@ -5,19 +5,15 @@ use Rattle.std.specs.Cmp.{unsigned_Decides}
 use Rattle.std.proofs.lemmas.List.{append-nil}
 use Rattle.std.proofs.lemmas.Bool.{cases_Bool, cases_order}
 use Rattle.bd_keys.specs.Keys.{key_cmp, IsAtLeast}
-use Rattle.bd_keys.proofs.Order.{first_less, first_same, first_more}
+use Rattle.bd_keys.proofs.Order.{first_less, first_same, first_more, key_cmp-front}
 use Rattle.bd_message.specs.Effect.{same_key, begins, rest, is_cut}
 use Rattle.bd_message.proofs.Finds.{same_key-true, begins-is, begins-append, not_both}
 
 -- ---- the order
 
-pub cmp_after : (p x y : List ℕ) → key_cmp (p ++ x) (p ++ y) ≡ key_cmp x y
-cmp_after [] x y = refl
-cmp_after (b ∷ p) x y = first_same b (p ++ x) (p ++ y) ∙ cmp_after p x y
-
 pub joined_begins : (front back key : List ℕ) → begins key front ≡ true → key_cmp (front ++ back) key ≡ key_cmp back (rest front key)
 joined_begins front back key h =
-    subst (λ (k : List ℕ). key_cmp (front ++ back) k ≡ key_cmp back (rest front key)) (sym (begins-is key front h)) (cmp_after front back (rest front key))
+    subst (λ (k : List ℕ). key_cmp (front ++ back) k ≡ key_cmp back (rest front key)) (sym (begins-is key front h)) (key_cmp-front front back (rest front key))
 
 pub begins_rest : (a : ℕ) (key front : List ℕ) → begins (a ∷ key) (a ∷ front) ≡ begins key front
 begins_rest a key front = rw ((unsigned_Decides a a).1 refl)
@@ -119,3 +115,17 @@ pub begins-more : (k p s : List ℕ) → begins k p ≡ true → begins p s ≡ 
 begins-more k p s h g =
     let is : k ≡ s ++ (rest s p ++ rest p k) = begins-is k p h ∙ ap (λ (l : List ℕ). l ++ rest p k) (begins-is p s g) ∙ append_assoc s (rest s p) (rest p k) in
     subst (λ (l : List ℕ). begins l s ≡ true) (sym is) (begins-append s (rest s p ++ rest p k))
+
+-- ---- cuts
+
+always : (k : List ℕ) → not (is_lt (key_cmp k [])) ≡ true
+always [] = refl
+always (b ∷ k) = refl
+
+-- a cut from the empty key on takes all that begins with the prefix
+pub is_cut-all : (prefix k : List ℕ) → is_cut prefix [] k ≡ begins k prefix
+is_cut-all prefix k = by (begins k prefix)
+  where
+    by : (b : Bool) → (b && not (is_lt (key_cmp (rest prefix k) []))) ≡ b
+    by true = always (rest prefix k)
+    by false = refl

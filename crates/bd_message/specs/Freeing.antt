@@ -1,5 +1,5 @@
 -- Messages on the keys that begin with a prefix, and as messages on what follows it.
-use Rattle.std.specs.Prelude.{◌≡◌, ℕ, ◌+◌, ◌-◌, true, if◌then◌else◌, List, [], ◌++◌, length, Option, None, Some}
+use Rattle.std.specs.Prelude.{◌≡◌, ℕ, ◌+◌, ◌-◌, true, if◌then◌else◌, List, [], ◌++◌, length, Option, None, Some, ⊤}
 use Rattle.std.specs.Option.{option_map}
 use Rattle.std.specs.Ordering.{is_lt}
 use Rattle.bd_keys.specs.Keys.{key_cmp}
@@ -52,7 +52,7 @@ freed s m = option_map (stripped s) (restricted s m)
 -- a Goto of keys that all begin with the prefix, or another message
 abbrev pub KeepsSource : List ℕ → Message → Type 0
 KeepsSource s (Goto prefix source child) = begins prefix s ≡ true
-KeepsSource s _ = Unit {0}
+KeepsSource s _ = ⊤
 
 -- what stands in front of the keys that are asked of the node that a message names
 abbrev pub source_of : Message → List ℕ

@@ -1,5 +1,5 @@
 -- Messages: what they may hold, and how large they count.
-use Rattle.std.specs.Prelude.{ℕ, ◌+◌, ◌^◌, ◌<◌, ◌≤◌, length}
+use Rattle.std.specs.Prelude.{ℕ, ◌+◌, ◌^◌, ◌<◌, ◌≤◌, length, ⊤}
 use Rattle.bd_limits.specs.Limits.{key_limit, block_limit, base_size}
 use Rattle.bd_message.specs.declared.message.Message.{Message}
 use Rattle.bd_message.specs.declared.message.Message.TheVariants.{Put, Del, Patch, Cut, Goto}
@@ -19,7 +19,7 @@ IsMessage (Goto prefix source child) =
 -- it names no node
 abbrev pub IsPlain : Message → Type 0
 IsPlain (Goto prefix source child) = ⊥
-IsPlain _ = Unit {0}
+IsPlain _ = ⊤
 
 -- how many bytes it counts in a buffer
 abbrev pub size : Message → ℕ

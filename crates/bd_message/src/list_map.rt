@@ -1,6 +1,6 @@
 //! A key map in memory.
 
-ghost use Rattle.std.specs.Prelude.{◌≡◌, IfOk};
+ghost use Rattle.std.specs.Prelude.{◌≡◌, IfOk, ⊤};
 ghost use Rattle.std.specs.Option.{option_map, option_copied};
 ghost use Rattle.std.specs.FinMap.{empty};
 
@@ -47,7 +47,7 @@ impl KeyMap for ListMap {
     ghost use Rattle.std.specs.FinMap.{get};
     ghost use Rattle.bd_limits.specs.Limits.{buffer_limit};
 
-    ghost is_known = { λ _. Unit {0} };
+    ghost is_known = { λ _. ⊤ };
 
     ghost has = { λ m k. get m k };
 

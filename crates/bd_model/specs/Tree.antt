@@ -1,5 +1,5 @@
 -- The tree that commands are about: a finite map from paths to directories and files.
-use Rattle.std.specs.Prelude.{◌≡◌, ℕ, ◌<◌, ◌≤◌, List, [], ◌∷◌, ◌++◌, length, IsSome, IfSome, refl}
+use Rattle.std.specs.Prelude.{◌≡◌, ℕ, ◌<◌, ◌≤◌, List, [], ◌∷◌, ◌++◌, length, IsSome, IfSome, refl, ⊤}
 use Rattle.std.specs.List.{AllByRecursion}
 use Rattle.std.specs.Ordering.{nat_cmp}
 use Rattle.std.specs.Cmp.Lexicographic.{slice_cmp}
@@ -67,7 +67,7 @@ root_only = from_entries (([], Directory) ∷ [])
 
 -- at most `file_limit` bytes
 abbrev pub IsEntry : Entry → Type 0
-IsEntry Directory = Unit {0}
+IsEntry Directory = ⊤
 IsEntry (FileWith bytes) = (length bytes ≤ file_limit) × AllByRecursion (λ b. b < 256) bytes
 
 -- `/` is a directory, the parent of each other path is one, and each path is made of names

@@ -1,5 +1,5 @@
 -- Well-formed nodes.
-use Rattle.std.specs.Prelude.{◌≡◌, ℕ, ◌+◌, ◌<◌, ◌≤◌, ◌^◌, ◌⊎◌, true, List, [], ◌∷◌, length, take, Option, None, Some, slice_get}
+use Rattle.std.specs.Prelude.{◌≡◌, ℕ, ◌+◌, ◌<◌, ◌≤◌, ◌^◌, ◌⊎◌, true, List, [], ◌∷◌, length, take, Option, None, Some, slice_get, ⊤}
 use Rattle.std.specs.List.{AllByRecursion, sum_by}
 use Rattle.bd_limits.specs.Limits.{key_limit, block_limit, buffer_limit, leaf_limit, level_limit, edge_limit, base_size}
 use Rattle.bd_keys.specs.Keys.{IsBelow, IsBelowEnd, InRange, IsCommon}
@@ -29,7 +29,7 @@ IsBelowAll e es = AllByRecursion (λ (f : Entry). IsBelow e.key f.key) es
 
 -- each key is below those after it
 abbrev pub IsRising : List Entry → Type 0
-IsRising [] = Unit {0}
+IsRising [] = ⊤
 IsRising (e ∷ es) = IsBelowAll e es × IsRising es
 
 -- a leaf: entries in rising order, not too many bytes
@@ -47,7 +47,7 @@ end_before (e ∷ es) = Some e.pivot
 
 -- each edge has the property, which also takes where its keys end
 abbrev pub EachEdge : (Edge → Option (List ℕ) → Type 0) → List Edge → Type 0
-EachEdge P [] = Unit {0}
+EachEdge P [] = ⊤
 EachEdge P (e ∷ es) = P e (end_before es) × EachEdge P es
 
 -- some edge has it

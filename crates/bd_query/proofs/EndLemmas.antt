@@ -7,7 +7,7 @@ use Rattle.std.proofs.lemmas.Bool.{cases_Bool, cases_order, cases_lt}
 use Rattle.std.proofs.lemmas.Cmp.{nat_list_cmp_total as total}
 use Rattle.bd_limits.specs.Limits.{key_limit}
 use Rattle.bd_keys.specs.Keys.{key_cmp, IsKey, IsBelow, IsBelowEnd, IsAtLeast, InRange, Begins, IsAboveAll, IsAfter, IsPrefixRange}
-use Rattle.bd_keys.proofs.Order.{first_less, first_same, first_more, not_below_itself, not_below_nil, below_from, IsKey-rest, IsKey-cons, Begins-cons, Begins-uncons}
+use Rattle.bd_keys.proofs.Order.{first_less, first_same, first_more, not_below_itself, not_below_nil, below_from, IsKey-rest, IsKey-cons, Begins-cons, Begins-uncons, key_cmp-front}
 use Rattle.bd_message.specs.declared.message.Message.{Message}
 use Rattle.bd_message.specs.declared.message.Message.TheVariants.{Put, Del, Patch, Cut, Goto}
 use Rattle.bd_message.specs.Messages.{IsMessage}
@@ -15,7 +15,6 @@ use Rattle.bd_message.proofs.Finds.{tied, not_both}
 use Rattle.bd_node.specs.Touching.{touches}
 use Rattle.bd_node.proofs.Appending.{key_of, key_of-touched}
 use Rattle.bd_node.proofs.Edges.{lt_is, lt_isnt}
-use Rattle.bd_message.proofs.Prefixes.{cmp_after}
 use Rattle.bd_inner.specs.Moving.{CanTouch}
 use Rattle.bd_inner.proofs.Touched.{touched_first, touched_between}
 use Rattle.bd_query.specs.Stretches.{IsEnd, IsWithin, end_limit, first_key}
@@ -158,12 +157,12 @@ after_short p k is_p is_k h =
 -- the keys that are asked for as keys up to an end of their own
 pub end_inside : (p s t source e : List ℕ) → InRange (p ++ s) (Some (p ++ e)) (p ++ t) → InRange (source ++ s) (Some (source ++ e)) (source ++ t)
 end_inside p s t source e h = (
-  (λ less. h.0 (cmp_after p t s ∙ sym (cmp_after source t s) ∙ less)),
-  cmp_after source t e ∙ sym (cmp_after p t e) ∙ h.1,
+  (λ less. h.0 (key_cmp-front p t s ∙ sym (key_cmp-front source t s) ∙ less)),
+  key_cmp-front source t e ∙ sym (key_cmp-front p t e) ∙ h.1,
 )
 
 least_inside : (p s t source : List ℕ) → IsAtLeast (p ++ t) (p ++ s) → IsAtLeast (source ++ t) (source ++ s)
-least_inside p s t source h less = h (cmp_after p t s ∙ sym (cmp_after source t s) ∙ less)
+least_inside p s t source h less = h (key_cmp-front p t s ∙ sym (key_cmp-front source t s) ∙ less)
 
 -- what an end below says above: with the same rest where it begins with the source, and else nothing
 pub data IsRaised (p source : List ℕ) : Option (List ℕ) → Option (List ℕ) → Type 0 where
@@ -173,7 +172,7 @@ pub data IsRaised (p source : List ℕ) : Option (List ℕ) → Option (List ℕ
 
 pub raised_end : (p s source : List ℕ) (most : ℕ) (end new : Option (List ℕ)) → IsRaised p source end new → IsEnd (source ++ s) most end → IsEnd (p ++ s) (length p + most) new
 raised_end p s source most (Some _) (Some _) (same_rest e) h = record {
-  above = cmp_after p s e ∙ sym (cmp_after source s e) ∙ h.above;
+  above = key_cmp-front p s e ∙ sym (key_cmp-front source s e) ∙ h.above;
   short = (let a : length (source ++ e) ≤ most = h.short in let b : length (source ++ e) ≡ length source + length e = length-append source e in
       let c : length (p ++ e) ≡ length p + length e = length-append p e in omega arith);
 }

@@ -11,7 +11,7 @@ use Rattle.std.proofs.lemmas.List.Sums.{sum_by-append}
 use Rattle.std.proofs.lemmas.Cmp.{nat_list_cmp_total as total}
 use Rattle.bd_limits.specs.Limits.{key_limit}
 use Rattle.bd_keys.specs.Keys.{key_cmp, IsKey, IsBelow, IsBelowEnd, IsAtLeast, InRange, Begins}
-use Rattle.bd_keys.proofs.Order.{not_below_itself}
+use Rattle.bd_keys.proofs.Order.{not_below_itself, key_cmp-front}
 use Rattle.bd_message.specs.declared.message.Message.{Message}
 use Rattle.bd_message.specs.declared.message.Message.TheVariants.{Del, Cut}
 use Rattle.bd_message.specs.KeyMaps.{At}
@@ -26,7 +26,7 @@ use Rattle.bd_node.specs.Nodes.{edge_names, message_names, names, child_at, edge
 use Rattle.bd_node.specs.Shape.{end_before, EachEdge, SomeEdge, IsEdge, IsInner, IsShape, AreRising}
 use Rattle.bd_node.proofs.Edges.{not_less_lt}
 use Rattle.bd_node.proofs.LawLemmas.{edge_some, edge_only}
-use Rattle.bd_message.proofs.Prefixes.{cmp_after, rest-append}
+use Rattle.bd_message.proofs.Prefixes.{rest-append}
 use Rattle.bd_inner.proofs.Touched.{touched_first}
 use Rattle.bd_query.proofs.Parts.{acts_rest, inner_rising, counted_first, counted_second, message_counted, edge_of_counted}
 use Rattle.bd_query.proofs.EndLemmas.{least_trans, begins_split, begins_joined, no_key_between, below_or_least, below_longer, length-take}
@@ -64,7 +64,7 @@ cut_more p x lo k h least begins =
     subst (λ (l : List ℕ). is_cut p x l ≡ true) (sym split)
     (is_cut_joined p x (drop (length p) k) (λ less.
     least_trans k lo (p ++ x) least (touched_first (Cut p x) lo h)
-    (subst (λ (l : List ℕ). IsBelow l (p ++ x)) (sym split) (cmp_after p (drop (length p) k) x ∙ less))))
+    (subst (λ (l : List ℕ). IsBelow l (p ++ x)) (sym split) (key_cmp-front p (drop (length p) k) x ∙ less))))
 
 pub cut_empty : (lo prefix from : List ℕ) (end old : Option (List ℕ)) → is_cut prefix from lo ≡ true → ((k : List ℕ) → IsKey k → InRange lo end k → Begins k prefix) → IsEmpty (λ k. cond (is_cut prefix from k) None old) lo end
 cut_empty lo prefix from end old h begins k is_k within =

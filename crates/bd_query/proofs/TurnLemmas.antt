@@ -3,7 +3,7 @@ use Rattle.std.proofs.Common.{◌≡◌, ℕ, zero, suc, ◌+◌, ◌<◌, ◌�
 use Rattle.std.specs.Prelude.{◌⊎◌, ◌↔◌, IsSome}
 use Rattle.bd_limits.specs.Limits.{key_limit}
 use Rattle.bd_keys.specs.Keys.{IsKey, IsBelowEnd, InRange, Begins}
-use Rattle.bd_keys.proofs.Order.{not_below_itself, IsKey-rest, IsKey-cons}
+use Rattle.bd_keys.proofs.Order.{not_below_itself, IsKey-rest, IsKey-cons, IsKey-drop}
 use Rattle.bd_message.specs.KeyMaps.{At}
 use Rattle.bd_message.specs.Effect.{NodesAt}
 use Rattle.bd_node.specs.declared.node.Node.{Node}
@@ -26,11 +26,6 @@ use Rattle.bd_query.proofs.StretchLemmas.{stretch_from}
 pub IsKey-append : (a b : List ℕ) → IsKey a → IsKey b → IsKey (a ++ b)
 IsKey-append [] b is_a is_b = is_b
 IsKey-append (x ∷ a) b is_a is_b = IsKey-cons x (a ++ b) (is_a 0) (IsKey-append a b (IsKey-rest x a is_a) is_b)
-
-pub IsKey-drop : (n : ℕ) (k : List ℕ) → IsKey k → IsKey (drop n k)
-IsKey-drop zero k is_k = is_k
-IsKey-drop (suc n) [] is_k = is_k
-IsKey-drop (suc n) (x ∷ k) is_k = IsKey-drop n k (IsKey-rest x k is_k)
 
 -- ---- what a node asks
 

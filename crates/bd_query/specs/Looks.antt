@@ -1,5 +1,5 @@
 -- What is known of a key on the way down.
-use Rattle.std.specs.Prelude.{◌≡◌, ℕ, ◌≤◌, ◌⊎◌, ◌==◌, List, [], ◌∷◌, Option, Some, count_by}
+use Rattle.std.specs.Prelude.{◌≡◌, ℕ, ◌≤◌, ◌⊎◌, ◌==◌, List, [], ◌∷◌, Option, Some, count_by, ⊤}
 use Rattle.std.specs.Option.{unwrap_or}
 use Rattle.bd_keys.specs.Edits.{overwritten}
 use Rattle.bd_message.specs.Effect.{NodesAt}
@@ -25,7 +25,7 @@ part_at below part = patched part.patches.items (base_at below part.base)
 
 -- a node that is asked is one of these
 abbrev pub IsNamedIn : List ℕ → Base → Type 0
-IsNamedIn ns (Value found) = Unit {0}
+IsNamedIn ns (Value found) = ⊤
 IsNamedIn ns (Ask child key) = 1 ≤ count_by (λ name. name == child) ns
 
 -- the base is the one before, or asks one of these
@@ -34,5 +34,5 @@ IsOldOr ns old new = (new ≡ old) ⊎ IsNamedIn ns new
 
 -- a node that is asked is kept and of a lower level
 abbrev pub IsLowerBase : Table → ℕ → Base → Type 0
-IsLowerBase t level (Value found) = Unit {0}
+IsLowerBase t level (Value found) = ⊤
 IsLowerBase t level (Ask child key) = IsLower t level child

@@ -1,5 +1,5 @@
 -- What is known of a key and of the keys after it.
-use Rattle.std.specs.Prelude.{◌≡◌, ℕ, ◌+◌, ◌*◌, ◌<◌, ◌≤◌, ◌==◌, Bool, true, false, List, ◌++◌, length, take, drop, Option, None, Some, IsSome, IfSome, count_by, slice_get}
+use Rattle.std.specs.Prelude.{◌≡◌, ℕ, ◌+◌, ◌*◌, ◌<◌, ◌≤◌, ◌==◌, Bool, true, false, List, ◌++◌, length, take, drop, Option, None, Some, IsSome, IfSome, count_by, slice_get, ⊤}
 use Rattle.bd_limits.specs.Limits.{key_limit}
 use Rattle.bd_keys.specs.Keys.{IsKey, IsBelowEnd, InRange, Begins}
 use Rattle.bd_message.specs.declared.message.Message.{Message}
@@ -84,27 +84,27 @@ IsStretch below at lo (Child end child lift source) =
 
 -- a stretch ends above the key; the lift is at most 518, and the key is as long
 abbrev pub HasEnd : List ℕ → Stretch → Type 0
-HasEnd lo Present = Unit {0}
+HasEnd lo Present = ⊤
 HasEnd lo (Absent end) = IsEnd lo end_limit end
 HasEnd lo (Child end child lift source) =
     IsEnd lo end_limit end × (lift ≤ key_limit) × (lift ≤ length lo)
 
 -- a stretch ends at this end or before it
 abbrev pub EndsBy : Option (List ℕ) → Stretch → Type 0
-EndsBy other Present = Unit {0}
+EndsBy other Present = ⊤
 EndsBy other (Absent end) = IsWithin end other
 EndsBy other (Child end child lift source) = IsWithin end other
 
 -- a node that is asked is one of these
 abbrev pub AsksOneOf : List ℕ → Stretch → Type 0
-AsksOneOf ns Present = Unit {0}
-AsksOneOf ns (Absent end) = Unit {0}
+AsksOneOf ns Present = ⊤
+AsksOneOf ns (Absent end) = ⊤
 AsksOneOf ns (Child end child lift source) = 1 ≤ count_by (λ name. name == child) ns
 
 -- a node that is asked is kept and of a lower level
 abbrev pub AsksLower : Table → ℕ → Stretch → Type 0
-AsksLower t level Present = Unit {0}
-AsksLower t level (Absent end) = Unit {0}
+AsksLower t level Present = ⊤
+AsksLower t level (Absent end) = ⊤
 AsksLower t level (Child end child lift source) = IsLower t level child
 
 -- the edge's keys from this one up to the end have the bytes in common that it leaves out
@@ -126,5 +126,5 @@ IsTurn at lo (Passed end) = IsEmpty at lo end
 
 -- a turn passes the key, to an end of at most so many bytes
 abbrev pub PassesTo : List ℕ → ℕ → Turn → Type 0
-PassesTo lo most Found = Unit {0}
+PassesTo lo most Found = ⊤
 PassesTo lo most (Passed end) = IsEnd lo most end

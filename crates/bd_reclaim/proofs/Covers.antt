@@ -5,12 +5,11 @@ use Rattle.std.proofs.lemmas.Bool.{and_parts, and_from, cases_eq}
 use Rattle.std.proofs.lemmas.List.{take-take, length-take-le}
 use Rattle.std.proofs.lemmas.Option.{same_Some, slice_get_within}
 use Rattle.bd_keys.specs.Keys.{key_cmp, IsKey, IsBelowEnd, IsAtLeast, Begins, IsCommon, IsLift}
-use Rattle.bd_keys.proofs.Order.{not_below_itself, below_from}
+use Rattle.bd_keys.proofs.Order.{not_below_itself, below_from, key_cmp-front}
 use Rattle.bd_message.specs.declared.message.Message.{Message}
 use Rattle.bd_message.specs.declared.message.Message.TheVariants.{Put, Del, Patch, Cut, Goto}
 use Rattle.bd_message.specs.Effect.{begins, rest, is_cut}
 use Rattle.bd_message.proofs.Finds.{begins-is, not_both}
-use Rattle.bd_message.proofs.Prefixes.{cmp_after}
 use Rattle.bd_node.specs.declared.node.Edge.{Edge}
 use Rattle.bd_node.specs.declared.node.Node.{Node}
 use Rattle.bd_node.specs.Touching.{touches}
@@ -49,7 +48,7 @@ cut_holds : (p x k : List ℕ) → begins k p ≡ true → IsAtLeast k (p ++ x) 
 cut_holds p x k begun least =
     and_from _ _ begun
     (ap not (not_less_lt (key_cmp (rest p k) x)
-    (λ less. least (ap (λ (l : List ℕ). key_cmp l (p ++ x)) (begins-is k p begun) ∙ cmp_after p (rest p k) x ∙ less))))
+    (λ less. least (ap (λ (l : List ℕ). key_cmp l (p ++ x)) (begins-is k p begun) ∙ key_cmp-front p (rest p k) x ∙ less))))
 
 -- ---- all keys of a range
 

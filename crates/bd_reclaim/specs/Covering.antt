@@ -1,5 +1,5 @@
 -- Messages that decide what stands at each key of an edge.
-use Rattle.std.specs.Prelude.{◌≡◌, ℕ, ◌+◌, ◌<◌, ◌≤◌, true, List, [], ◌∷◌, Option, Some, slice_get}
+use Rattle.std.specs.Prelude.{◌≡◌, ℕ, ◌+◌, ◌<◌, ◌≤◌, true, List, [], ◌∷◌, Option, Some, slice_get, ⊤}
 use Rattle.bd_keys.specs.Keys.{IsKey, InRange}
 use Rattle.bd_message.specs.declared.message.Message.{Message}
 use Rattle.bd_message.specs.declared.message.Message.TheVariants.{Put, Del, Patch, Cut, Goto}
@@ -20,13 +20,13 @@ abbrev pub Says : Cover → Message → Type 0
 Says Gone (Put key value) = ⊥
 Says Gone (Del key) = ⊥
 Says Gone (Patch key off bytes) = ⊥
-Says Gone (Cut prefix from) = Unit {0}
+Says Gone (Cut prefix from) = ⊤
 Says Gone (Goto prefix source child) = ⊥
 Says Elsewhere (Put key value) = ⊥
 Says Elsewhere (Del key) = ⊥
 Says Elsewhere (Patch key off bytes) = ⊥
 Says Elsewhere (Cut prefix from) = ⊥
-Says Elsewhere (Goto prefix source child) = Unit {0}
+Says Elsewhere (Goto prefix source child) = ⊤
 
 -- the message changes what stands at `lo`, and at each key from it up to `hi`
 pub record TouchesAll (m : Message) (lo : List ℕ) (hi : Option (List ℕ)) : Type 0 where

@@ -1,5 +1,5 @@
 -- What a change leaves.
-use Rattle.std.specs.Prelude.{◌≡◌, ℕ, ◌+◌, ◌<◌, ◌≤◌, List, [], length, Option, None, Some, ◌⊎◌, IsTrue}
+use Rattle.std.specs.Prelude.{◌≡◌, ℕ, ◌+◌, ◌<◌, ◌≤◌, List, [], length, Option, None, Some, ◌⊎◌, IsTrue, ⊤}
 use Rattle.std.specs.List.{sum_by}
 use Rattle.bd_node.specs.declared.node.Node.{Node}
 use Rattle.bd_node.specs.declared.node.Step.{Step}
@@ -76,7 +76,7 @@ abbrev pub IsNextAfter : Table → Reclaim → Table → Type 0
 IsNextAfter t (Shrink child) u = u.next ≡ t.next
 IsNextAfter t (Drop node place at) u = u.next ≡ t.next
 IsNextAfter t (Carve node place at) u = u.next ≡ t.next
-IsNextAfter t (Push above node place) u = Unit {0}
+IsNextAfter t (Push above node place) u = ⊤
 
 -- how many visits a change takes at most: none, unless it is a push, and then as many as a step of a
 -- flush
@@ -106,4 +106,4 @@ abbrev pub LeavesLess : Nodes → Table → Reclaim → Nodes → Table → Type
 LeavesLess nodes t (Shrink child) new u = left_over new u < left_over nodes t
 LeavesLess nodes t (Drop node place at) new u = left_over new u < left_over nodes t
 LeavesLess nodes t (Carve node place at) new u = left_over new u < left_over nodes t
-LeavesLess nodes t (Push above node place) new u = Unit {0}
+LeavesLess nodes t (Push above node place) new u = ⊤

@@ -1,5 +1,5 @@
 -- The walk that looks for a change, and the first one that it finds.
-use Rattle.std.specs.Prelude.{◌≡◌, ℕ, zero, suc, Bool, IsTrue, ◌<◌, ◌≤◌, nat_lt, ◌==◌, ◌&&◌, if◌then◌else◌, List, [], ◌∷◌, reverse, Option, None, Some, slice_get}
+use Rattle.std.specs.Prelude.{◌≡◌, ℕ, zero, suc, Bool, IsTrue, ◌<◌, ◌≤◌, nat_lt, ◌==◌, ◌&&◌, if◌then◌else◌, List, [], ◌∷◌, reverse, Option, None, Some, slice_get, ⊤}
 use Rattle.std.specs.List.{sum_by, AllByRecursion}
 use Rattle.bd_node.specs.declared.node.Edge.{Edge}
 use Rattle.bd_node.specs.declared.node.Node.{Node}
@@ -147,9 +147,9 @@ IsFoundFrom t top (Push above node place) =
 
 -- in known nodes, those above are what was fetched
 abbrev pub IsFoundIn : Nodes → Reclaim → Type 0
-IsFoundIn nodes (Shrink child) = Unit {0}
-IsFoundIn nodes (Drop node place at) = Unit {0}
-IsFoundIn nodes (Carve node place at) = Unit {0}
+IsFoundIn nodes (Shrink child) = ⊤
+IsFoundIn nodes (Drop node place at) = ⊤
+IsFoundIn nodes (Carve node place at) = ⊤
 IsFoundIn nodes (Push above node place) = AllByRecursion (IsContents nodes) (reverse above)
 
 -- the change that was found below a node, where a push gets that node above it
@@ -163,9 +163,9 @@ IsBelow f (Push above node place) found = found ≡ Push (f ∷ above) node plac
 
 -- a push is found with no nodes above its own
 abbrev pub HasNoneAbove : Reclaim → Type 0
-HasNoneAbove (Shrink child) = Unit {0}
-HasNoneAbove (Drop node place at) = Unit {0}
-HasNoneAbove (Carve node place at) = Unit {0}
+HasNoneAbove (Shrink child) = ⊤
+HasNoneAbove (Drop node place at) = ⊤
+HasNoneAbove (Carve node place at) = ⊤
 HasNoneAbove (Push above node place) = above ≡ []
 
 -- a fetched node is to be changed so, or nothing is to be changed at it

@@ -1,5 +1,5 @@
 -- The values of a key map, and their encodings.
-use Rattle.std.specs.Prelude.{◌≡◌, ◌≢◌, ◌≤◌, ℕ, List, [], ◌∷◌, length, Option, Some, None}
+use Rattle.std.specs.Prelude.{◌≡◌, ◌≢◌, ◌≤◌, ℕ, List, [], ◌∷◌, length, Option, Some, None, ⊤}
 use Rattle.std.specs.Int.{w32}
 use Rattle.bd_limits.specs.Limits.{file_limit, block_limit}
 use Rattle.bd_wire.specs.Numbers.{be}
@@ -8,7 +8,7 @@ use Rattle.bd_records.specs.declared.Record.TheVariants.{Dir, File}
 
 -- a file has at most 2^30 bytes
 abbrev pub IsRecord : Record → Type 0
-IsRecord Dir = Unit {0}
+IsRecord Dir = ⊤
 IsRecord (File len) = len ≤ file_limit
 
 -- `D`, or `F` and the length in four bytes

@@ -62,18 +62,6 @@ HasBytes-none at path none =
 
 -- ---- a cut of a subtree
 
-always : (k : List ℕ) → not (is_lt (key_cmp k [])) ≡ true
-always [] = refl
-always (b ∷ k) = refl
-
--- a cut from the empty key on takes all that begins with the prefix
-pub is_cut-all : (prefix k : List ℕ) → is_cut prefix [] k ≡ begins k prefix
-is_cut-all prefix k = by (begins k prefix)
-  where
-    by : (b : Bool) → (b && not (is_lt (key_cmp (rest prefix k) []))) ≡ b
-    by true = always (rest prefix k)
-    by false = refl
-
 pub Represents-without : (old new : At) (t : Tree) (path : List (List ℕ)) → AreNames path → Represents old t → ((k : List ℕ) → IsKey k → new k ≡ cond (begins k (key_of path)) None (old k)) → Represents new (without path t)
 Represents-without old new t path names r cut =
     record { records = λ q hq. records q hq (cases_Bool (is_under path q)); files = λ q hq. files q hq (cases_Bool (is_under path q)); only = only }

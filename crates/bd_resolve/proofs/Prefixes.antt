@@ -4,11 +4,11 @@ use Rattle.std.specs.Ordering.{is_lt}
 use Rattle.std.proofs.lemmas.List.{append-nil}
 use Rattle.std.proofs.lemmas.Bool.{cases_Bool, cases_lt, and_parts, and_from}
 use Rattle.bd_keys.specs.Keys.{key_cmp, IsKey, IsAtLeast}
-use Rattle.bd_keys.proofs.Order.{IsKey-cons, IsKey-rest}
+use Rattle.bd_keys.proofs.Order.{IsKey-cons, IsKey-rest, key_cmp-front}
 use Rattle.bd_message.specs.Effect.{begins, rest, is_cut}
 use Rattle.bd_message.proofs.Finds.{begins-is, begins-append}
 use Rattle.bd_node.proofs.Edges.{lt_isnt, not_less_lt, not_below_itself}
-use Rattle.bd_message.proofs.Prefixes.{cmp_after, joined_other, rest-append, least_nil}
+use Rattle.bd_message.proofs.Prefixes.{joined_other, rest-append, least_nil}
 
 -- bytes after bytes are bytes
 pub IsKey-append : (k l : List ℕ) → IsKey k → IsKey l → IsKey (k ++ l)
@@ -35,8 +35,8 @@ begins_less (a ∷ q) k (b ∷ p) le h = and_from _ _ (and_parts _ _ h).0 (begin
 -- ---- the order of what begins with a prefix
 
 at_least_in : (r k z : List ℕ) → IsAtLeast r (r ++ z) → IsAtLeast (r ++ k) (r ++ z)
-at_least_in r k [] least = λ less. least_nil k (sym (cmp_after r k []) ∙ less)
-at_least_in r k (b ∷ z) least = absurd (least (ap (λ (l : List ℕ). key_cmp l (r ++ b ∷ z)) (sym (append-nil r)) ∙ cmp_after r [] (b ∷ z)))
+at_least_in r k [] least = λ less. least_nil k (sym (key_cmp-front r k []) ∙ less)
+at_least_in r k (b ∷ z) least = absurd (least (ap (λ (l : List ℕ). key_cmp l (r ++ b ∷ z)) (sym (append-nil r)) ∙ key_cmp-front r [] (b ∷ z)))
 
 pub at_least_more : (r k x : List ℕ) → IsAtLeast r x → IsAtLeast (r ++ k) x
 at_least_more r k x least = elim (cases_Bool (begins x r)) [
@@ -82,7 +82,7 @@ cut_less p x q k long h =
 -- keys with a common beginning stand on the same side of a key that doesn't go on after it
 same_side_in : (q k z : List ℕ) → z ≡ [] → is_lt (key_cmp (q ++ k) (q ++ z)) ≡ is_lt (key_cmp q (q ++ z))
 same_side_in q k z e = subst (λ (y : List ℕ). is_lt (key_cmp (q ++ k) (q ++ y)) ≡ is_lt (key_cmp q (q ++ y))) (sym e)
-    (ap is_lt (cmp_after q k []) ∙ not_less_lt (key_cmp k []) (least_nil k)
+    (ap is_lt (key_cmp-front q k []) ∙ not_less_lt (key_cmp k []) (least_nil k)
     ∙ sym (ap (λ (l : List ℕ). is_lt (key_cmp q l)) (append-nil q) ∙ not_less_lt (key_cmp q q) (not_below_itself q)))
 
 no_bytes : (l : List ℕ) → length l ≤ 0 → l ≡ []

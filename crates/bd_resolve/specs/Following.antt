@@ -1,5 +1,5 @@
 -- What answers for all keys that begin with a prefix.
-use Rattle.std.specs.Prelude.{◌≡◌, ◌≢◌, ℕ, ◌+◌, ◌<◌, ◌≤◌, ◌⊎◌, ◌==◌, Bool, true, false, List, [], ◌++◌, length, drop, Option, None, Some, count_by, slice_get}
+use Rattle.std.specs.Prelude.{◌≡◌, ◌≢◌, ℕ, ◌+◌, ◌<◌, ◌≤◌, ◌⊎◌, ◌==◌, Bool, true, false, List, [], ◌++◌, length, drop, Option, None, Some, count_by, slice_get, ⊤}
 use Rattle.bd_limits.specs.Limits.{key_limit}
 use Rattle.bd_keys.specs.Keys.{InRange}
 use Rattle.bd_message.specs.declared.message.Message.{Message}
@@ -24,12 +24,12 @@ target_at below (Some target) k = below target.child (target.source ++ k)
 
 -- the target's node is one of these
 abbrev pub IsNamedTarget : List ℕ → Option Target → Type 0
-IsNamedTarget ns None = Unit {0}
+IsNamedTarget ns None = ⊤
 IsNamedTarget ns (Some target) = 1 ≤ count_by (λ name. name == target.child) ns
 
 -- the target's node is kept and of a lower level
 abbrev pub IsLowerTarget : Table → ℕ → Option Target → Type 0
-IsLowerTarget t level None = Unit {0}
+IsLowerTarget t level None = ⊤
 IsLowerTarget t level (Some target) = IsLower t level target.child
 
 -- the level of a target's node
@@ -102,7 +102,7 @@ pub record IsSpread (edges : List Edge) (buffer : List Message) (q : List ℕ) :
 
 -- the way ends at the node: it is a leaf, or the prefix is empty, or no one answers for all its keys
 abbrev pub IsEnd : Node → List ℕ → Type 0
-IsEnd (Leaf entries) q = Unit {0}
+IsEnd (Leaf entries) q = ⊤
 IsEnd (Inner level edges buffer) q = (q ≡ []) ⊎ IsSpread edges buffer q
 
 -- the way leads to a target: at each key that begins with the prefix the node has what the target
@@ -185,7 +185,7 @@ LeadsTo (Inner level edges buffer) q f = IsLed edges buffer q f
 
 -- a target whose source can be stored, or none
 abbrev pub IsShort : Option Target → Type 0
-IsShort None = Unit {0}
+IsShort None = ⊤
 IsShort (Some target) = length target.source ≤ key_limit
 
 -- there was no visit, or there were at most so many

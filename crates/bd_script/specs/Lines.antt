@@ -1,5 +1,5 @@
 -- A script's lines, and what each of them means.
-use Rattle.std.specs.Prelude.{◌≡◌, ℕ, ◌+◌, ◌-◌, ◌*◌, Bool, true, false, not, ◌&&◌, List, [], ◌∷◌, ◌++◌, length, take, nat_le, ◌==◌, if◌then◌else◌, codes, fold}
+use Rattle.std.specs.Prelude.{◌≡◌, ℕ, ◌+◌, ◌-◌, ◌*◌, Bool, true, false, not, ◌&&◌, List, [], ◌∷◌, ◌++◌, length, take, nat_le, ◌==◌, if◌then◌else◌, codes, fold, ⊤}
 use Rattle.std.specs.Option.{ok_or}
 use Rattle.std.specs.List.{All, slice_split, list_all, list_any}
 use Rattle.std.specs.Char.{is_ascii_digit}
@@ -254,8 +254,8 @@ line_of line =
 -- the fields of a line's command are within their limits
 abbrev pub IsLine : Line → Type 0
 IsLine (Run command) = IsCommand command
-IsLine Walk = Unit {0}
-IsLine Stop = Unit {0}
+IsLine Walk = ⊤
+IsLine Stop = ⊤
 
 -- the line is `stop`
 abbrev pub is_stop : LineMeaning → Bool

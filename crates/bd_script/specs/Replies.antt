@@ -1,5 +1,5 @@
 -- The bytes of a reply, and which replies can be written.
-use Rattle.std.specs.Prelude.{ℕ, List, [], ◌∷◌, ◌++◌, codes, if◌then◌else◌}
+use Rattle.std.specs.Prelude.{ℕ, List, [], ◌∷◌, ◌++◌, codes, if◌then◌else◌, ⊤}
 use Rattle.std.specs.List.{flat_map}
 use Rattle.std.specs.Fmt.{decimal}
 use Rattle.hex.specs.Hex.{encode_lower}
@@ -76,6 +76,6 @@ line_reply_line reply = line_reply_text reply ++ 10 ∷ []
 -- a command's reply is one that can be written
 abbrev pub IsLineReply : LineReply → Type 0
 IsLineReply (Command reply) = IsReply reply
-IsLineReply (Unread refusal) = Unit {0}
-IsLineReply (Walk visits height) = Unit {0}
-IsLineReply Stopped = Unit {0}
+IsLineReply (Unread refusal) = ⊤
+IsLineReply (Walk visits height) = ⊤
+IsLineReply Stopped = ⊤

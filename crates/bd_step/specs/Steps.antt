@@ -1,5 +1,5 @@
 -- The kinds of a step of a flush, and what it takes.
-use Rattle.std.specs.Prelude.{ℕ, ◌+◌, ◌*◌, ◌<◌, ◌≤◌, ◌⊎◌, reverse, None, Some}
+use Rattle.std.specs.Prelude.{ℕ, ◌+◌, ◌*◌, ◌<◌, ◌≤◌, ◌⊎◌, reverse, None, Some, ⊤}
 use Rattle.bd_limits.specs.Limits.{soft_limit, abundant_limit}
 use Rattle.bd_node.specs.declared.node.Node.{Node}
 use Rattle.bd_node.specs.Meaning.{Nodes}
@@ -53,7 +53,7 @@ pub record IsAbundantAt (n : Node) (place : ℕ) : Type 0 where
 
 -- much is pending for the edge to which a step goes
 abbrev pub IsAbundant : FlushStep → Type 0
-IsAbundant (SplitRoot root) = Unit {0}
+IsAbundant (SplitRoot root) = ⊤
 IsAbundant (SplitChild above parent place child) = IsAbundantAt parent.node.value place
 IsAbundant (Push above parent place child) = IsAbundantAt parent.node.value place
 IsAbundant (Privatise above parent place) = IsAbundantAt parent.node.value place

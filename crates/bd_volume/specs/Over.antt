@@ -1,5 +1,5 @@
 -- What executing a command comes to.
-use Rattle.std.specs.Prelude.{◌≡◌, ℕ, ◌⊎◌, Bool, true, false}
+use Rattle.std.specs.Prelude.{◌≡◌, ℕ, ◌⊎◌, Bool, true, false, ⊤}
 use Rattle.bd_command.specs.declared.Command.{Command}
 use Rattle.bd_command.specs.declared.reply.Reply.{Reply}
 use Rattle.bd_model.specs.Tree.{Tree}
@@ -47,7 +47,7 @@ abbrev pub IsGraftFault : MapFault → Table → Type 0
 IsGraftFault map.DeviceFault t = ⊥
 IsGraftFault (map.Damaged block) t = ⊥
 IsGraftFault (map.Worn which) t = IsWornForGraft t which
-IsGraftFault map.NoMemory t = Unit {0}
+IsGraftFault map.NoMemory t = ⊤
 
 -- no memory, or a counter
 abbrev pub IsVolumeFault : Fault → Type 0

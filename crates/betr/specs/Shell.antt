@@ -1,5 +1,5 @@
 -- What the functions of the shell say of a shell, a line and a sink.
-use Rattle.std.specs.Prelude.{◌≡◌, ◌⊎◌, ℕ, Bool, true, false, List, [], ◌∷◌, ◌++◌, if◌then◌else◌}
+use Rattle.std.specs.Prelude.{◌≡◌, ◌⊎◌, ℕ, Bool, true, false, List, [], ◌∷◌, ◌++◌, if◌then◌else◌, ⊤}
 use Rattle.std.specs.List.{list_any}
 use Rattle.std.specs.Io.KnownBytes.{append_known}
 use Rattle.std.specs.declared.option.Option.TheVariants.{Some}
@@ -97,9 +97,9 @@ LineFails Sink s line at = ⊥
 abbrev pub IsLineFault : Fault → Type 0
 IsLineFault Device = ⊥
 IsLineFault Source = ⊥
-IsLineFault Memory = Unit {0}
+IsLineFault Memory = ⊤
 IsLineFault TooLong = ⊥
-IsLineFault (Worn which) = Unit {0}
+IsLineFault (Worn which) = ⊤
 IsLineFault Sink = ⊥
 
 -- an executed line of whose reply only a part was written

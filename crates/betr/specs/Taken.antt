@@ -1,5 +1,5 @@
 -- What a source gave of a script.
-use Rattle.std.specs.Prelude.{◌≡◌, ◌⊎◌, ℕ, ◌+◌, ◌<◌, ◌≤◌, List, [], length, take}
+use Rattle.std.specs.Prelude.{◌≡◌, ◌⊎◌, ℕ, ◌+◌, ◌<◌, ◌≤◌, List, [], length, take, ⊤}
 use Rattle.std.specs.Io.KnownBytes.{prepend_known, IsAtEnd}
 use Rattle.std.specs.declared.option.Option.{Option}
 use Rattle.std.specs.declared.option.Option.TheVariants.{None, Some}
@@ -38,7 +38,7 @@ pub record TookLast (given : List ℕ) (before now : Takes) : Type 0 where
 -- nothing was asked for, or the last take gave `final` after `front`, where the source tells its
 -- takes
 abbrev pub Took : List ℕ → List ℕ → Option Takes → Option Takes → Type 0
-Took front final None now = Unit {0}
+Took front final None now = ⊤
 Took front final (Some before) None = ⊥
 Took front final (Some before) (Some now) =
     ((front ≡ []) × (final ≡ []) × (now ≡ before)) ⊎ TookLast final before now

@@ -1,5 +1,5 @@
 -- What a run does, line by line.
-use Rattle.std.specs.Prelude.{◌≡◌, ℕ, ◌+◌, ◌*◌, ◌≤◌, Bool, true, false, ◌&&◌, List, [], ◌∷◌, ◌++◌, map, MatchBool}
+use Rattle.std.specs.Prelude.{◌≡◌, ℕ, ◌+◌, ◌*◌, ◌≤◌, Bool, true, false, ◌&&◌, List, [], ◌∷◌, ◌++◌, map, MatchBool, ⊤}
 use Rattle.std.specs.List.{flat_map}
 use Rattle.std.specs.declared.option.Option.{Option}
 use Rattle.std.specs.declared.result.Result.TheVariants.{Ok, Err}
@@ -73,7 +73,7 @@ pub record Entry : Type 0 where
 
 -- each entry follows from the state before it
 abbrev pub IsTranscript : State → List Entry → Type 0
-IsTranscript s [] = Unit {0}
+IsTranscript s [] = ⊤
 IsTranscript s (e ∷ es) = Follows s e.line e.said e.state × IsTranscript e.state es
 
 -- what is written of a transcript
@@ -108,9 +108,9 @@ IsFront {A} xs ys = (rest : List A) × (ys ≡ xs ++ rest)
 -- a command that was executed keeps the limits of commands
 abbrev pub IsLimited : LineMeaning → Type 0
 IsLimited (Ok (Run c)) = IsCommand c
-IsLimited (Ok Walk) = Unit {0}
-IsLimited (Ok Stop) = Unit {0}
-IsLimited (Err refusal) = Unit {0}
+IsLimited (Ok Walk) = ⊤
+IsLimited (Ok Stop) = ⊤
+IsLimited (Err refusal) = ⊤
 
 -- an entry's state has a tree, and its line keeps the limits
 pub record CanBe (e : Entry) : Type 0 where
@@ -147,5 +147,5 @@ IsCheap line said old new =
 
 -- so does each entry, from the state before it
 abbrev pub AreCheap : State → List Entry → Type 0
-AreCheap s [] = Unit {0}
+AreCheap s [] = ⊤
 AreCheap s (e ∷ es) = IsCheap e.line e.said s.view.walk e.state.view.walk × AreCheap e.state es

@@ -1,4 +1,4 @@
-ghost use Rattle.std.specs.Prelude.{◌≡◌, ◌≢◌, ◌<◌, ◌≤◌, ◌⊎◌, ◌↔◌, [], length, map, string_bytes, IsNone, IfSome, OnOk};
+ghost use Rattle.std.specs.Prelude.{◌≡◌, ◌≢◌, ◌<◌, ◌≤◌, ◌⊎◌, ◌↔◌, [], length, map, string_bytes, IsNone, IfSome, OnOk, ⊤};
 ghost use Rattle.betr.specs.declared.fault.Fault.{Fault};
 ghost use Rattle.betr.specs.Fault.{faults, of_ends, NeverFall, IsCaused};
 ghost use Rattle.betr.specs.Transcript.{first_state};
@@ -31,7 +31,7 @@ fn run_image<D: Attach, S: Source, K: Sink>(
     src: &mut S,
     sink: &mut K,
 ) -> Result<(), Fault>
-    ensures session { Session (end_of result) (λ s. s ≡ first_state) (λ _. Unit {0})
+    ensures session { Session (end_of result) (λ s. s ≡ first_state) (λ _. ⊤)
         (S.left src.old) (S.left src.new) (S.takes src.old) (S.takes src.new)
         (K.written sink.old) (K.written sink.new) }
     ensures flushed { OnOk result (K.waiting sink.new ≡ 0) }
