@@ -95,7 +95,8 @@ fn read_entries(
     ensures read { IfOk result (λ found. IfSome found (λ entries.
         Reads cursor.old cursor.new (flat_map table_entry entries.items))) }
     ensures count { IfOk result (λ found. IfSome found (λ entries. length entries.items ≡ count)) }
-    ensures fits { IfOk result (λ found. IfSome found (λ entries. All FitsTableEntry entries.items)) }
+    ensures fits { IfOk result (λ found. IfSome found
+        (λ entries. All FitsTableEntry entries.items)) }
     ensures short { IfOk result (λ found. IfNone found (length cursor.old.left < 24 * count)) }
 {
     let mut entries = Vec::new(alloc);
