@@ -4,8 +4,8 @@
 #![tactic(auto)]
 
 mod bytes;
-mod items;
 mod edits;
+mod items;
 pub mod laws;
 mod prefix;
 mod range;
