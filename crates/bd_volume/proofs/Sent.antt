@@ -16,8 +16,10 @@ use Rattle.bd_dirs.specs.Plans.{IsPlan, IsReady}
 use Rattle.bd_dirs.specs.Sendings.{Sending}
 use Rattle.bd_node.specs.declared.node.Node.{Node}
 use Rattle.bd_node.specs.Tables.{Table, IsSound, IsStored, root_at}
-use Rattle.bd_node.specs.Steps.{IsCommitted, append_step, grown}
+use Rattle.bd_node.specs.Steps.{IsCommitted, append_step, grown, HasGrown}
 use Rattle.bd_node.specs.Stores.{FitsRoot}
+use Rattle.bd_memnodes.specs.Seen.{Seen, table}
+use Rattle.bd_tree.specs.Trees.{TreeState}
 use Rattle.bd_graft.specs.Grafting.{IsGrown, IsGraftStep, AreOthersSame}
 use Rattle.bd_volume.specs.Views.{View, HasAppended, HasGrafted, HasSent, IsReadyFor, IsMoved}
 use Rattle.bd_volume.proofs.Carried.{size_few}
@@ -41,6 +43,11 @@ small_fits list t small low = record {
   plain = small.plain;
   fits = omega (arith, sum_by-le size (16 + key_limit + block_limit) list (λ k d h. size_few (slice_index_or list k d) (small.each k d h)), small.few, low);
 }
+
+-- in memory no node is told as touched
+pub grown_is : {T E : Type 0} (r : Result T E) (old new : TreeState Seen) (list : List Message) → OnOk r (HasGrown (table old.store) list (table new.store)) → OnOk r (table new.store ≡ grown (table old.store) list)
+grown_is (Ok _) old new list h = h.is
+grown_is (Err _) old new list h = tt
 
 pub appended : {T E : Type 0} (r : Result T E) (old new : View) (list : List Message) → IsSound old.nodes old.table
     → ((root : Node) → old.nodes old.table.root ≡ Some root → OnOk r (IsCommitted old.nodes old.table (append_step old.table root list) new.nodes new.table))

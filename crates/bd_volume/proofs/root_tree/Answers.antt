@@ -32,4 +32,4 @@ returns-clause-view c =
     let same : table c.over-tree.result.store ≡ new_table = ap table c.over-tree.ensures.store ∙ c.in_ok-new.ensures.table in
     let list : List Message = c.in_ok-record.record ∷ [] in
     let is : list ≡ root_messages = ap (λ (m : Message). m ∷ []) (c.in_ok-record.ensures.message ∙ ap (λ (p : List (List ℕ)). Put (record_key p) (record_bytes Dir)) c.in_ok-root.ensures) in
-    fresh_made c.over-tree.result c.apply.new.self list nodes same c.over-tree.ensures.walk is (c.in_ok-apply.ensures.committed tt c.nodes_are_sound.ensures) c.in_ok-apply.ensures.table c.in_ok-apply.ensures.walk
+    fresh_made c.over-tree.result c.apply.new.self list nodes same c.over-tree.ensures.walk is (c.in_ok-apply.ensures.committed tt c.nodes_are_sound.ensures) c.in_ok-apply.ensures.table.is c.in_ok-apply.ensures.walk

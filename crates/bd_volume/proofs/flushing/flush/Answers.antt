@@ -16,7 +16,7 @@ returns-in_err-flush_step-clause-stopped c =
     let p = err_from_is_err_and c.from_residual.result c.from_residual.ensures.1 in
     let h = c.in_err-flush_step.ensures in
     rw (p.1, p.2) (step_stops c.in_err-flush_step.field-0.0 c.loop-made._made (view_in c.args.tree.now) (view_in c.loop-made.tree) (view_in c.flush_step.new.self) c.loop-made.invariant.flushes
-    (omega (arith, c.loop-made-test.true)) (step_waits _ _ _ (λ e. cc) h.enough) (h.same_nodes tt (λ e. cc)) (h.same_table (λ e. cc)) h.walk h.cause.failed)
+    (omega (arith, c.loop-made-test.true)) (step_waits _ _ _ (λ e. cc) h.enough) ((h.rest (λ e. cc)).kept tt) (h.rest (λ e. cc)).table h.walk h.cause.failed)
 
 pub loop-made-preserved : goal.loop-made-preserved
 loop-made-preserved c =
