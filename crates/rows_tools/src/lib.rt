@@ -1,9 +1,16 @@
-//! What tests of several crates use: messages by their names, numbers by a fixed rule.
-//! The tests above use `message`, `apply`, `graft` and `Numbers`.
+//! What tests of several crates use: messages by their names, numbers by a fixed rule, commands over
+//! a key map and by the plain program, and a map beside a tree of nodes.
+//! The tests above use what stands here as it is; no clause says what it does.
 #![tactic(auto)]
 
+mod both;
+mod commands;
 mod messages;
 mod numbers;
+mod replies;
 
+pub use both::{Both, flush};
+pub use commands::{answer, messages_of, plain_answer, root_alone, stepped};
 pub use messages::{apply, graft, message};
 pub use numbers::Numbers;
+pub use replies::{shown, text_of};
