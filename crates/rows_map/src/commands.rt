@@ -1,93 +1,47 @@
 //! Commands over a tree of nodes in memory, beside the plain program.
 
-use bd_command::{Command, Reply};
-use bd_dirs::{Plan, list, plan_command, stat};
-use bd_files::{put_record, read};
-use bd_limits::{MAX_READ, MAX_WRITE};
 use bd_memnodes::MemNodes;
-use bd_message::KeyMap;
-use bd_names::Path;
 use bd_plain::PlainTree;
-use bd_records::Record;
-use bd_script::{Line, read_line};
 use bd_tree::Tree;
-use rows_tools::{apply, graft};
+use rows_tools::{answer, apply, flush, plain_answer, root_alone, shown};
 use std::alloc::Global;
 use std::test::Fail;
 
 /// A tree of nodes and the plain program after the same commands.
-#[derive(Drop)]
 struct Both {
     tree: Tree<MemNodes>,
     plain: PlainTree,
+}
+
+// Written out, so that a drop is one call.
+impl Drop for Both {
+    fn drop(self) {
+        let Both { tree: _, plain: _ } = self;
+    }
 }
 
 impl Both {
     /// Both with `/` alone.
     fn new(alloc: Global) -> Result<Both, Fail> {
         let mut tree = Tree::over(alloc, MemNodes::new(alloc)?);
-        let root = Path::root(alloc)?;
-        apply(&mut tree, put_record(alloc, &root, Record::Dir)?)?;
+        apply(&mut tree, root_alone(alloc)?)?;
         Ok(Both {
             tree,
             plain: PlainTree::new(alloc)?,
         })
     }
 
-    /// What both answer to a line, as text.
-    fn answers(&mut self, alloc: Global, line: &str) -> Result<(String, String), Fail> {
-        let Ok(Line::Run(command)) = read_line(alloc, line.as_bytes()) else {
-            return Err(Fail::new("no command"));
-        };
-        let found = execute(alloc, &mut self.tree, &command)?;
-        let want = self.plain.step(alloc, &command)?;
-        let found = format!(in alloc; "{found:?}")?;
-        Ok((found, format!(in alloc; "{want:?}")?))
+    /// What the tree answers to a line.
+    fn found(&mut self, alloc: Global, line: &str) -> Result<String, Fail> {
+        let found = answer(alloc, &mut self.tree, line)?;
+        shown(alloc, &found)
     }
-}
 
-/// What a reading command is answered over a key map.
-fn asked<M: KeyMap>(alloc: Global, map: &mut M, command: &Command) -> Result<Reply, Fail> {
-    match command {
-        Command::Read { path, off, len } if *len <= MAX_READ => {
-            Ok(read(alloc, map, path, *off, *len)?)
-        }
-        Command::Stat { path } => Ok(stat(alloc, map, path)?),
-        Command::List { path, after } => Ok(list(alloc, map, path, after.as_ref())?),
-        _ => Err(Fail::new("no command that reads so")),
+    /// What the plain program answers to it.
+    fn wanted(&mut self, alloc: Global, line: &str) -> Result<String, Fail> {
+        let want = plain_answer(alloc, &mut self.plain, line)?;
+        shown(alloc, &want)
     }
-}
-
-/// Executes a command over a key map.
-fn execute<M: KeyMap>(alloc: Global, map: &mut M, command: &Command) -> Result<Reply, Fail> {
-    if !command.writes() {
-        return asked(alloc, map, command);
-    }
-    if let Command::Write { bytes, .. } = command {
-        if bytes.is_empty() || bytes.len() > MAX_WRITE {
-            return Err(Fail::new("no such write"));
-        }
-    }
-    match plan_command(alloc, map, command)? {
-        Plan::Refused(refusal) => return Ok(Reply::Refused(refusal)),
-        Plan::Apply(list) => {
-            for message in list.as_slice() {
-                apply(map, message.clone()?)?;
-            }
-        }
-        Plan::Graft { s, d, keep } => graft(map, s.as_slice(), d.as_slice(), keep)?,
-    }
-    Ok(Reply::Done)
-}
-
-/// Flushes until at most so many bytes wait in the root.
-fn flush(tree: &mut Tree<MemNodes>, limit: usize) -> Result<(), Fail> {
-    for _ in 0..1_000 {
-        if !tree.flush_step(limit)? {
-            return Ok(());
-        }
-    }
-    Err(Fail::new("too many steps"))
 }
 
 /// Lines: a file over the border of two blocks, clones and moves with writes to both sides, a clone
@@ -144,7 +98,8 @@ fn commands_over_nodes(rt: HostRuntime) -> Result<(), Fail> {
     for limit in [32_768, 1_000, 0] {
         let mut both = Both::new(rt.alloc())?;
         for line in LINES {
-            let (found, want) = both.answers(rt.alloc(), line)?;
+            let found = both.found(rt.alloc(), line)?;
+            let want = both.wanted(rt.alloc(), line)?;
             assert_eq!(rt; found.as_str(), want.as_str(), "{line} with {limit}");
             flush(&mut both.tree, limit)?;
         }
@@ -186,7 +141,8 @@ fn long_names_over_nodes(rt: HostRuntime) -> Result<(), Fail> {
         let mut both = Both::new(rt.alloc())?;
         for line in LONG_LINES {
             let line = long_line(rt.alloc(), line)?;
-            let (found, want) = both.answers(rt.alloc(), &line)?;
+            let found = both.found(rt.alloc(), &line)?;
+            let want = both.wanted(rt.alloc(), &line)?;
             assert_eq!(rt; found.as_str(), want.as_str(), "{line} with {limit}");
             flush(&mut both.tree, limit)?;
         }
