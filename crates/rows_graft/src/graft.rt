@@ -1,10 +1,9 @@
 //! Grafts beside a map: worked rows, calls by a fixed rule, and clones of clones.
 
-use crate::both::{Both, flush};
 use bd_memnodes::MemNodes;
 use bd_message::{Counter, MapFault};
 use bd_tree::Tree;
-use rows_tools::{Numbers, message};
+use rows_tools::{Both, Numbers, flush, message};
 use std::alloc::Global;
 use std::test::Fail;
 
