@@ -2,9 +2,9 @@
 //! run through the program itself, in `betr`.
 
 use bd_command::{Refusal, Reply};
-use bd_limits::{MAX_LISTING, MAX_READ};
 use bd_plain::PlainTree;
-use bd_script::{Line, LineFault, REPLY_SIZE, read_line, reply};
+use bd_script::{Line, LineFault, read_line};
+use rows_tools::{stepped, text_of};
 use std::alloc::Global;
 use std::test::Fail;
 
@@ -28,7 +28,7 @@ pub const LINES: &[(&str, &str)] = &[
 /// The reply to a line that is a command, or that is refused.
 fn answer(alloc: Global, tree: &mut PlainTree, line: &str) -> Result<Reply, Fail> {
     match read_line(alloc, line.as_bytes()) {
-        Ok(Line::Run(command)) => Ok(tree.step(alloc, &command)?),
+        Ok(Line::Run(command)) => stepped(alloc, tree, &command),
         Ok(_) => Err(Fail::new("no command")),
         Err(LineFault::BadPath) => Ok(Reply::Refused(Refusal::BadPath)),
         Err(LineFault::BadLine) => Ok(Reply::Refused(Refusal::BadLine)),
@@ -36,28 +36,17 @@ fn answer(alloc: Global, tree: &mut PlainTree, line: &str) -> Result<Reply, Fail
     }
 }
 
-/// The text of a reply, without its newline.
-pub fn text_of(alloc: Global, answer: &Reply) -> Result<String, Fail> {
-    let is_short = match answer {
-        Reply::Bytes(bytes) => bytes.len() <= MAX_READ as usize,
-        Reply::Names(listing) => listing.names.len() <= MAX_LISTING,
-        _ => true,
-    };
-    if !is_short {
-        return Err(Fail::new("a reply past its limit"));
-    }
-    let mut into = [0; REPLY_SIZE];
-    let end = reply(answer, &mut into);
-    let text = str::from_utf8(&into[..end])?;
-    Ok(String::from_str(alloc, text.trim_end())?)
+/// The text of that reply.
+fn answered(alloc: Global, tree: &mut PlainTree, line: &str) -> Result<String, Fail> {
+    let found = answer(alloc, tree, line)?;
+    text_of(alloc, &found)
 }
 
 #[test]
 fn each_command_is_taken(rt: HostRuntime) -> Result<(), Fail> {
     let mut tree = PlainTree::new(rt.alloc())?;
     for (line, want) in LINES {
-        let found = answer(rt.alloc(), &mut tree, line)?;
-        let found = text_of(rt.alloc(), &found)?;
+        let found = answered(rt.alloc(), &mut tree, line)?;
         assert_eq!(rt; found.as_str(), *want, "{line}");
     }
     Ok(())

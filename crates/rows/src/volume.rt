@@ -1,12 +1,15 @@
 //! A volume and the plain program answer lines alike, which are made by a fixed rule.
 
-use crate::plain::{LINES, text_of};
+ghost use Rattle.bd_command.specs.Command.{IsCommand};
+
+use crate::plain::LINES;
+use bd_command::Command;
 use bd_device::{Device, MemDevice};
 use bd_limits::MAX_WRITE;
 use bd_plain::PlainTree;
 use bd_script::{Line, read_line};
 use bd_volume::{Refused, Volume};
-use rows_tools::Numbers;
+use rows_tools::{Numbers, plain_answer, text_of};
 use std::alloc::{AllocError, Global};
 use std::test::Fail;
 
@@ -87,25 +90,38 @@ fn started(alloc: Global) -> Result<Volume<MemDevice>, Fail> {
     }
 }
 
-/// The text of what a volume answers to a command.
+/// Whether a line is a command.
+fn is_command(alloc: Global, line: &str) -> bool {
+    matches!(read_line(alloc, line.as_bytes()), Ok(Line::Run(_)))
+}
+
+/// The text of what a volume answers to a line's command.
 fn answer<D: Device + Drop>(
     alloc: Global,
     volume: &mut Volume<D>,
     line: &str,
 ) -> Result<String, Fail> {
-    let Ok(Line::Run(command)) = read_line(alloc, line.as_bytes()) else {
-        return Err(Fail::new("no command"));
-    };
-    let found = volume.do_command(alloc, &command)?;
+    match read_line(alloc, line.as_bytes()) {
+        Ok(Line::Run(command)) => executed(alloc, volume, &command),
+        _ => Err(Fail::new("no command")),
+    }
+}
+
+/// The text of what a volume answers to a command.
+fn executed<D: Device + Drop>(
+    alloc: Global,
+    volume: &mut Volume<D>,
+    command: &Command,
+) -> Result<String, Fail>
+    requires { IsCommand command.now }
+{
+    let found = volume.do_command(alloc, command)?;
     text_of(alloc, &found)
 }
 
-/// The text of what the plain program answers to a command.
+/// The text of what the plain program answers to a line's command.
 fn wanted(alloc: Global, tree: &mut PlainTree, line: &str) -> Result<String, Fail> {
-    let Ok(Line::Run(command)) = read_line(alloc, line.as_bytes()) else {
-        return Err(Fail::new("no command"));
-    };
-    let want = tree.step(alloc, &command)?;
+    let want = plain_answer(alloc, tree, line)?;
     text_of(alloc, &want)
 }
 
@@ -113,7 +129,7 @@ fn wanted(alloc: Global, tree: &mut PlainTree, line: &str) -> Result<String, Fai
 fn a_volume_takes_each_command(rt: HostRuntime) -> Result<(), Fail> {
     let mut volume = started(rt.alloc())?;
     for (line, want) in LINES {
-        if let Ok(Line::Run(_)) = read_line(rt.alloc(), line.as_bytes()) {
+        if is_command(rt.alloc(), line) {
             let found = answer(rt.alloc(), &mut volume, line)?;
             assert_eq!(rt; found.as_str(), *want, "{line}");
         }

@@ -1,82 +1,10 @@
 //! A tree over nodes in memory whose root is flushed after each write, beside a map.
 
 use bd_keys::Bytes;
-use bd_memnodes::MemNodes;
-use bd_message::{KeyMap, ListMap, Message};
-use bd_tree::Tree;
-use rows_tools::apply;
+use bd_message::Message;
+use rows_tools::{Both, flush};
 use std::alloc::{AllocError, Global};
 use std::test::Fail;
-
-/// A map and a tree after the same messages.
-#[derive(Drop)]
-struct Both {
-    map: ListMap,
-    tree: Tree<MemNodes>,
-}
-
-impl Both {
-    /// Without keys.
-    fn new(alloc: Global) -> Result<Both, Fail> {
-        Ok(Both {
-            map: ListMap::new(alloc),
-            tree: Tree::over(alloc, MemNodes::new(alloc)?),
-        })
-    }
-
-    /// After one more message.
-    fn apply(&mut self, message: Message) -> Result<(), Fail> {
-        pour(&mut self.tree, message.clone()?)?;
-        apply(&mut self.map, message)
-    }
-
-    /// Whether both have the same at a key.
-    fn is_same(&mut self, key: &[u8]) -> Result<bool, Fail> {
-        let found = self.tree.get(key)?;
-        let want = self.map.get(key)?;
-        Ok(found == want)
-    }
-
-    /// Whether both have the same at each key of the map and at the one before the next key. How
-    /// many keys there are, if so.
-    fn same_keys(&mut self, alloc: Global) -> Result<Option<usize>, Fail> {
-        let mut at = Vec::new(alloc);
-        for count in 0..10_000 {
-            let Some(key) = self.map.next(at.as_slice(), &[])? else {
-                return Ok(Some(count));
-            };
-            at = key;
-            let is_same = self.is_same(at.as_slice())?;
-            at.push(0)?;
-            if !is_same || !self.is_same(at.as_slice())? {
-                return Ok(None);
-            }
-        }
-        Ok(None)
-    }
-}
-
-/// Puts a message that names no node into a tree, where there is room.
-fn pour(tree: &mut Tree<MemNodes>, message: Message) -> Result<(), Fail> {
-    if !message.is_message() || message.size() > tree.room() {
-        return Err(Fail::new("no such message"));
-    }
-    if let Message::Goto { .. } = message {
-        return Err(Fail::new("a message that names a node"));
-    }
-    tree.apply(&[message])?;
-    Ok(())
-}
-
-/// Flushes until at most 16,384 bytes wait in the root.
-fn flush(tree: &mut Tree<MemNodes>) -> Result<(), Fail> {
-    for _ in 0..100 {
-        if !tree.flush_step(16_384)? {
-            return Ok(());
-        }
-    }
-    Err(Fail::new("too many steps"))
-}
 
 /// In which order the 1,000 pieces of a file are written.
 #[derive(Clone, Copy, Debug)]
@@ -118,7 +46,7 @@ fn written(alloc: Global, order: Order) -> Result<Both, Fail> {
         both.apply(first)?;
         let second = block(alloc, number * 2 + 1)?;
         both.apply(second)?;
-        flush(&mut both.tree)?;
+        flush(&mut both.tree, 16_384)?;
     }
     Ok(both)
 }
@@ -163,7 +91,7 @@ fn long_keys(rt: HostRuntime) -> Result<(), Fail> {
     for count in 0..500 {
         let message = long_put(rt.alloc(), count * 137 % 500)?;
         both.apply(message)?;
-        flush(&mut both.tree)?;
+        flush(&mut both.tree, 16_384)?;
     }
     assert!(rt; both.tree.height() > 2);
     assert_eq!(rt; both.same_keys(rt.alloc())?, Some(500));

@@ -1,12 +1,11 @@
 //! Copies of shared children: when there is one, and what it keeps where sources grow too long.
 
-use crate::both::{Both, flush};
 use bd_keys::Bytes;
 use bd_memnodes::MemNodes;
 use bd_message::Message;
 use bd_node::{Edge, Node, NodeStore};
 use bd_tree::Tree;
-use rows_tools::apply;
+use rows_tools::{Both, apply, flush};
 use std::alloc::{AllocError, Global};
 use std::test::Fail;
 

@@ -1,8 +1,9 @@
 //! Gotos that a flush moves down from the root with other messages.
 
-use crate::both::{Both, flush};
+use crate::below::with_goto_below;
 use bd_keys::Bytes;
 use bd_message::Message;
+use rows_tools::{Both, flush};
 use std::alloc::{AllocError, Global};
 use std::test::Fail;
 
@@ -53,7 +54,7 @@ fn cloned(alloc: Global, both: Both, number: u32) -> Result<(Both, bool), Fail> 
     flush(&mut both.tree, 0)?;
     let message = put(alloc, to, b"/new", 10)?;
     both.apply(message)?;
-    both.with_goto_below(alloc)
+    with_goto_below(alloc, both)
 }
 
 #[test]

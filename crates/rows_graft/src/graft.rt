@@ -1,11 +1,10 @@
 //! Grafts beside a map: worked rows, calls by a fixed rule, and clones of clones.
 
-use crate::both::{Both, flush, plant, pour};
 use bd_memnodes::MemNodes;
 use bd_message::{Counter, MapFault};
 use bd_node::NodeStore;
 use bd_tree::Tree;
-use rows_tools::{Numbers, message};
+use rows_tools::{Both, Numbers, apply, flush, graft, message};
 use std::alloc::Global;
 use std::test::Fail;
 
@@ -198,7 +197,7 @@ fn clones_of_all_keys_end_in_a_worn_level(rt: HostRuntime) -> Result<(), Fail> {
     let first = deep_key(rt.alloc(), 999)?;
     let found = both.tree.next(&first, b"s")?;
     assert!(rt; found.is_some_and(|found| found.as_slice() == first.as_slice()));
-    plant(&mut both.tree, b"a", b"q", true)?;
+    graft(&mut both.tree, b"a", b"q", true)?;
     assert!(rt; both.tree.get(b"q")?.is_some());
     assert_eq!(rt; both.tree.height(), 1_001);
     Ok(())
@@ -215,11 +214,11 @@ const NAMES: &[&str] = &[
 fn a_long_way_makes_one_overlay_node(rt: HostRuntime) -> Result<(), Fail> {
     let mut tree = Tree::over(rt.alloc(), MemNodes::new(rt.alloc())?);
     for name in NAMES {
-        pour(&mut tree, message(rt.alloc(), "put", name, "1")?)?;
-        plant(&mut tree, b"", b"s", true)?;
+        apply(&mut tree, message(rt.alloc(), "put", name, "1")?)?;
+        graft(&mut tree, b"", b"s", true)?;
     }
     let next = tree.store().next_id();
-    plant(&mut tree, b"a/", b"b/", true)?;
+    graft(&mut tree, b"a/", b"b/", true)?;
     assert_eq!(rt; Some(tree.store().next_id()), next.checked_add(1));
     assert_eq!(rt; (tree.height(), tree.last_walk().visits), (12, 13));
     assert!(rt; tree.get(b"b/0")?.is_some() && tree.get(b"b/9")?.is_some());

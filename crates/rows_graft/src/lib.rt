@@ -3,7 +3,7 @@
 #![tactic(auto)]
 
 #[cfg(test)]
-mod both;
+mod below;
 #[cfg(test)]
 mod copies;
 #[cfg(test)]

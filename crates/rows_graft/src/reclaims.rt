@@ -1,13 +1,12 @@
 //! Nodes that go once their keys are cut, beside a map.
 
-use crate::both::{Both, flush};
 use crate::graft::generated;
 use bd_keys::Bytes;
 use bd_memnodes::MemNodes;
 use bd_message::Message;
 use bd_reclaim::Reclaim;
 use bd_tree::Tree;
-use rows_tools::{Numbers, message};
+use rows_tools::{Both, Numbers, flush, message};
 use std::alloc::{AllocError, Global};
 use std::test::Fail;
 

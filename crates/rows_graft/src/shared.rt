@@ -5,12 +5,12 @@ ghost use Rattle.std.specs.List.{flat_map};
 ghost use Rattle.bd_node.specs.Nodes.{edge_names, message_names, names};
 ghost use Rattle.bd_node.specs.Tables.{IsKept};
 
-use crate::both::{Both, flush};
 use bd_keys::Bytes;
 use bd_memnodes::MemNodes;
 use bd_message::Message;
 use bd_node::{Edge, Node, NodeStore};
 use bd_tree::Tree;
+use rows_tools::{Both, flush};
 use std::alloc::{AllocError, Global};
 use std::test::Fail;
 

@@ -7,119 +7,27 @@ ghost use Rattle.bd_node.specs.New.{new_root};
 ghost use Rattle.bd_node.specs.Steps.{root_step};
 ghost use Rattle.rows_nodes.specs.Cloned.{cloned_leaf, cloned};
 
-use bd_command::Command;
-use bd_dirs::{Plan, plan_command};
-use bd_files::put_record;
 use bd_keys::Bytes;
-use bd_limits::MAX_WRITE;
 use bd_memnodes::MemNodes;
-use bd_message::{KeyMap, ListMap, Message, Messages};
-use bd_names::Path;
+use bd_message::{KeyMap, ListMap, Message};
 use bd_node::{Change, Edge, Edges, Entries, Entry, Items, Node, NodeStore, Step};
-use bd_records::Record;
-use bd_script::{Line, read_line};
 use bd_tree::Tree;
-use rows_tools::{Numbers, apply, graft, message};
+use rows_tools::{Both, Numbers, apply, graft, message, messages_of, root_alone};
 use std::alloc::{AllocError, Global};
 use std::test::Fail;
 
-/// Puts a message that names no node into a tree, where there is room.
-fn pour(tree: &mut Tree<MemNodes>, message: Message) -> Result<(), Fail> {
-    if !message.is_message() || message.size() > tree.room() {
-        return Err(Fail::new("no such message"));
+/// A map and a tree after the messages of a command.
+fn execute(alloc: Global, both: &mut Both, line: &str) -> Result<(), Fail> {
+    let list = messages_of(alloc, &mut both.map, line)?;
+    apply_all(both, list.as_slice())
+}
+
+/// A map and a tree after these messages.
+fn apply_all(both: &mut Both, list: &[Message]) -> Result<(), Fail> {
+    for message in list {
+        both.apply(message.clone()?)?;
     }
-    if let Message::Goto { .. } = message {
-        return Err(Fail::new("a message that names a node"));
-    }
-    tree.apply(&[message])?;
     Ok(())
-}
-
-/// A map and a tree after the same messages.
-#[derive(Drop)]
-pub struct Both {
-    pub map: ListMap,
-    pub tree: Tree<MemNodes>,
-}
-
-impl Both {
-    /// Without keys.
-    pub fn new(alloc: Global) -> Result<Both, Fail> {
-        Ok(Both {
-            map: ListMap::new(alloc),
-            tree: Tree::over(alloc, MemNodes::new(alloc)?),
-        })
-    }
-
-    /// After one more message.
-    pub fn apply(&mut self, message: Message) -> Result<(), Fail> {
-        pour(&mut self.tree, message.clone()?)?;
-        apply(&mut self.map, message)
-    }
-
-    /// Whether both have the same at a key.
-    fn is_same(&mut self, key: &[u8]) -> Result<bool, Fail> {
-        let found = self.tree.get(key)?;
-        let want = self.map.get(key)?;
-        Ok(found == want)
-    }
-
-    /// After these messages.
-    fn apply_all(&mut self, list: &[Message]) -> Result<(), Fail> {
-        for message in list {
-            self.apply(message.clone()?)?;
-        }
-        Ok(())
-    }
-
-    /// After the messages of a command.
-    fn execute(&mut self, alloc: Global, line: &str) -> Result<(), Fail> {
-        let list = messages_of(alloc, &mut self.map, line)?;
-        self.apply_all(list.as_slice())
-    }
-
-    /// Whether both have the same at each key of the map and at the one before the next key. How
-    /// many keys there are, if so.
-    fn same_keys(&mut self, alloc: Global) -> Result<Option<usize>, Fail> {
-        let mut at = Vec::new(alloc);
-        for count in 0..1_000 {
-            let Some(key) = self.map.next(at.as_slice(), &[])? else {
-                return Ok(Some(count));
-            };
-            at = key;
-            let is_same = self.is_same(at.as_slice())?;
-            at.push(0)?;
-            if !is_same || !self.is_same(at.as_slice())? {
-                return Ok(None);
-            }
-        }
-        Ok(None)
-    }
-}
-
-/// A command.
-fn command(alloc: Global, line: &str) -> Result<Command, Fail> {
-    match read_line(alloc, line.as_bytes()) {
-        Ok(Line::Run(command)) => Ok(command),
-        _ => Err(Fail::new("no command")),
-    }
-}
-
-/// The messages of a command over a map.
-fn messages_of(alloc: Global, map: &mut ListMap, line: &str) -> Result<Messages, Fail> {
-    let command = command(alloc, line)?;
-    if !command.writes() {
-        return Err(Fail::new("no command that writes"));
-    }
-    if let Command::Write { bytes, .. } = &command {
-        if bytes.is_empty() || bytes.len() > MAX_WRITE {
-            return Err(Fail::new("no such write"));
-        }
-    }
-    match plan_command(alloc, map, &command)? {
-        Plan::Apply(list) => Ok(list),
-        _ => Err(Fail::new("no messages")),
-    }
 }
 
 /// Commands on files: a write over the border of two blocks, and truncates both ways.
@@ -137,19 +45,12 @@ const FILES: &[&str] = &[
     "remove /g",
 ];
 
-/// A map and a tree that represent the tree of `/` alone.
-fn root_alone(alloc: Global) -> Result<Both, Fail> {
-    let mut both = Both::new(alloc)?;
-    let root = Path::root(alloc)?;
-    both.apply(put_record(alloc, &root, Record::Dir)?)?;
-    Ok(both)
-}
-
 #[test]
 fn messages_of_files(rt: HostRuntime) -> Result<(), Fail> {
-    let mut both = root_alone(rt.alloc())?;
+    let mut both = Both::new(rt.alloc())?;
+    both.apply(root_alone(rt.alloc())?)?;
     for line in FILES {
-        both.execute(rt.alloc(), line)?;
+        execute(rt.alloc(), &mut both, line)?;
     }
     // `/`, `/d`, and `/d/f` with its three blocks.
     assert_eq!(rt; both.same_keys(rt.alloc())?, Some(6));
@@ -203,10 +104,10 @@ fn a_held_root_stays(rt: HostRuntime) -> Result<(), Fail> {
     let root = store.root();
     let held = store.fetch(root)?;
     let mut tree = Tree::over(rt.alloc(), store);
-    pour(&mut tree, message(rt.alloc(), "put", "a", "1")?)?;
+    apply(&mut tree, message(rt.alloc(), "put", "a", "1")?)?;
     assert_eq!(rt; waiting(&held), 0);
     drop(held);
-    pour(&mut tree, message(rt.alloc(), "put", "a", "22")?)?;
+    apply(&mut tree, message(rt.alloc(), "put", "a", "22")?)?;
     assert!(rt;
         tree.get(b"a")?
             .is_some_and(|value| value.as_slice() == b"22".as_slice())
@@ -346,8 +247,8 @@ fn what_a_clone_names_stays(rt: HostRuntime) -> Result<(), Fail> {
     let one = Some(b"1".as_slice());
     let mut tree = Tree::over(rt.alloc(), with_clone(rt.alloc())?);
     assert!(rt; has(&mut tree, [one, one, None])?);
-    pour(&mut tree, message(rt.alloc(), "put", "c/f", "22")?)?;
-    pour(&mut tree, message(rt.alloc(), "put", "c/g", "1")?)?;
+    apply(&mut tree, message(rt.alloc(), "put", "c/f", "22")?)?;
+    apply(&mut tree, message(rt.alloc(), "put", "c/g", "1")?)?;
     assert!(rt; has(&mut tree, [one, Some(b"22".as_slice()), one])?);
     let mut store = tree.into_store();
     empty(rt.alloc(), &mut store)?;

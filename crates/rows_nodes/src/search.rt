@@ -1,45 +1,43 @@
 //! The ordered search over nodes in memory: it finds what a map finds after the same messages, also
 //! under a clone.
 
-use crate::nodes::{Both, KEYS, clone_both, generated};
+use crate::nodes::{KEYS, clone_both, generated};
 use bd_message::KeyMap;
-use rows_tools::{Numbers, message};
+use rows_tools::{Both, Numbers, message};
 use std::alloc::Global;
 use std::test::Fail;
 
-impl Both {
-    /// Whether both find the same key from one on that begins with a prefix.
-    fn is_same_next(&mut self, from: &str, within: &str) -> Result<bool, Fail> {
-        let found = self.tree.next(from.as_bytes(), within.as_bytes())?;
-        let want = self.map.next(from.as_bytes(), within.as_bytes())?;
-        Ok(found == want)
-    }
+/// Whether both find the same key from one on that begins with a prefix.
+fn is_same_next(both: &mut Both, from: &str, within: &str) -> Result<bool, Fail> {
+    let found = both.tree.next(from.as_bytes(), within.as_bytes())?;
+    let want = both.map.next(from.as_bytes(), within.as_bytes())?;
+    Ok(found == want)
+}
 
-    /// Whether they do from each of these keys on with each of these prefixes.
-    fn is_same_search(&mut self, keys: &[&str], prefixes: &[&str]) -> Result<bool, Fail> {
-        for key in keys {
-            if !self.is_same_from(key, prefixes)? {
-                return Ok(false);
-            }
+/// Whether they do from each of these keys on with each of these prefixes.
+fn is_same_search(both: &mut Both, keys: &[&str], prefixes: &[&str]) -> Result<bool, Fail> {
+    for key in keys {
+        if !is_same_from(both, key, prefixes)? {
+            return Ok(false);
         }
-        Ok(true)
     }
+    Ok(true)
+}
 
-    /// The same from one key on.
-    fn is_same_from(&mut self, key: &str, prefixes: &[&str]) -> Result<bool, Fail> {
-        for prefix in prefixes {
-            if !self.is_same_next(key, prefix)? {
-                return Ok(false);
-            }
+/// The same from one key on.
+fn is_same_from(both: &mut Both, key: &str, prefixes: &[&str]) -> Result<bool, Fail> {
+    for prefix in prefixes {
+        if !is_same_next(both, key, prefix)? {
+            return Ok(false);
         }
-        Ok(true)
     }
+    Ok(true)
+}
 
-    /// Whether this is the key that the tree finds.
-    fn finds(&mut self, from: &str, within: &str, want: Option<&str>) -> Result<bool, Fail> {
-        let found = self.tree.next(from.as_bytes(), within.as_bytes())?;
-        Ok(found.as_ref().map(|key| key.as_slice()) == want.map(|key| key.as_bytes()))
-    }
+/// Whether this is the key that the tree finds.
+fn finds(both: &mut Both, from: &str, within: &str, want: Option<&str>) -> Result<bool, Fail> {
+    let found = both.tree.next(from.as_bytes(), within.as_bytes())?;
+    Ok(found.as_ref().map(|key| key.as_slice()) == want.map(|key| key.as_bytes()))
 }
 
 #[test]
@@ -51,10 +49,10 @@ fn searches_after_generated_messages(rt: HostRuntime) -> Result<(), Fail> {
         both.apply(message)?;
         let from = *numbers.pick(KEYS)?;
         let within = *numbers.pick(KEYS)?;
-        assert!(rt; both.is_same_next(from, within)?, "{number}");
-        assert!(rt; both.is_same_next(from, "")?, "{number}");
+        assert!(rt; is_same_next(&mut both, from, within)?, "{number}");
+        assert!(rt; is_same_next(&mut both, from, "")?, "{number}");
     }
-    assert!(rt; both.is_same_search(KEYS, KEYS)?);
+    assert!(rt; is_same_search(&mut both, KEYS, KEYS)?);
     Ok(())
 }
 
@@ -97,11 +95,11 @@ const CHANGES: &[(&str, &str, &str)] = &[
 fn searches_under_a_clone(rt: HostRuntime) -> Result<(), Fail> {
     let mut both = clone_both(rt.alloc())?;
     for (from, within, want) in CLONED {
-        assert!(rt; both.finds(from, within, *want)?, "{from} {within}");
+        assert!(rt; finds(&mut both, from, within, *want)?, "{from} {within}");
     }
     for (name, first, second) in CHANGES {
         both.apply(message(rt.alloc(), name, first, second)?)?;
-        assert!(rt; both.is_same_search(FROM, WITHIN)?, "{name} {first}");
+        assert!(rt; is_same_search(&mut both, FROM, WITHIN)?, "{name} {first}");
     }
     Ok(())
 }
