@@ -68,4 +68,4 @@ abbrev pub truncated : At → List (List ℕ) → ℕ → ℕ → List Message
 truncated at path size len =
     put_length path len
     ∷ (if nat_lt len size
-      then cut_past path len ∷ shortened path len (stored at path (len / block_limit)) else [])
+    then cut_past path len ∷ shortened path len (stored at path (len / block_limit)) else [])
