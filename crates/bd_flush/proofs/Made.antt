@@ -35,7 +35,7 @@ pub worn_wider : {T : Type 0} (before now : ℕ) (bad : ℕ → Type 0) (IsOne I
     → HasMapCause before now bad (IsWornFor IsOther higher t) r
 worn_wider before now bad IsOne IsOther high higher t r is rises cause =
     cause_weaker before now bad (IsWornFor IsOne high t) (IsWornFor IsOther higher t)
-    (λ counter worn. elim worn [ | inl out ↦ inl (record { step = out.step; is = is out.step out.is; worn = out.worn }) | inr up ↦ inr (up.0, rises up.1) ]) r cause
+    (λ counter worn. elim worn [ inl out ↦ inl (record { step = out.step; is = is out.step out.is; worn = out.worn }) | inr up ↦ inr (up.0, rises up.1) ]) r cause
 
 -- and so is what it makes
 pub made_wider : {T E : Type 0} (IsOne IsOther : Step → Type 0) (nodes : Nodes) (t : Table) (new : Nodes) (u : Table) (r : Result T E) → ((step : Step) → IsOne step → IsOther step) → OnOk r (IsMadeBy IsOne nodes t new u) → OnOk r (IsMadeBy IsOther nodes t new u)

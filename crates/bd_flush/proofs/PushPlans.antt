@@ -141,7 +141,7 @@ no_level_cause count bad IsOne t way parent place child plan root next is h =
 
 -- the step of the store
 pub some_push : (t : Table) (way : List Fetched) (parent : Fetched) (place : ℕ) (child : Fetched) (step : Step) → IsPlanned t way parent place child step → IsSomePush t.root t.next way parent place child step
-some_push t way parent place child step h = elim h.push [ | inl own ↦ inl own | inr b ↦ inr b.0 ]
+some_push t way parent place child step h = elim h.push [ inl own ↦ inl own | inr b ↦ inr b.0 ]
 
 -- the step for which there are no ids
 pub no_id_cause : {T : Type 0} (count : ℕ) (bad : ℕ → Type 0) (high : Type 0) (t : Table) (way : List Fetched) (parent : Fetched) (place : ℕ) (child : Fetched) (plan : Plan) (root next : ℕ) → root ≡ t.root → next ≡ t.next → plan ≡ NoId → IsPlan root next way parent place child plan

@@ -45,7 +45,7 @@ returns-clause-made g c = λ known sound.
     record {
       step = c.in-Some.step;
       is = short (is_to_split_child (g.S.NodeStore.table c.args.store.now) c.args.parent.now c.args.place c.args.child.now c.in-Some.step c.root-root.result c.next_id-next.result c.root-root.ensures.table c.requires.can c.root-root.ensures.value c.next_id-next.ensures.value (omega arith)
-    (subst (λ (o : Option Step). MatchOption o (IsLongPivot c.args.parent.now.node.value c.args.place c.args.child.now.node.value) (λ (s : Step). IsChildStep c.root-root.result c.next_id-next.result c.args.parent.now c.args.place c.args.child.now s)) c.in-Some.is c.in_ok-step.ensures)).split;
+          (subst (λ (o : Option Step). MatchOption o (IsLongPivot c.args.parent.now.node.value c.args.place c.args.child.now.node.value) (λ (s : Step). IsChildStep c.root-root.result c.next_id-next.result c.args.parent.now c.args.place c.args.child.now s)) c.in-Some.is c.in_ok-step.ensures)).split;
       after = c.in_ok-commit.ensures.table;
       committed = c.in_ok-commit.ensures.committed known sound;
     }
