@@ -1,6 +1,6 @@
 -- A child's copy.
 use Rattle.std.proofs.Common.{◌≡◌, ℕ, zero, suc, ◌+◌, ◌*◌, ◌<◌, ◌≤◌, Bool, true, false, cond, List, [], ◌∷◌, ◌++◌, length, drop, refl, sym, ap, subst, ◌∙◌, Option, None, Some, Result, Ok, Err, OnOk, OnErr, arith, get_or}
-use Rattle.std.specs.Prelude.{nat_lt}
+use Rattle.std.specs.Prelude.{nat_lt, ⊤}
 use Rattle.std.specs.List.{AllByRecursion, flat_map, sum_by}
 use Rattle.std.specs.Option.{option_to_list}
 use Rattle.std.proofs.lemmas.Bool.{le-ltb}
@@ -9,11 +9,15 @@ use Rattle.std.proofs.lemmas.Option.{same_Some, slice_get_within}
 use Rattle.bd_limits.specs.Limits.{key_limit, edge_limit}
 use Rattle.bd_keys.specs.Keys.{IsKey}
 use Rattle.bd_keys.proofs.Order.{IsKey-cons, IsKey-rest}
+use Rattle.bd_message.specs.declared.fault.MapFault.{MapFault}
+use Rattle.bd_message.specs.KeyMaps.{HasMapCause}
+use Rattle.bd_message.proofs.Causes.{cause_after}
 use Rattle.bd_message.specs.declared.message.Message.{Message}
 use Rattle.bd_message.specs.declared.message.Message.TheVariants.{Put, Del, Patch, Cut, Goto}
 use Rattle.bd_message.specs.Freeing.{source_of}
 use Rattle.bd_node.specs.declared.node.Edge.{Edge}
 use Rattle.bd_node.specs.declared.node.Node.{Node}
+use Rattle.bd_node.specs.declared.node.Step.{Step}
 use Rattle.bd_node.specs.declared.node.Node.TheVariants.{Leaf, Inner}
 use Rattle.bd_node.specs.Nodes.{level_of, message_names, edge_names, names, times, node_at}
 use Rattle.bd_node.specs.Meaning.{Nodes, at}
@@ -33,11 +37,13 @@ use Rattle.bd_resolve.specs.declared.following.Target.{Target}
 use Rattle.bd_resolve.specs.Following.{IsLowerTarget}
 use Rattle.bd_flush.specs.declared.fetching.Fetched.{Fetched}
 use Rattle.bd_flush.specs.Children.{IsFetched}
-use Rattle.bd_flush.specs.Copies.{CanPutCopy, IsCopyFor, IsCopyAt, IsCopyPut}
+use Rattle.bd_flush.specs.Copies.{CanPutCopy, IsCopyFor, IsCopyAt, IsCopyStep}
 use Rattle.bd_flush.proofs.ChildSplits.{edge_here}
 use Rattle.bd_flush.proofs.EdgeChildren.{child_lower}
+use Rattle.bd_flush.specs.Made.{IsMadeBy, IsWornFor}
+use Rattle.bd_flush.proofs.Made.{made_wider, worn_wider}
 use Rattle.bd_copy.specs.Shortening.{edge_way, goto_way, way_visits, CanShorten, IsShortened}
-use Rattle.bd_copy.specs.Copying.{IsCopyOf, HasChild, IsPrivatised}
+use Rattle.bd_copy.specs.Copying.{IsCopyOf, HasChild, IsPrivatiseStep}
 use Rattle.bd_copy.proofs.Shortened.{option_lower, goto_lower}
 
 -- ---- a clipped node
@@ -248,26 +254,38 @@ copied_at nodes t parent place e child copy h d here_d =
 pub copied_again : (nodes mid : Nodes) (t : Table) (parent : Fetched) (place : ℕ) (e : Edge) (child : Fetched) (copy : Node) → mid ≡ nodes → IsCopyThere nodes t parent place e child copy → IsCopyAt mid parent.node.value place copy
 copied_again nodes mid t parent place e child copy same h = subst (λ (f : Nodes). IsCopyAt f parent.node.value place copy) (sym same) (copied_at nodes t parent place e child copy h)
 
-is_privatised : (nodes : Nodes) (t : Table) (parent : Fetched) (place : ℕ) (e : Edge) (child : Fetched) (copy : Node) (new : Nodes) (u : Table) → IsCopyThere nodes t parent place e child copy → IsCopyPut t parent place copy new u → IsPrivatised nodes t parent place new u
-is_privatised nodes t parent place e child copy new u h put = record {
+privatise_step : (known : Type 0) (nodes : Nodes) (t : Table) (parent : Fetched) (place : ℕ) (e : Edge) (child : Fetched) (copy : Node) (step : Step) → IsCopyRead t parent place e child copy → (known → IsCopyThere nodes t parent place e child copy) → IsCopyStep t.root t.next parent place copy step
+    → IsPrivatiseStep known nodes t parent place step
+privatise_step known nodes t parent place e child copy step h there is = record {
   edge = e;
-  here = h.read.read.here;
+  here = h.read.here;
   child = child.id;
-  child_is = h.read.read.child_is;
+  child_is = h.read.child_is;
   old = child.node.value;
-  there = h.there;
+  own = h.fetched.own;
+  there = λ k. (there k).there;
   copy = copy;
-  copied = h.read.copied;
-  level_is = h.read.own.level_is;
-  has = is_copy_for nodes t parent place e child copy h;
-  put = put;
+  copied = h.copied;
+  level_is = h.own.level_is;
+  has = λ k. is_copy_for nodes t parent place e child copy (there k);
+  step_is = is;
 }
 
-pub on_privatised : {T E : Type 0} (nodes : Nodes) (t w : Table) (parent : Fetched) (place : ℕ) (e : Edge) (child : Fetched) (copy : Node) (new : Nodes) (u : Table) (r : Result T E) → IsCopyThere nodes t parent place e child copy → w ≡ t
-    → OnOk r (IsCopyPut w parent place copy new u) → OnOk r (IsPrivatised nodes t parent place new u)
-on_privatised nodes t w parent place e child copy new u (Ok x) h same put =
-    is_privatised nodes t parent place e child copy new u h (subst (λ (v : Table). IsCopyPut v parent place copy new u) same put)
-on_privatised nodes t w parent place e child copy new u (Err x) h same put = tt
+pub on_privatised : {T E : Type 0} (nodes mid : Nodes) (t w : Table) (parent : Fetched) (place : ℕ) (e : Edge) (child : Fetched) (copy : Node) (new : Nodes) (u : Table) (r : Result T E) → IsCopyThere nodes t parent place e child copy → mid ≡ nodes → w ≡ t
+    → OnOk r (IsMadeBy (IsCopyStep w.root w.next parent place copy) mid w new u) → OnOk r (IsMadeBy (IsPrivatiseStep ⊤ nodes t parent place) nodes t new u)
+on_privatised nodes mid t w parent place e child copy new u r h same table made =
+    made_wider (IsCopyStep t.root t.next parent place copy) (IsPrivatiseStep ⊤ nodes t parent place) nodes t new u r
+    (λ step is. privatise_step ⊤ nodes t parent place e child copy step h.read (λ k. h) is)
+    (subst (λ (v : Table). OnOk r (IsMadeBy (IsCopyStep v.root v.next parent place copy) nodes v new u)) table
+    (subst (λ (f : Nodes). OnOk r (IsMadeBy (IsCopyStep w.root w.next parent place copy) f w new u)) same made))
+
+pub copy_cause : {T : Type 0} (before mid now : ℕ) (bad : ℕ → Type 0) (known : Type 0) (nodes : Nodes) (t v w : Table) (parent : Fetched) (place : ℕ) (e : Edge) (id : ℕ) (child : Fetched) (shown : Node) (s : List ℕ) (copy : Node) (r : Result T MapFault) → mid ≡ before → IsCopying t v parent place e id child shown s copy
+    → (known → IsCopyThere nodes t parent place e child copy) → w ≡ t → HasMapCause mid now bad (IsWornFor (IsCopyStep w.root w.next parent place copy) ⊥ w) r → HasMapCause before now bad (IsWornFor (IsPrivatiseStep known nodes t parent place) ⊥ t) r
+copy_cause before mid now bad known nodes t v w parent place e id child shown s copy r same h there table cause =
+    worn_wider before now bad (IsCopyStep t.root t.next parent place copy) (IsPrivatiseStep known nodes t parent place) ⊥ ⊥ t r
+    (λ step is. privatise_step known nodes t parent place e child copy step (copy_read t v parent place e id child shown s copy h) there is) (λ no. no)
+    (cause_after before mid now bad (IsWornFor (IsCopyStep t.root t.next parent place copy) ⊥ t) r same
+    (subst (λ (x : Table). HasMapCause mid now bad (IsWornFor (IsCopyStep x.root x.next parent place copy) ⊥ x) r) table cause))
 
 -- ---- visits
 

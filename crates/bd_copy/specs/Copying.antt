@@ -4,16 +4,17 @@ use Rattle.bd_leaf.specs.Leaves.{IsClipped as IsClippedLeaf}
 use Rattle.bd_node.specs.declared.node.Edge.{Edge}
 use Rattle.bd_node.specs.declared.node.Entry.{Entry}
 use Rattle.bd_node.specs.declared.node.Node.{Node}
+use Rattle.bd_node.specs.declared.node.Step.{Step}
 use Rattle.bd_node.specs.declared.node.Node.TheVariants.{Leaf, Inner}
 use Rattle.bd_node.specs.Nodes.{level_of}
 use Rattle.bd_node.specs.Meaning.{Nodes}
-use Rattle.bd_node.specs.Tables.{Table}
+use Rattle.bd_node.specs.Tables.{Table, IsNodeOf}
 use Rattle.bd_inner.specs.Clipping.{IsClipped}
 use Rattle.bd_inner.specs.Compaction.{IsCompacted}
 use Rattle.bd_inner.specs.Exchange.{IsEdgeAt}
 use Rattle.bd_flush.specs.declared.fetching.Fetched.{Fetched}
 use Rattle.bd_flush.specs.Children.{IsFetched}
-use Rattle.bd_flush.specs.Copies.{IsCopyFor, IsCopyPut}
+use Rattle.bd_flush.specs.Copies.{IsCopyFor, IsCopyStep}
 use Rattle.bd_copy.specs.Shortening.{IsShortened}
 
 -- a leaf freed of a prefix
@@ -44,18 +45,20 @@ pub record HasChild (t : Table) (parent : Fetched) (place : ℕ) : Type 0 where
   pub child : ℕ
   pub child_is : edge.child ≡ Some child
 
--- the edge's child is copied, freed of the edge's source, and the edge asks the copy alone, which
--- has at each key what the child has behind the source
-pub record IsPrivatised (nodes : Nodes) (t : Table) (parent : Fetched) (place : ℕ) (new : Nodes)
-    (u : Table) : Type 0 where
+-- the step that copies an edge's child, freed of the edge's source, so that the edge asks the copy
+-- alone; in known nodes the child is theirs, and the copy has at each key what it has behind the
+-- source
+pub record IsPrivatiseStep (known : Type 0) (nodes : Nodes) (t : Table) (parent : Fetched)
+    (place : ℕ) (step : Step) : Type 0 where
   pub edge : Edge
   pub here : IsEdgeAt parent.node.value place edge
   pub child : ℕ
   pub child_is : edge.child ≡ Some child
   pub old : Node
-  pub there : nodes child ≡ Some old
+  pub own : IsNodeOf t (t.level child) old
+  pub there : known → nodes child ≡ Some old
   pub copy : Node
   pub copied : IsCopyOf t old edge.source copy
   pub level_is : level_of copy ≡ level_of old
-  pub has : IsCopyFor nodes edge copy
-  pub put : IsCopyPut t parent place copy new u
+  pub has : known → IsCopyFor nodes edge copy
+  pub step_is : IsCopyStep t.root t.next parent place copy step

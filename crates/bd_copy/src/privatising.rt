@@ -1,6 +1,6 @@
 //! A child that is shared, or asked through a source, is copied.
 
-ghost use Rattle.std.specs.Prelude.{◌≡◌, ◌+◌, ◌*◌, ◌≤◌, ◌++◌, ℕ, List, length, Some, IfOk, OnOk, OnErr};
+ghost use Rattle.std.specs.Prelude.{◌≡◌, ◌+◌, ◌*◌, ◌≤◌, ◌++◌, ℕ, List, length, Some, IfOk, OnOk, OnErr, ⊤};
 ghost use Rattle.bd_keys.specs.Keys.{IsKey};
 ghost use Rattle.bd_limits.specs.Limits.{key_limit};
 ghost use Rattle.bd_message.specs.KeyMaps.{HasMapCause, NeverWorn};
@@ -10,10 +10,11 @@ ghost use Rattle.bd_node.specs.Nodes.{level_of, node_at};
 ghost use Rattle.bd_node.specs.Meaning.{at};
 ghost use Rattle.bd_node.specs.Tables.{IsNodeOf, IsSound};
 ghost use Rattle.bd_inner.specs.Exchange.{IsEdgeAt};
-ghost use Rattle.bd_flush.specs.Flushed.{IsFlushed, IsWornFor};
+ghost use Rattle.bd_flush.specs.Flushed.{IsFlushed};
+ghost use Rattle.bd_flush.specs.Made.{AreKnown, IsMadeBy, IsWornFor};
 ghost use Rattle.bd_flush.specs.Children.{IsNoHigher};
 ghost use Rattle.bd_flush.specs.Pushes.{IsOwn};
-ghost use Rattle.bd_copy.specs.Copying.{IsCopyOf, HasChild, IsPrivatised};
+ghost use Rattle.bd_copy.specs.Copying.{IsCopyOf, HasChild, IsPrivatiseStep};
 
 use crate::shortening::shorten;
 use bd_flush::{Fetched, edges_of, fetch, put_copy};
@@ -40,8 +41,9 @@ pub fn privatise<S: NodeStore>(
     ensures flushed { OfSound S.NodeStore store.old
         (OnOk result (IsFlushed (S.nodes store.old) (S.table store.old)
         (S.nodes store.new) (S.table store.new))) }
-    ensures privatised { OfSound S.NodeStore store.old
-        (OnOk result (IsPrivatised (S.nodes store.old) (S.table store.old) parent.now place
+    ensures made { OfSound S.NodeStore store.old
+        (OnOk result (IsMadeBy (IsPrivatiseStep ⊤ (S.nodes store.old) (S.table store.old)
+        parent.now place) (S.nodes store.old) (S.table store.old)
         (S.nodes store.new) (S.table store.new))) }
     ensures table { OnOk result (IsNoHigher (S.table store.old) (S.table store.new)) }
     ensures stays { Stays S.NodeStore store.old store.new }
@@ -50,7 +52,8 @@ pub fn privatise<S: NodeStore>(
         → e.child ≡ Some child → S.visit_count store.new
         ≤ S.visit_count store.old + (2 + 17 * (S.table store.old).level child) }
     ensures cause { HasMapCause (S.fault_count store.old) (S.fault_count store.new)
-        (S.bad store.new) (IsWornFor (S.table store.old)) result }
+        (S.bad store.new) (IsWornFor (IsPrivatiseStep (AreKnown S.NodeStore store.old)
+        (S.nodes store.old) (S.table store.old) parent.now place) ⊥ (S.table store.old)) result }
 {
     let edge = &edges_of(&parent.node)[place];
     let Some(id) = edge.child else { unreachable!() };

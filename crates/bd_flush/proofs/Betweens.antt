@@ -39,13 +39,13 @@ use Rattle.bd_flush.specs.Raising.{raised, raise, IsWayUp, IsRising, CannotRise,
 use Rattle.bd_flush.specs.Raising.CannotRise.{here, further}
 use Rattle.bd_flush.specs.Raising.IsRising.{at_top, high_enough, rises}
 use Rattle.bd_flush.specs.Raising.IsRaisedOver.{is_above, rises_too}
-use Rattle.bd_flush.specs.Pushes.{seen_by, CanPush, IsPushBetween, IsPushedBetween}
+use Rattle.bd_flush.specs.Pushes.{seen_by, CanPush, IsPushBetween}
 use Rattle.bd_flush.proofs.Raisings.{level_high}
 use Rattle.bd_flush.proofs.RootSplits.{over_shape, two_have, times_made}
-use Rattle.bd_flush.proofs.ChildSplits.{one_fits, one_times, one_names, as_edge, child_named, lower_child, level_exchanged, compacted_small, some_next, other_names, at_child, IsSplittable, IsSplittableOf}
+use Rattle.bd_flush.proofs.ChildSplits.{one_fits, one_times, as_edge, child_named, lower_child, level_exchanged, compacted_small, some_next, other_names, at_child, IsSplittable, IsSplittableOf}
 use Rattle.bd_flush.proofs.Pushed.{batch_low, relieved_inside, leaf_received}
 use Rattle.bd_flush.proofs.PathSteps.{IsMadeUnder, IsUpper, IsPathStep, RisesByOne, level_bound, given_child, given_upper, has_made, has_path, path_child, path_old, each_change, IsPathStepOf, root_stays, root_rises, path_flushed}
-use Rattle.bd_flush.proofs.RisingSteps.{raised_size, raised_times, raised_level, raised_shape, raised_has, IsLink, way_link, way_top, link_names, link_lower, only_namer, rising_rises, rising_uppers, rising_above, once_above, rising_once, rising_short, IsChangedBy, changed_more, all_changed, has_room, rising_of}
+use Rattle.bd_flush.proofs.RisingSteps.{raised_size, raised_times, raised_level, raised_shape, raised_has, IsLink, way_link, way_top, link_names, link_lower, only_namer, rising_rises, rising_uppers, rising_above, once_above, rising_once, IsChangedBy, changed_more, all_changed, has_room, rising_of}
 use Rattle.bd_keys.proofs.Order.{IsKey-drop}
 
 -- ---- the parent, one level higher where it has to be
@@ -259,14 +259,6 @@ between_path t way parent place child first pivot second node rising h =
       once = (once_above t parent.id (map raise rising) (rising_above t parent.id (level_of node) way rising rise h.way_up), rising_once t parent.id (level_of node) way rising rise h.way_up);
     }
 
--- not more nodes than levels are changed
-pub between_short : (t : Table) (way : List Fetched) (parent : Fetched) (place : ℕ) (child : Fetched) (first : Node) (pivot : List ℕ) (second node : Node) (rising : List Fetched) → IsToPutBetween t way parent place child first pivot second node rising → length (the_uppers parent node rising) ≤ 1002
-between_short t way parent place child first pivot second node rising h =
-    let few : level_of parent.node.value ≤ level_limit = level_high parent.node.value h.can.parent_is.own.shape in
-    let is : level_of parent.node.value ≡ t.level parent.id = h.can.parent_is.own.level_is in
-    let short : length (map raise rising) + t.level parent.id ≤ level_limit = rising_short t parent.id (level_of node) way rising (omega arith) (rise_is t way parent place child first pivot second node rising h) h.way_up in
-    omega arith
-
 -- ---- of known nodes
 
 -- the nodes are those of the parent, of the child, and of the way above
@@ -398,75 +390,6 @@ between_path_of nodes t way parent place child first pivot second node rising h 
       );
     }
 
--- ---- what stays of the way
-
--- what is given for a fetched node names what it named
-abbrev KeepsNames : Table → Step → Fetched → Type 0
-KeepsNames t step f = (d : Node) → given t.next step f.id ≡ Some d → (y : ℕ) → times f.node.value y ≤ times d y
-
-way_stays : (nodes : Nodes) (t : Table) (step : Step) (new : Nodes) (u : Table) (x : ℕ) (way : List Fetched) → IsCommitted nodes t step new u → IsKept u t.root → IsWayUp t x way → AllByRecursion (KeepsNames t step) way → AllByRecursion (IsContents nodes) way → IsKept u x
-way_stays nodes t step new u x [] committed root up keeps there = subst (λ (i : ℕ). IsKept u i) (sym (way_top t x up)) root
-way_stays nodes t step new u x (f ∷ fs) committed root up keeps there =
-    let parts = way_link t x f fs up in
-    let kept : IsKept u f.id = way_stays nodes t step new u f.id fs committed root parts.1 keeps.1 there.1 in
-    let one : 1 ≤ times f.node.value x = link_names t x f parts.0 in
-    by_given (IsKept u x) (given t.next step f.id)
-    (λ none. (named_lower new u committed.sound f.id f.node.value (committed.stays f.id kept ∙ after-none nodes t step f.id none ∙ there.0) x one).kept)
-    (λ d some. (named_lower new u committed.sound f.id d (given_stays nodes t step new u committed f.id d kept some) x (let more : times f.node.value x ≤ times d x = keeps.0 d some x in omega arith)).kept)
-
--- a change of a node to the one a level higher
-abbrev IsRaisedOf : Nodes → Change → Type 0
-IsRaisedOf nodes v = (m : Node) → nodes v.id ≡ Some m → v.node ≡ raised m
-
-rising_raised : (nodes : Nodes) (t : Table) (x level : ℕ) (way rising : List Fetched) → IsRising level way rising → AllByRecursion (IsContents nodes) way → AllByRecursion (IsRaisedOf nodes) (map raise rising)
-rising_raised nodes t x _ _ _ (at_top level) there = tt
-rising_raised nodes t x _ _ _ (high_enough level f fs more) there = tt
-rising_raised nodes t x _ _ _ (rises level f fs rising few room rise) there = (
-  λ m at_f. ap raised (same_Some f.node.value m (sym there.0 ∙ at_f)),
-  rising_raised nodes t x (level_of f.node.value + 1) fs rising rise there.1,
-)
-
--- what is given for a node above the parent
-given_raised : (nodes : Nodes) (t : Table) (c : ℕ) (top : Node) (p : ℕ) (node : Node) (rising : List Fetched) (made : List Node) (f : Fetched) (d : Node) → f.id < t.next → t.level c < t.level p → t.level p < t.level f.id → AllByRecursion (IsRaisedOf nodes) (map raise rising) → nodes f.id ≡ Some f.node.value
-    → given t.next (path_step t.root c top (record { id = p; node = node } ∷ map raise rising) made) f.id ≡ Some d → d ≡ raised f.node.value
-given_raised nodes t c top p node rising made f d below down over all there some =
-    let moved = sym (given_upper t c top (record { id = p; node = node } ∷ map raise rising) made f.id below (λ e. (let l : t.level f.id ≡ t.level c = ap t.level e in omega arith))
-    ∙ changed_at-other (record { id = p; node = node }) (map raise rising) f.id (λ e. (let l : t.level f.id ≡ t.level p = ap t.level e in omega arith))) ∙ some in
-    (changed_has (IsRaisedOf nodes) (map raise rising) f.id d all moved) f.node.value there
-
-way_keeps : (nodes : Nodes) (t : Table) (c : ℕ) (top : Node) (p : ℕ) (node : Node) (rising : List Fetched) (made : List Node) (x : ℕ) (way : List Fetched) → IsTable t → t.level c < t.level p → t.level p ≤ t.level x → AllByRecursion (IsRaisedOf nodes) (map raise rising) → IsWayUp t x way → AllByRecursion (IsContents nodes) way
-    → AllByRecursion (KeepsNames t (path_step t.root c top (record { id = p; node = node } ∷ map raise rising) made)) way
-way_keeps nodes t c top p node rising made x [] table down over all up there = tt
-way_keeps nodes t c top p node rising made x (f ∷ fs) table down over all up there =
-    let parts = way_link t x f fs up in
-    let more : t.level x < t.level f.id = (link_lower t x f parts.0).lower in (
-      λ d some y.
-          let is : d ≡ raised f.node.value = given_raised nodes t c top p node rising made f d (table.below f.id parts.0.fetched.kept) down (omega arith) all there.0 some in
-          let same : times (raised f.node.value) y ≡ times f.node.value y = raised_times f.node.value y in
-          let e : times d y ≡ times (raised f.node.value) y = ap (λ (n : Node). times n y) is in
-          omega arith,
-      way_keeps nodes t c top p node rising made f.id fs table down (omega arith) all parts.1 there.1,
-    )
-
--- those that rise are there
-risen_there : (nodes : Nodes) (t : Table) (c : ℕ) (top : Node) (p : ℕ) (node : Node) (rising : List Fetched) (made : List Node) (new : Nodes) (u : Table) → IsCommitted nodes t (path_step t.root c top (record { id = p; node = node } ∷ map raise rising) made) new u → IsTable t → IsKept u t.root → t.level c < t.level p → AllByRecursion (IsRaisedOf nodes) (map raise rising)
-    → (x level : ℕ) (way own : List Fetched) → t.level p ≤ t.level x → IsRising level way own → IsWayUp t x way → AllByRecursion (IsContents nodes) way → AllByRecursion (λ (g : Fetched). IsSome (given t.next (path_step t.root c top (record { id = p; node = node } ∷ map raise rising) made) g.id)) own
-    → AllByRecursion (λ (g : Fetched). new g.id ≡ Some (raised g.node.value)) own
-risen_there nodes t c top p node rising made new u committed table root down all x _ _ _ over (at_top level) up there some = tt
-risen_there nodes t c top p node rising made new u committed table root down all x _ _ _ over (high_enough level f fs more) up there some = tt
-risen_there nodes t c top p node rising made new u committed table root down all x _ _ _ over (rises level f fs own few room rise) up there some =
-    let step : Step = path_step t.root c top (record { id = p; node = node } ∷ map raise rising) made in
-    let parts = way_link t x f fs up in
-    let more : t.level x < t.level f.id = (link_lower t x f parts.0).lower in
-    let kept : IsKept u f.id = way_stays nodes t step new u f.id fs committed root parts.1 (way_keeps nodes t c top p node rising made f.id fs table down (omega arith) all parts.1 there.1) there.1 in (
-      by_given (new f.id ≡ Some (raised f.node.value)) (given t.next step f.id)
-          (λ none. absurd (no_some (subst (λ (o : Option Node). IsSome o) none some.0)))
-          (λ d is.
-          given_stays nodes t step new u committed f.id d kept is
-          ∙ ap (λ (n : Node). Some n) (given_raised nodes t c top p node rising made f d (table.below f.id parts.0.fetched.kept) down (omega arith) all there.0 is)),
-      risen_there nodes t c top p node rising made new u committed table root down all f.id (level_of f.node.value + 1) fs own (omega arith) rise parts.1 there.1 some.1,
-    )
-
 -- ---- what the step leaves
 
 pub record IsPutBetween (nodes : Nodes) (t : Table) (way : List Fetched) (parent : Fetched) (place : ℕ) (child : Fetched) (first : Node) (pivot : List ℕ) (second node : Node) (rising : List Fetched) (new : Nodes) (u : Table) : Type 0 where
@@ -478,48 +401,6 @@ pub between_flushed : (nodes : Nodes) (t : Table) (way : List Fetched) (parent :
 between_flushed nodes t way parent place child first pivot second node rising new u h =
     path_flushed nodes t child.id (the_child t pivot) (the_uppers parent node rising) (first ∷ second ∷ []) new u
     (record { of = between_path_of nodes t way parent place child first pivot second node rising h.of; after = h.after; committed = h.committed }) (omega arith)
-
-pub between_pushed : (nodes : Nodes) (t : Table) (way : List Fetched) (parent : Fetched) (place : ℕ) (child : Fetched) (first : Node) (pivot : List ℕ) (second node : Node) (rising : List Fetched) (new : Nodes) (u : Table) → IsPutBetween nodes t way parent place child first pivot second node rising new u → IsPushedBetween t way parent place child new u
-between_pushed nodes t way parent place child first pivot second node rising new u h =
-    let p : ℕ = parent.id in
-    let c : ℕ = child.id in
-    let top : Node = the_child t pivot in
-    let made : List Node = first ∷ second ∷ [] in
-    let step : Step = the_step t parent child first pivot second node rising in
-    let b : IsToPutBetween t way parent place child first pivot second node rising = h.of.of in
-    let down : t.level c < t.level p = (under_parent t way parent place child first pivot second node rising b).lower in
-    let rise : IsRising (level_of node) way rising = rise_is t way parent place child first pivot second node rising b in
-    let root : IsKept u t.root = root_stays t c top (the_uppers parent node rising) made u h.after in
-    let all : AllByRecursion (IsRaisedOf nodes) (map raise rising) = rising_raised nodes t p (level_of node) way rising rise h.of.contents in
-    let kept : IsKept u p = way_stays nodes t step new u p way h.committed root b.way_up
-    (way_keeps nodes t c top p node rising made p way b.table down (omega arith) all b.way_up h.of.contents) h.of.contents in
-    let given_p : given t.next step p ≡ Some node =
-    given_upper t c top (the_uppers parent node rising) made p (b.table.below p b.can.parent_is.kept) (λ e. (let l : t.level p ≡ t.level c = ap t.level e in omega arith))
-    ∙ changed_at-same (record { id = p; node = node }) (map raise rising) p refl in
-    let at_p : new p ≡ Some node = given_stays nodes t step new u h.committed p node kept given_p in
-    let names_c : 1 ≤ times node c =
-    (let one : 1 ≤ times b.into.above c = one_names parent.node.value place c b.into.edge (b.into.edge.seen + b.into.batch.count) b.into.above b.can.parent_is.own.shape (way_to_child t way parent place child first pivot second node rising b) b.into.relieved in
-    let same : times node c ≡ times b.into.above c = (parent_risen t way parent place child first pivot second node rising b).same c in
-    omega arith) in
-    let kept_c : IsKept u c = (named_lower new u h.committed.sound p node at_p c names_c).kept in
-    let at_c : new c ≡ Some top = given_stays nodes t step new u h.committed c top kept_c (given_child t c top (the_uppers parent node rising) made (b.table.below c b.can.child_is.kept)) in
-    record {
-      first = first;
-      pivot = pivot;
-      second = second;
-      node = node;
-      rising = rising;
-      into = b.into;
-      parent_is = at_p;
-      child_is = at_c;
-      first_is = given_stays nodes t step new u h.committed t.next first (named_lower new u h.committed.sound c top at_c t.next (times_made 1 pivot t.next t.next (omega arith) (omega arith))).kept
-          (given-new t.next step t.next (omega arith) ∙ ap (λ (i : ℕ). slice_get made i) (let z : t.next - t.next ≡ 0 = omega arith in z));
-      second_is = given_stays nodes t step new u h.committed (t.next + 1) second (named_lower new u h.committed.sound c top at_c (t.next + 1) (times_made 1 pivot t.next (t.next + 1) (omega arith) (omega arith))).kept
-          (given-new t.next step (t.next + 1) (omega arith) ∙ ap (λ (i : ℕ). slice_get made i) (let z : t.next + 1 - t.next ≡ 1 = omega arith in z));
-      risen = risen_there nodes t c top p node rising made new u h.committed b.table root down all p (level_of node) way rising (omega arith) rise b.way_up h.of.contents
-          (all_given t way parent place child first pivot second node rising b);
-      next = h.after.next;
-    }
 
 -- ---- the table
 
@@ -567,23 +448,6 @@ between_table t way parent place child first pivot second node rising u b after 
           let less : buffer_size d ≤ t.size = fits refl in
           omega arith);
     }
-
--- ---- a root that can't rise
-
-pub cannot_rise : (t : Table) (x level : ℕ) (way : List Fetched) → CannotRise level way → IsWayUp t x way → t.level t.root ≡ level_limit
-cannot_rise t x _ _ (here level f [] few last) up =
-    let parts = way_link t x f [] up in
-    let own : level_of f.node.value ≡ t.level f.id = parts.0.fetched.own.level_is in
-    ap t.level (sym (way_top t f.id parts.1)) ∙ sym own ∙ last
-cannot_rise t x _ _ (here level f (g ∷ gs) few last) up =
-    let parts = way_link t x f (g ∷ gs) up in
-    let next = way_link t f.id g gs parts.1 in
-    let own : level_of f.node.value ≡ t.level f.id = parts.0.fetched.own.level_is in
-    let own_next : level_of g.node.value ≡ t.level g.id = next.0.fetched.own.level_is in
-    let more : t.level f.id < t.level g.id = (link_lower t f.id g next.0).lower in
-    let most : level_of g.node.value ≤ level_limit = level_high g.node.value next.0.fetched.own.shape in
-    absurd (omega arith)
-cannot_rise t x _ _ (further level f fs few rest) up = cannot_rise t f.id (level_of f.node.value + 1) fs rest (way_link t x f fs up).1
 
 pub way_shapes : (t : Table) (x : ℕ) (way : List Fetched) → IsWayUp t x way → AllByRecursion (λ (f : Fetched). IsShape f.node.value) way
 way_shapes t x [] up = tt

@@ -3,7 +3,6 @@ use Rattle.std.proofs.Common.{◌≡◌, ℕ, ◌+◌, ◌<◌, ◌≤◌, lengt
 use Rattle.std.specs.Prelude.{OnOk, OnErr}
 use Rattle.std.proofs.lemmas.Option.{slice_get_within}
 use Rattle.bd_message.specs.declared.fault.MapFault.{MapFault}
-use Rattle.bd_message.specs.KeyMaps.{HasMapCause}
 use Rattle.bd_node.specs.declared.node.Node.{Node}
 use Rattle.bd_node.specs.declared.node.Step.{Step}
 use Rattle.bd_node.specs.Nodes.{buffer_size, names}
@@ -16,12 +15,12 @@ use Rattle.bd_inner.specs.Halves.{edges_of}
 use Rattle.bd_inner.specs.Carving.{IsCarved}
 use Rattle.bd_inner.proofs.Carved.{carved_shape, carved_level, carved_meaning, carved_size, carved_times}
 use Rattle.bd_flush.specs.declared.fetching.Fetched.{Fetched}
-use Rattle.bd_flush.specs.Flushed.{IsFlushed, IsWornFor}
+use Rattle.bd_flush.specs.Flushed.{IsFlushed}
 use Rattle.bd_flush.specs.Children.{IsNoHigher}
 use Rattle.bd_flush.specs.Pushes.{IsOwn}
-use Rattle.bd_flush.specs.Carving.{CanCarve, IsCarveStep, IsCarvedAt}
+use Rattle.bd_flush.specs.Carving.{CanCarve, IsCarveStep}
 use Rattle.bd_message.proofs.Causes.{cause_weaker}
-use Rattle.bd_flush.proofs.CarveSteps.{IsOneChange, IsOneChangeOf, IsOneChanged, one_step, one_in_place, one_flushed, one_there, one_no_higher, one_worn}
+use Rattle.bd_flush.proofs.CarveSteps.{IsOneChange, IsOneChangeOf, IsOneChanged, one_step, one_in_place, one_flushed, one_there, one_no_higher}
 
 pub record IsToCarve (t : Table) (parent : Fetched) (place : ℕ) (step : Step) : Type 0 where
   pub table : IsTable t
@@ -72,30 +71,12 @@ pub on_carve_flushed : {T E : Type 0} (nodes : Nodes) (t : Table) (parent : Fetc
 on_carve_flushed nodes t parent place step new u (Ok x) h s own after committed = one_flushed nodes t parent.id parent.node.value h.carve.node new u (changed nodes t parent place step new u h s own after committed)
 on_carve_flushed nodes t parent place step new u (Err e) h s own after committed = tt
 
-pub on_carve_carved : {T E : Type 0} (nodes : Nodes) (t : Table) (parent : Fetched) (place : ℕ) (step : Step) (new : Nodes) (u : Table) (r : Result T E) → IsToCarve t parent place step → IsSound nodes t → IsOwn nodes t parent
-    → OnOk r (IsTableAfter t step u) → OnOk r (IsCommitted nodes t step new u) → OnOk r (IsCarvedAt t parent place new u)
-on_carve_carved nodes t parent place step new u (Ok x) h s own after committed =
-    let done = changed nodes t parent place step new u h s own after committed in
-    let next : u.next ≡ t.next + 0 = done.after.next in
-    record {
-      node = h.carve.node;
-      carved = h.carve.carved;
-      parent_is = one_there nodes t parent.id parent.node.value h.carve.node new u done;
-      next = omega arith;
-    }
-on_carve_carved nodes t parent place step new u (Err e) h s own after committed = tt
-
 pub on_carve_table : {T E : Type 0} (t : Table) (parent : Fetched) (place : ℕ) (step : Step) (u : Table) (r : Result T E) → IsToCarve t parent place step → OnOk r (IsTableAfter t step u) → OnOk r (IsNoHigher t u)
 on_carve_table t parent place step u (Ok x) h after =
     one_no_higher t parent.id h.carve.node u (change t parent place step h) (subst (λ (q : Step). IsTableAfter t q u) h.carve.is after)
     (λ root. let is : buffer_size parent.node.value ≡ t.size = h.can.parent_is.root root in
     let less : buffer_size h.carve.node ≤ buffer_size parent.node.value = carved_size parent.node.value h.carve.carved.index h.carve.node h.carve.carved.carved in omega arith)
 on_carve_table t parent place step u (Err e) h after = tt
-
-pub carve_worn : {T : Type 0} (before now : ℕ) (bad : ℕ → Type 0) (t : Table) (parent : Fetched) (place : ℕ) (step : Step) (r : Result T MapFault) → IsToCarve t parent place step → HasMapCause before now bad (IsWornBy t step) r → HasMapCause before now bad (IsWornFor t) r
-carve_worn before now bad t parent place step r h cause =
-    cause_weaker before now bad (IsWornBy t step) (IsWornFor t)
-    (λ counter worn. one_worn t parent.id h.carve.node (change t parent place step h) counter (subst (λ (q : Step). IsWornBy t q counter) h.carve.is worn)) r cause
 
 pub carve_visits : {T E : Type 0} (t : Table) (parent : Fetched) (place : ℕ) (step : Step) (before now : ℕ) (r : Result T E) → IsToCarve t parent place step → OnOk r (now ≡ visited before (length step.made)) → (OnErr r (now ≡ before)) → now ≤ before
 carve_visits t parent place step before now (Ok x) h is err =

@@ -21,12 +21,11 @@ use Rattle.bd_node.proofs.Meanings.{at-meets}
 use Rattle.bd_node.proofs.Sound.{sound-levelled, named_lower, kept_there}
 use Rattle.bd_node.proofs.Stepping.{touched_in, given-new, after-none, given_stays, keeping_meaning}
 use Rattle.bd_node.proofs.Closing.{stay_above}
-use Rattle.bd_flush.specs.Flushed.{LeadsTo, IsFlushed, IsWornFor}
+use Rattle.bd_flush.specs.Flushed.{LeadsTo, IsFlushed}
 use Rattle.bd_flush.specs.Flushed.LeadsTo.{itself}
 use Rattle.bd_flush.specs.Children.{IsNoHigher}
 use Rattle.bd_flush.specs.Carving.{change_step}
 use Rattle.bd_flush.proofs.Givens.{given_changed, given_unchanged, given_one}
-use Rattle.bd_flush.proofs.Worn.{times_few, one_if_few}
 
 -- a node that may be changed to this one
 pub record IsOneChange (t : Table) (p : ℕ) (n : Node) : Type 0 where
@@ -180,15 +179,3 @@ one_no_higher t p n u b after fits =
                 omega arith)
           ];
     }
-
-pub one_worn : (t : Table) (p : ℕ) (n : Node) → IsOneChange t p n → (counter : Counter) → IsWornBy t (change_step t.root p n) counter → IsWornFor t counter
-one_worn t p n b NextId worn = omega arith
-one_worn t p n b Refs worn =
-    let id : ℕ = worn.0 in
-    let first : Change = record { id = p; node = n } in
-    let most : 2 ^ 64 ≤ t.count id + given_times (change_step t.root p n) id + one_if t.root id = worn.1 in
-    (id, omega (arith, most, one_if_few t.root id, times_few n id b.shape, sum_by-cons (λ (d : Change). times d.node id) first []))
-one_worn t p n b Count worn = worn
-one_worn t p n b Level worn = absurd worn
-one_worn t p n b Epoch worn = worn
-one_worn t p n b Flushes worn = worn

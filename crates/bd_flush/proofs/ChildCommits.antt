@@ -1,5 +1,5 @@
 -- The commit of a child's split.
-use Rattle.std.proofs.Common.{◌≡◌, ℕ, ◌+◌, ◌^◌, ◌<◌, ◌≤◌, length, refl, sym, ap, subst, ◌∙◌, arith, Err}
+use Rattle.std.proofs.Common.{◌≡◌, ℕ, ◌+◌, ◌^◌, ◌<◌, ◌≤◌, List, length, refl, sym, ap, subst, ◌∙◌, arith, Err}
 use Rattle.std.proofs.lemmas.Option.{same_Some}
 use Rattle.bd_message.specs.declared.fault.MapFault.{MapFault}
 use Rattle.bd_message.specs.KeyMaps.{HasMapCause}
@@ -11,12 +11,16 @@ use Rattle.bd_node.specs.Tables.{Table, IsTable, IsSound}
 use Rattle.bd_node.specs.Steps.{IsStep, IsInPlace, IsTableAfter, IsCommitted, IsWornBy}
 use Rattle.bd_node.specs.Stores.{visited}
 use Rattle.bd_flush.specs.declared.fetching.Fetched.{Fetched}
-use Rattle.bd_flush.specs.Flushed.{IsFlushed, IsWornFor}
-use Rattle.bd_flush.specs.Children.{IsWayTo, CanSplitChild, AreFamily, IsChildStep, IsHalved, IsNoHigher}
-use Rattle.bd_message.proofs.Causes.{cause_weaker, cause_passed}
-use Rattle.bd_flush.proofs.ChildSteps.{IsChildChange, IsChildChangeOf, IsChildChanged, below_step, below_in_place, child_flushed, parent_is, child_is, made_are, no_higher, child_worn}
+use Rattle.bd_flush.specs.Flushed.{IsFlushed}
+use Rattle.bd_flush.specs.Children.{IsWayTo, CanSplitChild, AreFamily, IsChildStep, IsNoHigher}
+use Rattle.bd_flush.specs.Between.{IsSplitStep, IsHighSplit}
+use Rattle.bd_flush.specs.Between.IsSplitStep.{short}
+use Rattle.bd_flush.specs.Made.{IsWornFor}
+use Rattle.bd_flush.proofs.Made.{worn_of}
+use Rattle.bd_message.proofs.Causes.{cause_passed}
+use Rattle.bd_flush.proofs.ChildSteps.{IsChildChange, IsChildChangeOf, IsChildChanged, below_step, below_in_place, child_flushed, parent_is, child_is, made_are, no_higher}
 use Rattle.bd_inner.proofs.Fitting.{own_shape}
-use Rattle.bd_flush.proofs.ChildSplits.{at_child, IsSplittable, split_change, split_change_of, split_few, split_named, split_size}
+use Rattle.bd_flush.proofs.ChildSplits.{at_child, IsSplittable, split_change, split_change_of, split_few, split_size}
 
 -- a child to split, and the step
 pub record IsToSplitChild (t : Table) (parent : Fetched) (place : ℕ) (child : Fetched) (step : Step) : Type 0 where
@@ -82,26 +86,6 @@ split_flushed nodes t parent place child step new u h sound family after committ
     child_flushed nodes t parent.id parent.node.value h.split.node child.id h.split.half h.split.made new u (changed nodes t parent place child step new u h sound family after committed)
     (let few : length h.split.made ≤ 1 = few_made t parent place child step h in omega arith)
 
-pub split_is : (nodes : Nodes) (t : Table) (parent : Fetched) (place : ℕ) (child : Fetched) (step : Step) (new : Nodes) (u : Table) → IsToSplitChild t parent place child step → IsSound nodes t → AreFamily nodes t parent child → IsTableAfter t step u → IsCommitted nodes t step new u
-    → IsHalved t parent place child new u
-split_is nodes t parent place child step new u h sound family after committed =
-    let done = changed nodes t parent place child step new u h sound family after committed in
-    let p : ℕ = parent.id in
-    let c : ℕ = child.id in
-    record {
-      edge = h.split.edge;
-      here = h.split.here;
-      node = h.split.node;
-      half = h.split.half;
-      made = h.split.made;
-      into = h.split.into;
-      parent_is = parent_is nodes t p parent.node.value h.split.node c h.split.half h.split.made new u done;
-      child_is = child_is nodes t p parent.node.value h.split.node c h.split.half h.split.made new u done
-          (split_named t p parent.node.value place c h.split.edge h.split.edge.seen child.node.value h.split.node h.split.half h.split.made (splittable t parent place child step h) h.split.into);
-      made_are = made_are nodes t p parent.node.value h.split.node c h.split.half h.split.made new u done;
-      next = done.after.next;
-    }
-
 pub split_no_higher : (t : Table) (parent : Fetched) (place : ℕ) (child : Fetched) (step : Step) (u : Table) → IsToSplitChild t parent place child step → IsTableAfter t step u → IsNoHigher t u
 split_no_higher t parent place child step u h after =
     let sizes = split_size parent.node.value place h.split.edge child.node.value t.next h.split.node h.split.half h.split.made h.split.into in
@@ -115,9 +99,7 @@ split_visits t parent place child step before now h is =
     let same : length step.made ≡ length h.split.made = ap (λ (q : Step). length q.made) h.split.is in
     omega arith
 
-pub split_cause : {T U : Type 0} (before now : ℕ) (bad : ℕ → Type 0) (t : Table) (parent : Fetched) (place : ℕ) (child : Fetched) (step : Step) (e : MapFault) → IsToSplitChild t parent place child step → HasMapCause {T = T} before now bad (IsWornBy t step) (Err e)
-    → HasMapCause {T = U} before now bad (IsWornFor t) (Err e)
-split_cause {T} {U} before now bad t parent place child step e h cause =
-    cause_weaker {T = U} before now bad (IsWornBy t step) (IsWornFor t)
-    (λ counter worn. child_worn t parent.id h.split.node child.id h.split.half h.split.made (change t parent place child step h) (let few : length h.split.made ≤ 1 = few_made t parent place child step h in omega arith) counter
-    (subst (λ (q : Step). IsWornBy t q counter) h.split.is worn)) (Err e) (cause_passed before now bad (IsWornBy t step) e cause)
+pub split_cause : {T U : Type 0} (before now : ℕ) (bad : ℕ → Type 0) (t : Table) (above : List Fetched) (parent : Fetched) (place : ℕ) (child : Fetched) (step : Step) (e : MapFault) → IsToSplitChild t parent place child step → HasMapCause {T = T} before now bad (IsWornBy t step) (Err e)
+    → HasMapCause {T = U} before now bad (IsWornFor (IsSplitStep t above parent place child) (IsHighSplit above parent place child) t) (Err e)
+split_cause {T} {U} before now bad t above parent place child step e h cause =
+    worn_of {T = U} before now bad (IsSplitStep t above parent place child) (IsHighSplit above parent place child) t step (Err e) (short h.split) (cause_passed before now bad (IsWornBy t step) e cause)

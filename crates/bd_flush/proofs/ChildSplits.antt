@@ -317,12 +317,6 @@ one_times n place e seen parent h here r x =
     ∙ ap (λ (m : Node). times m x) (exchanged_same n place e here) in
     omega arith
 
-pub one_names : (n : Node) (place c : ℕ) (e : Edge) (seen : ℕ) (parent : Node) → IsShape n → IsWayTo n place c e → IsCompacted (exchanged n place (as_seen e seen ∷ [])) parent → 1 ≤ times parent c
-one_names n place c e seen parent h way r =
-    let list : List Edge = as_seen e seen ∷ [] in
-    let one : count_names c (flat_map edge_names list) ≡ 1 = ap (λ (o : Option ℕ). count_names c (option_to_list o ++ [])) way.child_is ∙ count_own c in
-    omega (arith, compacted_named (exchanged n place list) parent r c, exchanged_named n place list c (inner_of n place e h way.here))
-
 pub size_exchanged : (n : Node) (place : ℕ) (list : List Edge) → buffer_size (exchanged n place list) ≡ buffer_size n
 size_exchanged (Leaf entries) place list = refl
 size_exchanged (Inner level es buffer) place list = refl
@@ -523,12 +517,6 @@ pub split_few : (n : Node) (place : ℕ) (e : Edge) (m : Node) (next : ℕ) (par
 split_few n place e m next _ _ _ (parted first pivot second parent halves inside short compacted) = omega arith
 split_few n place e m next _ _ _ (lower first pivot second parent halves outside compacted) = omega arith
 split_few n place e m next _ _ _ (upper first pivot second parent halves outside compacted) = omega arith
-
-pub split_named : (t : Table) (p : ℕ) (n : Node) (place c : ℕ) (e : Edge) (seen : ℕ) (m parent half : Node) (made : List Node) → IsSplittable t p n place c e seen m → IsSplitInto n place (as_seen e seen) m t.next parent half made → 1 ≤ times parent c
-split_named t p n place c e seen m _ _ _ s (parted first pivot second parent halves inside short compacted) =
-    omega (arith, parent_names t p n place c e seen m pivot parent s compacted c, count_two c c t.next, count_own c)
-split_named t p n place c e seen m _ _ _ s (lower first pivot second parent halves outside compacted) = one_names n place c e seen parent s.own.shape s.way compacted
-split_named t p n place c e seen m _ _ _ s (upper first pivot second parent halves outside compacted) = one_names n place c e seen parent s.own.shape s.way compacted
 
 pub split_size : (n : Node) (place : ℕ) (e : Edge) (m : Node) (next : ℕ) (parent half : Node) (made : List Node) → IsSplitInto n place e m next parent half made → (buffer_size parent ≤ buffer_size n) × (buffer_size half ≤ buffer_size m)
 split_size n place e m next _ _ _ (parted first pivot second parent halves inside short compacted) = (compacted_small n place (both e pivot next) parent compacted, halves.lower.size)

@@ -25,10 +25,9 @@ use Rattle.bd_node.proofs.Meanings.{at-meets, at-others, at-none}
 use Rattle.bd_node.proofs.Sound.{sound-levelled, named_lower, counted_twice, root_unnamed, kept_there}
 use Rattle.bd_node.proofs.Stepping.{touched_in, given-old, given-new, moving_meaning, after-none, given_stays}
 use Rattle.bd_node.proofs.Closing.{stay_above}
-use Rattle.bd_flush.specs.Flushed.{LeadsTo, IsFlushed, IsWornFor}
+use Rattle.bd_flush.specs.Flushed.{LeadsTo, IsFlushed}
 use Rattle.bd_flush.specs.Flushed.LeadsTo.{itself, through}
 use Rattle.bd_flush.specs.Children.{child_step, IsNoHigher}
-use Rattle.bd_flush.proofs.Worn.{times_few, one_if_few}
 
 -- ---- what such a step gives
 
@@ -438,32 +437,3 @@ no_higher t p n c h made u b after parent_fits child_fits =
     }
 
 -- ---- a counter that is worn
-
-sum_few : (made : List Node) (id : ℕ) → AllByRecursion IsShape made → sum_by (λ m. times m id) made ≤ 2064 * length made
-sum_few [] id h = omega arith
-sum_few (m ∷ made) id h = omega (arith, sum_by-cons (λ (m : Node). times m id) m made, times_few m id h.0, sum_few made id h.1)
-
-pub child_worn : (t : Table) (p : ℕ) (n : Node) (c : ℕ) (h : Node) (made : List Node) → IsChildChange t p n c h made → length made ≤ 4 → (counter : Counter) → IsWornBy t (child_step t.root p n c h made) counter → IsWornFor t counter
-child_worn t p n c h made b few NextId worn = omega arith
-child_worn t p n c h made b few Refs worn =
-    let id : ℕ = worn.0 in
-    let first : Change = record { id = p; node = n } in
-    let second : Change = record { id = c; node = h } in
-    let most : 2 ^ 64 ≤ t.count id + given_times (child_step t.root p n c h made) id + one_if t.root id = worn.1 in
-    let all : sum_by (λ m. times m id) made ≤ 2064 * length made = sum_few made id (each_weaker (IsMadeBelow t (t.level c)) IsShape (λ d own. own.shape) made b.each) in (
-      id,
-      omega (
-        arith,
-        most,
-        all,
-        one_if_few t.root id,
-        times_few n id b.shape,
-        times_few h id b.child_shape,
-        sum_by-cons (λ (d : Change). times d.node id) first (second ∷ []),
-        sum_by-cons (λ (d : Change). times d.node id) second [],
-      ),
-    )
-child_worn t p n c h made b few Count worn = worn
-child_worn t p n c h made b few Level worn = absurd worn
-child_worn t p n c h made b few Epoch worn = worn
-child_worn t p n c h made b few Flushes worn = worn

@@ -6,7 +6,6 @@ use Rattle.std.proofs.lemmas.Bool.{cases_eq}
 use Rattle.std.proofs.lemmas.Option.{same_Some, none-some}
 use Rattle.bd_keys.specs.Keys.{IsKey}
 use Rattle.bd_message.specs.declared.fault.MapFault.{MapFault}
-use Rattle.bd_message.specs.KeyMaps.{HasMapCause}
 use Rattle.bd_node.specs.declared.node.Edge.{Edge}
 use Rattle.bd_node.specs.declared.node.Node.{Node}
 use Rattle.bd_node.specs.declared.node.Node.TheVariants.{Leaf, Inner}
@@ -33,15 +32,15 @@ use Rattle.bd_inner.proofs.Fitting.{own_shape}
 use Rattle.bd_inner.proofs.Moved.{moved_none}
 use Rattle.bd_inner.proofs.Exchanged.{exchanged_shape, pushed}
 use Rattle.bd_flush.specs.declared.fetching.Fetched.{Fetched}
-use Rattle.bd_flush.specs.Flushed.{IsFlushed, IsWornFor}
+use Rattle.bd_flush.specs.Flushed.{IsFlushed}
 use Rattle.bd_flush.specs.Children.{IsNoHigher}
 use Rattle.bd_flush.specs.Paths.{path_step}
 use Rattle.bd_flush.specs.Pushes.{IsOwn}
-use Rattle.bd_flush.specs.Copies.{CanPutCopy, IsCopyFor, IsCopyAt, IsRedirected, IsCopyStep, IsCopyPut}
+use Rattle.bd_flush.specs.Copies.{CanPutCopy, IsCopyFor, IsCopyAt, IsRedirected, IsCopyStep}
 use Rattle.bd_message.proofs.Causes.{cause_weaker}
 use Rattle.bd_flush.proofs.ChildSplits.{some_edge, times_exchanged, inner_of, count_own, level_exchanged, compacted_named, exchanged_named, size_exchanged, some_next, edge_here}
 use Rattle.bd_flush.proofs.LeafPushes.{times_without}
-use Rattle.bd_flush.proofs.PathSteps.{IsPathStep, IsPathStepOf, IsPathDone, given_child, given_upper, has_made, made_old, made_new, path_child, path_may, path_in_place, path_flushed, path_worn, root_stays, both_ways}
+use Rattle.bd_flush.proofs.PathSteps.{IsPathStep, IsPathStepOf, IsPathDone, given_child, given_upper, has_made, made_old, made_new, path_child, path_may, path_in_place, path_flushed, root_stays, both_ways}
 use Rattle.bd_keys.proofs.Order.{IsKey-drop}
 
 -- ---- the node above
@@ -179,17 +178,6 @@ stays nodes t p h copy new u b q (alone id _ m above there one count) high =
     let still : new id ≡ Some m = b.committed.stays id kept ∙ after-none nodes t (path_step t.root p h [] (copy ∷ [])) id (given_upper t p h [] (copy ∷ []) id low other) ∙ there in
     (named_lower new u b.committed.sound id m still q one).kept
 
-parent_then : (nodes : Nodes) (t : Table) (p : ℕ) (h copy : Node) (new : Nodes) (u : Table) → IsPathDone nodes t p h [] (copy ∷ []) new u → new p ≡ Some h
-parent_then nodes t p h copy new u b =
-    given_stays nodes t (path_step t.root p h [] (copy ∷ [])) new u b.committed p h (stays nodes t p h copy new u b p b.of.private (omega arith))
-    (given_child t p h [] (copy ∷ []) (b.of.step.table.below p b.of.step.child))
-
-copy_then : (nodes : Nodes) (t : Table) (p : ℕ) (h copy : Node) (new : Nodes) (u : Table) → IsPathDone nodes t p h [] (copy ∷ []) new u → new t.next ≡ Some copy
-copy_then nodes t p h copy new u b =
-    given_stays nodes t (path_step t.root p h [] (copy ∷ [])) new u b.committed t.next copy
-    (named_lower new u b.committed.sound p h (parent_then nodes t p h copy new u b) t.next (b.of.step.used t.next (omega arith) (omega arith))).kept
-    (given-new t.next (path_step t.root p h [] (copy ∷ [])) t.next (omega arith) ∙ ap (λ (i : ℕ). slice_get (copy ∷ []) i) (let z : t.next - t.next ≡ 0 = omega arith in z))
-
 no_higher : (t : Table) (p : ℕ) (h copy : Node) (u : Table) → IsPathStep t p h [] (copy ∷ []) → level_of h ≡ t.level p → IsTableAfter t (path_step t.root p h [] (copy ∷ [])) u → (p ≡ t.root → buffer_size h ≤ t.size) → IsNoHigher t u
 no_higher t p h copy u b level after fits =
     let low : t.root < t.next = b.table.below t.root b.table.root in
@@ -259,21 +247,6 @@ pub on_put_flushed : {T E : Type 0} (nodes : Nodes) (t : Table) (parent : Fetche
 on_put_flushed nodes t parent place copy step new u (Ok x) h s own copied after committed = path_flushed nodes t parent.id h.put.node [] (copy ∷ []) new u (done nodes t parent place copy step new u h s own copied after committed) (omega arith)
 on_put_flushed nodes t parent place copy step new u (Err e) h s own copied after committed = tt
 
-pub on_put : {T E : Type 0} (nodes : Nodes) (t : Table) (parent : Fetched) (place : ℕ) (copy : Node) (step : Step) (new : Nodes) (u : Table) (r : Result T E) → IsToPut t parent place copy step → IsSound nodes t → IsOwn nodes t parent → IsCopyAt nodes parent.node.value place copy
-    → OnOk r (IsTableAfter t step u) → OnOk r (IsCommitted nodes t step new u) → OnOk r (IsCopyPut t parent place copy new u)
-on_put nodes t parent place copy step new u (Ok x) h s own copied after committed =
-    let all = done nodes t parent place copy step new u h s own copied after committed in
-    record {
-      edge = h.put.edge;
-      here = h.put.here;
-      node = h.put.node;
-      into = h.put.into;
-      parent_is = parent_then nodes t parent.id h.put.node copy new u all;
-      copy_is = copy_then nodes t parent.id h.put.node copy new u all;
-      next = all.after.next;
-    }
-on_put nodes t parent place copy step new u (Err e) h s own copied after committed = tt
-
 pub on_put_table : {T E : Type 0} (t : Table) (parent : Fetched) (place : ℕ) (copy : Node) (step : Step) (u : Table) (r : Result T E) → IsToPut t parent place copy step → OnOk r (IsTableAfter t step u) → OnOk r (IsNoHigher t u)
 on_put_table t parent place copy step u (Ok x) h after =
     no_higher t parent.id h.put.node copy u (path t parent place copy step h) (level_then t parent.id parent.node.value place h.put.edge h.can.child copy h.put.node (for_copy t parent place copy step h) h.put.into) (subst (λ (q : Step). IsTableAfter t q u) h.put.is after)
@@ -281,11 +254,6 @@ on_put_table t parent place copy step u (Ok x) h after =
     let is : buffer_size parent.node.value ≡ t.size = h.can.parent_is.root root in
     omega (arith, compacted_size (exchanged parent.node.value place list) h.put.node h.put.into, size_exchanged parent.node.value place list))
 on_put_table t parent place copy step u (Err e) h after = tt
-
-pub put_worn : {T : Type 0} (before now : ℕ) (bad : ℕ → Type 0) (t : Table) (parent : Fetched) (place : ℕ) (copy : Node) (step : Step) (r : Result T MapFault) → IsToPut t parent place copy step → HasMapCause before now bad (IsWornBy t step) r → HasMapCause before now bad (IsWornFor t) r
-put_worn before now bad t parent place copy step r h cause =
-    cause_weaker before now bad (IsWornBy t step) (IsWornFor t)
-    (λ counter worn. path_worn t parent.id h.put.node [] (copy ∷ []) (path t parent place copy step h) (omega arith) (omega arith) counter (subst (λ (q : Step). IsWornBy t q counter) h.put.is worn)) r cause
 
 pub on_put_visits : {T E : Type 0} (t : Table) (parent : Fetched) (place : ℕ) (copy : Node) (step : Step) (before now : ℕ) (r : Result T E) → IsToPut t parent place copy step → OnOk r (now ≡ visited before (length step.made)) → OnOk r (now ≡ visited before 1)
 on_put_visits t parent place copy step before now (Ok x) h is = is ∙ ap (λ (q : Step). visited before (length q.made)) h.put.is

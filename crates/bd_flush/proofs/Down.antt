@@ -45,6 +45,8 @@ to_carve t parent place index child held fetched room e target =
       room = room;
       edge = e;
       here = here;
+      child = child;
+      target = target;
       held = oldest_held t.level parent.node.value place e index (held e here);
     }
 
@@ -117,7 +119,7 @@ step_at P f place step h here = edge_weaker (IsSameEdge f place) P (edge_same P 
 
 -- the edge for which most bytes wait, of the next node
 pub next_from : (t : Table) (first : Fetched) (from : ℕ) (parent : Fetched) (place : ℕ) (child : Fetched) (n : Node) (next : ℕ) → IsNext t parent place child → n ≡ child.node.value → IsFullestAt n next → IsFromEdge first from child next
-next_from t first from parent place child n next h same fullest = inr (record { fullest = subst (λ (m : Node). IsFullestAt m next) same fullest; full = h.full })
+next_from t first from parent place child n next h same fullest = inr (record { room = h.room; fullest = subst (λ (m : Node). IsFullestAt m next) same fullest; full = h.full })
 
 pub next_way : (nodes : Nodes) (t : Table) (first from : ℕ) (parent : Fetched) (place : ℕ) (child : Fetched) (n : Node) (next : ℕ) → IsNext t parent place child → n ≡ child.node.value → IsFullestAt n next → length (edges_of parent.node.value) ≤ 14 → IsOwn nodes t parent → IsOwn nodes t child
     → IsOnWay nodes t first from parent.id place → IsOnWay nodes t first from child.id next

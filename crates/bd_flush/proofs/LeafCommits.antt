@@ -3,7 +3,6 @@ use Rattle.std.proofs.Common.{◌≡◌, ℕ, ◌^◌, ◌<◌, ◌≤◌, lengt
 use Rattle.std.specs.Prelude.{OnOk}
 use Rattle.std.proofs.lemmas.Option.{same_Some}
 use Rattle.bd_message.specs.declared.fault.MapFault.{MapFault}
-use Rattle.bd_message.specs.KeyMaps.{HasMapCause}
 use Rattle.bd_node.specs.declared.node.Edge.{Edge}
 use Rattle.bd_node.specs.declared.node.Step.{Step}
 use Rattle.bd_node.specs.Nodes.{buffer_size}
@@ -12,11 +11,11 @@ use Rattle.bd_node.specs.Tables.{Table, IsTable, IsSound}
 use Rattle.bd_node.specs.Steps.{IsStep, IsInPlace, IsTableAfter, IsCommitted, IsWornBy}
 use Rattle.bd_node.specs.Stores.{visited}
 use Rattle.bd_flush.specs.declared.fetching.Fetched.{Fetched}
-use Rattle.bd_flush.specs.Flushed.{IsFlushed, IsWornFor}
+use Rattle.bd_flush.specs.Flushed.{IsFlushed}
 use Rattle.bd_flush.specs.Children.{IsNoHigher}
-use Rattle.bd_flush.specs.Pushes.{CanPushNew, IsOwn, IsNewStep, IsPushedNew}
+use Rattle.bd_flush.specs.Pushes.{CanPushNew, IsOwn, IsNewStep}
 use Rattle.bd_message.proofs.Causes.{cause_weaker}
-use Rattle.bd_flush.proofs.LeafSteps.{IsLeafChange, IsLeafChangeOf, IsLeafChanged, leaf_step_step, leaf_in_place, leaf_flushed, leaf_parent, leaf_there, leaf_no_higher, leaf_worn}
+use Rattle.bd_flush.proofs.LeafSteps.{IsLeafChange, IsLeafChangeOf, IsLeafChanged, leaf_step_step, leaf_in_place, leaf_flushed, leaf_no_higher}
 use Rattle.bd_flush.proofs.LeafPushes.{IsBare, new_change, new_change_of, new_size}
 
 pub record IsToPushNew (t : Table) (parent : Fetched) (place : ℕ) (step : Step) : Type 0 where
@@ -66,33 +65,12 @@ pub on_new_flushed : {T E : Type 0} (nodes : Nodes) (t : Table) (parent : Fetche
 on_new_flushed nodes t parent place step new u (Ok x) h s own after committed = leaf_flushed nodes t parent.id parent.node.value h.push.node h.push.entries new u (changed nodes t parent place step new u h s own after committed)
 on_new_flushed nodes t parent place step new u (Err e) h s own after committed = tt
 
-pub on_new_pushed : {T E : Type 0} (nodes : Nodes) (t : Table) (parent : Fetched) (place : ℕ) (step : Step) (new : Nodes) (u : Table) (r : Result T E) → IsToPushNew t parent place step → IsSound nodes t → IsOwn nodes t parent
-    → OnOk r (IsTableAfter t step u) → OnOk r (IsCommitted nodes t step new u) → OnOk r (IsPushedNew t parent place new u)
-on_new_pushed nodes t parent place step new u (Ok x) h s own after committed =
-    let done = changed nodes t parent place step new u h s own after committed in
-    record {
-      edge = h.push.edge;
-      here = h.push.here;
-      node = h.push.node;
-      entries = h.push.entries;
-      into = h.push.into;
-      parent_is = leaf_parent nodes t parent.id parent.node.value h.push.node h.push.entries new u done;
-      leaf_is = leaf_there nodes t parent.id parent.node.value h.push.node h.push.entries new u done;
-      next = done.after.next;
-    }
-on_new_pushed nodes t parent place step new u (Err e) h s own after committed = tt
-
 pub on_new_table : {T E : Type 0} (t : Table) (parent : Fetched) (place : ℕ) (step : Step) (u : Table) (r : Result T E) → IsToPushNew t parent place step → OnOk r (IsTableAfter t step u) → OnOk r (IsNoHigher t u)
 on_new_table t parent place step u (Ok x) h after =
     leaf_no_higher t parent.id h.push.node h.push.entries u (change t parent place step h) (subst (λ (q : Step). IsTableAfter t q u) h.push.is after)
     (λ root. let is : buffer_size parent.node.value ≡ t.size = h.can.parent_is.root root in
     let less : buffer_size h.push.node ≤ buffer_size parent.node.value = new_size parent.node.value place h.push.edge t.next h.push.node h.push.entries h.push.into in omega arith)
 on_new_table t parent place step u (Err e) h after = tt
-
-pub new_worn : {T : Type 0} (before now : ℕ) (bad : ℕ → Type 0) (t : Table) (parent : Fetched) (place : ℕ) (step : Step) (r : Result T MapFault) → IsToPushNew t parent place step → HasMapCause before now bad (IsWornBy t step) r → HasMapCause before now bad (IsWornFor t) r
-new_worn before now bad t parent place step r h cause =
-    cause_weaker before now bad (IsWornBy t step) (IsWornFor t)
-    (λ counter worn. leaf_worn t parent.id h.push.node h.push.entries (change t parent place step h) counter (subst (λ (q : Step). IsWornBy t q counter) h.push.is worn)) r cause
 
 pub on_new_visits : {T E : Type 0} (t : Table) (parent : Fetched) (place : ℕ) (step : Step) (before now : ℕ) (r : Result T E) → IsToPushNew t parent place step → OnOk r (now ≡ visited before (length step.made)) → OnOk r (now ≡ visited before 1)
 on_new_visits t parent place step before now (Ok x) h is = is ∙ ap (λ (q : Step). visited before (length q.made)) h.push.is

@@ -27,12 +27,11 @@ use Rattle.bd_node.proofs.Meanings.{at-meets}
 use Rattle.bd_node.proofs.Sound.{sound-levelled, named_lower, kept_there}
 use Rattle.bd_node.proofs.Stepping.{touched_in, given-new, after-none, given_stays, keeping_meaning}
 use Rattle.bd_node.proofs.Closing.{stay_above}
-use Rattle.bd_flush.specs.Flushed.{LeadsTo, IsFlushed, IsWornFor}
+use Rattle.bd_flush.specs.Flushed.{LeadsTo, IsFlushed}
 use Rattle.bd_flush.specs.Flushed.LeadsTo.{itself}
 use Rattle.bd_flush.specs.Children.{IsNoHigher}
 use Rattle.bd_flush.specs.Pushes.{leaf_step}
 use Rattle.bd_flush.proofs.Givens.{given_changed, given_unchanged, given_one}
-use Rattle.bd_flush.proofs.Worn.{times_few, one_if_few}
 
 -- a node that may be changed to this one, where this leaf is made
 pub record IsLeafChange (t : Table) (p : ℕ) (n : Node) (entries : List Entry) : Type 0 where
@@ -213,16 +212,6 @@ private_stays nodes t p old n entries new u b q (alone id _ m above there one co
     let still : new id ≡ Some m = b.committed.stays id kept ∙ after-none nodes t (leaf_step t.root p n entries) id (given_unchanged t.next p id n (Leaf entries ∷ []) t.root low other) ∙ there in
     (named_lower new u b.committed.sound id m still q one).kept
 
-pub leaf_parent : (nodes : Nodes) (t : Table) (p : ℕ) (old n : Node) (entries : List Entry) (new : Nodes) (u : Table) → IsLeafChanged nodes t p old n entries new u → new p ≡ Some n
-leaf_parent nodes t p old n entries new u b =
-    given_stays nodes t (leaf_step t.root p n entries) new u b.committed p n (private_stays nodes t p old n entries new u b p b.of.private (omega arith))
-    (given_changed t.next p n (Leaf entries ∷ []) t.root (b.of.step.table.below p b.of.step.parent))
-
-pub leaf_there : (nodes : Nodes) (t : Table) (p : ℕ) (old n : Node) (entries : List Entry) (new : Nodes) (u : Table) → IsLeafChanged nodes t p old n entries new u → new t.next ≡ Some (Leaf entries)
-leaf_there nodes t p old n entries new u b =
-    given_stays nodes t (leaf_step t.root p n entries) new u b.committed t.next (Leaf entries)
-    (named_lower new u b.committed.sound p n (leaf_parent nodes t p old n entries new u b) t.next b.of.step.used).kept (made_given t p n entries)
-
 pub leaf_no_higher : (t : Table) (p : ℕ) (n : Node) (entries : List Entry) (u : Table) → IsLeafChange t p n entries → IsTableAfter t (leaf_step t.root p n entries) u → (p ≡ t.root → buffer_size n ≤ t.size) → IsNoHigher t u
 leaf_no_higher t p n entries u b after fits =
     let low : t.root < t.next = b.table.below t.root b.table.root in
@@ -238,15 +227,3 @@ leaf_no_higher t p n entries u b after fits =
                 omega arith)
           ];
     }
-
-pub leaf_worn : (t : Table) (p : ℕ) (n : Node) (entries : List Entry) → IsLeafChange t p n entries → (counter : Counter) → IsWornBy t (leaf_step t.root p n entries) counter → IsWornFor t counter
-leaf_worn t p n entries b NextId worn = omega arith
-leaf_worn t p n entries b Refs worn =
-    let id : ℕ = worn.0 in
-    let first : Change = record { id = p; node = n } in
-    let most : 2 ^ 64 ≤ t.count id + given_times (leaf_step t.root p n entries) id + one_if t.root id = worn.1 in
-    (id, omega (arith, most, one_if_few t.root id, times_few n id b.shape, sum_by-cons (λ (m : Node). times m id) (Leaf entries) [], sum_by-cons (λ (d : Change). times d.node id) first []))
-leaf_worn t p n entries b Count worn = worn
-leaf_worn t p n entries b Level worn = absurd worn
-leaf_worn t p n entries b Epoch worn = worn
-leaf_worn t p n entries b Flushes worn = worn

@@ -3,7 +3,7 @@ pub mod Abundance
 pub mod Waiting
 pub mod Each
 pub mod Givens
-pub mod Worn
+pub mod Made
 pub mod ChildSteps
 pub mod PathSteps
 pub mod Raisings

@@ -23,10 +23,9 @@ use Rattle.bd_node.proofs.Lookup.{Agree, each_weaker, each_named, node_has-same,
 use Rattle.bd_node.proofs.Meanings.{at-others, at-none}
 use Rattle.bd_node.proofs.Stepping.{touched_in, given-old, given-new, changed_at-same, changed_at-other, changed_at-none, changed_has, moving_meaning, after-none, by_given}
 use Rattle.bd_node.proofs.Closing.{stay_above}
-use Rattle.bd_flush.specs.Flushed.{LeadsTo, IsFlushed, IsWornFor}
+use Rattle.bd_flush.specs.Flushed.{LeadsTo, IsFlushed}
 use Rattle.bd_flush.specs.Flushed.LeadsTo.{itself}
 use Rattle.bd_flush.specs.Paths.{path_step}
-use Rattle.bd_flush.proofs.Worn.{times_few, one_if_few}
 
 -- ---- such a step
 
@@ -380,26 +379,3 @@ path_flushed nodes t c h uppers made new u b few =
     }
 
 -- ---- a counter that is worn
-
-made_few : (t : Table) (level c : ℕ) (made : List Node) (id : ℕ) → AllByRecursion (IsMadeUnder t level c) made → sum_by (λ m. times m id) made ≤ 2064 * length made
-made_few t level c [] id h = omega arith
-made_few t level c (m ∷ made) id h = omega (arith, sum_by-cons (λ (m : Node). times m id) m made, times_few m id h.0.shape, made_few t level c made id h.1)
-
-uppers_few : (t : Table) (step : Step) (c : ℕ) (uppers : List Change) (id : ℕ) → AllByRecursion (IsUpper t step c) uppers → sum_by (λ (d : Change). times d.node id) uppers ≤ 2064 * length uppers
-uppers_few t step c [] id h = omega arith
-uppers_few t step c (u ∷ uppers) id h = omega (arith, sum_by-cons (λ (d : Change). times d.node id) u uppers, times_few u.node id h.0.shape, uppers_few t step c uppers id h.1)
-
-pub path_worn : (t : Table) (c : ℕ) (h : Node) (uppers : List Change) (made : List Node) → IsPathStep t c h uppers made → length made ≤ 4 → length uppers ≤ 1002 → (counter : Counter) → IsWornBy t (path_step t.root c h uppers made) counter → IsWornFor t counter
-path_worn t c h uppers made b few short NextId worn = omega arith
-path_worn t c h uppers made b few short Refs worn =
-    let id : ℕ = worn.0 in
-    let most : 2 ^ 64 ≤ t.count id + given_times (path_step t.root c h uppers made) id + one_if t.root id = worn.1 in
-    let all : sum_by (λ m. times m id) made ≤ 2064 * length made = made_few t (level_of h) c made id b.made_are in
-    let above : sum_by (λ (d : Change). times d.node id) uppers ≤ 2064 * length uppers = uppers_few t (path_step t.root c h uppers made) c uppers id b.uppers_are in (
-      id,
-      omega (arith, most, all, above, one_if_few t.root id, times_few h id b.shape, sum_by-cons (λ (d : Change). times d.node id) (record { id = c; node = h }) uppers),
-    )
-path_worn t c h uppers made b few short Count worn = worn
-path_worn t c h uppers made b few short Level worn = absurd worn
-path_worn t c h uppers made b few short Epoch worn = worn
-path_worn t c h uppers made b few short Flushes worn = worn

@@ -9,12 +9,12 @@ use Rattle.bd_node.specs.Meaning.{Nodes}
 use Rattle.bd_node.specs.Tables.{Table, IsTable, IsLower, IsSound}
 use Rattle.bd_node.specs.Steps.{IsStep, IsInPlace, IsTableAfter, IsCommitted, IsWornBy}
 use Rattle.bd_flush.specs.declared.fetching.Fetched.{Fetched}
-use Rattle.bd_flush.specs.Flushed.{IsFlushed, IsWornFor}
+use Rattle.bd_flush.specs.Flushed.{IsFlushed}
 use Rattle.bd_flush.specs.Children.{IsWayTo, AreFamily, IsNoHigher}
-use Rattle.bd_flush.specs.Pushes.{AllGoDown, CanPush, IsPushStep, IsPushed}
-use Rattle.bd_flush.proofs.ChildSteps.{IsChildChange, IsChildChangeOf, IsChildChanged, below_step, below_in_place, child_flushed, parent_is, child_is, made_are, no_higher, child_worn}
+use Rattle.bd_flush.specs.Pushes.{AllGoDown, CanPush, IsPushStep}
+use Rattle.bd_flush.proofs.ChildSteps.{IsChildChange, IsChildChangeOf, IsChildChanged, below_step, below_in_place, child_flushed, parent_is, child_is, made_are, no_higher}
 use Rattle.bd_flush.proofs.ChildSplits.{IsSplittable, at_child, lower_child}
-use Rattle.bd_flush.proofs.Pushed.{batch_low, IsPushable, push_change, push_change_of, push_few, push_named, push_size}
+use Rattle.bd_flush.proofs.Pushed.{batch_low, IsPushable, push_change, push_change_of, push_few, push_size}
 
 -- a push, and the step
 pub record IsToPush (t : Table) (parent : Fetched) (place : ℕ) (child : Fetched) (step : Step) : Type 0 where
@@ -83,28 +83,6 @@ push_flushed nodes t parent place child step new u h sound family after committe
     child_flushed nodes t parent.id parent.node.value h.push.node child.id h.push.half h.push.made new u (changed nodes t parent place child step new u h sound family after committed)
     (let few : length h.push.made ≤ 1 = few_made t parent place child step h in omega arith)
 
-pub push_is : (nodes : Nodes) (t : Table) (parent : Fetched) (place : ℕ) (child : Fetched) (step : Step) (new : Nodes) (u : Table) → IsToPush t parent place child step → IsSound nodes t → AreFamily nodes t parent child → IsTableAfter t step u → IsCommitted nodes t step new u
-    → IsPushed t parent place child new u
-push_is nodes t parent place child step new u h sound family after committed =
-    let done = changed nodes t parent place child step new u h sound family after committed in
-    let p : ℕ = parent.id in
-    let c : ℕ = child.id in
-    record {
-      edge = h.push.edge;
-      here = h.push.here;
-      batch = h.push.batch;
-      moved = h.push.moved;
-      node = h.push.node;
-      half = h.push.half;
-      made = h.push.made;
-      into = h.push.into;
-      parent_is = parent_is nodes t p parent.node.value h.push.node c h.push.half h.push.made new u done;
-      child_is = child_is nodes t p parent.node.value h.push.node c h.push.half h.push.made new u done
-          (push_named t p parent.node.value place c h.push.edge child.node.value h.push.batch h.push.node h.push.half h.push.made (pushable t parent place child step h) h.push.into);
-      made_are = made_are nodes t p parent.node.value h.push.node c h.push.half h.push.made new u done;
-      next = done.after.next;
-    }
-
 pub push_no_higher : (t : Table) (parent : Fetched) (place : ℕ) (child : Fetched) (step : Step) (u : Table) → IsToPush t parent place child step → IsTableAfter t step u → IsNoHigher t u
 push_no_higher t parent place child step u h after =
     let less : buffer_size h.push.node ≤ buffer_size parent.node.value = push_size parent.node.value place h.push.edge child.node.value h.push.batch t.next h.push.node h.push.half h.push.made h.push.into in
@@ -120,8 +98,3 @@ push_made t parent place child step h =
     let few : length h.push.made ≤ 1 = few_made t parent place child step h in
     let same : length step.made ≡ length h.push.made = ap (λ (q : Step). length q.made) h.push.is in
     omega arith
-
-pub push_worn : (t : Table) (parent : Fetched) (place : ℕ) (child : Fetched) (step : Step) → IsToPush t parent place child step → (counter : Counter) → IsWornBy t step counter → IsWornFor t counter
-push_worn t parent place child step h counter worn =
-    child_worn t parent.id h.push.node child.id h.push.half h.push.made (change t parent place child step h) (let few : length h.push.made ≤ 1 = few_made t parent place child step h in omega arith) counter
-    (subst (λ (q : Step). IsWornBy t q counter) h.push.is worn)

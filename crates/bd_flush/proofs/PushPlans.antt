@@ -1,12 +1,12 @@
 -- The commit of a push, with a node between or without.
-use Rattle.std.proofs.Common.{◌≡◌, ℕ, ◌+◌, ◌^◌, ◌<◌, ◌≤◌, List, [], ◌∷◌, length, refl, sym, ap, subst, ◌∙◌, arith, inl, inr, ◌⊎◌, Result, Ok, Err, OnOk, OnErr}
+use Rattle.std.proofs.Common.{◌≡◌, ℕ, ◌+◌, ◌^◌, ◌<◌, ◌≤◌, List, [], ◌∷◌, length, refl, sym, ap, subst, ◌∙◌, arith, inl, inr, ◌⊎◌, Result, Ok, Err, OnOk, OnErr, Option, None, Some, IfOk, MatchOption}
 use Rattle.std.specs.List.{AllByRecursion}
 use Rattle.std.proofs.lemmas.Option.{same_Some}
-use Rattle.bd_message.specs.declared.fault.Counter.TheVariants.{Level}
+use Rattle.bd_message.specs.declared.fault.Counter.TheVariants.{NextId, Level}
 use Rattle.bd_message.specs.declared.fault.MapFault.{MapFault}
 use Rattle.bd_message.specs.declared.fault.MapFault.TheVariants.{Worn}
-use Rattle.bd_message.specs.KeyMaps.{HasMapCause}
 use Rattle.bd_node.specs.declared.node.Edge.{Edge}
+use Rattle.bd_message.specs.KeyMaps.{HasMapCause}
 use Rattle.bd_node.specs.declared.node.Step.{Step}
 use Rattle.bd_node.specs.Nodes.{level_of}
 use Rattle.bd_node.specs.Meaning.{Nodes}
@@ -15,18 +15,28 @@ use Rattle.bd_node.specs.Steps.{IsStep, IsInPlace, IsTableAfter, IsCommitted, Is
 use Rattle.bd_node.specs.Stores.{visited}
 use Rattle.bd_inner.specs.Exchange.{IsEdgeAt}
 use Rattle.bd_flush.specs.declared.fetching.Fetched.{Fetched}
-use Rattle.bd_flush.specs.declared.pushing.Plan.{Plan}
-use Rattle.bd_flush.specs.declared.pushing.Plan.TheVariants.{Ready, NoLevel}
-use Rattle.bd_flush.specs.Flushed.{IsFlushed, IsWornFor}
+use Rattle.bd_flush.specs.declared.splitting.Plan.{Plan}
+use Rattle.bd_flush.specs.declared.splitting.Plan.TheVariants.{Ready, NoId, NoLevel}
+use Rattle.bd_flush.specs.Flushed.{IsFlushed}
 use Rattle.bd_flush.specs.Children.{AreFamily, IsNoHigher, IsContents}
 use Rattle.bd_flush.specs.Between.{IsHardlyHigher}
 use Rattle.bd_flush.specs.Raising.{IsWayUp}
-use Rattle.bd_flush.specs.Pushes.{AllGoDown, CanMoveSome, IsWaitedFor, CanPush, IsSomePush, IsPlan, IsPushed, IsPushedBetween, IsLongPush, IsHighPush}
-use Rattle.bd_message.proofs.Causes.{cause_weaker}
+use Rattle.bd_flush.specs.Pushes.{AllGoDown, CanMoveSome, IsWaitedFor, CanPush, IsSomePush, AreLongParts, IsStepOver, IsPlanOver, IsPushBetweenStep, IsPlan, IsLongPush, IsHighPush}
+use Rattle.bd_flush.specs.Made.{IsWornFor}
+use Rattle.bd_flush.proofs.Made.{no_ids, too_high}
+use Rattle.bd_node.specs.declared.node.Change.{Change}
+use Rattle.bd_node.specs.declared.node.Node.{Node}
+use Rattle.bd_inner.specs.Compaction.{IsCompacted}
+use Rattle.bd_inner.specs.Exchange.{exchanged}
+use Rattle.bd_inner.proofs.Compacting.{compacted_level}
+use Rattle.bd_flush.specs.Splits.{over_step}
+use Rattle.bd_flush.specs.Raising.{CannotRise, AreChangesOver, CannotRiseOver}
+use Rattle.bd_flush.proofs.ChildSplits.{level_exchanged}
+use Rattle.bd_flush.proofs.RootSplits.{over_none}
 use Rattle.bd_flush.proofs.GoingDown.{all_move, all_plain}
-use Rattle.bd_flush.proofs.PathSteps.{path_may, path_in_place, path_worn}
-use Rattle.bd_flush.proofs.PushCommits.{may_push, push_in_place, push_flushed, push_is, push_no_higher, push_made, push_worn}
-use Rattle.bd_flush.proofs.Betweens.{IsToPutBetween, the_child, the_uppers, between_path, between_path_of, between_short, between_flushed, between_pushed, between_table, cannot_rise}
+use Rattle.bd_flush.proofs.PathSteps.{path_may, path_in_place}
+use Rattle.bd_flush.proofs.PushCommits.{may_push, push_in_place, push_flushed, push_no_higher, push_made}
+use Rattle.bd_flush.proofs.Betweens.{IsToPutBetween, the_child, the_uppers, between_path, between_path_of, between_flushed, between_table}
 
 -- a push, and its step
 pub record IsPlanned (t : Table) (way : List Fetched) (parent : Fetched) (place : ℕ) (child : Fetched) (step : Step) : Type 0 where
@@ -34,7 +44,7 @@ pub record IsPlanned (t : Table) (way : List Fetched) (parent : Fetched) (place 
   pub next : t.next < 2 ^ 64
   pub can : CanPush t parent place child
   pub way_up : IsWayUp t parent.id way
-  pub push : IsSomePush t.root t.next way parent place child step
+  pub push : IsPlan t.root t.next way parent place child (Ready step)
 
 pub is_planned : (t : Table) (way : List Fetched) (parent : Fetched) (place : ℕ) (child : Fetched) (step : Step) (plan : Plan) (root next : ℕ) → IsTable t → CanPush t parent place child → IsWayUp t parent.id way → root ≡ t.root → next ≡ t.next → next < 2 ^ 64 → plan ≡ Ready step → IsPlan root next way parent place child plan
     → IsPlanned t way parent place child step
@@ -43,7 +53,7 @@ is_planned t way parent place child step plan root next table can up same_root s
   next = omega arith;
   can = can;
   way_up = up;
-  push = subst (λ (i : ℕ). IsSomePush t.root i way parent place child step) same_next (subst (λ (r : ℕ). IsSomePush r next way parent place child step) same_root (subst (λ (p : Plan). IsPlan root next way parent place child p) ready push));
+  push = subst (λ (i : ℕ). IsPlan t.root i way parent place child (Ready step)) same_next (subst (λ (r : ℕ). IsPlan r next way parent place child (Ready step)) same_root (subst (λ (p : Plan). IsPlan root next way parent place child p) ready push));
 }
 
 -- what waits can be moved, and names no node where the child is a leaf
@@ -70,8 +80,8 @@ planned_may t way parent place child step h =
     elim h.push [
       | inl own ↦ may_push t parent place child step (record { table = h.table; next = h.next; can = h.can; push = own })
       | inr b ↦
-          subst (λ (q : Step). IsStep t q) (sym b.is)
-          (path_may t child.id (the_child t b.pivot) (the_uppers parent b.node b.rising) (b.first ∷ b.second ∷ []) (between_path t way parent place child b.first b.pivot b.second b.node b.rising (record { table = h.table; ids = b.ids; can = h.can; way_up = h.way_up; into = b.into })))
+          subst (λ (q : Step). IsStep t q) (sym b.0.is)
+          (path_may t child.id (the_child t b.0.pivot) (the_uppers parent b.0.node b.0.rising) (b.0.first ∷ b.0.second ∷ []) (between_path t way parent place child b.0.first b.0.pivot b.0.second b.0.node b.0.rising (record { table = h.table; ids = b.1; can = h.can; way_up = h.way_up; into = b.0.into })))
     ]
 
 pub planned_in_place : (nodes : Nodes) (t : Table) (way : List Fetched) (parent : Fetched) (place : ℕ) (child : Fetched) (step : Step) → IsPlannedOf nodes t way parent place child step → IsInPlace nodes t step
@@ -79,10 +89,10 @@ planned_in_place nodes t way parent place child step h =
     elim h.of.push [
       | inl own ↦ push_in_place nodes t parent place child step (record { table = h.of.table; next = h.of.next; can = h.of.can; push = own }) h.sound h.family
       | inr b ↦
-          subst (λ (q : Step). IsInPlace nodes t q) (sym b.is)
-          (path_in_place nodes t child.id (the_child t b.pivot) (the_uppers parent b.node b.rising) (b.first ∷ b.second ∷ [])
-          (between_path_of nodes t way parent place child b.first b.pivot b.second b.node b.rising
-          (record { of = record { table = h.of.table; ids = b.ids; can = h.of.can; way_up = h.of.way_up; into = b.into }; sound = h.sound; family = h.family; contents = h.contents })))
+          subst (λ (q : Step). IsInPlace nodes t q) (sym b.0.is)
+          (path_in_place nodes t child.id (the_child t b.0.pivot) (the_uppers parent b.0.node b.0.rising) (b.0.first ∷ b.0.second ∷ [])
+          (between_path_of nodes t way parent place child b.0.first b.0.pivot b.0.second b.0.node b.0.rising
+          (record { of = record { table = h.of.table; ids = b.1; can = h.of.can; way_up = h.of.way_up; into = b.0.into }; sound = h.sound; family = h.family; contents = h.contents })))
     ]
 
 pub on_planned_flushed : {T E : Type 0} (nodes : Nodes) (t : Table) (way : List Fetched) (parent : Fetched) (place : ℕ) (child : Fetched) (step : Step) (new : Nodes) (u : Table) (r : Result T E) → IsPlannedOf nodes t way parent place child step → OnOk r (IsTableAfter t step u) → OnOk r (IsCommitted nodes t step new u)
@@ -92,26 +102,12 @@ on_planned_flushed nodes t way parent place child step new u (Ok x) h after comm
     elim h.of.push [
       | inl own ↦ push_flushed nodes t parent place child step new u (record { table = h.of.table; next = h.of.next; can = h.of.can; push = own }) h.sound h.family after committed
       | inr b ↦
-          between_flushed nodes t way parent place child b.first b.pivot b.second b.node b.rising new u
+          between_flushed nodes t way parent place child b.0.first b.0.pivot b.0.second b.0.node b.0.rising new u
           (record {
-            of = record { of = record { table = h.of.table; ids = b.ids; can = h.of.can; way_up = h.of.way_up; into = b.into }; sound = h.sound; family = h.family; contents = h.contents };
-            after = subst (λ (q : Step). IsTableAfter t q u) b.is after;
-            committed = subst (λ (q : Step). IsCommitted nodes t q new u) b.is committed;
+            of = record { of = record { table = h.of.table; ids = b.1; can = h.of.can; way_up = h.of.way_up; into = b.0.into }; sound = h.sound; family = h.family; contents = h.contents };
+            after = subst (λ (q : Step). IsTableAfter t q u) b.0.is after;
+            committed = subst (λ (q : Step). IsCommitted nodes t q new u) b.0.is committed;
           })
-    ]
-
-pub on_planned_pushed : {T E : Type 0} (nodes : Nodes) (t : Table) (way : List Fetched) (parent : Fetched) (place : ℕ) (child : Fetched) (step : Step) (new : Nodes) (u : Table) (r : Result T E) → IsPlannedOf nodes t way parent place child step → OnOk r (IsTableAfter t step u) → OnOk r (IsCommitted nodes t step new u)
-    → OnOk r (IsPushed t parent place child new u ⊎ IsPushedBetween t way parent place child new u)
-on_planned_pushed nodes t way parent place child step new u (Err e) h after committed = tt
-on_planned_pushed nodes t way parent place child step new u (Ok x) h after committed =
-    elim h.of.push [
-      | inl own ↦ inl (push_is nodes t parent place child step new u (record { table = h.of.table; next = h.of.next; can = h.of.can; push = own }) h.sound h.family after committed)
-      | inr b ↦ inr (between_pushed nodes t way parent place child b.first b.pivot b.second b.node b.rising new u
-          (record {
-            of = record { of = record { table = h.of.table; ids = b.ids; can = h.of.can; way_up = h.of.way_up; into = b.into }; sound = h.sound; family = h.family; contents = h.contents };
-            after = subst (λ (q : Step). IsTableAfter t q u) b.is after;
-            committed = subst (λ (q : Step). IsCommitted nodes t q new u) b.is committed;
-          }))
     ]
 
 pub on_planned_table : {T E : Type 0} (t : Table) (way : List Fetched) (parent : Fetched) (place : ℕ) (child : Fetched) (step : Step) (u : Table) (r : Result T E) → IsPlanned t way parent place child step → OnOk r (IsTableAfter t step u)
@@ -121,8 +117,8 @@ on_planned_table t way parent place child step u (Ok x) h after =
     elim h.push [
       | inl own ↦ inl (push_no_higher t parent place child step u (record { table = h.table; next = h.next; can = h.can; push = own }) after)
       | inr b ↦ inr (
-        record { edge = b.into.edge; here = b.into.here; batch = b.into.batch; moved = b.into.moved; first = b.first; pivot = b.pivot; second = b.second; long = b.into.long },
-        between_table t way parent place child b.first b.pivot b.second b.node b.rising u (record { table = h.table; ids = b.ids; can = h.can; way_up = h.way_up; into = b.into }) (subst (λ (q : Step). IsTableAfter t q u) b.is after),
+        record { edge = b.0.into.edge; here = b.0.into.here; batch = b.0.into.batch; moved = b.0.into.moved; first = b.0.first; pivot = b.0.pivot; second = b.0.second; long = b.0.into.long },
+        between_table t way parent place child b.0.first b.0.pivot b.0.second b.0.node b.0.rising u (record { table = h.table; ids = b.1; can = h.can; way_up = h.way_up; into = b.0.into }) (subst (λ (q : Step). IsTableAfter t q u) b.0.is after),
       )
     ]
 
@@ -130,30 +126,81 @@ planned_made : (t : Table) (way : List Fetched) (parent : Fetched) (place : ℕ)
 planned_made t way parent place child step h =
     elim h.push [
       | inl own ↦ (let few : length step.made ≤ 1 = push_made t parent place child step (record { table = h.table; next = h.next; can = h.can; push = own }) in omega arith)
-      | inr b ↦ (let same : length step.made ≡ 2 = ap (λ (q : Step). length q.made) b.is in omega arith)
+      | inr b ↦ (let same : length step.made ≡ 2 = ap (λ (q : Step). length q.made) b.0.is in omega arith)
     ]
 
 pub on_planned_visits : {T E : Type 0} (t : Table) (way : List Fetched) (parent : Fetched) (place : ℕ) (child : Fetched) (step : Step) (before now : ℕ) (r : Result T E) → IsPlanned t way parent place child step → OnOk r (now ≡ visited before (length step.made)) → OnErr r (now ≡ before) → now ≤ before + 2
 on_planned_visits t way parent place child step before now (Ok x) h is same = let few : length step.made ≤ 2 = planned_made t way parent place child step h in omega arith
 on_planned_visits t way parent place child step before now (Err e) h is same = omega arith
 
-pub planned_worn : {T : Type 0} (before now : ℕ) (bad : ℕ → Type 0) (t : Table) (way : List Fetched) (parent : Fetched) (place : ℕ) (child : Fetched) (step : Step) (r : Result T MapFault) → IsPlanned t way parent place child step → HasMapCause before now bad (IsWornBy t step) r → HasMapCause before now bad (IsWornFor t) r
-planned_worn before now bad t way parent place child step r h cause =
-    cause_weaker before now bad (IsWornBy t step) (IsWornFor t)
-    (λ counter worn.
-    elim h.push [
-      | inl own ↦ push_worn t parent place child step (record { table = h.table; next = h.next; can = h.can; push = own }) counter worn
-      | inr b ↦ (let to_put : IsToPutBetween t way parent place child b.first b.pivot b.second b.node b.rising = record { table = h.table; ids = b.ids; can = h.can; way_up = h.way_up; into = b.into } in
-          path_worn t child.id (the_child t b.pivot) (the_uppers parent b.node b.rising) (b.first ∷ b.second ∷ []) (between_path t way parent place child b.first b.pivot b.second b.node b.rising to_put) (omega arith)
-          (between_short t way parent place child b.first b.pivot b.second b.node b.rising to_put) counter (subst (λ (q : Step). IsWornBy t q counter) b.is worn))
-    ]) r cause
+-- a node can't rise
+pub no_level_cause : {T : Type 0} (count : ℕ) (bad : ℕ → Type 0) (IsOne : Step → Type 0) (t : Table) (way : List Fetched) (parent : Fetched) (place : ℕ) (child : Fetched) (plan : Plan) (root next : ℕ) → plan ≡ NoLevel → IsPlan root next way parent place child plan
+    → HasMapCause {T = T} count count bad (IsWornFor IsOne (IsHighPush parent.node.value place child.node.value way) t) (Err (Worn Level))
+no_level_cause count bad IsOne t way parent place child plan root next is h =
+    too_high count bad IsOne (IsHighPush parent.node.value place child.node.value way) t (subst (λ (p : Plan). IsPlan root next way parent place child p) is h)
 
--- a commit doesn't fail for want of a level
-pub never_level : {T : Type 0} (before now : ℕ) (bad : ℕ → Type 0) (t : Table) (step : Step) (r : Result T MapFault) → HasMapCause before now bad (IsWornBy t step) r → r ≡ Err (Worn Level) → ⊥
-never_level before now bad t step r cause e = (subst (λ s. HasMapCause before now bad (IsWornBy t step) s) e cause).failed
+-- the step of the store
+pub some_push : (t : Table) (way : List Fetched) (parent : Fetched) (place : ℕ) (child : Fetched) (step : Step) → IsPlanned t way parent place child step → IsSomePush t.root t.next way parent place child step
+some_push t way parent place child step h = elim h.push [ inl own ↦ inl own | inr b ↦ inr b.0 ]
 
--- the root can't rise
-pub no_level_cause : {T : Type 0} (count : ℕ) (bad : ℕ → Type 0) (t : Table) (way : List Fetched) (parent : Fetched) (place : ℕ) (child : Fetched) (plan : Plan) (root next : ℕ) → IsWayUp t parent.id way → plan ≡ NoLevel → IsPlan root next way parent place child plan → HasMapCause {T = T} count count bad (IsWornFor t) (Err (Worn Level))
-no_level_cause count bad t way parent place child plan root next up is h =
-    let high : IsHighPush parent.node.value place child.node.value way = subst (λ (p : Plan). IsPlan root next way parent place child p) is h in
-    record { later = omega arith; kept = tt; stays = refl; failed = cannot_rise t parent.id (level_of parent.node.value + 1) way high.high.1 up }
+-- the step for which there are no ids
+pub no_id_cause : {T : Type 0} (count : ℕ) (bad : ℕ → Type 0) (high : Type 0) (t : Table) (way : List Fetched) (parent : Fetched) (place : ℕ) (child : Fetched) (plan : Plan) (root next : ℕ) → root ≡ t.root → next ≡ t.next → plan ≡ NoId → IsPlan root next way parent place child plan
+    → HasMapCause {T = T} count count bad (IsWornFor (IsSomePush t.root t.next way parent place child) high t) (Err (Worn NextId))
+no_id_cause count bad high t way parent place child plan root next same_root same_next is h =
+    let none : IsPlan t.root t.next way parent place child NoId = subst (λ (i : ℕ). IsPlan t.root i way parent place child NoId) same_next (subst (λ (r : ℕ). IsPlan r next way parent place child NoId) same_root (subst (λ (p : Plan). IsPlan root next way parent place child p) is h)) in
+    let made : length none.0.made ≡ 2 = ap (λ (q : Step). length q.made) none.1.is in
+    let full : 2 ^ 64 ≤ t.next + 1 = none.2 in
+    no_ids count bad (IsSomePush t.root t.next way parent place child) high t none.0 (inr none.1) (omega arith)
+
+-- ---- the plan
+
+over_plan : (root next : ℕ) (way : List Fetched) (parent : Change) (c : ℕ) (first : Node) (pivot : List ℕ) (second : Node) (step : Step) (others : List Change) → AreChangesOver 1 parent way others → step ≡ over_step root next c 1 first pivot second others → IsStepOver root next way parent c first pivot second step
+over_plan root next way parent c first pivot second step others over is =
+    record { node = over.node; rising = over.rising; rise = over.rise; is = is ∙ ap (λ (l : List Change). over_step root next c 1 first pivot second l) over.are }
+
+-- there are no ids for the step
+pub over_full : {V : Type 0} (items : V → List Change) (root next : ℕ) (way : List Fetched) (parent : Change) (c : ℕ) (first : Node) (pivot : List ℕ) (second : Node) (changes : Option V) (others : V) (found : Option Step) (P : Step → Type 0) → changes ≡ Some others → MatchOption changes (CannotRiseOver 1 parent.node way) (λ all. AreChangesOver 1 parent way (items all))
+    → found ≡ None → MatchOption found (2 ^ 64 ≤ next + 1) P → (step : Step) × IsStepOver root next way parent c first pivot second step × (2 ^ 64 ≤ next + 1)
+over_full items root next way parent c first pivot second changes others found P some over none h =
+    let these : AreChangesOver 1 parent way (items others) = subst (λ (o : Option _). MatchOption o (CannotRiseOver 1 parent.node way) (λ all. AreChangesOver 1 parent way (items all))) some over in
+    let step : Step = over_step root next c 1 first pivot second (items others) in
+    (step, over_plan root next way parent c first pivot second step (items others) these refl, over_none next P found none h)
+
+-- a push that puts a node between
+between_of : (root next : ℕ) (way : List Fetched) (parent : Fetched) (place : ℕ) (child : Fetched) (edge : Edge) (first : Node) (pivot : List ℕ) (second above : Node) (step : Step) → AreLongParts parent.node.value place child.node.value edge first pivot second → IsCompacted (exchanged parent.node.value place (edge ∷ [])) above
+    → IsStepOver root next way (record { id = parent.id; node = above }) child.id first pivot second step → IsPushBetweenStep root next way parent place child step
+between_of root next way parent place child edge first pivot second above step long made over = record {
+  first = first;
+  pivot = pivot;
+  second = second;
+  node = over.node;
+  rising = over.rising;
+  into = record {
+    edge = long.edge;
+    here = long.here;
+    batch = long.batch;
+    moved = long.moved;
+    long = long.long;
+    above = above;
+    relieved = subst (λ (f : Edge). IsCompacted (exchanged parent.node.value place (f ∷ [])) above) long.seen made;
+    rise = over.rise;
+  };
+  is = over.is;
+}
+
+pub long_plan : {E : Type 0} (root next : ℕ) (way : List Fetched) (parent : Fetched) (place : ℕ) (child : Fetched) (edge : Edge) (first : Node) (pivot : List ℕ) (second above shown below : Node) (r : Result Plan E) → shown ≡ parent.node.value → below ≡ child.node.value → AreLongParts shown place below edge first pivot second → IsCompacted (exchanged shown place (edge ∷ [])) above
+    → IfOk r (IsPlanOver root next way (record { id = parent.id; node = above }) child.id first pivot second) → IfOk r (IsPlan root next way parent place child)
+long_plan root next way parent place child edge first pivot second above shown below (Err e) same child_is parts made h = tt
+long_plan root next way parent place child edge first pivot second above shown below (Ok (Ready step)) same child_is parts made h =
+    let long = subst (λ (m : Node). AreLongParts parent.node.value place m edge first pivot second) child_is (subst (λ (n : Node). AreLongParts n place below edge first pivot second) same parts) in
+    inr (between_of root next way parent place child edge first pivot second above step long (subst (λ (n : Node). IsCompacted (exchanged n place (edge ∷ [])) above) same made) h.0, h.1)
+long_plan root next way parent place child edge first pivot second above shown below (Ok NoId) same child_is parts made h =
+    let long = subst (λ (m : Node). AreLongParts parent.node.value place m edge first pivot second) child_is (subst (λ (n : Node). AreLongParts n place below edge first pivot second) same parts) in
+    (h.0, between_of root next way parent place child edge first pivot second above h.0 long (subst (λ (n : Node). IsCompacted (exchanged n place (edge ∷ [])) above) same made) h.1, h.2)
+long_plan root next way parent place child edge first pivot second above shown below (Ok NoLevel) same child_is parts made h =
+    let long = subst (λ (m : Node). AreLongParts parent.node.value place m edge first pivot second) child_is (subst (λ (n : Node). AreLongParts n place below edge first pivot second) same parts) in
+    let level : level_of above ≡ level_of parent.node.value = compacted_level (exchanged shown place (edge ∷ [])) above made ∙ level_exchanged shown place (edge ∷ []) ∙ ap level_of same in
+    record {
+      long = record { edge = long.edge; here = long.here; batch = long.batch; moved = long.moved; first = first; pivot = pivot; second = second; long = long.long };
+      high = (omega arith, subst (λ (l : ℕ). CannotRise (l + 1) way) level h.1);
+    }

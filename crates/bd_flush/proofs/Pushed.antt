@@ -32,7 +32,7 @@ use Rattle.bd_flush.specs.Pushes.{seen_by, unseen, AllGoDown, IsWaitedFor, IsEdg
 use Rattle.bd_flush.specs.Pushes.IsPushInto.{received, fitted, split}
 use Rattle.bd_flush.proofs.GoingDown.{parts_low}
 use Rattle.bd_flush.proofs.ChildSteps.{has_below, has_child, has_old, IsChildChange, IsChildChangeOf}
-use Rattle.bd_flush.proofs.ChildSplits.{child_named, one_fits, one_names, one_change, compacted_small, others_agree, gotos_agree, asks, asks_at, IsSplittable, IsSplittableOf, split_change, split_meaning, split_few, split_named, split_size}
+use Rattle.bd_flush.proofs.ChildSplits.{child_named, one_fits, one_change, compacted_small, others_agree, gotos_agree, asks, asks_at, IsSplittable, IsSplittableOf, split_change, split_meaning, split_few, split_size}
 use Rattle.bd_keys.proofs.Order.{IsKey-drop}
 
 -- ---- the node above
@@ -249,12 +249,6 @@ pub push_few : (n : Node) (place : ℕ) (e : Edge) (m : Node) (b : Batch) (next 
 push_few n place e m b next _ _ _ (received parent inner r) = omega arith
 push_few n place e m b next _ _ _ (fitted old new parent leaf got fits r) = omega arith
 push_few n place e m b next _ _ _ (split old new parent half made leaf got over into) = split_few n place (seen_by e b.count) (Leaf new) next parent half made into
-
-pub push_named : (t : Table) (p : ℕ) (n : Node) (place c : ℕ) (e : Edge) (m : Node) (b : Batch) (parent low : Node) (made : List Node) → IsPushable t p n place c e m b → IsPushInto n place e m b t.next parent low made → 1 ≤ times parent c
-push_named t p n place c e m b _ _ _ s (received parent inner r) = one_names n place c e (e.seen + b.count) parent s.split.own.shape s.split.way r
-push_named t p n place c e m b _ _ _ s (fitted old new parent leaf got fits r) = one_names n place c e (e.seen + b.count) parent s.split.own.shape s.split.way r
-push_named t p n place c e m b _ _ _ s (split old new parent half made leaf got over into) =
-    split_named t p n place c e (e.seen + b.count) (Leaf new) parent half made (whole_splittable t p n place c e (e.seen + b.count) m old new s.split leaf) into
 
 pub push_size : (n : Node) (place : ℕ) (e : Edge) (m : Node) (b : Batch) (next : ℕ) (parent low : Node) (made : List Node) → IsPushInto n place e m b next parent low made → buffer_size parent ≤ buffer_size n
 push_size n place e m b next _ _ _ (received parent inner r) = compacted_small n place (seen_by e b.count ∷ []) parent r

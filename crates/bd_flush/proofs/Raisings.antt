@@ -58,20 +58,20 @@ more_raised items level own way rest f changes pushed n (Err e) parts is low roo
 
 -- ---- over a child
 
-pub none_over : (level own : ℕ) (child parent : Change) (above : List Fetched) (changes : List Change) → level ≡ level_of child.node → own ≡ level_of parent.node → level < own → changes ≡ child ∷ parent ∷ [] → AreChangesOver child parent (reverse above) changes
-none_over level own child parent above changes is own_is more are = record { node = parent.node; rising = []; rise = is_above (omega arith); are = are }
+pub none_over : (level own : ℕ) (parent : Change) (above : List Fetched) (changes : List Change) → own ≡ level_of parent.node → level < own → changes ≡ parent ∷ [] → AreChangesOver level parent (reverse above) changes
+none_over level own parent above changes own_is more are = record { node = parent.node; rising = []; rise = is_above (omega arith); are = are }
 
-pub on_over : {V E : Type 0} (items : V → List Change) (level own : ℕ) (child parent : Change) (above : List Fetched) (pushed : List Change) (n : Node) (r : Result (Option V) E) → level ≡ level_of child.node → own ≡ level_of parent.node → own ≤ level
-    → pushed ≡ child ∷ record { id = parent.id; node = n } ∷ [] → n ≡ raised parent.node
+pub on_over : {V E : Type 0} (items : V → List Change) (level own : ℕ) (parent : Change) (above : List Fetched) (pushed : List Change) (n : Node) (r : Result (Option V) E) → own ≡ level_of parent.node → own ≤ level
+    → pushed ≡ record { id = parent.id; node = n } ∷ [] → n ≡ raised parent.node
     → IfOk r (λ found. MatchOption found (CannotRise (own + 1) (reverse above)) (λ all. AreRaised (own + 1) (reverse above) pushed (items all)))
-    → IfOk r (λ found. MatchOption found (CannotRiseOver (level_of child.node) parent.node (reverse above)) (λ all. AreChangesOver child parent (reverse above) (items all)))
-on_over items level own child parent above pushed n (Err e) is own_is low are same h = tt
-on_over items level own child parent above pushed n (Ok None) is own_is low are same h = (omega arith, subst (λ (i : ℕ). CannotRise (i + 1) (reverse above)) own_is h)
-on_over items level own child parent above pushed n (Ok (Some all)) is own_is low are same h = record {
+    → IfOk r (λ found. MatchOption found (CannotRiseOver level parent.node (reverse above)) (λ all. AreChangesOver level parent (reverse above) (items all)))
+on_over items level own parent above pushed n (Err e) own_is low are same h = tt
+on_over items level own parent above pushed n (Ok None) own_is low are same h = (omega arith, subst (λ (i : ℕ). CannotRise (i + 1) (reverse above)) own_is h)
+on_over items level own parent above pushed n (Ok (Some all)) own_is low are same h = record {
   node = raised parent.node;
   rising = h.rising;
   rise = rises_too h.rising (omega arith) (subst (λ (i : ℕ). IsRising (i + 1) (reverse above) h.rising) own_is h.rise);
   are =
       h.are
-      ∙ ap (λ (l : List Change). l ++ map raise h.rising) (are ∙ ap (λ (d : Node). child ∷ record { id = parent.id; node = d } ∷ []) same);
+      ∙ ap (λ (l : List Change). l ++ map raise h.rising) (are ∙ ap (λ (d : Node). record { id = parent.id; node = d } ∷ []) same);
 }

@@ -189,19 +189,6 @@ rising_once t x _ _ _ (rises level f fs rising most room rise) up =
       rising_once t f.id (level_of f.node.value + 1) fs rising rise parts.1,
     )
 
--- there are no more of them than levels
-pub rising_short : (t : Table) (x level : ℕ) (way rising : List Fetched) → t.level x ≤ level_limit → IsRising level way rising → IsWayUp t x way → length (map raise rising) + t.level x ≤ level_limit
-rising_short t x _ _ _ few (at_top level) up = omega arith
-rising_short t x _ _ _ few (high_enough level f fs high) up = omega arith
-rising_short t x _ _ _ few (rises level f fs rising most room rise) up =
-    let parts = way_link t x f fs up in
-    let lower : IsLower t (t.level f.id) x = link_lower t x f parts.0 in
-    let down : t.level x < t.level f.id = lower.lower in
-    let is : level_of f.node.value ≡ t.level f.id = parts.0.fetched.own.level_is in
-    let high : level_of f.node.value ≤ level_limit = level_high f.node.value parts.0.fetched.own.shape in
-    let rest : length (map raise rising) + t.level f.id ≤ level_limit = rising_short t f.id (level_of f.node.value + 1) fs rising (omega arith) rise parts.1 in
-    omega arith
-
 -- ---- of sound nodes
 
 -- a fetched node is changed

@@ -1,6 +1,6 @@
 -- A node that is put above its halves: the root that is split, or a child between its parent and its
 -- halves, where the nodes above rise.
-use Rattle.std.proofs.Common.{◌≡◌, ℕ, ◌+◌, ◌-◌, ◌^◌, ◌<◌, ◌≤◌, List, [], ◌∷◌, length, map, refl, sym, ap, subst, ◌∙◌, Option, Some, arith, inl, inr, IsSome, Result, Ok, Err, OnOk, ◌⊎◌}
+use Rattle.std.proofs.Common.{◌≡◌, ℕ, ◌+◌, ◌-◌, ◌^◌, ◌<◌, ◌≤◌, List, [], ◌∷◌, length, map, refl, sym, ap, subst, ◌∙◌, Option, None, Some, MatchOption, arith, inl, inr, IsSome, Result, Ok, Err, OnOk, ◌⊎◌}
 use Rattle.std.specs.Prelude.{slice_get}
 use Rattle.std.specs.List.{AllByRecursion}
 use Rattle.std.specs.Ordering.{is_lt}
@@ -9,6 +9,8 @@ use Rattle.std.proofs.lemmas.Option.{same_Some, none-some}
 use Rattle.bd_limits.specs.Limits.{key_limit, level_limit}
 use Rattle.bd_keys.specs.Keys.{IsKey, IsBelow, IsAtLeast, key_cmp}
 use Rattle.bd_message.specs.declared.fault.MapFault.{MapFault}
+use Rattle.bd_message.specs.declared.fault.MapFault.TheVariants.{Worn}
+use Rattle.bd_message.specs.declared.fault.Counter.TheVariants.{NextId}
 use Rattle.bd_message.specs.KeyMaps.{HasMapCause}
 use Rattle.bd_message.specs.Effect.{NodesAt}
 use Rattle.bd_message.specs.declared.fault.Counter.{Counter}
@@ -28,20 +30,21 @@ use Rattle.bd_node.proofs.Stepping.{by_given, no_some, given-old, after-none, gi
 use Rattle.bd_node.proofs.Edges.{less_lt, lt_is, lt_isnt, not_less_lt}
 use Rattle.bd_inner.specs.Halves.{IsHalf, AreHalves}
 use Rattle.bd_flush.specs.declared.fetching.Fetched.{Fetched}
-use Rattle.bd_flush.specs.Flushed.{IsFlushed, IsWornFor}
+use Rattle.bd_flush.specs.Flushed.{IsFlushed}
+use Rattle.bd_flush.specs.Made.{IsWornFor}
+use Rattle.bd_flush.proofs.Made.{no_ids}
 use Rattle.bd_flush.specs.Flushed.LeadsTo.{itself}
 use Rattle.bd_flush.specs.Children.{IsFetched, IsEdgeTo, IsContents}
 use Rattle.bd_flush.specs.Paths.{path_step}
-use Rattle.bd_flush.specs.Splits.{plain_edge, over_two, root_split, IsRootSplit, IsSplitRoot, IsRaised}
+use Rattle.bd_flush.specs.Splits.{plain_edge, over_two, over_step, IsRootSplit, IsRaised}
 use Rattle.bd_flush.specs.Raising.{raised, raise, IsWayUp, IsRising}
 use Rattle.bd_flush.specs.Raising.IsWayUp.{top, one_up}
 use Rattle.bd_flush.specs.Raising.IsRising.{at_top, high_enough, rises}
 use Rattle.bd_flush.specs.Between.{IsHardlyHigher}
 use Rattle.bd_message.proofs.Causes.{cause_weaker}
-use Rattle.bd_flush.proofs.Givens.{given_first, given_second}
 use Rattle.bd_flush.proofs.ChildSplits.{edge_named}
-use Rattle.bd_flush.proofs.PathSteps.{IsMadeUnder, IsUpper, IsPathStep, RisesByOne, given_child, each_change, has_made, has_path, made_new, path_child, path_old, both_ways, IsPathStepOf, path_may, path_in_place, path_flushed, path_worn, root_rises, root_stays}
-use Rattle.bd_flush.proofs.RisingSteps.{raised_size, raised_times, way_private, rising_rises, rising_uppers, rising_once, rising_short, IsChangedBy, changed_more, all_changed, has_room, rising_of}
+use Rattle.bd_flush.proofs.PathSteps.{IsMadeUnder, IsUpper, IsPathStep, RisesByOne, given_child, each_change, has_made, has_path, made_new, path_child, path_old, both_ways, IsPathStepOf, path_may, path_in_place, path_flushed, root_rises, root_stays}
+use Rattle.bd_flush.proofs.RisingSteps.{raised_size, raised_times, way_private, rising_rises, rising_uppers, rising_once, IsChangedBy, changed_more, all_changed, has_room, rising_of}
 
 -- ---- a node over two others
 
@@ -294,102 +297,15 @@ pub given_top : (t : Table) (c : ℕ) (n first : Node) (pivot : List ℕ) (secon
 given_top t c n first pivot second way rising h =
     given_child t c (the_top t n pivot) (map raise rising) (both first second) (h.table.below c h.kept)
 
-rising_stand : (nodes : Nodes) (level : ℕ) (way rising : List Fetched) → IsRising level way rising → AllByRecursion (IsContents nodes) way → AllByRecursion (IsContents nodes) rising
-rising_stand nodes level _ _ (at_top _) there = tt
-rising_stand nodes level _ _ (high_enough _ f fs high) there = tt
-rising_stand nodes level _ _ (rises _ f fs rising under room more) there = (there.0, rising_stand nodes (level_of f.node.value + 1) fs rising more there.1)
-
--- each other changed node is the one that was there, a level higher
-raised_is : (nodes : Nodes) (t : Table) (c : ℕ) (n first : Node) (pivot : List ℕ) (second : Node) (way rising : List Fetched) → IsSplitOf nodes t c n first pivot second way rising
-    → (id : ℕ) (m o : Node) → id < t.next → given t.next (the_step t c n first pivot second rising) id ≡ Some m → (id ≡ c → ⊥) → nodes id ≡ Some o → m ≡ raised o
-raised_is nodes t c n first pivot second way rising h id m o low some other old =
-    each_change (λ (d : Change). (d.id ≡ c → ⊥) → (o : Node) → nodes d.id ≡ Some o → d.node ≡ raised o) t c (the_top t n pivot) (map raise rising) (both first second) id m (λ apart o old. absurd (apart refl))
-    (each_raise (λ (d : Change). (d.id ≡ c → ⊥) → (o : Node) → nodes d.id ≡ Some o → d.node ≡ raised o) rising
-    (each_weaker (λ (f : Fetched). nodes f.id ≡ Some f.node.value) (λ (f : Fetched). (f.id ≡ c → ⊥) → (o : Node) → nodes f.id ≡ Some o → raised f.node.value ≡ raised o)
-    (λ f own apart o old. ap raised (same_Some f.node.value o (sym own ∙ old))) rising (rising_stand nodes (level_of n + 1) way rising h.split.rise h.stand)))
-    low some other o old
-
 -- a node of the way is above the one that it names
 pub up_lower : (t : Table) (f : Fetched) (place c : ℕ) (e : Edge) → IsFetched t f → IsEdgeTo f.node.value place c e → IsLower t (t.level f.id) c
 up_lower t f place c e fetched way = named_has (IsLower t (t.level f.id)) c (names f.node.value) fetched.own.lower (edge_named f.node.value place c e fetched.own.shape way)
 
--- what a node that stays names stays, if it isn't the one that is put above its halves
-named_stays : (nodes : Nodes) (t : Table) (c : ℕ) (n first : Node) (pivot : List ℕ) (second : Node) (way rising : List Fetched) (new : Nodes) (u : Table) → IsMade nodes t c n first pivot second way rising new u
-    → (id : ℕ) (o : Node) → nodes id ≡ Some o → (id ≡ c → ⊥) → IsKept u id → (x : ℕ) → 1 ≤ times o x → IsKept u x
-named_stays nodes t c n first pivot second way rising new u h id o old other kept x one =
-    let step : Step = the_step t c n first pivot second rising in
-    let low : id < t.next = h.of.sound.table.below id (kept_there nodes t h.of.sound id o old) in
-    by_given (IsKept u x) (given t.next step id)
-    (λ none. (named_lower new u h.committed.sound id o (h.committed.stays id kept ∙ after-none nodes t step id none ∙ old) x one).kept)
-    (λ m some. (let is : m ≡ raised o = raised_is nodes t c n first pivot second way rising h.of id m o low some other old in
-    (named_lower new u h.committed.sound id m (given_stays nodes t step new u h.committed id m kept some) x (omega (arith, ap (λ (d : Node). times d x) is, raised_times o x))).kept))
-
--- the nodes of the way stay
-way_stays : (nodes : Nodes) (t : Table) (c : ℕ) (n first : Node) (pivot : List ℕ) (second : Node) (way rising : List Fetched) (new : Nodes) (u : Table) → IsMade nodes t c n first pivot second way rising new u
-    → (d : ℕ) (up : List Fetched) → IsWayUp t d up → AllByRecursion (IsContents nodes) up → t.level c ≤ t.level d → IsKept u d
-way_stays nodes t c n first pivot second way rising new u h _ _ top there high = root_stays t c (the_top t n pivot) (map raise rising) (both first second) u h.after
-way_stays nodes t c n first pivot second way rising new u h _ _ (one_up d place f e fs fetched edge once up) there high =
-    let lower : t.level d < t.level f.id = (up_lower t f place d e fetched edge).lower in
-    named_stays nodes t c n first pivot second way rising new u h f.id f.node.value there.0 (λ same. (let z : t.level f.id ≡ t.level c = ap t.level same in omega arith))
-    (way_stays nodes t c n first pivot second way rising new u h f.id fs up there.1 (omega arith)) d (edge_named f.node.value place d e fetched.own.shape edge)
-
-node_stays : (nodes : Nodes) (t : Table) (c : ℕ) (n first : Node) (pivot : List ℕ) (second : Node) (way rising : List Fetched) (new : Nodes) (u : Table) → IsMade nodes t c n first pivot second way rising new u → IsKept u c
-node_stays nodes t c n first pivot second way rising new u h = way_stays nodes t c n first pivot second way rising new u h c way h.of.split.up h.of.stand (omega arith)
-
-pub top_there : (nodes : Nodes) (t : Table) (c : ℕ) (n first : Node) (pivot : List ℕ) (second : Node) (way rising : List Fetched) (new : Nodes) (u : Table) → IsMade nodes t c n first pivot second way rising new u → new c ≡ Some (the_top t n pivot)
-top_there nodes t c n first pivot second way rising new u h =
-    given_stays nodes t (the_step t c n first pivot second rising) new u h.committed c (the_top t n pivot) (node_stays nodes t c n first pivot second way rising new u h) (given_top t c n first pivot second way rising h.of.split)
-
-made_stays : (nodes : Nodes) (t : Table) (c : ℕ) (n first : Node) (pivot : List ℕ) (second : Node) (way rising : List Fetched) (new : Nodes) (u : Table) → IsMade nodes t c n first pivot second way rising new u → (id : ℕ) → 1 ≤ times (the_top t n pivot) id → IsKept u id
-made_stays nodes t c n first pivot second way rising new u h id one =
-    (named_lower new u h.committed.sound c (the_top t n pivot) (top_there nodes t c n first pivot second way rising new u h) id one).kept
-
-pub lower_there : (nodes : Nodes) (t : Table) (c : ℕ) (n first : Node) (pivot : List ℕ) (second : Node) (way rising : List Fetched) (new : Nodes) (u : Table) → IsMade nodes t c n first pivot second way rising new u → new t.next ≡ Some first
-lower_there nodes t c n first pivot second way rising new u h =
-    given_stays nodes t (the_step t c n first pivot second rising) new u h.committed t.next first
-    (made_stays nodes t c n first pivot second way rising new u h t.next (times_first (level_of n + 1) pivot t.next (t.next + 1)))
-    (given_first t.next first second (record { id = c; node = the_top t n pivot } ∷ map raise rising) t.root)
-
-pub upper_there : (nodes : Nodes) (t : Table) (c : ℕ) (n first : Node) (pivot : List ℕ) (second : Node) (way rising : List Fetched) (new : Nodes) (u : Table) → IsMade nodes t c n first pivot second way rising new u → new (t.next + 1) ≡ Some second
-upper_there nodes t c n first pivot second way rising new u h =
-    given_stays nodes t (the_step t c n first pivot second rising) new u h.committed (t.next + 1) second
-    (made_stays nodes t c n first pivot second way rising new u h (t.next + 1) (times_second (level_of n + 1) pivot t.next (t.next + 1)))
-    (given_second t.next first second (record { id = c; node = the_top t n pivot } ∷ map raise rising) t.root)
-
--- and those that rise
-risen_there : (nodes : Nodes) (t : Table) (c : ℕ) (n first : Node) (pivot : List ℕ) (second : Node) (way rising : List Fetched) (new : Nodes) (u : Table) → IsMade nodes t c n first pivot second way rising new u
-    → (level d : ℕ) (up some : List Fetched) → IsWayUp t d up → AllByRecursion (IsContents nodes) up → t.level c ≤ t.level d → IsRising level up some
-    → AllByRecursion (λ (f : Fetched). IsSome (given t.next (the_step t c n first pivot second rising) f.id)) some → AllByRecursion (λ (f : Fetched). new f.id ≡ Some (raised f.node.value)) some
-risen_there nodes t c n first pivot second way rising new u h level d _ _ up there high (at_top _) given_too = tt
-risen_there nodes t c n first pivot second way rising new u h level d _ _ up there high (high_enough _ f fs enough) given_too = tt
-risen_there nodes t c n first pivot second way rising new u h level _ _ _ (one_up d place _ e _ fetched edge once up) there high (rises _ f fs more under room rise) given_too =
-    let step : Step = the_step t c n first pivot second rising in
-    let lower : t.level d < t.level f.id = (up_lower t f place d e fetched edge).lower in
-    let other : f.id ≡ c → ⊥ = λ same. (let z : t.level f.id ≡ t.level c = ap t.level same in omega arith) in
-    let low : f.id < t.next = h.of.split.table.below f.id fetched.kept in (
-      by_given (new f.id ≡ Some (raised f.node.value)) (given t.next step f.id)
-          (λ none. absurd (no_some (subst (λ (o : Option Node). IsSome o) none given_too.0)))
-          (λ m some. (let is : m ≡ raised f.node.value = raised_is nodes t c n first pivot second way rising h.of f.id m f.node.value low some other there.0 in
-          given_stays nodes t step new u h.committed f.id m (way_stays nodes t c n first pivot second way rising new u h f.id fs up there.1 (omega arith)) some ∙ ap (λ (d : Node). Some d) is)),
-      risen_there nodes t c n first pivot second way rising new u h (level_of f.node.value + 1) f.id fs more up there.1 (omega arith) rise given_too.1,
-    )
-
-pub all_risen : (nodes : Nodes) (t : Table) (c : ℕ) (n first : Node) (pivot : List ℕ) (second : Node) (way rising : List Fetched) (new : Nodes) (u : Table) → IsMade nodes t c n first pivot second way rising new u → AllByRecursion (λ (f : Fetched). new f.id ≡ Some (raised f.node.value)) rising
-all_risen nodes t c n first pivot second way rising new u h =
-    risen_there nodes t c n first pivot second way rising new u h (level_of n + 1) c way rising h.of.split.up h.of.stand (omega arith) h.of.split.rise (all_given t c n first pivot second way rising h.of.split)
-
--- ---- a counter that is worn
-
-pub split_worn : (t : Table) (c : ℕ) (n first : Node) (pivot : List ℕ) (second : Node) (way rising : List Fetched) → IsSplit t c n first pivot second way rising → (counter : Counter) → IsWornBy t (the_step t c n first pivot second rising) counter → IsWornFor t counter
-split_worn t c n first pivot second way rising h counter worn =
-    let few : length (map raise rising) + t.level c ≤ level_limit = rising_short t c (level_of n + 1) way rising (let e : level_of n ≡ t.level c = h.own.level_is in let l : level_of n < level_limit = h.level in omega arith) h.rise h.up in
-    path_worn t c (the_top t n pivot) (map raise rising) (both first second) (over_path t c n first pivot second way rising h) (omega arith) (omega arith) counter worn
-
 -- ---- the root's split
 
-root_raised : (t : Table) (n first : Node) (pivot : List ℕ) (second : Node) (u : Table) → IsSplit t t.root n first pivot second [] [] → IsTableAfter t (root_split t.root t.next (level_of n) first pivot second) u → IsRaised t u
+root_raised : (t : Table) (n first : Node) (pivot : List ℕ) (second : Node) (u : Table) → IsSplit t t.root n first pivot second [] [] → IsTableAfter t (over_step t.root t.next t.root (level_of n + 1) first pivot second []) u → IsRaised t u
 root_raised t n first pivot second u h after =
-    let step : Step = root_split t.root t.next (level_of n) first pivot second in
+    let step : Step = over_step t.root t.next t.root (level_of n + 1) first pivot second [] in
     let is : given t.next step t.root ≡ Some (over_two (level_of n + 1) pivot t.next (t.next + 1)) = given_top t t.root n first pivot second [] [] h in
     record {
       root = after.root;
@@ -408,7 +324,7 @@ pub record IsToSplit (t : Table) (n : Node) (step : Step) : Type 0 where
   pub own : IsNodeOf t (t.level t.root) n
   pub level : level_of n < level_limit
   pub next : t.next + 1 < 2 ^ 64
-  pub split : IsRootSplit t.root t.next n step
+  pub split : IsRootSplit t n step
 
 to_split : (t : Table) (n : Node) (step : Step) (h : IsToSplit t n step) → IsSplit t t.root n h.split.first h.split.pivot h.split.second [] []
 to_split t n step h = record { table = h.table; up = top; kept = h.table.root; own = h.own; level = h.level; next = h.next; halves = h.split.halves; rise = at_top (level_of n + 1) }
@@ -435,39 +351,47 @@ pub on_flushed : {T E : Type 0} (nodes : Nodes) (t : Table) (n : Node) (step : S
 on_flushed nodes t n step new u (Ok x) h s there after committed = flushed nodes t t.root n h.split.first h.split.pivot h.split.second [] [] new u (made_of nodes t n step new u h s there after committed)
 on_flushed nodes t n step new u (Err e) h s there after committed = tt
 
-pub on_split : {T E : Type 0} (nodes : Nodes) (t : Table) (n : Node) (step : Step) (new : Nodes) (u : Table) (r : Result T E) → IsToSplit t n step → IsSound nodes t → nodes t.root ≡ Some n
-    → OnOk r (IsTableAfter t step u) → OnOk r (IsCommitted nodes t step new u) → OnOk r (IsSplitRoot t n new)
-on_split nodes t n step new u (Ok x) h s there after committed =
-    let made = made_of nodes t n step new u h s there after committed in
-    let first : Node = h.split.first in
-    let pivot : List ℕ = h.split.pivot in
-    let second : Node = h.split.second in
-    record {
-      first = first;
-      pivot = pivot;
-      second = second;
-      halves = h.split.halves;
-      top = top_there nodes t t.root n first pivot second [] [] new u made;
-      lower = lower_there nodes t t.root n first pivot second [] [] new u made;
-      upper = upper_there nodes t t.root n first pivot second [] [] new u made;
-    }
-on_split nodes t n step new u (Err e) h s there after committed = tt
-
 pub on_raised : {T E : Type 0} (t : Table) (n : Node) (step : Step) (u : Table) (r : Result T E) → IsToSplit t n step → OnOk r (IsTableAfter t step u) → OnOk r (IsRaised t u)
 on_raised t n step u (Ok x) h after =
     root_raised t n h.split.first h.split.pivot h.split.second u (to_split t n step h) (subst (λ (q : Step). IsTableAfter t q u) h.split.is after)
 on_raised t n step u (Err e) h after = tt
 
-pub on_worn : {T : Type 0} (before now : ℕ) (bad : ℕ → Type 0) (t : Table) (n : Node) (step : Step) (r : Result T MapFault) → IsToSplit t n step → HasMapCause before now bad (IsWornBy t step) r → HasMapCause before now bad (IsWornFor t) r
-on_worn before now bad t n step r h cause =
-    cause_weaker before now bad (IsWornBy t step) (IsWornFor t)
-    (λ counter worn. split_worn t t.root n h.split.first h.split.pivot h.split.second [] [] (to_split t n step h) counter (subst (λ (q : Step). IsWornBy t q counter) h.split.is worn)) r cause
+-- the same step
+pub over_same : (root r next n id level l : ℕ) (first : Node) (pivot : List ℕ) (second : Node) (others o : List Change) → root ≡ r → next ≡ n → level ≡ l → others ≡ o → over_step root next id level first pivot second others ≡ over_step r n id l first pivot second o
+over_same root r next n id level l first pivot second others o root_is next_is level_is others_are =
+    ap (λ (x : ℕ). over_step x next id level first pivot second others) root_is
+    ∙ ap (λ (x : ℕ). over_step r x id level first pivot second others) next_is
+    ∙ ap (λ (x : ℕ). over_step r n id x first pivot second others) level_is
+    ∙ ap (λ (x : List Change). over_step r n id l first pivot second x) others_are
 
-pub is_to_split : (t : Table) (n : Node) (step : Step) (root next : ℕ) → IsTable t → IsNodeOf t (t.level t.root) n → level_of n < level_limit → root ≡ t.root → next ≡ t.next → next + 1 < 2 ^ 64 → IsRootSplit root next n step → IsToSplit t n step
-is_to_split t n step root next table own level same_root same_next room split = record {
-  table = table;
-  own = own;
-  level = level;
-  next = omega arith;
-  split = subst (λ (i : ℕ). IsRootSplit t.root i n step) same_next (subst (λ (r : ℕ). IsRootSplit r next n step) same_root split);
-}
+-- the step as it is found
+pub over_found : (root next id level : ℕ) (first : Node) (pivot : List ℕ) (second : Node) (others : List Change) (found : Option Step) (step : Step) → found ≡ Some step
+    → MatchOption found (2 ^ 64 ≤ next + 1) (λ s. (s ≡ over_step root next id level first pivot second others) × (next + 1 < 2 ^ 64)) → (step ≡ over_step root next id level first pivot second others) × (next + 1 < 2 ^ 64)
+over_found root next id level first pivot second others found step is h =
+    subst (λ (o : Option Step). MatchOption o (2 ^ 64 ≤ next + 1) (λ s. (s ≡ over_step root next id level first pivot second others) × (next + 1 < 2 ^ 64))) is h
+
+pub over_none : (next : ℕ) (P : Step → Type 0) (found : Option Step) → found ≡ None → MatchOption found (2 ^ 64 ≤ next + 1) P → 2 ^ 64 ≤ next + 1
+over_none next P found is h = subst (λ (o : Option Step). MatchOption o (2 ^ 64 ≤ next + 1) P) is h
+
+-- the root's, of its halves
+pub root_step : (t : Table) (n first : Node) (pivot : List ℕ) (second : Node) (step : Step) (root next level : ℕ) (others : List Change) → level ≡ level_of n → root ≡ t.root → next ≡ t.next → others ≡ [] → AreHalves n first pivot second → step ≡ over_step root next root (level + 1) first pivot second others → IsRootSplit t n step
+root_step t n first pivot second step root next level others level_is root_is next_is none halves is =
+    record {
+      first = first;
+      pivot = pivot;
+      second = second;
+      halves = halves;
+      is =
+          is
+          ∙ over_same root t.root next t.next root (level + 1) (level_of n + 1) first pivot second others [] root_is next_is (ap (λ (l : ℕ). l + 1) level_is) none
+          ∙ ap (λ (i : ℕ). over_step t.root t.next i (level_of n + 1) first pivot second []) root_is;
+    }
+
+-- there are no ids for it
+pub root_full : {T : Type 0} (count : ℕ) (bad : ℕ → Type 0) (t : Table) (n first : Node) (pivot : List ℕ) (second : Node) (next : ℕ) → next ≡ t.next → AreHalves n first pivot second → 2 ^ 64 ≤ next + 1 → HasMapCause {T = T} count count bad (IsWornFor (IsRootSplit t n) (t.level t.root ≡ level_limit) t) (Err (Worn NextId))
+root_full count bad t n first pivot second next next_is halves full =
+    no_ids count bad (IsRootSplit t n) (t.level t.root ≡ level_limit) t (over_step t.root t.next t.root (level_of n + 1) first pivot second [])
+    (record { first = first; pivot = pivot; second = second; halves = halves; is = refl }) (omega arith)
+
+pub is_to_split : (t : Table) (n : Node) (step : Step) → IsTable t → IsNodeOf t (t.level t.root) n → level_of n < level_limit → t.next + 1 < 2 ^ 64 → IsRootSplit t n step → IsToSplit t n step
+is_to_split t n step table own level room split = record { table = table; own = own; level = level; next = room; split = split }

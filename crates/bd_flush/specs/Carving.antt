@@ -4,7 +4,6 @@ use Rattle.bd_message.specs.declared.message.Message.{Message}
 use Rattle.bd_node.specs.declared.node.Edge.{Edge}
 use Rattle.bd_node.specs.declared.node.Node.{Node}
 use Rattle.bd_node.specs.declared.node.Step.{Step}
-use Rattle.bd_node.specs.Meaning.{Nodes}
 use Rattle.bd_node.specs.Shape.{IsPending}
 use Rattle.bd_node.specs.Tables.{Table}
 use Rattle.bd_inner.specs.Carving.{IsCarved}
@@ -71,11 +70,3 @@ pub record IsCarveStep (t : Table) (parent : Fetched) (place : ℕ) (step : Step
   pub node : Node
   pub carved : IsCarvedFor t.level parent.node.value place node
   pub is : step ≡ change_step t.root parent.id node
-
--- the Goto is carved out of the node, and no node is made
-pub record IsCarvedAt (t : Table) (parent : Fetched) (place : ℕ) (new : Nodes) (u : Table) : Type 0
-  where
-    pub node : Node
-    pub carved : IsCarvedFor t.level parent.node.value place node
-    pub parent_is : new parent.id ≡ Some node
-    pub next : u.next ≡ t.next

@@ -139,20 +139,6 @@ pub record IsChildStep (root next : ℕ) (parent : Fetched) (place : ℕ) (child
   pub into : IsSplitInto parent.node.value place edge child.node.value next node half made
   pub is : step ≡ child_step root parent.id node child.id half made
 
--- the child is split: it is one half from now on, and the other is made if it has keys of the edge
-pub record IsHalved (t : Table) (parent : Fetched) (place : ℕ) (child : Fetched) (new : Nodes)
-    (u : Table) : Type 0 where
-  pub edge : Edge
-  pub here : IsEdgeAt parent.node.value place edge
-  pub node : Node
-  pub half : Node
-  pub made : List Node
-  pub into : IsSplitInto parent.node.value place edge child.node.value t.next node half made
-  pub parent_is : new parent.id ≡ Some node
-  pub child_is : new child.id ≡ Some half
-  pub made_are : (i : ℕ) (m : Node) → slice_get made i ≡ Some m → new (t.next + i) ≡ Some m
-  pub next : u.next ≡ t.next + length made
-
 -- the contents of a fetched node
 abbrev pub IsContents : Nodes → Fetched → Type 0
 IsContents nodes f = nodes f.id ≡ Some f.node.value

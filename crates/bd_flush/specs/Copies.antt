@@ -45,14 +45,3 @@ pub record IsCopyStep (root next : ℕ) (parent : Fetched) (place : ℕ) (copy :
   pub node : Node
   pub into : IsRedirected parent.node.value place edge next node
   pub is : step ≡ path_step root parent.id node [] (copy ∷ [])
-
--- the edge asks the copy, with nothing in front of a key
-pub record IsCopyPut (t : Table) (parent : Fetched) (place : ℕ) (copy : Node) (new : Nodes)
-    (u : Table) : Type 0 where
-  pub edge : Edge
-  pub here : IsEdgeAt parent.node.value place edge
-  pub node : Node
-  pub into : IsRedirected parent.node.value place edge t.next node
-  pub parent_is : new parent.id ≡ Some node
-  pub copy_is : new t.next ≡ Some copy
-  pub next : u.next ≡ t.next + 1

@@ -1,8 +1,5 @@
--- What one step of a flush leaves, and why it does nothing.
+-- What one step of a flush leaves.
 use Rattle.std.specs.Prelude.{◌≡◌, ℕ, ◌+◌, ◌^◌, ◌≤◌, ◌⊎◌, List, Some, IsTrue}
-use Rattle.bd_limits.specs.Limits.{level_limit}
-use Rattle.bd_message.specs.declared.fault.Counter.{Counter}
-use Rattle.bd_message.specs.declared.fault.Counter.TheVariants.{Count, NextId, Level, Refs, Epoch, Flushes}
 use Rattle.bd_node.specs.declared.node.Node.{Node}
 use Rattle.bd_node.specs.Nodes.{times}
 use Rattle.bd_node.specs.Meaning.{Nodes, at}
@@ -36,13 +33,3 @@ pub record IsFlushed (nodes : Nodes) (t : Table) (new : Nodes) (u : Table) : Typ
   pub touched : (id : ℕ) → IsTrue (u.touched id) → IsTrue (t.touched id) ⊎ LeadsTo nodes last id
   pub low : t.level t.root ≤ u.level u.root
   pub high : u.level u.root ≤ t.level t.root + 1
-
--- a counter that has no room for a step: ids for four nodes, a level above the root's, more
--- references to a node
-abbrev pub IsWornFor : Table → Counter → Type 0
-IsWornFor t NextId = 2 ^ 64 ≤ t.next + 4
-IsWornFor t Level = t.level t.root ≡ level_limit
-IsWornFor t Refs = (id : ℕ) × (2 ^ 63 ≤ t.count id)
-IsWornFor t Count = ⊥
-IsWornFor t Epoch = ⊥
-IsWornFor t Flushes = ⊥

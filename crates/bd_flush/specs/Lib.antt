@@ -1,4 +1,5 @@
 pub mod Pending
+pub mod Made
 pub mod Flushed
 pub mod Paths
 pub mod GoingDown

@@ -23,14 +23,13 @@ use Rattle.bd_leaf.specs.Leaves.{entries_size, IsReceived}
 use Rattle.bd_flush.specs.declared.fetching.Fetched.{Fetched}
 use Rattle.bd_flush.specs.declared.children.Parts.{Parts}
 use Rattle.bd_node.specs.declared.node.Change.{Change}
-use Rattle.bd_flush.specs.declared.pushing.Plan.{Plan}
-use Rattle.bd_flush.specs.declared.pushing.Plan.TheVariants.{Ready, NoId, NoLevel}
+use Rattle.bd_flush.specs.declared.splitting.Plan.{Plan}
+use Rattle.bd_flush.specs.declared.splitting.Plan.TheVariants.{Ready, NoId, NoLevel}
 use Rattle.bd_flush.specs.declared.children.Halving.{Halving}
 use Rattle.bd_flush.specs.declared.children.Halving.TheVariants.{Short, Long}
 use Rattle.bd_flush.specs.Children.{IsFetched, IsWayTo, IsSplitInto, IsLongIn, child_step}
-use Rattle.bd_flush.specs.Paths.{path_step}
 use Rattle.bd_flush.specs.GoingDown.{GoesDown}
-use Rattle.bd_flush.specs.Splits.{over_two}
+use Rattle.bd_flush.specs.Splits.{over_step, IsPlanOf}
 use Rattle.bd_flush.specs.Raising.{raised, raise, IsRaisedOver, CannotRiseOver}
 
 -- the edge after its child has got so many more messages
@@ -151,22 +150,6 @@ pub record IsPushStep (root next : ℕ) (parent : Fetched) (place : ℕ) (child 
   pub into : IsPushInto parent.node.value place edge child.node.value batch next node half made
   pub is : step ≡ child_step root parent.id node child.id half made
 
--- messages have gone down to the child
-pub record IsPushed (t : Table) (parent : Fetched) (place : ℕ) (child : Fetched) (new : Nodes)
-    (u : Table) : Type 0 where
-  pub edge : Edge
-  pub here : IsEdgeAt parent.node.value place edge
-  pub batch : Batch
-  pub moved : IsEdgeBatch parent.node.value place edge batch
-  pub node : Node
-  pub half : Node
-  pub made : List Node
-  pub into : IsPushInto parent.node.value place edge child.node.value batch t.next node half made
-  pub parent_is : new parent.id ≡ Some node
-  pub child_is : new child.id ≡ Some half
-  pub made_are : (i : ℕ) (m : Node) → slice_get made i ≡ Some m → new (t.next + i) ≡ Some m
-  pub next : u.next ≡ t.next + length made
-
 -- ---- to a leaf that becomes a node over two
 
 -- a node `n` after messages have gone down to a leaf of its own, the made halves of which are named by
@@ -191,25 +174,8 @@ pub record IsPushBetweenStep (root next : ℕ) (way : List Fetched) (parent : Fe
   pub node : Node
   pub rising : List Fetched
   pub into : IsPushBetween parent.node.value place child.node.value way first pivot second node rising
-  pub ids : next + 1 < 2 ^ 64
-  pub is : step ≡ path_step root child.id (over_two 1 pivot next (next + 1))
-      (record { id = parent.id; node = node } ∷ map raise rising) (first ∷ second ∷ [])
-
--- messages have gone down to a leaf, which is a node over two now
-pub record IsPushedBetween (t : Table) (way : List Fetched) (parent : Fetched) (place : ℕ)
-    (child : Fetched) (new : Nodes) (u : Table) : Type 0 where
-  pub first : Node
-  pub pivot : List ℕ
-  pub second : Node
-  pub node : Node
-  pub rising : List Fetched
-  pub into : IsPushBetween parent.node.value place child.node.value way first pivot second node rising
-  pub parent_is : new parent.id ≡ Some node
-  pub child_is : new child.id ≡ Some (over_two 1 pivot t.next (t.next + 1))
-  pub first_is : new t.next ≡ Some first
-  pub second_is : new (t.next + 1) ≡ Some second
-  pub risen : AllByRecursion (λ (f : Fetched). new f.id ≡ Some (raised f.node.value)) rising
-  pub next : u.next ≡ t.next + 2
+  pub is : step ≡ over_step root next child.id 1 first pivot second
+      (record { id = parent.id; node = node } ∷ map raise rising)
 
 -- a push by one commit, with a node between or without
 abbrev pub IsSomePush : ℕ → ℕ → List Fetched → Fetched → ℕ → Fetched → Step → Type 0
@@ -240,21 +206,22 @@ pub record IsStepOver (root next : ℕ) (way : List Fetched) (parent : Change) (
   pub node : Node
   pub rising : List Fetched
   pub rise : IsRaisedOver 1 parent.node way node rising
-  pub ids : next + 1 < 2 ^ 64
-  pub is : step ≡ path_step root c (over_two 1 pivot next (next + 1))
-      (record { id = parent.id; node = node } ∷ map raise rising) (first ∷ second ∷ [])
+  pub is : step ≡ over_step root next c 1 first pivot second
+      (record { id = parent.id; node = node } ∷ map raise rising)
 
 -- such a step, or why there is none
 abbrev pub IsPlanOver : ℕ → ℕ → List Fetched → Change → ℕ → Node → List ℕ → Node → Plan → Type 0
-IsPlanOver root next way parent c first pivot second (Ready step) =
-    IsStepOver root next way parent c first pivot second step
-IsPlanOver root next way parent c first pivot second NoId = 2 ^ 64 ≤ next + 1
-IsPlanOver root next way parent c first pivot second NoLevel = CannotRiseOver 1 parent.node way
+IsPlanOver root next way parent c first pivot second plan =
+    IsPlanOf (IsStepOver root next way parent c first pivot second) next
+    (CannotRiseOver 1 parent.node way) plan
 
--- the step of a push, or why there is none
+-- the step of a push, for which there are ids, or why there is none
 abbrev pub IsPlan : ℕ → ℕ → List Fetched → Fetched → ℕ → Fetched → Plan → Type 0
-IsPlan root next way parent place child (Ready step) = IsSomePush root next way parent place child step
-IsPlan root next way parent place child NoId = 2 ^ 64 ≤ next + 1
+IsPlan root next way parent place child (Ready step) =
+    IsPushStep root next parent place child step
+    ⊎ (IsPushBetweenStep root next way parent place child step × (next + 1 < 2 ^ 64))
+IsPlan root next way parent place child NoId =
+    (step : Step) × IsPushBetweenStep root next way parent place child step × (2 ^ 64 ≤ next + 1)
 IsPlan root next way parent place child NoLevel =
     IsHighPush parent.node.value place child.node.value way
 
@@ -304,15 +271,3 @@ pub record IsNewStep (root next : ℕ) (parent : Fetched) (place : ℕ) (step : 
   pub entries : List Entry
   pub into : IsNewLeaf parent.node.value place edge next node entries
   pub is : step ≡ leaf_step root parent.id node entries
-
--- messages have gone down to a new leaf
-pub record IsPushedNew (t : Table) (parent : Fetched) (place : ℕ) (new : Nodes) (u : Table) : Type 0
-  where
-    pub edge : Edge
-    pub here : IsEdgeAt parent.node.value place edge
-    pub node : Node
-    pub entries : List Entry
-    pub into : IsNewLeaf parent.node.value place edge t.next node entries
-    pub parent_is : new parent.id ≡ Some node
-    pub leaf_is : new t.next ≡ Some (Leaf entries)
-    pub next : u.next ≡ t.next + 1

@@ -58,13 +58,13 @@ pub data IsRaisedOver (level : ℕ) (n : Node) (way : List Fetched) : Node → L
     rises_too : (rising : List Fetched) → level_of n ≤ level → IsRising (level_of n + 1) way rising
         → IsRaisedOver level n way (raised n) rising
 
--- the changes of a child, of the node above it, and of those above that rise
-pub record AreChangesOver (child parent : Change) (way : List Fetched) (all : List Change) : Type 0
-  where
-    pub node : Node
-    pub rising : List Fetched
-    pub rise : IsRaisedOver (level_of child.node) parent.node way node rising
-    pub are : all ≡ child ∷ record { id = parent.id; node = node } ∷ map raise rising
+-- the changes of a node over a child that gets this level, and of those above that rise
+pub record AreChangesOver (level : ℕ) (parent : Change) (way : List Fetched) (all : List Change)
+    : Type 0 where
+  pub node : Node
+  pub rising : List Fetched
+  pub rise : IsRaisedOver level parent.node way node rising
+  pub are : all ≡ record { id = parent.id; node = node } ∷ map raise rising
 
 -- a node that has to rise over a child that gets this level, and one above it that cannot
 abbrev pub CannotRiseOver : ℕ → Node → List Fetched → Type 0

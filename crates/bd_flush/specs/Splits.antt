@@ -1,14 +1,16 @@
 -- Nodes that are split.
-use Rattle.std.specs.Prelude.{◌≡◌, ℕ, ◌+◌, List, [], ◌∷◌, Some}
+use Rattle.std.specs.Prelude.{◌≡◌, ℕ, ◌+◌, ◌^◌, ◌<◌, ◌≤◌, List, [], ◌∷◌, Some}
 use Rattle.bd_node.specs.declared.node.Edge.{Edge}
 use Rattle.bd_node.specs.declared.node.Node.{Node}
 use Rattle.bd_node.specs.declared.node.Node.TheVariants.{Inner}
 use Rattle.bd_node.specs.declared.node.Change.{Change}
 use Rattle.bd_node.specs.declared.node.Step.{Step}
 use Rattle.bd_node.specs.Nodes.{level_of}
-use Rattle.bd_node.specs.Meaning.{Nodes}
+use Rattle.bd_node.specs.Tables.{Table}
 use Rattle.bd_node.specs.Tables.{Table}
 use Rattle.bd_inner.specs.Halves.{AreHalves}
+use Rattle.bd_flush.specs.declared.splitting.Plan.{Plan}
+use Rattle.bd_flush.specs.declared.splitting.Plan.TheVariants.{Ready, NoId, NoLevel}
 use Rattle.bd_flush.specs.Paths.{path_step}
 
 -- an edge to a child that is asked at the same key, over an empty buffer
@@ -21,33 +23,25 @@ abbrev pub over_two : ℕ → List ℕ → ℕ → ℕ → Node
 over_two level pivot first second =
     Inner level (plain_edge [] first ∷ plain_edge pivot second ∷ []) []
 
--- the step that puts a node above its halves, which are made, and makes other changes
+-- the step that puts a node of a level above its halves, which are made, and makes other changes
 abbrev pub over_step : ℕ → ℕ → ℕ → ℕ → Node → List ℕ → Node → List Change → Step
 over_step root next id level first pivot second others =
-    path_step root id (over_two (level + 1) pivot next (next + 1)) others (first ∷ second ∷ [])
+    path_step root id (over_two level pivot next (next + 1)) others (first ∷ second ∷ [])
 
--- the step that puts the root above its halves
-abbrev pub root_split : ℕ → ℕ → ℕ → Node → List ℕ → Node → Step
-root_split root next level first pivot second =
-    over_step root next root level first pivot second []
+-- one of these steps, for which there are two ids, or why there is none: there are no ids for it, or,
+-- which is `high`, a node has to rise above level 1,000
+abbrev pub IsPlanOf : (Step → Type 0) → ℕ → Type 0 → Plan → Type 0
+IsPlanOf IsOne next high (Ready step) = IsOne step × (next + 1 < 2 ^ 64)
+IsPlanOf IsOne next high NoId = (step : Step) × IsOne step × (2 ^ 64 ≤ next + 1)
+IsPlanOf IsOne next high NoLevel = high
 
--- the step of a root's split
-pub record IsRootSplit (root next : ℕ) (n : Node) (step : Step) : Type 0 where
+-- the step of the split of a root, which is this node
+pub record IsRootSplit (t : Table) (n : Node) (step : Step) : Type 0 where
   pub first : Node
   pub pivot : List ℕ
   pub second : Node
   pub halves : AreHalves n first pivot second
-  pub is : step ≡ root_split root next (level_of n) first pivot second
-
--- the root stands above the two halves of the node that it was
-pub record IsSplitRoot (t : Table) (n : Node) (new : Nodes) : Type 0 where
-  pub first : Node
-  pub pivot : List ℕ
-  pub second : Node
-  pub halves : AreHalves n first pivot second
-  pub top : new t.root ≡ Some (over_two (level_of n + 1) pivot t.next (t.next + 1))
-  pub lower : new t.next ≡ Some first
-  pub upper : new (t.next + 1) ≡ Some second
+  pub is : step ≡ over_step t.root t.next t.root (level_of n + 1) first pivot second []
 
 -- the root is one level higher, nothing waits in it, and two nodes are made
 pub record IsRaised (t u : Table) : Type 0 where

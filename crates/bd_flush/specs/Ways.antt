@@ -83,12 +83,15 @@ pub record IsShared (t : Table) (parent : Fetched) (place : ℕ) : Type 0 where
   pub child_is : edge.child ≡ Some child
   pub shared : (edge.source ≢ []) ⊎ (t.count child ≢ 1)
 
--- a node for whose edge a Goto is pending that may not go down it
+-- a node from whose edge messages would be pushed, but that a Goto is pending for the edge which may
+-- not go down it
 pub record HasHeldGoto (t : Table) (parent : Fetched) (place : ℕ) : Type 0 where
   pub parent_is : IsFetched t parent
   pub room : length (edges_of parent.node.value) ≤ 14
   pub edge : Edge
   pub here : IsEdgeAt parent.node.value place edge
+  pub child : Option Fetched
+  pub target : IsTarget t parent.node.value place edge child
   pub held : ¬ AllGoDown t.level (child_level t.level edge.child) parent.node.value place edge
 
 -- what is to be done at an edge, as far as the table tells
@@ -132,8 +135,9 @@ AtEdge P (Carve above parent place) = P parent place
 abbrev pub IsSameEdge : Fetched → ℕ → Fetched → ℕ → Type 0
 IsSameEdge parent place p at = (p ≡ parent) × (at ≡ place)
 
--- most bytes wait for the edge, of a node in which more than 16,384 do
+-- most bytes wait for the edge, of a node with at most 14 edges in which more than 16,384 do
 pub record IsFullEdge (f : Fetched) (place : ℕ) : Type 0 where
+  pub room : length (edges_of f.node.value) ≤ 14
   pub fullest : IsFullestAt f.node.value place
   pub full : soft_limit < buffer_size f.node.value
 
@@ -145,8 +149,10 @@ IsFromEdge parent place p at = IsSameEdge parent place p at ⊎ IsFullEdge p at
 abbrev pub IsStepFrom : Fetched → ℕ → FlushStep → Type 0
 IsStepFrom parent place step = AtEdge (IsFromEdge parent place) step
 
--- most bytes wait for the edge at a place of a node of the way from the root
+-- most bytes wait for the edge at a place of a node of the way from the root, which has at most 14
+-- edges: one with more is split first
 pub record IsFullestIn (t : Table) (f : Fetched) (place : ℕ) : Type 0 where
+  pub room : length (edges_of f.node.value) ≤ 14
   pub fullest : IsFullestAt f.node.value place
   pub full : IsFull t f
 

@@ -11,11 +11,12 @@ ghost use Rattle.bd_node.specs.Nodes.{message_names};
 ghost use Rattle.bd_node.specs.Tables.{IsKept, IsSound};
 ghost use Rattle.bd_inner.specs.Halves.{edges_of};
 ghost use Rattle.bd_inner.specs.Exchange.{IsEdgeAt};
-ghost use Rattle.bd_flush.specs.Flushed.{IsFlushed, IsWornFor};
+ghost use Rattle.bd_flush.specs.Flushed.{IsFlushed};
+ghost use Rattle.bd_flush.specs.Made.{IsMadeBy, IsWornFor};
 ghost use Rattle.bd_flush.specs.Children.{IsFetched, IsNoHigher};
 ghost use Rattle.bd_flush.specs.GoingDown.{IsBelowAll, LiesWithin, MayGoDown, child_level};
 ghost use Rattle.bd_flush.specs.Pushes.{AllGoDown, IsOwn};
-ghost use Rattle.bd_flush.specs.Carving.{IsHeldGoto, IsFreeAt, AreFree, IsOldestGoto, IsOldestAt, CanCarve, change_step, IsCarveStep, IsCarvedAt};
+ghost use Rattle.bd_flush.specs.Carving.{IsHeldGoto, IsFreeAt, AreFree, IsOldestGoto, IsOldestAt, CanCarve, change_step, IsCarveStep};
 
 use crate::Fetched;
 use crate::nodes::{buffer_of, edges_of};
@@ -40,15 +41,16 @@ pub fn carve<S: NodeStore>(
     ensures flushed { OfSound S.NodeStore store.old
         (OnOk result (IsFlushed (S.nodes store.old) (S.table store.old)
         (S.nodes store.new) (S.table store.new))) }
-    ensures carved { OfSound S.NodeStore store.old
-        (OnOk result (IsCarvedAt (S.table store.old) parent.now place
-        (S.nodes store.new) (S.table store.new))) }
+    ensures made { OfSound S.NodeStore store.old
+        (OnOk result (IsMadeBy (IsCarveStep (S.table store.old) parent.now place)
+        (S.nodes store.old) (S.table store.old) (S.nodes store.new) (S.table store.new))) }
     ensures table { OnOk result (IsNoHigher (S.table store.old) (S.table store.new)) }
     ensures stays { Stays S.NodeStore store.old store.new }
     ensures err { OnErr result (OnlyReads S.NodeStore store.old store.new) }
     ensures few_visits { S.visit_count store.new ≤ S.visit_count store.old }
     ensures cause { HasMapCause (S.fault_count store.old) (S.fault_count store.new)
-        (S.bad store.new) (IsWornFor (S.table store.old)) result }
+        (S.bad store.new) (IsWornFor (IsCarveStep (S.table store.old) parent.now place) ⊥
+        (S.table store.old)) result }
 {
     let root = store.root();
     let step = carve_step(alloc, store, root, parent, place)?;

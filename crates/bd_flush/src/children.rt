@@ -1,23 +1,21 @@
 //! A child with 15 or 16 edges is split below its parent.
 
-ghost use Rattle.std.specs.Prelude.{◌≡◌, ◌+◌, ◌<◌, ◌≤◌, ◌∷◌, [], length, reverse, IfOk, MatchOption, OnOk, OnErr, Err};
+ghost use Rattle.std.specs.Prelude.{◌≡◌, ◌+◌, ◌<◌, ◌≤◌, ◌∷◌, [], length, reverse, IfOk, MatchOption, OnOk, OnErr};
 ghost use Rattle.std.specs.Option.{option_copied};
 ghost use Rattle.std.specs.List.{AllByRecursion};
 ghost use Rattle.bd_message.specs.KeyMaps.{HasMapCause};
-ghost use Rattle.bd_message.specs.declared.fault.MapFault.TheVariants as fault;
-ghost use Rattle.bd_message.specs.declared.fault.Counter.TheVariants as counter;
 ghost use Rattle.bd_node.specs.Frames.{OfSound, OnlyReads, Stays};
 ghost use Rattle.bd_node.specs.declared.node.Edge.{Edge};
-ghost use Rattle.bd_node.specs.Nodes.{level_of};
 ghost use Rattle.bd_node.specs.Shape.{IsShape};
 ghost use Rattle.bd_node.specs.Tables.{IsSound};
 ghost use Rattle.bd_inner.specs.Halves.{edges_of};
 ghost use Rattle.bd_inner.specs.Compaction.{IsCompacted};
 ghost use Rattle.bd_inner.specs.Exchange.{exchanged, IsEdgeAt, FitsAt};
-ghost use Rattle.bd_flush.specs.Flushed.{IsFlushed, IsWornFor};
+ghost use Rattle.bd_flush.specs.Flushed.{IsFlushed};
+ghost use Rattle.bd_flush.specs.Made.{IsMadeBy, IsWornFor};
 ghost use Rattle.bd_flush.specs.Children.{CanSplitChild, AreFamily, IsContents, child_step, parting, upper_edge, IsSide, IsOver, AreParts, IsLongPivot, IsChildStep};
-ghost use Rattle.bd_flush.specs.Raising.{IsWayUp, CannotRise};
-ghost use Rattle.bd_flush.specs.Between.{IsSplitChild, IsHighAfterSplit};
+ghost use Rattle.bd_flush.specs.Raising.{IsWayUp};
+ghost use Rattle.bd_flush.specs.Between.{IsSplitStep, IsHighSplit, IsHighAfterSplit};
 
 use crate::Fetched;
 use crate::between::put_between;
@@ -53,19 +51,19 @@ pub fn split_child<S: NodeStore>(
     ensures flushed { OfSound S.NodeStore store.old
         (OnOk result (IsFlushed (S.nodes store.old) (S.table store.old)
         (S.nodes store.new) (S.table store.new))) }
-    ensures split { OfSound S.NodeStore store.old
-        (OnOk result (IsSplitChild (S.table store.old) (reverse above.now) parent.now place
-        child.now (S.nodes store.new) (S.table store.new))) }
+    ensures made { OfSound S.NodeStore store.old
+        (OnOk result (IsMadeBy (IsSplitStep (S.table store.old) (reverse above.now) parent.now
+        place child.now) (S.nodes store.old) (S.table store.old)
+        (S.nodes store.new) (S.table store.new))) }
     ensures table { OnOk result (IsHighAfterSplit (S.table store.old) parent.now.node.value place
         child.now.node.value (S.table store.new)) }
-    ensures worn { result ≡ Err (fault.Worn counter.Level)
-        → IsLongPivot parent.now.node.value place child.now.node.value
-        × CannotRise (level_of child.now.node.value + 1) (parent.now ∷ reverse above.now) }
     ensures stays { Stays S.NodeStore store.old store.new }
     ensures err { OnErr result (OnlyReads S.NodeStore store.old store.new) }
     ensures few_visits { S.visit_count store.new ≤ S.visit_count store.old + 2 }
     ensures cause { HasMapCause (S.fault_count store.old) (S.fault_count store.new)
-        (S.bad store.new) (IsWornFor (S.table store.old)) result }
+        (S.bad store.new) (IsWornFor (IsSplitStep (S.table store.old) (reverse above.now)
+        parent.now place child.now) (IsHighSplit (reverse above.now) parent.now place child.now)
+        (S.table store.old)) result }
 {
     let root = store.root();
     let next = store.next_id();

@@ -9,11 +9,12 @@ ghost use Rattle.bd_node.specs.Stores.{visited};
 ghost use Rattle.bd_node.specs.Tables.{IsSound};
 ghost use Rattle.bd_inner.specs.Halves.{edges_of};
 ghost use Rattle.bd_inner.specs.Exchange.{IsEdgeAt, way_to};
-ghost use Rattle.bd_flush.specs.Flushed.{IsFlushed, IsWornFor};
+ghost use Rattle.bd_flush.specs.Flushed.{IsFlushed};
+ghost use Rattle.bd_flush.specs.Made.{IsMadeBy, IsWornFor};
 ghost use Rattle.bd_flush.specs.Children.{IsNoHigher};
 ghost use Rattle.bd_flush.specs.Paths.{path_step};
 ghost use Rattle.bd_flush.specs.Pushes.{IsOwn};
-ghost use Rattle.bd_flush.specs.Copies.{CanPutCopy, IsCopyAt, IsRedirected, IsCopyStep, IsCopyPut};
+ghost use Rattle.bd_flush.specs.Copies.{CanPutCopy, IsCopyAt, IsRedirected, IsCopyStep};
 
 use crate::Fetched;
 use crate::nodes::edges_of;
@@ -40,8 +41,9 @@ pub fn put_copy<S: NodeStore>(
     ensures flushed { OfSound S.NodeStore store.old
         (OnOk result (IsFlushed (S.nodes store.old) (S.table store.old)
         (S.nodes store.new) (S.table store.new))) }
-    ensures put { OfSound S.NodeStore store.old
-        (OnOk result (IsCopyPut (S.table store.old) parent.now place copy
+    ensures made { OfSound S.NodeStore store.old
+        (OnOk result (IsMadeBy (IsCopyStep (S.table store.old).root (S.table store.old).next
+        parent.now place copy) (S.nodes store.old) (S.table store.old)
         (S.nodes store.new) (S.table store.new))) }
     ensures table { OnOk result (IsNoHigher (S.table store.old) (S.table store.new)) }
     ensures stays { Stays S.NodeStore store.old store.new }
@@ -50,7 +52,8 @@ pub fn put_copy<S: NodeStore>(
         (S.visit_count store.new ≡ visited (S.visit_count store.old) 1) }
     ensures err_visits { OnErr result (S.visit_count store.new ≡ S.visit_count store.old) }
     ensures cause { HasMapCause (S.fault_count store.old) (S.fault_count store.new)
-        (S.bad store.new) (IsWornFor (S.table store.old)) result }
+        (S.bad store.new) (IsWornFor (IsCopyStep (S.table store.old).root
+        (S.table store.old).next parent.now place copy) ⊥ (S.table store.old)) result }
 {
     let root = store.root();
     let next = store.next_id();

@@ -9,9 +9,10 @@ ghost use Rattle.bd_node.specs.Stores.{visited};
 ghost use Rattle.bd_node.specs.Tables.{IsSound};
 ghost use Rattle.bd_inner.specs.Halves.{edges_of};
 ghost use Rattle.bd_inner.specs.Exchange.{IsEdgeAt};
-ghost use Rattle.bd_flush.specs.Flushed.{IsFlushed, IsWornFor};
+ghost use Rattle.bd_flush.specs.Flushed.{IsFlushed};
+ghost use Rattle.bd_flush.specs.Made.{IsMadeBy, IsWornFor};
 ghost use Rattle.bd_flush.specs.Children.{IsNoHigher};
-ghost use Rattle.bd_flush.specs.Pushes.{leaf_step, IsWaitedFor, CanPushNew, IsOwn, IsWay, IsNewLeaf, IsNewStep, IsPushedNew};
+ghost use Rattle.bd_flush.specs.Pushes.{leaf_step, IsWaitedFor, CanPushNew, IsOwn, IsWay, IsNewLeaf, IsNewStep};
 
 use crate::Fetched;
 use crate::children::with_edge;
@@ -37,8 +38,9 @@ pub fn push_new<S: NodeStore>(
     ensures flushed { OfSound S.NodeStore store.old
         (OnOk result (IsFlushed (S.nodes store.old) (S.table store.old)
         (S.nodes store.new) (S.table store.new))) }
-    ensures pushed { OfSound S.NodeStore store.old
-        (OnOk result (IsPushedNew (S.table store.old) parent.now place
+    ensures made { OfSound S.NodeStore store.old
+        (OnOk result (IsMadeBy (IsNewStep (S.table store.old).root (S.table store.old).next
+        parent.now place) (S.nodes store.old) (S.table store.old)
         (S.nodes store.new) (S.table store.new))) }
     ensures table { OnOk result (IsNoHigher (S.table store.old) (S.table store.new)) }
     ensures stays { Stays S.NodeStore store.old store.new }
@@ -47,7 +49,8 @@ pub fn push_new<S: NodeStore>(
         (S.visit_count store.new ≡ visited (S.visit_count store.old) 1) }
     ensures err_visits { OnErr result (S.visit_count store.new ≡ S.visit_count store.old) }
     ensures cause { HasMapCause (S.fault_count store.old) (S.fault_count store.new)
-        (S.bad store.new) (IsWornFor (S.table store.old)) result }
+        (S.bad store.new) (IsWornFor (IsNewStep (S.table store.old).root
+        (S.table store.old).next parent.now place) ⊥ (S.table store.old)) result }
 {
     let root = store.root();
     let next = store.next_id();

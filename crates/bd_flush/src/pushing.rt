@@ -1,11 +1,9 @@
 //! Messages go down from a node to its child.
 
-ghost use Rattle.std.specs.Prelude.{◌≡◌, ◌+◌, ◌^◌, ◌<◌, ◌≤◌, ◌⊎◌, length, drop, reverse, IfOk, OnOk, OnErr, Err};
+ghost use Rattle.std.specs.Prelude.{◌≡◌, ◌+◌, ◌^◌, ◌<◌, ◌≤◌, ◌⊎◌, length, drop, reverse, IfOk, OnOk, OnErr};
 ghost use Rattle.std.specs.List.{AllByRecursion};
 ghost use Rattle.bd_limits.specs.Limits.{soft_limit, leaf_limit, batch_limit};
 ghost use Rattle.bd_message.specs.KeyMaps.{HasMapCause};
-ghost use Rattle.bd_message.specs.declared.fault.MapFault.TheVariants as fault;
-ghost use Rattle.bd_message.specs.declared.fault.Counter.TheVariants as counter;
 ghost use Rattle.bd_node.specs.Frames.{OfSound, OnlyReads, Stays};
 ghost use Rattle.bd_node.specs.declared.node.Edge.{Edge};
 ghost use Rattle.bd_node.specs.declared.node.Node.TheVariants as kind;
@@ -17,17 +15,18 @@ ghost use Rattle.bd_inner.specs.Moving.{IsLifted};
 ghost use Rattle.bd_inner.specs.Exchange.{end_at, IsEdgeAt};
 ghost use Rattle.bd_leaf.specs.Leaves.{AreEntries, entries_size};
 ghost use Rattle.bd_flush.specs.declared.fetching.Fetched.{Fetched};
-ghost use Rattle.bd_flush.specs.Flushed.{IsFlushed, IsWornFor};
+ghost use Rattle.bd_flush.specs.Flushed.{IsFlushed};
+ghost use Rattle.bd_flush.specs.Made.{IsMadeBy, IsWornFor};
 ghost use Rattle.bd_flush.specs.Children.{AreFamily, IsContents, IsNoHigher};
 ghost use Rattle.bd_flush.specs.Between.{IsHardlyHigher};
 ghost use Rattle.bd_flush.specs.Raising.{IsWayUp};
-ghost use Rattle.bd_flush.specs.Pushes.{seen_by, unseen, IsWaitedFor, CanMoveSome, CanPush, IsEdgeBatch, IsRelieved, IsPartedOver, IsPushedOver, ArePushed, IsPlanOver, IsPlan, IsPushed, IsPushedBetween, IsLongPush, IsHighPush};
+ghost use Rattle.bd_flush.specs.Pushes.{seen_by, unseen, IsWaitedFor, CanMoveSome, CanPush, IsEdgeBatch, IsRelieved, IsPartedOver, IsPushedOver, ArePushed, IsPlanOver, IsPlan, IsSomePush, IsLongPush, IsHighPush};
 
 use crate::Fetched;
 use crate::children::{Halving, Parts, child_step, over_halves, with_edge};
 use crate::nodes::edges_of;
 use crate::raising::changes_over;
-use crate::splitting::over_two;
+use crate::splitting::{Plan, over_step};
 use bd_inner::{Batch, end_of, next_batch, receive};
 use bd_keys::Bytes;
 use bd_leaf as leaf;
@@ -62,21 +61,21 @@ pub fn push<S: NodeStore>(
     ensures flushed { OfSound S.NodeStore store.old
         (OnOk result (IsFlushed (S.nodes store.old) (S.table store.old)
         (S.nodes store.new) (S.table store.new))) }
-    ensures pushed { OfSound S.NodeStore store.old
-        (OnOk result (IsPushed (S.table store.old) parent.now place child.now
-        (S.nodes store.new) (S.table store.new)
-        ⊎ IsPushedBetween (S.table store.old) (reverse above.now) parent.now place child.now
+    ensures made { OfSound S.NodeStore store.old
+        (OnOk result (IsMadeBy (IsSomePush (S.table store.old).root (S.table store.old).next
+        (reverse above.now) parent.now place child.now) (S.nodes store.old) (S.table store.old)
         (S.nodes store.new) (S.table store.new))) }
     ensures table { OnOk result (IsNoHigher (S.table store.old) (S.table store.new)
         ⊎ (IsLongPush parent.now.node.value place child.now.node.value
         × IsHardlyHigher (S.table store.old) (S.table store.new))) }
-    ensures worn { result ≡ Err (fault.Worn counter.Level)
-        → IsHighPush parent.now.node.value place child.now.node.value (reverse above.now) }
     ensures stays { Stays S.NodeStore store.old store.new }
     ensures err { OnErr result (OnlyReads S.NodeStore store.old store.new) }
     ensures few_visits { S.visit_count store.new ≤ S.visit_count store.old + 2 }
     ensures cause { HasMapCause (S.fault_count store.old) (S.fault_count store.new)
-        (S.bad store.new) (IsWornFor (S.table store.old)) result }
+        (S.bad store.new) (IsWornFor (IsSomePush (S.table store.old).root
+        (S.table store.old).next (reverse above.now) parent.now place child.now)
+        (IsHighPush parent.now.node.value place child.now.node.value (reverse above.now))
+        (S.table store.old)) result }
 {
     let root = store.root();
     let next = store.next_id();
@@ -86,15 +85,6 @@ pub fn push<S: NodeStore>(
         Plan::NoLevel => return Err(MapFault::Worn(Counter::Level)),
     };
     store.commit(step)
-}
-
-// The step of a push; or that there is no id for a made node, or no level for a node that has to
-// rise.
-#[derive(Drop)]
-enum Plan {
-    Ready(Step),
-    NoId,
-    NoLevel,
 }
 
 // What a push does.
@@ -245,25 +235,13 @@ fn plan_over(
     ensures { IfOk result
         (IsPlanOver root next (reverse above.now) parent child halves.0 halves.1 halves.2) }
 {
-    let (first, pivot, second) = halves;
-    let Some(upper) = next.checked_add(1) else {
-        return Ok(Plan::NoId);
-    };
-    let between = Change {
-        id: child,
-        node: over_two(alloc, 1, pivot, next, upper)?,
-    };
-    let Some(changes) = changes_over(alloc, between, parent, above)? else {
+    let Some(others) = changes_over(alloc, 1, parent, above)? else {
         return Ok(Plan::NoLevel);
     };
-    let mut made = Vec::new(alloc);
-    made.push(first)?;
-    made.push(second)?;
-    Ok(Plan::Ready(Step {
-        made: Items::from_vec(made),
-        changes: Items::from_vec(changes),
-        root,
-    }))
+    match over_step(alloc, root, next, child, 1, halves, others)? {
+        Some(step) => Ok(Plan::Ready(step)),
+        None => Ok(Plan::NoId),
+    }
 }
 
 // The same of a child that is an inner node.

@@ -46,25 +46,24 @@ pub fn raise_above(
     raise_above(changes, others, own + 1)
 }
 
-/// The changes of a node's child, of the node, one level higher where it has to be, and of the nodes
-/// above it that rise with it. There are none where one of level 1,000 would have to rise.
+/// The changes of a node over a child that gets a level, one level higher where it has to be, and
+/// of the nodes above it that rise with it. There are none where one of level 1,000 would have to
+/// rise.
 pub fn changes_over(
     alloc: Global,
-    child: Change,
+    level: u32,
     parent: Change,
     above: &[Fetched],
 ) -> Result<Option<Vec<Change>>, AllocError>
     requires shape { IsShape parent.node }
-    requires low { level_of child.node < level_limit }
+    requires low { level < level_limit }
     requires above { AllByRecursion (λ (f : Fetched). IsShape f.node.value) (reverse above.now) }
     ensures { IfOk result (λ found. MatchOption found
-        (CannotRiseOver (level_of child.node) parent.node (reverse above.now))
-        (λ all. AreChangesOver child parent (reverse above.now) all.items)) }
+        (CannotRiseOver level parent.node (reverse above.now))
+        (λ all. AreChangesOver level parent (reverse above.now) all.items)) }
 {
-    let level = child.node.level();
     let own = parent.node.level();
     let mut changes = Vec::new(alloc);
-    changes.push(child)?;
     if level < own {
         changes.push(parent)?;
         return Ok(Some(changes));

@@ -1,18 +1,18 @@
 //! Nodes on the way down that have 15 or 16 edges are split.
 
-ghost use Rattle.std.specs.Prelude.{◌≡◌, ◌↔◌, ◌+◌, ◌<◌, ◌≤◌, length, IfOk, OnOk, OnErr, Err};
+ghost use Rattle.std.specs.Prelude.{◌≡◌, ◌↔◌, ◌+◌, ◌^◌, ◌<◌, ◌≤◌, length, IfOk, MatchOption, OnOk, OnErr, Err};
 ghost use Rattle.bd_limits.specs.Limits.{level_limit};
 ghost use Rattle.bd_message.specs.KeyMaps.{HasMapCause};
 ghost use Rattle.bd_message.specs.declared.fault.MapFault.TheVariants as fault;
 ghost use Rattle.bd_message.specs.declared.fault.Counter.TheVariants as counter;
 ghost use Rattle.bd_node.specs.Frames.{OfSound, OnlyReads, Stays};
 ghost use Rattle.bd_node.specs.Nodes.{level_of};
-ghost use Rattle.bd_node.specs.Shape.{IsShape};
 ghost use Rattle.bd_node.specs.Tables.{IsNodeOf, IsSound};
 ghost use Rattle.bd_node.specs.Stores.{visited};
 ghost use Rattle.bd_inner.specs.Halves.{edges_of};
-ghost use Rattle.bd_flush.specs.Flushed.{IsFlushed, IsWornFor};
-ghost use Rattle.bd_flush.specs.Splits.{plain_edge, over_two, IsRootSplit, IsSplitRoot, IsRaised};
+ghost use Rattle.bd_flush.specs.Flushed.{IsFlushed};
+ghost use Rattle.bd_flush.specs.Made.{IsMadeBy, IsWornFor};
+ghost use Rattle.bd_flush.specs.Splits.{plain_edge, over_two, over_step, IsRootSplit, IsRaised};
 
 use bd_inner::split;
 use bd_keys::Bytes;
@@ -33,8 +33,9 @@ pub fn split_root<S: NodeStore>(alloc: Global, store: &mut S, root: &Node) -> Re
     ensures flushed { OfSound S.NodeStore store.old
         (OnOk result (IsFlushed (S.nodes store.old) (S.table store.old)
         (S.nodes store.new) (S.table store.new))) }
-    ensures split { OfSound S.NodeStore store.old
-        (OnOk result (IsSplitRoot (S.table store.old) root.now (S.nodes store.new))) }
+    ensures made { OfSound S.NodeStore store.old
+        (OnOk result (IsMadeBy (IsRootSplit (S.table store.old) root.now)
+        (S.nodes store.old) (S.table store.old) (S.nodes store.new) (S.table store.new))) }
     ensures table { OnOk result (IsRaised (S.table store.old) (S.table store.new)) }
     ensures worn { ((S.table store.old).level (S.table store.old).root ≡ level_limit)
         ↔ (result ≡ Err (fault.Worn counter.Level)) }
@@ -44,48 +45,66 @@ pub fn split_root<S: NodeStore>(alloc: Global, store: &mut S, root: &Node) -> Re
         (S.visit_count store.new ≡ visited (S.visit_count store.old) 2) }
     ensures err_visits { OnErr result (S.visit_count store.new ≡ S.visit_count store.old) }
     ensures cause { HasMapCause (S.fault_count store.old) (S.fault_count store.new)
-        (S.bad store.new) (IsWornFor (S.table store.old)) result }
+        (S.bad store.new) (IsWornFor (IsRootSplit (S.table store.old) root.now)
+        ((S.table store.old).level (S.table store.old).root ≡ level_limit)
+        (S.table store.old)) result }
 {
     if root.level() >= MAX_LEVEL {
         return Err(MapFault::Worn(Counter::Level));
     }
-    let next = store.next_id();
-    let Some(upper) = next.checked_add(1) else {
+    let halves = split(alloc, root)?;
+    let id = store.root();
+    let level = root.level() + 1;
+    let others = Vec::new(alloc);
+    let Some(step) = over_step(alloc, id, store.next_id(), id, level, halves, others)? else {
         return Err(MapFault::Worn(Counter::NextId));
     };
-    let step = root_split(alloc, store.root(), root, next, upper)?;
     store.commit(step)
 }
 
-// The step of a root's split: the halves get the ids `next` and `upper`.
-fn root_split(
+/// A step; or that there are no ids for its made nodes, or no level for a node that has to rise.
+#[derive(Drop)]
+pub enum Plan {
+    Ready(Step),
+    NoId,
+    NoLevel,
+}
+
+/// The step that puts a node of a level above its halves, which are made and get the ids from `next`
+/// on, and makes other changes. There is none where there are no two ids.
+pub fn over_step(
     alloc: Global,
     root: u64,
-    node: &Node,
     next: u64,
-    upper: u64,
-) -> Result<Step, AllocError>
-    requires shape { IsShape node.now }
-    requires full { 15 ≤ length (edges_of node.now) }
-    requires low { level_of node.now < level_limit }
-    requires after { upper ≡ next + 1 }
-    ensures { IfOk result (λ step. IsRootSplit root next node.now step) }
+    id: u64,
+    level: u32,
+    halves: (Node, Bytes, Node),
+    others: Vec<Change>,
+) -> Result<Option<Step>, AllocError>
+    ensures { IfOk result (λ found. MatchOption found (2 ^ 64 ≤ next + 1)
+        (λ step. (step ≡ over_step root next id level halves.0 halves.1 halves.2 others.items)
+        × (next + 1 < 2 ^ 64))) }
 {
-    let (first, pivot, second) = split(alloc, node)?;
-    let top = over_two(alloc, node.level() + 1, pivot, next, upper)?;
+    let Some(upper) = next.checked_add(1) else {
+        return Ok(None);
+    };
+    let (first, pivot, second) = halves;
+    let mut changes = others;
+    changes.insert(
+        0,
+        Change {
+            id,
+            node: over_two(alloc, level, pivot, next, upper)?,
+        },
+    )?;
     let mut made = Vec::new(alloc);
     made.push(first)?;
     made.push(second)?;
-    let mut changes = Vec::new(alloc);
-    changes.push(Change {
-        id: root,
-        node: top,
-    })?;
-    Ok(Step {
+    Ok(Some(Step {
         made: Items::from_vec(made),
         changes: Items::from_vec(changes),
         root,
-    })
+    }))
 }
 
 /// A node over two others, the second one with the keys from a pivot on.

@@ -9,7 +9,7 @@ use Rattle.std.proofs.lemmas.Option.{same_Some, none-some}
 use Rattle.bd_message.specs.declared.fault.Counter.{Counter}
 use Rattle.bd_message.specs.declared.fault.MapFault.{MapFault}
 use Rattle.bd_message.specs.declared.fault.MapFault.TheVariants.{DeviceFault, Damaged, Worn, NoMemory}
-use Rattle.bd_message.proofs.Causes.{cause_after}
+use Rattle.bd_message.proofs.Causes.{cause_weaker}
 use Rattle.bd_message.specs.KeyMaps.{IsCause, HasMapCause}
 use Rattle.bd_node.specs.declared.node.Edge.{Edge}
 use Rattle.bd_node.specs.declared.node.Node.{Node}
@@ -25,16 +25,17 @@ use Rattle.bd_flush.specs.declared.ways.FlushStep.TheVariants.{SplitRoot, SplitC
 use Rattle.bd_flush.specs.Children.{IsFetched, IsEdgeTo, IsWayTo, CanSplitChild}
 use Rattle.bd_flush.specs.Raising.{IsWayUp}
 use Rattle.bd_flush.specs.Raising.IsWayUp.{top, one_up}
-use Rattle.bd_flush.specs.Flushed.{IsFlushed, IsWornFor}
+use Rattle.bd_flush.specs.Flushed.{IsFlushed}
 use Rattle.bd_flush.specs.Ways.{HasPending, IsUnder, IsShared, IsDue, IsWaited, IsFromEdge, IsStepFrom, IsStanding, IsReached, IsWayThere}
-use Rattle.bd_step.specs.Steps.{IsMade as IsStepMade, IsHighAfter}
+use Rattle.bd_step.specs.Steps.{IsMade as IsStepMade, IsHighAfter, IsWornStep}
+use Rattle.bd_step.proofs.Making.{worn_known}
 use Rattle.bd_flush.proofs.ChildSplits.{edge_within}
 use Rattle.bd_flush.proofs.RootSplits.{up_lower}
 use Rattle.bd_flush.proofs.Waiting.{fullest_waits, pending_waits}
 use Rattle.bd_reclaim.proofs.Decisions.{as_reclaimed}
 use Rattle.bd_reclaim.specs.Covering.{HasCut}
 use Rattle.bd_reclaim.specs.Reclaimed.{IsReclaimed}
-use Rattle.bd_reclaim.specs.Pushing.{IsSplitFirst, IsPushStep, IsPushFound, IsPushMade}
+use Rattle.bd_reclaim.specs.Pushing.{IsSplitFirst, IsPushStep, IsPushFound, IsPushMade, IsWornPush}
 use Rattle.bd_reclaim.specs.Pushing.IsSplitFirst.{at_root, asked_through, below, further}
 
 -- ---- the edge that asks a child
@@ -268,6 +269,9 @@ push_on_found t m u above node place step (Ok x) table begins due height = recor
 push_on_found t m u above node place step (Err e) table begins due height = tt
 
 -- a fault of the step that is made, after the one before went well
-pub push_cause : {T : Type 0} (before mid now : ℕ) (bad : ℕ → Type 0) (t m : Table) (r : Result T MapFault) → mid ≡ before → m ≡ t → HasMapCause mid now bad (IsWornFor m) r → HasMapCause before now bad (IsWornFor t) r
-push_cause before mid now bad t m r same table h =
-    cause_after before mid now bad (IsWornFor t) r same (subst (λ (v : Table). HasMapCause mid now bad (IsWornFor v) r) table h)
+pub push_cause : {T : Type 0} (before mid now : ℕ) (bad : ℕ → Type 0) (known again : Type 0) (nodes mids : Nodes) (t m : Table) (above : List Fetched) (node : Fetched) (place : ℕ) (step : FlushStep) (r : Result T MapFault) → mid ≡ before → m ≡ t → (known → again × (mids ≡ nodes)) → IsPushStep above node place step → IsDue t step
+    → (known → IsStanding nodes t step) → (known → length (edges_of node.node.value) ≤ 14 → IsReached nodes t node.id place step) → HasMapCause mid now bad (IsWornStep again mids m step) r → HasMapCause before now bad (IsWornPush known nodes t above node place) r
+push_cause before mid now bad known again nodes mids t m above node place step r same table knows begins due stands reached cause =
+    cause_weaker before now bad (IsWornStep known nodes t step) (IsWornPush known nodes t above node place)
+    (λ counter worn. record { step = step; begins = begins; due = due; stands = stands; reached = reached; worn = worn }) r
+    (worn_known before mid now bad known again nodes mids t m step r same table knows cause)

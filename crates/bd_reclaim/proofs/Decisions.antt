@@ -18,13 +18,14 @@ use Rattle.bd_node.specs.Stores.{visited}
 use Rattle.bd_node.proofs.Lookup.{named_has}
 use Rattle.bd_node.proofs.Stepping.{after-none}
 use Rattle.bd_flush.specs.declared.fetching.Fetched.{Fetched}
-use Rattle.bd_flush.specs.Flushed.{IsFlushed, IsWornFor}
+use Rattle.bd_flush.specs.Flushed.{IsFlushed}
+use Rattle.bd_flush.specs.Made.{WearsOut}
 use Rattle.bd_flush.specs.Children.{IsFetched, IsNoHigher}
 use Rattle.bd_flush.specs.Pushes.{IsOwn}
 use Rattle.bd_flush.specs.Carving.{change_step}
 use Rattle.bd_flush.proofs.Givens.{given_unchanged}
 use Rattle.bd_message.proofs.Causes.{cause_weaker}
-use Rattle.bd_flush.proofs.CarveSteps.{IsOneChange, IsOneChangeOf, IsOneChanged, one_step, one_in_place, one_flushed, one_there, one_no_higher, one_worn}
+use Rattle.bd_flush.proofs.CarveSteps.{IsOneChange, IsOneChangeOf, IsOneChanged, one_step, one_in_place, one_flushed, one_there, one_no_higher}
 use Rattle.bd_reclaim.specs.declared.covering.Cover.{Cover}
 use Rattle.bd_reclaim.specs.Covering.{Decides, IsCovered, IsDecided}
 use Rattle.bd_reclaim.specs.Reclaimed.{IsReclaimed, IsDecidedAt, IsDecideStep, unseen_count, unseen_in, left_over}
@@ -201,10 +202,9 @@ pub on_no_higher : {T E : Type 0} (t : Table) (node : Fetched) (place at : ℕ) 
 on_no_higher t node place at step u (Ok x) h after = no_higher t node place at step u h after
 on_no_higher t node place at step u (Err e) h after = tt
 
-pub decide_worn : {T : Type 0} (before now : ℕ) (bad : ℕ → Type 0) (t : Table) (node : Fetched) (place at : ℕ) (step : Step) (r : Result T MapFault) → IsToDecide t node place at step → HasMapCause before now bad (IsWornBy t step) r → HasMapCause before now bad (IsWornFor t) r
+pub decide_worn : {T : Type 0} (before now : ℕ) (bad : ℕ → Type 0) (t : Table) (node : Fetched) (place at : ℕ) (step : Step) (r : Result T MapFault) → IsToDecide t node place at step → HasMapCause before now bad (IsWornBy t step) r → HasMapCause before now bad (WearsOut (IsDecideStep t.root node place at) t) r
 decide_worn before now bad t node place at step r h cause =
-    cause_weaker before now bad (IsWornBy t step) (IsWornFor t)
-    (λ counter worn. one_worn t node.id h.decide.made (change t node place at step h) counter (subst (λ (q : Step). IsWornBy t q counter) h.decide.is worn)) r cause
+    cause_weaker before now bad (IsWornBy t step) (WearsOut (IsDecideStep t.root node place at) t) (λ counter worn. record { step = step; is = h.decide; worn = worn }) r cause
 
 pub decide_visits : {T E : Type 0} (t : Table) (node : Fetched) (place at : ℕ) (step : Step) (before now : ℕ) (r : Result T E) → IsToDecide t node place at step → OnOk r (now ≡ visited before (length step.made)) → (OnErr r (now ≡ before)) → now ≤ before
 decide_visits t node place at step before now (Ok x) h is err =

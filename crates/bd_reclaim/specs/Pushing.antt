@@ -1,6 +1,7 @@
 -- Push steps: the one that begins at an edge.
 use Rattle.std.specs.Prelude.{◌≢◌, ℕ, ◌≤◌, List, [], ◌∷◌, length, reverse}
 use Rattle.bd_node.specs.declared.node.Edge.{Edge}
+use Rattle.bd_message.specs.declared.fault.Counter.{Counter}
 use Rattle.bd_node.specs.Meaning.{Nodes}
 use Rattle.bd_node.specs.Tables.{Table}
 use Rattle.bd_inner.specs.Halves.{edges_of}
@@ -10,7 +11,7 @@ use Rattle.bd_flush.specs.declared.ways.FlushStep.TheVariants.{SplitRoot, SplitC
 use Rattle.bd_flush.specs.Children.{IsEdgeTo, IsWayTo}
 use Rattle.bd_flush.specs.Flushed.{IsFlushed}
 use Rattle.bd_flush.specs.Ways.{IsDue, IsStepFrom, IsStanding, IsReached}
-use Rattle.bd_step.specs.Steps.{IsMade, IsHighAfter}
+use Rattle.bd_step.specs.Steps.{IsMade, IsHighAfter, IsWornStep}
 
 -- a node with 15 or 16 edges and those above it, the nearest first: it is split, or first the nearest
 -- one above with so many edges, and where such a node is asked with something in front of a key, it
@@ -54,3 +55,15 @@ pub record IsPushMade (nodes : Nodes) (t : Table) (above : List Fetched) (node :
   pub made : IsMade nodes t step new u
   pub height : IsHighAfter t step u
   pub flushed : IsFlushed nodes t new u
+
+-- why no such step is made: a counter has to pass its last value for all that it adds, where the nodes
+-- may be known or not
+pub record IsWornPush (known : Type 0) (nodes : Nodes) (t : Table) (above : List Fetched)
+    (node : Fetched) (place : ℕ) (counter : Counter) : Type 0 where
+  pub step : FlushStep
+  pub begins : IsPushStep above node place step
+  pub due : IsDue t step
+  pub stands : known → IsStanding nodes t step
+  pub reached : known → length (edges_of node.node.value) ≤ 14
+      → IsReached nodes t node.id place step
+  pub worn : IsWornStep known nodes t step counter

@@ -1,14 +1,17 @@
 -- What a change leaves.
 use Rattle.std.specs.Prelude.{◌≡◌, ℕ, ◌+◌, ◌<◌, ◌≤◌, List, [], length, Option, None, Some, ◌⊎◌, IsTrue, ⊤}
 use Rattle.std.specs.List.{sum_by}
+use Rattle.bd_message.specs.declared.fault.Counter.{Counter}
 use Rattle.bd_node.specs.declared.node.Node.{Node}
 use Rattle.bd_node.specs.declared.node.Step.{Step}
 use Rattle.bd_node.specs.Meaning.{Nodes}
 use Rattle.bd_node.specs.Private.{IsPrivate}
+use Rattle.bd_node.specs.Steps.{IsWornBy}
 use Rattle.bd_node.specs.Tables.{Table, IsKept, IsSound, root_at, sum_below}
 use Rattle.bd_inner.specs.Halves.{edges_of}
 use Rattle.bd_flush.specs.declared.fetching.Fetched.{Fetched}
 use Rattle.bd_flush.specs.Flushed.{LeadsTo, IsUntouched}
+use Rattle.bd_flush.specs.Made.{WearsOut}
 use Rattle.bd_flush.specs.Children.{IsNoHigher}
 use Rattle.bd_flush.specs.Carving.{change_step}
 use Rattle.bd_flush.specs.Pushes.{unseen}
@@ -16,7 +19,7 @@ use Rattle.bd_reclaim.specs.declared.walking.Reclaim.{Reclaim}
 use Rattle.bd_reclaim.specs.declared.walking.Reclaim.TheVariants.{Shrink, Drop, Carve, Push}
 use Rattle.bd_step.specs.Steps.{step_visits}
 use Rattle.bd_reclaim.specs.Covering.{IsDecided}
-use Rattle.bd_reclaim.specs.Pushing.{IsPushFound, IsPushMade}
+use Rattle.bd_reclaim.specs.Pushing.{IsPushFound, IsPushMade, IsWornPush}
 
 -- what a change leaves: the tree has what it had, in sound nodes, and at most four are made; only
 -- nodes on the one way from the root to a private node are changed or let go with what they alone
@@ -63,6 +66,17 @@ IsMade nodes t (Shrink child) new u = IsShrunk nodes child new u
 IsMade nodes t (Drop node place at) new u = IsDecidedAt nodes node place at new u
 IsMade nodes t (Carve node place at) new u = IsDecidedAt nodes node place at new u
 IsMade nodes t (Push above node place) new u = IsPushMade nodes t above node place new u
+
+-- why a change is refused: a counter has to pass its last value for all that it adds. One that is no
+-- push makes no node, and needs no level
+abbrev pub IsWornChange : Type 0 → Nodes → Table → Reclaim → Counter → Type 0
+IsWornChange known nodes t (Shrink child) counter = IsWornBy t (root_only child) counter
+IsWornChange known nodes t (Drop node place at) counter =
+    WearsOut (IsDecideStep t.root node place at) t counter
+IsWornChange known nodes t (Carve node place at) counter =
+    WearsOut (IsDecideStep t.root node place at) t counter
+IsWornChange known nodes t (Push above node place) counter =
+    IsWornPush known nodes t above node place counter
 
 -- what became of the root, by the change, as far as the tables tell
 abbrev pub IsRootAfter : Table → Reclaim → Table → Type 0

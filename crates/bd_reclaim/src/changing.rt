@@ -4,13 +4,13 @@ ghost use Rattle.std.specs.Prelude.{◌≡◌, ◌+◌, ◌<◌, ◌≤◌, OnOk
 ghost use Rattle.bd_message.specs.KeyMaps.{HasMapCause};
 ghost use Rattle.bd_node.specs.Frames.{OfSound, OnlyReads, Stays};
 ghost use Rattle.bd_node.specs.Tables.{IsSound};
-ghost use Rattle.bd_flush.specs.Flushed.{IsWornFor};
+ghost use Rattle.bd_flush.specs.Made.{AreKnown, WearsOut};
 ghost use Rattle.bd_flush.specs.Children.{IsFetched, IsNoHigher};
 ghost use Rattle.bd_flush.specs.Pushes.{IsOwn};
 ghost use Rattle.bd_reclaim.specs.declared.covering.Cover.{Cover};
 ghost use Rattle.bd_reclaim.specs.Covering.{IsCovered};
 ghost use Rattle.bd_reclaim.specs.Walks.{IsToDo, IsToDoAt};
-ghost use Rattle.bd_reclaim.specs.Reclaimed.{IsReclaimed, IsDecidedAt, IsMade, IsRootAfter, IsNextAfter, LeavesLess, left_over, reclaim_visits};
+ghost use Rattle.bd_reclaim.specs.Reclaimed.{IsReclaimed, IsDecidedAt, IsMade, IsRootAfter, IsNextAfter, LeavesLess, IsWornChange, IsDecideStep, left_over, reclaim_visits};
 
 use crate::Reclaim;
 use crate::deciding::decide_step;
@@ -48,7 +48,8 @@ pub fn reclaim_step<S: NodeStore>(
     ensures few_visits { S.visit_count store.new
         ≤ S.visit_count store.old + reclaim_visits (S.table store.old) step }
     ensures cause { HasMapCause (S.fault_count store.old) (S.fault_count store.new)
-        (S.bad store.new) (IsWornFor (S.table store.old)) result }
+        (S.bad store.new) (IsWornChange (AreKnown S.NodeStore store.old)
+        (S.nodes store.old) (S.table store.old) step) result }
 {
     match step {
         Reclaim::Shrink { child } => shrink(alloc, store, child),
@@ -86,7 +87,8 @@ fn change_edge<S: NodeStore>(
     ensures err { OnErr result (OnlyReads S.NodeStore store.old store.new) }
     ensures few_visits { S.visit_count store.new ≤ S.visit_count store.old }
     ensures cause { HasMapCause (S.fault_count store.old) (S.fault_count store.new)
-        (S.bad store.new) (IsWornFor (S.table store.old)) result }
+        (S.bad store.new) (WearsOut (IsDecideStep (S.table store.old).root node.now place at)
+        (S.table store.old)) result }
 {
     let root = store.root();
     let step = decide_step(alloc, root, node, place, at)?;

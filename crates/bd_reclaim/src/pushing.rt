@@ -8,7 +8,7 @@ ghost use Rattle.bd_node.specs.Meaning.{Nodes};
 ghost use Rattle.bd_node.specs.Tables.{Table, IsSound};
 ghost use Rattle.bd_inner.specs.Halves.{edges_of};
 ghost use Rattle.bd_inner.specs.Exchange.{IsEdgeAt};
-ghost use Rattle.bd_flush.specs.Flushed.{IsWornFor};
+ghost use Rattle.bd_flush.specs.Made.{AreKnown};
 ghost use Rattle.bd_flush.specs.Children.{IsFetched, IsEdgeTo};
 ghost use Rattle.bd_flush.specs.Pushes.{IsOwn};
 ghost use Rattle.bd_flush.specs.Raising.{IsWayUp};
@@ -16,7 +16,7 @@ ghost use Rattle.bd_flush.specs.Ways.{IsDue, IsWaited, IsStanding, IsReached, Is
 ghost use Rattle.bd_step.specs.Steps.{step_visits};
 ghost use Rattle.bd_reclaim.specs.Covering.{HasCut};
 ghost use Rattle.bd_reclaim.specs.Reclaimed.{IsReclaimed};
-ghost use Rattle.bd_reclaim.specs.Pushing.{IsSplitFirst, IsPushStep, IsPushFound, IsPushMade};
+ghost use Rattle.bd_reclaim.specs.Pushing.{IsSplitFirst, IsPushStep, IsPushFound, IsPushMade, IsWornPush};
 
 use bd_flush::{Fetched, FlushStep, MANY_EDGES, Way, edges_of, step_from};
 use bd_message::MapFault;
@@ -53,7 +53,8 @@ pub fn push_from<S: NodeStore>(
     ensures few_visits { S.visit_count store.new
         ≤ S.visit_count store.old + step_visits (S.table store.old) }
     ensures cause { HasMapCause (S.fault_count store.old) (S.fault_count store.new)
-        (S.bad store.new) (IsWornFor (S.table store.old)) result }
+        (S.bad store.new) (IsWornPush (AreKnown S.NodeStore store.old) (S.nodes store.old)
+        (S.table store.old) above node place) result }
 {
     let step = push_step(store, above, node, place)?;
     make(alloc, store, step)

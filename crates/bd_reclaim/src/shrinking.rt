@@ -4,8 +4,8 @@ ghost use Rattle.std.specs.Prelude.{◌≡◌, ◌<◌, ◌≤◌, OnOk, OnErr, 
 ghost use Rattle.bd_message.specs.KeyMaps.{HasMapCause};
 ghost use Rattle.bd_node.specs.Frames.{OfSound, OnlyReads, Stays};
 ghost use Rattle.bd_node.specs.declared.node.Node.{Node};
+ghost use Rattle.bd_node.specs.Steps.{IsWornBy};
 ghost use Rattle.bd_node.specs.Tables.{IsLower, IsSound};
-ghost use Rattle.bd_flush.specs.Flushed.{IsWornFor};
 ghost use Rattle.bd_reclaim.specs.Walks.{IsThin};
 ghost use Rattle.bd_reclaim.specs.Reclaimed.{IsReclaimed, IsShrunk, root_only, left_over};
 
@@ -38,7 +38,7 @@ pub fn shrink<S: NodeStore>(alloc: Global, store: &mut S, child: u64) -> Result<
     ensures err { OnErr result (OnlyReads S.NodeStore store.old store.new) }
     ensures few_visits { S.visit_count store.new ≤ S.visit_count store.old }
     ensures cause { HasMapCause (S.fault_count store.old) (S.fault_count store.new)
-        (S.bad store.new) (IsWornFor (S.table store.old)) result }
+        (S.bad store.new) (IsWornBy (S.table store.old) (root_only child)) result }
 {
     store.commit(root_only(alloc, child))
 }

@@ -1,10 +1,11 @@
 -- What the way down finds is enough to make a step.
-use Rattle.std.proofs.Common.{◌≡◌, ℕ, ◌+◌, ◌*◌, List, reverse, ◌<◌, ◌≤◌, sym, ap, subst, ◌∙◌, Option, None, Some, arith, inl, inr}
+use Rattle.std.proofs.Common.{◌≡◌, ℕ, ◌+◌, ◌*◌, List, reverse, ◌<◌, ◌≤◌, sym, ap, subst, ◌∙◌, Option, None, Some, arith, inl, inr, Result, Ok, Err}
 use Rattle.std.specs.List.{AllByRecursion}
 use Rattle.bd_limits.specs.Limits.{soft_limit}
 use Rattle.bd_node.specs.declared.node.Edge.{Edge}
 use Rattle.bd_node.specs.declared.node.Node.{Node}
 use Rattle.bd_node.specs.declared.node.Node.TheVariants.{Leaf, Inner}
+use Rattle.bd_node.specs.declared.node.Step.{Step}
 use Rattle.bd_node.specs.Nodes.{buffer_size}
 use Rattle.bd_node.specs.Meaning.{Nodes}
 use Rattle.bd_node.specs.Shape.{IsShape}
@@ -19,14 +20,19 @@ use Rattle.bd_flush.specs.Children.{IsFetched, IsContents}
 use Rattle.bd_flush.specs.Pushes.{CanPush, CanPushNew, AllGoDown, IsOwn, unseen}
 use Rattle.bd_flush.specs.GoingDown.{child_level}
 use Rattle.bd_flush.specs.Carving.{CanCarve}
-use Rattle.bd_copy.specs.Copying.{HasChild}
+use Rattle.bd_copy.specs.Copying.{HasChild, IsPrivatiseStep}
+use Rattle.bd_flush.specs.Copies.{IsCopyFor}
+use Rattle.bd_flush.proofs.Made.{worn_wider}
+use Rattle.bd_message.specs.declared.fault.MapFault.{MapFault}
+use Rattle.bd_message.specs.KeyMaps.{HasMapCause}
+use Rattle.bd_message.proofs.Causes.{cause_weaker, cause_passed, cause_after}
 use Rattle.bd_flush.proofs.EdgeChildren.{child_lower}
 use Rattle.bd_flush.specs.Ways.{IsFullestAt, IsFull, IsFullestIn, AreOwn, IsDue, IsWaited, IsStanding, IsToDo, IsToDoAt, IsWayThere}
 use Rattle.bd_node.proofs.Lookup.{each_weaker}
 use Rattle.bd_flush.proofs.Abundance.{abundant}
 use Rattle.bd_flush.proofs.GoingDown.{all_plain}
 use Rattle.bd_flush.proofs.Waiting.{fullest_waits, pending_waits}
-use Rattle.bd_step.specs.Steps.{IsMade, IsHighAfter, IsAbundantAt, IsAbundant, IsFlushStep}
+use Rattle.bd_step.specs.Steps.{IsStepOf, IsMade, IsTooHigh, IsWornStep, IsWornToFlush, IsHighAfter, IsAbundantAt, IsAbundant, IsFlushStep}
 
 -- messages wait in a node of the way
 some_wait : (t : Table) (f : Fetched) → 1 ≤ t.size → IsFetched t f → IsFull t f → 1 ≤ buffer_size f.node.value
@@ -180,3 +186,49 @@ is_flush_step nodes mid t m new u step h =
       height = subst (λ (v : Table). IsHighAfter v step u) h.table_is h.height;
       flushed = subst (λ (v : Table). IsFlushed nodes v new u) h.table_is (subst (λ (f : Nodes). IsFlushed f m new u) h.nodes_are (h.flushed again));
     }
+
+-- ---- worn counters
+
+-- the step of the store, where what is known of it is known of nodes that are the same
+copy_known : (known again : Type 0) (nodes mid : Nodes) (t : Table) (parent : Fetched) (place : ℕ) (step : Step) → (known → again × (mid ≡ nodes)) → IsPrivatiseStep again mid t parent place step → IsPrivatiseStep known nodes t parent place step
+copy_known known again nodes mid t parent place step knows h = record {
+  edge = h.edge;
+  here = h.here;
+  child = h.child;
+  child_is = h.child_is;
+  old = h.old;
+  own = h.own;
+  there = λ k. let both : again × (mid ≡ nodes) = knows k in subst (λ (f : Nodes). f h.child ≡ Some h.old) both.1 (h.there both.0);
+  copy = h.copy;
+  copied = h.copied;
+  level_is = h.level_is;
+  has = λ k. let both : again × (mid ≡ nodes) = knows k in subst (λ (f : Nodes). IsCopyFor f h.edge h.copy) both.1 (h.has both.0);
+  step_is = h.step_is;
+}
+
+pub step_known : (known again : Type 0) (nodes mid : Nodes) (t : Table) (flush : FlushStep) (step : Step) → (known → again × (mid ≡ nodes)) → IsStepOf again mid t flush step → IsStepOf known nodes t flush step
+step_known known again nodes mid t (SplitRoot root) step knows h = h
+step_known known again nodes mid t (SplitChild above parent place child) step knows h = h
+step_known known again nodes mid t (Push above parent place None) step knows h = h
+step_known known again nodes mid t (Push above parent place (Some child)) step knows h = h
+step_known known again nodes mid t (Privatise above parent place) step knows h = copy_known known again nodes mid t parent place step knows h
+step_known known again nodes mid t (Carve above parent place) step knows h = h
+
+-- a step that was found before is refused for the same
+pub worn_known : {T : Type 0} (before mid now : ℕ) (bad : ℕ → Type 0) (known again : Type 0) (nodes mids : Nodes) (t m : Table) (flush : FlushStep) (r : Result T MapFault) → mid ≡ before → m ≡ t → (known → again × (mids ≡ nodes)) → HasMapCause mid now bad (IsWornStep again mids m flush) r
+    → HasMapCause before now bad (IsWornStep known nodes t flush) r
+worn_known before mid now bad known again nodes mids t m flush r same table knows cause =
+    worn_wider before now bad (IsStepOf again mids t flush) (IsStepOf known nodes t flush) (IsTooHigh t flush) (IsTooHigh t flush) t r (λ step is. step_known known again nodes mids t flush step knows is) (λ up. up)
+    (cause_after before mid now bad (IsWornStep again mids t flush) r same
+    (subst (λ (v : Table). HasMapCause mid now bad (IsWornStep again mids v flush) r) table cause))
+
+-- the nodes after reads
+pub still_known : (known : Type 0) (nodes mid : Nodes) (t m : Table) → known → mid ≡ nodes → m ≡ t → IsSound nodes t → (known × IsSound mid m) × (mid ≡ nodes)
+still_known known nodes mid t m knows same table sound =
+    ((knows, subst (λ (v : Table). IsSound mid v) (sym table) (subst (λ (f : Nodes). IsSound f t) (sym same) sound)), same)
+
+pub flush_cause : {T U : Type 0} (before mid now : ℕ) (bad : ℕ → Type 0) (known again : Type 0) (nodes mids : Nodes) (t m : Table) (flush : FlushStep) (e : MapFault) → mid ≡ before → m ≡ t → (known → again × (mids ≡ nodes)) → IsToDo t flush → (known → IsToDoAt nodes t flush)
+    → HasMapCause {T = T} mid now bad (IsWornStep again mids m flush) (Err e) → HasMapCause {T = U} before now bad (IsWornToFlush known nodes t) (Err e)
+flush_cause {T} {U} before mid now bad known again nodes mids t m flush e same table knows to_do here cause =
+    cause_weaker {T = U} before now bad (IsWornStep known nodes t flush) (IsWornToFlush known nodes t) (λ counter worn. record { step = flush; to_do = to_do; here = here; worn = worn }) (Err e)
+    (cause_passed before now bad (IsWornStep known nodes t flush) e (worn_known {T = T} before mid now bad known again nodes mids t m flush (Err e) same table knows cause))

@@ -1,7 +1,9 @@
 -- The kinds of a step of a flush, and what it takes.
-use Rattle.std.specs.Prelude.{ℕ, ◌+◌, ◌*◌, ◌<◌, ◌≤◌, ◌⊎◌, reverse, None, Some, ⊤}
-use Rattle.bd_limits.specs.Limits.{soft_limit, abundant_limit}
+use Rattle.std.specs.Prelude.{◌≡◌, ℕ, ◌+◌, ◌*◌, ◌<◌, ◌≤◌, ◌⊎◌, reverse, None, Some, ⊤}
+use Rattle.bd_limits.specs.Limits.{soft_limit, abundant_limit, level_limit}
+use Rattle.bd_message.specs.declared.fault.Counter.{Counter}
 use Rattle.bd_node.specs.declared.node.Node.{Node}
+use Rattle.bd_node.specs.declared.node.Step.{Step}
 use Rattle.bd_node.specs.Meaning.{Nodes}
 use Rattle.bd_node.specs.Tables.{Table}
 use Rattle.bd_inner.specs.Halves.{edges_of, buffer_of}
@@ -9,29 +11,60 @@ use Rattle.bd_flush.specs.declared.ways.FlushStep.{FlushStep}
 use Rattle.bd_flush.specs.declared.ways.FlushStep.TheVariants.{SplitRoot, SplitChild, Push, Privatise, Carve}
 use Rattle.bd_flush.specs.Pending.{IsFullest}
 use Rattle.bd_flush.specs.Flushed.{IsFlushed}
-use Rattle.bd_flush.specs.Splits.{IsSplitRoot, IsRaised}
+use Rattle.bd_flush.specs.Made.{IsMadeBy, IsWornFor}
+use Rattle.bd_flush.specs.Splits.{IsRootSplit, IsRaised}
 use Rattle.bd_flush.specs.Children.{IsNoHigher}
-use Rattle.bd_flush.specs.Between.{IsSplitChild, IsHighAfterSplit, IsHardlyHigher}
-use Rattle.bd_flush.specs.Pushes.{IsPushed, IsPushedBetween, IsPushedNew, IsLongPush}
-use Rattle.bd_flush.specs.Carving.{IsCarvedAt}
+use Rattle.bd_flush.specs.Between.{IsSplitStep, IsHighSplit, IsHighAfterSplit, IsHardlyHigher}
+use Rattle.bd_flush.specs.Pushes.{IsSomePush, IsHighPush, IsNewStep, IsLongPush}
+use Rattle.bd_flush.specs.Carving.{IsCarveStep}
 use Rattle.bd_flush.specs.Ways.{IsToDo, IsToDoAt}
-use Rattle.bd_copy.specs.Copying.{IsPrivatised}
+use Rattle.bd_copy.specs.Copying.{IsPrivatiseStep}
 
 -- ---- the kinds of a step
 
--- what a step leaves, by its kind: a root's or a child's split, a push to a child or a new leaf, a
--- child that is copied, or a Goto whose keys have got edges of their own
+-- the step of the store that is a step of a flush, by its kind: a root's or a child's split, a push to
+-- a child or a new leaf, a child that is copied, or a Goto whose keys get edges of their own; the
+-- nodes may be known or not
+abbrev pub IsStepOf : Type 0 → Nodes → Table → FlushStep → Step → Type 0
+IsStepOf known nodes t (SplitRoot root) step = IsRootSplit t root.node.value step
+IsStepOf known nodes t (SplitChild above parent place child) step =
+    IsSplitStep t (reverse above) parent place child step
+IsStepOf known nodes t (Push above parent place None) step =
+    IsNewStep t.root t.next parent place step
+IsStepOf known nodes t (Push above parent place (Some child)) step =
+    IsSomePush t.root t.next (reverse above) parent place child step
+IsStepOf known nodes t (Privatise above parent place) step =
+    IsPrivatiseStep known nodes t parent place step
+IsStepOf known nodes t (Carve above parent place) step = IsCarveStep t parent place step
+
+-- what a step leaves: what its step of the store does
 abbrev pub IsMade : Nodes → Table → FlushStep → Nodes → Table → Type 0
-IsMade nodes t (SplitRoot root) new u = IsSplitRoot t root.node.value new
-IsMade nodes t (SplitChild above parent place child) new u =
-    IsSplitChild t (reverse above) parent place child new u
-IsMade nodes t (Push above parent place None) new u = IsPushedNew t parent place new u
-IsMade nodes t (Push above parent place (Some child)) new u =
-    IsPushed t parent place child new u
-    ⊎ IsPushedBetween t (reverse above) parent place child new u
-IsMade nodes t (Privatise above parent place) new u =
-    IsPrivatised nodes t parent place new u
-IsMade nodes t (Carve above parent place) new u = IsCarvedAt t parent place new u
+IsMade nodes t step new u = IsMadeBy (IsStepOf ⊤ nodes t step) nodes t new u
+
+-- a node would have to rise above level 1,000: the root that is split, or one above halves whose pivot
+-- would have more than 518 bytes in their parent; no other step needs a level
+abbrev pub IsTooHigh : Table → FlushStep → Type 0
+IsTooHigh t (SplitRoot root) = t.level t.root ≡ level_limit
+IsTooHigh t (SplitChild above parent place child) = IsHighSplit (reverse above) parent place child
+IsTooHigh t (Push above parent place None) = ⊥
+IsTooHigh t (Push above parent place (Some child)) =
+    IsHighPush parent.node.value place child.node.value (reverse above)
+IsTooHigh t (Privatise above parent place) = ⊥
+IsTooHigh t (Carve above parent place) = ⊥
+
+-- why a step that was found is refused: a counter has to pass its last value for all that it adds
+abbrev pub IsWornStep : Type 0 → Nodes → Table → FlushStep → Counter → Type 0
+IsWornStep known nodes t step counter =
+    IsWornFor (IsStepOf known nodes t step) (IsTooHigh t step) t counter
+
+-- why no step of a flush is made: a counter has to pass its last value for all that the step adds that
+-- the way down finds, where the nodes may be known or not
+pub record IsWornToFlush (known : Type 0) (nodes : Nodes) (t : Table) (counter : Counter) : Type 0
+  where
+    pub step : FlushStep
+    pub to_do : IsToDo t step
+    pub here : known → IsToDoAt nodes t step
+    pub worn : IsWornStep known nodes t step counter
 
 -- how high the root is after a step, by its kind: one level higher only after its split, or where the
 -- pivot of a child's or a leaf's halves would have more than 518 bytes in its parent

@@ -5,10 +5,11 @@ ghost use Rattle.bd_message.specs.KeyMaps.{HasMapCause};
 ghost use Rattle.bd_node.specs.Frames.{OfSound, OnlyReads, Stays};
 ghost use Rattle.bd_node.specs.Tables.{IsSound};
 ghost use Rattle.bd_flush.specs.declared.ways.FlushStep.TheVariants as step;
-ghost use Rattle.bd_flush.specs.Flushed.{IsFlushed, IsWornFor};
+ghost use Rattle.bd_flush.specs.Flushed.{IsFlushed};
+ghost use Rattle.bd_flush.specs.Made.{AreKnown};
 ghost use Rattle.bd_flush.specs.Raising.{IsWayUp};
 ghost use Rattle.bd_flush.specs.Ways.{IsDue, IsWaited, IsStanding, AreOwn, IsWayOf, IsWayThere};
-ghost use Rattle.bd_step.specs.Steps.{IsMade, IsHighAfter, IsFlushStep, IsFound, step_visits};
+ghost use Rattle.bd_step.specs.Steps.{IsMade, IsHighAfter, IsWornStep, IsWornToFlush, IsFlushStep, IsFound, step_visits};
 
 use bd_copy::privatise;
 use bd_flush::{
@@ -40,7 +41,8 @@ pub fn flush_step<S: NodeStore>(
     ensures few_visits { S.visit_count store.new
         ≤ S.visit_count store.old + step_visits (S.table store.old) }
     ensures cause { HasMapCause (S.fault_count store.old) (S.fault_count store.new)
-        (S.bad store.new) (IsWornFor (S.table store.old)) result }
+        (S.bad store.new) (IsWornToFlush (AreKnown S.NodeStore store.old)
+        (S.nodes store.old) (S.table store.old)) result }
 {
     if store.root_size() <= limit {
         return Ok(false);
@@ -73,7 +75,8 @@ pub fn make<S: NodeStore>(alloc: Global, store: &mut S, step: FlushStep) -> Resu
     ensures few_visits { S.visit_count store.new ≤ S.visit_count store.old
         + (4 + 17 * (S.table store.old).level (S.table store.old).root) }
     ensures cause { HasMapCause (S.fault_count store.old) (S.fault_count store.new)
-        (S.bad store.new) (IsWornFor (S.table store.old)) result }
+        (S.bad store.new) (IsWornStep (AreKnown S.NodeStore store.old)
+        (S.nodes store.old) (S.table store.old) step) result }
 {
     match step {
         FlushStep::SplitRoot { root } => split_root(alloc, store, &root.node),
@@ -122,7 +125,8 @@ fn push_down<S: NodeStore>(
     ensures err { OnErr result (OnlyReads S.NodeStore store.old store.new) }
     ensures few_visits { S.visit_count store.new ≤ S.visit_count store.old + 4 }
     ensures cause { HasMapCause (S.fault_count store.old) (S.fault_count store.new)
-        (S.bad store.new) (IsWornFor (S.table store.old)) result }
+        (S.bad store.new) (IsWornStep (AreKnown S.NodeStore store.old)
+        (S.nodes store.old) (S.table store.old) (step.Push above parent place child)) result }
 {
     match child {
         None => push_new(alloc, store, &parent, place),

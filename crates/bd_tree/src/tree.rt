@@ -15,10 +15,10 @@ ghost use Rattle.bd_node.specs.Stores.{FitsRoot, visited};
 ghost use Rattle.bd_query.specs.Asks.{AreVisitsOfWays};
 ghost use Rattle.bd_query.specs.Visits.{AreVisits};
 ghost use Rattle.bd_graft.specs.Grafting.{IsGrown, IsGraftStep, AreOthersSame, IsWornForGraft, IsWornByGraft, OnWorn};
-ghost use Rattle.bd_flush.specs.Flushed.{IsWornFor};
+ghost use Rattle.bd_flush.specs.Made.{AreKnown};
 ghost use Rattle.bd_reclaim.specs.Walks.{IsFirst, HasNone, IsToDo, IsToDoAt, walk_size};
-ghost use Rattle.bd_reclaim.specs.Reclaimed.{IsReclaimed, IsMade, IsRootAfter, IsNextAfter, LeavesLess, reclaim_visits};
-ghost use Rattle.bd_step.specs.Steps.{IsFlushStep, IsFound, step_visits};
+ghost use Rattle.bd_reclaim.specs.Reclaimed.{IsReclaimed, IsMade, IsRootAfter, IsNextAfter, LeavesLess, reclaim_visits, IsWornChange};
+ghost use Rattle.bd_step.specs.Steps.{IsFlushStep, IsFound, step_visits, IsWornToFlush};
 
 use bd_graft::{Walk, graft};
 use bd_limits::MAX_BUFFER;
@@ -260,7 +260,8 @@ impl<S: NodeStore> Tree<S> {
         ensures few_visits { S.visit_count self.new.store
             ≤ S.visit_count self.old.store + reclaim_visits (S.table self.old.store) step }
         ensures cause { HasMapCause (S.fault_count self.old.store) (S.fault_count self.new.store)
-            (S.bad self.new.store) (IsWornFor (S.table self.old.store)) result }
+            (S.bad self.new.store) (IsWornChange (AreKnown S.NodeStore self.old.store)
+            (S.nodes self.old.store) (S.table self.old.store) step) result }
         ensures walk { self.new.walk ≡ self.old.walk }
     {
         reclaim_step(self.alloc, &mut self.store, step)
@@ -301,7 +302,8 @@ impl<S: NodeStore> Tree<S> {
         ensures few_visits { S.visit_count self.new.store
             ≤ S.visit_count self.old.store + step_visits (S.table self.old.store) }
         ensures cause { HasMapCause (S.fault_count self.old.store) (S.fault_count self.new.store)
-            (S.bad self.new.store) (IsWornFor (S.table self.old.store)) result }
+            (S.bad self.new.store) (IsWornToFlush (AreKnown S.NodeStore self.old.store)
+            (S.nodes self.old.store) (S.table self.old.store)) result }
         ensures walk { self.new.walk ≡ self.old.walk }
     {
         flush_step(self.alloc, &mut self.store, limit)

@@ -1,6 +1,7 @@
 use Rattle.std.proofs.Common.{◌+◌, ◌≤◌, ◌∙◌, sym, arith}
 use Rattle.bd_copy.proofs.Shortened.{sound_again}
-use Rattle.bd_copy.proofs.Copied.{child_read, kept_child, source_short, put_again, copy_there, copied_again, on_privatised, put_few, copy_visits}
+use Rattle.bd_copy.proofs.Copied.{child_read, kept_child, source_short, put_again, copy_there, copied_again, on_privatised, copy_cause, put_few, copy_visits}
+use Rattle.bd_flush.specs.Made.{AreKnown}
 use Rattle.bd_copy.proofs.privatising.privatise.Goals as goal
 
 pub fetch-requires : goal.fetch-requires
@@ -51,11 +52,11 @@ put_copy-requires-clause-copied g c = λ known sound.
     sound_was (c.fetch.ensures.left.kept was) (c.in_ok-child.ensures.contents was)
     (c.in_ok-copy.ensures.has (c.fetch.ensures.left.known was) (sound_again (g.S.NodeStore.nodes c.args.store.now) (g.S.NodeStore.nodes c.fetch.new.store) (g.S.NodeStore.table c.args.store.now) (g.S.NodeStore.table c.fetch.new.store) (c.fetch.ensures.left.kept was) c.fetch.ensures.left.table sound_was)))
 
-pub returns-clause-privatised : goal.returns-clause-privatised
-returns-clause-privatised g c = λ known sound.
+pub returns-clause-made : goal.returns-clause-made
+returns-clause-made g c = λ known sound.
     let same = c.freed.ensures.left.kept (c.fetch.ensures.left.known known) ∙ c.fetch.ensures.left.kept known in
     let table = c.freed.ensures.left.table ∙ c.fetch.ensures.left.table in
-    on_privatised (g.S.NodeStore.nodes c.args.store.now) (g.S.NodeStore.table c.args.store.now) (g.S.NodeStore.table c.freed.new.store) c.args.parent.now c.args.place c.index-edges_of-place.result c.in_ok-child.child c.in_ok-copy.copy (g.S.NodeStore.nodes c.put_copy.new.store) (g.S.NodeStore.table c.put_copy.new.store) c.put_copy.result
+    on_privatised (g.S.NodeStore.nodes c.args.store.now) (g.S.NodeStore.nodes c.freed.new.store) (g.S.NodeStore.table c.args.store.now) (g.S.NodeStore.table c.freed.new.store) c.args.parent.now c.args.place c.index-edges_of-place.result c.in_ok-child.child c.in_ok-copy.copy (g.S.NodeStore.nodes c.put_copy.new.store) (g.S.NodeStore.table c.put_copy.new.store) c.put_copy.result
     (copy_there (g.S.NodeStore.nodes c.args.store.now) (g.S.NodeStore.nodes c.fetch.new.store) (g.S.NodeStore.table c.args.store.now) (g.S.NodeStore.table c.fetch.new.store) c.args.parent.now c.args.place c.index-edges_of-place.result c.in-Some.id c.in_ok-child.child c.deref-2.result.now c.as_slice.result.now c.in_ok-copy.copy
     (record {
       read = child_read (g.S.NodeStore.table c.args.store.now) c.args.parent.now c.args.place c.in-Some.id c.deref.result.now c.edges_of.result.now c.index-edges_of-place.result c.requires.can c.deref.ensures c.edges_of.ensures c.index-edges_of-place.is c.in-Some.is;
@@ -70,8 +71,39 @@ returns-clause-privatised g c = λ known sound.
     })
     sound (c.fetch.ensures.left.kept known) (c.in_ok-child.ensures.contents known)
     (c.in_ok-copy.ensures.has (c.fetch.ensures.left.known known) (sound_again (g.S.NodeStore.nodes c.args.store.now) (g.S.NodeStore.nodes c.fetch.new.store) (g.S.NodeStore.table c.args.store.now) (g.S.NodeStore.table c.fetch.new.store) (c.fetch.ensures.left.kept known) c.fetch.ensures.left.table sound)))
-    table
-    (c.put_copy.ensures.put (c.freed.ensures.left.known (c.fetch.ensures.left.known known)) (sound_again (g.S.NodeStore.nodes c.args.store.now) (g.S.NodeStore.nodes c.freed.new.store) (g.S.NodeStore.table c.args.store.now) (g.S.NodeStore.table c.freed.new.store) same table sound))
+    same table
+    (c.put_copy.ensures.made (c.freed.ensures.left.known (c.fetch.ensures.left.known known)) (sound_again (g.S.NodeStore.nodes c.args.store.now) (g.S.NodeStore.nodes c.freed.new.store) (g.S.NodeStore.table c.args.store.now) (g.S.NodeStore.table c.freed.new.store) same table sound))
+
+pub returns-clause-cause : goal.returns-clause-cause
+returns-clause-cause g c =
+    copy_cause (g.S.NodeStore.fault_count c.args.store.now) (g.S.NodeStore.fault_count c.freed.new.store) (g.S.NodeStore.fault_count c.put_copy.new.store) (g.S.NodeStore.bad c.put_copy.new.store) (AreKnown g.S.NodeStore c.args.store.now) (g.S.NodeStore.nodes c.args.store.now) (g.S.NodeStore.table c.args.store.now) (g.S.NodeStore.table c.fetch.new.store) (g.S.NodeStore.table c.freed.new.store)
+    c.args.parent.now c.args.place c.index-edges_of-place.result c.in-Some.id c.in_ok-child.child c.deref-2.result.now c.as_slice.result.now c.in_ok-copy.copy c.put_copy.result (c.in_ok-copy.ensures.cause.kept ∙ c.in_ok-child.ensures.cause.kept)
+    (record {
+      read = child_read (g.S.NodeStore.table c.args.store.now) c.args.parent.now c.args.place c.in-Some.id c.deref.result.now c.edges_of.result.now c.index-edges_of-place.result c.requires.can c.deref.ensures c.edges_of.ensures c.index-edges_of-place.is c.in-Some.is;
+      id_is = c.in_ok-child.ensures.id;
+      fetched = c.in_ok-child.ensures.fetched;
+      table_is = c.fetch.ensures.left.table;
+      shown_is = c.deref-2.ensures;
+      source_is = c.as_slice.ensures;
+      copied = c.in_ok-copy.ensures.copied;
+      own = c.in_ok-copy.ensures.own;
+      bytes = c.freed.ensures.bytes;
+    })
+    (λ k. (copy_there (g.S.NodeStore.nodes c.args.store.now) (g.S.NodeStore.nodes c.fetch.new.store) (g.S.NodeStore.table c.args.store.now) (g.S.NodeStore.table c.fetch.new.store) c.args.parent.now c.args.place c.index-edges_of-place.result c.in-Some.id c.in_ok-child.child c.deref-2.result.now c.as_slice.result.now c.in_ok-copy.copy
+    (record {
+      read = child_read (g.S.NodeStore.table c.args.store.now) c.args.parent.now c.args.place c.in-Some.id c.deref.result.now c.edges_of.result.now c.index-edges_of-place.result c.requires.can c.deref.ensures c.edges_of.ensures c.index-edges_of-place.is c.in-Some.is;
+      id_is = c.in_ok-child.ensures.id;
+      fetched = c.in_ok-child.ensures.fetched;
+      table_is = c.fetch.ensures.left.table;
+      shown_is = c.deref-2.ensures;
+      source_is = c.as_slice.ensures;
+      copied = c.in_ok-copy.ensures.copied;
+      own = c.in_ok-copy.ensures.own;
+      bytes = c.freed.ensures.bytes;
+    })
+    k.1 (c.fetch.ensures.left.kept k.0) (c.in_ok-child.ensures.contents k.0)
+    (c.in_ok-copy.ensures.has (c.fetch.ensures.left.known k.0) (sound_again (g.S.NodeStore.nodes c.args.store.now) (g.S.NodeStore.nodes c.fetch.new.store) (g.S.NodeStore.table c.args.store.now) (g.S.NodeStore.table c.fetch.new.store) (c.fetch.ensures.left.kept k.0) c.fetch.ensures.left.table k.1))))
+    (c.freed.ensures.left.table ∙ c.fetch.ensures.left.table) c.put_copy.ensures.cause
 
 pub returns-clause-few_visits : goal.returns-clause-few_visits
 returns-clause-few_visits g c =

@@ -1,5 +1,7 @@
 use Rattle.std.proofs.Common.{arith}
-use Rattle.bd_flush.proofs.Copies.{is_to_put, may_put, put_in_place, on_put_flushed, on_put, on_put_table, on_put_visits, put_worn}
+use Rattle.bd_flush.specs.Copies.{IsCopyStep}
+use Rattle.bd_flush.proofs.Made.{on_made, worn_of}
+use Rattle.bd_flush.proofs.Copies.{is_to_put, may_put, put_in_place, on_put_flushed, on_put_table, on_put_visits}
 use Rattle.bd_flush.proofs.copying.put_copy.Goals as goal
 
 pub commit-requires-clause-step : goal.commit-requires-clause-step
@@ -17,10 +19,9 @@ returns-clause-flushed g c = λ known sound.
     on_put_flushed (g.S.NodeStore.nodes c.args.store.now) (g.S.NodeStore.table c.args.store.now) c.args.parent.now c.args.place c.args.copy c.in_ok-step.step (g.S.NodeStore.nodes c.commit.new.self) (g.S.NodeStore.table c.commit.new.self) c.commit.result
     (is_to_put (g.S.NodeStore.table c.args.store.now) c.args.parent.now c.args.place c.args.copy c.in_ok-step.step c.root-root.result c.next_id-next.result c.root-root.ensures.table c.requires.can c.root-root.ensures.value c.next_id-next.ensures.value (omega arith) c.in_ok-step.ensures) sound (c.requires.own known sound) (c.requires.copied known sound) c.commit.ensures.table (c.commit.ensures.committed known sound)
 
-pub returns-clause-put : goal.returns-clause-put
-returns-clause-put g c = λ known sound.
-    on_put (g.S.NodeStore.nodes c.args.store.now) (g.S.NodeStore.table c.args.store.now) c.args.parent.now c.args.place c.args.copy c.in_ok-step.step (g.S.NodeStore.nodes c.commit.new.self) (g.S.NodeStore.table c.commit.new.self) c.commit.result
-    (is_to_put (g.S.NodeStore.table c.args.store.now) c.args.parent.now c.args.place c.args.copy c.in_ok-step.step c.root-root.result c.next_id-next.result c.root-root.ensures.table c.requires.can c.root-root.ensures.value c.next_id-next.ensures.value (omega arith) c.in_ok-step.ensures) sound (c.requires.own known sound) (c.requires.copied known sound) c.commit.ensures.table (c.commit.ensures.committed known sound)
+pub returns-clause-made : goal.returns-clause-made
+returns-clause-made g c = λ known sound.
+    on_made (IsCopyStep (g.S.NodeStore.table c.args.store.now).root (g.S.NodeStore.table c.args.store.now).next c.args.parent.now c.args.place c.args.copy) (g.S.NodeStore.nodes c.args.store.now) (g.S.NodeStore.table c.args.store.now) c.in_ok-step.step (g.S.NodeStore.nodes c.commit.new.self) (g.S.NodeStore.table c.commit.new.self) c.commit.result (is_to_put (g.S.NodeStore.table c.args.store.now) c.args.parent.now c.args.place c.args.copy c.in_ok-step.step c.root-root.result c.next_id-next.result c.root-root.ensures.table c.requires.can c.root-root.ensures.value c.next_id-next.ensures.value (omega arith) c.in_ok-step.ensures).put c.commit.ensures.table (c.commit.ensures.committed known sound)
 
 pub returns-clause-table : goal.returns-clause-table
 returns-clause-table g c =
@@ -29,8 +30,7 @@ returns-clause-table g c =
 
 pub returns-clause-cause : goal.returns-clause-cause
 returns-clause-cause g c =
-    put_worn (g.S.NodeStore.fault_count c.args.store.now) (g.S.NodeStore.fault_count c.commit.new.self) (g.S.NodeStore.bad c.commit.new.self) (g.S.NodeStore.table c.args.store.now) c.args.parent.now c.args.place c.args.copy c.in_ok-step.step c.commit.result
-    (is_to_put (g.S.NodeStore.table c.args.store.now) c.args.parent.now c.args.place c.args.copy c.in_ok-step.step c.root-root.result c.next_id-next.result c.root-root.ensures.table c.requires.can c.root-root.ensures.value c.next_id-next.ensures.value (omega arith) c.in_ok-step.ensures) c.commit.ensures.cause
+    worn_of (g.S.NodeStore.fault_count c.args.store.now) (g.S.NodeStore.fault_count c.commit.new.self) (g.S.NodeStore.bad c.commit.new.self) (IsCopyStep (g.S.NodeStore.table c.args.store.now).root (g.S.NodeStore.table c.args.store.now).next c.args.parent.now c.args.place c.args.copy) ⊥ (g.S.NodeStore.table c.args.store.now) c.in_ok-step.step c.commit.result (is_to_put (g.S.NodeStore.table c.args.store.now) c.args.parent.now c.args.place c.args.copy c.in_ok-step.step c.root-root.result c.next_id-next.result c.root-root.ensures.table c.requires.can c.root-root.ensures.value c.next_id-next.ensures.value (omega arith) c.in_ok-step.ensures).put c.commit.ensures.cause
 
 pub returns-clause-visits : goal.returns-clause-visits
 returns-clause-visits g c =

@@ -1,7 +1,9 @@
 use Rattle.std.proofs.Common.{arith, reverse}
 use Rattle.bd_flush.proofs.ChildSplits.{edge_within}
 use Rattle.bd_flush.proofs.Betweens.{way_shapes}
-use Rattle.bd_flush.proofs.PushPlans.{waiting_moves, waiting_plain, is_planned, planned_may, planned_in_place, on_planned_flushed, on_planned_pushed, on_planned_table, on_planned_visits, planned_worn, never_level, no_level_cause}
+use Rattle.bd_flush.specs.Pushes.{IsSomePush, IsHighPush}
+use Rattle.bd_flush.proofs.Made.{on_made, worn_of}
+use Rattle.bd_flush.proofs.PushPlans.{waiting_moves, waiting_plain, is_planned, planned_may, planned_in_place, on_planned_flushed, on_planned_table, on_planned_visits, some_push, no_id_cause, no_level_cause}
 use Rattle.bd_flush.proofs.pushing.push.Goals as goal
 
 pub push_plan-requires-clause-above : goal.push_plan-requires-clause-above
@@ -31,10 +33,9 @@ returns-clause-flushed g c = λ known sound.
     on_planned_flushed (g.S.NodeStore.nodes c.args.store.now) (g.S.NodeStore.table c.args.store.now) (reverse c.args.above.now) c.args.parent.now c.args.place c.args.child.now c.in-Ready.step (g.S.NodeStore.nodes c.commit.new.self) (g.S.NodeStore.table c.commit.new.self) c.commit.result
     (record { of = (is_planned (g.S.NodeStore.table c.args.store.now) (reverse c.args.above.now) c.args.parent.now c.args.place c.args.child.now c.in-Ready.step c.in_ok-step.field-0 c.root-root.result c.next_id-next.result c.root-root.ensures.table c.requires.can c.requires.way c.root-root.ensures.value c.next_id-next.ensures.value (omega arith) c.in-Ready.is c.in_ok-step.ensures); sound = sound; family = c.requires.family known sound; contents = c.requires.contents known sound }) c.commit.ensures.table (c.commit.ensures.committed known sound)
 
-pub returns-clause-pushed : goal.returns-clause-pushed
-returns-clause-pushed g c = λ known sound.
-    on_planned_pushed (g.S.NodeStore.nodes c.args.store.now) (g.S.NodeStore.table c.args.store.now) (reverse c.args.above.now) c.args.parent.now c.args.place c.args.child.now c.in-Ready.step (g.S.NodeStore.nodes c.commit.new.self) (g.S.NodeStore.table c.commit.new.self) c.commit.result
-    (record { of = (is_planned (g.S.NodeStore.table c.args.store.now) (reverse c.args.above.now) c.args.parent.now c.args.place c.args.child.now c.in-Ready.step c.in_ok-step.field-0 c.root-root.result c.next_id-next.result c.root-root.ensures.table c.requires.can c.requires.way c.root-root.ensures.value c.next_id-next.ensures.value (omega arith) c.in-Ready.is c.in_ok-step.ensures); sound = sound; family = c.requires.family known sound; contents = c.requires.contents known sound }) c.commit.ensures.table (c.commit.ensures.committed known sound)
+pub returns-clause-made : goal.returns-clause-made
+returns-clause-made g c = λ known sound.
+    on_made (IsSomePush (g.S.NodeStore.table c.args.store.now).root (g.S.NodeStore.table c.args.store.now).next (reverse c.args.above.now) c.args.parent.now c.args.place c.args.child.now) (g.S.NodeStore.nodes c.args.store.now) (g.S.NodeStore.table c.args.store.now) c.in-Ready.step (g.S.NodeStore.nodes c.commit.new.self) (g.S.NodeStore.table c.commit.new.self) c.commit.result (some_push (g.S.NodeStore.table c.args.store.now) (reverse c.args.above.now) c.args.parent.now c.args.place c.args.child.now c.in-Ready.step (is_planned (g.S.NodeStore.table c.args.store.now) (reverse c.args.above.now) c.args.parent.now c.args.place c.args.child.now c.in-Ready.step c.in_ok-step.field-0 c.root-root.result c.next_id-next.result c.root-root.ensures.table c.requires.can c.requires.way c.root-root.ensures.value c.next_id-next.ensures.value (omega arith) c.in-Ready.is c.in_ok-step.ensures)) c.commit.ensures.table (c.commit.ensures.committed known sound)
 
 pub returns-clause-table : goal.returns-clause-table
 returns-clause-table g c =
@@ -46,15 +47,14 @@ returns-clause-few_visits g c =
     on_planned_visits (g.S.NodeStore.table c.args.store.now) (reverse c.args.above.now) c.args.parent.now c.args.place c.args.child.now c.in-Ready.step (g.S.NodeStore.visit_count c.args.store.now) (g.S.NodeStore.visit_count c.commit.new.self) c.commit.result
     (is_planned (g.S.NodeStore.table c.args.store.now) (reverse c.args.above.now) c.args.parent.now c.args.place c.args.child.now c.in-Ready.step c.in_ok-step.field-0 c.root-root.result c.next_id-next.result c.root-root.ensures.table c.requires.can c.requires.way c.root-root.ensures.value c.next_id-next.ensures.value (omega arith) c.in-Ready.is c.in_ok-step.ensures) c.commit.ensures.visits c.commit.ensures.err_visits
 
-pub returns-clause-worn : goal.returns-clause-worn
-returns-clause-worn g c = λ e. absurd (never_level (g.S.NodeStore.fault_count c.args.store.now) (g.S.NodeStore.fault_count c.commit.new.self) (g.S.NodeStore.bad c.commit.new.self) (g.S.NodeStore.table c.args.store.now) c.in-Ready.step c.commit.result c.commit.ensures.cause e)
-
 pub returns-clause-cause : goal.returns-clause-cause
 returns-clause-cause g c =
-    planned_worn (g.S.NodeStore.fault_count c.args.store.now) (g.S.NodeStore.fault_count c.commit.new.self) (g.S.NodeStore.bad c.commit.new.self) (g.S.NodeStore.table c.args.store.now) (reverse c.args.above.now) c.args.parent.now c.args.place c.args.child.now c.in-Ready.step c.commit.result
-    (is_planned (g.S.NodeStore.table c.args.store.now) (reverse c.args.above.now) c.args.parent.now c.args.place c.args.child.now c.in-Ready.step c.in_ok-step.field-0 c.root-root.result c.next_id-next.result c.root-root.ensures.table c.requires.can c.requires.way c.root-root.ensures.value c.next_id-next.ensures.value (omega arith) c.in-Ready.is c.in_ok-step.ensures) c.commit.ensures.cause
+    worn_of (g.S.NodeStore.fault_count c.args.store.now) (g.S.NodeStore.fault_count c.commit.new.self) (g.S.NodeStore.bad c.commit.new.self) (IsSomePush (g.S.NodeStore.table c.args.store.now).root (g.S.NodeStore.table c.args.store.now).next (reverse c.args.above.now) c.args.parent.now c.args.place c.args.child.now) (IsHighPush c.args.parent.now.node.value c.args.place c.args.child.now.node.value (reverse c.args.above.now)) (g.S.NodeStore.table c.args.store.now) c.in-Ready.step c.commit.result (some_push (g.S.NodeStore.table c.args.store.now) (reverse c.args.above.now) c.args.parent.now c.args.place c.args.child.now c.in-Ready.step (is_planned (g.S.NodeStore.table c.args.store.now) (reverse c.args.above.now) c.args.parent.now c.args.place c.args.child.now c.in-Ready.step c.in_ok-step.field-0 c.root-root.result c.next_id-next.result c.root-root.ensures.table c.requires.can c.requires.way c.root-root.ensures.value c.next_id-next.ensures.value (omega arith) c.in-Ready.is c.in_ok-step.ensures)) c.commit.ensures.cause
 
 pub returns-in-NoLevel-clause-cause : goal.returns-in-NoLevel-clause-cause
 returns-in-NoLevel-clause-cause g c =
-    no_level_cause (g.S.NodeStore.fault_count c.args.store.now) (g.S.NodeStore.bad c.args.store.now) (g.S.NodeStore.table c.args.store.now) (reverse c.args.above.now) c.args.parent.now c.args.place c.args.child.now c.in_ok-step.field-0 c.root-root.result c.next_id-next.result c.requires.way
-    c.in-NoLevel.is c.in_ok-step.ensures
+    no_level_cause (g.S.NodeStore.fault_count c.args.store.now) (g.S.NodeStore.bad c.args.store.now) (IsSomePush (g.S.NodeStore.table c.args.store.now).root (g.S.NodeStore.table c.args.store.now).next (reverse c.args.above.now) c.args.parent.now c.args.place c.args.child.now) (g.S.NodeStore.table c.args.store.now) (reverse c.args.above.now) c.args.parent.now c.args.place c.args.child.now c.in_ok-step.field-0 c.root-root.result c.next_id-next.result c.in-NoLevel.is c.in_ok-step.ensures
+
+pub returns-in-NoId-clause-cause : goal.returns-in-NoId-clause-cause
+returns-in-NoId-clause-cause g c =
+    no_id_cause (g.S.NodeStore.fault_count c.args.store.now) (g.S.NodeStore.bad c.args.store.now) (IsHighPush c.args.parent.now.node.value c.args.place c.args.child.now.node.value (reverse c.args.above.now)) (g.S.NodeStore.table c.args.store.now) (reverse c.args.above.now) c.args.parent.now c.args.place c.args.child.now c.in_ok-step.field-0 c.root-root.result c.next_id-next.result c.root-root.ensures.value c.next_id-next.ensures.value c.in-NoId.is c.in_ok-step.ensures

@@ -1,4 +1,4 @@
-use Rattle.std.proofs.Common.{subst, sym, ap, ◌∙◌}
+use Rattle.std.proofs.Common.{subst, sym, ap, ◌∙◌, reverse}
 use Rattle.bd_node.specs.declared.node.Edge.{Edge}
 use Rattle.bd_node.specs.declared.node.Node.{Node}
 use Rattle.bd_node.specs.Nodes.{level_of}
@@ -6,6 +6,7 @@ use Rattle.bd_inner.specs.Exchange.{IsEdgeAt}
 use Rattle.bd_flush.specs.Pushes.{CanMoveSome, IsWaitedFor, IsPushedOver}
 use Rattle.bd_flush.specs.declared.children.Halving.{Halving}
 use Rattle.bd_flush.proofs.Batches.{long_fits, long_shape}
+use Rattle.bd_flush.proofs.PushPlans.{long_plan}
 use Rattle.bd_flush.proofs.pushing.push_plan.Goals as goal
 
 pub pushed_below-requires-clause-waiting : goal.pushed_below-requires-clause-waiting
@@ -25,3 +26,8 @@ pub plan_over-requires-clause-shape : goal.plan_over-requires-clause-shape
 plan_over-requires-clause-shape c =
     long_shape c.args.parent.now.node.value c.deref-node.result.now c.args.place c.deref-below.result.now c.in-Long.edge c.in-Long.halves.0 c.in-Long.halves.1 c.in-Long.halves.2 c.in_ok-node-in-Long.node c.deref-node.ensures c.requires.shape
     (subst (λ (h : Halving). IsPushedOver c.deref-node.result.now c.args.place c.deref-below.result.now c.args.next h) c.in-Long.is c.in_ok-node.ensures) c.in_ok-node-in-Long.ensures
+
+pub returns-in_ok-node-in-Long : goal.returns-in_ok-node-in-Long
+returns-in_ok-node-in-Long c =
+    long_plan c.args.root c.args.next (reverse c.args.above.now) c.args.parent.now c.args.place c.args.child.now c.in-Long.edge c.in-Long.halves.0 c.in-Long.halves.1 c.in-Long.halves.2 c.in_ok-node-in-Long.node c.deref-node.result.now c.deref-below.result.now c.plan_over.result c.deref-node.ensures c.deref-below.ensures
+    (subst (λ (h : Halving). IsPushedOver c.deref-node.result.now c.args.place c.deref-below.result.now c.args.next h) c.in-Long.is c.in_ok-node.ensures) c.in_ok-node-in-Long.ensures c.plan_over.ensures

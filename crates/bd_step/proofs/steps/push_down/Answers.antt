@@ -1,4 +1,8 @@
-use Rattle.std.proofs.Common.{Option, subst}
+use Rattle.std.proofs.Common.{Option, List, reverse, OnOk, sym, subst}
+use Rattle.bd_message.specs.KeyMaps.{HasMapCause}
+use Rattle.bd_flush.specs.Made.{AreKnown, IsMadeBy, IsWornFor}
+use Rattle.bd_flush.specs.Pushes.{IsSomePush, IsHighPush}
+use Rattle.bd_step.specs.Steps.{IsMade, IsWornStep}
 use Rattle.bd_flush.specs.declared.fetching.Fetched.{Fetched}
 use Rattle.bd_flush.specs.declared.ways.FlushStep.TheVariants.{Push}
 use Rattle.bd_flush.specs.Ways.{IsDue, IsWaited}
@@ -19,3 +23,13 @@ push-requires-clause-can g c =
 
 pub push-requires-clause-contents : goal.push-requires-clause-contents
 push-requires-clause-contents g c = λ known sound. way_stands (g.S.NodeStore.nodes c.args.store.now) (g.S.NodeStore.table c.args.store.now) c.args.above c.as_slice.result.now c.as_slice.ensures (c.requires.way_here known sound)
+
+pub returns-clause-made : goal.returns-clause-made
+returns-clause-made g c = λ known sound.
+    subst (λ (o : Option Fetched). OnOk c.push.result (IsMade (g.S.NodeStore.nodes c.args.store.now) (g.S.NodeStore.table c.args.store.now) (Push c.args.above c.args.parent c.args.place o) (g.S.NodeStore.nodes c.push.new.store) (g.S.NodeStore.table c.push.new.store))) (sym c.in-Some.is)
+    (subst (λ (l : List Fetched). OnOk c.push.result (IsMadeBy (IsSomePush (g.S.NodeStore.table c.args.store.now).root (g.S.NodeStore.table c.args.store.now).next (reverse l) c.args.parent c.args.place c.in-Some.child) (g.S.NodeStore.nodes c.args.store.now) (g.S.NodeStore.table c.args.store.now) (g.S.NodeStore.nodes c.push.new.store) (g.S.NodeStore.table c.push.new.store))) c.as_slice.ensures (c.push.ensures.made known sound))
+
+pub returns-clause-cause : goal.returns-clause-cause
+returns-clause-cause g c =
+    subst (λ (o : Option Fetched). HasMapCause (g.S.NodeStore.fault_count c.args.store.now) (g.S.NodeStore.fault_count c.push.new.store) (g.S.NodeStore.bad c.push.new.store) (IsWornStep (AreKnown g.S.NodeStore c.args.store.now) (g.S.NodeStore.nodes c.args.store.now) (g.S.NodeStore.table c.args.store.now) (Push c.args.above c.args.parent c.args.place o)) c.push.result) (sym c.in-Some.is)
+    (subst (λ (l : List Fetched). HasMapCause (g.S.NodeStore.fault_count c.args.store.now) (g.S.NodeStore.fault_count c.push.new.store) (g.S.NodeStore.bad c.push.new.store) (IsWornFor (IsSomePush (g.S.NodeStore.table c.args.store.now).root (g.S.NodeStore.table c.args.store.now).next (reverse l) c.args.parent c.args.place c.in-Some.child) (IsHighPush c.args.parent.node.value c.args.place c.in-Some.child.node.value (reverse l)) (g.S.NodeStore.table c.args.store.now)) c.push.result) c.as_slice.ensures c.push.ensures.cause)
