@@ -11,7 +11,9 @@ use Rattle.bd_message.specs.declared.fault.MapFault.{MapFault}
 use Rattle.bd_message.specs.declared.fault.MapFault.TheVariants as map
 use Rattle.bd_message.specs.KeyMaps.{SameAt, HasMapCause, IsCause, NeverWorn}
 use Rattle.bd_node.specs.Tables.{Table, root_at}
-use Rattle.bd_flush.specs.Flushed.{IsWornFor}
+use Rattle.bd_node.specs.declared.node.Step.{Step}
+use Rattle.bd_node.specs.Steps.{IsWornBy}
+use Rattle.bd_step.specs.Steps.{IsWornToFlush}
 use Rattle.bd_graft.specs.Grafting.{IsWornForGraft}
 use Rattle.bd_dirs.specs.declared.plan.Plan.{Plan}
 use Rattle.bd_dirs.specs.declared.plan.Plan.TheVariants.{Graft}
@@ -19,7 +21,7 @@ use Rattle.bd_dirs.specs.Kinds.{Kind, Reads, Sends, SendsLate, Grafts, kind_of}
 use Rattle.bd_dirs.specs.Plans.{IsPlanOf, IsPlanKind}
 use Rattle.bd_volume.specs.declared.Fault.{Fault}
 use Rattle.bd_volume.specs.declared.Fault.TheVariants.{Device, Damaged, Worn, NoMemory, Full, Stopped}
-use Rattle.bd_volume.specs.Views.{View, AreFlushes, waiting_limit, HasFlushed, IsStoppedBy, IsReadyFor, IsWornAfter, IsWornForStep, IsWornForMove, IsWornByKind, IsWornForSending, IsWornNow, Wears}
+use Rattle.bd_volume.specs.Views.{View, AreSound, AreFlushes, waiting_limit, HasFlushed, IsStoppedBy, IsReadyFor, IsWornAfter, IsWornForStep, IsWornForMove, IsWornByKind, IsWornForSending, IsWornNow, Wears}
 use Rattle.bd_volume.specs.Over.{fault_of, IsFlushFault, IsGraftFault, IsVolumeFault, IsHalted}
 use Rattle.bd_volume.proofs.Flushes.{flushes_same, flushed_as_called}
 use Rattle.bd_volume.proofs.Sent.{view_is}
@@ -46,20 +48,28 @@ graft_fault (Err (map.Damaged block)) t h = absurd h.failed
 graft_fault (Err (map.Worn which)) t h = h.failed
 graft_fault (Err map.NoMemory) t h = tt
 
-worn_after : (which : Counter) (made : ℕ) (t : Table) → IsWornFor t which → IsWornAfter which made t
-worn_after Count made t h = h
-worn_after NextId made t h = h
-worn_after Level made t h = h
-worn_after Refs made t h = h
-worn_after Epoch made t h = h
-worn_after Flushes made t h = absurd h
+-- a flush step wears no count of commands, of epochs or of flushes
+never_counted : (K : Type 0) (v : View) (which : Counter) → ((step : Step) → IsWornBy v.table step which → ⊥) → (which ≡ Level → ⊥) → IsWornToFlush K v.nodes v.table which → ⊥
+never_counted K v which unworn other h =
+    elim h.worn [
+      | inl w ↦ unworn w.step w.worn
+      | inr high ↦ other high.0
+    ]
+
+worn_after : (which : Counter) (made : ℕ) (v : View) → IsWornToFlush (AreSound v) v.nodes v.table which → IsWornAfter which made v
+worn_after Count made v h = never_counted (AreSound v) v Count (λ step w. w) (λ e. cc) h
+worn_after NextId made v h = h
+worn_after Level made v h = h
+worn_after Refs made v h = h
+worn_after Epoch made v h = never_counted (AreSound v) v Epoch (λ step w. w) (λ e. cc) h
+worn_after Flushes made v h = absurd (never_counted (AreSound v) v Flushes (λ step w. w) (λ e. cc) h)
 
 -- a step's fault after some steps stops the flush
 pub step_fault : (fault : MapFault) (made : ℕ) (old new : View) → AreFlushes made old new → made ≤ 65536 → soft_limit < new.table.size
-    → IsCause 0 0 (λ _. ⊥) (IsWornFor new.table) fault → IsFlushFault fault old new
+    → IsCause 0 0 (λ _. ⊥) (IsWornToFlush (AreSound new) new.nodes new.table) fault → IsFlushFault fault old new
 step_fault map.DeviceFault made old new flushes few waits h = no_rise h
 step_fault (map.Damaged block) made old new flushes few waits h = h
-step_fault (map.Worn which) made old new flushes few waits h = record { made = made; flushes = flushes; few = few; waits = waits; worn = worn_after which made new.table h }
+step_fault (map.Worn which) made old new flushes few waits h = record { made = made; flushes = flushes; few = few; waits = waits; worn = worn_after which made new h }
 step_fault map.NoMemory made old new flushes few waits h = record { made = made; flushes = flushes; few = few }
 
 -- where a flush stops, the tree has what it had
@@ -156,7 +166,7 @@ no_memory_halts fault count c old new made flushed is = subst (λ (f : MapFault)
 
 -- a step that fails leaves what the steps before it made
 pub step_stops : (fault : MapFault) (made : ℕ) (old mid new : View) → AreFlushes made old mid → made ≤ 65536 → soft_limit < mid.table.size
-    → new.nodes ≡ mid.nodes → new.table ≡ mid.table → new.walk ≡ mid.walk → IsCause 0 0 (λ _. ⊥) (IsWornFor mid.table) fault → IsFlushFault fault old new
+    → new.nodes ≡ mid.nodes → new.table ≡ mid.table → new.walk ≡ mid.walk → IsCause 0 0 (λ _. ⊥) (IsWornToFlush (AreSound mid) mid.nodes mid.table) fault → IsFlushFault fault old new
 step_stops fault made old mid new flushes few waits nodes table walk cause =
     subst (IsFlushFault fault old) (sym (view_is new mid nodes table walk)) (step_fault fault made old mid flushes few waits cause)
 

@@ -1,5 +1,5 @@
 -- What is seen of a volume's tree of nodes, and how commands change it.
-use Rattle.std.specs.Prelude.{◌≡◌, ℕ, ◌+◌, ◌*◌, ◌^◌, ◌<◌, ◌≤◌, ◌⊎◌, ◌==◌, Bool, if◌then◌else◌, List, [], ◌∷◌, None, Some, IsTrue}
+use Rattle.std.specs.Prelude.{◌≡◌, ℕ, ◌+◌, ◌*◌, ◌^◌, ◌<◌, ◌≤◌, ◌⊎◌, ◌==◌, Bool, if◌then◌else◌, List, [], ◌∷◌, None, Some, IsTrue, ⊤}
 use Rattle.bd_limits.specs.Limits.{soft_limit, late_limit, flush_limit}
 use Rattle.bd_command.specs.Command.{writes}
 use Rattle.bd_command.specs.declared.Command.{Command}
@@ -18,13 +18,12 @@ use Rattle.bd_node.specs.declared.node.Node.{Node}
 use Rattle.bd_node.specs.Nodes.{appended}
 use Rattle.bd_node.specs.Meaning.{Nodes}
 use Rattle.bd_node.specs.New.{new_root, new_table}
-use Rattle.bd_node.specs.Tables.{Table, root_at}
+use Rattle.bd_node.specs.Tables.{Table, IsSound, root_at}
 use Rattle.bd_node.specs.Steps.{IsCommitted, append_step, grown}
 use Rattle.bd_memnodes.specs.Seen.{Seen, nodes_of, table}
-use Rattle.bd_flush.specs.Flushed.{IsWornFor}
 use Rattle.bd_graft.specs.declared.grafting.Walk.{Walk}
 use Rattle.bd_graft.specs.Grafting.{IsGrown, IsGraftStep, AreOthersSame, IsWornForGraft}
-use Rattle.bd_step.specs.Steps.{IsFlushStep}
+use Rattle.bd_step.specs.Steps.{IsFlushStep, IsWornToFlush}
 use Rattle.bd_tree.specs.Trees.{TreeState}
 
 -- the nodes of a tree, their table, and how the last graft in it went
@@ -121,21 +120,25 @@ pub record IsMoved (t : Tree) (c : Command) (old new : View) : Type 0 where
 
 -- ---- what a fault leaves
 
--- after so many flush steps the counter has no room for one more
-abbrev pub IsWornAfter : Counter → ℕ → Table → Type 0
-IsWornAfter Count made t = ⊥
-IsWornAfter NextId made t = IsWornFor t NextId
-IsWornAfter Level made t = IsWornFor t Level
-IsWornAfter Refs made t = IsWornFor t Refs
-IsWornAfter Epoch made t = ⊥
-IsWornAfter Flushes made t = made ≡ flush_limit
+-- the nodes are known, since they are in memory, and sound
+abbrev pub AreSound : View → Type 0
+AreSound v = ⊤ × IsSound v.nodes v.table
+
+-- after so many flush steps the counter has no room for the next one
+abbrev pub IsWornAfter : Counter → ℕ → View → Type 0
+IsWornAfter Count made v = ⊥
+IsWornAfter NextId made v = IsWornToFlush (AreSound v) v.nodes v.table NextId
+IsWornAfter Level made v = IsWornToFlush (AreSound v) v.nodes v.table Level
+IsWornAfter Refs made v = IsWornToFlush (AreSound v) v.nodes v.table Refs
+IsWornAfter Epoch made v = ⊥
+IsWornAfter Flushes made v = made ≡ flush_limit
 
 -- the command flushes, so many steps were made and one more is needed, and the counter has no room
 -- for it
 pub record IsWornForStep (which : Counter) (c : Command) (made : ℕ) (old new : View) : Type 0 where
   pub called : waiting_limit c < old.table.size
   pub waits : soft_limit < new.table.size
-  pub worn : IsWornAfter which made new.table
+  pub worn : IsWornAfter which made new
 
 -- the command flushed what it had to, and the counter has no room for its graft
 pub record IsWornForMove (which : Counter) (c : Command) (old new : View) : Type 0 where
@@ -188,7 +191,7 @@ pub record IsStoppedBy (which : Counter) (old new : View) : Type 0 where
   pub flushes : AreFlushes made old new
   pub few : made ≤ flush_limit
   pub waits : soft_limit < new.table.size
-  pub worn : IsWornAfter which made new.table
+  pub worn : IsWornAfter which made new
 
 -- a command has made its flush steps, and there is room for it
 pub record IsReadyFor (c : Command) (old new : View) : Type 0 where
