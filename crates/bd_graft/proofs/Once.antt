@@ -95,8 +95,7 @@ way_once nodes id q _ _ _ _ (leads_on _ _ n i target more end there one way) (to
 way_once nodes id q _ _ _ _ (leads_on _ _ n i target more end there one way) (leads_on _ _ m j other more2 end2 there2 two way2) =
     let same : Past i (Some target) ≡ Past j (Some other) = found_once nodes id q n m (Past i (Some target)) (Past j (Some other)) there there2 one two in
     let is : target ≡ other = same_Some target other (past_target i j (Some target) (Some other) same) in
-    let below = way_once nodes target.child target.source more more2 end end2 way (subst (λ (x : Target). IsWay nodes x.child x.source more2 end2) (sym is) way2) in
-    (
+    let below = way_once nodes target.child target.source more more2 end end2 way (subst (λ (x : Target). IsWay nodes x.child x.source more2 end2) (sym is) way2) in (
       ap (λ (ms : List Message). ms ∷ more) (same_travel nodes id q n m i j there there2 (past_newer i j (Some target) (Some other) same)) ∙ ap (λ (x : List (List Message)). travelling m j q ∷ x) below.0,
       below.1,
     )
@@ -105,8 +104,7 @@ way_once nodes id q _ _ _ _ (leads_on _ _ n i target more end there one way) (le
 
 pub step_once : (nodes : Nodes) (t : Table) (s d : List ℕ) (keep : Bool) (new other : Nodes) (u v : Table) (a : IsGraftStep nodes t s d keep new u) (b : IsGraftStep nodes t s d keep other v) → (a.made ≡ b.made) × (a.target ≡ b.target)
 step_once nodes t s d keep new other u v a b =
-    let same = way_once nodes t.root s a.travel b.travel a.end b.end a.way b.way in
-    (
+    let same = way_once nodes t.root s a.travel b.travel a.end b.end a.way b.way in (
       a.made_are ∙ ap (λ (x : List (List Message)). overlays_over t a.end (overlaid a.end (packs x))) same.0 ∙ ap (λ (e : Option Target). overlays_over t e (overlaid e (packs b.travel))) same.1 ∙ sym b.made_are,
       same_Some a.target b.target (sym a.target_is ∙ ap (λ (x : List (List Message)). over_all t.next a.end (overlaid a.end (packs x))) same.0 ∙ ap (λ (e : Option Target). over_all t.next e (overlaid e (packs b.travel))) same.1 ∙ b.target_is),
     )
