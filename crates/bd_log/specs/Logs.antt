@@ -4,7 +4,7 @@ use Rattle.std.specs.List.{concat, AllByRecursion}
 use Rattle.bd_limits.specs.Limits.{block_size, log_blocks, body_block_limit}
 use Rattle.bd_device.specs.Blocks.{Image}
 use Rattle.bd_device.specs.Changes.{SameBut, IsInRange}
-use Rattle.bd_log.specs.Batches.{IsLogRecord, records_in, body_blocks, AreBatches}
+use Rattle.bd_log.specs.Batches.{IsRecord, records_in, body_blocks, AreBatches}
 use Rattle.bd_log.specs.declared.batch.Batch.{Batch}
 
 -- the first block of its half, the epoch of its batches, the place of the next batch's commit
@@ -17,8 +17,8 @@ pub record LogState : Type 0 where
   pub batches : List Batch
 
 -- a half begins at block 4 or at block 68
-abbrev pub IsLogHalf : ℕ → Type 0
-IsLogHalf first = (first ≡ 4) ⊎ (first ≡ 68)
+abbrev pub IsHalf : ℕ → Type 0
+IsHalf first = (first ≡ 4) ⊎ (first ≡ 68)
 
 -- the bytes of records that a batch has room for whose commit block has this place
 abbrev pub room_at : ℕ → ℕ
@@ -83,4 +83,4 @@ pub record IsBuffer (place size count : ℕ) (body : List ℕ) : Type 0 where
   pub total : length body ≡ body_block_limit * block_size
   pub room : size ≤ room_at place
   pub whole : concat (records_in count (take size (drop 24 body))) ≡ take size (drop 24 body)
-  pub each : AllByRecursion IsLogRecord (records_in count (take size (drop 24 body)))
+  pub each : AllByRecursion IsRecord (records_in count (take size (drop 24 body)))

@@ -1,7 +1,7 @@
 //! Batches and their records.
 
 ghost use Rattle.std.specs.Prelude.{◌≡◌, ◌↔◌, [], IsTrue};
-ghost use Rattle.bd_log.specs.Batches.{IsLogRecord};
+ghost use Rattle.bd_log.specs.Batches.{IsRecord};
 
 use bd_keys::Bytes;
 use bd_wire::Cursor;
@@ -9,7 +9,7 @@ use std::marker::Model;
 
 /// Whether bytes are one record: two bytes of length, and that many bytes.
 pub fn is_record(bytes: &[u8]) -> bool
-    ensures { IsTrue result ↔ IsLogRecord bytes.now }
+    ensures { IsTrue result ↔ IsRecord bytes.now }
 {
     let mut cursor = Cursor::new(bytes);
     match cursor.text16() {

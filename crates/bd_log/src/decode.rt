@@ -5,8 +5,8 @@ ghost use Rattle.bd_limits.specs.Limits.{block_size, body_block_limit};
 ghost use Rattle.bd_wire.specs.Encoding.{BeginsNone};
 ghost use Rattle.bd_wire.specs.Reading.{Reads};
 ghost use Rattle.bd_wire.specs.Text.{text16, FitsText16};
-ghost use Rattle.bd_log.specs.Batches.{IsLogRecord, blocks_for, body_blocks, header_bytes, batch_magic};
-ghost use Rattle.bd_log.specs.Reading.{header_fields, FitsHeader, AreRecordsOf, IsBodyOf};
+ghost use Rattle.bd_log.specs.Batches.{IsRecord, blocks_for, body_blocks, header_bytes, magic};
+ghost use Rattle.bd_log.specs.Reading.{head_bytes, FitsHeader, AreRecordsOf, IsBodyOf};
 
 use crate::batch::Records;
 use crate::body::{HEADER, MAGIC, MAX_BODY, blocks_for};
@@ -28,7 +28,7 @@ impl Header {
     // Whether it is the header of a body of this epoch and of so many blocks.
     fn is_of(&self, epoch: u64, blocks: u64) -> bool
         requires { blocks ≤ body_block_limit }
-        ensures { IsTrue result ↔ ((self.now.magic ≡ batch_magic) × (self.now.blocks ≡ blocks)
+        ensures { IsTrue result ↔ ((self.now.magic ≡ magic) × (self.now.blocks ≡ blocks)
             × (self.now.epoch ≡ epoch) × (1 ≤ self.now.count)
             × (blocks_for self.now.size ≡ blocks)) }
     {
@@ -46,7 +46,7 @@ impl Header {
 #[tactic(auto, using(bd_wire::proofs::WritingLemmas::writing))]
 fn header_of(bytes: &[u8]) -> Option<Header>
     ensures some { IfSome result (λ header.
-        (rest : List ℕ) × (bytes.now ≡ header_fields header ++ rest)) }
+        (rest : List ℕ) × (bytes.now ≡ head_bytes header ++ rest)) }
     ensures fits { IfSome result FitsHeader }
     ensures none { IfNone result (length bytes.now < 24) }
 {
@@ -134,7 +134,7 @@ fn records_of(alloc: Global, bytes: &[u8], count: u32) -> Result<Option<Records>
 // Reads a record, with its length.
 #[tactic(auto, using(bd_wire::proofs::WritingLemmas::writing))]
 fn next_record<'a>(cursor: &mut Cursor<'a>) -> Option<&'a [u8]>
-    ensures record { IfSome result (λ bytes. IsLogRecord bytes.now) }
+    ensures record { IfSome result (λ bytes. IsRecord bytes.now) }
     ensures read { IfSome result (λ bytes. Reads cursor.old cursor.new bytes.now) }
     ensures none { IfNone result (BeginsNone FitsText16 text16 cursor.old.left) }
 {

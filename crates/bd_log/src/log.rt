@@ -6,8 +6,8 @@ ghost use Rattle.bd_device.specs.Blocks.{Image};
 ghost use Rattle.bd_device.specs.Calls.{faults_after};
 ghost use Rattle.bd_device.specs.Changes.{StaysBut, IsInRange};
 ghost use Rattle.bd_device.specs.Device.{left_now, Goes, Stays, OnlyReads, FailsLast, HasImageCause};
-ghost use Rattle.bd_log.specs.Batches.{IsLogRecord, AreBatches, IsDamagedAt};
-ghost use Rattle.bd_log.specs.Logs.{IsLogHalf, room_at, room_left, fresh_log, after_sync, IsSyncing, IsSynced};
+ghost use Rattle.bd_log.specs.Batches.{IsRecord, AreBatches, IsDamagedAt};
+ghost use Rattle.bd_log.specs.Logs.{IsHalf, room_at, room_left, fresh_log, after_sync, IsSyncing, IsSynced};
 
 use crate::batch::Batches;
 use crate::body::{HEADER, MAX_BODY, blocks_for, seal};
@@ -36,7 +36,7 @@ impl Model for Log {
     ghost use Rattle.std.specs.Prelude.{◌<◌, take, drop};
     ghost use Rattle.bd_limits.specs.Limits.{log_blocks};
     ghost use Rattle.bd_log.specs.Batches.{records_in};
-    ghost use Rattle.bd_log.specs.Logs.{LogState, IsLogHalf, IsBuffer};
+    ghost use Rattle.bd_log.specs.Logs.{LogState, IsHalf, IsBuffer};
 
     ghost Value = { LogState };
 
@@ -48,7 +48,7 @@ impl Model for Log {
       batches = l.batches;
     } };
 
-    ghost invariant = { λ l. IsLogHalf l.first × (l.place < log_blocks)
+    ghost invariant = { λ l. IsHalf l.first × (l.place < log_blocks)
         × IsBuffer l.place l.size l.count l.body.items };
 }
 
@@ -56,7 +56,7 @@ impl Log {
     /// A log without batches and with nothing waiting, in the half that begins at block `first`, 4
     /// or 68. It makes no call of a device.
     pub fn fresh(alloc: Global, first: u64, epoch: u64) -> Result<Log, AllocError>
-        requires { IsLogHalf first }
+        requires { IsHalf first }
         ensures { IfOk result (λ log. log ≡ fresh_log first epoch) }
     {
         Ok(Log {
@@ -82,7 +82,7 @@ impl Log {
         epoch: u64,
     ) -> Result<Log, ImageFault>
         requires room { first_slot_block ≤ D.block_count dev.old }
-        requires half { IsLogHalf first }
+        requires half { IsHalf first }
         ensures batches { IfOk result (λ log. IfSome (D.contents dev.old) (λ image.
             AreBatches image first epoch log.batches log.place)) }
         ensures idle { IfOk result (λ log. log ≡ record (fresh_log first epoch) {
@@ -123,7 +123,7 @@ impl Log {
     /// Appends a record, which has its length of two bytes in front: it waits for the next sync.
     /// It takes no memory.
     pub fn append(&mut self, bytes: &[u8])
-        requires is_record { IsLogRecord bytes.now }
+        requires is_record { IsRecord bytes.now }
         requires room { length bytes.now ≤ room_left self.old }
         ensures { self.new ≡ record self.old {
           waiting = self.old.waiting ++ bytes.now ∷ [];
@@ -137,7 +137,7 @@ impl Log {
     /// Goes on in the half that begins at block `first`, 4 or 68, with another epoch: without
     /// batches, and with nothing waiting. It takes no memory.
     pub fn turn(&mut self, first: u64, epoch: u64)
-        requires { IsLogHalf first }
+        requires { IsHalf first }
         ensures { self.new ≡ fresh_log first epoch }
     {
         self.first = first;

@@ -5,8 +5,8 @@ ghost use Rattle.bd_limits.specs.Limits.{block_size, body_block_limit, first_slo
 ghost use Rattle.bd_device.specs.Changes.{bytes_at};
 ghost use Rattle.bd_device.specs.Device.{OnlyReads, HasImageCause};
 ghost use Rattle.bd_log.specs.Batches.{body_blocks, AreBatches, IsDamagedAt};
-ghost use Rattle.bd_log.specs.Logs.{IsLogHalf};
-ghost use Rattle.bd_log.specs.Reading.{IsBodyOf, IsBodyRead, IsNextBatch, IsBroken};
+ghost use Rattle.bd_log.specs.Logs.{IsHalf};
+ghost use Rattle.bd_log.specs.Reading.{IsBodyOf, IsBodyRead, IsNext, IsBroken};
 
 use crate::batch::{Batch, Records};
 use crate::decode::{decode, named_blocks};
@@ -85,11 +85,11 @@ fn next_batch<D: Device>(
     buffer: &mut [u8],
 ) -> Result<Option<(Batch, u64)>, ImageFault>
     requires room { first_slot_block ≤ D.block_count dev.old }
-    requires half { IsLogHalf first }
+    requires half { IsHalf first }
     requires place { place < log_blocks }
     requires buffer { length buffer.old ≡ body_block_limit * block_size }
     ensures next { IfOk result (λ found. IfSome (D.contents dev.old) (λ image.
-        IsNextBatch image first epoch place found)) }
+        IsNext image first epoch place found)) }
     ensures blocks { IfOk result (λ found. IfSome found (λ f.
         (f.1 ≡ body_blocks f.0.records) × (place + 1 + f.1 < log_blocks))) }
     ensures reads { OnlyReads D.Device dev.old dev.new }
@@ -119,7 +119,7 @@ pub fn read_batches<D: Device>(
     buffer: &mut [u8],
 ) -> Result<(Vec<Batch>, u64), ImageFault>
     requires room { first_slot_block ≤ D.block_count dev.old }
-    requires half { IsLogHalf first }
+    requires half { IsHalf first }
     requires buffer { length buffer.old ≡ body_block_limit * block_size }
     ensures batches { IfOk result (λ read. IfSome (D.contents dev.old) (λ image.
         AreBatches image first epoch read.0.items read.1)) }
