@@ -1,10 +1,8 @@
 -- A push that puts a node between.
-use Rattle.std.proofs.Common.{◌≡◌, ℕ, ◌+◌, ◌-◌, ◌^◌, ◌<◌, ◌≤◌, List, [], ◌∷◌, length, map, drop, refl, sym, ap, subst, ◌∙◌, Option, None, Some, arith, inl, inr, IsSome, rules}
-use Rattle.std.specs.Prelude.{slice_get}
+use Rattle.std.proofs.Common.{◌≡◌, ℕ, ◌+◌, ◌^◌, ◌<◌, ◌≤◌, List, [], ◌∷◌, map, drop, refl, sym, ap, subst, ◌∙◌, Option, None, Some, arith, inl, inr, IsSome, rules}
 use Rattle.std.specs.List.{AllByRecursion}
 use Rattle.std.proofs.lemmas.Bool.{cases_eq}
 use Rattle.std.proofs.lemmas.Option.{same_Some}
-use Rattle.bd_limits.specs.Limits.{level_limit}
 use Rattle.bd_keys.specs.Keys.{IsKey, IsBelow, IsAtLeast}
 use Rattle.bd_message.specs.Effect.{NodesAt}
 use Rattle.bd_node.specs.declared.node.Edge.{Edge}
@@ -16,14 +14,14 @@ use Rattle.bd_node.specs.declared.node.Step.{Step}
 use Rattle.bd_node.specs.Nodes.{level_of, buffer_size, names, times, node_at}
 use Rattle.bd_node.specs.Meaning.{Nodes, at}
 use Rattle.bd_node.specs.Shape.{IsShape}
-use Rattle.bd_node.specs.Tables.{Table, IsKept, IsTable, IsLower, IsSound}
+use Rattle.bd_node.specs.Tables.{Table, IsTable, IsLower, IsSound}
 use Rattle.bd_node.specs.Private.IsPrivate.{alone}
 use Rattle.bd_node.specs.Steps.{given, level_or, level_after, IsOnlyNamed, IsTableAfter, IsCommitted}
 use Rattle.bd_node.specs.Steps.HasRoom.{changed_too}
 use Rattle.bd_node.proofs.Lookup.{Agree, each_weaker, each_named, named_has, node_has-key}
 use Rattle.bd_node.proofs.Meanings.{at-meets}
 use Rattle.bd_node.proofs.Sound.{sound-levelled, named_lower, root_unnamed}
-use Rattle.bd_node.proofs.Stepping.{given-old, given-new, given_stays, by_given, no_some, after-none, changed_has, changed_at-same, changed_at-other, changed_at-none}
+use Rattle.bd_node.proofs.Stepping.{given-old, by_given, changed_at-same, changed_at-none}
 use Rattle.bd_inner.specs.Halves.{IsHalf}
 use Rattle.bd_inner.specs.Exchange.{exchanged}
 use Rattle.bd_inner.proofs.Compacting.{compacted_shape, compacted_level, compacted_meaning}
@@ -35,17 +33,15 @@ use Rattle.bd_flush.specs.Splits.{over_two}
 use Rattle.bd_flush.specs.Children.{IsWayTo, AreFamily, IsContents}
 use Rattle.bd_flush.specs.Between.{IsHardlyHigher}
 use Rattle.bd_flush.specs.Paths.{path_step}
-use Rattle.bd_flush.specs.Raising.{raised, raise, IsWayUp, IsRising, CannotRise, IsRaisedOver}
-use Rattle.bd_flush.specs.Raising.CannotRise.{here, further}
+use Rattle.bd_flush.specs.Raising.{raised, raise, IsWayUp, IsRising, IsRaisedOver}
 use Rattle.bd_flush.specs.Raising.IsRising.{at_top, high_enough, rises}
 use Rattle.bd_flush.specs.Raising.IsRaisedOver.{is_above, rises_too}
 use Rattle.bd_flush.specs.Pushes.{seen_by, CanPush, IsPushBetween}
-use Rattle.bd_flush.proofs.Raisings.{level_high}
 use Rattle.bd_flush.proofs.RootSplits.{over_shape, two_have, times_made}
 use Rattle.bd_flush.proofs.ChildSplits.{one_fits, one_times, as_edge, child_named, lower_child, level_exchanged, compacted_small, some_next, other_names, at_child, IsSplittable, IsSplittableOf}
 use Rattle.bd_flush.proofs.Pushed.{batch_low, relieved_inside, leaf_received}
-use Rattle.bd_flush.proofs.PathSteps.{IsMadeUnder, IsUpper, IsPathStep, RisesByOne, level_bound, given_child, given_upper, has_made, has_path, path_child, path_old, each_change, IsPathStepOf, root_stays, root_rises, path_flushed}
-use Rattle.bd_flush.proofs.RisingSteps.{raised_size, raised_times, raised_level, raised_shape, raised_has, IsLink, way_link, way_top, link_names, link_lower, only_namer, rising_rises, rising_uppers, rising_above, once_above, rising_once, IsChangedBy, changed_more, all_changed, has_room, rising_of}
+use Rattle.bd_flush.proofs.PathSteps.{IsMadeUnder, IsUpper, IsPathStep, RisesByOne, level_bound, given_upper, has_made, has_path, path_child, path_old, each_change, IsPathStepOf, root_rises, path_flushed}
+use Rattle.bd_flush.proofs.RisingSteps.{raised_size, raised_times, raised_level, raised_shape, raised_has, IsLink, way_link, link_lower, only_namer, rising_rises, rising_uppers, rising_above, once_above, rising_once, IsChangedBy, changed_more, all_changed, has_room, rising_of}
 use Rattle.bd_keys.proofs.Order.{IsKey-drop}
 
 -- ---- the parent, one level higher where it has to be

@@ -1,20 +1,16 @@
 -- Steps that change one private node, which keeps what it has.
-use Rattle.std.proofs.Common.{◌≡◌, ℕ, ◌+◌, ◌^◌, ◌<◌, ◌≤◌, List, [], refl, sym, ap, subst, ◌∙◌, Option, Some, arith, inl, inr}
+use Rattle.std.proofs.Common.{◌≡◌, ℕ, ◌+◌, ◌<◌, ◌≤◌, List, [], refl, sym, ap, subst, ◌∙◌, Option, Some, arith, inl, inr}
 use Rattle.std.proofs.lemmas.Bool.{cases_eq}
 use Rattle.std.proofs.lemmas.Option.{none-some}
-use Rattle.std.proofs.lemmas.List.Sums.{sum_by-cons}
 use Rattle.bd_keys.specs.Keys.{IsKey}
-use Rattle.bd_message.specs.declared.fault.Counter.{Counter}
-use Rattle.bd_message.specs.declared.fault.Counter.TheVariants.{Count, NextId, Level, Refs, Epoch, Flushes}
 use Rattle.bd_node.specs.declared.node.Node.{Node}
-use Rattle.bd_node.specs.declared.node.Change.{Change}
 use Rattle.bd_node.specs.Nodes.{level_of, buffer_size, names, times, node_at}
 use Rattle.bd_node.specs.Meaning.{Nodes, at}
 use Rattle.bd_node.specs.Shape.{IsShape}
-use Rattle.bd_node.specs.Tables.{Table, IsKept, IsTable, IsLower, IsSound, one_if}
+use Rattle.bd_node.specs.Tables.{Table, IsKept, IsTable, IsLower, IsSound}
 use Rattle.bd_node.specs.Private.{IsPrivate}
 use Rattle.bd_node.specs.Private.IsPrivate.{root_alone, alone}
-use Rattle.bd_node.specs.Steps.{given, level_or, level_after, given_times, IsNamable, IsStep, IsInPlace, IsTableAfter, IsCommitted, IsWornBy, IsKeeping}
+use Rattle.bd_node.specs.Steps.{given, level_or, level_after, IsNamable, IsStep, IsInPlace, IsTableAfter, IsCommitted, IsKeeping}
 use Rattle.bd_node.specs.Steps.HasRoom.{no_rise}
 use Rattle.bd_node.proofs.Lookup.{each_named, node_has-key}
 use Rattle.bd_node.proofs.Meanings.{at-meets}

@@ -18,7 +18,7 @@ use Rattle.bd_flush.specs.Between.IsSplitStep.{short}
 use Rattle.bd_flush.specs.Made.{IsWornFor}
 use Rattle.bd_flush.proofs.Made.{worn_of}
 use Rattle.bd_message.proofs.Causes.{cause_passed}
-use Rattle.bd_flush.proofs.ChildSteps.{IsChildChange, IsChildChangeOf, IsChildChanged, below_step, below_in_place, child_flushed, parent_is, child_is, made_are, no_higher}
+use Rattle.bd_flush.proofs.ChildSteps.{IsChildChange, IsChildChangeOf, IsChildChanged, below_step, below_in_place, child_flushed, no_higher}
 use Rattle.bd_inner.proofs.Fitting.{own_shape}
 use Rattle.bd_flush.proofs.ChildSplits.{at_child, IsSplittable, split_change, split_change_of, split_few, split_size}
 

@@ -1,12 +1,10 @@
 -- Steps that change some nodes and make two others.
-use Rattle.std.proofs.Common.{◌≡◌, ℕ, zero, suc, ◌+◌, ◌-◌, ◌<◌, ◌≤◌, List, [], ◌∷◌, refl, sym, ap, ◌∙◌, None, Some, arith, inl, inr, eqb}
-use Rattle.std.specs.Prelude.{slice_get, ◌⊎◌}
+use Rattle.std.proofs.Common.{◌≡◌, ℕ, ◌<◌, List, [], ◌∷◌, refl, sym, ◌∙◌, None, Some, inl, inr, eqb}
 use Rattle.std.proofs.lemmas.Bool.{cases_eq, eq-eqb, ne_eqb, cond-true, cond-false}
 use Rattle.std.proofs.lemmas.Option.{same_Some, none-some}
 use Rattle.bd_node.specs.declared.node.Node.{Node}
-use Rattle.bd_node.specs.declared.node.Change.{Change}
 use Rattle.bd_node.specs.Steps.{given}
-use Rattle.bd_node.proofs.Stepping.{given-old, given-new}
+use Rattle.bd_node.proofs.Stepping.{given-old}
 
 -- a change alone
 pub given_changed : (next id : ℕ) (node : Node) (made : List Node) (root : ℕ) → id < next → given next (record { made = made; changes = record { id = id; node = node } ∷ []; root = root }) id ≡ Some node

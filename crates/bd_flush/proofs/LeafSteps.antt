@@ -1,13 +1,11 @@
 -- Steps that change a private node and make a leaf below it.
-use Rattle.std.proofs.Common.{◌≡◌, ℕ, zero, suc, ◌+◌, ◌-◌, ◌^◌, ◌<◌, ◌≤◌, cond, List, [], ◌∷◌, refl, sym, ap, subst, ◌∙◌, Option, Some, arith, inl, inr, ltb, ◌⊎◌}
+use Rattle.std.proofs.Common.{◌≡◌, ℕ, zero, suc, ◌+◌, ◌-◌, ◌<◌, ◌≤◌, cond, List, [], ◌∷◌, refl, sym, ap, subst, ◌∙◌, Option, Some, arith, inl, inr, ltb, ◌⊎◌}
 use Rattle.std.specs.Prelude.{slice_get}
 use Rattle.std.specs.List.{AllByRecursion}
 use Rattle.std.proofs.lemmas.Bool.{cases_eq, cond-true, cond-false, lt-ltb, le-ltb}
 use Rattle.std.proofs.lemmas.Option.{same_Some, none-some}
 use Rattle.std.proofs.lemmas.List.Sums.{sum_by-cons}
 use Rattle.bd_keys.specs.Keys.{IsKey}
-use Rattle.bd_message.specs.declared.fault.Counter.{Counter}
-use Rattle.bd_message.specs.declared.fault.Counter.TheVariants.{Count, NextId, Level, Refs, Epoch, Flushes}
 use Rattle.bd_message.specs.Effect.{NodesAt}
 use Rattle.bd_node.specs.declared.node.Entry.{Entry}
 use Rattle.bd_node.specs.declared.node.Node.{Node}
@@ -17,15 +15,15 @@ use Rattle.bd_node.specs.declared.node.Step.{Step}
 use Rattle.bd_node.specs.Nodes.{level_of, buffer_size, names, times, node_at, node_has}
 use Rattle.bd_node.specs.Meaning.{Nodes, at, found_at}
 use Rattle.bd_node.specs.Shape.{IsLeaf, IsShape}
-use Rattle.bd_node.specs.Tables.{Table, IsKept, IsTable, IsLower, IsSound, one_if}
+use Rattle.bd_node.specs.Tables.{Table, IsKept, IsTable, IsLower, IsSound}
 use Rattle.bd_node.specs.Private.{IsPrivate}
 use Rattle.bd_node.specs.Private.IsPrivate.{root_alone, alone}
-use Rattle.bd_node.specs.Steps.{given, level_or, level_after, given_times, IsNamable, IsStep, IsInPlace, IsTableAfter, IsCommitted, IsWornBy, IsKeeping}
+use Rattle.bd_node.specs.Steps.{given, level_or, level_after, IsNamable, IsStep, IsInPlace, IsTableAfter, IsCommitted, IsKeeping}
 use Rattle.bd_node.specs.Steps.HasRoom.{no_rise}
 use Rattle.bd_node.proofs.Lookup.{Agree, each_named, node_has-same, node_has-key}
 use Rattle.bd_node.proofs.Meanings.{at-meets}
 use Rattle.bd_node.proofs.Sound.{sound-levelled, named_lower, kept_there}
-use Rattle.bd_node.proofs.Stepping.{touched_in, given-new, after-none, given_stays, keeping_meaning}
+use Rattle.bd_node.proofs.Stepping.{touched_in, given-new, after-none, keeping_meaning}
 use Rattle.bd_node.proofs.Closing.{stay_above}
 use Rattle.bd_flush.specs.Flushed.{LeadsTo, IsFlushed}
 use Rattle.bd_flush.specs.Flushed.LeadsTo.{itself}

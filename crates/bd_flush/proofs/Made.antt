@@ -1,7 +1,6 @@
 -- Steps that were made, and counters that are worn for them.
-use Rattle.std.proofs.Common.{◌≡◌, ℕ, ◌+◌, ◌^◌, ◌≤◌, length, refl, arith, inl, inr, Result, Ok, Err}
+use Rattle.std.proofs.Common.{ℕ, ◌+◌, ◌^◌, ◌≤◌, length, refl, arith, inl, inr, Result, Ok, Err}
 use Rattle.std.specs.Prelude.{OnOk}
-use Rattle.bd_message.specs.declared.fault.Counter.{Counter}
 use Rattle.bd_message.specs.declared.fault.Counter.TheVariants.{NextId, Level}
 use Rattle.bd_message.specs.declared.fault.MapFault.{MapFault}
 use Rattle.bd_message.specs.declared.fault.MapFault.TheVariants.{Worn}
@@ -11,7 +10,7 @@ use Rattle.bd_node.specs.declared.node.Step.{Step}
 use Rattle.bd_node.specs.Meaning.{Nodes}
 use Rattle.bd_node.specs.Tables.{Table}
 use Rattle.bd_node.specs.Steps.{IsTableAfter, IsCommitted, IsWornBy}
-use Rattle.bd_flush.specs.Made.{IsMadeBy, WearsOut, IsWornFor}
+use Rattle.bd_flush.specs.Made.{IsMadeBy, IsWornFor}
 
 pub on_made : {T E : Type 0} (IsOne : Step → Type 0) (nodes : Nodes) (t : Table) (step : Step) (new : Nodes) (u : Table) (r : Result T E) → IsOne step → OnOk r (IsTableAfter t step u) → OnOk r (IsCommitted nodes t step new u) → OnOk r (IsMadeBy IsOne nodes t new u)
 on_made IsOne nodes t step new u (Ok x) is after committed = record { step = step; is = is; after = after; committed = committed }

@@ -1,14 +1,12 @@
 -- Steps that change a private node, and others above it that keep what they had, and make nodes below
 -- it.
-use Rattle.std.proofs.Common.{◌≡◌, ℕ, zero, suc, ◌+◌, ◌-◌, ◌*◌, ◌^◌, ◌<◌, ◌≤◌, cond, List, [], ◌∷◌, length, refl, sym, ap, subst, ◌∙◌, Option, None, Some, arith, inl, inr, ltb, eqb, ◌⊎◌}
+use Rattle.std.proofs.Common.{◌≡◌, ℕ, zero, suc, ◌+◌, ◌-◌, ◌<◌, ◌≤◌, cond, List, [], ◌∷◌, length, refl, sym, ap, subst, ◌∙◌, Option, None, Some, arith, inl, inr, ltb, eqb, ◌⊎◌}
 use Rattle.std.specs.Prelude.{slice_get}
-use Rattle.std.specs.List.{AllByRecursion, sum_by}
+use Rattle.std.specs.List.{AllByRecursion}
 use Rattle.std.proofs.lemmas.Bool.{cases_lt, cases_eq, cases_Bool, eq-eqb, ne_eqb, lt-ltb, le-ltb, cond-true, cond-false}
 use Rattle.std.proofs.lemmas.Option.{same_Some, none-some}
 use Rattle.std.proofs.lemmas.List.Sums.{sum_by-cons}
 use Rattle.bd_keys.specs.Keys.{IsKey}
-use Rattle.bd_message.specs.declared.fault.Counter.{Counter}
-use Rattle.bd_message.specs.declared.fault.Counter.TheVariants.{Count, NextId, Level, Refs, Epoch, Flushes}
 use Rattle.bd_message.specs.Effect.{NodesAt}
 use Rattle.bd_node.specs.declared.node.Node.{Node}
 use Rattle.bd_node.specs.declared.node.Change.{Change}
@@ -16,9 +14,9 @@ use Rattle.bd_node.specs.declared.node.Step.{Step}
 use Rattle.bd_node.specs.Nodes.{level_of, names, times, node_at, node_has, is_key}
 use Rattle.bd_node.specs.Meaning.{Nodes, at, found_at}
 use Rattle.bd_node.specs.Shape.{IsShape}
-use Rattle.bd_node.specs.Tables.{Table, IsKept, IsTable, IsLower, IsSound, one_if}
+use Rattle.bd_node.specs.Tables.{Table, IsKept, IsTable, IsLower, IsSound}
 use Rattle.bd_node.specs.Private.{IsPrivate}
-use Rattle.bd_node.specs.Steps.{changed_at, given, level_or, level_after, given_times, IsNamable, IsPut, IsChange, AreOnce, IsStep, IsOnlyNamed, HasRoom, IsInPlace, IsTableAfter, IsCommitted, IsWornBy, IsMoving}
+use Rattle.bd_node.specs.Steps.{changed_at, given, level_or, level_after, IsNamable, IsPut, IsChange, AreOnce, IsStep, IsOnlyNamed, HasRoom, IsInPlace, IsTableAfter, IsCommitted, IsMoving}
 use Rattle.bd_node.proofs.Lookup.{Agree, each_weaker, each_named, node_has-same, node_has-key, key-is_key}
 use Rattle.bd_node.proofs.Meanings.{at-others, at-none}
 use Rattle.bd_node.proofs.Stepping.{touched_in, given-old, given-new, changed_at-same, changed_at-other, changed_at-none, changed_has, moving_meaning, after-none, by_given}

@@ -3,7 +3,6 @@ use Rattle.std.proofs.Common.{◌≡◌, ℕ, ◌+◌, ◌^◌, ◌<◌, ◌≤�
 use Rattle.std.specs.List.{AllByRecursion}
 use Rattle.std.proofs.lemmas.Option.{same_Some}
 use Rattle.bd_message.specs.declared.fault.Counter.TheVariants.{NextId, Level}
-use Rattle.bd_message.specs.declared.fault.MapFault.{MapFault}
 use Rattle.bd_message.specs.declared.fault.MapFault.TheVariants.{Worn}
 use Rattle.bd_node.specs.declared.node.Edge.{Edge}
 use Rattle.bd_message.specs.KeyMaps.{HasMapCause}
@@ -11,7 +10,7 @@ use Rattle.bd_node.specs.declared.node.Step.{Step}
 use Rattle.bd_node.specs.Nodes.{level_of}
 use Rattle.bd_node.specs.Meaning.{Nodes}
 use Rattle.bd_node.specs.Tables.{Table, IsTable, IsSound}
-use Rattle.bd_node.specs.Steps.{IsStep, IsInPlace, IsTableAfter, IsCommitted, IsWornBy}
+use Rattle.bd_node.specs.Steps.{IsStep, IsInPlace, IsTableAfter, IsCommitted}
 use Rattle.bd_node.specs.Stores.{visited}
 use Rattle.bd_inner.specs.Exchange.{IsEdgeAt}
 use Rattle.bd_flush.specs.declared.fetching.Fetched.{Fetched}
@@ -36,7 +35,7 @@ use Rattle.bd_flush.proofs.RootSplits.{over_none}
 use Rattle.bd_flush.proofs.GoingDown.{all_move, all_plain}
 use Rattle.bd_flush.proofs.PathSteps.{path_may, path_in_place}
 use Rattle.bd_flush.proofs.PushCommits.{may_push, push_in_place, push_flushed, push_no_higher, push_made}
-use Rattle.bd_flush.proofs.Betweens.{IsToPutBetween, the_child, the_uppers, between_path, between_path_of, between_flushed, between_table}
+use Rattle.bd_flush.proofs.Betweens.{the_child, the_uppers, between_path, between_path_of, between_flushed, between_table}
 
 -- a push, and its step
 pub record IsPlanned (t : Table) (way : List Fetched) (parent : Fetched) (place : ℕ) (child : Fetched) (step : Step) : Type 0 where

@@ -1,5 +1,5 @@
 -- Nodes that rise by one level, as changes of a step.
-use Rattle.std.proofs.Common.{◌≡◌, ℕ, ◌+◌, ◌<◌, ◌≤◌, List, [], ◌∷◌, length, map, refl, sym, ap, subst, ◌∙◌, Option, Some, arith, inl, inr, IsSome, rules}
+use Rattle.std.proofs.Common.{◌≡◌, ℕ, ◌+◌, ◌<◌, ◌≤◌, List, [], ◌∷◌, map, refl, sym, ap, subst, ◌∙◌, Option, Some, arith, inl, inr, IsSome, rules}
 use Rattle.std.specs.List.{AllByRecursion}
 use Rattle.std.proofs.lemmas.Bool.{cases_eq}
 use Rattle.std.proofs.lemmas.Option.{same_Some}
@@ -33,7 +33,6 @@ use Rattle.bd_flush.specs.Raising.{raised, raise, IsWayUp, IsRising}
 use Rattle.bd_flush.specs.Raising.IsWayUp.{top, one_up}
 use Rattle.bd_flush.specs.Raising.IsRising.{at_top, high_enough, rises}
 use Rattle.bd_inner.proofs.Compacting.{count_names}
-use Rattle.bd_flush.proofs.Raisings.{level_high}
 use Rattle.bd_flush.proofs.ChildSplits.{edge_named, inner_of}
 use Rattle.bd_flush.proofs.PathSteps.{IsUpper, RisesByOne, level_bound, has_path, IsUpperOf}
 

@@ -5,15 +5,13 @@ use Rattle.std.specs.Prelude.{slice_get}
 use Rattle.std.specs.List.{AllByRecursion}
 use Rattle.std.specs.Ordering.{is_lt}
 use Rattle.std.proofs.lemmas.Bool.{cases_lt, cases_eq, cases_Bool, cond-true, cond-false}
-use Rattle.std.proofs.lemmas.Option.{same_Some, none-some}
+use Rattle.std.proofs.lemmas.Option.{none-some}
 use Rattle.bd_limits.specs.Limits.{key_limit, level_limit}
 use Rattle.bd_keys.specs.Keys.{IsKey, IsBelow, IsAtLeast, key_cmp}
-use Rattle.bd_message.specs.declared.fault.MapFault.{MapFault}
 use Rattle.bd_message.specs.declared.fault.MapFault.TheVariants.{Worn}
 use Rattle.bd_message.specs.declared.fault.Counter.TheVariants.{NextId}
 use Rattle.bd_message.specs.KeyMaps.{HasMapCause}
 use Rattle.bd_message.specs.Effect.{NodesAt}
-use Rattle.bd_message.specs.declared.fault.Counter.{Counter}
 use Rattle.bd_node.specs.declared.node.Edge.{Edge}
 use Rattle.bd_node.specs.declared.node.Node.{Node}
 use Rattle.bd_node.specs.declared.node.Change.{Change}
@@ -22,11 +20,11 @@ use Rattle.bd_node.specs.Nodes.{level_of, buffer_size, names, times, through, no
 use Rattle.bd_node.specs.Meaning.{Nodes, at, found_at}
 use Rattle.bd_node.specs.Shape.{IsShape}
 use Rattle.bd_node.specs.Tables.{Table, IsKept, IsTable, IsLower, IsNodeOf, IsSound}
-use Rattle.bd_node.specs.Steps.{given, level_or, IsStep, IsInPlace, IsTableAfter, IsCommitted, IsWornBy}
+use Rattle.bd_node.specs.Steps.{given, level_or, IsStep, IsInPlace, IsTableAfter, IsCommitted}
 use Rattle.bd_node.proofs.Lookup.{Agree, each_weaker, each_named, named_has, node_has-key, count-cons_same, count-cons_le}
 use Rattle.bd_node.proofs.Meanings.{at-meets}
-use Rattle.bd_node.proofs.Sound.{sound-levelled, named_lower, kept_there}
-use Rattle.bd_node.proofs.Stepping.{by_given, no_some, given-old, after-none, given_stays}
+use Rattle.bd_node.proofs.Sound.{sound-levelled, named_lower}
+use Rattle.bd_node.proofs.Stepping.{by_given, given-old}
 use Rattle.bd_node.proofs.Edges.{less_lt, lt_is, lt_isnt, not_less_lt}
 use Rattle.bd_inner.specs.Halves.{IsHalf, AreHalves}
 use Rattle.bd_flush.specs.declared.fetching.Fetched.{Fetched}
@@ -38,13 +36,12 @@ use Rattle.bd_flush.specs.Children.{IsFetched, IsEdgeTo, IsContents}
 use Rattle.bd_flush.specs.Paths.{path_step}
 use Rattle.bd_flush.specs.Splits.{plain_edge, over_two, over_step, IsRootSplit, IsRaised}
 use Rattle.bd_flush.specs.Raising.{raised, raise, IsWayUp, IsRising}
-use Rattle.bd_flush.specs.Raising.IsWayUp.{top, one_up}
-use Rattle.bd_flush.specs.Raising.IsRising.{at_top, high_enough, rises}
+use Rattle.bd_flush.specs.Raising.IsWayUp.{top}
+use Rattle.bd_flush.specs.Raising.IsRising.{at_top}
 use Rattle.bd_flush.specs.Between.{IsHardlyHigher}
-use Rattle.bd_message.proofs.Causes.{cause_weaker}
 use Rattle.bd_flush.proofs.ChildSplits.{edge_named}
-use Rattle.bd_flush.proofs.PathSteps.{IsMadeUnder, IsUpper, IsPathStep, RisesByOne, given_child, each_change, has_made, has_path, made_new, path_child, path_old, both_ways, IsPathStepOf, path_may, path_in_place, path_flushed, root_rises, root_stays}
-use Rattle.bd_flush.proofs.RisingSteps.{raised_size, raised_times, way_private, rising_rises, rising_uppers, rising_once, IsChangedBy, changed_more, all_changed, has_room, rising_of}
+use Rattle.bd_flush.proofs.PathSteps.{IsMadeUnder, IsUpper, IsPathStep, RisesByOne, given_child, each_change, has_made, has_path, made_new, path_child, path_old, both_ways, IsPathStepOf, path_may, path_in_place, path_flushed, root_rises}
+use Rattle.bd_flush.proofs.RisingSteps.{raised_size, way_private, rising_rises, rising_uppers, rising_once, IsChangedBy, changed_more, all_changed, has_room, rising_of}
 
 -- ---- a node over two others
 

@@ -1,5 +1,5 @@
 -- Children that are split below their parent.
-use Rattle.std.specs.Prelude.{◌≡◌, ℕ, ◌+◌, ◌<◌, ◌≤◌, List, [], ◌∷◌, ◌++◌, length, Option, Some, slice_get}
+use Rattle.std.specs.Prelude.{◌≡◌, ℕ, ◌<◌, ◌≤◌, List, [], ◌∷◌, ◌++◌, length, Option, Some}
 use Rattle.bd_limits.specs.Limits.{key_limit}
 use Rattle.bd_keys.specs.Keys.{IsBelow, IsBelowEnd}
 use Rattle.bd_node.specs.declared.node.Edge.{Edge}

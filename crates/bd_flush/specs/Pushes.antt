@@ -1,5 +1,5 @@
 -- Messages that go down to a child.
-use Rattle.std.specs.Prelude.{◌≡◌, ℕ, ◌+◌, ◌^◌, ◌<◌, ◌≤◌, List, [], ◌∷◌, length, map, take, drop, ◌⊎◌, None, Some, slice_get}
+use Rattle.std.specs.Prelude.{◌≡◌, ℕ, ◌+◌, ◌^◌, ◌<◌, ◌≤◌, List, [], ◌∷◌, length, map, take, drop, ◌⊎◌, None, Some}
 use Rattle.std.specs.List.{AllByRecursion}
 use Rattle.bd_limits.specs.Limits.{soft_limit, leaf_limit}
 use Rattle.bd_keys.specs.Keys.{IsLift}
@@ -30,7 +30,7 @@ use Rattle.bd_flush.specs.declared.children.Halving.TheVariants.{Short, Long}
 use Rattle.bd_flush.specs.Children.{IsFetched, IsWayTo, IsSplitInto, IsLongIn, child_step}
 use Rattle.bd_flush.specs.GoingDown.{GoesDown}
 use Rattle.bd_flush.specs.Splits.{over_step, IsPlanOf}
-use Rattle.bd_flush.specs.Raising.{raised, raise, IsRaisedOver, CannotRiseOver}
+use Rattle.bd_flush.specs.Raising.{raise, IsRaisedOver, CannotRiseOver}
 
 -- the edge after its child has got so many more messages
 abbrev pub seen_by : Edge → ℕ → Edge

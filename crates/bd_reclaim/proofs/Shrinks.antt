@@ -9,9 +9,12 @@ use Rattle.bd_node.specs.declared.node.Edge.{Edge}
 use Rattle.bd_node.specs.declared.node.Node.{Node}
 use Rattle.bd_node.specs.declared.node.Node.TheVariants.{Leaf, Inner}
 use Rattle.bd_node.specs.Nodes.{is_key, edge_of, child_at, edge_at, through, node_at}
+use Rattle.bd_message.specs.declared.fault.MapFault.{MapFault}
+use Rattle.bd_message.specs.KeyMaps.{HasMapCause}
+use Rattle.bd_message.proofs.Causes.{cause_after}
 use Rattle.bd_node.specs.Meaning.{Nodes, at}
 use Rattle.bd_node.specs.Tables.{Table, IsKept, IsLower, IsSound, sum_below}
-use Rattle.bd_node.specs.Steps.{given, level_or, IsInPlace, IsTableAfter, IsCommitted}
+use Rattle.bd_node.specs.Steps.{given, level_or, IsInPlace, IsTableAfter, IsCommitted, IsWornBy}
 use Rattle.bd_node.proofs.Meanings.{at-meets, at-others}
 use Rattle.bd_node.proofs.Privacy.{root_private}
 use Rattle.bd_node.proofs.Sound.{sound-levelled}
@@ -155,3 +158,16 @@ on_shrink nodes t child new u (Err e) sound lower thin after committed = (tt, tt
 pub on_level : {T E : Type 0} (t : Table) (child : ℕ) (u : Table) (r : Result T E) → OnOk r (IsTableAfter t (root_only child) u) → OnOk r (u.level u.root ≡ t.level child)
 on_level t child u (Ok x) after = child_level t child u after
 on_level t child u (Err e) after = tt
+
+-- ---- after a fetch
+
+pub after_reads : (P : Nodes → Table → Type 0) (nodes mid : Nodes) (t m : Table) → mid ≡ nodes → m ≡ t → IsSound nodes t → (IsSound mid m → P mid m) → P nodes t
+after_reads P nodes mid t m same table sound h =
+    subst (λ (v : Table). P nodes v) table (subst (λ (f : Nodes). P f m) same (h (subst (λ (v : Table). IsSound mid v) (sym table) (subst (λ (f : Nodes). IsSound f t) (sym same) sound))))
+
+pub before_reads : (P : Nodes → Table → Type 0) (nodes mid : Nodes) (t m : Table) → mid ≡ nodes → m ≡ t → IsSound mid m → (IsSound nodes t → P nodes t) → P mid m
+before_reads P nodes mid t m same table sound h = after_reads P mid nodes m t (sym same) (sym table) sound h
+
+pub cause_again : {T : Type 0} (before mid now : ℕ) (bad : ℕ → Type 0) (t m : Table) (child : ℕ) (r : Result T MapFault) → mid ≡ before → m ≡ t → HasMapCause mid now bad (IsWornBy m (root_only child)) r → HasMapCause before now bad (IsWornBy t (root_only child)) r
+cause_again before mid now bad t m child r same table cause =
+    cause_after before mid now bad (IsWornBy t (root_only child)) r same (subst (λ (v : Table). HasMapCause mid now bad (IsWornBy v (root_only child)) r) table cause)

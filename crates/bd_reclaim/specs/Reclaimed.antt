@@ -92,10 +92,10 @@ IsNextAfter t (Drop node place at) u = u.next ≡ t.next
 IsNextAfter t (Carve node place at) u = u.next ≡ t.next
 IsNextAfter t (Push above node place) u = ⊤
 
--- how many visits a change takes at most: none, unless it is a push, and then as many as a step of a
--- flush
+-- how many visits a change takes at most: the one of a new root, none where an edge changes, and of a
+-- push as many as a step of a flush
 abbrev pub reclaim_visits : Table → Reclaim → ℕ
-reclaim_visits t (Shrink child) = 0
+reclaim_visits t (Shrink child) = 1
 reclaim_visits t (Drop node place at) = 0
 reclaim_visits t (Carve node place at) = 0
 reclaim_visits t (Push above node place) = step_visits t

@@ -23,7 +23,7 @@ use std::alloc::Global;
 
 /// Makes a change that `reclaim_next` just found. All of it is done or nothing, and what the tree
 /// has stays. A push makes at most four nodes, and has at most as many visits as a step of a flush;
-/// the other changes fetch and make none.
+/// the other changes make none, and fetch none but a new root.
 pub fn reclaim_step<S: NodeStore>(
     alloc: Global,
     store: &mut S,

@@ -5,15 +5,18 @@ ghost use Rattle.bd_message.specs.KeyMaps.{HasMapCause};
 ghost use Rattle.bd_node.specs.Frames.{OfSound, OnlyReads, Stays};
 ghost use Rattle.bd_node.specs.declared.node.Node.{Node};
 ghost use Rattle.bd_node.specs.Steps.{IsWornBy};
+ghost use Rattle.bd_node.specs.Stores.{visited};
 ghost use Rattle.bd_node.specs.Tables.{IsLower, IsSound};
 ghost use Rattle.bd_reclaim.specs.Walks.{IsThin};
 ghost use Rattle.bd_reclaim.specs.Reclaimed.{IsReclaimed, IsShrunk, root_only, left_over};
 
+use bd_flush::fetch;
 use bd_message::MapFault;
 use bd_node::{Items, NodeStore, Step};
 use std::alloc::Global;
 
-/// Makes an inner node the root to which the root adds nothing. No node is fetched or made.
+/// Makes an inner node the root to which the root adds nothing. It is fetched before, so that the
+/// store knows what waits in it: one visit. No node is made.
 pub fn shrink<S: NodeStore>(alloc: Global, store: &mut S, child: u64) -> Result<(), MapFault>
     requires lower { IsLower (S.table store.old)
         ((S.table store.old).level (S.table store.old).root) child }
@@ -36,7 +39,38 @@ pub fn shrink<S: NodeStore>(alloc: Global, store: &mut S, child: u64) -> Result<
         ≡ (S.table store.old).level child) }
     ensures stays { Stays S.NodeStore store.old store.new }
     ensures err { OnErr result (OnlyReads S.NodeStore store.old store.new) }
-    ensures few_visits { S.visit_count store.new ≤ S.visit_count store.old }
+    ensures visits { S.visit_count store.new ≡ visited (S.visit_count store.old) 1 }
+    ensures cause { HasMapCause (S.fault_count store.old) (S.fault_count store.new)
+        (S.bad store.new) (IsWornBy (S.table store.old) (root_only child)) result }
+{
+    fetch(store, child)?;
+    make_root(alloc, store, child)
+}
+
+// The same without the visit.
+fn make_root<S: NodeStore>(alloc: Global, store: &mut S, child: u64) -> Result<(), MapFault>
+    requires lower { IsLower (S.table store.old)
+        ((S.table store.old).level (S.table store.old).root) child }
+    requires inner { 1 ≤ (S.table store.old).level child }
+    requires thin { OfSound S.NodeStore store.old
+        ((n : Node) × (S.nodes store.old (S.table store.old).root ≡ Some n)
+        × IsThin (S.table store.old) n child) }
+    ensures reclaimed { OfSound S.NodeStore store.old
+        (OnOk result (IsReclaimed (S.nodes store.old) (S.table store.old)
+        (S.nodes store.new) (S.table store.new))) }
+    ensures shrunk { OfSound S.NodeStore store.old
+        (OnOk result (IsShrunk (S.nodes store.old) child
+        (S.nodes store.new) (S.table store.new))) }
+    ensures falls { OfSound S.NodeStore store.old
+        (OnOk result (left_over (S.nodes store.new) (S.table store.new)
+        < left_over (S.nodes store.old) (S.table store.old))) }
+    ensures next { OnOk result ((S.table store.new).next ≡ (S.table store.old).next) }
+    ensures root { OnOk result ((S.table store.new).root ≡ child) }
+    ensures level { OnOk result ((S.table store.new).level (S.table store.new).root
+        ≡ (S.table store.old).level child) }
+    ensures stays { Stays S.NodeStore store.old store.new }
+    ensures err { OnErr result (OnlyReads S.NodeStore store.old store.new) }
+    ensures visits { S.visit_count store.new ≡ S.visit_count store.old }
     ensures cause { HasMapCause (S.fault_count store.old) (S.fault_count store.new)
         (S.bad store.new) (IsWornBy (S.table store.old) (root_only child)) result }
 {
