@@ -43,7 +43,7 @@ same_whole old new h whole = record { sound = of_same IsSound old new h whole.so
 pub never_counts : (f : MapFault) → StaysUnlessDevice 0 0 f
 never_counts DeviceFault = tt
 never_counts (Damaged block) = refl
-never_counts (Worn counter) = refl
+never_counts (Worn _) = refl
 never_counts NoMemory = refl
 
 -- counts that can't rise by the names in a step are worn by it

@@ -72,7 +72,7 @@ NeverWorn _ = ⊥
 abbrev pub StaysUnlessDevice : ℕ → ℕ → MapFault → Type 0
 StaysUnlessDevice before now DeviceFault = ⊤
 StaysUnlessDevice before now (Damaged block) = now ≡ before
-StaysUnlessDevice before now (Worn counter) = now ≡ before
+StaysUnlessDevice before now (Worn _) = now ≡ before
 StaysUnlessDevice before now NoMemory = now ≡ before
 
 -- the count of faults never falls, and rises in no call but one that answers with the device's
