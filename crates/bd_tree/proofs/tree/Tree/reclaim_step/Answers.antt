@@ -6,3 +6,6 @@ returns-clause-same g c =
     rw (← c.self.view_is) (λ known sound.
     same_after g.S.NodeStore c.self.inside.store c.reclaim_step.new.store c.reclaim_step.result known
     (c.reclaim_step.ensures.reclaimed known sound) c.reclaim_step.ensures.err)
+
+pub returns-clause-cause : goal.returns-clause-cause
+returns-clause-cause g c = rw (← c.self.view_is) c.reclaim_step.ensures.cause
