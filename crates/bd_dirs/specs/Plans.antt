@@ -55,20 +55,20 @@ SendsMessages (Refused refusal) = ⊤
 SendsMessages (Apply list) = ⊤
 SendsMessages (Graft s d keep) = ⊥
 
--- a refusal, or a graft
-abbrev pub IsGraftPlan : Plan → Type 0
-IsGraftPlan (Refused refusal) = ⊤
-IsGraftPlan (Apply list) = ⊥
-IsGraftPlan (Graft s d keep) = ⊤
+-- a refusal, or this graft
+abbrev pub IsGraftPlan : List ℕ → List ℕ → Bool → Plan → Type 0
+IsGraftPlan s d keep (Refused refusal) = ⊤
+IsGraftPlan s d keep (Apply list) = ⊥
+IsGraftPlan s d keep (Graft s2 d2 keep2) = (s2 ≡ s) × (d2 ≡ d) × (keep2 ≡ keep)
 
 -- what commands that read, send or graft may have planned
 abbrev pub IsPlanOf : Kind → Plan → Type 0
 IsPlanOf Reads plan = SendsMessages plan
 IsPlanOf Sends plan = SendsMessages plan
 IsPlanOf SendsLate plan = SendsMessages plan
-IsPlanOf Grafts plan = IsGraftPlan plan
+IsPlanOf (Grafts s d keep) plan = IsGraftPlan s d keep plan
 
--- a rename and a clone are grafts, and each other command sends messages
+-- a rename and a clone are grafts of their paths' keys, and each other command sends messages
 abbrev pub IsPlanKind : Command → Plan → Type 0
 IsPlanKind c plan = IsPlanOf (kind_of c) plan
 

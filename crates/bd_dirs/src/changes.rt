@@ -1,6 +1,7 @@
 //! What each change of a directory sends.
 
-ghost use Rattle.std.specs.Prelude.{◌≡◌, IfOk, OnOk};
+ghost use Rattle.std.specs.Prelude.{◌≡◌, IfOk, OnOk, true, false};
+ghost use Rattle.bd_names.specs.Names.{key_of};
 ghost use Rattle.bd_command.specs.declared.Command.TheVariants as command;
 ghost use Rattle.bd_model.specs.Tree.{Tree, IsTree};
 ghost use Rattle.bd_message.specs.KeyMaps.{HasMapCause, NeverWorn};
@@ -90,7 +91,7 @@ pub fn remove<M: KeyMap>(alloc: Global, m: &mut M, path: &Path) -> Result<Plan, 
 pub fn clone_to<M: KeyMap>(alloc: Global, m: &mut M, a: &Path, b: &Path) -> Result<Plan, MapFault>
     ensures plan { M.is_known m.old → (t : Tree) → IsTree t → Represents (M.has m.old) t
         → IfOk result (IsPlan (M.has m.old) t (command.Clone a.now b.now)) }
-    ensures kind { IfOk result IsGraftPlan }
+    ensures kind { IfOk result (IsGraftPlan (key_of a.now) (key_of b.now) true) }
     ensures ready { IfOk result IsReady }
     ensures left { IsLeft M.KeyMap m.old m.new }
     ensures cause { HasMapCause (M.fault_count m.old) (M.fault_count m.new)
@@ -113,7 +114,7 @@ pub fn clone_to<M: KeyMap>(alloc: Global, m: &mut M, a: &Path, b: &Path) -> Resu
 pub fn rename<M: KeyMap>(alloc: Global, m: &mut M, a: &Path, b: &Path) -> Result<Plan, MapFault>
     ensures plan { M.is_known m.old → (t : Tree) → IsTree t → Represents (M.has m.old) t
         → IfOk result (IsPlan (M.has m.old) t (command.Rename a.now b.now)) }
-    ensures kind { IfOk result IsGraftPlan }
+    ensures kind { IfOk result (IsGraftPlan (key_of a.now) (key_of b.now) false) }
     ensures ready { IfOk result IsReady }
     ensures left { IsLeft M.KeyMap m.old m.new }
     ensures cause { HasMapCause (M.fault_count m.old) (M.fault_count m.new)

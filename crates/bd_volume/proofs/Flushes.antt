@@ -31,7 +31,7 @@ kind_low : (kind : Kind) → limit_of kind ≤ late_limit
 kind_low Reads = lit≤ tt
 kind_low Sends = lit≤ tt
 kind_low SendsLate = lit≤ tt
-kind_low Grafts = lit≤ tt
+kind_low (Grafts s d keep) = lit≤ tt
 
 limit_low : (c : Command) → waiting_limit c ≤ late_limit
 limit_low c = kind_low (kind_of c)

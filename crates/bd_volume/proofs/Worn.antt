@@ -1,6 +1,6 @@
 -- Which counter has no room, and what a fault leaves.
 use Rattle.std.proofs.Common.{◌≡◌, ℕ, ◌<◌, ◌≤◌, List, Bool, arith, refl, sym, subst, ap, inl, inr, ◌∙◌}
-use Rattle.std.specs.Prelude.{IsTrue, Result, Ok, Err, IfErr, OnErr}
+use Rattle.std.specs.Prelude.{IsTrue, Option, Result, Ok, Err, IfErr, OnErr}
 use Rattle.bd_io.specs.Cause.{Rose}
 use Rattle.bd_limits.specs.Limits.{soft_limit}
 use Rattle.bd_command.specs.Command.{writes}
@@ -11,17 +11,22 @@ use Rattle.bd_message.specs.declared.fault.MapFault.{MapFault}
 use Rattle.bd_message.specs.declared.fault.MapFault.TheVariants as map
 use Rattle.bd_message.specs.KeyMaps.{SameAt, HasMapCause, IsCause, NeverWorn}
 use Rattle.bd_node.specs.Tables.{Table, root_at}
+use Rattle.bd_message.specs.declared.message.Message.{Message}
+use Rattle.bd_node.specs.declared.node.Node.{Node}
 use Rattle.bd_node.specs.declared.node.Step.{Step}
+use Rattle.bd_resolve.specs.declared.following.Target.{Target}
 use Rattle.bd_node.specs.Steps.{IsWornBy}
 use Rattle.bd_step.specs.Steps.{IsWornToFlush}
-use Rattle.bd_graft.specs.Grafting.{IsWornForGraft}
+use Rattle.bd_graft.specs.Grafting.{IsWornForGraft, IsWornByGraft, IsWornOver, OnWorn, step_under, step_over, graft_messages}
+use Rattle.bd_graft.specs.Grafting.IsWornOver.{root_kept, root_raised, level_raised}
+use Rattle.bd_graft.specs.Packing.{overlays_over, overlaid, packs}
 use Rattle.bd_dirs.specs.declared.plan.Plan.{Plan}
 use Rattle.bd_dirs.specs.declared.plan.Plan.TheVariants.{Graft}
 use Rattle.bd_dirs.specs.Kinds.{Kind, Reads, Sends, SendsLate, Grafts, kind_of}
 use Rattle.bd_dirs.specs.Plans.{IsPlanOf, IsPlanKind}
 use Rattle.bd_volume.specs.declared.Fault.{Fault}
 use Rattle.bd_volume.specs.declared.Fault.TheVariants.{Device, Damaged, Worn, NoMemory, Full, Stopped}
-use Rattle.bd_volume.specs.Views.{View, AreSound, AreFlushes, waiting_limit, HasFlushed, IsStoppedBy, IsReadyFor, IsWornAfter, IsWornForStep, IsWornForMove, IsWornByKind, IsWornForSending, IsWornNow, Wears}
+use Rattle.bd_volume.specs.Views.{View, AreSound, AreFlushes, waiting_limit, HasFlushed, IsStoppedBy, IsReadyFor, IsWornAfter, IsWornForStep, HasEnough, IsWornForMove, IsWornByKind, IsWornForSending, IsWornNow, Wears}
 use Rattle.bd_volume.specs.Over.{fault_of, IsFlushFault, IsGraftFault, IsVolumeFault, IsHalted}
 use Rattle.bd_volume.proofs.Flushes.{flushes_same, flushed_as_called}
 use Rattle.bd_volume.proofs.Sent.{view_is}
@@ -41,12 +46,20 @@ no_memory (Err (map.Worn which)) h = absurd h.failed
 no_memory (Err map.NoMemory) h = refl
 
 -- a graft's fault is one of its causes
-pub graft_fault : {T : Type 0} (r : Result T MapFault) (t : Table) → HasMapCause 0 0 (λ _. ⊥) (IsWornForGraft t) r → IfErr r (λ fault. IsGraftFault fault t)
-graft_fault (Ok x) t h = tt
-graft_fault (Err map.DeviceFault) t h = no_rise h.failed
-graft_fault (Err (map.Damaged block)) t h = absurd h.failed
-graft_fault (Err (map.Worn which)) t h = h.failed
-graft_fault (Err map.NoMemory) t h = tt
+pub graft_fault : {T : Type 0} (r : Result T MapFault) (s d : List ℕ) (keep : Bool) (v : View) → HasMapCause 0 0 (λ _. ⊥) (IsWornForGraft v.table) r → IfErr r (OnWorn (IsWornByGraft v.nodes v.table s d keep))
+    → IfErr r (λ fault. IsGraftFault fault s d keep v)
+graft_fault (Ok x) s d keep v h worn = tt
+graft_fault (Err map.DeviceFault) s d keep v h worn = no_rise h.failed
+graft_fault (Err (map.Damaged block)) s d keep v h worn = absurd h.failed
+graft_fault (Err (map.Worn which)) s d keep v h worn = worn
+graft_fault (Err map.NoMemory) s d keep v h worn = tt
+
+-- a graft wears no count of commands, of epochs or of flushes
+never_by_graft : (t : Table) (root : Node) (s d : List ℕ) (keep : Bool) (end : Option Target) (groups : List (List Message)) (target : Target) (which : Counter) → ((step : Step) → IsWornBy t step which → ⊥) → (which ≡ Level → ⊥)
+    → IsWornOver t root s d keep end groups target which → ⊥
+never_by_graft t root s d keep end groups target which unworn other (root_kept low w) = unworn (step_under t root (overlays_over t end groups) (graft_messages s d keep target)) w
+never_by_graft t root s d keep end groups target which unworn other (root_raised low w) = unworn (step_over t (overlays_over t end groups) (graft_messages s d keep target)) w
+never_by_graft t root s d keep end groups target which unworn other (level_raised low is high) = other is
 
 -- a flush step wears no count of commands, of epochs or of flushes
 never_counted : (K : Type 0) (v : View) (which : Counter) → ((step : Step) → IsWornBy v.table step which → ⊥) → (which ≡ Level → ⊥) → IsWornToFlush K v.nodes v.table which → ⊥
@@ -105,21 +118,25 @@ flush_halts (map.Worn which) count c old new counts many h = stopped_wears which
 flush_halts map.NoMemory count c old new counts many h = (h.made, flushed_as_called c old new h.made counts many h.flushes h.few)
 
 -- where its graft isn't made
-worn_kind : (kind : Kind) (which : Counter) (c : Command) (old new : View) (s d : List ℕ) (keep : Bool) → IsPlanOf kind (Graft s d keep) → IsWornForMove which c old new → IsWornByKind kind which c old new
-worn_kind Reads which c old new s d keep plan h = absurd plan
-worn_kind Sends which c old new s d keep plan h = absurd plan
-worn_kind SendsLate which c old new s d keep plan h = absurd plan
-worn_kind Grafts which c old new s d keep plan h = h
+worn_kind : (kind : Kind) (which : Counter) (c : Command) (old new : View) (s d : List ℕ) (keep : Bool) → IsPlanOf kind (Graft s d keep) → HasEnough c old new → IsWornByGraft new.nodes new.table s d keep which → IsWornByKind kind which c old new
+worn_kind Reads which c old new s d keep plan enough h = absurd plan
+worn_kind Sends which c old new s d keep plan enough h = absurd plan
+worn_kind SendsLate which c old new s d keep plan enough h = absurd plan
+worn_kind (Grafts s2 d2 keep2) which c old new s d keep plan enough h = record {
+  enough = enough;
+  worn = subst (λ (k : Bool). IsWornByGraft new.nodes new.table s2 d2 k which) plan.2
+      (subst (λ (k : List ℕ). IsWornByGraft new.nodes new.table s2 k keep which) plan.1 (subst (λ (k : List ℕ). IsWornByGraft new.nodes new.table k d keep which) plan.0 h));
+}
 
-graft_worn : (which : Counter) (count : ℕ) (c : Command) (made : ℕ) (old new : View) → IsWornForGraft new.table which → IsWornForSending which c old new → IsWornNow which count c made old new
-graft_worn Count count c made old new h s = absurd h
-graft_worn NextId count c made old new h s = inr s
-graft_worn Level count c made old new h s = inr s
-graft_worn Refs count c made old new h s = inr s
-graft_worn Epoch count c made old new h s = absurd h
-graft_worn Flushes count c made old new h s = absurd h
+graft_worn : (which : Counter) (count : ℕ) (c : Command) (made : ℕ) (old new : View) (s d : List ℕ) (keep : Bool) → IsWornByGraft new.nodes new.table s d keep which → IsWornForSending which c old new → IsWornNow which count c made old new
+graft_worn Count count c made old new s d keep h sent = absurd (never_by_graft new.table h.root s d keep h.end (overlaid h.end (packs h.travel)) h.target Count (λ step w. w) (λ e. cc) h.worn)
+graft_worn NextId count c made old new s d keep h sent = inr sent
+graft_worn Level count c made old new s d keep h sent = inr sent
+graft_worn Refs count c made old new s d keep h sent = inr sent
+graft_worn Epoch count c made old new s d keep h sent = absurd (never_by_graft new.table h.root s d keep h.end (overlaid h.end (packs h.travel)) h.target Epoch (λ step w. w) (λ e. cc) h.worn)
+graft_worn Flushes count c made old new s d keep h sent = absurd (never_by_graft new.table h.root s d keep h.end (overlaid h.end (packs h.travel)) h.target Flushes (λ step w. w) (λ e. cc) h.worn)
 
-pub graft_halts : (fault : MapFault) (count : ℕ) (c : Command) (old new : View) (s d : List ℕ) (keep : Bool) → IsTrue (writes c) → IsPlanKind c (Graft s d keep) → IsReadyFor c old new → IsGraftFault fault new.table
+pub graft_halts : (fault : MapFault) (count : ℕ) (c : Command) (old new : View) (s d : List ℕ) (keep : Bool) → IsTrue (writes c) → IsPlanKind c (Graft s d keep) → IsReadyFor c old new → IsGraftFault fault s d keep new
     → IsHalted (fault_of fault) count c old new
 graft_halts map.DeviceFault count c old new s d keep w kind ready h = absurd h
 graft_halts (map.Damaged block) count c old new s d keep w kind ready h = absurd h
@@ -127,7 +144,7 @@ graft_halts (map.Worn which) count c old new s d keep w kind ready h = record {
   counts = w;
   made = ready.made;
   flushed = ready.flushed;
-  worn = graft_worn which count c ready.made old new h (worn_kind (kind_of c) which c old new s d keep kind (record { enough = ready.enough; worn = h }));
+  worn = graft_worn which count c ready.made old new s d keep h (worn_kind (kind_of c) which c old new s d keep kind ready.enough h);
 }
 graft_halts map.NoMemory count c old new s d keep w kind ready h = (ready.made, ready.flushed)
 
@@ -172,7 +189,7 @@ step_stops fault made old mid new flushes few waits nodes table walk cause =
 
 -- a graft that isn't made leaves what the flush made
 pub graft_stops : (fault : MapFault) (count : ℕ) (c : Command) (old mid new : View) (s d : List ℕ) (keep : Bool) (plan : Plan) → IsTrue (writes c) → plan ≡ Graft s d keep → IsPlanKind c plan
-    → IsReadyFor c old mid → IsGraftFault fault mid.table → new ≡ mid → IsHalted (fault_of fault) count c old new
+    → IsReadyFor c old mid → IsGraftFault fault s d keep mid → new ≡ mid → IsHalted (fault_of fault) count c old new
 graft_stops fault count c old mid new s d keep plan w is kind ready h same =
     subst (λ (v : View). IsHalted (fault_of fault) count c old v) (sym same) (graft_halts fault count c old mid s d keep w (subst (IsPlanKind c) is kind) ready h)
 

@@ -1,5 +1,5 @@
 -- What executing a command comes to.
-use Rattle.std.specs.Prelude.{◌≡◌, ℕ, ◌⊎◌, Bool, true, false, ⊤}
+use Rattle.std.specs.Prelude.{◌≡◌, ℕ, ◌⊎◌, Bool, true, false, ⊤, List}
 use Rattle.bd_command.specs.declared.Command.{Command}
 use Rattle.bd_command.specs.declared.reply.Reply.{Reply}
 use Rattle.bd_model.specs.Tree.{Tree}
@@ -11,8 +11,7 @@ use Rattle.bd_message.specs.KeyMaps.{At}
 use Rattle.bd_represent.specs.Represents.{Represents}
 use Rattle.bd_dirs.specs.declared.plan.Plan.{Plan}
 use Rattle.bd_dirs.specs.declared.plan.Plan.TheVariants.{Refused, Apply, Graft}
-use Rattle.bd_node.specs.Tables.{Table}
-use Rattle.bd_graft.specs.Grafting.{IsWornForGraft}
+use Rattle.bd_graft.specs.Grafting.{IsWornByGraft}
 use Rattle.bd_volume.specs.Views.{View, HasFlushed, Wears, HasMade, IsStoppedBy}
 use Rattle.bd_volume.specs.declared.Fault.{Fault}
 use Rattle.bd_volume.specs.declared.Fault.TheVariants.{Device, Damaged, Worn, NoMemory, Full, Stopped}
@@ -43,11 +42,11 @@ IsFlushFault (map.Worn which) old new = IsStoppedBy which old new
 IsFlushFault map.NoMemory old new = HasMade old new
 
 -- why a graft wasn't made
-abbrev pub IsGraftFault : MapFault → Table → Type 0
-IsGraftFault map.DeviceFault t = ⊥
-IsGraftFault (map.Damaged block) t = ⊥
-IsGraftFault (map.Worn which) t = IsWornForGraft t which
-IsGraftFault map.NoMemory t = ⊤
+abbrev pub IsGraftFault : MapFault → List ℕ → List ℕ → Bool → View → Type 0
+IsGraftFault map.DeviceFault s d keep v = ⊥
+IsGraftFault (map.Damaged block) s d keep v = ⊥
+IsGraftFault (map.Worn which) s d keep v = IsWornByGraft v.nodes v.table s d keep which
+IsGraftFault map.NoMemory s d keep v = ⊤
 
 -- no memory, or a counter
 abbrev pub IsVolumeFault : Fault → Type 0

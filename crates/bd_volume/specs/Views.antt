@@ -22,7 +22,7 @@ use Rattle.bd_node.specs.Tables.{Table, IsSound, root_at}
 use Rattle.bd_node.specs.Steps.{IsCommitted, append_step, grown}
 use Rattle.bd_memnodes.specs.Seen.{Seen, nodes_of, table}
 use Rattle.bd_graft.specs.declared.grafting.Walk.{Walk}
-use Rattle.bd_graft.specs.Grafting.{IsGrown, IsGraftStep, AreOthersSame, IsWornForGraft}
+use Rattle.bd_graft.specs.Grafting.{IsGrown, IsGraftStep, AreOthersSame, IsWornByGraft}
 use Rattle.bd_step.specs.Steps.{IsFlushStep, IsWornToFlush}
 use Rattle.bd_tree.specs.Trees.{TreeState}
 
@@ -68,7 +68,7 @@ abbrev pub limit_of : Kind → ℕ
 limit_of Reads = soft_limit
 limit_of Sends = soft_limit
 limit_of SendsLate = late_limit
-limit_of Grafts = soft_limit
+limit_of (Grafts s d keep) = soft_limit
 
 abbrev pub waiting_limit : Command → ℕ
 waiting_limit c = limit_of (kind_of c)
@@ -140,17 +140,18 @@ pub record IsWornForStep (which : Counter) (c : Command) (made : ℕ) (old new :
   pub waits : soft_limit < new.table.size
   pub worn : IsWornAfter which made new
 
--- the command flushed what it had to, and the counter has no room for its graft
-pub record IsWornForMove (which : Counter) (c : Command) (old new : View) : Type 0 where
+-- the command flushed what it had to, and the counter has no room for all that this graft adds
+pub record IsWornForMove (which : Counter) (s d : List ℕ) (keep : Bool) (c : Command)
+    (old new : View) : Type 0 where
   pub enough : HasEnough c old new
-  pub worn : IsWornForGraft new.table which
+  pub worn : IsWornByGraft new.nodes new.table s d keep which
 
 -- the counter has no room for the sending of a command: it is a graft
 abbrev pub IsWornByKind : Kind → Counter → Command → View → View → Type 0
 IsWornByKind Reads which c old new = ⊥
 IsWornByKind Sends which c old new = ⊥
 IsWornByKind SendsLate which c old new = ⊥
-IsWornByKind Grafts which c old new = IsWornForMove which c old new
+IsWornByKind (Grafts s d keep) which c old new = IsWornForMove which s d keep c old new
 
 abbrev pub IsWornForSending : Counter → Command → View → View → Type 0
 IsWornForSending which c old new = IsWornByKind (kind_of c) which c old new

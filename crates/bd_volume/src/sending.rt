@@ -36,7 +36,8 @@ pub fn graft(tree: &mut MemTree, s: &[u8], d: &[u8], keep: bool) -> Result<(), M
     ensures grafted { OnOk result (IsGrafted (keys_in tree.old) s.now d.now keep
         (keys_in tree.new)) }
     ensures stays { OnErr result (view_in tree.new ≡ view_in tree.old) }
-    ensures fault { IfErr result (λ fault. IsGraftFault fault (table tree.old.store)) }
+    ensures fault { IfErr result (λ fault.
+        IsGraftFault fault s.now d.now keep (view_in tree.old)) }
 {
     nodes_are_sound(tree);
     tree.graft(s, d, keep)

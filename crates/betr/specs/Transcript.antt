@@ -124,7 +124,7 @@ abbrev pub is_graft : Kind → Bool
 is_graft Reads = false
 is_graft Sends = false
 is_graft SendsLate = false
-is_graft Grafts = true
+is_graft (Grafts s d keep) = true
 
 abbrev pub grafts : Command → Bool
 grafts c = is_graft (kind_of c)

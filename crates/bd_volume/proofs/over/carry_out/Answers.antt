@@ -4,6 +4,7 @@ use Rattle.std.proofs.lemmas.Result.{err_from_is_err_and}
 use Rattle.bd_message.specs.declared.message.Message.{Message}
 use Rattle.bd_message.specs.KeyMaps.{IsApplied, IsGrafted}
 use Rattle.bd_volume.specs.Views.{view_in, keys_in}
+use Rattle.bd_volume.specs.Over.{IsGraftFault}
 use Rattle.bd_volume.proofs.Carried.{plan_along, applied_plan, grafted_plan}
 use Rattle.bd_volume.proofs.Flushes.{keys_stay}
 use Rattle.bd_volume.proofs.Sent.{messages_moved, graft_moved}
@@ -24,7 +25,10 @@ pub returns-in_err-graft-in-Graft-clause-halted : goal.returns-in_err-graft-in-G
 returns-in_err-graft-in-Graft-clause-halted c =
     let p = err_from_is_err_and c.from_residual-in_err-graft-in-Graft.result c.from_residual-in_err-graft-in-Graft.ensures.1 in
     rw (p.1, p.2) (graft_stops c.in_err-graft-in-Graft.field-0.0 c.args.count.now c.args.command.now (view_in c.args.tree.now) (view_in c.make_ready-in-Graft.new.tree) (view_in c.graft.new.tree) c.in-Graft.s c.in-Graft.d c.in-Graft.keep
-    c.args.plan c.requires.writes c.in-Graft.is c.requires.kind c.in_ok-make_ready-in-Graft.ensures.ready c.in_err-graft-in-Graft.ensures.fault c.in_err-graft-in-Graft.ensures.stays)
+    c.args.plan c.requires.writes c.in-Graft.is c.requires.kind c.in_ok-make_ready-in-Graft.ensures.ready
+    (subst (λ (k : List ℕ). IsGraftFault c.in_err-graft-in-Graft.field-0.0 k c.in-Graft.d c.in-Graft.keep (view_in c.make_ready-in-Graft.new.tree)) c.as_slice-in-Graft.ensures
+    (subst (λ (k : List ℕ). IsGraftFault c.in_err-graft-in-Graft.field-0.0 c.as_slice-in-Graft.result.now k c.in-Graft.keep (view_in c.make_ready-in-Graft.new.tree)) c.as_slice-in-Graft-2.ensures c.in_err-graft-in-Graft.ensures.fault))
+    c.in_err-graft-in-Graft.ensures.stays)
 
 pub returns-in_ok-append-in-Apply-clause-step : goal.returns-in_ok-append-in-Apply-clause-step
 returns-in_ok-append-in-Apply-clause-step c = λ t r h.
