@@ -12,7 +12,7 @@ use std::test::Fail;
 /// Both as they are, and whether a Goto waits in the node below the root to which a flush would move
 /// messages next.
 pub fn with_goto_below(alloc: Global, both: Both) -> Result<(Both, bool), Fail> {
-    let Both { map, tree } = both;
+    let (map, tree) = both.into_parts();
     let mut store = tree.into_store();
     let waits = waits_below(alloc, &mut store)?;
     let tree = Tree::over(alloc, store);

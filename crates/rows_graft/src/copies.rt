@@ -96,7 +96,7 @@ fn shared(alloc: Global) -> Result<Tree<MemNodes>, Fail> {
     both.graft(b"a/", b"b/", true)?;
     both.graft(b"a/", b"c/", true)?;
     flush(&mut both.tree, 0)?;
-    let Both { map: _, tree } = both;
+    let (_, tree) = both.into_parts();
     Ok(tree)
 }
 

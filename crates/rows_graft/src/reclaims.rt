@@ -85,7 +85,7 @@ fn calls(alloc: Global, both: &mut Both, list: &[(&str, &str, &str)]) -> Result<
 
 /// A map and a tree, and how many nodes the tree keeps.
 fn counted(alloc: Global, both: Both) -> Result<(Both, usize), Fail> {
-    let Both { map, tree } = both;
+    let (map, tree) = both.into_parts();
     let store = tree.into_store();
     let count = store.node_count();
     let tree = Tree::over(alloc, store);

@@ -189,7 +189,7 @@ fn written(alloc: Global, words: (&str, &str, &str)) -> Result<(Both, Option<usi
     let mut total = 0usize;
     for number in 10..13 {
         both.apply(long_put(alloc, below.as_bytes(), number)?)?;
-        let Both { map, tree } = both;
+        let (map, tree) = both.into_parts();
         let (tree, count) = flushed(alloc, tree)?;
         both = Both { map, tree };
         let Some(count) = count else {

@@ -29,6 +29,12 @@ impl Both {
         })
     }
 
+    /// The map and the tree.
+    pub fn into_parts(self) -> (ListMap, Tree<MemNodes>) {
+        let Both { map, tree } = self;
+        (map, tree)
+    }
+
     /// After one more message.
     pub fn apply(&mut self, message: Message) -> Result<(), Fail> {
         apply(&mut self.tree, message.clone()?)?;
