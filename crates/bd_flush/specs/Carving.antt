@@ -1,5 +1,6 @@
 -- The keys of a Goto get edges of their own.
 use Rattle.std.specs.Prelude.{◌≡◌, ℕ, ◌<◌, ◌≤◌, List, [], ◌∷◌, length, Option, Some, slice_get}
+use Rattle.bd_limits.specs.Limits.{room_edges}
 use Rattle.bd_message.specs.declared.message.Message.{Message}
 use Rattle.bd_node.specs.declared.node.Edge.{Edge}
 use Rattle.bd_node.specs.declared.node.Node.{Node}
@@ -46,7 +47,7 @@ IsOldestAt level n place e index =
 -- table tells
 pub record CanCarve (t : Table) (parent : Fetched) (place : ℕ) : Type 0 where
   pub parent_is : IsFetched t parent
-  pub room : length (edges_of parent.node.value) ≤ 14
+  pub room : length (edges_of parent.node.value) ≤ room_edges
   pub edge : Edge
   pub here : IsEdgeAt parent.node.value place edge
   pub held : ¬ AllGoDown t.level (child_level t.level edge.child) parent.node.value place edge

@@ -1,6 +1,6 @@
 -- Children that are split below their parent.
 use Rattle.std.specs.Prelude.{◌≡◌, ℕ, ◌<◌, ◌≤◌, List, [], ◌∷◌, ◌++◌, length, Option, Some}
-use Rattle.bd_limits.specs.Limits.{key_limit}
+use Rattle.bd_limits.specs.Limits.{key_limit, room_edges, full_edges}
 use Rattle.bd_keys.specs.Keys.{IsBelow, IsBelowEnd}
 use Rattle.bd_node.specs.declared.node.Edge.{Edge}
 use Rattle.bd_node.specs.declared.node.Node.{Node}
@@ -106,8 +106,8 @@ pub record AreParts (n : Node) (place : ℕ) (m : Node) (next : ℕ) (parts : Pa
 pub record CanSplitChild (t : Table) (parent : Fetched) (place : ℕ) (child : Fetched) : Type 0 where
   pub parent_is : IsFetched t parent
   pub child_is : IsFetched t child
-  pub room : length (edges_of parent.node.value) ≤ 14
-  pub full : 15 ≤ length (edges_of child.node.value)
+  pub room : length (edges_of parent.node.value) ≤ room_edges
+  pub full : full_edges ≤ length (edges_of child.node.value)
   pub edge : Edge
   pub way : IsWayTo parent.node.value place child.id edge
   pub once : t.count child.id ≡ 1

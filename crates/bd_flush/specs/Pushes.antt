@@ -1,7 +1,7 @@
 -- Messages that go down to a child.
 use Rattle.std.specs.Prelude.{◌≡◌, ℕ, ◌+◌, ◌^◌, ◌<◌, ◌≤◌, List, [], ◌∷◌, length, map, take, drop, ◌⊎◌, None, Some}
 use Rattle.std.specs.List.{AllByRecursion}
-use Rattle.bd_limits.specs.Limits.{soft_limit, leaf_limit}
+use Rattle.bd_limits.specs.Limits.{soft_limit, leaf_limit, room_edges}
 use Rattle.bd_keys.specs.Keys.{IsLift}
 use Rattle.bd_message.specs.declared.message.Message.{Message}
 use Rattle.bd_node.specs.declared.node.Edge.{Edge}
@@ -60,7 +60,7 @@ pub record CanPush (t : Table) (parent : Fetched) (place : ℕ) (child : Fetched
   pub parent_is : IsFetched t parent
   pub child_is : IsFetched t child
   pub under : t.level parent.id ≤ t.level t.root
-  pub room : length (edges_of parent.node.value) ≤ 14
+  pub room : length (edges_of parent.node.value) ≤ room_edges
   pub edge : Edge
   pub way : IsWayTo parent.node.value place child.id edge
   pub some : SomeCanTouch edge (end_at parent.node.value place) (unseen parent.node.value edge)

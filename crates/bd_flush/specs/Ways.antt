@@ -1,7 +1,7 @@
 -- The way down that a step of a flush takes, and what is to be done at its end.
 use Rattle.std.specs.Prelude.{◌≡◌, ◌≢◌, ℕ, ◌<◌, ◌≤◌, ◌⊎◌, List, [], length, reverse, Option, None, Some, slice_get, ⊤}
 use Rattle.std.specs.List.{AllByRecursion}
-use Rattle.bd_limits.specs.Limits.{soft_limit}
+use Rattle.bd_limits.specs.Limits.{soft_limit, room_edges, full_edges}
 use Rattle.bd_message.specs.declared.message.Message.{Message}
 use Rattle.bd_node.specs.declared.node.Edge.{Edge}
 use Rattle.bd_node.specs.declared.node.Node.{Node}
@@ -43,7 +43,7 @@ pub record HasPending (n : Node) (place : ℕ) (e : Edge) : Type 0 where
 pub data IsOnWay (nodes : Nodes) (t : Table) (from at : ℕ) : ℕ → ℕ → Type 0 where
   start : IsOnWay nodes t from at from at
   below : (id place c next : ℕ) (n m : Node) (e : Edge) → IsOnWay nodes t from at id place
-      → nodes id ≡ Some n → length (edges_of n) ≤ 14 → IsWayTo n place c e → t.count c ≡ 1
+      → nodes id ≡ Some n → length (edges_of n) ≤ room_edges → IsWayTo n place c e → t.count c ≡ 1
       → nodes c ≡ Some m → soft_limit < buffer_size m → IsFullestAt m next
       → IsOnWay nodes t from at c next
 
@@ -69,7 +69,7 @@ IsTarget t n place e (Some child) =
 pub record IsReadyToPush (t : Table) (parent : Fetched) (place : ℕ) (child : Option Fetched) : Type 0
   where
     pub parent_is : IsFetched t parent
-    pub room : length (edges_of parent.node.value) ≤ 14
+    pub room : length (edges_of parent.node.value) ≤ room_edges
     pub edge : Edge
     pub target : IsTarget t parent.node.value place edge child
     pub down : AllGoDown t.level (child_level t.level edge.child) parent.node.value place edge
@@ -87,7 +87,7 @@ pub record IsShared (t : Table) (parent : Fetched) (place : ℕ) : Type 0 where
 -- not go down it
 pub record HasHeldGoto (t : Table) (parent : Fetched) (place : ℕ) : Type 0 where
   pub parent_is : IsFetched t parent
-  pub room : length (edges_of parent.node.value) ≤ 14
+  pub room : length (edges_of parent.node.value) ≤ room_edges
   pub edge : Edge
   pub here : IsEdgeAt parent.node.value place edge
   pub child : Option Fetched
@@ -97,7 +97,7 @@ pub record HasHeldGoto (t : Table) (parent : Fetched) (place : ℕ) : Type 0 whe
 -- what is to be done at an edge, as far as the table tells
 abbrev pub IsDue : Table → FlushStep → Type 0
 IsDue t (SplitRoot root) =
-    IsFetched t root × (root.id ≡ t.root) × (15 ≤ length (edges_of root.node.value))
+    IsFetched t root × (root.id ≡ t.root) × (full_edges ≤ length (edges_of root.node.value))
 IsDue t (SplitChild above parent place child) =
     CanSplitChild t parent place child × IsUnder t parent
 IsDue t (Push above parent place child) = IsReadyToPush t parent place child × IsUnder t parent
@@ -137,7 +137,7 @@ IsSameEdge parent place p at = (p ≡ parent) × (at ≡ place)
 
 -- most bytes wait for the edge, of a node with at most 14 edges in which more than 16,384 do
 pub record IsFullEdge (f : Fetched) (place : ℕ) : Type 0 where
-  pub room : length (edges_of f.node.value) ≤ 14
+  pub room : length (edges_of f.node.value) ≤ room_edges
   pub fullest : IsFullestAt f.node.value place
   pub full : soft_limit < buffer_size f.node.value
 
@@ -152,7 +152,7 @@ IsStepFrom parent place step = AtEdge (IsFromEdge parent place) step
 -- most bytes wait for the edge at a place of a node of the way from the root, which has at most 14
 -- edges: one with more is split first
 pub record IsFullestIn (t : Table) (f : Fetched) (place : ℕ) : Type 0 where
-  pub room : length (edges_of f.node.value) ≤ 14
+  pub room : length (edges_of f.node.value) ≤ room_edges
   pub fullest : IsFullestAt f.node.value place
   pub full : IsFull t f
 
@@ -244,7 +244,7 @@ pub record IsNext (t : Table) (parent : Fetched) (place : ℕ) (child : Fetched)
   pub child_is : IsFetched t child
   pub lower : t.level child.id < t.level parent.id
   pub inner : 1 ≤ level_of child.node.value
-  pub room : length (edges_of child.node.value) ≤ 14
+  pub room : length (edges_of child.node.value) ≤ room_edges
   pub full : soft_limit < buffer_size child.node.value
 
 -- the step is at this edge of a node

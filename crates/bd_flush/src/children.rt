@@ -3,6 +3,7 @@
 ghost use Rattle.std.specs.Prelude.{◌≡◌, ◌+◌, ◌<◌, ◌≤◌, ◌∷◌, [], length, reverse, IfOk, MatchOption, OnOk, OnErr};
 ghost use Rattle.std.specs.Option.{option_copied};
 ghost use Rattle.std.specs.List.{AllByRecursion};
+ghost use Rattle.bd_limits.specs.Limits.{room_edges, full_edges};
 ghost use Rattle.bd_message.specs.KeyMaps.{HasMapCause};
 ghost use Rattle.bd_node.specs.Frames.{OfSound, OnlyReads, Stays};
 ghost use Rattle.bd_node.specs.declared.node.Edge.{Edge};
@@ -86,8 +87,8 @@ fn child_split(
 ) -> Result<Option<Step>, AllocError>
     requires shape { IsShape parent.now.node.value }
     requires child { IsShape child.now.node.value }
-    requires room { length (edges_of parent.now.node.value) ≤ 14 }
-    requires full { 15 ≤ length (edges_of child.now.node.value) }
+    requires room { length (edges_of parent.now.node.value) ≤ room_edges }
+    requires full { full_edges ≤ length (edges_of child.now.node.value) }
     requires within { place < length (edges_of parent.now.node.value) }
     requires next { 1 ≤ next }
     ensures { IfOk result (λ found. MatchOption found
@@ -122,8 +123,8 @@ fn split_below(
 ) -> Result<Option<Parts>, AllocError>
     requires shape { IsShape node.now }
     requires child { IsShape child.now }
-    requires room { length (edges_of node.now) ≤ 14 }
-    requires full { 15 ≤ length (edges_of child.now) }
+    requires room { length (edges_of node.now) ≤ room_edges }
+    requires full { full_edges ≤ length (edges_of child.now) }
     requires within { place < length (edges_of node.now) }
     requires next { 1 ≤ next }
     ensures { IfOk result (λ found. MatchOption found (IsLongPivot node.now place child.now)
@@ -158,7 +159,7 @@ pub fn over_halves(
     next: u64,
 ) -> Result<Halving, AllocError>
     requires shape { IsShape node.now }
-    requires room { length (edges_of node.now) ≤ 14 }
+    requires room { length (edges_of node.now) ≤ room_edges }
     requires within { place < length (edges_of node.now) }
     requires next { 1 ≤ next }
     requires fits { (e : Edge) → IsEdgeAt node.now place e → FitsAt node.now place e (edge ∷ []) }

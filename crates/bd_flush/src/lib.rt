@@ -29,4 +29,4 @@ pub use planting::push_new;
 pub use pushing::push;
 pub use raising::{Way, raise_above, raised};
 pub use splitting::split_root;
-pub use ways::{FlushStep, MANY_EDGES, next_step, step_from};
+pub use ways::{FlushStep, next_step, step_from};

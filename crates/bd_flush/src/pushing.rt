@@ -2,7 +2,7 @@
 
 ghost use Rattle.std.specs.Prelude.{◌≡◌, ◌+◌, ◌^◌, ◌<◌, ◌≤◌, ◌⊎◌, length, drop, reverse, IfOk, OnOk, OnErr};
 ghost use Rattle.std.specs.List.{AllByRecursion};
-ghost use Rattle.bd_limits.specs.Limits.{soft_limit, leaf_limit, batch_limit};
+ghost use Rattle.bd_limits.specs.Limits.{soft_limit, leaf_limit, batch_limit, room_edges};
 ghost use Rattle.bd_message.specs.KeyMaps.{HasMapCause};
 ghost use Rattle.bd_node.specs.Frames.{OfSound, OnlyReads, Stays};
 ghost use Rattle.bd_node.specs.declared.node.Edge.{Edge};
@@ -101,7 +101,7 @@ fn push_plan(
     requires child { IsShape child.now.node.value }
     requires above { AllByRecursion (λ (f : Fetched). IsShape f.node.value) (reverse above.now) }
     requires soft { buffer_size child.now.node.value ≤ soft_limit }
-    requires room { length (edges_of parent.now.node.value) ≤ 14 }
+    requires room { length (edges_of parent.now.node.value) ≤ room_edges }
     requires within { place < length (edges_of parent.now.node.value) }
     requires next { 1 ≤ next }
     requires waiting { (e : Edge) → IsEdgeAt parent.now.node.value place e
@@ -140,7 +140,7 @@ fn pushed_below(
     requires shape { IsShape node.now }
     requires child { IsShape child.now }
     requires soft { buffer_size child.now ≤ soft_limit }
-    requires room { length (edges_of node.now) ≤ 14 }
+    requires room { length (edges_of node.now) ≤ room_edges }
     requires within { place < length (edges_of node.now) }
     requires next { 1 ≤ next }
     requires waiting { (e : Edge) → IsEdgeAt node.now place e → CanMoveSome node.now place e }
@@ -164,7 +164,7 @@ fn leaf_received(
 ) -> Result<Halving, AllocError>
     requires shape { IsShape node.now }
     requires leaf { IsLeaf entries.now }
-    requires room { length (edges_of node.now) ≤ 14 }
+    requires room { length (edges_of node.now) ≤ room_edges }
     requires within { place < length (edges_of node.now) }
     requires next { 1 ≤ next }
     requires waiting { (e : Edge) → IsEdgeAt node.now place e → IsWaitedFor node.now place e }
@@ -193,7 +193,7 @@ fn leaf_parted(
     next: u64,
 ) -> Result<Halving, AllocError>
     requires shape { IsShape node.now }
-    requires room { length (edges_of node.now) ≤ 14 }
+    requires room { length (edges_of node.now) ≤ room_edges }
     requires within { place < length (edges_of node.now) }
     requires next { 1 ≤ next }
     requires there { (e : Edge) → IsEdgeAt node.now place e

@@ -1,7 +1,7 @@
 //! Nodes on the way down that have 15 or 16 edges are split.
 
 ghost use Rattle.std.specs.Prelude.{◌≡◌, ◌↔◌, ◌+◌, ◌^◌, ◌<◌, ◌≤◌, length, IfOk, MatchOption, OnOk, OnErr, Err};
-ghost use Rattle.bd_limits.specs.Limits.{level_limit};
+ghost use Rattle.bd_limits.specs.Limits.{level_limit, full_edges};
 ghost use Rattle.bd_message.specs.KeyMaps.{HasMapCause};
 ghost use Rattle.bd_message.specs.declared.fault.MapFault.TheVariants as fault;
 ghost use Rattle.bd_message.specs.declared.fault.Counter.TheVariants as counter;
@@ -29,7 +29,7 @@ pub fn split_root<S: NodeStore>(alloc: Global, store: &mut S, root: &Node) -> Re
         ((S.table store.old).level (S.table store.old).root) root.now }
     requires there { OfSound S.NodeStore store.old
         (S.nodes store.old (S.table store.old).root ≡ Some root.now) }
-    requires full { 15 ≤ length (edges_of root.now) }
+    requires full { full_edges ≤ length (edges_of root.now) }
     ensures flushed { OfSound S.NodeStore store.old
         (OnOk result (IsFlushed (S.nodes store.old) (S.table store.old)
         (S.nodes store.new) (S.table store.new))) }

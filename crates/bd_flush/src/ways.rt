@@ -1,6 +1,7 @@
 //! The way down that a step of a flush takes, and what is to be done at its end.
 
 ghost use Rattle.std.specs.Prelude.{◌≡◌, ◌+◌, ◌<◌, ◌≤◌, length, reverse, IfOk, Some};
+ghost use Rattle.bd_limits.specs.Limits.{room_edges};
 ghost use Rattle.bd_message.specs.KeyMaps.{HasMapCause, NeverWorn};
 ghost use Rattle.bd_node.specs.Frames.{OfSound, OnlyReads};
 ghost use Rattle.bd_node.specs.declared.node.Edge.{Edge};
@@ -18,13 +19,10 @@ ghost use Rattle.bd_flush.specs.Ways.{IsFullestAt, IsTarget, IsUnder, IsDue, Has
 use crate::carving::held_goto;
 use crate::nodes::{buffer_of, edges_of};
 use crate::{Fetched, Way, fetch, fullest};
-use bd_limits::SOFT_BUFFER;
+use bd_limits::{FULL_EDGES, SOFT_BUFFER};
 use bd_message::MapFault;
 use bd_node::{Items, Node, NodeStore};
 use std::alloc::{AllocError, Global};
-
-/// From this many edges on, a node on the way is split.
-pub const MANY_EDGES: usize = 15;
 
 /// What a step of a flush does, and where: at a node, with the nodes above it.
 #[derive(Debug, Drop)]
@@ -80,7 +78,7 @@ pub fn next_step<S: NodeStore>(alloc: Global, store: &mut S) -> Result<FlushStep
 {
     let root = store.root();
     let root = fetch(store, root)?;
-    if edges_of(&root.node).len() >= MANY_EDGES {
+    if edges_of(&root.node).len() >= FULL_EDGES {
         return Ok(FlushStep::SplitRoot { root });
     }
     let place = fullest_place(&root.node);
@@ -100,7 +98,7 @@ pub fn step_from<S: NodeStore>(
 ) -> Result<FlushStep, MapFault>
     requires way { IsWayUp (S.table store.old) parent.id (reverse above.items) }
     requires fetched { IsFetched (S.table store.old) parent }
-    requires room { length (edges_of parent.node.value) ≤ 14 }
+    requires room { length (edges_of parent.node.value) ≤ room_edges }
     requires within { place < length (edges_of parent.node.value) }
     requires under { IsUnder (S.table store.old) parent }
     ensures due { IfOk result (IsDue (S.table store.old)) }
@@ -153,7 +151,7 @@ fn look_from<S: NodeStore>(
 ) -> Result<Look, MapFault>
     requires way { IsWayUp (S.table store.old) parent.id (reverse above.items) }
     requires fetched { IsFetched (S.table store.old) parent }
-    requires room { length (edges_of parent.node.value) ≤ 14 }
+    requires room { length (edges_of parent.node.value) ≤ room_edges }
     requires within { place < length (edges_of parent.node.value) }
     requires under { IsUnder (S.table store.old) parent }
     ensures seen { IfOk result (IsSeen (S.table store.old) parent place) }
@@ -191,7 +189,7 @@ fn look_below<S: NodeStore>(
     requires fetched { IsFetched (S.table store.now) parent }
     requires child { IsFetched (S.table store.now) child }
     requires within { place < length (edges_of parent.node.value) }
-    ensures seen { length (edges_of parent.node.value) ≤ 14
+    ensures seen { length (edges_of parent.node.value) ≤ room_edges
         → (e : Edge) → IsWayTo parent.node.value place child.id e
         → (S.table store.now).count child.id ≡ 1 → IsUnder (S.table store.now) parent
         → IfOk result (IsSeen (S.table store.now) parent place) }
@@ -208,7 +206,7 @@ fn look_below<S: NodeStore>(
     if child.node.buffer_size() <= SOFT_BUFFER {
         return Ok(Look::End(push_or_carve(store, above, parent, place, Some(child))));
     }
-    if edges_of(&child.node).len() < MANY_EDGES {
+    if edges_of(&child.node).len() < FULL_EDGES {
         let mut above = above;
         above.push(parent)?;
         return Ok(Look::Down(above, child));
@@ -243,7 +241,7 @@ fn push_or_carve<S: NodeStore>(
 ) -> FlushStep
     requires fetched { IsFetched (S.table store.now) parent }
     requires within { place < length (edges_of parent.node.value) }
-    ensures due { length (edges_of parent.node.value) ≤ 14
+    ensures due { length (edges_of parent.node.value) ≤ room_edges
         → (e : Edge) → IsTarget (S.table store.now) parent.node.value place e child
         → IsUnder (S.table store.now) parent → IsDue (S.table store.now) result }
     ensures here { IsStepAt parent place result }

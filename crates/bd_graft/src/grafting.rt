@@ -1,7 +1,7 @@
 //! The graft of what stands under one prefix to another.
 
 ghost use Rattle.std.specs.Prelude.{ℕ, List, IfOk, IfErr, ◌++◌, ◌-◌, ◌*◌, ◌≡◌, ◌+◌, ◌<◌, ◌≤◌, ◌^◌, length, Some, IfOk, OnOk, OnErr};
-ghost use Rattle.bd_limits.specs.Limits.{key_limit, buffer_limit, level_limit};
+ghost use Rattle.bd_limits.specs.Limits.{key_limit, buffer_limit, level_limit, graft_size};
 ghost use Rattle.bd_message.specs.KeyMaps.{HasMapCause, CanGraft, IsGrafted};
 ghost use Rattle.bd_node.specs.Frames.{OfSound, OnlyReads, Stays};
 ghost use Rattle.bd_node.specs.Nodes.{buffer_size};
@@ -105,7 +105,7 @@ fn finish<S: NodeStore>(
         → S.nodes store.old (S.table store.old).root ≡ Some node.now }
     requires source { length s.now ≤ key_limit }
     requires target { length d.now ≤ key_limit }
-    requires fits { buffer_size node.now + 1600 ≤ buffer_limit }
+    requires fits { buffer_size node.now + graft_size ≤ buffer_limit }
     requires layers { AreLayers (S.table store.old)
         ((S.table store.old).level (S.table store.old).root + 1) way.layers.items way.end }
     requires short { IsShort way.end }
@@ -174,7 +174,7 @@ fn put_under<S: NodeStore>(
         → S.nodes store.old (S.table store.old).root ≡ Some node.now }
     requires source { length s.now ≤ key_limit }
     requires target { length d.now ≤ key_limit }
-    requires fits { buffer_size node.now + 1600 ≤ buffer_limit }
+    requires fits { buffer_size node.now + graft_size ≤ buffer_limit }
     requires room { (S.table store.old).next + length packed.made.items < 2 ^ 64 }
     requires few { length packed.made.items
         ≤ (S.table store.old).level (S.table store.old).root + 1 }

@@ -2,6 +2,7 @@
 
 ghost use Rattle.std.specs.Prelude.{◌≡◌, ◌+◌, ◌<◌, ◌≤◌, ◌^◌, false, length, IfOk};
 ghost use Rattle.std.specs.Option.{option_copied, option_map};
+ghost use Rattle.bd_limits.specs.Limits.{room_edges};
 ghost use Rattle.bd_keys.specs.Keys.{IsKey};
 ghost use Rattle.bd_message.specs.Messages.{IsMessage, IsPlain};
 ghost use Rattle.bd_node.specs.Shape.{IsShape, end_before};
@@ -22,7 +23,7 @@ use std::alloc::{AllocError, Global};
 pub fn carve(alloc: Global, node: &Node, at: usize) -> Result<Node, AllocError>
     requires shape { IsShape node.now }
     requires goto { IsGotoAt node.now at }
-    requires room { length (edges_of node.now) ≤ 14 }
+    requires room { length (edges_of node.now) ≤ room_edges }
     ensures node { IfOk result (λ n. IsCarved node.now at n) }
     ensures shape { IfOk result IsShape }
 {

@@ -1,6 +1,7 @@
 //! The halves of an inner node.
 
 ghost use Rattle.std.specs.Prelude.{◌≡◌, ◌≤◌, ◌<◌, ◌^◌, ◌++◌, ◌∷◌, [], length, IfOk};
+ghost use Rattle.bd_limits.specs.Limits.{full_edges};
 ghost use Rattle.bd_node.specs.declared.node.Node.TheVariants as node;
 ghost use Rattle.bd_node.specs.Shape.{IsShape, IsInner};
 ghost use Rattle.bd_inner.specs.Halves.{edges_of, bare_edge, AreHalves};
@@ -16,7 +17,7 @@ use std::alloc::{AllocError, Global};
 /// those of the messages that are pending for one of its edges.
 pub fn split(alloc: Global, node: &Node) -> Result<(Node, Bytes, Node), AllocError>
     requires shape { IsShape node.now }
-    requires full { 15 ≤ length (edges_of node.now) }
+    requires full { full_edges ≤ length (edges_of node.now) }
     ensures { IfOk result (λ halves. AreHalves node.now halves.0 halves.1 halves.2) }
 {
     match node {
@@ -37,7 +38,7 @@ fn split_inner(
     buffer: &[Message],
 ) -> Result<(Node, Bytes, Node), AllocError>
     requires inner { IsInner level edges.now buffer.now }
-    requires full { 15 ≤ length edges.now }
+    requires full { full_edges ≤ length edges.now }
     ensures { IfOk result (λ halves.
         AreHalves (node.Inner level edges.now buffer.now) halves.0 halves.1 halves.2) }
 {

@@ -3,7 +3,7 @@
 
 ghost use Rattle.std.specs.Prelude.{◌≡◌, ℕ, ◌+◌, ◌^◌, ◌<◌, ◌≤◌, List, [], ◌∷◌, ◌++◌, length, take, drop, Option, Some, IfSome, true, slice_get};
 ghost use Rattle.std.specs.List.{AllByRecursion, sum_by};
-ghost use Rattle.bd_limits.specs.Limits.{key_limit, buffer_limit, level_limit, edge_limit};
+ghost use Rattle.bd_limits.specs.Limits.{key_limit, buffer_limit, level_limit, edge_limit, room_edges};
 ghost use Rattle.bd_keys.specs.Keys.{IsKey, IsLift};
 ghost use Rattle.bd_message.specs.declared.message.Message.{Message};
 ghost use Rattle.bd_message.specs.declared.message.Message.TheVariants.{Goto};
@@ -73,11 +73,11 @@ pub fn exchanged_edges()
 /// only nodes that it named. The keys of the prefix whose edge hasn't seen the Goto are asked of
 /// the node that the Goto names.
 pub fn carved_nodes()
-    ensures shape { (n m : Node) (place : ℕ) → IsShape n → length (edges_of n) ≤ 14
+    ensures shape { (n m : Node) (place : ℕ) → IsShape n → length (edges_of n) ≤ room_edges
         → IsCarved n place m → IsShape m }
     ensures level { (n m : Node) (place : ℕ) → IsCarved n place m → level_of m ≡ level_of n }
     ensures meaning { (below : NodesAt) (n m : Node) (place : ℕ) → IsShape n
-        → length (edges_of n) ≤ 14 → IsCarved n place m → (k : List ℕ) → IsKey k
+        → length (edges_of n) ≤ room_edges → IsCarved n place m → (k : List ℕ) → IsKey k
         → node_at below m k ≡ node_at below n k }
     ensures edges { (n m : Node) (place : ℕ) → IsShape n → IsCarved n place m
         → length (edges_of m) ≤ length (edges_of n) + 2 }

@@ -1,5 +1,6 @@
 -- Push steps: the one that begins at an edge.
 use Rattle.std.specs.Prelude.{◌≢◌, ℕ, ◌≤◌, List, [], ◌∷◌, length, reverse}
+use Rattle.bd_limits.specs.Limits.{room_edges, full_edges}
 use Rattle.bd_node.specs.declared.node.Edge.{Edge}
 use Rattle.bd_message.specs.declared.fault.Counter.{Counter}
 use Rattle.bd_node.specs.Meaning.{Nodes}
@@ -22,19 +23,19 @@ pub data IsSplitFirst : List Fetched → Fetched → FlushStep → Type 0 where
       → IsEdgeTo parent.node.value place node.id e → e.source ≢ []
       → IsSplitFirst (parent ∷ above) node (Privatise (reverse above) parent place)
   below : (above : List Fetched) (parent node : Fetched) (place : ℕ) (e : Edge)
-      → IsWayTo parent.node.value place node.id e → length (edges_of parent.node.value) ≤ 14
+      → IsWayTo parent.node.value place node.id e → length (edges_of parent.node.value) ≤ room_edges
       → IsSplitFirst (parent ∷ above) node (SplitChild (reverse above) parent place node)
   further : (above : List Fetched) (parent node : Fetched) (place : ℕ) (e : Edge)
       (step : FlushStep) → IsWayTo parent.node.value place node.id e
-      → 15 ≤ length (edges_of parent.node.value) → IsSplitFirst above parent step
+      → full_edges ≤ length (edges_of parent.node.value) → IsSplitFirst above parent step
       → IsSplitFirst (parent ∷ above) node step
 
 -- the step that begins at the edge at a place of a node, with the nodes above it: where the node has
 -- at most 14 edges, the one that is to be done at the edge or further down
 pub record IsPushStep (above : List Fetched) (node : Fetched) (place : ℕ) (step : FlushStep) : Type 0
   where
-    pub narrow : length (edges_of node.node.value) ≤ 14 → IsStepFrom node place step
-    pub wide : 15 ≤ length (edges_of node.node.value) → IsSplitFirst (reverse above) node step
+    pub narrow : length (edges_of node.node.value) ≤ room_edges → IsStepFrom node place step
+    pub wide : full_edges ≤ length (edges_of node.node.value) → IsSplitFirst (reverse above) node step
 
 -- such a step is to be done, and how high the root is after it
 pub record IsPushFound (t : Table) (above : List Fetched) (node : Fetched) (place : ℕ) (u : Table)
@@ -51,7 +52,7 @@ pub record IsPushMade (nodes : Nodes) (t : Table) (above : List Fetched) (node :
   pub begins : IsPushStep above node place step
   pub due : IsDue t step
   pub stands : IsStanding nodes t step
-  pub reached : length (edges_of node.node.value) ≤ 14 → IsReached nodes t node.id place step
+  pub reached : length (edges_of node.node.value) ≤ room_edges → IsReached nodes t node.id place step
   pub made : IsMade nodes t step new u
   pub height : IsHighAfter t step u
   pub flushed : IsFlushed nodes t new u
@@ -64,6 +65,6 @@ pub record IsWornPush (known : Type 0) (nodes : Nodes) (t : Table) (above : List
   pub begins : IsPushStep above node place step
   pub due : IsDue t step
   pub stands : known → IsStanding nodes t step
-  pub reached : known → length (edges_of node.node.value) ≤ 14
+  pub reached : known → length (edges_of node.node.value) ≤ room_edges
       → IsReached nodes t node.id place step
   pub worn : IsWornStep known nodes t step counter

@@ -1,6 +1,7 @@
 //! Steps of a flush that begin at an edge.
 
 ghost use Rattle.std.specs.Prelude.{◌≡◌, ◌↔◌, ℕ, ◌+◌, ◌<◌, ◌≤◌, [], length, reverse, IsTrue, IfOk, OnOk, OnErr};
+ghost use Rattle.bd_limits.specs.Limits.{room_edges, full_edges};
 ghost use Rattle.bd_message.specs.KeyMaps.{HasMapCause, NeverWorn};
 ghost use Rattle.bd_node.specs.Frames.{OfSound, OnlyReads, Stays};
 ghost use Rattle.bd_node.specs.declared.node.Edge.{Edge};
@@ -18,7 +19,8 @@ ghost use Rattle.bd_reclaim.specs.Covering.{HasCut};
 ghost use Rattle.bd_reclaim.specs.Reclaimed.{IsReclaimed};
 ghost use Rattle.bd_reclaim.specs.Pushing.{IsSplitFirst, IsPushStep, IsPushFound, IsPushMade, IsWornPush};
 
-use bd_flush::{Fetched, FlushStep, MANY_EDGES, Way, edges_of, step_from};
+use bd_flush::{Fetched, FlushStep, Way, edges_of, step_from};
+use bd_limits::FULL_EDGES;
 use bd_message::MapFault;
 use bd_node::{Items, Node, NodeStore};
 use bd_step::make;
@@ -77,7 +79,7 @@ fn push_step<S: NodeStore>(
         → AreOwn (S.nodes store.old) (S.table store.old) (reverse above)
         → IfOk result (IsStanding (S.nodes store.old) (S.table store.old)) }
     ensures reached { S.is_known store.old → IsOwn (S.nodes store.old) (S.table store.old) node
-        → length (edges_of node.node.value) ≤ 14
+        → length (edges_of node.node.value) ≤ room_edges
         → IfOk result (IsReached (S.nodes store.old) (S.table store.old) node.id place) }
     ensures way { IfOk result (IsWayOf (S.table store.old)) }
     ensures way_at { S.is_known store.old → IsOwn (S.nodes store.old) (S.table store.old) node
@@ -90,7 +92,7 @@ fn push_step<S: NodeStore>(
         ≤ S.visit_count store.old + (S.table store.old).level (S.table store.old).root }
 {
     let above = above.into_vec();
-    if edges_of(&node.node).len() < MANY_EDGES {
+    if edges_of(&node.node).len() < FULL_EDGES {
         return step_from(store, above, node, place);
     }
     Ok(split_first(above, node))
@@ -99,7 +101,7 @@ fn push_step<S: NodeStore>(
 // What is to be split or copied before a step can begin at an edge of a node with 15 or 16 edges:
 // the node itself, where the one above it has room for its halves, or that one.
 fn split_first(above: Vec<Fetched>, node: Fetched) -> FlushStep
-    requires wide { 15 ≤ length (edges_of node.node.value) }
+    requires wide { full_edges ≤ length (edges_of node.node.value) }
     requires way { (t : Table) × IsFetched t node × IsWayUp t node.id (reverse above.items) }
     ensures first { IsSplitFirst (reverse above.items) node result }
     ensures due { (t : Table) → IsFetched t node → IsWayUp t node.id (reverse above.items)
@@ -123,7 +125,7 @@ fn split_first(above: Vec<Fetched>, node: Fetched) -> FlushStep
             place,
         };
     }
-    if edges_of(&parent.node).len() >= MANY_EDGES {
+    if edges_of(&parent.node).len() >= FULL_EDGES {
         return split_first(above, parent);
     }
     FlushStep::SplitChild {

@@ -1,5 +1,6 @@
 //! Grafts beside a map: worked rows, calls by a fixed rule, and clones of clones.
 
+use bd_limits::GRAFT_SIZE;
 use bd_memnodes::MemNodes;
 use bd_message::{Counter, MapFault};
 use bd_node::NodeStore;
@@ -167,7 +168,7 @@ fn deep_key(alloc: Global, count: usize) -> Result<Vec<u8>, Fail> {
 /// fault.
 fn clone_all(tree: &mut Tree<MemNodes>) -> Result<(usize, MapFault), Fail> {
     for count in 0..2_000 {
-        if tree.room() < 1600 {
+        if tree.room() < GRAFT_SIZE {
             return Err(Fail::new("no room"));
         }
         if let Err(fault) = tree.graft(b"", b"s", true) {

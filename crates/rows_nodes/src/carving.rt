@@ -5,7 +5,7 @@ ghost use Rattle.bd_node.specs.Shape.{IsShape};
 
 use crate::inner::{node, parts, put, raised};
 use bd_inner::{carve, receive};
-use bd_limits::MAX_BUFFER;
+use bd_limits::{MAX_BUFFER, ROOM_EDGES};
 use bd_message::Message;
 use bd_node::{Edge, Node};
 use rows_tools::message;
@@ -44,7 +44,7 @@ fn carved(alloc: Global, node: &Node) -> Result<Node, Fail>
     requires { IsShape node.now }
 {
     let (edges, messages) = parts(node);
-    if edges.len() > 14 {
+    if edges.len() > ROOM_EDGES {
         return Err(Fail::new("too many edges"));
     }
     match messages {

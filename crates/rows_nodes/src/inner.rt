@@ -11,7 +11,7 @@ ghost use Rattle.bd_inner.specs.Moving.{IsLifted};
 use bd_inner::laws::{compacted_nodes, edges_fit, flat_edges};
 use bd_inner::{clip, compact, edge_to, exchange, next_batch, receive, split};
 use bd_keys::Bytes;
-use bd_limits::{MAX_BUFFER, MAX_EDGES, MAX_KEY};
+use bd_limits::{FULL_EDGES, MAX_BUFFER, MAX_EDGES, MAX_KEY};
 use bd_message::Message;
 use bd_node::{Edge, Items, Messages, Node};
 use rows_tools::message;
@@ -183,7 +183,7 @@ fn a_node_without_what_is_pending_for_no_edge(rt: HostRuntime) -> Result<(), Fai
 fn halves_of_a_node(rt: HostRuntime) -> Result<(), Fail> {
     let node = full(rt.alloc())?;
     let (edges, _) = parts(&node);
-    if edges.len() < 15 {
+    if edges.len() < FULL_EDGES {
         return Err(Fail::new("too few edges"));
     }
     let (first, pivot, second) = split(rt.alloc(), &node)?;

@@ -1,7 +1,7 @@
 //! Messages that tests make, and calls of a key map where their conditions hold.
 
 use bd_keys::{Bytes, starts};
-use bd_limits::MAX_KEY;
+use bd_limits::{GRAFT_SIZE, MAX_KEY};
 use bd_message::{KeyMap, Message};
 use std::alloc::{AllocError, Global};
 use std::test::Fail;
@@ -53,7 +53,7 @@ pub fn apply<M: KeyMap>(map: &mut M, message: Message) -> Result<(), Fail> {
 /// Grafts, where it is allowed.
 pub fn graft<M: KeyMap>(map: &mut M, s: &[u8], d: &[u8], keep: bool) -> Result<(), Fail> {
     let is_short = s.len() <= MAX_KEY && d.len() <= MAX_KEY;
-    if !is_short || map.room() < 1600 || (!keep && starts(d, s)) {
+    if !is_short || map.room() < GRAFT_SIZE || (!keep && starts(d, s)) {
         return Err(Fail::new("no such graft"));
     }
     map.graft(s, d, keep)?;
