@@ -44,23 +44,23 @@ split_first-requires t c =
     let up : (u : Table) × IsFetched u c.in-Some.parent × IsWayUp u c.in-Some.parent.id (reverse c.pop.new.self.items) = (c.requires.way.0, link.fetched, link.up) in
     search (rules, less, wide, up)
 
-pub returns-then-edges_of-ge-MANY_EDGES-clause-first : goal.returns-then-edges_of-ge-MANY_EDGES-clause-first
-returns-then-edges_of-ge-MANY_EDGES-clause-first t c =
+pub returns-then-edges_of-ge-FULL_EDGES-clause-first : goal.returns-then-edges_of-ge-FULL_EDGES-clause-first
+returns-then-edges_of-ge-FULL_EDGES-clause-first t c =
     first_further c.args.above.items c.pop.new.self.items c.in-Some.parent c.args.node c.place_of-place.result (record { more = c.in-Some.ensures.items; asked = asked_here c.deref.result.now c.in-Some.parent.node.value c.place_of-place.result c.args.node.id c.deref.ensures c.place_of-place.ensures.edge }) c.split_first.result
     (asks_plain c.deref-2.result.now c.in-Some.parent.node.value c.place_of-place.result c.args.node.id c.asks_plainly.result (asked_here c.deref.result.now c.in-Some.parent.node.value c.place_of-place.result c.args.node.id c.deref.ensures c.place_of-place.ensures.edge) c.deref-2.ensures c.asks_plainly.ensures c.if-not-asks_plainly.false)
     (omega (arith, (ap (λ (n : Node). length (edges_of n)) c.deref-3.ensures), ap (λ (l : List Edge). length l) c.edges_of.ensures)) c.split_first.ensures.first
 
-pub returns-then-edges_of-ge-MANY_EDGES-clause-due : goal.returns-then-edges_of-ge-MANY_EDGES-clause-due
-returns-then-edges_of-ge-MANY_EDGES-clause-due t c = λ u fetched way.
+pub returns-then-edges_of-ge-FULL_EDGES-clause-due : goal.returns-then-edges_of-ge-FULL_EDGES-clause-due
+returns-then-edges_of-ge-FULL_EDGES-clause-due t c = λ u fetched way.
     let link = up_link u c.args.above.items c.pop.new.self.items c.in-Some.parent c.args.node c.in-Some.ensures.items way in
     c.split_first.ensures.due u link.fetched link.up
 
-pub returns-then-edges_of-ge-MANY_EDGES-clause-way : goal.returns-then-edges_of-ge-MANY_EDGES-clause-way
-returns-then-edges_of-ge-MANY_EDGES-clause-way t c = λ u way.
+pub returns-then-edges_of-ge-FULL_EDGES-clause-way : goal.returns-then-edges_of-ge-FULL_EDGES-clause-way
+returns-then-edges_of-ge-FULL_EDGES-clause-way t c = λ u way.
     c.split_first.ensures.way u (up_link u c.args.above.items c.pop.new.self.items c.in-Some.parent c.args.node c.in-Some.ensures.items way).up
 
-pub returns-then-edges_of-ge-MANY_EDGES-clause-way_at : goal.returns-then-edges_of-ge-MANY_EDGES-clause-way_at
-returns-then-edges_of-ge-MANY_EDGES-clause-way_at t c = λ nodes u all.
+pub returns-then-edges_of-ge-FULL_EDGES-clause-way_at : goal.returns-then-edges_of-ge-FULL_EDGES-clause-way_at
+returns-then-edges_of-ge-FULL_EDGES-clause-way_at t c = λ nodes u all.
     c.split_first.ensures.way_at nodes u (popped_all (IsOwn nodes u) c.args.above.items c.pop.new.self.items c.in-Some.parent c.in-Some.ensures.items all).1
 
 pub returns-clause-first : goal.returns-clause-first
