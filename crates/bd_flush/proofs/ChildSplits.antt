@@ -26,7 +26,8 @@ use Rattle.bd_node.proofs.Lookup.{Agree, each_second, each_named, each_dropped, 
 use Rattle.bd_node.proofs.Meanings.{at-meets}
 use Rattle.bd_node.proofs.Sound.{sound-levelled, counted}
 use Rattle.bd_node.proofs.Edges.{lt_is, lt_isnt, least_over}
-use Rattle.bd_inner.specs.Compaction.{IsCompacted, lowered, staying}
+use Rattle.bd_node.specs.Keeping.{staying}
+use Rattle.bd_inner.specs.Compaction.{IsCompacted, lowered}
 use Rattle.bd_inner.proofs.Fitting.{own_shape, seen_fits}
 use Rattle.bd_inner.specs.Halves.{edges_of, buffer_of, IsHalf, AreHalves}
 use Rattle.bd_inner.specs.Moving.{lifted}

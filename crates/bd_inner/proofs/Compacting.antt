@@ -22,41 +22,9 @@ use Rattle.bd_node.specs.Shape.{end_before, EachEdge, SomeEdge, IsEdge, IsPendin
 use Rattle.bd_node.proofs.LawLemmas.{untouched}
 use Rattle.bd_node.proofs.Edges.{EachEdge-weaker, SomeEdge-weaker, some_edge}
 use Rattle.bd_node.proofs.Appending.{some_has}
-use Rattle.bd_inner.specs.Compaction.{IsLoose, IsLooseNode, IsMask, staying, lowered, IsCompacted}
-
--- ---- how many messages stay
-
-abbrev pub stay_count : List Bool → ℕ → ℕ
-stay_count mask n = count_by (λ (stays : Bool). stays) (take n mask)
-
-count-cons : (b : Bool) (mask : List Bool) → count_by (λ (stays : Bool). stays) (b ∷ mask) ≡ cond b 1 0 + count_by (λ (stays : Bool). stays) mask
-count-cons b mask = sum_by-cons (λ (stays : Bool). cond stays 1 0) b mask
-
-count-yes : (mask : List Bool) → count_by (λ (stays : Bool). stays) (true ∷ mask) ≡ suc (count_by (λ (stays : Bool). stays) mask)
-count-yes mask = count-cons true mask ∙ omega arith
-
-count-skip : (mask : List Bool) → count_by (λ (stays : Bool). stays) (false ∷ mask) ≡ count_by (λ (stays : Bool). stays) mask
-count-skip mask = count-cons false mask ∙ omega arith
-
-pub stay_count-le : (mask : List Bool) (n i : ℕ) → n ≤ i → stay_count mask n ≤ stay_count mask i
-stay_count-le mask zero i h = omega arith
-stay_count-le [] (suc n) zero h = omega arith
-stay_count-le [] (suc n) (suc i) h = omega arith
-stay_count-le (b ∷ mask) (suc n) zero h = absurd (omega arith)
-stay_count-le (b ∷ mask) (suc n) (suc i) h =
-    let less : stay_count mask n ≤ stay_count mask i = stay_count-le mask n i (omega arith) in
-    omega (arith, count-cons b (take n mask), count-cons b (take i mask))
-
-pub stay_count-within : (mask : List Bool) (xs : List Message) (n : ℕ) → length mask ≡ length xs → stay_count mask n ≤ length (staying mask xs)
-stay_count-within mask xs zero e = omega arith
-stay_count-within [] xs (suc n) e = omega arith
-stay_count-within (b ∷ mask) [] (suc n) e = absurd (omega arith)
-stay_count-within (true ∷ mask) (x ∷ xs) (suc n) e =
-    let less : stay_count mask n ≤ length (staying mask xs) = stay_count-within mask xs n (omega arith) in
-    omega (arith, count-yes (take n mask))
-stay_count-within (false ∷ mask) (x ∷ xs) (suc n) e =
-    let less : stay_count mask n ≤ length (staying mask xs) = stay_count-within mask xs n (omega arith) in
-    omega (arith, count-skip (take n mask))
+use Rattle.bd_node.specs.Keeping.{staying, stay_count}
+use Rattle.bd_node.proofs.Keeping.{count-yes, count-skip, stay_count-le, stay_count-within, StoodAt, stood_at}
+use Rattle.bd_inner.specs.Compaction.{IsLoose, IsLooseNode, IsMask, lowered, IsCompacted}
 
 -- ---- what the messages that stay do
 
@@ -85,26 +53,6 @@ acts_dropped below (true ∷ mask) (x ∷ xs) (suc n) k e none old =
 acts_dropped below (false ∷ mask) (x ∷ xs) (suc n) k e none old =
     ap (λ (c : ℕ). acts below (drop c (staying mask xs)) k old) (count-skip (take n mask))
     ∙ acts_dropped below mask xs n k (omega arith) (λ i m low there goes. none (suc i) m (omega arith) there goes) old
-
--- ---- where a message that stays stood before
-
-pub record StoodAt (mask : List Bool) (xs : List Message) (j : ℕ) (m : Message) : Type 0 where
-  pub place : ℕ
-  pub stays : slice_get mask place ≡ Some true
-  pub there : slice_get xs place ≡ Some m
-  pub now : stay_count mask place ≡ j
-
-pub stood_at : (mask : List Bool) (xs : List Message) (j : ℕ) (m : Message) → slice_get (staying mask xs) j ≡ Some m → StoodAt mask xs j m
-stood_at [] xs j m h = absurd (none-some m h)
-stood_at (b ∷ mask) [] j m h = absurd (none-some m h)
-stood_at (true ∷ mask) (x ∷ xs) zero m h = record { place = zero; stays = refl; there = h; now = refl }
-stood_at (true ∷ mask) (x ∷ xs) (suc j) m h =
-    let found = stood_at mask xs j m h in
-    let more : stay_count mask found.place ≡ j = found.now in
-    record { place = suc found.place; stays = found.stays; there = found.there; now = count-yes (take found.place mask) ∙ ap (λ (c : ℕ). suc c) more }
-stood_at (false ∷ mask) (x ∷ xs) j m h =
-    let found = stood_at mask xs j m h in
-    record { place = suc found.place; stays = found.stays; there = found.there; now = count-skip (take found.place mask) ∙ found.now }
 
 -- ---- sizes, names and properties of the messages that stay
 

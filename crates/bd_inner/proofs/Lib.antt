@@ -1,7 +1,6 @@
 pub mod Unseen
 pub mod Places
 pub mod Touched
-pub mod Sweeping
 pub mod Compacting
 pub mod Splitting
 pub mod Moved

@@ -1,5 +1,5 @@
 -- Nodes without the messages that are pending for no edge.
-use Rattle.std.specs.Prelude.{◌≡◌, ◌↔◌, ℕ, ◌≤◌, Bool, true, if◌then◌else◌, List, [], ◌∷◌, length, take, map, count_by, Option, Some, slice_get}
+use Rattle.std.specs.Prelude.{◌≡◌, ◌↔◌, ℕ, ◌≤◌, Bool, true, List, [], length, map, Option, Some, slice_get}
 use Rattle.std.specs.List.{AllByRecursion, sum_by}
 use Rattle.bd_limits.specs.Limits.{key_limit, buffer_limit, level_limit, edge_limit}
 use Rattle.bd_keys.specs.Keys.{InRange}
@@ -8,6 +8,7 @@ use Rattle.bd_message.specs.Messages.{IsMessage, size}
 use Rattle.bd_node.specs.declared.node.Edge.{Edge}
 use Rattle.bd_node.specs.declared.node.Node.{Node}
 use Rattle.bd_node.specs.declared.node.Node.TheVariants.{Leaf, Inner}
+use Rattle.bd_node.specs.Keeping.{staying, stay_count}
 use Rattle.bd_node.specs.Shape.{end_before, EachEdge, SomeEdge, IsChild, IsEdge, IsPending, IsLeaf}
 
 -- the edge hasn't seen the message at this place, and its keys include the key
@@ -43,16 +44,9 @@ pub record IsMask (mask : List Bool) (edges : List Edge) (buffer : List Message)
   pub each : (place : ℕ) (m : Message) → slice_get buffer place ≡ Some m
       → (slice_get mask place ≡ Some true) ↔ SomeEdge (IsPending place m) edges
 
--- the messages of which the list says that they stay
-abbrev pub staying : List Bool → List Message → List Message
-staying [] buffer = []
-staying (stays ∷ mask) [] = []
-staying (stays ∷ mask) (m ∷ buffer) =
-    if stays then m ∷ staying mask buffer else staying mask buffer
-
 -- an edge that has seen those of the messages it had seen that stay
 abbrev pub lowered : List Bool → Edge → Edge
-lowered mask e = record e { seen = count_by (λ stays. stays) (take e.seen mask) }
+lowered mask e = record e { seen = stay_count mask e.seen }
 
 -- an inner node without the messages that are pending for no edge
 pub record IsSwept (level : ℕ) (edges : List Edge) (buffer : List Message) (n : Node) : Type 0 where

@@ -34,8 +34,8 @@ pub fn carve(alloc: Global, node: &Node, at: usize) -> Result<Node, AllocError>
             edges,
             buffer,
         } => {
-            let buffer = buffer.as_slice();
-            let own = goto_edge(alloc, &buffer[at], at)?;
+            let list = buffer.as_slice();
+            let own = goto_edge(alloc, &list[at], at)?;
             let end = prefix_end(alloc, own.pivot.as_slice())?;
             let edges = carved(alloc, edges.as_slice(), &own, as_end(&end))?;
             sweep(alloc, *level, edges, buffer)

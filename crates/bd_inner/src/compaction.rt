@@ -1,8 +1,9 @@
 //! Nodes without the messages that are pending for no edge.
 
-ghost use Rattle.std.specs.Prelude.{◌≡◌, IfOk, length, take, map, count_by};
+ghost use Rattle.std.specs.Prelude.{◌≡◌, IfOk, map};
+ghost use Rattle.bd_node.specs.Keeping.{stay_count};
 ghost use Rattle.bd_node.specs.Shape.{AreRising};
-ghost use Rattle.bd_inner.specs.Compaction.{IsLoose, IsLooseNode, IsMask, staying, lowered, IsSwept, IsCompacted};
+ghost use Rattle.bd_inner.specs.Compaction.{IsLoose, IsLooseNode, IsMask, lowered, IsSwept, IsCompacted};
 
 use crate::pending::is_pending;
 use bd_message::Message;
@@ -21,26 +22,21 @@ pub fn compact(alloc: Global, node: &Node) -> Result<Node, AllocError>
             level,
             edges,
             buffer,
-        } => sweep(alloc, *level, edges.clone()?, buffer.as_slice()),
+        } => sweep(alloc, *level, edges.clone()?, buffer),
     }
 }
 
 /// The inner node of these edges and of those of these messages that are pending for one of them.
-pub fn sweep(
-    alloc: Global,
-    level: u32,
-    edges: Edges,
-    buffer: &[Message],
-) -> Result<Node, AllocError>
+pub fn sweep(alloc: Global, level: u32, edges: Edges, buffer: &Messages) -> Result<Node, AllocError>
     requires { IsLoose level edges buffer.now }
     ensures { IfOk result (λ n. IsSwept level edges buffer.now n) }
 {
-    let mask = pending_mask(alloc, edges.as_slice(), buffer)?;
-    let staying = staying(alloc, &mask, buffer)?;
+    let mask = pending_mask(alloc, edges.as_slice(), buffer.as_slice())?;
+    let buffer = buffer.kept(mask.as_slice())?;
     Ok(Node::Inner {
         level,
         edges: lower(edges, &mask),
-        buffer: Messages::indexed(staying)?,
+        buffer,
     })
 }
 
@@ -56,26 +52,6 @@ fn pending_mask(alloc: Global, edges: &[Edge], buffer: &[Message]) -> Result<Vec
     Ok(mask)
 }
 
-// The messages of which the mask says that they stay.
-fn staying(alloc: Global, mask: &[bool], buffer: &[Message]) -> Result<Vec<Message>, AllocError>
-    requires { length mask.now ≡ length buffer.now }
-    ensures { IfOk result (λ list. list.items ≡ staying mask.now buffer.now) }
-{
-    let mut list = Vec::new(alloc);
-    for (place, message) in buffer.iter().enumerate() {
-        if mask[place] {
-            list.push(copy(message)?)?;
-        }
-    }
-    Ok(list)
-}
-
-fn copy(message: &Message) -> Result<Message, AllocError>
-    ensures { IfOk result (λ copy. copy ≡ message.now) }
-{
-    message.clone()
-}
-
 // The edges over the messages that stay.
 fn lower(edges: Edges, mask: &[bool]) -> Edges
     ensures { result ≡ map (lowered mask.now) edges }
@@ -89,7 +65,7 @@ fn lower(edges: Edges, mask: &[bool]) -> Edges
 
 // How many of the first messages stay.
 fn count_staying(mask: &[bool], count: u32) -> u32
-    ensures { result ≡ count_by (λ stays. stays) (take count mask.now) }
+    ensures { result ≡ stay_count mask.now count }
 {
     mask.iter()
         .take(count as usize)

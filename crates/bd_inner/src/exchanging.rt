@@ -34,7 +34,7 @@ pub fn exchange(alloc: Global, node: &Node, place: usize, list: Edges) -> Result
             buffer,
         } => {
             let edges = spliced(alloc, edges.as_slice(), place, list)?;
-            sweep(alloc, *level, edges, buffer.as_slice())
+            sweep(alloc, *level, edges, buffer)
         }
     }
 }

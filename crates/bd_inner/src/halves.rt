@@ -8,8 +8,7 @@ ghost use Rattle.bd_inner.specs.Halves.{edges_of, bare_edge, AreHalves};
 
 use crate::compaction::sweep;
 use bd_keys::Bytes;
-use bd_message::Message;
-use bd_node::{Edge, Edges, Items, Node};
+use bd_node::{Edge, Edges, Items, Messages, Node};
 use std::alloc::{AllocError, Global};
 
 /// The halves of a node with 15 or 16 edges, and the least key of the second one. Each half has an
@@ -26,7 +25,7 @@ pub fn split(alloc: Global, node: &Node) -> Result<(Node, Bytes, Node), AllocErr
             level,
             edges,
             buffer,
-        } => split_inner(alloc, *level, edges.as_slice(), buffer.as_slice()),
+        } => split_inner(alloc, *level, edges.as_slice(), buffer),
     }
 }
 
@@ -35,7 +34,7 @@ fn split_inner(
     alloc: Global,
     level: u32,
     edges: &[Edge],
-    buffer: &[Message],
+    buffer: &Messages,
 ) -> Result<(Node, Bytes, Node), AllocError>
     requires inner { IsInner level edges.now buffer.now }
     requires full { full_edges ≤ length edges.now }

@@ -1,15 +1,15 @@
 -- What messages leave of entries.
 use Rattle.std.proofs.Common.{◌≡◌, ℕ, zero, suc, ◌+◌, ◌-◌, ◌<◌, ◌≤◌, true, false, List, [], ◌∷◌, ◌++◌, length, take, drop, refl, sym, ap, subst, ◌∙◌, None, Some, arith, inl, inr, cond, get_or, set, add-one, take-append-drop, Ok, Err}
-use Rattle.std.specs.Prelude.{Bool, Option, slice_get}
+use Rattle.std.specs.Prelude.{Bool, Option, slice_get, replicate}
 use Rattle.std.specs.Option.{unwrap_or}
 use Rattle.std.specs.List.{AllByRecursion, sum_by}
 use Rattle.std.specs.Cmp.Lexicographic.{same_text}
 use Rattle.std.proofs.lemmas.Bool.{cases_lt}
-use Rattle.std.proofs.lemmas.Option.{same_Some, none-some, slice_get_within}
-use Rattle.std.proofs.lemmas.List.{drop_more}
+use Rattle.std.proofs.lemmas.Option.{same_Some, none-some, slice_get_within, slice_get_read}
+use Rattle.std.proofs.lemmas.List.{append-nil, drop_more}
 use Rattle.std.proofs.lemmas.List.Sums.{sum_by-cons}
 use Rattle.std.proofs.lemmas.Cmp.{nat_list_cmp_total as total}
-use Rattle.bd_limits.specs.Limits.{block_limit}
+use Rattle.bd_limits.specs.Limits.{key_limit, block_limit}
 use Rattle.bd_keys.specs.Keys.{IsBelow, IsAtLeast}
 use Rattle.bd_keys.specs.Edits.{overwritten}
 use Rattle.bd_keys.proofs.EditLemmas.{length-overwritten}
@@ -167,6 +167,39 @@ patch_received es new key v off bytes is put = record {
       let s = patch_size (entry_at es key) key v bytes off (entries_size new) (entries_size es) is put.size in
       omega arith);
 }
+
+-- what is overwritten within its length keeps what stands before and after
+pub overlaid_is : (old : List ℕ) (off : ℕ) (bytes new : List ℕ) → off + length bytes ≤ length old → new ≡ take off old ++ bytes ++ drop (off + length bytes) old → new ≡ overwritten old off bytes
+overlaid_is old off bytes new fits is =
+    let none : off - length old ≡ 0 = omega arith in
+    is ∙ ap (λ (front : List ℕ). front ++ bytes ++ drop (off + length bytes) old) (sym (ap (λ (n : ℕ). take off old ++ replicate n 0) none ∙ append-nil (take off old)))
+
+-- where a key has no entry it has no value
+pub place_none : (es shown : List Entry) (key shown_key : List ℕ) (place : ℕ) → shown ≡ es → shown_key ≡ key → IsPlace shown shown_key (Err place) → entry_at es key ≡ None
+place_none es shown key shown_key place same same_key found =
+    ap (λ (zs : List Entry). entry_at zs key) (sym same) ∙ ap (λ (k : List ℕ). entry_at shown k) (sym same_key) ∙ found.3
+
+-- a value that is changed where it stands
+pub patch_place : (es shown : List Entry) (key shown_key : List ℕ) (place : ℕ) (e : Entry) (off : ℕ) (bytes v : List ℕ) → shown ≡ es → shown_key ≡ key → AreEntries es → length key ≤ key_limit → 1 ≤ length bytes → off + length bytes ≤ block_limit
+    → IsPlace shown shown_key (Ok place) → e ≡ get_or es place e → v ≡ overwritten e.value off bytes → IsReceived es (Patch key off bytes ∷ []) (set es place (record e { value = v }))
+patch_place es shown key shown_key place e off bytes v same same_key h short some fits found is_e is =
+    let at_es : IsPlace es key (Ok place) = subst (λ (k : List ℕ). IsPlace es k (Ok place)) same_key (subst (λ (zs : List Entry). IsPlace zs shown_key (Ok place)) same found) in
+    let there : slice_get es place ≡ Some at_es.0 = at_es.1 in
+    let inside : place < length es = slice_get_within es place at_es.0 there in
+    let here : slice_get es place ≡ Some e = slice_get_read es (length es) place e refl inside is_e in
+    let e_is : e ≡ at_es.0 = same_Some e at_es.0 (sym here ∙ there) in
+    let e_key : e.key ≡ key = ap (λ (d : Entry). d.key) e_is ∙ at_es.2 in
+    let e_value : entry_at es key ≡ Some e.value = at_es.3 ∙ ap (λ (d : Entry). Some d.value) (sym e_is) in
+    let whole : v ≡ overwritten (unwrap_or (entry_at es key) []) off bytes = is ∙ ap (λ (o : Option (List ℕ)). overwritten (unwrap_or o []) off bytes) (sym e_value) in
+    let long = patched_long es key off bytes h.each some fits in
+    let own : IsEntry (record e { value = v }) = record {
+      key = subst (λ (l : List ℕ). length l ≤ key_limit) (sym e_key) short;
+      some = subst (λ (l : List ℕ). 1 ≤ length l) (sym whole) long.0;
+      value = subst (λ (l : List ℕ). length l ≤ block_limit) (sym whole) long.1;
+    } in
+    patch_received es (set es place (record e { value = v })) key v off bytes whole
+    (subst (λ (l : List ℕ). IsPut es l v (set es place (record e { value = v }))) e_key
+    (put_ok es es e.key place (record e { value = v }) refl refl h own (subst (λ (l : List ℕ). IsPlace es l (Ok place)) (sym e_key) at_es)))
 
 -- ---- where a cut begins
 

@@ -1,18 +1,18 @@
 //! What messages make of a leaf's entries, and what a leaf has below a prefix.
 
-ghost use Rattle.std.specs.Prelude.{◌≡◌, ◌≤◌, ◌+◌, ◌++◌, [], ◌∷◌, length, All, IfOk, OnOk, take, drop, map};
-ghost use Rattle.std.specs.Option.{unwrap_or};
+ghost use Rattle.std.specs.Prelude.{◌≡◌, ◌<◌, ◌≤◌, ◌+◌, ◌^◌, ◌++◌, [], ◌∷◌, length, All, IfOk, OnOk, take, drop, map};
+ghost use Rattle.bd_keys.specs.Edits.{overwritten};
 ghost use Rattle.bd_message.specs.Messages.{IsMessage, IsPlain};
 ghost use Rattle.bd_message.specs.declared.message.Message.TheVariants as message;
-ghost use Rattle.bd_node.specs.Nodes.{entry_at};
 ghost use Rattle.bd_node.specs.Shape.{IsRising};
 ghost use Rattle.bd_leaf.specs.Leaves.{AreEntries, IsReceived, IsClipped, IsPut, IsStart, IsEnd, without};
 
-use crate::{search, value_at};
+use crate::search;
 use bd_keys::{Bytes, overwritten, tail, translate};
 use bd_message::Message;
 use bd_node::{Entries, Entry};
 use std::alloc::{AllocError, Global};
+use std::mem;
 
 /// The entries of a leaf after messages, the first one first, none of which names a node. They are
 /// copied once. A leaf that they have made too large is for `split`.
@@ -126,17 +126,38 @@ fn patch(
     ensures { OnOk result (IsReceived entries.old.items
         (message.Patch key.now off bytes.now ∷ []) entries.new.items) }
 {
-    let old = value_or_none(entries, key.as_slice());
-    let value = overwritten(alloc, old, off, bytes.as_slice())?;
-    put(entries, key.clone()?, Bytes::from_vec(value))
+    match search(entries, key.as_slice()) {
+        Ok(place) => patch_value(alloc, &mut entries[place].value, off, bytes.as_slice()),
+        Err(_place) => {
+            let value = overwritten(alloc, &[], off, bytes.as_slice())?;
+            put(entries, key.clone()?, Bytes::from_vec(value))
+        }
+    }
 }
 
-// What a key has, and no bytes where it has nothing.
-fn value_or_none<'a>(entries: &'a [Entry], key: &[u8]) -> &'a [u8]
-    requires { IsRising entries.now }
-    ensures { result.now ≡ unwrap_or (entry_at entries.now key.now) [] }
+// The same of a value, in its own memory where it is long enough.
+fn patch_value(alloc: Global, value: &mut Bytes, off: usize, bytes: &[u8]) -> Result<(), AllocError>
+    requires { off + length bytes.now < 2 ^ 64 }
+    ensures { OnOk result (value.new ≡ overwritten value.old off bytes.now) }
 {
-    value_at(entries, key).unwrap_or(&[])
+    if off + bytes.len() <= value.len() {
+        let old = mem::replace(value, Bytes::from_vec(Vec::new(alloc)));
+        *value = Bytes::from_vec(overlaid(old.into_vec(), off, bytes));
+    } else {
+        *value = Bytes::from_vec(overwritten(alloc, value.as_slice(), off, bytes)?);
+    }
+    Ok(())
+}
+
+// Bytes overwritten within their length.
+fn overlaid(old: Vec<u8>, off: usize, bytes: &[u8]) -> Vec<u8>
+    requires { off + length bytes.now ≤ length old.items }
+    ensures { result.items ≡ take off old.items ++ bytes.now
+        ++ drop (off + length bytes.now) old.items }
+{
+    let mut old = old;
+    old[off..off + bytes.len()].copy_from_slice(bytes);
+    old
 }
 
 // Drops what the keys have that are the prefix and then `from` or what stands after it.

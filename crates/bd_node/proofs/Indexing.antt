@@ -55,10 +55,10 @@ range_within (m ∷ ms) (suc i) h = (let l : i < length ms = range_within ms i h
 spot_same : (k l : List ℕ) (p j : ℕ) → k ≡ l → ordering_then (key_cmp k l) (nat_cmp p j) ≡ nat_cmp p j
 spot_same k l p j same = ap (λ (o : Ordering). ordering_then o (nat_cmp p j)) (ap (λ (x : List ℕ). key_cmp k x) (sym same) ∙ tied_itself total k)
 
-spot_less : (k l : List ℕ) (p j : ℕ) → key_cmp k l ≡ Less → is_lt (ordering_then (key_cmp k l) (nat_cmp p j)) ≡ true
+pub spot_less : (k l : List ℕ) (p j : ℕ) → key_cmp k l ≡ Less → is_lt (ordering_then (key_cmp k l) (nat_cmp p j)) ≡ true
 spot_less k l p j h = ap (λ (o : Ordering). is_lt (ordering_then o (nat_cmp p j))) h
 
-spot_more : (k l : List ℕ) (p j : ℕ) → key_cmp k l ≡ Greater → is_lt (ordering_then (key_cmp k l) (nat_cmp p j)) ≡ false
+pub spot_more : (k l : List ℕ) (p j : ℕ) → key_cmp k l ≡ Greater → is_lt (ordering_then (key_cmp k l) (nat_cmp p j)) ≡ false
 spot_more k l p j h = ap (λ (o : Ordering). is_lt (ordering_then o (nat_cmp p j))) h
 
 pub same_before : (list : List Message) (k : List ℕ) (p j : ℕ) → key_at list p ≡ k → p < j → is_before list p (k, j) ≡ true
@@ -79,7 +79,7 @@ pub after_same : (list : List Message) (k : List ℕ) (p j : ℕ) → key_at lis
 after_same list k p j same h =
     elim (cases_lt p j) [ inl less ↦ absurd (true_false _ (same_before list k p j same less) h) | inr more ↦ more ]
 
-by_cmp : (G : Type 0) (o : Ordering) → (o ≡ Less → G) → (o ≡ Equal → G) → (o ≡ Greater → G) → G
+pub by_cmp : (G : Type 0) (o : Ordering) → (o ≡ Less → G) → (o ≡ Equal → G) → (o ≡ Greater → G) → G
 by_cmp G Less a b c = a refl
 by_cmp G Equal a b c = b refl
 by_cmp G Greater a b c = c refl

@@ -8,6 +8,7 @@ pub mod laws;
 mod messages;
 mod node;
 mod scans;
+mod staying;
 mod steps;
 mod store;
 

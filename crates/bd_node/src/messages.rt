@@ -6,10 +6,11 @@ ghost use Rattle.bd_limits.specs.Limits.{buffer_limit};
 ghost use Rattle.bd_message.specs.Effect.{is_cut};
 ghost use Rattle.bd_message.specs.Messages.{IsMessage, size};
 ghost use Rattle.bd_node.specs.Index.{IsNewestTouching, IsNextPoint, IsNextRange, is_point_at};
+ghost use Rattle.bd_node.specs.Keeping.{staying};
 ghost use Rattle.bd_node.specs.Touching.{IsNextTouching, touches};
 
 use crate::index::{self, Index};
-use crate::scans;
+use crate::{scans, staying};
 use bd_message::Message;
 use std::alloc::{AllocError, Global};
 use std::marker::Model;
@@ -129,6 +130,19 @@ impl Messages {
                 Err(fault)
             }
         }
+    }
+
+    /// A copy of the messages of which the mask says that they stay, with an index.
+    pub fn kept(&self, mask: &[bool]) -> Result<Messages, AllocError>
+        requires { length mask.now ≡ length self.now }
+        ensures { IfOk result (λ list. list ≡ staying mask.now self.now) }
+    {
+        let alloc = *self.items.allocator();
+        let (items, index) = staying::kept(alloc, self.items.as_slice(), &self.index, mask)?;
+        Ok(Messages {
+            items,
+            index: Some(index),
+        })
     }
 
     /// The place of the oldest message from a place on that can change what stands at a key. It is

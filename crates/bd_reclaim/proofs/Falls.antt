@@ -1,5 +1,5 @@
 -- How much is left to change falls.
-use Rattle.std.proofs.Common.{◌≡◌, ℕ, zero, suc, ◌+◌, ◌<◌, ◌≤◌, Bool, true, false, cond, List, [], ◌∷◌, ◌++◌, length, take, drop, map, count_by, sym, ap, subst, ◌∙◌, arith, inl, inr, length-drop}
+use Rattle.std.proofs.Common.{◌≡◌, ℕ, zero, suc, ◌+◌, ◌<◌, ◌≤◌, Bool, true, false, List, [], ◌∷◌, ◌++◌, length, take, drop, map, sym, ap, subst, arith, inl, inr, length-drop}
 use Rattle.std.specs.List.{sum_by}
 use Rattle.std.proofs.lemmas.Bool.{cases_eq}
 use Rattle.std.proofs.lemmas.List.Sums.{sum_by-cons, sum_by-append}
@@ -10,8 +10,9 @@ use Rattle.bd_node.specs.declared.node.Edge.{Edge}
 use Rattle.bd_node.specs.declared.node.Node.{Node}
 use Rattle.bd_node.specs.declared.node.Node.TheVariants.{Leaf, Inner}
 use Rattle.bd_node.specs.Tables.{sum_below}
-use Rattle.bd_inner.specs.Compaction.{staying, lowered}
-use Rattle.bd_inner.proofs.Compacting.{stay_count}
+use Rattle.bd_node.specs.Keeping.{staying, stay_count}
+use Rattle.bd_node.proofs.Keeping.{count-yes, count-skip}
+use Rattle.bd_inner.specs.Compaction.{lowered}
 use Rattle.bd_inner.proofs.Exchanged.{at_place}
 use Rattle.bd_reclaim.specs.declared.covering.Cover.{Cover}
 use Rattle.bd_reclaim.specs.declared.covering.Cover.TheVariants.{Gone, Elsewhere}
@@ -41,12 +42,6 @@ pub sums_same_next : (n m : ℕ) (f : ℕ → ℕ) → n ≡ m → sum_below n f
 sums_same_next n m f same = ap (λ (i : ℕ). sum_below i f) same
 
 -- ---- messages that stay
-
-count-yes : (mask : List Bool) → count_by (λ (stays : Bool). stays) (true ∷ mask) ≡ suc (count_by (λ (stays : Bool). stays) mask)
-count-yes mask = sum_by-cons (λ (stays : Bool). cond stays 1 0) true mask ∙ omega arith
-
-count-skip : (mask : List Bool) → count_by (λ (stays : Bool). stays) (false ∷ mask) ≡ count_by (λ (stays : Bool). stays) mask
-count-skip mask = sum_by-cons (λ (stays : Bool). cond stays 1 0) false mask ∙ omega arith
 
 -- how many messages there are from a place on
 abbrev pub after : ℕ → List Message → ℕ

@@ -1,6 +1,0 @@
-use Rattle.std.proofs.Common.{◌≡◌, take}
-use Rattle.bd_inner.specs.Compaction.{staying}
-use Rattle.bd_inner.proofs.compaction.staying.Given as goal
-
-abbrev pub invariant-loop-place : goal.invariant-loop-place
-invariant-loop-place l = l.list.items ≡ staying (take l.place l.mask) (take l.place l.buffer)
