@@ -20,11 +20,11 @@ impl Model for SlotSet {
 
     ghost Value = { List Bool };
 
-    ghost use Rattle.bd_slots.specs.Words.{IsCounted, flags};
+    ghost use Rattle.bd_slots.specs.Words.{AreCounted, flags};
 
     ghost view = { λ s. flags s.words.items s.count };
 
-    ghost invariant = { λ s. IsCounted s.words.items s.count s.free };
+    ghost invariant = { λ s. AreCounted s.words.items s.count s.free };
 }
 
 impl SlotSet {

@@ -2,7 +2,7 @@ use Rattle.std.proofs.Common.{◌≡◌, ◌∙◌, ◌+◌, sym, ap, subst, ari
 use Rattle.std.specs.Vec.{with_items}
 use Rattle.std.proofs.lemmas.List.{with_items_is}
 use Rattle.bd_slots.specs.Slots.{free_count}
-use Rattle.bd_slots.specs.Words.{IsCounted, flags, has_bit}
+use Rattle.bd_slots.specs.Words.{AreCounted, flags, has_bit}
 use Rattle.bd_slots.proofs.FlagLemmas.{given, bit_within, free_below, length-flags}
 use Rattle.bd_slots.proofs.slots.SlotSet.give.Goals as goal
 
@@ -22,7 +22,7 @@ invariant_of-self c =
     let s = c.self.inside in
     let now = c.set.new.words in
     let made : (with_items s.words now).items ≡ now = with_items_is s.words now (c.set.auto.words ∙ c.as_mut_slice.ensures.len) in
-    subst (λ w. IsCounted w s.count (s.free + 1)) (sym made) (given s.words.items now c.args.self.now s.count s.free c.args.slot c.self.invariant c.self.view_is c.requires
+    subst (λ w. AreCounted w s.count (s.free + 1)) (sym made) (given s.words.items now c.args.self.now s.count s.free c.args.slot c.self.invariant c.self.view_is c.requires
     (c.set.auto.words ∙ ap length c.as_mut_slice.ensures.value) c.set.ensures.set
     (λ other ne. c.set.ensures.others other ne ∙ ap (λ w. has_bit w other) c.as_mut_slice.ensures.value)).0
 
