@@ -51,7 +51,8 @@ super_version = 1
 -- slots
 abbrev pub super_head : ℕ → ℕ → ℕ → ℕ → List ℕ
 super_head slots epoch count table =
-    super_magic ++ be w32 super_version ++ be w32 slots ++ be w64 epoch ++ be w64 count ++ be w32 table
+    super_magic ++ be w32 super_version
+    ++ be w32 slots ++ be w64 epoch ++ be w64 count ++ be w32 table
 
 -- its bytes
 abbrev pub super_head_size : ℕ

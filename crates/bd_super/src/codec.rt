@@ -16,7 +16,7 @@ use bd_wire::{Cursor, Out, Short};
 use std::alloc::{AllocError, Global};
 
 // The first bytes of a body.
-const MAGIC: [u8; 8] = *b"BDSUPER1";
+const SUPER_MAGIC: [u8; 8] = *b"BDSUPER1";
 
 // The version of the format.
 const VERSION: u32 = 1;
@@ -49,7 +49,7 @@ impl Super {
         requires room { length (room out.old) ≡ block_size }
         ensures { Puts out.old out.new (super_body self.now) }
     {
-        out.put_bytes(&MAGIC);
+        out.put_bytes(&SUPER_MAGIC);
         out.put_u32(VERSION);
         out.put_u32(self.slots);
         out.put_u64(self.epoch);
@@ -115,7 +115,7 @@ fn read_head(cursor: &mut Cursor) -> Result<Option<SuperHead>, Short>
         → cursor.old.left ≢ super_head s e c t ++ rest)) }
     ensures short { OnErr result (length cursor.old.left < super_head_size) }
 {
-    let magic = cursor.bytes(MAGIC.len())?;
+    let magic = cursor.bytes(SUPER_MAGIC.len())?;
     let version = cursor.u32()?;
     let head = SuperHead {
         slots: cursor.u32()?,
@@ -131,7 +131,7 @@ fn read_head(cursor: &mut Cursor) -> Result<Option<SuperHead>, Short>
 fn is_magic(bytes: &[u8]) -> bool
     ensures { IsTrue result ↔ (bytes.now ≡ super_magic) }
 {
-    bytes == MAGIC.as_slice()
+    bytes == SUPER_MAGIC.as_slice()
 }
 
 // Reads this many numbers of four bytes. It is `None` exactly where fewer are left.

@@ -14,7 +14,7 @@ use bd_wire::{Cursor, Short};
 use std::alloc::{AllocError, Global};
 
 // The first bytes of a table.
-pub(crate) const MAGIC: [u8; 8] = *b"BDTABLE1";
+pub(crate) const TABLE_MAGIC: [u8; 8] = *b"BDTABLE1";
 
 // What a table begins with.
 #[derive(Clone, Copy)]
@@ -72,7 +72,7 @@ fn read_head(cursor: &mut Cursor) -> Result<Option<TableHead>, Short>
         → cursor.old.left ≢ table_head count next_id root ++ rest)) }
     ensures short { OnErr result (length cursor.old.left < table_header_size) }
 {
-    let magic = cursor.bytes(MAGIC.len())?;
+    let magic = cursor.bytes(TABLE_MAGIC.len())?;
     let head = TableHead {
         count: cursor.u64()?,
         next_id: cursor.u64()?,
@@ -85,7 +85,7 @@ fn read_head(cursor: &mut Cursor) -> Result<Option<TableHead>, Short>
 fn is_magic(bytes: &[u8]) -> bool
     ensures { IsTrue result ↔ (bytes.now ≡ table_magic) }
 {
-    bytes == MAGIC.as_slice()
+    bytes == TABLE_MAGIC.as_slice()
 }
 
 // Reads this many entries. It is `None` exactly where fewer bytes are left.

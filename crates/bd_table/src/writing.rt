@@ -12,7 +12,7 @@ ghost use Rattle.bd_table.specs.Image.{HoldsTable, IsOfTable};
 ghost use Rattle.bd_table.specs.Tables.{IsTableAt};
 ghost use Rattle.bd_table.specs.Words.{entry_word, entry_words, part, word_at, word_size};
 
-use crate::codec::MAGIC;
+use crate::codec::TABLE_MAGIC;
 use crate::reading::{BLOCKS, table_block};
 use crate::{Table, TableEntry};
 use bd_device::{BLOCK_SIZE, Device};
@@ -88,7 +88,7 @@ impl Table {
         ensures { Puts out.old out.new (word_at self.now index) }
     {
         match index {
-            0 => out.put_bytes(&MAGIC),
+            0 => out.put_bytes(&TABLE_MAGIC),
             1 => out.put_u64(self.entries.as_slice().len() as u64),
             2 => out.put_u64(self.next_id),
             3 => out.put_u64(self.root),
