@@ -6,8 +6,8 @@ use Rattle.std.proofs.lemmas.List.{same_lists, length-set, length-replicate, get
 use Rattle.std.proofs.lemmas.List.FromFn.{length-map-range_with_len, get_or-map-range_with_len}
 use Rattle.std.proofs.lemmas.List.Sums.{sum_by-set, sum_by-cons, count_by-le-length}
 use Rattle.std.proofs.lemmas.Option.{slice_get-get_or, slice_get_within, get_or_from_slice_get}
-use Rattle.bd_slots.specs.Slots.{IsFree, IsHeld, free_count}
-use Rattle.bd_slots.specs.Words.{has_bit, flags, AreCounted}
+use Rattle.bd_slots.specs.Slots.{IsFree, IsHeld, IsFirstFree, free_count}
+use Rattle.bd_slots.specs.Words.{has_bit, IsNoneBelow, IsFirstSet, flags, AreCounted}
 
 pub length-flags : (words : List ℕ) (count : ℕ) → length (flags words count) ≡ count
 length-flags words count = length-map-range_with_len (has_bit words) 0 count
@@ -101,6 +101,21 @@ kept_after : (words words' : List ℕ) (count slot : ℕ) → slot < count → (
     → ((other : ℕ) → other ≢ slot → has_bit words' other ≡ has_bit words other) → (other : ℕ) → count ≤ other → has_bit words' other ≡ false
 kept_after words words' count slot h none others other le = others other (λ e. omega (arith, e)) ∙ none other le
 
+-- none of the first bits is set after one was cleared, if none was before
+pub none_below-cleared : (words words' : List ℕ) (next slot : ℕ) → IsNoneBelow words next → has_bit words' slot ≡ false
+    → ((other : ℕ) → other ≢ slot → has_bit words' other ≡ has_bit words other) → IsNoneBelow words' next
+none_below-cleared words words' next slot none now others bit lt =
+    elim (cases_eq bit slot) [
+      | inl e ↦ ap (has_bit words') e ∙ now
+      | inr ne ↦ others bit ne ∙ none bit lt
+    ]
+
+-- nor of those before one that was set
+pub none_below-set : (words words' : List ℕ) (next slot first : ℕ) → IsNoneBelow words next → first ≤ next → first ≤ slot
+    → ((other : ℕ) → other ≢ slot → has_bit words' other ≡ has_bit words other) → IsNoneBelow words' first
+none_below-set words words' next slot first none before below others bit lt =
+    others bit (λ e. omega (arith, lt, below, e)) ∙ none bit (omega (arith, lt, before))
+
 -- after a slot was given back
 pub given : (words words' : List ℕ) (slots : List Bool) (count free slot : ℕ) → AreCounted words count free → flags words count ≡ slots → IsHeld slots slot
     → length words' ≡ length words → has_bit words' slot ≡ true → ((other : ℕ) → other ≢ slot → has_bit words' other ≡ has_bit words other)
@@ -154,6 +169,14 @@ set_within words count free bit known h =
 pub IsFree-has_bit : (words : List ℕ) (slots : List Bool) (count free bit : ℕ) → AreCounted words count free → flags words count ≡ slots → has_bit words bit ≡ true → IsFree slots bit
 IsFree-has_bit words slots count free bit known is h =
     subst (λ s. IsFree s bit) is (slice_get-flags words count bit (set_within words count free bit known h) ∙ ap Some h)
+
+-- the first bit that is set is the first free slot's
+pub IsFirstFree-first_set : (words : List ℕ) (slots : List Bool) (count free bit : ℕ) → AreCounted words count free → flags words count ≡ slots → IsFirstSet words bit → IsFirstFree slots bit
+IsFirstFree-first_set words slots count free bit known is h =
+    let within = set_within words count free bit known h.0 in (
+      IsFree-has_bit words slots count free bit known is h.0,
+      λ other lt. subst (λ s. IsHeld s other) is (slice_get-flags words count other (omega (arith, lt, within)) ∙ ap Some (h.1 other lt)),
+    )
 
 -- where no bit is set, no slot is free
 pub none_free : (words : List ℕ) (slots : List Bool) (count : ℕ) → flags words count ≡ slots → ((bit : ℕ) → has_bit words bit ≡ false) → free_count slots ≡ 0

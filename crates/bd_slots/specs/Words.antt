@@ -1,5 +1,5 @@
 -- Slots as the bits of words.
-use Rattle.std.specs.Prelude.{◌≡◌, ◌/◌, ◌%◌, ◌+◌, ◌≤◌, ◌==◌, ℕ, Bool, false, List, length, slice_index, map}
+use Rattle.std.specs.Prelude.{◌≡◌, ◌/◌, ◌%◌, ◌+◌, ◌<◌, ◌≤◌, ◌==◌, ℕ, Bool, true, false, List, length, slice_index, map}
 use Rattle.std.specs.Int.{bit_at}
 use Rattle.std.specs.List.{range_with_len}
 use Rattle.bd_slots.specs.Slots.{free_count}
@@ -15,6 +15,14 @@ has_bit words slot = bit_at (slice_index words (slot / word_bits)) (slot % word_
 -- the flags of so many slots
 abbrev pub flags : List ℕ → ℕ → List Bool
 flags words count = map (has_bit words) (range_with_len 0 count)
+
+-- none of the first bits is set, so many
+abbrev pub IsNoneBelow : List ℕ → ℕ → Type 0
+IsNoneBelow words count = (bit : ℕ) → bit < count → has_bit words bit ≡ false
+
+-- the bit is the first one that is set
+abbrev pub IsFirstSet : List ℕ → ℕ → Type 0
+IsFirstSet words bit = (has_bit words bit ≡ true) × IsNoneBelow words bit
 
 -- there are as many words as the slots take, no bit is set after the slots, and the free ones were
 -- counted

@@ -1,11 +1,11 @@
 // Bits in words, the lowest bit of the first word first.
 ghost use Rattle.std.specs.Prelude.{◌≡◌, ◌≢◌, ◌+◌, ◌<◌, ◌*◌, ◌/◌, ◌^◌, nat_lt, IfOk, ℕ, true, false, length, MatchOption};
-ghost use Rattle.bd_slots.specs.Words.{has_bit, word_bits};
+ghost use Rattle.bd_slots.specs.Words.{has_bit, word_bits, IsNoneBelow, IsFirstSet};
 
 use std::alloc::{AllocError, Global};
 
 /// How many bits a word has.
-const BITS: usize = 64;
+pub const BITS: usize = 64;
 
 // Words whose bits are set below a count, and not from there on.
 pub fn ones(alloc: Global, count: u32) -> Result<Vec<u64>, AllocError>
@@ -43,14 +43,16 @@ pub fn clear(words: &mut [u64], bit: usize)
     words[bit / BITS] &= !(1 << (bit % BITS));
 }
 
-// The first bit that is set.
-pub fn first_set(words: &[u64]) -> Option<usize>
-    requires { length words.now < 2 ^ 32 }
+// The first bit that is set, where none is in the words before `first`.
+pub fn first_set(words: &[u64], first: usize) -> Option<usize>
+    requires few { length words.now < 2 ^ 32 }
+    requires before { IsNoneBelow words.now (word_bits * first) }
     ensures found { MatchOption result
-        ((bit : ℕ) → has_bit words.now bit ≡ false) (λ bit. has_bit words.now bit ≡ true) }
+        ((bit : ℕ) → has_bit words.now bit ≡ false) (IsFirstSet words.now) }
 {
-    for (at, word) in words.iter().enumerate() {
-        if *word != 0 {
+    for at in first..words.len() {
+        let word = words[at];
+        if word != 0 {
             return Some(BITS * at + word.trailing_zeros() as usize);
         }
     }
