@@ -63,7 +63,7 @@ pub fn put(into: &mut [u8], at: usize, bytes: &[u8])
 }
 
 // The block of these bytes at this index.
-fn block_at(bytes: &[u8], i: usize) -> [u8; BLOCK_SIZE]
+fn nth_block(bytes: &[u8], i: usize) -> [u8; BLOCK_SIZE]
     requires { i * block_size + block_size ≤ length bytes.now }
     ensures { result ≡ take block_size (drop (i * block_size) bytes.now) }
 {
@@ -96,7 +96,7 @@ pub fn write_blocks<D: Device>(
         ≡ faults_after (D.write_fault_count dev.old) result }
 {
     for i in 0..count {
-        let block = block_at(bytes, i);
+        let block = nth_block(bytes, i);
         dev.write(first + i as u64, &block)?;
     }
     Ok(())

@@ -17,7 +17,7 @@ use Rattle.bd_node.specs.declared.node.Edge.{Edge}
 use Rattle.bd_node.specs.declared.node.Node.{Node}
 use Rattle.bd_node.specs.declared.node.Node.TheVariants.{Leaf, Inner}
 use Rattle.bd_format.specs.declared.read.Head.{Head}
-use Rattle.bd_format.specs.Images.{magic, head_bytes, entry_bytes, child_number, edge_bytes, node_bytes}
+use Rattle.bd_format.specs.Images.{node_magic, head_bytes, entry_bytes, child_number, edge_bytes, node_bytes}
 use Rattle.bd_format.specs.Parts.{AreOf, FitsHead, encode_head, FitsEntry, FitsChild, FitsTarget, encode_target, FitsEdge, encode_inner, FitsNode}
 use Rattle.bd_format.proofs.Lists.{same_lists, IsPrefixFree-lists}
 
@@ -40,7 +40,7 @@ numbers_alone =
     (IsPrefixFree-be w32)
 
 abbrev numbers_of : Head → Numbers
-numbers_of h = (((magic, h.level), h.items), h.messages)
+numbers_of h = (((node_magic, h.level), h.items), h.messages)
 
 abbrev head_from : Numbers → Head
 head_from n = record { level = n.0.0.1; items = n.0.1; messages = n.1 }
@@ -54,7 +54,7 @@ head_alone h g x y p q e =
     (ap head_from same.0, same.1)
 
 -- other numbers are no head
-pub other_head : (n : Numbers) (bytes after : List ℕ) → FitsNumbers n → n.0.0.0 ≢ magic → bytes ≡ encode_numbers n ++ after → BeginsNone FitsHead encode_head bytes
+pub other_head : (n : Numbers) (bytes after : List ℕ) → FitsNumbers n → n.0.0.0 ≢ node_magic → bytes ≡ encode_numbers n ++ after → BeginsNone FitsHead encode_head bytes
 other_head n bytes after fits other read h rest p e =
     other (ap (λ (m : Numbers). m.0.0.0) (numbers_alone n (numbers_of h) after rest fits (numbers_fit h p) (sym read ∙ e)).0)
 
@@ -66,10 +66,10 @@ short_head bytes short h rest p e =
       short,
       ap length e,
       length-append (encode_head h) rest,
-      length-append (be w32 magic ++ be w32 h.level ++ be w32 h.items) (be w32 h.messages),
-      length-append (be w32 magic ++ be w32 h.level) (be w32 h.items),
-      length-append (be w32 magic) (be w32 h.level),
-      length-be w32 magic,
+      length-append (be w32 node_magic ++ be w32 h.level ++ be w32 h.items) (be w32 h.messages),
+      length-append (be w32 node_magic ++ be w32 h.level) (be w32 h.items),
+      length-append (be w32 node_magic) (be w32 h.level),
+      length-be w32 node_magic,
       length-be w32 h.level,
       length-be w32 h.items,
       length-be w32 h.messages,

@@ -18,7 +18,7 @@ use Rattle.bd_node.specs.declared.node.Node.{Node}
 use Rattle.bd_node.specs.declared.node.Node.TheVariants.{Leaf, Inner}
 use Rattle.bd_node.specs.Shape.{entry_size, IsEntry, IsLeaf, end_before, EachEdge, IsChild, IsEdge, IsInner, IsShape}
 use Rattle.bd_node.proofs.Lookup.{each_weaker}
-use Rattle.bd_format.specs.Images.{head_bytes, magic, entry_bytes, child_number, edge_bytes, node_bytes}
+use Rattle.bd_format.specs.Images.{head_bytes, node_magic, entry_bytes, child_number, edge_bytes, node_bytes}
 use Rattle.bd_format.specs.Parts.{FitsEntry, FitsChild, FitsEdge, FitsNode}
 
 -- ---- leaves
@@ -104,10 +104,10 @@ length-head : (level items messages : ℕ) → length (head_bytes level items me
 length-head level items messages =
     omega (
       arith,
-      length-append (be w32 magic ++ be w32 level ++ be w32 items) (be w32 messages),
-      length-append (be w32 magic ++ be w32 level) (be w32 items),
-      length-append (be w32 magic) (be w32 level),
-      length-be w32 magic,
+      length-append (be w32 node_magic ++ be w32 level ++ be w32 items) (be w32 messages),
+      length-append (be w32 node_magic ++ be w32 level) (be w32 items),
+      length-append (be w32 node_magic) (be w32 level),
+      length-be w32 node_magic,
       length-be w32 level,
       length-be w32 items,
       length-be w32 messages,

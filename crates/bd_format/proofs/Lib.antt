@@ -4,3 +4,4 @@ mod Lifting
 mod Alone
 mod Fitting
 mod Rest
+mod Decodes

@@ -4,7 +4,7 @@ ghost use Rattle.std.specs.Prelude.{◌≡◌, ◌≤◌, ◌↔◌, IfOk, IsTru
 ghost use Rattle.std.specs.Option.{option_map};
 ghost use Rattle.bd_message.specs.Messages.{IsMessage};
 ghost use Rattle.bd_message.specs.Codec.{message_bytes, IsPartAs, FitsPart, encode_part};
-ghost use Rattle.bd_format.specs.Images.{IsReadAs, entry_bytes, edge_bytes, node_bytes, child_number};
+ghost use Rattle.bd_format.specs.Images.{IsDecodedAs, entry_bytes, edge_bytes, node_bytes, child_number};
 ghost use Rattle.bd_node.specs.Shape.{IsShape};
 ghost use Rattle.bd_format.specs.Parts.{AreReadAs, IsRestAs, FitsHead, FitsEntry, FitsEdge, FitsChild, FitsTarget, FitsNode, encode_head, encode_target};
 
@@ -19,7 +19,7 @@ use bd_wire::Cursor;
 use std::alloc::{AllocError, Global};
 
 /// What an image of a node begins with, `BDN1`.
-pub const MAGIC: u32 = 0x4244_4e31;
+pub const NODE_MAGIC: u32 = 0x4244_4e31;
 
 /// The numbers at the front of an image.
 #[derive(Clone, Copy)]
@@ -35,7 +35,7 @@ pub struct Head {
 /// The well-formed node whose image these bytes are. It is `None` exactly where they are no such
 /// node's.
 pub fn decode(alloc: Global, bytes: &[u8; SLOT_SIZE]) -> Result<Option<Node>, AllocError>
-    ensures { IfOk result (λ found. IsReadAs bytes.now found) }
+    ensures { IfOk result (λ found. IsDecodedAs bytes.now found) }
 {
     messages_are_prefix_free();
     let mut cursor = Cursor::new(bytes);
@@ -129,7 +129,7 @@ fn read_head(cursor: &mut Cursor) -> Option<Head>
     let Ok(messages) = cursor.u32() else {
         return None;
     };
-    if magic != MAGIC {
+    if magic != NODE_MAGIC {
         return None;
     }
     Some(Head {

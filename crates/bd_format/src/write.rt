@@ -7,11 +7,11 @@ ghost use Rattle.bd_message.specs.Messages.{IsMessage};
 ghost use Rattle.bd_message.specs.Codec.{message_bytes};
 ghost use Rattle.bd_node.specs.declared.node.Node.TheVariants.{Leaf, Inner};
 ghost use Rattle.bd_node.specs.Shape.{IsLeaf, IsInner, IsShape};
-ghost use Rattle.bd_format.specs.Images.{head_bytes, entry_bytes, edge_bytes, node_bytes, IsImage};
+ghost use Rattle.bd_format.specs.Images.{node_head_size, head_bytes, entry_bytes, edge_bytes, node_bytes, IsImage};
 ghost use Rattle.bd_format.specs.Parts.{FitsEntry, FitsEdge};
 
 use crate::laws::nodes_fit_slots;
-use crate::read::MAGIC;
+use crate::read::NODE_MAGIC;
 use bd_limits::SLOT_SIZE;
 use bd_message::Message;
 use bd_node::{Edge, Entry, Node};
@@ -72,10 +72,10 @@ fn put_inner(level: u32, edges: &[Edge], buffer: &[Message], out: &mut Out)
 fn put_head(level: u32, items: usize, messages: usize, out: &mut Out)
     requires items { items < 2 ^ 32 }
     requires messages { messages < 2 ^ 32 }
-    requires room { 16 ≤ length (room out.old) }
+    requires room { node_head_size ≤ length (room out.old) }
     ensures { Puts out.old out.new (head_bytes level items messages) }
 {
-    out.put_u32(MAGIC);
+    out.put_u32(NODE_MAGIC);
     out.put_u32(level);
     out.put_u32(items as u32);
     out.put_u32(messages as u32);

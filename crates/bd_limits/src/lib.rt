@@ -1,10 +1,16 @@
 //! The limits of the file system, each under one name in code and one in definitions.
-//! The layers above use the constants, and in contracts the names of `specs/Limits`, which
-//! `law_of_limits` ties to them.
+//! The layers above use the constants, and in contracts the names of `specs/Limits` and
+//! `specs/Places`, which `law_of_limits` and `law_of_places` tie to them.
 #![tactic(auto)]
+
+mod places;
 
 ghost use Rattle.std.specs.Prelude.{◌≡◌};
 ghost use Rattle.bd_limits.specs.Limits.{path_limit, name_limit, key_limit, block_limit, file_limit, write_limit, read_limit, listing_limit, line_limit, script_limit, piece_limit, buffer_limit, leaf_limit, level_limit, edge_limit, soft_limit, batch_limit, abundant_limit, late_limit, flush_limit, base_size, room_edges, full_edges, graft_size, slot_minimum, slot_limit, slot_size, block_size, first_slot_block, slot_blocks, table_slot_limit, log_blocks, body_block_limit};
+
+pub use places::{
+    FIRST_LOG_BLOCK, SECOND_LOG_BLOCK, TABLE_ENTRY_SIZE, TABLE_HEADER_SIZE, law_of_places,
+};
 
 /// The most bytes of a path in a command.
 pub const MAX_PATH: usize = 512;

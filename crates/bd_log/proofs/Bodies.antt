@@ -5,9 +5,9 @@ use Rattle.std.specs.Prelude.{IfSome, slice_get, slice_index, slice_index_or}
 use Rattle.std.specs.List.{concat}
 use Rattle.bd_device.specs.Blocks.{Image}
 use Rattle.bd_wire.specs.Text.{zeros}
-use Rattle.bd_log.specs.Batches.{IsBatchAt, LeadsTo, AreBatches, IsDamagedAt, body_blocks, header_bytes}
+use Rattle.bd_log.specs.Batches.{IsBatchAt, AreChained, AreBatches, IsDamagedAt, body_blocks, header_bytes}
 use Rattle.bd_device.specs.Changes.{bytes_at}
-use Rattle.bd_log.specs.Reading.{IsBodyOf, IsBodyAt, IsBodyRead, IsNext, IsBroken}
+use Rattle.bd_log.specs.Reading.{IsBodyOf, IsBodyAt, IsBodyRead, IsNextBatch, IsBroken}
 use Rattle.bd_log.specs.declared.batch.Batch.{Batch}
 use Rattle.bd_device.proofs.Changes.{bytes_first}
 use Rattle.bd_log.proofs.Buffers.{header_length, records_size}
@@ -85,26 +85,26 @@ broken (Some image) now first epoch place block same there one none =
 
 -- one batch more was read
 pub follow_more : (known now : Option Image) (first epoch place blocks : ℕ) (batches more : List Batch) (batch : Batch) → now ≡ known
-    → IfSome known (λ image. LeadsTo image first epoch 0 batches place) → IfSome now (λ image. IsNext image first epoch place (Some (batch, blocks)))
-    → blocks ≡ body_blocks batch.records → more ≡ batches ++ batch ∷ [] → IfSome known (λ image. LeadsTo image first epoch 0 more (place + (1 + blocks)))
+    → IfSome known (λ image. AreChained image first epoch 0 batches place) → IfSome now (λ image. IsNextBatch image first epoch place (Some (batch, blocks)))
+    → blocks ≡ body_blocks batch.records → more ≡ batches ++ batch ∷ [] → IfSome known (λ image. AreChained image first epoch 0 more (place + (1 + blocks)))
 follow_more None now first epoch place blocks batches more batch same so_far next size is = tt
 follow_more (Some image) now first epoch place blocks batches more batch same so_far next size is =
-    let here : IsNext image first epoch place (Some (batch, blocks)) = subst (λ (k : Option Image). IfSome k (λ image. IsNext image first epoch place (Some (batch, blocks)))) same next in
+    let here : IsNextBatch image first epoch place (Some (batch, blocks)) = subst (λ (k : Option Image). IfSome k (λ image. IsNextBatch image first epoch place (Some (batch, blocks)))) same next in
     let end : place + 1 + body_blocks batch.records ≡ place + (1 + blocks) = omega (arith, size) in
-    subst (λ bs. LeadsTo image first epoch 0 bs (place + (1 + blocks))) (sym is)
-    (subst (λ n. LeadsTo image first epoch 0 (batches ++ batch ∷ []) n) end (leads_more image first epoch 0 batches place batch so_far here.0 here.1))
+    subst (λ bs. AreChained image first epoch 0 bs (place + (1 + blocks))) (sym is)
+    (subst (λ n. AreChained image first epoch 0 (batches ++ batch ∷ []) n) end (leads_more image first epoch 0 batches place batch so_far here.0 here.1))
 
 -- the commit block after them isn't committed
 pub follow_all : (known now : Option Image) (first epoch place : ℕ) (batches : List Batch) → now ≡ known
-    → IfSome known (λ image. LeadsTo image first epoch 0 batches place) → IfSome now (λ image. IsNext image first epoch place None)
+    → IfSome known (λ image. AreChained image first epoch 0 batches place) → IfSome now (λ image. IsNextBatch image first epoch place None)
     → IfSome known (λ image. AreBatches image first epoch batches place)
 follow_all None now first epoch place batches same so_far next = tt
 follow_all (Some image) now first epoch place batches same so_far next =
-    record { follow = so_far; closed = subst (λ (k : Option Image). IfSome k (λ image. IsNext image first epoch place None)) same next }
+    record { follow = so_far; closed = subst (λ (k : Option Image). IfSome k (λ image. IsNextBatch image first epoch place None)) same next }
 
 -- or no batch stands after it
 pub follow_damaged : (known now : Option Image) (first epoch place block : ℕ) (batches : List Batch) → now ≡ known
-    → IfSome known (λ image. LeadsTo image first epoch 0 batches place) → IfSome now (λ image. IsBroken image first epoch place block)
+    → IfSome known (λ image. AreChained image first epoch 0 batches place) → IfSome now (λ image. IsBroken image first epoch place block)
     → IfSome known (λ image. IsDamagedAt image first epoch block)
 follow_damaged None now first epoch place block batches same so_far bad = tt
 follow_damaged (Some image) now first epoch place block batches same so_far bad =

@@ -9,11 +9,11 @@ use Rattle.bd_wire.specs.Numbers.{be, number_at}
 use Rattle.bd_wire.specs.Text.{text16, zeros}
 use Rattle.bd_wire.proofs.NumberLemmas.{number_at-be, length-be}
 use Rattle.bd_wire.proofs.TextLemmas.{length-text16}
-use Rattle.bd_log.specs.Batches.{IsRecord, records_in, header_bytes, blocks_for, body_blocks, body_bytes}
+use Rattle.bd_log.specs.Batches.{IsLogRecord, records_in, header_bytes, blocks_for, body_blocks, body_bytes}
 use Rattle.bd_log.specs.Logs.{IsBuffer, room_at}
 
 -- a record begins with how long it is
-record_length : (r after : List ℕ) → IsRecord r → 2 + number_at w16 (r ++ after) ≡ length r
+record_length : (r after : List ℕ) → IsLogRecord r → 2 + number_at w16 (r ++ after) ≡ length r
 unfolding text16
 record_length r after h =
     let start : r ++ after ≡ be w16 (length h.0) ++ (h.0 ++ after) = ap (λ l. l ++ after) h.2 ∙ append_assoc (be w16 (length h.0)) h.0 after in
@@ -22,7 +22,7 @@ record_length r after h =
     omega (arith, read, size)
 
 -- records are found again, whatever follows them
-pub records_in-concat : (rs : List (List ℕ)) (after : List ℕ) → AllByRecursion IsRecord rs → records_in (length rs) (concat rs ++ after) ≡ rs
+pub records_in-concat : (rs : List (List ℕ)) (after : List ℕ) → AllByRecursion IsLogRecord rs → records_in (length rs) (concat rs ++ after) ≡ rs
 records_in-concat [] after h = refl
 records_in-concat (r ∷ rs) after h =
     let bytes : List ℕ = (r ++ concat rs) ++ after in
@@ -38,13 +38,13 @@ length-records_in zero bytes = refl
 length-records_in (suc count) bytes = ap suc (length-records_in count (drop (2 + number_at w16 bytes) bytes))
 
 -- each record has two bytes or more
-pub records_size : (rs : List (List ℕ)) → AllByRecursion IsRecord rs → 2 * length rs ≤ length (concat rs)
+pub records_size : (rs : List (List ℕ)) → AllByRecursion IsLogRecord rs → 2 * length rs ≤ length (concat rs)
 records_size [] h = omega arith
 records_size (r ∷ rs) h =
     omega (arith, records_size rs h.1, ap length h.0.2, length-text16 h.0.0, length-append r (concat rs))
 
 -- one record more
-pub each_more : (rs : List (List ℕ)) (r : List ℕ) → AllByRecursion IsRecord rs → IsRecord r → AllByRecursion IsRecord (rs ++ r ∷ [])
+pub each_more : (rs : List (List ℕ)) (r : List ℕ) → AllByRecursion IsLogRecord rs → IsLogRecord r → AllByRecursion IsLogRecord (rs ++ r ∷ [])
 each_more [] r h is = (is, tt)
 each_more (s ∷ rs) r h is = (h.0, each_more rs r h.1 is)
 
@@ -78,7 +78,7 @@ pub record IsMore (place size count : ℕ) (body r new : List ℕ) : Type 0 wher
   pub buffer : IsBuffer place (size + length r) (count + 1) new
   pub records : records_in (count + 1) (take (size + length r) (drop 24 new)) ≡ records_in count (take size (drop 24 body)) ++ r ∷ []
 
-pub buffer_more : (place size count : ℕ) (body r new : List ℕ) → IsBuffer place size count body → IsRecord r → size + length r ≤ room_at place
+pub buffer_more : (place size count : ℕ) (body r new : List ℕ) → IsBuffer place size count body → IsLogRecord r → size + length r ≤ room_at place
     → new ≡ take (24 + size) body ++ r ++ drop (24 + size + length r) body → length new ≡ length body → IsMore place size count body r new
 buffer_more place size count body r new h is room put same =
     let rs = records_in count (take size (drop 24 body)) in
@@ -87,7 +87,7 @@ buffer_more place size count body r new h is room put same =
     ap (λ l. take (size + length r) (drop 24 l)) put ∙ put_after size body r (omega (arith, h.room, h.total)) in
     let whole : take (size + length r) (drop 24 new) ≡ concat all = bytes ∙ ap (λ l. l ++ r) (sym h.whole) ∙ sym (concat-more rs r) in
     let many : length all ≡ count + 1 = length-more rs r ∙ ap (λ n. n + 1) (length-records_in count (take size (drop 24 body))) in
-    let each : AllByRecursion IsRecord all = each_more rs r h.each is in
+    let each : AllByRecursion IsLogRecord all = each_more rs r h.each is in
     let found : records_in (count + 1) (take (size + length r) (drop 24 new)) ≡ all =
     ap (records_in (count + 1)) (whole ∙ sym (append-nil (concat all))) ∙ ap (λ n. records_in n (concat all ++ [])) (sym many) ∙ records_in-concat all [] each in
     record {
@@ -95,7 +95,7 @@ buffer_more place size count body r new h is room put same =
         total = same ∙ h.total;
         room = room;
         whole = ap concat found ∙ sym whole;
-        each = subst (AllByRecursion IsRecord) (sym found) each;
+        each = subst (AllByRecursion IsLogRecord) (sym found) each;
       };
       records = found;
     }

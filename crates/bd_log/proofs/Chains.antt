@@ -5,11 +5,11 @@ use Rattle.bd_wire.specs.Text.{zeros}
 use Rattle.std.specs.List.{concat, AllByRecursion}
 use Rattle.std.specs.Prelude.{slice_index}
 use Rattle.bd_device.specs.Blocks.{Image}
-use Rattle.bd_log.specs.Batches.{IsRecord, IsBatchAt, LeadsTo, AreBatches, records_in, blocks_for, body_blocks, header_bytes, body_bytes}
+use Rattle.bd_log.specs.Batches.{IsLogRecord, IsBatchAt, AreChained, AreBatches, records_in, blocks_for, body_blocks, header_bytes, body_bytes}
 use Rattle.bd_device.specs.Commits.{IsCommitted}
 use Rattle.bd_device.specs.Changes.{SameBut, IsInRange, bytes_at}
 use Rattle.bd_device.proofs.Changes.{same_same, same_wider, same_before}
-use Rattle.bd_log.specs.Commits.{IsWhole, IsNoneOrWhole, WasWritten}
+use Rattle.bd_log.specs.Commits.{IsWholeAt, IsNoneOrWhole, WasWritten}
 use Rattle.bd_log.specs.Logs.{LogState, IsBuffer, HasAll, IsSyncing, IsSynced, batches_of, place_after, after_sync}
 use Rattle.bd_log.specs.declared.batch.Batch.{Batch}
 use Rattle.bd_log.proofs.Buffers.{length-records_in, waiting_size, fits_half, body_is, sealed_length, take_take}
@@ -40,14 +40,14 @@ same_commit : (c d : Image) (end b : ℕ) → b < end → take end c ≡ take en
 same_commit c d end b lt e is = ap (λ (l : List ℕ). slice_index l 0) (same_below end b [] c d lt e) ∙ is
 
 -- batches end no sooner than they begin
-pub leads_up : (image : Image) (first epoch place : ℕ) (batches : List Batch) (end : ℕ) → LeadsTo image first epoch place batches end → place ≤ end
+pub leads_up : (image : Image) (first epoch place : ℕ) (batches : List Batch) (end : ℕ) → AreChained image first epoch place batches end → place ≤ end
 leads_up image first epoch place [] end h = omega (arith, h)
 leads_up image first epoch place (b ∷ bs) end h =
     omega (arith, leads_up image first epoch (place + 1 + body_blocks b.records) bs end h.2)
 
 -- they are in each image that agrees below their end
 pub leads_same : (c d : Image) (first epoch place : ℕ) (batches : List Batch) (end : ℕ) → take (first + end) c ≡ take (first + end) d
-    → LeadsTo d first epoch place batches end → LeadsTo c first epoch place batches end
+    → AreChained d first epoch place batches end → AreChained c first epoch place batches end
 leads_same c d first epoch place [] end e h = h
 leads_same c d first epoch place (b ∷ bs) end e h =
     let up = leads_up d first epoch (place + 1 + body_blocks b.records) bs end h.2 in (
@@ -63,11 +63,11 @@ leads_same c d first epoch place (b ∷ bs) end e h =
     )
 
 -- one batch more
-pub leads_more : (image : Image) (first epoch place : ℕ) (batches : List Batch) (end : ℕ) (batch : Batch) → LeadsTo image first epoch place batches end
+pub leads_more : (image : Image) (first epoch place : ℕ) (batches : List Batch) (end : ℕ) (batch : Batch) → AreChained image first epoch place batches end
     → IsCommitted image (first + end) → IsBatchAt image first epoch end batch
-    → LeadsTo image first epoch place (batches ++ batch ∷ []) (end + 1 + body_blocks batch.records)
+    → AreChained image first epoch place (batches ++ batch ∷ []) (end + 1 + body_blocks batch.records)
 leads_more image first epoch place [] end batch h on is =
-    subst (λ n. LeadsTo image first epoch n (batch ∷ []) (end + 1 + body_blocks batch.records)) (sym h) (on, is, refl)
+    subst (λ n. AreChained image first epoch n (batch ∷ []) (end + 1 + body_blocks batch.records)) (sym h) (on, is, refl)
 leads_more image first epoch place (b ∷ bs) end batch h on is =
     (h.0, h.1, leads_more image first epoch (place + 1 + body_blocks b.records) bs end batch h.2 on is)
 
@@ -80,7 +80,7 @@ some_waiting body place (r ∷ rs) h = (refl, refl)
 -- What a sync writes: the batch of the waiting records.
 pub record IsWaiting (log : LogState) (blocks : ℕ) (bytes : List ℕ) : Type 0 where
   pub some : 1 ≤ length log.waiting
-  pub each : AllByRecursion IsRecord log.waiting
+  pub each : AllByRecursion IsLogRecord log.waiting
   pub size : blocks ≡ body_blocks log.waiting
   pub room : log.place + 1 + blocks ≤ 63
   pub body : bytes ≡ body_bytes log.epoch log.waiting
@@ -109,7 +109,7 @@ waiting_is first place size count epoch blocks len batches body old new value h 
 
 -- where the batch is whole, all is there
 all_there : (log : LogState) (blocks : ℕ) (bytes : List ℕ) (d c : Image) → IsWaiting log blocks bytes
-    → SameBut (IsInRange (log.first + log.place) (log.first + log.place + blocks + 2)) d c → IsWhole (log.first + log.place) blocks bytes c → HasAll log d c
+    → SameBut (IsInRange (log.first + log.place) (log.first + log.place + blocks + 2)) d c → IsWholeAt (log.first + log.place) blocks bytes c → HasAll log d c
 all_there log blocks bytes d c w same whole batches was =
     let batch : Batch = record { body = log.first + log.place + 1; records = log.waiting } in
     let added = some_waiting (log.first + log.place + 1) log.place log.waiting w.some in

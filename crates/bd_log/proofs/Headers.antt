@@ -10,8 +10,8 @@ use Rattle.bd_wire.specs.Encoding.{IsPrefixFree, BeginsNone, FitsBoth, encode_bo
 use Rattle.bd_wire.proofs.NumberLemmas.{IsPrefixFree-be}
 use Rattle.bd_wire.proofs.EncodingLemmas.{IsPrefixFree-both}
 use Rattle.bd_wire.proofs.TextLemmas.{IsPrefixFree-text16}
-use Rattle.bd_log.specs.Batches.{IsRecord, magic, blocks_for, body_blocks, header_bytes, body_bytes}
-use Rattle.bd_log.specs.Reading.{head_bytes, FitsHeader, AreRecordsOf, IsBodyOf}
+use Rattle.bd_log.specs.Batches.{IsLogRecord, batch_magic, blocks_for, body_blocks, header_bytes, body_bytes}
+use Rattle.bd_log.specs.Reading.{encode_header, FitsHeader, AreRecordsOf, IsBodyOf}
 use Rattle.bd_log.specs.declared.decode.Header.{Header}
 use Rattle.bd_log.proofs.Buffers.{header_length, records_size, each_more, length-more, concat-more}
 
@@ -28,7 +28,7 @@ head_alone =
 
 -- What a header is that was written with these numbers, and what follows it.
 pub record IsHeaderOf (h : Header) (blocks epoch count size : ℕ) (rest after : List ℕ) : Type 0 where
-  pub mark : h.magic ≡ magic
+  pub mark : h.magic ≡ batch_magic
   pub many : h.blocks ≡ blocks
   pub time : h.epoch ≡ epoch
   pub records : h.count ≡ count
@@ -36,9 +36,9 @@ pub record IsHeaderOf (h : Header) (blocks epoch count size : ℕ) (rest after :
   pub follows : rest ≡ after
 
 pub header_is : (h : Header) (blocks epoch count size : ℕ) (bytes rest after : List ℕ) → FitsHeader h → blocks < 2 ^ 32 → epoch < 2 ^ 64 → count < 2 ^ 32 → size < 2 ^ 32
-    → bytes ≡ head_bytes h ++ rest → bytes ≡ header_bytes blocks epoch count size ++ after → IsHeaderOf h blocks epoch count size rest after
+    → bytes ≡ encode_header h ++ rest → bytes ≡ header_bytes blocks epoch count size ++ after → IsHeaderOf h blocks epoch count size rest after
 header_is h blocks epoch count size bytes rest after f b e c s read written =
-    let same = head_alone ((((h.magic, h.blocks), h.epoch), h.count), h.size) ((((magic, blocks), epoch), count), size) rest after
+    let same = head_alone ((((h.magic, h.blocks), h.epoch), h.count), h.size) ((((batch_magic, blocks), epoch), count), size) rest after
     ((((omega (arith, f.magic), omega (arith, f.blocks)), omega (arith, f.epoch)), omega (arith, f.count)), omega (arith, f.size))
     ((((omega arith, omega arith), omega arith), omega arith), omega arith) (sym read ∙ written) in
     record {
@@ -56,7 +56,7 @@ pub headers_same : (blocks epoch count size blocks' epoch' count' size' : ℕ) (
     → header_bytes blocks epoch count size ++ rest ≡ header_bytes blocks' epoch' count' size' ++ after
     → (blocks ≡ blocks') × (count ≡ count') × (size ≡ size') × (rest ≡ after)
 headers_same blocks epoch count size blocks' epoch' count' size' rest after b e c s b' e' c' s' same =
-    let all = head_alone ((((magic, blocks), epoch), count), size) ((((magic, blocks'), epoch'), count'), size') rest after
+    let all = head_alone ((((batch_magic, blocks), epoch), count), size) ((((batch_magic, blocks'), epoch'), count'), size') rest after
     ((((omega arith, omega arith), omega arith), omega arith), omega arith) ((((omega arith, omega arith), omega arith), omega arith), omega arith) same in
     (ap (λ (v : (((ℕ × ℕ) × ℕ) × ℕ) × ℕ). v.0.0.0.1) all.0, ap (λ (v : (((ℕ × ℕ) × ℕ) × ℕ) × ℕ). v.0.1) all.0, ap (λ (v : (((ℕ × ℕ) × ℕ) × ℕ) × ℕ). v.1) all.0, all.1)
 
@@ -69,7 +69,7 @@ body_length epoch rs =
 
 -- the header of a body, and what follows it
 pub body_header : (h : Header) (blocks epoch : ℕ) (bytes rest : List ℕ) (rs : List (List ℕ)) → FitsHeader h → blocks ≤ 62 → epoch < 2 ^ 64 → length bytes ≡ blocks * 4096
-    → bytes ≡ head_bytes h ++ rest → AllByRecursion IsRecord rs → bytes ≡ body_bytes epoch rs
+    → bytes ≡ encode_header h ++ rest → AllByRecursion IsLogRecord rs → bytes ≡ body_bytes epoch rs
     → IsHeaderOf h (body_blocks rs) epoch (length rs) (length (concat rs)) rest (concat rs ++ zeros (body_blocks rs * 4096 - (24 + length (concat rs)))) × (body_blocks rs ≡ blocks)
 body_header h blocks epoch bytes rest rs f few e long read each written =
     let size = length (concat rs) in
@@ -102,11 +102,11 @@ body_records epoch size bytes rs is written =
 -- What the checks of a reader say of the bytes.
 pub record IsChecked (h : Header) (epoch blocks : ℕ) (bytes rest : List ℕ) : Type 0 where
   pub fits : FitsHeader h
-  pub read : bytes ≡ head_bytes h ++ rest
+  pub read : bytes ≡ encode_header h ++ rest
   pub few : blocks ≤ 62
   pub limit : epoch < 2 ^ 64
   pub long : length bytes ≡ blocks * 4096
-  pub mark : h.magic ≡ magic
+  pub mark : h.magic ≡ batch_magic
   pub many : h.blocks ≡ blocks
   pub time : h.epoch ≡ epoch
   pub some : 1 ≤ h.count
@@ -123,13 +123,13 @@ body_from h epoch blocks bytes rest (Some rs) k there =
     let size : length (take h.size (drop 24 bytes)) ≡ h.size = length-take-le h.size (drop 24 bytes) (omega (arith, length-drop 24 bytes, k.long, k.size)) in
     let sum : h.size ≡ length (concat rs) = sym size ∙ ap length (sym there.2) in
     let all : blocks ≡ body_blocks rs = sym k.size ∙ ap blocks_for sum in
-    let header = head_bytes h in
+    let header = encode_header h in
     let header_is : header ≡ header_bytes (body_blocks rs) epoch (length rs) (length (concat rs)) =
     ap (λ n. be w32 n ++ be w32 h.blocks ++ be w64 h.epoch ++ be w32 h.count ++ be w32 h.size) k.mark
-    ∙ ap (λ n. be w32 magic ++ be w32 n ++ be w64 h.epoch ++ be w32 h.count ++ be w32 h.size) (k.many ∙ all)
-    ∙ ap (λ n. be w32 magic ++ be w32 (body_blocks rs) ++ be w64 n ++ be w32 h.count ++ be w32 h.size) k.time
-    ∙ ap (λ n. be w32 magic ++ be w32 (body_blocks rs) ++ be w64 epoch ++ be w32 n ++ be w32 h.size) (sym there.0)
-    ∙ ap (λ n. be w32 magic ++ be w32 (body_blocks rs) ++ be w64 epoch ++ be w32 (length rs) ++ be w32 n) sum in
+    ∙ ap (λ n. be w32 batch_magic ++ be w32 n ++ be w64 h.epoch ++ be w32 h.count ++ be w32 h.size) (k.many ∙ all)
+    ∙ ap (λ n. be w32 batch_magic ++ be w32 (body_blocks rs) ++ be w64 n ++ be w32 h.count ++ be w32 h.size) k.time
+    ∙ ap (λ n. be w32 batch_magic ++ be w32 (body_blocks rs) ++ be w64 epoch ++ be w32 n ++ be w32 h.size) (sym there.0)
+    ∙ ap (λ n. be w32 batch_magic ++ be w32 (body_blocks rs) ++ be w64 epoch ++ be w32 (length rs) ++ be w32 n) sum in
     let long : length header ≡ 24 = ap length header_is ∙ header_length (body_blocks rs) epoch (length rs) (length (concat rs)) in
     let after : drop 24 bytes ≡ rest = ap (drop 24) k.read ∙ drop_at header rest 24 long in
     let tail : List ℕ = drop (24 + h.size) bytes in
@@ -152,8 +152,8 @@ body_size epoch blocks bytes (Some rs) long h = omega (arith, ap length h.2, bod
 -- ---- records one after the other
 
 -- records at the front of others are their first ones
-pub records_front : (rs qs : List (List ℕ)) (left : List ℕ) → AllByRecursion IsRecord rs → AllByRecursion IsRecord qs → length rs ≤ length qs
-    → concat rs ++ left ≡ concat qs → (more : List (List ℕ)) × AllByRecursion IsRecord more × (length more + length rs ≡ length qs) × (left ≡ concat more)
+pub records_front : (rs qs : List (List ℕ)) (left : List ℕ) → AllByRecursion IsLogRecord rs → AllByRecursion IsLogRecord qs → length rs ≤ length qs
+    → concat rs ++ left ≡ concat qs → (more : List (List ℕ)) × AllByRecursion IsLogRecord more × (length more + length rs ≡ length qs) × (left ≡ concat more)
 records_front [] qs left h k le e = (qs, k, omega arith, e)
 records_front (r ∷ rs) [] left h k le e = absurd (omega arith)
 records_front (r ∷ rs) (q ∷ qs) left h k le e =
@@ -162,13 +162,13 @@ records_front (r ∷ rs) (q ∷ qs) left h k le e =
     let rest = records_front rs qs left h.1 k.1 (omega arith) same.1 in
     (rest.0, rest.1, omega (arith, rest.2), rest.3)
 
-begins : (left : List ℕ) → BeginsNone FitsText16 text16 left → (more : List (List ℕ)) → AllByRecursion IsRecord more → 1 ≤ length more → left ≡ concat more → ⊥
+begins : (left : List ℕ) → BeginsNone FitsText16 text16 left → (more : List (List ℕ)) → AllByRecursion IsLogRecord more → 1 ≤ length more → left ≡ concat more → ⊥
 begins left none [] h some e = absurd (omega arith)
 begins left none (r ∷ rs) h some e = none h.0.0 (concat rs) h.0.1 (e ∙ ap (λ l. l ++ concat rs) h.0.2)
 
 -- where no record follows so many, there aren't more
-pub too_few : (count : ℕ) (bytes left : List ℕ) (rs : List (List ℕ)) → bytes ≡ concat rs ++ left → AllByRecursion IsRecord rs → length rs < count → BeginsNone FitsText16 text16 left
-    → (qs : List (List ℕ)) → length qs ≡ count → AllByRecursion IsRecord qs → concat qs ≡ bytes → ⊥
+pub too_few : (count : ℕ) (bytes left : List ℕ) (rs : List (List ℕ)) → bytes ≡ concat rs ++ left → AllByRecursion IsLogRecord rs → length rs < count → BeginsNone FitsText16 text16 left
+    → (qs : List (List ℕ)) → length qs ≡ count → AllByRecursion IsLogRecord qs → concat qs ≡ bytes → ⊥
 too_few count bytes left rs read each lt none qs many k e =
     let front = records_front rs qs left each k (omega arith) (sym read ∙ sym e) in
     begins left none front.0 front.1 (omega (arith, front.2)) front.3
@@ -178,17 +178,17 @@ ends [] none e some = some (ap length e)
 ends (r ∷ rs) none e some = absurd (omega arith)
 
 -- nor where something follows them all
-pub too_long : (count : ℕ) (bytes left : List ℕ) (rs : List (List ℕ)) → bytes ≡ concat rs ++ left → AllByRecursion IsRecord rs → length rs ≡ count → ¬ (length left ≡ 0)
-    → (qs : List (List ℕ)) → length qs ≡ count → AllByRecursion IsRecord qs → concat qs ≡ bytes → ⊥
+pub too_long : (count : ℕ) (bytes left : List ℕ) (rs : List (List ℕ)) → bytes ≡ concat rs ++ left → AllByRecursion IsLogRecord rs → length rs ≡ count → ¬ (length left ≡ 0)
+    → (qs : List (List ℕ)) → length qs ≡ count → AllByRecursion IsLogRecord qs → concat qs ≡ bytes → ⊥
 too_long count bytes left rs read each is some qs many k e =
     let front = records_front rs qs left each k (omega arith) (sym read ∙ sym e) in
     ends front.0 (omega (arith, front.2)) front.3 some
 
 -- one record more was read
-pub records_more : (bytes left after r : List ℕ) (rs new : List (List ℕ)) → bytes ≡ concat rs ++ left → AllByRecursion IsRecord rs → IsRecord r → left ≡ r ++ after → new ≡ rs ++ r ∷ []
-    → (bytes ≡ concat new ++ after) × (length new ≡ length rs + 1) × AllByRecursion IsRecord new
+pub records_more : (bytes left after r : List ℕ) (rs new : List (List ℕ)) → bytes ≡ concat rs ++ left → AllByRecursion IsLogRecord rs → IsLogRecord r → left ≡ r ++ after → new ≡ rs ++ r ∷ []
+    → (bytes ≡ concat new ++ after) × (length new ≡ length rs + 1) × AllByRecursion IsLogRecord new
 records_more bytes left after r rs new read each is front more = (
   read ∙ ap (λ l. concat rs ++ l) front ∙ sym (append_assoc (concat rs) r after) ∙ ap (λ l. l ++ after) (sym (ap concat more ∙ concat-more rs r)),
   ap length more ∙ length-more rs r,
-  subst (AllByRecursion IsRecord) (sym more) (each_more rs r each is),
+  subst (AllByRecursion IsLogRecord) (sym more) (each_more rs r each is),
 )

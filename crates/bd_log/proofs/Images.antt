@@ -12,7 +12,7 @@ use Rattle.bd_device.specs.Moments.{Elapses, TornAt}
 use Rattle.bd_device.proofs.Changes.{same_wider, same_then, same_set, before_wider, before_now, write_more}
 use Rattle.bd_device.proofs.Moments.{goes_on, within, after}
 use Rattle.bd_device.specs.Commits.{IsCommitted}
-use Rattle.bd_log.specs.Commits.{IsWhole, IsNoneOrWhole, WasWritten}
+use Rattle.bd_log.specs.Commits.{IsWholeAt, IsNoneOrWhole, WasWritten}
 
 -- a block replaced after the others changes none of them
 bytes_before : (image : Image) (b count : ℕ) (block : List ℕ) → bytes_at (slice_set image (b + count) block) b count ≡ bytes_at image b count
@@ -60,7 +60,7 @@ settled count commit blocks bytes block (Some old) new image lt size body zero_b
 
 -- what stands after the commit block stays, whatever it holds
 after_commit : (commit blocks : ℕ) (bytes block : List ℕ) (image : Image) → IsSettled commit blocks bytes image → IsCommitted (slice_set image commit block) commit
-    → IsWhole commit blocks bytes (slice_set image commit block)
+    → IsWholeAt commit blocks bytes (slice_set image commit block)
 after_commit commit blocks bytes block image h is =
     let next = get_or-set_other image commit (commit + 1 + blocks) block [] (omega arith) in
     record {
@@ -75,7 +75,7 @@ opened_outside commit blocks block d image p =
     same_then (same_wider (IsInRange (commit + 1) (commit + blocks + 2)) range (λ i is. (omega (arith, is.0), is.1)) p) (same_set range commit image block (omega arith, omega arith))
 
 torn_either : (commit blocks : ℕ) (bytes block : List ℕ) (d image : Image) → IsSettled commit blocks bytes image
-    → (¬ IsCommitted d commit → ¬ IsCommitted (slice_set image commit block) commit) ⊎ IsWhole commit blocks bytes (slice_set image commit block)
+    → (¬ IsCommitted d commit → ¬ IsCommitted (slice_set image commit block) commit) ⊎ IsWholeAt commit blocks bytes (slice_set image commit block)
 torn_either commit blocks bytes block d image s =
     elim (cases_eq (slice_index (slice_index_or (slice_set image commit block) commit []) 0) 1) [
       | inl on ↦ inr (after_commit commit blocks bytes block image s on)

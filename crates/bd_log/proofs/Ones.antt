@@ -7,7 +7,7 @@ use Rattle.std.proofs.Math.Seq.{take-add}
 use Rattle.std.specs.List.{concat, AllByRecursion}
 use Rattle.bd_device.specs.Blocks.{Image}
 use Rattle.bd_wire.specs.Text.{zeros}
-use Rattle.bd_log.specs.Batches.{IsRecord, IsBatchAt, LeadsTo, records_in, body_blocks, header_bytes, body_bytes}
+use Rattle.bd_log.specs.Batches.{IsLogRecord, IsBatchAt, AreChained, records_in, body_blocks, header_bytes, body_bytes}
 use Rattle.bd_device.specs.Commits.{IsCommitted}
 use Rattle.bd_device.specs.Changes.{bytes_at}
 use Rattle.bd_log.specs.declared.batch.Batch.{Batch}
@@ -23,7 +23,7 @@ bytes_front image b few many le =
     )
 
 -- the records that a place has, where one body has no fewer blocks
-one_body : (image : Image) (b epoch : ℕ) (rs qs : List (List ℕ)) → epoch < 2 ^ 64 → AllByRecursion IsRecord rs → AllByRecursion IsRecord qs → body_blocks rs ≤ 62 → body_blocks qs ≤ 62
+one_body : (image : Image) (b epoch : ℕ) (rs qs : List (List ℕ)) → epoch < 2 ^ 64 → AllByRecursion IsLogRecord rs → AllByRecursion IsLogRecord qs → body_blocks rs ≤ 62 → body_blocks qs ≤ 62
     → bytes_at image b (body_blocks rs) ≡ body_bytes epoch rs → bytes_at image b (body_blocks qs) ≡ body_bytes epoch qs → body_blocks rs ≤ body_blocks qs → rs ≡ qs
 one_body image b epoch rs qs e h k few few' is is' le =
     let front = bytes_front image b (body_blocks rs) (body_blocks qs) le in
@@ -60,24 +60,24 @@ one_batch image first epoch place a b e h k =
 
 -- two lists of batches from a place are one, where the first commit block after each isn't committed
 pub one_list : (image : Image) (first epoch place : ℕ) (these bs : List Batch) (end end' : ℕ) → epoch < 2 ^ 64
-    → LeadsTo image first epoch place these end → LeadsTo image first epoch place bs end' → ¬ IsCommitted image (first + end) → ¬ IsCommitted image (first + end') → (these ≡ bs) × (end ≡ end')
+    → AreChained image first epoch place these end → AreChained image first epoch place bs end' → ¬ IsCommitted image (first + end) → ¬ IsCommitted image (first + end') → (these ≡ bs) × (end ≡ end')
 one_list image first epoch place [] [] end end' e h k closed closed' = (refl, sym h ∙ k)
 one_list image first epoch place [] (b ∷ bs) end end' e h k closed closed' = absurd (closed (subst (λ n. IsCommitted image (first + n)) h k.0))
 one_list image first epoch place (a ∷ these) [] end end' e h k closed closed' = absurd (closed' (subst (λ n. IsCommitted image (first + n)) k h.0))
 one_list image first epoch place (a ∷ these) (b ∷ bs) end end' e h k closed closed' =
     let same = one_batch image first epoch place a b e h.1 k.1 in
     let rest = one_list image first epoch (place + 1 + body_blocks a.records) these bs end end' e h.2
-    (subst (λ (c : Batch). LeadsTo image first epoch (place + 1 + body_blocks c.records) bs end') (sym same) k.2) closed closed' in
+    (subst (λ (c : Batch). AreChained image first epoch (place + 1 + body_blocks c.records) bs end') (sym same) k.2) closed closed' in
     (ap (λ (c : Batch). c ∷ these) same ∙ ap (λ cs. b ∷ cs) rest.0, rest.1)
 
 -- a list of batches doesn't reach past a place where none stands
 pub no_list : (image : Image) (first epoch place : ℕ) (these bs : List Batch) (end end' : ℕ) → epoch < 2 ^ 64
-    → LeadsTo image first epoch place these end → IsCommitted image (first + end) → ((batch : Batch) → ¬ IsBatchAt image first epoch end batch)
-    → LeadsTo image first epoch place bs end' → ¬ IsCommitted image (first + end') → ⊥
+    → AreChained image first epoch place these end → IsCommitted image (first + end) → ((batch : Batch) → ¬ IsBatchAt image first epoch end batch)
+    → AreChained image first epoch place bs end' → ¬ IsCommitted image (first + end') → ⊥
 no_list image first epoch place [] [] end end' e h on none k closed = closed (subst (λ n. IsCommitted image (first + n)) (sym h ∙ k) on)
 no_list image first epoch place [] (b ∷ bs) end end' e h on none k closed = none b (subst (λ n. IsBatchAt image first epoch n b) h k.1)
 no_list image first epoch place (a ∷ these) [] end end' e h on none k closed = closed (subst (λ n. IsCommitted image (first + n)) k h.0)
 no_list image first epoch place (a ∷ these) (b ∷ bs) end end' e h on none k closed =
     let same = one_batch image first epoch place a b e h.1 k.1 in
     no_list image first epoch (place + 1 + body_blocks a.records) these bs end end' e h.2 on none
-    (subst (λ (c : Batch). LeadsTo image first epoch (place + 1 + body_blocks c.records) bs end') (sym same) k.2) closed
+    (subst (λ (c : Batch). AreChained image first epoch (place + 1 + body_blocks c.records) bs end') (sym same) k.2) closed

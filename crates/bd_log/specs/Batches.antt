@@ -12,8 +12,8 @@ use Rattle.bd_device.specs.Changes.{bytes_at}
 use Rattle.bd_log.specs.declared.batch.Batch.{Batch}
 
 -- a record: a length of two bytes, and that many bytes
-abbrev pub IsRecord : List ℕ → Type 0
-IsRecord bytes = (text : List ℕ) × FitsText16 text × (bytes ≡ text16 text)
+abbrev pub IsLogRecord : List ℕ → Type 0
+IsLogRecord bytes = (text : List ℕ) × FitsText16 text × (bytes ≡ text16 text)
 
 -- so many records that stand one after the other
 abbrev pub records_in : ℕ → List ℕ → List (List ℕ)
@@ -21,60 +21,68 @@ records_in zero bytes = []
 records_in (suc count) bytes =
     take (2 + number_at w16 bytes) bytes ∷ records_in count (drop (2 + number_at w16 bytes) bytes)
 
--- the blocks that a header of 24 bytes and so many bytes of records take
+-- the bytes of a body's header
+abbrev pub batch_header_size : ℕ
+batch_header_size = 24
+
+-- so many bytes after a body's header
+abbrev pub after_header : ℕ → List ℕ → List ℕ
+after_header size body = take size (drop batch_header_size body)
+
+-- the blocks that a header and so many bytes of records take
 abbrev pub blocks_for : ℕ → ℕ
-blocks_for size = (24 + size + (block_size - 1)) / block_size
+blocks_for size = (batch_header_size + size + (block_size - 1)) / block_size
 
 -- the blocks of a body with these records
 abbrev pub body_blocks : List (List ℕ) → ℕ
 body_blocks records = blocks_for (length (concat records))
 
 -- `BDLB` as a number
-abbrev pub magic : ℕ
-magic = 1111772226
+abbrev pub batch_magic : ℕ
+batch_magic = 1111772226
 
 -- the magic, the body's blocks, the epoch, how many records there are, and their bytes
 abbrev pub header_bytes : ℕ → ℕ → ℕ → ℕ → List ℕ
 header_bytes blocks epoch count size =
-    be w32 magic ++ be w32 blocks ++ be w64 epoch ++ be w32 count ++ be w32 size
+    be w32 batch_magic ++ be w32 blocks ++ be w64 epoch ++ be w32 count ++ be w32 size
 
 -- the body of a batch: a header, the records, and zeros to the end of its last block
 abbrev pub body_bytes : ℕ → List (List ℕ) → List ℕ
 body_bytes epoch records =
     header_bytes (body_blocks records) epoch (length records) (length (concat records))
     ++ concat records
-    ++ zeros (body_blocks records * block_size - (24 + length (concat records)))
+    ++ zeros (body_blocks records * block_size - (batch_header_size + length (concat records)))
 
 -- A batch whose commit block has this place: one record or more, whose body is in the blocks after
 -- the commit block, so that the next batch's commit block is in the half too.
 pub record IsBatchAt (image : Image) (first epoch place : ℕ) (batch : Batch) : Type 0 where
   pub body : batch.body ≡ first + place + 1
   pub some : 1 ≤ length batch.records
-  pub each : AllByRecursion IsRecord batch.records
+  pub each : AllByRecursion IsLogRecord batch.records
   pub room : place + 1 + body_blocks batch.records < log_blocks
   pub bytes : bytes_at image batch.body (body_blocks batch.records)
       ≡ body_bytes epoch batch.records
 
 -- committed batches follow each other, from one place to another
-abbrev pub LeadsTo : Image → ℕ → ℕ → ℕ → List Batch → ℕ → Type 0
-LeadsTo image first epoch place [] end = place ≡ end
-LeadsTo image first epoch place (batch ∷ batches) end =
+abbrev pub AreChained : Image → ℕ → ℕ → ℕ → List Batch → ℕ → Type 0
+AreChained image first epoch place [] end = place ≡ end
+AreChained image first epoch place (batch ∷ batches) end =
     IsCommitted image (first + place)
     × IsBatchAt image first epoch place batch
-    × LeadsTo image first epoch (place + 1 + body_blocks batch.records) batches end
+    × AreChained image first epoch (place + 1 + body_blocks batch.records) batches end
 
 -- the open batches of a half are these, and the next one goes to this place: they follow each other
 -- from its first block on, up to the first commit block that isn't committed
 pub record AreBatches (image : Image) (first epoch : ℕ) (batches : List Batch) (end : ℕ)
     : Type 0 where
-  pub follow : LeadsTo image first epoch 0 batches end
+  pub follow : AreChained image first epoch 0 batches end
   pub closed : ¬ IsCommitted image (first + end)
 
 -- a half is damaged at this block: after some batches a commit block is committed before it, and no
 -- batch stands there
 abbrev pub IsDamagedAt : Image → ℕ → ℕ → ℕ → Type 0
 IsDamagedAt image first epoch block =
-    (batches : List Batch) × (end : ℕ) × LeadsTo image first epoch 0 batches end
+    (batches : List Batch) × (end : ℕ) × AreChained image first epoch 0 batches end
     × IsCommitted image (first + end)
     × ((batch : Batch) → ¬ IsBatchAt image first epoch end batch)
     × (block ≡ first + end + 1)

@@ -6,7 +6,7 @@ use Rattle.bd_device.specs.Commits.{IsCommitted}
 
 -- The commit block is committed, the blocks after it have these bytes, and the commit block after
 -- them isn't committed.
-pub record IsWhole (commit blocks : ℕ) (bytes : List ℕ) (image : Image) : Type 0 where
+pub record IsWholeAt (commit blocks : ℕ) (bytes : List ℕ) (image : Image) : Type 0 where
   pub committed : IsCommitted image commit
   pub body : bytes_at image (commit + 1) blocks ≡ bytes
   pub ends : ¬ IsCommitted image (commit + 1 + blocks)
@@ -16,10 +16,10 @@ pub record IsWhole (commit blocks : ℕ) (bytes : List ℕ) (image : Image) : Ty
 abbrev pub IsNoneOrWhole : ℕ → ℕ → List ℕ → (Image → Type 0) → Image → Type 0
 IsNoneOrWhole commit blocks bytes before c =
     (d : Image) × before d × SameBut (IsInRange commit (commit + blocks + 2)) d c
-    × ((¬ IsCommitted d commit → ¬ IsCommitted c commit) ⊎ IsWhole commit blocks bytes c)
+    × ((¬ IsCommitted d commit → ¬ IsCommitted c commit) ⊎ IsWholeAt commit blocks bytes c)
 
 -- the same, where the body is whole
 abbrev pub WasWritten : ℕ → ℕ → List ℕ → (Image → Type 0) → Image → Type 0
 WasWritten commit blocks bytes before c =
     (d : Image) × before d × SameBut (IsInRange commit (commit + blocks + 2)) d c
-    × IsWhole commit blocks bytes c
+    × IsWholeAt commit blocks bytes c

@@ -1,10 +1,11 @@
 -- The log as its callers see it.
-use Rattle.std.specs.Prelude.{◌≡◌, ℕ, ◌+◌, ◌-◌, ◌*◌, ◌≤◌, ◌⊎◌, List, [], ◌∷◌, ◌++◌, length, take, drop}
+use Rattle.std.specs.Prelude.{◌≡◌, ℕ, ◌+◌, ◌-◌, ◌*◌, ◌≤◌, ◌⊎◌, List, [], ◌∷◌, ◌++◌, length}
 use Rattle.std.specs.List.{concat, AllByRecursion}
 use Rattle.bd_limits.specs.Limits.{block_size, log_blocks, body_block_limit}
+use Rattle.bd_limits.specs.Places.{first_log_block, second_log_block}
 use Rattle.bd_device.specs.Blocks.{Image}
 use Rattle.bd_device.specs.Changes.{SameBut, IsInRange}
-use Rattle.bd_log.specs.Batches.{IsRecord, records_in, body_blocks, AreBatches}
+use Rattle.bd_log.specs.Batches.{IsLogRecord, records_in, batch_header_size, after_header, body_blocks, AreBatches}
 use Rattle.bd_log.specs.declared.batch.Batch.{Batch}
 
 -- the first block of its half, the epoch of its batches, the place of the next batch's commit
@@ -16,13 +17,13 @@ pub record LogState : Type 0 where
   pub waiting : List (List ℕ)
   pub batches : List Batch
 
--- a half begins at block 4 or at block 68
-abbrev pub IsHalf : ℕ → Type 0
-IsHalf first = (first ≡ 4) ⊎ (first ≡ 68)
+-- a half of the log begins at this block
+abbrev pub IsLogHalf : ℕ → Type 0
+IsLogHalf first = (first ≡ first_log_block) ⊎ (first ≡ second_log_block)
 
 -- the bytes of records that a batch has room for whose commit block has this place
 abbrev pub room_at : ℕ → ℕ
-room_at place = (body_block_limit - place) * block_size - 24
+room_at place = (body_block_limit - place) * block_size - batch_header_size
 
 -- and how many more there is room for
 abbrev pub room_left : LogState → ℕ
@@ -82,5 +83,5 @@ IsSynced log before c =
 pub record IsBuffer (place size count : ℕ) (body : List ℕ) : Type 0 where
   pub total : length body ≡ body_block_limit * block_size
   pub room : size ≤ room_at place
-  pub whole : concat (records_in count (take size (drop 24 body))) ≡ take size (drop 24 body)
-  pub each : AllByRecursion IsRecord (records_in count (take size (drop 24 body)))
+  pub whole : concat (records_in count (after_header size body)) ≡ after_header size body
+  pub each : AllByRecursion IsLogRecord (records_in count (after_header size body))

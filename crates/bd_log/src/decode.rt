@@ -5,12 +5,11 @@ ghost use Rattle.bd_limits.specs.Limits.{block_size, body_block_limit};
 ghost use Rattle.bd_wire.specs.Encoding.{BeginsNone};
 ghost use Rattle.bd_wire.specs.Reading.{Reads};
 ghost use Rattle.bd_wire.specs.Text.{text16, FitsText16};
-ghost use Rattle.bd_log.specs.Batches.{IsRecord, blocks_for, body_blocks, header_bytes, magic};
-ghost use Rattle.bd_log.specs.Reading.{head_bytes, FitsHeader, AreRecordsOf, IsBodyOf};
+ghost use Rattle.bd_log.specs.Batches.{IsLogRecord, blocks_for, body_blocks, header_bytes, batch_header_size, batch_magic};
+ghost use Rattle.bd_log.specs.Reading.{encode_header, FitsHeader, AreRecordsOf, IsBodyOf};
 
-use crate::batch::Records;
-use crate::body::{HEADER, MAGIC, MAX_BODY, blocks_for};
-use bd_keys::Bytes;
+use crate::body::{BATCH_MAGIC, HEADER_SIZE, MAX_BODY, blocks_for};
+use bd_keys::{Bytes, Items};
 use bd_wire::{Cursor, all_zero};
 use std::alloc::{AllocError, Global};
 
@@ -28,12 +27,12 @@ impl Header {
     // Whether it is the header of a body of this epoch and of so many blocks.
     fn is_of(&self, epoch: u64, blocks: u64) -> bool
         requires { blocks ≤ body_block_limit }
-        ensures { IsTrue result ↔ ((self.now.magic ≡ magic) × (self.now.blocks ≡ blocks)
+        ensures { IsTrue result ↔ ((self.now.magic ≡ batch_magic) × (self.now.blocks ≡ blocks)
             × (self.now.epoch ≡ epoch) × (1 ≤ self.now.count)
             × (blocks_for self.now.size ≡ blocks)) }
     {
         let size = self.size as usize;
-        self.magic == MAGIC
+        self.magic == BATCH_MAGIC
             && self.blocks as u64 == blocks
             && self.epoch == epoch
             && self.count >= 1
@@ -46,9 +45,9 @@ impl Header {
 #[tactic(auto, using(bd_wire::proofs::WritingLemmas::writing))]
 fn header_of(bytes: &[u8]) -> Option<Header>
     ensures some { IfSome result (λ header.
-        (rest : List ℕ) × (bytes.now ≡ head_bytes header ++ rest)) }
+        (rest : List ℕ) × (bytes.now ≡ encode_header header ++ rest)) }
     ensures fits { IfSome result FitsHeader }
-    ensures none { IfNone result (length bytes.now < 24) }
+    ensures none { IfNone result (length bytes.now < batch_header_size) }
 {
     let mut cursor = Cursor::new(bytes);
     let Ok(magic) = cursor.u32() else {
@@ -93,7 +92,7 @@ pub fn decode(
     bytes: &[u8],
     epoch: u64,
     blocks: u64,
-) -> Result<Option<Records>, AllocError>
+) -> Result<Option<Items<Bytes>>, AllocError>
     requires blocks { blocks ≤ body_block_limit }
     requires length { length bytes.now ≡ blocks * block_size }
     ensures body { IfOk result (λ found. IsBodyOf bytes.now epoch found) }
@@ -105,15 +104,15 @@ pub fn decode(
     if !header.is_of(epoch, blocks) {
         return Ok(None);
     }
-    let end = HEADER + header.size as usize;
+    let end = HEADER_SIZE + header.size as usize;
     if !all_zero(&bytes[end..]) {
         return Ok(None);
     }
-    records_of(alloc, &bytes[HEADER..end], header.count)
+    records_of(alloc, &bytes[HEADER_SIZE..end], header.count)
 }
 
 // So many records, which are these bytes.
-fn records_of(alloc: Global, bytes: &[u8], count: u32) -> Result<Option<Records>, AllocError>
+fn records_of(alloc: Global, bytes: &[u8], count: u32) -> Result<Option<Items<Bytes>>, AllocError>
     ensures { IfOk result (λ found. AreRecordsOf bytes.now count found) }
 {
     let mut cursor = Cursor::new(bytes);
@@ -125,7 +124,7 @@ fn records_of(alloc: Global, bytes: &[u8], count: u32) -> Result<Option<Records>
         records.push(Bytes::from_slice(alloc, record)?)?;
     }
     if cursor.left().is_empty() {
-        Ok(Some(Records::from_vec(records)))
+        Ok(Some(Items::from_vec(records)))
     } else {
         Ok(None)
     }
@@ -134,7 +133,7 @@ fn records_of(alloc: Global, bytes: &[u8], count: u32) -> Result<Option<Records>
 // Reads a record, with its length.
 #[tactic(auto, using(bd_wire::proofs::WritingLemmas::writing))]
 fn next_record<'a>(cursor: &mut Cursor<'a>) -> Option<&'a [u8]>
-    ensures record { IfSome result (λ bytes. IsRecord bytes.now) }
+    ensures record { IfSome result (λ bytes. IsLogRecord bytes.now) }
     ensures read { IfSome result (λ bytes. Reads cursor.old cursor.new bytes.now) }
     ensures none { IfNone result (BeginsNone FitsText16 text16 cursor.old.left) }
 {

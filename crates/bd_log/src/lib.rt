@@ -11,6 +11,6 @@ pub mod laws;
 mod log;
 mod read;
 
-pub use batch::{Batch, Batches, Records, is_record};
+pub use batch::{Batch, is_record};
 pub use bd_device::ImageFault as LogFault;
 pub use log::Log;

@@ -6,11 +6,11 @@ ghost use Rattle.bd_device.specs.Blocks.{Image};
 ghost use Rattle.bd_device.specs.Calls.{faults_after};
 ghost use Rattle.bd_device.specs.Changes.{StaysBut, IsInRange};
 ghost use Rattle.bd_device.specs.Device.{left_now, Goes, Stays, OnlyReads, FailsLast, HasImageCause};
-ghost use Rattle.bd_log.specs.Batches.{IsRecord, AreBatches, IsDamagedAt};
-ghost use Rattle.bd_log.specs.Logs.{IsHalf, room_at, room_left, fresh_log, after_sync, IsSyncing, IsSynced};
+ghost use Rattle.bd_log.specs.Batches.{IsLogRecord, AreBatches, IsDamagedAt};
+ghost use Rattle.bd_log.specs.Logs.{IsLogHalf, room_at, room_left, fresh_log, after_sync, IsSyncing, IsSynced};
 
-use crate::batch::Batches;
-use crate::body::{HEADER, MAX_BODY, blocks_for, seal};
+use crate::batch::Batch;
+use crate::body::{HEADER_SIZE, MAX_BODY, blocks_for, seal};
 use crate::commit::write_committed;
 use crate::read::read_batches;
 use bd_device::{BLOCK_SIZE, Device, ImageFault, put};
@@ -29,14 +29,14 @@ pub struct Log {
     body: Vec<u8>,
     size: usize,
     count: u32,
-    batches: Batches,
+    batches: Vec<Batch>,
 }
 
 impl Model for Log {
-    ghost use Rattle.std.specs.Prelude.{◌<◌, take, drop};
+    ghost use Rattle.std.specs.Prelude.{◌<◌};
     ghost use Rattle.bd_limits.specs.Limits.{log_blocks};
-    ghost use Rattle.bd_log.specs.Batches.{records_in};
-    ghost use Rattle.bd_log.specs.Logs.{LogState, IsHalf, IsBuffer};
+    ghost use Rattle.bd_log.specs.Batches.{records_in, after_header};
+    ghost use Rattle.bd_log.specs.Logs.{LogState, IsLogHalf, IsBuffer};
 
     ghost Value = { LogState };
 
@@ -44,11 +44,11 @@ impl Model for Log {
       first = l.first;
       epoch = l.epoch;
       place = l.place;
-      waiting = records_in l.count (take l.size (drop 24 l.body.items));
-      batches = l.batches;
+      waiting = records_in l.count (after_header l.size l.body.items);
+      batches = l.batches.items;
     } };
 
-    ghost invariant = { λ l. IsHalf l.first × (l.place < log_blocks)
+    ghost invariant = { λ l. IsLogHalf l.first × (l.place < log_blocks)
         × IsBuffer l.place l.size l.count l.body.items };
 }
 
@@ -56,7 +56,7 @@ impl Log {
     /// A log without batches and with nothing waiting, in the half that begins at block `first`, 4
     /// or 68. It makes no call of a device.
     pub fn fresh(alloc: Global, first: u64, epoch: u64) -> Result<Log, AllocError>
-        requires { IsHalf first }
+        requires { IsLogHalf first }
         ensures { IfOk result (λ log. log ≡ fresh_log first epoch) }
     {
         Ok(Log {
@@ -66,7 +66,7 @@ impl Log {
             body: vec![in alloc; 0; MAX_BODY]?,
             size: 0,
             count: 0,
-            batches: Batches::from_vec(Vec::new(alloc)),
+            batches: Vec::new(alloc),
         })
     }
 
@@ -82,7 +82,7 @@ impl Log {
         epoch: u64,
     ) -> Result<Log, ImageFault>
         requires room { first_slot_block ≤ D.block_count dev.old }
-        requires half { IsHalf first }
+        requires half { IsLogHalf first }
         ensures batches { IfOk result (λ log. IfSome (D.contents dev.old) (λ image.
             AreBatches image first epoch log.batches log.place)) }
         ensures idle { IfOk result (λ log. log ≡ record (fresh_log first epoch) {
@@ -102,15 +102,15 @@ impl Log {
             body,
             size: 0,
             count: 0,
-            batches: Batches::from_vec(batches),
+            batches,
         })
     }
 
-    /// The batches that were there when it was resumed.
-    pub fn batches(&self) -> &Batches
+    /// The batches that were there when it was resumed, in the order in which they were committed.
+    pub fn batches(&self) -> &[Batch]
         ensures { result.now ≡ self.now.batches }
     {
-        &self.batches
+        self.batches.as_slice()
     }
 
     /// How many more bytes of records the next batch has room for.
@@ -123,13 +123,13 @@ impl Log {
     /// Appends a record, which has its length of two bytes in front: it waits for the next sync.
     /// It takes no memory.
     pub fn append(&mut self, bytes: &[u8])
-        requires is_record { IsRecord bytes.now }
+        requires is_record { IsLogRecord bytes.now }
         requires room { length bytes.now ≤ room_left self.old }
         ensures { self.new ≡ record self.old {
           waiting = self.old.waiting ++ bytes.now ∷ [];
         } }
     {
-        put(&mut self.body, HEADER + self.size, bytes);
+        put(&mut self.body, HEADER_SIZE + self.size, bytes);
         self.size += bytes.len();
         self.count += 1;
     }
@@ -137,7 +137,7 @@ impl Log {
     /// Goes on in the half that begins at block `first`, 4 or 68, with another epoch: without
     /// batches, and with nothing waiting. It takes no memory.
     pub fn turn(&mut self, first: u64, epoch: u64)
-        requires { IsHalf first }
+        requires { IsLogHalf first }
         ensures { self.new ≡ fresh_log first epoch }
     {
         self.first = first;
@@ -189,5 +189,5 @@ fn room_at(place: u64) -> usize
     ensures { result ≡ room_at place }
 {
     let blocks = MAX_BODY_BLOCKS.saturating_sub(place) as usize;
-    (blocks * BLOCK_SIZE).saturating_sub(HEADER)
+    (blocks * BLOCK_SIZE).saturating_sub(HEADER_SIZE)
 }

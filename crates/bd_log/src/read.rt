@@ -5,12 +5,13 @@ ghost use Rattle.bd_limits.specs.Limits.{block_size, body_block_limit, first_slo
 ghost use Rattle.bd_device.specs.Changes.{bytes_at};
 ghost use Rattle.bd_device.specs.Device.{OnlyReads, HasImageCause};
 ghost use Rattle.bd_log.specs.Batches.{body_blocks, AreBatches, IsDamagedAt};
-ghost use Rattle.bd_log.specs.Logs.{IsHalf};
-ghost use Rattle.bd_log.specs.Reading.{IsBodyOf, IsBodyRead, IsNext, IsBroken};
+ghost use Rattle.bd_log.specs.Logs.{IsLogHalf};
+ghost use Rattle.bd_log.specs.Reading.{IsBodyOf, IsBodyRead, IsNextBatch, IsBroken};
 
-use crate::batch::{Batch, Records};
+use crate::batch::Batch;
 use crate::decode::{decode, named_blocks};
 use bd_device::{BLOCK_SIZE, Device, ImageFault, is_committed, read_block, read_blocks};
+use bd_keys::{Bytes, Items};
 use bd_limits::MAX_BODY_BLOCKS;
 use std::alloc::Global;
 
@@ -23,7 +24,7 @@ fn read_records<D: Device>(
     blocks: u64,
     epoch: u64,
     buffer: &mut [u8],
-) -> Result<Option<Records>, ImageFault>
+) -> Result<Option<Items<Bytes>>, ImageFault>
     requires room { b + blocks ≤ D.block_count dev.old }
     requires fits { b + blocks < 2 ^ 64 }
     requires few { blocks ≤ body_block_limit }
@@ -49,7 +50,7 @@ fn read_body<D: Device>(
     most: u64,
     epoch: u64,
     buffer: &mut [u8],
-) -> Result<Option<(Records, u64)>, ImageFault>
+) -> Result<Option<(Items<Bytes>, u64)>, ImageFault>
     requires room { b + most ≤ D.block_count dev.old }
     requires fits { b + most < 2 ^ 64 }
     requires most { 1 ≤ most }
@@ -85,11 +86,11 @@ fn next_batch<D: Device>(
     buffer: &mut [u8],
 ) -> Result<Option<(Batch, u64)>, ImageFault>
     requires room { first_slot_block ≤ D.block_count dev.old }
-    requires half { IsHalf first }
+    requires half { IsLogHalf first }
     requires place { place < log_blocks }
     requires buffer { length buffer.old ≡ body_block_limit * block_size }
     ensures next { IfOk result (λ found. IfSome (D.contents dev.old) (λ image.
-        IsNext image first epoch place found)) }
+        IsNextBatch image first epoch place found)) }
     ensures blocks { IfOk result (λ found. IfSome found (λ f.
         (f.1 ≡ body_blocks f.0.records) × (place + 1 + f.1 < log_blocks))) }
     ensures reads { OnlyReads D.Device dev.old dev.new }
@@ -119,7 +120,7 @@ pub fn read_batches<D: Device>(
     buffer: &mut [u8],
 ) -> Result<(Vec<Batch>, u64), ImageFault>
     requires room { first_slot_block ≤ D.block_count dev.old }
-    requires half { IsHalf first }
+    requires half { IsLogHalf first }
     requires buffer { length buffer.old ≡ body_block_limit * block_size }
     ensures batches { IfOk result (λ read. IfSome (D.contents dev.old) (λ image.
         AreBatches image first epoch read.0.items read.1)) }

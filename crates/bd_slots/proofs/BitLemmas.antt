@@ -5,7 +5,7 @@ use Rattle.std.proofs.lemmas.Bool.{cases_eq, cases_lt, lt-ltb, le-ltb}
 use Rattle.std.proofs.lemmas.List.{get_or_past, get_or_append_left, get_or-append_right, get_or-replicate, length-replicate}
 use Rattle.std.proofs.lemmas.Nat.Bits.{bit_at-zero, bit_at_ones, bit_at_ones_above, bit_at-trailing_zeros}
 use Rattle.std.specs.Prelude.{replicate}
-use Rattle.bd_slots.specs.Words.{has_bit}
+use Rattle.bd_slots.specs.Words.{has_bit, IsNoneBelow, IsFirstSet}
 
 -- a bit of the word that was changed
 pub has_bit-same : (words : List ℕ) (bit word : ℕ) → bit / 64 < length words → has_bit (set words (bit / 64) word) bit ≡ eqb (bit_at word (bit % 64)) 1
@@ -77,19 +77,18 @@ has_bit-ones_below words count e bit =
       | inr le ↦ ap (λ w. has_bit w bit) e ∙ has_bit-ones_past (count / 64) (count % 64) bit (omega arith) (omega arith) ∙ sym (le-ltb bit count le)
     ]
 
--- the lowest bit of a word that isn't 0
-pub has_bit-lowest : (words : List ℕ) (at word : ℕ) → get_or words at 0 ≡ word → 0 < word → word < 2 ^ 64 → has_bit words (64 * at + trailing_zeros w64 word) ≡ true
-has_bit-lowest words at word e pos fits =
+-- the lowest bit of a word that isn't 0 is the first one that is set, where none is before the word
+pub IsFirstSet-lowest : (words : List ℕ) (at word : ℕ) → get_or words at 0 ≡ word → 0 < word → word < 2 ^ 64 → IsNoneBelow words (64 * at) → IsFirstSet words (64 * at + trailing_zeros w64 word)
+IsFirstSet-lowest words at word e pos fits before =
     let lowest = bit_at-trailing_zeros w64 word pos fits in
     let bit = 64 * at + trailing_zeros w64 word in
     let at' : bit / 64 ≡ at = omega (arith, lowest.0) in
-    let low : bit % 64 ≡ trailing_zeros w64 word = omega (arith, lowest.0) in
-    of_word words bit word 1 (ap (λ i. get_or words i 0) at' ∙ e) (ap (bit_at word) low ∙ lowest.1)
-
--- words of 0 have no bit
-pub has_bit-none : (words : List ℕ) → ((at : ℕ) → at < length words → get_or words at 0 ≡ 0) → (bit : ℕ) → has_bit words bit ≡ false
-has_bit-none words h bit =
-    elim (cases_lt (bit / 64) (length words)) [
-      | inl lt ↦ of_word words bit 0 0 (h (bit / 64) lt) (bit_at-zero (bit % 64))
-      | inr le ↦ has_bit-past words bit (omega arith)
-    ]
+    let low : bit % 64 ≡ trailing_zeros w64 word = omega (arith, lowest.0) in (
+      of_word words bit word 1 (ap (λ i. get_or words i 0) at' ∙ e) (ap (bit_at word) low ∙ lowest.1),
+      λ other lt. elim (cases_lt other (64 * at)) [
+        | inl lower ↦ before other lower
+        | inr le ↦
+            let same : other / 64 ≡ at = omega (arith, lowest.0, lt, le) in
+            of_word words other word 0 (ap (λ i. get_or words i 0) same ∙ e) (lowest.2 (other % 64) (omega (arith, lowest.0, lt, le)))
+      ],
+    )

@@ -6,8 +6,8 @@ use Rattle.std.proofs.lemmas.List.{same_lists, length-set, length-replicate, get
 use Rattle.std.proofs.lemmas.List.FromFn.{length-map-range_with_len, get_or-map-range_with_len}
 use Rattle.std.proofs.lemmas.List.Sums.{sum_by-set, sum_by-cons, count_by-le-length}
 use Rattle.std.proofs.lemmas.Option.{slice_get-get_or, slice_get_within, get_or_from_slice_get}
-use Rattle.bd_slots.specs.Slots.{IsFree, IsHeld, free_count}
-use Rattle.bd_slots.specs.Words.{has_bit, flags, IsCounted}
+use Rattle.bd_slots.specs.Slots.{IsFree, IsHeld, IsFirstFree, free_count}
+use Rattle.bd_slots.specs.Words.{has_bit, IsNoneBelow, IsFirstSet, flags, AreCounted}
 
 pub length-flags : (words : List ℕ) (count : ℕ) → length (flags words count) ≡ count
 length-flags words count = length-map-range_with_len (has_bit words) 0 count
@@ -101,10 +101,25 @@ kept_after : (words words' : List ℕ) (count slot : ℕ) → slot < count → (
     → ((other : ℕ) → other ≢ slot → has_bit words' other ≡ has_bit words other) → (other : ℕ) → count ≤ other → has_bit words' other ≡ false
 kept_after words words' count slot h none others other le = others other (λ e. omega (arith, e)) ∙ none other le
 
+-- none of the first bits is set after one was cleared, if none was before
+pub none_below-cleared : (words words' : List ℕ) (next slot : ℕ) → IsNoneBelow words next → has_bit words' slot ≡ false
+    → ((other : ℕ) → other ≢ slot → has_bit words' other ≡ has_bit words other) → IsNoneBelow words' next
+none_below-cleared words words' next slot none now others bit lt =
+    elim (cases_eq bit slot) [
+      | inl e ↦ ap (has_bit words') e ∙ now
+      | inr ne ↦ others bit ne ∙ none bit lt
+    ]
+
+-- nor of those before one that was set
+pub none_below-set : (words words' : List ℕ) (next slot first : ℕ) → IsNoneBelow words next → first ≤ next → first ≤ slot
+    → ((other : ℕ) → other ≢ slot → has_bit words' other ≡ has_bit words other) → IsNoneBelow words' first
+none_below-set words words' next slot first none before below others bit lt =
+    others bit (λ e. omega (arith, lt, below, e)) ∙ none bit (omega (arith, lt, before))
+
 -- after a slot was given back
-pub given : (words words' : List ℕ) (slots : List Bool) (count free slot : ℕ) → IsCounted words count free → flags words count ≡ slots → IsHeld slots slot
+pub given : (words words' : List ℕ) (slots : List Bool) (count free slot : ℕ) → AreCounted words count free → flags words count ≡ slots → IsHeld slots slot
     → length words' ≡ length words → has_bit words' slot ≡ true → ((other : ℕ) → other ≢ slot → has_bit words' other ≡ has_bit words other)
-    → IsCounted words' count (free + 1) × (flags words' count ≡ set slots slot true)
+    → AreCounted words' count (free + 1) × (flags words' count ≡ set slots slot true)
 given words words' slots count free slot known is held same now others =
     let held' : IsHeld (flags words count) slot = subst (λ s. IsHeld s slot) (sym is) held in
     let within = flag_within words count slot false held' in
@@ -119,9 +134,9 @@ given words words' slots count free slot known is held same now others =
     )
 
 -- after a free slot was taken
-pub taken : (words words' : List ℕ) (slots : List Bool) (count free slot : ℕ) → IsCounted words count free → flags words count ≡ slots → IsFree slots slot
+pub taken : (words words' : List ℕ) (slots : List Bool) (count free slot : ℕ) → AreCounted words count free → flags words count ≡ slots → IsFree slots slot
     → length words' ≡ length words → has_bit words' slot ≡ false → ((other : ℕ) → other ≢ slot → has_bit words' other ≡ has_bit words other)
-    → IsCounted words' count (free - 1) × (flags words' count ≡ set slots slot false)
+    → AreCounted words' count (free - 1) × (flags words' count ≡ set slots slot false)
 taken words words' slots count free slot known is was same now others =
     let free' : IsFree (flags words count) slot = subst (λ s. IsFree s slot) (sym is) was in
     let within = flag_within words count slot true free' in
@@ -137,13 +152,13 @@ taken words words' slots count free slot known is was same now others =
     )
 
 -- a slot that has a flag has a bit in the words
-pub bit_within : (words : List ℕ) (slots : List Bool) (count free slot : ℕ) (flag : Bool) → IsCounted words count free → flags words count ≡ slots → slice_get slots slot ≡ Some flag → slot < 64 * length words
+pub bit_within : (words : List ℕ) (slots : List Bool) (count free slot : ℕ) (flag : Bool) → AreCounted words count free → flags words count ≡ slots → slice_get slots slot ≡ Some flag → slot < 64 * length words
 bit_within words slots count free slot flag known is h =
     let within = flag_within words count slot flag (subst (λ s. slice_get s slot ≡ Some flag) (sym is) h) in
     omega (arith, within, known.room)
 
 -- a bit that is set belongs to a slot
-set_within : (words : List ℕ) (count free bit : ℕ) → IsCounted words count free → has_bit words bit ≡ true → bit < count
+set_within : (words : List ℕ) (count free bit : ℕ) → AreCounted words count free → has_bit words bit ≡ true → bit < count
 set_within words count free bit known h =
     elim (cases_lt bit count) [ inl lt ↦ lt | inr le ↦ absurd (not_both (sym (known.none_after bit le) ∙ h)) ]
   where
@@ -151,17 +166,25 @@ set_within words count free bit known h =
     not_both e = cc
 
 -- a bit that is set is a free slot's
-pub IsFree-has_bit : (words : List ℕ) (slots : List Bool) (count free bit : ℕ) → IsCounted words count free → flags words count ≡ slots → has_bit words bit ≡ true → IsFree slots bit
+pub IsFree-has_bit : (words : List ℕ) (slots : List Bool) (count free bit : ℕ) → AreCounted words count free → flags words count ≡ slots → has_bit words bit ≡ true → IsFree slots bit
 IsFree-has_bit words slots count free bit known is h =
     subst (λ s. IsFree s bit) is (slice_get-flags words count bit (set_within words count free bit known h) ∙ ap Some h)
+
+-- the first bit that is set is the first free slot's
+pub IsFirstFree-first_set : (words : List ℕ) (slots : List Bool) (count free bit : ℕ) → AreCounted words count free → flags words count ≡ slots → IsFirstSet words bit → IsFirstFree slots bit
+IsFirstFree-first_set words slots count free bit known is h =
+    let within = set_within words count free bit known h.0 in (
+      IsFree-has_bit words slots count free bit known is h.0,
+      λ other lt. subst (λ s. IsHeld s other) is (slice_get-flags words count other (omega (arith, lt, within)) ∙ ap Some (h.1 other lt)),
+    )
 
 -- where no bit is set, no slot is free
 pub none_free : (words : List ℕ) (slots : List Bool) (count : ℕ) → flags words count ≡ slots → ((bit : ℕ) → has_bit words bit ≡ false) → free_count slots ≡ 0
 none_free words slots count is h = ap free_count (sym is) ∙ free_count-none words count h
 
 -- where the bits below the count are set, all slots are free
-pub IsCounted-all : (words : List ℕ) (count : ℕ) → length words ≡ count / 64 + 1 → ((bit : ℕ) → has_bit words bit ≡ ltb bit count) → IsCounted words count count × (flags words count ≡ replicate count true)
-IsCounted-all words count long bits =
+pub AreCounted-all : (words : List ℕ) (count : ℕ) → length words ≡ count / 64 + 1 → ((bit : ℕ) → has_bit words bit ≡ ltb bit count) → AreCounted words count count × (flags words count ≡ replicate count true)
+AreCounted-all words count long bits =
     let all = flags-replicate words count true (λ slot lt. bits slot ∙ lt-ltb slot count lt) in (
       record {
         room = long;

@@ -1,6 +1,7 @@
 -- Where the parts of an image stand, in blocks and in slots.
 use Rattle.std.specs.Prelude.{◌≢◌, ◌+◌, ◌-◌, ◌*◌, ◌/◌, ◌<◌, ◌≤◌, ℕ, List, length, All, AllPairs}
 use Rattle.bd_limits.specs.Limits.{slot_minimum, slot_limit, slot_size, first_slot_block, slot_blocks}
+use Rattle.bd_limits.specs.Places.{table_header_size, table_entry_size}
 
 -- the blocks of an image of this many slots: 132 of superblocks and logs, then 16 a slot
 abbrev pub image_blocks : ℕ → ℕ
@@ -10,9 +11,13 @@ image_blocks slots = first_slot_block + slot_blocks * slots
 abbrev pub slot_block : ℕ → ℕ
 slot_block slot = first_slot_block + slot_blocks * slot
 
--- the slots that a table of this many entries takes: 32 bytes and 24 an entry
+-- the bytes of a table of this many entries, before the zeros
+abbrev pub table_size : ℕ → ℕ
+table_size count = table_header_size + table_entry_size * count
+
+-- the slots that it takes
 abbrev pub table_length : ℕ → ℕ
-table_length count = (24 * count + 32 + (slot_size - 1)) / slot_size
+table_length count = (table_size count + (slot_size - 1)) / slot_size
 
 -- an image has 24 to 65,536 slots
 abbrev pub IsSlotCount : ℕ → Type 0

@@ -1,5 +1,5 @@
 -- A set of slots as a list of flags, one a slot, that are true where the slot is free.
-use Rattle.std.specs.Prelude.{◌≡◌, ℕ, Bool, true, false, List, Some, slice_get, count_by}
+use Rattle.std.specs.Prelude.{◌≡◌, ◌<◌, ℕ, Bool, true, false, List, Some, slice_get, count_by}
 
 -- the slot is one of the free ones
 abbrev pub IsFree : List Bool → ℕ → Type 0
@@ -8,6 +8,10 @@ IsFree slots slot = slice_get slots slot ≡ Some true
 -- the slot is one of those that are not free
 abbrev pub IsHeld : List Bool → ℕ → Type 0
 IsHeld slots slot = slice_get slots slot ≡ Some false
+
+-- the slot is the first of the free ones
+abbrev pub IsFirstFree : List Bool → ℕ → Type 0
+IsFirstFree slots slot = IsFree slots slot × ((other : ℕ) → other < slot → IsHeld slots other)
 
 -- how many slots are free
 abbrev pub free_count : List Bool → ℕ

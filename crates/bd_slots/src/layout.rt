@@ -3,13 +3,10 @@ ghost use Rattle.std.specs.Prelude.{◌≡◌, ◌↔◌, ◌≤◌, ◌+◌, Is
 ghost use Rattle.bd_limits.specs.Limits.{slot_limit};
 ghost use Rattle.bd_slots.specs.Layout.{image_blocks, slot_block, table_length, AreSlots, IsTablePlace};
 
-use bd_limits::{FIRST_SLOT_BLOCK, MAX_SLOTS, MAX_TABLE_SLOTS, SLOT_BLOCKS, SLOT_SIZE};
-
-// The bytes of a table before its entries.
-const TABLE_HEADER: usize = 32;
-
-// The bytes of a table's entry.
-const TABLE_ENTRY: usize = 24;
+use bd_limits::{
+    FIRST_SLOT_BLOCK, MAX_SLOTS, MAX_TABLE_SLOTS, SLOT_BLOCKS, SLOT_SIZE, TABLE_ENTRY_SIZE,
+    TABLE_HEADER_SIZE,
+};
 
 /// The blocks of an image of this many slots.
 pub fn image_blocks(slots: u32) -> u64
@@ -30,7 +27,7 @@ pub fn table_length(entries: usize) -> usize
     requires { entries ≤ slot_limit }
     ensures { result ≡ table_length entries }
 {
-    (TABLE_HEADER + TABLE_ENTRY * entries).div_ceil(SLOT_SIZE)
+    (TABLE_HEADER_SIZE + TABLE_ENTRY_SIZE * entries).div_ceil(SLOT_SIZE)
 }
 
 /// Whether all of them are slots of an image of this many, and differ.

@@ -5,9 +5,7 @@
 
 mod layout;
 mod slots;
-mod table_slots;
 mod words;
 
 pub use layout::{are_slots, image_blocks, is_table_place, slot_block, table_length};
 pub use slots::SlotSet;
-pub use table_slots::TableSlots;

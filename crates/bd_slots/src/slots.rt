@@ -1,18 +1,21 @@
 // A set of free slots.
 ghost use Rattle.std.specs.Prelude.{◌≡◌, ◌↔◌, true, false, replicate, slice_set, length, ◌<◌, IsTrue, IsNone, IfOk, IfSome, IfNone};
-ghost use Rattle.bd_slots.specs.Slots.{IsFree, IsHeld, free_count};
+ghost use Rattle.bd_slots.specs.Slots.{IsFree, IsHeld, IsFirstFree, free_count};
 
 use crate::words;
 use std::alloc::{AllocError, Global};
 use std::marker::Model;
 
-/// The free ones among the slots from 0 on. Only making it takes memory, one bit a slot; each other
-/// call looks at each word of 64 slots at most once.
+/// The free ones among the slots from 0 on. Only making it takes memory, one bit a slot. A `take`
+/// looks at the words of 64 slots from the one on in which it last found a free slot, or in which
+/// one was given back since, and each other call at one word.
 #[derive(Debug, Drop)]
 pub struct SlotSet {
     words: Vec<u64>,
     count: u32,
     free: u32,
+    // No slot before it is free.
+    next: u32,
 }
 
 impl Model for SlotSet {
@@ -20,11 +23,12 @@ impl Model for SlotSet {
 
     ghost Value = { List Bool };
 
-    ghost use Rattle.bd_slots.specs.Words.{IsCounted, flags};
+    ghost use Rattle.bd_slots.specs.Words.{AreCounted, IsNoneBelow, flags};
 
     ghost view = { λ s. flags s.words.items s.count };
 
-    ghost invariant = { λ s. IsCounted s.words.items s.count s.free };
+    ghost invariant = { λ s. AreCounted s.words.items s.count s.free
+        × IsNoneBelow s.words.items s.next };
 }
 
 impl SlotSet {
@@ -37,18 +41,20 @@ impl SlotSet {
             words,
             count,
             free: count,
+            next: 0,
         })
     }
 
-    /// Takes a free slot. It is `None` exactly where none is free.
+    /// Takes the first free slot. It is `None` exactly where none is free.
     pub fn take(&mut self) -> Option<u32>
         ensures none { IsNone result ↔ (free_count self.old ≡ 0) }
         ensures unchanged { IfNone result (self.new ≡ self.old) }
-        ensures was_free { IfSome result (IsFree self.old) }
+        ensures first { IfSome result (IsFirstFree self.old) }
         ensures taken { IfSome result (λ slot. self.new ≡ slice_set self.old slot false) }
     {
-        let slot = words::first_set(self.words.as_slice())?;
-        let slot = slot as u32;
+        let first = self.next as usize / words::BITS;
+        let slot = words::first_set(self.words.as_slice(), first)? as u32;
+        self.next = slot;
         self.hold(slot);
         Some(slot)
     }
@@ -60,6 +66,7 @@ impl SlotSet {
     {
         words::set(self.words.as_mut_slice(), slot as usize);
         self.free += 1;
+        self.next = self.next.min(slot);
     }
 
     /// Takes this slot, which is free.

@@ -59,8 +59,8 @@ IsBadLater image = (IsBad image B × ¬ IsBad image A) ⊎ HasEqualEpochs image
 abbrev pub IsDamaged : Image → ℕ → Type 0
 IsDamaged image b =
     ((b ≡ 0) × IsNoImage image)
-    ⊎ ((b ≡ 1) × (¬ IsNoImage image) × IsBad image A)
-    ⊎ ((b ≡ 3) × (¬ IsNoImage image) × IsBadLater image)
+    ⊎ ((b ≡ body_block A) × (¬ IsNoImage image) × IsBad image A)
+    ⊎ ((b ≡ body_block B) × (¬ IsNoImage image) × IsBadLater image)
 
 -- what a half holds: a superblock, or none, as it isn't committed
 abbrev pub HasInHalf : Image → Half → Option Super → Type 0

@@ -1,5 +1,6 @@
 -- What a crash may leave while a superblock is published.
 use Rattle.std.specs.Prelude.{◌≡◌, ◌<◌, ◌⊎◌, ◌↔◌, ℕ, length, Option, Some, None, IsSomeAnd, Result, OnOk, OnErr}
+use Rattle.bd_limits.specs.Places.{first_log_block}
 use Rattle.bd_io.specs.Cause.{next_count}
 use Rattle.bd_device.specs.Blocks.{Image}
 use Rattle.bd_device.specs.Changes.{SameBut}
@@ -41,7 +42,7 @@ IsStagedOrPublished s known before new = IsStaged s.half before new ⊎ IsPublis
 -- as many blocks, of which those of the superblocks are the same
 pub record SameSuperblocks (old new : Image) : Type 0 where
   pub size : length new ≡ length old
-  pub blocks : (b : ℕ) → b < 4 → block_at new b ≡ block_at old b
+  pub blocks : (b : ℕ) → b < first_log_block → block_at new b ≡ block_at old b
 
 -- a crash leaves the superblocks that reads give
 abbrev pub AreSettled : Option Image → (Image → Type 0) → Type 0

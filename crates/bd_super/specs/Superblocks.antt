@@ -3,6 +3,7 @@ use Rattle.std.specs.Prelude.{◌≡◌, ◌≢◌, ◌-◌, ◌*◌, ◌^◌, �
 use Rattle.std.specs.Int.{w32, w64}
 use Rattle.std.specs.List.{flat_map}
 use Rattle.bd_limits.specs.Limits.{block_size}
+use Rattle.bd_limits.specs.Places.{first_log_block, second_log_block}
 use Rattle.bd_slots.specs.Layout.{IsSlotCount, IsTablePlace}
 use Rattle.bd_wire.specs.Numbers.{be}
 use Rattle.bd_wire.specs.Text.{zeros}
@@ -22,8 +23,8 @@ body_block B = 3
 
 -- the first block of a half's log
 abbrev pub log_block : Half → ℕ
-log_block A = 4
-log_block B = 68
+log_block A = first_log_block
+log_block B = second_log_block
 
 -- the other half
 abbrev pub other : Half → Half
@@ -42,11 +43,24 @@ pub record IsSuper (s : Super) : Type 0 where
 abbrev pub super_magic : List ℕ
 super_magic = 66 ∷ 68 ∷ 83 ∷ 85 ∷ 80 ∷ 69 ∷ 82 ∷ 49 ∷ []
 
--- the magic, the version 1, the image's slots, the epoch, the count and the number of the table's
+-- the version of the format
+abbrev pub super_version : ℕ
+super_version = 1
+
+-- the magic, the version, the image's slots, the epoch, the count and the number of the table's
 -- slots
 abbrev pub super_head : ℕ → ℕ → ℕ → ℕ → List ℕ
 super_head slots epoch count table =
-    super_magic ++ be w32 1 ++ be w32 slots ++ be w64 epoch ++ be w64 count ++ be w32 table
+    super_magic ++ be w32 super_version
+    ++ be w32 slots ++ be w64 epoch ++ be w64 count ++ be w32 table
+
+-- its bytes
+abbrev pub super_head_size : ℕ
+super_head_size = 36
+
+-- the bytes of a slot's number
+abbrev pub slot_number_size : ℕ
+slot_number_size = 4
 
 -- such fields are as wide as their numbers
 abbrev pub FitsSuperHead : ℕ → ℕ → ℕ → ℕ → Type 0
@@ -57,7 +71,7 @@ FitsSuperHead slots epoch count table =
 abbrev pub super_body : Super → List ℕ
 super_body s =
     super_head s.slots s.epoch s.count (length s.table) ++ flat_map (be w32) s.table
-    ++ zeros (block_size - 36 - 4 * length s.table)
+    ++ zeros (block_size - super_head_size - slot_number_size * length s.table)
 
 -- the block is the body of the half's superblock, or of none
 abbrev pub IsSuperIn : Half → List ℕ → Option Super → Type 0

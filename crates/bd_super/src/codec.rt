@@ -7,23 +7,23 @@ ghost use Rattle.bd_limits.specs.Limits.{block_size};
 ghost use Rattle.bd_wire.specs.Numbers.{be, FitsWidth};
 ghost use Rattle.bd_wire.specs.Reading.{Reads};
 ghost use Rattle.bd_wire.specs.Writing.{Puts, room};
-ghost use Rattle.bd_super.specs.Superblocks.{IsSuper, IsSuperIn, FitsSuperHead, super_magic, super_head, super_body};
+ghost use Rattle.bd_super.specs.Superblocks.{IsSuper, IsSuperIn, FitsSuperHead, super_magic, super_head, super_body, super_head_size, slot_number_size};
 
 use crate::{Half, Super};
 use bd_device::BLOCK_SIZE;
-use bd_slots::TableSlots;
+use bd_keys::Items;
 use bd_wire::{Cursor, Out, Short};
 use std::alloc::{AllocError, Global};
 
 // The first bytes of a body.
-const MAGIC: [u8; 8] = *b"BDSUPER1";
+const SUPER_MAGIC: [u8; 8] = *b"BDSUPER1";
 
 // The version of the format.
 const VERSION: u32 = 1;
 
 // The fields of fixed width.
 #[derive(Clone, Copy)]
-struct Head {
+struct SuperHead {
     slots: u32,
     epoch: u64,
     count: u64,
@@ -49,7 +49,7 @@ impl Super {
         requires room { length (room out.old) ≡ block_size }
         ensures { Puts out.old out.new (super_body self.now) }
     {
-        out.put_bytes(&MAGIC);
+        out.put_bytes(&SUPER_MAGIC);
         out.put_u32(VERSION);
         out.put_u32(self.slots);
         out.put_u64(self.epoch);
@@ -82,7 +82,7 @@ impl Super {
             slots: head.slots,
             epoch: head.epoch,
             count: head.count,
-            table: TableSlots::from_vec(table),
+            table: Items::from_vec(table),
         };
         if cursor.rest_is_zero() && found.is_super() {
             Ok(Some(found))
@@ -106,18 +106,18 @@ fn put_numbers(out: &mut Out, numbers: &[u32])
 // Reads the fields of fixed width. It is `None` exactly where the first bytes or the version are
 // others.
 #[tactic(auto, using(bd_wire::proofs::WritingLemmas::writing))]
-fn read_head(cursor: &mut Cursor) -> Result<Option<Head>, Short>
+fn read_head(cursor: &mut Cursor) -> Result<Option<SuperHead>, Short>
     ensures found { IfOk result (λ found. IfSome found (λ head. Reads cursor.old cursor.new
         (super_head head.slots head.epoch head.count head.table))) }
     ensures fits { IfOk result (λ found. IfSome found
         (λ head. FitsSuperHead head.slots head.epoch head.count head.table)) }
     ensures none { IfOk result (λ found. IfNone found ((s e c t : ℕ) (rest : List ℕ)
         → cursor.old.left ≢ super_head s e c t ++ rest)) }
-    ensures short { OnErr result (length cursor.old.left < 36) }
+    ensures short { OnErr result (length cursor.old.left < super_head_size) }
 {
-    let magic = cursor.bytes(MAGIC.len())?;
+    let magic = cursor.bytes(SUPER_MAGIC.len())?;
     let version = cursor.u32()?;
-    let head = Head {
+    let head = SuperHead {
         slots: cursor.u32()?,
         epoch: cursor.u64()?,
         count: cursor.u64()?,
@@ -131,7 +131,7 @@ fn read_head(cursor: &mut Cursor) -> Result<Option<Head>, Short>
 fn is_magic(bytes: &[u8]) -> bool
     ensures { IsTrue result ↔ (bytes.now ≡ super_magic) }
 {
-    bytes == MAGIC.as_slice()
+    bytes == SUPER_MAGIC.as_slice()
 }
 
 // Reads this many numbers of four bytes. It is `None` exactly where fewer are left.
@@ -145,7 +145,8 @@ fn read_numbers(
     ensures count { IfOk result (λ found. IfSome found (λ numbers. length numbers.items ≡ count)) }
     ensures fits { IfOk result (λ found. IfSome found
         (λ numbers. All (FitsWidth w32) numbers.items)) }
-    ensures short { IfOk result (λ found. IfNone found (length cursor.old.left < 4 * count)) }
+    ensures short { IfOk result (λ found. IfNone found
+        (length cursor.old.left < slot_number_size * count)) }
 {
     let mut numbers = Vec::new(alloc);
     for _ in 0..count {

@@ -2,6 +2,7 @@
 
 ghost use Rattle.std.specs.Prelude.{◌≡◌, ◌≤◌, ◌⊎◌, ⊤, Some, IfOk, IfErr, IfSome, length};
 ghost use Rattle.bd_limits.specs.Limits.{slot_minimum};
+ghost use Rattle.bd_limits.specs.Places.{first_log_block};
 ghost use Rattle.bd_slots.specs.Layout.{image_blocks};
 ghost use Rattle.bd_device.specs.Blocks.{Image, HasBlocks};
 ghost use Rattle.bd_device.specs.Device.{OnlyReads, HasImageCause, IsDamageOf};
@@ -76,7 +77,7 @@ fn read_half<D: Device>(
     blocks: u64,
 ) -> Result<Option<Super>, ImageFault>
     requires blocks { blocks ≡ D.block_count dev.old }
-    requires room { 4 ≤ blocks }
+    requires room { first_log_block ≤ blocks }
     requires shape { IfSome (D.contents dev.old) (HasBlocks blocks) }
     ensures half { IfSome (D.contents dev.old) (λ image. IfOk result (HasInHalf image half)) }
     ensures cause { HasImageCause D.Device dev.old dev.new

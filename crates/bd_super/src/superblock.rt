@@ -3,8 +3,9 @@
 ghost use Rattle.std.specs.Prelude.{◌≡◌, ◌↔◌, IsTrue};
 ghost use Rattle.bd_super.specs.Superblocks.{IsSuper, commit_block, body_block, log_block, other};
 
-use bd_limits::{MAX_SLOTS, MIN_SLOTS};
-use bd_slots::{TableSlots, is_table_place};
+use bd_keys::Items;
+use bd_limits::{FIRST_LOG_BLOCK, MAX_SLOTS, MIN_SLOTS, SECOND_LOG_BLOCK};
+use bd_slots::is_table_place;
 
 /// One of the two places of a superblock, each with a log of its own.
 #[derive(Clone, Copy, Debug, PartialEq, Eq)]
@@ -41,8 +42,8 @@ impl Half {
         ensures { result ≡ log_block self }
     {
         match self {
-            Half::A => 4,
-            Half::B => 68,
+            Half::A => FIRST_LOG_BLOCK,
+            Half::B => SECOND_LOG_BLOCK,
         }
     }
 
@@ -68,8 +69,8 @@ pub struct Super {
     pub epoch: u64,
     /// The accepted commands up to it.
     pub count: u64,
-    /// The slots of the table of its nodes, 1 to 25.
-    pub table: TableSlots,
+    /// The slots of the table of its nodes in the order in which they are read, 1 to 25.
+    pub table: Items<u32>,
 }
 
 impl Super {

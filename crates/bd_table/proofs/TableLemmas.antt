@@ -11,7 +11,7 @@ use Rattle.bd_wire.specs.Text.{zeros, AreZeros}
 use Rattle.bd_wire.specs.Reading.{Unread, Reads}
 use Rattle.bd_wire.proofs.NumberLemmas.{length-be, IsPrefixFree-be}
 use Rattle.bd_wire.proofs.ReadingLemmas.{Reads-append}
-use Rattle.bd_table.specs.Tables.{IsTable, FitsTableEntry, FitsTableHead, table_entry, table_head, table_magic, table_bytes}
+use Rattle.bd_table.specs.Tables.{IsTableAt, FitsTableEntry, FitsTableHead, table_entry, table_head, table_magic, table_bytes}
 use Rattle.bd_table.specs.declared.table.Table.{Table}
 use Rattle.bd_table.specs.declared.table.TableEntry.{TableEntry}
 
@@ -87,13 +87,13 @@ table_in_order : (taken : ℕ) (t : Table) → table_bytes taken t ≡ table_hea
 table_in_order taken t = append_assoc (table_head (length t.entries) t.next_id t.root) (flat_map table_entry t.entries) (zeros (zero_count taken t))
 
 -- the entries of a table fit
-entries_fit : (slots : ℕ) (at : List ℕ) (t : Table) → IsTable slots at t → All FitsTableEntry t.entries
+entries_fit : (slots : ℕ) (at : List ℕ) (t : Table) → IsTableAt slots at t → All FitsTableEntry t.entries
 entries_fit slots at t is k d lt =
     let e = is.entries.each k d lt in
     (e.last_id, e.last_refs, e.slot, omega (arith, e.level))
 
 -- so does its head: the root is one of the nodes
-head_fits : (slots : ℕ) (at : List ℕ) (t : Table) → IsTable slots at t → FitsTableHead (length t.entries) t.next_id t.root
+head_fits : (slots : ℕ) (at : List ℕ) (t : Table) → IsTableAt slots at t → FitsTableHead (length t.entries) t.next_id t.root
 head_fits slots at t is =
     let r = is.entries.has_root in
     let below : r.1.id < t.next_id = subst (λ (e : TableEntry). e.id < t.next_id) r.3 (is.entries.below_next r.0 r.1 r.2) in
@@ -103,7 +103,7 @@ pub length-entries : (entries : List TableEntry) → length (flat_map table_entr
 length-entries entries = length-items table_entry 24 length-entry entries
 
 -- what a head is followed by in a table is its entries and zeros
-pub head_alone : (slots : ℕ) (at : List ℕ) (count next root : ℕ) (left : List ℕ) (t : Table) → FitsTableHead count next root → IsTable slots at t
+pub head_alone : (slots : ℕ) (at : List ℕ) (count next root : ℕ) (left : List ℕ) (t : Table) → FitsTableHead count next root → IsTableAt slots at t
     → table_head count next root ++ left ≡ table_bytes (length at) t
     → (count ≡ length t.entries) × (next ≡ t.next_id) × (root ≡ t.root) × (left ≡ flat_map table_entry t.entries ++ zeros (zero_count (length at) t))
 head_alone slots at count next root left t fits is e =
@@ -122,7 +122,7 @@ no_entries taken count left t same e short =
     omega (arith, same, short, ap length e, length-append (flat_map table_entry t.entries) (zeros (zero_count taken t)), length-entries t.entries)
 
 -- as many entries as the table has are those, and only zeros follow them
-pub entries_alone : (slots : ℕ) (at : List ℕ) (entries : List TableEntry) (left : List ℕ) (t : Table) → All FitsTableEntry entries → IsTable slots at t → length entries ≡ length t.entries
+pub entries_alone : (slots : ℕ) (at : List ℕ) (entries : List TableEntry) (left : List ℕ) (t : Table) → All FitsTableEntry entries → IsTableAt slots at t → length entries ≡ length t.entries
     → flat_map table_entry entries ++ left ≡ flat_map table_entry t.entries ++ zeros (zero_count (length at) t) → (entries ≡ t.entries) × AreZeros left
 entries_alone slots at entries left t fits is count e =
     let rest = zeros (zero_count (length at) t) in
@@ -153,7 +153,7 @@ same_table a b next root entries =
     is_table_of a ∙ same ∙ sym (is_table_of b)
 
 -- one encoding is of one table
-pub one_table : (slots : ℕ) (at : List ℕ) (a b : Table) → IsTable slots at a → IsTable slots at b → table_bytes (length at) a ≡ table_bytes (length at) b → a ≡ b
+pub one_table : (slots : ℕ) (at : List ℕ) (a b : Table) → IsTableAt slots at a → IsTableAt slots at b → table_bytes (length at) a ≡ table_bytes (length at) b → a ≡ b
 one_table slots at a b is_a is_b e =
     let left = flat_map table_entry a.entries ++ zeros (zero_count (length at) a) in
     let head = head_alone slots at (length a.entries) a.next_id a.root left b (head_fits slots at a is_a) is_b (sym (table_in_order (length at) a) ∙ e) in

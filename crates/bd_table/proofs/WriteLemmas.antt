@@ -10,7 +10,7 @@ use Rattle.bd_slots.specs.Layout.{AreSlots, image_blocks}
 use Rattle.bd_device.specs.Blocks.{Image, HasBlocks, with_block}
 use Rattle.bd_device.specs.Moments.{TornAt}
 use Rattle.bd_wire.specs.Text.{zeros}
-use Rattle.bd_table.specs.Tables.{IsTable, table_entry, table_head, table_magic, table_bytes}
+use Rattle.bd_table.specs.Tables.{IsTableAt, table_entry, table_head, table_magic, table_bytes}
 use Rattle.bd_table.specs.Words.{part}
 use Rattle.bd_table.specs.declared.table.Table.{Table}
 use Rattle.bd_table.specs.Image.{HoldsTable, block_total, first_bytes, bytes_in, table_block}
@@ -67,7 +67,7 @@ all_written None at bytes whole parts = tt
 all_written (Some image) at bytes whole parts = all_parts image at bytes (block_total at) parts ∙ take_all (4096 * block_total at) bytes (omega (arith, whole))
 
 -- a table's encoding has as many bytes as its slots
-length-whole : (slots : ℕ) (at : List ℕ) (t : Table) → IsTable slots at t → length (table_bytes (length at) t) ≡ 65536 * length at
+length-whole : (slots : ℕ) (at : List ℕ) (t : Table) → IsTableAt slots at t → length (table_bytes (length at) t) ≡ 65536 * length at
 length-whole slots at t is =
     let taken = length at in
     let head = table_head (length t.entries) t.next_id t.root in
@@ -84,7 +84,7 @@ length-whole slots at t is =
     )
 
 -- with all parts there the image has the table
-pub table_written : (known : Option Image) (slots : ℕ) (at : List ℕ) (t : Table) → IsTable slots at t
+pub table_written : (known : Option Image) (slots : ℕ) (at : List ℕ) (t : Table) → IsTableAt slots at t
     → IfSome known (λ image. (j : ℕ) → j < block_total at → slice_index_or image (table_block at j) [] ≡ part (length at) t j)
     → IfSome known (λ image. HoldsTable image slots at t)
 table_written known slots at t is parts =

@@ -4,7 +4,7 @@ use Rattle.std.specs.List.{flat_map, range_with_len}
 use Rattle.bd_limits.specs.Limits.{slot_blocks}
 use Rattle.bd_slots.specs.Layout.{slot_block}
 use Rattle.bd_device.specs.Blocks.{Image}
-use Rattle.bd_table.specs.Tables.{IsTable, table_bytes}
+use Rattle.bd_table.specs.Tables.{IsTableAt, table_bytes}
 use Rattle.bd_table.specs.declared.table.Table.{Table}
 
 -- the block that has the k-th part of a table in these slots
@@ -29,7 +29,7 @@ bytes_in image at = first_bytes image at (block_total at)
 
 -- the image has this table in these slots
 abbrev pub HoldsTable : Image → ℕ → List ℕ → Table → Type 0
-HoldsTable image slots at t = IsTable slots at t × (bytes_in image at ≡ table_bytes (length at) t)
+HoldsTable image slots at t = IsTableAt slots at t × (bytes_in image at ≡ table_bytes (length at) t)
 
 -- the image has no table there
 abbrev pub HasNoTable : Image → ℕ → List ℕ → Type 0

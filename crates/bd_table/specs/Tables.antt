@@ -3,7 +3,7 @@ use Rattle.std.specs.Prelude.{◌≡◌, ◌≢◌, ◌+◌, ◌-◌, ◌*◌, �
 use Rattle.std.specs.Int.{w32, w64}
 use Rattle.std.specs.List.{flat_map}
 use Rattle.bd_limits.specs.Limits.{level_limit, slot_limit, slot_size}
-use Rattle.bd_slots.specs.Layout.{AreSlots, table_length}
+use Rattle.bd_slots.specs.Layout.{AreSlots, table_size, table_length}
 use Rattle.bd_slots.specs.Slots.{IsFree}
 use Rattle.bd_wire.specs.Numbers.{be}
 use Rattle.bd_wire.specs.Text.{zeros}
@@ -38,7 +38,7 @@ slots_of entries = map (λ e. e.slot) entries
 
 -- a table that takes the slots `at` of an image of this many slots: its nodes have others, which
 -- differ
-pub record IsTable (slots : ℕ) (at : List ℕ) (t : Table) : Type 0 where
+pub record IsTableAt (slots : ℕ) (at : List ℕ) (t : Table) : Type 0 where
   pub entries : AreTableEntries t.next_id t.root t.entries
   pub last_id : t.next_id < 2 ^ 64
   pub place : table_length (length t.entries) ≡ length at
@@ -67,12 +67,12 @@ FitsTableEntry e = (e.id < 2 ^ 64) × (e.refs < 2 ^ 64) × (e.slot < 2 ^ 32) × 
 abbrev pub table_bytes : ℕ → Table → List ℕ
 table_bytes taken t =
     table_head (length t.entries) t.next_id t.root ++ flat_map table_entry t.entries
-    ++ zeros (slot_size * taken - (32 + 24 * length t.entries))
+    ++ zeros (slot_size * taken - table_size (length t.entries))
 
 -- the bytes encode a table that takes the slots `at`, or none
 abbrev pub IsTableIn : ℕ → List ℕ → List ℕ → Option Table → Type 0
-IsTableIn slots at bytes (Some t) = IsTable slots at t × (bytes ≡ table_bytes (length at) t)
-IsTableIn slots at bytes None = (t : Table) → IsTable slots at t
+IsTableIn slots at bytes (Some t) = IsTableAt slots at t × (bytes ≡ table_bytes (length at) t)
+IsTableIn slots at bytes None = (t : Table) → IsTableAt slots at t
     → bytes ≢ table_bytes (length at) t
 
 -- of so many slots those are free that aren't taken

@@ -3,7 +3,7 @@
 ghost use Rattle.std.specs.Prelude.{◌≡◌, ◌↔◌, ◌<◌, ◌≤◌, ◌++◌, length, All, AllPairs, Any, IsTrue, IfOk};
 ghost use Rattle.bd_limits.specs.Limits.{slot_limit};
 ghost use Rattle.bd_slots.specs.Layout.{AreSlots, table_length};
-ghost use Rattle.bd_table.specs.Tables.{AreTableEntries, AreFreeSlots, IsTableEntry, IsRoot, IsTable, slots_of};
+ghost use Rattle.bd_table.specs.Tables.{AreTableEntries, AreFreeSlots, IsTableEntry, IsRoot, IsTableAt, slots_of};
 
 use crate::{Table, TableEntry};
 use bd_limits::{MAX_LEVEL, MAX_SLOTS};
@@ -16,7 +16,7 @@ impl Table {
     /// that differ from those and from each other; `at` has as many slots as it takes.
     pub fn is_table(&self, alloc: Global, slots: u32, at: &[u32]) -> Result<bool, AllocError>
         requires { AreSlots slots at.now }
-        ensures { IfOk result (λ is. IsTrue is ↔ IsTable slots at.now self.now) }
+        ensures { IfOk result (λ is. IsTrue is ↔ IsTableAt slots at.now self.now) }
     {
         let (next_id, root) = (self.next_id, self.root);
         let entries = self.entries.as_slice();

@@ -3,20 +3,22 @@
 ghost use Rattle.std.specs.Prelude.{◌≡◌, ◌≢◌, ◌<◌, ◌≤◌, ◌*◌, ℕ, List, ◌++◌, ◌↔◌, length, All, IsTrue, IfOk, OnErr, IfSome, IfNone};
 ghost use Rattle.std.specs.List.{flat_map};
 ghost use Rattle.bd_limits.specs.Limits.{slot_size};
+ghost use Rattle.bd_limits.specs.Places.{table_header_size, table_entry_size};
 ghost use Rattle.bd_slots.specs.Layout.{AreSlots};
 ghost use Rattle.bd_wire.specs.Reading.{Reads};
 ghost use Rattle.bd_table.specs.Tables.{FitsTableEntry, FitsTableHead, IsTableIn, table_entry, table_head, table_magic};
 
-use crate::{Table, TableEntries, TableEntry};
+use crate::{Table, TableEntry};
+use bd_keys::Items;
 use bd_wire::{Cursor, Short};
 use std::alloc::{AllocError, Global};
 
 // The first bytes of a table.
-pub(crate) const MAGIC: [u8; 8] = *b"BDTABLE1";
+pub(crate) const TABLE_MAGIC: [u8; 8] = *b"BDTABLE1";
 
 // What a table begins with.
 #[derive(Clone, Copy)]
-struct Head {
+struct TableHead {
     count: u64,
     next_id: u64,
     root: u64,
@@ -48,7 +50,7 @@ impl Table {
         let found = Table {
             next_id: head.next_id,
             root: head.root,
-            entries: TableEntries::from_vec(entries),
+            entries: Items::from_vec(entries),
         };
         let is_table = found.is_table(alloc, slots, at)?;
         if cursor.rest_is_zero() && is_table {
@@ -61,17 +63,17 @@ impl Table {
 
 // Reads what a table begins with. It is `None` exactly where the first bytes are others.
 #[tactic(auto, using(bd_wire::proofs::WritingLemmas::writing))]
-fn read_head(cursor: &mut Cursor) -> Result<Option<Head>, Short>
+fn read_head(cursor: &mut Cursor) -> Result<Option<TableHead>, Short>
     ensures found { IfOk result (λ found. IfSome found (λ head. Reads cursor.old cursor.new
         (table_head head.count head.next_id head.root))) }
     ensures fits { IfOk result (λ found. IfSome found
         (λ head. FitsTableHead head.count head.next_id head.root)) }
     ensures none { IfOk result (λ found. IfNone found ((count next_id root : ℕ) (rest : List ℕ)
         → cursor.old.left ≢ table_head count next_id root ++ rest)) }
-    ensures short { OnErr result (length cursor.old.left < 32) }
+    ensures short { OnErr result (length cursor.old.left < table_header_size) }
 {
-    let magic = cursor.bytes(MAGIC.len())?;
-    let head = Head {
+    let magic = cursor.bytes(TABLE_MAGIC.len())?;
+    let head = TableHead {
         count: cursor.u64()?,
         next_id: cursor.u64()?,
         root: cursor.u64()?,
@@ -83,7 +85,7 @@ fn read_head(cursor: &mut Cursor) -> Result<Option<Head>, Short>
 fn is_magic(bytes: &[u8]) -> bool
     ensures { IsTrue result ↔ (bytes.now ≡ table_magic) }
 {
-    bytes == MAGIC.as_slice()
+    bytes == TABLE_MAGIC.as_slice()
 }
 
 // Reads this many entries. It is `None` exactly where fewer bytes are left.
@@ -97,7 +99,8 @@ fn read_entries(
     ensures count { IfOk result (λ found. IfSome found (λ entries. length entries.items ≡ count)) }
     ensures fits { IfOk result (λ found. IfSome found
         (λ entries. All FitsTableEntry entries.items)) }
-    ensures short { IfOk result (λ found. IfNone found (length cursor.old.left < 24 * count)) }
+    ensures short { IfOk result (λ found. IfNone found
+        (length cursor.old.left < table_entry_size * count)) }
 {
     let mut entries = Vec::new(alloc);
     for _ in 0..count {
@@ -114,7 +117,7 @@ fn read_entries(
 fn read_entry(cursor: &mut Cursor) -> Result<TableEntry, Short>
     ensures read { IfOk result (λ entry. Reads cursor.old cursor.new (table_entry entry)) }
     ensures fits { IfOk result FitsTableEntry }
-    ensures short { OnErr result (length cursor.old.left < 24) }
+    ensures short { OnErr result (length cursor.old.left < table_entry_size) }
 {
     Ok(TableEntry {
         id: cursor.u64()?,

@@ -12,5 +12,5 @@ mod writing;
 
 pub use bd_device::ImageFault as TableFault;
 pub use reading::read;
-pub use table::{Table, TableEntries, TableEntry};
+pub use table::{Table, TableEntry};
 pub use writing::write;

@@ -5,7 +5,7 @@ ghost use Rattle.bd_limits.specs.Limits.{slot_size, block_size, table_slot_limit
 ghost use Rattle.bd_slots.specs.Layout.{IsTablePlace, image_blocks, slot_block};
 ghost use Rattle.bd_device.specs.Device.{OnlyReads, HasImageCause};
 ghost use Rattle.bd_table.specs.Image.{HasNoTable, HoldsTable, block_total, bytes_in, table_block};
-ghost use Rattle.bd_table.specs.Tables.{IsTable};
+ghost use Rattle.bd_table.specs.Tables.{IsTableAt};
 
 use crate::Table;
 use bd_device::{Device, ImageFault, read_block};
@@ -35,7 +35,7 @@ pub fn read<D: Device>(
         × IfSome (D.contents dev.old) (λ image. HasNoTable image slots at.now)) result }
 
     // Whatever the contents.
-    ensures table { IfOk result (IsTable slots at.now) }
+    ensures table { IfOk result (IsTableAt slots at.now) }
     ensures reads { OnlyReads D.Device dev.old dev.new }
 {
     let bytes = read_slots(alloc, dev, at)?;

@@ -9,18 +9,28 @@ ghost use Rattle.bd_device.specs.Device.{left_now, Goes, Stays, FailsLast};
 ghost use Rattle.bd_wire.specs.Text.{zeros};
 ghost use Rattle.bd_wire.specs.Writing.{Puts, room};
 ghost use Rattle.bd_table.specs.Image.{HoldsTable, IsOfTable};
-ghost use Rattle.bd_table.specs.Tables.{IsTable};
-ghost use Rattle.bd_table.specs.Words.{entry_word, entry_words, part, word_at};
+ghost use Rattle.bd_table.specs.Tables.{IsTableAt};
+ghost use Rattle.bd_table.specs.Words.{entry_word, entry_words, part, word_at, word_size};
 
-use crate::codec::MAGIC;
+use crate::codec::TABLE_MAGIC;
 use crate::reading::{BLOCKS, table_block};
 use crate::{Table, TableEntry};
 use bd_device::{BLOCK_SIZE, Device};
 use bd_io::Failed;
+use bd_limits::{TABLE_ENTRY_SIZE, TABLE_HEADER_SIZE};
 use bd_wire::Out;
 
+// The bytes of a word.
+const WORD_SIZE: usize = 8;
+
 // The words of a block.
-const WORDS: usize = 512;
+const WORDS: usize = BLOCK_SIZE / WORD_SIZE;
+
+// The words of a table before its entries.
+const HEADER_WORDS: usize = TABLE_HEADER_SIZE / WORD_SIZE;
+
+// The words of an entry.
+const ENTRY_WORDS: usize = TABLE_ENTRY_SIZE / WORD_SIZE;
 
 /// Writes a table to the slots `at` of an image of `slots` slots, without a barrier: until one
 /// succeeds a crash may leave any bytes there. It takes no memory. `Failed` comes only where a
@@ -28,7 +38,7 @@ const WORDS: usize = 512;
 #[tactic(auto, using(bd_device::proofs::Calls::calls))]
 pub fn write<D: Device>(dev: &mut D, slots: u32, at: &[u32], table: &Table) -> Result<(), Failed>
     requires place { IsTablePlace slots at.now }
-    requires table { IsTable slots at.now table.now }
+    requires table { IsTableAt slots at.now table.now }
     requires size { D.block_count dev.old ≡ image_blocks slots }
     ensures written { OnOk result (IfSome (D.contents dev.new)
         (λ image. HoldsTable image slots at.now table.now)) }
@@ -74,36 +84,36 @@ impl Table {
 
     // Writes one of its words.
     fn put_word(&self, out: &mut Out, index: usize)
-        requires { 8 ≤ length (room out.old) }
+        requires { word_size ≤ length (room out.old) }
         ensures { Puts out.old out.new (word_at self.now index) }
     {
         match index {
-            0 => out.put_bytes(&MAGIC),
+            0 => out.put_bytes(&TABLE_MAGIC),
             1 => out.put_u64(self.entries.as_slice().len() as u64),
             2 => out.put_u64(self.next_id),
             3 => out.put_u64(self.root),
-            _ => put_entry_word(out, self.entries.as_slice(), index - 4),
+            _ => put_entry_word(out, self.entries.as_slice(), index - HEADER_WORDS),
         }
     }
 }
 
 // Writes one of the words of entries.
 fn put_entry_word(out: &mut Out, entries: &[TableEntry], index: usize)
-    requires { 8 ≤ length (room out.old) }
+    requires { word_size ≤ length (room out.old) }
     ensures { Puts out.old out.new (entry_word entries.now index) }
 {
-    match entries.get(index / 3) {
-        None => out.put_bytes(&[0; 8]),
-        Some(entry) => put_word_of(out, *entry, index % 3),
+    match entries.get(index / ENTRY_WORDS) {
+        None => out.put_bytes(&[0; WORD_SIZE]),
+        Some(entry) => put_word_of(out, *entry, index % ENTRY_WORDS),
     }
 }
 
 // Writes one of the three words of an entry.
 #[tactic(auto, using(bd_wire::proofs::WritingLemmas::writing))]
 fn put_word_of(out: &mut Out, entry: TableEntry, index: usize)
-    requires room { 8 ≤ length (room out.old) }
-    requires index { index < 3 }
-    ensures { Puts out.old out.new (slice_index_or (entry_words entry) index (zeros 8)) }
+    requires room { word_size ≤ length (room out.old) }
+    requires index { index < length (entry_words entry) }
+    ensures { Puts out.old out.new (slice_index_or (entry_words entry) index (zeros word_size)) }
 {
     match index {
         0 => out.put_u64(entry.id),

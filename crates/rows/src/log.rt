@@ -65,7 +65,7 @@ fn batches<D: Device>(alloc: Global, device: &mut D, first: u64) -> Result<usize
         return Err(LogFault::DeviceFault);
     }
     let log = Log::resume(alloc, device, first, 1)?;
-    Ok(log.batches().as_slice().len())
+    Ok(log.batches().len())
 }
 
 #[test]
@@ -93,7 +93,7 @@ fn a_log_goes_on_after_its_batches(rt: HostRuntime) -> Result<(), Fail> {
     }
     let log = Log::resume(rt.alloc(), &mut device, 68, 1)?;
     assert_eq!(rt; log.left(), 60 * 4096 - 24);
-    for batch in log.batches().as_slice() {
+    for batch in log.batches() {
         assert_eq!(rt; batch.body, 69);
         for record in batch.records.as_slice() {
             assert_eq!(rt; record.as_slice(), MKDIR);

@@ -3,7 +3,8 @@ ghost use Rattle.bd_slots.specs.Layout.{image_blocks};
 ghost use Rattle.bd_super.specs.Published.{CanFollow};
 
 use bd_device::{BLOCK_SIZE, Device, FuseDevice, MemDevice, Torn};
-use bd_slots::{TableSlots, image_blocks};
+use bd_keys::Items;
+use bd_slots::image_blocks;
 use bd_super::{Half, Super, SuperFault, publish, read_live};
 use std::alloc::{AllocError, Global};
 use std::test::Fail;
@@ -24,7 +25,7 @@ fn superblock(alloc: Global, half: Half, epoch: u64) -> Result<Super, AllocError
         slots: 24,
         epoch,
         count: 0,
-        table: TableSlots::from_vec([1].to_vec(alloc)?),
+        table: Items::from_vec([1].to_vec(alloc)?),
     })
 }
 

@@ -1,7 +1,8 @@
 use bd_device::{Attach, BLOCK_SIZE, Device, MemDevice};
 use bd_filedev::FileDevice;
+use bd_keys::Items;
 use bd_slots::{image_blocks, is_table_place, table_length};
-use bd_table::{Table, TableEntries, TableEntry, TableFault, read, write};
+use bd_table::{Table, TableEntry, TableFault, read, write};
 use std::alloc::{AllocError, Global};
 use std::fs;
 use std::test::Fail;
@@ -43,7 +44,7 @@ fn table(alloc: Global, nodes: u32, first: u32) -> Result<Table, AllocError> {
     Ok(Table {
         next_id: u64::from(nodes) + 1,
         root: u64::from(nodes),
-        entries: TableEntries::from_vec(entries),
+        entries: Items::from_vec(entries),
     })
 }
 

@@ -29,11 +29,11 @@ loop-i-preserved g c =
     let new = g.D.Device.contents c.write.new.self in
     record {
       time = write_more range b (omega arith, omega arith) c.loop-i.invariant.time (g.met.D.Device.since_earlier c.loop-i.dev) c.write.ensures.time;
-      written = written_more (g.D.Device.block_count c.write.new.self) first c.loop-i.i c.args.bytes.now c.block_at-block.result known new
+      written = written_more (g.D.Device.block_count c.write.new.self) first c.loop-i.i c.args.bytes.now c.nth_block-block.result known new
           (omega (arith, c.requires.room, c.loop-i.invariant.stays.count, c.write.ensures.count, c.loop-i-test.true))
-          c.loop-i.invariant.written c.block_at-block.ensures c.in_ok-write.ensures.written c.write.ensures.shape;
+          c.loop-i.invariant.written c.nth_block-block.ensures c.in_ok-write.ensures.written c.write.ensures.shape;
       others = stays_both range (g.D.Device.contents c.args.dev.now) known new c.loop-i.invariant.others
-          (stays_written range b c.block_at-block.result known new (omega arith, omega arith) c.in_ok-write.ensures.written);
+          (stays_written range b c.nth_block-block.result known new (omega arith, omega arith) c.in_ok-write.ensures.written);
       stays = stays_then c.loop-i.invariant.stays (record {
         count = c.write.ensures.count;
         same_name = c.write.ensures.same_name;

@@ -31,10 +31,10 @@ returns-in_default-u32-3 c =
       c.in_default-u32-3.ensures.short,
     ))
 
-pub returns-then-magic-ne-MAGIC : goal.returns-then-magic-ne-MAGIC
-returns-then-magic-ne-MAGIC c =
+pub returns-then-magic-ne-NODE_MAGIC : goal.returns-then-magic-ne-NODE_MAGIC
+returns-then-magic-ne-NODE_MAGIC c =
     let two = Reads-append c.args.cursor.now c.u32.new.self c.u32-2.new.self (be w32 c.in-Ok.magic) (be w32 c.in-Ok-u32.level) c.in-Ok.ensures.read c.in-Ok-u32.ensures.read in
     let three = Reads-append c.args.cursor.now c.u32-2.new.self c.u32-3.new.self (be w32 c.in-Ok.magic ++ be w32 c.in-Ok-u32.level) (be w32 c.in-Ok-u32-2.items) two c.in-Ok-u32-2.ensures.read in
     let all = Reads-append c.args.cursor.now c.u32-3.new.self c.u32-4.new.self (be w32 c.in-Ok.magic ++ be w32 c.in-Ok-u32.level ++ be w32 c.in-Ok-u32-2.items) (be w32 c.in-Ok-u32-3.messages) three c.in-Ok-u32-3.ensures.read in
     other_head (((c.in-Ok.magic, c.in-Ok-u32.level), c.in-Ok-u32-2.items), c.in-Ok-u32-3.messages) c.args.cursor.now.left c.u32-4.new.self.left
-    (((omega arith, omega arith), omega arith), omega arith) c.if-magic-ne-MAGIC.true all.front
+    (((omega arith, omega arith), omega arith), omega arith) c.if-magic-ne-NODE_MAGIC.true all.front

@@ -1,5 +1,6 @@
-use Rattle.std.proofs.Common.{◌≡◌, ℕ, ◌<◌, get_or}
+use Rattle.std.proofs.Common.{◌*◌}
+use Rattle.bd_slots.specs.Words.{IsNoneBelow}
 use Rattle.bd_slots.proofs.words.first_set.Given as goal
 
 abbrev pub invariant-loop-at : goal.invariant-loop-at
-invariant-loop-at l = (k : ℕ) → k < l.at → get_or l.words k 0 ≡ 0
+invariant-loop-at l = IsNoneBelow l.words (64 * l.at)

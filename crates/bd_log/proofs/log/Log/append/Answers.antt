@@ -39,5 +39,5 @@ returns c =
     let more = buffer_more l.place l.size l.count body r new c.self.invariant.2 c.requires.is_record (omega (arith, room, size, c.self.invariant.2.room)) put same in
     let items : take l.body.len (new ++ drop (length new) body) ≡ new = take_at new (drop (length new) body) l.body.len (same ∙ sym (ap length whole) ∙ c.deref_mut.ensures.len) in
     let records = ap (λ b. records_in (l.count + 1) (take (l.size + length r) (drop 24 b))) items ∙ more.records in
-    ap (λ (rs : List (List ℕ)). record { first = l.first; epoch = l.epoch; place = l.place; waiting = rs; batches = l.batches }) records
+    ap (λ (rs : List (List ℕ)). record { first = l.first; epoch = l.epoch; place = l.place; waiting = rs; batches = l.batches.items }) records
     ∙ ap (λ (s : LogState). record { first = s.first; epoch = s.epoch; place = s.place; waiting = s.waiting ++ r ∷ []; batches = s.batches }) c.self.view_is

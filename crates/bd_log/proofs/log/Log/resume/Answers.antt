@@ -1,7 +1,5 @@
-use Rattle.std.proofs.Common.{◌≡◌, length, drop, arith, refl, sym, ap, subst, ◌∙◌}
+use Rattle.std.proofs.Common.{◌≡◌, length, drop, arith, refl, ap, ◌∙◌}
 use Rattle.std.proofs.lemmas.List.{take_at}
-use Rattle.std.specs.Prelude.{IfSome}
-use Rattle.bd_log.specs.Batches.{AreBatches}
 use Rattle.bd_log.proofs.log.Log.resume.Goals as goal
 
 pub invariant_of-result : goal.invariant_of-result
@@ -18,7 +16,3 @@ invariant_of-result g c =
         each = tt;
       },
     )
-
-pub returns-clause-batches : goal.returns-clause-batches
-returns-clause-batches g c =
-    subst (λ bs. IfSome (g.D.Device.contents c.args.dev.now) (λ image. AreBatches image c.args.first c.args.epoch bs c.in_ok-batches.place)) (sym c.from_vec.ensures) c.in_ok-batches.ensures.batches

@@ -20,9 +20,9 @@ returns-in_err-write_committed-clause-time g c =
     let body = c.self.inside.body.items in
     let blocks = c.blocks_for-blocks.result in
     let before = g.D.Device.left_since c.args.dev.now (g.D.Device.call_count c.args.dev.now) in
-    let waits = waiting_is l.first l.place l.size l.count l.epoch blocks l.body.len l.batches body c.deref_mut.result.now c.seal.new.body c.deref.result.now
+    let waits = waiting_is l.first l.place l.size l.count l.epoch blocks l.body.len l.batches.items body c.deref_mut.result.now c.seal.new.body c.deref.result.now
     c.self.invariant.2 c.if-self-eq0.false c.blocks_for-blocks.ensures c.deref_mut.ensures.value c.deref_mut.ensures.len c.seal.ensures.body c.deref.ensures.value in
-    let log : LogState = record { first = l.first; epoch = l.epoch; place = l.place; waiting = records_in l.count (take l.size (drop 24 body)); batches = l.batches } in
+    let log : LogState = record { first = l.first; epoch = l.epoch; place = l.place; waiting = records_in l.count (take l.size (drop 24 body)); batches = l.batches.items } in
     let bytes = take (blocks * 4096) c.deref.result.now in
     within (IsNoneOrWhole (l.first + l.place) blocks bytes before) (IsSyncing c.args.self.now before) c.write_committed.ensures.time
     (λ image h. subst (λ (s : LogState). IsSyncing s before image) c.self.view_is (syncing log blocks bytes before image waits h))
@@ -66,9 +66,9 @@ returns-clause-ok g c =
     let l = c.self.inside in
     let body = c.self.inside.body.items in
     let blocks = c.blocks_for-blocks.result in
-    let waits = waiting_is l.first l.place l.size l.count l.epoch blocks l.body.len l.batches body c.deref_mut.result.now c.seal.new.body c.deref.result.now
+    let waits = waiting_is l.first l.place l.size l.count l.epoch blocks l.body.len l.batches.items body c.deref_mut.result.now c.seal.new.body c.deref.result.now
     c.self.invariant.2 c.if-self-eq0.false c.blocks_for-blocks.ensures c.deref_mut.ensures.value c.deref_mut.ensures.len c.seal.ensures.body c.deref.ensures.value in
-    let log : LogState = record { first = l.first; epoch = l.epoch; place = l.place; waiting = records_in l.count (take l.size (drop 24 body)); batches = l.batches } in
+    let log : LogState = record { first = l.first; epoch = l.epoch; place = l.place; waiting = records_in l.count (take l.size (drop 24 body)); batches = l.batches.items } in
     after_some log blocks (take (blocks * 4096) c.deref.result.now) waits ∙ ap after_sync c.self.view_is
 
 pub returns-clause-time : goal.returns-clause-time
@@ -77,9 +77,9 @@ returns-clause-time g c =
     let body = c.self.inside.body.items in
     let blocks = c.blocks_for-blocks.result in
     let before = g.D.Device.left_since c.args.dev.now (g.D.Device.call_count c.args.dev.now) in
-    let waits = waiting_is l.first l.place l.size l.count l.epoch blocks l.body.len l.batches body c.deref_mut.result.now c.seal.new.body c.deref.result.now
+    let waits = waiting_is l.first l.place l.size l.count l.epoch blocks l.body.len l.batches.items body c.deref_mut.result.now c.seal.new.body c.deref.result.now
     c.self.invariant.2 c.if-self-eq0.false c.blocks_for-blocks.ensures c.deref_mut.ensures.value c.deref_mut.ensures.len c.seal.ensures.body c.deref.ensures.value in
-    let log : LogState = record { first = l.first; epoch = l.epoch; place = l.place; waiting = records_in l.count (take l.size (drop 24 body)); batches = l.batches } in
+    let log : LogState = record { first = l.first; epoch = l.epoch; place = l.place; waiting = records_in l.count (take l.size (drop 24 body)); batches = l.batches.items } in
     let bytes = take (blocks * 4096) c.deref.result.now in
     within (IsNoneOrWhole (l.first + l.place) blocks bytes before) (IsSyncing c.args.self.now before) c.write_committed.ensures.time
     (λ image h. subst (λ (s : LogState). IsSyncing s before image) c.self.view_is (syncing log blocks bytes before image waits h))
@@ -90,9 +90,9 @@ returns-clause-synced g c =
     let body = c.self.inside.body.items in
     let blocks = c.blocks_for-blocks.result in
     let before = g.D.Device.left_since c.args.dev.now (g.D.Device.call_count c.args.dev.now) in
-    let waits = waiting_is l.first l.place l.size l.count l.epoch blocks l.body.len l.batches body c.deref_mut.result.now c.seal.new.body c.deref.result.now
+    let waits = waiting_is l.first l.place l.size l.count l.epoch blocks l.body.len l.batches.items body c.deref_mut.result.now c.seal.new.body c.deref.result.now
     c.self.invariant.2 c.if-self-eq0.false c.blocks_for-blocks.ensures c.deref_mut.ensures.value c.deref_mut.ensures.len c.seal.ensures.body c.deref.ensures.value in
-    let log : LogState = record { first = l.first; epoch = l.epoch; place = l.place; waiting = records_in l.count (take l.size (drop 24 body)); batches = l.batches } in
+    let log : LogState = record { first = l.first; epoch = l.epoch; place = l.place; waiting = records_in l.count (take l.size (drop 24 body)); batches = l.batches.items } in
     let bytes = take (blocks * 4096) c.deref.result.now in
     λ image left. subst (λ (s : LogState). IsSynced s before image) c.self.view_is (synced log blocks bytes before image waits (c.in_ok-write_committed.ensures.whole image left))
 

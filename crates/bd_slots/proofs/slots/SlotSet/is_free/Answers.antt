@@ -8,7 +8,7 @@ pub is_set-requires : goal.is_set-requires
 is_set-requires c =
     let s = c.self.inside in
     let count = sym (length-flags s.words.items s.count) ∙ ap length c.self.view_is in
-    rw c.as_slice.ensures.value (omega (arith, c.requires, count, c.self.invariant.room))
+    rw c.as_slice.ensures.value (omega (arith, c.requires, count, c.self.invariant.0.room))
 
 pub returns : goal.returns
 returns c =

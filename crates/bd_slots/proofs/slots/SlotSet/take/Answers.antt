@@ -1,7 +1,8 @@
-use Rattle.std.proofs.Common.{◌∙◌, sym, ap, arith, rules}
+use Rattle.std.proofs.Common.{◌∙◌, sym, ap, subst, arith, rules}
 use Rattle.std.proofs.lemmas.Bool.{true≢false}
-use Rattle.bd_slots.specs.Words.{has_bit}
-use Rattle.bd_slots.proofs.FlagLemmas.{IsFree-has_bit, none_free, free_above}
+use Rattle.bd_slots.specs.Slots.{IsFree}
+use Rattle.bd_slots.specs.Words.{has_bit, IsFirstSet}
+use Rattle.bd_slots.proofs.FlagLemmas.{IsFirstFree-first_set, none_free, free_above}
 use Rattle.bd_slots.proofs.slots.SlotSet.take.Goals as goal
 
 pub returns-in_err-slot-clause-none : goal.returns-in_err-slot-clause-none
@@ -12,17 +13,18 @@ returns-in_err-slot-clause-none c =
       λ _. search rules,
     )
 
+pub returns-clause-first : goal.returns-clause-first
+returns-clause-first c =
+    let s = c.self.inside in
+    IsFirstFree-first_set s.words.items c.args.self.now s.count s.free c.in_ok-slot.field-0 c.self.invariant.0 c.self.view_is
+    (subst (λ w. IsFirstSet w c.in_ok-slot.field-0) c.as_slice.ensures.value c.in_ok-slot.ensures.found)
+
 pub hold-requires : goal.hold-requires
 hold-requires c =
     let s = c.self.inside in
-    IsFree-has_bit s.words.items c.args.self.now s.count s.free c.in_ok-slot.slot c.self.invariant c.self.view_is
-    (ap (λ w. has_bit w c.in_ok-slot.slot) (sym c.as_slice.ensures.value) ∙ c.in_ok-slot.ensures.found)
-
-pub returns-clause-was_free : goal.returns-clause-was_free
-returns-clause-was_free c =
-    let s = c.self.inside in
-    IsFree-has_bit s.words.items c.args.self.now s.count s.free c.in_ok-slot.slot c.self.invariant c.self.view_is
-    (ap (λ w. has_bit w c.in_ok-slot.slot) (sym c.as_slice.ensures.value) ∙ c.in_ok-slot.ensures.found)
+    let first = IsFirstFree-first_set s.words.items c.args.self.now s.count s.free c.in_ok-slot.field-0 c.self.invariant.0 c.self.view_is
+    (subst (λ w. IsFirstSet w c.in_ok-slot.field-0) c.as_slice.ensures.value c.in_ok-slot.ensures.found) in
+    subst (λ v. IsFree v c.in_ok-slot.field-0) (sym c.self.view_is) first.0
 
 pub returns-clause-none : goal.returns-clause-none
-returns-clause-none c = ((λ h. absurd (true≢false h)), λ none. absurd (omega (arith, free_above c.args.self.now c.in_ok-slot.slot (returns-clause-was_free c), none)))
+returns-clause-none c = ((λ h. absurd (true≢false h)), λ none. absurd (omega (arith, free_above c.args.self.now c.in_ok-slot.field-0 (returns-clause-first c).0, none)))

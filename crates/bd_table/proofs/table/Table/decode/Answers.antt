@@ -2,7 +2,7 @@ use Rattle.std.proofs.Common.{◌≡◌, ◌++◌, length, All, sym, ap, ◌∙�
 use Rattle.std.specs.List.{flat_map}
 use Rattle.std.proofs.lemmas.Bool.{true≢false}
 use Rattle.bd_wire.specs.Reading.{Reads}
-use Rattle.bd_table.specs.Tables.{IsTable, FitsTableEntry, FitsTableHead, table_entry, table_head}
+use Rattle.bd_table.specs.Tables.{IsTableAt, FitsTableEntry, FitsTableHead, table_entry, table_head}
 use Rattle.bd_table.specs.declared.table.Table.{Table}
 use Rattle.bd_table.proofs.TableLemmas.{head_alone, no_entries, entries_alone, table_whole, same_table}
 use Rattle.bd_table.proofs.table.Table.decode.Goals as goal
@@ -51,6 +51,6 @@ returns-else-rest_is_zero c = λ t is e.
     let is_t : made ≡ t = same_table made t head.1 head.2 (c.from_vec.ensures ∙ same.0) in
     elim c.else-rest_is_zero.branch [
       | else-rest_is_zero-via-then-rest_is_zero+else-is_table w ↦
-          true≢false (sym (c.in_ok-is_table.ensures.1 (subst (IsTable c.args.slots c.args.at.now) (sym is_t) is)) ∙ w.if-is_table.false)
+          true≢false (sym (c.in_ok-is_table.ensures.1 (subst (IsTableAt c.args.slots c.args.at.now) (sym is_t) is)) ∙ w.if-is_table.false)
       | else-rest_is_zero-via-else-rest_is_zero w ↦ true≢false (sym (c.rest_is_zero.ensures.1 same.1) ∙ w.if-rest_is_zero.false)
     ]

@@ -1,5 +1,5 @@
 use Rattle.std.proofs.Common.{◌≡◌, ◌+◌, ◌-◌, ◌*◌, take, drop, ap, ◌∙◌, arith}
-use Rattle.bd_device.proofs.blocks.block_at.Goals as goal
+use Rattle.bd_device.proofs.blocks.nth_block.Goals as goal
 
 pub returns : goal.returns
 returns c =
