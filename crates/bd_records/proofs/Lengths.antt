@@ -98,4 +98,10 @@ pub length-record_bytes : (r : Record) → length (record_bytes r) ≤ 7
 length-record_bytes (Dir m) = omega (arith, length-mode_bytes m)
 length-record_bytes (File n m) = omega (arith, length-append (be w32 n) (mode_bytes m), length-be w32 n, length-mode_bytes m)
 
+pub some-record_bytes : (r : Record) → 1 ≤ length (record_bytes r)
+some-record_bytes (Dir m) = omega arith
+some-record_bytes (File n m) = omega arith
+
+pub ruleset record_sizes = (some-record_bytes, length-record_bytes)
+
 pub ruleset lengths = (mode_bytes-none, mode_bytes-some, length-be)

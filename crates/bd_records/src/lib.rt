@@ -135,10 +135,10 @@ pub fn encoded_record(alloc: Global, entry: Record) -> Result<Vec<u8>, AllocErro
 fn add_mode(bytes: &mut Vec<u8>, mode: u16) -> Result<(), AllocError>
     ensures { OnOk result (bytes.new.items ≡ bytes.old.items ++ mode_bytes mode) }
 {
-    if mode != 0 {
-        bytes.extend_from_slice(&mode.to_be_bytes())?;
+    if mode == 0 {
+        return Ok(());
     }
-    Ok(())
+    bytes.extend_from_slice(&mode.to_be_bytes())
 }
 
 /// Whether these bytes can be those of a block: 1 to 1,024 of them.
