@@ -83,7 +83,8 @@ pub fn untakeable<M: KeyMap>(
     ensures cause { HasMapCause (M.fault_count m.old) (M.fault_count m.new)
         (M.bad m.new) NeverWorn result }
 {
-    if is_taken(alloc, m, a, b)? {
+    let taken = is_taken(alloc, m, a, b)?;
+    if taken {
         return Ok(Some(Refusal::Exists));
     }
     above(alloc, m, b)

@@ -11,8 +11,8 @@ use Rattle.bd_files.proofs.reading.read.Goals as goal
 pub returns-clause-reply : goal.returns-clause-reply
 returns-clause-reply g c = λ known t tree r.
     let path = c.args.path.now in
-    let left = c.in_ok-file.ensures.left in
-    let file = subst (λ (found : Result (ℕ × ℕ) Refusal). IsFileOf (get t path) found) c.in-Ok.is (c.in_ok-file.ensures.found known t tree r) in
+    let left = c.in_ok-found.ensures.left in
+    let file = subst (λ (found : Result (ℕ × ℕ) Refusal). IsFileOf (get t path) found) c.in-Ok.is (c.in_ok-found.ensures.found known t tree r) in
     let later = Represents-along (g.M.KeyMap.has c.args.m.now) (g.M.KeyMap.has c.file.new.m) t (λ k key. left.kept known k) r in
     let inside : c.min-end.result ≤ length file.0 = omega (arith, c.min-end.ensures, file.2) in
     let limit : c.in-Ok.found.0 ≤ file_limit = omega (arith, file.2, file.3) in
