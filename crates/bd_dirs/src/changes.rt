@@ -65,12 +65,7 @@ fn make<M: KeyMap>(alloc: Global, m: &mut M, path: &Path, entry: Record) -> Resu
 }
 
 /// What a `chmod` sends: the record with the mode.
-pub fn chmod<M: KeyMap>(
-    alloc: Global,
-    m: &mut M,
-    path: &Path,
-    mode: u16,
-) -> Result<Plan, MapFault>
+pub fn chmod<M: KeyMap>(alloc: Global, m: &mut M, path: &Path, mode: u16) -> Result<Plan, MapFault>
     ensures plan { M.is_known m.old → (t : Tree) → IsTree t → Represents (M.has m.old) t
         → IfOk result (IsPlan (M.has m.old) t (command.Chmod path.now mode)) }
     ensures kind { IfOk result SendsMessages }

@@ -187,7 +187,13 @@ const FAILING: &[(u64, u64, u64, u8, &str)] = &[
     (4, 0, 0, 5, "ok\nok\nfault source\n"),
     (5, 0, 0, 5, "ok\nok\nfault source\n"),
     (6, 0, 0, 5, "ok\nok\nok dir 0000\nfault source\n"),
-    (7, 0, 0, 5, "ok\nok\nok dir 0000\nok file 0 0000\nfault source\n"),
+    (
+        7,
+        0,
+        0,
+        5,
+        "ok\nok\nok dir 0000\nok file 0 0000\nfault source\n",
+    ),
     (
         8,
         0,
@@ -207,7 +213,13 @@ const FAILING: &[(u64, u64, u64, u8, &str)] = &[
     (0, 3, 0, 9, "ok\nok\n"),
     (0, 4, 0, 9, "ok\nok\nok dir 0000\n"),
     (0, 5, 0, 9, "ok\nok\nok dir 0000\nok file 0 0000\n"),
-    (0, 6, 0, 9, "ok\nok\nok dir 0000\nok file 0 0000\nno 1 not-found\n"),
+    (
+        0,
+        6,
+        0,
+        9,
+        "ok\nok\nok dir 0000\nok file 0 0000\nno 1 not-found\n",
+    ),
     (0, 0, 1, 3, "fault device\n"),
 ];
 

@@ -32,7 +32,10 @@ fn records_are_read(rt: HostRuntime) {
         (&[0x46, 0, 0, 0], None),
         (&[0x46, 0x40, 0, 0, 1], None),
         (&[0x46, 0, 0, 0, 0, 0], None),
-        (&[0x46, 0, 0, 0, 0, 0x01, 0xa4], Some(Record::File(0, 0o644))),
+        (
+            &[0x46, 0, 0, 0, 0, 0x01, 0xa4],
+            Some(Record::File(0, 0o644)),
+        ),
         (&[0x44, 0x0f, 0xff], Some(Record::Dir(MAX_MODE))),
         (&[0x44, 0, 1], Some(Record::Dir(1))),
         (&[0x44, 0, 0], None),
