@@ -1,19 +1,19 @@
 -- No command's encoding begins another's.
-use Rattle.std.proofs.Common.{◌≡◌, ◌≢◌, ℕ, ◌<◌, ◌≤◌, List, [], ◌∷◌, ◌++◌, length, drop, get_or, sym, ap, subst, ◌∙◌, arith, length-append, append-nil, None, Some, ◌⊎◌, inl, inr, suc, false, true}
+use Rattle.std.proofs.Common.{◌≡◌, ◌≢◌, ℕ, ◌<◌, ◌≤◌, List, [], ◌∷◌, ◌++◌, ◌^◌, length, drop, get_or, sym, ap, subst, ◌∙◌, arith, length-append, append-nil, None, Some, ◌⊎◌, inl, inr, suc, false, true}
 use Rattle.std.specs.List.{AllByRecursion}
-use Rattle.std.specs.Int.{w32}
+use Rattle.std.specs.Int.{w16, w32}
 use Rattle.bd_names.specs.Names.{path_text, path_of}
 use Rattle.bd_names.proofs.NamesLaws.{path_of-path_text}
 use Rattle.bd_wire.specs.Numbers.{be, FitsWidth, IsBytes}
 use Rattle.bd_wire.specs.Encoding.{IsPrefixFree, BeginsNone}
 use Rattle.bd_wire.specs.Text.{text16, FitsText16}
-use Rattle.bd_wire.proofs.NumberLemmas.{length-be, IsPrefixFree-be}
+use Rattle.bd_wire.proofs.NumberLemmas.{length-be, IsPrefixFree-be, BeginsNone-be}
 use Rattle.bd_wire.proofs.EncodingLemmas.{IsPrefixFree-both}
 use Rattle.bd_wire.proofs.TextLemmas.{length-text16, IsPrefixFree-text16}
-use Rattle.bd_command.specs.Command.{IsShortPath, IsWritten}
-use Rattle.bd_command.specs.Log.{IsLogged, path16, command_bytes, log_record, record_limit, FitsWrite, FitsTruncate, FitsPaths, encode_write, encode_truncate, encode_paths}
+use Rattle.bd_command.specs.Command.{IsShortPath, IsWritten, IsMode}
+use Rattle.bd_command.specs.Log.{IsLogged, path16, command_bytes, log_record, record_limit, FitsWrite, FitsTruncate, FitsPaths, FitsChmod, encode_write, encode_truncate, encode_paths, encode_chmod}
 use Rattle.bd_command.specs.declared.Command.{Command}
-use Rattle.bd_command.specs.declared.Command.TheVariants.{Mkdir, Create, Write, Truncate, Remove, Rename, Clone, Read, Stat, List as Ls}
+use Rattle.bd_command.specs.declared.Command.TheVariants.{Mkdir, Create, Write, Truncate, Remove, Rename, Clone, Chmod, Read, Stat, List as Ls}
 
 -- two paths of one text are one
 one_path : (a b : List (List ℕ)) → IsShortPath a → IsShortPath b → path_text a ≡ path_text b → a ≡ b
@@ -36,6 +36,21 @@ write_alone = IsPrefixFree-both FitsTruncate IsWritten encode_truncate text16 tr
 
 paths_alone : IsPrefixFree FitsPaths encode_paths
 paths_alone = IsPrefixFree-both IsShortPath IsShortPath path16 path16 path_alone path_alone
+
+mode_alone : IsPrefixFree IsMode (be w16)
+mode_alone a b x y h k e = IsPrefixFree-be w16 a b x y (omega (arith, h)) (omega (arith, k)) e
+
+chmod_alone : IsPrefixFree FitsChmod encode_chmod
+chmod_alone = IsPrefixFree-both IsShortPath IsMode path16 (be w16) path_alone mode_alone
+
+-- too few bytes stand there for a mode
+pub no_mode : (left : List ℕ) → length left < 2 → BeginsNone IsMode (be w16) left
+no_mode left short m rest h e = BeginsNone-be w16 left short m rest (omega (arith, h)) e
+
+-- a number stands there that is no mode
+pub not_mode : (left after : List ℕ) (n : ℕ) → n < 2 ^ 16 → left ≡ be w16 n ++ after → 4095 < n → BeginsNone IsMode (be w16) left
+not_mode left after n fits read over m rest h e =
+    let same = (IsPrefixFree-be w16 n m after rest (omega (arith, fits)) (omega (arith, h)) (sym read ∙ e)).0 in omega (arith, same, h)
 
 -- a reading command has no record
 unlogged : {A : Type 0} → false ≡ true → A
@@ -67,6 +82,9 @@ command_alone (Rename p q) (Rename r s) x y h k e =
 command_alone (Clone p q) (Clone r s) x y h k e =
     let same = paths_alone (p, q) (r, s) x y h.1 k.1 (ap (drop 1) e) in
     (ap (λ (v : List (List ℕ) × List (List ℕ)). Clone v.0 v.1) same.0, same.1)
+command_alone (Chmod p m) (Chmod q n) x y h k e =
+    let same = chmod_alone (p, m) (q, n) x y h.1 k.1 (ap (drop 1) e) in
+    (ap (λ (v : List (List ℕ) × ℕ). Chmod v.0 v.1) same.0, same.1)
 command_alone a b x y h k e = absurd (omega (arith, ap (λ l. get_or l 0 0) e))
 
 -- no command stands after this first byte: where it is a command's, no such fields do
@@ -75,22 +93,25 @@ pub none_after : (n : ℕ) (left : List ℕ)
     → (n ≡ 3 → BeginsNone FitsWrite encode_write left)
     → (n ≡ 4 → BeginsNone FitsTruncate encode_truncate left)
     → ((n ≡ 6) ⊎ (n ≡ 7) → BeginsNone FitsPaths encode_paths left)
+    → (n ≡ 8 → BeginsNone FitsChmod encode_chmod left)
     → BeginsNone IsLogged command_bytes (n ∷ left)
-none_after n left one write truncate two (Mkdir p) rest h e =
+none_after n left one write truncate two chmod (Mkdir p) rest h e =
     let tag : n ≡ 1 = ap (λ l. get_or l 0 0) e in one (inl tag) p rest h.1 (ap (drop 1) e)
-none_after n left one write truncate two (Create p) rest h e =
+none_after n left one write truncate two chmod (Create p) rest h e =
     let tag : n ≡ 2 = ap (λ l. get_or l 0 0) e in one (inr (inl tag)) p rest h.1 (ap (drop 1) e)
-none_after n left one write truncate two (Write p o bs) rest h e =
+none_after n left one write truncate two chmod (Write p o bs) rest h e =
     let tag : n ≡ 3 = ap (λ l. get_or l 0 0) e in write tag ((p, o), bs) rest ((h.1.0, omega (arith, h.1.1)), h.1.2) (ap (drop 1) e)
-none_after n left one write truncate two (Truncate p o) rest h e =
+none_after n left one write truncate two chmod (Truncate p o) rest h e =
     let tag : n ≡ 4 = ap (λ l. get_or l 0 0) e in truncate tag (p, o) rest (h.1.0, omega (arith, h.1.1)) (ap (drop 1) e)
-none_after n left one write truncate two (Remove p) rest h e =
+none_after n left one write truncate two chmod (Remove p) rest h e =
     let tag : n ≡ 5 = ap (λ l. get_or l 0 0) e in one (inr (inr tag)) p rest h.1 (ap (drop 1) e)
-none_after n left one write truncate two (Rename p q) rest h e =
+none_after n left one write truncate two chmod (Rename p q) rest h e =
     let tag : n ≡ 6 = ap (λ l. get_or l 0 0) e in two (inl tag) (p, q) rest h.1 (ap (drop 1) e)
-none_after n left one write truncate two (Clone p q) rest h e =
+none_after n left one write truncate two chmod (Clone p q) rest h e =
     let tag : n ≡ 7 = ap (λ l. get_or l 0 0) e in two (inr tag) (p, q) rest h.1 (ap (drop 1) e)
-none_after n left one write truncate two c rest h e = unlogged h.0
+none_after n left one write truncate two chmod (Chmod p m) rest h e =
+    let tag : n ≡ 8 = ap (λ l. get_or l 0 0) e in chmod tag (p, m) rest h.1 (ap (drop 1) e)
+none_after n left one write truncate two chmod c rest h e = unlogged h.0
 
 -- nor where nothing is left
 pub none_left : BeginsNone IsLogged command_bytes []
@@ -112,6 +133,7 @@ record_fits (Truncate p o) h = simp (length-append, length-text16, length-be) (o
 record_fits (Remove p) h = simp (length-text16) (omega arith)
 record_fits (Rename p q) h = simp (length-append, length-text16) (omega arith)
 record_fits (Clone p q) h = simp (length-append, length-text16) (omega arith)
+record_fits (Chmod p m) h = simp (length-append, length-text16, length-be) (omega arith)
 record_fits c h = unlogged h.0
 
 size_fits : (c : Command) → IsLogged c → FitsText16 (command_bytes c)

@@ -3,12 +3,12 @@ use Rattle.std.specs.Prelude.{ℕ, ◌^◌, ◌<◌, ◌≤◌, Bool, true, fals
 use Rattle.std.specs.List.{AllByRecursion}
 use Rattle.std.specs.declared.option.Option.{Option}
 use Rattle.std.specs.declared.option.Option.TheVariants.{None, Some}
-use Rattle.bd_limits.specs.Limits.{path_limit, write_limit, read_limit, listing_limit}
+use Rattle.bd_limits.specs.Limits.{path_limit, mode_limit, write_limit, read_limit, listing_limit}
 use Rattle.bd_names.specs.Names.{AreNames, is_name, path_text}
 use Rattle.bd_command.specs.declared.Command.{Command}
 use Rattle.bd_command.specs.declared.reply.Reply.{Reply}
 use Rattle.bd_command.specs.declared.reply.Reply.TheVariants.{Done, Bytes, Dir, File, Names, Refused}
-use Rattle.bd_command.specs.declared.Command.TheVariants.{Mkdir, Create, Write, Truncate, Remove, Rename, Clone, Read, Stat, List as Ls}
+use Rattle.bd_command.specs.declared.Command.TheVariants.{Mkdir, Create, Write, Truncate, Remove, Rename, Clone, Chmod, Read, Stat, List as Ls}
 
 -- the commands that change the tree where they are accepted
 abbrev pub writes : Command → Bool
@@ -19,6 +19,7 @@ writes (Truncate path len) = true
 writes (Remove path) = true
 writes (Rename a b) = true
 writes (Clone a b) = true
+writes (Chmod path mode) = true
 writes (Read path off len) = false
 writes (Stat path) = false
 writes (Ls path after) = false
@@ -26,8 +27,8 @@ writes (Ls path after) = false
 abbrev pub is_done : Reply → Bool
 is_done Done = true
 is_done (Bytes bytes) = false
-is_done Dir = false
-is_done (File len) = false
+is_done (Dir mode) = false
+is_done (File len mode) = false
 is_done (Names listing) = false
 is_done (Refused refusal) = false
 
@@ -44,6 +45,10 @@ abbrev pub IsWritten : List ℕ → Type 0
 IsWritten bytes =
     (1 ≤ length bytes) × (length bytes ≤ write_limit) × AllByRecursion (λ b. b < 256) bytes
 
+-- a mode: twelve bits
+abbrev pub IsMode : ℕ → Type 0
+IsMode mode = mode ≤ mode_limit
+
 -- a name, where one is given
 abbrev pub IsAfter : Option (List ℕ) → Type 0
 IsAfter None = ⊤
@@ -58,6 +63,7 @@ IsCommand (Truncate path len) = IsShortPath path × (len < 2 ^ 32)
 IsCommand (Remove path) = IsShortPath path
 IsCommand (Rename a b) = IsShortPath a × IsShortPath b
 IsCommand (Clone a b) = IsShortPath a × IsShortPath b
+IsCommand (Chmod path mode) = IsShortPath path × IsMode mode
 IsCommand (Read path off len) = IsShortPath path × (off < 2 ^ 32) × (len ≤ read_limit)
 IsCommand (Stat path) = IsShortPath path
 IsCommand (Ls path after) = IsShortPath path × IsAfter after
@@ -66,7 +72,7 @@ IsCommand (Ls path after) = IsShortPath path × IsAfter after
 abbrev pub IsReply : Reply → Type 0
 IsReply Done = ⊤
 IsReply (Bytes bytes) = length bytes ≤ read_limit
-IsReply Dir = ⊤
-IsReply (File len) = ⊤
+IsReply (Dir mode) = ⊤
+IsReply (File len mode) = ⊤
 IsReply (Names l) = length l.names ≤ listing_limit
 IsReply (Refused r) = ⊤

@@ -1,15 +1,15 @@
 -- Log records: how writing commands are encoded.
 use Rattle.std.specs.Prelude.{◌≡◌, ℕ, ◌+◌, List, [], ◌∷◌, ◌++◌, Option, None, Some, IsTrue}
-use Rattle.std.specs.Int.{w32}
+use Rattle.std.specs.Int.{w16, w32}
 use Rattle.bd_limits.specs.Limits.{path_limit, write_limit}
 use Rattle.bd_names.specs.Names.{path_text}
 use Rattle.bd_wire.specs.Numbers.{be, FitsWidth}
 use Rattle.bd_wire.specs.Text.{text16}
 use Rattle.bd_wire.specs.Reading.{Unread, Reads}
 use Rattle.bd_wire.specs.Encoding.{BeginsNone, FitsBoth, encode_both}
-use Rattle.bd_command.specs.Command.{writes, IsShortPath, IsWritten, IsCommand}
+use Rattle.bd_command.specs.Command.{writes, IsShortPath, IsWritten, IsMode, IsCommand}
 use Rattle.bd_command.specs.declared.Command.{Command}
-use Rattle.bd_command.specs.declared.Command.TheVariants.{Mkdir, Create, Write, Truncate, Remove, Rename, Clone, Read, Stat, List as Ls}
+use Rattle.bd_command.specs.declared.Command.TheVariants.{Mkdir, Create, Write, Truncate, Remove, Rename, Clone, Chmod, Read, Stat, List as Ls}
 
 -- the commands that have a log record: the writing ones, with fields within their limits
 abbrev pub IsLogged : Command → Type 0
@@ -28,6 +28,7 @@ command_bytes (Truncate path len) = 4 ∷ path16 path ++ be w32 len
 command_bytes (Remove path) = 5 ∷ path16 path
 command_bytes (Rename a b) = 6 ∷ path16 a ++ path16 b
 command_bytes (Clone a b) = 7 ∷ path16 a ++ path16 b
+command_bytes (Chmod path mode) = 8 ∷ path16 path ++ be w16 mode
 command_bytes (Read path off len) = []
 command_bytes (Stat path) = []
 command_bytes (Ls path after) = []
@@ -65,6 +66,13 @@ FitsTruncate = FitsBoth IsShortPath (FitsWidth w32)
 
 abbrev pub encode_truncate : List (List ℕ) × ℕ → List ℕ
 encode_truncate = encode_both path16 (be w32)
+
+-- a path and a mode
+abbrev pub FitsChmod : List (List ℕ) × ℕ → Type 0
+FitsChmod = FitsBoth IsShortPath IsMode
+
+abbrev pub encode_chmod : List (List ℕ) × ℕ → List ℕ
+encode_chmod = encode_both path16 (be w16)
 
 -- two paths
 abbrev pub FitsPaths : List (List ℕ) × List (List ℕ) → Type 0

@@ -29,13 +29,15 @@ pub enum Command {
     Truncate { path: Path, len: u32 },
     /// Removes a file, or a directory with all below it.
     Remove { path: Path },
-    /// Moves a file, or a directory with all below it.
+    /// Moves a file, also over another one, or a directory with all below it.
     Rename { a: Path, b: Path },
     /// Copies a file, or a directory with all below it.
     Clone { a: Path, b: Path },
+    /// Sets the mode of a file or a directory, at most 4,095; nothing else changes.
+    Chmod { path: Path, mode: u16 },
     /// Reads at most so many bytes of a file from an offset on.
     Read { path: Path, off: u32, len: u32 },
-    /// Says whether a path is a directory or a file, and how long a file is.
+    /// Says whether a path is a directory or a file, its mode, and how long a file is.
     Stat { path: Path },
     /// Lists the names in a directory, those greater than `after` alone where it is there.
     List { path: Path, after: Option<Name> },
@@ -55,7 +57,8 @@ impl Command {
             | Command::Truncate { .. }
             | Command::Remove { .. }
             | Command::Rename { .. }
-            | Command::Clone { .. } => true,
+            | Command::Clone { .. }
+            | Command::Chmod { .. } => true,
             Command::Read { .. } | Command::Stat { .. } | Command::List { .. } => false,
         }
     }

@@ -1,19 +1,20 @@
 //! Log records: the writing commands as bytes.
 
 ghost use Rattle.std.specs.Prelude.{◌≡◌, ◌≤◌, ◌↔◌, ◌∷◌, length, IfOk, OnErr, MatchOption, IsTrue};
-ghost use Rattle.std.specs.Int.{w32};
+ghost use Rattle.std.specs.Int.{w16, w32};
 ghost use Rattle.std.specs.Option.{option_map};
 ghost use Rattle.bd_names.specs.Names.{path_text};
+ghost use Rattle.bd_wire.specs.Numbers.{be};
 ghost use Rattle.bd_wire.specs.Text.{text16};
 ghost use Rattle.bd_wire.specs.Reading.{Reads};
 ghost use Rattle.bd_wire.specs.Encoding.{BeginsNone};
 ghost use Rattle.bd_wire.specs.Writing.{Puts, room};
-ghost use Rattle.bd_command.specs.Command.{IsShortPath, IsWritten};
-ghost use Rattle.bd_command.specs.Log.{IsLogged, path16, command_bytes, log_record, IsLogReadAs, IsCommandOf, FitsWrite, FitsTruncate, FitsPaths, encode_write, encode_truncate, encode_paths};
+ghost use Rattle.bd_command.specs.Command.{IsShortPath, IsWritten, IsMode};
+ghost use Rattle.bd_command.specs.Log.{IsLogged, path16, command_bytes, log_record, IsLogReadAs, IsCommandOf, FitsWrite, FitsTruncate, FitsPaths, FitsChmod, encode_write, encode_truncate, encode_paths, encode_chmod};
 
 use crate::Command;
 use bd_keys::Bytes;
-use bd_limits::{MAX_PATH, MAX_WRITE};
+use bd_limits::{MAX_MODE, MAX_PATH, MAX_WRITE};
 use bd_names::{Path, PathFault};
 use bd_wire::{Cursor, Out};
 use std::alloc::{AllocError, Global};
@@ -36,6 +37,8 @@ const RENAME: u8 = 6;
 
 const CLONE: u8 = 7;
 
+const CHMOD: u8 = 8;
+
 impl Command {
     /// How many bytes its log record has, at most 2,571.
     #[tactic(auto, using(bd_wire::proofs::WritingLemmas::writing))]
@@ -52,6 +55,7 @@ impl Command {
             Command::Rename { a, b } | Command::Clone { a, b } => {
                 7 + a.as_bytes().len() + b.as_bytes().len()
             }
+            Command::Chmod { path, .. } => 7 + path.as_bytes().len(),
             Command::Read { .. } | Command::Stat { .. } | Command::List { .. } => 2,
         }
     }
@@ -94,6 +98,10 @@ impl Command {
             Command::Clone { a, b } => {
                 put_path(out, CLONE, a);
                 out.put_text16(b.as_bytes());
+            }
+            Command::Chmod { path, mode } => {
+                put_path(out, CHMOD, path);
+                out.put_u16(*mode);
             }
             Command::Read { .. } | Command::Stat { .. } | Command::List { .. } => {}
         }
@@ -178,6 +186,10 @@ fn command(alloc: Global, ahead: &mut Cursor) -> Result<Option<Command>, AllocEr
             Some((a, b)) => Ok(Some(Command::Clone { a, b })),
             None => Ok(None),
         },
+        CHMOD => match chmod(alloc, ahead)? {
+            Some((path, mode)) => Ok(Some(Command::Chmod { path, mode })),
+            None => Ok(None),
+        },
         _ => Ok(None),
     }
 }
@@ -226,6 +238,33 @@ fn truncate(alloc: Global, ahead: &mut Cursor) -> Result<Option<(Path, u32)>, Al
         return Ok(None);
     };
     Ok(Some((path, len)))
+}
+
+// Reads a path and a mode.
+fn chmod(alloc: Global, ahead: &mut Cursor) -> Result<Option<(Path, u16)>, AllocError>
+    ensures { IfOk result (λ found. MatchOption found
+        (BeginsNone FitsChmod encode_chmod ahead.old.left)
+        (λ v. FitsChmod v × Reads ahead.old ahead.new (encode_chmod v))) }
+{
+    let Some(path) = path(alloc, ahead)? else {
+        return Ok(None);
+    };
+    let Some(mode) = mode(ahead) else {
+        return Ok(None);
+    };
+    Ok(Some((path, mode)))
+}
+
+// Reads a mode.
+fn mode(ahead: &mut Cursor) -> Option<u16>
+    ensures { MatchOption result
+        (BeginsNone IsMode (be w16) ahead.old.left)
+        (λ mode. IsMode mode × Reads ahead.old ahead.new (be w16 mode)) }
+{
+    match ahead.u16() {
+        Ok(mode) if mode <= MAX_MODE => Some(mode),
+        _ => None,
+    }
 }
 
 // Reads a path, an offset and what is written there.

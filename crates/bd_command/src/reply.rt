@@ -37,10 +37,10 @@ pub enum Reply {
     Done,
     /// What was read.
     Bytes(Chunk),
-    /// It is a directory.
-    Dir,
-    /// It is a file of so many bytes.
-    File(u32),
+    /// It is a directory of this mode.
+    Dir(u16),
+    /// It is a file of so many bytes, and of this mode.
+    File(u32, u16),
     /// What was listed.
     Names(Listing),
     /// The command was refused.

@@ -13,8 +13,8 @@ use Rattle.bd_keys.specs.Keys.{IsKey, IsBelow, IsAtLeast, key_cmp}
 use Rattle.bd_names.specs.Names.{is_name, is_name_byte, AreNames, key_of}
 use Rattle.bd_names.proofs.NamesLaws.{AreNames-parts, AreNames-cons, is_name-zero, key_of-cons}
 use Rattle.bd_command.specs.declared.reply.Listed.{Listed}
-use Rattle.bd_model.specs.Tree.{Entry, Tree, IsTree}
-use Rattle.bd_model.specs.Step.{file_bytes, children, those_after, is_directory}
+use Rattle.bd_model.specs.Tree.{Entry, is_directory, has_directory, Tree, IsTree}
+use Rattle.bd_model.specs.Step.{file_bytes, children, those_after}
 use Rattle.bd_model.proofs.Listing.{names_each, names_only, names_rise}
 use Rattle.bd_message.specs.KeyMaps.{At, SameAt, IsFound, IsNext}
 use Rattle.bd_represent.specs.EntryKeys.{record_key, block_key, IsEntryKey}
@@ -45,12 +45,16 @@ has_file (Some e) b i h k = refl
 has_file None None i h k = h
 has_file None (Some block) i h k = absurd (omega (arith, k.0, k.1))
 
+directory_some : (o : Option Entry) → has_directory o ≡ true → IsSome o
+directory_some None h = h
+directory_some (Some e) h = refl
+
 -- what stands above an entry is there
 above : (t : Tree) → IsTree t → (p below : List (List ℕ)) → IsSome (get t (p ++ below)) → IsSome (get t p)
 above t tree p [] h = subst (λ (q : List (List ℕ)). IsSome (get t q)) (append-nil p) h
 above t tree p (n ∷ below) h =
     let up = above t tree (p ++ n ∷ []) below (subst (λ (q : List (List ℕ)). IsSome (get t q)) (sym (append_assoc p (n ∷ []) below)) h) in
-    subst IsSome (sym (tree.parents p n up)) refl
+    directory_some (get t p) (tree.parents p n up)
 
 -- an entry's key is of a path of the tree
 of_path : (at : At) (t : Tree) (k : List ℕ) → Represents at t → IsKey k → IsSome (at k) → (q : List (List ℕ)) × (x : List ℕ) × AreNames q × (k ≡ key_of q ++ 0 ∷ x) × IsSome (get t q)

@@ -203,11 +203,11 @@ add_rest result room less after ls l name rises first named e =
     (λ b made. made ∙ ap (λ (n : List ℕ). nat_lt less (length (those_after (Some n) ls))) named ∙ sym (take-more less after ls l rises first).1 ∙ ap (λ (n : ℕ). nat_lt n (length (those_after after ls))) e)
 
 -- the reply to a listing of a directory
-pub list_reply : (t : Tree) (path : List (List ℕ)) (after : Option (List ℕ)) (found : Option Record) (listing : Listing) → found ≡ option_map record_of (get t path) → found ≡ Some Dir
+pub list_reply : (t : Tree) (path : List (List ℕ)) (after : Option (List ℕ)) (mode : ℕ) (found : Option Record) (listing : Listing) → found ≡ option_map record_of (get t path) → found ≡ Some (Dir mode)
     → listing ≡ listing_of (those_after after (children path t)) → Names listing ≡ (step t (Ls path after)).1
-list_reply t path after found listing e f is = by (get t path) refl e
+list_reply t path after mode found listing e f is = by (get t path) refl e
   where
     by : (o : Option Entry) → get t path ≡ o → found ≡ option_map record_of o → Names listing ≡ (step t (Ls path after)).1
     by None at g = cc
-    by (Some (FileWith bytes)) at g = cc
-    by (Some Directory) at g = ap Names is ∙ sym (ap (λ (o : Option Entry). (stepped t (Ls path after) (directory_refusal o)).1) at)
+    by (Some (FileWith m bytes)) at g = cc
+    by (Some (Directory m)) at g = ap Names is ∙ sym (ap (λ (o : Option Entry). (stepped t (Ls path after) (directory_refusal o)).1) at)

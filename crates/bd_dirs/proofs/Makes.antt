@@ -9,9 +9,9 @@ use Rattle.bd_names.specs.Names.{AreNames, key_of, is_under, rest_below}
 use Rattle.bd_names.proofs.NamesLaws.{rest_below-some, is_under-append, key_of-front}
 use Rattle.bd_command.specs.declared.refusal.Refusal.{Refusal}
 use Rattle.bd_command.specs.declared.Command.TheVariants.{Rename, Clone}
-use Rattle.bd_model.specs.Tree.{Entry, Tree, IsTree}
-use Rattle.bd_model.specs.Step.{file_bytes, refusal_of, cloned, renamed, without, new_refusal, root_refusal}
-use Rattle.bd_model.proofs.Accepted.{can_make}
+use Rattle.bd_model.specs.Tree.{Entry, Directory, FileWith, Tree, IsTree}
+use Rattle.bd_model.specs.Step.{file_bytes, with_mode, refusal_of, cloned, renamed, without, new_refusal, root_refusal}
+use Rattle.bd_model.proofs.Accepted.{absent_if_made}
 use Rattle.bd_model.proofs.TreeLaws.{CanMove, can_clone, can_rename, rename_outside, get-cloned-at, get-cloned-other, get-renamed-at, get-renamed-other, get-renamed-gone, apart_from_new}
 use Rattle.bd_records.specs.declared.Record.{Record}
 use Rattle.bd_records.specs.Records.{record_bytes}
@@ -32,15 +32,33 @@ use Rattle.bd_message.proofs.Prefixes.{is_cut-all}
 
 -- ---- a new entry
 
+-- a record that is put, where the bytes are those of its entry
+makes_record : (at : At) (t : Tree) (path : List (List ℕ)) (r : Record) (list : List Message) → AreNames path → Represents at t → list ≡ Put (record_key path) (record_bytes r) ∷ []
+    → (e : Entry) → record_of e ≡ r → HasBytes at path (file_bytes (Some e)) → Makes at list (insert t path e)
+makes_record at t path r list names rep is e same has new applied =
+    let value = record_bytes r in
+    let mid : At = put_at path value at in
+    let bytes : HasBytes mid path (file_bytes (Some e)) = HasBytes-along at mid path (file_bytes (Some e)) (λ i hi. put_blocks path value at i names) has in
+    Represents-along mid new (insert t path e) (subst (λ (ms : List Message). (k : List ℕ) → IsKey k → new k ≡ acts no_nodes ms k (at k)) is applied)
+    (Represents-insert at mid t path e rep (put_beside path value at names) (put-here (record_key path) value (at (record_key path)) ∙ ap (λ (x : Record). Some (record_bytes x)) (sym same)) bytes (put_only path value at names rep.only))
+
 pub makes_entry : (at : At) (t : Tree) (path : List (List ℕ)) (r : Record) (list : List Message) → AreNames path → Represents at t → new_refusal t path ≡ None → list ≡ Put (record_key path) (record_bytes r) ∷ []
     → (e : Entry) → record_of e ≡ r → file_bytes (Some e) ≡ [] → Makes at list (insert t path e)
 makes_entry at t path r list names rep free is e same empty new applied =
-    let value = record_bytes r in
-    let mid : At = put_at path value at in
-    let none : HasBytes at path [] = subst (λ (o : Option Entry). HasBytes at path (file_bytes o)) (can_make t path free).absent (rep.files path names) in
-    let bytes : HasBytes mid path (file_bytes (Some e)) = subst (λ (file : List ℕ). HasBytes mid path file) (sym empty) (HasBytes-along at mid path [] (λ i hi. put_blocks path value at i names) none) in
-    Represents-along mid new (insert t path e) (subst (λ (ms : List Message). (k : List ℕ) → IsKey k → new k ≡ acts no_nodes ms k (at k)) is applied)
-    (Represents-insert at mid t path e rep (put_beside path value at names) (put-here (record_key path) value (at (record_key path)) ∙ ap (λ (x : Record). Some (record_bytes x)) (sym same)) bytes (put_only path value at names rep.only))
+    let none : HasBytes at path [] = subst (λ (o : Option Entry). HasBytes at path (file_bytes o)) (absent_if_made t path free) (rep.files path names) in
+    makes_record at t path r list names rep is e same (subst (λ (file : List ℕ). HasBytes at path file) (sym empty) none) new applied
+
+-- what a record with another mode makes
+pub makes_chmod : (at : At) (t : Tree) (path : List (List ℕ)) (mode : ℕ) (r : Record) (list : List Message) (e : Entry) → AreNames path → Represents at t → get t path ≡ Some e → record_of (with_mode mode (Some e)) ≡ r → list ≡ Put (record_key path) (record_bytes r) ∷ []
+    → Makes at list (insert t path (with_mode mode (get t path)))
+makes_chmod at t path mode r list e names rep there same is =
+    let has : HasBytes at path (file_bytes (Some e)) = subst (λ (o : Option Entry). HasBytes at path (file_bytes o)) there (rep.files path names) in
+    subst (λ (o : Option Entry). Makes at list (insert t path (with_mode mode o))) (sym there)
+    (makes_record at t path r list names rep is (with_mode mode (Some e)) same (subst (λ (file : List ℕ). HasBytes at path file) (bytes e) has))
+  where
+    bytes : (x : Entry) → file_bytes (Some x) ≡ file_bytes (Some (with_mode mode (Some x)))
+    bytes (Directory m) = refl
+    bytes (FileWith m file) = refl
 
 -- ---- a subtree that goes
 

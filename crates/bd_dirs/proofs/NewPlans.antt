@@ -13,14 +13,14 @@ use Rattle.bd_dirs.specs.declared.plan.Plan.{Plan}
 use Rattle.bd_dirs.specs.declared.plan.Plan.TheVariants.{Refused, Apply, Graft}
 use Rattle.bd_dirs.specs.Plans.{IsPlan, IsNewPlan}
 
-pub mkdir_plan : (at : At) (t : Tree) (path : List (List ℕ)) (plan : Plan) → IsNewPlan at t path Dir plan → IsPlan at t (Mkdir path) plan
+pub mkdir_plan : (at : At) (t : Tree) (path : List (List ℕ)) (plan : Plan) → IsNewPlan at t path (Dir 0) plan → IsPlan at t (Mkdir path) plan
 mkdir_plan at t path (Refused refusal) h = h
-mkdir_plan at t path (Apply list) h = (h.0, h.1 Directory refl refl, ap Batch (sym h.2))
+mkdir_plan at t path (Apply list) h = (h.0, h.1 (Directory 0) refl refl, ap Batch (sym h.2))
 mkdir_plan at t path (Graft s d keep) h = absurd h
 
-pub create_plan : (at : At) (t : Tree) (path : List (List ℕ)) (plan : Plan) → IsNewPlan at t path (File 0) plan → IsPlan at t (Create path) plan
+pub create_plan : (at : At) (t : Tree) (path : List (List ℕ)) (plan : Plan) → IsNewPlan at t path (File 0 0) plan → IsPlan at t (Create path) plan
 create_plan at t path (Refused refusal) h = h
-create_plan at t path (Apply list) h = (h.0, h.1 (FileWith []) refl refl, ap Batch (sym h.2))
+create_plan at t path (Apply list) h = (h.0, h.1 (FileWith 0 []) refl refl, ap Batch (sym h.2))
 create_plan at t path (Graft s d keep) h = absurd h
 
 -- what is planned for a file, which is what its command sends

@@ -3,7 +3,7 @@ use Rattle.std.specs.Prelude.{◌≡◌, ◌≤◌, Bool, false, List, ℕ, [], 
 use Rattle.bd_limits.specs.Limits.{key_limit, write_limit}
 use Rattle.bd_keys.specs.Keys.{Begins}
 use Rattle.bd_command.specs.declared.Command.{Command}
-use Rattle.bd_command.specs.declared.Command.TheVariants.{Mkdir, Create, Write, Truncate, Remove, Rename, Clone, Read, Stat, List as Ls}
+use Rattle.bd_command.specs.declared.Command.TheVariants.{Mkdir, Create, Write, Truncate, Remove, Rename, Clone, Chmod, Read, Stat, List as Ls}
 use Rattle.std.specs.FinMap.{insert}
 use Rattle.bd_model.specs.Tree.{Entry, Tree}
 use Rattle.bd_model.specs.Step.{refusal_of, changed, new_refusal, file_bytes}
@@ -25,6 +25,7 @@ HasSize (Truncate path len) = ⊤
 HasSize (Remove path) = ⊤
 HasSize (Rename a b) = ⊤
 HasSize (Clone a b) = ⊤
+HasSize (Chmod path mode) = ⊤
 HasSize (Read path off len) = ⊤
 HasSize (Stat path) = ⊤
 HasSize (Ls path after) = ⊤

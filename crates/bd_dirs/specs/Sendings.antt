@@ -3,8 +3,10 @@
 use Rattle.std.specs.Prelude.{ℕ, Bool, true, false, List, [], ◌∷◌}
 use Rattle.bd_names.specs.Names.{key_of}
 use Rattle.bd_command.specs.declared.Command.{Command}
-use Rattle.bd_command.specs.declared.Command.TheVariants.{Mkdir, Create, Write, Truncate, Remove, Rename, Clone, Read, Stat, List as Ls}
+use Rattle.bd_command.specs.declared.Command.TheVariants.{Mkdir, Create, Write, Truncate, Remove, Rename, Clone, Chmod, Read, Stat, List as Ls}
+use Rattle.std.specs.FinMap.{get}
 use Rattle.bd_model.specs.Tree.{Tree}
+use Rattle.bd_model.specs.Step.{mode_at, with_mode}
 use Rattle.bd_records.specs.declared.Record.{Record}
 use Rattle.bd_records.specs.declared.Record.TheVariants.{Dir, File}
 use Rattle.bd_records.specs.Records.{record_bytes}
@@ -12,6 +14,7 @@ use Rattle.bd_message.specs.declared.message.Message.{Message}
 use Rattle.bd_message.specs.declared.message.Message.TheVariants.{Put, Cut}
 use Rattle.bd_message.specs.KeyMaps.{At}
 use Rattle.bd_represent.specs.EntryKeys.{record_key}
+use Rattle.bd_represent.specs.Represents.{record_of}
 use Rattle.bd_files.specs.Sends.{written, truncated}
 use Rattle.bd_files.specs.FilePlans.{size_at}
 
@@ -28,13 +31,16 @@ made path r = Put (record_key path) (record_bytes r) ∷ []
 
 -- what the command sends to a map that has this and represents the tree
 abbrev pub sending : At → Tree → Command → Sending
-sending at t (Mkdir path) = Batch (made path Dir)
-sending at t (Create path) = Batch (made path (File 0))
-sending at t (Write path off bytes) = Batch (written path (size_at t path) off bytes)
-sending at t (Truncate path len) = Batch (truncated at path (size_at t path) len)
+sending at t (Mkdir path) = Batch (made path (Dir 0))
+sending at t (Create path) = Batch (made path (File 0 0))
+sending at t (Write path off bytes) =
+    Batch (written path (mode_at (get t path)) (size_at t path) off bytes)
+sending at t (Truncate path len) =
+    Batch (truncated at path (mode_at (get t path)) (size_at t path) len)
 sending at t (Remove path) = Batch (Cut (key_of path) [] ∷ [])
 sending at t (Rename a b) = Move (key_of a) (key_of b) false
 sending at t (Clone a b) = Move (key_of a) (key_of b) true
+sending at t (Chmod path mode) = Batch (made path (record_of (with_mode mode (get t path))))
 sending at t (Read path off len) = Nothing
 sending at t (Stat path) = Nothing
 sending at t (Ls path after) = Nothing

@@ -1,18 +1,19 @@
 //! What each change of a directory sends.
 
-ghost use Rattle.std.specs.Prelude.{◌≡◌, IfOk, OnOk, true, false};
+ghost use Rattle.std.specs.Prelude.{◌≡◌, IfOk, OnOk, Some, true, false};
 ghost use Rattle.bd_names.specs.Names.{key_of};
 ghost use Rattle.bd_command.specs.declared.Command.TheVariants as command;
-ghost use Rattle.bd_model.specs.Tree.{Tree, IsTree};
+ghost use Rattle.bd_model.specs.Tree.{Entry, Tree, IsTree};
+ghost use Rattle.bd_model.specs.Step.{with_mode};
 ghost use Rattle.bd_message.specs.KeyMaps.{HasMapCause, NeverWorn};
 ghost use Rattle.bd_message.specs.Reads.{IsLeft};
-ghost use Rattle.bd_represent.specs.Represents.{Represents};
+ghost use Rattle.bd_represent.specs.Represents.{record_of, Represents};
 ghost use Rattle.bd_dirs.specs.Plans.{IsPlan, IsNewPlan, IsReady, SendsMessages, IsGraftPlan};
 
-use crate::lookups::{absent, unmakeable};
+use crate::lookups::{absent, unmakeable, untakeable};
 use crate::plan::Plan;
 use bd_command::Refusal;
-use bd_files::put_record;
+use bd_files::{put_record, record};
 use bd_keys::Bytes;
 use bd_message::{KeyMap, MapFault, Message, Messages};
 use bd_names::Path;
@@ -29,7 +30,7 @@ pub fn mkdir<M: KeyMap>(alloc: Global, m: &mut M, path: &Path) -> Result<Plan, M
     ensures cause { HasMapCause (M.fault_count m.old) (M.fault_count m.new)
         (M.bad m.new) NeverWorn result }
 {
-    make(alloc, m, path, Record::Dir)
+    make(alloc, m, path, Record::Dir(0))
 }
 
 /// What a `create` sends.
@@ -42,7 +43,7 @@ pub fn create<M: KeyMap>(alloc: Global, m: &mut M, path: &Path) -> Result<Plan, 
     ensures cause { HasMapCause (M.fault_count m.old) (M.fault_count m.new)
         (M.bad m.new) NeverWorn result }
 {
-    make(alloc, m, path, Record::File(0))
+    make(alloc, m, path, Record::File(0, 0))
 }
 
 /// What making an entry sends: its record.
@@ -61,6 +62,34 @@ fn make<M: KeyMap>(alloc: Global, m: &mut M, path: &Path, entry: Record) -> Resu
     let mut list = Vec::new(alloc);
     list.push(put_record(alloc, path, entry)?)?;
     Ok(Plan::Apply(Messages::from_vec(list)))
+}
+
+/// What a `chmod` sends: the record with the mode.
+pub fn chmod<M: KeyMap>(alloc: Global, m: &mut M, path: &Path, mode: u16) -> Result<Plan, MapFault>
+    ensures plan { M.is_known m.old → (t : Tree) → IsTree t → Represents (M.has m.old) t
+        → IfOk result (IsPlan (M.has m.old) t (command.Chmod path.now mode)) }
+    ensures kind { IfOk result SendsMessages }
+    ensures ready { IfOk result IsReady }
+    ensures left { IsLeft M.KeyMap m.old m.new }
+    ensures cause { HasMapCause (M.fault_count m.old) (M.fault_count m.new)
+        (M.bad m.new) NeverWorn result }
+{
+    let Some(found) = record(alloc, m, path)? else {
+        return Ok(Plan::Refused(Refusal::NotFound));
+    };
+    let mut list = Vec::new(alloc);
+    list.push(put_record(alloc, path, with_mode(found, mode))?)?;
+    Ok(Plan::Apply(Messages::from_vec(list)))
+}
+
+/// A record with another mode.
+fn with_mode(found: Record, mode: u16) -> Record
+    ensures { (e : Entry) → record_of e ≡ found → record_of (with_mode mode (Some e)) ≡ result }
+{
+    match found {
+        Record::Dir(_) => Record::Dir(mode),
+        Record::File(len, _) => Record::File(len, mode),
+    }
 }
 
 /// What a `remove` sends: a cut of all keys of the subtree.
@@ -110,7 +139,8 @@ pub fn clone_to<M: KeyMap>(alloc: Global, m: &mut M, a: &Path, b: &Path) -> Resu
     })
 }
 
-/// What a `rename` asks for: a graft that leaves nothing at its source.
+/// What a `rename` asks for: a graft that leaves nothing at its source, and nothing of a file in
+/// whose place it puts another.
 pub fn rename<M: KeyMap>(alloc: Global, m: &mut M, a: &Path, b: &Path) -> Result<Plan, MapFault>
     ensures plan { M.is_known m.old → (t : Tree) → IsTree t → Represents (M.has m.old) t
         → IfOk result (IsPlan (M.has m.old) t (command.Rename a.now b.now)) }
@@ -129,7 +159,7 @@ pub fn rename<M: KeyMap>(alloc: Global, m: &mut M, a: &Path, b: &Path) -> Result
     if b.is_under(a) {
         return Ok(Plan::Refused(Refusal::Inside));
     }
-    if let Some(refusal) = unmakeable(alloc, m, b)? {
+    if let Some(refusal) = untakeable(alloc, m, a, b)? {
         return Ok(Plan::Refused(refusal));
     }
     Ok(Plan::Graft {

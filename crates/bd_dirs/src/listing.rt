@@ -9,8 +9,8 @@ ghost use Rattle.bd_names.specs.Names.{is_name, is_name_byte, AreNames, key_of};
 ghost use Rattle.bd_command.specs.Command.{IsReply};
 ghost use Rattle.bd_command.specs.declared.Command.TheVariants as command;
 ghost use Rattle.bd_command.specs.declared.reply.Listed.{Listed};
-ghost use Rattle.bd_model.specs.Tree.{Entry, Tree, IsTree};
-ghost use Rattle.bd_model.specs.Step.{step, children, those_after, listing_of, is_directory};
+ghost use Rattle.bd_model.specs.Tree.{Entry, Tree, IsTree, is_directory};
+ghost use Rattle.bd_model.specs.Step.{step, children, those_after, listing_of};
 ghost use Rattle.bd_message.specs.declared.fault.MapFault.TheVariants as fault;
 ghost use Rattle.bd_message.specs.KeyMaps.{IsNext, HasMapCause, NeverWorn};
 ghost use Rattle.bd_message.specs.Reads.{IsLeft};
@@ -44,8 +44,8 @@ pub fn list<M: KeyMap>(
 {
     match record(alloc, m, path)? {
         None => Ok(Reply::Refused(Refusal::NotFound)),
-        Some(Record::File(_)) => Ok(Reply::Refused(Refusal::NotDir)),
-        Some(Record::Dir) => Ok(Reply::Names(listing(alloc, m, path, after)?)),
+        Some(Record::File(..)) => Ok(Reply::Refused(Refusal::NotDir)),
+        Some(Record::Dir(_)) => Ok(Reply::Names(listing(alloc, m, path, after)?)),
     }
 }
 
@@ -195,8 +195,8 @@ fn listed_as(name: Name, found: Option<Record>) -> Option<Listed>
 {
     match found {
         None => None,
-        Some(Record::Dir) => Some(Listed { name, is_dir: true }),
-        Some(Record::File(_)) => Some(Listed {
+        Some(Record::Dir(_)) => Some(Listed { name, is_dir: true }),
+        Some(Record::File(..)) => Some(Listed {
             name,
             is_dir: false,
         }),

@@ -12,7 +12,7 @@ ghost use Rattle.bd_files.specs.FilePlans as files;
 ghost use Rattle.bd_dirs.specs.Sendings.{Batch, sending};
 ghost use Rattle.bd_dirs.specs.Plans.{HasSize, IsPlan, IsReady, SendsMessages, IsPlanKind};
 
-use crate::changes::{clone_to, create, mkdir, remove, rename};
+use crate::changes::{chmod, clone_to, create, mkdir, remove, rename};
 use crate::plan::Plan;
 use bd_command::Command;
 use bd_files::{FilePlan, plan_truncate, plan_write};
@@ -46,6 +46,7 @@ pub fn plan_command<M: KeyMap>(
         Command::Remove { path } => remove(alloc, m, path),
         Command::Rename { a, b } => rename(alloc, m, a, b),
         Command::Clone { a, b } => clone_to(alloc, m, a, b),
+        Command::Chmod { path, mode } => chmod(alloc, m, path, *mode),
         Command::Read { .. } | Command::Stat { .. } | Command::List { .. } => unreachable!(),
     }
 }

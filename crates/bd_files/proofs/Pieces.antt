@@ -29,9 +29,9 @@ resized_byte block len j h = by (cases_lt j (length block))
     by (inr over) = resized-zero block len j h over ∙ sym (get_or_past block j 0 over)
 
 -- a piece of a block is the piece of the file
-pub piece : (at : At) (t : Tree) (path : List (List ℕ)) (file : List ℕ) (place count : ℕ) → AreNames path → Represents at t → get t path ≡ Some (FileWith file) → place < 2 ^ 32 → place % block_limit + count ≤ block_limit → place + count ≤ length file
+pub piece : (at : At) (t : Tree) (path : List (List ℕ)) (mode : ℕ) (file : List ℕ) (place count : ℕ) → AreNames path → Represents at t → get t path ≡ Some (FileWith mode file) → place < 2 ^ 32 → place % block_limit + count ≤ block_limit → place + count ≤ length file
     → drop (place % block_limit) (resized (stored at path (place / block_limit)) (place % block_limit + count)) ≡ take count (drop place file)
-piece at t path file place count names r found small room inside =
+piece at t path mode file place count names r found small room inside =
     same_number_lists (drop start whole) (take count (drop place file)) (omega (arith, long, other)) (λ j h. byte j (omega (arith, long, h)))
   where
     start : ℕ
@@ -105,9 +105,9 @@ read_all file off len size is = by (cases_lt size (off + len))
     by (inl short) = take_all (min size (off + len) - off) (drop off file) (omega (arith, left, is, short)) ∙ sym (take_all len (drop off file) (omega (arith, left, is, short)))
     by (inr long) = ap (λ (n : ℕ). take n (drop off file)) (omega (arith, long))
 
-pub read_reply : (t : Tree) (path : List (List ℕ)) (file bytes : List ℕ) (off len size end : ℕ) → get t path ≡ Some (FileWith file) → size ≡ length file → size ≤ file_limit → end ≡ min size (min (off + len) (2 ^ 32 - 1))
+pub read_reply : (t : Tree) (path : List (List ℕ)) (mode : ℕ) (file bytes : List ℕ) (off len size end : ℕ) → get t path ≡ Some (FileWith mode file) → size ≡ length file → size ≤ file_limit → end ≡ min size (min (off + len) (2 ^ 32 - 1))
     → bytes ≡ take (end - off) (drop off file) → Bytes bytes ≡ (step t (Read path off len)).1
-read_reply t path file bytes off len size end found is limit ends got =
+read_reply t path mode file bytes off len size end found is limit ends got =
     let all : min size (min (off + len) (2 ^ 32 - 1)) ≡ min size (off + len) = omega arith in
     let whole : bytes ≡ take len (drop off file) = got ∙ ap (λ (n : ℕ). take (n - off) (drop off file)) (ends ∙ all) ∙ read_all file off len size is in
     ap Bytes (whole ∙ ap (λ (o : Option Entry). take len (drop off (file_bytes o))) (sym found)) ∙ sym (ap (λ (o : Option Entry). (stepped t (Read path off len) (file_refusal o)).1) found)

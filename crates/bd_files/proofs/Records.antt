@@ -14,8 +14,8 @@ use Rattle.bd_represent.specs.Represents.{record_of, record_value, Represents}
 
 -- the record of an entry is one
 pub IsRecord-record_of : (e : Entry) → IsEntry e → IsRecord (record_of e)
-IsRecord-record_of Directory h = tt
-IsRecord-record_of (FileWith bytes) h = h.0
+IsRecord-record_of (Directory mode) h = h
+IsRecord-record_of (FileWith mode bytes) h = (h.0, h.2)
 
 read_of : (e : Entry) (value : List ℕ) (read : Option Record) → IsEntry e → value ≡ record_value e → IsReadAs value read → read ≡ Some (record_of e)
 read_of e value None entry is none = absurd (none (record_of e) (IsRecord-record_of e entry) is)

@@ -17,7 +17,7 @@ use Rattle.bd_names.specs.Names.{AreNames, key_of}
 use Rattle.bd_command.specs.declared.refusal.Refusal.TheVariants.{TooBig}
 use Rattle.bd_command.specs.declared.Command.TheVariants.{Truncate}
 use Rattle.bd_model.specs.Tree.{Entry, FileWith, Tree}
-use Rattle.bd_model.specs.Step.{file_bytes, file_refusal, size_refusal, refusal_of, changed}
+use Rattle.bd_model.specs.Step.{file_bytes, with_bytes, mode_at, file_refusal, size_refusal, refusal_of, changed}
 use Rattle.bd_records.specs.declared.Record.TheVariants.{File}
 use Rattle.bd_records.specs.Records.{record_bytes}
 use Rattle.bd_message.specs.declared.message.Message.{Message}
@@ -37,20 +37,20 @@ use Rattle.bd_files.specs.Sends.{put_length, first_past, cut_past, shortened, tr
 use Rattle.bd_files.specs.FilePlans.{size_at}
 use Rattle.bd_files.proofs.Writes.{put_at, put_only, put_beside, put_blocks}
 
-bytes_at : (at : At) (t : Tree) (path : List (List ℕ)) (file : List ℕ) → AreNames path → Represents at t → get t path ≡ Some (FileWith file) → HasBytes at path file
-bytes_at at t path file names r found = subst (λ (o : Option Entry). HasBytes at path (file_bytes o)) found (r.files path names)
+bytes_at : (at : At) (t : Tree) (path : List (List ℕ)) (mode : ℕ) (file : List ℕ) → AreNames path → Represents at t → get t path ≡ Some (FileWith mode file) → HasBytes at path file
+bytes_at at t path mode file names r found = subst (λ (o : Option Entry). HasBytes at path (file_bytes o)) found (r.files path names)
 
 -- ---- a file that gets no shorter
 
-pub longer_makes : (path : List (List ℕ)) (len : ℕ) (at : At) (t : Tree) (file : List ℕ) → AreNames path → Represents at t → get t path ≡ Some (FileWith file) → length file ≤ len
-    → Makes at (put_length path len ∷ []) (insert t path (FileWith (resized file len)))
-longer_makes path len at t file names r found long new applied =
-    let mid : At = put_at path (record_bytes (File len)) at in
-    Represents-along mid new (insert t path (FileWith (resized file len))) applied
-    (Represents-insert at mid t path (FileWith (resized file len)) r (put_beside path (record_bytes (File len)) at names)
-    (put-here (record_key path) (record_bytes (File len)) (at (record_key path)) ∙ ap (λ (n : ℕ). Some (record_bytes (File n))) (sym (length-resized file len)))
-    (HasBytes-longer mid path file len long (HasBytes-along at mid path file (λ i hi. put_blocks path (record_bytes (File len)) at i names) (bytes_at at t path file names r found)))
-    (put_only path (record_bytes (File len)) at names r.only))
+pub longer_makes : (path : List (List ℕ)) (mode len : ℕ) (at : At) (t : Tree) (file : List ℕ) → AreNames path → Represents at t → get t path ≡ Some (FileWith mode file) → length file ≤ len
+    → Makes at (put_length path mode len ∷ []) (insert t path (FileWith mode (resized file len)))
+longer_makes path mode len at t file names r found long new applied =
+    let mid : At = put_at path (record_bytes (File len mode)) at in
+    Represents-along mid new (insert t path (FileWith mode (resized file len))) applied
+    (Represents-insert at mid t path (FileWith mode (resized file len)) r (put_beside path (record_bytes (File len mode)) at names)
+    (put-here (record_key path) (record_bytes (File len mode)) (at (record_key path)) ∙ ap (λ (n : ℕ). Some (record_bytes (File n mode))) (sym (length-resized file len)))
+    (HasBytes-longer mid path file len long (HasBytes-along at mid path file (λ i hi. put_blocks path (record_bytes (File len mode)) at i names) (bytes_at at t path mode file names r found)))
+    (put_only path (record_bytes (File len mode)) at names r.only))
 
 -- ---- the cut of the blocks past the end
 
@@ -128,9 +128,9 @@ no_left n o e = sym (ap (λ (m : ℕ). kept_block m o) e)
 
 -- ---- a file that gets shorter
 
-pub shorter_makes : (path : List (List ℕ)) (len : ℕ) (last : List ℕ) (at : At) (t : Tree) (file : List ℕ) → AreNames path → Represents at t → get t path ≡ Some (FileWith file) → len ≤ length file → len ≤ file_limit
-    → last ≡ stored at path (len / block_limit) → Makes at (put_length path len ∷ cut_past path len ∷ shortened path len last) (insert t path (FileWith (resized file len)))
-shorter_makes path len last at t file names r found short_of limit is new applied = by (cases_Bool test)
+pub shorter_makes : (path : List (List ℕ)) (mode len : ℕ) (last : List ℕ) (at : At) (t : Tree) (file : List ℕ) → AreNames path → Represents at t → get t path ≡ Some (FileWith mode file) → len ≤ length file → len ≤ file_limit
+    → last ≡ stored at path (len / block_limit) → Makes at (put_length path mode len ∷ cut_past path len ∷ shortened path len last) (insert t path (FileWith mode (resized file len)))
+shorter_makes path mode len last at t file names r found short_of limit is new applied = by (cases_Bool test)
   where
     first : ℕ
     first = first_past len
@@ -142,7 +142,7 @@ shorter_makes path len last at t file names r found short_of limit is new applie
     o = len % block_limit
 
     value : List ℕ
-    value = record_bytes (File len)
+    value = record_bytes (File len mode)
 
     test : Bool
     test = nat_lt 0 o && nat_lt o (length last)
@@ -154,7 +154,7 @@ shorter_makes path len last at t file names r found short_of limit is new applie
     hb = omega arith
 
     has : HasBytes at path file
-    has = bytes_at at t path file names r found
+    has = bytes_at at t path mode file names r found
 
     mid : At
     mid = put_at path value at
@@ -172,20 +172,20 @@ shorter_makes path len last at t file names r found short_of limit is new applie
     cut_block i hi = (λ from. cut-from path first i mid hf hi from, λ below. cut-below path first i mid hf hi below ∙ put_blocks path value at i names)
 
     finish : (final : At) → ((q : List (List ℕ)) → AreNames q → final (record_key q) ≡ cut (record_key q)) → ((q : List (List ℕ)) (i : ℕ) → AreNames q → q ≢ path → i < 2 ^ 32 → final (block_key q i) ≡ cut (block_key q i))
-        → ((i : ℕ) → i < 2 ^ 32 → final (block_key path i) ≡ kept_block (len - block_limit * i) (at (block_key path i))) → HasOnlyEntries final → Represents final (insert t path (FileWith (resized file len)))
+        → ((i : ℕ) → i < 2 ^ 32 → final (block_key path i) ≡ kept_block (len - block_limit * i) (at (block_key path i))) → HasOnlyEntries final → Represents final (insert t path (FileWith mode (resized file len)))
     finish final records blocks kept only =
-        Represents-insert at final t path (FileWith (resized file len)) r
+        Represents-insert at final t path (FileWith mode (resized file len)) r
         (record {
           records = λ q hq other. records q hq ∙ cut_record q hq ∙ (put_beside path value at names).records q hq other;
           blocks = λ q i hq other hi. blocks q i hq other hi ∙ cut_beside q i hq other ∙ (put_beside path value at names).blocks q i hq other hi;
         })
-        (records path names ∙ cut_record path names ∙ put-here (record_key path) value (at (record_key path)) ∙ ap (λ (n : ℕ). Some (record_bytes (File n))) (sym (length-resized file len)))
+        (records path names ∙ cut_record path names ∙ put-here (record_key path) value (at (record_key path)) ∙ ap (λ (n : ℕ). Some (record_bytes (File n mode))) (sym (length-resized file len)))
         (HasBytes-cut at final path file len short_of kept has) only
 
     before : (i : ℕ) → i < 2 ^ 32 → i < b → at (block_key path i) ≡ kept_block (len - block_limit * i) (at (block_key path i))
     before i hi below = kept_same (len - block_limit * i) (at (block_key path i)) (omega arith) (shape_short file i (len - block_limit * i) (at (block_key path i)) (has.blocks i hi) (omega arith))
 
-    by : (test ≡ true) ⊎ (test ≡ false) → Represents new (insert t path (FileWith (resized file len)))
+    by : (test ≡ true) ⊎ (test ≡ false) → Represents new (insert t path (FileWith mode (resized file len)))
     by (inl cuts) =
         let parts = and_parts (nat_lt 0 o) (nat_lt o (length last)) cuts in
         let some : 0 < o = ltb-true 0 o parts.0 in
@@ -193,8 +193,8 @@ shorter_makes path len last at t file names r found short_of limit is new applie
         let m : Message = Put (block_key path b) (take o last) in
         let final : At = λ k. act no_nodes m k (cut k) in
         let only : HasOnlyEntries final = λ k key is_some. block_only path b (take o last) cut k names hb (λ s. cut_only path first mid k key (put_only path value at names r.only) s) is_some in
-        Represents-along final new (insert t path (FileWith (resized file len)))
-        (λ k key. applied k key ∙ ap (λ c. after (put_length path len ∷ cut_past path len ∷ cond c (m ∷ []) []) at k) cuts)
+        Represents-along final new (insert t path (FileWith mode (resized file len)))
+        (λ k key. applied k key ∙ ap (λ c. after (put_length path mode len ∷ cut_past path len ∷ cond c (m ∷ []) []) at k) cuts)
         (finish final
         (λ q hq. put-other (block_key path b) (take o last) (record_key q) (cut (record_key q)) (λ e. record_key-block_key q path b hq names e))
         (λ q i hq other hi. put-other (block_key path b) (take o last) (block_key q i) (cut (block_key q i)) (λ e. other (block_key-injective q path i b hq names hi hb e).0))
@@ -213,8 +213,8 @@ shorter_makes path len last at t file names r found short_of limit is new applie
     by (inr stays) =
         let only : HasOnlyEntries cut = λ k key is_some. cut_only path first mid k key (put_only path value at names r.only) is_some in
         let enough : 0 < o → length last ≤ o = λ some. elim (cases_lt o (length last)) [ inl long ↦ absurd (both test (and_from (nat_lt 0 o) (nat_lt o (length last)) (lt-ltb 0 o some) (lt-ltb o (length last) long)) stays) | inr fits ↦ fits ] in
-        Represents-along cut new (insert t path (FileWith (resized file len)))
-        (λ k key. applied k key ∙ ap (λ c. after (put_length path len ∷ cut_past path len ∷ cond c (Put (block_key path b) (take o last) ∷ []) []) at k) stays)
+        Represents-along cut new (insert t path (FileWith mode (resized file len)))
+        (λ k key. applied k key ∙ ap (λ c. after (put_length path mode len ∷ cut_past path len ∷ cond c (Put (block_key path b) (take o last) ∷ []) []) at k) stays)
         (finish cut (λ q hq. refl) (λ q i hq other hi. refl)
         (λ i hi. elim (cases_lt i first) [
           | inl below ↦ (cut_block i hi).1 below ∙ elim (cases_lt i b) [
@@ -235,23 +235,23 @@ shorter_makes path len last at t file names r found short_of limit is new applie
 
 -- ---- the plan
 
-pub truncate_planned : (at : At) (t : Tree) (path : List (List ℕ)) (len : ℕ) (file : List ℕ) (items list : List Message) → get t path ≡ Some (FileWith file) → len ≤ file_limit → list ≡ items
-    → Makes at items (insert t path (FileWith (resized file len))) → items ≡ truncated at path (length file) len
-    → (refusal_of t (Truncate path len) ≡ None) × Makes at list (changed t (Truncate path len)) × (list ≡ truncated at path (size_at t path) len)
-truncate_planned at t path len file items list found fits is makes sent = (
+pub truncate_planned : (at : At) (t : Tree) (path : List (List ℕ)) (mode len : ℕ) (file : List ℕ) (items list : List Message) → get t path ≡ Some (FileWith mode file) → len ≤ file_limit → list ≡ items
+    → Makes at items (insert t path (FileWith mode (resized file len))) → items ≡ truncated at path mode (length file) len
+    → (refusal_of t (Truncate path len) ≡ None) × Makes at list (changed t (Truncate path len)) × (list ≡ truncated at path (mode_at (get t path)) (size_at t path) len)
+truncate_planned at t path mode len file items list found fits is makes sent = (
   ap (λ (o : Option Entry). option_or (file_refusal o) (size_refusal len)) found ∙ ap (λ b. cond b None (Some TooBig)) (le-leb len file_limit fits),
-  subst (λ (ms : List Message). Makes at ms (insert t path (FileWith (resized (file_bytes (get t path)) len)))) (sym is)
-      (subst (λ (o : Option Entry). Makes at items (insert t path (FileWith (resized (file_bytes o) len)))) (sym found) makes),
-  is ∙ sent ∙ ap (λ (o : Option Entry). truncated at path (length (file_bytes o)) len) (sym found),
+  subst (λ (ms : List Message). Makes at ms (insert t path (with_bytes (resized (file_bytes (get t path)) len) (get t path)))) (sym is)
+      (subst (λ (o : Option Entry). Makes at items (insert t path (with_bytes (resized (file_bytes o) len) o))) (sym found) makes),
+  is ∙ sent ∙ ap (λ (o : Option Entry). truncated at path (mode_at o) (length (file_bytes o)) len) (sym found),
 )
 
 -- a file that gets no shorter, and one that does
-pub longer_sent : (at : At) (path : List (List ℕ)) (size len : ℕ) → size ≤ len → put_length path len ∷ [] ≡ truncated at path size len
-longer_sent at path size len h =
-    sym (ap (λ (b : Bool). put_length path len ∷ cond b (cut_past path len ∷ shortened path len (stored at path (len / block_limit))) []) (le-ltb len size h))
+pub longer_sent : (at : At) (path : List (List ℕ)) (mode size len : ℕ) → size ≤ len → put_length path mode len ∷ [] ≡ truncated at path mode size len
+longer_sent at path mode size len h =
+    sym (ap (λ (b : Bool). put_length path mode len ∷ cond b (cut_past path len ∷ shortened path len (stored at path (len / block_limit))) []) (le-ltb len size h))
 
-pub shorter_sent : (at : At) (path : List (List ℕ)) (size len : ℕ) (last : List ℕ) → len < size → last ≡ stored at path (len / block_limit)
-    → put_length path len ∷ cut_past path len ∷ shortened path len last ≡ truncated at path size len
-shorter_sent at path size len last h is =
-    ap (λ (x : List ℕ). put_length path len ∷ cut_past path len ∷ shortened path len x) is
-    ∙ sym (ap (λ (b : Bool). put_length path len ∷ cond b (cut_past path len ∷ shortened path len (stored at path (len / block_limit))) []) (lt-ltb len size h))
+pub shorter_sent : (at : At) (path : List (List ℕ)) (mode size len : ℕ) (last : List ℕ) → len < size → last ≡ stored at path (len / block_limit)
+    → put_length path mode len ∷ cut_past path len ∷ shortened path len last ≡ truncated at path mode size len
+shorter_sent at path mode size len last h is =
+    ap (λ (x : List ℕ). put_length path mode len ∷ cut_past path len ∷ shortened path len x) is
+    ∙ sym (ap (λ (b : Bool). put_length path mode len ∷ cond b (cut_past path len ∷ shortened path len (stored at path (len / block_limit))) []) (lt-ltb len size h))

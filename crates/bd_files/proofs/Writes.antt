@@ -8,7 +8,7 @@ use Rattle.bd_keys.specs.Edits.{resized, overwritten}
 use Rattle.bd_keys.proofs.EditLemmas.{length-resized, length-overwritten}
 use Rattle.bd_names.specs.Names.{AreNames}
 use Rattle.bd_model.specs.Tree.{Entry, FileWith, Tree}
-use Rattle.bd_model.specs.Step.{file_bytes, file_refusal, size_refusal, refusal_of, changed}
+use Rattle.bd_model.specs.Step.{file_bytes, with_bytes, mode_at, file_refusal, size_refusal, refusal_of, changed}
 use Rattle.bd_command.specs.declared.refusal.Refusal.TheVariants.{TooBig}
 use Rattle.bd_command.specs.declared.Command.TheVariants.{Write}
 use Rattle.bd_limits.specs.Limits.{file_limit}
@@ -66,23 +66,23 @@ overwritten_longer file long off bytes n h = by (cases_lt n off) (cases_lt n (of
 -- ---- the tree
 
 -- a map whose record is the new one, and whose file has room, has the bytes after the messages
-overwrites : (path : List (List ℕ)) (off end : ℕ) (bytes file long : List ℕ) (list : List Message) (at mid : At) (t : Tree) → AreNames path → Represents at t → IsSameBeside path at mid → HasOnlyEntries mid
-    → mid (record_key path) ≡ Some (record_bytes (File end)) → HasBytes mid path long → off + length bytes ≤ length long
+overwrites : (path : List (List ℕ)) (mode off end : ℕ) (bytes file long : List ℕ) (list : List Message) (at mid : At) (t : Tree) → AreNames path → Represents at t → IsSameBeside path at mid → HasOnlyEntries mid
+    → mid (record_key path) ≡ Some (record_bytes (File end mode)) → HasBytes mid path long → off + length bytes ≤ length long
     → length (overwritten file off bytes) ≡ end → length (overwritten file off bytes) ≡ length (overwritten long off bytes) → ((n : ℕ) → slice_index (overwritten file off bytes) n ≡ slice_index (overwritten long off bytes) n)
-    → IsOverwriting path off bytes list → Represents (after list mid) (insert t path (FileWith (overwritten file off bytes)))
-overwrites path off end bytes file long list at mid t names r same only here has fits ends lengths each writes =
-    Represents-insert at (after list mid) t path (FileWith (overwritten file off bytes)) r
+    → IsOverwriting path off bytes list → Represents (after list mid) (insert t path (FileWith mode (overwritten file off bytes)))
+overwrites path mode off end bytes file long list at mid t names r same only here has fits ends lengths each writes =
+    Represents-insert at (after list mid) t path (FileWith mode (overwritten file off bytes)) r
     (record {
       records = λ q hq other. writes.beside mid (record_key q) (λ i hi e. record_key-block_key q path i hq names e) ∙ same.records q hq other;
       blocks = λ q i hq other hi. writes.beside mid (block_key q i) (λ j hj e. other (block_key-injective q path i j hq names hi hj e).0) ∙ same.blocks q i hq other hi;
     })
-    (writes.beside mid (record_key path) (λ i hi e. record_key-block_key path path i names names e) ∙ here ∙ ap (λ (n : ℕ). Some (record_bytes (File n))) (sym ends))
+    (writes.beside mid (record_key path) (λ i hi e. record_key-block_key path path i names names e) ∙ here ∙ ap (λ (n : ℕ). Some (record_bytes (File n mode))) (sym ends))
     (HasBytes-same (after list mid) path (overwritten long off bytes) (overwritten file off bytes) lengths each (writes.file mid long fits has))
     (writes.only mid only)
 
-pub write_makes : (path : List (List ℕ)) (off len end : ℕ) (bytes : List ℕ) (list patches : List Message) → AreNames path → end ≡ off + length bytes → list ≡ growth path len end ++ patches → IsOverwriting path off bytes patches
-    → (at : At) (t : Tree) (file : List ℕ) → Represents at t → get t path ≡ Some (FileWith file) → len ≡ length file → Makes at list (insert t path (FileWith (overwritten file off bytes)))
-write_makes path off len end bytes list patches names ends is writes at t file r found long new applied = by (cases_Bool (nat_lt len end))
+pub write_makes : (path : List (List ℕ)) (mode off len end : ℕ) (bytes : List ℕ) (list patches : List Message) → AreNames path → end ≡ off + length bytes → list ≡ growth path mode len end ++ patches → IsOverwriting path off bytes patches
+    → (at : At) (t : Tree) (file : List ℕ) → Represents at t → get t path ≡ Some (FileWith mode file) → len ≡ length file → Makes at list (insert t path (FileWith mode (overwritten file off bytes)))
+write_makes path mode off len end bytes list patches names ends is writes at t file r found long new applied = by (cases_Bool (nat_lt len end))
   where
     bytes_at : HasBytes at path file
     bytes_at = subst (λ (o : Option Entry). HasBytes at path (file_bytes o)) found (r.files path names)
@@ -90,36 +90,37 @@ write_makes path off len end bytes list patches names ends is writes at t file r
     all : length (overwritten file off bytes) ≡ max (length file) (off + length bytes)
     all = length-overwritten file off bytes
 
-    by : (nat_lt len end ≡ true) ⊎ (nat_lt len end ≡ false) → Represents new (insert t path (FileWith (overwritten file off bytes)))
+    by : (nat_lt len end ≡ true) ⊎ (nat_lt len end ≡ false) → Represents new (insert t path (FileWith mode (overwritten file off bytes)))
     by (inl grows) =
         let under : len < end = ltb-true len end grows in
-        let mid : At = put_at path (record_bytes (File end)) at in
-        let list_is : list ≡ (put_length path end ∷ []) ++ patches = is ∙ ap (λ b. cond b (put_length path end ∷ []) [] ++ patches) grows in
-        let made = overwrites path off end bytes file (resized file end) patches at mid t names r (put_beside path (record_bytes (File end)) at names) (put_only path (record_bytes (File end)) at names r.only)
-        (put-here (record_key path) (record_bytes (File end)) (at (record_key path)))
-        (HasBytes-longer mid path file end (omega (arith, long, under)) (HasBytes-along at mid path file (λ i hi. put_blocks path (record_bytes (File end)) at i names) bytes_at))
+        let mid : At = put_at path (record_bytes (File end mode)) at in
+        let list_is : list ≡ (put_length path mode end ∷ []) ++ patches = is ∙ ap (λ b. cond b (put_length path mode end ∷ []) [] ++ patches) grows in
+        let made = overwrites path mode off end bytes file (resized file end) patches at mid t names r (put_beside path (record_bytes (File end mode)) at names) (put_only path (record_bytes (File end mode)) at names r.only)
+        (put-here (record_key path) (record_bytes (File end mode)) (at (record_key path)))
+        (HasBytes-longer mid path file end (omega (arith, long, under)) (HasBytes-along at mid path file (λ i hi. put_blocks path (record_bytes (File end mode)) at i names) bytes_at))
         (omega (arith, ends, length-resized file end)) (omega (arith, all, ends, long, under))
         (omega (arith, all, ends, long, under, length-overwritten (resized file end) off bytes, length-resized file end))
         (λ n. overwritten_longer file end off bytes n (omega (arith, long, under))) writes in
-        Represents-along (after patches mid) new (insert t path (FileWith (overwritten file off bytes)))
-        (λ k key. applied k key ∙ ap (λ (ms : List Message). after ms at k) list_is ∙ acts-append (put_length path end ∷ []) patches k (at k)) made
+        Represents-along (after patches mid) new (insert t path (FileWith mode (overwritten file off bytes)))
+        (λ k key. applied k key ∙ ap (λ (ms : List Message). after ms at k) list_is ∙ acts-append (put_length path mode end ∷ []) patches k (at k)) made
     by (inr stays) =
         let over : end ≤ len = ltb-false len end stays in
-        let list_is : list ≡ patches = is ∙ ap (λ b. cond b (put_length path end ∷ []) [] ++ patches) stays in
-        let record_at : at (record_key path) ≡ Some (record_bytes (File (length file))) = r.records path names ∙ ap (option_map record_value) found in
-        let made = overwrites path off len bytes file file patches at at t names r (record { records = λ q hq other. refl; blocks = λ q i hq other hi. refl }) r.only
-        (record_at ∙ ap (λ (n : ℕ). Some (record_bytes (File n))) (sym long)) bytes_at (omega (arith, ends, long, over)) (omega (arith, all, ends, long, over)) refl (λ n. refl) writes in
-        Represents-along (after patches at) new (insert t path (FileWith (overwritten file off bytes)))
+        let list_is : list ≡ patches = is ∙ ap (λ b. cond b (put_length path mode end ∷ []) [] ++ patches) stays in
+        let record_at : at (record_key path) ≡ Some (record_bytes (File (length file) mode)) = r.records path names ∙ ap (option_map record_value) found in
+        let made = overwrites path mode off len bytes file file patches at at t names r (record { records = λ q hq other. refl; blocks = λ q i hq other hi. refl }) r.only
+        (record_at ∙ ap (λ (n : ℕ). Some (record_bytes (File n mode))) (sym long)) bytes_at (omega (arith, ends, long, over)) (omega (arith, all, ends, long, over)) refl (λ n. refl) writes in
+        Represents-along (after patches at) new (insert t path (FileWith mode (overwritten file off bytes)))
         (λ k key. applied k key ∙ ap (λ (ms : List Message). after ms at k) list_is) made
 
 -- ---- the plan
 
-pub write_planned : (at : At) (t : Tree) (path : List (List ℕ)) (off len : ℕ) (bytes file : List ℕ) (items list : List Message) → get t path ≡ Some (FileWith file) → off + length bytes ≤ file_limit → list ≡ items
-    → Makes at items (insert t path (FileWith (overwritten file off bytes))) → len ≡ length file → items ≡ written path len off bytes
-    → (refusal_of t (Write path off bytes) ≡ None) × Makes at list (changed t (Write path off bytes)) × (list ≡ written path (size_at t path) off bytes)
-write_planned at t path off len bytes file items list found fits is makes long sent = (
+pub write_planned : (at : At) (t : Tree) (path : List (List ℕ)) (mode off len : ℕ) (bytes file : List ℕ) (items list : List Message) → get t path ≡ Some (FileWith mode file) → off + length bytes ≤ file_limit → list ≡ items
+    → Makes at items (insert t path (FileWith mode (overwritten file off bytes))) → len ≡ length file → items ≡ written path mode len off bytes
+    → (refusal_of t (Write path off bytes) ≡ None) × Makes at list (changed t (Write path off bytes)) × (list ≡ written path (mode_at (get t path)) (size_at t path) off bytes)
+write_planned at t path mode off len bytes file items list found fits is makes long sent = (
   ap (λ (o : Option Entry). option_or (file_refusal o) (size_refusal (off + length bytes))) found ∙ ap (λ b. cond b None (Some TooBig)) (le-leb (off + length bytes) file_limit fits),
-  subst (λ (ms : List Message). Makes at ms (insert t path (FileWith (overwritten (file_bytes (get t path)) off bytes)))) (sym is)
-      (subst (λ (o : Option Entry). Makes at items (insert t path (FileWith (overwritten (file_bytes o) off bytes)))) (sym found) makes),
-  is ∙ sent ∙ ap (λ (n : ℕ). written path n off bytes) (long ∙ ap (λ (o : Option Entry). length (file_bytes o)) (sym found)),
+  subst (λ (ms : List Message). Makes at ms (insert t path (with_bytes (overwritten (file_bytes (get t path)) off bytes) (get t path)))) (sym is)
+      (subst (λ (o : Option Entry). Makes at items (insert t path (with_bytes (overwritten (file_bytes o) off bytes) o))) (sym found) makes),
+  is ∙ sent ∙ ap (λ (n : ℕ). written path mode n off bytes) (long ∙ ap (λ (o : Option Entry). length (file_bytes o)) (sym found))
+      ∙ ap (λ (o : Option Entry). written path (mode_at o) (size_at t path) off bytes) (sym found),
 )

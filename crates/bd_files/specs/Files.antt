@@ -5,9 +5,9 @@ use Rattle.bd_command.specs.declared.refusal.Refusal.{Refusal}
 use Rattle.bd_model.specs.Tree.{Entry, FileWith}
 use Rattle.bd_model.specs.Step.{file_refusal}
 
--- the length of the file, or why there is none
-abbrev pub IsLenOf : Option Entry → Result ℕ Refusal → Type 0
-IsLenOf entry (Ok len) =
-    (bytes : List ℕ) × (entry ≡ Some (FileWith bytes)) × (len ≡ length bytes)
+-- the length and the mode of the file, or why there is none
+abbrev pub IsFileOf : Option Entry → Result (ℕ × ℕ) Refusal → Type 0
+IsFileOf entry (Ok found) =
+    (bytes : List ℕ) × (entry ≡ Some (FileWith found.1 bytes)) × (found.0 ≡ length bytes)
     × (length bytes ≤ file_limit)
-IsLenOf entry (Err refusal) = file_refusal entry ≡ Some refusal
+IsFileOf entry (Err refusal) = file_refusal entry ≡ Some refusal

@@ -13,13 +13,13 @@ use Rattle.bd_represent.specs.EntryKeys.{record_key, blocks_prefix, block_key}
 use Rattle.bd_represent.specs.Represents.{stored, HasBytes, HasOnlyEntries}
 use Rattle.bd_represent.specs.Plans.{after}
 
--- the record of a file of so many bytes
-abbrev pub put_length : List (List ℕ) → ℕ → Message
-put_length path len = Put (record_key path) (record_bytes (File len))
+-- the record of a file of so many bytes, with its mode
+abbrev pub put_length : List (List ℕ) → ℕ → ℕ → Message
+put_length path mode len = Put (record_key path) (record_bytes (File len mode))
 
 -- the new record, where a file grows
-abbrev pub growth : List (List ℕ) → ℕ → ℕ → List Message
-growth path len end = if nat_lt len end then put_length path end ∷ [] else []
+abbrev pub growth : List (List ℕ) → ℕ → ℕ → ℕ → List Message
+growth path mode len end = if nat_lt len end then put_length path mode end ∷ [] else []
 
 -- how many bytes of a block there are from a place of the file on
 abbrev pub room_in_block : ℕ → ℕ
@@ -35,10 +35,10 @@ patches_of (suc n) path off (b ∷ bs) =
     (take (room_in_block off) (b ∷ bs))
     ∷ patches_of n path (off + room_in_block off) (drop (room_in_block off) (b ∷ bs))
 
--- what a write of at most 2,048 bytes sends, into a file of `len` bytes
-abbrev pub written : List (List ℕ) → ℕ → ℕ → List ℕ → List Message
-written path len off bytes =
-    growth path len (off + length bytes) ++ patches_of 3 path off bytes
+-- what a write of at most 2,048 bytes sends, into a file of `len` bytes, whose mode stays
+abbrev pub written : List (List ℕ) → ℕ → ℕ → ℕ → List ℕ → List Message
+written path mode len off bytes =
+    growth path mode len (off + length bytes) ++ patches_of 3 path off bytes
 
 -- the messages overwrite bytes within a file, and change nothing but its blocks
 pub record IsOverwriting (path : List (List ℕ)) (off : ℕ) (bytes : List ℕ) (list : List Message)
@@ -63,9 +63,10 @@ shortened path len block =
     if nat_lt 0 (len % block_limit) && nat_lt (len % block_limit) (length block)
     then Put (block_key path (len / block_limit)) (take (len % block_limit) block) ∷ [] else []
 
--- what a truncation to `len` bytes sends, of a file of `size` bytes in a map that has this
-abbrev pub truncated : At → List (List ℕ) → ℕ → ℕ → List Message
-truncated at path size len =
-    put_length path len
+-- what a truncation to `len` bytes sends, of a file of `size` bytes in a map that has this; its mode
+-- stays
+abbrev pub truncated : At → List (List ℕ) → ℕ → ℕ → ℕ → List Message
+truncated at path mode size len =
+    put_length path mode len
     ∷ (if nat_lt len size
     then cut_past path len ∷ shortened path len (stored at path (len / block_limit)) else [])

@@ -10,7 +10,7 @@ mod reading;
 mod truncate;
 mod write;
 
-pub use lookup::{file_len, record};
+pub use lookup::{file, record};
 pub use plan::FilePlan;
 pub use put::put_record;
 pub use reading::read;

@@ -8,7 +8,7 @@ ghost use Rattle.bd_model.specs.Tree.{Tree, IsTree};
 ghost use Rattle.bd_message.specs.KeyMaps.{HasMapCause, NeverWorn};
 ghost use Rattle.bd_message.specs.Reads.{IsLeft};
 ghost use Rattle.bd_represent.specs.Represents.{Represents, record_of};
-ghost use Rattle.bd_files.specs.Files.{IsLenOf};
+ghost use Rattle.bd_files.specs.Files.{IsFileOf};
 
 use bd_command::Refusal;
 use bd_message::{KeyMap, MapFault};
@@ -33,14 +33,14 @@ pub fn record<M: KeyMap>(alloc: Global, m: &mut M, path: &Path) -> Result<Option
     }
 }
 
-/// The length of the file at a path in bytes, or why there is none.
-pub fn file_len<M: KeyMap>(
+/// The length in bytes and the mode of the file at a path, or why there is none.
+pub fn file<M: KeyMap>(
     alloc: Global,
     m: &mut M,
     path: &Path,
-) -> Result<Result<u32, Refusal>, MapFault>
-    ensures len { M.is_known m.old → (t : Tree) → IsTree t → Represents (M.has m.old) t
-        → IfOk result (IsLenOf (get t path.now)) }
+) -> Result<Result<(u32, u16), Refusal>, MapFault>
+    ensures found { M.is_known m.old → (t : Tree) → IsTree t → Represents (M.has m.old) t
+        → IfOk result (IsFileOf (get t path.now)) }
     ensures names { OnOk result (AreNames path.now) }
     ensures left { IsLeft M.KeyMap m.old m.new }
     ensures cause { HasMapCause (M.fault_count m.old) (M.fault_count m.new)
@@ -48,7 +48,7 @@ pub fn file_len<M: KeyMap>(
 {
     match record(alloc, m, path)? {
         None => Ok(Err(Refusal::NotFound)),
-        Some(Record::Dir) => Ok(Err(Refusal::IsDir)),
-        Some(Record::File(len)) => Ok(Ok(len)),
+        Some(Record::Dir(_)) => Ok(Err(Refusal::IsDir)),
+        Some(Record::File(len, mode)) => Ok(Ok((len, mode))),
     }
 }

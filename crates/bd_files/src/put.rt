@@ -15,7 +15,7 @@ use bd_represent::record_key;
 use std::alloc::{AllocError, Global};
 
 /// The message that puts the record of a path.
-#[tactic(auto, using(bd_wire::proofs::WritingLemmas::writing))]
+#[tactic(auto, using(bd_records::proofs::Lengths::record_sizes))]
 pub fn put_record(alloc: Global, path: &Path, entry: Record) -> Result<Message, AllocError>
     ensures message { IfOk result (λ made.
         made ≡ message.Put (record_key path.now) (record_bytes entry)) }

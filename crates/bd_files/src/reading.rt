@@ -12,7 +12,7 @@ ghost use Rattle.bd_message.specs.KeyMaps.{HasMapCause, NeverWorn};
 ghost use Rattle.bd_message.specs.Reads.{IsLeft};
 ghost use Rattle.bd_represent.specs.Represents.{Represents, stored};
 
-use crate::lookup::file_len;
+use crate::lookup::file;
 use bd_command::Reply;
 use bd_keys::{Bytes, resized, tail};
 use bd_limits::MAX_BLOCK;
@@ -37,8 +37,8 @@ pub fn read<M: KeyMap>(
     ensures cause { HasMapCause (M.fault_count m.old) (M.fault_count m.new)
         (M.bad m.new) NeverWorn result }
 {
-    let size = match file_len(alloc, m, path)? {
-        Ok(size) => size,
+    let (size, _) = match file(alloc, m, path)? {
+        Ok(found) => found,
         Err(refusal) => return Ok(Reply::Refused(refusal)),
     };
     let end = size.min(off.saturating_add(len));
@@ -55,8 +55,8 @@ fn bytes_between<M: KeyMap>(
     end: u32,
 ) -> Result<Vec<u8>, MapFault>
     requires { AreNames path.now }
-    ensures bytes { M.is_known m.old → (t : Tree) (file : List ℕ) → Represents (M.has m.old) t
-        → get t path.now ≡ Some (FileWith file) → end ≤ length file
+    ensures bytes { M.is_known m.old → (t : Tree) (mode : ℕ) (file : List ℕ)
+        → Represents (M.has m.old) t → get t path.now ≡ Some (FileWith mode file) → end ≤ length file
         → IfOk result (λ read. read.items ≡ take (end - off) (drop off file)) }
     ensures length { IfOk result (λ read. length read.items ≤ end - off) }
     ensures left { IsLeft M.KeyMap m.old m.new }

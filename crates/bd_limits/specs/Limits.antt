@@ -19,6 +19,10 @@ block_limit = 1024
 abbrev pub file_limit : ℕ
 file_limit = 2 ^ 30
 
+-- the greatest mode of a file or a directory
+abbrev pub mode_limit : ℕ
+mode_limit = 4095
+
 -- what one `write` carries
 abbrev pub write_limit : ℕ
 write_limit = 2048

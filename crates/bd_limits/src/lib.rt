@@ -6,7 +6,7 @@
 mod places;
 
 ghost use Rattle.std.specs.Prelude.{◌≡◌};
-ghost use Rattle.bd_limits.specs.Limits.{path_limit, name_limit, key_limit, block_limit, file_limit, write_limit, read_limit, listing_limit, line_limit, script_limit, piece_limit, buffer_limit, leaf_limit, level_limit, edge_limit, soft_limit, batch_limit, abundant_limit, late_limit, flush_limit, base_size, room_edges, full_edges, graft_size, slot_minimum, slot_limit, slot_size, block_size, first_slot_block, slot_blocks, table_slot_limit, log_blocks, body_block_limit};
+ghost use Rattle.bd_limits.specs.Limits.{path_limit, name_limit, key_limit, block_limit, file_limit, mode_limit, write_limit, read_limit, listing_limit, line_limit, script_limit, piece_limit, buffer_limit, leaf_limit, level_limit, edge_limit, soft_limit, batch_limit, abundant_limit, late_limit, flush_limit, base_size, room_edges, full_edges, graft_size, slot_minimum, slot_limit, slot_size, block_size, first_slot_block, slot_blocks, table_slot_limit, log_blocks, body_block_limit};
 
 pub use places::{
     FIRST_LOG_BLOCK, SECOND_LOG_BLOCK, TABLE_ENTRY_SIZE, TABLE_HEADER_SIZE, law_of_places,
@@ -26,6 +26,9 @@ pub const MAX_BLOCK: usize = 1024;
 
 /// The most bytes of a file.
 pub const MAX_FILE: u32 = 1_073_741_824;
+
+/// The greatest mode of a file or a directory: twelve bits, four octal digits.
+pub const MAX_MODE: u16 = 4095;
 
 /// The most bytes that one `write` carries.
 pub const MAX_WRITE: usize = 2048;
@@ -119,6 +122,7 @@ pub fn law_of_limits()
     ensures key { MAX_KEY ≡ key_limit }
     ensures block { MAX_BLOCK ≡ block_limit }
     ensures file { MAX_FILE ≡ file_limit }
+    ensures mode { MAX_MODE ≡ mode_limit }
     ensures write { MAX_WRITE ≡ write_limit }
     ensures read { MAX_READ ≡ read_limit }
     ensures listing { MAX_LISTING ≡ listing_limit }

@@ -13,8 +13,8 @@ use Rattle.std.specs.FinMap.Entries.{below_all}
 use Rattle.bd_command.specs.declared.reply.Listed.{Listed}
 use Rattle.bd_names.specs.Names.{rest_below}
 use Rattle.bd_names.proofs.NamesLaws.{rest_below-append, rest_below-some}
-use Rattle.bd_model.specs.Tree.{Entry, Tree, path_cmp}
-use Rattle.bd_model.specs.Step.{child_of, children, is_directory}
+use Rattle.bd_model.specs.Tree.{Entry, is_directory, Tree, path_cmp}
+use Rattle.bd_model.specs.Step.{child_of, children}
 use Rattle.bd_model.proofs.PathOrder.{paths_total, same_path, same_path-true, same_path-equal, same_path-false}
 use Rattle.bd_model.proofs.TreeGets.{Entries}
 

@@ -1,22 +1,23 @@
 -- A tree stays a tree.
-use Rattle.std.proofs.Common.{◌≡◌, ◌≢◌, ◌⊎◌, inl, inr, ℕ, ◌+◌, Bool, true, false, List, [], ◌∷◌, ◌++◌, length, Option, None, Some, refl, sym, ap, subst, ◌∙◌, arith, append_assoc, length-append}
+use Rattle.std.proofs.Common.{◌≡◌, ◌≢◌, ◌⊎◌, inl, inr, ℕ, ◌+◌, ◌≤◌, Bool, true, false, List, [], ◌∷◌, ◌++◌, length, Option, None, Some, refl, sym, ap, subst, ◌∙◌, arith, append_assoc, length-append}
 use Rattle.std.proofs.lemmas.Bool.{cases_Bool, false_from_ne_true, both_ways as contradict}
 use Rattle.std.proofs.lemmas.List.{append-nil, same_from_push}
 use Rattle.std.specs.Prelude.{IsSome, IfSome, is_some}
 use Rattle.std.specs.FinMap.{get, insert, get-from_entries}
+use Rattle.bd_limits.specs.Limits.{mode_limit}
 use Rattle.bd_command.specs.declared.Command.{Command}
-use Rattle.bd_command.specs.declared.Command.TheVariants.{Mkdir, Create, Write, Truncate, Remove, Rename, Clone, Read, Stat, List as Ls}
+use Rattle.bd_command.specs.declared.Command.TheVariants.{Mkdir, Create, Write, Truncate, Remove, Rename, Clone, Chmod, Read, Stat, List as Ls}
 use Rattle.bd_command.specs.declared.refusal.Refusal.{Refusal}
 use Rattle.bd_command.specs.Command.{IsCommand}
 use Rattle.bd_names.specs.Names.{AreNames, is_under, parent_of}
 use Rattle.bd_names.proofs.NamesLaws.{AreNames-append, AreNames-parts, is_under-append, is_under-rest, is_under-trans, parent_of-some, parent_of-none}
-use Rattle.bd_model.specs.Tree.{Entry, Directory, FileWith, Tree, IsTree, IsEntry, root_only}
+use Rattle.bd_model.specs.Tree.{Entry, Directory, FileWith, is_directory, has_directory, Tree, IsTree, IsEntry, root_only}
 use Rattle.bd_keys.specs.Edits.{resized, overwritten}
-use Rattle.bd_model.specs.Step.{without, cloned, renamed, changed, stepped, refusal_of, file_refusal, size_refusal, root_refusal, absent_refusal, file_bytes}
+use Rattle.bd_model.specs.Step.{without, cloned, renamed, changed, stepped, refusal_of, file_refusal, size_refusal, root_refusal, absent_refusal, file_bytes, with_bytes, with_mode}
 use Rattle.bd_model.specs.Laws.{Accepts, after}
 use Rattle.bd_model.proofs.PathOrder.{paths_total, one_or_apart}
 use Rattle.bd_model.proofs.TreeGets.{get-insert-at, get-insert-other, get-without-under, get-without-other}
-use Rattle.bd_model.proofs.Accepted.{no_child, absent_below, accepted_first, accepted_second, not_root, size_if_accepted, CanMake, can_make}
+use Rattle.bd_model.proofs.Accepted.{no_child, there_if_accepted, accepted_first, accepted_second, not_root, size_if_accepted, CanMake, can_make}
 use Rattle.bd_model.proofs.TreeLaws.{can_clone, can_rename, rename_outside, rename_not_root, get-cloned-at, get-cloned-other, get-renamed-at, get-renamed-other, get-renamed-gone, file_written, file_truncated}
 use Rattle.bd_keys.proofs.EditLemmas.{length-resized, length-overwritten, bytes-resized, bytes-overwritten}
 
@@ -50,29 +51,34 @@ under_root (n ∷ ns) differ = refl
 
 -- an entry can stand at a path, in the place of what may be there
 record CanPut (t : Tree) (p : List (List ℕ)) (e : Entry) : Type 0 where
-  front : List (List ℕ)
-  name : List ℕ
-  is : p ≡ front ++ name ∷ []
-  parent : get t front ≡ Some Directory
+  root : p ≡ [] → is_directory e ≡ true
+  parent : (front : List (List ℕ)) (name : List ℕ) → p ≡ front ++ name ∷ [] → has_directory (get t front) ≡ true
   names : AreNames p
   bytes : IsEntry e
-  childless : (n : List ℕ) → get t (p ++ n ∷ []) ≡ None
+  below : (n : List ℕ) → IsSome (get t (p ++ n ∷ [])) → is_directory e ≡ true
 
-put_parent : (t : Tree) → IsTree t → (p : List (List ℕ)) (e : Entry) → CanPut t p e → (path : List (List ℕ)) (n : List ℕ) → IsSome (get (insert t p e) (path ++ n ∷ [])) → get (insert t p e) path ≡ Some Directory
+put_parent : (t : Tree) → IsTree t → (p : List (List ℕ)) (e : Entry) → CanPut t p e → (path : List (List ℕ)) (n : List ℕ) → IsSome (get (insert t p e) (path ++ n ∷ [])) → has_directory (get (insert t p e) path) ≡ true
 put_parent t tree p e can path n h = at (one_or_apart (path ++ n ∷ []) p)
   where
-    beside : get t path ≡ Some Directory → path ≢ p → get (insert t p e) path ≡ Some Directory
-    beside is differ = get-insert-other t p e path differ ∙ is
+    beside : has_directory (get t path) ≡ true → path ≢ p → has_directory (get (insert t p e) path) ≡ true
+    beside is differ = ap has_directory (get-insert-other t p e path differ) ∙ is
 
-    at : (path ++ n ∷ [] ≡ p) ⊎ (path ++ n ∷ [] ≢ p) → get (insert t p e) path ≡ Some Directory
-    at (inl same) =
-        let cut = same_from_push path can.front n can.name (same ∙ can.is) in
-        beside (ap (get t) cut.0 ∙ can.parent) (λ loop. no_loop path n (loop ∙ sym same))
+    at : (path ++ n ∷ [] ≡ p) ⊎ (path ++ n ∷ [] ≢ p) → has_directory (get (insert t p e) path) ≡ true
+    at (inl same) = beside (can.parent path n (sym same)) (λ loop. no_loop path n (loop ∙ sym same))
     at (inr differ) = under (one_or_apart path p) (is_some_as (get (insert t p e) (path ++ n ∷ [])) (get t (path ++ n ∷ [])) (get-insert-other t p e (path ++ n ∷ []) differ) h)
       where
-        under : (path ≡ p) ⊎ (path ≢ p) → IsSome (get t (path ++ n ∷ [])) → get (insert t p e) path ≡ Some Directory
-        under (inl same) there = absurd (some_not_none (get t (path ++ n ∷ [])) there (ap (λ (q : List (List ℕ)). get t (q ++ n ∷ [])) same ∙ can.childless n))
+        under : (path ≡ p) ⊎ (path ≢ p) → IsSome (get t (path ++ n ∷ [])) → has_directory (get (insert t p e) path) ≡ true
+        under (inl same) there =
+            ap has_directory (ap (get (insert t p e)) same ∙ get-insert-at t p e)
+            ∙ can.below n (subst (λ (q : List (List ℕ)). IsSome (get t (q ++ n ∷ []))) same there)
         under (inr apart) there = beside (tree.parents path n there) apart
+
+put_root : (t : Tree) → IsTree t → (p : List (List ℕ)) (e : Entry) → CanPut t p e → has_directory (get (insert t p e) []) ≡ true
+put_root t tree p e can = by (one_or_apart [] p)
+  where
+    by : ([] ≡ p) ⊎ ([] ≢ p) → has_directory (get (insert t p e) []) ≡ true
+    by (inl same) = ap has_directory (ap (get (insert t p e)) same ∙ get-insert-at t p e) ∙ can.root (sym same)
+    by (inr differ) = ap has_directory (get-insert-other t p e [] differ) ∙ tree.root
 
 put_names : (t : Tree) → IsTree t → (p : List (List ℕ)) (e : Entry) → CanPut t p e → (path : List (List ℕ)) → IsSome (get (insert t p e) path) → AreNames path
 put_names t tree p e can path h = by (one_or_apart path p)
@@ -90,7 +96,7 @@ put_entries t tree p e can path = by (one_or_apart path p)
 
 put_stays : (t : Tree) → IsTree t → (p : List (List ℕ)) (e : Entry) → CanPut t p e → IsTree (insert t p e)
 put_stays t tree p e can = record {
-  root = get-insert-other t p e [] (λ root. no_front can.front can.name (sym (root ∙ can.is))) ∙ tree.root;
+  root = put_root t tree p e can;
   parents = put_parent t tree p e can;
   names = put_names t tree p e can;
   entries = put_entries t tree p e can;
@@ -99,45 +105,30 @@ put_stays t tree p e can = record {
 -- a new entry
 made_stays : (t : Tree) → IsTree t → (p : List (List ℕ)) (e : Entry) → AreNames p → IsEntry e → CanMake t p → IsTree (insert t p e)
 made_stays t tree p e names bytes can = put_stays t tree p e (record {
-  front = can.front;
-  name = can.name;
-  is = can.is;
-  parent = can.parent;
+  root = λ root. absurd (no_front can.front can.name (sym can.is ∙ root));
+  parent = λ front name is. ap (λ (q : List (List ℕ)). has_directory (get t q)) (same_from_push front can.front name can.name (sym is ∙ can.is)).0 ∙ can.parent;
   names = names;
   bytes = bytes;
-  childless = λ n. absent_below t tree p (n ∷ []) can.absent;
+  below = λ n some. absurd (some_not_none (get t (p ++ n ∷ [])) some (no_child t tree p n can.free));
 })
 
--- other bytes of a file
-file_stays : (t : Tree) → IsTree t → (p : List (List ℕ)) (old new : List ℕ) → get t p ≡ Some (FileWith old) → IsEntry (FileWith new) → IsTree (insert t p (FileWith new))
-file_stays t tree p old new file bytes = by (parent_of p) refl
-  where
-    by : (o : Option (List (List ℕ))) → parent_of p ≡ o → IsTree (insert t p (FileWith new))
-    by None root =
-        let both : Some (FileWith old) ≡ Some Directory = sym file ∙ ap (get t) (parent_of-none p root) ∙ tree.root in cc
-    by (Some front) above =
-        let cut = parent_of-some p front above in
-        let there : IsSome (get t p) = ap is_some file in
-        put_stays t tree p (FileWith new) (record {
-          front = front;
-          name = cut.0;
-          is = cut.1;
-          parent = tree.parents front cut.0 (subst (λ (q : List (List ℕ)). IsSome (get t q)) cut.1 there);
-          names = tree.names p there;
-          bytes = bytes;
-          childless = λ n. no_child t tree p n (λ e. different e);
-        })
-      where
-        different : get t p ≢ Some Directory
-        different e = let both : Some (FileWith old) ≡ Some Directory = sym file ∙ e in cc
+-- an entry of the same kind in place of another
+replaced_stays : (t : Tree) → IsTree t → (p : List (List ℕ)) (old new : Entry) → get t p ≡ Some old → is_directory new ≡ is_directory old → IsEntry new → IsTree (insert t p new)
+replaced_stays t tree p old new there kind bytes = put_stays t tree p new (record {
+  root = λ root. kind ∙ ap has_directory (sym there ∙ ap (get t) root) ∙ tree.root;
+  parent = λ front name is. tree.parents front name (subst (λ (q : List (List ℕ)). IsSome (get t q)) is (ap is_some there));
+  names = tree.names p (ap is_some there);
+  bytes = bytes;
+  below = λ n some. kind ∙ ap has_directory (sym there) ∙ tree.parents p n some;
+})
 
 -- ---- without a path and all below it
 
 without_stays : (t : Tree) → IsTree t → (p : List (List ℕ)) → p ≢ [] → IsTree (without p t)
 without_stays t tree p differ = record {
-  root = get-without-other p t [] (under_root p differ) ∙ tree.root;
+  root = ap has_directory (get-without-other p t [] (under_root p differ)) ∙ tree.root;
   parents = λ path n h. let out = kept (path ++ n ∷ []) h in
-      get-without-other p t path (false_from_ne_true (is_under p path) (λ under. contradict (is_under p (path ++ n ∷ [])) out (is_under-trans p path (path ++ n ∷ []) under (is_under-append path (n ∷ [])))))
+      ap has_directory (get-without-other p t path (false_from_ne_true (is_under p path) (λ under. contradict (is_under p (path ++ n ∷ [])) out (is_under-trans p path (path ++ n ∷ []) under (is_under-append path (n ∷ []))))))
       ∙ tree.parents path n (before (path ++ n ∷ []) h);
   names = λ path h. tree.names path (before path h);
   entries = λ path. entry path (cases_Bool (is_under p path));
@@ -187,20 +178,19 @@ source t u a b gone m q = by (cases_Bool (is_under b q)) (cases_Bool (gone q))
     by (inr out) (inr g) = Kept out (m.others q out g)
 
 moved_parent : (t u : Tree) (a b : List (List ℕ)) (gone : List (List ℕ) → Bool) → IsTree t → CanMake t b → IsMoved t u a b gone
-    → (path : List (List ℕ)) (n : List ℕ) → IsSome (get u (path ++ n ∷ [])) → get u path ≡ Some Directory
+    → (path : List (List ℕ)) (n : List ℕ) → IsSome (get u (path ++ n ∷ [])) → has_directory (get u path) ≡ true
 moved_parent t u a b gone tree can m path n h = by (source t u a b gone m (path ++ n ∷ []))
   where
-    from_front : (r : List (List ℕ)) → path ++ n ∷ [] ≡ b ++ r → IsSome (get t (a ++ r)) → (o : Option (List (List ℕ))) → parent_of r ≡ o → get u path ≡ Some Directory
+    from_front : (r : List (List ℕ)) → path ++ n ∷ [] ≡ b ++ r → IsSome (get t (a ++ r)) → (o : Option (List (List ℕ))) → parent_of r ≡ o → has_directory (get u path) ≡ true
     from_front r is there None none =
         let at_b : path ++ n ∷ [] ≡ can.front ++ can.name ∷ [] = is ∙ ap (λ (s : List (List ℕ)). b ++ s) (parent_of-none r none) ∙ append-nil b ∙ can.is in
-        ap (get u) (same_from_push path can.front n can.name at_b).0
-        ∙ m.others can.front (not_under_front can.front can.name b can.is) (m.above can.front can.name can.is)
+        ap has_directory (ap (get u) (same_from_push path can.front n can.name at_b).0
+        ∙ m.others can.front (not_under_front can.front can.name b can.is) (m.above can.front can.name can.is))
         ∙ can.parent
     from_front r is there (Some s) above =
         let cut = parent_of-some r s above in
         let at : path ++ n ∷ [] ≡ (b ++ s) ++ cut.0 ∷ [] = is ∙ ap (λ (k : List (List ℕ)). b ++ k) cut.1 ∙ sym (append_assoc b s (cut.0 ∷ [])) in
-        ap (get u) (same_from_push path (b ++ s) n cut.0 at).0
-        ∙ m.moved s
+        ap has_directory (ap (get u) (same_from_push path (b ++ s) n cut.0 at).0 ∙ m.moved s)
         ∙ tree.parents (a ++ s) cut.0 (subst (λ (k : List (List ℕ)). IsSome (get t k)) (ap (λ (k : List (List ℕ)). a ++ k) cut.1 ∙ sym (append_assoc a s (cut.0 ∷ []))) there)
 
     kept_front : is_under b (path ++ n ∷ []) ≡ false → is_under b path ≡ false
@@ -209,9 +199,9 @@ moved_parent t u a b gone tree can m path n h = by (source t u a b gone m (path 
     stays : is_under b (path ++ n ∷ []) ≡ false → gone path ≡ false
     stays out = false_from_ne_true (gone path) (λ g. some_not_none (get u (path ++ n ∷ [])) h (m.nothing (path ++ n ∷ []) out (m.below path n g)))
 
-    by : Source t u a b (path ++ n ∷ []) → get u path ≡ Some Directory
+    by : Source t u a b (path ++ n ∷ []) → has_directory (get u path) ≡ true
     by (Moved r is e) = from_front r is (is_some_as (get u (path ++ n ∷ [])) (get t (a ++ r)) e h) (parent_of r) refl
-    by (Kept out e) = m.others path (kept_front out) (stays out) ∙ tree.parents path n (is_some_as (get u (path ++ n ∷ [])) (get t (path ++ n ∷ [])) e h)
+    by (Kept out e) = ap has_directory (m.others path (kept_front out) (stays out)) ∙ tree.parents path n (is_some_as (get u (path ++ n ∷ [])) (get t (path ++ n ∷ [])) e h)
     by (Gone e) = absurd (some_not_none (get u (path ++ n ∷ [])) h e)
 
 moved_names : (t u : Tree) (a b : List (List ℕ)) → IsTree t → AreNames b → (path : List (List ℕ)) → Source t u a b path → IsSome (get u path) → AreNames path
@@ -227,7 +217,7 @@ moved_entries t u a b tree path (Gone e) = if_as (get u path) None e tt
 
 moved_stays : (t u : Tree) (a b : List (List ℕ)) (gone : List (List ℕ) → Bool) → IsTree t → CanMake t b → AreNames b → IsMoved t u a b gone → IsTree u
 moved_stays t u a b gone tree can names m = record {
-  root = m.others [] (under_root b (λ root. no_front can.front can.name (sym can.is ∙ root))) m.root ∙ tree.root;
+  root = ap has_directory (m.others [] (under_root b (λ root. no_front can.front can.name (sym can.is ∙ root))) m.root) ∙ tree.root;
   parents = moved_parent t u a b gone tree can m;
   names = λ path h. moved_names t u a b tree names path (source t u a b gone m path) h;
   entries = λ path. moved_entries t u a b tree path (source t u a b gone m path);
@@ -235,29 +225,45 @@ moved_stays t u a b gone tree can names m = record {
 
 -- ---- the commands
 
-mkdir_stays : (t : Tree) → IsTree t → (p : List (List ℕ)) → IsCommand (Mkdir p) → Accepts t (Mkdir p) → IsTree (insert t p Directory)
-mkdir_stays t tree p limits ok = made_stays t tree p Directory limits.0 tt (can_make t p ok)
+mkdir_stays : (t : Tree) → IsTree t → (p : List (List ℕ)) → IsCommand (Mkdir p) → Accepts t (Mkdir p) → IsTree (insert t p (Directory 0))
+mkdir_stays t tree p limits ok = made_stays t tree p (Directory 0) limits.0 (omega arith) (can_make t p ok)
 
-create_stays : (t : Tree) → IsTree t → (p : List (List ℕ)) → IsCommand (Create p) → Accepts t (Create p) → IsTree (insert t p (FileWith []))
-create_stays t tree p limits ok = made_stays t tree p (FileWith []) limits.0 (omega arith, tt) (can_make t p ok)
+create_stays : (t : Tree) → IsTree t → (p : List (List ℕ)) → IsCommand (Create p) → Accepts t (Create p) → IsTree (insert t p (FileWith 0 []))
+create_stays t tree p limits ok = made_stays t tree p (FileWith 0 []) limits.0 (omega arith, tt, omega arith) (can_make t p ok)
 
-write_stays : (t : Tree) → IsTree t → (p : List (List ℕ)) (off : ℕ) (bytes : List ℕ) → IsCommand (Write p off bytes) → Accepts t (Write p off bytes) → IsTree (insert t p (FileWith (overwritten (file_bytes (get t p)) off bytes)))
+write_stays : (t : Tree) → IsTree t → (p : List (List ℕ)) (off : ℕ) (bytes : List ℕ) → IsCommand (Write p off bytes) → Accepts t (Write p off bytes) → IsTree (insert t p (with_bytes (overwritten (file_bytes (get t p)) off bytes) (get t p)))
 write_stays t tree p off bytes limits ok =
     let file = file_written t p off bytes ok in
-    let old = entry_at (get t p) (FileWith file.0) file.1 (tree.entries p) in
+    let old = entry_at (get t p) (FileWith file.0 file.1) file.2 (tree.entries p) in
     let size = size_if_accepted (off + length bytes) (accepted_second (file_refusal (get t p)) (size_refusal (off + length bytes)) ok) in
-    subst (λ (o : Option Entry). IsTree (insert t p (FileWith (overwritten (file_bytes o) off bytes)))) (sym file.1)
-    (file_stays t tree p file.0 (overwritten file.0 off bytes) file.1
-    (omega (arith, length-overwritten file.0 off bytes, size, old.0), bytes-overwritten file.0 off bytes old.1 limits.2.2))
+    subst (λ (o : Option Entry). IsTree (insert t p (with_bytes (overwritten (file_bytes o) off bytes) o))) (sym file.2)
+    (replaced_stays t tree p (FileWith file.0 file.1) (FileWith file.0 (overwritten file.1 off bytes)) file.2 refl
+    (omega (arith, length-overwritten file.1 off bytes, size, old.0), bytes-overwritten file.1 off bytes old.1 limits.2.2, old.2))
 
-truncate_stays : (t : Tree) → IsTree t → (p : List (List ℕ)) (len : ℕ) → Accepts t (Truncate p len) → IsTree (insert t p (FileWith (resized (file_bytes (get t p)) len)))
+truncate_stays : (t : Tree) → IsTree t → (p : List (List ℕ)) (len : ℕ) → Accepts t (Truncate p len) → IsTree (insert t p (with_bytes (resized (file_bytes (get t p)) len) (get t p)))
 truncate_stays t tree p len ok =
     let file = file_truncated t p len ok in
-    let old = entry_at (get t p) (FileWith file.0) file.1 (tree.entries p) in
+    let old = entry_at (get t p) (FileWith file.0 file.1) file.2 (tree.entries p) in
     let size = size_if_accepted len (accepted_second (file_refusal (get t p)) (size_refusal len) ok) in
-    subst (λ (o : Option Entry). IsTree (insert t p (FileWith (resized (file_bytes o) len)))) (sym file.1)
-    (file_stays t tree p file.0 (resized file.0 len) file.1
-    (omega (arith, length-resized file.0 len, size), bytes-resized file.0 len old.1))
+    subst (λ (o : Option Entry). IsTree (insert t p (with_bytes (resized (file_bytes o) len) o))) (sym file.2)
+    (replaced_stays t tree p (FileWith file.0 file.1) (FileWith file.0 (resized file.1 len)) file.2 refl
+    (omega (arith, length-resized file.1 len, size), bytes-resized file.1 len old.1, old.2))
+
+-- what another mode makes of an entry
+with_mode_kind : (new : ℕ) (e : Entry) → is_directory (with_mode new (Some e)) ≡ is_directory e
+with_mode_kind new (Directory mode) = refl
+with_mode_kind new (FileWith mode bytes) = refl
+
+with_mode_entry : (new : ℕ) (e : Entry) → new ≤ mode_limit → IsEntry e → IsEntry (with_mode new (Some e))
+with_mode_entry new (Directory mode) small entry = small
+with_mode_entry new (FileWith mode bytes) small entry = (entry.0, entry.1, small)
+
+chmod_stays : (t : Tree) → IsTree t → (p : List (List ℕ)) (new : ℕ) → IsCommand (Chmod p new) → Accepts t (Chmod p new) → IsTree (insert t p (with_mode new (get t p)))
+chmod_stays t tree p new limits ok =
+    let found = there_if_accepted (get t p) ok in
+    subst (λ (o : Option Entry). IsTree (insert t p (with_mode new o))) (sym found.1)
+    (replaced_stays t tree p found.0 (with_mode new (Some found.0)) found.1 (with_mode_kind new found.0)
+    (with_mode_entry new found.0 limits.1 (entry_at (get t p) found.0 found.1 (tree.entries p))))
 
 clone_stays : (t : Tree) → IsTree t → (a b : List (List ℕ)) → IsCommand (Clone a b) → Accepts t (Clone a b) → IsTree (cloned a b t)
 clone_stays t tree a b limits ok =
@@ -294,6 +300,7 @@ changed_stays t tree (Truncate p len) limits ok = truncate_stays t tree p len ok
 changed_stays t tree (Remove p) limits ok = without_stays t tree p (not_root p (accepted_first (root_refusal p) (absent_refusal (get t p)) ok))
 changed_stays t tree (Rename a b) limits ok = rename_stays t tree a b limits ok
 changed_stays t tree (Clone a b) limits ok = clone_stays t tree a b limits ok
+changed_stays t tree (Chmod p new) limits ok = chmod_stays t tree p new limits ok
 changed_stays t tree (Read p off len) limits ok = tree
 changed_stays t tree (Stat p) limits ok = tree
 changed_stays t tree (Ls p from) limits ok = tree
@@ -309,22 +316,22 @@ after_stays t c tree limits = by (refusal_of t c) refl
 
 get-root_only : (q : List (List ℕ)) → q ≢ [] → get root_only q ≡ None
 get-root_only [] differ = absurd (differ refl)
-get-root_only (n ∷ q) differ = get-from_entries paths_total (([], Directory) ∷ []) (n ∷ q)
+get-root_only (n ∷ q) differ = get-from_entries paths_total (([], Directory 0) ∷ []) (n ∷ q)
 
-get-root_only-root : get root_only [] ≡ Some Directory
-get-root_only-root = get-from_entries paths_total (([], Directory) ∷ []) []
+get-root_only-root : get root_only [] ≡ Some (Directory 0)
+get-root_only-root = get-from_entries paths_total (([], Directory 0) ∷ []) []
 
 root_names : (q : List (List ℕ)) → IsSome (get root_only q) → AreNames q
 root_names [] h = refl
-root_names (n ∷ q) h = absurd (some_not_none (get root_only (n ∷ q)) h (get-from_entries paths_total (([], Directory) ∷ []) (n ∷ q)))
+root_names (n ∷ q) h = absurd (some_not_none (get root_only (n ∷ q)) h (get-from_entries paths_total (([], Directory 0) ∷ []) (n ∷ q)))
 
 root_entries : (q : List (List ℕ)) → IfSome (get root_only q) IsEntry
-root_entries [] = if_entry (get root_only []) Directory get-root_only-root tt
-root_entries (n ∷ q) = if_as (get root_only (n ∷ q)) None (get-from_entries paths_total (([], Directory) ∷ []) (n ∷ q)) tt
+root_entries [] = if_entry (get root_only []) (Directory 0) get-root_only-root (omega arith)
+root_entries (n ∷ q) = if_as (get root_only (n ∷ q)) None (get-from_entries paths_total (([], Directory 0) ∷ []) (n ∷ q)) tt
 
 pub root_only_is_tree : IsTree root_only
 root_only_is_tree = record {
-  root = get-root_only-root;
+  root = ap has_directory get-root_only-root;
   parents = λ path n h. absurd (some_not_none (get root_only (path ++ n ∷ [])) h (get-root_only (path ++ n ∷ []) (no_front path n)));
   names = root_names;
   entries = root_entries;

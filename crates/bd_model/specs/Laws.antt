@@ -18,8 +18,8 @@ after t c = (step t c).0
 abbrev pub StaysAt : Tree → Command → Path → Type 0
 StaysAt t c path = get (after t c) path ≡ get t path
 
--- the bytes of the file at a path become what is made of them
+-- the bytes of the file at a path become what is made of them, and its mode stays
 abbrev pub ChangesBytes : Tree → Command → Path → (List ℕ → List ℕ) → Type 0
 ChangesBytes t c path new =
-    (old : List ℕ) × (get t path ≡ Some (FileWith old))
-    × (get (after t c) path ≡ Some (FileWith (new old)))
+    (mode : ℕ) × (old : List ℕ) × (get t path ≡ Some (FileWith mode old))
+    × (get (after t c) path ≡ Some (FileWith mode (new old)))

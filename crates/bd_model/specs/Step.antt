@@ -1,5 +1,5 @@
 -- What a command does: the first refusal that holds, or else the tree after it and its reply.
-use Rattle.std.specs.Prelude.{ℕ, ◌+◌, Bool, true, false, not, List, [], ◌∷◌, ◌++◌, length, take, drop, nat_le, nat_lt, if◌then◌else◌, is_some}
+use Rattle.std.specs.Prelude.{ℕ, ◌+◌, Bool, true, false, not, ◌&&◌, List, [], ◌∷◌, ◌++◌, length, take, drop, nat_le, nat_lt, if◌then◌else◌, is_some}
 use Rattle.std.specs.List.{filter, filter_map}
 use Rattle.std.specs.Option.{option_or, option_map, option_and_then}
 use Rattle.std.specs.Ordering.{nat_cmp, is_lt}
@@ -11,14 +11,14 @@ use Rattle.bd_limits.specs.Limits.{file_limit, listing_limit}
 use Rattle.bd_keys.specs.Edits.{resized, overwritten}
 use Rattle.bd_names.specs.Names.{rest_below, is_under, parent_of}
 use Rattle.bd_command.specs.declared.Command.{Command}
-use Rattle.bd_command.specs.declared.Command.TheVariants.{Mkdir, Create, Write, Truncate, Remove, Rename, Clone, Read, Stat, List as Ls}
+use Rattle.bd_command.specs.declared.Command.TheVariants.{Mkdir, Create, Write, Truncate, Remove, Rename, Clone, Chmod, Read, Stat, List as Ls}
 use Rattle.bd_command.specs.declared.refusal.Refusal.{Refusal}
 use Rattle.bd_command.specs.declared.refusal.Refusal.TheVariants.{NotFound, Exists, NoParent, NotDir, IsDir, Inside, Root, TooBig}
 use Rattle.bd_command.specs.declared.reply.Listed.{Listed}
 use Rattle.bd_command.specs.declared.reply.Listing.{Listing}
 use Rattle.bd_command.specs.declared.reply.Reply.{Reply}
 use Rattle.bd_command.specs.declared.reply.Reply.TheVariants.{Done, Bytes, Dir, File, Names, Refused}
-use Rattle.bd_model.specs.Tree.{Name, Path, Entry, Directory, FileWith, Tree}
+use Rattle.bd_model.specs.Tree.{Name, Path, Entry, Directory, FileWith, is_directory, Tree}
 
 -- ---- refusals
 
@@ -30,26 +30,43 @@ absent_refusal (Some e) = None
 -- no file is there
 abbrev pub file_refusal : Option Entry → Option Refusal
 file_refusal None = Some NotFound
-file_refusal (Some Directory) = Some IsDir
-file_refusal (Some (FileWith bytes)) = None
+file_refusal (Some (Directory mode)) = Some IsDir
+file_refusal (Some (FileWith mode bytes)) = None
 
 -- no directory is there
 abbrev pub directory_refusal : Option Entry → Option Refusal
 directory_refusal None = Some NotFound
-directory_refusal (Some Directory) = None
-directory_refusal (Some (FileWith bytes)) = Some NotDir
+directory_refusal (Some (Directory mode)) = None
+directory_refusal (Some (FileWith mode bytes)) = Some NotDir
 
 -- no directory is there that a new entry could stand in
 abbrev pub parent_refusal : Option Entry → Option Refusal
 parent_refusal None = Some NoParent
-parent_refusal (Some Directory) = None
-parent_refusal (Some (FileWith bytes)) = Some NotDir
+parent_refusal (Some (Directory mode)) = None
+parent_refusal (Some (FileWith mode bytes)) = Some NotDir
+
+-- a path is taken, or no directory is above it
+abbrev pub place_refusal : Bool → Tree → Path → Option Refusal
+place_refusal taken t path =
+    if taken then Some Exists else parent_refusal (option_and_then (get t) (parent_of path))
 
 -- a new entry can't be made at the path
 abbrev pub new_refusal : Tree → Path → Option Refusal
-new_refusal t path =
-    if is_some (get t path) then Some Exists
-    else parent_refusal (option_and_then (get t) (parent_of path))
+new_refusal t path = place_refusal (is_some (get t path)) t path
+
+-- a file is there
+abbrev pub has_file : Option Entry → Bool
+has_file None = false
+has_file (Some (Directory mode)) = false
+has_file (Some (FileWith mode bytes)) = true
+
+-- what is there doesn't give way to what is moved to it: a file does, and to a file alone
+abbrev pub is_taken : Option Entry → Option Entry → Bool
+is_taken moved there = is_some there && not (has_file moved && has_file there)
+
+-- what is at `a` can't be moved to `b`
+abbrev pub target_refusal : Tree → Path → Path → Option Refusal
+target_refusal t a b = place_refusal (is_taken (get t a) (get t b)) t b
 
 -- the path is `/`
 abbrev pub root_refusal : Path → Option Refusal
@@ -74,8 +91,9 @@ refusal_of t (Truncate path len) = option_or (file_refusal (get t path)) (size_r
 refusal_of t (Remove path) = option_or (root_refusal path) (absent_refusal (get t path))
 refusal_of t (Rename a b) =
     option_or (root_refusal a) (option_or (absent_refusal (get t a))
-    (option_or (inside_refusal a b) (new_refusal t b)))
+    (option_or (inside_refusal a b) (target_refusal t a b)))
 refusal_of t (Clone a b) = option_or (absent_refusal (get t a)) (new_refusal t b)
+refusal_of t (Chmod path mode) = absent_refusal (get t path)
 refusal_of t (Read path off len) = file_refusal (get t path)
 refusal_of t (Stat path) = absent_refusal (get t path)
 refusal_of t (Ls path after) = directory_refusal (get t path)
@@ -85,8 +103,24 @@ refusal_of t (Ls path after) = directory_refusal (get t path)
 -- the bytes of a file; none where there is none
 abbrev pub file_bytes : Option Entry → List ℕ
 file_bytes None = []
-file_bytes (Some Directory) = []
-file_bytes (Some (FileWith bytes)) = bytes
+file_bytes (Some (Directory mode)) = []
+file_bytes (Some (FileWith mode bytes)) = bytes
+
+-- the mode of what is there, 0 where nothing is
+abbrev pub mode_at : Option Entry → ℕ
+mode_at None = 0
+mode_at (Some (Directory mode)) = mode
+mode_at (Some (FileWith mode bytes)) = mode
+
+-- what is there with another mode
+abbrev pub with_mode : ℕ → Option Entry → Entry
+with_mode new None = Directory new
+with_mode new (Some (Directory mode)) = Directory new
+with_mode new (Some (FileWith mode bytes)) = FileWith new bytes
+
+-- a file with other bytes and the mode of what is there
+abbrev pub with_bytes : List ℕ → Option Entry → Entry
+with_bytes bytes there = FileWith (mode_at there) bytes
 
 -- a path and its entry
 abbrev pub Placed : Type 0
@@ -108,20 +142,23 @@ without path t = retain_keys t (λ q. not (is_under path q))
 abbrev pub cloned : Path → Path → Tree → Tree
 cloned a b t = from_entries (moved a b t ++ entries t)
 
--- what stood at `a` or below it stands at `b`, nothing at `a`, and all else stays
+-- what stood at `a` or below it stands at `b`, in place of a file that was there, nothing at `a`, and
+-- all else stays
 abbrev pub renamed : Path → Path → Tree → Tree
 renamed a b t = from_entries (moved a b t ++ entries (without a t))
 
 -- the tree after a command that it accepts
 abbrev pub changed : Tree → Command → Tree
-changed t (Mkdir path) = insert t path Directory
-changed t (Create path) = insert t path (FileWith [])
+changed t (Mkdir path) = insert t path (Directory 0)
+changed t (Create path) = insert t path (FileWith 0 [])
 changed t (Write path off bytes) =
-    insert t path (FileWith (overwritten (file_bytes (get t path)) off bytes))
-changed t (Truncate path len) = insert t path (FileWith (resized (file_bytes (get t path)) len))
+    insert t path (with_bytes (overwritten (file_bytes (get t path)) off bytes) (get t path))
+changed t (Truncate path len) =
+    insert t path (with_bytes (resized (file_bytes (get t path)) len) (get t path))
 changed t (Remove path) = without path t
 changed t (Rename a b) = renamed a b t
 changed t (Clone a b) = cloned a b t
+changed t (Chmod path mode) = insert t path (with_mode mode (get t path))
 changed t (Read path off len) = t
 changed t (Stat path) = t
 changed t (Ls path after) = t
@@ -130,14 +167,9 @@ changed t (Ls path after) = t
 
 -- what is there
 abbrev pub stat_reply : Option Entry → Reply
-stat_reply None = Dir
-stat_reply (Some Directory) = Dir
-stat_reply (Some (FileWith bytes)) = File (length bytes)
-
--- an entry is a directory
-abbrev pub is_directory : Entry → Bool
-is_directory Directory = true
-is_directory (FileWith bytes) = false
+stat_reply None = Dir 0
+stat_reply (Some (Directory mode)) = Dir mode
+stat_reply (Some (FileWith mode bytes)) = File (length bytes) mode
 
 -- the name of an entry that stands in a directory, by what follows the directory in its path
 abbrev pub child_of : Option Path → Entry → Option Listed
@@ -172,6 +204,7 @@ answer t (Truncate path len) = Done
 answer t (Remove path) = Done
 answer t (Rename a b) = Done
 answer t (Clone a b) = Done
+answer t (Chmod path mode) = Done
 
 -- ---- the step
 

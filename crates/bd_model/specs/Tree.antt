@@ -1,5 +1,6 @@
--- The tree that commands are about: a finite map from paths to directories and files.
-use Rattle.std.specs.Prelude.{◌≡◌, ℕ, ◌<◌, ◌≤◌, List, [], ◌∷◌, ◌++◌, length, IsSome, IfSome, refl, ⊤}
+-- The tree that commands are about: a finite map from paths to directories and files, each with its
+-- mode.
+use Rattle.std.specs.Prelude.{◌≡◌, ℕ, ◌<◌, ◌≤◌, Bool, true, false, List, [], ◌∷◌, ◌++◌, length, IsSome, IfSome, IsTrue, refl}
 use Rattle.std.specs.List.{AllByRecursion}
 use Rattle.std.specs.Ordering.{nat_cmp}
 use Rattle.std.specs.Cmp.Lexicographic.{slice_cmp}
@@ -7,14 +8,14 @@ use Rattle.std.specs.declared.cmp.Ordering.{Ordering}
 use Rattle.std.specs.declared.option.Option.{Option}
 use Rattle.std.specs.declared.option.Option.TheVariants.{None, Some}
 use Rattle.std.specs.FinMap.{FinMap, get, from_entries, code}
-use Rattle.std.specs.Coded.{Coded, code_by, coded_list, coded_option, coded_ℕ}
-use Rattle.bd_limits.specs.Limits.{file_limit}
+use Rattle.std.specs.Coded.{Coded, code_by, coded×, coded_list, coded_option, coded_ℕ}
+use Rattle.bd_limits.specs.Limits.{file_limit, mode_limit}
 use Rattle.bd_names.specs.Names.{AreNames}
 
--- a directory, or a file with its bytes
+-- a directory with its mode, or a file with its mode and its bytes
 pub data Entry : Type 0 where
-  Directory : Entry
-  FileWith : (bytes : List ℕ) → Entry
+  Directory : (mode : ℕ) → Entry
+  FileWith : (mode : ℕ) (bytes : List ℕ) → Entry
 
 -- a name is seen as its bytes
 abbrev pub Name : Type 0
@@ -34,26 +35,26 @@ Tree = FinMap path_cmp Entry
 
 -- ---- how a tree is stored as a value
 
--- the bytes of a file, and none of a directory
-abbrev pub entry_bytes : Entry → Option (List ℕ)
-entry_bytes Directory = None
-entry_bytes (FileWith bytes) = Some bytes
+-- the mode, and the bytes of a file and none of a directory
+abbrev pub entry_parts : Entry → ℕ × Option (List ℕ)
+entry_parts (Directory mode) = (mode, None)
+entry_parts (FileWith mode bytes) = (mode, Some bytes)
 
 -- the entry that these tell apart
-abbrev pub entry_with : Option (List ℕ) → Entry
-entry_with None = Directory
-entry_with (Some bytes) = FileWith bytes
+abbrev pub entry_with : ℕ × Option (List ℕ) → Entry
+entry_with (mode, None) = Directory mode
+entry_with (mode, Some bytes) = FileWith mode bytes
 
 -- each entry is told by them
-pub entry_with-entry_bytes : (e : Entry) → entry_with (entry_bytes e) ≡ e
-entry_with-entry_bytes Directory = refl
-entry_with-entry_bytes (FileWith bytes) = refl
+pub entry_with-entry_parts : (e : Entry) → entry_with (entry_parts e) ≡ e
+entry_with-entry_parts (Directory mode) = refl
+entry_with-entry_parts (FileWith mode bytes) = refl
 
 -- how an entry is stored
 abbrev pub coded_entry : Coded Entry
 coded_entry =
-    code_by (Option (List ℕ)) (coded_option (coded_list coded_ℕ))
-    entry_bytes entry_with entry_with-entry_bytes
+    code_by (ℕ × Option (List ℕ)) (coded× coded_ℕ (coded_option (coded_list coded_ℕ)))
+    entry_parts entry_with entry_with-entry_parts
 
 -- how a tree is stored
 abbrev pub coded_tree : Coded Tree
@@ -63,17 +64,28 @@ coded_tree = code (coded_list (coded_list coded_ℕ)) coded_entry
 
 -- the tree of `/` alone
 abbrev pub root_only : Tree
-root_only = from_entries (([], Directory) ∷ [])
+root_only = from_entries (([], Directory 0) ∷ [])
 
--- at most `file_limit` bytes
+-- an entry is a directory
+abbrev pub is_directory : Entry → Bool
+is_directory (Directory mode) = true
+is_directory (FileWith mode bytes) = false
+
+-- a directory is there
+abbrev pub has_directory : Option Entry → Bool
+has_directory None = false
+has_directory (Some e) = is_directory e
+
+-- a mode of twelve bits, and at most `file_limit` bytes
 abbrev pub IsEntry : Entry → Type 0
-IsEntry Directory = ⊤
-IsEntry (FileWith bytes) = (length bytes ≤ file_limit) × AllByRecursion (λ b. b < 256) bytes
+IsEntry (Directory mode) = mode ≤ mode_limit
+IsEntry (FileWith mode bytes) =
+    (length bytes ≤ file_limit) × AllByRecursion (λ b. b < 256) bytes × (mode ≤ mode_limit)
 
 -- `/` is a directory, the parent of each other path is one, and each path is made of names
 pub record IsTree (t : Tree) : Type 0 where
-  pub root : get t [] ≡ Some Directory
+  pub root : IsTrue (has_directory (get t []))
   pub parents : (path : Path) (name : Name) → IsSome (get t (path ++ name ∷ []))
-      → get t path ≡ Some Directory
+      → IsTrue (has_directory (get t path))
   pub names : (path : Path) → IsSome (get t path) → AreNames path
   pub entries : (path : Path) → IfSome (get t path) IsEntry

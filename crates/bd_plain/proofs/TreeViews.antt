@@ -35,8 +35,8 @@ children_seen es path sorted = ap (filter_map (λ (e : List (List ℕ) × Entry)
 pub moved_seen : (es : Entries) (a b : List (List ℕ)) → IsInOrder es → moved a b (seen es) ≡ filter_map (moved_entry a b) es
 moved_seen es a b sorted = ap (filter_map (moved_entry a b)) (entries_seen es sorted)
 
-pub root_seen : seen (([], Directory) ∷ []) ≡ root_only
-root_seen = same_map paths_total paths_exact _ _ (λ q. get_seen (([], Directory) ∷ []) q refl ∙ sym (get-from_entries paths_total (([], Directory) ∷ []) q))
+pub root_seen : seen (([], Directory 0) ∷ []) ≡ root_only
+root_seen = same_map paths_total paths_exact _ _ (λ q. get_seen (([], Directory 0) ∷ []) q refl ∙ sym (get-from_entries paths_total (([], Directory 0) ∷ []) q))
 
 pub put_in_order : (es : Entries) (path : List (List ℕ)) (e : Entry) → IsInOrder es → IsInOrder (put path_cmp path e es)
 put_in_order es path e sorted = is_true _ (is_sorted-put path_cmp paths_total path e es (test sorted))

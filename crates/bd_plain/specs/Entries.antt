@@ -10,8 +10,8 @@ use Rattle.bd_plain.specs.declared.entry.Content.TheVariants as content
 
 -- the entry of the model
 abbrev pub entry_of : Content → Entry
-entry_of content.Directory = Directory
-entry_of (content.File bytes) = FileWith bytes
+entry_of (content.Directory mode) = Directory mode
+entry_of (content.File mode bytes) = FileWith mode bytes
 
 -- where in a list in order an entry of this path stands, or else where it would have to be inserted
 abbrev pub IsPlace : List (List (List ℕ) × Entry) → List (List ℕ) → Result ℕ ℕ → Type 0

@@ -1,8 +1,9 @@
 //! An entry of a tree, and the path where it stands.
 
-ghost use Rattle.std.specs.Prelude.{◌≡◌, IfOk};
+ghost use Rattle.std.specs.Prelude.{◌≡◌, Some, IfOk};
 ghost use Rattle.bd_names.specs.Names.{rest_below, is_under};
-ghost use Rattle.bd_model.specs.Step.{is_directory, moved_entry, child_of};
+ghost use Rattle.bd_model.specs.Tree.{is_directory};
+ghost use Rattle.bd_model.specs.Step.{with_mode, moved_entry, child_of};
 ghost use Rattle.bd_plain.specs.Entries.{entry_of};
 
 use crate::file::File;
@@ -12,11 +13,11 @@ use bd_names::Name;
 use std::alloc::{AllocError, Global};
 use std::marker::Model;
 
-/// A directory, or a file with its bytes.
+/// A directory with its mode, or a file with its mode and its bytes.
 #[derive(Clone, Debug, Drop)]
 pub enum Content {
-    Directory,
-    File(File),
+    Directory(u16),
+    File(u16, File),
 }
 
 impl Content {
@@ -24,7 +25,18 @@ impl Content {
     pub fn is_directory(&self) -> bool
         ensures { result ≡ is_directory (entry_of self.now) }
     {
-        matches!(self, Content::Directory)
+        matches!(self, Content::Directory(_))
+    }
+
+    /// A copy with another mode.
+    pub fn with_mode(&self, mode: u16) -> Result<Content, AllocError>
+        ensures { IfOk result (λ new.
+            entry_of new ≡ with_mode mode (Some (entry_of self.now))) }
+    {
+        match self {
+            Content::Directory(_) => Ok(Content::Directory(mode)),
+            Content::File(_, file) => Ok(Content::File(mode, file.clone()?)),
+        }
     }
 }
 

@@ -1,9 +1,11 @@
 //! Why the tree refuses a command.
 
 ghost use Rattle.std.specs.Prelude.{◌≡◌, ◌+◌, ◌^◌, IfOk, IfErr};
+ghost use Rattle.std.specs.Option.{option_and_then};
 ghost use Rattle.std.specs.FinMap.{get};
+ghost use Rattle.bd_names.specs.Names.{parent_of};
 ghost use Rattle.bd_model.specs.Tree.{FileWith};
-ghost use Rattle.bd_model.specs.Step.{absent_refusal, file_refusal, directory_refusal, new_refusal, root_refusal, size_refusal, inside_refusal, refusal_of};
+ghost use Rattle.bd_model.specs.Step.{absent_refusal, file_refusal, directory_refusal, new_refusal, target_refusal, parent_refusal, has_file, is_taken, root_refusal, size_refusal, inside_refusal, refusal_of};
 ghost use Rattle.bd_command.specs.declared.Command.TheVariants as command;
 
 use crate::entry::Content;
@@ -49,16 +51,17 @@ pub fn size_refusal(off: u32, len: usize) -> Option<Refusal>
 }
 
 impl PlainTree {
-    /// The file at a path, or why there is none.
-    pub(crate) fn file(&self, path: &[Name]) -> Result<&File, Refusal>
-        ensures found { IfOk result (λ file. get self.now path.now ≡ Some (FileWith file.now)) }
+    /// The mode and the bytes of the file at a path, or why there is none.
+    pub(crate) fn file(&self, path: &[Name]) -> Result<(u16, &File), Refusal>
+        ensures found { IfOk result (λ found.
+            get self.now path.now ≡ Some (FileWith found.0 found.1.now)) }
         ensures refused { IfErr result (λ refusal.
             file_refusal (get self.now path.now) ≡ Some refusal) }
     {
         match self.get(path) {
             None => Err(Refusal::NotFound),
-            Some(Content::Directory) => Err(Refusal::IsDir),
-            Some(Content::File(file)) => Ok(file),
+            Some(Content::Directory(_)) => Err(Refusal::IsDir),
+            Some(Content::File(mode, file)) => Ok((*mode, file)),
         }
     }
 
@@ -78,8 +81,8 @@ impl PlainTree {
     {
         match self.get(path) {
             None => Some(Refusal::NotFound),
-            Some(Content::Directory) => None,
-            Some(Content::File(_)) => Some(Refusal::NotDir),
+            Some(Content::Directory(_)) => None,
+            Some(Content::File(..)) => Some(Refusal::NotDir),
         }
     }
 
@@ -90,10 +93,44 @@ impl PlainTree {
         if self.get(path).is_some() {
             return Some(Refusal::Exists);
         }
+        self.above_refusal(path)
+    }
+
+    /// What is at `a` can't be moved to `b`: only a file gives way, and only to a file.
+    pub(crate) fn target_refusal(&self, a: &[Name], b: &[Name]) -> Option<Refusal>
+        ensures { result ≡ target_refusal self.now a.now b.now }
+    {
+        if self.is_taken(a, b) {
+            return Some(Refusal::Exists);
+        }
+        self.above_refusal(b)
+    }
+
+    /// What is at `b` doesn't give way to what is at `a`.
+    fn is_taken(&self, a: &[Name], b: &[Name]) -> bool
+        ensures { result ≡ is_taken (get self.now a.now) (get self.now b.now) }
+    {
+        self.get(b).is_some() && !(self.has_file(a) && self.has_file(b))
+    }
+
+    /// A file is at the path.
+    fn has_file(&self, path: &[Name]) -> bool
+        ensures { result ≡ has_file (get self.now path.now) }
+    {
+        match self.get(path) {
+            None | Some(Content::Directory(_)) => false,
+            Some(Content::File(..)) => true,
+        }
+    }
+
+    /// No directory is above the path.
+    fn above_refusal(&self, path: &[Name]) -> Option<Refusal>
+        ensures { result ≡ parent_refusal (option_and_then (get self.now) (parent_of path.now)) }
+    {
         match paths::parent(path).and_then(|parent| self.get(parent)) {
             None => Some(Refusal::NoParent),
-            Some(Content::Directory) => None,
-            Some(Content::File(_)) => Some(Refusal::NotDir),
+            Some(Content::Directory(_)) => None,
+            Some(Content::File(..)) => Some(Refusal::NotDir),
         }
     }
 
@@ -105,6 +142,6 @@ impl PlainTree {
         root_refusal(a)
             .or(self.absent_refusal(a))
             .or(inside_refusal(a, b))
-            .or(self.new_refusal(b))
+            .or(self.target_refusal(a, b))
     }
 }

@@ -32,6 +32,7 @@ impl PlainTree {
             Command::Clone { a, b } => self
                 .absent_refusal(&a.names(alloc)?)
                 .or(self.new_refusal(&b.names(alloc)?)),
+            Command::Chmod { path, .. } => self.absent_refusal(&path.names(alloc)?),
             Command::Read { path, .. } => self.file_refusal(&path.names(alloc)?),
             Command::Stat { path } => self.absent_refusal(&path.names(alloc)?),
             Command::List { path, .. } => self.directory_refusal(&path.names(alloc)?),

@@ -31,6 +31,7 @@ impl PlainTree {
             Command::Remove { path } => self.remove(alloc, path),
             Command::Rename { a, b } => self.rename(alloc, a, b),
             Command::Clone { a, b } => self.clone_to(alloc, a, b),
+            Command::Chmod { path, mode } => self.chmod(alloc, path, *mode),
             Command::Read { path, off, len } => self.read(alloc, path, *off, *len),
             Command::Stat { path } => self.stat(alloc, path),
             Command::List { path, after } => self.list(alloc, path, after.as_ref()),
@@ -46,7 +47,7 @@ impl PlainTree {
         if let Some(refusal) = self.new_refusal(&path) {
             return Ok(Reply::Refused(refusal));
         }
-        self.put(Placed::new(path, Content::Directory))?;
+        self.put(Placed::new(path, Content::Directory(0)))?;
         Ok(Reply::Done)
     }
 
@@ -59,7 +60,7 @@ impl PlainTree {
         if let Some(refusal) = self.new_refusal(&path) {
             return Ok(Reply::Refused(refusal));
         }
-        self.put(Placed::new(path, Content::File(File::empty(alloc))))?;
+        self.put(Placed::new(path, Content::File(0, File::empty(alloc))))?;
         Ok(Reply::Done)
     }
 
@@ -75,15 +76,15 @@ impl PlainTree {
         ensures err { OnErr result (self.new ≡ self.old) }
     {
         let path = path.names(alloc)?;
-        let file = match self.file(&path) {
-            Ok(file) => file,
+        let (mode, file) = match self.file(&path) {
+            Ok(found) => found,
             Err(refusal) => return Ok(Reply::Refused(refusal)),
         };
         if let Some(refusal) = refusals::size_refusal(off, bytes.len()) {
             return Ok(Reply::Refused(refusal));
         }
         let file = file.overwritten(alloc, off, bytes.as_slice())?;
-        self.put(Placed::new(path, Content::File(file)))?;
+        self.put(Placed::new(path, Content::File(mode, file)))?;
         Ok(Reply::Done)
     }
 
@@ -93,15 +94,15 @@ impl PlainTree {
         ensures err { OnErr result (self.new ≡ self.old) }
     {
         let path = path.names(alloc)?;
-        let file = match self.file(&path) {
-            Ok(file) => file,
+        let (mode, file) = match self.file(&path) {
+            Ok(found) => found,
             Err(refusal) => return Ok(Reply::Refused(refusal)),
         };
         if let Some(refusal) = refusals::size_refusal(len, 0) {
             return Ok(Reply::Refused(refusal));
         }
         let file = file.resized(alloc, len)?;
-        self.put(Placed::new(path, Content::File(file)))?;
+        self.put(Placed::new(path, Content::File(mode, file)))?;
         Ok(Reply::Done)
     }
 
@@ -119,7 +120,7 @@ impl PlainTree {
         Ok(Reply::Done)
     }
 
-    /// Moves what is at `a` and below it to `b`.
+    /// Moves what is at `a` and below it to `b`, a file also over another one.
     fn rename(&mut self, alloc: Global, a: &Path, b: &Path) -> Result<Reply, AllocError>
         ensures ok { StepsTo self.old (command.Rename a.now b.now) self.new result }
         ensures err { OnErr result (self.new ≡ self.old) }
@@ -148,13 +149,27 @@ impl PlainTree {
         Ok(Reply::Done)
     }
 
+    /// Sets the mode of what is at the path.
+    fn chmod(&mut self, alloc: Global, path: &Path, mode: u16) -> Result<Reply, AllocError>
+        ensures ok { StepsTo self.old (command.Chmod path.now mode) self.new result }
+        ensures err { OnErr result (self.new ≡ self.old) }
+    {
+        let path = path.names(alloc)?;
+        let content = match self.get(&path) {
+            None => return Ok(Reply::Refused(Refusal::NotFound)),
+            Some(content) => content.with_mode(mode)?,
+        };
+        self.put(Placed::new(path, content))?;
+        Ok(Reply::Done)
+    }
+
     /// Reads at most `len` bytes of a file from `off` on.
     fn read(&self, alloc: Global, path: &Path, off: u32, len: u32) -> Result<Reply, AllocError>
         ensures { StepsTo self.now (command.Read path.now off len) self.now result }
     {
         let path = path.names(alloc)?;
         match self.file(&path) {
-            Ok(file) => Ok(Reply::Bytes(file.read(alloc, off, len)?)),
+            Ok((_, file)) => Ok(Reply::Bytes(file.read(alloc, off, len)?)),
             Err(refusal) => Ok(Reply::Refused(refusal)),
         }
     }
@@ -166,8 +181,8 @@ impl PlainTree {
         let path = path.names(alloc)?;
         match self.get(&path) {
             None => Ok(Reply::Refused(Refusal::NotFound)),
-            Some(Content::Directory) => Ok(Reply::Dir),
-            Some(Content::File(file)) => Ok(Reply::File(file.len())),
+            Some(Content::Directory(mode)) => Ok(Reply::Dir(*mode)),
+            Some(Content::File(mode, file)) => Ok(Reply::File(file.len(), *mode)),
         }
     }
 

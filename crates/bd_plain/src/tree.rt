@@ -41,7 +41,7 @@ impl PlainTree {
         ensures { IfOk result (λ new. new ≡ root_only) }
     {
         let mut entries = Vec::new(alloc);
-        entries.push(Placed::new(Vec::new(alloc), Content::Directory))?;
+        entries.push(Placed::new(Vec::new(alloc), Content::Directory(0)))?;
         Ok(PlainTree { entries })
     }
 

@@ -15,8 +15,8 @@ use Rattle.bd_represent.specs.EntryKeys.{record_key, block_key, IsEntryKey}
 
 -- the record of an entry
 abbrev pub record_of : Entry → Record
-record_of Directory = Dir
-record_of (FileWith bytes) = File (length bytes)
+record_of (Directory mode) = Dir mode
+record_of (FileWith mode bytes) = File (length bytes) mode
 
 -- what stands at the key of the record
 abbrev pub record_value : Entry → List ℕ

@@ -1,24 +1,24 @@
 -- What holds of each line, whatever its bytes are.
-use Rattle.std.proofs.Common.{◌≡◌, ◌⊎◌, inl, inr, ℕ, ◌<◌, ◌^◌, Bool, true, false, cond, List, [], ◌∷◌, length, refl, ap, subst}
+use Rattle.std.proofs.Common.{◌≡◌, ◌⊎◌, inl, inr, ℕ, ◌<◌, ◌≤◌, ◌^◌, Bool, true, false, cond, List, [], ◌∷◌, length, refl, ap, subst}
 use Rattle.std.specs.Prelude.{nat_le, Result, Ok, Err}
 use Rattle.std.specs.Option.{ok_or}
 use Rattle.std.specs.List.{list_any}
 use Rattle.std.specs.declared.option.Option.{Option}
 use Rattle.std.specs.declared.option.Option.TheVariants.{None, Some}
 use Rattle.std.proofs.lemmas.Bool.{leb-true}
-use Rattle.bd_limits.specs.Limits.{line_limit, read_limit}
+use Rattle.bd_limits.specs.Limits.{line_limit, read_limit, mode_limit}
 use Rattle.bd_names.specs.Names.{is_name, path_of}
 use Rattle.bd_command.specs.Command.{IsShortPath, IsWritten, IsCommand}
 use Rattle.bd_command.specs.declared.Command.{Command}
-use Rattle.bd_command.specs.declared.Command.TheVariants.{Mkdir, Create, Write, Truncate, Remove, Rename, Clone, Read, Stat, List as Ls}
+use Rattle.bd_command.specs.declared.Command.TheVariants.{Mkdir, Create, Write, Truncate, Remove, Rename, Clone, Chmod, Read, Stat, List as Ls}
 use Rattle.bd_command.specs.declared.refusal.Refusal.{Refusal}
 use Rattle.bd_command.specs.declared.refusal.Refusal.TheVariants.{BadPath, BadLine}
 use Rattle.bd_script.specs.declared.line.Line.{Line}
 use Rattle.bd_script.specs.declared.line.Line.TheVariants.{Walk, Stop}
 use Rattle.bd_script.specs.declared.verb.Verb.{Verb}
 use Rattle.bd_script.specs.declared.verb.Verb.TheVariants as verb
-use Rattle.bd_script.specs.Lines.{Path, LineMeaning, IsLine, runs, is_empty, number_of, hex_of, path_in, only_path, both_paths, two_paths, with_path, with_number, with_bytes, run_path, run_paths, line_of_write, line_of_truncate, line_of_read, line_of_list, alone, verb_of, with_verb, line_of_verb, words_of, line_of_words, line_of_parts, line_of}
-use Rattle.bd_script.proofs.WordLemmas.{IsWritten-hex_of, number_of-below}
+use Rattle.bd_script.specs.Lines.{Path, LineMeaning, IsLine, runs, is_empty, number_of, mode_of, hex_of, path_in, only_path, both_paths, two_paths, with_path, with_number, with_bytes, run_path, run_paths, line_of_write, line_of_truncate, line_of_chmod, line_of_read, line_of_list, alone, verb_of, with_verb, line_of_verb, words_of, line_of_words, line_of_parts, line_of}
+use Rattle.bd_script.proofs.WordLemmas.{IsWritten-hex_of, number_of-below, mode_of-small}
 use Rattle.bd_script.proofs.ReadLemmas.{IsShortPath-read}
 
 -- a line's command keeps its limits, and a refusal is one of two
@@ -108,6 +108,19 @@ kept_truncate (p ∷ []) = bad_line
 kept_truncate (p ∷ len ∷ []) = kept_number len _ (λ n k. kept_path p _ (λ path h. kept (runs (Truncate path n)) (h, k)))
 kept_truncate (p ∷ len ∷ w ∷ words) = bad_line
 
+kept_mode : (word : List ℕ) (f : ℕ → LineMeaning) → ((n : ℕ) → n ≤ mode_limit → Kept (f n)) → Kept (with_number (mode_of word) f)
+kept_mode word f h = by (mode_of word) refl
+  where
+    by : (o : Option ℕ) → mode_of word ≡ o → Kept (with_number o f)
+    by None e = bad_line
+    by (Some n) e = h n (mode_of-small word n e)
+
+kept_chmod : (words : List (List ℕ)) → Kept (line_of_chmod words)
+kept_chmod [] = bad_line
+kept_chmod (p ∷ []) = bad_line
+kept_chmod (p ∷ mode ∷ []) = kept_mode mode _ (λ m k. kept_path p _ (λ path h. kept (runs (Chmod path m)) (h, k)))
+kept_chmod (p ∷ mode ∷ w ∷ words) = bad_line
+
 kept_read : (words : List (List ℕ)) → Kept (line_of_read words)
 kept_read [] = bad_line
 kept_read (p ∷ []) = bad_line
@@ -136,6 +149,7 @@ kept_verb verb.Truncate words = kept_truncate words
 kept_verb verb.Remove words = kept_run Remove words (λ p h. h)
 kept_verb verb.Rename words = kept_run_paths Rename words (λ a b h k. (h, k))
 kept_verb verb.Clone words = kept_run_paths Clone words (λ a b h k. (h, k))
+kept_verb verb.Chmod words = kept_chmod words
 kept_verb verb.Read words = kept_read words
 kept_verb verb.Stat words = kept_run Stat words (λ p h. h)
 kept_verb verb.List words = kept_list words

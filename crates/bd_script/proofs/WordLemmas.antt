@@ -11,9 +11,9 @@ use Rattle.std.proofs.lemmas.Grind.{fold-append}
 use Rattle.hex.specs.Hex.{decode_of, IsBytes}
 use Rattle.hex.specs.declared.error.FromHexError.{FromHexError}
 use Rattle.hex.proofs.HexLemmas.{decode_of-ok}
-use Rattle.bd_limits.specs.Limits.{write_limit}
+use Rattle.bd_limits.specs.Limits.{write_limit, mode_limit}
 use Rattle.bd_command.specs.Command.{IsWritten}
-use Rattle.bd_script.specs.Lines.{is_empty, digits_value, has_leading_zero, is_number, number_of, hex_of, hex_result}
+use Rattle.bd_script.specs.Lines.{is_empty, digits_value, has_leading_zero, is_number, number_of, is_octal, are_octal, mode_of, hex_of, hex_result}
 
 -- ---- numbers
 
@@ -92,6 +92,53 @@ number_of-below word n e = number_below (is_number word) (digits_value word) n s
         let two = and_parts (list_all is_ascii_digit word) _ one.1 in
         let three = and_parts (not (has_leading_zero word)) (nat_le (digits_value word) 4294967295) two.1 in
         leb-true (digits_value word) 4294967295 three.1
+
+-- ---- modes
+
+-- a word of another length is no mode
+pub mode_of-other : (word : List ℕ) → (length word ≡ 4 → ⊥) → mode_of word ≡ None
+mode_of-other [] h = refl
+mode_of-other (a ∷ []) h = refl
+mode_of-other (a ∷ b ∷ []) h = refl
+mode_of-other (a ∷ b ∷ c ∷ []) h = refl
+mode_of-other (a ∷ b ∷ c ∷ d ∷ []) h = absurd (h (omega arith))
+mode_of-other (a ∷ b ∷ c ∷ d ∷ e ∷ word) h = refl
+
+-- what four bytes come to
+abbrev pub four_value : ℕ → ℕ → ℕ → ℕ → ℕ
+four_value a b c d = 512 * (a - 48) + 64 * (b - 48) + 8 * (c - 48) + (d - 48)
+
+pub mode_of-four : (word : List ℕ) (x : ℕ) → length word ≡ 4
+    → mode_of word ≡ cond (are_octal (get_or word 0 x) (get_or word 1 x) (get_or word 2 x) (get_or word 3 x)) (Some (four_value (get_or word 0 x) (get_or word 1 x) (get_or word 2 x) (get_or word 3 x))) None
+mode_of-four [] x h = absurd (omega arith)
+mode_of-four (a ∷ []) x h = absurd (omega arith)
+mode_of-four (a ∷ b ∷ []) x h = absurd (omega arith)
+mode_of-four (a ∷ b ∷ c ∷ []) x h = absurd (omega arith)
+mode_of-four (a ∷ b ∷ c ∷ d ∷ []) x h = refl
+mode_of-four (a ∷ b ∷ c ∷ d ∷ e ∷ word) x h = absurd (omega arith)
+
+-- four octal digits come to a mode
+octal_range : (b : ℕ) → is_octal b ≡ true → b ≤ 55
+octal_range b h = leb-true b 55 (and_parts (nat_le 48 b) (nat_le b 55) h).1
+
+small_at : (t : Bool) (a b c d n : ℕ) → (t ≡ true → four_value a b c d ≤ mode_limit) → cond t (Some (four_value a b c d)) None ≡ Some n → n ≤ mode_limit
+small_at true a b c d n h e = let same : four_value a b c d ≡ n = cc in omega (arith, h refl, same)
+small_at false a b c d n h e = cc
+
+four_small : (a b c d : ℕ) → are_octal a b c d ≡ true → four_value a b c d ≤ mode_limit
+four_small a b c d h =
+    let one = and_parts (is_octal a) (is_octal b && (is_octal c && is_octal d)) h in
+    let two = and_parts (is_octal b) (is_octal c && is_octal d) one.1 in
+    let three = and_parts (is_octal c) (is_octal d) two.1 in
+    omega (arith, octal_range a one.0, octal_range b two.0, octal_range c three.0, octal_range d three.1)
+
+pub mode_of-small : (word : List ℕ) (n : ℕ) → mode_of word ≡ Some n → n ≤ mode_limit
+mode_of-small [] n e = cc
+mode_of-small (a ∷ []) n e = cc
+mode_of-small (a ∷ b ∷ []) n e = cc
+mode_of-small (a ∷ b ∷ c ∷ []) n e = cc
+mode_of-small (a ∷ b ∷ c ∷ d ∷ []) n e = small_at (are_octal a b c d) a b c d n (four_small a b c d) e
+mode_of-small (a ∷ b ∷ c ∷ d ∷ f ∷ word) n e = cc
 
 -- ---- bytes
 

@@ -13,7 +13,7 @@ use Rattle.bd_limits.specs.Limits.{line_limit, read_limit, write_limit}
 use Rattle.bd_names.specs.Names.{same_text, is_name, path_of}
 use Rattle.bd_command.specs.Command.{IsCommand}
 use Rattle.bd_command.specs.declared.Command.{Command}
-use Rattle.bd_command.specs.declared.Command.TheVariants.{Mkdir, Create, Write, Truncate, Remove, Rename, Clone, Read, Stat, List as Ls}
+use Rattle.bd_command.specs.declared.Command.TheVariants.{Mkdir, Create, Write, Truncate, Remove, Rename, Clone, Chmod, Read, Stat, List as Ls}
 use Rattle.bd_command.specs.declared.refusal.Refusal.{Refusal}
 use Rattle.bd_command.specs.declared.refusal.Refusal.TheVariants.{BadPath, BadLine}
 use Rattle.bd_script.specs.declared.line.Line.{Line}
@@ -103,6 +103,20 @@ is_number word =
 abbrev pub number_of : List ℕ → Option ℕ
 number_of word = if is_number word then Some (digits_value word) else None
 
+-- each is an octal digit
+abbrev pub is_octal : ℕ → Bool
+is_octal b = nat_le 48 b && nat_le b 55
+
+abbrev pub are_octal : ℕ → ℕ → ℕ → ℕ → Bool
+are_octal a b c d = is_octal a && (is_octal b && (is_octal c && is_octal d))
+
+-- the mode that exactly four octal digits come to, if a word is those
+abbrev pub mode_of : List ℕ → Option ℕ
+mode_of (a ∷ b ∷ c ∷ d ∷ []) =
+    if are_octal a b c d
+    then Some (512 * (a - 48) + 64 * (b - 48) + 8 * (c - 48) + (d - 48)) else None
+mode_of word = None
+
 -- what pairs of hex digits encode, 1 to `write_limit` bytes
 abbrev pub hex_result : Result (List ℕ) FromHexError → Option (List ℕ)
 hex_result (Err e) = None
@@ -174,6 +188,12 @@ line_of_truncate (p ∷ len ∷ []) =
     with_number (number_of len) (λ n. with_path (path_in p) (λ path. runs (Truncate path n)))
 line_of_truncate words = Err BadLine
 
+-- what follows `chmod`: a path and a mode
+abbrev pub line_of_chmod : List (List ℕ) → LineMeaning
+line_of_chmod (p ∷ mode ∷ []) =
+    with_number (mode_of mode) (λ m. with_path (path_in p) (λ path. runs (Chmod path m)))
+line_of_chmod words = Err BadLine
+
 -- what follows `read`: a path, an offset and how many bytes
 abbrev pub line_of_read : List (List ℕ) → LineMeaning
 line_of_read (p ∷ off ∷ len ∷ []) =
@@ -204,6 +224,7 @@ verb_of word =
     else if same_text word (codes "remove") then Some verb.Remove
     else if same_text word (codes "rename") then Some verb.Rename
     else if same_text word (codes "clone") then Some verb.Clone
+    else if same_text word (codes "chmod") then Some verb.Chmod
     else if same_text word (codes "read") then Some verb.Read
     else if same_text word (codes "stat") then Some verb.Stat
     else if same_text word (codes "list") then Some verb.List
@@ -220,6 +241,7 @@ line_of_verb verb.Truncate words = line_of_truncate words
 line_of_verb verb.Remove words = run_path Remove (only_path words)
 line_of_verb verb.Rename words = run_paths Rename (two_paths words)
 line_of_verb verb.Clone words = run_paths Clone (two_paths words)
+line_of_verb verb.Chmod words = line_of_chmod words
 line_of_verb verb.Read words = line_of_read words
 line_of_verb verb.Stat words = run_path Stat (only_path words)
 line_of_verb verb.List words = line_of_list words

@@ -1,5 +1,5 @@
 -- The bytes of a reply, and which replies can be written.
-use Rattle.std.specs.Prelude.{ℕ, List, [], ◌∷◌, ◌++◌, codes, if◌then◌else◌, ⊤}
+use Rattle.std.specs.Prelude.{ℕ, List, [], ◌∷◌, ◌++◌, ◌+◌, ◌/◌, ◌%◌, codes, if◌then◌else◌, ⊤}
 use Rattle.std.specs.List.{flat_map}
 use Rattle.std.specs.Fmt.{decimal}
 use Rattle.hex.specs.Hex.{encode_lower}
@@ -43,12 +43,22 @@ listed_text l = 32 ∷ l.name ++ (if l.is_dir then 47 ∷ [] else [])
 abbrev pub listing_text : Listing → List ℕ
 listing_text l = codes "ok" ++ flat_map listed_text l.names ++ (if l.more then codes " +" else [])
 
+-- the last octal digit of a number
+abbrev pub octal_digit : ℕ → ℕ
+octal_digit n = 48 + n % 8
+
+-- a mode in four octal digits
+abbrev pub mode_text : ℕ → List ℕ
+mode_text mode =
+    octal_digit (mode / 512) ∷ octal_digit (mode / 64) ∷ octal_digit (mode / 8)
+    ∷ octal_digit mode ∷ []
+
 -- the reply to a command
 abbrev pub reply_text : Reply → List ℕ
 reply_text Done = codes "ok"
 reply_text (Bytes bytes) = codes "ok" ++ chunk_text bytes
-reply_text Dir = codes "ok dir"
-reply_text (File len) = codes "ok file " ++ decimal len
+reply_text (Dir mode) = codes "ok dir " ++ mode_text mode
+reply_text (File len mode) = codes "ok file " ++ decimal len ++ codes " " ++ mode_text mode
 reply_text (Names l) = listing_text l
 reply_text (Refused refusal) = no_text refusal
 

@@ -1,12 +1,12 @@
 //! Reading a line.
 
 ghost use Rattle.std.specs.Prelude.{◌≡◌, ◌↔◌, Ok, Err, IsTrue, is_ok, IfOk};
-ghost use Rattle.bd_script.specs.Lines.{line_of, line_of_words, line_of_verb, line_of_write, line_of_truncate, line_of_read, line_of_list, alone, path_in, only_path, two_paths, IsLine};
+ghost use Rattle.bd_script.specs.Lines.{line_of, line_of_words, line_of_verb, line_of_write, line_of_truncate, line_of_chmod, line_of_read, line_of_list, alone, path_in, only_path, two_paths, IsLine};
 ghost use Rattle.bd_script.specs.Reading.{texts, IsRead, IsPathRead, ArePathsRead};
 ghost use Rattle.bd_command.specs.declared.refusal.Refusal.TheVariants as refusal;
 
 use crate::line::{Line, LineFault};
-use crate::number::{read_hex, read_number};
+use crate::number::{read_hex, read_mode, read_number};
 use crate::verb::Verb;
 use crate::words::cut_words;
 use bd_command::Command;
@@ -69,6 +69,7 @@ fn read_verb(alloc: Global, verb: Verb, words: &[&[u8]]) -> Result<Line, LineFau
             let (a, b) = two_paths(alloc, words)?;
             Ok(Line::Run(Command::Clone { a, b }))
         }
+        Verb::Chmod => read_chmod(alloc, words),
         Verb::Read => read_read(alloc, words),
         Verb::Stat => {
             let path = only_path(alloc, words)?;
@@ -105,6 +106,18 @@ fn read_truncate(alloc: Global, words: &[&[u8]]) -> Result<Line, LineFault>
     let len = read_number(len).ok_or(LineFault::BadLine)?;
     let path = read_path(alloc, path)?;
     Ok(Line::Run(Command::Truncate { path, len }))
+}
+
+/// Reads what follows `chmod`.
+fn read_chmod(alloc: Global, words: &[&[u8]]) -> Result<Line, LineFault>
+    ensures { IsRead result (line_of_chmod (texts words.now)) }
+{
+    let [path, mode] = words else {
+        return Err(LineFault::BadLine);
+    };
+    let mode = read_mode(mode).ok_or(LineFault::BadLine)?;
+    let path = read_path(alloc, path)?;
+    Ok(Line::Run(Command::Chmod { path, mode }))
 }
 
 /// Reads what follows `read`.

@@ -4,7 +4,8 @@ ghost use Rattle.std.specs.Prelude.{◌≡◌, ◌+◌, ◌*◌, ◌≤◌, ◌+
 ghost use Rattle.std.specs.List.{flat_map};
 ghost use Rattle.hex.specs.Hex.{encode_lower};
 ghost use Rattle.bd_command.specs.Command.{IsReply};
-ghost use Rattle.bd_script.specs.Replies.{IsLineReply, reply_text, reply_line, line_reply_text, line_reply_line, no_text, refusal_text, chunk_text, listed_text, listing_text, walk_text};
+ghost use Rattle.bd_command.specs.declared.reply.Reply.TheVariants as reply;
+ghost use Rattle.bd_script.specs.Replies.{IsLineReply, reply_text, reply_line, line_reply_text, line_reply_line, no_text, refusal_text, chunk_text, listed_text, listing_text, octal_digit, mode_text, walk_text};
 ghost use Rattle.bd_limits.specs.Limits.{listing_limit};
 
 use bd_command::{Listed, Listing, Refusal, Reply};
@@ -79,14 +80,48 @@ fn put_reply(into: &mut [u8; REPLY_SIZE], reply: &Reply) -> usize
             let end = put(into, 0, b"ok");
             put_chunk(into, end, bytes.as_slice())
         }
-        Reply::Dir => put(into, 0, b"ok dir"),
-        Reply::File(len) => {
-            let end = put(into, 0, b"ok file ");
-            put_number(into, end, u64::from(*len))
+        Reply::Dir(mode) => {
+            let end = put(into, 0, b"ok dir ");
+            put_mode(into, end, *mode)
         }
+        Reply::File(len, mode) => put_file(into, *len, *mode),
         Reply::Names(listing) => put_listing(into, listing),
         Reply::Refused(refusal) => put_refusal(into, *refusal),
     }
+}
+
+/// Writes the length and the mode of a file at the front.
+fn put_file(into: &mut [u8; REPLY_SIZE], len: u32, mode: u16) -> usize
+    ensures text { take result into.new ≡ reply_text (reply.File len mode) }
+    ensures length { result ≡ length (reply_text (reply.File len mode)) }
+    ensures bound { result ≤ 100 }
+{
+    let end = put(into, 0, b"ok file ");
+    let end = put_number(into, end, u64::from(len));
+    let end = put(into, end, b" ");
+    put_mode(into, end, mode)
+}
+
+/// Writes a mode in four octal digits at a place, and returns the place after it.
+fn put_mode(into: &mut [u8; REPLY_SIZE], at: usize, mode: u16) -> usize
+    requires room { at + 4 ≤ REPLY_SIZE }
+    ensures text { take result into.new ≡ take at into.old ++ mode_text mode }
+    ensures end { result ≡ at + 4 }
+{
+    let digits = [
+        octal_digit(mode / 512),
+        octal_digit(mode / 64),
+        octal_digit(mode / 8),
+        octal_digit(mode),
+    ];
+    put(into, at, &digits)
+}
+
+/// The last octal digit of a number.
+fn octal_digit(number: u16) -> u8
+    ensures { result ≡ octal_digit number }
+{
+    b'0' + (number % 8) as u8
 }
 
 /// Writes the text of a refused line at the front.

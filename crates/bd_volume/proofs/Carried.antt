@@ -5,12 +5,13 @@ use Rattle.std.specs.Prelude.{nat_lt, Option, Some, None, IsNone, Result, Err, O
 use Rattle.bd_limits.specs.Limits.{key_limit, block_limit}
 use Rattle.bd_command.specs.Command.{writes}
 use Rattle.bd_command.specs.declared.Command.{Command}
-use Rattle.bd_command.specs.declared.Command.TheVariants.{Mkdir, Create, Write, Truncate, Remove, Rename, Clone, Read, Stat, List as Ls}
+use Rattle.bd_command.specs.declared.Command.TheVariants.{Mkdir, Create, Write, Truncate, Remove, Rename, Clone, Chmod, Read, Stat, List as Ls}
 use Rattle.bd_command.specs.declared.refusal.Refusal.{Refusal}
 use Rattle.bd_command.specs.declared.reply.Reply.{Reply}
 use Rattle.bd_command.specs.declared.reply.Reply.TheVariants as reply
 use Rattle.bd_model.specs.Tree.{Tree}
-use Rattle.bd_model.specs.Step.{step, stepped, refusal_of, changed, answer}
+use Rattle.std.specs.FinMap.{get}
+use Rattle.bd_model.specs.Step.{step, stepped, refusal_of, changed, answer, mode_at}
 use Rattle.bd_model.proofs.TreeLaws.{after-reading}
 use Rattle.bd_message.specs.declared.message.Message.{Message}
 use Rattle.bd_message.specs.declared.message.Message.TheVariants.{Put, Del, Patch, Cut, Goto}
@@ -51,10 +52,11 @@ sending_along old new t (Create path) same = refl
 sending_along old new t (Write path off bytes) same = refl
 sending_along old new t (Truncate path len) same =
     let test : Bool = nat_lt len (size_at t path) in
-    ap (λ (x : Option (List ℕ)). Batch (put_length path len ∷ cond test (cut_past path len ∷ shortened path len (unwrap_or x [])) [])) (same (block_key path (len / block_limit)))
+    ap (λ (x : Option (List ℕ)). Batch (put_length path (mode_at (get t path)) len ∷ cond test (cut_past path len ∷ shortened path len (unwrap_or x [])) [])) (same (block_key path (len / block_limit)))
 sending_along old new t (Remove path) same = refl
 sending_along old new t (Rename a b) same = refl
 sending_along old new t (Clone a b) same = refl
+sending_along old new t (Chmod path mode) same = refl
 sending_along old new t (Read path off len) same = refl
 sending_along old new t (Stat path) same = refl
 sending_along old new t (Ls path after) same = refl
@@ -74,6 +76,7 @@ done_answer t (Truncate path len) h = refl
 done_answer t (Remove path) h = refl
 done_answer t (Rename a b) h = refl
 done_answer t (Clone a b) h = refl
+done_answer t (Chmod path mode) h = refl
 done_answer t (Read path off len) h = cc
 done_answer t (Stat path) h = cc
 done_answer t (Ls path after) h = cc

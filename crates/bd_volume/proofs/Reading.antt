@@ -2,7 +2,7 @@
 use Rattle.std.proofs.Common.{◌≡◌, ℕ, refl, sym, subst}
 use Rattle.bd_command.specs.Command.{IsCommand}
 use Rattle.bd_command.specs.declared.Command.{Command}
-use Rattle.bd_command.specs.declared.Command.TheVariants.{Mkdir, Create, Write, Truncate, Remove, Rename, Clone, Read, Stat, List as Ls}
+use Rattle.bd_command.specs.declared.Command.TheVariants.{Mkdir, Create, Write, Truncate, Remove, Rename, Clone, Chmod, Read, Stat, List as Ls}
 use Rattle.bd_message.specs.declared.fault.MapFault.{MapFault}
 use Rattle.bd_message.specs.declared.fault.MapFault.TheVariants as map
 use Rattle.bd_message.specs.KeyMaps.{SameAt}
@@ -37,6 +37,7 @@ command_size (Truncate path len) h = tt
 command_size (Remove path) h = tt
 command_size (Rename a b) h = tt
 command_size (Clone a b) h = tt
+command_size (Chmod path mode) h = tt
 command_size (Read path off len) h = tt
 command_size (Stat path) h = tt
 command_size (Ls path after) h = tt

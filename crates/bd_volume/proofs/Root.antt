@@ -46,13 +46,13 @@ nothing at none = record {
 }
 
 -- with the record of `/` it represents `/` alone
-pub root_made : (at new : At) (list : List Message) → HasNone at → list ≡ Put (record_key []) (record_bytes Dir) ∷ [] → IsApplied at list new → Represents new root_only
+pub root_made : (at new : At) (list : List Message) → HasNone at → list ≡ Put (record_key []) (record_bytes (Dir 0)) ∷ [] → IsApplied at list new → Represents new root_only
 root_made at new list none is applied =
-    let value = record_bytes Dir in
+    let value = record_bytes (Dir 0) in
     let mid : At = put_at [] value at in
     let bytes : HasBytes mid [] [] = HasBytes-along at mid [] [] (λ i hi. put_blocks [] value at i refl) (no_bytes at [] none refl) in
     Represents-along mid new root_only (subst (λ (ms : List Message). (k : List ℕ) → IsKey k → new k ≡ acts no_nodes ms k (at k)) is applied)
-    (Represents-insert at mid empty [] Directory (nothing at none) (put_beside [] value at refl) (put-here (record_key []) value (at (record_key []))) bytes (put_only [] value at refl (nothing at none).only))
+    (Represents-insert at mid empty [] (Directory 0) (nothing at none) (put_beside [] value at refl) (put-here (record_key []) value (at (record_key []))) bytes (put_only [] value at refl (nothing at none).only))
 
 -- ---- its message
 
@@ -60,6 +60,6 @@ root_small : IsSmallBatch root_messages
 root_small = record { few = lit≤ tt; each = search rules; plain = search rules }
 
 -- it has room in a new store
-pub root_fits : (m : Message) (t : Table) → m ≡ Put (record_key []) (record_bytes Dir) → t ≡ new_table → FitsRoot t (m ∷ [])
+pub root_fits : (m : Message) (t : Table) → m ≡ Put (record_key []) (record_bytes (Dir 0)) → t ≡ new_table → FitsRoot t (m ∷ [])
 root_fits m t is same =
     subst (λ (x : Message). FitsRoot t (x ∷ [])) (sym is) (small_fits root_messages t root_small (subst (λ (u : Table). u.size ≤ late_limit) (sym same) (lit≤ tt)))

@@ -43,7 +43,7 @@ keys_in tree = root_at (nodes_of tree.store) (table tree.store)
 
 -- the messages that make `/`
 abbrev pub root_messages : List Message
-root_messages = Put (record_key []) (record_bytes Dir) ∷ []
+root_messages = Put (record_key []) (record_bytes (Dir 0)) ∷ []
 
 -- the view at the start: node 1 alone, the root, in which the record of `/` waits; nothing was
 -- grafted

@@ -52,6 +52,7 @@ fn waiting_limit(command: &Command) -> usize
         | Command::Write { .. }
         | Command::Rename { .. }
         | Command::Clone { .. }
+        | Command::Chmod { .. }
         | Command::Read { .. }
         | Command::Stat { .. }
         | Command::List { .. } => SOFT_BUFFER,

@@ -192,7 +192,7 @@ fn root_tree(alloc: Global) -> Result<MemTree, MapFault>
     let mut tree = MemTree::over(alloc, MemNodes::new(alloc)?);
     nodes_are_sound(&tree);
     let root = Path::root(alloc)?;
-    let record = put_record(alloc, &root, Record::Dir)?;
+    let record = put_record(alloc, &root, Record::Dir(0))?;
     tree.apply(&[record])?;
     Ok(tree)
 }

@@ -78,7 +78,8 @@ fn answer<M: KeyMap>(alloc: Global, m: &mut M, command: &Command) -> Result<Repl
         | Command::Truncate { .. }
         | Command::Remove { .. }
         | Command::Rename { .. }
-        | Command::Clone { .. } => unreachable!(),
+        | Command::Clone { .. }
+        | Command::Chmod { .. } => unreachable!(),
     }
 }
 

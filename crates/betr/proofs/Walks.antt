@@ -4,7 +4,7 @@ use Rattle.std.specs.Prelude.{◌&&◌, MatchBool}
 use Rattle.std.specs.declared.result.Result.TheVariants.{Ok, Err}
 use Rattle.bd_command.specs.Command.{is_done}
 use Rattle.bd_command.specs.declared.Command.{Command}
-use Rattle.bd_command.specs.declared.Command.TheVariants.{Mkdir, Create, Write, Truncate, Remove, Rename, Clone, Read, Stat, List as Ls}
+use Rattle.bd_command.specs.declared.Command.TheVariants.{Mkdir, Create, Write, Truncate, Remove, Rename, Clone, Chmod, Read, Stat, List as Ls}
 use Rattle.bd_command.specs.declared.reply.Reply.{Reply}
 use Rattle.bd_message.specs.declared.message.Message.{Message}
 use Rattle.bd_model.specs.Tree.{Tree}
@@ -43,6 +43,7 @@ run_cheap t (Truncate path len) r old new h = appended_keeps (is_done r) t (Trun
 run_cheap t (Remove path) r old new h = appended_keeps (is_done r) t (Remove path) _ old new (λ m. m.sent) h
 run_cheap t (Rename a b) r old new h = grafted_is (is_done r) (IsMoved t (Rename a b) old new) _ (new ≡ old) _ (λ m. m.sent.visits_are) (walk_of old new) h
 run_cheap t (Clone a b) r old new h = grafted_is (is_done r) (IsMoved t (Clone a b) old new) _ (new ≡ old) _ (λ m. m.sent.visits_are) (walk_of old new) h
+run_cheap t (Chmod path mode) r old new h = appended_keeps (is_done r) t (Chmod path mode) _ old new (λ m. m.sent) h
 run_cheap t (Read path off len) r old new h = walk_of old new h
 run_cheap t (Stat path) r old new h = walk_of old new h
 run_cheap t (Ls path after) r old new h = walk_of old new h

@@ -10,7 +10,7 @@ use std::test::Fail;
 const ROWS: &str = "\
 # the root is an empty directory
 > stat /
-ok dir
+ok dir 0000
 > list /
 ok
 # what is made needs a parent, and / can't be made, removed, moved or copied over
@@ -32,7 +32,7 @@ ok
 > write /f 1022 616263
 ok
 > stat /f
-ok file 1025
+ok file 1025 0000
 > read /f 1020 5
 ok 0000616263
 > read /f 1025 9
@@ -64,7 +64,7 @@ ok
 > stat /d/x
 no 1 not-found
 > stat /e/x
-ok file 0
+ok file 0 0000
 # a clone into its own source copies the old tree
 > mkdir /a
 ok
@@ -86,7 +86,7 @@ ok
 > clone /s/p /q
 ok
 > stat /q/f
-ok file 0
+ok file 0 0000
 > list /s
 ok p/
 > list /
@@ -135,7 +135,7 @@ ok
 > write /f 1073741824 00
 no 8 too-big
 > stat /f
-ok file 1073741824
+ok file 1073741824 0000
 # a truncate to the middle of a block, and out again
 > create /f
 ok
@@ -223,6 +223,108 @@ no 2 exists
 no 4 not-dir
 > clone /d /no/y
 no 3 no-parent
+# a mode is copied with its file, and each has its own from then on
+> create /f
+ok
+> chmod /f 0644
+ok
+> clone /f /g
+ok
+> chmod /f 0600
+ok
+> stat /g
+ok file 0 0644
+> stat /f
+ok file 0 0600
+> chmod /x 0644
+no 1 not-found
+> chmod /f 644
+no 10 bad-line
+> chmod /f 8000
+no 10 bad-line
+# a file is moved over another one, of which nothing is left
+> create /a
+ok
+> write /a 0 01
+ok
+> create /b
+ok
+> write /b 1023 0203
+ok
+> rename /a /b
+ok
+> stat /b
+ok file 1 0000
+> stat /a
+no 1 not-found
+> truncate /b 1026
+ok
+> read /b 1023 3
+ok 000000
+> mkdir /d
+ok
+> rename /b /d
+no 2 exists
+> rename /d /b
+no 2 exists
+> rename /b /b
+no 6 inside
+# a mode stays while bytes change and a subtree is moved, and goes with what is moved over
+> chmod / 7777
+ok
+> stat /
+ok dir 7777
+> mkdir /d
+ok
+> chmod /d 0755
+ok
+> create /d/f
+ok
+> chmod /d/f 0640
+ok
+> write /d/f 2 0102
+ok
+> truncate /d/f 3
+ok
+> rename /d /e
+ok
+> stat /e
+ok dir 0755
+> stat /e/f
+ok file 3 0640
+> create /g
+ok
+> chmod /g 0001
+ok
+> rename /e/f /g
+ok
+> stat /g
+ok file 3 0640
+> read /g 0 9
+ok 000001
+# a file gives way to a file alone, and only where it isn't moved into itself
+> mkdir /d
+ok
+> create /d/f
+ok
+> create /g
+ok
+> rename /d /g
+no 2 exists
+> rename /g /d
+no 2 exists
+> rename /g /
+no 2 exists
+> clone /d/f /g
+no 2 exists
+> rename /d/f /g
+ok
+> list /d
+ok
+> rename /x /g
+no 1 not-found
+> rename /g /g/x
+no 6 inside
 # bad lines, found before bad paths
 > write bad 01 00
 no 10 bad-line
@@ -233,6 +335,16 @@ no 10 bad-line
 > read bad 0 50
 no 9 bad-path
 > truncate bad x
+no 10 bad-line
+> chmod bad 064
+no 10 bad-line
+> chmod bad 00644
+no 10 bad-line
+> chmod bad 0648
+no 10 bad-line
+> chmod bad 0644
+no 9 bad-path
+> chmod /
 no 10 bad-line
 > rename bad bad
 no 9 bad-path
@@ -326,7 +438,7 @@ fn repeated(alloc: Global, text: &str, count: usize) -> Result<String, AllocErro
 #[test]
 fn rows_of_the_map_give_their_replies(rt: HostRuntime) -> Result<(), Fail> {
     let rows = all_rows(rt.alloc())?;
-    assert_eq!(rt; rows.len(), 18);
+    assert_eq!(rt; rows.len(), 22);
     for row in &rows {
         let written = replies(rt.alloc(), row.script.as_str())?.ok_or("another status")?;
         assert_eq!(rt; written.as_slice(), row.replies.as_bytes(), "{}", row.label);
@@ -381,7 +493,7 @@ fn long_names_and_paths_are_kept(rt: HostRuntime) -> Result<(), Fail> {
     let written = replies(alloc, script.as_str())?.ok_or("another status")?;
     assert_eq!(rt;
         written.as_slice(),
-        b"ok\nok\nok\nok\nok\nok c/ f\nok file 0\nok\nok file 0\n".as_slice()
+        b"ok\nok\nok\nok\nok\nok c/ f\nok file 0 0000\nok\nok file 0 0000\n".as_slice()
     );
     Ok(())
 }

@@ -154,7 +154,7 @@ fn the_first_example_gives_its_replies(rt: HostRuntime) -> Result<(), Fail> {
     assert_eq!(rt; status, 0);
     assert_eq!(rt;
         written.as_slice(),
-        b"ok\nok\nok dir\nok file 0\nno 1 not-found\nok\n".as_slice()
+        b"ok\nok\nok dir 0000\nok file 0 0000\nno 1 not-found\nok\n".as_slice()
     );
     Ok(())
 }
@@ -186,28 +186,40 @@ const FAILING: &[(u64, u64, u64, u8, &str)] = &[
     (3, 0, 0, 5, "ok\nfault source\n"),
     (4, 0, 0, 5, "ok\nok\nfault source\n"),
     (5, 0, 0, 5, "ok\nok\nfault source\n"),
-    (6, 0, 0, 5, "ok\nok\nok dir\nfault source\n"),
-    (7, 0, 0, 5, "ok\nok\nok dir\nok file 0\nfault source\n"),
+    (6, 0, 0, 5, "ok\nok\nok dir 0000\nfault source\n"),
+    (
+        7,
+        0,
+        0,
+        5,
+        "ok\nok\nok dir 0000\nok file 0 0000\nfault source\n",
+    ),
     (
         8,
         0,
         0,
         5,
-        "ok\nok\nok dir\nok file 0\nno 1 not-found\nfault source\n",
+        "ok\nok\nok dir 0000\nok file 0 0000\nno 1 not-found\nfault source\n",
     ),
     (
         9,
         0,
         0,
         0,
-        "ok\nok\nok dir\nok file 0\nno 1 not-found\nok\n",
+        "ok\nok\nok dir 0000\nok file 0 0000\nno 1 not-found\nok\n",
     ),
     (0, 1, 0, 9, ""),
     (0, 2, 0, 9, "ok\n"),
     (0, 3, 0, 9, "ok\nok\n"),
-    (0, 4, 0, 9, "ok\nok\nok dir\n"),
-    (0, 5, 0, 9, "ok\nok\nok dir\nok file 0\n"),
-    (0, 6, 0, 9, "ok\nok\nok dir\nok file 0\nno 1 not-found\n"),
+    (0, 4, 0, 9, "ok\nok\nok dir 0000\n"),
+    (0, 5, 0, 9, "ok\nok\nok dir 0000\nok file 0 0000\n"),
+    (
+        0,
+        6,
+        0,
+        9,
+        "ok\nok\nok dir 0000\nok file 0 0000\nno 1 not-found\n",
+    ),
     (0, 0, 1, 3, "fault device\n"),
 ];
 
@@ -254,10 +266,10 @@ fn first_passed_on(alloc: Global, fail: u64) -> Result<(u8, Vec<usize>, usize), 
 #[test]
 fn replies_are_passed_on_before_the_next_take(rt: HostRuntime) -> Result<(), Fail> {
     let rows: [(u64, u8, &[usize], usize); 4] = [
-        (0, 0, &[0, 3, 3, 6, 13, 23], 41),
+        (0, 0, &[0, 3, 3, 6, 18, 33], 51),
         (1, 9, &[], 0),
         (3, 9, &[0, 3], 3),
-        (7, 9, &[0, 3, 3, 6, 13, 23], 23),
+        (7, 9, &[0, 3, 3, 6, 18, 33], 33),
     ];
     for (fail, want, at_takes, at_end) in rows {
         let (status, seen, passed_on) = first_passed_on(rt.alloc(), fail)?;

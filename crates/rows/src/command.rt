@@ -26,17 +26,21 @@ const RECORDS: &[(&str, &[u8])] = &[
         "clone /a /b",
         &[0, 9, 7, 0, 2, 0x2f, 0x61, 0, 2, 0x2f, 0x62],
     ),
+    ("chmod /f 0644", &[0, 7, 8, 0, 2, 0x2f, 0x66, 0x01, 0xa4]),
 ];
 
 /// What is no log record: too short, of no command, with a byte more, with a path that is none, of
-/// a write without bytes, of a reading command.
+/// a write without bytes, of a mode that is none.
 const NONE: &[&[u8]] = &[
     &[],
     &[0],
     &[0, 0],
     &[0, 5, 1, 0, 2, 0x2f],
     &[0, 5, 0, 0, 2, 0x2f, 0x61],
+    &[0, 5, 9, 0, 2, 0x2f, 0x61],
     &[0, 5, 8, 0, 2, 0x2f, 0x61],
+    &[0, 6, 8, 0, 2, 0x2f, 0x61, 0],
+    &[0, 7, 8, 0, 2, 0x2f, 0x61, 0x10, 0],
     &[0, 6, 1, 0, 2, 0x2f, 0x61, 0],
     &[0, 4, 1, 0, 2, 0x2f, 0x61],
     &[0, 3, 1, 0, 0],

@@ -17,9 +17,9 @@ const LINES: &[(&str, &str)] = &[
     ("rename /d /e", "ok"),
     ("stat /d", "no 1 not-found"),
     ("stat /d/x", "no 1 not-found"),
-    ("stat /dx", "ok file 0"),
-    ("stat /d.x", "ok file 0"),
-    ("stat /e/x", "ok file 0"),
+    ("stat /dx", "ok file 0 0000"),
+    ("stat /d.x", "ok file 0 0000"),
+    ("stat /e/x", "ok file 0 0000"),
     // Names come in the order of their bytes, and nothing of what is below them.
     ("list /", "ok d.x dx e/ f g"),
     ("list / e", "ok f g"),
@@ -28,7 +28,7 @@ const LINES: &[(&str, &str)] = &[
     ("list /d", "no 1 not-found"),
     // A clone into its own source copies the old tree.
     ("clone /e /e/c", "ok"),
-    ("stat /e/c/x", "ok file 0"),
+    ("stat /e/c/x", "ok file 0 0000"),
     ("stat /e/c/c", "no 1 not-found"),
     ("rename /e /e/z", "no 6 inside"),
     ("remove /e", "ok"),
@@ -37,6 +37,16 @@ const LINES: &[(&str, &str)] = &[
     ("mkdir /f/x", "no 4 not-dir"),
     ("mkdir /h/x", "no 3 no-parent"),
     ("read / 0 1", "no 5 is-dir"),
+    // A mode is one record; a file takes the place of another one.
+    ("chmod /f 0644", "ok"),
+    ("stat /f", "ok file 0 0644"),
+    ("write /g 1023 0203", "ok"),
+    ("rename /f /g", "ok"),
+    ("stat /g", "ok file 0 0644"),
+    ("truncate /g 1026", "ok"),
+    ("read /g 1023 3", "ok 000000"),
+    ("stat /f", "no 1 not-found"),
+    ("chmod /f 0644", "no 1 not-found"),
 ];
 
 /// The text of what a line is answered over a key map.

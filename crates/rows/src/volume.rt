@@ -22,13 +22,17 @@ const PATHS: &[&str] = &[
 /// The verbs of the lines, each as often as it comes.
 const VERBS: &[&str] = &[
     "mkdir", "mkdir", "mkdir", "create", "create", "write", "write", "write", "truncate",
-    "truncate", "remove", "rename", "clone", "clone", "read", "read", "stat", "list", "after",
+    "truncate", "remove", "rename", "rename", "rename", "clone", "clone", "chmod", "chmod", "read",
+    "read", "stat", "stat", "list", "after",
 ];
 
 /// Offsets and lengths, about the borders of blocks.
 const PLACES: &[u32] = &[
     0, 1, 5, 1_022, 1_023, 1_024, 1_025, 2_047, 2_048, 2_049, 3_000, 4_096,
 ];
+
+/// Modes, as lines have them.
+const MODES: &[&str] = &["0000", "0644", "0755", "7777"];
 
 /// Lines by a fixed rule.
 #[derive(Drop)]
@@ -56,6 +60,7 @@ impl Lines {
                 format!(in alloc; " {off} {len}")?
             }
             "truncate" => format!(in alloc; " {}", *self.0.pick(PLACES)?)?,
+            "chmod" => format!(in alloc; " {}", *self.0.pick(MODES)?)?,
             "rename" | "clone" => format!(in alloc; " {}", *self.0.pick(PATHS)?)?,
             "after" => String::from_str(alloc, " a")?,
             _ => String::new(alloc),

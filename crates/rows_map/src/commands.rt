@@ -45,7 +45,7 @@ impl Both {
 }
 
 /// Lines: a file over the border of two blocks, clones and moves with writes to both sides, a clone
-/// into its own source, clones of `/` and of a clone, and what is refused.
+/// into its own source, clones of `/` and of a clone, modes, files over files, and what is refused.
 const LINES: &[&str] = &[
     "create /f",
     "write /f 1022 616263",
@@ -87,6 +87,31 @@ const LINES: &[&str] = &[
     "rename /s /t",
     "read /t/p/f 0 9",
     "list /t",
+    "chmod /t 0755",
+    "chmod /t/p/f 0644",
+    "stat /t",
+    "clone /t /u",
+    "chmod /t/p/f 0600",
+    "stat /u/p/f",
+    "stat /t/p/f",
+    "write /f 1023 0203",
+    "rename /t/p/f /f",
+    "stat /f",
+    "read /f 0 9",
+    "truncate /f 1026",
+    "read /f 1020 9",
+    "stat /t/p/f",
+    "list /t/p",
+    "rename /u/p/f /d.x",
+    "rename /dx /d.x",
+    "read /d.x 0 9",
+    "stat /d.x",
+    "rename /t /f",
+    "rename /f /t",
+    "rename /f /f",
+    "remove /u",
+    "chmod / 1777",
+    "stat /",
     "remove /",
     "mkdir /f/x",
     "remove /t",

@@ -18,7 +18,7 @@ use std::test::Fail;
 /// The message that makes a key map without keys represent the tree of `/` alone.
 pub fn root_alone(alloc: Global) -> Result<Message, Fail> {
     let root = Path::root(alloc)?;
-    Ok(put_record(alloc, &root, Record::Dir)?)
+    Ok(put_record(alloc, &root, Record::Dir(0))?)
 }
 
 /// What a line's command is answered over a key map.

@@ -14,7 +14,7 @@ use Rattle.bd_volume.proofs.root_tree.Goals as goal
 
 pub apply-requires : goal.apply-requires
 apply-requires c =
-    root_fits c.in_ok-record.record (table c.over-tree.result.store) (c.in_ok-record.ensures.message ∙ ap (λ (p : List (List ℕ)). Put (record_key p) (record_bytes Dir)) c.in_ok-root.ensures)
+    root_fits c.in_ok-record.record (table c.over-tree.result.store) (c.in_ok-record.ensures.message ∙ ap (λ (p : List (List ℕ)). Put (record_key p) (record_bytes (Dir 0))) c.in_ok-root.ensures)
     (ap table c.over-tree.ensures.store ∙ c.in_ok-new.ensures.table)
 
 pub returns-clause-root : goal.returns-clause-root
@@ -22,7 +22,7 @@ returns-clause-root c =
     let nodes : nodes_of c.over-tree.result.store ≡ new_nodes = ap nodes_of c.over-tree.ensures.store ∙ c.in_ok-new.ensures.nodes in
     let same : table c.over-tree.result.store ≡ new_table = ap table c.over-tree.ensures.store ∙ c.in_ok-new.ensures.table in
     let list : List Message = c.in_ok-record.record ∷ [] in
-    let is : list ≡ root_messages = ap (λ (m : Message). m ∷ []) (c.in_ok-record.ensures.message ∙ ap (λ (p : List (List ℕ)). Put (record_key p) (record_bytes Dir)) c.in_ok-root.ensures) in
+    let is : list ≡ root_messages = ap (λ (m : Message). m ∷ []) (c.in_ok-record.ensures.message ∙ ap (λ (p : List (List ℕ)). Put (record_key p) (record_bytes (Dir 0))) c.in_ok-root.ensures) in
     root_made (keys_in c.over-tree.result) (keys_in c.apply.new.self) list (λ k key. nothing_at (nodes_of c.over-tree.result.store) (table c.over-tree.result.store) nodes same k) is
     (c.in_ok-apply.ensures.applied tt c.nodes_are_sound.ensures)
 
@@ -31,5 +31,5 @@ returns-clause-view c =
     let nodes : nodes_of c.over-tree.result.store ≡ new_nodes = ap nodes_of c.over-tree.ensures.store ∙ c.in_ok-new.ensures.nodes in
     let same : table c.over-tree.result.store ≡ new_table = ap table c.over-tree.ensures.store ∙ c.in_ok-new.ensures.table in
     let list : List Message = c.in_ok-record.record ∷ [] in
-    let is : list ≡ root_messages = ap (λ (m : Message). m ∷ []) (c.in_ok-record.ensures.message ∙ ap (λ (p : List (List ℕ)). Put (record_key p) (record_bytes Dir)) c.in_ok-root.ensures) in
+    let is : list ≡ root_messages = ap (λ (m : Message). m ∷ []) (c.in_ok-record.ensures.message ∙ ap (λ (p : List (List ℕ)). Put (record_key p) (record_bytes (Dir 0))) c.in_ok-root.ensures) in
     fresh_made c.over-tree.result c.apply.new.self list nodes same c.over-tree.ensures.walk is (c.in_ok-apply.ensures.committed tt c.nodes_are_sound.ensures) c.in_ok-apply.ensures.table.is c.in_ok-apply.ensures.walk

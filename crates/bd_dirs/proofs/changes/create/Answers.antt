@@ -9,4 +9,4 @@ pub returns-clause-plan : goal.returns-clause-plan
 returns-clause-plan g c = λ known t tree r.
     let at = g.M.KeyMap.has c.args.m.now in
     let path = c.args.path.now in
-    of_ok c.make.result (IsNewPlan at t path (File 0)) (IsPlan at t (Create path)) (c.make.ensures.plan known t tree r) (create_plan at t path)
+    of_ok c.make.result (IsNewPlan at t path (File 0 0)) (IsPlan at t (Create path)) (c.make.ensures.plan known t tree r) (create_plan at t path)

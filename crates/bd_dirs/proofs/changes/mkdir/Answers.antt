@@ -9,4 +9,4 @@ pub returns-clause-plan : goal.returns-clause-plan
 returns-clause-plan g c = λ known t tree r.
     let at = g.M.KeyMap.has c.args.m.now in
     let path = c.args.path.now in
-    of_ok c.make.result (IsNewPlan at t path Dir) (IsPlan at t (Mkdir path)) (c.make.ensures.plan known t tree r) (mkdir_plan at t path)
+    of_ok c.make.result (IsNewPlan at t path (Dir 0)) (IsPlan at t (Mkdir path)) (c.make.ensures.plan known t tree r) (mkdir_plan at t path)

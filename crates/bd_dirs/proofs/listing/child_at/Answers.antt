@@ -2,7 +2,7 @@ use Rattle.std.proofs.Common.{◌≡◌, List, ℕ, [], ◌∷◌, ◌++◌, sym
 use Rattle.std.specs.Prelude.{Option, Some, IfOk}
 use Rattle.std.specs.FinMap.{get}
 use Rattle.bd_command.specs.declared.reply.Listed.{Listed}
-use Rattle.bd_model.specs.Step.{is_directory}
+use Rattle.bd_model.specs.Tree.{is_directory}
 use Rattle.bd_dirs.proofs.Children.{child_listed, named_as}
 use Rattle.bd_dirs.proofs.listing.child_at.Goals as goal
 

@@ -15,8 +15,8 @@ invariant-loop-place g l = record {
   count : length l.read.items ≤ l.place - l.off;
   left : IsLeft g.M.KeyMap l.initial.m l.m;
   faults : g.M.KeyMap.fault_count l.m ≡ g.M.KeyMap.fault_count l.initial.m;
-  bytes : g.M.KeyMap.is_known l.initial.m → (t : Tree) (file : List ℕ) → Represents (g.M.KeyMap.has l.initial.m) t
-      → get t l.path ≡ Some (FileWith file) → l.end ≤ length file → l.read.items ≡ take (l.place - l.off) (drop l.off file);
+  bytes : g.M.KeyMap.is_known l.initial.m → (t : Tree) (mode : ℕ) (file : List ℕ) → Represents (g.M.KeyMap.has l.initial.m) t
+      → get t l.path ≡ Some (FileWith mode file) → l.end ≤ length file → l.read.items ≡ take (l.place - l.off) (drop l.off file);
 }
 
 abbrev pub decreases-loop-place : goal.decreases-loop-place

@@ -6,8 +6,8 @@ use Rattle.bd_model.proofs.laws.new_entry.Goals as goal
 
 pub returns : goal.returns
 returns c = record {
-  directory = λ t p ok. after-made t (Mkdir p) p Directory ok refl;
-  file = λ t p ok. after-made t (Create p) p (FileWith []) ok refl;
-  beside_directory = λ t p q differ. after-others t (Mkdir p) p Directory q refl differ;
-  beside_file = λ t p q differ. after-others t (Create p) p (FileWith []) q refl differ;
+  directory = λ t p ok. after-made t (Mkdir p) p (Directory 0) ok refl;
+  file = λ t p ok. after-made t (Create p) p (FileWith 0 []) ok refl;
+  beside_directory = λ t p q differ. after-others t (Mkdir p) p (Directory 0) q refl differ;
+  beside_file = λ t p q differ. after-others t (Create p) p (FileWith 0 []) q refl differ;
 }

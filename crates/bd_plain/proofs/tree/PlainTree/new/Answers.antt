@@ -6,5 +6,5 @@ use Rattle.bd_plain.proofs.tree.PlainTree.new.Goals as goal
 
 pub returns : goal.returns
 returns c =
-    let alone : ◌≡◌ {A = Entries} c.push.new.self.items (([], Directory) ∷ []) = search rules in
+    let alone : ◌≡◌ {A = Entries} c.push.new.self.items (([], Directory 0) ∷ []) = search rules in
     ap seen alone ∙ root_seen
