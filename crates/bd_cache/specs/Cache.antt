@@ -16,8 +16,8 @@ abbrev pub kept_at : NodeCache → ℕ → Option Node
 kept_at cache id = option_map node_of (lookup (nat_eq id) cache.kept.entries)
 
 -- how many nodes are kept
-abbrev pub kept_count : NodeCache → ℕ
-kept_count cache = length cache.kept.entries
+abbrev pub cached_count : NodeCache → ℕ
+cached_count cache = length cache.kept.entries
 
 -- how many nodes are kept at most
 abbrev pub room_of : NodeCache → ℕ

@@ -2,7 +2,7 @@
 
 ghost use Rattle.std.specs.Prelude.{◌≡◌, ◌≢◌, ◌≤◌, ◌<◌, ℕ, None, Some, IfOk, OnOk, OnErr};
 ghost use Rattle.std.specs.Option.{option_map};
-ghost use Rattle.bd_cache.specs.Cache.{kept_at, kept_count, room_of, IsKeptOrGone, node_of};
+ghost use Rattle.bd_cache.specs.Cache.{kept_at, cached_count, room_of, IsKeptOrGone, node_of};
 
 use bd_node::Node;
 use lru::LruCache;
@@ -32,7 +32,7 @@ impl NodeCache {
 
     /// How many nodes are kept.
     pub fn len(&self) -> usize
-        ensures count { result ≡ kept_count self.now }
+        ensures count { result ≡ cached_count self.now }
         ensures within { result ≤ room_of self.now }
     {
         self.kept.len()
@@ -60,7 +60,7 @@ impl NodeCache {
         ensures kept { OnOk result (kept_at self.new id ≡ Some node.value) }
         ensures others { (other : ℕ) → other ≢ id
             → IsKeptOrGone (kept_at self.old other) (kept_at self.new other) }
-        ensures none_goes { kept_count self.old < room_of self.old → (other : ℕ) → other ≢ id
+        ensures none_goes { cached_count self.old < room_of self.old → (other : ℕ) → other ≢ id
             → kept_at self.new other ≡ kept_at self.old other }
         ensures room { room_of self.new ≡ room_of self.old }
         ensures err { OnErr result (self.new ≡ self.old) }
@@ -77,6 +77,15 @@ impl NodeCache {
         ensures room { room_of self.new ≡ room_of self.old }
     {
         self.take(id);
+    }
+
+    /// Keeps no node any more.
+    pub fn clear(&mut self)
+        ensures gone { (id : ℕ) → kept_at self.new id ≡ None }
+        ensures count { cached_count self.new ≡ 0 }
+        ensures room { room_of self.new ≡ room_of self.old }
+    {
+        self.kept.clear();
     }
 
     // Gives up the node that is kept for an id.
