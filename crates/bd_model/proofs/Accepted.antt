@@ -1,5 +1,5 @@
 -- What a tree has where it accepts a command.
-use Rattle.std.proofs.Common.{◌≡◌, ◌≢◌, ◌⊎◌, inl, inr, ℕ, ◌≤◌, Bool, true, false, not, ◌&&◌, cond, List, [], ◌∷◌, ◌++◌, Option, None, Some, refl, sym, ap, subst, ◌∙◌, append_assoc}
+use Rattle.std.proofs.Common.{◌≡◌, ◌≢◌, ◌⊎◌, inl, inr, ℕ, ◌≤◌, Bool, true, false, cond, List, [], ◌∷◌, ◌++◌, Option, None, Some, refl, sym, ap, subst, ◌∙◌, append_assoc}
 use Rattle.std.proofs.lemmas.Bool.{leb-true, both_ways as contradict}
 use Rattle.std.proofs.lemmas.List.{append-nil}
 use Rattle.std.specs.Prelude.{is_some, nat_le}
@@ -7,12 +7,12 @@ use Rattle.std.specs.Option.{option_or, option_and_then}
 use Rattle.std.specs.FinMap.{get}
 use Rattle.bd_command.specs.declared.Command.{Command}
 use Rattle.bd_command.specs.declared.refusal.Refusal.{Refusal}
-use Rattle.bd_command.specs.declared.refusal.Refusal.TheVariants.{Exists, Inside, TooBig}
+use Rattle.bd_command.specs.declared.refusal.Refusal.TheVariants.{Inside, TooBig}
 use Rattle.bd_limits.specs.Limits.{file_limit}
 use Rattle.bd_names.specs.Names.{is_under, parent_of}
 use Rattle.bd_names.proofs.NamesLaws.{parent_of-some, is_under-append, is_under-rest}
-use Rattle.bd_model.specs.Tree.{Entry, Directory, FileWith, is_directory, has_directory, Tree, IsTree}
-use Rattle.bd_model.specs.Step.{absent_refusal, file_refusal, parent_refusal, place_refusal, new_refusal, target_refusal, has_file, is_taken, root_refusal, size_refusal, inside_refusal, refusal_of, changed, stepped}
+use Rattle.bd_model.specs.Tree.{Entry, Directory, FileWith, has_directory, Tree, IsTree}
+use Rattle.bd_model.specs.Step.{absent_refusal, file_refusal, parent_refusal, place_refusal, new_refusal, target_refusal, is_taken, root_refusal, size_refusal, inside_refusal, refusal_of, changed, stepped}
 use Rattle.bd_model.specs.Laws.{Accepts, after}
 
 pub after-accepted : (t : Tree) (c : Command) → Accepts t c → after t c ≡ changed t c
@@ -40,9 +40,6 @@ absent_below t tree p (n ∷ r) none =
 pub empty_below : (t : Tree) → IsTree t → (p : List (List ℕ)) (n : List ℕ) (r : List (List ℕ)) → has_directory (get t p) ≡ false → get t (p ++ n ∷ r) ≡ None
 empty_below t tree p n r other =
     ap (get t) (sym (append_assoc p (n ∷ []) r)) ∙ absent_below t tree (p ++ n ∷ []) r (no_child t tree p n other)
-
-pub absent_under : (t : Tree) → IsTree t → (p q : List (List ℕ)) → get t p ≡ None → is_under p q ≡ true → get t q ≡ None
-absent_under t tree p q none h = let rest = is_under-rest p q h in ap (get t) rest.1 ∙ absent_below t tree p rest.0 none
 
 -- ---- the refusals, one by one
 
