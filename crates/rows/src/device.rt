@@ -2,10 +2,10 @@ use bd_device::{Attach, BLOCK_SIZE, Device, FaultyDevice, FuseDevice, MemDevice,
 use bd_io::Failed;
 use std::test::Fail;
 
-const NONE: [u64; 0] = [];
+pub const NONE: [u64; 0] = [];
 
 // Writes a block of this byte.
-fn write_byte<D: Device>(device: &mut D, b: u64, byte: u8) -> Result<(), Failed> {
+pub fn write_byte<D: Device>(device: &mut D, b: u64, byte: u8) -> Result<(), Failed> {
     if b >= device.blocks() {
         return Err(Failed);
     }
@@ -13,7 +13,7 @@ fn write_byte<D: Device>(device: &mut D, b: u64, byte: u8) -> Result<(), Failed>
 }
 
 // The last byte of a block.
-fn read_byte<D: Device>(device: &mut D, b: u64) -> Result<u8, Failed> {
+pub fn read_byte<D: Device>(device: &mut D, b: u64) -> Result<u8, Failed> {
     if b >= device.blocks() {
         return Err(Failed);
     }

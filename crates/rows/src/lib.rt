@@ -20,6 +20,8 @@ mod log;
 #[cfg(test)]
 mod message;
 #[cfg(test)]
+mod mirror;
+#[cfg(test)]
 mod names;
 #[cfg(test)]
 mod plain;

@@ -1,0 +1,89 @@
+-- What a mirror shows, and what its calls leave of its halves.
+use Rattle.std.specs.Prelude.{◌≡◌, ℕ, ◌+◌, ◌^◌, ◌<◌, ◌≤◌, Bool, Option, true, false}
+use Rattle.bd_io.specs.Cause.{Rose}
+use Rattle.bd_device.specs.Blocks.{Image}
+use Rattle.bd_device.specs.Device.{left_now}
+use Rattle.bd_device.specs.Moments.{IsOnly}
+use Rattle.bd_device.specs.declared.device.Device.{Ghosts}
+use Rattle.bd_mirror.specs.Halves.{halves_of, with_halves, uses_first, uses_second, blocks_in}
+use Rattle.bd_mirror.specs.Contents.{shown_by, IsMarked}
+use Rattle.bd_mirror.specs.declared.counts.Counts.{Counts}
+use Rattle.bd_mirror.specs.declared.halves.Halves.{Halves}
+use Rattle.bd_mirror.specs.declared.halves.Attached.{Attached}
+use Rattle.bd_mirror.specs.declared.mirror.Mirror.{Mirror}
+
+-- how many blocks a mirror has
+abbrev pub blocks_now : {A B : Type 0} → Ghosts A → Ghosts B → Mirror A B → ℕ
+blocks_now a b m = blocks_in m.attached (a.block_count m.first) (b.block_count m.second)
+
+-- what reads of a mirror give, where the contents of its halves are known
+abbrev pub shown_now : {A B : Type 0} → Ghosts A → Ghosts B → Mirror A B → Option Image
+shown_now a b m = shown_by m.attached (a.block_count m.first) (b.block_count m.second)
+    (a.contents m.first) (b.contents m.second)
+
+-- the marks of its halves say which are in use, and two in use have the same
+abbrev pub IsMirror : {A B : Type 0} → Ghosts A → Ghosts B → Mirror A B → Type 0
+IsMirror a b m = IsMarked m.attached (a.block_count m.first) (b.block_count m.second)
+    (a.contents m.first) (b.contents m.second)
+
+-- the halves in use
+abbrev pub in_use : {A B : Type 0} → Mirror A B → Halves
+in_use m = halves_of m.attached
+
+-- what of two halves is attached
+abbrev pub attached_to : {A B : Type 0} → Mirror A B → Attached
+attached_to m = m.attached
+
+-- the halves themselves
+abbrev pub first_of : {A B : Type 0} → Mirror A B → A
+first_of m = m.first
+
+abbrev pub second_of : {A B : Type 0} → Mirror A B → B
+second_of m = m.second
+
+-- its own counts
+abbrev pub counts_of : {A B : Type 0} → Mirror A B → Counts
+counts_of m = m.counts
+
+abbrev pub calls_of : {A B : Type 0} → Mirror A B → ℕ
+calls_of m = m.counts.calls
+
+abbrev pub faults_of : {A B : Type 0} → Mirror A B → ℕ
+faults_of m = m.counts.faults
+
+abbrev pub write_faults_of : {A B : Type 0} → Mirror A B → ℕ
+write_faults_of m = m.counts.write_faults
+
+abbrev pub last_of : {A B : Type 0} → Mirror A B → Bool
+last_of m = m.counts.last_failed
+
+-- its count of calls stands at its last value
+abbrev pub IsFull : {A B : Type 0} → Mirror A B → Type 0
+IsFull m = 2 ^ 64 ≤ m.counts.calls + 1
+
+-- the first half counted a fault, or its count stands at its last value
+abbrev pub FirstFailed : {A B : Type 0} → Ghosts A → Mirror A B → Mirror A B → Type 0
+FirstFailed a old new = Rose (a.fault_count old.first) (a.fault_count new.first)
+
+-- so it is of the second
+abbrev pub SecondFailed : {A B : Type 0} → Ghosts B → Mirror A B → Mirror A B → Type 0
+SecondFailed b old new = Rose (b.fault_count old.second) (b.fault_count new.second)
+
+-- of each half in use a crash leaves only what it holds
+pub record AreSettled {A B : Type 0} (a : Ghosts A) (b : Ghosts B) (m : Mirror A B) : Type 0 where
+  pub first : uses_first (halves_of m.attached) ≡ true → 0 < blocks_now a b m
+      → IsOnly (a.contents m.first) (left_now a m.first)
+  pub second : uses_second (halves_of m.attached) ≡ true → 0 < blocks_now a b m
+      → IsOnly (b.contents m.second) (left_now b m.second)
+
+-- what all calls but an attach leave: how many blocks the halves have, and each half that isn't in
+-- use
+pub record HalvesStay {A B : Type 0} (a : Ghosts A) (b : Ghosts B) (old new : Mirror A B)
+    : Type 0 where
+  pub first_count : a.block_count new.first ≡ a.block_count old.first
+  pub second_count : b.block_count new.second ≡ b.block_count old.second
+  pub first_later : a.fault_count old.first ≤ a.fault_count new.first
+  pub second_later : b.fault_count old.second ≤ b.fault_count new.second
+  pub first_idle : uses_first (halves_of old.attached) ≡ false → new.first ≡ old.first
+  pub second_idle : uses_second (halves_of old.attached) ≡ false → new.second ≡ old.second
+  pub attached : new.attached ≡ with_halves (halves_of new.attached) old.attached

@@ -1,0 +1,61 @@
+-- What two halves show together: the pick of their images by their marks.
+use Rattle.std.specs.Prelude.{◌≡◌, ⊤, ℕ, ◌-◌, ◌<◌, ◌&&◌, ◌==◌, min, Bool, true, false, not, if◌then◌else◌, Option, None, Some, take, slice_index}
+use Rattle.std.specs.Option.{option_map}
+use Rattle.bd_device.specs.Blocks.{Image}
+use Rattle.bd_device.specs.Commits.{block_at}
+use Rattle.bd_mirror.specs.declared.halves.Halves.{Halves}
+use Rattle.bd_mirror.specs.declared.halves.Halves.TheVariants.{Both, First, Second, Neither}
+use Rattle.bd_mirror.specs.declared.halves.Attached.{Attached}
+use Rattle.bd_mirror.specs.declared.halves.Attached.TheVariants.{Nothing, Alone, Member, Pair, Apart}
+
+-- the mark of an image, this block, is open: exactly where its first byte is 1
+abbrev pub is_open_at : ℕ → Image → Bool
+is_open_at mark image = slice_index (block_at image mark) 0 == 1
+
+-- the first blocks of the second image where only its mark is open, else of the first one
+abbrev pub pick : ℕ → ℕ → ℕ → Image → Image → Image
+pick size first_mark second_mark first second =
+    if is_open_at second_mark second && not (is_open_at first_mark first) then take size second
+    else take size first
+
+-- the pick of what is known of both
+abbrev pub picked : ℕ → ℕ → ℕ → Option Image → Option Image → Option Image
+picked size first_mark second_mark (Some first) (Some second) =
+    Some (pick size first_mark second_mark first second)
+picked size first_mark second_mark _ _ = None
+
+-- what a mirror shows of halves with so many blocks that hold these images
+abbrev pub shown_by : Attached → ℕ → ℕ → Option Image → Option Image → Option Image
+shown_by Nothing first_count second_count first second = None
+shown_by Alone first_count second_count first second = first
+shown_by Member first_count second_count first second =
+    option_map (take (first_count - 1)) first
+shown_by (Pair halves) first_count second_count first second =
+    picked (min first_count second_count - 1) (first_count - 1) (second_count - 1) first second
+shown_by (Apart halves) first_count second_count first second = None
+
+-- the marks say which halves are in use, and two in use have the same first blocks
+abbrev pub AreMarked : Halves → ℕ → ℕ → ℕ → Option Image → Option Image → Type 0
+AreMarked Both size first_mark second_mark (Some first) (Some second) =
+    (is_open_at first_mark first ≡ false) × (is_open_at second_mark second ≡ false)
+    × (take size first ≡ take size second)
+AreMarked First size first_mark second_mark (Some first) (Some second) =
+    (is_open_at first_mark first ≡ true) × (is_open_at second_mark second ≡ false)
+AreMarked Second size first_mark second_mark (Some first) (Some second) =
+    (is_open_at first_mark first ≡ false) × (is_open_at second_mark second ≡ true)
+AreMarked Neither size first_mark second_mark (Some first) (Some second) = ⊤
+AreMarked halves size first_mark second_mark _ _ = ⊤
+
+-- two halves with marks
+pub record HaveMarks (halves : Halves) (first_count second_count : ℕ)
+    (first second : Option Image) : Type 0 where
+  pub first_room : 0 < first_count
+  pub second_room : 0 < second_count
+  pub marked : AreMarked halves (min first_count second_count - 1) (first_count - 1)
+      (second_count - 1) first second
+
+-- a pair has its marks
+abbrev pub IsMarked : Attached → ℕ → ℕ → Option Image → Option Image → Type 0
+IsMarked (Pair halves) first_count second_count first second =
+    HaveMarks halves first_count second_count first second
+IsMarked _ _ _ _ _ = ⊤

@@ -1,0 +1,11 @@
+//! A device over two others, which keeps what it is given on both. The layers above may use
+//! `Mirror`'s calls of `Device` and `Attach`: which half a read comes from, what a failed half
+//! means, what the marks say, and a cause for each fault.
+#![tactic(auto)]
+
+mod copying;
+mod counts;
+mod halves;
+mod mirror;
+
+pub use mirror::Mirror;

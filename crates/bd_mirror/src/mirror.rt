@@ -1,0 +1,545 @@
+ghost use Rattle.std.specs.Prelude.{◌≡◌, ◌<◌, ◌≤◌, ◌+◌, ◌-◌, ◌^◌, if◌then◌else◌, ◌⊎◌, true, false, IsTrue, None, Some, IfSome, IfOk, OnOk, OnErr, is_ok, is_err, slice_get};
+ghost use Rattle.bd_io.specs.Cause.{HasCause, IsCounted, Rose};
+ghost use Rattle.bd_device.specs.Calls.{faults_after};
+ghost use Rattle.bd_device.specs.Blocks.{Image, with_block, ChangesOnly};
+ghost use Rattle.bd_mirror.specs.declared.halves.Halves.TheVariants.{Both, First, Second, Neither};
+ghost use Rattle.bd_mirror.specs.declared.halves.Attached.TheVariants.{Member};
+ghost use Rattle.std.specs.Option.{option_map};
+ghost use Rattle.bd_mirror.specs.Contents.{is_open_at};
+ghost use Rattle.bd_device.specs.Changes.{StaysBut};
+ghost use Rattle.bd_device.specs.Device.{left_now, Goes, FailsLast, Stays};
+ghost use Rattle.bd_device.specs.Moments.{TornAt, IsOnly};
+ghost use Rattle.bd_mirror.specs.Halves.{has_marks, halves_of, with_halves, uses_first, uses_second, blocks_in, EachDid, LeftOnly, AttachedTo, is_two, is_too_many};
+ghost use Rattle.bd_mirror.specs.Calls.{blocks_now, shown_now, IsMirror, AreSettled, in_use, attached_to, first_of, second_of, counts_of, calls_of, faults_of, write_faults_of, last_of, IsFull, FirstFailed, SecondFailed, HalvesStay};
+
+use crate::copying::{is_open, mirror_onto, open_last, open_mark};
+use crate::counts::Counts;
+use crate::halves::{Attached, Halves};
+use bd_device::{Attach, BLOCK_SIZE, Device};
+use bd_io::Failed;
+
+/// A device over two others, its halves, which keeps what it is given on both. A name without `+`
+/// is the first half alone, `X+Y` are both halves, the name cut at the first `+`, and `X+` is the
+/// first half alone, kept so that a second one can be added. A half of `X+Y` and that of `X+` have
+/// one block more than the mirror, the last one, its mark: it is open exactly where its first byte
+/// is 1. The mirror has no blocks where a half has none, or where two differ in their blocks, and
+/// then there are no marks.
+///
+/// A read asks the halves in use, the first one first. A write and a barrier go to each; where one
+/// of two fails, the mark of the other is opened before the call returns, and the one that failed
+/// is out of use until the next attach. Where both fail, or that mark does, the mirror is broken:
+/// this and each later call but an attach fails. A half alone stays in use when it fails.
+///
+/// The counts are the mirror's own. No call takes memory.
+#[derive(Drop)]
+pub struct Mirror<A, B> {
+    first: A,
+    second: B,
+    attached: Attached,
+    counts: Counts,
+}
+
+impl<A, B> Mirror<A, B> {
+    /// A mirror of these halves, with nothing attached and none of them in use.
+    pub fn new(first: A, second: B) -> Mirror<A, B> {
+        Mirror {
+            first,
+            second,
+            attached: Attached::Nothing,
+            counts: Counts::new(),
+        }
+    }
+}
+
+impl<A: Device, B: Device> Mirror<A, B> {
+    // Reads a block of the first half in use that doesn't fail.
+    fn read_halves(&mut self, b: u64, into: &mut [u8; BLOCK_SIZE]) -> Result<(), Failed>
+        requires { b < blocks_in self.old.attached
+            (A.block_count self.old.first) (B.block_count self.old.second) }
+        ensures bytes { OnOk result (IsMirror A.Device B.Device self.old
+            → IfSome (shown_now A.Device B.Device self.old)
+            (λ image. slice_get image b ≡ Some into.new)) }
+        ensures first_kept { A.contents self.new.first ≡ A.contents self.old.first }
+        ensures second_kept { B.contents self.new.second ≡ B.contents self.old.second }
+        ensures why { OnErr result (EachDid (halves_of self.old.attached)
+            (FirstFailed A.Device self.old self.new) (SecondFailed B.Device self.old self.new)) }
+        ensures stays { HalvesStay A.Device B.Device self.old self.new }
+        ensures attached { self.new.attached ≡ self.old.attached }
+        ensures counts { self.new.counts ≡ self.old.counts }
+    {
+        match self.attached.halves() {
+            Halves::Neither => Err(Failed),
+            Halves::First => self.first.read(b, into),
+            Halves::Second => self.second.read(b, into),
+            Halves::Both => match self.first.read(b, into) {
+                Ok(()) => Ok(()),
+                Err(_) => self.second.read(b, into),
+            },
+        }
+    }
+
+    // Writes a block of each half in use.
+    fn write_halves(&mut self, b: u64, from: &[u8; BLOCK_SIZE]) -> Result<(), Failed>
+        requires { b < blocks_in self.old.attached
+            (A.block_count self.old.first) (B.block_count self.old.second) }
+        ensures written { OnOk result (IsMirror A.Device B.Device self.old
+            → shown_now A.Device B.Device self.new
+            ≡ with_block b from.now (shown_now A.Device B.Device self.old)) }
+        ensures others { OnErr result (IsMirror A.Device B.Device self.old
+            → StaysBut (λ i. i ≡ b) (shown_now A.Device B.Device self.old)
+            (shown_now A.Device B.Device self.new)) }
+        ensures mirror { IsMirror A.Device B.Device self.old
+            → IsMirror A.Device B.Device self.new }
+        ensures why { OnErr result (EachDid (halves_of self.old.attached)
+            (FirstFailed A.Device self.old self.new) (SecondFailed B.Device self.old self.new)) }
+        ensures in_use { LeftOnly (halves_of self.old.attached) (halves_of self.new.attached)
+            (FirstFailed A.Device self.old self.new) (SecondFailed B.Device self.old self.new) }
+        ensures stays { HalvesStay A.Device B.Device self.old self.new }
+        ensures counts { self.new.counts ≡ self.old.counts }
+    {
+        match self.attached.halves() {
+            Halves::Neither => Err(Failed),
+            Halves::First => self.first.write(b, from),
+            Halves::Second => self.second.write(b, from),
+            Halves::Both => self.write_both(b, from),
+        }
+    }
+
+    // Writes a block of both halves.
+    fn write_both(&mut self, b: u64, from: &[u8; BLOCK_SIZE]) -> Result<(), Failed>
+        requires both { halves_of self.old.attached ≡ Both }
+        requires room { b < blocks_in self.old.attached
+            (A.block_count self.old.first) (B.block_count self.old.second) }
+        ensures written { OnOk result (IsMirror A.Device B.Device self.old
+            → shown_now A.Device B.Device self.new
+            ≡ with_block b from.now (shown_now A.Device B.Device self.old)) }
+        ensures others { OnErr result (IsMirror A.Device B.Device self.old
+            → StaysBut (λ i. i ≡ b) (shown_now A.Device B.Device self.old)
+            (shown_now A.Device B.Device self.new)) }
+        ensures mirror { IsMirror A.Device B.Device self.old
+            → IsMirror A.Device B.Device self.new }
+        ensures why { OnErr result (FirstFailed A.Device self.old self.new
+            × SecondFailed B.Device self.old self.new) }
+        ensures in_use { LeftOnly Both (halves_of self.new.attached)
+            (FirstFailed A.Device self.old self.new) (SecondFailed B.Device self.old self.new) }
+        ensures stays { HalvesStay A.Device B.Device self.old self.new }
+        ensures counts { self.new.counts ≡ self.old.counts }
+    {
+        let first = self.first.write(b, from);
+        let second = self.second.write(b, from);
+        match (first, second) {
+            (Ok(()), Ok(())) => Ok(()),
+            (Ok(()), Err(_)) => self.keep_first(),
+            (Err(_), Ok(())) => self.keep_second(),
+            (Err(failed), Err(_)) => {
+                self.attached = self.attached.with(Halves::Neither);
+                Err(failed)
+            }
+        }
+    }
+
+    // Waits until all that was written is kept on each half in use.
+    fn settle_halves(&mut self) -> Result<(), Failed>
+        ensures kept { IsMirror A.Device B.Device self.old
+            → shown_now A.Device B.Device self.new ≡ shown_now A.Device B.Device self.old }
+        ensures mirror { IsMirror A.Device B.Device self.old
+            → IsMirror A.Device B.Device self.new }
+        ensures durable { OnOk result (AreSettled A.Device B.Device self.new) }
+        ensures why { OnErr result (EachDid (halves_of self.old.attached)
+            (FirstFailed A.Device self.old self.new) (SecondFailed B.Device self.old self.new)) }
+        ensures in_use { LeftOnly (halves_of self.old.attached) (halves_of self.new.attached)
+            (FirstFailed A.Device self.old self.new) (SecondFailed B.Device self.old self.new) }
+        ensures stays { HalvesStay A.Device B.Device self.old self.new }
+        ensures counts { self.new.counts ≡ self.old.counts }
+    {
+        match self.attached.halves() {
+            Halves::Neither => Err(Failed),
+            Halves::First => self.first.barrier(),
+            Halves::Second => self.second.barrier(),
+            Halves::Both => self.settle_both(),
+        }
+    }
+
+    // Waits until all that was written is kept on both halves.
+    fn settle_both(&mut self) -> Result<(), Failed>
+        requires both { halves_of self.old.attached ≡ Both }
+        ensures kept { IsMirror A.Device B.Device self.old
+            → shown_now A.Device B.Device self.new ≡ shown_now A.Device B.Device self.old }
+        ensures mirror { IsMirror A.Device B.Device self.old
+            → IsMirror A.Device B.Device self.new }
+        ensures durable { OnOk result (AreSettled A.Device B.Device self.new) }
+        ensures why { OnErr result (FirstFailed A.Device self.old self.new
+            × SecondFailed B.Device self.old self.new) }
+        ensures in_use { LeftOnly Both (halves_of self.new.attached)
+            (FirstFailed A.Device self.old self.new) (SecondFailed B.Device self.old self.new) }
+        ensures stays { HalvesStay A.Device B.Device self.old self.new }
+        ensures counts { self.new.counts ≡ self.old.counts }
+    {
+        let first = self.first.barrier();
+        let second = self.second.barrier();
+        match (first, second) {
+            (Ok(()), Ok(())) => Ok(()),
+            (Ok(()), Err(_)) => self.keep_first(),
+            (Err(_), Ok(())) => self.keep_second(),
+            (Err(failed), Err(_)) => {
+                self.attached = self.attached.with(Halves::Neither);
+                Err(failed)
+            }
+        }
+    }
+
+    // Goes on with the first of two halves: opens its mark, where there is one.
+    fn keep_first(&mut self) -> Result<(), Failed>
+        ensures opened { OnOk result
+            (has_marks self.old.attached ≡ true → 0 < A.block_count self.old.first
+            → IfSome (A.contents self.new.first)
+            (λ image. is_open_at (A.block_count self.old.first - 1) image ≡ true)) }
+        ensures others { StaysBut (λ i. i ≡ A.block_count self.old.first - 1)
+            (A.contents self.old.first) (A.contents self.new.first) }
+        ensures durable { OnOk result
+            (has_marks self.old.attached ≡ true → 0 < A.block_count self.old.first
+            → IsOnly (A.contents self.new.first) (left_now A.Device self.new.first)) }
+        ensures time { Goes A.Device self.old.first self.new.first
+            (TornAt (A.block_count self.old.first - 1) (left_now A.Device self.old.first)) }
+        ensures stays { Stays A.Device self.old.first self.new.first }
+        ensures cause { FailsLast A.Device self.old.first self.new.first result }
+        ensures after { self.new ≡ record self.old {
+          first = self.new.first;
+          attached = with_halves (if is_ok result then First else Neither) self.old.attached;
+        } }
+    {
+        let result = open_last(&mut self.first, self.attached);
+        let halves = if result.is_ok() {
+            Halves::First
+        } else {
+            Halves::Neither
+        };
+        self.attached = self.attached.with(halves);
+        result
+    }
+
+    // Goes on with the second of two halves: opens its mark, where there is one.
+    fn keep_second(&mut self) -> Result<(), Failed>
+        ensures opened { OnOk result
+            (has_marks self.old.attached ≡ true → 0 < B.block_count self.old.second
+            → IfSome (B.contents self.new.second)
+            (λ image. is_open_at (B.block_count self.old.second - 1) image ≡ true)) }
+        ensures others { StaysBut (λ i. i ≡ B.block_count self.old.second - 1)
+            (B.contents self.old.second) (B.contents self.new.second) }
+        ensures durable { OnOk result
+            (has_marks self.old.attached ≡ true → 0 < B.block_count self.old.second
+            → IsOnly (B.contents self.new.second) (left_now B.Device self.new.second)) }
+        ensures time { Goes B.Device self.old.second self.new.second
+            (TornAt (B.block_count self.old.second - 1) (left_now B.Device self.old.second)) }
+        ensures stays { Stays B.Device self.old.second self.new.second }
+        ensures cause { FailsLast B.Device self.old.second self.new.second result }
+        ensures after { self.new ≡ record self.old {
+          second = self.new.second;
+          attached = with_halves (if is_ok result then Second else Neither) self.old.attached;
+        } }
+    {
+        let result = open_last(&mut self.second, self.attached);
+        let halves = if result.is_ok() {
+            Halves::Second
+        } else {
+            Halves::Neither
+        };
+        self.attached = self.attached.with(halves);
+        result
+    }
+}
+
+impl<A: Device, B: Device> Device for Mirror<A, B> {
+    ghost use Rattle.std.specs.Prelude.{⊤};
+
+    ghost block_count = { λ m.
+        blocks_in m.attached (A.block_count m.first) (B.block_count m.second) };
+
+    ghost contents = { λ _. None };
+
+    ghost fault_count = { λ m. m.counts.faults };
+
+    ghost write_fault_count = { λ m. m.counts.write_faults };
+
+    ghost call_count = { λ m. m.counts.calls };
+
+    ghost last_failed = { λ m. m.counts.last_failed };
+
+    ghost is_named = { λ _ _. ⊤ };
+
+    ghost since_earlier = { λ _ _ _ _ _ left. left };
+
+    fn blocks(&self) -> u64 {
+        match self.attached {
+            Attached::Nothing | Attached::Apart(_) => 0,
+            Attached::Alone => self.first.blocks(),
+            Attached::Member => self.first.blocks().saturating_sub(1),
+            Attached::Pair(_) => self
+                .first
+                .blocks()
+                .min(self.second.blocks())
+                .saturating_sub(1),
+        }
+    }
+
+    fn read(&mut self, b: u64, into: &mut [u8; BLOCK_SIZE]) -> Result<(), Failed>
+        requires { b < blocks_now A.Device B.Device self.old }
+
+        // A mirror reads what its halves hold, by their marks, and changes neither.
+        ensures bytes { OnOk result (IsMirror A.Device B.Device self.old
+            → IfSome (shown_now A.Device B.Device self.old)
+            (λ image. slice_get image b ≡ Some into.new)) }
+        ensures first_kept { A.contents (first_of self.new) ≡ A.contents (first_of self.old) }
+        ensures second_kept { B.contents (second_of self.new) ≡ B.contents (second_of self.old) }
+        ensures attached { attached_to self.new ≡ attached_to self.old }
+        ensures stays { HalvesStay A.Device B.Device self.old self.new }
+
+        // It fails only where each half in use did, or the count of calls stands at its last value.
+        ensures why { OnErr result (IsFull self.old ⊎ EachDid (in_use self.old)
+            (FirstFailed A.Device self.old self.new) (SecondFailed B.Device self.old self.new)) }
+        ensures cause { HasCause (faults_of self.old) (faults_of self.new) result }
+        ensures faults { faults_of self.new ≡ faults_after (faults_of self.old) result }
+        ensures last { last_of self.new ≡ is_err result }
+        ensures write_faults { write_faults_of self.new ≡ write_faults_of self.old }
+        ensures calls { IsCounted (calls_of self.old) (calls_of self.new) result }
+    {
+        let result = self.read_halves(b, into);
+        self.counts.settle(result.is_ok())
+    }
+
+    fn write(&mut self, b: u64, from: &[u8; BLOCK_SIZE]) -> Result<(), Failed>
+        requires { b < blocks_now A.Device B.Device self.old }
+
+        // To the layers above a mirror tells no contents: what it shows stands here.
+        ensures untold { OnErr result (ChangesOnly b None None) }
+
+        // A mirror shows the block, where this succeeds, and stays a mirror.
+        ensures written { OnOk result (IsMirror A.Device B.Device self.old
+            → shown_now A.Device B.Device self.new
+            ≡ with_block b from.now (shown_now A.Device B.Device self.old)) }
+        ensures others { IsMirror A.Device B.Device self.old
+            → StaysBut (λ i. i ≡ b) (shown_now A.Device B.Device self.old)
+            (shown_now A.Device B.Device self.new) }
+        ensures mirror { IsMirror A.Device B.Device self.old
+            → IsMirror A.Device B.Device self.new }
+        ensures stays { HalvesStay A.Device B.Device self.old self.new }
+
+        // It fails only where each half in use did, or the count of calls stands at its last value,
+        // and a half goes out of use only where it did.
+        ensures why { OnErr result (IsFull self.old ⊎ EachDid (in_use self.old)
+            (FirstFailed A.Device self.old self.new) (SecondFailed B.Device self.old self.new)) }
+        ensures in_use { LeftOnly (in_use self.old) (in_use self.new)
+            (FirstFailed A.Device self.old self.new) (SecondFailed B.Device self.old self.new) }
+        ensures cause { HasCause (faults_of self.old) (faults_of self.new) result }
+        ensures faults { faults_of self.new ≡ faults_after (faults_of self.old) result }
+        ensures last { last_of self.new ≡ is_err result }
+        ensures write_faults { write_faults_of self.new
+            ≡ faults_after (write_faults_of self.old) result }
+        ensures calls { IsCounted (calls_of self.old) (calls_of self.new) result }
+    {
+        let result = self.write_halves(b, from);
+        self.counts.settle_writing(result.is_ok())
+    }
+
+    fn barrier(&mut self) -> Result<(), Failed>
+
+        // A mirror shows what it showed, and of each half in use a crash leaves only what it holds.
+        ensures kept { IsMirror A.Device B.Device self.old
+            → shown_now A.Device B.Device self.new ≡ shown_now A.Device B.Device self.old }
+        ensures mirror { IsMirror A.Device B.Device self.old
+            → IsMirror A.Device B.Device self.new }
+        ensures durable { OnOk result (AreSettled A.Device B.Device self.new) }
+        ensures stays { HalvesStay A.Device B.Device self.old self.new }
+
+        // It fails as a write does.
+        ensures why { OnErr result (IsFull self.old ⊎ EachDid (in_use self.old)
+            (FirstFailed A.Device self.old self.new) (SecondFailed B.Device self.old self.new)) }
+        ensures in_use { LeftOnly (in_use self.old) (in_use self.new)
+            (FirstFailed A.Device self.old self.new) (SecondFailed B.Device self.old self.new) }
+        ensures cause { HasCause (faults_of self.old) (faults_of self.new) result }
+        ensures faults { faults_of self.new ≡ faults_after (faults_of self.old) result }
+        ensures last { last_of self.new ≡ is_err result }
+        ensures write_faults { write_faults_of self.new
+            ≡ faults_after (write_faults_of self.old) result }
+        ensures calls { IsCounted (calls_of self.old) (calls_of self.new) result }
+    {
+        let result = self.settle_halves();
+        self.counts.settle_writing(result.is_ok())
+    }
+
+    fn faults(&self) -> u64 {
+        self.counts.faults
+    }
+
+    fn write_faults(&self) -> u64 {
+        self.counts.write_faults
+    }
+
+    fn calls(&self) -> u64 {
+        self.counts.calls
+    }
+}
+
+impl<A: Attach, B: Attach> Mirror<A, B> {
+    // Takes the images of this name: what is attached then.
+    fn attach_halves(&mut self, name: &str, create: Option<u64>) -> Result<Attached, Failed>
+        ensures attached { IfOk result (λ at. AttachedTo at
+            (FirstFailed A.Device self.old self.new) (SecondFailed B.Device self.old self.new)) }
+        ensures made { IfOk result (λ at. IfSome create (λ n. blocks_in at
+            (A.block_count (first_of self.new)) (B.block_count (second_of self.new)) ≡ n)) }
+        ensures why { OnErr result ((is_too_many create ≡ true)
+            ⊎ FirstFailed A.Device self.old self.new ⊎ SecondFailed B.Device self.old self.new) }
+        ensures same { attached_to self.new ≡ attached_to self.old }
+        ensures counts { counts_of self.new ≡ counts_of self.old }
+    {
+        match name.split_once('+') {
+            None => {
+                self.first.attach(name, create)?;
+                Ok(Attached::Alone)
+            }
+            Some((first, second)) => {
+                let size = with_mark(create)?;
+                if second.is_empty() {
+                    self.attach_member(first, size)
+                } else {
+                    self.attach_pair(first, second, size)
+                }
+            }
+        }
+    }
+
+    // Takes an image of the first half, and opens its mark.
+    fn attach_member(&mut self, name: &str, size: Option<u64>) -> Result<Attached, Failed>
+        ensures attached { IfOk result (λ at. at ≡ Member) }
+        ensures made { OnOk result
+            (IfSome size (λ n. A.block_count (first_of self.new) ≡ n)) }
+        ensures why { OnErr result (FirstFailed A.Device self.old self.new) }
+        ensures after { self.new ≡ record self.old { first = first_of self.new } }
+    {
+        self.first.attach(name, size)?;
+        self.first.barrier()?;
+        if let Some(mark) = self.first.blocks().checked_sub(1) {
+            if !is_open(&mut self.first, mark)? {
+                open_mark(&mut self.first, mark)?;
+            }
+        }
+        Ok(Attached::Member)
+    }
+
+    // Takes the images of both halves, and makes one a copy of the other where they have marks.
+    fn attach_pair(
+        &mut self,
+        first: &str,
+        second: &str,
+        size: Option<u64>,
+    ) -> Result<Attached, Failed>
+        ensures attached { IfOk result (λ at. AttachedTo at
+            (FirstFailed A.Device self.old self.new) (SecondFailed B.Device self.old self.new)) }
+        ensures made { IfOk result (λ at. IfSome size (λ n. blocks_in at
+            (A.block_count (first_of self.new)) (B.block_count (second_of self.new)) ≡ n - 1)) }
+        ensures why { OnErr result (FirstFailed A.Device self.old self.new
+            ⊎ SecondFailed B.Device self.old self.new) }
+        ensures same { attached_to self.new ≡ attached_to self.old }
+        ensures counts { counts_of self.new ≡ counts_of self.old }
+    {
+        self.first.attach(first, size)?;
+        self.second.attach(second, size)?;
+        self.first.barrier()?;
+        self.second.barrier()?;
+        self.join()
+    }
+}
+
+impl<A: Device, B: Device> Mirror<A, B> {
+    // Makes one of two halves a copy of the other where they have marks: the source is the one
+    // whose mark alone is open, else the first one.
+    fn join(&mut self) -> Result<Attached, Failed>
+        ensures attached { IfOk result (λ at. AttachedTo at
+            (FirstFailed A.Device self.old self.new) (SecondFailed B.Device self.old self.new)) }
+        ensures pair { IfOk result (λ at. is_two at ≡ true) }
+        ensures made { IfOk result (λ at. A.block_count (first_of self.old)
+            ≡ B.block_count (second_of self.old) → blocks_in at
+            (A.block_count (first_of self.new)) (B.block_count (second_of self.new))
+            ≡ A.block_count (first_of self.old) - 1) }
+        ensures why { OnErr result (FirstFailed A.Device self.old self.new
+            ⊎ SecondFailed B.Device self.old self.new) }
+        ensures first_later { A.fault_count (first_of self.old)
+            ≤ A.fault_count (first_of self.new) }
+        ensures second_later { B.fault_count (second_of self.old)
+            ≤ B.fault_count (second_of self.new) }
+        ensures same { attached_to self.new ≡ attached_to self.old }
+        ensures counts { counts_of self.new ≡ counts_of self.old }
+    {
+        let blocks = self.first.blocks();
+        if blocks == 0 || blocks != self.second.blocks() {
+            return Ok(Attached::Apart(Halves::Both));
+        }
+        let mark = blocks - 1;
+        let is_first_open = is_open(&mut self.first, mark)?;
+        let is_second_open = is_open(&mut self.second, mark)?;
+        let halves = if is_second_open && !is_first_open {
+            let took = mirror_onto(&mut self.second, &mut self.first, mark, true, false)?;
+            if took { Halves::Both } else { Halves::Second }
+        } else {
+            let took = mirror_onto(
+                &mut self.first,
+                &mut self.second,
+                mark,
+                is_first_open,
+                is_second_open,
+            )?;
+            if took { Halves::Both } else { Halves::First }
+        };
+        Ok(Attached::Pair(halves))
+    }
+}
+
+// The size of a member of a mirror of so many blocks.
+fn with_mark(create: Option<u64>) -> Result<Option<u64>, Failed>
+    ensures fails { is_err result ≡ is_too_many create }
+    ensures more { IfOk result (λ size. size ≡ option_map (λ n. n + 1) create) }
+{
+    match create {
+        None => Ok(None),
+        Some(u64::MAX) => Err(Failed),
+        Some(count) => Ok(Some(count + 1)),
+    }
+}
+
+impl<A: Attach, B: Attach> Attach for Mirror<A, B> {
+    ghost use Rattle.std.specs.Prelude.{refl};
+
+    ghost shows = { λ _ _. None };
+
+    ghost shows_named = { λ _ _ _. refl };
+
+    ghost left_named = { λ _ _ _ _ _. (λ left. left, λ left. left) };
+
+    fn attach(&mut self, name: &str, create: Option<u64>) -> Result<(), Failed>
+        ensures made { OnOk result
+            (IfSome create (λ n. blocks_now A.Device B.Device self.new ≡ n)) }
+        ensures detached { OnErr result (blocks_now A.Device B.Device self.new ≡ 0) }
+
+        // Each half that is attached is in use, unless it counted a fault.
+        ensures attached { OnOk result (AttachedTo (attached_to self.new)
+            (FirstFailed A.Device self.old self.new) (SecondFailed B.Device self.old self.new)) }
+
+        // It fails only where a half did, the mirror has as many blocks as a u64 can say, or the
+        // count of calls stands at its last value.
+        ensures why { OnErr result (IsFull self.old ⊎ (is_too_many create ≡ true)
+            ⊎ FirstFailed A.Device self.old self.new ⊎ SecondFailed B.Device self.old self.new) }
+        ensures cause { HasCause (faults_of self.old) (faults_of self.new) result }
+        ensures faults { faults_of self.new ≡ faults_after (faults_of self.old) result }
+        ensures last { last_of self.new ≡ is_err result }
+        ensures write_faults { write_faults_of self.new ≡ write_faults_of self.old }
+        ensures calls { IsCounted (calls_of self.old) (calls_of self.new) result }
+    {
+        self.attached = Attached::Nothing;
+        let attached = self.attach_halves(name, create);
+        self.counts.settle(attached.is_ok())?;
+        if let Ok(attached) = attached {
+            self.attached = attached;
+        }
+        Ok(())
+    }
+}

@@ -1,0 +1,200 @@
+use crate::device::{NONE, read_byte, write_byte};
+use bd_device::{Attach, Device, FaultyDevice, FuseDevice, MemDevice};
+use bd_io::Failed;
+use bd_mirror::Mirror;
+use std::alloc::{AllocError, Global};
+use std::test::Fail;
+
+/// How many blocks a mirror has here. A half has one more, its mark.
+const BLOCKS: u64 = 2;
+
+/// How many calls of the first half an attach takes that copies it to the second one.
+const FIRST_CALLS: u64 = 9;
+
+/// How many calls of the second half that takes.
+const SECOND_CALLS: u64 = 6;
+
+/// How many calls of a half the writes and barriers of `turn` take.
+const TURN_CALLS: u64 = 4;
+
+// A half in memory.
+fn half(alloc: Global) -> Result<MemDevice, AllocError> {
+    MemDevice::new(alloc, BLOCKS + 1, 99, &NONE)
+}
+
+// Writes two blocks, and reads them.
+fn turn<D: Device>(device: &mut D, bytes: [u8; 2]) -> Result<[u8; 2], Failed> {
+    write_byte(device, 0, bytes[0])?;
+    device.barrier()?;
+    write_byte(device, 1, bytes[1])?;
+    device.barrier()?;
+    found(device)
+}
+
+// The bytes of two blocks.
+fn found<D: Device>(device: &mut D) -> Result<[u8; 2], Failed> {
+    Ok([read_byte(device, 0)?, read_byte(device, 1)?])
+}
+
+// Attaches both halves, makes a turn, and reads what it wrote.
+fn mirrored<A: Attach + Drop, B: Attach + Drop>(
+    first: A,
+    second: B,
+    create: Option<u64>,
+    bytes: [u8; 2],
+) -> Result<[u8; 2], Failed> {
+    let mut mirror = Mirror::new(first, second);
+    mirror.attach("x+y", create)?;
+    turn(&mut mirror, bytes)
+}
+
+// Attaches both halves again, and reads what the mirror has, and each half.
+fn again(first: &mut MemDevice, second: &mut MemDevice) -> Result<[[u8; 2]; 3], Failed> {
+    let both = joined(&mut *first, &mut *second)?;
+    Ok([both, found(first)?, found(second)?])
+}
+
+fn joined<A: Attach + Drop, B: Attach + Drop>(first: A, second: B) -> Result<[u8; 2], Failed> {
+    let mut mirror = Mirror::new(first, second);
+    mirror.attach("x+y", None)?;
+    found(&mut mirror)
+}
+
+#[test]
+fn without_its_first_half_it_goes_on(rt: HostRuntime) -> Result<(), Fail> {
+    for calls in FIRST_CALLS..FIRST_CALLS + TURN_CALLS {
+        let mut first = half(rt.alloc())?;
+        let mut second = half(rt.alloc())?;
+        assert_eq!(rt;
+            mirrored(&mut first, &mut second, Some(BLOCKS), [1, 2]),
+            Ok([1, 2])
+        );
+        let fuse = FuseDevice::new(&mut first, calls);
+        assert_eq!(rt;
+            mirrored(fuse, &mut second, None, [3, 4]),
+            Ok([3, 4]),
+            "{calls} calls"
+        );
+        assert_eq!(rt; found(&mut second), Ok([3, 4]), "{calls} calls");
+        assert_eq!(rt;
+            again(&mut first, &mut second),
+            Ok([[3, 4]; 3]),
+            "{calls} calls"
+        );
+    }
+    Ok(())
+}
+
+#[test]
+fn an_attach_that_fails_loses_nothing(rt: HostRuntime) -> Result<(), Fail> {
+    for calls in 0..FIRST_CALLS {
+        let mut first = half(rt.alloc())?;
+        let mut second = half(rt.alloc())?;
+        assert_eq!(rt;
+            mirrored(&mut first, &mut second, Some(BLOCKS), [1, 2]),
+            Ok([1, 2])
+        );
+        let fuse = FuseDevice::new(&mut first, calls);
+        assert_eq!(rt;
+            mirrored(fuse, &mut second, None, [3, 4]),
+            Err(Failed),
+            "{calls} calls"
+        );
+        assert_eq!(rt;
+            again(&mut first, &mut second),
+            Ok([[1, 2]; 3]),
+            "{calls} calls"
+        );
+    }
+    Ok(())
+}
+
+// With this call of the first half failing.
+fn without_a_first_call(alloc: Global, call: u64) -> Result<Result<[u8; 2], Failed>, AllocError> {
+    let first = FaultyDevice::new(half(alloc)?, Vec::from_slice(alloc, &[call])?);
+    Ok(mirrored(first, half(alloc)?, Some(BLOCKS), [5, 6]))
+}
+
+// With this call of the second half failing.
+fn without_a_second_call(alloc: Global, call: u64) -> Result<Result<[u8; 2], Failed>, AllocError> {
+    let second = FaultyDevice::new(half(alloc)?, Vec::from_slice(alloc, &[call])?);
+    Ok(mirrored(half(alloc)?, second, Some(BLOCKS), [5, 6]))
+}
+
+#[test]
+fn one_fault_of_one_half_is_not_seen(rt: HostRuntime) -> Result<(), Fail> {
+    for call in FIRST_CALLS + 1..FIRST_CALLS + TURN_CALLS + 3 {
+        let seen = without_a_first_call(rt.alloc(), call)?;
+        assert_eq!(rt; seen, Ok([5, 6]), "call {call} of the first half");
+    }
+    for call in SECOND_CALLS + 1..SECOND_CALLS + TURN_CALLS + 3 {
+        let seen = without_a_second_call(rt.alloc(), call)?;
+        assert_eq!(rt; seen, Ok([5, 6]), "call {call} of the second half");
+    }
+    Ok(())
+}
+
+// Of a mirror whose halves fail after so many calls each: whether an attach is done, whether a turn
+// is then, and then a barrier, and how many blocks it has.
+fn broken(alloc: Global, first: u64, second: u64) -> Result<(bool, bool, bool, u64), AllocError> {
+    let first = FuseDevice::new(half(alloc)?, first);
+    let second = FuseDevice::new(half(alloc)?, second);
+    let mut mirror = Mirror::new(first, second);
+    let attached = mirror.attach("x+y", Some(BLOCKS)).is_ok();
+    let turned = turn(&mut mirror, [1, 2]).is_ok();
+    let settled = mirror.barrier().is_ok();
+    Ok((attached, turned, settled, mirror.blocks()))
+}
+
+#[test]
+fn with_both_failing_it_is_broken(rt: HostRuntime) -> Result<(), Fail> {
+    for (first, second) in [(9, 6), (10, 7), (11, 8), (12, 9)] {
+        let found = broken(rt.alloc(), first, second)?;
+        assert_eq!(rt;
+            found,
+            (true, false, false, BLOCKS),
+            "{first} and {second} calls"
+        );
+    }
+    Ok(())
+}
+
+// Whether a mirror of halves with so many blocks can attach a name, and how many blocks it has then.
+fn attached(
+    alloc: Global,
+    blocks: (u64, u64),
+    name: &str,
+    create: Option<u64>,
+) -> Result<(bool, u64), AllocError> {
+    let first = MemDevice::new(alloc, blocks.0, 9, &NONE)?;
+    let second = MemDevice::new(alloc, blocks.1, 9, &NONE)?;
+    let mut mirror = Mirror::new(first, second);
+    let done = mirror.attach(name, create).is_ok();
+    Ok((done, mirror.blocks()))
+}
+
+#[test]
+fn names_say_which_halves_are_attached(rt: HostRuntime) -> Result<(), Fail> {
+    for (name, blocks, create, want) in [
+        ("x", (3, 3), None, (true, 3)),
+        ("x", (3, 3), Some(2), (true, 2)),
+        ("x+", (3, 4), None, (true, 2)),
+        ("x+", (3, 4), Some(2), (true, 2)),
+        ("x+", (3, 4), Some(3), (false, 0)),
+        ("x+", (3, 4), Some(u64::MAX), (false, 0)),
+        ("x+", (0, 4), None, (true, 0)),
+        ("x+y", (3, 3), None, (true, 2)),
+        ("x+y", (3, 4), None, (true, 0)),
+        ("x+y", (0, 0), None, (true, 0)),
+        ("x+y", (3, 4), Some(2), (true, 2)),
+        ("x+y+z", (3, 3), Some(1), (true, 1)),
+        ("x+y", (3, 3), Some(u64::MAX), (false, 0)),
+    ] {
+        assert_eq!(rt;
+            attached(rt.alloc(), blocks, name, create)?,
+            want,
+            "{name} {create:?}"
+        );
+    }
+    Ok(())
+}
