@@ -1,11 +1,10 @@
-use Rattle.std.proofs.Common.{◌≡◌, ◌<◌, ◌+◌, length, get_or, sym, subst, ap, ◌∙◌, arith}
+use Rattle.std.proofs.Common.{◌<◌, length, sym, subst, ◌∙◌, arith}
 use Rattle.std.specs.Prelude.{IfSome}
 use Rattle.bd_device.proofs.Calls.{stays_then}
 use Rattle.bd_device.proofs.Changes.{stays_both, stays_wider}
 use Rattle.bd_node.specs.declared.node.Node.{Node}
 use Rattle.bd_node.specs.Nodes.{level_of}
 use Rattle.bd_node.specs.Shape.{IsShape}
-use Rattle.bd_slots.specs.Layout.{slot_block}
 use Rattle.bd_pager.specs.declared.slots.SlotWrite.{SlotWrite}
 use Rattle.bd_pager.specs.Slots.{HasNode, IsOfSlot}
 use Rattle.bd_pager.specs.Writes.{IsWritable, IsOfWrites}
