@@ -1,0 +1,111 @@
+-- The bytes of slots: where they stay.
+use Rattle.std.proofs.Common.{◌≡◌, ◌≢◌, ℕ, ◌+◌, ◌-◌, ◌<◌, ◌≤◌, List, [], Bool, true, false, Option, None, Some, IfSome, Result, Ok, Err, OnOk, length, take, drop, get_or, min, inl, inr, refl, sym, ap, subst, ◌∙◌, arith}
+use Rattle.std.specs.Prelude.{slice_get}
+use Rattle.std.specs.List.{concat}
+use Rattle.std.proofs.lemmas.Bool.{true≢false, cases_eq}
+use Rattle.std.proofs.lemmas.List.{length-drop, length-take, take_all, ext_get_or, get_or-take, get_or-drop, get_or_default}
+use Rattle.std.proofs.lemmas.Option.{IfSome_then}
+use Rattle.bd_slots.specs.Layout.{slot_block}
+use Rattle.bd_slots.specs.Slots.{IsHeld}
+use Rattle.bd_device.specs.Blocks.{Image}
+use Rattle.bd_device.specs.Changes.{SameBut, StaysBut, IsBeforeBut, IsInRange, bytes_at}
+use Rattle.bd_device.specs.Moments.{Elapses}
+use Rattle.bd_device.proofs.Moments.{goes_on}
+use Rattle.bd_device.proofs.Changes.{same_then, same_wider, before_now}
+use Rattle.bd_device.specs.Commits.{block_at}
+use Rattle.bd_format.specs.Images.{IsImage}
+use Rattle.bd_node.specs.declared.node.Node.{Node}
+use Rattle.bd_node.specs.Nodes.{level_of}
+use Rattle.bd_node.specs.Shape.{IsShape}
+use Rattle.bd_pager.specs.declared.slots.SlotWrite.{SlotWrite}
+use Rattle.bd_pager.specs.Writes.{IsHeldBy, IsOfWrites}
+use Rattle.bd_pager.specs.Slots.{slot_bytes, HasNode, IsOfSlot, IsSpare}
+
+-- ---- where the bytes stay
+
+-- blocks in a row are the same where none of them has changed
+row_same : (changed : ℕ → Type 0) (old new : Image) (b n : ℕ) → SameBut changed old new → ((i : ℕ) → b ≤ i → i < b + n → ¬ changed i)
+    → take n (drop b new) ≡ take n (drop b old)
+row_same changed old new b n same apart =
+    let size : length (take n (drop b new)) ≡ length (take n (drop b old)) =
+    length-take n (drop b new) ∙ ap (min n) (length-drop b new ∙ ap (λ k. k - b) same.size ∙ sym (length-drop b old)) ∙ sym (length-take n (drop b old)) in
+    ext_get_or [] (take n (drop b new)) (take n (drop b old)) size
+    (λ i lt.
+    let below : i < n = omega (arith, lt, length-take n (drop b new)) in
+    get_or-take n (drop b new) i [] below ∙ get_or-drop b new i []
+    ∙ same.others (b + i) (apart (b + i) (omega arith) (omega arith))
+    ∙ sym (get_or-drop b old i []) ∙ sym (get_or-take n (drop b old) i [] below))
+
+-- a slot keeps its bytes where none of its blocks has changed
+pub slot_same : (changed : ℕ → Type 0) (old new : Image) (slot : ℕ) → SameBut changed old new → ((i : ℕ) → IsOfSlot slot i → ¬ changed i)
+    → slot_bytes new slot ≡ slot_bytes old slot
+slot_same changed old new slot same apart = ap concat (row_same changed old new (slot_block slot) 16 same (λ i low high. apart i (low, high)))
+
+-- a block is one of one slot alone
+pub one_slot : (slot other i : ℕ) → IsOfSlot slot i → IsOfSlot other i → slot ≡ other
+one_slot slot other i own his = omega (arith, own.0, own.1, his.0, his.1)
+
+pub before_same : (from to : ℕ) (old new : Image) → to ≤ 132 → SameBut (IsInRange from to) old new → (slot : ℕ) → slot_bytes new slot ≡ slot_bytes old slot
+before_same from to old new low same slot =
+    slot_same (IsInRange from to) old new slot same (λ i own range. omega (arith, low, own.0, range.1))
+
+pub held_same : (spare : List Bool) (old new : Image) → SameBut (IsSpare spare) old new → (slot : ℕ) → IsHeld spare slot → slot_bytes new slot ≡ slot_bytes old slot
+held_same spare old new same slot held =
+    slot_same (IsSpare spare) old new slot same
+    (λ i own spared.
+    let one : slot ≡ spared.0 = one_slot slot spared.0 i own spared.2 in
+    let free : slice_get spare slot ≡ Some true = subst (λ (s : ℕ). slice_get spare s ≡ Some true) (sym one) spared.1 in
+    true≢false (let e : true ≡ false = cc in e))
+
+pub front_same : (spare : List Bool) (old new : Image) → SameBut (IsSpare spare) old new → (b : ℕ) → b < 132 → block_at new b ≡ block_at old b
+front_same spare old new same b low = same.others b (λ spared. omega (arith, low, spared.2.0))
+
+-- ---- several slots
+
+-- one of them was written more: those before it have what they had
+pub held_more : (old new : Option Image) (writes : List SlotWrite) (i : ℕ) (w : SlotWrite) → i < length writes → w ≡ get_or writes i w
+    → ((k j : ℕ) (d : SlotWrite) → k < j → j < length writes → (get_or writes k d).slot ≢ (get_or writes j d).slot)
+    → StaysBut (IsOfSlot w.slot) old new
+    → IfSome old (λ image. (k : ℕ) (d : SlotWrite) → k < i → IsHeldBy image (get_or writes k d))
+    → IfSome new (λ image. IsHeldBy image w)
+    → IfSome new (λ image. (k : ℕ) (d : SlotWrite) → k < i + 1 → IsHeldBy image (get_or writes k d))
+held_more None None writes i w lt at differ stays was now = tt
+held_more None (Some new) writes i w lt at differ stays was now = absurd stays
+held_more (Some old) None writes i w lt at differ stays was now = absurd stays
+held_more (Some old) (Some new) writes i w lt at differ stays was now = λ k d before. elim (cases_eq k i) [
+  | inl same ↦
+      let here : w ≡ get_or writes k d = at ∙ get_or_default writes i w d lt ∙ ap (λ (n : ℕ). get_or writes n d) (sym same) in
+      subst (IsHeldBy new) here now
+  | inr other ↦
+      let earlier : k < i = omega (arith, other, before) in
+      let x : SlotWrite = get_or writes k d in
+      let own : IsHeldBy old x = was k d earlier in
+      let apart : x.slot ≢ w.slot = λ e. differ k i d earlier lt (e ∙ ap (λ (v : SlotWrite). v.slot) (at ∙ get_or_default writes i w d lt)) in
+      let same : slot_bytes new x.slot ≡ slot_bytes old x.slot = slot_same (IsOfSlot w.slot) old new x.slot stays (λ b mine his. apart (one_slot x.slot w.slot b mine his)) in
+      record { shape = own.shape; level_is = own.level_is; image_is = subst (IsImage x.node.value) (sym same) own.image_is }
+]
+
+-- a slot that is written is one of all
+pub of_writes : (writes : List SlotWrite) (i : ℕ) (w : SlotWrite) (b : ℕ) → i < length writes → w ≡ get_or writes i w → IsOfSlot w.slot b → IsOfWrites writes b
+of_writes writes i w b lt at own = (i, w, lt, sym at, own)
+
+-- a write more, after which a crash may leave what it may have left before but for its slot
+pub written_then : {a b c : ℕ} {first mid last : ℕ → Image → Type 0} (all own : ℕ → Type 0) → ((i : ℕ) → own i → all i)
+    → Elapses a b first mid (IsBeforeBut all (first a))
+    → ((t u : ℕ) (image : Image) → t ≤ u → mid u image → mid t image)
+    → Elapses b c mid last (IsBeforeBut own (mid b))
+    → Elapses a c first last (IsBeforeBut all (first a))
+written_then {a} {b} {c} {first} {mid} {last} all own wider so_far earlier time =
+    goes_on (IsBeforeBut all (first a)) (IsBeforeBut own (mid b)) so_far time
+    (λ image here.
+    let was : IsBeforeBut all (first a) here.0 = before_now all so_far earlier here.0 here.1 in
+    (was.0, was.1, same_then was.2 (same_wider own all wider here.2)))
+
+-- a slot has what was written to it
+pub written_has : {T E : Type 0} (contents : Option Image) (slot b : ℕ) (n : Node) (bytes : List ℕ) (r : Result T E) → b ≡ slot_block slot → IsShape n → IsImage n bytes → length bytes ≡ 65536
+    → OnOk r (IfSome contents (λ image. bytes_at image b 16 ≡ take 65536 bytes)) → OnOk r (IfSome contents (λ image. HasNode image slot (level_of n) n))
+written_has contents slot b n bytes (Ok x) first shape is size h =
+    IfSome_then contents h (λ image e.
+    let whole : bytes_at image b 16 ≡ bytes = e ∙ take_all 65536 bytes (omega (arith, size)) in
+    record { shape = shape; level_is = refl; image_is = subst (IsImage n) (sym whole ∙ ap (λ (k : ℕ). bytes_at image k 16) first) is })
+written_has contents slot b n bytes (Err x) first shape is size h = tt
