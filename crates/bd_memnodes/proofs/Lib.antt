@@ -7,5 +7,6 @@ pub mod Parts
 pub mod Fresh
 pub mod Same
 pub mod Appended
+pub mod Extended
 pub mod Views
 pub mod Keeping

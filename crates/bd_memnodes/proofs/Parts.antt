@@ -29,7 +29,7 @@ use Rattle.bd_memnodes.proofs.Settling.{after_is, begun_releasing, step_names_th
 
 -- ---- what is there
 
-some_of_one : (o : Option ℕ) → 1 ≤ unwrap_or o 0 → IsSome o
+pub some_of_one : (o : Option ℕ) → 1 ≤ unwrap_or o 0 → IsSome o
 some_of_one None one = absurd (omega arith)
 some_of_one (Some n) one = refl
 

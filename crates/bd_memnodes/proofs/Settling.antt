@@ -5,13 +5,14 @@ use Rattle.std.specs.List.{AllByRecursion, sum_by}
 use Rattle.std.proofs.lemmas.Bool.{cases_lt, cond-true, cond-false, lt-ltb, le-ltb}
 use Rattle.std.proofs.lemmas.Option.{slice_get_within}
 use Rattle.std.proofs.lemmas.List.Sums.{sum_by-cons}
+use Rattle.bd_message.specs.declared.message.Message.{Message}
 use Rattle.bd_node.specs.declared.node.Node.{Node}
 use Rattle.bd_node.specs.declared.node.Change.{Change}
 use Rattle.bd_node.specs.declared.node.Step.{Step}
-use Rattle.bd_node.specs.Nodes.{level_of, height_of, buffer_size, names, times}
+use Rattle.bd_node.specs.Nodes.{level_of, height_of, buffer_size, message_names, names, times}
 use Rattle.bd_node.specs.Meaning.{Nodes}
 use Rattle.bd_node.specs.Tables.{Table, IsKept, IsTable, IsStored, IsSound, times_in, one_if, references}
-use Rattle.bd_node.specs.Steps.{changed_at, given, given_or, given_times, after, level_or, level_after, IsThere, IsNamable, IsPut, IsChange, IsStep, StayAbove, IsTableAfter, IsCommitted}
+use Rattle.bd_node.specs.Steps.{changed_at, given, given_or, given_times, added_times, after, level_or, level_after, IsThere, IsNamable, IsPut, IsChange, IsStep, StayAbove, IsTableAfter, IsCommitted}
 use Rattle.bd_node.specs.Closed.{IsClosed, buffer_size_in, table_from}
 use Rattle.bd_node.proofs.Lookup.{each_weaker, each_both, named_has}
 use Rattle.bd_node.proofs.Sound.{kept_there, node_of}
@@ -20,7 +21,7 @@ use Rattle.bd_node.proofs.Counting.{counts_stepped}
 use Rattle.bd_node.proofs.Closing.{by_node, begun, ended}
 use Rattle.bd_memnodes.specs.Maps.{times_among}
 use Rattle.bd_memnodes.specs.Releasing.{IsReleasing}
-use Rattle.bd_memnodes.specs.Plans.{change_names, step_names}
+use Rattle.bd_memnodes.specs.Plans.{change_names, step_names, added_names}
 use Rattle.bd_memnodes.specs.Stored.{table_of, with_made}
 use Rattle.bd_memnodes.proofs.Loops.{times_among-append}
 use Rattle.bd_memnodes.proofs.Counts.{times_among-one}
@@ -41,6 +42,11 @@ step_names_times step c =
     ∙ ap (λ n. n + times_among (flat_map change_names step.changes) c + times_among (step.root ∷ []) c) (flat_times names c step.made)
     ∙ ap (λ n. sum_by (λ m. times m c) step.made + n + times_among (step.root ∷ []) c) (flat_times change_names c step.changes)
     ∙ ap (λ n. given_times step c + n) (times_among-one step.root c)
+
+pub added_names_times : (made : List Node) (list : List Message) (c : ℕ) → times_among (added_names made list) c ≡ added_times made list c
+added_names_times made list c =
+    times_among-append (flat_map names made) (flat_map message_names list) c
+    ∙ ap (λ n. n + times_among (flat_map message_names list) c) (flat_times names c made)
 
 each_flat : {A : Type 0} (P : ℕ → Type 0) (f : A → List ℕ) (xs : List A) → AllByRecursion (λ x. AllByRecursion P (f x)) xs → AllByRecursion P (flat_map f xs)
 each_flat P f [] h = tt

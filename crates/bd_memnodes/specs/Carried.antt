@@ -9,11 +9,13 @@ use Rattle.bd_node.specs.Tables.{times_in}
 use Rattle.bd_node.specs.Steps.{changed_at, given_or}
 use Rattle.bd_memnodes.specs.declared.kept.Kept.{Kept}
 use Rattle.bd_node.specs.declared.node.Step.{Step}
+use Rattle.bd_message.specs.declared.message.Message.{Message}
+use Rattle.bd_memnodes.specs.declared.plan.Addition.{Addition}
 use Rattle.bd_memnodes.specs.declared.plan.Exchange.{Exchange}
 use Rattle.bd_memnodes.specs.declared.plan.Plan.{Plan}
 use Rattle.bd_memnodes.specs.Maps.{nodes_in, count_in, times_among, times_of}
 use Rattle.bd_memnodes.specs.Releasing.{SameHead}
-use Rattle.bd_memnodes.specs.Plans.{change_of, step_of, step_names}
+use Rattle.bd_memnodes.specs.Plans.{change_of, step_of, step_names, added_of, added_names}
 use Rattle.bd_memnodes.specs.Stored.{with_made}
 
 -- the next ids and the counts after these names are below their limit
@@ -57,3 +59,21 @@ pub record IsPlanOf (kept : Kept) (step : Step) (plan : Plan) : Type 0 where
   pub step_is : step_of plan ≡ step
   pub names_are : plan.names.items ≡ step_names step
   pub fits : FitCounts kept (length plan.made.items) plan.names.items
+
+-- made nodes and the names in them and in messages, for which each counter has room
+pub record IsAdditionOf (kept : Kept) (made : List Node) (list : List Message)
+    (addition : Addition) : Type 0 where
+  pub made_is : added_of addition ≡ made
+  pub names_are : addition.names.items ≡ added_names made list
+  pub fits : FitCounts kept (length addition.made.items) addition.names.items
+
+-- what has grown by made nodes and by names
+pub record IsAddedTo (old : Kept) (addition : Addition) (new : Kept) : Type 0 where
+  pub nodes : (id : ℕ) → nodes_in new.nodes id
+      ≡ with_made old.next (added_of addition) (nodes_in old.nodes) id
+  pub counts : (c : ℕ) → count_in new.counts c
+      ≡ count_in old.counts c + times_among addition.names.items c
+  pub next : new.next ≡ old.next + length addition.made.items
+  pub dead : new.dead ≡ old.dead
+  pub root : new.root ≡ old.root
+  pub size : new.size ≡ old.size

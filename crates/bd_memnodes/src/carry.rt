@@ -1,6 +1,6 @@
 //! How a step is made in memory that is taken: nothing here fails.
 
-ghost use Rattle.std.specs.Prelude.{◌≡◌, ℕ, ◌+◌, ◌<◌, ◌≤◌, ◌^◌, ◌==◌, if◌then◌else◌, [], length, map, vec_len, vec_capacity, nat_eq, IsSome};
+ghost use Rattle.std.specs.Prelude.{◌≡◌, ℕ, ◌+◌, ◌<◌, ◌≤◌, ◌^◌, ◌⊎◌, ◌==◌, if◌then◌else◌, [], length, map, vec_len, vec_capacity, nat_eq, IsSome};
 ghost use Rattle.std.specs.List.{AllByRecursion, sum_by};
 ghost use Rattle.std.specs.HashMap.{hash_map_len, get, spare};
 ghost use Rattle.bd_node.specs.declared.node.Node.{Node};
@@ -12,10 +12,10 @@ ghost use Rattle.bd_memnodes.specs.Maps.{nodes_in, count_in, times_among, times_
 ghost use Rattle.bd_memnodes.specs.Releasing.{IsReleasing, HasRoom, SameHead};
 ghost use Rattle.bd_memnodes.specs.Plans.{change_of, step_of, step_names};
 ghost use Rattle.bd_memnodes.specs.Stored.{table_in, HasMemory, IsWhole};
-ghost use Rattle.bd_memnodes.specs.Carried.{FitCounts, IsAdded, IsExchanged};
+ghost use Rattle.bd_memnodes.specs.Carried.{FitCounts, IsAdded, IsAddedTo, IsExchanged};
 
 use crate::kept::{Kept, count_of, set_count};
-use crate::plan::{Exchange, Plan};
+use crate::plan::{Addition, Exchange, Plan};
 use bd_node::Node;
 use std::collections::HashMap;
 use std::mem;
@@ -104,6 +104,22 @@ impl Kept {
             let Exchange { id, node } = change;
             self.exchange(id, node);
         }
+    }
+
+    /// Puts made nodes under the next ids, and counts the names that come with them.
+    pub fn add_counted(&mut self, addition: Addition)
+        requires fits { FitCounts self.old (length addition.made.items) addition.names.items }
+        requires nodes { length addition.made.items ≤ spare self.old.nodes }
+        requires counts { length addition.made.items ≤ spare self.old.counts }
+        requires fresh { (c : ℕ) → self.old.next ≤ c → count_in self.old.counts c ≡ 0 }
+        requires there { (c : ℕ) → 1 ≤ times_among addition.names.items c
+            → (1 ≤ count_in self.old.counts c) ⊎ ((self.old.next ≤ c)
+            × (c < self.old.next + length addition.made.items)) }
+        ensures { IsAddedTo self.old addition self.new }
+    {
+        let Addition { made, names } = addition;
+        self.add_all(made);
+        raise(&mut self.counts, names.as_slice());
     }
 
     // Puts the nodes of a plan, and counts what they name. What the old ones named, and the old

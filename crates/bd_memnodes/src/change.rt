@@ -5,15 +5,16 @@ ghost use Rattle.bd_message.specs.KeyMaps.{HasMapCause, NeverWorn};
 ghost use Rattle.bd_node.specs.declared.node.Node.{Node};
 ghost use Rattle.bd_node.specs.Nodes.{appended};
 ghost use Rattle.bd_node.specs.Stores.{FitsRoot};
-ghost use Rattle.bd_node.specs.Steps.{IsStep, StayAbove, IsTableAfter, IsCommitted, IsWornBy, append_step, grown};
+ghost use Rattle.bd_node.specs.Steps.{IsStep, StayAbove, IsTableAfter, IsCommitted, IsWornBy, IsWornByAdding, IsRootOf, append_step, extend_step, grown};
+ghost use Rattle.std.specs.HashMap.{spare};
 ghost use Rattle.bd_memnodes.specs.Maps.{nodes_in, count_in};
 ghost use Rattle.bd_memnodes.specs.Stored.{table_in, HasMemory, IsWhole};
-ghost use Rattle.bd_memnodes.specs.Carried.{IsPlanOf, SameKept};
+ghost use Rattle.bd_memnodes.specs.Carried.{IsPlanOf, IsAdditionOf, SameKept};
 
 use crate::kept::Kept;
-use crate::plan::{Plan, check_counts};
-use bd_message::{Counter, MapFault};
-use bd_node::{Messages, Node, Step};
+use crate::plan::{Addition, Plan, check_counts};
+use bd_message::{Counter, MapFault, Message};
+use bd_node::{Messages, Node, Nodes, Step};
 use std::alloc::{AllocError, Global};
 use std::collections::HashMap;
 use std::rc::Rc;
@@ -71,6 +72,55 @@ impl Kept {
         Ok(())
     }
 
+    /// Puts messages after those that wait in the root, and made nodes under the next ids, or leaves
+    /// all as it is.
+    pub fn extend(&mut self, alloc: Global, made: Nodes, list: Messages) -> Result<(), MapFault>
+        requires whole { IsWhole self.old }
+        requires step { (root : Node) → IsRootOf (table_in self.old) root
+            → IsStep (table_in self.old) (extend_step (table_in self.old) root made list) }
+        ensures committed { (root : Node) → nodes_in self.old.nodes self.old.root ≡ Some root
+            → OnOk result (IsCommitted (nodes_in self.old.nodes) (table_in self.old)
+            (extend_step (table_in self.old) root made list) (nodes_in self.new.nodes)
+            (table_in self.new)) }
+        ensures table { (root : Node) → IsRootOf (table_in self.old) root
+            → OnOk result (IsTableAfter (table_in self.old)
+            (extend_step (table_in self.old) root made list) (table_in self.new)) }
+        ensures whole { IsWhole self.new }
+        ensures err { OnErr result (SameKept self.old self.new) }
+        ensures cause { HasMapCause 0 0 (λ _. ⊥) (IsWornByAdding (table_in self.old) made list)
+            result }
+    {
+        let addition = self.addition(alloc, made, list.as_slice())?;
+        self.make_room(addition.made.len(), 0)?;
+        let added = list.size();
+        append_at(alloc, &mut self.nodes, self.root, list)?;
+        self.add_counted(addition);
+        self.size += added;
+        Ok(())
+    }
+
+    // Made nodes and the names that come with them and with messages, for which each counter has
+    // room.
+    fn addition(
+        &self,
+        alloc: Global,
+        made: Nodes,
+        list: &[Message],
+    ) -> Result<Addition, MapFault>
+        ensures addition { IfOk result (IsAdditionOf self.now made list.now) }
+        ensures cause { HasMapCause 0 0 (λ _. ⊥)
+            (IsWornByAdding (table_in self.now) made list.now) result }
+    {
+        if self.next.checked_add(made.len() as u64).is_none() {
+            return Err(MapFault::Worn(Counter::NextId));
+        }
+        let addition = Addition::of(alloc, made, list)?;
+        match check_counts(alloc, &self.counts, addition.names.as_slice()) {
+            Ok(()) => Ok(addition),
+            Err(fault) => Err(fault),
+        }
+    }
+
     // Takes the memory for a step with so many made and changed nodes.
     fn make_room(&mut self, made: usize, changed: usize) -> Result<(), AllocError>
         requires { self.old.dead.items ≡ [] }
@@ -100,6 +150,7 @@ fn append_at(
         → nodes_in nodes.new i
         ≡ (if id == i then Some (appended n list) else nodes_in nodes.old i)) }
     ensures err { OnErr result ((i : ℕ) → nodes_in nodes.new i ≡ nodes_in nodes.old i) }
+    ensures spare { spare nodes.new ≡ spare nodes.old }
 {
     match nodes.get_mut(&id) {
         Some(shared) => append_to(alloc, shared, list),

@@ -3,7 +3,7 @@
 ghost use Rattle.std.specs.Prelude.{◌≡◌, ◌++◌, OnOk, IfOk};
 ghost use Rattle.std.specs.List.{flat_map};
 ghost use Rattle.bd_node.specs.Nodes.{edge_names, message_names, names};
-ghost use Rattle.bd_memnodes.specs.Plans.{change_names, step_names};
+ghost use Rattle.bd_memnodes.specs.Plans.{change_names, step_names, added_names};
 
 use bd_message::Message;
 use bd_node::{Change, Edge, Node, Step};
@@ -17,6 +17,20 @@ pub fn named_by(alloc: Global, step: &Step) -> Result<Vec<u64>, AllocError>
     push_nodes(&mut list, step.made.as_slice())?;
     push_changes(&mut list, step.changes.as_slice())?;
     list.push(step.root)?;
+    Ok(list)
+}
+
+/// The names that made nodes and messages add.
+pub fn added_by(
+    alloc: Global,
+    made: &[Node],
+    messages: &[Message],
+) -> Result<Vec<u64>, AllocError>
+    ensures { IfOk result (λ list. list.items ≡ added_names made.now messages.now) }
+{
+    let mut list = Vec::new(alloc);
+    push_nodes(&mut list, made)?;
+    push_messages(&mut list, messages)?;
     Ok(list)
 }
 

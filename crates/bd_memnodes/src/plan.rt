@@ -4,11 +4,11 @@ ghost use Rattle.std.specs.Prelude.{◌≡◌, ℕ, ◌+◌, ◌<◌, ◌≤◌,
 ghost use Rattle.std.specs.Option.{unwrap_or};
 ghost use Rattle.std.specs.HashMap.{get};
 ghost use Rattle.bd_memnodes.specs.Maps.{count_in, times_among};
-ghost use Rattle.bd_memnodes.specs.Plans.{step_of, step_names, change_of, IsCheckFault};
+ghost use Rattle.bd_memnodes.specs.Plans.{step_of, step_names, added_of, added_names, change_of, IsCheckFault};
 
 use crate::kept::count_of;
-use crate::naming::named_by;
-use bd_message::{Counter, MapFault};
+use crate::naming::{added_by, named_by};
+use bd_message::{Counter, MapFault, Message};
 use bd_node::{Change, Changes, Node, Nodes, Step};
 use std::alloc::{AllocError, Global};
 use std::collections::HashMap;
@@ -48,6 +48,29 @@ impl Plan {
             changes: exchanges(alloc, changes)?,
             names,
             root,
+        })
+    }
+}
+
+/// Made nodes in memory that is taken, with the names that come with them.
+#[derive(Drop)]
+pub struct Addition {
+    pub made: Vec<Rc<Node>>,
+    /// The names in the nodes, and in the messages that go into the root.
+    pub names: Vec<u64>,
+}
+
+impl Addition {
+    /// Made nodes and the names in them and in messages.
+    pub fn of(alloc: Global, made: Nodes, list: &[Message]) -> Result<Addition, AllocError>
+        ensures made { IfOk result (λ addition. added_of addition ≡ made) }
+        ensures names { IfOk result (λ addition. addition.names.items
+            ≡ added_names made list.now) }
+    {
+        let names = added_by(alloc, made.as_slice(), list)?;
+        Ok(Addition {
+            made: shared(alloc, made)?,
+            names,
         })
     }
 }

@@ -9,7 +9,7 @@ ghost use Rattle.bd_memnodes.specs.Reading.{same_nodes-none, same_nodes-both};
 use crate::kept::{Kept, count_of};
 use bd_keys::Bytes;
 use bd_message::MapFault;
-use bd_node::{Edge, Edges, Messages, Node, NodeStore, Step};
+use bd_node::{Edge, Edges, Items, Messages, Node, NodeStore, Step};
 use std::alloc::{AllocError, Global};
 use std::collections::HashMap;
 use std::marker::Model;
@@ -21,7 +21,8 @@ use std::rc::Rc;
 ///
 /// A fetch finds its node by hashing, and copies nothing. A commit takes the time of what the step
 /// holds and names, of the nodes that go, and of the messages that wait in the root, however many
-/// nodes there are. An append takes that of its messages, unless a caller holds the root.
+/// nodes there are. An append or an extension takes that of its messages and new nodes, unless a
+/// caller holds the root.
 #[derive(Drop)]
 pub struct MemNodes {
     alloc: Global,
@@ -129,6 +130,17 @@ impl NodeStore for MemNodes {
 
     fn append(&mut self, list: Messages) -> Result<(), MapFault> {
         self.kept.append(self.alloc, list)
+    }
+
+    fn extend(&mut self, made: Items<Node>, list: Messages) -> Result<(), MapFault> {
+        let count = made.len() as u64;
+        match self.kept.extend(self.alloc, made, list) {
+            Ok(()) => {
+                self.visits = self.visits.saturating_add(count);
+                Ok(())
+            }
+            Err(fault) => Err(fault),
+        }
     }
 
     fn root(&self) -> u64 {

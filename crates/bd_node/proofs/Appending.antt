@@ -180,7 +180,7 @@ node_at-appended below (Inner level es buffer) list k h inner =
     ∙ sym (ap (λ o. acts below list k (through below o buffer k)) found.0))
     es (some_edge (IsEdge (length buffer)) es k h.each h.first)
 
-buffer_appended : (n : Node) (list : List Message) → 1 ≤ level_of n → buffer_size (appended n list) ≡ buffer_size n + sum_by size list
+pub buffer_appended : (n : Node) (list : List Message) → 1 ≤ level_of n → buffer_size (appended n list) ≡ buffer_size n + sum_by size list
 buffer_appended (Leaf entries) list inner = absurd (omega arith)
 buffer_appended (Inner level es buffer) list inner = sum_by-append size buffer list
 

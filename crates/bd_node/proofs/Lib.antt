@@ -11,5 +11,6 @@ pub mod Stepping
 pub mod Appending
 pub mod Counting
 pub mod Closing
+pub mod Extending
 pub mod LawLemmas
 pub mod Halving

@@ -1,6 +1,6 @@
 -- Steps from nodes to nodes.
-use Rattle.std.specs.Prelude.{◌≡◌, ◌≢◌, ℕ, ◌+◌, ◌-◌, ◌^◌, ◌<◌, ◌≤◌, ◌⊎◌, ◌==◌, nat_lt, if◌then◌else◌, List, [], ◌∷◌, length, Option, None, Some, slice_get, IsSome, IsTrue, Bool, ⊤}
-use Rattle.std.specs.List.{AllByRecursion, sum_by}
+use Rattle.std.specs.Prelude.{◌≡◌, ◌≢◌, ℕ, ◌+◌, ◌-◌, ◌^◌, ◌<◌, ◌≤◌, ◌⊎◌, ◌==◌, nat_lt, if◌then◌else◌, List, [], ◌∷◌, length, Option, None, Some, slice_get, count_by, IsSome, IsTrue, Bool, ⊤}
+use Rattle.std.specs.List.{AllByRecursion, flat_map, sum_by}
 use Rattle.bd_keys.specs.Keys.{IsKey}
 use Rattle.bd_message.specs.declared.fault.Counter.{Counter}
 use Rattle.bd_message.specs.declared.fault.Counter.TheVariants.{Count, NextId, Level, Refs, Epoch, Flushes}
@@ -10,10 +10,10 @@ use Rattle.bd_message.specs.Effect.{NodesAt}
 use Rattle.bd_node.specs.declared.node.Node.{Node}
 use Rattle.bd_node.specs.declared.node.Change.{Change}
 use Rattle.bd_node.specs.declared.node.Step.{Step}
-use Rattle.bd_node.specs.Nodes.{level_of, buffer_size, appended, names, times, node_at, node_has}
+use Rattle.bd_node.specs.Nodes.{level_of, buffer_size, appended, message_names, names, times, node_at, node_has}
 use Rattle.bd_node.specs.Meaning.{Nodes, at}
 use Rattle.bd_node.specs.Shape.{IsShape}
-use Rattle.bd_node.specs.Tables.{Table, IsKept, IsTable, IsSound, one_if}
+use Rattle.bd_node.specs.Tables.{Table, IsKept, IsTable, IsNodeOf, IsSound, one_if}
 use Rattle.bd_node.specs.Private.{IsPrivate}
 
 -- ---- what a step gives
@@ -149,7 +149,34 @@ root_step root n =
 abbrev pub append_step : Table → Node → List Message → Step
 append_step t root list = root_step t.root (appended root list)
 
--- the table after it: only the size of the root's messages has grown
+-- the step that does so over made nodes, which the messages may name
+abbrev pub extend_step : Table → Node → List Node → List Message → Step
+extend_step t root made list = record {
+  made = made;
+  changes = record { id = t.root; node = appended root list } ∷ [];
+  root = t.root;
+}
+
+-- a node that may be the root that a table tells of
+pub record IsRootOf (t : Table) (n : Node) : Type 0 where
+  pub of_table : IsNodeOf t (t.level t.root) n
+  pub size : buffer_size n ≡ t.size
+
+-- how often made nodes and messages name a node
+abbrev pub added_times : List Node → List Message → ℕ → ℕ
+added_times made list c =
+    sum_by (λ n. times n c) made + count_by (λ name. name == c) (flat_map message_names list)
+
+-- a counter has to pass its last value for made nodes and the names in them and in messages
+abbrev pub IsWornByAdding : Table → List Node → List Message → Counter → Type 0
+IsWornByAdding t made list Refs = (id : ℕ) × (2 ^ 64 ≤ t.count id + added_times made list id)
+IsWornByAdding t made list NextId = 2 ^ 64 ≤ t.next + length made
+IsWornByAdding t made list Count = ⊥
+IsWornByAdding t made list Level = ⊥
+IsWornByAdding t made list Epoch = ⊥
+IsWornByAdding t made list Flushes = ⊥
+
+-- the table after messages were put into the root: only the size of the root's messages has grown
 abbrev pub grown : Table → List Message → Table
 grown t list = record t { size = t.size + sum_by size list }
 

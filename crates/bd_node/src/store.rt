@@ -6,10 +6,10 @@ ghost use Rattle.bd_node.specs.declared.node.Node.{Node};
 ghost use Rattle.bd_node.specs.Nodes.{buffer_size};
 ghost use Rattle.bd_node.specs.Meaning.{Nodes};
 ghost use Rattle.bd_node.specs.Tables.{Table, kept_count, IsKept, IsTable, IsNodeOf, IsSound};
-ghost use Rattle.bd_node.specs.Steps.{IsStep, IsInPlace, IsTableAfter, IsCommitted, IsWornBy, append_step, HasGrown};
+ghost use Rattle.bd_node.specs.Steps.{IsStep, IsInPlace, IsTableAfter, IsCommitted, IsWornBy, IsWornByAdding, IsRootOf, append_step, extend_step, HasGrown};
 ghost use Rattle.bd_node.specs.Stores.{visited, FitsRoot, OnlyReadsBy, StaysBy};
 
-use crate::{Messages, Node, Step};
+use crate::{Items, Messages, Node, Step};
 use bd_message::MapFault;
 use std::rc::Rc;
 
@@ -94,6 +94,29 @@ pub trait NodeStore {
         ensures visits { visit_count self.new ≡ visit_count self.old }
         ensures cause { HasMapCause (fault_count self.old) (fault_count self.new)
             (bad self.new) NeverWorn result };
+
+    /// Puts messages after those that wait in the root, and new nodes under the next ids, which the
+    /// messages and one another may name: the commit of the root changed so, for the cost of the
+    /// messages and the new nodes alone where nobody else holds the root's node. One visit for each
+    /// new node.
+    fn extend(&mut self, made: Items<Node>, list: Messages) -> Result<(), MapFault>
+        requires { (root : Node) → IsRootOf (table self.old) root
+            → IsStep (table self.old) (extend_step (table self.old) root made list) }
+        ensures table { (root : Node) → IsRootOf (table self.old) root
+            → OnOk result (IsTableAfter (table self.old)
+            (extend_step (table self.old) root made list) (table self.new)) }
+        ensures committed { is_known self.old → IsSound (nodes self.old) (table self.old)
+            → (root : Node) → nodes self.old (table self.old).root ≡ Some root
+            → OnOk result (IsCommitted (nodes self.old) (table self.old)
+            (extend_step (table self.old) root made list) (nodes self.new) (table self.new)) }
+        ensures stays { StaysBy is_known keeps loans self.old self.new }
+        ensures err { OnErr result
+            (OnlyReadsBy is_known nodes table reads loans self.old self.new) }
+        ensures visits { OnOk result
+            (visit_count self.new ≡ visited (visit_count self.old) (length made)) }
+        ensures err_visits { OnErr result (visit_count self.new ≡ visit_count self.old) }
+        ensures cause { HasMapCause (fault_count self.old) (fault_count self.new)
+            (bad self.new) (IsWornByAdding (table self.old) made list) result };
 
     /// The root's id. It is kept, and an inner node.
     fn root(&self) -> u64
@@ -186,6 +209,10 @@ impl<S: NodeStore> NodeStore for &mut S {
 
     fn append(&mut self, list: Messages) -> Result<(), MapFault> {
         NodeStore::append(&mut **self, list)
+    }
+
+    fn extend(&mut self, made: Items<Node>, list: Messages) -> Result<(), MapFault> {
+        NodeStore::extend(&mut **self, made, list)
     }
 
     fn root(&self) -> u64 {
