@@ -101,12 +101,7 @@ impl Kept {
 
     // Made nodes and the names that come with them and with messages, for which each counter has
     // room.
-    fn addition(
-        &self,
-        alloc: Global,
-        made: Nodes,
-        list: &[Message],
-    ) -> Result<Addition, MapFault>
+    fn addition(&self, alloc: Global, made: Nodes, list: &[Message]) -> Result<Addition, MapFault>
         ensures addition { IfOk result (IsAdditionOf self.now made list.now) }
         ensures cause { HasMapCause 0 0 (λ _. ⊥)
             (IsWornByAdding (table_in self.now) made list.now) result }

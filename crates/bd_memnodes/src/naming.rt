@@ -21,11 +21,7 @@ pub fn named_by(alloc: Global, step: &Step) -> Result<Vec<u64>, AllocError>
 }
 
 /// The names that made nodes and messages add.
-pub fn added_by(
-    alloc: Global,
-    made: &[Node],
-    messages: &[Message],
-) -> Result<Vec<u64>, AllocError>
+pub fn added_by(alloc: Global, made: &[Node], messages: &[Message]) -> Result<Vec<u64>, AllocError>
     ensures { IfOk result (λ list. list.items ≡ added_names made.now messages.now) }
 {
     let mut list = Vec::new(alloc);
