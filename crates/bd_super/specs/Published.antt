@@ -1,5 +1,5 @@
 -- What a crash may leave while a superblock is published.
-use Rattle.std.specs.Prelude.{◌≡◌, ◌<◌, ◌⊎◌, ◌↔◌, ℕ, length, Option, Some, None, IsSomeAnd, Result, OnOk, OnErr}
+use Rattle.std.specs.Prelude.{◌≡◌, ◌<◌, ◌⊎◌, ◌↔◌, ℕ, length, Option, IsSomeAnd, Result, OnOk, OnErr}
 use Rattle.bd_limits.specs.Places.{first_log_block}
 use Rattle.bd_io.specs.Cause.{next_count}
 use Rattle.bd_device.specs.Blocks.{Image}

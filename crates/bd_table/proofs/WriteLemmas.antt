@@ -8,7 +8,6 @@ use Rattle.std.proofs.lemmas.Option.{IfSome_then}
 use Rattle.std.proofs.Math.Seq.{take-add}
 use Rattle.bd_slots.specs.Layout.{AreSlots, image_blocks}
 use Rattle.bd_device.specs.Blocks.{Image, HasBlocks, with_block}
-use Rattle.bd_device.specs.Moments.{TornAt}
 use Rattle.bd_wire.specs.Text.{zeros}
 use Rattle.bd_table.specs.Tables.{IsTableAt, table_entry, table_head, table_magic, table_bytes}
 use Rattle.bd_table.specs.Words.{part}

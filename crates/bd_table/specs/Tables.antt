@@ -1,5 +1,5 @@
 -- Tables of nodes, and their encoding.
-use Rattle.std.specs.Prelude.{◌≡◌, ◌≢◌, ◌+◌, ◌-◌, ◌*◌, ◌^◌, ◌<◌, ◌≤◌, ◌↔◌, ℕ, Bool, List, [], ◌∷◌, ◌++◌, length, map, Option, Some, None, All, AllPairs, Any}
+use Rattle.std.specs.Prelude.{◌≡◌, ◌≢◌, ◌-◌, ◌*◌, ◌^◌, ◌<◌, ◌≤◌, ◌↔◌, ℕ, Bool, List, [], ◌∷◌, ◌++◌, length, map, Option, Some, None, All, AllPairs, Any}
 use Rattle.std.specs.Int.{w32, w64}
 use Rattle.std.specs.List.{flat_map}
 use Rattle.bd_limits.specs.Limits.{level_limit, slot_limit, slot_size}
