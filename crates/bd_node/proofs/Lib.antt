@@ -13,3 +13,4 @@ pub mod Counting
 pub mod Closing
 pub mod LawLemmas
 pub mod Halving
+pub mod Parts

@@ -4,6 +4,7 @@ pub mod Indexes
 pub mod Nodes
 pub mod Meaning
 pub mod Shape
+pub mod Parts
 pub mod Tables
 pub mod Private
 pub mod Steps
