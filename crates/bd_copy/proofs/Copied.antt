@@ -29,21 +29,21 @@ use Rattle.bd_node.proofs.Meanings.{at-meets}
 use Rattle.bd_node.proofs.Sound.{sound-levelled}
 use Rattle.bd_inner.specs.Clipping.{IsClipped}
 use Rattle.bd_inner.specs.Compaction.{IsCompacted}
-use Rattle.bd_inner.specs.Exchange.{exchanged, IsEdgeAt}
-use Rattle.bd_inner.specs.Halves.{edges_of, buffer_of}
+use Rattle.bd_inner.specs.Exchange.{exchanged}
+use Rattle.bd_node.specs.Parts.{IsEdgeAt, edges_of, buffer_of}
 use Rattle.bd_inner.proofs.Compacting.{count_names, count_names-append, compacted_shape, compacted_level, compacted_meaning, compacted_times}
 use Rattle.bd_inner.proofs.Fitting.{own_shape}
 use Rattle.bd_resolve.specs.declared.following.Target.{Target}
 use Rattle.bd_resolve.specs.Following.{IsLowerTarget}
-use Rattle.bd_flush.specs.declared.fetching.Fetched.{Fetched}
-use Rattle.bd_flush.specs.Children.{IsFetched}
-use Rattle.bd_flush.specs.Copies.{CanPutCopy, IsCopyFor, IsCopyAt, IsCopyStep}
-use Rattle.bd_flush.proofs.ChildSplits.{edge_here}
-use Rattle.bd_flush.proofs.EdgeChildren.{child_lower}
-use Rattle.bd_flush.specs.Made.{IsMadeBy, IsWornFor}
-use Rattle.bd_flush.proofs.Made.{made_wider, worn_wider}
+use Rattle.bd_path.specs.declared.fetching.Fetched.{Fetched}
+use Rattle.bd_path.specs.Fetching.{IsFetched}
+use Rattle.bd_copy.specs.Copying.{CanPutCopy, IsCopyFor, IsCopyAt, IsCopyStep}
+use Rattle.bd_node.proofs.Parts.{edge_here}
+use Rattle.bd_path.proofs.EdgesAt.{child_lower}
+use Rattle.bd_path.specs.Made.{IsMadeBy, IsWornFor}
+use Rattle.bd_path.proofs.Made.{made_wider, worn_wider}
 use Rattle.bd_copy.specs.Shortening.{edge_way, goto_way, way_visits, CanShorten, IsShortened}
-use Rattle.bd_copy.specs.Copying.{IsCopyOf, HasChild, IsPrivatiseStep}
+use Rattle.bd_copy.specs.Privatising.{IsCopyOf, HasChild, IsPrivatiseStep}
 use Rattle.bd_copy.proofs.Shortened.{option_lower, goto_lower}
 
 -- ---- a clipped node

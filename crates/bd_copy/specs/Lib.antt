@@ -1,2 +1,3 @@
-pub mod Shortening
 pub mod Copying
+pub mod Shortening
+pub mod Privatising

@@ -11,7 +11,7 @@ use Rattle.bd_node.specs.declared.node.Node.{Node}
 use Rattle.bd_node.specs.Nodes.{level_of, buffer_size, names, child_at}
 use Rattle.bd_node.specs.Meaning.{Nodes, at}
 use Rattle.bd_node.specs.Tables.{Table, IsKept, IsLower}
-use Rattle.bd_inner.specs.Halves.{edges_of, buffer_of}
+use Rattle.bd_node.specs.Parts.{edges_of, buffer_of}
 use Rattle.bd_inner.specs.Clipping.{IsLong}
 use Rattle.bd_inner.specs.Compaction.{IsLooseNode}
 use Rattle.bd_resolve.specs.declared.following.Target.{Target}

@@ -9,19 +9,19 @@ ghost use Rattle.bd_node.specs.declared.node.Edge.{Edge};
 ghost use Rattle.bd_node.specs.Nodes.{level_of, node_at};
 ghost use Rattle.bd_node.specs.Meaning.{at};
 ghost use Rattle.bd_node.specs.Tables.{IsNodeOf, IsSound};
-ghost use Rattle.bd_inner.specs.Exchange.{IsEdgeAt};
-ghost use Rattle.bd_flush.specs.Flushed.{IsFlushed};
-ghost use Rattle.bd_flush.specs.Made.{AreKnown, IsMadeBy, IsWornFor};
-ghost use Rattle.bd_flush.specs.Children.{IsNoHigher};
-ghost use Rattle.bd_flush.specs.Pushes.{IsOwn};
-ghost use Rattle.bd_copy.specs.Copying.{IsCopyOf, HasChild, IsPrivatiseStep};
+ghost use Rattle.bd_node.specs.Parts.{IsEdgeAt};
+ghost use Rattle.bd_path.specs.Flushed.{IsFlushed, IsNoHigher};
+ghost use Rattle.bd_path.specs.Made.{AreKnown, IsMadeBy, IsWornFor};
+ghost use Rattle.bd_path.specs.Fetching.{IsOwn};
+ghost use Rattle.bd_copy.specs.Privatising.{IsCopyOf, HasChild, IsPrivatiseStep};
 
+use crate::copying::put_copy;
 use crate::shortening::shorten;
-use bd_flush::{Fetched, edges_of, fetch, put_copy};
 use bd_inner::{clip, compact};
 use bd_leaf as leaf;
 use bd_message::MapFault;
 use bd_node::{Node, NodeStore};
+use bd_path::{Fetched, edges_of, fetch};
 use std::alloc::Global;
 
 /// Copies the child of a private node's edge, which was fetched before: the copy is made, keeps the

@@ -8,7 +8,7 @@ ghost use Rattle.bd_node.specs.Frames.{OfSound, OnlyReads};
 ghost use Rattle.bd_node.specs.Nodes.{node_at};
 ghost use Rattle.bd_node.specs.Meaning.{at};
 ghost use Rattle.bd_node.specs.Tables.{IsKept, IsTable, IsSound};
-ghost use Rattle.bd_inner.specs.Halves.{edges_of, buffer_of};
+ghost use Rattle.bd_node.specs.Parts.{edges_of, buffer_of};
 ghost use Rattle.bd_resolve.specs.Following.{target_at, target_of};
 ghost use Rattle.bd_copy.specs.Shortening.{edge_way, goto_way, IsKeptTarget, IsShortWay, way_visits, sent_edge, IsShortEdge, IsSameEdge, sent_keys, IsShortMessage, IsSameMessage, CanShorten, IsShortened};
 

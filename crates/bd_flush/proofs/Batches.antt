@@ -15,10 +15,11 @@ use Rattle.bd_node.specs.declared.node.Node.TheVariants.{Leaf, Inner}
 use Rattle.bd_node.specs.Nodes.{level_of, appended}
 use Rattle.bd_node.specs.Shape.{end_before, IsLeaf, IsShape}
 use Rattle.bd_inner.specs.declared.batches.Batch.{Batch}
-use Rattle.bd_inner.specs.Halves.{edges_of, buffer_of, AreHalves}
+use Rattle.bd_node.specs.Parts.{edges_of, buffer_of, end_at, IsEdgeAt}
+use Rattle.bd_inner.specs.Halves.{AreHalves}
 use Rattle.bd_inner.specs.Moving.{IsBatch}
 use Rattle.bd_inner.specs.Compaction.{IsCompacted}
-use Rattle.bd_inner.specs.Exchange.{exchanged, end_at, IsEdgeAt, FitsAt}
+use Rattle.bd_inner.specs.Exchange.{exchanged, FitsAt}
 use Rattle.bd_inner.proofs.Splitting.{few_wait}
 use Rattle.bd_inner.proofs.Fitting.{seen_fits}
 use Rattle.bd_inner.proofs.Compacting.{compacted_shape}
@@ -30,7 +31,8 @@ use Rattle.bd_flush.specs.Pushes.IsPushInto.{received, fitted, split}
 use Rattle.bd_flush.specs.Children.{IsSplitInto, IsLongIn, IsOver}
 use Rattle.bd_flush.specs.declared.children.Halving.{Halving}
 use Rattle.bd_flush.specs.declared.children.Halving.TheVariants.{Short, Long}
-use Rattle.bd_flush.proofs.ChildSplits.{some_edge, edge_here, fits_here}
+use Rattle.bd_node.proofs.Parts.{some_edge, edge_here}
+use Rattle.bd_flush.proofs.ChildSplits.{fits_here}
 use Rattle.bd_flush.proofs.Pushed.{batch_low, batch_plain}
 
 -- ---- a node's messages

@@ -26,22 +26,24 @@ use Rattle.bd_inner.specs.Halves.{IsHalf}
 use Rattle.bd_inner.specs.Exchange.{exchanged}
 use Rattle.bd_inner.proofs.Compacting.{compacted_shape, compacted_level, compacted_meaning}
 use Rattle.bd_inner.proofs.Exchanged.{exchanged_shape}
-use Rattle.bd_flush.specs.declared.fetching.Fetched.{Fetched}
-use Rattle.bd_flush.specs.Flushed.{LeadsTo, IsFlushed}
-use Rattle.bd_flush.specs.Flushed.LeadsTo.{itself, through}
+use Rattle.bd_path.specs.declared.fetching.Fetched.{Fetched}
+use Rattle.bd_path.specs.Flushed.{LeadsTo, IsFlushed, IsHardlyHigher}
+use Rattle.bd_path.specs.Flushed.LeadsTo.{itself, through}
 use Rattle.bd_flush.specs.Splits.{over_two}
-use Rattle.bd_flush.specs.Children.{IsWayTo, AreFamily, IsContents}
-use Rattle.bd_flush.specs.Between.{IsHardlyHigher}
-use Rattle.bd_flush.specs.Paths.{path_step}
-use Rattle.bd_flush.specs.Raising.{raised, raise, IsWayUp, IsRising, IsRaisedOver}
-use Rattle.bd_flush.specs.Raising.IsRising.{at_top, high_enough, rises}
-use Rattle.bd_flush.specs.Raising.IsRaisedOver.{is_above, rises_too}
+use Rattle.bd_path.specs.Fetching.{IsWayTo, IsContents}
+use Rattle.bd_flush.specs.Children.{AreFamily}
+use Rattle.bd_path.specs.Paths.{path_step}
+use Rattle.bd_path.specs.Raising.{raised, raise, IsWayUp, IsRising, IsRaisedOver}
+use Rattle.bd_path.specs.Raising.IsRising.{at_top, high_enough, rises}
+use Rattle.bd_path.specs.Raising.IsRaisedOver.{is_above, rises_too}
 use Rattle.bd_flush.specs.Pushes.{seen_by, CanPush, IsPushBetween}
 use Rattle.bd_flush.proofs.RootSplits.{over_shape, two_have, times_made}
-use Rattle.bd_flush.proofs.ChildSplits.{one_fits, one_times, as_edge, child_named, lower_child, level_exchanged, compacted_small, some_next, other_names, at_child, IsSplittable, IsSplittableOf}
+use Rattle.bd_flush.proofs.ChildSplits.{one_fits, one_times, lower_child, other_names, at_child, IsSplittable, IsSplittableOf}
+use Rattle.bd_path.proofs.EdgesAt.{as_edge, child_named, some_next}
+use Rattle.bd_inner.proofs.Named.{level_exchanged, compacted_small}
 use Rattle.bd_flush.proofs.Pushed.{batch_low, relieved_inside, leaf_received}
-use Rattle.bd_flush.proofs.PathSteps.{IsMadeUnder, IsUpper, IsPathStep, RisesByOne, level_bound, given_upper, has_made, has_path, path_child, path_old, each_change, IsPathStepOf, root_rises, path_flushed}
-use Rattle.bd_flush.proofs.RisingSteps.{raised_size, raised_times, raised_level, raised_shape, raised_has, IsLink, way_link, link_lower, only_namer, rising_rises, rising_uppers, rising_above, once_above, rising_once, IsChangedBy, changed_more, all_changed, has_room, rising_of}
+use Rattle.bd_path.proofs.PathSteps.{IsMadeUnder, IsUpper, IsPathStep, RisesByOne, level_bound, given_upper, has_made, has_path, path_child, path_old, each_change, IsPathStepOf, root_rises, path_flushed}
+use Rattle.bd_path.proofs.RisingSteps.{raised_size, raised_times, raised_level, raised_shape, raised_has, IsLink, way_link, link_lower, only_namer, rising_rises, rising_uppers, rising_above, once_above, rising_once, IsChangedBy, changed_more, all_changed, has_room, rising_of}
 use Rattle.bd_keys.proofs.Order.{IsKey-drop}
 
 -- ---- the parent, one level higher where it has to be

@@ -10,15 +10,16 @@ use Rattle.bd_node.specs.Meaning.{Nodes}
 use Rattle.bd_node.specs.Tables.{Table, IsTable, IsSound}
 use Rattle.bd_node.specs.Steps.{IsStep, IsInPlace, IsTableAfter, IsCommitted, IsWornBy}
 use Rattle.bd_node.specs.Stores.{visited}
-use Rattle.bd_flush.specs.declared.fetching.Fetched.{Fetched}
-use Rattle.bd_flush.specs.Flushed.{IsFlushed}
-use Rattle.bd_flush.specs.Children.{IsWayTo, CanSplitChild, AreFamily, IsChildStep, IsNoHigher}
+use Rattle.bd_path.specs.declared.fetching.Fetched.{Fetched}
+use Rattle.bd_path.specs.Flushed.{IsFlushed, IsNoHigher}
+use Rattle.bd_path.specs.Fetching.{IsWayTo}
+use Rattle.bd_flush.specs.Children.{CanSplitChild, AreFamily, IsChildStep}
 use Rattle.bd_flush.specs.Between.{IsSplitStep, IsHighSplit}
 use Rattle.bd_flush.specs.Between.IsSplitStep.{short}
-use Rattle.bd_flush.specs.Made.{IsWornFor}
-use Rattle.bd_flush.proofs.Made.{worn_of}
+use Rattle.bd_path.specs.Made.{IsWornFor}
+use Rattle.bd_path.proofs.Made.{worn_of}
 use Rattle.bd_message.proofs.Causes.{cause_passed}
-use Rattle.bd_flush.proofs.ChildSteps.{IsChildChange, IsChildChangeOf, IsChildChanged, below_step, below_in_place, child_flushed, no_higher}
+use Rattle.bd_path.proofs.ChildSteps.{IsChildChange, IsChildChangeOf, IsChildChanged, below_step, below_in_place, child_flushed, no_higher}
 use Rattle.bd_inner.proofs.Fitting.{own_shape}
 use Rattle.bd_flush.proofs.ChildSplits.{at_child, IsSplittable, split_change, split_change_of, split_few, split_size}
 

@@ -29,68 +29,26 @@ use Rattle.bd_node.proofs.Edges.{lt_is, lt_isnt, least_over}
 use Rattle.bd_node.specs.Keeping.{staying}
 use Rattle.bd_inner.specs.Compaction.{IsCompacted, lowered}
 use Rattle.bd_inner.proofs.Fitting.{own_shape, seen_fits}
-use Rattle.bd_inner.specs.Halves.{edges_of, buffer_of, IsHalf, AreHalves}
+use Rattle.bd_node.specs.Parts.{edges_of, buffer_of, end_at, IsEdgeAt}
+use Rattle.bd_inner.specs.Halves.{IsHalf, AreHalves}
 use Rattle.bd_inner.specs.Moving.{lifted}
-use Rattle.bd_inner.specs.Exchange.{exchanged, end_at, IsKeyOf, IsEdgeAt, FitsAt}
+use Rattle.bd_inner.specs.Exchange.{exchanged, IsKeyOf, FitsAt}
 use Rattle.bd_inner.proofs.Compacting.{count_names, count_names-append, edge_names-lowered, compacted_shape, compacted_level, compacted_meaning, compacted_size, compacted_times}
 use Rattle.bd_inner.proofs.Exchanged.{in_range, at_place, exchanged_shape, meaning_inside, meaning_outside, meaning_without}
+use Rattle.bd_node.proofs.Parts.{edge_within, some_edge, inner_of, edge_here}
+use Rattle.bd_path.proofs.EdgesAt.{as_edge, edge_named, child_named, some_next}
+use Rattle.bd_inner.proofs.Named.{times_exchanged, exchanged_same, count_own, level_exchanged, compacted_named, exchanged_named, size_exchanged, compacted_small}
 use Rattle.bd_flush.specs.declared.children.Parts.{Parts}
 use Rattle.bd_flush.specs.declared.children.Side.TheVariants.{Lower, Both, Upper}
-use Rattle.bd_flush.specs.Children.{IsEdgeTo, IsWayTo, parting, upper_edge, IsInside, IsSplitInto, IsSide, IsOver, AreParts, IsLongPivot}
+use Rattle.bd_path.specs.Fetching.{IsEdgeTo, IsWayTo}
+use Rattle.bd_flush.specs.Children.{parting, upper_edge, IsInside, IsSplitInto, IsSide, IsOver, AreParts, IsLongPivot}
 use Rattle.bd_flush.specs.declared.children.Halving.TheVariants.{Short, Long}
 use Rattle.bd_flush.specs.Children.IsSplitInto.{parted, lower, upper}
-use Rattle.bd_flush.proofs.ChildSteps.{has_below, has_child, has_old, has_new, IsMadeBelow, IsChildChange, IsChildChangeOf}
+use Rattle.bd_path.proofs.ChildSteps.{has_below, has_child, has_old, has_new, IsMadeBelow, IsChildChange, IsChildChangeOf}
 
 -- ---- a node's edge at a place
 
-at_of : (es : List Edge) (place : ℕ) → place < length es → (e : Edge) × (slice_get es place ≡ Some e)
-at_of [] place low = absurd (omega arith)
-at_of (e ∷ es) zero low = (e, refl)
-at_of (e ∷ es) (suc place) low = at_of es place (omega arith)
-
-within_of : (es : List Edge) (place : ℕ) (e : Edge) → slice_get es place ≡ Some e → place < length es
-within_of [] place e there = absurd (none-some e there)
-within_of (f ∷ es) zero e there = omega arith
-within_of (f ∷ es) (suc place) e there = (let low : place < length es = within_of es place e there in omega arith)
-
-pub edge_within : (n : Node) (place : ℕ) (e : Edge) → IsEdgeAt n place e → place < length (edges_of n)
-edge_within n place e here = within_of (edges_of n) place e here
-
-pub some_edge : (n : Node) (place : ℕ) → place < length (edges_of n) → (e : Edge) × IsEdgeAt n place e
-some_edge n place low = at_of (edges_of n) place low
-
 -- ---- how often a node with other edges in place of one names another
-
--- without the edge, and then by the edges in its place
-pub times_exchanged : (n : Node) (place : ℕ) (list : List Edge) (c : ℕ) → 1 ≤ level_of n → times (exchanged n place list) c ≡ times (exchanged n place []) c + count_names c (flat_map edge_names list)
-times_exchanged (Leaf entries) place list c inner = absurd (omega arith)
-times_exchanged (Inner level es buffer) place list c inner =
-    let xs : List Edge = take place es in
-    let ys : List Edge = drop (place + 1) es in
-    omega (
-      arith,
-      count_names-append c (flat_map edge_names (xs ++ (list ++ ys))) (flat_map message_names buffer),
-      count_names-append c (flat_map edge_names (xs ++ ys)) (flat_map message_names buffer),
-      ap (count_names c) (flat_map-append edge_names xs (list ++ ys)),
-      ap (count_names c) (flat_map-append edge_names xs ys),
-      ap (count_names c) (flat_map-append edge_names list ys),
-      count_names-append c (flat_map edge_names xs) (flat_map edge_names (list ++ ys)),
-      count_names-append c (flat_map edge_names xs) (flat_map edge_names ys),
-      count_names-append c (flat_map edge_names list) (flat_map edge_names ys),
-    )
-
--- the node with the edge in its own place
-pub exchanged_same : (n : Node) (place : ℕ) (e : Edge) → IsEdgeAt n place e → exchanged n place (e ∷ []) ≡ n
-exchanged_same (Leaf entries) place e here = refl
-exchanged_same (Inner level es buffer) place e here = ap (λ (l : List Edge). Inner level l buffer) (sym (at_place es place e here).whole)
-
-pub inner_of : (n : Node) (place : ℕ) (e : Edge) → IsShape n → IsEdgeAt n place e → 1 ≤ level_of n
-inner_of (Leaf entries) place e h here = absurd (none-some e here)
-inner_of (Inner level es buffer) place e h here = h.low
-
--- the edge's child, and what the node names besides
-pub as_edge : (n : Node) (place child : ℕ) (e : Edge) → IsWayTo n place child e → IsEdgeTo n place child e
-as_edge n place child e way = record { here = way.here; child_is = way.child_is }
 
 edge_apart : (n : Node) (place child : ℕ) (e : Edge) (c : ℕ) → IsShape n → IsEdgeTo n place child e → times n c ≡ times (exchanged n place []) c + count_names c (child ∷ [])
 edge_apart n place child e c h way =
@@ -100,15 +58,6 @@ edge_apart n place child e c h way =
 
 pub times_apart : (n : Node) (place child : ℕ) (e : Edge) (c : ℕ) → IsShape n → IsWayTo n place child e → times n c ≡ times (exchanged n place []) c + count_names c (child ∷ [])
 times_apart n place child e c h way = edge_apart n place child e c h (as_edge n place child e way)
-
-pub count_own : (c : ℕ) → count_names c (c ∷ []) ≡ 1
-count_own c = omega (arith, count-cons_same c [])
-
-pub edge_named : (n : Node) (place child : ℕ) (e : Edge) → IsShape n → IsEdgeTo n place child e → 1 ≤ times n child
-edge_named n place child e h way = omega (arith, edge_apart n place child e child h way, count_own child)
-
-pub child_named : (n : Node) (place child : ℕ) (e : Edge) → IsShape n → IsWayTo n place child e → 1 ≤ times n child
-child_named n place child e h way = edge_named n place child e h (as_edge n place child e way)
 
 -- ---- what the node has, if what else it names has what it had
 
@@ -201,9 +150,6 @@ edge_shape t p n place c e seen m s = (one_fits t p n place c e seen m s).each.0
 pub lower_child : (t : Table) (p : ℕ) (n : Node) (place c : ℕ) (e : Edge) (seen : ℕ) (m : Node) → IsSplittable t p n place c e seen m → IsLower t (t.level p) c
 lower_child t p n place c e seen m s = named_has (IsLower t (t.level p)) c (names n) s.own.lower (child_named n place c e s.own.shape s.way)
 
-pub some_next : (t : Table) → IsTable t → 1 ≤ t.next
-some_next t table = let a : 1 ≤ t.root = table.low t.root table.root in let b : t.root < t.next = table.below t.root table.root in omega arith
-
 -- ---- the two edges
 
 pub below_end : (k p : List ℕ) (hi : Option (List ℕ)) → IsBelow k p → IsBelowEnd p hi → IsBelowEnd k hi
@@ -259,30 +205,6 @@ both_fit t p n place c e seen m pivot s inside short = both_fit_in n place e (as
 
 -- ---- names
 
-pub level_exchanged : (n : Node) (place : ℕ) (list : List Edge) → level_of (exchanged n place list) ≡ level_of n
-level_exchanged (Leaf entries) place list = refl
-level_exchanged (Inner level es buffer) place list = refl
-
--- a compacted node still names its edges' children
-pub compacted_named : (n m : Node) → IsCompacted n m → (x : ℕ) → count_names x (flat_map edge_names (edges_of n)) ≤ times m x
-compacted_named (Leaf entries) m h x = omega arith
-compacted_named (Inner level es buffer) m h x =
-    subst (λ (d : Node). count_names x (flat_map edge_names es) ≤ times d x) (sym h.swept)
-    (omega (arith, ap (count_names x) (edge_names-lowered h.mask es), count_names-append x (flat_map edge_names (map (lowered h.mask) es)) (flat_map message_names (staying h.mask buffer))))
-
-pub exchanged_named : (n : Node) (place : ℕ) (list : List Edge) (x : ℕ) → 1 ≤ level_of n → count_names x (flat_map edge_names list) ≤ count_names x (flat_map edge_names (edges_of (exchanged n place list)))
-exchanged_named (Leaf entries) place list x inner = absurd (omega arith)
-exchanged_named (Inner level es buffer) place list x inner =
-    let xs : List Edge = take place es in
-    let ys : List Edge = drop (place + 1) es in
-    omega (
-      arith,
-      ap (count_names x) (flat_map-append edge_names xs (list ++ ys)),
-      ap (count_names x) (flat_map-append edge_names list ys),
-      count_names-append x (flat_map edge_names xs) (flat_map edge_names (list ++ ys)),
-      count_names-append x (flat_map edge_names list) (flat_map edge_names ys),
-    )
-
 pub count_two : (x a b : ℕ) → count_names x (a ∷ b ∷ []) ≡ count_names x (a ∷ []) + count_names x (b ∷ [])
 count_two x a b = count_names-append x (a ∷ []) (b ∷ [])
 
@@ -317,13 +239,6 @@ one_times n place e seen parent h here r x =
     ∙ sym (times_exchanged n place (e ∷ []) x (inner_of n place e h here))
     ∙ ap (λ (m : Node). times m x) (exchanged_same n place e here) in
     omega arith
-
-pub size_exchanged : (n : Node) (place : ℕ) (list : List Edge) → buffer_size (exchanged n place list) ≡ buffer_size n
-size_exchanged (Leaf entries) place list = refl
-size_exchanged (Inner level es buffer) place list = refl
-
-pub compacted_small : (n : Node) (place : ℕ) (list : List Edge) (parent : Node) → IsCompacted (exchanged n place list) parent → buffer_size parent ≤ buffer_size n
-compacted_small n place list parent r = omega (arith, compacted_size (exchanged n place list) parent r, size_exchanged n place list)
 
 half_named : (t : Table) (c : ℕ) (m : Node) (own : List ℕ → Type 0) (half : Node) → AllByRecursion (IsLower t (t.level c)) (names m) → IsHalf m own half → (x : ℕ) → 1 ≤ times half x → IsLower t (t.level c) x
 half_named t c m own half below is x one =
@@ -525,10 +440,6 @@ split_size n place e m next _ _ _ (lower first pivot second parent halves outsid
 split_size n place e m next _ _ _ (upper first pivot second parent halves outside compacted) = (compacted_small n place (e ∷ []) parent compacted, halves.upper.size)
 
 -- ---- the parts as the code finds them
-
-pub edge_here : (es : List Edge) (n : Node) (place : ℕ) (e : Edge) → es ≡ edges_of n → place < length (edges_of n) → e ≡ get_or es place e → IsEdgeAt n place e
-edge_here es n place e same low read =
-    subst (λ (l : List Edge). slice_get l place ≡ Some e) same (slice_get_read es (length es) place e refl (subst (λ (l : List Edge). place < length l) (sym same) low) read)
 
 pub fits_here : (n : Node) (place : ℕ) (e : Edge) (list : List Edge) → FitsAt n place e list → (d : Edge) → IsEdgeAt n place d → FitsAt n place d list
 fits_here n place e list fits d there = subst (λ (x : Edge). FitsAt n place x list) (same_Some e d (sym fits.here ∙ there)) fits

@@ -19,7 +19,7 @@ use Rattle.bd_node.specs.Nodes.{message_names}
 use Rattle.bd_node.specs.Shape.{IsShape}
 use Rattle.bd_node.proofs.Lookup.{each_weaker, each_both}
 use Rattle.bd_inner.specs.Moving.{lifted, IsLifted, CanMove, IsPlainFor, AreParts}
-use Rattle.bd_inner.specs.Exchange.{end_at, IsEdgeAt}
+use Rattle.bd_node.specs.Parts.{end_at, IsEdgeAt}
 use Rattle.bd_inner.proofs.CarvingOwned.{front_begins, least_begins}
 use Rattle.bd_inner.proofs.Fitting.{edge_lifted}
 use Rattle.bd_inner.proofs.Moved.{freed_names}

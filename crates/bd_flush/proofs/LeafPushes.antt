@@ -19,16 +19,20 @@ use Rattle.bd_node.specs.Tables.{Table, IsKept, IsTable, IsLower, IsNodeOf, IsSo
 use Rattle.bd_node.specs.Private.{IsPrivate}
 use Rattle.bd_node.proofs.Lookup.{Agree, named_has, each_named, node_has-key, count-cons_other}
 use Rattle.bd_inner.specs.declared.batches.Batch.{Batch}
-use Rattle.bd_inner.specs.Halves.{buffer_of}
+use Rattle.bd_node.specs.Parts.{buffer_of, end_at, IsEdgeAt}
 use Rattle.bd_inner.specs.Moving.{IsMoved}
-use Rattle.bd_inner.specs.Exchange.{exchanged, end_at, IsEdgeAt, FitsAt}
+use Rattle.bd_inner.specs.Exchange.{exchanged, FitsAt}
 use Rattle.bd_inner.proofs.Compacting.{count_names, compacted_shape, compacted_level, compacted_meaning, compacted_size, compacted_times}
 use Rattle.bd_inner.proofs.Fitting.{own_shape, way_fits}
 use Rattle.bd_inner.proofs.Exchanged.{exchanged_shape, pushed}
 use Rattle.bd_flush.specs.Pushes.{seen_by, unseen, IsWaitedFor, IsEdgeBatch, IsWay, IsNewLeaf}
-use Rattle.bd_flush.proofs.ChildSplits.{times_exchanged, exchanged_same, inner_of, count_own, level_exchanged, compacted_named, exchanged_named, size_exchanged, some_next, asks_at}
+use Rattle.bd_inner.proofs.Named.{times_without, times_exchanged, exchanged_same, count_own, level_exchanged, compacted_named, exchanged_named, size_exchanged}
+use Rattle.bd_node.proofs.Parts.{inner_of}
+use Rattle.bd_path.proofs.EdgesAt.{some_next}
+use Rattle.bd_flush.proofs.ChildSplits.{asks_at}
 use Rattle.bd_flush.proofs.Pushed.{moved_seen, acts_alike, batch_plain}
-use Rattle.bd_flush.proofs.LeafSteps.{has_leaf, leaf_old, leaf_new, IsLeafChange, IsLeafChangeOf}
+use Rattle.bd_path.proofs.PathSteps.{has_made, made_old}
+use Rattle.bd_path.proofs.OneSteps.{first_made, IsOneChange, IsOneChangeOf}
 use Rattle.bd_keys.proofs.Order.{IsKey-drop}
 
 -- ---- the way
@@ -69,11 +73,6 @@ new_fits t p n place e parent entries s h =
 new_names : (n : Node) (place next : ℕ) (e f : Edge) (count : ℕ) → IsWay n place next e f → flat_map edge_names (seen_by f count ∷ []) ≡ next ∷ []
 new_names n place next e f count way = ap (λ (o : Option ℕ). option_to_list o ++ []) (ap (λ (g : Edge). g.child) way.0)
 
-pub times_without : (n : Node) (place : ℕ) (e : Edge) (x : ℕ) → IsShape n → IsEdgeAt n place e → times (exchanged n place []) x ≤ times n x
-times_without n place e x h here =
-    let same : times (exchanged n place (e ∷ [])) x ≡ times n x = ap (λ (m : Node). times m x) (exchanged_same n place e here) in
-    omega (arith, times_exchanged n place (e ∷ []) x (inner_of n place e h here))
-
 new_named : (t : Table) (p : ℕ) (n : Node) (place : ℕ) (e : Edge) (parent : Node) (entries : List Entry) → IsBare t p n place e → IsNewLeaf n place e t.next parent entries → (x : ℕ) → 1 ≤ times parent x → IsLower t (t.level p) x ⊎ (x ≡ t.next)
 new_named t p n place e parent entries s h x one =
     let list : List Edge = seen_by h.edge h.batch.count ∷ [] in
@@ -92,31 +91,41 @@ new_used t p n place e parent entries s h =
     let own : count_names t.next (flat_map edge_names list) ≡ 1 = ap (λ (l : List ℕ). count_names t.next l) (new_names n place t.next e h.edge h.batch.count h.way) ∙ count_own t.next in
     omega (arith, compacted_named (exchanged n place list) parent h.relieved t.next, exchanged_named n place list t.next (inner_of n place e s.own.shape s.here))
 
-pub new_change : (t : Table) (p : ℕ) (n : Node) (place : ℕ) (e : Edge) (parent : Node) (entries : List Entry) → IsBare t p n place e → IsNewLeaf n place e t.next parent entries → IsLeafChange t p parent entries
+pub new_change : (t : Table) (p : ℕ) (n : Node) (place : ℕ) (e : Edge) (parent : Node) (entries : List Entry) → IsBare t p n place e → IsNewLeaf n place e t.next parent entries → IsOneChange t p parent (Leaf entries ∷ [])
 new_change t p n place e parent entries s h =
     let list : List Edge = seen_by h.edge h.batch.count ∷ [] in
     let level : level_of parent ≡ level_of n = compacted_level (exchanged n place list) parent h.relieved ∙ level_exchanged n place list in
     record {
       table = s.table;
-      parent = s.kept;
+      kept = s.kept;
       shape = compacted_shape (exchanged n place list) parent (exchanged_shape n place e list s.own.shape (new_fits t p n place e parent entries s h)) h.relieved;
       level = level ∙ s.own.level_is;
-      inner = (let l : 1 ≤ level_of n = inner_of n place e s.own.shape s.here in omega arith);
-      named = new_named t p n place e parent entries s h;
-      leaf = record {
-        each = h.got.entries.each;
-        rising = h.got.entries.rising;
-        size = (let fits : sum_by size h.batch.messages ≤ batch_limit = h.moved.batch.fits in omega (arith, h.got.size));
-      };
-      used = new_used t p n place e parent entries s h;
+      named = λ x one. elim (new_named t p n place e parent entries s h x one) [
+        | inl lower ↦ inl lower
+        | inr new ↦ inr (omega arith, omega arith)
+      ];
+      made_are = (
+        record {
+          shape = record {
+            each = h.got.entries.each;
+            rising = h.got.entries.rising;
+            size = (let fits : sum_by size h.batch.messages ≤ batch_limit = h.moved.batch.fits in omega (arith, h.got.size));
+          };
+          low = (let l : 1 ≤ level_of n = inner_of n place e s.own.shape s.here in omega arith);
+          under = omega arith;
+          named = λ x one. absurd (omega arith);
+        },
+        tt,
+      );
+      used = λ x high below. (let same : t.next ≡ x = omega arith in subst (λ (i : ℕ). 1 ≤ times parent i) same (new_used t p n place e parent entries s h));
     }
 
 -- ---- what the node has
 
 new_meaning : (nodes : Nodes) (t : Table) (p : ℕ) (n : Node) (place : ℕ) (e : Edge) (parent : Node) (entries : List Entry) → IsBare t p n place e → IsNewLeaf n place e t.next parent entries
-    → (k : List ℕ) → IsKey k → node_at (has_leaf nodes t.next entries) parent k ≡ node_at (at nodes) n k
+    → (k : List ℕ) → IsKey k → node_at (has_made nodes t.next (Leaf entries ∷ [])) parent k ≡ node_at (at nodes) n k
 new_meaning nodes t p n place e parent entries s h k key =
-    let has : NodesAt = has_leaf nodes t.next entries in
+    let has : NodesAt = has_made nodes t.next (Leaf entries ∷ []) in
     let f : Edge = h.edge in
     let count : ℕ = h.batch.count in
     let list : List Message = h.batch.messages in
@@ -129,17 +138,17 @@ new_meaning nodes t p n place e parent entries s h k key =
     (λ l key_l range.
     let x : List ℕ = drop f.lift l in
     asks_at has (seen_by f count) t.next l (ap (λ (g : Edge). g.child) h.way.0) (ap (λ (g : Edge). g.source) h.way.0)
-    ∙ leaf_new nodes t.next entries x
+    ∙ first_made nodes t.next (Leaf entries) x
     ∙ node_has-key (at nodes) (Leaf entries) x (IsKey-drop f.lift l key_l)
     ∙ h.got.acted (at nodes) x
     ∙ acts_alike (at nodes) has list x None plain
     ∙ ap (λ (o : Option (List ℕ)). acts has list x o) (sym (ap (λ (o : Option ℕ). child_at (at nodes) o (e.source ++ drop e.lift l)) s.bare)))
     (each_named (Agree has (at nodes)) (names (exchanged n place [])) (λ x one.
     let named : 1 ≤ times n x = omega (arith, times_without n place e x s.own.shape s.here) in
-    leaf_old nodes t.next entries x (s.table.below x (named_has (IsLower t (t.level p)) x (names n) s.own.lower named).kept)))
+    made_old nodes t.next (Leaf entries ∷ []) x (s.table.below x (named_has (IsLower t (t.level p)) x (names n) s.own.lower named).kept)))
     k key
 
-pub new_change_of : (nodes : Nodes) (t : Table) (p : ℕ) (n : Node) (place : ℕ) (e : Edge) (parent : Node) (entries : List Entry) → IsBare t p n place e → IsSound nodes t → nodes p ≡ Some n → IsPrivate nodes t p → IsNewLeaf n place e t.next parent entries → IsLeafChangeOf nodes t p n parent entries
+pub new_change_of : (nodes : Nodes) (t : Table) (p : ℕ) (n : Node) (place : ℕ) (e : Edge) (parent : Node) (entries : List Entry) → IsBare t p n place e → IsSound nodes t → nodes p ≡ Some n → IsPrivate nodes t p → IsNewLeaf n place e t.next parent entries → IsOneChangeOf nodes t p n parent (Leaf entries ∷ [])
 new_change_of nodes t p n place e parent entries s sound there private h = record {
   step = new_change t p n place e parent entries s h;
   sound = sound;

@@ -12,16 +12,17 @@ use Rattle.bd_node.specs.declared.node.Node.{Node}
 use Rattle.bd_node.specs.declared.node.Step.{Step}
 use Rattle.bd_node.specs.Shape.{IsShape}
 use Rattle.bd_inner.specs.declared.batches.Batch.{Batch}
-use Rattle.bd_inner.specs.Halves.{edges_of, buffer_of}
+use Rattle.bd_node.specs.Parts.{edges_of, buffer_of, end_at, IsEdgeAt}
 use Rattle.bd_inner.specs.Moving.{IsLifted}
 use Rattle.bd_inner.specs.Compaction.{IsCompacted}
-use Rattle.bd_inner.specs.Exchange.{exchanged, end_at, IsEdgeAt, FitsAt, way_to}
+use Rattle.bd_inner.specs.Exchange.{exchanged, FitsAt, way_to}
 use Rattle.bd_inner.proofs.Fitting.{own_shape, way_lifted}
 use Rattle.bd_leaf.specs.Leaves.{IsReceived}
-use Rattle.bd_flush.specs.declared.fetching.Fetched.{Fetched}
-use Rattle.bd_flush.specs.Pushes.{seen_by, leaf_step, IsWaitedFor, IsEdgeBatch, IsWay, IsNewLeaf, IsNewStep}
+use Rattle.bd_path.specs.declared.fetching.Fetched.{Fetched}
+use Rattle.bd_flush.specs.Pushes.{seen_by, IsWaitedFor, IsEdgeBatch, IsWay, IsNewLeaf, IsNewStep}
+use Rattle.bd_path.specs.Paths.{leaf_step}
 use Rattle.bd_flush.proofs.Pushed.{batch_plain}
-use Rattle.bd_flush.proofs.ChildSplits.{some_edge}
+use Rattle.bd_node.proofs.Parts.{some_edge}
 use Rattle.bd_flush.proofs.Batches.{few_messages, all_plain}
 use Rattle.bd_flush.proofs.LeafPushes.{way_seen, way_waiting, way_low, way_fit}
 

@@ -12,28 +12,27 @@ use Rattle.bd_node.specs.Meaning.{Nodes}
 use Rattle.bd_node.specs.Tables.{Table, IsTable, IsSound}
 use Rattle.bd_node.specs.Steps.{IsStep, IsInPlace, IsTableAfter, IsCommitted}
 use Rattle.bd_node.specs.Stores.{visited}
-use Rattle.bd_inner.specs.Exchange.{IsEdgeAt}
-use Rattle.bd_flush.specs.declared.fetching.Fetched.{Fetched}
+use Rattle.bd_node.specs.Parts.{IsEdgeAt}
+use Rattle.bd_path.specs.declared.fetching.Fetched.{Fetched}
 use Rattle.bd_flush.specs.declared.splitting.Plan.{Plan}
 use Rattle.bd_flush.specs.declared.splitting.Plan.TheVariants.{Ready, NoId, NoLevel}
-use Rattle.bd_flush.specs.Flushed.{IsFlushed}
-use Rattle.bd_flush.specs.Children.{AreFamily, IsNoHigher, IsContents}
-use Rattle.bd_flush.specs.Between.{IsHardlyHigher}
-use Rattle.bd_flush.specs.Raising.{IsWayUp}
+use Rattle.bd_path.specs.Flushed.{IsFlushed, IsNoHigher, IsHardlyHigher}
+use Rattle.bd_flush.specs.Children.{AreFamily}
+use Rattle.bd_path.specs.Fetching.{IsContents}
+use Rattle.bd_path.specs.Raising.{IsWayUp, CannotRise, AreChangesOver, CannotRiseOver}
 use Rattle.bd_flush.specs.Pushes.{AllGoDown, CanMoveSome, IsWaitedFor, CanPush, IsSomePush, AreLongParts, IsStepOver, IsPlanOver, IsPushBetweenStep, IsPlan, IsLongPush, IsHighPush}
-use Rattle.bd_flush.specs.Made.{IsWornFor}
-use Rattle.bd_flush.proofs.Made.{no_ids, too_high}
+use Rattle.bd_path.specs.Made.{IsWornFor}
+use Rattle.bd_path.proofs.Made.{no_ids, too_high}
 use Rattle.bd_node.specs.declared.node.Change.{Change}
 use Rattle.bd_node.specs.declared.node.Node.{Node}
 use Rattle.bd_inner.specs.Compaction.{IsCompacted}
 use Rattle.bd_inner.specs.Exchange.{exchanged}
 use Rattle.bd_inner.proofs.Compacting.{compacted_level}
 use Rattle.bd_flush.specs.Splits.{over_step}
-use Rattle.bd_flush.specs.Raising.{CannotRise, AreChangesOver, CannotRiseOver}
-use Rattle.bd_flush.proofs.ChildSplits.{level_exchanged}
+use Rattle.bd_inner.proofs.Named.{level_exchanged}
 use Rattle.bd_flush.proofs.RootSplits.{over_none}
 use Rattle.bd_flush.proofs.GoingDown.{all_move, all_plain}
-use Rattle.bd_flush.proofs.PathSteps.{path_may, path_in_place}
+use Rattle.bd_path.proofs.PathSteps.{path_may, path_in_place}
 use Rattle.bd_flush.proofs.PushCommits.{may_push, push_in_place, push_flushed, push_no_higher, push_made}
 use Rattle.bd_flush.proofs.Betweens.{the_child, the_uppers, between_path, between_path_of, between_flushed, between_table}
 

@@ -19,9 +19,9 @@ use Rattle.bd_node.specs.Tables.{Table, IsLower, IsNodeOf}
 use Rattle.bd_node.proofs.Lookup.{Agree, each_first, each_second, each_both, each_dropped, each_named, named_has, acts-same, node_has-key}
 use Rattle.bd_node.proofs.Appending.{shape_appended, level_appended, acts-plain, node_at-appended}
 use Rattle.bd_inner.specs.declared.batches.Batch.{Batch}
-use Rattle.bd_inner.specs.Halves.{buffer_of}
+use Rattle.bd_node.specs.Parts.{buffer_of, end_at, IsEdgeAt}
 use Rattle.bd_inner.specs.Moving.{goto_count, IsPlainFor, IsMoved}
-use Rattle.bd_inner.specs.Exchange.{exchanged, end_at, IsKeyOf, IsEdgeAt}
+use Rattle.bd_inner.specs.Exchange.{exchanged, IsKeyOf}
 use Rattle.bd_inner.proofs.Compacting.{count_names, count_names-append, compacted_meaning}
 use Rattle.bd_inner.proofs.Fitting.{own_shape}
 use Rattle.bd_inner.proofs.Exchanged.{exchanged_shape, pushed}
@@ -31,8 +31,10 @@ use Rattle.bd_flush.specs.GoingDown.{GoesDown}
 use Rattle.bd_flush.specs.Pushes.{seen_by, unseen, AllGoDown, IsWaitedFor, IsEdgeBatch, IsRelieved, IsPushInto}
 use Rattle.bd_flush.specs.Pushes.IsPushInto.{received, fitted, split}
 use Rattle.bd_flush.proofs.GoingDown.{parts_low}
-use Rattle.bd_flush.proofs.ChildSteps.{has_below, has_child, has_old, IsChildChange, IsChildChangeOf}
-use Rattle.bd_flush.proofs.ChildSplits.{child_named, one_fits, one_change, compacted_small, others_agree, gotos_agree, asks, asks_at, IsSplittable, IsSplittableOf, split_change, split_meaning, split_few, split_size}
+use Rattle.bd_path.proofs.ChildSteps.{has_below, has_child, has_old, IsChildChange, IsChildChangeOf}
+use Rattle.bd_path.proofs.EdgesAt.{child_named}
+use Rattle.bd_flush.proofs.ChildSplits.{one_fits, one_change, others_agree, gotos_agree, asks, asks_at, IsSplittable, IsSplittableOf, split_change, split_meaning, split_few, split_size}
+use Rattle.bd_inner.proofs.Named.{compacted_small}
 use Rattle.bd_keys.proofs.Order.{IsKey-drop}
 
 -- ---- the node above

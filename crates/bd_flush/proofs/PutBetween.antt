@@ -14,21 +14,22 @@ use Rattle.bd_node.specs.Shape.{IsShape}
 use Rattle.bd_node.specs.Tables.{Table, IsTable, IsSound}
 use Rattle.bd_node.specs.Steps.{IsStep, IsInPlace, IsTableAfter, IsCommitted}
 use Rattle.bd_inner.specs.Halves.{AreHalves}
-use Rattle.bd_flush.specs.declared.fetching.Fetched.{Fetched}
-use Rattle.bd_flush.specs.Flushed.{IsFlushed}
-use Rattle.bd_flush.specs.Children.{IsFetched, IsContents, CanSplitChild, IsLongPivot}
-use Rattle.bd_flush.specs.Raising.{raise, IsWayUp, IsRising, CannotRise, AreRaised}
-use Rattle.bd_flush.specs.Raising.IsWayUp.{top, one_up}
-use Rattle.bd_flush.specs.Raising.IsRising.{at_top, high_enough, rises}
-use Rattle.bd_flush.specs.Raising.CannotRise.{here, further}
-use Rattle.bd_flush.specs.Between.{IsBetweenStep, IsHardlyHigher}
+use Rattle.bd_path.specs.declared.fetching.Fetched.{Fetched}
+use Rattle.bd_path.specs.Flushed.{IsFlushed, IsHardlyHigher}
+use Rattle.bd_path.specs.Fetching.{IsFetched, IsContents}
+use Rattle.bd_flush.specs.Children.{CanSplitChild, IsLongPivot}
+use Rattle.bd_path.specs.Raising.{raise, IsWayUp, IsRising, CannotRise, AreRaised}
+use Rattle.bd_path.specs.Raising.IsWayUp.{top, one_up}
+use Rattle.bd_path.specs.Raising.IsRising.{at_top, high_enough, rises}
+use Rattle.bd_path.specs.Raising.CannotRise.{here, further}
+use Rattle.bd_flush.specs.Between.{IsBetweenStep}
 use Rattle.bd_flush.specs.declared.splitting.Plan.{Plan}
 use Rattle.bd_flush.specs.declared.splitting.Plan.TheVariants.{Ready, NoId, NoLevel}
-use Rattle.bd_flush.specs.Made.{IsWornFor}
+use Rattle.bd_path.specs.Made.{IsWornFor}
 use Rattle.bd_flush.specs.Splits.{over_step, IsPlanOf}
-use Rattle.bd_flush.proofs.Made.{no_ids}
-use Rattle.bd_flush.proofs.Raisings.{level_high}
-use Rattle.bd_flush.proofs.ChildSplits.{as_edge}
+use Rattle.bd_path.proofs.Made.{no_ids}
+use Rattle.bd_path.proofs.Raisings.{level_high}
+use Rattle.bd_path.proofs.EdgesAt.{as_edge}
 use Rattle.bd_flush.proofs.RootSplits.{up_lower, IsSplit, IsSplitOf, IsMade, split_step, split_in_place, flushed, over_higher, over_same, over_found, over_none}
 
 -- ---- the way

@@ -27,21 +27,20 @@ use Rattle.bd_node.proofs.Sound.{sound-levelled, named_lower}
 use Rattle.bd_node.proofs.Stepping.{by_given, given-old}
 use Rattle.bd_node.proofs.Edges.{less_lt, lt_is, lt_isnt, not_less_lt}
 use Rattle.bd_inner.specs.Halves.{IsHalf, AreHalves}
-use Rattle.bd_flush.specs.declared.fetching.Fetched.{Fetched}
-use Rattle.bd_flush.specs.Flushed.{IsFlushed}
-use Rattle.bd_flush.specs.Made.{IsWornFor}
-use Rattle.bd_flush.proofs.Made.{no_ids}
-use Rattle.bd_flush.specs.Flushed.LeadsTo.{itself}
-use Rattle.bd_flush.specs.Children.{IsFetched, IsEdgeTo, IsContents}
-use Rattle.bd_flush.specs.Paths.{path_step}
+use Rattle.bd_path.specs.declared.fetching.Fetched.{Fetched}
+use Rattle.bd_path.specs.Flushed.{IsFlushed, IsHardlyHigher}
+use Rattle.bd_path.specs.Made.{IsWornFor}
+use Rattle.bd_path.proofs.Made.{no_ids}
+use Rattle.bd_path.specs.Flushed.LeadsTo.{itself}
+use Rattle.bd_path.specs.Fetching.{IsFetched, IsEdgeTo, IsContents}
+use Rattle.bd_path.specs.Paths.{path_step}
 use Rattle.bd_flush.specs.Splits.{plain_edge, over_two, over_step, IsRootSplit, IsRaised}
-use Rattle.bd_flush.specs.Raising.{raised, raise, IsWayUp, IsRising}
-use Rattle.bd_flush.specs.Raising.IsWayUp.{top}
-use Rattle.bd_flush.specs.Raising.IsRising.{at_top}
-use Rattle.bd_flush.specs.Between.{IsHardlyHigher}
-use Rattle.bd_flush.proofs.ChildSplits.{edge_named}
-use Rattle.bd_flush.proofs.PathSteps.{IsMadeUnder, IsUpper, IsPathStep, RisesByOne, given_child, each_change, has_made, has_path, made_new, path_child, path_old, both_ways, IsPathStepOf, path_may, path_in_place, path_flushed, root_rises}
-use Rattle.bd_flush.proofs.RisingSteps.{raised_size, way_private, rising_rises, rising_uppers, rising_once, IsChangedBy, changed_more, all_changed, has_room, rising_of}
+use Rattle.bd_path.specs.Raising.{raised, raise, IsWayUp, IsRising}
+use Rattle.bd_path.specs.Raising.IsWayUp.{top}
+use Rattle.bd_path.specs.Raising.IsRising.{at_top}
+use Rattle.bd_path.proofs.EdgesAt.{edge_named}
+use Rattle.bd_path.proofs.PathSteps.{IsMadeUnder, IsUpper, IsPathStep, RisesByOne, given_child, each_change, has_made, has_path, made_new, path_child, path_old, both_ways, IsPathStepOf, path_may, path_in_place, path_flushed, root_rises}
+use Rattle.bd_path.proofs.RisingSteps.{raised_size, way_private, rising_rises, rising_uppers, rising_once, IsChangedBy, changed_more, all_changed, has_room, rising_of}
 
 -- ---- a node over two others
 

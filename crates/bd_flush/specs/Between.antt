@@ -4,11 +4,12 @@ use Rattle.bd_node.specs.declared.node.Node.{Node}
 use Rattle.bd_node.specs.declared.node.Step.{Step}
 use Rattle.bd_node.specs.Nodes.{level_of}
 use Rattle.bd_node.specs.Tables.{Table}
-use Rattle.bd_flush.specs.declared.fetching.Fetched.{Fetched}
+use Rattle.bd_path.specs.declared.fetching.Fetched.{Fetched}
 use Rattle.bd_inner.specs.Halves.{AreHalves}
 use Rattle.bd_flush.specs.Splits.{over_step}
-use Rattle.bd_flush.specs.Children.{IsChildStep, IsLongPivot, IsNoHigher}
-use Rattle.bd_flush.specs.Raising.{raise, IsRising, CannotRise}
+use Rattle.bd_flush.specs.Children.{IsChildStep, IsLongPivot}
+use Rattle.bd_path.specs.Flushed.{IsNoHigher, IsHardlyHigher}
+use Rattle.bd_path.specs.Raising.{raise, IsRising, CannotRise}
 
 -- the step that puts a child between its parent and its halves: the nodes of the way above it, the
 -- nearest first, rise where they must
@@ -18,13 +19,6 @@ pub record IsBetweenStep (root next : ℕ) (way : List Fetched) (child : Fetched
   pub rise : IsRising (level_of child.node.value + 1) way rising
   pub is : step ≡ over_step root next child.id (level_of child.node.value + 1) first pivot
       second (map raise rising)
-
--- the root stays, at most one level higher, and no more waits in it
-pub record IsHardlyHigher (t u : Table) : Type 0 where
-  pub root : u.root ≡ t.root
-  pub low : t.level t.root ≤ u.level u.root
-  pub high : u.level u.root ≤ t.level t.root + 1
-  pub size : u.size ≤ t.size
 
 -- the step of a child's split below its parent, or, where the pivot of its halves would be too long
 -- there, the one that puts it between

@@ -8,12 +8,12 @@ use Rattle.bd_node.specs.declared.node.Step.{Step}
 use Rattle.bd_node.specs.Shape.{IsPending}
 use Rattle.bd_node.specs.Tables.{Table}
 use Rattle.bd_inner.specs.Carving.{IsCarved}
-use Rattle.bd_inner.specs.Halves.{edges_of, buffer_of}
-use Rattle.bd_inner.specs.Exchange.{end_at, IsEdgeAt}
-use Rattle.bd_flush.specs.declared.fetching.Fetched.{Fetched}
-use Rattle.bd_flush.specs.Children.{IsFetched}
+use Rattle.bd_node.specs.Parts.{edges_of, buffer_of, end_at, IsEdgeAt}
+use Rattle.bd_path.specs.declared.fetching.Fetched.{Fetched}
+use Rattle.bd_path.specs.Fetching.{IsFetched}
 use Rattle.bd_flush.specs.GoingDown.{MayGoDown, child_level}
 use Rattle.bd_flush.specs.Pushes.{AllGoDown}
+use Rattle.bd_path.specs.Paths.{change_step}
 
 -- the message at a place is a Goto that is pending for an edge, whose keys end there, and may not go
 -- down it to a child of a level
@@ -43,14 +43,14 @@ abbrev pub IsOldestAt : (ℕ → ℕ) → Node → ℕ → Edge → ℕ → Type
 IsOldestAt level n place e index =
     IsOldestGoto level (child_level level e.child) (buffer_of n) e (end_at n place) index
 
--- a Goto that is pending for a node's edge, and may not go down it, may be carved out, as far as the
--- table tells
-pub record CanCarve (t : Table) (parent : Fetched) (place : ℕ) : Type 0 where
+-- the Goto at this index, the oldest one that is pending for a node's edge, and may not go down it,
+-- may be carved out, as far as the table tells
+pub record CanCarve (t : Table) (parent : Fetched) (place index : ℕ) : Type 0 where
   pub parent_is : IsFetched t parent
   pub room : length (edges_of parent.node.value) ≤ room_edges
   pub edge : Edge
   pub here : IsEdgeAt parent.node.value place edge
-  pub held : ¬ AllGoDown t.level (child_level t.level edge.child) parent.node.value place edge
+  pub oldest : IsOldestAt t.level parent.node.value place edge index
 
 -- the node `m` is `n` after the oldest Goto is carved out that is pending for the edge at a place, and
 -- may not go down it
@@ -60,11 +60,6 @@ pub record IsCarvedFor (level : ℕ → ℕ) (n : Node) (place : ℕ) (m : Node)
   pub index : ℕ
   pub oldest : IsOldestAt level n place edge index
   pub carved : IsCarved n index m
-
--- the step that changes one node
-abbrev pub change_step : ℕ → ℕ → Node → Step
-change_step root id n =
-    record { made = []; changes = record { id = id; node = n } ∷ []; root = root }
 
 -- the step that carves a Goto out
 pub record IsCarveStep (t : Table) (parent : Fetched) (place : ℕ) (step : Step) : Type 0 where

@@ -10,41 +10,18 @@ use Rattle.bd_node.specs.Meaning.{Nodes}
 use Rattle.bd_node.specs.Private.{IsPrivate}
 use Rattle.bd_node.specs.Tables.{Table, IsKept, IsNodeOf}
 use Rattle.bd_inner.specs.Compaction.{IsCompacted}
-use Rattle.bd_inner.specs.Halves.{edges_of, AreHalves}
+use Rattle.bd_node.specs.Parts.{edges_of, end_at, IsEdgeAt}
+use Rattle.bd_inner.specs.Halves.{AreHalves}
 use Rattle.bd_inner.specs.Moving.{lifted}
-use Rattle.bd_inner.specs.Exchange.{exchanged, end_at, IsEdgeAt}
-use Rattle.bd_flush.specs.declared.fetching.Fetched.{Fetched}
+use Rattle.bd_inner.specs.Exchange.{exchanged}
+use Rattle.bd_path.specs.declared.fetching.Fetched.{Fetched}
 use Rattle.bd_flush.specs.declared.children.Parts.{Parts}
 use Rattle.bd_flush.specs.declared.children.Halving.{Halving}
 use Rattle.bd_flush.specs.declared.children.Halving.TheVariants.{Short, Long}
 use Rattle.bd_flush.specs.declared.children.Side.{Side}
 use Rattle.bd_flush.specs.declared.children.Side.TheVariants.{Lower, Both, Upper}
-
--- what the table says of a fetched node
-pub record IsFetched (t : Table) (f : Fetched) : Type 0 where
-  pub kept : IsKept t f.id
-  pub own : IsNodeOf t (t.level f.id) f.node.value
-  pub root : f.id ≡ t.root → buffer_size f.node.value ≡ t.size
-
--- the node's edge at a place asks the child
-pub record IsEdgeTo (n : Node) (place child : ℕ) (e : Edge) : Type 0 where
-  pub here : IsEdgeAt n place e
-  pub child_is : e.child ≡ Some child
-
--- the node's edge at a place asks the child, with nothing in front of what is left of a key
-pub record IsWayTo (n : Node) (place child : ℕ) (e : Edge) : Type 0 where
-  pub here : IsEdgeAt n place e
-  pub child_is : e.child ≡ Some child
-  pub plain : e.source ≡ []
-
--- the step that changes a node and its child, and makes others
-abbrev pub child_step : ℕ → ℕ → Node → ℕ → Node → List Node → Step
-child_step root parent n child m made =
-    record {
-      made = made;
-      changes = record { id = parent; node = n } ∷ record { id = child; node = m } ∷ [];
-      root = root;
-    }
+use Rattle.bd_path.specs.Fetching.{IsFetched, IsWayTo}
+use Rattle.bd_path.specs.Paths.{child_step}
 
 -- a key of an edge's child as one of the edge
 abbrev pub parting : Edge → List ℕ → List ℕ
@@ -138,13 +115,3 @@ pub record IsChildStep (root next : ℕ) (parent : Fetched) (place : ℕ) (child
   pub made : List Node
   pub into : IsSplitInto parent.node.value place edge child.node.value next node half made
   pub is : step ≡ child_step root parent.id node child.id half made
-
--- the contents of a fetched node
-abbrev pub IsContents : Nodes → Fetched → Type 0
-IsContents nodes f = nodes f.id ≡ Some f.node.value
-
--- the root stays, as high as it was, and no more waits in it
-pub record IsNoHigher (t u : Table) : Type 0 where
-  pub root : u.root ≡ t.root
-  pub level : u.level u.root ≡ t.level t.root
-  pub size : u.size ≤ t.size

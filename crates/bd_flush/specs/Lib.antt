@@ -1,13 +1,6 @@
-pub mod Pending
-pub mod Made
-pub mod Flushed
-pub mod Paths
 pub mod GoingDown
 pub mod Splits
 pub mod Children
 pub mod Pushes
-pub mod Raising
 pub mod Between
-pub mod Ways
 pub mod Carving
-pub mod Copies

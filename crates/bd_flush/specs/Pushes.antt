@@ -16,21 +16,24 @@ use Rattle.bd_node.specs.Private.{IsPrivate}
 use Rattle.bd_node.specs.Tables.{Table}
 use Rattle.bd_inner.specs.declared.batches.Batch.{Batch}
 use Rattle.bd_inner.specs.Compaction.{IsCompacted}
-use Rattle.bd_inner.specs.Halves.{edges_of, buffer_of, AreHalves}
+use Rattle.bd_node.specs.Parts.{edges_of, buffer_of, end_at, IsEdgeAt}
+use Rattle.bd_inner.specs.Halves.{AreHalves}
 use Rattle.bd_inner.specs.Moving.{CanMove, IsPlainFor, SomeCanTouch, IsBatch}
-use Rattle.bd_inner.specs.Exchange.{exchanged, end_at, IsEdgeAt, way_to}
+use Rattle.bd_inner.specs.Exchange.{exchanged, way_to}
 use Rattle.bd_leaf.specs.Leaves.{entries_size, IsReceived}
-use Rattle.bd_flush.specs.declared.fetching.Fetched.{Fetched}
+use Rattle.bd_path.specs.declared.fetching.Fetched.{Fetched}
 use Rattle.bd_flush.specs.declared.children.Parts.{Parts}
 use Rattle.bd_node.specs.declared.node.Change.{Change}
 use Rattle.bd_flush.specs.declared.splitting.Plan.{Plan}
 use Rattle.bd_flush.specs.declared.splitting.Plan.TheVariants.{Ready, NoId, NoLevel}
 use Rattle.bd_flush.specs.declared.children.Halving.{Halving}
 use Rattle.bd_flush.specs.declared.children.Halving.TheVariants.{Short, Long}
-use Rattle.bd_flush.specs.Children.{IsFetched, IsWayTo, IsSplitInto, IsLongIn, child_step}
+use Rattle.bd_path.specs.Fetching.{IsFetched, IsWayTo}
+use Rattle.bd_flush.specs.Children.{IsSplitInto, IsLongIn}
+use Rattle.bd_path.specs.Paths.{child_step, leaf_step}
 use Rattle.bd_flush.specs.GoingDown.{GoesDown}
 use Rattle.bd_flush.specs.Splits.{over_step, IsPlanOf}
-use Rattle.bd_flush.specs.Raising.{raise, IsRaisedOver, CannotRiseOver}
+use Rattle.bd_path.specs.Raising.{raise, IsRaisedOver, CannotRiseOver}
 
 -- the edge after its child has got so many more messages
 abbrev pub seen_by : Edge → ℕ → Edge
@@ -227,15 +230,6 @@ IsPlan root next way parent place child NoLevel =
 
 -- ---- to a new leaf
 
--- the step that changes a node and makes a leaf
-abbrev pub leaf_step : ℕ → ℕ → Node → List Entry → Step
-leaf_step root parent n entries =
-    record {
-      made = Leaf entries ∷ [];
-      changes = record { id = parent; node = n } ∷ [];
-      root = root;
-    }
-
 -- messages may go down from a node's edge without a child, as far as the table tells
 pub record CanPushNew (t : Table) (parent : Fetched) (place : ℕ) : Type 0 where
   pub parent_is : IsFetched t parent
@@ -243,11 +237,6 @@ pub record CanPushNew (t : Table) (parent : Fetched) (place : ℕ) : Type 0 wher
   pub here : IsEdgeAt parent.node.value place edge
   pub bare : edge.child ≡ None
   pub waiting : IsWaitedFor parent.node.value place edge
-
--- the node is a private one
-pub record IsOwn (nodes : Nodes) (t : Table) (parent : Fetched) : Type 0 where
-  pub private : IsPrivate nodes t parent.id
-  pub there : nodes parent.id ≡ Some parent.node.value
 
 -- the edge's way to a new child, which leaves out all that its keys have in common
 abbrev pub IsWay : Node → ℕ → ℕ → Edge → Edge → Type 0

@@ -7,11 +7,10 @@ use Rattle.bd_node.specs.declared.node.Change.{Change}
 use Rattle.bd_node.specs.declared.node.Step.{Step}
 use Rattle.bd_node.specs.Nodes.{level_of}
 use Rattle.bd_node.specs.Tables.{Table}
-use Rattle.bd_node.specs.Tables.{Table}
 use Rattle.bd_inner.specs.Halves.{AreHalves}
 use Rattle.bd_flush.specs.declared.splitting.Plan.{Plan}
 use Rattle.bd_flush.specs.declared.splitting.Plan.TheVariants.{Ready, NoId, NoLevel}
-use Rattle.bd_flush.specs.Paths.{path_step}
+use Rattle.bd_path.specs.Paths.{path_step}
 
 -- an edge to a child that is asked at the same key, over an empty buffer
 abbrev pub plain_edge : List ℕ → ℕ → Edge

@@ -10,20 +10,19 @@ ghost use Rattle.bd_node.specs.Nodes.{level_of};
 ghost use Rattle.bd_node.specs.Shape.{IsShape};
 ghost use Rattle.bd_node.specs.Tables.{IsSound};
 ghost use Rattle.bd_inner.specs.Halves.{AreHalves};
-ghost use Rattle.bd_flush.specs.declared.fetching.Fetched.{Fetched};
-ghost use Rattle.bd_flush.specs.Flushed.{IsFlushed};
-ghost use Rattle.bd_flush.specs.Made.{IsMadeBy, IsWornFor};
-ghost use Rattle.bd_flush.specs.Children.{IsFetched, IsContents};
+ghost use Rattle.bd_path.specs.declared.fetching.Fetched.{Fetched};
+ghost use Rattle.bd_path.specs.Flushed.{IsFlushed, IsHardlyHigher};
+ghost use Rattle.bd_path.specs.Made.{IsMadeBy, IsWornFor};
+ghost use Rattle.bd_path.specs.Fetching.{IsFetched, IsContents};
 ghost use Rattle.bd_flush.specs.Splits.{IsPlanOf};
-ghost use Rattle.bd_flush.specs.Raising.{IsWayUp, CannotRise};
-ghost use Rattle.bd_flush.specs.Between.{IsBetweenStep, IsHardlyHigher};
+ghost use Rattle.bd_path.specs.Raising.{IsWayUp, CannotRise};
+ghost use Rattle.bd_flush.specs.Between.{IsBetweenStep};
 
-use crate::Fetched;
-use crate::raising::raise_way;
 use crate::splitting::{Plan, over_step};
 use bd_keys::Bytes;
 use bd_message::{Counter, MapFault};
 use bd_node::{Node, NodeStore};
+use bd_path::{Fetched, raise_way};
 use std::alloc::{AllocError, Global};
 
 /// Puts a child between its parent and its halves, which are made: it has the child's id, one level

@@ -9,23 +9,24 @@ ghost use Rattle.bd_node.specs.Frames.{OfSound, OnlyReads, Stays};
 ghost use Rattle.bd_node.specs.declared.node.Edge.{Edge};
 ghost use Rattle.bd_node.specs.Shape.{IsShape};
 ghost use Rattle.bd_node.specs.Tables.{IsSound};
-ghost use Rattle.bd_inner.specs.Halves.{edges_of};
+ghost use Rattle.bd_node.specs.Parts.{edges_of, IsEdgeAt};
 ghost use Rattle.bd_inner.specs.Compaction.{IsCompacted};
-ghost use Rattle.bd_inner.specs.Exchange.{exchanged, IsEdgeAt, FitsAt};
-ghost use Rattle.bd_flush.specs.Flushed.{IsFlushed};
-ghost use Rattle.bd_flush.specs.Made.{IsMadeBy, IsWornFor};
-ghost use Rattle.bd_flush.specs.Children.{CanSplitChild, AreFamily, IsContents, child_step, parting, upper_edge, IsSide, IsOver, AreParts, IsLongPivot, IsChildStep};
-ghost use Rattle.bd_flush.specs.Raising.{IsWayUp};
+ghost use Rattle.bd_inner.specs.Exchange.{exchanged, FitsAt};
+ghost use Rattle.bd_path.specs.Flushed.{IsFlushed};
+ghost use Rattle.bd_path.specs.Made.{IsMadeBy, IsWornFor};
+ghost use Rattle.bd_flush.specs.Children.{CanSplitChild, AreFamily, parting, upper_edge, IsSide, IsOver, AreParts, IsLongPivot, IsChildStep};
+ghost use Rattle.bd_path.specs.Fetching.{IsContents};
+ghost use Rattle.bd_path.specs.Paths.{child_step};
+ghost use Rattle.bd_path.specs.Raising.{IsWayUp};
 ghost use Rattle.bd_flush.specs.Between.{IsSplitStep, IsHighSplit, IsHighAfterSplit};
 
-use crate::Fetched;
 use crate::between::put_between;
-use crate::nodes::edges_of;
 use bd_inner::{end_of, exchange, split};
 use bd_keys::Bytes;
 use bd_limits::MAX_KEY;
 use bd_message::MapFault;
 use bd_node::{Change, Edge, Items, Node, NodeStore, Step};
+use bd_path::{Fetched, edges_of, path_step};
 use std::alloc::{AllocError, Global};
 
 /// Splits a child with 15 or 16 edges, below a parent with at most 14. These and the nodes above
@@ -299,15 +300,10 @@ pub fn child_step(
 ) -> Result<Step, AllocError>
     ensures { IfOk result (λ step. step ≡ child_step root parent node child half made.items) }
 {
-    let mut changes = Vec::new(alloc);
-    changes.push(Change { id: parent, node })?;
-    changes.push(Change {
+    let mut others = Vec::new(alloc);
+    others.push(Change {
         id: child,
         node: half,
     })?;
-    Ok(Step {
-        made: Items::from_vec(made),
-        changes: Items::from_vec(changes),
-        root,
-    })
+    path_step(alloc, root, Change { id: parent, node }, others, made)
 }

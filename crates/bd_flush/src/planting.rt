@@ -7,21 +7,20 @@ ghost use Rattle.bd_node.specs.declared.node.Edge.{Edge};
 ghost use Rattle.bd_node.specs.Shape.{IsShape};
 ghost use Rattle.bd_node.specs.Stores.{visited};
 ghost use Rattle.bd_node.specs.Tables.{IsSound};
-ghost use Rattle.bd_inner.specs.Halves.{edges_of};
-ghost use Rattle.bd_inner.specs.Exchange.{IsEdgeAt};
-ghost use Rattle.bd_flush.specs.Flushed.{IsFlushed};
-ghost use Rattle.bd_flush.specs.Made.{IsMadeBy, IsWornFor};
-ghost use Rattle.bd_flush.specs.Children.{IsNoHigher};
-ghost use Rattle.bd_flush.specs.Pushes.{leaf_step, IsWaitedFor, CanPushNew, IsOwn, IsWay, IsNewLeaf, IsNewStep};
+ghost use Rattle.bd_node.specs.Parts.{edges_of, IsEdgeAt};
+ghost use Rattle.bd_path.specs.Flushed.{IsFlushed, IsNoHigher};
+ghost use Rattle.bd_path.specs.Made.{IsMadeBy, IsWornFor};
+ghost use Rattle.bd_path.specs.Paths.{leaf_step};
+ghost use Rattle.bd_flush.specs.Pushes.{IsWaitedFor, CanPushNew, IsWay, IsNewLeaf, IsNewStep};
+ghost use Rattle.bd_path.specs.Fetching.{IsOwn};
 
-use crate::Fetched;
 use crate::children::with_edge;
-use crate::nodes::edges_of;
 use crate::pushing::{batch_for, seen_by};
 use bd_inner::{edge_to, end_of};
 use bd_leaf as leaf;
 use bd_message::MapFault;
-use bd_node::{Change, Edge, Entries, Items, Node, NodeStore, Step};
+use bd_node::{Change, Edge, Entries, Node, NodeStore, Step};
+use bd_path::{Fetched, edges_of, path_step};
 use std::alloc::{AllocError, Global};
 
 /// Moves the oldest messages that a private node's edge without a child hasn't seen, at least one
@@ -122,11 +121,11 @@ fn leaf_step(
 {
     let mut made = Vec::new(alloc);
     made.push(Node::Leaf(entries))?;
-    let mut changes = Vec::new(alloc);
-    changes.push(Change { id: parent, node })?;
-    Ok(Step {
-        made: Items::from_vec(made),
-        changes: Items::from_vec(changes),
+    path_step(
+        alloc,
         root,
-    })
+        Change { id: parent, node },
+        Vec::new(alloc),
+        made,
+    )
 }

@@ -10,28 +10,26 @@ ghost use Rattle.bd_node.specs.declared.node.Node.TheVariants as kind;
 ghost use Rattle.bd_node.specs.Nodes.{level_of, buffer_size};
 ghost use Rattle.bd_node.specs.Shape.{IsLeaf, IsShape};
 ghost use Rattle.bd_node.specs.Tables.{IsSound};
-ghost use Rattle.bd_inner.specs.Halves.{edges_of, buffer_of, AreHalves};
+ghost use Rattle.bd_node.specs.Parts.{edges_of, buffer_of, end_at, IsEdgeAt};
+ghost use Rattle.bd_inner.specs.Halves.{AreHalves};
 ghost use Rattle.bd_inner.specs.Moving.{IsLifted};
-ghost use Rattle.bd_inner.specs.Exchange.{end_at, IsEdgeAt};
 ghost use Rattle.bd_leaf.specs.Leaves.{AreEntries, entries_size};
-ghost use Rattle.bd_flush.specs.declared.fetching.Fetched.{Fetched};
-ghost use Rattle.bd_flush.specs.Flushed.{IsFlushed};
-ghost use Rattle.bd_flush.specs.Made.{IsMadeBy, IsWornFor};
-ghost use Rattle.bd_flush.specs.Children.{AreFamily, IsContents, IsNoHigher};
-ghost use Rattle.bd_flush.specs.Between.{IsHardlyHigher};
-ghost use Rattle.bd_flush.specs.Raising.{IsWayUp};
+ghost use Rattle.bd_path.specs.declared.fetching.Fetched.{Fetched};
+ghost use Rattle.bd_path.specs.Flushed.{IsFlushed, IsNoHigher, IsHardlyHigher};
+ghost use Rattle.bd_path.specs.Made.{IsMadeBy, IsWornFor};
+ghost use Rattle.bd_flush.specs.Children.{AreFamily};
+ghost use Rattle.bd_path.specs.Fetching.{IsContents};
+ghost use Rattle.bd_path.specs.Raising.{IsWayUp};
 ghost use Rattle.bd_flush.specs.Pushes.{seen_by, unseen, IsWaitedFor, CanMoveSome, CanPush, IsEdgeBatch, IsRelieved, IsPartedOver, IsPushedOver, ArePushed, IsPlanOver, IsPlan, IsSomePush, IsLongPush, IsHighPush};
 
-use crate::Fetched;
 use crate::children::{Halving, Parts, child_step, over_halves, with_edge};
-use crate::nodes::edges_of;
-use crate::raising::changes_over;
 use crate::splitting::{Plan, over_step};
 use bd_inner::{Batch, end_of, next_batch, receive};
 use bd_keys::Bytes;
 use bd_leaf as leaf;
 use bd_message::{Counter, MapFault, Message};
-use bd_node::{Change, Edge, Entries, Entry, Items, Node, NodeStore, Step};
+use bd_node::{Change, Edge, Entries, Entry, Node, NodeStore, Step};
+use bd_path::{Fetched, changes_over, edges_of};
 use std::alloc::{AllocError, Global};
 
 /// Moves the oldest messages that a private node's edge hasn't seen, at least one and at most

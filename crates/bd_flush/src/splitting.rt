@@ -9,9 +9,9 @@ ghost use Rattle.bd_node.specs.Frames.{OfSound, OnlyReads, Stays};
 ghost use Rattle.bd_node.specs.Nodes.{level_of};
 ghost use Rattle.bd_node.specs.Tables.{IsNodeOf, IsSound};
 ghost use Rattle.bd_node.specs.Stores.{visited};
-ghost use Rattle.bd_inner.specs.Halves.{edges_of};
-ghost use Rattle.bd_flush.specs.Flushed.{IsFlushed};
-ghost use Rattle.bd_flush.specs.Made.{IsMadeBy, IsWornFor};
+ghost use Rattle.bd_node.specs.Parts.{edges_of};
+ghost use Rattle.bd_path.specs.Flushed.{IsFlushed};
+ghost use Rattle.bd_path.specs.Made.{IsMadeBy, IsWornFor};
 ghost use Rattle.bd_flush.specs.Splits.{plain_edge, over_two, over_step, IsRootSplit, IsRaised};
 
 use bd_inner::split;
@@ -19,6 +19,7 @@ use bd_keys::Bytes;
 use bd_limits::MAX_LEVEL;
 use bd_message::{Counter, MapFault};
 use bd_node::{Change, Edge, Items, Messages, Node, NodeStore, Step};
+use bd_path::path_step;
 use std::alloc::{AllocError, Global};
 
 /// Splits the root, a node with 15 or 16 edges that was fetched before: the halves are made, and
@@ -89,22 +90,14 @@ pub fn over_step(
         return Ok(None);
     };
     let (first, pivot, second) = halves;
-    let mut changes = others;
-    changes.insert(
-        0,
-        Change {
-            id,
-            node: over_two(alloc, level, pivot, next, upper)?,
-        },
-    )?;
+    let change = Change {
+        id,
+        node: over_two(alloc, level, pivot, next, upper)?,
+    };
     let mut made = Vec::new(alloc);
     made.push(first)?;
     made.push(second)?;
-    Ok(Some(Step {
-        made: Items::from_vec(made),
-        changes: Items::from_vec(changes),
-        root,
-    }))
+    Ok(Some(path_step(alloc, root, change, others, made)?))
 }
 
 /// A node over two others, the second one with the keys from a pivot on.

@@ -21,7 +21,7 @@ use Rattle.bd_node.proofs.Lookup.{each_weaker, each_second, each_dropped}
 use Rattle.bd_node.proofs.Sound.{sound-levelled}
 use Rattle.bd_node.proofs.LawLemmas.{keys_meet}
 use Rattle.bd_node.proofs.Appending.{acts-append}
-use Rattle.bd_inner.specs.Halves.{buffer_of}
+use Rattle.bd_node.specs.Parts.{buffer_of}
 use Rattle.bd_resolve.specs.declared.following.Target.{Target}
 use Rattle.bd_resolve.specs.declared.following.Followed.{Followed}
 use Rattle.bd_resolve.specs.declared.following.Followed.TheVariants.{Past}

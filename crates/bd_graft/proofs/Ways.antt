@@ -10,7 +10,7 @@ use Rattle.bd_node.specs.Nodes.{level_of}
 use Rattle.bd_node.specs.Meaning.{Nodes}
 use Rattle.bd_node.specs.Shape.{IsShape}
 use Rattle.bd_node.specs.Tables.{Table, IsKept, IsSound, IsStored}
-use Rattle.bd_inner.specs.Halves.{buffer_of}
+use Rattle.bd_node.specs.Parts.{buffer_of}
 use Rattle.bd_resolve.specs.declared.following.Target.{Target}
 use Rattle.bd_resolve.specs.declared.following.Followed.{Followed}
 use Rattle.bd_resolve.specs.declared.following.Followed.TheVariants.{Here, Past}

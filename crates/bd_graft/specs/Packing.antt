@@ -13,7 +13,7 @@ use Rattle.bd_node.specs.Nodes.{level_of, names, times, message_names, node_at}
 use Rattle.bd_node.specs.Shape.{IsShape}
 use Rattle.bd_node.specs.Tables.{Table, IsLower}
 use Rattle.bd_node.specs.Steps.{level_or}
-use Rattle.bd_inner.specs.Halves.{buffer_of}
+use Rattle.bd_node.specs.Parts.{buffer_of}
 use Rattle.bd_resolve.specs.declared.following.Target.{Target}
 use Rattle.bd_resolve.specs.Following.{target_at, target_level, IsShort}
 use Rattle.bd_graft.specs.declared.layers.Layer.{Layer}

@@ -4,7 +4,7 @@ use Rattle.bd_limits.specs.Limits.{key_limit}
 use Rattle.bd_message.specs.declared.message.Message.{Message}
 use Rattle.bd_node.specs.declared.node.Node.{Node}
 use Rattle.bd_node.specs.Meaning.{Nodes}
-use Rattle.bd_inner.specs.Halves.{buffer_of}
+use Rattle.bd_node.specs.Parts.{buffer_of}
 use Rattle.bd_resolve.specs.declared.following.Target.{Target}
 use Rattle.bd_resolve.specs.declared.following.Followed.TheVariants.{Here, Past}
 use Rattle.bd_resolve.specs.Following.{LeadsTo}

@@ -12,7 +12,7 @@ ghost use Rattle.bd_node.specs.Meaning.{at};
 ghost use Rattle.bd_node.specs.Tables.{IsKept, IsSound, root_at};
 ghost use Rattle.bd_node.specs.Stores.{visited};
 ghost use Rattle.bd_node.specs.Shape.{IsShape};
-ghost use Rattle.bd_inner.specs.Halves.{buffer_of};
+ghost use Rattle.bd_node.specs.Parts.{buffer_of};
 ghost use Rattle.bd_resolve.specs.Following.{target_at, IsLowerTarget, IsShort, AreNoneOr, IsEnd, IsPast};
 ghost use Rattle.bd_graft.specs.Laying.{all_freed, laid, IsLayer, AreLayers};
 ghost use Rattle.bd_graft.specs.Ways.{end_at, IsWay, IsPassed, messages_in};

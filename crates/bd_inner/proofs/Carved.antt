@@ -21,7 +21,7 @@ use Rattle.bd_node.proofs.Lookup.{count-cons}
 use Rattle.bd_node.proofs.Edges.{EachEdge-weaker, some_edge}
 use Rattle.bd_node.proofs.Appending.{some_has}
 use Rattle.bd_inner.specs.Compaction.{IsLoose, IsSwept, lowered}
-use Rattle.bd_inner.specs.Halves.{edges_of, buffer_of}
+use Rattle.bd_node.specs.Parts.{edges_of, buffer_of}
 use Rattle.bd_inner.specs.Carving.{from_key, parted, parted_end, goto_edge, owned, carved, IsGotoAt, IsGotoEdge, IsEnd, IsGotoWay, IsCarved}
 use Rattle.bd_inner.proofs.Touched.{touched_first, between, not_above_end}
 use Rattle.bd_inner.proofs.Compacting.{count_names, count_names-append, edge_of-lowered, compacted_shape, compacted_level, compacted_meaning, compacted_size, compacted_times}

@@ -21,8 +21,8 @@ use Rattle.bd_node.proofs.Lookup.{each_second, each_dropped, acts-same, node_at-
 use Rattle.bd_node.proofs.Edges.{IsRisingEdge, least_over, lt_is, lt_isnt, less_lt}
 use Rattle.bd_node.proofs.Appending.{acts-append}
 use Rattle.bd_inner.specs.Compaction.{IsLoose, IsLooseNode, IsSwept}
-use Rattle.bd_inner.specs.Halves.{edges_of, buffer_of}
-use Rattle.bd_inner.specs.Exchange.{exchanged, end_at, IsKeyOf, end_within, EachEdgeTo, IsEdgeAt, FitsAt}
+use Rattle.bd_node.specs.Parts.{edges_of, buffer_of, end_at, IsEdgeAt}
+use Rattle.bd_inner.specs.Exchange.{exchanged, IsKeyOf, end_within, EachEdgeTo, FitsAt}
 use Rattle.bd_inner.specs.Moving.{IsMoved}
 use Rattle.bd_inner.proofs.Places.{edge_within}
 use Rattle.bd_inner.proofs.Compacting.{compacted_shape}

@@ -12,3 +12,4 @@ mod Clipped
 pub mod CarvingParts
 pub mod CarvingOwned
 pub mod Carved
+pub mod Named

@@ -21,8 +21,9 @@ use Rattle.bd_node.specs.Nodes.{message_names, edge_names, times, edge_from, edg
 use Rattle.bd_node.specs.Shape.{end_before, EachEdge, SomeEdge, IsEdge, IsPending, IsInner}
 use Rattle.bd_node.proofs.Edges.{IsRisingEdge, EachEdge-weaker, least_over, less_lt, not_less_lt}
 use Rattle.bd_node.specs.Keeping.{staying}
+use Rattle.bd_node.specs.Parts.{edges_of}
 use Rattle.bd_inner.specs.Compaction.{IsLoose, lowered, IsSwept}
-use Rattle.bd_inner.specs.Halves.{edges_of, goto_times, bare_edge, IsHalf, AreHalves}
+use Rattle.bd_inner.specs.Halves.{goto_times, bare_edge, IsHalf, AreHalves}
 use Rattle.bd_inner.proofs.Compacting.{count_names, count_names-append, edge_names-lowered, compacted_shape, compacted_level, compacted_meaning, compacted_size, compacted_times}
 
 -- ---- how many messages can wait

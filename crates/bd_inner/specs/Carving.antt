@@ -10,7 +10,7 @@ use Rattle.bd_node.specs.declared.node.Node.{Node}
 use Rattle.bd_node.specs.declared.node.Node.TheVariants.{Leaf, Inner}
 use Rattle.bd_node.specs.Shape.{end_before}
 use Rattle.bd_inner.specs.Compaction.{IsCompacted}
-use Rattle.bd_inner.specs.Halves.{buffer_of}
+use Rattle.bd_node.specs.Parts.{buffer_of}
 
 -- ---- edges in two
 

@@ -14,7 +14,7 @@ use Rattle.bd_node.specs.declared.node.Edge.{Edge}
 use Rattle.bd_node.specs.declared.node.Node.{Node}
 use Rattle.bd_node.specs.Nodes.{level_of, times, node_at}
 use Rattle.bd_node.specs.Shape.{end_before, EachEdge, IsChild}
-use Rattle.bd_inner.specs.Halves.{edges_of, buffer_of}
+use Rattle.bd_node.specs.Parts.{edges_of, buffer_of}
 
 -- an edge whose keys end there, over a buffer of so many messages, but that its source may be longer
 pub record IsLongEdge (buffered : ℕ) (e : Edge) (hi : Option (List ℕ)) : Type 0 where

@@ -6,17 +6,13 @@ use Rattle.bd_node.specs.declared.node.Edge.{Edge}
 use Rattle.bd_node.specs.declared.node.Node.{Node}
 use Rattle.bd_node.specs.declared.node.Node.TheVariants.{Leaf, Inner}
 use Rattle.bd_node.specs.Shape.{end_before, IsEdge}
-use Rattle.bd_inner.specs.Halves.{edges_of, buffer_of}
+use Rattle.bd_node.specs.Parts.{edges_of, buffer_of, end_at, IsEdgeAt}
 
 -- the node with these edges in place of the one at a place
 abbrev pub exchanged : Node → ℕ → List Edge → Node
 exchanged (Leaf entries) place list = Leaf entries
 exchanged (Inner level edges buffer) place list =
     Inner level (take place edges ++ (list ++ drop (place + 1) edges)) buffer
-
--- where the keys of a node's edge at a place end
-abbrev pub end_at : Node → ℕ → Option (List ℕ)
-end_at n place = end_before (drop (place + 1) (edges_of n))
 
 -- the key is one of the edge at a place
 abbrev pub IsKeyOf : Node → ℕ → Edge → List ℕ → Type 0
@@ -31,10 +27,6 @@ end_within hi (e ∷ es) = Some e.pivot
 abbrev pub EachEdgeTo : (Edge → Option (List ℕ) → Type 0) → Option (List ℕ) → List Edge → Type 0
 EachEdgeTo P hi [] = ⊤
 EachEdgeTo P hi (e ∷ es) = P e (end_within hi es) × EachEdgeTo P hi es
-
--- a node's edge at a place
-abbrev pub IsEdgeAt : Node → ℕ → Edge → Type 0
-IsEdgeAt n place e = slice_get (edges_of n) place ≡ Some e
 
 -- edges that can stand in place of the one at a place: they have its keys, and aren't too many
 pub record FitsAt (n : Node) (place : ℕ) (e : Edge) (list : List Edge) : Type 0 where

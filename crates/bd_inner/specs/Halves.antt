@@ -3,23 +3,12 @@ use Rattle.std.specs.Prelude.{◌≡◌, ℕ, ◌+◌, ◌≤◌, ◌==◌, List
 use Rattle.std.specs.List.{flat_map}
 use Rattle.bd_limits.specs.Limits.{key_limit}
 use Rattle.bd_keys.specs.Keys.{IsBelow, IsAtLeast}
-use Rattle.bd_message.specs.declared.message.Message.{Message}
 use Rattle.bd_message.specs.Effect.{NodesAt}
 use Rattle.bd_node.specs.declared.node.Edge.{Edge}
 use Rattle.bd_node.specs.declared.node.Node.{Node}
-use Rattle.bd_node.specs.declared.node.Node.TheVariants.{Leaf, Inner}
 use Rattle.bd_node.specs.Nodes.{level_of, buffer_size, message_names, edge_names, times, node_at}
 use Rattle.bd_node.specs.Shape.{IsShape}
-
--- the edges of a node, and none of a leaf
-abbrev pub edges_of : Node → List Edge
-edges_of (Leaf entries) = []
-edges_of (Inner level edges buffer) = edges
-
--- the messages that wait in a node
-abbrev pub buffer_of : Node → List Message
-buffer_of (Leaf entries) = []
-buffer_of (Inner level edges buffer) = buffer
+use Rattle.bd_node.specs.Parts.{edges_of, buffer_of}
 
 -- how often a node's messages name another
 abbrev pub goto_times : Node → ℕ → ℕ

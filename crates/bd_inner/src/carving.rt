@@ -6,7 +6,7 @@ ghost use Rattle.bd_limits.specs.Limits.{room_edges};
 ghost use Rattle.bd_keys.specs.Keys.{IsKey};
 ghost use Rattle.bd_message.specs.Messages.{IsMessage, IsPlain};
 ghost use Rattle.bd_node.specs.Shape.{IsShape, end_before};
-ghost use Rattle.bd_inner.specs.Halves.{edges_of};
+ghost use Rattle.bd_node.specs.Parts.{edges_of};
 ghost use Rattle.bd_inner.specs.Carving.{is_below_end, has_inside, from_key, parted, is_own, owned, carved, IsGotoAt, IsGotoEdge, IsEnd, IsCarved};
 
 use crate::compaction::sweep;

@@ -7,8 +7,8 @@ ghost use Rattle.bd_keys.specs.Keys.{IsBelowEnd, IsLift};
 ghost use Rattle.bd_node.specs.declared.node.Edge.{Edge};
 ghost use Rattle.bd_node.specs.Shape.{end_before, IsShape};
 ghost use Rattle.bd_inner.specs.Compaction.{IsCompacted};
-ghost use Rattle.bd_inner.specs.Halves.{edges_of};
-ghost use Rattle.bd_inner.specs.Exchange.{exchanged, IsEdgeAt, FitsAt, way_to};
+ghost use Rattle.bd_node.specs.Parts.{edges_of, IsEdgeAt};
+ghost use Rattle.bd_inner.specs.Exchange.{exchanged, FitsAt, way_to};
 
 use crate::compaction::sweep;
 use crate::pending::end_before;

@@ -4,7 +4,8 @@ ghost use Rattle.std.specs.Prelude.{◌≡◌, ◌≤◌, ◌<◌, ◌^◌, ◌+
 ghost use Rattle.bd_limits.specs.Limits.{full_edges};
 ghost use Rattle.bd_node.specs.declared.node.Node.TheVariants as node;
 ghost use Rattle.bd_node.specs.Shape.{IsShape, IsInner};
-ghost use Rattle.bd_inner.specs.Halves.{edges_of, bare_edge, AreHalves};
+ghost use Rattle.bd_node.specs.Parts.{edges_of};
+ghost use Rattle.bd_inner.specs.Halves.{bare_edge, AreHalves};
 
 use crate::compaction::sweep;
 use bd_keys::Bytes;

@@ -15,3 +15,4 @@ pub mod Closing
 pub mod Extending
 pub mod LawLemmas
 pub mod Halving
+pub mod Parts

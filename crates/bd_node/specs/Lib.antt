@@ -5,6 +5,7 @@ pub mod Keeping
 pub mod Nodes
 pub mod Meaning
 pub mod Shape
+pub mod Parts
 pub mod Tables
 pub mod Private
 pub mod Steps

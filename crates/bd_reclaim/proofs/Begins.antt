@@ -13,25 +13,25 @@ use Rattle.bd_message.proofs.Causes.{cause_weaker}
 use Rattle.bd_message.specs.KeyMaps.{IsCause, HasMapCause}
 use Rattle.bd_node.specs.declared.node.Edge.{Edge}
 use Rattle.bd_node.specs.declared.node.Node.{Node}
-use Rattle.bd_inner.specs.Halves.{edges_of}
-use Rattle.bd_inner.specs.Exchange.{end_at, IsEdgeAt}
+use Rattle.bd_node.specs.Parts.{edges_of, end_at, IsEdgeAt}
 use Rattle.bd_node.specs.Nodes.{buffer_size}
 use Rattle.bd_node.specs.Meaning.{Nodes}
 use Rattle.bd_node.specs.Shape.{IsPending}
 use Rattle.bd_node.specs.Tables.{Table, IsSound}
-use Rattle.bd_flush.specs.declared.fetching.Fetched.{Fetched}
-use Rattle.bd_flush.specs.declared.ways.FlushStep.{FlushStep}
-use Rattle.bd_flush.specs.declared.ways.FlushStep.TheVariants.{SplitRoot, SplitChild, Push, Privatise, Carve}
-use Rattle.bd_flush.specs.Children.{IsFetched, IsEdgeTo, IsWayTo, CanSplitChild}
-use Rattle.bd_flush.specs.Raising.{IsWayUp}
-use Rattle.bd_flush.specs.Raising.IsWayUp.{top, one_up}
-use Rattle.bd_flush.specs.Flushed.{IsFlushed}
-use Rattle.bd_flush.specs.Ways.{HasPending, IsUnder, IsShared, IsDue, IsWaited, IsFromEdge, IsStepFrom, IsStanding, IsReached, IsWayThere}
-use Rattle.bd_step.specs.Steps.{IsMade as IsStepMade, IsHighAfter, IsWornStep}
+use Rattle.bd_path.specs.declared.fetching.Fetched.{Fetched}
+use Rattle.bd_step.specs.declared.ways.FlushStep.{FlushStep}
+use Rattle.bd_step.specs.declared.ways.FlushStep.TheVariants.{SplitRoot, SplitChild, Push, Privatise, Carve}
+use Rattle.bd_path.specs.Fetching.{IsFetched, IsEdgeTo, IsWayTo}
+use Rattle.bd_flush.specs.Children.{CanSplitChild}
+use Rattle.bd_path.specs.Raising.{IsWayUp}
+use Rattle.bd_path.specs.Raising.IsWayUp.{top, one_up}
+use Rattle.bd_path.specs.Flushed.{IsFlushed}
+use Rattle.bd_step.specs.Ways.{HasPending, IsUpToRoot, IsShared, IsDue, IsWaited, IsFromEdge, IsStepFrom, IsStanding, IsReached, IsWayThere}
+use Rattle.bd_step.specs.Steps.{IsFlushMade, IsHighAfter, IsWornStep}
 use Rattle.bd_step.proofs.Making.{worn_known}
-use Rattle.bd_flush.proofs.ChildSplits.{edge_within}
+use Rattle.bd_node.proofs.Parts.{edge_within}
 use Rattle.bd_flush.proofs.RootSplits.{up_lower}
-use Rattle.bd_flush.proofs.Waiting.{fullest_waits, pending_waits}
+use Rattle.bd_step.proofs.Waiting.{fullest_waits, pending_waits}
 use Rattle.bd_reclaim.proofs.Decisions.{as_reclaimed}
 use Rattle.bd_reclaim.specs.Covering.{HasCut}
 use Rattle.bd_reclaim.specs.Reclaimed.{IsReclaimed}
@@ -166,12 +166,12 @@ first_further old new p node place h step plain wide rest =
 
 -- ---- it is due
 
-pub copy_due : (t : Table) (old new : List Fetched) (p node : Fetched) (place : ℕ) (h : IsAsking old new p node place) → h.asked.0.source ≢ [] → IsWayUp t node.id (reverse old) → IsShared t p place × IsUnder t p
+pub copy_due : (t : Table) (old new : List Fetched) (p node : Fetched) (place : ℕ) (h : IsAsking old new p node place) → h.asked.0.source ≢ [] → IsWayUp t node.id (reverse old) → IsShared t p place × IsUpToRoot t p
 copy_due t old new p node place h through way =
     let link : IsUpLink t p node (reverse new) = up_link t old new p node h.more way in
     (record { parent_is = link.fetched; edge = h.asked.0; here = h.asked.1.here; child = node.id; child_is = h.asked.1.child_is; shared = inl through }, way_under t p.id (reverse new) link.up)
 
-pub split_due : (t : Table) (old new : List Fetched) (p node : Fetched) (place : ℕ) (h : IsAsking old new p node place) → h.asked.0.source ≡ [] → length (edges_of p.node.value) ≤ 14 → 15 ≤ length (edges_of node.node.value) → IsFetched t node → IsWayUp t node.id (reverse old) → CanSplitChild t p place node × IsUnder t p
+pub split_due : (t : Table) (old new : List Fetched) (p node : Fetched) (place : ℕ) (h : IsAsking old new p node place) → h.asked.0.source ≡ [] → length (edges_of p.node.value) ≤ 14 → 15 ≤ length (edges_of node.node.value) → IsFetched t node → IsWayUp t node.id (reverse old) → CanSplitChild t p place node × IsUpToRoot t p
 split_due t old new p node place h plain room wide fetched way =
     let link : IsUpLink t p node (reverse new) = up_link t old new p node h.more way in
     (record { parent_is = link.fetched; child_is = fetched; room = room; full = wide; edge = h.asked.0; way = plain_way p.node.value place node.id h.asked.0 h.asked.1 plain; once = link.once }, way_under t p.id (reverse new) link.up)
@@ -202,7 +202,7 @@ step_waited t node from (SplitRoot root) cut due at = tt
 step_waited t node from (SplitChild above parent place child) cut due at = tt
 step_waited t node from (Push above parent place child) cut due at = λ e here. pending_waits parent.node.value place e (edge_waited t node from parent place cut due.0.parent_is at e here)
 step_waited t node from (Privatise above parent place) cut due at = tt
-step_waited t node from (Carve above parent place) cut due at = tt
+step_waited t node from (Carve above parent place index) cut due at = tt
 
 pub all_waited : {E : Type 0} (t : Table) (node : Fetched) (from : ℕ) (r : Result FlushStep E) → HasCut node.node.value from → IfOk r (IsDue t) → IfOk r (IsStepFrom node from) → IfOk r IsWaited
 all_waited t node from (Ok step) cut due at = step_waited t node from step cut due at
@@ -230,7 +230,7 @@ push_reclaimed : (nodes mid : Nodes) (t m : Table) (new : Nodes) (u : Table) →
 push_reclaimed nodes mid t m new u same table sound flushed =
     as_reclaimed nodes t new u (flushed_so nodes mid t m new u same table (flushed (sound_again nodes mid t m same table sound)))
 
-push_made : (nodes mid : Nodes) (t m : Table) (new : Nodes) (u : Table) (above : List Fetched) (node : Fetched) (place : ℕ) (step : FlushStep) → IsPushing nodes mid t m above node place step → (IsSound mid m → IsStepMade mid m step new u) → IsHighAfter m step u → (IsSound mid m → IsFlushed mid m new u) → IsPushMade nodes t above node place new u
+push_made : (nodes mid : Nodes) (t m : Table) (new : Nodes) (u : Table) (above : List Fetched) (node : Fetched) (place : ℕ) (step : FlushStep) → IsPushing nodes mid t m above node place step → (IsSound mid m → IsFlushMade mid m step new u) → IsHighAfter m step u → (IsSound mid m → IsFlushed mid m new u) → IsPushMade nodes t above node place new u
 push_made nodes mid t m new u above node place step h made height flushed =
     let again : IsSound mid m = sound_again nodes mid t m h.nodes_are h.table_is h.sound in
     record {
@@ -239,7 +239,7 @@ push_made nodes mid t m new u above node place step h made height flushed =
       due = h.due;
       stands = h.stands;
       reached = h.reached;
-      made = subst (λ (v : Table). IsStepMade nodes v step new u) h.table_is (subst (λ (f : Nodes). IsStepMade f m step new u) h.nodes_are (made again));
+      made = subst (λ (v : Table). IsFlushMade nodes v step new u) h.table_is (subst (λ (f : Nodes). IsFlushMade f m step new u) h.nodes_are (made again));
       height = subst (λ (v : Table). IsHighAfter v step u) h.table_is height;
       flushed = flushed_so nodes mid t m new u h.nodes_are h.table_is (flushed again);
     }
@@ -260,7 +260,7 @@ pub push_on_ok : {T E : Type 0} (nodes mid : Nodes) (t m : Table) (new : Nodes) 
 push_on_ok nodes mid t m new u (Ok x) same table sound flushed = push_reclaimed nodes mid t m new u same table sound flushed
 push_on_ok nodes mid t m new u (Err e) same table sound flushed = tt
 
-pub push_on_made : {T E : Type 0} (nodes mid : Nodes) (t m : Table) (new : Nodes) (u : Table) (above : List Fetched) (node : Fetched) (place : ℕ) (step : FlushStep) (r : Result T E) → IsPushing nodes mid t m above node place step → (IsSound mid m → OnOk r (IsStepMade mid m step new u)) → OnOk r (IsHighAfter m step u) → (IsSound mid m → OnOk r (IsFlushed mid m new u)) → OnOk r (IsPushMade nodes t above node place new u)
+pub push_on_made : {T E : Type 0} (nodes mid : Nodes) (t m : Table) (new : Nodes) (u : Table) (above : List Fetched) (node : Fetched) (place : ℕ) (step : FlushStep) (r : Result T E) → IsPushing nodes mid t m above node place step → (IsSound mid m → OnOk r (IsFlushMade mid m step new u)) → OnOk r (IsHighAfter m step u) → (IsSound mid m → OnOk r (IsFlushed mid m new u)) → OnOk r (IsPushMade nodes t above node place new u)
 push_on_made nodes mid t m new u above node place step (Ok x) h made height flushed = push_made nodes mid t m new u above node place step h made height flushed
 push_on_made nodes mid t m new u above node place step (Err e) h made height flushed = tt
 

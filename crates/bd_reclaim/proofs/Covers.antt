@@ -15,12 +15,11 @@ use Rattle.bd_node.specs.declared.node.Node.{Node}
 use Rattle.bd_node.specs.Touching.{touches}
 use Rattle.bd_node.specs.Shape.{end_before, IsShape}
 use Rattle.bd_node.proofs.Edges.{not_less_lt}
-use Rattle.bd_inner.specs.Halves.{edges_of, buffer_of}
-use Rattle.bd_inner.specs.Exchange.{end_at, IsEdgeAt}
+use Rattle.bd_node.specs.Parts.{edges_of, buffer_of, end_at, IsEdgeAt}
 use Rattle.bd_inner.proofs.Fitting.{own_shape}
 use Rattle.bd_inner.proofs.Touched.{cut_first}
 use Rattle.bd_inner.proofs.CarvingOwned.{begins_front, front_begins}
-use Rattle.bd_flush.proofs.ChildSplits.{edge_within}
+use Rattle.bd_node.proofs.Parts.{edge_within}
 use Rattle.bd_reclaim.specs.declared.covering.Cover.{Cover}
 use Rattle.bd_reclaim.specs.declared.covering.Cover.TheVariants.{Gone, Elsewhere}
 use Rattle.bd_reclaim.specs.Covering.{Says, TouchesAll, Decides, NoneDecides, IsNewest, IsCovered, HasNoCovered, IsFirstCovered}

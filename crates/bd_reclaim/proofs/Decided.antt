@@ -20,16 +20,16 @@ use Rattle.bd_node.specs.Nodes.{level_of, buffer_size, message_names, edge_names
 use Rattle.bd_node.specs.Shape.{IsEdge, IsShape}
 use Rattle.bd_node.proofs.Lookup.{count-cons_other}
 use Rattle.bd_inner.specs.Compaction.{IsCompacted}
-use Rattle.bd_inner.specs.Halves.{edges_of, buffer_of}
-use Rattle.bd_inner.specs.Exchange.{exchanged, end_at, IsEdgeAt, FitsAt}
+use Rattle.bd_node.specs.Parts.{edges_of, buffer_of, end_at, IsEdgeAt}
+use Rattle.bd_inner.specs.Exchange.{exchanged, FitsAt}
 use Rattle.bd_inner.proofs.CarvingOwned.{begins_front}
 use Rattle.bd_inner.proofs.Compacting.{count_names, count_names-append, compacted_shape, compacted_level, compacted_meaning, compacted_times}
 use Rattle.bd_inner.proofs.Exchanged.{in_range, exchanged_shape, meaning_before, meaning_inside, meaning_outside}
 use Rattle.bd_inner.proofs.Fitting.{own_shape}
 use Rattle.bd_inner.proofs.Moved.{each_at}
 use Rattle.bd_inner.proofs.Splitting.{few_wait}
-use Rattle.bd_flush.proofs.ChildSplits.{edge_within, edge_here, times_exchanged, inner_of, count_own, level_exchanged, compacted_small}
-use Rattle.bd_flush.proofs.LeafPushes.{times_without}
+use Rattle.bd_node.proofs.Parts.{edge_within, edge_here, inner_of}
+use Rattle.bd_inner.proofs.Named.{times_exchanged, count_own, level_exchanged, compacted_small, times_without}
 use Rattle.bd_reclaim.specs.declared.covering.Cover.{Cover}
 use Rattle.bd_reclaim.specs.declared.covering.Cover.TheVariants.{Gone, Elsewhere}
 use Rattle.bd_reclaim.specs.Covering.{Says, TouchesAll, Decides, IsCovered, decided_edge, IsDecided}

@@ -17,19 +17,18 @@ use Rattle.bd_node.specs.Steps.{IsStep, IsInPlace, IsTableAfter, IsCommitted, Is
 use Rattle.bd_node.specs.Stores.{visited}
 use Rattle.bd_node.proofs.Lookup.{named_has}
 use Rattle.bd_node.proofs.Stepping.{after-none}
-use Rattle.bd_flush.specs.declared.fetching.Fetched.{Fetched}
-use Rattle.bd_flush.specs.Flushed.{IsFlushed}
-use Rattle.bd_flush.specs.Made.{WearsOut}
-use Rattle.bd_flush.specs.Children.{IsFetched, IsNoHigher}
-use Rattle.bd_flush.specs.Pushes.{IsOwn}
-use Rattle.bd_flush.specs.Carving.{change_step}
-use Rattle.bd_flush.proofs.Givens.{given_unchanged}
+use Rattle.bd_path.specs.declared.fetching.Fetched.{Fetched}
+use Rattle.bd_path.specs.Flushed.{IsFlushed, IsNoHigher}
+use Rattle.bd_path.specs.Made.{WearsOut}
+use Rattle.bd_path.specs.Fetching.{IsFetched, IsOwn}
+use Rattle.bd_path.specs.Paths.{change_step}
+use Rattle.bd_path.proofs.PathSteps.{given_upper}
 use Rattle.bd_message.proofs.Causes.{cause_weaker}
-use Rattle.bd_flush.proofs.CarveSteps.{IsOneChange, IsOneChangeOf, IsOneChanged, one_step, one_in_place, one_flushed, one_there, one_no_higher}
+use Rattle.bd_path.proofs.OneSteps.{lone, lone_of, IsOneChange, IsOneChangeOf, IsOneChanged, one_step, one_in_place, one_flushed, one_there, one_no_higher}
 use Rattle.bd_reclaim.specs.declared.covering.Cover.{Cover}
 use Rattle.bd_reclaim.specs.Covering.{Decides, IsCovered, IsDecided}
 use Rattle.bd_reclaim.specs.Reclaimed.{IsReclaimed, IsDecidedAt, IsDecideStep, unseen_count, unseen_in, left_over}
-use Rattle.bd_inner.specs.Exchange.{end_at}
+use Rattle.bd_node.specs.Parts.{end_at}
 use Rattle.bd_reclaim.proofs.Decided.{IsDeciding, made_shape, made_level, made_meaning, made_size, made_named}
 use Rattle.bd_reclaim.proofs.Falls.{sum_falls, made_less}
 
@@ -64,32 +63,24 @@ deciding_of cover n place at made shape c d =
 deciding : (t : Table) (node : Fetched) (place at : ℕ) (step : Step) → (h : IsToDecide t node place at step) → IsDeciding h.cover node.node.value place at h.decide.decided.edge h.decide.decided.message
 deciding t node place at step h = deciding_of h.cover node.node.value place at h.decide.made h.fetched.own.shape h.covered h.decide.decided
 
-change : (t : Table) (node : Fetched) (place at : ℕ) (step : Step) → (h : IsToDecide t node place at step) → IsOneChange t node.id h.decide.made
+change : (t : Table) (node : Fetched) (place at : ℕ) (step : Step) → (h : IsToDecide t node place at step) → IsOneChange t node.id h.decide.made []
 change t node place at step h =
     let n : Node = node.node.value in
     let d = h.decide.decided in
     let is = deciding t node place at step h in
-    record {
-      table = h.table;
-      kept = h.fetched.kept;
-      shape = made_shape h.cover n place at d.edge d.message h.decide.made is d.into;
-      level = made_level n place at d.edge d.message h.decide.made d.into ∙ h.fetched.own.level_is;
-      named = λ x one. named_has (IsLower t (t.level node.id)) x (names n) h.fetched.own.lower (made_named h.cover n place at d.edge d.message h.decide.made is d.into x one);
-    }
+    lone t node.id h.decide.made h.table h.fetched.kept
+    (made_shape h.cover n place at d.edge d.message h.decide.made is d.into)
+    (made_level n place at d.edge d.message h.decide.made d.into ∙ h.fetched.own.level_is)
+    (λ x one. named_has (IsLower t (t.level node.id)) x (names n) h.fetched.own.lower (made_named h.cover n place at d.edge d.message h.decide.made is d.into x one))
 
-change_of : (nodes : Nodes) (t : Table) (node : Fetched) (place at : ℕ) (step : Step) → (h : IsToDecide t node place at step) → IsSound nodes t → IsOwn nodes t node → IsOneChangeOf nodes t node.id node.node.value h.decide.made
+change_of : (nodes : Nodes) (t : Table) (node : Fetched) (place at : ℕ) (step : Step) → (h : IsToDecide t node place at step) → IsSound nodes t → IsOwn nodes t node → IsOneChangeOf nodes t node.id node.node.value h.decide.made []
 change_of nodes t node place at step h sound own =
     let d = h.decide.decided in
-    record {
-      step = change t node place at step h;
-      sound = sound;
-      there = own.there;
-      private = own.private;
-      meaning = λ k key. made_meaning (meaning nodes) h.cover node.node.value place at d.edge d.message h.decide.made (deciding t node place at step h) d.into k key;
-    }
+    lone_of nodes t node.id node.node.value h.decide.made (change t node place at step h) sound own.there own.private
+    (λ k key. made_meaning (meaning nodes) h.cover node.node.value place at d.edge d.message h.decide.made (deciding t node place at step h) d.into k key)
 
 changed : (nodes : Nodes) (t : Table) (node : Fetched) (place at : ℕ) (step : Step) (new : Nodes) (u : Table) → (h : IsToDecide t node place at step) → IsSound nodes t → IsOwn nodes t node → IsTableAfter t step u → IsCommitted nodes t step new u
-    → IsOneChanged nodes t node.id node.node.value h.decide.made new u
+    → IsOneChanged nodes t node.id node.node.value h.decide.made [] new u
 changed nodes t node place at step new u h sound own after committed = record {
   of = change_of nodes t node place at step h sound own;
   after = subst (λ (q : Step). IsTableAfter t q u) h.decide.is after;
@@ -97,18 +88,18 @@ changed nodes t node place at step new u h sound own after committed = record {
 }
 
 pub may_decide : (t : Table) (node : Fetched) (place at : ℕ) (step : Step) → IsToDecide t node place at step → IsStep t step
-may_decide t node place at step h = subst (λ (q : Step). IsStep t q) (sym h.decide.is) (one_step t node.id h.decide.made (change t node place at step h))
+may_decide t node place at step h = subst (λ (q : Step). IsStep t q) (sym h.decide.is) (one_step t node.id h.decide.made [] (change t node place at step h))
 
 pub decide_in_place : (nodes : Nodes) (t : Table) (node : Fetched) (place at : ℕ) (step : Step) → IsToDecide t node place at step → IsSound nodes t → IsOwn nodes t node → IsInPlace nodes t step
 decide_in_place nodes t node place at step h sound own =
-    subst (λ (q : Step). IsInPlace nodes t q) (sym h.decide.is) (one_in_place nodes t node.id node.node.value h.decide.made (change_of nodes t node place at step h sound own))
+    subst (λ (q : Step). IsInPlace nodes t q) (sym h.decide.is) (one_in_place nodes t node.id node.node.value h.decide.made [] (change_of nodes t node place at step h sound own))
 
 -- ---- the result
 
 no_higher : (t : Table) (node : Fetched) (place at : ℕ) (step : Step) (u : Table) → IsToDecide t node place at step → IsTableAfter t step u → IsNoHigher t u
 no_higher t node place at step u h after =
     let d = h.decide.decided in
-    one_no_higher t node.id h.decide.made u (change t node place at step h) (subst (λ (q : Step). IsTableAfter t q u) h.decide.is after)
+    one_no_higher t node.id h.decide.made [] u (change t node place at step h) (subst (λ (q : Step). IsTableAfter t q u) h.decide.is after)
     (λ root. let is : buffer_size node.node.value ≡ t.size = h.fetched.root root in
     let less : buffer_size h.decide.made ≤ buffer_size node.node.value = made_size node.node.value place at d.edge d.message h.decide.made d.into in omega arith)
 
@@ -133,7 +124,7 @@ as_reclaimed nodes t new u h = record {
 
 reclaimed : (nodes : Nodes) (t : Table) (node : Fetched) (place at : ℕ) (step : Step) (new : Nodes) (u : Table) → IsToDecide t node place at step → IsSound nodes t → IsOwn nodes t node → IsTableAfter t step u → IsCommitted nodes t step new u → IsReclaimed nodes t new u
 reclaimed nodes t node place at step new u h sound own after committed =
-    as_reclaimed nodes t new u (one_flushed nodes t node.id node.node.value h.decide.made new u (changed nodes t node place at step new u h sound own after committed))
+    as_reclaimed nodes t new u (one_flushed nodes t node.id node.node.value h.decide.made [] new u (changed nodes t node place at step new u h sound own after committed) (omega arith))
 
 rest_same : (nodes : Nodes) (t : Table) (node : Fetched) (place at : ℕ) (step : Step) (new : Nodes) (u : Table) → IsToDecide t node place at step → IsTableAfter t step u → IsCommitted nodes t step new u → (id : ℕ) → IsKept u id → (id ≡ node.id → ⊥) → new id ≡ nodes id
 rest_same nodes t node place at step new u h after committed id kept other =
@@ -141,10 +132,10 @@ rest_same nodes t node place at step new u h after committed id kept other =
     let done : IsCommitted nodes t (change_step t.root node.id made) new u = subst (λ (q : Step). IsCommitted nodes t q new u) h.decide.is committed in
     let next : u.next ≡ t.next = same_next t node place at step u h after in
     let low : id < u.next = after.table.below id kept in
-    done.stays id kept ∙ after-none nodes t (change_step t.root node.id made) id (given_unchanged t.next node.id id made [] t.root (omega arith) other)
+    done.stays id kept ∙ after-none nodes t (change_step t.root node.id made) id (given_upper t node.id made [] [] id (omega arith) other)
 
 node_there : (nodes : Nodes) (t : Table) (node : Fetched) (place at : ℕ) (step : Step) (new : Nodes) (u : Table) → (h : IsToDecide t node place at step) → IsSound nodes t → IsOwn nodes t node → IsTableAfter t step u → IsCommitted nodes t step new u → new node.id ≡ Some h.decide.made
-node_there nodes t node place at step new u h sound own after committed = one_there nodes t node.id node.node.value h.decide.made new u (changed nodes t node place at step new u h sound own after committed)
+node_there nodes t node place at step new u h sound own after committed = one_there nodes t node.id node.node.value h.decide.made [] new u (changed nodes t node place at step new u h sound own after committed)
 
 decided_at : (nodes : Nodes) (t : Table) (node : Fetched) (place at : ℕ) (step : Step) (new : Nodes) (u : Table) → IsToDecide t node place at step → IsSound nodes t → IsOwn nodes t node → IsTableAfter t step u → IsCommitted nodes t step new u → IsDecidedAt nodes node place at new u
 decided_at nodes t node place at step new u h sound own after committed = record {

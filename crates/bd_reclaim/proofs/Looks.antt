@@ -15,16 +15,15 @@ use Rattle.bd_node.specs.Tables.{Table, IsLower, IsSound}
 use Rattle.bd_node.proofs.Lookup.{named_has}
 use Rattle.bd_node.proofs.Privacy.{root_private}
 use Rattle.bd_node.proofs.Sound.{node_of}
-use Rattle.bd_inner.specs.Halves.{edges_of}
-use Rattle.bd_inner.specs.Exchange.{IsEdgeAt}
-use Rattle.bd_flush.specs.declared.fetching.Fetched.{Fetched}
-use Rattle.bd_flush.specs.Children.{IsFetched, IsContents}
-use Rattle.bd_flush.specs.Pushes.{IsOwn}
-use Rattle.bd_flush.proofs.ChildSplits.{edge_within, edge_named}
+use Rattle.bd_node.specs.Parts.{edges_of, IsEdgeAt}
+use Rattle.bd_path.specs.declared.fetching.Fetched.{Fetched}
+use Rattle.bd_path.specs.Fetching.{IsFetched, IsContents, IsOwn}
+use Rattle.bd_node.proofs.Parts.{edge_within}
+use Rattle.bd_path.proofs.EdgesAt.{edge_named}
 use Rattle.bd_reclaim.specs.declared.covering.Cover.{Cover}
 use Rattle.bd_reclaim.specs.declared.covering.Cover.TheVariants.{Gone, Elsewhere}
 use Rattle.bd_reclaim.specs.declared.walking.Reclaim.{Reclaim}
-use Rattle.bd_reclaim.specs.declared.walking.Reclaim.TheVariants.{Shrink, Drop, Carve, Push}
+use Rattle.bd_reclaim.specs.declared.walking.Reclaim.TheVariants.{Shrink, Drop, Redirect, Push}
 use Rattle.bd_reclaim.specs.Covering.{IsCovered, HasNoCovered, HasCut, HasNoCut, IsFirstCut}
 use Rattle.bd_reclaim.specs.Walks.{IsWalked, IsUnder, IsThinWay, IsThin, IsNoThinRoot, IsClean, IsFirstAt, HasNone, HasNoneBefore, IsFirst, IsToDo, IsToDoAt, IsWayBetween, IsFoundFrom, IsFoundIn, IsBelow, HasNoneAbove}
 use Rattle.bd_reclaim.specs.Walks.IsUnder.{itself, through}
@@ -84,7 +83,7 @@ to_do_first : (pushes : Bool) (t : Table) (f : Fetched) (step : Reclaim) → IsF
 to_do_first pushes t f (Shrink child) fetched first none = (subst (λ (i : ℕ). IsLower t (t.level i) child) first.0 (thin_lower t f child fetched first.1.0), first.1.1)
 to_do_first pushes t f (Drop node place at) fetched first none =
     (subst (λ (x : Fetched). IsFetched t x) (sym first.0) fetched, subst (λ (x : Fetched). IsCovered Gone x.node.value place at) (sym first.0) first.2.covered)
-to_do_first pushes t f (Carve node place at) fetched first none =
+to_do_first pushes t f (Redirect node place at) fetched first none =
     (subst (λ (x : Fetched). IsFetched t x) (sym first.0) fetched, subst (λ (x : Fetched). IsCovered Elsewhere x.node.value place at) (sym first.0) first.3.covered)
 to_do_first pushes t f (Push above node place) fetched first none = (
   subst (λ (x : Fetched). IsFetched t x) (sym first.0) fetched,
@@ -98,20 +97,20 @@ found_here pushes t id f step same fetched look = subst (λ (i : ℕ). IsFoundFr
 pub found_in_here : (nodes : Nodes) (step : Reclaim) → HasNoneAbove step → IsFoundIn nodes step
 found_in_here nodes (Shrink child) none = tt
 found_in_here nodes (Drop node place at) none = tt
-found_in_here nodes (Carve node place at) none = tt
+found_in_here nodes (Redirect node place at) none = tt
 found_in_here nodes (Push above node place) none = subst (λ (l : List Fetched). AllByRecursion (IsContents nodes) (reverse l)) (sym none) tt
 
 -- the node of the change is known and private
 abbrev pub IsThere : Nodes → Table → Reclaim → Type 0
 IsThere nodes t (Shrink child) = (n : Node) × (nodes t.root ≡ Some n) × IsThin t n child
 IsThere nodes t (Drop node place at) = IsOwn nodes t node
-IsThere nodes t (Carve node place at) = IsOwn nodes t node
+IsThere nodes t (Redirect node place at) = IsOwn nodes t node
 IsThere nodes t (Push above node place) = IsOwn nodes t node
 
 there_here : (pushes : Bool) (nodes : Nodes) (t : Table) (f : Fetched) (step : Reclaim) → nodes f.id ≡ Some f.node.value → IsPrivate nodes t f.id → IsFirstAt pushes t f step → IsThere nodes t step
 there_here pushes nodes t f (Shrink child) there private first = (f.node.value, ap nodes (sym first.0) ∙ there, first.1)
 there_here pushes nodes t f (Drop node place at) there private first = subst (λ (x : Fetched). IsOwn nodes t x) (sym first.0) (record { private = private; there = there })
-there_here pushes nodes t f (Carve node place at) there private first = subst (λ (x : Fetched). IsOwn nodes t x) (sym first.0) (record { private = private; there = there })
+there_here pushes nodes t f (Redirect node place at) there private first = subst (λ (x : Fetched). IsOwn nodes t x) (sym first.0) (record { private = private; there = there })
 there_here pushes nodes t f (Push above node place) there private first = subst (λ (x : Fetched). IsOwn nodes t x) (sym first.0) (record { private = private; there = there })
 
 there_below : (pushes : Bool) (nodes : Nodes) (t : Table) (step : Reclaim) (id : ℕ) → IsSound nodes t → IsPrivate nodes t id → IsFirst pushes nodes t step id → IsThere nodes t step
@@ -189,7 +188,7 @@ none_at_end pushes nodes t id f clean shown es place same shown_is edges same_id
 at_below : (pushes : Bool) (t : Table) (f g : Fetched) (step found : Reclaim) → IsBelow g step found → IsFirstAt pushes t f step → IsFirstAt pushes t f found
 at_below pushes t f g (Shrink child) found is first = subst (λ (s : Reclaim). IsFirstAt pushes t f s) (sym is) first
 at_below pushes t f g (Drop node place at) found is first = subst (λ (s : Reclaim). IsFirstAt pushes t f s) (sym is) first
-at_below pushes t f g (Carve node place at) found is first = subst (λ (s : Reclaim). IsFirstAt pushes t f s) (sym is) first
+at_below pushes t f g (Redirect node place at) found is first = subst (λ (s : Reclaim). IsFirstAt pushes t f s) (sym is) first
 at_below pushes t f g (Push above node place) found is first = subst (λ (s : Reclaim). IsFirstAt pushes t f s) (sym is) first
 
 -- the nodes above don't tell which change is the first
@@ -201,7 +200,7 @@ first_found pushes nodes t g step found id is (below _ place c n e there clean b
 pub found_below : (t : Table) (f : Fetched) (place : ℕ) (e : Edge) (c : ℕ) (step found : Reclaim) → IsFetched t f → IsEdgeAt f.node.value place e → IsWalked t e c → IsFoundFrom t c step → IsBelow f step found → IsFoundFrom t f.id found
 found_below t f place e c (Shrink child) found fetched asks walked h is = subst (λ (s : Reclaim). IsFoundFrom t f.id s) (sym is) h
 found_below t f place e c (Drop node i at) found fetched asks walked h is = subst (λ (s : Reclaim). IsFoundFrom t f.id s) (sym is) h
-found_below t f place e c (Carve node i at) found fetched asks walked h is = subst (λ (s : Reclaim). IsFoundFrom t f.id s) (sym is) h
+found_below t f place e c (Redirect node i at) found fetched asks walked h is = subst (λ (s : Reclaim). IsFoundFrom t f.id s) (sym is) h
 found_below t f place e c (Push above node i) found fetched asks walked h is =
     subst (λ (s : Reclaim). IsFoundFrom t f.id s) (sym is) (
       h.0,
@@ -213,7 +212,7 @@ found_below t f place e c (Push above node i) found fetched asks walked h is =
 pub found_in_below : (nodes : Nodes) (f : Fetched) (step found : Reclaim) → nodes f.id ≡ Some f.node.value → IsFoundIn nodes step → IsBelow f step found → IsFoundIn nodes found
 found_in_below nodes f (Shrink child) found there h is = subst (λ (s : Reclaim). IsFoundIn nodes s) (sym is) h
 found_in_below nodes f (Drop node place at) found there h is = subst (λ (s : Reclaim). IsFoundIn nodes s) (sym is) h
-found_in_below nodes f (Carve node place at) found there h is = subst (λ (s : Reclaim). IsFoundIn nodes s) (sym is) h
+found_in_below nodes f (Redirect node place at) found there h is = subst (λ (s : Reclaim). IsFoundIn nodes s) (sym is) h
 found_in_below nodes f (Push above node place) found there h is =
     subst (λ (s : Reclaim). IsFoundIn nodes s) (sym is)
     (subst (λ (l : List Fetched). AllByRecursion (IsContents nodes) l) (sym (reverse-append (f ∷ []) above)) (contents_more nodes (reverse above) f h there))
@@ -250,7 +249,7 @@ at_root pushes nodes t root r same h = subst (λ (i : ℕ). IfOk r (λ found. Ma
 found_to_do : (t : Table) (step : Reclaim) → IsFoundFrom t t.root step → IsToDo t step
 found_to_do t (Shrink child) h = h
 found_to_do t (Drop node place at) h = h
-found_to_do t (Carve node place at) h = h
+found_to_do t (Redirect node place at) h = h
 found_to_do t (Push above node place) h = (h.0, h.1, way_up t node.id (reverse above) h.2)
 
 pub to_do : {E : Type 0} (t : Table) (root : ℕ) (r : Result (Option Reclaim) E) → root ≡ t.root → IfOk r (λ found. IfSome found (IsFoundFrom t root)) → IfOk r (λ found. IfSome found (IsToDo t))
@@ -261,7 +260,7 @@ to_do t root (Err e) same h = tt
 to_do_in : (nodes : Nodes) (t : Table) (step : Reclaim) → IsSound nodes t → IsThere nodes t step → IsToDo t step → IsFoundIn nodes step → IsToDoAt nodes t step
 to_do_in nodes t (Shrink child) sound there to contents = there
 to_do_in nodes t (Drop node place at) sound there to contents = there
-to_do_in nodes t (Carve node place at) sound there to contents = there
+to_do_in nodes t (Redirect node place at) sound there to contents = there
 to_do_in nodes t (Push above node place) sound there to contents = (there, way_own nodes t node.id (reverse above) sound to.2 contents)
 
 pub found_at : {E : Type 0} (pushes : Bool) (nodes : Nodes) (t : Table) (r : Result (Option Reclaim) E) → IsSound nodes t → IfOk r (λ found. MatchOption found (HasNone pushes nodes t t.root) (λ step. IsFirst pushes nodes t step t.root)) → IfOk r (λ found. IfSome found (IsToDo t))

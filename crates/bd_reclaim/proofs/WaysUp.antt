@@ -4,12 +4,11 @@ use Rattle.std.specs.List.{AllByRecursion}
 use Rattle.bd_node.specs.declared.node.Edge.{Edge}
 use Rattle.bd_node.specs.Meaning.{Nodes}
 use Rattle.bd_node.specs.Tables.{Table, IsSound}
-use Rattle.bd_flush.specs.declared.fetching.Fetched.{Fetched}
-use Rattle.bd_flush.specs.Children.{IsFetched, IsContents, IsEdgeTo}
-use Rattle.bd_flush.specs.Raising.{IsWayUp}
-use Rattle.bd_flush.specs.Raising.IsWayUp.{top, one_up as further_up}
-use Rattle.bd_flush.specs.Ways.{AreOwn}
-use Rattle.bd_flush.proofs.RisingSteps.{way_link, way_private}
+use Rattle.bd_path.specs.declared.fetching.Fetched.{Fetched}
+use Rattle.bd_path.specs.Fetching.{IsFetched, IsContents, IsEdgeTo, AreOwn}
+use Rattle.bd_path.specs.Raising.{IsWayUp}
+use Rattle.bd_path.specs.Raising.IsWayUp.{top, one_up as further_up}
+use Rattle.bd_path.proofs.RisingSteps.{way_link, way_private}
 use Rattle.bd_reclaim.specs.Walks.{IsWayBetween}
 use Rattle.bd_reclaim.specs.Walks.IsWayBetween.{at_top, one_up}
 

@@ -7,10 +7,11 @@ use Rattle.bd_node.specs.declared.node.Edge.{Edge}
 use Rattle.bd_node.specs.declared.node.Node.{Node}
 use Rattle.bd_node.specs.Shape.{IsPending}
 use Rattle.bd_node.specs.Touching.{touches}
-use Rattle.bd_inner.specs.Halves.{buffer_of, bare_edge}
+use Rattle.bd_node.specs.Parts.{buffer_of, end_at, IsEdgeAt}
+use Rattle.bd_inner.specs.Halves.{bare_edge}
 use Rattle.bd_inner.specs.Carving.{from_key, goto_edge}
 use Rattle.bd_inner.specs.Compaction.{IsCompacted}
-use Rattle.bd_inner.specs.Exchange.{exchanged, end_at, IsEdgeAt}
+use Rattle.bd_inner.specs.Exchange.{exchanged}
 use Rattle.bd_reclaim.specs.declared.covering.Cover.{Cover}
 use Rattle.bd_reclaim.specs.declared.covering.Cover.TheVariants.{Gone, Elsewhere}
 

@@ -5,14 +5,14 @@ use Rattle.bd_node.specs.declared.node.Edge.{Edge}
 use Rattle.bd_message.specs.declared.fault.Counter.{Counter}
 use Rattle.bd_node.specs.Meaning.{Nodes}
 use Rattle.bd_node.specs.Tables.{Table}
-use Rattle.bd_inner.specs.Halves.{edges_of}
-use Rattle.bd_flush.specs.declared.fetching.Fetched.{Fetched}
-use Rattle.bd_flush.specs.declared.ways.FlushStep.{FlushStep}
-use Rattle.bd_flush.specs.declared.ways.FlushStep.TheVariants.{SplitRoot, SplitChild, Privatise}
-use Rattle.bd_flush.specs.Children.{IsEdgeTo, IsWayTo}
-use Rattle.bd_flush.specs.Flushed.{IsFlushed}
-use Rattle.bd_flush.specs.Ways.{IsDue, IsStepFrom, IsStanding, IsReached}
-use Rattle.bd_step.specs.Steps.{IsMade, IsHighAfter, IsWornStep}
+use Rattle.bd_node.specs.Parts.{edges_of}
+use Rattle.bd_path.specs.declared.fetching.Fetched.{Fetched}
+use Rattle.bd_step.specs.declared.ways.FlushStep.{FlushStep}
+use Rattle.bd_step.specs.declared.ways.FlushStep.TheVariants.{SplitRoot, SplitChild, Privatise}
+use Rattle.bd_path.specs.Fetching.{IsEdgeTo, IsWayTo}
+use Rattle.bd_path.specs.Flushed.{IsFlushed}
+use Rattle.bd_step.specs.Ways.{IsDue, IsStepFrom, IsStanding, IsReached}
+use Rattle.bd_step.specs.Steps.{IsFlushMade, IsHighAfter, IsWornStep}
 
 -- a node with 15 or 16 edges and those above it, the nearest first: it is split, or first the nearest
 -- one above with so many edges, and where such a node is asked with something in front of a key, it
@@ -53,7 +53,7 @@ pub record IsPushMade (nodes : Nodes) (t : Table) (above : List Fetched) (node :
   pub due : IsDue t step
   pub stands : IsStanding nodes t step
   pub reached : length (edges_of node.node.value) ≤ room_edges → IsReached nodes t node.id place step
-  pub made : IsMade nodes t step new u
+  pub made : IsFlushMade nodes t step new u
   pub height : IsHighAfter t step u
   pub flushed : IsFlushed nodes t new u
 

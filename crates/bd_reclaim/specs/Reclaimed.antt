@@ -8,15 +8,14 @@ use Rattle.bd_node.specs.Meaning.{Nodes}
 use Rattle.bd_node.specs.Private.{IsPrivate}
 use Rattle.bd_node.specs.Steps.{IsWornBy}
 use Rattle.bd_node.specs.Tables.{Table, IsKept, IsSound, root_at, sum_below}
-use Rattle.bd_inner.specs.Halves.{edges_of}
-use Rattle.bd_flush.specs.declared.fetching.Fetched.{Fetched}
-use Rattle.bd_flush.specs.Flushed.{LeadsTo, IsUntouched}
-use Rattle.bd_flush.specs.Made.{WearsOut}
-use Rattle.bd_flush.specs.Children.{IsNoHigher}
-use Rattle.bd_flush.specs.Carving.{change_step}
+use Rattle.bd_node.specs.Parts.{edges_of}
+use Rattle.bd_path.specs.declared.fetching.Fetched.{Fetched}
+use Rattle.bd_path.specs.Flushed.{LeadsTo, IsUntouched, IsNoHigher}
+use Rattle.bd_path.specs.Made.{WearsOut}
+use Rattle.bd_path.specs.Paths.{change_step}
 use Rattle.bd_flush.specs.Pushes.{unseen}
 use Rattle.bd_reclaim.specs.declared.walking.Reclaim.{Reclaim}
-use Rattle.bd_reclaim.specs.declared.walking.Reclaim.TheVariants.{Shrink, Drop, Carve, Push}
+use Rattle.bd_reclaim.specs.declared.walking.Reclaim.TheVariants.{Shrink, Drop, Redirect, Push}
 use Rattle.bd_step.specs.Steps.{step_visits}
 use Rattle.bd_reclaim.specs.Covering.{IsDecided}
 use Rattle.bd_reclaim.specs.Pushing.{IsPushFound, IsPushMade, IsWornPush}
@@ -61,11 +60,11 @@ abbrev pub root_only : ℕ → Step
 root_only root = record { made = []; changes = []; root = root }
 
 -- what became of the nodes, by the change
-abbrev pub IsMade : Nodes → Table → Reclaim → Nodes → Table → Type 0
-IsMade nodes t (Shrink child) new u = IsShrunk nodes child new u
-IsMade nodes t (Drop node place at) new u = IsDecidedAt nodes node place at new u
-IsMade nodes t (Carve node place at) new u = IsDecidedAt nodes node place at new u
-IsMade nodes t (Push above node place) new u = IsPushMade nodes t above node place new u
+abbrev pub IsReclaimMade : Nodes → Table → Reclaim → Nodes → Table → Type 0
+IsReclaimMade nodes t (Shrink child) new u = IsShrunk nodes child new u
+IsReclaimMade nodes t (Drop node place at) new u = IsDecidedAt nodes node place at new u
+IsReclaimMade nodes t (Redirect node place at) new u = IsDecidedAt nodes node place at new u
+IsReclaimMade nodes t (Push above node place) new u = IsPushMade nodes t above node place new u
 
 -- why a change is refused: a counter has to pass its last value for all that it adds. One that is no
 -- push makes no node, and needs no level
@@ -73,7 +72,7 @@ abbrev pub IsWornChange : Type 0 → Nodes → Table → Reclaim → Counter →
 IsWornChange known nodes t (Shrink child) counter = IsWornBy t (root_only child) counter
 IsWornChange known nodes t (Drop node place at) counter =
     WearsOut (IsDecideStep t.root node place at) t counter
-IsWornChange known nodes t (Carve node place at) counter =
+IsWornChange known nodes t (Redirect node place at) counter =
     WearsOut (IsDecideStep t.root node place at) t counter
 IsWornChange known nodes t (Push above node place) counter =
     IsWornPush known nodes t above node place counter
@@ -82,14 +81,14 @@ IsWornChange known nodes t (Push above node place) counter =
 abbrev pub IsRootAfter : Table → Reclaim → Table → Type 0
 IsRootAfter t (Shrink child) u = (u.root ≡ child) × (u.level u.root ≡ t.level child)
 IsRootAfter t (Drop node place at) u = IsNoHigher t u
-IsRootAfter t (Carve node place at) u = IsNoHigher t u
+IsRootAfter t (Redirect node place at) u = IsNoHigher t u
 IsRootAfter t (Push above node place) u = IsPushFound t above node place u
 
 -- a change makes no nodes, unless it is a push
 abbrev pub IsNextAfter : Table → Reclaim → Table → Type 0
 IsNextAfter t (Shrink child) u = u.next ≡ t.next
 IsNextAfter t (Drop node place at) u = u.next ≡ t.next
-IsNextAfter t (Carve node place at) u = u.next ≡ t.next
+IsNextAfter t (Redirect node place at) u = u.next ≡ t.next
 IsNextAfter t (Push above node place) u = ⊤
 
 -- how many visits a change takes at most: the one of a new root, none where an edge changes, and of a
@@ -97,7 +96,7 @@ IsNextAfter t (Push above node place) u = ⊤
 abbrev pub reclaim_visits : Table → Reclaim → ℕ
 reclaim_visits t (Shrink child) = 1
 reclaim_visits t (Drop node place at) = 0
-reclaim_visits t (Carve node place at) = 0
+reclaim_visits t (Redirect node place at) = 0
 reclaim_visits t (Push above node place) = step_visits t
 
 -- ---- how much is left to change
@@ -119,5 +118,5 @@ left_over nodes t = sum_below t.next (λ id. unseen_in (nodes id)) + t.level t.r
 abbrev pub LeavesLess : Nodes → Table → Reclaim → Nodes → Table → Type 0
 LeavesLess nodes t (Shrink child) new u = left_over new u < left_over nodes t
 LeavesLess nodes t (Drop node place at) new u = left_over new u < left_over nodes t
-LeavesLess nodes t (Carve node place at) new u = left_over new u < left_over nodes t
+LeavesLess nodes t (Redirect node place at) new u = left_over new u < left_over nodes t
 LeavesLess nodes t (Push above node place) new u = ⊤

@@ -5,16 +5,13 @@ use Rattle.bd_node.specs.declared.node.Edge.{Edge}
 use Rattle.bd_node.specs.declared.node.Node.{Node}
 use Rattle.bd_node.specs.Meaning.{Nodes}
 use Rattle.bd_node.specs.Tables.{Table, IsLower}
-use Rattle.bd_inner.specs.Halves.{edges_of, buffer_of}
-use Rattle.bd_inner.specs.Exchange.{IsEdgeAt}
-use Rattle.bd_flush.specs.declared.fetching.Fetched.{Fetched}
-use Rattle.bd_flush.specs.Children.{IsFetched, IsContents, IsEdgeTo}
-use Rattle.bd_flush.specs.Pushes.{IsOwn}
-use Rattle.bd_flush.specs.Raising.{IsWayUp}
-use Rattle.bd_flush.specs.Ways.{AreOwn}
+use Rattle.bd_node.specs.Parts.{edges_of, buffer_of, IsEdgeAt}
+use Rattle.bd_path.specs.declared.fetching.Fetched.{Fetched}
+use Rattle.bd_path.specs.Fetching.{IsFetched, IsContents, IsEdgeTo, IsOwn, AreOwn}
+use Rattle.bd_path.specs.Raising.{IsWayUp}
 use Rattle.bd_reclaim.specs.declared.covering.Cover.TheVariants.{Gone, Elsewhere}
 use Rattle.bd_reclaim.specs.declared.walking.Reclaim.{Reclaim}
-use Rattle.bd_reclaim.specs.declared.walking.Reclaim.TheVariants.{Shrink, Drop, Carve, Push}
+use Rattle.bd_reclaim.specs.declared.walking.Reclaim.TheVariants.{Shrink, Drop, Redirect, Push}
 use Rattle.bd_reclaim.specs.declared.walking.Look.{Look}
 use Rattle.bd_reclaim.specs.declared.walking.Look.TheVariants.{Change, Clean}
 use Rattle.bd_reclaim.specs.Covering.{IsCovered, HasNoCovered, IsFirstCovered, HasCut, HasNoCut, IsFirstCut}
@@ -82,7 +79,7 @@ abbrev pub IsFirstAt : Bool → Table → Fetched → Reclaim → Type 0
 IsFirstAt pushes t f (Shrink child) = (f.id ≡ t.root) × IsThin t f.node.value child
 IsFirstAt pushes t f (Drop node place at) =
     (node ≡ f) × IsNoThinRoot t f.id f.node.value × IsFirstCovered Gone f.node.value place at
-IsFirstAt pushes t f (Carve node place at) =
+IsFirstAt pushes t f (Redirect node place at) =
     (node ≡ f) × IsNoThinRoot t f.id f.node.value × HasNoCovered Gone f.node.value
     × IsFirstCovered Elsewhere f.node.value place at
 IsFirstAt pushes t f (Push above node place) =
@@ -116,7 +113,7 @@ pub data IsFirst (pushes : Bool) (nodes : Nodes) (t : Table) (step : Reclaim) : 
 abbrev pub IsToDo : Table → Reclaim → Type 0
 IsToDo t (Shrink child) = IsLower t (t.level t.root) child × (1 ≤ t.level child)
 IsToDo t (Drop node place at) = IsFetched t node × IsCovered Gone node.node.value place at
-IsToDo t (Carve node place at) = IsFetched t node × IsCovered Elsewhere node.node.value place at
+IsToDo t (Redirect node place at) = IsFetched t node × IsCovered Elsewhere node.node.value place at
 IsToDo t (Push above node place) =
     IsFetched t node × HasCut node.node.value place × IsWayUp t node.id (reverse above)
 
@@ -124,7 +121,7 @@ IsToDo t (Push above node place) =
 abbrev pub IsToDoAt : Nodes → Table → Reclaim → Type 0
 IsToDoAt nodes t (Shrink child) = (n : Node) × (nodes t.root ≡ Some n) × IsThin t n child
 IsToDoAt nodes t (Drop node place at) = IsOwn nodes t node
-IsToDoAt nodes t (Carve node place at) = IsOwn nodes t node
+IsToDoAt nodes t (Redirect node place at) = IsOwn nodes t node
 IsToDoAt nodes t (Push above node place) = IsOwn nodes t node × AreOwn nodes t (reverse above)
 
 -- ---- the way that the walk has come
@@ -141,7 +138,7 @@ pub data IsWayBetween (t : Table) (top : ℕ) : ℕ → List Fetched → Type 0 
 abbrev pub IsFoundFrom : Table → ℕ → Reclaim → Type 0
 IsFoundFrom t top (Shrink child) = IsToDo t (Shrink child)
 IsFoundFrom t top (Drop node place at) = IsToDo t (Drop node place at)
-IsFoundFrom t top (Carve node place at) = IsToDo t (Carve node place at)
+IsFoundFrom t top (Redirect node place at) = IsToDo t (Redirect node place at)
 IsFoundFrom t top (Push above node place) =
     IsFetched t node × HasCut node.node.value place × IsWayBetween t top node.id (reverse above)
 
@@ -149,14 +146,14 @@ IsFoundFrom t top (Push above node place) =
 abbrev pub IsFoundIn : Nodes → Reclaim → Type 0
 IsFoundIn nodes (Shrink child) = ⊤
 IsFoundIn nodes (Drop node place at) = ⊤
-IsFoundIn nodes (Carve node place at) = ⊤
+IsFoundIn nodes (Redirect node place at) = ⊤
 IsFoundIn nodes (Push above node place) = AllByRecursion (IsContents nodes) (reverse above)
 
 -- the change that was found below a node, where a push gets that node above it
 abbrev pub IsBelow : Fetched → Reclaim → Reclaim → Type 0
 IsBelow f (Shrink child) found = found ≡ Shrink child
 IsBelow f (Drop node place at) found = found ≡ Drop node place at
-IsBelow f (Carve node place at) found = found ≡ Carve node place at
+IsBelow f (Redirect node place at) found = found ≡ Redirect node place at
 IsBelow f (Push above node place) found = found ≡ Push (f ∷ above) node place
 
 -- ---- what is seen at a node
@@ -165,7 +162,7 @@ IsBelow f (Push above node place) found = found ≡ Push (f ∷ above) node plac
 abbrev pub HasNoneAbove : Reclaim → Type 0
 HasNoneAbove (Shrink child) = ⊤
 HasNoneAbove (Drop node place at) = ⊤
-HasNoneAbove (Carve node place at) = ⊤
+HasNoneAbove (Redirect node place at) = ⊤
 HasNoneAbove (Push above node place) = above ≡ []
 
 -- a fetched node is to be changed so, or nothing is to be changed at it

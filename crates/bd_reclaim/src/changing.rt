@@ -4,21 +4,21 @@ ghost use Rattle.std.specs.Prelude.{◌≡◌, ◌+◌, ◌<◌, ◌≤◌, OnOk
 ghost use Rattle.bd_message.specs.KeyMaps.{HasMapCause};
 ghost use Rattle.bd_node.specs.Frames.{OfSound, OnlyReads, Stays};
 ghost use Rattle.bd_node.specs.Tables.{IsSound};
-ghost use Rattle.bd_flush.specs.Made.{AreKnown, WearsOut};
-ghost use Rattle.bd_flush.specs.Children.{IsFetched, IsNoHigher};
-ghost use Rattle.bd_flush.specs.Pushes.{IsOwn};
+ghost use Rattle.bd_path.specs.Made.{AreKnown, WearsOut};
+ghost use Rattle.bd_path.specs.Fetching.{IsFetched, IsOwn};
+ghost use Rattle.bd_path.specs.Flushed.{IsNoHigher};
 ghost use Rattle.bd_reclaim.specs.declared.covering.Cover.{Cover};
 ghost use Rattle.bd_reclaim.specs.Covering.{IsCovered};
 ghost use Rattle.bd_reclaim.specs.Walks.{IsToDo, IsToDoAt};
-ghost use Rattle.bd_reclaim.specs.Reclaimed.{IsReclaimed, IsDecidedAt, IsMade, IsRootAfter, IsNextAfter, LeavesLess, IsWornChange, IsDecideStep, left_over, reclaim_visits};
+ghost use Rattle.bd_reclaim.specs.Reclaimed.{IsReclaimed, IsDecidedAt, IsReclaimMade, IsRootAfter, IsNextAfter, LeavesLess, IsWornChange, IsDecideStep, left_over, reclaim_visits};
 
 use crate::Reclaim;
 use crate::deciding::decide_step;
 use crate::pushing::push_from;
 use crate::shrinking::shrink;
-use bd_flush::Fetched;
 use bd_message::MapFault;
 use bd_node::NodeStore;
+use bd_path::Fetched;
 use std::alloc::Global;
 
 /// Makes a change that `reclaim_next` just found. All of it is done or nothing, and what the tree
@@ -36,7 +36,7 @@ pub fn reclaim_step<S: NodeStore>(
         (OnOk result (IsReclaimed (S.nodes store.old) (S.table store.old)
         (S.nodes store.new) (S.table store.new))) }
     ensures made { OfSound S.NodeStore store.old
-        (OnOk result (IsMade (S.nodes store.old) (S.table store.old) step
+        (OnOk result (IsReclaimMade (S.nodes store.old) (S.table store.old) step
         (S.nodes store.new) (S.table store.new))) }
     ensures falls { OfSound S.NodeStore store.old
         (OnOk result (LeavesLess (S.nodes store.old) (S.table store.old) step
@@ -54,7 +54,7 @@ pub fn reclaim_step<S: NodeStore>(
     match step {
         Reclaim::Shrink { child } => shrink(alloc, store, child),
         Reclaim::Drop { node, place, at } => change_edge(alloc, store, &node, place, at),
-        Reclaim::Carve { node, place, at } => change_edge(alloc, store, &node, place, at),
+        Reclaim::Redirect { node, place, at } => change_edge(alloc, store, &node, place, at),
         Reclaim::Push { above, node, place } => push_from(alloc, store, above, node, place),
     }
 }

@@ -3,16 +3,16 @@
 ghost use Rattle.std.specs.Prelude.{◌≡◌, ◌+◌, ◌<◌, ◌^◌, IfOk};
 ghost use Rattle.bd_message.specs.Messages.{IsMessage};
 ghost use Rattle.bd_node.specs.Shape.{IsShape};
-ghost use Rattle.bd_flush.specs.Carving.{change_step};
+ghost use Rattle.bd_path.specs.Paths.{change_step};
 ghost use Rattle.bd_reclaim.specs.declared.covering.Cover.{Cover};
 ghost use Rattle.bd_reclaim.specs.Covering.{IsCovered, decided_edge, IsDecided};
 ghost use Rattle.bd_reclaim.specs.Reclaimed.{IsDecideStep};
 
-use bd_flush::{Fetched, buffer_of, change_step, edges_of};
 use bd_inner::exchange;
 use bd_keys::Bytes;
 use bd_message::Message;
 use bd_node::{Edge, Items, Node, Step};
+use bd_path::{Fetched, buffer_of, change_step, edges_of};
 use std::alloc::{AllocError, Global};
 
 /// The step that changes a node to what the message at a place makes of its edge at a place.

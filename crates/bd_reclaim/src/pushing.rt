@@ -7,23 +7,21 @@ ghost use Rattle.bd_node.specs.Frames.{OfSound, OnlyReads, Stays};
 ghost use Rattle.bd_node.specs.declared.node.Edge.{Edge};
 ghost use Rattle.bd_node.specs.Meaning.{Nodes};
 ghost use Rattle.bd_node.specs.Tables.{Table, IsSound};
-ghost use Rattle.bd_inner.specs.Halves.{edges_of};
-ghost use Rattle.bd_inner.specs.Exchange.{IsEdgeAt};
-ghost use Rattle.bd_flush.specs.Made.{AreKnown};
-ghost use Rattle.bd_flush.specs.Children.{IsFetched, IsEdgeTo};
-ghost use Rattle.bd_flush.specs.Pushes.{IsOwn};
-ghost use Rattle.bd_flush.specs.Raising.{IsWayUp};
-ghost use Rattle.bd_flush.specs.Ways.{IsDue, IsWaited, IsStanding, IsReached, IsWayOf, IsWayThere, AreOwn};
+ghost use Rattle.bd_node.specs.Parts.{edges_of, IsEdgeAt};
+ghost use Rattle.bd_path.specs.Made.{AreKnown};
+ghost use Rattle.bd_path.specs.Fetching.{IsFetched, IsEdgeTo, IsOwn, AreOwn};
+ghost use Rattle.bd_path.specs.Raising.{IsWayUp};
+ghost use Rattle.bd_step.specs.Ways.{IsDue, IsWaited, IsStanding, IsReached, IsWayOf, IsWayThere};
 ghost use Rattle.bd_step.specs.Steps.{step_visits};
 ghost use Rattle.bd_reclaim.specs.Covering.{HasCut};
 ghost use Rattle.bd_reclaim.specs.Reclaimed.{IsReclaimed};
 ghost use Rattle.bd_reclaim.specs.Pushing.{IsSplitFirst, IsPushStep, IsPushFound, IsPushMade, IsWornPush};
 
-use bd_flush::{Fetched, FlushStep, Way, edges_of, step_from};
 use bd_limits::FULL_EDGES;
 use bd_message::MapFault;
 use bd_node::{Items, Node, NodeStore};
-use bd_step::make;
+use bd_path::{Fetched, Way, edges_of};
+use bd_step::{FlushStep, make, step_from};
 use std::alloc::Global;
 
 /// Makes a step of a flush that begins at the edge at a place of a private node, for which a Cut is

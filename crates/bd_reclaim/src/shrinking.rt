@@ -9,9 +9,9 @@ ghost use Rattle.bd_node.specs.Tables.{IsLower, IsSound};
 ghost use Rattle.bd_reclaim.specs.Walks.{IsThin};
 ghost use Rattle.bd_reclaim.specs.Reclaimed.{IsReclaimed, IsShrunk, root_only, left_over};
 
-use bd_flush::fetch;
 use bd_message::MapFault;
 use bd_node::{Items, NodeStore, Step};
+use bd_path::fetch;
 use std::alloc::Global;
 
 /// Makes an inner node the root to which the root adds nothing. It is fetched before, so that the

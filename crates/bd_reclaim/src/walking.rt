@@ -6,15 +6,15 @@ ghost use Rattle.bd_node.specs.Frames.{OfSound, OnlyReads};
 ghost use Rattle.bd_node.specs.declared.node.Node.{Node};
 ghost use Rattle.bd_node.specs.Shape.{IsShape};
 ghost use Rattle.bd_node.specs.Tables.{Table, IsKept, IsLower, IsSound};
-ghost use Rattle.bd_inner.specs.Halves.{edges_of};
-ghost use Rattle.bd_flush.specs.Children.{IsFetched};
+ghost use Rattle.bd_node.specs.Parts.{edges_of};
+ghost use Rattle.bd_path.specs.Fetching.{IsFetched};
 ghost use Rattle.bd_reclaim.specs.Walks.{IsWalked, IsThinWay, IsThin, IsLook, IsEdgeLook, IsFirst, HasNone, IsToDo, IsToDoAt, IsFoundFrom, IsFoundIn, IsBelow, walk_size};
 
 use crate::Cover;
 use crate::covering::{first_covered, first_cut};
-use bd_flush::{Fetched, Way, buffer_of, edges_of, fetch};
 use bd_message::MapFault;
 use bd_node::{Edge, Items, Node, NodeStore};
+use bd_path::{Fetched, Way, buffer_of, edges_of, fetch};
 use std::alloc::{AllocError, Global};
 
 /// A change to make, and where.
@@ -33,7 +33,7 @@ pub enum Reclaim {
     },
     /// The Goto at a place of the node's buffer covers all keys of the edge at the place: the edge
     /// asks the Goto's node from then on.
-    Carve {
+    Redirect {
         node: Fetched,
         place: usize,
         at: usize,
@@ -198,7 +198,7 @@ fn look_at_edges(alloc: Global, here: Fetched, pushes: bool) -> Look
         });
     }
     if let Some((place, at)) = first_covered(Cover::Elsewhere, &here.node) {
-        return Look::Change(Reclaim::Carve {
+        return Look::Change(Reclaim::Redirect {
             node: here,
             place,
             at,

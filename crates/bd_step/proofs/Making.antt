@@ -11,28 +11,28 @@ use Rattle.bd_node.specs.Meaning.{Nodes}
 use Rattle.bd_node.specs.Shape.{IsShape}
 use Rattle.bd_node.specs.Tables.{Table, IsSound}
 use Rattle.bd_inner.specs.Moving.{SomeCanTouch}
-use Rattle.bd_inner.specs.Exchange.{end_at, IsEdgeAt}
-use Rattle.bd_flush.specs.declared.fetching.Fetched.{Fetched}
-use Rattle.bd_flush.specs.declared.ways.FlushStep.{FlushStep}
-use Rattle.bd_flush.specs.declared.ways.FlushStep.TheVariants.{SplitRoot, SplitChild, Push, Privatise, Carve}
-use Rattle.bd_flush.specs.Flushed.{IsFlushed}
-use Rattle.bd_flush.specs.Children.{IsFetched, IsContents}
-use Rattle.bd_flush.specs.Pushes.{CanPush, CanPushNew, AllGoDown, IsOwn, unseen}
+use Rattle.bd_node.specs.Parts.{end_at, IsEdgeAt}
+use Rattle.bd_path.specs.declared.fetching.Fetched.{Fetched}
+use Rattle.bd_step.specs.declared.ways.FlushStep.{FlushStep}
+use Rattle.bd_step.specs.declared.ways.FlushStep.TheVariants.{SplitRoot, SplitChild, Push, Privatise, Carve}
+use Rattle.bd_path.specs.Flushed.{IsFlushed}
+use Rattle.bd_path.specs.Fetching.{IsFetched, IsContents, IsOwn, AreOwn}
+use Rattle.bd_flush.specs.Pushes.{CanPush, CanPushNew, AllGoDown, unseen}
 use Rattle.bd_flush.specs.GoingDown.{child_level}
 use Rattle.bd_flush.specs.Carving.{CanCarve}
-use Rattle.bd_copy.specs.Copying.{HasChild, IsPrivatiseStep}
-use Rattle.bd_flush.specs.Copies.{IsCopyFor}
-use Rattle.bd_flush.proofs.Made.{worn_wider}
+use Rattle.bd_copy.specs.Privatising.{HasChild, IsPrivatiseStep}
+use Rattle.bd_copy.specs.Copying.{IsCopyFor}
+use Rattle.bd_path.proofs.Made.{worn_wider}
 use Rattle.bd_message.specs.declared.fault.MapFault.{MapFault}
 use Rattle.bd_message.specs.KeyMaps.{HasMapCause}
 use Rattle.bd_message.proofs.Causes.{cause_weaker, cause_passed, cause_after}
-use Rattle.bd_flush.proofs.EdgeChildren.{child_lower}
-use Rattle.bd_flush.specs.Ways.{IsFullestAt, IsFull, IsFullestIn, AreOwn, IsDue, IsWaited, IsStanding, IsToDo, IsToDoAt, IsWayThere}
+use Rattle.bd_path.proofs.EdgesAt.{child_lower}
+use Rattle.bd_step.specs.Ways.{IsFullestAt, IsFull, IsFullestIn, IsDue, IsWaited, IsStanding, IsToDo, IsToDoAt, IsWayThere}
 use Rattle.bd_node.proofs.Lookup.{each_weaker}
-use Rattle.bd_flush.proofs.Abundance.{abundant}
+use Rattle.bd_step.proofs.Abundance.{abundant}
 use Rattle.bd_flush.proofs.GoingDown.{all_plain}
-use Rattle.bd_flush.proofs.Waiting.{fullest_waits, pending_waits}
-use Rattle.bd_step.specs.Steps.{IsStepOf, IsMade, IsTooHigh, IsWornStep, IsWornToFlush, IsHighAfter, IsAbundantAt, IsAbundant, IsFlushStep}
+use Rattle.bd_step.proofs.Waiting.{fullest_waits, pending_waits}
+use Rattle.bd_step.specs.Steps.{IsStepOf, IsFlushMade, IsTooHigh, IsWornStep, IsWornToFlush, IsHighAfter, IsAbundantAt, IsAbundant, IsFlushStep}
 
 -- messages wait in a node of the way
 some_wait : (t : Table) (f : Fetched) → 1 ≤ t.size → IsFetched t f → IsFull t f → 1 ≤ buffer_size f.node.value
@@ -65,7 +65,7 @@ is_waited t (SplitRoot root) waits h = tt
 is_waited t (SplitChild above parent place child) waits h = tt
 is_waited t (Push above parent place child) waits h = λ e here. waits_for t parent place e waits h.0.0.parent_is h.1 here
 is_waited t (Privatise above parent place) waits h = tt
-is_waited t (Carve above parent place) waits h = tt
+is_waited t (Carve above parent place index) waits h = tt
 
 pub can_push : (t : Table) (above : List Fetched) (parent : Fetched) (place : ℕ) (child : Fetched) → IsWaited (Push above parent place (Some child)) → IsDue t (Push above parent place (Some child)) → CanPush t parent place child
 can_push t above parent place child waited h = record {
@@ -93,13 +93,13 @@ can_push_new t above parent place waited h = record {
   };
 }
 
-pub can_carve : (t : Table) (above : List Fetched) (parent : Fetched) (place : ℕ) → IsDue t (Carve above parent place) → CanCarve t parent place
-can_carve t above parent place h = record {
+pub can_carve : (t : Table) (above : List Fetched) (parent : Fetched) (place index : ℕ) → IsDue t (Carve above parent place index) → CanCarve t parent place index
+can_carve t above parent place index h = record {
   parent_is = h.0.parent_is;
   room = h.0.room;
   edge = h.0.edge;
   here = h.0.here;
-  held = h.0.held;
+  oldest = h.0.oldest;
 }
 
 pub has_child : (t : Table) (above : List Fetched) (parent : Fetched) (place : ℕ) → IsDue t (Privatise above parent place) → HasChild t parent place
@@ -138,7 +138,7 @@ is_abundant t (SplitRoot root) h more = tt
 is_abundant t (SplitChild above parent place child) h more = abundant_at t parent place more h.0.0.parent_is h.1
 is_abundant t (Push above parent place child) h more = abundant_at t parent place more h.0.0.parent_is h.1
 is_abundant t (Privatise above parent place) h more = abundant_at t parent place more h.0.0.parent_is h.1
-is_abundant t (Carve above parent place) h more = abundant_at t parent place more h.0.0.parent_is h.1
+is_abundant t (Carve above parent place index) h more = abundant_at t parent place more h.0.0.parent_is h.1
 
 -- ---- the whole step
 
@@ -170,7 +170,7 @@ pub record IsStepMade (nodes mid : Nodes) (t m : Table) (new : Nodes) (u : Table
   pub sound : IsSound nodes t
   pub to_do : IsToDo t step
   pub here : IsToDoAt nodes t step
-  pub made : IsSound mid m → IsMade mid m step new u
+  pub made : IsSound mid m → IsFlushMade mid m step new u
   pub height : IsHighAfter m step u
   pub flushed : IsSound mid m → IsFlushed mid m new u
 
@@ -182,7 +182,7 @@ is_flush_step nodes mid t m new u step h =
       to_do = h.to_do;
       here = h.here;
       abundant = is_abundant t step h.to_do;
-      made = subst (λ (v : Table). IsMade nodes v step new u) h.table_is (subst (λ (f : Nodes). IsMade f m step new u) h.nodes_are (h.made again));
+      made = subst (λ (v : Table). IsFlushMade nodes v step new u) h.table_is (subst (λ (f : Nodes). IsFlushMade f m step new u) h.nodes_are (h.made again));
       height = subst (λ (v : Table). IsHighAfter v step u) h.table_is h.height;
       flushed = subst (λ (v : Table). IsFlushed nodes v new u) h.table_is (subst (λ (f : Nodes). IsFlushed f m new u) h.nodes_are (h.flushed again));
     }
@@ -212,7 +212,7 @@ step_known known again nodes mid t (SplitChild above parent place child) step kn
 step_known known again nodes mid t (Push above parent place None) step knows h = h
 step_known known again nodes mid t (Push above parent place (Some child)) step knows h = h
 step_known known again nodes mid t (Privatise above parent place) step knows h = copy_known known again nodes mid t parent place step knows h
-step_known known again nodes mid t (Carve above parent place) step knows h = h
+step_known known again nodes mid t (Carve above parent place index) step knows h = h
 
 -- a step that was found before is refused for the same
 pub worn_known : {T : Type 0} (before mid now : ℕ) (bad : ℕ → Type 0) (known again : Type 0) (nodes mids : Nodes) (t m : Table) (flush : FlushStep) (r : Result T MapFault) → mid ≡ before → m ≡ t → (known → again × (mids ≡ nodes)) → HasMapCause mid now bad (IsWornStep again mids m flush) r

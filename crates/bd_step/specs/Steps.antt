@@ -6,19 +6,18 @@ use Rattle.bd_node.specs.declared.node.Node.{Node}
 use Rattle.bd_node.specs.declared.node.Step.{Step}
 use Rattle.bd_node.specs.Meaning.{Nodes}
 use Rattle.bd_node.specs.Tables.{Table}
-use Rattle.bd_inner.specs.Halves.{edges_of, buffer_of}
-use Rattle.bd_flush.specs.declared.ways.FlushStep.{FlushStep}
-use Rattle.bd_flush.specs.declared.ways.FlushStep.TheVariants.{SplitRoot, SplitChild, Push, Privatise, Carve}
-use Rattle.bd_flush.specs.Pending.{IsFullest}
-use Rattle.bd_flush.specs.Flushed.{IsFlushed}
-use Rattle.bd_flush.specs.Made.{IsMadeBy, IsWornFor}
+use Rattle.bd_node.specs.Parts.{edges_of, buffer_of}
+use Rattle.bd_step.specs.declared.ways.FlushStep.{FlushStep}
+use Rattle.bd_step.specs.declared.ways.FlushStep.TheVariants.{SplitRoot, SplitChild, Push, Privatise, Carve}
+use Rattle.bd_step.specs.Pending.{IsFullest}
+use Rattle.bd_path.specs.Flushed.{IsFlushed, IsNoHigher, IsHardlyHigher}
+use Rattle.bd_path.specs.Made.{IsMadeBy, IsWornFor}
 use Rattle.bd_flush.specs.Splits.{IsRootSplit, IsRaised}
-use Rattle.bd_flush.specs.Children.{IsNoHigher}
-use Rattle.bd_flush.specs.Between.{IsSplitStep, IsHighSplit, IsHighAfterSplit, IsHardlyHigher}
+use Rattle.bd_flush.specs.Between.{IsSplitStep, IsHighSplit, IsHighAfterSplit}
 use Rattle.bd_flush.specs.Pushes.{IsSomePush, IsHighPush, IsNewStep, IsLongPush}
 use Rattle.bd_flush.specs.Carving.{IsCarveStep}
-use Rattle.bd_flush.specs.Ways.{IsToDo, IsToDoAt}
-use Rattle.bd_copy.specs.Copying.{IsPrivatiseStep}
+use Rattle.bd_step.specs.Ways.{IsToDo, IsToDoAt}
+use Rattle.bd_copy.specs.Privatising.{IsPrivatiseStep}
 
 -- ---- the kinds of a step
 
@@ -35,11 +34,11 @@ IsStepOf known nodes t (Push above parent place (Some child)) step =
     IsSomePush t.root t.next (reverse above) parent place child step
 IsStepOf known nodes t (Privatise above parent place) step =
     IsPrivatiseStep known nodes t parent place step
-IsStepOf known nodes t (Carve above parent place) step = IsCarveStep t parent place step
+IsStepOf known nodes t (Carve above parent place index) step = IsCarveStep t parent place step
 
 -- what a step leaves: what its step of the store does
-abbrev pub IsMade : Nodes → Table → FlushStep → Nodes → Table → Type 0
-IsMade nodes t step new u = IsMadeBy (IsStepOf ⊤ nodes t step) nodes t new u
+abbrev pub IsFlushMade : Nodes → Table → FlushStep → Nodes → Table → Type 0
+IsFlushMade nodes t step new u = IsMadeBy (IsStepOf ⊤ nodes t step) nodes t new u
 
 -- a node would have to rise above level 1,000: the root that is split, or one above halves whose pivot
 -- would have more than 518 bytes in their parent; no other step needs a level
@@ -50,7 +49,7 @@ IsTooHigh t (Push above parent place None) = ⊥
 IsTooHigh t (Push above parent place (Some child)) =
     IsHighPush parent.node.value place child.node.value (reverse above)
 IsTooHigh t (Privatise above parent place) = ⊥
-IsTooHigh t (Carve above parent place) = ⊥
+IsTooHigh t (Carve above parent place index) = ⊥
 
 -- why a step that was found is refused: a counter has to pass its last value for all that it adds
 abbrev pub IsWornStep : Type 0 → Nodes → Table → FlushStep → Counter → Type 0
@@ -76,7 +75,7 @@ IsHighAfter t (Push above parent place None) u = IsNoHigher t u
 IsHighAfter t (Push above parent place (Some child)) u = IsNoHigher t u
     ⊎ (IsLongPush parent.node.value place child.node.value × IsHardlyHigher t u)
 IsHighAfter t (Privatise above parent place) u = IsNoHigher t u
-IsHighAfter t (Carve above parent place) u = IsNoHigher t u
+IsHighAfter t (Carve above parent place index) u = IsNoHigher t u
 
 -- 1,024 bytes or more are pending for a node's edge at a place, the fullest one
 pub record IsAbundantAt (n : Node) (place : ℕ) : Type 0 where
@@ -90,7 +89,7 @@ IsAbundant (SplitRoot root) = ⊤
 IsAbundant (SplitChild above parent place child) = IsAbundantAt parent.node.value place
 IsAbundant (Push above parent place child) = IsAbundantAt parent.node.value place
 IsAbundant (Privatise above parent place) = IsAbundantAt parent.node.value place
-IsAbundant (Carve above parent place) = IsAbundantAt parent.node.value place
+IsAbundant (Carve above parent place index) = IsAbundantAt parent.node.value place
 
 -- one step of a flush, between the nodes before and after it: what the way down finds is made, and
 -- the tree has what it had. Where more than 16,384 bytes wait in the root, much is pending there
@@ -99,7 +98,7 @@ pub record IsFlushStep (nodes : Nodes) (t : Table) (new : Nodes) (u : Table) : T
   pub to_do : IsToDo t step
   pub here : IsToDoAt nodes t step
   pub abundant : soft_limit < t.size → IsAbundant step
-  pub made : IsMade nodes t step new u
+  pub made : IsFlushMade nodes t step new u
   pub height : IsHighAfter t step u
   pub flushed : IsFlushed nodes t new u
 

@@ -4,19 +4,20 @@ ghost use Rattle.std.specs.Prelude.{◌≡◌, ◌≢◌, ◌↔◌, ◌+◌, �
 ghost use Rattle.bd_message.specs.KeyMaps.{HasMapCause};
 ghost use Rattle.bd_node.specs.Frames.{OfSound, OnlyReads, Stays};
 ghost use Rattle.bd_node.specs.Tables.{IsSound};
-ghost use Rattle.bd_flush.specs.declared.ways.FlushStep.TheVariants as step;
-ghost use Rattle.bd_flush.specs.Flushed.{IsFlushed};
-ghost use Rattle.bd_flush.specs.Made.{AreKnown};
-ghost use Rattle.bd_flush.specs.Raising.{IsWayUp};
-ghost use Rattle.bd_flush.specs.Ways.{IsDue, IsWaited, IsStanding, AreOwn, IsWayOf, IsWayThere};
-ghost use Rattle.bd_step.specs.Steps.{IsMade, IsHighAfter, IsWornStep, IsWornToFlush, IsFlushStep, IsFound, step_visits};
+ghost use Rattle.bd_step.specs.declared.ways.FlushStep.TheVariants as step;
+ghost use Rattle.bd_path.specs.Flushed.{IsFlushed};
+ghost use Rattle.bd_path.specs.Made.{AreKnown};
+ghost use Rattle.bd_path.specs.Raising.{IsWayUp};
+ghost use Rattle.bd_step.specs.Ways.{IsDue, IsWaited, IsStanding, IsWayOf, IsWayThere};
+ghost use Rattle.bd_path.specs.Fetching.{AreOwn};
+ghost use Rattle.bd_step.specs.Steps.{IsFlushMade, IsHighAfter, IsWornStep, IsWornToFlush, IsFlushStep, IsFound, step_visits};
 
+use crate::ways::{FlushStep, next_step};
 use bd_copy::privatise;
-use bd_flush::{
-    Fetched, FlushStep, Way, carve, next_step, push, push_new, split_child, split_root,
-};
+use bd_flush::{carve, push, push_new, split_child, split_root};
 use bd_message::MapFault;
 use bd_node::NodeStore;
+use bd_path::{Fetched, Way};
 use std::alloc::Global;
 
 /// Makes one step of a flush where more than `limit` bytes of messages wait in the root, and says
@@ -67,7 +68,7 @@ pub fn make<S: NodeStore>(alloc: Global, store: &mut S, step: FlushStep) -> Resu
         (OnOk result (IsFlushed (S.nodes store.old) (S.table store.old)
         (S.nodes store.new) (S.table store.new))) }
     ensures made { OfSound S.NodeStore store.old
-        (OnOk result (IsMade (S.nodes store.old) (S.table store.old) step
+        (OnOk result (IsFlushMade (S.nodes store.old) (S.table store.old) step
         (S.nodes store.new) (S.table store.new))) }
     ensures height { OnOk result (IsHighAfter (S.table store.old) step (S.table store.new)) }
     ensures stays { Stays S.NodeStore store.old store.new }
@@ -93,7 +94,12 @@ pub fn make<S: NodeStore>(alloc: Global, store: &mut S, step: FlushStep) -> Resu
             child,
         } => push_down(alloc, store, above, parent, place, child),
         FlushStep::Privatise { parent, place, .. } => privatise(alloc, store, &parent, place),
-        FlushStep::Carve { parent, place, .. } => carve(alloc, store, &parent, place),
+        FlushStep::Carve {
+            parent,
+            place,
+            index,
+            ..
+        } => carve(alloc, store, &parent, place, index),
     }
 }
 
@@ -117,7 +123,7 @@ fn push_down<S: NodeStore>(
         (OnOk result (IsFlushed (S.nodes store.old) (S.table store.old)
         (S.nodes store.new) (S.table store.new))) }
     ensures made { OfSound S.NodeStore store.old
-        (OnOk result (IsMade (S.nodes store.old) (S.table store.old)
+        (OnOk result (IsFlushMade (S.nodes store.old) (S.table store.old)
         (step.Push above parent place child) (S.nodes store.new) (S.table store.new))) }
     ensures height { OnOk result (IsHighAfter (S.table store.old)
         (step.Push above parent place child) (S.table store.new)) }

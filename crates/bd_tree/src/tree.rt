@@ -1,11 +1,9 @@
 //! The tree.
 
-ghost use Rattle.std.specs.Prelude.{◌≡◌, ◌≢◌, ◌↔◌, ℕ, ◌+◌, ◌-◌, ◌*◌, ◌<◌, ◌≤◌, List, IfOk, IfErr, IfSome, MatchOption, OnOk};
-ghost use Rattle.std.specs.Prelude.{true, false, OnErr, Ok, Some};
+ghost use Rattle.std.specs.Prelude.{◌≡◌, ◌≢◌, ◌↔◌, ℕ, ◌+◌, ◌-◌, ◌*◌, ◌<◌, ◌≤◌, List, IfOk, IfErr, IfSome, MatchOption, OnOk, true, false, OnErr, Ok, Some};
 ghost use Rattle.std.specs.Option.{option_map};
 ghost use Rattle.bd_limits.specs.Limits.{buffer_limit};
-ghost use Rattle.bd_message.specs.KeyMaps.{HasMapCause, NeverWorn, IsApplied, IsNext};
-ghost use Rattle.bd_message.specs.KeyMaps.{CanGraft, IsGrafted};
+ghost use Rattle.bd_message.specs.KeyMaps.{HasMapCause, NeverWorn, IsApplied, IsNext, CanGraft, IsGrafted};
 ghost use Rattle.bd_node.specs.Frames.{OfSound, OnlyReads, Stays};
 ghost use Rattle.bd_node.specs.Meaning.{at};
 ghost use Rattle.bd_node.specs.Tables.{IsKept, IsSound, root_at};
@@ -15,9 +13,9 @@ ghost use Rattle.bd_node.specs.Stores.{FitsRoot, visited};
 ghost use Rattle.bd_query.specs.Asks.{AreVisitsOfWays};
 ghost use Rattle.bd_query.specs.Visits.{AreVisits};
 ghost use Rattle.bd_graft.specs.Grafting.{IsGrown, IsGraftStep, AreOthersSame, IsWornForGraft, IsWornByGraft, OnWorn};
-ghost use Rattle.bd_flush.specs.Made.{AreKnown};
+ghost use Rattle.bd_path.specs.Made.{AreKnown};
 ghost use Rattle.bd_reclaim.specs.Walks.{IsFirst, HasNone, IsToDo, IsToDoAt, walk_size};
-ghost use Rattle.bd_reclaim.specs.Reclaimed.{IsReclaimed, IsMade, IsRootAfter, IsNextAfter, LeavesLess, reclaim_visits, IsWornChange};
+ghost use Rattle.bd_reclaim.specs.Reclaimed.{IsReclaimed, IsReclaimMade, IsRootAfter, IsNextAfter, LeavesLess, reclaim_visits, IsWornChange};
 ghost use Rattle.bd_step.specs.Steps.{IsFlushStep, IsFound, step_visits, IsWornToFlush};
 
 use bd_graft::{Walk, graft};
@@ -246,7 +244,7 @@ impl<S: NodeStore> Tree<S> {
             (OnOk result (IsReclaimed (S.nodes self.old.store) (S.table self.old.store)
             (S.nodes self.new.store) (S.table self.new.store))) }
         ensures made { OfSound S.NodeStore self.old.store
-            (OnOk result (IsMade (S.nodes self.old.store) (S.table self.old.store) step
+            (OnOk result (IsReclaimMade (S.nodes self.old.store) (S.table self.old.store) step
             (S.nodes self.new.store) (S.table self.new.store))) }
         ensures falls { OfSound S.NodeStore self.old.store
             (OnOk result (LeavesLess (S.nodes self.old.store) (S.table self.old.store) step

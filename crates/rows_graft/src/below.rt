@@ -1,9 +1,9 @@
 //! Whether a Goto waits below the root.
 
-use bd_flush::{FlushStep, next_step};
 use bd_memnodes::MemNodes;
 use bd_message::Message;
 use bd_node::Node;
+use bd_step::{FlushStep, next_step};
 use bd_tree::Tree;
 use rows_tools::Both;
 use std::alloc::Global;

@@ -1,7 +1,7 @@
 use Rattle.std.proofs.Common.{◌+◌, ◌≤◌, ◌∙◌, sym, arith}
 use Rattle.bd_copy.proofs.Shortened.{sound_again}
 use Rattle.bd_copy.proofs.Copied.{child_read, kept_child, source_short, put_again, copy_there, copied_again, on_privatised, copy_cause, put_few, copy_visits}
-use Rattle.bd_flush.specs.Made.{AreKnown}
+use Rattle.bd_path.specs.Made.{AreKnown}
 use Rattle.bd_copy.proofs.privatising.privatise.Goals as goal
 
 pub fetch-requires : goal.fetch-requires

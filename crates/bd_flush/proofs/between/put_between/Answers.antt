@@ -2,8 +2,8 @@ use Rattle.std.proofs.Common.{ℕ, ◌+◌, ◌∷◌, reverse}
 use Rattle.bd_node.specs.declared.node.Step.{Step}
 use Rattle.bd_node.specs.Nodes.{level_of}
 use Rattle.bd_flush.specs.Between.{IsBetweenStep}
-use Rattle.bd_flush.specs.Raising.{CannotRise}
-use Rattle.bd_flush.proofs.Made.{on_made, worn_of, too_high}
+use Rattle.bd_path.specs.Raising.{CannotRise}
+use Rattle.bd_path.proofs.Made.{on_made, worn_of, too_high}
 use Rattle.bd_flush.proofs.PutBetween.{way_shapes, below_last, plan_found, plan_high, put_full, is_to_put, may_put, put_in_place, put_flushed, put_higher, put_risen}
 use Rattle.bd_flush.proofs.between.put_between.Goals as goal
 

@@ -1,9 +1,10 @@
 use Rattle.std.proofs.Common.{◌≡◌, subst, sym, rules}
 use Rattle.bd_node.specs.declared.node.Edge.{Edge}
-use Rattle.bd_inner.specs.Exchange.{IsEdgeAt}
+use Rattle.bd_node.specs.Parts.{IsEdgeAt}
 use Rattle.bd_flush.specs.Children.{IsOver}
 use Rattle.bd_flush.specs.declared.children.Halving.{Halving}
-use Rattle.bd_flush.proofs.ChildSplits.{edge_here, own_fits, short_is, long_is}
+use Rattle.bd_node.proofs.Parts.{edge_here}
+use Rattle.bd_flush.proofs.ChildSplits.{own_fits, short_is, long_is}
 use Rattle.bd_flush.proofs.children.split_below.Goals as goal
 
 pub over_halves-requires-clause-fits : goal.over_halves-requires-clause-fits

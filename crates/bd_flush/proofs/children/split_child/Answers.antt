@@ -6,10 +6,10 @@ use Rattle.bd_node.specs.declared.node.Step.{Step}
 use Rattle.bd_node.specs.Nodes.{level_of}
 use Rattle.bd_inner.specs.Halves.{AreHalves}
 use Rattle.bd_flush.specs.Children.{IsLongPivot, IsChildStep}
-use Rattle.bd_flush.specs.Raising.{CannotRise}
+use Rattle.bd_path.specs.Raising.{CannotRise}
 use Rattle.bd_flush.specs.Between.{IsBetweenStep, IsSplitStep, IsHighSplit}
 use Rattle.bd_flush.specs.Between.IsSplitStep.{short, long}
-use Rattle.bd_flush.proofs.Made.{made_wider, worn_wider}
+use Rattle.bd_path.proofs.Made.{made_wider, worn_wider}
 use Rattle.bd_flush.proofs.ChildCommits.{is_to_split_child, may_split, split_in_place, split_flushed, split_no_higher, split_visits, split_cause}
 use Rattle.bd_flush.proofs.PutBetween.{way_of, long_pivot}
 use Rattle.bd_flush.proofs.children.split_child.Goals as goal

@@ -1,6 +1,6 @@
 use Rattle.std.specs.Option.{option_copied}
 use Rattle.bd_inner.proofs.Fitting.{own_shape}
-use Rattle.bd_flush.proofs.ChildSplits.{edge_here}
+use Rattle.bd_node.proofs.Parts.{edge_here}
 use Rattle.bd_flush.proofs.Batches.{end_is}
 use Rattle.bd_flush.proofs.NewWays.{way_rising, on_way}
 use Rattle.bd_flush.proofs.planting.way.Goals as goal

@@ -1,5 +1,5 @@
 use Rattle.bd_inner.proofs.Fitting.{edge_lifted}
-use Rattle.bd_flush.proofs.ChildSplits.{edge_here}
+use Rattle.bd_node.proofs.Parts.{edge_here}
 use Rattle.bd_flush.proofs.Batches.{on_batch}
 use Rattle.bd_flush.proofs.pushing.edge_batch.Goals as goal
 

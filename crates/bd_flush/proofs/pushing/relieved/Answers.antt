@@ -1,4 +1,4 @@
-use Rattle.bd_flush.proofs.ChildSplits.{edge_here}
+use Rattle.bd_node.proofs.Parts.{edge_here}
 use Rattle.bd_flush.proofs.Batches.{seen_small, same_fits, on_relieved}
 use Rattle.bd_flush.proofs.pushing.relieved.Goals as goal
 

@@ -1,5 +1,5 @@
 use Rattle.std.specs.Option.{option_copied}
-use Rattle.bd_flush.proofs.ChildSplits.{edge_here}
+use Rattle.bd_node.proofs.Parts.{edge_here}
 use Rattle.bd_reclaim.proofs.Covers.{place_low, end_read, rising_read, past_all, none_more, first_one, none_at_all}
 use Rattle.bd_reclaim.proofs.covering.first_covered.Goals as goal
 

@@ -1,6 +1,6 @@
 use Rattle.std.specs.Option.{option_copied}
 use Rattle.bd_message.proofs.Finds.{not_both}
-use Rattle.bd_flush.proofs.ChildSplits.{edge_here}
+use Rattle.bd_node.proofs.Parts.{edge_here}
 use Rattle.bd_reclaim.proofs.Covers.{place_low, end_read, rising_read, past_all}
 use Rattle.bd_reclaim.proofs.Cuts.{none_cut_more, first_cut_here, no_cut_in}
 use Rattle.bd_reclaim.proofs.covering.first_cut.Goals as goal

@@ -1,12 +1,11 @@
 use Rattle.std.proofs.Common.{◌<◌, ◌≤◌, List, length, reverse, ap, sym, subst, arith, rules}
 use Rattle.bd_node.specs.declared.node.Edge.{Edge}
 use Rattle.bd_node.specs.declared.node.Node.{Node}
-use Rattle.bd_inner.specs.Halves.{edges_of}
-use Rattle.bd_flush.specs.declared.fetching.Fetched.{Fetched}
+use Rattle.bd_node.specs.Parts.{edges_of}
+use Rattle.bd_path.specs.declared.fetching.Fetched.{Fetched}
 use Rattle.bd_node.specs.Tables.{Table}
-use Rattle.bd_flush.specs.Children.{IsFetched}
-use Rattle.bd_flush.specs.Pushes.{IsOwn}
-use Rattle.bd_flush.specs.Raising.{IsWayUp}
+use Rattle.bd_path.specs.Fetching.{IsFetched, IsOwn}
+use Rattle.bd_path.specs.Raising.{IsWayUp}
 use Rattle.bd_reclaim.proofs.Begins.{popped_all, up_link, nothing_above, first_root, first_copied, first_below, first_further, copy_due, split_due, asked_here, asks_through, asks_plain}
 use Rattle.bd_reclaim.proofs.pushing.+split_first.Goals as goal
 

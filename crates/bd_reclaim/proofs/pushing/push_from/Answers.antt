@@ -1,4 +1,4 @@
-use Rattle.bd_flush.specs.Made.{AreKnown}
+use Rattle.bd_path.specs.Made.{AreKnown}
 use Rattle.bd_step.proofs.Making.{still_known}
 use Rattle.bd_reclaim.proofs.Begins.{push_on_ok, push_on_made, push_on_found, push_cause, stands_again, way_again, sound_before}
 use Rattle.bd_reclaim.proofs.pushing.push_from.Goals as goal

@@ -1,9 +1,9 @@
 use Rattle.std.proofs.Common.{List, length, reverse, ap, sym, subst, arith}
 use Rattle.bd_node.specs.declared.node.Edge.{Edge}
 use Rattle.bd_node.specs.declared.node.Node.{Node}
-use Rattle.bd_inner.specs.Halves.{edges_of}
-use Rattle.bd_flush.specs.declared.fetching.Fetched.{Fetched}
-use Rattle.bd_flush.specs.Ways.{AreOwn}
+use Rattle.bd_node.specs.Parts.{edges_of}
+use Rattle.bd_path.specs.declared.fetching.Fetched.{Fetched}
+use Rattle.bd_path.specs.Fetching.{AreOwn}
 use Rattle.bd_reclaim.specs.Pushing.{IsSplitFirst}
 use Rattle.bd_reclaim.proofs.Begins.{way_under, all_waited}
 use Rattle.bd_reclaim.proofs.pushing.push_step.Goals as goal

@@ -1,6 +1,6 @@
 use Rattle.std.proofs.Common.{arith}
 use Rattle.std.proofs.lemmas.Result.{err_from_is_err_and}
-use Rattle.bd_flush.specs.Made.{AreKnown}
+use Rattle.bd_path.specs.Made.{AreKnown}
 use Rattle.bd_step.proofs.Making.{is_waited, here_again, way_again, is_flush_step, still_known, flush_cause}
 use Rattle.bd_step.proofs.steps.flush_step.Goals as goal
 

@@ -1,11 +1,11 @@
 use Rattle.std.proofs.Common.{List, reverse, OnOk, sym, subst}
 use Rattle.bd_message.specs.KeyMaps.{HasMapCause}
-use Rattle.bd_flush.specs.declared.fetching.Fetched.{Fetched}
-use Rattle.bd_flush.specs.Made.{AreKnown, IsMadeBy, IsWornFor}
+use Rattle.bd_path.specs.declared.fetching.Fetched.{Fetched}
+use Rattle.bd_path.specs.Made.{AreKnown, IsMadeBy, IsWornFor}
 use Rattle.bd_flush.specs.Between.{IsSplitStep, IsHighSplit}
-use Rattle.bd_step.specs.Steps.{IsMade, IsWornStep}
-use Rattle.bd_flush.specs.declared.ways.FlushStep.{FlushStep}
-use Rattle.bd_flush.specs.Ways.{IsDue, IsStanding, IsWayThere}
+use Rattle.bd_step.specs.Steps.{IsFlushMade, IsWornStep}
+use Rattle.bd_step.specs.declared.ways.FlushStep.{FlushStep}
+use Rattle.bd_step.specs.Ways.{IsDue, IsStanding, IsWayThere}
 use Rattle.bd_step.proofs.Making.{can_carve, has_child, privatise_few, root_found, way_stands}
 use Rattle.bd_step.proofs.steps.make.Goals as goal
 
@@ -26,7 +26,7 @@ push_down-requires-clause-way_here g c = λ known sound.
 
 pub carve-requires-clause-can : goal.carve-requires-clause-can
 carve-requires-clause-can g c =
-    can_carve (g.S.NodeStore.table c.args.store.now) c.in-Carve.above c.in-Carve.parent c.in-Carve.place
+    can_carve (g.S.NodeStore.table c.args.store.now) c.in-Carve.above c.in-Carve.parent c.in-Carve.place c.in-Carve.index
     (subst (λ (s : FlushStep). IsDue (g.S.NodeStore.table c.args.store.now) s) c.in-Carve.is c.requires.due)
 
 pub privatise-requires-clause-can : goal.privatise-requires-clause-can
@@ -41,7 +41,7 @@ returns-in-Privatise-clause-few_visits g c =
 
 pub returns-in-SplitChild-clause-made : goal.returns-in-SplitChild-clause-made
 returns-in-SplitChild-clause-made g c = λ known sound.
-    subst (λ (s : FlushStep). OnOk c.split_child.result (IsMade (g.S.NodeStore.nodes c.args.store.now) (g.S.NodeStore.table c.args.store.now) s (g.S.NodeStore.nodes c.split_child.new.store) (g.S.NodeStore.table c.split_child.new.store))) (sym c.in-SplitChild.is)
+    subst (λ (s : FlushStep). OnOk c.split_child.result (IsFlushMade (g.S.NodeStore.nodes c.args.store.now) (g.S.NodeStore.table c.args.store.now) s (g.S.NodeStore.nodes c.split_child.new.store) (g.S.NodeStore.table c.split_child.new.store))) (sym c.in-SplitChild.is)
     (subst (λ (l : List Fetched). OnOk c.split_child.result (IsMadeBy (IsSplitStep (g.S.NodeStore.table c.args.store.now) (reverse l) c.in-SplitChild.parent c.in-SplitChild.place c.in-SplitChild.child) (g.S.NodeStore.nodes c.args.store.now) (g.S.NodeStore.table c.args.store.now) (g.S.NodeStore.nodes c.split_child.new.store) (g.S.NodeStore.table c.split_child.new.store))) c.as_slice.ensures (c.split_child.ensures.made known sound))
 
 pub returns-in-SplitChild-clause-cause : goal.returns-in-SplitChild-clause-cause
@@ -51,8 +51,8 @@ returns-in-SplitChild-clause-cause g c =
 
 pub returns-in-Push-clause-made : goal.returns-in-Push-clause-made
 returns-in-Push-clause-made g c = λ known sound.
-    subst (λ (s : FlushStep). OnOk c.push_down.result (IsMade (g.S.NodeStore.nodes c.args.store.now) (g.S.NodeStore.table c.args.store.now) s (g.S.NodeStore.nodes c.push_down.new.store) (g.S.NodeStore.table c.push_down.new.store))) (sym c.in-Push.is) (c.push_down.ensures.made known sound)
+    subst (λ (s : FlushStep). OnOk c.push_down.result (IsFlushMade (g.S.NodeStore.nodes c.args.store.now) (g.S.NodeStore.table c.args.store.now) s (g.S.NodeStore.nodes c.push_down.new.store) (g.S.NodeStore.table c.push_down.new.store))) (sym c.in-Push.is) (c.push_down.ensures.made known sound)
 
 pub returns-clause-made : goal.returns-clause-made
 returns-clause-made g c = λ known sound.
-    subst (λ (s : FlushStep). OnOk c.carve.result (IsMade (g.S.NodeStore.nodes c.args.store.now) (g.S.NodeStore.table c.args.store.now) s (g.S.NodeStore.nodes c.carve.new.store) (g.S.NodeStore.table c.carve.new.store))) (sym c.in-Carve.is) (c.carve.ensures.made known sound)
+    subst (λ (s : FlushStep). OnOk c.carve.result (IsFlushMade (g.S.NodeStore.nodes c.args.store.now) (g.S.NodeStore.table c.args.store.now) s (g.S.NodeStore.nodes c.carve.new.store) (g.S.NodeStore.table c.carve.new.store))) (sym c.in-Carve.is) (c.carve.ensures.made known sound)

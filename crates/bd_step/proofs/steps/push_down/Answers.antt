@@ -1,11 +1,11 @@
 use Rattle.std.proofs.Common.{Option, List, reverse, OnOk, sym, subst}
 use Rattle.bd_message.specs.KeyMaps.{HasMapCause}
-use Rattle.bd_flush.specs.Made.{AreKnown, IsMadeBy, IsWornFor}
+use Rattle.bd_path.specs.Made.{AreKnown, IsMadeBy, IsWornFor}
 use Rattle.bd_flush.specs.Pushes.{IsSomePush, IsHighPush}
-use Rattle.bd_step.specs.Steps.{IsMade, IsWornStep}
-use Rattle.bd_flush.specs.declared.fetching.Fetched.{Fetched}
-use Rattle.bd_flush.specs.declared.ways.FlushStep.TheVariants.{Push}
-use Rattle.bd_flush.specs.Ways.{IsDue, IsWaited}
+use Rattle.bd_step.specs.Steps.{IsFlushMade, IsWornStep}
+use Rattle.bd_path.specs.declared.fetching.Fetched.{Fetched}
+use Rattle.bd_step.specs.declared.ways.FlushStep.TheVariants.{Push}
+use Rattle.bd_step.specs.Ways.{IsDue, IsWaited}
 use Rattle.bd_step.proofs.Making.{can_push, can_push_new, way_stands}
 use Rattle.bd_step.proofs.steps.push_down.Goals as goal
 
@@ -26,7 +26,7 @@ push-requires-clause-contents g c = λ known sound. way_stands (g.S.NodeStore.no
 
 pub returns-clause-made : goal.returns-clause-made
 returns-clause-made g c = λ known sound.
-    subst (λ (o : Option Fetched). OnOk c.push.result (IsMade (g.S.NodeStore.nodes c.args.store.now) (g.S.NodeStore.table c.args.store.now) (Push c.args.above c.args.parent c.args.place o) (g.S.NodeStore.nodes c.push.new.store) (g.S.NodeStore.table c.push.new.store))) (sym c.in-Some.is)
+    subst (λ (o : Option Fetched). OnOk c.push.result (IsFlushMade (g.S.NodeStore.nodes c.args.store.now) (g.S.NodeStore.table c.args.store.now) (Push c.args.above c.args.parent c.args.place o) (g.S.NodeStore.nodes c.push.new.store) (g.S.NodeStore.table c.push.new.store))) (sym c.in-Some.is)
     (subst (λ (l : List Fetched). OnOk c.push.result (IsMadeBy (IsSomePush (g.S.NodeStore.table c.args.store.now).root (g.S.NodeStore.table c.args.store.now).next (reverse l) c.args.parent c.args.place c.in-Some.child) (g.S.NodeStore.nodes c.args.store.now) (g.S.NodeStore.table c.args.store.now) (g.S.NodeStore.nodes c.push.new.store) (g.S.NodeStore.table c.push.new.store))) c.as_slice.ensures (c.push.ensures.made known sound))
 
 pub returns-clause-cause : goal.returns-clause-cause

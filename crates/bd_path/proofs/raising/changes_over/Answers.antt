@@ -1,0 +1,15 @@
+use Rattle.std.proofs.Common.{arith, ap, ◌∙◌, ◌++◌, ◌∷◌, [], List}
+use Rattle.bd_node.specs.declared.node.Change.{Change}
+use Rattle.bd_path.proofs.Raisings.{none_over, on_over}
+use Rattle.bd_path.proofs.raising.changes_over.Goals as goal
+
+pub returns-then-level-own : goal.returns-then-level-own
+returns-then-level-own c =
+    none_over c.args.level c.level-own.result c.args.parent c.args.above.now c.push.new.self.items c.level-own.ensures (omega arith)
+    (c.in_ok-push.ensures.items ∙ ap (λ (l : List Change). l ++ c.args.parent ∷ []) c.new-changes.ensures.items)
+
+pub returns : goal.returns
+returns c =
+    on_over (λ v. v.items) c.args.level c.level-own.result c.args.parent c.args.above.now c.push-2.new.self.items c.in_ok-raised.field-0 c.raise_above.result c.level-own.ensures (omega arith)
+    (c.in_ok-push-2.ensures.items ∙ ap (λ (l : List Change). l ++ (record { id = c.args.parent.id; node = c.in_ok-raised.field-0 }) ∷ []) c.new-changes.ensures.items)
+    c.in_ok-raised.ensures c.raise_above.ensures

@@ -1,0 +1,269 @@
+-- The way down that a step of a flush takes, and what is to be done at its end.
+use Rattle.std.specs.Prelude.{◌≡◌, ◌≢◌, ℕ, ◌<◌, ◌≤◌, ◌⊎◌, List, [], length, reverse, Option, None, Some, slice_get, ⊤}
+use Rattle.std.specs.List.{AllByRecursion}
+use Rattle.bd_limits.specs.Limits.{soft_limit, room_edges, full_edges}
+use Rattle.bd_message.specs.declared.message.Message.{Message}
+use Rattle.bd_node.specs.declared.node.Edge.{Edge}
+use Rattle.bd_node.specs.declared.node.Node.{Node}
+use Rattle.bd_node.specs.Nodes.{level_of, buffer_size}
+use Rattle.bd_node.specs.Meaning.{Nodes}
+use Rattle.bd_node.specs.Shape.{IsPending}
+use Rattle.bd_node.specs.Tables.{Table}
+use Rattle.bd_node.specs.Parts.{edges_of, buffer_of, end_at, IsEdgeAt}
+use Rattle.bd_inner.specs.Moving.{SomeCanTouch}
+use Rattle.bd_path.specs.declared.fetching.Fetched.{Fetched}
+use Rattle.bd_step.specs.declared.ways.FlushStep.{FlushStep}
+use Rattle.bd_step.specs.declared.ways.FlushStep.TheVariants.{SplitRoot, SplitChild, Push, Privatise, Carve}
+use Rattle.bd_step.specs.declared.ways.Asked.{Asked}
+use Rattle.bd_step.specs.declared.ways.Asked.TheVariants.{Nothing, Through, Child}
+use Rattle.bd_step.specs.declared.ways.Look.{Look}
+use Rattle.bd_step.specs.declared.ways.Look.TheVariants.{Down, End}
+use Rattle.bd_step.specs.Pending.{IsFullest}
+use Rattle.bd_path.specs.Fetching.{IsFetched, IsWayTo, IsOwn, AreOwn}
+use Rattle.bd_flush.specs.Children.{CanSplitChild}
+use Rattle.bd_path.specs.Raising.{IsWayUp}
+use Rattle.bd_flush.specs.GoingDown.{child_level}
+use Rattle.bd_flush.specs.Pushes.{AllGoDown, unseen}
+use Rattle.bd_flush.specs.Carving.{IsOldestAt}
+
+-- most bytes of a node's messages are pending for the edge at a place
+pub record IsFullestAt (n : Node) (place : ℕ) : Type 0 where
+  pub bytes : ℕ
+  pub fullest : IsFullest (edges_of n) (buffer_of n) place bytes
+
+-- a message is pending for a node's edge at a place
+pub record HasPending (n : Node) (place : ℕ) (e : Edge) : Type 0 where
+  pub index : ℕ
+  pub message : Message
+  pub there : slice_get (buffer_of n) index ≡ Some message
+  pub pending : IsPending index message e (end_at n place)
+
+-- an edge of a node, on the way down from one: that one, or the edge for which most bytes wait, of the
+-- child of such an edge of a node with at most 14 edges, if the child is private, asked with nothing
+-- in front of a key, and more than 16,384 bytes wait in it
+pub data IsOnWay (nodes : Nodes) (t : Table) (from at : ℕ) : ℕ → ℕ → Type 0 where
+  start : IsOnWay nodes t from at from at
+  below : (id place c next : ℕ) (n m : Node) (e : Edge) → IsOnWay nodes t from at id place
+      → nodes id ≡ Some n → length (edges_of n) ≤ room_edges → IsWayTo n place c e → t.count c ≡ 1
+      → nodes c ≡ Some m → soft_limit < buffer_size m → IsFullestAt m next
+      → IsOnWay nodes t from at c next
+
+-- the fetched node is the root, or more than 16,384 bytes wait in it
+abbrev pub IsFull : Table → Fetched → Type 0
+IsFull t f = (f.id ≡ t.root) ⊎ (soft_limit < buffer_size f.node.value)
+
+-- it is at most as high as the root
+abbrev pub IsUpToRoot : Table → Fetched → Type 0
+IsUpToRoot t f = t.level f.id ≤ t.level t.root
+
+-- ---- what is to be done at an edge
+
+-- the child of an edge that asks nothing, or a private one with nothing in front of a key, in which
+-- no more than 16,384 bytes wait
+abbrev pub IsTarget : Table → Node → ℕ → Edge → Option Fetched → Type 0
+IsTarget t n place e None = IsEdgeAt n place e × (e.child ≡ None)
+IsTarget t n place e (Some child) =
+    IsWayTo n place child.id e × IsFetched t child × (t.count child.id ≡ 1)
+    × (buffer_size child.node.value ≤ soft_limit)
+
+-- a node from whose edge messages can be pushed to a child, or to a new leaf
+pub record IsReadyToPush (t : Table) (parent : Fetched) (place : ℕ) (child : Option Fetched) : Type 0
+  where
+    pub parent_is : IsFetched t parent
+    pub room : length (edges_of parent.node.value) ≤ room_edges
+    pub edge : Edge
+    pub target : IsTarget t parent.node.value place edge child
+    pub down : AllGoDown t.level (child_level t.level edge.child) parent.node.value place edge
+
+-- a node whose edge asks a shared child, or one with something in front of a key
+pub record IsShared (t : Table) (parent : Fetched) (place : ℕ) : Type 0 where
+  pub parent_is : IsFetched t parent
+  pub edge : Edge
+  pub here : IsEdgeAt parent.node.value place edge
+  pub child : ℕ
+  pub child_is : edge.child ≡ Some child
+  pub shared : (edge.source ≢ []) ⊎ (t.count child ≢ 1)
+
+-- a node from whose edge messages would be pushed, but that a Goto is pending for the edge which may
+-- not go down it, the oldest one at this index
+pub record HasHeldGoto (t : Table) (parent : Fetched) (place index : ℕ) : Type 0 where
+  pub parent_is : IsFetched t parent
+  pub room : length (edges_of parent.node.value) ≤ room_edges
+  pub edge : Edge
+  pub here : IsEdgeAt parent.node.value place edge
+  pub child : Option Fetched
+  pub target : IsTarget t parent.node.value place edge child
+  pub oldest : IsOldestAt t.level parent.node.value place edge index
+
+-- what is to be done at an edge, as far as the table tells
+abbrev pub IsDue : Table → FlushStep → Type 0
+IsDue t (SplitRoot root) =
+    IsFetched t root × (root.id ≡ t.root) × (full_edges ≤ length (edges_of root.node.value))
+IsDue t (SplitChild above parent place child) =
+    CanSplitChild t parent place child × IsUpToRoot t parent
+IsDue t (Push above parent place child) = IsReadyToPush t parent place child × IsUpToRoot t parent
+IsDue t (Privatise above parent place) = IsShared t parent place × IsUpToRoot t parent
+IsDue t (Carve above parent place index) = HasHeldGoto t parent place index × IsUpToRoot t parent
+
+-- more than 16,384 bytes wait in a child that is to be split
+abbrev pub HasFullChild : FlushStep → Type 0
+HasFullChild (SplitRoot root) = ⊤
+HasFullChild (SplitChild above parent place child) = soft_limit < buffer_size child.node.value
+HasFullChild (Push above parent place child) = ⊤
+HasFullChild (Privatise above parent place) = ⊤
+HasFullChild (Carve above parent place index) = ⊤
+
+-- a message is pending for the edge from which messages go down
+abbrev pub IsWaited : FlushStep → Type 0
+IsWaited (SplitRoot root) = ⊤
+IsWaited (SplitChild above parent place child) = ⊤
+IsWaited (Push above parent place child) = (e : Edge) → IsEdgeAt parent.node.value place e
+    → SomeCanTouch e (end_at parent.node.value place) (unseen parent.node.value e)
+IsWaited (Privatise above parent place) = ⊤
+IsWaited (Carve above parent place index) = ⊤
+
+-- ---- where it is to be done
+
+-- the step is at a node's edge, of which this holds
+abbrev pub AtEdge : (Fetched → ℕ → Type 0) → FlushStep → Type 0
+AtEdge P (SplitRoot root) = ⊥
+AtEdge P (SplitChild above parent place child) = P parent place
+AtEdge P (Push above parent place child) = P parent place
+AtEdge P (Privatise above parent place) = P parent place
+AtEdge P (Carve above parent place index) = P parent place
+
+-- the edge is this one
+abbrev pub IsSameEdge : Fetched → ℕ → Fetched → ℕ → Type 0
+IsSameEdge parent place p at = (p ≡ parent) × (at ≡ place)
+
+-- most bytes wait for the edge, of a node with at most 14 edges in which more than 16,384 do
+pub record IsFullEdge (f : Fetched) (place : ℕ) : Type 0 where
+  pub room : length (edges_of f.node.value) ≤ room_edges
+  pub fullest : IsFullestAt f.node.value place
+  pub full : soft_limit < buffer_size f.node.value
+
+-- the edge is this one, or further down
+abbrev pub IsFromEdge : Fetched → ℕ → Fetched → ℕ → Type 0
+IsFromEdge parent place p at = IsSameEdge parent place p at ⊎ IsFullEdge p at
+
+-- the step is at this edge, or at one further down
+abbrev pub IsStepFrom : Fetched → ℕ → FlushStep → Type 0
+IsStepFrom parent place step = AtEdge (IsFromEdge parent place) step
+
+-- most bytes wait for the edge at a place of a node of the way from the root, which has at most 14
+-- edges: one with more is split first
+pub record IsFullestIn (t : Table) (f : Fetched) (place : ℕ) : Type 0 where
+  pub room : length (edges_of f.node.value) ≤ room_edges
+  pub fullest : IsFullestAt f.node.value place
+  pub full : IsFull t f
+
+-- the root is split, or the step is at the edge for which most bytes wait
+abbrev pub IsAtFullest : Table → FlushStep → Type 0
+IsAtFullest t (SplitRoot root) = ⊤
+IsAtFullest t (SplitChild above parent place child) = IsFullestIn t parent place
+IsAtFullest t (Push above parent place child) = IsFullestIn t parent place
+IsAtFullest t (Privatise above parent place) = IsFullestIn t parent place
+IsAtFullest t (Carve above parent place index) = IsFullestIn t parent place
+
+-- what is to be done on the way by the edges for which most bytes wait, as far as the table tells
+abbrev pub IsToDo : Table → FlushStep → Type 0
+IsToDo t step = IsDue t step × IsAtFullest t step × HasFullChild step
+
+-- the child, if there is one
+abbrev pub IsChildThere : Nodes → Option Fetched → Type 0
+IsChildThere nodes None = ⊤
+IsChildThere nodes (Some child) = nodes child.id ≡ Some child.node.value
+
+-- it is to be done at private nodes of known ones
+abbrev pub IsStanding : Nodes → Table → FlushStep → Type 0
+IsStanding nodes t (SplitRoot root) = IsOwn nodes t root
+IsStanding nodes t (SplitChild above parent place child) =
+    IsOwn nodes t parent × IsOwn nodes t child
+IsStanding nodes t (Push above parent place child) = IsOwn nodes t parent × IsChildThere nodes child
+IsStanding nodes t (Privatise above parent place) = IsOwn nodes t parent
+IsStanding nodes t (Carve above parent place index) = IsOwn nodes t parent
+
+-- the step is at an edge on the way down from this one
+abbrev pub IsReached : Nodes → Table → ℕ → ℕ → FlushStep → Type 0
+IsReached nodes t from at step = AtEdge (λ f place. IsOnWay nodes t from at f.id place) step
+
+-- the step is at an edge on the way down from the root's edge for which most bytes wait
+pub record IsFromRoot (nodes : Nodes) (t : Table) (step : FlushStep) : Type 0 where
+  pub node : Node
+  pub there : nodes t.root ≡ Some node
+  pub place : ℕ
+  pub fullest : IsFullestAt node place
+  pub way : IsReached nodes t t.root place step
+
+-- the root is split, or the step is at an edge on the way from it
+abbrev pub HasWay : Nodes → Table → FlushStep → Type 0
+HasWay nodes t (SplitRoot root) = ⊤
+HasWay nodes t (SplitChild above parent place child) =
+    IsFromRoot nodes t (SplitChild above parent place child)
+HasWay nodes t (Push above parent place child) = IsFromRoot nodes t (Push above parent place child)
+HasWay nodes t (Privatise above parent place) = IsFromRoot nodes t (Privatise above parent place)
+HasWay nodes t (Carve above parent place index) = IsFromRoot nodes t (Carve above parent place index)
+
+-- where it is to be done, in known nodes
+abbrev pub IsToDoAt : Nodes → Table → FlushStep → Type 0
+IsToDoAt nodes t step = IsStanding nodes t step × HasWay nodes t step
+
+-- the nodes above the one where it is to be done, as far as the table tells
+abbrev pub IsWayOf : Table → FlushStep → Type 0
+IsWayOf t (SplitRoot root) = ⊤
+IsWayOf t (SplitChild above parent place child) = IsWayUp t parent.id (reverse above)
+IsWayOf t (Push above parent place child) = IsWayUp t parent.id (reverse above)
+IsWayOf t (Privatise above parent place) = IsWayUp t parent.id (reverse above)
+IsWayOf t (Carve above parent place index) = IsWayUp t parent.id (reverse above)
+
+-- the nodes above are such ones
+abbrev pub IsWayThere : Nodes → Table → FlushStep → Type 0
+IsWayThere nodes t (SplitRoot root) = ⊤
+IsWayThere nodes t (SplitChild above parent place child) = AreOwn nodes t (reverse above)
+IsWayThere nodes t (Push above parent place child) = AreOwn nodes t (reverse above)
+IsWayThere nodes t (Privatise above parent place) = AreOwn nodes t (reverse above)
+IsWayThere nodes t (Carve above parent place index) = AreOwn nodes t (reverse above)
+
+-- ---- from one node
+
+-- what an edge asks: nothing, a child with something in front of a key, or with nothing
+abbrev pub IsAsked : Node → ℕ → Asked → Type 0
+IsAsked n place Nothing = (e : Edge) × IsEdgeAt n place e × (e.child ≡ None)
+IsAsked n place Through =
+    (e : Edge) × (c : ℕ) × IsEdgeAt n place e × (e.child ≡ Some c) × (e.source ≢ [])
+IsAsked n place (Child c) = (e : Edge) × IsWayTo n place c e
+
+-- the way goes on at the private child of the edge at a place
+pub record IsNext (t : Table) (parent : Fetched) (place : ℕ) (child : Fetched) : Type 0 where
+  pub edge : Edge
+  pub way : IsWayTo parent.node.value place child.id edge
+  pub once : t.count child.id ≡ 1
+  pub child_is : IsFetched t child
+  pub lower : t.level child.id < t.level parent.id
+  pub inner : 1 ≤ level_of child.node.value
+  pub room : length (edges_of child.node.value) ≤ room_edges
+  pub full : soft_limit < buffer_size child.node.value
+
+-- the step is at this edge of a node
+abbrev pub IsStepAt : Fetched → ℕ → FlushStep → Type 0
+IsStepAt parent place step = AtEdge (IsSameEdge parent place) step
+
+-- what is seen from an edge of a node, as far as the table tells
+abbrev pub IsSeen : Table → Fetched → ℕ → Look → Type 0
+IsSeen t parent place (Down above child) = IsNext t parent place child
+IsSeen t parent place (End step) = IsDue t step × IsStepAt parent place step × HasFullChild step
+
+-- and in known nodes
+abbrev pub IsSeenAt : Nodes → Table → Look → Type 0
+IsSeenAt nodes t (Down above child) = IsOwn nodes t child
+IsSeenAt nodes t (End step) = IsStanding nodes t step
+
+-- the nodes above the next one or the one where something is to be done, as far as the table tells
+abbrev pub IsWaySeen : Table → Look → Type 0
+IsWaySeen t (Down above child) = IsWayUp t child.id (reverse above.items)
+IsWaySeen t (End step) = IsWayOf t step
+
+-- and in known nodes
+abbrev pub IsWaySeenAt : Nodes → Table → Look → Type 0
+IsWaySeenAt nodes t (Down above child) = AreOwn nodes t (reverse above.items)
+IsWaySeenAt nodes t (End step) = IsWayThere nodes t step
