@@ -7,12 +7,13 @@ ghost use Rattle.betr.specs.Words.{call_of, usage_line};
 ghost use Rattle.betr.specs.Run.{image_of, end_status, ends, Went, WritesLast, IsFlushed, seen, Uses, OnlyAttaches, IsFaultless};
 
 use crate::fault::{FAULT_SIZE, Fault};
-use crate::outcome::{Acks, Outcome};
+use crate::outcome::Outcome;
 use crate::session::run_script;
 use crate::shell::Shell;
 use crate::words::{Call, read_words};
 use bd_device::Attach;
 use bd_io::{Sink, Source, put_all};
+use bd_keys::Items;
 use bd_volume::Refused;
 use std::alloc::Global;
 
@@ -146,7 +147,7 @@ pub fn run<D: Attach, S: Source, K: Sink>(
         (faults (D.fault_count dev.new) 0 (S.fault_count src.new) (K.fault_count sink.new))
         → (result.status ≡ 0) ⊎ (result.status ≡ 6) ⊎ (result.status ≡ 8) }
 {
-    let acks = Acks::none(alloc);
+    let acks = Items::new(alloc);
     let Some(Call::Run { image }) = read_words(words) else {
         write_last(sink, USAGE);
         return Outcome {

@@ -6,13 +6,13 @@ use Rattle.betr.proofs.run.run.Goals as goal
 
 pub returns-in-Ok-clause-went : goal.returns-in-Ok-clause-went
 returns-in-Ok-clause-went g c =
-    of_any _ _ (went None 0 _ _ _ _ _ _ _ _ _ _ _ c.in-Ok.ensures.session refl tt (refl, refl) c.none-acks.ensures)
+    of_any _ _ (went None 0 _ _ _ _ _ _ _ _ _ _ _ c.in-Ok.ensures.session refl tt (refl, refl) c.new-acks.ensures)
 
 pub returns-in-Err-clause-went : goal.returns-in-Err-clause-went
 returns-in-Err-clause-went g c =
     let e = c.in-Err.fault in
     of_any _ _ (went (Some e) _ _ _ _ _ _ _ _ _ _ _ _ c.in-Err.ensures.session c.status.ensures c.in-Err.ensures.cause.cause
-    (writes_end e _ _ _ _ _ _ _ _ c.write_line-size.ensures.text c.write_last-in-Err.ensures.line) c.none-acks.ensures)
+    (writes_end e _ _ _ _ _ _ _ _ c.write_line-size.ensures.text c.write_last-in-Err.ensures.line) c.new-acks.ensures)
 
 pub returns-in-Err-clause-flushed : goal.returns-in-Err-clause-flushed
 returns-in-Err-clause-flushed g c =
