@@ -50,7 +50,7 @@ pub fn shorten<S: NodeStore>(alloc: Global, store: &mut S, node: &Node) -> Resul
     Ok(Node::Inner {
         level: *level,
         edges: Items::from_vec(edges),
-        buffer: Messages::from_vec(buffer),
+        buffer: Messages::indexed(buffer)?,
     })
 }
 
