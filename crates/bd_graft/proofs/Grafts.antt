@@ -17,11 +17,11 @@ use Rattle.bd_message.specs.KeyMaps.{HasMapCause, At, grafted, IsGrafted}
 use Rattle.bd_node.specs.declared.node.Node.{Node}
 use Rattle.bd_node.specs.declared.node.Change.{Change}
 use Rattle.bd_node.specs.declared.node.Step.{Step}
-use Rattle.bd_node.specs.Nodes.{level_of, names, times, message_names, edge_names, appended, node_at}
+use Rattle.bd_node.specs.Nodes.{level_of, buffer_size, names, times, message_names, edge_names, appended, node_at}
 use Rattle.bd_node.specs.Meaning.{Nodes, at, IsLevelled}
 use Rattle.bd_node.specs.Shape.{IsShape}
 use Rattle.bd_node.specs.Tables.{Table, IsKept, IsTable, IsLower, IsNodeOf, IsStored, IsSound, one_if, root_at}
-use Rattle.bd_node.specs.Steps.{given, after, level_or, level_after, given_times, IsThere, IsNamable, IsPut, IsChange, AreOnce, IsStep, IsInPlace, IsTableAfter, IsCommitted, IsWornBy}
+use Rattle.bd_node.specs.Steps.{given, after, level_or, level_after, given_times, IsThere, IsNamable, IsPut, IsChange, AreOnce, IsStep, IsInPlace, IsTableAfter, IsCommitted, IsWornBy, IsRootOf, extend_step}
 use Rattle.bd_node.specs.Stores.{visited}
 use Rattle.bd_message.specs.declared.fault.MapFault.{MapFault}
 use Rattle.bd_node.proofs.Lookup.{Agree, acts-same, node_at-same, each_weaker, each_first, each_second, each_both, count-cons_same, count-cons_le}
@@ -31,7 +31,7 @@ use Rattle.bd_node.proofs.Sound.{sound-levelled, one_if-same}
 use Rattle.bd_node.proofs.Stepping.{given-old, given-new, changed_at-same, changed_at-other, after-none, after-some, committed_meaning}
 use Rattle.bd_node.proofs.Closing.{begun, stay_above}
 use Rattle.bd_node.proofs.Edges.{not_less_lt}
-use Rattle.bd_node.proofs.Appending.{level_appended, node_at-appended}
+use Rattle.bd_node.proofs.Appending.{level_appended, node_at-appended, shape_appended}
 use Rattle.bd_node.proofs.Privacy.{root_private}
 use Rattle.bd_node.specs.Steps.HasRoom.{of_root}
 use Rattle.bd_node.specs.declared.node.Node.TheVariants.{Leaf, Inner}
@@ -45,7 +45,7 @@ use Rattle.bd_graft.specs.Laying.{above, laid, AreLayers}
 use Rattle.bd_graft.specs.Packing.{overlay, target_names, HasMade, IsUnder, AreOverlays, IsOver, IsPacked}
 use Rattle.bd_graft.proofs.Freeing.{names_both}
 use Rattle.bd_graft.proofs.Packs.{get_first, get_last, lower_more, no_more, one_more, id_range, overlay_has, overlay_shape}
-use Rattle.bd_graft.specs.Grafting.{graft_messages, root_change, top_made, step_under, step_over, IsReady}
+use Rattle.bd_graft.specs.Grafting.{graft_messages, top_made, step_under, step_over, IsReady}
 
 -- ---- what the messages of a graft do
 
@@ -415,14 +415,17 @@ pub ok_sound : {T E : Type 0} (nodes : Nodes) (t : Table) (step : Step) (new : N
 ok_sound nodes t step new u (Ok x) committed = committed.sound
 ok_sound nodes t step new u (Err e) committed = tt
 
-pub under_ready : (known : Type 0) (nodes : Nodes) (t : Table) (n new : Node) (packed : Packed) (s d : List ℕ) (keep : Bool) (step : Step) (root : ℕ) (list : List Message) → IsReady known nodes t s packed → IsTable t → IsNodeOf t (t.level t.root) n → packed.level < t.level t.root → root ≡ t.root
-    → list ≡ graft_messages s d keep packed.target → new ≡ appended n list → IsShape new → step ≡ root_change root new packed.made.items → IsUnderStep known nodes t n packed s d keep step
-under_ready known nodes t n new packed s d keep step root list ready table own low root_is list_is new_is shape is =
-    let node_is : new ≡ appended n (graft_messages s d keep packed.target) = new_is ∙ ap (λ (l : List Message). appended n l) list_is in
+pub under_ready : (known : Type 0) (nodes : Nodes) (t : Table) (n : Node) (packed : Packed) (s d : List ℕ) (keep : Bool) (made : List Node) (list : List Message) → IsReady known nodes t s packed → IsTable t → IsRootOf t n → packed.level < t.level t.root
+    → length s ≤ key_limit → length d ≤ key_limit → t.size + 1600 ≤ buffer_limit → t.next + length packed.made.items < 2 ^ 64 → made ≡ packed.made.items → list ≡ graft_messages s d keep packed.target → IsUnderStep known nodes t n packed s d keep (extend_step t n made list)
+under_ready known nodes t n packed s d keep made list ready table root low hs hd fits room made_is list_is =
+    let sent : List Message = graft_messages s d keep packed.target in
+    let messages = messages_are s d keep packed.target hs hd ready.packed_is.over.short (id_some t packed.made.items (packed.level + 1) packed.target table room ready.packed_is.over) in
+    let few : sum_by size sent ≤ 1600 = messages.1 in
+    let own : buffer_size n ≡ t.size = root.size in
     record {
       ready = ready;
-      low = record { table = table; own = own; shape = subst (λ (m : Node). IsShape m) node_is shape; low = low };
-      is = is ∙ ap (λ (r : ℕ). root_change r new packed.made.items) root_is ∙ ap (λ (m : Node). root_change t.root m packed.made.items) node_is;
+      low = record { table = table; own = root.of_table; shape = shape_appended n sent root.of_table.shape messages.0 (omega arith); low = low };
+      is = ap (λ (ms : List Node). extend_step t n ms list) made_is ∙ ap (λ (l : List Message). extend_step t n packed.made.items l) list_is;
     }
 
 pub worn_step : {T : Type 0} (before now : ℕ) (bad : ℕ → Type 0) (t : Table) (step other : Step) (r : Result T MapFault) → step ≡ other → HasMapCause before now bad (IsWornBy t step) r → HasMapCause before now bad (IsWornBy t other) r

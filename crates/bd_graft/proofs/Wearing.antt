@@ -17,7 +17,7 @@ use Rattle.bd_node.specs.declared.node.Node.{Node}
 use Rattle.bd_node.specs.declared.node.Node.TheVariants.{Leaf, Inner}
 use Rattle.bd_node.specs.declared.node.Change.{Change}
 use Rattle.bd_node.specs.declared.node.Step.{Step}
-use Rattle.bd_node.specs.Nodes.{buffer_size, appended, message_names, edge_names, times}
+use Rattle.bd_node.specs.Nodes.{level_of, buffer_size, appended, message_names, edge_names, times}
 use Rattle.bd_node.specs.Shape.{IsShape}
 use Rattle.bd_node.specs.Meaning.{Nodes}
 use Rattle.bd_node.proofs.Appending.{shape_appended}
@@ -28,9 +28,10 @@ use Rattle.bd_message.specs.declared.fault.MapFault.{MapFault}
 use Rattle.bd_message.specs.declared.fault.MapFault.TheVariants.{DeviceFault, Damaged, Worn, NoMemory}
 use Rattle.bd_node.specs.Tables.{Table, IsTable, IsNodeOf, one_if}
 use Rattle.bd_node.specs.Stores.{visited}
-use Rattle.bd_node.specs.Steps.{given_times, IsWornBy, IsPut, IsChange, IsStep}
+use Rattle.bd_node.specs.Steps.{given_times, added_times, IsWornBy, IsWornByAdding, IsPut, IsChange, IsStep}
 use Rattle.bd_node.proofs.Lookup.{each_weaker}
 use Rattle.bd_node.proofs.Sound.{one_if-same, one_if-other}
+use Rattle.bd_node.proofs.Extending.{times_extended}
 use Rattle.bd_inner.proofs.Splitting.{few_wait}
 use Rattle.bd_resolve.specs.declared.following.Target.{Target}
 use Rattle.bd_graft.specs.declared.layers.Layer.{Layer}
@@ -118,7 +119,23 @@ graft_worn t step h few high one Level worn = absurd worn
 graft_worn t step h few high one Epoch worn = worn
 graft_worn t step h few high one Flushes worn = worn
 
+-- the step that puts messages into the root is worn by what it adds
+adding_worn : (t : Table) (n : Node) (made : List Node) (list : List Message) → 1 ≤ level_of n → (counter : Counter) → IsWornByAdding t made list counter → IsWornBy t (step_under t n made list) counter
+adding_worn t n made list inner NextId worn = worn
+adding_worn t n made list inner Refs worn =
+    let id : ℕ = worn.0 in
+    let most : 2 ^ 64 ≤ t.count id + added_times made list id = worn.1 in
+    (id, omega (arith, most, times_extended n list id inner, sum_by-cons (λ (d : Change). times d.node id) (record { id = t.root; node = appended n list }) []))
+adding_worn t n made list inner Count worn = worn
+adding_worn t n made list inner Level worn = worn
+adding_worn t n made list inner Epoch worn = worn
+adding_worn t n made list inner Flushes worn = worn
+
 -- ---- what is returned
+
+pub extend_cause : {T : Type 0} (before now : ℕ) (bad : ℕ → Type 0) (t : Table) (n : Node) (made : List Node) (list : List Message) (r : Result T MapFault) → 1 ≤ level_of n → HasMapCause before now bad (IsWornByAdding t made list) r → HasMapCause before now bad (IsWornBy t (step_under t n made list)) r
+extend_cause before now bad t n made list r inner h =
+    cause_weaker before now bad (IsWornByAdding t made list) (IsWornBy t (step_under t n made list)) (adding_worn t n made list inner) r h
 
 pub cause_of : {T : Type 0} (before now : ℕ) (bad : ℕ → Type 0) (t : Table) (step : Step) (r : Result T MapFault) → IsStep t step → length step.made ≤ t.level t.root + 2 → t.level t.root ≤ level_limit → length step.changes ≤ 1 → HasMapCause before now bad (IsWornBy t step) r → HasMapCause before now bad (IsWornForGraft t) r
 cause_of before now bad t step r ok few high one h =

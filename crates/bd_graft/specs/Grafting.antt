@@ -11,7 +11,7 @@ use Rattle.bd_node.specs.declared.node.Node.{Node}
 use Rattle.bd_node.specs.declared.node.Step.{Step}
 use Rattle.bd_node.specs.Nodes.{appended}
 use Rattle.bd_node.specs.Tables.{Table, IsKept, IsSound, root_at}
-use Rattle.bd_node.specs.Steps.{IsWornBy}
+use Rattle.bd_node.specs.Steps.{IsWornBy, IsRootOf, extend_step}
 use Rattle.bd_resolve.specs.declared.following.Target.{Target}
 use Rattle.bd_graft.specs.declared.packing.Packed.{Packed}
 use Rattle.bd_graft.specs.declared.layers.Layer.{Layer}
@@ -28,14 +28,15 @@ abbrev pub graft_messages : List ℕ → List ℕ → Bool → Target → List M
 graft_messages s d keep target =
     Goto d target.source target.child ∷ (if keep then [] else Cut s [] ∷ [])
 
--- the step that changes the root, over made nodes
-abbrev pub root_change : ℕ → Node → List Node → Step
-root_change root n made =
-    record { made = made; changes = record { id = root; node = n } ∷ []; root = root }
-
 -- the step that puts messages into the root, over made nodes
 abbrev pub step_under : Table → Node → List Node → List Message → Step
-step_under t n made list = root_change t.root (appended n list) made
+step_under t n made list = extend_step t n made list
+
+-- the root, whether its node is known or not
+pub record HasRoot (known : Type 0) (nodes : Nodes) (t : Table) : Type 0 where
+  pub node : Node
+  pub is : IsRootOf t node
+  pub there : known → nodes t.root ≡ Some node
 
 -- the step that makes nodes and a new root after them
 abbrev pub top_made : List Node → Node → ℕ → Step

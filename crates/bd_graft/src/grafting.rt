@@ -4,9 +4,8 @@ ghost use Rattle.std.specs.Prelude.{ℕ, List, IfOk, IfErr, ◌++◌, ◌-◌, �
 ghost use Rattle.bd_limits.specs.Limits.{key_limit, buffer_limit, level_limit, graft_size};
 ghost use Rattle.bd_message.specs.KeyMaps.{HasMapCause, CanGraft, IsGrafted};
 ghost use Rattle.bd_node.specs.Frames.{OfSound, OnlyReads, Stays};
-ghost use Rattle.bd_node.specs.Nodes.{buffer_size};
-ghost use Rattle.bd_node.specs.Tables.{IsNodeOf, IsSound, root_at};
-ghost use Rattle.bd_node.specs.Steps.{IsWornBy};
+ghost use Rattle.bd_node.specs.Tables.{IsTable, IsSound, root_at};
+ghost use Rattle.bd_node.specs.Steps.{IsWornBy, IsWornByAdding};
 ghost use Rattle.bd_node.specs.Stores.{visited};
 ghost use Rattle.bd_keys.specs.Keys.{IsKey};
 ghost use Rattle.bd_message.specs.Effect.{acts};
@@ -14,15 +13,14 @@ ghost use Rattle.bd_node.specs.Meaning.{at};
 ghost use Rattle.bd_resolve.specs.Following.{target_at, IsShort};
 ghost use Rattle.bd_graft.specs.Laying.{laid, AreLayers};
 ghost use Rattle.bd_graft.specs.Ways.{IsWay, messages_in};
-ghost use Rattle.bd_graft.specs.Grafting.{graft_messages, root_change, top_made, step_under, step_over, IsReady, IsGrown, IsGraftStep, AreOthersSame, IsWornForGraft, IsWornByGraft, OnWorn};
+ghost use Rattle.bd_graft.specs.Grafting.{graft_messages, top_made, step_over, HasRoot, IsReady, IsGrown, IsGraftStep, AreOthersSame, IsWornForGraft, IsWornByGraft, OnWorn};
 
 use crate::packing::{Packed, overlay, overlay_count, pack};
 use crate::walking::{Walked, walk};
-use bd_inner::receive;
 use bd_keys::Bytes;
 use bd_limits::MAX_LEVEL;
 use bd_message::{Counter, MapFault, Message};
-use bd_node::{Change, Items, Messages, Node, NodeStore, Step};
+use bd_node::{Items, Messages, Node, NodeStore, Step};
 use bd_resolve::Target;
 use std::alloc::{AllocError, Global};
 
@@ -81,11 +79,14 @@ pub fn graft<S: NodeStore>(
     let before = store.visits();
     let root = store.root();
     let way = walk(alloc, store, s)?;
-    let node = store.fetch(root)?;
-    finish(alloc, store, &node, way, s, d, keep)?;
+    let height = {
+        let node = store.fetch(root)?;
+        node.level() + 1
+    };
+    finish(alloc, store, way, s, d, keep)?;
     Ok(Walk {
         visits: store.visits().saturating_sub(before),
-        height: node.level() + 1,
+        height,
     })
 }
 
@@ -93,19 +94,15 @@ pub fn graft<S: NodeStore>(
 fn finish<S: NodeStore>(
     alloc: Global,
     store: &mut S,
-    node: &Node,
     way: Walked,
     s: &[u8],
     d: &[u8],
     keep: bool,
 ) -> Result<(), MapFault>
-    requires own { IsNodeOf (S.table store.old)
-        ((S.table store.old).level (S.table store.old).root) node.now }
-    requires there { S.is_known store.old
-        → S.nodes store.old (S.table store.old).root ≡ Some node.now }
+    requires root { HasRoot (S.is_known store.old) (S.nodes store.old) (S.table store.old) }
     requires source { length s.now ≤ key_limit }
     requires target { length d.now ≤ key_limit }
-    requires fits { buffer_size node.now + graft_size ≤ buffer_limit }
+    requires fits { (S.table store.old).size + graft_size ≤ buffer_limit }
     requires layers { AreLayers (S.table store.old)
         ((S.table store.old).level (S.table store.old).root + 1) way.layers.items way.end }
     requires short { IsShort way.end }
@@ -146,10 +143,11 @@ fn finish<S: NodeStore>(
         return Err(MapFault::Worn(Counter::NextId));
     }
     let packed = pack(alloc, &*store, layers.as_slice(), end)?;
-    if packed.level < node.level() {
-        return put_under(alloc, store, node, packed, s, d, keep);
+    let level = store.level(store.root());
+    if packed.level < level {
+        return put_under(alloc, store, packed, s, d, keep);
     }
-    if node.level() >= MAX_LEVEL {
+    if level >= MAX_LEVEL {
         return Err(MapFault::Worn(Counter::Level));
     }
     if store.next_id().checked_add(count + 1).is_none() {
@@ -162,19 +160,15 @@ fn finish<S: NodeStore>(
 fn put_under<S: NodeStore>(
     alloc: Global,
     store: &mut S,
-    node: &Node,
     packed: Packed,
     s: &[u8],
     d: &[u8],
     keep: bool,
 ) -> Result<(), MapFault>
-    requires own { IsNodeOf (S.table store.old)
-        ((S.table store.old).level (S.table store.old).root) node.now }
-    requires there { S.is_known store.old
-        → S.nodes store.old (S.table store.old).root ≡ Some node.now }
+    requires root { HasRoot (S.is_known store.old) (S.nodes store.old) (S.table store.old) }
     requires source { length s.now ≤ key_limit }
     requires target { length d.now ≤ key_limit }
-    requires fits { buffer_size node.now + graft_size ≤ buffer_limit }
+    requires fits { (S.table store.old).size + graft_size ≤ buffer_limit }
     requires room { (S.table store.old).next + length packed.made.items < 2 ^ 64 }
     requires few { length packed.made.items
         ≤ (S.table store.old).level (S.table store.old).root + 1 }
@@ -196,17 +190,22 @@ fn put_under<S: NodeStore>(
     ensures stays { Stays S.NodeStore store.old store.new }
     ensures err { OnErr result (OnlyReads S.NodeStore store.old store.new) }
     ensures cause { HasMapCause (S.fault_count store.old) (S.fault_count store.new)
-        (S.bad store.new) (IsWornBy (S.table store.old) (step_under (S.table store.old) node.now
-        packed.made.items (graft_messages s.now d.now keep packed.target))) result }
+        (S.bad store.new) (IsWornByAdding (S.table store.old) packed.made.items
+        (graft_messages s.now d.now keep packed.target)) result }
     ensures visits { OnOk result (S.visit_count store.new
         ≡ visited (S.visit_count store.old) (length packed.made.items)) }
     ensures err_visits { OnErr result (S.visit_count store.new ≡ S.visit_count store.old) }
 {
-    let root = store.root();
+    is_table(&*store);
     let list = messages(alloc, s, d, keep, &packed.target)?;
-    let new = receive(alloc, node, list.as_slice())?;
-    let step = under(alloc, root, new, packed.made)?;
-    store.commit(step)
+    store.extend(Items::from_vec(packed.made), Messages::from_vec(list))
+}
+
+// The table is one. It does nothing.
+fn is_table<S: NodeStore>(store: &S)
+    ensures { IsTable (S.table store.now) }
+{
+    let _ = store.root();
 }
 
 // What is packed goes into a new root over the old one: one prefix is sent to it.
@@ -257,7 +256,7 @@ fn put_over<S: NodeStore>(
         child: root,
         source: Bytes::from_vec(Vec::new(alloc)),
     };
-    let top = overlay(alloc, level, Some(old), Messages::from_vec(list))?;
+    let top = overlay(alloc, level, Some(old), Messages::indexed(list)?)?;
     let step = over(alloc, packed.made, top, next)?;
     store.commit(step)
 }
@@ -286,19 +285,6 @@ fn messages(
         from: Bytes::from_vec(Vec::new(alloc)),
     })?;
     Ok(list)
-}
-
-// The step that changes the root and makes nodes.
-fn under(alloc: Global, root: u64, node: Node, made: Vec<Node>) -> Result<Step, AllocError>
-    ensures { IfOk result (λ step. step ≡ root_change root node made.items) }
-{
-    let mut changes = Vec::new(alloc);
-    changes.push(Change { id: root, node })?;
-    Ok(Step {
-        made: Items::from_vec(made),
-        changes: Items::from_vec(changes),
-        root,
-    })
 }
 
 // The step that makes nodes and a new root after them.

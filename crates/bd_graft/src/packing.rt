@@ -232,7 +232,7 @@ fn closed(alloc: Global, stack: Stack, next: u64) -> Result<Stack, AllocError>
     } = stack;
     let child = next + made.len() as u64;
     let level = level.max(1);
-    made.push(overlay(alloc, level, under, Messages::from_vec(waiting))?)?;
+    made.push(overlay(alloc, level, under, Messages::indexed(waiting)?)?)?;
     Ok(Stack {
         made,
         under: Some(Target {

@@ -1,4 +1,4 @@
-use Rattle.std.proofs.Common.{refl, arith, subst, sym, ◌∙◌, List, length, ◌+◌, ◌≤◌, ◌<◌, ◌^◌}
+use Rattle.std.proofs.Common.{refl, ap, arith, subst, sym, ◌∙◌, List, length, ◌+◌, ◌≤◌, ◌<◌, ◌^◌}
 use Rattle.bd_limits.specs.Limits.{level_limit}
 use Rattle.bd_node.specs.Tables.{Table}
 use Rattle.bd_graft.specs.declared.layers.Layer.{Layer}
@@ -10,14 +10,15 @@ use Rattle.bd_graft.proofs.Grouping.{layers_fit, packed_length}
 use Rattle.bd_graft.proofs.Counters.{count_few, count_is, worn_ids, worn_top, worn_level, worn_under, worn_over}
 use Rattle.bd_graft.specs.Grafting.{graft_messages, step_under, step_over, IsReady}
 use Rattle.bd_graft.proofs.Laying.{level_high}
-use Rattle.bd_graft.proofs.Wearing.{layers_raise, layers_few, few_visited, sum_past, sum_within, over_few, cause_of, under_ok, over_ok, packed_low}
+use Rattle.bd_graft.proofs.Wearing.{layers_raise, layers_few, few_visited, sum_past, sum_within, over_few, cause_of, extend_cause, under_ok, over_ok, packed_low}
+use Rattle.bd_node.proofs.Extending.{root_inner}
 use Rattle.bd_graft.proofs.grafting.finish.Goals as goal
 
 pub pack-requires-clause-layers : goal.pack-requires-clause-layers
 pack-requires-clause-layers g c =
     let t : Table = g.S.NodeStore.table c.args.store.now in
     subst (λ (ls : List Layer). AreLayers t (level_limit + 1) ls c.args.way.end) (sym c.as_slice-2.ensures.value)
-    (layers_raise t (t.level t.root + 1) (level_limit + 1) c.args.way.layers.items c.args.way.end (omega (arith, level_high c.args.node.now c.requires.own.shape, c.requires.own.level_is)) c.requires.layers)
+    (layers_raise t (t.level t.root + 1) (level_limit + 1) c.args.way.layers.items c.args.way.end (omega (arith, level_high c.requires.root.node c.requires.root.is.of_table.shape, c.requires.root.is.of_table.level_is)) c.requires.layers)
 
 pub put_under-requires-clause-few : goal.put_under-requires-clause-few
 put_under-requires-clause-few g c =
@@ -55,7 +56,7 @@ pub returns-then-packed-level-clause-cause : goal.returns-then-packed-level-clau
 returns-then-packed-level-clause-cause g c =
     let t : Table = g.S.NodeStore.table c.args.store.now in
     let made : length c.in_ok-packed.packed.made.items ≤ t.level t.root + 1 = omega (arith, c.in_ok-packed.ensures.few, c.as_slice-2.ensures.len, layers_few t (t.level t.root) c.args.way.layers.items c.args.way.end c.requires.layers) in
-    let high : t.level t.root ≤ level_limit = omega (arith, level_high c.args.node.now c.requires.own.shape, c.requires.own.level_is) in
+    let high : t.level t.root ≤ level_limit = omega (arith, level_high c.requires.root.node c.requires.root.is.of_table.shape, c.requires.root.is.of_table.level_is) in
     let room : t.next + length c.in_ok-packed.packed.made.items < 2 ^ 64 = omega (arith, sum_within _ _ _ _ c.checked_add.ensures c.is_none.ensures c.if-is_none.false, c.next_id.ensures.value, count_is c.args.way.end c.as_slice-2.result.now c.as_slice.result.now c.overlay_count-count.result (c.as_slice.ensures.value ∙ sym c.as_slice-2.ensures.value) c.overlay_count-count.ensures, packed_length t c.args.way.end (overlaid c.args.way.end (packs (messages_in c.as_slice-2.result.now))) c.in_ok-packed.packed c.in_ok-packed.ensures.groups) in
     let ready : IsReady (g.S.NodeStore.is_known c.args.store.now) (g.S.NodeStore.nodes c.args.store.now) t c.args.s.now c.in_ok-packed.packed = record {
       layers = c.args.way.layers.items;
@@ -67,16 +68,17 @@ returns-then-packed-level-clause-cause g c =
       groups = subst (λ (ls : List Layer). IsPackedWith t c.args.way.end (overlaid c.args.way.end (packs (messages_in ls))) c.in_ok-packed.packed) c.as_slice-2.ensures.value c.in_ok-packed.ensures.groups;
     } in
     cause_of (g.S.NodeStore.fault_count c.args.store.now) (g.S.NodeStore.fault_count c.put_under.new.store) (g.S.NodeStore.bad c.put_under.new.store) t
-    (step_under t c.args.node.now c.in_ok-packed.packed.made.items (graft_messages c.args.s.now c.args.d.now c.args.keep c.in_ok-packed.packed.target)) c.put_under.result
-    (under_ok (g.S.NodeStore.is_known c.args.store.now) (g.S.NodeStore.nodes c.args.store.now) t c.args.node.now c.in_ok-packed.packed c.args.s.now c.args.d.now c.args.keep ready c.next_id.ensures.table c.requires.own
-    (omega (arith, c.if-packed-level.true, c.level.ensures, c.requires.own.level_is)) c.requires.source c.requires.target c.requires.fits room)
-    (omega (arith, made)) high (omega arith) c.put_under.ensures.cause
+    (step_under t c.requires.root.node c.in_ok-packed.packed.made.items (graft_messages c.args.s.now c.args.d.now c.args.keep c.in_ok-packed.packed.target)) c.put_under.result
+    (under_ok (g.S.NodeStore.is_known c.args.store.now) (g.S.NodeStore.nodes c.args.store.now) t c.requires.root.node c.in_ok-packed.packed c.args.s.now c.args.d.now c.args.keep ready c.next_id.ensures.table c.requires.root.is.of_table
+    (omega (arith, c.if-packed-level.true, c.level-level.ensures ∙ ap t.level c.root.ensures.value)) c.requires.source c.requires.target (omega (arith, c.requires.root.is.size, c.requires.fits)) room)
+    (omega (arith, made)) high (omega arith)
+    (extend_cause (g.S.NodeStore.fault_count c.args.store.now) (g.S.NodeStore.fault_count c.put_under.new.store) (g.S.NodeStore.bad c.put_under.new.store) t c.requires.root.node c.in_ok-packed.packed.made.items (graft_messages c.args.s.now c.args.d.now c.args.keep c.in_ok-packed.packed.target) c.put_under.result (root_inner t c.requires.root.node c.next_id.ensures.table c.requires.root.is) c.put_under.ensures.cause)
 
 pub returns-clause-cause : goal.returns-clause-cause
 returns-clause-cause g c =
     let t : Table = g.S.NodeStore.table c.args.store.now in
     let made : length c.in_ok-packed.packed.made.items ≤ t.level t.root + 1 = omega (arith, c.in_ok-packed.ensures.few, c.as_slice-2.ensures.len, layers_few t (t.level t.root) c.args.way.layers.items c.args.way.end c.requires.layers) in
-    let high : t.level t.root < level_limit = omega (arith, c.if-level-ge-MAX_LEVEL.false, c.level-2.ensures, c.requires.own.level_is) in
+    let high : t.level t.root < level_limit = omega (arith, c.if-level-ge-MAX_LEVEL.false, c.level-level.ensures ∙ ap t.level c.root.ensures.value) in
     let room : t.next + length c.in_ok-packed.packed.made.items < 2 ^ 64 = omega (arith, sum_within _ _ _ _ c.checked_add.ensures c.is_none.ensures c.if-is_none.false, c.next_id.ensures.value, count_is c.args.way.end c.as_slice-2.result.now c.as_slice.result.now c.overlay_count-count.result (c.as_slice.ensures.value ∙ sym c.as_slice-2.ensures.value) c.overlay_count-count.ensures, packed_length t c.args.way.end (overlaid c.args.way.end (packs (messages_in c.as_slice-2.result.now))) c.in_ok-packed.packed c.in_ok-packed.ensures.groups) in
     let ready : IsReady (g.S.NodeStore.is_known c.args.store.now) (g.S.NodeStore.nodes c.args.store.now) t c.args.s.now c.in_ok-packed.packed = record {
       layers = c.args.way.layers.items;
@@ -117,7 +119,7 @@ put_over-requires-clause-room g c =
 pub returns-then-is_none-clause-worn : goal.returns-then-is_none-clause-worn
 returns-then-is_none-clause-worn g c = λ known sound.
     let t : Table = g.S.NodeStore.table c.args.store.now in
-    worn_ids (g.S.NodeStore.nodes c.args.store.now) t c.args.node.now c.args.s.now c.args.d.now c.args.keep (messages_in c.args.way.layers.items) c.args.way.end (c.requires.there known) (c.requires.way known sound)
+    worn_ids (g.S.NodeStore.nodes c.args.store.now) t c.requires.root.node c.args.s.now c.args.d.now c.args.keep (messages_in c.args.way.layers.items) c.args.way.end (c.requires.root.there known) (c.requires.way known sound)
     (omega (arith, sum_past _ _ _ _ c.checked_add.ensures c.is_none.ensures c.if-is_none.true, c.next_id.ensures.value, count_is c.args.way.end c.args.way.layers.items c.as_slice.result.now c.overlay_count-count.result c.as_slice.ensures.value c.overlay_count-count.ensures))
 
 pub returns-then-packed-level-clause-worn : goal.returns-then-packed-level-clause-worn
@@ -132,8 +134,9 @@ returns-then-packed-level-clause-worn g c = λ known sound.
       way = c.requires.way;
       groups = subst (λ (ls : List Layer). IsPackedWith t c.args.way.end (overlaid c.args.way.end (packs (messages_in ls))) c.in_ok-packed.packed) c.as_slice-2.ensures.value c.in_ok-packed.ensures.groups;
     } in
-    worn_under (g.S.NodeStore.fault_count c.args.store.now) (g.S.NodeStore.fault_count c.put_under.new.store) (g.S.NodeStore.bad c.put_under.new.store) (g.S.NodeStore.is_known c.args.store.now) (g.S.NodeStore.nodes c.args.store.now) t c.args.node.now c.in_ok-packed.packed c.args.s.now c.args.d.now c.args.keep c.put_under.result
-    ready known sound (c.requires.there known) (omega (arith, c.if-packed-level.true, c.level.ensures, c.requires.own.level_is)) c.put_under.ensures.cause
+    worn_under (g.S.NodeStore.fault_count c.args.store.now) (g.S.NodeStore.fault_count c.put_under.new.store) (g.S.NodeStore.bad c.put_under.new.store) (g.S.NodeStore.is_known c.args.store.now) (g.S.NodeStore.nodes c.args.store.now) t c.requires.root.node c.in_ok-packed.packed c.args.s.now c.args.d.now c.args.keep c.put_under.result
+    ready known sound (c.requires.root.there known) (omega (arith, c.if-packed-level.true, c.level-level.ensures ∙ ap t.level c.root.ensures.value))
+    (extend_cause (g.S.NodeStore.fault_count c.args.store.now) (g.S.NodeStore.fault_count c.put_under.new.store) (g.S.NodeStore.bad c.put_under.new.store) t c.requires.root.node c.in_ok-packed.packed.made.items (graft_messages c.args.s.now c.args.d.now c.args.keep c.in_ok-packed.packed.target) c.put_under.result (root_inner t c.requires.root.node sound.table c.requires.root.is) c.put_under.ensures.cause)
 
 pub returns-then-level-ge-MAX_LEVEL-clause-worn : goal.returns-then-level-ge-MAX_LEVEL-clause-worn
 returns-then-level-ge-MAX_LEVEL-clause-worn g c = λ known sound.
@@ -147,8 +150,8 @@ returns-then-level-ge-MAX_LEVEL-clause-worn g c = λ known sound.
       way = c.requires.way;
       groups = subst (λ (ls : List Layer). IsPackedWith t c.args.way.end (overlaid c.args.way.end (packs (messages_in ls))) c.in_ok-packed.packed) c.as_slice-2.ensures.value c.in_ok-packed.ensures.groups;
     } in
-    worn_level (g.S.NodeStore.is_known c.args.store.now) (g.S.NodeStore.nodes c.args.store.now) t c.args.node.now c.in_ok-packed.packed c.args.s.now c.args.d.now c.args.keep
-    ready known sound (c.requires.there known) (omega (arith, c.if-packed-level.false, c.level.ensures, c.requires.own.level_is)) (omega (arith, c.if-level-ge-MAX_LEVEL.true, c.level-2.ensures, c.requires.own.level_is, level_high c.args.node.now c.requires.own.shape))
+    worn_level (g.S.NodeStore.is_known c.args.store.now) (g.S.NodeStore.nodes c.args.store.now) t c.requires.root.node c.in_ok-packed.packed c.args.s.now c.args.d.now c.args.keep
+    ready known sound (c.requires.root.there known) (omega (arith, c.if-packed-level.false, c.level-level.ensures ∙ ap t.level c.root.ensures.value)) (omega (arith, c.if-level-ge-MAX_LEVEL.true, c.level-level.ensures ∙ ap t.level c.root.ensures.value, level_high c.requires.root.node c.requires.root.is.of_table.shape))
 
 pub returns-then-is_none-2-clause-worn : goal.returns-then-is_none-2-clause-worn
 returns-then-is_none-2-clause-worn g c = λ known sound.
@@ -162,8 +165,8 @@ returns-then-is_none-2-clause-worn g c = λ known sound.
       way = c.requires.way;
       groups = subst (λ (ls : List Layer). IsPackedWith t c.args.way.end (overlaid c.args.way.end (packs (messages_in ls))) c.in_ok-packed.packed) c.as_slice-2.ensures.value c.in_ok-packed.ensures.groups;
     } in
-    worn_top (g.S.NodeStore.is_known c.args.store.now) (g.S.NodeStore.nodes c.args.store.now) t c.args.node.now c.in_ok-packed.packed c.args.s.now c.args.d.now c.args.keep
-    ready known sound (c.requires.there known) (omega (arith, c.if-packed-level.false, c.level.ensures, c.requires.own.level_is))
+    worn_top (g.S.NodeStore.is_known c.args.store.now) (g.S.NodeStore.nodes c.args.store.now) t c.requires.root.node c.in_ok-packed.packed c.args.s.now c.args.d.now c.args.keep
+    ready known sound (c.requires.root.there known) (omega (arith, c.if-packed-level.false, c.level-level.ensures ∙ ap t.level c.root.ensures.value))
     (omega (arith, sum_past _ _ _ _ c.checked_add-2.ensures c.is_none-2.ensures c.if-is_none-2.true, c.next_id-2.ensures.value, count_is c.args.way.end c.as_slice-2.result.now c.as_slice.result.now c.overlay_count-count.result (c.as_slice.ensures.value ∙ sym c.as_slice-2.ensures.value) c.overlay_count-count.ensures, packed_length t c.args.way.end (overlaid c.args.way.end (packs (messages_in c.as_slice-2.result.now))) c.in_ok-packed.packed c.in_ok-packed.ensures.groups))
 
 pub returns-clause-worn : goal.returns-clause-worn
@@ -178,8 +181,8 @@ returns-clause-worn g c = λ known sound.
       way = c.requires.way;
       groups = subst (λ (ls : List Layer). IsPackedWith t c.args.way.end (overlaid c.args.way.end (packs (messages_in ls))) c.in_ok-packed.packed) c.as_slice-2.ensures.value c.in_ok-packed.ensures.groups;
     } in
-    worn_over (g.S.NodeStore.fault_count c.args.store.now) (g.S.NodeStore.fault_count c.put_over.new.store) (g.S.NodeStore.bad c.put_over.new.store) (g.S.NodeStore.is_known c.args.store.now) (g.S.NodeStore.nodes c.args.store.now) t c.args.node.now c.in_ok-packed.packed c.args.s.now c.args.d.now c.args.keep c.put_over.result
-    ready known sound (c.requires.there known) (omega (arith, c.if-packed-level.false, c.level.ensures, c.requires.own.level_is)) c.put_over.ensures.cause
+    worn_over (g.S.NodeStore.fault_count c.args.store.now) (g.S.NodeStore.fault_count c.put_over.new.store) (g.S.NodeStore.bad c.put_over.new.store) (g.S.NodeStore.is_known c.args.store.now) (g.S.NodeStore.nodes c.args.store.now) t c.requires.root.node c.in_ok-packed.packed c.args.s.now c.args.d.now c.args.keep c.put_over.result
+    ready known sound (c.requires.root.there known) (omega (arith, c.if-packed-level.false, c.level-level.ensures ∙ ap t.level c.root.ensures.value)) c.put_over.ensures.cause
 
 pub returns-then-is_none-2-clause-cause : goal.returns-then-is_none-2-clause-cause
 returns-then-is_none-2-clause-cause g c =

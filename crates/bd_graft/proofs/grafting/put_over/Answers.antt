@@ -8,63 +8,63 @@ use Rattle.bd_graft.proofs.grafting.put_over.Goals as goal
 pub commit-requires-clause-step : goal.commit-requires-clause-step
 commit-requires-clause-step g c =
     over_step (g.S.NodeStore.is_known c.args.store.now) (g.S.NodeStore.nodes c.args.store.now) (g.S.NodeStore.table c.args.store.now) c.args.packed c.args.s.now c.args.d.now c.args.keep c.in_ok-step.step
-    (over_ready (g.S.NodeStore.is_known c.args.store.now) (g.S.NodeStore.nodes c.args.store.now) (g.S.NodeStore.table c.args.store.now) c.in_ok-top.top c.args.packed c.args.s.now c.args.d.now c.args.keep c.in_ok-step.step c.root-root.result c.next_id-next.result (c.level-level.result + 1) c.from_vec-2.result
+    (over_ready (g.S.NodeStore.is_known c.args.store.now) (g.S.NodeStore.nodes c.args.store.now) (g.S.NodeStore.table c.args.store.now) c.in_ok-top.top c.args.packed c.args.s.now c.args.d.now c.args.keep c.in_ok-step.step c.root-root.result c.next_id-next.result (c.level-level.result + 1) c.in_ok-indexed.field-0
     c.requires.ready c.root-root.ensures.table c.requires.room c.requires.level c.requires.low c.requires.source c.requires.target c.root-root.ensures.value c.next_id-next.ensures.value
-    (ap (λ (n : ℕ). n + 1) (c.level-level.ensures ∙ ap (g.S.NodeStore.table c.args.store.now).level c.root-root.ensures.value)) (c.from_vec-2.ensures ∙ c.in_ok-list.ensures)
-    (c.in_ok-top.ensures ∙ ap (λ (q : List ℕ). overlay (c.level-level.result + 1) (Some (record { child = c.root-root.result; source = q })) c.from_vec-2.result) (c.from_vec.ensures ∙ c.new.ensures.items)) c.in_ok-step.ensures)
+    (ap (λ (n : ℕ). n + 1) (c.level-level.ensures ∙ ap (g.S.NodeStore.table c.args.store.now).level c.root-root.ensures.value)) (c.in_ok-indexed.ensures ∙ c.in_ok-list.ensures)
+    (c.in_ok-top.ensures ∙ ap (λ (q : List ℕ). overlay (c.level-level.result + 1) (Some (record { child = c.root-root.result; source = q })) c.in_ok-indexed.field-0) (c.from_vec.ensures ∙ c.new.ensures.items)) c.in_ok-step.ensures)
 
 pub commit-requires-clause-in_place : goal.commit-requires-clause-in_place
 commit-requires-clause-in_place g c = λ known sound.
     over_place (g.S.NodeStore.is_known c.args.store.now) (g.S.NodeStore.nodes c.args.store.now) (g.S.NodeStore.table c.args.store.now) c.args.packed c.args.s.now c.args.d.now c.args.keep c.in_ok-step.step
-    (over_ready (g.S.NodeStore.is_known c.args.store.now) (g.S.NodeStore.nodes c.args.store.now) (g.S.NodeStore.table c.args.store.now) c.in_ok-top.top c.args.packed c.args.s.now c.args.d.now c.args.keep c.in_ok-step.step c.root-root.result c.next_id-next.result (c.level-level.result + 1) c.from_vec-2.result
+    (over_ready (g.S.NodeStore.is_known c.args.store.now) (g.S.NodeStore.nodes c.args.store.now) (g.S.NodeStore.table c.args.store.now) c.in_ok-top.top c.args.packed c.args.s.now c.args.d.now c.args.keep c.in_ok-step.step c.root-root.result c.next_id-next.result (c.level-level.result + 1) c.in_ok-indexed.field-0
     c.requires.ready c.root-root.ensures.table c.requires.room c.requires.level c.requires.low c.requires.source c.requires.target c.root-root.ensures.value c.next_id-next.ensures.value
-    (ap (λ (n : ℕ). n + 1) (c.level-level.ensures ∙ ap (g.S.NodeStore.table c.args.store.now).level c.root-root.ensures.value)) (c.from_vec-2.ensures ∙ c.in_ok-list.ensures)
-    (c.in_ok-top.ensures ∙ ap (λ (q : List ℕ). overlay (c.level-level.result + 1) (Some (record { child = c.root-root.result; source = q })) c.from_vec-2.result) (c.from_vec.ensures ∙ c.new.ensures.items)) c.in_ok-step.ensures) sound
+    (ap (λ (n : ℕ). n + 1) (c.level-level.ensures ∙ ap (g.S.NodeStore.table c.args.store.now).level c.root-root.ensures.value)) (c.in_ok-indexed.ensures ∙ c.in_ok-list.ensures)
+    (c.in_ok-top.ensures ∙ ap (λ (q : List ℕ). overlay (c.level-level.result + 1) (Some (record { child = c.root-root.result; source = q })) c.in_ok-indexed.field-0) (c.from_vec.ensures ∙ c.new.ensures.items)) c.in_ok-step.ensures) sound
 
 pub returns-clause-grafted : goal.returns-clause-grafted
 returns-clause-grafted g c = λ known sound.
     over_done (g.S.NodeStore.is_known c.args.store.now) (g.S.NodeStore.nodes c.args.store.now) (g.S.NodeStore.table c.args.store.now) c.args.packed c.args.s.now c.args.d.now c.args.keep c.in_ok-step.step (g.S.NodeStore.nodes c.commit.new.self) (g.S.NodeStore.table c.commit.new.self) c.commit.result
-    (over_ready (g.S.NodeStore.is_known c.args.store.now) (g.S.NodeStore.nodes c.args.store.now) (g.S.NodeStore.table c.args.store.now) c.in_ok-top.top c.args.packed c.args.s.now c.args.d.now c.args.keep c.in_ok-step.step c.root-root.result c.next_id-next.result (c.level-level.result + 1) c.from_vec-2.result
+    (over_ready (g.S.NodeStore.is_known c.args.store.now) (g.S.NodeStore.nodes c.args.store.now) (g.S.NodeStore.table c.args.store.now) c.in_ok-top.top c.args.packed c.args.s.now c.args.d.now c.args.keep c.in_ok-step.step c.root-root.result c.next_id-next.result (c.level-level.result + 1) c.in_ok-indexed.field-0
     c.requires.ready c.root-root.ensures.table c.requires.room c.requires.level c.requires.low c.requires.source c.requires.target c.root-root.ensures.value c.next_id-next.ensures.value
-    (ap (λ (n : ℕ). n + 1) (c.level-level.ensures ∙ ap (g.S.NodeStore.table c.args.store.now).level c.root-root.ensures.value)) (c.from_vec-2.ensures ∙ c.in_ok-list.ensures)
-    (c.in_ok-top.ensures ∙ ap (λ (q : List ℕ). overlay (c.level-level.result + 1) (Some (record { child = c.root-root.result; source = q })) c.from_vec-2.result) (c.from_vec.ensures ∙ c.new.ensures.items)) c.in_ok-step.ensures) known sound c.commit.ensures.table (c.commit.ensures.committed known sound)
+    (ap (λ (n : ℕ). n + 1) (c.level-level.ensures ∙ ap (g.S.NodeStore.table c.args.store.now).level c.root-root.ensures.value)) (c.in_ok-indexed.ensures ∙ c.in_ok-list.ensures)
+    (c.in_ok-top.ensures ∙ ap (λ (q : List ℕ). overlay (c.level-level.result + 1) (Some (record { child = c.root-root.result; source = q })) c.in_ok-indexed.field-0) (c.from_vec.ensures ∙ c.new.ensures.items)) c.in_ok-step.ensures) known sound c.commit.ensures.table (c.commit.ensures.committed known sound)
 
 pub returns-clause-step : goal.returns-clause-step
 returns-clause-step g c = λ known sound.
     over_left (g.S.NodeStore.is_known c.args.store.now) (g.S.NodeStore.nodes c.args.store.now) (g.S.NodeStore.table c.args.store.now) c.args.packed c.args.s.now c.args.d.now c.args.keep c.in_ok-step.step (g.S.NodeStore.nodes c.commit.new.self) (g.S.NodeStore.table c.commit.new.self) c.commit.result
-    (over_ready (g.S.NodeStore.is_known c.args.store.now) (g.S.NodeStore.nodes c.args.store.now) (g.S.NodeStore.table c.args.store.now) c.in_ok-top.top c.args.packed c.args.s.now c.args.d.now c.args.keep c.in_ok-step.step c.root-root.result c.next_id-next.result (c.level-level.result + 1) c.from_vec-2.result
+    (over_ready (g.S.NodeStore.is_known c.args.store.now) (g.S.NodeStore.nodes c.args.store.now) (g.S.NodeStore.table c.args.store.now) c.in_ok-top.top c.args.packed c.args.s.now c.args.d.now c.args.keep c.in_ok-step.step c.root-root.result c.next_id-next.result (c.level-level.result + 1) c.in_ok-indexed.field-0
     c.requires.ready c.root-root.ensures.table c.requires.room c.requires.level c.requires.low c.requires.source c.requires.target c.root-root.ensures.value c.next_id-next.ensures.value
-    (ap (λ (n : ℕ). n + 1) (c.level-level.ensures ∙ ap (g.S.NodeStore.table c.args.store.now).level c.root-root.ensures.value)) (c.from_vec-2.ensures ∙ c.in_ok-list.ensures)
-    (c.in_ok-top.ensures ∙ ap (λ (q : List ℕ). overlay (c.level-level.result + 1) (Some (record { child = c.root-root.result; source = q })) c.from_vec-2.result) (c.from_vec.ensures ∙ c.new.ensures.items)) c.in_ok-step.ensures) c.requires.high known sound c.commit.ensures.table (c.commit.ensures.committed known sound)
+    (ap (λ (n : ℕ). n + 1) (c.level-level.ensures ∙ ap (g.S.NodeStore.table c.args.store.now).level c.root-root.ensures.value)) (c.in_ok-indexed.ensures ∙ c.in_ok-list.ensures)
+    (c.in_ok-top.ensures ∙ ap (λ (q : List ℕ). overlay (c.level-level.result + 1) (Some (record { child = c.root-root.result; source = q })) c.in_ok-indexed.field-0) (c.from_vec.ensures ∙ c.new.ensures.items)) c.in_ok-step.ensures) c.requires.high known sound c.commit.ensures.table (c.commit.ensures.committed known sound)
 
 pub returns-clause-others : goal.returns-clause-others
 returns-clause-others g c = λ known sound.
     over_same (g.S.NodeStore.is_known c.args.store.now) (g.S.NodeStore.nodes c.args.store.now) (g.S.NodeStore.table c.args.store.now) c.args.packed c.args.s.now c.args.d.now c.args.keep c.in_ok-step.step (g.S.NodeStore.nodes c.commit.new.self) (g.S.NodeStore.table c.commit.new.self) c.commit.result
-    (over_ready (g.S.NodeStore.is_known c.args.store.now) (g.S.NodeStore.nodes c.args.store.now) (g.S.NodeStore.table c.args.store.now) c.in_ok-top.top c.args.packed c.args.s.now c.args.d.now c.args.keep c.in_ok-step.step c.root-root.result c.next_id-next.result (c.level-level.result + 1) c.from_vec-2.result
+    (over_ready (g.S.NodeStore.is_known c.args.store.now) (g.S.NodeStore.nodes c.args.store.now) (g.S.NodeStore.table c.args.store.now) c.in_ok-top.top c.args.packed c.args.s.now c.args.d.now c.args.keep c.in_ok-step.step c.root-root.result c.next_id-next.result (c.level-level.result + 1) c.in_ok-indexed.field-0
     c.requires.ready c.root-root.ensures.table c.requires.room c.requires.level c.requires.low c.requires.source c.requires.target c.root-root.ensures.value c.next_id-next.ensures.value
-    (ap (λ (n : ℕ). n + 1) (c.level-level.ensures ∙ ap (g.S.NodeStore.table c.args.store.now).level c.root-root.ensures.value)) (c.from_vec-2.ensures ∙ c.in_ok-list.ensures)
-    (c.in_ok-top.ensures ∙ ap (λ (q : List ℕ). overlay (c.level-level.result + 1) (Some (record { child = c.root-root.result; source = q })) c.from_vec-2.result) (c.from_vec.ensures ∙ c.new.ensures.items)) c.in_ok-step.ensures) c.requires.high sound c.commit.ensures.table (c.commit.ensures.committed known sound)
+    (ap (λ (n : ℕ). n + 1) (c.level-level.ensures ∙ ap (g.S.NodeStore.table c.args.store.now).level c.root-root.ensures.value)) (c.in_ok-indexed.ensures ∙ c.in_ok-list.ensures)
+    (c.in_ok-top.ensures ∙ ap (λ (q : List ℕ). overlay (c.level-level.result + 1) (Some (record { child = c.root-root.result; source = q })) c.in_ok-indexed.field-0) (c.from_vec.ensures ∙ c.new.ensures.items)) c.in_ok-step.ensures) c.requires.high sound c.commit.ensures.table (c.commit.ensures.committed known sound)
 
 pub returns-clause-table : goal.returns-clause-table
 returns-clause-table g c =
     over_grown (g.S.NodeStore.is_known c.args.store.now) (g.S.NodeStore.nodes c.args.store.now) (g.S.NodeStore.table c.args.store.now) c.args.packed c.args.s.now c.args.d.now c.args.keep c.in_ok-step.step (g.S.NodeStore.table c.commit.new.self) c.commit.result
-    (over_ready (g.S.NodeStore.is_known c.args.store.now) (g.S.NodeStore.nodes c.args.store.now) (g.S.NodeStore.table c.args.store.now) c.in_ok-top.top c.args.packed c.args.s.now c.args.d.now c.args.keep c.in_ok-step.step c.root-root.result c.next_id-next.result (c.level-level.result + 1) c.from_vec-2.result
+    (over_ready (g.S.NodeStore.is_known c.args.store.now) (g.S.NodeStore.nodes c.args.store.now) (g.S.NodeStore.table c.args.store.now) c.in_ok-top.top c.args.packed c.args.s.now c.args.d.now c.args.keep c.in_ok-step.step c.root-root.result c.next_id-next.result (c.level-level.result + 1) c.in_ok-indexed.field-0
     c.requires.ready c.root-root.ensures.table c.requires.room c.requires.level c.requires.low c.requires.source c.requires.target c.root-root.ensures.value c.next_id-next.ensures.value
-    (ap (λ (n : ℕ). n + 1) (c.level-level.ensures ∙ ap (g.S.NodeStore.table c.args.store.now).level c.root-root.ensures.value)) (c.from_vec-2.ensures ∙ c.in_ok-list.ensures)
-    (c.in_ok-top.ensures ∙ ap (λ (q : List ℕ). overlay (c.level-level.result + 1) (Some (record { child = c.root-root.result; source = q })) c.from_vec-2.result) (c.from_vec.ensures ∙ c.new.ensures.items)) c.in_ok-step.ensures) c.requires.few c.commit.ensures.table
+    (ap (λ (n : ℕ). n + 1) (c.level-level.ensures ∙ ap (g.S.NodeStore.table c.args.store.now).level c.root-root.ensures.value)) (c.in_ok-indexed.ensures ∙ c.in_ok-list.ensures)
+    (c.in_ok-top.ensures ∙ ap (λ (q : List ℕ). overlay (c.level-level.result + 1) (Some (record { child = c.root-root.result; source = q })) c.in_ok-indexed.field-0) (c.from_vec.ensures ∙ c.new.ensures.items)) c.in_ok-step.ensures) c.requires.few c.commit.ensures.table
 
 pub returns-clause-visits : goal.returns-clause-visits
 returns-clause-visits g c =
     over_visits (g.S.NodeStore.is_known c.args.store.now) (g.S.NodeStore.nodes c.args.store.now) (g.S.NodeStore.table c.args.store.now) c.args.packed c.args.s.now c.args.d.now c.args.keep c.in_ok-step.step (g.S.NodeStore.visit_count c.args.store.now) (g.S.NodeStore.visit_count c.commit.new.self) c.commit.result
-    (over_ready (g.S.NodeStore.is_known c.args.store.now) (g.S.NodeStore.nodes c.args.store.now) (g.S.NodeStore.table c.args.store.now) c.in_ok-top.top c.args.packed c.args.s.now c.args.d.now c.args.keep c.in_ok-step.step c.root-root.result c.next_id-next.result (c.level-level.result + 1) c.from_vec-2.result
+    (over_ready (g.S.NodeStore.is_known c.args.store.now) (g.S.NodeStore.nodes c.args.store.now) (g.S.NodeStore.table c.args.store.now) c.in_ok-top.top c.args.packed c.args.s.now c.args.d.now c.args.keep c.in_ok-step.step c.root-root.result c.next_id-next.result (c.level-level.result + 1) c.in_ok-indexed.field-0
     c.requires.ready c.root-root.ensures.table c.requires.room c.requires.level c.requires.low c.requires.source c.requires.target c.root-root.ensures.value c.next_id-next.ensures.value
-    (ap (λ (n : ℕ). n + 1) (c.level-level.ensures ∙ ap (g.S.NodeStore.table c.args.store.now).level c.root-root.ensures.value)) (c.from_vec-2.ensures ∙ c.in_ok-list.ensures)
-    (c.in_ok-top.ensures ∙ ap (λ (q : List ℕ). overlay (c.level-level.result + 1) (Some (record { child = c.root-root.result; source = q })) c.from_vec-2.result) (c.from_vec.ensures ∙ c.new.ensures.items)) c.in_ok-step.ensures) c.commit.ensures.visits
+    (ap (λ (n : ℕ). n + 1) (c.level-level.ensures ∙ ap (g.S.NodeStore.table c.args.store.now).level c.root-root.ensures.value)) (c.in_ok-indexed.ensures ∙ c.in_ok-list.ensures)
+    (c.in_ok-top.ensures ∙ ap (λ (q : List ℕ). overlay (c.level-level.result + 1) (Some (record { child = c.root-root.result; source = q })) c.in_ok-indexed.field-0) (c.from_vec.ensures ∙ c.new.ensures.items)) c.in_ok-step.ensures) c.commit.ensures.visits
 
 pub returns-clause-cause : goal.returns-clause-cause
 returns-clause-cause g c =
     worn_step (g.S.NodeStore.fault_count c.args.store.now) (g.S.NodeStore.fault_count c.commit.new.self) (g.S.NodeStore.bad c.commit.new.self) (g.S.NodeStore.table c.args.store.now) c.in_ok-step.step (step_over (g.S.NodeStore.table c.args.store.now) c.args.packed.made.items (graft_messages c.args.s.now c.args.d.now c.args.keep c.args.packed.target)) c.commit.result
-    (over_ready (g.S.NodeStore.is_known c.args.store.now) (g.S.NodeStore.nodes c.args.store.now) (g.S.NodeStore.table c.args.store.now) c.in_ok-top.top c.args.packed c.args.s.now c.args.d.now c.args.keep c.in_ok-step.step c.root-root.result c.next_id-next.result (c.level-level.result + 1) c.from_vec-2.result
+    (over_ready (g.S.NodeStore.is_known c.args.store.now) (g.S.NodeStore.nodes c.args.store.now) (g.S.NodeStore.table c.args.store.now) c.in_ok-top.top c.args.packed c.args.s.now c.args.d.now c.args.keep c.in_ok-step.step c.root-root.result c.next_id-next.result (c.level-level.result + 1) c.in_ok-indexed.field-0
     c.requires.ready c.root-root.ensures.table c.requires.room c.requires.level c.requires.low c.requires.source c.requires.target c.root-root.ensures.value c.next_id-next.ensures.value
-    (ap (λ (n : ℕ). n + 1) (c.level-level.ensures ∙ ap (g.S.NodeStore.table c.args.store.now).level c.root-root.ensures.value)) (c.from_vec-2.ensures ∙ c.in_ok-list.ensures)
-    (c.in_ok-top.ensures ∙ ap (λ (q : List ℕ). overlay (c.level-level.result + 1) (Some (record { child = c.root-root.result; source = q })) c.from_vec-2.result) (c.from_vec.ensures ∙ c.new.ensures.items)) c.in_ok-step.ensures).is c.commit.ensures.cause
+    (ap (λ (n : ℕ). n + 1) (c.level-level.ensures ∙ ap (g.S.NodeStore.table c.args.store.now).level c.root-root.ensures.value)) (c.in_ok-indexed.ensures ∙ c.in_ok-list.ensures)
+    (c.in_ok-top.ensures ∙ ap (λ (q : List ℕ). overlay (c.level-level.result + 1) (Some (record { child = c.root-root.result; source = q })) c.in_ok-indexed.field-0) (c.from_vec.ensures ∙ c.new.ensures.items)) c.in_ok-step.ensures).is c.commit.ensures.cause
