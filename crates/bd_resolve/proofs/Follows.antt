@@ -4,7 +4,6 @@ use Rattle.std.specs.Prelude.{slice_get, count_by, ◌==◌}
 use Rattle.std.specs.List.{flat_map}
 use Rattle.std.specs.Ordering.{is_lt}
 use Rattle.std.proofs.lemmas.List.{drop-append-le, length-take, length-take-le, take_all}
-use Rattle.std.proofs.lemmas.List.Sums.{sum_by-append}
 use Rattle.std.proofs.lemmas.Bool.{cases_lt}
 use Rattle.std.proofs.Math.Nat.{min-eq_right, max-eq_left, max-eq_right, le-max_left, le-max_right}
 use Rattle.std.specs.Option.{option_to_list}
@@ -21,9 +20,9 @@ use Rattle.bd_node.specs.Nodes.{edge_names, message_names, edge_from, edge_of, c
 use Rattle.bd_node.specs.Shape.{end_before, EachEdge, SomeEdge, IsEdge, IsInner, IsShape}
 use Rattle.bd_node.proofs.Edges.{some_edge, EachEdge-weaker, SomeEdge-weaker}
 use Rattle.bd_node.proofs.Lookup.{count-cons_same}
-use Rattle.bd_inner.proofs.Touched.{touched_at_least, touched_within}
-use Rattle.bd_query.specs.declared.part.Base.TheVariants.{Value, Ask}
-use Rattle.bd_query.proofs.Parts.{inner_named, inner_seen, old_or_more}
+use Rattle.bd_node.proofs.Touched.{touched_at_least, touched_within}
+use Rattle.bd_node.proofs.Counted.{counted_first, counted_second, message_counted, edge_of_counted}
+use Rattle.bd_node.proofs.Shapes.{inner_seen}
 use Rattle.bd_resolve.specs.declared.following.Target.{Target}
 use Rattle.bd_resolve.specs.declared.following.Followed.{Followed}
 use Rattle.bd_resolve.specs.Following.{target_at, target_of, edge_target, covers, covered, NoneCovers, GoesOn, IsUnder, IsNamedTarget, IsFollowed, IsByCover, IsThroughEdge, IsSpreadOver}
@@ -102,28 +101,24 @@ named_child None source target is = absurd (none-some target is)
 named_child (Some child) source target is =
     subst (λ (c : ℕ). 1 ≤ count_by (λ name. name == c) (child ∷ [])) (ap (λ (t : Target). t.child) (same_Some _ target is)) (omega (arith, count-cons_same child []))
 
-value_ask : (child : ℕ) (key : List ℕ) (old : Option (List ℕ)) → Ask child key ≡ Value old → ⊥
-value_ask child key old h = cc
-
 by_target : (ns : List ℕ) (found : Option Target) → ((target : Target) → found ≡ Some target → 1 ≤ count_by (λ name. name == target.child) ns) → IsNamedTarget ns found
 by_target ns None h = tt
 by_target ns (Some target) h = h target refl
 
-message_in : (es : List Edge) (buffer : List Message) (c : ℕ) → 1 ≤ count_by (λ name. name == c) (flat_map message_names buffer) → 1 ≤ count_by (λ name. name == c) (flat_map edge_names es ++ flat_map message_names buffer)
-message_in es buffer c one = omega (arith, sum_by-append (λ (x : ℕ). cond (x == c) 1 0) (flat_map edge_names es) (flat_map message_names buffer))
-
 cover_named : (es : List Edge) (buffer : List Message) (q : List ℕ) (place : ℕ) (m : Message) → slice_get buffer place ≡ Some m → covers m q ≡ true → IsNamedTarget (flat_map edge_names es ++ flat_map message_names buffer) (covered m q)
 cover_named es buffer q place m there h =
     by_target (flat_map edge_names es ++ flat_map message_names buffer) (covered m q) (λ target is.
-    elim (old_or_more buffer place m (Value None) (Value None) (Ask target.child []) there (inl refl) (inr (named_message q m h target is))) [
-      | inl same ↦ absurd (value_ask target.child [] None same)
-      | inr named ↦ message_in es buffer target.child named
-    ])
+    (let one : 1 ≤ count_by (λ name. name == target.child) (message_names m) = named_message q m h target is in
+    let of_message : count_by (λ name. name == target.child) (message_names m) ≤ count_by (λ name. name == target.child) (flat_map message_names buffer) = message_counted buffer place m target.child there in
+    let of_all : count_by (λ name. name == target.child) (flat_map message_names buffer) ≤ count_by (λ name. name == target.child) (flat_map edge_names es ++ flat_map message_names buffer) = counted_second target.child (flat_map edge_names es) (flat_map message_names buffer) in omega arith))
 
 edge_named : (es : List Edge) (buffer : List Message) (q : List ℕ) (e : Edge) → edge_of es q ≡ Some e → IsNamedTarget (flat_map edge_names es ++ flat_map message_names buffer) (edge_target e q)
 edge_named es buffer q e there =
     by_target (flat_map edge_names es ++ flat_map message_names buffer) (edge_target e q)
-    (λ target is. inner_named es buffer q e (Ask target.child []) (Ask target.child []) there (named_child e.child (e.source ++ drop e.lift q) target is) (inl refl))
+    (λ target is.
+    (let one : 1 ≤ count_by (λ name. name == target.child) (edge_names e) = named_child e.child (e.source ++ drop e.lift q) target is in
+    let of_edge : count_by (λ name. name == target.child) (edge_names e) ≤ count_by (λ name. name == target.child) (flat_map edge_names es) = edge_of_counted es q e target.child there in
+    let of_all : count_by (λ name. name == target.child) (flat_map edge_names es) ≤ count_by (λ name. name == target.child) (flat_map edge_names es ++ flat_map message_names buffer) = counted_first target.child (flat_map edge_names es) (flat_map message_names buffer) in omega arith))
 
 -- ---- where the way leads
 

@@ -12,7 +12,7 @@ use Rattle.bd_node.specs.Nodes.{names, node_at, edge_of}
 use Rattle.bd_node.specs.Shape.{EachEdge, SomeEdge}
 use Rattle.bd_node.specs.Tables.{Table, IsLower}
 use Rattle.bd_node.specs.Parts.{buffer_of}
-use Rattle.bd_query.specs.Visits.{AreVisits}
+use Rattle.bd_node.specs.Stores.{AreVisits}
 use Rattle.bd_resolve.specs.declared.following.Target.{Target}
 use Rattle.bd_resolve.specs.declared.following.Followed.{Followed}
 use Rattle.bd_resolve.specs.declared.following.Followed.TheVariants.{Here, Past}

@@ -9,10 +9,9 @@ ghost use Rattle.bd_resolve.specs.declared.following.Followed.TheVariants as fol
 ghost use Rattle.bd_resolve.specs.Following.{GoesOn, IsUnder, IsFollowed, IsSpreadOver, IsThroughEdge, IsCoverAt, IsPastCover, edge_target, LeadsTo};
 
 use crate::covering::{covered, joined, newest_cover};
-use bd_inner::{edge_of, end_before};
 use bd_keys::{Bytes, tail};
 use bd_message::Message;
-use bd_node::{Edge, Node};
+use bd_node::{Edge, Node, edge_of, end_before, is_in_range};
 use std::alloc::{AllocError, Global};
 
 /// What a node has at keys that begin with a source, by what follows it.
@@ -167,17 +166,5 @@ fn is_under(lo: &[u8], hi: Option<&[u8]>, prefix: &[u8]) -> bool
     ensures { IsTrue result ↔ ((k : List ℕ) × InRange lo.now (option_copied hi.entry) k
         × (begins k prefix.now ≡ true)) }
 {
-    lo.starts_with(prefix) || is_within(prefix, lo, hi)
-}
-
-// Whether a key is at least `lo` and below `hi`.
-fn is_within(key: &[u8], lo: &[u8], hi: Option<&[u8]>) -> bool
-    ensures { IsTrue result ↔ InRange lo.now (option_copied hi.entry) key.now }
-{
-    let above = !key.cmp(lo).is_lt();
-    above
-        && match hi {
-            Some(hi) => key.cmp(hi).is_lt(),
-            None => true,
-        }
+    lo.starts_with(prefix) || is_in_range(prefix, lo, hi)
 }
