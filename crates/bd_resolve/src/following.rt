@@ -1,12 +1,12 @@
 //! What answers for all keys that begin with a prefix, at one node.
 
-ghost use Rattle.std.specs.Prelude.{◌≡◌, ◌↔◌, ◌≤◌, ◌⊎◌, ℕ, List, true, IfOk, IsTrue};
+ghost use Rattle.std.specs.Prelude.{◌≡◌, ◌↔◌, ℕ, List, true, IfOk, IsTrue};
 ghost use Rattle.std.specs.Option.{option_copied};
 ghost use Rattle.bd_keys.specs.Keys.{IsKey, IsBelowEnd, InRange};
 ghost use Rattle.bd_message.specs.Effect.{begins};
-ghost use Rattle.bd_node.specs.Shape.{AreRising, EachEdge, SomeEdge, IsShape};
+ghost use Rattle.bd_node.specs.Shape.{AreRising, SomeEdge, IsShape};
 ghost use Rattle.bd_resolve.specs.declared.following.Followed.TheVariants as followed;
-ghost use Rattle.bd_resolve.specs.Following.{GoesOn, IsUnder, IsFollowed, IsSpreadOver, IsThroughEdge, IsCoverAt, IsPastCover, edge_target, LeadsTo};
+ghost use Rattle.bd_resolve.specs.Following.{GoesOn, IsMostSeen, IsFollowed, IsSpreadOver, IsThroughEdge, IsCoverAt, IsPastCover, edge_target, LeadsTo};
 
 use crate::covering::{covered, joined, newest_cover};
 use bd_keys::{Bytes, tail};
@@ -145,9 +145,7 @@ fn is_spread(edges: &[Edge], prefix: &[u8]) -> bool
 // How many messages the edges with keys of a prefix have seen: the most.
 fn most_seen(edges: &[Edge], prefix: &[u8]) -> usize
     requires { AreRising edges.now }
-    ensures all { EachEdge (λ e hi. IsUnder prefix.now e hi → e.seen ≤ result) edges.now }
-    ensures some { (result ≡ 0)
-        ⊎ SomeEdge (λ e hi. IsUnder prefix.now e hi × (e.seen ≡ result)) edges.now }
+    ensures { IsMostSeen edges.now prefix.now result }
 {
     let [edge, rest @ ..] = edges else {
         return 0;
