@@ -5,7 +5,7 @@ use Rattle.bd_message.specs.declared.message.Message.{Message}
 use Rattle.bd_message.specs.declared.message.Message.TheVariants.{Put, Del, Patch, Cut, Goto}
 use Rattle.bd_message.specs.Effect.{begins}
 use Rattle.bd_node.specs.declared.node.Edge.{Edge}
-use Rattle.bd_inner.specs.Moving.{CanTouch}
+use Rattle.bd_node.specs.Touching.{CanTouch}
 
 -- all keys that begin with the prefix, which is one, are at least `lo` and below `hi`
 pub record LiesWithin (prefix lo : List ℕ) (hi : Option (List ℕ)) : Type 0 where

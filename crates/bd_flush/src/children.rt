@@ -21,11 +21,11 @@ ghost use Rattle.bd_path.specs.Raising.{IsWayUp};
 ghost use Rattle.bd_flush.specs.Between.{IsSplitStep, IsHighSplit, IsHighAfterSplit};
 
 use crate::between::put_between;
-use bd_inner::{end_of, exchange, split};
+use bd_inner::{exchange, split};
 use bd_keys::Bytes;
 use bd_limits::MAX_KEY;
 use bd_message::MapFault;
-use bd_node::{Change, Edge, Items, Node, NodeStore, Step};
+use bd_node::{Change, Edge, Items, Node, NodeStore, Step, end_of};
 use bd_path::{Fetched, edges_of, path_step};
 use std::alloc::{AllocError, Global};
 

@@ -16,10 +16,10 @@ ghost use Rattle.bd_path.specs.Fetching.{IsOwn};
 
 use crate::children::with_edge;
 use crate::pushing::{batch_for, seen_by};
-use bd_inner::{edge_to, end_of};
+use bd_inner::edge_to;
 use bd_leaf as leaf;
 use bd_message::MapFault;
-use bd_node::{Change, Edge, Entries, Node, NodeStore, Step};
+use bd_node::{Change, Edge, Entries, Node, NodeStore, Step, end_of};
 use bd_path::{Fetched, edges_of, path_step};
 use std::alloc::{AllocError, Global};
 

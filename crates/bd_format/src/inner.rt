@@ -9,11 +9,10 @@ ghost use Rattle.bd_message.specs.Messages.{IsMessage, size};
 ghost use Rattle.bd_message.specs.declared.message.Message.{Message};
 ghost use Rattle.bd_node.specs.Shape.{IsInner, IsEdge, IsChild, IsPending, EachEdge, SomeEdge, AreRising, end_before};
 
-use bd_inner::is_pending;
 use bd_keys::lift;
 use bd_limits::{MAX_BUFFER, MAX_EDGES, MAX_KEY, MAX_LEVEL};
 use bd_message::Message;
-use bd_node::Edge;
+use bd_node::{Edge, is_pending};
 
 /// Whether these are the level, the edges and the messages of a well-formed inner node.
 pub fn is_inner(level: u32, edges: &[Edge], buffer: &[Message]) -> bool

@@ -1,6 +1,3 @@
-pub mod Unseen
-pub mod Places
-pub mod Touched
 pub mod Compacting
 pub mod Splitting
 pub mod Moved

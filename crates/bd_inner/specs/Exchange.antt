@@ -1,5 +1,5 @@
 -- Nodes with other edges in place of one.
-use Rattle.std.specs.Prelude.{◌≡◌, ℕ, ◌+◌, ◌≤◌, List, [], ◌∷◌, ◌++◌, length, take, drop, Option, Some, slice_get, ⊤}
+use Rattle.std.specs.Prelude.{◌≡◌, ℕ, ◌+◌, ◌≤◌, List, [], ◌∷◌, ◌++◌, length, take, drop, Option, Some, ⊤}
 use Rattle.bd_limits.specs.Limits.{edge_limit}
 use Rattle.bd_keys.specs.Keys.{InRange}
 use Rattle.bd_node.specs.declared.node.Edge.{Edge}

@@ -9,7 +9,7 @@ use Rattle.bd_message.specs.Messages.{IsMessage, IsPlain, size}
 use Rattle.bd_message.specs.Effect.{NodesAt, acts}
 use Rattle.bd_message.specs.Freeing.{freed, KeepsSource}
 use Rattle.bd_node.specs.declared.node.Edge.{Edge}
-use Rattle.bd_node.specs.Touching.{touches}
+use Rattle.bd_node.specs.Touching.{touches, CanTouch}
 use Rattle.bd_node.specs.Nodes.{message_names}
 use Rattle.bd_inner.specs.declared.batches.Batch.{Batch}
 
@@ -46,10 +46,6 @@ pub record IsMoved (e : Edge) (hi : Option (List ℕ)) (list moved : List Messag
   pub size : sum_by size moved ≤ sum_by size list
   pub names : (c : ℕ) → goto_count c moved ≤ goto_count c list
   pub plain : AllByRecursion (IsPlainFor e hi) list → AllByRecursion IsPlain moved
-
--- the message can change what stands at a key that is at least `lo` and below `hi`
-abbrev pub CanTouch : Message → List ℕ → Option (List ℕ) → Type 0
-CanTouch m lo hi = (k : List ℕ) × InRange lo hi k × (touches m k ≡ true)
 
 -- one of the messages can change what stands at a key of an edge, whose keys end there
 abbrev pub SomeCanTouch : Edge → Option (List ℕ) → List Message → Type 0

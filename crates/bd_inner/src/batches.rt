@@ -6,10 +6,9 @@ ghost use Rattle.std.specs.List.{AllByRecursion};
 ghost use Rattle.bd_message.specs.Messages.{IsMessage, size};
 ghost use Rattle.bd_inner.specs.Moving.{IsLifted, CanMove, IsPart, IsMoved, IsBatch};
 
-use crate::pending::can_touch;
 use bd_limits::MAX_BATCH;
 use bd_message::Message;
-use bd_node::{Edge, Messages};
+use bd_node::{Edge, Messages, can_touch};
 use std::alloc::{AllocError, Global};
 
 /// Messages for a child.

@@ -10,10 +10,9 @@ ghost use Rattle.bd_node.specs.Parts.{edges_of};
 ghost use Rattle.bd_inner.specs.Carving.{is_below_end, has_inside, from_key, parted, is_own, owned, carved, IsGotoAt, IsGotoEdge, IsEnd, IsCarved};
 
 use crate::compaction::sweep;
-use crate::exchanging::end_of;
 use bd_keys::{Bytes, after};
 use bd_message::Message;
-use bd_node::{Edge, Edges, Items, Node};
+use bd_node::{Edge, Edges, Items, Node, end_of};
 use std::alloc::{AllocError, Global};
 
 /// A copy of an inner node in which the keys of a Goto have edges of their own to the node that it

@@ -5,9 +5,8 @@ ghost use Rattle.bd_node.specs.Keeping.{stay_count};
 ghost use Rattle.bd_node.specs.Shape.{AreRising};
 ghost use Rattle.bd_inner.specs.Compaction.{IsLoose, IsLooseNode, IsMask, lowered, IsSwept, IsCompacted};
 
-use crate::pending::is_pending;
 use bd_message::Message;
-use bd_node::{Edge, Edges, Items, Messages, Node};
+use bd_node::{Edge, Edges, Items, Messages, Node, is_pending};
 use std::alloc::{AllocError, Global};
 
 /// The node without the messages that are pending for no edge. Each edge has then seen fewer by

@@ -5,13 +5,12 @@ ghost use Rattle.std.specs.Option.{option_copied};
 ghost use Rattle.bd_limits.specs.Limits.{key_limit};
 ghost use Rattle.bd_keys.specs.Keys.{IsBelowEnd, IsLift};
 ghost use Rattle.bd_node.specs.declared.node.Edge.{Edge};
-ghost use Rattle.bd_node.specs.Shape.{end_before, IsShape};
+ghost use Rattle.bd_node.specs.Shape.{IsShape};
 ghost use Rattle.bd_inner.specs.Compaction.{IsCompacted};
 ghost use Rattle.bd_node.specs.Parts.{edges_of, IsEdgeAt};
 ghost use Rattle.bd_inner.specs.Exchange.{exchanged, FitsAt, way_to};
 
 use crate::compaction::sweep;
-use crate::pending::end_before;
 use bd_keys::{Bytes, lift};
 use bd_node::{Edge, Edges, Items, Node};
 use std::alloc::{AllocError, Global};
@@ -37,15 +36,6 @@ pub fn exchange(alloc: Global, node: &Node, place: usize, list: Edges) -> Result
             sweep(alloc, *level, edges, buffer)
         }
     }
-}
-
-/// Where the keys of the edge at a place end: at the next edge's pivot, and nowhere after the last.
-pub fn end_of(edges: &[Edge], place: usize) -> Option<&[u8]>
-    requires { place < length edges.now }
-    ensures { option_copied result ≡ end_before (drop (place + 1) edges.now) }
-{
-    let (_, rest) = edges.split_at(place + 1);
-    end_before(rest)
 }
 
 /// The way of an edge, whose keys end at `hi`, to a new child: all bytes that the edge's keys have

@@ -3,7 +3,7 @@ use Rattle.std.proofs.Common.{◌≡◌, ℕ, zero, suc, ◌+◌, ◌-◌, ◌<�
 use Rattle.std.specs.Prelude.{slice_get}
 use Rattle.std.specs.List.{AllByRecursion}
 use Rattle.std.proofs.lemmas.Bool.{cases_eq, cases_lt, cond-true, cond-false, eq-eqb, ne_eqb}
-use Rattle.std.proofs.lemmas.Option.{same_Some, none-some, slice_get_within}
+use Rattle.std.proofs.lemmas.Option.{none-some, slice_get_within}
 use Rattle.bd_node.specs.declared.node.Node.{Node}
 use Rattle.bd_node.specs.declared.node.Step.{Step}
 use Rattle.bd_node.specs.Nodes.{level_of, height_of, names, times}
@@ -13,7 +13,7 @@ use Rattle.bd_node.specs.Tables.{Table, IsKept, IsTable, IsLower, IsStored, IsSo
 use Rattle.bd_node.specs.Steps.{given, after, level_or, level_after, IsThere, IsNamable, IsPut, IsChange, IsStep, HasRoom, StayAbove}
 use Rattle.bd_node.specs.Steps.HasRoom.{no_rise, of_root, changed_too, under_all}
 use Rattle.bd_node.specs.Closed.{IsClosed, without, buffer_size_in, table_from}
-use Rattle.bd_node.proofs.Lookup.{each_weaker, each_named, named_has}
+use Rattle.bd_node.proofs.Lookup.{each_weaker, each_at, each_named, named_has}
 use Rattle.bd_node.proofs.Sums.{sum_at}
 use Rattle.bd_node.proofs.Sound.{NamedBy, named_of_sum, kept_there, node_of, named_lower, root_unnamed, times_there, one_if-same, one_if-other}
 use Rattle.bd_node.proofs.Stepping.{by_given, given-old, given-new, changed_has, after-none, after-some, no_some}
@@ -155,11 +155,6 @@ pub record IsGiven (t : Table) (step : Step) (id : ℕ) (n : Node) : Type 0 wher
   pub low : 1 ≤ id
   pub below : id < t.next + length step.made
   pub put : IsPut t step n
-
-each_at : {A : Type 0} (P : A → Type 0) (xs : List A) (i : ℕ) (x : A) → AllByRecursion P xs → slice_get xs i ≡ Some x → P x
-each_at P [] i x h e = absurd (none-some x e)
-each_at P (y ∷ xs) zero x h e = subst P (same_Some y x e) h.0
-each_at P (y ∷ xs) (suc i) x h e = each_at P xs i x h.1 e
 
 pub given_is : (t : Table) (step : Step) → IsTable t → IsStep t step → (id : ℕ) (n : Node) → given t.next step id ≡ Some n → IsGiven t step id n
 given_is t step table ok id n e =

@@ -8,6 +8,12 @@ pub mod Sums
 pub mod Sound
 pub mod Privacy
 pub mod Edges
+pub mod Shapes
+pub mod Touched
+pub mod Unseen
+pub mod Places
+pub mod Counted
+pub mod Visited
 pub mod Stepping
 pub mod Appending
 pub mod Counting

@@ -1,10 +1,11 @@
 -- What a node has depends on no more than what the nodes that it names have.
 use Rattle.std.proofs.Common.{◌≡◌, ℕ, zero, suc, ◌+◌, ◌≤◌, true, cond, List, [], ◌∷◌, ◌++◌, drop, refl, ap, subst, ◌∙◌, Option, None, Some, arith, inl, inr}
-use Rattle.std.specs.Prelude.{count_by, ◌==◌}
+use Rattle.std.specs.Prelude.{count_by, ◌==◌, slice_get}
 use Rattle.std.specs.List.{AllByRecursion, flat_map}
 use Rattle.std.specs.Option.{option_to_list}
 use Rattle.std.specs.Ordering.{is_lt}
 use Rattle.std.proofs.lemmas.Bool.{cond_both, cases_eq, eq-eqb, ne_eqb, and_parts, and_from, ltb-true, lt-ltb}
+use Rattle.std.proofs.lemmas.Option.{same_Some, none-some}
 use Rattle.std.proofs.lemmas.List.Sums.{sum_by-cons}
 use Rattle.bd_keys.specs.Keys.{key_cmp, IsKey}
 use Rattle.bd_message.specs.declared.message.Message.{Message}
@@ -32,6 +33,12 @@ each_second P (x ∷ xs) ys h = each_second P xs ys h.1
 pub each_both : {A : Type 0} (P : A → Type 0) (xs ys : List A) → AllByRecursion P xs → AllByRecursion P ys → AllByRecursion P (xs ++ ys)
 each_both P [] ys h g = g
 each_both P (x ∷ xs) ys h g = (h.0, each_both P xs ys h.1 g)
+
+-- and so of the one at a place
+pub each_at : {A : Type 0} (P : A → Type 0) (xs : List A) (i : ℕ) (x : A) → AllByRecursion P xs → slice_get xs i ≡ Some x → P x
+each_at P [] i x h e = absurd (none-some x e)
+each_at P (y ∷ xs) zero x h e = subst P (same_Some y x e) h.0
+each_at P (y ∷ xs) (suc i) x h e = each_at P xs i x h.1 e
 
 pub each_dropped : (P : ℕ → Type 0) (n : ℕ) (ms : List Message) → AllByRecursion P (flat_map message_names ms) → AllByRecursion P (flat_map message_names (drop n ms))
 each_dropped P zero ms h = h

@@ -1,5 +1,5 @@
 -- Well-formed nodes.
-use Rattle.std.specs.Prelude.{◌≡◌, ℕ, ◌+◌, ◌<◌, ◌≤◌, ◌^◌, ◌⊎◌, true, List, [], ◌∷◌, length, take, Option, None, Some, slice_get, ⊤}
+use Rattle.std.specs.Prelude.{◌≡◌, ℕ, ◌+◌, ◌<◌, ◌≤◌, ◌^◌, ◌⊎◌, List, [], ◌∷◌, length, take, Option, None, Some, slice_get, ⊤}
 use Rattle.std.specs.List.{AllByRecursion, sum_by}
 use Rattle.bd_limits.specs.Limits.{key_limit, block_limit, buffer_limit, leaf_limit, level_limit, edge_limit, base_size}
 use Rattle.bd_keys.specs.Keys.{IsBelow, IsBelowEnd, InRange, IsCommon}
@@ -9,7 +9,7 @@ use Rattle.bd_node.specs.declared.node.Entry.{Entry}
 use Rattle.bd_node.specs.declared.node.Edge.{Edge}
 use Rattle.bd_node.specs.declared.node.Node.{Node}
 use Rattle.bd_node.specs.declared.node.Node.TheVariants.{Leaf, Inner}
-use Rattle.bd_node.specs.Touching.{touches}
+use Rattle.bd_node.specs.Touching.{CanTouch}
 
 -- ---- leaves
 
@@ -74,10 +74,13 @@ pub record IsEdge (buffered : ℕ) (e : Edge) (hi : Option (List ℕ)) : Type 0 
   pub child : IsChild e.child e.source
   pub seen : e.seen ≤ buffered
 
+-- the edge hasn't seen the message at this place, and its keys include the key
+abbrev pub IsUnseen : ℕ → List ℕ → Edge → Option (List ℕ) → Type 0
+IsUnseen place k e hi = (e.seen ≤ place) × InRange e.pivot hi k
+
 -- the edge hasn't seen the message at this place, which can change what stands at a key of the edge
 abbrev pub IsPending : ℕ → Message → Edge → Option (List ℕ) → Type 0
-IsPending place m e hi =
-    (e.seen ≤ place) × ((k : List ℕ) × InRange e.pivot hi k × (touches m k ≡ true))
+IsPending place m e hi = (e.seen ≤ place) × CanTouch m e.pivot hi
 
 -- an inner node
 pub record IsInner (level : ℕ) (edges : List Edge) (buffer : List Message) : Type 0 where

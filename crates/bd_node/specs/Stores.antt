@@ -1,5 +1,5 @@
 -- What stores of nodes are asked, and count, and what their calls leave.
-use Rattle.std.specs.Prelude.{◌≡◌, ℕ, ◌+◌, ◌-◌, ◌^◌, min, List}
+use Rattle.std.specs.Prelude.{◌≡◌, ℕ, ◌+◌, ◌-◌, ◌^◌, ◌≤◌, min, List}
 use Rattle.bd_message.specs.declared.message.Message.{Message}
 use Rattle.bd_message.specs.KeyMaps.{IsBatch}
 use Rattle.bd_limits.specs.Limits.{buffer_limit}
@@ -9,6 +9,13 @@ use Rattle.bd_node.specs.Tables.{Table}
 -- the count of visits after so many more, which stops at a u64's last value
 abbrev pub visited : ℕ → ℕ → ℕ
 visited count more = min (count + more) (2 ^ 64 - 1)
+
+-- so many visits, at least `least` and at most `most`, lead from one count to the other
+pub record AreVisits (least most before after : ℕ) : Type 0 where
+  pub number : ℕ
+  pub some : least ≤ number
+  pub few : number ≤ most
+  pub counted : after ≡ visited before number
 
 -- messages for which there is room in the root
 abbrev pub FitsRoot : Table → List Message → Type 0

@@ -8,7 +8,7 @@ ghost use Rattle.bd_node.specs.Index.{AreInOrder, IsCountBelow, IsIndex, IsNewes
 ghost use Rattle.bd_node.specs.Touching.{IsNextTouching};
 
 use crate::Steps;
-use crate::messages::touches;
+use crate::touching::touches;
 use bd_message::Message;
 use std::alloc::{AllocError, Global};
 use std::cmp::Ordering;

@@ -3,11 +3,10 @@
 ghost use Rattle.std.specs.Prelude.{◌≡◌, ◌≤◌, ◌↔◌, ◌++◌, [], length, IfOk, IsTrue, OnOk, OnErr};
 ghost use Rattle.std.specs.List.{AllByRecursion, sum_by};
 ghost use Rattle.bd_limits.specs.Limits.{buffer_limit};
-ghost use Rattle.bd_message.specs.Effect.{is_cut};
 ghost use Rattle.bd_message.specs.Messages.{IsMessage, size};
 ghost use Rattle.bd_node.specs.Index.{IsNewestTouching, IsNextPoint, IsNextRange, is_point_at};
 ghost use Rattle.bd_node.specs.Keeping.{staying};
-ghost use Rattle.bd_node.specs.Touching.{IsNextTouching, touches};
+ghost use Rattle.bd_node.specs.Touching.{IsNextTouching};
 
 use crate::index::{self, Index};
 use crate::{scans, staying};
@@ -210,24 +209,4 @@ fn copied(items: &Vec<Message>) -> Result<Vec<Message>, AllocError>
     ensures { IfOk result (λ copy. copy.items ≡ items.now.items) }
 {
     items.clone()
-}
-
-/// Whether a message can change what stands at a key.
-pub fn touches(message: &Message, key: &[u8]) -> bool
-    ensures { result ≡ touches message.now key.now }
-{
-    match message {
-        Message::Put { key: own, .. } => key == own.as_slice(),
-        Message::Del { key: own } => key == own.as_slice(),
-        Message::Patch { key: own, .. } => key == own.as_slice(),
-        Message::Cut { prefix, from } => is_cut(prefix.as_slice(), from.as_slice(), key),
-        Message::Goto { prefix, .. } => key.starts_with(prefix.as_slice()),
-    }
-}
-
-/// Whether a key begins with a prefix and goes on with `from` or what stands after it.
-fn is_cut(prefix: &[u8], from: &[u8], key: &[u8]) -> bool
-    ensures { result ≡ is_cut prefix.now from.now key.now }
-{
-    key.starts_with(prefix) && !key[prefix.len()..].cmp(from).is_lt()
 }

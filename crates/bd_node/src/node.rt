@@ -2,10 +2,12 @@
 
 ghost use Rattle.std.specs.Prelude.{◌≡◌, OnOk, OnErr};
 ghost use Rattle.bd_node.specs.Nodes.{appended, buffer_size, level_of};
+ghost use Rattle.bd_node.specs.Parts.{edges_of, buffer_of};
 ghost use Rattle.bd_node.specs.Shape.{IsShape};
 
 use crate::{Items, Messages};
 use bd_keys::Bytes;
+use bd_message::Message;
 use std::alloc::AllocError;
 
 /// A key of a leaf with its value.
@@ -83,6 +85,26 @@ impl Node {
         match self {
             Node::Leaf(_) => 0,
             Node::Inner { level, .. } => *level,
+        }
+    }
+
+    /// Its edges, and none of a leaf.
+    pub fn edges(&self) -> &[Edge]
+        ensures { result.now ≡ edges_of self.now }
+    {
+        match self {
+            Node::Leaf(_) => &[],
+            Node::Inner { edges, .. } => edges.as_slice(),
+        }
+    }
+
+    /// The messages that wait in it, and none of a leaf.
+    pub fn buffer(&self) -> &[Message]
+        ensures { result.now ≡ buffer_of self.now }
+    {
+        match self {
+            Node::Leaf(_) => &[],
+            Node::Inner { buffer, .. } => buffer.as_slice(),
         }
     }
 

@@ -5,7 +5,7 @@ ghost use Rattle.bd_node.specs.Index.{is_nearer, IsNewestTouching, IsNextPoint, 
 ghost use Rattle.bd_node.specs.Touching.{IsNextTouching};
 
 use crate::index::{is_point, own_key};
-use crate::messages::touches;
+use crate::touching::touches;
 use bd_message::Message;
 
 /// The place of the oldest message from a place on that can change what stands at a key.

@@ -14,7 +14,7 @@ use Rattle.bd_node.specs.Tables.{Table, IsKept, IsStored, IsSound}
 use Rattle.bd_node.specs.Touching.{touches, NoneTouches}
 use Rattle.bd_query.specs.Asks.{Question, asked_by, asked_after, asked_at, ends_here, goes_down, IsAfterLast, none_yet, one_more, AreVisitsOfWay, AreVisitsOfWays}
 use Rattle.bd_query.specs.Stretches.{IsNewest}
-use Rattle.bd_query.proofs.Visited.{visited_more}
+use Rattle.bd_node.proofs.Visited.{visited_more}
 use Rattle.bd_query.proofs.StretchLemmas.{newest_there}
 
 -- ---- whom messages ask

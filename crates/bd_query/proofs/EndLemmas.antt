@@ -12,11 +12,10 @@ use Rattle.bd_message.specs.declared.message.Message.{Message}
 use Rattle.bd_message.specs.declared.message.Message.TheVariants.{Put, Del, Patch, Cut, Goto}
 use Rattle.bd_message.specs.Messages.{IsMessage}
 use Rattle.bd_message.proofs.Finds.{tied, not_both}
-use Rattle.bd_node.specs.Touching.{touches}
+use Rattle.bd_node.specs.Touching.{touches, CanTouch}
 use Rattle.bd_node.proofs.Appending.{key_of, key_of-touched}
 use Rattle.bd_node.proofs.Edges.{lt_is, lt_isnt}
-use Rattle.bd_inner.specs.Moving.{CanTouch}
-use Rattle.bd_inner.proofs.Touched.{touched_first, touched_between}
+use Rattle.bd_node.proofs.Touched.{touched_first, touched_between, least_back}
 use Rattle.bd_query.specs.Stretches.{IsEnd, IsWithin, end_limit, first_key}
 
 -- ---- the order of keys
@@ -24,10 +23,6 @@ use Rattle.bd_query.specs.Stretches.{IsEnd, IsWithin, end_limit, first_key}
 -- what is at least the second is at least what isn't above it
 pub least_trans : (a b c : List ℕ) → IsAtLeast a b → IsAtLeast b c → IsAtLeast a c
 least_trans a b c ab bc less = ab (below_from a c b less bc)
-
--- of two keys one isn't below the other
-pub least_back : (a b : List ℕ) → IsBelow a b → IsAtLeast b a
-least_back a b below back = not_below_itself a (total.trans a b a below back)
 
 pub below_trans : (a b c : List ℕ) → IsBelow a b → IsBelow b c → IsBelow a c
 below_trans a b c = total.trans a b c
@@ -48,11 +43,6 @@ below_or_least a b =
       | inl less ↦ inl (lt_is (key_cmp a b) less)
       | inr more ↦ inr (λ less. lt_isnt (key_cmp a b) more less)
     ]
-
--- a key is below what it is followed by
-pub below_longer : (key : List ℕ) (b : ℕ) (z : List ℕ) → IsBelow key (key ++ b ∷ z)
-below_longer [] b z = refl
-below_longer (c ∷ key) b z = first_same c key (key ++ b ∷ z) ∙ below_longer key b z
 
 -- no key stands between one and the same with a byte of 0 after it
 pub no_key_between : (key k : List ℕ) → IsAtLeast k key → IsBelow k (key ++ 0 ∷ []) → k ≡ key

@@ -1,6 +1,5 @@
 pub mod Parts
 pub mod Going
-pub mod Visited
 pub mod EndLemmas
 pub mod LeafLemmas
 pub mod StretchLemmas

@@ -9,7 +9,8 @@ use Rattle.bd_node.specs.Index.{touches_in, is_point_at, is_range_at, key_at, to
 use Rattle.bd_node.proofs.Spots.{true_false}
 use Rattle.bd_node.proofs.Indexing.{point_touches, touches_point}
 use Rattle.bd_node.proofs.Asking.{neither, none_touches, there_in}
-use Rattle.bd_query.proofs.EndLemmas.{least_trans, least_back, below_or_same, below_or_least}
+use Rattle.bd_query.proofs.EndLemmas.{least_trans, below_or_same, below_or_least}
+use Rattle.bd_node.proofs.Touched.{least_back}
 use Rattle.bd_query.specs.Stretches.{IsWithin, NoneFrom, NoneAmong, IsNewest, after}
 
 none_in : (o : Option Message) (k : List ℕ) → ((m : Message) → o ≡ Some m → touches m k ≡ false) → touches_in o k ≡ false

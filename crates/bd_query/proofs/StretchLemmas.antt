@@ -27,9 +27,11 @@ use Rattle.bd_node.specs.Shape.{end_before, EachEdge, SomeEdge, IsEdge, IsInner,
 use Rattle.bd_node.proofs.Edges.{not_less_lt}
 use Rattle.bd_node.proofs.LawLemmas.{edge_some, edge_only}
 use Rattle.bd_message.proofs.Prefixes.{rest-append}
-use Rattle.bd_inner.proofs.Touched.{touched_first}
-use Rattle.bd_query.proofs.Parts.{acts_rest, inner_rising, counted_first, counted_second, message_counted, edge_of_counted}
-use Rattle.bd_query.proofs.EndLemmas.{least_trans, begins_split, begins_joined, no_key_between, below_or_least, below_longer, length-take}
+use Rattle.bd_node.proofs.Touched.{touched_first, below_longer}
+use Rattle.bd_query.proofs.Parts.{acts_rest}
+use Rattle.bd_node.proofs.Shapes.{inner_rising}
+use Rattle.bd_node.proofs.Counted.{counted_first, counted_second, message_counted, edge_of_counted}
+use Rattle.bd_query.proofs.EndLemmas.{least_trans, begins_split, begins_joined, no_key_between, below_or_least, length-take}
 use Rattle.bd_query.specs.declared.stretch.Stretch.{Stretch}
 use Rattle.bd_query.specs.declared.stretch.Stretch.TheVariants.{Present, Absent, Child}
 use Rattle.bd_query.specs.Stretches.{IsEnd, IsWithin, end_limit, NoneFrom, IsNewest, IsWay, IsEmpty, IsAsked, IsStretch, EndsBy, AsksOneOf}

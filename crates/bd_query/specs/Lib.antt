@@ -1,4 +1,3 @@
 pub mod Looks
-pub mod Visits
 pub mod Stretches
 pub mod Asks

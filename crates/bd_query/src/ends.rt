@@ -8,9 +8,9 @@ ghost use Rattle.bd_message.specs.Messages.{IsMessage};
 ghost use Rattle.bd_node.specs.Touching.{touches};
 ghost use Rattle.bd_query.specs.Stretches.{IsEnd, IsWithin, end_limit, first_key};
 
-use bd_inner::can_touch;
 use bd_keys::{Bytes, after};
 use bd_message::Message;
+use bd_node::can_touch;
 use std::alloc::{AllocError, Global};
 
 /// Bytes after others.

@@ -14,11 +14,10 @@ ghost use Rattle.bd_query.specs.Looks.{part_at, IsNamedIn, IsOldOr};
 
 use crate::ends::joined;
 use crate::patch::Patch;
-use bd_inner::edge_of;
 use bd_keys::{Bytes, tail};
 use bd_leaf::value_at;
 use bd_message::Message;
-use bd_node::{Edge, Messages, Node};
+use bd_node::{Edge, Messages, Node, edge_of};
 use std::alloc::{AllocError, Global};
 
 /// What stands at a key before patches.

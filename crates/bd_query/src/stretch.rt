@@ -14,10 +14,9 @@ ghost use Rattle.bd_query.specs.Asks.{asked_by, asked_first, asked_through, aske
 ghost use Rattle.bd_query.specs.Stretches.{IsEnd, IsWithin, IsNewest, NoneAmong, after, IsWay, IsStretch, HasEnd, EndsBy, AsksOneOf, end_limit};
 
 use crate::ends::{copied_end, end_within, narrowed, successor};
-use bd_inner::end_of;
 use bd_keys::Bytes;
 use bd_message::Message;
-use bd_node::{Edge, Entry, Messages, Node, Steps};
+use bd_node::{Edge, Entry, Messages, Node, Steps, end_of};
 use std::alloc::{AllocError, Global};
 use std::marker::Brand;
 use std::sync::ledger::{Blank, Ledger};
@@ -140,7 +139,7 @@ fn edge_place_with<L: Ledger>(edges: &[Edge], key: &[u8], blank: Blank) -> usize
     ensures within { result < length edges.now }
 {
     let mut steps = Steps::<L>::new(blank);
-    bd_inner::place(edges, key, &mut steps)
+    bd_node::place(edges, key, &mut steps)
 }
 
 // What an edge and the messages that it hasn't seen say, where the edge's keys end at `end`.

@@ -11,10 +11,9 @@ ghost use Rattle.bd_node.specs.declared.node.Node.{Node};
 ghost use Rattle.bd_node.specs.Nodes.{node_at};
 ghost use Rattle.bd_node.specs.Meaning.{at};
 ghost use Rattle.bd_node.specs.Tables.{IsKept, IsSound};
-ghost use Rattle.bd_node.specs.Stores.{visited};
+ghost use Rattle.bd_node.specs.Stores.{visited, AreVisits};
 ghost use Rattle.bd_query.specs.Stretches.{IsEnd, IsAsked, IsStretch, HasEnd, AsksLower, IsTurn, PassesTo, end_limit, way_limit};
 ghost use Rattle.bd_query.specs.Asks.{asked_at, asked_in, AreVisitsOfWay};
-ghost use Rattle.bd_query.specs.Visits.{AreVisits};
 
 use crate::ends::{joined, lesser};
 use crate::stretch::{Stretch, stretch_of};

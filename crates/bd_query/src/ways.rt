@@ -10,9 +10,8 @@ ghost use Rattle.bd_node.specs.declared.node.Node.{Node};
 ghost use Rattle.bd_node.specs.Nodes.{node_at};
 ghost use Rattle.bd_node.specs.Meaning.{at};
 ghost use Rattle.bd_node.specs.Tables.{IsKept, IsSound};
-ghost use Rattle.bd_node.specs.Stores.{visited};
+ghost use Rattle.bd_node.specs.Stores.{visited, AreVisits};
 ghost use Rattle.bd_query.specs.Looks.{patched, part_at, IsLowerBase};
-ghost use Rattle.bd_query.specs.Visits.{AreVisits};
 
 use crate::part::{Base, Part, part_of};
 use crate::patch::Patch;

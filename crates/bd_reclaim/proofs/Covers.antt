@@ -17,7 +17,7 @@ use Rattle.bd_node.specs.Shape.{end_before, IsShape}
 use Rattle.bd_node.proofs.Edges.{not_less_lt}
 use Rattle.bd_node.specs.Parts.{edges_of, buffer_of, end_at, IsEdgeAt}
 use Rattle.bd_inner.proofs.Fitting.{own_shape}
-use Rattle.bd_inner.proofs.Touched.{cut_first}
+use Rattle.bd_node.proofs.Touched.{cut_first}
 use Rattle.bd_inner.proofs.CarvingOwned.{begins_front, front_begins}
 use Rattle.bd_node.proofs.Parts.{edge_within}
 use Rattle.bd_reclaim.specs.declared.covering.Cover.{Cover}

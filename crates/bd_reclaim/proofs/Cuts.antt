@@ -8,7 +8,7 @@ use Rattle.bd_node.specs.declared.node.Edge.{Edge}
 use Rattle.bd_node.specs.declared.node.Node.{Node}
 use Rattle.bd_node.specs.Shape.{IsPending}
 use Rattle.bd_node.specs.Parts.{edges_of, buffer_of, end_at, IsEdgeAt}
-use Rattle.bd_inner.specs.Moving.{CanTouch}
+use Rattle.bd_node.specs.Touching.{CanTouch}
 use Rattle.bd_node.proofs.Parts.{edge_within}
 use Rattle.bd_reclaim.specs.declared.covering.Cover.TheVariants.{Gone}
 use Rattle.bd_reclaim.specs.Covering.{Says, IsCutFor, HasCut, HasNoCut, IsFirstCut}

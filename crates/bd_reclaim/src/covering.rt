@@ -7,10 +7,9 @@ ghost use Rattle.bd_node.specs.Shape.{IsShape};
 ghost use Rattle.bd_reclaim.specs.declared.covering.Cover.{Cover};
 ghost use Rattle.bd_reclaim.specs.Covering.{Says, TouchesAll, NoneDecides, IsNewest, HasNoCovered, IsFirstCovered, IsCutFor, HasNoCut, IsFirstCut};
 
-use bd_inner::{can_touch, end_of};
 use bd_keys::{lift, starts};
 use bd_message::Message;
-use bd_node::{Edge, Node, touches};
+use bd_node::{Edge, Node, can_touch, end_of, touches};
 use bd_path::{buffer_of, edges_of};
 
 /// What a message says of all keys that it decides.

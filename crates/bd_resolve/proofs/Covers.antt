@@ -12,7 +12,7 @@ use Rattle.bd_message.specs.Effect.{NodesAt, same_key, begins, rest, is_cut, act
 use Rattle.bd_message.proofs.Finds.{same_key-true, not_both}
 use Rattle.bd_node.specs.Touching.{touches}
 use Rattle.bd_node.proofs.LawLemmas.{skipped}
-use Rattle.bd_query.proofs.Parts.{message_at}
+use Rattle.bd_node.proofs.Shapes.{message_at}
 use Rattle.bd_resolve.specs.Following.{target_at, covers, covered, NoneCovers}
 use Rattle.bd_resolve.proofs.Prefixes.{begins_more, rest_more, begins_less, cut_more, cut_less}
 

@@ -1,10 +1,9 @@
 -- Where the way of a prefix leads from a node.
-use Rattle.std.proofs.Common.{◌≡◌, ◌↔◌, ℕ, suc, ◌+◌, ◌<◌, ◌≤◌, Bool, true, false, cond, List, [], ◌∷◌, ◌++◌, length, take, drop, min, max, get_or, ◌-◌, refl, sym, ap, subst, ◌∙◌, Option, None, Some, inl, inr, ◌⊎◌, arith, append_assoc, IsTrue}
+use Rattle.std.proofs.Common.{◌≡◌, ◌↔◌, ℕ, suc, ◌+◌, ◌<◌, ◌≤◌, Bool, true, false, cond, List, [], ◌∷◌, ◌++◌, length, take, drop, min, max, get_or, ◌-◌, refl, sym, ap, subst, ◌∙◌, Option, None, Some, inl, inr, arith, append_assoc, IsTrue}
 use Rattle.std.specs.Prelude.{slice_get, count_by, ◌==◌}
 use Rattle.std.specs.List.{flat_map}
 use Rattle.std.specs.Ordering.{is_lt}
 use Rattle.std.proofs.lemmas.List.{drop-append-le, length-take, length-take-le, take_all}
-use Rattle.std.proofs.lemmas.List.Sums.{sum_by-append}
 use Rattle.std.proofs.lemmas.Bool.{cases_lt}
 use Rattle.std.proofs.Math.Nat.{min-eq_right, max-eq_left, max-eq_right, le-max_left, le-max_right}
 use Rattle.std.specs.Option.{option_to_list}
@@ -21,12 +20,13 @@ use Rattle.bd_node.specs.Nodes.{edge_names, message_names, edge_from, edge_of, c
 use Rattle.bd_node.specs.Shape.{end_before, EachEdge, SomeEdge, IsEdge, IsInner, IsShape}
 use Rattle.bd_node.proofs.Edges.{some_edge, EachEdge-weaker, SomeEdge-weaker}
 use Rattle.bd_node.proofs.Lookup.{count-cons_same}
-use Rattle.bd_inner.proofs.Touched.{touched_at_least, touched_within}
-use Rattle.bd_query.specs.declared.part.Base.TheVariants.{Value, Ask}
-use Rattle.bd_query.proofs.Parts.{inner_named, inner_seen, old_or_more}
+use Rattle.bd_node.proofs.Touched.{touched_at_least, touched_within}
+use Rattle.bd_node.proofs.Counted.{counted_first, counted_second, message_counted, edge_of_counted}
+use Rattle.bd_node.proofs.Shapes.{inner_seen}
 use Rattle.bd_resolve.specs.declared.following.Target.{Target}
 use Rattle.bd_resolve.specs.declared.following.Followed.{Followed}
-use Rattle.bd_resolve.specs.Following.{target_at, target_of, edge_target, covers, covered, NoneCovers, GoesOn, IsUnder, IsNamedTarget, IsFollowed, IsByCover, IsThroughEdge, IsSpreadOver}
+use Rattle.bd_resolve.specs.Following.{target_at, target_of, edge_target, covers, covered, NoneCovers, GoesOn, IsUnder, IsNamedTarget, IsFollowed, IsByCover, IsMostSeen, IsThroughEdge, IsSpreadOver}
+use Rattle.bd_resolve.specs.Following.IsByCoverOr.{by_cover, by_none}
 use Rattle.bd_resolve.proofs.Prefixes.{same_side}
 use Rattle.bd_resolve.proofs.Covers.{covers_acts, acts_cover}
 
@@ -102,28 +102,24 @@ named_child None source target is = absurd (none-some target is)
 named_child (Some child) source target is =
     subst (λ (c : ℕ). 1 ≤ count_by (λ name. name == c) (child ∷ [])) (ap (λ (t : Target). t.child) (same_Some _ target is)) (omega (arith, count-cons_same child []))
 
-value_ask : (child : ℕ) (key : List ℕ) (old : Option (List ℕ)) → Ask child key ≡ Value old → ⊥
-value_ask child key old h = cc
-
 by_target : (ns : List ℕ) (found : Option Target) → ((target : Target) → found ≡ Some target → 1 ≤ count_by (λ name. name == target.child) ns) → IsNamedTarget ns found
 by_target ns None h = tt
 by_target ns (Some target) h = h target refl
 
-message_in : (es : List Edge) (buffer : List Message) (c : ℕ) → 1 ≤ count_by (λ name. name == c) (flat_map message_names buffer) → 1 ≤ count_by (λ name. name == c) (flat_map edge_names es ++ flat_map message_names buffer)
-message_in es buffer c one = omega (arith, sum_by-append (λ (x : ℕ). cond (x == c) 1 0) (flat_map edge_names es) (flat_map message_names buffer))
-
 cover_named : (es : List Edge) (buffer : List Message) (q : List ℕ) (place : ℕ) (m : Message) → slice_get buffer place ≡ Some m → covers m q ≡ true → IsNamedTarget (flat_map edge_names es ++ flat_map message_names buffer) (covered m q)
 cover_named es buffer q place m there h =
     by_target (flat_map edge_names es ++ flat_map message_names buffer) (covered m q) (λ target is.
-    elim (old_or_more buffer place m (Value None) (Value None) (Ask target.child []) there (inl refl) (inr (named_message q m h target is))) [
-      | inl same ↦ absurd (value_ask target.child [] None same)
-      | inr named ↦ message_in es buffer target.child named
-    ])
+    (let one : 1 ≤ count_by (λ name. name == target.child) (message_names m) = named_message q m h target is in
+    let of_message : count_by (λ name. name == target.child) (message_names m) ≤ count_by (λ name. name == target.child) (flat_map message_names buffer) = message_counted buffer place m target.child there in
+    let of_all : count_by (λ name. name == target.child) (flat_map message_names buffer) ≤ count_by (λ name. name == target.child) (flat_map edge_names es ++ flat_map message_names buffer) = counted_second target.child (flat_map edge_names es) (flat_map message_names buffer) in omega arith))
 
 edge_named : (es : List Edge) (buffer : List Message) (q : List ℕ) (e : Edge) → edge_of es q ≡ Some e → IsNamedTarget (flat_map edge_names es ++ flat_map message_names buffer) (edge_target e q)
 edge_named es buffer q e there =
     by_target (flat_map edge_names es ++ flat_map message_names buffer) (edge_target e q)
-    (λ target is. inner_named es buffer q e (Ask target.child []) (Ask target.child []) there (named_child e.child (e.source ++ drop e.lift q) target is) (inl refl))
+    (λ target is.
+    (let one : 1 ≤ count_by (λ name. name == target.child) (edge_names e) = named_child e.child (e.source ++ drop e.lift q) target is in
+    let of_edge : count_by (λ name. name == target.child) (edge_names e) ≤ count_by (λ name. name == target.child) (flat_map edge_names es) = edge_of_counted es q e target.child there in
+    let of_all : count_by (λ name. name == target.child) (flat_map edge_names es) ≤ count_by (λ name. name == target.child) (flat_map edge_names es ++ flat_map message_names buffer) = counted_first target.child (flat_map edge_names es) (flat_map message_names buffer) in omega arith))
 
 -- ---- where the way leads
 
@@ -140,8 +136,8 @@ cover_answer level es buffer q seen place m below k found later there covering =
     ∙ acts_cover below buffer found.0.seen place m (q ++ k) (target_at below (covered m q) k) le there (λ old. covers_acts below m q k old covering) _
     ∙ ap (λ (i : ℕ). acts below (drop i buffer) (q ++ k) (target_at below (covered m q) k)) one
 
-by_cover : (level : ℕ) (es : List Edge) (buffer : List Message) (q : List ℕ) (seen : ℕ) (f : Followed) → SeenAtMost es q seen → IsByCover buffer seen q f → IsFollowed (Inner level es buffer) q f
-by_cover level es buffer q seen f most h =
+covered_followed : (level : ℕ) (es : List Edge) (buffer : List Message) (q : List ℕ) (seen : ℕ) (f : Followed) → SeenAtMost es q seen → IsByCover buffer seen q f → IsFollowed (Inner level es buffer) q f
+covered_followed level es buffer q seen f most h =
     subst (λ (g : Followed). IsFollowed (Inner level es buffer) q g) (sym h.leads) (record {
       within = (let w : h.place < length buffer = slice_get_within buffer h.place h.message h.here in omega arith);
       answer = λ below k. cover_answer level es buffer q seen h.place h.message below k (most k) h.later h.here h.covering;
@@ -154,23 +150,20 @@ under_all level es buffer q seen h most k =
     from_some (λ (f : Edge) hi. (edge_of es (q ++ k) ≡ Some f) × InRange f.pivot hi (q ++ k) × (IsUnder q f hi → f.seen ≤ seen)) ((e : Edge) × (edge_of es (q ++ k) ≡ Some e) × (e.seen ≤ seen)) (λ f hi found. (f, found.0, found.2 (q ++ k, found.1, begins-append q k)))
     es (some_edge (λ e hi. IsUnder q e hi → e.seen ≤ seen) es (q ++ k) most h.first)
 
-seen_under : (es : List Edge) (buffer : List Message) (q : List ℕ) (seen : ℕ) → ((seen ≡ 0) ⊎ SomeEdge (λ e hi. IsUnder q e hi × (e.seen ≡ seen)) es) → NoneCovers buffer seen q
+seen_under : (es : List Edge) (buffer : List Message) (q : List ℕ) (seen : ℕ) → IsMostSeen es q seen → NoneCovers buffer seen q
     → (place : ℕ) (m : Message) → slice_get buffer place ≡ Some m → covers m q ≡ true → SomeEdge (λ e hi. IsUnder q e hi × (place < e.seen)) es
-seen_under es buffer q seen some none place m there covering = elim (cases_lt place seen) [
+seen_under es buffer q seen most none place m there covering = elim (cases_lt place seen) [
   | inr late ↦ absurd (not_both covering (none place m late there))
-  | inl early ↦ elim some [
-    | inl nothing ↦ absurd (let l : place < seen = early in let z : seen ≡ 0 = nothing in omega arith)
-    | inr found ↦ SomeEdge-weaker (λ e hi. IsUnder q e hi × (e.seen ≡ seen)) (λ e hi. IsUnder q e hi × (place < e.seen))
-        (λ e hi own. (own.0, (let l : place < seen = early in let same : e.seen ≡ seen = own.1 in omega arith))) es found
-  ]
+  | inl early ↦ SomeEdge-weaker (λ e hi. IsUnder q e hi × (e.seen ≡ seen)) (λ e hi. IsUnder q e hi × (place < e.seen))
+      (λ e hi own. (own.0, (let l : place < seen = early in let same : e.seen ≡ seen = own.1 in omega arith))) es (most.one (let l : place < seen = early in omega arith))
 ]
 
 pub spread_followed : (level : ℕ) (es : List Edge) (buffer : List Message) (q : List ℕ) (f : Followed) → IsInner level es buffer → SomeEdge (GoesOn q) es → IsSpreadOver es buffer q f → IsFollowed (Inner level es buffer) q f
-spread_followed level es buffer q f h several over = elim over.3 [
-  | inl cover ↦ by_cover level es buffer q over.0 f (under_all level es buffer q over.0 h over.1) cover
-  | inr here ↦ subst (λ (g : Followed). IsFollowed (Inner level es buffer) q g) (sym here.1) (inr (record {
+spread_followed level es buffer q f h several over = elim over.leads [
+  | by_cover cover ↦ covered_followed level es buffer q over.seen f (under_all level es buffer q over.seen h over.most.all) cover
+  | by_none none here ↦ subst (λ (g : Followed). IsFollowed (Inner level es buffer) q g) (sym here) (inr (record {
     several = several;
-    seen = seen_under es buffer q over.0 over.2 here.0;
+    seen = seen_under es buffer q over.seen over.most none;
   }))
 ]
 
@@ -179,13 +172,13 @@ one_edge es q e one there k = (e, edge_of-more es q k one ∙ there, (omega arit
 
 pub through_followed : (level : ℕ) (es : List Edge) (buffer : List Message) (q : List ℕ) (e : Edge) (f : Followed) → IsInner level es buffer → IsKey q → (SomeEdge (GoesOn q) es → ⊥) → edge_of es q ≡ Some e → IsThroughEdge e buffer q f → IsFollowed (Inner level es buffer) q f
 through_followed level es buffer q e f h key one there over = elim over [
-  | inl cover ↦ by_cover level es buffer q e.seen f (one_edge es q e one there) cover
-  | inr asked ↦ subst (λ (g : Followed). IsFollowed (Inner level es buffer) q g) (sym asked.1) (record {
+  | by_cover cover ↦ covered_followed level es buffer q e.seen f (one_edge es q e one there) cover
+  | by_none none asked ↦ subst (λ (g : Followed). IsFollowed (Inner level es buffer) q g) (sym asked) (record {
     within = inner_seen level es buffer q e h there;
     answer = λ below k.
         ap (λ (o : Option Edge). through below o buffer (q ++ k)) (edge_of-more es q k one ∙ there)
         ∙ ap (λ v. acts below (drop e.seen buffer) (q ++ k) v) (target_more below e.child e.source q k e.lift (inner_lift level es buffer q e h key there));
-    newest = asked.0;
+    newest = none;
     named = edge_named es buffer q e there;
   })
 ]
@@ -223,7 +216,7 @@ rest_of es = take (length es - 1) (drop 1 es)
 rest_is : (e : Edge) (es : List Edge) → rest_of (e ∷ es) ≡ es
 rest_is e es = take_all (length (e ∷ es) - 1) es (omega arith)
 
-pub most_of_all : (es : List Edge) (q : List ℕ) (e : Edge) (most new : ℕ) → 1 ≤ length es → e ≡ get_or es 0 e → EachEdge (λ f hi. IsUnder q f hi → f.seen ≤ most) (rest_of es) → new ≡ max most e.seen → EachEdge (λ f hi. IsUnder q f hi → f.seen ≤ new) es
+most_of_all : (es : List Edge) (q : List ℕ) (e : Edge) (most new : ℕ) → 1 ≤ length es → e ≡ get_or es 0 e → EachEdge (λ f hi. IsUnder q f hi → f.seen ≤ most) (rest_of es) → new ≡ max most e.seen → EachEdge (λ f hi. IsUnder q f hi → f.seen ≤ new) es
 most_of_all [] q e most new some is h same = absurd (omega arith)
 most_of_all (d ∷ es) q e most new some is h same = (
   (λ under. (let first : e.seen ≡ d.seen = ap (λ (f : Edge). f.seen) is in omega (arith, le-max_right most e.seen, same))),
@@ -231,17 +224,28 @@ most_of_all (d ∷ es) q e most new some is h same = (
       (subst (λ (l : List Edge). EachEdge (λ f hi. IsUnder q f hi → f.seen ≤ most) l) (rest_is d es) h),
 )
 
-pub most_of_some : (es : List Edge) (q : List ℕ) (e : Edge) (most new : ℕ) → 1 ≤ length es → e ≡ get_or es 0 e → IsUnder q e (end_before (rest_of es)) → ((most ≡ 0) ⊎ SomeEdge (λ f hi. IsUnder q f hi × (f.seen ≡ most)) (rest_of es)) → new ≡ max most e.seen → (new ≡ 0) ⊎ SomeEdge (λ f hi. IsUnder q f hi × (f.seen ≡ new)) es
-most_of_some [] q e most new some is under h same = absurd (omega arith)
-most_of_some (d ∷ es) q e most new some is under h same = elim (cases_lt e.seen most) [
+most_of_one : (es : List Edge) (q : List ℕ) (e : Edge) (most new : ℕ) → 1 ≤ length es → e ≡ get_or es 0 e → IsUnder q e (end_before (rest_of es)) → (1 ≤ most → SomeEdge (λ f hi. IsUnder q f hi × (f.seen ≡ most)) (rest_of es)) → new ≡ max most e.seen → SomeEdge (λ f hi. IsUnder q f hi × (f.seen ≡ new)) es
+most_of_one [] q e most new some is under h same = absurd (omega arith)
+most_of_one (d ∷ es) q e most new some is under h same = elim (cases_lt e.seen most) [
   | inr more ↦
       let new_is : new ≡ e.seen = same ∙ max-eq_right more in
-      inr (inl (subst (λ (f : Edge). IsUnder q f (end_before es)) is (subst (λ (l : List Edge). IsUnder q e (end_before l)) (rest_is d es) under), sym (ap (λ (f : Edge). f.seen) is) ∙ sym new_is))
+      inl (subst (λ (f : Edge). IsUnder q f (end_before es)) is (subst (λ (l : List Edge). IsUnder q e (end_before l)) (rest_is d es) under), sym (ap (λ (f : Edge). f.seen) is) ∙ sym new_is)
   | inl less ↦
       let new_is : new ≡ most = same ∙ max-eq_left (let l : e.seen < most = less in omega arith) in
-      elim h [
-        | inl none ↦ inl (new_is ∙ none)
-        | inr later ↦ inr (inr (SomeEdge-weaker (λ f hi. IsUnder q f hi × (f.seen ≡ most)) (λ f hi. IsUnder q f hi × (f.seen ≡ new)) (λ f hi own. (own.0, own.1 ∙ sym new_is)) es
-            (subst (λ (l : List Edge). SomeEdge (λ f hi. IsUnder q f hi × (f.seen ≡ most)) l) (rest_is d es) later)))
-      ]
+      inr (SomeEdge-weaker (λ f hi. IsUnder q f hi × (f.seen ≡ most)) (λ f hi. IsUnder q f hi × (f.seen ≡ new)) (λ f hi own. (own.0, own.1 ∙ sym new_is)) es
+      (subst (λ (l : List Edge). SomeEdge (λ f hi. IsUnder q f hi × (f.seen ≡ most)) l) (rest_is d es) (h (let l : e.seen < most = less in omega arith))))
 ]
+
+pub most_under : (es : List Edge) (q : List ℕ) (e : Edge) (most new : ℕ) → 1 ≤ length es → e ≡ get_or es 0 e → IsUnder q e (end_before (rest_of es)) → IsMostSeen (rest_of es) q most → new ≡ max most e.seen → IsMostSeen es q new
+most_under es q e most new some is under h same = record {
+  all = most_of_all es q e most new some is h.all same;
+  one = λ any. most_of_one es q e most new some is under h.one same;
+}
+
+-- an edge without a key of the prefix doesn't count
+pub most_beside : (es : List Edge) (q : List ℕ) (e : Edge) (most : ℕ) → 1 ≤ length es → e ≡ get_or es 0 e → (IsUnder q e (end_before (rest_of es)) → ⊥) → IsMostSeen (rest_of es) q most → IsMostSeen es q most
+most_beside [] q e most some is other h = absurd (omega arith)
+most_beside (d ∷ es) q e most some is other h =
+    let rest : IsMostSeen es q most = subst (λ (l : List Edge). IsMostSeen l q most) (rest_is d es) h in
+    let first : IsUnder q d (end_before es) → ⊥ = λ under. other (subst (λ (l : List Edge). IsUnder q e (end_before l)) (sym (rest_is d es)) (subst (λ (f : Edge). IsUnder q f (end_before es)) (sym is) under)) in
+    record { all = ((λ under. absurd (first under)), rest.all); one = λ any. inr (rest.one any) }

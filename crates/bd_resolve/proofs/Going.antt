@@ -19,7 +19,7 @@ use Rattle.bd_node.proofs.LawLemmas.{keys_meet}
 use Rattle.bd_node.proofs.Meanings.{at-meets}
 use Rattle.bd_resolve.specs.declared.following.Target.{Target}
 use Rattle.bd_node.specs.Stores.{visited}
-use Rattle.bd_query.proofs.Visited.{VisitsTo}
+use Rattle.bd_node.proofs.Visited.{VisitsTo}
 use Rattle.bd_resolve.specs.declared.following.Followed.{Followed}
 use Rattle.bd_resolve.specs.declared.following.Followed.TheVariants.{Past}
 use Rattle.bd_resolve.specs.Following.{target_at, IsNamedTarget, IsLowerTarget, IsEnd, IsPast, IsFollowed, GoesOn, AreNoneOr}

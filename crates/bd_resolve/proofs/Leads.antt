@@ -16,6 +16,7 @@ use Rattle.bd_node.proofs.Edges.{some_edge, EachEdge-weaker}
 use Rattle.bd_node.proofs.LawLemmas.{edge_only}
 use Rattle.bd_resolve.specs.declared.following.Followed.{Followed}
 use Rattle.bd_resolve.specs.Following.{GoesOn, IsUnder, IsByCover, IsThroughEdge, IsSpreadOver, Decides, IsLed, LeadsTo}
+use Rattle.bd_resolve.specs.Following.IsByCoverOr.{by_cover, by_none}
 use Rattle.bd_resolve.specs.Following.IsLed.{by_message, by_edge, at_several}
 use Rattle.bd_resolve.proofs.Follows.{each_some, from_some, edge_of-more}
 
@@ -41,17 +42,14 @@ seen_decides es buffer q seen place m found early h =
     (λ e hi before own. absurd (let a : e.seen ≤ place = before own.0 in let b : e.seen ≡ seen = own.1 in omega arith)) es h.pending found)
 
 pub spread_led : (es : List Edge) (buffer : List Message) (q : List ℕ) (f : Followed) → q ≢ [] → SomeEdge (GoesOn q) es → IsSpreadOver es buffer q f → IsLed es buffer q f
-spread_led es buffer q f some several over = elim over.3 [
-  | inl cover ↦ led_cover es buffer q over.0 f some over.1 cover
-  | inr here ↦ at_several some
-      (λ place m late decides. elim (cases_lt place over.0) [
-        | inr past ↦ not_both decides.covering (here.0 place m past decides.here)
-        | inl early ↦ elim over.2 [
-          | inl nothing ↦ absurd (let l : place < over.0 = early in let z : over.0 ≡ 0 = nothing in omega arith)
-          | inr found ↦ seen_decides es buffer q over.0 place m found early decides
-        ]
+spread_led es buffer q f some several over = elim over.leads [
+  | by_cover cover ↦ led_cover es buffer q over.seen f some over.most.all cover
+  | by_none none here ↦ at_several some
+      (λ place m late decides. elim (cases_lt place over.seen) [
+        | inr past ↦ not_both decides.covering (none place m past decides.here)
+        | inl early ↦ seen_decides es buffer q over.seen place m (over.most.one (let l : place < over.seen = early in omega arith)) early decides
       ])
-      several here.1
+      several here
 ]
 
 -- what holds of each edge for every key
@@ -82,13 +80,13 @@ one_decides level es buffer q e place m h there early decides =
 
 pub through_led : (level : ℕ) (es : List Edge) (buffer : List Message) (q : List ℕ) (e : Edge) (f : Followed) → IsInner level es buffer → q ≢ [] → (SomeEdge (GoesOn q) es → ⊥) → edge_of es q ≡ Some e → IsThroughEdge e buffer q f → IsLed es buffer q f
 through_led level es buffer q e f h some one there over = elim over [
-  | inl cover ↦ led_cover es buffer q e.seen f some (under_one level es buffer q e h one there) cover
-  | inr asked ↦ by_edge e some
+  | by_cover cover ↦ led_cover es buffer q e.seen f some (under_one level es buffer q e h one there) cover
+  | by_none none asked ↦ by_edge e some
       (λ place m late decides. elim (cases_lt place e.seen) [
-        | inr past ↦ not_both decides.covering (asked.0 place m past decides.here)
+        | inr past ↦ not_both decides.covering (none place m past decides.here)
         | inl early ↦ one_decides level es buffer q e place m h there early decides
       ])
-      one there asked.1
+      one there asked
 ]
 
 -- ---- the same, as the code knows it

@@ -12,7 +12,7 @@ use Rattle.bd_node.specs.Nodes.{names, node_at, edge_of}
 use Rattle.bd_node.specs.Shape.{EachEdge, SomeEdge}
 use Rattle.bd_node.specs.Tables.{Table, IsLower}
 use Rattle.bd_node.specs.Parts.{buffer_of}
-use Rattle.bd_query.specs.Visits.{AreVisits}
+use Rattle.bd_node.specs.Stores.{AreVisits}
 use Rattle.bd_resolve.specs.declared.following.Target.{Target}
 use Rattle.bd_resolve.specs.declared.following.Followed.{Followed}
 use Rattle.bd_resolve.specs.declared.following.Followed.TheVariants.{Here, Past}
@@ -87,6 +87,12 @@ edge_target e q = target_of e.child (e.source ++ drop e.lift q)
 abbrev pub IsUnder : List ℕ → Edge → Option (List ℕ) → Type 0
 IsUnder q e hi = (k : List ℕ) × InRange e.pivot hi k × (begins k q ≡ true)
 
+-- so many messages are the most that an edge with a key of the prefix has seen: no such edge has
+-- seen more, and, unless there are none, one of them has seen as many
+pub record IsMostSeen (edges : List Edge) (q : List ℕ) (seen : ℕ) : Type 0 where
+  pub all : EachEdge (λ e hi. IsUnder q e hi → e.seen ≤ seen) edges
+  pub one : 1 ≤ seen → SomeEdge (λ e hi. IsUnder q e hi × (e.seen ≡ seen)) edges
+
 -- the edge's pivot begins with the prefix, and goes on
 abbrev pub GoesOn : List ℕ → Edge → Option (List ℕ) → Type 0
 GoesOn q e hi = (begins e.pivot q ≡ true) × (length q < length e.pivot)
@@ -135,17 +141,24 @@ pub record IsByCover (list : List Message) (from : ℕ) (q : List ℕ) (f : Foll
   pub newest : NoneCovers list (place + 1) q
   pub leads : f ≡ Past (place + 1) (covered message q)
 
--- the way of a prefix whose keys are of several edges
-abbrev pub IsSpreadOver : List Edge → List Message → List ℕ → Followed → Type 0
-IsSpreadOver edges buffer q f = (seen : ℕ)
-    × EachEdge (λ e hi. IsUnder q e hi → e.seen ≤ seen) edges
-    × ((seen ≡ 0) ⊎ SomeEdge (λ e hi. IsUnder q e hi × (e.seen ≡ seen)) edges)
-    × (IsByCover buffer seen q f ⊎ (NoneCovers buffer seen q × (f ≡ Here)))
+-- the same, and without such a message the way leads elsewhere
+pub data IsByCoverOr (elsewhere : Followed) (list : List Message) (from : ℕ) (q : List ℕ)
+    (f : Followed) : Type 0 where
+  by_cover : IsByCover list from q f → IsByCoverOr elsewhere list from q f
+  by_none : NoneCovers list from q → f ≡ elsewhere → IsByCoverOr elsewhere list from q f
 
--- the way of a prefix whose keys are of one edge
+-- the way of a prefix whose keys are of several edges: the newest message leads on that covers it
+-- and that none of these edges has seen, and without one the way ends
+pub record IsSpreadOver (edges : List Edge) (buffer : List Message) (q : List ℕ) (f : Followed)
+    : Type 0 where
+  pub seen : ℕ
+  pub most : IsMostSeen edges q seen
+  pub leads : IsByCoverOr Here buffer seen q f
+
+-- the way of a prefix whose keys are of one edge: the newest message leads on that covers it and
+-- that the edge hasn't seen, and without one the edge
 abbrev pub IsThroughEdge : Edge → List Message → List ℕ → Followed → Type 0
-IsThroughEdge e buffer q f = IsByCover buffer e.seen q f
-    ⊎ (NoneCovers buffer e.seen q × (f ≡ Past e.seen (edge_target e q)))
+IsThroughEdge e buffer q f = IsByCoverOr (Past e.seen (edge_target e q)) buffer e.seen q f
 
 -- ---- which message or edge leads on
 

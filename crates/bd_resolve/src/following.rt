@@ -1,18 +1,17 @@
 //! What answers for all keys that begin with a prefix, at one node.
 
-ghost use Rattle.std.specs.Prelude.{◌≡◌, ◌↔◌, ◌≤◌, ◌⊎◌, ℕ, List, true, IfOk, IsTrue};
+ghost use Rattle.std.specs.Prelude.{◌≡◌, ◌↔◌, ℕ, List, true, IfOk, IsTrue};
 ghost use Rattle.std.specs.Option.{option_copied};
 ghost use Rattle.bd_keys.specs.Keys.{IsKey, IsBelowEnd, InRange};
 ghost use Rattle.bd_message.specs.Effect.{begins};
-ghost use Rattle.bd_node.specs.Shape.{AreRising, EachEdge, SomeEdge, IsShape};
+ghost use Rattle.bd_node.specs.Shape.{AreRising, SomeEdge, IsShape};
 ghost use Rattle.bd_resolve.specs.declared.following.Followed.TheVariants as followed;
-ghost use Rattle.bd_resolve.specs.Following.{GoesOn, IsUnder, IsFollowed, IsSpreadOver, IsThroughEdge, IsCoverAt, IsPastCover, edge_target, LeadsTo};
+ghost use Rattle.bd_resolve.specs.Following.{GoesOn, IsMostSeen, IsFollowed, IsSpreadOver, IsThroughEdge, IsCoverAt, IsPastCover, edge_target, LeadsTo};
 
 use crate::covering::{covered, joined, newest_cover};
-use bd_inner::{edge_of, end_before};
 use bd_keys::{Bytes, tail};
 use bd_message::Message;
-use bd_node::{Edge, Node};
+use bd_node::{Edge, Node, edge_of, end_before, is_in_range};
 use std::alloc::{AllocError, Global};
 
 /// What a node has at keys that begin with a source, by what follows it.
@@ -146,9 +145,7 @@ fn is_spread(edges: &[Edge], prefix: &[u8]) -> bool
 // How many messages the edges with keys of a prefix have seen: the most.
 fn most_seen(edges: &[Edge], prefix: &[u8]) -> usize
     requires { AreRising edges.now }
-    ensures all { EachEdge (λ e hi. IsUnder prefix.now e hi → e.seen ≤ result) edges.now }
-    ensures some { (result ≡ 0)
-        ⊎ SomeEdge (λ e hi. IsUnder prefix.now e hi × (e.seen ≡ result)) edges.now }
+    ensures { IsMostSeen edges.now prefix.now result }
 {
     let [edge, rest @ ..] = edges else {
         return 0;
@@ -167,17 +164,5 @@ fn is_under(lo: &[u8], hi: Option<&[u8]>, prefix: &[u8]) -> bool
     ensures { IsTrue result ↔ ((k : List ℕ) × InRange lo.now (option_copied hi.entry) k
         × (begins k prefix.now ≡ true)) }
 {
-    lo.starts_with(prefix) || is_within(prefix, lo, hi)
-}
-
-// Whether a key is at least `lo` and below `hi`.
-fn is_within(key: &[u8], lo: &[u8], hi: Option<&[u8]>) -> bool
-    ensures { IsTrue result ↔ InRange lo.now (option_copied hi.entry) key.now }
-{
-    let above = !key.cmp(lo).is_lt();
-    above
-        && match hi {
-            Some(hi) => key.cmp(hi).is_lt(),
-            None => true,
-        }
+    lo.starts_with(prefix) || is_in_range(prefix, lo, hi)
 }

@@ -9,9 +9,8 @@ ghost use Rattle.bd_message.specs.Messages.{IsMessage, size};
 ghost use Rattle.bd_node.specs.Shape.{AreRising};
 ghost use Rattle.bd_step.specs.Pending.{IsWaiting, IsPendingSize, IsFullest};
 
-use bd_inner::{can_touch, end_before};
 use bd_message::Message;
-use bd_node::Edge;
+use bd_node::{Edge, can_touch, end_before};
 
 /// The edge for which most bytes of messages are pending.
 #[derive(Clone, Copy, Debug)]

@@ -18,9 +18,8 @@ ghost use Rattle.bd_flush.specs.Pushes.{AllGoDown};
 ghost use Rattle.bd_flush.specs.Carving.{IsHeldGoto, IsFreeAt, AreFree, IsOldestGoto, IsOldestAt, CanCarve, IsCarveStep};
 ghost use Rattle.bd_path.specs.Paths.{change_step};
 
-use bd_inner::{can_touch, end_of};
 use bd_message::Message;
-use bd_node::{Edge, NodeStore};
+use bd_node::{Edge, NodeStore, can_touch, end_of};
 use bd_path::{Fetched, buffer_of, edges_of};
 
 /// The place of the oldest Goto that is pending for the edge at a place, and may not go down it: the

@@ -5,7 +5,7 @@ use Rattle.bd_node.specs.declared.node.Node.{Node}
 use Rattle.bd_node.specs.Nodes.{node_at}
 use Rattle.bd_node.specs.Meaning.{Nodes, at}
 use Rattle.bd_node.specs.Tables.{Table}
-use Rattle.bd_query.proofs.Visited.{visits_one_more}
+use Rattle.bd_node.proofs.Visited.{visits_one_more}
 use Rattle.bd_resolve.specs.declared.following.Target.{Target}
 use Rattle.bd_resolve.specs.Following.{IsLowerTarget, target_at}
 use Rattle.bd_resolve.proofs.Going.{long_leaf, gone_down}

@@ -4,7 +4,7 @@ use Rattle.bd_message.specs.Effect.{acts}
 use Rattle.bd_node.specs.Meaning.{at}
 use Rattle.bd_node.specs.Tables.{IsKept, IsSound, root_at}
 use Rattle.bd_resolve.specs.Following.{AreNoneOr}
-use Rattle.bd_query.proofs.Visited.{VisitsTo}
+use Rattle.bd_node.proofs.Visited.{VisitsTo}
 use Rattle.bd_graft.specs.Laying.{laid, AreLayers}
 use Rattle.bd_graft.proofs.Ways.{IsWayOn}
 use Rattle.bd_graft.proofs.walking.walk.Given as goal

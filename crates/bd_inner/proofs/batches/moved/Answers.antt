@@ -1,6 +1,6 @@
 use Rattle.std.proofs.Common.{List, ℕ, subst, ap, take}
 use Rattle.std.specs.Option.{option_copied}
-use Rattle.bd_inner.specs.Moving.{CanTouch}
+use Rattle.bd_node.specs.Touching.{CanTouch}
 use Rattle.bd_inner.proofs.Moved.{if_moved, if_part}
 use Rattle.bd_inner.proofs.batches.moved.Goals as goal
 

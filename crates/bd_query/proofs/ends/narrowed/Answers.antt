@@ -1,5 +1,5 @@
 use Rattle.std.proofs.Common.{subst, List, ℕ, Option}
-use Rattle.bd_inner.specs.Moving.{CanTouch}
+use Rattle.bd_node.specs.Touching.{CanTouch}
 use Rattle.bd_query.proofs.EndLemmas.{later_end, later_bound, later_untouched}
 use Rattle.bd_query.proofs.ends.narrowed.Goals as goal
 

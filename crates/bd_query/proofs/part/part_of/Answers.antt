@@ -3,7 +3,8 @@ use Rattle.bd_node.specs.declared.node.Edge.{Edge}
 use Rattle.bd_node.specs.declared.node.Node.{Node}
 use Rattle.bd_node.specs.Nodes.{names, edge_of}
 use Rattle.bd_node.specs.Shape.{IsShape}
-use Rattle.bd_query.proofs.Parts.{inner_seen, inner_named, if_ok}
+use Rattle.bd_query.proofs.Parts.{inner_named, if_ok}
+use Rattle.bd_node.proofs.Shapes.{inner_seen}
 use Rattle.bd_query.specs.Looks.{IsNamedIn}
 use Rattle.bd_query.specs.declared.part.Part.{Part}
 use Rattle.bd_query.proofs.part.part_of.Goals as goal

@@ -3,7 +3,7 @@ use Rattle.std.specs.Ordering.{is_lt}
 use Rattle.bd_keys.specs.Keys.{key_cmp}
 use Rattle.bd_keys.proofs.Order.{not_below_itself}
 use Rattle.bd_node.proofs.Edges.{lt_is}
-use Rattle.bd_query.proofs.EndLemmas.{least_back}
+use Rattle.bd_node.proofs.Touched.{least_back}
 use Rattle.bd_query.proofs.search.greater.Goals as goal
 
 pub returns-then-is_lt-clause-first : goal.returns-then-is_lt-clause-first

@@ -6,7 +6,7 @@ use Rattle.bd_query.specs.Stretches.{IsStretch, IsAsked, AsksLower, IsTurn, Pass
 use Rattle.bd_query.specs.Asks.{asked_in, AreVisitsOfWay}
 use Rattle.bd_query.proofs.AskLemmas.{way_ends, way_goes_on}
 use Rattle.bd_query.proofs.TurnLemmas.{node_says, passes_weaker, level_more}
-use Rattle.bd_query.proofs.Visited.{visits_then}
+use Rattle.bd_node.proofs.Visited.{visits_then}
 use Rattle.bd_query.proofs.turns.+turn_at.Goals as goal
 
 pub returns-in-Present-clause-turn : goal.returns-in-Present-clause-turn

@@ -7,7 +7,7 @@ use Rattle.bd_query.specs.declared.patch.Patch.{Patch}
 use Rattle.bd_query.specs.declared.part.Base.TheVariants.{Value, Ask}
 use Rattle.bd_query.specs.Looks.{patched}
 use Rattle.bd_query.proofs.Going.{going_on, lower_ask, IsSaid}
-use Rattle.bd_query.proofs.Visited.{no_visit, visits_one_more, visits_last, visits_at_most}
+use Rattle.bd_node.proofs.Visited.{no_visit, visits_one_more, visits_last, visits_at_most}
 use Rattle.bd_query.proofs.ways.get.Goals as goal
 
 pub returns-in-Value-clause-value : goal.returns-in-Value-clause-value

@@ -2,7 +2,7 @@ use Rattle.std.proofs.Common.{◌≡◌}
 use Rattle.bd_node.specs.Meaning.{at}
 use Rattle.bd_node.specs.Tables.{IsKept, IsSound}
 use Rattle.bd_query.specs.Looks.{patched}
-use Rattle.bd_query.proofs.Visited.{VisitsTo}
+use Rattle.bd_node.proofs.Visited.{VisitsTo}
 use Rattle.bd_query.proofs.ways.get.Given as goal
 
 abbrev pub invariant-loop-patches : goal.invariant-loop-patches

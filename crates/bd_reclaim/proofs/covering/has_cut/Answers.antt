@@ -2,7 +2,7 @@ use Rattle.std.proofs.Common.{ℕ, List, length, refl, sym, subst, arith}
 use Rattle.std.specs.Option.{option_copied}
 use Rattle.std.proofs.lemmas.Option.{slice_get_read}
 use Rattle.bd_message.proofs.Finds.{not_both}
-use Rattle.bd_inner.specs.Moving.{CanTouch}
+use Rattle.bd_node.specs.Touching.{CanTouch}
 use Rattle.bd_reclaim.proofs.Cuts.{no_cut_more, no_cut_at_all}
 use Rattle.bd_reclaim.proofs.covering.has_cut.Goals as goal
 use Rattle.bd_reclaim.proofs.covering.has_cut.Goals.{else-edge-at-via-then-edge-at+then-says+else-can_touch, else-edge-at-via-then-edge-at+else-says, else-edge-at-via-else-edge-at}

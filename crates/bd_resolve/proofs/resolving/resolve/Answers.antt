@@ -4,7 +4,7 @@ use Rattle.bd_keys.specs.Keys.{IsKey}
 use Rattle.bd_node.specs.Nodes.{node_at}
 use Rattle.bd_node.specs.Meaning.{Nodes}
 use Rattle.bd_node.specs.Tables.{Table, IsLower}
-use Rattle.bd_query.proofs.Visited.{no_visit, visits_one_more}
+use Rattle.bd_node.proofs.Visited.{no_visit, visits_one_more}
 use Rattle.bd_resolve.specs.declared.following.Target.{Target}
 use Rattle.bd_resolve.specs.Following.{IsLowerTarget, target_at}
 use Rattle.bd_resolve.proofs.Going.{led_on, long_leaf, gone_down, none_or_more}

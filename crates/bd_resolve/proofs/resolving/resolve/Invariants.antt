@@ -3,7 +3,7 @@ use Rattle.bd_keys.specs.Keys.{IsKey}
 use Rattle.bd_node.specs.Meaning.{at}
 use Rattle.bd_node.specs.Tables.{IsKept, IsSound}
 use Rattle.bd_resolve.specs.Following.{AreNoneOr}
-use Rattle.bd_query.proofs.Visited.{VisitsTo}
+use Rattle.bd_node.proofs.Visited.{VisitsTo}
 use Rattle.bd_resolve.proofs.resolving.resolve.Given as goal
 
 abbrev pub invariant-loop-store : goal.invariant-loop-store

@@ -1,7 +1,7 @@
 use Rattle.std.proofs.Common.{◌≡◌, true, sym, ◌∙◌}
 use Rattle.bd_node.specs.Index.{is_point}
-use Rattle.bd_inner.proofs.Unseen.{point_pending, pending_point}
-use Rattle.bd_inner.proofs.pending.is_pending.Goals as goal
+use Rattle.bd_node.proofs.Unseen.{point_pending, pending_point}
+use Rattle.bd_node.proofs.pending.is_pending.Goals as goal
 
 pub returns-then-is_point : goal.returns-then-is_point
 returns-then-is_point c =

@@ -3,8 +3,8 @@ use Rattle.std.specs.Ordering.{is_lt}
 use Rattle.std.proofs.lemmas.Option.{slice_get_read}
 use Rattle.bd_keys.specs.Keys.{key_cmp}
 use Rattle.bd_node.specs.declared.node.Edge.{Edge}
-use Rattle.bd_inner.proofs.Places.{went_up, went_down, ended, IsHalving}
-use Rattle.bd_inner.proofs.place.Goals as goal
+use Rattle.bd_node.proofs.Places.{went_up, went_down, ended, IsHalving}
+use Rattle.bd_node.proofs.edge.place.Goals as goal
 
 pub loop-high-preserved-then-is_lt : goal.loop-high-preserved-then-is_lt
 loop-high-preserved-then-is_lt g c =

@@ -2,8 +2,7 @@
 use Rattle.std.proofs.Common.{inl, inr, ◌≡◌, ℕ, ◌+◌, ◌-◌, ◌^◌, ◌<◌, ◌≤◌, min, refl, ap, sym, ◌∙◌, arith}
 use Rattle.std.proofs.Math.Nat.{min-eq_left, min-eq_right}
 use Rattle.std.proofs.lemmas.Bool.{cases_lt}
-use Rattle.bd_node.specs.Stores.{visited}
-use Rattle.bd_query.specs.Visits.{AreVisits}
+use Rattle.bd_node.specs.Stores.{visited, AreVisits}
 
 -- the way has come from one level to another, with at most one visit a level; so one visit more
 -- counts as one more than these

@@ -1,5 +1,5 @@
 -- Whether the edge of a key hasn't seen a message.
-use Rattle.std.proofs.Common.{◌≡◌, ℕ, ◌<◌, ◌≤◌, Bool, true, false, not, leb, List, [], ◌∷◌, refl, sym, ap, subst, ◌∙◌, Option, Some, inl, inr, arith}
+use Rattle.std.proofs.Common.{◌≡◌, ℕ, ◌<◌, ◌≤◌, Bool, true, false, not, leb, List, [], ◌∷◌, sym, ap, subst, ◌∙◌, Option, Some, inl, inr, arith}
 use Rattle.std.specs.Prelude.{IsTrue, ◌↔◌}
 use Rattle.std.proofs.lemmas.Bool.Decides.{nat_tests}
 use Rattle.std.specs.Ordering.{is_lt}
@@ -7,15 +7,12 @@ use Rattle.std.proofs.lemmas.Bool.{cond-true, cond-false, cases_Bool}
 use Rattle.std.proofs.lemmas.Option.{same_Some, none-some}
 use Rattle.bd_keys.specs.Keys.{key_cmp, IsAtLeast, InRange}
 use Rattle.bd_message.specs.declared.message.Message.{Message}
-use Rattle.bd_message.specs.declared.message.Message.TheVariants.{Put, Del, Patch, Cut, Goto}
 use Rattle.bd_node.specs.declared.node.Edge.{Edge}
 use Rattle.bd_node.specs.Nodes.{edge_from, edge_of}
-use Rattle.bd_node.specs.Shape.{end_before, AreRising, EachEdge, SomeEdge, IsPending}
+use Rattle.bd_node.specs.Shape.{end_before, AreRising, EachEdge, SomeEdge, IsPending, IsUnseen}
 use Rattle.bd_node.specs.Index.{is_point, own_key}
 use Rattle.bd_node.proofs.Edges.{lt_is, lt_isnt, not_less_lt, SomeEdge-weaker, edge_of-only}
 use Rattle.bd_node.proofs.Indexing.{point_touches, touches_point}
-use Rattle.bd_inner.specs.Compaction.{IsUnseen}
-use Rattle.bd_inner.specs.Moving.{CanTouch}
 
 there_from : (place : ℕ) (k : List ℕ) (e : Edge) (es : List Edge) (found : Edge) → edge_from e es k ≡ found → found.seen ≤ place → IsAtLeast k found.pivot → SomeEdge (IsUnseen place k) (e ∷ es)
 there_from place k e [] found is seen least =
@@ -74,18 +71,3 @@ unseen_else place k edges found rising is seen = (
   (λ h. (let l : found.seen ≤ place = below_is found.seen place h in absurd (omega arith))),
   (λ some. (let l : found.seen ≤ place = (unseen_only place k edges found rising is some).0 in absurd (omega arith))),
 )
-
--- a message on a key can change what stands at one of a range's keys where its own is one
-pub point_can : (m : Message) (k lo : List ℕ) (hi : Option (List ℕ)) (r : Bool) → is_point m ≡ true → k ≡ own_key m → (IsTrue r ↔ InRange lo hi k) → IsTrue r ↔ CanTouch m lo hi
-point_can m k lo hi r point is h = (
-  (λ t. (k, h.0 t, point_touches (Some m) k point (sym is))),
-  (λ can. h.1 (subst (λ (l : List ℕ). InRange lo hi l) (sym (is ∙ touches_point (Some m) can.0 point can.2)) can.1)),
-)
-
--- what is no Cut and no Goto is on one key
-pub point_else : (m : Message) → ((prefix from : List ℕ) → m ≡ Cut prefix from → ⊥) → ((prefix source : List ℕ) (child : ℕ) → m ≡ Goto prefix source child → ⊥) → is_point m ≡ true
-point_else (Put key value) cut goto = refl
-point_else (Del key) cut goto = refl
-point_else (Patch key off bytes) cut goto = refl
-point_else (Cut prefix from) cut goto = absurd (cut prefix from refl)
-point_else (Goto prefix source child) cut goto = absurd (goto prefix source child refl)

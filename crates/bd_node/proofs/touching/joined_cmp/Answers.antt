@@ -2,7 +2,7 @@ use Rattle.std.proofs.Common.{List, ℕ, ◌-◌, length, drop, sym, ap, ◌∙�
 use Rattle.std.proofs.lemmas.List.{take_all}
 use Rattle.bd_keys.specs.Keys.{key_cmp}
 use Rattle.bd_message.proofs.Prefixes.{joined_begins, joined_other}
-use Rattle.bd_inner.proofs.pending.joined_cmp.Goals as goal
+use Rattle.bd_node.proofs.touching.joined_cmp.Goals as goal
 
 pub returns-then-starts_with : goal.returns-then-starts_with
 returns-then-starts_with c =

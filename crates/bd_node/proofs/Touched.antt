@@ -11,9 +11,10 @@ use Rattle.bd_message.specs.declared.message.Message.TheVariants.{Put, Del, Patc
 use Rattle.bd_message.specs.Effect.{same_key, begins, rest, is_cut}
 use Rattle.bd_message.proofs.Finds.{same_key-true, same_key-refl, begins-is, begins-append, not_both}
 use Rattle.bd_message.proofs.Prefixes.{rest-append, least_nil}
-use Rattle.bd_node.specs.Touching.{touches}
-use Rattle.bd_inner.specs.Moving.{CanTouch}
+use Rattle.bd_node.specs.Touching.{touches, CanTouch}
+use Rattle.bd_node.specs.Index.{is_point, own_key}
 use Rattle.bd_node.proofs.Edges.{lt_is, lt_isnt, not_less_lt}
+use Rattle.bd_node.proofs.Indexing.{point_touches, touches_point}
 use Rattle.bd_node.proofs.Appending.{key_of, key_of-touched}
 
 -- ---- keys that begin alike
@@ -66,7 +67,8 @@ begins_cut p k h = and_from _ _ h (ap not (not_less_lt (key_cmp (rest p k) []) (
 
 -- ---- the same key
 
-below_longer : (key : List ℕ) (b : ℕ) (z : List ℕ) → IsBelow key (key ++ b ∷ z)
+-- a key is below what it is followed by
+pub below_longer : (key : List ℕ) (b : ℕ) (z : List ℕ) → IsBelow key (key ++ b ∷ z)
 below_longer [] b z = refl
 below_longer (c ∷ key) b z = first_same c key (key ++ b ∷ z) ∙ below_longer key b z
 
@@ -139,3 +141,20 @@ first_of_cut m prefix from p f e e1 e2 = ap (λ a. a ++ f) e1 ∙ ap (λ b. pref
 
 pub first_of_goto : (m : Message) (prefix source : List ℕ) (child : ℕ) (p : List ℕ) → m ≡ Goto prefix source child → p ≡ prefix → p ++ [] ≡ key_of m
 first_of_goto m prefix source child p e e1 = append-nil p ∙ e1 ∙ sym (ap key_of e)
+
+-- ---- messages on one key
+
+-- a message on a key can change what stands at one of a range's keys where its own is one
+pub point_can : (m : Message) (k lo : List ℕ) (hi : Option (List ℕ)) (r : Bool) → is_point m ≡ true → k ≡ own_key m → (IsTrue r ↔ InRange lo hi k) → IsTrue r ↔ CanTouch m lo hi
+point_can m k lo hi r point is h = (
+  (λ t. (k, h.0 t, point_touches (Some m) k point (sym is))),
+  (λ can. h.1 (subst (λ (l : List ℕ). InRange lo hi l) (sym (is ∙ touches_point (Some m) can.0 point can.2)) can.1)),
+)
+
+-- what is no Cut and no Goto is on one key
+pub point_else : (m : Message) → ((prefix from : List ℕ) → m ≡ Cut prefix from → ⊥) → ((prefix source : List ℕ) (child : ℕ) → m ≡ Goto prefix source child → ⊥) → is_point m ≡ true
+point_else (Put key value) cut goto = refl
+point_else (Del key) cut goto = refl
+point_else (Patch key off bytes) cut goto = refl
+point_else (Cut prefix from) cut goto = absurd (cut prefix from refl)
+point_else (Goto prefix source child) cut goto = absurd (goto prefix source child refl)

@@ -1,6 +1,6 @@
 use Rattle.std.proofs.Common.{◌-◌}
-use Rattle.bd_inner.proofs.Places.{IsHalving}
-use Rattle.bd_inner.proofs.place.Given as goal
+use Rattle.bd_node.proofs.Places.{IsHalving}
+use Rattle.bd_node.proofs.edge.place.Given as goal
 
 abbrev pub invariant-loop-high : goal.invariant-loop-high
 invariant-loop-high g l = IsHalving l.edges l.key l.low l.high l.fn.steps l.steps

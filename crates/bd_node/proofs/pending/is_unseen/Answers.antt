@@ -1,7 +1,7 @@
 use Rattle.std.proofs.Common.{ap, ◌∙◌}
 use Rattle.std.specs.Ordering.{is_lt}
-use Rattle.bd_inner.proofs.Unseen.{unseen_then, unseen_else}
-use Rattle.bd_inner.proofs.pending.is_unseen.Goals as goal
+use Rattle.bd_node.proofs.Unseen.{unseen_then, unseen_else}
+use Rattle.bd_node.proofs.pending.is_unseen.Goals as goal
 
 pub returns-then-edge-place : goal.returns-then-edge-place
 returns-then-edge-place c =
