@@ -4,3 +4,4 @@ pub mod ActLemmas
 pub mod TreeLemmas
 pub mod NumberOrder
 pub mod SubtreeLemmas
+pub mod OneTree

@@ -1,5 +1,5 @@
-//! What changes of a key map do to what it represents. Each function here carries a law of the
-//! definitions, and does nothing.
+//! That a key map represents one tree, and what changes of it do to that tree. Each function here
+//! carries a law of the definitions, and does nothing.
 
 ghost use Rattle.std.specs.Prelude.{◌≡◌, ◌≢◌, ℕ, ◌+◌, ◌-◌, ◌*◌, ◌^◌, ◌<◌, ◌≤◌, Bool, List, length, Some, None, cond};
 ghost use Rattle.std.specs.Option.{option_and_then};
@@ -8,13 +8,19 @@ ghost use Rattle.bd_limits.specs.Limits.{block_limit};
 ghost use Rattle.bd_keys.specs.Edits.{resized, overwritten};
 ghost use Rattle.bd_keys.specs.Keys.{IsKey};
 ghost use Rattle.bd_names.specs.Names.{AreNames, key_of};
-ghost use Rattle.bd_model.specs.Tree.{Entry, Tree};
+ghost use Rattle.bd_model.specs.Tree.{Entry, Tree, IsTree};
 ghost use Rattle.bd_model.specs.Step.{file_bytes, without};
 ghost use Rattle.bd_message.specs.Effect.{begins};
 ghost use Rattle.bd_message.specs.KeyMaps.{At, grafted};
 ghost use Rattle.bd_represent.specs.EntryKeys.{record_key, block_key};
 ghost use Rattle.bd_represent.specs.Represents.{record_value, stored, kept_block, HasBytes, HasOnlyEntries, IsSameBeside, Represents};
 ghost use Rattle.bd_represent.specs.Plans.{source};
+
+/// A key map represents one tree.
+pub fn one_represented()
+    ensures { (at : At) (t u : Tree) → IsTree t → IsTree u → Represents at t → Represents at u
+        → t ≡ u }
+{}
 
 /// Where the record and the blocks of a path are those of an entry, and nothing else changed, the
 /// entry stands there.

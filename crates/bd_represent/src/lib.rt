@@ -1,6 +1,6 @@
 //! When a key map represents a tree, and the keys of records and blocks.
-//! The layers above use `Represents`, the keys, and what changes of a key map do to the represented
-//! tree.
+//! The layers above use `Represents`, which is of one tree, the keys, and what changes of a key map
+//! do to the represented tree.
 #![tactic(auto)]
 
 mod keys;

@@ -1,0 +1,4 @@
+pub mod Leading
+pub mod Frame
+pub mod Ones
+pub mod Undamaged

@@ -1,0 +1,112 @@
+-- Which block is why an image stands for no tree.
+use Rattle.std.specs.Prelude.{◌≡◌, ◌≢◌, ◌<◌, ℕ, List, ◌∷◌, ◌++◌, map, slice_index, Option, None, Some}
+use Rattle.std.specs.List.{flat_map, AllByRecursion}
+use Rattle.bd_command.specs.Log.{log_record}
+use Rattle.bd_command.specs.declared.Command.{Command}
+use Rattle.bd_model.specs.Tree.{Tree}
+use Rattle.bd_model.specs.Laws.{Accepts}
+use Rattle.bd_slots.specs.Layout.{slot_block}
+use Rattle.bd_device.specs.Blocks.{Image}
+use Rattle.bd_node.specs.declared.node.Node.{Node}
+use Rattle.bd_node.specs.Nodes.{names}
+use Rattle.bd_node.specs.Meaning.{Nodes}
+use Rattle.bd_node.specs.Tables.{IsSound}
+use Rattle.bd_table.specs.Image.{HoldsTable, HasNoTable}
+use Rattle.bd_table.specs.declared.table.Table.{Table as StoredTable}
+use Rattle.bd_table.specs.declared.table.TableEntry.{TableEntry}
+use Rattle.bd_super.specs.Superblocks.{log_block}
+use Rattle.bd_super.specs.Live.{IsLive, IsDamaged}
+use Rattle.bd_super.specs.declared.superblock.Super.{Super}
+use Rattle.bd_log.specs.Batches.{AreBatches, IsDamagedAt}
+use Rattle.bd_log.specs.declared.batch.Batch.{Batch}
+use Rattle.bd_pager.specs.Slots.{HasNode}
+use Rattle.bd_image.specs.Versions.{version_of, IsLoggedIn}
+use Rattle.bd_image.specs.Stored.{entry_of, HoldsNodes, table_of}
+use Rattle.bd_image.specs.ImageTree.{LeadsOn, HaveTree, StartsFrom}
+
+-- ---- nodes
+
+-- the first block of a superblock's table
+abbrev pub table_start : Super → ℕ
+table_start s = slot_block (slice_index s.table 0)
+
+-- the entry is there, of a lower level
+abbrev pub IsLowerEntry : ℕ → Option TableEntry → Type 0
+IsLowerEntry level None = ⊥
+IsLowerEntry level (Some e) = e.level < level
+
+-- an entry's slot has this node of its level, which names nodes of the table of lower levels
+pub record IsGoodNode (image : Image) (t : StoredTable) (e : TableEntry) (n : Node)
+    : Type 0 where
+  pub held : HasNode image e.slot e.level n
+  pub lower : AllByRecursion (λ c. IsLowerEntry e.level (entry_of t.entries c)) (names n)
+
+-- a superblock's table has this entry of a node
+pub record HasEntry (image : Image) (s : Super) (t : StoredTable) (e : TableEntry) : Type 0 where
+  pub live : IsLive image s
+  pub table : HoldsTable image s.slots s.table t
+  pub entry : entry_of t.entries e.id ≡ Some e
+
+-- no nodes that the image has by this table are sound
+abbrev pub HasNoSoundNodes : Image → StoredTable → Type 0
+HasNoSoundNodes image t =
+    (nodes : Nodes) → HoldsNodes image t nodes → ¬ IsSound nodes (table_of t nodes)
+
+-- ---- records
+
+-- a record with the first block of its batch's body
+abbrev pub PlacedRecord : Type 0
+PlacedRecord = ℕ × List ℕ
+
+-- the records of batches, in order, each with that block
+abbrev pub placed_records : List Batch → List PlacedRecord
+placed_records batches = flat_map (λ (b : Batch). map (λ r. (b.body, r)) b.records) batches
+
+-- the records alone
+abbrev pub unplaced : List PlacedRecord → List (List ℕ)
+unplaced list = map (λ (p : PlacedRecord). p.1) list
+
+-- in the open batches of the image's log a record stands there, after these
+pub record HasRecord (image : Image) (s : Super) (front : List PlacedRecord) (b : ℕ) (r : List ℕ)
+    : Type 0 where
+  pub live : IsLive image s
+  pub batches : List Batch
+  pub place : ℕ
+  pub logged : AreBatches image (log_block s.half) s.epoch batches place
+  pub rest : List PlacedRecord
+  pub there : placed_records batches ≡ front ++ (b, r) ∷ rest
+
+-- the tree of the image's nodes after these records
+pub record IsTreeAfter (image : Image) (s : Super) (records : List (List ℕ)) (tree : Tree)
+    : Type 0 where
+  pub table : StoredTable
+  pub nodes : Nodes
+  pub base : Tree
+  pub starts : StartsFrom image s table nodes
+  pub have : HaveTree (version_of s) table nodes base
+  pub leads : LeadsOn (version_of s) records base tree
+
+-- the record is of no command that an image of this version has in its log
+abbrev pub IsNoCommand : ℕ → List ℕ → Type 0
+IsNoCommand version r = (c : Command) → IsLoggedIn version c → r ≢ log_record c
+
+-- ---- the block
+
+-- a superblock; a table; a node, or a child that it names; nodes that aren't sound; a batch; a
+-- record of no command, or of one that the tree before it refuses
+pub data IsBadAt (image : Image) : ℕ → Type 0 where
+  bad_super : (b : ℕ) → IsDamaged image b → IsBadAt image b
+  bad_table : (s : Super) → IsLive image s → HasNoTable image s.slots s.table
+      → IsBadAt image (table_start s)
+  bad_node : (s : Super) (t : StoredTable) (e : TableEntry) → HasEntry image s t e
+      → ((n : Node) → ¬ IsGoodNode image t e n) → IsBadAt image (slot_block e.slot)
+  unsound_nodes : (s : Super) (t : StoredTable) → IsLive image s
+      → HoldsTable image s.slots s.table t → HasNoSoundNodes image t
+      → IsBadAt image (table_start s)
+  bad_batch : (s : Super) (b : ℕ) → IsLive image s
+      → IsDamagedAt image (log_block s.half) s.epoch b → IsBadAt image b
+  bad_record : (s : Super) (front : List PlacedRecord) (b : ℕ) (r : List ℕ)
+      → HasRecord image s front b r → IsNoCommand (version_of s) r → IsBadAt image b
+  refused_record : (s : Super) (front : List PlacedRecord) (b : ℕ) (c : Command) (tree : Tree)
+      → HasRecord image s front b (log_record c) → IsLoggedIn (version_of s) c
+      → IsTreeAfter image s (unplaced front) tree → ¬ Accepts tree c → IsBadAt image b

@@ -1,0 +1,6 @@
+pub mod Versions
+pub mod Stored
+pub mod ImageTree
+pub mod Standing
+pub mod Used
+pub mod Damage

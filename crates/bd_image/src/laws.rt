@@ -1,0 +1,56 @@
+//! What follows from the definitions of what an image stands for. Each function here carries a law,
+//! and does nothing.
+
+ghost use Rattle.std.specs.Prelude.{◌≡◌, ℕ};
+ghost use Rattle.bd_model.specs.Tree.{Tree};
+ghost use Rattle.bd_device.specs.Blocks.{Image};
+ghost use Rattle.bd_table.specs.declared.table.Table.{Table as StoredTable};
+ghost use Rattle.bd_super.specs.Live.{IsLive};
+ghost use Rattle.bd_super.specs.declared.superblock.Super.{Super};
+ghost use Rattle.bd_image.specs.ImageTree.{HasTree, ImageStandsFor};
+ghost use Rattle.bd_image.specs.Used.{SameUsed};
+ghost use Rattle.bd_image.specs.Damage.{IsBadAt};
+
+use bd_command::laws::log_records_are_prefix_free;
+use bd_format::laws::images_are_of_one_node;
+use bd_log::laws::{batches_are_one, damage_excludes_batches};
+use bd_represent::laws::one_represented;
+use bd_super::laws::{damage_is_exact, one_superblock_is_live};
+use bd_table::laws::tables_are_read_again;
+
+/// An image stands for at most one tree, and one count.
+pub fn images_have_one_tree()
+    ensures { (image : Image) (tree other : Tree) (count number : ℕ)
+        → ImageStandsFor tree count image → ImageStandsFor other number image
+        → (tree ≡ other) × (count ≡ number) }
+{
+    one_superblock_is_live();
+    tables_are_read_again();
+    images_are_of_one_node();
+    one_represented();
+    batches_are_one();
+    log_records_are_prefix_free();
+}
+
+/// An image stands for a tree by its live superblock and the blocks that are used alone: where each
+/// of these is the same and the superblock is live, it stands for the same tree and count.
+pub fn other_blocks_are_free()
+    ensures { (s : Super) (t : StoredTable) (place : ℕ) (tree : Tree) (count : ℕ)
+        (old new : Image) → SameUsed s t old new → IsLive new s
+        → HasTree s t place tree count old → HasTree s t place tree count new }
+{}
+
+/// An image that stands for a tree has no bad block.
+pub fn trees_are_undamaged()
+    ensures { (image : Image) (tree : Tree) (count b : ℕ) → ImageStandsFor tree count image
+        → ¬ IsBadAt image b }
+{
+    one_superblock_is_live();
+    tables_are_read_again();
+    images_are_of_one_node();
+    one_represented();
+    batches_are_one();
+    log_records_are_prefix_free();
+    damage_is_exact();
+    damage_excludes_batches();
+}
