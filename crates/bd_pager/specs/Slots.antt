@@ -1,5 +1,5 @@
 -- What the slots of an image have.
-use Rattle.std.specs.Prelude.{◌≡◌, ℕ, ◌+◌, List, Bool}
+use Rattle.std.specs.Prelude.{◌≡◌, ℕ, ◌+◌, List, Bool, Option, IfSome}
 use Rattle.bd_limits.specs.Limits.{slot_blocks}
 use Rattle.bd_slots.specs.Layout.{slot_block}
 use Rattle.bd_slots.specs.Slots.{IsFree}
@@ -19,6 +19,20 @@ pub record HasNode (image : Image) (slot level : ℕ) (n : Node) : Type 0 where
   pub shape : IsShape n
   pub level_is : level_of n ≡ level
   pub image_is : IsImage n (slot_bytes image slot)
+
+-- the slot has no well-formed node of this level
+abbrev pub HasNoNode : Image → ℕ → ℕ → Type 0
+HasNoNode image slot level = (n : Node) → ¬ HasNode image slot level n
+
+-- a well-formed node of this level
+pub record IsOfLevel (level : ℕ) (n : Node) : Type 0 where
+  pub shape : IsShape n
+  pub level_is : level_of n ≡ level
+
+-- the first block of a slot without a well-formed node of this level, as far as that is known
+abbrev pub IsBadSlot : Option Image → ℕ → ℕ → ℕ → Type 0
+IsBadSlot contents slot level b =
+    (b ≡ slot_block slot) × IfSome contents (λ image. HasNoNode image slot level)
 
 -- the block is one of this slot
 abbrev pub IsOfSlot : ℕ → ℕ → Type 0

@@ -11,16 +11,14 @@ ghost use Rattle.bd_node.specs.Shape.{IsShape};
 ghost use Rattle.bd_pager.specs.Slots.{HasNode, IsOfSlot};
 ghost use Rattle.bd_pager.specs.Writes.{IsWritable, IsHeldBy, IsOfWrites};
 
+use crate::reading::BLOCKS;
 use bd_device::{Device, write_blocks};
 use bd_format::encode;
 use bd_io::Failed;
-use bd_limits::{SLOT_BLOCKS, SLOT_SIZE};
+use bd_limits::SLOT_SIZE;
 use bd_node::Node;
 use bd_slots::slot_block;
 use std::rc::Rc;
-
-// The blocks of a slot.
-const BLOCKS: usize = SLOT_BLOCKS as usize;
 
 /// A node that is to be written to a slot.
 #[derive(Drop)]
