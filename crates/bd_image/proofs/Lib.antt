@@ -2,3 +2,4 @@ pub mod Leading
 pub mod Frame
 pub mod Ones
 pub mod Undamaged
+pub mod Syncs

@@ -1,14 +1,18 @@
 //! What follows from the definitions of what an image stands for. Each function here carries a law,
 //! and does nothing.
 
-ghost use Rattle.std.specs.Prelude.{◌≡◌, ℕ};
+ghost use Rattle.std.specs.Prelude.{◌≡◌, ◌+◌, ◌⊎◌, ℕ};
+ghost use Rattle.bd_limits.specs.Limits.{log_blocks};
 ghost use Rattle.bd_model.specs.Tree.{Tree};
 ghost use Rattle.bd_device.specs.Blocks.{Image};
+ghost use Rattle.bd_device.specs.Changes.{SameBut, IsInRange};
 ghost use Rattle.bd_table.specs.declared.table.Table.{Table as StoredTable};
 ghost use Rattle.bd_super.specs.Live.{IsLive};
 ghost use Rattle.bd_super.specs.declared.superblock.Super.{Super};
+ghost use Rattle.bd_log.specs.Logs.{LogState, HasAll, HasAllOrNone, after_sync};
 ghost use Rattle.bd_image.specs.ImageTree.{HasTree, ImageStandsFor};
 ghost use Rattle.bd_image.specs.Used.{SameUsed};
+ghost use Rattle.bd_image.specs.Synced.{IsLogOf, HasTreeAfter};
 ghost use Rattle.bd_image.specs.Damage.{IsBadAt};
 
 use bd_command::laws::log_records_are_prefix_free;
@@ -38,6 +42,21 @@ pub fn other_blocks_are_free()
     ensures { (s : Super) (t : StoredTable) (place : ℕ) (tree : Tree) (count : ℕ)
         (old new : Image) → SameUsed s t old new → IsLive new s
         → HasTree s t place tree count old → HasTree s t place tree count new }
+{}
+
+/// After a sync an image stands for the tree that the records which waited lead to. One that a
+/// crash inside it leaves stands for that, or for what it stood for.
+pub fn syncs_lead_on()
+    ensures synced { (s : Super) (t : StoredTable) (log : LogState) (tree : Tree) (count : ℕ)
+        (old new : Image) → IsLogOf s log
+        → SameBut (IsInRange log.first (log.first + log_blocks)) old new → HasAll log old new
+        → HasTree s t log.place tree count old
+        → HasTreeAfter log.waiting s t (after_sync log).place tree count new }
+    ensures syncing { (s : Super) (t : StoredTable) (log : LogState) (tree : Tree) (count : ℕ)
+        (old new : Image) → IsLogOf s log
+        → SameBut (IsInRange log.first (log.first + log_blocks)) old new → HasAllOrNone log old new
+        → HasTree s t log.place tree count old → HasTree s t log.place tree count new
+        ⊎ HasTreeAfter log.waiting s t (after_sync log).place tree count new }
 {}
 
 /// An image that stands for a tree has no bad block.
