@@ -3,3 +3,4 @@ pub mod Frame
 pub mod Ones
 pub mod Undamaged
 pub mod Syncs
+pub mod Checkpoints
