@@ -3,4 +3,5 @@ pub mod Stored
 pub mod ImageTree
 pub mod Standing
 pub mod Used
+pub mod Synced
 pub mod Damage
