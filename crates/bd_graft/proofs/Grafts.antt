@@ -452,13 +452,6 @@ over_done known nodes t packed s d keep step new u (Ok x) h k sound after commit
     (subst (λ (q : Step). IsCommitted nodes t q new u) h.is committed) (after.root ∙ ap (λ (q : Step). q.root) h.is)
 over_done known nodes t packed s d keep step new u (Err e) h k sound after committed = tt
 
-pub over_visits : {T E : Type 0} (known : Type 0) (nodes : Nodes) (t : Table) (packed : Packed) (s d : List ℕ) (keep : Bool) (step : Step) (before now : ℕ) (r : Result T E) → IsOverStep known nodes t packed s d keep step
-    → OnOk r (now ≡ visited before (length step.made)) → OnOk r (now ≡ visited before (length packed.made.items + 1))
-over_visits known nodes t packed s d keep step before now (Ok x) h e =
-    let top : Node = the_top t (graft_messages s d keep packed.target) in
-    e ∙ ap (λ (q : Step). visited before (length q.made)) h.is ∙ ap (λ (n : ℕ). visited before n) (length-append packed.made.items (top ∷ []))
-over_visits known nodes t packed s d keep step before now (Err x) h e = tt
-
 pub over_ready : (known : Type 0) (nodes : Nodes) (t : Table) (top : Node) (packed : Packed) (s d : List ℕ) (keep : Bool) (step : Step) (root next level : ℕ) (list : List Message) → IsReady known nodes t s packed → IsTable t → t.next + length packed.made.items + 1 < 2 ^ 64 → t.level t.root < level_limit → packed.level ≤ t.level t.root
     → length s ≤ key_limit → length d ≤ key_limit → root ≡ t.root → next ≡ t.next → level ≡ t.level t.root + 1 → list ≡ graft_messages s d keep packed.target → top ≡ overlay level (Some (record { child = root; source = [] })) list → step ≡ top_made packed.made.items top next
     → IsOverStep known nodes t packed s d keep step

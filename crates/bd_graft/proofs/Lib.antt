@@ -8,3 +8,4 @@ pub mod Grouping
 pub mod Ways
 pub mod Counters
 pub mod Once
+pub mod Visits

@@ -157,11 +157,6 @@ over_ok known nodes t packed s d keep ready table high low hs hd room =
     overlaying_step t (step_over t packed.made.items list) (over_overlaying t ready.end (laid ready.layers) packed s d keep ready.packed_is
     (record { table = table; next = (omega arith); level = high; low = low; messages = messages.0; fits = (let m : sum_by size list ≤ 1600 = messages.1 in omega arith) }))
 
--- the visits of few made nodes
-pub few_visited : {T E : Type 0} (before now made most : ℕ) (r : Result T E) → made ≤ most → OnOk r (now ≡ visited before made) → OnErr r (now ≡ before) → now ≤ before + most
-few_visited before now made most (Ok x) few is same = omega arith
-few_visited before now made most (Err e) few is same = omega arith
-
 -- a sum that is there is below the bound, and one that isn't there isn't
 pub sum_past : (o : Option ℕ) (P : Type 0) (v : ℕ) (b : Bool) → SomeIff o P v → is_some o ≡ not b → b ≡ true → ¬ P
 sum_past None P v b h is none = h

@@ -1,5 +1,5 @@
 -- The step of a graft.
-use Rattle.std.specs.Prelude.{◌≡◌, ℕ, ◌+◌, ◌^◌, ◌<◌, ◌≤◌, ◌⊎◌, Bool, if◌then◌else◌, List, [], ◌∷◌, ◌++◌, length, Option, Some, slice_get, IsTrue, ⊤}
+use Rattle.std.specs.Prelude.{◌≡◌, ℕ, ◌+◌, ◌-◌, ◌^◌, ◌<◌, ◌≤◌, ◌⊎◌, Bool, if◌then◌else◌, List, [], ◌∷◌, ◌++◌, length, Option, Some, slice_get, IsTrue, ⊤}
 use Rattle.bd_limits.specs.Limits.{level_limit}
 use Rattle.bd_message.specs.declared.fault.Counter.{Counter}
 use Rattle.bd_message.specs.declared.fault.Counter.TheVariants.{Count, NextId, Level, Refs, Epoch, Flushes}
@@ -11,12 +11,12 @@ use Rattle.bd_node.specs.declared.node.Node.{Node}
 use Rattle.bd_node.specs.declared.node.Step.{Step}
 use Rattle.bd_node.specs.Nodes.{appended}
 use Rattle.bd_node.specs.Tables.{Table, IsKept, IsSound, root_at}
-use Rattle.bd_node.specs.Steps.{IsWornBy, IsRootOf, extend_step}
+use Rattle.bd_node.specs.Steps.{IsWornBy, extend_step}
 use Rattle.bd_resolve.specs.declared.following.Target.{Target}
 use Rattle.bd_graft.specs.declared.packing.Packed.{Packed}
 use Rattle.bd_graft.specs.declared.layers.Layer.{Layer}
 use Rattle.bd_graft.specs.Laying.{laid, AreLayers}
-use Rattle.bd_graft.specs.Ways.{IsWay, messages_in}
+use Rattle.bd_graft.specs.Ways.{IsWay, fetched_on, messages_in}
 use Rattle.bd_graft.specs.Packing.{overlay, IsOverlay, IsPacked, packs, overlaid, over_all, top_over, overlays_over, IsPackedWith}
 use Rattle.bd_node.specs.Meaning.{Nodes, at}
 use Rattle.bd_keys.specs.Keys.{IsKey}
@@ -31,12 +31,6 @@ graft_messages s d keep target =
 -- the step that puts messages into the root, over made nodes
 abbrev pub step_under : Table → Node → List Node → List Message → Step
 step_under t n made list = extend_step t n made list
-
--- the root, whether its node is known or not
-pub record HasRoot (known : Type 0) (nodes : Nodes) (t : Table) : Type 0 where
-  pub node : Node
-  pub is : IsRootOf t node
-  pub there : known → nodes t.root ≡ Some node
 
 -- the step that makes nodes and a new root after them
 abbrev pub top_made : List Node → Node → ℕ → Step
@@ -165,6 +159,14 @@ pub record IsGraftStep (nodes : Nodes) (t : Table) (s d : List ℕ) (keep : Bool
   pub stay : (id : ℕ) → IsKept t id → IsKept u id
   pub fresh : (id : ℕ) → t.next ≤ id → id < u.next → IsKept u id
   pub only : (id : ℕ) → IsKept u id → IsKept t id ⊎ (t.next ≤ id)
+
+-- a graft has so many visits: of the nodes of its way that are fetched, and of those that get new
+-- ids
+pub record IsWalkOf (nodes : Nodes) (t : Table) (s : List ℕ) (u : Table) (visits : ℕ) : Type 0 where
+  pub travel : List (List Message)
+  pub end : Option Target
+  pub way : IsWay nodes t.root s travel end
+  pub visits_are : visits ≡ fetched_on t travel end + (u.next - t.next)
 
 -- each kept node that stays, but for the root, is what it was, and has at each key what it had
 pub record AreOthersSame (nodes : Nodes) (t : Table) (new : Nodes) (u : Table) : Type 0 where

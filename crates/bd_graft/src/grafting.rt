@@ -12,8 +12,8 @@ ghost use Rattle.bd_message.specs.Effect.{acts};
 ghost use Rattle.bd_node.specs.Meaning.{at};
 ghost use Rattle.bd_resolve.specs.Following.{target_at, IsShort};
 ghost use Rattle.bd_graft.specs.Laying.{laid, AreLayers};
-ghost use Rattle.bd_graft.specs.Ways.{IsWay, messages_in};
-ghost use Rattle.bd_graft.specs.Grafting.{graft_messages, top_made, step_over, HasRoot, IsReady, IsGrown, IsGraftStep, AreOthersSame, IsWornForGraft, IsWornByGraft, OnWorn};
+ghost use Rattle.bd_graft.specs.Ways.{IsWay, HasRoot, messages_in};
+ghost use Rattle.bd_graft.specs.Grafting.{graft_messages, top_made, step_over, IsReady, IsGrown, IsGraftStep, IsWalkOf, AreOthersSame, IsWornForGraft, IsWornByGraft, OnWorn};
 
 use crate::packing::{Packed, overlay, overlay_count, pack};
 use crate::walking::{Walked, walk};
@@ -60,8 +60,12 @@ pub fn graft<S: NodeStore>(
         (OnOk result (AreOthersSame (S.nodes store.old) (S.table store.old)
         (S.nodes store.new) (S.table store.new))) }
     ensures table { OnOk result (IsGrown (S.table store.old) (S.table store.new)) }
-    ensures visits { IfOk result (λ walk. walk.visits
-        ≡ S.visit_count store.new - S.visit_count store.old) }
+    ensures walk { OfSound S.NodeStore store.old
+        (IfOk result (λ walk. IsWalkOf (S.nodes store.old) (S.table store.old) s.now
+        (S.table store.new) walk.visits)) }
+    ensures few { IfOk result (λ walk. walk.visits ≤ 5 * walk.height + 2) }
+    ensures visits { IfOk result (λ walk. S.visit_count store.new < 2 ^ 64 - 1
+        → walk.visits ≡ S.visit_count store.new - S.visit_count store.old) }
     ensures rise { IfOk result (λ walk. S.visit_count store.new
         ≡ visited (S.visit_count store.old) walk.visits) }
     ensures few_visits { S.visit_count store.new ≤ S.visit_count store.old
@@ -76,16 +80,14 @@ pub fn graft<S: NodeStore>(
         (IfErr result (OnWorn (IsWornByGraft (S.nodes store.old) (S.table store.old)
         s.now d.now keep))) }
 {
-    let before = store.visits();
     let root = store.root();
+    let next = store.next_id();
     let way = walk(alloc, store, s)?;
-    let height = {
-        let node = store.fetch(root)?;
-        node.level() + 1
-    };
+    let fetched = way.fetched;
+    let height = store.level(root) + 1;
     finish(alloc, store, way, s, d, keep)?;
     Ok(Walk {
-        visits: store.visits().saturating_sub(before),
+        visits: fetched + (store.next_id() - next),
         height,
     })
 }
@@ -127,8 +129,8 @@ fn finish<S: NodeStore>(
     ensures table { OnOk result (IsGrown (S.table store.old) (S.table store.new)) }
     ensures stays { Stays S.NodeStore store.old store.new }
     ensures err { OnErr result (OnlyReads S.NodeStore store.old store.new) }
-    ensures rise { OnOk result ((count : ℕ)
-        × (S.visit_count store.new ≡ visited (S.visit_count store.old) count)) }
+    ensures visits { OnOk result (S.visit_count store.new ≡ visited (S.visit_count store.old)
+        ((S.table store.new).next - (S.table store.old).next)) }
     ensures few_visits { S.visit_count store.new ≤ S.visit_count store.old
         + ((S.table store.old).level (S.table store.old).root + 2) }
     ensures cause { HasMapCause (S.fault_count store.old) (S.fault_count store.new)
@@ -137,7 +139,7 @@ fn finish<S: NodeStore>(
         (IfErr result (OnWorn (IsWornByGraft (S.nodes store.old) (S.table store.old)
         s.now d.now keep))) }
 {
-    let Walked { layers, end } = way;
+    let Walked { layers, end, .. } = way;
     let count = overlay_count(layers.as_slice(), &end);
     if store.next_id().checked_add(count).is_none() {
         return Err(MapFault::Worn(Counter::NextId));
@@ -192,8 +194,8 @@ fn put_under<S: NodeStore>(
     ensures cause { HasMapCause (S.fault_count store.old) (S.fault_count store.new)
         (S.bad store.new) (IsWornByAdding (S.table store.old) packed.made.items
         (graft_messages s.now d.now keep packed.target)) result }
-    ensures visits { OnOk result (S.visit_count store.new
-        ≡ visited (S.visit_count store.old) (length packed.made.items)) }
+    ensures visits { OnOk result (S.visit_count store.new ≡ visited (S.visit_count store.old)
+        ((S.table store.new).next - (S.table store.old).next)) }
     ensures err_visits { OnErr result (S.visit_count store.new ≡ S.visit_count store.old) }
 {
     is_table(&*store);
@@ -244,8 +246,8 @@ fn put_over<S: NodeStore>(
     ensures cause { HasMapCause (S.fault_count store.old) (S.fault_count store.new)
         (S.bad store.new) (IsWornBy (S.table store.old) (step_over (S.table store.old)
         packed.made.items (graft_messages s.now d.now keep packed.target))) result }
-    ensures visits { OnOk result (S.visit_count store.new
-        ≡ visited (S.visit_count store.old) (length packed.made.items + 1)) }
+    ensures visits { OnOk result (S.visit_count store.new ≡ visited (S.visit_count store.old)
+        ((S.table store.new).next - (S.table store.old).next)) }
     ensures err_visits { OnErr result (S.visit_count store.new ≡ S.visit_count store.old) }
 {
     let root = store.root();

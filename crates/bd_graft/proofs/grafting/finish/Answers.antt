@@ -10,8 +10,9 @@ use Rattle.bd_graft.proofs.Grouping.{layers_fit, packed_length}
 use Rattle.bd_graft.proofs.Counters.{count_few, count_is, worn_ids, worn_top, worn_level, worn_under, worn_over}
 use Rattle.bd_graft.specs.Grafting.{graft_messages, step_under, step_over, IsReady}
 use Rattle.bd_graft.proofs.Laying.{level_high}
-use Rattle.bd_graft.proofs.Wearing.{layers_raise, layers_few, few_visited, sum_past, sum_within, over_few, cause_of, extend_cause, under_ok, over_ok, packed_low}
+use Rattle.bd_graft.proofs.Wearing.{layers_raise, layers_few, sum_past, sum_within, over_few, cause_of, extend_cause, under_ok, over_ok, packed_low}
 use Rattle.bd_node.proofs.Extending.{root_inner}
+use Rattle.bd_graft.proofs.Visits.{few_made}
 use Rattle.bd_graft.proofs.grafting.finish.Goals as goal
 
 pub pack-requires-clause-layers : goal.pack-requires-clause-layers
@@ -32,15 +33,11 @@ put_over-requires-clause-few g c =
 
 pub returns-then-packed-level-clause-few_visits : goal.returns-then-packed-level-clause-few_visits
 returns-then-packed-level-clause-few_visits g c =
-    let t : Table = g.S.NodeStore.table c.args.store.now in
-    few_visited (g.S.NodeStore.visit_count c.args.store.now) (g.S.NodeStore.visit_count c.put_under.new.store) (length c.in_ok-packed.packed.made.items) (t.level t.root + 2) c.put_under.result
-    (omega (arith, c.in_ok-packed.ensures.few, c.as_slice-2.ensures.len, layers_few t (t.level t.root) c.args.way.layers.items c.args.way.end c.requires.layers)) c.put_under.ensures.visits c.put_under.ensures.err_visits
+    few_made (g.S.NodeStore.visit_count c.args.store.now) (g.S.NodeStore.visit_count c.put_under.new.store) (g.S.NodeStore.table c.args.store.now) (g.S.NodeStore.table c.put_under.new.store) c.put_under.result c.put_under.ensures.table c.put_under.ensures.visits c.put_under.ensures.err_visits
 
 pub returns-clause-few_visits : goal.returns-clause-few_visits
 returns-clause-few_visits g c =
-    let t : Table = g.S.NodeStore.table c.args.store.now in
-    few_visited (g.S.NodeStore.visit_count c.args.store.now) (g.S.NodeStore.visit_count c.put_over.new.store) (length c.in_ok-packed.packed.made.items + 1) (t.level t.root + 2) c.put_over.result
-    (omega (arith, c.in_ok-packed.ensures.few, c.as_slice-2.ensures.len, layers_few t (t.level t.root) c.args.way.layers.items c.args.way.end c.requires.layers)) c.put_over.ensures.visits c.put_over.ensures.err_visits
+    few_made (g.S.NodeStore.visit_count c.args.store.now) (g.S.NodeStore.visit_count c.put_over.new.store) (g.S.NodeStore.table c.args.store.now) (g.S.NodeStore.table c.put_over.new.store) c.put_over.result c.put_over.ensures.table c.put_over.ensures.visits c.put_over.ensures.err_visits
 
 pub returns-then-is_none-clause-cause : goal.returns-then-is_none-clause-cause
 returns-then-is_none-clause-cause g c =

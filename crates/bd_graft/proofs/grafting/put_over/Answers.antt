@@ -1,8 +1,9 @@
 use Rattle.std.proofs.Common.{ap, ◌∙◌, ◌+◌, ℕ, List, Some}
 use Rattle.bd_graft.specs.Packing.{overlay}
 use Rattle.bd_graft.specs.Grafting.{graft_messages, step_over}
-use Rattle.bd_graft.proofs.Grafts.{over_ready, over_step, over_place, over_done, over_visits, worn_step}
+use Rattle.bd_graft.proofs.Grafts.{over_ready, over_step, over_place, over_done, worn_step}
 use Rattle.bd_graft.proofs.Leaving.{over_left, over_same, over_grown}
+use Rattle.bd_graft.proofs.Visits.{step_visits}
 use Rattle.bd_graft.proofs.grafting.put_over.Goals as goal
 
 pub commit-requires-clause-step : goal.commit-requires-clause-step
@@ -55,11 +56,7 @@ returns-clause-table g c =
 
 pub returns-clause-visits : goal.returns-clause-visits
 returns-clause-visits g c =
-    over_visits (g.S.NodeStore.is_known c.args.store.now) (g.S.NodeStore.nodes c.args.store.now) (g.S.NodeStore.table c.args.store.now) c.args.packed c.args.s.now c.args.d.now c.args.keep c.in_ok-step.step (g.S.NodeStore.visit_count c.args.store.now) (g.S.NodeStore.visit_count c.commit.new.self) c.commit.result
-    (over_ready (g.S.NodeStore.is_known c.args.store.now) (g.S.NodeStore.nodes c.args.store.now) (g.S.NodeStore.table c.args.store.now) c.in_ok-top.top c.args.packed c.args.s.now c.args.d.now c.args.keep c.in_ok-step.step c.root-root.result c.next_id-next.result (c.level-level.result + 1) c.in_ok-indexed.field-0
-    c.requires.ready c.root-root.ensures.table c.requires.room c.requires.level c.requires.low c.requires.source c.requires.target c.root-root.ensures.value c.next_id-next.ensures.value
-    (ap (λ (n : ℕ). n + 1) (c.level-level.ensures ∙ ap (g.S.NodeStore.table c.args.store.now).level c.root-root.ensures.value)) (c.in_ok-indexed.ensures ∙ c.in_ok-list.ensures)
-    (c.in_ok-top.ensures ∙ ap (λ (q : List ℕ). overlay (c.level-level.result + 1) (Some (record { child = c.root-root.result; source = q })) c.in_ok-indexed.field-0) (c.from_vec.ensures ∙ c.new.ensures.items)) c.in_ok-step.ensures) c.commit.ensures.visits
+    step_visits (g.S.NodeStore.visit_count c.args.store.now) (g.S.NodeStore.visit_count c.commit.new.self) (g.S.NodeStore.table c.args.store.now) (g.S.NodeStore.table c.commit.new.self) c.in_ok-step.step c.commit.result c.commit.ensures.table c.commit.ensures.visits
 
 pub returns-clause-cause : goal.returns-clause-cause
 returns-clause-cause g c =

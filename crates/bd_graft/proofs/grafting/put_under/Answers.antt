@@ -6,6 +6,7 @@ use Rattle.bd_node.specs.Steps.{IsWornByAdding}
 use Rattle.bd_graft.specs.Grafting.{graft_messages}
 use Rattle.bd_graft.proofs.Grafts.{under_ready, under_step, under_done, ok_sound}
 use Rattle.bd_graft.proofs.Leaving.{under_left, under_same, under_grown}
+use Rattle.bd_graft.proofs.Visits.{step_visits}
 use Rattle.bd_graft.proofs.grafting.put_under.Goals as goal
 
 pub extend-requires : goal.extend-requires
@@ -41,6 +42,10 @@ returns-clause-table g c =
     under_grown (g.S.NodeStore.is_known c.args.store.now) (g.S.NodeStore.nodes c.args.store.now) (g.S.NodeStore.table c.args.store.now) c.requires.root.node c.args.packed c.args.s.now c.args.d.now c.args.keep _ (g.S.NodeStore.table c.extend.new.self) c.extend.result
     (under_ready (g.S.NodeStore.is_known c.args.store.now) (g.S.NodeStore.nodes c.args.store.now) (g.S.NodeStore.table c.args.store.now) c.requires.root.node c.args.packed c.args.s.now c.args.d.now c.args.keep c.from_vec.result c.from_vec-2.result
     c.requires.ready c.is_table.ensures c.requires.root.is c.requires.low c.requires.source c.requires.target c.requires.fits c.requires.room c.from_vec.ensures (c.from_vec-2.ensures ∙ c.in_ok-list.ensures)) c.requires.few (c.extend.ensures.table c.requires.root.node c.requires.root.is)
+
+pub returns-clause-visits : goal.returns-clause-visits
+returns-clause-visits g c =
+    step_visits (g.S.NodeStore.visit_count c.args.store.now) (g.S.NodeStore.visit_count c.extend.new.self) (g.S.NodeStore.table c.args.store.now) (g.S.NodeStore.table c.extend.new.self) _ c.extend.result (c.extend.ensures.table c.requires.root.node c.requires.root.is) c.extend.ensures.visits
 
 pub returns-clause-cause : goal.returns-clause-cause
 returns-clause-cause g c =
