@@ -9,3 +9,4 @@ pub mod Ways
 pub mod Counters
 pub mod Once
 pub mod Visits
+pub mod Made

@@ -1,5 +1,5 @@
 -- How many nodes a graft fetches and makes.
-use Rattle.std.proofs.Common.{◌≡◌, ℕ, ◌+◌, ◌-◌, ◌<◌, ◌≤◌, ◌^◌, min, Bool, true, false, ltb, List, length, refl, sym, ap, subst, ◌∙◌, Option, None, Some, inl, inr, arith, Result, Ok, Err, OnOk, OnErr}
+use Rattle.std.proofs.Common.{◌≡◌, ℕ, ◌+◌, ◌-◌, ◌<◌, ◌≤◌, ◌^◌, min, Bool, true, false, ltb, List, length, refl, sym, ap, subst, ◌∙◌, Option, None, Some, inl, inr, arith, Result, Ok, Err, OnOk}
 use Rattle.std.specs.Prelude.{◌⊎◌, nat_lt, if◌then◌else◌, IfNone}
 use Rattle.std.proofs.lemmas.Bool.{le-ltb, cond-false}
 use Rattle.std.proofs.lemmas.List.{length-map}
@@ -17,7 +17,7 @@ use Rattle.bd_resolve.specs.Following.{target_level}
 use Rattle.bd_graft.specs.declared.layers.Layer.{Layer}
 use Rattle.bd_graft.specs.Laying.{AreLayers}
 use Rattle.bd_graft.specs.Ways.{end_at, IsWay, fetched_on, HasRoot, messages_in}
-use Rattle.bd_graft.specs.Grafting.{IsGrown, IsWalkOf}
+use Rattle.bd_graft.specs.Grafting.{IsWalkOf}
 use Rattle.bd_graft.proofs.Wearing.{layers_few}
 
 -- ---- the root
@@ -92,10 +92,6 @@ next_more before number now after next is =
 pub step_visits : {T E : Type 0} (before now : ℕ) (t u : Table) (step : Step) (r : Result T E) → OnOk r (IsTableAfter t step u) → OnOk r (now ≡ visited before (length step.made)) → OnOk r (now ≡ visited before (u.next - t.next))
 step_visits before now t u step (Ok x) after is = is ∙ ap (λ (n : ℕ). visited before n) (let next : u.next ≡ t.next + length step.made = after.next in omega arith)
 step_visits before now t u step (Err e) after is = tt
-
-pub few_made : {T E : Type 0} (before now : ℕ) (t u : Table) (r : Result T E) → OnOk r (IsGrown t u) → OnOk r (now ≡ visited before (u.next - t.next)) → OnErr r (now ≡ before) → now ≤ before + (t.level t.root + 2)
-few_made before now t u (Ok x) grown is same = (let few : u.next ≤ t.next + (t.level t.root + 2) = grown.few in let made : u.next - t.next ≤ t.level t.root + 2 = omega arith in omega arith)
-few_made before now t u (Err e) grown is same = omega arith
 
 -- ---- both
 

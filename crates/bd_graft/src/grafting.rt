@@ -1,7 +1,7 @@
 //! The graft of what stands under one prefix to another.
 
 ghost use Rattle.std.specs.Prelude.{ℕ, List, IfOk, IfErr, ◌++◌, ◌-◌, ◌*◌, ◌≡◌, ◌+◌, ◌<◌, ◌≤◌, ◌^◌, length, Some, IfOk, OnOk, OnErr};
-ghost use Rattle.bd_limits.specs.Limits.{key_limit, buffer_limit, level_limit, graft_size};
+ghost use Rattle.bd_limits.specs.Limits.{buffer_limit, level_limit};
 ghost use Rattle.bd_message.specs.KeyMaps.{HasMapCause, CanGraft, IsGrafted};
 ghost use Rattle.bd_node.specs.Frames.{OfSound, OnlyReads, Stays};
 ghost use Rattle.bd_node.specs.Tables.{IsTable, IsSound, root_at};
@@ -13,7 +13,7 @@ ghost use Rattle.bd_node.specs.Meaning.{at};
 ghost use Rattle.bd_resolve.specs.Following.{target_at, IsShort};
 ghost use Rattle.bd_graft.specs.Laying.{laid, AreLayers};
 ghost use Rattle.bd_graft.specs.Ways.{IsWay, HasRoot, messages_in};
-ghost use Rattle.bd_graft.specs.Grafting.{graft_messages, top_made, step_over, IsReady, IsGrown, IsGraftStep, IsWalkOf, AreOthersSame, IsWornForGraft, IsWornByGraft, OnWorn};
+ghost use Rattle.bd_graft.specs.Grafting.{graft_messages, top_made, step_over, IsReady, IsGrown, IsGraftStep, IsWalkOf, IsGraftCall, AreOthersSame, IsWornForGraft, IsWornByGraft, OnWorn};
 
 use crate::packing::{Packed, overlay, overlay_count, pack};
 use crate::walking::{Walked, walk};
@@ -102,9 +102,7 @@ fn finish<S: NodeStore>(
     keep: bool,
 ) -> Result<(), MapFault>
     requires root { HasRoot (S.is_known store.old) (S.nodes store.old) (S.table store.old) }
-    requires source { length s.now ≤ key_limit }
-    requires target { length d.now ≤ key_limit }
-    requires fits { (S.table store.old).size + graft_size ≤ buffer_limit }
+    requires can { CanGraft s.now d.now keep (buffer_limit - (S.table store.old).size) }
     requires layers { AreLayers (S.table store.old)
         ((S.table store.old).level (S.table store.old).root + 1) way.layers.items way.end }
     requires short { IsShort way.end }
@@ -115,24 +113,7 @@ fn finish<S: NodeStore>(
     requires way { OfSound S.NodeStore store.old
         (IsWay (S.nodes store.old) (S.table store.old).root s.now
         (messages_in way.layers.items) way.end) }
-    ensures grafted { OfSound S.NodeStore store.old
-        (OnOk result (IsGrafted (root_at (S.nodes store.old) (S.table store.old)) s.now d.now keep
-        (root_at (S.nodes store.new) (S.table store.new)))) }
-    ensures sound { OfSound S.NodeStore store.old
-        (OnOk result (IsSound (S.nodes store.new) (S.table store.new))) }
-    ensures step { OfSound S.NodeStore store.old
-        (OnOk result (IsGraftStep (S.nodes store.old) (S.table store.old) s.now d.now keep
-        (S.nodes store.new) (S.table store.new))) }
-    ensures others { OfSound S.NodeStore store.old
-        (OnOk result (AreOthersSame (S.nodes store.old) (S.table store.old)
-        (S.nodes store.new) (S.table store.new))) }
-    ensures table { OnOk result (IsGrown (S.table store.old) (S.table store.new)) }
-    ensures stays { Stays S.NodeStore store.old store.new }
-    ensures err { OnErr result (OnlyReads S.NodeStore store.old store.new) }
-    ensures visits { OnOk result (S.visit_count store.new ≡ visited (S.visit_count store.old)
-        ((S.table store.new).next - (S.table store.old).next)) }
-    ensures few_visits { S.visit_count store.new ≤ S.visit_count store.old
-        + ((S.table store.old).level (S.table store.old).root + 2) }
+    ensures call { IsGraftCall S.NodeStore s.now d.now keep store.old store.new result }
     ensures cause { HasMapCause (S.fault_count store.old) (S.fault_count store.new)
         (S.bad store.new) (IsWornForGraft (S.table store.old)) result }
     ensures worn { OfSound S.NodeStore store.old
@@ -168,35 +149,15 @@ fn put_under<S: NodeStore>(
     keep: bool,
 ) -> Result<(), MapFault>
     requires root { HasRoot (S.is_known store.old) (S.nodes store.old) (S.table store.old) }
-    requires source { length s.now ≤ key_limit }
-    requires target { length d.now ≤ key_limit }
-    requires fits { (S.table store.old).size + graft_size ≤ buffer_limit }
+    requires can { CanGraft s.now d.now keep (buffer_limit - (S.table store.old).size) }
     requires room { (S.table store.old).next + length packed.made.items < 2 ^ 64 }
-    requires few { length packed.made.items
-        ≤ (S.table store.old).level (S.table store.old).root + 1 }
     requires low { packed.level < (S.table store.old).level (S.table store.old).root }
     requires ready { IsReady (S.is_known store.old) (S.nodes store.old) (S.table store.old)
         s.now packed }
-    ensures grafted { OfSound S.NodeStore store.old
-        (OnOk result (IsGrafted (root_at (S.nodes store.old) (S.table store.old)) s.now d.now keep
-        (root_at (S.nodes store.new) (S.table store.new)))) }
-    ensures sound { OfSound S.NodeStore store.old
-        (OnOk result (IsSound (S.nodes store.new) (S.table store.new))) }
-    ensures step { OfSound S.NodeStore store.old
-        (OnOk result (IsGraftStep (S.nodes store.old) (S.table store.old) s.now d.now keep
-        (S.nodes store.new) (S.table store.new))) }
-    ensures others { OfSound S.NodeStore store.old
-        (OnOk result (AreOthersSame (S.nodes store.old) (S.table store.old)
-        (S.nodes store.new) (S.table store.new))) }
-    ensures table { OnOk result (IsGrown (S.table store.old) (S.table store.new)) }
-    ensures stays { Stays S.NodeStore store.old store.new }
-    ensures err { OnErr result (OnlyReads S.NodeStore store.old store.new) }
+    ensures call { IsGraftCall S.NodeStore s.now d.now keep store.old store.new result }
     ensures cause { HasMapCause (S.fault_count store.old) (S.fault_count store.new)
         (S.bad store.new) (IsWornByAdding (S.table store.old) packed.made.items
         (graft_messages s.now d.now keep packed.target)) result }
-    ensures visits { OnOk result (S.visit_count store.new ≡ visited (S.visit_count store.old)
-        ((S.table store.new).next - (S.table store.old).next)) }
-    ensures err_visits { OnErr result (S.visit_count store.new ≡ S.visit_count store.old) }
 {
     is_table(&*store);
     let list = messages(alloc, s, d, keep, &packed.target)?;
@@ -219,36 +180,17 @@ fn put_over<S: NodeStore>(
     d: &[u8],
     keep: bool,
 ) -> Result<(), MapFault>
-    requires source { length s.now ≤ key_limit }
-    requires target { length d.now ≤ key_limit }
+    requires can { CanGraft s.now d.now keep (buffer_limit - (S.table store.old).size) }
     requires room { (S.table store.old).next + length packed.made.items + 1 < 2 ^ 64 }
     requires level { (S.table store.old).level (S.table store.old).root < level_limit }
-    requires few { length packed.made.items
-        ≤ (S.table store.old).level (S.table store.old).root + 1 }
     requires low { packed.level ≤ (S.table store.old).level (S.table store.old).root }
     requires high { (S.table store.old).level (S.table store.old).root ≤ packed.level }
     requires ready { IsReady (S.is_known store.old) (S.nodes store.old) (S.table store.old)
         s.now packed }
-    ensures grafted { OfSound S.NodeStore store.old
-        (OnOk result (IsGrafted (root_at (S.nodes store.old) (S.table store.old)) s.now d.now keep
-        (root_at (S.nodes store.new) (S.table store.new)))) }
-    ensures sound { OfSound S.NodeStore store.old
-        (OnOk result (IsSound (S.nodes store.new) (S.table store.new))) }
-    ensures step { OfSound S.NodeStore store.old
-        (OnOk result (IsGraftStep (S.nodes store.old) (S.table store.old) s.now d.now keep
-        (S.nodes store.new) (S.table store.new))) }
-    ensures others { OfSound S.NodeStore store.old
-        (OnOk result (AreOthersSame (S.nodes store.old) (S.table store.old)
-        (S.nodes store.new) (S.table store.new))) }
-    ensures table { OnOk result (IsGrown (S.table store.old) (S.table store.new)) }
-    ensures stays { Stays S.NodeStore store.old store.new }
-    ensures err { OnErr result (OnlyReads S.NodeStore store.old store.new) }
+    ensures call { IsGraftCall S.NodeStore s.now d.now keep store.old store.new result }
     ensures cause { HasMapCause (S.fault_count store.old) (S.fault_count store.new)
         (S.bad store.new) (IsWornBy (S.table store.old) (step_over (S.table store.old)
         packed.made.items (graft_messages s.now d.now keep packed.target))) result }
-    ensures visits { OnOk result (S.visit_count store.new ≡ visited (S.visit_count store.old)
-        ((S.table store.new).next - (S.table store.old).next)) }
-    ensures err_visits { OnErr result (S.visit_count store.new ≡ S.visit_count store.old) }
 {
     let root = store.root();
     let next = store.next_id();
