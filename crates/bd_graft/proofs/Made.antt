@@ -40,11 +40,6 @@ made_after g s d keep old mid new left h = record {
 
 -- ---- calls
 
-pub call_of : {S T E : Type 0} (g : Ghosts S) (s d : List ℕ) (keep : Bool) (old new : S) (r : Result T E) → OnOk r (IsGraftMade g s d keep old new)
-    → OnOk r (g.visit_count new ≡ visited (g.visit_count old) ((g.table new).next - (g.table old).next)) → Stays g old new → OnErr r (OnlyReads g old new) → OnErr r (g.visit_count new ≡ g.visit_count old)
-    → IsGraftCall g s d keep old new r
-call_of g s d keep old new r made visits stays err same = record { made = made; visits = visits; stays = stays; err = err; err_visits = same }
-
 -- a call that fails before anything was done
 pub not_called : {S T E : Type 0} (g : Ghosts S) (s d : List ℕ) (keep : Bool) (old : S) (e : E) → g.reads old old → g.keeps old old → IsGraftCall {T = T} g s d keep old old (Err e)
 not_called g s d keep old e reads keeps = record {
@@ -54,12 +49,3 @@ not_called g s d keep old e reads keeps = record {
   err = record { table = refl; known = λ k. k; kept = λ k. refl; read = reads; same_loans = refl };
   err_visits = refl;
 }
-
--- a call makes few nodes
-pub few_made : {S T E : Type 0} (g : Ghosts S) (s d : List ℕ) (keep : Bool) (old new : S) (r : Result T E) → IsGraftCall g s d keep old new r → g.visit_count new ≤ g.visit_count old + ((g.table old).level (g.table old).root + 2)
-few_made g s d keep old new (Ok x) h =
-    let few : (g.table new).next ≤ (g.table old).next + ((g.table old).level (g.table old).root + 2) = h.made.table.few in
-    let made : (g.table new).next - (g.table old).next ≤ (g.table old).level (g.table old).root + 2 = omega arith in
-    let visits : g.visit_count new ≡ visited (g.visit_count old) ((g.table new).next - (g.table old).next) = h.visits in
-    omega arith
-few_made g s d keep old new (Err e) h = (let same : g.visit_count new ≡ g.visit_count old = h.err_visits in omega arith)

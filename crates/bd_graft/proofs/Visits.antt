@@ -16,8 +16,7 @@ use Rattle.bd_resolve.specs.declared.following.Target.{Target}
 use Rattle.bd_resolve.specs.Following.{target_level}
 use Rattle.bd_graft.specs.declared.layers.Layer.{Layer}
 use Rattle.bd_graft.specs.Laying.{AreLayers}
-use Rattle.bd_graft.specs.Ways.{end_at, IsWay, fetched_on, HasRoot, messages_in}
-use Rattle.bd_graft.specs.Grafting.{IsWalkOf}
+use Rattle.bd_graft.specs.Ways.{end_at, fetched_on, HasRoot, messages_in}
 use Rattle.bd_graft.proofs.Wearing.{layers_few}
 
 -- ---- the root
@@ -102,17 +101,6 @@ few_fetched t ls end fetched layers is =
     let one : min (target_level t end) 1 ≤ 1 = omega arith in
     omega (arith, few, one, is, layers_length ls)
 
-pub walk_of : (nodes : Nodes) (t : Table) (s : List ℕ) (u : Table) (ls : List Layer) (end : Option Target) (fetched before after : ℕ) → IsWay nodes t.root s (messages_in ls) end → fetched ≡ fetched_on t (messages_in ls) end → before ≡ t.next → after ≡ u.next → IsWalkOf nodes t s u (fetched + (after - before))
-walk_of nodes t s u ls end fetched before after way is old new = record {
-  travel = messages_in ls;
-  end = end;
-  way = way;
-  visits_are = omega (arith, is, old, new);
-}
-
 pub risen : (before mid now fetched made visits : ℕ) → mid ≡ visited before fetched → now ≡ visited mid made → visits ≡ fetched + made → now ≡ visited before visits
 risen before mid now fetched made visits first second is =
     second ∙ ap (λ (n : ℕ). visited n made) first ∙ visited_more before fetched made ∙ ap (λ (n : ℕ). visited before n) (omega (arith, is))
-
-pub rise_is : (before now visits : ℕ) → now ≡ visited before visits → now < 2 ^ 64 - 1 → visits ≡ now - before
-rise_is before now visits is low = omega arith

@@ -2,7 +2,7 @@ use Rattle.std.proofs.Common.{◌≡◌, ℕ, ◌+◌, ◌-◌, ◌≤◌, ap, s
 use Rattle.bd_node.specs.Tables.{Table}
 use Rattle.bd_graft.specs.Grafting.{IsGrown}
 use Rattle.bd_graft.proofs.Visits.{few_fetched, risen}
-use Rattle.bd_graft.proofs.Made.{made_after, few_made}
+use Rattle.bd_graft.proofs.Made.{made_after}
 use Rattle.bd_graft.proofs.grafting.graft.Goals as goal
 
 pub returns-clause-few : goal.returns-clause-few

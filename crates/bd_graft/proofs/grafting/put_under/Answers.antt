@@ -9,7 +9,7 @@ use Rattle.bd_graft.specs.Grafting.{graft_messages}
 use Rattle.bd_graft.proofs.Grafts.{IsUnderStep, under_ready, under_step, under_done, ok_sound}
 use Rattle.bd_graft.proofs.Leaving.{under_left, under_same, under_grown}
 use Rattle.bd_graft.proofs.Visits.{step_visits}
-use Rattle.bd_graft.proofs.Made.{room_is, made_of, call_of}
+use Rattle.bd_graft.proofs.Made.{room_is, made_of}
 use Rattle.bd_graft.proofs.grafting.put_under.Goals as goal
 
 pub extend-requires : goal.extend-requires
@@ -29,15 +29,18 @@ returns-clause-call g c =
     under_ready (g.S.NodeStore.is_known c.args.store.now) nodes t n c.args.packed c.args.s.now c.args.d.now c.args.keep c.from_vec.result c.from_vec-2.result
     c.requires.ready c.is_table.ensures c.requires.root.is c.requires.low c.requires.can.source c.requires.can.target (room_is t.size c.requires.can.fits) c.requires.room c.from_vec.ensures (c.from_vec-2.ensures ∙ c.in_ok-list.ensures) in
     let table = c.extend.ensures.table n c.requires.root.is in
-    call_of g.S.NodeStore c.args.s.now c.args.d.now c.args.keep c.args.store.now c.extend.new.self c.extend.result
-    (made_of g.S.NodeStore c.args.s.now c.args.d.now c.args.keep c.args.store.now c.extend.new.self c.extend.result
-    (λ known sound. under_done (g.S.NodeStore.is_known c.args.store.now) nodes t n c.args.packed c.args.s.now c.args.d.now c.args.keep _ new u c.extend.result ready known sound (c.requires.root.there known) table (c.extend.ensures.committed known sound n (c.requires.root.there known)))
-    (λ known sound. ok_sound nodes t _ new u c.extend.result (c.extend.ensures.committed known sound n (c.requires.root.there known)))
-    (λ known sound. under_left (g.S.NodeStore.is_known c.args.store.now) nodes t n c.args.packed c.args.s.now c.args.d.now c.args.keep _ new u c.extend.result ready known sound (c.requires.root.there known) table (c.extend.ensures.committed known sound n (c.requires.root.there known)))
-    (λ known sound. under_same (g.S.NodeStore.is_known c.args.store.now) nodes t n c.args.packed c.args.s.now c.args.d.now c.args.keep _ new u c.extend.result ready sound (c.requires.root.there known) table (c.extend.ensures.committed known sound n (c.requires.root.there known)))
-    (under_grown (g.S.NodeStore.is_known c.args.store.now) nodes t n c.args.packed c.args.s.now c.args.d.now c.args.keep _ u c.extend.result ready c.requires.ready.few table))
-    (step_visits (g.S.NodeStore.visit_count c.args.store.now) (g.S.NodeStore.visit_count c.extend.new.self) t u _ c.extend.result (c.extend.ensures.table c.requires.root.node c.requires.root.is) c.extend.ensures.visits)
-    c.extend.ensures.stays c.extend.ensures.err c.extend.ensures.err_visits
+    record {
+      made = made_of g.S.NodeStore c.args.s.now c.args.d.now c.args.keep c.args.store.now c.extend.new.self c.extend.result
+          (λ known sound. under_done (g.S.NodeStore.is_known c.args.store.now) nodes t n c.args.packed c.args.s.now c.args.d.now c.args.keep _ new u c.extend.result ready known sound (c.requires.root.there known) table (c.extend.ensures.committed known sound n (c.requires.root.there known)))
+          (λ known sound. ok_sound nodes t _ new u c.extend.result (c.extend.ensures.committed known sound n (c.requires.root.there known)))
+          (λ known sound. under_left (g.S.NodeStore.is_known c.args.store.now) nodes t n c.args.packed c.args.s.now c.args.d.now c.args.keep _ new u c.extend.result ready known sound (c.requires.root.there known) table (c.extend.ensures.committed known sound n (c.requires.root.there known)))
+          (λ known sound. under_same (g.S.NodeStore.is_known c.args.store.now) nodes t n c.args.packed c.args.s.now c.args.d.now c.args.keep _ new u c.extend.result ready sound (c.requires.root.there known) table (c.extend.ensures.committed known sound n (c.requires.root.there known)))
+          (under_grown (g.S.NodeStore.is_known c.args.store.now) nodes t n c.args.packed c.args.s.now c.args.d.now c.args.keep _ u c.extend.result ready c.requires.ready.few table);
+      visits = step_visits (g.S.NodeStore.visit_count c.args.store.now) (g.S.NodeStore.visit_count c.extend.new.self) t u _ c.extend.result (c.extend.ensures.table c.requires.root.node c.requires.root.is) c.extend.ensures.visits;
+      stays = c.extend.ensures.stays;
+      err = c.extend.ensures.err;
+      err_visits = c.extend.ensures.err_visits;
+    }
 
 pub returns-clause-cause : goal.returns-clause-cause
 returns-clause-cause g c =
