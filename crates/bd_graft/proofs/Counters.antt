@@ -14,13 +14,13 @@ use Rattle.bd_message.specs.declared.fault.MapFault.TheVariants.{DeviceFault, Da
 use Rattle.bd_node.specs.declared.node.Node.{Node}
 use Rattle.bd_node.specs.Meaning.{Nodes}
 use Rattle.bd_node.specs.Tables.{Table, IsSound}
-use Rattle.bd_node.specs.Steps.{IsWornBy}
+use Rattle.bd_node.specs.Steps.{IsWornBy, extend_step}
 use Rattle.bd_resolve.specs.declared.following.Target.{Target}
 use Rattle.bd_graft.specs.declared.layers.Layer.{Layer}
 use Rattle.bd_graft.specs.declared.packing.Packed.{Packed}
 use Rattle.bd_graft.specs.Ways.{IsWay, messages_in}
 use Rattle.bd_graft.specs.Packing.{gathered, packs, overlaid, over_all, top_over, overlays_over}
-use Rattle.bd_graft.specs.Grafting.{graft_messages, step_under, step_over, IsReady, IsWornOver, IsWornByGraft, OnWorn}
+use Rattle.bd_graft.specs.Grafting.{graft_messages, step_over, IsReady, IsWornOver, IsWornByGraft, OnWorn}
 use Rattle.bd_graft.specs.Grafting.IsWornOver.{root_kept, root_raised, level_raised}
 use Rattle.bd_graft.proofs.Grafts.{the_top}
 use Rattle.bd_graft.proofs.Grouping.{by_case, overlays_length, packed_length}
@@ -108,13 +108,13 @@ worn_level known nodes t n packed s d keep ready k sound there high last =
 
 -- what the store says of the step
 pub worn_under : {T : Type 0} (before now : ℕ) (bad : ℕ → Type 0) (known : Type 0) (nodes : Nodes) (t : Table) (n : Node) (packed : Packed) (s d : List ℕ) (keep : Bool) (r : Result T MapFault) → IsReady known nodes t s packed → known → IsSound nodes t → nodes t.root ≡ Some n → packed.level < t.level t.root
-    → HasMapCause before now bad (IsWornBy t (step_under t n packed.made.items (graft_messages s d keep packed.target))) r → IfErr r (OnWorn (IsWornByGraft nodes t s d keep))
+    → HasMapCause before now bad (IsWornBy t (extend_step t n packed.made.items (graft_messages s d keep packed.target))) r → IfErr r (OnWorn (IsWornByGraft nodes t s d keep))
 worn_under before now bad known nodes t n packed s d keep (Ok x) ready k sound there low h = tt
 worn_under before now bad known nodes t n packed s d keep (Err DeviceFault) ready k sound there low h = tt
 worn_under before now bad known nodes t n packed s d keep (Err (Damaged block)) ready k sound there low h = tt
 worn_under before now bad known nodes t n packed s d keep (Err (Worn counter)) ready k sound there low h =
     worn_of known nodes t n packed s d keep counter ready k sound there
-    (root_kept (omega (arith, ready.groups.top, low)) (subst (λ (made : List Node). IsWornBy t (step_under t n made (graft_messages s d keep packed.target)) counter) ready.groups.made h.failed))
+    (root_kept (omega (arith, ready.groups.top, low)) (subst (λ (made : List Node). IsWornBy t (extend_step t n made (graft_messages s d keep packed.target)) counter) ready.groups.made h.failed))
 worn_under before now bad known nodes t n packed s d keep (Err NoMemory) ready k sound there low h = tt
 
 pub worn_over : {T : Type 0} (before now : ℕ) (bad : ℕ → Type 0) (known : Type 0) (nodes : Nodes) (t : Table) (n : Node) (packed : Packed) (s d : List ℕ) (keep : Bool) (r : Result T MapFault) → IsReady known nodes t s packed → known → IsSound nodes t → nodes t.root ≡ Some n → t.level t.root ≤ packed.level

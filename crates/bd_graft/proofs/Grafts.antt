@@ -45,7 +45,7 @@ use Rattle.bd_graft.specs.Laying.{above, laid, AreLayers}
 use Rattle.bd_graft.specs.Packing.{overlay, target_names, HasMade, IsUnder, AreOverlays, IsOver, IsPacked}
 use Rattle.bd_graft.proofs.Freeing.{names_both}
 use Rattle.bd_graft.proofs.Packs.{get_first, get_last, lower_more, no_more, one_more, id_range, overlay_has, overlay_shape}
-use Rattle.bd_graft.specs.Grafting.{graft_messages, top_made, step_under, step_over, IsReady}
+use Rattle.bd_graft.specs.Grafting.{graft_messages, top_made, step_over, IsReady}
 
 -- ---- what the messages of a graft do
 
@@ -298,26 +298,26 @@ times_more (Inner level es buffer) list c inner one =
       sum_by-append (λ (x : ℕ). cond (x == c) 1 0) (flat_map message_names buffer) (flat_map message_names list),
     )
 
-pub root_given : (t : Table) (n : Node) (made : List Node) (list : List Message) → t.root < t.next → given t.next (step_under t n made list) t.root ≡ Some (appended n list)
-root_given t n made list low = given-old t.next (step_under t n made list) t.root low ∙ changed_at-same (the_root t n list) [] t.root refl
+pub root_given : (t : Table) (n : Node) (made : List Node) (list : List Message) → t.root < t.next → given t.next (extend_step t n made list) t.root ≡ Some (appended n list)
+root_given t n made list low = given-old t.next (extend_step t n made list) t.root low ∙ changed_at-same (the_root t n list) [] t.root refl
 
-pub other_given : (t : Table) (n : Node) (made : List Node) (list : List Message) (c : ℕ) → c < t.next → (c ≡ t.root → ⊥) → given t.next (step_under t n made list) c ≡ None
-other_given t n made list c low other = given-old t.next (step_under t n made list) c low ∙ changed_at-other (the_root t n list) [] c other
+pub other_given : (t : Table) (n : Node) (made : List Node) (list : List Message) (c : ℕ) → c < t.next → (c ≡ t.root → ⊥) → given t.next (extend_step t n made list) c ≡ None
+other_given t n made list c low other = given-old t.next (extend_step t n made list) c low ∙ changed_at-other (the_root t n list) [] c other
 
-pub root_levels : (t : Table) (n : Node) (made : List Node) (list : List Message) → IsTable t → IsNodeOf t (t.level t.root) n → (c : ℕ) → IsKept t c → level_after t (step_under t n made list) c ≡ t.level c
+pub root_levels : (t : Table) (n : Node) (made : List Node) (list : List Message) → IsTable t → IsNodeOf t (t.level t.root) n → (c : ℕ) → IsKept t c → level_after t (extend_step t n made list) c ≡ t.level c
 root_levels t n made list table own c kept = elim (cases_eq c t.root) [
   | inl same ↦
-      ap (λ (i : ℕ). level_after t (step_under t n made list) i) same
+      ap (λ (i : ℕ). level_after t (extend_step t n made list) i) same
       ∙ ap (λ (o : Option Node). level_or o (t.level t.root)) (root_given t n made list (table.below t.root table.root))
       ∙ level_appended n list ∙ own.level_is ∙ ap t.level (sym same)
   | inr other ↦ ap (λ (o : Option Node). level_or o (t.level c)) (other_given t n made list c (table.below c kept) other)
 ]
 
-pub under_overlaying : (t : Table) (n : Node) (end : Option Target) (done : List Message) (packed : Packed) (s d : List ℕ) (keep : Bool) → IsPacked t end done packed → IsLow t n packed (graft_messages s d keep packed.target) → IsOverlaying t (step_under t n packed.made.items (graft_messages s d keep packed.target))
+pub under_overlaying : (t : Table) (n : Node) (end : Option Target) (done : List Message) (packed : Packed) (s d : List ℕ) (keep : Bool) → IsPacked t end done packed → IsLow t n packed (graft_messages s d keep packed.target) → IsOverlaying t (extend_step t n packed.made.items (graft_messages s d keep packed.target))
 under_overlaying t n end done packed s d keep p h =
     let list : List Message = graft_messages s d keep packed.target in
     let made : List Node = packed.made.items in
-    let step : Step = step_under t n made list in
+    let step : Step = extend_step t n made list in
     let levels : (c : ℕ) → IsKept t c → level_after t step c ≡ t.level c = root_levels t n made list h.table h.own in
     let is_level : level_of (appended n list) ≡ t.level t.root = level_appended n list ∙ h.own.level_is in
     let low : packed.level + 1 ≤ level_of (appended n list) = (let l : packed.level < t.level t.root = h.low in omega (arith, is_level)) in
@@ -342,10 +342,10 @@ under_overlaying t n end done packed s d keep p h =
           omega (arith, one, sum_by-cons (λ (c : Change). times c.node (t.next + place)) (the_root t n list) []);
     }
 
-pub under_in_place : (nodes : Nodes) (t : Table) (n : Node) (made : List Node) (list : List Message) → IsSound nodes t → IsInPlace nodes t (step_under t n made list)
+pub under_in_place : (nodes : Nodes) (t : Table) (n : Node) (made : List Node) (list : List Message) → IsSound nodes t → IsInPlace nodes t (extend_step t n made list)
 under_in_place nodes t n made list s = record {
   private = (root_private nodes t s, tt);
-  above = stay_above nodes t (step_under t n made list) s (λ id m low e. of_root (elim (cases_eq id t.root) [
+  above = stay_above nodes t (extend_step t n made list) s (λ id m low e. of_root (elim (cases_eq id t.root) [
     | inl same ↦ same
     | inr other ↦ absurd (none-some m (sym (other_given t n made list id low other) ∙ e))
   ]));
@@ -356,11 +356,11 @@ lower_other t c own same = (let e : t.level c ≡ t.level t.root = ap t.level sa
 
 pub under_grafted : (nodes : Nodes) (t : Table) (n : Node) (ls : List Layer) (end : Option Target) (packed : Packed) (s d : List ℕ) (keep : Bool) (new : Nodes) (u : Table) → IsSound nodes t → nodes t.root ≡ Some n → IsPacked t end (laid ls) packed → IsLow t n packed (graft_messages s d keep packed.target)
     → AreLayers t (t.level t.root + 1) ls end → ((k : List ℕ) → IsKey k → acts (at nodes) (laid ls) k (target_at (at nodes) end k) ≡ root_at nodes t (s ++ k))
-    → IsCommitted nodes t (step_under t n packed.made.items (graft_messages s d keep packed.target)) new u → u.root ≡ t.root → IsGrafted (root_at nodes t) s d keep (root_at new u)
+    → IsCommitted nodes t (extend_step t n packed.made.items (graft_messages s d keep packed.target)) new u → u.root ≡ t.root → IsGrafted (root_at nodes t) s d keep (root_at new u)
 under_grafted nodes t n ls end packed s d keep new u sound there p h layers value committed root k key =
     let list : List Message = graft_messages s d keep packed.target in
     let made : List Node = packed.made.items in
-    let step : Step = step_under t n made list in
+    let step : Step = extend_step t n made list in
     let high : ℕ = t.level t.root in
     let below : t.root < t.next = h.table.below t.root h.table.root in
     let levelled : IsLevelled (after nodes t step) = (begun nodes t step sound (overlaying_step t step (under_overlaying t n end (laid ls) packed s d keep p h)) (under_in_place nodes t n made list sound).above).levelled in
@@ -394,11 +394,11 @@ messages_are s d false target hs hd short child = (
 pub record IsUnderStep (known : Type 0) (nodes : Nodes) (t : Table) (n : Node) (packed : Packed) (s d : List ℕ) (keep : Bool) (step : Step) : Type 0 where
   pub ready : IsReady known nodes t s packed
   pub low : IsLow t n packed (graft_messages s d keep packed.target)
-  pub is : step ≡ step_under t n packed.made.items (graft_messages s d keep packed.target)
+  pub is : step ≡ extend_step t n packed.made.items (graft_messages s d keep packed.target)
 
 pub under_step : (known : Type 0) (nodes : Nodes) (t : Table) (n : Node) (packed : Packed) (s d : List ℕ) (keep : Bool) (step : Step) → IsUnderStep known nodes t n packed s d keep step → IsStep t step
 under_step known nodes t n packed s d keep step h =
-    subst (λ (q : Step). IsStep t q) (sym h.is) (overlaying_step t (step_under t n packed.made.items (graft_messages s d keep packed.target)) (under_overlaying t n h.ready.end (laid h.ready.layers) packed s d keep h.ready.packed_is h.low))
+    subst (λ (q : Step). IsStep t q) (sym h.is) (overlaying_step t (extend_step t n packed.made.items (graft_messages s d keep packed.target)) (under_overlaying t n h.ready.end (laid h.ready.layers) packed s d keep h.ready.packed_is h.low))
 
 pub under_place : (known : Type 0) (nodes : Nodes) (t : Table) (n : Node) (packed : Packed) (s d : List ℕ) (keep : Bool) (step : Step) → IsUnderStep known nodes t n packed s d keep step → IsSound nodes t → IsInPlace nodes t step
 under_place known nodes t n packed s d keep step h sound =
@@ -451,13 +451,6 @@ over_done known nodes t packed s d keep step new u (Ok x) h k sound after commit
     over_grafted nodes t h.ready.layers h.ready.end packed s d keep new u sound h.ready.packed_is h.high h.ready.layers_are (h.ready.value k sound)
     (subst (λ (q : Step). IsCommitted nodes t q new u) h.is committed) (after.root ∙ ap (λ (q : Step). q.root) h.is)
 over_done known nodes t packed s d keep step new u (Err e) h k sound after committed = tt
-
-pub over_visits : {T E : Type 0} (known : Type 0) (nodes : Nodes) (t : Table) (packed : Packed) (s d : List ℕ) (keep : Bool) (step : Step) (before now : ℕ) (r : Result T E) → IsOverStep known nodes t packed s d keep step
-    → OnOk r (now ≡ visited before (length step.made)) → OnOk r (now ≡ visited before (length packed.made.items + 1))
-over_visits known nodes t packed s d keep step before now (Ok x) h e =
-    let top : Node = the_top t (graft_messages s d keep packed.target) in
-    e ∙ ap (λ (q : Step). visited before (length q.made)) h.is ∙ ap (λ (n : ℕ). visited before n) (length-append packed.made.items (top ∷ []))
-over_visits known nodes t packed s d keep step before now (Err x) h e = tt
 
 pub over_ready : (known : Type 0) (nodes : Nodes) (t : Table) (top : Node) (packed : Packed) (s d : List ℕ) (keep : Bool) (step : Step) (root next level : ℕ) (list : List Message) → IsReady known nodes t s packed → IsTable t → t.next + length packed.made.items + 1 < 2 ^ 64 → t.level t.root < level_limit → packed.level ≤ t.level t.root
     → length s ≤ key_limit → length d ≤ key_limit → root ≡ t.root → next ≡ t.next → level ≡ t.level t.root + 1 → list ≡ graft_messages s d keep packed.target → top ≡ overlay level (Some (record { child = root; source = [] })) list → step ≡ top_made packed.made.items top next

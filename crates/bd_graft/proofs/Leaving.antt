@@ -13,7 +13,7 @@ use Rattle.bd_node.specs.declared.node.Step.{Step}
 use Rattle.bd_node.specs.Nodes.{level_of, names, times, message_names, edge_names, appended}
 use Rattle.bd_node.specs.Meaning.{Nodes}
 use Rattle.bd_node.specs.Tables.{Table, IsKept, IsTable, IsLower, IsSound}
-use Rattle.bd_node.specs.Steps.{given, level_or, level_after, after, IsTableAfter, IsCommitted}
+use Rattle.bd_node.specs.Steps.{given, level_or, level_after, after, IsTableAfter, IsCommitted, extend_step}
 use Rattle.bd_node.specs.Private.{IsReached}
 use Rattle.bd_node.specs.Private.IsReached.{at_root, named}
 use Rattle.bd_node.proofs.Lookup.{each_named, named_has, count-cons_same}
@@ -24,7 +24,7 @@ use Rattle.bd_resolve.specs.declared.following.Target.{Target}
 use Rattle.bd_graft.specs.declared.packing.Packed.{Packed}
 use Rattle.bd_graft.specs.Ways.{messages_in}
 use Rattle.bd_graft.specs.Packing.{IsUnder, AreOverlays, level_in, AreExact, IsOver}
-use Rattle.bd_graft.specs.Grafting.{graft_messages, step_under, step_over, IsGrown, AreMade, IsGraftStep, AreOthersSame}
+use Rattle.bd_graft.specs.Grafting.{graft_messages, step_over, IsGrown, AreMade, IsGraftStep, AreOthersSame}
 use Rattle.bd_graft.proofs.Packs.{get_first, get_last, level_kept, level_made, overlay_same}
 use Rattle.bd_graft.proofs.Grafts.{get_some, made_given, graft_named, named_last, the_top, message_times, times_more, root_given, other_given, root_levels, over_none, IsUnderStep, IsOverStep}
 
@@ -131,17 +131,17 @@ target_old t made level target over none = elim over.lower.0 [
 
 -- the step of a graft into the root was made
 pub record IsUnderDone (known : Type 0) (nodes : Nodes) (t : Table) (n : Node) (packed : Packed) (s d : List ℕ) (keep : Bool) (new : Nodes) (u : Table) : Type 0 where
-  pub step : IsUnderStep known nodes t n packed s d keep (step_under t n packed.made.items (graft_messages s d keep packed.target))
+  pub step : IsUnderStep known nodes t n packed s d keep (extend_step t n packed.made.items (graft_messages s d keep packed.target))
   pub sound : IsSound nodes t
   pub there : nodes t.root ≡ Some n
-  pub after : IsTableAfter t (step_under t n packed.made.items (graft_messages s d keep packed.target)) u
-  pub committed : IsCommitted nodes t (step_under t n packed.made.items (graft_messages s d keep packed.target)) new u
+  pub after : IsTableAfter t (extend_step t n packed.made.items (graft_messages s d keep packed.target)) u
+  pub committed : IsCommitted nodes t (extend_step t n packed.made.items (graft_messages s d keep packed.target)) new u
 
 under_new : (known : Type 0) (nodes : Nodes) (t : Table) (n : Node) (packed : Packed) (s d : List ℕ) (keep : Bool) (new : Nodes) (u : Table) → IsUnderDone known nodes t n packed s d keep new u → new t.root ≡ Some (appended n (graft_messages s d keep packed.target))
 under_new known nodes t n packed s d keep new u h =
     let list : List Message = graft_messages s d keep packed.target in
     h.committed.stays t.root (subst (λ (r : ℕ). IsKept u r) h.after.root h.after.table.root)
-    ∙ after-some nodes t (step_under t n packed.made.items list) t.root (appended n list) (root_given t n packed.made.items list (h.sound.table.below t.root h.sound.table.root))
+    ∙ after-some nodes t (extend_step t n packed.made.items list) t.root (appended n list) (root_given t n packed.made.items list (h.sound.table.below t.root h.sound.table.root))
 
 under_target : (known : Type 0) (nodes : Nodes) (t : Table) (n : Node) (packed : Packed) (s d : List ℕ) (keep : Bool) (new : Nodes) (u : Table) → IsUnderDone known nodes t n packed s d keep new u → IsLower u (u.level t.root) packed.target.child
 under_target known nodes t n packed s d keep new u h =
@@ -150,21 +150,21 @@ under_target known nodes t n packed s d keep new u h =
     named_lower new u h.committed.sound t.root (appended n list) (under_new known nodes t n packed s d keep new u h) packed.target.child (times_more n list packed.target.child inner (graft_named s d keep packed.target))
 
 under_on : (nodes : Nodes) (t : Table) (n : Node) (made : List Node) (list : List Message) → IsSound nodes t → nodes t.root ≡ Some n → (p : ℕ) (m : Node) (c : ℕ) → nodes p ≡ Some m → 1 ≤ times m c
-    → (x : Node) × (after nodes t (step_under t n made list) p ≡ Some x) × (1 ≤ times x c)
+    → (x : Node) × (after nodes t (extend_step t n made list) p ≡ Some x) × (1 ≤ times x c)
 under_on nodes t n made list sound here p m c there one = elim (cases_eq p t.root) [
   | inl same ↦ (
     appended n list,
-    ap (λ (i : ℕ). after nodes t (step_under t n made list) i) same ∙ after-some nodes t (step_under t n made list) t.root (appended n list) (root_given t n made list (sound.table.below t.root sound.table.root)),
+    ap (λ (i : ℕ). after nodes t (extend_step t n made list) i) same ∙ after-some nodes t (extend_step t n made list) t.root (appended n list) (root_given t n made list (sound.table.below t.root sound.table.root)),
     times_kept n list c (subst (λ (q : Node). 1 ≤ times q c) (same_Some m n (sym there ∙ ap nodes same ∙ here)) one),
   )
-  | inr other ↦ (m, after-none nodes t (step_under t n made list) p (other_given t n made list p (sound.table.below p (kept_there nodes t sound p m there)) other) ∙ there, one)
+  | inr other ↦ (m, after-none nodes t (extend_step t n made list) p (other_given t n made list p (sound.table.below p (kept_there nodes t sound p m there)) other) ∙ there, one)
 ]
 
 under_step_left : (known : Type 0) (nodes : Nodes) (t : Table) (n : Node) (packed : Packed) (s d : List ℕ) (keep : Bool) (new : Nodes) (u : Table) → IsUnderDone known nodes t n packed s d keep new u → known → IsGraftStep nodes t s d keep new u
 under_step_left known nodes t n packed s d keep new u h k =
     let list : List Message = graft_messages s d keep packed.target in
     let made : List Node = packed.made.items in
-    let step : Step = step_under t n made list in
+    let step : Step = extend_step t n made list in
     let kept : IsKept u t.root = subst (λ (r : ℕ). IsKept u r) h.after.root h.after.table.root in
     let target : IsLower u (u.level t.root) packed.target.child = under_target known nodes t n packed s d keep new u h in
     let levels : (c : ℕ) → IsKept t c → level_after t step c ≡ t.level c = root_levels t n made list h.step.low.table h.step.low.own in
@@ -207,7 +207,7 @@ under_others : (known : Type 0) (nodes : Nodes) (t : Table) (n : Node) (packed :
 under_others known nodes t n packed s d keep new u h =
     let list : List Message = graft_messages s d keep packed.target in
     let made : List Node = packed.made.items in
-    let step : Step = step_under t n made list in
+    let step : Step = extend_step t n made list in
     record {
       node = λ id kept stays other.
           h.committed.stays id stays
@@ -241,7 +241,7 @@ pub under_grown : {T E : Type 0} (known : Type 0) (nodes : Nodes) (t : Table) (n
 under_grown known nodes t n packed s d keep step u (Ok x) h few ok =
     let list : List Message = graft_messages s d keep packed.target in
     let made : List Node = packed.made.items in
-    let after : IsTableAfter t (step_under t n made list) u = subst (λ (q : Step). IsTableAfter t q u) h.is ok in
+    let after : IsTableAfter t (extend_step t n made list) u = subst (λ (q : Step). IsTableAfter t q u) h.is ok in
     let levels : (id : ℕ) → IsKept t id → IsKept u id → u.level id ≡ t.level id = λ id kept stays. after.level id stays ∙ root_levels t n made list h.low.table h.low.own id kept in
     let level : u.level u.root ≡ t.level t.root = ap u.level after.root ∙ levels t.root h.low.table.root (subst (λ (r : ℕ). IsKept u r) after.root after.table.root) in
     let next : u.next ≡ t.next + length made = after.next in
@@ -253,7 +253,7 @@ under_grown known nodes t n packed s d keep step u (Ok x) h few ok =
       same_root = λ e. after.root;
       new_root = λ less. absurd (omega (arith, less, level));
       levels = levels;
-      touched = touched_in (λ (i : ℕ). i ≡ t.root) t u (step_under t n made list) after (refl, tt);
+      touched = touched_in (λ (i : ℕ). i ≡ t.root) t u (extend_step t n made list) after (refl, tt);
     }
 under_grown known nodes t n packed s d keep step u (Err e) h few ok = tt
 

@@ -8,3 +8,5 @@ pub mod Grouping
 pub mod Ways
 pub mod Counters
 pub mod Once
+pub mod Visits
+pub mod Made

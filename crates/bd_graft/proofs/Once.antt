@@ -1,5 +1,5 @@
 -- The way of a prefix, and what a graft leaves, are settled.
-use Rattle.std.proofs.Common.{◌≡◌, ◌≢◌, ℕ, ◌+◌, ◌<◌, ◌≤◌, Bool, List, [], ◌∷◌, refl, sym, ap, subst, ◌∙◌, Option, None, Some, inl, inr, arith}
+use Rattle.std.proofs.Common.{◌≡◌, ◌≢◌, ℕ, ◌+◌, ◌-◌, ◌<◌, ◌≤◌, Bool, List, [], ◌∷◌, refl, sym, ap, subst, ◌∙◌, Option, None, Some, inl, inr, arith}
 use Rattle.std.specs.Prelude.{slice_get}
 use Rattle.std.proofs.lemmas.Option.{same_Some}
 use Rattle.std.proofs.lemmas.Bool.{cases_lt}
@@ -14,10 +14,10 @@ use Rattle.bd_resolve.specs.declared.following.Followed.{Followed}
 use Rattle.bd_resolve.specs.declared.following.Followed.TheVariants.{Here, Past}
 use Rattle.bd_resolve.specs.Following.{covered, edge_target, Decides, NoneDecides, IsLed, LeadsTo}
 use Rattle.bd_resolve.specs.Following.IsLed.{at_all, by_message, by_edge, at_several}
-use Rattle.bd_graft.specs.Ways.{travelling, IsWay}
+use Rattle.bd_graft.specs.Ways.{travelling, IsWay, fetched_on}
 use Rattle.bd_graft.specs.Ways.IsWay.{ends, to_nothing, leads_on}
 use Rattle.bd_graft.specs.Packing.{packs, overlaid, over_all, overlays_over}
-use Rattle.bd_graft.specs.Grafting.{IsGraftStep}
+use Rattle.bd_graft.specs.Grafting.{IsGraftStep, IsWalkOf}
 
 -- ---- one node
 
@@ -108,3 +108,11 @@ step_once nodes t s d keep new other u v a b =
       a.made_are ∙ ap (λ (x : List (List Message)). overlays_over t a.end (overlaid a.end (packs x))) same.0 ∙ ap (λ (e : Option Target). overlays_over t e (overlaid e (packs b.travel))) same.1 ∙ sym b.made_are,
       same_Some a.target b.target (sym a.target_is ∙ ap (λ (x : List (List Message)). over_all t.next a.end (overlaid a.end (packs x))) same.0 ∙ ap (λ (e : Option Target). over_all t.next e (overlaid e (packs b.travel))) same.1 ∙ b.target_is),
     )
+
+pub walk_once : (nodes : Nodes) (t : Table) (s : List ℕ) (u : Table) (m n : ℕ) → IsWalkOf nodes t s u m → IsWalkOf nodes t s u n → m ≡ n
+walk_once nodes t s u m n a b =
+    let same = way_once nodes t.root s a.travel b.travel a.end b.end a.way b.way in
+    a.visits_are
+    ∙ ap (λ (x : List (List Message)). fetched_on t x a.end + (u.next - t.next)) same.0
+    ∙ ap (λ (e : Option Target). fetched_on t b.travel e + (u.next - t.next)) same.1
+    ∙ sym b.visits_are

@@ -10,7 +10,7 @@ use Rattle.std.proofs.Math.Nat.{le-max_left, le-max_right, max-le, max-zero, zer
 use Rattle.std.proofs.lemmas.Bool.{lt-ltb, le-ltb}
 use Rattle.std.proofs.lemmas.Grind.{flat_map-append}
 use Rattle.bd_limits.specs.Limits.{buffer_limit, level_limit}
-use Rattle.bd_keys.specs.Keys.{IsAtLeast}
+use Rattle.bd_keys.specs.Keys.{IsAtLeast, IsKey}
 use Rattle.bd_message.specs.declared.message.Message.{Message}
 use Rattle.bd_message.specs.Messages.{IsMessage, size}
 use Rattle.bd_message.specs.Effect.{NodesAt, acts}
@@ -29,7 +29,7 @@ use Rattle.bd_graft.specs.declared.layers.Layer.{Layer}
 use Rattle.bd_graft.specs.declared.packing.Stack.{Stack}
 use Rattle.bd_graft.specs.declared.packing.Packed.{Packed}
 use Rattle.bd_graft.specs.Laying.{above, laid, IsLayer, AreLayers}
-use Rattle.bd_graft.specs.Packing.{edge_over, overlay, target_names, HasMade, IsUnder, AreOverlays, level_in, IsOverlay, AreExact, IsOver, IsStackOf, IsStack, IsPacked, IsClosed, IsJoined, IsLaidOn, IsEnded, IsFinished, IsBegun, level_over}
+use Rattle.bd_graft.specs.Packing.{edge_over, overlay, target_names, HasMade, IsUnder, AreOverlays, level_in, IsOverlay, AreExact, IsOver, IsMadeUnder, IsWaitingIn, IsLevelOver, IsStack, IsPacked, IsClosed, IsJoined, IsLaidOn, IsEnded, IsFinished, IsBegun, level_over}
 use Rattle.bd_graft.specs.Packing.IsLaidOn.{fit, new}
 use Rattle.bd_graft.specs.Packing.IsFinished.{as_it_is, made_too}
 use Rattle.bd_graft.proofs.Freeing.{names_both}
@@ -192,6 +192,43 @@ id_range t made level table room ns h =
 
 -- ---- stacks
 
+-- a stack, part by part
+pub record IsStackOf (t : Table) (end : Option Target) (done : List Message) (made : List Node)
+    (under : Option Target) (waiting : List Message) (bytes top : ℕ) : Type 0 where
+  pub overlays : AreOverlays t made
+  pub over : IsOver t made top under
+  pub each : AllByRecursion IsMessage waiting
+  pub counted : bytes ≡ sum_by size waiting
+  pub fits : bytes ≤ buffer_limit
+  pub lower : AllByRecursion (IsLower t top) (flat_map message_names waiting)
+  pub over_end : above t.level (target_names end) ≤ top
+  pub exact : AreExact t made
+  pub top_is : top ≡ above (level_in t made) (target_names under ++ flat_map message_names waiting)
+  pub meaning : (has : NodesAt) → HasMade has t.next made → (k : List ℕ) → IsKey k
+      → acts has waiting k (target_at has under k) ≡ acts has done k (target_at has end k)
+
+of_stack : (t : Table) (end : Option Target) (done : List Message) (s : Stack) → IsStack t end done s → IsStackOf t end done s.made.items s.under s.waiting.items s.size s.level
+of_stack t end done s h = record {
+  overlays = h.made.overlays;
+  over = h.made.over;
+  each = h.waiting.each;
+  counted = h.waiting.counted;
+  fits = h.waiting.fits;
+  lower = h.waiting.lower;
+  over_end = h.level.end_below;
+  exact = h.made.exact;
+  top_is = h.level.highest;
+  meaning = h.meaning;
+}
+
+to_stack : (t : Table) (end : Option Target) (done : List Message) (s : Stack) → IsStackOf t end done s.made.items s.under s.waiting.items s.size s.level → IsStack t end done s
+to_stack t end done s h = record {
+  made = record { overlays = h.overlays; exact = h.exact; over = h.over };
+  waiting = record { each = h.each; counted = h.counted; fits = h.fits; lower = h.lower };
+  level = record { highest = h.top_is; end_below = h.over_end };
+  meaning = h.meaning;
+}
+
 pub restack : (t : Table) (end : Option Target) (done : List Message) (made made2 : List Node) (under under2 : Option Target) (waiting waiting2 : List Message) (bytes bytes2 top top2 : ℕ)
     → made2 ≡ made → under2 ≡ under → waiting2 ≡ waiting → bytes2 ≡ bytes → top2 ≡ top → IsStackOf t end done made under waiting bytes top → IsStackOf t end done made2 under2 waiting2 bytes2 top2
 restack t end done made made2 under under2 waiting waiting2 bytes bytes2 top top2 e1 e2 e3 e4 e5 h =
@@ -231,7 +268,7 @@ begun_of t high end table lower short = record {
 
 pub begun_stack : (t : Table) (end : Option Target) (ls : List Layer) (a : Stack) → IsTable t → AreLayers t (level_limit + 1) ls end → IsShort end → length ls < 1 → a.made.items ≡ [] → a.under ≡ end → a.waiting.items ≡ [] → a.size ≡ 0 → a.level ≡ above t.level (target_names end) → IsStack t end (laid ls) a
 begun_stack t end [] a table layers short none made under waiting bytes level =
-    restack t end [] [] a.made.items end a.under [] a.waiting.items 0 a.size (above t.level (target_names end)) a.level made under waiting bytes level (begun_of t (level_limit + 1) end table layers short)
+    to_stack t end [] a (restack t end [] [] a.made.items end a.under [] a.waiting.items 0 a.size (above t.level (target_names end)) a.level made under waiting bytes level (begun_of t (level_limit + 1) end table layers short))
 begun_stack t end (l ∷ ls) a table layers short none made under waiting bytes level = absurd (omega arith)
 
 pub no_more : (t : Table) (made : List Node) (level high : ℕ) → level ≤ high → (ns : List ℕ) → AllByRecursion (IsUnder t made (length made) level) ns → AllByRecursion (IsUnder t made (length made) high) ns
@@ -368,14 +405,14 @@ pub record IsBefore (t : Table) (end : Option Target) (ls : List Layer) (a : Sta
 
 joined_more : (t : Table) (end : Option Target) (done : List Message) (l : Layer) (a s : Stack) → IsTable t → IsLayer t l → IsStack t end done a → a.size + sum_by size l.messages ≤ buffer_limit → IsJoined a l s → IsStack t end (done ++ l.messages) s
 joined_more t end done l a s table own h fits joined =
-    restack t end (done ++ l.messages) a.made.items s.made.items a.under s.under (a.waiting.items ++ l.messages) s.waiting.items (a.size + sum_by size l.messages) s.size (max a.level l.over) s.level
-    joined.made joined.under joined.waiting joined.size joined.level (joined_of t end done a.made.items a.under a.waiting.items a.size a.level l table h own fits)
+    to_stack t end (done ++ l.messages) s (restack t end (done ++ l.messages) a.made.items s.made.items a.under s.under (a.waiting.items ++ l.messages) s.waiting.items (a.size + sum_by size l.messages) s.size (max a.level l.over) s.level
+    joined.made joined.under joined.waiting joined.size joined.level (joined_of t end done a.made.items a.under a.waiting.items a.size a.level l table (of_stack t end done a h) own fits))
 
 closed_more : (t : Table) (end : Option Target) (done : List Message) (next : ℕ) (a b : Stack) → IsTable t → next ≡ t.next → t.next + length a.made.items < 2 ^ 64 → a.level ≤ level_limit → (a.waiting.items ≡ [] → a.under ≡ None) → IsStack t end done a → IsClosed next a b → IsStack t end done b
 closed_more t end done next a b table is room low none h closed =
-    restack t end done (a.made.items ++ overlay (max a.level 1) a.under a.waiting.items ∷ []) b.made.items (Some (record { child = t.next + length a.made.items; source = [] })) b.under [] b.waiting.items 0 b.size (max a.level 1 + 1) b.level
+    to_stack t end done b (restack t end done (a.made.items ++ overlay (max a.level 1) a.under a.waiting.items ∷ []) b.made.items (Some (record { child = t.next + length a.made.items; source = [] })) b.under [] b.waiting.items 0 b.size (max a.level 1 + 1) b.level
     closed.made (closed.under ∙ ap (λ (n : ℕ). Some (record { child = n + length a.made.items; source = [] })) is) closed.waiting closed.size closed.level
-    (closed_of t end done a.made.items a.under a.waiting.items a.size a.level table room low none h)
+    (closed_of t end done a.made.items a.under a.waiting.items a.size a.level table room low none (of_stack t end done a h)))
 
 not_begun_at : (t : Table) (end : Option Target) (ls : List Layer) (a : Stack) → IsBefore t end ls a → 1 ≤ a.size → (high : ℕ) → AreLayers t high ls end → max a.level 1 + 1 ≤ high
 not_begun_at t end [] a h some high lower = absurd (let z : a.size ≡ 0 = (h.begun refl).2 in omega arith)
@@ -387,7 +424,7 @@ not_begun_at t end (l ∷ ls) a h some high lower =
 
 -- where bytes are counted messages wait
 some_waits : (t : Table) (end : Option Target) (done : List Message) (a : Stack) → IsStack t end done a → 1 ≤ a.size → a.waiting.items ≡ [] → a.under ≡ None
-some_waits t end done a h some none = absurd (let c : a.size ≡ sum_by size a.waiting.items = h.counted in let e : sum_by size a.waiting.items ≡ 0 = ap (λ (ms : List Message). sum_by size ms) none in omega arith)
+some_waits t end done a h some none = absurd (let c : a.size ≡ sum_by size a.waiting.items = h.waiting.counted in let e : sum_by size a.waiting.items ≡ 0 = ap (λ (ms : List Message). sum_by size ms) none in omega arith)
 
 laid_more_on : (t : Table) (end : Option Target) (next : ℕ) (l : Layer) (ls : List Layer) (a s : Stack) → IsTable t → next ≡ t.next → t.next + length a.made.items < 2 ^ 64 → AreLayers t (level_limit + 1) (l ∷ ls) end → IsBefore t end ls a → IsLaidOn next a l s
     → IsStack t end (laid (l ∷ ls)) s × (s.level ≤ l.level)
@@ -418,14 +455,14 @@ stack_more t end next (h ∷ ls) l a s table is room layers some at before on =
 
 ended_of : (t : Table) (end : Option Target) (done : List Message) (s : Stack) (p : Packed) → IsStack t end done s → s.waiting.items ≡ [] → IsEnded s p → IsPacked t end done p
 ended_of t end done s p h none ended = record {
-  overlays = subst (λ (ns : List Node). AreOverlays t ns) (sym ended.made) h.overlays;
+  overlays = subst (λ (ns : List Node). AreOverlays t ns) (sym ended.made) h.made.overlays;
   over = subst (λ (ns : List Node). IsOver t ns (p.level + 1) (Some p.target)) (sym ended.made)
-      (subst (λ (o : Option Target). IsOver t s.made.items (p.level + 1) o) ended.target (subst (λ (n : ℕ). IsOver t s.made.items n s.under) ended.level h.over));
-  over_end = (let o : above t.level (target_names end) ≤ s.level = h.over_end in omega (arith, ended.level));
-  exact = subst (λ (ns : List Node). AreExact t ns) (sym ended.made) h.exact;
+      (subst (λ (o : Option Target). IsOver t s.made.items (p.level + 1) o) ended.target (subst (λ (n : ℕ). IsOver t s.made.items n s.under) ended.level h.made.over));
+  over_end = (let o : above t.level (target_names end) ≤ s.level = h.level.end_below in omega (arith, ended.level));
+  exact = subst (λ (ns : List Node). AreExact t ns) (sym ended.made) h.made.exact;
   level_is =
       (let top : s.level ≡ max (level_in t s.made.items p.target.child + 1) 0 =
-      h.top_is ∙ ap (λ (o : Option Target). above (level_in t s.made.items) (target_names o ++ flat_map message_names s.waiting.items)) ended.target
+      h.level.highest ∙ ap (λ (o : Option Target). above (level_in t s.made.items) (target_names o ++ flat_map message_names s.waiting.items)) ended.target
       ∙ ap (λ (ms : List Message). above (level_in t s.made.items) (p.target.child ∷ flat_map message_names ms)) none in
       let one : p.level ≡ level_in t s.made.items p.target.child = omega (arith, top, ended.level, max-zero (level_in t s.made.items p.target.child + 1)) in one)
       ∙ ap (λ (ns : List Node). level_in t ns p.target.child) (sym ended.made);

@@ -28,7 +28,7 @@ use Rattle.bd_message.specs.declared.fault.MapFault.{MapFault}
 use Rattle.bd_message.specs.declared.fault.MapFault.TheVariants.{DeviceFault, Damaged, Worn, NoMemory}
 use Rattle.bd_node.specs.Tables.{Table, IsTable, IsNodeOf, one_if}
 use Rattle.bd_node.specs.Stores.{visited}
-use Rattle.bd_node.specs.Steps.{given_times, added_times, IsWornBy, IsWornByAdding, IsPut, IsChange, IsStep}
+use Rattle.bd_node.specs.Steps.{given_times, added_times, IsWornBy, IsWornByAdding, IsPut, IsChange, IsStep, extend_step}
 use Rattle.bd_node.proofs.Lookup.{each_weaker}
 use Rattle.bd_node.proofs.Sound.{one_if-same, one_if-other}
 use Rattle.bd_node.proofs.Extending.{times_extended}
@@ -39,7 +39,7 @@ use Rattle.bd_graft.specs.Laying.{AreLayers}
 use Rattle.bd_graft.specs.Packing.{highest}
 use Rattle.bd_graft.specs.declared.packing.Packed.{Packed}
 use Rattle.bd_graft.specs.Laying.{laid}
-use Rattle.bd_graft.specs.Grafting.{graft_messages, step_under, step_over, IsReady, IsWornForGraft}
+use Rattle.bd_graft.specs.Grafting.{graft_messages, step_over, IsReady, IsWornForGraft}
 use Rattle.bd_graft.proofs.Grafts.{raised_target, messages_are, the_top, id_some, overlaying_step, under_overlaying, over_overlaying}
 
 -- ---- layers
@@ -120,7 +120,7 @@ graft_worn t step h few high one Epoch worn = worn
 graft_worn t step h few high one Flushes worn = worn
 
 -- the step that puts messages into the root is worn by what it adds
-adding_worn : (t : Table) (n : Node) (made : List Node) (list : List Message) → 1 ≤ level_of n → (counter : Counter) → IsWornByAdding t made list counter → IsWornBy t (step_under t n made list) counter
+adding_worn : (t : Table) (n : Node) (made : List Node) (list : List Message) → 1 ≤ level_of n → (counter : Counter) → IsWornByAdding t made list counter → IsWornBy t (extend_step t n made list) counter
 adding_worn t n made list inner NextId worn = worn
 adding_worn t n made list inner Refs worn =
     let id : ℕ = worn.0 in
@@ -133,21 +133,21 @@ adding_worn t n made list inner Flushes worn = worn
 
 -- ---- what is returned
 
-pub extend_cause : {T : Type 0} (before now : ℕ) (bad : ℕ → Type 0) (t : Table) (n : Node) (made : List Node) (list : List Message) (r : Result T MapFault) → 1 ≤ level_of n → HasMapCause before now bad (IsWornByAdding t made list) r → HasMapCause before now bad (IsWornBy t (step_under t n made list)) r
+pub extend_cause : {T : Type 0} (before now : ℕ) (bad : ℕ → Type 0) (t : Table) (n : Node) (made : List Node) (list : List Message) (r : Result T MapFault) → 1 ≤ level_of n → HasMapCause before now bad (IsWornByAdding t made list) r → HasMapCause before now bad (IsWornBy t (extend_step t n made list)) r
 extend_cause before now bad t n made list r inner h =
-    cause_weaker before now bad (IsWornByAdding t made list) (IsWornBy t (step_under t n made list)) (adding_worn t n made list inner) r h
+    cause_weaker before now bad (IsWornByAdding t made list) (IsWornBy t (extend_step t n made list)) (adding_worn t n made list inner) r h
 
 pub cause_of : {T : Type 0} (before now : ℕ) (bad : ℕ → Type 0) (t : Table) (step : Step) (r : Result T MapFault) → IsStep t step → length step.made ≤ t.level t.root + 2 → t.level t.root ≤ level_limit → length step.changes ≤ 1 → HasMapCause before now bad (IsWornBy t step) r → HasMapCause before now bad (IsWornForGraft t) r
 cause_of before now bad t step r ok few high one h =
     cause_weaker before now bad (IsWornBy t step) (IsWornForGraft t) (graft_worn t step ok few high one) r h
 
 pub under_ok : (known : Type 0) (nodes : Nodes) (t : Table) (n : Node) (packed : Packed) (s d : List ℕ) (keep : Bool) → IsReady known nodes t s packed → IsTable t → IsNodeOf t (t.level t.root) n → packed.level < t.level t.root → length s ≤ key_limit → length d ≤ key_limit → buffer_size n + 1600 ≤ buffer_limit → t.next + length packed.made.items < 2 ^ 64
-    → IsStep t (step_under t n packed.made.items (graft_messages s d keep packed.target))
+    → IsStep t (extend_step t n packed.made.items (graft_messages s d keep packed.target))
 under_ok known nodes t n packed s d keep ready table own low hs hd fits room =
     let list : List Message = graft_messages s d keep packed.target in
     let messages = messages_are s d keep packed.target hs hd ready.packed_is.over.short (id_some t packed.made.items (packed.level + 1) packed.target table room ready.packed_is.over) in
     let shape : IsShape (appended n list) = shape_appended n list own.shape messages.0 (let m : sum_by size list ≤ 1600 = messages.1 in omega arith) in
-    overlaying_step t (step_under t n packed.made.items list) (under_overlaying t n ready.end (laid ready.layers) packed s d keep ready.packed_is (record { table = table; own = own; shape = shape; low = low }))
+    overlaying_step t (extend_step t n packed.made.items list) (under_overlaying t n ready.end (laid ready.layers) packed s d keep ready.packed_is (record { table = table; own = own; shape = shape; low = low }))
 
 pub over_ok : (known : Type 0) (nodes : Nodes) (t : Table) (packed : Packed) (s d : List ℕ) (keep : Bool) → IsReady known nodes t s packed → IsTable t → t.level t.root < level_limit → packed.level ≤ t.level t.root → length s ≤ key_limit → length d ≤ key_limit → t.next + length packed.made.items < 2 ^ 64
     → IsStep t (step_over t packed.made.items (graft_messages s d keep packed.target))
@@ -156,11 +156,6 @@ over_ok known nodes t packed s d keep ready table high low hs hd room =
     let messages = messages_are s d keep packed.target hs hd ready.packed_is.over.short (id_some t packed.made.items (packed.level + 1) packed.target table room ready.packed_is.over) in
     overlaying_step t (step_over t packed.made.items list) (over_overlaying t ready.end (laid ready.layers) packed s d keep ready.packed_is
     (record { table = table; next = (omega arith); level = high; low = low; messages = messages.0; fits = (let m : sum_by size list ≤ 1600 = messages.1 in omega arith) }))
-
--- the visits of few made nodes
-pub few_visited : {T E : Type 0} (before now made most : ℕ) (r : Result T E) → made ≤ most → OnOk r (now ≡ visited before made) → OnErr r (now ≡ before) → now ≤ before + most
-few_visited before now made most (Ok x) few is same = omega arith
-few_visited before now made most (Err e) few is same = omega arith
 
 -- a sum that is there is below the bound, and one that isn't there isn't
 pub sum_past : (o : Option ℕ) (P : Type 0) (v : ℕ) (b : Bool) → SomeIff o P v → is_some o ≡ not b → b ≡ true → ¬ P

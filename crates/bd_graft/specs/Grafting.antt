@@ -1,5 +1,5 @@
 -- The step of a graft.
-use Rattle.std.specs.Prelude.{◌≡◌, ℕ, ◌+◌, ◌^◌, ◌<◌, ◌≤◌, ◌⊎◌, Bool, if◌then◌else◌, List, [], ◌∷◌, ◌++◌, length, Option, Some, slice_get, IsTrue, ⊤}
+use Rattle.std.specs.Prelude.{◌≡◌, ℕ, ◌+◌, ◌-◌, ◌^◌, ◌<◌, ◌≤◌, ◌⊎◌, Bool, if◌then◌else◌, List, [], ◌∷◌, ◌++◌, length, Option, Some, slice_get, IsTrue, Result, OnOk, OnErr, ⊤}
 use Rattle.bd_limits.specs.Limits.{level_limit}
 use Rattle.bd_message.specs.declared.fault.Counter.{Counter}
 use Rattle.bd_message.specs.declared.fault.Counter.TheVariants.{Count, NextId, Level, Refs, Epoch, Flushes}
@@ -11,32 +11,26 @@ use Rattle.bd_node.specs.declared.node.Node.{Node}
 use Rattle.bd_node.specs.declared.node.Step.{Step}
 use Rattle.bd_node.specs.Nodes.{appended}
 use Rattle.bd_node.specs.Tables.{Table, IsKept, IsSound, root_at}
-use Rattle.bd_node.specs.Steps.{IsWornBy, IsRootOf, extend_step}
+use Rattle.bd_node.specs.Steps.{IsWornBy, extend_step}
 use Rattle.bd_resolve.specs.declared.following.Target.{Target}
 use Rattle.bd_graft.specs.declared.packing.Packed.{Packed}
 use Rattle.bd_graft.specs.declared.layers.Layer.{Layer}
 use Rattle.bd_graft.specs.Laying.{laid, AreLayers}
-use Rattle.bd_graft.specs.Ways.{IsWay, messages_in}
+use Rattle.bd_graft.specs.Ways.{IsWay, fetched_on, messages_in}
 use Rattle.bd_graft.specs.Packing.{overlay, IsOverlay, IsPacked, packs, overlaid, over_all, top_over, overlays_over, IsPackedWith}
 use Rattle.bd_node.specs.Meaning.{Nodes, at}
 use Rattle.bd_keys.specs.Keys.{IsKey}
 use Rattle.bd_message.specs.Effect.{acts}
+use Rattle.bd_message.specs.KeyMaps.{IsGrafted}
+use Rattle.bd_node.specs.declared.store.NodeStore.{Ghosts}
+use Rattle.bd_node.specs.Frames.{OfSound, OnlyReads, Stays}
+use Rattle.bd_node.specs.Stores.{visited}
 use Rattle.bd_resolve.specs.Following.{target_at}
 
 -- the messages of a graft: one prefix is sent to a target, and without `keep` the other one is cut
 abbrev pub graft_messages : List ℕ → List ℕ → Bool → Target → List Message
 graft_messages s d keep target =
     Goto d target.source target.child ∷ (if keep then [] else Cut s [] ∷ [])
-
--- the step that puts messages into the root, over made nodes
-abbrev pub step_under : Table → Node → List Node → List Message → Step
-step_under t n made list = extend_step t n made list
-
--- the root, whether its node is known or not
-pub record HasRoot (known : Type 0) (nodes : Nodes) (t : Table) : Type 0 where
-  pub node : Node
-  pub is : IsRootOf t node
-  pub there : known → nodes t.root ≡ Some node
 
 -- the step that makes nodes and a new root after them
 abbrev pub top_made : List Node → Node → ℕ → Step
@@ -59,6 +53,7 @@ pub record IsReady (known : Type 0) (nodes : Nodes) (t : Table) (s : List ℕ) (
       → acts (at nodes) (laid layers) k (target_at (at nodes) end k) ≡ root_at nodes t (s ++ k)
   pub way : known → IsSound nodes t → IsWay nodes t.root s (messages_in layers) end
   pub groups : IsPackedWith t end (overlaid end (packs (messages_in layers))) packed
+  pub few : length packed.made.items ≤ t.level t.root + 1
 
 -- whatever the nodes are, a counter that has no room for a graft is near its end: ids for its nodes,
 -- a level above the root's, more references to a node
@@ -76,7 +71,7 @@ IsWornForGraft t Flushes = ⊥
 pub data IsWornOver (t : Table) (root : Node) (s d : List ℕ) (keep : Bool) (end : Option Target)
     (groups : List (List Message)) (target : Target) (counter : Counter) : Type 0 where
   root_kept : top_over t end groups ≤ t.level t.root
-      → IsWornBy t (step_under t root (overlays_over t end groups) (graft_messages s d keep target))
+      → IsWornBy t (extend_step t root (overlays_over t end groups) (graft_messages s d keep target))
       counter → IsWornOver t root s d keep end groups target counter
   root_raised : t.level t.root < top_over t end groups
       → IsWornBy t (step_over t (overlays_over t end groups) (graft_messages s d keep target))
@@ -166,8 +161,38 @@ pub record IsGraftStep (nodes : Nodes) (t : Table) (s d : List ℕ) (keep : Bool
   pub fresh : (id : ℕ) → t.next ≤ id → id < u.next → IsKept u id
   pub only : (id : ℕ) → IsKept u id → IsKept t id ⊎ (t.next ≤ id)
 
+-- a graft has so many visits: of the nodes of its way that are fetched, and of those that get new
+-- ids
+pub record IsWalkOf (nodes : Nodes) (t : Table) (s : List ℕ) (u : Table) (visits : ℕ) : Type 0 where
+  pub travel : List (List Message)
+  pub end : Option Target
+  pub way : IsWay nodes t.root s travel end
+  pub visits_are : visits ≡ fetched_on t travel end + (u.next - t.next)
+
 -- each kept node that stays, but for the root, is what it was, and has at each key what it had
 pub record AreOthersSame (nodes : Nodes) (t : Table) (new : Nodes) (u : Table) : Type 0 where
   pub node : (id : ℕ) → IsKept t id → IsKept u id → ¬ (id ≡ u.root) → new id ≡ nodes id
   pub meaning : (id : ℕ) → IsKept t id → IsKept u id → ¬ (id ≡ u.root) → (k : List ℕ)
       → at new id k ≡ at nodes id k
+
+-- a graft was made in a store: what stands at the keys, the nodes, and the table
+pub record IsGraftMade {S : Type 0} (g : Ghosts S) (s d : List ℕ) (keep : Bool) (old new : S)
+    : Type 0 where
+  pub grafted : OfSound g old (IsGrafted (root_at (g.nodes old) (g.table old)) s d keep
+      (root_at (g.nodes new) (g.table new)))
+  pub sound : OfSound g old (IsSound (g.nodes new) (g.table new))
+  pub step : OfSound g old
+      (IsGraftStep (g.nodes old) (g.table old) s d keep (g.nodes new) (g.table new))
+  pub others : OfSound g old
+      (AreOthersSame (g.nodes old) (g.table old) (g.nodes new) (g.table new))
+  pub table : IsGrown (g.table old) (g.table new)
+
+-- a call made a graft, with one visit for each node that it made, or else it only read
+pub record IsGraftCall {S T E : Type 0} (g : Ghosts S) (s d : List ℕ) (keep : Bool) (old new : S)
+    (r : Result T E) : Type 0 where
+  pub made : OnOk r (IsGraftMade g s d keep old new)
+  pub visits : OnOk r (g.visit_count new
+      ≡ visited (g.visit_count old) ((g.table new).next - (g.table old).next))
+  pub stays : Stays g old new
+  pub err : OnErr r (OnlyReads g old new)
+  pub err_visits : OnErr r (g.visit_count new ≡ g.visit_count old)

@@ -90,24 +90,40 @@ pub record IsOver (t : Table) (made : List Node) (level : ℕ) (target : Option 
   pub last : (place : ℕ) → length made ≡ suc place
       → target ≡ Some (record { child = t.next + place; source = [] })
 
--- overlay nodes with these messages over the end of a way, and one that is still open
-pub record IsStackOf (t : Table) (end : Option Target) (done : List Message) (made : List Node)
-    (under : Option Target) (waiting : List Message) (bytes top : ℕ) : Type 0 where
-  pub overlays : AreOverlays t made
-  pub over : IsOver t made top under
-  pub each : AllByRecursion IsMessage waiting
-  pub counted : bytes ≡ sum_by size waiting
-  pub fits : bytes ≤ buffer_limit
-  pub lower : AllByRecursion (IsLower t top) (flat_map message_names waiting)
-  pub over_end : above t.level (target_names end) ≤ top
-  pub exact : AreExact t made
-  pub top_is : top ≡ above (level_in t made) (target_names under ++ flat_map message_names waiting)
-  pub meaning : (has : NodesAt) → HasMade has t.next made → (k : List ℕ) → IsKey k
-      → acts has waiting k (target_at has under k) ≡ acts has done k (target_at has end k)
+-- ---- a stack
 
-abbrev pub IsStack : Table → Option Target → List Message → Stack → Type 0
-IsStack t end done s =
-    IsStackOf t end done s.made.items s.under s.waiting.items s.size s.level
+-- what is made: well-formed overlay nodes, and the open node stands over the last of them
+pub record IsMadeUnder (t : Table) (s : Stack) : Type 0 where
+  pub overlays : AreOverlays t s.made.items
+  pub exact : AreExact t s.made.items
+  pub over : IsOver t s.made.items s.level s.under
+
+-- what waits in the open node: messages that fit a node, and name kept nodes below its level
+pub record IsWaitingIn (t : Table) (s : Stack) : Type 0 where
+  pub each : AllByRecursion IsMessage s.waiting.items
+  pub counted : s.size ≡ sum_by size s.waiting.items
+  pub fits : s.size ≤ buffer_limit
+  pub lower : AllByRecursion (IsLower t s.level) (flat_map message_names s.waiting.items)
+
+-- the level: one above the highest node that the open node names, and above the end's
+pub record IsLevelOver (t : Table) (end : Option Target) (s : Stack) : Type 0 where
+  pub highest : s.level ≡ above (level_in t s.made.items)
+      (target_names s.under ++ flat_map message_names s.waiting.items)
+  pub end_below : above t.level (target_names end) ≤ s.level
+
+-- what it means: over the made nodes, the messages that wait leave at each key what all these
+-- messages leave over the end
+abbrev pub HasAll : Table → Option Target → List Message → Stack → Type 0
+HasAll t end done s =
+    (has : NodesAt) → HasMade has t.next s.made.items → (k : List ℕ) → IsKey k
+    → acts has s.waiting.items k (target_at has s.under k) ≡ acts has done k (target_at has end k)
+
+-- overlay nodes with these messages over the end of a way, the last of them still open
+pub record IsStack (t : Table) (end : Option Target) (done : List Message) (s : Stack) : Type 0 where
+  pub made : IsMadeUnder t s
+  pub waiting : IsWaitingIn t s
+  pub level : IsLevelOver t end s
+  pub meaning : HasAll t end done s
 
 -- the same, all made
 pub record IsPacked (t : Table) (end : Option Target) (done : List Message) (p : Packed) : Type 0

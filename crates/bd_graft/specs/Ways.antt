@@ -1,13 +1,15 @@
 -- The way of a prefix from the root down, and what travels from the nodes on it.
-use Rattle.std.specs.Prelude.{◌≡◌, ℕ, nat_lt, if◌then◌else◌, List, [], ◌∷◌, length, drop, Option, None, Some, map}
+use Rattle.std.specs.Prelude.{◌≡◌, ℕ, ◌+◌, nat_lt, min, if◌then◌else◌, List, [], ◌∷◌, length, drop, Option, None, Some, map}
 use Rattle.bd_limits.specs.Limits.{key_limit}
 use Rattle.bd_message.specs.declared.message.Message.{Message}
 use Rattle.bd_node.specs.declared.node.Node.{Node}
 use Rattle.bd_node.specs.Meaning.{Nodes}
+use Rattle.bd_node.specs.Tables.{Table}
+use Rattle.bd_node.specs.Steps.{IsRootOf}
 use Rattle.bd_node.specs.Parts.{buffer_of}
 use Rattle.bd_resolve.specs.declared.following.Target.{Target}
 use Rattle.bd_resolve.specs.declared.following.Followed.TheVariants.{Here, Past}
-use Rattle.bd_resolve.specs.Following.{LeadsTo}
+use Rattle.bd_resolve.specs.Following.{LeadsTo, target_level}
 use Rattle.bd_graft.specs.declared.layers.Layer.{Layer}
 use Rattle.bd_graft.specs.declared.walking.Passed.{Passed}
 use Rattle.bd_graft.specs.Laying.{all_freed}
@@ -32,6 +34,17 @@ pub data IsWay (nodes : Nodes) : ℕ → List ℕ → List (List Message) → Op
       (more : List (List Message)) (end : Option Target) → nodes id ≡ Some n
       → LeadsTo n q (Past newer (Some target)) → IsWay nodes target.child target.source more end
       → IsWay nodes id q (travelling n newer q ∷ more) end
+
+-- how many nodes of a way are fetched: each that it leads on from, and its end where that is an
+-- inner node, at level 1 or more
+abbrev pub fetched_on : Table → List (List Message) → Option Target → ℕ
+fetched_on t travel end = length travel + min (target_level t end) 1
+
+-- the root, whether its node is known or not
+pub record HasRoot (known : Type 0) (nodes : Nodes) (t : Table) : Type 0 where
+  pub node : Node
+  pub is : IsRootOf t node
+  pub there : known → nodes t.root ≡ Some node
 
 -- the messages of each layer
 abbrev pub messages_in : List Layer → List (List Message)

@@ -1,7 +1,7 @@
 //! The graft of what stands under one prefix to another.
 
 ghost use Rattle.std.specs.Prelude.{ℕ, List, IfOk, IfErr, ◌++◌, ◌-◌, ◌*◌, ◌≡◌, ◌+◌, ◌<◌, ◌≤◌, ◌^◌, length, Some, IfOk, OnOk, OnErr};
-ghost use Rattle.bd_limits.specs.Limits.{key_limit, buffer_limit, level_limit, graft_size};
+ghost use Rattle.bd_limits.specs.Limits.{buffer_limit, level_limit};
 ghost use Rattle.bd_message.specs.KeyMaps.{HasMapCause, CanGraft, IsGrafted};
 ghost use Rattle.bd_node.specs.Frames.{OfSound, OnlyReads, Stays};
 ghost use Rattle.bd_node.specs.Tables.{IsTable, IsSound, root_at};
@@ -12,8 +12,8 @@ ghost use Rattle.bd_message.specs.Effect.{acts};
 ghost use Rattle.bd_node.specs.Meaning.{at};
 ghost use Rattle.bd_resolve.specs.Following.{target_at, IsShort};
 ghost use Rattle.bd_graft.specs.Laying.{laid, AreLayers};
-ghost use Rattle.bd_graft.specs.Ways.{IsWay, messages_in};
-ghost use Rattle.bd_graft.specs.Grafting.{graft_messages, top_made, step_over, HasRoot, IsReady, IsGrown, IsGraftStep, AreOthersSame, IsWornForGraft, IsWornByGraft, OnWorn};
+ghost use Rattle.bd_graft.specs.Ways.{IsWay, HasRoot, messages_in};
+ghost use Rattle.bd_graft.specs.Grafting.{graft_messages, top_made, step_over, IsReady, IsGrown, IsGraftStep, IsWalkOf, IsGraftCall, AreOthersSame, IsWornForGraft, IsWornByGraft, OnWorn};
 
 use crate::packing::{Packed, overlay, overlay_count, pack};
 use crate::walking::{Walked, walk};
@@ -60,8 +60,12 @@ pub fn graft<S: NodeStore>(
         (OnOk result (AreOthersSame (S.nodes store.old) (S.table store.old)
         (S.nodes store.new) (S.table store.new))) }
     ensures table { OnOk result (IsGrown (S.table store.old) (S.table store.new)) }
-    ensures visits { IfOk result (λ walk. walk.visits
-        ≡ S.visit_count store.new - S.visit_count store.old) }
+    ensures walk { OfSound S.NodeStore store.old
+        (IfOk result (λ walk. IsWalkOf (S.nodes store.old) (S.table store.old) s.now
+        (S.table store.new) walk.visits)) }
+    ensures few { IfOk result (λ walk. walk.visits ≤ 5 * walk.height + 2) }
+    ensures visits { IfOk result (λ walk. S.visit_count store.new < 2 ^ 64 - 1
+        → walk.visits ≡ S.visit_count store.new - S.visit_count store.old) }
     ensures rise { IfOk result (λ walk. S.visit_count store.new
         ≡ visited (S.visit_count store.old) walk.visits) }
     ensures few_visits { S.visit_count store.new ≤ S.visit_count store.old
@@ -76,16 +80,14 @@ pub fn graft<S: NodeStore>(
         (IfErr result (OnWorn (IsWornByGraft (S.nodes store.old) (S.table store.old)
         s.now d.now keep))) }
 {
-    let before = store.visits();
     let root = store.root();
+    let next = store.next_id();
     let way = walk(alloc, store, s)?;
-    let height = {
-        let node = store.fetch(root)?;
-        node.level() + 1
-    };
+    let fetched = way.fetched;
+    let height = store.level(root) + 1;
     finish(alloc, store, way, s, d, keep)?;
     Ok(Walk {
-        visits: store.visits().saturating_sub(before),
+        visits: fetched + (store.next_id() - next),
         height,
     })
 }
@@ -100,9 +102,7 @@ fn finish<S: NodeStore>(
     keep: bool,
 ) -> Result<(), MapFault>
     requires root { HasRoot (S.is_known store.old) (S.nodes store.old) (S.table store.old) }
-    requires source { length s.now ≤ key_limit }
-    requires target { length d.now ≤ key_limit }
-    requires fits { (S.table store.old).size + graft_size ≤ buffer_limit }
+    requires can { CanGraft s.now d.now keep (buffer_limit - (S.table store.old).size) }
     requires layers { AreLayers (S.table store.old)
         ((S.table store.old).level (S.table store.old).root + 1) way.layers.items way.end }
     requires short { IsShort way.end }
@@ -113,31 +113,14 @@ fn finish<S: NodeStore>(
     requires way { OfSound S.NodeStore store.old
         (IsWay (S.nodes store.old) (S.table store.old).root s.now
         (messages_in way.layers.items) way.end) }
-    ensures grafted { OfSound S.NodeStore store.old
-        (OnOk result (IsGrafted (root_at (S.nodes store.old) (S.table store.old)) s.now d.now keep
-        (root_at (S.nodes store.new) (S.table store.new)))) }
-    ensures sound { OfSound S.NodeStore store.old
-        (OnOk result (IsSound (S.nodes store.new) (S.table store.new))) }
-    ensures step { OfSound S.NodeStore store.old
-        (OnOk result (IsGraftStep (S.nodes store.old) (S.table store.old) s.now d.now keep
-        (S.nodes store.new) (S.table store.new))) }
-    ensures others { OfSound S.NodeStore store.old
-        (OnOk result (AreOthersSame (S.nodes store.old) (S.table store.old)
-        (S.nodes store.new) (S.table store.new))) }
-    ensures table { OnOk result (IsGrown (S.table store.old) (S.table store.new)) }
-    ensures stays { Stays S.NodeStore store.old store.new }
-    ensures err { OnErr result (OnlyReads S.NodeStore store.old store.new) }
-    ensures rise { OnOk result ((count : ℕ)
-        × (S.visit_count store.new ≡ visited (S.visit_count store.old) count)) }
-    ensures few_visits { S.visit_count store.new ≤ S.visit_count store.old
-        + ((S.table store.old).level (S.table store.old).root + 2) }
+    ensures call { IsGraftCall S.NodeStore s.now d.now keep store.old store.new result }
     ensures cause { HasMapCause (S.fault_count store.old) (S.fault_count store.new)
         (S.bad store.new) (IsWornForGraft (S.table store.old)) result }
     ensures worn { OfSound S.NodeStore store.old
         (IfErr result (OnWorn (IsWornByGraft (S.nodes store.old) (S.table store.old)
         s.now d.now keep))) }
 {
-    let Walked { layers, end } = way;
+    let Walked { layers, end, .. } = way;
     let count = overlay_count(layers.as_slice(), &end);
     if store.next_id().checked_add(count).is_none() {
         return Err(MapFault::Worn(Counter::NextId));
@@ -166,35 +149,15 @@ fn put_under<S: NodeStore>(
     keep: bool,
 ) -> Result<(), MapFault>
     requires root { HasRoot (S.is_known store.old) (S.nodes store.old) (S.table store.old) }
-    requires source { length s.now ≤ key_limit }
-    requires target { length d.now ≤ key_limit }
-    requires fits { (S.table store.old).size + graft_size ≤ buffer_limit }
+    requires can { CanGraft s.now d.now keep (buffer_limit - (S.table store.old).size) }
     requires room { (S.table store.old).next + length packed.made.items < 2 ^ 64 }
-    requires few { length packed.made.items
-        ≤ (S.table store.old).level (S.table store.old).root + 1 }
     requires low { packed.level < (S.table store.old).level (S.table store.old).root }
     requires ready { IsReady (S.is_known store.old) (S.nodes store.old) (S.table store.old)
         s.now packed }
-    ensures grafted { OfSound S.NodeStore store.old
-        (OnOk result (IsGrafted (root_at (S.nodes store.old) (S.table store.old)) s.now d.now keep
-        (root_at (S.nodes store.new) (S.table store.new)))) }
-    ensures sound { OfSound S.NodeStore store.old
-        (OnOk result (IsSound (S.nodes store.new) (S.table store.new))) }
-    ensures step { OfSound S.NodeStore store.old
-        (OnOk result (IsGraftStep (S.nodes store.old) (S.table store.old) s.now d.now keep
-        (S.nodes store.new) (S.table store.new))) }
-    ensures others { OfSound S.NodeStore store.old
-        (OnOk result (AreOthersSame (S.nodes store.old) (S.table store.old)
-        (S.nodes store.new) (S.table store.new))) }
-    ensures table { OnOk result (IsGrown (S.table store.old) (S.table store.new)) }
-    ensures stays { Stays S.NodeStore store.old store.new }
-    ensures err { OnErr result (OnlyReads S.NodeStore store.old store.new) }
+    ensures call { IsGraftCall S.NodeStore s.now d.now keep store.old store.new result }
     ensures cause { HasMapCause (S.fault_count store.old) (S.fault_count store.new)
         (S.bad store.new) (IsWornByAdding (S.table store.old) packed.made.items
         (graft_messages s.now d.now keep packed.target)) result }
-    ensures visits { OnOk result (S.visit_count store.new
-        ≡ visited (S.visit_count store.old) (length packed.made.items)) }
-    ensures err_visits { OnErr result (S.visit_count store.new ≡ S.visit_count store.old) }
 {
     is_table(&*store);
     let list = messages(alloc, s, d, keep, &packed.target)?;
@@ -217,36 +180,17 @@ fn put_over<S: NodeStore>(
     d: &[u8],
     keep: bool,
 ) -> Result<(), MapFault>
-    requires source { length s.now ≤ key_limit }
-    requires target { length d.now ≤ key_limit }
+    requires can { CanGraft s.now d.now keep (buffer_limit - (S.table store.old).size) }
     requires room { (S.table store.old).next + length packed.made.items + 1 < 2 ^ 64 }
     requires level { (S.table store.old).level (S.table store.old).root < level_limit }
-    requires few { length packed.made.items
-        ≤ (S.table store.old).level (S.table store.old).root + 1 }
     requires low { packed.level ≤ (S.table store.old).level (S.table store.old).root }
     requires high { (S.table store.old).level (S.table store.old).root ≤ packed.level }
     requires ready { IsReady (S.is_known store.old) (S.nodes store.old) (S.table store.old)
         s.now packed }
-    ensures grafted { OfSound S.NodeStore store.old
-        (OnOk result (IsGrafted (root_at (S.nodes store.old) (S.table store.old)) s.now d.now keep
-        (root_at (S.nodes store.new) (S.table store.new)))) }
-    ensures sound { OfSound S.NodeStore store.old
-        (OnOk result (IsSound (S.nodes store.new) (S.table store.new))) }
-    ensures step { OfSound S.NodeStore store.old
-        (OnOk result (IsGraftStep (S.nodes store.old) (S.table store.old) s.now d.now keep
-        (S.nodes store.new) (S.table store.new))) }
-    ensures others { OfSound S.NodeStore store.old
-        (OnOk result (AreOthersSame (S.nodes store.old) (S.table store.old)
-        (S.nodes store.new) (S.table store.new))) }
-    ensures table { OnOk result (IsGrown (S.table store.old) (S.table store.new)) }
-    ensures stays { Stays S.NodeStore store.old store.new }
-    ensures err { OnErr result (OnlyReads S.NodeStore store.old store.new) }
+    ensures call { IsGraftCall S.NodeStore s.now d.now keep store.old store.new result }
     ensures cause { HasMapCause (S.fault_count store.old) (S.fault_count store.new)
         (S.bad store.new) (IsWornBy (S.table store.old) (step_over (S.table store.old)
         packed.made.items (graft_messages s.now d.now keep packed.target))) result }
-    ensures visits { OnOk result (S.visit_count store.new
-        ≡ visited (S.visit_count store.old) (length packed.made.items + 1)) }
-    ensures err_visits { OnErr result (S.visit_count store.new ≡ S.visit_count store.old) }
 {
     let root = store.root();
     let next = store.next_id();

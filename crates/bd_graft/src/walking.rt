@@ -1,6 +1,6 @@
 //! The way of a prefix, from the root down to what answers for it.
 
-ghost use Rattle.std.specs.Prelude.{◌≡◌, ℕ, ◌+◌, ◌<◌, nat_lt, if◌then◌else◌, None, ◌≤◌, ◌⊎◌, ◌++◌, List, length, drop, Some, IfOk, IfSome, IfNone};
+ghost use Rattle.std.specs.Prelude.{◌≡◌, ℕ, ◌+◌, ◌<◌, nat_lt, if◌then◌else◌, None, ◌≤◌, ◌⊎◌, ◌++◌, List, length, drop, Some, IfOk, IfSome, IfNone, OnOk};
 ghost use Rattle.bd_limits.specs.Limits.{key_limit};
 ghost use Rattle.bd_keys.specs.Keys.{IsKey};
 ghost use Rattle.bd_message.specs.Effect.{NodesAt, acts};
@@ -13,9 +13,9 @@ ghost use Rattle.bd_node.specs.Tables.{IsKept, IsSound, root_at};
 ghost use Rattle.bd_node.specs.Stores.{visited};
 ghost use Rattle.bd_node.specs.Shape.{IsShape};
 ghost use Rattle.bd_node.specs.Parts.{buffer_of};
-ghost use Rattle.bd_resolve.specs.Following.{target_at, IsLowerTarget, IsShort, AreNoneOr, IsEnd, IsPast};
+ghost use Rattle.bd_resolve.specs.Following.{target_at, IsLowerTarget, IsShort, IsEnd, IsPast};
 ghost use Rattle.bd_graft.specs.Laying.{all_freed, laid, IsLayer, AreLayers};
-ghost use Rattle.bd_graft.specs.Ways.{end_at, IsWay, IsPassed, messages_in};
+ghost use Rattle.bd_graft.specs.Ways.{end_at, IsWay, IsPassed, HasRoot, fetched_on, messages_in};
 
 use crate::layers::{Layer, above, all_freed};
 use bd_keys::Bytes;
@@ -32,6 +32,8 @@ pub struct Walked {
     pub layers: Vec<Layer>,
     /// The end of the way, or nothing.
     pub end: Option<Target>,
+    /// How many nodes were fetched.
+    pub fetched: u64,
 }
 
 /// One node of a way, and where it leads.
@@ -43,7 +45,7 @@ pub struct Passed {
 
 /// The way of a prefix from the root down: at each key that begins with it the tree has what stands
 /// at the way's end, changed by the messages met on the way. It leads on where one message or edge
-/// answers for all these keys. At most one visit a level.
+/// answers for all these keys. Each node on it is visited, but for a leaf, at which it ends.
 pub fn walk<S: NodeStore>(alloc: Global, store: &mut S, prefix: &[u8]) -> Result<Walked, MapFault>
     requires { length prefix.now ≤ key_limit }
     ensures value { OfSound S.NodeStore store.old
@@ -60,9 +62,12 @@ pub fn walk<S: NodeStore>(alloc: Global, store: &mut S, prefix: &[u8]) -> Result
     ensures left { OnlyReads S.NodeStore store.old store.new }
     ensures cause { HasMapCause (S.fault_count store.old) (S.fault_count store.new)
         (S.bad store.new) NeverWorn result }
-    ensures visits { IfOk result (λ way. AreNoneOr
-        ((S.table store.old).level (S.table store.old).root)
-        (S.visit_count store.old) (S.visit_count store.new)) }
+    ensures fetched { IfOk result (λ way. way.fetched
+        ≡ fetched_on (S.table store.old) (messages_in way.layers.items) way.end) }
+    ensures visits { IfOk result (λ way. S.visit_count store.new
+        ≡ visited (S.visit_count store.old) way.fetched) }
+    ensures root { OnOk result
+        (HasRoot (S.is_known store.old) (S.nodes store.old) (S.table store.old)) }
     ensures few_visits { S.visit_count store.new ≤ S.visit_count store.old
         + (S.table store.old).level (S.table store.old).root }
 {
@@ -71,10 +76,10 @@ pub fn walk<S: NodeStore>(alloc: Global, store: &mut S, prefix: &[u8]) -> Result
     let mut layers = Vec::new(alloc);
     loop {
         if store.level(id) == 0 {
-            return Ok(ended(layers, id, asked));
+            return Ok(ended(layers, id, asked, 0));
         }
         let Some(Passed { layer, target }) = passed_node(alloc, store, id, asked.as_slice())? else {
-            return Ok(ended(layers, id, asked));
+            return Ok(ended(layers, id, asked, 1));
         };
         layers.push(layer)?;
         match target {
@@ -82,23 +87,36 @@ pub fn walk<S: NodeStore>(alloc: Global, store: &mut S, prefix: &[u8]) -> Result
                 id = target.child;
                 asked = target.source;
             }
-            None => return Ok(Walked { layers, end: None }),
+            None => {
+                let fetched = layers.len() as u64;
+                return Ok(Walked {
+                    layers,
+                    end: None,
+                    fetched,
+                });
+            }
         }
     }
 }
 
-// A way that ends at a node, or at nothing where no key can begin with what is asked.
-fn ended(layers: Vec<Layer>, child: u64, source: Bytes) -> Walked
+// A way that ends at a node, which is fetched once or not, or at nothing where no key can begin with
+// what is asked.
+fn ended(layers: Vec<Layer>, child: u64, source: Bytes, fetches: u64) -> Walked
+    requires { fetches ≤ 1 }
     ensures layers { result.layers.items ≡ layers.items }
     ensures end { result.end ≡ end_at child source }
+    ensures fetched { result.fetched ≡ length layers.items + fetches }
 {
-    if source.len() > MAX_KEY {
-        Walked { layers, end: None }
+    let fetched = layers.len() as u64 + fetches;
+    let end = if source.len() > MAX_KEY {
+        None
     } else {
-        Walked {
-            layers,
-            end: Some(Target { child, source }),
-        }
+        Some(Target { child, source })
+    };
+    Walked {
+        layers,
+        end,
+        fetched,
     }
 }
 
@@ -125,6 +143,8 @@ fn passed_node<S: NodeStore>(
         IsLowerTarget (S.table store.old) ((S.table store.old).level id) on.target)) }
     ensures end { IfOk result (λ found. IfNone found (length prefix.now ≤ key_limit)) }
     ensures bytes { IsKey prefix.now }
+    ensures root { OnOk result (id ≡ (S.table store.old).root
+        → HasRoot (S.is_known store.old) (S.nodes store.old) (S.table store.old)) }
     ensures left { OnlyReads S.NodeStore store.old store.new }
     ensures cause { HasMapCause (S.fault_count store.old) (S.fault_count store.new)
         (S.bad store.new) NeverWorn result }

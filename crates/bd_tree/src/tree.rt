@@ -1,6 +1,6 @@
 //! The tree.
 
-ghost use Rattle.std.specs.Prelude.{◌≡◌, ◌≢◌, ◌↔◌, ℕ, ◌+◌, ◌-◌, ◌*◌, ◌<◌, ◌≤◌, List, IfOk, IfErr, IfSome, MatchOption, OnOk, true, false, OnErr, Ok, Some};
+ghost use Rattle.std.specs.Prelude.{◌≡◌, ◌≢◌, ◌↔◌, ℕ, ◌+◌, ◌-◌, ◌*◌, ◌^◌, ◌<◌, ◌≤◌, List, IfOk, IfErr, IfSome, MatchOption, OnOk, true, false, OnErr, Ok, Some};
 ghost use Rattle.std.specs.Option.{option_map};
 ghost use Rattle.bd_limits.specs.Limits.{buffer_limit};
 ghost use Rattle.bd_message.specs.KeyMaps.{HasMapCause, NeverWorn, IsApplied, IsNext, CanGraft, IsGrafted};
@@ -11,7 +11,7 @@ ghost use Rattle.bd_node.specs.declared.node.Node.{Node};
 ghost use Rattle.bd_node.specs.Steps.{IsCommitted, HasGrown, append_step};
 ghost use Rattle.bd_node.specs.Stores.{FitsRoot, visited, AreVisits};
 ghost use Rattle.bd_query.specs.Asks.{AreVisitsOfWays};
-ghost use Rattle.bd_graft.specs.Grafting.{IsGrown, IsGraftStep, AreOthersSame, IsWornForGraft, IsWornByGraft, OnWorn};
+ghost use Rattle.bd_graft.specs.Grafting.{IsGrown, IsGraftStep, IsWalkOf, AreOthersSame, IsWornForGraft, IsWornByGraft, OnWorn};
 ghost use Rattle.bd_path.specs.Made.{AreKnown};
 ghost use Rattle.bd_reclaim.specs.Walks.{IsFirst, HasNone, IsToDo, IsToDoAt, walk_size};
 ghost use Rattle.bd_reclaim.specs.Reclaimed.{IsReclaimed, IsReclaimMade, IsRootAfter, IsNextAfter, LeavesLess, reclaim_visits, IsWornChange};
@@ -180,7 +180,12 @@ impl<S: NodeStore> Tree<S> {
             (OnOk result (AreOthersSame (S.nodes self.old.store) (S.table self.old.store)
             (S.nodes self.new.store) (S.table self.new.store))) }
         ensures table { OnOk result (IsGrown (S.table self.old.store) (S.table self.new.store)) }
-        ensures visits { OnOk result (self.new.walk.visits
+        ensures walk { OfSound S.NodeStore self.old.store
+            (OnOk result (IsWalkOf (S.nodes self.old.store) (S.table self.old.store) s.now
+            (S.table self.new.store) self.new.walk.visits)) }
+        ensures few { OnOk result (self.new.walk.visits ≤ 5 * self.new.walk.height + 2) }
+        ensures visits { OnOk result (S.visit_count self.new.store < 2 ^ 64 - 1
+            → self.new.walk.visits
             ≡ S.visit_count self.new.store - S.visit_count self.old.store) }
         ensures rise { OnOk result (S.visit_count self.new.store
             ≡ visited (S.visit_count self.old.store) self.new.walk.visits) }

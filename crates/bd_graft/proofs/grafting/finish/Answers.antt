@@ -8,10 +8,12 @@ use Rattle.bd_graft.specs.Ways.{messages_in}
 use Rattle.bd_graft.specs.Packing.{IsPacked, IsPackedWith, Fits, packs, overlaid}
 use Rattle.bd_graft.proofs.Grouping.{layers_fit, packed_length}
 use Rattle.bd_graft.proofs.Counters.{count_few, count_is, worn_ids, worn_top, worn_level, worn_under, worn_over}
-use Rattle.bd_graft.specs.Grafting.{graft_messages, step_under, step_over, IsReady}
+use Rattle.bd_node.specs.Steps.{extend_step}
+use Rattle.bd_graft.specs.Grafting.{graft_messages, step_over, IsReady}
 use Rattle.bd_graft.proofs.Laying.{level_high}
-use Rattle.bd_graft.proofs.Wearing.{layers_raise, layers_few, few_visited, sum_past, sum_within, over_few, cause_of, extend_cause, under_ok, over_ok, packed_low}
+use Rattle.bd_graft.proofs.Wearing.{layers_raise, layers_few, sum_past, sum_within, over_few, cause_of, extend_cause, under_ok, over_ok, packed_low}
 use Rattle.bd_node.proofs.Extending.{root_inner}
+use Rattle.bd_graft.proofs.Made.{room_is, not_called}
 use Rattle.bd_graft.proofs.grafting.finish.Goals as goal
 
 pub pack-requires-clause-layers : goal.pack-requires-clause-layers
@@ -19,28 +21,6 @@ pack-requires-clause-layers g c =
     let t : Table = g.S.NodeStore.table c.args.store.now in
     subst (λ (ls : List Layer). AreLayers t (level_limit + 1) ls c.args.way.end) (sym c.as_slice-2.ensures.value)
     (layers_raise t (t.level t.root + 1) (level_limit + 1) c.args.way.layers.items c.args.way.end (omega (arith, level_high c.requires.root.node c.requires.root.is.of_table.shape, c.requires.root.is.of_table.level_is)) c.requires.layers)
-
-pub put_under-requires-clause-few : goal.put_under-requires-clause-few
-put_under-requires-clause-few g c =
-    let t : Table = g.S.NodeStore.table c.args.store.now in
-    omega (arith, c.in_ok-packed.ensures.few, c.as_slice-2.ensures.len, layers_few t (t.level t.root) c.args.way.layers.items c.args.way.end c.requires.layers)
-
-pub put_over-requires-clause-few : goal.put_over-requires-clause-few
-put_over-requires-clause-few g c =
-    let t : Table = g.S.NodeStore.table c.args.store.now in
-    omega (arith, c.in_ok-packed.ensures.few, c.as_slice-2.ensures.len, layers_few t (t.level t.root) c.args.way.layers.items c.args.way.end c.requires.layers)
-
-pub returns-then-packed-level-clause-few_visits : goal.returns-then-packed-level-clause-few_visits
-returns-then-packed-level-clause-few_visits g c =
-    let t : Table = g.S.NodeStore.table c.args.store.now in
-    few_visited (g.S.NodeStore.visit_count c.args.store.now) (g.S.NodeStore.visit_count c.put_under.new.store) (length c.in_ok-packed.packed.made.items) (t.level t.root + 2) c.put_under.result
-    (omega (arith, c.in_ok-packed.ensures.few, c.as_slice-2.ensures.len, layers_few t (t.level t.root) c.args.way.layers.items c.args.way.end c.requires.layers)) c.put_under.ensures.visits c.put_under.ensures.err_visits
-
-pub returns-clause-few_visits : goal.returns-clause-few_visits
-returns-clause-few_visits g c =
-    let t : Table = g.S.NodeStore.table c.args.store.now in
-    few_visited (g.S.NodeStore.visit_count c.args.store.now) (g.S.NodeStore.visit_count c.put_over.new.store) (length c.in_ok-packed.packed.made.items + 1) (t.level t.root + 2) c.put_over.result
-    (omega (arith, c.in_ok-packed.ensures.few, c.as_slice-2.ensures.len, layers_few t (t.level t.root) c.args.way.layers.items c.args.way.end c.requires.layers)) c.put_over.ensures.visits c.put_over.ensures.err_visits
 
 pub returns-then-is_none-clause-cause : goal.returns-then-is_none-clause-cause
 returns-then-is_none-clause-cause g c =
@@ -66,11 +46,12 @@ returns-then-packed-level-clause-cause g c =
       value = c.requires.value;
       way = c.requires.way;
       groups = subst (λ (ls : List Layer). IsPackedWith t c.args.way.end (overlaid c.args.way.end (packs (messages_in ls))) c.in_ok-packed.packed) c.as_slice-2.ensures.value c.in_ok-packed.ensures.groups;
+      few = omega (arith, c.in_ok-packed.ensures.few, c.as_slice-2.ensures.len, layers_few t (t.level t.root) c.args.way.layers.items c.args.way.end c.requires.layers);
     } in
     cause_of (g.S.NodeStore.fault_count c.args.store.now) (g.S.NodeStore.fault_count c.put_under.new.store) (g.S.NodeStore.bad c.put_under.new.store) t
-    (step_under t c.requires.root.node c.in_ok-packed.packed.made.items (graft_messages c.args.s.now c.args.d.now c.args.keep c.in_ok-packed.packed.target)) c.put_under.result
+    (extend_step t c.requires.root.node c.in_ok-packed.packed.made.items (graft_messages c.args.s.now c.args.d.now c.args.keep c.in_ok-packed.packed.target)) c.put_under.result
     (under_ok (g.S.NodeStore.is_known c.args.store.now) (g.S.NodeStore.nodes c.args.store.now) t c.requires.root.node c.in_ok-packed.packed c.args.s.now c.args.d.now c.args.keep ready c.next_id.ensures.table c.requires.root.is.of_table
-    (omega (arith, c.if-packed-level.true, c.level-level.ensures ∙ ap t.level c.root.ensures.value)) c.requires.source c.requires.target (omega (arith, c.requires.root.is.size, c.requires.fits)) room)
+    (omega (arith, c.if-packed-level.true, c.level-level.ensures ∙ ap t.level c.root.ensures.value)) c.requires.can.source c.requires.can.target (omega (arith, c.requires.root.is.size, room_is t.size c.requires.can.fits)) room)
     (omega (arith, made)) high (omega arith)
     (extend_cause (g.S.NodeStore.fault_count c.args.store.now) (g.S.NodeStore.fault_count c.put_under.new.store) (g.S.NodeStore.bad c.put_under.new.store) t c.requires.root.node c.in_ok-packed.packed.made.items (graft_messages c.args.s.now c.args.d.now c.args.keep c.in_ok-packed.packed.target) c.put_under.result (root_inner t c.requires.root.node c.next_id.ensures.table c.requires.root.is) c.put_under.ensures.cause)
 
@@ -88,12 +69,13 @@ returns-clause-cause g c =
       value = c.requires.value;
       way = c.requires.way;
       groups = subst (λ (ls : List Layer). IsPackedWith t c.args.way.end (overlaid c.args.way.end (packs (messages_in ls))) c.in_ok-packed.packed) c.as_slice-2.ensures.value c.in_ok-packed.ensures.groups;
+      few = omega (arith, c.in_ok-packed.ensures.few, c.as_slice-2.ensures.len, layers_few t (t.level t.root) c.args.way.layers.items c.args.way.end c.requires.layers);
     } in
     cause_of (g.S.NodeStore.fault_count c.args.store.now) (g.S.NodeStore.fault_count c.put_over.new.store) (g.S.NodeStore.bad c.put_over.new.store) t
     (step_over t c.in_ok-packed.packed.made.items (graft_messages c.args.s.now c.args.d.now c.args.keep c.in_ok-packed.packed.target)) c.put_over.result
     (over_ok (g.S.NodeStore.is_known c.args.store.now) (g.S.NodeStore.nodes c.args.store.now) t c.in_ok-packed.packed c.args.s.now c.args.d.now c.args.keep ready c.next_id.ensures.table high
     (packed_low t c.args.way.layers.items c.as_slice-2.result.now c.args.way.end c.in_ok-packed.packed.level c.next_id.ensures.table c.as_slice-2.ensures.value c.requires.layers c.in_ok-packed.ensures.low)
-    c.requires.source c.requires.target room)
+    c.requires.can.source c.requires.can.target room)
     (over_few t c.in_ok-packed.packed.made.items (graft_messages c.args.s.now c.args.d.now c.args.keep c.in_ok-packed.packed.target) (t.level t.root + 2) (omega (arith, made))) (omega (arith, high)) (omega arith) c.put_over.ensures.cause
 
 pub overlay_count-count-requires-clause-fits : goal.overlay_count-count-requires-clause-fits
@@ -133,6 +115,7 @@ returns-then-packed-level-clause-worn g c = λ known sound.
       value = c.requires.value;
       way = c.requires.way;
       groups = subst (λ (ls : List Layer). IsPackedWith t c.args.way.end (overlaid c.args.way.end (packs (messages_in ls))) c.in_ok-packed.packed) c.as_slice-2.ensures.value c.in_ok-packed.ensures.groups;
+      few = omega (arith, c.in_ok-packed.ensures.few, c.as_slice-2.ensures.len, layers_few t (t.level t.root) c.args.way.layers.items c.args.way.end c.requires.layers);
     } in
     worn_under (g.S.NodeStore.fault_count c.args.store.now) (g.S.NodeStore.fault_count c.put_under.new.store) (g.S.NodeStore.bad c.put_under.new.store) (g.S.NodeStore.is_known c.args.store.now) (g.S.NodeStore.nodes c.args.store.now) t c.requires.root.node c.in_ok-packed.packed c.args.s.now c.args.d.now c.args.keep c.put_under.result
     ready known sound (c.requires.root.there known) (omega (arith, c.if-packed-level.true, c.level-level.ensures ∙ ap t.level c.root.ensures.value))
@@ -149,6 +132,7 @@ returns-then-level-ge-MAX_LEVEL-clause-worn g c = λ known sound.
       value = c.requires.value;
       way = c.requires.way;
       groups = subst (λ (ls : List Layer). IsPackedWith t c.args.way.end (overlaid c.args.way.end (packs (messages_in ls))) c.in_ok-packed.packed) c.as_slice-2.ensures.value c.in_ok-packed.ensures.groups;
+      few = omega (arith, c.in_ok-packed.ensures.few, c.as_slice-2.ensures.len, layers_few t (t.level t.root) c.args.way.layers.items c.args.way.end c.requires.layers);
     } in
     worn_level (g.S.NodeStore.is_known c.args.store.now) (g.S.NodeStore.nodes c.args.store.now) t c.requires.root.node c.in_ok-packed.packed c.args.s.now c.args.d.now c.args.keep
     ready known sound (c.requires.root.there known) (omega (arith, c.if-packed-level.false, c.level-level.ensures ∙ ap t.level c.root.ensures.value)) (omega (arith, c.if-level-ge-MAX_LEVEL.true, c.level-level.ensures ∙ ap t.level c.root.ensures.value, level_high c.requires.root.node c.requires.root.is.of_table.shape))
@@ -164,6 +148,7 @@ returns-then-is_none-2-clause-worn g c = λ known sound.
       value = c.requires.value;
       way = c.requires.way;
       groups = subst (λ (ls : List Layer). IsPackedWith t c.args.way.end (overlaid c.args.way.end (packs (messages_in ls))) c.in_ok-packed.packed) c.as_slice-2.ensures.value c.in_ok-packed.ensures.groups;
+      few = omega (arith, c.in_ok-packed.ensures.few, c.as_slice-2.ensures.len, layers_few t (t.level t.root) c.args.way.layers.items c.args.way.end c.requires.layers);
     } in
     worn_top (g.S.NodeStore.is_known c.args.store.now) (g.S.NodeStore.nodes c.args.store.now) t c.requires.root.node c.in_ok-packed.packed c.args.s.now c.args.d.now c.args.keep
     ready known sound (c.requires.root.there known) (omega (arith, c.if-packed-level.false, c.level-level.ensures ∙ ap t.level c.root.ensures.value))
@@ -180,6 +165,7 @@ returns-clause-worn g c = λ known sound.
       value = c.requires.value;
       way = c.requires.way;
       groups = subst (λ (ls : List Layer). IsPackedWith t c.args.way.end (overlaid c.args.way.end (packs (messages_in ls))) c.in_ok-packed.packed) c.as_slice-2.ensures.value c.in_ok-packed.ensures.groups;
+      few = omega (arith, c.in_ok-packed.ensures.few, c.as_slice-2.ensures.len, layers_few t (t.level t.root) c.args.way.layers.items c.args.way.end c.requires.layers);
     } in
     worn_over (g.S.NodeStore.fault_count c.args.store.now) (g.S.NodeStore.fault_count c.put_over.new.store) (g.S.NodeStore.bad c.put_over.new.store) (g.S.NodeStore.is_known c.args.store.now) (g.S.NodeStore.nodes c.args.store.now) t c.requires.root.node c.in_ok-packed.packed c.args.s.now c.args.d.now c.args.keep c.put_over.result
     ready known sound (c.requires.root.there known) (omega (arith, c.if-packed-level.false, c.level-level.ensures ∙ ap t.level c.root.ensures.value)) c.put_over.ensures.cause
@@ -193,3 +179,48 @@ returns-then-is_none-2-clause-cause g c =
       stays = refl;
       failed = omega (arith, sum_past _ _ _ _ c.checked_add-2.ensures c.is_none-2.ensures c.if-is_none-2.true, c.next_id-2.ensures.value, count_is c.args.way.end c.args.way.layers.items c.as_slice.result.now c.overlay_count-count.result c.as_slice.ensures.value c.overlay_count-count.ensures, count_few c.args.way.end c.args.way.layers.items, layers_few t (t.level t.root) c.args.way.layers.items c.args.way.end c.requires.layers);
     }
+
+pub returns-then-is_none-clause-call : goal.returns-then-is_none-clause-call
+returns-then-is_none-clause-call g c = not_called g.S.NodeStore c.args.s.now c.args.d.now c.args.keep c.args.store.now _ (g.met.S.NodeStore.reads_none c.args.store.now) (g.met.S.NodeStore.reads_keep _ _ (g.met.S.NodeStore.reads_none c.args.store.now))
+
+pub returns-then-level-ge-MAX_LEVEL-clause-call : goal.returns-then-level-ge-MAX_LEVEL-clause-call
+returns-then-level-ge-MAX_LEVEL-clause-call g c = not_called g.S.NodeStore c.args.s.now c.args.d.now c.args.keep c.args.store.now _ (g.met.S.NodeStore.reads_none c.args.store.now) (g.met.S.NodeStore.reads_keep _ _ (g.met.S.NodeStore.reads_none c.args.store.now))
+
+pub returns-then-is_none-2-clause-call : goal.returns-then-is_none-2-clause-call
+returns-then-is_none-2-clause-call g c = not_called g.S.NodeStore c.args.s.now c.args.d.now c.args.keep c.args.store.now _ (g.met.S.NodeStore.reads_none c.args.store.now) (g.met.S.NodeStore.reads_keep _ _ (g.met.S.NodeStore.reads_none c.args.store.now))
+
+pub returns-then-packed-level-clause-call : goal.returns-then-packed-level-clause-call
+returns-then-packed-level-clause-call g c = c.put_under.ensures.call
+
+pub returns-clause-call : goal.returns-clause-call
+returns-clause-call g c = c.put_over.ensures.call
+
+pub put_under-requires-clause-ready : goal.put_under-requires-clause-ready
+put_under-requires-clause-ready g c =
+    let t : Table = g.S.NodeStore.table c.args.store.now in
+    let ready : IsReady (g.S.NodeStore.is_known c.args.store.now) (g.S.NodeStore.nodes c.args.store.now) t c.args.s.now c.in_ok-packed.packed = record {
+      layers = c.args.way.layers.items;
+      end = c.args.way.end;
+      packed_is = subst (λ (ls : List Layer). IsPacked t c.args.way.end (laid ls) c.in_ok-packed.packed) c.as_slice-2.ensures.value c.in_ok-packed.ensures.packed;
+      layers_are = c.requires.layers;
+      value = c.requires.value;
+      way = c.requires.way;
+      groups = subst (λ (ls : List Layer). IsPackedWith t c.args.way.end (overlaid c.args.way.end (packs (messages_in ls))) c.in_ok-packed.packed) c.as_slice-2.ensures.value c.in_ok-packed.ensures.groups;
+      few = omega (arith, c.in_ok-packed.ensures.few, c.as_slice-2.ensures.len, layers_few t (t.level t.root) c.args.way.layers.items c.args.way.end c.requires.layers);
+    } in
+    ready
+
+pub put_over-requires-clause-ready : goal.put_over-requires-clause-ready
+put_over-requires-clause-ready g c =
+    let t : Table = g.S.NodeStore.table c.args.store.now in
+    let ready : IsReady (g.S.NodeStore.is_known c.args.store.now) (g.S.NodeStore.nodes c.args.store.now) t c.args.s.now c.in_ok-packed.packed = record {
+      layers = c.args.way.layers.items;
+      end = c.args.way.end;
+      packed_is = subst (λ (ls : List Layer). IsPacked t c.args.way.end (laid ls) c.in_ok-packed.packed) c.as_slice-2.ensures.value c.in_ok-packed.ensures.packed;
+      layers_are = c.requires.layers;
+      value = c.requires.value;
+      way = c.requires.way;
+      groups = subst (λ (ls : List Layer). IsPackedWith t c.args.way.end (overlaid c.args.way.end (packs (messages_in ls))) c.in_ok-packed.packed) c.as_slice-2.ensures.value c.in_ok-packed.ensures.groups;
+      few = omega (arith, c.in_ok-packed.ensures.few, c.as_slice-2.ensures.len, layers_few t (t.level t.root) c.args.way.layers.items c.args.way.end c.requires.layers);
+    } in
+    ready

@@ -35,7 +35,7 @@ pub returns-clause-groups : goal.returns-clause-groups
 returns-clause-groups g t c =
     if_ok _ _ c.laid_on.result c.laid_on.ensures (λ (s : Stack) on.
     with_more (g.S.NodeStore.table c.args.store.now) c.args.end c.args.next c.args.layers.now c.layer-item.result c.in_ok-stack.stack s c.requires.next c.requires.layers c.in-len1-up.len_at_least c.layer-item.is
-    c.in_ok-stack.ensures.stack.fits c.in_ok-stack.ensures.groups on)
+    c.in_ok-stack.ensures.stack.waiting.fits c.in_ok-stack.ensures.groups on)
 
 pub returns-in_default-clause-stack : goal.returns-in_default-clause-stack
 returns-in_default-clause-stack g t c =

@@ -11,6 +11,7 @@ use Rattle.bd_resolve.proofs.Going.{lower_target}
 use Rattle.bd_graft.specs.Laying.{above}
 use Rattle.bd_graft.proofs.Laying.{passed_limit, passed_has, passed_layer}
 use Rattle.bd_graft.proofs.Ways.{passed_led, ended_led}
+use Rattle.bd_graft.proofs.Visits.{root_of}
 use Rattle.bd_graft.proofs.walking.passed_node.Goals as goal
 
 pub above-requires : goal.above-requires
@@ -46,3 +47,11 @@ pub returns-in-Here-clause-led : goal.returns-in-Here-clause-led
 returns-in-Here-clause-led g c = λ known.
     ended_led (g.S.NodeStore.nodes c.args.store.now) c.args.id c.in_ok-node.node.value c.deref.result.now c.args.prefix.now c.in_ok-follow.field-0
     c.deref.ensures c.in_ok-follow.ensures.leads c.in-Here.is (c.in_ok-node.ensures.contents known)
+
+pub returns-in-Here-clause-root : goal.returns-in-Here-clause-root
+returns-in-Here-clause-root g c = λ same.
+    root_of (g.S.NodeStore.is_known c.args.store.now) (g.S.NodeStore.nodes c.args.store.now) (g.S.NodeStore.table c.args.store.now) c.args.id c.in_ok-node.node.value c.in_ok-node.ensures.shape c.in_ok-node.ensures.root c.in_ok-node.ensures.contents same
+
+pub returns-clause-root : goal.returns-clause-root
+returns-clause-root g c = λ same.
+    root_of (g.S.NodeStore.is_known c.args.store.now) (g.S.NodeStore.nodes c.args.store.now) (g.S.NodeStore.table c.args.store.now) c.args.id c.in_ok-node.node.value c.in_ok-node.ensures.shape c.in_ok-node.ensures.root c.in_ok-node.ensures.contents same

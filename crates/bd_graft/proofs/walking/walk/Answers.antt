@@ -1,10 +1,12 @@
-use Rattle.std.proofs.Common.{ap, sym, ◌∙◌, subst, arith, List, ℕ, ◌≤◌, ◌<◌, ◌+◌, ◌++◌, ◌∷◌, [], ◌≡◌, Option, None, Some}
+use Rattle.std.proofs.Common.{ap, sym, refl, ◌∙◌, subst, arith, inr, length, length-append, List, ℕ, ◌≤◌, ◌<◌, ◌+◌, ◌++◌, ◌∷◌, [], ◌≡◌, Option, None, Some}
+use Rattle.bd_limits.specs.Limits.{key_limit}
 use Rattle.bd_keys.specs.Keys.{IsKey}
 use Rattle.bd_message.specs.Effect.{NodesAt, acts}
 use Rattle.bd_node.specs.declared.node.Node.{Node}
 use Rattle.bd_node.specs.Nodes.{node_at}
 use Rattle.bd_node.specs.Meaning.{Nodes, at}
 use Rattle.bd_node.specs.Tables.{Table}
+use Rattle.bd_node.specs.Stores.{visited}
 use Rattle.bd_node.proofs.Visited.{visits_one_more}
 use Rattle.bd_resolve.specs.declared.following.Target.{Target}
 use Rattle.bd_resolve.specs.Following.{IsLowerTarget, target_at}
@@ -14,6 +16,7 @@ use Rattle.bd_graft.specs.declared.walking.Passed.{Passed}
 use Rattle.bd_graft.specs.Laying.{laid, AreLayers, IsLayer}
 use Rattle.bd_graft.proofs.Laying.{layers_more, layers_ended, value_ended, one_further, some_is}
 use Rattle.bd_graft.proofs.Ways.{way_at_leaf, way_at_node, way_to_nothing, way_on, led_as}
+use Rattle.bd_graft.proofs.Visits.{root_again, root_met, leaf_gone, none_is, leaf_fetches, node_fetches, nothing_fetches, next_more}
 use Rattle.bd_graft.proofs.walking.walk.Goals as goal
 
 pub returns-then-level-eq0-clause-value : goal.returns-then-level-eq0-clause-value
@@ -45,6 +48,7 @@ loop-store-preserved g c =
     subst (λ (o : Option Target). IsLowerTarget t (t.level id) o) target_is
     (subst (λ (u : Table). IsLowerTarget u (u.level id) on.target) inv.table (some_is (λ (p : Passed). IsLowerTarget now (now.level id) p.target) c.in_ok-layer.field-0 on c.in-Some.is c.in_ok-layer.ensures.lower)) in
     let less : t.level target.child < t.level id = lower.lower in
+    let more : length c.push.new.self.items ≡ length c.loop-store.layers.items + 1 = ap (λ (ls : List Layer). length ls) c.in_ok-push.ensures.items ∙ length-append c.loop-store.layers.items (on.layer ∷ []) in
     let layer : IsLayer t on.layer = subst (λ (u : Table). IsLayer u on.layer) inv.table (some_is (λ (p : Passed). IsLayer now p.layer) c.in_ok-layer.field-0 on c.in-Some.is c.in_ok-layer.ensures.layer) in
     let level : on.layer.level ≡ t.level id = some_is (λ (p : Passed). p.layer.level ≡ now.level id) c.in_ok-layer.field-0 on c.in-Some.is c.in_ok-layer.ensures.level ∙ ap (λ (u : Table). u.level id) inv.table in
     record {
@@ -60,6 +64,14 @@ loop-store-preserved g c =
           inv.visits c.in_ok-layer.ensures.visits (t.level target.child) less;
       counted = gone_down (g.S.NodeStore.visit_count c.args.store.now) (g.S.NodeStore.visit_count c.loop-store.store) (g.S.NodeStore.visit_count c.passed_node.new.store) high (t.level id)
           inv.visits c.in_ok-layer.ensures.visits (t.level target.child) less;
+      next = next_more (g.S.NodeStore.visit_count c.args.store.now) (length c.loop-store.layers.items) (g.S.NodeStore.visit_count c.loop-store.store) (g.S.NodeStore.visit_count c.passed_node.new.store) inv.next c.in_ok-layer.ensures.visits
+          ∙ ap (λ (n : ℕ). visited (g.S.NodeStore.visit_count c.args.store.now) (n + 1)) (sym more);
+      root = inr (record {
+        rise = c.in_ok-layer.ensures.visits ∙ inv.next ∙ ap (λ (n : ℕ). visited (g.S.NodeStore.visit_count c.args.store.now) n) (sym more);
+        root = root_met (c.loop-store.id ≡ (g.S.NodeStore.table c.args.store.now).root) (g.S.NodeStore.is_known c.args.store.now) (g.S.NodeStore.nodes c.args.store.now) (g.S.NodeStore.table c.args.store.now) (g.S.NodeStore.visit_count c.args.store.now) (g.S.NodeStore.visit_count c.loop-store.store) (length c.loop-store.layers.items) c.loop-store.invariant.root
+            (λ same. root_again (g.S.NodeStore.is_known c.args.store.now) (g.S.NodeStore.is_known c.loop-store.store) (g.S.NodeStore.nodes c.args.store.now) (g.S.NodeStore.nodes c.loop-store.store) (g.S.NodeStore.table c.args.store.now) (g.S.NodeStore.table c.loop-store.store)
+            c.loop-store.invariant.known c.loop-store.invariant.nodes c.loop-store.invariant.table (c.in_ok-layer.ensures.root (same ∙ ap (λ (t : Table). t.root) (sym c.loop-store.invariant.table))));
+      });
       loans = c.in_ok-layer.ensures.left.same_loans ∙ inv.loans;
       way = λ known sound_at.
           way_on nodes t t.root id c.args.prefix.now c.loop-store.asked c.loop-store.layers.items _ on target sound_at inv.here
@@ -124,3 +136,68 @@ returns-in-None-clause-way g c = λ known sound.
     way_to_nothing (g.S.NodeStore.nodes c.args.store.now) (g.S.NodeStore.table c.args.store.now) (g.S.NodeStore.table c.args.store.now).root c.loop-store.id c.args.prefix.now c.loop-store.asked c.loop-store.layers.items _ on sound inv.here
     (led_as (g.S.NodeStore.nodes c.args.store.now) (g.S.NodeStore.nodes c.loop-store.store) c.loop-store.id c.loop-store.asked c.as_slice.result.now c.in_ok-layer.field-0 (Some on) (inv.nodes known) c.as_slice.ensures c.in-Some.is (c.in_ok-layer.ensures.led (inv.known known)))
     c.in-None.is c.in_ok-push.ensures.items (inv.way known sound)
+
+-- ---- visits
+
+pub returns-then-level-eq0-clause-fetched : goal.returns-then-level-eq0-clause-fetched
+returns-then-level-eq0-clause-fetched g c =
+    leaf_fetches (g.S.NodeStore.table c.args.store.now) c.loop-store.layers.items c.ended.result.layers.items c.loop-store.id c.ended.result.fetched c.loop-store.asked c.ended.result.end c.ended.ensures.layers c.ended.ensures.end c.ended.ensures.fetched (ap (λ (t : Table). t.level c.loop-store.id) (sym c.loop-store.invariant.table) ∙ sym c.level.ensures ∙ c.if-level-eq0.true)
+
+pub returns-then-level-eq0-clause-visits : goal.returns-then-level-eq0-clause-visits
+returns-then-level-eq0-clause-visits g c = (leaf_gone (g.S.NodeStore.is_known c.args.store.now) (g.S.NodeStore.nodes c.args.store.now) (g.S.NodeStore.table c.args.store.now) c.loop-store.id (g.S.NodeStore.visit_count c.args.store.now) (g.S.NodeStore.visit_count c.loop-store.store) (length c.loop-store.layers.items) c.root-id.ensures.table (ap (λ (t : Table). t.level c.loop-store.id) (sym c.loop-store.invariant.table) ∙ sym c.level.ensures ∙ c.if-level-eq0.true) c.loop-store.invariant.root).rise
+    ∙ ap (λ (n : ℕ). visited (g.S.NodeStore.visit_count c.args.store.now) n) (omega (arith, c.ended.ensures.fetched))
+
+pub returns-then-level-eq0-clause-root : goal.returns-then-level-eq0-clause-root
+returns-then-level-eq0-clause-root g c = (leaf_gone (g.S.NodeStore.is_known c.args.store.now) (g.S.NodeStore.nodes c.args.store.now) (g.S.NodeStore.table c.args.store.now) c.loop-store.id (g.S.NodeStore.visit_count c.args.store.now) (g.S.NodeStore.visit_count c.loop-store.store) (length c.loop-store.layers.items) c.root-id.ensures.table (ap (λ (t : Table). t.level c.loop-store.id) (sym c.loop-store.invariant.table) ∙ sym c.level.ensures ∙ c.if-level-eq0.true) c.loop-store.invariant.root).root
+
+pub returns-in_default-clause-fetched : goal.returns-in_default-clause-fetched
+returns-in_default-clause-fetched g c =
+    node_fetches (g.S.NodeStore.table c.args.store.now) c.loop-store.layers.items c.ended-in_default.result.layers.items c.loop-store.id c.ended-in_default.result.fetched c.loop-store.asked c.ended-in_default.result.end c.ended-in_default.ensures.layers c.ended-in_default.ensures.end c.ended-in_default.ensures.fetched
+    (subst (λ (q : List ℕ). length q ≤ key_limit) c.as_slice.ensures (none_is (length c.as_slice.result.now ≤ key_limit) c.in_ok-layer.field-0 c.in_default.is c.in_ok-layer.ensures.end))
+    (omega (arith, c.if-level-eq0.false, c.level.ensures, ap (λ (u : Table). u.level c.loop-store.id) c.loop-store.invariant.table))
+
+pub returns-in_default-clause-visits : goal.returns-in_default-clause-visits
+returns-in_default-clause-visits g c =
+    c.in_ok-layer.ensures.visits ∙ c.loop-store.invariant.next ∙ ap (λ (n : ℕ). visited (g.S.NodeStore.visit_count c.args.store.now) n) (sym c.ended-in_default.ensures.fetched)
+
+pub returns-in_default-clause-root : goal.returns-in_default-clause-root
+returns-in_default-clause-root g c =
+    root_met (c.loop-store.id ≡ (g.S.NodeStore.table c.args.store.now).root) (g.S.NodeStore.is_known c.args.store.now) (g.S.NodeStore.nodes c.args.store.now) (g.S.NodeStore.table c.args.store.now) (g.S.NodeStore.visit_count c.args.store.now) (g.S.NodeStore.visit_count c.loop-store.store) (length c.loop-store.layers.items) c.loop-store.invariant.root
+    (λ same. root_again (g.S.NodeStore.is_known c.args.store.now) (g.S.NodeStore.is_known c.loop-store.store) (g.S.NodeStore.nodes c.args.store.now) (g.S.NodeStore.nodes c.loop-store.store) (g.S.NodeStore.table c.args.store.now) (g.S.NodeStore.table c.loop-store.store)
+    c.loop-store.invariant.known c.loop-store.invariant.nodes c.loop-store.invariant.table (c.in_ok-layer.ensures.root (same ∙ ap (λ (t : Table). t.root) (sym c.loop-store.invariant.table))))
+
+pub returns-in-None-clause-fetched : goal.returns-in-None-clause-fetched
+returns-in-None-clause-fetched g c = nothing_fetches (g.S.NodeStore.table c.args.store.now) c.push.new.self.items c.len-fetched.result (omega (arith, c.len-fetched.ensures, c.push.new.self.ok))
+
+pub returns-in-None-clause-visits : goal.returns-in-None-clause-visits
+returns-in-None-clause-visits g c =
+    c.in_ok-layer.ensures.visits ∙ c.loop-store.invariant.next
+    ∙ ap (λ (n : ℕ). visited (g.S.NodeStore.visit_count c.args.store.now) n) (sym ((let n : c.len-fetched.result ≡ length c.push.new.self.items = omega (arith, c.len-fetched.ensures, c.push.new.self.ok) in n) ∙ ap (λ (ls : List Layer). length ls) c.in_ok-push.ensures.items ∙ length-append c.loop-store.layers.items (c.in-Some.field-0.layer ∷ [])))
+
+pub returns-in-None-clause-root : goal.returns-in-None-clause-root
+returns-in-None-clause-root g c =
+    root_met (c.loop-store.id ≡ (g.S.NodeStore.table c.args.store.now).root) (g.S.NodeStore.is_known c.args.store.now) (g.S.NodeStore.nodes c.args.store.now) (g.S.NodeStore.table c.args.store.now) (g.S.NodeStore.visit_count c.args.store.now) (g.S.NodeStore.visit_count c.loop-store.store) (length c.loop-store.layers.items) c.loop-store.invariant.root
+    (λ same. root_again (g.S.NodeStore.is_known c.args.store.now) (g.S.NodeStore.is_known c.loop-store.store) (g.S.NodeStore.nodes c.args.store.now) (g.S.NodeStore.nodes c.loop-store.store) (g.S.NodeStore.table c.args.store.now) (g.S.NodeStore.table c.loop-store.store)
+    c.loop-store.invariant.known c.loop-store.invariant.nodes c.loop-store.invariant.table (c.in_ok-layer.ensures.root (same ∙ ap (λ (t : Table). t.root) (sym c.loop-store.invariant.table))))
+
+-- ---- what reads leave
+
+pub returns-in_err-push-clause-left : goal.returns-in_err-push-clause-left
+returns-in_err-push-clause-left g c =
+    record {
+      table = c.in_ok-layer.ensures.left.table ∙ c.loop-store.invariant.table;
+      known = λ k. c.in_ok-layer.ensures.left.known (c.loop-store.invariant.known k);
+      kept = λ k. c.in_ok-layer.ensures.left.kept (c.loop-store.invariant.known k) ∙ c.loop-store.invariant.nodes k;
+      read = g.met.S.NodeStore.reads_both c.args.store.now c.loop-store.store c.passed_node.new.store c.loop-store.invariant.read c.in_ok-layer.ensures.left.read;
+      same_loans = c.in_ok-layer.ensures.left.same_loans ∙ c.loop-store.invariant.loans;
+    }
+
+pub returns-in-None-clause-left : goal.returns-in-None-clause-left
+returns-in-None-clause-left g c =
+    record {
+      table = c.in_ok-layer.ensures.left.table ∙ c.loop-store.invariant.table;
+      known = λ k. c.in_ok-layer.ensures.left.known (c.loop-store.invariant.known k);
+      kept = λ k. c.in_ok-layer.ensures.left.kept (c.loop-store.invariant.known k) ∙ c.loop-store.invariant.nodes k;
+      read = g.met.S.NodeStore.reads_both c.args.store.now c.loop-store.store c.passed_node.new.store c.loop-store.invariant.read c.in_ok-layer.ensures.left.read;
+      same_loans = c.in_ok-layer.ensures.left.same_loans ∙ c.loop-store.invariant.loans;
+    }
