@@ -2,7 +2,8 @@
 //! with edges of a Goto's own, and without the messages that are pending for no edge; and what a push
 //! moves to a child.
 //! The layers above use `edge_of`, which is the edge that the definition finds first to last, the
-//! contracts of `receive`, `compact`, `split`, `carve`, `next_batch` and `exchange`, and the laws.
+//! contracts of `receive`, `compact`, `sweep`, `split`, `carve`, `next_batch` and `exchange`, and the
+//! laws.
 #![tactic(auto)]
 
 mod batches;
@@ -23,7 +24,7 @@ pub use batches::{Batch, next_batch};
 use bd_node::{Edge, Steps};
 pub use carving::carve;
 pub use clipping::clip;
-pub use compaction::compact;
+pub use compaction::{compact, sweep};
 pub use exchanging::{edge_to, end_of, exchange};
 pub use halves::split;
 pub use pending::{can_touch, end_before, is_pending};

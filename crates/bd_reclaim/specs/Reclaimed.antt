@@ -35,8 +35,8 @@ pub record IsReclaimed (nodes : Nodes) (t : Table) (new : Nodes) (u : Table) : T
   pub touched : (id : ℕ) → IsTrue (u.touched id) → IsTrue (t.touched id) ⊎ LeadsTo nodes last id
   pub high : u.level u.root ≤ t.level t.root + 1
 
--- the node has what the message at a place makes of its edge at a place, and all others that stay
--- are what they were
+-- the node has what the message at a place makes of its edge at a place and of the neighbours that
+-- become one with it, and all others that stay are what they were
 pub record IsDecidedAt (nodes : Nodes) (node : Fetched) (place at : ℕ) (new : Nodes) (u : Table)
     : Type 0 where
   pub made : Node
@@ -49,7 +49,8 @@ pub record IsShrunk (nodes : Nodes) (child : ℕ) (new : Nodes) (u : Table) : Ty
   pub root : u.root ≡ child
   pub rest : (id : ℕ) → IsKept u id → new id ≡ nodes id
 
--- the step that changes a node to what the message at a place makes of its edge at a place
+-- the step that changes a node to what the message at a place makes of its edge at a place and of the
+-- neighbours that become one with it
 pub record IsDecideStep (root : ℕ) (node : Fetched) (place at : ℕ) (step : Step) : Type 0 where
   pub made : Node
   pub decided : IsDecided node.node.value place at made
