@@ -18,6 +18,7 @@ use Rattle.bd_reclaim.specs.declared.walking.Reclaim.{Reclaim}
 use Rattle.bd_reclaim.specs.declared.walking.Reclaim.TheVariants.{Shrink, Drop, Redirect, Push}
 use Rattle.bd_step.specs.Steps.{step_visits}
 use Rattle.bd_reclaim.specs.Covering.{IsDecided}
+use Rattle.bd_reclaim.specs.Walks.{IfPush}
 use Rattle.bd_reclaim.specs.Pushing.{IsPushFound, IsPushMade, IsWornPush}
 
 -- what a change leaves: the tree has what it had, in sound nodes, and at most four are made; only
@@ -87,10 +88,7 @@ IsRootAfter t (Push above node place) u = IsPushFound t above node place u
 
 -- a change makes no nodes, unless it is a push
 abbrev pub IsNextAfter : Table → Reclaim → Table → Type 0
-IsNextAfter t (Shrink child) u = u.next ≡ t.next
-IsNextAfter t (Drop node place at) u = u.next ≡ t.next
-IsNextAfter t (Redirect node place at) u = u.next ≡ t.next
-IsNextAfter t (Push above node place) u = ⊤
+IsNextAfter t step u = IfPush (λ above node place. ⊤) (u.next ≡ t.next) step
 
 -- how many visits a change takes at most: the one of a new root, none where an edge changes, and of a
 -- push as many as a step of a flush
@@ -117,7 +115,5 @@ left_over nodes t = sum_below t.next (λ id. unseen_in (nodes id)) + t.level t.r
 
 -- a change leaves less to change, unless it is a push
 abbrev pub LeavesLess : Nodes → Table → Reclaim → Nodes → Table → Type 0
-LeavesLess nodes t (Shrink child) new u = left_over new u < left_over nodes t
-LeavesLess nodes t (Drop node place at) new u = left_over new u < left_over nodes t
-LeavesLess nodes t (Redirect node place at) new u = left_over new u < left_over nodes t
-LeavesLess nodes t (Push above node place) new u = ⊤
+LeavesLess nodes t step new u =
+    IfPush (λ above node place. ⊤) (left_over new u < left_over nodes t) step
