@@ -1,7 +1,7 @@
 //! Inner nodes after messages, in halves, with other edges in place of one, with edges of a Goto's own,
 //! and without the messages that are pending for no edge; and what a push moves to a child.
-//! The layers above use the contracts of `receive`, `compact`, `split`, `carve`, `next_batch` and
-//! `exchange`, and the laws.
+//! The layers above use the contracts of `receive`, `compact`, `sweep`, `split`, `carve`,
+//! `next_batch` and `exchange`, and the laws.
 #![tactic(auto)]
 
 mod batches;
@@ -16,7 +16,7 @@ mod receiving;
 pub use batches::{Batch, next_batch};
 pub use carving::carve;
 pub use clipping::clip;
-pub use compaction::compact;
+pub use compaction::{compact, sweep};
 pub use exchanging::{edge_to, exchange};
 pub use halves::split;
 pub use receiving::receive;

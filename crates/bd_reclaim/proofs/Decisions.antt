@@ -49,7 +49,7 @@ is_to_decide t node place at step root table fetched covered same decide = recor
   decide = subst (λ (r : ℕ). IsDecideStep r node place at step) same decide;
 }
 
-deciding_of : (cover : Cover) (n : Node) (place at : ℕ) (made : Node) → IsShape n → IsCovered cover n place at → (d : IsDecided n place at made) → IsDeciding cover n place at d.edge d.message
+deciding_of : (cover : Cover) (n : Node) (place at : ℕ) (made : Node) → IsShape n → IsCovered cover n place at → (d : IsDecided n place at made) → IsDeciding cover n place at d.count d.edge d.message
 deciding_of cover n place at made shape c d =
     let own : c.edge ≡ d.edge = same_Some c.edge d.edge (sym c.here ∙ d.here) in
     let that : c.message ≡ d.message = same_Some c.message d.message (sym c.there ∙ d.there) in
@@ -58,9 +58,10 @@ deciding_of cover n place at made shape c d =
       here = d.here;
       there = d.there;
       decides = subst (λ (m : Message). Decides cover at m d.edge (end_at n place)) that (subst (λ (e : Edge). Decides cover at c.message e (end_at n place)) own c.decides);
+      run = d.run;
     }
 
-deciding : (t : Table) (node : Fetched) (place at : ℕ) (step : Step) → (h : IsToDecide t node place at step) → IsDeciding h.cover node.node.value place at h.decide.decided.edge h.decide.decided.message
+deciding : (t : Table) (node : Fetched) (place at : ℕ) (step : Step) → (h : IsToDecide t node place at step) → IsDeciding h.cover node.node.value place at h.decide.decided.count h.decide.decided.edge h.decide.decided.message
 deciding t node place at step h = deciding_of h.cover node.node.value place at h.decide.made h.fetched.own.shape h.covered h.decide.decided
 
 change : (t : Table) (node : Fetched) (place at : ℕ) (step : Step) → (h : IsToDecide t node place at step) → IsOneChange t node.id h.decide.made []
@@ -69,15 +70,15 @@ change t node place at step h =
     let d = h.decide.decided in
     let is = deciding t node place at step h in
     lone t node.id h.decide.made h.table h.fetched.kept
-    (made_shape h.cover n place at d.edge d.message h.decide.made is d.into)
-    (made_level n place at d.edge d.message h.decide.made d.into ∙ h.fetched.own.level_is)
-    (λ x one. named_has (IsLower t (t.level node.id)) x (names n) h.fetched.own.lower (made_named h.cover n place at d.edge d.message h.decide.made is d.into x one))
+    (made_shape h.cover n place at d.count d.edge d.message h.decide.made is d.into)
+    (made_level n place at d.count d.edge d.message h.decide.made d.into ∙ h.fetched.own.level_is)
+    (λ x one. named_has (IsLower t (t.level node.id)) x (names n) h.fetched.own.lower (made_named h.cover n place at d.count d.edge d.message h.decide.made is d.into x one))
 
 change_of : (nodes : Nodes) (t : Table) (node : Fetched) (place at : ℕ) (step : Step) → (h : IsToDecide t node place at step) → IsSound nodes t → IsOwn nodes t node → IsOneChangeOf nodes t node.id node.node.value h.decide.made []
 change_of nodes t node place at step h sound own =
     let d = h.decide.decided in
     lone_of nodes t node.id node.node.value h.decide.made (change t node place at step h) sound own.there own.private
-    (λ k key. made_meaning (meaning nodes) h.cover node.node.value place at d.edge d.message h.decide.made (deciding t node place at step h) d.into k key)
+    (λ k key. made_meaning (meaning nodes) h.cover node.node.value place at d.count d.edge d.message h.decide.made (deciding t node place at step h) d.into k key)
 
 changed : (nodes : Nodes) (t : Table) (node : Fetched) (place at : ℕ) (step : Step) (new : Nodes) (u : Table) → (h : IsToDecide t node place at step) → IsSound nodes t → IsOwn nodes t node → IsTableAfter t step u → IsCommitted nodes t step new u
     → IsOneChanged nodes t node.id node.node.value h.decide.made [] new u
@@ -101,7 +102,7 @@ no_higher t node place at step u h after =
     let d = h.decide.decided in
     one_no_higher t node.id h.decide.made [] u (change t node place at step h) (subst (λ (q : Step). IsTableAfter t q u) h.decide.is after)
     (λ root. let is : buffer_size node.node.value ≡ t.size = h.fetched.root root in
-    let less : buffer_size h.decide.made ≤ buffer_size node.node.value = made_size node.node.value place at d.edge d.message h.decide.made d.into in omega arith)
+    let less : buffer_size h.decide.made ≤ buffer_size node.node.value = made_size node.node.value place at d.count d.edge d.message h.decide.made d.into in omega arith)
 
 pub same_next : (t : Table) (node : Fetched) (place at : ℕ) (step : Step) (u : Table) → IsToDecide t node place at step → IsTableAfter t step u → u.next ≡ t.next
 same_next t node place at step u h after =
@@ -160,7 +161,7 @@ each_less nodes t node place at step new u h sound own after committed here id =
 falls : (nodes : Nodes) (t : Table) (node : Fetched) (place at : ℕ) (step : Step) (new : Nodes) (u : Table) → IsToDecide t node place at step → IsSound nodes t → IsOwn nodes t node → IsTableAfter t step u → IsCommitted nodes t step new u → left_over new u < left_over nodes t
 falls nodes t node place at step new u h sound own after committed =
     let d = h.decide.decided in
-    let less : unseen_count h.decide.made < unseen_count node.node.value = made_less h.cover node.node.value place at d.edge d.message h.decide.made (deciding t node place at step h) d.into in
+    let less : unseen_count h.decide.made < unseen_count node.node.value = made_less h.cover node.node.value place at d.count d.edge d.message h.decide.made (deciding t node place at step h) d.into in
     let there : new node.id ≡ Some h.decide.made = node_there nodes t node place at step new u h sound own after committed in
     let was : unseen_in (nodes node.id) ≡ unseen_count node.node.value = ap unseen_in own.there in
     let is : unseen_in (new node.id) ≡ unseen_count h.decide.made = ap unseen_in there in

@@ -13,12 +13,11 @@ use Rattle.bd_node.specs.Tables.{sum_below}
 use Rattle.bd_node.specs.Keeping.{staying, stay_count}
 use Rattle.bd_node.proofs.Keeping.{count-yes, count-skip}
 use Rattle.bd_inner.specs.Compaction.{lowered}
-use Rattle.bd_inner.proofs.Exchanged.{at_place}
 use Rattle.bd_reclaim.specs.declared.covering.Cover.{Cover}
 use Rattle.bd_reclaim.specs.declared.covering.Cover.TheVariants.{Gone, Elsewhere}
 use Rattle.bd_reclaim.specs.Covering.{Says, decided_edge}
 use Rattle.bd_reclaim.specs.Reclaimed.{unseen_count}
-use Rattle.bd_reclaim.proofs.Decided.{IsDeciding, IsInto}
+use Rattle.bd_reclaim.proofs.Decided.{IsDeciding, IsInto, whole_of}
 
 -- ---- sums
 
@@ -85,21 +84,23 @@ sees_more Elsewhere e at (Patch key off bytes) buffer says low within = absurd s
 sees_more Elsewhere e at (Cut prefix from) buffer says low within = absurd says
 sees_more Elsewhere e at (Goto prefix source child) buffer says low within = omega (arith, length-drop (at + 1) buffer, length-drop e.seen buffer)
 
-put_less : (buffer : List Message) (xs : List Edge) (e f : Edge) (ys : List Edge) → after f.seen buffer < after e.seen buffer → count_after buffer (xs ++ f ∷ ys) < count_after buffer (xs ++ e ∷ ys)
-put_less buffer xs e f ys less =
+join_less : (buffer : List Message) (xs rs : List Edge) (e f : Edge) (ys : List Edge) → after f.seen buffer < after e.seen buffer → count_after buffer (xs ++ f ∷ ys) < count_after buffer (xs ++ e ∷ (rs ++ ys))
+join_less buffer xs rs e f ys less =
     let h = λ (x : Edge). after x.seen buffer in
-    omega (arith, sum_by-append h xs (f ∷ ys), sum_by-append h xs (e ∷ ys), sum_by-cons h f ys, sum_by-cons h e ys)
+    omega (arith, sum_by-append h xs (f ∷ ys), sum_by-append h xs (e ∷ (rs ++ ys)), sum_by-cons h f ys, sum_by-cons h e (rs ++ ys), sum_by-append h rs ys)
 
 -- the node's edges haven't seen as many messages as before
-pub made_less : (cover : Cover) (n : Node) (place at : ℕ) (e : Edge) (m : Message) (made : Node) → IsDeciding cover n place at e m → IsInto n place at e m made → unseen_count made < unseen_count n
-made_less cover (Leaf entries) place at e m made h into = absurd (none-some e h.here)
-made_less cover (Inner level es buffer) place at e m made h into =
+pub made_less : (cover : Cover) (n : Node) (place at count : ℕ) (e : Edge) (m : Message) (made : Node) → IsDeciding cover n place at count e m → IsInto n place at count e m made → unseen_count made < unseen_count n
+made_less cover (Leaf entries) place at count e m made h into = absurd (none-some e h.here)
+made_less cover (Inner level es buffer) place at count e m made h into =
     let f : Edge = decided_edge e at m in
-    let whole : es ≡ take place es ++ e ∷ drop (place + 1) es = (at_place es place e h.here).whole in
-    let less : count_after buffer (take place es ++ f ∷ drop (place + 1) es) < count_after buffer (take place es ++ e ∷ drop (place + 1) es) =
-    put_less buffer (take place es) e f (drop (place + 1) es) (sees_more cover e at m buffer h.decides.1 h.decides.0 (slice_get_within buffer at m h.there)) in
-    let after_all : count_after (staying into.mask buffer) (map (lowered into.mask) (take place es ++ f ∷ drop (place + 1) es)) ≤ count_after buffer (take place es ++ f ∷ drop (place + 1) es) =
-    lowered_after into.mask buffer (take place es ++ f ∷ drop (place + 1) es) into.pending.long in
-    let old : count_after buffer es ≡ count_after buffer (take place es ++ e ∷ drop (place + 1) es) = ap (λ (l : List Edge). count_after buffer l) whole in
-    let new : unseen_count made ≡ count_after (staying into.mask buffer) (map (lowered into.mask) (take place es ++ f ∷ drop (place + 1) es)) = ap unseen_count into.swept in
+    let xs : List Edge = take place es in
+    let rs : List Edge = take count (drop (place + 1) es) in
+    let ys : List Edge = drop count (drop (place + 1) es) in
+    let less : count_after buffer (xs ++ f ∷ ys) < count_after buffer (xs ++ e ∷ (rs ++ ys)) =
+    join_less buffer xs rs e f ys (sees_more cover e at m buffer h.decides.1 h.decides.0 (slice_get_within buffer at m h.there)) in
+    let after_all : count_after (staying into.mask buffer) (map (lowered into.mask) (xs ++ f ∷ ys)) ≤ count_after buffer (xs ++ f ∷ ys) =
+    lowered_after into.mask buffer (xs ++ f ∷ ys) into.pending.long in
+    let old : count_after buffer es ≡ count_after buffer (xs ++ e ∷ (rs ++ ys)) = ap (λ (l : List Edge). count_after buffer l) (whole_of es place count e h.here) in
+    let new : unseen_count made ≡ count_after (staying into.mask buffer) (map (lowered into.mask) (xs ++ f ∷ ys)) = ap unseen_count into.swept in
     omega (arith, less, after_all, old, new)

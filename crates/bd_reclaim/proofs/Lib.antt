@@ -1,5 +1,6 @@
 pub mod Covers
 pub mod Cuts
+pub mod Joins
 pub mod Decided
 pub mod Falls
 pub mod Decisions

@@ -1,17 +1,17 @@
 -- Messages that decide what stands at each key of an edge.
-use Rattle.std.specs.Prelude.{◌≡◌, ℕ, ◌+◌, ◌<◌, ◌≤◌, true, List, [], ◌∷◌, Option, Some, slice_get, ⊤}
+use Rattle.std.specs.Prelude.{◌≡◌, ℕ, zero, suc, ◌+◌, ◌<◌, ◌≤◌, true, List, [], ◌∷◌, ◌++◌, take, drop, Option, Some, slice_get, ⊤}
 use Rattle.bd_keys.specs.Keys.{IsKey, InRange}
 use Rattle.bd_message.specs.declared.message.Message.{Message}
 use Rattle.bd_message.specs.declared.message.Message.TheVariants.{Put, Del, Patch, Cut, Goto}
 use Rattle.bd_node.specs.declared.node.Edge.{Edge}
 use Rattle.bd_node.specs.declared.node.Node.{Node}
-use Rattle.bd_node.specs.Shape.{IsPending}
+use Rattle.bd_node.specs.declared.node.Node.TheVariants.{Leaf, Inner}
+use Rattle.bd_node.specs.Shape.{end_before, IsPending}
 use Rattle.bd_node.specs.Touching.{touches}
-use Rattle.bd_node.specs.Parts.{buffer_of, end_at, IsEdgeAt}
+use Rattle.bd_node.specs.Parts.{edges_of, buffer_of, end_at, IsEdgeAt}
 use Rattle.bd_inner.specs.Halves.{bare_edge}
 use Rattle.bd_inner.specs.Carving.{from_key, goto_edge}
 use Rattle.bd_inner.specs.Compaction.{IsCompacted}
-use Rattle.bd_inner.specs.Exchange.{exchanged}
 use Rattle.bd_reclaim.specs.declared.covering.Cover.{Cover}
 use Rattle.bd_reclaim.specs.declared.covering.Cover.TheVariants.{Gone, Elsewhere}
 
@@ -109,11 +109,32 @@ decided_edge e at (Patch key off bytes) = e
 decided_edge e at (Cut prefix from) = bare_edge e.pivot (at + 1)
 decided_edge e at (Goto prefix source child) = from_key (goto_edge at prefix source child) e.pivot
 
--- the node `m` is `n` with what the message at a place makes of the edge at a place, and without
--- the messages that are then pending for no edge
+-- so many of the first of these edges, and no more, are such that the newest Goto which decides all
+-- keys of the edge stands at a place of the buffer
+abbrev pub IsRun : List Message → ℕ → List Edge → ℕ → Type 0
+IsRun buffer at [] count = count ≡ 0
+IsRun buffer at (e ∷ es) zero = ¬ IsNewest Elsewhere buffer e (end_before es) at
+IsRun buffer at (e ∷ es) (suc count) =
+    IsNewest Elsewhere buffer e (end_before es) at × IsRun buffer at es count
+
+-- the edges after the one at a place
+abbrev pub edges_after : Node → ℕ → List Edge
+edges_after n place = drop (place + 1) (edges_of n)
+
+-- the node with an edge in place of the one at a place and of so many after it
+abbrev pub joined : Node → ℕ → ℕ → Edge → Node
+joined (Leaf entries) place count e = Leaf entries
+joined (Inner level edges buffer) place count e =
+    Inner level (take place edges ++ e ∷ drop count (drop (place + 1) edges)) buffer
+
+-- the node `m` is `n` with what the message at a place makes of the edge at a place, in place of that
+-- edge and, if the message is a Goto, of the neighbours after it of which it is the newest that
+-- decides all their keys; and without the messages that are then pending for no edge
 pub record IsDecided (n : Node) (place at : ℕ) (m : Node) : Type 0 where
   pub edge : Edge
   pub here : IsEdgeAt n place edge
   pub message : Message
   pub there : slice_get (buffer_of n) at ≡ Some message
-  pub into : IsCompacted (exchanged n place (decided_edge edge at message ∷ [])) m
+  pub count : ℕ
+  pub run : IsRun (buffer_of n) at (edges_after n place) count
+  pub into : IsCompacted (joined n place count (decided_edge edge at message)) m

@@ -18,6 +18,7 @@ use Rattle.bd_reclaim.specs.declared.walking.Reclaim.{Reclaim}
 use Rattle.bd_reclaim.specs.declared.walking.Reclaim.TheVariants.{Shrink, Drop, Redirect, Push}
 use Rattle.bd_step.specs.Steps.{step_visits}
 use Rattle.bd_reclaim.specs.Covering.{IsDecided}
+use Rattle.bd_reclaim.specs.Walks.{IfPush}
 use Rattle.bd_reclaim.specs.Pushing.{IsPushFound, IsPushMade, IsWornPush}
 
 -- what a change leaves: the tree has what it had, in sound nodes, and at most four are made; only
@@ -35,8 +36,8 @@ pub record IsReclaimed (nodes : Nodes) (t : Table) (new : Nodes) (u : Table) : T
   pub touched : (id : ℕ) → IsTrue (u.touched id) → IsTrue (t.touched id) ⊎ LeadsTo nodes last id
   pub high : u.level u.root ≤ t.level t.root + 1
 
--- the node has what the message at a place makes of its edge at a place, and all others that stay
--- are what they were
+-- the node has what the message at a place makes of its edge at a place and of the neighbours that
+-- become one with it, and all others that stay are what they were
 pub record IsDecidedAt (nodes : Nodes) (node : Fetched) (place at : ℕ) (new : Nodes) (u : Table)
     : Type 0 where
   pub made : Node
@@ -49,7 +50,8 @@ pub record IsShrunk (nodes : Nodes) (child : ℕ) (new : Nodes) (u : Table) : Ty
   pub root : u.root ≡ child
   pub rest : (id : ℕ) → IsKept u id → new id ≡ nodes id
 
--- the step that changes a node to what the message at a place makes of its edge at a place
+-- the step that changes a node to what the message at a place makes of its edge at a place and of the
+-- neighbours that become one with it
 pub record IsDecideStep (root : ℕ) (node : Fetched) (place at : ℕ) (step : Step) : Type 0 where
   pub made : Node
   pub decided : IsDecided node.node.value place at made
@@ -86,10 +88,7 @@ IsRootAfter t (Push above node place) u = IsPushFound t above node place u
 
 -- a change makes no nodes, unless it is a push
 abbrev pub IsNextAfter : Table → Reclaim → Table → Type 0
-IsNextAfter t (Shrink child) u = u.next ≡ t.next
-IsNextAfter t (Drop node place at) u = u.next ≡ t.next
-IsNextAfter t (Redirect node place at) u = u.next ≡ t.next
-IsNextAfter t (Push above node place) u = ⊤
+IsNextAfter t step u = IfPush (λ above node place. ⊤) (u.next ≡ t.next) step
 
 -- how many visits a change takes at most: the one of a new root, none where an edge changes, and of a
 -- push as many as a step of a flush
@@ -116,7 +115,5 @@ left_over nodes t = sum_below t.next (λ id. unseen_in (nodes id)) + t.level t.r
 
 -- a change leaves less to change, unless it is a push
 abbrev pub LeavesLess : Nodes → Table → Reclaim → Nodes → Table → Type 0
-LeavesLess nodes t (Shrink child) new u = left_over new u < left_over nodes t
-LeavesLess nodes t (Drop node place at) new u = left_over new u < left_over nodes t
-LeavesLess nodes t (Redirect node place at) new u = left_over new u < left_over nodes t
-LeavesLess nodes t (Push above node place) new u = ⊤
+LeavesLess nodes t step new u =
+    IfPush (λ above node place. ⊤) (left_over new u < left_over nodes t) step

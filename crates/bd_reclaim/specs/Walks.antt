@@ -16,6 +16,14 @@ use Rattle.bd_reclaim.specs.declared.walking.Look.{Look}
 use Rattle.bd_reclaim.specs.declared.walking.Look.TheVariants.{Change, Clean}
 use Rattle.bd_reclaim.specs.Covering.{IsCovered, HasNoCovered, IsFirstCovered, HasCut, HasNoCut, IsFirstCut}
 
+-- of a push what is said of the nodes above its own, of that one and of the place, and of any other
+-- change what is said of all of them
+abbrev pub IfPush : (List Fetched → Fetched → ℕ → Type 0) → Type 0 → Reclaim → Type 0
+IfPush push other (Shrink child) = other
+IfPush push other (Drop node place at) = other
+IfPush push other (Redirect node place at) = other
+IfPush push other (Push above node place) = push above node place
+
 -- ---- which nodes are looked at
 
 -- the walk goes from an edge to its child: an inner node that nothing else names
@@ -134,36 +142,28 @@ pub data IsWayBetween (t : Table) (top : ℕ) : ℕ → List Fetched → Type 0 
       → IsEdgeTo f.node.value place c e → t.count c ≡ 1 → IsWayBetween t top f.id fs
       → IsWayBetween t top c (f ∷ fs)
 
--- the change, where the walk from a node has found it: the nodes above it up to that one
+-- the change, where the walk from a node has found it: a push has the nodes above its own up to that
+-- one
 abbrev pub IsFoundFrom : Table → ℕ → Reclaim → Type 0
-IsFoundFrom t top (Shrink child) = IsToDo t (Shrink child)
-IsFoundFrom t top (Drop node place at) = IsToDo t (Drop node place at)
-IsFoundFrom t top (Redirect node place at) = IsToDo t (Redirect node place at)
-IsFoundFrom t top (Push above node place) =
-    IsFetched t node × HasCut node.node.value place × IsWayBetween t top node.id (reverse above)
+IsFoundFrom t top step =
+    IfPush (λ above node place. IsFetched t node × HasCut node.node.value place
+        × IsWayBetween t top node.id (reverse above)) (IsToDo t step) step
 
--- in known nodes, those above are what was fetched
+-- in known nodes, those above a push are what was fetched
 abbrev pub IsFoundIn : Nodes → Reclaim → Type 0
-IsFoundIn nodes (Shrink child) = ⊤
-IsFoundIn nodes (Drop node place at) = ⊤
-IsFoundIn nodes (Redirect node place at) = ⊤
-IsFoundIn nodes (Push above node place) = AllByRecursion (IsContents nodes) (reverse above)
+IsFoundIn nodes step =
+    IfPush (λ above node place. AllByRecursion (IsContents nodes) (reverse above)) ⊤ step
 
 -- the change that was found below a node, where a push gets that node above it
 abbrev pub IsBelow : Fetched → Reclaim → Reclaim → Type 0
-IsBelow f (Shrink child) found = found ≡ Shrink child
-IsBelow f (Drop node place at) found = found ≡ Drop node place at
-IsBelow f (Redirect node place at) found = found ≡ Redirect node place at
-IsBelow f (Push above node place) found = found ≡ Push (f ∷ above) node place
+IsBelow f step found =
+    IfPush (λ above node place. found ≡ Push (f ∷ above) node place) (found ≡ step) step
 
 -- ---- what is seen at a node
 
 -- a push is found with no nodes above its own
 abbrev pub HasNoneAbove : Reclaim → Type 0
-HasNoneAbove (Shrink child) = ⊤
-HasNoneAbove (Drop node place at) = ⊤
-HasNoneAbove (Redirect node place at) = ⊤
-HasNoneAbove (Push above node place) = above ≡ []
+HasNoneAbove step = IfPush (λ above node place. above ≡ []) ⊤ step
 
 -- a fetched node is to be changed so, or nothing is to be changed at it
 abbrev pub IsLook : Bool → Table → Fetched → Look → Type 0

@@ -60,7 +60,7 @@ pub fn reclaim_step<S: NodeStore>(
 }
 
 // Changes the edge at a place of a private node to what the message at a place makes of it, which
-// decides all its keys.
+// decides all its keys, and of the neighbours that become one with it.
 fn change_edge<S: NodeStore>(
     alloc: Global,
     store: &mut S,

@@ -32,7 +32,8 @@ pub enum Reclaim {
         at: usize,
     },
     /// The Goto at a place of the node's buffer covers all keys of the edge at the place: the edge
-    /// asks the Goto's node from then on.
+    /// asks the Goto's node from then on. The neighbours after it that this Goto covers, and no
+    /// newer one, become one edge with it.
     Redirect {
         node: Fetched,
         place: usize,

@@ -1,27 +1,40 @@
-use Rattle.std.proofs.Common.{List, ◌∷◌, [], ◌++◌, ap, ◌∙◌}
+use Rattle.std.proofs.Common.{List, sym, subst, arith}
 use Rattle.bd_node.specs.declared.node.Edge.{Edge}
-use Rattle.bd_reclaim.proofs.Decided.{message_low, read_at, read_place, read_message, read_fits, on_decided}
+use Rattle.bd_node.specs.Shape.{AreRising}
+use Rattle.bd_reclaim.specs.Covering.{IsRun}
+use Rattle.bd_reclaim.proofs.Decided.{message_low, read_at, read_message, read_low, read_few, read_rising, read_loose, on_decided}
 use Rattle.bd_reclaim.proofs.deciding.decided.Goals as goal
 
 pub decided_edge-requires-clause-low : goal.decided_edge-requires-clause-low
 decided_edge-requires-clause-low c =
-    message_low c.args.node.now c.args.at c.index-buffer_of-at.result c.requires.shape
-    (read_message c.args.node.now c.args.place c.args.at c.edges_of.result.now c.buffer_of.result.now c.index-edges_of-place.result c.index-buffer_of-at.result
-    (read_at c.args.node.now c.args.place c.args.at c.edges_of.result.now c.buffer_of.result.now c.index-edges_of-place.result c.index-buffer_of-at.result c.requires.shape c.requires.covered c.edges_of.ensures c.index-edges_of-place.is c.buffer_of.ensures c.index-buffer_of-at.is))
+    message_low c.args.node.now c.args.at c.index-buffer-at.result c.requires.shape
+    (read_message c.args.node.now c.args.place c.args.at c.edges_of-edges.result.now c.buffer_of-buffer.result.now c.index-edges-place.result c.index-buffer-at.result
+    (read_at c.args.node.now c.args.place c.args.at c.edges_of-edges.result.now c.buffer_of-buffer.result.now c.index-edges-place.result c.index-buffer-at.result c.requires.shape c.requires.covered c.edges_of-edges.ensures c.index-edges-place.is c.buffer_of-buffer.ensures c.index-buffer-at.is))
 
-pub exchange-requires-clause-within : goal.exchange-requires-clause-within
-exchange-requires-clause-within c =
-    read_place c.args.node.now c.args.place c.args.at c.edges_of.result.now c.buffer_of.result.now c.index-edges_of-place.result c.index-buffer_of-at.result
-    (read_at c.args.node.now c.args.place c.args.at c.edges_of.result.now c.buffer_of.result.now c.index-edges_of-place.result c.index-buffer_of-at.result c.requires.shape c.requires.covered c.edges_of.ensures c.index-edges_of-place.is c.buffer_of.ensures c.index-buffer_of-at.is)
+pub overflow_add-place : goal.overflow_add-place
+overflow_add-place c =
+    omega (arith, read_few c.args.node.now c.args.place c.args.at c.edges_of-edges.result.now c.buffer_of-buffer.result.now c.index-edges-place.result c.index-buffer-at.result
+    (read_at c.args.node.now c.args.place c.args.at c.edges_of-edges.result.now c.buffer_of-buffer.result.now c.index-edges-place.result c.index-buffer-at.result c.requires.shape c.requires.covered c.edges_of-edges.ensures c.index-edges-place.is c.buffer_of-buffer.ensures c.index-buffer-at.is))
 
-pub exchange-requires-clause-fits : goal.exchange-requires-clause-fits
-exchange-requires-clause-fits c =
-    read_fits c.args.node.now c.args.place c.args.at c.edges_of.result.now c.buffer_of.result.now c.index-edges_of-place.result c.in_ok-edge.edge c.index-buffer_of-at.result c.from_vec.result
-    (read_at c.args.node.now c.args.place c.args.at c.edges_of.result.now c.buffer_of.result.now c.index-edges_of-place.result c.index-buffer_of-at.result c.requires.shape c.requires.covered c.edges_of.ensures c.index-edges_of-place.is c.buffer_of.ensures c.index-buffer_of-at.is)
-    (c.from_vec.ensures ∙ c.in_ok-push.ensures.items ∙ ap (λ (l : List Edge). l ++ c.in_ok-edge.edge ∷ []) c.new-list.ensures.items) c.in_ok-edge.ensures
+pub split_at-requires : goal.split_at-requires
+split_at-requires c =
+    read_low c.args.node.now c.args.place c.args.at c.edges_of-edges.result.now c.buffer_of-buffer.result.now c.index-edges-place.result c.index-buffer-at.result
+    (read_at c.args.node.now c.args.place c.args.at c.edges_of-edges.result.now c.buffer_of-buffer.result.now c.index-edges-place.result c.index-buffer-at.result c.requires.shape c.requires.covered c.edges_of-edges.ensures c.index-edges-place.is c.buffer_of-buffer.ensures c.index-buffer-at.is)
+
+pub run_length-count-requires : goal.run_length-count-requires
+run_length-count-requires c =
+    subst AreRising (sym c.split_at.ensures.back)
+    (read_rising c.args.node.now c.args.place c.args.at c.edges_of-edges.result.now c.buffer_of-buffer.result.now c.index-edges-place.result c.index-buffer-at.result
+    (read_at c.args.node.now c.args.place c.args.at c.edges_of-edges.result.now c.buffer_of-buffer.result.now c.index-edges-place.result c.index-buffer-at.result c.requires.shape c.requires.covered c.edges_of-edges.ensures c.index-edges-place.is c.buffer_of-buffer.ensures c.index-buffer-at.is))
+
+pub join-requires-clause-loose : goal.join-requires-clause-loose
+join-requires-clause-loose c =
+    read_loose c.args.node.now c.args.place c.args.at c.run_length-count.result c.edges_of-edges.result.now c.buffer_of-buffer.result.now c.index-edges-place.result c.in_ok-edge.edge c.index-buffer-at.result
+    (read_at c.args.node.now c.args.place c.args.at c.edges_of-edges.result.now c.buffer_of-buffer.result.now c.index-edges-place.result c.index-buffer-at.result c.requires.shape c.requires.covered c.edges_of-edges.ensures c.index-edges-place.is c.buffer_of-buffer.ensures c.index-buffer-at.is)
+    (subst (λ (l : List Edge). IsRun c.buffer_of-buffer.result.now c.args.at l c.run_length-count.result) c.split_at.ensures.back c.run_length-count.ensures.run) c.in_ok-edge.ensures
 
 pub returns : goal.returns
 returns c =
-    on_decided c.args.node.now c.args.place c.args.at c.edges_of.result.now c.buffer_of.result.now c.index-edges_of-place.result c.in_ok-edge.edge c.index-buffer_of-at.result c.from_vec.result c.exchange.result
-    (read_at c.args.node.now c.args.place c.args.at c.edges_of.result.now c.buffer_of.result.now c.index-edges_of-place.result c.index-buffer_of-at.result c.requires.shape c.requires.covered c.edges_of.ensures c.index-edges_of-place.is c.buffer_of.ensures c.index-buffer_of-at.is)
-    (c.from_vec.ensures ∙ c.in_ok-push.ensures.items ∙ ap (λ (l : List Edge). l ++ c.in_ok-edge.edge ∷ []) c.new-list.ensures.items) c.in_ok-edge.ensures c.exchange.ensures.node
+    on_decided c.args.node.now c.args.place c.args.at c.run_length-count.result c.edges_of-edges.result.now c.buffer_of-buffer.result.now c.index-edges-place.result c.in_ok-edge.edge c.index-buffer-at.result c.join.result
+    (read_at c.args.node.now c.args.place c.args.at c.edges_of-edges.result.now c.buffer_of-buffer.result.now c.index-edges-place.result c.index-buffer-at.result c.requires.shape c.requires.covered c.edges_of-edges.ensures c.index-edges-place.is c.buffer_of-buffer.ensures c.index-buffer-at.is)
+    (subst (λ (l : List Edge). IsRun c.buffer_of-buffer.result.now c.args.at l c.run_length-count.result) c.split_at.ensures.back c.run_length-count.ensures.run) c.in_ok-edge.ensures c.join.ensures
