@@ -1,2 +1,5 @@
+pub mod NamingLemmas
+pub mod PagerLemmas
 pub mod ReadLemmas
+pub mod ReaderLemmas
 pub mod SlotLemmas

@@ -1,2 +1,5 @@
+pub mod Pagers
+pub mod Places
+pub mod Readers
 pub mod Slots
 pub mod Writes

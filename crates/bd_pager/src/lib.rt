@@ -1,12 +1,17 @@
-//! Nodes over a device: read from slots and written to them. The store itself, `Pager`, isn't here
-//! yet.
-//! The layers above may use the contracts of `read_node`, `write_node` and `write_nodes`, and the
-//! law that slots survive what others write.
+//! Nodes over a device: read from slots and written to them. `Pager` is to be the store of them; it
+//! reads so far, and how nodes are changed comes next.
+//! The layers above may use the contracts of `Pager`, `read_node`, `write_node` and `write_nodes`,
+//! and the law that slots survive what others write.
 #![tactic(auto)]
 
 pub mod laws;
+mod naming;
+mod pager;
+mod place;
+mod reader;
 mod reading;
 mod slots;
 
+pub use pager::Pager;
 pub use reading::read_node;
 pub use slots::{SlotWrite, write_node, write_nodes};

@@ -12,10 +12,10 @@ ghost use Rattle.bd_reclaim.specs.Reclaimed.{IsDecideStep};
 
 use crate::Cover;
 use crate::covering::newest;
-use bd_inner::{end_of, sweep};
+use bd_inner::sweep;
 use bd_keys::Bytes;
 use bd_message::Message;
-use bd_node::{Edge, Edges, Items, Node, Step};
+use bd_node::{Edge, Edges, Items, Node, Step, end_of};
 use bd_path::{Fetched, buffer_of, change_step, edges_of};
 use std::alloc::{AllocError, Global};
 

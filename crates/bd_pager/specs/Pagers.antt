@@ -1,0 +1,152 @@
+-- What a pager is seen as.
+use Rattle.std.specs.Prelude.{◌≡◌, ◌≤◌, ◌⊎◌, ◌==◌, ◌&&◌, ◌++◌, ⊤, ℕ, Bool, true, false, List, length, Option, None, Some, IsSome, nat_eq, slice_index, slice_index_or}
+use Rattle.std.specs.List.{list_any}
+use Rattle.std.specs.Map.{lookup}
+use Rattle.bd_slots.specs.Layout.{slot_block}
+use Rattle.bd_device.specs.Blocks.{Image}
+use Rattle.bd_device.specs.Device.{OnlyReads}
+use Rattle.bd_device.specs.declared.device.Device.{Ghosts}
+use Rattle.bd_format.specs.Decoding.{node_in}
+use Rattle.bd_cache.specs.declared.cache.NodeCache.{NodeCache}
+use Rattle.bd_node.specs.declared.node.Node.{Node}
+use Rattle.bd_node.specs.Nodes.{buffer_size}
+use Rattle.bd_node.specs.Meaning.{Nodes}
+use Rattle.bd_node.specs.Tables.{Table, IsTable, IsSound}
+use Rattle.bd_table.specs.Tables.{AreFreeSlots, slots_of}
+use Rattle.bd_table.specs.declared.table.Table.{Table as Checkpoint}
+use Rattle.bd_table.specs.declared.table.TableEntry.{TableEntry}
+use Rattle.bd_pager.specs.Slots.{slot_bytes}
+use Rattle.bd_pager.specs.Places.{Spots, refs_in, level_in, copy_in, told, nodes_at, AreCached, ArePlaced, IsBadSpot}
+use Rattle.bd_pager.specs.declared.place.Place.{Place}
+use Rattle.bd_pager.specs.declared.place.Place.TheVariants.{Memory, Slot}
+use Rattle.bd_pager.specs.declared.place.Spot.{Spot}
+use Rattle.bd_pager.specs.declared.reader.NodeReader.{NodeReader}
+
+-- the device, what is known of each kept node, the last checkpoint's table with its slots, the
+-- slots that this doesn't hold, the root, the size of what waits in it, the next id, how many nodes
+-- were fetched or made, the nodes that were read, and whether the device was lent since
+pub record Paged (D : Type 0) : Type 0 where
+  pub dev : D
+  pub spots : List (ℕ × Spot)
+  pub saved : Checkpoint
+  pub at : List ℕ
+  pub spare : List Bool
+  pub root : ℕ
+  pub size : ℕ
+  pub next : ℕ
+  pub visits : ℕ
+  pub cache : NodeCache
+  pub is_lent : Bool
+
+-- ---- nodes
+
+abbrev pub spots_of : {D : Type 0} → Paged D → Spots
+spots_of p id = lookup (nat_eq id) p.spots
+
+-- the checkpoint has the node
+abbrev pub is_saved : List TableEntry → ℕ → Bool
+is_saved entries id = list_any (λ e. e.id == id) entries
+
+-- the node isn't where the checkpoint has it
+abbrev pub is_changed_place : List Bool → Place → Bool
+is_changed_place spare (Memory node slot) = true
+is_changed_place spare (Slot slot copy) = slice_index_or spare slot true
+
+abbrev pub is_changed : List Bool → Option Spot → Bool
+is_changed spare None = false
+is_changed spare (Some s) = is_changed_place spare s.place
+
+-- the checkpoint has the node, and it was changed since
+abbrev pub touched_at : List TableEntry → List Bool → Spots → ℕ → Bool
+touched_at entries spare spots id = is_saved entries id && is_changed spare (spots id)
+
+-- the table of kept nodes
+abbrev pub table_at : Spots → ℕ → ℕ → ℕ → (ℕ → Bool) → Table
+table_at spots root size next touched = record {
+  count = λ id. refs_in (spots id);
+  level = λ id. level_in (spots id);
+  root = root;
+  size = size;
+  next = next;
+  touched = touched;
+}
+
+abbrev pub table_of : {D : Type 0} → Paged D → Table
+table_of p = table_at (spots_of p) p.root p.size p.next
+    (touched_at p.saved.entries p.spare (spots_of p))
+
+-- the nodes, in memory or in slots
+abbrev pub nodes_of : {D : Type 0} → Ghosts D → Paged D → Nodes
+nodes_of g p = nodes_at (g.contents p.dev) (spots_of p)
+
+-- a copy in memory of what a slot has is what the slot's bytes encode
+abbrev pub IsRightPlace : Image → Place → Type 0
+IsRightPlace image (Memory node slot) = ⊤
+IsRightPlace image (Slot slot None) = ⊤
+IsRightPlace image (Slot slot (Some node)) = node_in (slot_bytes image slot) ≡ Some node.value
+
+-- the device tells its contents, and copies are what their slots have
+pub record IsKnownOver (contents : Option Image) (spots : Spots) : Type 0 where
+  pub contents_told : IsSome contents
+  pub right : (id : ℕ) (s : Spot) → spots id ≡ Some s → IsRightPlace (told contents) s.place
+
+abbrev pub is_known : {D : Type 0} → Ghosts D → Paged D → Type 0
+is_known g p = IsKnownOver (g.contents p.dev) (spots_of p)
+
+-- ---- damage
+
+-- the block is that of a slot without its node, or else the first one of the checkpoint's table,
+-- where the nodes aren't sound
+abbrev pub IsDamaged : Option Image → Spots → Table → List ℕ → ℕ → Type 0
+IsDamaged contents spots t at b =
+    ((id : ℕ) × IsBadSpot contents (spots id) b)
+    ⊎ ((b ≡ slot_block (slice_index at 0)) × ¬ IsSound (nodes_at contents spots) t)
+
+-- a bad block, where the nodes are known
+abbrev pub is_bad : {D : Type 0} → Ghosts D → Paged D → ℕ → Type 0
+is_bad g p b =
+    is_known g p → IsDamaged (g.contents p.dev) (spots_of p) (table_of p) p.at b
+
+-- ---- what holds of a pager
+
+-- it is a node in which so many bytes wait
+abbrev pub IsOfSize : ℕ → Option Node → Type 0
+IsOfSize size None = ⊥
+IsOfSize size (Some n) = buffer_size n ≡ size
+
+-- what holds whatever the device has: each kept node is named; the root is in memory; the spare
+-- slots are those that the checkpoint doesn't hold
+pub record IsPaged {D : Type 0} (contents : Option Image) (p : Paged D) : Type 0 where
+  pub table : IsTable (table_of p)
+  pub used : (id : ℕ) (s : Spot) → spots_of p id ≡ Some s → 1 ≤ s.refs
+  pub placed : ArePlaced (spots_of p)
+  pub root : IsOfSize p.size (copy_in (spots_of p p.root))
+  pub cached : AreCached contents p.is_lent (spots_of p) p.cache
+  pub spare : AreFreeSlots (length p.spare) (p.at ++ slots_of p.saved.entries) p.spare
+
+-- what it is seen as
+abbrev pub seen : {D : Type 0} → NodeReader D → Checkpoint → List ℕ → List Bool → ℕ → ℕ → ℕ → ℕ
+    → Paged D
+seen reader saved at spare root size next visits = record {
+  dev = reader.dev;
+  spots = reader.spots.entries;
+  saved = saved;
+  at = at;
+  spare = spare;
+  root = root;
+  size = size;
+  next = next;
+  visits = visits;
+  cache = reader.cache;
+  is_lent = reader.is_lent;
+}
+
+-- only the device was read, and what is counted and kept of reads has changed
+pub record IsReadOf {D : Type 0} (g : Ghosts D) (old new : Paged D) : Type 0 where
+  pub device : OnlyReads g old.dev new.dev
+  pub rest : new ≡ record old {
+    dev = new.dev;
+    visits = new.visits;
+    cache = new.cache;
+    is_lent = new.is_lent;
+  }

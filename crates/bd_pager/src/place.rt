@@ -1,0 +1,24 @@
+//! Where kept nodes are.
+
+use bd_node::Node;
+use std::rc::Rc;
+
+/// Where a node is.
+#[derive(Drop)]
+pub enum Place {
+    /// In memory, since it was changed or made and not written after that. It may have a slot of
+    /// its own.
+    Memory { node: Rc<Node>, slot: Option<u32> },
+    /// In a slot, as it is. The root's node is in memory too.
+    Slot { slot: u32, node: Option<Rc<Node>> },
+}
+
+/// What is known of a kept node.
+#[derive(Drop)]
+pub struct Spot {
+    /// How often it is named.
+    pub refs: u64,
+    /// How far it stands above the leaves.
+    pub level: u32,
+    pub place: Place,
+}
