@@ -12,7 +12,7 @@ use bd_inner::exchange;
 use bd_keys::Bytes;
 use bd_message::Message;
 use bd_node::{Edge, Items, Node, Step};
-use bd_path::{Fetched, buffer_of, change_step, edges_of};
+use bd_path::{Fetched, change_step};
 use std::alloc::{AllocError, Global};
 
 /// The step that changes a node to what the message at a place makes of its edge at a place.
@@ -37,7 +37,7 @@ fn decided(alloc: Global, node: &Node, place: usize, at: usize) -> Result<Node, 
     requires covered { (cover : Cover) × IsCovered cover node.now place at }
     ensures { IfOk result (IsDecided node.now place at) }
 {
-    let edge = decided_edge(alloc, &edges_of(node)[place], at, &buffer_of(node)[at])?;
+    let edge = decided_edge(alloc, &node.edges()[place], at, &node.buffer()[at])?;
     let mut list = Vec::new(alloc);
     list.push(edge)?;
     exchange(alloc, node, place, Items::from_vec(list))

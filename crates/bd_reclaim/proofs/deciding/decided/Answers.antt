@@ -5,23 +5,23 @@ use Rattle.bd_reclaim.proofs.deciding.decided.Goals as goal
 
 pub decided_edge-requires-clause-low : goal.decided_edge-requires-clause-low
 decided_edge-requires-clause-low c =
-    message_low c.args.node.now c.args.at c.index-buffer_of-at.result c.requires.shape
-    (read_message c.args.node.now c.args.place c.args.at c.edges_of.result.now c.buffer_of.result.now c.index-edges_of-place.result c.index-buffer_of-at.result
-    (read_at c.args.node.now c.args.place c.args.at c.edges_of.result.now c.buffer_of.result.now c.index-edges_of-place.result c.index-buffer_of-at.result c.requires.shape c.requires.covered c.edges_of.ensures c.index-edges_of-place.is c.buffer_of.ensures c.index-buffer_of-at.is))
+    message_low c.args.node.now c.args.at c.index-buffer-at.result c.requires.shape
+    (read_message c.args.node.now c.args.place c.args.at c.edges.result.now c.buffer.result.now c.index-edges-place.result c.index-buffer-at.result
+    (read_at c.args.node.now c.args.place c.args.at c.edges.result.now c.buffer.result.now c.index-edges-place.result c.index-buffer-at.result c.requires.shape c.requires.covered c.edges.ensures c.index-edges-place.is c.buffer.ensures c.index-buffer-at.is))
 
 pub exchange-requires-clause-within : goal.exchange-requires-clause-within
 exchange-requires-clause-within c =
-    read_place c.args.node.now c.args.place c.args.at c.edges_of.result.now c.buffer_of.result.now c.index-edges_of-place.result c.index-buffer_of-at.result
-    (read_at c.args.node.now c.args.place c.args.at c.edges_of.result.now c.buffer_of.result.now c.index-edges_of-place.result c.index-buffer_of-at.result c.requires.shape c.requires.covered c.edges_of.ensures c.index-edges_of-place.is c.buffer_of.ensures c.index-buffer_of-at.is)
+    read_place c.args.node.now c.args.place c.args.at c.edges.result.now c.buffer.result.now c.index-edges-place.result c.index-buffer-at.result
+    (read_at c.args.node.now c.args.place c.args.at c.edges.result.now c.buffer.result.now c.index-edges-place.result c.index-buffer-at.result c.requires.shape c.requires.covered c.edges.ensures c.index-edges-place.is c.buffer.ensures c.index-buffer-at.is)
 
 pub exchange-requires-clause-fits : goal.exchange-requires-clause-fits
 exchange-requires-clause-fits c =
-    read_fits c.args.node.now c.args.place c.args.at c.edges_of.result.now c.buffer_of.result.now c.index-edges_of-place.result c.in_ok-edge.edge c.index-buffer_of-at.result c.from_vec.result
-    (read_at c.args.node.now c.args.place c.args.at c.edges_of.result.now c.buffer_of.result.now c.index-edges_of-place.result c.index-buffer_of-at.result c.requires.shape c.requires.covered c.edges_of.ensures c.index-edges_of-place.is c.buffer_of.ensures c.index-buffer_of-at.is)
+    read_fits c.args.node.now c.args.place c.args.at c.edges.result.now c.buffer.result.now c.index-edges-place.result c.in_ok-edge.edge c.index-buffer-at.result c.from_vec.result
+    (read_at c.args.node.now c.args.place c.args.at c.edges.result.now c.buffer.result.now c.index-edges-place.result c.index-buffer-at.result c.requires.shape c.requires.covered c.edges.ensures c.index-edges-place.is c.buffer.ensures c.index-buffer-at.is)
     (c.from_vec.ensures ∙ c.in_ok-push.ensures.items ∙ ap (λ (l : List Edge). l ++ c.in_ok-edge.edge ∷ []) c.new-list.ensures.items) c.in_ok-edge.ensures
 
 pub returns : goal.returns
 returns c =
-    on_decided c.args.node.now c.args.place c.args.at c.edges_of.result.now c.buffer_of.result.now c.index-edges_of-place.result c.in_ok-edge.edge c.index-buffer_of-at.result c.from_vec.result c.exchange.result
-    (read_at c.args.node.now c.args.place c.args.at c.edges_of.result.now c.buffer_of.result.now c.index-edges_of-place.result c.index-buffer_of-at.result c.requires.shape c.requires.covered c.edges_of.ensures c.index-edges_of-place.is c.buffer_of.ensures c.index-buffer_of-at.is)
+    on_decided c.args.node.now c.args.place c.args.at c.edges.result.now c.buffer.result.now c.index-edges-place.result c.in_ok-edge.edge c.index-buffer-at.result c.from_vec.result c.exchange.result
+    (read_at c.args.node.now c.args.place c.args.at c.edges.result.now c.buffer.result.now c.index-edges-place.result c.index-buffer-at.result c.requires.shape c.requires.covered c.edges.ensures c.index-edges-place.is c.buffer.ensures c.index-buffer-at.is)
     (c.from_vec.ensures ∙ c.in_ok-push.ensures.items ∙ ap (λ (l : List Edge). l ++ c.in_ok-edge.edge ∷ []) c.new-list.ensures.items) c.in_ok-edge.ensures c.exchange.ensures.node

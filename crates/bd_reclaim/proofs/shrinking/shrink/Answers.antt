@@ -1,12 +1,10 @@
-use Rattle.std.proofs.Common.{◌≡◌, ◌<◌, sym, subst, Some}
+use Rattle.std.proofs.Common.{◌≡◌, ◌<◌, Some}
 use Rattle.std.specs.Prelude.{OnOk}
-use Rattle.bd_message.specs.KeyMaps.{HasMapCause}
 use Rattle.bd_node.specs.declared.node.Node.{Node}
 use Rattle.bd_node.specs.Meaning.{Nodes}
-use Rattle.bd_node.specs.Tables.{Table, IsLower}
-use Rattle.bd_node.specs.Steps.{IsWornBy}
+use Rattle.bd_node.specs.Tables.{Table}
 use Rattle.bd_reclaim.specs.Walks.{IsThin}
-use Rattle.bd_reclaim.specs.Reclaimed.{IsReclaimed, IsShrunk, root_only, left_over}
+use Rattle.bd_reclaim.specs.Reclaimed.{IsReclaimed, IsShrunk, left_over}
 use Rattle.bd_reclaim.proofs.Shrinks.{after_reads, before_reads, cause_again}
 use Rattle.bd_reclaim.proofs.shrinking.shrink.Goals as goal
 
