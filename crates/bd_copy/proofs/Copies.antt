@@ -1,6 +1,6 @@
 -- A copy that becomes the child of an edge alone.
-use Rattle.std.proofs.Common.{◌≡◌, ℕ, ◌+◌, ◌-◌, ◌^◌, ◌<◌, ◌≤◌, List, [], ◌∷◌, ◌++◌, length, drop, refl, sym, ap, subst, ◌∙◌, Option, None, Some, arith, inl, inr, ◌⊎◌, get_or, Result, Ok, Err, OnOk}
-use Rattle.std.specs.Prelude.{IfOk, slice_get}
+use Rattle.std.proofs.Common.{◌≡◌, ℕ, ◌+◌, ◌^◌, ◌<◌, ◌≤◌, List, [], ◌∷◌, ◌++◌, length, drop, refl, sym, ap, subst, ◌∙◌, Option, Some, arith, inl, inr, ◌⊎◌, get_or, Result, Ok, Err, OnOk}
+use Rattle.std.specs.Prelude.{IfOk}
 use Rattle.std.proofs.lemmas.Bool.{cases_eq}
 use Rattle.std.proofs.lemmas.Option.{same_Some, none-some}
 use Rattle.bd_keys.specs.Keys.{IsKey}
@@ -9,19 +9,14 @@ use Rattle.bd_node.specs.declared.node.Node.{Node}
 use Rattle.bd_node.specs.declared.node.Node.TheVariants.{Leaf, Inner}
 use Rattle.bd_limits.specs.Limits.{edge_limit}
 use Rattle.bd_node.specs.declared.node.Step.{Step}
-use Rattle.bd_node.specs.Nodes.{level_of, buffer_size, names, times, child_at, node_at, node_has}
-use Rattle.bd_node.specs.Meaning.{Nodes, at, found_at}
+use Rattle.bd_node.specs.Nodes.{level_of, buffer_size, names, times, child_at, node_at}
+use Rattle.bd_node.specs.Meaning.{Nodes, at}
 use Rattle.bd_node.specs.Shape.{IsEdge, IsShape}
 use Rattle.bd_node.specs.Tables.{Table, IsKept, IsTable, IsLower, IsNodeOf, IsSound}
 use Rattle.bd_node.specs.Private.{IsPrivate}
-use Rattle.bd_node.specs.Private.IsPrivate.{root_alone, alone}
-use Rattle.bd_node.specs.Steps.{given, level_or, IsStep, IsInPlace, IsTableAfter, IsCommitted}
-use Rattle.bd_node.specs.Steps.HasRoom.{no_rise}
+use Rattle.bd_node.specs.Steps.{IsStep, IsInPlace, IsTableAfter, IsCommitted}
 use Rattle.bd_node.specs.Stores.{visited}
 use Rattle.bd_node.proofs.Lookup.{Agree, named_has, each_named, node_has-key, count-cons_other}
-use Rattle.bd_node.proofs.Meanings.{at-meets}
-use Rattle.bd_node.proofs.Sound.{sound-levelled, named_lower, kept_there}
-use Rattle.bd_node.proofs.Stepping.{after-none}
 use Rattle.bd_node.specs.Parts.{edges_of, buffer_of, end_at, IsEdgeAt}
 use Rattle.bd_inner.specs.Compaction.{IsCompacted}
 use Rattle.bd_inner.specs.Exchange.{exchanged, FitsAt, way_to}

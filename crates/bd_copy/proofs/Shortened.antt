@@ -1,5 +1,5 @@
 -- Nodes whose long sources were looked through.
-use Rattle.std.proofs.Common.{◌≡◌, ℕ, zero, suc, ◌+◌, ◌^◌, ◌<◌, ◌≤◌, Bool, true, false, not, ◌&&◌, cond, List, [], ◌∷◌, ◌++◌, length, take, drop, get_or, refl, sym, ap, subst, ◌∙◌, Option, None, Some, arith, inl, inr}
+use Rattle.std.proofs.Common.{◌≡◌, ℕ, zero, suc, ◌+◌, ◌^◌, ◌<◌, ◌≤◌, Bool, true, false, cond, List, [], ◌∷◌, ◌++◌, length, take, drop, get_or, refl, sym, ap, subst, ◌∙◌, Option, None, Some, arith, inl, inr}
 use Rattle.std.specs.List.{AllByRecursion, AllZip, flat_map, sum_by}
 use Rattle.std.specs.Option.{option_to_list}
 use Rattle.std.proofs.lemmas.Bool.{cases_lt}
@@ -9,12 +9,12 @@ use Rattle.std.proofs.lemmas.Slice.Zip.{AllZip-long}
 use Rattle.std.specs.Ordering.{is_lt}
 use Rattle.bd_limits.specs.Limits.{key_limit, buffer_limit, edge_limit}
 use Rattle.bd_keys.specs.Keys.{key_cmp, IsKey}
-use Rattle.bd_keys.proofs.Order.{IsKey-rest, IsKey-drop}
+use Rattle.bd_keys.proofs.Order.{IsKey-drop}
 use Rattle.bd_message.specs.declared.message.Message.{Message}
 use Rattle.bd_message.specs.declared.message.Message.TheVariants.{Put, Del, Patch, Cut, Goto}
 use Rattle.bd_message.specs.Messages.{IsMessage, size}
-use Rattle.bd_message.specs.Effect.{begins, rest, is_cut, act, acts}
-use Rattle.bd_message.proofs.Prefixes.{least_nil, is_cut-all}
+use Rattle.bd_message.specs.Effect.{begins, rest, act, acts}
+use Rattle.bd_message.proofs.Prefixes.{is_cut-all}
 use Rattle.bd_node.specs.declared.node.Edge.{Edge}
 use Rattle.bd_node.specs.declared.node.Node.{Node}
 use Rattle.bd_node.specs.declared.node.Node.TheVariants.{Inner}
@@ -23,7 +23,6 @@ use Rattle.bd_node.specs.Meaning.{Nodes, at}
 use Rattle.bd_node.specs.Shape.{end_before, EachEdge, IsChild, IsEdge}
 use Rattle.bd_node.specs.Tables.{Table, IsTable, IsLower, IsSound}
 use Rattle.bd_node.proofs.Lookup.{each_first, each_second, each_both}
-use Rattle.bd_node.proofs.Edges.{not_less_lt}
 use Rattle.bd_inner.specs.Clipping.{IsLongEdge, IsLongMessage, IsLong}
 use Rattle.bd_inner.specs.Compaction.{IsLoose}
 use Rattle.bd_resolve.specs.declared.following.Target.{Target}

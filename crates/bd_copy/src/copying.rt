@@ -19,7 +19,7 @@ use bd_inner::exchange;
 use bd_keys::Bytes;
 use bd_message::MapFault;
 use bd_node::{Change, Edge, Items, Node, NodeStore, Step};
-use bd_path::{Fetched, edges_of, path_step};
+use bd_path::{Fetched, path_step};
 use std::alloc::{AllocError, Global};
 
 /// Makes a node the child of a private node's edge that has a child: the node has at each key what
@@ -107,7 +107,7 @@ fn redirected(alloc: Global, node: &Node, place: usize, child: u64) -> Result<No
     ensures { IfOk result (λ n. (e : Edge) → IsEdgeAt node.now place e
         → IsRedirected node.now place e child n) }
 {
-    let edge = way_to(alloc, &edges_of(node)[place], child)?;
+    let edge = way_to(alloc, &node.edges()[place], child)?;
     let mut list = Vec::new(alloc);
     list.push(edge)?;
     exchange(alloc, node, place, Items::from_vec(list))

@@ -21,7 +21,7 @@ use bd_inner::{clip, compact};
 use bd_leaf as leaf;
 use bd_message::MapFault;
 use bd_node::{Node, NodeStore};
-use bd_path::{Fetched, edges_of, fetch};
+use bd_path::{Fetched, fetch};
 use std::alloc::Global;
 
 /// Copies the child of a private node's edge, which was fetched before: the copy is made, keeps the
@@ -55,7 +55,7 @@ pub fn privatise<S: NodeStore>(
         (S.bad store.new) (IsWornFor (IsPrivatiseStep (AreKnown S.NodeStore store.old)
         (S.nodes store.old) (S.table store.old) parent.now place) ⊥ (S.table store.old)) result }
 {
-    let edge = &edges_of(&parent.node)[place];
+    let edge = &parent.node.edges()[place];
     let Some(id) = edge.child else { unreachable!() };
     let child = fetch(store, id)?;
     let copy = freed(alloc, store, &child.node, edge.source.as_slice())?;

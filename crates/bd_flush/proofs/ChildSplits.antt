@@ -1,13 +1,12 @@
 -- A child that is split below its parent.
-use Rattle.std.proofs.Common.{◌≡◌, ℕ, zero, suc, ◌+◌, ◌-◌, ◌^◌, ◌<◌, ◌≤◌, List, [], ◌∷◌, ◌++◌, length, take, drop, map, get_or, refl, sym, ap, subst, ◌∙◌, Option, None, Some, arith, inl, inr, ◌⊎◌, length-append, length-take}
+use Rattle.std.proofs.Common.{◌≡◌, ℕ, ◌+◌, ◌-◌, ◌^◌, ◌<◌, ◌≤◌, List, [], ◌∷◌, ◌++◌, length, take, drop, refl, sym, ap, subst, ◌∙◌, Option, None, Some, arith, inl, inr, ◌⊎◌, length-append, length-take}
 use Rattle.std.specs.Prelude.{slice_get}
 use Rattle.std.specs.List.{AllByRecursion, flat_map}
 use Rattle.std.specs.Ordering.{is_lt}
 use Rattle.std.specs.Option.{option_to_list}
 use Rattle.std.proofs.lemmas.Bool.{cases_eq, cases_Bool, cond-true, cond-false}
-use Rattle.std.proofs.lemmas.Option.{same_Some, none-some, slice_get_read}
-use Rattle.std.proofs.lemmas.List.{take-append-drop, get_or-drop}
-use Rattle.std.proofs.lemmas.List.Concat.{flat_map-append}
+use Rattle.std.proofs.lemmas.Option.{same_Some}
+use Rattle.std.proofs.lemmas.List.{take-append-drop}
 use Rattle.std.proofs.lemmas.Cmp.{nat_list_cmp_total as total}
 use Rattle.std.proofs.Math.Seq.{take-append_seam}
 use Rattle.bd_limits.specs.Limits.{key_limit}
@@ -22,22 +21,21 @@ use Rattle.bd_node.specs.Meaning.{Nodes, at}
 use Rattle.bd_node.specs.Shape.{end_before, IsEdge, IsShape}
 use Rattle.bd_node.specs.Tables.{Table, IsKept, IsTable, IsLower, IsNodeOf, IsSound, one_if}
 use Rattle.bd_node.specs.Private.{IsPrivate}
-use Rattle.bd_node.proofs.Lookup.{Agree, each_second, each_named, each_dropped, named_has, acts-same, node_at-same, node_has-key, count-cons_same, count-cons_other}
+use Rattle.bd_node.proofs.Lookup.{Agree, each_second, each_named, each_dropped, named_has, acts-same, node_at-same, node_has-key, count-cons_other}
 use Rattle.bd_node.proofs.Meanings.{at-meets}
 use Rattle.bd_node.proofs.Sound.{sound-levelled, counted}
 use Rattle.bd_node.proofs.Edges.{lt_is, lt_isnt, least_over}
-use Rattle.bd_node.specs.Keeping.{staying}
-use Rattle.bd_inner.specs.Compaction.{IsCompacted, lowered}
+use Rattle.bd_inner.specs.Compaction.{IsCompacted}
 use Rattle.bd_inner.proofs.Fitting.{own_shape, seen_fits}
 use Rattle.bd_node.specs.Parts.{edges_of, buffer_of, end_at, IsEdgeAt}
 use Rattle.bd_inner.specs.Halves.{IsHalf, AreHalves}
 use Rattle.bd_inner.specs.Moving.{lifted}
 use Rattle.bd_inner.specs.Exchange.{exchanged, IsKeyOf, FitsAt}
-use Rattle.bd_inner.proofs.Compacting.{count_names, count_names-append, edge_names-lowered, compacted_shape, compacted_level, compacted_meaning, compacted_size, compacted_times}
-use Rattle.bd_inner.proofs.Exchanged.{in_range, at_place, exchanged_shape, meaning_inside, meaning_outside, meaning_without}
-use Rattle.bd_node.proofs.Parts.{edge_within, some_edge, inner_of, edge_here}
-use Rattle.bd_path.proofs.EdgesAt.{as_edge, edge_named, child_named, some_next}
-use Rattle.bd_inner.proofs.Named.{times_exchanged, exchanged_same, count_own, level_exchanged, compacted_named, exchanged_named, size_exchanged, compacted_small}
+use Rattle.bd_inner.proofs.Compacting.{count_names, count_names-append, compacted_shape, compacted_level, compacted_meaning, compacted_times}
+use Rattle.bd_inner.proofs.Exchanged.{in_range, exchanged_shape, meaning_inside, meaning_outside, meaning_without}
+use Rattle.bd_node.proofs.Parts.{some_edge, inner_of}
+use Rattle.bd_path.proofs.EdgesAt.{as_edge, child_named, some_next}
+use Rattle.bd_inner.proofs.Named.{times_exchanged, exchanged_same, count_own, level_exchanged, compacted_named, exchanged_named, compacted_small}
 use Rattle.bd_flush.specs.declared.children.Parts.{Parts}
 use Rattle.bd_flush.specs.declared.children.Side.TheVariants.{Lower, Both, Upper}
 use Rattle.bd_path.specs.Fetching.{IsEdgeTo, IsWayTo}

@@ -26,7 +26,7 @@ use Rattle.bd_inner.proofs.Compacting.{count_names, compacted_shape, compacted_l
 use Rattle.bd_inner.proofs.Fitting.{own_shape, way_fits}
 use Rattle.bd_inner.proofs.Exchanged.{exchanged_shape, pushed}
 use Rattle.bd_flush.specs.Pushes.{seen_by, unseen, IsWaitedFor, IsEdgeBatch, IsWay, IsNewLeaf}
-use Rattle.bd_inner.proofs.Named.{times_without, times_exchanged, exchanged_same, count_own, level_exchanged, compacted_named, exchanged_named, size_exchanged}
+use Rattle.bd_inner.proofs.Named.{times_without, times_exchanged, count_own, level_exchanged, compacted_named, exchanged_named, size_exchanged}
 use Rattle.bd_node.proofs.Parts.{inner_of}
 use Rattle.bd_path.proofs.EdgesAt.{some_next}
 use Rattle.bd_flush.proofs.ChildSplits.{asks_at}

@@ -1,5 +1,5 @@
 -- The keys of a Goto get edges of their own.
-use Rattle.std.specs.Prelude.{◌≡◌, ℕ, ◌<◌, ◌≤◌, List, [], ◌∷◌, length, Option, Some, slice_get}
+use Rattle.std.specs.Prelude.{◌≡◌, ℕ, ◌<◌, ◌≤◌, List, length, Option, Some, slice_get}
 use Rattle.bd_limits.specs.Limits.{room_edges}
 use Rattle.bd_message.specs.declared.message.Message.{Message}
 use Rattle.bd_node.specs.declared.node.Edge.{Edge}
@@ -12,7 +12,6 @@ use Rattle.bd_node.specs.Parts.{edges_of, buffer_of, end_at, IsEdgeAt}
 use Rattle.bd_path.specs.declared.fetching.Fetched.{Fetched}
 use Rattle.bd_path.specs.Fetching.{IsFetched}
 use Rattle.bd_flush.specs.GoingDown.{MayGoDown, child_level}
-use Rattle.bd_flush.specs.Pushes.{AllGoDown}
 use Rattle.bd_path.specs.Paths.{change_step}
 
 -- the message at a place is a Goto that is pending for an edge, whose keys end there, and may not go

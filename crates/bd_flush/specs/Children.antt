@@ -5,10 +5,9 @@ use Rattle.bd_keys.specs.Keys.{IsBelow, IsBelowEnd}
 use Rattle.bd_node.specs.declared.node.Edge.{Edge}
 use Rattle.bd_node.specs.declared.node.Node.{Node}
 use Rattle.bd_node.specs.declared.node.Step.{Step}
-use Rattle.bd_node.specs.Nodes.{buffer_size}
 use Rattle.bd_node.specs.Meaning.{Nodes}
 use Rattle.bd_node.specs.Private.{IsPrivate}
-use Rattle.bd_node.specs.Tables.{Table, IsKept, IsNodeOf}
+use Rattle.bd_node.specs.Tables.{Table}
 use Rattle.bd_inner.specs.Compaction.{IsCompacted}
 use Rattle.bd_node.specs.Parts.{edges_of, end_at, IsEdgeAt}
 use Rattle.bd_inner.specs.Halves.{AreHalves}

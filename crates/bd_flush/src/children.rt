@@ -26,7 +26,7 @@ use bd_keys::Bytes;
 use bd_limits::MAX_KEY;
 use bd_message::MapFault;
 use bd_node::{Change, Edge, Items, Node, NodeStore, Step, end_of};
-use bd_path::{Fetched, edges_of, path_step};
+use bd_path::{Fetched, path_step};
 use std::alloc::{AllocError, Global};
 
 /// Splits a child with 15 or 16 edges, below a parent with at most 14. These and the nodes above
@@ -131,7 +131,7 @@ fn split_below(
     ensures { IfOk result (λ found. MatchOption found (IsLongPivot node.now place child.now)
         (AreParts node.now place child.now next)) }
 {
-    let edge = edges_of(node)[place].clone()?;
+    let edge = node.edges()[place].clone()?;
     let halves = split(alloc, child)?;
     match over_halves(alloc, node, place, edge, halves, next)? {
         Halving::Short(parts) => Ok(Some(parts)),
@@ -168,7 +168,7 @@ pub fn over_halves(
 {
     let (first, pivot, second) = halves;
     let key = parting(alloc, &edge, &pivot)?;
-    match asked_side(&edge, end_of(edges_of(node), place), key.as_slice()) {
+    match asked_side(&edge, end_of(node.edges(), place), key.as_slice()) {
         Side::Lower => Ok(Halving::Short(one_half(alloc, node, place, edge, first)?)),
         Side::Upper => Ok(Halving::Short(one_half(alloc, node, place, edge, second)?)),
         Side::Both => {

@@ -20,7 +20,7 @@ use bd_inner::edge_to;
 use bd_leaf as leaf;
 use bd_message::MapFault;
 use bd_node::{Change, Edge, Entries, Node, NodeStore, Step, end_of};
-use bd_path::{Fetched, edges_of, path_step};
+use bd_path::{Fetched, path_step};
 use std::alloc::{AllocError, Global};
 
 /// Moves the oldest messages that a private node's edge without a child hasn't seen, at least one
@@ -105,7 +105,7 @@ fn way(alloc: Global, node: &Node, place: usize, child: u64) -> Result<Edge, All
     ensures { IfOk result (λ f. (e : Edge) → IsEdgeAt node.now place e
         → IsWay node.now place child e f) }
 {
-    let edges = edges_of(node);
+    let edges = node.edges();
     edge_to(alloc, &edges[place], end_of(edges, place), child)
 }
 

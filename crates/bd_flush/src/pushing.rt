@@ -29,7 +29,7 @@ use bd_keys::Bytes;
 use bd_leaf as leaf;
 use bd_message::{Counter, MapFault, Message};
 use bd_node::{Change, Edge, Entries, Entry, Node, NodeStore, Step, end_of};
-use bd_path::{Fetched, changes_over, edges_of};
+use bd_path::{Fetched, changes_over};
 use std::alloc::{AllocError, Global};
 
 /// Moves the oldest messages that a private node's edge hasn't seen, at least one and at most
@@ -201,7 +201,7 @@ fn leaf_parted(
     requires fits { entries_size new ≤ leaf_limit + batch_limit }
     ensures { IfOk result (IsPartedOver node.now place count new next) }
 {
-    let edge = seen_by(&edges_of(node)[place], count)?;
+    let edge = seen_by(&node.edges()[place], count)?;
     let halves = leaf_halves(new)?;
     over_halves(alloc, node, place, edge, halves, next)
 }
@@ -276,7 +276,7 @@ fn edge_batch(alloc: Global, node: &Node, place: usize) -> Result<Batch, AllocEr
     ensures { IfOk result (λ b. (e : Edge) → IsEdgeAt node.now place e
         → IsEdgeBatch node.now place e b) }
 {
-    batch_for(alloc, node, place, &edges_of(node)[place])
+    batch_for(alloc, node, place, &node.edges()[place])
 }
 
 // The messages that go down an edge in place of a node's.
@@ -287,7 +287,7 @@ pub fn batch_for(alloc: Global, node: &Node, place: usize, edge: &Edge) -> Resul
     requires waiting { CanMoveSome node.now place edge.now }
     ensures { IfOk result (IsEdgeBatch node.now place edge.now) }
 {
-    let edges = edges_of(node);
+    let edges = node.edges();
     next_batch(alloc, edge, end_of(edges, place), unseen(node, edge))
 }
 
@@ -320,7 +320,7 @@ fn relieved(alloc: Global, node: &Node, place: usize, count: usize) -> Result<No
     ensures { IfOk result (λ n. (e : Edge) → IsEdgeAt node.now place e
         → IsRelieved node.now place e count n) }
 {
-    let edge = seen_by(&edges_of(node)[place], count)?;
+    let edge = seen_by(&node.edges()[place], count)?;
     with_edge(alloc, node, place, edge)
 }
 

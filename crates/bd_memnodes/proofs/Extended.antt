@@ -14,7 +14,7 @@ use Rattle.bd_node.specs.declared.node.Step.{Step}
 use Rattle.bd_node.specs.Nodes.{buffer_size, appended, times}
 use Rattle.bd_node.specs.Meaning.{Nodes}
 use Rattle.bd_node.specs.Tables.{Table, IsKept, IsTable, IsSound, times_in, one_if, references}
-use Rattle.bd_node.specs.Steps.{changed_at, given, given_or, given_times, after, IsThere, IsChange, IsStep, IsRootOf, extend_step, added_times}
+use Rattle.bd_node.specs.Steps.{changed_at, given, given_or, given_times, after, IsThere, IsChange, IsStep, extend_step, added_times}
 use Rattle.bd_node.proofs.Sound.{kept_there, one_if-other}
 use Rattle.bd_node.proofs.Stepping.{given-old, given-new, changed_at-other, changed_has, after-none, after-some, by_given}
 use Rattle.bd_node.proofs.Extending.{root_changed, given_extended, extend_above, root_of_sound, root_inner, extended_size, times_extended, names_none}

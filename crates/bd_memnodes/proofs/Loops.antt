@@ -19,7 +19,7 @@ use Rattle.bd_node.proofs.Sound.{one_if-same, one_if-other}
 use Rattle.std.proofs.lemmas.Bool.{cases_eq}
 use Rattle.bd_memnodes.specs.declared.kept.Kept.{Kept}
 use Rattle.bd_memnodes.specs.Maps.{nodes_in, count_in, times_among, times_of}
-use Rattle.bd_memnodes.specs.Releasing.{IsReleasing, TakesBack, HasRoom, SameHead}
+use Rattle.bd_memnodes.specs.Releasing.{IsReleasing, IsOwing, TakesBack, HasRoom, SameHead}
 use Rattle.bd_memnodes.proofs.Taking.{same_owed, times_of-more}
 
 -- what taking back some names leaves
@@ -33,9 +33,9 @@ pub record TookBack (named : ℕ → ℕ) (old new : Kept) : Type 0 where
 -- of all names these are left
 pub record IsTaking (all left : List ℕ) (old new : Kept) : Type 0 where
   pub counts : (c : ℕ) → count_in new.counts c + times_among all c ≡ count_in old.counts c + times_among left c
-  pub taken : (first : Nodes) (next root : ℕ) (rest : ℕ → ℕ)
-      → IsReleasing first next root (nodes_in old.nodes) (count_in old.counts) (λ c. times_among all c + times_of old.dead.items c + rest c)
-      → IsReleasing first next root (nodes_in new.nodes) (count_in new.counts) (λ c. times_among left c + times_of new.dead.items c + rest c)
+  pub others : (first : Nodes) (next root : ℕ) (others : ℕ → ℕ)
+      → IsOwing first next root (λ c. times_among all c + others c) old
+      → IsOwing first next root (λ c. times_among left c + others c) new
   pub room : HasRoom new
   pub moved : 2 * hash_map_len new.nodes + vec_len new.dead ≤ 2 * hash_map_len old.nodes + vec_len old.dead
   pub head : SameHead old new
@@ -51,7 +51,7 @@ times_among-cons x xs c =
 pub taking_begun : (all : List ℕ) (old : Kept) → HasRoom old → IsTaking all all old old
 taking_begun all old room = record {
   counts = λ c. refl;
-  taken = λ first next root rest h. h;
+  others = λ first next root others h. h;
   room = room;
   moved = omega arith;
   head = record { root = refl; size = refl; next = refl };
@@ -64,14 +64,12 @@ one_taken all left x old mid new h took = record {
       let b : count_in mid.counts c + times_among all c ≡ count_in old.counts c + times_among (x ∷ left) c = h.counts c in
       let d : times_among (x ∷ left) c ≡ one_if x c + times_among left c = times_among-cons x left c in
       omega arith;
-  taken = λ first next root rest r.
-      same_owed first next root (nodes_in new.nodes) (count_in new.counts)
-      (λ c. times_of new.dead.items c + (times_among left c + rest c)) (λ c. times_among left c + times_of new.dead.items c + rest c) (λ c. omega arith)
-      (took.taken first next root (λ c. times_among left c + rest c)
+  others = λ first next root others owing.
+      took.taken.others first next root (λ c. times_among left c + others c)
       (same_owed first next root (nodes_in mid.nodes) (count_in mid.counts)
-      (λ c. times_among (x ∷ left) c + times_of mid.dead.items c + rest c) (λ c. one_if x c + times_of mid.dead.items c + (times_among left c + rest c))
+      (λ c. times_among (x ∷ left) c + others c + times_of mid.dead.items c) (λ c. one_if x c + (times_among left c + others c) + times_of mid.dead.items c)
       (λ c. let d : times_among (x ∷ left) c ≡ one_if x c + times_among left c = times_among-cons x left c in omega arith)
-      (h.taken first next root rest r)));
+      (h.others first next root others owing));
   room = took.room;
   moved = let a : 2 * hash_map_len new.nodes + vec_len new.dead ≤ 2 * hash_map_len mid.nodes + vec_len mid.dead = took.moved in
       let b : 2 * hash_map_len mid.nodes + vec_len mid.dead ≤ 2 * hash_map_len old.nodes + vec_len old.dead = h.moved in omega arith;
@@ -99,9 +97,11 @@ first_counted all left x old new h counted =
 pub all_taken : (all : List ℕ) (old new : Kept) → IsTaking all [] old new → TookBack (times_among all) old new
 all_taken all old new h = record {
   counts = λ c. let a : count_in new.counts c + times_among all c ≡ count_in old.counts c + 0 = h.counts c in omega arith;
-  taken = λ first next root rest r.
-      same_owed first next root (nodes_in new.nodes) (count_in new.counts) (λ c. 0 + times_of new.dead.items c + rest c) (λ c. times_of new.dead.items c + rest c) (λ c. omega arith)
-      (h.taken first next root rest r);
+  taken = record {
+    others = λ first next root others owing.
+        same_owed first next root (nodes_in new.nodes) (count_in new.counts) (λ c. 0 + others c + times_of new.dead.items c) (λ c. others c + times_of new.dead.items c) (λ c. omega arith)
+        (h.others first next root others owing);
+  };
   room = h.room;
   moved = h.moved;
   head = h.head;
@@ -165,14 +165,14 @@ times_among-append xs ys c = sum_by-append (λ name. cond (name == c) 1 0) xs ys
 
 -- two takings, one after the other
 pub both_taken : (one two both : ℕ → ℕ) (old mid new : Kept) → ((c : ℕ) → both c ≡ one c + two c) → TakesBack one old mid → TakesBack two mid new → TakesBack both old new
-both_taken one two both old mid new is first_taken second_taken first next root rest h =
-    second_taken first next root rest
-    (same_owed first next root (nodes_in mid.nodes) (count_in mid.counts)
-    (λ c. times_of mid.dead.items c + (two c + rest c)) (λ c. two c + times_of mid.dead.items c + rest c) (λ c. omega arith)
-    (first_taken first next root (λ c. two c + rest c)
-    (same_owed first next root (nodes_in old.nodes) (count_in old.counts)
-    (λ c. both c + times_of old.dead.items c + rest c) (λ c. one c + times_of old.dead.items c + (two c + rest c)) (λ c. let e : both c ≡ one c + two c = is c in omega arith)
-    h)))
+both_taken one two both old mid new is first_taken second_taken = record {
+  others = λ first next root others owing.
+      second_taken.others first next root others
+      (first_taken.others first next root (λ c. two c + others c)
+      (same_owed first next root (nodes_in old.nodes) (count_in old.counts)
+      (λ c. both c + others c + times_of old.dead.items c) (λ c. one c + (two c + others c) + times_of old.dead.items c) (λ c. let e : both c ≡ one c + two c = is c in omega arith)
+      owing));
+}
 
 -- ---- the nodes that wait
 
@@ -195,7 +195,7 @@ pub dropped_one : (start kept popped new : Kept) (shared : Rc Node Global) (n : 
     → popped.nodes ≡ kept.nodes → popped.counts ≡ kept.counts → SameHead kept popped → kept.dead.items ≡ popped.dead.items ++ shared ∷ []
     → TakesBack (times n) popped new → HasRoom new → SameHead popped new → IsDropping start kept → IsDropping start new
 dropped_one start kept popped new shared n is same_nodes same_counts same_head popped_is taken room head h =
-    let A : ℕ → ℕ = λ c. times n c + times_of popped.dead.items c + 0 in
+    let A : ℕ → ℕ = λ c. times n c + 0 + times_of popped.dead.items c in
     let one : (c : ℕ) → times_of kept.dead.items c ≡ times_of popped.dead.items c + times n c = λ c.
     times_of-more popped.dead.items kept.dead.items shared (Some shared) popped_is refl c ∙ ap (λ (m : Node). times_of popped.dead.items c + times m c) (sym is) in
     let before : IsReleasing (nodes_in start.nodes) start.next start.root (nodes_in popped.nodes) (count_in popped.counts) A =
@@ -204,8 +204,8 @@ dropped_one start kept popped new shared n is same_nodes same_counts same_head p
     (same_owed (nodes_in start.nodes) start.next start.root (nodes_in kept.nodes) (count_in kept.counts) (times_of kept.dead.items) A
     (λ c. let e : times_of kept.dead.items c ≡ times_of popped.dead.items c + times n c = one c in omega arith) h.releasing)) in
     record {
-      releasing = same_owed (nodes_in start.nodes) start.next start.root (nodes_in new.nodes) (count_in new.counts) (λ c. times_of new.dead.items c + 0) (times_of new.dead.items)
-          (λ c. omega arith) (taken (nodes_in start.nodes) start.next start.root (λ c. 0) before);
+      releasing = same_owed (nodes_in start.nodes) start.next start.root (nodes_in new.nodes) (count_in new.counts) (λ c. 0 + times_of new.dead.items c) (times_of new.dead.items)
+          (λ c. omega arith) (taken.others (nodes_in start.nodes) start.next start.root (λ c. 0) before);
       room = room;
       head = record {
         root = head.root ∙ same_head.root ∙ h.head.root;

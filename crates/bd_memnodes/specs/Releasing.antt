@@ -18,14 +18,18 @@ pub record IsReleasing (first : Nodes) (next root : ℕ) (nodes : Nodes) (counts
   pub used : (id : ℕ) (n : Node) → nodes id ≡ Some n → 1 ≤ counts id
   pub exact : (c : ℕ) → counts c ≡ references nodes next root c + owed c
 
--- from the first to the second these names were taken back, and what was dropped waits
-abbrev pub TakesBack : (ℕ → ℕ) → Kept → Kept → Type 0
-TakesBack named old new =
-    (first : Nodes) (next root : ℕ) (rest : ℕ → ℕ)
-    → IsReleasing first next root (nodes_in old.nodes) (count_in old.counts)
-    (λ c. named c + times_of old.dead.items c + rest c)
-    → IsReleasing first next root (nodes_in new.nodes) (count_in new.counts)
-    (λ c. times_of new.dead.items c + rest c)
+-- each count is how often the node is named, by the nodes that are left and by those that wait to go,
+-- and how often it is owed besides to be named less
+abbrev pub IsOwing : Nodes → ℕ → ℕ → (ℕ → ℕ) → Kept → Type 0
+IsOwing first next root owed kept =
+    IsReleasing first next root (nodes_in kept.nodes) (count_in kept.counts)
+    (λ c. owed c + times_of kept.dead.items c)
+
+-- these names were taken back: where they were owed and others, only the others still are
+pub record TakesBack (named : ℕ → ℕ) (old new : Kept) : Type 0 where
+  pub others : (first : Nodes) (next root : ℕ) (others : ℕ → ℕ)
+      → IsOwing first next root (λ c. named c + others c) old
+      → IsOwing first next root others new
 
 -- there is room for each node that may go
 abbrev pub HasRoom : Kept → Type 0

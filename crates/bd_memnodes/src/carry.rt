@@ -9,7 +9,7 @@ ghost use Rattle.bd_node.specs.Shape.{IsShape};
 ghost use Rattle.bd_node.specs.Tables.{times_in, one_if};
 ghost use Rattle.bd_node.specs.Steps.{AreOnce, after, IsStep, StayAbove, IsTableAfter, IsCommitted};
 ghost use Rattle.bd_memnodes.specs.Maps.{nodes_in, count_in, times_among, times_of};
-ghost use Rattle.bd_memnodes.specs.Releasing.{IsReleasing, HasRoom, SameHead};
+ghost use Rattle.bd_memnodes.specs.Releasing.{IsReleasing, IsOwing, HasRoom, SameHead};
 ghost use Rattle.bd_memnodes.specs.Plans.{change_of, step_of, step_names};
 ghost use Rattle.bd_memnodes.specs.Stored.{table_in, HasMemory, IsWhole};
 ghost use Rattle.bd_memnodes.specs.Carried.{FitCounts, IsAdded, IsAddedTo, IsExchanged};
@@ -131,10 +131,8 @@ impl Kept {
         requires names { plan.names.items ≡ step_names (step_of plan) }
         requires fits { FitCounts self.old (length plan.made.items) plan.names.items }
         requires memory { HasMemory (length plan.made.items) (length plan.changes.items) self.old }
-        ensures owing { IsReleasing (after (nodes_in self.old.nodes) (table_in self.old)
-            (step_of plan)) self.new.next self.new.root (nodes_in self.new.nodes)
-            (count_in self.new.counts)
-            (λ c. one_if self.old.root c + times_of self.new.dead.items c) }
+        ensures owing { IsOwing (after (nodes_in self.old.nodes) (table_in self.old)
+            (step_of plan)) self.new.next self.new.root (one_if self.old.root) self.new }
         ensures room { HasRoom self.new }
         ensures root { self.new.root ≡ plan.root }
         ensures next { self.new.next ≡ self.old.next + length plan.made.items }
@@ -153,9 +151,8 @@ impl Kept {
 
     // Takes back what is owed: a pointer to the old root, and the names in nodes that wait.
     fn settle(&mut self, old_root: u64)
-        requires owing { IsReleasing (nodes_in self.old.nodes) self.old.next self.old.root
-            (nodes_in self.old.nodes) (count_in self.old.counts)
-            (λ c. one_if old_root c + times_of self.old.dead.items c) }
+        requires owing { IsOwing (nodes_in self.old.nodes) self.old.next self.old.root
+            (one_if old_root) self.old }
         requires room { HasRoom self.old }
         ensures settled { IsReleasing (nodes_in self.old.nodes) self.new.next self.new.root
             (nodes_in self.new.nodes) (count_in self.new.counts) (λ c. 0) }

@@ -5,11 +5,9 @@
 #![tactic(auto)]
 
 mod fetching;
-mod nodes;
 mod paths;
 mod raising;
 
 pub use fetching::{Fetched, fetch};
-pub use nodes::{buffer_of, edges_of};
 pub use paths::{change_step, path_step};
 pub use raising::{Way, changes_over, raise_way, raised};

@@ -10,7 +10,6 @@ ghost use Rattle.bd_reclaim.specs.Covering.{Says, TouchesAll, NoneDecides, IsNew
 use bd_keys::{lift, starts};
 use bd_message::Message;
 use bd_node::{Edge, Node, can_touch, end_of, touches};
-use bd_path::{buffer_of, edges_of};
 
 /// What a message says of all keys that it decides.
 #[derive(Clone, Copy, Debug, PartialEq, Eq)]
@@ -28,8 +27,8 @@ pub fn first_covered(cover: Cover, node: &Node) -> Option<(usize, usize)>
     ensures { MatchOption result (HasNoCovered cover node.now)
         (λ found. IsFirstCovered cover node.now found.0 found.1) }
 {
-    let edges = edges_of(node);
-    let buffer = buffer_of(node);
+    let edges = node.edges();
+    let buffer = node.buffer();
     for (place, edge) in edges.iter().enumerate() {
         if let Some(at) = newest(cover, edge, end_of(edges, place), buffer) {
             return Some((place, at));
@@ -43,8 +42,8 @@ pub fn first_cut(node: &Node) -> Option<usize>
     requires { IsShape node.now }
     ensures { MatchOption result (HasNoCut node.now) (IsFirstCut node.now) }
 {
-    let edges = edges_of(node);
-    let buffer = buffer_of(node);
+    let edges = node.edges();
+    let buffer = node.buffer();
     for (place, edge) in edges.iter().enumerate() {
         if has_cut(edge, end_of(edges, place), buffer) {
             return Some(place);

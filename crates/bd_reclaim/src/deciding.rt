@@ -16,7 +16,7 @@ use bd_inner::sweep;
 use bd_keys::Bytes;
 use bd_message::Message;
 use bd_node::{Edge, Edges, Items, Node, Step, end_of};
-use bd_path::{Fetched, buffer_of, change_step, edges_of};
+use bd_path::{Fetched, change_step};
 use std::alloc::{AllocError, Global};
 
 /// The step that changes a node to what the message at a place makes of its edge at a place, and of
@@ -43,8 +43,8 @@ fn decided(alloc: Global, node: &Node, place: usize, at: usize) -> Result<Node, 
     requires covered { (cover : Cover) × IsCovered cover node.now place at }
     ensures { IfOk result (IsDecided node.now place at) }
 {
-    let edges = edges_of(node);
-    let buffer = buffer_of(node);
+    let edges = node.edges();
+    let buffer = node.buffer();
     let edge = decided_edge(alloc, &edges[place], at, &buffer[at])?;
     let (_, after) = edges.split_at(place + 1);
     let count = run_length(after, buffer, at);

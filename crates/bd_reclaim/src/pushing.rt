@@ -20,7 +20,7 @@ ghost use Rattle.bd_reclaim.specs.Pushing.{IsSplitFirst, IsPushStep, IsPushFound
 use bd_limits::FULL_EDGES;
 use bd_message::MapFault;
 use bd_node::{Items, Node, NodeStore};
-use bd_path::{Fetched, Way, edges_of};
+use bd_path::{Fetched, Way};
 use bd_step::{FlushStep, make, step_from};
 use std::alloc::Global;
 
@@ -90,7 +90,7 @@ fn push_step<S: NodeStore>(
         ≤ S.visit_count store.old + (S.table store.old).level (S.table store.old).root }
 {
     let above = above.into_vec();
-    if edges_of(&node.node).len() < FULL_EDGES {
+    if node.node.edges().len() < FULL_EDGES {
         return step_from(store, above, node, place);
     }
     Ok(split_first(above, node))
@@ -123,7 +123,7 @@ fn split_first(above: Vec<Fetched>, node: Fetched) -> FlushStep
             place,
         };
     }
-    if edges_of(&parent.node).len() >= FULL_EDGES {
+    if parent.node.edges().len() >= FULL_EDGES {
         return split_first(above, parent);
     }
     FlushStep::SplitChild {
@@ -139,7 +139,7 @@ fn asks_plainly(node: &Node, place: usize) -> bool
     requires { place < length (edges_of node.now) }
     ensures { (e : Edge) → IsEdgeAt node.now place e → IsTrue result ↔ (e.source ≡ []) }
 {
-    edges_of(node)[place].source.is_empty()
+    node.edges()[place].source.is_empty()
 }
 
 // The place of the first edge of a node that asks a child, which one of them does.
@@ -148,7 +148,7 @@ fn place_of(node: &Node, child: u64) -> usize
     ensures edge { (e : Edge) × IsEdgeTo node.now result child e }
     ensures within { result < length (edges_of node.now) }
 {
-    let edges = edges_of(node);
+    let edges = node.edges();
     for (place, edge) in edges.iter().enumerate() {
         if edge.child == Some(child) {
             return place;

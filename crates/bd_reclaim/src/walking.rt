@@ -14,7 +14,7 @@ use crate::Cover;
 use crate::covering::{first_covered, first_cut};
 use bd_message::MapFault;
 use bd_node::{Edge, Items, Node, NodeStore};
-use bd_path::{Fetched, Way, buffer_of, edges_of, fetch};
+use bd_path::{Fetched, Way, fetch};
 use std::alloc::{AllocError, Global};
 
 /// A change to make, and where.
@@ -105,7 +105,7 @@ fn first_from<S: NodeStore>(
         Look::Change(step) => return Ok(Some(step)),
         Look::Clean(here) => here,
     };
-    let edges = edges_of(&here.node);
+    let edges = here.node.edges();
     for edge in edges {
         let Some(child) = walked(store, edge) else {
             continue;
@@ -177,10 +177,10 @@ fn thin_child<S: NodeStore>(store: &S, here: &Fetched) -> Option<u64>
 fn only_child(node: &Node) -> Option<u64>
     ensures { MatchOption result ((child : ℕ) → ¬ IsThinWay node.now child) (IsThinWay node.now) }
 {
-    let [edge] = edges_of(node) else {
+    let [edge] = node.edges() else {
         return None;
     };
-    if !buffer_of(node).is_empty() || edge.lift != 0 || !edge.source.is_empty() {
+    if !node.buffer().is_empty() || edge.lift != 0 || !edge.source.is_empty() {
         return None;
     }
     edge.child

@@ -1,5 +1,5 @@
 -- What the way down finds is enough to make a step.
-use Rattle.std.proofs.Common.{◌≡◌, ℕ, ◌+◌, ◌*◌, List, reverse, ◌<◌, ◌≤◌, sym, ap, subst, ◌∙◌, Option, None, Some, arith, inl, inr, Result, Ok, Err}
+use Rattle.std.proofs.Common.{◌≡◌, ℕ, ◌+◌, ◌*◌, List, reverse, ◌<◌, ◌≤◌, sym, ap, subst, ◌∙◌, Option, None, Some, arith, inl, inr, Result, Err}
 use Rattle.std.specs.List.{AllByRecursion}
 use Rattle.bd_limits.specs.Limits.{soft_limit}
 use Rattle.bd_node.specs.declared.node.Edge.{Edge}

@@ -1,25 +1,20 @@
 -- The oldest Goto that is pending for an edge, and may not go down it.
 use Rattle.std.proofs.Common.{◌≡◌, ℕ, zero, suc, ◌+◌, ◌<◌, ◌≤◌, List, [], ◌∷◌, length, drop, refl, sym, ap, subst, ◌∙◌, Option, None, Some, arith, inl, inr, get_or}
-use Rattle.std.specs.Prelude.{slice_get, Result, Ok, Err, IfOk, MatchOption, IfSome}
+use Rattle.std.specs.Prelude.{slice_get, MatchOption, IfSome}
 use Rattle.std.specs.List.{AllByRecursion, flat_map}
 use Rattle.std.proofs.lemmas.Bool.{cases_lt}
 use Rattle.std.proofs.lemmas.Option.{same_Some, none-some, slice_get_within}
 use Rattle.bd_message.specs.declared.message.Message.{Message}
-use Rattle.bd_message.specs.declared.message.Message.TheVariants.{Put, Del, Patch, Cut, Goto}
 use Rattle.bd_node.specs.declared.node.Edge.{Edge}
 use Rattle.bd_node.specs.declared.node.Node.{Node}
-use Rattle.bd_node.specs.declared.node.Step.{Step}
 use Rattle.bd_node.specs.Nodes.{message_names, names}
 use Rattle.bd_node.specs.Shape.{end_before}
 use Rattle.bd_node.specs.Tables.{Table, IsKept, IsLower, IsNodeOf}
 use Rattle.bd_node.proofs.Lookup.{each_weaker, each_first, each_second}
-use Rattle.bd_inner.specs.Carving.{IsGotoAt, IsCarved}
 use Rattle.bd_node.specs.Parts.{buffer_of, end_at, IsEdgeAt}
-use Rattle.bd_path.specs.declared.fetching.Fetched.{Fetched}
-use Rattle.bd_flush.specs.GoingDown.{MayGoDown, GoesDown, child_level}
+use Rattle.bd_flush.specs.GoingDown.{GoesDown, child_level}
 use Rattle.bd_flush.specs.Pushes.{AllGoDown}
-use Rattle.bd_flush.specs.Carving.{IsHeldGoto, IsFreeAt, AreFree, IsOldestGoto, IsOldestAt, CanCarve, IsCarveStep}
-use Rattle.bd_path.specs.Paths.{change_step}
+use Rattle.bd_flush.specs.Carving.{IsHeldGoto, IsFreeAt, AreFree, IsOldestGoto, IsOldestAt}
 use Rattle.bd_node.proofs.Parts.{edge_here}
 use Rattle.bd_flush.proofs.Pushed.{buffer_lower}
 use Rattle.bd_step.proofs.Reading.{IsRead, read_end}

@@ -20,7 +20,7 @@ ghost use Rattle.bd_path.specs.Paths.{change_step};
 
 use bd_message::Message;
 use bd_node::{Edge, NodeStore, can_touch, end_of};
-use bd_path::{Fetched, buffer_of, edges_of};
+use bd_path::Fetched;
 
 /// The place of the oldest Goto that is pending for the edge at a place, and may not go down it: the
 /// edge has no child, or one whose level isn't above that of the node that the Goto names, or some
@@ -35,19 +35,13 @@ pub fn held_goto<S: NodeStore>(store: &S, parent: &Fetched, place: usize) -> Opt
     ensures some { IfSome result (λ index. (e : Edge) → IsEdgeAt parent.now.node.value place e
         → IsOldestAt (S.table store.now).level parent.now.node.value place e index) }
 {
-    let edges = edges_of(&parent.node);
+    let edges = parent.node.edges();
     let edge = &edges[place];
     let top = match edge.child {
         Some(child) => store.level(child),
         None => 0,
     };
-    oldest_goto(
-        store,
-        top,
-        edge,
-        end_of(edges, place),
-        buffer_of(&parent.node),
-    )
+    oldest_goto(store, top, edge, end_of(edges, place), parent.node.buffer())
 }
 
 // The place of the oldest Goto that is pending for an edge, whose keys end at `hi`, and may not go

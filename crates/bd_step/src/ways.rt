@@ -20,7 +20,7 @@ use crate::gotos::held_goto;
 use bd_limits::{FULL_EDGES, SOFT_BUFFER};
 use bd_message::MapFault;
 use bd_node::{Items, Node, NodeStore};
-use bd_path::{Fetched, Way, buffer_of, edges_of, fetch};
+use bd_path::{Fetched, Way, fetch};
 use std::alloc::{AllocError, Global};
 
 /// What a step of a flush does, and where: at a node, with the nodes above it.
@@ -79,7 +79,7 @@ pub fn next_step<S: NodeStore>(alloc: Global, store: &mut S) -> Result<FlushStep
 {
     let root = store.root();
     let root = fetch(store, root)?;
-    if edges_of(&root.node).len() >= FULL_EDGES {
+    if root.node.edges().len() >= FULL_EDGES {
         return Ok(FlushStep::SplitRoot { root });
     }
     let place = fullest_place(&root.node);
@@ -207,7 +207,7 @@ fn look_below<S: NodeStore>(
     if child.node.buffer_size() <= SOFT_BUFFER {
         return Ok(Look::End(push_or_carve(store, above, parent, place, Some(child))));
     }
-    if edges_of(&child.node).len() < FULL_EDGES {
+    if child.node.edges().len() < FULL_EDGES {
         let mut above = above;
         above.push(parent)?;
         return Ok(Look::Down(above, child));
@@ -286,7 +286,7 @@ fn asks(node: &Node, place: usize) -> Asked
     requires { place < length (edges_of node.now) }
     ensures { IsAsked node.now place result }
 {
-    let edge = &edges_of(node)[place];
+    let edge = &node.edges()[place];
     match edge.child {
         None => Asked::Nothing,
         Some(_) if !edge.source.is_empty() => Asked::Through,
@@ -301,5 +301,5 @@ fn fullest_place(node: &Node) -> usize
     ensures fullest { IsFullestAt node.now result }
     ensures within { result < length (edges_of node.now) }
 {
-    fullest(edges_of(node), buffer_of(node)).place
+    fullest(node.edges(), node.buffer()).place
 }

@@ -5,10 +5,10 @@ use Rattle.bd_copy.proofs.copying.redirected.Goals as goal
 
 pub exchange-requires-clause-fits : goal.exchange-requires-clause-fits
 exchange-requires-clause-fits c =
-    redirected_fits c.args.node.now c.args.place c.args.child c.edges_of.result.now c.from_vec.result c.index-edges_of-place.result c.in_ok-edge.edge c.requires.shape c.edges_of.ensures c.requires.within c.index-edges_of-place.is c.requires.child (omega (arith, c.ranges.child.fits))
+    redirected_fits c.args.node.now c.args.place c.args.child c.edges.result.now c.from_vec.result c.index-edges-place.result c.in_ok-edge.edge c.requires.shape c.edges.ensures c.requires.within c.index-edges-place.is c.requires.child (omega (arith, c.ranges.child.fits))
     (c.from_vec.ensures ∙ c.in_ok-push.ensures.items ∙ ap (λ (l : List Edge). l ++ c.in_ok-edge.edge ∷ []) c.new-list.ensures.items) c.in_ok-edge.ensures
 
 pub returns : goal.returns
 returns c =
-    on_redirected c.args.node.now c.args.place c.args.child c.edges_of.result.now c.from_vec.result c.index-edges_of-place.result c.in_ok-edge.edge c.exchange.result c.edges_of.ensures c.requires.within c.index-edges_of-place.is
+    on_redirected c.args.node.now c.args.place c.args.child c.edges.result.now c.from_vec.result c.index-edges-place.result c.in_ok-edge.edge c.exchange.result c.edges.ensures c.requires.within c.index-edges-place.is
     (c.from_vec.ensures ∙ c.in_ok-push.ensures.items ∙ ap (λ (l : List Edge). l ++ c.in_ok-edge.edge ∷ []) c.new-list.ensures.items) c.in_ok-edge.ensures c.exchange.ensures.node

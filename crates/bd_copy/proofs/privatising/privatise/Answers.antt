@@ -5,21 +5,21 @@ use Rattle.bd_path.specs.Made.{AreKnown}
 use Rattle.bd_copy.proofs.privatising.privatise.Goals as goal
 
 pub fetch-requires : goal.fetch-requires
-fetch-requires g c = kept_child (g.S.NodeStore.table c.args.store.now) c.args.parent.now c.args.place c.in-Some.id c.index-edges_of-place.result (child_read (g.S.NodeStore.table c.args.store.now) c.args.parent.now c.args.place c.in-Some.id c.deref.result.now c.edges_of.result.now c.index-edges_of-place.result c.requires.can c.deref.ensures c.edges_of.ensures c.index-edges_of-place.is c.in-Some.is)
+fetch-requires g c = kept_child (g.S.NodeStore.table c.args.store.now) c.args.parent.now c.args.place c.in-Some.id c.index-edges-place.result (child_read (g.S.NodeStore.table c.args.store.now) c.args.parent.now c.args.place c.in-Some.id c.deref.result.now c.edges.result.now c.index-edges-place.result c.requires.can c.deref.ensures c.edges.ensures c.index-edges-place.is c.in-Some.is)
 
 pub freed-requires-clause-short : goal.freed-requires-clause-short
-freed-requires-clause-short g c = source_short (g.S.NodeStore.table c.args.store.now) c.args.parent.now c.args.place c.in-Some.id c.index-edges_of-place.result c.as_slice.result.now (child_read (g.S.NodeStore.table c.args.store.now) c.args.parent.now c.args.place c.in-Some.id c.deref.result.now c.edges_of.result.now c.index-edges_of-place.result c.requires.can c.deref.ensures c.edges_of.ensures c.index-edges_of-place.is c.in-Some.is) c.as_slice.ensures
+freed-requires-clause-short g c = source_short (g.S.NodeStore.table c.args.store.now) c.args.parent.now c.args.place c.in-Some.id c.index-edges-place.result c.as_slice.result.now (child_read (g.S.NodeStore.table c.args.store.now) c.args.parent.now c.args.place c.in-Some.id c.deref.result.now c.edges.result.now c.index-edges-place.result c.requires.can c.deref.ensures c.edges.ensures c.index-edges-place.is c.in-Some.is) c.as_slice.ensures
 
 pub returns-in_err-copy-clause-few_visits : goal.returns-in_err-copy-clause-few_visits
 returns-in_err-copy-clause-few_visits g c =
-    copy_visits (g.S.NodeStore.table c.args.store.now) c.args.parent.now c.args.place c.index-edges_of-place.result c.in-Some.id c.in_ok-child.child c.deref-2.result.now (g.S.NodeStore.visit_count c.args.store.now) (g.S.NodeStore.visit_count c.freed.new.store)
-    (child_read (g.S.NodeStore.table c.args.store.now) c.args.parent.now c.args.place c.in-Some.id c.deref.result.now c.edges_of.result.now c.index-edges_of-place.result c.requires.can c.deref.ensures c.edges_of.ensures c.index-edges_of-place.is c.in-Some.is) c.in_ok-child.ensures.id c.in_ok-child.ensures.fetched c.deref-2.ensures (omega (arith, c.fetch.ensures.visits, c.freed.ensures.few_visits))
+    copy_visits (g.S.NodeStore.table c.args.store.now) c.args.parent.now c.args.place c.index-edges-place.result c.in-Some.id c.in_ok-child.child c.deref-2.result.now (g.S.NodeStore.visit_count c.args.store.now) (g.S.NodeStore.visit_count c.freed.new.store)
+    (child_read (g.S.NodeStore.table c.args.store.now) c.args.parent.now c.args.place c.in-Some.id c.deref.result.now c.edges.result.now c.index-edges-place.result c.requires.can c.deref.ensures c.edges.ensures c.index-edges-place.is c.in-Some.is) c.in_ok-child.ensures.id c.in_ok-child.ensures.fetched c.deref-2.ensures (omega (arith, c.fetch.ensures.visits, c.freed.ensures.few_visits))
 
 pub put_copy-requires-clause-can : goal.put_copy-requires-clause-can
 put_copy-requires-clause-can g c =
-    put_again (g.S.NodeStore.table c.args.store.now) (g.S.NodeStore.table c.fetch.new.store) (g.S.NodeStore.table c.freed.new.store) c.args.parent.now c.args.place c.index-edges_of-place.result c.in-Some.id c.in_ok-child.child c.deref-2.result.now c.as_slice.result.now c.in_ok-copy.copy
+    put_again (g.S.NodeStore.table c.args.store.now) (g.S.NodeStore.table c.fetch.new.store) (g.S.NodeStore.table c.freed.new.store) c.args.parent.now c.args.place c.index-edges-place.result c.in-Some.id c.in_ok-child.child c.deref-2.result.now c.as_slice.result.now c.in_ok-copy.copy
     (record {
-      read = child_read (g.S.NodeStore.table c.args.store.now) c.args.parent.now c.args.place c.in-Some.id c.deref.result.now c.edges_of.result.now c.index-edges_of-place.result c.requires.can c.deref.ensures c.edges_of.ensures c.index-edges_of-place.is c.in-Some.is;
+      read = child_read (g.S.NodeStore.table c.args.store.now) c.args.parent.now c.args.place c.in-Some.id c.deref.result.now c.edges.result.now c.index-edges-place.result c.requires.can c.deref.ensures c.edges.ensures c.index-edges-place.is c.in-Some.is;
       id_is = c.in_ok-child.ensures.id;
       fetched = c.in_ok-child.ensures.fetched;
       table_is = c.fetch.ensures.left.table;
@@ -36,10 +36,10 @@ put_copy-requires-clause-copied g c = λ known sound.
     let was = g.met.S.NodeStore.reads_known c.args.store.now c.freed.new.store (g.met.S.NodeStore.reads_both c.args.store.now c.fetch.new.store c.freed.new.store c.fetch.ensures.left.read c.freed.ensures.left.read) known in
     let same = c.freed.ensures.left.kept (c.fetch.ensures.left.known was) ∙ c.fetch.ensures.left.kept was in
     let sound_was = sound_again (g.S.NodeStore.nodes c.freed.new.store) (g.S.NodeStore.nodes c.args.store.now) (g.S.NodeStore.table c.freed.new.store) (g.S.NodeStore.table c.args.store.now) (sym same) (sym (c.freed.ensures.left.table ∙ c.fetch.ensures.left.table)) sound in
-    copied_again (g.S.NodeStore.nodes c.args.store.now) (g.S.NodeStore.nodes c.freed.new.store) (g.S.NodeStore.table c.args.store.now) c.args.parent.now c.args.place c.index-edges_of-place.result c.in_ok-child.child c.in_ok-copy.copy same
-    (copy_there (g.S.NodeStore.nodes c.args.store.now) (g.S.NodeStore.nodes c.fetch.new.store) (g.S.NodeStore.table c.args.store.now) (g.S.NodeStore.table c.fetch.new.store) c.args.parent.now c.args.place c.index-edges_of-place.result c.in-Some.id c.in_ok-child.child c.deref-2.result.now c.as_slice.result.now c.in_ok-copy.copy
+    copied_again (g.S.NodeStore.nodes c.args.store.now) (g.S.NodeStore.nodes c.freed.new.store) (g.S.NodeStore.table c.args.store.now) c.args.parent.now c.args.place c.index-edges-place.result c.in_ok-child.child c.in_ok-copy.copy same
+    (copy_there (g.S.NodeStore.nodes c.args.store.now) (g.S.NodeStore.nodes c.fetch.new.store) (g.S.NodeStore.table c.args.store.now) (g.S.NodeStore.table c.fetch.new.store) c.args.parent.now c.args.place c.index-edges-place.result c.in-Some.id c.in_ok-child.child c.deref-2.result.now c.as_slice.result.now c.in_ok-copy.copy
     (record {
-      read = child_read (g.S.NodeStore.table c.args.store.now) c.args.parent.now c.args.place c.in-Some.id c.deref.result.now c.edges_of.result.now c.index-edges_of-place.result c.requires.can c.deref.ensures c.edges_of.ensures c.index-edges_of-place.is c.in-Some.is;
+      read = child_read (g.S.NodeStore.table c.args.store.now) c.args.parent.now c.args.place c.in-Some.id c.deref.result.now c.edges.result.now c.index-edges-place.result c.requires.can c.deref.ensures c.edges.ensures c.index-edges-place.is c.in-Some.is;
       id_is = c.in_ok-child.ensures.id;
       fetched = c.in_ok-child.ensures.fetched;
       table_is = c.fetch.ensures.left.table;
@@ -56,10 +56,10 @@ pub returns-clause-made : goal.returns-clause-made
 returns-clause-made g c = λ known sound.
     let same = c.freed.ensures.left.kept (c.fetch.ensures.left.known known) ∙ c.fetch.ensures.left.kept known in
     let table = c.freed.ensures.left.table ∙ c.fetch.ensures.left.table in
-    on_privatised (g.S.NodeStore.nodes c.args.store.now) (g.S.NodeStore.nodes c.freed.new.store) (g.S.NodeStore.table c.args.store.now) (g.S.NodeStore.table c.freed.new.store) c.args.parent.now c.args.place c.index-edges_of-place.result c.in_ok-child.child c.in_ok-copy.copy (g.S.NodeStore.nodes c.put_copy.new.store) (g.S.NodeStore.table c.put_copy.new.store) c.put_copy.result
-    (copy_there (g.S.NodeStore.nodes c.args.store.now) (g.S.NodeStore.nodes c.fetch.new.store) (g.S.NodeStore.table c.args.store.now) (g.S.NodeStore.table c.fetch.new.store) c.args.parent.now c.args.place c.index-edges_of-place.result c.in-Some.id c.in_ok-child.child c.deref-2.result.now c.as_slice.result.now c.in_ok-copy.copy
+    on_privatised (g.S.NodeStore.nodes c.args.store.now) (g.S.NodeStore.nodes c.freed.new.store) (g.S.NodeStore.table c.args.store.now) (g.S.NodeStore.table c.freed.new.store) c.args.parent.now c.args.place c.index-edges-place.result c.in_ok-child.child c.in_ok-copy.copy (g.S.NodeStore.nodes c.put_copy.new.store) (g.S.NodeStore.table c.put_copy.new.store) c.put_copy.result
+    (copy_there (g.S.NodeStore.nodes c.args.store.now) (g.S.NodeStore.nodes c.fetch.new.store) (g.S.NodeStore.table c.args.store.now) (g.S.NodeStore.table c.fetch.new.store) c.args.parent.now c.args.place c.index-edges-place.result c.in-Some.id c.in_ok-child.child c.deref-2.result.now c.as_slice.result.now c.in_ok-copy.copy
     (record {
-      read = child_read (g.S.NodeStore.table c.args.store.now) c.args.parent.now c.args.place c.in-Some.id c.deref.result.now c.edges_of.result.now c.index-edges_of-place.result c.requires.can c.deref.ensures c.edges_of.ensures c.index-edges_of-place.is c.in-Some.is;
+      read = child_read (g.S.NodeStore.table c.args.store.now) c.args.parent.now c.args.place c.in-Some.id c.deref.result.now c.edges.result.now c.index-edges-place.result c.requires.can c.deref.ensures c.edges.ensures c.index-edges-place.is c.in-Some.is;
       id_is = c.in_ok-child.ensures.id;
       fetched = c.in_ok-child.ensures.fetched;
       table_is = c.fetch.ensures.left.table;
@@ -77,9 +77,9 @@ returns-clause-made g c = λ known sound.
 pub returns-clause-cause : goal.returns-clause-cause
 returns-clause-cause g c =
     copy_cause (g.S.NodeStore.fault_count c.args.store.now) (g.S.NodeStore.fault_count c.freed.new.store) (g.S.NodeStore.fault_count c.put_copy.new.store) (g.S.NodeStore.bad c.put_copy.new.store) (AreKnown g.S.NodeStore c.args.store.now) (g.S.NodeStore.nodes c.args.store.now) (g.S.NodeStore.table c.args.store.now) (g.S.NodeStore.table c.fetch.new.store) (g.S.NodeStore.table c.freed.new.store)
-    c.args.parent.now c.args.place c.index-edges_of-place.result c.in-Some.id c.in_ok-child.child c.deref-2.result.now c.as_slice.result.now c.in_ok-copy.copy c.put_copy.result (c.in_ok-copy.ensures.cause.kept ∙ c.in_ok-child.ensures.cause.kept)
+    c.args.parent.now c.args.place c.index-edges-place.result c.in-Some.id c.in_ok-child.child c.deref-2.result.now c.as_slice.result.now c.in_ok-copy.copy c.put_copy.result (c.in_ok-copy.ensures.cause.kept ∙ c.in_ok-child.ensures.cause.kept)
     (record {
-      read = child_read (g.S.NodeStore.table c.args.store.now) c.args.parent.now c.args.place c.in-Some.id c.deref.result.now c.edges_of.result.now c.index-edges_of-place.result c.requires.can c.deref.ensures c.edges_of.ensures c.index-edges_of-place.is c.in-Some.is;
+      read = child_read (g.S.NodeStore.table c.args.store.now) c.args.parent.now c.args.place c.in-Some.id c.deref.result.now c.edges.result.now c.index-edges-place.result c.requires.can c.deref.ensures c.edges.ensures c.index-edges-place.is c.in-Some.is;
       id_is = c.in_ok-child.ensures.id;
       fetched = c.in_ok-child.ensures.fetched;
       table_is = c.fetch.ensures.left.table;
@@ -89,9 +89,9 @@ returns-clause-cause g c =
       own = c.in_ok-copy.ensures.own;
       bytes = c.freed.ensures.bytes;
     })
-    (λ k. (copy_there (g.S.NodeStore.nodes c.args.store.now) (g.S.NodeStore.nodes c.fetch.new.store) (g.S.NodeStore.table c.args.store.now) (g.S.NodeStore.table c.fetch.new.store) c.args.parent.now c.args.place c.index-edges_of-place.result c.in-Some.id c.in_ok-child.child c.deref-2.result.now c.as_slice.result.now c.in_ok-copy.copy
+    (λ k. (copy_there (g.S.NodeStore.nodes c.args.store.now) (g.S.NodeStore.nodes c.fetch.new.store) (g.S.NodeStore.table c.args.store.now) (g.S.NodeStore.table c.fetch.new.store) c.args.parent.now c.args.place c.index-edges-place.result c.in-Some.id c.in_ok-child.child c.deref-2.result.now c.as_slice.result.now c.in_ok-copy.copy
     (record {
-      read = child_read (g.S.NodeStore.table c.args.store.now) c.args.parent.now c.args.place c.in-Some.id c.deref.result.now c.edges_of.result.now c.index-edges_of-place.result c.requires.can c.deref.ensures c.edges_of.ensures c.index-edges_of-place.is c.in-Some.is;
+      read = child_read (g.S.NodeStore.table c.args.store.now) c.args.parent.now c.args.place c.in-Some.id c.deref.result.now c.edges.result.now c.index-edges-place.result c.requires.can c.deref.ensures c.edges.ensures c.index-edges-place.is c.in-Some.is;
       id_is = c.in_ok-child.ensures.id;
       fetched = c.in_ok-child.ensures.fetched;
       table_is = c.fetch.ensures.left.table;
@@ -108,5 +108,5 @@ returns-clause-cause g c =
 pub returns-clause-few_visits : goal.returns-clause-few_visits
 returns-clause-few_visits g c =
     let put : g.S.NodeStore.visit_count c.put_copy.new.store ≤ g.S.NodeStore.visit_count c.freed.new.store + 1 = put_few (g.S.NodeStore.visit_count c.freed.new.store) (g.S.NodeStore.visit_count c.put_copy.new.store) c.put_copy.result c.put_copy.ensures.visits c.put_copy.ensures.err_visits in
-    copy_visits (g.S.NodeStore.table c.args.store.now) c.args.parent.now c.args.place c.index-edges_of-place.result c.in-Some.id c.in_ok-child.child c.deref-2.result.now (g.S.NodeStore.visit_count c.args.store.now) (g.S.NodeStore.visit_count c.put_copy.new.store)
-    (child_read (g.S.NodeStore.table c.args.store.now) c.args.parent.now c.args.place c.in-Some.id c.deref.result.now c.edges_of.result.now c.index-edges_of-place.result c.requires.can c.deref.ensures c.edges_of.ensures c.index-edges_of-place.is c.in-Some.is) c.in_ok-child.ensures.id c.in_ok-child.ensures.fetched c.deref-2.ensures (omega (arith, put, c.fetch.ensures.visits, c.freed.ensures.few_visits))
+    copy_visits (g.S.NodeStore.table c.args.store.now) c.args.parent.now c.args.place c.index-edges-place.result c.in-Some.id c.in_ok-child.child c.deref-2.result.now (g.S.NodeStore.visit_count c.args.store.now) (g.S.NodeStore.visit_count c.put_copy.new.store)
+    (child_read (g.S.NodeStore.table c.args.store.now) c.args.parent.now c.args.place c.in-Some.id c.deref.result.now c.edges.result.now c.index-edges-place.result c.requires.can c.deref.ensures c.edges.ensures c.index-edges-place.is c.in-Some.is) c.in_ok-child.ensures.id c.in_ok-child.ensures.fetched c.deref-2.ensures (omega (arith, put, c.fetch.ensures.visits, c.freed.ensures.few_visits))

@@ -11,16 +11,16 @@ use Rattle.bd_reclaim.proofs.pushing.push_step.Goals as goal
 pub step_from-requires-clause-under : goal.step_from-requires-clause-under
 step_from-requires-clause-under g c = way_under (g.S.NodeStore.table c.args.store.now) c.args.node.id (reverse c.args.above) c.requires.way
 
-pub returns-then-edges_of-lt-FULL_EDGES-clause-waited : goal.returns-then-edges_of-lt-FULL_EDGES-clause-waited
-returns-then-edges_of-lt-FULL_EDGES-clause-waited g c = all_waited (g.S.NodeStore.table c.args.store.now) c.args.node c.args.place c.step_from.result c.requires.cut c.step_from.ensures.due c.step_from.ensures.edge
+pub returns-then-edges-lt-FULL_EDGES-clause-waited : goal.returns-then-edges-lt-FULL_EDGES-clause-waited
+returns-then-edges-lt-FULL_EDGES-clause-waited g c = all_waited (g.S.NodeStore.table c.args.store.now) c.args.node c.args.place c.step_from.result c.requires.cut c.step_from.ensures.due c.step_from.ensures.edge
 
-pub returns-then-edges_of-lt-FULL_EDGES-clause-few_visits : goal.returns-then-edges_of-lt-FULL_EDGES-clause-few_visits
-returns-then-edges_of-lt-FULL_EDGES-clause-few_visits g c =
+pub returns-then-edges-lt-FULL_EDGES-clause-few_visits : goal.returns-then-edges-lt-FULL_EDGES-clause-few_visits
+returns-then-edges-lt-FULL_EDGES-clause-few_visits g c =
     omega (arith, c.step_from.ensures.few_visits, way_under (g.S.NodeStore.table c.args.store.now) c.args.node.id (reverse c.args.above) c.requires.way)
 
 pub returns-clause-begins : goal.returns-clause-begins
 returns-clause-begins g c = record {
-  narrow = λ few. absurd (omega (arith, few, c.if-edges_of-lt-FULL_EDGES.false, ap (λ (n : Node). length (edges_of n)) c.deref.ensures, ap (λ (l : List Edge). length l) c.edges_of.ensures));
+  narrow = λ few. absurd (omega (arith, few, c.if-edges-lt-FULL_EDGES.false, ap (λ (n : Node). length (edges_of n)) c.deref.ensures, ap (λ (l : List Edge). length l) c.edges.ensures));
   wide = λ many. subst (λ (l : List Fetched). IsSplitFirst (reverse l) c.args.node c.split_first.result) c.into_vec-above.ensures c.split_first.ensures.first;
 }
 

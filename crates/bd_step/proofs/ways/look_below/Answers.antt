@@ -11,14 +11,14 @@ returns-then-buffer_size-le-SOFT_BUFFER-clause-seen g c = λ room e way once und
     let few : buffer_size c.args.child.node.value ≤ soft_limit = omega (arith, c.buffer_size.ensures, ap buffer_size c.deref.ensures) in
     (c.push_or_carve.ensures.due room e (way, c.requires.child, once, few) under, c.push_or_carve.ensures.here, c.push_or_carve.ensures.full)
 
-pub returns-then-edges_of-lt-FULL_EDGES-clause-seen : goal.returns-then-edges_of-lt-FULL_EDGES-clause-seen
-returns-then-edges_of-lt-FULL_EDGES-clause-seen g c = λ room e way once under.
+pub returns-then-edges-lt-FULL_EDGES-clause-seen : goal.returns-then-edges-lt-FULL_EDGES-clause-seen
+returns-then-edges-lt-FULL_EDGES-clause-seen g c = λ room e way once under.
     let waits : soft_limit < buffer_size c.args.child.node.value = omega (arith, c.buffer_size.ensures, ap buffer_size c.deref.ensures) in
     is_next (g.S.NodeStore.table c.args.store.now) c.args.parent c.args.place c.args.child e c.requires.fetched way once c.requires.child waits
-    (omega (arith, ap (λ (l : List Edge). length l) (c.edges_of.ensures ∙ ap edges_of c.deref-2.ensures)))
+    (omega (arith, ap (λ (l : List Edge). length l) (c.edges.ensures ∙ ap edges_of c.deref-2.ensures)))
 
-pub returns-then-edges_of-lt-FULL_EDGES-clause-at : goal.returns-then-edges_of-lt-FULL_EDGES-clause-at
-returns-then-edges_of-lt-FULL_EDGES-clause-at g c = λ nodes t own e way once contents.
+pub returns-then-edges-lt-FULL_EDGES-clause-at : goal.returns-then-edges-lt-FULL_EDGES-clause-at
+returns-then-edges-lt-FULL_EDGES-clause-at g c = λ nodes t own e way once contents.
     child_own nodes t c.args.parent c.args.place c.args.child e own c.requires.fetched.own.shape way once contents
 
 pub returns-clause-at : goal.returns-clause-at
@@ -28,6 +28,6 @@ returns-clause-at g c = λ nodes t own e way once contents.
 pub returns-then-buffer_size-le-SOFT_BUFFER-clause-way_at : goal.returns-then-buffer_size-le-SOFT_BUFFER-clause-way_at
 returns-then-buffer_size-le-SOFT_BUFFER-clause-way_at g c = λ nodes t there all. c.push_or_carve.ensures.way_at nodes t all
 
-pub returns-then-edges_of-lt-FULL_EDGES-clause-way : goal.returns-then-edges_of-lt-FULL_EDGES-clause-way
-returns-then-edges_of-lt-FULL_EDGES-clause-way g c = λ t e fetched way once up.
+pub returns-then-edges-lt-FULL_EDGES-clause-way : goal.returns-then-edges-lt-FULL_EDGES-clause-way
+returns-then-edges-lt-FULL_EDGES-clause-way g c = λ t e fetched way once up.
     way_more t c.args.above.items c.push.new.self.items c.args.parent c.args.place c.args.child.id e c.in_ok-push.ensures.items fetched way once up

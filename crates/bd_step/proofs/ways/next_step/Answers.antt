@@ -7,8 +7,8 @@ use Rattle.bd_step.specs.Ways.{IsStanding, IsReached, IsWayThere}
 use Rattle.bd_step.proofs.Down.{root_own, root_way, root_on_ok, none_own}
 use Rattle.bd_step.proofs.ways.next_step.Goals as goal
 
-pub returns-then-edges_of-ge-FULL_EDGES-clause-at : goal.returns-then-edges_of-ge-FULL_EDGES-clause-at
-returns-then-edges_of-ge-FULL_EDGES-clause-at g c = λ known sound. (
+pub returns-then-edges-ge-FULL_EDGES-clause-at : goal.returns-then-edges-ge-FULL_EDGES-clause-at
+returns-then-edges-ge-FULL_EDGES-clause-at g c = λ known sound. (
   root_own (g.S.NodeStore.nodes c.args.store.now) (g.S.NodeStore.table c.args.store.now) c.in_ok-root.root sound (c.in_ok-root.ensures.id ∙ c.root-root.ensures.value)
       (ap (g.S.NodeStore.nodes c.args.store.now) (sym c.root-root.ensures.value) ∙ c.in_ok-root.ensures.contents known),
   tt,

@@ -1,21 +1,19 @@
 use Rattle.std.proofs.Common.{ℕ, ◌+◌, arith}
 use Rattle.bd_node.specs.Tables.{one_if}
 use Rattle.bd_memnodes.specs.Maps.{nodes_in, count_in, times_of}
-use Rattle.bd_memnodes.specs.Releasing.{IsReleasing}
+use Rattle.bd_memnodes.specs.Releasing.{IsReleasing, IsOwing, TakesBack}
 use Rattle.bd_memnodes.proofs.Taking.{same_owed}
 use Rattle.bd_memnodes.proofs.Parts.{from_here, same_ends, both_releasing}
 use Rattle.bd_memnodes.specs.declared.kept.Kept.{Kept}
 use Rattle.bd_memnodes.proofs.kept.Kept.settle.Goals as goal
 
 -- the pointer to the old root was taken back
-taken : (old new : Kept) (id : ℕ) → IsReleasing (nodes_in old.nodes) old.next old.root (nodes_in old.nodes) (count_in old.counts) (λ c. one_if id c + times_of old.dead.items c)
-    → ((first : _) (next root : ℕ) (rest : ℕ → ℕ) → IsReleasing first next root (nodes_in old.nodes) (count_in old.counts) (λ c. one_if id c + times_of old.dead.items c + rest c)
-    → IsReleasing first next root (nodes_in new.nodes) (count_in new.counts) (λ c. times_of new.dead.items c + rest c))
+taken : (old new : Kept) (id : ℕ) → IsOwing (nodes_in old.nodes) old.next old.root (one_if id) old → TakesBack (one_if id) old new
     → IsReleasing (nodes_in old.nodes) old.next old.root (nodes_in new.nodes) (count_in new.counts) (times_of new.dead.items)
 taken old new id h take =
-    same_owed (nodes_in old.nodes) old.next old.root (nodes_in new.nodes) (count_in new.counts) (λ c. times_of new.dead.items c + 0) (times_of new.dead.items) (λ c. omega arith)
-    (take (nodes_in old.nodes) old.next old.root (λ c. 0)
-    (same_owed (nodes_in old.nodes) old.next old.root (nodes_in old.nodes) (count_in old.counts) (λ c. one_if id c + times_of old.dead.items c) (λ c. one_if id c + times_of old.dead.items c + 0) (λ c. omega arith) h))
+    same_owed (nodes_in old.nodes) old.next old.root (nodes_in new.nodes) (count_in new.counts) (λ c. 0 + times_of new.dead.items c) (times_of new.dead.items) (λ c. omega arith)
+    (take.others (nodes_in old.nodes) old.next old.root (λ c. 0)
+    (same_owed (nodes_in old.nodes) old.next old.root (nodes_in old.nodes) (count_in old.counts) (λ c. one_if id c + times_of old.dead.items c) (λ c. one_if id c + 0 + times_of old.dead.items c) (λ c. omega arith) h))
 
 pub drop_dead-requires-clause-releasing : goal.drop_dead-requires-clause-releasing
 drop_dead-requires-clause-releasing c =
