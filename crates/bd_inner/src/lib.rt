@@ -25,7 +25,7 @@ pub use carving::carve;
 pub use clipping::clip;
 pub use compaction::compact;
 pub use exchanging::{edge_to, end_of, exchange};
-pub use halves::split;
+pub use halves::{Halves, split};
 pub use pending::{can_touch, end_before, is_pending};
 pub use receiving::receive;
 use std::marker::Brand;
