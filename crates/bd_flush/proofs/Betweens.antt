@@ -222,7 +222,7 @@ parent_upper t way parent place child push node rising h =
       high = omega arith;
       named = λ x one.
           let lower : IsLower t (t.level parent.id) x = parent_named t way parent place child push node rising h x one in
-          (lower.kept, after_low t way parent place child push h.above node rising h (omega arith) is h.rise x lower);
+          record { there = inl lower.kept; lower = after_low t way parent place child push h.above node rising h (omega arith) is h.rise x lower };
     }
 
 half_under : (t : Table) (c : ℕ) (new : List Entry) (own : List ℕ → Type 0) (half : Node) → IsHalf (Leaf new) own half → IsMadeUnder t 1 c half
@@ -248,11 +248,13 @@ between_path t way parent place child push node rising h =
       low = omega arith;
       high = omega arith;
       named = λ x one. inr (named_has (λ (i : ℕ). (t.next ≤ i) × (i < t.next + 2)) x (t.next ∷ (t.next + 1) ∷ []) ((omega arith, omega arith), ((omega arith, omega arith), tt)) one);
+      top = 1;
+      under = λ x high one. omega arith;
       made_are = (
         half_under t child.id push.long.new (λ k. IsBelow k push.halves.pivot) push.halves.first push.long.are.lower,
         (half_under t child.id push.long.new (λ k. IsAtLeast k push.halves.pivot) push.halves.second push.long.are.upper, tt),
       );
-      used = λ x most least. times_made 1 push.halves.pivot t.next x most least;
+      used = λ x most least. inl (times_made 1 push.halves.pivot t.next x most least);
       uppers_are = (
         parent_upper t way parent place child push node rising h,
         rising_uppers t child.id (the_child t push.halves) (the_uppers parent node rising) (both push.halves) parent.id (level_of node) way rising h.table (child_rises t way parent place child push node rising h) (all_rise t way parent place child push node rising h) (omega arith) rise h.way_up,

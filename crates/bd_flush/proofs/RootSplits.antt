@@ -149,11 +149,13 @@ over_path t c n halves way rising h =
       named = λ x one.
           named_has (λ y. IsLower t (t.level c) y ⊎ ((t.next ≤ y) × (y < t.next + 2))) x (t.next ∷ (t.next + 1) ∷ [])
           (inr (omega arith, omega arith), (inr (omega arith, omega arith), tt)) one;
+      top = level_of n + 1;
+      under = λ x high one. omega arith;
       made_are = (
         half_made t c n halves way rising (λ k. IsBelow k halves.pivot) halves.first h h.are.lower,
         (half_made t c n halves way rising (λ k. IsAtLeast k halves.pivot) halves.second h h.are.upper, tt),
       );
-      used = λ x high low. times_made (level_of n + 1) halves.pivot t.next x high low;
+      used = λ x high low. inl (times_made (level_of n + 1) halves.pivot t.next x high low);
       uppers_are = rising_uppers t c (the_top t n halves) (map raise rising) (both halves) c (level_of n + 1) way rising h.table (top_rises t c n halves way rising h)
           (rising_rises t c (level_of n + 1) way rising h.rise h.up) (omega arith) h.rise h.up;
       once = rising_once t c (level_of n + 1) way rising h.rise h.up;

@@ -293,7 +293,7 @@ fn with_upper(
     exchange(alloc, node, place, Items::from_vec(list))
 }
 
-// The step that changes a node and its child, and makes others.
+// The step that changes a child and the node above it, and makes others.
 pub fn child_step(
     alloc: Global,
     root: u64,
@@ -306,9 +306,10 @@ pub fn child_step(
     ensures { IfOk result (λ step. step ≡ child_step root parent node child half made.items) }
 {
     let mut others = Vec::new(alloc);
-    others.push(Change {
+    others.push(Change { id: parent, node })?;
+    let change = Change {
         id: child,
         node: half,
-    })?;
-    path_step(alloc, root, Change { id: parent, node }, others, made)
+    };
+    path_step(alloc, root, change, others, made)
 }
