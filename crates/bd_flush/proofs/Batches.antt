@@ -16,6 +16,7 @@ use Rattle.bd_node.specs.Nodes.{level_of, appended}
 use Rattle.bd_node.specs.Shape.{end_before, IsLeaf, IsShape}
 use Rattle.bd_inner.specs.declared.batches.Batch.{Batch}
 use Rattle.bd_node.specs.Parts.{edges_of, buffer_of, end_at, IsEdgeAt}
+use Rattle.bd_inner.specs.declared.halves.Halves.{Halves}
 use Rattle.bd_inner.specs.Halves.{AreHalves}
 use Rattle.bd_inner.specs.Moving.{IsBatch}
 use Rattle.bd_inner.specs.Compaction.{IsCompacted}
@@ -145,40 +146,44 @@ leaf_room n place b old new leaf h =
     omega arith
 
 -- the halves in place of the leaf
-pub on_parted : {E : Type 0} (n : Node) (place count next : ℕ) (e f : Edge) (new : List Entry) (first : Node) (pivot : List ℕ) (second : Node) (r : Result Halving E) → IsEdgeAt n place e → f ≡ seen_by e count → AreHalves (Leaf new) first pivot second
-    → IfOk r (IsOver n place f first pivot second next) → IfOk r (IsPartedOver n place count new next)
-on_parted n place count next e f new first pivot second (Err x) here same halves is = tt
-on_parted n place count next e f new first pivot second (Ok (Long g own)) here same halves is = (
-  subst (λ (h : Node × List ℕ × Node). AreHalves (Leaf new) h.0 h.1 h.2) (sym is.1) halves,
+pub on_parted : {E : Type 0} (n : Node) (place count next : ℕ) (e f : Edge) (new : List Entry) (halves : Halves) (r : Result Halving E) → IsEdgeAt n place e → f ≡ seen_by e count → AreHalves (Leaf new) halves
+    → IfOk r (IsOver n place f halves next) → IfOk r (IsPartedOver n place count new next)
+on_parted n place count next e f new halves (Err x) here same are is = tt
+on_parted n place count next e f new halves (Ok (Long g own)) here same are is = (
+  subst (λ (h : Halves). AreHalves (Leaf new) h) (sym is.1) are,
   λ d there.
       let one : e ≡ d = same_Some e d (sym here ∙ there) in (
         is.0 ∙ same ∙ ap (λ (x : Edge). seen_by x count) one,
-        subst (λ (h : Node × List ℕ × Node). IsLongIn n place d h.1) (sym is.1) (subst (λ (x : Edge). IsLongIn n place x pivot) one (subst (λ (x : Edge). IsLongIn n place x pivot) same is.2)),
+        subst (λ (h : Halves). IsLongIn n place d h.pivot) (sym is.1) (subst (λ (x : Edge). IsLongIn n place x halves.pivot) one (subst (λ (x : Edge). IsLongIn n place x halves.pivot) same is.2)),
       ),
 )
-on_parted n place count next e f new first pivot second (Ok (Short parts)) here same halves is = λ d there.
+on_parted n place count next e f new halves (Ok (Short parts)) here same are is = λ d there.
     subst (λ (x : Edge). IsSplitInto n place (seen_by x count) (Leaf new) next parts.node parts.half parts.made.items) (same_Some e d (sym here ∙ there))
-    (subst (λ (g : Edge). IsSplitInto n place g (Leaf new) next parts.node parts.half parts.made.items) same (is (Leaf new) halves))
+    (subst (λ (g : Edge). IsSplitInto n place g (Leaf new) next parts.node parts.half parts.made.items) same (is (Leaf new) are))
 
 pub on_split : {E : Type 0} (n : Node) (place next : ℕ) (b : Batch) (old new : List Entry) (r : Result Halving E) → IsLeafBatch n place b old new → leaf_limit < entries_size new → IfOk r (IsPartedOver n place b.count new next) → IfOk r (IsPushedOver n place (Leaf old) next)
 on_split n place next b old new (Err x) h over is = tt
 on_split n place next b old new (Ok (Long f own)) h over is =
     let found = some_edge n place h.low in
     record {
-      edge = found.0;
-      here = found.1;
-      batch = b;
-      moved = h.batch found.0 found.1;
-      seen = (is.1 found.0 found.1).0;
-      long = record {
-        old = old;
-        new = new;
-        leaf = refl;
-        got = h.got;
-        over = over;
-        halves = is.0;
-        long = (is.1 found.0 found.1).1;
+      push = record {
+        edge = found.0;
+        here = found.1;
+        batch = b;
+        moved = h.batch found.0 found.1;
+        halves = own;
+        long = record {
+          old = old;
+          new = new;
+          leaf = refl;
+          got = h.got;
+          over = over;
+          are = is.0;
+          long = (is.1 found.0 found.1).1;
+        };
       };
+      seen = (is.1 found.0 found.1).0;
+      are = refl;
     }
 on_split n place next b old new (Ok (Short parts)) h over is =
     let found = some_edge n place h.low in
@@ -207,13 +212,13 @@ are_fitted n place next b old new shown parts h same fits above half_is made_is 
 
 -- ---- halves whose pivot would be too long
 
-pub long_fits : (n shown : Node) (place : ℕ) (m : Node) (f : Edge) (first : Node) (pivot : List ℕ) (second : Node) → shown ≡ n → IsShape n → AreLongParts shown place m f first pivot second → (e : Edge) → IsEdgeAt shown place e → FitsAt shown place e (f ∷ [])
-long_fits n shown place m f first pivot second same shape h =
+pub long_fits : (n shown : Node) (place : ℕ) (m : Node) (f : Edge) (halves : Halves) → shown ≡ n → IsShape n → AreLongParts shown place m f halves → (e : Edge) → IsEdgeAt shown place e → FitsAt shown place e (f ∷ [])
+long_fits n shown place m f halves same shape h =
     let own : IsShape shown = subst (λ (d : Node). IsShape d) (sym same) shape in
     subst (λ (g : Edge). (d : Edge) → IsEdgeAt shown place d → FitsAt shown place d (g ∷ [])) (sym h.seen)
-    (fits_here shown place h.edge (seen_by h.edge h.batch.count ∷ []) (seen_fits shown place h.edge (h.edge.seen + h.batch.count) own h.here (batch_low shown place h.edge h.batch own h.here h.moved)))
+    (fits_here shown place h.push.edge (seen_by h.push.edge h.push.batch.count ∷ []) (seen_fits shown place h.push.edge (h.push.edge.seen + h.push.batch.count) own h.push.here (batch_low shown place h.push.edge h.push.batch own h.push.here h.push.moved)))
 
-pub long_shape : (n shown : Node) (place : ℕ) (m : Node) (f : Edge) (first : Node) (pivot : List ℕ) (second above : Node) → shown ≡ n → IsShape n → AreLongParts shown place m f first pivot second → IsCompacted (exchanged shown place (f ∷ [])) above → IsShape above
-long_shape n shown place m f first pivot second above same shape h is =
+pub long_shape : (n shown : Node) (place : ℕ) (m : Node) (f : Edge) (halves : Halves) (above : Node) → shown ≡ n → IsShape n → AreLongParts shown place m f halves → IsCompacted (exchanged shown place (f ∷ [])) above → IsShape above
+long_shape n shown place m f halves above same shape h is =
     let own : IsShape shown = subst (λ (d : Node). IsShape d) (sym same) shape in
-    compacted_shape (exchanged shown place (f ∷ [])) above (exchanged_shape shown place h.edge (f ∷ []) own (long_fits n shown place m f first pivot second same shape h h.edge h.here)) is
+    compacted_shape (exchanged shown place (f ∷ [])) above (exchanged_shape shown place h.push.edge (f ∷ []) own (long_fits n shown place m f halves same shape h h.push.edge h.push.here)) is

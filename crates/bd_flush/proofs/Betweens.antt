@@ -22,6 +22,7 @@ use Rattle.bd_node.proofs.Lookup.{Agree, each_weaker, each_named, named_has, nod
 use Rattle.bd_node.proofs.Meanings.{at-meets}
 use Rattle.bd_node.proofs.Sound.{sound-levelled, named_lower, root_unnamed}
 use Rattle.bd_node.proofs.Stepping.{given-old, by_given, changed_at-same, changed_at-none}
+use Rattle.bd_inner.specs.declared.halves.Halves.{Halves}
 use Rattle.bd_inner.specs.Halves.{IsHalf}
 use Rattle.bd_inner.specs.Exchange.{exchanged}
 use Rattle.bd_inner.proofs.Compacting.{compacted_shape, compacted_level, compacted_meaning}
@@ -36,8 +37,8 @@ use Rattle.bd_path.specs.Paths.{path_step}
 use Rattle.bd_path.specs.Raising.{raised, raise, IsWayUp, IsRising, IsRaisedOver}
 use Rattle.bd_path.specs.Raising.IsRising.{at_top, high_enough, rises}
 use Rattle.bd_path.specs.Raising.IsRaisedOver.{is_above, rises_too}
-use Rattle.bd_flush.specs.Pushes.{seen_by, CanPush, IsPushBetween}
-use Rattle.bd_flush.proofs.RootSplits.{over_shape, two_have, times_made}
+use Rattle.bd_flush.specs.Pushes.{seen_by, CanPush, IsRelieved, IsLongPush}
+use Rattle.bd_flush.proofs.RootSplits.{both, over_shape, two_have, times_made}
 use Rattle.bd_flush.proofs.ChildSplits.{one_fits, one_times, lower_child, other_names, at_child, IsSplittable, IsSplittableOf}
 use Rattle.bd_path.proofs.EdgesAt.{as_edge, child_named, some_next}
 use Rattle.bd_inner.proofs.Named.{level_exchanged, compacted_small}
@@ -85,132 +86,134 @@ risen_way t p above _ way _ up is inner (rises_too rising few rise) = subst (λ 
 
 -- ---- the situation
 
-pub record IsToPutBetween (t : Table) (way : List Fetched) (parent : Fetched) (place : ℕ) (child : Fetched) (first : Node) (pivot : List ℕ) (second node : Node) (rising : List Fetched) : Type 0 where
+pub record IsToPutBetween (t : Table) (way : List Fetched) (parent : Fetched) (place : ℕ) (child : Fetched) (push : IsLongPush parent.node.value place child.node.value) (node : Node) (rising : List Fetched) : Type 0 where
   pub table : IsTable t
   pub ids : t.next + 1 < 2 ^ 64
   pub can : CanPush t parent place child
   pub way_up : IsWayUp t parent.id way
-  pub into : IsPushBetween parent.node.value place child.node.value way first pivot second node rising
+  pub above : Node
+  pub relieved : IsRelieved parent.node.value place push.edge push.batch.count above
+  pub rise : IsRaisedOver 1 above way node rising
 
-abbrev pub the_child : Table → List ℕ → Node
-the_child t pivot = over_two 1 pivot t.next (t.next + 1)
+abbrev pub the_child : Table → Halves → Node
+the_child t halves = over_two 1 halves.pivot t.next (t.next + 1)
 
 abbrev pub the_uppers : Fetched → Node → List Fetched → List Change
 the_uppers parent node rising = record { id = parent.id; node = node } ∷ map raise rising
 
-abbrev pub the_step : Table → Fetched → Fetched → Node → List ℕ → Node → Node → List Fetched → Step
-the_step t parent child first pivot second node rising = path_step t.root child.id (the_child t pivot) (the_uppers parent node rising) (first ∷ second ∷ [])
+abbrev pub the_step : Table → Fetched → Fetched → Halves → Node → List Fetched → Step
+the_step t parent child halves node rising = path_step t.root child.id (the_child t halves) (the_uppers parent node rising) (both halves)
 
-same_edge : (t : Table) (way : List Fetched) (parent : Fetched) (place : ℕ) (child : Fetched) (first : Node) (pivot : List ℕ) (second node : Node) (rising : List Fetched) → (h : IsToPutBetween t way parent place child first pivot second node rising) → h.can.edge ≡ h.into.edge
-same_edge t way parent place child first pivot second node rising h = same_Some h.can.edge h.into.edge (sym h.can.way.here ∙ h.into.here)
+same_edge : (t : Table) (way : List Fetched) (parent : Fetched) (place : ℕ) (child : Fetched) (push : IsLongPush parent.node.value place child.node.value) (node : Node) (rising : List Fetched) → (h : IsToPutBetween t way parent place child push node rising) → h.can.edge ≡ push.edge
+same_edge t way parent place child push node rising h = same_Some h.can.edge push.edge (sym h.can.way.here ∙ push.here)
 
-way_to_child : (t : Table) (way : List Fetched) (parent : Fetched) (place : ℕ) (child : Fetched) (first : Node) (pivot : List ℕ) (second node : Node) (rising : List Fetched) → (h : IsToPutBetween t way parent place child first pivot second node rising) → IsWayTo parent.node.value place child.id h.into.edge
-way_to_child t way parent place child first pivot second node rising h =
-    subst (λ (e : Edge). IsWayTo parent.node.value place child.id e) (same_edge t way parent place child first pivot second node rising h) h.can.way
+way_to_child : (t : Table) (way : List Fetched) (parent : Fetched) (place : ℕ) (child : Fetched) (push : IsLongPush parent.node.value place child.node.value) (node : Node) (rising : List Fetched) → (h : IsToPutBetween t way parent place child push node rising) → IsWayTo parent.node.value place child.id push.edge
+way_to_child t way parent place child push node rising h =
+    subst (λ (e : Edge). IsWayTo parent.node.value place child.id e) (same_edge t way parent place child push node rising h) h.can.way
 
-pub splittable : (t : Table) (way : List Fetched) (parent : Fetched) (place : ℕ) (child : Fetched) (first : Node) (pivot : List ℕ) (second node : Node) (rising : List Fetched) → (h : IsToPutBetween t way parent place child first pivot second node rising)
-    → IsSplittable t parent.id parent.node.value place child.id h.into.edge (h.into.edge.seen + h.into.batch.count) child.node.value
-splittable t way parent place child first pivot second node rising h = record {
+pub splittable : (t : Table) (way : List Fetched) (parent : Fetched) (place : ℕ) (child : Fetched) (push : IsLongPush parent.node.value place child.node.value) (node : Node) (rising : List Fetched) → (h : IsToPutBetween t way parent place child push node rising)
+    → IsSplittable t parent.id parent.node.value place child.id push.edge (push.edge.seen + push.batch.count) child.node.value
+splittable t way parent place child push node rising h = record {
   table = h.table;
   kept = h.can.parent_is.kept;
   own = h.can.parent_is.own;
   few = h.can.room;
-  way = way_to_child t way parent place child first pivot second node rising h;
-  low = batch_low parent.node.value place h.into.edge h.into.batch h.can.parent_is.own.shape h.into.here h.into.moved;
+  way = way_to_child t way parent place child push node rising h;
+  low = batch_low parent.node.value place push.edge push.batch h.can.parent_is.own.shape push.here push.moved;
   child_level = h.can.child_is.own.level_is;
   child_names = h.can.child_is.own.lower;
   next = (let ids : t.next + 1 < 2 ^ 64 = h.ids in omega arith);
 }
 
 -- the child is a leaf
-leaf_low : (t : Table) (way : List Fetched) (parent : Fetched) (place : ℕ) (child : Fetched) (first : Node) (pivot : List ℕ) (second node : Node) (rising : List Fetched) → IsToPutBetween t way parent place child first pivot second node rising → t.level child.id ≡ 0
-leaf_low t way parent place child first pivot second node rising h = sym h.can.child_is.own.level_is ∙ ap level_of h.into.long.leaf
+leaf_low : (t : Table) (way : List Fetched) (parent : Fetched) (place : ℕ) (child : Fetched) (push : IsLongPush parent.node.value place child.node.value) (node : Node) (rising : List Fetched) → IsToPutBetween t way parent place child push node rising → t.level child.id ≡ 0
+leaf_low t way parent place child push node rising h = sym h.can.child_is.own.level_is ∙ ap level_of push.long.leaf
 
-under_parent : (t : Table) (way : List Fetched) (parent : Fetched) (place : ℕ) (child : Fetched) (first : Node) (pivot : List ℕ) (second node : Node) (rising : List Fetched) → IsToPutBetween t way parent place child first pivot second node rising → IsLower t (t.level parent.id) child.id
-under_parent t way parent place child first pivot second node rising h =
-    lower_child t parent.id parent.node.value place child.id h.into.edge (h.into.edge.seen + h.into.batch.count) child.node.value (splittable t way parent place child first pivot second node rising h)
+under_parent : (t : Table) (way : List Fetched) (parent : Fetched) (place : ℕ) (child : Fetched) (push : IsLongPush parent.node.value place child.node.value) (node : Node) (rising : List Fetched) → IsToPutBetween t way parent place child push node rising → IsLower t (t.level parent.id) child.id
+under_parent t way parent place child push node rising h =
+    lower_child t parent.id parent.node.value place child.id push.edge (push.edge.seen + push.batch.count) child.node.value (splittable t way parent place child push node rising h)
 
 -- the parent before it rises
-above_level : (t : Table) (way : List Fetched) (parent : Fetched) (place : ℕ) (child : Fetched) (first : Node) (pivot : List ℕ) (second node : Node) (rising : List Fetched) → (h : IsToPutBetween t way parent place child first pivot second node rising) → level_of h.into.above ≡ t.level parent.id
-above_level t way parent place child first pivot second node rising h =
-    let list : List Edge = seen_by h.into.edge h.into.batch.count ∷ [] in
-    compacted_level (exchanged parent.node.value place list) h.into.above h.into.relieved ∙ level_exchanged parent.node.value place list ∙ h.can.parent_is.own.level_is
+above_level : (t : Table) (way : List Fetched) (parent : Fetched) (place : ℕ) (child : Fetched) (push : IsLongPush parent.node.value place child.node.value) (node : Node) (rising : List Fetched) → (h : IsToPutBetween t way parent place child push node rising) → level_of h.above ≡ t.level parent.id
+above_level t way parent place child push node rising h =
+    let list : List Edge = seen_by push.edge push.batch.count ∷ [] in
+    compacted_level (exchanged parent.node.value place list) h.above h.relieved ∙ level_exchanged parent.node.value place list ∙ h.can.parent_is.own.level_is
 
-parent_risen : (t : Table) (way : List Fetched) (parent : Fetched) (place : ℕ) (child : Fetched) (first : Node) (pivot : List ℕ) (second node : Node) (rising : List Fetched) → (h : IsToPutBetween t way parent place child first pivot second node rising) → IsRisen h.into.above node
-parent_risen t way parent place child first pivot second node rising h =
+parent_risen : (t : Table) (way : List Fetched) (parent : Fetched) (place : ℕ) (child : Fetched) (push : IsLongPush parent.node.value place child.node.value) (node : Node) (rising : List Fetched) → (h : IsToPutBetween t way parent place child push node rising) → IsRisen h.above node
+parent_risen t way parent place child push node rising h =
     let n : Node = parent.node.value in
-    let list : List Edge = seen_by h.into.edge h.into.batch.count ∷ [] in
-    let is : level_of h.into.above ≡ t.level parent.id = above_level t way parent place child first pivot second node rising h in
-    let lower : IsLower t (t.level parent.id) child.id = under_parent t way parent place child first pivot second node rising h in
+    let list : List Edge = seen_by push.edge push.batch.count ∷ [] in
+    let is : level_of h.above ≡ t.level parent.id = above_level t way parent place child push node rising h in
+    let lower : IsLower t (t.level parent.id) child.id = under_parent t way parent place child push node rising h in
     let l : t.level child.id < t.level parent.id = lower.lower in
-    risen h.into.above node way rising
-    (compacted_shape (exchanged n place list) h.into.above (exchanged_shape n place h.into.edge list h.can.parent_is.own.shape (one_fits t parent.id n place child.id h.into.edge (h.into.edge.seen + h.into.batch.count) child.node.value (splittable t way parent place child first pivot second node rising h))) h.into.relieved) (omega arith)
-    h.into.rise
+    risen h.above node way rising
+    (compacted_shape (exchanged n place list) h.above (exchanged_shape n place push.edge list h.can.parent_is.own.shape (one_fits t parent.id n place child.id push.edge (push.edge.seen + push.batch.count) child.node.value (splittable t way parent place child push node rising h))) h.relieved) (omega arith)
+    h.rise
 
-rise_is : (t : Table) (way : List Fetched) (parent : Fetched) (place : ℕ) (child : Fetched) (first : Node) (pivot : List ℕ) (second node : Node) (rising : List Fetched) → IsToPutBetween t way parent place child first pivot second node rising → IsRising (level_of node) way rising
-rise_is t way parent place child first pivot second node rising h =
-    let is : level_of h.into.above ≡ t.level parent.id = above_level t way parent place child first pivot second node rising h in
-    let lower : IsLower t (t.level parent.id) child.id = under_parent t way parent place child first pivot second node rising h in
+rise_is : (t : Table) (way : List Fetched) (parent : Fetched) (place : ℕ) (child : Fetched) (push : IsLongPush parent.node.value place child.node.value) (node : Node) (rising : List Fetched) → IsToPutBetween t way parent place child push node rising → IsRising (level_of node) way rising
+rise_is t way parent place child push node rising h =
+    let is : level_of h.above ≡ t.level parent.id = above_level t way parent place child push node rising h in
+    let lower : IsLower t (t.level parent.id) child.id = under_parent t way parent place child push node rising h in
     let l : t.level child.id < t.level parent.id = lower.lower in
-    risen_way t parent.id h.into.above node way rising h.way_up is (omega arith) h.into.rise
+    risen_way t parent.id h.above node way rising h.way_up is (omega arith) h.rise
 
 -- it names what it named before
-parent_named : (t : Table) (way : List Fetched) (parent : Fetched) (place : ℕ) (child : Fetched) (first : Node) (pivot : List ℕ) (second node : Node) (rising : List Fetched) → IsToPutBetween t way parent place child first pivot second node rising → (x : ℕ) → 1 ≤ times node x → IsLower t (t.level parent.id) x
-parent_named t way parent place child first pivot second node rising h x one =
-    let same : times node x ≡ times h.into.above x = (parent_risen t way parent place child first pivot second node rising h).same x in
-    let less : times h.into.above x ≤ times parent.node.value x = one_times parent.node.value place h.into.edge (h.into.edge.seen + h.into.batch.count) h.into.above h.can.parent_is.own.shape h.into.here h.into.relieved x in
+parent_named : (t : Table) (way : List Fetched) (parent : Fetched) (place : ℕ) (child : Fetched) (push : IsLongPush parent.node.value place child.node.value) (node : Node) (rising : List Fetched) → IsToPutBetween t way parent place child push node rising → (x : ℕ) → 1 ≤ times node x → IsLower t (t.level parent.id) x
+parent_named t way parent place child push node rising h x one =
+    let same : times node x ≡ times h.above x = (parent_risen t way parent place child push node rising h).same x in
+    let less : times h.above x ≤ times parent.node.value x = one_times parent.node.value place push.edge (push.edge.seen + push.batch.count) h.above h.can.parent_is.own.shape push.here h.relieved x in
     named_has (IsLower t (t.level parent.id)) x (names parent.node.value) h.can.parent_is.own.lower (omega arith)
 
 -- ---- as far as the table tells
 
-child_rises : (t : Table) (way : List Fetched) (parent : Fetched) (place : ℕ) (child : Fetched) (first : Node) (pivot : List ℕ) (second node : Node) (rising : List Fetched) → IsToPutBetween t way parent place child first pivot second node rising → RisesByOne t (record { id = child.id; node = the_child t pivot })
-child_rises t way parent place child first pivot second node rising h =
-    let zero_is : t.level child.id ≡ 0 = leaf_low t way parent place child first pivot second node rising h in
+child_rises : (t : Table) (way : List Fetched) (parent : Fetched) (place : ℕ) (child : Fetched) (push : IsLongPush parent.node.value place child.node.value) (node : Node) (rising : List Fetched) → IsToPutBetween t way parent place child push node rising → RisesByOne t (record { id = child.id; node = the_child t push.halves })
+child_rises t way parent place child push node rising h =
+    let zero_is : t.level child.id ≡ 0 = leaf_low t way parent place child push node rising h in
     (omega arith, omega arith)
 
-all_rise : (t : Table) (way : List Fetched) (parent : Fetched) (place : ℕ) (child : Fetched) (first : Node) (pivot : List ℕ) (second node : Node) (rising : List Fetched) → IsToPutBetween t way parent place child first pivot second node rising → AllByRecursion (RisesByOne t) (the_uppers parent node rising)
-all_rise t way parent place child first pivot second node rising h =
-    let is : level_of h.into.above ≡ t.level parent.id = above_level t way parent place child first pivot second node rising h in
-    let own = parent_risen t way parent place child first pivot second node rising h in
-    let least : level_of h.into.above ≤ level_of node = own.least in
-    let most : level_of node ≤ level_of h.into.above + 1 = own.most in
-    ((omega arith, omega arith), rising_rises t parent.id (level_of node) way rising (rise_is t way parent place child first pivot second node rising h) h.way_up)
+all_rise : (t : Table) (way : List Fetched) (parent : Fetched) (place : ℕ) (child : Fetched) (push : IsLongPush parent.node.value place child.node.value) (node : Node) (rising : List Fetched) → IsToPutBetween t way parent place child push node rising → AllByRecursion (RisesByOne t) (the_uppers parent node rising)
+all_rise t way parent place child push node rising h =
+    let is : level_of h.above ≡ t.level parent.id = above_level t way parent place child push node rising h in
+    let own = parent_risen t way parent place child push node rising h in
+    let least : level_of h.above ≤ level_of node = own.least in
+    let most : level_of node ≤ level_of h.above + 1 = own.most in
+    ((omega arith, omega arith), rising_rises t parent.id (level_of node) way rising (rise_is t way parent place child push node rising h) h.way_up)
 
 -- a node below the parent is lower than it then
-after_low : (t : Table) (way : List Fetched) (parent : Fetched) (place : ℕ) (child : Fetched) (first : Node) (pivot : List ℕ) (second : Node) (above node : Node) (rising : List Fetched) → IsToPutBetween t way parent place child first pivot second node rising → 1 ≤ level_of above → level_of above ≡ t.level parent.id → IsRaisedOver 1 above way node rising
-    → (x : ℕ) → IsLower t (t.level parent.id) x → level_after t (the_step t parent child first pivot second node rising) x < level_of node
-after_low t way parent place child first pivot second above _ _ h inner is (rises_too rising few rise) x lower =
+after_low : (t : Table) (way : List Fetched) (parent : Fetched) (place : ℕ) (child : Fetched) (push : IsLongPush parent.node.value place child.node.value) (above node : Node) (rising : List Fetched) → IsToPutBetween t way parent place child push node rising → 1 ≤ level_of above → level_of above ≡ t.level parent.id → IsRaisedOver 1 above way node rising
+    → (x : ℕ) → IsLower t (t.level parent.id) x → level_after t (the_step t parent child push.halves node rising) x < level_of node
+after_low t way parent place child push above _ _ h inner is (rises_too rising few rise) x lower =
     let node : Node = raised above in
     let up : level_of (raised above) ≡ level_of above + 1 = raised_level above inner in
     let l : t.level x < t.level parent.id = lower.lower in
-    let most : level_after t (the_step t parent child first pivot second node rising) x ≤ t.level x + 1 =
-    (level_bound t child.id (the_child t pivot) (the_uppers parent node rising) (first ∷ second ∷ []) (child_rises t way parent place child first pivot second node rising h) (all_rise t way parent place child first pivot second node rising h) x (h.table.below x lower.kept)).1 in
+    let most : level_after t (the_step t parent child push.halves node rising) x ≤ t.level x + 1 =
+    (level_bound t child.id (the_child t push.halves) (the_uppers parent node rising) (both push.halves) (child_rises t way parent place child push node rising h) (all_rise t way parent place child push node rising h) x (h.table.below x lower.kept)).1 in
     omega arith
-after_low t way parent place child first pivot second above _ _ h inner is (is_above more) x lower =
-    let step : Step = the_step t parent child first pivot second above [] in
+after_low t way parent place child push above _ _ h inner is (is_above more) x lower =
+    let step : Step = the_step t parent child push.halves above [] in
     let l : t.level x < t.level parent.id = lower.lower in
     let below : x < t.next = h.table.below x lower.kept in
     elim (cases_eq x child.id) [
       | inl same ↦ (let most : level_after t step x ≤ t.level x + 1 =
-          (level_bound t child.id (the_child t pivot) (the_uppers parent above []) (first ∷ second ∷ []) (child_rises t way parent place child first pivot second above [] h) (all_rise t way parent place child first pivot second above [] h) x below).1 in
-          let zero_is : t.level child.id ≡ 0 = leaf_low t way parent place child first pivot second above [] h in
+          (level_bound t child.id (the_child t push.halves) (the_uppers parent above []) (both push.halves) (child_rises t way parent place child push above [] h) (all_rise t way parent place child push above [] h) x below).1 in
+          let zero_is : t.level child.id ≡ 0 = leaf_low t way parent place child push above [] h in
           let e : t.level x ≡ t.level child.id = ap t.level same in
           omega arith)
       | inr other ↦ (let none : given t.next step x ≡ None =
-          given_upper t child.id (the_child t pivot) (the_uppers parent above []) (first ∷ second ∷ []) x below other
+          given_upper t child.id (the_child t push.halves) (the_uppers parent above []) (both push.halves) x below other
           ∙ changed_at-none (λ i. t.level parent.id ≤ t.level i) (the_uppers parent above []) x (omega arith, tt) (λ up. omega arith) in
           let e : level_after t step x ≡ t.level x = ap (λ (o : Option Node). level_or o (t.level x)) none in
           omega arith)
     ]
 
-parent_upper : (t : Table) (way : List Fetched) (parent : Fetched) (place : ℕ) (child : Fetched) (first : Node) (pivot : List ℕ) (second node : Node) (rising : List Fetched) → IsToPutBetween t way parent place child first pivot second node rising
-    → IsUpper t (the_step t parent child first pivot second node rising) child.id (record { id = parent.id; node = node })
-parent_upper t way parent place child first pivot second node rising h =
-    let is : level_of h.into.above ≡ t.level parent.id = above_level t way parent place child first pivot second node rising h in
-    let own = parent_risen t way parent place child first pivot second node rising h in
-    let least : level_of h.into.above ≤ level_of node = own.least in
-    let most : level_of node ≤ level_of h.into.above + 1 = own.most in
-    let down : t.level child.id < t.level parent.id = (under_parent t way parent place child first pivot second node rising h).lower in
+parent_upper : (t : Table) (way : List Fetched) (parent : Fetched) (place : ℕ) (child : Fetched) (push : IsLongPush parent.node.value place child.node.value) (node : Node) (rising : List Fetched) → IsToPutBetween t way parent place child push node rising
+    → IsUpper t (the_step t parent child push.halves node rising) child.id (record { id = parent.id; node = node })
+parent_upper t way parent place child push node rising h =
+    let is : level_of h.above ≡ t.level parent.id = above_level t way parent place child push node rising h in
+    let own = parent_risen t way parent place child push node rising h in
+    let least : level_of h.above ≤ level_of node = own.least in
+    let most : level_of node ≤ level_of h.above + 1 = own.most in
+    let down : t.level child.id < t.level parent.id = (under_parent t way parent place child push node rising h).lower in
     record {
       kept = h.can.parent_is.kept;
       above = down;
@@ -218,8 +221,8 @@ parent_upper t way parent place child first pivot second node rising h =
       low = omega arith;
       high = omega arith;
       named = λ x one.
-          let lower : IsLower t (t.level parent.id) x = parent_named t way parent place child first pivot second node rising h x one in
-          (lower.kept, after_low t way parent place child first pivot second h.into.above node rising h (omega arith) is h.into.rise x lower);
+          let lower : IsLower t (t.level parent.id) x = parent_named t way parent place child push node rising h x one in
+          record { there = inl lower.kept; lower = after_low t way parent place child push h.above node rising h (omega arith) is h.rise x lower };
     }
 
 half_under : (t : Table) (c : ℕ) (new : List Entry) (own : List ℕ → Type 0) (half : Node) → IsHalf (Leaf new) own half → IsMadeUnder t 1 c half
@@ -230,29 +233,31 @@ half_under t c new own half is = record {
   named = λ x one. absurd (let less : times half x ≤ times (Leaf new) x = is.names x in omega arith);
 }
 
-pub between_path : (t : Table) (way : List Fetched) (parent : Fetched) (place : ℕ) (child : Fetched) (first : Node) (pivot : List ℕ) (second node : Node) (rising : List Fetched) → IsToPutBetween t way parent place child first pivot second node rising
-    → IsPathStep t child.id (the_child t pivot) (the_uppers parent node rising) (first ∷ second ∷ [])
-between_path t way parent place child first pivot second node rising h =
-    let zero_is : t.level child.id ≡ 0 = leaf_low t way parent place child first pivot second node rising h in
+pub between_path : (t : Table) (way : List Fetched) (parent : Fetched) (place : ℕ) (child : Fetched) (push : IsLongPush parent.node.value place child.node.value) (node : Node) (rising : List Fetched) → IsToPutBetween t way parent place child push node rising
+    → IsPathStep t child.id (the_child t push.halves) (the_uppers parent node rising) (both push.halves)
+between_path t way parent place child push node rising h =
+    let zero_is : t.level child.id ≡ 0 = leaf_low t way parent place child push node rising h in
     let some : 1 ≤ t.next = some_next t h.table in
     let ids : t.next + 1 < 2 ^ 64 = h.ids in
-    let rise : IsRising (level_of node) way rising = rise_is t way parent place child first pivot second node rising h in
-    let down : t.level child.id < t.level parent.id = (under_parent t way parent place child first pivot second node rising h).lower in
+    let rise : IsRising (level_of node) way rising = rise_is t way parent place child push node rising h in
+    let down : t.level child.id < t.level parent.id = (under_parent t way parent place child push node rising h).lower in
     record {
       table = h.table;
       child = h.can.child_is.kept;
-      shape = over_shape 1 pivot t.next (t.next + 1) (omega arith) (omega arith) h.into.long.halves.some h.into.long.halves.short (omega arith, omega arith) (omega arith, omega arith);
+      shape = over_shape 1 push.halves.pivot t.next (t.next + 1) (omega arith) (omega arith) push.long.are.some push.long.are.short (omega arith, omega arith) (omega arith, omega arith);
       low = omega arith;
       high = omega arith;
       named = λ x one. inr (named_has (λ (i : ℕ). (t.next ≤ i) × (i < t.next + 2)) x (t.next ∷ (t.next + 1) ∷ []) ((omega arith, omega arith), ((omega arith, omega arith), tt)) one);
+      top = 1;
+      under = λ x high one. omega arith;
       made_are = (
-        half_under t child.id h.into.long.new (λ k. IsBelow k pivot) first h.into.long.halves.lower,
-        (half_under t child.id h.into.long.new (λ k. IsAtLeast k pivot) second h.into.long.halves.upper, tt),
+        half_under t child.id push.long.new (λ k. IsBelow k push.halves.pivot) push.halves.first push.long.are.lower,
+        (half_under t child.id push.long.new (λ k. IsAtLeast k push.halves.pivot) push.halves.second push.long.are.upper, tt),
       );
-      used = λ x most least. times_made 1 pivot t.next x most least;
+      used = λ x most least. inl (times_made 1 push.halves.pivot t.next x most least);
       uppers_are = (
-        parent_upper t way parent place child first pivot second node rising h,
-        rising_uppers t child.id (the_child t pivot) (the_uppers parent node rising) (first ∷ second ∷ []) parent.id (level_of node) way rising h.table (child_rises t way parent place child first pivot second node rising h) (all_rise t way parent place child first pivot second node rising h) (omega arith) rise h.way_up,
+        parent_upper t way parent place child push node rising h,
+        rising_uppers t child.id (the_child t push.halves) (the_uppers parent node rising) (both push.halves) parent.id (level_of node) way rising h.table (child_rises t way parent place child push node rising h) (all_rise t way parent place child push node rising h) (omega arith) rise h.way_up,
       );
       once = (once_above t parent.id (map raise rising) (rising_above t parent.id (level_of node) way rising rise h.way_up), rising_once t parent.id (level_of node) way rising rise h.way_up);
     }
@@ -260,8 +265,8 @@ between_path t way parent place child first pivot second node rising h =
 -- ---- of known nodes
 
 -- the nodes are those of the parent, of the child, and of the way above
-pub record IsToPutBetweenOf (nodes : Nodes) (t : Table) (way : List Fetched) (parent : Fetched) (place : ℕ) (child : Fetched) (first : Node) (pivot : List ℕ) (second node : Node) (rising : List Fetched) : Type 0 where
-  pub of : IsToPutBetween t way parent place child first pivot second node rising
+pub record IsToPutBetweenOf (nodes : Nodes) (t : Table) (way : List Fetched) (parent : Fetched) (place : ℕ) (child : Fetched) (push : IsLongPush parent.node.value place child.node.value) (node : Node) (rising : List Fetched) : Type 0 where
+  pub of : IsToPutBetween t way parent place child push node rising
   pub sound : IsSound nodes t
   pub family : AreFamily nodes t parent child
   pub contents : AllByRecursion (IsContents nodes) way
@@ -275,19 +280,19 @@ rising_given t step x _ _ _ table changed (rises level f fs rising few room rise
       rising_given t step f.id (level_of f.node.value + 1) fs rising table changed.1 rise parts.1,
     )
 
-the_link : (t : Table) (way : List Fetched) (parent : Fetched) (place : ℕ) (child : Fetched) (first : Node) (pivot : List ℕ) (second node : Node) (rising : List Fetched) → IsToPutBetween t way parent place child first pivot second node rising → IsLink t child.id parent
-the_link t way parent place child first pivot second node rising h = record {
+the_link : (t : Table) (way : List Fetched) (parent : Fetched) (place : ℕ) (child : Fetched) (push : IsLongPush parent.node.value place child.node.value) (node : Node) (rising : List Fetched) → IsToPutBetween t way parent place child push node rising → IsLink t child.id parent
+the_link t way parent place child push node rising h = record {
   place = place;
-  edge = h.into.edge;
+  edge = push.edge;
   fetched = h.can.parent_is;
-  way = as_edge parent.node.value place child.id h.into.edge (way_to_child t way parent place child first pivot second node rising h);
+  way = as_edge parent.node.value place child.id push.edge (way_to_child t way parent place child push node rising h);
   once = h.can.once;
 }
 
-splittable_of : (nodes : Nodes) (t : Table) (way : List Fetched) (parent : Fetched) (place : ℕ) (child : Fetched) (first : Node) (pivot : List ℕ) (second node : Node) (rising : List Fetched) → (h : IsToPutBetweenOf nodes t way parent place child first pivot second node rising)
-    → IsSplittableOf nodes t parent.id parent.node.value place child.id h.of.into.edge (h.of.into.edge.seen + h.of.into.batch.count) child.node.value (at nodes)
-splittable_of nodes t way parent place child first pivot second node rising h = record {
-  of = splittable t way parent place child first pivot second node rising h.of;
+splittable_of : (nodes : Nodes) (t : Table) (way : List Fetched) (parent : Fetched) (place : ℕ) (child : Fetched) (push : IsLongPush parent.node.value place child.node.value) (node : Node) (rising : List Fetched) → (h : IsToPutBetweenOf nodes t way parent place child push node rising)
+    → IsSplittableOf nodes t parent.id parent.node.value place child.id push.edge (push.edge.seen + push.batch.count) child.node.value (at nodes)
+splittable_of nodes t way parent place child push node rising h = record {
+  of = splittable t way parent place child push node rising h.of;
   sound = h.sound;
   there = h.family.parent_there;
   private = h.family.private;
@@ -297,74 +302,74 @@ splittable_of nodes t way parent place child first pivot second node rising h = 
 }
 
 -- what the child has then
-child_has : (nodes : Nodes) (t : Table) (way : List Fetched) (parent : Fetched) (place : ℕ) (child : Fetched) (first : Node) (pivot : List ℕ) (second node : Node) (rising : List Fetched) → (h : IsToPutBetweenOf nodes t way parent place child first pivot second node rising) → (x : List ℕ) → IsKey x
-    → has_path nodes t.next child.id (the_child t pivot) (first ∷ second ∷ []) child.id x ≡ node_at (at nodes) (Leaf h.of.into.long.new) x
-child_has nodes t way parent place child first pivot second node rising h x key =
-    path_child nodes t.next child.id (the_child t pivot) (first ∷ second ∷ []) x
-    ∙ node_has-key (has_made nodes t.next (first ∷ second ∷ [])) (the_child t pivot) x key
-    ∙ two_have nodes t.next 1 (Leaf h.of.into.long.new) first pivot second h.of.into.long.halves x key
+child_has : (nodes : Nodes) (t : Table) (way : List Fetched) (parent : Fetched) (place : ℕ) (child : Fetched) (push : IsLongPush parent.node.value place child.node.value) (node : Node) (rising : List Fetched) → (h : IsToPutBetweenOf nodes t way parent place child push node rising) → (x : List ℕ) → IsKey x
+    → has_path nodes t.next child.id (the_child t push.halves) (both push.halves) child.id x ≡ node_at (at nodes) (Leaf push.long.new) x
+child_has nodes t way parent place child push node rising h x key =
+    path_child nodes t.next child.id (the_child t push.halves) (both push.halves) x
+    ∙ node_has-key (has_made nodes t.next (both push.halves)) (the_child t push.halves) x key
+    ∙ two_have nodes t.next 1 (Leaf push.long.new) push.halves push.long.are x key
 
-parent_meaning : (nodes : Nodes) (t : Table) (way : List Fetched) (parent : Fetched) (place : ℕ) (child : Fetched) (first : Node) (pivot : List ℕ) (second node : Node) (rising : List Fetched) → IsToPutBetweenOf nodes t way parent place child first pivot second node rising → (k : List ℕ) → IsKey k
-    → node_at (has_path nodes t.next child.id (the_child t pivot) (first ∷ second ∷ [])) node k ≡ at nodes parent.id k
-parent_meaning nodes t way parent place child first pivot second node rising h k key =
+parent_meaning : (nodes : Nodes) (t : Table) (way : List Fetched) (parent : Fetched) (place : ℕ) (child : Fetched) (push : IsLongPush parent.node.value place child.node.value) (node : Node) (rising : List Fetched) → IsToPutBetweenOf nodes t way parent place child push node rising → (k : List ℕ) → IsKey k
+    → node_at (has_path nodes t.next child.id (the_child t push.halves) (both push.halves)) node k ≡ at nodes parent.id k
+parent_meaning nodes t way parent place child push node rising h k key =
     let n : Node = parent.node.value in
     let c : ℕ = child.id in
-    let e : Edge = h.of.into.edge in
-    let has : NodesAt = has_path nodes t.next c (the_child t pivot) (first ∷ second ∷ []) in
-    let list : List Edge = seen_by e h.of.into.batch.count ∷ [] in
-    let s = splittable_of nodes t way parent place child first pivot second node rising h in
-    (parent_risen t way parent place child first pivot second node rising h.of).has has k
-    ∙ compacted_meaning has (exchanged n place list) h.of.into.above (exchanged_shape n place e list h.of.can.parent_is.own.shape (one_fits t parent.id n place c e (e.seen + h.of.into.batch.count) child.node.value s.of)) h.of.into.relieved k
-    ∙ relieved_inside nodes t parent.id n place c e child.node.value h.of.into.batch has s h.of.into.moved
+    let e : Edge = push.edge in
+    let has : NodesAt = has_path nodes t.next c (the_child t push.halves) (both push.halves) in
+    let list : List Edge = seen_by e push.batch.count ∷ [] in
+    let s = splittable_of nodes t way parent place child push node rising h in
+    (parent_risen t way parent place child push node rising h.of).has has k
+    ∙ compacted_meaning has (exchanged n place list) h.of.above (exchanged_shape n place e list h.of.can.parent_is.own.shape (one_fits t parent.id n place c e (e.seen + push.batch.count) child.node.value s.of)) h.of.relieved k
+    ∙ relieved_inside nodes t parent.id n place c e child.node.value push.batch has s push.moved
     (λ l key_l range.
-    child_has nodes t way parent place child first pivot second node rising h (drop e.lift l) (IsKey-drop e.lift l key_l)
-    ∙ leaf_received (at nodes) n place e child.node.value h.of.into.long.old h.of.into.long.new h.of.into.batch.messages h.of.into.long.leaf h.of.into.long.got l key_l range)
+    child_has nodes t way parent place child push node rising h (drop e.lift l) (IsKey-drop e.lift l key_l)
+    ∙ leaf_received (at nodes) n place e child.node.value push.long.old push.long.new push.batch.messages push.long.leaf push.long.got l key_l range)
     (each_named (Agree has (at nodes)) (names (exchanged n place [])) (λ x one j.
-    let other = other_names nodes t parent.id n place c e (e.seen + h.of.into.batch.count) child.node.value (at nodes) s x one in
-    path_old nodes t.next c (the_child t pivot) (first ∷ second ∷ []) x other.0 other.1 j)) k key
+    let other = other_names nodes t parent.id n place c e (e.seen + push.batch.count) child.node.value (at nodes) s x one in
+    path_old nodes t.next c (the_child t push.halves) (both push.halves) x other.0 other.1 j)) k key
     ∙ sym (node_has-key (at nodes) n k key)
     ∙ sym ((at-meets nodes (sound-levelled nodes t h.sound)).each parent.id n h.family.parent_there k)
 
-only_parent : (nodes : Nodes) (t : Table) (way : List Fetched) (parent : Fetched) (place : ℕ) (child : Fetched) (first : Node) (pivot : List ℕ) (second node : Node) (rising : List Fetched) → IsToPutBetweenOf nodes t way parent place child first pivot second node rising
-    → IsOnlyNamed nodes t (the_step t parent child first pivot second node rising) child.id
-only_parent nodes t way parent place child first pivot second node rising h = record {
+only_parent : (nodes : Nodes) (t : Table) (way : List Fetched) (parent : Fetched) (place : ℕ) (child : Fetched) (push : IsLongPush parent.node.value place child.node.value) (node : Node) (rising : List Fetched) → IsToPutBetweenOf nodes t way parent place child push node rising
+    → IsOnlyNamed nodes t (the_step t parent child push.halves node rising) child.id
+only_parent nodes t way parent place child push node rising h = record {
   each = λ q m at_q one.
-      let same : q ≡ parent.id = only_namer nodes t child.id parent h.sound (the_link t way parent place child first pivot second node rising h.of) h.family.parent_there q m at_q one in
-      let down : t.level child.id < t.level parent.id = (under_parent t way parent place child first pivot second node rising h.of).lower in
-      let is : given t.next (the_step t parent child first pivot second node rising) parent.id ≡ Some node =
-      given_upper t child.id (the_child t pivot) (the_uppers parent node rising) (first ∷ second ∷ []) parent.id (h.of.table.below parent.id h.of.can.parent_is.kept)
+      let same : q ≡ parent.id = only_namer nodes t child.id parent h.sound (the_link t way parent place child push node rising h.of) h.family.parent_there q m at_q one in
+      let down : t.level child.id < t.level parent.id = (under_parent t way parent place child push node rising h.of).lower in
+      let is : given t.next (the_step t parent child push.halves node rising) parent.id ≡ Some node =
+      given_upper t child.id (the_child t push.halves) (the_uppers parent node rising) (both push.halves) parent.id (h.of.table.below parent.id h.of.can.parent_is.kept)
       (λ e. (let l : t.level parent.id ≡ t.level child.id = ap t.level e in omega arith))
       ∙ changed_at-same (record { id = parent.id; node = node }) (map raise rising) parent.id refl in
       let some : IsSome (Some node) = search rules in
-      subst (λ (o : Option Node). IsSome o) (sym (ap (λ (i : ℕ). given t.next (the_step t parent child first pivot second node rising) i) same ∙ is)) some;
+      subst (λ (o : Option Node). IsSome o) (sym (ap (λ (i : ℕ). given t.next (the_step t parent child push.halves node rising) i) same ∙ is)) some;
 }
 
-all_given : (t : Table) (way : List Fetched) (parent : Fetched) (place : ℕ) (child : Fetched) (first : Node) (pivot : List ℕ) (second node : Node) (rising : List Fetched) → IsToPutBetween t way parent place child first pivot second node rising
-    → AllByRecursion (λ (g : Fetched). IsSome (given t.next (the_step t parent child first pivot second node rising) g.id)) rising
-all_given t way parent place child first pivot second node rising h =
-    let step : Step = the_step t parent child first pivot second node rising in
+all_given : (t : Table) (way : List Fetched) (parent : Fetched) (place : ℕ) (child : Fetched) (push : IsLongPush parent.node.value place child.node.value) (node : Node) (rising : List Fetched) → IsToPutBetween t way parent place child push node rising
+    → AllByRecursion (λ (g : Fetched). IsSome (given t.next (the_step t parent child push.halves node rising) g.id)) rising
+all_given t way parent place child push node rising h =
+    let step : Step = the_step t parent child push.halves node rising in
     rising_given t step parent.id (level_of node) way rising h.table
     (each_weaker (IsChangedBy (map raise rising)) (IsChangedBy step.changes)
-    (λ g some. changed_more (record { id = child.id; node = the_child t pivot }) (the_uppers parent node rising) g (changed_more (record { id = parent.id; node = node }) (map raise rising) g some)) rising (all_changed rising))
-    (rise_is t way parent place child first pivot second node rising h) h.way_up
+    (λ g some. changed_more (record { id = child.id; node = the_child t push.halves }) (the_uppers parent node rising) g (changed_more (record { id = parent.id; node = node }) (map raise rising) g some)) rising (all_changed rising))
+    (rise_is t way parent place child push node rising h) h.way_up
 
-pub between_path_of : (nodes : Nodes) (t : Table) (way : List Fetched) (parent : Fetched) (place : ℕ) (child : Fetched) (first : Node) (pivot : List ℕ) (second node : Node) (rising : List Fetched) → IsToPutBetweenOf nodes t way parent place child first pivot second node rising
-    → IsPathStepOf nodes t child.id (the_child t pivot) (the_uppers parent node rising) (first ∷ second ∷ [])
-between_path_of nodes t way parent place child first pivot second node rising h =
+pub between_path_of : (nodes : Nodes) (t : Table) (way : List Fetched) (parent : Fetched) (place : ℕ) (child : Fetched) (push : IsLongPush parent.node.value place child.node.value) (node : Node) (rising : List Fetched) → IsToPutBetweenOf nodes t way parent place child push node rising
+    → IsPathStepOf nodes t child.id (the_child t push.halves) (the_uppers parent node rising) (both push.halves)
+between_path_of nodes t way parent place child push node rising h =
     let n : Node = parent.node.value in
     let p : ℕ = parent.id in
     let c : ℕ = child.id in
-    let top : Node = the_child t pivot in
+    let top : Node = the_child t push.halves in
     let uppers : List Change = the_uppers parent node rising in
-    let made : List Node = first ∷ second ∷ [] in
+    let made : List Node = both push.halves in
     let step : Step = path_step t.root c top uppers made in
-    let rise : IsRising (level_of node) way rising = rise_is t way parent place child first pivot second node rising h.of in
-    let named : 1 ≤ times n c = child_named n place c h.of.into.edge h.of.can.parent_is.own.shape (way_to_child t way parent place child first pivot second node rising h.of) in
+    let rise : IsRising (level_of node) way rising = rise_is t way parent place child push node rising h.of in
+    let named : 1 ≤ times n c = child_named n place c push.edge h.of.can.parent_is.own.shape (way_to_child t way parent place child push node rising h.of) in
     let leads : LeadsTo nodes c p = through p c n h.family.parent_there named itself in
-    let only : IsOnlyNamed nodes t step c = only_parent nodes t way parent place child first pivot second node rising h in
-    let changed : AllByRecursion (λ (g : Fetched). IsSome (given t.next step g.id)) rising = all_given t way parent place child first pivot second node rising h.of in
+    let only : IsOnlyNamed nodes t step c = only_parent nodes t way parent place child push node rising h in
+    let changed : AllByRecursion (λ (g : Fetched). IsSome (given t.next step g.id)) rising = all_given t way parent place child push node rising h.of in
     record {
-      step = between_path t way parent place child first pivot second node rising h.of;
+      step = between_path t way parent place child push node rising h.of;
       sound = h.sound;
       private = alone p c n h.family.private h.family.parent_there named h.of.can.once;
       room = changed_too only;
@@ -374,13 +379,13 @@ between_path_of nodes t way parent place child first pivot second node rising h 
           private = h.family.private;
           leads = leads;
           room = has_room nodes t step p (level_of node) node way rising refl h.sound rise h.of.way_up h.contents changed;
-          meaning = parent_meaning nodes t way parent place child first pivot second node rising h;
+          meaning = parent_meaning nodes t way parent place child push node rising h;
         },
         rising_of nodes t c top uppers made p (level_of node) way rising h.sound leads rise h.of.way_up h.contents changed
             (λ q m at_q more.
             each_named (Agree (has_path nodes t.next c top made) (at nodes)) (names m) (λ x one k.
             path_old nodes t.next c top made x
-            (λ same. (let is : q ≡ p = only_namer nodes t c parent h.sound (the_link t way parent place child first pivot second node rising h.of) h.family.parent_there q m at_q (subst (λ (i : ℕ). 1 ≤ times m i) same one) in
+            (λ same. (let is : q ≡ p = only_namer nodes t c parent h.sound (the_link t way parent place child push node rising h.of) h.family.parent_there q m at_q (subst (λ (i : ℕ). 1 ≤ times m i) same one) in
             let e : t.level q ≡ t.level p = ap t.level is in
             let l : t.level p < t.level q = more in
             omega arith))
@@ -390,15 +395,15 @@ between_path_of nodes t way parent place child first pivot second node rising h 
 
 -- ---- what the step leaves
 
-pub record IsPutBetween (nodes : Nodes) (t : Table) (way : List Fetched) (parent : Fetched) (place : ℕ) (child : Fetched) (first : Node) (pivot : List ℕ) (second node : Node) (rising : List Fetched) (new : Nodes) (u : Table) : Type 0 where
-  pub of : IsToPutBetweenOf nodes t way parent place child first pivot second node rising
-  pub after : IsTableAfter t (the_step t parent child first pivot second node rising) u
-  pub committed : IsCommitted nodes t (the_step t parent child first pivot second node rising) new u
+pub record IsPutBetween (nodes : Nodes) (t : Table) (way : List Fetched) (parent : Fetched) (place : ℕ) (child : Fetched) (push : IsLongPush parent.node.value place child.node.value) (node : Node) (rising : List Fetched) (new : Nodes) (u : Table) : Type 0 where
+  pub of : IsToPutBetweenOf nodes t way parent place child push node rising
+  pub after : IsTableAfter t (the_step t parent child push.halves node rising) u
+  pub committed : IsCommitted nodes t (the_step t parent child push.halves node rising) new u
 
-pub between_flushed : (nodes : Nodes) (t : Table) (way : List Fetched) (parent : Fetched) (place : ℕ) (child : Fetched) (first : Node) (pivot : List ℕ) (second node : Node) (rising : List Fetched) (new : Nodes) (u : Table) → IsPutBetween nodes t way parent place child first pivot second node rising new u → IsFlushed nodes t new u
-between_flushed nodes t way parent place child first pivot second node rising new u h =
-    path_flushed nodes t child.id (the_child t pivot) (the_uppers parent node rising) (first ∷ second ∷ []) new u
-    (record { of = between_path_of nodes t way parent place child first pivot second node rising h.of; after = h.after; committed = h.committed }) (omega arith)
+pub between_flushed : (nodes : Nodes) (t : Table) (way : List Fetched) (parent : Fetched) (place : ℕ) (child : Fetched) (push : IsLongPush parent.node.value place child.node.value) (node : Node) (rising : List Fetched) (new : Nodes) (u : Table) → IsPutBetween nodes t way parent place child push node rising new u → IsFlushed nodes t new u
+between_flushed nodes t way parent place child push node rising new u h =
+    path_flushed nodes t child.id (the_child t push.halves) (the_uppers parent node rising) (both push.halves) new u
+    (record { of = between_path_of nodes t way parent place child push node rising h.of; after = h.after; committed = h.committed }) (omega arith)
 
 -- ---- the table
 
@@ -415,23 +420,23 @@ rising_fit t x _ _ _ (rises level f fs rising few room rise) up =
       rising_fit t f.id (level_of f.node.value + 1) fs rising rise parts.1,
     )
 
-pub between_table : (t : Table) (way : List Fetched) (parent : Fetched) (place : ℕ) (child : Fetched) (first : Node) (pivot : List ℕ) (second node : Node) (rising : List Fetched) (u : Table) → IsToPutBetween t way parent place child first pivot second node rising → IsTableAfter t (the_step t parent child first pivot second node rising) u → IsHardlyHigher t u
-between_table t way parent place child first pivot second node rising u b after =
+pub between_table : (t : Table) (way : List Fetched) (parent : Fetched) (place : ℕ) (child : Fetched) (push : IsLongPush parent.node.value place child.node.value) (node : Node) (rising : List Fetched) (u : Table) → IsToPutBetween t way parent place child push node rising → IsTableAfter t (the_step t parent child push.halves node rising) u → IsHardlyHigher t u
+between_table t way parent place child push node rising u b after =
     let c : ℕ = child.id in
-    let top : Node = the_child t pivot in
-    let made : List Node = first ∷ second ∷ [] in
+    let top : Node = the_child t push.halves in
+    let made : List Node = both push.halves in
     let uppers : List Change = the_uppers parent node rising in
-    let step : Step = the_step t parent child first pivot second node rising in
-    let levels = root_rises t c top uppers made u (between_path t way parent place child first pivot second node rising b) after in
+    let step : Step = the_step t parent child push.halves node rising in
+    let levels = root_rises t c top uppers made u (between_path t way parent place child push node rising b) after in
     let low_root : t.root < t.next = b.table.below t.root b.table.root in
-    let down : t.level c < t.level parent.id = (under_parent t way parent place child first pivot second node rising b).lower in
+    let down : t.level c < t.level parent.id = (under_parent t way parent place child push node rising b).lower in
     let under : t.level parent.id ≤ t.level t.root = b.can.under in
     let own : FitsRoot t (record { id = c; node = top }) = λ root. absurd (let e : t.level c ≡ t.level t.root = ap t.level root in omega arith) in
     let above_fits : FitsRoot t (record { id = parent.id; node = node }) =
     λ root.
     let is : buffer_size parent.node.value ≡ t.size = b.can.parent_is.root root in
-    let same : buffer_size node ≡ buffer_size b.into.above = (parent_risen t way parent place child first pivot second node rising b).size in
-    let less : buffer_size b.into.above ≤ buffer_size parent.node.value = compacted_small parent.node.value place (seen_by b.into.edge b.into.batch.count ∷ []) b.into.above b.into.relieved in
+    let same : buffer_size node ≡ buffer_size b.above = (parent_risen t way parent place child push node rising b).size in
+    let less : buffer_size b.above ≤ buffer_size parent.node.value = compacted_small parent.node.value place (seen_by push.edge push.batch.count ∷ []) b.above b.relieved in
     omega arith in
     record {
       root = after.root;
@@ -442,7 +447,7 @@ between_table t way parent place child first pivot second node rising u b after 
           (λ none. let is : u.size ≡ t.size = after.same_size none refl in omega arith)
           (λ d some.
           let is : u.size ≡ buffer_size d = after.size d some in
-          let fits : FitsRoot t (record { id = t.root; node = d }) = each_change (FitsRoot t) t c top uppers made t.root d own (above_fits, rising_fit t parent.id (level_of node) way rising (rise_is t way parent place child first pivot second node rising b) b.way_up) low_root some in
+          let fits : FitsRoot t (record { id = t.root; node = d }) = each_change (FitsRoot t) t c top uppers made t.root d own (above_fits, rising_fit t parent.id (level_of node) way rising (rise_is t way parent place child push node rising b) b.way_up) low_root some in
           let less : buffer_size d ≤ t.size = fits refl in
           omega arith);
     }

@@ -28,6 +28,7 @@ use Rattle.bd_node.proofs.Edges.{lt_is, lt_isnt, least_over}
 use Rattle.bd_inner.specs.Compaction.{IsCompacted}
 use Rattle.bd_inner.proofs.Fitting.{own_shape, seen_fits}
 use Rattle.bd_node.specs.Parts.{edges_of, buffer_of, end_at, IsEdgeAt}
+use Rattle.bd_inner.specs.declared.halves.Halves.{Halves}
 use Rattle.bd_inner.specs.Halves.{IsHalf, AreHalves}
 use Rattle.bd_inner.specs.Moving.{lifted}
 use Rattle.bd_inner.specs.Exchange.{exchanged, IsKeyOf, FitsAt}
@@ -253,25 +254,25 @@ half_made t c m own half level below is =
 
 -- ---- the change
 
-parted_change : (t : Table) (p : ℕ) (n : Node) (place c : ℕ) (e : Edge) (seen : ℕ) (m : Node) (first : Node) (pivot : List ℕ) (second parent : Node) → IsSplittable t p n place c e seen m → AreHalves m first pivot second → IsInside n place e (parting e pivot) → length (parting e pivot) ≤ key_limit
-    → IsCompacted (exchanged n place (both (as_seen e seen) pivot t.next)) parent → IsChildChange t p parent c first (second ∷ [])
-parted_change t p n place c e seen m first pivot second parent s halves inside short compacted =
-    let list : List Edge = both (as_seen e seen) pivot t.next in
+parted_change : (t : Table) (p : ℕ) (n : Node) (place c : ℕ) (e : Edge) (seen : ℕ) (m : Node) (halves : Halves) (parent : Node) → IsSplittable t p n place c e seen m → AreHalves m halves → IsInside n place e (parting e halves.pivot) → length (parting e halves.pivot) ≤ key_limit
+    → IsCompacted (exchanged n place (both (as_seen e seen) halves.pivot t.next)) parent → IsChildChange t p parent c halves.first (halves.second ∷ [])
+parted_change t p n place c e seen m halves parent s are inside short compacted =
+    let list : List Edge = both (as_seen e seen) halves.pivot t.next in
     record {
       table = s.table;
       parent = s.kept;
       child = lower_child t p n place c e seen m s;
-      shape = compacted_shape (exchanged n place list) parent (exchanged_shape n place e list s.own.shape (both_fit t p n place c e seen m pivot s inside short)) compacted;
+      shape = compacted_shape (exchanged n place list) parent (exchanged_shape n place e list s.own.shape (both_fit t p n place c e seen m halves.pivot s inside short)) compacted;
       level = compacted_level (exchanged n place list) parent compacted ∙ level_exchanged n place list ∙ s.own.level_is;
-      named = λ x one. parent_named t p n place c e seen m pivot parent s compacted x one;
-      child_shape = halves.lower.shape;
-      child_level = halves.lower.level_is ∙ s.child_level;
-      child_named = half_named t c m (λ k. IsBelow k pivot) first s.child_names halves.lower;
-      each = (half_made t c m (λ k. IsAtLeast k pivot) second s.child_level s.child_names halves.upper, tt);
+      named = λ x one. parent_named t p n place c e seen m halves.pivot parent s compacted x one;
+      child_shape = are.lower.shape;
+      child_level = are.lower.level_is ∙ s.child_level;
+      child_named = half_named t c m (λ k. IsBelow k halves.pivot) halves.first s.child_names are.lower;
+      each = (half_made t c m (λ k. IsAtLeast k halves.pivot) halves.second s.child_level s.child_names are.upper, tt);
       used = λ x high low.
           let same : t.next ≡ x = omega arith in
           subst (λ (i : ℕ). 1 ≤ times parent i) same
-          (omega (arith, parent_names t p n place c e seen m pivot parent s compacted t.next, count_two t.next c t.next, count_own t.next));
+          (omega (arith, parent_names t p n place c e seen m halves.pivot parent s compacted t.next, count_two t.next c t.next, count_own t.next));
     }
 
 -- where nothing is made
@@ -298,9 +299,9 @@ halved_change t p n place c e seen m own half parent s is r =
     one_change t p n place c e seen m parent half s r is.shape (is.level_is ∙ s.child_level) (half_named t c m own half s.child_names is)
 
 pub split_change : (t : Table) (p : ℕ) (n : Node) (place c : ℕ) (e : Edge) (seen : ℕ) (m parent half : Node) (made : List Node) → IsSplittable t p n place c e seen m → IsSplitInto n place (as_seen e seen) m t.next parent half made → IsChildChange t p parent c half made
-split_change t p n place c e seen m _ _ _ s (parted first pivot second parent halves inside short compacted) = parted_change t p n place c e seen m first pivot second parent s halves inside short compacted
-split_change t p n place c e seen m _ _ _ s (lower first pivot second parent halves outside compacted) = halved_change t p n place c e seen m (λ k. IsBelow k pivot) first parent s halves.lower compacted
-split_change t p n place c e seen m _ _ _ s (upper first pivot second parent halves outside compacted) = halved_change t p n place c e seen m (λ k. IsAtLeast k pivot) second parent s halves.upper compacted
+split_change t p n place c e seen m _ _ _ s (parted halves parent are inside short compacted) = parted_change t p n place c e seen m halves parent s are inside short compacted
+split_change t p n place c e seen m _ _ _ s (lower halves parent are outside compacted) = halved_change t p n place c e seen m (λ k. IsBelow k halves.pivot) halves.first parent s are.lower compacted
+split_change t p n place c e seen m _ _ _ s (upper halves parent are outside compacted) = halved_change t p n place c e seen m (λ k. IsAtLeast k halves.pivot) halves.second parent s are.upper compacted
 
 -- ---- what the parent has
 
@@ -356,23 +357,23 @@ made_value nodes t p n place c e seen m below own first second pivot s is k key 
     ∙ sym (asks_at below e c k s.of.way.child_is s.of.way.plain)
 
 -- the two edges together have what the one had
-both_have : (nodes : Nodes) (t : Table) (p : ℕ) (n : Node) (place c : ℕ) (e : Edge) (seen : ℕ) (m : Node) (below : NodesAt) (first : Node) (pivot : List ℕ) (second : Node) → IsSplittableOf nodes t p n place c e seen m below → AreHalves m first pivot second → (k : List ℕ) → IsKey k → IsKeyOf n place e k
-    → through (has_below nodes t.next c first (second ∷ [])) (edge_of (both (as_seen e seen) pivot t.next) k) (buffer_of n) k ≡ edge_at below (as_seen e seen) (buffer_of n) k
-both_have nodes t p n place c e seen m below first pivot second s halves k key range =
-    let has : NodesAt = has_below nodes t.next c first (second ∷ []) in
+both_have : (nodes : Nodes) (t : Table) (p : ℕ) (n : Node) (place c : ℕ) (e : Edge) (seen : ℕ) (m : Node) (below : NodesAt) (halves : Halves) → IsSplittableOf nodes t p n place c e seen m below → AreHalves m halves → (k : List ℕ) → IsKey k → IsKeyOf n place e k
+    → through (has_below nodes t.next c halves.first (halves.second ∷ [])) (edge_of (both (as_seen e seen) halves.pivot t.next) k) (buffer_of n) k ≡ edge_at below (as_seen e seen) (buffer_of n) k
+both_have nodes t p n place c e seen m below halves s are k key range =
+    let has : NodesAt = has_below nodes t.next c halves.first (halves.second ∷ []) in
     let f : Edge = as_seen e seen in
-    let g : Edge = upper_edge f (parting f pivot) t.next in
+    let g : Edge = upper_edge f (parting f halves.pivot) t.next in
     let own : IsEdge (length (buffer_of n)) f (end_at n place) = edge_shape t p n place c e seen m s.of in
-    let same : key_cmp k (parting e pivot) ≡ key_cmp (drop e.lift k) pivot = parts_cmp (length (buffer_of n)) f (end_at n place) k pivot own key range in
-    elim (cases_Bool (is_lt (key_cmp k (parting e pivot)))) [
+    let same : key_cmp k (parting e halves.pivot) ≡ key_cmp (drop e.lift k) halves.pivot = parts_cmp (length (buffer_of n)) f (end_at n place) k halves.pivot own key range in
+    elim (cases_Bool (is_lt (key_cmp k (parting e halves.pivot)))) [
       | inl less ↦
-          ap (λ (d : Edge). through has (Some d) (buffer_of n) k) (cond-true (is_lt (key_cmp k (parting e pivot))) f g less)
-          ∙ edge_same below has n place f f k (others_agree nodes t p n place c e seen m below first (second ∷ []) s) refl
-          (child_value nodes t p n place c e seen m below (λ l. IsBelow l pivot) first (second ∷ []) s halves.lower k key (sym same ∙ lt_is (key_cmp k (parting e pivot)) less))
+          ap (λ (d : Edge). through has (Some d) (buffer_of n) k) (cond-true (is_lt (key_cmp k (parting e halves.pivot))) f g less)
+          ∙ edge_same below has n place f f k (others_agree nodes t p n place c e seen m below halves.first (halves.second ∷ []) s) refl
+          (child_value nodes t p n place c e seen m below (λ l. IsBelow l halves.pivot) halves.first (halves.second ∷ []) s are.lower k key (sym same ∙ lt_is (key_cmp k (parting e halves.pivot)) less))
       | inr above ↦
-          ap (λ (d : Edge). through has (Some d) (buffer_of n) k) (cond-false (is_lt (key_cmp k (parting e pivot))) f g above)
-          ∙ edge_same below has n place f g k (others_agree nodes t p n place c e seen m below first (second ∷ []) s) refl
-          (made_value nodes t p n place c e seen m below (λ l. IsAtLeast l pivot) first second (parting e pivot) s halves.upper k key (λ less. lt_isnt (key_cmp k (parting e pivot)) above (same ∙ less)))
+          ap (λ (d : Edge). through has (Some d) (buffer_of n) k) (cond-false (is_lt (key_cmp k (parting e halves.pivot))) f g above)
+          ∙ edge_same below has n place f g k (others_agree nodes t p n place c e seen m below halves.first (halves.second ∷ []) s) refl
+          (made_value nodes t p n place c e seen m below (λ l. IsAtLeast l halves.pivot) halves.first halves.second (parting e halves.pivot) s are.upper k key (λ less. lt_isnt (key_cmp k (parting e halves.pivot)) above (same ∙ less)))
     ]
 
 -- the one half that has keys of the edge
@@ -395,23 +396,23 @@ split_cmp nodes t p n place c e seen m below pivot s k key range =
 
 pub split_meaning : (nodes : Nodes) (t : Table) (p : ℕ) (n : Node) (place c : ℕ) (e : Edge) (seen : ℕ) (m : Node) (below : NodesAt) (parent half : Node) (made : List Node) → IsSplittableOf nodes t p n place c e seen m below → IsSplitInto n place (as_seen e seen) m t.next parent half made
     → (k : List ℕ) → IsKey k → node_at (has_below nodes t.next c half made) parent k ≡ node_at below (exchanged n place (as_seen e seen ∷ [])) k
-split_meaning nodes t p n place c e seen m below _ _ _ s (parted first pivot second parent halves inside short compacted) = λ k key.
-    let has : NodesAt = has_below nodes t.next c first (second ∷ []) in
+split_meaning nodes t p n place c e seen m below _ _ _ s (parted halves parent are inside short compacted) = λ k key.
+    let has : NodesAt = has_below nodes t.next c halves.first (halves.second ∷ []) in
     let f : Edge = as_seen e seen in
-    let list : List Edge = both f pivot t.next in
-    let fits : FitsAt n place e list = both_fit t p n place c e seen m pivot s.of inside short in
+    let list : List Edge = both f halves.pivot t.next in
+    let fits : FitsAt n place e list = both_fit t p n place c e seen m halves.pivot s.of inside short in
     compacted_meaning has (exchanged n place list) parent (exchanged_shape n place e list s.of.own.shape fits) compacted k
-    ∙ edges_keep below has n place e f list s.of.own.shape (one_fits t p n place c e seen m s.of) fits (both_have nodes t p n place c e seen m below first pivot second s halves)
-    (others_agree nodes t p n place c e seen m below first (second ∷ []) s) k key
-split_meaning nodes t p n place c e seen m below _ _ _ s (lower first pivot second parent halves outside compacted) =
-    half_has nodes t p n place c e seen m below (λ k. IsBelow k pivot) first parent s halves.lower compacted (λ k key range.
-    elim (cases_Bool (is_lt (key_cmp k (parting e pivot)))) [
-      | inl less ↦ sym (split_cmp nodes t p n place c e seen m below pivot s k key range) ∙ lt_is (key_cmp k (parting e pivot)) less
-      | inr above ↦ absurd (none_between (parting e pivot) (end_at n place) k outside (lt_isnt (key_cmp k (parting e pivot)) above) range.1)
+    ∙ edges_keep below has n place e f list s.of.own.shape (one_fits t p n place c e seen m s.of) fits (both_have nodes t p n place c e seen m below halves s are)
+    (others_agree nodes t p n place c e seen m below halves.first (halves.second ∷ []) s) k key
+split_meaning nodes t p n place c e seen m below _ _ _ s (lower halves parent are outside compacted) =
+    half_has nodes t p n place c e seen m below (λ k. IsBelow k halves.pivot) halves.first parent s are.lower compacted (λ k key range.
+    elim (cases_Bool (is_lt (key_cmp k (parting e halves.pivot)))) [
+      | inl less ↦ sym (split_cmp nodes t p n place c e seen m below halves.pivot s k key range) ∙ lt_is (key_cmp k (parting e halves.pivot)) less
+      | inr above ↦ absurd (none_between (parting e halves.pivot) (end_at n place) k outside (lt_isnt (key_cmp k (parting e halves.pivot)) above) range.1)
     ])
-split_meaning nodes t p n place c e seen m below _ _ _ s (upper first pivot second parent halves outside compacted) =
-    half_has nodes t p n place c e seen m below (λ k. IsAtLeast k pivot) second parent s halves.upper compacted (λ k key range less.
-    none_between e.pivot (Some (parting e pivot)) k outside range.0 (split_cmp nodes t p n place c e seen m below pivot s k key range ∙ less))
+split_meaning nodes t p n place c e seen m below _ _ _ s (upper halves parent are outside compacted) =
+    half_has nodes t p n place c e seen m below (λ k. IsAtLeast k halves.pivot) halves.second parent s are.upper compacted (λ k key range less.
+    none_between e.pivot (Some (parting e halves.pivot)) k outside range.0 (split_cmp nodes t p n place c e seen m below halves.pivot s k key range ∙ less))
 
 -- a child as it is
 pub split_change_of : (nodes : Nodes) (t : Table) (p : ℕ) (n : Node) (place c : ℕ) (e : Edge) (m parent half : Node) (made : List Node) → IsSplittableOf nodes t p n place c e e.seen m (at nodes) → IsSplitInto n place e m t.next parent half made → IsChildChangeOf nodes t p n parent c half made
@@ -428,14 +429,14 @@ split_change_of nodes t p n place c e m parent half made s into = record {
 -- ---- what is needed besides
 
 pub split_few : (n : Node) (place : ℕ) (e : Edge) (m : Node) (next : ℕ) (parent half : Node) (made : List Node) → IsSplitInto n place e m next parent half made → length made ≤ 1
-split_few n place e m next _ _ _ (parted first pivot second parent halves inside short compacted) = omega arith
-split_few n place e m next _ _ _ (lower first pivot second parent halves outside compacted) = omega arith
-split_few n place e m next _ _ _ (upper first pivot second parent halves outside compacted) = omega arith
+split_few n place e m next _ _ _ (parted halves parent are inside short compacted) = omega arith
+split_few n place e m next _ _ _ (lower halves parent are outside compacted) = omega arith
+split_few n place e m next _ _ _ (upper halves parent are outside compacted) = omega arith
 
 pub split_size : (n : Node) (place : ℕ) (e : Edge) (m : Node) (next : ℕ) (parent half : Node) (made : List Node) → IsSplitInto n place e m next parent half made → (buffer_size parent ≤ buffer_size n) × (buffer_size half ≤ buffer_size m)
-split_size n place e m next _ _ _ (parted first pivot second parent halves inside short compacted) = (compacted_small n place (both e pivot next) parent compacted, halves.lower.size)
-split_size n place e m next _ _ _ (lower first pivot second parent halves outside compacted) = (compacted_small n place (e ∷ []) parent compacted, halves.lower.size)
-split_size n place e m next _ _ _ (upper first pivot second parent halves outside compacted) = (compacted_small n place (e ∷ []) parent compacted, halves.upper.size)
+split_size n place e m next _ _ _ (parted halves parent are inside short compacted) = (compacted_small n place (both e halves.pivot next) parent compacted, are.lower.size)
+split_size n place e m next _ _ _ (lower halves parent are outside compacted) = (compacted_small n place (e ∷ []) parent compacted, are.lower.size)
+split_size n place e m next _ _ _ (upper halves parent are outside compacted) = (compacted_small n place (e ∷ []) parent compacted, are.upper.size)
 
 -- ---- the parts as the code finds them
 
@@ -478,12 +479,12 @@ parting_fits n place f hi pivot key next h side short few some small =
     (subst (λ (l : List ℕ). FitsAt n place h.own (f ∷ upper_edge f l next ∷ [])) (sym h.key_is)
     (both_fit_in n place h.own f pivot next h.fits few some small (at_parting n place f hi pivot key h side) (subst (λ (l : List ℕ). length l ≤ key_limit) h.key_is short)))
 
-pub parting_both : (n : Node) (place : ℕ) (f : Edge) (hi : Option (List ℕ)) (first : Node) (pivot : List ℕ) (second : Node) (key : List ℕ) (next : ℕ) (parts : Parts) → IsParting n place f hi pivot key → IsSide f hi key Both → length key ≤ key_limit
-    → IsCompacted (exchanged n place (f ∷ upper_edge f key next ∷ [])) parts.node → parts.half ≡ first → parts.made.items ≡ second ∷ [] → (m : Node) → AreHalves m first pivot second → IsSplitInto n place f m next parts.node parts.half parts.made.items
-parting_both n place f hi first pivot second key next parts h side short compacted half made m halves =
+pub parting_both : (n : Node) (place : ℕ) (f : Edge) (hi : Option (List ℕ)) (halves : Halves) (key : List ℕ) (next : ℕ) (parts : Parts) → IsParting n place f hi halves.pivot key → IsSide f hi key Both → length key ≤ key_limit
+    → IsCompacted (exchanged n place (f ∷ upper_edge f key next ∷ [])) parts.node → parts.half ≡ halves.first → parts.made.items ≡ halves.second ∷ [] → (m : Node) → AreHalves m halves → IsSplitInto n place f m next parts.node parts.half parts.made.items
+parting_both n place f hi halves key next parts h side short compacted half made m are =
     subst (λ (d : Node). IsSplitInto n place f m next parts.node d parts.made.items) (sym half)
-    (subst (λ (l : List Node). IsSplitInto n place f m next parts.node first l) (sym made)
-    (parted first pivot second parts.node halves (at_parting n place f hi pivot key h side) (subst (λ (l : List ℕ). length l ≤ key_limit) h.key_is short)
+    (subst (λ (l : List Node). IsSplitInto n place f m next parts.node halves.first l) (sym made)
+    (parted halves parts.node are (at_parting n place f hi halves.pivot key h side) (subst (λ (l : List ℕ). length l ≤ key_limit) h.key_is short)
     (subst (λ (l : List ℕ). IsCompacted (exchanged n place (f ∷ upper_edge f l next ∷ [])) parts.node) h.key_is compacted)))
 
 -- one half below the edge
@@ -495,20 +496,20 @@ one_into n place f m next half parts h one =
     subst (λ (d : Node). IsSplitInto n place f m next parts.node d parts.made.items) (sym one.1)
     (subst (λ (l : List Node). IsSplitInto n place f m next parts.node half l) (sym one.2) h)
 
-pub parting_lower : (n : Node) (place : ℕ) (f : Edge) (hi : Option (List ℕ)) (first : Node) (pivot : List ℕ) (second : Node) (key : List ℕ) (next : ℕ) (parts : Parts) → IsParting n place f hi pivot key → IsSide f hi key Lower → IsOneHalf n place f first parts
-    → (m : Node) → AreHalves m first pivot second → IsSplitInto n place f m next parts.node parts.half parts.made.items
-parting_lower n place f hi first pivot second key next parts h side one m halves =
-    one_into n place f m next first parts
-    (lower first pivot second parts.node halves (λ below. side (subst (λ (o : Option (List ℕ)). IsBelowEnd key o) (sym h.end) (subst (λ (l : List ℕ). IsBelowEnd l (end_at n place)) (sym h.key_is) below))) one.0) one
+pub parting_lower : (n : Node) (place : ℕ) (f : Edge) (hi : Option (List ℕ)) (halves : Halves) (key : List ℕ) (next : ℕ) (parts : Parts) → IsParting n place f hi halves.pivot key → IsSide f hi key Lower → IsOneHalf n place f halves.first parts
+    → (m : Node) → AreHalves m halves → IsSplitInto n place f m next parts.node parts.half parts.made.items
+parting_lower n place f hi halves key next parts h side one m are =
+    one_into n place f m next halves.first parts
+    (lower halves parts.node are (λ below. side (subst (λ (o : Option (List ℕ)). IsBelowEnd key o) (sym h.end) (subst (λ (l : List ℕ). IsBelowEnd l (end_at n place)) (sym h.key_is) below))) one.0) one
 
-pub parting_upper : (n : Node) (place : ℕ) (f : Edge) (hi : Option (List ℕ)) (first : Node) (pivot : List ℕ) (second : Node) (key : List ℕ) (next : ℕ) (parts : Parts) → IsParting n place f hi pivot key → IsSide f hi key Upper → IsOneHalf n place f second parts
-    → (m : Node) → AreHalves m first pivot second → IsSplitInto n place f m next parts.node parts.half parts.made.items
-parting_upper n place f hi first pivot second key next parts h side one m halves =
-    one_into n place f m next second parts (upper first pivot second parts.node halves (λ below. side (subst (λ (l : List ℕ). IsBelow f.pivot l) (sym h.key_is) below)) one.0) one
+pub parting_upper : (n : Node) (place : ℕ) (f : Edge) (hi : Option (List ℕ)) (halves : Halves) (key : List ℕ) (next : ℕ) (parts : Parts) → IsParting n place f hi halves.pivot key → IsSide f hi key Upper → IsOneHalf n place f halves.second parts
+    → (m : Node) → AreHalves m halves → IsSplitInto n place f m next parts.node parts.half parts.made.items
+parting_upper n place f hi halves key next parts h side one m are =
+    one_into n place f m next halves.second parts (upper halves parts.node are (λ below. side (subst (λ (l : List ℕ). IsBelow f.pivot l) (sym h.key_is) below)) one.0) one
 
 -- what of a child's split follows
-pub short_is : (n : Node) (place : ℕ) (e : Edge) (m : Node) (next : ℕ) (first : Node) (pivot : List ℕ) (second : Node) (parts : Parts) → IsEdgeAt n place e → AreHalves m first pivot second → IsOver n place e first pivot second next (Short parts) → AreParts n place m next parts
-short_is n place e m next first pivot second parts here halves is = record { edge = e; here = here; into = is m halves }
+pub short_is : (n : Node) (place : ℕ) (e : Edge) (m : Node) (next : ℕ) (halves : Halves) (parts : Parts) → IsEdgeAt n place e → AreHalves m halves → IsOver n place e halves next (Short parts) → AreParts n place m next parts
+short_is n place e m next halves parts here are is = record { edge = e; here = here; into = is m are }
 
-pub long_is : (n : Node) (place : ℕ) (e : Edge) (m : Node) (next : ℕ) (first : Node) (pivot : List ℕ) (second : Node) (f : Edge) (own : Node × List ℕ × Node) → IsEdgeAt n place e → AreHalves m first pivot second → IsOver n place e first pivot second next (Long f own) → IsLongPivot n place m
-long_is n place e m next first pivot second f own here halves is = record { edge = e; here = here; first = first; pivot = pivot; second = second; halves = halves; long = is.2 }
+pub long_is : (n : Node) (place : ℕ) (e : Edge) (m : Node) (next : ℕ) (halves : Halves) (f : Edge) (own : Halves) → IsEdgeAt n place e → AreHalves m halves → IsOver n place e halves next (Long f own) → IsLongPivot n place m
+long_is n place e m next halves f own here are is = record { edge = e; here = here; halves = halves; are = are; long = is.2 }

@@ -35,7 +35,7 @@ some_below : (xs : List Entry) (pivot : List ℕ) → 1 ≤ length xs → AllByR
 some_below [] pivot some h = absurd (omega arith)
 some_below (x ∷ xs) pivot some h = above_nil x.key pivot h.0
 
-leaf_halves : (es xs ys : List Entry) (pivot : Entry) → IsLeaf xs × IsLeaf ys → 1 ≤ length xs → slice_get ys 0 ≡ Some pivot → AreApart pivot.key es xs ys → AreHalves (Leaf es) (Leaf xs) pivot.key (Leaf ys)
+leaf_halves : (es xs ys : List Entry) (pivot : Entry) → IsLeaf xs × IsLeaf ys → 1 ≤ length xs → slice_get ys 0 ≡ Some pivot → AreApart pivot.key es xs ys → AreHalves (Leaf es) (record { first = Leaf xs; pivot = pivot.key; second = Leaf ys })
 leaf_halves es xs ys pivot leaves some there h = record {
   lower = record {
     shape = leaves.0;
@@ -61,9 +61,9 @@ leaf_halves es xs ys pivot leaves some there h = record {
 
 -- the second half's first key is the pivot
 pub are_leaf_halves : (es xs ys shown : List Entry) (pivot : Entry) (key : List ℕ) → IsLeaf xs × IsLeaf ys → 1 ≤ length xs → 1 ≤ length ys → ((p : Entry) → slice_get ys 0 ≡ Some p → AreApart p.key es xs ys) → shown ≡ ys → pivot ≡ get_or shown 0 pivot → key ≡ pivot.key
-    → AreHalves (Leaf es) (Leaf xs) key (Leaf ys)
+    → AreHalves (Leaf es) (record { first = Leaf xs; pivot = key; second = Leaf ys })
 are_leaf_halves es xs ys shown pivot key leaves some more h same read key_is =
     let there : slice_get ys 0 ≡ Some pivot =
     subst (λ (l : List Entry). slice_get l 0 ≡ Some pivot) same
     (slice_get_read shown (length shown) 0 pivot refl (subst (λ (l : List Entry). 0 < length l) (sym same) (omega arith)) read) in
-    subst (λ (k : List ℕ). AreHalves (Leaf es) (Leaf xs) k (Leaf ys)) (sym key_is) (leaf_halves es xs ys pivot leaves some there (h pivot there))
+    subst (λ (k : List ℕ). AreHalves (Leaf es) (record { first = Leaf xs; pivot = k; second = Leaf ys })) (sym key_is) (leaf_halves es xs ys pivot leaves some there (h pivot there))

@@ -26,11 +26,12 @@ use Rattle.bd_path.proofs.Made.{no_ids, too_high}
 use Rattle.bd_node.specs.declared.node.Change.{Change}
 use Rattle.bd_node.specs.declared.node.Node.{Node}
 use Rattle.bd_inner.specs.Compaction.{IsCompacted}
+use Rattle.bd_inner.specs.declared.halves.Halves.{Halves}
 use Rattle.bd_inner.specs.Exchange.{exchanged}
 use Rattle.bd_inner.proofs.Compacting.{compacted_level}
 use Rattle.bd_flush.specs.Splits.{over_step}
 use Rattle.bd_inner.proofs.Named.{level_exchanged}
-use Rattle.bd_flush.proofs.RootSplits.{over_none}
+use Rattle.bd_flush.proofs.RootSplits.{both, over_none}
 use Rattle.bd_flush.proofs.GoingDown.{all_move, all_plain}
 use Rattle.bd_path.proofs.PathSteps.{path_may, path_in_place}
 use Rattle.bd_flush.proofs.PushCommits.{may_push, push_in_place, push_flushed, push_no_higher, push_made}
@@ -78,8 +79,8 @@ planned_may t way parent place child step h =
     elim h.push [
       | inl own ↦ may_push t parent place child step (record { table = h.table; next = h.next; can = h.can; push = own })
       | inr b ↦
-          subst (λ (q : Step). IsStep t q) (sym b.0.is)
-          (path_may t child.id (the_child t b.0.pivot) (the_uppers parent b.0.node b.0.rising) (b.0.first ∷ b.0.second ∷ []) (between_path t way parent place child b.0.first b.0.pivot b.0.second b.0.node b.0.rising (record { table = h.table; ids = b.1; can = h.can; way_up = h.way_up; into = b.0.into })))
+          subst (λ (q : Step). IsStep t q) (sym b.0.over.is)
+          (path_may t child.id (the_child t b.0.push.halves) (the_uppers parent b.0.over.node b.0.over.rising) (both b.0.push.halves) (between_path t way parent place child b.0.push b.0.over.node b.0.over.rising (record { table = h.table; ids = b.1; can = h.can; way_up = h.way_up; above = b.0.above; relieved = b.0.relieved; rise = b.0.over.rise })))
     ]
 
 pub planned_in_place : (nodes : Nodes) (t : Table) (way : List Fetched) (parent : Fetched) (place : ℕ) (child : Fetched) (step : Step) → IsPlannedOf nodes t way parent place child step → IsInPlace nodes t step
@@ -87,10 +88,10 @@ planned_in_place nodes t way parent place child step h =
     elim h.of.push [
       | inl own ↦ push_in_place nodes t parent place child step (record { table = h.of.table; next = h.of.next; can = h.of.can; push = own }) h.sound h.family
       | inr b ↦
-          subst (λ (q : Step). IsInPlace nodes t q) (sym b.0.is)
-          (path_in_place nodes t child.id (the_child t b.0.pivot) (the_uppers parent b.0.node b.0.rising) (b.0.first ∷ b.0.second ∷ [])
-          (between_path_of nodes t way parent place child b.0.first b.0.pivot b.0.second b.0.node b.0.rising
-          (record { of = record { table = h.of.table; ids = b.1; can = h.of.can; way_up = h.of.way_up; into = b.0.into }; sound = h.sound; family = h.family; contents = h.contents })))
+          subst (λ (q : Step). IsInPlace nodes t q) (sym b.0.over.is)
+          (path_in_place nodes t child.id (the_child t b.0.push.halves) (the_uppers parent b.0.over.node b.0.over.rising) (both b.0.push.halves)
+          (between_path_of nodes t way parent place child b.0.push b.0.over.node b.0.over.rising
+          (record { of = record { table = h.of.table; ids = b.1; can = h.of.can; way_up = h.of.way_up; above = b.0.above; relieved = b.0.relieved; rise = b.0.over.rise }; sound = h.sound; family = h.family; contents = h.contents })))
     ]
 
 pub on_planned_flushed : {T E : Type 0} (nodes : Nodes) (t : Table) (way : List Fetched) (parent : Fetched) (place : ℕ) (child : Fetched) (step : Step) (new : Nodes) (u : Table) (r : Result T E) → IsPlannedOf nodes t way parent place child step → OnOk r (IsTableAfter t step u) → OnOk r (IsCommitted nodes t step new u)
@@ -100,11 +101,11 @@ on_planned_flushed nodes t way parent place child step new u (Ok x) h after comm
     elim h.of.push [
       | inl own ↦ push_flushed nodes t parent place child step new u (record { table = h.of.table; next = h.of.next; can = h.of.can; push = own }) h.sound h.family after committed
       | inr b ↦
-          between_flushed nodes t way parent place child b.0.first b.0.pivot b.0.second b.0.node b.0.rising new u
+          between_flushed nodes t way parent place child b.0.push b.0.over.node b.0.over.rising new u
           (record {
-            of = record { of = record { table = h.of.table; ids = b.1; can = h.of.can; way_up = h.of.way_up; into = b.0.into }; sound = h.sound; family = h.family; contents = h.contents };
-            after = subst (λ (q : Step). IsTableAfter t q u) b.0.is after;
-            committed = subst (λ (q : Step). IsCommitted nodes t q new u) b.0.is committed;
+            of = record { of = record { table = h.of.table; ids = b.1; can = h.of.can; way_up = h.of.way_up; above = b.0.above; relieved = b.0.relieved; rise = b.0.over.rise }; sound = h.sound; family = h.family; contents = h.contents };
+            after = subst (λ (q : Step). IsTableAfter t q u) b.0.over.is after;
+            committed = subst (λ (q : Step). IsCommitted nodes t q new u) b.0.over.is committed;
           })
     ]
 
@@ -115,8 +116,8 @@ on_planned_table t way parent place child step u (Ok x) h after =
     elim h.push [
       | inl own ↦ inl (push_no_higher t parent place child step u (record { table = h.table; next = h.next; can = h.can; push = own }) after)
       | inr b ↦ inr (
-        record { edge = b.0.into.edge; here = b.0.into.here; batch = b.0.into.batch; moved = b.0.into.moved; first = b.0.first; pivot = b.0.pivot; second = b.0.second; long = b.0.into.long },
-        between_table t way parent place child b.0.first b.0.pivot b.0.second b.0.node b.0.rising u (record { table = h.table; ids = b.1; can = h.can; way_up = h.way_up; into = b.0.into }) (subst (λ (q : Step). IsTableAfter t q u) b.0.is after),
+        b.0.push,
+        between_table t way parent place child b.0.push b.0.over.node b.0.over.rising u (record { table = h.table; ids = b.1; can = h.can; way_up = h.way_up; above = b.0.above; relieved = b.0.relieved; rise = b.0.over.rise }) (subst (λ (q : Step). IsTableAfter t q u) b.0.over.is after),
       )
     ]
 
@@ -124,7 +125,7 @@ planned_made : (t : Table) (way : List Fetched) (parent : Fetched) (place : ℕ)
 planned_made t way parent place child step h =
     elim h.push [
       | inl own ↦ (let few : length step.made ≤ 1 = push_made t parent place child step (record { table = h.table; next = h.next; can = h.can; push = own }) in omega arith)
-      | inr b ↦ (let same : length step.made ≡ 2 = ap (λ (q : Step). length q.made) b.0.is in omega arith)
+      | inr b ↦ (let same : length step.made ≡ 2 = ap (λ (q : Step). length q.made) b.0.over.is in omega arith)
     ]
 
 pub on_planned_visits : {T E : Type 0} (t : Table) (way : List Fetched) (parent : Fetched) (place : ℕ) (child : Fetched) (step : Step) (before now : ℕ) (r : Result T E) → IsPlanned t way parent place child step → OnOk r (now ≡ visited before (length step.made)) → OnErr r (now ≡ before) → now ≤ before + 2
@@ -146,59 +147,47 @@ pub no_id_cause : {T : Type 0} (count : ℕ) (bad : ℕ → Type 0) (high : Type
     → HasMapCause {T = T} count count bad (IsWornFor (IsSomePush t.root t.next way parent place child) high t) (Err (Worn NextId))
 no_id_cause count bad high t way parent place child plan root next same_root same_next is h =
     let none : IsPlan t.root t.next way parent place child NoId = subst (λ (i : ℕ). IsPlan t.root i way parent place child NoId) same_next (subst (λ (r : ℕ). IsPlan r next way parent place child NoId) same_root (subst (λ (p : Plan). IsPlan root next way parent place child p) is h)) in
-    let made : length none.0.made ≡ 2 = ap (λ (q : Step). length q.made) none.1.is in
+    let made : length none.0.made ≡ 2 = ap (λ (q : Step). length q.made) none.1.over.is in
     let full : 2 ^ 64 ≤ t.next + 1 = none.2 in
     no_ids count bad (IsSomePush t.root t.next way parent place child) high t none.0 (inr none.1) (omega arith)
 
 -- ---- the plan
 
-over_plan : (root next : ℕ) (way : List Fetched) (parent : Change) (c : ℕ) (first : Node) (pivot : List ℕ) (second : Node) (step : Step) (others : List Change) → AreChangesOver 1 parent way others → step ≡ over_step root next c 1 first pivot second others → IsStepOver root next way parent c first pivot second step
-over_plan root next way parent c first pivot second step others over is =
-    record { node = over.node; rising = over.rising; rise = over.rise; is = is ∙ ap (λ (l : List Change). over_step root next c 1 first pivot second l) over.are }
+over_plan : (root next : ℕ) (way : List Fetched) (parent : Change) (c : ℕ) (halves : Halves) (step : Step) (others : List Change) → AreChangesOver 1 parent way others → step ≡ over_step root next c 1 halves others → IsStepOver root next way parent c halves step
+over_plan root next way parent c halves step others over is =
+    record { node = over.node; rising = over.rising; rise = over.rise; is = is ∙ ap (λ (l : List Change). over_step root next c 1 halves l) over.are }
 
 -- there are no ids for the step
-pub over_full : {V : Type 0} (items : V → List Change) (root next : ℕ) (way : List Fetched) (parent : Change) (c : ℕ) (first : Node) (pivot : List ℕ) (second : Node) (changes : Option V) (others : V) (found : Option Step) (P : Step → Type 0) → changes ≡ Some others → MatchOption changes (CannotRiseOver 1 parent.node way) (λ all. AreChangesOver 1 parent way (items all))
-    → found ≡ None → MatchOption found (2 ^ 64 ≤ next + 1) P → (step : Step) × IsStepOver root next way parent c first pivot second step × (2 ^ 64 ≤ next + 1)
-over_full items root next way parent c first pivot second changes others found P some over none h =
+pub over_full : {V : Type 0} (items : V → List Change) (root next : ℕ) (way : List Fetched) (parent : Change) (c : ℕ) (halves : Halves) (changes : Option V) (others : V) (found : Option Step) (P : Step → Type 0) → changes ≡ Some others → MatchOption changes (CannotRiseOver 1 parent.node way) (λ all. AreChangesOver 1 parent way (items all))
+    → found ≡ None → MatchOption found (2 ^ 64 ≤ next + 1) P → (step : Step) × IsStepOver root next way parent c halves step × (2 ^ 64 ≤ next + 1)
+over_full items root next way parent c halves changes others found P some over none h =
     let these : AreChangesOver 1 parent way (items others) = subst (λ (o : Option _). MatchOption o (CannotRiseOver 1 parent.node way) (λ all. AreChangesOver 1 parent way (items all))) some over in
-    let step : Step = over_step root next c 1 first pivot second (items others) in
-    (step, over_plan root next way parent c first pivot second step (items others) these refl, over_none next P found none h)
+    let step : Step = over_step root next c 1 halves (items others) in
+    (step, over_plan root next way parent c halves step (items others) these refl, over_none next P found none h)
 
 -- a push that puts a node between
-between_of : (root next : ℕ) (way : List Fetched) (parent : Fetched) (place : ℕ) (child : Fetched) (edge : Edge) (first : Node) (pivot : List ℕ) (second above : Node) (step : Step) → AreLongParts parent.node.value place child.node.value edge first pivot second → IsCompacted (exchanged parent.node.value place (edge ∷ [])) above
-    → IsStepOver root next way (record { id = parent.id; node = above }) child.id first pivot second step → IsPushBetweenStep root next way parent place child step
-between_of root next way parent place child edge first pivot second above step long made over = record {
-  first = first;
-  pivot = pivot;
-  second = second;
-  node = over.node;
-  rising = over.rising;
-  into = record {
-    edge = long.edge;
-    here = long.here;
-    batch = long.batch;
-    moved = long.moved;
-    long = long.long;
-    above = above;
-    relieved = subst (λ (f : Edge). IsCompacted (exchanged parent.node.value place (f ∷ [])) above) long.seen made;
-    rise = over.rise;
-  };
-  is = over.is;
+between_of : (root next : ℕ) (way : List Fetched) (parent : Fetched) (place : ℕ) (child : Fetched) (edge : Edge) (halves : Halves) (above : Node) (step : Step) → AreLongParts parent.node.value place child.node.value edge halves → IsCompacted (exchanged parent.node.value place (edge ∷ [])) above
+    → IsStepOver root next way (record { id = parent.id; node = above }) child.id halves step → IsPushBetweenStep root next way parent place child step
+between_of root next way parent place child edge halves above step long made over = record {
+  push = long.push;
+  above = above;
+  relieved = subst (λ (f : Edge). IsCompacted (exchanged parent.node.value place (f ∷ [])) above) long.seen made;
+  over = subst (λ (h : Halves). IsStepOver root next way (record { id = parent.id; node = above }) child.id h step) long.are over;
 }
 
-pub long_plan : {E : Type 0} (root next : ℕ) (way : List Fetched) (parent : Fetched) (place : ℕ) (child : Fetched) (edge : Edge) (first : Node) (pivot : List ℕ) (second above shown below : Node) (r : Result Plan E) → shown ≡ parent.node.value → below ≡ child.node.value → AreLongParts shown place below edge first pivot second → IsCompacted (exchanged shown place (edge ∷ [])) above
-    → IfOk r (IsPlanOver root next way (record { id = parent.id; node = above }) child.id first pivot second) → IfOk r (IsPlan root next way parent place child)
-long_plan root next way parent place child edge first pivot second above shown below (Err e) same child_is parts made h = tt
-long_plan root next way parent place child edge first pivot second above shown below (Ok (Ready step)) same child_is parts made h =
-    let long = subst (λ (m : Node). AreLongParts parent.node.value place m edge first pivot second) child_is (subst (λ (n : Node). AreLongParts n place below edge first pivot second) same parts) in
-    inr (between_of root next way parent place child edge first pivot second above step long (subst (λ (n : Node). IsCompacted (exchanged n place (edge ∷ [])) above) same made) h.0, h.1)
-long_plan root next way parent place child edge first pivot second above shown below (Ok NoId) same child_is parts made h =
-    let long = subst (λ (m : Node). AreLongParts parent.node.value place m edge first pivot second) child_is (subst (λ (n : Node). AreLongParts n place below edge first pivot second) same parts) in
-    (h.0, between_of root next way parent place child edge first pivot second above h.0 long (subst (λ (n : Node). IsCompacted (exchanged n place (edge ∷ [])) above) same made) h.1, h.2)
-long_plan root next way parent place child edge first pivot second above shown below (Ok NoLevel) same child_is parts made h =
-    let long = subst (λ (m : Node). AreLongParts parent.node.value place m edge first pivot second) child_is (subst (λ (n : Node). AreLongParts n place below edge first pivot second) same parts) in
+pub long_plan : {E : Type 0} (root next : ℕ) (way : List Fetched) (parent : Fetched) (place : ℕ) (child : Fetched) (edge : Edge) (halves : Halves) (above shown below : Node) (r : Result Plan E) → shown ≡ parent.node.value → below ≡ child.node.value → AreLongParts shown place below edge halves → IsCompacted (exchanged shown place (edge ∷ [])) above
+    → IfOk r (IsPlanOver root next way (record { id = parent.id; node = above }) child.id halves) → IfOk r (IsPlan root next way parent place child)
+long_plan root next way parent place child edge halves above shown below (Err e) same child_is parts made h = tt
+long_plan root next way parent place child edge halves above shown below (Ok (Ready step)) same child_is parts made h =
+    let long = subst (λ (m : Node). AreLongParts parent.node.value place m edge halves) child_is (subst (λ (n : Node). AreLongParts n place below edge halves) same parts) in
+    inr (between_of root next way parent place child edge halves above step long (subst (λ (n : Node). IsCompacted (exchanged n place (edge ∷ [])) above) same made) h.0, h.1)
+long_plan root next way parent place child edge halves above shown below (Ok NoId) same child_is parts made h =
+    let long = subst (λ (m : Node). AreLongParts parent.node.value place m edge halves) child_is (subst (λ (n : Node). AreLongParts n place below edge halves) same parts) in
+    (h.0, between_of root next way parent place child edge halves above h.0 long (subst (λ (n : Node). IsCompacted (exchanged n place (edge ∷ [])) above) same made) h.1, h.2)
+long_plan root next way parent place child edge halves above shown below (Ok NoLevel) same child_is parts made h =
+    let long = subst (λ (m : Node). AreLongParts parent.node.value place m edge halves) child_is (subst (λ (n : Node). AreLongParts n place below edge halves) same parts) in
     let level : level_of above ≡ level_of parent.node.value = compacted_level (exchanged shown place (edge ∷ [])) above made ∙ level_exchanged shown place (edge ∷ []) ∙ ap level_of same in
     record {
-      long = record { edge = long.edge; here = long.here; batch = long.batch; moved = long.moved; first = first; pivot = pivot; second = second; long = long.long };
+      long = long.push;
       high = (omega arith, subst (λ (l : ℕ). CannotRise (l + 1) way) level h.1);
     }

@@ -5,7 +5,6 @@ use Rattle.bd_limits.specs.Limits.{level_limit}
 use Rattle.bd_message.specs.declared.fault.Counter.TheVariants.{NextId}
 use Rattle.bd_message.specs.declared.fault.MapFault.TheVariants.{Worn}
 use Rattle.bd_message.specs.KeyMaps.{HasMapCause}
-use Rattle.bd_node.specs.declared.node.Node.{Node}
 use Rattle.bd_node.specs.declared.node.Change.{Change}
 use Rattle.bd_node.specs.declared.node.Step.{Step}
 use Rattle.bd_node.specs.Nodes.{level_of, buffer_size}
@@ -13,6 +12,7 @@ use Rattle.bd_node.specs.Meaning.{Nodes}
 use Rattle.bd_node.specs.Shape.{IsShape}
 use Rattle.bd_node.specs.Tables.{Table, IsTable, IsSound}
 use Rattle.bd_node.specs.Steps.{IsStep, IsInPlace, IsTableAfter, IsCommitted}
+use Rattle.bd_inner.specs.declared.halves.Halves.{Halves}
 use Rattle.bd_inner.specs.Halves.{AreHalves}
 use Rattle.bd_path.specs.declared.fetching.Fetched.{Fetched}
 use Rattle.bd_path.specs.Flushed.{IsFlushed, IsHardlyHigher}
@@ -64,68 +64,68 @@ rising_fit t level _ _ _ (one_up c place _ e _ fetched way once up) (rises _ f f
 -- ---- the step as it is returned
 
 -- a child to put between its parent and its halves, and the step
-pub record IsToPut (t : Table) (way : List Fetched) (child : Fetched) (first : Node) (pivot : List ℕ) (second : Node) (step : Step) : Type 0 where
+pub record IsToPut (t : Table) (way : List Fetched) (child : Fetched) (halves : Halves) (step : Step) : Type 0 where
   pub table : IsTable t
   pub fetched : IsFetched t child
   pub up : IsWayUp t child.id way
   pub level : level_of child.node.value < level_limit
   pub next : t.next + 1 < 2 ^ 64
-  pub halves : AreHalves child.node.value first pivot second
-  pub put : IsBetweenStep t.root t.next way child first pivot second step
+  pub are : AreHalves child.node.value halves
+  pub put : IsBetweenStep t.root t.next way child halves step
 
-pub is_to_put : (t : Table) (f : Fetched) (fs : List Fetched) (child : Fetched) (first : Node) (pivot : List ℕ) (second : Node) (step : Step) → IsTable t → IsFetched t child → IsWayUp t child.id (f ∷ fs) → AreHalves child.node.value first pivot second
-    → IsBetweenStep t.root t.next (f ∷ fs) child first pivot second step × (t.next + 1 < 2 ^ 64) → IsToPut t (f ∷ fs) child first pivot second step
-is_to_put t f fs child first pivot second step table fetched up halves put =
-    record { table = table; fetched = fetched; up = up; level = below_last t f fs child fetched up; next = put.1; halves = halves; put = put.0 }
+pub is_to_put : (t : Table) (f : Fetched) (fs : List Fetched) (child : Fetched) (halves : Halves) (step : Step) → IsTable t → IsFetched t child → IsWayUp t child.id (f ∷ fs) → AreHalves child.node.value halves
+    → IsBetweenStep t.root t.next (f ∷ fs) child halves step × (t.next + 1 < 2 ^ 64) → IsToPut t (f ∷ fs) child halves step
+is_to_put t f fs child halves step table fetched up are put =
+    record { table = table; fetched = fetched; up = up; level = below_last t f fs child fetched up; next = put.1; are = are; put = put.0 }
 
-to_put : (t : Table) (way : List Fetched) (child : Fetched) (first : Node) (pivot : List ℕ) (second : Node) (step : Step) (h : IsToPut t way child first pivot second step) → IsSplit t child.id child.node.value first pivot second way h.put.rising
-to_put t way child first pivot second step h = record { table = h.table; up = h.up; kept = h.fetched.kept; own = h.fetched.own; level = h.level; next = h.next; halves = h.halves; rise = h.put.rise }
+to_put : (t : Table) (way : List Fetched) (child : Fetched) (halves : Halves) (step : Step) (h : IsToPut t way child halves step) → IsSplit t child.id child.node.value halves way h.put.rising
+to_put t way child halves step h = record { table = h.table; up = h.up; kept = h.fetched.kept; own = h.fetched.own; level = h.level; next = h.next; are = h.are; rise = h.put.rise }
 
-put_of : (nodes : Nodes) (t : Table) (way : List Fetched) (child : Fetched) (first : Node) (pivot : List ℕ) (second : Node) (step : Step) (h : IsToPut t way child first pivot second step) → IsSound nodes t → AllByRecursion (IsContents nodes) (child ∷ way) → IsSplitOf nodes t child.id child.node.value first pivot second way h.put.rising
-put_of nodes t way child first pivot second step h s there = record { split = to_put t way child first pivot second step h; sound = s; there = there.0; stand = there.1 }
+put_of : (nodes : Nodes) (t : Table) (way : List Fetched) (child : Fetched) (halves : Halves) (step : Step) (h : IsToPut t way child halves step) → IsSound nodes t → AllByRecursion (IsContents nodes) (child ∷ way) → IsSplitOf nodes t child.id child.node.value halves way h.put.rising
+put_of nodes t way child halves step h s there = record { split = to_put t way child halves step h; sound = s; there = there.0; stand = there.1 }
 
-pub may_put : (t : Table) (way : List Fetched) (child : Fetched) (first : Node) (pivot : List ℕ) (second : Node) (step : Step) → IsToPut t way child first pivot second step → IsStep t step
-may_put t way child first pivot second step h = subst (λ (s : Step). IsStep t s) (sym h.put.is) (split_step t child.id child.node.value first pivot second way h.put.rising (to_put t way child first pivot second step h))
+pub may_put : (t : Table) (way : List Fetched) (child : Fetched) (halves : Halves) (step : Step) → IsToPut t way child halves step → IsStep t step
+may_put t way child halves step h = subst (λ (s : Step). IsStep t s) (sym h.put.is) (split_step t child.id child.node.value halves way h.put.rising (to_put t way child halves step h))
 
-pub put_in_place : (nodes : Nodes) (t : Table) (way : List Fetched) (child : Fetched) (first : Node) (pivot : List ℕ) (second : Node) (step : Step) → IsToPut t way child first pivot second step → IsSound nodes t → AllByRecursion (IsContents nodes) (child ∷ way) → IsInPlace nodes t step
-put_in_place nodes t way child first pivot second step h s there =
-    subst (λ (q : Step). IsInPlace nodes t q) (sym h.put.is) (split_in_place nodes t child.id child.node.value first pivot second way h.put.rising (put_of nodes t way child first pivot second step h s there))
+pub put_in_place : (nodes : Nodes) (t : Table) (way : List Fetched) (child : Fetched) (halves : Halves) (step : Step) → IsToPut t way child halves step → IsSound nodes t → AllByRecursion (IsContents nodes) (child ∷ way) → IsInPlace nodes t step
+put_in_place nodes t way child halves step h s there =
+    subst (λ (q : Step). IsInPlace nodes t q) (sym h.put.is) (split_in_place nodes t child.id child.node.value halves way h.put.rising (put_of nodes t way child halves step h s there))
 
-made_of : (nodes : Nodes) (t : Table) (way : List Fetched) (child : Fetched) (first : Node) (pivot : List ℕ) (second : Node) (step : Step) (new : Nodes) (u : Table) → (h : IsToPut t way child first pivot second step) → IsSound nodes t → AllByRecursion (IsContents nodes) (child ∷ way) → IsTableAfter t step u → IsCommitted nodes t step new u
-    → IsMade nodes t child.id child.node.value first pivot second way h.put.rising new u
-made_of nodes t way child first pivot second step new u h s there after committed = record {
-  of = put_of nodes t way child first pivot second step h s there;
+made_of : (nodes : Nodes) (t : Table) (way : List Fetched) (child : Fetched) (halves : Halves) (step : Step) (new : Nodes) (u : Table) → (h : IsToPut t way child halves step) → IsSound nodes t → AllByRecursion (IsContents nodes) (child ∷ way) → IsTableAfter t step u → IsCommitted nodes t step new u
+    → IsMade nodes t child.id child.node.value halves way h.put.rising new u
+made_of nodes t way child halves step new u h s there after committed = record {
+  of = put_of nodes t way child halves step h s there;
   after = subst (λ (q : Step). IsTableAfter t q u) h.put.is after;
   committed = subst (λ (q : Step). IsCommitted nodes t q new u) h.put.is committed;
 }
 
-pub put_flushed : {T E : Type 0} (nodes : Nodes) (t : Table) (way : List Fetched) (child : Fetched) (first : Node) (pivot : List ℕ) (second : Node) (step : Step) (new : Nodes) (u : Table) (r : Result T E) → IsToPut t way child first pivot second step → IsSound nodes t → AllByRecursion (IsContents nodes) (child ∷ way)
+pub put_flushed : {T E : Type 0} (nodes : Nodes) (t : Table) (way : List Fetched) (child : Fetched) (halves : Halves) (step : Step) (new : Nodes) (u : Table) (r : Result T E) → IsToPut t way child halves step → IsSound nodes t → AllByRecursion (IsContents nodes) (child ∷ way)
     → OnOk r (IsTableAfter t step u) → OnOk r (IsCommitted nodes t step new u) → OnOk r (IsFlushed nodes t new u)
-put_flushed nodes t way child first pivot second step new u (Ok x) h s there after committed =
-    flushed nodes t child.id child.node.value first pivot second way h.put.rising new u (made_of nodes t way child first pivot second step new u h s there after committed)
-put_flushed nodes t way child first pivot second step new u (Err e) h s there after committed = tt
+put_flushed nodes t way child halves step new u (Ok x) h s there after committed =
+    flushed nodes t child.id child.node.value halves way h.put.rising new u (made_of nodes t way child halves step new u h s there after committed)
+put_flushed nodes t way child halves step new u (Err e) h s there after committed = tt
 
-pub put_higher : {T E : Type 0} (t : Table) (way : List Fetched) (child : Fetched) (first : Node) (pivot : List ℕ) (second : Node) (step : Step) (u : Table) (r : Result T E) → IsToPut t way child first pivot second step → OnOk r (IsTableAfter t step u) → OnOk r (IsHardlyHigher t u)
-put_higher t way child first pivot second step u (Ok x) h after =
-    over_higher t child.id child.node.value first pivot second way h.put.rising u (to_put t way child first pivot second step h) (subst (λ (q : Step). IsTableAfter t q u) h.put.is after)
+pub put_higher : {T E : Type 0} (t : Table) (way : List Fetched) (child : Fetched) (halves : Halves) (step : Step) (u : Table) (r : Result T E) → IsToPut t way child halves step → OnOk r (IsTableAfter t step u) → OnOk r (IsHardlyHigher t u)
+put_higher t way child halves step u (Ok x) h after =
+    over_higher t child.id child.node.value halves way h.put.rising u (to_put t way child halves step h) (subst (λ (q : Step). IsTableAfter t q u) h.put.is after)
     (rising_fit t (level_of child.node.value + 1) child.id way h.put.rising h.up h.put.rise)
-put_higher t way child first pivot second step u (Err e) h after = tt
+put_higher t way child halves step u (Err e) h after = tt
 
-pub put_risen : {T E : Type 0} (t : Table) (way : List Fetched) (child : Fetched) (first : Node) (pivot : List ℕ) (second : Node) (step : Step) (r : Result T E) → IsToPut t way child first pivot second step → OnOk r (CannotRise (level_of child.node.value + 1) way → ⊥)
-put_risen t way child first pivot second step (Ok x) h = rises_or_not (level_of child.node.value + 1) way h.put.rising h.put.rise
-put_risen t way child first pivot second step (Err e) h = tt
+pub put_risen : {T E : Type 0} (t : Table) (way : List Fetched) (child : Fetched) (halves : Halves) (step : Step) (r : Result T E) → IsToPut t way child halves step → OnOk r (CannotRise (level_of child.node.value + 1) way → ⊥)
+put_risen t way child halves step (Ok x) h = rises_or_not (level_of child.node.value + 1) way h.put.rising h.put.rise
+put_risen t way child halves step (Err e) h = tt
 
 pub way_of : (t : Table) (way : List Fetched) (parent : Fetched) (place : ℕ) (child : Fetched) → CanSplitChild t parent place child → IsWayUp t parent.id way → IsWayUp t child.id (parent ∷ way)
 way_of t way parent place child can up = one_up child.id place parent can.edge way can.parent_is (as_edge parent.node.value place child.id can.edge can.way) can.once up
 
 -- ---- the plan
 
-between_step : (root next level : ℕ) (way : List Fetched) (child : Fetched) (first : Node) (pivot : List ℕ) (second : Node) (step : Step) (none risen : List Change) → level ≡ level_of child.node.value → none ≡ [] → AreRaised (level + 1) way none risen
-    → step ≡ over_step root next child.id (level + 1) first pivot second risen → IsBetweenStep root next way child first pivot second step
-between_step root next level way child first pivot second step none risen level_is empty raised is = record {
+between_step : (root next level : ℕ) (way : List Fetched) (child : Fetched) (halves : Halves) (step : Step) (none risen : List Change) → level ≡ level_of child.node.value → none ≡ [] → AreRaised (level + 1) way none risen
+    → step ≡ over_step root next child.id (level + 1) halves risen → IsBetweenStep root next way child halves step
+between_step root next level way child halves step none risen level_is empty raised is = record {
   rising = raised.rising;
   rise = subst (λ (l : ℕ). IsRising (l + 1) way raised.rising) level_is raised.rise;
-  is = is ∙ over_same root root next next child.id (level + 1) (level_of child.node.value + 1) first pivot second risen (map raise raised.rising) refl refl (ap (λ (l : ℕ). l + 1) level_is) (raised.are ∙ ap (λ (l : List Change). l ++ map raise raised.rising) empty);
+  is = is ∙ over_same root root next next child.id (level + 1) (level_of child.node.value + 1) halves risen (map raise raised.rising) refl refl (ap (λ (l : ℕ). l + 1) level_is) (raised.are ∙ ap (λ (l : List Change). l ++ map raise raised.rising) empty);
 }
 
 -- what rises, of the changes that are found
@@ -136,18 +136,18 @@ pub found_stuck : {V : Type 0} (P : V → Type 0) (level : ℕ) (way : List Fetc
 found_stuck P level way child found level_is is h =
     subst (λ (i : ℕ). CannotRise (i + 1) way) level_is (subst (λ (o : Option _). MatchOption o (CannotRise (level + 1) way) P) is h)
 
-pub between_ready : (root next level : ℕ) (way : List Fetched) (child : Fetched) (first : Node) (pivot : List ℕ) (second : Node) (none risen : List Change) (found : Option Step) (step : Step) → level ≡ level_of child.node.value → none ≡ [] → AreRaised (level + 1) way none risen → found ≡ Some step
-    → MatchOption found (2 ^ 64 ≤ next + 1) (λ s. (s ≡ over_step root next child.id (level + 1) first pivot second risen) × (next + 1 < 2 ^ 64)) → IsBetweenStep root next way child first pivot second step × (next + 1 < 2 ^ 64)
-between_ready root next level way child first pivot second none risen found step level_is empty raised is h =
-    let this = over_found root next child.id (level + 1) first pivot second risen found step is h in
-    (between_step root next level way child first pivot second step none risen level_is empty raised this.0, this.1)
+pub between_ready : (root next level : ℕ) (way : List Fetched) (child : Fetched) (halves : Halves) (none risen : List Change) (found : Option Step) (step : Step) → level ≡ level_of child.node.value → none ≡ [] → AreRaised (level + 1) way none risen → found ≡ Some step
+    → MatchOption found (2 ^ 64 ≤ next + 1) (λ s. (s ≡ over_step root next child.id (level + 1) halves risen) × (next + 1 < 2 ^ 64)) → IsBetweenStep root next way child halves step × (next + 1 < 2 ^ 64)
+between_ready root next level way child halves none risen found step level_is empty raised is h =
+    let this = over_found root next child.id (level + 1) halves risen found step is h in
+    (between_step root next level way child halves step none risen level_is empty raised this.0, this.1)
 
 -- the step for which there are no ids
-pub between_full : (root next level : ℕ) (way : List Fetched) (child : Fetched) (first : Node) (pivot : List ℕ) (second : Node) (none risen : List Change) (found : Option Step) (P : Step → Type 0) → level ≡ level_of child.node.value → none ≡ [] → AreRaised (level + 1) way none risen → found ≡ None → MatchOption found (2 ^ 64 ≤ next + 1) P
-    → (step : Step) × IsBetweenStep root next way child first pivot second step × (2 ^ 64 ≤ next + 1)
-between_full root next level way child first pivot second none risen found P level_is empty raised is h =
-    let step : Step = over_step root next child.id (level + 1) first pivot second risen in
-    (step, between_step root next level way child first pivot second step none risen level_is empty raised refl, over_none next P found is h)
+pub between_full : (root next level : ℕ) (way : List Fetched) (child : Fetched) (halves : Halves) (none risen : List Change) (found : Option Step) (P : Step → Type 0) → level ≡ level_of child.node.value → none ≡ [] → AreRaised (level + 1) way none risen → found ≡ None → MatchOption found (2 ^ 64 ≤ next + 1) P
+    → (step : Step) × IsBetweenStep root next way child halves step × (2 ^ 64 ≤ next + 1)
+between_full root next level way child halves none risen found P level_is empty raised is h =
+    let step : Step = over_step root next child.id (level + 1) halves risen in
+    (step, between_step root next level way child halves step none risen level_is empty raised refl, over_none next P found is h)
 
 -- the plan, as it is found
 pub plan_found : (IsOne : ℕ → ℕ → Step → Type 0) (root next : ℕ) (high : Type 0) (plan : Plan) (t : Table) (step : Step) → plan ≡ Ready step → root ≡ t.root → next ≡ t.next → IsPlanOf (IsOne root next) next high plan → IsOne t.root t.next step × (t.next + 1 < 2 ^ 64)
@@ -157,13 +157,13 @@ plan_found IsOne root next high plan t step is root_is next_is h =
 pub plan_high : (IsOne : ℕ → ℕ → Step → Type 0) (root next : ℕ) (high : Type 0) (plan : Plan) → plan ≡ NoLevel → IsPlanOf (IsOne root next) next high plan → high
 plan_high IsOne root next high plan is h = subst (λ (p : Plan). IsPlanOf (IsOne root next) next high p) is h
 
-pub put_full : {T : Type 0} (count : ℕ) (bad : ℕ → Type 0) (high : Type 0) (t : Table) (way : List Fetched) (child : Fetched) (first : Node) (pivot : List ℕ) (second : Node) (root next : ℕ) (plan : Plan) → plan ≡ NoId → root ≡ t.root → next ≡ t.next → IsPlanOf (IsBetweenStep root next way child first pivot second) next high plan
-    → HasMapCause {T = T} count count bad (IsWornFor (IsBetweenStep t.root t.next way child first pivot second) high t) (Err (Worn NextId))
-put_full count bad high t way child first pivot second root next plan is root_is next_is h =
-    let none : IsPlanOf (IsBetweenStep t.root t.next way child first pivot second) t.next high NoId = subst (λ (i : ℕ). IsPlanOf (IsBetweenStep t.root i way child first pivot second) i high NoId) next_is (subst (λ (r : ℕ). IsPlanOf (IsBetweenStep r next way child first pivot second) next high NoId) root_is (subst (λ (p : Plan). IsPlanOf (IsBetweenStep root next way child first pivot second) next high p) is h)) in
+pub put_full : {T : Type 0} (count : ℕ) (bad : ℕ → Type 0) (high : Type 0) (t : Table) (way : List Fetched) (child : Fetched) (halves : Halves) (root next : ℕ) (plan : Plan) → plan ≡ NoId → root ≡ t.root → next ≡ t.next → IsPlanOf (IsBetweenStep root next way child halves) next high plan
+    → HasMapCause {T = T} count count bad (IsWornFor (IsBetweenStep t.root t.next way child halves) high t) (Err (Worn NextId))
+put_full count bad high t way child halves root next plan is root_is next_is h =
+    let none : IsPlanOf (IsBetweenStep t.root t.next way child halves) t.next high NoId = subst (λ (i : ℕ). IsPlanOf (IsBetweenStep t.root i way child halves) i high NoId) next_is (subst (λ (r : ℕ). IsPlanOf (IsBetweenStep r next way child halves) next high NoId) root_is (subst (λ (p : Plan). IsPlanOf (IsBetweenStep root next way child halves) next high p) is h)) in
     let made : length none.0.made ≡ 2 = ap (λ (q : Step). length q.made) none.1.is in
     let full : 2 ^ 64 ≤ t.next + 1 = none.2 in
-    no_ids count bad (IsBetweenStep t.root t.next way child first pivot second) high t none.0 none.1 (omega arith)
+    no_ids count bad (IsBetweenStep t.root t.next way child halves) high t none.0 none.1 (omega arith)
 
 -- ---- a child's split
 

@@ -10,6 +10,7 @@ use Rattle.bd_node.specs.Private.{IsPrivate}
 use Rattle.bd_node.specs.Tables.{Table}
 use Rattle.bd_inner.specs.Compaction.{IsCompacted}
 use Rattle.bd_node.specs.Parts.{edges_of, end_at, IsEdgeAt}
+use Rattle.bd_inner.specs.declared.halves.Halves.{Halves}
 use Rattle.bd_inner.specs.Halves.{AreHalves}
 use Rattle.bd_inner.specs.Moving.{lifted}
 use Rattle.bd_inner.specs.Exchange.{exchanged}
@@ -38,19 +39,19 @@ IsInside n place e pivot = IsBelow e.pivot pivot × IsBelowEnd pivot (end_at n p
 -- in place of the node's own: both halves, or the half that alone has keys of the edge
 pub data IsSplitInto (n : Node) (place : ℕ) (e : Edge) (m : Node) (next : ℕ)
     : Node → Node → List Node → Type 0 where
-  parted : (first : Node) (pivot : List ℕ) (second parent : Node)
-      → AreHalves m first pivot second → IsInside n place e (parting e pivot)
-      → length (parting e pivot) ≤ key_limit
-      → IsCompacted (exchanged n place (e ∷ upper_edge e (parting e pivot) next ∷ [])) parent
-      → IsSplitInto n place e m next parent first (second ∷ [])
-  lower : (first : Node) (pivot : List ℕ) (second parent : Node) → AreHalves m first pivot second
-      → ¬ IsBelowEnd (parting e pivot) (end_at n place)
+  parted : (halves : Halves) (parent : Node) → AreHalves m halves
+      → IsInside n place e (parting e halves.pivot)
+      → length (parting e halves.pivot) ≤ key_limit
+      → IsCompacted (exchanged n place (e ∷ upper_edge e (parting e halves.pivot) next ∷ [])) parent
+      → IsSplitInto n place e m next parent halves.first (halves.second ∷ [])
+  lower : (halves : Halves) (parent : Node) → AreHalves m halves
+      → ¬ IsBelowEnd (parting e halves.pivot) (end_at n place)
       → IsCompacted (exchanged n place (e ∷ [])) parent
-      → IsSplitInto n place e m next parent first []
-  upper : (first : Node) (pivot : List ℕ) (second parent : Node) → AreHalves m first pivot second
-      → ¬ IsBelow e.pivot (parting e pivot)
+      → IsSplitInto n place e m next parent halves.first []
+  upper : (halves : Halves) (parent : Node) → AreHalves m halves
+      → ¬ IsBelow e.pivot (parting e halves.pivot)
       → IsCompacted (exchanged n place (e ∷ [])) parent
-      → IsSplitInto n place e m next parent second []
+      → IsSplitInto n place e m next parent halves.second []
 
 -- as a key of the edge the pivot lies inside the one at a place, and is too long for the node
 abbrev pub IsLongIn : Node → ℕ → Edge → List ℕ → Type 0
@@ -65,12 +66,12 @@ IsSide e hi pivot Both = IsBelow e.pivot pivot × IsBelowEnd pivot hi
 
 -- a node over the halves of a child, where the edge `e` stands in place of the node's own, or the edge
 -- and the halves, where the pivot would be too long
-abbrev pub IsOver : Node → ℕ → Edge → Node → List ℕ → Node → ℕ → Halving → Type 0
-IsOver n place e first pivot second next (Short parts) =
-    (m : Node) → AreHalves m first pivot second
+abbrev pub IsOver : Node → ℕ → Edge → Halves → ℕ → Halving → Type 0
+IsOver n place e halves next (Short parts) =
+    (m : Node) → AreHalves m halves
     → IsSplitInto n place e m next parts.node parts.half parts.made.items
-IsOver n place e first pivot second next (Long edge halves) =
-    (edge ≡ e) × (halves ≡ (first, pivot, second)) × IsLongIn n place e pivot
+IsOver n place e halves next (Long edge own) =
+    (edge ≡ e) × (own ≡ halves) × IsLongIn n place e halves.pivot
 
 -- a node and its child after the child's split, and what is made
 pub record AreParts (n : Node) (place : ℕ) (m : Node) (next : ℕ) (parts : Parts) : Type 0 where
@@ -98,11 +99,9 @@ pub record AreFamily (nodes : Nodes) (t : Table) (parent child : Fetched) : Type
 pub record IsLongPivot (n : Node) (place : ℕ) (m : Node) : Type 0 where
   pub edge : Edge
   pub here : IsEdgeAt n place edge
-  pub first : Node
-  pub pivot : List ℕ
-  pub second : Node
-  pub halves : AreHalves m first pivot second
-  pub long : IsLongIn n place edge pivot
+  pub halves : Halves
+  pub are : AreHalves m halves
+  pub long : IsLongIn n place edge halves.pivot
 
 -- the step of a child's split
 pub record IsChildStep (root next : ℕ) (parent : Fetched) (place : ℕ) (child : Fetched)

@@ -15,6 +15,7 @@ use Rattle.bd_node.specs.Tables.{Table}
 use Rattle.bd_inner.specs.declared.batches.Batch.{Batch}
 use Rattle.bd_inner.specs.Compaction.{IsCompacted}
 use Rattle.bd_node.specs.Parts.{edges_of, buffer_of, end_at, IsEdgeAt}
+use Rattle.bd_inner.specs.declared.halves.Halves.{Halves}
 use Rattle.bd_inner.specs.Halves.{AreHalves}
 use Rattle.bd_inner.specs.Moving.{CanMove, IsPlainFor, SomeCanTouch, IsBatch}
 use Rattle.bd_inner.specs.Exchange.{exchanged, way_to}
@@ -95,15 +96,15 @@ pub data IsPushInto (n : Node) (place : ℕ) (e : Edge) (m : Node) (b : Batch) (
 
 -- the halves of a leaf that would have more than 40,960 bytes after messages, whose pivot is inside the
 -- edge and too long for the node
-pub record AreLongHalves (n : Node) (place : ℕ) (e : Edge) (m : Node) (b : Batch) (first : Node)
-    (pivot : List ℕ) (second : Node) : Type 0 where
+pub record AreLongHalves (n : Node) (place : ℕ) (e : Edge) (m : Node) (b : Batch)
+    (halves : Halves) : Type 0 where
   pub old : List Entry
   pub new : List Entry
   pub leaf : m ≡ Leaf old
   pub got : IsReceived old b.messages new
   pub over : leaf_limit < entries_size new
-  pub halves : AreHalves (Leaf new) first pivot second
-  pub long : IsLongIn n place e pivot
+  pub are : AreHalves (Leaf new) halves
+  pub long : IsLongIn n place e halves.pivot
 
 -- a node and its child after messages have gone down, and what is made
 pub record ArePushed (n : Node) (place : ℕ) (m : Node) (next : ℕ) (parts : Parts) : Type 0 where
@@ -120,23 +121,31 @@ IsPartedOver n place count new next (Short parts) =
     (e : Edge) → IsEdgeAt n place e
     → IsSplitInto n place (seen_by e count) (Leaf new) next parts.node parts.half parts.made.items
 IsPartedOver n place count new next (Long edge halves) =
-    AreHalves (Leaf new) halves.0 halves.1 halves.2
-    × ((e : Edge) → IsEdgeAt n place e → (edge ≡ seen_by e count) × IsLongIn n place e halves.1)
+    AreHalves (Leaf new) halves
+    × ((e : Edge) → IsEdgeAt n place e
+    → (edge ≡ seen_by e count) × IsLongIn n place e halves.pivot)
 
--- the edge after messages have gone down, and halves whose pivot would be too long
-pub record AreLongParts (n : Node) (place : ℕ) (m : Node) (f : Edge) (first : Node) (pivot : List ℕ)
-    (second : Node) : Type 0 where
+-- the halves of a child, a leaf that would have too many bytes after messages have gone down, would
+-- have too long a pivot in the node
+pub record IsLongPush (n : Node) (place : ℕ) (m : Node) : Type 0 where
   pub edge : Edge
   pub here : IsEdgeAt n place edge
   pub batch : Batch
   pub moved : IsEdgeBatch n place edge batch
-  pub seen : f ≡ seen_by edge batch.count
-  pub long : AreLongHalves n place edge m batch first pivot second
+  pub halves : Halves
+  pub long : AreLongHalves n place edge m batch halves
+
+-- these halves, and the edge after the messages have gone down
+pub record AreLongParts (n : Node) (place : ℕ) (m : Node) (f : Edge) (halves : Halves) : Type 0
+  where
+    pub push : IsLongPush n place m
+    pub seen : f ≡ seen_by push.edge push.batch.count
+    pub are : halves ≡ push.halves
 
 -- the same, or the edge after messages have gone down, and the halves whose pivot would be too long
 abbrev pub IsPushedOver : Node → ℕ → Node → ℕ → Halving → Type 0
 IsPushedOver n place m next (Short parts) = ArePushed n place m next parts
-IsPushedOver n place m next (Long edge halves) = AreLongParts n place m edge halves.0 halves.1 halves.2
+IsPushedOver n place m next (Long edge halves) = AreLongParts n place m edge halves
 
 -- the step of a push
 pub record IsPushStep (root next : ℕ) (parent : Fetched) (place : ℕ) (child : Fetched)
@@ -153,68 +162,40 @@ pub record IsPushStep (root next : ℕ) (parent : Fetched) (place : ℕ) (child 
 
 -- ---- to a leaf that becomes a node over two
 
--- a node `n` after messages have gone down to a leaf of its own, the made halves of which are named by
--- a node put between, and those of the nodes above, the nearest first, that rise
-pub record IsPushBetween (n : Node) (place : ℕ) (m : Node) (way : List Fetched) (first : Node)
-    (pivot : List ℕ) (second parent : Node) (rising : List Fetched) : Type 0 where
-  pub edge : Edge
-  pub here : IsEdgeAt n place edge
-  pub batch : Batch
-  pub moved : IsEdgeBatch n place edge batch
-  pub long : AreLongHalves n place edge m batch first pivot second
-  pub above : Node
-  pub relieved : IsRelieved n place edge batch.count above
-  pub rise : IsRaisedOver 1 above way parent rising
-
--- the step of a push that puts a node between
-pub record IsPushBetweenStep (root next : ℕ) (way : List Fetched) (parent : Fetched) (place : ℕ)
-    (child : Fetched) (step : Step) : Type 0 where
-  pub first : Node
-  pub pivot : List ℕ
-  pub second : Node
+-- the step that makes halves and a node over them in a child's place, below a parent that is changed
+pub record IsStepOver (root next : ℕ) (way : List Fetched) (parent : Change) (c : ℕ)
+    (halves : Halves) (step : Step) : Type 0 where
   pub node : Node
   pub rising : List Fetched
-  pub into : IsPushBetween parent.node.value place child.node.value way first pivot second node rising
-  pub is : step ≡ over_step root next child.id 1 first pivot second
+  pub rise : IsRaisedOver 1 parent.node way node rising
+  pub is : step ≡ over_step root next c 1 halves
       (record { id = parent.id; node = node } ∷ map raise rising)
+
+-- such a step, or why there is none
+abbrev pub IsPlanOver : ℕ → ℕ → List Fetched → Change → ℕ → Halves → Plan → Type 0
+IsPlanOver root next way parent c halves plan =
+    IsPlanOf (IsStepOver root next way parent c halves) next (CannotRiseOver 1 parent.node way) plan
+
+-- the step of a push that puts a node over the halves of a leaf, below the parent without the messages
+-- that have gone down; nodes above rise where they must
+pub record IsPushBetweenStep (root next : ℕ) (way : List Fetched) (parent : Fetched) (place : ℕ)
+    (child : Fetched) (step : Step) : Type 0 where
+  pub push : IsLongPush parent.node.value place child.node.value
+  pub above : Node
+  pub relieved : IsRelieved parent.node.value place push.edge push.batch.count above
+  pub over : IsStepOver root next way (record { id = parent.id; node = above }) child.id
+      push.halves step
 
 -- a push by one commit, with a node between or without
 abbrev pub IsSomePush : ℕ → ℕ → List Fetched → Fetched → ℕ → Fetched → Step → Type 0
 IsSomePush root next way parent place child step =
     IsPushStep root next parent place child step ⊎ IsPushBetweenStep root next way parent place child step
 
--- the halves of the child, a leaf that would have too many bytes, would have too long a pivot in the
--- parent
-pub record IsLongPush (n : Node) (place : ℕ) (m : Node) : Type 0 where
-  pub edge : Edge
-  pub here : IsEdgeAt n place edge
-  pub batch : Batch
-  pub moved : IsEdgeBatch n place edge batch
-  pub first : Node
-  pub pivot : List ℕ
-  pub second : Node
-  pub long : AreLongHalves n place edge m batch first pivot second
-
 -- such a push, where the parent has to rise, and one of the nodes above it that have to rise with it is
 -- at level 1,000
 pub record IsHighPush (n : Node) (place : ℕ) (m : Node) (way : List Fetched) : Type 0 where
   pub long : IsLongPush n place m
   pub high : CannotRiseOver 1 n way
-
--- the step that makes halves and a node over them in a child's place, below a parent that is changed
-pub record IsStepOver (root next : ℕ) (way : List Fetched) (parent : Change) (c : ℕ) (first : Node)
-    (pivot : List ℕ) (second : Node) (step : Step) : Type 0 where
-  pub node : Node
-  pub rising : List Fetched
-  pub rise : IsRaisedOver 1 parent.node way node rising
-  pub is : step ≡ over_step root next c 1 first pivot second
-      (record { id = parent.id; node = node } ∷ map raise rising)
-
--- such a step, or why there is none
-abbrev pub IsPlanOver : ℕ → ℕ → List Fetched → Change → ℕ → Node → List ℕ → Node → Plan → Type 0
-IsPlanOver root next way parent c first pivot second plan =
-    IsPlanOf (IsStepOver root next way parent c first pivot second) next
-    (CannotRiseOver 1 parent.node way) plan
 
 -- the step of a push, for which there are ids, or why there is none
 abbrev pub IsPlan : ℕ → ℕ → List Fetched → Fetched → ℕ → Fetched → Plan → Type 0

@@ -7,6 +7,7 @@ use Rattle.bd_node.specs.declared.node.Change.{Change}
 use Rattle.bd_node.specs.declared.node.Step.{Step}
 use Rattle.bd_node.specs.Nodes.{level_of}
 use Rattle.bd_node.specs.Tables.{Table}
+use Rattle.bd_inner.specs.declared.halves.Halves.{Halves}
 use Rattle.bd_inner.specs.Halves.{AreHalves}
 use Rattle.bd_flush.specs.declared.splitting.Plan.{Plan}
 use Rattle.bd_flush.specs.declared.splitting.Plan.TheVariants.{Ready, NoId, NoLevel}
@@ -23,9 +24,10 @@ over_two level pivot first second =
     Inner level (plain_edge [] first ∷ plain_edge pivot second ∷ []) []
 
 -- the step that puts a node of a level above its halves, which are made, and makes other changes
-abbrev pub over_step : ℕ → ℕ → ℕ → ℕ → Node → List ℕ → Node → List Change → Step
-over_step root next id level first pivot second others =
-    path_step root id (over_two level pivot next (next + 1)) others (first ∷ second ∷ [])
+abbrev pub over_step : ℕ → ℕ → ℕ → ℕ → Halves → List Change → Step
+over_step root next id level halves others =
+    path_step root id (over_two level halves.pivot next (next + 1)) others
+    (halves.first ∷ halves.second ∷ [])
 
 -- one of these steps, for which there are two ids, or why there is none: there are no ids for it, or,
 -- which is `high`, a node has to rise above level 1,000
@@ -36,11 +38,9 @@ IsPlanOf IsOne next high NoLevel = high
 
 -- the step of the split of a root, which is this node
 pub record IsRootSplit (t : Table) (n : Node) (step : Step) : Type 0 where
-  pub first : Node
-  pub pivot : List ℕ
-  pub second : Node
-  pub halves : AreHalves n first pivot second
-  pub is : step ≡ over_step t.root t.next t.root (level_of n + 1) first pivot second []
+  pub halves : Halves
+  pub are : AreHalves n halves
+  pub is : step ≡ over_step t.root t.next t.root (level_of n + 1) halves []
 
 -- the root is one level higher, nothing waits in it, and two nodes are made
 pub record IsRaised (t u : Table) : Type 0 where

@@ -19,7 +19,7 @@ ghost use Rattle.bd_path.specs.Raising.{IsWayUp, CannotRise};
 ghost use Rattle.bd_flush.specs.Between.{IsBetweenStep};
 
 use crate::splitting::{Plan, over_step};
-use bd_keys::Bytes;
+use bd_inner::Halves;
 use bd_message::{Counter, MapFault};
 use bd_node::{Node, NodeStore};
 use bd_path::{Fetched, raise_way};
@@ -34,11 +34,11 @@ pub fn put_between<S: NodeStore>(
     above: &[Fetched],
     parent: &Fetched,
     child: &Fetched,
-    halves: (Node, Bytes, Node),
+    halves: Halves,
 ) -> Result<(), MapFault>
     requires child { IsFetched (S.table store.old) child.now }
     requires way { IsWayUp (S.table store.old) child.now.id (parent.now ∷ reverse above.now) }
-    requires halves { AreHalves child.now.node.value halves.0 halves.1 halves.2 }
+    requires halves { AreHalves child.now.node.value halves }
     requires there { OfSound S.NodeStore store.old
         (AllByRecursion (IsContents (S.nodes store.old))
         (child.now ∷ parent.now ∷ reverse above.now)) }
@@ -47,7 +47,7 @@ pub fn put_between<S: NodeStore>(
         (S.nodes store.new) (S.table store.new))) }
     ensures made { OfSound S.NodeStore store.old
         (OnOk result (IsMadeBy (IsBetweenStep (S.table store.old).root (S.table store.old).next
-        (parent.now ∷ reverse above.now) child.now halves.0 halves.1 halves.2)
+        (parent.now ∷ reverse above.now) child.now halves)
         (S.nodes store.old) (S.table store.old) (S.nodes store.new) (S.table store.new))) }
     ensures table { OnOk result (IsHardlyHigher (S.table store.old) (S.table store.new)) }
     ensures risen { OnOk result
@@ -58,7 +58,7 @@ pub fn put_between<S: NodeStore>(
     ensures cause { HasMapCause (S.fault_count store.old) (S.fault_count store.new)
         (S.bad store.new) (IsWornFor (IsBetweenStep (S.table store.old).root
         (S.table store.old).next (parent.now ∷ reverse above.now) child.now
-        halves.0 halves.1 halves.2)
+        halves)
         (CannotRise (level_of child.now.node.value + 1) (parent.now ∷ reverse above.now))
         (S.table store.old)) result }
 {
@@ -80,13 +80,13 @@ fn between_plan(
     above: &[Fetched],
     parent: &Fetched,
     child: &Fetched,
-    halves: (Node, Bytes, Node),
+    halves: Halves,
 ) -> Result<Plan, AllocError>
     requires shapes { AllByRecursion (λ (f : Fetched). IsShape f.node.value)
         (parent.now ∷ reverse above.now) }
     requires low { level_of child.now.node.value < level_limit }
     ensures { IfOk result (IsPlanOf (IsBetweenStep root next (parent.now ∷ reverse above.now)
-        child.now halves.0 halves.1 halves.2) next
+        child.now halves) next
         (CannotRise (level_of child.now.node.value + 1) (parent.now ∷ reverse above.now))) }
 {
     let level = child.node.level() + 1;

@@ -21,7 +21,7 @@ ghost use Rattle.bd_path.specs.Raising.{IsWayUp};
 ghost use Rattle.bd_flush.specs.Between.{IsSplitStep, IsHighSplit, IsHighAfterSplit};
 
 use crate::between::put_between;
-use bd_inner::{exchange, split};
+use bd_inner::{Halves, exchange, split};
 use bd_keys::Bytes;
 use bd_limits::MAX_KEY;
 use bd_message::MapFault;
@@ -143,10 +143,7 @@ fn split_below(
 #[derive(Drop)]
 pub enum Halving {
     Short(Parts),
-    Long {
-        edge: Edge,
-        halves: (Node, Bytes, Node),
-    },
+    Long { edge: Edge, halves: Halves },
 }
 
 // A node over the halves of a child, with an edge in place of the one that it has there, and what
@@ -156,7 +153,7 @@ pub fn over_halves(
     node: &Node,
     place: usize,
     edge: Edge,
-    halves: (Node, Bytes, Node),
+    halves: Halves,
     next: u64,
 ) -> Result<Halving, AllocError>
     requires shape { IsShape node.now }
@@ -164,9 +161,13 @@ pub fn over_halves(
     requires within { place < length (edges_of node.now) }
     requires next { 1 ≤ next }
     requires fits { (e : Edge) → IsEdgeAt node.now place e → FitsAt node.now place e (edge ∷ []) }
-    ensures { IfOk result (IsOver node.now place edge halves.0 halves.1 halves.2 next) }
+    ensures { IfOk result (IsOver node.now place edge halves next) }
 {
-    let (first, pivot, second) = halves;
+    let Halves {
+        first,
+        pivot,
+        second,
+    } = halves;
     let key = parting(alloc, &edge, &pivot)?;
     match asked_side(&edge, end_of(node.edges(), place), key.as_slice()) {
         Side::Lower => Ok(Halving::Short(one_half(alloc, node, place, edge, first)?)),
@@ -175,7 +176,11 @@ pub fn over_halves(
             if key.len() > MAX_KEY {
                 return Ok(Halving::Long {
                     edge,
-                    halves: (first, pivot, second),
+                    halves: Halves {
+                        first,
+                        pivot,
+                        second,
+                    },
                 });
             }
             let node = with_upper(alloc, node, place, edge, key, next)?;
@@ -288,7 +293,7 @@ fn with_upper(
     exchange(alloc, node, place, Items::from_vec(list))
 }
 
-// The step that changes a node and its child, and makes others.
+// The step that changes a child and the node above it, and makes others.
 pub fn child_step(
     alloc: Global,
     root: u64,
@@ -301,9 +306,10 @@ pub fn child_step(
     ensures { IfOk result (λ step. step ≡ child_step root parent node child half made.items) }
 {
     let mut others = Vec::new(alloc);
-    others.push(Change {
+    others.push(Change { id: parent, node })?;
+    let change = Change {
         id: child,
         node: half,
-    })?;
-    path_step(alloc, root, Change { id: parent, node }, others, made)
+    };
+    path_step(alloc, root, change, others, made)
 }

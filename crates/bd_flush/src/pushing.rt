@@ -24,7 +24,7 @@ ghost use Rattle.bd_flush.specs.Pushes.{seen_by, unseen, IsWaitedFor, CanMoveSom
 
 use crate::children::{Halving, Parts, child_step, over_halves, with_edge};
 use crate::splitting::{Plan, over_step};
-use bd_inner::{Batch, next_batch, receive};
+use bd_inner::{Batch, Halves, next_batch, receive};
 use bd_keys::Bytes;
 use bd_leaf as leaf;
 use bd_message::{Counter, MapFault, Message};
@@ -206,16 +206,20 @@ fn leaf_parted(
     over_halves(alloc, node, place, edge, halves, next)
 }
 
-// The halves of a leaf whose entries a batch has made too many, and the key where they part.
-fn leaf_halves(new: Entries) -> Result<(Node, Bytes, Node), AllocError>
+// The halves of a leaf whose entries a batch has made too many.
+fn leaf_halves(new: Entries) -> Result<Halves, AllocError>
     requires entries { AreEntries new }
     requires over { leaf_limit < entries_size new }
     requires fits { entries_size new ≤ leaf_limit + batch_limit }
-    ensures { IfOk result (λ halves. AreHalves (kind.Leaf new) halves.0 halves.1 halves.2) }
+    ensures { IfOk result (AreHalves (kind.Leaf new)) }
 {
     let (first, second) = leaf::split(new)?;
     let pivot = second.as_slice()[0].key.clone()?;
-    Ok((Node::Leaf(first), pivot, Node::Leaf(second)))
+    Ok(Halves {
+        first: Node::Leaf(first),
+        pivot,
+        second: Node::Leaf(second),
+    })
 }
 
 // What makes two halves of a leaf and puts a node over them in its place, below a changed parent.
@@ -226,12 +230,11 @@ fn plan_over(
     above: &[Fetched],
     parent: Change,
     child: u64,
-    halves: (Node, Bytes, Node),
+    halves: Halves,
 ) -> Result<Plan, AllocError>
     requires shape { IsShape parent.node }
     requires above { AllByRecursion (λ (f : Fetched). IsShape f.node.value) (reverse above.now) }
-    ensures { IfOk result
-        (IsPlanOver root next (reverse above.now) parent child halves.0 halves.1 halves.2) }
+    ensures { IfOk result (IsPlanOver root next (reverse above.now) parent child halves) }
 {
     let Some(others) = changes_over(alloc, 1, parent, above)? else {
         return Ok(Plan::NoLevel);

@@ -14,7 +14,7 @@ ghost use Rattle.bd_path.specs.Flushed.{IsFlushed};
 ghost use Rattle.bd_path.specs.Made.{IsMadeBy, IsWornFor};
 ghost use Rattle.bd_flush.specs.Splits.{plain_edge, over_two, over_step, IsRootSplit, IsRaised};
 
-use bd_inner::split;
+use bd_inner::{Halves, split};
 use bd_keys::Bytes;
 use bd_limits::MAX_LEVEL;
 use bd_message::{Counter, MapFault};
@@ -79,17 +79,21 @@ pub fn over_step(
     next: u64,
     id: u64,
     level: u32,
-    halves: (Node, Bytes, Node),
+    halves: Halves,
     others: Vec<Change>,
 ) -> Result<Option<Step>, AllocError>
     ensures { IfOk result (λ found. MatchOption found (2 ^ 64 ≤ next + 1)
-        (λ step. (step ≡ over_step root next id level halves.0 halves.1 halves.2 others.items)
+        (λ step. (step ≡ over_step root next id level halves others.items)
         × (next + 1 < 2 ^ 64))) }
 {
     let Some(upper) = next.checked_add(1) else {
         return Ok(None);
     };
-    let (first, pivot, second) = halves;
+    let Halves {
+        first,
+        pivot,
+        second,
+    } = halves;
     let change = Change {
         id,
         node: over_two(alloc, level, pivot, next, upper)?,

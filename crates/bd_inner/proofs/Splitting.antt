@@ -230,7 +230,7 @@ covered_names c (false ∷ first) (true ∷ second) (x ∷ xs) a b h =
 covered_names c (false ∷ first) (false ∷ second) (x ∷ xs) a b h = elim (h zero x refl) [ inl here ↦ cc | inr there ↦ cc ]
 
 pub halves_of : (level : ℕ) (xs : List Edge) (f : Edge) (ys : List Edge) (buffer : List Message) (first second : Node) → IsInner level (xs ++ f ∷ ys) buffer → 1 ≤ length xs → length xs ≤ 8 → length (f ∷ ys) ≤ 8
-    → IsSwept level (lower_edges xs f buffer) buffer first → IsSwept level (upper_edges f ys buffer) buffer second → AreHalves (Inner level (xs ++ f ∷ ys) buffer) first f.pivot second
+    → IsSwept level (lower_edges xs f buffer) buffer first → IsSwept level (upper_edges f ys buffer) buffer second → AreHalves (Inner level (xs ++ f ∷ ys) buffer) (record { first = first; pivot = f.pivot; second = second })
 halves_of level xs f ys buffer first second h some low high s t =
     let bare : Edge = bare_edge f.pivot (length buffer) in
     let up : EachEdge IsRisingEdge (xs ++ f ∷ ys) = rising (length buffer) (xs ++ f ∷ ys) h.each in
@@ -294,14 +294,14 @@ sweep_upper level es buffer m f half h some low is half_is =
 
 pub halves_at : (level : ℕ) (es : List Edge) (buffer : List Message) (m : ℕ) (f : Edge) (pivot : List ℕ) (low high : List Edge) (first second : Node) → IsInner level es buffer → 15 ≤ length es → m ≡ length es / 2 → f ≡ get_or es m f
     → low ≡ take m es ++ bare_edge f.pivot (length buffer) ∷ [] → high ≡ bare_edge [] (length buffer) ∷ f ∷ drop (m + 1) es → pivot ≡ (get_or es m f).pivot
-    → IsSwept level low buffer first → IsSwept level high buffer second → AreHalves (Inner level es buffer) first pivot second
+    → IsSwept level low buffer first → IsSwept level high buffer second → AreHalves (Inner level es buffer) (record { first = first; pivot = pivot; second = second })
 halves_at level es buffer m f pivot low high first second h full half is low_is high_is pivot_is s t =
     let few : length es ≤ edge_limit = h.few in
     let within : m < length es = omega arith in
     let parts = parted es m f within is in
     let f_is : f.pivot ≡ pivot = sym (pivot_is ∙ ap (λ (e : Edge). e.pivot) (sym is)) in
-    subst (λ (p : List ℕ). AreHalves (Inner level es buffer) first p second) f_is
-    (subst (λ (l : List Edge). AreHalves (Inner level l buffer) first f.pivot second) (sym parts.whole)
+    subst (λ (p : List ℕ). AreHalves (Inner level es buffer) (record { first = first; pivot = p; second = second })) f_is
+    (subst (λ (l : List Edge). AreHalves (Inner level l buffer) (record { first = first; pivot = f.pivot; second = second })) (sym parts.whole)
     (halves_of level (take m es) f (drop (m + 1) es) buffer first second (subst (λ (l : List Edge). IsInner level l buffer) parts.whole h)
     (omega (arith, length-take m es)) (omega (arith, length-take m es)) (omega (arith, length-drop (m + 1) es))
     (subst (λ (l : List Edge). IsSwept level l buffer first) low_is s) (subst (λ (l : List Edge). IsSwept level l buffer second) high_is t)))

@@ -9,6 +9,7 @@ use Rattle.bd_node.specs.declared.node.Node.{Node}
 use Rattle.bd_node.specs.Nodes.{level_of, buffer_size, message_names, edge_names, times, node_at}
 use Rattle.bd_node.specs.Shape.{IsShape}
 use Rattle.bd_node.specs.Parts.{edges_of, buffer_of}
+use Rattle.bd_inner.specs.declared.halves.Halves.{Halves}
 
 -- how often a node's messages name another
 abbrev pub goto_times : Node → ℕ → ℕ
@@ -28,11 +29,12 @@ pub record IsHalf (n : Node) (own : List ℕ → Type 0) (half : Node) : Type 0 
   pub names : (c : ℕ) → times half c ≤ times n c
 
 -- the halves of a node, one with the keys below a pivot and one with the others
-pub record AreHalves (n first : Node) (pivot : List ℕ) (second : Node) : Type 0 where
-  pub lower : IsHalf n (λ k. IsBelow k pivot) first
-  pub upper : IsHalf n (λ k. IsAtLeast k pivot) second
-  pub some : IsBelow [] pivot
-  pub short : length pivot ≤ key_limit
-  pub edges : flat_map edge_names (edges_of first) ++ flat_map edge_names (edges_of second)
-      ≡ flat_map edge_names (edges_of n)
-  pub gotos : (c : ℕ) → goto_times n c ≤ goto_times first c + goto_times second c
+pub record AreHalves (n : Node) (halves : Halves) : Type 0 where
+  pub lower : IsHalf n (λ k. IsBelow k halves.pivot) halves.first
+  pub upper : IsHalf n (λ k. IsAtLeast k halves.pivot) halves.second
+  pub some : IsBelow [] halves.pivot
+  pub short : length halves.pivot ≤ key_limit
+  pub edges : flat_map edge_names (edges_of halves.first)
+      ++ flat_map edge_names (edges_of halves.second) ≡ flat_map edge_names (edges_of n)
+  pub gotos : (c : ℕ)
+      → goto_times n c ≤ goto_times halves.first c + goto_times halves.second c

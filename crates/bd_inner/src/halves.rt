@@ -12,13 +12,24 @@ use bd_keys::Bytes;
 use bd_node::{Edge, Edges, Items, Messages, Node};
 use std::alloc::{AllocError, Global};
 
-/// The halves of a node with 15 or 16 edges, and the least key of the second one. Each half has an
-/// edge without a child for the keys of the other one, so that no edge's lift changes, and only
-/// those of the messages that are pending for one of its edges.
-pub fn split(alloc: Global, node: &Node) -> Result<(Node, Bytes, Node), AllocError>
+/// The halves of a node.
+#[derive(Drop)]
+pub struct Halves {
+    /// The one with the keys below the pivot.
+    pub first: Node,
+    /// The least key of the second one.
+    pub pivot: Bytes,
+    /// The one with the keys from the pivot on.
+    pub second: Node,
+}
+
+/// The halves of a node with 15 or 16 edges. Each half has an edge without a child for the keys of
+/// the other one, so that no edge's lift changes, and only those of the messages that are pending for
+/// one of its edges.
+pub fn split(alloc: Global, node: &Node) -> Result<Halves, AllocError>
     requires shape { IsShape node.now }
     requires full { full_edges ≤ length (edges_of node.now) }
-    ensures { IfOk result (λ halves. AreHalves node.now halves.0 halves.1 halves.2) }
+    ensures { IfOk result (AreHalves node.now) }
 {
     match node {
         Node::Leaf(_) => unreachable!(),
@@ -36,11 +47,10 @@ fn split_inner(
     level: u32,
     edges: &[Edge],
     buffer: &Messages,
-) -> Result<(Node, Bytes, Node), AllocError>
+) -> Result<Halves, AllocError>
     requires inner { IsInner level edges.now buffer.now }
     requires full { full_edges ≤ length edges.now }
-    ensures { IfOk result (λ halves.
-        AreHalves (node.Inner level edges.now buffer.now) halves.0 halves.1 halves.2) }
+    ensures { IfOk result (AreHalves (node.Inner level edges.now buffer.now)) }
 {
     let middle = edges.len() / 2;
     let pivot = edges[middle].pivot.clone()?;
@@ -48,7 +58,11 @@ fn split_inner(
     let (low, high) = edges.split_at(middle);
     let first = sweep(alloc, level, with_end(alloc, low, &pivot, seen)?, buffer)?;
     let second = sweep(alloc, level, with_beginning(alloc, high, seen)?, buffer)?;
-    Ok((first, pivot, second))
+    Ok(Halves {
+        first,
+        pivot,
+        second,
+    })
 }
 
 // The edges, and then one without a child from a pivot on.

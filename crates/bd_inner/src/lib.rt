@@ -18,5 +18,5 @@ pub use carving::carve;
 pub use clipping::clip;
 pub use compaction::{compact, sweep};
 pub use exchanging::{edge_to, exchange};
-pub use halves::split;
+pub use halves::{Halves, split};
 pub use receiving::receive;

@@ -54,8 +54,10 @@ path t p n made b =
       low = omega arith;
       high = omega arith;
       named = b.named;
+      top = level_of n;
+      under = λ x high one. omega arith;
       made_are = b.made_are;
-      used = b.used;
+      used = λ x high low. inl (b.used x high low);
       uppers_are = tt;
       once = tt;
     }

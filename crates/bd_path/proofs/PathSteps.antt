@@ -2,7 +2,7 @@
 -- it.
 use Rattle.std.proofs.Common.{◌≡◌, ℕ, zero, suc, ◌+◌, ◌-◌, ◌<◌, ◌≤◌, cond, List, [], ◌∷◌, length, refl, sym, ap, subst, ◌∙◌, Option, None, Some, arith, inl, inr, ltb, eqb, ◌⊎◌}
 use Rattle.std.specs.Prelude.{slice_get}
-use Rattle.std.specs.List.{AllByRecursion}
+use Rattle.std.specs.List.{AllByRecursion, sum_by}
 use Rattle.std.proofs.lemmas.Bool.{cases_lt, cases_eq, cases_Bool, eq-eqb, ne_eqb, lt-ltb, le-ltb, cond-true, cond-false}
 use Rattle.std.proofs.lemmas.Option.{same_Some, none-some}
 use Rattle.std.proofs.lemmas.List.Sums.{sum_by-cons}
@@ -41,9 +41,10 @@ pub record IsUpper (t : Table) (step : Step) (c : ℕ) (u : Change) : Type 0 whe
   pub shape : IsShape u.node
   pub low : t.level u.id ≤ level_of u.node
   pub high : level_of u.node ≤ t.level u.id + 1
-  pub named : (x : ℕ) → 1 ≤ times u.node x → IsKept t x × (level_after t step x < level_of u.node)
+  pub named : (x : ℕ) → 1 ≤ times u.node x → IsNamable t step (level_of u.node) x
 
--- a node that may be changed to this one, with others above it, where these are made
+-- a node that may be changed to this one, with others above it, where these are made, below the top level;
+-- each is named by a changed node that is as high as that
 pub record IsPathStep (t : Table) (c : ℕ) (h : Node) (uppers : List Change) (made : List Node) : Type 0 where
   pub table : IsTable t
   pub child : IsKept t c
@@ -51,8 +52,10 @@ pub record IsPathStep (t : Table) (c : ℕ) (h : Node) (uppers : List Change) (m
   pub low : t.level c ≤ level_of h
   pub high : level_of h ≤ t.level c + 1
   pub named : (x : ℕ) → 1 ≤ times h x → IsLower t (t.level c) x ⊎ ((t.next ≤ x) × (x < t.next + length made))
-  pub made_are : AllByRecursion (IsMadeUnder t (level_of h) c) made
-  pub used : (x : ℕ) → t.next ≤ x → x < t.next + length made → 1 ≤ times h x
+  pub top : ℕ
+  pub under : (x : ℕ) → t.next ≤ x → 1 ≤ times h x → top ≤ level_of h
+  pub made_are : AllByRecursion (IsMadeUnder t top c) made
+  pub used : (x : ℕ) → t.next ≤ x → x < t.next + length made → (1 ≤ times h x) ⊎ (1 ≤ sum_by (λ (d : Change). times d.node x) uppers)
   pub uppers_are : AllByRecursion (IsUpper t (path_step t.root c h uppers made) c) uppers
   pub once : AreOnce uppers
 
@@ -116,12 +119,12 @@ lower_namable t c h uppers made level x b under lower above more =
     record { there = inl lower.kept; lower = omega arith }
 
 -- an element at a place
-at_of : (xs : List Node) (i : ℕ) → i < length xs → (m : Node) × (slice_get xs i ≡ Some m)
+pub at_of : (xs : List Node) (i : ℕ) → i < length xs → (m : Node) × (slice_get xs i ≡ Some m)
 at_of [] i low = absurd (omega arith)
 at_of (x ∷ xs) zero low = (x, refl)
 at_of (x ∷ xs) (suc i) low = at_of xs i (omega arith)
 
-each_at : (P : Node → Type 0) (xs : List Node) (i : ℕ) (m : Node) → AllByRecursion P xs → slice_get xs i ≡ Some m → P m
+pub each_at : (P : Node → Type 0) (xs : List Node) (i : ℕ) (m : Node) → AllByRecursion P xs → slice_get xs i ≡ Some m → P m
 each_at P [] i m h there = absurd (none-some m there)
 each_at P (x ∷ xs) zero m h there = subst P (same_Some x m there) h.0
 each_at P (x ∷ xs) (suc i) m h there = each_at P xs i m h.1 there
@@ -137,7 +140,8 @@ child_put t c h uppers made b =
             | inr new ↦ (let found : (m : Node) × (slice_get made (x - t.next) ≡ Some m) = at_of made (x - t.next) (let high : t.next ≤ x = new.0 in let low : x < t.next + length made = new.1 in omega arith) in
                 let is : given t.next step x ≡ Some found.0 = given-new t.next step x new.0 ∙ found.1 in
                 let e : level_after t step x ≡ level_of found.0 = ap (λ (o : Option Node). level_or o (t.level x)) is in
-                let l : level_of found.0 < level_of h = (each_at (IsMadeUnder t (level_of h) c) made (x - t.next) found.0 b.made_are found.1).low in
+                let l : level_of found.0 < b.top = (each_at (IsMadeUnder t b.top c) made (x - t.next) found.0 b.made_are found.1).low in
+                let under : b.top ≤ level_of h = b.under x new.0 one in
                 record { there = inr new; lower = omega arith })
           ]);
     }
@@ -147,11 +151,11 @@ upper_put t c h uppers made u own = record {
   kept = own.kept;
   put = record {
     shape = own.shape;
-    lower = each_named (IsNamable t (path_step t.root c h uppers made) (level_of u.node)) (names u.node) (λ x one. record { there = inl (own.named x one).0; lower = (own.named x one).1 });
+    lower = each_named (IsNamable t (path_step t.root c h uppers made) (level_of u.node)) (names u.node) own.named;
   };
 }
 
-made_put : (t : Table) (c : ℕ) (h : Node) (uppers : List Change) (made : List Node) → IsPathStep t c h uppers made → (d : Node) → IsMadeUnder t (level_of h) c d → IsPut t (path_step t.root c h uppers made) d
+made_put : (t : Table) (c : ℕ) (h : Node) (uppers : List Change) (made : List Node) → (b : IsPathStep t c h uppers made) → (d : Node) → IsMadeUnder t b.top c d → IsPut t (path_step t.root c h uppers made) d
 made_put t c h uppers made b d own = record {
   shape = own.shape;
   lower = each_named (IsNamable t (path_step t.root c h uppers made) (level_of d)) (names d) (λ x one. lower_namable t c h uppers made (level_of d) x b own.under (own.named x one) (level_of d) (omega arith));
@@ -161,7 +165,7 @@ pub path_may : (t : Table) (c : ℕ) (h : Node) (uppers : List Change) (made : L
 path_may t c h uppers made b =
     let step : Step = path_step t.root c h uppers made in
     record {
-      made = each_weaker (IsMadeUnder t (level_of h) c) (IsPut t step) (λ d own. made_put t c h uppers made b d own) made b.made_are;
+      made = each_weaker (IsMadeUnder t b.top c) (IsPut t step) (λ d own. made_put t c h uppers made b d own) made b.made_are;
       changes = (record { kept = b.child; put = child_put t c h uppers made b }, each_weaker (IsUpper t step c) (IsChange t step) (λ u own. upper_put t c h uppers made u own) uppers b.uppers_are);
       once = (
         each_weaker (IsUpper t step c) (λ (u : Change). u.id ≡ c → ⊥) (λ u own same. (let e : t.level u.id ≡ t.level c = ap t.level same in let l : t.level c < t.level u.id = own.above in omega arith)) uppers b.uppers_are,
@@ -172,8 +176,10 @@ path_may t c h uppers made b =
           let l : 1 ≤ t.level t.root = b.table.inner in
           omega arith);
       used = λ id high low.
-          let one : 1 ≤ times h id = b.used id high low in
-          omega (arith, sum_by-cons (λ (d : Change). times d.node id) (record { id = c; node = h }) uppers);
+          elim (b.used id high low) [
+            | inl own ↦ omega (arith, sum_by-cons (λ (d : Change). times d.node id) (record { id = c; node = h }) uppers)
+            | inr above ↦ omega (arith, sum_by-cons (λ (d : Change). times d.node id) (record { id = c; node = h }) uppers)
+          ];
     }
 
 -- ---- what each id has then
@@ -233,8 +239,8 @@ child_agrees nodes t c h uppers made b =
     ])
     k))
 
-made_agrees : (nodes : Nodes) (t : Table) (c : ℕ) (h : Node) (made : List Node) (d : Node) → IsTable t → IsMadeUnder t (level_of h) c d → AllByRecursion (Agree (at nodes) (has_path nodes t.next c h made)) (names d)
-made_agrees nodes t c h made d table own =
+made_agrees : (nodes : Nodes) (t : Table) (level c : ℕ) (h : Node) (made : List Node) (d : Node) → IsTable t → IsMadeUnder t level c d → AllByRecursion (Agree (at nodes) (has_path nodes t.next c h made)) (names d)
+made_agrees nodes t level c h made d table own =
     each_named (Agree (at nodes) (has_path nodes t.next c h made)) (names d) (λ x one k.
     sym (path_old nodes t.next c h made x (lower_apart t (level_of d) c x own.under (own.named x one)) (table.below x (own.named x one).kept) k))
 
@@ -291,7 +297,7 @@ path_moving nodes t c h uppers made b =
                 path_apart nodes t.next c h made id (λ same. (let low : c < t.next = child_low t c h uppers made b.step in omega arith)) k
                 ∙ made_new nodes t.next made id high k
                 ∙ ap (λ (o : Option Node). found_at (at nodes) o k) there
-                ∙ node_has-same (at nodes) has n k (made_agrees nodes t c h made n b.step.table (each_at (IsMadeUnder t (level_of h) c) made (id - t.next) n b.step.made_are there)))
+                ∙ node_has-same (at nodes) has n k (made_agrees nodes t b.step.top c h made n b.step.table (each_at (IsMadeUnder t b.step.top c) made (id - t.next) n b.step.made_are there)))
           ];
       named = λ id n low e.
           elim (cases_eq id c) [

@@ -147,7 +147,7 @@ raise_upper t c h uppers made x f table own each low link room =
           named_has (IsLower t (t.level f.id)) y (names f.node.value) link.fetched.own.lower (subst (λ (l : List ℕ). 1 ≤ count_by (λ name. name == y) l) (raised_names f.node.value) one) in
           let less : t.level y < t.level f.id = under.lower in
           let most : level_after t (path_step t.root c h uppers made) y ≤ t.level y + 1 = (level_bound t c h uppers made own each y (table.below y under.kept)).1 in
-          (under.kept, omega arith);
+          record { there = inl under.kept; lower = omega arith };
     }
 
 pub rising_uppers : (t : Table) (c : ℕ) (h : Node) (uppers : List Change) (made : List Node) (x level : ℕ) (way rising : List Fetched) → IsTable t → RisesByOne t (record { id = c; node = h }) → AllByRecursion (RisesByOne t) uppers → t.level c ≤ t.level x → IsRising level way rising → IsWayUp t x way

@@ -15,10 +15,10 @@ path_step root c h uppers made =
 abbrev pub change_step : ℕ → ℕ → Node → Step
 change_step root id n = path_step root id n [] []
 
--- the step that changes a node and its child, and makes others
+-- the step that changes a child and the node above it, and makes others
 abbrev pub child_step : ℕ → ℕ → Node → ℕ → Node → List Node → Step
 child_step root parent n child m made =
-    path_step root parent n (record { id = child; node = m } ∷ []) made
+    path_step root child m (record { id = parent; node = n } ∷ []) made
 
 -- the step that changes a node and makes a leaf
 abbrev pub leaf_step : ℕ → ℕ → Node → List Entry → Step

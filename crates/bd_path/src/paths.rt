@@ -30,11 +30,11 @@ pub fn path_step(
 pub fn change_step(alloc: Global, root: u64, id: u64, node: Node) -> Result<Step, AllocError>
     ensures { IfOk result (λ step. step ≡ change_step root id node) }
 {
-    let mut changes = Vec::new(alloc);
-    changes.push(Change { id, node })?;
-    Ok(Step {
-        made: Items::from_vec(Vec::new(alloc)),
-        changes: Items::from_vec(changes),
+    path_step(
+        alloc,
         root,
-    })
+        Change { id, node },
+        Vec::new(alloc),
+        Vec::new(alloc),
+    )
 }

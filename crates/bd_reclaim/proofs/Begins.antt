@@ -18,7 +18,8 @@ use Rattle.bd_node.specs.Shape.{IsPending}
 use Rattle.bd_node.specs.Tables.{Table, IsSound}
 use Rattle.bd_path.specs.declared.fetching.Fetched.{Fetched}
 use Rattle.bd_step.specs.declared.ways.FlushStep.{FlushStep}
-use Rattle.bd_step.specs.declared.ways.FlushStep.TheVariants.{SplitRoot, SplitChild, Push, Privatise, Carve}
+use Rattle.bd_step.specs.declared.ways.FlushStep.TheVariants.{SplitRoot, At}
+use Rattle.bd_step.specs.declared.ways.Work.TheVariants.{Split, Push, Privatise, Carve}
 use Rattle.bd_path.specs.Fetching.{IsFetched, IsEdgeTo, IsWayTo}
 use Rattle.bd_flush.specs.Children.{CanSplitChild}
 use Rattle.bd_path.specs.Raising.{IsWayUp}
@@ -143,18 +144,18 @@ in_front P old new list p more same h =
     subst (λ (l : List Fetched). P l list) (sym (popped old new p more))
     (subst (λ (l : List Fetched). P (p ∷ reverse new) l) (reverse-reverse new ∙ sym same) h)
 
-pub first_copied : (old new list : List Fetched) (p node : Fetched) (place : ℕ) (h : IsAsking old new p node place) → list ≡ new → h.asked.0.source ≢ [] → IsSplitFirst (reverse old) node (Privatise list p place)
+pub first_copied : (old new list : List Fetched) (p node : Fetched) (place : ℕ) (h : IsAsking old new p node place) → list ≡ new → h.asked.0.source ≢ [] → IsSplitFirst (reverse old) node (At (record { above = list; parent = p; place = place }) Privatise)
 first_copied old new list p node place h same through =
-    in_front (λ up whole. IsSplitFirst up node (Privatise whole p place)) old new list p h.more same
+    in_front (λ up whole. IsSplitFirst up node (At (record { above = whole; parent = p; place = place }) Privatise)) old new list p h.more same
     (asked_through (reverse new) p node place h.asked.0 h.asked.1 through)
 
 -- the edge asks with nothing in front of a key
 pub plain_way : (n : Node) (place child : ℕ) (e : Edge) → IsEdgeTo n place child e → e.source ≡ [] → IsWayTo n place child e
 plain_way n place child e edge plain = record { here = edge.here; child_is = edge.child_is; plain = plain }
 
-pub first_below : (old new list : List Fetched) (p node : Fetched) (place : ℕ) (h : IsAsking old new p node place) → list ≡ new → h.asked.0.source ≡ [] → length (edges_of p.node.value) ≤ 14 → IsSplitFirst (reverse old) node (SplitChild list p place node)
+pub first_below : (old new list : List Fetched) (p node : Fetched) (place : ℕ) (h : IsAsking old new p node place) → list ≡ new → h.asked.0.source ≡ [] → length (edges_of p.node.value) ≤ 14 → IsSplitFirst (reverse old) node (At (record { above = list; parent = p; place = place }) (Split node))
 first_below old new list p node place h same plain room =
-    in_front (λ up whole. IsSplitFirst up node (SplitChild whole p place node)) old new list p h.more same
+    in_front (λ up whole. IsSplitFirst up node (At (record { above = whole; parent = p; place = place }) (Split node))) old new list p h.more same
     (below (reverse new) p node place h.asked.0 (plain_way p.node.value place node.id h.asked.0 h.asked.1 plain) room)
 
 pub first_further : (old new : List Fetched) (p node : Fetched) (place : ℕ) (h : IsAsking old new p node place) (step : FlushStep) → h.asked.0.source ≡ [] → 15 ≤ length (edges_of p.node.value) → IsSplitFirst (reverse new) p step → IsSplitFirst (reverse old) node step
@@ -197,10 +198,11 @@ edge_waited t node from p place cut fetched from_edge e here =
 
 step_waited : (t : Table) (node : Fetched) (from : ℕ) (step : FlushStep) → HasCut node.node.value from → IsDue t step → IsStepFrom node from step → IsWaited step
 step_waited t node from (SplitRoot root) cut due at = tt
-step_waited t node from (SplitChild above parent place child) cut due at = tt
-step_waited t node from (Push above parent place child) cut due at = λ e here. pending_waits parent.node.value place e (edge_waited t node from parent place cut due.0.parent_is at e here)
-step_waited t node from (Privatise above parent place) cut due at = tt
-step_waited t node from (Carve above parent place index) cut due at = tt
+step_waited t node from (At site (Split child)) cut due at = tt
+step_waited t node from (At site (Push child)) cut due at = λ e here.
+    pending_waits site.parent.node.value site.place e (edge_waited t node from site.parent site.place cut due.0.parent_is at e here)
+step_waited t node from (At site Privatise) cut due at = tt
+step_waited t node from (At site (Carve index)) cut due at = tt
 
 pub all_waited : {E : Type 0} (t : Table) (node : Fetched) (from : ℕ) (r : Result FlushStep E) → HasCut node.node.value from → IfOk r (IsDue t) → IfOk r (IsStepFrom node from) → IfOk r IsWaited
 all_waited t node from (Ok step) cut due at = step_waited t node from step cut due at

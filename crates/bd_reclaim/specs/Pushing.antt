@@ -8,7 +8,8 @@ use Rattle.bd_node.specs.Tables.{Table}
 use Rattle.bd_node.specs.Parts.{edges_of}
 use Rattle.bd_path.specs.declared.fetching.Fetched.{Fetched}
 use Rattle.bd_step.specs.declared.ways.FlushStep.{FlushStep}
-use Rattle.bd_step.specs.declared.ways.FlushStep.TheVariants.{SplitRoot, SplitChild, Privatise}
+use Rattle.bd_step.specs.declared.ways.FlushStep.TheVariants.{SplitRoot, At}
+use Rattle.bd_step.specs.declared.ways.Work.TheVariants.{Split, Privatise}
 use Rattle.bd_path.specs.Fetching.{IsEdgeTo, IsWayTo}
 use Rattle.bd_path.specs.Flushed.{IsFlushed}
 use Rattle.bd_step.specs.Ways.{IsDue, IsStepFrom, IsStanding, IsReached}
@@ -21,10 +22,12 @@ pub data IsSplitFirst : List Fetched → Fetched → FlushStep → Type 0 where
   at_root : (root : Fetched) → IsSplitFirst [] root (SplitRoot root)
   asked_through : (above : List Fetched) (parent node : Fetched) (place : ℕ) (e : Edge)
       → IsEdgeTo parent.node.value place node.id e → e.source ≢ []
-      → IsSplitFirst (parent ∷ above) node (Privatise (reverse above) parent place)
+      → IsSplitFirst (parent ∷ above) node
+      (At (record { above = reverse above; parent = parent; place = place }) Privatise)
   below : (above : List Fetched) (parent node : Fetched) (place : ℕ) (e : Edge)
       → IsWayTo parent.node.value place node.id e → length (edges_of parent.node.value) ≤ room_edges
-      → IsSplitFirst (parent ∷ above) node (SplitChild (reverse above) parent place node)
+      → IsSplitFirst (parent ∷ above) node
+      (At (record { above = reverse above; parent = parent; place = place }) (Split node))
   further : (above : List Fetched) (parent node : Fetched) (place : ℕ) (e : Edge)
       (step : FlushStep) → IsWayTo parent.node.value place node.id e
       → full_edges ≤ length (edges_of parent.node.value) → IsSplitFirst above parent step

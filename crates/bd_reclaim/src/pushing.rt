@@ -21,7 +21,7 @@ use bd_limits::FULL_EDGES;
 use bd_message::MapFault;
 use bd_node::{Items, Node, NodeStore};
 use bd_path::{Fetched, Way};
-use bd_step::{FlushStep, make, step_from};
+use bd_step::{FlushStep, Site, Work, make, step_from};
 use std::alloc::Global;
 
 /// Makes a step of a flush that begins at the edge at a place of a private node, for which a Cut is
@@ -117,20 +117,25 @@ fn split_first(above: Vec<Fetched>, node: Fetched) -> FlushStep
     };
     let place = place_of(&parent.node, node.id);
     if !asks_plainly(&parent.node, place) {
-        return FlushStep::Privatise {
-            above: Items::from_vec(above),
-            parent,
-            place,
+        return FlushStep::At {
+            site: Site {
+                above: Items::from_vec(above),
+                parent,
+                place,
+            },
+            work: Work::Privatise,
         };
     }
     if parent.node.edges().len() >= FULL_EDGES {
         return split_first(above, parent);
     }
-    FlushStep::SplitChild {
-        above: Items::from_vec(above),
-        parent,
-        place,
-        child: node,
+    FlushStep::At {
+        site: Site {
+            above: Items::from_vec(above),
+            parent,
+            place,
+        },
+        work: Work::Split { child: node },
     }
 }
 

@@ -8,7 +8,7 @@ use Rattle.bd_message.specs.declared.message.Message.{Message}
 use Rattle.bd_message.specs.Messages.{size}
 use Rattle.bd_node.specs.declared.node.Edge.{Edge}
 use Rattle.bd_node.specs.Shape.{end_before, SomeEdge, IsPending, IsInner}
-use Rattle.bd_step.specs.Pending.{IsPendingSize, ArePendingSizes, IsFullest}
+use Rattle.bd_step.specs.Filling.{IsPendingSize, ArePendingSizes, IsFullest}
 
 total : List ℕ → ℕ
 total [] = 0

@@ -20,10 +20,10 @@ use Rattle.bd_path.specs.Fetching.{IsFetched, IsWayTo, IsOwn, AreOwn}
 use Rattle.bd_flush.specs.GoingDown.{child_level}
 use Rattle.bd_flush.specs.Pushes.{AllGoDown}
 use Rattle.bd_flush.specs.Carving.{IsOldestAt}
-use Rattle.bd_step.specs.Ways.{IsFullestAt, IsOnWay, IsTarget, IsReadyToPush, HasHeldGoto, IsUpToRoot, AtEdge, IsSameEdge, IsFromEdge, IsStepAt, IsStanding, IsToDoAt, IsReached, IsFromRoot, HasWay, IsNext}
+use Rattle.bd_step.specs.Ways.{IsFullestAt, IsOnWay, IsTarget, IsReadyToPush, HasHeldGoto, IsUpToRoot, AtEdge, IsSameEdge, IsFromEdge, IsStepAt, IsStanding, IsToDoAt, IsReached, HasWay, IsNext}
 use Rattle.bd_step.specs.Ways.IsOnWay.{below}
 use Rattle.bd_step.specs.declared.ways.FlushStep.{FlushStep}
-use Rattle.bd_step.specs.declared.ways.FlushStep.TheVariants.{SplitRoot, SplitChild, Push, Privatise, Carve}
+use Rattle.bd_step.specs.declared.ways.FlushStep.TheVariants.{SplitRoot, At}
 use Rattle.bd_path.specs.Raising.{IsWayUp}
 use Rattle.bd_path.specs.Raising.IsWayUp.{top, one_up}
 use Rattle.bd_path.proofs.EdgesAt.{as_edge, child_named}
@@ -103,10 +103,7 @@ next_under t parent place child under next =
 -- what holds of the edge of a step holds of it in another form
 edge_weaker : (P Q : Fetched → ℕ → Type 0) → ((f : Fetched) (place : ℕ) → P f place → Q f place) → (step : FlushStep) → AtEdge P step → AtEdge Q step
 edge_weaker P Q weaker (SplitRoot root) h = absurd h
-edge_weaker P Q weaker (SplitChild above parent place child) h = weaker parent place h
-edge_weaker P Q weaker (Push above parent place child) h = weaker parent place h
-edge_weaker P Q weaker (Privatise above parent place) h = weaker parent place h
-edge_weaker P Q weaker (Carve above parent place index) h = weaker parent place h
+edge_weaker P Q weaker (At site work) h = weaker site.parent site.place h
 
 -- what holds of an edge holds of it as a step has it
 edge_same : (P : Fetched → ℕ → Type 0) (f : Fetched) (place : ℕ) → P f place → (p : Fetched) (at : ℕ) → IsSameEdge f place p at → P p at
@@ -126,22 +123,15 @@ next_way nodes t first from parent place child n next h same fullest room own ch
 
 -- ---- from the root
 
-from_root : (nodes : Nodes) (t : Table) (step : FlushStep) → IsFromRoot nodes t step → HasWay nodes t step
-from_root nodes t (SplitRoot root) h = tt
-from_root nodes t (SplitChild above parent place child) h = h
-from_root nodes t (Push above parent place child) h = h
-from_root nodes t (Privatise above parent place) h = h
-from_root nodes t (Carve above parent place index) h = h
-
 root_has_way : (nodes : Nodes) (t : Table) (root : Fetched) (n : Node) (place : ℕ) (step : FlushStep) → root.id ≡ t.root → n ≡ root.node.value → IsFullestAt n place → IsOwn nodes t root → IsReached nodes t root.id place step → HasWay nodes t step
-root_has_way nodes t root n place step same is fullest own reached =
-    from_root nodes t step (record {
-      node = root.node.value;
-      there = ap nodes (sym same) ∙ own.there;
-      place = place;
-      fullest = subst (λ (m : Node). IsFullestAt m place) is fullest;
-      way = subst (λ (i : ℕ). IsReached nodes t i place step) same reached;
-    })
+root_has_way nodes t root n place (SplitRoot r) same is fullest own reached = tt
+root_has_way nodes t root n place (At site work) same is fullest own reached = record {
+  node = root.node.value;
+  there = ap nodes (sym same) ∙ own.there;
+  place = place;
+  fullest = subst (λ (m : Node). IsFullestAt m place) is fullest;
+  way = subst (λ (i : ℕ). IsReached nodes t i place (At site work)) same reached;
+}
 
 pub root_on_ok : {E : Type 0} (nodes : Nodes) (t : Table) (root : Fetched) (n : Node) (place : ℕ) (r : Result FlushStep E) → root.id ≡ t.root → n ≡ root.node.value → IsFullestAt n place → IsOwn nodes t root → IfOk r (IsStanding nodes t) → IfOk r (IsReached nodes t root.id place) → IfOk r (IsToDoAt nodes t)
 root_on_ok nodes t root n place (Ok step) same is fullest own stands reached = (stands, root_has_way nodes t root n place step same is fullest own reached)

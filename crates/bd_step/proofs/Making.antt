@@ -14,7 +14,9 @@ use Rattle.bd_inner.specs.Moving.{SomeCanTouch}
 use Rattle.bd_node.specs.Parts.{end_at, IsEdgeAt}
 use Rattle.bd_path.specs.declared.fetching.Fetched.{Fetched}
 use Rattle.bd_step.specs.declared.ways.FlushStep.{FlushStep}
-use Rattle.bd_step.specs.declared.ways.FlushStep.TheVariants.{SplitRoot, SplitChild, Push, Privatise, Carve}
+use Rattle.bd_step.specs.declared.ways.FlushStep.TheVariants.{SplitRoot, At}
+use Rattle.bd_step.specs.declared.ways.Site.{Site}
+use Rattle.bd_step.specs.declared.ways.Work.TheVariants.{Split, Push, Privatise, Carve}
 use Rattle.bd_path.specs.Flushed.{IsFlushed}
 use Rattle.bd_path.specs.Fetching.{IsFetched, IsContents, IsOwn, AreOwn}
 use Rattle.bd_flush.specs.Pushes.{CanPush, CanPushNew, AllGoDown, unseen}
@@ -62,13 +64,13 @@ goes_to t n place e o is h = subst (λ (x : Option ℕ). AllGoDown t.level (chil
 -- some messages wait, if a step goes down on the way to the fullest edge
 pub is_waited : (t : Table) (step : FlushStep) → 1 ≤ t.size → IsToDo t step → IsWaited step
 is_waited t (SplitRoot root) waits h = tt
-is_waited t (SplitChild above parent place child) waits h = tt
-is_waited t (Push above parent place child) waits h = λ e here. waits_for t parent place e waits h.0.0.parent_is h.1 here
-is_waited t (Privatise above parent place) waits h = tt
-is_waited t (Carve above parent place index) waits h = tt
+is_waited t (At site (Split child)) waits h = tt
+is_waited t (At site (Push child)) waits h = λ e here. waits_for t site.parent site.place e waits h.0.0.parent_is h.1 here
+is_waited t (At site Privatise) waits h = tt
+is_waited t (At site (Carve index)) waits h = tt
 
-pub can_push : (t : Table) (above : List Fetched) (parent : Fetched) (place : ℕ) (child : Fetched) → IsWaited (Push above parent place (Some child)) → IsDue t (Push above parent place (Some child)) → CanPush t parent place child
-can_push t above parent place child waited h = record {
+pub can_push : (t : Table) (site : Site) (child : Fetched) → IsWaited (At site (Push (Some child))) → IsDue t (At site (Push (Some child))) → CanPush t site.parent site.place child
+can_push t site child waited h = record {
   parent_is = h.0.parent_is;
   child_is = h.0.target.1;
   under = h.1;
@@ -76,25 +78,25 @@ can_push t above parent place child waited h = record {
   edge = h.0.edge;
   way = h.0.target.0;
   some = waited h.0.edge h.0.target.0.here;
-  down = goes_to t parent.node.value place h.0.edge (Some child.id) h.0.target.0.child_is h.0.down;
+  down = goes_to t site.parent.node.value site.place h.0.edge (Some child.id) h.0.target.0.child_is h.0.down;
   once = h.0.target.2;
   soft = h.0.target.3;
 }
 
-pub can_push_new : (t : Table) (above : List Fetched) (parent : Fetched) (place : ℕ) → IsWaited (Push above parent place None) → IsDue t (Push above parent place None) → CanPushNew t parent place
-can_push_new t above parent place waited h = record {
+pub can_push_new : (t : Table) (site : Site) → IsWaited (At site (Push None)) → IsDue t (At site (Push None)) → CanPushNew t site.parent site.place
+can_push_new t site waited h = record {
   parent_is = h.0.parent_is;
   edge = h.0.edge;
   here = h.0.target.0;
   bare = h.0.target.1;
   waiting = record {
     some = waited h.0.edge h.0.target.0;
-    plain = all_plain t.level parent.node.value place h.0.edge (goes_to t parent.node.value place h.0.edge None h.0.target.1 h.0.down);
+    plain = all_plain t.level site.parent.node.value site.place h.0.edge (goes_to t site.parent.node.value site.place h.0.edge None h.0.target.1 h.0.down);
   };
 }
 
-pub can_carve : (t : Table) (above : List Fetched) (parent : Fetched) (place index : ℕ) → IsDue t (Carve above parent place index) → CanCarve t parent place index
-can_carve t above parent place index h = record {
+pub can_carve : (t : Table) (site : Site) (index : ℕ) → IsDue t (At site (Carve index)) → CanCarve t site.parent site.place index
+can_carve t site index h = record {
   parent_is = h.0.parent_is;
   room = h.0.room;
   edge = h.0.edge;
@@ -102,8 +104,8 @@ can_carve t above parent place index h = record {
   oldest = h.0.oldest;
 }
 
-pub has_child : (t : Table) (above : List Fetched) (parent : Fetched) (place : ℕ) → IsDue t (Privatise above parent place) → HasChild t parent place
-has_child t above parent place h = record {
+pub has_child : (t : Table) (site : Site) → IsDue t (At site Privatise) → HasChild t site.parent site.place
+has_child t site h = record {
   parent_is = h.0.parent_is;
   edge = h.0.edge;
   here = h.0.here;
@@ -111,12 +113,12 @@ has_child t above parent place h = record {
   child_is = h.0.child_is;
 }
 
-pub privatise_few : (t : Table) (above : List Fetched) (parent : Fetched) (place before now : ℕ) → IsDue t (Privatise above parent place) → ((e : Edge) (child : ℕ) → IsEdgeAt parent.node.value place e → e.child ≡ Some child → now ≤ before + (2 + 17 * t.level child))
+pub privatise_few : (t : Table) (site : Site) (before now : ℕ) → IsDue t (At site Privatise) → ((e : Edge) (child : ℕ) → IsEdgeAt site.parent.node.value site.place e → e.child ≡ Some child → now ≤ before + (2 + 17 * t.level child))
     → now ≤ before + (4 + 17 * t.level t.root)
-privatise_few t above parent place before now h few =
+privatise_few t site before now h few =
     let visits : now ≤ before + (2 + 17 * t.level h.0.child) = few h.0.edge h.0.child h.0.here h.0.child_is in
-    let lower : t.level h.0.child < t.level parent.id = (child_lower t parent place h.0.child h.0.edge h.0.parent_is h.0.here h.0.child_is).lower in
-    let under : t.level parent.id ≤ t.level t.root = h.1 in
+    let lower : t.level h.0.child < t.level site.parent.id = (child_lower t site.parent site.place h.0.child h.0.edge h.0.parent_is h.0.here h.0.child_is).lower in
+    let under : t.level site.parent.id ≤ t.level t.root = h.1 in
     omega arith
 
 -- ---- abundance
@@ -135,10 +137,10 @@ abundant_at t parent place more fetched most =
 
 pub is_abundant : (t : Table) (step : FlushStep) → IsToDo t step → soft_limit < t.size → IsAbundant step
 is_abundant t (SplitRoot root) h more = tt
-is_abundant t (SplitChild above parent place child) h more = abundant_at t parent place more h.0.0.parent_is h.1
-is_abundant t (Push above parent place child) h more = abundant_at t parent place more h.0.0.parent_is h.1
-is_abundant t (Privatise above parent place) h more = abundant_at t parent place more h.0.0.parent_is h.1
-is_abundant t (Carve above parent place index) h more = abundant_at t parent place more h.0.0.parent_is h.1
+is_abundant t (At site (Split child)) h more = abundant_at t site.parent site.place more h.0.0.parent_is h.1
+is_abundant t (At site (Push child)) h more = abundant_at t site.parent site.place more h.0.0.parent_is h.1
+is_abundant t (At site Privatise) h more = abundant_at t site.parent site.place more h.0.0.parent_is h.1
+is_abundant t (At site (Carve index)) h more = abundant_at t site.parent site.place more h.0.0.parent_is h.1
 
 -- ---- the whole step
 
@@ -208,11 +210,11 @@ copy_known known again nodes mid t parent place step knows h = record {
 
 pub step_known : (known again : Type 0) (nodes mid : Nodes) (t : Table) (flush : FlushStep) (step : Step) → (known → again × (mid ≡ nodes)) → IsStepOf again mid t flush step → IsStepOf known nodes t flush step
 step_known known again nodes mid t (SplitRoot root) step knows h = h
-step_known known again nodes mid t (SplitChild above parent place child) step knows h = h
-step_known known again nodes mid t (Push above parent place None) step knows h = h
-step_known known again nodes mid t (Push above parent place (Some child)) step knows h = h
-step_known known again nodes mid t (Privatise above parent place) step knows h = copy_known known again nodes mid t parent place step knows h
-step_known known again nodes mid t (Carve above parent place index) step knows h = h
+step_known known again nodes mid t (At site (Split child)) step knows h = h
+step_known known again nodes mid t (At site (Push None)) step knows h = h
+step_known known again nodes mid t (At site (Push (Some child))) step knows h = h
+step_known known again nodes mid t (At site Privatise) step knows h = copy_known known again nodes mid t site.parent site.place step knows h
+step_known known again nodes mid t (At site (Carve index)) step knows h = h
 
 -- a step that was found before is refused for the same
 pub worn_known : {T : Type 0} (before mid now : ℕ) (bad : ℕ → Type 0) (known again : Type 0) (nodes mids : Nodes) (t m : Table) (flush : FlushStep) (r : Result T MapFault) → mid ≡ before → m ≡ t → (known → again × (mids ≡ nodes)) → HasMapCause mid now bad (IsWornStep again mids m flush) r

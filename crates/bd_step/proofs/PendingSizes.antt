@@ -10,7 +10,7 @@ use Rattle.bd_node.specs.declared.node.Edge.{Edge}
 use Rattle.bd_node.specs.Shape.{end_before}
 use Rattle.bd_inner.proofs.ClippedEdges.{others_of, parted}
 use Rattle.bd_node.proofs.Lookup.{each_weaker}
-use Rattle.bd_step.specs.Pending.{IsWaiting, IsPendingSize, ArePendingSizes, IsFullest}
+use Rattle.bd_step.specs.Filling.{IsWaiting, IsPendingSize, ArePendingSizes, IsFullest}
 
 -- ---- the messages before a place
 

@@ -14,7 +14,7 @@ use Rattle.bd_node.specs.Parts.{buffer_of, end_at, IsEdgeAt}
 use Rattle.bd_inner.specs.Moving.{SomeCanTouch}
 use Rattle.bd_node.specs.Touching.{CanTouch}
 use Rattle.bd_flush.specs.Pushes.{unseen}
-use Rattle.bd_step.specs.Pending.{IsPendingSize, ArePendingSizes, IsFullest}
+use Rattle.bd_step.specs.Filling.{IsPendingSize, ArePendingSizes, IsFullest}
 use Rattle.bd_step.specs.Ways.{IsFullestAt, HasPending}
 use Rattle.bd_step.proofs.Abundance.{some_bytes}
 

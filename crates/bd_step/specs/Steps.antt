@@ -8,48 +8,57 @@ use Rattle.bd_node.specs.Meaning.{Nodes}
 use Rattle.bd_node.specs.Tables.{Table}
 use Rattle.bd_node.specs.Parts.{edges_of, buffer_of}
 use Rattle.bd_step.specs.declared.ways.FlushStep.{FlushStep}
-use Rattle.bd_step.specs.declared.ways.FlushStep.TheVariants.{SplitRoot, SplitChild, Push, Privatise, Carve}
-use Rattle.bd_step.specs.Pending.{IsFullest}
+use Rattle.bd_step.specs.declared.ways.FlushStep.TheVariants.{SplitRoot, At}
+use Rattle.bd_step.specs.declared.ways.Site.{Site}
+use Rattle.bd_step.specs.declared.ways.Work.{Work}
+use Rattle.bd_step.specs.declared.ways.Work.TheVariants.{Split, Push, Privatise, Carve}
+use Rattle.bd_step.specs.Filling.{IsFullest}
 use Rattle.bd_path.specs.Flushed.{IsFlushed, IsNoHigher, IsHardlyHigher}
 use Rattle.bd_path.specs.Made.{IsMadeBy, IsWornFor}
 use Rattle.bd_flush.specs.Splits.{IsRootSplit, IsRaised}
-use Rattle.bd_flush.specs.Between.{IsSplitStep, IsHighSplit, IsHighAfterSplit}
+use Rattle.bd_flush.specs.Children.{IsLongPivot}
+use Rattle.bd_flush.specs.Between.{IsSplitStep, IsHighSplit}
 use Rattle.bd_flush.specs.Pushes.{IsSomePush, IsHighPush, IsNewStep, IsLongPush}
 use Rattle.bd_flush.specs.Carving.{IsCarveStep}
-use Rattle.bd_step.specs.Ways.{IsToDo, IsToDoAt}
+use Rattle.bd_step.specs.Ways.{AtRootOr, IsToDo, IsToDoAt}
 use Rattle.bd_copy.specs.Privatising.{IsPrivatiseStep}
 
 -- ---- the kinds of a step
 
--- the step of the store that is a step of a flush, by its kind: a root's or a child's split, a push to
--- a child or a new leaf, a child that is copied, or a Goto whose keys get edges of their own; the
--- nodes may be known or not
+-- the step of the store that is work at a site: a child's split, a push to a new leaf or to a child,
+-- a child that is copied, or a Goto whose keys get edges of their own
+abbrev pub IsWorkStep : Type 0 → Nodes → Table → Site → Work → Step → Type 0
+IsWorkStep known nodes t site (Split child) step =
+    IsSplitStep t (reverse site.above) site.parent site.place child step
+IsWorkStep known nodes t site (Push None) step =
+    IsNewStep t.root t.next site.parent site.place step
+IsWorkStep known nodes t site (Push (Some child)) step =
+    IsSomePush t.root t.next (reverse site.above) site.parent site.place child step
+IsWorkStep known nodes t site Privatise step =
+    IsPrivatiseStep known nodes t site.parent site.place step
+IsWorkStep known nodes t site (Carve index) step = IsCarveStep t site.parent site.place step
+
+-- the step of the store that is a step of a flush, by its kind; the nodes may be known or not
 abbrev pub IsStepOf : Type 0 → Nodes → Table → FlushStep → Step → Type 0
 IsStepOf known nodes t (SplitRoot root) step = IsRootSplit t root.node.value step
-IsStepOf known nodes t (SplitChild above parent place child) step =
-    IsSplitStep t (reverse above) parent place child step
-IsStepOf known nodes t (Push above parent place None) step =
-    IsNewStep t.root t.next parent place step
-IsStepOf known nodes t (Push above parent place (Some child)) step =
-    IsSomePush t.root t.next (reverse above) parent place child step
-IsStepOf known nodes t (Privatise above parent place) step =
-    IsPrivatiseStep known nodes t parent place step
-IsStepOf known nodes t (Carve above parent place index) step = IsCarveStep t parent place step
+IsStepOf known nodes t (At site work) step = IsWorkStep known nodes t site work step
 
 -- what a step leaves: what its step of the store does
 abbrev pub IsFlushMade : Nodes → Table → FlushStep → Nodes → Table → Type 0
 IsFlushMade nodes t step new u = IsMadeBy (IsStepOf ⊤ nodes t step) nodes t new u
 
--- a node would have to rise above level 1,000: the root that is split, or one above halves whose pivot
--- would have more than 518 bytes in their parent; no other step needs a level
+-- a node above halves whose pivot would have more than 518 bytes in their parent would have to rise
+-- above level 1,000; no other work needs a level
+abbrev pub IsHighWork : Site → Work → Type 0
+IsHighWork site (Split child) = IsHighSplit (reverse site.above) site.parent site.place child
+IsHighWork site (Push (Some child)) =
+    IsHighPush site.parent.node.value site.place child.node.value (reverse site.above)
+IsHighWork site other = ⊥
+
+-- a node would have to rise above level 1,000: the root that is split, or one above a site
 abbrev pub IsTooHigh : Table → FlushStep → Type 0
 IsTooHigh t (SplitRoot root) = t.level t.root ≡ level_limit
-IsTooHigh t (SplitChild above parent place child) = IsHighSplit (reverse above) parent place child
-IsTooHigh t (Push above parent place None) = ⊥
-IsTooHigh t (Push above parent place (Some child)) =
-    IsHighPush parent.node.value place child.node.value (reverse above)
-IsTooHigh t (Privatise above parent place) = ⊥
-IsTooHigh t (Carve above parent place index) = ⊥
+IsTooHigh t (At site work) = IsHighWork site work
 
 -- why a step that was found is refused: a counter has to pass its last value for all that it adds
 abbrev pub IsWornStep : Type 0 → Nodes → Table → FlushStep → Counter → Type 0
@@ -65,17 +74,18 @@ pub record IsWornToFlush (known : Type 0) (nodes : Nodes) (t : Table) (counter :
     pub here : known → IsToDoAt nodes t step
     pub worn : IsWornStep known nodes t step counter
 
--- how high the root is after a step, by its kind: one level higher only after its split, or where the
--- pivot of a child's or a leaf's halves would have more than 518 bytes in its parent
+-- the pivot of a child's or a leaf's halves would have more than 518 bytes in its parent
+abbrev pub IsLongWork : Site → Work → Type 0
+IsLongWork site (Split child) = IsLongPivot site.parent.node.value site.place child.node.value
+IsLongWork site (Push (Some child)) =
+    IsLongPush site.parent.node.value site.place child.node.value
+IsLongWork site other = ⊥
+
+-- how high the root is after a step: one level higher only after its split, or for a long pivot
 abbrev pub IsHighAfter : Table → FlushStep → Table → Type 0
 IsHighAfter t (SplitRoot root) u = IsRaised t u
-IsHighAfter t (SplitChild above parent place child) u =
-    IsHighAfterSplit t parent.node.value place child.node.value u
-IsHighAfter t (Push above parent place None) u = IsNoHigher t u
-IsHighAfter t (Push above parent place (Some child)) u = IsNoHigher t u
-    ⊎ (IsLongPush parent.node.value place child.node.value × IsHardlyHigher t u)
-IsHighAfter t (Privatise above parent place) u = IsNoHigher t u
-IsHighAfter t (Carve above parent place index) u = IsNoHigher t u
+IsHighAfter t (At site work) u =
+    IsNoHigher t u ⊎ (IsLongWork site work × IsHardlyHigher t u)
 
 -- 1,024 bytes or more are pending for a node's edge at a place, the fullest one
 pub record IsAbundantAt (n : Node) (place : ℕ) : Type 0 where
@@ -85,11 +95,7 @@ pub record IsAbundantAt (n : Node) (place : ℕ) : Type 0 where
 
 -- much is pending for the edge to which a step goes
 abbrev pub IsAbundant : FlushStep → Type 0
-IsAbundant (SplitRoot root) = ⊤
-IsAbundant (SplitChild above parent place child) = IsAbundantAt parent.node.value place
-IsAbundant (Push above parent place child) = IsAbundantAt parent.node.value place
-IsAbundant (Privatise above parent place) = IsAbundantAt parent.node.value place
-IsAbundant (Carve above parent place index) = IsAbundantAt parent.node.value place
+IsAbundant step = AtRootOr (λ site. IsAbundantAt site.parent.node.value site.place) step
 
 -- one step of a flush, between the nodes before and after it: what the way down finds is made, and
 -- the tree has what it had. Where more than 16,384 bytes wait in the root, much is pending there

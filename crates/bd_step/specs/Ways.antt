@@ -12,12 +12,15 @@ use Rattle.bd_node.specs.Parts.{edges_of, buffer_of, end_at, IsEdgeAt}
 use Rattle.bd_inner.specs.Moving.{SomeCanTouch}
 use Rattle.bd_path.specs.declared.fetching.Fetched.{Fetched}
 use Rattle.bd_step.specs.declared.ways.FlushStep.{FlushStep}
-use Rattle.bd_step.specs.declared.ways.FlushStep.TheVariants.{SplitRoot, SplitChild, Push, Privatise, Carve}
+use Rattle.bd_step.specs.declared.ways.FlushStep.TheVariants.{SplitRoot, At}
+use Rattle.bd_step.specs.declared.ways.Site.{Site}
+use Rattle.bd_step.specs.declared.ways.Work.{Work}
+use Rattle.bd_step.specs.declared.ways.Work.TheVariants.{Split, Push, Privatise, Carve}
 use Rattle.bd_step.specs.declared.ways.Asked.{Asked}
 use Rattle.bd_step.specs.declared.ways.Asked.TheVariants.{Nothing, Through, Child}
 use Rattle.bd_step.specs.declared.ways.Look.{Look}
 use Rattle.bd_step.specs.declared.ways.Look.TheVariants.{Down, End}
-use Rattle.bd_step.specs.Pending.{IsFullest}
+use Rattle.bd_step.specs.Filling.{IsFullest}
 use Rattle.bd_path.specs.Fetching.{IsFetched, IsWayTo, IsOwn, AreOwn}
 use Rattle.bd_flush.specs.Children.{CanSplitChild}
 use Rattle.bd_path.specs.Raising.{IsWayUp}
@@ -94,42 +97,42 @@ pub record HasHeldGoto (t : Table) (parent : Fetched) (place index : ℕ) : Type
   pub target : IsTarget t parent.node.value place edge child
   pub oldest : IsOldestAt t.level parent.node.value place edge index
 
--- what is to be done at an edge, as far as the table tells
+-- why this work is to be done at an edge, as far as the table tells
+abbrev pub IsWorkDue : Table → Fetched → ℕ → Work → Type 0
+IsWorkDue t parent place (Split child) = CanSplitChild t parent place child
+IsWorkDue t parent place (Push child) = IsReadyToPush t parent place child
+IsWorkDue t parent place Privatise = IsShared t parent place
+IsWorkDue t parent place (Carve index) = HasHeldGoto t parent place index
+
+-- what is to be done, as far as the table tells
 abbrev pub IsDue : Table → FlushStep → Type 0
 IsDue t (SplitRoot root) =
     IsFetched t root × (root.id ≡ t.root) × (full_edges ≤ length (edges_of root.node.value))
-IsDue t (SplitChild above parent place child) =
-    CanSplitChild t parent place child × IsUpToRoot t parent
-IsDue t (Push above parent place child) = IsReadyToPush t parent place child × IsUpToRoot t parent
-IsDue t (Privatise above parent place) = IsShared t parent place × IsUpToRoot t parent
-IsDue t (Carve above parent place index) = HasHeldGoto t parent place index × IsUpToRoot t parent
+IsDue t (At site work) =
+    IsWorkDue t site.parent site.place work × IsUpToRoot t site.parent
 
 -- more than 16,384 bytes wait in a child that is to be split
 abbrev pub HasFullChild : FlushStep → Type 0
-HasFullChild (SplitRoot root) = ⊤
-HasFullChild (SplitChild above parent place child) = soft_limit < buffer_size child.node.value
-HasFullChild (Push above parent place child) = ⊤
-HasFullChild (Privatise above parent place) = ⊤
-HasFullChild (Carve above parent place index) = ⊤
+HasFullChild (At site (Split child)) = soft_limit < buffer_size child.node.value
+HasFullChild other = ⊤
 
 -- a message is pending for the edge from which messages go down
 abbrev pub IsWaited : FlushStep → Type 0
-IsWaited (SplitRoot root) = ⊤
-IsWaited (SplitChild above parent place child) = ⊤
-IsWaited (Push above parent place child) = (e : Edge) → IsEdgeAt parent.node.value place e
-    → SomeCanTouch e (end_at parent.node.value place) (unseen parent.node.value e)
-IsWaited (Privatise above parent place) = ⊤
-IsWaited (Carve above parent place index) = ⊤
+IsWaited (At site (Push child)) = (e : Edge) → IsEdgeAt site.parent.node.value site.place e
+    → SomeCanTouch e (end_at site.parent.node.value site.place) (unseen site.parent.node.value e)
+IsWaited other = ⊤
 
 -- ---- where it is to be done
 
 -- the step is at a node's edge, of which this holds
 abbrev pub AtEdge : (Fetched → ℕ → Type 0) → FlushStep → Type 0
 AtEdge P (SplitRoot root) = ⊥
-AtEdge P (SplitChild above parent place child) = P parent place
-AtEdge P (Push above parent place child) = P parent place
-AtEdge P (Privatise above parent place) = P parent place
-AtEdge P (Carve above parent place index) = P parent place
+AtEdge P (At site work) = P site.parent site.place
+
+-- the root is split, or the step is at a site of which this holds
+abbrev pub AtRootOr : (Site → Type 0) → FlushStep → Type 0
+AtRootOr P (SplitRoot root) = ⊤
+AtRootOr P (At site work) = P site
 
 -- the edge is this one
 abbrev pub IsSameEdge : Fetched → ℕ → Fetched → ℕ → Type 0
@@ -158,11 +161,7 @@ pub record IsFullestIn (t : Table) (f : Fetched) (place : ℕ) : Type 0 where
 
 -- the root is split, or the step is at the edge for which most bytes wait
 abbrev pub IsAtFullest : Table → FlushStep → Type 0
-IsAtFullest t (SplitRoot root) = ⊤
-IsAtFullest t (SplitChild above parent place child) = IsFullestIn t parent place
-IsAtFullest t (Push above parent place child) = IsFullestIn t parent place
-IsAtFullest t (Privatise above parent place) = IsFullestIn t parent place
-IsAtFullest t (Carve above parent place index) = IsFullestIn t parent place
+IsAtFullest t step = AtRootOr (λ site. IsFullestIn t site.parent site.place) step
 
 -- what is to be done on the way by the edges for which most bytes wait, as far as the table tells
 abbrev pub IsToDo : Table → FlushStep → Type 0
@@ -173,35 +172,32 @@ abbrev pub IsChildThere : Nodes → Option Fetched → Type 0
 IsChildThere nodes None = ⊤
 IsChildThere nodes (Some child) = nodes child.id ≡ Some child.node.value
 
+-- the child that was fetched for the work: one that is split is private
+abbrev pub IsWorkThere : Nodes → Table → Work → Type 0
+IsWorkThere nodes t (Split child) = IsOwn nodes t child
+IsWorkThere nodes t (Push child) = IsChildThere nodes child
+IsWorkThere nodes t other = ⊤
+
 -- it is to be done at private nodes of known ones
 abbrev pub IsStanding : Nodes → Table → FlushStep → Type 0
 IsStanding nodes t (SplitRoot root) = IsOwn nodes t root
-IsStanding nodes t (SplitChild above parent place child) =
-    IsOwn nodes t parent × IsOwn nodes t child
-IsStanding nodes t (Push above parent place child) = IsOwn nodes t parent × IsChildThere nodes child
-IsStanding nodes t (Privatise above parent place) = IsOwn nodes t parent
-IsStanding nodes t (Carve above parent place index) = IsOwn nodes t parent
+IsStanding nodes t (At site work) = IsOwn nodes t site.parent × IsWorkThere nodes t work
 
 -- the step is at an edge on the way down from this one
 abbrev pub IsReached : Nodes → Table → ℕ → ℕ → FlushStep → Type 0
 IsReached nodes t from at step = AtEdge (λ f place. IsOnWay nodes t from at f.id place) step
 
--- the step is at an edge on the way down from the root's edge for which most bytes wait
-pub record IsFromRoot (nodes : Nodes) (t : Table) (step : FlushStep) : Type 0 where
+-- the site is on the way down from the root's edge for which most bytes wait
+pub record IsFromRoot (nodes : Nodes) (t : Table) (site : Site) : Type 0 where
   pub node : Node
   pub there : nodes t.root ≡ Some node
   pub place : ℕ
   pub fullest : IsFullestAt node place
-  pub way : IsReached nodes t t.root place step
+  pub way : IsOnWay nodes t t.root place site.parent.id site.place
 
 -- the root is split, or the step is at an edge on the way from it
 abbrev pub HasWay : Nodes → Table → FlushStep → Type 0
-HasWay nodes t (SplitRoot root) = ⊤
-HasWay nodes t (SplitChild above parent place child) =
-    IsFromRoot nodes t (SplitChild above parent place child)
-HasWay nodes t (Push above parent place child) = IsFromRoot nodes t (Push above parent place child)
-HasWay nodes t (Privatise above parent place) = IsFromRoot nodes t (Privatise above parent place)
-HasWay nodes t (Carve above parent place index) = IsFromRoot nodes t (Carve above parent place index)
+HasWay nodes t step = AtRootOr (IsFromRoot nodes t) step
 
 -- where it is to be done, in known nodes
 abbrev pub IsToDoAt : Nodes → Table → FlushStep → Type 0
@@ -209,19 +205,11 @@ IsToDoAt nodes t step = IsStanding nodes t step × HasWay nodes t step
 
 -- the nodes above the one where it is to be done, as far as the table tells
 abbrev pub IsWayOf : Table → FlushStep → Type 0
-IsWayOf t (SplitRoot root) = ⊤
-IsWayOf t (SplitChild above parent place child) = IsWayUp t parent.id (reverse above)
-IsWayOf t (Push above parent place child) = IsWayUp t parent.id (reverse above)
-IsWayOf t (Privatise above parent place) = IsWayUp t parent.id (reverse above)
-IsWayOf t (Carve above parent place index) = IsWayUp t parent.id (reverse above)
+IsWayOf t step = AtRootOr (λ site. IsWayUp t site.parent.id (reverse site.above)) step
 
--- the nodes above are such ones
+-- the nodes above are private ones of known ones
 abbrev pub IsWayThere : Nodes → Table → FlushStep → Type 0
-IsWayThere nodes t (SplitRoot root) = ⊤
-IsWayThere nodes t (SplitChild above parent place child) = AreOwn nodes t (reverse above)
-IsWayThere nodes t (Push above parent place child) = AreOwn nodes t (reverse above)
-IsWayThere nodes t (Privatise above parent place) = AreOwn nodes t (reverse above)
-IsWayThere nodes t (Carve above parent place index) = AreOwn nodes t (reverse above)
+IsWayThere nodes t step = AtRootOr (λ site. AreOwn nodes t (reverse site.above)) step
 
 -- ---- from one node
 

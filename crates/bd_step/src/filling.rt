@@ -7,7 +7,7 @@ ghost use Rattle.bd_keys.specs.Keys.{IsBelowEnd};
 ghost use Rattle.bd_limits.specs.Limits.{buffer_limit};
 ghost use Rattle.bd_message.specs.Messages.{IsMessage, size};
 ghost use Rattle.bd_node.specs.Shape.{AreRising};
-ghost use Rattle.bd_step.specs.Pending.{IsWaiting, IsPendingSize, IsFullest};
+ghost use Rattle.bd_step.specs.Filling.{IsWaiting, IsPendingSize, IsFullest};
 
 use bd_message::Message;
 use bd_node::{Edge, can_touch, end_before};

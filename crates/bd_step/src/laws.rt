@@ -10,7 +10,7 @@ ghost use Rattle.bd_node.specs.declared.node.Node.{Node};
 ghost use Rattle.bd_node.specs.Nodes.{buffer_size};
 ghost use Rattle.bd_node.specs.Shape.{IsInner, IsShape};
 ghost use Rattle.bd_node.specs.Parts.{IsEdgeAt};
-ghost use Rattle.bd_step.specs.Pending.{IsFullest};
+ghost use Rattle.bd_step.specs.Filling.{IsFullest};
 ghost use Rattle.bd_step.specs.Ways.{IsFullestAt, HasPending};
 
 /// Where more than 16,384 bytes of messages wait, 1,024 bytes or more are pending for the fullest

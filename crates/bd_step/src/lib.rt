@@ -11,4 +11,4 @@ mod ways;
 
 pub use filling::{FullEdge, fullest};
 pub use steps::{flush_step, make};
-pub use ways::{FlushStep, next_step, step_from};
+pub use ways::{FlushStep, Site, Work, next_step, step_from};

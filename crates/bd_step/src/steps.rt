@@ -12,12 +12,11 @@ ghost use Rattle.bd_step.specs.Ways.{IsDue, IsWaited, IsStanding, IsWayOf, IsWay
 ghost use Rattle.bd_path.specs.Fetching.{AreOwn};
 ghost use Rattle.bd_step.specs.Steps.{IsFlushMade, IsHighAfter, IsWornStep, IsWornToFlush, IsFlushStep, IsFound, step_visits};
 
-use crate::ways::{FlushStep, next_step};
+use crate::ways::{FlushStep, Site, Work, next_step};
 use bd_copy::privatise;
 use bd_flush::{carve, push, push_new, split_child, split_root};
 use bd_message::MapFault;
 use bd_node::NodeStore;
-use bd_path::{Fetched, Way};
 use std::alloc::Global;
 
 /// Makes one step of a flush where more than `limit` bytes of messages wait in the root, and says
@@ -81,61 +80,54 @@ pub fn make<S: NodeStore>(alloc: Global, store: &mut S, step: FlushStep) -> Resu
 {
     match step {
         FlushStep::SplitRoot { root } => split_root(alloc, store, &root.node),
-        FlushStep::SplitChild {
-            above,
-            parent,
-            place,
-            child,
-        } => split_child(alloc, store, above.as_slice(), &parent, place, &child),
-        FlushStep::Push {
-            above,
-            parent,
-            place,
-            child,
-        } => push_down(alloc, store, above, parent, place, child),
-        FlushStep::Privatise { parent, place, .. } => privatise(alloc, store, &parent, place),
-        FlushStep::Carve {
-            parent,
-            place,
-            index,
-            ..
-        } => carve(alloc, store, &parent, place, index),
+        FlushStep::At { site, work } => work_at(alloc, store, site, work),
     }
 }
 
-// Moves messages down to a child, or to a new leaf where there is no child.
-fn push_down<S: NodeStore>(
+// Makes a step at an edge.
+fn work_at<S: NodeStore>(
     alloc: Global,
     store: &mut S,
-    above: Way,
-    parent: Fetched,
-    place: usize,
-    child: Option<Fetched>,
+    site: Site,
+    work: Work,
 ) -> Result<(), MapFault>
-    requires due { IsDue (S.table store.old) (step.Push above parent place child) }
-    requires waited { IsWaited (step.Push above parent place child) }
+    requires due { IsDue (S.table store.old) (step.At site work) }
+    requires waited { IsWaited (step.At site work) }
     requires here { OfSound S.NodeStore store.old
-        (IsStanding (S.nodes store.old) (S.table store.old) (step.Push above parent place child)) }
-    requires way { IsWayUp (S.table store.old) parent.id (reverse above) }
+        (IsStanding (S.nodes store.old) (S.table store.old) (step.At site work)) }
+    requires way { IsWayUp (S.table store.old) site.parent.id (reverse site.above) }
     requires way_here { OfSound S.NodeStore store.old
-        (AreOwn (S.nodes store.old) (S.table store.old) (reverse above)) }
+        (AreOwn (S.nodes store.old) (S.table store.old) (reverse site.above)) }
     ensures flushed { OfSound S.NodeStore store.old
         (OnOk result (IsFlushed (S.nodes store.old) (S.table store.old)
         (S.nodes store.new) (S.table store.new))) }
     ensures made { OfSound S.NodeStore store.old
         (OnOk result (IsFlushMade (S.nodes store.old) (S.table store.old)
-        (step.Push above parent place child) (S.nodes store.new) (S.table store.new))) }
-    ensures height { OnOk result (IsHighAfter (S.table store.old)
-        (step.Push above parent place child) (S.table store.new)) }
+        (step.At site work) (S.nodes store.new) (S.table store.new))) }
+    ensures height { OnOk result
+        (IsHighAfter (S.table store.old) (step.At site work) (S.table store.new)) }
     ensures stays { Stays S.NodeStore store.old store.new }
     ensures err { OnErr result (OnlyReads S.NodeStore store.old store.new) }
-    ensures few_visits { S.visit_count store.new ≤ S.visit_count store.old + 4 }
+    ensures few_visits { S.visit_count store.new ≤ S.visit_count store.old
+        + (4 + 17 * (S.table store.old).level (S.table store.old).root) }
     ensures cause { HasMapCause (S.fault_count store.old) (S.fault_count store.new)
         (S.bad store.new) (IsWornStep (AreKnown S.NodeStore store.old)
-        (S.nodes store.old) (S.table store.old) (step.Push above parent place child)) result }
+        (S.nodes store.old) (S.table store.old) (step.At site work)) result }
 {
-    match child {
-        None => push_new(alloc, store, &parent, place),
-        Some(child) => push(alloc, store, above.as_slice(), &parent, place, &child),
+    let Site {
+        above,
+        parent,
+        place,
+    } = site;
+    match work {
+        Work::Split { child } => {
+            split_child(alloc, store, above.as_slice(), &parent, place, &child)
+        }
+        Work::Push { child: None } => push_new(alloc, store, &parent, place),
+        Work::Push { child: Some(child) } => {
+            push(alloc, store, above.as_slice(), &parent, place, &child)
+        }
+        Work::Privatise => privatise(alloc, store, &parent, place),
+        Work::Carve { index } => carve(alloc, store, &parent, place, index),
     }
 }

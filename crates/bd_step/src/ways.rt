@@ -23,42 +23,38 @@ use bd_node::{Items, Node, NodeStore};
 use bd_path::{Fetched, Way, fetch};
 use std::alloc::{AllocError, Global};
 
-/// What a step of a flush does, and where: at a node, with the nodes above it.
+/// An edge of a node, with the nodes above that one, as a way down found them.
+#[derive(Debug, Drop)]
+pub struct Site {
+    /// The nodes above, the root first.
+    pub above: Way,
+    /// The node.
+    pub parent: Fetched,
+    /// The edge's place among those of the node.
+    pub place: usize,
+}
+
+/// What a step of a flush does at an edge.
+#[derive(Debug, Drop)]
+pub enum Work {
+    /// The child, the next node on the way, has 15 or 16 edges, and is split.
+    Split { child: Fetched },
+    /// Messages go down to a private child, or to a new leaf where there is no child.
+    Push { child: Option<Fetched> },
+    /// The child is shared, or asked with something in front of a key: it is copied.
+    Privatise,
+    /// A Goto is pending for the edge, and may not go down: its keys get edges of their own. The
+    /// oldest such one stands at the index among the messages.
+    Carve { index: usize },
+}
+
+/// What a step of a flush does, and where.
 #[derive(Debug, Drop)]
 pub enum FlushStep {
     /// The root has 15 or 16 edges, and is split.
-    SplitRoot {
-        root: Fetched,
-    },
-    /// The child, the next node on the way, has 15 or 16 edges, and is split.
-    SplitChild {
-        above: Way,
-        parent: Fetched,
-        place: usize,
-        child: Fetched,
-    },
-    /// Messages go down the edge at the place to a private child, or to a new leaf where there is
-    /// no child.
-    Push {
-        above: Way,
-        parent: Fetched,
-        place: usize,
-        child: Option<Fetched>,
-    },
-    /// The edge's child is shared, or asked with something in front of a key: it is copied.
-    Privatise {
-        above: Way,
-        parent: Fetched,
-        place: usize,
-    },
-    /// A Goto is pending for the edge, and may not go down: its keys get edges of their own. The
-    /// oldest such one stands at the index among the messages.
-    Carve {
-        above: Way,
-        parent: Fetched,
-        place: usize,
-        index: usize,
-    },
+    SplitRoot { root: Fetched },
+    /// Work at an edge.
+    At { site: Site, work: Work },
 }
 
 /// What a step of a flush is to do: it goes down from the root to the child for which most bytes
@@ -169,11 +165,11 @@ fn look_from<S: NodeStore>(
 {
     let id = match asks(&parent.node, place) {
         Asked::Nothing => return Ok(Look::End(push_or_carve(store, above, parent, place, None))),
-        Asked::Through => return Ok(Look::End(privatise(above, parent, place))),
+        Asked::Through => return Ok(Look::End(at_edge(above, parent, place, Work::Privatise))),
         Asked::Child(id) => id,
     };
     if store.count(id) != 1 {
-        return Ok(Look::End(privatise(above, parent, place)));
+        return Ok(Look::End(at_edge(above, parent, place, Work::Privatise)));
     }
     let child = fetch(store, id)?;
     Ok(look_below(store, above, parent, place, child)?)
@@ -212,22 +208,22 @@ fn look_below<S: NodeStore>(
         above.push(parent)?;
         return Ok(Look::Down(above, child));
     }
-    Ok(Look::End(FlushStep::SplitChild {
-        above: Items::from_vec(above),
-        parent,
-        place,
-        child,
-    }))
+    Ok(Look::End(at_edge(above, parent, place, Work::Split { child })))
 }
 
-// A child is to be copied.
-fn privatise(above: Vec<Fetched>, parent: Fetched, place: usize) -> FlushStep
-    ensures { result ≡ step.Privatise above.items parent place }
+// Work at the edge at a place of a node, below these nodes.
+fn at_edge(above: Vec<Fetched>, parent: Fetched, place: usize, work: Work) -> FlushStep
+    ensures { result ≡ step.At
+        (record { above = above.items; parent = parent; place = place }) work }
 {
-    FlushStep::Privatise {
-        above: Items::from_vec(above),
-        parent,
-        place,
+    let above = Items::from_vec(above);
+    FlushStep::At {
+        site: Site {
+            above,
+            parent,
+            place,
+        },
+        work,
     }
 }
 
@@ -253,20 +249,9 @@ fn push_or_carve<S: NodeStore>(
     ensures way_at { (nodes : Nodes) (t : Table)
         → AreOwn nodes t (reverse above.items) → IsWayThere nodes t result }
 {
-    let above = Items::from_vec(above);
     match held_goto(store, &parent, place) {
-        Some(index) => FlushStep::Carve {
-            above,
-            parent,
-            place,
-            index,
-        },
-        None => FlushStep::Push {
-            above,
-            parent,
-            place,
-            child,
-        },
+        Some(index) => at_edge(above, parent, place, Work::Carve { index }),
+        None => at_edge(above, parent, place, Work::Push { child }),
     }
 }
 

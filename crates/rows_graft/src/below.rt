@@ -3,7 +3,7 @@
 use bd_memnodes::MemNodes;
 use bd_message::Message;
 use bd_node::Node;
-use bd_step::{FlushStep, next_step};
+use bd_step::{FlushStep, Work, next_step};
 use bd_tree::Tree;
 use rows_tools::Both;
 use std::alloc::Global;
@@ -22,12 +22,12 @@ pub fn with_goto_below(alloc: Global, both: Both) -> Result<(Both, bool), Fail> 
 /// Whether a Goto waits in the node below the root to which a flush would move messages next.
 fn waits_below(alloc: Global, store: &mut MemNodes) -> Result<bool, Fail> {
     let step = next_step(alloc, store)?;
-    let FlushStep::Push { child, .. } = &step else {
+    let FlushStep::At { work, .. } = &step else {
         return Ok(false);
     };
-    match child {
-        Some(child) => Ok(holds_goto(&child.node)),
-        None => Ok(false),
+    match work {
+        Work::Push { child: Some(child) } => Ok(holds_goto(&child.node)),
+        _ => Ok(false),
     }
 }
 

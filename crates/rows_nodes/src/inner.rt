@@ -9,7 +9,7 @@ ghost use Rattle.bd_node.specs.Parts.{edges_of, buffer_of};
 ghost use Rattle.bd_inner.specs.Moving.{IsLifted};
 
 use bd_inner::laws::{compacted_nodes, edges_fit, flat_edges};
-use bd_inner::{clip, compact, edge_to, exchange, next_batch, receive, split};
+use bd_inner::{Halves, clip, compact, edge_to, exchange, next_batch, receive, split};
 use bd_keys::Bytes;
 use bd_limits::{FULL_EDGES, MAX_BUFFER, MAX_EDGES, MAX_KEY};
 use bd_message::Message;
@@ -186,7 +186,11 @@ fn halves_of_a_node(rt: HostRuntime) -> Result<(), Fail> {
     if edges.len() < FULL_EDGES {
         return Err(Fail::new("too few edges"));
     }
-    let (first, pivot, second) = split(rt.alloc(), &node)?;
+    let Halves {
+        first,
+        pivot,
+        second,
+    } = split(rt.alloc(), &node)?;
     assert_eq!(rt; pivot.as_slice(), b"h".as_slice());
     let (edges, messages) = parts(&first);
     assert_eq!(rt; edges.len(), 8);

@@ -12,8 +12,8 @@ returns-in_default c =
 
 pub returns-in-Some-2 : goal.returns-in-Some-2
 returns-in-Some-2 c =
-    between_ready c.args.root c.args.next c.level-level.result (c.args.parent.now ∷ reverse c.args.above.now) c.args.child.now c.args.halves.0 c.args.halves.1 c.args.halves.2 c.new.result.items c.in-Some.risen.items c.in_ok-step.field-0 c.in-Some-2.step (c.level-level.ensures ∙ ap level_of c.deref.ensures) c.new.ensures.items (found_raised (λ v. v.items) (c.level-level.result + 1) (c.args.parent.now ∷ reverse c.args.above.now) c.new.result.items c.in_ok-risen.field-0 c.in-Some.risen c.in-Some.is c.in_ok-risen.ensures) c.in-Some-2.is c.in_ok-step.ensures
+    between_ready c.args.root c.args.next c.level-level.result (c.args.parent.now ∷ reverse c.args.above.now) c.args.child.now c.args.halves c.new.result.items c.in-Some.risen.items c.in_ok-step.field-0 c.in-Some-2.step (c.level-level.ensures ∙ ap level_of c.deref.ensures) c.new.ensures.items (found_raised (λ v. v.items) (c.level-level.result + 1) (c.args.parent.now ∷ reverse c.args.above.now) c.new.result.items c.in_ok-risen.field-0 c.in-Some.risen c.in-Some.is c.in_ok-risen.ensures) c.in-Some-2.is c.in_ok-step.ensures
 
 pub returns-in-None : goal.returns-in-None
 returns-in-None c =
-    between_full c.args.root c.args.next c.level-level.result (c.args.parent.now ∷ reverse c.args.above.now) c.args.child.now c.args.halves.0 c.args.halves.1 c.args.halves.2 c.new.result.items c.in-Some.risen.items c.in_ok-step.field-0 (λ (s : Step). (s ≡ over_step c.args.root c.args.next c.args.child.now.id (c.level-level.result + 1) c.args.halves.0 c.args.halves.1 c.args.halves.2 c.in-Some.risen.items) × (c.args.next + 1 < 2 ^ 64)) (c.level-level.ensures ∙ ap level_of c.deref.ensures) c.new.ensures.items (found_raised (λ v. v.items) (c.level-level.result + 1) (c.args.parent.now ∷ reverse c.args.above.now) c.new.result.items c.in_ok-risen.field-0 c.in-Some.risen c.in-Some.is c.in_ok-risen.ensures) c.in-None.is c.in_ok-step.ensures
+    between_full c.args.root c.args.next c.level-level.result (c.args.parent.now ∷ reverse c.args.above.now) c.args.child.now c.args.halves c.new.result.items c.in-Some.risen.items c.in_ok-step.field-0 (λ (s : Step). (s ≡ over_step c.args.root c.args.next c.args.child.now.id (c.level-level.result + 1) c.args.halves c.in-Some.risen.items) × (c.args.next + 1 < 2 ^ 64)) (c.level-level.ensures ∙ ap level_of c.deref.ensures) c.new.ensures.items (found_raised (λ v. v.items) (c.level-level.result + 1) (c.args.parent.now ∷ reverse c.args.above.now) c.new.result.items c.in_ok-risen.field-0 c.in-Some.risen c.in-Some.is c.in_ok-risen.ensures) c.in-None.is c.in_ok-step.ensures

@@ -17,17 +17,17 @@ over_halves-requires-clause-fits c =
 pub returns-in-Short : goal.returns-in-Short
 returns-in-Short c =
     let same : c.in_ok-edge.edge ≡ c.index-edges-place.result = search rules in
-    short_is c.args.node.now c.args.place c.in_ok-edge.edge c.args.child.now c.args.next c.in_ok-halves.halves.0 c.in_ok-halves.halves.1 c.in_ok-halves.halves.2 c.in-Short.parts
+    short_is c.args.node.now c.args.place c.in_ok-edge.edge c.args.child.now c.args.next c.in_ok-halves.halves c.in-Short.parts
     (subst (λ (e : Edge). IsEdgeAt c.args.node.now c.args.place e) (sym same)
     (edge_here c.edges.result.now c.args.node.now c.args.place c.index-edges-place.result c.edges.ensures c.requires.within c.index-edges-place.is))
     c.in_ok-halves.ensures
-    (subst (λ (h : Halving). IsOver c.args.node.now c.args.place c.in_ok-edge.edge c.in_ok-halves.halves.0 c.in_ok-halves.halves.1 c.in_ok-halves.halves.2 c.args.next h) c.in-Short.is c.in_ok-parts.ensures)
+    (subst (λ (h : Halving). IsOver c.args.node.now c.args.place c.in_ok-edge.edge c.in_ok-halves.halves c.args.next h) c.in-Short.is c.in_ok-parts.ensures)
 
 pub returns : goal.returns
 returns c =
     let same : c.in_ok-edge.edge ≡ c.index-edges-place.result = search rules in
-    long_is c.args.node.now c.args.place c.in_ok-edge.edge c.args.child.now c.args.next c.in_ok-halves.halves.0 c.in_ok-halves.halves.1 c.in_ok-halves.halves.2 c.in-Long.edge c.in-Long.halves
+    long_is c.args.node.now c.args.place c.in_ok-edge.edge c.args.child.now c.args.next c.in_ok-halves.halves c.in-Long.edge c.in-Long.halves
     (subst (λ (e : Edge). IsEdgeAt c.args.node.now c.args.place e) (sym same)
     (edge_here c.edges.result.now c.args.node.now c.args.place c.index-edges-place.result c.edges.ensures c.requires.within c.index-edges-place.is))
     c.in_ok-halves.ensures
-    (subst (λ (h : Halving). IsOver c.args.node.now c.args.place c.in_ok-edge.edge c.in_ok-halves.halves.0 c.in_ok-halves.halves.1 c.in_ok-halves.halves.2 c.args.next h) c.in-Long.is c.in_ok-parts.ensures)
+    (subst (λ (h : Halving). IsOver c.args.node.now c.args.place c.in_ok-edge.edge c.in_ok-halves.halves c.args.next h) c.in-Long.is c.in_ok-parts.ensures)

@@ -70,8 +70,8 @@ put_between-requires-clause-way g c = way_of (g.S.NodeStore.table c.args.store.n
 
 pub returns-in_default-clause-made : goal.returns-in_default-clause-made
 returns-in_default-clause-made g c = λ known sound.
-    made_wider (IsBetweenStep (g.S.NodeStore.table c.args.store.now).root (g.S.NodeStore.table c.args.store.now).next (c.args.parent.now ∷ reverse c.args.above.now) c.args.child.now c.in_ok-halves.halves.0 c.in_ok-halves.halves.1 c.in_ok-halves.halves.2) (IsSplitStep (g.S.NodeStore.table c.args.store.now) (reverse c.args.above.now) c.args.parent.now c.args.place c.args.child.now) (g.S.NodeStore.nodes c.args.store.now) (g.S.NodeStore.table c.args.store.now) (g.S.NodeStore.nodes c.put_between.new.store) (g.S.NodeStore.table c.put_between.new.store) c.put_between.result (λ step is. long c.in_ok-halves.halves.0 c.in_ok-halves.halves.1 c.in_ok-halves.halves.2 (long_pivot c.args.parent.now c.args.place c.args.child.now c.in_ok-step.field-0 (λ (s : Step). IsChildStep c.root-root.result c.next_id-next.result c.args.parent.now c.args.place c.args.child.now s) c.in_default.is c.in_ok-step.ensures) (subst (λ (n : Node). AreHalves n c.in_ok-halves.halves.0 c.in_ok-halves.halves.1 c.in_ok-halves.halves.2) c.deref.ensures c.in_ok-halves.ensures) is) (c.put_between.ensures.made known sound)
+    made_wider (IsBetweenStep (g.S.NodeStore.table c.args.store.now).root (g.S.NodeStore.table c.args.store.now).next (c.args.parent.now ∷ reverse c.args.above.now) c.args.child.now c.in_ok-halves.halves) (IsSplitStep (g.S.NodeStore.table c.args.store.now) (reverse c.args.above.now) c.args.parent.now c.args.place c.args.child.now) (g.S.NodeStore.nodes c.args.store.now) (g.S.NodeStore.table c.args.store.now) (g.S.NodeStore.nodes c.put_between.new.store) (g.S.NodeStore.table c.put_between.new.store) c.put_between.result (λ step is. long c.in_ok-halves.halves (long_pivot c.args.parent.now c.args.place c.args.child.now c.in_ok-step.field-0 (λ (s : Step). IsChildStep c.root-root.result c.next_id-next.result c.args.parent.now c.args.place c.args.child.now s) c.in_default.is c.in_ok-step.ensures) (subst (λ (n : Node). AreHalves n c.in_ok-halves.halves) c.deref.ensures c.in_ok-halves.ensures) is) (c.put_between.ensures.made known sound)
 
 pub returns-in_default-clause-cause : goal.returns-in_default-clause-cause
 returns-in_default-clause-cause g c =
-    worn_wider (g.S.NodeStore.fault_count c.args.store.now) (g.S.NodeStore.fault_count c.put_between.new.store) (g.S.NodeStore.bad c.put_between.new.store) (IsBetweenStep (g.S.NodeStore.table c.args.store.now).root (g.S.NodeStore.table c.args.store.now).next (c.args.parent.now ∷ reverse c.args.above.now) c.args.child.now c.in_ok-halves.halves.0 c.in_ok-halves.halves.1 c.in_ok-halves.halves.2) (IsSplitStep (g.S.NodeStore.table c.args.store.now) (reverse c.args.above.now) c.args.parent.now c.args.place c.args.child.now) (CannotRise (level_of c.args.child.now.node.value + 1) (c.args.parent.now ∷ reverse c.args.above.now)) (IsHighSplit (reverse c.args.above.now) c.args.parent.now c.args.place c.args.child.now) (g.S.NodeStore.table c.args.store.now) c.put_between.result (λ step is. long c.in_ok-halves.halves.0 c.in_ok-halves.halves.1 c.in_ok-halves.halves.2 (long_pivot c.args.parent.now c.args.place c.args.child.now c.in_ok-step.field-0 (λ (s : Step). IsChildStep c.root-root.result c.next_id-next.result c.args.parent.now c.args.place c.args.child.now s) c.in_default.is c.in_ok-step.ensures) (subst (λ (n : Node). AreHalves n c.in_ok-halves.halves.0 c.in_ok-halves.halves.1 c.in_ok-halves.halves.2) c.deref.ensures c.in_ok-halves.ensures) is) (λ up. ((long_pivot c.args.parent.now c.args.place c.args.child.now c.in_ok-step.field-0 (λ (s : Step). IsChildStep c.root-root.result c.next_id-next.result c.args.parent.now c.args.place c.args.child.now s) c.in_default.is c.in_ok-step.ensures), up)) c.put_between.ensures.cause
+    worn_wider (g.S.NodeStore.fault_count c.args.store.now) (g.S.NodeStore.fault_count c.put_between.new.store) (g.S.NodeStore.bad c.put_between.new.store) (IsBetweenStep (g.S.NodeStore.table c.args.store.now).root (g.S.NodeStore.table c.args.store.now).next (c.args.parent.now ∷ reverse c.args.above.now) c.args.child.now c.in_ok-halves.halves) (IsSplitStep (g.S.NodeStore.table c.args.store.now) (reverse c.args.above.now) c.args.parent.now c.args.place c.args.child.now) (CannotRise (level_of c.args.child.now.node.value + 1) (c.args.parent.now ∷ reverse c.args.above.now)) (IsHighSplit (reverse c.args.above.now) c.args.parent.now c.args.place c.args.child.now) (g.S.NodeStore.table c.args.store.now) c.put_between.result (λ step is. long c.in_ok-halves.halves (long_pivot c.args.parent.now c.args.place c.args.child.now c.in_ok-step.field-0 (λ (s : Step). IsChildStep c.root-root.result c.next_id-next.result c.args.parent.now c.args.place c.args.child.now s) c.in_default.is c.in_ok-step.ensures) (subst (λ (n : Node). AreHalves n c.in_ok-halves.halves) c.deref.ensures c.in_ok-halves.ensures) is) (λ up. ((long_pivot c.args.parent.now c.args.place c.args.child.now c.in_ok-step.field-0 (λ (s : Step). IsChildStep c.root-root.result c.next_id-next.result c.args.parent.now c.args.place c.args.child.now s) c.in_default.is c.in_ok-step.ensures), up)) c.put_between.ensures.cause

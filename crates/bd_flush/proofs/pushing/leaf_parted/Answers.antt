@@ -13,5 +13,5 @@ over_halves-requires-clause-fits c =
 
 pub returns : goal.returns
 returns c =
-    on_parted c.args.node.now c.args.place c.args.count c.args.next c.index-edges-place.result c.in_ok-edge.edge c.args.new c.in_ok-halves.halves.0 c.in_ok-halves.halves.1 c.in_ok-halves.halves.2 c.over_halves.result
+    on_parted c.args.node.now c.args.place c.args.count c.args.next c.index-edges-place.result c.in_ok-edge.edge c.args.new c.in_ok-halves.halves c.over_halves.result
     (edge_here c.edges.result.now c.args.node.now c.args.place c.index-edges-place.result c.edges.ensures c.requires.within c.index-edges-place.is) c.in_ok-edge.ensures c.in_ok-halves.ensures c.over_halves.ensures

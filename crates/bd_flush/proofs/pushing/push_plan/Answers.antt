@@ -19,15 +19,15 @@ pushed_below-requires-clause-plain c = λ leaf.
 
 pub with_edge-requires-clause-fits : goal.with_edge-requires-clause-fits
 with_edge-requires-clause-fits c =
-    long_fits c.args.parent.now.node.value c.deref-node.result.now c.args.place c.deref-below.result.now c.in-Long.edge c.in-Long.halves.0 c.in-Long.halves.1 c.in-Long.halves.2 c.deref-node.ensures c.requires.shape
+    long_fits c.args.parent.now.node.value c.deref-node.result.now c.args.place c.deref-below.result.now c.in-Long.edge c.in-Long.halves c.deref-node.ensures c.requires.shape
     (subst (λ (h : Halving). IsPushedOver c.deref-node.result.now c.args.place c.deref-below.result.now c.args.next h) c.in-Long.is c.in_ok-node.ensures)
 
 pub plan_over-requires-clause-shape : goal.plan_over-requires-clause-shape
 plan_over-requires-clause-shape c =
-    long_shape c.args.parent.now.node.value c.deref-node.result.now c.args.place c.deref-below.result.now c.in-Long.edge c.in-Long.halves.0 c.in-Long.halves.1 c.in-Long.halves.2 c.in_ok-node-in-Long.node c.deref-node.ensures c.requires.shape
+    long_shape c.args.parent.now.node.value c.deref-node.result.now c.args.place c.deref-below.result.now c.in-Long.edge c.in-Long.halves c.in_ok-node-in-Long.node c.deref-node.ensures c.requires.shape
     (subst (λ (h : Halving). IsPushedOver c.deref-node.result.now c.args.place c.deref-below.result.now c.args.next h) c.in-Long.is c.in_ok-node.ensures) c.in_ok-node-in-Long.ensures
 
 pub returns-in_ok-node-in-Long : goal.returns-in_ok-node-in-Long
 returns-in_ok-node-in-Long c =
-    long_plan c.args.root c.args.next (reverse c.args.above.now) c.args.parent.now c.args.place c.args.child.now c.in-Long.edge c.in-Long.halves.0 c.in-Long.halves.1 c.in-Long.halves.2 c.in_ok-node-in-Long.node c.deref-node.result.now c.deref-below.result.now c.plan_over.result c.deref-node.ensures c.deref-below.ensures
+    long_plan c.args.root c.args.next (reverse c.args.above.now) c.args.parent.now c.args.place c.args.child.now c.in-Long.edge c.in-Long.halves c.in_ok-node-in-Long.node c.deref-node.result.now c.deref-below.result.now c.plan_over.result c.deref-node.ensures c.deref-below.ensures
     (subst (λ (h : Halving). IsPushedOver c.deref-node.result.now c.args.place c.deref-below.result.now c.args.next h) c.in-Long.is c.in_ok-node.ensures) c.in_ok-node-in-Long.ensures c.plan_over.ensures

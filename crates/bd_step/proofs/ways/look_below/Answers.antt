@@ -1,8 +1,10 @@
-use Rattle.std.proofs.Common.{arith, ap, ◌∙◌, ◌<◌, ◌≤◌, length, List}
+use Rattle.std.proofs.Common.{arith, ap, sym, subst, ◌∙◌, ◌<◌, ◌≤◌, length, List}
 use Rattle.bd_node.specs.declared.node.Edge.{Edge}
 use Rattle.bd_limits.specs.Limits.{soft_limit}
 use Rattle.bd_node.specs.Nodes.{buffer_size}
 use Rattle.bd_node.specs.Parts.{edges_of}
+use Rattle.bd_step.specs.declared.ways.FlushStep.{FlushStep}
+use Rattle.bd_step.specs.Ways.{IsStanding}
 use Rattle.bd_step.proofs.Down.{is_next, child_own, way_more}
 use Rattle.bd_step.proofs.ways.look_below.Goals as goal
 
@@ -23,6 +25,7 @@ returns-then-edges-lt-FULL_EDGES-clause-at g c = λ nodes t own e way once conte
 
 pub returns-clause-at : goal.returns-clause-at
 returns-clause-at g c = λ nodes t own e way once contents.
+    subst (λ (s : FlushStep). IsStanding nodes t s) (sym c.at_edge.ensures)
     (own, child_own nodes t c.args.parent c.args.place c.args.child e own c.requires.fetched.own.shape way once contents)
 
 pub returns-then-buffer_size-le-SOFT_BUFFER-clause-way_at : goal.returns-then-buffer_size-le-SOFT_BUFFER-clause-way_at
