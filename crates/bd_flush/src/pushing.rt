@@ -25,7 +25,6 @@ ghost use Rattle.bd_flush.specs.Pushes.{seen_by, unseen, IsWaitedFor, CanMoveSom
 use crate::children::{Halving, Parts, child_step, over_halves, with_edge};
 use crate::splitting::{Plan, over_step};
 use bd_inner::{Batch, Halves, next_batch, receive};
-use bd_keys::Bytes;
 use bd_leaf as leaf;
 use bd_message::{Counter, MapFault, Message};
 use bd_node::{Change, Edge, Entries, Entry, Node, NodeStore, Step, end_of};
