@@ -29,6 +29,7 @@ use Rattle.bd_resolve.specs.Following.{target_at, IsLowerTarget, IsFollowed, IsP
 use Rattle.bd_resolve.proofs.Prefixes.{IsKey-append}
 use Rattle.bd_graft.specs.declared.layers.Layer.{Layer}
 use Rattle.bd_graft.specs.Laying.{all_freed, above, laid, IsLayer, AreLayers}
+use Rattle.bd_graft.specs.Ways.{end_at}
 use Rattle.bd_graft.proofs.Freeing.{all_freed_effect, all_freed_names, all_freed_small, uncovered_from, IsSmall}
 
 pub level_high : (n : Node) → IsShape n → level_of n ≤ level_limit
@@ -59,11 +60,7 @@ one_further nodes t id q l target ls k s kept key more says =
     ∙ acts-append (at nodes) l.messages (laid ls) k (target_at (at nodes) target k)
     ∙ ap (λ v. acts (at nodes) (laid ls) k v) (sym (says stored.node stored.there (at nodes) k) ∙ sym (keys_meet nodes (sound-levelled nodes t s) id stored.node stored.there (q ++ k) (IsKey-append q k key more)))
 
--- the end of a way that ends at a node: nothing where no key begins with what is asked
-abbrev pub end_of : ℕ → List ℕ → Option Target
-end_of child source = cond (ltb key_limit (length source)) None (Some (record { child = child; source = source }))
-
-pub end_has : (has : NodesAt) (child : ℕ) (source k : List ℕ) → (key_limit < length source → has child (source ++ k) ≡ None) → target_at has (end_of child source) k ≡ has child (source ++ k)
+pub end_has : (has : NodesAt) (child : ℕ) (source k : List ℕ) → (key_limit < length source → has child (source ++ k) ≡ None) → target_at has (end_at child source) k ≡ has child (source ++ k)
 end_has has child source k none = elim (cases_lt key_limit (length source)) [
   | inl long ↦ ap (λ (o : Option Target). target_at has o k) (cond-true (ltb key_limit (length source)) None (Some (record { child = child; source = source })) (lt-ltb key_limit (length source) long)) ∙ sym (none long)
   | inr short ↦ ap (λ (o : Option Target). target_at has o k) (cond-false (ltb key_limit (length source)) None (Some (record { child = child; source = source })) (le-ltb key_limit (length source) short))
@@ -73,12 +70,12 @@ lower_end : (t : Table) (level : ℕ) (b : Bool) (target : Target) → IsLowerTa
 lower_end t level true target h = tt
 lower_end t level false target h = h
 
-pub layers_ended : (t : Table) (high : ℕ) (ls new : List Layer) (child : ℕ) (source : List ℕ) (end : Option Target) → new ≡ ls → end ≡ end_of child source → AreLayers t high ls (Some (record { child = child; source = source })) → AreLayers t high new end
+pub layers_ended : (t : Table) (high : ℕ) (ls new : List Layer) (child : ℕ) (source : List ℕ) (end : Option Target) → new ≡ ls → end ≡ end_at child source → AreLayers t high ls (Some (record { child = child; source = source })) → AreLayers t high new end
 layers_ended t high ls new child source end same is h =
     subst (λ (l : List Layer). AreLayers t high l end) (sym same) (subst (λ (o : Option Target). AreLayers t high ls o) (sym is)
-    (layers_end t high ls (Some (record { child = child; source = source })) (end_of child source) (λ level lower. lower_end t level (ltb key_limit (length source)) (record { child = child; source = source }) lower) h))
+    (layers_end t high ls (Some (record { child = child; source = source })) (end_at child source) (λ level lower. lower_end t level (ltb key_limit (length source)) (record { child = child; source = source }) lower) h))
 
-pub value_ended : (has : NodesAt) (ls new : List Layer) (child : ℕ) (source k : List ℕ) (end : Option Target) (all : Option (List ℕ)) → new ≡ ls → end ≡ end_of child source → (key_limit < length source → has child (source ++ k) ≡ None) → acts has (laid ls) k (has child (source ++ k)) ≡ all
+pub value_ended : (has : NodesAt) (ls new : List Layer) (child : ℕ) (source k : List ℕ) (end : Option Target) (all : Option (List ℕ)) → new ≡ ls → end ≡ end_at child source → (key_limit < length source → has child (source ++ k) ≡ None) → acts has (laid ls) k (has child (source ++ k)) ≡ all
     → acts has (laid new) k (target_at has end k) ≡ all
 value_ended has ls new child source k end all same is none h =
     ap (λ (l : List Layer). acts has (laid l) k (target_at has end k)) same

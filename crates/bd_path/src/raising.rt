@@ -48,22 +48,6 @@ pub fn raise_way(
     }
 }
 
-// The same of the nodes above, of which there may be none.
-fn raise_above(
-    changes: Vec<Change>,
-    above: &[Fetched],
-    level: u32,
-) -> Result<Option<Vec<Change>>, AllocError>
-    requires { AllByRecursion (λ (f : Fetched). IsShape f.node.value) (reverse above.now) }
-    ensures { IfOk result (λ found. MatchOption found (CannotRise level (reverse above.now))
-        (λ all. AreRaised level (reverse above.now) changes.items all.items)) }
-{
-    match above.split_last() {
-        Some((nearest, others)) => raise_way(changes, others, nearest, level),
-        None => Ok(Some(changes)),
-    }
-}
-
 /// The changes of a node over a child that gets a level, one level higher where it has to be, and
 /// of the nodes above it that rise with it. There are none where one of level 1,000 would have to
 /// rise.
@@ -90,7 +74,10 @@ pub fn changes_over(
         id: parent.id,
         node: raised(&parent.node)?,
     })?;
-    raise_above(changes, above, own + 1)
+    match above.split_last() {
+        Some((nearest, others)) => raise_way(changes, others, nearest, own + 1),
+        None => Ok(Some(changes)),
+    }
 }
 
 /// A node one level higher, all else as it is.
