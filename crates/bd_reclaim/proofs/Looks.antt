@@ -25,7 +25,7 @@ use Rattle.bd_reclaim.specs.declared.covering.Cover.TheVariants.{Gone, Elsewhere
 use Rattle.bd_reclaim.specs.declared.walking.Reclaim.{Reclaim}
 use Rattle.bd_reclaim.specs.declared.walking.Reclaim.TheVariants.{Shrink, Drop, Redirect, Push}
 use Rattle.bd_reclaim.specs.Covering.{IsCovered, HasNoCovered, HasCut, HasNoCut, IsFirstCut}
-use Rattle.bd_reclaim.specs.Walks.{IsWalked, IsUnder, IsThinWay, IsThin, IsNoThinRoot, IsClean, IsFirstAt, HasNone, HasNoneBefore, IsFirst, IsToDo, IsToDoAt, IsWayBetween, IsFoundFrom, IsFoundIn, IsBelow, HasNoneAbove}
+use Rattle.bd_reclaim.specs.Walks.{IsWalked, IsUnder, IsThinWay, IsThin, IsNoThinRoot, IsClean, IsFirstAt, HasNone, HasNoneBefore, IsFirst, IsToDo, IsMadeAt, IsToDoAt, IsWayBetween, IsFoundFrom, IsFoundIn, IsBelow, HasNoneAbove}
 use Rattle.bd_reclaim.specs.Walks.IsUnder.{itself, through}
 use Rattle.bd_reclaim.specs.Walks.IsFirst.{here, below}
 use Rattle.bd_reclaim.specs.Walks.IsWayBetween.{at_top}
@@ -100,20 +100,13 @@ found_in_here nodes (Drop node place at) none = tt
 found_in_here nodes (Redirect node place at) none = tt
 found_in_here nodes (Push above node place) none = subst (λ (l : List Fetched). AllByRecursion (IsContents nodes) (reverse l)) (sym none) tt
 
--- the node of the change is known and private
-abbrev pub IsThere : Nodes → Table → Reclaim → Type 0
-IsThere nodes t (Shrink child) = (n : Node) × (nodes t.root ≡ Some n) × IsThin t n child
-IsThere nodes t (Drop node place at) = IsOwn nodes t node
-IsThere nodes t (Redirect node place at) = IsOwn nodes t node
-IsThere nodes t (Push above node place) = IsOwn nodes t node
-
-there_here : (pushes : Bool) (nodes : Nodes) (t : Table) (f : Fetched) (step : Reclaim) → nodes f.id ≡ Some f.node.value → IsPrivate nodes t f.id → IsFirstAt pushes t f step → IsThere nodes t step
+there_here : (pushes : Bool) (nodes : Nodes) (t : Table) (f : Fetched) (step : Reclaim) → nodes f.id ≡ Some f.node.value → IsPrivate nodes t f.id → IsFirstAt pushes t f step → IsMadeAt nodes t step
 there_here pushes nodes t f (Shrink child) there private first = (f.node.value, ap nodes (sym first.0) ∙ there, first.1)
 there_here pushes nodes t f (Drop node place at) there private first = subst (λ (x : Fetched). IsOwn nodes t x) (sym first.0) (record { private = private; there = there })
 there_here pushes nodes t f (Redirect node place at) there private first = subst (λ (x : Fetched). IsOwn nodes t x) (sym first.0) (record { private = private; there = there })
 there_here pushes nodes t f (Push above node place) there private first = subst (λ (x : Fetched). IsOwn nodes t x) (sym first.0) (record { private = private; there = there })
 
-there_below : (pushes : Bool) (nodes : Nodes) (t : Table) (step : Reclaim) (id : ℕ) → IsSound nodes t → IsPrivate nodes t id → IsFirst pushes nodes t step id → IsThere nodes t step
+there_below : (pushes : Bool) (nodes : Nodes) (t : Table) (step : Reclaim) (id : ℕ) → IsSound nodes t → IsPrivate nodes t id → IsFirst pushes nodes t step id → IsMadeAt nodes t step
 there_below pushes nodes t step id sound private (here f there first) = there_here pushes nodes t f step there private first
 there_below pushes nodes t step id sound private (below _ place c n e there clean before at_place walked first) =
     there_below pushes nodes t step c sound
@@ -257,10 +250,10 @@ to_do t root (Ok (Some step)) same h = found_to_do t step (subst (λ (i : ℕ). 
 to_do t root (Ok None) same h = tt
 to_do t root (Err e) same h = tt
 
-to_do_in : (nodes : Nodes) (t : Table) (step : Reclaim) → IsSound nodes t → IsThere nodes t step → IsToDo t step → IsFoundIn nodes step → IsToDoAt nodes t step
-to_do_in nodes t (Shrink child) sound there to contents = there
-to_do_in nodes t (Drop node place at) sound there to contents = there
-to_do_in nodes t (Redirect node place at) sound there to contents = there
+to_do_in : (nodes : Nodes) (t : Table) (step : Reclaim) → IsSound nodes t → IsMadeAt nodes t step → IsToDo t step → IsFoundIn nodes step → IsToDoAt nodes t step
+to_do_in nodes t (Shrink child) sound there to contents = (there, tt)
+to_do_in nodes t (Drop node place at) sound there to contents = (there, tt)
+to_do_in nodes t (Redirect node place at) sound there to contents = (there, tt)
 to_do_in nodes t (Push above node place) sound there to contents = (there, way_own nodes t node.id (reverse above) sound to.2 contents)
 
 pub found_at : {E : Type 0} (pushes : Bool) (nodes : Nodes) (t : Table) (r : Result (Option Reclaim) E) → IsSound nodes t → IfOk r (λ found. MatchOption found (HasNone pushes nodes t t.root) (λ step. IsFirst pushes nodes t step t.root)) → IfOk r (λ found. IfSome found (IsToDo t))

@@ -8,6 +8,7 @@ use Rattle.bd_message.specs.Effect.{NodesAt, acts}
 use Rattle.bd_node.specs.declared.node.Edge.{Edge}
 use Rattle.bd_node.specs.declared.node.Node.{Node}
 use Rattle.bd_node.specs.declared.node.Node.TheVariants.{Leaf, Inner}
+use Rattle.bd_node.specs.declared.node.Step.{Step}
 use Rattle.bd_node.specs.Nodes.{is_key, edge_of, child_at, edge_at, through, node_at}
 use Rattle.bd_message.specs.declared.fault.MapFault.{MapFault}
 use Rattle.bd_message.specs.KeyMaps.{HasMapCause}
@@ -148,26 +149,34 @@ to_shrink nodes t child new u sound lower thin after committed = record {
   committed = committed;
 }
 
-pub on_shrink : {T E : Type 0} (nodes : Nodes) (t : Table) (child : ℕ) (new : Nodes) (u : Table) (r : Result T E) → IsSound nodes t → IsLower t (t.level t.root) child → (n : Node) × (nodes t.root ≡ Some n) × IsThin t n child
+on_shrink : {T E : Type 0} (nodes : Nodes) (t : Table) (child : ℕ) (new : Nodes) (u : Table) (r : Result T E) → IsSound nodes t → IsLower t (t.level t.root) child → (n : Node) × (nodes t.root ≡ Some n) × IsThin t n child
     → OnOk r (IsTableAfter t (root_only child) u) → OnOk r (IsCommitted nodes t (root_only child) new u) → OnOk r (IsReclaimed nodes t new u) × OnOk r (IsShrunk nodes child new u) × OnOk r (left_over new u < left_over nodes t)
 on_shrink nodes t child new u (Ok x) sound lower thin after committed =
     let h : IsToShrink nodes t child new u = to_shrink nodes t child new u sound lower thin after committed in
     (shrink_reclaimed nodes t child new u h, shrink_shrunk nodes t child new u h, shrink_falls nodes t child new u h)
 on_shrink nodes t child new u (Err e) sound lower thin after committed = (tt, tt, tt)
 
-pub on_level : {T E : Type 0} (t : Table) (child : ℕ) (u : Table) (r : Result T E) → OnOk r (IsTableAfter t (root_only child) u) → OnOk r (u.level u.root ≡ t.level child)
-on_level t child u (Ok x) after = child_level t child u after
-on_level t child u (Err e) after = tt
-
 -- ---- after a fetch
 
-pub after_reads : (P : Nodes → Table → Type 0) (nodes mid : Nodes) (t m : Table) → mid ≡ nodes → m ≡ t → IsSound nodes t → (IsSound mid m → P mid m) → P nodes t
-after_reads P nodes mid t m same table sound h =
-    subst (λ (v : Table). P nodes v) table (subst (λ (f : Nodes). P f m) same (h (subst (λ (v : Table). IsSound mid v) (sym table) (subst (λ (f : Nodes). IsSound f t) (sym same) sound))))
+-- the nodes and the table after a fetch, and the step that is then made
+pub record IsAfterFetch (nodes mid : Nodes) (t m : Table) (child : ℕ) (step : Step) : Type 0 where
+  pub nodes_are : mid ≡ nodes
+  pub table_is : m ≡ t
+  pub step_is : step ≡ root_only child
 
-pub before_reads : (P : Nodes → Table → Type 0) (nodes mid : Nodes) (t m : Table) → mid ≡ nodes → m ≡ t → IsSound mid m → (IsSound nodes t → P nodes t) → P mid m
-before_reads P nodes mid t m same table sound h = after_reads P mid nodes m t (sym same) (sym table) sound h
+pub may_shrink : (nodes mid : Nodes) (t m : Table) (child : ℕ) (step : Step) → IsAfterFetch nodes mid t m child step → IsSound mid m → IsInPlace mid m step
+may_shrink nodes mid t m child step h sound = subst (λ (q : Step). IsInPlace mid m q) (sym h.step_is) (shrink_in_place mid m child sound)
 
-pub cause_again : {T : Type 0} (before mid now : ℕ) (bad : ℕ → Type 0) (t m : Table) (child : ℕ) (r : Result T MapFault) → mid ≡ before → m ≡ t → HasMapCause mid now bad (IsWornBy m (root_only child)) r → HasMapCause before now bad (IsWornBy t (root_only child)) r
-cause_again before mid now bad t m child r same table cause =
-    cause_after before mid now bad (IsWornBy t (root_only child)) r same (subst (λ (v : Table). HasMapCause mid now bad (IsWornBy v (root_only child)) r) table cause)
+pub shrunk : {T E : Type 0} (nodes mid : Nodes) (t m : Table) (child : ℕ) (step : Step) (new : Nodes) (u : Table) (r : Result T E) → IsAfterFetch nodes mid t m child step → IsSound nodes t → IsLower t (t.level t.root) child → (n : Node) × (nodes t.root ≡ Some n) × IsThin t n child
+    → OnOk r (IsTableAfter m step u) → (IsSound mid m → OnOk r (IsCommitted mid m step new u)) → OnOk r (IsReclaimed nodes t new u) × OnOk r (IsShrunk nodes child new u) × OnOk r (left_over new u < left_over nodes t)
+shrunk nodes mid t m child step new u r h sound lower thin after committed =
+    let again : IsSound mid m = subst (λ (v : Table). IsSound mid v) (sym h.table_is) (subst (λ (f : Nodes). IsSound f t) (sym h.nodes_are) sound) in
+    on_shrink nodes t child new u r sound lower thin
+    (subst (λ (v : Table). OnOk r (IsTableAfter v (root_only child) u)) h.table_is (subst (λ (q : Step). OnOk r (IsTableAfter m q u)) h.step_is after))
+    (subst (λ (v : Table). OnOk r (IsCommitted nodes v (root_only child) new u)) h.table_is
+    (subst (λ (f : Nodes). OnOk r (IsCommitted f m (root_only child) new u)) h.nodes_are (subst (λ (q : Step). OnOk r (IsCommitted mid m q new u)) h.step_is (committed again))))
+
+pub shrink_cause : {T : Type 0} (before mid now : ℕ) (bad : ℕ → Type 0) (t m : Table) (child : ℕ) (step : Step) (r : Result T MapFault) → mid ≡ before → m ≡ t → step ≡ root_only child → HasMapCause mid now bad (IsWornBy m step) r → HasMapCause before now bad (IsWornBy t (root_only child)) r
+shrink_cause before mid now bad t m child step r same table step_is cause =
+    cause_after before mid now bad (IsWornBy t (root_only child)) r same
+    (subst (λ (v : Table). HasMapCause mid now bad (IsWornBy v (root_only child)) r) table (subst (λ (q : Step). HasMapCause mid now bad (IsWornBy m q) r) step_is cause))

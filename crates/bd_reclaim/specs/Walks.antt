@@ -125,12 +125,18 @@ IsToDo t (Redirect node place at) = IsFetched t node × IsCovered Elsewhere node
 IsToDo t (Push above node place) =
     IsFetched t node × HasCut node.node.value place × IsWayUp t node.id (reverse above)
 
--- where it may be made, in known nodes: at the root, or at a private node
+-- where it is made, in known nodes: at the root, or at a private node
+abbrev pub IsMadeAt : Nodes → Table → Reclaim → Type 0
+IsMadeAt nodes t (Shrink child) = (n : Node) × (nodes t.root ≡ Some n) × IsThin t n child
+IsMadeAt nodes t (Drop node place at) = IsOwn nodes t node
+IsMadeAt nodes t (Redirect node place at) = IsOwn nodes t node
+IsMadeAt nodes t (Push above node place) = IsOwn nodes t node
+
+-- it may be made there, where those above a push are private too
 abbrev pub IsToDoAt : Nodes → Table → Reclaim → Type 0
-IsToDoAt nodes t (Shrink child) = (n : Node) × (nodes t.root ≡ Some n) × IsThin t n child
-IsToDoAt nodes t (Drop node place at) = IsOwn nodes t node
-IsToDoAt nodes t (Redirect node place at) = IsOwn nodes t node
-IsToDoAt nodes t (Push above node place) = IsOwn nodes t node × AreOwn nodes t (reverse above)
+IsToDoAt nodes t step =
+    IsMadeAt nodes t step
+    × IfPush (λ above node place. AreOwn nodes t (reverse above)) ⊤ step
 
 -- ---- the way that the walk has come
 
@@ -147,7 +153,7 @@ pub data IsWayBetween (t : Table) (top : ℕ) : ℕ → List Fetched → Type 0 
 abbrev pub IsFoundFrom : Table → ℕ → Reclaim → Type 0
 IsFoundFrom t top step =
     IfPush (λ above node place. IsFetched t node × HasCut node.node.value place
-        × IsWayBetween t top node.id (reverse above)) (IsToDo t step) step
+    × IsWayBetween t top node.id (reverse above)) (IsToDo t step) step
 
 -- in known nodes, those above a push are what was fetched
 abbrev pub IsFoundIn : Nodes → Reclaim → Type 0

@@ -43,36 +43,6 @@ pub fn shrink<S: NodeStore>(alloc: Global, store: &mut S, child: u64) -> Result<
         (S.bad store.new) (IsWornBy (S.table store.old) (root_only child)) result }
 {
     fetch(store, child)?;
-    make_root(alloc, store, child)
-}
-
-// The same without the visit.
-fn make_root<S: NodeStore>(alloc: Global, store: &mut S, child: u64) -> Result<(), MapFault>
-    requires lower { IsLower (S.table store.old)
-        ((S.table store.old).level (S.table store.old).root) child }
-    requires inner { 1 ≤ (S.table store.old).level child }
-    requires thin { OfSound S.NodeStore store.old
-        ((n : Node) × (S.nodes store.old (S.table store.old).root ≡ Some n)
-        × IsThin (S.table store.old) n child) }
-    ensures reclaimed { OfSound S.NodeStore store.old
-        (OnOk result (IsReclaimed (S.nodes store.old) (S.table store.old)
-        (S.nodes store.new) (S.table store.new))) }
-    ensures shrunk { OfSound S.NodeStore store.old
-        (OnOk result (IsShrunk (S.nodes store.old) child
-        (S.nodes store.new) (S.table store.new))) }
-    ensures falls { OfSound S.NodeStore store.old
-        (OnOk result (left_over (S.nodes store.new) (S.table store.new)
-        < left_over (S.nodes store.old) (S.table store.old))) }
-    ensures next { OnOk result ((S.table store.new).next ≡ (S.table store.old).next) }
-    ensures root { OnOk result ((S.table store.new).root ≡ child) }
-    ensures level { OnOk result ((S.table store.new).level (S.table store.new).root
-        ≡ (S.table store.old).level child) }
-    ensures stays { Stays S.NodeStore store.old store.new }
-    ensures err { OnErr result (OnlyReads S.NodeStore store.old store.new) }
-    ensures few_visits { S.visit_count store.new ≤ S.visit_count store.old }
-    ensures cause { HasMapCause (S.fault_count store.old) (S.fault_count store.new)
-        (S.bad store.new) (IsWornBy (S.table store.old) (root_only child)) result }
-{
     store.commit(root_only(alloc, child))
 }
 

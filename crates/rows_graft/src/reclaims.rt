@@ -4,6 +4,7 @@ use crate::graft::generated;
 use bd_keys::Bytes;
 use bd_memnodes::MemNodes;
 use bd_message::Message;
+use bd_node::{Node, NodeStore};
 use bd_reclaim::Reclaim;
 use bd_tree::Tree;
 use rows_tools::{Both, Numbers, flush, message};
@@ -167,6 +168,42 @@ fn a_root_that_adds_nothing_goes(rt: HostRuntime) -> Result<(), Fail> {
     let higher = both.tree.height();
     reclaim_calmly(&mut both.tree)?;
     assert_eq!(rt; (height, higher, both.tree.height()), (2, 3, 2));
+    Ok(())
+}
+
+/// How many edges the root has.
+fn root_edges(alloc: Global, both: Both) -> Result<(Both, usize), Fail> {
+    let (map, tree) = both.into_parts();
+    let mut store = tree.into_store();
+    let root = store.root();
+    let count = match &*store.fetch(root)? {
+        Node::Leaf(_) => 0,
+        Node::Inner { edges, .. } => edges.as_slice().len(),
+    };
+    let tree = Tree::over(alloc, store);
+    Ok((Both { map, tree }, count))
+}
+
+// The Goto is gone then, so that the edge alone names the leaf that it asks.
+#[test]
+fn neighbours_that_a_goto_covers_become_one_edge(rt: HostRuntime) -> Result<(), Fail> {
+    let mut both = Both::new(rt.alloc())?;
+    calls(
+        rt.alloc(),
+        &mut both,
+        &[("put", "a/x", "1"), ("fill", "f", "")],
+    )?;
+    let (mut both, before) = root_edges(rt.alloc(), both)?;
+    calls(
+        rt.alloc(),
+        &mut both,
+        &[("clone", "a/", ""), ("reclaim", "", "")],
+    )?;
+    assert_eq!(rt; both.same_keys(rt.alloc())?, Some(1));
+    let (both, after) = root_edges(rt.alloc(), both)?;
+    assert_eq!(rt; (before, after), (4, 1));
+    let (_, nodes) = counted(rt.alloc(), both)?;
+    assert_eq!(rt; nodes, 2);
     Ok(())
 }
 

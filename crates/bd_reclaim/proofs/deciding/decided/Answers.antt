@@ -13,8 +13,11 @@ decided_edge-requires-clause-low c =
 
 pub overflow_add-place : goal.overflow_add-place
 overflow_add-place c =
-    omega (arith, read_few c.args.node.now c.args.place c.args.at c.edges.result.now c.buffer.result.now c.index-edges-place.result c.index-buffer-at.result
-    (read_at c.args.node.now c.args.place c.args.at c.edges.result.now c.buffer.result.now c.index-edges-place.result c.index-buffer-at.result c.requires.shape c.requires.covered c.edges.ensures c.index-edges-place.is c.buffer.ensures c.index-buffer-at.is))
+    omega (
+      arith,
+      read_few c.args.node.now c.args.place c.args.at c.edges.result.now c.buffer.result.now c.index-edges-place.result c.index-buffer-at.result
+          (read_at c.args.node.now c.args.place c.args.at c.edges.result.now c.buffer.result.now c.index-edges-place.result c.index-buffer-at.result c.requires.shape c.requires.covered c.edges.ensures c.index-edges-place.is c.buffer.ensures c.index-buffer-at.is),
+    )
 
 pub split_at-requires : goal.split_at-requires
 split_at-requires c =
