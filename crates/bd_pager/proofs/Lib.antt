@@ -1,3 +1,5 @@
+pub mod EntryLemmas
+pub mod FreshLemmas
 pub mod NamingLemmas
 pub mod PagerLemmas
 pub mod ReadLemmas

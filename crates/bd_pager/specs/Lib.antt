@@ -1,3 +1,6 @@
+pub mod Entries
+pub mod Fresh
+pub mod Lending
 pub mod Pagers
 pub mod Places
 pub mod Readers

@@ -4,14 +4,16 @@
 //! and the law that slots survive what others write.
 #![tactic(auto)]
 
+mod entries;
 pub mod laws;
 mod naming;
 mod pager;
+mod parts;
 mod place;
 mod reader;
 mod reading;
 mod slots;
 
-pub use pager::Pager;
+pub use pager::{Pager, Refused};
 pub use reading::read_node;
 pub use slots::{SlotWrite, write_node, write_nodes};

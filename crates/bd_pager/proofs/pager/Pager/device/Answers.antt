@@ -1,0 +1,28 @@
+use Rattle.std.proofs.Common.{true, refl, ap, subst}
+use Rattle.bd_pager.specs.Places.{spots_in, AreCached}
+use Rattle.bd_pager.specs.Pagers.{Paged, spots_of}
+use Rattle.bd_pager.proofs.PagerLemmas.{lent_cached}
+use Rattle.bd_pager.proofs.pager.Pager.device.Goals as goal
+
+pub invariant_of-self-lent : goal.invariant_of-self-lent
+invariant_of-self-lent g c = λ w.
+    let was = c.self.invariant in
+    let reader = c.self.inside.reader in
+    record {
+      table = was.table;
+      used = was.used;
+      placed = was.placed;
+      root = was.root;
+      cached = lent_cached (g.D.Device.contents reader.dev) (g.D.Device.contents w) reader.is_lent (spots_in reader.spots) reader.cache was.cached;
+      spare = was.spare;
+    }
+
+pub returns : goal.returns
+returns g c = (
+  (refl, λ w. ap (λ (p : Paged g.row.D.Denot). record p { dev = w; is_lent = true }) c.self.view_is),
+  record {
+    lends = tt;
+    value = ap (λ (p : Paged g.row.D.Denot). p.dev) c.self.view_is;
+    copies = subst (λ (p : Paged g.row.D.Denot). AreCached (g.D.Device.contents p.dev) p.is_lent (spots_of p) p.cache) c.self.view_is c.self.invariant.cached;
+  },
+)
