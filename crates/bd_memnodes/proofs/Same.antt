@@ -11,11 +11,12 @@ use Rattle.bd_node.specs.Meaning.{Nodes}
 use Rattle.bd_node.specs.Tables.{Table, IsSound}
 use Rattle.bd_node.specs.Steps.{IsWornBy, IsWornByAdding}
 use Rattle.bd_memnodes.specs.declared.kept.Kept.{Kept}
-use Rattle.bd_memnodes.specs.Maps.{nodes_in, count_in, times_among}
-use Rattle.bd_memnodes.specs.Plans.{step_names, added_names, IsCheckFault}
+use Rattle.bd_counts.specs.Naming.{times_among, step_names, added_names}
+use Rattle.bd_memnodes.specs.Maps.{nodes_in, count_in}
+use Rattle.bd_memnodes.specs.Plans.{IsCheckFault}
 use Rattle.bd_memnodes.specs.Stored.{table_of, table_in, IsWhole}
 use Rattle.bd_memnodes.specs.Carried.{SameKept}
-use Rattle.bd_memnodes.proofs.Settling.{step_names_times, added_names_times}
+use Rattle.bd_counts.proofs.Names.{step_names_times, added_names_times}
 
 pub same_nodes : (old new : Kept) → SameKept old new → nodes_in new.nodes ≡ nodes_in old.nodes
 same_nodes old new h = λ i id. h.nodes id i

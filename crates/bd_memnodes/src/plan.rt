@@ -3,11 +3,12 @@
 ghost use Rattle.std.specs.Prelude.{◌≡◌, ℕ, ◌+◌, ◌<◌, ◌≤◌, ◌^◌, OnOk, IfOk, IfErr, map, nat_eq};
 ghost use Rattle.std.specs.Option.{unwrap_or};
 ghost use Rattle.std.specs.HashMap.{get};
-ghost use Rattle.bd_memnodes.specs.Maps.{count_in, times_among};
-ghost use Rattle.bd_memnodes.specs.Plans.{step_of, step_names, added_of, added_names, change_of, IsCheckFault};
+ghost use Rattle.bd_counts.specs.Naming.{times_among, step_names, added_names};
+ghost use Rattle.bd_memnodes.specs.Maps.{count_in};
+ghost use Rattle.bd_memnodes.specs.Plans.{step_of, added_of, change_of, IsCheckFault};
 
 use crate::kept::count_of;
-use crate::naming::{added_by, named_by};
+use bd_counts::{added_by, named_by};
 use bd_message::{Counter, MapFault, Message};
 use bd_node::{Change, Changes, Node, Nodes, Step};
 use std::alloc::{AllocError, Global};

@@ -1,5 +1,6 @@
 use Rattle.std.proofs.Common.{ℕ, ◌+◌, ◌∙◌, subst, List, arith}
-use Rattle.bd_memnodes.specs.Maps.{count_in, times_among}
+use Rattle.bd_counts.specs.Naming.{times_among}
+use Rattle.bd_memnodes.specs.Maps.{count_in}
 use Rattle.bd_memnodes.specs.Plans.{IsCheckFault}
 use Rattle.bd_memnodes.proofs.Same.{never_counts, worn_by_added}
 use Rattle.bd_memnodes.proofs.kept.Kept.addition.Goals as goal

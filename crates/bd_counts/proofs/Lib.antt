@@ -1,0 +1,6 @@
+pub mod Names
+pub mod Overlays
+pub mod Releasing
+pub mod Settling
+pub mod Recounting
+pub mod Loops
