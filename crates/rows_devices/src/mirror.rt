@@ -60,27 +60,44 @@ fn joined<A: Attach + Drop, B: Attach + Drop>(first: A, second: B) -> Result<[u8
     found(&mut mirror)
 }
 
+/// What is found in turns over two halves.
+#[derive(Clone, Copy)]
+struct Outcome {
+    /// With both halves, made anew.
+    before: Result<[u8; 2], Failed>,
+    /// Attached again, and with the first half failing after some calls.
+    during: Result<[u8; 2], Failed>,
+    /// In the second half, after that.
+    second: Result<[u8; 2], Failed>,
+    /// Attached again, and in each half.
+    after: Result<[[u8; 2]; 3], Failed>,
+}
+
+// The first half fails after so many calls of the second turn.
+fn turns(alloc: Global, calls: u64) -> Result<Outcome, AllocError> {
+    let mut first = half(alloc)?;
+    let mut second = half(alloc)?;
+    Ok(Outcome {
+        before: mirrored(&mut first, &mut second, Some(BLOCKS), [1, 2]),
+        during: mirrored(
+            FuseDevice::new(&mut first, calls),
+            &mut second,
+            None,
+            [3, 4],
+        ),
+        second: found(&mut second),
+        after: again(&mut first, &mut second),
+    })
+}
+
 #[test]
 fn without_its_first_half_it_goes_on(rt: HostRuntime) -> Result<(), Fail> {
     for calls in FIRST_CALLS..FIRST_CALLS + TURN_CALLS {
-        let mut first = half(rt.alloc())?;
-        let mut second = half(rt.alloc())?;
-        assert_eq!(rt;
-            mirrored(&mut first, &mut second, Some(BLOCKS), [1, 2]),
-            Ok([1, 2])
-        );
-        let fuse = FuseDevice::new(&mut first, calls);
-        assert_eq!(rt;
-            mirrored(fuse, &mut second, None, [3, 4]),
-            Ok([3, 4]),
-            "{calls} calls"
-        );
-        assert_eq!(rt; found(&mut second), Ok([3, 4]), "{calls} calls");
-        assert_eq!(rt;
-            again(&mut first, &mut second),
-            Ok([[3, 4]; 3]),
-            "{calls} calls"
-        );
+        let seen = turns(rt.alloc(), calls)?;
+        assert_eq!(rt; seen.before, Ok([1, 2]));
+        assert_eq!(rt; seen.during, Ok([3, 4]), "{calls} calls");
+        assert_eq!(rt; seen.second, Ok([3, 4]), "{calls} calls");
+        assert_eq!(rt; seen.after, Ok([[3, 4]; 3]), "{calls} calls");
     }
     Ok(())
 }
@@ -88,23 +105,10 @@ fn without_its_first_half_it_goes_on(rt: HostRuntime) -> Result<(), Fail> {
 #[test]
 fn an_attach_that_fails_loses_nothing(rt: HostRuntime) -> Result<(), Fail> {
     for calls in 0..FIRST_CALLS {
-        let mut first = half(rt.alloc())?;
-        let mut second = half(rt.alloc())?;
-        assert_eq!(rt;
-            mirrored(&mut first, &mut second, Some(BLOCKS), [1, 2]),
-            Ok([1, 2])
-        );
-        let fuse = FuseDevice::new(&mut first, calls);
-        assert_eq!(rt;
-            mirrored(fuse, &mut second, None, [3, 4]),
-            Err(Failed),
-            "{calls} calls"
-        );
-        assert_eq!(rt;
-            again(&mut first, &mut second),
-            Ok([[1, 2]; 3]),
-            "{calls} calls"
-        );
+        let seen = turns(rt.alloc(), calls)?;
+        assert_eq!(rt; seen.before, Ok([1, 2]));
+        assert_eq!(rt; seen.during, Err(Failed), "{calls} calls");
+        assert_eq!(rt; seen.after, Ok([[1, 2]; 3]), "{calls} calls");
     }
     Ok(())
 }
