@@ -6,12 +6,12 @@ use Rattle.bd_command.specs.declared.Command.{Command}
 use Rattle.bd_command.specs.declared.Command.TheVariants.{Mkdir, Create, Write, Truncate, Remove, Rename, Clone, Chmod, Read, Stat, List as Ls}
 use Rattle.bd_model.specs.Tree.{Path, Tree}
 use Rattle.bd_model.specs.Step.{mode_at}
-use Rattle.bd_super.specs.Superblocks.{super_version}
+use Rattle.bd_super.specs.Superblocks.{version_number}
 use Rattle.bd_super.specs.declared.superblock.Super.{Super}
 
--- the version of the image that starts from a superblock: the one that all superblocks have today
+-- the version of the image that starts from a superblock
 abbrev pub version_of : Super → ℕ
-version_of s = super_version
+version_of s = version_number s.version
 
 -- the first version with modes
 abbrev pub mode_version : ℕ

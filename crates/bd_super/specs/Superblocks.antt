@@ -9,6 +9,8 @@ use Rattle.bd_wire.specs.Numbers.{be}
 use Rattle.bd_wire.specs.Text.{zeros}
 use Rattle.bd_super.specs.declared.superblock.Half.{Half}
 use Rattle.bd_super.specs.declared.superblock.Half.TheVariants.{A, B}
+use Rattle.bd_super.specs.declared.superblock.Version.{Version}
+use Rattle.bd_super.specs.declared.superblock.Version.TheVariants.{One, Two}
 use Rattle.bd_super.specs.declared.superblock.Super.{Super}
 
 -- the block that says whether a half's superblock is committed
@@ -43,15 +45,20 @@ pub record IsSuper (s : Super) : Type 0 where
 abbrev pub super_magic : List ℕ
 super_magic = 66 ∷ 68 ∷ 83 ∷ 85 ∷ 80 ∷ 69 ∷ 82 ∷ 49 ∷ []
 
--- the version of the format
-abbrev pub super_version : ℕ
-super_version = 1
+-- the number of a version
+abbrev pub version_number : Version → ℕ
+version_number One = 1
+version_number Two = 2
+
+-- the version of a superblock that is written today
+abbrev pub written_version : Version
+written_version = Two
 
 -- the magic, the version, the image's slots, the epoch, the count and the number of the table's
 -- slots
-abbrev pub super_head : ℕ → ℕ → ℕ → ℕ → List ℕ
-super_head slots epoch count table =
-    super_magic ++ be w32 super_version
+abbrev pub super_head : Version → ℕ → ℕ → ℕ → ℕ → List ℕ
+super_head version slots epoch count table =
+    super_magic ++ be w32 (version_number version)
     ++ be w32 slots ++ be w64 epoch ++ be w64 count ++ be w32 table
 
 -- its bytes
@@ -70,7 +77,7 @@ FitsSuperHead slots epoch count table =
 -- the head, the table's slots, and zeros to the end of the block
 abbrev pub super_body : Super → List ℕ
 super_body s =
-    super_head s.slots s.epoch s.count (length s.table) ++ flat_map (be w32) s.table
+    super_head s.version s.slots s.epoch s.count (length s.table) ++ flat_map (be w32) s.table
     ++ zeros (block_size - super_head_size - slot_number_size * length s.table)
 
 -- the block is the body of the half's superblock, or of none

@@ -8,8 +8,9 @@ ghost use Rattle.bd_wire.specs.Numbers.{be, FitsWidth};
 ghost use Rattle.bd_wire.specs.Reading.{Reads};
 ghost use Rattle.bd_wire.specs.Writing.{Puts, room};
 ghost use Rattle.bd_super.specs.Superblocks.{IsSuper, IsSuperIn, FitsSuperHead, super_magic, super_head, super_body, super_head_size, slot_number_size};
+ghost use Rattle.bd_super.specs.declared.superblock.Version.{Version as AnyVersion};
 
-use crate::{Half, Super};
+use crate::{Half, Super, Version};
 use bd_device::BLOCK_SIZE;
 use bd_keys::Items;
 use bd_wire::{Cursor, Out, Short};
@@ -18,12 +19,10 @@ use std::alloc::{AllocError, Global};
 // The first bytes of a body.
 const SUPER_MAGIC: [u8; 8] = *b"BDSUPER1";
 
-// The version of the format.
-const VERSION: u32 = 1;
-
 // The fields of fixed width.
 #[derive(Clone, Copy)]
 struct SuperHead {
+    version: Version,
     slots: u32,
     epoch: u64,
     count: u64,
@@ -50,7 +49,7 @@ impl Super {
         ensures { Puts out.old out.new (super_body self.now) }
     {
         out.put_bytes(&SUPER_MAGIC);
-        out.put_u32(VERSION);
+        out.put_u32(self.version.number());
         out.put_u32(self.slots);
         out.put_u64(self.epoch);
         out.put_u64(self.count);
@@ -79,6 +78,7 @@ impl Super {
         };
         let found = Super {
             half,
+            version: head.version,
             slots: head.slots,
             epoch: head.epoch,
             count: head.count,
@@ -108,23 +108,33 @@ fn put_numbers(out: &mut Out, numbers: &[u32])
 #[tactic(auto, using(bd_wire::proofs::WritingLemmas::writing))]
 fn read_head(cursor: &mut Cursor) -> Result<Option<SuperHead>, Short>
     ensures found { IfOk result (λ found. IfSome found (λ head. Reads cursor.old cursor.new
-        (super_head head.slots head.epoch head.count head.table))) }
+        (super_head head.version head.slots head.epoch head.count head.table))) }
     ensures fits { IfOk result (λ found. IfSome found
         (λ head. FitsSuperHead head.slots head.epoch head.count head.table)) }
-    ensures none { IfOk result (λ found. IfNone found ((s e c t : ℕ) (rest : List ℕ)
-        → cursor.old.left ≢ super_head s e c t ++ rest)) }
+    ensures none { IfOk result (λ found. IfNone found
+        ((version : AnyVersion) (s e c t : ℕ) (rest : List ℕ)
+        → cursor.old.left ≢ super_head version s e c t ++ rest)) }
     ensures short { OnErr result (length cursor.old.left < super_head_size) }
 {
     let magic = cursor.bytes(SUPER_MAGIC.len())?;
-    let version = cursor.u32()?;
-    let head = SuperHead {
-        slots: cursor.u32()?,
-        epoch: cursor.u64()?,
-        count: cursor.u64()?,
-        table: cursor.u32()?,
+    let number = cursor.u32()?;
+    let slots = cursor.u32()?;
+    let epoch = cursor.u64()?;
+    let count = cursor.u64()?;
+    let table = cursor.u32()?;
+    let Some(version) = Version::of(number) else {
+        return Ok(None);
     };
-    let is_body = is_magic(magic) && version == VERSION;
-    Ok(if is_body { Some(head) } else { None })
+    if !is_magic(magic) {
+        return Ok(None);
+    }
+    Ok(Some(SuperHead {
+        version,
+        slots,
+        epoch,
+        count,
+        table,
+    }))
 }
 
 // Whether these are the first bytes of a body.

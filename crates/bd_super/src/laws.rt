@@ -4,10 +4,17 @@ ghost use Rattle.std.specs.Prelude.{◌≡◌, ◌≤◌, ℕ, length};
 ghost use Rattle.bd_limits.specs.Limits.{slot_minimum};
 ghost use Rattle.bd_slots.specs.Layout.{image_blocks};
 ghost use Rattle.bd_device.specs.Blocks.{Image};
-ghost use Rattle.bd_super.specs.Superblocks.{IsSuper, super_body};
+ghost use Rattle.bd_super.specs.Superblocks.{IsSuper, super_body, written_version};
 ghost use Rattle.bd_super.specs.Live.{IsLive, IsDamaged};
 ghost use Rattle.bd_super.specs.Published.{CanFollow};
 ghost use Rattle.bd_super.specs.declared.superblock.Super.{Super};
+
+use crate::WRITTEN_VERSION;
+
+/// The version that is written.
+pub fn a_version_is_written()
+    ensures { WRITTEN_VERSION ≡ written_version }
+{}
 
 /// No two superblocks of a half have one body, so what was written is read again.
 pub fn superblocks_are_read_again()

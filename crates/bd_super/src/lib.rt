@@ -12,4 +12,4 @@ mod superblock;
 pub use bd_device::ImageFault as SuperFault;
 pub use live::read_live;
 pub use publishing::publish;
-pub use superblock::{Half, Super};
+pub use superblock::{Half, Super, Version, WRITTEN_VERSION};

@@ -1,7 +1,8 @@
 //! Superblocks.
 
-ghost use Rattle.std.specs.Prelude.{◌≡◌, ◌↔◌, IsTrue};
-ghost use Rattle.bd_super.specs.Superblocks.{IsSuper, commit_block, body_block, log_block, other};
+ghost use Rattle.std.specs.Prelude.{◌≡◌, ◌≢◌, ◌↔◌, IsTrue, IfSome, IfNone};
+ghost use Rattle.bd_super.specs.Superblocks.{IsSuper, version_number, commit_block, body_block, log_block, other};
+ghost use Rattle.bd_super.specs.declared.superblock.Version.{Version as AnyVersion};
 
 use bd_keys::Items;
 use bd_limits::{FIRST_LOG_BLOCK, MAX_SLOTS, MIN_SLOTS, SECOND_LOG_BLOCK};
@@ -58,11 +59,49 @@ impl Half {
     }
 }
 
+/// What the records of an image may hold.
+#[derive(Clone, Copy, Debug, PartialEq, Eq)]
+pub enum Version {
+    /// Records without modes, and a log without a `chmod`.
+    One,
+    /// Records with modes, and a log of all commands that change the tree.
+    Two,
+}
+
+/// The version of a superblock that is written today.
+pub const WRITTEN_VERSION: Version = Version::Two;
+
+impl Version {
+    /// Its number.
+    pub fn number(self) -> u32
+        ensures { result ≡ version_number self }
+    {
+        match self {
+            Version::One => 1,
+            Version::Two => 2,
+        }
+    }
+
+    /// The version of this number. It is `None` exactly where there is none.
+    pub fn of(number: u32) -> Option<Version>
+        ensures some { IfSome result (λ version. version_number version ≡ number) }
+        ensures none { IfNone result ((version : AnyVersion) → version_number version ≢ number) }
+    {
+        match number {
+            1 => Some(Version::One),
+            2 => Some(Version::Two),
+            _ => None,
+        }
+    }
+}
+
 /// What an image starts from: a checkpoint.
 #[derive(Clone, Debug, PartialEq, Eq, Drop)]
 pub struct Super {
     /// Where it stands.
     pub half: Half,
+    /// What the image's records may hold.
+    pub version: Version,
     /// How many slots the image has, 24 to 65,536.
     pub slots: u32,
     /// The number of the checkpoint, 1 or more.

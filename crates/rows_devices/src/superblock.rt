@@ -5,7 +5,7 @@ ghost use Rattle.bd_super.specs.Published.{CanFollow};
 use bd_device::{BLOCK_SIZE, Device, FuseDevice, MemDevice, Torn};
 use bd_keys::Items;
 use bd_slots::image_blocks;
-use bd_super::{Half, Super, SuperFault, publish, read_live};
+use bd_super::{Half, Super, SuperFault, Version, WRITTEN_VERSION, publish, read_live};
 use std::alloc::{AllocError, Global};
 use std::test::Fail;
 
@@ -14,7 +14,7 @@ const NONE: [u64; 0] = [];
 /// The bytes of the first superblock of an image of 24 slots whose table is in slot 1, before the
 /// zeros: `BDSUPER1`, version, slots, epoch, count, number of the table's slots, slot.
 const FIRST: [u8; 40] = [
-    0x42, 0x44, 0x53, 0x55, 0x50, 0x45, 0x52, 0x31, 0, 0, 0, 1, 0, 0, 0, 24, 0, 0, 0, 0, 0, 0, 0,
+    0x42, 0x44, 0x53, 0x55, 0x50, 0x45, 0x52, 0x31, 0, 0, 0, 2, 0, 0, 0, 24, 0, 0, 0, 0, 0, 0, 0,
     1, 0, 0, 0, 0, 0, 0, 0, 0, 0, 0, 0, 1, 0, 0, 0, 1,
 ];
 
@@ -22,6 +22,7 @@ const FIRST: [u8; 40] = [
 fn superblock(alloc: Global, half: Half, epoch: u64) -> Result<Super, AllocError> {
     Ok(Super {
         half,
+        version: WRITTEN_VERSION,
         slots: 24,
         epoch,
         count: 0,
@@ -64,6 +65,15 @@ fn published(alloc: Global, epochs: u64) -> Result<MemDevice, SuperFault> {
     Ok(device)
 }
 
+// Publishes the first superblock, of this version.
+fn published_of(alloc: Global, version: Version) -> Result<MemDevice, SuperFault> {
+    let mut device = MemDevice::new(alloc, 516, 64, &NONE)?;
+    let mut first = superblock(alloc, Half::A, 1)?;
+    first.version = version;
+    publish_next(alloc, &mut device, &first)?;
+    Ok(device)
+}
+
 // The bytes of a block.
 fn block(device: &mut MemDevice, b: u64) -> [u8; BLOCK_SIZE] {
     let mut into = [0xaa; BLOCK_SIZE];
@@ -90,6 +100,19 @@ fn its_bytes_stand_in_its_half(rt: HostRuntime) -> Result<(), Fail> {
     let commit = block(&mut device, 0);
     assert_eq!(rt; commit[0], 1);
     assert!(rt; commit.iter().skip(1).all(|byte| *byte == 0));
+    Ok(())
+}
+
+#[test]
+fn its_version_stands_at_place_8(rt: HostRuntime) -> Result<(), Fail> {
+    for (version, number) in [(Version::One, 1), (Version::Two, 2)] {
+        let mut device = published_of(rt.alloc(), version)?;
+        let body = block(&mut device, 1);
+        let mut want = FIRST;
+        want[11] = number;
+        assert!(rt; body.starts_with(&want));
+        assert_eq!(rt; read_live(rt.alloc(), &mut device)?.version, version);
+    }
     Ok(())
 }
 
@@ -232,7 +255,26 @@ fn damage_names_its_block(rt: HostRuntime) -> Result<(), Fail> {
         ("a commit block of 2", [(0, 0, 2)].as_slice(), Err(0)),
         ("a commit block of 255", [(0, 0, 255)].as_slice(), Err(0)),
         ("the magic", [(1, 7, 0)].as_slice(), Err(1)),
-        ("the version", [(1, 11, 2)].as_slice(), Err(1)),
+        ("version 0", [(1, 11, 0)].as_slice(), Err(1)),
+        ("version 1", [(1, 11, 1)].as_slice(), Ok(1)),
+        ("version 3", [(1, 11, 3)].as_slice(), Err(1)),
+        ("version 255", [(1, 11, 255)].as_slice(), Err(1)),
+        ("version 257", [(1, 10, 1)].as_slice(), Err(1)),
+        (
+            "version 2 in the first byte",
+            [(1, 8, 2), (1, 11, 0)].as_slice(),
+            Err(1),
+        ),
+        (
+            "a second half of version 1",
+            [(2, 0, 1), (3, 11, 1)].as_slice(),
+            Ok(2),
+        ),
+        (
+            "a second half of version 3",
+            [(2, 0, 1), (3, 11, 3)].as_slice(),
+            Err(3),
+        ),
         ("too few slots", [(1, 15, 23)].as_slice(), Err(1)),
         ("another size", [(1, 15, 25)].as_slice(), Err(1)),
         ("an epoch of 0", [(1, 23, 0)].as_slice(), Err(1)),
