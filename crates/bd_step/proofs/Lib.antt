@@ -1,4 +1,5 @@
 pub mod PendingSizes
+pub mod PendingAll
 pub mod Abundance
 pub mod Waiting
 pub mod Reading

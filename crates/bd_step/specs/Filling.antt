@@ -1,5 +1,5 @@
 -- How many bytes of a node's messages are pending for each of its edges.
-use Rattle.std.specs.Prelude.{◌≡◌, ℕ, ◌+◌, ◌<◌, ◌≤◌, ◌⊎◌, List, [], ◌∷◌, take, Option, Some, slice_get}
+use Rattle.std.specs.Prelude.{◌≡◌, ℕ, ◌+◌, ◌<◌, ◌≤◌, ◌⊎◌, List, [], ◌∷◌, length, take, drop, get_or, Option, Some, slice_get}
 use Rattle.std.specs.List.{AllByRecursion}
 use Rattle.bd_message.specs.declared.message.Message.{Message}
 use Rattle.bd_message.specs.Messages.{size}
@@ -24,6 +24,13 @@ ArePendingSizes buffer [] sizes = sizes ≡ []
 ArePendingSizes buffer (e ∷ es) [] = ⊥
 ArePendingSizes buffer (e ∷ es) (n ∷ ns) =
     IsPendingSize e (end_before es) 0 buffer n × ArePendingSizes buffer es ns
+
+-- the bytes for each edge, and then with the message's size where it is pending for the edge
+pub record AreRaised (place : ℕ) (m : Message) (edges : List Edge) (old new : List ℕ) : Type 0 where
+  pub long : length new ≡ length old
+  pub each : (j : ℕ) (e : Edge) → slice_get edges j ≡ Some e → (own : ℕ)
+      × IsWaiting place m e (end_before (drop (j + 1) edges)) own
+      × (get_or new j 0 ≡ get_or old j 0 + own)
 
 -- the greatest of some numbers, and the first place where it stands
 pub record IsFirstGreatest (numbers : List ℕ) (place n : ℕ) : Type 0 where

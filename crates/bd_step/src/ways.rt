@@ -78,7 +78,7 @@ pub fn next_step<S: NodeStore>(alloc: Global, store: &mut S) -> Result<FlushStep
     if root.node.edges().len() >= FULL_EDGES {
         return Ok(FlushStep::SplitRoot { root });
     }
-    let place = fullest_place(&root.node);
+    let place = fullest_place(alloc, &root.node)?;
     step_from(store, Vec::new(alloc), root, place)
 }
 
@@ -121,7 +121,7 @@ pub fn step_from<S: NodeStore>(
     loop {
         match look_from(store, above, here, at)? {
             Look::Down(nodes, child) => {
-                at = fullest_place(&child.node);
+                at = fullest_place(*nodes.allocator(), &child.node)?;
                 above = nodes;
                 here = child;
             }
@@ -280,11 +280,11 @@ fn asks(node: &Node, place: usize) -> Asked
 }
 
 // The place of the edge for which most bytes are pending.
-fn fullest_place(node: &Node) -> usize
+fn fullest_place(alloc: Global, node: &Node) -> Result<usize, AllocError>
     requires shape { IsShape node.now }
     requires inner { 1 ≤ level_of node.now }
-    ensures fullest { IsFullestAt node.now result }
-    ensures within { result < length (edges_of node.now) }
+    ensures fullest { IfOk result (IsFullestAt node.now) }
+    ensures within { IfOk result (λ place. place < length (edges_of node.now)) }
 {
-    fullest(node.edges(), node.buffer()).place
+    Ok(fullest(alloc, node.edges(), node.buffer())?.place)
 }

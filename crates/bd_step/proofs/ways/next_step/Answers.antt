@@ -25,11 +25,11 @@ returns-clause-at g c = λ known sound.
     let m : Nodes = g.S.NodeStore.nodes c.fetch.new.store in
     let own : IsOwn n t c.in_ok-root.root = root_own n t c.in_ok-root.root sound (c.in_ok-root.ensures.id ∙ c.root-root.ensures.value)
     (ap n (sym c.root-root.ensures.value) ∙ c.in_ok-root.ensures.contents known) in
-    root_on_ok n t c.in_ok-root.root c.deref-2.result.now c.fullest_place-place.result c.step_from.result (c.in_ok-root.ensures.id ∙ c.root-root.ensures.value) c.deref-2.ensures c.fullest_place-place.ensures.fullest own
+    root_on_ok n t c.in_ok-root.root c.deref-2.result.now c.in_ok-place.place c.step_from.result (c.in_ok-root.ensures.id ∙ c.root-root.ensures.value) c.deref-2.ensures c.in_ok-place.ensures.fullest own
     (subst (λ (f : Nodes). IsOwn f t c.in_ok-root.root → IfOk c.step_from.result (IsStanding f t)) (c.in_ok-root.ensures.left.kept known)
     (subst (λ (u : Table). IsOwn m u c.in_ok-root.root → IfOk c.step_from.result (IsStanding m u)) c.in_ok-root.ensures.left.table (c.step_from.ensures.stands (c.in_ok-root.ensures.left.known known))) own)
-    (subst (λ (f : Nodes). IsOwn f t c.in_ok-root.root → IfOk c.step_from.result (IsReached f t c.in_ok-root.root.id c.fullest_place-place.result)) (c.in_ok-root.ensures.left.kept known)
-    (subst (λ (u : Table). IsOwn m u c.in_ok-root.root → IfOk c.step_from.result (IsReached m u c.in_ok-root.root.id c.fullest_place-place.result)) c.in_ok-root.ensures.left.table (c.step_from.ensures.reached (c.in_ok-root.ensures.left.known known))) own)
+    (subst (λ (f : Nodes). IsOwn f t c.in_ok-root.root → IfOk c.step_from.result (IsReached f t c.in_ok-root.root.id c.in_ok-place.place)) (c.in_ok-root.ensures.left.kept known)
+    (subst (λ (u : Table). IsOwn m u c.in_ok-root.root → IfOk c.step_from.result (IsReached m u c.in_ok-root.root.id c.in_ok-place.place)) c.in_ok-root.ensures.left.table (c.step_from.ensures.reached (c.in_ok-root.ensures.left.known known))) own)
 
 pub returns-clause-way_at : goal.returns-clause-way_at
 returns-clause-way_at g c = λ known sound.

@@ -53,9 +53,9 @@ loop-nodes-preserved g c =
       fetched = next.child_is;
       inner = next.inner;
       room = next.room;
-      within = subst (λ (d : Node). c.fullest_place-at.result < length (edges_of d)) c.deref.ensures c.fullest_place-at.ensures.within;
+      within = subst (λ (d : Node). c.in_ok-at-in-Down.at < length (edges_of d)) c.deref.ensures c.in_ok-at-in-Down.ensures.within;
       under = next_under t here at child c.loop-nodes.invariant.under next;
-      edge = next_from t c.args.parent c.args.place here at child c.deref.result.now c.fullest_place-at.result next c.deref.ensures c.fullest_place-at.ensures.fullest;
+      edge = next_from t c.args.parent c.args.place here at child c.deref.result.now c.in_ok-at-in-Down.at next c.deref.ensures c.in_ok-at-in-Down.ensures.fullest;
       known = λ known. c.in_ok-nodes.ensures.left.known (c.loop-nodes.invariant.known known);
       nodes = λ known. c.in_ok-nodes.ensures.left.kept (c.loop-nodes.invariant.known known) ∙ c.loop-nodes.invariant.nodes known;
       read = g.met.S.NodeStore.reads_both c.args.store.now c.loop-nodes.store c.look_from.new.store c.loop-nodes.invariant.read c.in_ok-nodes.ensures.left.read;
@@ -64,7 +64,7 @@ loop-nodes-preserved g c =
       loans = c.in_ok-nodes.ensures.left.same_loans ∙ c.loop-nodes.invariant.loans;
       own = own_child;
       reached = λ known own.
-          next_way n t c.args.parent.id c.args.place here at child c.deref.result.now c.fullest_place-at.result next c.deref.ensures c.fullest_place-at.ensures.fullest c.loop-nodes.invariant.room
+          next_way n t c.args.parent.id c.args.place here at child c.deref.result.now c.in_ok-at-in-Down.at next c.deref.ensures c.in_ok-at-in-Down.ensures.fullest c.loop-nodes.invariant.room
           (c.loop-nodes.invariant.own known own) (own_child known own) (c.loop-nodes.invariant.reached known own);
       way =
           subst (λ (l : Look). IsWaySeen t l) c.in-Down.is
