@@ -18,7 +18,7 @@ use Rattle.bd_node.specs.Private.{IsPrivate}
 use Rattle.bd_node.specs.Private.IsPrivate.{root_alone, alone}
 use Rattle.bd_node.specs.Steps.{changed_at, given, level_or, level_after, IsNamable, IsPut, IsStep, IsOnlyNamed, IsInPlace, IsTableAfter, IsCommitted, IsMoving}
 use Rattle.bd_node.specs.Steps.HasRoom.{no_rise}
-use Rattle.bd_node.proofs.Lookup.{Agree, each_weaker, each_named, node_has-same, node_has-key, key-is_key}
+use Rattle.bd_node.proofs.Lookup.{Agree, each_weaker, each_named, node_has-same, node_has-key, key-is_key, each_at}
 use Rattle.bd_node.proofs.Meanings.{at-meets, at-others, at-none}
 use Rattle.bd_node.proofs.Sound.{sound-levelled, named_lower, counted_twice, root_unnamed, kept_there}
 use Rattle.bd_node.proofs.Stepping.{touched_in, given-old, given-new, moving_meaning, after-none, given_stays}
@@ -118,11 +118,6 @@ namable t p n c h made level x b lower = record {
 }
 
 -- an element at a place has what each has
-each_at : (P : Node → Type 0) (xs : List Node) (i : ℕ) (m : Node) → AllByRecursion P xs → slice_get xs i ≡ Some m → P m
-each_at P [] i m h there = absurd (none-some m there)
-each_at P (x ∷ xs) zero m h there = subst P (same_Some x m there) h.0
-each_at P (x ∷ xs) (suc i) m h there = each_at P xs i m h.1 there
-
 some_at : (xs : List Node) (i : ℕ) → i < length xs → (m : Node) × (slice_get xs i ≡ Some m)
 some_at [] i low = absurd (omega arith)
 some_at (x ∷ xs) zero low = (x, refl)
