@@ -1,7 +1,7 @@
 -- Carved nodes: well-formed, and they have what they had.
 use Rattle.std.proofs.Common.{◌≡◌, ℕ, zero, suc, ◌+◌, ◌*◌, ◌^◌, ◌<◌, ◌≤◌, Bool, true, false, cond, List, [], ◌∷◌, ◌++◌, length, drop, refl, sym, ap, subst, ◌∙◌, Option, None, Some, inl, inr, arith, add-one, get_or}
 use Rattle.std.specs.Prelude.{slice_get, Result, Ok, Err, IfOk}
-use Rattle.std.specs.List.{AllByRecursion, flat_map}
+use Rattle.std.specs.List.{flat_map}
 use Rattle.std.proofs.lemmas.Bool.{cases_eq, cond-true, eq-eqb, ne_eqb}
 use Rattle.std.proofs.lemmas.List.{length-map, append-nil}
 use Rattle.std.proofs.lemmas.Option.{same_Some, none-some, slice_get_within, get_or_from_slice_get}
@@ -17,7 +17,7 @@ use Rattle.bd_node.specs.declared.node.Node.{Node}
 use Rattle.bd_node.specs.declared.node.Node.TheVariants.{Leaf, Inner}
 use Rattle.bd_node.specs.Nodes.{level_of, buffer_size, message_names, edge_names, times, edge_of, child_at, edge_at, through, node_at}
 use Rattle.bd_node.specs.Shape.{end_before, EachEdge, IsEdge, IsInner, IsShape}
-use Rattle.bd_node.proofs.Lookup.{count-cons}
+use Rattle.bd_node.proofs.Lookup.{count-cons, each_at}
 use Rattle.bd_node.proofs.Edges.{EachEdge-weaker, some_edge}
 use Rattle.bd_node.proofs.Appending.{some_has}
 use Rattle.bd_inner.specs.Compaction.{IsLoose, IsSwept, lowered}
@@ -74,11 +74,6 @@ prepared n own (Some key) es bytes short ends h =
 
 -- ---- the Goto
 
-message_at : (P : Message → Type 0) (xs : List Message) (i : ℕ) (m : Message) → AllByRecursion P xs → slice_get xs i ≡ Some m → P m
-message_at P [] i m h is = absurd (none-some m is)
-message_at P (x ∷ xs) zero m h is = subst P (same_Some x m is) h.0
-message_at P (x ∷ xs) (suc i) m h is = message_at P xs i m h.1 is
-
 -- at a key of its prefix a Goto leaves nothing of what was before it
 past_goto : (below : NodesAt) (buffer : List Message) (n at : ℕ) (p s : List ℕ) (child : ℕ) (k : List ℕ) (old : Option (List ℕ)) → n ≤ at → slice_get buffer at ≡ Some (Goto p s child) → begins k p ≡ true
     → acts below (drop (suc at) buffer) k (below child (s ++ rest p k)) ≡ acts below (drop n buffer) k old
@@ -106,7 +101,7 @@ pub record IsKnown (level : ℕ) (es : List Edge) (buffer : List Message) (at : 
   pub ends : IsEnd p end
 
 goto_message : (level : ℕ) (es : List Edge) (buffer : List Message) (at : ℕ) (p s : List ℕ) (child : ℕ) (end : Option (List ℕ)) → IsKnown level es buffer at p s child end → IsMessage (Goto p s child)
-goto_message level es buffer at p s child end h = message_at IsMessage buffer at (Goto p s child) h.inner.messages h.there
+goto_message level es buffer at p s child end h = each_at IsMessage buffer at (Goto p s child) h.inner.messages h.there
 
 prepared_for : (level : ℕ) (es : List Edge) (buffer : List Message) (at : ℕ) (p s : List ℕ) (child : ℕ) (end : Option (List ℕ)) → IsKnown level es buffer at p s child end
     → ArePrepared (length buffer) (goto_edge at p s child) end es (parted_end (at + 1) end (parted (at + 1) p es))

@@ -24,7 +24,7 @@ use Rattle.bd_inner.specs.Compaction.{IsLoose, IsLooseNode, IsSwept}
 use Rattle.bd_node.specs.Parts.{edges_of, buffer_of, end_at, IsEdgeAt}
 use Rattle.bd_inner.specs.Exchange.{exchanged, IsKeyOf, end_within, EachEdgeTo, FitsAt}
 use Rattle.bd_inner.specs.Moving.{IsMoved}
-use Rattle.bd_node.proofs.Places.{edge_within}
+use Rattle.bd_node.proofs.Parts.{at_of}
 use Rattle.bd_inner.proofs.Compacting.{compacted_shape}
 use Rattle.bd_inner.proofs.Splitting.{first_below, edge_from-back, edge_of-front, EachEdge-front, EachEdge-back, end_before-front, rising, IsParted, parted}
 
@@ -274,7 +274,7 @@ parts_loose n level es own buffer messages place list made is h low fits own_is 
     let inner : Node = Inner level es buffer in
     let shape : IsShape inner = subst (λ (m : Node). IsShape m) is h in
     let low_es : place < length es = subst (λ (m : Node). place < length (edges_of m)) is low in
-    let found : (e : Edge) × (slice_get es place ≡ Some e) = edge_within es place low_es in
+    let found : (e : Edge) × (slice_get es place ≡ Some e) = at_of es place low_es in
     let there : FitsAt inner place found.0 list = subst (λ (m : Node). FitsAt m place found.0 list) is (fits found.0 (subst (λ (m : Node). IsEdgeAt m place found.0) (sym is) found.1)) in
     subst (λ (l : List Message). IsLoose level made l) (sym messages_is)
     (subst (λ (l : List Edge). IsLoose level l buffer) (sym (made_is ∙ ap (λ (l : List Edge). take place l ++ (list ++ drop (place + 1) l)) own_is))

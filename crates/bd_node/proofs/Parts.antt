@@ -3,7 +3,7 @@ use Rattle.std.proofs.Common.{◌≡◌, ℕ, zero, suc, ◌+◌, ◌<◌, ◌�
 use Rattle.std.specs.Prelude.{slice_get, count_by, ◌==◌}
 use Rattle.std.specs.List.{flat_map}
 use Rattle.std.specs.Option.{option_to_list}
-use Rattle.std.proofs.lemmas.Option.{same_Some, none-some, slice_get_read}
+use Rattle.std.proofs.lemmas.Option.{same_Some, none-some, slice_get_read, slice_get_within}
 use Rattle.std.proofs.lemmas.List.Sums.{sum_by-append}
 use Rattle.bd_node.specs.declared.node.Edge.{Edge}
 use Rattle.bd_node.specs.declared.node.Node.{Node}
@@ -13,18 +13,14 @@ use Rattle.bd_node.specs.Parts.{edges_of, IsEdgeAt}
 use Rattle.bd_node.specs.Shape.{IsShape}
 use Rattle.bd_node.proofs.Lookup.{count-cons_same}
 
-at_of : (es : List Edge) (place : ℕ) → place < length es → (e : Edge) × (slice_get es place ≡ Some e)
+-- the edge at a place
+pub at_of : (es : List Edge) (place : ℕ) → place < length es → (e : Edge) × (slice_get es place ≡ Some e)
 at_of [] place low = absurd (omega arith)
 at_of (e ∷ es) zero low = (e, refl)
 at_of (e ∷ es) (suc place) low = at_of es place (omega arith)
 
-within_of : (es : List Edge) (place : ℕ) (e : Edge) → slice_get es place ≡ Some e → place < length es
-within_of [] place e there = absurd (none-some e there)
-within_of (f ∷ es) zero e there = omega arith
-within_of (f ∷ es) (suc place) e there = (let low : place < length es = within_of es place e there in omega arith)
-
 pub edge_within : (n : Node) (place : ℕ) (e : Edge) → IsEdgeAt n place e → place < length (edges_of n)
-edge_within n place e here = within_of (edges_of n) place e here
+edge_within n place e here = slice_get_within (edges_of n) place e here
 
 pub some_edge : (n : Node) (place : ℕ) → place < length (edges_of n) → (e : Edge) × IsEdgeAt n place e
 some_edge n place low = at_of (edges_of n) place low

@@ -10,6 +10,7 @@ use Rattle.bd_node.specs.declared.node.Edge.{Edge}
 use Rattle.bd_node.specs.Nodes.{edge_from, edge_of}
 use Rattle.bd_node.specs.Shape.{AreRising}
 use Rattle.bd_node.proofs.Edges.{least_over, less_lt, not_less_lt, lt_is, lt_isnt}
+use Rattle.bd_node.proofs.Parts.{at_of}
 use Rattle.bd_node.proofs.Halving.{step_few, step_left}
 
 -- pivots up to this place, but the first, aren't above the key
@@ -113,14 +114,9 @@ started es k now some =
       left = rw none (omega arith);
     }
 
-pub edge_within : (es : List Edge) (i : ℕ) → i < length es → (f : Edge) × (slice_get es i ≡ Some f)
-edge_within [] i low = absurd (omega arith)
-edge_within (e ∷ es) zero low = (e, refl)
-edge_within (e ∷ es) (suc i) low = edge_within es i (omega arith)
-
 pub ended : (es : List Edge) (k : List ℕ) (low high before now : ℕ) → IsHalving es k low high before now → high - low ≤ 1 → slice_get es low ≡ edge_of es k
 ended es k low high before now h none =
     let within : low < high = h.within in
     let end : high ≤ length es = h.end in
-    let found : (f : Edge) × (slice_get es low ≡ Some f) = edge_within es low (omega arith) in
+    let found : (f : Edge) × (slice_get es low ≡ Some f) = at_of es low (omega arith) in
     found.1 ∙ sym (edge_at_place es k low found.0 found.1 h.most (λ i e high_i there. h.over i e (omega arith) there))

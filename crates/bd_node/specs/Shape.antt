@@ -64,7 +64,8 @@ abbrev pub IsChild : Option ℕ → List ℕ → Type 0
 IsChild None source = source ≡ []
 IsChild (Some child) source = (1 ≤ child) × (child < 2 ^ 64)
 
--- an edge whose keys end there, over a buffer of so many messages
+-- an edge whose keys end there, over a buffer of so many messages: its pivot and its source can be
+-- stored, and the bytes that it leaves out are the first of all its keys
 pub record IsEdge (buffered : ℕ) (e : Edge) (hi : Option (List ℕ)) : Type 0 where
   pub pivot : length e.pivot ≤ key_limit
   pub rising : IsBelowEnd e.pivot hi
@@ -82,7 +83,8 @@ IsUnseen place k e hi = (e.seen ≤ place) × InRange e.pivot hi k
 abbrev pub IsPending : ℕ → Message → Edge → Option (List ℕ) → Type 0
 IsPending place m e hi = (e.seen ≤ place) × CanTouch m e.pivot hi
 
--- an inner node
+-- an inner node: its level, how many edges, the first from the empty key on, and messages that
+-- aren't too many bytes, each of which is pending for some edge
 pub record IsInner (level : ℕ) (edges : List Edge) (buffer : List Message) : Type 0 where
   pub low : 1 ≤ level
   pub high : level ≤ level_limit

@@ -18,14 +18,14 @@ use Rattle.bd_node.specs.Private.{IsPrivate}
 use Rattle.bd_node.specs.Private.IsPrivate.{alone}
 use Rattle.bd_node.specs.Steps.{given, level_or, level_after, IsStep, IsOnlyNamed, IsInPlace, IsTableAfter, IsCommitted}
 use Rattle.bd_node.specs.Steps.HasRoom.{no_rise}
-use Rattle.bd_node.proofs.Lookup.{Agree, each_weaker, each_named, node_at-same, node_has-same, node_has-key}
+use Rattle.bd_node.proofs.Lookup.{Agree, each_weaker, each_named, each_at, node_at-same, node_has-same, node_has-key}
 use Rattle.bd_node.proofs.Meanings.{at-meets}
 use Rattle.bd_node.proofs.Sound.{sound-levelled, counted_twice, root_unnamed}
 use Rattle.bd_node.proofs.Stepping.{given-new, changed_at-same, changed_at-other}
 use Rattle.bd_path.specs.Flushed.{IsFlushed, IsNoHigher}
 use Rattle.bd_path.specs.Flushed.LeadsTo.{itself, through}
 use Rattle.bd_path.specs.Paths.{child_step}
-use Rattle.bd_path.proofs.PathSteps.{IsMadeUnder, IsUpper, IsPathStep, IsPathStepOf, given_child, given_upper, at_of, each_at, has_made, has_path, made_old, made_new, path_may, path_in_place, path_flushed, root_stays}
+use Rattle.bd_path.proofs.PathSteps.{IsMadeUnder, IsUpper, IsPathStep, IsPathStepOf, given_child, given_upper, at_of, has_made, has_path, made_old, made_new, path_may, path_in_place, path_flushed, root_stays}
 
 -- ---- such a step
 

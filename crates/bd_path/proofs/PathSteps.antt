@@ -17,7 +17,7 @@ use Rattle.bd_node.specs.Shape.{IsShape}
 use Rattle.bd_node.specs.Tables.{Table, IsKept, IsTable, IsLower, IsSound}
 use Rattle.bd_node.specs.Private.{IsPrivate}
 use Rattle.bd_node.specs.Steps.{changed_at, given, level_or, level_after, IsNamable, IsPut, IsChange, AreOnce, IsStep, IsOnlyNamed, HasRoom, IsInPlace, IsTableAfter, IsCommitted, IsMoving}
-use Rattle.bd_node.proofs.Lookup.{Agree, each_weaker, each_named, node_has-same, node_has-key, key-is_key}
+use Rattle.bd_node.proofs.Lookup.{Agree, each_weaker, each_named, node_has-same, node_has-key, key-is_key, each_at}
 use Rattle.bd_node.proofs.Meanings.{at-others, at-none}
 use Rattle.bd_node.proofs.Stepping.{touched_in, given-old, given-new, changed_at-same, changed_at-other, changed_at-none, changed_has, moving_meaning, after-none, by_given}
 use Rattle.bd_node.proofs.Closing.{stay_above}
@@ -123,11 +123,6 @@ pub at_of : (xs : List Node) (i : ℕ) → i < length xs → (m : Node) × (slic
 at_of [] i low = absurd (omega arith)
 at_of (x ∷ xs) zero low = (x, refl)
 at_of (x ∷ xs) (suc i) low = at_of xs i (omega arith)
-
-pub each_at : (P : Node → Type 0) (xs : List Node) (i : ℕ) (m : Node) → AllByRecursion P xs → slice_get xs i ≡ Some m → P m
-each_at P [] i m h there = absurd (none-some m there)
-each_at P (x ∷ xs) zero m h there = subst P (same_Some x m there) h.0
-each_at P (x ∷ xs) (suc i) m h there = each_at P xs i m h.1 there
 
 child_put : (t : Table) (c : ℕ) (h : Node) (uppers : List Change) (made : List Node) → IsPathStep t c h uppers made → IsPut t (path_step t.root c h uppers made) h
 child_put t c h uppers made b =

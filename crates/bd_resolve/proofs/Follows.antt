@@ -18,6 +18,7 @@ use Rattle.bd_node.specs.declared.node.Node.{Node}
 use Rattle.bd_node.specs.declared.node.Node.TheVariants.{Inner}
 use Rattle.bd_node.specs.Nodes.{edge_names, message_names, edge_from, edge_of, child_at, through, node_at}
 use Rattle.bd_node.specs.Shape.{end_before, EachEdge, SomeEdge, IsEdge, IsInner, IsShape}
+use Rattle.bd_node.proofs.Appending.{some_has}
 use Rattle.bd_node.proofs.Edges.{some_edge, EachEdge-weaker, SomeEdge-weaker}
 use Rattle.bd_node.proofs.Lookup.{count-cons_same}
 use Rattle.bd_node.proofs.Touched.{touched_at_least, touched_within}
@@ -38,14 +39,6 @@ each_some P Q R f [] h g = g
 each_some P Q R f (e ∷ es) h g = elim g [
   | inl here ↦ inl (f e _ h.0 here)
   | inr later ↦ inr (each_some P Q R f es h.1 later)
-]
-
--- what doesn't depend on the edge
-pub from_some : (P : Edge → Option (List ℕ) → Type 0) (X : Type 0) → ((e : Edge) (hi : Option (List ℕ)) → P e hi → X) → (es : List Edge) → SomeEdge P es → X
-from_some P X f [] h = absurd h
-from_some P X f (e ∷ es) h = elim h [
-  | inl here ↦ f e _ here
-  | inr later ↦ from_some P X f es later
 ]
 
 edge_from-more : (e : Edge) (es : List Edge) (q k : List ℕ) → (SomeEdge (GoesOn q) es → ⊥) → edge_from e es (q ++ k) ≡ edge_from e es q
@@ -76,7 +69,7 @@ lift_short n e hi q own range key = taken_short e.lift e.pivot q own.lift (own.c
 
 inner_lift : (level : ℕ) (es : List Edge) (buffer : List Message) (q : List ℕ) (e : Edge) → IsInner level es buffer → IsKey q → edge_of es q ≡ Some e → e.lift ≤ length q
 inner_lift level es buffer q e h key there =
-    from_some (λ (f : Edge) hi. (edge_of es q ≡ Some f) × InRange f.pivot hi q × IsEdge (length buffer) f hi) (e.lift ≤ length q)
+    some_has (e.lift ≤ length q) (λ (f : Edge) hi. (edge_of es q ≡ Some f) × InRange f.pivot hi q × IsEdge (length buffer) f hi)
     (λ f hi found. subst (λ (d : Edge). d.lift ≤ length q) (same_Some f e (sym found.0 ∙ there)) (lift_short (length buffer) f hi q found.2 found.1 key))
     es (some_edge (IsEdge (length buffer)) es q h.each h.first)
 
@@ -147,7 +140,7 @@ covered_followed level es buffer q seen f most h =
 
 under_all : (level : ℕ) (es : List Edge) (buffer : List Message) (q : List ℕ) (seen : ℕ) → IsInner level es buffer → EachEdge (λ e hi. IsUnder q e hi → e.seen ≤ seen) es → SeenAtMost es q seen
 under_all level es buffer q seen h most k =
-    from_some (λ (f : Edge) hi. (edge_of es (q ++ k) ≡ Some f) × InRange f.pivot hi (q ++ k) × (IsUnder q f hi → f.seen ≤ seen)) ((e : Edge) × (edge_of es (q ++ k) ≡ Some e) × (e.seen ≤ seen)) (λ f hi found. (f, found.0, found.2 (q ++ k, found.1, begins-append q k)))
+    some_has ((e : Edge) × (edge_of es (q ++ k) ≡ Some e) × (e.seen ≤ seen)) (λ (f : Edge) hi. (edge_of es (q ++ k) ≡ Some f) × InRange f.pivot hi (q ++ k) × (IsUnder q f hi → f.seen ≤ seen)) (λ f hi found. (f, found.0, found.2 (q ++ k, found.1, begins-append q k)))
     es (some_edge (λ e hi. IsUnder q e hi → e.seen ≤ seen) es (q ++ k) most h.first)
 
 seen_under : (es : List Edge) (buffer : List Message) (q : List ℕ) (seen : ℕ) → IsMostSeen es q seen → NoneCovers buffer seen q

@@ -13,6 +13,7 @@ use Rattle.bd_node.specs.Nodes.{level_of, names, entry_at, is_key, node_at, node
 use Rattle.bd_node.specs.Meaning.{Nodes, at}
 use Rattle.bd_node.specs.Shape.{IsEdge, IsEntry, IsShape}
 use Rattle.bd_node.specs.Tables.{Table, IsKept, IsLower, IsNodeOf, IsStored, IsSound}
+use Rattle.bd_node.proofs.Appending.{some_has}
 use Rattle.bd_node.proofs.Lookup.{named_has}
 use Rattle.bd_node.proofs.Sound.{sound-levelled}
 use Rattle.bd_node.proofs.LawLemmas.{keys_meet}
@@ -25,14 +26,14 @@ use Rattle.bd_resolve.specs.declared.following.Followed.TheVariants.{Past}
 use Rattle.bd_resolve.specs.Following.{target_at, IsNamedTarget, IsLowerTarget, IsEnd, IsPast, IsFollowed, GoesOn, AreNoneOr}
 use Rattle.bd_resolve.proofs.Prefixes.{IsKey-append}
 use Rattle.bd_resolve.proofs.Covers.{long_acts, too_long}
-use Rattle.bd_resolve.proofs.Follows.{each_some, from_some}
+use Rattle.bd_resolve.proofs.Follows.{each_some}
 
 -- a long prefix has keys of one edge
 pub long_goes_on : (n : Node) (q : List ℕ) → IsShape n → 1 ≤ level_of n → key_limit < length q → IsEnd n q → ⊥
 long_goes_on (Leaf entries) q shape inner long end = omega arith
 long_goes_on (Inner level es buffer) q shape inner long end = elim end [
   | inl empty ↦ (let none : length q ≡ 0 = ap (λ (l : List ℕ). length l) empty in omega arith)
-  | inr spread ↦ from_some (λ e hi. length q < key_limit) ⊥ (λ e hi less. (let l : length q < key_limit = less in omega arith)) es
+  | inr spread ↦ some_has ⊥ (λ e hi. length q < key_limit) (λ e hi less. (let l : length q < key_limit = less in omega arith)) es
       (each_some (IsEdge (length buffer)) (GoesOn q) (λ e hi. length q < key_limit) (λ e hi own goes. (let pivot : length e.pivot ≤ key_limit = own.pivot in let less : length q < length e.pivot = goes.1 in omega arith)) es shape.each spread.several)
 ]
 

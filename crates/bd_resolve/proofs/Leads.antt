@@ -12,13 +12,14 @@ use Rattle.bd_node.specs.declared.node.Node.{Node}
 use Rattle.bd_node.specs.declared.node.Node.TheVariants.{Inner}
 use Rattle.bd_node.specs.Nodes.{edge_of}
 use Rattle.bd_node.specs.Shape.{EachEdge, SomeEdge, IsInner, IsShape}
+use Rattle.bd_node.proofs.Appending.{some_has}
 use Rattle.bd_node.proofs.Edges.{some_edge, EachEdge-weaker}
 use Rattle.bd_node.proofs.LawLemmas.{edge_only}
 use Rattle.bd_resolve.specs.declared.following.Followed.{Followed}
 use Rattle.bd_resolve.specs.Following.{GoesOn, IsUnder, IsByCover, IsThroughEdge, IsSpreadOver, Decides, IsLed, LeadsTo}
 use Rattle.bd_resolve.specs.Following.IsByCoverOr.{by_cover, by_none}
 use Rattle.bd_resolve.specs.Following.IsLed.{by_message, by_edge, at_several}
-use Rattle.bd_resolve.proofs.Follows.{each_some, from_some, edge_of-more}
+use Rattle.bd_resolve.proofs.Follows.{each_some, edge_of-more}
 
 -- the newest message that covers the prefix, from a place on that is past all that its edges have
 -- seen, decides
@@ -37,7 +38,7 @@ led_cover es buffer q seen f some most h =
 -- none decides that some edge with keys of the prefix has seen
 seen_decides : (es : List Edge) (buffer : List Message) (q : List ℕ) (seen place : ℕ) (m : Message) → SomeEdge (λ e hi. IsUnder q e hi × (e.seen ≡ seen)) es → place < seen → Decides es buffer q place m → ⊥
 seen_decides es buffer q seen place m found early h =
-    from_some (λ e hi. ⊥) ⊥ (λ e hi no. no) es
+    some_has ⊥ (λ e hi. ⊥) (λ e hi no. no) es
     (each_some (λ e hi. IsUnder q e hi → e.seen ≤ place) (λ e hi. IsUnder q e hi × (e.seen ≡ seen)) (λ e hi. ⊥)
     (λ e hi before own. absurd (let a : e.seen ≤ place = before own.0 in let b : e.seen ≡ seen = own.1 in omega arith)) es h.pending found)
 
@@ -71,7 +72,7 @@ under_one level es buffer q e h one there =
 -- none decides that the one edge of the prefix has seen
 one_decides : (level : ℕ) (es : List Edge) (buffer : List Message) (q : List ℕ) (e : Edge) (place : ℕ) (m : Message) → IsInner level es buffer → edge_of es q ≡ Some e → place < e.seen → Decides es buffer q place m → ⊥
 one_decides level es buffer q e place m h there early decides =
-    from_some (λ f hi. (edge_of es q ≡ Some f) × InRange f.pivot hi q × (IsUnder q f hi → f.seen ≤ place)) ⊥
+    some_has ⊥ (λ f hi. (edge_of es q ≡ Some f) × InRange f.pivot hi q × (IsUnder q f hi → f.seen ≤ place))
     (λ f hi found.
     let least : f.seen ≤ place = found.2 (q, found.1, subst (λ (k : List ℕ). begins k q ≡ true) (append-nil q) (begins-append q [])) in
     let same : e.seen ≡ f.seen = ap (λ (d : Edge). d.seen) (same_Some e f (sym there ∙ found.0)) in

@@ -111,8 +111,9 @@ abbrev pub IsEnd : Node → List ℕ → Type 0
 IsEnd (Leaf entries) q = ⊤
 IsEnd (Inner level edges buffer) q = (q ≡ []) ⊎ IsSpread edges buffer q
 
--- the way leads to a target: at each key that begins with the prefix the node has what the target
--- has, changed by the messages from a place on, none of which covers the prefix
+-- the way leads to a target, which is one of the node's names: at each key that begins with the
+-- prefix the node has what the target has, changed by the messages from a place on, none of which
+-- covers the prefix
 pub record IsPast (n : Node) (q : List ℕ) (newer : ℕ) (target : Option Target) : Type 0 where
   pub within : newer ≤ length (buffer_of n)
   pub answer : (below : NodesAt) (k : List ℕ) → node_at below n (q ++ k)
