@@ -42,7 +42,8 @@ fn staying(alloc: Global, items: &[Message], mask: &[bool]) -> Result<Vec<Messag
     requires { length mask.now ≡ length items.now }
     ensures { IfOk result (λ list. list.items ≡ staying mask.now items.now) }
 {
-    let mut list = Vec::new(alloc);
+    let count = mask.iter().filter(|stays| **stays).count();
+    let mut list = Vec::with_capacity(alloc, count)?;
     for (place, message) in items.iter().enumerate() {
         if mask[place] {
             list.push(copy(message)?)?;
