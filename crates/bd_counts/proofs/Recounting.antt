@@ -6,7 +6,7 @@ use Rattle.bd_node.specs.declared.node.Node.{Node}
 use Rattle.bd_node.specs.declared.node.Change.{Change}
 use Rattle.bd_node.specs.declared.node.Step.{Step}
 use Rattle.bd_node.specs.Meaning.{Nodes}
-use Rattle.bd_node.specs.Tables.{Table, IsKept, IsTable, IsSound, sum_below, times_in, one_if, references}
+use Rattle.bd_node.specs.Tables.{Table, IsKept, IsTable, IsSound, sum_below, times_in, one_if}
 use Rattle.bd_node.specs.Steps.{given_times, after, IsStep, StayAbove}
 use Rattle.bd_node.proofs.Sums.{sum_exchanged}
 use Rattle.bd_node.proofs.Sound.{one_if-same, one_if-other}
@@ -142,14 +142,6 @@ recount_last t step id counts new gone new_gone less zero below_root pushed h =
 
 owed_pushed : (owed all : List ℕ) (id : ℕ) → all ≡ owed ++ id ∷ [] → (c : ℕ) → times_among all c ≡ one_if id c + times_among owed c
 owed_pushed owed all id is c = let e : times_among all c ≡ times_among owed c + one_if id c = times_pushed owed all id is c in omega arith
-
--- a name that is owed is counted, beside the root's pointer
-pub owed_counted : (nodes : Nodes) (t : Table) (step : Step) (id : ℕ) (counts : ℕ → ℕ) (owed all : List ℕ) → all ≡ owed ++ id ∷ [] → IsOwing nodes t step counts all → one_if step.root id + 1 ≤ counts id
-owed_counted nodes t step id counts owed all is h =
-    let exact : counts id ≡ references (counted counts (after nodes t step)) (t.next + length step.made) step.root id + times_among all id = h.exact id in
-    let one : one_if id id ≡ 1 = one_if-same id in
-    let more : times_among all id ≡ one_if id id + times_among owed id = owed_pushed owed all id is id in
-    omega arith
 
 pub owing_one : (nodes : Nodes) (t : Table) (step : Step) (id : ℕ) (counts new : ℕ → ℕ) (owed all : List ℕ) → IsLess id counts new → 1 ≤ new id → all ≡ owed ++ id ∷ []
     → IsOwing nodes t step counts all → IsOwing nodes t step new owed

@@ -7,7 +7,7 @@ use Rattle.bd_node.specs.Meaning.{Nodes}
 use Rattle.bd_node.specs.Tables.{times_in}
 use Rattle.bd_counts.specs.Naming.{times_among}
 use Rattle.bd_counts.proofs.Names.{times_among-append}
-use Rattle.bd_counts.proofs.Loops.{sum_at}
+use Rattle.bd_counts.proofs.Loops.{sum_rest}
 use Rattle.bd_counts.proofs.owing.owed_names.Goals as goal
 
 pub loop-change-preserved : goal.loop-change-preserved
@@ -35,7 +35,7 @@ loop-change-preserved g c =
           ap (λ (ys : List ℕ). times_among ys d) c.in_ok-push_node.ensures
           ∙ times_among-append c.loop-change.owed.items (names c.deref.result.now) d
           ∙ ap (λ (n : Node). times_among c.loop-change.owed.items d + times n d) c.deref.ensures in
-          let sum_here : sum_by F (drop i xs) ≡ F x + sum_by F (drop (i + 1) xs) = sum_at F xs i x c.loop-change-test.true c.change-item.is in
+          let sum_here : sum_by F (drop i xs) ≡ F x + sum_by F (drop (i + 1) xs) = sum_rest F xs i x c.loop-change-test.true c.change-item.is in
           let as_here : sum_by F (drop i xs) ≡ sum_by F (drop i c.args.step.now.changes) = ap (λ (ys : List Change). sum_by F (drop i ys)) same in
           let as_next : sum_by F (drop (i + 1) xs) ≡ sum_by F (drop (i + 1) c.args.step.now.changes) = ap (λ (ys : List Change). sum_by F (drop (i + 1) ys)) same in
           let before = inv.owed k d in
