@@ -24,21 +24,21 @@ use Rattle.bd_image.proofs.Leading.{leads_more}
 
 -- ---- what a change of the log leaves
 
-half_place : (half : Half) → (4 ≤ log_block half) × (log_block half + 64 ≤ 132)
+pub half_place : (half : Half) → (4 ≤ log_block half) × (log_block half + 64 ≤ 132)
 half_place A = (omega arith, omega arith)
 half_place B = (omega arith, omega arith)
 
 -- the blocks of a half of the log change
-abbrev SameButLog : Half → Image → Image → Type 0
+abbrev pub SameButLog : Half → Image → Image → Type 0
 SameButLog half = SameBut (IsInRange (log_block half) (log_block half + 64))
 
-live_stays : (half : Half) (s : Super) (old new : Image) → SameButLog half old new → IsLive old s → IsLive new s
+pub live_stays : (half : Half) (s : Super) (old new : Image) → SameButLog half old new → IsLive old s → IsLive new s
 live_stays half s old new same live =
     let at = half_place half in
     let supers : SameSuperblocks old new = record { size = same.size; blocks = λ b low. same.others b (λ range. omega (arith, low, at.0, range.0)) } in
     (same_halves old new (same_superblocks old new supers) s).0 live
 
-slots_stay : (half : Half) (slots : List ℕ) (old new : Image) → SameButLog half old new → SameSlots slots old new
+pub slots_stay : (half : Half) (slots : List ℕ) (old new : Image) → SameButLog half old new → SameSlots slots old new
 slots_stay half slots old new same b own =
     let at = half_place half in
     same.others b (λ range. omega (arith, at.1, range.1, own.4.0))
@@ -84,15 +84,15 @@ waiting_records body [] = refl
 waiting_records body (r ∷ rs) = append-nil (r ∷ rs)
 
 -- batches of the log are those of the superblock's half and epoch
-of_super : (s : Super) (log : LogState) (image : Image) (batches : List Batch) (end : ℕ) → IsLogOf s log → AreBatches image log.first log.epoch batches end → AreBatches image (log_block s.half) s.epoch batches end
+pub of_super : (s : Super) (log : LogState) (image : Image) (batches : List Batch) (end : ℕ) → IsLogOf s log → AreBatches image log.first log.epoch batches end → AreBatches image (log_block s.half) s.epoch batches end
 of_super s log image batches end of h =
     subst (λ (e : ℕ). AreBatches image (log_block s.half) e batches end) of.epoch (subst (λ (f : ℕ). AreBatches image f log.epoch batches end) of.first h)
 
-of_log : (s : Super) (log : LogState) (image : Image) (batches : List Batch) (end : ℕ) → IsLogOf s log → AreBatches image (log_block s.half) s.epoch batches end → AreBatches image log.first log.epoch batches end
+pub of_log : (s : Super) (log : LogState) (image : Image) (batches : List Batch) (end : ℕ) → IsLogOf s log → AreBatches image (log_block s.half) s.epoch batches end → AreBatches image log.first log.epoch batches end
 of_log s log image batches end of h =
     subst (λ (e : ℕ). AreBatches image log.first e batches end) (sym of.epoch) (subst (λ (f : ℕ). AreBatches image f s.epoch batches end) (sym of.first) h)
 
-in_half : (s : Super) (log : LogState) (old new : Image) → IsLogOf s log → SameBut (IsInRange log.first (log.first + 64)) old new → SameButLog s.half old new
+pub in_half : (s : Super) (log : LogState) (old new : Image) → IsLogOf s log → SameBut (IsInRange log.first (log.first + 64)) old new → SameButLog s.half old new
 in_half s log old new of same = subst (λ (f : ℕ). SameBut (IsInRange f (f + 64)) old new) of.first same
 
 -- all that waited is there
