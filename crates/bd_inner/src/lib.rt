@@ -2,8 +2,8 @@
 //! with edges of a Goto's own, and without the messages that are pending for no edge; and what a push
 //! moves to a child.
 //! The layers above use `edge_of`, which is the edge that the definition finds first to last, the
-//! contracts of `receive`, `compact`, `sweep`, `split`, `carve`, `next_batch` and `exchange`, and the
-//! laws.
+//! contracts of `receive`, `compact`, `sweep`, `split`, `carve`, `next_batch` and `exchange`, and
+//! the laws.
 #![tactic(auto)]
 
 mod batches;
