@@ -127,8 +127,8 @@ joined (Leaf entries) place count e = Leaf entries
 joined (Inner level edges buffer) place count e =
     Inner level (take place edges ++ e ∷ drop count (drop (place + 1) edges)) buffer
 
--- the node `m` is `n` with what the message at a place makes of the edge at a place, in place of that
--- edge and, if the message is a Goto, of the neighbours after it of which it is the newest that
+-- the node `m` is `n` with what the message at a place makes of the edge at a place, in place of
+-- that edge and, if the message is a Goto, of the neighbours after it of which it is the newest that
 -- decides all their keys; and without the messages that are then pending for no edge
 pub record IsDecided (n : Node) (place at : ℕ) (m : Node) : Type 0 where
   pub edge : Edge

@@ -50,8 +50,8 @@ pub record IsShrunk (nodes : Nodes) (child : ℕ) (new : Nodes) (u : Table) : Ty
   pub root : u.root ≡ child
   pub rest : (id : ℕ) → IsKept u id → new id ≡ nodes id
 
--- the step that changes a node to what the message at a place makes of its edge at a place and of the
--- neighbours that become one with it
+-- the step that changes a node to what the message at a place makes of its edge at a place and of
+-- the neighbours that become one with it
 pub record IsDecideStep (root : ℕ) (node : Fetched) (place at : ℕ) (step : Step) : Type 0 where
   pub made : Node
   pub decided : IsDecided node.node.value place at made

@@ -148,8 +148,8 @@ pub data IsWayBetween (t : Table) (top : ℕ) : ℕ → List Fetched → Type 0 
       → IsEdgeTo f.node.value place c e → t.count c ≡ 1 → IsWayBetween t top f.id fs
       → IsWayBetween t top c (f ∷ fs)
 
--- the change, where the walk from a node has found it: a push has the nodes above its own up to that
--- one
+-- the change, where the walk from a node has found it: a push has the nodes above its own up to
+-- that one
 abbrev pub IsFoundFrom : Table → ℕ → Reclaim → Type 0
 IsFoundFrom t top step =
     IfPush (λ above node place. IsFetched t node × HasCut node.node.value place

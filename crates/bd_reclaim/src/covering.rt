@@ -68,8 +68,8 @@ fn has_cut(edge: &Edge, hi: Option<&[u8]>, buffer: &[Message]) -> bool
     false
 }
 
-/// The place of the newest message that an edge hasn't seen and that decides all its keys, which end
-/// at `hi`.
+/// The place of the newest message that an edge hasn't seen and that decides all its keys, which
+/// end at `hi`.
 pub fn newest(cover: Cover, edge: &Edge, hi: Option<&[u8]>, buffer: &[Message]) -> Option<usize>
     requires { IsBelowEnd edge.now.pivot (option_copied hi) }
     ensures { MatchOption result (NoneDecides cover buffer.now edge.now (option_copied hi.entry))

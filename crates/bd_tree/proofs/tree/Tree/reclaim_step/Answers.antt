@@ -9,3 +9,6 @@ returns-clause-same g c =
 
 pub returns-clause-cause : goal.returns-clause-cause
 returns-clause-cause g c = rw (← c.self.view_is) c.reclaim_step.ensures.cause
+
+pub returns-clause-falls : goal.returns-clause-falls
+returns-clause-falls g c = rw (← c.self.view_is) c.reclaim_step.ensures.falls
