@@ -142,7 +142,8 @@ pub record AreLongParts (n : Node) (place : ℕ) (m : Node) (f : Edge) (halves :
     pub seen : f ≡ seen_by push.edge push.batch.count
     pub are : halves ≡ push.halves
 
--- the same, or the edge after messages have gone down, and the halves whose pivot would be too long
+-- a node and its child after messages have gone down, or the edge then, and halves whose pivot would
+-- be too long
 abbrev pub IsPushedOver : Node → ℕ → Node → ℕ → Halving → Type 0
 IsPushedOver n place m next (Short parts) = ArePushed n place m next parts
 IsPushedOver n place m next (Long edge halves) = AreLongParts n place m edge halves
@@ -191,8 +192,8 @@ abbrev pub IsSomePush : ℕ → ℕ → List Fetched → Fetched → ℕ → Fet
 IsSomePush root next way parent place child step =
     IsPushStep root next parent place child step ⊎ IsPushBetweenStep root next way parent place child step
 
--- such a push, where the parent has to rise, and one of the nodes above it that have to rise with it is
--- at level 1,000
+-- a push of too long a pivot, where the parent has to rise, and one of the nodes above it that have to
+-- rise with it is at level 1,000
 pub record IsHighPush (n : Node) (place : ℕ) (m : Node) (way : List Fetched) : Type 0 where
   pub long : IsLongPush n place m
   pub high : CannotRiseOver 1 n way
