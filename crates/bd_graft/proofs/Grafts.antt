@@ -1,5 +1,5 @@
 -- What the step of a graft leaves.
-use Rattle.std.proofs.Common.{◌≡◌, ℕ, zero, suc, ◌+◌, ◌-◌, ◌<◌, ◌≤◌, ◌^◌, Bool, true, false, not, cond, ◌&&◌, List, [], ◌∷◌, ◌++◌, length, drop, refl, sym, ap, subst, ◌∙◌, Option, None, Some, inl, inr, arith, length-append, Result, Ok, Err, OnOk}
+use Rattle.std.proofs.Common.{◌≡◌, ℕ, zero, suc, ◌+◌, ◌-◌, ◌<◌, ◌≤◌, ◌^◌, Bool, true, false, cond, List, [], ◌∷◌, ◌++◌, length, refl, sym, ap, subst, ◌∙◌, Option, None, Some, inl, inr, arith, length-append, Result, Ok, Err, OnOk}
 use Rattle.std.specs.Prelude.{slice_get, count_by, ◌==◌}
 use Rattle.std.proofs.Math.Nat.{le-max_left}
 use Rattle.std.specs.List.{AllByRecursion, flat_map, sum_by}
@@ -7,12 +7,12 @@ use Rattle.std.proofs.lemmas.Option.{same_Some, none-some, slice_get_within}
 use Rattle.std.proofs.lemmas.Bool.{cases_lt, cases_eq}
 use Rattle.std.proofs.lemmas.List.Sums.{sum_by-cons, sum_by-append}
 use Rattle.bd_limits.specs.Limits.{key_limit, buffer_limit, level_limit}
-use Rattle.bd_keys.specs.Keys.{IsKey, key_cmp}
-use Rattle.bd_keys.proofs.Order.{IsKey-rest, IsKey-drop}
+use Rattle.bd_keys.specs.Keys.{IsKey}
+use Rattle.bd_keys.proofs.Order.{IsKey-drop}
 use Rattle.bd_message.specs.declared.message.Message.{Message}
 use Rattle.bd_message.specs.declared.message.Message.TheVariants.{Goto, Cut}
 use Rattle.bd_message.specs.Messages.{IsMessage, size}
-use Rattle.bd_message.specs.Effect.{NodesAt, begins, rest, is_cut, acts}
+use Rattle.bd_message.specs.Effect.{NodesAt, begins, rest, acts}
 use Rattle.bd_message.specs.KeyMaps.{HasMapCause, At, grafted, IsGrafted}
 use Rattle.bd_node.specs.declared.node.Node.{Node}
 use Rattle.bd_node.specs.declared.node.Change.{Change}
@@ -22,7 +22,6 @@ use Rattle.bd_node.specs.Meaning.{Nodes, at, IsLevelled}
 use Rattle.bd_node.specs.Shape.{IsShape}
 use Rattle.bd_node.specs.Tables.{Table, IsKept, IsTable, IsLower, IsNodeOf, IsStored, IsSound, one_if, root_at}
 use Rattle.bd_node.specs.Steps.{given, after, level_or, level_after, given_times, IsThere, IsNamable, IsPut, IsChange, AreOnce, IsStep, IsInPlace, IsTableAfter, IsCommitted, IsWornBy, IsRootOf, extend_step}
-use Rattle.bd_node.specs.Stores.{visited}
 use Rattle.bd_message.specs.declared.fault.MapFault.{MapFault}
 use Rattle.bd_node.proofs.Lookup.{Agree, acts-same, node_at-same, each_weaker, each_first, each_second, each_both, count-cons_same, count-cons_le}
 use Rattle.bd_node.proofs.Meanings.{at-meets, at_untouched}
@@ -30,13 +29,12 @@ use Rattle.bd_node.proofs.LawLemmas.{keys_meet}
 use Rattle.bd_node.proofs.Sound.{sound-levelled, one_if-same}
 use Rattle.bd_node.proofs.Stepping.{given-old, given-new, changed_at-same, changed_at-other, after-none, after-some, committed_meaning}
 use Rattle.bd_node.proofs.Closing.{begun, stay_above}
-use Rattle.bd_node.proofs.Edges.{not_less_lt}
 use Rattle.bd_node.proofs.Appending.{level_appended, node_at-appended, shape_appended}
 use Rattle.bd_node.proofs.Privacy.{root_private}
 use Rattle.bd_node.specs.Steps.HasRoom.{of_root}
 use Rattle.bd_node.specs.declared.node.Node.TheVariants.{Leaf, Inner}
 use Rattle.std.proofs.lemmas.Grind.{flat_map-append}
-use Rattle.bd_message.proofs.Prefixes.{least_nil, is_cut-all}
+use Rattle.bd_message.proofs.Prefixes.{is_cut-all}
 use Rattle.bd_resolve.specs.declared.following.Target.{Target}
 use Rattle.bd_resolve.specs.Following.{target_at, IsLowerTarget}
 use Rattle.bd_graft.specs.declared.layers.Layer.{Layer}

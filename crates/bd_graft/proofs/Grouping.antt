@@ -1,11 +1,10 @@
 -- Groups of messages, and the overlay nodes that they get.
-use Rattle.std.proofs.Common.{◌≡◌, ◌≢◌, ℕ, suc, ◌+◌, ◌-◌, ◌<◌, ◌≤◌, ◌^◌, max, Bool, cond, ltb, List, [], ◌∷◌, ◌++◌, length, get_or, refl, sym, ap, subst, ◌∙◌, Option, None, Some, inl, inr, ◌⊎◌, arith, length-append}
-use Rattle.std.specs.Prelude.{map}
+use Rattle.std.proofs.Common.{◌≡◌, ℕ, ◌+◌, ◌<◌, ◌≤◌, ◌^◌, max, cond, ltb, List, [], ◌∷◌, ◌++◌, length, get_or, refl, sym, ap, subst, ◌∙◌, Option, None, Some, inl, inr, arith, length-append}
 use Rattle.std.specs.List.{AllByRecursion, flat_map, sum_by}
 use Rattle.std.proofs.lemmas.List.{append-nil}
 use Rattle.std.proofs.lemmas.List.Sums.{sum_by-append}
 use Rattle.std.proofs.lemmas.Option.{none-some}
-use Rattle.std.proofs.lemmas.Bool.{cases_lt, cases_eq, cond-true, cond-false, lt-ltb, le-ltb}
+use Rattle.std.proofs.lemmas.Bool.{cases_lt, cond-true, cond-false, lt-ltb, le-ltb}
 use Rattle.std.proofs.Math.Nat.{max-zero}
 use Rattle.std.proofs.lemmas.Grind.{flat_map-append}
 use Rattle.bd_limits.specs.Limits.{buffer_limit, level_limit}
@@ -18,10 +17,9 @@ use Rattle.bd_resolve.specs.declared.following.Target.{Target}
 use Rattle.bd_graft.specs.declared.layers.Layer.{Layer}
 use Rattle.bd_graft.specs.declared.packing.Stack.{Stack}
 use Rattle.bd_graft.specs.declared.packing.Packed.{Packed}
-use Rattle.bd_graft.specs.declared.packing.Groups.{Groups}
 use Rattle.bd_graft.specs.Laying.{above, IsLayer, AreLayers}
 use Rattle.bd_graft.specs.Ways.{messages_in}
-use Rattle.bd_graft.specs.Packing.{overlay, target_names, gathered, packs, overlaid, over_all, overlay_level, top_over, overlays_over, newest_of, older_of, IsStackWith, IsPackedWith, AreGroups, IsGrownBy, Fits, IsClosed, IsJoined, IsLaidOn, IsEnded, IsFinished}
+use Rattle.bd_graft.specs.Packing.{overlay, target_names, gathered, packs, overlaid, over_all, overlay_level, top_over, overlays_over, newest_of, older_of, IsStackWith, IsPackedWith, Fits, IsClosed, IsJoined, IsLaidOn, IsEnded, IsFinished}
 use Rattle.bd_graft.specs.Packing.IsLaidOn.{fit, new}
 use Rattle.bd_graft.specs.Packing.IsFinished.{as_it_is, made_too}
 use Rattle.bd_graft.proofs.Packs.{max_assoc, above-append, tail_of, tail_is}

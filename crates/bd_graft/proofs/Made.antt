@@ -1,12 +1,11 @@
 -- What a graft leaves of a store.
-use Rattle.std.proofs.Common.{◌≡◌, ℕ, ◌+◌, ◌-◌, ◌≤◌, List, Bool, refl, sym, subst, arith, Result, Ok, Err, OnOk, OnErr}
+use Rattle.std.proofs.Common.{ℕ, ◌+◌, ◌-◌, ◌≤◌, List, Bool, refl, sym, subst, arith, Result, Ok, Err, OnOk}
 use Rattle.bd_limits.specs.Limits.{buffer_limit, graft_size}
 use Rattle.bd_message.specs.KeyMaps.{IsGrafted}
 use Rattle.bd_node.specs.declared.store.NodeStore.{Ghosts}
-use Rattle.bd_node.specs.Frames.{OfSound, OnlyReads, Stays}
+use Rattle.bd_node.specs.Frames.{OfSound, OnlyReads}
 use Rattle.bd_node.specs.Meaning.{Nodes}
 use Rattle.bd_node.specs.Tables.{Table, IsSound, root_at}
-use Rattle.bd_node.specs.Stores.{visited}
 use Rattle.bd_graft.specs.Grafting.{IsGrown, IsGraftStep, AreOthersSame, IsGraftMade, IsGraftCall}
 
 pub room_is : (size : ℕ) → graft_size ≤ buffer_limit - size → size + graft_size ≤ buffer_limit

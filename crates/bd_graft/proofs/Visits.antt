@@ -1,5 +1,5 @@
 -- How many nodes a graft fetches and makes.
-use Rattle.std.proofs.Common.{◌≡◌, ℕ, ◌+◌, ◌-◌, ◌<◌, ◌≤◌, ◌^◌, min, Bool, true, false, ltb, List, length, refl, sym, ap, subst, ◌∙◌, Option, None, Some, inl, inr, arith, Result, Ok, Err, OnOk}
+use Rattle.std.proofs.Common.{◌≡◌, ℕ, ◌+◌, ◌-◌, ◌≤◌, min, Bool, true, false, ltb, List, length, refl, sym, ap, subst, ◌∙◌, Option, None, Some, inl, inr, arith, Result, Ok, Err, OnOk}
 use Rattle.std.specs.Prelude.{◌⊎◌, nat_lt, if◌then◌else◌, IfNone}
 use Rattle.std.proofs.lemmas.Bool.{le-ltb, cond-false}
 use Rattle.std.proofs.lemmas.List.{length-map}

@@ -1,5 +1,5 @@
 -- Why a graft does nothing, and what it adds.
-use Rattle.std.proofs.Common.{◌≡◌, ℕ, zero, suc, ◌+◌, ◌*◌, ◌-◌, ◌<◌, ◌≤◌, ◌^◌, max, List, [], ◌∷◌, ◌++◌, length, sym, ap, subst, ◌∙◌, Option, None, Some, inl, inr, arith, length-append, Bool, true, false, Result, Ok, Err, OnOk, OnErr}
+use Rattle.std.proofs.Common.{◌≡◌, ℕ, zero, suc, ◌+◌, ◌*◌, ◌-◌, ◌<◌, ◌≤◌, ◌^◌, max, List, [], ◌∷◌, ◌++◌, length, sym, ap, subst, ◌∙◌, Option, None, Some, inl, inr, arith, length-append, Bool, true, false, Result}
 use Rattle.std.specs.Prelude.{◌==◌, not}
 use Rattle.std.specs.Option.{option_to_list, SomeIff, is_some}
 use Rattle.bd_message.proofs.Finds.{not_both}
@@ -25,9 +25,7 @@ use Rattle.bd_message.specs.Messages.{size}
 use Rattle.bd_message.proofs.Causes.{cause_weaker}
 use Rattle.bd_message.specs.KeyMaps.{HasMapCause}
 use Rattle.bd_message.specs.declared.fault.MapFault.{MapFault}
-use Rattle.bd_message.specs.declared.fault.MapFault.TheVariants.{DeviceFault, Damaged, Worn, NoMemory}
 use Rattle.bd_node.specs.Tables.{Table, IsTable, IsNodeOf, one_if}
-use Rattle.bd_node.specs.Stores.{visited}
 use Rattle.bd_node.specs.Steps.{given_times, added_times, IsWornBy, IsWornByAdding, IsPut, IsChange, IsStep, extend_step}
 use Rattle.bd_node.proofs.Lookup.{each_weaker}
 use Rattle.bd_node.proofs.Sound.{one_if-same, one_if-other}

@@ -20,7 +20,7 @@ use Rattle.bd_node.specs.Steps.{IsCommitted, append_step, grown, HasGrown}
 use Rattle.bd_node.specs.Stores.{FitsRoot}
 use Rattle.bd_memnodes.specs.Seen.{Seen, table}
 use Rattle.bd_tree.specs.Trees.{TreeState}
-use Rattle.bd_graft.specs.Grafting.{IsGrown, IsGraftStep, AreOthersSame}
+use Rattle.bd_graft.specs.Grafting.{IsGrown, IsGraftStep, IsWalkOf, AreOthersSame}
 use Rattle.bd_volume.specs.Views.{View, HasAppended, HasGrafted, HasSent, IsReadyFor, IsMoved}
 use Rattle.bd_volume.proofs.Carried.{size_few}
 
@@ -76,16 +76,17 @@ messages_moved t c plan list sent old mid new is same h ready appended =
 pub can_graft : (s d : List ℕ) (keep : Bool) (t : Table) → IsReady (Graft s d keep) → t.size ≤ late_limit → CanGraft s d keep (buffer_limit - t.size)
 can_graft s d keep t ready low = record { source = ready.0; target = ready.1; outside = ready.2; fits = omega (arith, low) }
 
-pub grafted : {T E : Type 0} (r : Result T E) (old new : View) (s d : List ℕ) (keep : Bool) (before now : ℕ) → OnOk r (IsGraftStep old.nodes old.table s d keep new.nodes new.table)
-    → OnOk r (AreOthersSame old.nodes old.table new.nodes new.table) → OnOk r (IsGrown old.table new.table) → OnOk r (new.walk.visits ≡ now - before)
-    → OnOk r (new.walk.height ≡ old.table.level old.table.root + 1) → now ≤ before + (5 * (old.table.level old.table.root + 1) + 2) → OnOk r (HasGrafted s d keep old new)
-grafted (Err e) old new s d keep before now step others table visits height few = tt
-grafted (Ok x) old new s d keep before now step others table visits height few = record {
+pub grafted : {T E : Type 0} (r : Result T E) (old new : View) (s d : List ℕ) (keep : Bool) → OnOk r (IsGraftStep old.nodes old.table s d keep new.nodes new.table)
+    → OnOk r (AreOthersSame old.nodes old.table new.nodes new.table) → OnOk r (IsGrown old.table new.table) → OnOk r (IsWalkOf old.nodes old.table s new.table new.walk.visits)
+    → OnOk r (new.walk.height ≡ old.table.level old.table.root + 1) → OnOk r (new.walk.visits ≤ 5 * new.walk.height + 2) → OnOk r (HasGrafted s d keep old new)
+grafted (Err e) old new s d keep step others table visits height few = tt
+grafted (Ok x) old new s d keep step others table visits height few = record {
   step = step;
   others = others;
   table_is = table;
   height_is = height;
-  visits_are = omega (arith, visits, height, few);
+  visits_are = visits;
+  few_visits = few;
 }
 
 -- a graft that was planned is the one that the command comes to

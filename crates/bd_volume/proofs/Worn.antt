@@ -15,9 +15,9 @@ use Rattle.bd_message.specs.declared.message.Message.{Message}
 use Rattle.bd_node.specs.declared.node.Node.{Node}
 use Rattle.bd_node.specs.declared.node.Step.{Step}
 use Rattle.bd_resolve.specs.declared.following.Target.{Target}
-use Rattle.bd_node.specs.Steps.{IsWornBy}
+use Rattle.bd_node.specs.Steps.{IsWornBy, extend_step}
 use Rattle.bd_step.specs.Steps.{IsWornToFlush}
-use Rattle.bd_graft.specs.Grafting.{IsWornForGraft, IsWornByGraft, IsWornOver, OnWorn, step_under, step_over, graft_messages}
+use Rattle.bd_graft.specs.Grafting.{IsWornForGraft, IsWornByGraft, IsWornOver, OnWorn, step_over, graft_messages}
 use Rattle.bd_graft.specs.Grafting.IsWornOver.{root_kept, root_raised, level_raised}
 use Rattle.bd_graft.specs.Packing.{overlays_over, overlaid, packs}
 use Rattle.bd_dirs.specs.declared.plan.Plan.{Plan}
@@ -57,7 +57,7 @@ graft_fault (Err map.NoMemory) s d keep v h worn = tt
 -- a graft wears no count of commands, of epochs or of flushes
 never_by_graft : (t : Table) (root : Node) (s d : List ℕ) (keep : Bool) (end : Option Target) (groups : List (List Message)) (target : Target) (which : Counter) → ((step : Step) → IsWornBy t step which → ⊥) → (which ≡ Level → ⊥)
     → IsWornOver t root s d keep end groups target which → ⊥
-never_by_graft t root s d keep end groups target which unworn other (root_kept low w) = unworn (step_under t root (overlays_over t end groups) (graft_messages s d keep target)) w
+never_by_graft t root s d keep end groups target which unworn other (root_kept low w) = unworn (extend_step t root (overlays_over t end groups) (graft_messages s d keep target)) w
 never_by_graft t root s d keep end groups target which unworn other (root_raised low w) = unworn (step_over t (overlays_over t end groups) (graft_messages s d keep target)) w
 never_by_graft t root s d keep end groups target which unworn other (level_raised low is high) = other is
 

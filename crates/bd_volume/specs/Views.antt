@@ -22,7 +22,7 @@ use Rattle.bd_node.specs.Tables.{Table, IsSound, root_at}
 use Rattle.bd_node.specs.Steps.{IsCommitted, append_step, grown}
 use Rattle.bd_memnodes.specs.Seen.{Seen, nodes_of, table}
 use Rattle.bd_graft.specs.declared.grafting.Walk.{Walk}
-use Rattle.bd_graft.specs.Grafting.{IsGrown, IsGraftStep, AreOthersSame, IsWornByGraft}
+use Rattle.bd_graft.specs.Grafting.{IsGrown, IsGraftStep, IsWalkOf, AreOthersSame, IsWornByGraft}
 use Rattle.bd_step.specs.Steps.{IsFlushStep, IsWornToFlush}
 use Rattle.bd_tree.specs.Trees.{TreeState}
 
@@ -95,14 +95,15 @@ pub record HasAppended (list : List Message) (old new : View) : Type 0 where
   pub table_is : new.table ≡ grown old.table list
   pub walk_is : new.walk ≡ old.walk
 
--- this graft was made: in a tree of height h it visited at most 5h + 2 nodes, and each other kept
--- node is what it was and has what it had
+-- this graft was made, and each other kept node is what it was and has what it had: it visited the
+-- nodes of its way and those that it made, in a tree of height h at most 5h + 2
 pub record HasGrafted (s d : List ℕ) (keep : Bool) (old new : View) : Type 0 where
   pub step : IsGraftStep old.nodes old.table s d keep new.nodes new.table
   pub others : AreOthersSame old.nodes old.table new.nodes new.table
   pub table_is : IsGrown old.table new.table
   pub height_is : new.walk.height ≡ old.table.level old.table.root + 1
-  pub visits_are : new.walk.visits ≤ 5 * new.walk.height + 2
+  pub visits_are : IsWalkOf old.nodes old.table s new.table new.walk.visits
+  pub few_visits : new.walk.visits ≤ 5 * new.walk.height + 2
 
 -- what a command sends was sent
 abbrev pub HasSent : Sending → View → View → Type 0

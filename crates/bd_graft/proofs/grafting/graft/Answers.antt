@@ -1,4 +1,4 @@
-use Rattle.std.proofs.Common.{◌≡◌, ℕ, ◌+◌, ◌-◌, ◌≤◌, ap, subst, ◌∙◌, arith}
+use Rattle.std.proofs.Common.{◌≡◌, ◌+◌, ◌-◌, ◌≤◌, ap, subst, ◌∙◌, arith}
 use Rattle.bd_node.specs.Tables.{Table}
 use Rattle.bd_graft.specs.Grafting.{IsGrown}
 use Rattle.bd_graft.proofs.Visits.{few_fetched, risen}

@@ -1,4 +1,4 @@
-use Rattle.std.proofs.Common.{ap, sym, refl, ◌∙◌, subst, arith, inr, length, length-append, List, ℕ, ◌≤◌, ◌<◌, ◌+◌, ◌++◌, ◌∷◌, [], ◌≡◌, Option, None, Some}
+use Rattle.std.proofs.Common.{ap, sym, ◌∙◌, subst, arith, inr, length, length-append, List, ℕ, ◌≤◌, ◌<◌, ◌+◌, ◌++◌, ◌∷◌, [], ◌≡◌, Option, None, Some}
 use Rattle.bd_limits.specs.Limits.{key_limit}
 use Rattle.bd_keys.specs.Keys.{IsKey}
 use Rattle.bd_message.specs.Effect.{NodesAt, acts}
