@@ -1,5 +1,6 @@
 pub mod Entries
 pub mod Fresh
+pub mod Keeping
 pub mod Lending
 pub mod Opened
 pub mod Pagers
