@@ -1,6 +1,8 @@
 pub mod EntryLemmas
 pub mod FreshLemmas
+pub mod KeepLemmas
 pub mod NamingLemmas
+pub mod OpenedLemmas
 pub mod PagerLemmas
 pub mod ReadLemmas
 pub mod ReaderLemmas

@@ -1,6 +1,8 @@
 pub mod Entries
 pub mod Fresh
+pub mod Keeping
 pub mod Lending
+pub mod Opened
 pub mod Pagers
 pub mod Places
 pub mod Readers

@@ -6,7 +6,11 @@ ghost use Rattle.bd_slots.specs.Slots.{IsHeld};
 ghost use Rattle.bd_device.specs.Blocks.{Image};
 ghost use Rattle.bd_device.specs.Changes.{SameBut, IsInRange};
 ghost use Rattle.bd_device.specs.Commits.{block_at};
+ghost use Rattle.bd_pager.specs.Keeping.{KeepsSaved};
+ghost use Rattle.bd_pager.specs.Pagers.{Paged, is_known, IsReadOf};
 ghost use Rattle.bd_pager.specs.Slots.{slot_bytes, IsSpare};
+
+use bd_device::Device;
 
 /// A slot keeps its bytes where only blocks before the first slot have changed, and where only
 /// spare slots have, of which it is none; then each block before the first slot stays too.
@@ -18,4 +22,17 @@ pub fn slots_survive()
         → (slot : ℕ) → IsHeld spare slot → slot_bytes new slot ≡ slot_bytes old slot }
     ensures others { (spare : List Bool) (old new : Image) → SameBut (IsSpare spare) old new
         → (b : ℕ) → b < first_slot_block → block_at new b ≡ block_at old b }
+{}
+
+/// What reads of a pager leave, and what any call is to leave of its last checkpoint, goes on over
+/// several of them; reads leave no less, and what is known after them was known before.
+pub fn calls_go_on<D: Device>()
+    ensures none { (p : Paged D) → IsReadOf D.Device p p }
+    ensures both { (a b c : Paged D) → IsReadOf D.Device a b → IsReadOf D.Device b c
+        → IsReadOf D.Device a c }
+    ensures known { (a b : Paged D) → IsReadOf D.Device a b → is_known D.Device b
+        → is_known D.Device a }
+    ensures keep { (a b : Paged D) → IsReadOf D.Device a b → KeepsSaved D.Device a b }
+    ensures keeps_both { (a b c : Paged D) → KeepsSaved D.Device a b → KeepsSaved D.Device b c
+        → KeepsSaved D.Device a c }
 {}

@@ -3,13 +3,16 @@
 ghost use Rattle.std.specs.Prelude.{◌≡◌, ◌≤◌, [], Some, false, IsSome, IfOk, IfErr, slice_index};
 ghost use Rattle.std.specs.Borrow.{sem};
 ghost use Rattle.bd_message.specs.KeyMaps.{HasMapCause, NeverWorn};
+ghost use Rattle.bd_slots.specs.Layout.{IsTablePlace, image_blocks};
+ghost use Rattle.bd_device.specs.Device.{OnlyReads, IsImageCause};
 ghost use Rattle.bd_device.specs.declared.fault.ImageFault.TheVariants.{NoMemory};
 ghost use Rattle.bd_node.specs.New.{new_nodes, new_table};
 ghost use Rattle.bd_node.specs.Nodes.{buffer_size};
 ghost use Rattle.bd_node.specs.Stores.{visited, OnlyReadsBy};
-ghost use Rattle.bd_node.specs.Tables.{IsKept, IsNodeOf};
+ghost use Rattle.bd_node.specs.Tables.{IsKept, IsNodeOf, IsTable};
 ghost use Rattle.bd_pager.specs.Fresh.{assembled, IsUnsaved};
 ghost use Rattle.bd_pager.specs.Lending.{lends_device};
+ghost use Rattle.bd_pager.specs.Opened.{IsOpened, IsBadStart};
 ghost use Rattle.bd_pager.specs.Pagers.{table_of, nodes_of, spots_of, is_known, is_bad, IsPaged, IsReadOf};
 ghost use Rattle.bd_pager.specs.Places.{AreCached};
 
@@ -17,6 +20,7 @@ use crate::naming::names_lower;
 use crate::parts::Parts;
 use crate::reader::NodeReader;
 use bd_device::{Device, ImageFault};
+use bd_format::laws::images_are_decoded;
 use bd_message::MapFault;
 use bd_node::Node;
 use bd_slots::{SlotSet, slot_block};
@@ -79,6 +83,38 @@ impl<D: Device> Pager<D> {
                 fault: ImageFault::NoMemory,
                 device: dev,
             });
+        };
+        Ok(Pager::over(alloc, dev, parts))
+    }
+
+    /// The pager over the checkpoint of a device of so many slots whose table has the slots `at`.
+    /// It reads this table and the root, and keeps at most `room` nodes that it has read. Where it
+    /// fails, it returns the device. `DeviceFault` comes only where a call of the device failed,
+    /// which is the last one then. `Damaged` comes exactly where the slots `at` have no table, and
+    /// names the first block of the first of them, or where the root's slot has no node of its
+    /// level, and names that slot's first block.
+    pub fn open(
+        alloc: Global,
+        mut dev: D,
+        slots: u32,
+        at: Vec<u32>,
+        room: usize,
+    ) -> Result<Pager<D>, Refused<D>>
+        requires place { IsTablePlace slots at.items }
+        requires size { D.block_count dev ≡ image_blocks slots }
+        requires room { 1 ≤ room }
+        ensures opened { IfOk result (IsOpened (D.contents dev) slots at.items) }
+        ensures known { IsSome (D.contents dev) → IfOk result (is_known D.Device) }
+        ensures reads { IfOk result (λ pager. OnlyReads D.Device dev pager.dev) }
+        ensures faults { IfOk result (λ pager. D.fault_count pager.dev ≡ D.fault_count dev) }
+        ensures left { IfErr result (λ refused. OnlyReads D.Device dev refused.device) }
+        ensures cause { IfErr result (λ refused. IsImageCause D.Device dev refused.device
+            (IsBadStart (D.contents dev) slots at.items) refused.fault) }
+    {
+        images_are_decoded();
+        let parts = match Parts::read(alloc, &mut dev, slots, at, room) {
+            Ok(parts) => parts,
+            Err(fault) => return Err(Refused { fault, device: dev }),
         };
         Ok(Pager::over(alloc, dev, parts))
     }
@@ -146,6 +182,65 @@ impl<D: Device> Pager<D> {
             });
         }
         Ok(node)
+    }
+
+    /// The root's id.
+    pub fn root(&self) -> u64
+        ensures value { result ≡ (table_of self.now).root }
+        ensures table { IsTable (table_of self.now) }
+    {
+        self.root
+    }
+
+    /// The id that the next new node gets.
+    pub fn next_id(&self) -> u64
+        ensures value { result ≡ (table_of self.now).next }
+        ensures table { IsTable (table_of self.now) }
+    {
+        self.next
+    }
+
+    /// How often a node is named.
+    pub fn count(&self, id: u64) -> u64
+        requires { IsKept (table_of self.now) id }
+        ensures { result ≡ (table_of self.now).count id }
+    {
+        match self.reader.spots.get(&id) {
+            Some(spot) => spot.refs,
+            None => 0,
+        }
+    }
+
+    /// A node's level.
+    pub fn level(&self, id: u64) -> u32
+        requires { IsKept (table_of self.now) id }
+        ensures { result ≡ (table_of self.now).level id }
+    {
+        match self.reader.spots.get(&id) {
+            Some(spot) => spot.level,
+            None => 0,
+        }
+    }
+
+    /// The size in bytes of the messages that wait in the root.
+    pub fn root_size(&self) -> usize
+        ensures { result ≡ (table_of self.now).size }
+    {
+        self.size
+    }
+
+    /// How many nodes were fetched or made. It stops at a u64's last value.
+    pub fn visits(&self) -> u64
+        ensures { result ≡ self.now.visits }
+    {
+        self.visits
+    }
+
+    /// How often the device has failed. It never falls, and stays at a u64's last value.
+    pub fn faults(&self) -> u64
+        ensures { result ≡ D.fault_count self.now.dev }
+    {
+        self.reader.dev.faults()
     }
 
     /// The device, which is lent. Whatever is done with it, the pager then reads again what it read

@@ -1,16 +1,25 @@
 //! What pagers are made of.
 
-ghost use Rattle.std.specs.Prelude.{◌≡◌, ◌≤◌, IfOk};
+ghost use Rattle.std.specs.Prelude.{◌≡◌, ◌≤◌, ◌<◌, IfOk, IfSome, AllPairs, Contains};
+ghost use Rattle.bd_slots.specs.Layout.{IsTablePlace, image_blocks};
+ghost use Rattle.bd_device.specs.Device.{OnlyReads, HasImageCause};
 ghost use Rattle.bd_node.specs.New.{new_root};
-ghost use Rattle.bd_pager.specs.Fresh.{AreFreshParts};
+ghost use Rattle.bd_table.specs.Tables.{IsRoot};
+ghost use Rattle.bd_pager.specs.Fresh.{AreFreshParts, assembled};
+ghost use Rattle.bd_pager.specs.Opened.{AreOpened, IsOpened, IsBadStart};
+ghost use Rattle.bd_pager.specs.Places.{spots_in};
+ghost use Rattle.bd_pager.specs.Slots.{HasNode, IsOfLevel, IsBadSlot};
 
+use crate::entries::{root_entry, saved_spots, spare_beside};
 use crate::place::{Place, Spot};
+use crate::read_node;
 use bd_cache::NodeCache;
+use bd_device::{Device, ImageFault};
 use bd_keys::Bytes;
 use bd_limits::SLOT_SIZE;
 use bd_node::{Edge, Edges, Items, Messages, Node};
 use bd_slots::SlotSet;
-use bd_table::Table;
+use bd_table::{Table, TableEntry};
 use std::alloc::{AllocError, Global};
 use std::collections::HashMap;
 use std::rc::Rc;
@@ -60,6 +69,92 @@ impl Parts {
             buffer: Box::new(alloc, [0; SLOT_SIZE])?,
         })
     }
+
+    /// Those of a pager over the checkpoint whose table has the slots `at`, of so many. At most
+    /// `room` nodes that were read will be kept. `Damaged` comes exactly where those slots have no
+    /// table or the root's slot has no node of its level, and names the first block of the first
+    /// of them, or that of the root's.
+    #[tactic(auto, using(bd_device::proofs::Calls::calls))]
+    pub fn read<D: Device>(
+        alloc: Global,
+        dev: &mut D,
+        slots: u32,
+        at: Vec<u32>,
+        room: usize,
+    ) -> Result<Parts, ImageFault>
+        requires place { IsTablePlace slots at.items }
+        requires size { D.block_count dev.old ≡ image_blocks slots }
+        requires room { 1 ≤ room }
+        ensures parts { IfOk result (λ parts. IsOpened (D.contents dev.old) slots at.items
+            (assembled dev.new parts)) }
+        ensures reads { OnlyReads D.Device dev.old dev.new }
+        ensures cause { HasImageCause D.Device dev.old dev.new
+            (IsBadStart (D.contents dev.old) slots at.items) result }
+    {
+        let saved = bd_table::read(alloc, dev, slots, at.as_slice())?;
+        let entry = root_entry(saved.entries.as_slice(), saved.root);
+        let mut buffer = Box::new(alloc, [0; SLOT_SIZE])?;
+        let node = read_shared(alloc, dev, entry, &mut buffer)?;
+        let size = node.buffer_size();
+        let spots = opened_spots(alloc, &saved, entry, node)?;
+        let spare = spare_beside(alloc, slots, at.as_slice(), saved.entries.as_slice())?;
+        let cache = NodeCache::new(alloc, room)?;
+        Ok(Parts {
+            spots,
+            root: saved.root,
+            next: saved.next_id,
+            saved,
+            at,
+            spare,
+            size,
+            cache,
+            buffer,
+        })
+    }
+}
+
+// The node of an entry, read from its slot.
+#[tactic(auto, using(bd_device::proofs::Calls::calls))]
+fn read_shared<D: Device>(
+    alloc: Global,
+    dev: &mut D,
+    entry: TableEntry,
+    bytes: &mut [u8; SLOT_SIZE],
+) -> Result<Rc<Node>, ImageFault>
+    ensures held { IfSome (D.contents dev.old)
+        (λ image. IfOk result (λ node. HasNode image entry.slot entry.level node.value)) }
+    ensures node { IfOk result (λ node. IsOfLevel entry.level node.value) }
+    ensures reads { OnlyReads D.Device dev.old dev.new }
+    ensures cause { HasImageCause D.Device dev.old dev.new
+        (IsBadSlot (D.contents dev.old) entry.slot entry.level) result }
+{
+    let node = read_node(alloc, dev, entry.slot, entry.level, bytes)?;
+    Ok(Rc::new(alloc, node)?)
+}
+
+// The nodes of a table, each in its slot, and the root in memory too.
+fn opened_spots(
+    alloc: Global,
+    saved: &Table,
+    entry: TableEntry,
+    node: Rc<Node>,
+) -> Result<HashMap<u64, Spot>, AllocError>
+    requires rising { AllPairs (λ e o. e.id < o.id) saved.now.entries }
+    requires root { IsRoot saved.now.root entry }
+    requires among { Contains saved.now.entries entry }
+    ensures { IfOk result (λ spots. AreOpened saved.now entry node (spots_in spots)) }
+{
+    let mut spots = saved_spots(alloc, saved.entries.as_slice())?;
+    let root = Spot {
+        refs: entry.refs,
+        level: entry.level,
+        place: Place::Slot {
+            slot: entry.slot,
+            node: Some(node),
+        },
+    };
+    spots.insert(saved.root, root)?;
+    Ok(spots)
 }
 
 // A root of level 1 with one edge and no child.

@@ -1,0 +1,59 @@
+-- What reads and other calls of a pager leave, one after the other.
+use Rattle.std.proofs.Common.{◌<◌, IsTrue, Option, refl, sym, ap, subst, ◌∙◌, arith, inl}
+use Rattle.bd_device.specs.Blocks.{Image}
+use Rattle.bd_device.specs.Device.{OnlyReads}
+use Rattle.bd_device.specs.declared.device.Device.{Ghosts}
+use Rattle.bd_device.proofs.Calls.{reads_then}
+use Rattle.bd_node.specs.Tables.{IsKept}
+use Rattle.bd_pager.specs.Places.{Spots}
+use Rattle.bd_pager.specs.Pagers.{Paged, spots_of, table_of, IsKnownOver, is_known, IsReadOf}
+use Rattle.bd_pager.specs.Keeping.{KeepsSaved}
+
+module _ {D : Type 0} (g : Ghosts D) where
+  no_reads : (d : D) → OnlyReads g d d
+  no_reads d = record {
+    kept = refl;
+    count = refl;
+    write_faults = refl;
+    time = record { later = omega arith; keeps = λ t c le h. h; adds = λ t c le h. inl h };
+    same_name = λ name was. was;
+    same_loans = refl;
+  }
+
+  pub read_none : (p : Paged D) → IsReadOf g p p
+  read_none p = record { device = no_reads p.dev; rest = refl }
+
+  pub read_both : (a b c : Paged D) → IsReadOf g a b → IsReadOf g b c → IsReadOf g a c
+  read_both a b c p q = record {
+    device = reads_then p.device q.device;
+    rest = q.rest ∙ ap (λ (x : Paged D). let r : Paged D = record x { dev = c.dev; visits = c.visits; cache = c.cache; is_lent = c.is_lent } in r) p.rest;
+  }
+
+  pub read_known : (a b : Paged D) → IsReadOf g a b → is_known g b → is_known g a
+  read_known a b r known =
+      subst (λ (s : Spots). IsKnownOver (g.contents a.dev) s) (ap (λ (x : Paged D). spots_of x) r.rest)
+      (subst (λ (o : Option Image). IsKnownOver o (spots_of b)) r.device.kept known)
+
+  pub read_keeps : (a b : Paged D) → IsReadOf g a b → KeepsSaved g a b
+  read_keeps a b r = record {
+    device = r.device;
+    saved = ap (λ (x : Paged D). x.saved) r.rest;
+    at = ap (λ (x : Paged D). x.at) r.rest;
+    spare = ap (λ (x : Paged D). x.spare) r.rest;
+    touched = λ id low was kept. subst (λ (x : Paged D). IsTrue ((table_of x).touched id)) (sym r.rest) was;
+    next = omega (arith, ap (λ (x : Paged D). x.next) r.rest);
+    kept = λ id low kept. subst (λ (x : Paged D). IsKept (table_of x) id) r.rest kept;
+  }
+
+  pub keeps_both : (a b c : Paged D) → KeepsSaved g a b → KeepsSaved g b c → KeepsSaved g a c
+  keeps_both a b c p q = record {
+    device = reads_then p.device q.device;
+    saved = q.saved ∙ p.saved;
+    at = q.at ∙ p.at;
+    spare = q.spare ∙ p.spare;
+    touched = λ id low was kept.
+        let later : id < b.next = omega (arith, low, p.next) in
+        q.touched id later (p.touched id low was (q.kept id later kept)) kept;
+    next = omega (arith, p.next, q.next);
+    kept = λ id low kept. p.kept id low (q.kept id (omega (arith, low, p.next)) kept);
+  }

@@ -1,0 +1,18 @@
+-- What calls of a pager leave of its last checkpoint.
+use Rattle.std.specs.Prelude.{◌≡◌, ◌<◌, ◌≤◌, ℕ, IsTrue}
+use Rattle.bd_device.specs.Device.{OnlyReads}
+use Rattle.bd_device.specs.declared.device.Device.{Ghosts}
+use Rattle.bd_node.specs.Tables.{IsKept}
+use Rattle.bd_pager.specs.Pagers.{Paged, table_of}
+
+-- nothing is written, and the checkpoint stays; what was touched stays so while it is kept, and an
+-- id that is gone never comes back
+pub record KeepsSaved {D : Type 0} (g : Ghosts D) (old new : Paged D) : Type 0 where
+  pub device : OnlyReads g old.dev new.dev
+  pub saved : new.saved ≡ old.saved
+  pub at : new.at ≡ old.at
+  pub spare : new.spare ≡ old.spare
+  pub touched : (id : ℕ) → id < old.next → IsTrue ((table_of old).touched id)
+      → IsKept (table_of new) id → IsTrue ((table_of new).touched id)
+  pub next : old.next ≤ new.next
+  pub kept : (id : ℕ) → id < old.next → IsKept (table_of new) id → IsKept (table_of old) id
