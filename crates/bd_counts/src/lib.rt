@@ -1,5 +1,5 @@
 //! What a step makes of the counts of nodes, found before anything is changed.
-//! The layers above use the contracts of `recount` and `added`, and `Counted`, which they read from.
+//! The layers above use the contracts of `recount` and `added`, which read from a `Counted`.
 #![tactic(auto)]
 
 mod counted;
