@@ -4,3 +4,4 @@ pub mod Releasing
 pub mod Settling
 pub mod Recounting
 pub mod Loops
+pub mod Worn

@@ -1,7 +1,9 @@
 -- The counts after a step.
-use Rattle.std.specs.Prelude.{◌≡◌, ℕ, ◌+◌, ◌≤◌, ◌==◌, if◌then◌else◌, nat_eq, List, length, None, Some}
+use Rattle.std.specs.Prelude.{◌≡◌, ℕ, ◌+◌, ◌^◌, ◌≤◌, ◌==◌, if◌then◌else◌, nat_eq, List, length, None, Some}
 use Rattle.std.specs.Option.{unwrap_or}
 use Rattle.std.specs.HashMap.{HashMap, get}
+use Rattle.bd_message.specs.declared.fault.Counter.{Counter}
+use Rattle.bd_message.specs.declared.fault.Counter.TheVariants.{Count, NextId, Level, Refs, Epoch, Flushes}
 use Rattle.bd_node.specs.declared.node.Node.{Node}
 use Rattle.bd_node.specs.declared.node.Step.{Step}
 use Rattle.bd_node.specs.Nodes.{buffer_size}
@@ -14,6 +16,15 @@ use Rattle.bd_counts.specs.Releasing.{IsReleasing}
 -- the counts of a table, and these where it has none
 abbrev pub overlaid : {S : Type 0} → (ℕ → ℕ) → HashMap ℕ ℕ S → ℕ → ℕ
 overlaid counts table c = unwrap_or (get nat_eq table c) (counts c)
+
+-- a count has to pass its last value for these names
+abbrev pub IsWornByNames : (ℕ → ℕ) → List ℕ → Counter → Type 0
+IsWornByNames counts names Refs = (id : ℕ) × (2 ^ 64 ≤ counts id + times_among names id)
+IsWornByNames counts names NextId = ⊥
+IsWornByNames counts names Count = ⊥
+IsWornByNames counts names Level = ⊥
+IsWornByNames counts names Epoch = ⊥
+IsWornByNames counts names Flushes = ⊥
 
 -- the nodes whose count isn't 0
 abbrev pub counted : (ℕ → ℕ) → Nodes → Nodes

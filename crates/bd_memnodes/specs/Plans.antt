@@ -1,8 +1,5 @@
 -- Steps in memory that is taken.
-use Rattle.std.specs.Prelude.{ℕ, ◌≤◌, ◌^◌, List, map, ⊤}
-use Rattle.bd_message.specs.declared.fault.Counter.TheVariants.{Count, NextId, Level, Refs, Epoch, Flushes}
-use Rattle.bd_message.specs.declared.fault.MapFault.{MapFault}
-use Rattle.bd_message.specs.declared.fault.MapFault.TheVariants.{DeviceFault, Damaged, Worn, NoMemory}
+use Rattle.std.specs.Prelude.{ℕ, List, map}
 use Rattle.bd_node.specs.declared.node.Node.{Node}
 use Rattle.bd_node.specs.declared.node.Change.{Change}
 use Rattle.bd_node.specs.declared.node.Step.{Step}
@@ -24,15 +21,3 @@ step_of plan = record {
 -- the made nodes
 abbrev pub added_of : Addition → List Node
 added_of addition = map (λ shared. shared.value) addition.made.items
-
--- why counts can't rise to these
-abbrev pub IsCheckFault : (ℕ → ℕ) → MapFault → Type 0
-IsCheckFault raised DeviceFault = ⊥
-IsCheckFault raised (Damaged block) = ⊥
-IsCheckFault raised (Worn Refs) = (c : ℕ) × (2 ^ 64 ≤ raised c)
-IsCheckFault raised (Worn Count) = ⊥
-IsCheckFault raised (Worn NextId) = ⊥
-IsCheckFault raised (Worn Level) = ⊥
-IsCheckFault raised (Worn Epoch) = ⊥
-IsCheckFault raised (Worn Flushes) = ⊥
-IsCheckFault raised NoMemory = ⊤

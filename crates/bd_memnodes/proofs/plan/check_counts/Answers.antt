@@ -1,4 +1,4 @@
-use Rattle.std.proofs.Common.{ℕ, arith, ◌≡◌, ◌+◌, subst, Some}
+use Rattle.std.proofs.Common.{ℕ, arith, refl, ◌≡◌, ◌+◌, subst, Some}
 use Rattle.std.specs.Prelude.{slice_index}
 use Rattle.std.specs.HashMap.{Updates}
 use Rattle.std.specs.Prelude.{nat_eq}
@@ -18,10 +18,8 @@ pub returns-then-count-clause-cause : goal.returns-then-count-clause-cause
 returns-then-count-clause-cause c =
     let i : ℕ = c.loop-name.name-index in
     let full : overlaid (count_in c.args.counts.now) c.loop-name.raised (slice_index c.args.names.now i) + 1 ≡ 18446744073709551616 =
-    omega (arith, c.raised_count-count.ensures) in (
-      slice_index c.args.names.now i,
-      worn_at (count_in c.args.counts.now) (overlaid (count_in c.args.counts.now) c.loop-name.raised) c.args.names.now i c.loop-name-test.true full c.loop-name.invariant.raised,
-    )
+    omega (arith, c.raised_count-count.ensures) in
+    record { later = omega arith; kept = tt; stays = refl; failed = (slice_index c.args.names.now i, worn_at (count_in c.args.counts.now) (overlaid (count_in c.args.counts.now) c.loop-name.raised) c.args.names.now i c.loop-name-test.true full c.loop-name.invariant.raised) }
 
 pub loop-name-preserved : goal.loop-name-preserved
 loop-name-preserved c =
