@@ -116,7 +116,7 @@ nodes_held image s slot fresh = record {
     | inl same ↦ subst (λ (i : ℕ). IsNodeAt image (entry_of (fresh_table slot).entries i) (fresh_nodes i)) (sym same) fresh.root
     | inr other ↦
         subst (λ (o : Option TableEntry). IsNodeAt image o (fresh_nodes id)) (sym (other_entry slot id other))
-            (subst (λ (o : Option Node). IsNodeAt image None o) (sym (other_node id other)) tt)
+        (subst (λ (o : Option Node). IsNodeAt image None o) (sym (other_node id other)) tt)
   ];
 }
 
