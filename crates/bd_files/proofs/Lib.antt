@@ -4,3 +4,4 @@ pub mod Writes
 pub mod Pieces
 pub mod Truncations
 pub mod Sent
+pub mod Root

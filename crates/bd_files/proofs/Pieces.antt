@@ -14,7 +14,6 @@ use Rattle.bd_model.specs.Tree.{Entry, FileWith, Tree}
 use Rattle.bd_model.specs.Step.{file_bytes, file_refusal, step, stepped}
 use Rattle.bd_command.specs.declared.Command.TheVariants.{Read}
 use Rattle.bd_command.specs.declared.reply.Reply.TheVariants.{Bytes}
-use Rattle.bd_message.specs.declared.fault.Counter.{Counter}
 use Rattle.bd_message.specs.KeyMaps.{At}
 use Rattle.bd_message.specs.Reads.{IsLeft}
 use Rattle.bd_message.specs.declared.map.KeyMap.{Ghosts}

@@ -1,3 +1,4 @@
 pub mod Files
 pub mod Sends
 pub mod FilePlans
+pub mod Roots

@@ -4,3 +4,4 @@ pub mod Ones
 pub mod Undamaged
 pub mod Syncs
 pub mod Checkpoints
+pub mod Fresh

@@ -5,3 +5,4 @@ pub mod Standing
 pub mod Used
 pub mod Synced
 pub mod Damage
+pub mod Fresh

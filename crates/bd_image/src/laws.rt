@@ -3,7 +3,7 @@
 
 ghost use Rattle.std.specs.Prelude.{◌≡◌, ◌+◌, ◌⊎◌, ℕ, List, Some, Contains};
 ghost use Rattle.bd_limits.specs.Limits.{log_blocks};
-ghost use Rattle.bd_model.specs.Tree.{Tree};
+ghost use Rattle.bd_model.specs.Tree.{Tree, root_only};
 ghost use Rattle.bd_device.specs.Blocks.{Image};
 ghost use Rattle.bd_device.specs.Changes.{SameBut, IsInRange};
 ghost use Rattle.bd_node.specs.Meaning.{Nodes};
@@ -21,6 +21,7 @@ ghost use Rattle.bd_image.specs.ImageTree.{HaveTree, HasTree, ImageStandsFor};
 ghost use Rattle.bd_image.specs.Used.{used_slots, IsOfSlots, SameUsed};
 ghost use Rattle.bd_image.specs.Synced.{IsLogOf, HasTreeAfter};
 ghost use Rattle.bd_image.specs.Damage.{IsBadAt};
+ghost use Rattle.bd_image.specs.Fresh.{IsFresh};
 
 use bd_command::laws::log_records_are_prefix_free;
 use bd_format::laws::images_are_of_one_node;
@@ -81,6 +82,12 @@ pub fn syncs_lead_on()
         → SameBut (IsInRange log.first (log.first + log_blocks)) old new → HasAllOrNone log old new
         → HasTree s t log.place tree count old → HasTree s t log.place tree count new
         ⊎ HasTreeAfter log.waiting s t (after_sync log).place tree count new }
+{}
+
+/// The image that a format writes stands for the tree of `/` alone, and for a count of 0.
+pub fn fresh_images_have_the_root()
+    ensures { (image : Image) (s : Super) (slot : ℕ) → IsFresh image s slot
+        → ImageStandsFor root_only 0 image }
 {}
 
 /// An image that stands for a tree has no bad block.

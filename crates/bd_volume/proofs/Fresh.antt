@@ -3,6 +3,7 @@ use Rattle.std.proofs.Common.{◌≡◌, ℕ, List, Bool, true, false, arith, in
 use Rattle.std.specs.Prelude.{◌==◌, if◌then◌else◌}
 use Rattle.std.proofs.lemmas.Bool.{cases_eq, cond-false, ne_eqb}
 use Rattle.bd_message.specs.declared.message.Message.{Message}
+use Rattle.bd_files.specs.Roots.{root_messages}
 use Rattle.bd_node.specs.declared.node.Node.{Node}
 use Rattle.bd_node.specs.Nodes.{appended, is_key}
 use Rattle.bd_node.specs.Meaning.{Nodes, at}
@@ -11,7 +12,7 @@ use Rattle.bd_node.specs.Tables.{Table, IsKept, IsTable, root_at}
 use Rattle.bd_node.specs.Steps.{IsCommitted, append_step, grown}
 use Rattle.bd_memnodes.specs.Seen.{Seen, nodes_of, table}
 use Rattle.bd_tree.specs.Trees.{TreeState}
-use Rattle.bd_volume.specs.Views.{view_in, root_messages, fresh_view}
+use Rattle.bd_volume.specs.Views.{view_in, fresh_view}
 use Rattle.bd_volume.proofs.Sent.{view_is}
 use Rattle.bd_node.proofs.Meanings.{at-meets}
 use Rattle.bd_node.proofs.Sound.{sound-levelled}

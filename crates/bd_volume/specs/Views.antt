@@ -4,16 +4,13 @@ use Rattle.bd_limits.specs.Limits.{soft_limit, late_limit, flush_limit}
 use Rattle.bd_command.specs.Command.{writes}
 use Rattle.bd_command.specs.declared.Command.{Command}
 use Rattle.bd_model.specs.Tree.{Tree}
-use Rattle.bd_records.specs.declared.Record.TheVariants.{Dir}
-use Rattle.bd_records.specs.Records.{record_bytes}
 use Rattle.bd_message.specs.declared.fault.Counter.{Counter}
 use Rattle.bd_message.specs.declared.fault.Counter.TheVariants.{Count, NextId, Level, Refs, Epoch, Flushes}
 use Rattle.bd_message.specs.declared.message.Message.{Message}
-use Rattle.bd_message.specs.declared.message.Message.TheVariants.{Put}
 use Rattle.bd_message.specs.KeyMaps.{At}
-use Rattle.bd_represent.specs.EntryKeys.{record_key}
 use Rattle.bd_dirs.specs.Kinds.{Kind, Reads, Sends, SendsLate, Grafts, kind_of}
 use Rattle.bd_dirs.specs.Sendings.{Sending, Nothing, Batch, Move, sending}
+use Rattle.bd_files.specs.Roots.{root_messages}
 use Rattle.bd_node.specs.declared.node.Node.{Node}
 use Rattle.bd_node.specs.Nodes.{appended}
 use Rattle.bd_node.specs.Meaning.{Nodes}
@@ -40,10 +37,6 @@ view_in tree =
 -- what stands at each key
 abbrev pub keys_in : TreeState Seen → At
 keys_in tree = root_at (nodes_of tree.store) (table tree.store)
-
--- the messages that make `/`
-abbrev pub root_messages : List Message
-root_messages = Put (record_key []) (record_bytes (Dir 0)) ∷ []
 
 -- the view at the start: node 1 alone, the root, in which the record of `/` waits; nothing was
 -- grafted

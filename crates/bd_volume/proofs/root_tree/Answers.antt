@@ -6,10 +6,12 @@ use Rattle.bd_message.specs.declared.message.Message.{Message}
 use Rattle.bd_message.specs.declared.message.Message.TheVariants.{Put}
 use Rattle.bd_represent.specs.EntryKeys.{record_key}
 use Rattle.bd_memnodes.specs.Seen.{nodes_of, table}
+use Rattle.bd_files.specs.Roots.{root_messages}
 use Rattle.bd_node.specs.New.{new_nodes, new_table}
-use Rattle.bd_volume.specs.Views.{keys_in, root_messages}
+use Rattle.bd_volume.specs.Views.{keys_in}
 use Rattle.bd_volume.proofs.Fresh.{nothing_at, fresh_made}
-use Rattle.bd_volume.proofs.Root.{root_made, root_fits}
+use Rattle.bd_files.proofs.Root.{root_made}
+use Rattle.bd_volume.proofs.Root.{root_fits}
 use Rattle.bd_volume.proofs.root_tree.Goals as goal
 
 pub apply-requires : goal.apply-requires
