@@ -1,21 +1,11 @@
 -- What is kept in other memory is the same.
-use Rattle.std.proofs.Common.{◌≡◌, ℕ, ◌+◌, List, refl, sym, subst, ◌∙◌, arith}
-use Rattle.bd_message.specs.declared.fault.Counter.TheVariants.{Count, NextId, Level, Refs, Epoch, Flushes}
-use Rattle.bd_message.specs.declared.fault.MapFault.{MapFault}
-use Rattle.bd_message.specs.declared.fault.MapFault.TheVariants.{DeviceFault, Damaged, Worn, NoMemory}
-use Rattle.bd_message.specs.KeyMaps.{IsCause, StaysUnlessDevice}
-use Rattle.bd_message.specs.declared.message.Message.{Message}
-use Rattle.bd_node.specs.declared.node.Node.{Node}
-use Rattle.bd_node.specs.declared.node.Step.{Step}
+use Rattle.std.proofs.Common.{◌≡◌, ℕ, sym, subst, ◌∙◌}
 use Rattle.bd_node.specs.Meaning.{Nodes}
 use Rattle.bd_node.specs.Tables.{Table, IsSound}
-use Rattle.bd_node.specs.Steps.{IsWornBy, IsWornByAdding}
 use Rattle.bd_memnodes.specs.declared.kept.Kept.{Kept}
-use Rattle.bd_counts.specs.Naming.{times_among, step_names, added_names}
 use Rattle.bd_memnodes.specs.Maps.{nodes_in, count_in}
 use Rattle.bd_memnodes.specs.Stored.{table_of, table_in, IsWhole}
 use Rattle.bd_memnodes.specs.Carried.{SameKept}
-use Rattle.bd_counts.proofs.Names.{step_names_times, added_names_times}
 
 pub same_nodes : (old new : Kept) → SameKept old new → nodes_in new.nodes ≡ nodes_in old.nodes
 same_nodes old new h = λ i id. h.nodes id i
