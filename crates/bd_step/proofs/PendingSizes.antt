@@ -1,16 +1,12 @@
 -- How many bytes are pending, message by message and edge by edge.
-use Rattle.std.proofs.Common.{◌≡◌, ℕ, ◌+◌, ◌<◌, ◌≤◌, ◌==◌, true, List, [], ◌∷◌, length, drop, get_or, refl, sym, ap, subst, ◌∙◌, Option, arith, inl, inr, add-one}
+use Rattle.std.proofs.Common.{◌≡◌, ℕ, ◌+◌, ◌<◌, ◌≤◌, List, [], ◌∷◌, length, drop, get_or, refl, sym, ap, subst, ◌∙◌, Option, arith, inl, inr}
 use Rattle.std.specs.List.{sum_by}
-use Rattle.std.proofs.lemmas.List.{drop_more, nil_from_length}
-use Rattle.std.proofs.lemmas.Bool.{eqb-true}
+use Rattle.std.proofs.lemmas.List.{drop_more}
 use Rattle.std.proofs.lemmas.List.Sums.{sum_by-cons}
 use Rattle.bd_message.specs.declared.message.Message.{Message}
 use Rattle.bd_message.specs.Messages.{size}
 use Rattle.bd_node.specs.declared.node.Edge.{Edge}
-use Rattle.bd_node.specs.Shape.{end_before}
-use Rattle.bd_inner.proofs.ClippedEdges.{others_of, parted}
-use Rattle.bd_node.proofs.Lookup.{each_weaker}
-use Rattle.bd_step.specs.Filling.{IsWaiting, IsPendingSize, ArePendingSizes, IsFullest}
+use Rattle.bd_step.specs.Filling.{IsWaiting, IsPendingSize}
 
 -- ---- the messages before a place
 
@@ -46,63 +42,3 @@ pub so_far_all : (e : Edge) (hi : Option (List ℕ)) (buffer : List Message) (pl
 so_far_all e hi buffer place bytes h end =
     let none : IsPendingSize e hi place (drop place buffer) 0 = subst (λ (ms : List Message). IsPendingSize e hi place ms 0) (sym end) refl in
     subst (λ (n : ℕ). IsPendingSize e hi 0 buffer n) (let z : bytes + 0 ≡ bytes = omega arith in z) (h.rest 0 none)
-
--- ---- the edges, the first one and then the others
-
-pub fullest_one : (e : Edge) (buffer : List Message) (n : ℕ) (rest : List Edge) → IsPendingSize e (end_before rest) 0 buffer n → rest ≡ [] → IsFullest (e ∷ rest) buffer 0 n
-fullest_one e buffer n rest h none = record {
-  sizes = n ∷ [];
-  each = subst (λ (es : List Edge). ArePendingSizes buffer (e ∷ es) (n ∷ [])) (sym none) (subst (λ (es : List Edge). IsPendingSize e (end_before es) 0 buffer n) none h, refl);
-  greatest = record { there = refl; most = (omega arith, tt); first = tt };
-}
-
-pub fullest_here : (e : Edge) (rest : List Edge) (buffer : List Message) (n place bytes : ℕ) → IsPendingSize e (end_before rest) 0 buffer n → IsFullest rest buffer place bytes → bytes ≤ n → IsFullest (e ∷ rest) buffer 0 n
-fullest_here e rest buffer n place bytes h other le = record {
-  sizes = n ∷ other.sizes;
-  each = (h, other.each);
-  greatest = record {
-    there = refl;
-    most = (omega arith, each_weaker (λ (m : ℕ). m ≤ bytes) (λ (m : ℕ). m ≤ n) (λ m low. omega arith) other.sizes other.greatest.most);
-    first = tt;
-  };
-}
-
-pub fullest_later : (e : Edge) (rest : List Edge) (buffer : List Message) (n place bytes : ℕ) → IsPendingSize e (end_before rest) 0 buffer n → IsFullest rest buffer place bytes → n < bytes → IsFullest (e ∷ rest) buffer (place + 1) bytes
-fullest_later e rest buffer n place bytes h other lt =
-    subst (λ (i : ℕ). IsFullest (e ∷ rest) buffer i bytes) (sym (add-one place))
-    (record {
-      sizes = n ∷ other.sizes;
-      each = (h, other.each);
-      greatest = record {
-        there = other.greatest.there;
-        most = (omega arith, other.greatest.most);
-        first = (lt, other.greatest.first);
-      };
-    })
-
--- ---- the same of a slice's first element and the others
-
--- the first edge of a slice, and how many bytes are pending for it
-pub record IsFirst (edges : List Edge) (buffer : List Message) (e : Edge) (hi : Option (List ℕ)) (n : ℕ) : Type 0 where
-  pub some : 1 ≤ length edges
-  pub first : e ≡ get_or edges 0 e
-  pub end : hi ≡ end_before (others_of edges)
-  pub bytes : IsPendingSize e hi 0 buffer n
-
-of_first : (edges : List Edge) (buffer : List Message) (e : Edge) (hi : Option (List ℕ)) (n : ℕ) → IsFirst edges buffer e hi n → IsPendingSize e (end_before (others_of edges)) 0 buffer n
-of_first edges buffer e hi n h = subst (λ (o : Option (List ℕ)). IsPendingSize e o 0 buffer n) h.end h.bytes
-
-pub only_first : (edges : List Edge) (buffer : List Message) (e : Edge) (hi : Option (List ℕ)) (n : ℕ) → IsFirst edges buffer e hi n → (length (others_of edges) == 0) ≡ true → IsFullest edges buffer 0 n
-only_first edges buffer e hi n h none =
-    subst (λ (es : List Edge). IsFullest es buffer 0 n) (sym (parted edges e h.some h.first))
-    (fullest_one e buffer n (others_of edges) (of_first edges buffer e hi n h) (nil_from_length (others_of edges) (eqb-true (length (others_of edges)) 0 none)))
-
-pub first_fullest : (edges : List Edge) (buffer : List Message) (e : Edge) (hi : Option (List ℕ)) (n place bytes : ℕ) → IsFirst edges buffer e hi n → IsFullest (others_of edges) buffer place bytes → bytes ≤ n → IsFullest edges buffer 0 n
-first_fullest edges buffer e hi n place bytes h other le =
-    subst (λ (es : List Edge). IsFullest es buffer 0 n) (sym (parted edges e h.some h.first))
-    (fullest_here e (others_of edges) buffer n place bytes (of_first edges buffer e hi n h) other le)
-
-pub later_fullest : (edges : List Edge) (buffer : List Message) (e : Edge) (hi : Option (List ℕ)) (n place bytes : ℕ) → IsFirst edges buffer e hi n → IsFullest (others_of edges) buffer place bytes → n < bytes → IsFullest edges buffer (place + 1) bytes
-later_fullest edges buffer e hi n place bytes h other lt =
-    subst (λ (es : List Edge). IsFullest es buffer (place + 1) bytes) (sym (parted edges e h.some h.first))
-    (fullest_later e (others_of edges) buffer n place bytes (of_first edges buffer e hi n h) other lt)
