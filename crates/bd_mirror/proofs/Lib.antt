@@ -1,1 +1,4 @@
+pub mod Attaching
+pub mod Copies
+pub mod Joined
 pub mod Marks

@@ -6,7 +6,7 @@ use Rattle.bd_device.specs.Device.{left_now}
 use Rattle.bd_device.specs.Moments.{IsOnly}
 use Rattle.bd_device.specs.declared.device.Device.{Ghosts}
 use Rattle.bd_mirror.specs.Halves.{halves_of, with_halves, uses_first, uses_second, blocks_in}
-use Rattle.bd_mirror.specs.Contents.{shown_by, IsMarked}
+use Rattle.bd_mirror.specs.Contents.{shown_by, IsMarked, LeavesShown}
 use Rattle.bd_mirror.specs.declared.counts.Counts.{Counts}
 use Rattle.bd_mirror.specs.declared.halves.Halves.{Halves}
 use Rattle.bd_mirror.specs.declared.halves.Attached.{Attached}
@@ -25,6 +25,27 @@ shown_now a b m = shown_by m.attached (a.block_count m.first) (b.block_count m.s
 abbrev pub IsMirror : {A B : Type 0} → Ghosts A → Ghosts B → Mirror A B → Type 0
 IsMirror a b m = IsMarked m.attached (a.block_count m.first) (b.block_count m.second)
     (a.contents m.first) (b.contents m.second)
+
+-- each pair of images that a crash may leave of halves with marks gives what the mirror shows,
+-- whichever is named first
+abbrev pub LeavesWhatItShows : {A B : Type 0} → Ghosts A → Ghosts B → Mirror A B → Type 0
+LeavesWhatItShows a b m = LeavesShown m.attached (a.block_count m.first) (b.block_count m.second)
+    (a.contents m.first) (b.contents m.second) (left_now a m.first) (left_now b m.second)
+
+-- the mirror with this attached
+abbrev pub attached_as : {A B : Type 0} → Attached → Mirror A B → Mirror A B
+attached_as at m = record m { attached = at }
+
+-- what it shows, where its halves hold these images
+abbrev pub shown_of : {A B : Type 0} → Ghosts A → Ghosts B → Mirror A B → Option Image
+    → Option Image → Option Image
+shown_of a b m first second =
+    shown_by m.attached (a.block_count m.first) (b.block_count m.second) first second
+
+-- what is attached so is a mirror, also after a crash
+pub record IsMade {A B : Type 0} (a : Ghosts A) (b : Ghosts B) (m : Mirror A B) : Type 0 where
+  pub marked : IsMirror a b m
+  pub left : LeavesWhatItShows a b m
 
 -- the halves in use
 abbrev pub in_use : {A B : Type 0} → Mirror A B → Halves

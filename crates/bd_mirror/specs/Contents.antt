@@ -1,5 +1,5 @@
 -- What two halves show together: the pick of their images by their marks.
-use Rattle.std.specs.Prelude.{◌≡◌, ⊤, ℕ, ◌-◌, ◌<◌, ◌&&◌, ◌==◌, min, Bool, true, false, not, if◌then◌else◌, Option, None, Some, take, slice_index}
+use Rattle.std.specs.Prelude.{◌≡◌, ⊤, ℕ, ◌-◌, ◌<◌, ◌&&◌, ◌==◌, min, Bool, true, false, not, if◌then◌else◌, Option, None, Some, IfSome, take, slice_index}
 use Rattle.std.specs.Option.{option_map}
 use Rattle.bd_device.specs.Blocks.{Image}
 use Rattle.bd_device.specs.Commits.{block_at}
@@ -24,6 +24,11 @@ picked size first_mark second_mark (Some first) (Some second) =
     Some (pick size first_mark second_mark first second)
 picked size first_mark second_mark _ _ = None
 
+-- the first blocks of both are the same, where they are known
+abbrev pub IsCopy : ℕ → Option Image → Option Image → Type 0
+IsCopy count (Some source) (Some copy) = take count copy ≡ take count source
+IsCopy count _ _ = ⊤
+
 -- what a mirror shows of halves with so many blocks that hold these images
 abbrev pub shown_by : Attached → ℕ → ℕ → Option Image → Option Image → Option Image
 shown_by Nothing first_count second_count first second = None
@@ -33,6 +38,22 @@ shown_by Member first_count second_count first second =
 shown_by (Pair halves) first_count second_count first second =
     picked (min first_count second_count - 1) (first_count - 1) (second_count - 1) first second
 shown_by (Apart halves) first_count second_count first second = None
+
+-- each pair of these images gives this one, by the pick in either order of the halves
+abbrev pub PicksAre : ℕ → ℕ → ℕ → (Image → Type 0) → (Image → Type 0) → Image → Type 0
+PicksAre size first_mark second_mark first second image =
+    (x y : Image) → first x → second y
+    → (pick size first_mark second_mark x y ≡ image)
+    × (pick size second_mark first_mark y x ≡ image)
+
+-- so each pair of images that a crash may leave of two halves with marks gives what is shown
+abbrev pub LeavesShown : Attached → ℕ → ℕ → Option Image → Option Image → (Image → Type 0)
+    → (Image → Type 0) → Type 0
+LeavesShown (Pair halves) first_count second_count first second first_left second_left =
+    IfSome (shown_by (Pair halves) first_count second_count first second)
+    (PicksAre (min first_count second_count - 1) (first_count - 1) (second_count - 1)
+    first_left second_left)
+LeavesShown _ first_count second_count first second first_left second_left = ⊤
 
 -- the marks say which halves are in use, and two in use have the same first blocks
 abbrev pub AreMarked : Halves → ℕ → ℕ → ℕ → Option Image → Option Image → Type 0

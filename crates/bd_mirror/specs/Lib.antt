@@ -1,3 +1,5 @@
 pub mod Calls
 pub mod Contents
+pub mod Counts
 pub mod Halves
+pub mod Names

@@ -1,6 +1,7 @@
-ghost use Rattle.std.specs.Prelude.{◌≡◌, ◌+◌, ◌^◌, ◌||◌, false, not, nat_le, is_err};
+ghost use Rattle.std.specs.Prelude.{◌≡◌, ◌+◌, ◌^◌, ◌||◌, not, nat_le, is_err};
 ghost use Rattle.bd_io.specs.Cause.{HasCause, IsCounted};
 ghost use Rattle.bd_device.specs.Calls.{faults_after};
+ghost use Rattle.bd_mirror.specs.Counts.{no_calls};
 
 use bd_io::Failed;
 
@@ -17,12 +18,7 @@ pub struct Counts {
 impl Counts {
     /// No call was made yet.
     pub fn new() -> Counts
-        ensures { result ≡ record {
-          calls = 0;
-          faults = 0;
-          write_faults = 0;
-          last_failed = false;
-        } }
+        ensures { result ≡ no_calls }
     {
         Counts {
             calls: 0,

@@ -1,18 +1,20 @@
-ghost use Rattle.std.specs.Prelude.{◌≡◌, ◌<◌, ◌≤◌, ◌+◌, ◌-◌, ◌^◌, if◌then◌else◌, ◌⊎◌, true, false, IsTrue, None, Some, IfSome, IfOk, OnOk, OnErr, is_ok, is_err, slice_get};
+ghost use Rattle.std.specs.Prelude.{◌≡◌, ◌<◌, ◌≤◌, ◌+◌, ◌-◌, ◌^◌, if◌then◌else◌, ◌⊎◌, true, false, IsTrue, None, Some, IfSome, IfNone, IfOk, OnOk, OnErr, is_ok, is_err, slice_get};
 ghost use Rattle.bd_io.specs.Cause.{HasCause, IsCounted, Rose};
 ghost use Rattle.bd_device.specs.Calls.{faults_after};
 ghost use Rattle.bd_device.specs.Blocks.{Image, with_block, ChangesOnly};
 ghost use Rattle.bd_mirror.specs.declared.halves.Halves.TheVariants.{Both, First, Second, Neither};
-ghost use Rattle.bd_mirror.specs.declared.halves.Attached.TheVariants.{Member};
+ghost use Rattle.bd_mirror.specs.declared.halves.Attached.TheVariants.{Nothing, Member};
 ghost use Rattle.std.specs.Option.{option_map};
 ghost use Rattle.bd_mirror.specs.Contents.{is_open_at};
+ghost use Rattle.bd_mirror.specs.Counts.{no_calls};
+ghost use Rattle.bd_mirror.specs.Names.{IsNamed, first_name, second_name};
 ghost use Rattle.bd_device.specs.Changes.{StaysBut};
 ghost use Rattle.bd_device.specs.Device.{left_now, Goes, FailsLast, Stays};
 ghost use Rattle.bd_device.specs.Moments.{TornAt, IsOnly};
 ghost use Rattle.bd_mirror.specs.Halves.{has_marks, halves_of, with_halves, uses_first, uses_second, blocks_in, EachDid, LeftOnly, AttachedTo, is_two, is_too_many};
-ghost use Rattle.bd_mirror.specs.Calls.{blocks_now, shown_now, IsMirror, AreSettled, in_use, attached_to, first_of, second_of, counts_of, calls_of, faults_of, write_faults_of, last_of, IsFull, FirstFailed, SecondFailed, HalvesStay};
+ghost use Rattle.bd_mirror.specs.Calls.{blocks_now, shown_now, shown_of, IsMirror, IsMade, LeavesWhatItShows, attached_as, AreSettled, in_use, attached_to, first_of, second_of, counts_of, calls_of, faults_of, write_faults_of, last_of, IsFull, FirstFailed, SecondFailed, HalvesStay};
 
-use crate::copying::{is_open, mirror_onto, open_last, open_mark};
+use crate::copying::{is_open, mirror_onto, open_last, open_member};
 use crate::counts::Counts;
 use crate::halves::{Attached, Halves};
 use bd_device::{Attach, BLOCK_SIZE, Device};
@@ -41,7 +43,12 @@ pub struct Mirror<A, B> {
 
 impl<A, B> Mirror<A, B> {
     /// A mirror of these halves, with nothing attached and none of them in use.
-    pub fn new(first: A, second: B) -> Mirror<A, B> {
+    pub fn new(first: A, second: B) -> Mirror<A, B>
+        ensures first { first_of result ≡ first }
+        ensures second { second_of result ≡ second }
+        ensures attached { attached_to result ≡ Nothing }
+        ensures counts { counts_of result ≡ no_calls }
+    {
         Mirror {
             first,
             second,
@@ -387,6 +394,17 @@ impl<A: Attach, B: Attach> Mirror<A, B> {
             (FirstFailed A.Device self.old self.new) (SecondFailed B.Device self.old self.new)) }
         ensures made { IfOk result (λ at. IfSome create (λ n. blocks_in at
             (A.block_count (first_of self.new)) (B.block_count (second_of self.new)) ≡ n)) }
+        ensures named { IfOk result (λ at. IsNamed name.now at
+            (A.block_count (first_of self.new)) (B.block_count (second_of self.new))) }
+        ensures mirror { IfOk result (λ at. IsMade A.Device B.Device (attached_as at self.new)) }
+        ensures opened { IfOk result (λ at. at ≡ Member → 0 < A.block_count (first_of self.new)
+            → IfSome (A.contents (first_of self.new))
+            (λ image. is_open_at (A.block_count (first_of self.new) - 1) image ≡ true)) }
+        ensures shown { IfOk result (λ at. IfNone create
+            (shown_now A.Device B.Device (attached_as at self.new)
+            ≡ shown_of A.Device B.Device (attached_as at self.new)
+            (A.shows (first_of self.old) (first_name name.now))
+            (B.shows (second_of self.old) (second_name name.now)))) }
         ensures why { OnErr result ((is_too_many create ≡ true)
             ⊎ FirstFailed A.Device self.old self.new ⊎ SecondFailed B.Device self.old self.new) }
         ensures same { attached_to self.new ≡ attached_to self.old }
@@ -400,7 +418,8 @@ impl<A: Attach, B: Attach> Mirror<A, B> {
             Some((first, second)) => {
                 let size = with_mark(create)?;
                 if second.is_empty() {
-                    self.attach_member(first, size)
+                    self.attach_member(first, size)?;
+                    Ok(Attached::Member)
                 } else {
                     self.attach_pair(first, second, size)
                 }
@@ -409,21 +428,21 @@ impl<A: Attach, B: Attach> Mirror<A, B> {
     }
 
     // Takes an image of the first half, and opens its mark.
-    fn attach_member(&mut self, name: &str, size: Option<u64>) -> Result<Attached, Failed>
-        ensures attached { IfOk result (λ at. at ≡ Member) }
+    fn attach_member(&mut self, name: &str, size: Option<u64>) -> Result<(), Failed>
         ensures made { OnOk result
             (IfSome size (λ n. A.block_count (first_of self.new) ≡ n)) }
+        ensures shown { OnOk result (IfNone size
+            (StaysBut (λ i. i ≡ A.block_count (first_of self.new) - 1)
+            (A.shows (first_of self.old) name.now) (A.contents (first_of self.new)))) }
+        ensures opened { OnOk result (0 < A.block_count (first_of self.new)
+            → IfSome (A.contents (first_of self.new))
+            (λ image. is_open_at (A.block_count (first_of self.new) - 1) image ≡ true)) }
         ensures why { OnErr result (FirstFailed A.Device self.old self.new) }
         ensures after { self.new ≡ record self.old { first = first_of self.new } }
     {
         self.first.attach(name, size)?;
         self.first.barrier()?;
-        if let Some(mark) = self.first.blocks().checked_sub(1) {
-            if !is_open(&mut self.first, mark)? {
-                open_mark(&mut self.first, mark)?;
-            }
-        }
-        Ok(Attached::Member)
+        open_member(&mut self.first)
     }
 
     // Takes the images of both halves, and makes one a copy of the other where they have marks.
@@ -435,6 +454,15 @@ impl<A: Attach, B: Attach> Mirror<A, B> {
     ) -> Result<Attached, Failed>
         ensures attached { IfOk result (λ at. AttachedTo at
             (FirstFailed A.Device self.old self.new) (SecondFailed B.Device self.old self.new)) }
+        ensures two { IfOk result (λ at. is_two at ≡ true) }
+        ensures marks { IfOk result (λ at. 0 < A.block_count (first_of self.new)
+            → A.block_count (first_of self.new) ≡ B.block_count (second_of self.new)
+            → has_marks at ≡ true) }
+        ensures mirror { IfOk result (λ at. IsMade A.Device B.Device (attached_as at self.new)) }
+        ensures shown { IfOk result (λ at. IfNone size
+            (shown_now A.Device B.Device (attached_as at self.new)
+            ≡ shown_of A.Device B.Device (attached_as at self.new)
+            (A.shows (first_of self.old) first.now) (B.shows (second_of self.old) second.now))) }
         ensures made { IfOk result (λ at. IfSome size (λ n. blocks_in at
             (A.block_count (first_of self.new)) (B.block_count (second_of self.new)) ≡ n - 1)) }
         ensures why { OnErr result (FirstFailed A.Device self.old self.new
@@ -454,15 +482,29 @@ impl<A: Device, B: Device> Mirror<A, B> {
     // Makes one of two halves a copy of the other where they have marks: the source is the one
     // whose mark alone is open, else the first one.
     fn join(&mut self) -> Result<Attached, Failed>
+        requires first_settled { 0 < A.block_count (first_of self.old)
+            → IsOnly (A.contents (first_of self.old)) (left_now A.Device (first_of self.old)) }
+        requires second_settled { 0 < B.block_count (second_of self.old)
+            → IsOnly (B.contents (second_of self.old)) (left_now B.Device (second_of self.old)) }
         ensures attached { IfOk result (λ at. AttachedTo at
             (FirstFailed A.Device self.old self.new) (SecondFailed B.Device self.old self.new)) }
         ensures pair { IfOk result (λ at. is_two at ≡ true) }
+        ensures marks { IfOk result (λ at. 0 < A.block_count (first_of self.old)
+            → A.block_count (first_of self.old) ≡ B.block_count (second_of self.old)
+            → has_marks at ≡ true) }
+        ensures mirror { IfOk result (λ at. IsMade A.Device B.Device (attached_as at self.new)) }
+        ensures shown { IfOk result (λ at. shown_now A.Device B.Device (attached_as at self.new)
+            ≡ shown_now A.Device B.Device (attached_as at self.old)) }
         ensures made { IfOk result (λ at. A.block_count (first_of self.old)
             ≡ B.block_count (second_of self.old) → blocks_in at
             (A.block_count (first_of self.new)) (B.block_count (second_of self.new))
             ≡ A.block_count (first_of self.old) - 1) }
         ensures why { OnErr result (FirstFailed A.Device self.old self.new
             ⊎ SecondFailed B.Device self.old self.new) }
+        ensures first_count { A.block_count (first_of self.new)
+            ≡ A.block_count (first_of self.old) }
+        ensures second_count { B.block_count (second_of self.new)
+            ≡ B.block_count (second_of self.old) }
         ensures first_later { A.fault_count (first_of self.old)
             ≤ A.fault_count (first_of self.new) }
         ensures second_later { B.fault_count (second_of self.old)
@@ -475,22 +517,30 @@ impl<A: Device, B: Device> Mirror<A, B> {
             return Ok(Attached::Apart(Halves::Both));
         }
         let mark = blocks - 1;
-        let is_first_open = is_open(&mut self.first, mark)?;
-        let is_second_open = is_open(&mut self.second, mark)?;
-        let halves = if is_second_open && !is_first_open {
-            let took = mirror_onto(&mut self.second, &mut self.first, mark, true, false)?;
-            if took { Halves::Both } else { Halves::Second }
-        } else {
-            let took = mirror_onto(
-                &mut self.first,
+        let first_open = is_open(&mut self.first, mark)?;
+        let second_open = is_open(&mut self.second, mark)?;
+        if second_open && !first_open {
+            if mirror_onto(
                 &mut self.second,
+                &mut self.first,
                 mark,
-                is_first_open,
-                is_second_open,
-            )?;
-            if took { Halves::Both } else { Halves::First }
-        };
-        Ok(Attached::Pair(halves))
+                second_open,
+                first_open,
+            )? {
+                return Ok(Attached::Pair(Halves::Both));
+            }
+            return Ok(Attached::Pair(Halves::Second));
+        }
+        if mirror_onto(
+            &mut self.first,
+            &mut self.second,
+            mark,
+            first_open,
+            second_open,
+        )? {
+            return Ok(Attached::Pair(Halves::Both));
+        }
+        Ok(Attached::Pair(Halves::First))
     }
 }
 
@@ -519,6 +569,23 @@ impl<A: Attach, B: Attach> Attach for Mirror<A, B> {
         ensures made { OnOk result
             (IfSome create (λ n. blocks_now A.Device B.Device self.new ≡ n)) }
         ensures detached { OnErr result (blocks_now A.Device B.Device self.new ≡ 0) }
+
+        // The name says what is attached, and that is a mirror, also after a crash: each pair of
+        // images that one may leave gives what the mirror shows. With `None` that is what its
+        // halves showed, by the pick.
+        ensures named { OnOk result (IsNamed name.now (attached_to self.new)
+            (A.block_count (first_of self.new)) (B.block_count (second_of self.new))) }
+        ensures mirror { OnOk result (IsMirror A.Device B.Device self.new) }
+        ensures left { OnOk result (LeavesWhatItShows A.Device B.Device self.new) }
+        ensures shows { OnOk result (IfNone create (shown_now A.Device B.Device self.new
+            ≡ shown_of A.Device B.Device self.new
+            (A.shows (first_of self.old) (first_name name.now))
+            (B.shows (second_of self.old) (second_name name.now)))) }
+
+        // The first half of `X+` has its mark open.
+        ensures opened { OnOk result (attached_to self.new ≡ Member
+            → 0 < A.block_count (first_of self.new) → IfSome (A.contents (first_of self.new))
+            (λ image. is_open_at (A.block_count (first_of self.new) - 1) image ≡ true)) }
 
         // Each half that is attached is in use, unless it counted a fault.
         ensures attached { OnOk result (AttachedTo (attached_to self.new)

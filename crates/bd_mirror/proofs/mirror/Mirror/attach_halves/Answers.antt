@@ -1,0 +1,54 @@
+use Rattle.std.proofs.Common.{◌≡◌, ◌+◌, ◌∙◌, sym, subst, ap, List, ℕ}
+use Rattle.bd_mirror.specs.Calls.{shown_now, attached_as}
+use Rattle.bd_mirror.specs.Names.{first_name, second_name}
+use Rattle.bd_mirror.proofs.Attaching.{split_none, split_some, named_alone, named_member, named_two, first_alone, alone_names, member_names, pair_names, empty_is, some_is, two_no_member, alone_no_member}
+use Rattle.bd_mirror.proofs.mirror.Mirror.attach_halves.Goals as goal
+
+pub returns-in_ok-attach-in-None-clause-named : goal.returns-in_ok-attach-in-None-clause-named
+returns-in_ok-attach-in-None-clause-named g c =
+    named_alone c.args.name.now (g.A.Device.block_count c.attach.new.self) (g.B.Device.block_count c.args.self.now.second)
+    (split_none _ c.args.name.now c.split_once.result c.split_once.ensures.byte (λ w o h. h) c.in-None.is)
+
+pub returns-in_ok-attach-in-None-clause-shown : goal.returns-in_ok-attach-in-None-clause-shown
+returns-in_ok-attach-in-None-clause-shown g c =
+    alone_names c.args.create (g.A.Device.contents c.attach.new.self) (g.A.Attach.shows c.args.self.now.first) c.args.name.now (first_name c.args.name.now)
+    (first_alone c.args.name.now (split_none _ c.args.name.now c.split_once.result c.split_once.ensures.byte (λ w o h. h) c.in-None.is))
+    c.in_ok-attach-in-None.ensures.shown
+
+pub returns-in_ok-attach-in-None-clause-opened : goal.returns-in_ok-attach-in-None-clause-opened
+returns-in_ok-attach-in-None-clause-opened g c = λ e. alone_no_member e
+
+pub returns-in_ok-attach_member-in-Some-clause-named : goal.returns-in_ok-attach_member-in-Some-clause-named
+returns-in_ok-attach_member-in-Some-clause-named g c =
+    let cut = split_some _ c.args.name.now c.split_once.result _ c.split_once.ensures.byte (λ w o h. h) c.in-Some.is in
+    named_member c.args.name.now (g.A.Device.block_count c.attach_member.new.self.first) (g.B.Device.block_count c.attach_member.new.self.second) cut.2
+    (sym cut.1 ∙ empty_is c.is_empty.result c.in-Some.second.now c.is_empty.ensures c.if-is_empty.true)
+
+pub returns-in_ok-attach_member-in-Some-clause-shown : goal.returns-in_ok-attach_member-in-Some-clause-shown
+returns-in_ok-attach_member-in-Some-clause-shown g c =
+    let cut = split_some _ c.args.name.now c.split_once.result _ c.split_once.ensures.byte (λ w o h. h) c.in-Some.is in
+    let new = c.attach_member.new.self.first in
+    member_names (λ n. n + 1) c.in_ok-size-in-Some.size c.args.create (g.A.Device.block_count new) (g.A.Device.contents new) (g.A.Attach.shows c.args.self.now.first)
+    c.in-Some.first.now (first_name c.args.name.now) c.in_ok-size-in-Some.ensures.more cut.0 c.in_ok-attach_member-in-Some.ensures.shown
+
+pub returns-in_ok-attach_member-in-Some-clause-opened : goal.returns-in_ok-attach_member-in-Some-clause-opened
+returns-in_ok-attach_member-in-Some-clause-opened g c = λ _. c.in_ok-attach_member-in-Some.ensures.opened
+
+pub returns-else-is_empty-clause-named : goal.returns-else-is_empty-clause-named
+returns-else-is_empty-clause-named g c =
+    let cut = split_some _ c.args.name.now c.split_once.result _ c.split_once.ensures.byte (λ w o h. h) c.in-Some.is in
+    named_two c.attach_pair.result c.args.name.now (g.A.Device.block_count c.attach_pair.new.self.first) (g.B.Device.block_count c.attach_pair.new.self.second) cut.2
+    (λ e. some_is c.is_empty.result c.in-Some.second.now c.is_empty.ensures c.if-is_empty.false (cut.1 ∙ e))
+    c.attach_pair.ensures.two c.attach_pair.ensures.marks
+
+pub returns-else-is_empty-clause-shown : goal.returns-else-is_empty-clause-shown
+returns-else-is_empty-clause-shown g c =
+    let cut = split_some _ c.args.name.now c.split_once.result _ c.split_once.ensures.byte (λ w o h. h) c.in-Some.is in
+    let new = c.attach_pair.new.self in
+    pair_names c.attach_pair.result (λ n. n + 1) c.in_ok-size-in-Some.size c.args.create (λ at. shown_now g.A.Device g.B.Device (attached_as at new))
+    (g.A.Device.block_count new.first) (g.B.Device.block_count new.second) (g.A.Attach.shows c.args.self.now.first) (g.B.Attach.shows c.args.self.now.second)
+    c.in-Some.first.now c.in-Some.second.now (first_name c.args.name.now) (second_name c.args.name.now) c.in_ok-size-in-Some.ensures.more cut.0 cut.1
+    c.attach_pair.ensures.shown
+
+pub returns-else-is_empty-clause-opened : goal.returns-else-is_empty-clause-opened
+returns-else-is_empty-clause-opened g c = two_no_member _ c.attach_pair.result c.attach_pair.ensures.two
