@@ -1,0 +1,4 @@
+pub mod PathLemmas
+pub mod NeedLemmas
+pub mod FedLemmas
+pub mod HeadLemmas

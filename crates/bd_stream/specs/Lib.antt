@@ -1,0 +1,4 @@
+pub mod Heads
+pub mod Importing
+pub mod Feeding
+pub mod Streams

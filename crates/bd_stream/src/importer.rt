@@ -1,0 +1,13 @@
+//! What an importer is.
+
+ghost use Rattle.bd_stream.specs.Importing.{IsSound, state_of};
+
+use crate::machine::Machine;
+
+/// Takes a stream in pieces, however it is cut, and gives the commands that make its subtree at a
+/// path. It keeps at most 2,048 bytes of the stream.
+#[derive(Drop)]
+pub struct Importer {
+    pub(crate) machine: Machine,
+    ghost sound: { IsSound (state_of machine) },
+}

@@ -1,0 +1,28 @@
+//! What follows from the definitions of streams. Each function here carries laws of the definitions
+//! and does nothing.
+
+ghost use Rattle.std.specs.Prelude.{◌≡◌, ◌++◌, ◌∷◌, [], ℕ, List};
+ghost use Rattle.bd_stream.specs.declared.head.Head.{Head};
+ghost use Rattle.bd_stream.specs.declared.machine.Phase.TheVariants.{Bad, Long, Ended};
+ghost use Rattle.bd_stream.specs.Heads.{IsHead, head_of, head_bytes};
+ghost use Rattle.bd_stream.specs.Importing.{State, fed, go};
+
+/// A head that was written is read again.
+pub fn heads_are_read_again()
+    ensures { (head : Head) → IsHead head → head_of (head_bytes head) ≡ Some head }
+{}
+
+/// However a stream is cut, it gives the same: bytes that come in two pieces do what they do in one.
+pub fn pieces_are_one()
+    ensures state { (s : State) (a b : List ℕ) → (fed s (a ++ b)).0 ≡ (fed (fed s a).0 b).0 }
+    ensures commands { (s : State) (a b : List ℕ)
+        → (fed s (a ++ b)).1 ≡ (fed s a).1 ++ (fed (fed s a).0 b).1 }
+{}
+
+/// After a fault nothing more is taken, and after the end no byte may come.
+pub fn faults_stay()
+    ensures bad { (s : State) (bytes : List ℕ) → fed (go Bad s) bytes ≡ (go Bad s, []) }
+    ensures long { (s : State) (bytes : List ℕ) → fed (go Long s) bytes ≡ (go Long s, []) }
+    ensures ended { (s : State) (b : ℕ) (bytes : List ℕ)
+        → fed (go Ended s) (b ∷ bytes) ≡ (go Bad s, []) }
+{}
