@@ -14,7 +14,7 @@ ghost use Rattle.bd_device.specs.Moments.{TornAt, IsOnly};
 ghost use Rattle.bd_mirror.specs.Halves.{has_marks, halves_of, with_halves, uses_first, uses_second, blocks_in, EachDid, LeftOnly, AttachedTo, is_two, is_too_many};
 ghost use Rattle.bd_mirror.specs.Calls.{blocks_now, shown_now, shown_of, IsMirror, IsMade, LeavesWhatItShows, attached_as, AreSettled, in_use, attached_to, first_of, second_of, counts_of, calls_of, faults_of, write_faults_of, last_of, IsFull, FirstFailed, SecondFailed, HalvesStay};
 
-use crate::copying::{is_open, mirror_onto, open_last, open_member};
+use crate::copying::{is_alone, is_open, mirror_onto, open_last, open_member};
 use crate::counts::Counts;
 use crate::halves::{Attached, Halves};
 use bd_device::{Attach, BLOCK_SIZE, Device};
@@ -519,7 +519,7 @@ impl<A: Device, B: Device> Mirror<A, B> {
         let mark = blocks - 1;
         let first_open = is_open(&mut self.first, mark)?;
         let second_open = is_open(&mut self.second, mark)?;
-        if second_open && !first_open {
+        if is_alone(second_open, first_open) {
             if mirror_onto(
                 &mut self.second,
                 &mut self.first,
