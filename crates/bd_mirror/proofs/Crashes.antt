@@ -1,17 +1,17 @@
 -- What a crash may leave while one half is made a copy of the other.
-use Rattle.std.proofs.Common.{◌≡◌, ℕ, ◌+◌, ◌≤◌, List, [], ◌∷◌, take, Option, None, Some, IfSome, Bool, true, false, refl, sym, ap, subst, ◌∙◌, arith, inl, inr, ⊎_elim}
-use Rattle.std.specs.Prelude.{◌&&◌, not, slice_set}
+use Rattle.std.proofs.Common.{◌≡◌, ℕ, ◌+◌, ◌-◌, ◌<◌, ◌≤◌, List, [], ◌∷◌, length, take, ◌⊎◌, Option, None, Some, IfSome, Bool, true, false, refl, sym, ap, subst, ◌∙◌, arith, inl, inr, ⊎_elim}
+use Rattle.std.specs.Prelude.{◌&&◌, not, IfNone}
 use Rattle.std.proofs.lemmas.Bool.{false≢true}
 use Rattle.std.proofs.lemmas.List.{take-set-le}
 use Rattle.std.proofs.lemmas.Option.{same_Some}
-use Rattle.bd_device.specs.Blocks.{Image}
+use Rattle.bd_device.specs.Blocks.{Image, HasBlocks}
 use Rattle.bd_device.specs.Changes.{SameBut, StaysBut, IsBeforeBut, IsInRange}
 use Rattle.bd_device.specs.Device.{left_now, Goes, OnlyReads, Stays}
 use Rattle.bd_device.specs.Moments.{Elapses, Nothing, TornAt, IsOnly}
 use Rattle.bd_device.specs.declared.device.Device.{Ghosts}
 use Rattle.bd_device.proofs.Calls.{reads_stay}
 use Rattle.bd_mirror.specs.Contents.{is_open_at, pick, IsCopy}
-use Rattle.bd_mirror.specs.Crashes.{IsPickOf, Stretch}
+use Rattle.bd_mirror.specs.Crashes.{IsPickOf, Stretch, GoesOver, GoesOn, LeavesPairs, LosesNothing}
 use Rattle.bd_mirror.proofs.Copies.{open_kept, only_has}
 use Rattle.bd_mirror.proofs.Marks.{take_but_mark, pick_closed, pick_open, pick_second}
 use Rattle.bd_mirror.proofs.Joined.{pick_source}
@@ -162,3 +162,137 @@ stretch_ending gs gc mark a b oa ob s s2 s3 c c2 ka kb ma mb first stays_s only_
           (only_has (λ d. take mark d ≡ take mark a) (gc.contents c2) only_c (copy_some mark a (gc.contents c2) (subst (λ (o : Option Image). IsCopy mark o (gc.contents c2)) ka copied)) y ly)
           (only_has (λ d. is_open_at mark d ≡ false) (gc.contents c2) only_c closed y ly);
     }
+
+-- ---- two halves that go on
+
+-- reads leave what there was
+pub stretch_reads : {A B : Type 0} (ga : Ghosts A) (gb : Ghosts B) (mark : ℕ) (a b : Image) (s s1 : A) (c c1 : B)
+    → ga.contents s ≡ Some a → gb.contents c ≡ Some b → IsOnly (ga.contents s) (left_now ga s) → IsOnly (gb.contents c) (left_now gb c)
+    → OnlyReads ga s s1 → OnlyReads gb c c1 → Stretch ga gb (IsPickOf mark a b) s c s1 c1
+stretch_reads ga gb mark a b s s1 c c1 ka kb only_a only_b reads_a reads_b = record {
+  first_stays = reads_stay reads_a;
+  second_stays = reads_stay reads_b;
+  pairs = λ x y lx ly.
+      let was_x : left_now ga s x = ⊎_elim (λ old. old) (λ none. absurd none) (reads_a.time.adds (ga.call_count s) x (omega arith) lx) in
+      let was_y : left_now gb c y = ⊎_elim (λ old. old) (λ none. absurd none) (reads_b.time.adds (gb.call_count c) y (omega arith) ly) in
+      let ex : a ≡ x = same_Some a x (sym ka ∙ only_a x was_x) in
+      let ey : b ≡ y = same_Some b y (sym kb ∙ only_b y was_y) in
+      subst (λ (i : Image). IsPickOf mark a b i y) ex (subst (λ (i : Image). IsPickOf mark a b a i) ey (record { as_named = inl refl; turned = inr refl }));
+}
+
+-- with the halves named the other way round
+turned_pick : (mark : ℕ) (a b x y : Image) → IsPickOf mark b a y x → IsPickOf mark a b x y
+turned_pick mark a b x y h = record {
+  as_named = ⊎_elim (λ e. inr e) (λ e. inl e) h.turned;
+  turned = ⊎_elim (λ e. inr e) (λ e. inl e) h.as_named;
+}
+
+turned_stretch : {A B : Type 0} (ga : Ghosts A) (gb : Ghosts B) (mark : ℕ) (a b : Image) (s s1 : A) (c c1 : B)
+    → Stretch gb ga (IsPickOf mark b a) c s c1 s1 → Stretch ga gb (IsPickOf mark a b) s c s1 c1
+turned_stretch ga gb mark a b s s1 c c1 h = record {
+  first_stays = h.second_stays;
+  second_stays = h.first_stays;
+  pairs = λ x y lx ly. turned_pick mark a b x y (h.pairs y x ly lx);
+}
+
+abbrev turned_moments : {A B : Type 0} → List (B × A) → List (A × B)
+turned_moments [] = []
+turned_moments (m ∷ ms) = (m.1, m.0) ∷ turned_moments ms
+
+turned_over : {A B : Type 0} (ga : Ghosts A) (gb : Ghosts B) (mark : ℕ) (a b : Image) (ms : List (B × A)) (s s1 : A) (c c1 : B)
+    → GoesOver (Stretch gb ga (IsPickOf mark b a)) c s ms c1 s1 → GoesOver (Stretch ga gb (IsPickOf mark a b)) s c (turned_moments ms) s1 c1
+turned_over ga gb mark a b [] s s1 c c1 h = turned_stretch ga gb mark a b s s1 c c1 h
+turned_over ga gb mark a b (m ∷ ms) s s1 c c1 h =
+    (turned_stretch ga gb mark a b s m.1 c m.0 h.0, turned_over ga gb mark a b ms m.1 s1 m.0 c1 h.1)
+
+-- after reads the first half is the source
+pub reads_fore : {A B : Type 0} (ga : Ghosts A) (gb : Ghosts B) (m mark : ℕ) (a b : Image) (s s1 s2 : A) (c c1 c2 : B) → m ≡ mark
+    → ga.contents s ≡ Some a → gb.contents c ≡ Some b → IsOnly (ga.contents s) (left_now ga s) → IsOnly (gb.contents c) (left_now gb c)
+    → OnlyReads ga s s1 → OnlyReads gb c c1
+    → ((x y : Image) → ga.contents s1 ≡ Some x → gb.contents c1 ≡ Some y → GoesOn (Stretch ga gb (IsPickOf m x y)) s1 c1 s2 c2)
+    → GoesOn (Stretch ga gb (IsPickOf mark a b)) s c s2 c2
+reads_fore ga gb m mark a b s s1 s2 c c1 c2 e ka kb only_a only_b reads_a reads_b goes =
+    let over = goes a b (reads_a.kept ∙ ka) (reads_b.kept ∙ kb) in
+    subst (λ k. GoesOn (Stretch ga gb (IsPickOf k a b)) s c s2 c2) e
+    ((s1, c1) ∷ over.0, (stretch_reads ga gb m a b s s1 c c1 ka kb only_a only_b reads_a reads_b, over.1))
+
+-- or the second one
+pub reads_back : {A B : Type 0} (ga : Ghosts A) (gb : Ghosts B) (m mark : ℕ) (a b : Image) (s s1 s2 : A) (c c1 c2 : B) → m ≡ mark
+    → ga.contents s ≡ Some a → gb.contents c ≡ Some b → IsOnly (ga.contents s) (left_now ga s) → IsOnly (gb.contents c) (left_now gb c)
+    → OnlyReads ga s s1 → OnlyReads gb c c1
+    → ((y x : Image) → gb.contents c1 ≡ Some y → ga.contents s1 ≡ Some x → GoesOn (Stretch gb ga (IsPickOf m y x)) c1 s1 c2 s2)
+    → GoesOn (Stretch ga gb (IsPickOf mark a b)) s c s2 c2
+reads_back ga gb m mark a b s s1 s2 c c1 c2 e ka kb only_a only_b reads_a reads_b goes =
+    let over = goes b a (reads_b.kept ∙ kb) (reads_a.kept ∙ ka) in
+    subst (λ k. GoesOn (Stretch ga gb (IsPickOf k a b)) s c s2 c2) e (
+      (s1, c1) ∷ turned_moments over.0,
+      (stretch_reads ga gb m a b s s1 c c1 ka kb only_a only_b reads_a reads_b, turned_over ga gb m a b over.0 s1 s2 c1 c2 over.1),
+    )
+
+-- ---- by names
+
+-- calls that leave no image
+pub pairs_before : {A B : Type 0} (la : A → ℕ → Image → Type 0) (lb : B → ℕ → Image → Type 0) (ca : A → ℕ) (cb : B → ℕ) (Q : Image → Image → Type 0) (a a1 : A) (b b1 : B)
+    → Elapses (ca a) (ca a1) (la a) (la a1) Nothing → Elapses (cb b) (cb b1) (lb b) (lb b1) Nothing
+    → LeavesPairs la lb ca cb (λ x y. (la a (ca a) x × lb b (cb b) y) ⊎ Q x y) a b a1 b1
+pairs_before la lb ca cb Q a a1 b b1 time_a time_b = λ x y lx ly.
+    inl (⊎_elim (λ old. old) (λ none. absurd none) (time_a.adds (ca a) x (omega arith) lx), ⊎_elim (λ old. old) (λ none. absurd none) (time_b.adds (cb b) y (omega arith) ly))
+
+-- what goes on by what is attached goes on by its names
+pub named_over : {A B : Type 0} (ga : Ghosts A) (gb : Ghosts B) (first second : List ℕ) (la : A → ℕ → Image → Type 0) (lb : B → ℕ → Image → Type 0) (P Q : Image → Image → Type 0)
+    → ((d : A) (t : ℕ) (c : Image) → ga.is_named d first → la d t c → ga.left_since d t c)
+    → ((d : B) (t : ℕ) (c : Image) → gb.is_named d second → lb d t c → gb.left_since d t c)
+    → ((x y : Image) → P x y → Q x y) → (ms : List (A × B)) (a a1 : A) (b b1 : B) → ga.is_named a first → gb.is_named b second
+    → GoesOver (Stretch ga gb P) a b ms a1 b1 → GoesOver (LeavesPairs la lb ga.call_count gb.call_count Q) a b ms a1 b1
+named_over ga gb first second la lb P Q law_a law_b into [] a a1 b b1 na nb h = λ x y lx ly.
+    into x y (h.pairs x y (law_a a1 (ga.call_count a) x (h.first_stays.same_name first na) lx) (law_b b1 (gb.call_count b) y (h.second_stays.same_name second nb) ly))
+named_over ga gb first second la lb P Q law_a law_b into (m ∷ ms) a a1 b b1 na nb h = (
+  λ x y lx ly. into x y (h.0.pairs x y (law_a m.0 (ga.call_count a) x (h.0.first_stays.same_name first na) lx) (law_b m.1 (gb.call_count b) y (h.0.second_stays.same_name second nb) ly)),
+  named_over ga gb first second la lb P Q law_a law_b into ms m.0 a1 m.1 b1 (h.0.first_stays.same_name first na) (h.0.second_stays.same_name second nb) h.1,
+)
+
+pub none_then : {P Q : Type 0} (o : Option ℕ) → IfNone o P → (P → Q) → IfNone o Q
+none_then None p f = f p
+none_then (Some n) p f = tt
+
+-- calls that leave no image lose nothing
+pub loses_before : {A B : Type 0} (o : Option ℕ) (sa : A → Option Image) (sb : B → Option Image) (la : A → ℕ → Image → Type 0) (lb : B → ℕ → Image → Type 0) (ca : A → ℕ) (cb : B → ℕ) (a a1 : A) (b b1 : B)
+    → IfNone o (Elapses (ca a) (ca a1) (la a) (la a1) Nothing) → IfNone o (Elapses (cb b) (cb b1) (lb b) (lb b1) Nothing)
+    → IfNone o (LosesNothing sa sb la lb ca cb a b a1 b1)
+loses_before (Some n) sa sb la lb ca cb a a1 b b1 time_a time_b = tt
+loses_before None sa sb la lb ca cb a a1 b b1 time_a time_b = λ x y sx sy some same.
+    ([], pairs_before la lb ca cb (IsPickOf (length x - 1) x y) a a1 b b1 time_a time_b)
+
+-- how many blocks what is known has
+known_length : (count count' : ℕ) (known now : Option Image) (image : Image) → now ≡ known → count' ≡ count → IfSome known (HasBlocks count)
+    → now ≡ Some image → length image ≡ count'
+known_length count count' known now image kept same shape is =
+    let there : HasBlocks count image = subst (λ (o : Option Image). IfSome o (HasBlocks count)) (sym kept ∙ is) shape in
+    there.count_is ∙ sym same
+
+-- nor do two halves that were attached and are joined
+pub loses_joined : {A B : Type 0} (ga : Ghosts A) (gb : Ghosts B) (o : Option ℕ) (first second : List ℕ) (sa : A → Option Image) (sb : B → Option Image) (la : A → ℕ → Image → Type 0) (lb : B → ℕ → Image → Type 0)
+    (a a0 ja a1 : A) (b b0 jb b1 : B) → IfNone o (ga.contents a0 ≡ sa a) → IfNone o (gb.contents b0 ≡ sb b)
+    → ga.contents ja ≡ ga.contents a0 → gb.contents jb ≡ gb.contents b0 → ga.block_count ja ≡ ga.block_count a0 → gb.block_count jb ≡ gb.block_count b0
+    → IfSome (ga.contents a0) (HasBlocks (ga.block_count a0)) → IfSome (gb.contents b0) (HasBlocks (gb.block_count b0))
+    → IfNone o (Elapses (ga.call_count a) (ga.call_count ja) (la a) (la ja) Nothing) → IfNone o (Elapses (gb.call_count b) (gb.call_count jb) (lb b) (lb jb) Nothing)
+    → ga.is_named ja first → gb.is_named jb second
+    → ((d : A) (t : ℕ) (c : Image) → ga.is_named d first → la d t c → ga.left_since d t c)
+    → ((d : B) (t : ℕ) (c : Image) → gb.is_named d second → lb d t c → gb.left_since d t c)
+    → (0 < ga.block_count ja → ga.block_count ja ≡ gb.block_count jb → (x y : Image) → ga.contents ja ≡ Some x → gb.contents jb ≡ Some y
+    → GoesOn (Stretch ga gb (IsPickOf (ga.block_count ja - 1) x y)) ja jb a1 b1)
+    → IfNone o (LosesNothing sa sb la lb ga.call_count gb.call_count a b a1 b1)
+loses_joined ga gb (Some n) first second sa sb la lb a a0 ja a1 b b0 jb b1 is_a is_b kept_a kept_b count_a count_b shape_a shape_b time_a time_b na nb law_a law_b inside = tt
+loses_joined ga gb None first second sa sb la lb a a0 ja a1 b b0 jb b1 is_a is_b kept_a kept_b count_a count_b shape_a shape_b time_a time_b na nb law_a law_b inside = λ x y sx sy some same.
+    let kx : ga.contents ja ≡ Some x = kept_a ∙ is_a ∙ sx in
+    let ky : gb.contents jb ≡ Some y = kept_b ∙ is_b ∙ sy in
+    let len_x : length x ≡ ga.block_count ja = known_length (ga.block_count a0) (ga.block_count ja) (ga.contents a0) (ga.contents ja) x kept_a count_a shape_a kx in
+    let len_y : length y ≡ gb.block_count jb = known_length (gb.block_count b0) (gb.block_count jb) (gb.contents b0) (gb.contents jb) y kept_b count_b shape_b ky in
+    let over = inside (subst (λ n. 0 < n) len_x some) (sym len_x ∙ same ∙ len_y) x y kx ky in (
+      (ja, jb) ∷ over.0,
+      (
+        pairs_before la lb ga.call_count gb.call_count (IsPickOf (length x - 1) x y) a ja b jb time_a time_b,
+        named_over ga gb first second la lb (IsPickOf (ga.block_count ja - 1) x y) (λ p q. (la a (ga.call_count a) p × lb b (gb.call_count b) q) ⊎ IsPickOf (length x - 1) x y p q)
+            law_a law_b (λ p q h. inr (subst (λ k. IsPickOf (k - 1) x y p q) (sym len_x) h)) over.0 ja a1 jb b1 na nb over.1,
+      ),
+    )

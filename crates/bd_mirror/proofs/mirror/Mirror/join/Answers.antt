@@ -1,7 +1,8 @@
-use Rattle.std.proofs.Common.{◌≡◌, ◌-◌, ap, arith, sym, ◌∙◌}
+use Rattle.std.proofs.Common.{◌≡◌, ◌-◌, [], ap, arith, sym, ◌∙◌}
 use Rattle.std.specs.Prelude.{not}
 use Rattle.bd_device.specs.Device.{left_now}
-use Rattle.bd_mirror.proofs.Copies.{only_read}
+use Rattle.bd_mirror.proofs.Copies.{only_read, reads_none}
+use Rattle.bd_mirror.proofs.Crashes.{stretch_reads, reads_fore, reads_back}
 use Rattle.bd_mirror.proofs.Joined.{alone_open, alone_closed, not_other, fore_took, fore_lost, back_took, back_lost}
 use Rattle.bd_mirror.proofs.mirror.Mirror.join.Goals as goal
 
@@ -155,3 +156,63 @@ mirror_onto-requires-clause-source_first g c =
 
 pub mirror_onto-requires-2-clause-source_first : goal.mirror_onto-requires-2-clause-source_first
 mirror_onto-requires-2-clause-source_first g c = sym c.is_alone.ensures ∙ c.if-is_alone.false
+
+-- ---- what a crash inside it may leave
+
+pub returns-in_err-first_open-clause-inside : goal.returns-in_err-first_open-clause-inside
+returns-in_err-first_open-clause-inside g c = λ some same a b ka kb.
+    let m = c.args.self.now in (
+      [],
+      stretch_reads g.A.Device g.B.Device (g.A.Device.block_count m.first - 1) a b m.first c.is_open.new.half m.second m.second ka kb
+          (c.requires.first_settled some) (c.requires.second_settled (omega (arith, some, same))) c.is_open.ensures.reads (reads_none g.B.Device m.second),
+    )
+
+pub returns-in_err-second_open-clause-inside : goal.returns-in_err-second_open-clause-inside
+returns-in_err-second_open-clause-inside g c = λ some same a b ka kb.
+    let m = c.args.self.now in (
+      [],
+      stretch_reads g.A.Device g.B.Device (g.A.Device.block_count m.first - 1) a b m.first c.is_open.new.half m.second c.is_open-2.new.half ka kb
+          (c.requires.first_settled some) (c.requires.second_settled (omega (arith, some, same))) c.is_open.ensures.reads c.is_open-2.ensures.reads,
+    )
+
+pub returns-in_err-mirror_onto-clause-inside : goal.returns-in_err-mirror_onto-clause-inside
+returns-in_err-mirror_onto-clause-inside g c = λ some same a b ka kb.
+    let m = c.args.self.now in
+    reads_back g.A.Device g.B.Device (c.blocks-blocks.result - 1) (g.A.Device.block_count m.first - 1) a b m.first c.is_open.new.half c.mirror_onto.new.copy
+    m.second c.is_open-2.new.half c.mirror_onto.new.source (ap (λ n. n - 1) c.blocks-blocks.ensures.count) ka kb
+    (c.requires.first_settled some) (c.requires.second_settled (omega (arith, some, same))) c.is_open.ensures.reads c.is_open-2.ensures.reads c.mirror_onto.ensures.inside
+
+pub returns-then-branch-clause-inside : goal.returns-then-branch-clause-inside
+returns-then-branch-clause-inside g c = λ some same a b ka kb.
+    let m = c.args.self.now in
+    reads_back g.A.Device g.B.Device (c.blocks-blocks.result - 1) (g.A.Device.block_count m.first - 1) a b m.first c.is_open.new.half c.mirror_onto.new.copy
+    m.second c.is_open-2.new.half c.mirror_onto.new.source (ap (λ n. n - 1) c.blocks-blocks.ensures.count) ka kb
+    (c.requires.first_settled some) (c.requires.second_settled (omega (arith, some, same))) c.is_open.ensures.reads c.is_open-2.ensures.reads c.mirror_onto.ensures.inside
+
+pub returns-then-is_alone-clause-inside : goal.returns-then-is_alone-clause-inside
+returns-then-is_alone-clause-inside g c = λ some same a b ka kb.
+    let m = c.args.self.now in
+    reads_back g.A.Device g.B.Device (c.blocks-blocks.result - 1) (g.A.Device.block_count m.first - 1) a b m.first c.is_open.new.half c.mirror_onto.new.copy
+    m.second c.is_open-2.new.half c.mirror_onto.new.source (ap (λ n. n - 1) c.blocks-blocks.ensures.count) ka kb
+    (c.requires.first_settled some) (c.requires.second_settled (omega (arith, some, same))) c.is_open.ensures.reads c.is_open-2.ensures.reads c.mirror_onto.ensures.inside
+
+pub returns-in_err-mirror_onto-2-clause-inside : goal.returns-in_err-mirror_onto-2-clause-inside
+returns-in_err-mirror_onto-2-clause-inside g c = λ some same a b ka kb.
+    let m = c.args.self.now in
+    reads_fore g.A.Device g.B.Device (c.blocks-blocks.result - 1) (g.A.Device.block_count m.first - 1) a b m.first c.is_open.new.half c.mirror_onto-2.new.source
+    m.second c.is_open-2.new.half c.mirror_onto-2.new.copy (ap (λ n. n - 1) c.blocks-blocks.ensures.count) ka kb
+    (c.requires.first_settled some) (c.requires.second_settled (omega (arith, some, same))) c.is_open.ensures.reads c.is_open-2.ensures.reads c.mirror_onto-2.ensures.inside
+
+pub returns-then-branch-2-clause-inside : goal.returns-then-branch-2-clause-inside
+returns-then-branch-2-clause-inside g c = λ some same a b ka kb.
+    let m = c.args.self.now in
+    reads_fore g.A.Device g.B.Device (c.blocks-blocks.result - 1) (g.A.Device.block_count m.first - 1) a b m.first c.is_open.new.half c.mirror_onto-2.new.source
+    m.second c.is_open-2.new.half c.mirror_onto-2.new.copy (ap (λ n. n - 1) c.blocks-blocks.ensures.count) ka kb
+    (c.requires.first_settled some) (c.requires.second_settled (omega (arith, some, same))) c.is_open.ensures.reads c.is_open-2.ensures.reads c.mirror_onto-2.ensures.inside
+
+pub returns-clause-inside : goal.returns-clause-inside
+returns-clause-inside g c = λ some same a b ka kb.
+    let m = c.args.self.now in
+    reads_fore g.A.Device g.B.Device (c.blocks-blocks.result - 1) (g.A.Device.block_count m.first - 1) a b m.first c.is_open.new.half c.mirror_onto-2.new.source
+    m.second c.is_open-2.new.half c.mirror_onto-2.new.copy (ap (λ n. n - 1) c.blocks-blocks.ensures.count) ka kb
+    (c.requires.first_settled some) (c.requires.second_settled (omega (arith, some, same))) c.is_open.ensures.reads c.is_open-2.ensures.reads c.mirror_onto-2.ensures.inside
