@@ -12,7 +12,7 @@ use Rattle.bd_device.specs.Changes.{StaysBut}
 use Rattle.bd_mirror.specs.declared.halves.Attached.{Attached}
 use Rattle.bd_mirror.specs.declared.halves.Attached.TheVariants.{Alone, Member}
 use Rattle.bd_mirror.specs.Contents.{is_open_at, shown_by}
-use Rattle.bd_mirror.specs.Halves.{has_marks, is_two, blocks_in}
+use Rattle.bd_mirror.specs.Halves.{has_marks, is_two, is_too_many, blocks_in}
 use Rattle.bd_mirror.specs.Names.{HasPlus, first_name, second_name, IsNamed}
 use Rattle.bd_mirror.proofs.Marks.{take_but_mark}
 
@@ -142,3 +142,8 @@ pub alone_names : (create : Option ℕ) (known : Option Image) (show : List ℕ 
     → IfNone create (known ≡ show name) → IfNone create (known ≡ show name')
 alone_names (Some n) known show name name' same e = tt
 alone_names None known show name name' same e = e ∙ ap show (sym same)
+
+-- so many blocks were asked for that it wasn't attached
+pub not_too_many : (P : Type 0) (create : Option ℕ) → true ≡ is_too_many create → IfNone create P
+not_too_many P None e = absurd (false≢true (sym e))
+not_too_many P (Some n) e = tt

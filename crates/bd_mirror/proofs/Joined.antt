@@ -1,6 +1,7 @@
 -- Two halves, one of which was made a copy of the other: their marks, and what they show.
 use Rattle.std.proofs.Common.{◌≡◌, ℕ, ◌+◌, ◌-◌, ◌<◌, ◌≤◌, min, take, Option, None, Some, IfSome, Bool, true, false, if◌then◌else◌, refl, sym, ap, subst, ◌∙◌, arith}
 use Rattle.std.specs.Prelude.{◌&&◌, not}
+use Rattle.std.proofs.lemmas.Bool.{false≢true}
 use Rattle.std.proofs.lemmas.Option.{same_Some}
 use Rattle.bd_device.specs.Blocks.{Image}
 use Rattle.bd_device.specs.Changes.{StaysBut, IsInRange}
@@ -41,7 +42,7 @@ joined_left h mark na nb a b la lb ea eb left =
 -- ---- what was picked before
 
 -- the first one, unless the second one's mark alone is open
-pick_source : (mark : ℕ) (a b : Image) (oa ob : Bool) → is_open_at mark a ≡ oa → is_open_at mark b ≡ ob → (ob && not oa) ≡ false
+pub pick_source : (mark : ℕ) (a b : Image) (oa ob : Bool) → is_open_at mark a ≡ oa → is_open_at mark b ≡ ob → (ob && not oa) ≡ false
     → pick mark mark mark a b ≡ take mark a
 pick_source mark a b oa ob ea eb other =
     let e : (is_open_at mark b && not (is_open_at mark a)) ≡ false =
@@ -167,14 +168,21 @@ from_here changed old now new same stays = subst (λ (o : Option Image). StaysBu
 with_mark : (mark : ℕ) (o o' : Bool) (known : Option Image) → o ≡ o' → IfSome known (λ i. is_open_at mark i ≡ o) → IfSome known (λ i. is_open_at mark i ≡ o')
 with_mark mark o o' known e is = subst (λ b. IfSome known (λ i. is_open_at mark i ≡ b)) e is
 
--- with an open mark the first one is the source
-pub first_opens : (oa ob : Bool) → oa ≡ true → (ob && not oa) ≡ false
-first_opens oa true e = ap not e
-first_opens oa false e = refl
+-- what a half has whose mark alone is open
+pub alone_open : (o other : Bool) → (o && not other) ≡ true → o ≡ true
+alone_open true other e = refl
+alone_open false other e = absurd (false≢true e)
 
--- and where the second one's is closed
-pub second_closes : (oa ob : Bool) → ob ≡ false → (ob && not oa) ≡ false
-second_closes oa ob e = ap (λ o. o && not oa) e
+pub alone_closed : (o other : Bool) → (o && not other) ≡ true → other ≡ false
+alone_closed true true e = absurd (false≢true e)
+alone_closed true false e = refl
+alone_closed false other e = absurd (false≢true e)
+
+-- then that of the other one isn't
+pub not_other : (o other : Bool) → (o && not other) ≡ true → (other && not o) ≡ false
+not_other true true e = absurd (false≢true e)
+not_other true false e = refl
+not_other false other e = absurd (false≢true e)
 
 -- what two halves then are, what they show, and what a crash may leave of them
 pub record AreJoined (h : Halves) (na nb na' nb' : ℕ) (a b a' b' : Option Image) (la lb : Image → Type 0) : Type 0 where

@@ -1,10 +1,11 @@
-ghost use Rattle.std.specs.Prelude.{◌≡◌, ◌<◌, ◌≤◌, ◌+◌, ◌-◌, ◌⊎◌, true, false, not, IfOk, IfSome, OnOk, OnErr, slice_index};
+ghost use Rattle.std.specs.Prelude.{◌≡◌, ◌<◌, ◌≤◌, ◌+◌, ◌-◌, ◌⊎◌, ◌&&◌, true, false, not, Some, IfOk, IfSome, OnOk, OnErr, slice_index};
 ghost use Rattle.bd_io.specs.Cause.{Rose};
 ghost use Rattle.bd_device.specs.Blocks.{Image, HasBlocks};
 ghost use Rattle.bd_device.specs.Changes.{StaysBut, IsBeforeBut, IsInRange};
 ghost use Rattle.bd_device.specs.Device.{left_now, Goes, OnlyReads, FailsLast, Stays};
 ghost use Rattle.bd_device.specs.Moments.{TornAt, IsOnly};
 ghost use Rattle.bd_mirror.specs.Contents.{is_open_at, IsCopy};
+ghost use Rattle.bd_mirror.specs.Crashes.{IsPickOf, Stretch, GoesOn};
 ghost use Rattle.bd_mirror.specs.Halves.{has_marks};
 
 use crate::halves::Attached;
@@ -21,6 +22,13 @@ pub fn is_open<D: Device>(half: &mut D, mark: u64) -> Result<bool, Failed>
 {
     let block = read_block(half, mark)?;
     Ok(is_committed(&block))
+}
+
+/// Whether the mark of a half is open, and that of the other one isn't.
+pub fn is_alone(is_open: bool, is_other_open: bool) -> bool
+    ensures { result ≡ (is_open && not is_other_open) }
+{
+    is_open && !is_other_open
 }
 
 /// Opens a half's mark, and waits until it is kept.
@@ -190,6 +198,7 @@ pub fn mirror_onto<S: Device, C: Device>(
         (λ image. is_open_at mark image ≡ is_source_open) }
     requires copy_mark { IfSome (C.contents copy.old)
         (λ image. is_open_at mark image ≡ is_copy_open) }
+    requires source_first { (is_copy_open && not is_source_open) ≡ false }
     requires source_settled { IsOnly (S.contents source.old) (left_now S.Device source.old) }
     requires copy_settled { IsOnly (C.contents copy.old) (left_now C.Device copy.old) }
 
@@ -212,6 +221,12 @@ pub fn mirror_onto<S: Device, C: Device>(
         → IsOnly (C.contents copy.new) (left_now C.Device copy.new)) }
     ensures copy_left { OnOk result ((c : Image) → left_now C.Device copy.new c
         → is_open_at mark c ≡ false) }
+
+    // Inside it and after it, also where it fails, a crash leaves only what it could before.
+    ensures inside { (a b : Image) → S.contents source.old ≡ Some a
+        → C.contents copy.old ≡ Some b
+        → GoesOn (Stretch S.Device C.Device (IsPickOf mark a b))
+        source.old copy.old source.new copy.new }
     ensures source_stays { Stays S.Device source.old source.new }
     ensures source_later { S.fault_count source.old ≤ S.fault_count source.new }
     ensures copy_stays { Stays C.Device copy.old copy.new }

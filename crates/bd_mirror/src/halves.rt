@@ -1,4 +1,5 @@
-ghost use Rattle.std.specs.Prelude.{◌≡◌};
+ghost use Rattle.std.specs.Prelude.{◌≡◌, if◌then◌else◌};
+ghost use Rattle.bd_mirror.specs.declared.halves.Halves.TheVariants.{Neither};
 ghost use Rattle.bd_mirror.specs.Halves.{halves_of, with_halves};
 
 /// Which halves of a pair are in use.
@@ -52,5 +53,12 @@ impl Attached {
             Attached::Pair(_) => Attached::Pair(halves),
             Attached::Apart(_) => Attached::Apart(halves),
         }
+    }
+
+    // The same with this half alone in use, where its mark is open, and else with neither.
+    pub fn kept(self, half: Halves, is_open: bool) -> Attached
+        ensures { result ≡ with_halves (if is_open then half else Neither) self }
+    {
+        self.with(if is_open { half } else { Halves::Neither })
     }
 }

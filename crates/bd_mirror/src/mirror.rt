@@ -1,4 +1,4 @@
-ghost use Rattle.std.specs.Prelude.{◌≡◌, ◌<◌, ◌≤◌, ◌+◌, ◌-◌, ◌^◌, if◌then◌else◌, ◌⊎◌, true, false, IsTrue, None, Some, IfSome, IfNone, IfOk, OnOk, OnErr, is_ok, is_err, slice_get};
+ghost use Rattle.std.specs.Prelude.{◌≡◌, ◌≢◌, [], ◌<◌, ◌≤◌, ◌+◌, ◌-◌, ◌^◌, if◌then◌else◌, ◌⊎◌, true, false, IsTrue, None, Some, IfSome, IfNone, IfOk, OnOk, OnErr, is_ok, is_err, slice_get};
 ghost use Rattle.bd_io.specs.Cause.{HasCause, IsCounted, Rose};
 ghost use Rattle.bd_device.specs.Calls.{faults_after};
 ghost use Rattle.bd_device.specs.Blocks.{Image, with_block, ChangesOnly};
@@ -7,14 +7,15 @@ ghost use Rattle.bd_mirror.specs.declared.halves.Attached.TheVariants.{Nothing, 
 ghost use Rattle.std.specs.Option.{option_map};
 ghost use Rattle.bd_mirror.specs.Contents.{is_open_at};
 ghost use Rattle.bd_mirror.specs.Counts.{no_calls};
-ghost use Rattle.bd_mirror.specs.Names.{IsNamed, first_name, second_name};
+ghost use Rattle.bd_mirror.specs.Crashes.{IsPickOf, Stretch, GoesOn, LosesNothing};
+ghost use Rattle.bd_mirror.specs.Names.{HasPlus, IsNamed, first_name, second_name};
 ghost use Rattle.bd_device.specs.Changes.{StaysBut};
 ghost use Rattle.bd_device.specs.Device.{left_now, Goes, FailsLast, Stays};
 ghost use Rattle.bd_device.specs.Moments.{TornAt, IsOnly};
 ghost use Rattle.bd_mirror.specs.Halves.{has_marks, halves_of, with_halves, uses_first, uses_second, blocks_in, EachDid, LeftOnly, AttachedTo, is_two, is_too_many};
 ghost use Rattle.bd_mirror.specs.Calls.{blocks_now, shown_now, shown_of, IsMirror, IsMade, LeavesWhatItShows, attached_as, AreSettled, in_use, attached_to, first_of, second_of, counts_of, calls_of, faults_of, write_faults_of, last_of, IsFull, FirstFailed, SecondFailed, HalvesStay};
 
-use crate::copying::{is_open, mirror_onto, open_last, open_member};
+use crate::copying::{is_alone, is_open, mirror_onto, open_last, open_member};
 use crate::counts::Counts;
 use crate::halves::{Attached, Halves};
 use bd_device::{Attach, BLOCK_SIZE, Device};
@@ -216,12 +217,7 @@ impl<A: Device, B: Device> Mirror<A, B> {
         } }
     {
         let result = open_last(&mut self.first, self.attached);
-        let halves = if result.is_ok() {
-            Halves::First
-        } else {
-            Halves::Neither
-        };
-        self.attached = self.attached.with(halves);
+        self.attached = self.attached.kept(Halves::First, result.is_ok());
         result
     }
 
@@ -246,12 +242,7 @@ impl<A: Device, B: Device> Mirror<A, B> {
         } }
     {
         let result = open_last(&mut self.second, self.attached);
-        let halves = if result.is_ok() {
-            Halves::Second
-        } else {
-            Halves::Neither
-        };
-        self.attached = self.attached.with(halves);
+        self.attached = self.attached.kept(Halves::Second, result.is_ok());
         result
     }
 }
@@ -405,6 +396,13 @@ impl<A: Attach, B: Attach> Mirror<A, B> {
             ≡ shown_of A.Device B.Device (attached_as at self.new)
             (A.shows (first_of self.old) (first_name name.now))
             (B.shows (second_of self.old) (second_name name.now)))) }
+        ensures inside { IfNone create (HasPlus name.now → second_name name.now ≢ []
+            → LosesNothing
+            (λ d. A.shows d (first_name name.now)) (λ d. B.shows d (second_name name.now))
+            (λ d. A.left_behind d (first_name name.now))
+            (λ d. B.left_behind d (second_name name.now))
+            (λ d. A.call_count d) (λ d. B.call_count d)
+            (first_of self.old) (second_of self.old) (first_of self.new) (second_of self.new)) }
         ensures why { OnErr result ((is_too_many create ≡ true)
             ⊎ FirstFailed A.Device self.old self.new ⊎ SecondFailed B.Device self.old self.new) }
         ensures same { attached_to self.new ≡ attached_to self.old }
@@ -463,6 +461,11 @@ impl<A: Attach, B: Attach> Mirror<A, B> {
             (shown_now A.Device B.Device (attached_as at self.new)
             ≡ shown_of A.Device B.Device (attached_as at self.new)
             (A.shows (first_of self.old) first.now) (B.shows (second_of self.old) second.now))) }
+        ensures inside { IfNone size (LosesNothing
+            (λ d. A.shows d first.now) (λ d. B.shows d second.now)
+            (λ d. A.left_behind d first.now) (λ d. B.left_behind d second.now)
+            (λ d. A.call_count d) (λ d. B.call_count d)
+            (first_of self.old) (second_of self.old) (first_of self.new) (second_of self.new)) }
         ensures made { IfOk result (λ at. IfSome size (λ n. blocks_in at
             (A.block_count (first_of self.new)) (B.block_count (second_of self.new)) ≡ n - 1)) }
         ensures why { OnErr result (FirstFailed A.Device self.old self.new
@@ -495,6 +498,12 @@ impl<A: Device, B: Device> Mirror<A, B> {
         ensures mirror { IfOk result (λ at. IsMade A.Device B.Device (attached_as at self.new)) }
         ensures shown { IfOk result (λ at. shown_now A.Device B.Device (attached_as at self.new)
             ≡ shown_now A.Device B.Device (attached_as at self.old)) }
+        ensures inside { 0 < A.block_count (first_of self.old)
+            → A.block_count (first_of self.old) ≡ B.block_count (second_of self.old)
+            → (a b : Image) → A.contents (first_of self.old) ≡ Some a
+            → B.contents (second_of self.old) ≡ Some b → GoesOn (Stretch A.Device B.Device
+            (IsPickOf (A.block_count (first_of self.old) - 1) a b))
+            (first_of self.old) (second_of self.old) (first_of self.new) (second_of self.new) }
         ensures made { IfOk result (λ at. A.block_count (first_of self.old)
             ≡ B.block_count (second_of self.old) → blocks_in at
             (A.block_count (first_of self.new)) (B.block_count (second_of self.new))
@@ -519,7 +528,7 @@ impl<A: Device, B: Device> Mirror<A, B> {
         let mark = blocks - 1;
         let first_open = is_open(&mut self.first, mark)?;
         let second_open = is_open(&mut self.second, mark)?;
-        if second_open && !first_open {
+        if is_alone(second_open, first_open) {
             if mirror_onto(
                 &mut self.second,
                 &mut self.first,
@@ -581,6 +590,16 @@ impl<A: Attach, B: Attach> Attach for Mirror<A, B> {
             ≡ shown_of A.Device B.Device self.new
             (A.shows (first_of self.old) (first_name name.now))
             (B.shows (second_of self.old) (second_name name.now)))) }
+
+        // Inside an attach of two halves with `None`, and after it, also where it fails, a crash
+        // loses nothing of what they showed.
+        ensures inside { IfNone create (HasPlus name.now → second_name name.now ≢ []
+            → LosesNothing
+            (λ d. A.shows d (first_name name.now)) (λ d. B.shows d (second_name name.now))
+            (λ d. A.left_behind d (first_name name.now))
+            (λ d. B.left_behind d (second_name name.now))
+            (λ d. A.call_count d) (λ d. B.call_count d)
+            (first_of self.old) (second_of self.old) (first_of self.new) (second_of self.new)) }
 
         // The first half of `X+` has its mark open.
         ensures opened { OnOk result (attached_to self.new ≡ Member

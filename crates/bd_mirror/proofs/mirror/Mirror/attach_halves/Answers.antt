@@ -1,7 +1,9 @@
-use Rattle.std.proofs.Common.{◌≡◌, ◌+◌, ◌∙◌, sym, subst, ap, List, ℕ}
+use Rattle.std.proofs.Common.{◌≡◌, arith, ◌+◌, ◌∙◌, sym, subst, ap, List, ℕ}
 use Rattle.bd_mirror.specs.Calls.{shown_now, attached_as}
+use Rattle.bd_device.proofs.Refusals.{IfNone-always}
+use Rattle.bd_mirror.specs.Crashes.{LosesNothing}
 use Rattle.bd_mirror.specs.Names.{first_name, second_name}
-use Rattle.bd_mirror.proofs.Attaching.{split_none, split_some, named_alone, named_member, named_two, first_alone, alone_names, member_names, pair_names, empty_is, some_is, two_no_member, alone_no_member}
+use Rattle.bd_mirror.proofs.Attaching.{split_none, split_some, named_alone, named_member, named_two, first_alone, alone_names, member_names, pair_names, empty_is, some_is, two_no_member, alone_no_member, none_of, not_too_many}
 use Rattle.bd_mirror.proofs.mirror.Mirror.attach_halves.Goals as goal
 
 pub returns-in_ok-attach-in-None-clause-named : goal.returns-in_ok-attach-in-None-clause-named
@@ -52,3 +54,37 @@ returns-else-is_empty-clause-shown g c =
 
 pub returns-else-is_empty-clause-opened : goal.returns-else-is_empty-clause-opened
 returns-else-is_empty-clause-opened g c = two_no_member _ c.attach_pair.result c.attach_pair.ensures.two
+
+-- ---- what a crash inside it may leave
+
+pub returns-in_ok-attach-in-None-clause-inside : goal.returns-in_ok-attach-in-None-clause-inside
+returns-in_ok-attach-in-None-clause-inside g c = IfNone-always c.args.create (λ plus _.
+    absurd (omega (arith, plus, split_none _ c.args.name.now c.split_once.result c.split_once.ensures.byte (λ w o h. h) c.in-None.is)))
+
+pub returns-in_err-attach-in-None-clause-inside : goal.returns-in_err-attach-in-None-clause-inside
+returns-in_err-attach-in-None-clause-inside g c = IfNone-always c.args.create (λ plus _.
+    absurd (omega (arith, plus, split_none _ c.args.name.now c.split_once.result c.split_once.ensures.byte (λ w o h. h) c.in-None.is)))
+
+pub returns-in_ok-attach_member-in-Some-clause-inside : goal.returns-in_ok-attach_member-in-Some-clause-inside
+returns-in_ok-attach_member-in-Some-clause-inside g c =
+    let cut = split_some _ c.args.name.now c.split_once.result _ c.split_once.ensures.byte (λ w o h. h) c.in-Some.is in
+    IfNone-always c.args.create (λ _ more. absurd (more (sym cut.1 ∙ empty_is c.is_empty.result c.in-Some.second.now c.is_empty.ensures c.if-is_empty.true)))
+
+pub returns-in_err-attach_member-in-Some-clause-inside : goal.returns-in_err-attach_member-in-Some-clause-inside
+returns-in_err-attach_member-in-Some-clause-inside g c =
+    let cut = split_some _ c.args.name.now c.split_once.result _ c.split_once.ensures.byte (λ w o h. h) c.in-Some.is in
+    IfNone-always c.args.create (λ _ more. absurd (more (sym cut.1 ∙ empty_is c.is_empty.result c.in-Some.second.now c.is_empty.ensures c.if-is_empty.true)))
+
+pub returns-in_err-size-in-Some-clause-inside : goal.returns-in_err-size-in-Some-clause-inside
+returns-in_err-size-in-Some-clause-inside g c = not_too_many _ c.args.create c.in_err-size-in-Some.ensures.fails
+
+pub returns-else-is_empty-clause-inside : goal.returns-else-is_empty-clause-inside
+returns-else-is_empty-clause-inside g c =
+    let cut = split_some _ c.args.name.now c.split_once.result _ c.split_once.ensures.byte (λ w o h. h) c.in-Some.is in
+    let m = c.args.self.now in
+    let new = c.attach_pair.new.self in
+    none_of (λ n. n + 1) c.in_ok-size-in-Some.size c.args.create c.in_ok-size-in-Some.ensures.more c.attach_pair.ensures.inside (λ loses _ _.
+    subst (λ first. LosesNothing (λ d. g.A.Attach.shows d first) (λ d. g.B.Attach.shows d (second_name c.args.name.now))
+    (λ d. g.A.Attach.left_behind d first) (λ d. g.B.Attach.left_behind d (second_name c.args.name.now)) g.A.Device.call_count g.B.Device.call_count m.first m.second new.first new.second) cut.0
+    (subst (λ second. LosesNothing (λ d. g.A.Attach.shows d c.in-Some.first.now) (λ d. g.B.Attach.shows d second)
+    (λ d. g.A.Attach.left_behind d c.in-Some.first.now) (λ d. g.B.Attach.left_behind d second) g.A.Device.call_count g.B.Device.call_count m.first m.second new.first new.second) cut.1 loses))

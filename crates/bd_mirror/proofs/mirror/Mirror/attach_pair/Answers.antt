@@ -1,6 +1,11 @@
 use Rattle.std.proofs.Common.{◌≡◌, arith}
+use Rattle.bd_device.specs.Moments.{Nothing}
+use Rattle.bd_device.proofs.Moments.{goes_on, by_name}
+use Rattle.bd_device.proofs.Refusals.{IfNone-always}
 use Rattle.bd_mirror.specs.Calls.{shown_now, attached_as}
 use Rattle.bd_mirror.proofs.Attaching.{pair_shown, marks_now}
+use Rattle.bd_mirror.proofs.Copies.{elapses_none}
+use Rattle.bd_mirror.proofs.Crashes.{none_then, loses_before, loses_joined}
 use Rattle.bd_mirror.proofs.mirror.Mirror.attach_pair.Goals as goal
 
 pub join-requires-clause-first_settled : goal.join-requires-clause-first_settled
@@ -23,3 +28,58 @@ returns-clause-shown g c =
     (g.A.Attach.shows c.args.self.now.first c.args.first.now) (g.B.Attach.shows c.args.self.now.second c.args.second.now)
     c.join.ensures.first_count c.join.ensures.second_count c.barrier.ensures.kept c.barrier-2.ensures.kept
     c.in_ok-attach.ensures.shown c.in_ok-attach-2.ensures.shown c.join.ensures.shown
+
+-- ---- what a crash inside it may leave
+
+pub returns-in_err-attach-clause-inside : goal.returns-in_err-attach-clause-inside
+returns-in_err-attach-clause-inside g c =
+    loses_before c.args.size (λ d. g.A.Attach.shows d c.args.first.now) (λ d. g.B.Attach.shows d c.args.second.now)
+    (λ d. g.A.Attach.left_behind d c.args.first.now) (λ d. g.B.Attach.left_behind d c.args.second.now)
+    g.A.Device.call_count g.B.Device.call_count c.args.self.now.first c.attach.new.self c.args.self.now.second c.args.self.now.second
+    (none_then c.args.size c.in_err-attach.ensures.behind_time (λ all. all c.args.first.now))
+    (IfNone-always c.args.size (elapses_none (g.B.Device.call_count c.args.self.now.second) (g.B.Attach.left_behind c.args.self.now.second c.args.second.now) Nothing))
+
+pub returns-in_err-attach-2-clause-inside : goal.returns-in_err-attach-2-clause-inside
+returns-in_err-attach-2-clause-inside g c =
+    loses_before c.args.size (λ d. g.A.Attach.shows d c.args.first.now) (λ d. g.B.Attach.shows d c.args.second.now)
+    (λ d. g.A.Attach.left_behind d c.args.first.now) (λ d. g.B.Attach.left_behind d c.args.second.now)
+    g.A.Device.call_count g.B.Device.call_count c.args.self.now.first c.attach.new.self c.args.self.now.second c.attach-2.new.self
+    (none_then c.args.size c.in_ok-attach.ensures.time (λ time. by_name Nothing time
+    (λ t image. g.met.A.Attach.left_named c.attach.new.self c.args.first.now t image c.in_ok-attach.ensures.named)))
+    (none_then c.args.size c.in_err-attach-2.ensures.behind_time (λ all. all c.args.second.now))
+
+pub returns-in_err-barrier-clause-inside : goal.returns-in_err-barrier-clause-inside
+returns-in_err-barrier-clause-inside g c =
+    loses_before c.args.size (λ d. g.A.Attach.shows d c.args.first.now) (λ d. g.B.Attach.shows d c.args.second.now)
+    (λ d. g.A.Attach.left_behind d c.args.first.now) (λ d. g.B.Attach.left_behind d c.args.second.now)
+    g.A.Device.call_count g.B.Device.call_count c.args.self.now.first c.barrier.new.self c.args.self.now.second c.attach-2.new.self
+    (none_then c.args.size c.in_ok-attach.ensures.time (λ time. by_name Nothing (goes_on Nothing Nothing time c.barrier.ensures.time (λ image none. none))
+    (λ t image. g.met.A.Attach.left_named c.barrier.new.self c.args.first.now t image (c.barrier.ensures.same_name c.args.first.now c.in_ok-attach.ensures.named))))
+    (none_then c.args.size c.in_ok-attach-2.ensures.time (λ time. by_name Nothing time
+    (λ t image. g.met.B.Attach.left_named c.attach-2.new.self c.args.second.now t image c.in_ok-attach-2.ensures.named)))
+
+pub returns-in_err-barrier-2-clause-inside : goal.returns-in_err-barrier-2-clause-inside
+returns-in_err-barrier-2-clause-inside g c =
+    loses_before c.args.size (λ d. g.A.Attach.shows d c.args.first.now) (λ d. g.B.Attach.shows d c.args.second.now)
+    (λ d. g.A.Attach.left_behind d c.args.first.now) (λ d. g.B.Attach.left_behind d c.args.second.now)
+    g.A.Device.call_count g.B.Device.call_count c.args.self.now.first c.barrier.new.self c.args.self.now.second c.barrier-2.new.self
+    (none_then c.args.size c.in_ok-attach.ensures.time (λ time. by_name Nothing (goes_on Nothing Nothing time c.barrier.ensures.time (λ image none. none))
+    (λ t image. g.met.A.Attach.left_named c.barrier.new.self c.args.first.now t image (c.barrier.ensures.same_name c.args.first.now c.in_ok-attach.ensures.named))))
+    (none_then c.args.size c.in_ok-attach-2.ensures.time (λ time. by_name Nothing (goes_on Nothing Nothing time c.barrier-2.ensures.time (λ image none. none))
+    (λ t image. g.met.B.Attach.left_named c.barrier-2.new.self c.args.second.now t image (c.barrier-2.ensures.same_name c.args.second.now c.in_ok-attach-2.ensures.named))))
+
+pub returns-clause-inside : goal.returns-clause-inside
+returns-clause-inside g c =
+    loses_joined g.A.Device g.B.Device c.args.size c.args.first.now c.args.second.now (λ d. g.A.Attach.shows d c.args.first.now) (λ d. g.B.Attach.shows d c.args.second.now)
+    (λ d. g.A.Attach.left_behind d c.args.first.now) (λ d. g.B.Attach.left_behind d c.args.second.now)
+    c.args.self.now.first c.attach.new.self c.barrier.new.self c.join.new.self.first
+    c.args.self.now.second c.attach-2.new.self c.barrier-2.new.self c.join.new.self.second
+    c.in_ok-attach.ensures.shown c.in_ok-attach-2.ensures.shown c.barrier.ensures.kept c.barrier-2.ensures.kept c.barrier.ensures.count c.barrier-2.ensures.count
+    c.attach.ensures.shape c.attach-2.ensures.shape
+    (none_then c.args.size c.in_ok-attach.ensures.time (λ time. by_name Nothing (goes_on Nothing Nothing time c.barrier.ensures.time (λ image none. none))
+    (λ t image. g.met.A.Attach.left_named c.barrier.new.self c.args.first.now t image (c.barrier.ensures.same_name c.args.first.now c.in_ok-attach.ensures.named))))
+    (none_then c.args.size c.in_ok-attach-2.ensures.time (λ time. by_name Nothing (goes_on Nothing Nothing time c.barrier-2.ensures.time (λ image none. none))
+    (λ t image. g.met.B.Attach.left_named c.barrier-2.new.self c.args.second.now t image (c.barrier-2.ensures.same_name c.args.second.now c.in_ok-attach-2.ensures.named))))
+    (c.barrier.ensures.same_name c.args.first.now c.in_ok-attach.ensures.named) (c.barrier-2.ensures.same_name c.args.second.now c.in_ok-attach-2.ensures.named)
+    (λ d t image named left. (g.met.A.Attach.left_named d c.args.first.now t image named).0 left)
+    (λ d t image named left. (g.met.B.Attach.left_named d c.args.second.now t image named).0 left) c.join.ensures.inside

@@ -1,10 +1,10 @@
-use Rattle.std.proofs.Common.{◌≡◌, ◌-◌, ap, arith, ◌∙◌}
+use Rattle.std.proofs.Common.{◌≡◌, ◌-◌, [], ap, arith, sym, ◌∙◌}
 use Rattle.std.specs.Prelude.{not}
 use Rattle.bd_device.specs.Device.{left_now}
-use Rattle.bd_mirror.proofs.Copies.{only_read}
-use Rattle.bd_mirror.proofs.Joined.{first_opens, second_closes, fore_took, fore_lost, back_took, back_lost}
+use Rattle.bd_mirror.proofs.Copies.{only_read, reads_none}
+use Rattle.bd_mirror.proofs.Crashes.{stretch_reads, reads_fore, reads_back}
+use Rattle.bd_mirror.proofs.Joined.{alone_open, alone_closed, not_other, fore_took, fore_lost, back_took, back_lost}
 use Rattle.bd_mirror.proofs.mirror.Mirror.join.Goals as goal
-use Rattle.bd_mirror.proofs.mirror.Mirror.join.Goals.{else-second_open-via-then-second_open+else-not-first_open, else-second_open-via-else-second_open}
 
 pub mirror_onto-requires-clause-source_settled : goal.mirror_onto-requires-clause-source_settled
 mirror_onto-requires-clause-source_settled g c =
@@ -36,7 +36,8 @@ returns-then-branch-clause-mirror g c =
     (omega (arith, c.if-blocks-eq0.false, c.blocks-blocks.ensures.count)) (omega (arith, c.if-blocks-eq0.false, c.if-blocks.false, c.blocks-else-blocks-eq0.ensures.count))
     (c.mirror_onto.ensures.copy_stays.count ∙ c.is_open.ensures.reads.count) (c.mirror_onto.ensures.source_stays.count ∙ c.is_open-2.ensures.reads.count)
     c.is_open.ensures.reads.kept c.is_open-2.ensures.reads.kept c.in_ok-first_open.ensures.opens c.in_ok-second_open.ensures.opens
-    c.if-not-first_open.true c.if-second_open.true
+    (alone_closed c.in_ok-second_open.second_open c.in_ok-first_open.first_open (sym c.is_alone.ensures ∙ c.if-is_alone.true))
+    (alone_open c.in_ok-second_open.second_open c.in_ok-first_open.first_open (sym c.is_alone.ensures ∙ c.if-is_alone.true))
     c.mirror_onto.ensures.copy_others c.mirror_onto.ensures.source_others c.in_ok-mirror_onto.ensures.copy_mark (ap not c.if-branch.true) c.in_ok-mirror_onto.ensures.source_mark
     (c.in_ok-mirror_onto.ensures.copied c.if-branch.true) (c.in_ok-mirror_onto.ensures.copy_durable c.if-branch.true) c.in_ok-mirror_onto.ensures.source_durable in
     record { marked = all.marked; left = all.left }
@@ -51,13 +52,14 @@ returns-then-branch-clause-shown g c =
     (omega (arith, c.if-blocks-eq0.false, c.blocks-blocks.ensures.count)) (omega (arith, c.if-blocks-eq0.false, c.if-blocks.false, c.blocks-else-blocks-eq0.ensures.count))
     (c.mirror_onto.ensures.copy_stays.count ∙ c.is_open.ensures.reads.count) (c.mirror_onto.ensures.source_stays.count ∙ c.is_open-2.ensures.reads.count)
     c.is_open.ensures.reads.kept c.is_open-2.ensures.reads.kept c.in_ok-first_open.ensures.opens c.in_ok-second_open.ensures.opens
-    c.if-not-first_open.true c.if-second_open.true
+    (alone_closed c.in_ok-second_open.second_open c.in_ok-first_open.first_open (sym c.is_alone.ensures ∙ c.if-is_alone.true))
+    (alone_open c.in_ok-second_open.second_open c.in_ok-first_open.first_open (sym c.is_alone.ensures ∙ c.if-is_alone.true))
     c.mirror_onto.ensures.copy_others c.mirror_onto.ensures.source_others c.in_ok-mirror_onto.ensures.copy_mark (ap not c.if-branch.true) c.in_ok-mirror_onto.ensures.source_mark
     (c.in_ok-mirror_onto.ensures.copied c.if-branch.true) (c.in_ok-mirror_onto.ensures.copy_durable c.if-branch.true) c.in_ok-mirror_onto.ensures.source_durable in
     all.shown
 
-pub returns-then-not-first_open-clause-mirror : goal.returns-then-not-first_open-clause-mirror
-returns-then-not-first_open-clause-mirror g c =
+pub returns-then-is_alone-clause-mirror : goal.returns-then-is_alone-clause-mirror
+returns-then-is_alone-clause-mirror g c =
     let all = back_lost (c.blocks-blocks.result - 1) (g.A.Device.block_count c.args.self.now.first) (g.B.Device.block_count c.args.self.now.second)
     (g.A.Device.block_count c.mirror_onto.new.copy) (g.B.Device.block_count c.mirror_onto.new.source)
     (g.A.Device.contents c.args.self.now.first) (g.B.Device.contents c.args.self.now.second) (g.A.Device.contents c.is_open.new.half) (g.B.Device.contents c.is_open-2.new.half)
@@ -66,13 +68,14 @@ returns-then-not-first_open-clause-mirror g c =
     (omega (arith, c.if-blocks-eq0.false, c.blocks-blocks.ensures.count)) (omega (arith, c.if-blocks-eq0.false, c.if-blocks.false, c.blocks-else-blocks-eq0.ensures.count))
     (c.mirror_onto.ensures.copy_stays.count ∙ c.is_open.ensures.reads.count) (c.mirror_onto.ensures.source_stays.count ∙ c.is_open-2.ensures.reads.count)
     c.is_open.ensures.reads.kept c.is_open-2.ensures.reads.kept c.in_ok-first_open.ensures.opens c.in_ok-second_open.ensures.opens
-    c.if-not-first_open.true c.if-second_open.true
+    (alone_closed c.in_ok-second_open.second_open c.in_ok-first_open.first_open (sym c.is_alone.ensures ∙ c.if-is_alone.true))
+    (alone_open c.in_ok-second_open.second_open c.in_ok-first_open.first_open (sym c.is_alone.ensures ∙ c.if-is_alone.true))
     c.mirror_onto.ensures.copy_others c.mirror_onto.ensures.source_others c.in_ok-mirror_onto.ensures.copy_mark (ap not c.if-branch.false) c.in_ok-mirror_onto.ensures.source_mark
     c.in_ok-mirror_onto.ensures.copy_left c.in_ok-mirror_onto.ensures.source_durable in
     record { marked = all.marked; left = all.left }
 
-pub returns-then-not-first_open-clause-shown : goal.returns-then-not-first_open-clause-shown
-returns-then-not-first_open-clause-shown g c =
+pub returns-then-is_alone-clause-shown : goal.returns-then-is_alone-clause-shown
+returns-then-is_alone-clause-shown g c =
     let all = back_lost (c.blocks-blocks.result - 1) (g.A.Device.block_count c.args.self.now.first) (g.B.Device.block_count c.args.self.now.second)
     (g.A.Device.block_count c.mirror_onto.new.copy) (g.B.Device.block_count c.mirror_onto.new.source)
     (g.A.Device.contents c.args.self.now.first) (g.B.Device.contents c.args.self.now.second) (g.A.Device.contents c.is_open.new.half) (g.B.Device.contents c.is_open-2.new.half)
@@ -81,7 +84,8 @@ returns-then-not-first_open-clause-shown g c =
     (omega (arith, c.if-blocks-eq0.false, c.blocks-blocks.ensures.count)) (omega (arith, c.if-blocks-eq0.false, c.if-blocks.false, c.blocks-else-blocks-eq0.ensures.count))
     (c.mirror_onto.ensures.copy_stays.count ∙ c.is_open.ensures.reads.count) (c.mirror_onto.ensures.source_stays.count ∙ c.is_open-2.ensures.reads.count)
     c.is_open.ensures.reads.kept c.is_open-2.ensures.reads.kept c.in_ok-first_open.ensures.opens c.in_ok-second_open.ensures.opens
-    c.if-not-first_open.true c.if-second_open.true
+    (alone_closed c.in_ok-second_open.second_open c.in_ok-first_open.first_open (sym c.is_alone.ensures ∙ c.if-is_alone.true))
+    (alone_open c.in_ok-second_open.second_open c.in_ok-first_open.first_open (sym c.is_alone.ensures ∙ c.if-is_alone.true))
     c.mirror_onto.ensures.copy_others c.mirror_onto.ensures.source_others c.in_ok-mirror_onto.ensures.copy_mark (ap not c.if-branch.false) c.in_ok-mirror_onto.ensures.source_mark
     c.in_ok-mirror_onto.ensures.copy_left c.in_ok-mirror_onto.ensures.source_durable in
     all.shown
@@ -96,10 +100,7 @@ returns-then-branch-2-clause-mirror g c =
     (omega (arith, c.if-blocks-eq0.false, c.blocks-blocks.ensures.count)) (omega (arith, c.if-blocks-eq0.false, c.if-blocks.false, c.blocks-else-blocks-eq0.ensures.count))
     (c.mirror_onto-2.ensures.source_stays.count ∙ c.is_open.ensures.reads.count) (c.mirror_onto-2.ensures.copy_stays.count ∙ c.is_open-2.ensures.reads.count)
     c.is_open.ensures.reads.kept c.is_open-2.ensures.reads.kept c.in_ok-first_open.ensures.opens c.in_ok-second_open.ensures.opens
-    (elim c.else-second_open.branch [
-      | else-second_open-via-then-second_open+else-not-first_open w ↦ first_opens c.in_ok-first_open.first_open c.in_ok-second_open.second_open w.if-not-first_open.false
-      | else-second_open-via-else-second_open w ↦ second_closes c.in_ok-first_open.first_open c.in_ok-second_open.second_open w.if-second_open.false
-    ])
+    (sym c.is_alone.ensures ∙ c.if-is_alone.false)
     c.mirror_onto-2.ensures.source_others c.mirror_onto-2.ensures.copy_others (ap not c.if-branch-2.true) c.in_ok-mirror_onto-2.ensures.source_mark c.in_ok-mirror_onto-2.ensures.copy_mark
     (c.in_ok-mirror_onto-2.ensures.copied c.if-branch-2.true) c.in_ok-mirror_onto-2.ensures.source_durable (c.in_ok-mirror_onto-2.ensures.copy_durable c.if-branch-2.true) in
     record { marked = all.marked; left = all.left }
@@ -114,10 +115,7 @@ returns-then-branch-2-clause-shown g c =
     (omega (arith, c.if-blocks-eq0.false, c.blocks-blocks.ensures.count)) (omega (arith, c.if-blocks-eq0.false, c.if-blocks.false, c.blocks-else-blocks-eq0.ensures.count))
     (c.mirror_onto-2.ensures.source_stays.count ∙ c.is_open.ensures.reads.count) (c.mirror_onto-2.ensures.copy_stays.count ∙ c.is_open-2.ensures.reads.count)
     c.is_open.ensures.reads.kept c.is_open-2.ensures.reads.kept c.in_ok-first_open.ensures.opens c.in_ok-second_open.ensures.opens
-    (elim c.else-second_open.branch [
-      | else-second_open-via-then-second_open+else-not-first_open w ↦ first_opens c.in_ok-first_open.first_open c.in_ok-second_open.second_open w.if-not-first_open.false
-      | else-second_open-via-else-second_open w ↦ second_closes c.in_ok-first_open.first_open c.in_ok-second_open.second_open w.if-second_open.false
-    ])
+    (sym c.is_alone.ensures ∙ c.if-is_alone.false)
     c.mirror_onto-2.ensures.source_others c.mirror_onto-2.ensures.copy_others (ap not c.if-branch-2.true) c.in_ok-mirror_onto-2.ensures.source_mark c.in_ok-mirror_onto-2.ensures.copy_mark
     (c.in_ok-mirror_onto-2.ensures.copied c.if-branch-2.true) c.in_ok-mirror_onto-2.ensures.source_durable (c.in_ok-mirror_onto-2.ensures.copy_durable c.if-branch-2.true) in
     all.shown
@@ -132,10 +130,7 @@ returns-clause-mirror g c =
     (omega (arith, c.if-blocks-eq0.false, c.blocks-blocks.ensures.count)) (omega (arith, c.if-blocks-eq0.false, c.if-blocks.false, c.blocks-else-blocks-eq0.ensures.count))
     (c.mirror_onto-2.ensures.source_stays.count ∙ c.is_open.ensures.reads.count) (c.mirror_onto-2.ensures.copy_stays.count ∙ c.is_open-2.ensures.reads.count)
     c.is_open.ensures.reads.kept c.is_open-2.ensures.reads.kept c.in_ok-first_open.ensures.opens c.in_ok-second_open.ensures.opens
-    (elim c.else-second_open.branch [
-      | else-second_open-via-then-second_open+else-not-first_open w ↦ first_opens c.in_ok-first_open.first_open c.in_ok-second_open.second_open w.if-not-first_open.false
-      | else-second_open-via-else-second_open w ↦ second_closes c.in_ok-first_open.first_open c.in_ok-second_open.second_open w.if-second_open.false
-    ])
+    (sym c.is_alone.ensures ∙ c.if-is_alone.false)
     c.mirror_onto-2.ensures.source_others c.mirror_onto-2.ensures.copy_others (ap not c.if-branch-2.false) c.in_ok-mirror_onto-2.ensures.source_mark c.in_ok-mirror_onto-2.ensures.copy_mark
     c.in_ok-mirror_onto-2.ensures.source_durable c.in_ok-mirror_onto-2.ensures.copy_left in
     record { marked = all.marked; left = all.left }
@@ -150,10 +145,74 @@ returns-clause-shown g c =
     (omega (arith, c.if-blocks-eq0.false, c.blocks-blocks.ensures.count)) (omega (arith, c.if-blocks-eq0.false, c.if-blocks.false, c.blocks-else-blocks-eq0.ensures.count))
     (c.mirror_onto-2.ensures.source_stays.count ∙ c.is_open.ensures.reads.count) (c.mirror_onto-2.ensures.copy_stays.count ∙ c.is_open-2.ensures.reads.count)
     c.is_open.ensures.reads.kept c.is_open-2.ensures.reads.kept c.in_ok-first_open.ensures.opens c.in_ok-second_open.ensures.opens
-    (elim c.else-second_open.branch [
-      | else-second_open-via-then-second_open+else-not-first_open w ↦ first_opens c.in_ok-first_open.first_open c.in_ok-second_open.second_open w.if-not-first_open.false
-      | else-second_open-via-else-second_open w ↦ second_closes c.in_ok-first_open.first_open c.in_ok-second_open.second_open w.if-second_open.false
-    ])
+    (sym c.is_alone.ensures ∙ c.if-is_alone.false)
     c.mirror_onto-2.ensures.source_others c.mirror_onto-2.ensures.copy_others (ap not c.if-branch-2.false) c.in_ok-mirror_onto-2.ensures.source_mark c.in_ok-mirror_onto-2.ensures.copy_mark
     c.in_ok-mirror_onto-2.ensures.source_durable c.in_ok-mirror_onto-2.ensures.copy_left in
     all.shown
+
+pub mirror_onto-requires-clause-source_first : goal.mirror_onto-requires-clause-source_first
+mirror_onto-requires-clause-source_first g c =
+    not_other c.in_ok-second_open.second_open c.in_ok-first_open.first_open (sym c.is_alone.ensures ∙ c.if-is_alone.true)
+
+pub mirror_onto-requires-2-clause-source_first : goal.mirror_onto-requires-2-clause-source_first
+mirror_onto-requires-2-clause-source_first g c = sym c.is_alone.ensures ∙ c.if-is_alone.false
+
+-- ---- what a crash inside it may leave
+
+pub returns-in_err-first_open-clause-inside : goal.returns-in_err-first_open-clause-inside
+returns-in_err-first_open-clause-inside g c = λ some same a b ka kb.
+    let m = c.args.self.now in (
+      [],
+      stretch_reads g.A.Device g.B.Device (g.A.Device.block_count m.first - 1) a b m.first c.is_open.new.half m.second m.second ka kb
+          (c.requires.first_settled some) (c.requires.second_settled (omega (arith, some, same))) c.is_open.ensures.reads (reads_none g.B.Device m.second),
+    )
+
+pub returns-in_err-second_open-clause-inside : goal.returns-in_err-second_open-clause-inside
+returns-in_err-second_open-clause-inside g c = λ some same a b ka kb.
+    let m = c.args.self.now in (
+      [],
+      stretch_reads g.A.Device g.B.Device (g.A.Device.block_count m.first - 1) a b m.first c.is_open.new.half m.second c.is_open-2.new.half ka kb
+          (c.requires.first_settled some) (c.requires.second_settled (omega (arith, some, same))) c.is_open.ensures.reads c.is_open-2.ensures.reads,
+    )
+
+pub returns-in_err-mirror_onto-clause-inside : goal.returns-in_err-mirror_onto-clause-inside
+returns-in_err-mirror_onto-clause-inside g c = λ some same a b ka kb.
+    let m = c.args.self.now in
+    reads_back g.A.Device g.B.Device (c.blocks-blocks.result - 1) (g.A.Device.block_count m.first - 1) a b m.first c.is_open.new.half c.mirror_onto.new.copy
+    m.second c.is_open-2.new.half c.mirror_onto.new.source (ap (λ n. n - 1) c.blocks-blocks.ensures.count) ka kb
+    (c.requires.first_settled some) (c.requires.second_settled (omega (arith, some, same))) c.is_open.ensures.reads c.is_open-2.ensures.reads c.mirror_onto.ensures.inside
+
+pub returns-then-branch-clause-inside : goal.returns-then-branch-clause-inside
+returns-then-branch-clause-inside g c = λ some same a b ka kb.
+    let m = c.args.self.now in
+    reads_back g.A.Device g.B.Device (c.blocks-blocks.result - 1) (g.A.Device.block_count m.first - 1) a b m.first c.is_open.new.half c.mirror_onto.new.copy
+    m.second c.is_open-2.new.half c.mirror_onto.new.source (ap (λ n. n - 1) c.blocks-blocks.ensures.count) ka kb
+    (c.requires.first_settled some) (c.requires.second_settled (omega (arith, some, same))) c.is_open.ensures.reads c.is_open-2.ensures.reads c.mirror_onto.ensures.inside
+
+pub returns-then-is_alone-clause-inside : goal.returns-then-is_alone-clause-inside
+returns-then-is_alone-clause-inside g c = λ some same a b ka kb.
+    let m = c.args.self.now in
+    reads_back g.A.Device g.B.Device (c.blocks-blocks.result - 1) (g.A.Device.block_count m.first - 1) a b m.first c.is_open.new.half c.mirror_onto.new.copy
+    m.second c.is_open-2.new.half c.mirror_onto.new.source (ap (λ n. n - 1) c.blocks-blocks.ensures.count) ka kb
+    (c.requires.first_settled some) (c.requires.second_settled (omega (arith, some, same))) c.is_open.ensures.reads c.is_open-2.ensures.reads c.mirror_onto.ensures.inside
+
+pub returns-in_err-mirror_onto-2-clause-inside : goal.returns-in_err-mirror_onto-2-clause-inside
+returns-in_err-mirror_onto-2-clause-inside g c = λ some same a b ka kb.
+    let m = c.args.self.now in
+    reads_fore g.A.Device g.B.Device (c.blocks-blocks.result - 1) (g.A.Device.block_count m.first - 1) a b m.first c.is_open.new.half c.mirror_onto-2.new.source
+    m.second c.is_open-2.new.half c.mirror_onto-2.new.copy (ap (λ n. n - 1) c.blocks-blocks.ensures.count) ka kb
+    (c.requires.first_settled some) (c.requires.second_settled (omega (arith, some, same))) c.is_open.ensures.reads c.is_open-2.ensures.reads c.mirror_onto-2.ensures.inside
+
+pub returns-then-branch-2-clause-inside : goal.returns-then-branch-2-clause-inside
+returns-then-branch-2-clause-inside g c = λ some same a b ka kb.
+    let m = c.args.self.now in
+    reads_fore g.A.Device g.B.Device (c.blocks-blocks.result - 1) (g.A.Device.block_count m.first - 1) a b m.first c.is_open.new.half c.mirror_onto-2.new.source
+    m.second c.is_open-2.new.half c.mirror_onto-2.new.copy (ap (λ n. n - 1) c.blocks-blocks.ensures.count) ka kb
+    (c.requires.first_settled some) (c.requires.second_settled (omega (arith, some, same))) c.is_open.ensures.reads c.is_open-2.ensures.reads c.mirror_onto-2.ensures.inside
+
+pub returns-clause-inside : goal.returns-clause-inside
+returns-clause-inside g c = λ some same a b ka kb.
+    let m = c.args.self.now in
+    reads_fore g.A.Device g.B.Device (c.blocks-blocks.result - 1) (g.A.Device.block_count m.first - 1) a b m.first c.is_open.new.half c.mirror_onto-2.new.source
+    m.second c.is_open-2.new.half c.mirror_onto-2.new.copy (ap (λ n. n - 1) c.blocks-blocks.ensures.count) ka kb
+    (c.requires.first_settled some) (c.requires.second_settled (omega (arith, some, same))) c.is_open.ensures.reads c.is_open-2.ensures.reads c.mirror_onto-2.ensures.inside
