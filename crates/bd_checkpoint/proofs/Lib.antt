@@ -1,3 +1,4 @@
 pub mod Starting
 pub mod Logged
 pub mod Published
+pub mod Records

@@ -4,11 +4,13 @@
 //! nothing of this.
 #![tactic(auto)]
 
+mod commands;
 mod following;
 pub mod laws;
 mod publishing;
 mod syncing;
 
+pub use commands::{PlacedCommand, commands_of};
 pub use following::next_super;
 pub use publishing::publish_next;
 pub use syncing::sync;
