@@ -2,3 +2,4 @@ pub mod Starting
 pub mod Logged
 pub mod Published
 pub mod Records
+pub mod Spare
