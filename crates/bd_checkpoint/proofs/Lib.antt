@@ -1,2 +1,5 @@
 pub mod Starting
 pub mod Logged
+pub mod Published
+pub mod Records
+pub mod Spare

@@ -1,1 +1,4 @@
+pub mod Commands
+pub mod Following
 pub mod Kept
+pub mod Spare

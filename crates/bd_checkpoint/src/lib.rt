@@ -1,9 +1,16 @@
 //! What is known of a device between two calls, and that it stays known.
-//! The layers above may use the contract of `sync`, which tells what an image stands for that a
-//! crash inside it or after it leaves, and that an appended record changes nothing of this.
+//! The layers above may use the contracts of `sync` and of `publish_next`, which tell what an image
+//! stands for that a crash inside them or after them leaves, and that an appended record changes
+//! nothing of this.
 #![tactic(auto)]
 
+mod commands;
+mod following;
 pub mod laws;
+mod publishing;
 mod syncing;
 
+pub use commands::{PlacedCommand, commands_of};
+pub use following::next_super;
+pub use publishing::publish_next;
 pub use syncing::sync;

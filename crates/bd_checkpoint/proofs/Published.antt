@@ -1,0 +1,130 @@
+-- What is known while the next superblock is published and after it.
+use Rattle.std.proofs.Common.{◌≡◌, ℕ, ◌+◌, ◌≤◌, inl, inr, [], Option, None, Some, IfSome, refl, sym, ap, subst, ◌∙◌, arith}
+use Rattle.std.specs.Prelude.{IsSomeAnd}
+use Rattle.bd_model.specs.Tree.{Tree}
+use Rattle.bd_slots.specs.Layout.{image_blocks}
+use Rattle.bd_device.specs.Blocks.{Image}
+use Rattle.bd_device.specs.Changes.{SameBut}
+use Rattle.bd_device.specs.Commits.{IsCommitted}
+use Rattle.bd_device.specs.Moments.{IsOnly}
+use Rattle.bd_node.specs.Meaning.{Nodes}
+use Rattle.bd_table.specs.declared.table.Table.{Table as StoredTable}
+use Rattle.bd_super.specs.Superblocks.{IsSuper, log_block, other, version_number}
+use Rattle.bd_super.specs.Live.{IsLive}
+use Rattle.bd_super.specs.Published.{IsOfHalf, SameLive, CanFollow, IsPublished, IsStagedOrPublished, SameSuperblocks}
+use Rattle.bd_super.specs.declared.superblock.Half.{Half}
+use Rattle.bd_super.specs.declared.superblock.Half.TheVariants.{A, B}
+use Rattle.bd_super.specs.declared.superblock.Super.{Super}
+use Rattle.bd_super.proofs.LiveLemmas.{one_live, other_twice}
+use Rattle.bd_log.specs.Logs.{LogState, fresh_log}
+use Rattle.bd_image.specs.Versions.{version_of}
+use Rattle.bd_image.specs.ImageTree.{HaveTree, ImageStandsFor}
+use Rattle.bd_image.specs.Standing.{StandsAs, IsOldOrNew}
+use Rattle.bd_image.specs.Used.{used_slots, SameSlots}
+use Rattle.bd_image.proofs.Checkpoints.{staged, published}
+use Rattle.bd_image.proofs.Frame.{table_same}
+use Rattle.bd_checkpoint.specs.Kept.{Saved, StartsAs, IsOpen, AllStandFor}
+use Rattle.bd_checkpoint.specs.Following.{IsNext, HasTableOf, AreWritten, saved_by}
+
+-- ---- the next superblock
+
+beside : (live next : Super) → IsNext live next → next.half ≡ other live.half
+beside live next follows = ap (λ (s : Super). s.half) follows
+
+beside_live : (live next : Super) → IsNext live next → live.half ≡ other next.half
+beside_live live next follows = sym (other_twice live.half) ∙ ap other (sym (beside live next follows))
+
+pub same_slots : (live next : Super) → IsNext live next → next.slots ≡ live.slots
+same_slots live next follows = ap (λ (s : Super). s.slots) follows
+
+of_today : (live next : Super) → IsNext live next → version_of next ≡ 2
+of_today live next follows = ap (λ (s : Super). version_number s.version) follows
+
+pub can_follow : (known : Option Image) (live next : Super) → IsNext live next → IfSome known (λ image. IsLive image live) → IfSome known (CanFollow next)
+can_follow None live next follows is = tt
+can_follow (Some image) live next follows is =
+    let epoch : next.epoch ≡ live.epoch + 1 = ap (λ (s : Super). s.epoch) follows in
+    inr (live, is, beside_live live next follows, omega (arith, epoch))
+
+-- ---- what an image stands for
+
+-- staged: all that an image of before stands for
+as_staged : (live next : Super) (saved : Saved) (place : ℕ) (old new : Image) → IsNext live next → StartsAs live saved place old → SameBut (IsOfHalf next.half) old new → SameLive old new
+    → StandsAs old new
+as_staged live next saved place old new follows starts same same_live = λ tree count stands.
+    let (s, t, p, h) = stands in
+    let super : s ≡ live = one_live old s live h.starts.live starts.live_is in
+    let half : s.half ≡ other next.half = ap (λ (x : Super). x.half) super ∙ beside_live live next follows in
+    (s, t, p, staged next.half s t p tree count old new half same same_live h)
+
+-- published: the tree of the nodes that were written
+as_new : (known : Option Image) (live next : Super) (t : StoredTable) (nodes : Nodes) (tree : Tree) (new : Image) → IsNext live next → AreWritten known next t nodes tree → IsPublished next known new
+    → ImageStandsFor tree next.count new
+as_new None live next t nodes tree new follows written is = absurd is.outside
+as_new (Some old) live next t nodes tree new follows written is =
+    let today : version_of next ≡ 2 = of_today live next follows in
+    let have : HaveTree (version_of next) t nodes tree = record {
+      sound = written.have.sound;
+      is_tree = written.have.is_tree;
+      of_version = λ low. absurd (omega (arith, low, today));
+      represents = written.have.represents;
+    } in
+    (next, t, 0, published next t nodes tree old new is written.table written.stored have)
+
+pub old_or_new : (known : Option Image) (before : Image → Type 0) (count : ℕ) (live next : Super) (saved : Saved) (log : LogState) (t : StoredTable) (nodes : Nodes) (tree : Tree)
+    → IsNext live next → IsOpen known before count live saved log → AreWritten known next t nodes tree
+    → (c : Image) → IsStagedOrPublished next known before c → IsOldOrNew before tree next.count c
+old_or_new known before count live next saved log t nodes tree follows given written c (inl is) =
+    inl (is.old, is.was, as_staged live next saved log.place is.old c follows (given.each is.old is.was) is.outside is.live)
+old_or_new known before count live next saved log t nodes tree follows given written c (inr is) =
+    inr (as_new known live next t nodes tree c follows written is)
+
+-- ---- once it is Ok
+
+-- what holds of what reads give holds of the one image that is left
+of_left : (P : Image → Type 0) (now : Option Image) (c : Image) → IfSome now P → now ≡ Some c → P c
+of_left P now c is same = subst (λ (o : Option Image). IfSome o P) same is
+
+pub all_new : (known now : Option Image) (left : Image → Type 0) (live next : Super) (t : StoredTable) (nodes : Nodes) (tree : Tree) → IsNext live next → AreWritten known next t nodes tree
+    → IfSome now (IsPublished next known) → IsOnly now left → AllStandFor tree next.count left
+all_new known now left live next t nodes tree follows written is only =
+    λ c was. as_new known live next t nodes tree c follows written (of_left (IsPublished next known) now c is (only c was))
+
+-- no block of a slot is written
+not_slot : (half : Half) (b : ℕ) → 132 ≤ b → ¬ IsOfHalf half b
+not_slot A b high (inl e) = omega (arith, high, e)
+not_slot A b high (inr (inl e)) = omega (arith, high, e)
+not_slot A b high (inr (inr e)) = omega (arith, high, e)
+not_slot B b high (inl e) = omega (arith, high, e)
+not_slot B b high (inr (inl e)) = omega (arith, high, e)
+not_slot B b high (inr (inr e)) = omega (arith, high, e)
+
+starts_new : (known : Option Image) (next : Super) (t : StoredTable) (new : Image) → IfSome known (HasTableOf next t) → IsPublished next known new → StartsAs next (saved_by next t) 0 new
+starts_new None next t new table is = absurd is.outside
+starts_new (Some old) next t new table is =
+    let same : SameBut (IsOfHalf next.half) old new = is.outside in
+    let slots : SameSlots (used_slots next.table t) old new = λ b own. same.others b (not_slot next.half b (omega (arith, own.4.0))) in
+    let first : log_block next.half + 0 ≡ log_block next.half = omega arith in
+    record {
+      live_is = is.live;
+      table_is = table_same next.slots next.table t old new slots table;
+      batches = [];
+      batches_are = record { follow = refl; closed = λ on. is.log (subst (IsCommitted new) first on) };
+    }
+
+live_now : (known now : Option Image) (next : Super) → IfSome now (IsPublished next known) → IfSome now (λ image. IsLive image next)
+live_now known None next is = tt
+live_now known (Some image) next is = is.live
+
+pub open_new : (known now : Option Image) (left : Image → Type 0) (count total : ℕ) (live next : Super) (t : StoredTable) → IsSuper next → IsNext live next → count ≡ image_blocks live.slots
+    → total ≡ count → IfSome known (HasTableOf next t) → IfSome now (IsPublished next known) → IsOnly now left
+    → IsOpen now left total next (saved_by next t) (fresh_log (log_block next.half) next.epoch)
+open_new known now left count total live next t fits follows size same table is only = record {
+  fits = fits;
+  size = same ∙ size ∙ ap image_blocks (sym (same_slots live next follows));
+  live_is = live_now known now next is;
+  settled = λ c was. subst (λ (o : Option Image). IsSomeAnd o (λ image. SameSuperblocks image c)) (sym (only c was)) (record { size = refl; blocks = λ b low. refl });
+  each = λ c was. starts_new known next t c table (of_left (IsPublished next known) now c is (only c was));
+  at = refl;
+  log_is = record { first = refl; epoch = refl };
+}

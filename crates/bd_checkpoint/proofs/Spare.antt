@@ -1,0 +1,139 @@
+-- What is known where slots are written that the last checkpoint doesn't hold.
+use Rattle.std.proofs.Common.{◌≡◌, ℕ, ◌+◌, ◌<◌, ◌≤◌, inl, inr, Bool, true, List, [], ◌∷◌, length, Option, None, Some, IfSome, refl, sym, ap, subst, ◌∙◌, arith}
+use Rattle.std.specs.Prelude.{IsSomeAnd, slice_index}
+use Rattle.std.proofs.lemmas.Option.{slice_get_within}
+use Rattle.bd_device.specs.Blocks.{Image}
+use Rattle.bd_device.specs.Changes.{SameBut, StaysBut, IsBeforeBut}
+use Rattle.bd_device.specs.Commits.{block_at, IsCommitted}
+use Rattle.bd_table.specs.Tables.{AreFreeSlots}
+use Rattle.bd_super.specs.Superblocks.{log_block}
+use Rattle.bd_super.specs.Live.{IsLive}
+use Rattle.bd_super.specs.Published.{SameSuperblocks}
+use Rattle.bd_super.specs.declared.superblock.Super.{Super}
+use Rattle.bd_super.proofs.LiveLemmas.{same_halves, same_superblocks}
+use Rattle.bd_log.specs.Batches.{IsBatchAt, AreChained, AreBatches, body_blocks}
+use Rattle.bd_log.specs.Logs.{LogState}
+use Rattle.bd_log.specs.declared.batch.Batch.{Batch}
+use Rattle.bd_pager.specs.Slots.{IsSpare}
+use Rattle.bd_image.specs.Standing.{StandsAs, IsAsBefore}
+use Rattle.bd_image.specs.Used.{used_slots, IsOfSlots, SameSlots, SameUsed}
+use Rattle.bd_image.proofs.Frame.{bytes_same, table_same, tree_same}
+use Rattle.bd_image.proofs.Syncs.{half_place}
+use Rattle.bd_checkpoint.specs.Kept.{Saved, slots_held, StartsAs, IsOpen}
+use Rattle.bd_checkpoint.proofs.Starting.{PartsAreOne, recovered}
+
+-- ---- what isn't spare
+
+-- no block before the slots
+not_low : (spare : List Bool) (b : ℕ) → b < 132 → ¬ IsSpare spare b
+not_low spare b low is = omega (arith, low, is.2.0)
+
+-- no block of a slot that is held
+not_held : (slots : ℕ) (held : List ℕ) (spare : List Bool) (b : ℕ) → AreFreeSlots slots held spare → IsOfSlots held b → ¬ IsSpare spare b
+not_held slots held spare b free own is =
+    let one : own.1 ≡ is.0 = omega (arith, own.4.0, own.4.1, is.2.0, is.2.1) in
+    let within : is.0 < slots = omega (arith, free.count, slice_get_within spare is.0 true is.1) in
+    (free.free is.0 within).0 is.1 own.0 own.1 own.2 (own.3 ∙ one)
+
+-- ---- the parts of an image
+
+abbrev SameLow : Image → Image → Type 0
+SameLow old new = (b : ℕ) → b < 132 → block_at new b ≡ block_at old b
+
+low_same : (spare : List Bool) (old new : Image) → SameBut (IsSpare spare) old new → SameLow old new
+low_same spare old new same b low = same.others b (not_low spare b low)
+
+supers_same : (spare : List Bool) (old new : Image) → SameBut (IsSpare spare) old new → SameSuperblocks old new
+supers_same spare old new same = record { size = same.size; blocks = λ b low. low_same spare old new same b (omega (arith, low)) }
+
+live_same : (spare : List Bool) (s : Super) (old new : Image) → SameBut (IsSpare spare) old new → IsLive old s → IsLive new s
+live_same spare s old new same = (same_halves old new (same_superblocks old new (supers_same spare old new same)) s).0
+
+chain_same : (first epoch place : ℕ) (old new : Image) (batches : List Batch) (end : ℕ) → first + 64 ≤ 132 → length new ≡ length old → SameLow old new → place < 64
+    → AreChained old first epoch place batches end → AreChained new first epoch place batches end × (end < 64)
+chain_same first epoch place old new [] end log size same lt h = (h, omega (arith, lt, h))
+chain_same first epoch place old new (batch ∷ batches) end log size same lt h =
+    let rest = chain_same first epoch (place + 1 + body_blocks batch.records) old new batches end log size same (omega (arith, h.1.room)) h.2 in
+    let here : IsBatchAt new first epoch place batch = record {
+      body = h.1.body;
+      some = h.1.some;
+      each = h.1.each;
+      room = h.1.room;
+      bytes = bytes_same old new batch.body (body_blocks batch.records) size (λ i low high. same i (omega (arith, high, h.1.body, h.1.room, log))) ∙ h.1.bytes;
+    } in
+    ((ap (λ (l : List ℕ). slice_index l 0) (same (first + place) (omega (arith, lt, log))) ∙ h.0, here, rest.0), rest.1)
+
+batches_same : (first epoch : ℕ) (old new : Image) (batches : List Batch) (end : ℕ) → first + 64 ≤ 132 → length new ≡ length old → SameLow old new
+    → AreBatches old first epoch batches end → AreBatches new first epoch batches end
+batches_same first epoch old new batches end log size same h =
+    let chain = chain_same first epoch 0 old new batches end log size same (omega arith) h.follow in
+    record { follow = chain.0; closed = λ on. h.closed (sym (ap (λ (l : List ℕ). slice_index l 0) (same (first + end) (omega (arith, chain.1, log)))) ∙ on) }
+
+-- the slots of the last checkpoint
+slots_same : (live : Super) (saved : Saved) (spare : List Bool) (old new : Image) → saved.at ≡ live.table → AreFreeSlots live.slots (slots_held saved) spare → SameBut (IsSpare spare) old new
+    → SameSlots (used_slots live.table saved.table) old new
+slots_same live saved spare old new at free same =
+    subst (λ (l : List ℕ). SameSlots (used_slots l saved.table) old new) at (λ b own. same.others b (not_held live.slots (slots_held saved) spare b free own))
+
+-- ---- what is known
+
+starts_spare : (live : Super) (saved : Saved) (place : ℕ) (spare : List Bool) (old new : Image) → saved.at ≡ live.table → AreFreeSlots live.slots (slots_held saved) spare → SameBut (IsSpare spare) old new
+    → StartsAs live saved place old → StartsAs live saved place new
+starts_spare live saved place spare old new at free same starts = record {
+  live_is = live_same spare live old new same starts.live_is;
+  table_is = table_same live.slots live.table saved.table old new (slots_same live saved spare old new at free same) starts.table_is;
+  batches = starts.batches;
+  batches_are = batches_same (log_block live.half) live.epoch old new starts.batches place (half_place live.half).1 same.size (low_same spare old new same) starts.batches_are;
+}
+
+-- such an image stands for all that it stood for before
+stands_spare : PartsAreOne → (live : Super) (saved : Saved) (place : ℕ) (spare : List Bool) (old new : Image) → saved.at ≡ live.table → AreFreeSlots live.slots (slots_held saved) spare
+    → SameBut (IsSpare spare) old new → StartsAs live saved place old → StandsAs old new
+stands_spare one live saved place spare old new at free same starts = λ tree count stands.
+    let log = half_place live.half in
+    let slots : SameSlots (used_slots live.table saved.table) old new = slots_same live saved spare old new at free same in
+    let used : SameUsed live saved.table old new = λ b is. elim is [
+      | inl own ↦ low_same spare old new same b (omega (arith, log.1, own.1))
+      | inr own ↦ slots b own
+    ] in
+    (live, saved.table, place, tree_same live saved.table place tree count old new used (live_same spare live old new same starts.live_is) (recovered one live saved place old tree count starts stands))
+
+pub as_before_spare : PartsAreOne → (known : Option Image) (before : Image → Type 0) (count : ℕ) (live : Super) (saved : Saved) (log : LogState) (spare : List Bool) → IsOpen known before count live saved log
+    → AreFreeSlots live.slots (slots_held saved) spare → (c : Image) → IsBeforeBut (IsSpare spare) before c → IsAsBefore before c
+as_before_spare one known before count live saved log spare given free c (d, was, same) =
+    (d, was, stands_spare one live saved log.place spare d c given.at free same (given.each d was))
+
+live_known : (spare : List Bool) (live : Super) (known now : Option Image) → StaysBut (IsSpare spare) known now → IfSome known (λ image. IsLive image live) → IfSome now (λ image. IsLive image live)
+live_known spare live None None same is = tt
+live_known spare live (Some old) (Some new) same is = live_same spare live old new same is
+live_known spare live None (Some new) same is = absurd same
+live_known spare live (Some old) None same is = absurd same
+
+settled_known : (spare : List Bool) (known now : Option Image) (d c : Image) → StaysBut (IsSpare spare) known now → SameBut (IsSpare spare) d c → IsSomeAnd known (λ image. SameSuperblocks image d)
+    → IsSomeAnd now (λ image. SameSuperblocks image c)
+settled_known spare None now d c stays same is = absurd is
+settled_known spare (Some old) None d c stays same is = absurd stays
+settled_known spare (Some old) (Some new) d c stays same is =
+    let mine : SameSuperblocks d c = supers_same spare d c same in
+    let theirs : SameSuperblocks old new = supers_same spare old new stays in
+    record {
+      size = mine.size ∙ is.size ∙ sym theirs.size;
+      blocks = λ b low. mine.blocks b low ∙ is.blocks b low ∙ sym (theirs.blocks b low);
+    }
+
+pub open_spare : (known now : Option Image) (before left : Image → Type 0) (count total : ℕ) (live : Super) (saved : Saved) (log : LogState) (spare : List Bool) → IsOpen known before count live saved log
+    → AreFreeSlots live.slots (slots_held saved) spare → total ≡ count → StaysBut (IsSpare spare) known now → ((c : Image) → left c → IsBeforeBut (IsSpare spare) before c)
+    → IsOpen now left total live saved log
+open_spare known now before left count total live saved log spare given free same_count stays after = record {
+  fits = given.fits;
+  size = same_count ∙ given.size;
+  live_is = live_known spare live known now stays given.live_is;
+  settled = λ c is. let (d, was, same) = after c is in settled_known spare known now d c stays same (given.settled d was);
+  each = λ c is. let (d, was, same) = after c is in starts_spare live saved log.place spare d c given.at free same (given.each d was);
+  at = given.at;
+  log_is = given.log_is;
+}
+
+-- an image of before is one in which nothing changed
+pub unchanged : (spare : List Bool) (before : Image → Type 0) (c : Image) → before c → IsBeforeBut (IsSpare spare) before c
+unchanged spare before c was = (c, was, record { size = refl; others = λ b out. refl })
