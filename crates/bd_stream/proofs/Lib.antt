@@ -4,3 +4,4 @@ pub mod FedLemmas
 pub mod HeadLemmas
 pub mod GatherLemmas
 pub mod StreamLemmas
+pub mod WellLemmas
