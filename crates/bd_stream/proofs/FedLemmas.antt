@@ -1,5 +1,5 @@
 -- What is known of a stream stays sound, and doesn't depend on how the stream is cut.
-use Rattle.std.proofs.Common.{◌≡◌, ◌≢◌, ℕ, ◌+◌, ◌-◌, ◌<◌, ◌≤◌, List, [], ◌∷◌, ◌++◌, length, take, drop, get_or, Bool, true, false, cond, suc, Some, None, Option, refl, sym, ap, subst, ◌∙◌, arith, length-append, append_assoc, add-one, drop-cons}
+use Rattle.std.proofs.Common.{◌≡◌, ◌≢◌, ℕ, ◌+◌, ◌-◌, ◌<◌, ◌≤◌, List, [], ◌∷◌, ◌++◌, length, take, drop, get_or, Bool, true, false, cond, Some, None, Option, refl, sym, ap, subst, ◌∙◌, arith, append_assoc, add-one, drop-cons}
 use Rattle.std.specs.Prelude.{nat_lt, nat_le, slice_index, IfSome, unwrap_or}
 use Rattle.std.proofs.lemmas.Bool.{ltb-true, ltb-false, leb-true, eqb-false}
 use Rattle.bd_limits.specs.Limits.{file_limit, write_limit, mode_limit}
@@ -12,7 +12,7 @@ use Rattle.std.proofs.Math.ListN.{drop_of_length-le}
 use Rattle.bd_wire.specs.Numbers.{number_at}
 use Rattle.bd_names.specs.Names.{path_of}
 use Rattle.bd_stream.specs.Heads.{is_kind, path_count, head_of, head_with}
-use Rattle.bd_stream.specs.Importing.{Path, State, Turn, IsSound, go, quietly, chunk_size, need, phase_with, entered, given, end_phase, first_phase, is_long, is_in_order, short_path, placed_turn, found_turn, tag_turn, data_turn, turn_in, turn, with_byte, looked, taken, fed}
+use Rattle.bd_stream.specs.Importing.{Path, State, Turn, IsSound, go, quietly, chunk_size, need, phase_with, entered, given, end_phase, first_phase, is_long, is_in_order, short_path, placed_turn, found_turn, tag_turn, turn_in, turn, with_byte, taken, fed}
 use Rattle.bd_stream.proofs.NeedLemmas.{need_exact}
 
 -- ---- sound states

@@ -1,5 +1,5 @@
 -- A head that was written is read again.
-use Rattle.std.proofs.Common.{◌≡◌, ℕ, ◌+◌, ◌<◌, ◌≤◌, List, [], ◌∷◌, ◌++◌, length, take, drop, Bool, true, false, cond, Some, None, Option, refl, sym, ap, ◌∙◌, arith, length-append, append_assoc, append-nil}
+use Rattle.std.proofs.Common.{◌≡◌, ℕ, ◌+◌, ◌<◌, ◌≤◌, List, [], ◌∷◌, ◌++◌, length, take, drop, Bool, cond, Some, None, Option, refl, sym, ap, ◌∙◌, arith, length-append, append_assoc, append-nil}
 use Rattle.std.specs.Prelude.{nat_le, slice_index, IfSome}
 use Rattle.std.specs.Int.{w16, w32}
 use Rattle.std.proofs.lemmas.Bool.{le-leb, lt-leb, eq-eqb, ne_eqb}
@@ -9,7 +9,7 @@ use Rattle.bd_names.proofs.NamesLaws.{path_of-path_text}
 use Rattle.bd_wire.specs.Numbers.{be, number_at}
 use Rattle.bd_wire.specs.Text.{text16}
 use Rattle.bd_wire.proofs.NumberLemmas.{length-be, number_at-be}
-use Rattle.bd_command.specs.Command.{IsShortPath, IsMode}
+use Rattle.bd_command.specs.Command.{IsShortPath}
 use Rattle.bd_stream.specs.declared.head.Head.{Head}
 use Rattle.bd_stream.specs.Heads.{relative_text, head_around, head_bytes, IsHead, head_of, head_with, head_of_kind, path_count}
 

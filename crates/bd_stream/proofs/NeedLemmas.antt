@@ -1,12 +1,11 @@
 -- How many bytes are to be there before they are looked at.
-use Rattle.std.proofs.Common.{◌≡◌, ℕ, ◌+◌, ◌<◌, ◌≤◌, List, [], ◌∷◌, ◌++◌, length, Bool, true, false, cond, suc, refl, sym, ap, ◌∙◌, arith, length-append}
+use Rattle.std.proofs.Common.{◌≡◌, ℕ, ◌+◌, ◌<◌, ◌≤◌, List, [], ◌∷◌, ◌++◌, length, Bool, true, false, cond, refl, ap, arith, length-append}
 use Rattle.std.specs.Prelude.{nat_lt, slice_index}
-use Rattle.std.proofs.lemmas.Bool.{ltb-true, ltb-false, le-ltb, lt-ltb}
-use Rattle.bd_limits.specs.Limits.{write_limit}
-use Rattle.bd_stream.specs.Heads.{is_kind, path_count, head_size, tail_size}
+use Rattle.std.proofs.lemmas.Bool.{ltb-true, ltb-false, le-ltb}
+use Rattle.bd_stream.specs.Heads.{is_kind, path_count, head_size}
 use Rattle.bd_stream.specs.declared.machine.Phase.{Phase}
 use Rattle.bd_stream.specs.declared.machine.Phase.TheVariants.{Start, First, Next, Data, Ended, Bad, Long}
-use Rattle.bd_stream.specs.Importing.{head_need, is_long, need, chunk_size}
+use Rattle.bd_stream.specs.Importing.{head_need, is_long, need}
 
 size_by : (n size : ℕ) (t k l : Bool) → (t ≡ true → n < 3) → n ≡ cond t (cond k 3 1) (cond l 3 size) → k ≡ true → l ≡ false → n ≡ size
 size_by n size true true l short e hk hl = let h : n < 3 = short refl in absurd (omega arith)
@@ -44,7 +43,7 @@ pub one_known : (bytes : List ℕ) → 1 ≤ head_need bytes
 one_known bytes = some_by (head_size bytes) (nat_lt (length bytes) 3) (is_kind (slice_index bytes 0)) (is_long bytes) (size_more bytes)
 
 -- what a head needs is known from its first three bytes on
-need_after : (a c d : ℕ) (ws : List ℕ) → head_need (a ∷ c ∷ d ∷ ws) ≡ cond (is_long (a ∷ c ∷ d ∷ [])) 3 (head_size (a ∷ c ∷ d ∷ []))
+pub need_after : (a c d : ℕ) (ws : List ℕ) → head_need (a ∷ c ∷ d ∷ ws) ≡ cond (is_long (a ∷ c ∷ d ∷ [])) 3 (head_size (a ∷ c ∷ d ∷ []))
 need_after a c d ws = ap (λ t. cond t (cond (is_kind a) 3 1) (cond (is_long (a ∷ c ∷ d ∷ ws)) 3 (head_size (a ∷ c ∷ d ∷ ws)))) (le-ltb (length (a ∷ c ∷ d ∷ ws)) 3 (omega arith))
 
 one_byte : (n : ℕ) (k : Bool) → n ≡ 1 → cond k 3 1 ≤ n → n ≡ cond k 3 1

@@ -1,10 +1,10 @@
 -- The head of an entry of a stream: what kind it is, its path below the exported one, its mode, and
 -- how long a file is.
-use Rattle.std.specs.Prelude.{◌≡◌, ℕ, ◌+◌, ◌≤◌, Bool, ◌||◌, List, [], ◌∷◌, ◌++◌, length, take, drop, slice_index, nat_le, nat_lt, ◌==◌, if◌then◌else◌, IfSome}
+use Rattle.std.specs.Prelude.{ℕ, ◌+◌, ◌≤◌, Bool, ◌||◌, List, ◌∷◌, ◌++◌, take, drop, slice_index, nat_le, ◌==◌, if◌then◌else◌, IfSome}
 use Rattle.std.specs.Int.{w16, w32}
 use Rattle.std.specs.declared.option.Option.{Option}
 use Rattle.std.specs.declared.option.Option.TheVariants.{None, Some}
-use Rattle.bd_limits.specs.Limits.{path_limit, mode_limit, file_limit}
+use Rattle.bd_limits.specs.Limits.{mode_limit, file_limit}
 use Rattle.bd_names.specs.Names.{path_text, path_of}
 use Rattle.bd_wire.specs.Numbers.{be, number_at}
 use Rattle.bd_wire.specs.Text.{text16}

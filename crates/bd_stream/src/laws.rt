@@ -2,10 +2,15 @@
 //! and does nothing.
 
 ghost use Rattle.std.specs.Prelude.{◌≡◌, ◌++◌, ◌∷◌, [], ℕ, List};
+ghost use Rattle.std.specs.List.{flat_map, AllByRecursion};
+ghost use Rattle.bd_command.specs.Command.{IsShortPath, IsCommand};
+ghost use Rattle.bd_model.specs.Step.{Placed};
 ghost use Rattle.bd_stream.specs.declared.head.Head.{Head};
 ghost use Rattle.bd_stream.specs.declared.machine.Phase.TheVariants.{Bad, Long, Ended};
 ghost use Rattle.bd_stream.specs.Heads.{IsHead, head_of, head_bytes};
-ghost use Rattle.bd_stream.specs.Importing.{State, fed, go};
+ghost use Rattle.bd_stream.specs.Within.{AreBytes, IsWell};
+ghost use Rattle.bd_stream.specs.Streams.{IsStreamFor, stream_bytes, entry_commands};
+ghost use Rattle.bd_stream.specs.Importing.{Path, State, IsSound, fed, go, start};
 
 /// A head that was written is read again.
 pub fn heads_are_read_again()
@@ -25,4 +30,23 @@ pub fn faults_stay()
     ensures long { (s : State) (bytes : List ℕ) → fed (go Long s) bytes ≡ (go Long s, []) }
     ensures ended { (s : State) (b : ℕ) (bytes : List ℕ)
         → fed (go Ended s) (b ∷ bytes) ≡ (go Bad s, []) }
+{}
+
+/// A whole stream gives the commands of its entries, and is complete then.
+pub fn streams_are_imported()
+    ensures commands { (target : Path) (entries : List Placed) → IsStreamFor target entries
+        → (fed (start target) (stream_bytes entries)).1 ≡ flat_map (entry_commands target) entries }
+    ensures whole { (target : Path) (entries : List Placed) → IsStreamFor target entries
+        → (fed (start target) (stream_bytes entries)).0.phase ≡ Ended }
+{}
+
+/// The commands that are given are within the limits of commands, where the target is the path of
+/// one and what is fed are bytes.
+pub fn commands_are_within_limits()
+    ensures start { (target : Path) → IsShortPath target
+        → IsSound (start target) × IsWell (start target) }
+    ensures stays { (s : State) (bytes : List ℕ) → IsSound s → IsWell s → AreBytes bytes
+        → IsSound (fed s bytes).0 × IsWell (fed s bytes).0 }
+    ensures commands { (s : State) (bytes : List ℕ) → IsSound s → IsWell s → AreBytes bytes
+        → AllByRecursion IsCommand (fed s bytes).1 }
 {}

@@ -8,7 +8,7 @@ ghost use Rattle.bd_stream.specs.Importing.{IsSound, State, state_of, start, go,
 use crate::head::{self, Head, read_path};
 use bd_command::Command;
 use bd_keys::{Bytes, translate};
-use bd_limits::MAX_WRITE;
+use bd_limits::{MAX_PATH, MAX_WRITE};
 use bd_names::Path;
 use std::alloc::{AllocError, Global};
 
@@ -19,7 +19,7 @@ const MAGIC: &[u8] = b"BDX1";
 const END: u8 = b'E';
 
 /// The most bytes of a path in a head, which has no slash in front.
-const MAX_RELATIVE: usize = 511;
+const MAX_RELATIVE: usize = MAX_PATH - 1;
 
 /// What comes next in a stream.
 #[derive(Clone, Copy, Debug, PartialEq, Eq)]

@@ -1,6 +1,6 @@
-use Rattle.std.proofs.Common.{◌≡◌, ◌≢◌, List, ℕ, [], ◌++◌, sym, ◌∙◌, ap, subst, append-nil, true, false, Option, Some, drop}
+use Rattle.std.proofs.Common.{◌≡◌, ◌≢◌, List, ℕ, [], ◌++◌, sym, ◌∙◌, ap, subst, append-nil, Option, Some}
 use Rattle.std.specs.Prelude.{IfOk}
-use Rattle.bd_names.specs.Names.{AreNames, path_text, path_of}
+use Rattle.bd_names.specs.Names.{path_text, path_of}
 use Rattle.bd_names.proofs.NamesLaws.{AreNames-append}
 use Rattle.bd_stream.specs.Importing.{short_path}
 use Rattle.bd_stream.proofs.PathLemmas.{is_short, joined_below}

@@ -1,4 +1,4 @@
-use Rattle.std.proofs.Common.{sym, ◌∙◌, ap, refl, ◌+◌, ◌∷◌, ℕ, List, take, drop, Some, arith}
+use Rattle.std.proofs.Common.{sym, ◌∙◌, ap, refl, ◌+◌, ◌∷◌, ℕ, List, take, drop, Some}
 use Rattle.std.specs.Prelude.{slice_index}
 use Rattle.std.specs.Int.{w16, w32}
 use Rattle.bd_names.specs.Names.{path_of}
