@@ -38,6 +38,7 @@ named_alone name na nb none = record {
   member = λ plus _. absurd (omega (arith, plus, none));
   two = λ plus _. absurd (omega (arith, plus, none));
   marks = λ two _ _. absurd (false≢true two);
+  equal = λ marks. absurd (false≢true marks);
 }
 
 pub named_member : (name : List ℕ) (na nb : ℕ) → HasPlus name → second_name name ≡ [] → IsNamed name Member na nb
@@ -46,16 +47,19 @@ named_member name na nb plus empty = record {
   member = λ _ _. refl;
   two = λ _ more. absurd (more empty);
   marks = λ two _ _. absurd (false≢true two);
+  equal = λ marks. absurd (false≢true marks);
 }
 
 pub named_two : {E : Type 0} (r : Result Attached E) (name : List ℕ) (na nb : ℕ) → HasPlus name → second_name name ≢ []
-    → IfOk r (λ at. is_two at ≡ true) → IfOk r (λ at. 0 < na → na ≡ nb → has_marks at ≡ true) → IfOk r (λ at. IsNamed name at na nb)
-named_two (Err e) name na nb plus more two marks = tt
-named_two (Ok at) name na nb plus more two marks = record {
+    → IfOk r (λ at. is_two at ≡ true) → IfOk r (λ at. 0 < na → na ≡ nb → has_marks at ≡ true)
+    → IfOk r (λ at. has_marks at ≡ true → na ≡ nb) → IfOk r (λ at. IsNamed name at na nb)
+named_two (Err e) name na nb plus more two marks equal = tt
+named_two (Ok at) name na nb plus more two marks equal = record {
   alone = λ none. absurd (none plus);
   member = λ _ empty. absurd (more empty);
   two = λ _ _. two;
   marks = λ _ some same. marks some same;
+  equal = equal;
 }
 
 -- all of a name without a `+` is that of the first half
@@ -147,3 +151,8 @@ alone_names None known show name name' same e = e ∙ ap show (sym same)
 pub not_too_many : (P : Type 0) (create : Option ℕ) → true ≡ is_too_many create → IfNone create P
 not_too_many P None e = absurd (false≢true (sym e))
 not_too_many P (Some n) e = tt
+
+pub equal_now : {E : Type 0} (r : Result Attached E) (na nb na' nb' : ℕ) → na' ≡ na → nb' ≡ nb
+    → IfOk r (λ at. has_marks at ≡ true → na ≡ nb) → IfOk r (λ at. has_marks at ≡ true → na' ≡ nb')
+equal_now (Err e) na nb na' nb' ca cb equal = tt
+equal_now (Ok at) na nb na' nb' ca cb equal = λ marks. ca ∙ equal marks ∙ sym cb

@@ -24,3 +24,4 @@ pub record IsNamed (name : List ℕ) (at : Attached) (first_count second_count :
   pub two : HasPlus name → second_name name ≢ [] → is_two at ≡ true
   pub marks : is_two at ≡ true → 0 < first_count → first_count ≡ second_count
       → has_marks at ≡ true
+  pub equal : has_marks at ≡ true → first_count ≡ second_count

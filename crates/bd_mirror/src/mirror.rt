@@ -456,6 +456,8 @@ impl<A: Attach, B: Attach> Mirror<A, B> {
         ensures marks { IfOk result (λ at. 0 < A.block_count (first_of self.new)
             → A.block_count (first_of self.new) ≡ B.block_count (second_of self.new)
             → has_marks at ≡ true) }
+        ensures equal { IfOk result (λ at. has_marks at ≡ true
+            → A.block_count (first_of self.new) ≡ B.block_count (second_of self.new)) }
         ensures mirror { IfOk result (λ at. IsMade A.Device B.Device (attached_as at self.new)) }
         ensures shown { IfOk result (λ at. IfNone size
             (shown_now A.Device B.Device (attached_as at self.new)
@@ -495,6 +497,8 @@ impl<A: Device, B: Device> Mirror<A, B> {
         ensures marks { IfOk result (λ at. 0 < A.block_count (first_of self.old)
             → A.block_count (first_of self.old) ≡ B.block_count (second_of self.old)
             → has_marks at ≡ true) }
+        ensures equal { IfOk result (λ at. has_marks at ≡ true
+            → A.block_count (first_of self.old) ≡ B.block_count (second_of self.old)) }
         ensures mirror { IfOk result (λ at. IsMade A.Device B.Device (attached_as at self.new)) }
         ensures shown { IfOk result (λ at. shown_now A.Device B.Device (attached_as at self.new)
             ≡ shown_now A.Device B.Device (attached_as at self.old)) }

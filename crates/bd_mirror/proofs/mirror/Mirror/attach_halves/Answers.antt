@@ -41,7 +41,7 @@ returns-else-is_empty-clause-named g c =
     let cut = split_some _ c.args.name.now c.split_once.result _ c.split_once.ensures.byte (λ w o h. h) c.in-Some.is in
     named_two c.attach_pair.result c.args.name.now (g.A.Device.block_count c.attach_pair.new.self.first) (g.B.Device.block_count c.attach_pair.new.self.second) cut.2
     (λ e. some_is c.is_empty.result c.in-Some.second.now c.is_empty.ensures c.if-is_empty.false (cut.1 ∙ e))
-    c.attach_pair.ensures.two c.attach_pair.ensures.marks
+    c.attach_pair.ensures.two c.attach_pair.ensures.marks c.attach_pair.ensures.equal
 
 pub returns-else-is_empty-clause-shown : goal.returns-else-is_empty-clause-shown
 returns-else-is_empty-clause-shown g c =

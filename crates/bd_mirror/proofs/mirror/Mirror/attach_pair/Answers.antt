@@ -3,7 +3,7 @@ use Rattle.bd_device.specs.Moments.{Nothing}
 use Rattle.bd_device.proofs.Moments.{goes_on, by_name}
 use Rattle.bd_device.proofs.Refusals.{IfNone-always}
 use Rattle.bd_mirror.specs.Calls.{shown_now, attached_as}
-use Rattle.bd_mirror.proofs.Attaching.{pair_shown, marks_now}
+use Rattle.bd_mirror.proofs.Attaching.{pair_shown, marks_now, equal_now}
 use Rattle.bd_mirror.proofs.Copies.{elapses_none}
 use Rattle.bd_mirror.proofs.Crashes.{none_then, loses_before, loses_joined}
 use Rattle.bd_mirror.proofs.mirror.Mirror.attach_pair.Goals as goal
@@ -18,6 +18,11 @@ pub returns-clause-marks : goal.returns-clause-marks
 returns-clause-marks g c =
     marks_now c.join.result (g.A.Device.block_count c.barrier.new.self) (g.B.Device.block_count c.barrier-2.new.self)
     (g.A.Device.block_count c.join.new.self.first) (g.B.Device.block_count c.join.new.self.second) c.join.ensures.first_count c.join.ensures.second_count c.join.ensures.marks
+
+pub returns-clause-equal : goal.returns-clause-equal
+returns-clause-equal g c =
+    equal_now c.join.result (g.A.Device.block_count c.barrier.new.self) (g.B.Device.block_count c.barrier-2.new.self)
+    (g.A.Device.block_count c.join.new.self.first) (g.B.Device.block_count c.join.new.self.second) c.join.ensures.first_count c.join.ensures.second_count c.join.ensures.equal
 
 pub returns-clause-shown : goal.returns-clause-shown
 returns-clause-shown g c =

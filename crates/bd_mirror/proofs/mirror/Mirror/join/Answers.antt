@@ -216,3 +216,17 @@ returns-clause-inside g c = λ some same a b ka kb.
     reads_fore g.A.Device g.B.Device (c.blocks-blocks.result - 1) (g.A.Device.block_count m.first - 1) a b m.first c.is_open.new.half c.mirror_onto-2.new.source
     m.second c.is_open-2.new.half c.mirror_onto-2.new.copy (ap (λ n. n - 1) c.blocks-blocks.ensures.count) ka kb
     (c.requires.first_settled some) (c.requires.second_settled (omega (arith, some, same))) c.is_open.ensures.reads c.is_open-2.ensures.reads c.mirror_onto-2.ensures.inside
+
+-- ---- halves with marks have as many blocks
+
+pub returns-then-branch-clause-equal : goal.returns-then-branch-clause-equal
+returns-then-branch-clause-equal g c = λ _. omega (arith, c.if-blocks.false, c.blocks-blocks.ensures.count, c.blocks-else-blocks-eq0.ensures.count)
+
+pub returns-then-is_alone-clause-equal : goal.returns-then-is_alone-clause-equal
+returns-then-is_alone-clause-equal g c = λ _. omega (arith, c.if-blocks.false, c.blocks-blocks.ensures.count, c.blocks-else-blocks-eq0.ensures.count)
+
+pub returns-then-branch-2-clause-equal : goal.returns-then-branch-2-clause-equal
+returns-then-branch-2-clause-equal g c = λ _. omega (arith, c.if-blocks.false, c.blocks-blocks.ensures.count, c.blocks-else-blocks-eq0.ensures.count)
+
+pub returns-clause-equal : goal.returns-clause-equal
+returns-clause-equal g c = λ _. omega (arith, c.if-blocks.false, c.blocks-blocks.ensures.count, c.blocks-else-blocks-eq0.ensures.count)
