@@ -3,3 +3,4 @@ pub mod Logged
 pub mod Published
 pub mod Records
 pub mod Spare
+pub mod Resumed

@@ -82,7 +82,7 @@ old_or_new known before count live next saved log t nodes tree follows given wri
 -- ---- once it is Ok
 
 -- what holds of what reads give holds of the one image that is left
-of_left : (P : Image → Type 0) (now : Option Image) (c : Image) → IfSome now P → now ≡ Some c → P c
+pub of_left : (P : Image → Type 0) (now : Option Image) (c : Image) → IfSome now P → now ≡ Some c → P c
 of_left P now c is same = subst (λ (o : Option Image). IfSome o P) same is
 
 pub all_new : (known now : Option Image) (left : Image → Type 0) (live next : Super) (t : StoredTable) (nodes : Nodes) (tree : Tree) → IsNext live next → AreWritten known next t nodes tree

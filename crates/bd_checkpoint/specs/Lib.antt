@@ -2,3 +2,4 @@ pub mod Commands
 pub mod Following
 pub mod Kept
 pub mod Spare
+pub mod Resuming

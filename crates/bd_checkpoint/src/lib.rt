@@ -8,9 +8,11 @@ mod commands;
 mod following;
 pub mod laws;
 mod publishing;
+mod resuming;
 mod syncing;
 
 pub use commands::{PlacedCommand, commands_of};
 pub use following::next_super;
 pub use publishing::publish_next;
+pub use resuming::resume_log;
 pub use syncing::sync;
