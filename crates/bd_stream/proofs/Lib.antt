@@ -5,3 +5,4 @@ pub mod HeadLemmas
 pub mod GatherLemmas
 pub mod StreamLemmas
 pub mod WellLemmas
+pub mod WrittenLemmas

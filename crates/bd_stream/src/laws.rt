@@ -1,13 +1,14 @@
 //! What follows from the definitions of streams. Each function here carries laws of the definitions
 //! and does nothing.
 
-ghost use Rattle.std.specs.Prelude.{◌≡◌, ◌++◌, ◌∷◌, [], ℕ, List};
+ghost use Rattle.std.specs.Prelude.{◌≡◌, ◌++◌, ◌∷◌, [], ℕ, List, length, slice_index, true};
 ghost use Rattle.std.specs.List.{flat_map, AllByRecursion};
 ghost use Rattle.bd_command.specs.Command.{IsShortPath, IsCommand};
+ghost use Rattle.bd_wire.specs.Numbers.{IsBytes};
 ghost use Rattle.bd_model.specs.Step.{Placed};
 ghost use Rattle.bd_stream.specs.declared.head.Head.{Head};
 ghost use Rattle.bd_stream.specs.declared.machine.Phase.TheVariants.{Bad, Long, Ended};
-ghost use Rattle.bd_stream.specs.Heads.{IsHead, head_of, head_bytes};
+ghost use Rattle.bd_stream.specs.Heads.{IsHead, head_of, head_bytes, head_size, is_kind};
 ghost use Rattle.bd_stream.specs.Within.{AreBytes, IsWell};
 ghost use Rattle.bd_stream.specs.Streams.{IsStreamFor, stream_bytes, entry_commands};
 ghost use Rattle.bd_stream.specs.Importing.{Path, State, IsSound, fed, go, start};
@@ -49,4 +50,15 @@ pub fn commands_are_within_limits()
         → IsSound (fed s bytes).0 × IsWell (fed s bytes).0 }
     ensures commands { (s : State) (bytes : List ℕ) → IsSound s → IsWell s → AreBytes bytes
         → AllByRecursion IsCommand (fed s bytes).1 }
+{}
+
+/// Bytes that are read as a head, as many as their first three say, are just those that it is
+/// written as.
+pub fn read_heads_were_written_so()
+    ensures bytes { (bytes : List ℕ) (head : Head) → IsBytes bytes
+        → is_kind (slice_index bytes 0) ≡ true → length bytes ≡ head_size bytes
+        → head_of bytes ≡ Some head → bytes ≡ head_bytes head }
+    ensures head { (bytes : List ℕ) (head : Head) → IsBytes bytes
+        → is_kind (slice_index bytes 0) ≡ true → length bytes ≡ head_size bytes
+        → head_of bytes ≡ Some head → IsHead head }
 {}
