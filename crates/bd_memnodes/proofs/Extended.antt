@@ -14,19 +14,23 @@ use Rattle.bd_node.specs.declared.node.Step.{Step}
 use Rattle.bd_node.specs.Nodes.{buffer_size, appended, times}
 use Rattle.bd_node.specs.Meaning.{Nodes}
 use Rattle.bd_node.specs.Tables.{Table, IsKept, IsTable, IsSound, times_in, one_if, references}
-use Rattle.bd_node.specs.Steps.{changed_at, given, given_or, given_times, after, IsThere, IsChange, IsStep, IsRootOf, extend_step, added_times}
+use Rattle.bd_node.specs.Steps.{changed_at, given, given_or, given_times, after, IsThere, IsChange, IsStep, extend_step, added_times}
 use Rattle.bd_node.proofs.Sound.{kept_there, one_if-other}
 use Rattle.bd_node.proofs.Stepping.{given-old, given-new, changed_at-other, changed_has, after-none, after-some, by_given}
 use Rattle.bd_node.proofs.Extending.{root_changed, given_extended, extend_above, root_of_sound, root_inner, extended_size, times_extended, names_none}
 use Rattle.bd_memnodes.specs.declared.kept.Kept.{Kept}
 use Rattle.bd_memnodes.specs.declared.plan.Addition.{Addition}
-use Rattle.bd_memnodes.specs.Maps.{nodes_in, count_in, times_among}
-use Rattle.bd_memnodes.specs.Releasing.{IsReleasing, SameHead}
-use Rattle.bd_memnodes.specs.Plans.{step_names, added_of, added_names}
+use Rattle.bd_counts.specs.Naming.{times_among, step_names, added_names}
+use Rattle.bd_memnodes.specs.Maps.{nodes_in, count_in}
+use Rattle.bd_counts.specs.Releasing.{IsReleasing}
+use Rattle.bd_memnodes.specs.Releasing.{SameHead}
+use Rattle.bd_memnodes.specs.Plans.{added_of}
 use Rattle.bd_memnodes.specs.Stored.{table_of, table_in, with_made, IsWhole}
 use Rattle.bd_memnodes.specs.Carried.{SameKept, IsAddedTo}
 use Rattle.bd_memnodes.proofs.Same.{equal_tables}
-use Rattle.bd_memnodes.proofs.Settling.{step_names_times, added_names_times, step_names_there, after_is, begun_releasing, settled_done, IsDone}
+use Rattle.bd_counts.proofs.Names.{step_names_times, added_names_times, step_names_there}
+use Rattle.bd_counts.proofs.Settling.{begun_releasing}
+use Rattle.bd_memnodes.proofs.Settling.{after_is, settled_done, IsDone}
 
 -- how often the nodes of the step name a node: what is added, and what the root named before
 given_all : (nodes : Nodes) (t : Table) (root : Node) (made : List Node) (list : List Message) (c : ℕ) → IsSound nodes t → nodes t.root ≡ Some root

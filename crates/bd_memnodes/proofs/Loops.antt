@@ -1,26 +1,27 @@
 -- Names that are taken back one after the other.
-use Rattle.std.proofs.Common.{◌≡◌, ℕ, ◌+◌, ◌*◌, ◌<◌, ◌≤◌, suc, refl, sym, ap, subst, ◌∙◌, arith, inl, inr, List, [], ◌∷◌, ◌++◌, length, drop, get_or, drop-cons, add-one, vec_len, None, Some, cond, Global}
+use Rattle.std.proofs.Common.{◌≡◌, ℕ, ◌+◌, ◌*◌, ◌<◌, ◌≤◌, suc, refl, sym, ap, subst, ◌∙◌, arith, List, [], ◌∷◌, ◌++◌, length, drop, get_or, drop-cons, add-one, vec_len, None, Some, Global}
 use Rattle.std.specs.declared.rc.Rc.{Rc}
 use Rattle.bd_node.specs.declared.node.Node.{Node}
 use Rattle.bd_node.specs.declared.node.Node.TheVariants.{Inner}
 use Rattle.std.specs.Option.{option_to_list}
 use Rattle.std.proofs.lemmas.List.{drop_all}
-use Rattle.std.proofs.lemmas.List.Sums.{sum_by-append}
 use Rattle.bd_message.specs.declared.message.Message.{Message}
 use Rattle.bd_message.specs.declared.message.Message.TheVariants.{Put, Del, Patch, Cut, Goto}
 use Rattle.bd_node.specs.declared.node.Edge.{Edge}
 use Rattle.bd_node.specs.Nodes.{edge_names, message_names, times}
-use Rattle.std.specs.Prelude.{◌==◌, flat_map}
+use Rattle.std.specs.Prelude.{flat_map}
 use Rattle.std.specs.HashMap.{hash_map_len}
 use Rattle.bd_node.specs.Meaning.{Nodes}
 use Rattle.bd_node.specs.Tables.{one_if}
-use Rattle.bd_node.proofs.Lookup.{count-cons_same, count-cons_other}
-use Rattle.bd_node.proofs.Sound.{one_if-same, one_if-other}
-use Rattle.std.proofs.lemmas.Bool.{cases_eq}
+use Rattle.bd_node.proofs.Sound.{one_if-same}
 use Rattle.bd_memnodes.specs.declared.kept.Kept.{Kept}
-use Rattle.bd_memnodes.specs.Maps.{nodes_in, count_in, times_among, times_of}
-use Rattle.bd_memnodes.specs.Releasing.{IsReleasing, TakesBack, HasRoom, SameHead}
-use Rattle.bd_memnodes.proofs.Taking.{same_owed, times_of-more}
+use Rattle.bd_counts.specs.Naming.{times_among}
+use Rattle.bd_memnodes.specs.Maps.{nodes_in, count_in, times_of}
+use Rattle.bd_counts.specs.Releasing.{IsReleasing}
+use Rattle.bd_memnodes.specs.Releasing.{TakesBack, HasRoom, SameHead}
+use Rattle.bd_counts.proofs.Releasing.{same_owed}
+use Rattle.bd_counts.proofs.Names.{times_among-cons, times_among-append}
+use Rattle.bd_memnodes.proofs.Taking.{times_of-more}
 
 -- what taking back some names leaves
 pub record TookBack (named : ℕ → ℕ) (old new : Kept) : Type 0 where
@@ -39,14 +40,6 @@ pub record IsTaking (all left : List ℕ) (old new : Kept) : Type 0 where
   pub room : HasRoom new
   pub moved : 2 * hash_map_len new.nodes + vec_len new.dead ≤ 2 * hash_map_len old.nodes + vec_len old.dead
   pub head : SameHead old new
-
-pub times_among-cons : (x : ℕ) (xs : List ℕ) (c : ℕ) → times_among (x ∷ xs) c ≡ one_if x c + times_among xs c
-times_among-cons x xs c =
-    elim (cases_eq x c) [
-      | inl same ↦ subst (λ (d : ℕ). times_among (x ∷ xs) d ≡ one_if x d + times_among xs d) same
-          (count-cons_same x xs ∙ ap (λ n. n + times_among xs x) (sym (one_if-same x)))
-      | inr other ↦ count-cons_other x c xs other ∙ omega (arith, one_if-other x c other)
-    ]
 
 pub taking_begun : (all : List ℕ) (old : Kept) → HasRoom old → IsTaking all all old old
 taking_begun all old room = record {
@@ -159,9 +152,6 @@ message_none (Del key) h = refl
 message_none (Patch key off bytes) h = refl
 message_none (Cut prefix from) h = refl
 message_none (Goto prefix source id) h = absurd (h prefix source id refl)
-
-pub times_among-append : (xs ys : List ℕ) (c : ℕ) → times_among (xs ++ ys) c ≡ times_among xs c + times_among ys c
-times_among-append xs ys c = sum_by-append (λ name. cond (name == c) 1 0) xs ys
 
 -- two takings, one after the other
 pub both_taken : (one two both : ℕ → ℕ) (old mid new : Kept) → ((c : ℕ) → both c ≡ one c + two c) → TakesBack one old mid → TakesBack two mid new → TakesBack both old new

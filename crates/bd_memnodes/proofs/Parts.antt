@@ -19,13 +19,16 @@ use Rattle.bd_node.proofs.Lookup.{each_weaker}
 use Rattle.bd_memnodes.specs.declared.kept.Kept.{Kept}
 use Rattle.bd_memnodes.specs.declared.plan.Exchange.{Exchange}
 use Rattle.bd_memnodes.specs.declared.plan.Plan.{Plan}
-use Rattle.bd_memnodes.specs.Maps.{nodes_in, count_in, times_among, times_of}
-use Rattle.bd_memnodes.specs.Releasing.{IsReleasing}
-use Rattle.bd_memnodes.specs.Plans.{change_of, step_of, step_names}
+use Rattle.bd_counts.specs.Naming.{times_among, step_names}
+use Rattle.bd_memnodes.specs.Maps.{nodes_in, count_in, times_of}
+use Rattle.bd_counts.specs.Releasing.{IsReleasing}
+use Rattle.bd_memnodes.specs.Plans.{change_of, step_of}
 use Rattle.bd_memnodes.specs.Stored.{table_of, table_in, IsWhole}
 use Rattle.bd_memnodes.specs.Carried.{IsAdded, IsExchanged}
 use Rattle.bd_memnodes.proofs.Taking.{times_of-none}
-use Rattle.bd_memnodes.proofs.Settling.{after_is, begun_releasing, step_names_there, settled_done, IsDone}
+use Rattle.bd_counts.proofs.Settling.{begun_releasing}
+use Rattle.bd_counts.proofs.Names.{step_names_there}
+use Rattle.bd_memnodes.proofs.Settling.{after_is, settled_done, IsDone}
 
 -- ---- what is there
 

@@ -1,21 +1,11 @@
 -- What is kept in other memory is the same.
-use Rattle.std.proofs.Common.{◌≡◌, ℕ, ◌+◌, List, refl, sym, subst, ◌∙◌, arith}
-use Rattle.bd_message.specs.declared.fault.Counter.TheVariants.{Count, NextId, Level, Refs, Epoch, Flushes}
-use Rattle.bd_message.specs.declared.fault.MapFault.{MapFault}
-use Rattle.bd_message.specs.declared.fault.MapFault.TheVariants.{DeviceFault, Damaged, Worn, NoMemory}
-use Rattle.bd_message.specs.KeyMaps.{IsCause, StaysUnlessDevice}
-use Rattle.bd_message.specs.declared.message.Message.{Message}
-use Rattle.bd_node.specs.declared.node.Node.{Node}
-use Rattle.bd_node.specs.declared.node.Step.{Step}
+use Rattle.std.proofs.Common.{◌≡◌, ℕ, sym, subst, ◌∙◌}
 use Rattle.bd_node.specs.Meaning.{Nodes}
 use Rattle.bd_node.specs.Tables.{Table, IsSound}
-use Rattle.bd_node.specs.Steps.{IsWornBy, IsWornByAdding}
 use Rattle.bd_memnodes.specs.declared.kept.Kept.{Kept}
-use Rattle.bd_memnodes.specs.Maps.{nodes_in, count_in, times_among}
-use Rattle.bd_memnodes.specs.Plans.{step_names, added_names, IsCheckFault}
+use Rattle.bd_memnodes.specs.Maps.{nodes_in, count_in}
 use Rattle.bd_memnodes.specs.Stored.{table_of, table_in, IsWhole}
 use Rattle.bd_memnodes.specs.Carried.{SameKept}
-use Rattle.bd_memnodes.proofs.Settling.{step_names_times, added_names_times}
 
 pub same_nodes : (old new : Kept) → SameKept old new → nodes_in new.nodes ≡ nodes_in old.nodes
 same_nodes old new h = λ i id. h.nodes id i
@@ -40,34 +30,3 @@ to_old P old new h p =
 
 pub same_whole : (old new : Kept) → SameKept old new → IsWhole old → IsWhole new
 same_whole old new h whole = record { sound = of_same IsSound old new h whole.sound; idle = h.dead ∙ whole.idle }
-
--- a store in memory counts no fault
-pub never_counts : (f : MapFault) → StaysUnlessDevice 0 0 f
-never_counts DeviceFault = tt
-never_counts (Damaged block) = refl
-never_counts (Worn _) = refl
-never_counts NoMemory = refl
-
--- counts that can't rise by the names in a step are worn by it
-pub worn_by_names : (kept : Kept) (step : Step) (f : MapFault) → IsCheckFault (λ c. count_in kept.counts c + times_among (step_names step) c) f → IsCause 0 0 (λ _. ⊥) (IsWornBy (table_in kept) step) f
-worn_by_names kept step DeviceFault h = absurd h
-worn_by_names kept step (Damaged block) h = h
-worn_by_names kept step (Worn Refs) h = (h.0, omega (arith, step_names_times step h.0, h.1))
-worn_by_names kept step (Worn Count) h = h
-worn_by_names kept step (Worn NextId) h = absurd h
-worn_by_names kept step (Worn Level) h = h
-worn_by_names kept step (Worn Epoch) h = h
-worn_by_names kept step (Worn Flushes) h = h
-worn_by_names kept step NoMemory h = tt
-
--- and by made nodes and messages
-pub worn_by_added : (kept : Kept) (made : List Node) (list : List Message) (f : MapFault) → IsCheckFault (λ c. count_in kept.counts c + times_among (added_names made list) c) f → IsCause 0 0 (λ _. ⊥) (IsWornByAdding (table_in kept) made list) f
-worn_by_added kept made list DeviceFault h = absurd h
-worn_by_added kept made list (Damaged block) h = h
-worn_by_added kept made list (Worn Refs) h = (h.0, omega (arith, added_names_times made list h.0, h.1))
-worn_by_added kept made list (Worn Count) h = h
-worn_by_added kept made list (Worn NextId) h = absurd h
-worn_by_added kept made list (Worn Level) h = h
-worn_by_added kept made list (Worn Epoch) h = h
-worn_by_added kept made list (Worn Flushes) h = h
-worn_by_added kept made list NoMemory h = tt

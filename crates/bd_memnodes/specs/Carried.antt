@@ -13,9 +13,10 @@ use Rattle.bd_message.specs.declared.message.Message.{Message}
 use Rattle.bd_memnodes.specs.declared.plan.Addition.{Addition}
 use Rattle.bd_memnodes.specs.declared.plan.Exchange.{Exchange}
 use Rattle.bd_memnodes.specs.declared.plan.Plan.{Plan}
-use Rattle.bd_memnodes.specs.Maps.{nodes_in, count_in, times_among, times_of}
+use Rattle.bd_counts.specs.Naming.{times_among, step_names, added_names}
+use Rattle.bd_memnodes.specs.Maps.{nodes_in, count_in, times_of}
 use Rattle.bd_memnodes.specs.Releasing.{SameHead}
-use Rattle.bd_memnodes.specs.Plans.{change_of, step_of, step_names, added_of, added_names}
+use Rattle.bd_memnodes.specs.Plans.{change_of, step_of, added_of}
 use Rattle.bd_memnodes.specs.Stored.{with_made}
 
 -- the next ids and the counts after these names are below their limit

@@ -1,5 +1,5 @@
 -- What tables of nodes and of counts say.
-use Rattle.std.specs.Prelude.{ℕ, List, nat_eq, count_by, ◌==◌}
+use Rattle.std.specs.Prelude.{ℕ, List, nat_eq}
 use Rattle.std.specs.Option.{option_map, unwrap_or}
 use Rattle.std.specs.List.{sum_by}
 use Rattle.std.specs.HashMap.{HashMap, get}
@@ -15,10 +15,6 @@ nodes_in table id = option_map (λ shared. shared.value) (get nat_eq table id)
 -- the counts of a table: 0 where there is none
 abbrev pub count_in : {S : Type 0} → HashMap ℕ ℕ S → ℕ → ℕ
 count_in table id = unwrap_or (get nat_eq table id) 0
-
--- how often an id stands in a list
-abbrev pub times_among : List ℕ → ℕ → ℕ
-times_among names c = count_by (λ name. name == c) names
 
 -- how often nodes name an id
 abbrev pub times_of : {Z : Type 0} → List (Rc Node Z) → ℕ → ℕ

@@ -1,30 +1,11 @@
 -- Steps in memory that is taken.
-use Rattle.std.specs.Prelude.{ℕ, ◌≤◌, ◌^◌, List, [], ◌∷◌, ◌++◌, map, ⊤}
-use Rattle.std.specs.List.{flat_map}
-use Rattle.bd_message.specs.declared.fault.Counter.TheVariants.{Count, NextId, Level, Refs, Epoch, Flushes}
-use Rattle.bd_message.specs.declared.fault.MapFault.{MapFault}
-use Rattle.bd_message.specs.declared.fault.MapFault.TheVariants.{DeviceFault, Damaged, Worn, NoMemory}
-use Rattle.bd_message.specs.declared.message.Message.{Message}
+use Rattle.std.specs.Prelude.{List, map}
 use Rattle.bd_node.specs.declared.node.Node.{Node}
 use Rattle.bd_node.specs.declared.node.Change.{Change}
 use Rattle.bd_node.specs.declared.node.Step.{Step}
-use Rattle.bd_node.specs.Nodes.{names, message_names}
 use Rattle.bd_memnodes.specs.declared.plan.Exchange.{Exchange}
 use Rattle.bd_memnodes.specs.declared.plan.Addition.{Addition}
 use Rattle.bd_memnodes.specs.declared.plan.Plan.{Plan}
-
--- the names in what a node is changed to
-abbrev pub change_names : Change → List ℕ
-change_names change = names change.node
-
--- the names in the nodes that a step gives, and the root
-abbrev pub step_names : Step → List ℕ
-step_names step =
-    flat_map names step.made ++ flat_map change_names step.changes ++ step.root ∷ []
-
--- the names that made nodes and messages add
-abbrev pub added_names : List Node → List Message → List ℕ
-added_names made list = flat_map names made ++ flat_map message_names list
 
 abbrev pub change_of : Exchange → Change
 change_of exchange = record { id = exchange.id; node = exchange.node.value }
@@ -40,15 +21,3 @@ step_of plan = record {
 -- the made nodes
 abbrev pub added_of : Addition → List Node
 added_of addition = map (λ shared. shared.value) addition.made.items
-
--- why counts can't rise to these
-abbrev pub IsCheckFault : (ℕ → ℕ) → MapFault → Type 0
-IsCheckFault raised DeviceFault = ⊥
-IsCheckFault raised (Damaged block) = ⊥
-IsCheckFault raised (Worn Refs) = (c : ℕ) × (2 ^ 64 ≤ raised c)
-IsCheckFault raised (Worn Count) = ⊥
-IsCheckFault raised (Worn NextId) = ⊥
-IsCheckFault raised (Worn Level) = ⊥
-IsCheckFault raised (Worn Epoch) = ⊥
-IsCheckFault raised (Worn Flushes) = ⊥
-IsCheckFault raised NoMemory = ⊤

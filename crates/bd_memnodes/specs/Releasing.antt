@@ -1,22 +1,11 @@
--- Nodes from which those go that nothing names.
-use Rattle.std.specs.Prelude.{◌≡◌, ℕ, ◌+◌, ◌≤◌, Some}
+-- Names that are taken back, and nodes that go then.
+use Rattle.std.specs.Prelude.{◌≡◌, ℕ, ◌+◌, ◌≤◌}
 use Rattle.std.specs.HashMap.{hash_map_len}
 use Rattle.std.specs.Prelude.{vec_len, vec_capacity}
-use Rattle.bd_node.specs.declared.node.Node.{Node}
 use Rattle.bd_node.specs.Meaning.{Nodes}
-use Rattle.bd_node.specs.Tables.{references}
-use Rattle.bd_node.specs.Closed.{IsClosed}
+use Rattle.bd_counts.specs.Releasing.{IsReleasing}
 use Rattle.bd_memnodes.specs.declared.kept.Kept.{Kept}
 use Rattle.bd_memnodes.specs.Maps.{nodes_in, count_in, times_of}
-
--- nodes some of which may be gone, each of them counted, where a count is how often the node is
--- named, and how often it is still owed to be named less
-pub record IsReleasing (first : Nodes) (next root : ℕ) (nodes : Nodes) (counts owed : ℕ → ℕ)
-    : Type 0 where
-  pub closed : IsClosed nodes next root
-  pub stays : (id : ℕ) (n : Node) → nodes id ≡ Some n → first id ≡ Some n
-  pub used : (id : ℕ) (n : Node) → nodes id ≡ Some n → 1 ≤ counts id
-  pub exact : (c : ℕ) → counts c ≡ references nodes next root c + owed c
 
 -- from the first to the second these names were taken back, and what was dropped waits
 abbrev pub TakesBack : (ℕ → ℕ) → Kept → Kept → Type 0

@@ -8,9 +8,11 @@ ghost use Rattle.bd_node.specs.Nodes.{buffer_size};
 ghost use Rattle.bd_node.specs.Shape.{IsShape};
 ghost use Rattle.bd_node.specs.Tables.{times_in, one_if};
 ghost use Rattle.bd_node.specs.Steps.{AreOnce, after, IsStep, StayAbove, IsTableAfter, IsCommitted};
-ghost use Rattle.bd_memnodes.specs.Maps.{nodes_in, count_in, times_among, times_of};
-ghost use Rattle.bd_memnodes.specs.Releasing.{IsReleasing, HasRoom, SameHead};
-ghost use Rattle.bd_memnodes.specs.Plans.{change_of, step_of, step_names};
+ghost use Rattle.bd_counts.specs.Naming.{times_among, step_names};
+ghost use Rattle.bd_memnodes.specs.Maps.{nodes_in, count_in, times_of};
+ghost use Rattle.bd_counts.specs.Releasing.{IsReleasing};
+ghost use Rattle.bd_memnodes.specs.Releasing.{HasRoom, SameHead};
+ghost use Rattle.bd_memnodes.specs.Plans.{change_of, step_of};
 ghost use Rattle.bd_memnodes.specs.Stored.{table_in, HasMemory, IsWhole};
 ghost use Rattle.bd_memnodes.specs.Carried.{FitCounts, IsAdded, IsAddedTo, IsExchanged};
 

@@ -4,8 +4,10 @@ ghost use Rattle.std.specs.Prelude.{◌≡◌, ◌+◌, ◌*◌, ◌≤◌, ℕ,
 ghost use Rattle.std.specs.HashMap.{hash_map_len, get};
 ghost use Rattle.bd_node.specs.Nodes.{edge_names, message_names, times};
 ghost use Rattle.bd_node.specs.Tables.{one_if};
-ghost use Rattle.bd_memnodes.specs.Maps.{nodes_in, count_in, times_among, times_of};
-ghost use Rattle.bd_memnodes.specs.Releasing.{IsReleasing, TakesBack, HasRoom, SameHead};
+ghost use Rattle.bd_counts.specs.Naming.{times_among};
+ghost use Rattle.bd_memnodes.specs.Maps.{nodes_in, count_in, times_of};
+ghost use Rattle.bd_counts.specs.Releasing.{IsReleasing};
+ghost use Rattle.bd_memnodes.specs.Releasing.{TakesBack, HasRoom, SameHead};
 
 use bd_message::Message;
 use bd_node::{Edge, Node};

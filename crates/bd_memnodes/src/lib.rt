@@ -5,7 +5,6 @@
 mod carry;
 mod change;
 mod kept;
-mod naming;
 mod plan;
 mod store;
 

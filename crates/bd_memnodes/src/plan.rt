@@ -1,13 +1,16 @@
 //! What a step needs before the first change.
 
-ghost use Rattle.std.specs.Prelude.{◌≡◌, ℕ, ◌+◌, ◌<◌, ◌≤◌, ◌^◌, OnOk, IfOk, IfErr, map, nat_eq};
+ghost use Rattle.std.specs.Prelude.{◌≡◌, ℕ, ◌+◌, ◌<◌, ◌≤◌, ◌^◌, OnOk, IfOk, map, nat_eq};
 ghost use Rattle.std.specs.Option.{unwrap_or};
 ghost use Rattle.std.specs.HashMap.{get};
-ghost use Rattle.bd_memnodes.specs.Maps.{count_in, times_among};
-ghost use Rattle.bd_memnodes.specs.Plans.{step_of, step_names, added_of, added_names, change_of, IsCheckFault};
+ghost use Rattle.bd_counts.specs.Naming.{times_among, step_names, added_names};
+ghost use Rattle.bd_memnodes.specs.Maps.{count_in};
+ghost use Rattle.bd_message.specs.KeyMaps.{HasMapCause};
+ghost use Rattle.bd_counts.specs.Counting.{IsWornByNames};
+ghost use Rattle.bd_memnodes.specs.Plans.{step_of, added_of, change_of};
 
 use crate::kept::count_of;
-use crate::naming::{added_by, named_by};
+use bd_counts::{added_by, named_by};
 use bd_message::{Counter, MapFault, Message};
 use bd_node::{Change, Changes, Node, Nodes, Step};
 use std::alloc::{AllocError, Global};
@@ -107,8 +110,8 @@ pub fn check_counts(
 ) -> Result<(), MapFault>
     ensures fits { OnOk result ((c : ℕ) → 1 ≤ times_among names.now c
         → count_in counts.now c + times_among names.now c < 2 ^ 64) }
-    ensures cause { IfErr result
-        (IsCheckFault (λ c. count_in counts.now c + times_among names.now c)) }
+    ensures cause { HasMapCause 0 0 (λ _. ⊥) (IsWornByNames (count_in counts.now) names.now)
+        result }
 {
     let mut raised: HashMap<u64, u64> = HashMap::new(alloc);
     for name in names {

@@ -1,26 +1,19 @@
 //! The tests of the libraries' public calls, a module for each crate that is tested; those of nodes
-//! stand in `rows_nodes`. No library has tests of its own, and nothing stands on this crate. A test shows what no clause says: worked
-//! rows, texts, and that memory is enough.
+//! stand in `rows_nodes`, those of devices and of what is written to them in `rows_devices`. No
+//! library has tests of its own, and nothing stands on this crate. A test shows what no clause says:
+//! worked rows, texts, and that memory is enough.
 #![tactic(auto)]
 
 #[cfg(test)]
 mod command;
 #[cfg(test)]
-mod device;
-#[cfg(test)]
 mod dirs;
-#[cfg(test)]
-mod filedev;
 #[cfg(test)]
 mod io;
 #[cfg(test)]
 mod keys;
 #[cfg(test)]
-mod log;
-#[cfg(test)]
 mod message;
-#[cfg(test)]
-mod mirror;
 #[cfg(test)]
 mod names;
 #[cfg(test)]
@@ -29,12 +22,6 @@ mod plain;
 mod records;
 #[cfg(test)]
 mod script;
-#[cfg(test)]
-mod slots;
-#[cfg(test)]
-mod superblock;
-#[cfg(test)]
-mod table;
 #[cfg(test)]
 mod volume;
 #[cfg(test)]

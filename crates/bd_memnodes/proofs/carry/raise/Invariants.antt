@@ -1,6 +1,7 @@
 use Rattle.std.proofs.Common.{◌≡◌, ℕ, ◌+◌, take, nat_eq, IsSome}
 use Rattle.std.specs.HashMap.{get}
-use Rattle.bd_memnodes.specs.Maps.{count_in, times_among}
+use Rattle.bd_counts.specs.Naming.{times_among}
+use Rattle.bd_memnodes.specs.Maps.{count_in}
 use Rattle.bd_memnodes.proofs.carry.raise.Given as goal
 
 -- the names so far are counted

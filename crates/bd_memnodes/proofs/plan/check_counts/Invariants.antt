@@ -1,7 +1,8 @@
 use Rattle.std.proofs.Common.{◌≡◌, ℕ, ◌+◌, ◌<◌, ◌≤◌, ◌^◌, take, nat_eq}
 use Rattle.std.specs.Option.{unwrap_or}
 use Rattle.std.specs.HashMap.{get}
-use Rattle.bd_memnodes.specs.Maps.{count_in, times_among}
+use Rattle.bd_counts.specs.Naming.{times_among}
+use Rattle.bd_memnodes.specs.Maps.{count_in}
 use Rattle.bd_memnodes.proofs.plan.check_counts.Given as goal
 
 -- the counts with the names so far

@@ -8,8 +8,8 @@ use Rattle.bd_node.specs.Tables.{IsStored}
 use Rattle.bd_node.specs.Steps.{IsRootOf, IsStep, extend_step}
 use Rattle.bd_node.proofs.Extending.{root_of_sound, root_inner, extended_as, added_fit}
 use Rattle.bd_memnodes.specs.declared.kept.Kept.{Kept}
-use Rattle.bd_memnodes.specs.Maps.{nodes_in, count_in, times_among}
-use Rattle.bd_memnodes.specs.Plans.{added_names}
+use Rattle.bd_counts.specs.Naming.{times_among, added_names}
+use Rattle.bd_memnodes.specs.Maps.{nodes_in, count_in}
 use Rattle.bd_memnodes.specs.Stored.{table_of, table_in, IsWhole}
 use Rattle.bd_memnodes.specs.Carried.{SameKept}
 use Rattle.bd_memnodes.proofs.Same.{same_whole}

@@ -1,14 +1,15 @@
-use Rattle.std.proofs.Common.{ℕ, ◌+◌, ◌∙◌, subst, List, arith}
-use Rattle.bd_memnodes.specs.Maps.{count_in, times_among}
-use Rattle.bd_memnodes.specs.Plans.{IsCheckFault}
-use Rattle.bd_memnodes.proofs.Same.{never_counts, worn_by_names}
+use Rattle.std.proofs.Common.{ℕ, ◌∙◌, List, Err}
+use Rattle.bd_message.proofs.Causes.{cause_weaker, cause_passed}
+use Rattle.bd_node.specs.Steps.{IsWornBy}
+use Rattle.bd_counts.specs.Counting.{IsWornByNames}
+use Rattle.bd_counts.proofs.Worn.{worn_by_step}
+use Rattle.bd_memnodes.specs.Maps.{count_in}
+use Rattle.bd_memnodes.specs.Stored.{table_in}
 use Rattle.bd_memnodes.proofs.kept.Kept.planned.Goals as goal
 
 pub returns-in-Err-clause-cause : goal.returns-in-Err-clause-cause
-returns-in-Err-clause-cause c = record {
-  later = omega arith;
-  kept = tt;
-  stays = never_counts c.in-Err.fault;
-  failed = worn_by_names c.args.self.now c.args.step c.in-Err.fault
-      (subst (λ (xs : List ℕ). IsCheckFault (λ k. count_in c.args.self.now.counts k + times_among xs k) c.in-Err.fault) (c.as_slice.ensures.value ∙ c.in_ok-plan.ensures.names) c.in-Err.ensures.cause);
-}
+returns-in-Err-clause-cause c =
+    let xs : List ℕ = c.as_slice.result.now in
+    cause_passed {T = Unit {0}} 0 0 (λ _. ⊥) (IsWornBy (table_in c.args.self.now) c.args.step) c.in-Err.fault
+    (cause_weaker {T = Unit {0}} 0 0 (λ _. ⊥) (IsWornByNames (count_in c.args.self.now.counts) xs) (IsWornBy (table_in c.args.self.now) c.args.step)
+    (worn_by_step (table_in c.args.self.now) c.args.step xs (c.as_slice.ensures.value ∙ c.in_ok-plan.ensures.names)) (Err c.in-Err.fault) c.in-Err.ensures.cause)

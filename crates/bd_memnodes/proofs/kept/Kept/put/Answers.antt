@@ -1,6 +1,7 @@
 use Rattle.std.proofs.Common.{ℕ, ◌+◌, ◌≤◌, List, refl, ap, subst, ◌∙◌}
 use Rattle.bd_memnodes.specs.declared.kept.Kept.{Kept}
-use Rattle.bd_memnodes.specs.Maps.{count_in, times_among}
+use Rattle.bd_counts.specs.Naming.{times_among}
+use Rattle.bd_memnodes.specs.Maps.{count_in}
 use Rattle.bd_memnodes.proofs.Parts.{names_there, changes_there, put_owing}
 use Rattle.bd_memnodes.proofs.kept.Kept.put.Goals as goal
 

@@ -1,8 +1,8 @@
 use Rattle.std.proofs.Common.{ℕ, ◌+◌, arith}
 use Rattle.bd_node.specs.Tables.{one_if}
 use Rattle.bd_memnodes.specs.Maps.{nodes_in, count_in, times_of}
-use Rattle.bd_memnodes.specs.Releasing.{IsReleasing}
-use Rattle.bd_memnodes.proofs.Taking.{same_owed}
+use Rattle.bd_counts.specs.Releasing.{IsReleasing}
+use Rattle.bd_counts.proofs.Releasing.{same_owed}
 use Rattle.bd_memnodes.proofs.Parts.{from_here, same_ends, both_releasing}
 use Rattle.bd_memnodes.specs.declared.kept.Kept.{Kept}
 use Rattle.bd_memnodes.proofs.kept.Kept.settle.Goals as goal

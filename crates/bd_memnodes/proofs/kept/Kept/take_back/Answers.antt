@@ -4,7 +4,9 @@ use Rattle.std.specs.HashMap.{get}
 use Rattle.std.proofs.lemmas.Bool.{ne_eqb}
 use Rattle.bd_node.specs.Tables.{times_in}
 use Rattle.bd_memnodes.specs.Maps.{nodes_in, count_in, times_of}
-use Rattle.bd_memnodes.proofs.Taking.{IsLess, is_without, taken_last, times_of-more}
+use Rattle.bd_counts.specs.Releasing.{IsLess}
+use Rattle.bd_counts.proofs.Releasing.{is_without, taken_last}
+use Rattle.bd_memnodes.proofs.Taking.{times_of-more}
 use Rattle.bd_memnodes.proofs.kept.Kept.take_back.Goals as goal
 
 pub returns-in-Ok-clause-taken : goal.returns-in-Ok-clause-taken

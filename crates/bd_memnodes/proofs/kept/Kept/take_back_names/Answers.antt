@@ -1,6 +1,6 @@
 use Rattle.std.specs.Prelude.{flat_map}
 use Rattle.bd_node.specs.Nodes.{edge_names, message_names, times}
-use Rattle.bd_memnodes.specs.Maps.{times_among}
+use Rattle.bd_counts.specs.Naming.{times_among}
 use Rattle.bd_memnodes.proofs.Loops.{both_taken, inner_times}
 use Rattle.bd_memnodes.proofs.kept.Kept.take_back_names.Goals as goal
 

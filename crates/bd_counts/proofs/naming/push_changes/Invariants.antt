@@ -1,7 +1,7 @@
 use Rattle.std.proofs.Common.{◌≡◌, ◌++◌, drop}
 use Rattle.std.specs.List.{flat_map}
-use Rattle.bd_memnodes.specs.Plans.{change_names}
-use Rattle.bd_memnodes.proofs.naming.push_changes.Given as goal
+use Rattle.bd_counts.specs.Naming.{change_names}
+use Rattle.bd_counts.proofs.naming.push_changes.Given as goal
 
 -- the names so far, and those to come
 abbrev pub invariant-loop-change : goal.invariant-loop-change

@@ -3,7 +3,7 @@
 ghost use Rattle.std.specs.Prelude.{◌≡◌, ◌++◌, OnOk, IfOk};
 ghost use Rattle.std.specs.List.{flat_map};
 ghost use Rattle.bd_node.specs.Nodes.{edge_names, message_names, names};
-ghost use Rattle.bd_memnodes.specs.Plans.{change_names, step_names, added_names};
+ghost use Rattle.bd_counts.specs.Naming.{change_names, step_names, added_names};
 
 use bd_message::Message;
 use bd_node::{Change, Edge, Node, Step};
@@ -51,8 +51,8 @@ fn push_changes(list: &mut Vec<u64>, changes: &[Change]) -> Result<(), AllocErro
     Ok(())
 }
 
-// Puts the names in a node after others.
-fn push_node(list: &mut Vec<u64>, node: &Node) -> Result<(), AllocError>
+/// Puts the names in a node after others.
+pub fn push_node(list: &mut Vec<u64>, node: &Node) -> Result<(), AllocError>
     ensures { OnOk result (list.new.items ≡ list.old.items ++ names node.now) }
 {
     match node {

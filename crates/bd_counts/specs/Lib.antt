@@ -1,0 +1,4 @@
+pub mod Naming
+pub mod Releasing
+pub mod Counting
+pub mod Frames
