@@ -2,6 +2,7 @@
 
 ghost use Rattle.std.specs.Prelude.{◌≡◌, ◌≤◌, [], Some, false, IsSome, IfOk, IfErr, slice_index};
 ghost use Rattle.std.specs.Borrow.{sem};
+ghost use Rattle.std.specs.Option.{option_copied};
 ghost use Rattle.bd_message.specs.KeyMaps.{HasMapCause, NeverWorn};
 ghost use Rattle.bd_slots.specs.Layout.{IsTablePlace, image_blocks};
 ghost use Rattle.bd_device.specs.Device.{OnlyReads, IsImageCause};
@@ -9,16 +10,19 @@ ghost use Rattle.bd_device.specs.declared.fault.ImageFault.TheVariants.{NoMemory
 ghost use Rattle.bd_node.specs.New.{new_nodes, new_table};
 ghost use Rattle.bd_node.specs.Nodes.{buffer_size};
 ghost use Rattle.bd_node.specs.Stores.{visited, OnlyReadsBy};
-ghost use Rattle.bd_node.specs.Tables.{IsKept, IsNodeOf, IsTable};
+ghost use Rattle.bd_node.specs.Tables.{kept_count, IsKept, IsNodeOf, IsTable};
+ghost use Rattle.bd_pager.specs.Calling.{read_none, read_both, read_known};
 ghost use Rattle.bd_pager.specs.Fresh.{assembled, IsUnsaved};
 ghost use Rattle.bd_pager.specs.Lending.{lends_device};
 ghost use Rattle.bd_pager.specs.Opened.{IsOpened, IsBadStart};
 ghost use Rattle.bd_pager.specs.Pagers.{table_of, nodes_of, spots_of, is_known, is_bad, IsPaged, IsReadOf};
-ghost use Rattle.bd_pager.specs.Places.{AreCached};
+ghost use Rattle.bd_pager.specs.Places.{refs_in, AreCached};
 
 use crate::naming::names_lower;
 use crate::parts::Parts;
+use crate::place::Spot;
 use crate::reader::NodeReader;
+use bd_counts::Counted;
 use bd_device::{Device, ImageFault};
 use bd_format::laws::images_are_decoded;
 use bd_message::MapFault;
@@ -200,15 +204,19 @@ impl<D: Device> Pager<D> {
         self.next
     }
 
+    /// How many nodes it keeps.
+    pub fn kept(&self) -> u64
+        ensures { result ≡ kept_count (table_of self.now) }
+    {
+        self.reader.spots.len() as u64
+    }
+
     /// How often a node is named.
     pub fn count(&self, id: u64) -> u64
         requires { IsKept (table_of self.now) id }
         ensures { result ≡ (table_of self.now).count id }
     {
-        match self.reader.spots.get(&id) {
-            Some(spot) => spot.refs,
-            None => 0,
-        }
+        refs_of(self.reader.spots.get(&id))
     }
 
     /// A node's level.
@@ -262,6 +270,58 @@ impl<D: Device> Pager<D> {
         ensures { self.new ≡ record self.old { is_lent = false } }
     {
         self.reader.is_lent = false;
+    }
+}
+
+impl<D: Device> Counted for Pager<D> {
+    ghost is_known = { is_known D.Device };
+
+    ghost nodes = { nodes_of D.Device };
+
+    ghost table = { table_of };
+
+    ghost visit_count = { λ p. p.visits };
+
+    ghost fault_count = { λ p. D.fault_count p.dev };
+
+    ghost bad = { is_bad D.Device };
+
+    ghost reads = { IsReadOf D.Device };
+
+    ghost reads_none = { read_none D.Device.own };
+
+    ghost reads_both = { read_both D.Device.own };
+
+    ghost reads_known = { read_known D.Device.own };
+
+    fn find(&mut self, id: u64) -> Result<Rc<Node>, MapFault> {
+        let node = match self.reader.find(self.alloc, id) {
+            Ok(node) => node,
+            Err(fault) => return Err(fault),
+        };
+        Ok(node)
+    }
+
+    fn count(&self, id: u64) -> u64 {
+        refs_of(self.reader.spots.get(&id))
+    }
+
+    fn root(&self) -> u64 {
+        self.root
+    }
+
+    fn next_id(&self) -> u64 {
+        self.next
+    }
+}
+
+// How often the node of a spot is named: 0 where there is none.
+fn refs_of(spot: Option<&Spot>) -> u64
+    ensures { result ≡ refs_in (option_copied spot.entry) }
+{
+    match spot {
+        Some(spot) => spot.refs,
+        None => 0,
     }
 }
 
