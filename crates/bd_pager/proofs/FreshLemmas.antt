@@ -48,7 +48,7 @@ fresh_spots start m s node empty updates refs level place new = record {
 
 -- ---- its nodes and its table
 
-copy_at_place : (image : Image) (p : Place) (n : Node) → copy_at p ≡ Some n → node_at image p ≡ Some n
+pub copy_at_place : (image : Image) (p : Place) (n : Node) → copy_at p ≡ Some n → node_at image p ≡ Some n
 copy_at_place image (Memory node slot) n e = e
 copy_at_place image (Slot slot None) n e = absurd (none-some n e)
 copy_at_place image (Slot slot (Some node)) n e = e

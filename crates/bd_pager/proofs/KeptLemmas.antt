@@ -1,7 +1,7 @@
 -- How many nodes a pager keeps.
-use Rattle.std.proofs.Common.{◌≡◌, ℕ, ◌<◌, ◌≤◌, List, length, Option, None, Some, IsSome, refl, nat_eq}
+use Rattle.std.proofs.Common.{◌≡◌, ℕ, ◌≤◌, length, Option, None, Some, IsSome, refl, nat_eq}
 use Rattle.std.specs.List.{IsDistinct}
-use Rattle.std.specs.Map.{keys_of, lookup}
+use Rattle.std.specs.Map.{keys_of}
 use Rattle.bd_device.specs.Blocks.{Image}
 use Rattle.bd_node.specs.Tables.{kept_count}
 use Rattle.bd_memnodes.proofs.Keeping.{kept_is}

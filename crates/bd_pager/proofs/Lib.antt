@@ -1,3 +1,5 @@
+pub mod AppendedLemmas
+pub mod ChangingLemmas
 pub mod EntryLemmas
 pub mod FreshLemmas
 pub mod KeptLemmas

@@ -1,18 +1,17 @@
 -- What reads and other calls of a pager leave, one after the other.
-use Rattle.std.proofs.Common.{◌≡◌, ◌<◌, ◌≤◌, IsTrue, Bool, Option, refl, sym, ap, subst, ◌∙◌, arith, inl, List}
+use Rattle.std.proofs.Common.{◌≡◌, ◌<◌, IsTrue, Option, refl, sym, ap, subst, ◌∙◌, arith, inl}
 use Rattle.bd_device.specs.Blocks.{Image}
 use Rattle.bd_device.specs.Device.{OnlyReads}
 use Rattle.bd_device.specs.declared.device.Device.{Ghosts}
 use Rattle.bd_device.proofs.Calls.{reads_then}
 use Rattle.bd_node.specs.Tables.{Table, IsKept}
-use Rattle.bd_table.specs.declared.table.TableEntry.{TableEntry}
 use Rattle.bd_pager.specs.Places.{Spots}
 use Rattle.bd_pager.specs.Pagers.{Paged, spots_of, table_at, touched_at, table_of, IsKnownOver, is_known, IsReadOf}
 use Rattle.bd_pager.specs.Keeping.{KeepsSaved}
 
 module _ {D : Type 0} (g : Ghosts D) where
   -- a device that isn't called
-  no_reads : (d : D) → OnlyReads g d d
+  pub no_reads : (d : D) → OnlyReads g d d
   no_reads d = record {
     kept = refl;
     count = refl;

@@ -1,6 +1,6 @@
 //! The pager.
 
-ghost use Rattle.std.specs.Prelude.{◌≡◌, ◌≤◌, [], Some, false, IsSome, IfOk, IfErr, slice_index};
+ghost use Rattle.std.specs.Prelude.{◌≡◌, ◌≤◌, [], Some, false, IsSome, IfOk, IfErr, OnOk, OnErr, slice_index};
 ghost use Rattle.std.specs.Borrow.{sem};
 ghost use Rattle.std.specs.Option.{option_copied};
 ghost use Rattle.bd_message.specs.KeyMaps.{HasMapCause, NeverWorn};
@@ -9,15 +9,19 @@ ghost use Rattle.bd_device.specs.Device.{OnlyReads, IsImageCause};
 ghost use Rattle.bd_device.specs.declared.fault.ImageFault.TheVariants.{NoMemory};
 ghost use Rattle.bd_node.specs.New.{new_nodes, new_table};
 ghost use Rattle.bd_node.specs.Nodes.{buffer_size};
-ghost use Rattle.bd_node.specs.Stores.{visited, OnlyReadsBy};
-ghost use Rattle.bd_node.specs.Tables.{kept_count, IsKept, IsNodeOf, IsTable};
+ghost use Rattle.bd_node.specs.declared.node.Node.{Node};
+ghost use Rattle.bd_node.specs.Steps.{append_step, HasGrown, IsCommitted};
+ghost use Rattle.bd_node.specs.Stores.{visited, FitsRoot, OnlyReadsBy, StaysBy};
+ghost use Rattle.bd_node.specs.Tables.{kept_count, IsKept, IsNodeOf, IsSound, IsTable};
 ghost use Rattle.bd_pager.specs.Calling.{read_none, read_both, read_known};
 ghost use Rattle.bd_pager.specs.Fresh.{assembled, IsUnsaved};
+ghost use Rattle.bd_pager.specs.Keeping.{KeepsSaved};
 ghost use Rattle.bd_pager.specs.Lending.{lends_device};
 ghost use Rattle.bd_pager.specs.Opened.{IsOpened, IsBadStart};
 ghost use Rattle.bd_pager.specs.Pagers.{table_of, nodes_of, spots_of, is_known, is_bad, IsPaged, IsReadOf};
 ghost use Rattle.bd_pager.specs.Places.{refs_in, AreCached};
 
+use crate::changing::append_at;
 use crate::naming::names_lower;
 use crate::parts::Parts;
 use crate::place::Spot;
@@ -26,7 +30,7 @@ use bd_counts::Counted;
 use bd_device::{Device, ImageFault};
 use bd_format::laws::images_are_decoded;
 use bd_message::MapFault;
-use bd_node::Node;
+use bd_node::{Messages, Node};
 use bd_slots::{SlotSet, slot_block};
 use bd_table::Table;
 use std::alloc::Global;
@@ -34,11 +38,11 @@ use std::marker::Model;
 use std::rc::Rc;
 
 /// The nodes over a device: those of its last checkpoint, in their slots, and those that were
-/// changed or made since, in memory or in slots that the checkpoint doesn't hold. It reads nodes so
-/// far; how they are changed comes next.
+/// changed or made since, in memory or in slots that the checkpoint doesn't hold. It reads nodes and
+/// puts messages into the root so far; how steps are made comes next.
 ///
 /// A fetch finds its node by hashing, and reads at most one slot. It looks at each name that the
-/// node has.
+/// node has. An append takes the time of its messages, unless a caller holds the root.
 #[derive(Drop)]
 pub struct Pager<D: Device> {
     alloc: Global,
@@ -186,6 +190,42 @@ impl<D: Device> Pager<D> {
             });
         }
         Ok(node)
+    }
+
+    /// Puts messages after those that wait in the root: the commit of the root changed so, for the
+    /// cost of the messages alone where nobody else holds the root's node. It makes no call of the
+    /// device, and no visit. It fails where memory is wanting alone.
+    pub fn append(&mut self, list: Messages) -> Result<(), MapFault>
+        requires { FitsRoot (table_of self.old) list }
+        ensures table { OnOk result (HasGrown (table_of self.old) list (table_of self.new)) }
+        ensures committed { is_known D.Device self.old
+            → IsSound (nodes_of D.Device self.old) (table_of self.old)
+            → (root : Node) → nodes_of D.Device self.old (table_of self.old).root ≡ Some root
+            → OnOk result (IsCommitted (nodes_of D.Device self.old) (table_of self.old)
+            (append_step (table_of self.old) root list)
+            (nodes_of D.Device self.new) (table_of self.new)) }
+        ensures stays { StaysBy (is_known D.Device) (KeepsSaved D.Device) (λ _. [])
+            self.old self.new }
+        ensures err { OnErr result (OnlyReadsBy (is_known D.Device) (nodes_of D.Device) table_of
+            (IsReadOf D.Device) (λ _. []) self.old self.new) }
+        ensures visits { self.new.visits ≡ self.old.visits }
+        ensures device { self.new.dev ≡ self.old.dev }
+        ensures cause { HasMapCause (D.fault_count self.old.dev) (D.fault_count self.new.dev)
+            (is_bad D.Device self.new) NeverWorn result }
+    {
+        let added = list.size();
+        match append_at(
+            self.alloc,
+            &mut self.reader.spots,
+            self.root,
+            list,
+            &self.spare,
+        ) {
+            Ok(()) => {}
+            Err(_) => return Err(MapFault::NoMemory),
+        }
+        self.size += added;
+        Ok(())
     }
 
     /// The root's id.
