@@ -38,8 +38,8 @@ use std::marker::Model;
 use std::rc::Rc;
 
 /// The nodes over a device: those of its last checkpoint, in their slots, and those that were
-/// changed or made since, in memory or in slots that the checkpoint doesn't hold. It reads nodes and
-/// puts messages into the root so far; how steps are made comes next.
+/// changed or made since, in memory or in slots that the checkpoint doesn't hold. It reads nodes
+/// and puts messages into the root so far; how steps are made comes next.
 ///
 /// A fetch finds its node by hashing, and reads at most one slot. It looks at each name that the
 /// node has. An append takes the time of its messages, unless a caller holds the root.
