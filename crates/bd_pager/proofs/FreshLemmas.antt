@@ -25,7 +25,7 @@ use Rattle.bd_pager.specs.declared.place.Place.TheVariants.{Memory, Slot}
 use Rattle.bd_pager.specs.declared.place.Spot.{Spot}
 use Rattle.bd_pager.specs.Slots.{IsOfLevel}
 use Rattle.bd_pager.specs.Places.{Spots, spots_in, refs_in, level_in, copy_at, copy_in, node_at, node_of, told, nodes_at}
-use Rattle.bd_pager.specs.Pagers.{Paged, spots_of, table_at, touched_at, IsRightPlace, IsOfSize, IsPaged}
+use Rattle.bd_pager.specs.Pagers.{Paged, spots_of, table_at, is_saved, touched_at, IsRightPlace, IsOfSize, IsPlaceIn, IsPaged}
 use Rattle.bd_pager.specs.Fresh.{AreFreshSpots}
 
 -- ---- a map of the root alone
@@ -48,7 +48,7 @@ fresh_spots start m s node empty updates refs level place new = record {
 
 -- ---- its nodes and its table
 
-copy_at_place : (image : Image) (p : Place) (n : Node) → copy_at p ≡ Some n → node_at image p ≡ Some n
+pub copy_at_place : (image : Image) (p : Place) (n : Node) → copy_at p ≡ Some n → node_at image p ≡ Some n
 copy_at_place image (Memory node slot) n e = e
 copy_at_place image (Slot slot None) n e = absurd (none-some n e)
 copy_at_place image (Slot slot (Some node)) n e = e
@@ -145,4 +145,6 @@ fresh_paged contents p slots h root_is size_is next_is none at_none spare_is gon
           λ _. all_free p.spare slots slot spare_is lt,
         );
       };
+      slots = λ id s there. subst (λ (q : Place). IsPlaceIn p.spare q) (sym (ap (λ (x : Spot). x.place) (fresh_only spots h id s there) ∙ h.place)) tt;
+      saved = λ id saved. absurd (let e : false ≡ true = ap (λ (es : List TableEntry). is_saved es id) (sym none) ∙ saved in cc);
     }

@@ -1,6 +1,8 @@
+pub mod AppendedLemmas
+pub mod ChangingLemmas
 pub mod EntryLemmas
 pub mod FreshLemmas
-pub mod KeepLemmas
+pub mod KeptLemmas
 pub mod NamingLemmas
 pub mod OpenedLemmas
 pub mod PagerLemmas

@@ -1,11 +1,13 @@
 -- A pager over a checkpoint.
-use Rattle.std.proofs.Common.{◌≡◌, ◌≢◌, ℕ, suc, ◌<◌, ◌≤◌, ◌⊎◌, false, true, List, [], ◌∷◌, ◌++◌, get_or, Option, None, Some, IfSome, All, refl, sym, ap, subst, ◌∙◌, arith, inl, inr, nat_eq}
-use Rattle.std.specs.Prelude.{Contains, IsSome}
+use Rattle.std.proofs.Common.{◌≡◌, ◌≢◌, ℕ, suc, ◌<◌, ◌≤◌, ◌⊎◌, Bool, false, true, eqb, IsTrue, List, [], ◌∷◌, ◌++◌, length, get_or, Option, None, Some, IfSome, All, refl, sym, ap, subst, ◌∙◌, arith, inl, inr, nat_eq}
+use Rattle.std.specs.Prelude.{Any, Contains, IsSome}
 use Rattle.std.specs.Global.{Global}
 use Rattle.std.specs.HashMap.{HashMap, Updates}
 use Rattle.std.specs.declared.rc.Rc.{Rc}
-use Rattle.std.proofs.lemmas.Bool.{cases_eq, ne_eqb}
-use Rattle.std.proofs.lemmas.List.Elements.{All-cons}
+use Rattle.std.proofs.lemmas.Bool.{cases_eq, eqb-true, ne_eqb}
+use Rattle.std.proofs.lemmas.List.{get_or-map, length-map}
+use Rattle.std.proofs.lemmas.List.Folds.{Any-from_list_any}
+use Rattle.std.proofs.lemmas.List.Elements.{All-cons, Contains-append_right}
 use Rattle.std.proofs.lemmas.Option.{none-some, same_Some}
 use Rattle.bd_device.specs.Blocks.{Image}
 use Rattle.bd_format.specs.Images.{IsImage}
@@ -20,7 +22,7 @@ use Rattle.bd_pager.specs.Slots.{slot_bytes, HasNode, IsOfLevel}
 use Rattle.bd_pager.specs.Places.{spots_in, refs_in, level_in, copy_at, copy_in, told}
 use Rattle.bd_pager.specs.Entries.{saved_spot, AreSavedSpots}
 use Rattle.bd_pager.specs.Opened.{root_spot, AreOpened, IsOpened}
-use Rattle.bd_pager.specs.Pagers.{Paged, spots_of, IsRightPlace, IsOfSize, IsPaged}
+use Rattle.bd_pager.specs.Pagers.{Paged, spots_of, is_saved, IsRightPlace, IsOfSize, IsPlaceIn, IsPaged}
 
 -- ---- entries
 
@@ -61,6 +63,7 @@ record IsOf (t : Checkpoint) (id : ℕ) (s : Spot) : Type 0 where
   among : Contains t.entries entry
   id_is : entry.id ≡ id
   refs : s.refs ≡ entry.refs
+  slot : (spare : List Bool) → entry.slot < length spare → IsPlaceIn spare s.place
   placed : IfSome (copy_at s.place) (IsOfLevel s.level)
 
 module _ {D : Type 0} (contents : Option Image) (slots : ℕ) (at : List ℕ) (p : Paged D) (h : IsOpened contents slots at p) where
@@ -70,18 +73,36 @@ module _ {D : Type 0} (contents : Option Image) (slots : ℕ) (at : List ℕ) (p
     | inr found ↦ elim (cases_eq id p.saved.root) [
       | inl is_root ↦
           let e : s ≡ root_spot h.entry h.node = same_Some s (root_spot h.entry h.node) (sym there ∙ ap (spots_of p) is_root ∙ h.spots.root_there) in
-          subst (λ (x : Spot). IsOf p.saved id x) (sym e) (record { entry = h.entry; among = h.among; id_is = h.is_root.0 ∙ sym is_root; refs = refl; placed = h.of_level })
+          subst (λ (x : Spot). IsOf p.saved id x) (sym e) (record { entry = h.entry; among = h.among; id_is = h.is_root.0 ∙ sym is_root; refs = refl; slot = λ spare lt. lt; placed = h.of_level })
       | inr other ↦
           let x : TableEntry = found.0 in
           let own : spots_of p x.id ≡ Some (saved_spot x) =
           of_all (λ (y : TableEntry). y.id ≢ p.saved.root → spots_of p y.id ≡ Some (saved_spot y)) p.saved.entries x h.spots.there found.1 (λ r. other (sym found.2 ∙ r)) in
           let e : s ≡ saved_spot x = same_Some s (saved_spot x) (sym there ∙ ap (spots_of p) (sym found.2) ∙ own) in
-          subst (λ (y : Spot). IsOf p.saved id y) (sym e) (record { entry = x; among = found.1; id_is = found.2; refs = refl; placed = tt })
+          subst (λ (y : Spot). IsOf p.saved id y) (sym e) (record { entry = x; among = found.1; id_is = found.2; refs = refl; slot = λ spare lt. lt; placed = tt })
     ]
   ]
 
   entry_of : (e : TableEntry) → Contains p.saved.entries e → IsTableEntry e
   entry_of e among = of_all IsTableEntry p.saved.entries e h.table.entries.each among
+
+  -- the slot of an entry is one of those that there are
+  slot_within : (e : TableEntry) → Contains p.saved.entries e → e.slot < length p.spare
+  slot_within e among =
+      let own : Contains (slots_of p.saved.entries) e.slot = (
+        among.0,
+        omega (arith, among.1, length-map p.saved.entries (λ (x : TableEntry). x.slot)),
+        get_or-map (λ (x : TableEntry). x.slot) p.saved.entries among.0 e e.slot among.1 ∙ ap (λ (x : TableEntry). x.slot) among.2,
+      ) in
+      let below : e.slot < slots = of_all (λ (s : ℕ). s < slots) (at ++ slots_of p.saved.entries) e.slot h.table.differ.below (Contains-append_right at (slots_of p.saved.entries) e.slot own) in
+      omega (arith, below, h.spare.count)
+
+  saved_within : (id : ℕ) → IsTrue (is_saved p.saved.entries id) → id < p.next
+  saved_within id saved =
+      let found : Any (λ (e : TableEntry). eqb e.id id ≡ true) p.saved.entries = Any-from_list_any (λ (e : TableEntry). eqb e.id id) p.saved.entries saved in
+      let e : TableEntry = found.1 in
+      let below : e.id < p.saved.next_id = of_all (λ (x : TableEntry). x.id < p.saved.next_id) p.saved.entries e h.table.entries.below_next (found.0, found.2, found.3) in
+      omega (arith, below, eqb-true e.id id found.4, h.next)
 
   kept_within : (id : ℕ) (o : Option Spot) → spots_of p id ≡ o → 1 ≤ refs_in o → (1 ≤ id) × (id < p.next)
   kept_within id None there kept = absurd (omega (arith, kept))
@@ -109,6 +130,10 @@ module _ {D : Type 0} (contents : Option Image) (slots : ℕ) (at : List ℕ) (p
     cached = λ id n kept. absurd (none-some n (sym (h.cached id) ∙ kept));
     spare = subst (λ (n : ℕ). AreFreeSlots n (p.at ++ slots_of p.saved.entries) p.spare) (sym h.spare.count)
         (subst (λ (l : List ℕ). AreFreeSlots slots (l ++ slots_of p.saved.entries) p.spare) (sym h.at_is) h.spare);
+    slots = λ id s there.
+        let k : IsOf p.saved id s = kept_of id s there in
+        k.slot p.spare (slot_within k.entry k.among);
+    saved = saved_within;
   }
 
   -- the root's copy is what its slot has

@@ -1,3 +1,5 @@
+pub mod Calling
+pub mod Changing
 pub mod Entries
 pub mod Fresh
 pub mod Keeping

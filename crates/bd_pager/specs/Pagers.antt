@@ -1,8 +1,9 @@
 -- What a pager is seen as.
-use Rattle.std.specs.Prelude.{◌≡◌, ◌≤◌, ◌⊎◌, ◌==◌, ◌&&◌, ◌++◌, ⊤, ℕ, Bool, true, false, List, length, Option, None, Some, IsSome, nat_eq, slice_index, slice_index_or}
+use Rattle.std.specs.Prelude.{◌≡◌, ◌<◌, ◌≤◌, ◌⊎◌, ◌==◌, ◌&&◌, ◌++◌, ⊤, ℕ, Bool, true, false, List, length, Option, None, Some, IsSome, IsTrue, nat_eq, slice_index, slice_index_or}
 use Rattle.std.specs.List.{list_any}
 use Rattle.std.specs.Map.{lookup}
 use Rattle.bd_slots.specs.Layout.{slot_block}
+use Rattle.bd_slots.specs.Slots.{IsFree}
 use Rattle.bd_device.specs.Blocks.{Image}
 use Rattle.bd_device.specs.Device.{OnlyReads}
 use Rattle.bd_device.specs.declared.device.Device.{Ghosts}
@@ -114,8 +115,14 @@ abbrev pub IsOfSize : ℕ → Option Node → Type 0
 IsOfSize size None = ⊥
 IsOfSize size (Some n) = buffer_size n ≡ size
 
+-- its slot is one of those that there are, and a changed node's own one is spare
+abbrev pub IsPlaceIn : List Bool → Place → Type 0
+IsPlaceIn spare (Memory node None) = ⊤
+IsPlaceIn spare (Memory node (Some slot)) = IsFree spare slot
+IsPlaceIn spare (Slot slot copy) = slot < length spare
+
 -- what holds whatever the device has: each kept node is named; the root is in memory; the spare
--- slots are those that the checkpoint doesn't hold
+-- slots are those that the checkpoint doesn't hold; no saved id is a new one
 pub record IsPaged {D : Type 0} (contents : Option Image) (p : Paged D) : Type 0 where
   pub table : IsTable (table_of p)
   pub used : (id : ℕ) (s : Spot) → spots_of p id ≡ Some s → 1 ≤ s.refs
@@ -123,6 +130,8 @@ pub record IsPaged {D : Type 0} (contents : Option Image) (p : Paged D) : Type 0
   pub root : IsOfSize p.size (copy_in (spots_of p p.root))
   pub cached : AreCached contents p.is_lent (spots_of p) p.cache
   pub spare : AreFreeSlots (length p.spare) (p.at ++ slots_of p.saved.entries) p.spare
+  pub slots : (id : ℕ) (s : Spot) → spots_of p id ≡ Some s → IsPlaceIn p.spare s.place
+  pub saved : (id : ℕ) → IsTrue (is_saved p.saved.entries id) → id < p.next
 
 -- what it is seen as
 abbrev pub seen : {D : Type 0} → NodeReader D → Checkpoint → List ℕ → List Bool → ℕ → ℕ → ℕ → ℕ
@@ -144,8 +153,10 @@ seen reader saved at spare root size next visits = record {
 -- only the device was read, and what is counted and kept of reads has changed
 pub record IsReadOf {D : Type 0} (g : Ghosts D) (old new : Paged D) : Type 0 where
   pub device : OnlyReads g old.dev new.dev
+  pub spots : spots_of new ≡ spots_of old
   pub rest : new ≡ record old {
     dev = new.dev;
+    spots = new.spots;
     visits = new.visits;
     cache = new.cache;
     is_lent = new.is_lent;

@@ -1,9 +1,10 @@
 //! Nodes over a device: read from slots and written to them. `Pager` is to be the store of them; it
-//! reads so far, and how nodes are changed comes next.
+//! reads and appends so far, and how steps are made comes next.
 //! The layers above may use the contracts of `Pager`, `read_node`, `write_node` and `write_nodes`,
 //! and the law that slots survive what others write.
 #![tactic(auto)]
 
+mod changing;
 mod entries;
 pub mod laws;
 mod naming;

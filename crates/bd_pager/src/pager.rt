@@ -1,28 +1,36 @@
 //! The pager.
 
-ghost use Rattle.std.specs.Prelude.{◌≡◌, ◌≤◌, [], Some, false, IsSome, IfOk, IfErr, slice_index};
+ghost use Rattle.std.specs.Prelude.{◌≡◌, ◌≤◌, [], Some, false, IsSome, IfOk, IfErr, OnOk, OnErr, slice_index};
 ghost use Rattle.std.specs.Borrow.{sem};
+ghost use Rattle.std.specs.Option.{option_copied};
 ghost use Rattle.bd_message.specs.KeyMaps.{HasMapCause, NeverWorn};
 ghost use Rattle.bd_slots.specs.Layout.{IsTablePlace, image_blocks};
 ghost use Rattle.bd_device.specs.Device.{OnlyReads, IsImageCause};
 ghost use Rattle.bd_device.specs.declared.fault.ImageFault.TheVariants.{NoMemory};
 ghost use Rattle.bd_node.specs.New.{new_nodes, new_table};
 ghost use Rattle.bd_node.specs.Nodes.{buffer_size};
-ghost use Rattle.bd_node.specs.Stores.{visited, OnlyReadsBy};
-ghost use Rattle.bd_node.specs.Tables.{IsKept, IsNodeOf, IsTable};
+ghost use Rattle.bd_node.specs.declared.node.Node.{Node};
+ghost use Rattle.bd_node.specs.Steps.{append_step, HasGrown, IsCommitted};
+ghost use Rattle.bd_node.specs.Stores.{visited, FitsRoot, OnlyReadsBy, StaysBy};
+ghost use Rattle.bd_node.specs.Tables.{kept_count, IsKept, IsNodeOf, IsSound, IsTable};
+ghost use Rattle.bd_pager.specs.Calling.{read_none, read_both, read_known};
 ghost use Rattle.bd_pager.specs.Fresh.{assembled, IsUnsaved};
+ghost use Rattle.bd_pager.specs.Keeping.{KeepsSaved};
 ghost use Rattle.bd_pager.specs.Lending.{lends_device};
 ghost use Rattle.bd_pager.specs.Opened.{IsOpened, IsBadStart};
 ghost use Rattle.bd_pager.specs.Pagers.{table_of, nodes_of, spots_of, is_known, is_bad, IsPaged, IsReadOf};
-ghost use Rattle.bd_pager.specs.Places.{AreCached};
+ghost use Rattle.bd_pager.specs.Places.{refs_in, AreCached};
 
+use crate::changing::append_at;
 use crate::naming::names_lower;
 use crate::parts::Parts;
+use crate::place::Spot;
 use crate::reader::NodeReader;
+use bd_counts::Counted;
 use bd_device::{Device, ImageFault};
 use bd_format::laws::images_are_decoded;
 use bd_message::MapFault;
-use bd_node::Node;
+use bd_node::{Messages, Node};
 use bd_slots::{SlotSet, slot_block};
 use bd_table::Table;
 use std::alloc::Global;
@@ -30,11 +38,11 @@ use std::marker::Model;
 use std::rc::Rc;
 
 /// The nodes over a device: those of its last checkpoint, in their slots, and those that were
-/// changed or made since, in memory or in slots that the checkpoint doesn't hold. It reads nodes so
-/// far; how they are changed comes next.
+/// changed or made since, in memory or in slots that the checkpoint doesn't hold. It reads nodes
+/// and puts messages into the root so far; how steps are made comes next.
 ///
 /// A fetch finds its node by hashing, and reads at most one slot. It looks at each name that the
-/// node has.
+/// node has. An append takes the time of its messages, unless a caller holds the root.
 #[derive(Drop)]
 pub struct Pager<D: Device> {
     alloc: Global,
@@ -184,6 +192,42 @@ impl<D: Device> Pager<D> {
         Ok(node)
     }
 
+    /// Puts messages after those that wait in the root: the commit of the root changed so, for the
+    /// cost of the messages alone where nobody else holds the root's node. It makes no call of the
+    /// device, and no visit. It fails where memory is wanting alone.
+    pub fn append(&mut self, list: Messages) -> Result<(), MapFault>
+        requires { FitsRoot (table_of self.old) list }
+        ensures table { OnOk result (HasGrown (table_of self.old) list (table_of self.new)) }
+        ensures committed { is_known D.Device self.old
+            → IsSound (nodes_of D.Device self.old) (table_of self.old)
+            → (root : Node) → nodes_of D.Device self.old (table_of self.old).root ≡ Some root
+            → OnOk result (IsCommitted (nodes_of D.Device self.old) (table_of self.old)
+            (append_step (table_of self.old) root list)
+            (nodes_of D.Device self.new) (table_of self.new)) }
+        ensures stays { StaysBy (is_known D.Device) (KeepsSaved D.Device) (λ _. [])
+            self.old self.new }
+        ensures err { OnErr result (OnlyReadsBy (is_known D.Device) (nodes_of D.Device) table_of
+            (IsReadOf D.Device) (λ _. []) self.old self.new) }
+        ensures visits { self.new.visits ≡ self.old.visits }
+        ensures device { self.new.dev ≡ self.old.dev }
+        ensures cause { HasMapCause (D.fault_count self.old.dev) (D.fault_count self.new.dev)
+            (is_bad D.Device self.new) NeverWorn result }
+    {
+        let added = list.size();
+        match append_at(
+            self.alloc,
+            &mut self.reader.spots,
+            self.root,
+            list,
+            &self.spare,
+        ) {
+            Ok(()) => {}
+            Err(_) => return Err(MapFault::NoMemory),
+        }
+        self.size += added;
+        Ok(())
+    }
+
     /// The root's id.
     pub fn root(&self) -> u64
         ensures value { result ≡ (table_of self.now).root }
@@ -200,15 +244,19 @@ impl<D: Device> Pager<D> {
         self.next
     }
 
+    /// How many nodes it keeps.
+    pub fn kept(&self) -> u64
+        ensures { result ≡ kept_count (table_of self.now) }
+    {
+        self.reader.spots.len() as u64
+    }
+
     /// How often a node is named.
     pub fn count(&self, id: u64) -> u64
         requires { IsKept (table_of self.now) id }
         ensures { result ≡ (table_of self.now).count id }
     {
-        match self.reader.spots.get(&id) {
-            Some(spot) => spot.refs,
-            None => 0,
-        }
+        refs_of(self.reader.spots.get(&id))
     }
 
     /// A node's level.
@@ -262,6 +310,58 @@ impl<D: Device> Pager<D> {
         ensures { self.new ≡ record self.old { is_lent = false } }
     {
         self.reader.is_lent = false;
+    }
+}
+
+impl<D: Device> Counted for Pager<D> {
+    ghost is_known = { is_known D.Device };
+
+    ghost nodes = { nodes_of D.Device };
+
+    ghost table = { table_of };
+
+    ghost visit_count = { λ p. p.visits };
+
+    ghost fault_count = { λ p. D.fault_count p.dev };
+
+    ghost bad = { is_bad D.Device };
+
+    ghost reads = { IsReadOf D.Device };
+
+    ghost reads_none = { read_none D.Device.own };
+
+    ghost reads_both = { read_both D.Device.own };
+
+    ghost reads_known = { read_known D.Device.own };
+
+    fn find(&mut self, id: u64) -> Result<Rc<Node>, MapFault> {
+        let node = match self.reader.find(self.alloc, id) {
+            Ok(node) => node,
+            Err(fault) => return Err(fault),
+        };
+        Ok(node)
+    }
+
+    fn count(&self, id: u64) -> u64 {
+        refs_of(self.reader.spots.get(&id))
+    }
+
+    fn root(&self) -> u64 {
+        self.root
+    }
+
+    fn next_id(&self) -> u64 {
+        self.next
+    }
+}
+
+// How often the node of a spot is named: 0 where there is none.
+fn refs_of(spot: Option<&Spot>) -> u64
+    ensures { result ≡ refs_in (option_copied spot.entry) }
+{
+    match spot {
+        Some(spot) => spot.refs,
+        None => 0,
     }
 }
 

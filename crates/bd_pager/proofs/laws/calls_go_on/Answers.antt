@@ -1,4 +1,4 @@
-use Rattle.bd_pager.proofs.KeepLemmas.{read_none, read_both, read_known, read_keeps, keeps_both}
+use Rattle.bd_pager.specs.Calling.{read_none, read_both, read_known, read_keeps, keeps_both}
 use Rattle.bd_pager.proofs.laws.calls_go_on.Goals as goal
 
 pub returns-clause-none : goal.returns-clause-none

@@ -15,6 +15,8 @@ invariant_of-self-lent g c = λ w.
       root = was.root;
       cached = lent_cached (g.D.Device.contents reader.dev) (g.D.Device.contents w) reader.is_lent (spots_in reader.spots) reader.cache was.cached;
       spare = was.spare;
+      slots = was.slots;
+      saved = was.saved;
     }
 
 pub returns : goal.returns

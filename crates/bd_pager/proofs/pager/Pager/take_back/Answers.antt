@@ -13,4 +13,6 @@ invariant_of-self g c =
       root = was.root;
       cached = subst (λ (p : Paged g.row.D.Denot). AreCached (g.D.Device.contents p.dev) false (spots_of p) p.cache) (sym c.self.view_is) c.requires;
       spare = was.spare;
+      slots = was.slots;
+      saved = was.saved;
     }

@@ -1,0 +1,119 @@
+//! Nodes that are changed in memory.
+
+ghost use Rattle.std.specs.Prelude.{◌≡◌, ◌<◌, ℕ, Some, IsSome, IfSome, OnOk, OnErr, length, slice_get};
+ghost use Rattle.bd_node.specs.declared.node.Node.{Node};
+ghost use Rattle.bd_node.specs.Nodes.{appended};
+ghost use Rattle.bd_pager.specs.Places.{spots_in, copy_at, copy_in};
+ghost use Rattle.bd_pager.specs.Pagers.{IsPlaceIn};
+ghost use Rattle.bd_pager.specs.Changing.{slot_if, IsChangedPlace, IsChangedSpot, IsChangedAt};
+
+use crate::place::{Place, Spot};
+use bd_node::{Messages, Node};
+use bd_slots::SlotSet;
+use std::alloc::{AllocError, Global};
+use std::collections::HashMap;
+use std::mem;
+use std::rc::Rc;
+
+/// Puts messages after those that wait in a node that is in memory, which is changed by that.
+pub fn append_at(
+    alloc: Global,
+    spots: &mut HashMap<u64, Spot>,
+    id: u64,
+    list: Messages,
+    spare: &SlotSet,
+) -> Result<(), AllocError>
+    requires copy { IsSome (copy_in (spots_in spots.old id)) }
+    requires place { IfSome (spots_in spots.old id) (λ s. IsPlaceIn spare.now s.place) }
+    ensures ok { (n : Node) → copy_in (spots_in spots.old id) ≡ Some n → OnOk result
+        (IsChangedAt spare.now id (appended n list) (spots_in spots.old) (spots_in spots.new)) }
+    ensures err { OnErr result (spots.new.entries ≡ spots.old.entries) }
+{
+    match spots.get_mut(&id) {
+        Some(spot) => append_to_spot(alloc, spot, list, spare),
+        None => unreachable!(),
+    }
+}
+
+// Puts messages after those that wait in the node of a spot, which is in memory.
+fn append_to_spot(
+    alloc: Global,
+    spot: &mut Spot,
+    list: Messages,
+    spare: &SlotSet,
+) -> Result<(), AllocError>
+    requires { IsPlaceIn spare.now spot.old.place }
+    ensures ok { (n : Node) → copy_at spot.old.place ≡ Some n → OnOk result
+        (IsChangedSpot spare.now (appended n list) spot.old spot.new) }
+    ensures err { OnErr result (spot.new ≡ spot.old) }
+{
+    let vacant = Place::Slot {
+        slot: 0,
+        node: None,
+    };
+    let place = mem::replace(&mut spot.place, vacant);
+    let (place, result) = appended(alloc, place, list, spare);
+    spot.place = place;
+    result
+}
+
+// The place with messages after those that wait in its node, which is in memory.
+fn appended(
+    alloc: Global,
+    place: Place,
+    list: Messages,
+    spare: &SlotSet,
+) -> (Place, Result<(), AllocError>)
+    requires { IsPlaceIn spare.now place }
+    ensures ok { (n : Node) → copy_at place ≡ Some n → OnOk result.1
+        (IsChangedPlace spare.now (appended n list) place result.0) }
+    ensures err { OnErr result.1 (result.0 ≡ place) }
+{
+    match place {
+        Place::Memory { mut node, slot } => {
+            let result = append_to(alloc, &mut node, list);
+            (Place::Memory { node, slot }, result)
+        }
+        Place::Slot {
+            slot,
+            node: Some(mut node),
+        } => match append_to(alloc, &mut node, list) {
+            Ok(()) => {
+                let slot = slot_if_spare(spare, slot);
+                (Place::Memory { node, slot }, Ok(()))
+            }
+            Err(fault) => {
+                let node = Some(node);
+                (Place::Slot { slot, node }, Err(fault))
+            }
+        },
+        Place::Slot { slot, node: None } => (Place::Slot { slot, node: None }, Ok(())),
+    }
+}
+
+// The slot, where it is a spare one.
+fn slot_if_spare(spare: &SlotSet, slot: u32) -> Option<u32>
+    requires { slot < length spare.now }
+    ensures { result ≡ slot_if (slice_get spare.now slot) slot }
+{
+    if spare.is_free(slot) {
+        Some(slot)
+    } else {
+        None
+    }
+}
+
+// Puts messages after those that wait in a node: in its place where nobody else holds it, else in
+// the place of a copy.
+fn append_to(alloc: Global, shared: &mut Rc<Node>, list: Messages) -> Result<(), AllocError>
+    ensures ok { OnOk result (shared.new.value ≡ appended shared.old.value list) }
+    ensures err { OnErr result (shared.new ≡ shared.old) }
+{
+    if let Some(node) = Rc::get_mut(shared) {
+        return node.append(list);
+    }
+    let mut node = (**shared).clone()?;
+    node.append(list)?;
+    *shared = Rc::new(alloc, node)?;
+    Ok(())
+}
