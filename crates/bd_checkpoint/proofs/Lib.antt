@@ -4,3 +4,4 @@ pub mod Published
 pub mod Records
 pub mod Spare
 pub mod Resumed
+pub mod Handed

@@ -4,7 +4,7 @@ use Rattle.std.specs.Prelude.{IsSomeAnd, slice_index}
 use Rattle.std.proofs.lemmas.Option.{slice_get_within}
 use Rattle.bd_device.specs.Blocks.{Image}
 use Rattle.bd_device.specs.Changes.{SameBut, StaysBut, IsBeforeBut}
-use Rattle.bd_device.specs.Commits.{block_at, IsCommitted}
+use Rattle.bd_device.specs.Commits.{block_at}
 use Rattle.bd_table.specs.Tables.{AreFreeSlots}
 use Rattle.bd_super.specs.Superblocks.{log_block}
 use Rattle.bd_super.specs.Live.{IsLive}

@@ -1,5 +1,5 @@
 -- Writes to slots that the last checkpoint doesn't hold.
-use Rattle.std.specs.Prelude.{◌≡◌, ℕ, List, Bool}
+use Rattle.std.specs.Prelude.{◌≡◌, List, Bool}
 use Rattle.bd_device.specs.Changes.{StaysBut, IsBeforeBut}
 use Rattle.bd_device.specs.Device.{left_now, Goes}
 use Rattle.bd_device.specs.declared.device.Device.{Ghosts}

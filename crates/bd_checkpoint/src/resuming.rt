@@ -22,9 +22,9 @@ use std::alloc::Global;
 
 /// Reads the log of the live superblock, and the commands of the records of its open batches. With
 /// them all that is known between two calls is known, once a crash leaves what reads give.
-/// `DeviceFault` comes only where a call of the device failed, which is the last one then, `Damaged`
-/// where a batch is broken, or else where a record is of no command, and names the first body block
-/// of the batch. It reads, and writes nothing.
+/// `DeviceFault` comes only where a call of the device failed, which is the last one then.
+/// `Damaged` comes where a batch is broken, or else where a record is of no command, and names the
+/// first body block of the batch. It reads, and writes nothing.
 pub fn resume_log<D: Device>(
     alloc: Global,
     dev: &mut D,

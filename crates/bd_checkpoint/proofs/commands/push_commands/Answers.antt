@@ -1,4 +1,4 @@
-use Rattle.std.proofs.Common.{◌≤◌, ◌++◌, length, Some, subst, arith, ◌∙◌}
+use Rattle.std.proofs.Common.{◌≤◌, ◌++◌, length, subst, arith}
 use Rattle.bd_super.specs.Superblocks.{version_number}
 use Rattle.bd_checkpoint.specs.Commands.{records_for, placed_in, IsRecordOf}
 use Rattle.bd_checkpoint.proofs.Records.{pushed, stopped, all_pushed}

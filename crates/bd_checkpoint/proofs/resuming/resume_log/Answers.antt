@@ -1,6 +1,5 @@
 use Rattle.std.proofs.Common.{◌≡◌, ℕ, List, IfSome, ap, sym, subst, ◌∙◌}
 use Rattle.std.proofs.lemmas.Result.{err_from_is_err_and}
-use Rattle.bd_device.specs.Blocks.{Image}
 use Rattle.bd_device.specs.Device.{left_now, IsImageCause}
 use Rattle.bd_device.specs.Moments.{Nothing}
 use Rattle.bd_device.proofs.Moments.{after}
