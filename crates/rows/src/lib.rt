@@ -23,8 +23,6 @@ mod records;
 #[cfg(test)]
 mod script;
 #[cfg(test)]
-mod stream;
-#[cfg(test)]
 mod volume;
 #[cfg(test)]
 mod wire;

@@ -1,0 +1,6 @@
+//! The tests of streams of a subtree. Nothing stands on this crate, and the rules of `rows` hold for
+//! it.
+#![tactic(auto)]
+
+#[cfg(test)]
+mod stream;
