@@ -8,7 +8,7 @@ ghost use Rattle.bd_node.specs.Shape.{IsShape};
 ghost use Rattle.bd_node.specs.Stores.{visited};
 ghost use Rattle.bd_node.specs.Tables.{IsSound};
 ghost use Rattle.bd_node.specs.Parts.{edges_of, IsEdgeAt};
-ghost use Rattle.bd_inner.specs.Exchange.{way_to};
+ghost use Rattle.bd_inner.specs.Exchanging.{way_to};
 ghost use Rattle.bd_path.specs.Flushed.{IsFlushed, IsNoHigher};
 ghost use Rattle.bd_path.specs.Made.{IsMadeBy, IsWornFor};
 ghost use Rattle.bd_path.specs.Paths.{path_step};

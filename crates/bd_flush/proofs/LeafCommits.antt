@@ -12,7 +12,7 @@ use Rattle.bd_node.specs.Steps.{IsStep, IsInPlace, IsTableAfter, IsCommitted}
 use Rattle.bd_node.specs.Stores.{visited}
 use Rattle.bd_path.specs.declared.fetching.Fetched.{Fetched}
 use Rattle.bd_path.specs.Flushed.{IsFlushed, IsNoHigher}
-use Rattle.bd_flush.specs.Pushes.{CanPushNew, IsNewStep}
+use Rattle.bd_flush.specs.Pushing.{CanPushNew, IsNewStep}
 use Rattle.bd_path.specs.Fetching.{IsOwn}
 use Rattle.bd_path.proofs.OneSteps.{IsOneChange, IsOneChangeOf, IsOneChanged, one_step, one_in_place, one_flushed, one_no_higher}
 use Rattle.bd_flush.proofs.LeafPushes.{IsBare, new_change, new_change_of, new_size}

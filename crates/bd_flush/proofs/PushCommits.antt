@@ -11,7 +11,7 @@ use Rattle.bd_path.specs.declared.fetching.Fetched.{Fetched}
 use Rattle.bd_path.specs.Flushed.{IsFlushed, IsNoHigher}
 use Rattle.bd_path.specs.Fetching.{IsWayTo}
 use Rattle.bd_flush.specs.Children.{AreFamily}
-use Rattle.bd_flush.specs.Pushes.{AllGoDown, CanPush, IsPushStep}
+use Rattle.bd_flush.specs.Pushing.{AllGoDown, CanPush, IsPushStep}
 use Rattle.bd_path.proofs.ChildSteps.{IsChildChange, IsChildChangeOf, IsChildChanged, below_step, below_in_place, child_flushed, no_higher}
 use Rattle.bd_flush.proofs.ChildSplits.{IsSplittable, at_child, lower_child}
 use Rattle.bd_flush.proofs.Pushed.{batch_low, IsPushable, push_change, push_change_of, push_few, push_size}

@@ -20,16 +20,16 @@ use Rattle.bd_path.specs.Flushed.{IsFlushed, IsNoHigher, IsHardlyHigher}
 use Rattle.bd_flush.specs.Children.{AreFamily}
 use Rattle.bd_path.specs.Fetching.{IsContents}
 use Rattle.bd_path.specs.Raising.{IsWayUp, CannotRise, AreChangesOver, CannotRiseOver}
-use Rattle.bd_flush.specs.Pushes.{AllGoDown, CanMoveSome, IsWaitedFor, CanPush, IsSomePush, AreLongParts, IsStepOver, IsPlanOver, IsPushBetweenStep, IsPlan, IsLongPush, IsHighPush}
+use Rattle.bd_flush.specs.Pushing.{AllGoDown, CanMoveSome, IsWaitedFor, CanPush, IsSomePush, AreLongParts, IsStepOver, IsPlanOver, IsPushBetweenStep, IsPlan, IsLongPush, IsHighPush}
 use Rattle.bd_path.specs.Made.{IsWornFor}
 use Rattle.bd_path.proofs.Made.{no_ids, too_high}
 use Rattle.bd_node.specs.declared.node.Change.{Change}
 use Rattle.bd_node.specs.declared.node.Node.{Node}
 use Rattle.bd_inner.specs.Compaction.{IsCompacted}
 use Rattle.bd_inner.specs.declared.halves.Halves.{Halves}
-use Rattle.bd_inner.specs.Exchange.{exchanged}
+use Rattle.bd_inner.specs.Exchanging.{exchanged}
 use Rattle.bd_inner.proofs.Compacting.{compacted_level}
-use Rattle.bd_flush.specs.Splits.{over_step}
+use Rattle.bd_flush.specs.Splitting.{over_step}
 use Rattle.bd_inner.proofs.Named.{level_exchanged}
 use Rattle.bd_flush.proofs.RootSplits.{both, over_none}
 use Rattle.bd_flush.proofs.GoingDown.{all_move, all_plain}

@@ -26,7 +26,7 @@ use Rattle.bd_flush.specs.Between.{IsBetweenStep}
 use Rattle.bd_flush.specs.declared.splitting.Plan.{Plan}
 use Rattle.bd_flush.specs.declared.splitting.Plan.TheVariants.{Ready, NoId, NoLevel}
 use Rattle.bd_path.specs.Made.{IsWornFor}
-use Rattle.bd_flush.specs.Splits.{over_step, IsPlanOf}
+use Rattle.bd_flush.specs.Splitting.{over_step, IsPlanOf}
 use Rattle.bd_path.proofs.Made.{no_ids}
 use Rattle.bd_path.proofs.Raisings.{level_high}
 use Rattle.bd_path.proofs.EdgesAt.{as_edge}

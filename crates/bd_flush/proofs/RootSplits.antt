@@ -35,7 +35,7 @@ use Rattle.bd_path.proofs.Made.{no_ids}
 use Rattle.bd_path.specs.Flushed.LeadsTo.{itself}
 use Rattle.bd_path.specs.Fetching.{IsFetched, IsEdgeTo, IsContents}
 use Rattle.bd_path.specs.Paths.{path_step}
-use Rattle.bd_flush.specs.Splits.{plain_edge, over_two, over_step, IsRootSplit, IsRaised}
+use Rattle.bd_flush.specs.Splitting.{plain_edge, over_two, over_step, IsRootSplit, IsRaised}
 use Rattle.bd_path.specs.Raising.{raised, raise, IsWayUp, IsRising}
 use Rattle.bd_path.specs.Raising.IsWayUp.{top}
 use Rattle.bd_path.specs.Raising.IsRising.{at_top}

@@ -7,7 +7,7 @@ use Rattle.bd_node.specs.Tables.{Table}
 use Rattle.bd_path.specs.declared.fetching.Fetched.{Fetched}
 use Rattle.bd_inner.specs.declared.halves.Halves.{Halves}
 use Rattle.bd_inner.specs.Halves.{AreHalves}
-use Rattle.bd_flush.specs.Splits.{over_step}
+use Rattle.bd_flush.specs.Splitting.{over_step}
 use Rattle.bd_flush.specs.Children.{IsChildStep, IsLongPivot}
 use Rattle.bd_path.specs.Flushed.{IsNoHigher, IsHardlyHigher}
 use Rattle.bd_path.specs.Raising.{raise, IsRising, CannotRise}

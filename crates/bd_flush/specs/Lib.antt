@@ -1,6 +1,6 @@
 pub mod GoingDown
-pub mod Splits
+pub mod Splitting
 pub mod Children
-pub mod Pushes
+pub mod Pushing
 pub mod Between
 pub mod Carving

@@ -14,7 +14,7 @@ ghost use Rattle.bd_path.specs.declared.fetching.Fetched.{Fetched};
 ghost use Rattle.bd_path.specs.Flushed.{IsFlushed, IsHardlyHigher};
 ghost use Rattle.bd_path.specs.Made.{IsMadeBy, IsWornFor};
 ghost use Rattle.bd_path.specs.Fetching.{IsFetched, IsContents};
-ghost use Rattle.bd_flush.specs.Splits.{IsPlanOf};
+ghost use Rattle.bd_flush.specs.Splitting.{IsPlanOf};
 ghost use Rattle.bd_path.specs.Raising.{IsWayUp, CannotRise};
 ghost use Rattle.bd_flush.specs.Between.{IsBetweenStep};
 

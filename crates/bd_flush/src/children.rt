@@ -11,7 +11,7 @@ ghost use Rattle.bd_node.specs.Shape.{IsShape};
 ghost use Rattle.bd_node.specs.Tables.{IsSound};
 ghost use Rattle.bd_node.specs.Parts.{edges_of, IsEdgeAt};
 ghost use Rattle.bd_inner.specs.Compaction.{IsCompacted};
-ghost use Rattle.bd_inner.specs.Exchange.{exchanged, FitsAt};
+ghost use Rattle.bd_inner.specs.Exchanging.{exchanged, FitsAt};
 ghost use Rattle.bd_path.specs.Flushed.{IsFlushed};
 ghost use Rattle.bd_path.specs.Made.{IsMadeBy, IsWornFor};
 ghost use Rattle.bd_flush.specs.Children.{CanSplitChild, AreFamily, parting, upper_edge, IsSide, IsOver, AreParts, IsLongPivot, IsChildStep};

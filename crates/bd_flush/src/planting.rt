@@ -11,7 +11,7 @@ ghost use Rattle.bd_node.specs.Parts.{edges_of, IsEdgeAt};
 ghost use Rattle.bd_path.specs.Flushed.{IsFlushed, IsNoHigher};
 ghost use Rattle.bd_path.specs.Made.{IsMadeBy, IsWornFor};
 ghost use Rattle.bd_path.specs.Paths.{leaf_step};
-ghost use Rattle.bd_flush.specs.Pushes.{IsWaitedFor, CanPushNew, IsWay, IsNewLeaf, IsNewStep};
+ghost use Rattle.bd_flush.specs.Pushing.{IsWaitedFor, CanPushNew, IsWay, IsNewLeaf, IsNewStep};
 ghost use Rattle.bd_path.specs.Fetching.{IsOwn};
 
 use crate::children::with_edge;

@@ -12,7 +12,7 @@ ghost use Rattle.bd_node.specs.Shape.{IsLeaf, IsShape};
 ghost use Rattle.bd_node.specs.Tables.{IsSound};
 ghost use Rattle.bd_node.specs.Parts.{edges_of, buffer_of, end_at, IsEdgeAt};
 ghost use Rattle.bd_inner.specs.Halves.{AreHalves};
-ghost use Rattle.bd_inner.specs.Moving.{IsLifted};
+ghost use Rattle.bd_inner.specs.Batches.{IsLifted};
 ghost use Rattle.bd_leaf.specs.Leaves.{AreEntries, entries_size};
 ghost use Rattle.bd_path.specs.declared.fetching.Fetched.{Fetched};
 ghost use Rattle.bd_path.specs.Flushed.{IsFlushed, IsNoHigher, IsHardlyHigher};
@@ -20,7 +20,7 @@ ghost use Rattle.bd_path.specs.Made.{IsMadeBy, IsWornFor};
 ghost use Rattle.bd_flush.specs.Children.{AreFamily};
 ghost use Rattle.bd_path.specs.Fetching.{IsContents};
 ghost use Rattle.bd_path.specs.Raising.{IsWayUp};
-ghost use Rattle.bd_flush.specs.Pushes.{seen_by, unseen, IsWaitedFor, CanMoveSome, CanPush, IsEdgeBatch, IsRelieved, IsPartedOver, IsPushedOver, ArePushed, IsPlanOver, IsPlan, IsSomePush, IsLongPush, IsHighPush};
+ghost use Rattle.bd_flush.specs.Pushing.{seen_by, unseen, IsWaitedFor, CanMoveSome, CanPush, IsEdgeBatch, IsRelieved, IsPartedOver, IsPushedOver, ArePushed, IsPlanOver, IsPlan, IsSomePush, IsLongPush, IsHighPush};
 
 use crate::children::{Halving, Parts, child_step, over_halves, with_edge};
 use crate::splitting::{Plan, over_step};

@@ -12,7 +12,7 @@ ghost use Rattle.bd_node.specs.Stores.{visited};
 ghost use Rattle.bd_node.specs.Parts.{edges_of};
 ghost use Rattle.bd_path.specs.Flushed.{IsFlushed};
 ghost use Rattle.bd_path.specs.Made.{IsMadeBy, IsWornFor};
-ghost use Rattle.bd_flush.specs.Splits.{plain_edge, over_two, over_step, IsRootSplit, IsRaised};
+ghost use Rattle.bd_flush.specs.Splitting.{plain_edge, over_two, over_step, IsRootSplit, IsRaised};
 
 use bd_inner::{Halves, split};
 use bd_keys::Bytes;

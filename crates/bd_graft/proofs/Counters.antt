@@ -18,7 +18,7 @@ use Rattle.bd_node.specs.Steps.{IsWornBy, extend_step}
 use Rattle.bd_resolve.specs.declared.following.Target.{Target}
 use Rattle.bd_graft.specs.declared.layers.Layer.{Layer}
 use Rattle.bd_graft.specs.declared.packing.Packed.{Packed}
-use Rattle.bd_graft.specs.Ways.{IsWay, messages_in}
+use Rattle.bd_graft.specs.Walking.{IsWay, messages_in}
 use Rattle.bd_graft.specs.Packing.{gathered, packs, overlaid, over_all, top_over, overlays_over}
 use Rattle.bd_graft.specs.Grafting.{graft_messages, step_over, IsReady, IsWornOver, IsWornByGraft, OnWorn}
 use Rattle.bd_graft.specs.Grafting.IsWornOver.{root_kept, root_raised, level_raised}

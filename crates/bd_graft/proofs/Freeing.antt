@@ -14,7 +14,7 @@ use Rattle.bd_node.specs.Nodes.{message_names}
 use Rattle.bd_node.proofs.Appending.{acts-append}
 use Rattle.bd_node.proofs.Lookup.{each_first, each_second, each_both}
 use Rattle.bd_resolve.specs.Following.{covers, NoneCovers}
-use Rattle.bd_graft.specs.Laying.{all_freed}
+use Rattle.bd_graft.specs.Layers.{all_freed}
 
 -- ---- what freed messages do
 

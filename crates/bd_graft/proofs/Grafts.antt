@@ -39,7 +39,7 @@ use Rattle.bd_resolve.specs.declared.following.Target.{Target}
 use Rattle.bd_resolve.specs.Following.{target_at, IsLowerTarget}
 use Rattle.bd_graft.specs.declared.layers.Layer.{Layer}
 use Rattle.bd_graft.specs.declared.packing.Packed.{Packed}
-use Rattle.bd_graft.specs.Laying.{above, laid, AreLayers}
+use Rattle.bd_graft.specs.Layers.{above, laid, AreLayers}
 use Rattle.bd_graft.specs.Packing.{overlay, target_names, HasMade, IsUnder, AreOverlays, IsOver, IsPacked}
 use Rattle.bd_graft.proofs.Freeing.{names_both}
 use Rattle.bd_graft.proofs.Packs.{get_first, get_last, lower_more, no_more, one_more, id_range, overlay_has, overlay_shape}

@@ -17,8 +17,8 @@ use Rattle.bd_resolve.specs.declared.following.Target.{Target}
 use Rattle.bd_graft.specs.declared.layers.Layer.{Layer}
 use Rattle.bd_graft.specs.declared.packing.Stack.{Stack}
 use Rattle.bd_graft.specs.declared.packing.Packed.{Packed}
-use Rattle.bd_graft.specs.Laying.{above, IsLayer, AreLayers}
-use Rattle.bd_graft.specs.Ways.{messages_in}
+use Rattle.bd_graft.specs.Layers.{above, IsLayer, AreLayers}
+use Rattle.bd_graft.specs.Walking.{messages_in}
 use Rattle.bd_graft.specs.Packing.{overlay, target_names, gathered, packs, overlaid, over_all, overlay_level, top_over, overlays_over, newest_of, older_of, IsStackWith, IsPackedWith, Fits, IsClosed, IsJoined, IsLaidOn, IsEnded, IsFinished}
 use Rattle.bd_graft.specs.Packing.IsLaidOn.{fit, new}
 use Rattle.bd_graft.specs.Packing.IsFinished.{as_it_is, made_too}

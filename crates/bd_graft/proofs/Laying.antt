@@ -28,8 +28,8 @@ use Rattle.bd_resolve.specs.declared.following.Followed.TheVariants.{Past}
 use Rattle.bd_resolve.specs.Following.{target_at, IsLowerTarget, IsFollowed, IsPast}
 use Rattle.bd_resolve.proofs.Prefixes.{IsKey-append}
 use Rattle.bd_graft.specs.declared.layers.Layer.{Layer}
-use Rattle.bd_graft.specs.Laying.{all_freed, above, laid, IsLayer, AreLayers}
-use Rattle.bd_graft.specs.Ways.{end_at}
+use Rattle.bd_graft.specs.Layers.{all_freed, above, laid, IsLayer, AreLayers}
+use Rattle.bd_graft.specs.Walking.{end_at}
 use Rattle.bd_graft.proofs.Freeing.{all_freed_effect, all_freed_names, all_freed_small, uncovered_from, IsSmall}
 
 pub level_high : (n : Node) → IsShape n → level_of n ≤ level_limit

@@ -22,7 +22,7 @@ use Rattle.bd_node.proofs.Privacy.{reached}
 use Rattle.bd_node.proofs.Stepping.{touched_in, after-none, after-some, isolated_root, isolated_none}
 use Rattle.bd_resolve.specs.declared.following.Target.{Target}
 use Rattle.bd_graft.specs.declared.packing.Packed.{Packed}
-use Rattle.bd_graft.specs.Ways.{messages_in}
+use Rattle.bd_graft.specs.Walking.{messages_in}
 use Rattle.bd_graft.specs.Packing.{IsUnder, AreOverlays, level_in, AreExact, IsOver}
 use Rattle.bd_graft.specs.Grafting.{graft_messages, step_over, IsGrown, AreMade, IsGraftStep, AreOthersSame}
 use Rattle.bd_graft.proofs.Packs.{get_first, get_last, level_kept, level_made, overlay_same}

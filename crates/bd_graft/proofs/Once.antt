@@ -14,8 +14,8 @@ use Rattle.bd_resolve.specs.declared.following.Followed.{Followed}
 use Rattle.bd_resolve.specs.declared.following.Followed.TheVariants.{Here, Past}
 use Rattle.bd_resolve.specs.Following.{covered, edge_target, Decides, NoneDecides, IsLed, LeadsTo}
 use Rattle.bd_resolve.specs.Following.IsLed.{at_all, by_message, by_edge, at_several}
-use Rattle.bd_graft.specs.Ways.{travelling, IsWay, fetched_on}
-use Rattle.bd_graft.specs.Ways.IsWay.{ends, to_nothing, leads_on}
+use Rattle.bd_graft.specs.Walking.{travelling, IsWay, fetched_on}
+use Rattle.bd_graft.specs.Walking.IsWay.{ends, to_nothing, leads_on}
 use Rattle.bd_graft.specs.Packing.{packs, overlaid, over_all, overlays_over}
 use Rattle.bd_graft.specs.Grafting.{IsGraftStep, IsWalkOf}
 

@@ -28,7 +28,7 @@ use Rattle.bd_resolve.specs.Following.{target_at, IsLowerTarget, IsShort}
 use Rattle.bd_graft.specs.declared.layers.Layer.{Layer}
 use Rattle.bd_graft.specs.declared.packing.Stack.{Stack}
 use Rattle.bd_graft.specs.declared.packing.Packed.{Packed}
-use Rattle.bd_graft.specs.Laying.{above, laid, IsLayer, AreLayers}
+use Rattle.bd_graft.specs.Layers.{above, laid, IsLayer, AreLayers}
 use Rattle.bd_graft.specs.Packing.{edge_over, overlay, target_names, HasMade, IsUnder, AreOverlays, level_in, IsOverlay, AreExact, IsOver, IsStack, IsPacked, IsClosed, IsJoined, IsLaidOn, IsEnded, IsFinished, IsBegun, level_over}
 use Rattle.bd_graft.specs.Packing.IsLaidOn.{fit, new}
 use Rattle.bd_graft.specs.Packing.IsFinished.{as_it_is, made_too}

@@ -15,8 +15,8 @@ use Rattle.bd_node.proofs.Visited.{visited_more}
 use Rattle.bd_resolve.specs.declared.following.Target.{Target}
 use Rattle.bd_resolve.specs.Following.{target_level}
 use Rattle.bd_graft.specs.declared.layers.Layer.{Layer}
-use Rattle.bd_graft.specs.Laying.{AreLayers}
-use Rattle.bd_graft.specs.Ways.{end_at, fetched_on, HasRoot, messages_in}
+use Rattle.bd_graft.specs.Layers.{AreLayers}
+use Rattle.bd_graft.specs.Walking.{end_at, fetched_on, HasRoot, messages_in}
 use Rattle.bd_graft.proofs.Wearing.{layers_few}
 
 -- ---- the root

@@ -16,9 +16,9 @@ use Rattle.bd_resolve.specs.declared.following.Followed.TheVariants.{Here, Past}
 use Rattle.bd_resolve.specs.Following.{LeadsTo}
 use Rattle.bd_graft.specs.declared.layers.Layer.{Layer}
 use Rattle.bd_graft.specs.declared.walking.Passed.{Passed}
-use Rattle.bd_graft.specs.Laying.{all_freed}
-use Rattle.bd_graft.specs.Ways.{travelling, end_at, IsWay, messages_in, LeadsOn, IsPassed}
-use Rattle.bd_graft.specs.Ways.IsWay.{ends, to_nothing, leads_on}
+use Rattle.bd_graft.specs.Layers.{all_freed}
+use Rattle.bd_graft.specs.Walking.{travelling, end_at, IsWay, messages_in, LeadsOn, IsPassed}
+use Rattle.bd_graft.specs.Walking.IsWay.{ends, to_nothing, leads_on}
 
 -- a way from where these layers end makes a way from the first node
 abbrev pub IsWayOn : Nodes → ℕ → List ℕ → List Layer → ℕ → List ℕ → Type 0

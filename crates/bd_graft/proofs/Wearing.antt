@@ -33,10 +33,10 @@ use Rattle.bd_node.proofs.Extending.{times_extended}
 use Rattle.bd_inner.proofs.Splitting.{few_wait}
 use Rattle.bd_resolve.specs.declared.following.Target.{Target}
 use Rattle.bd_graft.specs.declared.layers.Layer.{Layer}
-use Rattle.bd_graft.specs.Laying.{AreLayers}
+use Rattle.bd_graft.specs.Layers.{AreLayers}
 use Rattle.bd_graft.specs.Packing.{highest}
 use Rattle.bd_graft.specs.declared.packing.Packed.{Packed}
-use Rattle.bd_graft.specs.Laying.{laid}
+use Rattle.bd_graft.specs.Layers.{laid}
 use Rattle.bd_graft.specs.Grafting.{graft_messages, step_over, IsReady, IsWornForGraft}
 use Rattle.bd_graft.proofs.Grafts.{raised_target, messages_are, the_top, id_some, overlaying_step, under_overlaying, over_overlaying}
 

@@ -15,8 +15,8 @@ use Rattle.bd_node.specs.Steps.{IsWornBy, extend_step}
 use Rattle.bd_resolve.specs.declared.following.Target.{Target}
 use Rattle.bd_graft.specs.declared.packing.Packed.{Packed}
 use Rattle.bd_graft.specs.declared.layers.Layer.{Layer}
-use Rattle.bd_graft.specs.Laying.{laid, AreLayers}
-use Rattle.bd_graft.specs.Ways.{IsWay, fetched_on, messages_in}
+use Rattle.bd_graft.specs.Layers.{laid, AreLayers}
+use Rattle.bd_graft.specs.Walking.{IsWay, fetched_on, messages_in}
 use Rattle.bd_graft.specs.Packing.{overlay, IsOverlay, IsPacked, packs, overlaid, over_all, top_over, overlays_over, IsPackedWith}
 use Rattle.bd_node.specs.Meaning.{Nodes, at}
 use Rattle.bd_keys.specs.Keys.{IsKey}

@@ -1,4 +1,4 @@
-pub mod Laying
-pub mod Ways
+pub mod Layers
+pub mod Walking
 pub mod Packing
 pub mod Grafting

@@ -20,7 +20,7 @@ use Rattle.bd_graft.specs.declared.layers.Layer.{Layer}
 use Rattle.bd_graft.specs.declared.packing.Stack.{Stack}
 use Rattle.bd_graft.specs.declared.packing.Packed.{Packed}
 use Rattle.bd_graft.specs.declared.packing.Groups.{Groups}
-use Rattle.bd_graft.specs.Laying.{above}
+use Rattle.bd_graft.specs.Layers.{above}
 
 -- ---- a node over a target
 

@@ -11,8 +11,8 @@ ghost use Rattle.bd_keys.specs.Keys.{IsKey};
 ghost use Rattle.bd_message.specs.Effect.{acts};
 ghost use Rattle.bd_node.specs.Meaning.{at};
 ghost use Rattle.bd_resolve.specs.Following.{target_at, IsShort};
-ghost use Rattle.bd_graft.specs.Laying.{laid, AreLayers};
-ghost use Rattle.bd_graft.specs.Ways.{IsWay, HasRoot, messages_in};
+ghost use Rattle.bd_graft.specs.Layers.{laid, AreLayers};
+ghost use Rattle.bd_graft.specs.Walking.{IsWay, HasRoot, messages_in};
 ghost use Rattle.bd_graft.specs.Grafting.{graft_messages, top_made, step_over, IsReady, IsGrown, IsGraftStep, IsWalkOf, IsGraftCall, AreOthersSame, IsWornForGraft, IsWornByGraft, OnWorn};
 
 use crate::packing::{Packed, overlay, overlay_count, pack};

@@ -6,7 +6,7 @@ ghost use Rattle.bd_message.specs.declared.message.Message.{Message};
 ghost use Rattle.bd_node.specs.Meaning.{Nodes};
 ghost use Rattle.bd_node.specs.Tables.{Table};
 ghost use Rattle.bd_resolve.specs.declared.following.Target.{Target};
-ghost use Rattle.bd_graft.specs.Ways.{IsWay};
+ghost use Rattle.bd_graft.specs.Walking.{IsWay};
 ghost use Rattle.bd_graft.specs.Grafting.{IsGraftStep, IsWalkOf};
 
 /// The way of a prefix, what travels on it, the overlay nodes and what they are sent to are settled

@@ -5,7 +5,7 @@ ghost use Rattle.std.specs.List.{AllByRecursion, flat_map};
 ghost use Rattle.bd_limits.specs.Limits.{level_limit};
 ghost use Rattle.bd_node.specs.Nodes.{message_names};
 ghost use Rattle.bd_node.specs.Tables.{IsLower};
-ghost use Rattle.bd_graft.specs.Laying.{all_freed, above};
+ghost use Rattle.bd_graft.specs.Layers.{all_freed, above};
 
 use bd_message::Message;
 use bd_node::{Messages, NodeStore};

@@ -6,8 +6,8 @@ ghost use Rattle.bd_limits.specs.Limits.{buffer_limit, level_limit};
 ghost use Rattle.bd_message.specs.Messages.{IsMessage, size};
 ghost use Rattle.bd_node.specs.Tables.{IsTable};
 ghost use Rattle.bd_resolve.specs.Following.{IsLowerTarget, IsShort};
-ghost use Rattle.bd_graft.specs.Laying.{above, laid, AreLayers};
-ghost use Rattle.bd_graft.specs.Ways.{messages_in};
+ghost use Rattle.bd_graft.specs.Layers.{above, laid, AreLayers};
+ghost use Rattle.bd_graft.specs.Walking.{messages_in};
 ghost use Rattle.bd_graft.specs.Packing.{overlay, target_names, packs, overlaid, newest_of, older_of, AreGroups, Fits, IsStackWith, IsPackedWith, IsGrownBy, IsStack, IsPacked, IsClosed, IsJoined, IsLaidOn, IsEnded, IsFinished, IsBegun, level_over, highest};
 
 use crate::layers::Layer;

@@ -14,8 +14,8 @@ ghost use Rattle.bd_node.specs.Stores.{visited};
 ghost use Rattle.bd_node.specs.Shape.{IsShape};
 ghost use Rattle.bd_node.specs.Parts.{buffer_of};
 ghost use Rattle.bd_resolve.specs.Following.{target_at, IsLowerTarget, IsShort, IsEnd, IsPast};
-ghost use Rattle.bd_graft.specs.Laying.{all_freed, laid, IsLayer, AreLayers};
-ghost use Rattle.bd_graft.specs.Ways.{end_at, IsWay, IsPassed, HasRoot, fetched_on, messages_in};
+ghost use Rattle.bd_graft.specs.Layers.{all_freed, laid, IsLayer, AreLayers};
+ghost use Rattle.bd_graft.specs.Walking.{end_at, IsWay, IsPassed, HasRoot, fetched_on, messages_in};
 
 use crate::layers::{Layer, above, all_freed};
 use bd_keys::Bytes;

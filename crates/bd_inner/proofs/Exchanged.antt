@@ -22,8 +22,8 @@ use Rattle.bd_node.proofs.Edges.{IsRisingEdge, least_over, lt_is, lt_isnt, less_
 use Rattle.bd_node.proofs.Appending.{acts-append}
 use Rattle.bd_inner.specs.Compaction.{IsLoose, IsLooseNode, IsSwept}
 use Rattle.bd_node.specs.Parts.{edges_of, buffer_of, end_at, IsEdgeAt}
-use Rattle.bd_inner.specs.Exchange.{exchanged, IsKeyOf, end_within, EachEdgeTo, FitsAt}
-use Rattle.bd_inner.specs.Moving.{IsMoved}
+use Rattle.bd_inner.specs.Exchanging.{exchanged, IsKeyOf, end_within, EachEdgeTo, FitsAt}
+use Rattle.bd_inner.specs.Batches.{IsMoved}
 use Rattle.bd_node.proofs.Parts.{at_of}
 use Rattle.bd_inner.proofs.Compacting.{compacted_shape}
 use Rattle.bd_inner.proofs.Splitting.{first_below, edge_from-back, edge_of-front, EachEdge-front, EachEdge-back, end_before-front, rising, IsParted, parted}

@@ -1,6 +1,6 @@
 pub mod Compaction
 pub mod Halves
-pub mod Moving
-pub mod Exchange
+pub mod Batches
+pub mod Exchanging
 pub mod Clipping
 pub mod Carving

@@ -4,7 +4,7 @@ ghost use Rattle.std.specs.Prelude.{◌≡◌, ◌≤◌, ◌∷◌, [], IfOk, I
 ghost use Rattle.std.specs.Option.{option_copied, option_to_list};
 ghost use Rattle.std.specs.List.{AllByRecursion};
 ghost use Rattle.bd_message.specs.Messages.{IsMessage, size};
-ghost use Rattle.bd_inner.specs.Moving.{IsLifted, CanMove, IsPart, IsMoved, IsBatch};
+ghost use Rattle.bd_inner.specs.Batches.{IsLifted, CanMove, IsPart, IsMoved, IsBatch};
 
 use bd_limits::MAX_BATCH;
 use bd_message::Message;

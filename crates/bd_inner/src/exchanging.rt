@@ -8,7 +8,7 @@ ghost use Rattle.bd_node.specs.declared.node.Edge.{Edge};
 ghost use Rattle.bd_node.specs.Shape.{IsShape};
 ghost use Rattle.bd_inner.specs.Compaction.{IsCompacted};
 ghost use Rattle.bd_node.specs.Parts.{edges_of, IsEdgeAt};
-ghost use Rattle.bd_inner.specs.Exchange.{exchanged, FitsAt, way_to};
+ghost use Rattle.bd_inner.specs.Exchanging.{exchanged, FitsAt, way_to};
 
 use crate::compaction::sweep;
 use bd_keys::{Bytes, lift};

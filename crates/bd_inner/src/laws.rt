@@ -18,8 +18,8 @@ ghost use Rattle.bd_node.specs.Shape.{end_before, AreRising, IsInner, IsShape};
 ghost use Rattle.bd_inner.specs.Compaction.{IsFlat, IsLoose, IsLooseNode, IsCompacted};
 ghost use Rattle.bd_node.specs.Parts.{edges_of, buffer_of, end_at, IsEdgeAt};
 ghost use Rattle.bd_inner.specs.Carving.{IsGotoWay, IsCarved};
-ghost use Rattle.bd_inner.specs.Moving.{IsLifted, IsMoved};
-ghost use Rattle.bd_inner.specs.Exchange.{exchanged, IsKeyOf, FitsAt, way_to};
+ghost use Rattle.bd_inner.specs.Batches.{IsLifted, IsMoved};
+ghost use Rattle.bd_inner.specs.Exchanging.{exchanged, IsKeyOf, FitsAt, way_to};
 
 /// A compacted node is well-formed, of the same level, has what it had, is no larger, and names
 /// each node no more often.

@@ -25,10 +25,10 @@ use Rattle.bd_reclaim.specs.declared.covering.Cover.TheVariants.{Gone, Elsewhere
 use Rattle.bd_reclaim.specs.declared.walking.Reclaim.{Reclaim}
 use Rattle.bd_reclaim.specs.declared.walking.Reclaim.TheVariants.{Shrink, Drop, Redirect, Push}
 use Rattle.bd_reclaim.specs.Covering.{IsCovered, HasNoCovered, HasCut, HasNoCut, IsFirstCut}
-use Rattle.bd_reclaim.specs.Walks.{IsWalked, IsUnder, IsThinWay, IsThin, IsNoThinRoot, IsClean, IsFirstAt, HasNone, HasNoneBefore, IsFirst, IsToDo, IsMadeAt, IsToDoAt, IsWayBetween, IsFoundFrom, IsFoundIn, IsBelow, HasNoneAbove}
-use Rattle.bd_reclaim.specs.Walks.IsUnder.{itself, through}
-use Rattle.bd_reclaim.specs.Walks.IsFirst.{here, below}
-use Rattle.bd_reclaim.specs.Walks.IsWayBetween.{at_top}
+use Rattle.bd_reclaim.specs.Walking.{IsWalked, IsUnder, IsThinWay, IsThin, IsNoThinRoot, IsClean, IsFirstAt, HasNone, HasNoneBefore, IsFirst, IsToDo, IsMadeAt, IsToDoAt, IsWayBetween, IsFoundFrom, IsFoundIn, IsBelow, HasNoneAbove}
+use Rattle.bd_reclaim.specs.Walking.IsUnder.{itself, through}
+use Rattle.bd_reclaim.specs.Walking.IsFirst.{here, below}
+use Rattle.bd_reclaim.specs.Walking.IsWayBetween.{at_top}
 use Rattle.bd_reclaim.proofs.WaysUp.{way_longer, way_up, way_own, contents_more}
 
 -- ---- at a node

@@ -21,7 +21,7 @@ use Rattle.bd_node.proofs.Privacy.{root_private}
 use Rattle.bd_node.proofs.Sound.{sound-levelled}
 use Rattle.bd_node.proofs.Stepping.{touched_in, given-old, given-new, after-none, isolated_none}
 use Rattle.bd_node.proofs.Closing.{stay_above}
-use Rattle.bd_reclaim.specs.Walks.{IsThinWay, IsThin}
+use Rattle.bd_reclaim.specs.Walking.{IsThinWay, IsThin}
 use Rattle.bd_path.specs.Flushed.{LeadsTo}
 use Rattle.bd_reclaim.specs.Reclaimed.{IsReclaimed, IsShrunk, root_only, unseen_in, left_over}
 use Rattle.bd_reclaim.proofs.Falls.{sum_no_more}

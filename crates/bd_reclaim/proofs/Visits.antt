@@ -10,7 +10,7 @@ use Rattle.bd_node.specs.Meaning.{Nodes}
 use Rattle.bd_node.specs.Tables.{Table}
 use Rattle.bd_node.specs.Stores.{visited}
 use Rattle.bd_node.specs.Parts.{edges_of}
-use Rattle.bd_reclaim.specs.Walks.{IsWalked, at_walked, edges_in, walk_size}
+use Rattle.bd_reclaim.specs.Walking.{IsWalked, at_walked, edges_in, walk_size}
 
 -- what the walk visits below an edge, if it goes at most so deep
 abbrev pub walked_at : Nodes → Table → ℕ → Edge → ℕ

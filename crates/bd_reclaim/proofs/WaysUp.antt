@@ -9,8 +9,8 @@ use Rattle.bd_path.specs.Fetching.{IsFetched, IsContents, IsEdgeTo, AreOwn}
 use Rattle.bd_path.specs.Raising.{IsWayUp}
 use Rattle.bd_path.specs.Raising.IsWayUp.{top, one_up as further_up}
 use Rattle.bd_path.proofs.RisingSteps.{way_link, way_private}
-use Rattle.bd_reclaim.specs.Walks.{IsWayBetween}
-use Rattle.bd_reclaim.specs.Walks.IsWayBetween.{at_top, one_up}
+use Rattle.bd_reclaim.specs.Walking.{IsWayBetween}
+use Rattle.bd_reclaim.specs.Walking.IsWayBetween.{at_top, one_up}
 
 -- one more node, above the uppermost
 pub way_longer : (t : Table) (c x place : ℕ) (way : List Fetched) (f : Fetched) (e : Edge) → IsWayBetween t c x way → IsFetched t f → IsEdgeTo f.node.value place c e → t.count c ≡ 1 → IsWayBetween t f.id x (way ++ (f ∷ []))

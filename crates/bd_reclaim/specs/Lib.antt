@@ -1,4 +1,4 @@
 pub mod Covering
-pub mod Walks
+pub mod Walking
 pub mod Pushing
 pub mod Reclaimed

@@ -13,12 +13,12 @@ use Rattle.bd_path.specs.declared.fetching.Fetched.{Fetched}
 use Rattle.bd_path.specs.Flushed.{LeadsTo, IsUntouched, IsNoHigher}
 use Rattle.bd_path.specs.Made.{WearsOut}
 use Rattle.bd_path.specs.Paths.{change_step}
-use Rattle.bd_flush.specs.Pushes.{unseen}
+use Rattle.bd_flush.specs.Pushing.{unseen}
 use Rattle.bd_reclaim.specs.declared.walking.Reclaim.{Reclaim}
 use Rattle.bd_reclaim.specs.declared.walking.Reclaim.TheVariants.{Shrink, Drop, Redirect, Push}
 use Rattle.bd_step.specs.Steps.{step_visits}
 use Rattle.bd_reclaim.specs.Covering.{IsDecided}
-use Rattle.bd_reclaim.specs.Walks.{IfPush}
+use Rattle.bd_reclaim.specs.Walking.{IfPush}
 use Rattle.bd_reclaim.specs.Pushing.{IsPushFound, IsPushMade, IsWornPush}
 
 -- what a change leaves: the tree has what it had, in sound nodes, and at most four are made; only

@@ -9,7 +9,7 @@ ghost use Rattle.bd_path.specs.Fetching.{IsFetched, IsOwn};
 ghost use Rattle.bd_path.specs.Flushed.{IsNoHigher};
 ghost use Rattle.bd_reclaim.specs.declared.covering.Cover.{Cover};
 ghost use Rattle.bd_reclaim.specs.Covering.{IsCovered};
-ghost use Rattle.bd_reclaim.specs.Walks.{IsToDo, IsToDoAt};
+ghost use Rattle.bd_reclaim.specs.Walking.{IsToDo, IsToDoAt};
 ghost use Rattle.bd_reclaim.specs.Reclaimed.{IsReclaimed, IsDecidedAt, IsReclaimMade, IsRootAfter, IsNextAfter, LeavesLess, IsWornChange, IsDecideStep, left_over, reclaim_visits};
 
 use crate::Reclaim;

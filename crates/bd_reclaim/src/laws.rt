@@ -7,7 +7,7 @@ ghost use Rattle.bd_node.specs.Meaning.{Nodes};
 ghost use Rattle.bd_node.specs.Tables.{Table};
 ghost use Rattle.bd_reclaim.specs.declared.covering.Cover.{Cover};
 ghost use Rattle.bd_reclaim.specs.Covering.{IsCovered, HasCut};
-ghost use Rattle.bd_reclaim.specs.Walks.{IsUnder, HasNone};
+ghost use Rattle.bd_reclaim.specs.Walking.{IsUnder, HasNone};
 
 /// Where no change is left, no message decides all keys of an edge that hasn't seen it, at any node
 /// that the walk comes to: the root is one.

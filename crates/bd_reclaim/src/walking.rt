@@ -8,7 +8,7 @@ ghost use Rattle.bd_node.specs.Shape.{IsShape};
 ghost use Rattle.bd_node.specs.Tables.{Table, IsKept, IsLower, IsSound};
 ghost use Rattle.bd_node.specs.Parts.{edges_of};
 ghost use Rattle.bd_path.specs.Fetching.{IsFetched};
-ghost use Rattle.bd_reclaim.specs.Walks.{IsWalked, IsThinWay, IsThin, IsLook, IsEdgeLook, IsFirst, HasNone, IsToDo, IsToDoAt, IsFoundFrom, IsFoundIn, IsBelow, walk_size};
+ghost use Rattle.bd_reclaim.specs.Walking.{IsWalked, IsThinWay, IsThin, IsLook, IsEdgeLook, IsFirst, HasNone, IsToDo, IsToDoAt, IsFoundFrom, IsFoundIn, IsBelow, walk_size};
 
 use crate::Cover;
 use crate::covering::{first_covered, first_cut};

@@ -18,7 +18,7 @@ use Rattle.bd_node.specs.Parts.{edges_of, IsEdgeAt}
 use Rattle.bd_path.specs.declared.fetching.Fetched.{Fetched}
 use Rattle.bd_path.specs.Fetching.{IsFetched, IsWayTo, IsOwn, AreOwn}
 use Rattle.bd_flush.specs.GoingDown.{child_level}
-use Rattle.bd_flush.specs.Pushes.{AllGoDown}
+use Rattle.bd_flush.specs.Pushing.{AllGoDown}
 use Rattle.bd_flush.specs.Carving.{IsOldestAt}
 use Rattle.bd_step.specs.Ways.{IsFullestAt, IsOnWay, IsTarget, IsReadyToPush, HasHeldGoto, IsUpToRoot, AtEdge, IsSameEdge, IsFromEdge, IsStepAt, IsStanding, IsToDoAt, IsReached, HasWay, IsNext}
 use Rattle.bd_step.specs.Ways.IsOnWay.{below}

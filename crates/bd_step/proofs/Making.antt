@@ -10,7 +10,7 @@ use Rattle.bd_node.specs.Nodes.{buffer_size}
 use Rattle.bd_node.specs.Meaning.{Nodes}
 use Rattle.bd_node.specs.Shape.{IsShape}
 use Rattle.bd_node.specs.Tables.{Table, IsSound}
-use Rattle.bd_inner.specs.Moving.{SomeCanTouch}
+use Rattle.bd_inner.specs.Batches.{SomeCanTouch}
 use Rattle.bd_node.specs.Parts.{end_at, IsEdgeAt}
 use Rattle.bd_path.specs.declared.fetching.Fetched.{Fetched}
 use Rattle.bd_step.specs.declared.ways.FlushStep.{FlushStep}
@@ -19,7 +19,7 @@ use Rattle.bd_step.specs.declared.ways.Site.{Site}
 use Rattle.bd_step.specs.declared.ways.Work.TheVariants.{Split, Push, Privatise, Carve}
 use Rattle.bd_path.specs.Flushed.{IsFlushed}
 use Rattle.bd_path.specs.Fetching.{IsFetched, IsContents, IsOwn, AreOwn}
-use Rattle.bd_flush.specs.Pushes.{CanPush, CanPushNew, AllGoDown, unseen}
+use Rattle.bd_flush.specs.Pushing.{CanPush, CanPushNew, AllGoDown, unseen}
 use Rattle.bd_flush.specs.GoingDown.{child_level}
 use Rattle.bd_flush.specs.Carving.{CanCarve}
 use Rattle.bd_copy.specs.Privatising.{HasChild, IsPrivatiseStep}

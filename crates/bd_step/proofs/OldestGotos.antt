@@ -13,7 +13,7 @@ use Rattle.bd_node.specs.Tables.{Table, IsKept, IsLower, IsNodeOf}
 use Rattle.bd_node.proofs.Lookup.{each_weaker, each_first, each_second}
 use Rattle.bd_node.specs.Parts.{buffer_of, end_at, IsEdgeAt}
 use Rattle.bd_flush.specs.GoingDown.{GoesDown, child_level}
-use Rattle.bd_flush.specs.Pushes.{AllGoDown}
+use Rattle.bd_flush.specs.Pushing.{AllGoDown}
 use Rattle.bd_flush.specs.Carving.{IsHeldGoto, IsFreeAt, AreFree, IsOldestGoto, IsOldestAt}
 use Rattle.bd_node.proofs.Parts.{edge_here}
 use Rattle.bd_flush.proofs.Pushed.{buffer_lower}

@@ -11,9 +11,9 @@ use Rattle.bd_node.specs.declared.node.Node.TheVariants.{Leaf, Inner}
 use Rattle.bd_node.specs.Nodes.{buffer_size}
 use Rattle.bd_node.specs.Shape.{end_before, IsPending, IsInner, IsShape}
 use Rattle.bd_node.specs.Parts.{buffer_of, end_at, IsEdgeAt}
-use Rattle.bd_inner.specs.Moving.{SomeCanTouch}
+use Rattle.bd_inner.specs.Batches.{SomeCanTouch}
 use Rattle.bd_node.specs.Touching.{CanTouch}
-use Rattle.bd_flush.specs.Pushes.{unseen}
+use Rattle.bd_flush.specs.Pushing.{unseen}
 use Rattle.bd_step.specs.Filling.{IsPendingSize, ArePendingSizes, IsFullest}
 use Rattle.bd_step.specs.Ways.{IsFullestAt, HasPending}
 use Rattle.bd_step.proofs.Abundance.{some_bytes}

@@ -15,10 +15,10 @@ use Rattle.bd_step.specs.declared.ways.Work.TheVariants.{Split, Push, Privatise,
 use Rattle.bd_step.specs.Filling.{IsFullest}
 use Rattle.bd_path.specs.Flushed.{IsFlushed, IsNoHigher, IsHardlyHigher}
 use Rattle.bd_path.specs.Made.{IsMadeBy, IsWornFor}
-use Rattle.bd_flush.specs.Splits.{IsRootSplit, IsRaised}
+use Rattle.bd_flush.specs.Splitting.{IsRootSplit, IsRaised}
 use Rattle.bd_flush.specs.Children.{IsLongPivot}
 use Rattle.bd_flush.specs.Between.{IsSplitStep, IsHighSplit}
-use Rattle.bd_flush.specs.Pushes.{IsSomePush, IsHighPush, IsNewStep, IsLongPush}
+use Rattle.bd_flush.specs.Pushing.{IsSomePush, IsHighPush, IsNewStep, IsLongPush}
 use Rattle.bd_flush.specs.Carving.{IsCarveStep}
 use Rattle.bd_step.specs.Ways.{AtRootOr, IsToDo, IsToDoAt}
 use Rattle.bd_copy.specs.Privatising.{IsPrivatiseStep}

@@ -9,7 +9,7 @@ use Rattle.bd_node.specs.Meaning.{Nodes}
 use Rattle.bd_node.specs.Shape.{IsPending}
 use Rattle.bd_node.specs.Tables.{Table}
 use Rattle.bd_node.specs.Parts.{edges_of, buffer_of, end_at, IsEdgeAt}
-use Rattle.bd_inner.specs.Moving.{SomeCanTouch}
+use Rattle.bd_inner.specs.Batches.{SomeCanTouch}
 use Rattle.bd_path.specs.declared.fetching.Fetched.{Fetched}
 use Rattle.bd_step.specs.declared.ways.FlushStep.{FlushStep}
 use Rattle.bd_step.specs.declared.ways.FlushStep.TheVariants.{SplitRoot, At}
@@ -25,7 +25,7 @@ use Rattle.bd_path.specs.Fetching.{IsFetched, IsWayTo, IsOwn, AreOwn}
 use Rattle.bd_flush.specs.Children.{CanSplitChild}
 use Rattle.bd_path.specs.Raising.{IsWayUp}
 use Rattle.bd_flush.specs.GoingDown.{child_level}
-use Rattle.bd_flush.specs.Pushes.{AllGoDown, unseen}
+use Rattle.bd_flush.specs.Pushing.{AllGoDown, unseen}
 use Rattle.bd_flush.specs.Carving.{IsOldestAt}
 
 -- most bytes of a node's messages are pending for the edge at a place

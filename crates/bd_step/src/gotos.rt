@@ -14,7 +14,7 @@ ghost use Rattle.bd_path.specs.Flushed.{IsFlushed, IsNoHigher};
 ghost use Rattle.bd_path.specs.Made.{IsMadeBy, IsWornFor};
 ghost use Rattle.bd_path.specs.Fetching.{IsFetched, IsOwn};
 ghost use Rattle.bd_flush.specs.GoingDown.{IsBelowAll, LiesWithin, MayGoDown, child_level};
-ghost use Rattle.bd_flush.specs.Pushes.{AllGoDown};
+ghost use Rattle.bd_flush.specs.Pushing.{AllGoDown};
 ghost use Rattle.bd_flush.specs.Carving.{IsHeldGoto, IsFreeAt, AreFree, IsOldestGoto, IsOldestAt, CanCarve, IsCarveStep};
 ghost use Rattle.bd_path.specs.Paths.{change_step};
 

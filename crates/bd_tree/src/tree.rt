@@ -13,7 +13,7 @@ ghost use Rattle.bd_node.specs.Stores.{FitsRoot, visited, AreVisits};
 ghost use Rattle.bd_query.specs.Asks.{AreVisitsOfWays};
 ghost use Rattle.bd_graft.specs.Grafting.{IsGrown, IsGraftStep, IsWalkOf, AreOthersSame, IsWornForGraft, IsWornByGraft, OnWorn};
 ghost use Rattle.bd_path.specs.Made.{AreKnown};
-ghost use Rattle.bd_reclaim.specs.Walks.{IsFirst, HasNone, IsToDo, IsToDoAt, walk_size};
+ghost use Rattle.bd_reclaim.specs.Walking.{IsFirst, HasNone, IsToDo, IsToDoAt, walk_size};
 ghost use Rattle.bd_reclaim.specs.Reclaimed.{IsReclaimed, IsReclaimMade, IsRootAfter, IsNextAfter, LeavesLess, reclaim_visits, IsWornChange};
 ghost use Rattle.bd_step.specs.Steps.{IsFlushStep, IsFound, step_visits, IsWornToFlush};
 

@@ -6,7 +6,7 @@ ghost use Rattle.bd_node.specs.Nodes.{level_of, buffer_size};
 ghost use Rattle.bd_node.specs.Shape.{end_before, AreRising, IsShape};
 ghost use Rattle.bd_inner.specs.Compaction.{IsFlat};
 ghost use Rattle.bd_node.specs.Parts.{edges_of, buffer_of};
-ghost use Rattle.bd_inner.specs.Moving.{IsLifted};
+ghost use Rattle.bd_inner.specs.Batches.{IsLifted};
 
 use bd_inner::laws::{compacted_nodes, edges_fit, flat_edges};
 use bd_inner::{Halves, clip, compact, edge_to, exchange, next_batch, receive, split};

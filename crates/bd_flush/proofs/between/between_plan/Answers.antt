@@ -1,7 +1,7 @@
 use Rattle.std.proofs.Common.{◌≡◌, ◌+◌, ◌^◌, ◌<◌, ◌∷◌, ◌∙◌, ap, reverse}
 use Rattle.bd_node.specs.Nodes.{level_of}
 use Rattle.bd_node.specs.declared.node.Step.{Step}
-use Rattle.bd_flush.specs.Splits.{over_step}
+use Rattle.bd_flush.specs.Splitting.{over_step}
 use Rattle.bd_path.specs.Raising.{AreRaised}
 use Rattle.bd_flush.proofs.PutBetween.{found_raised, found_stuck, between_ready, between_full}
 use Rattle.bd_flush.proofs.between.between_plan.Goals as goal

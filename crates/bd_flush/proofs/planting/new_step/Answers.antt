@@ -2,7 +2,7 @@ use Rattle.std.proofs.Common.{subst, sym}
 use Rattle.bd_node.specs.declared.node.Edge.{Edge}
 use Rattle.bd_node.specs.declared.node.Node.{Node}
 use Rattle.bd_node.specs.Parts.{IsEdgeAt}
-use Rattle.bd_flush.specs.Pushes.{IsWaitedFor}
+use Rattle.bd_flush.specs.Pushing.{IsWaitedFor}
 use Rattle.bd_flush.proofs.NewWays.{on_new_step}
 use Rattle.bd_flush.proofs.planting.new_step.Goals as goal
 

@@ -1,5 +1,5 @@
 use Rattle.std.proofs.Common.{arith}
-use Rattle.bd_flush.specs.Pushes.{IsNewStep}
+use Rattle.bd_flush.specs.Pushing.{IsNewStep}
 use Rattle.bd_path.proofs.Made.{on_made, worn_of}
 use Rattle.bd_flush.proofs.LeafCommits.{is_to_push_new, may_push_new, new_in_place, on_new_flushed, on_new_table, on_new_visits}
 use Rattle.bd_flush.proofs.planting.push_new.Goals as goal

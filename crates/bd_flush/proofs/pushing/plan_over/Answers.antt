@@ -1,6 +1,6 @@
 use Rattle.std.proofs.Common.{◌≡◌, ◌+◌, ◌^◌, ◌<◌, reverse}
 use Rattle.bd_node.specs.declared.node.Step.{Step}
-use Rattle.bd_flush.specs.Splits.{over_step}
+use Rattle.bd_flush.specs.Splitting.{over_step}
 use Rattle.bd_flush.proofs.PushPlans.{over_full}
 use Rattle.bd_flush.proofs.pushing.plan_over.Goals as goal
 

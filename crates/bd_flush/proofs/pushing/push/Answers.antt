@@ -1,7 +1,7 @@
 use Rattle.std.proofs.Common.{arith, reverse}
 use Rattle.bd_node.proofs.Parts.{edge_within}
 use Rattle.bd_flush.proofs.Betweens.{way_shapes}
-use Rattle.bd_flush.specs.Pushes.{IsSomePush, IsHighPush}
+use Rattle.bd_flush.specs.Pushing.{IsSomePush, IsHighPush}
 use Rattle.bd_path.proofs.Made.{on_made, worn_of}
 use Rattle.bd_flush.proofs.PushPlans.{waiting_moves, waiting_plain, is_planned, planned_may, planned_in_place, on_planned_flushed, on_planned_table, on_planned_visits, some_push, no_id_cause, no_level_cause}
 use Rattle.bd_flush.proofs.pushing.push.Goals as goal

@@ -3,7 +3,7 @@ use Rattle.bd_node.specs.declared.node.Edge.{Edge}
 use Rattle.bd_node.specs.declared.node.Node.{Node}
 use Rattle.bd_node.specs.Nodes.{level_of}
 use Rattle.bd_node.specs.Parts.{IsEdgeAt}
-use Rattle.bd_flush.specs.Pushes.{CanMoveSome, IsWaitedFor, IsPushedOver}
+use Rattle.bd_flush.specs.Pushing.{CanMoveSome, IsWaitedFor, IsPushedOver}
 use Rattle.bd_flush.specs.declared.children.Halving.{Halving}
 use Rattle.bd_flush.proofs.Batches.{long_fits, long_shape}
 use Rattle.bd_flush.proofs.PushPlans.{long_plan}

@@ -1,7 +1,7 @@
 use Rattle.std.proofs.Common.{◌≡◌, ◌+◌, ◌^◌, ◌<◌, arith}
 use Rattle.bd_limits.specs.Limits.{level_limit}
 use Rattle.bd_node.specs.declared.node.Step.{Step}
-use Rattle.bd_flush.specs.Splits.{over_step, IsRootSplit}
+use Rattle.bd_flush.specs.Splitting.{over_step, IsRootSplit}
 use Rattle.bd_path.proofs.Made.{on_made, worn_of}
 use Rattle.bd_flush.proofs.RootSplits.{over_found, over_none, root_step, root_full, is_to_split, is_step, is_in_place, on_flushed, on_raised}
 use Rattle.bd_flush.proofs.splitting.split_root.Goals as goal

@@ -2,9 +2,9 @@ use Rattle.std.proofs.Common.{refl, ap, arith, subst, sym, ◌∙◌, List, leng
 use Rattle.bd_limits.specs.Limits.{level_limit}
 use Rattle.bd_node.specs.Tables.{Table}
 use Rattle.bd_graft.specs.declared.layers.Layer.{Layer}
-use Rattle.bd_graft.specs.Laying.{AreLayers, laid}
+use Rattle.bd_graft.specs.Layers.{AreLayers, laid}
 use Rattle.std.specs.List.{AllByRecursion}
-use Rattle.bd_graft.specs.Ways.{messages_in}
+use Rattle.bd_graft.specs.Walking.{messages_in}
 use Rattle.bd_graft.specs.Packing.{IsPacked, IsPackedWith, Fits, packs, overlaid}
 use Rattle.bd_graft.proofs.Grouping.{layers_fit, packed_length}
 use Rattle.bd_graft.proofs.Counters.{count_few, count_is, worn_ids, worn_top, worn_level, worn_under, worn_over}

@@ -1,5 +1,5 @@
 use Rattle.std.proofs.Common.{◌≡◌, ◌++◌, drop}
-use Rattle.bd_graft.specs.Laying.{all_freed}
+use Rattle.bd_graft.specs.Layers.{all_freed}
 use Rattle.bd_graft.proofs.layers.all_freed.Given as goal
 
 abbrev pub invariant-loop-message : goal.invariant-loop-message

@@ -1,7 +1,7 @@
 use Rattle.std.proofs.Common.{arith, length}
 use Rattle.bd_query.proofs.Parts.{if_ok}
 use Rattle.bd_graft.specs.declared.packing.Stack.{Stack}
-use Rattle.bd_graft.specs.Ways.{messages_in}
+use Rattle.bd_graft.specs.Walking.{messages_in}
 use Rattle.bd_graft.specs.Packing.{packs, newest_of}
 use Rattle.bd_graft.proofs.Packs.{tail_of, begun_stack, stack_more}
 use Rattle.bd_graft.proofs.Grouping.{fewer, stack_room, begun_with, with_more}

@@ -1,7 +1,7 @@
 use Rattle.std.proofs.Common.{arith}
 use Rattle.bd_query.proofs.Parts.{if_ok}
 use Rattle.bd_graft.specs.declared.packing.Packed.{Packed}
-use Rattle.bd_graft.specs.Ways.{messages_in}
+use Rattle.bd_graft.specs.Walking.{messages_in}
 use Rattle.bd_graft.specs.Packing.{packs, newest_of}
 use Rattle.bd_graft.proofs.Packs.{packed_of}
 use Rattle.bd_graft.proofs.Grouping.{overlaid_length, stack_room, packed_with}

@@ -8,7 +8,7 @@ use Rattle.bd_node.specs.Tables.{Table, IsLower}
 use Rattle.bd_resolve.specs.declared.following.Followed.{Followed}
 use Rattle.bd_resolve.specs.Following.{IsFollowed, IsPast}
 use Rattle.bd_resolve.proofs.Going.{lower_target}
-use Rattle.bd_graft.specs.Laying.{above}
+use Rattle.bd_graft.specs.Layers.{above}
 use Rattle.bd_graft.proofs.Laying.{passed_limit, passed_has, passed_layer}
 use Rattle.bd_graft.proofs.Ways.{passed_led, ended_led}
 use Rattle.bd_graft.proofs.Visits.{root_of}

@@ -13,7 +13,7 @@ use Rattle.bd_resolve.specs.Following.{IsLowerTarget, target_at}
 use Rattle.bd_resolve.proofs.Going.{long_leaf, gone_down}
 use Rattle.bd_graft.specs.declared.layers.Layer.{Layer}
 use Rattle.bd_graft.specs.declared.walking.Passed.{Passed}
-use Rattle.bd_graft.specs.Laying.{laid, AreLayers, IsLayer}
+use Rattle.bd_graft.specs.Layers.{laid, AreLayers, IsLayer}
 use Rattle.bd_graft.proofs.Laying.{layers_more, layers_ended, value_ended, one_further, some_is}
 use Rattle.bd_graft.proofs.Ways.{way_at_leaf, way_at_node, way_to_nothing, way_on, led_as}
 use Rattle.bd_graft.proofs.Visits.{root_again, root_met, leaf_gone, none_is, leaf_fetches, node_fetches, nothing_fetches, next_more}

@@ -7,7 +7,7 @@ use Rattle.bd_node.specs.Tables.{IsKept, IsSound, root_at}
 use Rattle.bd_node.specs.Stores.{visited}
 use Rattle.bd_resolve.specs.Following.{AreNoneOr}
 use Rattle.bd_node.proofs.Visited.{VisitsTo}
-use Rattle.bd_graft.specs.Laying.{laid, AreLayers}
+use Rattle.bd_graft.specs.Layers.{laid, AreLayers}
 use Rattle.bd_graft.proofs.Visits.{IsGone}
 use Rattle.bd_graft.proofs.Ways.{IsWayOn}
 use Rattle.bd_graft.proofs.walking.walk.Given as goal

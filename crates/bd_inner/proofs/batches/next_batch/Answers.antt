@@ -6,7 +6,7 @@ use Rattle.std.proofs.lemmas.List.{append-nil}
 use Rattle.bd_limits.specs.Limits.{batch_limit}
 use Rattle.bd_message.specs.declared.message.Message.{Message}
 use Rattle.bd_message.specs.Messages.{size}
-use Rattle.bd_inner.specs.Moving.{IsPart, IsMoved}
+use Rattle.bd_inner.specs.Batches.{IsPart, IsMoved}
 use Rattle.bd_inner.proofs.Moved.{moved_more, part_more, sum_push, batch_all, batch_part}
 use Rattle.bd_inner.proofs.batches.next_batch.Goals as goal
 use Rattle.bd_inner.proofs.batches.next_batch.Goals.{in-Some+else-size+in_ok-push, in_default}

@@ -3,7 +3,7 @@ use Rattle.std.specs.Option.{option_copied}
 use Rattle.std.specs.List.{sum_by}
 use Rattle.bd_limits.specs.Limits.{batch_limit}
 use Rattle.bd_message.specs.Messages.{size}
-use Rattle.bd_inner.specs.Moving.{AreParts, IsMoved}
+use Rattle.bd_inner.specs.Batches.{AreParts, IsMoved}
 use Rattle.bd_inner.proofs.batches.next_batch.Given as goal
 
 abbrev pub invariant-loop-count : goal.invariant-loop-count

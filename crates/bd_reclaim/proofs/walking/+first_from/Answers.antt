@@ -1,6 +1,6 @@
 use Rattle.std.proofs.Common.{rules, ◌≡◌, ◌+◌, ◌∙◌, ◌<◌, sym, ap, subst, arith, None, Some}
 use Rattle.bd_node.specs.Tables.{Table, IsKept, IsLower}
-use Rattle.bd_reclaim.specs.Walks.{IsWalked, IsClean, IsFirstAt, HasNoneAbove}
+use Rattle.bd_reclaim.specs.Walking.{IsWalked, IsClean, IsFirstAt, HasNoneAbove}
 use Rattle.bd_reclaim.proofs.Looks.{found_here, first_found, found_down, found_in_down, edges_are, first_here, none_past, none_of_child, edge_read, edge_lower, first_below, none_at_end, as_found, still_sound}
 use Rattle.bd_reclaim.proofs.Visits.{one_visit, more_visits, child_visits, all_visits, child_depth, same_size}
 use Rattle.bd_reclaim.proofs.walking.+first_from.Goals as goal

@@ -1,6 +1,6 @@
 use Rattle.std.proofs.Common.{◌≡◌, ℕ, suc, ◌+◌, ◌≤◌}
 use Rattle.bd_node.specs.Tables.{IsSound}
-use Rattle.bd_reclaim.specs.Walks.{HasNoneBefore}
+use Rattle.bd_reclaim.specs.Walking.{HasNoneBefore}
 use Rattle.bd_reclaim.proofs.Visits.{walked_before}
 use Rattle.bd_reclaim.proofs.walking.+first_from.Given as goal
 

@@ -3,7 +3,7 @@ use Rattle.bd_message.specs.KeyMaps.{HasMapCause}
 use Rattle.bd_path.specs.declared.fetching.Fetched.{Fetched}
 use Rattle.bd_path.specs.Made.{AreKnown, IsMadeBy, IsWornFor}
 use Rattle.bd_flush.specs.Between.{IsSplitStep, IsHighSplit}
-use Rattle.bd_flush.specs.Pushes.{IsSomePush, IsHighPush}
+use Rattle.bd_flush.specs.Pushing.{IsSomePush, IsHighPush}
 use Rattle.bd_step.specs.Steps.{IsFlushMade, IsWornStep}
 use Rattle.bd_step.specs.declared.ways.FlushStep.TheVariants.{At}
 use Rattle.bd_step.specs.declared.ways.Work.{Work}

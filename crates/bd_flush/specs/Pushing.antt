@@ -17,8 +17,8 @@ use Rattle.bd_inner.specs.Compaction.{IsCompacted}
 use Rattle.bd_node.specs.Parts.{edges_of, buffer_of, end_at, IsEdgeAt}
 use Rattle.bd_inner.specs.declared.halves.Halves.{Halves}
 use Rattle.bd_inner.specs.Halves.{AreHalves}
-use Rattle.bd_inner.specs.Moving.{CanMove, IsPlainFor, SomeCanTouch, IsBatch}
-use Rattle.bd_inner.specs.Exchange.{exchanged, way_to}
+use Rattle.bd_inner.specs.Batches.{CanMove, IsPlainFor, SomeCanTouch, IsBatch}
+use Rattle.bd_inner.specs.Exchanging.{exchanged, way_to}
 use Rattle.bd_leaf.specs.Leaves.{entries_size, IsReceived}
 use Rattle.bd_path.specs.declared.fetching.Fetched.{Fetched}
 use Rattle.bd_flush.specs.declared.children.Parts.{Parts}
@@ -31,7 +31,7 @@ use Rattle.bd_path.specs.Fetching.{IsFetched, IsWayTo}
 use Rattle.bd_flush.specs.Children.{IsSplitInto, IsLongIn}
 use Rattle.bd_path.specs.Paths.{child_step, leaf_step}
 use Rattle.bd_flush.specs.GoingDown.{GoesDown}
-use Rattle.bd_flush.specs.Splits.{over_step, IsPlanOf}
+use Rattle.bd_flush.specs.Splitting.{over_step, IsPlanOf}
 use Rattle.bd_path.specs.Raising.{raise, IsRaisedOver, CannotRiseOver}
 
 -- the edge after its child has got so many more messages

@@ -12,7 +12,7 @@ use Rattle.bd_resolve.specs.declared.following.Followed.TheVariants.{Here, Past}
 use Rattle.bd_resolve.specs.Following.{LeadsTo, target_level}
 use Rattle.bd_graft.specs.declared.layers.Layer.{Layer}
 use Rattle.bd_graft.specs.declared.walking.Passed.{Passed}
-use Rattle.bd_graft.specs.Laying.{all_freed}
+use Rattle.bd_graft.specs.Layers.{all_freed}
 
 -- the messages that travel from a node: those from a place on, freed of the prefix
 abbrev pub travelling : Node → ℕ → List ℕ → List Message
