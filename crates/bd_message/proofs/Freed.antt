@@ -173,9 +173,6 @@ pub restricted_can : (s : List ℕ) (m : Message) → IfSome (restricted s m) (C
 restricted_can s m =
     if_restricted (CanStrip s) s m (λ h. h) (λ h. if_narrowed (CanStrip s) s m (λ p x f is within any. begins_itself s) (λ p source child is within. begins_itself s))
 
-pub some_can : (s : List ℕ) (m : Message) (o : Option Message) (n : Message) → o ≡ restricted s m → o ≡ Some n → CanStrip s n
-some_can s m o n is some = subst (λ (x : Option Message). IfSome x (CanStrip s)) (sym is ∙ some) (restricted_can s m)
-
 -- ---- the part, and elsewhere
 
 -- a key doesn't begin with what begins with more than it does

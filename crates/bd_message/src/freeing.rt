@@ -11,17 +11,6 @@ use bd_keys::Bytes;
 use std::alloc::{AllocError, Global};
 
 impl Message {
-    /// The message's part on the keys that begin with a prefix. It is `None` where the message
-    /// changes nothing at such a key.
-    pub fn restrict(&self, alloc: Global, s: &[u8]) -> Result<Option<Message>, AllocError>
-        ensures { IfOk result (λ found. found ≡ restricted s.now self.now) }
-    {
-        if self.stem().starts_with(s) {
-            return Ok(Some(self.clone()?));
-        }
-        narrow(alloc, self, s)
-    }
-
     /// A message whose key, or the prefix of whose keys, begins with a prefix, as a message on what
     /// follows it.
     pub fn strip(&self, alloc: Global, s: &[u8]) -> Result<Message, AllocError>
@@ -62,10 +51,10 @@ impl Message {
     pub fn free(&self, alloc: Global, s: &[u8]) -> Result<Option<Message>, AllocError>
         ensures { IfOk result (λ found. found ≡ freed s.now self.now) }
     {
-        match self.restrict(alloc, s)? {
-            Some(part) => Ok(Some(part.strip(alloc, s)?)),
-            None => Ok(None),
+        if self.stem().starts_with(s) {
+            return Ok(Some(self.strip(alloc, s)?));
         }
+        narrow(alloc, self, s)
     }
 
     /// Whether it decides what stands at each key, whatever stood there: a `Goto` of all keys, or a
@@ -102,9 +91,10 @@ fn rest(alloc: Global, s: &[u8], key: &Bytes) -> Result<Bytes, AllocError>
     Bytes::from_slice(alloc, &key.as_slice()[s.len()..])
 }
 
-// The part on the keys that begin with a prefix of a message of keys that begin with less.
+// A message of keys that begin with less, freed of a prefix.
 fn narrow(alloc: Global, message: &Message, s: &[u8]) -> Result<Option<Message>, AllocError>
-    ensures { IfOk result (λ found. found ≡ narrowed s.now message.now) }
+    ensures { IfOk result (λ found. found
+        ≡ option_map (stripped s.now) (narrowed s.now message.now)) }
 {
     match message {
         Message::Cut { prefix, from } => {
@@ -126,14 +116,15 @@ fn narrow_cut(
     from: &[u8],
     s: &[u8],
 ) -> Result<Option<Message>, AllocError>
-    ensures { IfOk result (λ found. found ≡ narrowed s.now (message.Cut prefix.now from.now)) }
+    ensures { IfOk result (λ found. found
+        ≡ option_map (stripped s.now) (narrowed s.now (message.Cut prefix.now from.now))) }
 {
     if !s.starts_with(prefix) {
         return Ok(None);
     }
     match from_after(&s[prefix.len()..], from) {
         Some(from) => Ok(Some(Message::Cut {
-            prefix: Bytes::from_slice(alloc, s)?,
+            prefix: Bytes::from_vec(Vec::new(alloc)),
             from: Bytes::from_slice(alloc, from)?,
         })),
         None => Ok(None),
@@ -162,7 +153,7 @@ fn narrow_goto(
     s: &[u8],
 ) -> Result<Option<Message>, AllocError>
     ensures { IfOk result (λ found. found
-        ≡ narrowed s.now (message.Goto prefix.now source.now child)) }
+        ≡ option_map (stripped s.now) (narrowed s.now (message.Goto prefix.now source.now child))) }
 {
     if !s.starts_with(prefix) {
         return Ok(None);
@@ -170,7 +161,7 @@ fn narrow_goto(
     let mut longer = Vec::from_slice(alloc, source)?;
     longer.extend_from_slice(&s[prefix.len()..])?;
     Ok(Some(Message::Goto {
-        prefix: Bytes::from_slice(alloc, s)?,
+        prefix: Bytes::from_vec(Vec::new(alloc)),
         source: Bytes::from_vec(longer),
         child,
     }))
