@@ -253,52 +253,6 @@ next_point_none list points ranges k from ix skipped i least is above =
 
 -- ---- what it finds among the others
 
-pub next_over_some : (list : List Message) (points ranges k : List ℕ) (from first at : ℕ) → IsIndex list (length list) points ranges → IsCountBelow ranges from first → first ≤ at → at < length ranges → touches_at list (get_or ranges at 0) k ≡ true
-    → ((q : ℕ) → q < at → from ≤ get_or ranges q 0 → touches_at list (get_or ranges q 0) k ≡ false) → IsNextAmong is_range_at list from k (Some (get_or ranges at 0))
-next_over_some list points ranges k from first at ix low le within some none = (
-  low.over at le within,
-  ix.under at within,
-  some,
-  (λ i least high is.
-      let there = has_place ranges i (ix.all_ranges i (range_within list i is) is) in
-      let e : get_or ranges there.0 0 ≡ i = there.2 in
-      elim (cases_lt there.0 at) [
-        | inl less ↦ subst (λ (j : ℕ). touches_at list j k ≡ false) e (none there.0 less (omega arith))
-        | inr more ↦ (let l : get_or ranges at 0 ≤ get_or ranges there.0 0 = not_after ranges at there.0 ix.rising more there.1 in absurd (omega arith))
-      ]),
-)
-
-pub over_none : (list : List Message) (points ranges k : List ℕ) (from : ℕ) → IsIndex list (length list) points ranges
-    → ((q : ℕ) → q < length ranges → from ≤ get_or ranges q 0 → touches_at list (get_or ranges q 0) k ≡ false) → (i : ℕ) → from ≤ i → i < length list → is_range_at list i ≡ true → touches_at list i k ≡ false
-over_none list points ranges k from ix none i least high is =
-    let there = has_place ranges i (ix.all_ranges i high is) in
-    let e : get_or ranges there.0 0 ≡ i = there.2 in
-    subst (λ (j : ℕ). touches_at list j k ≡ false) e (none there.0 there.1 (omega arith))
-
-pub newest_over_some : (list : List Message) (points ranges k : List ℕ) (from first at : ℕ) → IsIndex list (length list) points ranges → IsCountBelow ranges from first → first ≤ at → at < length ranges → touches_at list (get_or ranges at 0) k ≡ true
-    → ((q : ℕ) → at + 1 ≤ q → q < length ranges → touches_at list (get_or ranges q 0) k ≡ false) → IsNewestAmong is_range_at list from k (Some (get_or ranges at 0))
-newest_over_some list points ranges k from first at ix low le within some none = (
-  low.over at le within,
-  ix.under at within,
-  some,
-  (λ i newer high is.
-      let there = has_place ranges i (ix.all_ranges i high is) in
-      let e : get_or ranges there.0 0 ≡ i = there.2 in
-      elim (cases_lt at there.0) [
-        | inl less ↦ subst (λ (j : ℕ). touches_at list j k ≡ false) e (none there.0 (omega arith) there.1)
-        | inr more ↦ (let l : get_or ranges there.0 0 ≤ get_or ranges at 0 = not_after ranges there.0 at ix.rising more within in absurd (omega arith))
-      ]),
-)
-
-pub newest_over_none : (list : List Message) (points ranges k : List ℕ) (from first : ℕ) → IsIndex list (length list) points ranges → IsCountBelow ranges from first
-    → ((q : ℕ) → first ≤ q → q < length ranges → touches_at list (get_or ranges q 0) k ≡ false) → IsNewestAmong is_range_at list from k None
-newest_over_none list points ranges k from first ix low none =
-    over_none list points ranges k from ix
-    (λ q within least. elim (cases_lt q first) [
-      | inl less ↦ (let l : get_or ranges q 0 < from = low.below q less in absurd (omega arith))
-      | inr more ↦ none q more within
-    ])
-
 pub next_range_some : (list : List Message) (points ranges : List ℕ) (from at : ℕ) → IsIndex list (length list) points ranges → IsCountBelow ranges from at → at < length ranges → IsNextRange list from (Some (get_or ranges at 0))
 next_range_some list points ranges from at ix low within = (
   low.over at (omega arith) within,
@@ -341,12 +295,12 @@ read_touches list p m k b v within is b_is b_v =
 -- ---- putting a place in
 
 -- what stands at a place after one is put in
-data IsInserted (xs : List ℕ) (at y q : ℕ) : Type 0 where
+pub data IsInserted (xs : List ℕ) (at y q : ℕ) : Type 0 where
   low : q < at → get_or (insert xs at y) q 0 ≡ get_or xs q 0 → IsInserted xs at y q
   here : q ≡ at → get_or (insert xs at y) q 0 ≡ y → IsInserted xs at y q
   high : at < q → get_or (insert xs at y) q 0 ≡ get_or xs (q - 1) 0 → IsInserted xs at y q
 
-inserted : (xs : List ℕ) (at y q : ℕ) → at ≤ length xs → IsInserted xs at y q
+pub inserted : (xs : List ℕ) (at y q : ℕ) → at ≤ length xs → IsInserted xs at y q
 inserted xs at y q fits =
     elim (cases_lt q at) [
       | inl less ↦ low less (get_or-insert_below xs at y 0 q less fits)
@@ -356,7 +310,7 @@ inserted xs at y q fits =
       ])
     ]
 
-has_inserted : (xs : List ℕ) (at y i : ℕ) → at ≤ length xs → has xs i ≡ true → has (insert xs at y) i ≡ true
+pub has_inserted : (xs : List ℕ) (at y i : ℕ) → at ≤ length xs → has xs i ≡ true → has (insert xs at y) i ≡ true
 has_inserted xs at y i fits h =
     let there = has_place xs i h in
     let inside : there.0 < length xs = there.1 in
@@ -366,12 +320,12 @@ has_inserted xs at y i fits h =
       | inr more ↦ has_at (insert xs at y) (there.0 + 1) i (omega arith) (get_or-insert_above xs at y 0 there.0 more fits ∙ there.2)
     ]
 
-has_new : (xs : List ℕ) (at y : ℕ) → at ≤ length xs → has (insert xs at y) y ≡ true
+pub has_new : (xs : List ℕ) (at y : ℕ) → at ≤ length xs → has (insert xs at y) y ≡ true
 has_new xs at y fits =
     let long : length (insert xs at y) ≡ length xs + 1 = length-insert xs at y fits in
     has_at (insert xs at y) at y (omega arith) (get_or-insert_at xs at y 0 fits)
 
-point_no_range : (o : Option Message) → is_point_in o ≡ true → is_range_in o ≡ true → ⊥
+pub point_no_range : (o : Option Message) → is_point_in o ≡ true → is_range_in o ≡ true → ⊥
 point_no_range None h i = true_false false h refl
 point_no_range (Some m) h i = true_false _ i (ap not h)
 
@@ -406,10 +360,23 @@ ordered list points ranges n at p q ix pos less within (high a e) (high b f) =
     (ix.order.each (p - 1) (q - 1) (omega arith) (omega arith)))
 
 -- a property of each place holds after one is put in that has it
-each_inserted : (P : ℕ → Type 0) (xs : List ℕ) (at y q : ℕ) → at ≤ length xs → q < length xs + 1 → ((q : ℕ) → q < length xs → P (get_or xs q 0)) → P y → IsInserted xs at y q → P (get_or (insert xs at y) q 0)
+pub each_inserted : (P : ℕ → Type 0) (xs : List ℕ) (at y q : ℕ) → at ≤ length xs → q < length xs + 1 → ((q : ℕ) → q < length xs → P (get_or xs q 0)) → P y → IsInserted xs at y q → P (get_or (insert xs at y) q 0)
 each_inserted P xs at y q fits within each new (low a e) = subst P (sym e) (each q (omega arith))
 each_inserted P xs at y q fits within each new (here a e) = subst P (sym e) new
 each_inserted P xs at y q fits within each new (high a e) = subst P (sym e) (each (q - 1) (omega arith))
+
+-- an order of the places holds after one is put in that comes after those before it and before the others
+pub each_in_order : (R : ℕ → ℕ → Type 0) (xs : List ℕ) (at y p q : ℕ) → at ≤ length xs → p < q → q < length xs + 1 → ((p q : ℕ) → p < q → q < length xs → R (get_or xs p 0) (get_or xs q 0)) → ((p : ℕ) → p < at → R (get_or xs p 0) y)
+    → ((q : ℕ) → at ≤ q → q < length xs → R y (get_or xs q 0)) → IsInserted xs at y p → IsInserted xs at y q → R (get_or (insert xs at y) p 0) (get_or (insert xs at y) q 0)
+each_in_order R xs at y p q fits less within each first last (low a e) (low b f) = subst (λ (j : ℕ). R j (get_or (insert xs at y) q 0)) (sym e) (subst (λ (j : ℕ). R (get_or xs p 0) j) (sym f) (each p q less (omega arith)))
+each_in_order R xs at y p q fits less within each first last (low a e) (here b f) = subst (λ (j : ℕ). R j (get_or (insert xs at y) q 0)) (sym e) (subst (λ (j : ℕ). R (get_or xs p 0) j) (sym f) (first p a))
+each_in_order R xs at y p q fits less within each first last (low a e) (high b f) = subst (λ (j : ℕ). R j (get_or (insert xs at y) q 0)) (sym e) (subst (λ (j : ℕ). R (get_or xs p 0) j) (sym f) (each p (q - 1) (omega arith) (omega arith)))
+each_in_order R xs at y p q fits less within each first last (here a e) (low b f) = absurd (omega arith)
+each_in_order R xs at y p q fits less within each first last (here a e) (here b f) = absurd (omega arith)
+each_in_order R xs at y p q fits less within each first last (here a e) (high b f) = subst (λ (j : ℕ). R j (get_or (insert xs at y) q 0)) (sym e) (subst (λ (j : ℕ). R y j) (sym f) (last (q - 1) (omega arith) (omega arith)))
+each_in_order R xs at y p q fits less within each first last (high a e) (low b f) = absurd (omega arith)
+each_in_order R xs at y p q fits less within each first last (high a e) (here b f) = absurd (omega arith)
+each_in_order R xs at y p q fits less within each first last (high a e) (high b f) = subst (λ (j : ℕ). R j (get_or (insert xs at y) q 0)) (sym e) (subst (λ (j : ℕ). R (get_or xs (p - 1) 0) j) (sym f) (each (p - 1) (q - 1) (omega arith) (omega arith)))
 
 pub with_point : (list : List Message) (points ranges : List ℕ) (n at : ℕ) → IsIndex list n points ranges → n < length list → is_point_at list n ≡ true → IsPosition list points (spot list n) at → IsIndex list (n + 1) (insert points at n) ranges
 with_point list points ranges n at ix inside is pos =
@@ -479,7 +446,7 @@ none_indexed list = record {
   all_ranges = λ i less h. absurd (omega arith);
 }
 
-front_get : (xs ys : List Message) (i : ℕ) → i < length xs → slice_get (xs ++ ys) i ≡ slice_get xs i
+pub front_get : (xs ys : List Message) (i : ℕ) → i < length xs → slice_get (xs ++ ys) i ≡ slice_get xs i
 front_get [] ys i h = absurd (omega arith)
 front_get (x ∷ xs) ys zero h = refl
 front_get (x ∷ xs) ys (suc i) h = front_get xs ys i (omega arith)

@@ -5,10 +5,11 @@ use Rattle.std.proofs.lemmas.Bool.{cases_Bool}
 use Rattle.std.proofs.lemmas.List.{take_more, length-take}
 use Rattle.std.proofs.lemmas.List.Sums.{sum_by-cons}
 use Rattle.std.proofs.lemmas.Option.{none-some}
-use Rattle.bd_keys.specs.Keys.{key_cmp}
+use Rattle.bd_keys.specs.Keys.{key_cmp, IsAtLeast}
 use Rattle.bd_message.specs.declared.message.Message.{Message}
 use Rattle.bd_message.proofs.Finds.{tied}
 use Rattle.bd_node.specs.Index.{is_point_in, is_range_in, key_in, is_point_at, is_range_at, key_at, spot, is_before, has, IsIndex}
+use Rattle.bd_node.specs.Stems.{stem_in, stem_at, AreByStem}
 use Rattle.bd_node.specs.Keeping.{staying, stay_count, stays_at, moved}
 use Rattle.bd_node.proofs.Spots.{true_false, has_place, has_at}
 use Rattle.bd_node.proofs.Indexing.{by_cmp, spot_less, spot_more, same_before, before_same, point_within, range_within}
@@ -307,4 +308,27 @@ kept_index mask xs points ranges e ix = record {
   all_ranges = λ j low is.
       let some = some_at (staying mask xs) j low in
       left_has is_range_in mask xs ranges j some.0 some.1 (ap is_range_in (sym some.1) ∙ is) (λ i h. ix.all_ranges i (range_within xs i h) h);
+}
+
+-- messages that stay keep the order of their prefixes
+pub kept_stems : (mask : List Bool) (xs : List Message) (stems : List ℕ) → length mask ≡ length xs → AreByStem xs (length xs) stems → AreByStem (staying mask xs) (length (staying mask xs)) (moved mask stems)
+kept_stems mask xs stems e by = record {
+  known = omega arith;
+  order = λ a b less within.
+      let both = came_both mask stems a b less within in
+      let first : stem_at (staying mask xs) (get_or (moved mask stems) a 0) ≡ stem_at xs (get_or stems both.p 0) = ap (λ (i : ℕ). stem_at (staying mask xs) i) both.first.is ∙ ap stem_in (kept_there mask xs (get_or stems both.p 0) e both.first.stays) in
+      let second : stem_at (staying mask xs) (get_or (moved mask stems) b 0) ≡ stem_at xs (get_or stems both.q 0) = ap (λ (i : ℕ). stem_at (staying mask xs) i) both.second.is ∙ ap stem_in (kept_there mask xs (get_or stems both.q 0) e both.second.stays) in
+      subst (λ (k : List ℕ). IsAtLeast k (stem_at (staying mask xs) (get_or (moved mask stems) a 0))) (sym second)
+      (subst (λ (k : List ℕ). IsAtLeast (stem_at xs (get_or stems both.q 0)) k) (sym first)
+      (by.order both.p both.q both.less both.second.within));
+  below = λ a within.
+      let one = came_from mask stems a within in
+      range_within (staying mask xs) (get_or (moved mask stems) a 0)
+      (subst (λ (i : ℕ). is_range_at (staying mask xs) i ≡ true) (sym one.1.is) (range_kept mask xs (get_or stems one.0 0) e one.1.stays (by.range one.0 one.1.within)));
+  range = λ a within.
+      let one = came_from mask stems a within in
+      subst (λ (i : ℕ). is_range_at (staying mask xs) i ≡ true) (sym one.1.is) (range_kept mask xs (get_or stems one.0 0) e one.1.stays (by.range one.0 one.1.within));
+  all = λ j low is.
+      let some = some_at (staying mask xs) j low in
+      left_has is_range_in mask xs stems j some.0 some.1 (ap is_range_in (sym some.1) ∙ is) (λ i h. by.all i (range_within xs i h) h);
 }

@@ -1,6 +1,7 @@
 pub mod Spots
 pub mod Indexing
 pub mod Asking
+pub mod ByStem
 pub mod Keeping
 pub mod Lookup
 pub mod Meanings

@@ -8,3 +8,4 @@ IsCopy None None = ⊤
 IsCopy None (Some b) = ⊥
 IsCopy (Some a) None = ⊥
 IsCopy (Some a) (Some b) = (b.points.items ≡ a.points.items) × (b.ranges.items ≡ a.ranges.items)
+    × (b.stems.items ≡ a.stems.items)

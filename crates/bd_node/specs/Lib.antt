@@ -1,6 +1,7 @@
 pub mod Touching
 pub mod Index
 pub mod Indexes
+pub mod Stems
 pub mod Keeping
 pub mod Nodes
 pub mod Meaning

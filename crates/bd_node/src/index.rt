@@ -5,39 +5,46 @@ ghost use Rattle.std.specs.Option.{ForSome};
 ghost use Rattle.bd_node.specs.Indexes.{IsCopy};
 ghost use Rattle.bd_message.specs.declared.message.Message.{Message};
 ghost use Rattle.bd_node.specs.Index.{AreInOrder, IsCountBelow, IsIndex, IsNewestAmong, IsNewestTouching, IsNextAmong, IsNextPoint, IsNextRange, IsPosition, first_of, is_before, is_point, is_point_at, is_range_at, last_of, own_key};
+ghost use Rattle.bd_node.specs.Stems.{AreByStem};
 ghost use Rattle.bd_node.specs.Touching.{IsNextTouching};
 
-use crate::Steps;
-use crate::touching::touches;
+use crate::{Steps, stems};
 use bd_message::Message;
 use std::alloc::{AllocError, Global};
 use std::cmp::Ordering;
 use std::marker::Brand;
 use std::sync::ledger::{Blank, Ledger};
 
-/// The places of messages: of those on one key by key and place, and of the others, rising.
+/// The places of messages: of those on one key by key and place, and of the others, rising and by
+/// the prefix of their keys.
 #[derive(Debug, Drop)]
 pub struct Index {
     pub points: Vec<usize>,
     pub ranges: Vec<usize>,
+    pub stems: Vec<usize>,
 }
 
 /// No places.
 pub fn empty(alloc: Global) -> Index
     ensures points { result.points.items ≡ [] }
     ensures ranges { result.ranges.items ≡ [] }
+    ensures stems { result.stems.items ≡ [] }
 {
     Index {
         points: Vec::new(alloc),
         ranges: Vec::new(alloc),
+        stems: Vec::new(alloc),
     }
 }
 
 /// The index of messages, of which the first so many are in it.
 pub fn extended(index: Index, items: &[Message], count: usize) -> Result<Index, AllocError>
-    requires { IsIndex items.now count index.points.items index.ranges.items }
-    ensures { IfOk result (λ index.
+    requires index { IsIndex items.now count index.points.items index.ranges.items }
+    requires stems { AreByStem items.now count index.stems.items }
+    ensures index { IfOk result (λ index.
         IsIndex items.now (length items.now) index.points.items index.ranges.items) }
+    ensures stems { IfOk result (λ index.
+        AreByStem items.now (length items.now) index.stems.items) }
 {
     let mut index = index;
     for place in count..items.len() {
@@ -53,10 +60,13 @@ pub fn regrown(
     items: &[Message],
     count: usize,
 ) -> Result<Index, AllocError>
-    requires { ForSome index (λ index.
+    requires index { ForSome index (λ index.
         IsIndex items.now count index.points.items index.ranges.items) }
-    ensures { IfOk result (λ index.
+    requires stems { ForSome index (λ index. AreByStem items.now count index.stems.items) }
+    ensures index { IfOk result (λ index.
         IsIndex items.now (length items.now) index.points.items index.ranges.items) }
+    ensures stems { IfOk result (λ index.
+        AreByStem items.now (length items.now) index.stems.items) }
 {
     match index {
         Some(index) => extended(index, items, count),
@@ -72,6 +82,7 @@ pub fn copied(index: &Option<Index>) -> Result<Option<Index>, AllocError>
         Some(index) => Ok(Some(Index {
             points: index.points.clone()?,
             ranges: index.ranges.clone()?,
+            stems: index.stems.clone()?,
         })),
         None => Ok(None),
     }
@@ -80,13 +91,16 @@ pub fn copied(index: &Option<Index>) -> Result<Option<Index>, AllocError>
 // The index with one place more.
 fn with_place(index: Index, items: &[Message], place: usize) -> Result<Index, AllocError>
     requires index { IsIndex items.now place index.points.items index.ranges.items }
+    requires stems { AreByStem items.now place index.stems.items }
     requires within { place < length items.now }
-    ensures { IfOk result (λ index.
+    ensures index { IfOk result (λ index.
         IsIndex items.now (place + 1) index.points.items index.ranges.items) }
+    ensures stems { IfOk result (λ index. AreByStem items.now (place + 1) index.stems.items) }
 {
     let Index {
         mut points,
         mut ranges,
+        mut stems,
     } = index;
     let message = &items[place];
     if is_point(message) {
@@ -94,8 +108,14 @@ fn with_place(index: Index, items: &[Message], place: usize) -> Result<Index, Al
         points.insert(at, place)?;
     } else {
         ranges.push(place)?;
+        let at = stems::up_to(items, stems.as_slice(), stems::stem(message), place);
+        stems.insert(at, place)?;
     }
-    Ok(Index { points, ranges })
+    Ok(Index {
+        points,
+        ranges,
+        stems,
+    })
 }
 
 /// Whether a message is on one key.
@@ -242,39 +262,6 @@ pub fn newest_on(items: &[Message], index: &Index, from: usize, key: &[u8]) -> O
     }
 }
 
-/// The place of the oldest message on a range of keys from a place on that can change what stands at
-/// a key.
-pub fn next_over(items: &[Message], index: &Index, from: usize, key: &[u8]) -> Option<usize>
-    requires { IsIndex items.now (length items.now) index.now.points.items index.now.ranges.items }
-    ensures { IsNextAmong is_range_at items.now from key.now result }
-{
-    let ranges = index.ranges.as_slice();
-    for at in count_below(ranges, from)..ranges.len() {
-        if touches(&items[ranges[at]], key) {
-            return Some(ranges[at]);
-        }
-    }
-    None
-}
-
-/// The place of the newest message on a range of keys from a place on that can change what stands at
-/// a key.
-pub fn newest_over(items: &[Message], index: &Index, from: usize, key: &[u8]) -> Option<usize>
-    requires { IsIndex items.now (length items.now) index.now.points.items index.now.ranges.items }
-    ensures { IsNewestAmong is_range_at items.now from key.now result }
-{
-    let ranges = index.ranges.as_slice();
-    let first = count_below(ranges, from);
-    let mut at = ranges.len();
-    while at > first {
-        at -= 1;
-        if touches(&items[ranges[at]], key) {
-            return Some(ranges[at]);
-        }
-    }
-    None
-}
-
 /// The place of the first message on a range of keys from a place on.
 pub fn next_range(items: &[Message], index: &Index, from: usize) -> Option<usize>
     requires { IsIndex items.now (length items.now) index.now.points.items index.now.ranges.items }
@@ -305,16 +292,18 @@ pub fn next_point(items: &[Message], index: &Index, from: usize, key: &[u8]) -> 
 
 /// The place of the oldest message from a place on that can change what stands at a key.
 pub fn next_touching(items: &[Message], index: &Index, from: usize, key: &[u8]) -> Option<usize>
-    requires { IsIndex items.now (length items.now) index.now.points.items index.now.ranges.items }
+    requires index { IsIndex items.now (length items.now) index.now.points.items
+        index.now.ranges.items }
+    requires stems { AreByStem items.now (length items.now) index.now.stems.items }
     ensures { IsNextTouching items.now from key.now result }
 {
     let point = next_on(items, index, from, key);
-    let range = next_over(items, index, from, key);
+    let range = stems::oldest(items, index.stems.as_slice(), from, key);
     first_of(point, range)
 }
 
-// The lesser of two places, and the one where there is one.
-fn first_of(a: Option<usize>, b: Option<usize>) -> Option<usize>
+/// The lesser of two places, and the one where there is one.
+pub fn first_of(a: Option<usize>, b: Option<usize>) -> Option<usize>
     ensures { result ≡ first_of a b }
 {
     match (a, b) {
@@ -326,16 +315,18 @@ fn first_of(a: Option<usize>, b: Option<usize>) -> Option<usize>
 
 /// The place of the newest message from a place on that can change what stands at a key.
 pub fn newest_touching(items: &[Message], index: &Index, from: usize, key: &[u8]) -> Option<usize>
-    requires { IsIndex items.now (length items.now) index.now.points.items index.now.ranges.items }
+    requires index { IsIndex items.now (length items.now) index.now.points.items
+        index.now.ranges.items }
+    requires stems { AreByStem items.now (length items.now) index.now.stems.items }
     ensures { IsNewestTouching items.now from key.now result }
 {
     let point = newest_on(items, index, from, key);
-    let range = newest_over(items, index, from, key);
+    let range = stems::newest(items, index.stems.as_slice(), from, key);
     last_of(point, range)
 }
 
-// The greater of two places, and the one where there is one.
-fn last_of(a: Option<usize>, b: Option<usize>) -> Option<usize>
+/// The greater of two places, and the one where there is one.
+pub fn last_of(a: Option<usize>, b: Option<usize>) -> Option<usize>
     ensures { result ≡ last_of a b }
 {
     match (a, b) {

@@ -12,6 +12,7 @@ mod node;
 mod pending;
 mod scans;
 mod staying;
+mod stems;
 mod steps;
 mod store;
 mod touching;

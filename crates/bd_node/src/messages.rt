@@ -31,11 +31,13 @@ impl Model for Messages {
     ghost Value = { List Message };
 
     ghost use Rattle.bd_node.specs.Index.{IsIndex};
+    ghost use Rattle.bd_node.specs.Stems.{AreByStem};
 
     ghost view = { λ list. list.items.items };
 
     ghost invariant = { λ list. ForSome list.index (λ index.
-        IsIndex list.items.items (length list.items.items) index.points.items index.ranges.items) };
+        IsIndex list.items.items (length list.items.items) index.points.items index.ranges.items
+        × AreByStem list.items.items (length list.items.items) index.stems.items) };
 }
 
 impl Messages {

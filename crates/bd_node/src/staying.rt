@@ -4,6 +4,7 @@ ghost use Rattle.std.specs.Prelude.{◌≡◌, ℕ, ◌<◌, length, slice_index
 ghost use Rattle.std.specs.Option.{ForSome};
 ghost use Rattle.bd_node.specs.Index.{IsIndex};
 ghost use Rattle.bd_node.specs.Keeping.{moved, stay_count, staying};
+ghost use Rattle.bd_node.specs.Stems.{AreByStem};
 
 use crate::index::{self, Index};
 use bd_message::Message;
@@ -19,10 +20,14 @@ pub fn kept(
 ) -> Result<(Vec<Message>, Index), AllocError>
     requires index { ForSome index.now (λ index.
         IsIndex items.now (length items.now) index.points.items index.ranges.items) }
+    requires stems { ForSome index.now (λ index.
+        AreByStem items.now (length items.now) index.stems.items) }
     requires mask { length mask.now ≡ length items.now }
     ensures items { IfOk result (λ kept. kept.0.items ≡ staying mask.now items.now) }
     ensures index { IfOk result (λ kept. IsIndex kept.0.items (length kept.0.items)
         kept.1.points.items kept.1.ranges.items) }
+    ensures stems { IfOk result (λ kept. AreByStem kept.0.items (length kept.0.items)
+        kept.1.stems.items) }
 {
     let list = staying(alloc, items, mask)?;
     match index {
@@ -64,15 +69,24 @@ fn moved_index(alloc: Global, index: &Index, mask: &[bool]) -> Result<Index, All
         → slice_index index.now.points.items q < length mask.now }
     requires ranges { (q : ℕ) → q < length index.now.ranges.items
         → slice_index index.now.ranges.items q < length mask.now }
+    requires stems { (q : ℕ) → q < length index.now.stems.items
+        → slice_index index.now.stems.items q < length mask.now }
     ensures points { IfOk result (λ kept.
         kept.points.items ≡ moved mask.now index.now.points.items) }
     ensures ranges { IfOk result (λ kept.
         kept.ranges.items ≡ moved mask.now index.now.ranges.items) }
+    ensures stems { IfOk result (λ kept.
+        kept.stems.items ≡ moved mask.now index.now.stems.items) }
 {
     let counts = stay_counts(alloc, mask)?;
     let points = moved(alloc, index.points.as_slice(), mask, counts.as_slice())?;
     let ranges = moved(alloc, index.ranges.as_slice(), mask, counts.as_slice())?;
-    Ok(Index { points, ranges })
+    let stems = moved(alloc, index.stems.as_slice(), mask, counts.as_slice())?;
+    Ok(Index {
+        points,
+        ranges,
+        stems,
+    })
 }
 
 // How many of the messages before each place stay.

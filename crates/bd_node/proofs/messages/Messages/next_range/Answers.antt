@@ -5,4 +5,4 @@ use Rattle.bd_node.proofs.messages.Messages.next_range.Goals as goal
 
 pub next_range-requires : goal.next_range-requires
 next_range-requires c =
-    subst (λ (list : List Message). IsIndex list (length list) c.in-Some.index.points.items c.in-Some.index.ranges.items) (sym c.as_slice-items.ensures.value) (c.self.invariant c.in-Some.index c.in-Some.is)
+    subst (λ (list : List Message). IsIndex list (length list) c.in-Some.index.points.items c.in-Some.index.ranges.items) (sym c.as_slice-items.ensures.value) (c.self.invariant c.in-Some.index c.in-Some.is).0

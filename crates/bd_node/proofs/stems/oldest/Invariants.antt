@@ -1,0 +1,12 @@
+use Rattle.std.proofs.Common.{◌≤◌, length}
+use Rattle.bd_node.specs.Stems.{IsOldestFrom}
+use Rattle.bd_node.proofs.stems.oldest.Given as goal
+
+abbrev pub invariant-loop-at : goal.invariant-loop-at
+invariant-loop-at l = record {
+  within : l.at ≤ length l.stems;
+  found : IsOldestFrom l.items l.stems l.at l.fn.from l.key l.found;
+}
+
+abbrev pub decreases-loop-at : goal.decreases-loop-at
+decreases-loop-at l = l.at
