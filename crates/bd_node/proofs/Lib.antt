@@ -23,3 +23,5 @@ pub mod Extending
 pub mod LawLemmas
 pub mod Halving
 pub mod Parts
+pub mod Owning
+pub mod Marking

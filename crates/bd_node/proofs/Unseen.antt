@@ -63,7 +63,7 @@ unseen_then b place k pivot edges found rising is seen b_is pivot_is =
       (λ some. ap not (test ∙ not_less_lt (key_cmp k found.pivot) (unseen_only place k edges found rising is some).1)),
     )
 
-below_is : (a b : ℕ) → leb a b ≡ true → a ≤ b
+pub below_is : (a b : ℕ) → leb a b ≡ true → a ≤ b
 below_is a b h = grind (arith, nat_tests)
 
 pub unseen_else : (place : ℕ) (k : List ℕ) (edges : List Edge) (found : Edge) → AreRising edges → edge_of edges k ≡ Some found → place < found.seen → IsTrue (leb found.seen place) ↔ SomeEdge (IsUnseen place k) edges

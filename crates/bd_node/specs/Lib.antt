@@ -3,10 +3,12 @@ pub mod Index
 pub mod Indexes
 pub mod Stems
 pub mod Keeping
+pub mod Spans
 pub mod Nodes
 pub mod Meaning
 pub mod Shape
 pub mod Parts
+pub mod Owners
 pub mod Tables
 pub mod Private
 pub mod Steps

@@ -141,8 +141,8 @@ pub fn own_key(message: &Message) -> &[u8]
     }
 }
 
-// How many points come before a key and place, where nobody asks for the number of comparisons.
-fn position(items: &[Message], points: &[usize], key: &[u8], place: usize) -> usize
+/// How many points come before a key and place, where nobody asks for the number of comparisons.
+pub fn position(items: &[Message], points: &[usize], key: &[u8], place: usize) -> usize
     requires order { AreInOrder items.now points.now }
     requires below { (q : ℕ) → q < length points.now → slice_index points.now q < length items.now }
     ensures { IsPosition items.now points.now (key.now, place) result }

@@ -1,15 +1,20 @@
 //! The messages that wait in a node.
 
-ghost use Rattle.std.specs.Prelude.{◌≡◌, ◌≤◌, ◌↔◌, ◌++◌, [], length, IfOk, IsTrue, OnOk, OnErr};
+ghost use Rattle.std.specs.Prelude.{◌≡◌, ◌≤◌, ◌↔◌, ◌++◌, [], length, IfOk, IsTrue, OnOk, OnErr, Some};
+ghost use Rattle.std.specs.Option.{option_copied};
 ghost use Rattle.std.specs.List.{AllByRecursion, sum_by};
+ghost use Rattle.bd_keys.specs.Keys.{IsBelowEnd};
 ghost use Rattle.bd_limits.specs.Limits.{buffer_limit};
 ghost use Rattle.bd_message.specs.Messages.{IsMessage, size};
 ghost use Rattle.bd_node.specs.Index.{IsNewestTouching, IsNextPoint, IsNextRange, is_point_at};
 ghost use Rattle.bd_node.specs.Keeping.{staying};
+ghost use Rattle.bd_node.specs.Owners.{AreOwners};
+ghost use Rattle.bd_node.specs.Shape.{AreRising, end_before};
+ghost use Rattle.bd_node.specs.Spans.{AreTouching};
 ghost use Rattle.bd_node.specs.Touching.{IsNextTouching};
 
 use crate::index::{self, Index};
-use crate::{scans, staying};
+use crate::{Edge, owners, scans, spans, staying};
 use bd_message::Message;
 use std::alloc::{AllocError, Global};
 use std::marker::Model;
@@ -191,6 +196,37 @@ impl Messages {
         match &self.index {
             Some(index) => index::next_point(items, index, from, key),
             None => scans::next_point(items, from, key),
+        }
+    }
+
+    /// Whether each message can change what stands at a key that is at least `lo` and below `hi`.
+    pub fn touching(&self, lo: &[u8], hi: Option<&[u8]>) -> Result<Vec<bool>, AllocError>
+        requires { IsBelowEnd lo.now (option_copied hi) }
+        ensures { IfOk result (λ mask.
+            AreTouching mask.items self.now lo.now (option_copied hi.entry)) }
+    {
+        let items = self.items.as_slice();
+        let alloc = *self.items.allocator();
+        match &self.index {
+            Some(index) => spans::touching(alloc, items, index, lo, hi),
+            None => scans::touching(alloc, items, lo, hi),
+        }
+    }
+
+    /// For each message on one key, the place of the edge whose keys include that key, and for each
+    /// other message any number.
+    pub fn owners(&self, edges: &[Edge]) -> Result<Vec<usize>, AllocError>
+        requires first { end_before edges.now ≡ Some [] }
+        ensures { IfOk result (λ owners. AreOwners owners.items edges.now self.now) }
+    {
+        let items = self.items.as_slice();
+        let alloc = *self.items.allocator();
+        match &self.index {
+            Some(index) => owners::owners(alloc, items, index, edges),
+            None => {
+                let index = index::regrown(alloc, None, items, 0)?;
+                owners::owners(alloc, items, &index, edges)
+            }
         }
     }
 }

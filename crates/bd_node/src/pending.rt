@@ -1,6 +1,8 @@
 //! Whether a message is pending for some edge.
 
-ghost use Rattle.std.specs.Prelude.{◌≡◌, ◌↔◌, IsTrue};
+ghost use Rattle.std.specs.Prelude.{◌≡◌, ◌↔◌, true, IsTrue};
+ghost use Rattle.bd_node.specs.Index.{is_point, own_key};
+ghost use Rattle.bd_node.specs.Owners.{IsOwner};
 ghost use Rattle.bd_node.specs.Shape.{AreRising, SomeEdge, IsPending, IsUnseen};
 
 use crate::Edge;
@@ -18,6 +20,19 @@ pub fn is_pending(place: usize, message: &Message, edges: &[Edge]) -> bool
 {
     if is_point(message) {
         is_unseen(place, own_key(message), edges)
+    } else {
+        is_spread(place, message, edges)
+    }
+}
+
+/// The same where the place of the edge of the key is known, of a message on one key.
+pub fn is_owned_pending(place: usize, message: &Message, edges: &[Edge], owner: usize) -> bool
+    requires rising { AreRising edges.now }
+    requires owner { is_point message.now ≡ true → IsOwner edges.now (own_key message.now) owner }
+    ensures { IsTrue result ↔ SomeEdge (IsPending place message.now) edges.now }
+{
+    if is_point(message) {
+        edges[owner].seen as usize <= place
     } else {
         is_spread(place, message, edges)
     }

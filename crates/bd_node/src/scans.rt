@@ -1,12 +1,16 @@
 //! What is asked of messages without an index.
 
-ghost use Rattle.std.specs.Prelude.{◌≡◌, ◌<◌, length, IfSome};
+ghost use Rattle.std.specs.Prelude.{◌≡◌, ◌<◌, length, IfOk, IfSome};
+ghost use Rattle.std.specs.Option.{option_copied};
+ghost use Rattle.bd_keys.specs.Keys.{IsBelowEnd};
 ghost use Rattle.bd_node.specs.Index.{is_nearer, IsNewestTouching, IsNextPoint, IsNextRange};
+ghost use Rattle.bd_node.specs.Spans.{AreTouching};
 ghost use Rattle.bd_node.specs.Touching.{IsNextTouching};
 
 use crate::index::{is_point, own_key};
-use crate::touching::touches;
+use crate::touching::{can_touch, touches};
 use bd_message::Message;
+use std::alloc::{AllocError, Global};
 
 /// The place of the oldest message from a place on that can change what stands at a key.
 pub fn next_touching(items: &[Message], from: usize, key: &[u8]) -> Option<usize>
@@ -57,6 +61,24 @@ pub fn next_point(items: &[Message], from: usize, key: &[u8]) -> Option<usize>
         }
     }
     found
+}
+
+/// Whether each message can change what stands at a key that is at least `lo` and below `hi`.
+pub fn touching(
+    alloc: Global,
+    items: &[Message],
+    lo: &[u8],
+    hi: Option<&[u8]>,
+) -> Result<Vec<bool>, AllocError>
+    requires { IsBelowEnd lo.now (option_copied hi) }
+    ensures { IfOk result (λ mask.
+        AreTouching mask.items items.now lo.now (option_copied hi.entry)) }
+{
+    let mut mask = Vec::with_capacity(alloc, items.len())?;
+    for message in items {
+        mask.push(can_touch(message, lo, hi))?;
+    }
+    Ok(mask)
 }
 
 // Whether the message at a place is on a key above this one, and below that of the place found so
