@@ -5,4 +5,4 @@ use Rattle.bd_node.proofs.messages.Messages.owners.Goals as goal
 
 pub owners-requires-clause-index : goal.owners-requires-clause-index
 owners-requires-clause-index c =
-    subst (λ (list : List Message). IsIndex list (length list) c.in-Some.index.points.items c.in-Some.index.ranges.items) (sym c.as_slice-items.ensures.value) (c.self.invariant c.in-Some.index c.in-Some.is)
+    subst (λ (list : List Message). IsIndex list (length list) c.in-Some.index.points.items c.in-Some.index.ranges.items) (sym c.as_slice-items.ensures.value) (c.self.invariant c.in-Some.index c.in-Some.is).0
