@@ -1,18 +1,17 @@
 -- Marks of images, the pick by them, and how writes change it.
 use Rattle.std.proofs.Common.{◌≡◌, ℕ, ◌+◌, ◌-◌, ◌<◌, ◌≤◌, min, List, [], Option, None, Some, Bool, true, false, if◌then◌else◌, Result, Ok, Err, OnOk, OnErr, refl, sym, ap, subst, ◌∙◌, arith, take}
 use Rattle.std.specs.Prelude.{⊤, IfSome, is_ok, slice_set, slice_index, ◌==◌, ◌&&◌, not}
-use Rattle.std.specs.Option.{option_map}
-use Rattle.std.proofs.lemmas.List.{get_or-set_other, take-set-le}
+use Rattle.std.proofs.lemmas.List.{get_or-set_other}
 use Rattle.std.proofs.Math.Seq.{take-set-lt}
-use Rattle.bd_device.specs.Blocks.{Image, with_block, ChangesOnly}
+use Rattle.bd_device.specs.Blocks.{Image, with_block}
 use Rattle.bd_device.specs.Changes.{SameBut, StaysBut, IsInRange}
-use Rattle.bd_device.proofs.Changes.{same_before, same_wider, stays_same, stays_written}
+use Rattle.bd_device.proofs.Changes.{same_before, same_wider, stays_written}
 use Rattle.bd_mirror.specs.declared.halves.Halves.{Halves}
 use Rattle.bd_mirror.specs.declared.halves.Halves.TheVariants.{Both, First, Second, Neither}
 use Rattle.bd_mirror.specs.declared.halves.Attached.{Attached}
 use Rattle.bd_mirror.specs.declared.halves.Attached.TheVariants.{Nothing, Alone, Member, Pair, Apart}
 use Rattle.bd_mirror.specs.Halves.{has_marks, halves_of, with_halves, uses_first, uses_second, blocks_in}
-use Rattle.bd_mirror.specs.Contents.{is_open_at, pick, picked, shown_by, HaveMarks, IsMarked}
+use Rattle.bd_mirror.specs.Contents.{is_open_at, pick, shown_by, IsMarked}
 
 -- what holds at Ok holds of a result that is Ok
 pub at_ok : {T E P : Type 0} {r : Result T E} {x : T} → r ≡ Ok x → OnOk r P → P

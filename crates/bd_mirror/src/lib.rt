@@ -4,7 +4,6 @@
 #![tactic(auto)]
 
 mod copying;
-mod counts;
 mod halves;
 mod mirror;
 

@@ -1,12 +1,11 @@
 ghost use Rattle.std.specs.Prelude.{◌≡◌, ◌≢◌, [], ◌<◌, ◌≤◌, ◌+◌, ◌-◌, ◌^◌, if◌then◌else◌, ◌⊎◌, true, false, IsTrue, None, Some, IfSome, IfNone, IfOk, OnOk, OnErr, is_ok, is_err, slice_get};
 ghost use Rattle.bd_io.specs.Cause.{HasCause, IsCounted, Rose};
-ghost use Rattle.bd_device.specs.Calls.{faults_after};
+ghost use Rattle.bd_device.specs.Calls.{faults_after, no_calls};
 ghost use Rattle.bd_device.specs.Blocks.{Image, with_block, ChangesOnly};
 ghost use Rattle.bd_mirror.specs.declared.halves.Halves.TheVariants.{Both, First, Second, Neither};
 ghost use Rattle.bd_mirror.specs.declared.halves.Attached.TheVariants.{Nothing, Member};
 ghost use Rattle.std.specs.Option.{option_map};
 ghost use Rattle.bd_mirror.specs.Contents.{is_open_at};
-ghost use Rattle.bd_mirror.specs.Counts.{no_calls};
 ghost use Rattle.bd_mirror.specs.Crashes.{IsPickOf, Stretch, GoesOn, LosesNothing};
 ghost use Rattle.bd_mirror.specs.Names.{HasPlus, IsNamed, first_name, second_name};
 ghost use Rattle.bd_device.specs.Changes.{StaysBut};
@@ -16,9 +15,8 @@ ghost use Rattle.bd_mirror.specs.Halves.{has_marks, halves_of, with_halves, uses
 ghost use Rattle.bd_mirror.specs.Calls.{blocks_now, shown_now, shown_of, IsMirror, IsMade, LeavesWhatItShows, attached_as, AreSettled, in_use, attached_to, first_of, second_of, counts_of, calls_of, faults_of, write_faults_of, last_of, IsFull, FirstFailed, SecondFailed, HalvesStay};
 
 use crate::copying::{is_alone, is_open, mirror_onto, open_last, open_member};
-use crate::counts::Counts;
 use crate::halves::{Attached, Halves};
-use bd_device::{Attach, BLOCK_SIZE, Device};
+use bd_device::{Attach, BLOCK_SIZE, Counts, Device};
 use bd_io::Failed;
 
 /// A device over two others, its halves, which keeps what it is given on both. A name without `+`

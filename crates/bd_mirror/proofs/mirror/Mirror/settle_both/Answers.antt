@@ -1,4 +1,4 @@
-use Rattle.std.proofs.Common.{◌≡◌, ap, ◌∙◌}
+use Rattle.std.proofs.Common.{ap, ◌∙◌}
 use Rattle.bd_device.specs.Device.{left_now}
 use Rattle.bd_device.specs.Moments.{IsOnly}
 use Rattle.bd_device.proofs.Refusals.{OnOk-then}
