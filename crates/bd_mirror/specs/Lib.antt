@@ -3,3 +3,4 @@ pub mod Contents
 pub mod Crashes
 pub mod Halves
 pub mod Names
+pub mod Writing

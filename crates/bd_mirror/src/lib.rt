@@ -6,5 +6,6 @@
 mod copying;
 mod halves;
 mod mirror;
+mod writing;
 
 pub use mirror::Mirror;
