@@ -1,8 +1,7 @@
 -- How what calls leave, and how they fail, goes on over several calls.
-use Rattle.std.proofs.Common.{◌≡◌, ℕ, Bool, ◌∙◌, arith, true, Result, Ok, Err, OnOk, OnErr, IsTrue}
-use Rattle.std.specs.Prelude.{is_ok, is_err}
+use Rattle.std.proofs.Common.{◌∙◌}
 use Rattle.bd_device.specs.Moments.{Nothing}
-use Rattle.bd_device.specs.Device.{Stays, OnlyReads, LastFailed, FailsLast}
+use Rattle.bd_device.specs.Device.{Stays, OnlyReads}
 use Rattle.bd_device.specs.declared.device.Device.{Ghosts}
 use Rattle.bd_device.proofs.Moments.{goes_on}
 

@@ -8,7 +8,7 @@ use Rattle.std.specs.Prelude.{slice_get, slice_set, IfSome}
 use Rattle.bd_device.specs.Blocks.{Image, HasBlocks, with_block, ChangesOnly}
 use Rattle.bd_device.specs.Changes.{SameBut, StaysBut, IsBeforeBut, IsInRange, bytes_at}
 use Rattle.bd_device.specs.Moments.{Elapses, TornAt}
-use Rattle.bd_device.proofs.Moments.{goes_on, within, after}
+use Rattle.bd_device.proofs.Moments.{goes_on, after}
 
 -- ---- images
 

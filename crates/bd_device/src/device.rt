@@ -145,8 +145,8 @@ pub trait Attach: Device {
 
     /// Takes the image of this name: the one that is there, or with `Some(n)` a new one of `n`
     /// blocks, which may hold any bytes. `Failed` comes only where the count of faults rose in this
-    /// call or stands at its last value. The device then has 0 blocks, and with `None` each image
-    /// stays as it was, for a crash and for the next attach.
+    /// call or stands at its last value. The device then has 0 blocks, and with `None` the image of
+    /// that name stays as it was, for a crash and for the next attach.
     fn attach(&mut self, name: &str, create: Option<u64>) -> Result<(), Failed>
         ensures shown { OnOk result (IfNone create
             (Self.contents self.new ≡ shows self.old name.now)) }
@@ -156,13 +156,13 @@ pub trait Attach: Device {
         ensures named { OnOk result (Self.is_named self.new name.now) }
         ensures detached { OnErr result (Self.block_count self.new ≡ 0) }
         ensures behind { OnErr result (IfNone create
-            ((other : List ℕ) → shows self.new other ≡ shows self.old other)) }
+            (shows self.new name.now ≡ shows self.old name.now)) }
         ensures time { OnOk result (IfNone create
             (Elapses (Self.call_count self.old) (Self.call_count self.new)
             (left_behind self.old name.now) (Self.left_since self.new) Nothing)) }
-        ensures behind_time { OnErr result (IfNone create ((other : List ℕ)
-            → Elapses (Self.call_count self.old) (Self.call_count self.new)
-            (left_behind self.old other) (left_behind self.new other) Nothing)) }
+        ensures behind_time { OnErr result (IfNone create
+            (Elapses (Self.call_count self.old) (Self.call_count self.new)
+            (left_behind self.old name.now) (left_behind self.new name.now) Nothing)) }
         ensures shape { IfSome (Self.contents self.new) (HasBlocks (Self.block_count self.new)) }
         ensures cause { HasCause (Self.fault_count self.old) (Self.fault_count self.new) result }
         ensures faults { Self.fault_count self.new

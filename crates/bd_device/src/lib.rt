@@ -5,6 +5,7 @@
 #![tactic(auto)]
 
 mod blocks;
+mod counts;
 mod device;
 mod fault;
 mod faulty_device;
@@ -18,6 +19,7 @@ pub use bd_limits::BLOCK_SIZE;
 pub use blocks::{
     committed_block, is_committed, put, read_block, read_blocks, settle, write_blocks,
 };
+pub use counts::Counts;
 pub use device::{Attach, Device};
 pub use fault::ImageFault;
 pub use faulty_device::FaultyDevice;

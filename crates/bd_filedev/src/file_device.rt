@@ -1,9 +1,8 @@
 ghost use Rattle.std.specs.Prelude.{◌≡◌};
 ghost use Rattle.bd_filedev.specs.Counts.{no_file};
 
-use crate::counts::Counts;
 use crate::image_file::ImageFile;
-use bd_device::{Attach, BLOCK_SIZE, Device};
+use bd_device::{Attach, BLOCK_SIZE, Counts, Device};
 use bd_io::Failed;
 use std::fs::{File, Files};
 use std::marker::Model;

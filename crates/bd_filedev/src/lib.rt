@@ -2,7 +2,6 @@
 //! its failures are proved.
 #![tactic(auto)]
 
-mod counts;
 mod file_device;
 mod image_file;
 

@@ -1,5 +1,5 @@
 -- What a name says is attached, and what is shown then.
-use Rattle.std.proofs.Common.{◌≡◌, ◌≢◌, ℕ, ◌-◌, ◌<◌, ◌≤◌, List, [], ◌∷◌, length, take, Option, None, Some, IfSome, Result, Ok, Err, Bool, true, false, refl, sym, ap, subst, ◌∙◌, arith, Bor, MatchOption}
+use Rattle.std.proofs.Common.{◌≡◌, ◌≢◌, ℕ, ◌-◌, ◌<◌, List, [], ◌∷◌, length, take, Option, None, Some, IfSome, Result, Ok, Err, Bool, true, false, refl, sym, ap, subst, ◌∙◌, arith, Bor}
 use Rattle.std.specs.Prelude.{IfOk, IfNone, ◌==◌}
 use Rattle.std.specs.Option.{option_map}
 use Rattle.std.specs.List.{position_or_len}

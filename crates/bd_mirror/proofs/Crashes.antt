@@ -1,11 +1,11 @@
 -- What a crash may leave while one half is made a copy of the other.
-use Rattle.std.proofs.Common.{◌≡◌, ℕ, ◌+◌, ◌-◌, ◌<◌, ◌≤◌, List, [], ◌∷◌, length, take, ◌⊎◌, Option, None, Some, IfSome, Bool, true, false, refl, sym, ap, subst, ◌∙◌, arith, inl, inr, ⊎_elim}
+use Rattle.std.proofs.Common.{◌≡◌, ℕ, ◌-◌, ◌<◌, List, [], ◌∷◌, length, take, ◌⊎◌, Option, None, Some, IfSome, Bool, true, false, refl, sym, ap, subst, ◌∙◌, arith, inl, inr, ⊎_elim}
 use Rattle.std.specs.Prelude.{◌&&◌, not, IfNone}
 use Rattle.std.proofs.lemmas.Bool.{false≢true}
 use Rattle.std.proofs.lemmas.List.{take-set-le}
 use Rattle.std.proofs.lemmas.Option.{same_Some}
 use Rattle.bd_device.specs.Blocks.{Image, HasBlocks}
-use Rattle.bd_device.specs.Changes.{SameBut, StaysBut, IsBeforeBut, IsInRange}
+use Rattle.bd_device.specs.Changes.{StaysBut, IsBeforeBut, IsInRange}
 use Rattle.bd_device.specs.Device.{left_now, Goes, OnlyReads, Stays}
 use Rattle.bd_device.specs.Moments.{Elapses, Nothing, TornAt, IsOnly}
 use Rattle.bd_device.specs.declared.device.Device.{Ghosts}

@@ -1,18 +1,20 @@
 -- Marks of images, the pick by them, and how writes change it.
 use Rattle.std.proofs.Common.{◌≡◌, ℕ, ◌+◌, ◌-◌, ◌<◌, ◌≤◌, min, List, [], Option, None, Some, Bool, true, false, if◌then◌else◌, Result, Ok, Err, OnOk, OnErr, refl, sym, ap, subst, ◌∙◌, arith, take}
-use Rattle.std.specs.Prelude.{⊤, IfSome, is_ok, slice_set, slice_index, ◌==◌, ◌&&◌, not}
-use Rattle.std.specs.Option.{option_map}
-use Rattle.std.proofs.lemmas.List.{get_or-set_other, take-set-le}
+use Rattle.std.specs.Prelude.{⊤, IfSome, is_ok, slice_index, slice_index_or, ◌==◌, ◌&&◌, not}
+use Rattle.std.proofs.lemmas.List.{get_or-set_other, set-get_or}
 use Rattle.std.proofs.Math.Seq.{take-set-lt}
-use Rattle.bd_device.specs.Blocks.{Image, with_block, ChangesOnly}
+use Rattle.bd_device.specs.Blocks.{Image}
 use Rattle.bd_device.specs.Changes.{SameBut, StaysBut, IsInRange}
-use Rattle.bd_device.proofs.Changes.{same_before, same_wider, stays_same, stays_written}
+use Rattle.bd_device.proofs.Changes.{same_before, same_wider}
 use Rattle.bd_mirror.specs.declared.halves.Halves.{Halves}
 use Rattle.bd_mirror.specs.declared.halves.Halves.TheVariants.{Both, First, Second, Neither}
 use Rattle.bd_mirror.specs.declared.halves.Attached.{Attached}
 use Rattle.bd_mirror.specs.declared.halves.Attached.TheVariants.{Nothing, Alone, Member, Pair, Apart}
 use Rattle.bd_mirror.specs.Halves.{has_marks, halves_of, with_halves, uses_first, uses_second, blocks_in}
-use Rattle.bd_mirror.specs.Contents.{is_open_at, pick, picked, shown_by, HaveMarks, IsMarked}
+use Rattle.bd_mirror.specs.Contents.{is_open_at, pick, shown_by, IsMarked}
+use Rattle.bd_mirror.specs.Writing.{IsWithin, image_after, contents_after}
+use Rattle.bd_mirror.specs.declared.writing.WritingCall.{WritingCall}
+use Rattle.bd_mirror.specs.declared.writing.WritingCall.TheVariants.{Write, Barrier}
 
 -- what holds at Ok holds of a result that is Ok
 pub at_ok : {T E P : Type 0} {r : Result T E} {x : T} → r ≡ Ok x → OnOk r P → P
@@ -51,10 +53,23 @@ second_is e = subst (IsThis Second) (sym e) tt
 
 -- ---- images
 
--- a write of another block leaves the mark
-pub open_other : (mark b : ℕ) (bytes : List ℕ) (image : Image) → b < mark → is_open_at mark (slice_set image b bytes) ≡ is_open_at mark image
-open_other mark b bytes image lt =
+-- a call that writes no mark leaves it
+pub open_after : (call : WritingCall) (mark : ℕ) (bytes : List ℕ) (image : Image) → IsWithin call mark
+    → is_open_at mark (image_after call bytes image) ≡ is_open_at mark image
+open_after (Write b from) mark bytes image lt =
     ap (λ block. slice_index block 0 == 1) (get_or-set_other image b mark bytes [] (λ e. omega (arith, lt, e)))
+open_after Barrier mark bytes image lt = refl
+
+-- of the first blocks it writes what it writes of all
+pub take_after : (call : WritingCall) (size : ℕ) (bytes : List ℕ) (image : Image) → IsWithin call size
+    → take size (image_after call bytes image) ≡ image_after call bytes (take size image)
+take_after (Write b from) size bytes image lt = take-set-lt size image b bytes lt
+take_after Barrier size bytes image lt = refl
+
+-- what it writes of some blocks it writes of more
+pub within_more : (call : WritingCall) (count more : ℕ) → count ≤ more → IsWithin call count → IsWithin call more
+within_more (Write b from) count more le lt = omega (arith, le, lt)
+within_more Barrier count more le lt = tt
 
 -- where only the mark may have changed, the blocks before it are the same
 pub take_but_mark : (size mark : ℕ) (old new : Image) → size ≤ mark → SameBut (λ i. i ≡ mark) old new → take size new ≡ take size old
@@ -74,86 +89,86 @@ pick_second size ma mb a b ea eb =
     ap (λ o. if o && not (is_open_at ma a) then take size b else take size a) eb
     ∙ ap (λ o. if not o then take size b else take size a) ea
 
--- a write of both halves is one of their pick
-pick_set : (size ma mb i : ℕ) (bytes : List ℕ) (a b : Image) → i < size → size ≤ ma → size ≤ mb
-    → pick size ma mb (slice_set a i bytes) (slice_set b i bytes) ≡ slice_set (pick size ma mb a b) i bytes
-pick_set size ma mb i bytes a b lt la lb =
-    let ea : is_open_at ma (slice_set a i bytes) ≡ is_open_at ma a = open_other ma i bytes a (omega (arith, lt, la)) in
-    let eb : is_open_at mb (slice_set b i bytes) ≡ is_open_at mb b = open_other mb i bytes b (omega (arith, lt, lb)) in
-    ap (λ o. if o && not (is_open_at ma (slice_set a i bytes)) then take size (slice_set b i bytes) else take size (slice_set a i bytes)) eb
-    ∙ ap (λ o. if is_open_at mb b && not o then take size (slice_set b i bytes) else take size (slice_set a i bytes)) ea
-    ∙ ap (λ (x : Image). if is_open_at mb b && not (is_open_at ma a) then x else take size (slice_set a i bytes)) (take-set-lt size b i bytes lt)
-    ∙ ap (λ (x : Image). if is_open_at mb b && not (is_open_at ma a) then slice_set (take size b) i bytes else x) (take-set-lt size a i bytes lt)
-    ∙ elim (is_open_at mb b && not (is_open_at ma a)) as (λ o. (if o then slice_set (take size b) i bytes else slice_set (take size a) i bytes) ≡ slice_set (if o then take size b else take size a) i bytes) [ true ↦ refl | false ↦ refl ]
+-- a call of both halves is one of their pick
+pick_after : (call : WritingCall) (size ma mb : ℕ) (bytes : List ℕ) (a b : Image) → IsWithin call size → size ≤ ma → size ≤ mb
+    → pick size ma mb (image_after call bytes a) (image_after call bytes b) ≡ image_after call bytes (pick size ma mb a b)
+pick_after call size ma mb bytes a b lt la lb =
+    let ea : is_open_at ma (image_after call bytes a) ≡ is_open_at ma a = open_after call ma bytes a (within_more call size ma la lt) in
+    let eb : is_open_at mb (image_after call bytes b) ≡ is_open_at mb b = open_after call mb bytes b (within_more call size mb lb lt) in
+    ap (λ o. if o && not (is_open_at ma (image_after call bytes a)) then take size (image_after call bytes b) else take size (image_after call bytes a)) eb
+    ∙ ap (λ o. if is_open_at mb b && not o then take size (image_after call bytes b) else take size (image_after call bytes a)) ea
+    ∙ ap (λ (x : Image). if is_open_at mb b && not (is_open_at ma a) then x else take size (image_after call bytes a)) (take_after call size bytes b lt)
+    ∙ ap (λ (x : Image). if is_open_at mb b && not (is_open_at ma a) then image_after call bytes (take size b) else x) (take_after call size bytes a lt)
+    ∙ elim (is_open_at mb b && not (is_open_at ma a)) as (λ o. (if o then image_after call bytes (take size b) else image_after call bytes (take size a)) ≡ image_after call bytes (if o then take size b else take size a)) [ true ↦ refl | false ↦ refl ]
 
 -- ---- what is known of the halves
 
-wrote_each : (at : Attached) (na nb i : ℕ) (bytes : List ℕ) (a b : Option Image) → i < blocks_in at na nb
-    → shown_by at na nb (with_block i bytes a) (with_block i bytes b) ≡ with_block i bytes (shown_by at na nb a b)
-wrote_each Nothing na nb i bytes a b lt = absurd (omega (arith, lt))
-wrote_each Alone na nb i bytes a b lt = refl
-wrote_each Member na nb i bytes None b lt = refl
-wrote_each Member na nb i bytes (Some a) b lt = ap Some (take-set-lt (na - 1) a i bytes lt)
-wrote_each (Pair h) na nb i bytes None b lt = refl
-wrote_each (Pair h) na nb i bytes (Some a) None lt = refl
-wrote_each (Pair h) na nb i bytes (Some a) (Some b) lt =
-    ap Some (pick_set (min na nb - 1) (na - 1) (nb - 1) i bytes a b lt (omega arith) (omega arith))
-wrote_each (Apart h) na nb i bytes a b lt = absurd (omega (arith, lt))
+wrote_each : (call : WritingCall) (at : Attached) (na nb : ℕ) (bytes : List ℕ) (a b : Option Image) → IsWithin call (blocks_in at na nb)
+    → shown_by at na nb (contents_after call bytes a) (contents_after call bytes b) ≡ contents_after call bytes (shown_by at na nb a b)
+wrote_each call Nothing na nb bytes a b lt = refl
+wrote_each call Alone na nb bytes a b lt = refl
+wrote_each call Member na nb bytes None b lt = refl
+wrote_each call Member na nb bytes (Some a) b lt = ap Some (take_after call (na - 1) bytes a lt)
+wrote_each call (Pair h) na nb bytes None b lt = refl
+wrote_each call (Pair h) na nb bytes (Some a) None lt = refl
+wrote_each call (Pair h) na nb bytes (Some a) (Some b) lt =
+    ap Some (pick_after call (min na nb - 1) (na - 1) (nb - 1) bytes a b lt (omega arith) (omega arith))
+wrote_each call (Apart h) na nb bytes a b lt = refl
 
--- both halves were written
-pub wrote_both : (at : Attached) (na nb na' nb' i : ℕ) (bytes : List ℕ) (a b a' b' : Option Image) → i < blocks_in at na nb
-    → na' ≡ na → nb' ≡ nb → a' ≡ with_block i bytes a → b' ≡ with_block i bytes b
-    → shown_by at na' nb' a' b' ≡ with_block i bytes (shown_by at na nb a b)
-wrote_both at na nb na' nb' i bytes a b a' b' lt ca cb ea eb =
+-- both halves did it
+pub both_did : (call : WritingCall) (at : Attached) (na nb na' nb' : ℕ) (bytes : List ℕ) (a b a' b' : Option Image) → IsWithin call (blocks_in at na nb)
+    → na' ≡ na → nb' ≡ nb → a' ≡ contents_after call bytes a → b' ≡ contents_after call bytes b
+    → shown_by at na' nb' a' b' ≡ contents_after call bytes (shown_by at na nb a b)
+both_did call at na nb na' nb' bytes a b a' b' lt ca cb ea eb =
     ap (λ n. shown_by at n nb' a' b') ca ∙ ap (λ n. shown_by at na n a' b') cb
-    ∙ ap (λ o. shown_by at na nb o b') ea ∙ ap (λ o. shown_by at na nb (with_block i bytes a) o) eb
-    ∙ wrote_each at na nb i bytes a b lt
+    ∙ ap (λ o. shown_by at na nb o b') ea ∙ ap (λ o. shown_by at na nb (contents_after call bytes a) o) eb
+    ∙ wrote_each call at na nb bytes a b lt
 
 -- the first alone, whose mark is open
-wrote_one : (at : Attached) (na nb i : ℕ) (bytes : List ℕ) (a b : Option Image) → halves_of at ≡ First → IsMarked at na nb a b → i < blocks_in at na nb
-    → shown_by at na nb (with_block i bytes a) b ≡ with_block i bytes (shown_by at na nb a b)
-wrote_one Nothing na nb i bytes a b is marked lt = absurd (omega (arith, lt))
-wrote_one Alone na nb i bytes a b is marked lt = refl
-wrote_one Member na nb i bytes None b is marked lt = refl
-wrote_one Member na nb i bytes (Some a) b is marked lt = ap Some (take-set-lt (na - 1) a i bytes lt)
-wrote_one (Pair First) na nb i bytes None b is marked lt = refl
-wrote_one (Pair First) na nb i bytes (Some a) None is marked lt = refl
-wrote_one (Pair First) na nb i bytes (Some a) (Some b) is marked lt =
+did_one : (call : WritingCall) (at : Attached) (na nb : ℕ) (bytes : List ℕ) (a b : Option Image) → halves_of at ≡ First → IsMarked at na nb a b
+    → IsWithin call (blocks_in at na nb) → shown_by at na nb (contents_after call bytes a) b ≡ contents_after call bytes (shown_by at na nb a b)
+did_one call Nothing na nb bytes a b is marked lt = refl
+did_one call Alone na nb bytes a b is marked lt = refl
+did_one call Member na nb bytes None b is marked lt = refl
+did_one call Member na nb bytes (Some a) b is marked lt = ap Some (take_after call (na - 1) bytes a lt)
+did_one call (Pair First) na nb bytes None b is marked lt = refl
+did_one call (Pair First) na nb bytes (Some a) None is marked lt = refl
+did_one call (Pair First) na nb bytes (Some a) (Some b) is marked lt =
     let n : ℕ = min na nb - 1 in
-    ap Some (pick_closed n (na - 1) (nb - 1) (slice_set a i bytes) b marked.marked.1 ∙ take-set-lt n a i bytes lt
-    ∙ ap (λ (x : Image). slice_set x i bytes) (sym (pick_closed n (na - 1) (nb - 1) a b marked.marked.1)))
-wrote_one (Pair Both) na nb i bytes a b is marked lt = absurd (first_is is)
-wrote_one (Pair Second) na nb i bytes a b is marked lt = absurd (first_is is)
-wrote_one (Pair Neither) na nb i bytes a b is marked lt = absurd (first_is is)
-wrote_one (Apart h) na nb i bytes a b is marked lt = absurd (omega (arith, lt))
+    ap Some (pick_closed n (na - 1) (nb - 1) (image_after call bytes a) b marked.marked.1 ∙ take_after call n bytes a lt
+    ∙ ap (λ (x : Image). image_after call bytes x) (sym (pick_closed n (na - 1) (nb - 1) a b marked.marked.1)))
+did_one call (Pair Both) na nb bytes a b is marked lt = absurd (first_is is)
+did_one call (Pair Second) na nb bytes a b is marked lt = absurd (first_is is)
+did_one call (Pair Neither) na nb bytes a b is marked lt = absurd (first_is is)
+did_one call (Apart h) na nb bytes a b is marked lt = refl
 
-pub wrote_first : (at : Attached) (na nb na' i : ℕ) (bytes : List ℕ) (a b a' : Option Image) → halves_of at ≡ First → IsMarked at na nb a b → i < blocks_in at na nb
-    → na' ≡ na → a' ≡ with_block i bytes a → shown_by at na' nb a' b ≡ with_block i bytes (shown_by at na nb a b)
-wrote_first at na nb na' i bytes a b a' is marked lt ca ea =
-    ap (λ n. shown_by at n nb a' b) ca ∙ ap (λ o. shown_by at na nb o b) ea ∙ wrote_one at na nb i bytes a b is marked lt
+pub first_did : (call : WritingCall) (at : Attached) (na nb na' : ℕ) (bytes : List ℕ) (a b a' : Option Image) → halves_of at ≡ First → IsMarked at na nb a b
+    → IsWithin call (blocks_in at na nb) → na' ≡ na → a' ≡ contents_after call bytes a → shown_by at na' nb a' b ≡ contents_after call bytes (shown_by at na nb a b)
+first_did call at na nb na' bytes a b a' is marked lt ca ea =
+    ap (λ n. shown_by at n nb a' b) ca ∙ ap (λ o. shown_by at na nb o b) ea ∙ did_one call at na nb bytes a b is marked lt
 
 -- the second alone, whose mark is open
-wrote_other : (at : Attached) (na nb i : ℕ) (bytes : List ℕ) (a b : Option Image) → halves_of at ≡ Second → IsMarked at na nb a b → i < blocks_in at na nb
-    → shown_by at na nb a (with_block i bytes b) ≡ with_block i bytes (shown_by at na nb a b)
-wrote_other Nothing na nb i bytes a b is marked lt = absurd (omega (arith, lt))
-wrote_other Alone na nb i bytes a b is marked lt = absurd (second_is is)
-wrote_other Member na nb i bytes a b is marked lt = absurd (second_is is)
-wrote_other (Pair Second) na nb i bytes None b is marked lt = refl
-wrote_other (Pair Second) na nb i bytes (Some a) None is marked lt = refl
-wrote_other (Pair Second) na nb i bytes (Some a) (Some b) is marked lt =
+did_other : (call : WritingCall) (at : Attached) (na nb : ℕ) (bytes : List ℕ) (a b : Option Image) → halves_of at ≡ Second → IsMarked at na nb a b
+    → IsWithin call (blocks_in at na nb) → shown_by at na nb a (contents_after call bytes b) ≡ contents_after call bytes (shown_by at na nb a b)
+did_other call Nothing na nb bytes a b is marked lt = refl
+did_other call Alone na nb bytes a b is marked lt = absurd (second_is is)
+did_other call Member na nb bytes a b is marked lt = absurd (second_is is)
+did_other call (Pair Second) na nb bytes None b is marked lt = refl
+did_other call (Pair Second) na nb bytes (Some a) None is marked lt = refl
+did_other call (Pair Second) na nb bytes (Some a) (Some b) is marked lt =
     let n : ℕ = min na nb - 1 in
-    let still : is_open_at (nb - 1) (slice_set b i bytes) ≡ true = open_other (nb - 1) i bytes b (omega (arith, lt)) ∙ marked.marked.1 in
-    ap Some (pick_second n (na - 1) (nb - 1) a (slice_set b i bytes) marked.marked.0 still ∙ take-set-lt n b i bytes lt
-    ∙ ap (λ (x : Image). slice_set x i bytes) (sym (pick_second n (na - 1) (nb - 1) a b marked.marked.0 marked.marked.1)))
-wrote_other (Pair Both) na nb i bytes a b is marked lt = absurd (second_is is)
-wrote_other (Pair First) na nb i bytes a b is marked lt = absurd (second_is is)
-wrote_other (Pair Neither) na nb i bytes a b is marked lt = absurd (second_is is)
-wrote_other (Apart h) na nb i bytes a b is marked lt = absurd (omega (arith, lt))
+    let still : is_open_at (nb - 1) (image_after call bytes b) ≡ true = open_after call (nb - 1) bytes b (within_more call n (nb - 1) (omega arith) lt) ∙ marked.marked.1 in
+    ap Some (pick_second n (na - 1) (nb - 1) a (image_after call bytes b) marked.marked.0 still ∙ take_after call n bytes b lt
+    ∙ ap (λ (x : Image). image_after call bytes x) (sym (pick_second n (na - 1) (nb - 1) a b marked.marked.0 marked.marked.1)))
+did_other call (Pair Both) na nb bytes a b is marked lt = absurd (second_is is)
+did_other call (Pair First) na nb bytes a b is marked lt = absurd (second_is is)
+did_other call (Pair Neither) na nb bytes a b is marked lt = absurd (second_is is)
+did_other call (Apart h) na nb bytes a b is marked lt = refl
 
-pub wrote_second : (at : Attached) (na nb nb' i : ℕ) (bytes : List ℕ) (a b b' : Option Image) → halves_of at ≡ Second → IsMarked at na nb a b → i < blocks_in at na nb
-    → nb' ≡ nb → b' ≡ with_block i bytes b → shown_by at na nb' a b' ≡ with_block i bytes (shown_by at na nb a b)
-wrote_second at na nb nb' i bytes a b b' is marked lt cb eb =
-    ap (λ n. shown_by at na n a b') cb ∙ ap (λ o. shown_by at na nb a o) eb ∙ wrote_other at na nb i bytes a b is marked lt
+pub second_did : (call : WritingCall) (at : Attached) (na nb nb' : ℕ) (bytes : List ℕ) (a b b' : Option Image) → halves_of at ≡ Second → IsMarked at na nb a b
+    → IsWithin call (blocks_in at na nb) → nb' ≡ nb → b' ≡ contents_after call bytes b → shown_by at na nb' a b' ≡ contents_after call bytes (shown_by at na nb a b)
+second_did call at na nb nb' bytes a b b' is marked lt cb eb =
+    ap (λ n. shown_by at na n a b') cb ∙ ap (λ o. shown_by at na nb a o) eb ∙ did_other call at na nb bytes a b is marked lt
 
 -- what follows from what holds at an error holds at an error
 pub OnErr-then : {T E P Q : Type 0} (r : Result T E) → OnErr r P → (P → Q) → OnErr r Q
@@ -163,79 +178,80 @@ OnErr-then (Err e) p f = f p
 -- ---- one of two halves failed
 
 -- the first one goes on, though its mark may be torn
-kept_one : (at : Attached) (h : Halves) (na nb i : ℕ) (x y : List ℕ) (a b a' : Option Image) → halves_of at ≡ Both → IsMarked at na nb a b → i < blocks_in at na nb
-    → StaysBut (λ k. k ≡ na - 1) (with_block i x a) a'
-    → shown_by (with_halves h at) na nb a' (with_block i y b) ≡ with_block i x (shown_by at na nb a b)
-kept_one Nothing h na nb i x y a b a' is marked lt same = absurd (omega (arith, lt))
-kept_one Alone h na nb i x y a b a' is marked lt same = absurd (both_is is)
-kept_one Member h na nb i x y a b a' is marked lt same = absurd (both_is is)
-kept_one (Apart h') h na nb i x y a b a' is marked lt same = absurd (omega (arith, lt))
-kept_one (Pair Both) h na nb i x y None b None is marked lt same = refl
-kept_one (Pair Both) h na nb i x y None b (Some a') is marked lt same = absurd same
-kept_one (Pair Both) h na nb i x y (Some a) None None is marked lt same = absurd same
-kept_one (Pair Both) h na nb i x y (Some a) None (Some a') is marked lt same = refl
-kept_one (Pair Both) h na nb i x y (Some a) (Some b) None is marked lt same = absurd same
-kept_one (Pair Both) h na nb i x y (Some a) (Some b) (Some a') is marked lt same =
+kept_one : (call : WritingCall) (at : Attached) (h : Halves) (na nb : ℕ) (x y : List ℕ) (a b a' : Option Image) → halves_of at ≡ Both → IsMarked at na nb a b
+    → IsWithin call (blocks_in at na nb) → StaysBut (λ k. k ≡ na - 1) (contents_after call x a) a'
+    → shown_by (with_halves h at) na nb a' (contents_after call y b) ≡ contents_after call x (shown_by at na nb a b)
+kept_one call Nothing h na nb x y a b a' is marked lt same = refl
+kept_one call Alone h na nb x y a b a' is marked lt same = absurd (both_is is)
+kept_one call Member h na nb x y a b a' is marked lt same = absurd (both_is is)
+kept_one call (Apart h') h na nb x y a b a' is marked lt same = refl
+kept_one call (Pair Both) h na nb x y None b None is marked lt same = refl
+kept_one call (Pair Both) h na nb x y None b (Some a') is marked lt same = absurd same
+kept_one call (Pair Both) h na nb x y (Some a) None None is marked lt same = absurd same
+kept_one call (Pair Both) h na nb x y (Some a) None (Some a') is marked lt same = refl
+kept_one call (Pair Both) h na nb x y (Some a) (Some b) None is marked lt same = absurd same
+kept_one call (Pair Both) h na nb x y (Some a) (Some b) (Some a') is marked lt same =
     let n : ℕ = min na nb - 1 in
-    let closed : is_open_at (nb - 1) (slice_set b i y) ≡ false = open_other (nb - 1) i y b (omega (arith, lt)) ∙ marked.marked.1 in
-    ap Some (pick_closed n (na - 1) (nb - 1) a' (slice_set b i y) closed
-    ∙ take_but_mark n (na - 1) (slice_set a i x) a' (omega arith) same ∙ take-set-lt n a i x lt
-    ∙ ap (λ (l : Image). slice_set l i x) (sym (pick_closed n (na - 1) (nb - 1) a b marked.marked.1)))
-kept_one (Pair First) h na nb i x y a b a' is marked lt same = absurd (both_is is)
-kept_one (Pair Second) h na nb i x y a b a' is marked lt same = absurd (both_is is)
-kept_one (Pair Neither) h na nb i x y a b a' is marked lt same = absurd (both_is is)
+    let closed : is_open_at (nb - 1) (image_after call y b) ≡ false = open_after call (nb - 1) y b (within_more call n (nb - 1) (omega arith) lt) ∙ marked.marked.1 in
+    ap Some (pick_closed n (na - 1) (nb - 1) a' (image_after call y b) closed
+    ∙ take_but_mark n (na - 1) (image_after call x a) a' (omega arith) same ∙ take_after call n x a lt
+    ∙ ap (λ (l : Image). image_after call x l) (sym (pick_closed n (na - 1) (nb - 1) a b marked.marked.1)))
+kept_one call (Pair First) h na nb x y a b a' is marked lt same = absurd (both_is is)
+kept_one call (Pair Second) h na nb x y a b a' is marked lt same = absurd (both_is is)
+kept_one call (Pair Neither) h na nb x y a b a' is marked lt same = absurd (both_is is)
 
 -- the second one goes on with an open mark
-kept_other : (at : Attached) (h : Halves) (na nb i : ℕ) (x y : List ℕ) (a b b' : Option Image) → halves_of at ≡ Both → IsMarked at na nb a b → i < blocks_in at na nb
-    → StaysBut (λ k. k ≡ nb - 1) (with_block i x b) b' → IfSome b' (λ image. is_open_at (nb - 1) image ≡ true)
-    → shown_by (with_halves h at) na nb (with_block i y a) b' ≡ with_block i x (shown_by at na nb a b)
-kept_other Nothing h na nb i x y a b b' is marked lt same opens = absurd (omega (arith, lt))
-kept_other Alone h na nb i x y a b b' is marked lt same opens = absurd (both_is is)
-kept_other Member h na nb i x y a b b' is marked lt same opens = absurd (both_is is)
-kept_other (Apart h') h na nb i x y a b b' is marked lt same opens = absurd (omega (arith, lt))
-kept_other (Pair Both) h na nb i x y None b b' is marked lt same opens = refl
-kept_other (Pair Both) h na nb i x y (Some a) None None is marked lt same opens = refl
-kept_other (Pair Both) h na nb i x y (Some a) None (Some b') is marked lt same opens = absurd same
-kept_other (Pair Both) h na nb i x y (Some a) (Some b) None is marked lt same opens = absurd same
-kept_other (Pair Both) h na nb i x y (Some a) (Some b) (Some b') is marked lt same opens =
+kept_other : (call : WritingCall) (at : Attached) (h : Halves) (na nb : ℕ) (x y : List ℕ) (a b b' : Option Image) → halves_of at ≡ Both → IsMarked at na nb a b
+    → IsWithin call (blocks_in at na nb) → StaysBut (λ k. k ≡ nb - 1) (contents_after call x b) b'
+    → (has_marks at ≡ true → 0 < nb → IfSome b' (λ image. is_open_at (nb - 1) image ≡ true))
+    → shown_by (with_halves h at) na nb (contents_after call y a) b' ≡ contents_after call x (shown_by at na nb a b)
+kept_other call Nothing h na nb x y a b b' is marked lt same opens = refl
+kept_other call Alone h na nb x y a b b' is marked lt same opens = absurd (both_is is)
+kept_other call Member h na nb x y a b b' is marked lt same opens = absurd (both_is is)
+kept_other call (Apart h') h na nb x y a b b' is marked lt same opens = refl
+kept_other call (Pair Both) h na nb x y None b b' is marked lt same opens = refl
+kept_other call (Pair Both) h na nb x y (Some a) None None is marked lt same opens = refl
+kept_other call (Pair Both) h na nb x y (Some a) None (Some b') is marked lt same opens = absurd same
+kept_other call (Pair Both) h na nb x y (Some a) (Some b) None is marked lt same opens = absurd same
+kept_other call (Pair Both) h na nb x y (Some a) (Some b) (Some b') is marked lt same opens =
     let n : ℕ = min na nb - 1 in
-    let closed : is_open_at (na - 1) (slice_set a i y) ≡ false = open_other (na - 1) i y a (omega (arith, lt)) ∙ marked.marked.0 in
-    ap Some (pick_second n (na - 1) (nb - 1) (slice_set a i y) b' closed opens
-    ∙ take_but_mark n (nb - 1) (slice_set b i x) b' (omega arith) same ∙ take-set-lt n b i x lt
-    ∙ ap (λ (l : Image). slice_set l i x) (sym (pick_closed n (na - 1) (nb - 1) a b marked.marked.1 ∙ marked.marked.2)))
-kept_other (Pair First) h na nb i x y a b b' is marked lt same opens = absurd (both_is is)
-kept_other (Pair Second) h na nb i x y a b b' is marked lt same opens = absurd (both_is is)
-kept_other (Pair Neither) h na nb i x y a b b' is marked lt same opens = absurd (both_is is)
+    let closed : is_open_at (na - 1) (image_after call y a) ≡ false = open_after call (na - 1) y a (within_more call n (na - 1) (omega arith) lt) ∙ marked.marked.0 in
+    ap Some (pick_second n (na - 1) (nb - 1) (image_after call y a) b' closed (opens refl marked.second_room)
+    ∙ take_but_mark n (nb - 1) (image_after call x b) b' (omega arith) same ∙ take_after call n x b lt
+    ∙ ap (λ (l : Image). image_after call x l) (sym (pick_closed n (na - 1) (nb - 1) a b marked.marked.1 ∙ marked.marked.2)))
+kept_other call (Pair First) h na nb x y a b b' is marked lt same opens = absurd (both_is is)
+kept_other call (Pair Second) h na nb x y a b b' is marked lt same opens = absurd (both_is is)
+kept_other call (Pair Neither) h na nb x y a b b' is marked lt same opens = absurd (both_is is)
 
 -- or it fails too, and its mark may be torn
-lost_cases : (h : Halves) (na nb i : ℕ) (x y : List ℕ) (a b b' : Image) (o : Bool) → is_open_at (nb - 1) b' ≡ o → IsMarked (Pair Both) na nb (Some a) (Some b) → i < blocks_in (Pair Both) na nb
-    → SameBut (λ k. k ≡ nb - 1) (slice_set b i x) b'
-    → StaysBut (λ k. k ≡ i) (shown_by (Pair Both) na nb (Some a) (Some b)) (shown_by (Pair h) na nb (Some (slice_set a i y)) (Some b'))
-lost_cases h na nb i x y a b b' true opens marked lt same =
-    stays_written (λ k. k ≡ i) i x (shown_by (Pair Both) na nb (Some a) (Some b)) (shown_by (Pair h) na nb (Some (slice_set a i y)) (Some b')) refl
-    (kept_other (Pair Both) h na nb i x y (Some a) (Some b) (Some b') refl marked lt same opens)
-lost_cases h na nb i x y a b b' false closed marked lt same =
-    let n : ℕ = min na nb - 1 in
-    stays_written (λ k. k ≡ i) i y (shown_by (Pair Both) na nb (Some a) (Some b)) (shown_by (Pair h) na nb (Some (slice_set a i y)) (Some b')) refl
-    (ap Some (pick_closed n (na - 1) (nb - 1) (slice_set a i y) b' closed ∙ take-set-lt n a i y lt
-    ∙ ap (λ (l : Image). slice_set l i y) (sym (pick_closed n (na - 1) (nb - 1) a b marked.marked.1))))
+lost_cases : (call : WritingCall) (h : Halves) (na nb : ℕ) (x y : List ℕ) (a b b' : Image) (o : Bool) → is_open_at (nb - 1) b' ≡ o → IsMarked (Pair Both) na nb (Some a) (Some b)
+    → IsWithin call (blocks_in (Pair Both) na nb) → SameBut (λ k. k ≡ nb - 1) (image_after call x b) b'
+    → (bytes : List ℕ) × (shown_by (Pair h) na nb (Some (image_after call y a)) (Some b') ≡ contents_after call bytes (shown_by (Pair Both) na nb (Some a) (Some b)))
+lost_cases call h na nb x y a b b' true opens marked lt same =
+    (x, kept_other call (Pair Both) h na nb x y (Some a) (Some b) (Some b') refl marked lt same (λ _ _. opens))
+lost_cases call h na nb x y a b b' false closed marked lt same =
+    let n : ℕ = min na nb - 1 in (
+      y,
+      ap Some (pick_closed n (na - 1) (nb - 1) (image_after call y a) b' closed ∙ take_after call n y a lt
+          ∙ ap (λ (l : Image). image_after call y l) (sym (pick_closed n (na - 1) (nb - 1) a b marked.marked.1))),
+    )
 
-lost_other : (at : Attached) (h : Halves) (na nb i : ℕ) (x y : List ℕ) (a b b' : Option Image) → halves_of at ≡ Both → IsMarked at na nb a b → i < blocks_in at na nb
-    → StaysBut (λ k. k ≡ nb - 1) (with_block i x b) b'
-    → StaysBut (λ k. k ≡ i) (shown_by at na nb a b) (shown_by (with_halves h at) na nb (with_block i y a) b')
-lost_other Nothing h na nb i x y a b b' is marked lt same = absurd (omega (arith, lt))
-lost_other Alone h na nb i x y a b b' is marked lt same = absurd (both_is is)
-lost_other Member h na nb i x y a b b' is marked lt same = absurd (both_is is)
-lost_other (Apart h') h na nb i x y a b b' is marked lt same = absurd (omega (arith, lt))
-lost_other (Pair Both) h na nb i x y None b b' is marked lt same = tt
-lost_other (Pair Both) h na nb i x y (Some a) None None is marked lt same = tt
-lost_other (Pair Both) h na nb i x y (Some a) None (Some b') is marked lt same = absurd same
-lost_other (Pair Both) h na nb i x y (Some a) (Some b) None is marked lt same = absurd same
-lost_other (Pair Both) h na nb i x y (Some a) (Some b) (Some b') is marked lt same =
-    lost_cases h na nb i x y a b b' (is_open_at (nb - 1) b') refl marked lt same
-lost_other (Pair First) h na nb i x y a b b' is marked lt same = absurd (both_is is)
-lost_other (Pair Second) h na nb i x y a b b' is marked lt same = absurd (both_is is)
-lost_other (Pair Neither) h na nb i x y a b b' is marked lt same = absurd (both_is is)
+lost_other : (call : WritingCall) (at : Attached) (h : Halves) (na nb : ℕ) (x y : List ℕ) (a b b' : Option Image) → halves_of at ≡ Both → IsMarked at na nb a b
+    → IsWithin call (blocks_in at na nb) → StaysBut (λ k. k ≡ nb - 1) (contents_after call x b) b'
+    → (bytes : List ℕ) × (shown_by (with_halves h at) na nb (contents_after call y a) b' ≡ contents_after call bytes (shown_by at na nb a b))
+lost_other call Nothing h na nb x y a b b' is marked lt same = (y, refl)
+lost_other call Alone h na nb x y a b b' is marked lt same = absurd (both_is is)
+lost_other call Member h na nb x y a b b' is marked lt same = absurd (both_is is)
+lost_other call (Apart h') h na nb x y a b b' is marked lt same = (y, refl)
+lost_other call (Pair Both) h na nb x y None b b' is marked lt same = (y, refl)
+lost_other call (Pair Both) h na nb x y (Some a) None None is marked lt same = (y, refl)
+lost_other call (Pair Both) h na nb x y (Some a) None (Some b') is marked lt same = absurd same
+lost_other call (Pair Both) h na nb x y (Some a) (Some b) None is marked lt same = absurd same
+lost_other call (Pair Both) h na nb x y (Some a) (Some b) (Some b') is marked lt same =
+    lost_cases call h na nb x y a b b' (is_open_at (nb - 1) b') refl marked lt same
+lost_other call (Pair First) h na nb x y a b b' is marked lt same = absurd (both_is is)
+lost_other call (Pair Second) h na nb x y a b b' is marked lt same = absurd (both_is is)
+lost_other call (Pair Neither) h na nb x y a b b' is marked lt same = absurd (both_is is)
 
 -- ---- over the values that calls leave
 
@@ -243,138 +259,87 @@ pub OnOk-always : {T E P : Type 0} (r : Result T E) → P → OnOk r P
 OnOk-always (Ok x) p = p
 OnOk-always (Err e) p = tt
 
--- two halves in use that have blocks have marks
-pub both_marks : (at : Attached) (na nb i : ℕ) → halves_of at ≡ Both → i < blocks_in at na nb → (has_marks at ≡ true) × (0 < na) × (0 < nb)
-both_marks Nothing na nb i is lt = absurd (omega (arith, lt))
-both_marks Alone na nb i is lt = absurd (both_is is)
-both_marks Member na nb i is lt = absurd (both_is is)
-both_marks (Pair h) na nb i is lt = (refl, omega (arith, lt), omega (arith, lt))
-both_marks (Apart h) na nb i is lt = absurd (omega (arith, lt))
-
-pub kept_first : (at at' : Attached) (h : Halves) (na nb na1 na' nb' i : ℕ) (x y : List ℕ) (a b a1 a' b' : Option Image) → halves_of at ≡ Both → IsMarked at na nb a b → i < blocks_in at na nb
-    → at' ≡ with_halves h at → na1 ≡ na → na' ≡ na1 → nb' ≡ nb → a1 ≡ with_block i x a → b' ≡ with_block i y b → StaysBut (λ k. k ≡ na1 - 1) a1 a'
-    → shown_by at' na' nb' a' b' ≡ with_block i x (shown_by at na nb a b)
-kept_first at at' h na nb na1 na' nb' i x y a b a1 a' b' is marked lt eat c1 ca cb ea eb same =
-    let there : StaysBut (λ k. k ≡ na1 - 1) (with_block i x a) a' = subst (λ (o : Option Image). StaysBut (λ k. k ≡ na1 - 1) o a') ea same in
+-- the first one went on
+pub kept_first : (call : WritingCall) (at at' : Attached) (h : Halves) (na nb na1 na' nb' : ℕ) (x y : List ℕ) (a b a1 a' b' : Option Image) → halves_of at ≡ Both → IsMarked at na nb a b
+    → IsWithin call (blocks_in at na nb) → at' ≡ with_halves h at → na1 ≡ na → na' ≡ na1 → nb' ≡ nb → a1 ≡ contents_after call x a → b' ≡ contents_after call y b
+    → StaysBut (λ k. k ≡ na1 - 1) a1 a' → shown_by at' na' nb' a' b' ≡ contents_after call x (shown_by at na nb a b)
+kept_first call at at' h na nb na1 na' nb' x y a b a1 a' b' is marked lt eat c1 ca cb ea eb same =
+    let there : StaysBut (λ k. k ≡ na1 - 1) (contents_after call x a) a' = subst (λ (o : Option Image). StaysBut (λ k. k ≡ na1 - 1) o a') ea same in
     ap (λ t. shown_by t na' nb' a' b') eat ∙ ap (λ n. shown_by (with_halves h at) n nb' a' b') (ca ∙ c1)
     ∙ ap (λ n. shown_by (with_halves h at) na n a' b') cb ∙ ap (λ o. shown_by (with_halves h at) na nb a' o) eb
-    ∙ kept_one at h na nb i x y a b a' is marked lt (subst (λ n. StaysBut (λ k. k ≡ n - 1) (with_block i x a) a') c1 there)
+    ∙ kept_one call at h na nb x y a b a' is marked lt (subst (λ n. StaysBut (λ k. k ≡ n - 1) (contents_after call x a) a') c1 there)
 
-pub kept_second : (at at' : Attached) (h : Halves) (na nb nb1 na' nb' i : ℕ) (x y : List ℕ) (a b b1 a' b' : Option Image) → halves_of at ≡ Both → IsMarked at na nb a b → i < blocks_in at na nb
-    → at' ≡ with_halves h at → nb1 ≡ nb → nb' ≡ nb1 → na' ≡ na → b1 ≡ with_block i x b → a' ≡ with_block i y a → StaysBut (λ k. k ≡ nb1 - 1) b1 b'
-    → IfSome b' (λ image. is_open_at (nb1 - 1) image ≡ true)
-    → shown_by at' na' nb' a' b' ≡ with_block i x (shown_by at na nb a b)
-kept_second at at' h na nb nb1 na' nb' i x y a b b1 a' b' is marked lt eat c1 cb ca eb ea same opens =
-    let there : StaysBut (λ k. k ≡ nb1 - 1) (with_block i x b) b' = subst (λ (o : Option Image). StaysBut (λ k. k ≡ nb1 - 1) o b') eb same in
-    ap (λ t. shown_by t na' nb' a' b') eat ∙ ap (λ n. shown_by (with_halves h at) na' n a' b') (cb ∙ c1)
+-- what it then shows, told of halves as they were
+second_now : (call : WritingCall) (at at' : Attached) (h : Halves) (na nb na' nb' : ℕ) (y : List ℕ) (a a' b' : Option Image) → at' ≡ with_halves h at → na' ≡ na → nb' ≡ nb
+    → a' ≡ contents_after call y a → shown_by at' na' nb' a' b' ≡ shown_by (with_halves h at) na nb (contents_after call y a) b'
+second_now call at at' h na nb na' nb' y a a' b' eat ca cb ea =
+    ap (λ t. shown_by t na' nb' a' b') eat ∙ ap (λ n. shown_by (with_halves h at) na' n a' b') cb
     ∙ ap (λ n. shown_by (with_halves h at) n nb a' b') ca ∙ ap (λ o. shown_by (with_halves h at) na nb o b') ea
-    ∙ kept_other at h na nb i x y a b b' is marked lt (subst (λ n. StaysBut (λ k. k ≡ n - 1) (with_block i x b) b') c1 there)
-    (subst (λ n. IfSome b' (λ image. is_open_at (n - 1) image ≡ true)) c1 opens)
 
-pub lost_second : (at at' : Attached) (h : Halves) (na nb nb1 na' nb' i : ℕ) (x y : List ℕ) (a b b1 a' b' : Option Image) → halves_of at ≡ Both → IsMarked at na nb a b → i < blocks_in at na nb
-    → at' ≡ with_halves h at → nb1 ≡ nb → nb' ≡ nb1 → na' ≡ na → b1 ≡ with_block i x b → a' ≡ with_block i y a → StaysBut (λ k. k ≡ nb1 - 1) b1 b'
-    → StaysBut (λ k. k ≡ i) (shown_by at na nb a b) (shown_by at' na' nb' a' b')
-lost_second at at' h na nb nb1 na' nb' i x y a b b1 a' b' is marked lt eat c1 cb ca eb ea same =
-    let there : StaysBut (λ k. k ≡ nb1 - 1) (with_block i x b) b' = subst (λ (o : Option Image). StaysBut (λ k. k ≡ nb1 - 1) o b') eb same in
-    let e : shown_by at' na' nb' a' b' ≡ shown_by (with_halves h at) na nb (with_block i y a) b' =
-    ap (λ t. shown_by t na' nb' a' b') eat ∙ ap (λ n. shown_by (with_halves h at) na' n a' b') (cb ∙ c1)
-    ∙ ap (λ n. shown_by (with_halves h at) n nb a' b') ca ∙ ap (λ o. shown_by (with_halves h at) na nb o b') ea in
-    subst (λ (o : Option Image). StaysBut (λ k. k ≡ i) (shown_by at na nb a b) o) (sym e)
-    (lost_other at h na nb i x y a b b' is marked lt (subst (λ n. StaysBut (λ k. k ≡ n - 1) (with_block i x b) b') c1 there))
+-- the second one went on
+pub kept_second : (call : WritingCall) (at at' : Attached) (h : Halves) (na nb nb1 na' nb' : ℕ) (x y : List ℕ) (a b b1 a' b' : Option Image) → halves_of at ≡ Both → IsMarked at na nb a b
+    → IsWithin call (blocks_in at na nb) → at' ≡ with_halves h at → nb1 ≡ nb → nb' ≡ nb1 → na' ≡ na → b1 ≡ contents_after call x b → a' ≡ contents_after call y a
+    → StaysBut (λ k. k ≡ nb1 - 1) b1 b' → (has_marks at ≡ true → 0 < nb1 → IfSome b' (λ image. is_open_at (nb1 - 1) image ≡ true))
+    → shown_by at' na' nb' a' b' ≡ contents_after call x (shown_by at na nb a b)
+kept_second call at at' h na nb nb1 na' nb' x y a b b1 a' b' is marked lt eat c1 cb ca eb ea same opens =
+    let there : StaysBut (λ k. k ≡ nb1 - 1) (contents_after call x b) b' = subst (λ (o : Option Image). StaysBut (λ k. k ≡ nb1 - 1) o b') eb same in
+    second_now call at at' h na nb na' nb' y a a' b' eat ca (cb ∙ c1) ea
+    ∙ kept_other call at h na nb x y a b b' is marked lt (subst (λ n. StaysBut (λ k. k ≡ n - 1) (contents_after call x b) b') c1 there)
+    (subst (λ n. has_marks at ≡ true → 0 < n → IfSome b' (λ image. is_open_at (n - 1) image ≡ true)) c1 opens)
 
--- after writes of both they are marked as before
-marked_each : (at : Attached) (na nb i : ℕ) (x : List ℕ) (a b : Option Image) → halves_of at ≡ Both → i < blocks_in at na nb → IsMarked at na nb a b
-    → IsMarked at na nb (with_block i x a) (with_block i x b)
-marked_each Nothing na nb i x a b is lt marked = tt
-marked_each Alone na nb i x a b is lt marked = tt
-marked_each Member na nb i x a b is lt marked = tt
-marked_each (Apart h) na nb i x a b is lt marked = tt
-marked_each (Pair First) na nb i x a b is lt marked = absurd (both_is is)
-marked_each (Pair Second) na nb i x a b is lt marked = absurd (both_is is)
-marked_each (Pair Neither) na nb i x a b is lt marked = absurd (both_is is)
-marked_each (Pair Both) na nb i x None b is lt marked = record { first_room = marked.first_room; second_room = marked.second_room; marked = tt }
-marked_each (Pair Both) na nb i x (Some a) None is lt marked = record { first_room = marked.first_room; second_room = marked.second_room; marked = tt }
-marked_each (Pair Both) na nb i x (Some a) (Some b) is lt marked =
+-- it failed too
+pub lost_second : (call : WritingCall) (at at' : Attached) (h : Halves) (na nb nb1 na' nb' : ℕ) (x y : List ℕ) (a b b1 a' b' : Option Image) → halves_of at ≡ Both → IsMarked at na nb a b
+    → IsWithin call (blocks_in at na nb) → at' ≡ with_halves h at → nb1 ≡ nb → nb' ≡ nb1 → na' ≡ na → b1 ≡ contents_after call x b → a' ≡ contents_after call y a
+    → StaysBut (λ k. k ≡ nb1 - 1) b1 b'
+    → (bytes : List ℕ) × (shown_by at' na' nb' a' b' ≡ contents_after call bytes (shown_by at na nb a b))
+lost_second call at at' h na nb nb1 na' nb' x y a b b1 a' b' is marked lt eat c1 cb ca eb ea same =
+    let there : StaysBut (λ k. k ≡ nb1 - 1) (contents_after call x b) b' = subst (λ (o : Option Image). StaysBut (λ k. k ≡ nb1 - 1) o b') eb same in
+    let lost = lost_other call at h na nb x y a b b' is marked lt (subst (λ n. StaysBut (λ k. k ≡ n - 1) (contents_after call x b) b') c1 there) in
+    (lost.0, second_now call at at' h na nb na' nb' y a a' b' eat ca (cb ∙ c1) ea ∙ lost.1)
+
+-- after a call of both they are marked as before
+marked_each : (call : WritingCall) (at : Attached) (na nb : ℕ) (x : List ℕ) (a b : Option Image) → halves_of at ≡ Both → IsWithin call (blocks_in at na nb) → IsMarked at na nb a b
+    → IsMarked at na nb (contents_after call x a) (contents_after call x b)
+marked_each call Nothing na nb x a b is lt marked = tt
+marked_each call Alone na nb x a b is lt marked = tt
+marked_each call Member na nb x a b is lt marked = tt
+marked_each call (Apart h) na nb x a b is lt marked = tt
+marked_each call (Pair First) na nb x a b is lt marked = absurd (both_is is)
+marked_each call (Pair Second) na nb x a b is lt marked = absurd (both_is is)
+marked_each call (Pair Neither) na nb x a b is lt marked = absurd (both_is is)
+marked_each call (Pair Both) na nb x None b is lt marked = record { first_room = marked.first_room; second_room = marked.second_room; marked = tt }
+marked_each call (Pair Both) na nb x (Some a) None is lt marked = record { first_room = marked.first_room; second_room = marked.second_room; marked = tt }
+marked_each call (Pair Both) na nb x (Some a) (Some b) is lt marked =
     let n : ℕ = min na nb - 1 in
     record {
       first_room = marked.first_room;
       second_room = marked.second_room;
       marked = (
-        open_other (na - 1) i x a (omega (arith, lt)) ∙ marked.marked.0,
-        open_other (nb - 1) i x b (omega (arith, lt)) ∙ marked.marked.1,
-        take-set-lt n a i x lt ∙ ap (λ (l : Image). slice_set l i x) marked.marked.2 ∙ sym (take-set-lt n b i x lt),
+        open_after call (na - 1) x a (within_more call n (na - 1) (omega arith) lt) ∙ marked.marked.0,
+        open_after call (nb - 1) x b (within_more call n (nb - 1) (omega arith) lt) ∙ marked.marked.1,
+        take_after call n x a lt ∙ ap (λ (l : Image). image_after call x l) marked.marked.2 ∙ sym (take_after call n x b lt),
       );
     }
 
-pub marked_both : (at : Attached) (na nb na' nb' i : ℕ) (x : List ℕ) (a b a' b' : Option Image) → halves_of at ≡ Both → i < blocks_in at na nb
-    → na' ≡ na → nb' ≡ nb → a' ≡ with_block i x a → b' ≡ with_block i x b → IsMarked at na nb a b → IsMarked at na' nb' a' b'
-marked_both at na nb na' nb' i x a b a' b' is lt ca cb ea eb marked =
+pub marked_both : (call : WritingCall) (at : Attached) (na nb na' nb' : ℕ) (x : List ℕ) (a b a' b' : Option Image) → halves_of at ≡ Both → IsWithin call (blocks_in at na nb)
+    → na' ≡ na → nb' ≡ nb → a' ≡ contents_after call x a → b' ≡ contents_after call x b → IsMarked at na nb a b → IsMarked at na' nb' a' b'
+marked_both call at na nb na' nb' x a b a' b' is lt ca cb ea eb marked =
     subst (λ n. IsMarked at n nb' a' b') (sym ca) (subst (λ n. IsMarked at na n a' b') (sym cb)
-    (subst (λ (o : Option Image). IsMarked at na nb o b') (sym ea) (subst (λ (o : Option Image). IsMarked at na nb (with_block i x a) o) (sym eb)
-    (marked_each at na nb i x a b is lt marked))))
+    (subst (λ (o : Option Image). IsMarked at na nb o b') (sym ea) (subst (λ (o : Option Image). IsMarked at na nb (contents_after call x a) o) (sym eb)
+    (marked_each call at na nb x a b is lt marked))))
 
--- ---- one of two halves didn't settle
+-- a barrier changes nothing
+pub after_barrier : (bytes : List ℕ) (known : Option Image) → contents_after Barrier bytes known ≡ known
+after_barrier bytes None = refl
+after_barrier bytes (Some image) = refl
 
--- the first one goes on, though its mark may be torn
-stays_one : (at : Attached) (h : Halves) (na nb : ℕ) (a b a' : Option Image) → halves_of at ≡ Both → IsMarked at na nb a b → StaysBut (λ k. k ≡ na - 1) a a'
-    → shown_by (with_halves h at) na nb a' b ≡ shown_by at na nb a b
-stays_one Nothing h na nb a b a' is marked same = refl
-stays_one Alone h na nb a b a' is marked same = absurd (both_is is)
-stays_one Member h na nb a b a' is marked same = absurd (both_is is)
-stays_one (Apart h') h na nb a b a' is marked same = refl
-stays_one (Pair First) h na nb a b a' is marked same = absurd (both_is is)
-stays_one (Pair Second) h na nb a b a' is marked same = absurd (both_is is)
-stays_one (Pair Neither) h na nb a b a' is marked same = absurd (both_is is)
-stays_one (Pair Both) h na nb None b None is marked same = refl
-stays_one (Pair Both) h na nb None b (Some a') is marked same = absurd same
-stays_one (Pair Both) h na nb (Some a) None None is marked same = absurd same
-stays_one (Pair Both) h na nb (Some a) None (Some a') is marked same = refl
-stays_one (Pair Both) h na nb (Some a) (Some b) None is marked same = absurd same
-stays_one (Pair Both) h na nb (Some a) (Some b) (Some a') is marked same =
-    let n : ℕ = min na nb - 1 in
-    ap Some (pick_closed n (na - 1) (nb - 1) a' b marked.marked.1 ∙ take_but_mark n (na - 1) a a' (omega arith) same
-    ∙ sym (pick_closed n (na - 1) (nb - 1) a b marked.marked.1))
+-- no call leaves each block with the bytes that it has
+pub nothing_did : (call : WritingCall) (known : Option Image) → (bytes : List ℕ) × (known ≡ contents_after call bytes known)
+nothing_did Barrier known = ([], sym (after_barrier [] known))
+nothing_did (Write b from) None = ([], refl)
+nothing_did (Write b from) (Some image) = (slice_index_or image b [], ap Some (sym (set-get_or image b [])))
 
--- the second one goes on, whose mark may be open or not
-stays_cases : (n ma mb : ℕ) (a b b' : Image) (o : Bool) → is_open_at mb b' ≡ o → is_open_at ma a ≡ false → is_open_at mb b ≡ false → take n a ≡ take n b → take n b' ≡ take n b
-    → pick n ma mb a b' ≡ pick n ma mb a b
-stays_cases n ma mb a b b' true opens ca cb same still = pick_second n ma mb a b' ca opens ∙ still ∙ sym same ∙ sym (pick_closed n ma mb a b cb)
-stays_cases n ma mb a b b' false closed ca cb same still = pick_closed n ma mb a b' closed ∙ sym (pick_closed n ma mb a b cb)
-
-stays_other : (at : Attached) (h : Halves) (na nb : ℕ) (a b b' : Option Image) → halves_of at ≡ Both → IsMarked at na nb a b → StaysBut (λ k. k ≡ nb - 1) b b'
-    → shown_by (with_halves h at) na nb a b' ≡ shown_by at na nb a b
-stays_other Nothing h na nb a b b' is marked same = refl
-stays_other Alone h na nb a b b' is marked same = absurd (both_is is)
-stays_other Member h na nb a b b' is marked same = absurd (both_is is)
-stays_other (Apart h') h na nb a b b' is marked same = refl
-stays_other (Pair First) h na nb a b b' is marked same = absurd (both_is is)
-stays_other (Pair Second) h na nb a b b' is marked same = absurd (both_is is)
-stays_other (Pair Neither) h na nb a b b' is marked same = absurd (both_is is)
-stays_other (Pair Both) h na nb None b b' is marked same = refl
-stays_other (Pair Both) h na nb (Some a) None None is marked same = refl
-stays_other (Pair Both) h na nb (Some a) None (Some b') is marked same = absurd same
-stays_other (Pair Both) h na nb (Some a) (Some b) None is marked same = absurd same
-stays_other (Pair Both) h na nb (Some a) (Some b) (Some b') is marked same =
-    let n : ℕ = min na nb - 1 in
-    ap Some (stays_cases n (na - 1) (nb - 1) a b b' (is_open_at (nb - 1) b') refl marked.marked.0 marked.marked.1 marked.marked.2 (take_but_mark n (nb - 1) b b' (omega arith) same))
-
-pub stays_first : (at at' : Attached) (h : Halves) (na nb na1 na' nb' : ℕ) (a b a1 a' b' : Option Image) → halves_of at ≡ Both → IsMarked at na nb a b
-    → at' ≡ with_halves h at → na1 ≡ na → na' ≡ na1 → nb' ≡ nb → a1 ≡ a → b' ≡ b → StaysBut (λ k. k ≡ na1 - 1) a1 a'
-    → shown_by at' na' nb' a' b' ≡ shown_by at na nb a b
-stays_first at at' h na nb na1 na' nb' a b a1 a' b' is marked eat c1 ca cb ea eb same =
-    let there : StaysBut (λ k. k ≡ na1 - 1) a a' = subst (λ (o : Option Image). StaysBut (λ k. k ≡ na1 - 1) o a') ea same in
-    ap (λ t. shown_by t na' nb' a' b') eat ∙ ap (λ n. shown_by (with_halves h at) n nb' a' b') (ca ∙ c1)
-    ∙ ap (λ n. shown_by (with_halves h at) na n a' b') cb ∙ ap (λ o. shown_by (with_halves h at) na nb a' o) eb
-    ∙ stays_one at h na nb a b a' is marked (subst (λ n. StaysBut (λ k. k ≡ n - 1) a a') c1 there)
-
-pub stays_second : (at at' : Attached) (h : Halves) (na nb nb1 na' nb' : ℕ) (a b b1 a' b' : Option Image) → halves_of at ≡ Both → IsMarked at na nb a b
-    → at' ≡ with_halves h at → nb1 ≡ nb → nb' ≡ nb1 → na' ≡ na → b1 ≡ b → a' ≡ a → StaysBut (λ k. k ≡ nb1 - 1) b1 b'
-    → shown_by at' na' nb' a' b' ≡ shown_by at na nb a b
-stays_second at at' h na nb nb1 na' nb' a b b1 a' b' is marked eat c1 cb ca eb ea same =
-    let there : StaysBut (λ k. k ≡ nb1 - 1) b b' = subst (λ (o : Option Image). StaysBut (λ k. k ≡ nb1 - 1) o b') eb same in
-    ap (λ t. shown_by t na' nb' a' b') eat ∙ ap (λ n. shown_by (with_halves h at) na' n a' b') (cb ∙ c1)
-    ∙ ap (λ n. shown_by (with_halves h at) n nb a' b') ca ∙ ap (λ o. shown_by (with_halves h at) na nb o b') ea
-    ∙ stays_other at h na nb a b b' is marked (subst (λ n. StaysBut (λ k. k ≡ n - 1) b b') c1 there)
+-- ---- what is kept of the half that went on
 
 settled_one : (P Q : Type 0) (at : Attached) (na nb : ℕ) → halves_of at ≡ Both → (has_marks at ≡ true → 0 < na → P)
     → (uses_first (halves_of (with_halves First at)) ≡ true → 0 < blocks_in (with_halves First at) na nb → P)
@@ -411,7 +376,7 @@ settled_second P Q (Ok x) at at' na nb nb1 na' nb' is eat c1 cb ca only =
     subst (λ t. (uses_first (halves_of t) ≡ true → 0 < blocks_in t na' nb' → P) × (uses_second (halves_of t) ≡ true → 0 < blocks_in t na' nb' → Q)) (sym eat)
     (settled_other P Q at na' nb' is (λ marks lt. only marks (omega (arith, lt, cb))))
 
--- what follows from what holds at Ok, and holds at an error
-pub either_way : {T E P Q : Type 0} (r : Result T E) → OnOk r P → OnErr r Q → (P → Q) → Q
-either_way (Ok x) p q f = f p
-either_way (Err e) p q f = q
+-- what follows from what holds at Ok, and from what holds at an error
+pub either_way : {T E P Q S : Type 0} (r : Result T E) → OnOk r P → OnErr r Q → (P → S) → (Q → S) → S
+either_way (Ok x) p q f h = f p
+either_way (Err e) p q f h = h q

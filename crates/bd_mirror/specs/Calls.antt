@@ -4,10 +4,10 @@ use Rattle.bd_io.specs.Cause.{Rose}
 use Rattle.bd_device.specs.Blocks.{Image}
 use Rattle.bd_device.specs.Device.{left_now}
 use Rattle.bd_device.specs.Moments.{IsOnly}
+use Rattle.bd_device.specs.declared.counts.Counts.{Counts}
 use Rattle.bd_device.specs.declared.device.Device.{Ghosts}
 use Rattle.bd_mirror.specs.Halves.{halves_of, with_halves, uses_first, uses_second, blocks_in}
 use Rattle.bd_mirror.specs.Contents.{shown_by, IsMarked, LeavesShown}
-use Rattle.bd_mirror.specs.declared.counts.Counts.{Counts}
 use Rattle.bd_mirror.specs.declared.halves.Halves.{Halves}
 use Rattle.bd_mirror.specs.declared.halves.Attached.{Attached}
 use Rattle.bd_mirror.specs.declared.mirror.Mirror.{Mirror}

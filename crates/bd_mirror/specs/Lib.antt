@@ -1,6 +1,6 @@
 pub mod Calls
 pub mod Contents
-pub mod Counts
 pub mod Crashes
 pub mod Halves
 pub mod Names
+pub mod Writing

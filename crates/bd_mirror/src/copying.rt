@@ -1,4 +1,4 @@
-ghost use Rattle.std.specs.Prelude.{◌≡◌, ◌<◌, ◌≤◌, ◌+◌, ◌-◌, ◌⊎◌, ◌&&◌, true, false, not, Some, IfOk, IfSome, OnOk, OnErr, slice_index};
+ghost use Rattle.std.specs.Prelude.{◌≡◌, ◌<◌, ◌≤◌, ◌+◌, ◌-◌, ◌⊎◌, ◌&&◌, true, false, if◌then◌else◌, not, Some, IfOk, IfSome, OnOk, OnErr, is_ok, slice_index};
 ghost use Rattle.bd_io.specs.Cause.{Rose};
 ghost use Rattle.bd_device.specs.Blocks.{Image, HasBlocks};
 ghost use Rattle.bd_device.specs.Changes.{StaysBut, IsBeforeBut, IsInRange};
@@ -6,9 +6,10 @@ ghost use Rattle.bd_device.specs.Device.{left_now, Goes, OnlyReads, FailsLast, S
 ghost use Rattle.bd_device.specs.Moments.{TornAt, IsOnly};
 ghost use Rattle.bd_mirror.specs.Contents.{is_open_at, IsCopy};
 ghost use Rattle.bd_mirror.specs.Crashes.{IsPickOf, Stretch, GoesOn};
-ghost use Rattle.bd_mirror.specs.Halves.{has_marks};
+ghost use Rattle.bd_mirror.specs.Halves.{has_marks, with_halves};
+ghost use Rattle.bd_mirror.specs.declared.halves.Halves.TheVariants.{Neither};
 
-use crate::halves::Attached;
+use crate::halves::{Attached, Halves};
 use bd_device::{BLOCK_SIZE, Device, committed_block, is_committed, read_block, settle};
 use bd_io::Failed;
 
@@ -69,7 +70,7 @@ fn closed_block() -> [u8; BLOCK_SIZE]
 }
 
 /// Opens the mark of a half of what is attached, where there is one.
-pub fn open_last<D: Device>(half: &mut D, attached: Attached) -> Result<(), Failed>
+fn open_last<D: Device>(half: &mut D, attached: Attached) -> Result<(), Failed>
     ensures opened { OnOk result (has_marks attached ≡ true → 0 < D.block_count half.old
         → IfSome (D.contents half.new)
         (λ image. is_open_at (D.block_count half.old - 1) image ≡ true)) }
@@ -86,6 +87,32 @@ pub fn open_last<D: Device>(half: &mut D, attached: Attached) -> Result<(), Fail
         (Attached::Pair(_), Some(mark)) => open_mark(half, mark),
         _ => Ok(()),
     }
+}
+
+/// Goes on with one of two halves: opens its mark, where there is one. Where that fails, no half is
+/// in use.
+pub fn go_on_alone<D: Device>(
+    half: &mut D,
+    attached: &mut Attached,
+    alone: Halves,
+) -> Result<(), Failed>
+    ensures opened { OnOk result (has_marks attached.old ≡ true → 0 < D.block_count half.old
+        → IfSome (D.contents half.new)
+        (λ image. is_open_at (D.block_count half.old - 1) image ≡ true)) }
+    ensures others { StaysBut (λ i. i ≡ D.block_count half.old - 1)
+        (D.contents half.old) (D.contents half.new) }
+    ensures durable { OnOk result (has_marks attached.old ≡ true → 0 < D.block_count half.old
+        → IsOnly (D.contents half.new) (left_now D.Device half.new)) }
+    ensures time { Goes D.Device half.old half.new
+        (TornAt (D.block_count half.old - 1) (left_now D.Device half.old)) }
+    ensures stays { Stays D.Device half.old half.new }
+    ensures cause { FailsLast D.Device half.old half.new result }
+    ensures alone { attached.new
+        ≡ with_halves (if is_ok result then alone else Neither) attached.old }
+{
+    let result = open_last(half, *attached);
+    *attached = attached.kept(alone, result.is_ok());
+    result
 }
 
 /// Opens a half's mark where it reads closed, and waits until it is kept.

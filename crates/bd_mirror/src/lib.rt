@@ -4,8 +4,8 @@
 #![tactic(auto)]
 
 mod copying;
-mod counts;
 mod halves;
 mod mirror;
+mod writing;
 
 pub use mirror::Mirror;

@@ -1,24 +1,24 @@
-ghost use Rattle.std.specs.Prelude.{◌≡◌, ◌≢◌, [], ◌<◌, ◌≤◌, ◌+◌, ◌-◌, ◌^◌, if◌then◌else◌, ◌⊎◌, true, false, IsTrue, None, Some, IfSome, IfNone, IfOk, OnOk, OnErr, is_ok, is_err, slice_get};
+ghost use Rattle.std.specs.Prelude.{◌≡◌, ◌≢◌, ℕ, List, [], ◌<◌, ◌≤◌, ◌+◌, ◌-◌, ◌^◌, if◌then◌else◌, ◌⊎◌, true, false, IsTrue, None, Some, IfSome, IfNone, IfOk, OnOk, OnErr, is_ok, is_err, slice_get};
 ghost use Rattle.bd_io.specs.Cause.{HasCause, IsCounted, Rose};
-ghost use Rattle.bd_device.specs.Calls.{faults_after};
+ghost use Rattle.bd_device.specs.Calls.{faults_after, no_calls};
 ghost use Rattle.bd_device.specs.Blocks.{Image, with_block, ChangesOnly};
 ghost use Rattle.bd_mirror.specs.declared.halves.Halves.TheVariants.{Both, First, Second, Neither};
 ghost use Rattle.bd_mirror.specs.declared.halves.Attached.TheVariants.{Nothing, Member};
 ghost use Rattle.std.specs.Option.{option_map};
 ghost use Rattle.bd_mirror.specs.Contents.{is_open_at};
-ghost use Rattle.bd_mirror.specs.Counts.{no_calls};
 ghost use Rattle.bd_mirror.specs.Crashes.{IsPickOf, Stretch, GoesOn, LosesNothing};
 ghost use Rattle.bd_mirror.specs.Names.{HasPlus, IsNamed, first_name, second_name};
 ghost use Rattle.bd_device.specs.Changes.{StaysBut};
 ghost use Rattle.bd_device.specs.Device.{left_now, Goes, FailsLast, Stays};
 ghost use Rattle.bd_device.specs.Moments.{TornAt, IsOnly};
 ghost use Rattle.bd_mirror.specs.Halves.{has_marks, halves_of, with_halves, uses_first, uses_second, blocks_in, EachDid, LeftOnly, AttachedTo, is_two, is_too_many};
+ghost use Rattle.bd_mirror.specs.Writing.{IsWithin, IsBarrier, bytes_of, contents_after};
 ghost use Rattle.bd_mirror.specs.Calls.{blocks_now, shown_now, shown_of, IsMirror, IsMade, LeavesWhatItShows, attached_as, AreSettled, in_use, attached_to, first_of, second_of, counts_of, calls_of, faults_of, write_faults_of, last_of, IsFull, FirstFailed, SecondFailed, HalvesStay};
 
-use crate::copying::{is_alone, is_open, mirror_onto, open_last, open_member};
-use crate::counts::Counts;
+use crate::copying::{go_on_alone, is_alone, is_open, mirror_onto, open_member};
 use crate::halves::{Attached, Halves};
-use bd_device::{Attach, BLOCK_SIZE, Device};
+use crate::writing::WritingCall;
+use bd_device::{Attach, BLOCK_SIZE, Counts, Device};
 use bd_io::Failed;
 
 /// A device over two others, its halves, which keeps what it is given on both. A name without `+`
@@ -86,18 +86,20 @@ impl<A: Device, B: Device> Mirror<A, B> {
         }
     }
 
-    // Writes a block of each half in use.
-    fn write_halves(&mut self, b: u64, from: &[u8; BLOCK_SIZE]) -> Result<(), Failed>
-        requires { b < blocks_in self.old.attached
-            (A.block_count self.old.first) (B.block_count self.old.second) }
-        ensures written { OnOk result (IsMirror A.Device B.Device self.old
-            → shown_now A.Device B.Device self.new
-            ≡ with_block b from.now (shown_now A.Device B.Device self.old)) }
-        ensures others { OnErr result (IsMirror A.Device B.Device self.old
-            → StaysBut (λ i. i ≡ b) (shown_now A.Device B.Device self.old)
-            (shown_now A.Device B.Device self.new)) }
+    // Makes a call of each half in use.
+    fn call_halves(&mut self, call: WritingCall) -> Result<(), Failed>
+        requires { IsWithin call (blocks_in self.old.attached
+            (A.block_count self.old.first) (B.block_count self.old.second)) }
+        ensures done { OnOk result (IsMirror A.Device B.Device self.old
+            → shown_now A.Device B.Device self.new ≡ contents_after call.entry
+            (bytes_of call.entry) (shown_now A.Device B.Device self.old)) }
+        ensures others { OnErr result (IsMirror A.Device B.Device self.old → (bytes : List ℕ)
+            × (shown_now A.Device B.Device self.new
+            ≡ contents_after call.entry bytes (shown_now A.Device B.Device self.old))) }
         ensures mirror { IsMirror A.Device B.Device self.old
             → IsMirror A.Device B.Device self.new }
+        ensures durable { OnOk result (IsBarrier call.entry
+            → AreSettled A.Device B.Device self.new) }
         ensures why { OnErr result (EachDid (halves_of self.old.attached)
             (FirstFailed A.Device self.old self.new) (SecondFailed B.Device self.old self.new)) }
         ensures in_use { LeftOnly (halves_of self.old.attached) (halves_of self.new.attached)
@@ -107,25 +109,27 @@ impl<A: Device, B: Device> Mirror<A, B> {
     {
         match self.attached.halves() {
             Halves::Neither => Err(Failed),
-            Halves::First => self.first.write(b, from),
-            Halves::Second => self.second.write(b, from),
-            Halves::Both => self.write_both(b, from),
+            Halves::First => call.make(&mut self.first),
+            Halves::Second => call.make(&mut self.second),
+            Halves::Both => self.call_both(call),
         }
     }
 
-    // Writes a block of both halves.
-    fn write_both(&mut self, b: u64, from: &[u8; BLOCK_SIZE]) -> Result<(), Failed>
+    // Makes a call of both halves, and goes on with one of them where the other one fails.
+    fn call_both(&mut self, call: WritingCall) -> Result<(), Failed>
         requires both { halves_of self.old.attached ≡ Both }
-        requires room { b < blocks_in self.old.attached
-            (A.block_count self.old.first) (B.block_count self.old.second) }
-        ensures written { OnOk result (IsMirror A.Device B.Device self.old
-            → shown_now A.Device B.Device self.new
-            ≡ with_block b from.now (shown_now A.Device B.Device self.old)) }
-        ensures others { OnErr result (IsMirror A.Device B.Device self.old
-            → StaysBut (λ i. i ≡ b) (shown_now A.Device B.Device self.old)
-            (shown_now A.Device B.Device self.new)) }
+        requires room { IsWithin call (blocks_in self.old.attached
+            (A.block_count self.old.first) (B.block_count self.old.second)) }
+        ensures done { OnOk result (IsMirror A.Device B.Device self.old
+            → shown_now A.Device B.Device self.new ≡ contents_after call.entry
+            (bytes_of call.entry) (shown_now A.Device B.Device self.old)) }
+        ensures others { OnErr result (IsMirror A.Device B.Device self.old → (bytes : List ℕ)
+            × (shown_now A.Device B.Device self.new
+            ≡ contents_after call.entry bytes (shown_now A.Device B.Device self.old))) }
         ensures mirror { IsMirror A.Device B.Device self.old
             → IsMirror A.Device B.Device self.new }
+        ensures durable { OnOk result (IsBarrier call.entry
+            → AreSettled A.Device B.Device self.new) }
         ensures why { OnErr result (FirstFailed A.Device self.old self.new
             × SecondFailed B.Device self.old self.new) }
         ensures in_use { LeftOnly Both (halves_of self.new.attached)
@@ -133,117 +137,17 @@ impl<A: Device, B: Device> Mirror<A, B> {
         ensures stays { HalvesStay A.Device B.Device self.old self.new }
         ensures counts { self.new.counts ≡ self.old.counts }
     {
-        let first = self.first.write(b, from);
-        let second = self.second.write(b, from);
+        let first = call.make(&mut self.first);
+        let second = call.make(&mut self.second);
         match (first, second) {
             (Ok(()), Ok(())) => Ok(()),
-            (Ok(()), Err(_)) => self.keep_first(),
-            (Err(_), Ok(())) => self.keep_second(),
+            (Ok(()), Err(_)) => go_on_alone(&mut self.first, &mut self.attached, Halves::First),
+            (Err(_), Ok(())) => go_on_alone(&mut self.second, &mut self.attached, Halves::Second),
             (Err(failed), Err(_)) => {
                 self.attached = self.attached.with(Halves::Neither);
                 Err(failed)
             }
         }
-    }
-
-    // Waits until all that was written is kept on each half in use.
-    fn settle_halves(&mut self) -> Result<(), Failed>
-        ensures kept { IsMirror A.Device B.Device self.old
-            → shown_now A.Device B.Device self.new ≡ shown_now A.Device B.Device self.old }
-        ensures mirror { IsMirror A.Device B.Device self.old
-            → IsMirror A.Device B.Device self.new }
-        ensures durable { OnOk result (AreSettled A.Device B.Device self.new) }
-        ensures why { OnErr result (EachDid (halves_of self.old.attached)
-            (FirstFailed A.Device self.old self.new) (SecondFailed B.Device self.old self.new)) }
-        ensures in_use { LeftOnly (halves_of self.old.attached) (halves_of self.new.attached)
-            (FirstFailed A.Device self.old self.new) (SecondFailed B.Device self.old self.new) }
-        ensures stays { HalvesStay A.Device B.Device self.old self.new }
-        ensures counts { self.new.counts ≡ self.old.counts }
-    {
-        match self.attached.halves() {
-            Halves::Neither => Err(Failed),
-            Halves::First => self.first.barrier(),
-            Halves::Second => self.second.barrier(),
-            Halves::Both => self.settle_both(),
-        }
-    }
-
-    // Waits until all that was written is kept on both halves.
-    fn settle_both(&mut self) -> Result<(), Failed>
-        requires both { halves_of self.old.attached ≡ Both }
-        ensures kept { IsMirror A.Device B.Device self.old
-            → shown_now A.Device B.Device self.new ≡ shown_now A.Device B.Device self.old }
-        ensures mirror { IsMirror A.Device B.Device self.old
-            → IsMirror A.Device B.Device self.new }
-        ensures durable { OnOk result (AreSettled A.Device B.Device self.new) }
-        ensures why { OnErr result (FirstFailed A.Device self.old self.new
-            × SecondFailed B.Device self.old self.new) }
-        ensures in_use { LeftOnly Both (halves_of self.new.attached)
-            (FirstFailed A.Device self.old self.new) (SecondFailed B.Device self.old self.new) }
-        ensures stays { HalvesStay A.Device B.Device self.old self.new }
-        ensures counts { self.new.counts ≡ self.old.counts }
-    {
-        let first = self.first.barrier();
-        let second = self.second.barrier();
-        match (first, second) {
-            (Ok(()), Ok(())) => Ok(()),
-            (Ok(()), Err(_)) => self.keep_first(),
-            (Err(_), Ok(())) => self.keep_second(),
-            (Err(failed), Err(_)) => {
-                self.attached = self.attached.with(Halves::Neither);
-                Err(failed)
-            }
-        }
-    }
-
-    // Goes on with the first of two halves: opens its mark, where there is one.
-    fn keep_first(&mut self) -> Result<(), Failed>
-        ensures opened { OnOk result
-            (has_marks self.old.attached ≡ true → 0 < A.block_count self.old.first
-            → IfSome (A.contents self.new.first)
-            (λ image. is_open_at (A.block_count self.old.first - 1) image ≡ true)) }
-        ensures others { StaysBut (λ i. i ≡ A.block_count self.old.first - 1)
-            (A.contents self.old.first) (A.contents self.new.first) }
-        ensures durable { OnOk result
-            (has_marks self.old.attached ≡ true → 0 < A.block_count self.old.first
-            → IsOnly (A.contents self.new.first) (left_now A.Device self.new.first)) }
-        ensures time { Goes A.Device self.old.first self.new.first
-            (TornAt (A.block_count self.old.first - 1) (left_now A.Device self.old.first)) }
-        ensures stays { Stays A.Device self.old.first self.new.first }
-        ensures cause { FailsLast A.Device self.old.first self.new.first result }
-        ensures after { self.new ≡ record self.old {
-          first = self.new.first;
-          attached = with_halves (if is_ok result then First else Neither) self.old.attached;
-        } }
-    {
-        let result = open_last(&mut self.first, self.attached);
-        self.attached = self.attached.kept(Halves::First, result.is_ok());
-        result
-    }
-
-    // Goes on with the second of two halves: opens its mark, where there is one.
-    fn keep_second(&mut self) -> Result<(), Failed>
-        ensures opened { OnOk result
-            (has_marks self.old.attached ≡ true → 0 < B.block_count self.old.second
-            → IfSome (B.contents self.new.second)
-            (λ image. is_open_at (B.block_count self.old.second - 1) image ≡ true)) }
-        ensures others { StaysBut (λ i. i ≡ B.block_count self.old.second - 1)
-            (B.contents self.old.second) (B.contents self.new.second) }
-        ensures durable { OnOk result
-            (has_marks self.old.attached ≡ true → 0 < B.block_count self.old.second
-            → IsOnly (B.contents self.new.second) (left_now B.Device self.new.second)) }
-        ensures time { Goes B.Device self.old.second self.new.second
-            (TornAt (B.block_count self.old.second - 1) (left_now B.Device self.old.second)) }
-        ensures stays { Stays B.Device self.old.second self.new.second }
-        ensures cause { FailsLast B.Device self.old.second self.new.second result }
-        ensures after { self.new ≡ record self.old {
-          second = self.new.second;
-          attached = with_halves (if is_ok result then Second else Neither) self.old.attached;
-        } }
-    {
-        let result = open_last(&mut self.second, self.attached);
-        self.attached = self.attached.kept(Halves::Second, result.is_ok());
-        result
     }
 }
 
@@ -335,7 +239,7 @@ impl<A: Device, B: Device> Device for Mirror<A, B> {
             ≡ faults_after (write_faults_of self.old) result }
         ensures calls { IsCounted (calls_of self.old) (calls_of self.new) result }
     {
-        let result = self.write_halves(b, from);
+        let result = self.call_halves(WritingCall::Write(b, from));
         self.counts.settle_writing(result.is_ok())
     }
 
@@ -361,7 +265,7 @@ impl<A: Device, B: Device> Device for Mirror<A, B> {
             ≡ faults_after (write_faults_of self.old) result }
         ensures calls { IsCounted (calls_of self.old) (calls_of self.new) result }
     {
-        let result = self.settle_halves();
+        let result = self.call_halves(WritingCall::Barrier);
         self.counts.settle_writing(result.is_ok())
     }
 

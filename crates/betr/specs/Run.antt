@@ -105,15 +105,15 @@ abbrev pub seen_in_memory : MemoryDevice → Seen
 seen_in_memory d =
     seen (Some (attached_image d)) (attached_size d) (λ _. Some (held_image d)) d.plan.calls
 
--- a device without blocks, which shows for each name what it showed
-pub record Detached (before now : Seen) : Type 0 where
+-- a device without blocks, which shows for the image what it showed
+pub record Detached (image : List ℕ) (before now : Seen) : Type 0 where
   pub blocks : now.blocks ≡ 0
-  pub after : (name : List ℕ) → now.shows name ≡ before.shows name
+  pub after : now.shows image ≡ before.shows image
 
 -- the image is attached as it is, by one call and no other; where it fails, the device is detached
 pub record OnlyAttaches (image : List ℕ) (status : ℕ) (before now : Seen) : Type 0 where
   pub attached : status ≢ 3 → now.contents ≡ before.shows image
-  pub detached : status ≡ 3 → Detached before now
+  pub detached : status ≡ 3 → Detached image before now
   pub once : now.calls ≡ next_count before.calls
 
 -- what a call does with the device

@@ -1,4 +1,4 @@
-use Rattle.std.proofs.Common.{◌≡◌, ◌≤◌, refl, sym, subst, arith, ◌∙◌, Option}
+use Rattle.std.proofs.Common.{refl, sym, subst, arith, ◌∙◌, Option}
 use Rattle.bd_device.specs.Blocks.{Image}
 use Rattle.bd_device.specs.Changes.{StaysBut, IsInRange, IsBeforeBut}
 use Rattle.bd_device.specs.Device.{left_now}

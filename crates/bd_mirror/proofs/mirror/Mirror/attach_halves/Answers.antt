@@ -1,4 +1,4 @@
-use Rattle.std.proofs.Common.{◌≡◌, arith, ◌+◌, ◌∙◌, sym, subst, ap, List, ℕ}
+use Rattle.std.proofs.Common.{arith, ◌+◌, ◌∙◌, sym, subst}
 use Rattle.bd_mirror.specs.Calls.{shown_now, attached_as}
 use Rattle.bd_device.proofs.Refusals.{IfNone-always}
 use Rattle.bd_mirror.specs.Crashes.{LosesNothing}

@@ -1,4 +1,4 @@
-use Rattle.std.proofs.Common.{◌≡◌, arith}
+use Rattle.std.proofs.Common.{arith}
 use Rattle.bd_device.specs.Moments.{Nothing}
 use Rattle.bd_device.proofs.Moments.{goes_on, by_name}
 use Rattle.bd_device.proofs.Refusals.{IfNone-always}
@@ -41,7 +41,7 @@ returns-in_err-attach-clause-inside g c =
     loses_before c.args.size (λ d. g.A.Attach.shows d c.args.first.now) (λ d. g.B.Attach.shows d c.args.second.now)
     (λ d. g.A.Attach.left_behind d c.args.first.now) (λ d. g.B.Attach.left_behind d c.args.second.now)
     g.A.Device.call_count g.B.Device.call_count c.args.self.now.first c.attach.new.self c.args.self.now.second c.args.self.now.second
-    (none_then c.args.size c.in_err-attach.ensures.behind_time (λ all. all c.args.first.now))
+    c.in_err-attach.ensures.behind_time
     (IfNone-always c.args.size (elapses_none (g.B.Device.call_count c.args.self.now.second) (g.B.Attach.left_behind c.args.self.now.second c.args.second.now) Nothing))
 
 pub returns-in_err-attach-2-clause-inside : goal.returns-in_err-attach-2-clause-inside
@@ -51,7 +51,7 @@ returns-in_err-attach-2-clause-inside g c =
     g.A.Device.call_count g.B.Device.call_count c.args.self.now.first c.attach.new.self c.args.self.now.second c.attach-2.new.self
     (none_then c.args.size c.in_ok-attach.ensures.time (λ time. by_name Nothing time
     (λ t image. g.met.A.Attach.left_named c.attach.new.self c.args.first.now t image c.in_ok-attach.ensures.named)))
-    (none_then c.args.size c.in_err-attach-2.ensures.behind_time (λ all. all c.args.second.now))
+    c.in_err-attach-2.ensures.behind_time
 
 pub returns-in_err-barrier-clause-inside : goal.returns-in_err-barrier-clause-inside
 returns-in_err-barrier-clause-inside g c =

@@ -1,4 +1,4 @@
-use Rattle.std.proofs.Common.{◌≡◌, ◌-◌, [], ap, arith, sym, ◌∙◌}
+use Rattle.std.proofs.Common.{◌-◌, [], ap, arith, sym, ◌∙◌}
 use Rattle.std.specs.Prelude.{not}
 use Rattle.bd_device.specs.Device.{left_now}
 use Rattle.bd_mirror.proofs.Copies.{only_read, reads_none}

@@ -1,6 +1,6 @@
-ghost use Rattle.std.specs.Prelude.{◌≡◌, ◌+◌, ◌^◌, ◌||◌, false, not, nat_le, is_err};
+ghost use Rattle.std.specs.Prelude.{◌≡◌, ◌+◌, ◌^◌, ◌||◌, not, nat_le, is_err};
 ghost use Rattle.bd_io.specs.Cause.{HasCause, IsCounted};
-ghost use Rattle.bd_device.specs.Calls.{faults_after};
+ghost use Rattle.bd_device.specs.Calls.{faults_after, no_calls};
 
 use bd_io::Failed;
 
@@ -17,12 +17,7 @@ pub struct Counts {
 impl Counts {
     /// No call was made yet.
     pub fn new() -> Counts
-        ensures { result ≡ record {
-          calls = 0;
-          faults = 0;
-          write_faults = 0;
-          last_failed = false;
-        } }
+        ensures { result ≡ no_calls }
     {
         Counts {
             calls: 0,
@@ -32,8 +27,8 @@ impl Counts {
         }
     }
 
-    /// Counts a read or an attach, which the file did or not. It fails where the file didn't do it,
-    /// and where the count of calls stands at its last value.
+    /// Counts a read or an attach, which was done or not. It fails where it wasn't, and where the
+    /// count of calls stands at its last value.
     pub fn settle(&mut self, is_done: bool) -> Result<(), Failed>
         ensures fails { is_err result ≡ (not is_done || nat_le (2 ^ 64) (self.old.calls + 1)) }
         ensures cause { HasCause self.old.faults self.new.faults result }
