@@ -1,5 +1,13 @@
-use Rattle.bd_message.proofs.Freed.{some_can}
+use Rattle.std.proofs.Common.{◌≡◌, ℕ, List, true, sym, subst, ◌∙◌}
+use Rattle.bd_message.specs.Effect.{begins}
+use Rattle.bd_message.proofs.Freed.{freed_apart, narrowed_can}
 use Rattle.bd_message.proofs.message.Message.free.Goals as goal
 
+pub returns-then-is_apart : goal.returns-then-is_apart
+returns-then-is_apart c = sym (freed_apart c.args.s.now c.stem.result.now c.args.self.now c.stem.ensures (sym c.is_apart.ensures ∙ c.if-is_apart.true))
+
 pub strip-requires : goal.strip-requires
-strip-requires c = some_can c.args.s.now c.args.self.now c.in_ok-part.field-0 c.in-Some.part c.in_ok-part.ensures c.in-Some.is
+strip-requires c = subst (λ (k : List ℕ). begins k c.args.s.now ≡ true) c.stem-2.ensures (sym c.starts_with.ensures.value ∙ c.if-starts_with.true)
+
+pub strip-requires-in-Some : goal.strip-requires-in-Some
+strip-requires-in-Some c = narrowed_can c.args.s.now c.args.self.now c.in_ok-part.field-0 c.in-Some.part c.in_ok-part.ensures c.in-Some.is
