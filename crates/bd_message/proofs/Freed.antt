@@ -1,10 +1,11 @@
 -- What messages on the keys that begin with a prefix do to what follows it.
 use Rattle.std.proofs.Common.{◌≡◌, ℕ, ◌+◌, ◌-◌, ◌≤◌, Bool, true, false, cond, not, ◌&&◌, List, [], ◌++◌, length, refl, sym, ap, subst, ◌∙◌, Option, None, Some, inl, inr, ◌⊎◌, arith, append_assoc, Ordering, Less, Equal, Greater}
-use Rattle.std.specs.Prelude.{IfSome}
+use Rattle.std.specs.Prelude.{IfSome, nat_eq, ◌∷◌}
 use Rattle.std.specs.Option.{option_to_list, option_map, unwrap_or}
 use Rattle.std.specs.Ordering.{is_lt, ordering_reverse}
 use Rattle.std.proofs.lemmas.List.{length-append}
 use Rattle.std.proofs.lemmas.Bool.{cases_Bool, cond-true, cond-false}
+use Rattle.std.proofs.lemmas.Bool.Decides.{nat_tests}
 use Rattle.std.proofs.lemmas.Cmp.{nat_list_cmp_total as total}
 use Rattle.bd_keys.specs.Edits.{overwritten}
 use Rattle.bd_keys.specs.Keys.{key_cmp}
@@ -13,7 +14,7 @@ use Rattle.bd_message.specs.declared.message.Message.{Message}
 use Rattle.bd_message.specs.declared.message.Message.TheVariants.{Put, Del, Patch, Cut, Goto}
 use Rattle.bd_message.specs.Messages.{IsMessage, size}
 use Rattle.bd_message.specs.Effect.{NodesAt, same_key, begins, rest, is_cut, act, acts}
-use Rattle.bd_message.specs.Freeing.{stem, CanStrip, from_after, narrowed, restricted, stripped, freed, KeepsSource, source_of, source_after, CoversAll}
+use Rattle.bd_message.specs.Freeing.{stem, CanStrip, from_after, narrowed, restricted, stripped, freed, KeepsSource, source_of, source_after, CoversAll, is_apart}
 use Rattle.bd_message.proofs.Finds.{tied, same_key-true, begins-is, begins-append, not_both}
 use Rattle.bd_message.proofs.Prefixes.{joined_other, least_nil, rest-append, rest-itself, rest_shorter, begins_itself, begins-both, rest-both, is_cut-both, neither, same_key-in, same_key-out, begins-more}
 use Rattle.bd_keys.proofs.Order.{key_cmp-front}
@@ -172,6 +173,36 @@ if_restricted Q s m f g =
 pub restricted_can : (s : List ℕ) (m : Message) → IfSome (restricted s m) (CanStrip s)
 restricted_can s m =
     if_restricted (CanStrip s) s m (λ h. h) (λ h. if_narrowed (CanStrip s) s m (λ p x f is within any. begins_itself s) (λ p source child is within. begins_itself s))
+
+-- ---- apart from the prefix
+
+and_no : (b c : Bool) → c ≡ false → (b && c) ≡ false
+and_no true c h = h
+and_no false c h = refl
+
+-- lists that are apart don't begin with one another
+apart_both : (k l : List ℕ) → is_apart k l ≡ true → (begins k l ≡ false) × (begins l k ≡ false)
+apart_both [] l h = absurd (not_both h refl)
+apart_both (a ∷ k) [] h = absurd (not_both h refl)
+apart_both (a ∷ k) (b ∷ l) h =
+    elim (cases_Bool (nat_eq a b)) [
+      | inl same ↦ (let rest_of = apart_both k l (sym (cond-true (nat_eq a b) (is_apart k l) true same) ∙ h) in
+          (and_no (nat_eq b a) (begins k l) rest_of.0, and_no (nat_eq a b) (begins l k) rest_of.1))
+      | inr other ↦ (let back : nat_eq b a ≡ false = grind (arith, nat_tests) in
+          (ap (λ (c : Bool). c && begins k l) back, ap (λ (c : Bool). c && begins l k) other))
+    ]
+
+narrowed_apart : (s : List ℕ) (m : Message) → begins s (stem m) ≡ false → narrowed s m ≡ None
+narrowed_apart s (Put key value) h = refl
+narrowed_apart s (Del key) h = refl
+narrowed_apart s (Patch key off bytes) h = refl
+narrowed_apart s (Cut prefix from) h = cond-false (begins s prefix) (option_map (λ f. Cut s f) (from_after (rest prefix s) from)) None h
+narrowed_apart s (Goto prefix source child) h = cond-false (begins s prefix) (Some (Goto s (source ++ rest prefix s) child)) None h
+
+pub freed_apart : (s own : List ℕ) (m : Message) → own ≡ stem m → is_apart own s ≡ true → freed s m ≡ None
+freed_apart s own m own_is h =
+    let apart = apart_both (stem m) s (subst (λ (k : List ℕ). is_apart k s ≡ true) own_is h) in
+    ap (λ (o : Option Message). option_map (stripped s) o) (cond-false (begins (stem m) s) (Some m) (narrowed s m) apart.0 ∙ narrowed_apart s m apart.1)
 
 -- ---- the part, and elsewhere
 

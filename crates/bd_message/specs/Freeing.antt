@@ -1,5 +1,5 @@
 -- Messages on the keys that begin with a prefix, and as messages on what follows it.
-use Rattle.std.specs.Prelude.{◌≡◌, ℕ, ◌+◌, ◌-◌, true, if◌then◌else◌, List, [], ◌++◌, length, Option, None, Some, ⊤}
+use Rattle.std.specs.Prelude.{◌≡◌, ℕ, ◌+◌, ◌-◌, Bool, true, false, nat_eq, if◌then◌else◌, List, [], ◌∷◌, ◌++◌, length, Option, None, Some, ⊤}
 use Rattle.std.specs.Option.{option_map}
 use Rattle.std.specs.Ordering.{is_lt}
 use Rattle.bd_keys.specs.Keys.{key_cmp}
@@ -69,3 +69,9 @@ abbrev pub CoversAll : Message → Type 0
 CoversAll (Cut prefix from) = (prefix ≡ []) × (from ≡ [])
 CoversAll (Goto prefix source child) = prefix ≡ []
 CoversAll _ = ⊥
+
+-- the lists differ where both have a byte, so that neither begins with the other
+abbrev pub is_apart : List ℕ → List ℕ → Bool
+is_apart [] l = false
+is_apart (a ∷ k) [] = false
+is_apart (a ∷ k) (b ∷ l) = if nat_eq a b then is_apart k l else true

@@ -4,7 +4,7 @@ ghost use Rattle.std.specs.Prelude.{◌≡◌, ◌↔◌, true, IfOk, IsTrue};
 ghost use Rattle.std.specs.Option.{option_map, option_copied};
 ghost use Rattle.bd_message.specs.declared.message.Message.TheVariants as message;
 ghost use Rattle.bd_message.specs.Effect.{begins, rest};
-ghost use Rattle.bd_message.specs.Freeing.{stem, CanStrip, from_after, narrowed, restricted, stripped, freed, CoversAll};
+ghost use Rattle.bd_message.specs.Freeing.{stem, CanStrip, from_after, narrowed, stripped, freed, is_apart, CoversAll};
 
 use crate::Message;
 use bd_keys::Bytes;
@@ -51,6 +51,9 @@ impl Message {
     pub fn free(&self, alloc: Global, s: &[u8]) -> Result<Option<Message>, AllocError>
         ensures { IfOk result (λ found. found ≡ freed s.now self.now) }
     {
+        if is_apart(self.stem(), s) {
+            return Ok(None);
+        }
         if self.stem().starts_with(s) {
             return Ok(Some(self.strip(alloc, s)?));
         }
@@ -81,6 +84,22 @@ impl Message {
             Message::Goto { prefix, .. } => prefix.as_slice(),
         }
     }
+}
+
+// Whether two lists of bytes differ where both have one, so that neither begins with the other.
+fn is_apart(k: &[u8], l: &[u8]) -> bool
+    ensures { result ≡ is_apart k.now l.now }
+{
+    let [a, k @ ..] = k else {
+        return false;
+    };
+    let [b, l @ ..] = l else {
+        return false;
+    };
+    if *a != *b {
+        return true;
+    }
+    is_apart(k, l)
 }
 
 // What follows a prefix in a key that begins with it.

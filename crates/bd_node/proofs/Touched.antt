@@ -139,8 +139,8 @@ touched_within m lo hi t r first other is same within = (
 pub first_of_cut : (m : Message) (prefix from p f : List ℕ) → m ≡ Cut prefix from → p ≡ prefix → f ≡ from → p ++ f ≡ key_of m
 first_of_cut m prefix from p f e e1 e2 = ap (λ a. a ++ f) e1 ∙ ap (λ b. prefix ++ b) e2 ∙ sym (ap key_of e)
 
-pub first_of_goto : (m : Message) (prefix source : List ℕ) (child : ℕ) (p : List ℕ) → m ≡ Goto prefix source child → p ≡ prefix → p ++ [] ≡ key_of m
-first_of_goto m prefix source child p e e1 = append-nil p ∙ e1 ∙ sym (ap key_of e)
+pub first_of_goto : (m : Message) (prefix source : List ℕ) (child : ℕ) (p : List ℕ) → m ≡ Goto prefix source child → p ≡ prefix → p ≡ key_of m
+first_of_goto m prefix source child p e e1 = e1 ∙ sym (ap key_of e)
 
 -- ---- messages on one key
 

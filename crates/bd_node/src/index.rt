@@ -4,7 +4,7 @@ ghost use Rattle.std.specs.Prelude.{◌≡◌, ℕ, ◌+◌, ◌-◌, ◌*◌, �
 ghost use Rattle.std.specs.Option.{ForSome};
 ghost use Rattle.bd_node.specs.Indexes.{IsCopy};
 ghost use Rattle.bd_message.specs.declared.message.Message.{Message};
-ghost use Rattle.bd_node.specs.Index.{AreInOrder, IsCountBelow, IsIndex, IsNewestAmong, IsNewestTouching, IsNextAmong, IsNextPoint, IsNextRange, IsPosition, first_of, is_before, is_point, is_point_at, is_range_at, last_of, own_key};
+ghost use Rattle.bd_node.specs.Index.{AreInOrder, IsCountBelow, IsIndex, IsNewestAmong, IsNewestTouching, IsNextAmong, IsNextPoint, IsNextRange, IsPosition, first_of, is_before, is_point, is_point_at, last_of, own_key};
 ghost use Rattle.bd_node.specs.Stems.{AreByStem};
 ghost use Rattle.bd_node.specs.Touching.{IsNextTouching};
 

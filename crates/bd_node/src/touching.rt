@@ -41,7 +41,7 @@ pub fn can_touch(message: &Message, lo: &[u8], hi: Option<&[u8]>) -> bool
             touches(message, lo) || is_joined_in(prefix.as_slice(), from.as_slice(), lo, hi)
         }
         Message::Goto { prefix, .. } => {
-            touches(message, lo) || is_joined_in(prefix.as_slice(), &[], lo, hi)
+            touches(message, lo) || is_in_range(prefix.as_slice(), lo, hi)
         }
         _ => is_in_range(own_key(message), lo, hi),
     }
