@@ -24,6 +24,11 @@ use Rattle.bd_step.proofs.PendingSizes.{IsSoFar, so_far_none, so_far_more, so_fa
 
 -- ---- edge by edge
 
+-- where the first pivot is empty there is an edge
+pub first_some : (es : List Edge) → end_before es ≡ Some [] → 1 ≤ length es
+first_some [] first = absurd (none-some [] first)
+first_some (e ∷ es) first = omega arith
+
 sizes_each : (buffer : List Message) (es : List Edge) (ns : List ℕ) → length ns ≡ length es → ((j : ℕ) (e : Edge) → slice_get es j ≡ Some e → IsPendingSize e (end_before (drop (suc j) es)) 0 buffer (get_or ns j 0)) → ArePendingSizes buffer es ns
 sizes_each buffer [] [] long h = refl
 sizes_each buffer [] (n ∷ ns) long h = absurd (omega arith)

@@ -72,8 +72,9 @@ fn pending_sizes(
     ensures { IfOk result (λ sizes. ArePendingSizes buffer.now edges.now sizes.items) }
 {
     let owners = buffer.owners(edges)?;
+    let messages = buffer.as_slice();
     let mut sizes = vec![in alloc; 0; edges.len()]?;
-    for (place, message) in buffer.as_slice().iter().enumerate() {
+    for (place, message) in messages.iter().enumerate() {
         raise(place, message, edges, owners[place], &mut sizes);
     }
     Ok(sizes)
