@@ -60,11 +60,7 @@ fn greatest(sizes: &[usize]) -> FullEdge
 }
 
 // How many bytes of messages are pending for each edge.
-fn pending_sizes(
-    alloc: Global,
-    edges: &[Edge],
-    buffer: &Messages,
-) -> Result<Vec<usize>, AllocError>
+fn pending_sizes(alloc: Global, edges: &[Edge], buffer: &Messages) -> Result<Vec<usize>, AllocError>
     requires first { end_before edges.now ≡ Some [] }
     requires rising { AreRising edges.now }
     requires messages { AllByRecursion IsMessage buffer.now }
