@@ -289,28 +289,11 @@ pub fn batch_for(alloc: Global, node: &Node, place: usize, edge: &Edge) -> Resul
     requires waiting { CanMoveSome node.now place edge.now }
     ensures { IfOk result (IsEdgeBatch node.now place edge.now) }
 {
-    let edges = node.edges();
-    next_batch(alloc, edge, end_of(edges, place), unseen(node, edge))
-}
-
-// The messages that a node's edge hasn't seen.
-fn unseen<'a>(node: &'a Node, edge: &Edge) -> &'a [Message]
-    requires { edge.now.seen ≤ length (buffer_of node.now) }
-    ensures { result.now ≡ unseen node.now edge.now }
-{
-    match node {
-        Node::Leaf(_) => &[],
-        Node::Inner { buffer, .. } => after(buffer.as_slice(), edge.seen as usize),
-    }
-}
-
-// The messages after the first so many.
-fn after(list: &[Message], count: usize) -> &[Message]
-    requires { count ≤ length list.now }
-    ensures { result.now ≡ drop count list.now }
-{
-    let (_, rest) = list.split_at(count);
-    rest
+    let hi = end_of(node.edges(), place);
+    let Node::Inner { buffer, .. } = node else {
+        unreachable!()
+    };
+    next_batch(alloc, edge, hi, buffer, edge.seen as usize)
 }
 
 // A copy of a node from which so many messages have gone down an edge.

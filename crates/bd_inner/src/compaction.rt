@@ -1,12 +1,11 @@
 //! Nodes without the messages that are pending for no edge.
 
-ghost use Rattle.std.specs.Prelude.{◌≡◌, IfOk, map};
+ghost use Rattle.std.specs.Prelude.{◌≡◌, [], Some, IfOk, map};
 ghost use Rattle.bd_node.specs.Keeping.{stay_count};
-ghost use Rattle.bd_node.specs.Shape.{AreRising};
+ghost use Rattle.bd_node.specs.Shape.{AreRising, end_before};
 ghost use Rattle.bd_inner.specs.Compaction.{IsLoose, IsLooseNode, IsMask, lowered, IsSwept, IsCompacted};
 
-use bd_message::Message;
-use bd_node::{Edge, Edges, Items, Messages, Node, is_pending};
+use bd_node::{Edge, Edges, Items, Messages, Node, is_owned_pending};
 use std::alloc::{AllocError, Global};
 
 /// The node without the messages that are pending for no edge. Each edge has then seen fewer by
@@ -30,7 +29,7 @@ pub fn sweep(alloc: Global, level: u32, edges: Edges, buffer: &Messages) -> Resu
     requires { IsLoose level edges buffer.now }
     ensures { IfOk result (λ n. IsSwept level edges buffer.now n) }
 {
-    let mask = pending_mask(alloc, edges.as_slice(), buffer.as_slice())?;
+    let mask = pending_mask(alloc, edges.as_slice(), buffer)?;
     let buffer = buffer.kept(mask.as_slice())?;
     Ok(Node::Inner {
         level,
@@ -40,13 +39,16 @@ pub fn sweep(alloc: Global, level: u32, edges: Edges, buffer: &Messages) -> Resu
 }
 
 // Whether each message is pending for some edge.
-fn pending_mask(alloc: Global, edges: &[Edge], buffer: &[Message]) -> Result<Vec<bool>, AllocError>
-    requires { AreRising edges.now }
+fn pending_mask(alloc: Global, edges: &[Edge], buffer: &Messages) -> Result<Vec<bool>, AllocError>
+    requires rising { AreRising edges.now }
+    requires first { end_before edges.now ≡ Some [] }
     ensures { IfOk result (λ mask. IsMask mask.items edges.now buffer.now) }
 {
-    let mut mask = Vec::with_capacity(alloc, buffer.len())?;
-    for (place, message) in buffer.iter().enumerate() {
-        mask.push(is_pending(place, message, edges))?;
+    let owners = buffer.owners(edges)?;
+    let messages = buffer.as_slice();
+    let mut mask = Vec::with_capacity(alloc, messages.len())?;
+    for (place, message) in messages.iter().enumerate() {
+        mask.push(is_owned_pending(place, message, edges, owners[place]))?;
     }
     Ok(mask)
 }

@@ -1,6 +1,6 @@
 -- The messages that can change what stands in a range of keys, from where the range begins and ends
 -- among the places.
-use Rattle.std.proofs.Common.{length-append, ◌≡◌, ◌↔◌, ℕ, zero, suc, ◌+◌, ◌<◌, ◌≤◌, Bool, true, not, List, [], ◌∷◌, length, get_or, set, refl, sym, ap, subst, ◌∙◌, Option, Some, arith, inl, inr}
+use Rattle.std.proofs.Common.{length-append, length-take, length-drop, ◌-◌, drop, ◌≡◌, ◌↔◌, ℕ, zero, suc, ◌+◌, ◌<◌, ◌≤◌, Bool, true, not, List, [], ◌∷◌, length, get_or, set, refl, sym, ap, subst, ◌∙◌, Option, Some, arith, inl, inr}
 use Rattle.std.specs.Prelude.{slice_get, IsTrue, ◌++◌, take}
 use Rattle.std.proofs.lemmas.Bool.{cases_eq, cases_lt, cases_Bool}
 use Rattle.std.proofs.lemmas.List.{length-set, take_more}
@@ -70,26 +70,60 @@ marked_more mask list lo hi places count h low can =
 
 -- ---- message by message
 
-each_pushed : (lo : List ℕ) (hi : Option (List ℕ)) (mask : List Bool) (front : List Message) (b : Bool) (m : Message) → length mask ≡ length front
-    → ((i : ℕ) (n : Message) → slice_get front i ≡ Some n → (slice_get mask i ≡ Some true) ↔ CanTouch n lo hi) → (IsTrue b ↔ CanTouch m lo hi)
-    → (i : ℕ) (n : Message) → slice_get (front ++ m ∷ []) i ≡ Some n → (slice_get (mask ++ b ∷ []) i ≡ Some true) ↔ CanTouch n lo hi
-each_pushed lo hi [] [] b m long h can zero n here = (
-  (λ is. subst (λ (x : Message). CanTouch x lo hi) (same_Some m n here) (can.0 (same_Some b true is))),
-  (λ touch. ap (λ (x : Bool). Some x) (can.1 (subst (λ (x : Message). CanTouch x lo hi) (sym (same_Some m n here)) touch))),
+each_pushed : (P : ℕ → Message → Type 0) (at : ℕ) (mask : List Bool) (front : List Message) (b : Bool) (m : Message) → at ≡ length front → length mask ≡ length front
+    → ((i : ℕ) (n : Message) → slice_get front i ≡ Some n → (slice_get mask i ≡ Some true) ↔ P i n) → (IsTrue b ↔ P at m)
+    → (i : ℕ) (n : Message) → slice_get (front ++ m ∷ []) i ≡ Some n → (slice_get (mask ++ b ∷ []) i ≡ Some true) ↔ P i n
+each_pushed P zero [] [] b m at_is long h one zero n here = (
+  (λ is. subst (λ (x : Message). P 0 x) (same_Some m n here) (one.0 (same_Some b true is))),
+  (λ holds. ap (λ (x : Bool). Some x) (one.1 (subst (λ (x : Message). P 0 x) (sym (same_Some m n here)) holds))),
 )
-each_pushed lo hi [] [] b m long h can (suc i) n here = absurd (none-some n here)
-each_pushed lo hi [] (d ∷ front) b m long h can i n here = absurd (omega arith)
-each_pushed lo hi (c ∷ mask) [] b m long h can i n here = absurd (omega arith)
-each_pushed lo hi (c ∷ mask) (d ∷ front) b m long h can zero n here = h 0 n here
-each_pushed lo hi (c ∷ mask) (d ∷ front) b m long h can (suc i) n here = each_pushed lo hi mask front b m (omega arith) (λ j x there. h (suc j) x there) can i n here
+each_pushed P zero [] [] b m at_is long h one (suc i) n here = absurd (none-some n here)
+each_pushed P (suc at) [] [] b m at_is long h one i n here = absurd (omega arith)
+each_pushed P zero [] (d ∷ front) b m at_is long h one i n here = absurd (omega arith)
+each_pushed P (suc at) [] (d ∷ front) b m at_is long h one i n here = absurd (omega arith)
+each_pushed P zero (c ∷ mask) [] b m at_is long h one i n here = absurd (omega arith)
+each_pushed P (suc at) (c ∷ mask) [] b m at_is long h one i n here = absurd (omega arith)
+each_pushed P zero (c ∷ mask) (d ∷ front) b m at_is long h one i n here = absurd (omega arith)
+each_pushed P (suc at) (c ∷ mask) (d ∷ front) b m at_is long h one zero n here = h 0 n here
+each_pushed P (suc at) (c ∷ mask) (d ∷ front) b m at_is long h one (suc i) n here =
+    each_pushed (λ j x. P (suc j) x) at mask front b m (omega arith) (omega arith) (λ j x there. h (suc j) x there) one i n here
+
+-- what a list says of each message
+pub record IsSaid (P : ℕ → Message → Type 0) (mask : List Bool) (list : List Message) : Type 0 where
+  pub long : length mask ≡ length list
+  pub each : (i : ℕ) (n : Message) → slice_get list i ≡ Some n → (slice_get mask i ≡ Some true) ↔ P i n
+
+pub said_more : (P : ℕ → Message → Type 0) (mask new : List Bool) (b : Bool) (list : List Message) (i : ℕ) (m : Message) → IsSaid P mask (take i list) → i < length list → m ≡ get_or list i m
+    → (IsTrue b ↔ P i m) → new ≡ mask ++ b ∷ [] → IsSaid P new (take (i + 1) list)
+said_more P mask new b list i m h low is one made =
+    let more : take (i + 1) list ≡ take i list ++ m ∷ [] = take_more list i m low ∙ ap (λ (x : Message). take i list ++ x ∷ []) (sym is) in
+    let at : i ≡ length (take i list) = omega (arith, length-take {A = Message}) in
+    let pushed : IsSaid P (mask ++ b ∷ []) (take i list ++ m ∷ []) = record {
+      long = simp length-append (omega (arith, h.long));
+      each = each_pushed P i mask (take i list) b m at h.long h.each one;
+    } in
+    subst (λ (x : List Bool). IsSaid P x (take (i + 1) list)) (sym made) (subst (λ (x : List Message). IsSaid P (mask ++ b ∷ []) x) (sym more) pushed)
 
 pub touching_more : (mask new : List Bool) (b : Bool) (list : List Message) (lo : List ℕ) (hi : Option (List ℕ)) (i : ℕ) (m : Message) → AreTouching mask (take i list) lo hi → i < length list → m ≡ get_or list i m
     → (IsTrue b ↔ CanTouch m lo hi) → new ≡ mask ++ b ∷ [] → AreTouching new (take (i + 1) list) lo hi
 touching_more mask new b list lo hi i m h low is can made =
-    let more : take (i + 1) list ≡ take i list ++ m ∷ [] = take_more list i m low ∙ ap (λ (x : Message). take i list ++ x ∷ []) (sym is) in
-    let long : length (mask ++ b ∷ []) ≡ length (take i list ++ m ∷ []) = simp length-append (omega (arith, h.long)) in
-    let pushed : AreTouching (mask ++ b ∷ []) (take i list ++ m ∷ []) lo hi = record { long = long; each = each_pushed lo hi mask (take i list) b m h.long h.each can } in
-    subst (λ (x : List Bool). AreTouching x (take (i + 1) list) lo hi) (sym made) (subst (λ (x : List Message). AreTouching (mask ++ b ∷ []) x lo hi) (sym more) pushed)
+    let said : IsSaid (λ j n. CanTouch n lo hi) mask (take i list) = record { long = h.long; each = h.each } in
+    let more = said_more (λ j n. CanTouch n lo hi) mask new b list i m said low is can made in
+    record { long = more.long; each = more.each }
+
+-- what is said of those from a place on
+dropped : {X : Type 0} (xs : List X) (n i j : ℕ) → j ≡ n + i → slice_get (drop n xs) i ≡ slice_get xs j
+dropped xs zero i j e = ap (λ (k : ℕ). slice_get xs k) (let same : i ≡ j = omega arith in same)
+dropped [] (suc n) i j e = refl
+dropped (x ∷ xs) (suc n) i zero e = absurd (omega arith)
+dropped (x ∷ xs) (suc n) i (suc j) e = dropped xs n i j (omega arith)
+
+pub touching_dropped : (mask : List Bool) (list : List Message) (lo : List ℕ) (hi : Option (List ℕ)) (from : ℕ) → AreTouching mask list lo hi → AreTouching (drop from mask) (drop from list) lo hi
+touching_dropped mask list lo hi from h = record {
+  long = simp length-drop (ap (λ (n : ℕ). n - from) h.long);
+  each = λ i m here. subst (λ (o : Option Bool). (o ≡ Some true) ↔ CanTouch m lo hi) (sym (dropped mask from i (from + i) refl))
+      (h.each (from + i) m (sym (dropped list from i (from + i) refl) ∙ here));
+}
 
 -- ---- messages on one key
 

@@ -18,16 +18,16 @@ use Rattle.bd_node.specs.Nodes.{edge_of}
 use Rattle.bd_node.specs.Shape.{end_before, AreRising, EachEdge, IsPending}
 use Rattle.bd_node.proofs.Edges.{edge_of-only}
 use Rattle.bd_node.proofs.Indexing.{touches_point}
+use Rattle.bd_node.proofs.Owning.{edge_has}
 use Rattle.bd_step.specs.Filling.{IsWaiting, IsPendingSize, ArePendingSizes, AreRaised, IsFirstGreatest}
 use Rattle.bd_step.proofs.PendingSizes.{IsSoFar, so_far_none, so_far_more, so_far_all}
 
 -- ---- edge by edge
 
--- a property of each edge, at a place
-pub edge_has : (P : Edge → Option (List ℕ) → Type 0) (es : List Edge) (j : ℕ) (e : Edge) → EachEdge P es → slice_get es j ≡ Some e → P e (end_before (drop (suc j) es))
-edge_has P [] j e h there = absurd (none-some e there)
-edge_has P (d ∷ es) zero e h there = subst (λ (x : Edge). P x (end_before es)) (same_Some d e there) h.0
-edge_has P (d ∷ es) (suc j) e h there = edge_has P es j e h.1 there
+-- where the first pivot is empty there is an edge
+pub first_some : (es : List Edge) → end_before es ≡ Some [] → 1 ≤ length es
+first_some [] first = absurd (none-some [] first)
+first_some (e ∷ es) first = omega arith
 
 sizes_each : (buffer : List Message) (es : List Edge) (ns : List ℕ) → length ns ≡ length es → ((j : ℕ) (e : Edge) → slice_get es j ≡ Some e → IsPendingSize e (end_before (drop (suc j) es)) 0 buffer (get_or ns j 0)) → ArePendingSizes buffer es ns
 sizes_each buffer [] [] long h = refl

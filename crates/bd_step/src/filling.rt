@@ -1,21 +1,19 @@
 //! For which edge most bytes of messages are pending.
 
-ghost use Rattle.std.specs.Prelude.{◌≡◌, ℕ, ◌+◌, ◌<◌, ◌≤◌, true, length, get_or, slice_get, IfOk};
+ghost use Rattle.std.specs.Prelude.{◌≡◌, ℕ, ◌+◌, ◌<◌, ◌≤◌, true, [], List, Option, Some, length, get_or, IfOk};
 ghost use Rattle.std.specs.Option.{option_copied};
 ghost use Rattle.std.specs.List.{AllByRecursion, sum_by};
-ghost use Rattle.bd_keys.specs.Keys.{IsBelowEnd};
+ghost use Rattle.bd_keys.specs.Keys.{IsBelowEnd, InRange};
 ghost use Rattle.bd_limits.specs.Limits.{buffer_limit};
 ghost use Rattle.bd_message.specs.Messages.{IsMessage, size};
-ghost use Rattle.bd_node.specs.Index.{is_point};
-ghost use Rattle.bd_node.specs.Nodes.{edge_of};
-ghost use Rattle.bd_node.specs.Shape.{AreRising};
+ghost use Rattle.bd_node.specs.Index.{is_point, own_key};
+ghost use Rattle.bd_node.specs.Owners.{IsOwner};
+ghost use Rattle.bd_node.specs.Shape.{AreRising, end_before};
 ghost use Rattle.bd_step.specs.Filling.{ArePendingSizes, AreRaised, IsFirstGreatest, IsWaiting, IsFullest};
 
 use bd_message::Message;
-use bd_node::{Edge, Steps, can_touch, end_of, is_point, own_key, place};
+use bd_node::{Edge, Messages, can_touch, end_of, is_point};
 use std::alloc::{AllocError, Global};
-use std::marker::Brand;
-use std::sync::ledger::{Blank, Ledger};
 
 /// The edge for which most bytes of messages are pending.
 #[derive(Clone, Copy, Debug)]
@@ -27,9 +25,9 @@ pub struct FullEdge {
 }
 
 /// The edge for which most bytes of messages are pending, the first one at a tie. The messages are
-/// gone over once; of one on one key, the edge of the key is looked up by halving.
-pub fn fullest(alloc: Global, edges: &[Edge], buffer: &[Message]) -> Result<FullEdge, AllocError>
-    requires some { 1 ≤ length edges.now }
+/// gone over once; of those on one key, the index tells the edges of their keys.
+pub fn fullest(alloc: Global, edges: &[Edge], buffer: &Messages) -> Result<FullEdge, AllocError>
+    requires first { end_before edges.now ≡ Some [] }
     requires rising { AreRising edges.now }
     requires messages { AllByRecursion IsMessage buffer.now }
     requires size { sum_by size buffer.now ≤ buffer_limit }
@@ -62,55 +60,53 @@ fn greatest(sizes: &[usize]) -> FullEdge
 }
 
 // How many bytes of messages are pending for each edge.
-fn pending_sizes(
-    alloc: Global,
-    edges: &[Edge],
-    buffer: &[Message],
-) -> Result<Vec<usize>, AllocError>
-    requires some { 1 ≤ length edges.now }
+fn pending_sizes(alloc: Global, edges: &[Edge], buffer: &Messages) -> Result<Vec<usize>, AllocError>
+    requires first { end_before edges.now ≡ Some [] }
     requires rising { AreRising edges.now }
     requires messages { AllByRecursion IsMessage buffer.now }
     requires size { sum_by size buffer.now ≤ buffer_limit }
     ensures { IfOk result (λ sizes. ArePendingSizes buffer.now edges.now sizes.items) }
 {
+    let owners = buffer.owners(edges)?;
+    let messages = buffer.as_slice();
     let mut sizes = vec![in alloc; 0; edges.len()]?;
-    for (place, message) in buffer.iter().enumerate() {
-        raise(place, message, edges, &mut sizes);
+    for (place, message) in messages.iter().enumerate() {
+        raise(place, message, edges, owners[place], &mut sizes);
     }
     Ok(sizes)
 }
 
-// Adds the size of the message at a place to the bytes of each edge for which it is pending.
-fn raise(place: usize, message: &Message, edges: &[Edge], sizes: &mut Vec<usize>)
-    requires some { 1 ≤ length edges.now }
+// Adds the size of the message at a place to the bytes of each edge for which it is pending. Of one
+// on one key, the place of the edge of the key is known.
+fn raise(place: usize, message: &Message, edges: &[Edge], owner: usize, sizes: &mut Vec<usize>)
     requires rising { AreRising edges.now }
     requires message { IsMessage message.now }
+    requires owner { is_point message.now ≡ true → IsOwner edges.now (own_key message.now) owner }
     requires long { length sizes.old.items ≡ length edges.now }
     requires room { (j : ℕ) → j < length edges.now
         → get_or sizes.old.items j 0 + size message.now ≤ buffer_limit }
     ensures { AreRaised place message.now edges.now sizes.old.items sizes.new.items }
 {
     if is_point(message) {
-        raise_one(place, message, edges, sizes);
+        raise_one(place, message, edges, owner, sizes);
     } else {
         raise_each(place, message, edges, sizes);
     }
 }
 
-// Adds the size of the message on one key at a place to the bytes of the edge for which it is
-// pending.
-fn raise_one(place: usize, message: &Message, edges: &[Edge], sizes: &mut Vec<usize>)
-    requires some { 1 ≤ length edges.now }
+// Adds the size of the message on one key at a place to the bytes of the edge of the key, if it is
+// pending for that edge.
+fn raise_one(place: usize, message: &Message, edges: &[Edge], owner: usize, sizes: &mut Vec<usize>)
     requires rising { AreRising edges.now }
     requires message { IsMessage message.now }
     requires point { is_point message.now ≡ true }
+    requires owner { IsOwner edges.now (own_key message.now) owner }
     requires long { length sizes.old.items ≡ length edges.now }
     requires room { (j : ℕ) → j < length edges.now
         → get_or sizes.old.items j 0 + size message.now ≤ buffer_limit }
     ensures { AreRaised place message.now edges.now sizes.old.items sizes.new.items }
 {
-    let at = place_of(edges, own_key(message));
-    sizes[at] += waiting_size(place, message, &edges[at], end_of(edges, at));
+    sizes[owner] += own_size(place, message, &edges[owner]);
 }
 
 // The same of any message: each edge is asked.
@@ -127,28 +123,19 @@ fn raise_each(place: usize, message: &Message, edges: &[Edge], sizes: &mut Vec<u
     }
 }
 
-// The place of the edge of a key, where nobody asks for the number of comparisons.
-fn place_of(edges: &[Edge], key: &[u8]) -> usize
-    requires some { 1 ≤ length edges.now }
-    requires rising { AreRising edges.now }
-    ensures edge { slice_get edges.now result ≡ edge_of edges.now key.now }
-    ensures within { result < length edges.now }
+// The size of the message at a place, which is on a key of the edge, where the edge hasn't seen it,
+// and else 0.
+fn own_size(place: usize, message: &Message, edge: &Edge) -> usize
+    requires message { IsMessage message.now }
+    requires point { is_point message.now ≡ true }
+    ensures { (hi : Option (List ℕ)) → InRange edge.now.pivot hi (own_key message.now)
+        → IsWaiting place message.now edge.now hi result }
 {
-    place_with::<Brand>(edges, key, Blank::new(1))
-}
-
-// The same, counted in a ledger.
-fn place_with<L: Ledger>(edges: &[Edge], key: &[u8], blank: Blank) -> usize
-    requires some { 1 ≤ length edges.now }
-    requires rising { AreRising edges.now }
-    requires name { blank.name ≡ L.name }
-    requires parts { blank.parts ≡ L.parts }
-    requires all { 0 < L.parts }
-    ensures edge { slice_get edges.now result ≡ edge_of edges.now key.now }
-    ensures within { result < length edges.now }
-{
-    let mut steps = Steps::<L>::new(blank);
-    place(edges, key, &mut steps)
+    if edge.seen as usize <= place {
+        message.size()
+    } else {
+        0
+    }
 }
 
 // The size of the message at a place where it is pending for the edge, and else 0.

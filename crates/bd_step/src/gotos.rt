@@ -86,8 +86,11 @@ fn is_free<S: NodeStore>(
     ensures held { result ≡ false → IsHeldGoto (S.table store.now).level top index message.now
         edge.now (option_copied hi.entry) }
 {
+    if may_go_down(store, top, edge, hi, message) {
+        return true;
+    }
     let waits = edge.seen as usize <= index && can_touch(message, edge.pivot.as_slice(), hi);
-    !waits || may_go_down(store, top, edge, hi, message)
+    !waits
 }
 
 // Whether a message may go down an edge, whose keys end at `hi`, to a child of a level.

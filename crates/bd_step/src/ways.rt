@@ -286,5 +286,8 @@ fn fullest_place(alloc: Global, node: &Node) -> Result<usize, AllocError>
     ensures fullest { IfOk result (IsFullestAt node.now) }
     ensures within { IfOk result (λ place. place < length (edges_of node.now)) }
 {
-    Ok(fullest(alloc, node.edges(), node.buffer())?.place)
+    let Node::Inner { edges, buffer, .. } = node else {
+        unreachable!()
+    };
+    Ok(fullest(alloc, edges.as_slice(), buffer)?.place)
 }

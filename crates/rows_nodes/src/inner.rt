@@ -212,8 +212,11 @@ fn way(alloc: Global) -> Result<Edge, Fail>
 #[test]
 fn a_batch_for_a_child(rt: HostRuntime) -> Result<(), Fail> {
     let way = way(rt.alloc())?;
-    let list = [put(rt.alloc(), "a")?, put(rt.alloc(), "z")?];
-    let batch = next_batch(rt.alloc(), &way, None, &list)?;
+    let list = Messages::from_vec(vec![in rt.alloc();
+        put(rt.alloc(), "a")?,
+        put(rt.alloc(), "z")?,
+    ]?);
+    let batch = next_batch(rt.alloc(), &way, None, &list, 0)?;
     assert_eq!(rt; batch.count, 2);
     assert!(rt; batch.messages.as_slice() == list.as_slice());
     Ok(())

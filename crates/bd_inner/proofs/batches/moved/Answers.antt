@@ -1,17 +1,16 @@
-use Rattle.std.proofs.Common.{List, ℕ, subst, ap, take}
+use Rattle.std.proofs.Common.{List, ℕ, ap, take}
 use Rattle.std.specs.Option.{option_copied}
-use Rattle.bd_node.specs.Touching.{CanTouch}
 use Rattle.bd_inner.proofs.Moved.{if_moved, if_part}
 use Rattle.bd_inner.proofs.batches.moved.Goals as goal
 
 pub returns-clause-moved : goal.returns-clause-moved
 returns-clause-moved c =
-    if_moved c.args.edge.now (option_copied c.args.hi) c.args.message.now (take c.args.edge.now.lift c.as_slice-2.result.now) c.free.result c.requires.edge c.requires.message c.requires.goto
-    (subst (λ (p : List ℕ). CanTouch c.args.message.now p (option_copied c.args.hi)) c.as_slice.ensures (c.can_touch.ensures.0 c.if-not-can_touch.false))
-    (ap (λ (p : List ℕ). take c.args.edge.now.lift p) c.as_slice-2.ensures) c.free.ensures
+    if_moved c.args.edge.now (option_copied c.args.hi) c.args.message.now (take c.args.edge.now.lift c.as_slice.result.now) c.free.result c.requires.edge c.requires.message c.requires.goto
+    (c.requires.touches.0 c.if-not-touches.false)
+    (ap (λ (p : List ℕ). take c.args.edge.now.lift p) c.as_slice.ensures) c.free.ensures
 
 pub returns-clause-part : goal.returns-clause-part
 returns-clause-part c =
-    if_part c.args.edge.now (option_copied c.args.hi) c.args.message.now (take c.args.edge.now.lift c.as_slice-2.result.now) c.free.result
-    (subst (λ (p : List ℕ). CanTouch c.args.message.now p (option_copied c.args.hi)) c.as_slice.ensures (c.can_touch.ensures.0 c.if-not-can_touch.false))
-    (ap (λ (p : List ℕ). take c.args.edge.now.lift p) c.as_slice-2.ensures) c.free.ensures
+    if_part c.args.edge.now (option_copied c.args.hi) c.args.message.now (take c.args.edge.now.lift c.as_slice.result.now) c.free.result
+    (c.requires.touches.0 c.if-not-touches.false)
+    (ap (λ (p : List ℕ). take c.args.edge.now.lift p) c.as_slice.ensures) c.free.ensures

@@ -4,7 +4,7 @@ use Rattle.std.specs.List.{sum_by}
 use Rattle.bd_limits.specs.Limits.{batch_limit}
 use Rattle.bd_message.specs.Messages.{size}
 use Rattle.bd_inner.specs.Batches.{AreParts, IsMoved}
-use Rattle.bd_inner.proofs.batches.next_batch.Given as goal
+use Rattle.bd_inner.proofs.batches.oldest.Given as goal
 
 abbrev pub invariant-loop-count : goal.invariant-loop-count
 invariant-loop-count l = record {
