@@ -1,15 +1,18 @@
 -- Two halves, one of which was made a copy of the other: their marks, and what they show.
-use Rattle.std.proofs.Common.{◌≡◌, ℕ, ◌+◌, ◌-◌, min, take, Option, None, Some, IfSome, Bool, true, false, if◌then◌else◌, refl, sym, ap, subst, ◌∙◌, arith}
+use Rattle.std.proofs.Common.{◌≡◌, ℕ, ◌+◌, ◌-◌, ◌<◌, ◌≤◌, ⊎_elim, [], min, take, Option, None, Some, IfSome, Bool, true, false, if◌then◌else◌, refl, sym, ap, subst, ◌∙◌, arith}
 use Rattle.std.specs.Prelude.{◌&&◌, not}
-use Rattle.std.proofs.lemmas.Bool.{false≢true}
+use Rattle.std.proofs.lemmas.Bool.{false≢true, cases_lt}
 use Rattle.std.proofs.lemmas.Option.{same_Some}
 use Rattle.bd_device.specs.Blocks.{Image}
 use Rattle.bd_device.specs.Changes.{StaysBut, IsInRange}
 use Rattle.bd_device.specs.Moments.{IsOnly}
 use Rattle.bd_mirror.specs.declared.halves.Halves.{Halves}
-use Rattle.bd_mirror.specs.declared.halves.Halves.TheVariants.{Both, First, Second}
-use Rattle.bd_mirror.specs.declared.halves.Attached.TheVariants.{Pair}
-use Rattle.bd_mirror.specs.Contents.{is_open_at, pick, picked, shown_by, IsCopy, PicksAre, LeavesShown, AreMarked, IsMarked}
+use Rattle.bd_mirror.specs.declared.halves.Halves.TheVariants.{Both, First, Second, Neither}
+use Rattle.bd_mirror.specs.declared.halves.Attached.{Attached}
+use Rattle.bd_mirror.specs.declared.halves.Attached.TheVariants.{Nothing, Alone, Member, Pair, Apart}
+use Rattle.bd_mirror.specs.Halves.{IsInUse, halves_of, uses_first, uses_second, blocks_in}
+use Rattle.bd_mirror.specs.Contents.{is_open_at, pick, picked, shown_by, IsCopy, PicksAre, LeavesShown, AreMarked, IsMarked, HaveMark, AreLeftMarked}
+use Rattle.bd_mirror.proofs.Copies.{only_has}
 use Rattle.bd_mirror.proofs.Marks.{take_but_mark, pick_closed, pick_second}
 
 -- of halves with so many blocks what holds at the mark holds at their last blocks
@@ -122,42 +125,77 @@ shown_second mark (Some a) (Some b) (Some a') (Some b') ea eb sa sb ca ob =
 -- ---- what a crash may leave then
 
 -- of each half what it holds
-pub left_both : (mark : ℕ) (a b : Option Image) (la lb : Image → Type 0) → AreMarked Both mark mark mark a b → IsOnly a la → IsOnly b lb
-    → IfSome (picked mark mark mark a b) (PicksAre mark mark mark la lb)
-left_both mark None b la lb marked only_a only_b = tt
-left_both mark (Some a) None la lb marked only_a only_b = tt
-left_both mark (Some a) (Some b) la lb marked only_a only_b = λ x y lx ly.
+pub left_both : (size ma mb : ℕ) (a b : Option Image) (la lb : Image → Type 0) → AreMarked Both size ma mb a b → IsOnly a la → IsOnly b lb
+    → IfSome (picked size ma mb a b) (PicksAre size ma mb la lb)
+left_both size ma mb None b la lb marked only_a only_b = tt
+left_both size ma mb (Some a) None la lb marked only_a only_b = tt
+left_both size ma mb (Some a) (Some b) la lb marked only_a only_b = λ x y lx ly.
     let ex : a ≡ x = same_Some a x (only_a x lx) in
     let ey : b ≡ y = same_Some b y (only_b y ly) in
-    let back : pick mark mark mark b a ≡ pick mark mark mark a b =
-    pick_closed mark mark mark b a marked.0 ∙ sym marked.2 ∙ sym (pick_closed mark mark mark a b marked.1) in (
-      ap (λ (i : Image). pick mark mark mark i y) (sym ex) ∙ ap (λ (i : Image). pick mark mark mark a i) (sym ey),
-      ap (λ (i : Image). pick mark mark mark i x) (sym ey) ∙ ap (λ (i : Image). pick mark mark mark b i) (sym ex) ∙ back,
+    let back : pick size mb ma b a ≡ pick size ma mb a b =
+    pick_closed size mb ma b a marked.0 ∙ sym marked.2 ∙ sym (pick_closed size ma mb a b marked.1) in (
+      ap (λ (i : Image). pick size ma mb i y) (sym ex) ∙ ap (λ (i : Image). pick size ma mb a i) (sym ey),
+      ap (λ (i : Image). pick size mb ma i x) (sym ey) ∙ ap (λ (i : Image). pick size mb ma b i) (sym ex) ∙ back,
     )
 
 -- of the first one what it holds, and of the second one what has a closed mark
-pub left_first : (mark : ℕ) (a b : Option Image) (la lb : Image → Type 0) → AreMarked First mark mark mark a b → IsOnly a la
-    → ((c : Image) → lb c → is_open_at mark c ≡ false) → IfSome (picked mark mark mark a b) (PicksAre mark mark mark la lb)
-left_first mark None b la lb marked only_a closed = tt
-left_first mark (Some a) None la lb marked only_a closed = tt
-left_first mark (Some a) (Some b) la lb marked only_a closed = λ x y lx ly.
+pub left_first : (size ma mb : ℕ) (a b : Option Image) (la lb : Image → Type 0) → AreMarked First size ma mb a b → IsOnly a la
+    → HaveMark mb false lb → IfSome (picked size ma mb a b) (PicksAre size ma mb la lb)
+left_first size ma mb None b la lb marked only_a closed = tt
+left_first size ma mb (Some a) None la lb marked only_a closed = tt
+left_first size ma mb (Some a) (Some b) la lb marked only_a closed = λ x y lx ly.
     let ex : a ≡ x = same_Some a x (only_a x lx) in
-    let shown : take mark a ≡ pick mark mark mark a b = sym (pick_closed mark mark mark a b marked.1) in (
-      ap (λ (i : Image). pick mark mark mark i y) (sym ex) ∙ pick_closed mark mark mark a y (closed y ly) ∙ shown,
-      ap (λ (i : Image). pick mark mark mark y i) (sym ex) ∙ pick_second mark mark mark y a (closed y ly) marked.0 ∙ shown,
+    let shown : take size a ≡ pick size ma mb a b = sym (pick_closed size ma mb a b marked.1) in (
+      ap (λ (i : Image). pick size ma mb i y) (sym ex) ∙ pick_closed size ma mb a y (closed y ly) ∙ shown,
+      ap (λ (i : Image). pick size mb ma y i) (sym ex) ∙ pick_second size mb ma y a (closed y ly) marked.0 ∙ shown,
     )
 
 -- and the other way round
-pub left_second : (mark : ℕ) (a b : Option Image) (la lb : Image → Type 0) → AreMarked Second mark mark mark a b
-    → ((c : Image) → la c → is_open_at mark c ≡ false) → IsOnly b lb → IfSome (picked mark mark mark a b) (PicksAre mark mark mark la lb)
-left_second mark None b la lb marked closed only_b = tt
-left_second mark (Some a) None la lb marked closed only_b = tt
-left_second mark (Some a) (Some b) la lb marked closed only_b = λ x y lx ly.
+pub left_second : (size ma mb : ℕ) (a b : Option Image) (la lb : Image → Type 0) → AreMarked Second size ma mb a b
+    → HaveMark ma false la → IsOnly b lb → IfSome (picked size ma mb a b) (PicksAre size ma mb la lb)
+left_second size ma mb None b la lb marked closed only_b = tt
+left_second size ma mb (Some a) None la lb marked closed only_b = tt
+left_second size ma mb (Some a) (Some b) la lb marked closed only_b = λ x y lx ly.
     let ey : b ≡ y = same_Some b y (only_b y ly) in
-    let shown : take mark b ≡ pick mark mark mark a b = sym (pick_second mark mark mark a b marked.0 marked.1) in (
-      ap (λ (i : Image). pick mark mark mark x i) (sym ey) ∙ pick_second mark mark mark x b (closed x lx) marked.1 ∙ shown,
-      ap (λ (i : Image). pick mark mark mark i x) (sym ey) ∙ pick_closed mark mark mark b x (closed x lx) ∙ shown,
+    let shown : take size b ≡ pick size ma mb a b = sym (pick_second size ma mb a b marked.0 marked.1) in (
+      ap (λ (i : Image). pick size ma mb x i) (sym ey) ∙ pick_second size ma mb x b (closed x lx) marked.1 ∙ shown,
+      ap (λ (i : Image). pick size mb ma i x) (sym ey) ∙ pick_closed size mb ma b x (closed x lx) ∙ shown,
     )
+
+-- a mirror without blocks shows none
+pick_none : (size ma mb : ℕ) (a b : Image) → size ≡ 0 → pick size ma mb a b ≡ []
+pick_none size ma mb a b none =
+    let no : (image : Image) → take size image ≡ [] = λ image. subst (λ n. take n image ≡ []) (sym none) refl in
+    elim (is_open_at mb b && not (is_open_at ma a)) as (λ o. (if o then take size b else take size a) ≡ []) [ true ↦ no b | false ↦ no a ]
+
+left_none : (size ma mb : ℕ) (a b : Option Image) (la lb : Image → Type 0) → size ≡ 0 → IfSome (picked size ma mb a b) (PicksAre size ma mb la lb)
+left_none size ma mb None b la lb none = tt
+left_none size ma mb (Some a) None la lb none = tt
+left_none size ma mb (Some a) (Some b) la lb none = λ x y _ _.
+    let shown : [] ≡ pick size ma mb a b = sym (pick_none size ma mb a b none) in
+    (pick_none size ma mb x y none ∙ shown, pick_none size mb ma y x none ∙ shown)
+
+-- so it is of halves in use that are settled
+pub left_settled : (at : Attached) (na nb : ℕ) (a b : Option Image) (la lb : Image → Type 0) → IsInUse (halves_of at) → IsMarked at na nb a b → AreLeftMarked at na nb la lb
+    → (uses_first (halves_of at) ≡ true → 0 < blocks_in at na nb → IsOnly a la) → (uses_second (halves_of at) ≡ true → 0 < blocks_in at na nb → IsOnly b lb)
+    → LeavesShown at na nb a b la lb
+left_settled Nothing na nb a b la lb works marked keeps only_a only_b = tt
+left_settled Alone na nb a b la lb works marked keeps only_a only_b = tt
+left_settled Member na nb a b la lb works marked keeps only_a only_b = tt
+left_settled (Apart h) na nb a b la lb works marked keeps only_a only_b = tt
+left_settled (Pair Neither) na nb a b la lb works marked keeps only_a only_b = absurd works
+left_settled (Pair Both) na nb a b la lb works marked keeps only_a only_b = ⊎_elim
+    (λ (some : 0 < min na nb - 1). left_both (min na nb - 1) (na - 1) (nb - 1) a b la lb marked.marked (only_a refl some) (only_b refl some))
+    (λ (none : min na nb - 1 ≤ 0). left_none (min na nb - 1) (na - 1) (nb - 1) a b la lb (omega (arith, none)))
+    (cases_lt 0 (min na nb - 1))
+left_settled (Pair First) na nb a b la lb works marked keeps only_a only_b = ⊎_elim
+    (λ (some : 0 < min na nb - 1). left_first (min na nb - 1) (na - 1) (nb - 1) a b la lb marked.marked (only_a refl some) keeps.1)
+    (λ (none : min na nb - 1 ≤ 0). left_none (min na nb - 1) (na - 1) (nb - 1) a b la lb (omega (arith, none)))
+    (cases_lt 0 (min na nb - 1))
+left_settled (Pair Second) na nb a b la lb works marked keeps only_a only_b = ⊎_elim
+    (λ (some : 0 < min na nb - 1). left_second (min na nb - 1) (na - 1) (nb - 1) a b la lb marked.marked keeps.0 (only_b refl some))
+    (λ (none : min na nb - 1 ≤ 0). left_none (min na nb - 1) (na - 1) (nb - 1) a b la lb (omega (arith, none)))
+    (cases_lt 0 (min na nb - 1))
 
 -- ---- over the values that calls leave
 
@@ -189,14 +227,22 @@ pub record AreJoined (h : Halves) (na nb na' nb' : ℕ) (a b a' b' : Option Imag
   pub marked : IsMarked (Pair h) na' nb' a' b'
   pub shown : shown_by (Pair h) na' nb' a' b' ≡ shown_by (Pair h) na nb a b
   pub left : LeavesShown (Pair h) na' nb' a' b' la lb
+  pub kept : AreLeftMarked (Pair h) na' nb' la lb
+
+-- of what has so many blocks
+have_at : (mark n : ℕ) (opens : Bool) (left : Image → Type 0) → n ≡ mark + 1 → HaveMark mark opens left → HaveMark (n - 1) opens left
+have_at mark n opens left e have =
+    let is : n - 1 ≡ mark = omega (arith, e) in
+    subst (λ k. HaveMark k opens left) (sym is) have
 
 joined : (h : Halves) (mark na nb na' nb' : ℕ) (a b a' b' : Option Image) (la lb : Image → Type 0) → na ≡ mark + 1 → nb ≡ mark + 1 → na' ≡ na → nb' ≡ nb
     → AreMarked h mark mark mark a' b' → picked mark mark mark a' b' ≡ picked mark mark mark a b → IfSome (picked mark mark mark a' b') (PicksAre mark mark mark la lb)
-    → AreJoined h na nb na' nb' a b a' b' la lb
-joined h mark na nb na' nb' a b a' b' la lb ea eb ca cb marked shown left = record {
+    → AreLeftMarked (Pair h) na' nb' la lb → AreJoined h na nb na' nb' a b a' b' la lb
+joined h mark na nb na' nb' a b a' b' la lb ea eb ca cb marked shown left kept = record {
   marked = joined_marked h mark na' nb' a' b' (ca ∙ ea) (cb ∙ eb) marked;
   shown = joined_shown h mark na nb na' nb' a b a' b' ea eb ca cb shown;
   left = joined_left h mark na' nb' a' b' la lb (ca ∙ ea) (cb ∙ eb) left;
+  kept = kept;
 }
 
 -- the first half was copied
@@ -213,7 +259,8 @@ fore_took mark na nb na' nb' a b a1 b1 a' b' la lb oa ob o ea eb ca cb sa sb ma 
     marked_both mark a a' b' here_a (with_mark mark o false a' eo marked_a) marked_b (subst (λ (i : Option Image). IsCopy mark i b') sa copied) in
     joined Both mark na nb na' nb' a b a' b' la lb ea eb ca cb both
     (shown_first mark oa ob a b a' b' ma mb other here_a here_b marked_b)
-    (left_both mark a' b' la lb both only_a only_b)
+    (left_both mark mark mark a' b' la lb both only_a only_b)
+    (have_at mark na' false la (ca ∙ ea) (only_has (λ i. is_open_at mark i ≡ false) a' only_a (with_mark mark o false a' eo marked_a)), have_at mark nb' false lb (cb ∙ eb) (only_has (λ i. is_open_at mark i ≡ false) b' only_b marked_b))
 
 -- or the copy didn't take it
 pub fore_lost : (mark na nb na' nb' : ℕ) (a b a1 b1 a' b' : Option Image) (la lb : Image → Type 0) (oa ob o : Bool)
@@ -228,7 +275,8 @@ fore_lost mark na nb na' nb' a b a1 b1 a' b' la lb oa ob o ea eb ca cb sa sb ma 
     let one : AreMarked First mark mark mark a' b' = marked_first mark a' b' (with_mark mark o true a' eo marked_a) marked_b in
     joined First mark na nb na' nb' a b a' b' la lb ea eb ca cb one
     (shown_first mark oa ob a b a' b' ma mb other here_a here_b marked_b)
-    (left_first mark a' b' la lb one only_a closed_b)
+    (left_first mark mark mark a' b' la lb one only_a closed_b)
+    (have_at mark na' true la (ca ∙ ea) (only_has (λ i. is_open_at mark i ≡ true) a' only_a (with_mark mark o true a' eo marked_a)), have_at mark nb' false lb (cb ∙ eb) closed_b)
 
 -- the second half was copied
 pub back_took : (mark na nb na' nb' : ℕ) (a b a1 b1 a' b' : Option Image) (la lb : Image → Type 0) (oa ob o : Bool)
@@ -245,7 +293,8 @@ back_took mark na nb na' nb' a b a1 b1 a' b' la lb oa ob o ea eb ca cb sa sb ma 
     let both : AreMarked Both mark mark mark a' b' = marked_both_back mark b a' b' here_b marked_a shut copy in
     joined Both mark na nb na' nb' a b a' b' la lb ea eb ca cb both
     (shown_copied mark a b a' b' (with_mark mark oa false a closed ma) (with_mark mark ob true b opens mb) here_a here_b shut copy)
-    (left_both mark a' b' la lb both only_a only_b)
+    (left_both mark mark mark a' b' la lb both only_a only_b)
+    (have_at mark na' false la (ca ∙ ea) (only_has (λ i. is_open_at mark i ≡ false) a' only_a marked_a), have_at mark nb' false lb (cb ∙ eb) (only_has (λ i. is_open_at mark i ≡ false) b' only_b shut))
 
 -- or the copy didn't take it
 pub back_lost : (mark na nb na' nb' : ℕ) (a b a1 b1 a' b' : Option Image) (la lb : Image → Type 0) (oa ob o : Bool)
@@ -261,4 +310,5 @@ back_lost mark na nb na' nb' a b a1 b1 a' b' la lb oa ob o ea eb ca cb sa sb ma 
     let one : AreMarked Second mark mark mark a' b' = marked_second mark a' b' marked_a wide in
     joined Second mark na nb na' nb' a b a' b' la lb ea eb ca cb one
     (shown_second mark a b a' b' (with_mark mark oa false a closed ma) (with_mark mark ob true b opens mb) here_a here_b marked_a wide)
-    (left_second mark a' b' la lb one closed_a only_b)
+    (left_second mark mark mark a' b' la lb one closed_a only_b)
+    (have_at mark na' false la (ca ∙ ea) closed_a, have_at mark nb' true lb (cb ∙ eb) (only_has (λ i. is_open_at mark i ≡ true) b' only_b wide))

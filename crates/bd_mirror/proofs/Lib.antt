@@ -2,4 +2,5 @@ pub mod Attaching
 pub mod Copies
 pub mod Crashes
 pub mod Joined
+pub mod Leaves
 pub mod Marks

@@ -1,6 +1,6 @@
 -- Marks of images, the pick by them, and how writes change it.
 use Rattle.std.proofs.Common.{◌≡◌, ℕ, ◌+◌, ◌-◌, ◌<◌, ◌≤◌, min, List, [], Option, None, Some, Bool, true, false, if◌then◌else◌, Result, Ok, Err, OnOk, OnErr, refl, sym, ap, subst, ◌∙◌, arith, take}
-use Rattle.std.specs.Prelude.{⊤, IfSome, is_ok, slice_index, slice_index_or, ◌==◌, ◌&&◌, not}
+use Rattle.std.specs.Prelude.{⊤, IfSome, is_ok, is_err, ◌||◌, slice_index, slice_index_or, ◌==◌, ◌&&◌, not}
 use Rattle.std.proofs.lemmas.List.{get_or-set_other, set-get_or}
 use Rattle.std.proofs.Math.Seq.{take-set-lt}
 use Rattle.bd_device.specs.Blocks.{Image}
@@ -33,7 +33,7 @@ is_true : true ≡ false → ⊥
 is_true e = subst IsTruth e tt
 
 -- these are both halves, the first alone, the second alone
-abbrev IsThis : Halves → Halves → Type 0
+abbrev pub IsThis : Halves → Halves → Type 0
 IsThis Both Both = ⊤
 IsThis Both _ = ⊥
 IsThis First First = ⊤
@@ -42,13 +42,13 @@ IsThis Second Second = ⊤
 IsThis Second _ = ⊥
 IsThis Neither _ = ⊤
 
-both_is : {h : Halves} → h ≡ Both → IsThis Both h
+pub both_is : {h : Halves} → h ≡ Both → IsThis Both h
 both_is e = subst (IsThis Both) (sym e) tt
 
-first_is : {h : Halves} → h ≡ First → IsThis First h
+pub first_is : {h : Halves} → h ≡ First → IsThis First h
 first_is e = subst (IsThis First) (sym e) tt
 
-second_is : {h : Halves} → h ≡ Second → IsThis Second h
+pub second_is : {h : Halves} → h ≡ Second → IsThis Second h
 second_is e = subst (IsThis Second) (sym e) tt
 
 -- ---- images
@@ -380,3 +380,11 @@ settled_second P Q (Ok x) at at' na nb nb1 na' nb' is eat c1 cb ca only =
 pub either_way : {T E P Q S : Type 0} (r : Result T E) → OnOk r P → OnErr r Q → (P → S) → (Q → S) → S
 either_way (Ok x) p q f h = f p
 either_way (Err e) p q f h = h q
+
+-- what follows from what holds where a call of the halves is Ok holds where it is counted as one
+pub settled_ok : {T E U F P Q R : Type 0} (halves : Result T E) (counted : Result U F) (done full : Bool) → done ≡ is_ok halves → is_err counted ≡ (not done || full)
+    → OnOk halves P → OnOk halves Q → (P → Q → R) → OnOk counted R
+settled_ok halves (Err e) done full did fails p q f = tt
+settled_ok (Ok x) (Ok y) done full did fails p q f = f p q
+settled_ok (Err e) (Ok y) done full did fails p q f =
+    absurd (is_true (sym (fails ∙ ap (λ o. not o || full) did)))

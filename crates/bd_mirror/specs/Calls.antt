@@ -1,5 +1,5 @@
 -- What a mirror shows, and what its calls leave of its halves.
-use Rattle.std.specs.Prelude.{◌≡◌, ℕ, ◌+◌, ◌^◌, ◌<◌, ◌≤◌, Bool, Option, true, false}
+use Rattle.std.specs.Prelude.{◌≡◌, ℕ, ◌+◌, ◌-◌, ◌^◌, ◌<◌, ◌≤◌, min, Bool, Option, true, false}
 use Rattle.bd_io.specs.Cause.{Rose}
 use Rattle.bd_device.specs.Blocks.{Image}
 use Rattle.bd_device.specs.Device.{left_now}
@@ -7,7 +7,8 @@ use Rattle.bd_device.specs.Moments.{IsOnly}
 use Rattle.bd_device.specs.declared.counts.Counts.{Counts}
 use Rattle.bd_device.specs.declared.device.Device.{Ghosts}
 use Rattle.bd_mirror.specs.Halves.{halves_of, with_halves, uses_first, uses_second, blocks_in}
-use Rattle.bd_mirror.specs.Contents.{shown_by, IsMarked, LeavesShown}
+use Rattle.bd_mirror.specs.Contents.{shown_by, IsMarked, LeavesShown, AreLeftMarked, PicksHave, IsPicked}
+use Rattle.bd_mirror.specs.Crashes.{LeavesPairs}
 use Rattle.bd_mirror.specs.declared.halves.Halves.{Halves}
 use Rattle.bd_mirror.specs.declared.halves.Attached.{Attached}
 use Rattle.bd_mirror.specs.declared.mirror.Mirror.{Mirror}
@@ -32,6 +33,26 @@ abbrev pub LeavesWhatItShows : {A B : Type 0} → Ghosts A → Ghosts B → Mirr
 LeavesWhatItShows a b m = LeavesShown m.attached (a.block_count m.first) (b.block_count m.second)
     (a.contents m.first) (b.contents m.second) (left_now a m.first) (left_now b m.second)
 
+-- also after a crash its marks say which of two halves with marks are in use
+abbrev pub KeepsMarks : {A B : Type 0} → Ghosts A → Ghosts B → Mirror A B → Type 0
+KeepsMarks a b m = AreLeftMarked m.attached (a.block_count m.first) (b.block_count m.second)
+    (left_now a m.first) (left_now b m.second)
+
+-- a crash now may leave this image of two halves with marks: the pick of what it leaves of both
+abbrev pub mirror_left : {A B : Type 0} → Ghosts A → Ghosts B → Mirror A B → Image → Type 0
+mirror_left a b m = IsPicked (min (a.block_count m.first) (b.block_count m.second) - 1)
+    (a.block_count m.first - 1) (b.block_count m.second - 1)
+    (left_now a m.first) (left_now b m.second)
+
+-- each pair of images that a crash inside calls or after them may leave gives an image that has P,
+-- by the pick, whichever half is named first
+abbrev pub LeavesImages : {A B : Type 0} → Ghosts A → Ghosts B → Mirror A B → Mirror A B
+    → (Image → Type 0) → Type 0
+LeavesImages a b old new P = LeavesPairs a.left_since b.left_since a.call_count b.call_count
+    (PicksHave (min (a.block_count old.first) (b.block_count old.second) - 1)
+    (a.block_count old.first - 1) (b.block_count old.second - 1) P)
+    old.first old.second new.first new.second
+
 -- the mirror with this attached
 abbrev pub attached_as : {A B : Type 0} → Attached → Mirror A B → Mirror A B
 attached_as at m = record m { attached = at }
@@ -46,6 +67,7 @@ shown_of a b m first second =
 pub record IsMade {A B : Type 0} (a : Ghosts A) (b : Ghosts B) (m : Mirror A B) : Type 0 where
   pub marked : IsMirror a b m
   pub left : LeavesWhatItShows a b m
+  pub kept : KeepsMarks a b m
 
 -- the halves in use
 abbrev pub in_use : {A B : Type 0} → Mirror A B → Halves

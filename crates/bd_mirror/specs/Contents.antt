@@ -1,5 +1,5 @@
 -- What two halves show together: the pick of their images by their marks.
-use Rattle.std.specs.Prelude.{◌≡◌, ⊤, ℕ, ◌-◌, ◌<◌, ◌&&◌, ◌==◌, min, Bool, true, false, not, if◌then◌else◌, Option, None, Some, IfSome, take, slice_index}
+use Rattle.std.specs.Prelude.{◌≡◌, ⊤, ℕ, ◌-◌, ◌<◌, ◌⊎◌, ◌&&◌, ◌==◌, min, Bool, true, false, not, if◌then◌else◌, Option, None, Some, IfSome, take, slice_index}
 use Rattle.std.specs.Option.{option_map}
 use Rattle.bd_device.specs.Blocks.{Image}
 use Rattle.bd_device.specs.Commits.{block_at}
@@ -80,3 +80,30 @@ abbrev pub IsMarked : Attached → ℕ → ℕ → Option Image → Option Image
 IsMarked (Pair halves) first_count second_count first second =
     HaveMarks halves first_count second_count first second
 IsMarked _ _ _ _ _ = ⊤
+
+-- each of these images has its mark so
+abbrev pub HaveMark : ℕ → Bool → (Image → Type 0) → Type 0
+HaveMark mark opens left = (image : Image) → left image → is_open_at mark image ≡ opens
+
+-- also of the images that a crash may leave of a pair the marks say which halves are in use
+abbrev pub AreLeftMarked : Attached → ℕ → ℕ → (Image → Type 0) → (Image → Type 0) → Type 0
+AreLeftMarked (Pair Both) first_count second_count first second =
+    HaveMark (first_count - 1) false first × HaveMark (second_count - 1) false second
+AreLeftMarked (Pair First) first_count second_count first second =
+    HaveMark (first_count - 1) true first × HaveMark (second_count - 1) false second
+AreLeftMarked (Pair Second) first_count second_count first second =
+    HaveMark (first_count - 1) false first × HaveMark (second_count - 1) true second
+AreLeftMarked _ first_count second_count first second = ⊤
+
+-- the pick of two images, in either order, has P
+abbrev pub PicksHave : ℕ → ℕ → ℕ → (Image → Type 0) → Image → Image → Type 0
+PicksHave size first_mark second_mark P first second =
+    P (pick size first_mark second_mark first second)
+    × P (pick size second_mark first_mark second first)
+
+-- the pick, in one of the two orders, of two of these images
+abbrev pub IsPicked : ℕ → ℕ → ℕ → (Image → Type 0) → (Image → Type 0) → Image → Type 0
+IsPicked size first_mark second_mark first second image =
+    (x y : Image) × first x × second y
+    × ((image ≡ pick size first_mark second_mark x y)
+    ⊎ (image ≡ pick size second_mark first_mark y x))

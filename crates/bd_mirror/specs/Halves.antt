@@ -35,6 +35,13 @@ uses_second First = false
 uses_second Second = true
 uses_second Neither = false
 
+-- a half is in use
+abbrev pub IsInUse : Halves → Type 0
+IsInUse Both = ⊤
+IsInUse First = ⊤
+IsInUse Second = ⊤
+IsInUse Neither = ⊥
+
 -- how many blocks the mirror has, where its halves have so many: a member has one more, its mark
 abbrev pub blocks_in : Attached → ℕ → ℕ → ℕ
 blocks_in Nothing first second = 0

@@ -1,5 +1,5 @@
 -- The calls that each half in use gets: what they change, and what a crash inside them may leave.
-use Rattle.std.specs.Prelude.{⊤, ℕ, ◌<◌, List, [], Option, slice_set}
+use Rattle.std.specs.Prelude.{⊤, ℕ, ◌<◌, ◌⊎◌, List, [], Option, slice_set}
 use Rattle.std.specs.Option.{option_map}
 use Rattle.bd_device.specs.Blocks.{Image}
 use Rattle.bd_device.specs.Moments.{Nothing, TornAt}
@@ -34,3 +34,7 @@ contents_after call bytes contents = option_map (λ image. image_after call byte
 abbrev pub TornBy : WritingCall → (Image → Type 0) → Image → Type 0
 TornBy (Write b from) before = TornAt b before
 TornBy Barrier before = Nothing
+
+-- one of these images, or inside the call one in which its block was torn
+abbrev pub IsLeftBy : WritingCall → (Image → Type 0) → Image → Type 0
+IsLeftBy call before image = before image ⊎ TornBy call before image

@@ -10,10 +10,10 @@ ghost use Rattle.bd_mirror.specs.Crashes.{IsPickOf, Stretch, GoesOn, LosesNothin
 ghost use Rattle.bd_mirror.specs.Names.{HasPlus, IsNamed, first_name, second_name};
 ghost use Rattle.bd_device.specs.Changes.{StaysBut};
 ghost use Rattle.bd_device.specs.Device.{left_now, Goes, FailsLast, Stays};
-ghost use Rattle.bd_device.specs.Moments.{TornAt, IsOnly};
-ghost use Rattle.bd_mirror.specs.Halves.{has_marks, halves_of, with_halves, uses_first, uses_second, blocks_in, EachDid, LeftOnly, AttachedTo, is_two, is_too_many};
-ghost use Rattle.bd_mirror.specs.Writing.{IsWithin, IsBarrier, bytes_of, contents_after};
-ghost use Rattle.bd_mirror.specs.Calls.{blocks_now, shown_now, shown_of, IsMirror, IsMade, LeavesWhatItShows, attached_as, AreSettled, in_use, attached_to, first_of, second_of, counts_of, calls_of, faults_of, write_faults_of, last_of, IsFull, FirstFailed, SecondFailed, HalvesStay};
+ghost use Rattle.bd_device.specs.Moments.{Nothing as Unwritten, TornAt, IsOnly};
+ghost use Rattle.bd_mirror.specs.Halves.{has_marks, IsInUse, halves_of, with_halves, uses_first, uses_second, blocks_in, EachDid, LeftOnly, AttachedTo, is_two, is_too_many};
+ghost use Rattle.bd_mirror.specs.Writing.{IsWithin, IsBarrier, bytes_of, contents_after, TornBy, IsLeftBy};
+ghost use Rattle.bd_mirror.specs.Calls.{blocks_now, shown_now, shown_of, IsMirror, KeepsMarks, mirror_left, LeavesImages, IsMade, LeavesWhatItShows, attached_as, AreSettled, in_use, attached_to, first_of, second_of, counts_of, calls_of, faults_of, write_faults_of, last_of, IsFull, FirstFailed, SecondFailed, HalvesStay};
 
 use crate::copying::{go_on_alone, is_alone, is_open, mirror_onto, open_member};
 use crate::halves::{Attached, Halves};
@@ -73,6 +73,10 @@ impl<A: Device, B: Device> Mirror<A, B> {
             (FirstFailed A.Device self.old self.new) (SecondFailed B.Device self.old self.new)) }
         ensures stays { HalvesStay A.Device B.Device self.old self.new }
         ensures attached { self.new.attached ≡ self.old.attached }
+        ensures first_time { Goes A.Device self.old.first self.new.first Unwritten }
+        ensures second_time { Goes B.Device self.old.second self.new.second Unwritten }
+        ensures marks { KeepsMarks A.Device B.Device self.old
+            → KeepsMarks A.Device B.Device self.new }
         ensures counts { self.new.counts ≡ self.old.counts }
     {
         match self.attached.halves() {
@@ -100,6 +104,16 @@ impl<A: Device, B: Device> Mirror<A, B> {
             → IsMirror A.Device B.Device self.new }
         ensures durable { OnOk result (IsBarrier call.entry
             → AreSettled A.Device B.Device self.new) }
+        ensures works { OnOk result (IsInUse (halves_of self.new.attached)) }
+        ensures marks { IsMirror A.Device B.Device self.old
+            → KeepsMarks A.Device B.Device self.old → KeepsMarks A.Device B.Device self.new }
+        ensures inside { has_marks self.old.attached ≡ true
+            → KeepsMarks A.Device B.Device self.old
+            → LeavesImages A.Device B.Device self.old self.new
+            (IsLeftBy call.entry (mirror_left A.Device B.Device self.old)) }
+        ensures alone { is_two self.old.attached ≡ false
+            → Goes A.Device self.old.first self.new.first
+            (TornBy call.entry (left_now A.Device self.old.first)) }
         ensures why { OnErr result (EachDid (halves_of self.old.attached)
             (FirstFailed A.Device self.old self.new) (SecondFailed B.Device self.old self.new)) }
         ensures in_use { LeftOnly (halves_of self.old.attached) (halves_of self.new.attached)
@@ -130,6 +144,13 @@ impl<A: Device, B: Device> Mirror<A, B> {
             → IsMirror A.Device B.Device self.new }
         ensures durable { OnOk result (IsBarrier call.entry
             → AreSettled A.Device B.Device self.new) }
+        ensures works { OnOk result (IsInUse (halves_of self.new.attached)) }
+        ensures marks { IsMirror A.Device B.Device self.old
+            → KeepsMarks A.Device B.Device self.old → KeepsMarks A.Device B.Device self.new }
+        ensures inside { has_marks self.old.attached ≡ true
+            → KeepsMarks A.Device B.Device self.old
+            → LeavesImages A.Device B.Device self.old self.new
+            (IsLeftBy call.entry (mirror_left A.Device B.Device self.old)) }
         ensures why { OnErr result (FirstFailed A.Device self.old self.new
             × SecondFailed B.Device self.old self.new) }
         ensures in_use { LeftOnly Both (halves_of self.new.attached)
@@ -196,6 +217,12 @@ impl<A: Device, B: Device> Device for Mirror<A, B> {
         ensures attached { attached_to self.new ≡ attached_to self.old }
         ensures stays { HalvesStay A.Device B.Device self.old self.new }
 
+        // Inside it and after it a crash leaves of each half only what it could before.
+        ensures first_time { Goes A.Device (first_of self.old) (first_of self.new) Unwritten }
+        ensures second_time { Goes B.Device (second_of self.old) (second_of self.new) Unwritten }
+        ensures marks { KeepsMarks A.Device B.Device self.old
+            → KeepsMarks A.Device B.Device self.new }
+
         // It fails only where each half in use did, or the count of calls stands at its last value.
         ensures why { OnErr result (IsFull self.old ⊎ EachDid (in_use self.old)
             (FirstFailed A.Device self.old self.new) (SecondFailed B.Device self.old self.new)) }
@@ -226,6 +253,20 @@ impl<A: Device, B: Device> Device for Mirror<A, B> {
             → IsMirror A.Device B.Device self.new }
         ensures stays { HalvesStay A.Device B.Device self.old self.new }
 
+        // Inside it and after it each pair of images that a crash may leave of halves with marks
+        // gives, by the pick in either order, an image that one could give before, or such an image
+        // with the block torn. A half alone is written alone.
+        ensures inside { has_marks (attached_to self.old) ≡ true
+            → KeepsMarks A.Device B.Device self.old
+            → LeavesImages A.Device B.Device self.old self.new
+            (λ image. mirror_left A.Device B.Device self.old image
+            ⊎ TornAt b (mirror_left A.Device B.Device self.old) image) }
+        ensures marks { IsMirror A.Device B.Device self.old
+            → KeepsMarks A.Device B.Device self.old → KeepsMarks A.Device B.Device self.new }
+        ensures alone { is_two (attached_to self.old) ≡ false
+            → Goes A.Device (first_of self.old) (first_of self.new)
+            (TornAt b (left_now A.Device (first_of self.old))) }
+
         // It fails only where each half in use did, or the count of calls stands at its last value,
         // and a half goes out of use only where it did.
         ensures why { OnErr result (IsFull self.old ⊎ EachDid (in_use self.old)
@@ -252,6 +293,19 @@ impl<A: Device, B: Device> Device for Mirror<A, B> {
             → IsMirror A.Device B.Device self.new }
         ensures durable { OnOk result (AreSettled A.Device B.Device self.new) }
         ensures stays { HalvesStay A.Device B.Device self.old self.new }
+
+        // Inside it and after it a crash leaves of halves with marks, by the pick in either order,
+        // only what it could before, and where it succeeded just what the mirror shows.
+        ensures inside { has_marks (attached_to self.old) ≡ true
+            → KeepsMarks A.Device B.Device self.old
+            → LeavesImages A.Device B.Device self.old self.new
+            (mirror_left A.Device B.Device self.old) }
+        ensures marks { IsMirror A.Device B.Device self.old
+            → KeepsMarks A.Device B.Device self.old → KeepsMarks A.Device B.Device self.new }
+        ensures left { OnOk result (IsMirror A.Device B.Device self.old
+            → KeepsMarks A.Device B.Device self.old → LeavesWhatItShows A.Device B.Device self.new) }
+        ensures alone { is_two (attached_to self.old) ≡ false
+            → Goes A.Device (first_of self.old) (first_of self.new) Unwritten }
 
         // It fails as a write does.
         ensures why { OnErr result (IsFull self.old ⊎ EachDid (in_use self.old)
@@ -494,6 +548,7 @@ impl<A: Attach, B: Attach> Attach for Mirror<A, B> {
             (A.block_count (first_of self.new)) (B.block_count (second_of self.new))) }
         ensures mirror { OnOk result (IsMirror A.Device B.Device self.new) }
         ensures left { OnOk result (LeavesWhatItShows A.Device B.Device self.new) }
+        ensures marks { OnOk result (KeepsMarks A.Device B.Device self.new) }
         ensures shows { OnOk result (IfNone create (shown_now A.Device B.Device self.new
             ≡ shown_of A.Device B.Device self.new
             (A.shows (first_of self.old) (first_name name.now))

@@ -1,10 +1,11 @@
-use Rattle.std.proofs.Common.{refl}
+use Rattle.std.proofs.Common.{◌-◌, ◌≤◌, min, false, refl, arith}
 use Rattle.bd_device.proofs.Changes.{stays_same}
 use Rattle.bd_device.proofs.Images.{OnErr-always}
 use Rattle.bd_device.proofs.Refusals.{OnOk-then}
 use Rattle.bd_mirror.specs.declared.halves.Halves.TheVariants.{Neither}
 use Rattle.bd_mirror.specs.Writing.{bytes_of}
 use Rattle.bd_mirror.proofs.Marks.{at_ok, at_err, OnOk-always, both_did, marked_both, kept_first, kept_second, lost_second}
+use Rattle.bd_mirror.proofs.Leaves.{within_pair, within_first, within_second, both_closed, since_call, since_mark, mark_now, inside_both, marks_both, marks_first, marks_second}
 use Rattle.bd_mirror.proofs.mirror.Mirror.call_both.Goals as goal
 
 pub returns-in-Ok-Ok-clause-done : goal.returns-in-Ok-Ok-clause-done
@@ -62,3 +63,75 @@ returns-in-Err-Err-clause-others g c =
       kept_first c.args.call c.args.self.now.attached c.with-self.result Neither _ _ (g.A.Device.block_count c.make-first.new.half) _ _ one.0 two.0 _ _ (g.A.Device.contents c.make-first.new.half) _ _ c.requires.both marked c.requires.room
           c.with-self.ensures c.make-first.ensures.stays.count refl c.make-second.ensures.stays.count one.1 two.1 (stays_same _ _),
     )
+
+-- ---- what a crash inside it may leave
+
+pub returns-in-Ok-Ok-clause-marks : goal.returns-in-Ok-Ok-clause-marks
+returns-in-Ok-Ok-clause-marks g c = λ _ keeps.
+    let m = c.args.self.now in
+    let na = g.A.Device.block_count m.first in
+    let nb = g.B.Device.block_count m.second in
+    marks_both m.attached na nb _ _ _ _ c.requires.both c.make-first.ensures.stays.count c.make-second.ensures.stays.count
+    (λ has. mark_now c.args.call (na - 1) false (within_first c.args.call m.attached na nb has c.requires.room) c.make-first.ensures.time (g.met.A.Device.since_earlier c.make-first.new.half) (both_closed m.attached na nb _ _ c.requires.both has keeps).0)
+    (λ has. mark_now c.args.call (nb - 1) false (within_second c.args.call m.attached na nb has c.requires.room) c.make-second.ensures.time (g.met.B.Device.since_earlier c.make-second.new.half) (both_closed m.attached na nb _ _ c.requires.both has keeps).1)
+
+pub returns-in-Ok-Ok-clause-inside : goal.returns-in-Ok-Ok-clause-inside
+returns-in-Ok-Ok-clause-inside g c = λ has keeps x y lx ly.
+    let m = c.args.self.now in
+    let na = g.A.Device.block_count m.first in
+    let nb = g.B.Device.block_count m.second in
+    let lt = within_pair c.args.call m.attached na nb has c.requires.room in
+    inside_both c.args.call m.attached na nb _ _ x y c.requires.both has keeps
+    (since_call c.args.call (min na nb - 1) lt c.make-first.ensures.time x lx) (since_call c.args.call (min na nb - 1) lt c.make-second.ensures.time y ly)
+
+pub returns-in-Ok-Err-clause-marks : goal.returns-in-Ok-Err-clause-marks
+returns-in-Ok-Err-clause-marks g c = λ marked keeps.
+    let m = c.args.self.now in
+    let na = g.A.Device.block_count m.first in
+    let nb = g.B.Device.block_count m.second in
+    marks_first c.go_on_alone.result m.attached c.go_on_alone.new.attached na nb (g.A.Device.block_count c.make-first.new.half) _ _ (g.A.Device.contents m.first) (g.B.Device.contents m.second) (g.A.Device.contents c.go_on_alone.new.half) _ _
+    c.requires.both marked c.go_on_alone.ensures.alone c.make-first.ensures.stays.count c.go_on_alone.ensures.stays.count c.make-second.ensures.stays.count
+    c.go_on_alone.ensures.opened c.go_on_alone.ensures.durable
+    (λ has. mark_now c.args.call (nb - 1) false (within_second c.args.call m.attached na nb has c.requires.room) c.make-second.ensures.time (g.met.B.Device.since_earlier c.make-second.new.half) (both_closed m.attached na nb _ _ c.requires.both has keeps).1)
+
+pub returns-in-Ok-Err-clause-inside : goal.returns-in-Ok-Err-clause-inside
+returns-in-Ok-Err-clause-inside g c = λ has keeps x y lx ly.
+    let m = c.args.self.now in
+    let na = g.A.Device.block_count m.first in
+    let nb = g.B.Device.block_count m.second in
+    let lt = within_pair c.args.call m.attached na nb has c.requires.room in
+    let before : min na nb - 1 ≤ g.A.Device.block_count c.make-first.new.half - 1 = omega (arith, c.make-first.ensures.stays.count) in
+    inside_both c.args.call m.attached na nb _ _ x y c.requires.both has keeps
+    (since_mark c.args.call (min na nb - 1) (g.A.Device.block_count c.make-first.new.half - 1) lt before c.make-first.ensures.time c.go_on_alone.ensures.time (g.met.A.Device.since_earlier c.make-first.new.half) x lx)
+    (since_call c.args.call (min na nb - 1) lt c.make-second.ensures.time y ly)
+
+pub returns-in-Err-Ok-clause-marks : goal.returns-in-Err-Ok-clause-marks
+returns-in-Err-Ok-clause-marks g c = λ marked keeps.
+    let m = c.args.self.now in
+    let na = g.A.Device.block_count m.first in
+    let nb = g.B.Device.block_count m.second in
+    let went = c.go_on_alone-in-Err-Ok in
+    marks_second went.result m.attached went.new.attached na nb (g.B.Device.block_count c.make-second.new.half) _ _ (g.A.Device.contents m.first) (g.B.Device.contents m.second) (g.B.Device.contents went.new.half) _ _
+    c.requires.both marked went.ensures.alone c.make-second.ensures.stays.count went.ensures.stays.count c.make-first.ensures.stays.count
+    went.ensures.opened went.ensures.durable
+    (λ has. mark_now c.args.call (na - 1) false (within_first c.args.call m.attached na nb has c.requires.room) c.make-first.ensures.time (g.met.A.Device.since_earlier c.make-first.new.half) (both_closed m.attached na nb _ _ c.requires.both has keeps).0)
+
+pub returns-in-Err-Ok-clause-inside : goal.returns-in-Err-Ok-clause-inside
+returns-in-Err-Ok-clause-inside g c = λ has keeps x y lx ly.
+    let m = c.args.self.now in
+    let na = g.A.Device.block_count m.first in
+    let nb = g.B.Device.block_count m.second in
+    let lt = within_pair c.args.call m.attached na nb has c.requires.room in
+    let before : min na nb - 1 ≤ g.B.Device.block_count c.make-second.new.half - 1 = omega (arith, c.make-second.ensures.stays.count) in
+    inside_both c.args.call m.attached na nb _ _ x y c.requires.both has keeps
+    (since_call c.args.call (min na nb - 1) lt c.make-first.ensures.time x lx)
+    (since_mark c.args.call (min na nb - 1) (g.B.Device.block_count c.make-second.new.half - 1) lt before c.make-second.ensures.time c.go_on_alone-in-Err-Ok.ensures.time (g.met.B.Device.since_earlier c.make-second.new.half) y ly)
+
+pub returns-in-Err-Err-clause-inside : goal.returns-in-Err-Err-clause-inside
+returns-in-Err-Err-clause-inside g c = λ has keeps x y lx ly.
+    let m = c.args.self.now in
+    let na = g.A.Device.block_count m.first in
+    let nb = g.B.Device.block_count m.second in
+    let lt = within_pair c.args.call m.attached na nb has c.requires.room in
+    inside_both c.args.call m.attached na nb _ _ x y c.requires.both has keeps
+    (since_call c.args.call (min na nb - 1) lt c.make-first.ensures.time x lx) (since_call c.args.call (min na nb - 1) lt c.make-second.ensures.time y ly)

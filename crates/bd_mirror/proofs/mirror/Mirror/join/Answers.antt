@@ -40,7 +40,7 @@ returns-then-branch-clause-mirror g c =
     (alone_open c.in_ok-second_open.second_open c.in_ok-first_open.first_open (sym c.is_alone.ensures ∙ c.if-is_alone.true))
     c.mirror_onto.ensures.copy_others c.mirror_onto.ensures.source_others c.in_ok-mirror_onto.ensures.copy_mark (ap not c.if-branch.true) c.in_ok-mirror_onto.ensures.source_mark
     (c.in_ok-mirror_onto.ensures.copied c.if-branch.true) (c.in_ok-mirror_onto.ensures.copy_durable c.if-branch.true) c.in_ok-mirror_onto.ensures.source_durable in
-    record { marked = all.marked; left = all.left }
+    record { marked = all.marked; left = all.left; kept = all.kept }
 
 pub returns-then-branch-clause-shown : goal.returns-then-branch-clause-shown
 returns-then-branch-clause-shown g c =
@@ -72,7 +72,7 @@ returns-then-is_alone-clause-mirror g c =
     (alone_open c.in_ok-second_open.second_open c.in_ok-first_open.first_open (sym c.is_alone.ensures ∙ c.if-is_alone.true))
     c.mirror_onto.ensures.copy_others c.mirror_onto.ensures.source_others c.in_ok-mirror_onto.ensures.copy_mark (ap not c.if-branch.false) c.in_ok-mirror_onto.ensures.source_mark
     c.in_ok-mirror_onto.ensures.copy_left c.in_ok-mirror_onto.ensures.source_durable in
-    record { marked = all.marked; left = all.left }
+    record { marked = all.marked; left = all.left; kept = all.kept }
 
 pub returns-then-is_alone-clause-shown : goal.returns-then-is_alone-clause-shown
 returns-then-is_alone-clause-shown g c =
@@ -103,7 +103,7 @@ returns-then-branch-2-clause-mirror g c =
     (sym c.is_alone.ensures ∙ c.if-is_alone.false)
     c.mirror_onto-2.ensures.source_others c.mirror_onto-2.ensures.copy_others (ap not c.if-branch-2.true) c.in_ok-mirror_onto-2.ensures.source_mark c.in_ok-mirror_onto-2.ensures.copy_mark
     (c.in_ok-mirror_onto-2.ensures.copied c.if-branch-2.true) c.in_ok-mirror_onto-2.ensures.source_durable (c.in_ok-mirror_onto-2.ensures.copy_durable c.if-branch-2.true) in
-    record { marked = all.marked; left = all.left }
+    record { marked = all.marked; left = all.left; kept = all.kept }
 
 pub returns-then-branch-2-clause-shown : goal.returns-then-branch-2-clause-shown
 returns-then-branch-2-clause-shown g c =
@@ -133,7 +133,7 @@ returns-clause-mirror g c =
     (sym c.is_alone.ensures ∙ c.if-is_alone.false)
     c.mirror_onto-2.ensures.source_others c.mirror_onto-2.ensures.copy_others (ap not c.if-branch-2.false) c.in_ok-mirror_onto-2.ensures.source_mark c.in_ok-mirror_onto-2.ensures.copy_mark
     c.in_ok-mirror_onto-2.ensures.source_durable c.in_ok-mirror_onto-2.ensures.copy_left in
-    record { marked = all.marked; left = all.left }
+    record { marked = all.marked; left = all.left; kept = all.kept }
 
 pub returns-clause-shown : goal.returns-clause-shown
 returns-clause-shown g c =
