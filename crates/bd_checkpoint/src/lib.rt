@@ -9,11 +9,15 @@ mod commands;
 mod following;
 pub mod laws;
 mod publishing;
+mod recovering;
 mod resuming;
+mod starting;
 mod syncing;
 
 pub use commands::{PlacedCommand, commands_of};
 pub use following::next_super;
 pub use publishing::publish_next;
+pub use recovering::{Recovered, recover};
 pub use resuming::resume_log;
+pub use starting::{clear_supers, first_super, publish_first};
 pub use syncing::sync;
