@@ -99,7 +99,7 @@ module _ (slots : ℕ) (commit body first second rest : List ℕ) (many : 24 ≤
   front : Image
   front = commit ∷ body ∷ replicate 130 rest
 
-  image : Image
+  abbrev image : Image
   image = put_together slots commit body first second rest
 
   spare : Image
@@ -112,8 +112,12 @@ module _ (slots : ℕ) (commit body first second rest : List ℕ) (many : 24 ≤
   two_long : length (front ++ blocks_of 16 first) ≡ 148
   two_long = omega (arith, length-append front (blocks_of 16 first), front_long, length-blocks_of 16 first)
 
+  spare_long : length spare ≡ 16 * (slots - 2)
+  unfolding spare
+  spare_long = length-replicate (16 * (slots - 2)) rest
+
   parts : image ≡ front ++ blocks_of 16 first ++ blocks_of 16 second ++ spare
-  unfolding front image spare
+  unfolding front spare put_together
   parts = refl
 
   pub length-parts : length image ≡ image_blocks slots
@@ -128,10 +132,6 @@ module _ (slots : ℕ) (commit body first second rest : List ℕ) (many : 24 ≤
         length-blocks_of 16 second,
         spare_long,
       )
-    where
-      spare_long : length spare ≡ 16 * (slots - 2)
-      unfolding spare
-      spare_long = length-replicate (16 * (slots - 2)) rest
 
   pub first_there : bytes_at image (slot_block 0) 16 ≡ first
   first_there =
@@ -142,17 +142,17 @@ module _ (slots : ℕ) (commit body first second rest : List ℕ) (many : 24 ≤
   second_there = ap (λ (i : Image). bytes_at i 148 16) parts ∙ bytes_after (front ++ blocks_of 16 first) spare second 148 16 two_long (omega (arith, holds))
 
   pub commit_there : block_at image 0 ≡ commit
-  unfolding image
+  unfolding put_together
   commit_there = refl
 
   pub body_there : block_at image 1 ≡ body
-  unfolding image
+  unfolding put_together
   body_there = refl
 
   pub other_there : block_at image 2 ≡ rest
-  unfolding image
+  unfolding put_together
   other_there = refl
 
   pub log_there : block_at image 4 ≡ rest
-  unfolding image
+  unfolding put_together
   log_there = refl

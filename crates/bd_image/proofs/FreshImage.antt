@@ -108,7 +108,7 @@ are_put slots commit body rest n t count on off is shape level small of one =
       };
       table = (of, one_slot image 1 (omega (arith, size, count.0)) ∙ second_there slots commit body first second rest count.0 fits holds);
       root = record { shape = shape; level_is = level; image_is = first_there slots commit body first second rest count.0 fits holds };
-      log = λ open. off (sym (ap (λ (l : List ℕ). slice_index l 0) (log_there slots commit body first second rest count.0 fits holds)) ∙ open);
+      log = λ set. off (sym (ap (λ (l : List ℕ). slice_index l 0) (log_there slots commit body first second rest count.0 fits holds)) ∙ set);
     }
 
 pub fresh_there : ((n : Node) → IsShape n → length (node_bytes n) ≤ 65536) → (slots : ℕ) → IsSlotCount slots → IsFresh (fresh_image slots) (first_super slots place) 0

@@ -64,7 +64,7 @@ blocks_of (suc count) bytes = take block_size bytes ∷ blocks_of count (drop bl
 
 -- an image of so many slots with this commit block and this body in the first half, these bytes in
 -- the first two slots, and one block everywhere else
-abbrev pub put_together : ℕ → List ℕ → List ℕ → List ℕ → List ℕ → List ℕ → Image
+unfoldable pub put_together : ℕ → List ℕ → List ℕ → List ℕ → List ℕ → List ℕ → Image
 put_together slots commit body first second rest =
     commit ∷ body ∷ replicate 130 rest
     ++ blocks_of slot_blocks first ++ blocks_of slot_blocks second
