@@ -9,4 +9,5 @@ pub mod Entries
 pub mod Slotted
 pub mod Opened
 pub mod Replaying
-pub mod Recovering
+pub mod Causes
+pub mod Cleared

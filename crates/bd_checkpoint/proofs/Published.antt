@@ -37,8 +37,8 @@ beside_live live next follows = sym (other_twice live.half) ∙ ap other (sym (b
 pub same_slots : (live next : Super) → IsNext live next → next.slots ≡ live.slots
 same_slots live next follows = ap (λ (s : Super). s.slots) follows
 
-pub of_today : (live next : Super) → IsNext live next → version_of next ≡ 2
-of_today live next follows = ap (λ (s : Super). version_number s.version) follows
+pub of_today : (live next : Super) → IsNext live next → 2 ≤ version_of next
+of_today live next follows = omega (arith, ap (λ (s : Super). version_number s.version) follows)
 
 pub can_follow : (known : Option Image) (live next : Super) → IsNext live next → IfSome known (λ image. IsLive image live) → IfSome known (CanFollow next)
 can_follow None live next follows is = tt
@@ -58,7 +58,7 @@ as_staged live next saved place old new follows starts same same_live = λ tree 
     (s, t, p, staged next.half s t p tree count old new half same same_live h)
 
 -- published: the tree of the nodes that were written
-as_new : (known : Option Image) (next : Super) (t : StoredTable) (nodes : Nodes) (tree : Tree) (new : Image) → version_of next ≡ 2 → AreWritten known next t nodes tree → IsPublished next known new
+as_new : (known : Option Image) (next : Super) (t : StoredTable) (nodes : Nodes) (tree : Tree) (new : Image) → 2 ≤ version_of next → AreWritten known next t nodes tree → IsPublished next known new
     → ImageStandsFor tree next.count new
 as_new None next t nodes tree new today written is = absurd is.outside
 as_new (Some old) next t nodes tree new today written is =
@@ -84,7 +84,7 @@ old_or_new known before count live next saved log t nodes tree follows given wri
 pub of_left : (P : Image → Type 0) (now : Option Image) (c : Image) → IfSome now P → now ≡ Some c → P c
 of_left P now c is same = subst (λ (o : Option Image). IfSome o P) same is
 
-pub all_new : (known now : Option Image) (left : Image → Type 0) (next : Super) (t : StoredTable) (nodes : Nodes) (tree : Tree) → version_of next ≡ 2 → AreWritten known next t nodes tree
+pub all_new : (known now : Option Image) (left : Image → Type 0) (next : Super) (t : StoredTable) (nodes : Nodes) (tree : Tree) → 2 ≤ version_of next → AreWritten known next t nodes tree
     → IfSome now (IsPublished next known) → IsOnly now left → AllStandFor tree next.count left
 all_new known now left next t nodes tree today written is only =
     λ c was. as_new known next t nodes tree c today written (of_left (IsPublished next known) now c is (only c was))

@@ -1,6 +1,6 @@
 //! How a volume starts from an image.
 
-ghost use Rattle.std.specs.Prelude.{◌≡◌, ◌≢◌, ◌≤◌, ℕ, None, IsSome, IfOk, IfErr, IfSome, IsSomeAnd, OnOk};
+ghost use Rattle.std.specs.Prelude.{◌≡◌, ◌≢◌, ◌≤◌, ℕ, false, None, IsSome, IfOk, IfErr, IfSome, IsSomeAnd, OnOk};
 ghost use Rattle.bd_limits.specs.Limits.{first_slot_block};
 ghost use Rattle.bd_model.specs.Tree.{Tree};
 ghost use Rattle.bd_slots.specs.Layout.{image_blocks};
