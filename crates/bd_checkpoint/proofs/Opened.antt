@@ -21,7 +21,7 @@ use Rattle.bd_table.specs.declared.table.TableEntry.{TableEntry}
 use Rattle.bd_pager.specs.declared.place.Spot.{Spot}
 use Rattle.bd_pager.specs.Slots.{slot_bytes, HasNode}
 use Rattle.bd_pager.specs.Places.{node_at, node_of, nodes_at}
-use Rattle.bd_pager.specs.Pagers.{Paged, spots_of, table_at, table_of, is_saved, is_changed_place, is_changed, touched_at}
+use Rattle.bd_pager.specs.Pagers.{Paged, spots_of, table_at, table_of, IsKnownOver, is_known, is_saved, is_changed_place, is_changed, touched_at}
 use Rattle.bd_pager.specs.Entries.{saved_spot}
 use Rattle.bd_pager.specs.Opened.{root_spot, IsOpened}
 use Rattle.bd_pager.proofs.OpenedLemmas.{search_id, slot_within}
@@ -157,3 +157,29 @@ module _ {D : Type 0} (g : Ghosts D) (decoded : AreDecoded) (image : Image) (slo
 pub stored_known : {D : Type 0} (g : Ghosts D) (decoded : AreDecoded) (known : Option Image) (slots : ℕ) (at : List ℕ) (p : Paged D) → IsOpened known slots at p → g.contents p.dev ≡ known → IfSome known (AreStored g p)
 stored_known g decoded None slots at p h told = tt
 stored_known g decoded (Some image) slots at p h told = opened_stored g decoded image slots at p h told
+
+-- ---- after reads of the device
+
+pub opened_on : {D : Type 0} (known : Option Image) (slots : ℕ) (at : List ℕ) (p : Paged D) (d : D) → IsOpened known slots at p → IsOpened known slots at (record p { dev = d; is_lent = false })
+opened_on known slots at p d h = record {
+  table = h.table;
+  entry = h.entry;
+  among = h.among;
+  is_root = h.is_root;
+  node = h.node;
+  of_level = h.of_level;
+  spots = h.spots;
+  at_is = h.at_is;
+  spare = h.spare;
+  root = h.root;
+  next = h.next;
+  size = h.size;
+  cached = h.cached;
+  visits = h.visits;
+  lent = refl;
+  table_held = h.table_held;
+  root_held = h.root_held;
+}
+
+pub known_on : {D : Type 0} (g : Ghosts D) (p : Paged D) (d : D) → g.contents d ≡ g.contents p.dev → is_known g p → is_known g (record p { dev = d; is_lent = false })
+known_on g p d same known = subst (λ (o : Option Image). IsKnownOver o (spots_of p)) (sym same) known
