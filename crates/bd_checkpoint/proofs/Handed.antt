@@ -1,5 +1,5 @@
 -- What is known is handed on over reads, and from one call to the next.
-use Rattle.std.proofs.Common.{◌≡◌, ℕ, inl, inr, Option, IfSome, sym, subst, ◌∙◌}
+use Rattle.std.proofs.Common.{◌≡◌, ℕ, inl, inr, Option, IfSome, Result, Ok, Err, OnOk, sym, subst, ◌∙◌}
 use Rattle.std.specs.Prelude.{IsSomeAnd}
 use Rattle.bd_model.specs.Tree.{Tree}
 use Rattle.bd_device.specs.Blocks.{Image}
@@ -28,3 +28,8 @@ from_before before middle tree count all c (inl is) =
     let one = all is.0 is.1 in
     inl (one.0, one.1, λ t n stands. is.2 t n (one.2 t n stands))
 from_before before middle tree count all c (inr new) = inr new
+
+-- what follows from two clauses at Ok
+pub both_ok : {T E P Q R : Type 0} (r : Result T E) → (P → Q → R) → OnOk r P → OnOk r Q → OnOk r R
+both_ok (Ok x) f p q = f p q
+both_ok (Err e) f p q = tt

@@ -5,3 +5,9 @@ pub mod Records
 pub mod Spare
 pub mod Resumed
 pub mod Handed
+pub mod Entries
+pub mod Slotted
+pub mod Opened
+pub mod Replaying
+pub mod Causes
+pub mod Cleared

@@ -37,8 +37,8 @@ beside_live live next follows = sym (other_twice live.half) ∙ ap other (sym (b
 pub same_slots : (live next : Super) → IsNext live next → next.slots ≡ live.slots
 same_slots live next follows = ap (λ (s : Super). s.slots) follows
 
-of_today : (live next : Super) → IsNext live next → version_of next ≡ 2
-of_today live next follows = ap (λ (s : Super). version_number s.version) follows
+pub of_today : (live next : Super) → IsNext live next → 2 ≤ version_of next
+of_today live next follows = omega (arith, ap (λ (s : Super). version_number s.version) follows)
 
 pub can_follow : (known : Option Image) (live next : Super) → IsNext live next → IfSome known (λ image. IsLive image live) → IfSome known (CanFollow next)
 can_follow None live next follows is = tt
@@ -58,11 +58,10 @@ as_staged live next saved place old new follows starts same same_live = λ tree 
     (s, t, p, staged next.half s t p tree count old new half same same_live h)
 
 -- published: the tree of the nodes that were written
-as_new : (known : Option Image) (live next : Super) (t : StoredTable) (nodes : Nodes) (tree : Tree) (new : Image) → IsNext live next → AreWritten known next t nodes tree → IsPublished next known new
+as_new : (known : Option Image) (next : Super) (t : StoredTable) (nodes : Nodes) (tree : Tree) (new : Image) → 2 ≤ version_of next → AreWritten known next t nodes tree → IsPublished next known new
     → ImageStandsFor tree next.count new
-as_new None live next t nodes tree new follows written is = absurd is.outside
-as_new (Some old) live next t nodes tree new follows written is =
-    let today : version_of next ≡ 2 = of_today live next follows in
+as_new None next t nodes tree new today written is = absurd is.outside
+as_new (Some old) next t nodes tree new today written is =
     let have : HaveTree (version_of next) t nodes tree = record {
       sound = written.have.sound;
       is_tree = written.have.is_tree;
@@ -77,7 +76,7 @@ pub old_or_new : (known : Option Image) (before : Image → Type 0) (count : ℕ
 old_or_new known before count live next saved log t nodes tree follows given written c (inl is) =
     inl (is.old, is.was, as_staged live next saved log.place is.old c follows (given.each is.old is.was) is.outside is.live)
 old_or_new known before count live next saved log t nodes tree follows given written c (inr is) =
-    inr (as_new known live next t nodes tree c follows written is)
+    inr (as_new known next t nodes tree c (of_today live next follows) written is)
 
 -- ---- once it is Ok
 
@@ -85,10 +84,10 @@ old_or_new known before count live next saved log t nodes tree follows given wri
 pub of_left : (P : Image → Type 0) (now : Option Image) (c : Image) → IfSome now P → now ≡ Some c → P c
 of_left P now c is same = subst (λ (o : Option Image). IfSome o P) same is
 
-pub all_new : (known now : Option Image) (left : Image → Type 0) (live next : Super) (t : StoredTable) (nodes : Nodes) (tree : Tree) → IsNext live next → AreWritten known next t nodes tree
+pub all_new : (known now : Option Image) (left : Image → Type 0) (next : Super) (t : StoredTable) (nodes : Nodes) (tree : Tree) → 2 ≤ version_of next → AreWritten known next t nodes tree
     → IfSome now (IsPublished next known) → IsOnly now left → AllStandFor tree next.count left
-all_new known now left live next t nodes tree follows written is only =
-    λ c was. as_new known live next t nodes tree c follows written (of_left (IsPublished next known) now c is (only c was))
+all_new known now left next t nodes tree today written is only =
+    λ c was. as_new known next t nodes tree c today written (of_left (IsPublished next known) now c is (only c was))
 
 -- no block of a slot is written
 not_slot : (half : Half) (b : ℕ) → 132 ≤ b → ¬ IsOfHalf half b
@@ -116,12 +115,12 @@ live_now : (known now : Option Image) (next : Super) → IfSome now (IsPublished
 live_now known None next is = tt
 live_now known (Some image) next is = is.live
 
-pub open_new : (known now : Option Image) (left : Image → Type 0) (count total : ℕ) (live next : Super) (t : StoredTable) → IsSuper next → IsNext live next → count ≡ image_blocks live.slots
+pub open_new : (known now : Option Image) (left : Image → Type 0) (count total : ℕ) (next : Super) (t : StoredTable) → IsSuper next → count ≡ image_blocks next.slots
     → total ≡ count → IfSome known (HasTableOf next t) → IfSome now (IsPublished next known) → IsOnly now left
     → IsOpen now left total next (saved_by next t) (fresh_log (log_block next.half) next.epoch)
-open_new known now left count total live next t fits follows size same table is only = record {
+open_new known now left count total next t fits size same table is only = record {
   fits = fits;
-  size = same ∙ size ∙ ap image_blocks (sym (same_slots live next follows));
+  size = same ∙ size;
   live_is = live_now known now next is;
   settled = λ c was. subst (λ (o : Option Image). IsSomeAnd o (λ image. SameSuperblocks image c)) (sym (only c was)) (record { size = refl; blocks = λ b low. refl });
   each = λ c was. starts_new known next t c table (of_left (IsPublished next known) now c is (only c was));

@@ -3,3 +3,4 @@ pub mod Following
 pub mod Kept
 pub mod Spare
 pub mod Resuming
+pub mod Recovering

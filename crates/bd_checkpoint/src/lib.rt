@@ -6,14 +6,18 @@
 #![tactic(auto)]
 
 mod commands;
+mod first;
 mod following;
 pub mod laws;
 mod publishing;
+mod recovering;
 mod resuming;
 mod syncing;
 
 pub use commands::{PlacedCommand, commands_of};
+pub use first::{clear_supers, first_super, publish_first};
 pub use following::next_super;
 pub use publishing::publish_next;
+pub use recovering::{Recovered, recover};
 pub use resuming::resume_log;
 pub use syncing::sync;

@@ -60,7 +60,7 @@ new_root_of =
     let same : new_root ≡ stored.node = (let e : Some new_root ≡ Some stored.node = stored.there in cc) in
     subst (IsNodeOf new_table 1) (sym same) stored.of_table
 
-root_shape : IsShape fresh_root
+pub root_shape : IsShape fresh_root
 root_shape = (node_appended new_table new_root root_messages new_root_of refl root_fits).shape
 
 -- ---- its nodes are sound

@@ -5,3 +5,5 @@ pub mod Undamaged
 pub mod Syncs
 pub mod Checkpoints
 pub mod Fresh
+pub mod FreshBytes
+pub mod FreshImage

@@ -1,9 +1,10 @@
 //! What follows from the definitions of what an image stands for. Each function here carries a law,
 //! and does nothing.
 
-ghost use Rattle.std.specs.Prelude.{◌≡◌, ◌+◌, ◌⊎◌, ℕ, List, Some, Contains};
+ghost use Rattle.std.specs.Prelude.{◌≡◌, ◌+◌, ◌⊎◌, ℕ, List, [], ◌∷◌, Some, Contains};
 ghost use Rattle.bd_limits.specs.Limits.{log_blocks};
 ghost use Rattle.bd_model.specs.Tree.{Tree, root_only};
+ghost use Rattle.bd_slots.specs.Layout.{IsSlotCount};
 ghost use Rattle.bd_device.specs.Blocks.{Image};
 ghost use Rattle.bd_device.specs.Changes.{SameBut, IsInRange};
 ghost use Rattle.bd_node.specs.Meaning.{Nodes};
@@ -21,10 +22,10 @@ ghost use Rattle.bd_image.specs.ImageTree.{HaveTree, HasTree, ImageStandsFor};
 ghost use Rattle.bd_image.specs.Used.{used_slots, IsOfSlots, SameUsed};
 ghost use Rattle.bd_image.specs.Synced.{IsLogOf, HasTreeAfter};
 ghost use Rattle.bd_image.specs.Damage.{IsBadAt};
-ghost use Rattle.bd_image.specs.Fresh.{IsFresh};
+ghost use Rattle.bd_image.specs.Fresh.{IsFresh, first_super, fresh_image};
 
 use bd_command::laws::log_records_are_prefix_free;
-use bd_format::laws::images_are_of_one_node;
+use bd_format::laws::{images_are_of_one_node, nodes_fit_slots};
 use bd_log::laws::{batches_are_one, damage_excludes_batches};
 use bd_represent::laws::one_represented;
 use bd_super::laws::{damage_is_exact, one_superblock_is_live};
@@ -89,6 +90,15 @@ pub fn fresh_images_have_the_root()
     ensures { (image : Image) (s : Super) (slot : ℕ) → IsFresh image s slot
         → ImageStandsFor root_only 0 image }
 {}
+
+/// For each number of slots there is such an image, to the byte: where a format has written over
+/// zeros.
+pub fn fresh_images_are_there()
+    ensures { (slots : ℕ) → IsSlotCount slots
+        → IsFresh (fresh_image slots) (first_super slots (1 ∷ [])) 0 }
+{
+    nodes_fit_slots();
+}
 
 /// An image that stands for a tree has no bad block.
 pub fn trees_are_undamaged()

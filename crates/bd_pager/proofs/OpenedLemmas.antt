@@ -30,7 +30,7 @@ of_all : {X : Type 0} (P : X → Type 0) (xs : List X) (x : X) → All P xs → 
 of_all P xs x all among = subst P among.2 (all among.0 x among.1)
 
 -- an id is that of some entry or of none
-search_id : (entries : List TableEntry) (id : ℕ) → All (λ e. e.id ≢ id) entries ⊎ ((e : TableEntry) × Contains entries e × (e.id ≡ id))
+pub search_id : (entries : List TableEntry) (id : ℕ) → All (λ e. e.id ≢ id) entries ⊎ ((e : TableEntry) × Contains entries e × (e.id ≡ id))
 search_id [] id = inl (λ k d lt. absurd (omega (arith, lt)))
 search_id (x ∷ entries) id = elim (cases_eq x.id id) [
   | inl same ↦ inr (x, (0, omega arith, refl), same)
@@ -87,7 +87,7 @@ module _ {D : Type 0} (contents : Option Image) (slots : ℕ) (at : List ℕ) (p
   entry_of e among = of_all IsTableEntry p.saved.entries e h.table.entries.each among
 
   -- the slot of an entry is one of those that there are
-  slot_within : (e : TableEntry) → Contains p.saved.entries e → e.slot < length p.spare
+  pub slot_within : (e : TableEntry) → Contains p.saved.entries e → e.slot < length p.spare
   slot_within e among =
       let own : Contains (slots_of p.saved.entries) e.slot = (
         among.0,
@@ -111,7 +111,7 @@ module _ {D : Type 0} (contents : Option Image) (slots : ℕ) (at : List ℕ) (p
       let below : k.entry.id < p.saved.next_id = of_all (λ (e : TableEntry). e.id < p.saved.next_id) p.saved.entries k.entry h.table.entries.below_next k.among in
       (omega (arith, k.id_is, (entry_of k.entry k.among).id), omega (arith, k.id_is, below, h.next))
 
-  root_is : spots_of p p.root ≡ Some (root_spot h.entry h.node)
+  pub root_is : spots_of p p.root ≡ Some (root_spot h.entry h.node)
   root_is = ap (spots_of p) h.root ∙ h.spots.root_there
 
   pub opened_paged : (now : Option Image) → IsPaged now p

@@ -51,10 +51,20 @@ pub record IsOpened {D : Type 0} (contents : Option Image) (slots : ℕ) (at : L
   pub table_held : IfSome contents (λ image. HoldsTable image slots at p.saved)
   pub root_held : IfSome contents (λ image. HasNode image entry.slot entry.level node.value)
 
+-- the block is the first one of the slot that a table's entry of the root names, which has no such
+-- node
+pub record IsBadRoot (image : Image) (slots : ℕ) (at : List ℕ) (b : ℕ) : Type 0 where
+  pub table : Checkpoint
+  pub held : HoldsTable image slots at table
+  pub entry : TableEntry
+  pub among : Contains table.entries entry
+  pub is_root : IsRoot table.root entry
+  pub block : b ≡ slot_block entry.slot
+  pub none : HasNoNode image entry.slot entry.level
+
 -- the block is the first one of the table's slots, which have none, or of the root's, which has no
 -- such node
 abbrev pub IsBadStart : Option Image → ℕ → List ℕ → ℕ → Type 0
 IsBadStart contents slots at b = IfSome contents (λ image.
     ((b ≡ slot_block (slice_index at 0)) × HasNoTable image slots at)
-    ⊎ ((t : Checkpoint) × HoldsTable image slots at t × (e : TableEntry) × IsRoot t.root e
-    × (b ≡ slot_block e.slot) × HasNoNode image e.slot e.level))
+    ⊎ IsBadRoot image slots at b)

@@ -303,6 +303,15 @@ impl<D: Device> Pager<D> {
         &mut self.reader.dev
     }
 
+    /// The device, in place of the pager.
+    pub fn into_device(self) -> D
+        ensures { result ≡ self.dev }
+    {
+        let Pager { reader, .. } = self;
+        let NodeReader { dev, .. } = reader;
+        dev
+    }
+
     /// Tells it that the slots have what was read of them, since what was done with the device has
     /// left them alone.
     pub fn take_back(&mut self)

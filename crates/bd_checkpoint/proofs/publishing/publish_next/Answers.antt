@@ -8,7 +8,7 @@ use Rattle.bd_log.specs.Logs.{LogState, fresh_log}
 use Rattle.bd_image.specs.Standing.{IsOldOrNew}
 use Rattle.bd_checkpoint.specs.Kept.{IsOpenOn}
 use Rattle.bd_checkpoint.specs.Following.{saved_by}
-use Rattle.bd_checkpoint.proofs.Published.{same_slots, can_follow, old_or_new, all_new, open_new}
+use Rattle.bd_checkpoint.proofs.Published.{same_slots, of_today, can_follow, old_or_new, all_new, open_new}
 use Rattle.bd_checkpoint.proofs.publishing.publish_next.Goals as goal
 
 pub publish-requires-clause-size : goal.publish-requires-clause-size
@@ -41,7 +41,7 @@ pub returns-clause-kept : goal.returns-clause-kept
 returns-clause-kept g c = λ t nodes tree written.
     let D = g.D.Device in
     let new = c.publish.new.dev in
-    all_new (D.contents c.args.dev.now) (D.contents new) (left_now D new) c.args.live.now c.args.next t nodes tree c.requires.follows written
+    all_new (D.contents c.args.dev.now) (D.contents new) (left_now D new) c.args.next t nodes tree (of_today c.args.live.now c.args.next c.requires.follows) written
     c.in_ok-publish.ensures.published c.in_ok-publish.ensures.durable
 
 pub returns-clause-open : goal.returns-clause-open
@@ -52,5 +52,6 @@ returns-clause-open g c = λ t table.
     let next = c.args.next in
     let turned : c.turn.new.self ≡ fresh_log (log_block next.half) next.epoch = c.turn.ensures ∙ ap (λ (first : ℕ). fresh_log first next.epoch) c.log_block.ensures in
     subst (λ (l : LogState). IsOpenOn D new next (saved_by next t) l) (sym turned)
-    (open_new (D.contents old) (D.contents new) (left_now D new) (D.block_count old) (D.block_count new) c.args.live.now next t c.requires.fits c.requires.follows c.requires.size
+    (open_new (D.contents old) (D.contents new) (left_now D new) (D.block_count old) (D.block_count new) next t c.requires.fits
+    (c.requires.size ∙ ap image_blocks (sym (same_slots c.args.live.now next c.requires.follows)))
     c.in_ok-publish.ensures.stays.count table c.in_ok-publish.ensures.published c.in_ok-publish.ensures.durable)

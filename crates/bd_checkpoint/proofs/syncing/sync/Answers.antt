@@ -1,16 +1,13 @@
-use Rattle.std.proofs.Common.{Result, Ok, Err, OnOk, sym, subst}
+use Rattle.std.proofs.Common.{sym, subst}
 use Rattle.std.proofs.lemmas.Result.{on_ok_weaker}
 use Rattle.bd_device.specs.Device.{left_now}
 use Rattle.bd_device.proofs.Moments.{within}
 use Rattle.bd_log.specs.Logs.{LogState, IsSyncing}
 use Rattle.bd_checkpoint.specs.Kept.{IsOpenOn, IsWithAllOrNone}
 use Rattle.bd_checkpoint.proofs.Starting.{PartsAreOne}
+use Rattle.bd_checkpoint.proofs.Handed.{both_ok}
 use Rattle.bd_checkpoint.proofs.Logged.{with_waiting, with_all_or_none, open_synced}
 use Rattle.bd_checkpoint.proofs.syncing.sync.Goals as goal
-
-both_ok : {T E P Q R : Type 0} (r : Result T E) → (P → Q → R) → OnOk r P → OnOk r Q → OnOk r R
-both_ok (Ok x) f p q = f p q
-both_ok (Err e) f p q = tt
 
 pub returns-clause-time : goal.returns-clause-time
 returns-clause-time g c = λ live saved given.
