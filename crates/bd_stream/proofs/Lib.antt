@@ -6,3 +6,4 @@ pub mod GatherLemmas
 pub mod StreamLemmas
 pub mod WellLemmas
 pub mod WrittenLemmas
+pub mod PlaceLemmas
