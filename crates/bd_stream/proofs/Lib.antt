@@ -7,3 +7,9 @@ pub mod StreamLemmas
 pub mod WellLemmas
 pub mod WrittenLemmas
 pub mod PlaceLemmas
+pub mod OrderLemmas
+pub mod EntryLemmas
+pub mod NameLemmas
+pub mod ListingLemmas
+pub mod MoveLemmas
+pub mod AnswerLemmas

@@ -6,3 +6,4 @@ pub mod Within
 pub mod Exporting
 pub mod Places
 pub mod Answering
+pub mod Exports
