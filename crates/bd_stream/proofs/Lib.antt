@@ -13,3 +13,4 @@ pub mod NameLemmas
 pub mod ListingLemmas
 pub mod MoveLemmas
 pub mod AnswerLemmas
+pub mod ExportLemmas

@@ -27,7 +27,7 @@ pub record Leads (t : Tree) (exported : Path) (left : List ℕ) (m : Move) : Typ
   pub present : m.0.stage ≢ Absent
   pub written : Continues m.0.stage t left m
 
-put_continues : (stage : Stage) (t : Tree) (left bytes : List ℕ) (m : Move) → stage ≢ Absent → Continues stage t left m → Continues stage t (bytes ++ left) (put bytes m)
+pub put_continues : (stage : Stage) (t : Tree) (left bytes : List ℕ) (m : Move) → stage ≢ Absent → Continues stage t left m → Continues stage t (bytes ++ left) (put bytes m)
 put_continues Look t left bytes m h is = ap (λ (l : List ℕ). bytes ++ l) is ∙ sym (append_assoc bytes m.1 (rest_of t m.0))
 put_continues (Piece off n) t left bytes m h is = ap (λ (l : List ℕ). bytes ++ l) is ∙ sym (append_assoc bytes m.1 (rest_of t m.0))
 put_continues Inside t left bytes m h is = ap (λ (l : List ℕ). bytes ++ l) is ∙ sym (append_assoc bytes m.1 (rest_of t m.0))

@@ -134,3 +134,14 @@ answers (suc n) t m = answers n t (next_by t m (asked m.0))
 -- an export of a tree after so many answers
 abbrev pub exported : ℕ → Tree → Path → Move
 exported n t top = answers n t (begin top, [])
+
+-- an export of a tree is on its way, or has ended: what it wrote is a front of the stream
+pub record IsOnWay (t : Tree) (exported : Path) (m : Move) : Type 0 where
+  pub top : m.0.top ≡ exported
+  pub on : IsOn t m.0
+  pub written : Continues m.0.stage t (stream_of t exported) m
+
+-- so many replies were taken, whatever they are
+abbrev pub after_replies : ℕ → (ℕ → Reply) → Export → Export
+after_replies zero replies s = s
+after_replies (suc n) replies s = after_replies n (λ k. replies (suc k)) (answered s (replies 0)).0
