@@ -14,3 +14,5 @@ pub mod ListingLemmas
 pub mod MoveLemmas
 pub mod AnswerLemmas
 pub mod ExportLemmas
+pub mod ValueLemmas
+pub mod EndLemmas

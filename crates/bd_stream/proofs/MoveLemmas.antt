@@ -75,7 +75,7 @@ not_root : (d : Path) (n : Name) → d ++ n ∷ [] ≢ []
 not_root [] n e = cc
 not_root (m ∷ d) n e = cc
 
-short_length : (p q : Path) → short_path p ≡ Some q → length (path_text p) ≤ path_limit
+pub short_length : (p q : Path) → short_path p ≡ Some q → length (path_text p) ≤ path_limit
 short_length p q h = by (nat_le (length (path_text p)) path_limit) refl h
   where
     by : (b : Bool) → nat_le (length (path_text p)) path_limit ≡ b → cond b (Some p) None ≡ Some q → length (path_text p) ≤ path_limit

@@ -33,10 +33,17 @@ last_popped o p items front count same is some size = last_by o p front count (s
 
 -- ---- long paths
 
-text_by : (top p : Path) → length (path_text p) ≤ length (path_text (top ++ p))
+-- a path below another one has a text that is as long at least
+pub text_by : (top p : Path) → length (path_text p) ≤ length (path_text (top ++ p))
 text_by [] p = omega arith
 text_by (n ∷ top) [] = some_text (n ∷ top ++ [])
 text_by (n ∷ top) (m ∷ p) = omega (arith, ap length (path_text-append (n ∷ top) (m ∷ p) (λ e. cc) (λ e. cc)), length-append (path_text (n ∷ top)) (path_text (m ∷ p)))
+
+-- and so has one above another one
+pub text_front : (p q : Path) → length (path_text p) ≤ length (path_text (p ++ q))
+text_front [] q = some_text q
+text_front (n ∷ p) [] = omega (arith, ap (λ (r : Path). length (path_text r)) (append-nil (n ∷ p)))
+text_front (n ∷ p) (m ∷ q) = omega (arith, ap length (path_text-append (n ∷ p) (m ∷ q) (λ e. cc) (λ e. cc)), length-append (path_text (n ∷ p)) (path_text (m ∷ q)))
 
 -- a path isn't short
 pub is_long_path : (p : Path) → short_path p ≡ None → path_limit < length (path_text p)

@@ -7,12 +7,13 @@ ghost use Rattle.bd_command.specs.Command.{IsShortPath, IsCommand};
 ghost use Rattle.bd_wire.specs.Numbers.{IsBytes};
 ghost use Rattle.std.specs.FinMap.{get};
 ghost use Rattle.bd_command.specs.declared.Command.{Command};
+ghost use Rattle.bd_command.specs.declared.reply.Reply.{Reply};
 ghost use Rattle.bd_model.specs.Tree.{Entry, Tree, IsTree};
 ghost use Rattle.bd_model.specs.Step.{Placed, step};
 ghost use Rattle.bd_stream.specs.declared.stage.Stage.TheVariants.{Absent};
 ghost use Rattle.bd_stream.specs.Answering.{why_not};
 ghost use Rattle.bd_stream.specs.Exporting.{Export, begin, asked, answered};
-ghost use Rattle.bd_stream.specs.Exports.{IsOn, GoesOn, IsOnWay, rest_of, exported};
+ghost use Rattle.bd_stream.specs.Exports.{IsOn, GoesOn, IsOnWay, rest_of, exported, after_replies};
 ghost use Rattle.bd_stream.specs.declared.head.Head.{Head};
 ghost use Rattle.bd_stream.specs.declared.machine.Phase.TheVariants.{Bad, Long, Ended};
 ghost use Rattle.bd_stream.specs.Heads.{IsHead, head_of, head_bytes, head_size, is_kind};
@@ -95,4 +96,10 @@ pub fn exports_are_streams()
         → (exported n t top).1 ≡ stream_of t top }
     ensures refused { (n : ℕ) (t : Tree) (top : Path) → IsTree t → IsShortPath top → 1 ≤ n
         → ((exported n t top).0.stage ≡ Absent) ↔ (get t top ≡ None) }
+{}
+
+/// Whatever the answers are, an export ends: there is a number of them after which nothing is asked.
+pub fn exports_end()
+    ensures { (n : ℕ) × ((top : Path) (replies : ℕ → Reply) → IsShortPath top
+        → asked (after_replies n replies (begin top)) ≡ None) }
 {}
