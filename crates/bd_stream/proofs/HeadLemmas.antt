@@ -1,5 +1,5 @@
 -- A head that was written is read again.
-use Rattle.std.proofs.Common.{◌≡◌, ℕ, ◌+◌, ◌<◌, ◌≤◌, List, [], ◌∷◌, ◌++◌, length, take, drop, Bool, cond, Some, None, Option, refl, sym, ap, ◌∙◌, arith, length-append, append_assoc, append-nil}
+use Rattle.std.proofs.Common.{◌≡◌, ℕ, ◌+◌, ◌<◌, ◌≤◌, List, [], ◌∷◌, ◌++◌, length, take, drop, Bool, cond, Some, None, Option, refl, sym, ap, ◌∙◌, arith, length-append, length-drop, append_assoc, append-nil}
 use Rattle.std.specs.Prelude.{nat_le, slice_index, IfSome}
 use Rattle.std.specs.Int.{w16, w32}
 use Rattle.std.proofs.lemmas.Bool.{le-leb, lt-leb, eq-eqb, ne_eqb}
@@ -9,6 +9,7 @@ use Rattle.bd_names.proofs.NamesLaws.{path_of-path_text}
 use Rattle.bd_wire.specs.Numbers.{be, number_at}
 use Rattle.bd_wire.specs.Text.{text16}
 use Rattle.bd_wire.proofs.NumberLemmas.{length-be, number_at-be}
+use Rattle.bd_wire.proofs.TextLemmas.{length-text16}
 use Rattle.bd_command.specs.Command.{IsShortPath}
 use Rattle.bd_stream.specs.declared.head.Head.{Head}
 use Rattle.bd_stream.specs.Heads.{relative_text, head_around, head_bytes, IsHead, head_of, head_with, head_of_kind, path_count}
@@ -116,3 +117,11 @@ len_over tag p mode len h not over =
 pub file_read : (tag : ℕ) (p : List (List ℕ)) (mode len : ℕ) → mode ≤ mode_limit → (tag ≡ 68 → ⊥) → len ≤ file_limit → head_with tag (Some p) mode len ≡ Some (record { path = p; mode = mode; len = Some len })
 file_read tag p mode len h not fits =
     file_kind tag p mode len h not ∙ ap (λ t. cond t (Some (record { path = p; mode = mode; len = Some len })) None) (le-leb len file_limit fits)
+
+-- a head has at most 520 bytes
+pub length_head : (h : Head) → IsHead h → length (head_bytes h) ≤ 520
+length_head h is = by h.len
+  where
+    by : (len : Option ℕ) → length (head_around len (text16 (relative_text h.path) ++ be w16 h.mode)) ≤ 520
+    by None = omega (arith, is.path.1, length-drop 1 (path_text h.path), length-append (text16 (relative_text h.path)) (be w16 h.mode), length-text16 (relative_text h.path), length-be w16 h.mode)
+    by (Some len) = omega (arith, is.path.1, length-drop 1 (path_text h.path), length-append (text16 (relative_text h.path)) (be w16 h.mode), length-append (text16 (relative_text h.path) ++ be w16 h.mode) (be w32 len), length-text16 (relative_text h.path), length-be w16 h.mode, length-be w32 len)

@@ -6,3 +6,13 @@ pub mod GatherLemmas
 pub mod StreamLemmas
 pub mod WellLemmas
 pub mod WrittenLemmas
+pub mod PlaceLemmas
+pub mod OrderLemmas
+pub mod EntryLemmas
+pub mod NameLemmas
+pub mod ListingLemmas
+pub mod MoveLemmas
+pub mod AnswerLemmas
+pub mod ExportLemmas
+pub mod ValueLemmas
+pub mod EndLemmas

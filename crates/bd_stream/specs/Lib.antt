@@ -3,3 +3,7 @@ pub mod Importing
 pub mod Feeding
 pub mod Streams
 pub mod Within
+pub mod Exporting
+pub mod Places
+pub mod Answering
+pub mod Exports

@@ -88,8 +88,8 @@ fn relative_text(path: &Path) -> &[u8]
     &path.as_bytes()[1..]
 }
 
-// The path whose names these bytes are, with slashes between them.
-fn relative(alloc: Global, text: &[u8]) -> Result<Option<Path>, AllocError>
+/// The path whose names these bytes are, with slashes between them.
+pub(crate) fn relative(alloc: Global, text: &[u8]) -> Result<Option<Path>, AllocError>
     ensures { IfOk result (λ found. found ≡ path_of (47 ∷ text.now)) }
 {
     let mut whole = Vec::from_slice(alloc, b"/")?;

@@ -1,16 +1,24 @@
 //! What follows from the definitions of streams. Each function here carries laws of the definitions
 //! and does nothing.
 
-ghost use Rattle.std.specs.Prelude.{◌≡◌, ◌++◌, ◌∷◌, [], ℕ, List, length, slice_index, true};
+ghost use Rattle.std.specs.Prelude.{◌≡◌, ◌≤◌, ◌↔◌, ◌++◌, ◌∷◌, [], ℕ, List, Some, None, length, slice_index, true};
 ghost use Rattle.std.specs.List.{flat_map, AllByRecursion};
 ghost use Rattle.bd_command.specs.Command.{IsShortPath, IsCommand};
 ghost use Rattle.bd_wire.specs.Numbers.{IsBytes};
-ghost use Rattle.bd_model.specs.Step.{Placed};
+ghost use Rattle.std.specs.FinMap.{get};
+ghost use Rattle.bd_command.specs.declared.Command.{Command};
+ghost use Rattle.bd_command.specs.declared.reply.Reply.{Reply};
+ghost use Rattle.bd_model.specs.Tree.{Entry, Tree, IsTree};
+ghost use Rattle.bd_model.specs.Step.{Placed, step};
+ghost use Rattle.bd_stream.specs.declared.stage.Stage.TheVariants.{Absent};
+ghost use Rattle.bd_stream.specs.Answering.{why_not};
+ghost use Rattle.bd_stream.specs.Exporting.{Export, begin, asked, answered};
+ghost use Rattle.bd_stream.specs.Exports.{IsOn, GoesOn, IsOnWay, rest_of, exported, after_replies};
 ghost use Rattle.bd_stream.specs.declared.head.Head.{Head};
 ghost use Rattle.bd_stream.specs.declared.machine.Phase.TheVariants.{Bad, Long, Ended};
 ghost use Rattle.bd_stream.specs.Heads.{IsHead, head_of, head_bytes, head_size, is_kind};
 ghost use Rattle.bd_stream.specs.Within.{AreBytes, IsWell};
-ghost use Rattle.bd_stream.specs.Streams.{IsStreamFor, stream_bytes, entry_commands};
+ghost use Rattle.bd_stream.specs.Streams.{IsStreamFor, stream_bytes, stream_of, entry_commands};
 ghost use Rattle.bd_stream.specs.Importing.{Path, State, IsSound, fed, go, start};
 
 /// A head that was written is read again.
@@ -61,4 +69,37 @@ pub fn read_heads_were_written_so()
     ensures head { (bytes : List ℕ) (head : Head) → IsBytes bytes
         → is_kind (slice_index bytes 0) ≡ true → length bytes ≡ head_size bytes
         → head_of bytes ≡ Some head → IsHead head }
+{}
+
+/// An export whose answers are the replies of one tree writes what is left of the tree's stream at
+/// the exported path, a part after each answer. At first all of the stream is left, and at the end
+/// nothing; where the next entry's path is too long it is the next in the stream.
+pub fn answers_write_the_stream()
+    ensures begins { (t : Tree) (top : Path) → IsShortPath top → IsOn t (begin top) }
+    ensures all { (t : Tree) (top : Path) (e : Entry) → get t top ≡ Some e
+        → rest_of t (begin top) ≡ stream_of t top }
+    ensures goes_on { (t : Tree) (s : Export) (c : Command) → IsTree t → IsOn t s
+        → asked s ≡ Some c → GoesOn t s (answered s (step t c).1) }
+    ensures absent { (t : Tree) (s : Export) (c : Command) → IsTree t → IsOn t s
+        → asked s ≡ Some c → get t s.top ≡ None
+        → (answered s (step t c).1).0.stage ≡ Absent }
+{}
+
+/// After any number of replies of one tree an export is on its way: where nothing is asked any more
+/// and there was no fault, what was written is the stream of the tree at the exported path; where
+/// the path isn't there it is refused, there alone, and nothing was written.
+pub fn exports_are_streams()
+    ensures way { (n : ℕ) (t : Tree) (top : Path) → IsTree t → IsShortPath top
+        → IsOnWay t top (exported n t top) }
+    ensures whole { (n : ℕ) (t : Tree) (top : Path) → IsTree t → IsShortPath top
+        → asked (exported n t top).0 ≡ None → why_not (exported n t top).0.stage ≡ None
+        → (exported n t top).1 ≡ stream_of t top }
+    ensures refused { (n : ℕ) (t : Tree) (top : Path) → IsTree t → IsShortPath top → 1 ≤ n
+        → ((exported n t top).0.stage ≡ Absent) ↔ (get t top ≡ None) }
+{}
+
+/// Whatever the answers are, an export ends: there is a number of them after which nothing is asked.
+pub fn exports_end()
+    ensures { (n : ℕ) × ((top : Path) (replies : ℕ → Reply) → IsShortPath top
+        → asked (after_replies n replies (begin top)) ≡ None) }
 {}

@@ -13,10 +13,10 @@ use bd_names::Path;
 use std::alloc::{AllocError, Global};
 
 /// The first bytes of a stream.
-const MAGIC: &[u8] = b"BDX1";
+pub(crate) const MAGIC: &[u8] = b"BDX1";
 
 /// The last byte of a stream.
-const END: u8 = b'E';
+pub(crate) const END: u8 = b'E';
 
 /// The most bytes of a path in a head, which has no slash in front.
 const MAX_RELATIVE: usize = MAX_PATH - 1;
@@ -378,8 +378,8 @@ fn follows(alloc: Global, last: &Path, is_dir: bool, path: &Path) -> Result<bool
     Ok(below.as_slice().cmp(&above.as_slice()).is_lt())
 }
 
-// A path below another one, where it is short enough for a command.
-fn joined(alloc: Global, target: &Path, path: &Path) -> Result<Option<Path>, AllocError>
+/// A path below another one, where it is short enough for a command.
+pub(crate) fn joined(alloc: Global, target: &Path, path: &Path) -> Result<Option<Path>, AllocError>
     ensures { IfOk result (λ found. found ≡ short_path (target.now ++ path.now)) }
 {
     let above = target.as_bytes();
