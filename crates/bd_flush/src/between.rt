@@ -8,7 +8,6 @@ ghost use Rattle.bd_message.specs.KeyMaps.{HasMapCause};
 ghost use Rattle.bd_node.specs.Frames.{OfSound, OnlyReads, Stays};
 ghost use Rattle.bd_node.specs.Nodes.{level_of};
 ghost use Rattle.bd_node.specs.Shape.{IsShape};
-ghost use Rattle.bd_node.specs.Tables.{IsSound};
 ghost use Rattle.bd_inner.specs.Halves.{AreHalves};
 ghost use Rattle.bd_path.specs.declared.fetching.Fetched.{Fetched};
 ghost use Rattle.bd_path.specs.Flushed.{IsFlushed, IsHardlyHigher};

@@ -8,7 +8,6 @@ ghost use Rattle.bd_message.specs.KeyMaps.{HasMapCause};
 ghost use Rattle.bd_node.specs.Frames.{OfSound, OnlyReads, Stays};
 ghost use Rattle.bd_node.specs.declared.node.Edge.{Edge};
 ghost use Rattle.bd_node.specs.Shape.{IsShape};
-ghost use Rattle.bd_node.specs.Tables.{IsSound};
 ghost use Rattle.bd_node.specs.Parts.{edges_of, IsEdgeAt};
 ghost use Rattle.bd_inner.specs.Compaction.{IsCompacted};
 ghost use Rattle.bd_inner.specs.Exchanging.{exchanged, FitsAt};

@@ -6,7 +6,6 @@ ghost use Rattle.bd_node.specs.Frames.{OfSound, OnlyReads, Stays};
 ghost use Rattle.bd_node.specs.declared.node.Edge.{Edge};
 ghost use Rattle.bd_node.specs.Shape.{IsShape};
 ghost use Rattle.bd_node.specs.Stores.{visited};
-ghost use Rattle.bd_node.specs.Tables.{IsSound};
 ghost use Rattle.bd_node.specs.Parts.{edges_of, IsEdgeAt};
 ghost use Rattle.bd_path.specs.Flushed.{IsFlushed, IsNoHigher};
 ghost use Rattle.bd_path.specs.Made.{IsMadeBy, IsWornFor};

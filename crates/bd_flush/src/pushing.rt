@@ -1,6 +1,6 @@
 //! Messages go down from a node to its child.
 
-ghost use Rattle.std.specs.Prelude.{◌≡◌, ◌+◌, ◌^◌, ◌<◌, ◌≤◌, ◌⊎◌, length, drop, reverse, IfOk, OnOk, OnErr};
+ghost use Rattle.std.specs.Prelude.{◌≡◌, ◌+◌, ◌^◌, ◌<◌, ◌≤◌, ◌⊎◌, length, reverse, IfOk, OnOk, OnErr};
 ghost use Rattle.std.specs.List.{AllByRecursion};
 ghost use Rattle.bd_limits.specs.Limits.{soft_limit, leaf_limit, batch_limit, room_edges};
 ghost use Rattle.bd_message.specs.KeyMaps.{HasMapCause};
@@ -9,7 +9,6 @@ ghost use Rattle.bd_node.specs.declared.node.Edge.{Edge};
 ghost use Rattle.bd_node.specs.declared.node.Node.TheVariants as kind;
 ghost use Rattle.bd_node.specs.Nodes.{level_of, buffer_size};
 ghost use Rattle.bd_node.specs.Shape.{IsLeaf, IsShape};
-ghost use Rattle.bd_node.specs.Tables.{IsSound};
 ghost use Rattle.bd_node.specs.Parts.{edges_of, buffer_of, end_at, IsEdgeAt};
 ghost use Rattle.bd_inner.specs.Halves.{AreHalves};
 ghost use Rattle.bd_inner.specs.Batches.{IsLifted};
@@ -20,7 +19,7 @@ ghost use Rattle.bd_path.specs.Made.{IsMadeBy, IsWornFor};
 ghost use Rattle.bd_flush.specs.Children.{AreFamily};
 ghost use Rattle.bd_path.specs.Fetching.{IsContents};
 ghost use Rattle.bd_path.specs.Raising.{IsWayUp};
-ghost use Rattle.bd_flush.specs.Pushing.{seen_by, unseen, IsWaitedFor, CanMoveSome, CanPush, IsEdgeBatch, IsRelieved, IsPartedOver, IsPushedOver, ArePushed, IsPlanOver, IsPlan, IsSomePush, IsLongPush, IsHighPush};
+ghost use Rattle.bd_flush.specs.Pushing.{seen_by, IsWaitedFor, CanMoveSome, CanPush, IsEdgeBatch, IsRelieved, IsPartedOver, IsPushedOver, ArePushed, IsPlanOver, IsPlan, IsSomePush, IsLongPush, IsHighPush};
 
 use crate::children::{Halving, Parts, child_step, over_halves, with_edge};
 use crate::splitting::{Plan, over_step};

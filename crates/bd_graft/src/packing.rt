@@ -1,6 +1,6 @@
 //! Overlay nodes: the messages of layers over the end of a way.
 
-ghost use Rattle.std.specs.Prelude.{◌≡◌, ℕ, ◌+◌, ◌<◌, ◌≤◌, ◌⊎◌, ◌^◌, [], max, length, IsSome, IfOk};
+ghost use Rattle.std.specs.Prelude.{◌≡◌, ◌+◌, ◌<◌, ◌≤◌, ◌⊎◌, ◌^◌, [], max, length, IsSome, IfOk};
 ghost use Rattle.std.specs.List.{AllByRecursion, sum_by};
 ghost use Rattle.bd_limits.specs.Limits.{buffer_limit, level_limit};
 ghost use Rattle.bd_message.specs.Messages.{IsMessage, size};

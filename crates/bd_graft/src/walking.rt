@@ -1,6 +1,6 @@
 //! The way of a prefix, from the root down to what answers for it.
 
-ghost use Rattle.std.specs.Prelude.{◌≡◌, ℕ, ◌+◌, ◌<◌, nat_lt, if◌then◌else◌, None, ◌≤◌, ◌⊎◌, ◌++◌, List, length, drop, Some, IfOk, IfSome, IfNone, OnOk};
+ghost use Rattle.std.specs.Prelude.{◌≡◌, ℕ, ◌+◌, ◌<◌, if◌then◌else◌, None, ◌≤◌, ◌⊎◌, ◌++◌, List, length, drop, Some, IfOk, IfSome, IfNone, OnOk};
 ghost use Rattle.bd_limits.specs.Limits.{key_limit};
 ghost use Rattle.bd_keys.specs.Keys.{IsKey};
 ghost use Rattle.bd_message.specs.Effect.{NodesAt, acts};
@@ -9,11 +9,10 @@ ghost use Rattle.bd_node.specs.Frames.{OfSound, OnlyReads};
 ghost use Rattle.bd_node.specs.declared.node.Node.{Node};
 ghost use Rattle.bd_node.specs.Nodes.{node_at};
 ghost use Rattle.bd_node.specs.Meaning.{at};
-ghost use Rattle.bd_node.specs.Tables.{IsKept, IsSound, root_at};
+ghost use Rattle.bd_node.specs.Tables.{IsKept, root_at};
 ghost use Rattle.bd_node.specs.Stores.{visited};
-ghost use Rattle.bd_node.specs.Shape.{IsShape};
 ghost use Rattle.bd_node.specs.Parts.{buffer_of};
-ghost use Rattle.bd_resolve.specs.Following.{target_at, IsLowerTarget, IsShort, IsEnd, IsPast};
+ghost use Rattle.bd_resolve.specs.Following.{target_at, IsLowerTarget, IsShort};
 ghost use Rattle.bd_graft.specs.Layers.{all_freed, laid, IsLayer, AreLayers};
 ghost use Rattle.bd_graft.specs.Walking.{end_at, IsWay, IsPassed, HasRoot, fetched_on, messages_in};
 

@@ -6,7 +6,7 @@ ghost use Rattle.bd_keys.specs.Keys.{IsAtLeast};
 ghost use Rattle.bd_message.specs.KeyMaps.{HasMapCause, NeverWorn, IsNext};
 ghost use Rattle.bd_node.specs.Frames.{OfSound, OnlyReads};
 ghost use Rattle.bd_node.specs.Meaning.{at};
-ghost use Rattle.bd_node.specs.Tables.{IsKept, IsSound};
+ghost use Rattle.bd_node.specs.Tables.{IsKept};
 ghost use Rattle.bd_query.specs.Asks.{AreVisitsOfWays};
 
 use crate::ends::bytes_of;

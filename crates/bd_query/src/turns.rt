@@ -10,7 +10,7 @@ ghost use Rattle.bd_node.specs.Frames.{OfSound, OnlyReads};
 ghost use Rattle.bd_node.specs.declared.node.Node.{Node};
 ghost use Rattle.bd_node.specs.Nodes.{node_at};
 ghost use Rattle.bd_node.specs.Meaning.{at};
-ghost use Rattle.bd_node.specs.Tables.{IsKept, IsSound};
+ghost use Rattle.bd_node.specs.Tables.{IsKept};
 ghost use Rattle.bd_node.specs.Stores.{visited, AreVisits};
 ghost use Rattle.bd_query.specs.Stretches.{IsEnd, IsAsked, IsStretch, HasEnd, AsksLower, IsTurn, PassesTo, end_limit, way_limit};
 ghost use Rattle.bd_query.specs.Asks.{asked_at, asked_in, AreVisitsOfWay};

@@ -1,6 +1,6 @@
 //! The way down from a node to what it has at a key.
 
-ghost use Rattle.std.specs.Prelude.{◌≡◌, ℕ, ◌+◌, ◌≤◌, List, [], Some, IfOk, OnOk};
+ghost use Rattle.std.specs.Prelude.{◌≡◌, ◌+◌, ◌≤◌, [], Some, IfOk, OnOk};
 ghost use Rattle.std.specs.Option.{option_map, unwrap_or};
 ghost use Rattle.bd_keys.specs.Keys.{IsKey};
 ghost use Rattle.bd_message.specs.Effect.{NodesAt};
@@ -9,7 +9,7 @@ ghost use Rattle.bd_node.specs.Frames.{OfSound, OnlyReads};
 ghost use Rattle.bd_node.specs.declared.node.Node.{Node};
 ghost use Rattle.bd_node.specs.Nodes.{node_at};
 ghost use Rattle.bd_node.specs.Meaning.{at};
-ghost use Rattle.bd_node.specs.Tables.{IsKept, IsSound};
+ghost use Rattle.bd_node.specs.Tables.{IsKept};
 ghost use Rattle.bd_node.specs.Stores.{visited, AreVisits};
 ghost use Rattle.bd_query.specs.Looks.{patched, part_at, IsLowerBase};
 

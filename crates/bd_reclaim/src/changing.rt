@@ -3,7 +3,6 @@
 ghost use Rattle.std.specs.Prelude.{◌≡◌, ◌+◌, ◌<◌, ◌≤◌, OnOk, OnErr};
 ghost use Rattle.bd_message.specs.KeyMaps.{HasMapCause};
 ghost use Rattle.bd_node.specs.Frames.{OfSound, OnlyReads, Stays};
-ghost use Rattle.bd_node.specs.Tables.{IsSound};
 ghost use Rattle.bd_path.specs.Made.{AreKnown, WearsOut};
 ghost use Rattle.bd_path.specs.Fetching.{IsFetched, IsOwn};
 ghost use Rattle.bd_path.specs.Flushed.{IsNoHigher};

@@ -1,6 +1,6 @@
 //! Which messages decide what stands at each key of an edge.
 
-ghost use Rattle.std.specs.Prelude.{◌≡◌, ◌↔◌, ◌≤◌, ◌<◌, length, IsTrue, MatchOption};
+ghost use Rattle.std.specs.Prelude.{◌≡◌, ◌↔◌, ◌≤◌, ◌<◌, IsTrue, MatchOption};
 ghost use Rattle.std.specs.Option.{option_copied};
 ghost use Rattle.bd_keys.specs.Keys.{IsBelowEnd, IsCommon};
 ghost use Rattle.bd_node.specs.Shape.{IsShape};

@@ -6,7 +6,7 @@ ghost use Rattle.bd_message.specs.KeyMaps.{HasMapCause, NeverWorn};
 ghost use Rattle.bd_node.specs.Frames.{OfSound, OnlyReads, Stays};
 ghost use Rattle.bd_node.specs.declared.node.Edge.{Edge};
 ghost use Rattle.bd_node.specs.Meaning.{Nodes};
-ghost use Rattle.bd_node.specs.Tables.{Table, IsSound};
+ghost use Rattle.bd_node.specs.Tables.{Table};
 ghost use Rattle.bd_node.specs.Parts.{edges_of, IsEdgeAt};
 ghost use Rattle.bd_path.specs.Made.{AreKnown};
 ghost use Rattle.bd_path.specs.Fetching.{IsFetched, IsEdgeTo, IsOwn, AreOwn};

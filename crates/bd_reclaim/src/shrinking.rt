@@ -5,7 +5,7 @@ ghost use Rattle.bd_message.specs.KeyMaps.{HasMapCause};
 ghost use Rattle.bd_node.specs.Frames.{OfSound, OnlyReads, Stays};
 ghost use Rattle.bd_node.specs.declared.node.Node.{Node};
 ghost use Rattle.bd_node.specs.Steps.{IsWornBy};
-ghost use Rattle.bd_node.specs.Tables.{IsLower, IsSound};
+ghost use Rattle.bd_node.specs.Tables.{IsLower};
 ghost use Rattle.bd_reclaim.specs.Walking.{IsThin};
 ghost use Rattle.bd_reclaim.specs.Reclaimed.{IsReclaimed, IsShrunk, root_only, left_over};
 

@@ -1,12 +1,11 @@
 //! The walk that looks for the first change to make.
 
-ghost use Rattle.std.specs.Prelude.{◌≡◌, ℕ, ◌<◌, ◌≤◌, ◌+◌, length, IfOk, IfSome, MatchOption, Some};
+ghost use Rattle.std.specs.Prelude.{◌≡◌, ℕ, ◌<◌, ◌≤◌, ◌+◌, IfOk, IfSome, MatchOption, Some};
 ghost use Rattle.bd_message.specs.KeyMaps.{HasMapCause, NeverWorn};
 ghost use Rattle.bd_node.specs.Frames.{OfSound, OnlyReads};
 ghost use Rattle.bd_node.specs.declared.node.Node.{Node};
 ghost use Rattle.bd_node.specs.Shape.{IsShape};
-ghost use Rattle.bd_node.specs.Tables.{Table, IsKept, IsLower, IsSound};
-ghost use Rattle.bd_node.specs.Parts.{edges_of};
+ghost use Rattle.bd_node.specs.Tables.{IsKept};
 ghost use Rattle.bd_path.specs.Fetching.{IsFetched};
 ghost use Rattle.bd_reclaim.specs.Walking.{IsWalked, IsThinWay, IsThin, IsLook, IsEdgeLook, IsFirst, HasNone, IsToDo, IsToDoAt, IsFoundFrom, IsFoundIn, IsBelow, walk_size};
 

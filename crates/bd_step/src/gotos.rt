@@ -1,22 +1,17 @@
 //! The oldest Goto that is pending for an edge, and may not go down it.
 
-ghost use Rattle.std.specs.Prelude.{◌≡◌, ◌↔◌, ◌<◌, ◌≤◌, length, IfOk, OnOk, OnErr, true, false, IsTrue, None, IfSome, MatchOption};
+ghost use Rattle.std.specs.Prelude.{◌≡◌, ◌↔◌, ◌<◌, ◌≤◌, length, true, false, IsTrue, None, IfSome, MatchOption};
 ghost use Rattle.std.specs.Option.{option_copied};
 ghost use Rattle.std.specs.List.{AllByRecursion, flat_map};
 ghost use Rattle.bd_keys.specs.Keys.{IsKey, IsBelowEnd, IsAtLeast};
-ghost use Rattle.bd_message.specs.KeyMaps.{HasMapCause};
-ghost use Rattle.bd_node.specs.Frames.{OfSound, OnlyReads, Stays};
 ghost use Rattle.bd_node.specs.declared.node.Edge.{Edge};
 ghost use Rattle.bd_node.specs.Nodes.{message_names};
-ghost use Rattle.bd_node.specs.Tables.{IsKept, IsSound};
+ghost use Rattle.bd_node.specs.Tables.{IsKept};
 ghost use Rattle.bd_node.specs.Parts.{edges_of, IsEdgeAt};
-ghost use Rattle.bd_path.specs.Flushed.{IsFlushed, IsNoHigher};
-ghost use Rattle.bd_path.specs.Made.{IsMadeBy, IsWornFor};
-ghost use Rattle.bd_path.specs.Fetching.{IsFetched, IsOwn};
+ghost use Rattle.bd_path.specs.Fetching.{IsFetched};
 ghost use Rattle.bd_flush.specs.GoingDown.{IsBelowAll, LiesWithin, MayGoDown, child_level};
 ghost use Rattle.bd_flush.specs.Pushing.{AllGoDown};
-ghost use Rattle.bd_flush.specs.Carving.{IsHeldGoto, IsFreeAt, AreFree, IsOldestGoto, IsOldestAt, CanCarve, IsCarveStep};
-ghost use Rattle.bd_path.specs.Paths.{change_step};
+ghost use Rattle.bd_flush.specs.Carving.{IsHeldGoto, IsFreeAt, AreFree, IsOldestGoto, IsOldestAt};
 
 use bd_message::Message;
 use bd_node::{Edge, NodeStore, can_touch, end_of};

@@ -3,7 +3,6 @@
 ghost use Rattle.std.specs.Prelude.{◌≡◌, ◌≢◌, ◌↔◌, ◌+◌, ◌*◌, ◌<◌, ◌≤◌, true, false, reverse, OnOk, OnErr, Ok};
 ghost use Rattle.bd_message.specs.KeyMaps.{HasMapCause};
 ghost use Rattle.bd_node.specs.Frames.{OfSound, OnlyReads, Stays};
-ghost use Rattle.bd_node.specs.Tables.{IsSound};
 ghost use Rattle.bd_step.specs.declared.ways.FlushStep.TheVariants as step;
 ghost use Rattle.bd_path.specs.Flushed.{IsFlushed};
 ghost use Rattle.bd_path.specs.Made.{AreKnown};

@@ -8,7 +8,7 @@ ghost use Rattle.bd_node.specs.declared.node.Edge.{Edge};
 ghost use Rattle.bd_node.specs.Nodes.{level_of};
 ghost use Rattle.bd_node.specs.Meaning.{Nodes};
 ghost use Rattle.bd_node.specs.Shape.{IsShape};
-ghost use Rattle.bd_node.specs.Tables.{Table, IsSound};
+ghost use Rattle.bd_node.specs.Tables.{Table};
 ghost use Rattle.bd_node.specs.Parts.{edges_of};
 ghost use Rattle.bd_path.specs.Fetching.{IsFetched, IsWayTo, IsOwn, AreOwn};
 ghost use Rattle.bd_step.specs.declared.ways.FlushStep.TheVariants as step;
