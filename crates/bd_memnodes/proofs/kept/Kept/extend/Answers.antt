@@ -1,13 +1,16 @@
-use Rattle.std.proofs.Common.{◌≡◌, ℕ, ◌+◌, ◌≤◌, refl, sym, ap, subst, ◌∙◌, arith, inl, inr, List, length, Some}
+use Rattle.std.proofs.Common.{◌≡◌, ℕ, ◌+◌, ◌≤◌, refl, sym, ap, subst, ◌∙◌, arith, inl, inr, List, length, Some, Err}
+use Rattle.std.proofs.lemmas.Result.{err_from_is_err_and}
 use Rattle.std.proofs.lemmas.List.{length-map}
 use Rattle.bd_message.specs.declared.message.Message.{Message}
+use Rattle.bd_message.specs.KeyMaps.{HasMapCause}
 use Rattle.bd_node.specs.declared.node.Node.{Node}
 use Rattle.bd_node.specs.Nodes.{level_of, appended}
 use Rattle.bd_node.specs.Shape.{IsShape}
 use Rattle.bd_node.specs.Tables.{IsStored}
-use Rattle.bd_node.specs.Steps.{IsRootOf, IsStep, extend_step}
+use Rattle.bd_node.specs.Steps.{IsRootOf, IsStep, IsWornByAdding, extend_step}
 use Rattle.bd_node.proofs.Extending.{root_of_sound, root_inner, extended_as, added_fit}
 use Rattle.bd_memnodes.specs.declared.kept.Kept.{Kept}
+use Rattle.bd_memnodes.specs.declared.plan.Addition.{Addition}
 use Rattle.bd_counts.specs.Naming.{times_among, added_names}
 use Rattle.bd_memnodes.specs.Maps.{nodes_in, count_in}
 use Rattle.bd_memnodes.specs.Stored.{table_of, table_in, IsWhole}
@@ -83,3 +86,9 @@ returns-clause-whole c = record {
   sound = (done c (root_of c.args.self.now c.requires.whole).node (root_of c.args.self.now c.requires.whole).there).committed.sound;
   idle = ap (λ d. d.items) c.add_counted.ensures.dead ∙ c.make_room.ensures.same.dead ∙ c.requires.whole.idle;
 }
+
+pub returns-in_err-addition-clause-cause : goal.returns-in_err-addition-clause-cause
+returns-in_err-addition-clause-cause c =
+    let p = err_from_is_err_and c.from_residual.result c.from_residual.ensures.1 in
+    let cause = subst (λ (l : List Message). HasMapCause {T = Addition} 0 0 (λ b. ⊥) (IsWornByAdding (table_in c.args.self.now) c.args.made l) (Err c.in_err-addition.field-0.0)) c.as_slice.ensures c.in_err-addition.ensures.cause in
+    rw (p.1, p.2) (record { later = cause.later; kept = tt; stays = cause.stays; failed = cause.failed })
