@@ -303,7 +303,8 @@ impl<A: Device, B: Device> Device for Mirror<A, B> {
         ensures marks { IsMirror A.Device B.Device self.old
             → KeepsMarks A.Device B.Device self.old → KeepsMarks A.Device B.Device self.new }
         ensures left { OnOk result (IsMirror A.Device B.Device self.old
-            → KeepsMarks A.Device B.Device self.old → LeavesWhatItShows A.Device B.Device self.new) }
+            → KeepsMarks A.Device B.Device self.old
+            → LeavesWhatItShows A.Device B.Device self.new) }
         ensures alone { is_two (attached_to self.old) ≡ false
             → Goes A.Device (first_of self.old) (first_of self.new) Unwritten }
 
