@@ -84,7 +84,7 @@ left_has : {left : Image → Type 0} (P : Image → Type 0) (known : Option Imag
     → (c : Image) → left c → P c
 left_has P known base is only has = only_has P known only (subst (λ (o : Option Image). IfSome o P) (sym is) has)
 
-is_known : (P : Image → Type 0) (known : Option Image) (base : Image) → known ≡ Some base → IfSome known P → P base
+pub is_known : (P : Image → Type 0) (known : Option Image) (base : Image) → known ≡ Some base → IfSome known P → P base
 is_known P known base is has = subst (λ (o : Option Image). IfSome o P) is has
 
 -- ---- stretches

@@ -16,7 +16,7 @@ use Rattle.bd_mirror.proofs.Copies.{only_has}
 use Rattle.bd_mirror.proofs.Marks.{take_but_mark, pick_closed, pick_second}
 
 -- of halves with so many blocks what holds at the mark holds at their last blocks
-at_mark : (P : ℕ → ℕ → ℕ → Type 0) (mark na nb : ℕ) → na ≡ mark + 1 → nb ≡ mark + 1 → P mark mark mark → P (min na nb - 1) (na - 1) (nb - 1)
+pub at_mark : (P : ℕ → ℕ → ℕ → Type 0) (mark na nb : ℕ) → na ≡ mark + 1 → nb ≡ mark + 1 → P mark mark mark → P (min na nb - 1) (na - 1) (nb - 1)
 at_mark P mark na nb ea eb p =
     let size : min na nb - 1 ≡ mark = omega (arith, ea, eb) in
     let ma : na - 1 ≡ mark = omega (arith, ea) in

@@ -1,4 +1,5 @@
 pub mod Attaching
+pub mod Behind
 pub mod Copies
 pub mod Crashes
 pub mod Joined

@@ -1,5 +1,5 @@
 -- What two halves show together: the pick of their images by their marks.
-use Rattle.std.specs.Prelude.{◌≡◌, ⊤, ℕ, ◌-◌, ◌<◌, ◌⊎◌, ◌&&◌, ◌==◌, min, Bool, true, false, not, if◌then◌else◌, Option, None, Some, IfSome, take, slice_index}
+use Rattle.std.specs.Prelude.{◌≡◌, ⊤, ℕ, ◌-◌, ◌<◌, ◌⊎◌, ◌&&◌, ◌==◌, min, nat_lt, Bool, true, false, not, if◌then◌else◌, Option, None, Some, IfSome, length, take, slice_index}
 use Rattle.std.specs.Option.{option_map}
 use Rattle.bd_device.specs.Blocks.{Image}
 use Rattle.bd_device.specs.Commits.{block_at}
@@ -23,6 +23,23 @@ abbrev pub picked : ℕ → ℕ → ℕ → Option Image → Option Image → Op
 picked size first_mark second_mark (Some first) (Some second) =
     Some (pick size first_mark second_mark first second)
 picked size first_mark second_mark _ _ = None
+
+-- what two halves show together: the pick by their last blocks, where they have as many blocks, and
+-- any
+abbrev pub shown_together : Option Image → Option Image → Option Image
+shown_together (Some first) (Some second) =
+    if (length first == length second) && nat_lt 0 (length first)
+    then Some (pick (length first - 1) (length first - 1) (length first - 1) first second)
+    else None
+shown_together _ _ = None
+
+-- the pick stays with the source named first, and where its mark alone is open also with it named
+-- second
+pub record KeepsPick (mark : ℕ) (is_alone : Bool) (source copy source_new copy_new : Option Image)
+    : Type 0 where
+  pub as_first : picked mark mark mark source_new copy_new ≡ picked mark mark mark source copy
+  pub as_second : is_alone ≡ true
+      → picked mark mark mark copy_new source_new ≡ picked mark mark mark copy source
 
 -- the first blocks of both are the same, where they are known
 abbrev pub IsCopy : ℕ → Option Image → Option Image → Type 0

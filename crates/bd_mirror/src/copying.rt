@@ -4,7 +4,7 @@ ghost use Rattle.bd_device.specs.Blocks.{Image, HasBlocks};
 ghost use Rattle.bd_device.specs.Changes.{StaysBut, IsBeforeBut, IsInRange};
 ghost use Rattle.bd_device.specs.Device.{left_now, Goes, OnlyReads, FailsLast, Stays};
 ghost use Rattle.bd_device.specs.Moments.{TornAt, IsOnly};
-ghost use Rattle.bd_mirror.specs.Contents.{is_open_at, IsCopy};
+ghost use Rattle.bd_mirror.specs.Contents.{is_open_at, IsCopy, KeepsPick};
 ghost use Rattle.bd_mirror.specs.Crashes.{IsPickOf, Stretch, GoesOn};
 ghost use Rattle.bd_mirror.specs.Halves.{has_marks, with_halves};
 ghost use Rattle.bd_mirror.specs.declared.halves.Halves.TheVariants.{Neither};
@@ -254,6 +254,11 @@ pub fn mirror_onto<S: Device, C: Device>(
         → C.contents copy.old ≡ Some b
         → GoesOn (Stretch S.Device C.Device (IsPickOf mark a b))
         source.old copy.old source.new copy.new }
+
+    // Where it fails, the pick of both is as it was.
+    ensures behind { OnErr result (KeepsPick mark (is_source_open && not is_copy_open)
+        (S.contents source.old) (C.contents copy.old)
+        (S.contents source.new) (C.contents copy.new)) }
     ensures source_stays { Stays S.Device source.old source.new }
     ensures source_later { S.fault_count source.old ≤ S.fault_count source.new }
     ensures copy_stays { Stays C.Device copy.old copy.new }

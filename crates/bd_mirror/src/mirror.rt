@@ -5,9 +5,9 @@ ghost use Rattle.bd_device.specs.Blocks.{Image, with_block, ChangesOnly};
 ghost use Rattle.bd_mirror.specs.declared.halves.Halves.TheVariants.{Both, First, Second, Neither};
 ghost use Rattle.bd_mirror.specs.declared.halves.Attached.TheVariants.{Nothing, Member};
 ghost use Rattle.std.specs.Option.{option_map};
-ghost use Rattle.bd_mirror.specs.Contents.{is_open_at};
+ghost use Rattle.bd_mirror.specs.Contents.{is_open_at, shown_together};
 ghost use Rattle.bd_mirror.specs.Crashes.{IsPickOf, Stretch, GoesOn, LosesNothing};
-ghost use Rattle.bd_mirror.specs.Names.{HasPlus, IsNamed, first_name, second_name};
+ghost use Rattle.bd_mirror.specs.Names.{HasPlus, IsNamed, first_name, second_name, without_last, shown_for};
 ghost use Rattle.bd_device.specs.Changes.{StaysBut};
 ghost use Rattle.bd_device.specs.Device.{left_now, Goes, FailsLast, Stays};
 ghost use Rattle.bd_device.specs.Moments.{Nothing as Unwritten, TornAt, IsOnly};
@@ -303,7 +303,8 @@ impl<A: Device, B: Device> Device for Mirror<A, B> {
         ensures marks { IsMirror A.Device B.Device self.old
             → KeepsMarks A.Device B.Device self.old → KeepsMarks A.Device B.Device self.new }
         ensures left { OnOk result (IsMirror A.Device B.Device self.old
-            → KeepsMarks A.Device B.Device self.old → LeavesWhatItShows A.Device B.Device self.new) }
+            → KeepsMarks A.Device B.Device self.old
+            → LeavesWhatItShows A.Device B.Device self.new) }
         ensures alone { is_two (attached_to self.old) ≡ false
             → Goes A.Device (first_of self.old) (first_of self.new) Unwritten }
 
@@ -361,6 +362,12 @@ impl<A: Attach, B: Attach> Mirror<A, B> {
             (λ d. B.left_behind d (second_name name.now))
             (λ d. A.call_count d) (λ d. B.call_count d)
             (first_of self.old) (second_of self.old) (first_of self.new) (second_of self.new)) }
+        ensures behind { IfNone create (shown_for name.now
+            (A.shows (first_of self.new) (first_name name.now))
+            (B.shows (second_of self.new) (second_name name.now))
+            ≡ shown_for name.now
+            (A.shows (first_of self.old) (first_name name.now))
+            (B.shows (second_of self.old) (second_name name.now))) }
         ensures why { OnErr result ((is_too_many create ≡ true)
             ⊎ FirstFailed A.Device self.old self.new ⊎ SecondFailed B.Device self.old self.new) }
         ensures same { attached_to self.new ≡ attached_to self.old }
@@ -390,6 +397,9 @@ impl<A: Attach, B: Attach> Mirror<A, B> {
         ensures shown { OnOk result (IfNone size
             (StaysBut (λ i. i ≡ A.block_count (first_of self.new) - 1)
             (A.shows (first_of self.old) name.now) (A.contents (first_of self.new)))) }
+        ensures behind { IfNone size
+            (option_map without_last (A.shows (first_of self.new) name.now)
+            ≡ option_map without_last (A.shows (first_of self.old) name.now)) }
         ensures opened { OnOk result (0 < A.block_count (first_of self.new)
             → IfSome (A.contents (first_of self.new))
             (λ image. is_open_at (A.block_count (first_of self.new) - 1) image ≡ true)) }
@@ -426,6 +436,10 @@ impl<A: Attach, B: Attach> Mirror<A, B> {
             (λ d. A.left_behind d first.now) (λ d. B.left_behind d second.now)
             (λ d. A.call_count d) (λ d. B.call_count d)
             (first_of self.old) (second_of self.old) (first_of self.new) (second_of self.new)) }
+        ensures behind { IfNone size (shown_together
+            (A.shows (first_of self.new) first.now) (B.shows (second_of self.new) second.now)
+            ≡ shown_together
+            (A.shows (first_of self.old) first.now) (B.shows (second_of self.old) second.now)) }
         ensures made { IfOk result (λ at. IfSome size (λ n. blocks_in at
             (A.block_count (first_of self.new)) (B.block_count (second_of self.new)) ≡ n - 1)) }
         ensures why { OnErr result (FirstFailed A.Device self.old self.new
@@ -472,10 +486,12 @@ impl<A: Device, B: Device> Mirror<A, B> {
             ≡ A.block_count (first_of self.old) - 1) }
         ensures why { OnErr result (FirstFailed A.Device self.old self.new
             ⊎ SecondFailed B.Device self.old self.new) }
-        ensures first_count { A.block_count (first_of self.new)
-            ≡ A.block_count (first_of self.old) }
-        ensures second_count { B.block_count (second_of self.new)
-            ≡ B.block_count (second_of self.old) }
+        ensures behind { shown_together
+            (A.contents (first_of self.new)) (B.contents (second_of self.new))
+            ≡ shown_together
+            (A.contents (first_of self.old)) (B.contents (second_of self.old)) }
+        ensures first_stays { Stays A.Device (first_of self.old) (first_of self.new) }
+        ensures second_stays { Stays B.Device (second_of self.old) (second_of self.new) }
         ensures first_later { A.fault_count (first_of self.old)
             ≤ A.fault_count (first_of self.new) }
         ensures second_later { B.fault_count (second_of self.old)
@@ -553,6 +569,14 @@ impl<A: Attach, B: Attach> Attach for Mirror<A, B> {
             ≡ shown_of A.Device B.Device self.new
             (A.shows (first_of self.old) (first_name name.now))
             (B.shows (second_of self.old) (second_name name.now)))) }
+
+        // With `None` it leaves what the mirror shows for that name, also where it fails.
+        ensures behind { IfNone create (shown_for name.now
+            (A.shows (first_of self.new) (first_name name.now))
+            (B.shows (second_of self.new) (second_name name.now))
+            ≡ shown_for name.now
+            (A.shows (first_of self.old) (first_name name.now))
+            (B.shows (second_of self.old) (second_name name.now))) }
 
         // Inside an attach of two halves with `None`, and after it, also where it fails, a crash
         // loses nothing of what they showed.

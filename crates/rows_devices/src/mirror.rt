@@ -55,9 +55,13 @@ fn again(first: &mut MemDevice, second: &mut MemDevice) -> Result<[[u8; 2]; 3], 
 }
 
 fn joined<A: Attach + Drop, B: Attach + Drop>(first: A, second: B) -> Result<[u8; 2], Failed> {
-    let mut mirror = Mirror::new(first, second);
+    attached_again(&mut Mirror::new(first, second))
+}
+
+// Attaches both halves, and reads what there is.
+fn attached_again<D: Attach>(mirror: &mut D) -> Result<[u8; 2], Failed> {
     mirror.attach("x+y", None)?;
-    found(&mut mirror)
+    found(mirror)
 }
 
 /// What is found in turns over two halves.
@@ -138,27 +142,50 @@ fn one_fault_of_one_half_is_not_seen(rt: HostRuntime) -> Result<(), Fail> {
     Ok(())
 }
 
-// Of a mirror whose halves fail after so many calls each: whether an attach is done, whether a turn
-// is then, and then a barrier, and how many blocks it has.
-fn broken(alloc: Global, first: u64, second: u64) -> Result<(bool, bool, bool, u64), AllocError> {
-    let first = FuseDevice::new(half(alloc)?, first);
-    let second = FuseDevice::new(half(alloc)?, second);
+/// What a mirror does both of whose halves fail in one call.
+#[derive(Clone, Copy)]
+struct Broken {
+    /// Whether a turn is done.
+    turned: bool,
+    /// What is found after it.
+    read: Result<[u8; 2], Failed>,
+    /// Whether a barrier is done, and how many blocks it has.
+    settled: (bool, u64),
+    /// What is found once it is attached again.
+    again: Result<[u8; 2], Failed>,
+}
+
+// With these calls of both halves failing, after an attach.
+fn failing_at(alloc: Global, first: u64, second: u64) -> Result<Broken, AllocError> {
+    let first = FaultyDevice::new(half(alloc)?, Vec::from_slice(alloc, &[first])?);
+    let second = FaultyDevice::new(half(alloc)?, Vec::from_slice(alloc, &[second])?);
     let mut mirror = Mirror::new(first, second);
-    let attached = mirror.attach("x+y", Some(BLOCKS)).is_ok();
+    let _ = mirror.attach("x+y", Some(BLOCKS));
     let turned = turn(&mut mirror, [1, 2]).is_ok();
-    let settled = mirror.barrier().is_ok();
-    Ok((attached, turned, settled, mirror.blocks()))
+    let read = found(&mut mirror);
+    let settled = (mirror.barrier().is_ok(), mirror.blocks());
+    let again = attached_again(&mut mirror);
+    Ok(Broken {
+        turned,
+        read,
+        settled,
+        again,
+    })
 }
 
 #[test]
 fn with_both_failing_it_is_broken(rt: HostRuntime) -> Result<(), Fail> {
-    for (first, second) in [(9, 6), (10, 7), (11, 8), (12, 9)] {
-        let found = broken(rt.alloc(), first, second)?;
-        assert_eq!(rt;
-            found,
-            (true, false, false, BLOCKS),
-            "{first} and {second} calls"
-        );
+    for (first, second, again) in [
+        (10, 7, [0, 0]),
+        (11, 8, [1, 0]),
+        (12, 9, [1, 0]),
+        (13, 10, [1, 2]),
+    ] {
+        let seen = failing_at(rt.alloc(), first, second)?;
+        assert!(rt; !seen.turned, "calls {first} and {second}");
+        assert_eq!(rt; seen.read, Err(Failed), "calls {first} and {second}");
+        assert_eq!(rt; seen.settled, (false, BLOCKS), "calls {first} and {second}");
+        assert_eq!(rt; seen.again, Ok(again), "calls {first} and {second}");
     }
     Ok(())
 }

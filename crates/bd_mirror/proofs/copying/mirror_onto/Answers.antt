@@ -1,4 +1,4 @@
-use Rattle.std.proofs.Common.{◌≡◌, [], ◌∷◌, Option, false, refl, sym, subst}
+use Rattle.std.proofs.Common.{◌≡◌, [], ◌∷◌, Option, IfSome, true, false, refl, ap, sym, subst}
 use Rattle.bd_device.specs.Blocks.{Image}
 use Rattle.bd_device.specs.Changes.{StaysBut}
 use Rattle.bd_device.specs.Device.{left_now}
@@ -6,6 +6,9 @@ use Rattle.bd_device.specs.Moments.{TornAt}
 use Rattle.bd_mirror.specs.Contents.{is_open_at}
 use Rattle.bd_mirror.proofs.Copies.{copied_from, elapses_none, left_open, only_has, only_read, open_known, stays_none}
 use Rattle.bd_mirror.proofs.Crashes.{stretch_marking, stretch_copying, stretch_ending}
+use Rattle.bd_mirror.proofs.Behind.{mark_within, copied_within, keeps_open, keeps_source, keeps_copied}
+use Rattle.bd_device.proofs.Changes.{stays_both}
+use Rattle.bd_device.proofs.Images.{OnErr-always}
 use Rattle.bd_mirror.proofs.copying.mirror_onto.Goals as goal
 
 pub returns-then-not-branch-clause-source_durable : goal.returns-then-not-branch-clause-source_durable
@@ -116,3 +119,38 @@ returns-clause-inside g c = λ a b ka kb. (
     ),
   ),
 )
+
+-- ---- what both show where it fails
+
+pub returns-in_err-open_closed-clause-behind : goal.returns-in_err-open_closed-clause-behind
+returns-in_err-open_closed-clause-behind g c =
+    OnErr-always _ (keeps_open c.args.mark c.args.is_source_open c.args.is_copy_open _ _ _ c.requires.copy_mark c.requires.source_first c.open_closed.ensures.others
+    (λ opens. ap g.S.Device.contents (c.open_closed.ensures.unwritten opens)))
+
+pub returns-in_err-close_opened-clause-behind : goal.returns-in_err-close_opened-clause-behind
+returns-in_err-close_opened-clause-behind g c =
+    let copy = c.args.copy.now in
+    OnErr-always _ (keeps_source c.args.mark c.args.is_source_open c.args.is_copy_open _ _ _ _ c.requires.source_mark c.requires.copy_mark c.requires.source_first c.open_closed.ensures.others
+    (mark_within c.args.mark (g.C.Device.contents copy) (g.C.Device.contents c.close_opened.new.half) c.close_opened.ensures.others) c.in_ok-open_closed.ensures.opened
+    (λ closed. subst (λ d. IfSome (g.C.Device.contents d) (λ i. is_open_at c.args.mark i ≡ false)) (sym (c.close_opened.ensures.unwritten closed))
+    (subst (λ o. IfSome (g.C.Device.contents copy) (λ i. is_open_at c.args.mark i ≡ o)) closed c.requires.copy_mark)))
+
+pub returns-in_err-copy_blocks-clause-behind : goal.returns-in_err-copy_blocks-clause-behind
+returns-in_err-copy_blocks-clause-behind g c =
+    let kept = sym c.copy_blocks.ensures.reads.kept in
+    OnErr-always _ (keeps_source c.args.mark c.args.is_source_open c.args.is_copy_open _ _ _ _ c.requires.source_mark c.requires.copy_mark c.requires.source_first
+    (subst (λ (o : Option Image). StaysBut (λ i. i ≡ c.args.mark) (g.S.Device.contents c.args.source.now) o) kept c.open_closed.ensures.others)
+    (copied_within c.args.mark (g.C.Device.contents c.args.copy.now) (g.C.Device.contents c.close_opened.new.half) (g.C.Device.contents c.copy_blocks.new.copy) c.close_opened.ensures.others c.copy_blocks.ensures.others)
+    (subst (λ (o : Option Image). IfSome o (λ i. is_open_at c.args.mark i ≡ true)) kept c.in_ok-open_closed.ensures.opened)
+    (λ _. open_known c.args.mark false (g.C.Device.contents c.close_opened.new.half) (g.C.Device.contents c.copy_blocks.new.copy) c.copy_blocks.ensures.others c.in_ok-close_opened.ensures.closed))
+
+pub returns-in_err-close_source-clause-behind : goal.returns-in_err-close_source-clause-behind
+returns-in_err-close_source-clause-behind g c =
+    let kept = sym c.copy_blocks.ensures.reads.kept in
+    OnErr-always _ (keeps_copied c.args.mark c.args.is_source_open c.args.is_copy_open _ _ _ _ c.requires.source_mark c.requires.copy_mark c.requires.source_first
+    (stays_both (λ i. i ≡ c.args.mark) (g.S.Device.contents c.args.source.now) (g.S.Device.contents c.copy_blocks.new.source) (g.S.Device.contents c.close_source.new.source)
+    (subst (λ (o : Option Image). StaysBut (λ i. i ≡ c.args.mark) (g.S.Device.contents c.args.source.now) o) kept c.open_closed.ensures.others) c.close_source.ensures.others)
+    (copied_within c.args.mark (g.C.Device.contents c.args.copy.now) (g.C.Device.contents c.close_opened.new.half) (g.C.Device.contents c.copy_blocks.new.copy) c.close_opened.ensures.others c.copy_blocks.ensures.others)
+    (open_known c.args.mark false (g.C.Device.contents c.close_opened.new.half) (g.C.Device.contents c.copy_blocks.new.copy) c.copy_blocks.ensures.others c.in_ok-close_opened.ensures.closed)
+    (copied_from c.args.mark (g.S.Device.contents c.args.source.now) (g.S.Device.contents c.open_closed.new.half) (g.C.Device.contents c.copy_blocks.new.copy)
+    c.open_closed.ensures.others (c.in_ok-copy_blocks.ensures.copied c.if-not-branch.false)))

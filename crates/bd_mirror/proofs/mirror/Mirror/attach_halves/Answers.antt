@@ -4,6 +4,8 @@ use Rattle.bd_device.proofs.Refusals.{IfNone-always}
 use Rattle.bd_mirror.specs.Crashes.{LosesNothing}
 use Rattle.bd_mirror.specs.Names.{first_name, second_name}
 use Rattle.bd_mirror.proofs.Attaching.{split_none, split_some, named_alone, named_member, named_two, first_alone, alone_names, member_names, pair_names, empty_is, some_is, two_no_member, alone_no_member, none_of, not_too_many}
+use Rattle.bd_mirror.proofs.Behind.{alone_behind, named_member_behind, named_pair_behind}
+use Rattle.bd_mirror.proofs.Crashes.{none_then}
 use Rattle.bd_mirror.proofs.mirror.Mirror.attach_halves.Goals as goal
 
 pub returns-in_ok-attach-in-None-clause-named : goal.returns-in_ok-attach-in-None-clause-named
@@ -88,3 +90,43 @@ returns-else-is_empty-clause-inside g c =
     (λ d. g.A.Attach.left_behind d first) (λ d. g.B.Attach.left_behind d (second_name c.args.name.now)) g.A.Device.call_count g.B.Device.call_count m.first m.second new.first new.second) cut.0
     (subst (λ second. LosesNothing (λ d. g.A.Attach.shows d c.in-Some.first.now) (λ d. g.B.Attach.shows d second)
     (λ d. g.A.Attach.left_behind d c.in-Some.first.now) (λ d. g.B.Attach.left_behind d second) g.A.Device.call_count g.B.Device.call_count m.first m.second new.first new.second) cut.1 loses))
+
+-- ---- what is shown afterwards
+
+pub returns-in_ok-attach-in-None-clause-behind : goal.returns-in_ok-attach-in-None-clause-behind
+returns-in_ok-attach-in-None-clause-behind g c =
+    let all = first_alone c.args.name.now (split_none _ c.args.name.now c.split_once.result c.split_once.ensures.byte (λ w o h. h) c.in-None.is) in
+    alone_behind c.args.create c.args.name.now (first_name c.args.name.now) (g.A.Attach.shows c.attach.new.self) (g.A.Attach.shows c.args.self.now.first) _ all
+    (none_then c.args.create c.in_ok-attach-in-None.ensures.shown (λ e. g.met.A.Attach.shows_named c.attach.new.self c.args.name.now c.in_ok-attach-in-None.ensures.named ∙ e))
+
+pub returns-in_err-attach-in-None-clause-behind : goal.returns-in_err-attach-in-None-clause-behind
+returns-in_err-attach-in-None-clause-behind g c =
+    let all = first_alone c.args.name.now (split_none _ c.args.name.now c.split_once.result c.split_once.ensures.byte (λ w o h. h) c.in-None.is) in
+    alone_behind c.args.create c.args.name.now (first_name c.args.name.now) (g.A.Attach.shows c.attach.new.self) (g.A.Attach.shows c.args.self.now.first) _ all
+    c.in_err-attach-in-None.ensures.behind
+
+pub returns-in_err-size-in-Some-clause-behind : goal.returns-in_err-size-in-Some-clause-behind
+returns-in_err-size-in-Some-clause-behind g c = not_too_many _ c.args.create c.in_err-size-in-Some.ensures.fails
+
+pub returns-in_ok-attach_member-in-Some-clause-behind : goal.returns-in_ok-attach_member-in-Some-clause-behind
+returns-in_ok-attach_member-in-Some-clause-behind g c =
+    let cut = split_some _ c.args.name.now c.split_once.result _ c.split_once.ensures.byte (λ w o h. h) c.in-Some.is in
+    none_of (λ n. n + 1) c.in_ok-size-in-Some.size c.args.create c.in_ok-size-in-Some.ensures.more c.attach_member.ensures.behind (λ same.
+    named_member_behind c.args.name.now c.in-Some.first.now (g.A.Attach.shows c.attach_member.new.self.first) (g.A.Attach.shows c.args.self.now.first) _ _ cut.2
+    (sym cut.1 ∙ empty_is c.is_empty.result c.in-Some.second.now c.is_empty.ensures c.if-is_empty.true) cut.0 same)
+
+pub returns-in_err-attach_member-in-Some-clause-behind : goal.returns-in_err-attach_member-in-Some-clause-behind
+returns-in_err-attach_member-in-Some-clause-behind g c =
+    let cut = split_some _ c.args.name.now c.split_once.result _ c.split_once.ensures.byte (λ w o h. h) c.in-Some.is in
+    none_of (λ n. n + 1) c.in_ok-size-in-Some.size c.args.create c.in_ok-size-in-Some.ensures.more c.attach_member.ensures.behind (λ same.
+    named_member_behind c.args.name.now c.in-Some.first.now (g.A.Attach.shows c.attach_member.new.self.first) (g.A.Attach.shows c.args.self.now.first) _ _ cut.2
+    (sym cut.1 ∙ empty_is c.is_empty.result c.in-Some.second.now c.is_empty.ensures c.if-is_empty.true) cut.0 same)
+
+pub returns-else-is_empty-clause-behind : goal.returns-else-is_empty-clause-behind
+returns-else-is_empty-clause-behind g c =
+    let cut = split_some _ c.args.name.now c.split_once.result _ c.split_once.ensures.byte (λ w o h. h) c.in-Some.is in
+    let new = c.attach_pair.new.self in
+    none_of (λ n. n + 1) c.in_ok-size-in-Some.size c.args.create c.in_ok-size-in-Some.ensures.more c.attach_pair.ensures.behind (λ same.
+    named_pair_behind c.args.name.now c.in-Some.first.now c.in-Some.second.now (g.A.Attach.shows new.first) (g.A.Attach.shows c.args.self.now.first)
+    (g.B.Attach.shows new.second) (g.B.Attach.shows c.args.self.now.second) cut.2
+    (λ e. some_is c.is_empty.result c.in-Some.second.now c.is_empty.ensures c.if-is_empty.false (cut.1 ∙ e)) cut.0 cut.1 same)

@@ -1,5 +1,10 @@
+use Rattle.std.proofs.Common.{ap, ◌∙◌}
+use Rattle.std.specs.Option.{option_map}
 use Rattle.bd_device.proofs.Refusals.{OnOk-then}
 use Rattle.bd_mirror.proofs.Attaching.{member_stays, member_opened}
+use Rattle.bd_mirror.specs.Names.{without_last}
+use Rattle.bd_mirror.proofs.Behind.{member_behind}
+use Rattle.bd_mirror.proofs.Crashes.{none_then}
 use Rattle.bd_mirror.proofs.Marks.{OnOk-always}
 use Rattle.bd_mirror.proofs.mirror.Mirror.attach_member.Goals as goal
 
@@ -15,3 +20,23 @@ returns-clause-opened g c =
     let new = c.open_member.new.half in
     OnOk-then c.open_member.result c.open_member.ensures.opened
     (member_opened (g.A.Device.block_count c.barrier.new.self) (g.A.Device.block_count new) (g.A.Device.contents new) c.open_member.ensures.stays.count)
+
+-- ---- what the half shows afterwards
+
+pub returns-in_err-attach-clause-behind : goal.returns-in_err-attach-clause-behind
+returns-in_err-attach-clause-behind g c = none_then c.args.size c.in_err-attach.ensures.behind (λ e. ap (option_map without_last) e)
+
+pub returns-in_err-barrier-clause-behind : goal.returns-in_err-barrier-clause-behind
+returns-in_err-barrier-clause-behind g c =
+    none_then c.args.size c.in_ok-attach.ensures.shown (λ e.
+    ap (option_map without_last) (g.met.A.Attach.shows_named c.barrier.new.self c.args.name.now (c.barrier.ensures.same_name c.args.name.now c.in_ok-attach.ensures.named) ∙ c.barrier.ensures.kept ∙ e))
+
+pub returns-clause-behind : goal.returns-clause-behind
+returns-clause-behind g c =
+    let new = c.open_member.new.half in
+    let named = c.open_member.ensures.stays.same_name c.args.name.now (c.barrier.ensures.same_name c.args.name.now c.in_ok-attach.ensures.named) in
+    none_then c.args.size c.in_ok-attach.ensures.shown (λ e.
+    ap (option_map without_last) (g.met.A.Attach.shows_named new c.args.name.now named)
+    ∙ member_behind (g.A.Device.block_count c.barrier.new.self) (g.A.Device.block_count c.attach.new.self) (g.A.Device.contents c.attach.new.self) (g.A.Device.contents c.barrier.new.self) (g.A.Device.contents new)
+    c.barrier.ensures.count c.barrier.ensures.kept c.attach.ensures.shape c.open_member.ensures.others
+    ∙ ap (option_map without_last) (c.barrier.ensures.kept ∙ e))

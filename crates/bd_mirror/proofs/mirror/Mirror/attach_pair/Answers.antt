@@ -1,9 +1,10 @@
-use Rattle.std.proofs.Common.{arith}
+use Rattle.std.proofs.Common.{◌∙◌, refl, arith}
 use Rattle.bd_device.specs.Moments.{Nothing}
 use Rattle.bd_device.proofs.Moments.{goes_on, by_name}
 use Rattle.bd_device.proofs.Refusals.{IfNone-always}
 use Rattle.bd_mirror.specs.Calls.{shown_now, attached_as}
 use Rattle.bd_mirror.proofs.Attaching.{pair_shown, marks_now, equal_now}
+use Rattle.bd_mirror.proofs.Behind.{pair_behind, pair_joined}
 use Rattle.bd_mirror.proofs.Copies.{elapses_none}
 use Rattle.bd_mirror.proofs.Crashes.{none_then, loses_before, loses_joined}
 use Rattle.bd_mirror.proofs.mirror.Mirror.attach_pair.Goals as goal
@@ -17,12 +18,12 @@ join-requires-clause-second_settled g c = λ some. c.in_ok-barrier-2.ensures.dur
 pub returns-clause-marks : goal.returns-clause-marks
 returns-clause-marks g c =
     marks_now c.join.result (g.A.Device.block_count c.barrier.new.self) (g.B.Device.block_count c.barrier-2.new.self)
-    (g.A.Device.block_count c.join.new.self.first) (g.B.Device.block_count c.join.new.self.second) c.join.ensures.first_count c.join.ensures.second_count c.join.ensures.marks
+    (g.A.Device.block_count c.join.new.self.first) (g.B.Device.block_count c.join.new.self.second) c.join.ensures.first_stays.count c.join.ensures.second_stays.count c.join.ensures.marks
 
 pub returns-clause-equal : goal.returns-clause-equal
 returns-clause-equal g c =
     equal_now c.join.result (g.A.Device.block_count c.barrier.new.self) (g.B.Device.block_count c.barrier-2.new.self)
-    (g.A.Device.block_count c.join.new.self.first) (g.B.Device.block_count c.join.new.self.second) c.join.ensures.first_count c.join.ensures.second_count c.join.ensures.equal
+    (g.A.Device.block_count c.join.new.self.first) (g.B.Device.block_count c.join.new.self.second) c.join.ensures.first_stays.count c.join.ensures.second_stays.count c.join.ensures.equal
 
 pub returns-clause-shown : goal.returns-clause-shown
 returns-clause-shown g c =
@@ -31,7 +32,7 @@ returns-clause-shown g c =
     (g.A.Device.block_count c.join.new.self.first) (g.B.Device.block_count c.join.new.self.second)
     (g.A.Device.contents c.barrier.new.self) (g.B.Device.contents c.barrier-2.new.self) (g.A.Device.contents c.attach.new.self) (g.B.Device.contents c.attach-2.new.self)
     (g.A.Attach.shows c.args.self.now.first c.args.first.now) (g.B.Attach.shows c.args.self.now.second c.args.second.now)
-    c.join.ensures.first_count c.join.ensures.second_count c.barrier.ensures.kept c.barrier-2.ensures.kept
+    c.join.ensures.first_stays.count c.join.ensures.second_stays.count c.barrier.ensures.kept c.barrier-2.ensures.kept
     c.in_ok-attach.ensures.shown c.in_ok-attach-2.ensures.shown c.join.ensures.shown
 
 -- ---- what a crash inside it may leave
@@ -88,3 +89,34 @@ returns-clause-inside g c =
     (c.barrier.ensures.same_name c.args.first.now c.in_ok-attach.ensures.named) (c.barrier-2.ensures.same_name c.args.second.now c.in_ok-attach-2.ensures.named)
     (λ d t image named left. (g.met.A.Attach.left_named d c.args.first.now t image named).0 left)
     (λ d t image named left. (g.met.B.Attach.left_named d c.args.second.now t image named).0 left) c.join.ensures.inside
+
+-- ---- what both show afterwards
+
+pub returns-in_err-attach-clause-behind : goal.returns-in_err-attach-clause-behind
+returns-in_err-attach-clause-behind g c =
+    pair_behind c.args.size _ _ _ _ c.in_err-attach.ensures.behind (IfNone-always c.args.size refl)
+
+pub returns-in_err-attach-2-clause-behind : goal.returns-in_err-attach-2-clause-behind
+returns-in_err-attach-2-clause-behind g c =
+    pair_behind c.args.size _ _ _ _
+    (none_then c.args.size c.in_ok-attach.ensures.shown (λ e. g.met.A.Attach.shows_named c.attach.new.self c.args.first.now c.in_ok-attach.ensures.named ∙ e))
+    c.in_err-attach-2.ensures.behind
+
+pub returns-in_err-barrier-clause-behind : goal.returns-in_err-barrier-clause-behind
+returns-in_err-barrier-clause-behind g c =
+    pair_behind c.args.size _ _ _ _
+    (none_then c.args.size c.in_ok-attach.ensures.shown (λ e. g.met.A.Attach.shows_named c.barrier.new.self c.args.first.now (c.barrier.ensures.same_name c.args.first.now c.in_ok-attach.ensures.named) ∙ c.barrier.ensures.kept ∙ e))
+    (none_then c.args.size c.in_ok-attach-2.ensures.shown (λ e. g.met.B.Attach.shows_named c.attach-2.new.self c.args.second.now c.in_ok-attach-2.ensures.named ∙ e))
+
+pub returns-in_err-barrier-2-clause-behind : goal.returns-in_err-barrier-2-clause-behind
+returns-in_err-barrier-2-clause-behind g c =
+    pair_behind c.args.size _ _ _ _
+    (none_then c.args.size c.in_ok-attach.ensures.shown (λ e. g.met.A.Attach.shows_named c.barrier.new.self c.args.first.now (c.barrier.ensures.same_name c.args.first.now c.in_ok-attach.ensures.named) ∙ c.barrier.ensures.kept ∙ e))
+    (none_then c.args.size c.in_ok-attach-2.ensures.shown (λ e. g.met.B.Attach.shows_named c.barrier-2.new.self c.args.second.now (c.barrier-2.ensures.same_name c.args.second.now c.in_ok-attach-2.ensures.named) ∙ c.barrier-2.ensures.kept ∙ e))
+
+pub returns-clause-behind : goal.returns-clause-behind
+returns-clause-behind g c =
+    let named_a = c.join.ensures.first_stays.same_name c.args.first.now (c.barrier.ensures.same_name c.args.first.now c.in_ok-attach.ensures.named) in
+    let named_b = c.join.ensures.second_stays.same_name c.args.second.now (c.barrier-2.ensures.same_name c.args.second.now c.in_ok-attach-2.ensures.named) in
+    pair_joined c.args.size _ _ _ _ _ _ _ _ (g.met.A.Attach.shows_named c.join.new.self.first c.args.first.now named_a) (g.met.B.Attach.shows_named c.join.new.self.second c.args.second.now named_b)
+    c.join.ensures.behind (none_then c.args.size c.in_ok-attach.ensures.shown (λ e. c.barrier.ensures.kept ∙ e)) (none_then c.args.size c.in_ok-attach-2.ensures.shown (λ e. c.barrier-2.ensures.kept ∙ e))

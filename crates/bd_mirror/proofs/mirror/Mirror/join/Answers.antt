@@ -4,6 +4,9 @@ use Rattle.bd_device.specs.Device.{left_now}
 use Rattle.bd_mirror.proofs.Copies.{only_read, reads_none}
 use Rattle.bd_mirror.proofs.Crashes.{stretch_reads, reads_fore, reads_back}
 use Rattle.bd_mirror.proofs.Joined.{alone_open, alone_closed, not_other, fore_took, fore_lost, back_took, back_lost}
+use Rattle.bd_mirror.specs.declared.halves.Halves.TheVariants.{Both, First, Second}
+use Rattle.bd_mirror.specs.Contents.{shown_together}
+use Rattle.bd_mirror.proofs.Behind.{mark_within, together_kept, together_joined}
 use Rattle.bd_mirror.proofs.mirror.Mirror.join.Goals as goal
 
 pub mirror_onto-requires-clause-source_settled : goal.mirror_onto-requires-clause-source_settled
@@ -230,3 +233,88 @@ returns-then-branch-2-clause-equal g c = λ _. omega (arith, c.if-blocks.false, 
 
 pub returns-clause-equal : goal.returns-clause-equal
 returns-clause-equal g c = λ _. omega (arith, c.if-blocks.false, c.blocks-blocks.ensures.count, c.blocks-else-blocks-eq0.ensures.count)
+
+-- ---- what both show afterwards
+
+pub returns-in_err-first_open-clause-behind : goal.returns-in_err-first_open-clause-behind
+returns-in_err-first_open-clause-behind g c =
+    ap (λ o. shown_together o (g.B.Device.contents c.args.self.now.second)) c.is_open.ensures.reads.kept
+
+pub returns-in_err-second_open-clause-behind : goal.returns-in_err-second_open-clause-behind
+returns-in_err-second_open-clause-behind g c =
+    ap (λ o. shown_together o (g.B.Device.contents c.is_open-2.new.half)) c.is_open.ensures.reads.kept
+    ∙ ap (λ o. shown_together (g.A.Device.contents c.args.self.now.first) o) c.is_open-2.ensures.reads.kept
+
+pub returns-in_err-mirror_onto-clause-behind : goal.returns-in_err-mirror_onto-clause-behind
+returns-in_err-mirror_onto-clause-behind g c =
+    let m = c.args.self.now in
+    let a = g.A.Device.contents m.first in
+    let b = g.B.Device.contents m.second in
+    let mark = c.blocks-blocks.result - 1 in
+    together_kept mark (g.A.Device.block_count m.first) (g.B.Device.block_count m.second) a b (g.A.Device.contents c.is_open.new.half) (g.B.Device.contents c.is_open-2.new.half)
+    (g.A.Device.contents c.mirror_onto.new.copy) (g.B.Device.contents c.mirror_onto.new.source) (omega (arith, c.if-blocks-eq0.false, c.blocks-blocks.ensures.count)) (omega (arith, c.if-blocks-eq0.false, c.if-blocks.false, c.blocks-else-blocks-eq0.ensures.count))
+    c.blocks-blocks.ensures.shape c.blocks-else-blocks-eq0.ensures.shape c.is_open.ensures.reads.kept c.is_open-2.ensures.reads.kept
+    c.mirror_onto.ensures.copy_others (mark_within mark (g.B.Device.contents c.is_open-2.new.half) (g.B.Device.contents c.mirror_onto.new.source) c.mirror_onto.ensures.source_others) (c.in_err-mirror_onto.ensures.behind.as_second (sym c.is_alone.ensures ∙ c.if-is_alone.true))
+
+pub returns-in_err-mirror_onto-2-clause-behind : goal.returns-in_err-mirror_onto-2-clause-behind
+returns-in_err-mirror_onto-2-clause-behind g c =
+    let m = c.args.self.now in
+    let a = g.A.Device.contents m.first in
+    let b = g.B.Device.contents m.second in
+    let mark = c.blocks-blocks.result - 1 in
+    together_kept mark (g.A.Device.block_count m.first) (g.B.Device.block_count m.second) a b (g.A.Device.contents c.is_open.new.half) (g.B.Device.contents c.is_open-2.new.half)
+    (g.A.Device.contents c.mirror_onto-2.new.source) (g.B.Device.contents c.mirror_onto-2.new.copy) (omega (arith, c.if-blocks-eq0.false, c.blocks-blocks.ensures.count)) (omega (arith, c.if-blocks-eq0.false, c.if-blocks.false, c.blocks-else-blocks-eq0.ensures.count))
+    c.blocks-blocks.ensures.shape c.blocks-else-blocks-eq0.ensures.shape c.is_open.ensures.reads.kept c.is_open-2.ensures.reads.kept
+    (mark_within mark (g.A.Device.contents c.is_open.new.half) (g.A.Device.contents c.mirror_onto-2.new.source) c.mirror_onto-2.ensures.source_others) c.mirror_onto-2.ensures.copy_others c.in_err-mirror_onto-2.ensures.behind.as_first
+
+pub returns-then-branch-clause-behind : goal.returns-then-branch-clause-behind
+returns-then-branch-clause-behind g c =
+    let m = c.args.self.now in
+    let a = g.A.Device.contents m.first in
+    let b = g.B.Device.contents m.second in
+    let mark = c.blocks-blocks.result - 1 in
+    together_joined Both mark (g.A.Device.block_count m.first) (g.B.Device.block_count m.second) (g.A.Device.block_count c.mirror_onto.new.copy) (g.B.Device.block_count c.mirror_onto.new.source)
+    a b (g.A.Device.contents c.is_open.new.half) (g.B.Device.contents c.is_open-2.new.half) (g.A.Device.contents c.mirror_onto.new.copy) (g.B.Device.contents c.mirror_onto.new.source)
+    (omega (arith, c.if-blocks-eq0.false, c.blocks-blocks.ensures.count)) (omega (arith, c.if-blocks-eq0.false, c.if-blocks.false, c.blocks-else-blocks-eq0.ensures.count))
+    (c.mirror_onto.ensures.copy_stays.count ∙ c.is_open.ensures.reads.count) (c.mirror_onto.ensures.source_stays.count ∙ c.is_open-2.ensures.reads.count)
+    c.blocks-blocks.ensures.shape c.blocks-else-blocks-eq0.ensures.shape c.is_open.ensures.reads.kept c.is_open-2.ensures.reads.kept
+    c.mirror_onto.ensures.copy_others (mark_within mark (g.B.Device.contents c.is_open-2.new.half) (g.B.Device.contents c.mirror_onto.new.source) c.mirror_onto.ensures.source_others) (returns-then-branch-clause-shown g c)
+
+pub returns-then-is_alone-clause-behind : goal.returns-then-is_alone-clause-behind
+returns-then-is_alone-clause-behind g c =
+    let m = c.args.self.now in
+    let a = g.A.Device.contents m.first in
+    let b = g.B.Device.contents m.second in
+    let mark = c.blocks-blocks.result - 1 in
+    together_joined Second mark (g.A.Device.block_count m.first) (g.B.Device.block_count m.second) (g.A.Device.block_count c.mirror_onto.new.copy) (g.B.Device.block_count c.mirror_onto.new.source)
+    a b (g.A.Device.contents c.is_open.new.half) (g.B.Device.contents c.is_open-2.new.half) (g.A.Device.contents c.mirror_onto.new.copy) (g.B.Device.contents c.mirror_onto.new.source)
+    (omega (arith, c.if-blocks-eq0.false, c.blocks-blocks.ensures.count)) (omega (arith, c.if-blocks-eq0.false, c.if-blocks.false, c.blocks-else-blocks-eq0.ensures.count))
+    (c.mirror_onto.ensures.copy_stays.count ∙ c.is_open.ensures.reads.count) (c.mirror_onto.ensures.source_stays.count ∙ c.is_open-2.ensures.reads.count)
+    c.blocks-blocks.ensures.shape c.blocks-else-blocks-eq0.ensures.shape c.is_open.ensures.reads.kept c.is_open-2.ensures.reads.kept
+    c.mirror_onto.ensures.copy_others (mark_within mark (g.B.Device.contents c.is_open-2.new.half) (g.B.Device.contents c.mirror_onto.new.source) c.mirror_onto.ensures.source_others) (returns-then-is_alone-clause-shown g c)
+
+pub returns-then-branch-2-clause-behind : goal.returns-then-branch-2-clause-behind
+returns-then-branch-2-clause-behind g c =
+    let m = c.args.self.now in
+    let a = g.A.Device.contents m.first in
+    let b = g.B.Device.contents m.second in
+    let mark = c.blocks-blocks.result - 1 in
+    together_joined Both mark (g.A.Device.block_count m.first) (g.B.Device.block_count m.second) (g.A.Device.block_count c.mirror_onto-2.new.source) (g.B.Device.block_count c.mirror_onto-2.new.copy)
+    a b (g.A.Device.contents c.is_open.new.half) (g.B.Device.contents c.is_open-2.new.half) (g.A.Device.contents c.mirror_onto-2.new.source) (g.B.Device.contents c.mirror_onto-2.new.copy)
+    (omega (arith, c.if-blocks-eq0.false, c.blocks-blocks.ensures.count)) (omega (arith, c.if-blocks-eq0.false, c.if-blocks.false, c.blocks-else-blocks-eq0.ensures.count))
+    (c.mirror_onto-2.ensures.source_stays.count ∙ c.is_open.ensures.reads.count) (c.mirror_onto-2.ensures.copy_stays.count ∙ c.is_open-2.ensures.reads.count)
+    c.blocks-blocks.ensures.shape c.blocks-else-blocks-eq0.ensures.shape c.is_open.ensures.reads.kept c.is_open-2.ensures.reads.kept
+    (mark_within mark (g.A.Device.contents c.is_open.new.half) (g.A.Device.contents c.mirror_onto-2.new.source) c.mirror_onto-2.ensures.source_others) c.mirror_onto-2.ensures.copy_others (returns-then-branch-2-clause-shown g c)
+
+pub returns-clause-behind : goal.returns-clause-behind
+returns-clause-behind g c =
+    let m = c.args.self.now in
+    let a = g.A.Device.contents m.first in
+    let b = g.B.Device.contents m.second in
+    let mark = c.blocks-blocks.result - 1 in
+    together_joined First mark (g.A.Device.block_count m.first) (g.B.Device.block_count m.second) (g.A.Device.block_count c.mirror_onto-2.new.source) (g.B.Device.block_count c.mirror_onto-2.new.copy)
+    a b (g.A.Device.contents c.is_open.new.half) (g.B.Device.contents c.is_open-2.new.half) (g.A.Device.contents c.mirror_onto-2.new.source) (g.B.Device.contents c.mirror_onto-2.new.copy)
+    (omega (arith, c.if-blocks-eq0.false, c.blocks-blocks.ensures.count)) (omega (arith, c.if-blocks-eq0.false, c.if-blocks.false, c.blocks-else-blocks-eq0.ensures.count))
+    (c.mirror_onto-2.ensures.source_stays.count ∙ c.is_open.ensures.reads.count) (c.mirror_onto-2.ensures.copy_stays.count ∙ c.is_open-2.ensures.reads.count)
+    c.blocks-blocks.ensures.shape c.blocks-else-blocks-eq0.ensures.shape c.is_open.ensures.reads.kept c.is_open-2.ensures.reads.kept
+    (mark_within mark (g.A.Device.contents c.is_open.new.half) (g.A.Device.contents c.mirror_onto-2.new.source) c.mirror_onto-2.ensures.source_others) c.mirror_onto-2.ensures.copy_others (returns-clause-shown g c)
