@@ -75,7 +75,7 @@ second : (x y : Bool) → (x && y) ≡ true → y ≡ true
 second true y e = e
 second false y e = cc
 
-record IsNameByte (b : ℕ) : Type 0 where
+pub record IsNameByte (b : ℕ) : Type 0 where
   pub low : 33 ≤ b
   pub high : b < 256
 
@@ -85,7 +85,8 @@ name_byte b h =
     let high : b ≤ 255 = leb-true b 255 (first (nat_le b 255) (not (b == 47) && not (b == 127)) (second (nat_le 33 b) (nat_le b 255 && (not (b == 47) && not (b == 127))) h)) in
     record { low = low; high = omega arith }
 
-name_bytes : (n : List ℕ) → list_all is_name_byte n ≡ true → AllByRecursion IsNameByte n
+-- each byte of a name is one
+pub name_bytes : (n : List ℕ) → list_all is_name_byte n ≡ true → AllByRecursion IsNameByte n
 name_bytes [] h = tt
 name_bytes (b ∷ n) h = (name_byte b (first (is_name_byte b) (list_all is_name_byte n) h), name_bytes n (second (is_name_byte b) (list_all is_name_byte n) h))
 
