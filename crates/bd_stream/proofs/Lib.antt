@@ -19,3 +19,4 @@ pub mod EndLemmas
 pub mod TreeOrderLemmas
 pub mod PlantLemmas
 pub mod CompleteLemmas
+pub mod BoundLemmas

@@ -136,7 +136,7 @@ chunk_by : (t : Bool) (left : ℕ) → (t ≡ true → left < write_limit) → c
 chunk_by true left h = let less : left < write_limit = h refl in omega arith
 chunk_by false left h = omega arith
 
-chunk_fits : (left : ℕ) → chunk_size left ≤ write_limit
+pub chunk_fits : (left : ℕ) → chunk_size left ≤ write_limit
 chunk_fits left = chunk_by (nat_lt left write_limit) left (ltb-true left write_limit)
 
 data_size : (phase : Phase) (left n : ℕ) (w : List ℕ) → n ≡ need phase left w → phase ≡ Data → n ≤ write_limit

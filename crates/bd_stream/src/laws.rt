@@ -1,10 +1,10 @@
 //! What follows from the definitions of streams. Each function here carries laws of the definitions
 //! and does nothing.
 
-ghost use Rattle.std.specs.Prelude.{◌≡◌, ◌≤◌, ◌↔◌, ◌++◌, ◌∷◌, [], ℕ, List, Some, None, length, slice_index, true};
+ghost use Rattle.std.specs.Prelude.{◌≡◌, ◌<◌, ◌≤◌, ◌↔◌, ◌++◌, ◌∷◌, [], ℕ, List, Some, None, length, slice_index, true};
 ghost use Rattle.std.specs.List.{flat_map, AllByRecursion};
 ghost use Rattle.bd_command.specs.Command.{IsShortPath, IsCommand};
-ghost use Rattle.bd_limits.specs.Limits.{path_limit};
+ghost use Rattle.bd_limits.specs.Limits.{path_limit, write_limit, listing_limit};
 ghost use Rattle.bd_names.specs.Names.{AreNames, path_text};
 ghost use Rattle.bd_wire.specs.Numbers.{IsBytes};
 ghost use Rattle.std.specs.FinMap.{get};
@@ -132,4 +132,12 @@ pub fn exports_are_streams()
 pub fn exports_end()
     ensures { (n : ℕ) × ((top : Path) (replies : ℕ → Reply) → IsShortPath top
         → asked (after_replies n replies (begin top)) ≡ None) }
+{}
+
+/// Little is kept: an importer keeps less than the 2,048 bytes of a write of its stream, and an
+/// exporter at most the 100 names of a listing.
+pub fn little_is_kept()
+    ensures importer { (s : State) → IsSound s → length s.waiting < write_limit }
+    ensures exporter { (s : Export) (r : Reply) → length s.names ≤ listing_limit
+        → length (answered s r).0.names ≤ listing_limit }
 {}
