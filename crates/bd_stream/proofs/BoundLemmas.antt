@@ -1,11 +1,10 @@
 -- How much is kept: bytes of a stream by an importer, names by an exporter.
-use Rattle.std.proofs.Common.{◌≡◌, ℕ, ◌+◌, ◌<◌, ◌≤◌, List, [], ◌∷◌, ◌++◌, ◌-◌, length, map, Bool, true, false, cond, Option, None, Some, refl, ap, subst, arith}
-use Rattle.std.specs.Prelude.{◌&&◌, nat_lt, nat_le, ◌==◌, slice_index, unwrap_or}
+use Rattle.std.proofs.Common.{◌≡◌, ℕ, ◌+◌, ◌<◌, ◌≤◌, List, [], ◌∷◌, ◌++◌, ◌-◌, length, map, Bool, true, false, cond, Option, None, Some, refl, subst, arith}
+use Rattle.std.specs.Prelude.{◌&&◌, nat_lt, ◌==◌, slice_index, unwrap_or}
 use Rattle.std.proofs.lemmas.Bool.{ltb-false, leb-true, eqb-true}
 use Rattle.bd_limits.specs.Limits.{write_limit, listing_limit}
 use Rattle.bd_names.specs.Names.{parent_of}
 use Rattle.bd_command.specs.declared.reply.Listed.{Listed}
-use Rattle.bd_command.specs.declared.reply.Listing.{Listing}
 use Rattle.bd_command.specs.declared.reply.Reply.{Reply}
 use Rattle.bd_command.specs.declared.reply.Reply.TheVariants.{Done, Bytes, Dir, File, Names, Refused}
 use Rattle.bd_model.specs.Tree.{Path, Name}
@@ -15,8 +14,8 @@ use Rattle.bd_stream.specs.declared.machine.Phase.TheVariants.{Start, First, Nex
 use Rattle.bd_stream.specs.declared.stage.Stage.{Stage}
 use Rattle.bd_stream.specs.declared.stage.Stage.TheVariants.{Look, Piece, Inside, Beside, Whole, Absent, Overlong}
 use Rattle.bd_stream.specs.Heads.{is_kind, path_count, head_size}
-use Rattle.bd_stream.specs.Importing.{State, IsSound, need, head_need, is_long, chunk_size, short_path}
-use Rattle.bd_stream.specs.Exporting.{Export, Move, stays_at, closed, next_at, next_in, listed, filed_in, filed, left_at, after_head, looked_at, head_in, pieced, piece_in, piece_size, named, names_after, are_rising, is_count, answered_in, answered, last_name}
+use Rattle.bd_stream.specs.Importing.{State, IsSound, need, head_need, is_long, short_path}
+use Rattle.bd_stream.specs.Exporting.{Export, Move, stays_at, closed, next_at, listed, filed_in, filed, left_at, after_head, looked_at, head_in, pieced, piece_in, piece_size, named, names_after, are_rising, is_count, answered_in, answered, last_name}
 use Rattle.bd_stream.proofs.WellLemmas.{chunk_fits}
 
 -- ---- an importer

@@ -1,13 +1,12 @@
 -- Only streams are complete.
 use Rattle.std.proofs.Common.{◌≡◌, ◌≢◌, ◌⊎◌, inl, inr, ℕ, zero, suc, ◌+◌, ◌-◌, ◌<◌, ◌≤◌, List, [], ◌∷◌, ◌++◌, length, Bool, true, false, cond, Option, None, Some, refl, sym, ap, subst, ◌∙◌, arith, append_assoc, append-nil, length-append}
-use Rattle.std.specs.Prelude.{slice_index, nat_lt, nat_le, ◌==◌, is_none, unwrap_or, IfSome}
+use Rattle.std.specs.Prelude.{slice_index, nat_lt, ◌==◌, is_none, unwrap_or}
 use Rattle.std.specs.List.{flat_map, AllByRecursion}
-use Rattle.std.proofs.lemmas.Bool.{ltb-true, ltb-false, lt-leb, leb-true, le-ltb, eqb-true, eqb-false}
+use Rattle.std.proofs.lemmas.Bool.{ltb-true, ltb-false, eqb-true}
 use Rattle.std.proofs.lemmas.List.{flat_map_more}
-use Rattle.bd_limits.specs.Limits.{path_limit, file_limit}
+use Rattle.bd_limits.specs.Limits.{path_limit}
 use Rattle.bd_names.specs.Names.{AreNames, same_text, path_text}
 use Rattle.bd_names.proofs.NamesLaws.{AreNames-append, same_text-true}
-use Rattle.bd_wire.specs.Numbers.{IsBytes}
 use Rattle.bd_command.specs.Command.{IsShortPath}
 use Rattle.bd_model.specs.Tree.{Path, Entry, Directory, FileWith, is_directory}
 use Rattle.bd_model.specs.Step.{Placed, file_bytes}
@@ -16,7 +15,7 @@ use Rattle.bd_stream.specs.declared.machine.Phase.{Phase}
 use Rattle.bd_stream.specs.declared.machine.Phase.TheVariants.{Start, First, Next, Data, Ended, Bad, Long}
 use Rattle.bd_stream.specs.Heads.{IsHead, head_bytes, head_of, head_size, is_kind, path_count}
 use Rattle.bd_stream.specs.Within.{AreBytes, IsWell}
-use Rattle.bd_stream.specs.Importing.{State, Turn, IsSound, start, magic, go, quietly, first_phase, end_phase, is_long, is_in_order, short_path, entered, given, phase_with, head_commands, placed_turn, found_turn, tag_turn, data_turn, turn_in, turn, with_byte, looked, need, head_need, chunk_size, taken, fed}
+use Rattle.bd_stream.specs.Importing.{State, Turn, IsSound, start, magic, go, quietly, first_phase, end_phase, is_long, is_in_order, short_path, entered, given, phase_with, placed_turn, found_turn, tag_turn, turn_in, turn, with_byte, need, head_need, taken, fed}
 use Rattle.bd_stream.specs.Streams.{head_at, entry_bytes, stream_bytes, FitsBelow, AreInOrder, IsStreamFor}
 use Rattle.bd_stream.proofs.NeedLemmas.{need_exact, size_known}
 use Rattle.bd_stream.proofs.MoveLemmas.{short_length}

@@ -1,11 +1,10 @@
 -- The entries at a path and below it: each is one of the tree, and they stand in the order of paths.
-use Rattle.std.proofs.Common.{◌≡◌, ◌≢◌, ℕ, List, [], ◌∷◌, ◌++◌, Bool, true, false, T, cond, not, Option, None, Some, Less, Equal, Greater, refl, sym, ap, subst, ◌∙◌, append_assoc}
+use Rattle.std.proofs.Common.{◌≡◌, List, [], ◌∷◌, ◌++◌, Bool, true, false, T, cond, Option, None, Some, Less, Equal, Greater, refl, sym, ap, subst, ◌∙◌, append_assoc}
 use Rattle.std.specs.Prelude.{◌&&◌}
 use Rattle.std.specs.List.{filter, filter_map, flat_map, cons_option, AllByRecursion}
 use Rattle.std.specs.Option.{option_map}
-use Rattle.std.specs.Ordering.{nat_cmp, is_lt, is_le, is_eq, ordering_then}
+use Rattle.std.specs.Ordering.{is_lt, is_le, is_eq, ordering_then}
 use Rattle.std.specs.Cmp.{tied_itself}
-use Rattle.std.specs.Cmp.Lexicographic.{slice_cmp}
 use Rattle.std.specs.declared.cmp.Ordering.{Ordering}
 use Rattle.std.proofs.lemmas.Cmp.{nat_list_cmp_total}
 use Rattle.std.specs.FinMap.{get, find, entries, is_sorted, get-entries, entries_sorted}
@@ -16,7 +15,7 @@ use Rattle.bd_model.specs.Tree.{Path, Entry, Tree, path_cmp}
 use Rattle.bd_model.specs.Step.{Placed, moved_entry}
 use Rattle.bd_model.proofs.PathOrder.{paths_total, same_path, same_path-true, same_path-refl, same_path-false}
 use Rattle.bd_stream.specs.Streams.{entry_bytes, entries_at}
-use Rattle.bd_stream.specs.Exports.{from, beyond, past, ending}
+use Rattle.bd_stream.specs.Exports.{from, beyond, ending}
 
 -- ---- in order
 

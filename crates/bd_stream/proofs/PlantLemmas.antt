@@ -1,14 +1,14 @@
 -- The commands of a stream make its subtree.
-use Rattle.std.proofs.Common.{◌≡◌, ◌≢◌, ◌⊎◌, inl, inr, ℕ, zero, suc, ◌+◌, ◌-◌, ◌<◌, ◌≤◌, List, [], ◌∷◌, ◌++◌, length, take, drop, replicate, Bool, true, false, T, cond, Option, None, Some, Less, refl, sym, ap, subst, ◌∙◌, arith, append_assoc, append-nil, length-append}
-use Rattle.std.specs.Prelude.{◌&&◌, is_some, IsSome, IfSome, nat_le, ◌==◌}
+use Rattle.std.proofs.Common.{◌≡◌, ◌≢◌, ◌⊎◌, inl, inr, ℕ, zero, suc, ◌+◌, ◌-◌, ◌≤◌, List, [], ◌∷◌, ◌++◌, length, take, drop, replicate, Bool, true, false, T, cond, Option, None, Some, Less, refl, sym, ap, subst, ◌∙◌, arith, append_assoc, append-nil, length-append}
+use Rattle.std.specs.Prelude.{is_some, IsSome, IfSome, ◌==◌}
 use Rattle.std.specs.List.{flat_map, AllByRecursion}
 use Rattle.std.specs.Option.{option_or, option_and_then}
-use Rattle.std.specs.Ordering.{is_lt, is_eq}
+use Rattle.std.specs.Ordering.{is_lt}
 use Rattle.std.specs.FinMap.{get, find, is_sorted}
 use Rattle.std.specs.FinMap.Entries.{below_all}
 use Rattle.std.specs.declared.cmp.Ordering.{Ordering}
 use Rattle.std.proofs.lemmas.Bool.{le-leb, eqb-true}
-use Rattle.std.proofs.lemmas.List.{take-append-drop, length-take, length-drop, append_cancel_left, drop_all}
+use Rattle.std.proofs.lemmas.List.{take-append-drop, length-take, append_cancel_left, drop_all}
 use Rattle.std.proofs.Math.Seq.{take-length}
 use Rattle.bd_limits.specs.Limits.{file_limit, write_limit}
 use Rattle.bd_keys.specs.Edits.{resized, overwritten}
@@ -16,16 +16,15 @@ use Rattle.bd_names.specs.Names.{is_under, parent_of}
 use Rattle.bd_names.proofs.NamesLaws.{parent_of-some, parent_of-none, parent_of-append, is_under-append, is_under-rest}
 use Rattle.bd_command.specs.declared.Command.{Command}
 use Rattle.bd_command.specs.declared.Command.TheVariants.{Mkdir, Create, Write, Chmod}
-use Rattle.bd_command.specs.declared.refusal.Refusal.{Refusal}
 use Rattle.bd_command.specs.declared.refusal.Refusal.TheVariants.{TooBig}
 use Rattle.bd_model.specs.Tree.{Path, Name, Entry, Directory, FileWith, Tree, IsTree, IsEntry, path_cmp, has_directory}
 use Rattle.bd_model.specs.Step.{Placed, file_bytes, with_bytes, with_mode, absent_refusal, file_refusal, parent_refusal, place_refusal, new_refusal, size_refusal}
 use Rattle.bd_model.specs.Laws.{Accepts, after}
 use Rattle.bd_model.proofs.Accepted.{absent_below}
-use Rattle.bd_model.proofs.PathOrder.{same_path, same_path-refl, same_path-false, same_path-true, one_or_apart}
+use Rattle.bd_model.proofs.PathOrder.{same_path-refl, same_path-false, one_or_apart}
 use Rattle.bd_model.proofs.TreeLaws.{after-made, after-others, after-chmod}
 use Rattle.bd_stream.specs.Importing.{making, moding, head_commands}
-use Rattle.bd_stream.specs.Streams.{head_at, mode_of, len_of, writes_at, entry_commands, entries_at}
+use Rattle.bd_stream.specs.Streams.{head_at, writes_at, entry_commands, entries_at}
 use Rattle.bd_stream.specs.Planting.{after_all, AreAccepted, IsFree, IsPlanted, planting}
 use Rattle.bd_stream.proofs.PlaceLemmas.{parent_below}
 use Rattle.bd_stream.proofs.TreeOrderLemmas.{front_less}

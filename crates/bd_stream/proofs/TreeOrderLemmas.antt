@@ -1,6 +1,6 @@
 -- The entries at a path of a tree are those of a stream: each may stand where it does.
-use Rattle.std.proofs.Common.{◌≡◌, ◌≢◌, ◌⊎◌, inl, inr, ℕ, ◌<◌, ◌≤◌, List, [], ◌∷◌, ◌++◌, length, Bool, true, false, T, cond, not, Option, None, Some, Less, Equal, Greater, refl, sym, ap, subst, ◌∙◌, arith, append_assoc, append-nil}
-use Rattle.std.specs.Prelude.{◌&&◌, ◌||◌, IfSome, IsSome, is_some, nat_lt, ◌==◌}
+use Rattle.std.proofs.Common.{◌≡◌, ◌⊎◌, inl, inr, ℕ, ◌≤◌, List, [], ◌∷◌, ◌++◌, length, Bool, true, false, T, cond, not, Option, None, Some, Less, Equal, Greater, refl, sym, ap, subst, ◌∙◌, arith, append_assoc, append-nil}
+use Rattle.std.specs.Prelude.{◌&&◌, ◌||◌, IfSome, IsSome, is_some, ◌==◌}
 use Rattle.std.specs.List.{AllByRecursion, filter}
 use Rattle.std.specs.Ordering.{nat_cmp, is_lt, is_le, is_eq, ordering_then, ordering_reverse}
 use Rattle.std.specs.Cmp.{tied_itself, nat_cmp_total}
@@ -8,18 +8,17 @@ use Rattle.std.specs.Cmp.Lexicographic.{slice_cmp}
 use Rattle.std.specs.FinMap.{get, find, is_sorted, slice_cmp-IsAntisymmetric, nat_cmp-IsAntisymmetric}
 use Rattle.std.specs.FinMap.Entries.{below_all}
 use Rattle.std.specs.declared.cmp.Ordering.{Ordering}
-use Rattle.std.proofs.lemmas.Cmp.{nat_list_cmp_total}
 use Rattle.std.proofs.lemmas.Bool.{lt-ltb}
-use Rattle.bd_limits.specs.Limits.{path_limit, file_limit}
+use Rattle.bd_limits.specs.Limits.{path_limit}
 use Rattle.bd_keys.specs.Keys.{key_cmp}
 use Rattle.bd_names.specs.Names.{AreNames, key_of, path_text, is_under, parent_of}
 use Rattle.bd_names.proofs.NamesLaws.{is_name-bytes, AreNames-parts, AreNames-cons, AreNames-append, key_of-cons, parent_of-some, parent_of-none, is_under-refl, is_under-antisym}
 use Rattle.bd_model.specs.Tree.{Path, Name, Entry, Directory, FileWith, Tree, IsTree, IsEntry, path_cmp, is_directory, has_directory}
 use Rattle.bd_model.specs.Step.{Placed}
-use Rattle.bd_model.proofs.PathOrder.{paths_total, same_path, same_path-true}
+use Rattle.bd_model.proofs.PathOrder.{paths_total, same_path-true}
 use Rattle.bd_stream.specs.declared.machine.Phase.TheVariants.{First, Next}
 use Rattle.bd_stream.specs.Heads.{IsHead}
-use Rattle.bd_stream.specs.Importing.{follows, has_parent}
+use Rattle.bd_stream.specs.Importing.{has_parent}
 use Rattle.bd_stream.specs.Streams.{head_at, entries_at, FitsBelow, AreInOrder, IsStreamFor}
 use Rattle.bd_stream.specs.Exports.{from, beyond, past}
 use Rattle.bd_stream.proofs.OrderLemmas.{name_cmp, begins_with, is_from, from_in, from_root}

@@ -1,5 +1,5 @@
 -- The keys of paths as numbers, which rise from one question of an export to the next.
-use Rattle.std.proofs.Common.{◌≡◌, ◌≢◌, ℕ, zero, suc, ◌+◌, ◌*◌, ◌-◌, ◌<◌, ◌≤◌, List, [], ◌∷◌, ◌++◌, length, Bool, true, false, Less, Equal, Greater, refl, sym, ap, subst, ◌∙◌, arith, append_assoc, append-nil, length-append}
+use Rattle.std.proofs.Common.{◌≡◌, ℕ, zero, suc, ◌+◌, ◌*◌, ◌<◌, ◌≤◌, List, [], ◌∷◌, ◌++◌, length, Bool, true, false, Less, Equal, Greater, refl, sym, ap, subst, ◌∙◌, arith, append_assoc, length-append}
 use Rattle.std.specs.Prelude.{◌&&◌, nat_le, ◌==◌, not}
 use Rattle.std.specs.List.{AllByRecursion, list_all}
 use Rattle.std.specs.Ordering.{nat_cmp, ordering_then}
@@ -8,7 +8,7 @@ use Rattle.std.specs.declared.cmp.Ordering.{Ordering}
 use Rattle.std.proofs.lemmas.Bool.{leb-true}
 use Rattle.bd_limits.specs.Limits.{path_limit}
 use Rattle.bd_names.specs.Names.{is_name, is_name_byte, AreNames, path_text, key_of}
-use Rattle.bd_names.proofs.NamesLaws.{is_name-bytes, is_name-length, AreNames-parts, AreNames-cons, key_of-append, key_of-cons, length-key_of}
+use Rattle.bd_names.proofs.NamesLaws.{is_name-bytes, is_name-length, AreNames-cons, key_of-append, key_of-cons, length-key_of}
 use Rattle.bd_wire.proofs.NumberLemmas.{higher_digit}
 use Rattle.bd_model.specs.Tree.{Path, Name}
 use Rattle.bd_stream.specs.Within.{AreBytes}
