@@ -1,5 +1,5 @@
 -- The replies of one tree write the stream.
-use Rattle.std.proofs.Common.{◌≡◌, ◌≢◌, ℕ, zero, suc, ◌+◌, ◌-◌, ◌<◌, ◌≤◌, List, [], ◌∷◌, ◌++◌, length, take, drop, Bool, true, false, cond, Option, None, Some, refl, sym, ap, subst, ◌∙◌, arith, append_assoc, append-nil, length-append}
+use Rattle.std.proofs.Common.{◌≡◌, ℕ, ◌+◌, ◌-◌, ◌<◌, ◌≤◌, List, [], ◌∷◌, ◌++◌, length, take, drop, Bool, true, false, cond, Option, None, Some, refl, sym, ap, subst, ◌∙◌, arith, append_assoc, append-nil}
 use Rattle.std.specs.Prelude.{◌&&◌, nat_lt, nat_le, ◌==◌, unwrap_or, is_some, IsSome, IfSome}
 use Rattle.std.specs.FinMap.{get}
 use Rattle.std.proofs.lemmas.Bool.{ltb-true, ltb-false, le-leb, eq-eqb, eqb-true, eqb-false}
@@ -19,8 +19,8 @@ use Rattle.bd_stream.specs.declared.head.Head.{Head}
 use Rattle.bd_stream.specs.declared.stage.Stage.{Stage}
 use Rattle.bd_stream.specs.declared.stage.Stage.TheVariants.{Look, Piece, Inside, Beside, Whole, Absent, Overlong}
 use Rattle.bd_stream.specs.Heads.{head_bytes}
-use Rattle.bd_stream.specs.Streams.{entry_bytes, stream_of}
-use Rattle.bd_stream.specs.Exporting.{Export, Move, begin, stays_at, put, last_name, magic_before, piece_size, filed, left_at, after_head, looked_at, head_in, pieced, piece_in, named, names_after, asked_in, answered_in, asked, answered, ask_beside}
+use Rattle.bd_stream.specs.Streams.{stream_of}
+use Rattle.bd_stream.specs.Exporting.{Export, Move, begin, stays_at, last_name, magic_before, piece_size, filed, left_at, after_head, looked_at, head_in, pieced, piece_in, named, names_after, asked_in, answered_in, asked, answered, ask_beside}
 use Rattle.bd_stream.specs.Exports.{from, beyond, past, ending, rest_in, rest_of, AreNext, IsLook, IsPiece, IsOn, IsOnIn, Continues, GoesOn}
 use Rattle.bd_stream.proofs.OrderLemmas.{is_after, beyond_in, past_in, from_root}
 use Rattle.bd_stream.proofs.EntryLemmas.{ending_next, ending_all}

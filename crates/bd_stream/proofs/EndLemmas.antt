@@ -1,9 +1,9 @@
 -- Whatever the answers are, an export ends.
-use Rattle.std.proofs.Common.{◌≡◌, ◌≢◌, ℕ, zero, suc, ◌+◌, ◌*◌, ◌-◌, ◌<◌, ◌≤◌, List, [], ◌∷◌, ◌++◌, length, map, Bool, true, false, cond, Option, None, Some, Less, Equal, Greater, refl, sym, ap, subst, ◌∙◌, arith}
+use Rattle.std.proofs.Common.{◌≡◌, ℕ, zero, suc, ◌+◌, ◌*◌, ◌-◌, ◌<◌, ◌≤◌, List, [], ◌∷◌, ◌++◌, length, map, Bool, true, false, cond, Option, None, Some, Less, Equal, Greater, refl, sym, ap, subst, ◌∙◌, arith}
 use Rattle.std.specs.Prelude.{◌&&◌, nat_lt, nat_le, ◌==◌, unwrap_or, IfSome}
 use Rattle.std.specs.Ordering.{is_lt}
 use Rattle.std.specs.declared.cmp.Ordering.{Ordering}
-use Rattle.std.proofs.lemmas.Bool.{leb-true, eqb-true, eqb-false, ltb-true, ltb-false}
+use Rattle.std.proofs.lemmas.Bool.{leb-true, eqb-true, eqb-false}
 use Rattle.bd_limits.specs.Limits.{path_limit, file_limit, mode_limit, read_limit}
 use Rattle.bd_names.specs.Names.{is_name, AreNames, path_text, parent_of}
 use Rattle.bd_names.proofs.NamesLaws.{AreNames-parts, AreNames-cons, AreNames-append, parent_of-some}
@@ -19,7 +19,7 @@ use Rattle.bd_stream.specs.declared.head.Head.{Head}
 use Rattle.bd_stream.specs.declared.stage.Stage.{Stage}
 use Rattle.bd_stream.specs.declared.stage.Stage.TheVariants.{Look, Piece, Inside, Beside, Whole, Absent, Overlong}
 use Rattle.bd_stream.specs.Importing.{short_path}
-use Rattle.bd_stream.specs.Exporting.{Export, Move, begin, stays_at, put, last_name, closed, next_at, next_in, listed, filed_in, filed, left_at, after_head, looked_at, head_in, pieced, piece_in, piece_size, named, names_after, are_rising, is_count, asked_in, answered_in, asked, answered, ask_beside}
+use Rattle.bd_stream.specs.Exporting.{Export, Move, begin, stays_at, put, last_name, closed, next_at, next_in, filed_in, filed, left_at, after_head, looked_at, head_in, pieced, piece_in, piece_size, named, names_after, are_rising, is_count, asked_in, answered_in, asked, answered, ask_beside}
 use Rattle.bd_stream.specs.Exports.{after_replies}
 use Rattle.bd_stream.proofs.OrderLemmas.{name_cmp}
 use Rattle.bd_stream.proofs.PlaceLemmas.{last_name-append, text_by}

@@ -1,11 +1,10 @@
 -- The entries at a path and below it: each is one of the tree, and they stand in the order of paths.
-use Rattle.std.proofs.Common.{◌≡◌, ◌≢◌, ℕ, List, [], ◌∷◌, ◌++◌, Bool, true, false, T, cond, not, Option, None, Some, Less, Equal, Greater, refl, sym, ap, subst, ◌∙◌, append_assoc}
+use Rattle.std.proofs.Common.{◌≡◌, List, [], ◌∷◌, ◌++◌, Bool, true, false, T, cond, Option, None, Some, Less, Equal, Greater, refl, sym, ap, subst, ◌∙◌, append_assoc}
 use Rattle.std.specs.Prelude.{◌&&◌}
 use Rattle.std.specs.List.{filter, filter_map, flat_map, cons_option, AllByRecursion}
 use Rattle.std.specs.Option.{option_map}
-use Rattle.std.specs.Ordering.{nat_cmp, is_lt, is_le, is_eq, ordering_then}
+use Rattle.std.specs.Ordering.{is_lt, is_le, is_eq, ordering_then}
 use Rattle.std.specs.Cmp.{tied_itself}
-use Rattle.std.specs.Cmp.Lexicographic.{slice_cmp}
 use Rattle.std.specs.declared.cmp.Ordering.{Ordering}
 use Rattle.std.proofs.lemmas.Cmp.{nat_list_cmp_total}
 use Rattle.std.specs.FinMap.{get, find, entries, is_sorted, get-entries, entries_sorted}
@@ -16,24 +15,24 @@ use Rattle.bd_model.specs.Tree.{Path, Entry, Tree, path_cmp}
 use Rattle.bd_model.specs.Step.{Placed, moved_entry}
 use Rattle.bd_model.proofs.PathOrder.{paths_total, same_path, same_path-true, same_path-refl, same_path-false}
 use Rattle.bd_stream.specs.Streams.{entry_bytes, entries_at}
-use Rattle.bd_stream.specs.Exports.{from, beyond, past, ending}
+use Rattle.bd_stream.specs.Exports.{from, beyond, ending}
 
 -- ---- in order
 
-less : (r : Ordering) → T (is_lt r) → r ≡ Less
+pub less : (r : Ordering) → T (is_lt r) → r ≡ Less
 less Less h = refl
 less Equal h = absurd h
 less Greater h = absurd h
 
-first : (a b : Bool) → T (a && b) → T a
+pub first : (a b : Bool) → T (a && b) → T a
 first true b h = tt
 first false b h = absurd h
 
-second : (a b : Bool) → T (a && b) → T b
+pub second : (a b : Bool) → T (a && b) → T b
 second true b h = h
 second false b h = absurd h
 
-both : (a b : Bool) → T a → T b → T (a && b)
+pub both : (a b : Bool) → T a → T b → T (a && b)
 both true b p q = q
 both false b p q = absurd p
 
@@ -93,21 +92,21 @@ pub found_at : (t : Tree) (top r : Path) → find path_cmp r (entries_at t top) 
 found_at t top r = found_moved top r (entries t) ∙ sym (get-entries t (top ++ r))
 
 -- a path that is above another one isn't it
-apart_above : (p q : Path) → T (is_lt (path_cmp p q)) → same_path q p ≡ false
+pub apart_above : (p q : Path) → T (is_lt (path_cmp p q)) → same_path q p ≡ false
 apart_above p q h = same_path-false q p (λ same. tied same)
   where
     tied : q ≡ p → ⊥
     tied same = let clash : Less ≡ Equal = sym (less (path_cmp p q) h) ∙ ap (path_cmp p) same ∙ tied_itself paths_total p in cc
 
 -- what is found among the others is found behind one that is below them all
-found_later : (e : Placed) (es fs : List Placed) → T (below_all path_cmp e.0 fs) → AllByRecursion (λ f. find path_cmp f.0 es ≡ Some f.1) fs → AllByRecursion (λ f. find path_cmp f.0 (e ∷ es) ≡ Some f.1) fs
+pub found_later : (e : Placed) (es fs : List Placed) → T (below_all path_cmp e.0 fs) → AllByRecursion (λ f. find path_cmp f.0 es ≡ Some f.1) fs → AllByRecursion (λ f. find path_cmp f.0 (e ∷ es) ≡ Some f.1) fs
 found_later e es [] h all = tt
 found_later e es (f ∷ fs) h all = (
   ap (λ (t : Bool). cond t (Some e.1) (find path_cmp f.0 es)) (apart_above e.0 f.0 (first (is_lt (path_cmp e.0 f.0)) (below_all path_cmp e.0 fs) h)) ∙ all.0,
   found_later e es fs (second (is_lt (path_cmp e.0 f.0)) (below_all path_cmp e.0 fs) h) all.1,
 )
 
-all_found : (es : List Placed) → T (is_sorted path_cmp es) → AllByRecursion (λ f. find path_cmp f.0 es ≡ Some f.1) es
+pub all_found : (es : List Placed) → T (is_sorted path_cmp es) → AllByRecursion (λ f. find path_cmp f.0 es ≡ Some f.1) es
 all_found [] h = tt
 all_found (e ∷ es) h = (
   ap (λ (t : Bool). cond t (Some e.1) (find path_cmp e.0 es)) (same_path-refl e.0),
@@ -166,20 +165,20 @@ from_above q (e ∷ es) h =
     ∙ ap (λ (o : Ordering). cond (is_lt o) (e ∷ filter (λ (f : Placed). beyond q f.0) es) (filter (λ (f : Placed). beyond q f.0) es)) (sym is)
 
 -- what is below the first of them isn't among them
-not_found : (q : Path) (es : List Placed) → T (below_all path_cmp q es) → find path_cmp q es ≡ None
+pub not_found : (q : Path) (es : List Placed) → T (below_all path_cmp q es) → find path_cmp q es ≡ None
 not_found q [] h = refl
 not_found q (e ∷ es) h =
     ap (λ (o : Ordering). cond (is_eq o) (Some e.1) (find path_cmp q es)) (less (path_cmp q e.0) (first (is_lt (path_cmp q e.0)) (below_all path_cmp q es) h))
     ∙ not_found q es (second (is_lt (path_cmp q e.0)) (below_all path_cmp q es) h)
 
-all_above : (q : Path) (e : Placed) (es : List Placed) → path_cmp q e.0 ≡ Less → T (below_all path_cmp e.0 es) → T (below_all path_cmp q es)
+pub all_above : (q : Path) (e : Placed) (es : List Placed) → path_cmp q e.0 ≡ Less → T (below_all path_cmp e.0 es) → T (below_all path_cmp q es)
 all_above q e [] is h = tt
 all_above q e (f ∷ fs) is h =
     let after = less (path_cmp e.0 f.0) (first (is_lt (path_cmp e.0 f.0)) (below_all path_cmp e.0 fs) h) in
     let chain : path_cmp q f.0 ≡ Less = paths_total.trans q e.0 f.0 is after in
     both (is_lt (path_cmp q f.0)) (below_all path_cmp q fs) (subst (λ (o : Ordering). T (is_lt o)) (sym chain) tt) (all_above q e fs is (second (is_lt (path_cmp e.0 f.0)) (below_all path_cmp e.0 fs) h))
 
-split_at : (q : Path) (x : Entry) (es : List Placed) → T (is_sorted path_cmp es) → find path_cmp q es ≡ Some x → filter (λ (e : Placed). from q e.0) es ≡ (q, x) ∷ filter (λ (e : Placed). beyond q e.0) es
+pub split_at : (q : Path) (x : Entry) (es : List Placed) → T (is_sorted path_cmp es) → find path_cmp q es ≡ Some x → filter (λ (e : Placed). from q e.0) es ≡ (q, x) ∷ filter (λ (e : Placed). beyond q e.0) es
 split_at q x [] h found = absurd (cc)
 split_at q x (e ∷ es) h found = by (path_cmp q e.0) refl found (split_at q x es (second (below_all path_cmp e.0 es) (is_sorted path_cmp es) h))
   where

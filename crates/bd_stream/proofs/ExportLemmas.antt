@@ -1,5 +1,5 @@
 -- An export that one tree answers writes the stream of the tree.
-use Rattle.std.proofs.Common.{◌≡◌, ◌≢◌, ℕ, zero, suc, ◌≤◌, List, [], ◌∷◌, ◌++◌, Bool, true, false, Option, None, Some, refl, sym, ap, subst, ◌∙◌, arith, append-nil, append_assoc}
+use Rattle.std.proofs.Common.{◌≡◌, ℕ, zero, suc, ◌≤◌, List, [], ◌++◌, true, false, Option, None, Some, refl, sym, ap, subst, ◌∙◌, arith}
 use Rattle.std.specs.Prelude.{is_some, IsSome, ◌↔◌}
 use Rattle.std.specs.FinMap.{get}
 use Rattle.bd_names.specs.Names.{parent_of}
@@ -18,7 +18,7 @@ use Rattle.bd_stream.specs.declared.stage.Stage.TheVariants.{Look, Piece, Inside
 use Rattle.bd_stream.specs.Streams.{stream_of}
 use Rattle.bd_stream.specs.Exporting.{Export, Move, begin, stays_at, put, looked_at, head_in, asked_in, answered_in, asked, answered, ask_beside, last_name}
 use Rattle.bd_stream.specs.Answering.{why_not}
-use Rattle.bd_stream.specs.Exports.{rest_of, IsOn, IsOnIn, Continues, GoesOn, IsOnWay, next_by, answers, exported}
+use Rattle.bd_stream.specs.Exports.{rest_of, IsOn, IsOnIn, Continues, IsOnWay, next_by, answers, exported}
 use Rattle.bd_stream.proofs.MoveLemmas.{put_continues}
 use Rattle.bd_stream.proofs.AnswerLemmas.{answer_goes, begins_on, begins_all}
 

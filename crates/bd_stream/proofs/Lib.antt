@@ -16,3 +16,7 @@ pub mod AnswerLemmas
 pub mod ExportLemmas
 pub mod ValueLemmas
 pub mod EndLemmas
+pub mod TreeOrderLemmas
+pub mod PlantLemmas
+pub mod CompleteLemmas
+pub mod BoundLemmas

@@ -1,17 +1,16 @@
 -- The reply to a `list` of a directory is taken, and gives the first of its names after one.
-use Rattle.std.proofs.Common.{◌≡◌, ◌≢◌, inl, inr, ℕ, zero, suc, ◌+◌, ◌<◌, ◌≤◌, List, [], ◌∷◌, ◌++◌, length, map, take, drop, Bool, true, false, cond, Option, None, Some, Less, refl, sym, ap, subst, ◌∙◌, arith}
+use Rattle.std.proofs.Common.{◌≡◌, inl, inr, ℕ, zero, suc, ◌<◌, ◌≤◌, List, [], ◌∷◌, ◌++◌, length, map, take, drop, Bool, true, false, cond, Option, None, Some, Less, refl, sym, ap, ◌∙◌, arith}
 use Rattle.std.specs.Prelude.{◌&&◌, nat_lt, nat_le, ◌==◌, unwrap_or}
 use Rattle.std.specs.List.{AllByRecursion}
 use Rattle.std.specs.List.Sorted.{IsStrictlySortedBy}
 use Rattle.std.specs.Ordering.{is_lt}
 use Rattle.std.specs.FinMap.{get}
 use Rattle.std.proofs.lemmas.Bool.{ltb-true, ltb-false, le-leb, eq-eqb}
-use Rattle.std.proofs.lemmas.List.{take-append-drop, take-map, map-append, length-take-le}
+use Rattle.std.proofs.lemmas.List.{take-append-drop, map-append, length-take-le}
 use Rattle.bd_limits.specs.Limits.{listing_limit}
-use Rattle.bd_names.specs.Names.{is_name, AreNames}
+use Rattle.bd_names.specs.Names.{is_name}
 use Rattle.bd_names.proofs.NamesLaws.{AreNames-parts, AreNames-cons, is_name-length}
 use Rattle.bd_command.specs.declared.Command.TheVariants.{List as Ls}
-use Rattle.bd_command.specs.declared.refusal.Refusal.{Refusal}
 use Rattle.bd_command.specs.declared.reply.Listed.{Listed}
 use Rattle.bd_command.specs.declared.reply.Reply.{Reply}
 use Rattle.bd_command.specs.declared.reply.Reply.TheVariants.{Names}

@@ -1,21 +1,20 @@
 -- Where the replies of one tree lead an export, and what is left to write then.
-use Rattle.std.proofs.Common.{◌≡◌, ◌≢◌, inl, inr, ℕ, zero, suc, ◌+◌, ◌-◌, ◌<◌, ◌≤◌, List, [], ◌∷◌, ◌++◌, length, map, take, drop, Bool, true, false, cond, not, Option, None, Some, refl, sym, ap, subst, ◌∙◌, arith, append_assoc, append-nil}
-use Rattle.std.specs.Prelude.{◌&&◌, ◌||◌, nat_lt, nat_le, ◌==◌, unwrap_or, is_some, IsSome}
+use Rattle.std.proofs.Common.{◌≡◌, ◌≢◌, inl, ℕ, ◌≤◌, List, [], ◌∷◌, ◌++◌, length, Bool, true, false, cond, Option, None, Some, refl, sym, ap, subst, ◌∙◌, append_assoc}
+use Rattle.std.specs.Prelude.{◌||◌, nat_le, is_some, IsSome}
 use Rattle.std.specs.FinMap.{get}
 use Rattle.std.proofs.lemmas.Bool.{leb-true}
 use Rattle.bd_limits.specs.Limits.{path_limit}
 use Rattle.bd_names.specs.Names.{path_text, parent_of, rest_below}
 use Rattle.bd_names.proofs.NamesLaws.{parent_of-append, parent_of-some, rest_below-some}
-use Rattle.bd_model.specs.Tree.{Path, Name, Entry, Directory, FileWith, Tree, IsTree, has_directory}
-use Rattle.bd_model.specs.Step.{file_bytes}
+use Rattle.bd_model.specs.Tree.{Path, Name, Entry, FileWith, Tree, IsTree, has_directory}
 use Rattle.bd_model.proofs.Accepted.{absent_below, empty_below}
 use Rattle.bd_stream.specs.declared.stage.Stage.{Stage}
 use Rattle.bd_stream.specs.declared.stage.Stage.TheVariants.{Look, Piece, Inside, Beside, Whole, Absent, Overlong}
 use Rattle.bd_stream.specs.Importing.{short_path}
 use Rattle.bd_stream.specs.Streams.{entry_bytes}
-use Rattle.bd_stream.specs.Exporting.{Export, Move, at, stays_at, put, last_name, magic_before, closed, next_at, next_in, listed, filed_in, filed, left_at}
-use Rattle.bd_stream.specs.Exports.{from, beyond, past, ending, rest_in, rest_of, names_in, IsNext, AreNext, IsLook, IsPiece, IsOn, IsOnIn, IsLongNext, Continues}
-use Rattle.bd_stream.proofs.OrderLemmas.{is_after, is_from, left_in, begins_with, beyond_in, past_in, from_in, past_root}
+use Rattle.bd_stream.specs.Exporting.{Export, Move, put, last_name, closed, next_at, next_in, listed, filed_in, filed}
+use Rattle.bd_stream.specs.Exports.{from, beyond, past, ending, rest_of, names_in, IsNext, AreNext, IsOn, Continues}
+use Rattle.bd_stream.proofs.OrderLemmas.{is_after, left_in, begins_with, beyond_in, past_in, from_in, past_root}
 use Rattle.bd_stream.proofs.EntryLemmas.{ending_agrees, ending_none, ending_next}
 use Rattle.bd_stream.proofs.NameLemmas.{Has, no_names, from_first, names_rest, name_there}
 use Rattle.bd_stream.proofs.PlaceLemmas.{last_name-append, is_long_path, magic_later}

@@ -1,21 +1,20 @@
 -- The names in a directory: those after one, and the first of them.
-use Rattle.std.proofs.Common.{◌≡◌, ◌≢◌, ◌⊎◌, inl, inr, ℕ, zero, suc, ◌+◌, ◌-◌, ◌<◌, ◌≤◌, List, [], ◌∷◌, ◌++◌, length, map, take, drop, Bool, true, false, T, cond, not, Option, None, Some, Less, Equal, Greater, refl, sym, ap, subst, ◌∙◌, arith, append_assoc, append-nil}
-use Rattle.std.specs.Prelude.{◌&&◌, IsSome, is_some, nat_lt, nat_le, slice_index_or, ◌==◌, unwrap_or}
+use Rattle.std.proofs.Common.{◌≡◌, ◌⊎◌, inl, inr, ℕ, zero, suc, ◌<◌, List, [], ◌∷◌, ◌++◌, length, map, Bool, true, false, cond, Option, None, Some, Less, Equal, Greater, refl, sym, ap, subst, ◌∙◌, arith, append_assoc}
+use Rattle.std.specs.Prelude.{slice_index_or}
 use Rattle.std.specs.List.{filter, filter_map, Contains, AllByRecursion}
 use Rattle.std.specs.List.Sorted.{IsStrictlySortedBy}
 use Rattle.std.specs.Ordering.{nat_cmp, is_lt, is_le, is_eq}
 use Rattle.std.specs.Cmp.{tied_itself, Equal-is}
-use Rattle.std.specs.Cmp.Lexicographic.{slice_cmp}
 use Rattle.std.specs.declared.cmp.Ordering.{Ordering}
 use Rattle.std.proofs.lemmas.Cmp.{nat_list_cmp_total}
 use Rattle.std.specs.FinMap.{get}
-use Rattle.bd_names.specs.Names.{is_name, AreNames, rest_below}
-use Rattle.bd_names.proofs.NamesLaws.{rest_below-some, rest_below-append}
+use Rattle.bd_names.specs.Names.{rest_below}
+use Rattle.bd_names.proofs.NamesLaws.{rest_below-some}
 use Rattle.bd_command.specs.declared.reply.Listed.{Listed}
-use Rattle.bd_model.specs.Tree.{Path, Name, Entry, Tree, IsTree, has_directory, is_directory}
-use Rattle.bd_model.specs.Step.{children, those_after}
+use Rattle.bd_model.specs.Tree.{Path, Name, Entry, Tree, IsTree, is_directory}
+use Rattle.bd_model.specs.Step.{children}
 use Rattle.bd_model.proofs.Listing.{names_each, names_only, names_rise}
-use Rattle.bd_model.proofs.Accepted.{absent_below, empty_below}
+use Rattle.bd_model.proofs.Accepted.{absent_below}
 use Rattle.bd_stream.specs.Exports.{names_in}
 use Rattle.bd_stream.proofs.OrderLemmas.{name_cmp, is_after, is_from, begins_with}
 

@@ -1,9 +1,9 @@
 -- Where entries stand: parents, last names, and the places of a directory's names.
-use Rattle.std.proofs.Common.{◌≡◌, ◌≢◌, ℕ, ◌+◌, ◌<◌, ◌≤◌, List, [], ◌∷◌, ◌++◌, length, Bool, true, false, cond, Option, None, Some, refl, sym, ap, subst, ◌∙◌, arith, append_assoc, append-nil, length-append}
+use Rattle.std.proofs.Common.{◌≡◌, ◌≢◌, ℕ, ◌<◌, ◌≤◌, List, [], ◌∷◌, ◌++◌, length, Bool, true, false, cond, Option, None, Some, refl, sym, ap, ◌∙◌, arith, append_assoc, append-nil, length-append}
 use Rattle.std.specs.Prelude.{nat_le, IsSome, ◌↔◌, ◌&&◌}
 use Rattle.std.specs.Option.{option_to_list}
 use Rattle.std.proofs.lemmas.Bool.{leb-false, lt-leb}
-use Rattle.bd_limits.specs.Limits.{path_limit, name_limit}
+use Rattle.bd_limits.specs.Limits.{path_limit}
 use Rattle.bd_names.specs.Names.{is_name, AreNames, path_text, path_of, parent_of}
 use Rattle.bd_names.proofs.NamesLaws.{parent_of-append, parent_of-some, path_of-path_text, is_name-length}
 use Rattle.bd_stream.specs.Importing.{Path, magic, short_path}

@@ -1,5 +1,5 @@
 -- The keys of paths as numbers, which rise from one question of an export to the next.
-use Rattle.std.proofs.Common.{◌≡◌, ◌≢◌, ℕ, zero, suc, ◌+◌, ◌*◌, ◌-◌, ◌<◌, ◌≤◌, List, [], ◌∷◌, ◌++◌, length, Bool, true, false, Less, Equal, Greater, refl, sym, ap, subst, ◌∙◌, arith, append_assoc, append-nil, length-append}
+use Rattle.std.proofs.Common.{◌≡◌, ℕ, zero, suc, ◌+◌, ◌*◌, ◌<◌, ◌≤◌, List, [], ◌∷◌, ◌++◌, length, Bool, true, false, Less, Equal, Greater, refl, sym, ap, subst, ◌∙◌, arith, append_assoc, length-append}
 use Rattle.std.specs.Prelude.{◌&&◌, nat_le, ◌==◌, not}
 use Rattle.std.specs.List.{AllByRecursion, list_all}
 use Rattle.std.specs.Ordering.{nat_cmp, ordering_then}
@@ -8,7 +8,7 @@ use Rattle.std.specs.declared.cmp.Ordering.{Ordering}
 use Rattle.std.proofs.lemmas.Bool.{leb-true}
 use Rattle.bd_limits.specs.Limits.{path_limit}
 use Rattle.bd_names.specs.Names.{is_name, is_name_byte, AreNames, path_text, key_of}
-use Rattle.bd_names.proofs.NamesLaws.{is_name-bytes, is_name-length, AreNames-parts, AreNames-cons, key_of-append, key_of-cons, length-key_of}
+use Rattle.bd_names.proofs.NamesLaws.{is_name-bytes, is_name-length, AreNames-cons, key_of-append, key_of-cons, length-key_of}
 use Rattle.bd_wire.proofs.NumberLemmas.{higher_digit}
 use Rattle.bd_model.specs.Tree.{Path, Name}
 use Rattle.bd_stream.specs.Within.{AreBytes}
@@ -75,7 +75,7 @@ second : (x y : Bool) → (x && y) ≡ true → y ≡ true
 second true y e = e
 second false y e = cc
 
-record IsNameByte (b : ℕ) : Type 0 where
+pub record IsNameByte (b : ℕ) : Type 0 where
   pub low : 33 ≤ b
   pub high : b < 256
 
@@ -85,7 +85,8 @@ name_byte b h =
     let high : b ≤ 255 = leb-true b 255 (first (nat_le b 255) (not (b == 47) && not (b == 127)) (second (nat_le 33 b) (nat_le b 255 && (not (b == 47) && not (b == 127))) h)) in
     record { low = low; high = omega arith }
 
-name_bytes : (n : List ℕ) → list_all is_name_byte n ≡ true → AllByRecursion IsNameByte n
+-- each byte of a name is one
+pub name_bytes : (n : List ℕ) → list_all is_name_byte n ≡ true → AllByRecursion IsNameByte n
 name_bytes [] h = tt
 name_bytes (b ∷ n) h = (name_byte b (first (is_name_byte b) (list_all is_name_byte n) h), name_bytes n (second (is_name_byte b) (list_all is_name_byte n) h))
 

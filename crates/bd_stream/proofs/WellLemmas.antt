@@ -22,7 +22,7 @@ use Rattle.bd_stream.proofs.FedLemmas.{fed-nil, fed-cons, taken_sound}
 
 -- ---- lists
 
-all_with : (b : ℕ) (l : List ℕ) → b < 256 → AllByRecursion (λ x. x < 256) l → AllByRecursion (λ x. x < 256) (l ++ b ∷ [])
+pub all_with : (b : ℕ) (l : List ℕ) → b < 256 → AllByRecursion (λ x. x < 256) l → AllByRecursion (λ x. x < 256) (l ++ b ∷ [])
 all_with b [] hb h = (hb, tt)
 all_with b (x ∷ l) hb h = (h.0, all_with b l hb h.1)
 
@@ -61,7 +61,7 @@ head_of-fits bytes h e =
 -- ---- turns
 
 -- what is left, and the commands, are within their limits
-record Gives (t : Turn) : Type 0 where
+pub record Gives (t : Turn) : Type 0 where
   pub well : IsWell t.0
   pub commands : AllByRecursion IsCommand t.1
 
@@ -136,7 +136,7 @@ chunk_by : (t : Bool) (left : ℕ) → (t ≡ true → left < write_limit) → c
 chunk_by true left h = let less : left < write_limit = h refl in omega arith
 chunk_by false left h = omega arith
 
-chunk_fits : (left : ℕ) → chunk_size left ≤ write_limit
+pub chunk_fits : (left : ℕ) → chunk_size left ≤ write_limit
 chunk_fits left = chunk_by (nat_lt left write_limit) left (ltb-true left write_limit)
 
 data_size : (phase : Phase) (left n : ℕ) (w : List ℕ) → n ≡ need phase left w → phase ≡ Data → n ≤ write_limit
@@ -144,7 +144,8 @@ data_size phase left n w e is =
     let chunk : need phase left w ≡ chunk_size left = ap (λ (p : Phase). need p left w) is in
     omega (arith, e, chunk, chunk_fits left)
 
-taken_well : (s : State) (b : ℕ) → IsSound s → IsWell s → b < 256 → Gives (taken s b)
+-- a byte leaves it well
+pub taken_well : (s : State) (b : ℕ) → IsSound s → IsWell s → b < 256 → Gives (taken s b)
 unfolding taken
 taken_well s b sound h hb =
     let more = with_byte s b in

@@ -3,7 +3,6 @@ use Rattle.std.specs.Prelude.{◌≡◌, ℕ, ◌≤◌, ◌++◌, List, [], ◌
 use Rattle.std.specs.declared.option.Option.{Option}
 use Rattle.std.specs.declared.option.Option.TheVariants.{None, Some}
 use Rattle.bd_limits.specs.Limits.{file_limit}
-use Rattle.bd_command.specs.declared.refusal.Refusal.{Refusal}
 use Rattle.bd_command.specs.declared.refusal.Refusal.TheVariants.{NotFound}
 use Rattle.bd_command.specs.declared.reply.Reply.{Reply}
 use Rattle.bd_stream.specs.declared.fault.ExportFault.{ExportFault}

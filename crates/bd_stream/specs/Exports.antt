@@ -1,5 +1,5 @@
 -- What is left to write of the stream of a tree, and what is known of the tree meanwhile.
-use Rattle.std.specs.Prelude.{◌≡◌, ◌≢◌, ℕ, zero, suc, ◌+◌, ◌<◌, ◌≤◌, Bool, not, ◌&&◌, List, [], ◌∷◌, ◌++◌, length, map, drop, IsSome, ⊤}
+use Rattle.std.specs.Prelude.{◌≡◌, ◌≢◌, ℕ, zero, suc, ◌+◌, ◌<◌, ◌≤◌, Bool, not, ◌&&◌, List, [], ◌∷◌, ◌++◌, length, map, drop, IsSome}
 use Rattle.std.specs.List.{filter, flat_map}
 use Rattle.std.specs.Ordering.{is_lt, is_le}
 use Rattle.std.specs.FinMap.{get}
@@ -10,7 +10,7 @@ use Rattle.bd_names.specs.Names.{is_under, parent_of, path_text}
 use Rattle.bd_command.specs.declared.Command.{Command}
 use Rattle.bd_command.specs.declared.reply.Reply.{Reply}
 use Rattle.bd_model.specs.Tree.{Path, Name, Entry, Directory, FileWith, Tree, path_cmp}
-use Rattle.bd_model.specs.Step.{Placed, file_bytes, children, those_after, step}
+use Rattle.bd_model.specs.Step.{file_bytes, children, those_after, step}
 use Rattle.bd_stream.specs.declared.stage.Stage.{Stage}
 use Rattle.bd_stream.specs.declared.stage.Stage.TheVariants.{Look, Piece, Inside, Beside, Whole, Absent, Overlong}
 use Rattle.bd_stream.specs.Streams.{entry_bytes, entries_at, stream_of}

@@ -7,3 +7,4 @@ pub mod Exporting
 pub mod Places
 pub mod Answering
 pub mod Exports
+pub mod Planting

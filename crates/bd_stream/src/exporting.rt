@@ -398,6 +398,7 @@ fn head_in(path: &Path, reply: &Reply) -> Result<Option<Head>, AllocError>
     if mode > MAX_MODE || len.unwrap_or(0) > MAX_FILE {
         return Ok(None);
     }
+    // Each path is short.
     prove!(path.as_bytes().len() <= MAX_PATH);
     Ok(Some(Head {
         path: path.clone()?,

@@ -1,9 +1,11 @@
 //! What follows from the definitions of streams. Each function here carries laws of the definitions
 //! and does nothing.
 
-ghost use Rattle.std.specs.Prelude.{◌≡◌, ◌≤◌, ◌↔◌, ◌++◌, ◌∷◌, [], ℕ, List, Some, None, length, slice_index, true};
+ghost use Rattle.std.specs.Prelude.{◌≡◌, ◌<◌, ◌≤◌, ◌↔◌, ◌++◌, ◌∷◌, [], ℕ, List, Some, None, length, slice_index, true};
 ghost use Rattle.std.specs.List.{flat_map, AllByRecursion};
 ghost use Rattle.bd_command.specs.Command.{IsShortPath, IsCommand};
+ghost use Rattle.bd_limits.specs.Limits.{path_limit, write_limit, listing_limit};
+ghost use Rattle.bd_names.specs.Names.{AreNames, path_text};
 ghost use Rattle.bd_wire.specs.Numbers.{IsBytes};
 ghost use Rattle.std.specs.FinMap.{get};
 ghost use Rattle.bd_command.specs.declared.Command.{Command};
@@ -18,7 +20,8 @@ ghost use Rattle.bd_stream.specs.declared.head.Head.{Head};
 ghost use Rattle.bd_stream.specs.declared.machine.Phase.TheVariants.{Bad, Long, Ended};
 ghost use Rattle.bd_stream.specs.Heads.{IsHead, head_of, head_bytes, head_size, is_kind};
 ghost use Rattle.bd_stream.specs.Within.{AreBytes, IsWell};
-ghost use Rattle.bd_stream.specs.Streams.{IsStreamFor, stream_bytes, stream_of, entry_commands};
+ghost use Rattle.bd_stream.specs.Streams.{IsStreamFor, stream_bytes, stream_of, entries_at, entry_commands};
+ghost use Rattle.bd_stream.specs.Planting.{IsFree, IsPlanted, AreAccepted, after_all, planting};
 ghost use Rattle.bd_stream.specs.Importing.{Path, State, IsSound, fed, go, start};
 
 /// A head that was written is read again.
@@ -47,6 +50,33 @@ pub fn streams_are_imported()
         → (fed (start target) (stream_bytes entries)).1 ≡ flat_map (entry_commands target) entries }
     ensures whole { (target : Path) (entries : List Placed) → IsStreamFor target entries
         → (fed (start target) (stream_bytes entries)).0.phase ≡ Ended }
+{}
+
+/// Only streams are complete: bytes after which an importer has a complete one are those of entries
+/// that may stand there, in order, and fit below the target.
+pub fn only_streams_are_complete()
+    ensures { (target : Path) (bytes : List ℕ) → IsShortPath target → AreBytes bytes
+        → (fed (start target) bytes).0.phase ≡ Ended → (entries : List Placed)
+        × IsStreamFor target entries × (bytes ≡ stream_bytes entries) }
+{}
+
+/// The entries at a path of a tree are those of a stream, where they fit below the target: so the
+/// stream of the tree at that path is one that the importer takes.
+pub fn trees_have_streams()
+    ensures { (t : Tree) (top target : Path) (e : Entry) → IsTree t → get t top ≡ Some e
+        → AreNames target → ((p : Path) (x : Entry) → get t (top ++ p) ≡ Some x
+        → length (path_text (target ++ p)) ≤ path_limit)
+        → IsStreamFor target (entries_at t top) }
+{}
+
+/// Where the target is absent and its parent a directory, each command that a tree's stream gives is
+/// accepted, and what stands at the exported path and below it stands at the target then; all else
+/// stays.
+pub fn streams_plant_their_subtree()
+    ensures accepted { (t u : Tree) (top target : Path) → IsTree t → IsTree u → IsFree u target
+        → AreAccepted u (planting t top target) }
+    ensures planted { (t u : Tree) (top target : Path) → IsTree t → IsTree u → IsFree u target
+        → IsPlanted t top u (after_all u (planting t top target)) target }
 {}
 
 /// The commands that are given are within the limits of commands, where the target is the path of
@@ -102,4 +132,12 @@ pub fn exports_are_streams()
 pub fn exports_end()
     ensures { (n : ℕ) × ((top : Path) (replies : ℕ → Reply) → IsShortPath top
         → asked (after_replies n replies (begin top)) ≡ None) }
+{}
+
+/// Little is kept: an importer keeps less than the 2,048 bytes of a write of its stream, and an
+/// exporter at most the 100 names of a listing.
+pub fn little_is_kept()
+    ensures importer { (s : State) → IsSound s → length s.waiting < write_limit }
+    ensures exporter { (s : Export) (r : Reply) → length s.names ≤ listing_limit
+        → length (answered s r).0.names ≤ listing_limit }
 {}

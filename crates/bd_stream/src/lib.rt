@@ -1,5 +1,6 @@
 //! Streams of a subtree: `BDX1`, the entries at a path and below it, and `E`, as bytes.
-//! The layers above use the contracts of `Head`, `Exporter` and `Importer`, and what `laws` says of them.
+//! The layers above use the contracts of `Head`, `Exporter` and `Importer`, and what `laws` says of
+//! them.
 #![tactic(auto)]
 
 mod exporter;

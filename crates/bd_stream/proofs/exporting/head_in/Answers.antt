@@ -1,4 +1,4 @@
-use Rattle.std.proofs.Common.{◌≡◌, ℕ, ◌≤◌, Option, None, Some, List, subst, sym, arith}
+use Rattle.std.proofs.Common.{ℕ, ◌≤◌, Option, None, Some, subst, sym, arith}
 use Rattle.std.specs.Prelude.{IfSome, unwrap_or}
 use Rattle.bd_limits.specs.Limits.{file_limit}
 use Rattle.bd_command.specs.Command.{IsShortPath}

@@ -1,4 +1,4 @@
-use Rattle.std.proofs.Common.{◌≡◌, length, ℕ, arith}
+use Rattle.std.proofs.Common.{arith}
 use Rattle.bd_stream.proofs.PlaceLemmas.{last_popped}
 use Rattle.bd_stream.proofs.exporting.last_name.Goals as goal
 

@@ -1,4 +1,4 @@
-use Rattle.std.proofs.Common.{◌≡◌, ◌+◌, length, arith, ap, length-drop}
+use Rattle.std.proofs.Common.{length, arith, ap, length-drop}
 use Rattle.bd_wire.specs.Writing.{room}
 use Rattle.bd_stream.specs.Heads.{head_bytes}
 use Rattle.bd_stream.proofs.HeadLemmas.{length_head}

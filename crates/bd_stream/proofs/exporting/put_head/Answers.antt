@@ -1,7 +1,6 @@
-use Rattle.std.proofs.Common.{◌≡◌, ◌≢◌, ◌++◌, ◌+◌, ◌-◌, List, ℕ, [], ◌∷◌, take, length, Result, Ok, Err, Vec, Global, true, false, cond, refl, sym, ap, ◌∙◌, arith, append_assoc, append-nil}
+use Rattle.std.proofs.Common.{◌≡◌, ◌≢◌, ◌++◌, ◌-◌, List, ℕ, [], take, length, Result, Ok, Err, Vec, Global, true, false, cond, sym, ap, ◌∙◌, arith, append_assoc, append-nil}
 use Rattle.std.specs.Result.{OnOk, is_ok}
 use Rattle.std.specs.declared.alloc.AllocError.{AllocError}
-use Rattle.bd_stream.specs.Importing.{Path, magic}
 use Rattle.bd_stream.specs.Exporting.{magic_before}
 use Rattle.bd_stream.specs.Heads.{head_bytes}
 use Rattle.bd_stream.proofs.PlaceLemmas.{magic_first, magic_later}

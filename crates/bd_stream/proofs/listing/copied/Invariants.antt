@@ -1,4 +1,4 @@
-use Rattle.std.proofs.Common.{◌≡◌, List, ℕ, map, take}
+use Rattle.std.proofs.Common.{◌≡◌, map, take}
 use Rattle.bd_command.specs.declared.reply.Listed.{Listed}
 use Rattle.bd_stream.proofs.listing.copied.Given as goal
 

@@ -1,4 +1,4 @@
-use Rattle.std.proofs.Common.{◌≡◌, ◌++◌, List, ℕ, None, Some, sym, ◌∙◌}
+use Rattle.std.proofs.Common.{◌≡◌, None, Some, sym, ◌∙◌}
 use Rattle.bd_names.specs.Names.{parent_of}
 use Rattle.bd_stream.proofs.PlaceLemmas.{parent_below}
 use Rattle.bd_stream.proofs.exporter.Exporter.around.Goals as goal

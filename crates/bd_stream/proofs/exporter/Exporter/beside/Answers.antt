@@ -1,4 +1,4 @@
-use Rattle.std.proofs.Common.{◌≡◌, List, ℕ, [], Option, None, Some, sym, ap, subst, ◌∙◌}
+use Rattle.std.proofs.Common.{◌≡◌, Option, None, Some, sym, ap, subst, ◌∙◌}
 use Rattle.bd_names.specs.Names.{parent_of}
 use Rattle.bd_stream.specs.declared.stage.Place.{Place}
 use Rattle.bd_stream.specs.Answering.{IsAround}
