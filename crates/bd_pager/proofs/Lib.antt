@@ -1,11 +1,15 @@
 pub mod AppendedLemmas
 pub mod ChangingLemmas
+pub mod CopyLemmas
 pub mod EntryLemmas
 pub mod FreshLemmas
 pub mod KeptLemmas
 pub mod NamingLemmas
 pub mod OpenedLemmas
 pub mod PagerLemmas
+pub mod PuttingLemmas
 pub mod ReadLemmas
 pub mod ReaderLemmas
 pub mod SlotLemmas
+pub mod StepLoops
+pub mod SteppedLemmas

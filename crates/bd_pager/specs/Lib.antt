@@ -1,5 +1,6 @@
 pub mod Calling
 pub mod Changing
+pub mod Committing
 pub mod Entries
 pub mod Fresh
 pub mod Keeping
@@ -9,4 +10,5 @@ pub mod Pagers
 pub mod Places
 pub mod Readers
 pub mod Slots
+pub mod Stepping
 pub mod Writes

@@ -5,6 +5,7 @@
 #![tactic(auto)]
 
 mod changing;
+mod committing;
 mod entries;
 pub mod laws;
 mod naming;
@@ -14,6 +15,7 @@ mod place;
 mod reader;
 mod reading;
 mod slots;
+mod stepping;
 
 pub use pager::{Pager, Refused};
 pub use reading::read_node;

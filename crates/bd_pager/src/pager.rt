@@ -2,7 +2,6 @@
 
 ghost use Rattle.std.specs.Prelude.{◌≡◌, ◌≤◌, [], Some, false, IsSome, IfOk, IfErr, OnOk, OnErr, slice_index};
 ghost use Rattle.std.specs.Borrow.{sem};
-ghost use Rattle.std.specs.Option.{option_copied};
 ghost use Rattle.bd_message.specs.KeyMaps.{HasMapCause, NeverWorn};
 ghost use Rattle.bd_slots.specs.Layout.{IsTablePlace, image_blocks};
 ghost use Rattle.bd_device.specs.Device.{OnlyReads, IsImageCause};
@@ -19,12 +18,12 @@ ghost use Rattle.bd_pager.specs.Keeping.{KeepsSaved};
 ghost use Rattle.bd_pager.specs.Lending.{lends_device};
 ghost use Rattle.bd_pager.specs.Opened.{IsOpened, IsBadStart};
 ghost use Rattle.bd_pager.specs.Pagers.{table_of, nodes_of, spots_of, is_known, is_bad, IsPaged, IsReadOf};
-ghost use Rattle.bd_pager.specs.Places.{refs_in, AreCached};
+ghost use Rattle.bd_pager.specs.Places.{AreCached};
 
 use crate::changing::append_at;
 use crate::naming::names_lower;
 use crate::parts::Parts;
-use crate::place::Spot;
+use crate::place::refs_of;
 use crate::reader::NodeReader;
 use bd_counts::Counted;
 use bd_device::{Device, ImageFault};
@@ -352,16 +351,6 @@ impl<D: Device> Counted for Pager<D> {
 
     fn next_id(&self) -> u64 {
         self.next
-    }
-}
-
-// How often the node of a spot is named: 0 where there is none.
-fn refs_of(spot: Option<&Spot>) -> u64
-    ensures { result ≡ refs_in (option_copied spot.entry) }
-{
-    match spot {
-        Some(spot) => spot.refs,
-        None => 0,
     }
 }
 
