@@ -1,5 +1,6 @@
 pub mod Calling
 pub mod Changing
+pub mod Counting
 pub mod Entries
 pub mod Fresh
 pub mod Keeping

@@ -14,6 +14,8 @@ mod place;
 mod reader;
 mod reading;
 mod slots;
+mod usage;
+mod written;
 
 pub use pager::{Pager, Refused};
 pub use reading::read_node;
