@@ -1,6 +1,7 @@
 pub mod Calling
 pub mod Changing
 pub mod Committing
+pub mod Counting
 pub mod Entries
 pub mod Fresh
 pub mod Keeping

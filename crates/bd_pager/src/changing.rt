@@ -5,9 +5,11 @@ ghost use Rattle.bd_node.specs.declared.node.Node.{Node};
 ghost use Rattle.bd_node.specs.Nodes.{appended};
 ghost use Rattle.bd_pager.specs.Places.{spots_in, copy_at, copy_in};
 ghost use Rattle.bd_pager.specs.Pagers.{IsPlaceIn};
+ghost use Rattle.bd_pager.specs.Counting.{AreUnused, IsTallied};
 ghost use Rattle.bd_pager.specs.Changing.{slot_if, IsChangedPlace, IsChangedSpot, IsChangedAt};
 
 use crate::place::{Place, Spot};
+use crate::usage::{Usage, tally_of};
 use bd_node::{Messages, Node};
 use bd_slots::SlotSet;
 use std::alloc::{AllocError, Global};
@@ -15,8 +17,35 @@ use std::collections::HashMap;
 use std::mem;
 use std::rc::Rc;
 
-/// Puts messages after those that wait in a node that is in memory, which is changed by that.
-pub fn append_at(
+/// Puts messages after those that wait in a node that is in memory, which is changed by that, and
+/// counted so.
+pub fn append_counted(
+    alloc: Global,
+    spots: &mut HashMap<u64, Spot>,
+    usage: &mut Usage,
+    id: u64,
+    list: Messages,
+) -> Result<(), AllocError>
+    requires copy { IsSome (copy_in (spots_in spots.old id)) }
+    requires unused { AreUnused usage.old.spare usage.old.free (spots_in spots.old) }
+    ensures ok { (n : Node) → copy_in (spots_in spots.old id) ≡ Some n → OnOk result
+        (IsChangedAt usage.old.spare id (appended n list)
+        (spots_in spots.old) (spots_in spots.new)) }
+    ensures err { OnErr result (spots.new.entries ≡ spots.old.entries) }
+    ensures spare { usage.new.spare ≡ usage.old.spare }
+    ensures tallied { (next : ℕ) → id < next → IsTallied next (spots_in spots.old) usage.old
+        → IsTallied next (spots_in spots.new) usage.new }
+{
+    usage.list(id)?;
+    let was = tally_of(&usage.spare, spots.get(&id));
+    append_at(alloc, spots, id, list, &usage.spare)?;
+    let now = tally_of(&usage.spare, spots.get(&id));
+    usage.recount(was, now);
+    Ok(())
+}
+
+// Puts messages after those that wait in a node that is in memory, which is changed by that.
+fn append_at(
     alloc: Global,
     spots: &mut HashMap<u64, Spot>,
     id: u64,

@@ -16,6 +16,8 @@ mod reader;
 mod reading;
 mod slots;
 mod stepping;
+mod usage;
+mod written;
 
 pub use pager::{Pager, Refused};
 pub use reading::read_node;

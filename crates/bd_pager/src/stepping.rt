@@ -1,19 +1,23 @@
-//! What steps change of what is known of nodes. Nothing here fails.
+//! What steps change of what is known of nodes.
 
-ghost use Rattle.std.specs.Prelude.{◌≡◌, ◌<◌, ◌≤◌, ◌==◌, ◌+◌, ℕ, if◌then◌else◌, Some, None, IfSome, length, nat_eq};
+ghost use Rattle.std.specs.Prelude.{◌≡◌, ◌<◌, ◌≤◌, ◌==◌, ◌+◌, ℕ, if◌then◌else◌, Some, None, IfSome, OnOk, length, nat_eq, is_some};
 ghost use Rattle.std.specs.HashMap.{get};
-ghost use Rattle.std.specs.Option.{option_copied, is_some};
+ghost use Rattle.std.specs.List.{AllByRecursion};
+ghost use Rattle.std.specs.Option.{option_copied};
 ghost use Rattle.bd_cache.specs.Cache.{kept_at};
-ghost use Rattle.bd_pager.specs.declared.place.Spot.{Spot};
+ghost use Rattle.bd_counts.specs.Naming.{times_among};
+ghost use Rattle.bd_pager.specs.Counting.{tally_of, recounted, AreUnused, IsListed, IsListedMore, IsTallied};
 ghost use Rattle.bd_pager.specs.Pagers.{IsPlaceIn};
 ghost use Rattle.bd_pager.specs.Places.{spots_in};
 ghost use Rattle.bd_pager.specs.Stepping.{HasRoomFor, put_at, put_spot, own_slot_in, with_put, with_count, without_all};
 
 use crate::changing::slot_if_spare;
 use crate::place::{Place, Spot, refs_of};
+use crate::usage::{Tally, Usage, tally_of};
 use bd_cache::NodeCache;
 use bd_node::Node;
 use bd_slots::SlotSet;
+use std::alloc::AllocError;
 use std::collections::HashMap;
 use std::rc::Rc;
 
@@ -24,35 +28,70 @@ pub struct Put {
     pub node: Rc<Node>,
 }
 
-/// Puts nodes, of several for one id the first one. A node that has a slot of its own keeps it.
-pub fn put_all(spots: &mut HashMap<u64, Spot>, puts: Vec<Put>, spare: &SlotSet)
+// What a node that is put counts for.
+const CHANGED: Tally = Tally {
+    is_changed: true,
+    is_in_memory: true,
+};
+
+// What no node counts for.
+const NONE: Tally = Tally {
+    is_changed: false,
+    is_in_memory: false,
+};
+
+/// Lists the ids for which nodes are to be put.
+pub fn list_all(usage: &mut Usage, puts: &[Put]) -> Result<(), AllocError>
+    ensures listed { OnOk result
+        (AllByRecursion (λ put. IsListed usage.new.listed put.id) puts.now) }
+    ensures more { IsListedMore usage.old usage.new }
+{
+    for put in puts {
+        usage.list(put.id)?;
+    }
+    Ok(())
+}
+
+/// Puts nodes whose ids are listed, of several for one id the first one. A node that has a slot of
+/// its own keeps it.
+pub fn put_all(spots: &mut HashMap<u64, Spot>, usage: &mut Usage, puts: Vec<Put>)
     requires room { HasRoomFor (length puts.items) spots.old }
-    requires places { (id : ℕ) (s : Spot) → spots_in spots.old id ≡ Some s
-        → IsPlaceIn spare.now s.place }
-    ensures { (id : ℕ) → spots_in spots.new id
-        ≡ with_put spare.now (put_at puts.items id) (spots_in spots.old id) }
+    requires unused { AreUnused usage.old.spare usage.old.free (spots_in spots.old) }
+    requires listed { AllByRecursion (λ put. IsListed usage.old.listed put.id) puts.items }
+    ensures spots { (id : ℕ) → spots_in spots.new id
+        ≡ with_put usage.old.spare (put_at puts.items id) (spots_in spots.old id) }
+    ensures spare { usage.new.spare ≡ usage.old.spare }
+    ensures unused { AreUnused usage.new.spare usage.new.free (spots_in spots.new) }
+    ensures tallied { (next : ℕ) → AllByRecursion (λ put. put.id < next) puts.items
+        → IsTallied next (spots_in spots.old) usage.old
+        → IsTallied next (spots_in spots.new) usage.new }
 {
     let mut puts = puts;
     while let Some(put) = puts.pop() {
-        put_one(spots, put, spare);
+        put_one(spots, usage, put);
     }
 }
 
 // Puts a node.
-fn put_one(spots: &mut HashMap<u64, Spot>, put: Put, spare: &SlotSet)
+fn put_one(spots: &mut HashMap<u64, Spot>, usage: &mut Usage, put: Put)
     requires room { HasRoomFor 1 spots.old }
-    requires place { IfSome (spots_in spots.old put.id) (λ s. IsPlaceIn spare.now s.place) }
+    requires place { IfSome (spots_in spots.old put.id) (λ s. IsPlaceIn usage.old.spare s.place) }
     ensures spots { (id : ℕ) → spots_in spots.new id ≡ (if put.id == id
-        then Some (put_spot spare.now put.node (spots_in spots.old put.id))
+        then Some (put_spot usage.old.spare put.node (spots_in spots.old put.id))
         else spots_in spots.old id) }
     ensures room { (n : ℕ) → HasRoomFor (n + 1) spots.old → HasRoomFor n spots.new }
+    ensures usage { usage.new ≡ recounted (tally_of usage.old.spare (spots_in spots.old put.id))
+        CHANGED usage.old }
 {
     let Put { id, node } = put;
-    let spot = put_spot(spots.get(&id), node, spare);
+    let old = spots.get(&id);
+    let was = tally_of(&usage.spare, old);
+    let spot = put_spot(old, node, &usage.spare);
     match spots.insert(id, spot) {
         Ok(_) => {}
         Err(_) => unreachable!(),
     }
+    usage.recount(was, CHANGED);
 }
 
 // What is known of a node that is put where this was known of the one before it.
@@ -70,7 +109,7 @@ fn put_spot(old: Option<&Spot>, node: Rc<Node>, spare: &SlotSet) -> Spot
     }
 }
 
-// The slot that a node has of its own once it is put.
+// The slot that a node has of its own once it is changed.
 fn own_slot(old: Option<&Spot>, spare: &SlotSet) -> Option<u32>
     requires { IfSome (option_copied old.entry) (λ s. IsPlaceIn spare.now s.place) }
     ensures { result ≡ own_slot_in spare.now (option_copied old.entry) }
@@ -101,14 +140,39 @@ fn set_count(spots: &mut HashMap<u64, Spot>, id: u64, count: u64)
     }
 }
 
-/// Lets nodes go.
-pub fn drop_all(spots: &mut HashMap<u64, Spot>, gone: &[u64])
-    ensures { (id : ℕ) → spots_in spots.new id
+/// Lets nodes go, which give their own slots back.
+pub fn drop_all(spots: &mut HashMap<u64, Spot>, usage: &mut Usage, gone: &[u64])
+    requires { AreUnused usage.old.spare usage.old.free (spots_in spots.old) }
+    ensures spots { (id : ℕ) → spots_in spots.new id
         ≡ without_all gone.now id (spots_in spots.old id) }
+    ensures spare { usage.new.spare ≡ usage.old.spare }
+    ensures tallied { (next : ℕ) → ((id : ℕ) → 1 ≤ times_among gone.now id → id < next)
+        → IsTallied next (spots_in spots.old) usage.old
+        → IsTallied next (spots_in spots.new) usage.new }
 {
     for id in gone {
-        let _ = spots.remove(id);
+        drop_one(spots, usage, *id);
     }
+}
+
+// Lets a node go, which gives its own slot back.
+fn drop_one(spots: &mut HashMap<u64, Spot>, usage: &mut Usage, id: u64)
+    requires { AreUnused usage.old.spare usage.old.free (spots_in spots.old) }
+    ensures spots { (i : ℕ) → spots_in spots.new i
+        ≡ (if id == i then None else spots_in spots.old i) }
+    ensures spare { usage.new.spare ≡ usage.old.spare }
+    ensures unused { AreUnused usage.new.spare usage.new.free (spots_in spots.new) }
+    ensures tallied { (next : ℕ) → id < next → IsTallied next (spots_in spots.old) usage.old
+        → IsTallied next (spots_in spots.new) usage.new }
+{
+    let old = spots.get(&id);
+    let was = tally_of(&usage.spare, old);
+    let own = own_slot(old, &usage.spare);
+    let _ = spots.remove(&id);
+    if let Some(slot) = own {
+        usage.free.give(slot);
+    }
+    usage.recount(was, NONE);
 }
 
 /// Keeps no node for these ids any more.
