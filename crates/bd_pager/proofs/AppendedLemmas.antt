@@ -49,7 +49,7 @@ pub root_copy : (o : Option Node) → IsSome o → (n : Node) × (o ≡ Some n)
 root_copy None some = absurd (let e : false ≡ true = some in cc)
 root_copy (Some n) some = (n, refl)
 
-split_and : (a b : Bool) → (a && b) ≡ true → (a ≡ true) × (b ≡ true)
+pub split_and : (a b : Bool) → (a && b) ≡ true → (a ≡ true) × (b ≡ true)
 split_and true b both = (refl, both)
 split_and false b both = absurd (let e : false ≡ true = both in cc)
 

@@ -1,5 +1,6 @@
 pub mod AppendedLemmas
 pub mod ChangingLemmas
+pub mod CommittedLemmas
 pub mod CopyLemmas
 pub mod EntryLemmas
 pub mod FreshLemmas
@@ -13,3 +14,4 @@ pub mod ReaderLemmas
 pub mod SlotLemmas
 pub mod StepLoops
 pub mod SteppedLemmas
+pub mod TallyLemmas

@@ -3,25 +3,29 @@ use Rattle.std.proofs.Common.{◌≡◌, ℕ, ◌+◌, ◌<◌, ◌≤◌, Bool,
 use Rattle.std.specs.Prelude.{slice_index}
 use Rattle.std.specs.Option.{is_some}
 use Rattle.std.specs.Global.{Global}
-use Rattle.std.specs.List.{IsDistinct}
+use Rattle.std.specs.BTreeSet.{BTreeSet}
+use Rattle.std.specs.List.{AllByRecursion, IsDistinct}
 use Rattle.std.specs.Map.{lookup, keys_of}
 use Rattle.std.specs.declared.rc.Rc.{Rc}
 use Rattle.std.proofs.lemmas.Bool.{cases_eq, cond-true, cond-false, eq-eqb, ne_eqb}
 use Rattle.std.specs.Cmp.{nat_eq_equiv}
+use Rattle.std.proofs.lemmas.List.{take_more}
 use Rattle.std.proofs.lemmas.Map.{lookup-none}
 use Rattle.std.proofs.lemmas.Map.Entries.{lookup_head, lookup_tail, none_past_head}
 use Rattle.std.proofs.lemmas.Map.Keys.{IsDistinct-tail}
 use Rattle.bd_node.specs.declared.node.Node.{Node}
 use Rattle.bd_node.specs.Tables.{one_if}
+use Rattle.bd_node.proofs.Lookup.{each_first, each_second, each_both, each_weaker}
 use Rattle.bd_node.proofs.Sound.{one_if-same, one_if-other}
 use Rattle.bd_counts.specs.Naming.{times_among}
-use Rattle.bd_counts.proofs.Names.{times_take}
+use Rattle.bd_counts.proofs.Names.{times_take, times_first}
 use Rattle.bd_pager.specs.declared.place.Spot.{Spot}
 use Rattle.bd_pager.specs.declared.stepping.Put.{Put}
-use Rattle.bd_pager.specs.Pagers.{IsPlaceIn}
+use Rattle.bd_pager.specs.declared.usage.Usage.{Usage}
+use Rattle.bd_pager.specs.Counting.{AreUnused, IsListed, IsListedMore, IsTallied}
 use Rattle.bd_pager.specs.Places.{Spots}
-use Rattle.bd_pager.specs.Stepping.{put_at, put_spot, with_put, with_count, without_all}
-use Rattle.bd_pager.proofs.ChangingLemmas.{own_in}
+use Rattle.bd_pager.specs.Stepping.{put_at, put_spot, with_put, with_count, without_all, put_usage, dropped_usage}
+use Rattle.bd_pager.proofs.TallyLemmas.{put_unused, put_tallied, dropped_unused, dropped_tallied}
 
 -- ---- nodes that are put, the last one of the list first
 
@@ -131,7 +135,7 @@ gone_more {X} gone i old mid new low one before id =
 
 -- ---- ids for which nodes are put, the first one first
 
-none_either : {X : Type 0} (b : Bool) → cond b None None ≡ None {A = X}
+none_either : {X : Type 0} (b : Bool) → ◌≡◌ {A = Option X} (cond b None None) None
 none_either true = refl
 none_either false = refl
 
@@ -155,3 +159,83 @@ put_next {X} puts i p old mid new is one before id =
           ∙ sym (ap (λ (o : Option (Rc Node Global)). cond (is_some o) None (mid id)) (cond-false (eqb id p.id) (Some p.node) (put_at rest id) (ne_eqb id p.id other)))
           ∙ now
     ]
+
+-- ---- ids of nodes that are put
+
+module _ (P : ℕ → Type 0) where
+  -- what holds of the ids of all holds of that of one of them
+  pub put_has : (all left rest done : List Put) (p : Put) → left ++ done ≡ all → left ≡ rest ++ p ∷ [] → AllByRecursion (λ (put : Put). P put.id) all → P p.id
+  put_has all left rest done p all_is is each =
+      (each_second (λ (put : Put). P put.id) rest (p ∷ [])
+      (subst (λ (xs : List Put). AllByRecursion (λ (put : Put). P put.id) xs) is
+      (each_first (λ (put : Put). P put.id) left done (subst (λ (xs : List Put). AllByRecursion (λ (put : Put). P put.id) xs) (sym all_is) each)))).0
+
+-- one more id is listed
+pub listed_more : (puts : List Put) (i : ℕ) (p : Put) (was now : BTreeSet ℕ) → i < length puts → p ≡ get_or puts i p → ((id : ℕ) → IsListed was id → IsListed now id) → IsListed now p.id
+    → AllByRecursion (λ (put : Put). IsListed was put.id) (take i puts) → AllByRecursion (λ (put : Put). IsListed now put.id) (take (i + 1) puts)
+listed_more puts i p was now low is more listed before =
+    subst (λ (ps : List Put). AllByRecursion (λ (put : Put). IsListed now put.id) ps) (sym (take_more puts i p low))
+    (each_both (λ (put : Put). IsListed now put.id) (take i puts) (get_or puts i p ∷ [])
+    (each_weaker (λ (put : Put). IsListed was put.id) (λ (put : Put). IsListed now put.id) (λ put l. more put.id l) (take i puts) before)
+    (subst (λ (put : Put). IsListed now put.id) is listed, tt))
+
+pub listed_both : (a b c : Usage) → IsListedMore a b → IsListedMore b c → IsListedMore a c
+listed_both a b c p q = record {
+  same = q.same ∙ ap (λ (u : Usage). let v : Usage = record u { listed = c.listed } in v) p.same;
+  kept = λ id l. q.kept id (p.kept id l);
+}
+
+-- ---- what is used meanwhile
+
+-- the nodes that aren't left were put, and counted
+pub record ArePut (all left : List Put) (spots : Spots) (u : Usage) (new : Spots) (now : Usage) : Type 0 where
+  pub putting : IsPutting u.spare all left spots new
+  pub spare_is : now.spare ≡ u.spare
+  pub listed_is : now.listed ≡ u.listed
+  pub unused : AreUnused now.spare now.free new
+  pub tallied : (next : ℕ) → AllByRecursion (λ (put : Put). put.id < next) all → IsTallied next spots u → IsTallied next new now
+
+pub put_begun : (all left : List Put) (spots : Spots) (u : Usage) → left ≡ all → AreUnused u.spare u.free spots → ArePut all left spots u spots u
+put_begun all left spots u is unused = record { putting = putting_begun u.spare all left spots is; spare_is = refl; listed_is = refl; unused = unused; tallied = λ next below was. was }
+
+pub put_then : (all left rest : List Put) (p : Put) (spots mid new : Spots) (u was now : Usage) → left ≡ rest ++ p ∷ [] → AllByRecursion (λ (put : Put). IsListed u.listed put.id) all
+    → ((id : ℕ) → new id ≡ cond (eqb p.id id) (Some (put_spot was.spare p.node (mid p.id))) (mid id)) → now ≡ put_usage (mid p.id) was → ArePut all left spots u mid was → ArePut all rest spots u new now
+put_then all left rest p spots mid new u was now is listed one usage h =
+    let same : (id : ℕ) → (id ≡ p.id → ⊥) → new id ≡ mid id = λ id other. one id ∙ cond-false (eqb p.id id) (Some (put_spot was.spare p.node (mid p.id))) (mid id) (ne_eqb p.id id (λ e. other (sym e))) in
+    let here : new p.id ≡ Some (put_spot was.spare p.node (mid p.id)) = one p.id ∙ cond-true (eqb p.id p.id) (Some (put_spot was.spare p.node (mid p.id))) (mid p.id) (eq-eqb p.id p.id refl) in
+    subst (λ (v : Usage). ArePut all rest spots u new v) (sym usage) (record {
+      putting = put_more u.spare all left rest p spots mid new is
+          (subst (λ (s : List Bool). (id : ℕ) → new id ≡ cond (eqb p.id id) (Some (put_spot s p.node (mid p.id))) (mid id)) h.spare_is one) h.putting;
+      spare_is = h.spare_is;
+      listed_is = h.listed_is;
+      unused = put_unused was.spare was.free p.id p.node mid new same here h.unused;
+      tallied = λ next below tallied.
+          put_tallied was next p.id p.node mid new same here (put_has (λ id. id < next) all left rest h.putting.done p h.putting.all_is is below)
+          (subst (λ (ids : BTreeSet ℕ). IsListed ids p.id) (sym h.listed_is) (put_has (IsListed u.listed) all left rest h.putting.done p h.putting.all_is is listed))
+          (h.tallied next below tallied);
+    })
+
+-- the nodes of these ids are gone, and counted no more
+pub record AreDropped (gone all : List ℕ) (spots : Spots) (u : Usage) (new : Spots) (now : Usage) : Type 0 where
+  pub spots_are : (id : ℕ) → new id ≡ without_all gone id (spots id)
+  pub spare_is : now.spare ≡ u.spare
+  pub unused : AreUnused now.spare now.free new
+  pub tallied : (next : ℕ) → ((id : ℕ) → 1 ≤ times_among all id → id < next) → IsTallied next spots u → IsTallied next new now
+
+pub dropped_begun : (all : List ℕ) (spots : Spots) (u : Usage) → AreUnused u.spare u.free spots → AreDropped (take 0 all) all spots u spots u
+dropped_begun all spots u unused = record { spots_are = λ id. refl; spare_is = refl; unused = unused; tallied = λ next below was. was }
+
+pub dropped_then : (all : List ℕ) (i : ℕ) (spots mid new : Spots) (u was now : Usage) → i < length all
+    → ((id : ℕ) → new id ≡ cond (eqb (slice_index all i) id) None (mid id)) → now ≡ dropped_usage (mid (slice_index all i)) was → AreDropped (take i all) all spots u mid was
+    → AreDropped (take (i + 1) all) all spots u new now
+dropped_then all i spots mid new u was now low one usage h =
+    let x : ℕ = slice_index all i in
+    let same : (id : ℕ) → (id ≡ x → ⊥) → new id ≡ mid id = λ id other. one id ∙ cond-false (eqb x id) None (mid id) (ne_eqb x id (λ e. other (sym e))) in
+    let here : new x ≡ None = one x ∙ cond-true (eqb x x) None (mid x) (eq-eqb x x refl) in
+    let among : 1 ≤ times_among all x = omega (arith, times_take all i low x, one_if-same x, times_first all (i + 1) x) in
+    subst (λ (v : Usage). AreDropped (take (i + 1) all) all spots u new v) (sym usage) (record {
+      spots_are = gone_more all i spots mid new low one h.spots_are;
+      spare_is = h.spare_is;
+      unused = dropped_unused was.spare was.free x mid new same here h.unused;
+      tallied = λ next below tallied. dropped_tallied was next x mid new same here (below x among) (h.tallied next below tallied);
+    })

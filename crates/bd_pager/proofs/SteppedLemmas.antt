@@ -108,7 +108,7 @@ module _ (spare : List Bool) (t : Table) (step : Step) (spots new : Spots) (put 
   is_gone : (id : ℕ) → 1 ≤ times_among gone id → new id ≡ None
   is_gone id one = h.each id ∙ cond-false (eqb (times_among gone id) 0) _ None (ne_eqb (times_among gone id) 0 (λ e. omega (arith, one, e)))
 
-  is_left : (id : ℕ) → times_among gone id ≡ 0 → new id ≡ with_count (count id) (with_put spare (put id) (spots id))
+  pub is_left : (id : ℕ) → times_among gone id ≡ 0 → new id ≡ with_count (count id) (with_put spare (put id) (spots id))
   is_left id none = h.each id ∙ cond-true (eqb (times_among gone id) 0) _ None (eq-eqb (times_among gone id) 0 none)
 
   -- nothing is known of what isn't there

@@ -1,5 +1,5 @@
 -- What steps make of what is known of nodes.
-use Rattle.std.specs.Prelude.{◌≡◌, ◌≤◌, ◌==◌, ◌++◌, ℕ, suc, if◌then◌else◌, Bool, List, [], ◌∷◌, Option, None, Some}
+use Rattle.std.specs.Prelude.{◌≡◌, ◌≤◌, ◌==◌, ◌++◌, ℕ, suc, if◌then◌else◌, Bool, true, false, slice_set, List, [], ◌∷◌, Option, None, Some}
 use Rattle.std.specs.Global.{Global}
 use Rattle.std.specs.HashMap.{HashMap, spare}
 use Rattle.std.specs.declared.rc.Rc.{Rc}
@@ -12,6 +12,8 @@ use Rattle.bd_pager.specs.declared.place.Place.{Place}
 use Rattle.bd_pager.specs.declared.place.Place.TheVariants.{Memory, Slot}
 use Rattle.bd_pager.specs.declared.place.Spot.{Spot}
 use Rattle.bd_pager.specs.declared.stepping.Put.{Put}
+use Rattle.bd_pager.specs.declared.usage.Usage.{Usage}
+use Rattle.bd_pager.specs.Counting.{tally_of, recounted}
 use Rattle.bd_pager.specs.Changing.{own_slot}
 use Rattle.bd_pager.specs.Places.{Spots, refs_in}
 
@@ -54,6 +56,22 @@ abbrev pub with_count : Option ℕ → Option Spot → Option Spot
 with_count None old = old
 with_count (Some count) None = None
 with_count (Some count) (Some s) = Some (record s { refs = count })
+
+-- the free slots with one that is given back, if there is one
+abbrev pub with_given : Option ℕ → List Bool → List Bool
+with_given None free = free
+with_given (Some slot) free = slice_set free slot true
+
+-- what is used once a node is put where this was known of the one before it
+abbrev pub put_usage : Option Spot → Usage → Usage
+put_usage old u =
+    recounted (tally_of u.spare old) (record { is_changed = true; is_in_memory = true }) u
+
+-- and once a node goes of which this was known
+abbrev pub dropped_usage : Option Spot → Usage → Usage
+dropped_usage old u =
+    recounted (tally_of u.spare old) (record { is_changed = false; is_in_memory = false })
+    (record u { free = with_given (own_slot_in u.spare old) u.free })
 
 -- nothing, where the id is one of these
 abbrev pub without_all : {X : Type 0} → List ℕ → ℕ → Option X → Option X

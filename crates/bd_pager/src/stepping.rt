@@ -5,11 +5,12 @@ ghost use Rattle.std.specs.HashMap.{get};
 ghost use Rattle.std.specs.List.{AllByRecursion};
 ghost use Rattle.std.specs.Option.{option_copied};
 ghost use Rattle.bd_cache.specs.Cache.{kept_at};
+ghost use Rattle.bd_slots.specs.Slots.{IsHeld};
 ghost use Rattle.bd_counts.specs.Naming.{times_among};
-ghost use Rattle.bd_pager.specs.Counting.{tally_of, recounted, AreUnused, IsListed, IsListedMore, IsTallied};
+ghost use Rattle.bd_pager.specs.Counting.{AreUnused, IsListed, IsListedMore, IsTallied};
 ghost use Rattle.bd_pager.specs.Pagers.{IsPlaceIn};
 ghost use Rattle.bd_pager.specs.Places.{spots_in};
-ghost use Rattle.bd_pager.specs.Stepping.{HasRoomFor, put_at, put_spot, own_slot_in, with_put, with_count, without_all};
+ghost use Rattle.bd_pager.specs.Stepping.{HasRoomFor, put_at, put_spot, own_slot_in, with_put, with_count, with_given, without_all, put_usage, dropped_usage};
 
 use crate::changing::slot_if_spare;
 use crate::place::{Place, Spot, refs_of};
@@ -34,8 +35,8 @@ const CHANGED: Tally = Tally {
     is_in_memory: true,
 };
 
-// What no node counts for.
-const NONE: Tally = Tally {
+// What a node that is gone counts for.
+const GONE: Tally = Tally {
     is_changed: false,
     is_in_memory: false,
 };
@@ -80,8 +81,7 @@ fn put_one(spots: &mut HashMap<u64, Spot>, usage: &mut Usage, put: Put)
         then Some (put_spot usage.old.spare put.node (spots_in spots.old put.id))
         else spots_in spots.old id) }
     ensures room { (n : ℕ) → HasRoomFor (n + 1) spots.old → HasRoomFor n spots.new }
-    ensures usage { usage.new ≡ recounted (tally_of usage.old.spare (spots_in spots.old put.id))
-        CHANGED usage.old }
+    ensures usage { usage.new ≡ put_usage (spots_in spots.old put.id) usage.old }
 {
     let Put { id, node } = put;
     let old = spots.get(&id);
@@ -96,7 +96,7 @@ fn put_one(spots: &mut HashMap<u64, Spot>, usage: &mut Usage, put: Put)
 
 // What is known of a node that is put where this was known of the one before it.
 fn put_spot(old: Option<&Spot>, node: Rc<Node>, spare: &SlotSet) -> Spot
-    requires { IfSome (option_copied old.entry) (λ s. IsPlaceIn spare.now s.place) }
+    requires { IfSome (option_copied old) (λ s. IsPlaceIn spare.now s.place) }
     ensures { result ≡ put_spot spare.now node (option_copied old.entry) }
 {
     Spot {
@@ -111,7 +111,7 @@ fn put_spot(old: Option<&Spot>, node: Rc<Node>, spare: &SlotSet) -> Spot
 
 // The slot that a node has of its own once it is changed.
 fn own_slot(old: Option<&Spot>, spare: &SlotSet) -> Option<u32>
-    requires { IfSome (option_copied old.entry) (λ s. IsPlaceIn spare.now s.place) }
+    requires { IfSome (option_copied old) (λ s. IsPlaceIn spare.now s.place) }
     ensures { result ≡ own_slot_in spare.now (option_copied old.entry) }
 {
     match &old?.place {
@@ -160,19 +160,24 @@ fn drop_one(spots: &mut HashMap<u64, Spot>, usage: &mut Usage, id: u64)
     requires { AreUnused usage.old.spare usage.old.free (spots_in spots.old) }
     ensures spots { (i : ℕ) → spots_in spots.new i
         ≡ (if id == i then None else spots_in spots.old i) }
-    ensures spare { usage.new.spare ≡ usage.old.spare }
-    ensures unused { AreUnused usage.new.spare usage.new.free (spots_in spots.new) }
-    ensures tallied { (next : ℕ) → id < next → IsTallied next (spots_in spots.old) usage.old
-        → IsTallied next (spots_in spots.new) usage.new }
+    ensures usage { usage.new ≡ dropped_usage (spots_in spots.old id) usage.old }
 {
     let old = spots.get(&id);
     let was = tally_of(&usage.spare, old);
     let own = own_slot(old, &usage.spare);
     let _ = spots.remove(&id);
-    if let Some(slot) = own {
-        usage.free.give(slot);
+    give_back(&mut usage.free, own);
+    usage.recount(was, GONE);
+}
+
+// Gives a slot back, if there is one.
+fn give_back(free: &mut SlotSet, slot: Option<u32>)
+    requires { IfSome slot (IsHeld free.old) }
+    ensures { free.new ≡ with_given slot free.old }
+{
+    if let Some(slot) = slot {
+        free.give(slot);
     }
-    usage.recount(was, NONE);
 }
 
 /// Keeps no node for these ids any more.

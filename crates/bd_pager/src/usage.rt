@@ -53,7 +53,7 @@ impl Usage {
 
 /// What the node of a spot counts for, where these slots are spare.
 pub fn tally_of(spare: &SlotSet, spot: Option<&Spot>) -> Tally
-    requires { IfSome (option_copied spot.entry) (λ s. IsPlaceIn spare.now s.place) }
+    requires { IfSome (option_copied spot) (λ s. IsPlaceIn spare.now s.place) }
     ensures { result ≡ tally_of spare.now (option_copied spot.entry) }
 {
     match spot {
