@@ -2,10 +2,7 @@
 use Rattle.std.proofs.Common.{◌≡◌, ◌≢◌, ℕ, suc, ◌+◌, ◌-◌, ◌<◌, ◌≤◌, ◌⊎◌, Bool, true, false, ◌&&◌, cond, eqb, nat_eq, List, [], length, map, Option, None, Some, IfSome, IsTrue, refl, sym, ap, subst, ◌∙◌, arith, inl, inr}
 use Rattle.std.specs.Prelude.{IsSome}
 use Rattle.std.specs.Global.{Global}
-use Rattle.std.specs.HashMap.{get}
-use Rattle.std.specs.List.{AllByRecursion}
-use Rattle.std.specs.Map.{lookup}
-use Rattle.std.specs.Option.{unwrap_or}
+use Rattle.std.specs.Option.{option_map, unwrap_or}
 use Rattle.std.specs.declared.rc.Rc.{Rc}
 use Rattle.std.proofs.lemmas.Bool.{and_from, cases_lt, cond-true, cond-false, eq-eqb, ne_eqb}
 use Rattle.std.proofs.lemmas.Option.{none-some, same_Some}
@@ -29,21 +26,19 @@ use Rattle.bd_node.proofs.Stepping.{by_given, after-none, after-some}
 use Rattle.bd_counts.specs.Naming.{times_among}
 use Rattle.bd_counts.specs.Counting.{overlaid, counted, HasCounts, HasRootSize, IsRecount, MakesTable, Commits}
 use Rattle.bd_pager.specs.declared.committing.NewRoot.{NewRoot}
-use Rattle.bd_pager.specs.declared.committing.Plan.{Plan}
 use Rattle.bd_pager.specs.declared.place.Place.{Place}
 use Rattle.bd_pager.specs.declared.place.Place.TheVariants.{Memory, Slot}
 use Rattle.bd_pager.specs.declared.place.Spot.{Spot}
 use Rattle.bd_pager.specs.Calling.{no_reads}
-use Rattle.bd_pager.specs.Committing.{IsFound, IsFoundRoot, IsNewRoot, IsPlanOf, carried_spot, IsForgotten}
+use Rattle.bd_pager.specs.Committing.{IsFound, IsFoundRoot, IsNewRoot}
 use Rattle.bd_pager.specs.Keeping.{KeepsSaved}
 use Rattle.bd_pager.specs.Slots.{IsOfLevel}
 use Rattle.bd_pager.specs.Places.{Spots, refs_in, level_in, copy_at, copy_in, node_at, node_of, told, IsReadAt, IsRead}
 use Rattle.bd_pager.specs.Pagers.{Paged, spots_of, is_saved, is_changed, is_changed_place, table_of, nodes_of, IsRightPlace, IsKnownOver, is_known, IsOfSize, IsPlaceIn, IsStoredAs, IsPaged}
-use Rattle.bd_pager.specs.Stepping.{put_at, own_slot_in, with_put, with_count, with_copy, moved_copy, bare, copied}
+use Rattle.bd_pager.specs.Stepping.{held, own_slot_in, with_put, with_count, without_all, with_copy, moved_copy, bare, copied}
 use Rattle.bd_pager.proofs.AppendedLemmas.{split_and}
 use Rattle.bd_pager.proofs.CopyLemmas.{bare_changed, copied_changed, bare_in, copied_in, bare_placed, copied_placed, bare_right, copied_right, bare_node, copied_node, copied_copy, without_read, moved_at, same_moved, each_moved}
 use Rattle.bd_pager.proofs.CopyLemmas.Moved.{to_root, from_root, beside}
-use Rattle.bd_pager.proofs.PuttingLemmas.{given_at, put_is}
 use Rattle.bd_pager.proofs.SteppedLemmas.{AreStepped, Outcome, outcome, is_left, new_refs, new_used, new_level, each_stepped, given_kept}
 use Rattle.bd_pager.proofs.SteppedLemmas.Outcome.{goes, comes, remains}
 use Rattle.bd_pager.proofs.TallyLemmas.{put_in}
@@ -101,12 +96,30 @@ copy_as o was n is copy = subst (λ (x : Option Spot). IfSome (copy_in x) (λ m.
 
 -- ---- the step
 
-module _ {D : Type 0} (g : Ghosts D) (p : Paged D) (step : Step) (plan : Plan) (entries : List (ℕ × Spot)) (cache : NodeCache) (last visits : ℕ) where
-  abbrev pub q : Paged D
-  q = record p { spots = entries; root = plan.root; size = plan.new_root.size; next = last; visits = visits; cache = cache; written = None }
+-- the nodes that a step gives, the counts with it and the ids that go, and the root after it
+pub record AreGiven {D : Type 0} (g : Ghosts D) (p : Paged D) (step : Step) (put : ℕ → Option (Rc Node Global)) (count : ℕ → Option ℕ) (gone : List ℕ) (root : ℕ) (new_root : NewRoot) : Type 0 where
+  pub ok : IsStep (table_of p) step
+  pub given_is : (id : ℕ) → option_map held (put id) ≡ given p.next step id
+  pub recount : IsRecount (table_of p) step (λ c. unwrap_or (count c) ((table_of p).count c)) gone
+  pub table : MakesTable (table_of p) step (λ c. unwrap_or (count c) ((table_of p).count c))
+  pub commits : is_known g p → IsSound (nodes_of g p) (table_of p) → Commits (nodes_of g p) (table_of p) step (λ c. unwrap_or (count c) ((table_of p).count c))
+  pub root_is : root ≡ step.root
+  pub root_new : IsNewRoot (g.contents p.dev) (spots_of p) step.root (given p.next step step.root) new_root
 
-  module _ (was : IsPaged (g.contents p.dev) p) (ok : IsStep (table_of p) step) (is : IsPlanOf (g.contents p.dev) (spots_of p) (table_of p) step plan) (last_is : last ≡ p.next + length step.made)
-      (carried : (id : ℕ) → spots_of q id ≡ carried_spot p.spare p.root plan (spots_of p) id) (forgotten : IsForgotten plan p.cache cache) where
+-- no node is cached that is put, or goes, or is the root with its copy
+pub record AreForgotten (put : ℕ → Option (Rc Node Global)) (gone : List ℕ) (root : ℕ) (copy : Option (Rc Node Global)) (old new : NodeCache) : Type 0 where
+  pub kept : (id : ℕ) (n : Node) → kept_at new id ≡ Some n → kept_at old id ≡ Some n
+  pub not_put : (id : ℕ) (n : Node) → kept_at new id ≡ Some n → put id ≡ None
+  pub not_gone : (id : ℕ) (n : Node) → kept_at new id ≡ Some n → times_among gone id ≡ 0
+  pub not_root : (id : ℕ) (n : Node) → kept_at new id ≡ Some n → IsSome copy → id ≢ root
+
+module _ {D : Type 0} (g : Ghosts D) (p : Paged D) (step : Step) (put : ℕ → Option (Rc Node Global)) (count : ℕ → Option ℕ) (gone : List ℕ) (root : ℕ) (new_root : NewRoot) (entries : List (ℕ × Spot)) (cache : NodeCache) (last visits : ℕ) where
+  abbrev pub q : Paged D
+  q = record p { spots = entries; root = root; size = new_root.size; next = last; visits = visits; cache = cache; written = None }
+
+  module _ (was : IsPaged (g.contents p.dev) p) (is : AreGiven g p step put count gone root new_root) (last_is : last ≡ p.next + length step.made)
+      (carried : (id : ℕ) → spots_of q id ≡ without_all gone id (with_count (count id) (with_put p.spare (put id) (moved_copy p.root root new_root.copy id (spots_of p id)))))
+      (forgotten : AreForgotten put gone root new_root.copy p.cache cache) where
     abbrev t : Table
     t = table_of p
 
@@ -114,33 +127,27 @@ module _ {D : Type 0} (g : Ghosts D) (p : Paged D) (step : Step) (plan : Plan) (
     contents = g.contents p.dev
 
     abbrev before : Spots
-    before id = moved_copy p.root plan.root plan.new_root.copy id (spots_of p id)
-
-    abbrev put : ℕ → Option (Rc Node Global)
-    put id = put_at plan.puts.items id
-
-    abbrev count : ℕ → Option ℕ
-    count id = get nat_eq plan.recount.counts id
+    before id = moved_copy p.root root new_root.copy id (spots_of p id)
 
     abbrev counts : ℕ → ℕ
     counts id = unwrap_or (count id) (t.count id)
 
-    root_new : IsNewRoot contents (spots_of p) plan.root (given t.next step plan.root) plan.new_root
-    root_new = subst (λ (r : ℕ). IsNewRoot contents (spots_of p) r (given t.next step r) plan.new_root) (sym is.root) is.root_is
+    root_given : IsNewRoot contents (spots_of p) root (given t.next step root) new_root
+    root_given = subst (λ (r : ℕ). IsNewRoot contents (spots_of p) r (given t.next step r) new_root) (sym is.root_is) is.root_new
 
-    found_root : (node : Rc Node Global) → plan.new_root.copy ≡ Some node → IsFound contents (spots_of p) plan.root node.value
-    found_root node copy = (found_of contents (spots_of p) plan.root (given t.next step plan.root) plan.new_root node copy root_new).0
+    found_root : (node : Rc Node Global) → new_root.copy ≡ Some node → IsFound contents (spots_of p) root node.value
+    found_root node copy = (found_of contents (spots_of p) root (given t.next step root) new_root node copy root_given).0
 
     -- ---- with the new root's copy
 
     before_same : {X : Type 0} (F : Option Spot → X) → ((s : Spot) → F (Some (record s { place = bare s.place })) ≡ F (Some s)) → ((node : Rc Node Global) (s : Spot) → F (Some (record s { place = copied node s.place })) ≡ F (Some s))
         → (id : ℕ) → F (before id) ≡ F (spots_of p id)
-    before_same F without within = same_moved (spots_of p) p.root plan.root plan.new_root.copy F (λ id s there. without s) (λ node s copy there. within node s)
+    before_same F without within = same_moved (spots_of p) p.root root new_root.copy F (λ id s there. without s) (λ node s copy there. within node s)
 
     before_each : (P : ℕ → Spot → Type 0) → ((id : ℕ) (s : Spot) → P id s → P id (record s { place = bare s.place }))
-        → ((node : Rc Node Global) (s : Spot) → plan.new_root.copy ≡ Some node → spots_of p plan.root ≡ Some s → P plan.root s → P plan.root (record s { place = copied node s.place }))
+        → ((node : Rc Node Global) (s : Spot) → new_root.copy ≡ Some node → spots_of p root ≡ Some s → P root s → P root (record s { place = copied node s.place }))
         → ((id : ℕ) (s : Spot) → spots_of p id ≡ Some s → P id s) → (id : ℕ) (s : Spot) → before id ≡ Some s → P id s
-    before_each = each_moved (spots_of p) p.root plan.root plan.new_root.copy
+    before_each = each_moved (spots_of p) p.root root new_root.copy
 
     before_changed : (id : ℕ) → is_changed p.spare (before id) ≡ is_changed p.spare (spots_of p id)
     before_changed = before_same (is_changed p.spare) (λ s. bare_changed p.spare s.place) (λ node s. copied_changed p.spare node s.place)
@@ -154,14 +161,14 @@ module _ {D : Type 0} (g : Ghosts D) (p : Paged D) (step : Step) (plan : Plan) (
 
     before_stored : (id : ℕ) (s : Spot) → before id ≡ Some s → IsStoredAs p.spare p.saved.entries id s.level s.place
     before_stored = before_each (λ id s. IsStoredAs p.spare p.saved.entries id s.level s.place) (λ id s. bare_stored p.spare p.saved.entries id s.level s.place)
-        (λ node s copy there. copied_stored p.spare p.saved.entries plan.root s.level node s.place) was.stored
+        (λ node s copy there. copied_stored p.spare p.saved.entries root s.level node s.place) was.stored
 
-    stepped : AreStepped p.spare t step before (spots_of q) put count plan.recount.gone.items
+    stepped : AreStepped p.spare t step before (spots_of q) put count gone
     stepped = record {
       table = was.table;
-      ok = ok;
+      ok = is.ok;
       recount = is.recount;
-      given_is = λ id. put_is plan.puts.items id ∙ ap (λ (cs : List Change). changed_at cs id) is.puts ∙ given_at t step was.table ok id;
+      given_is = is.given_is;
       refs = before_same refs_in (λ s. refl) (λ node s. refl);
       levels = before_same level_in (λ s. refl) (λ node s. refl);
       used = before_each (λ id s. 1 ≤ s.refs) (λ id s used. used) (λ node s copy there used. used) was.used;
@@ -171,22 +178,22 @@ module _ {D : Type 0} (g : Ghosts D) (p : Paged D) (step : Step) (plan : Plan) (
     -- ---- what is kept then
 
     abbrev ending : (id : ℕ) → Outcome p.spare t step before (spots_of q) put counts id
-    ending = outcome p.spare t step before (spots_of q) put count plan.recount.gone.items stepped
+    ending = outcome p.spare t step before (spots_of q) put count gone stepped
 
     each_new : (P : ℕ → Spot → Type 0)
         → ((id : ℕ) (node : Rc Node Global) → put id ≡ Some node → given t.next step id ≡ Some node.value → IsPut t step node.value → P id (record { refs = counts id; level = level_of node.value; place = Memory node (own_slot_in p.spare (before id)) }))
         → ((id : ℕ) (s : Spot) → before id ≡ Some s → put id ≡ None → given t.next step id ≡ None → P id (record s { refs = counts id }))
         → (id : ℕ) (s : Spot) → spots_of q id ≡ Some s → P id s
-    each_new = each_stepped p.spare t step before (spots_of q) put count plan.recount.gone.items stepped
+    each_new = each_stepped p.spare t step before (spots_of q) put count gone stepped
 
     new_count : (id : ℕ) → refs_in (spots_of q id) ≡ counts id
-    new_count = new_refs p.spare t step before (spots_of q) put count plan.recount.gone.items stepped
+    new_count = new_refs p.spare t step before (spots_of q) put count gone stepped
 
     has_counts : HasCounts t step counts (table_of q)
     has_counts = record {
       count = new_count;
-      level = λ id kept. new_level p.spare t step before (spots_of q) put count plan.recount.gone.items stepped id (subst (λ (n : ℕ). 1 ≤ n) (new_count id) kept);
-      root = is.root;
+      level = λ id kept. new_level p.spare t step before (spots_of q) put count gone stepped id (subst (λ (n : ℕ). 1 ≤ n) (new_count id) kept);
+      root = is.root_is;
       next = last_is;
     }
 
@@ -197,26 +204,26 @@ module _ {D : Type 0} (g : Ghosts D) (p : Paged D) (step : Step) (plan : Plan) (
     before_within id None there = tt
     before_within id (Some s) there = before_in id s there
 
-    new_root_size : IsOfSize plan.new_root.size (copy_in (spots_of q plan.root))
-    new_root_size = elim (ending plan.root) [
-      | goes zero none ↦ absurd (let some : 1 ≤ counts plan.root = subst (λ (r : ℕ). 1 ≤ counts r) (sym is.root) is.recount.root in omega (arith, some, zero))
+    new_root_size : IsOfSize new_root.size (copy_in (spots_of q root))
+    new_root_size = elim (ending root) [
+      | goes zero none ↦ absurd (let some : 1 ≤ counts root = subst (λ (r : ℕ). 1 ≤ counts r) (sym is.root_is) is.recount.root in omega (arith, some, zero))
       | comes node put_there gives one at ↦
-          subst (λ (o : Option Spot). IsOfSize plan.new_root.size (copy_in o)) (sym at)
-          (subst (λ (o : Option Node). IsNewRoot contents (spots_of p) plan.root o plan.new_root) gives root_new).1
+          subst (λ (o : Option Spot). IsOfSize new_root.size (copy_in o)) (sym at)
+          (subst (λ (o : Option Node). IsNewRoot contents (spots_of p) root o new_root) gives root_given).1
       | remains s there not_put none one at ↦
-          let found = copy_of_found contents (spots_of p) plan.root plan.new_root.size plan.new_root.copy (subst (λ (o : Option Node). IsNewRoot contents (spots_of p) plan.root o plan.new_root) none root_new) in
+          let found = copy_of_found contents (spots_of p) root new_root.size new_root.copy (subst (λ (o : Option Node). IsNewRoot contents (spots_of p) root o new_root) none root_given) in
           let node : Rc Node Global = found.0 in
-          let copied_there : with_copy (Some node) (spots_of p plan.root) ≡ Some s =
-          sym (ap (λ (c : Option (Rc Node Global)). with_copy c (spots_of p plan.root)) found.1)
-          ∙ sym (cond-true (eqb plan.root plan.root) (with_copy plan.new_root.copy (spots_of p plan.root)) _ (eq-eqb plan.root plan.root refl)) ∙ there in
-          let old = spot_of_copy node (spots_of p plan.root) s copied_there in
-          let copy : copy_at s.place ≡ Some node.value = ap copy_at old.2 ∙ copied_copy node old.0.place (copy_as (spots_of p plan.root) old.0 node.value old.1 found.2.copy) in
-          subst (λ (o : Option Spot). IsOfSize plan.new_root.size (copy_in o)) (sym at) (subst (λ (o : Option Node). IsOfSize plan.new_root.size o) (sym copy) found.3)
+          let copied_there : with_copy (Some node) (spots_of p root) ≡ Some s =
+          sym (ap (λ (c : Option (Rc Node Global)). with_copy c (spots_of p root)) found.1)
+          ∙ sym (cond-true (eqb root root) (with_copy new_root.copy (spots_of p root)) _ (eq-eqb root root refl)) ∙ there in
+          let old = spot_of_copy node (spots_of p root) s copied_there in
+          let copy : copy_at s.place ≡ Some node.value = ap copy_at old.2 ∙ copied_copy node old.0.place (copy_as (spots_of p root) old.0 node.value old.1 found.2.copy) in
+          subst (λ (o : Option Spot). IsOfSize new_root.size (copy_in o)) (sym at) (subst (λ (o : Option Node). IsOfSize new_root.size o) (sym copy) found.3)
     ]
 
-    moved_read : (id : ℕ) (n : Node) → (IsSome plan.new_root.copy → id ≢ plan.root) → IsRead contents p.is_lent (spots_of p id) n → IsRead contents p.is_lent (before id) n
-    moved_read id n apart read = elim (moved_at (spots_of p) p.root plan.root plan.new_root.copy id) [
-      | to_root same as ↦ subst (λ (o : Option Spot). IsRead contents p.is_lent o n) (sym (as ∙ no_copy plan.new_root.copy (spots_of p id) (λ some. apart some same))) read
+    moved_read : (id : ℕ) (n : Node) → (IsSome new_root.copy → id ≢ root) → IsRead contents p.is_lent (spots_of p id) n → IsRead contents p.is_lent (before id) n
+    moved_read id n apart read = elim (moved_at (spots_of p) p.root root new_root.copy id) [
+      | to_root same as ↦ subst (λ (o : Option Spot). IsRead contents p.is_lent o n) (sym (as ∙ no_copy new_root.copy (spots_of p id) (λ some. apart some same))) read
       | from_root as ↦ subst (λ (o : Option Spot). IsRead contents p.is_lent o n) (sym as) (without_read contents p.is_lent (spots_of p id) n read)
       | beside as ↦ subst (λ (o : Option Spot). IsRead contents p.is_lent o n) (sym as) read
     ]
@@ -224,15 +231,15 @@ module _ {D : Type 0} (g : Ghosts D) (p : Paged D) (step : Step) (plan : Plan) (
     pub committed_paged : IsPaged contents q
     committed_paged = record {
       table = new_table;
-      used = new_used p.spare t step before (spots_of q) put count plan.recount.gone.items stepped;
+      used = new_used p.spare t step before (spots_of q) put count gone stepped;
       placed = each_new (λ id s. IfSome (copy_at s.place) (IsOfLevel s.level)) (λ id node put_there gives may. record { shape = may.shape; level_is = refl }) (λ id s there not_put none. before_placed id s there);
       root = new_root_size;
       cached = λ id n kept.
           let same : spots_of q id ≡ with_count (count id) (before id) =
-          is_left p.spare t step before (spots_of q) put count plan.recount.gone.items stepped id (forgotten.gone id n kept)
-          ∙ ap (λ (o : Option (Rc Node Global)). with_count (count id) (with_put p.spare o (before id))) (forgotten.put id n kept) in
+          is_left p.spare t step before (spots_of q) put count gone stepped id (forgotten.not_gone id n kept)
+          ∙ ap (λ (o : Option (Rc Node Global)). with_count (count id) (with_put p.spare o (before id))) (forgotten.not_put id n kept) in
           subst (λ (o : Option Spot). IsRead contents p.is_lent o n) (sym same)
-          (counted_read contents p.is_lent (count id) (before id) n (moved_read id n (forgotten.root id n kept) (was.cached id n (forgotten.kept id n kept))));
+          (counted_read contents p.is_lent (count id) (before id) n (moved_read id n (forgotten.not_root id n kept) (was.cached id n (forgotten.kept id n kept))));
       levels = each_new (λ id s. s.level ≤ level_limit) (λ id node put_there gives may. level_within node.value may.shape)
           (λ id s there not_put none. before_each (λ i x. x.level ≤ level_limit) (λ i x low. low) (λ node x copy at low. low) was.levels id s there);
       held = was.held;
@@ -251,19 +258,19 @@ module _ {D : Type 0} (g : Ghosts D) (p : Paged D) (step : Step) (plan : Plan) (
     pub committed_table : IsTableAfter t step (table_of q)
     committed_table = record {
       table = new_table;
-      root = is.root;
+      root = is.root_is;
       next = last_is;
       level = has_counts.level;
-      size = λ n gives. sym (subst (λ (o : Option Node). IsNewRoot contents (spots_of p) step.root o plan.new_root) gives is.root_is).1;
+      size = λ n gives. sym (subst (λ (o : Option Node). IsNewRoot contents (spots_of p) step.root o new_root) gives is.root_new).1;
       same_size = λ none same.
-          found_size contents (spots_of p) step.root plan.new_root.size p.size plan.new_root.copy (subst (λ (o : Option Node). IsNewRoot contents (spots_of p) step.root o plan.new_root) none is.root_is)
+          found_size contents (spots_of p) step.root new_root.size p.size new_root.copy (subst (λ (o : Option Node). IsNewRoot contents (spots_of p) step.root o new_root) none is.root_new)
           (subst (λ (r : ℕ). IsOfSize p.size (copy_in (spots_of p r))) (sym same) was.root);
       touched = λ id on.
           let both = split_and (is_saved p.saved.entries id) (is_changed p.spare (spots_of q id)) on in
           elim (ending id) [
             | goes zero none ↦ absurd (no_change (sym (ap (is_changed p.spare) none) ∙ both.1))
             | comes node put_there gives one at ↦
-                inr (subst (λ (o : Option Node). IsSome o) (sym (given_kept t step was.table ok id node.value (was.saved id both.0) gives).1) refl)
+                inr (subst (λ (o : Option Node). IsSome o) (sym (given_kept t step was.table is.ok id node.value (was.saved id both.0) gives).1) refl)
             | remains s there not_put none one at ↦
                 inl (and_from (is_saved p.saved.entries id) (is_changed p.spare (spots_of p id)) both.0
                 (sym (before_changed id) ∙ ap (is_changed p.spare) there ∙ sym (ap (is_changed p.spare) at) ∙ both.1))
@@ -279,7 +286,7 @@ module _ {D : Type 0} (g : Ghosts D) (p : Paged D) (step : Step) (plan : Plan) (
     before_right : (image : Image) → told contents ≡ image → IsSome contents → ((id : ℕ) (s : Spot) → spots_of p id ≡ Some s → IsRightPlace image s.place) → (id : ℕ) (s : Spot) → before id ≡ Some s → IsRightPlace image s.place
     before_right image image_is known = before_each (λ id s. IsRightPlace image s.place) (λ id s. bare_right image s.place)
         (λ node s copy there. copied_right image node s.place
-        (sym (ap (node_of image) there) ∙ sym (ap (λ (i : Image). node_of i (spots_of p plan.root)) image_is) ∙ (found_root node copy).contents known))
+        (sym (ap (node_of image) there) ∙ sym (ap (λ (i : Image). node_of i (spots_of p root)) image_is) ∙ (found_root node copy).there known))
 
     pub committed_stays : StaysBy (is_known g) (KeepsSaved g) (λ (x : Paged D). let none : List ℕ = [] in none) p q
     committed_stays = record {
@@ -311,8 +318,8 @@ module _ {D : Type 0} (g : Ghosts D) (p : Paged D) (step : Step) (plan : Plan) (
 
     module _ (known : is_known g p) (sound : IsSound (nodes_of g p) t) where
       before_node : (id : ℕ) → node_of (told contents) (before id) ≡ nodes_of g p id
-      before_node = same_moved (spots_of p) p.root plan.root plan.new_root.copy (node_of (told contents)) (λ id s there. bare_node (told contents) s.place (known.right id s there))
-          (λ node s copy there. copied_node (told contents) node s.place (sym (ap (node_of (told contents)) there) ∙ (found_root node copy).contents known.contents_told))
+      before_node = same_moved (spots_of p) p.root root new_root.copy (node_of (told contents)) (λ id s there. bare_node (told contents) s.place (known.right id s there))
+          (λ node s copy there. copied_node (told contents) node s.place (sym (ap (node_of (told contents)) there) ∙ (found_root node copy).there known.contents_told))
 
       abbrev left : Nodes
       left = after (nodes_of g p) t step
@@ -332,13 +339,13 @@ module _ {D : Type 0} (g : Ghosts D) (p : Paged D) (step : Step) (plan : Plan) (
       ]
 
       root_size : HasRootSize left (table_of q)
-      root_size = λ n there. by_given (buffer_size n ≡ plan.new_root.size) (given t.next step plan.root)
+      root_size = λ n there. by_given (buffer_size n ≡ new_root.size) (given t.next step root)
           (λ none.
-          let found = copy_of_found contents (spots_of p) plan.root plan.new_root.size plan.new_root.copy (subst (λ (o : Option Node). IsNewRoot contents (spots_of p) plan.root o plan.new_root) none root_new) in
-          ap buffer_size (same_Some n found.0.value (sym there ∙ after-none (nodes_of g p) t step plan.root none ∙ found.2.contents known.contents_told)) ∙ found.3)
+          let found = copy_of_found contents (spots_of p) root new_root.size new_root.copy (subst (λ (o : Option Node). IsNewRoot contents (spots_of p) root o new_root) none root_given) in
+          ap buffer_size (same_Some n found.0.value (sym there ∙ after-none (nodes_of g p) t step root none ∙ found.2.there known.contents_told)) ∙ found.3)
           (λ m some.
-          ap buffer_size (same_Some n m (sym there ∙ after-some (nodes_of g p) t step plan.root m some))
-          ∙ (subst (λ (o : Option Node). IsNewRoot contents (spots_of p) plan.root o plan.new_root) some root_new).1)
+          ap buffer_size (same_Some n m (sym there ∙ after-some (nodes_of g p) t step root m some))
+          ∙ (subst (λ (o : Option Node). IsNewRoot contents (spots_of p) root o new_root) some root_given).1)
 
       pub committed_nodes : IsCommitted (nodes_of g p) t step (nodes_of g q) (table_of q)
       committed_nodes =

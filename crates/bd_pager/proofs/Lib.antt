@@ -1,4 +1,5 @@
 pub mod AppendedLemmas
+pub mod CarryLemmas
 pub mod ChangingLemmas
 pub mod CommittedLemmas
 pub mod CopyLemmas

@@ -13,8 +13,7 @@ use Rattle.bd_node.specs.Steps.{changed_at, given, given_or, IsChange, IsStep}
 use Rattle.bd_node.proofs.Lookup.{each_weaker}
 use Rattle.bd_node.proofs.Stepping.{given-old, given-new, changed_at-same, changed_at-other, changed_at-none}
 use Rattle.bd_pager.specs.declared.stepping.Put.{Put}
-use Rattle.bd_pager.specs.Stepping.{change_of, put_at, made_changes, given_changes}
-use Rattle.bd_pager.proofs.SteppedLemmas.{held}
+use Rattle.bd_pager.specs.Stepping.{held, change_of, put_at, made_changes, given_changes}
 
 -- ---- lists of changes
 

@@ -20,11 +20,7 @@ use Rattle.bd_counts.specs.Counting.{IsRecount}
 use Rattle.bd_pager.specs.declared.place.Place.TheVariants.{Memory}
 use Rattle.bd_pager.specs.declared.place.Spot.{Spot}
 use Rattle.bd_pager.specs.Places.{Spots, refs_in, level_in}
-use Rattle.bd_pager.specs.Stepping.{own_slot_in, with_put, with_count, without_all}
-
--- the node that is held
-abbrev pub held : Rc Node Global → Node
-held node = node.value
+use Rattle.bd_pager.specs.Stepping.{held, own_slot_in, with_put, with_count, without_all}
 
 -- ---- parts
 

@@ -13,6 +13,7 @@ use Rattle.bd_node.specs.Tables.{Table, IsSound}
 use Rattle.bd_node.specs.Steps.{given}
 use Rattle.bd_counts.specs.Naming.{times_among}
 use Rattle.bd_counts.specs.Counting.{overlaid, IsRecount, MakesTable, Commits}
+use Rattle.bd_counts.specs.declared.new_counts.NewCounts.{NewCounts}
 use Rattle.bd_pager.specs.declared.committing.NewRoot.{NewRoot}
 use Rattle.bd_pager.specs.declared.committing.Plan.{Plan}
 use Rattle.bd_pager.specs.Slots.{IsOfLevel}
@@ -24,7 +25,7 @@ use Rattle.bd_pager.specs.Stepping.{change_of, put_at, with_put, with_count, wit
 pub record IsFound (contents : Option Image) (spots : Spots) (id : ℕ) (n : Node) : Type 0 where
   pub of_level : IsOfLevel (level_in (spots id)) n
   pub copy : IfSome (copy_in (spots id)) (λ m. n ≡ m)
-  pub contents : IsSome contents → nodes_at contents spots id ≡ Some n
+  pub there : IsSome contents → nodes_at contents spots id ≡ Some n
 
 -- so many bytes wait in the root, whose node was found
 abbrev pub IsFoundRoot : Option Image → Spots → ℕ → ℕ → Option (Rc Node Global) → Type 0
@@ -37,14 +38,19 @@ abbrev pub IsNewRoot : Option Image → Spots → ℕ → Option Node → NewRoo
 IsNewRoot contents spots root (Some n) new = (new.copy ≡ None) × (buffer_size n ≡ new.size)
 IsNewRoot contents spots root None new = IsFoundRoot contents spots root new.size new.copy
 
+-- what a step makes of the counts
+pub record IsRecountOf (contents : Option Image) (spots : Spots) (t : Table) (step : Step)
+    (recount : NewCounts) : Type 0 where
+  pub counts : IsRecount t step (overlaid t.count recount.counts) recount.gone.items
+  pub table : MakesTable t step (overlaid t.count recount.counts)
+  pub commits : IsKnownOver contents spots → IsSound (nodes_at contents spots) t
+      → Commits (nodes_at contents spots) t step (overlaid t.count recount.counts)
+
 -- the plan of a step
 pub record IsPlanOf (contents : Option Image) (spots : Spots) (t : Table) (step : Step)
     (plan : Plan) : Type 0 where
   pub puts : map change_of plan.puts.items ≡ given_changes t.next step
-  pub recount : IsRecount t step (overlaid t.count plan.recount.counts) plan.recount.gone.items
-  pub table : MakesTable t step (overlaid t.count plan.recount.counts)
-  pub commits : IsKnownOver contents spots → IsSound (nodes_at contents spots) t
-      → Commits (nodes_at contents spots) t step (overlaid t.count plan.recount.counts)
+  pub recount : IsRecountOf contents spots t step plan.recount
   pub root : plan.root ≡ step.root
   pub root_is : IsNewRoot contents spots step.root (given t.next step step.root) plan.new_root
   pub fits : t.next + length step.made < 2 ^ 64

@@ -23,6 +23,10 @@ HasRoomFor count spots = count ≤ spare spots
 
 -- ---- nodes that are put
 
+-- the node that is held
+abbrev pub held : Rc Node Global → Node
+held node = node.value
+
 -- the change that puts a node
 abbrev pub change_of : Put → Change
 change_of put = record { id = put.id; node = put.node.value }

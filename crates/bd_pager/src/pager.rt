@@ -21,6 +21,8 @@ ghost use Rattle.bd_pager.specs.Opened.{IsOpened, IsBadStart};
 ghost use Rattle.bd_pager.specs.Pagers.{table_of, nodes_of, spots_of, is_known, is_bad, IsPaged, IsReadOf};
 ghost use Rattle.bd_pager.specs.Places.{spots_in, AreCached};
 
+mod steps;
+
 use crate::changing::append_counted;
 use crate::naming::names_lower;
 use crate::parts::Parts;
