@@ -15,4 +15,5 @@ pub mod ReaderLemmas
 pub mod SlotLemmas
 pub mod StepLoops
 pub mod SteppedLemmas
+pub mod StepsLemmas
 pub mod TallyLemmas

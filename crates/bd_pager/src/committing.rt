@@ -109,12 +109,16 @@ pub fn carry_out(
         ≡ carried_spot usage.old.spare old plan (spots_in spots.old) id) }
     ensures cache { OnOk result (IsForgotten plan cache.old cache.new) }
     ensures spare { usage.new.spare ≡ usage.old.spare }
-    ensures tallied { (next : ℕ) → AllByRecursion (λ put. put.id < next) plan.puts.items
+    ensures tallied { OnOk result ((next : ℕ)
+        → AllByRecursion (λ put. put.id < next) plan.puts.items
         → ((id : ℕ) → 1 ≤ times_among plan.recount.gone.items id → id < next)
         → IsTallied next (spots_in spots.old) usage.old
-        → IsTallied next (spots_in spots.new) usage.new }
+        → IsTallied next (spots_in spots.new) usage.new) }
     ensures err { OnErr result (spots.new.entries ≡ spots.old.entries) }
     ensures err_cache { OnErr result (cache.new ≡ cache.old) }
+    ensures err_tallied { OnErr result ((next : ℕ)
+        → IsTallied next (spots_in spots.old) usage.old
+        → IsTallied next (spots_in spots.new) usage.new) }
 {
     list_all(usage, plan.puts.as_slice())?;
     spots.reserve(plan.puts.len())?;

@@ -7,12 +7,12 @@ use Rattle.bd_pager.proofs.CarryLemmas.{tallied_along}
 use Rattle.bd_pager.proofs.TallyLemmas.{more_listed}
 use Rattle.bd_pager.proofs.committing.carry_out.Goals as goal
 
-pub returns-in_err-list_all-clause-tallied : goal.returns-in_err-list_all-clause-tallied
-returns-in_err-list_all-clause-tallied c = λ next below gone was.
+pub returns-in_err-list_all-clause-err_tallied : goal.returns-in_err-list_all-clause-err_tallied
+returns-in_err-list_all-clause-err_tallied c = λ next was.
     more_listed next (spots_in c.args.spots.now) c.args.usage.now c.list_all.new.usage c.list_all.ensures.more was
 
-pub returns-in_err-reserve-clause-tallied : goal.returns-in_err-reserve-clause-tallied
-returns-in_err-reserve-clause-tallied c = λ next below gone was.
+pub returns-in_err-reserve-clause-err_tallied : goal.returns-in_err-reserve-clause-err_tallied
+returns-in_err-reserve-clause-err_tallied c = λ next was.
     tallied_along next (spots_in c.args.spots.now) (spots_in c.reserve.new.self) c.list_all.new.usage c.reserve.ensures.entries.2
     (more_listed next (spots_in c.args.spots.now) c.args.usage.now c.list_all.new.usage c.list_all.ensures.more was)
 
