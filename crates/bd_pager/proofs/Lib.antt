@@ -1,6 +1,8 @@
 pub mod AppendedLemmas
 pub mod ChangingLemmas
+pub mod CountingLemmas
 pub mod EntryLemmas
+pub mod FlagLemmas
 pub mod FreshLemmas
 pub mod KeptLemmas
 pub mod NamingLemmas

@@ -26,7 +26,7 @@ pub record AreUnused (spare free : List Bool) (spots : Spots) : Type 0 where
   pub apart : (id other slot : ℕ) → slot_in (spots id) ≡ Some slot
       → slot_in (spots other) ≡ Some slot → id ≡ other
   pub count : length free ≡ length spare
-  pub free : (slot : ℕ) → IsFree free slot ↔ IsUnused spare spots slot
+  pub free_is : (slot : ℕ) → IsFree free slot ↔ IsUnused spare spots slot
 
 -- ---- numbers
 

@@ -154,8 +154,8 @@ pub record IsReady (spare : List Bool) (spots : Spots) (root next : ℕ) (w : Wr
     pub entries : AreEntriesOf w.table.entries spots
     pub root_is : w.table.root ≡ root
     pub next_is : w.table.next_id ≡ next
-    pub spare : AreFreeSlots (length spare) (w.at ++ slots_of w.table.entries) w.spare
-    pub free : w.free ≡ w.spare
+    pub spare_is : AreFreeSlots (length spare) (w.at ++ slots_of w.table.entries) w.spare
+    pub free_is : w.free ≡ w.spare
 
 -- what holds whatever the device has: each kept node is named; the root is in memory; the slots
 -- that the checkpoint holds differ, the others are spare, and nodes in those are as it has them; no

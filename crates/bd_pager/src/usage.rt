@@ -32,6 +32,12 @@ pub struct Tally {
     pub is_in_memory: bool,
 }
 
+/// What a node in memory counts for.
+pub const IN_MEMORY: Tally = Tally {
+    is_changed: true,
+    is_in_memory: true,
+};
+
 impl Usage {
     /// Lists an id, before the node is changed in memory.
     pub fn list(&mut self, id: u64) -> Result<(), AllocError>
@@ -53,7 +59,7 @@ impl Usage {
 
 /// What the node of a spot counts for, where these slots are spare.
 pub fn tally_of(spare: &SlotSet, spot: Option<&Spot>) -> Tally
-    requires { IfSome (option_copied spot.entry) (λ s. IsPlaceIn spare.now s.place) }
+    requires { IfSome (option_copied spot) (λ s. IsPlaceIn spare.now s.place) }
     ensures { result ≡ tally_of spare.now (option_copied spot.entry) }
 {
     match spot {
