@@ -18,14 +18,6 @@ use Rattle.bd_pager.specs.Stepping.{bare, copied, with_copy, moved_copy, with_co
 use Rattle.bd_pager.proofs.CopyLemmas.{bare_changed, copied_changed, bare_in, copied_in, same_moved, each_moved}
 use Rattle.bd_pager.proofs.TallyLemmas.{same_unused, same_tallied}
 
--- ---- the same spots
-
-pub unused_along : (spare free : List Bool) (spots new : Spots) → ((id : ℕ) → new id ≡ spots id) → AreUnused spare free spots → AreUnused spare free new
-unused_along spare free spots new same was = let is : spots ≡ new = λ i id. sym (same id) i in subst (λ (s : Spots). AreUnused spare free s) is was
-
-pub tallied_along : (next : ℕ) (spots new : Spots) (u : Usage) → ((id : ℕ) → new id ≡ spots id) → IsTallied next spots u → IsTallied next new u
-tallied_along next spots new u same was = let is : spots ≡ new = λ i id. sym (same id) i in subst (λ (s : Spots). IsTallied next s u) is was
-
 -- ---- copies that come and go
 
 bare_slot : (p : Place) → slot_at (bare p) ≡ slot_at p

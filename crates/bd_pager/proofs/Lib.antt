@@ -3,7 +3,9 @@ pub mod CarryLemmas
 pub mod ChangingLemmas
 pub mod CommittedLemmas
 pub mod CopyLemmas
+pub mod CountingLemmas
 pub mod EntryLemmas
+pub mod FlagLemmas
 pub mod FreshLemmas
 pub mod KeptLemmas
 pub mod NamingLemmas

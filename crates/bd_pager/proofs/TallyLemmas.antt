@@ -9,7 +9,6 @@ use Rattle.bd_slots.specs.Slots.{IsFree, IsHeld, free_count}
 use Rattle.std.proofs.lemmas.List.Sums.{sum_by-set}
 use Rattle.bd_node.specs.declared.node.Node.{Node}
 use Rattle.bd_node.specs.Tables.{sum_below}
-use Rattle.bd_node.proofs.Sums.{sum_same, sum_exchanged}
 use Rattle.bd_pager.specs.declared.place.Place.{Place}
 use Rattle.bd_pager.specs.declared.place.Place.TheVariants.{Memory, Slot}
 use Rattle.bd_pager.specs.declared.place.Spot.{Spot}
@@ -21,38 +20,16 @@ use Rattle.bd_pager.specs.Pagers.{is_changed, IsPlaceIn}
 use Rattle.bd_pager.specs.Places.{Spots, slot_at, slot_in}
 use Rattle.bd_pager.specs.Stepping.{own_slot_in, put_spot, put_usage, dropped_usage, with_given}
 use Rattle.bd_pager.proofs.ChangingLemmas.{own_in}
+use Rattle.bd_pager.proofs.CountingLemmas.{count_moved, count_again, count_kept, own_within, spare_own, unused_moved, place_there}
 
 -- ---- numbers
 
+-- 1 where it is so
 abbrev flag : Bool → ℕ
 flag b = cond b 1 0
 
-flag_within : (b : Bool) → flag b ≤ 1
-flag_within true = omega arith
-flag_within false = omega arith
-
--- no more pass than there are
-count_within : (test : Option Spot → Bool) (n : ℕ) (spots : Spots) → spot_count test n spots ≤ n
-unfolding sum_below
-count_within test zero spots = omega arith
-count_within test (suc n) spots = omega (arith, count_within test n spots, flag_within (test (spots n)))
-
-moved_by : (was now : Bool) (count x y n : ℕ) → count ≡ x → y + flag was ≡ x + flag now → y ≤ n → n < 2 ^ 64 → moved count was now ≡ y
-moved_by false true count x y n is e within fits = omega (arith, is, e, within, fits)
-moved_by true false count x y n is e within fits = omega (arith, is, e)
-moved_by false false count x y n is e within fits = omega (arith, is, e)
-moved_by true true count x y n is e within fits = omega (arith, is, e)
-
 -- one spot counts otherwise, and the others as they did
 module _ (next id : ℕ) (spots new : Spots) (low : id < next) (others : (i : ℕ) → (i ≡ id → ⊥) → new i ≡ spots i) where
-  counts_moved : (test : Option Spot → Bool) → spot_count test next new + flag (test (spots id)) ≡ spot_count test next spots + flag (test (new id))
-  counts_moved test =
-      sum_exchanged next (λ i. flag (test (new i))) (λ i. flag (test (spots i))) id low (λ j other. ap (λ (o : Option Spot). flag (test o)) (others j other))
-
-  number_moved : (test : Option Spot → Bool) (count : ℕ) → next < 2 ^ 64 → count ≡ spot_count test next spots → moved count (test (spots id)) (test (new id)) ≡ spot_count test next new
-  number_moved test count fits is =
-      moved_by (test (spots id)) (test (new id)) count (spot_count test next spots) (spot_count test next new) next is (counts_moved test) (count_within test next new) fits
-
   pub retallied : (u : Usage) (free : List Bool) → AreUnused u.spare free new → free_count free + flag (has_own u.spare (new id)) ≡ free_count u.free + flag (has_own u.spare (spots id))
       → (IsTrue (is_in_memory (new id)) → IsListed u.listed id) → IsTallied next spots u
       → IsTallied next new (recounted (tally_of u.spare (spots id)) (tally_of u.spare (new id)) (record u { free = free }))
@@ -60,9 +37,9 @@ module _ (next id : ℕ) (spots new : Spots) (low : id < next) (others : (i : �
     unused = unused;
     counted = record {
       fits = was.counted.fits;
-      changed = number_moved (is_changed u.spare) u.changed was.counted.fits was.counted.changed;
-      in_memory = number_moved is_in_memory u.in_memory was.counted.fits was.counted.in_memory;
-      free = omega (arith, was.counted.free, frees, counts_moved (has_own u.spare));
+      changed = count_again (is_changed u.spare) next id u.changed spots new was.counted.fits low others was.counted.changed;
+      in_memory = count_again is_in_memory next id u.in_memory spots new was.counted.fits low others was.counted.in_memory;
+      free = omega (arith, was.counted.free, frees, count_moved (has_own u.spare) next id spots new low others);
     };
     listed = λ i on. elim (cases_eq i id) [
       | inl same ↦ subst (λ (k : ℕ). IsListed u.listed k) (sym same) (listed (subst (λ (k : ℕ). IsTrue (is_in_memory (new k))) same on))
@@ -79,13 +56,9 @@ slot_if_back (Some true) there slot is = (refl, same_Some there slot is)
 
 module _ (spare : List Bool) where
   -- a slot of its own is its slot
-  own_at_back : (p : Place) (slot : ℕ) → own_slot spare p ≡ Some slot → slot_at p ≡ Some slot
-  own_at_back (Memory node own) slot is = is
-  own_at_back (Slot there copy) slot is = ap Some (slot_if_back (slice_get spare there) there slot is).1
-
   own_back : (o : Option Spot) (slot : ℕ) → own_slot_in spare o ≡ Some slot → slot_in o ≡ Some slot
   own_back None slot is = is
-  own_back (Some s) slot is = own_at_back s.place slot is
+  own_back (Some s) slot is = own_within spare s.place slot is
 
   -- and a spare one
   own_at_free : (p : Place) (slot : ℕ) → IsPlaceIn spare p → own_slot spare p ≡ Some slot → IsFree spare slot
@@ -100,15 +73,9 @@ module _ (spare : List Bool) where
   own_free (Some s) slot within is = own_at_free s.place slot within is
 
   -- a slot that is spare is its own
-  own_at_forth : (p : Place) (slot : ℕ) → IsFree spare slot → slot_at p ≡ Some slot → own_slot spare p ≡ Some slot
-  own_at_forth (Memory node own) slot free is = is
-  own_at_forth (Slot there copy) slot free is =
-      let same : there ≡ slot = same_Some there slot is in
-      ap (λ (k : ℕ). slot_if (slice_get spare k) k) same ∙ ap (λ (o : Option Bool). slot_if o slot) free
-
   own_forth : (o : Option Spot) (slot : ℕ) → IsFree spare slot → slot_in o ≡ Some slot → own_slot_in spare o ≡ Some slot
   own_forth None slot free is = is
-  own_forth (Some s) slot free is = own_at_forth s.place slot free is
+  own_forth (Some s) slot free is = spare_own spare s.place slot free is
 
   own_put : (node : Rc Node Global) (o : Option Spot) → has_own spare (Some (put_spot spare node o)) ≡ has_own spare o
   own_put node None = refl
@@ -126,47 +93,19 @@ module _ (spare : List Bool) where
   has_own_is None = refl
   has_own_is (Some s) = refl
 
-spot_within : (spare : List Bool) (spots : Spots) (id : ℕ) (o : Option Spot) → spots id ≡ o → ((i : ℕ) (s : Spot) → spots i ≡ Some s → IsPlaceIn spare s.place) → IfSome o (λ s. IsPlaceIn spare s.place)
-spot_within spare spots id None is slots = tt
-spot_within spare spots id (Some s) is slots = slots id s is
-
 pub place_within : (spare free : List Bool) (spots : Spots) → AreUnused spare free spots → (id : ℕ) → IfSome (spots id) (λ s. IsPlaceIn spare s.place)
-place_within spare free spots unused id = spot_within spare spots id (spots id) refl unused.slots
+place_within spare free spots unused id = place_there spare spots id (spots id) refl unused.slots
 
 -- ---- a node is put
 
 module _ (spare free : List Bool) (id : ℕ) (node : Rc Node Global) (spots new : Spots) (others : (i : ℕ) → (i ≡ id → ⊥) → new i ≡ spots i) (here : new id ≡ Some (put_spot spare node (spots id))) (was : AreUnused spare free spots) where
-  put_back : (i slot : ℕ) → slot_in (new i) ≡ Some slot → slot_in (spots i) ≡ Some slot
-  put_back i slot is = elim (cases_eq i id) [
-    | inl same ↦
-        subst (λ (k : ℕ). slot_in (spots k) ≡ Some slot) (sym same)
-        (own_back spare (spots id) slot (sym (put_slot spare node (spots id)) ∙ sym (ap slot_in here) ∙ ap (λ (k : ℕ). slot_in (new k)) (sym same) ∙ is))
-    | inr other ↦ sym (ap slot_in (others i other)) ∙ is
-  ]
-
-  put_forth : (i slot : ℕ) → IsFree spare slot → slot_in (spots i) ≡ Some slot → slot_in (new i) ≡ Some slot
-  put_forth i slot spare_too is = elim (cases_eq i id) [
-    | inl same ↦
-        subst (λ (k : ℕ). slot_in (new k) ≡ Some slot) (sym same)
-        (ap slot_in here ∙ put_slot spare node (spots id) ∙ own_forth spare (spots id) slot spare_too (ap (λ (k : ℕ). slot_in (spots k)) (sym same) ∙ is))
-    | inr other ↦ ap slot_in (others i other) ∙ is
-  ]
-
   pub put_unused : AreUnused spare free new
-  put_unused = record {
-    slots = λ i s there. elim (cases_eq i id) [
-      | inl same ↦
-          subst (λ (x : Spot). IsPlaceIn spare x.place) (same_Some (put_spot spare node (spots id)) s (sym here ∙ ap new (sym same) ∙ there))
-          (put_in spare node (spots id) (place_within spare free spots was id))
-      | inr other ↦ was.slots i s (sym (others i other) ∙ there)
-    ];
-    apart = λ i other slot is also. was.apart i other slot (put_back i slot is) (put_back other slot also);
-    count = was.count;
-    free = λ slot. (
-      λ is_free. let unused : IsUnused spare spots slot = (was.free slot).0 is_free in (unused.0, λ i is. unused.1 i (put_back i slot is)),
-      λ unused. (was.free slot).1 (unused.0, λ i is. unused.1 i (put_forth i slot unused.0 is)),
-    );
-  }
+  put_unused =
+      unused_moved spare free id spots new others
+      (λ s there. subst (λ (x : Spot). IsPlaceIn spare x.place) (same_Some (put_spot spare node (spots id)) s (sym here ∙ there)) (put_in spare node (spots id) (place_within spare free spots was id)))
+      (λ slot is. own_back spare (spots id) slot (sym (put_slot spare node (spots id)) ∙ sym (ap slot_in here) ∙ is))
+      (λ slot spare_too is. ap slot_in here ∙ put_slot spare node (spots id) ∙ own_forth spare (spots id) slot spare_too is)
+      was
 
 -- and what is used then
 pub put_tallied : (u : Usage) (next id : ℕ) (node : Rc Node Global) (spots new : Spots) → ((i : ℕ) → (i ≡ id → ⊥) → new i ≡ spots i) → new id ≡ Some (put_spot u.spare node (spots id)) → id < next → IsListed u.listed id
@@ -203,9 +142,9 @@ module _ (spare free : List Bool) (id : ℕ) (spots new : Spots) (others : (i : 
     slots = gone_slots;
     apart = λ i other slot is also. was.apart i other slot (gone_back i slot is).1 (gone_back other slot also).1;
     count = was.count;
-    free = λ slot. (
-      λ is_free. let unused : IsUnused spare spots slot = (was.free slot).0 is_free in (unused.0, λ i is. unused.1 i (gone_back i slot is).1),
-      λ unused. (was.free slot).1 (unused.0, λ i is.
+    free_is = λ slot. (
+      λ is_free. let unused : IsUnused spare spots slot = (was.free_is slot).0 is_free in (unused.0, λ i is. unused.1 i (gone_back i slot is).1),
+      λ unused. (was.free_is slot).1 (unused.0, λ i is.
       unused.1 i (gone_forth i slot (λ own. none-some slot (sym none ∙ own_forth spare (spots id) slot unused.0 own)) is)),
     );
   }
@@ -218,7 +157,7 @@ module _ (spare free : List Bool) (id : ℕ) (spots new : Spots) (others : (i : 
     own_within = omega (arith, slice_get_within spare slot true own_spare, was.count)
 
     own_used : IsFree free slot → ⊥
-    own_used is_free = ((was.free slot).0 is_free).1 id (own_back spare (spots id) slot own)
+    own_used is_free = ((was.free_is slot).0 is_free).1 id (own_back spare (spots id) slot own)
 
     own_off : get_or free slot false ≡ false
     own_off = elim (get_or free slot false) as (λ b. get_or free slot false ≡ b → get_or free slot false ≡ false) [
@@ -246,7 +185,7 @@ module _ (spare free : List Bool) (id : ℕ) (spots new : Spots) (others : (i : 
       slots = gone_slots;
       apart = λ i other k is also. was.apart i other k (gone_back i k is).1 (gone_back other k also).1;
       count = length-set free slot true ∙ was.count;
-      free = λ k. elim (cases_eq k slot) [
+      free_is = λ k. elim (cases_eq k slot) [
         | inl same ↦ subst (λ (x : ℕ). IsFree (slice_set free slot true) x ↔ IsUnused spare new x) (sym same) (
           λ is_free. (own_spare, λ i is. (gone_back i slot is).0 (was.apart i id slot (gone_back i slot is).1 (own_back spare (spots id) slot own))),
           λ unused. given_here,
@@ -254,11 +193,11 @@ module _ (spare free : List Bool) (id : ℕ) (spots new : Spots) (others : (i : 
         | inr other ↦ (
           λ is_free.
           let low : k < length free = omega (arith, slice_get_within (set free slot true) k true is_free, length-set free slot true) in
-          let unused : IsUnused spare spots k = (was.free k).0 (sym (given_other k other low) ∙ is_free) in
+          let unused : IsUnused spare spots k = (was.free_is k).0 (sym (given_other k other low) ∙ is_free) in
           (unused.0, λ i is. unused.1 i (gone_back i k is).1),
           λ unused.
           let low : k < length free = omega (arith, slice_get_within spare k true unused.0, was.count) in
-          given_other k other low ∙ (was.free k).1 (unused.0, λ i is.
+          given_other k other low ∙ (was.free_is k).1 (unused.0, λ i is.
           unused.1 i (gone_forth i k (λ k_own. other (same_Some k slot (sym k_own ∙ own_back spare (spots id) slot own))) is)),
         )
       ];
@@ -301,17 +240,14 @@ dropped_tallied u next id spots new others here low was =
 
 module _ (next : ℕ) (spots new : Spots) (u : Usage) (slots : (id : ℕ) → slot_in (new id) ≡ slot_in (spots id)) (changed : (id : ℕ) → is_changed u.spare (new id) ≡ is_changed u.spare (spots id))
     (in_memory : (id : ℕ) → is_in_memory (new id) ≡ is_in_memory (spots id)) (owns : (id : ℕ) → has_own u.spare (new id) ≡ has_own u.spare (spots id)) (within : (id : ℕ) (s : Spot) → new id ≡ Some s → IsPlaceIn u.spare s.place) where
-  same_count : (test : Option Spot → Bool) → ((id : ℕ) → test (new id) ≡ test (spots id)) → spot_count test next new ≡ spot_count test next spots
-  same_count test same = sum_same next (λ i. flag (test (new i))) (λ i. flag (test (spots i))) (λ i low. ap flag (same i))
-
   pub same_unused : AreUnused u.spare u.free spots → AreUnused u.spare u.free new
   same_unused was = record {
     slots = within;
     apart = λ i other slot is also. was.apart i other slot (sym (slots i) ∙ is) (sym (slots other) ∙ also);
     count = was.count;
-    free = λ slot. (
-      λ is_free. let unused : IsUnused u.spare spots slot = (was.free slot).0 is_free in (unused.0, λ i is. unused.1 i (sym (slots i) ∙ is)),
-      λ unused. (was.free slot).1 (unused.0, λ i is. unused.1 i (slots i ∙ is)),
+    free_is = λ slot. (
+      λ is_free. let unused : IsUnused u.spare spots slot = (was.free_is slot).0 is_free in (unused.0, λ i is. unused.1 i (sym (slots i) ∙ is)),
+      λ unused. (was.free_is slot).1 (unused.0, λ i is. unused.1 i (slots i ∙ is)),
     );
   }
 
@@ -320,9 +256,9 @@ module _ (next : ℕ) (spots new : Spots) (u : Usage) (slots : (id : ℕ) → sl
     unused = same_unused was.unused;
     counted = record {
       fits = was.counted.fits;
-      changed = was.counted.changed ∙ sym (same_count (is_changed u.spare) changed);
-      in_memory = was.counted.in_memory ∙ sym (same_count is_in_memory in_memory);
-      free = ap (λ (n : ℕ). free_count u.free + n) (same_count (has_own u.spare) owns) ∙ was.counted.free;
+      changed = was.counted.changed ∙ sym (count_kept (is_changed u.spare) next spots new changed);
+      in_memory = was.counted.in_memory ∙ sym (count_kept is_in_memory next spots new in_memory);
+      free = ap (λ (n : ℕ). free_count u.free + n) (count_kept (has_own u.spare) next spots new owns) ∙ was.counted.free;
     };
     listed = λ i on. was.listed i (subst IsTrue (in_memory i) on);
   }
@@ -348,9 +284,3 @@ more_tallied next more spots u fits none was = record {
   };
   listed = was.listed;
 }
-
--- more of them may be listed
-pub more_listed : (next : ℕ) (spots : Spots) (old new : Usage) → IsListedMore old new → IsTallied next spots old → IsTallied next spots new
-more_listed next spots old new more was =
-    subst (λ (u : Usage). IsTallied next spots u) (sym more.same)
-    (record { unused = was.unused; counted = record { fits = was.counted.fits; changed = was.counted.changed; in_memory = was.counted.in_memory; free = was.counted.free }; listed = λ i on. more.kept i (was.listed i on) })

@@ -21,12 +21,12 @@ IsUnused spare spots slot = IsFree spare slot × ((id : ℕ) → slot_in (spots 
 
 -- the slots of kept nodes are slots that there are, own ones are spare, and no two nodes have one;
 -- the free ones are those spare ones that none has
-pub record AreUnused (spare flags : List Bool) (spots : Spots) : Type 0 where
+pub record AreUnused (spare free : List Bool) (spots : Spots) : Type 0 where
   pub slots : (id : ℕ) (s : Spot) → spots id ≡ Some s → IsPlaceIn spare s.place
   pub apart : (id other slot : ℕ) → slot_in (spots id) ≡ Some slot
       → slot_in (spots other) ≡ Some slot → id ≡ other
-  pub count : length flags ≡ length spare
-  pub free : (slot : ℕ) → IsFree flags slot ↔ IsUnused spare spots slot
+  pub count : length free ≡ length spare
+  pub free_is : (slot : ℕ) → IsFree free slot ↔ IsUnused spare spots slot
 
 -- ---- numbers
 

@@ -147,15 +147,15 @@ pub record AreEntriesOf (entries : List TableEntry) (spots : Spots) : Type 0 whe
   pub all : (id : ℕ) (s : Spot) → spots id ≡ Some s → Any (λ e. e.id ≡ id) entries
 
 -- a table of these nodes, with slots that the last checkpoint doesn't hold
-pub record IsReady (flags : List Bool) (spots : Spots) (root next : ℕ) (w : Written) : Type 0
+pub record IsReady (spare : List Bool) (spots : Spots) (root next : ℕ) (w : Written) : Type 0
   where
-    pub table : IsTableAt (length flags) w.at w.table
-    pub at : All (IsFree flags) w.at
+    pub table : IsTableAt (length spare) w.at w.table
+    pub at : All (IsFree spare) w.at
     pub entries : AreEntriesOf w.table.entries spots
     pub root_is : w.table.root ≡ root
     pub next_is : w.table.next_id ≡ next
-    pub spare : AreFreeSlots (length flags) (w.at ++ slots_of w.table.entries) w.spare
-    pub free : w.free ≡ w.spare
+    pub spare_is : AreFreeSlots (length spare) (w.at ++ slots_of w.table.entries) w.spare
+    pub free_is : w.free ≡ w.spare
 
 -- what holds whatever the device has: each kept node is named; the root is in memory; the slots
 -- that the checkpoint holds differ, the others are spare, and nodes in those are as it has them; no

@@ -12,6 +12,7 @@ use Rattle.bd_pager.specs.declared.place.Place.{Place}
 use Rattle.bd_pager.specs.declared.place.Place.TheVariants.{Memory, Slot}
 use Rattle.bd_pager.specs.declared.place.Spot.{Spot}
 use Rattle.bd_pager.specs.declared.stepping.Put.{Put}
+use Rattle.bd_pager.specs.declared.usage.TheConstants.{IN_MEMORY}
 use Rattle.bd_pager.specs.declared.usage.Usage.{Usage}
 use Rattle.bd_pager.specs.Counting.{tally_of, recounted}
 use Rattle.bd_pager.specs.Changing.{own_slot}
@@ -69,7 +70,7 @@ with_given (Some slot) free = slice_set free slot true
 -- what is used once a node is put where this was known of the one before it
 abbrev pub put_usage : Option Spot → Usage → Usage
 put_usage old u =
-    recounted (tally_of u.spare old) (record { is_changed = true; is_in_memory = true }) u
+    recounted (tally_of u.spare old) IN_MEMORY u
 
 -- and once a node goes of which this was known
 abbrev pub dropped_usage : Option Spot → Usage → Usage

@@ -9,7 +9,7 @@ ghost use Rattle.bd_pager.specs.Counting.{AreUnused, IsTallied};
 ghost use Rattle.bd_pager.specs.Changing.{slot_if, IsChangedPlace, IsChangedSpot, IsChangedAt};
 
 use crate::place::{Place, Spot};
-use crate::usage::{Usage, tally_of};
+use crate::usage::{IN_MEMORY, Usage, tally_of};
 use bd_node::{Messages, Node};
 use bd_slots::SlotSet;
 use std::alloc::{AllocError, Global};
@@ -39,8 +39,7 @@ pub fn append_counted(
     usage.list(id)?;
     let was = tally_of(&usage.spare, spots.get(&id));
     append_at(alloc, spots, id, list, &usage.spare)?;
-    let now = tally_of(&usage.spare, spots.get(&id));
-    usage.recount(was, now);
+    usage.recount(was, IN_MEMORY);
     Ok(())
 }
 

@@ -14,7 +14,7 @@ ghost use Rattle.bd_pager.specs.Stepping.{HasRoomFor, put_at, put_spot, own_slot
 
 use crate::changing::slot_if_spare;
 use crate::place::{Place, Spot, refs_of};
-use crate::usage::{Tally, Usage, tally_of};
+use crate::usage::{IN_MEMORY, Tally, Usage, tally_of};
 use bd_cache::NodeCache;
 use bd_node::Node;
 use bd_slots::SlotSet;
@@ -28,12 +28,6 @@ pub struct Put {
     pub id: u64,
     pub node: Rc<Node>,
 }
-
-// What a node that is put counts for.
-const CHANGED: Tally = Tally {
-    is_changed: true,
-    is_in_memory: true,
-};
 
 // What a node that is gone counts for.
 const GONE: Tally = Tally {
@@ -91,7 +85,7 @@ fn put_one(spots: &mut HashMap<u64, Spot>, usage: &mut Usage, put: Put)
         Ok(_) => {}
         Err(_) => unreachable!(),
     }
-    usage.recount(was, CHANGED);
+    usage.recount(was, IN_MEMORY);
 }
 
 // What is known of a node that is put where this was known of the one before it.

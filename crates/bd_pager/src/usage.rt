@@ -32,6 +32,12 @@ pub struct Tally {
     pub is_in_memory: bool,
 }
 
+/// What a node in memory counts for.
+pub const IN_MEMORY: Tally = Tally {
+    is_changed: true,
+    is_in_memory: true,
+};
+
 impl Usage {
     /// Lists an id, before the node is changed in memory.
     pub fn list(&mut self, id: u64) -> Result<(), AllocError>

@@ -1,20 +1,18 @@
-use Rattle.std.proofs.Common.{List, subst}
+use Rattle.std.proofs.Common.{List, refl, subst}
 use Rattle.std.specs.List.{AllByRecursion}
 use Rattle.bd_pager.specs.declared.stepping.Put.{Put}
 use Rattle.bd_pager.specs.Counting.{IsListed}
 use Rattle.bd_pager.specs.Places.{spots_in}
-use Rattle.bd_pager.proofs.CarryLemmas.{tallied_along}
-use Rattle.bd_pager.proofs.TallyLemmas.{more_listed}
+use Rattle.bd_pager.proofs.CountingLemmas.{listed_tallied}
 use Rattle.bd_pager.proofs.committing.carry_out.Goals as goal
 
 pub returns-in_err-list_all-clause-err_tallied : goal.returns-in_err-list_all-clause-err_tallied
 returns-in_err-list_all-clause-err_tallied c = λ next was.
-    more_listed next (spots_in c.args.spots.now) c.args.usage.now c.list_all.new.usage c.list_all.ensures.more was
+    listed_tallied c.args.usage.now c.list_all.new.usage next (spots_in c.args.spots.now) (spots_in c.args.spots.now) c.list_all.ensures.more (λ id. refl) was
 
 pub returns-in_err-reserve-clause-err_tallied : goal.returns-in_err-reserve-clause-err_tallied
 returns-in_err-reserve-clause-err_tallied c = λ next was.
-    tallied_along next (spots_in c.args.spots.now) (spots_in c.reserve.new.self) c.list_all.new.usage c.reserve.ensures.entries.2
-    (more_listed next (spots_in c.args.spots.now) c.args.usage.now c.list_all.new.usage c.list_all.ensures.more was)
+    listed_tallied c.args.usage.now c.list_all.new.usage next (spots_in c.args.spots.now) (spots_in c.reserve.new.self) c.list_all.ensures.more c.reserve.ensures.entries.2 was
 
 pub carry-requires-clause-listed : goal.carry-requires-clause-listed
 carry-requires-clause-listed c =
@@ -23,5 +21,4 @@ carry-requires-clause-listed c =
 pub returns-clause-tallied : goal.returns-clause-tallied
 returns-clause-tallied c = λ next below gone was.
     c.carry.ensures.tallied next below gone
-    (tallied_along next (spots_in c.args.spots.now) (spots_in c.reserve.new.self) c.list_all.new.usage c.reserve.ensures.entries.2
-    (more_listed next (spots_in c.args.spots.now) c.args.usage.now c.list_all.new.usage c.list_all.ensures.more was))
+    (listed_tallied c.args.usage.now c.list_all.new.usage next (spots_in c.args.spots.now) (spots_in c.reserve.new.self) c.list_all.ensures.more c.reserve.ensures.entries.2 was)
