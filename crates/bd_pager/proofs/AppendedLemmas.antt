@@ -54,7 +54,7 @@ waits_within (Leaf entries) shape = omega arith
 waits_within (Inner level edges buffer) shape = shape.size
 
 -- what was read isn't of a node that is in memory
-copied_unread : (contents : Option Image) (is_lent : Bool) (level : ℕ) (p : Place) (n m : Node) → copy_at p ≡ Some n → IsReadAt contents is_lent level p m → ⊥
+pub copied_unread : (contents : Option Image) (is_lent : Bool) (level : ℕ) (p : Place) (n m : Node) → copy_at p ≡ Some n → IsReadAt contents is_lent level p m → ⊥
 copied_unread contents is_lent level (Memory node slot) n m copy read = read
 copied_unread contents is_lent level (Slot slot None) n m copy read = none-some n copy
 copied_unread contents is_lent level (Slot slot (Some node)) n m copy read = read

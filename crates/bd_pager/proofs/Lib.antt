@@ -5,6 +5,7 @@ pub mod CommittedLemmas
 pub mod CopyLemmas
 pub mod CountingLemmas
 pub mod EntryLemmas
+pub mod ExtendedLemmas
 pub mod FlagLemmas
 pub mod FreshLemmas
 pub mod KeptLemmas

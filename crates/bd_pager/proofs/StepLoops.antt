@@ -38,7 +38,7 @@ pub record IsPutting (spare : List Bool) (all left : List Put) (old new : Spots)
 pub putting_begun : (spare : List Bool) (all left : List Put) (old : Spots) → left ≡ all → IsPutting spare all left old old
 putting_begun spare all left old is = record { done = []; all_is = append-nil left ∙ is; spots = λ id. refl }
 
-put_twice : (spare : List Bool) (node : Rc Node Global) (put : Option (Rc Node Global)) (old : Option Spot) → put_spot spare node (with_put spare put old) ≡ put_spot spare node old
+pub put_twice : (spare : List Bool) (node : Rc Node Global) (put : Option (Rc Node Global)) (old : Option Spot) → put_spot spare node (with_put spare put old) ≡ put_spot spare node old
 put_twice spare node None old = refl
 put_twice spare node (Some other) old = refl
 

@@ -36,7 +36,7 @@ some_mapped : (o : Option (Rc Node Global)) (n : Node) → option_map held o ≡
 some_mapped None n is = absurd (none-some n is)
 some_mapped (Some node) n is = (node, refl, same_Some node.value n is)
 
-none_mapped : (o : Option (Rc Node Global)) → option_map held o ≡ None → o ≡ None
+pub none_mapped : (o : Option (Rc Node Global)) → option_map held o ≡ None → o ≡ None
 none_mapped None is = refl
 none_mapped (Some node) is = absurd (none-some node.value (sym is))
 

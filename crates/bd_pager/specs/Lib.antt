@@ -3,6 +3,7 @@ pub mod Changing
 pub mod Committing
 pub mod Counting
 pub mod Entries
+pub mod Extending
 pub mod Fresh
 pub mod Keeping
 pub mod Lending

@@ -5,7 +5,8 @@ ghost use Rattle.bd_node.specs.declared.node.Node.{Node};
 ghost use Rattle.bd_node.specs.Nodes.{appended};
 ghost use Rattle.bd_pager.specs.Places.{spots_in, copy_at, copy_in};
 ghost use Rattle.bd_pager.specs.Pagers.{IsPlaceIn};
-ghost use Rattle.bd_pager.specs.Counting.{AreUnused, IsTallied};
+ghost use Rattle.bd_pager.specs.Counting.{AreUnused, IsListed, IsTallied};
+ghost use Rattle.bd_pager.specs.Stepping.{HasRoomFor};
 ghost use Rattle.bd_pager.specs.Changing.{slot_if, IsChangedPlace, IsChangedSpot, IsChangedAt};
 
 use crate::place::{Place, Spot};
@@ -33,6 +34,9 @@ pub fn append_counted(
         (spots_in spots.old) (spots_in spots.new)) }
     ensures err { OnErr result (spots.new.entries ≡ spots.old.entries) }
     ensures spare { usage.new.spare ≡ usage.old.spare }
+    ensures free { usage.new.free ≡ usage.old.free }
+    ensures listed { (i : ℕ) → IsListed usage.old.listed i → IsListed usage.new.listed i }
+    ensures room { (count : ℕ) → HasRoomFor count spots.old → HasRoomFor count spots.new }
     ensures tallied { (next : ℕ) → id < next → IsTallied next (spots_in spots.old) usage.old
         → IsTallied next (spots_in spots.new) usage.new }
 {
@@ -56,6 +60,7 @@ fn append_at(
     ensures ok { (n : Node) → copy_in (spots_in spots.old id) ≡ Some n → OnOk result
         (IsChangedAt spare.now id (appended n list) (spots_in spots.old) (spots_in spots.new)) }
     ensures err { OnErr result (spots.new.entries ≡ spots.old.entries) }
+    ensures room { (count : ℕ) → HasRoomFor count spots.old → HasRoomFor count spots.new }
 {
     match spots.get_mut(&id) {
         Some(spot) => append_to_spot(alloc, spot, list, spare),

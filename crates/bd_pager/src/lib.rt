@@ -7,6 +7,7 @@
 mod changing;
 mod committing;
 mod entries;
+mod extending;
 pub mod laws;
 mod naming;
 mod pager;
