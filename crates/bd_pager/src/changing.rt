@@ -119,8 +119,8 @@ fn appended(
     }
 }
 
-// The slot, where it is a spare one.
-fn slot_if_spare(spare: &SlotSet, slot: u32) -> Option<u32>
+/// The slot, where it is a spare one.
+pub fn slot_if_spare(spare: &SlotSet, slot: u32) -> Option<u32>
     requires { slot < length spare.now }
     ensures { result ≡ slot_if (slice_get spare.now slot) slot }
 {

@@ -7,6 +7,7 @@
 mod changing;
 mod entries;
 pub mod laws;
+mod moving;
 mod naming;
 mod pager;
 mod parts;
