@@ -1,5 +1,5 @@
 -- Which slots kept nodes have, and how many nodes are where.
-use Rattle.std.specs.Prelude.{◌≡◌, ◌≢◌, ◌↔◌, ◌+◌, ◌-◌, ◌^◌, ◌<◌, ℕ, Bool, true, false, if◌then◌else◌, is_some, List, length, min, Option, None, Some, IsTrue}
+use Rattle.std.specs.Prelude.{◌≡◌, ◌≢◌, ◌↔◌, ◌+◌, ◌-◌, ◌^◌, ◌<◌, ℕ, Bool, true, false, if◌then◌else◌, is_some, List, length, min, Option, None, Some, IsTrue, slice_set}
 use Rattle.std.specs.BTreeSet.{BTreeSet, contains}
 use Rattle.std.specs.Ordering.{nat_cmp}
 use Rattle.bd_slots.specs.Slots.{IsFree, free_count}
@@ -8,6 +8,7 @@ use Rattle.bd_pager.specs.declared.place.Place.{Place}
 use Rattle.bd_pager.specs.declared.place.Place.TheVariants.{Memory, Slot}
 use Rattle.bd_pager.specs.declared.place.Spot.{Spot}
 use Rattle.bd_pager.specs.declared.usage.Tally.{Tally}
+use Rattle.bd_pager.specs.declared.usage.TheConstants.{NOWHERE}
 use Rattle.bd_pager.specs.declared.usage.Usage.{Usage}
 use Rattle.bd_pager.specs.Changing.{own_slot}
 use Rattle.bd_pager.specs.Pagers.{is_changed, IsPlaceIn}
@@ -92,6 +93,17 @@ recounted was now u = record u {
   changed = moved u.changed was.is_changed now.is_changed;
   in_memory = moved u.in_memory was.is_in_memory now.is_in_memory;
 }
+
+-- the slots that are free once a node with such an own slot has gone
+abbrev pub given : List Bool → Option ℕ → List Bool
+given free None = free
+given free (Some slot) = slice_set free slot true
+
+-- what is used once a node has gone
+abbrev pub dropped : Usage → Option Spot → Usage
+dropped u None = u
+dropped u (Some s) = recounted (tally_of u.spare (Some s)) NOWHERE
+    (record u { free = given u.free (own_slot u.spare s.place) })
 
 -- at most more ids are listed
 pub record IsListedMore (old new : Usage) : Type 0 where

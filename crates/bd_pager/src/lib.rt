@@ -9,6 +9,7 @@ mod committing;
 mod entries;
 mod extending;
 pub mod laws;
+mod moving;
 mod naming;
 mod pager;
 mod parts;

@@ -38,6 +38,12 @@ pub const IN_MEMORY: Tally = Tally {
     is_in_memory: true,
 };
 
+/// What a node counts for that isn't kept.
+pub const NOWHERE: Tally = Tally {
+    is_changed: false,
+    is_in_memory: false,
+};
+
 impl Usage {
     /// Lists an id, before the node is changed in memory.
     pub fn list(&mut self, id: u64) -> Result<(), AllocError>
@@ -67,10 +73,7 @@ pub fn tally_of(spare: &SlotSet, spot: Option<&Spot>) -> Tally
             is_changed: is_changed_place(spare, &spot.place),
             is_in_memory: is_in_memory_at(&spot.place),
         },
-        None => Tally {
-            is_changed: false,
-            is_in_memory: false,
-        },
+        None => NOWHERE,
     }
 }
 

@@ -5,7 +5,7 @@ use Rattle.bd_pager.proofs.parts.opened_usage.Goals as goal
 
 pub returns-clause-unchanged : goal.returns-clause-unchanged
 returns-clause-unchanged c = record {
-  free = same_flags c.args.slots (c.args.at.now ++ slots_of c.args.entries.now) c.in_ok-spare_beside-2.spare_beside c.in_ok-spare_beside.spare_beside c.in_ok-spare_beside-2.ensures c.in_ok-spare_beside.ensures;
+  free = same_flags c.args.slots (c.args.at.now ++ slots_of c.args.entries.now) c.in_ok-spare_beside-2.field-0 c.in_ok-spare_beside.field-0 c.in_ok-spare_beside-2.ensures c.in_ok-spare_beside.ensures;
   changed = refl;
   in_memory = refl;
 }
