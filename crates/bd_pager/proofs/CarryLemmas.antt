@@ -10,8 +10,8 @@ use Rattle.bd_pager.specs.declared.place.Place.{Place}
 use Rattle.bd_pager.specs.declared.place.Place.TheVariants.{Memory, Slot}
 use Rattle.bd_pager.specs.declared.place.Spot.{Spot}
 use Rattle.bd_pager.specs.declared.usage.Usage.{Usage}
-use Rattle.bd_pager.specs.Changing.{own_slot}
-use Rattle.bd_pager.specs.Counting.{AreUnused, is_in_memory_at, is_in_memory, has_own, IsTallied}
+use Rattle.bd_pager.specs.Changing.{own_slot, IsChangedAt}
+use Rattle.bd_pager.specs.Counting.{AreUnused, is_in_memory_at, is_in_memory, has_own, IsListedMore, IsTallied}
 use Rattle.bd_pager.specs.Pagers.{is_changed, IsPlaceIn}
 use Rattle.bd_pager.specs.Places.{Spots, slot_at, slot_in}
 use Rattle.bd_pager.specs.Stepping.{bare, copied, with_copy, moved_copy, with_count}
@@ -113,3 +113,19 @@ module _ (spots new : Spots) (count : ℕ → Option ℕ) (is : (id : ℕ) → n
   pub counted_tallied : (next : ℕ) → IsTallied next spots u → IsTallied next new u
   counted_tallied next was =
       same_tallied next spots new u (counted_as slot_in (λ s n. refl)) (counted_as (is_changed u.spare) (λ s n. refl)) (counted_as is_in_memory (λ s n. refl)) (counted_as (has_own u.spare) (λ s n. refl)) (counted_in was.unused.slots) was
+
+-- ---- memory that was taken before
+
+-- the same spots, and at most more ids that are listed
+pub spare_as : (old new : Usage) → IsListedMore old new → new.spare ≡ old.spare
+spare_as old new more = ap (λ (u : Usage). u.spare) more.same
+
+pub unused_as : (old new : Usage) (spots also : Spots) → IsListedMore old new → ((id : ℕ) → also id ≡ spots id) → AreUnused old.spare old.free spots → AreUnused new.spare new.free also
+unused_as old new spots also more same was =
+    let is : spots ≡ also = λ i id. sym (same id) i in
+    subst (λ (u : Usage). AreUnused u.spare u.free also) (sym more.same) (subst (λ (s : Spots). AreUnused old.spare old.free s) is was)
+
+pub changed_from : (spare : List Bool) (id : ℕ) (n : Node) (spots also new : Spots) → ((i : ℕ) → also i ≡ spots i) → IsChangedAt spare id n also new → IsChangedAt spare id n spots new
+changed_from spare id n spots also new same h =
+    let is : also ≡ spots = λ j i. same i j in
+    subst (λ (s : Spots). IsChangedAt spare id n s new) is h

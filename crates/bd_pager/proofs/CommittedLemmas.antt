@@ -206,7 +206,7 @@ module _ {D : Type 0} (g : Ghosts D) (p : Paged D) (step : Step) (put : ℕ → 
 
     new_root_size : IsOfSize new_root.size (copy_in (spots_of q root))
     new_root_size = elim (ending root) [
-      | goes zero none ↦ absurd (let some : 1 ≤ counts root = subst (λ (r : ℕ). 1 ≤ counts r) (sym is.root_is) is.recount.root in omega (arith, some, zero))
+      | goes nought none ↦ absurd (let some : 1 ≤ counts root = subst (λ (r : ℕ). 1 ≤ counts r) (sym is.root_is) is.recount.root in omega (arith, some, nought))
       | comes node put_there gives one at ↦
           subst (λ (o : Option Spot). IsOfSize new_root.size (copy_in o)) (sym at)
           (subst (λ (o : Option Node). IsNewRoot contents (spots_of p) root o new_root) gives root_given).1
@@ -223,9 +223,9 @@ module _ {D : Type 0} (g : Ghosts D) (p : Paged D) (step : Step) (put : ℕ → 
 
     moved_read : (id : ℕ) (n : Node) → (IsSome new_root.copy → id ≢ root) → IsRead contents p.is_lent (spots_of p id) n → IsRead contents p.is_lent (before id) n
     moved_read id n apart read = elim (moved_at (spots_of p) p.root root new_root.copy id) [
-      | to_root same as ↦ subst (λ (o : Option Spot). IsRead contents p.is_lent o n) (sym (as ∙ no_copy new_root.copy (spots_of p id) (λ some. apart some same))) read
-      | from_root as ↦ subst (λ (o : Option Spot). IsRead contents p.is_lent o n) (sym as) (without_read contents p.is_lent (spots_of p id) n read)
-      | beside as ↦ subst (λ (o : Option Spot). IsRead contents p.is_lent o n) (sym as) read
+      | to_root same is_at ↦ subst (λ (o : Option Spot). IsRead contents p.is_lent o n) (sym (is_at ∙ no_copy new_root.copy (spots_of p id) (λ some. apart some same))) read
+      | from_root is_at ↦ subst (λ (o : Option Spot). IsRead contents p.is_lent o n) (sym is_at) (without_read contents p.is_lent (spots_of p id) n read)
+      | beside is_at ↦ subst (λ (o : Option Spot). IsRead contents p.is_lent o n) (sym is_at) read
     ]
 
     pub committed_paged : IsPaged contents q
@@ -268,7 +268,7 @@ module _ {D : Type 0} (g : Ghosts D) (p : Paged D) (step : Step) (put : ℕ → 
       touched = λ id on.
           let both = split_and (is_saved p.saved.entries id) (is_changed p.spare (spots_of q id)) on in
           elim (ending id) [
-            | goes zero none ↦ absurd (no_change (sym (ap (is_changed p.spare) none) ∙ both.1))
+            | goes nought none ↦ absurd (no_change (sym (ap (is_changed p.spare) none) ∙ both.1))
             | comes node put_there gives one at ↦
                 inr (subst (λ (o : Option Node). IsSome o) (sym (given_kept t step was.table is.ok id node.value (was.saved id both.0) gives).1) refl)
             | remains s there not_put none one at ↦
@@ -304,7 +304,7 @@ module _ {D : Type 0} (g : Ghosts D) (p : Paged D) (step : Step) (put : ℕ → 
             let both = split_and (is_saved p.saved.entries id) (is_changed p.spare (spots_of p id)) on in
             and_from (is_saved p.saved.entries id) (is_changed p.spare (spots_of q id)) both.0
             (elim (ending id) [
-              | goes zero none ↦ absurd (omega (arith, kept, new_count id, zero))
+              | goes nought none ↦ absurd (omega (arith, kept, new_count id, nought))
               | comes node put_there gives one at ↦ ap (is_changed p.spare) at
               | remains s there not_put none one at ↦ ap (is_changed p.spare) at ∙ sym (ap (is_changed p.spare) there) ∙ before_changed id ∙ both.1
             ]);
@@ -325,14 +325,14 @@ module _ {D : Type 0} (g : Ghosts D) (p : Paged D) (step : Step) (put : ℕ → 
       left = after (nodes_of g p) t step
 
       not_counted : (id : ℕ) → counts id ≡ 0 → counted counts left id ≡ None
-      not_counted id zero = cond-true (eqb (counts id) 0) None (left id) (eq-eqb (counts id) 0 zero)
+      not_counted id nought = cond-true (eqb (counts id) 0) None (left id) (eq-eqb (counts id) 0 nought)
 
       is_counted : (id : ℕ) → 1 ≤ counts id → counted counts left id ≡ left id
       is_counted id one = cond-false (eqb (counts id) 0) None (left id) (ne_eqb (counts id) 0 (λ e. omega (arith, one, e)))
 
       new_nodes : (id : ℕ) → nodes_of g q id ≡ counted counts left id
       new_nodes id = elim (ending id) [
-        | goes zero none ↦ ap (node_of (told contents)) none ∙ sym (not_counted id zero)
+        | goes nought none ↦ ap (node_of (told contents)) none ∙ sym (not_counted id nought)
         | comes node put_there gives one at ↦ ap (node_of (told contents)) at ∙ sym (is_counted id one ∙ after-some (nodes_of g p) t step id node.value gives)
         | remains s there not_put none one at ↦
             ap (node_of (told contents)) at ∙ sym (ap (node_of (told contents)) there) ∙ before_node id ∙ sym (is_counted id one ∙ after-none (nodes_of g p) t step id none)

@@ -1,6 +1,6 @@
 -- What is said of slots and nodes after one node was moved.
 use Rattle.std.proofs.Common.{◌≡◌, ◌≢◌, ◌↔◌, ℕ, zero, suc, ◌+◌, ◌-◌, ◌^◌, ◌<◌, ◌≤◌, Bool, true, false, cond, is_some, IsTrue, List, length, get_or, set, get_or-set_same, get_or-set_other, Option, None, Some, IfSome, refl, sym, ap, subst, ◌∙◌, arith, inl, inr}
-use Rattle.std.specs.Prelude.{slice_get, Contains}
+use Rattle.std.specs.Prelude.{slice_get, Contains, Result, Ok, Err, OnErr}
 use Rattle.std.specs.Option.{option_map}
 use Rattle.std.proofs.lemmas.Bool.{cases_eq, cases_lt, true≢false}
 use Rattle.std.proofs.lemmas.List.{length-set}
@@ -495,3 +495,8 @@ wider_tallied next more spots u fits past was = record {
   };
   listed = was.listed;
 }
+
+-- what holds anyway holds at a fault
+pub err_anyway : {T E P : Type 0} (r : Result T E) → P → OnErr r P
+err_anyway (Ok x) h = tt
+err_anyway (Err e) h = h

@@ -92,9 +92,9 @@ module _ (t : Table) (root : Node) (made : List Node) (list : List Message) (tab
         | inl kept ↦ inl (omega (arith, kept))
         | inr new ↦ step_names_there t step ok id (omega (arith, some, new, are id, step_names_times step id, given_all id))
       ];
-      goes = λ id there zero. elim there [
-        | inl kept ↦ absurd (omega (arith, kept, zero, are id))
-        | inr new ↦ absurd (omega (arith, zero, are id, made_used id new.0 new.1))
+      goes = λ id there nought. elim there [
+        | inl kept ↦ absurd (omega (arith, kept, nought, are id))
+        | inr new ↦ absurd (omega (arith, nought, are id, made_used id new.0 new.1))
       ];
       only = λ id one. absurd (let none : 1 ≤ times_among [] id = one in omega (arith, none));
     }

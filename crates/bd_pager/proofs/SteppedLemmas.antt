@@ -44,7 +44,7 @@ spot_there : (o : Option Spot) → 1 ≤ refs_in o → (s : Spot) × (o ≡ Some
 spot_there None kept = absurd (omega (arith, kept))
 spot_there (Some s) kept = (s, refl)
 
-slice_get_some : {X : Type 0} (xs : List X) (k : ℕ) → k < length xs → (x : X) × (slice_get xs k ≡ Some x)
+pub slice_get_some : {X : Type 0} (xs : List X) (k : ℕ) → k < length xs → (x : X) × (slice_get xs k ≡ Some x)
 slice_get_some [] k low = absurd (omega (arith, low))
 slice_get_some (x ∷ xs) zero low = (x, refl)
 slice_get_some (x ∷ xs) (suc k) low = slice_get_some xs k (omega (arith, low))
@@ -119,9 +119,9 @@ module _ (spare : List Bool) (t : Table) (step : Step) (spots new : Spots) (put 
 
   -- a count of 0
   uncounted : (id : ℕ) → counts id ≡ 0 → new id ≡ None
-  uncounted id zero = elim (cases_lt 0 (times_among gone id)) [
+  uncounted id nought = elim (cases_lt 0 (times_among gone id)) [
     | inl one ↦ is_gone id (omega (arith, one))
-    | inr none ↦ is_left id (omega (arith, none)) ∙ not_there id (λ there. omega (arith, none, h.recount.goes id there zero))
+    | inr none ↦ is_left id (omega (arith, none)) ∙ not_there id (λ there. omega (arith, none, h.recount.goes id there nought))
   ]
 
   left_of : (id : ℕ) → 1 ≤ counts id → times_among gone id ≡ 0
@@ -140,7 +140,7 @@ module _ (spare : List Bool) (t : Table) (step : Step) (spots new : Spots) (put 
 
   pub outcome : (id : ℕ) → Outcome spare t step spots new put counts id
   outcome id = elim (cases_lt 0 (counts id)) [
-    | inr zero ↦ goes (omega (arith, zero)) (uncounted id (omega (arith, zero)))
+    | inr nought ↦ goes (omega (arith, nought)) (uncounted id (omega (arith, nought)))
     | inl some ↦
         let one : 1 ≤ counts id = omega (arith, some) in
         let left : new id ≡ with_count (count id) (with_put spare (put id) (spots id)) = is_left id (left_of id one) in
@@ -164,21 +164,21 @@ module _ (spare : List Bool) (t : Table) (step : Step) (spots new : Spots) (put 
 
   pub new_refs : (id : ℕ) → refs_in (new id) ≡ counts id
   new_refs id = elim (outcome id) [
-    | goes zero none ↦ ap refs_in none ∙ sym zero
+    | goes nought none ↦ ap refs_in none ∙ sym nought
     | comes node is gives one there ↦ ap refs_in there
     | remains s was is none one there ↦ ap refs_in there
   ]
 
   pub new_used : (id : ℕ) (s : Spot) → new id ≡ Some s → 1 ≤ s.refs
   new_used id s there = elim (outcome id) [
-    | goes zero none ↦ absurd (none-some s (sym none ∙ there))
+    | goes nought none ↦ absurd (none-some s (sym none ∙ there))
     | comes node is gives one at ↦ omega (arith, one, ap refs_in (sym at ∙ there))
     | remains old was is none one at ↦ omega (arith, one, ap refs_in (sym at ∙ there))
   ]
 
   pub new_level : (id : ℕ) → 1 ≤ counts id → level_in (new id) ≡ level_after t step id
   new_level id some = elim (outcome id) [
-    | goes zero none ↦ absurd (omega (arith, some, zero))
+    | goes nought none ↦ absurd (omega (arith, some, nought))
     | comes node is gives one at ↦ ap level_in at ∙ sym (ap (λ (o : Option Node). level_or o (t.level id)) gives)
     | remains s was is none one at ↦ ap level_in at ∙ sym (ap level_in was) ∙ h.levels id ∙ sym (ap (λ (o : Option Node). level_or o (t.level id)) none)
   ]
@@ -189,7 +189,7 @@ module _ (spare : List Bool) (t : Table) (step : Step) (spots new : Spots) (put 
       → ((id : ℕ) (s : Spot) → spots id ≡ Some s → put id ≡ None → given t.next step id ≡ None → P id (record s { refs = counts id }))
       → (id : ℕ) (s : Spot) → new id ≡ Some s → P id s
   each_stepped P come stay id s there = elim (outcome id) [
-    | goes zero none ↦ absurd (none-some s (sym none ∙ there))
+    | goes nought none ↦ absurd (none-some s (sym none ∙ there))
     | comes node is gives one at ↦ subst (λ (x : Spot). P id x) (same_Some _ s (sym at ∙ there)) (come id node is gives (given_put t step h.table h.ok id node.value gives))
     | remains old was is none one at ↦ subst (λ (x : Spot). P id x) (same_Some _ s (sym at ∙ there)) (stay id old was is none)
   ]

@@ -153,26 +153,26 @@ module _ (spare free : List Bool) (id : ℕ) (spots new : Spots) (others : (i : 
     own_spare : IsFree spare slot
     own_spare = own_free spare (spots id) slot (place_within spare free spots was id) own
 
-    own_within : slot < length free
-    own_within = omega (arith, slice_get_within spare slot true own_spare, was.count)
+    own_inside : slot < length free
+    own_inside = omega (arith, slice_get_within spare slot true own_spare, was.count)
 
     own_used : IsFree free slot → ⊥
     own_used is_free = ((was.free_is slot).0 is_free).1 id (own_back spare (spots id) slot own)
 
     own_off : get_or free slot false ≡ false
     own_off = elim (get_or free slot false) as (λ b. get_or free slot false ≡ b → get_or free slot false ≡ false) [
-      | true ↦ λ on. absurd (own_used (slice_get-get_or free slot false own_within ∙ ap Some on))
+      | true ↦ λ on. absurd (own_used (slice_get-get_or free slot false own_inside ∙ ap Some on))
       | false ↦ λ off. off
     ] refl
 
     -- the slot is one that it may give back
     pub own_held : IsHeld free slot
-    own_held = slice_get-get_or free slot false own_within ∙ ap Some own_off
+    own_held = slice_get-get_or free slot false own_inside ∙ ap Some own_off
 
     given_here : IsFree (slice_set free slot true) slot
     given_here =
-        slice_get-get_or (set free slot true) slot false (omega (arith, own_within, length-set free slot true))
-        ∙ ap Some (get_or-set_same free slot true false own_within)
+        slice_get-get_or (set free slot true) slot false (omega (arith, own_inside, length-set free slot true))
+        ∙ ap Some (get_or-set_same free slot true false own_inside)
 
     given_other : (k : ℕ) → (k ≡ slot → ⊥) → k < length free → slice_get (slice_set free slot true) k ≡ slice_get free k
     given_other k other low =
@@ -204,7 +204,7 @@ module _ (spare free : List Bool) (id : ℕ) (spots new : Spots) (others : (i : 
     }
 
     given_count : free_count (slice_set free slot true) ≡ free_count free + 1
-    given_count = omega (arith, sum_by-set flag free slot true false own_within, ap flag own_off)
+    given_count = omega (arith, sum_by-set flag free slot true false own_inside, ap flag own_off)
 
   -- whether it has one or not
   pub dropped_held : (own : Option ℕ) → own_slot_in spare (spots id) ≡ own → IfSome own (IsHeld free)

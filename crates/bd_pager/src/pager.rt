@@ -22,6 +22,7 @@ ghost use Rattle.bd_pager.specs.Pagers.{table_of, nodes_of, spots_of, is_known, 
 ghost use Rattle.bd_pager.specs.Places.{spots_in, AreCached};
 
 mod steps;
+mod store;
 
 use crate::changing::append_counted;
 use crate::naming::names_lower;

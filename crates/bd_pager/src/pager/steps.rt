@@ -1,25 +1,27 @@
 //! How a pager makes steps.
 
-ghost use Rattle.std.specs.Prelude.{◌≡◌, ◌+◌, ◌<◌, ◌^◌, [], length, Some, None, IfOk, OnOk, OnErr};
+ghost use Rattle.std.specs.Prelude.{◌≡◌, ◌+◌, ◌<◌, ◌^◌, [], length, Some, None, IfOk, IfSome, OnOk, OnErr};
 ghost use Rattle.std.specs.Option.{option_map};
 ghost use Rattle.bd_message.specs.KeyMaps.{HasMapCause, NeverWorn};
+ghost use Rattle.bd_node.specs.declared.node.Node.{Node};
 ghost use Rattle.bd_node.specs.Shape.{IsShape};
-ghost use Rattle.bd_node.specs.Steps.{IsStep, IsInPlace, StayAbove, IsTableAfter, IsCommitted, IsWornBy};
+ghost use Rattle.bd_node.specs.Steps.{IsStep, IsInPlace, StayAbove, IsTableAfter, IsCommitted, IsWornBy, IsWornByAdding, IsRootOf, extend_step};
 ghost use Rattle.bd_node.specs.Stores.{visited, OnlyReadsBy, StaysBy};
 ghost use Rattle.bd_node.specs.Tables.{IsKept, IsSound};
-ghost use Rattle.bd_counts.specs.Counting.{IsRecount, MakesTable, Commits, overlaid};
 ghost use Rattle.bd_pager.specs.Committing.{IsNewRoot, IsPlanOf, IsRecountOf};
+ghost use Rattle.bd_pager.specs.Extending.{IsAdditionOf};
 ghost use Rattle.bd_pager.specs.Keeping.{KeepsSaved};
 ghost use Rattle.bd_pager.specs.Pagers.{table_of, nodes_of, spots_of, is_known, is_bad, IsReadOf};
 ghost use Rattle.bd_pager.specs.Stepping.{put_at, held};
 
 use super::{Pager, first_slot};
-use crate::committing::{NewRoot, Plan, carry_out, put_in, puts_of};
+use crate::committing::{NewRoot, Plan, carry_out, made_puts, put_in, puts_of};
+use crate::extending::{Addition, copy_names_lower, extend_spots};
 use crate::stepping::Put;
-use bd_counts::{NewCounts, recount};
+use bd_counts::{NewCounts, added, recount};
 use bd_device::Device;
-use bd_message::{Counter, MapFault};
-use bd_node::Step;
+use bd_message::{Counter, MapFault, Message};
+use bd_node::{Items, Messages, Node, Step};
 use bd_slots::slot_block;
 
 impl<D: Device> Pager<D> {
@@ -133,12 +135,12 @@ impl<D: Device> Pager<D> {
             Ok(found) => found,
             Err(fault) => return Err(fault),
         };
-        match found {
-            Some(recount) => Ok(recount),
-            None => Err(MapFault::Damaged {
+        let Some(recount) = found else {
+            return Err(MapFault::Damaged {
                 block: slot_block(first_slot(self.at.as_slice())),
-            }),
-        }
+            });
+        };
+        Ok(recount)
     }
 
     // The root of this id after a step that puts these nodes: found unless it is one of them.
@@ -168,5 +170,81 @@ impl<D: Device> Pager<D> {
             copy: Some(node),
             size,
         })
+    }
+
+    /// Puts messages after those that wait in the root, and new nodes under the next ids, which the
+    /// messages and one another may name: the commit of the root changed so, for the cost of the
+    /// messages and the new nodes, and of a look at what the root names, where nobody else holds the
+    /// root's node. It makes no call of the device. One visit for each new node. `Damaged` names the
+    /// first block of the checkpoint's table, where what the root names can't be right.
+    pub fn extend(&mut self, made: Items<Node>, list: Messages) -> Result<(), MapFault>
+        requires { (root : Node) → IsRootOf (table_of self.old) root
+            → IsStep (table_of self.old) (extend_step (table_of self.old) root made list) }
+        ensures table { (root : Node) → IsRootOf (table_of self.old) root
+            → OnOk result (IsTableAfter (table_of self.old)
+            (extend_step (table_of self.old) root made list) (table_of self.new)) }
+        ensures committed { is_known D.Device self.old
+            → IsSound (nodes_of D.Device self.old) (table_of self.old)
+            → (root : Node) → nodes_of D.Device self.old (table_of self.old).root ≡ Some root
+            → OnOk result (IsCommitted (nodes_of D.Device self.old) (table_of self.old)
+            (extend_step (table_of self.old) root made list)
+            (nodes_of D.Device self.new) (table_of self.new)) }
+        ensures stays { StaysBy (is_known D.Device) (KeepsSaved D.Device) (λ _. [])
+            self.old self.new }
+        ensures err { OnErr result (OnlyReadsBy (is_known D.Device) (nodes_of D.Device) table_of
+            (IsReadOf D.Device) (λ _. []) self.old self.new) }
+        ensures visits { OnOk result
+            (self.new.visits ≡ visited self.old.visits (length made)) }
+        ensures err_visits { OnErr result (self.new.visits ≡ self.old.visits) }
+        ensures device { self.new.dev ≡ self.old.dev }
+        ensures cause { HasMapCause (D.fault_count self.old.dev) (D.fault_count self.new.dev)
+            (is_bad D.Device self.new) (IsWornByAdding (table_of self.old) made list) result }
+    {
+        if !copy_names_lower(&self.reader.spots, self.root) {
+            return Err(MapFault::Damaged {
+                block: slot_block(first_slot(self.at.as_slice())),
+            });
+        }
+        let count = made.len() as u64;
+        let added = list.size();
+        let addition = match self.addition(made, list.as_slice()) {
+            Ok(addition) => addition,
+            Err(fault) => return Err(fault),
+        };
+        match extend_spots(
+            self.alloc,
+            &mut self.reader.spots,
+            &mut self.usage,
+            self.root,
+            addition,
+            list,
+        ) {
+            Ok(()) => {}
+            Err(_) => return Err(MapFault::NoMemory),
+        }
+        self.size += added;
+        self.next += count;
+        self.visits = self.visits.saturating_add(count);
+        self.written = None;
+        Ok(())
+    }
+
+    // New nodes, and the counts with the names in them and in messages.
+    fn addition(&self, made: Items<Node>, list: &[Message]) -> Result<Addition, MapFault>
+        ensures addition { IfOk result (IsAdditionOf (table_of self.now) made list.now) }
+        ensures cause { HasMapCause (D.fault_count self.now.dev) (D.fault_count self.now.dev)
+            (is_bad D.Device self.now) (IsWornByAdding (table_of self.now) made list.now) result }
+    {
+        if self.next.checked_add(made.len() as u64).is_none() {
+            return Err(MapFault::Worn(Counter::NextId));
+        }
+        let counts = match added(self.alloc, self, made.as_slice(), list) {
+            Ok(counts) => counts,
+            Err(fault) => return Err(fault),
+        };
+        match made_puts(self.alloc, self.next, made) {
+            Ok(puts) => Ok(Addition { puts, counts }),
+            Err(_) => Err(MapFault::NoMemory),
+        }
     }
 }
