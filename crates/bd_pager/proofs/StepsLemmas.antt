@@ -1,5 +1,6 @@
 -- A step of a pager, after what it needs was read.
-use Rattle.std.proofs.Common.{◌≡◌, ℕ, suc, ◌+◌, ◌-◌, ◌^◌, ◌<◌, ◌≤◌, Bool, nat_eq, List, [], ◌∷◌, length, map, Option, None, Some, IfSome, refl, sym, ap, subst, ◌∙◌, arith, inl, inr}
+use Rattle.std.proofs.Common.{◌≡◌, ℕ, suc, ◌+◌, ◌-◌, ◌^◌, ◌<◌, ◌≤◌, Bool, true, false, nat_eq, List, [], ◌∷◌, length, map, Option, None, Some, IfSome, refl, sym, ap, subst, ◌∙◌, arith, inl, inr}
+use Rattle.std.specs.Prelude.{SomeIff, is_some, not}
 use Rattle.std.specs.Global.{Global}
 use Rattle.std.specs.HashMap.{get}
 use Rattle.std.specs.List.{AllByRecursion}
@@ -244,3 +245,8 @@ reads_after g a b c p q = record {
 -- and so no more than any call may
 pub reads_stay : {D : Type 0} (g : Ghosts D) (a b : Paged D) → OnlyReadsOf g a b → StaysBy (is_known g) (KeepsSaved g) no_loans a b
 reads_stay g a b left = record { known = left.known; beside = read_keeps g a b left.read; same_loans = refl }
+
+-- a sum that was tested
+pub fits_if : (r : Option ℕ) (b : Bool) (n : ℕ) → SomeIff r (n < 2 ^ 64) n → is_some r ≡ not b → b ≡ false → n < 2 ^ 64
+fits_if None b n sum is off = absurd (let e : false ≡ true = is ∙ ap not off in cc)
+fits_if (Some m) b n sum is off = sum.0
