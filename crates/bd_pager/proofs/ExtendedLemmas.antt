@@ -4,17 +4,19 @@ use Rattle.std.specs.Prelude.{IsSome}
 use Rattle.std.specs.Global.{Global}
 use Rattle.std.specs.HashMap.{get}
 use Rattle.std.specs.List.{AllByRecursion, sum_by}
+use Rattle.std.specs.Map.{lookup}
 use Rattle.std.specs.Option.{option_map, unwrap_or}
 use Rattle.std.specs.declared.rc.Rc.{Rc}
 use Rattle.std.proofs.lemmas.Bool.{cases_eq, cases_lt, cond-true, cond-false, eq-eqb, ne_eqb}
 use Rattle.std.proofs.lemmas.Option.{none-some, same_Some, slice_get_within}
 use Rattle.std.proofs.lemmas.List.{map-append}
 use Rattle.std.proofs.lemmas.List.Sums.{sum_by-cons}
+use Rattle.bd_limits.specs.Limits.{buffer_limit}
 use Rattle.bd_device.specs.Blocks.{Image}
 use Rattle.bd_device.specs.declared.device.Device.{Ghosts}
 use Rattle.bd_cache.specs.Cache.{kept_at}
 use Rattle.bd_message.specs.declared.message.Message.{Message}
-use Rattle.bd_message.specs.Messages.{size}
+use Rattle.bd_message.specs.Messages.{IsMessage, size}
 use Rattle.bd_node.specs.declared.node.Node.{Node}
 use Rattle.bd_node.specs.declared.node.Change.{Change}
 use Rattle.bd_node.specs.declared.node.Step.{Step}
@@ -27,7 +29,7 @@ use Rattle.bd_node.proofs.Lookup.{each_weaker, named_has}
 use Rattle.bd_node.proofs.Sound.{kept_there, one_if-same, one_if-other}
 use Rattle.bd_node.proofs.Stepping.{given-old, given-new, changed_has, after-none, by_given}
 use Rattle.bd_node.proofs.Appending.{level_appended}
-use Rattle.bd_node.proofs.Extending.{extend_above, root_inner, times_extended, given_extended, given_beside, extended_size, extended_as}
+use Rattle.bd_node.proofs.Extending.{extend_above, root_inner, times_extended, given_extended, given_beside, extended_size, extended_as, added_fit}
 use Rattle.bd_counts.specs.Naming.{times_among, step_names}
 use Rattle.bd_counts.specs.Counting.{counted, IsRecount, IsOwing}
 use Rattle.bd_counts.specs.Releasing.{IsReleasing}
@@ -45,13 +47,15 @@ use Rattle.bd_pager.specs.Slots.{IsOfLevel}
 use Rattle.bd_pager.specs.Places.{refs_in, level_in, copy_at, copy_in, node_of, told, IsLowerIn, IsRead}
 use Rattle.bd_pager.specs.Pagers.{Paged, spots_of, table_of, nodes_of, is_known, IsOfSize, IsPaged}
 use Rattle.bd_pager.specs.Stepping.{held, change_of, put_at, put_spot, with_put, with_count, with_copy, without_copy, without_all, moved_copy, made_changes}
-use Rattle.bd_pager.proofs.AppendedLemmas.{copied_unread}
+use Rattle.bd_pager.proofs.AppendedLemmas.{copied_unread, root_copy, sized_copy}
 use Rattle.bd_pager.proofs.CommittedLemmas.{AreGiven}
 use Rattle.bd_pager.proofs.FreshLemmas.{copy_at_place}
 use Rattle.bd_pager.proofs.PuttingLemmas.{given_at, put_is}
 use Rattle.bd_pager.proofs.StepLoops.{put_twice}
 use Rattle.bd_pager.proofs.SteppedLemmas.{none_mapped}
-use Rattle.bd_pager.proofs.StepsLemmas.{no_loans, IsMade, given_made}
+use Rattle.bd_pager.proofs.StepsLemmas.{no_loans, IsMade, given_made, each_mapped, made_below}
+use Rattle.bd_pager.proofs.PagerLemmas.{named_lower, sound_lower}
+use Rattle.bd_pager.proofs.ReaderLemmas.{copy_of_level}
 
 none_counted : (b : Bool) (o : Option Node) → o ≡ None → cond b None o ≡ o
 none_counted true o none = sym none
@@ -135,6 +139,18 @@ module _ (t : Table) (root : Node) (made : List Node) (list : List Message) (tab
               omega (arith, are c, exact, step_names_times step c, given_all c, old, sum_by-cons (λ (d : Change). times_in (nodes d.id) c) (record { id = t.root; node = appended root list }) []);
         }
 
+-- ---- the root
+
+-- the root in memory, where what it names is looked at
+pub root_seen : {D : Type 0} (contents : Option Image) (p : Paged D) → IsPaged contents p → (n : Node) × (copy_in (spots_of p p.root) ≡ Some n)
+root_seen contents p was = root_copy (copy_in (spots_of p p.root)) (sized_copy p.size (copy_in (spots_of p p.root)) was.root)
+
+pub root_of : {D : Type 0} (contents : Option Image) (p : Paged D) (n : Node) → IsPaged contents p → copy_in (spots_of p p.root) ≡ Some n → AllByRecursion (IsLowerIn (spots_of p) (level_of n)) (names n) → IsRootOf (table_of p) n
+root_of contents p n was copy lower = record {
+  of_table = named_lower p ((table_of p).level p.root) n (copy_of_level (spots_of p) p.root n was.placed copy) lower;
+  size = subst (λ (o : Option Node). IsOfSize p.size o) copy was.root;
+}
+
 -- ---- spots
 
 with_both : (spare : List Bool) (xs ys : List Put) (id : ℕ) (o : Option Spot) → with_put spare (put_at xs id) (with_put spare (put_at ys id) o) ≡ with_put spare (put_at (xs ++ ys) id) o
@@ -149,6 +165,10 @@ with_both spare (x ∷ xs) ys id o = elim (cases_eq id x.id) [
       ∙ with_both spare xs ys id o
       ∙ sym (ap (λ (p : Option (Rc Node Global)). with_put spare p o) (cond-false (eqb id x.id) (Some x.node) (put_at (xs ++ ys) id) (ne_eqb id x.id other)))
 ]
+
+copied_there : (image : Image) (o : Option Spot) (n : Node) → copy_in o ≡ Some n → node_of image o ≡ Some n
+copied_there image None n copy = absurd (none-some n copy)
+copied_there image (Some s) n copy = copy_at_place image s.place n copy
 
 -- where the root stays the root, no copy moves
 unmoved : (b : Bool) (o : Option Spot) → cond b (with_copy None o) (cond b (without_copy o) o) ≡ o
@@ -175,7 +195,7 @@ module _ {D : Type 0} (g : Ghosts D) (p : Paged D) (n : Node) (made : List Node)
     abbrev taken : Step
     taken = extend_step t n made list
 
-    there : Spot
+    abbrev there : Spot
     there = h.changed.was
 
     copy_was : copy_at there.place ≡ Some n
@@ -184,18 +204,8 @@ module _ {D : Type 0} (g : Ghosts D) (p : Paged D) (n : Node) (made : List Node)
     node_was : IsOfLevel there.level n
     node_was = subst (λ (o : Option Node). IfSome o (IsOfLevel there.level)) copy_was (was.placed p.root there h.changed.there)
 
-    level_was : level_of n ≡ t.level p.root
-    level_was = node_was.level_is ∙ sym (ap level_in h.changed.there)
-
     own : IsRootOf t n
-    own = record {
-      of_table = record {
-        shape = node_was.shape;
-        level_is = level_was;
-        lower = each_weaker (IsLowerIn (spots_of p) (level_of n)) (IsLower t (t.level p.root)) (λ c low. record { kept = low.0; lower = omega (arith, low.1, level_was) }) (names n) lower;
-      };
-      size = subst (λ (o : Option Node). IsOfSize p.size o) copy was.root;
-    }
+    own = root_of (g.contents p.dev) p n was copy lower
 
     abbrev node : Rc Node Global
     node = h.changed.changed.place.node
@@ -290,3 +300,59 @@ module _ {D : Type 0} (g : Ghosts D) (p : Paged D) (n : Node) (made : List Node)
     extended_committed known sound root at_root =
         let one : n ≡ root = same_Some n root (sym (ap (node_of (told (g.contents p.dev))) h.changed.there ∙ copy_at_place (told (g.contents p.dev)) there.place n copy_was) ∙ at_root) in
         subst (λ (m : Node). IsCommitted (nodes_of g p) t (extend_step t m made list) (nodes_of g more) (table_of more)) one (both.1.committed known sound)
+
+-- ---- whatever the root is
+
+-- the messages are well-formed, and there is room for them
+pub extended_fit : (t : Table) (n : Node) (made : List Node) (list : List Message) → IsTable t → IsRootOf t n → IsStep t (extend_step t n made list) → AllByRecursion IsMessage list × (t.size + sum_by size list ≤ buffer_limit)
+extended_fit t n made list table own ok =
+    let fit = added_fit n list (root_inner t n table own) ok.changes.0.put.shape in
+    (fit.0, omega (arith, fit.1, own.size))
+
+-- all that holds then
+pub record IsGrownBy {D : Type 0} (g : Ghosts D) (p : Paged D) (made : List Node) (list : List Message) (new : Paged D) : Type 0 where
+  pub table : (root : Node) → IsRootOf (table_of p) root → IsTableAfter (table_of p) (extend_step (table_of p) root made list) (table_of new)
+  pub stays : StaysBy (is_known g) (KeepsSaved g) no_loans p new
+  pub committed : is_known g p → IsSound (nodes_of g p) (table_of p) → (root : Node) → nodes_of g p p.root ≡ Some root → IsCommitted (nodes_of g p) (table_of p) (extend_step (table_of p) root made list) (nodes_of g new) (table_of new)
+
+module _ {D : Type 0} (g : Ghosts D) (p : Paged D) (made : List Node) (list : List Message) (was : IsPaged (g.contents p.dev) p) (ok : (root : Node) → IsRootOf (table_of p) root → IsStep (table_of p) (extend_step (table_of p) root made list))
+    (looked : (n : Node) → copy_in (spots_of p p.root) ≡ Some n → AllByRecursion (IsLowerIn (spots_of p) (level_of n)) (names n)) where
+  abbrev seen_root : Node
+  seen_root = (root_seen (g.contents p.dev) p was).0
+
+  copy_seen : copy_in (spots_of p p.root) ≡ Some seen_root
+  copy_seen = (root_seen (g.contents p.dev) p was).1
+
+  own_seen : IsRootOf (table_of p) seen_root
+  own_seen = root_of (g.contents p.dev) p seen_root was copy_seen (looked seen_root copy_seen)
+
+  pub list_fits : AllByRecursion IsMessage list × (p.size + sum_by size list ≤ buffer_limit)
+  list_fits = extended_fit (table_of p) seen_root made list was.table own_seen (ok seen_root own_seen)
+
+  pub pager_extended : (addition : Addition) (entries : List (ℕ × Spot)) (spare : List Bool) (bytes last visits : ℕ) → IsAdditionOf (table_of p) made list addition → bytes ≡ p.size + sum_by size list → last ≡ p.next + length made → spare ≡ p.spare
+      → ((n : Node) → copy_in (spots_of p p.root) ≡ Some n → IsExtended p.spare p.root (appended n list) addition (spots_of p) (λ id. lookup (nat_eq id) entries))
+      → IsPaged (g.contents p.dev) (record p { spots = entries; spare = spare; size = bytes; next = last; visits = visits; written = None })
+      × IsGrownBy g p made list (record p { spots = entries; spare = spare; size = bytes; next = last; visits = visits; written = None })
+  pager_extended addition entries spare bytes last visits is bytes_is last_is spare_is extended =
+      let n : Node = seen_root in
+      let lower = looked n copy_seen in
+      let step_ok = ok n own_seen in
+      let h = extended n copy_seen in
+      subst (λ (s : List Bool). let q : Paged D = record p { spots = entries; spare = s; size = bytes; next = last; visits = visits; written = None } in IsPaged (g.contents p.dev) q × IsGrownBy g p made list q) (sym spare_is) (
+        extended_paged g p n made list addition entries bytes last visits was copy_seen lower step_ok is bytes_is last_is h,
+        record {
+          table = extended_table g p n made list addition entries bytes last visits was copy_seen lower step_ok is bytes_is last_is h;
+          stays = extended_stays g p n made list addition entries bytes last visits was copy_seen lower step_ok is bytes_is last_is h;
+          committed = extended_committed g p n made list addition entries bytes last visits was copy_seen lower step_ok is bytes_is last_is h;
+        },
+      )
+
+pub addition_below : (t : Table) (made : List Node) (list : List Message) (addition : Addition) → IsAdditionOf t made list addition → AllByRecursion (λ (put : Put). put.id < t.next + length made) addition.puts.items
+addition_below t made list addition is =
+    let limit : ℕ = t.next + length made in
+    each_mapped (λ (c : Change). c.id < limit) change_of addition.puts.items
+    (subst (λ (cs : List Change). AllByRecursion (λ (c : Change). c.id < limit) cs) (sym is.puts) (made_below made t.next limit (omega arith)))
+
+-- where what the root names can't be right, the nodes aren't sound
+pub unsound_root : {D : Type 0} (g : Ghosts D) (p : Paged D) (n : Node) → IsPaged (g.contents p.dev) p → copy_in (spots_of p p.root) ≡ Some n → IsSound (nodes_of g p) (table_of p) → AllByRecursion (IsLowerIn (spots_of p) (level_of n)) (names n)
+unsound_root g p n was copy sound = sound_lower (nodes_of g p) p p.root n was.table.root (copied_there (told (g.contents p.dev)) (spots_of p p.root) n copy) sound

@@ -136,11 +136,11 @@ plan_given g p step plan table ok is = record {
 
 -- ---- which ids it names
 
-made_below : (made : List Node) (next limit : ℕ) → next + length made ≤ limit → AllByRecursion (λ (c : Change). c.id < limit) (made_changes next made)
+pub made_below : (made : List Node) (next limit : ℕ) → next + length made ≤ limit → AllByRecursion (λ (c : Change). c.id < limit) (made_changes next made)
 made_below [] next limit low = tt
 made_below (n ∷ ns) next limit low = (omega (arith, low), made_below ns (suc next) limit (omega (arith, low)))
 
-each_mapped : {A B : Type 0} (P : B → Type 0) (f : A → B) (xs : List A) → AllByRecursion P (map f xs) → AllByRecursion (λ x. P (f x)) xs
+pub each_mapped : {A B : Type 0} (P : B → Type 0) (f : A → B) (xs : List A) → AllByRecursion P (map f xs) → AllByRecursion (λ x. P (f x)) xs
 each_mapped P f [] h = tt
 each_mapped P f (x ∷ xs) h = (h.0, each_mapped P f xs h.1)
 
