@@ -22,10 +22,10 @@ use Rattle.bd_counts.proofs.Names.{times_take, times_first}
 use Rattle.bd_pager.specs.declared.place.Spot.{Spot}
 use Rattle.bd_pager.specs.declared.stepping.Put.{Put}
 use Rattle.bd_pager.specs.declared.usage.Usage.{Usage}
-use Rattle.bd_pager.specs.Counting.{AreUnused, IsListed, IsListedMore, IsTallied}
+use Rattle.bd_pager.specs.Counting.{dropped, AreUnused, IsListed, IsListedMore, IsTallied}
 use Rattle.bd_pager.specs.Places.{Spots}
-use Rattle.bd_pager.specs.Stepping.{put_at, put_spot, with_put, with_count, without_all, put_usage, dropped_usage}
-use Rattle.bd_pager.proofs.TallyLemmas.{put_unused, put_tallied, dropped_unused, dropped_tallied}
+use Rattle.bd_pager.specs.Stepping.{put_at, put_spot, with_put, with_count, without_all, put_usage}
+use Rattle.bd_pager.proofs.TallyLemmas.{put_unused, put_tallied, gone_unused, gone_spare, gone_tallied}
 
 -- ---- nodes that are put, the last one of the list first
 
@@ -226,7 +226,7 @@ pub dropped_begun : (all : List ℕ) (spots : Spots) (u : Usage) → AreUnused u
 dropped_begun all spots u unused = record { spots_are = λ id. refl; spare_is = refl; unused = unused; tallied = λ next below was. was }
 
 pub dropped_then : (all : List ℕ) (i : ℕ) (spots mid new : Spots) (u was now : Usage) → i < length all
-    → ((id : ℕ) → new id ≡ cond (eqb (slice_index all i) id) None (mid id)) → now ≡ dropped_usage (mid (slice_index all i)) was → AreDropped (take i all) all spots u mid was
+    → ((id : ℕ) → new id ≡ cond (eqb (slice_index all i) id) None (mid id)) → now ≡ dropped was (mid (slice_index all i)) → AreDropped (take i all) all spots u mid was
     → AreDropped (take (i + 1) all) all spots u new now
 dropped_then all i spots mid new u was now low one usage h =
     let x : ℕ = slice_index all i in
@@ -235,7 +235,7 @@ dropped_then all i spots mid new u was now low one usage h =
     let among : 1 ≤ times_among all x = omega (arith, times_take all i low x, one_if-same x, times_first all (i + 1) x) in
     subst (λ (v : Usage). AreDropped (take (i + 1) all) all spots u new v) (sym usage) (record {
       spots_are = gone_more all i spots mid new low one h.spots_are;
-      spare_is = h.spare_is;
-      unused = dropped_unused was.spare was.free x mid new same here h.unused;
-      tallied = λ next below tallied. dropped_tallied was next x mid new same here (below x among) (h.tallied next below tallied);
+      spare_is = gone_spare was x mid new same here ∙ h.spare_is;
+      unused = gone_unused was x mid new same here h.unused;
+      tallied = λ next below tallied. gone_tallied was x mid new same here next (below x among) (h.tallied next below tallied);
     })

@@ -38,7 +38,7 @@ use Rattle.bd_pager.specs.Stepping.{held, change_of, put_at, with_put, with_coun
 use Rattle.bd_pager.proofs.CommittedLemmas.{AreGiven, AreForgotten, committed_paged, committed_table, committed_stays, committed_nodes}
 use Rattle.bd_pager.proofs.PuttingLemmas.{given_at, put_is}
 use Rattle.bd_pager.proofs.SteppedLemmas.{given_put, slice_get_some}
-use Rattle.bd_pager.proofs.TallyLemmas.{more_tallied}
+use Rattle.bd_pager.proofs.CountingLemmas.{wider_tallied}
 
 -- nothing is lent
 abbrev pub no_loans : {D : Type 0} → Paged D → List ℕ
@@ -166,7 +166,7 @@ spot_below spots next id (Some s) there high below used = absurd (omega (arith, 
 -- no more ids are known of than there are, so there may be more
 pub tallied_more : {D : Type 0} (contents : Option Image) (p : Paged D) (more : ℕ) (u : Usage) → IsPaged contents p → p.next + more < 2 ^ 64 → IsTallied p.next (spots_of p) u → IsTallied (p.next + more) (spots_of p) u
 tallied_more contents p more u was fits tallied =
-    more_tallied p.next more (spots_of p) u fits (λ id high. spot_below (spots_of p) p.next id (spots_of p id) refl high was.table.below was.used) tallied
+    wider_tallied p.next more (spots_of p) u fits (λ id high. spot_below (spots_of p) p.next id (spots_of p id) refl high was.table.below was.used) tallied
 
 -- ---- a plan that was carried out
 

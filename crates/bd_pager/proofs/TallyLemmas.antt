@@ -15,12 +15,12 @@ use Rattle.bd_pager.specs.declared.place.Spot.{Spot}
 use Rattle.bd_pager.specs.declared.usage.Tally.{Tally}
 use Rattle.bd_pager.specs.declared.usage.Usage.{Usage}
 use Rattle.bd_pager.specs.Changing.{slot_if, own_slot}
-use Rattle.bd_pager.specs.Counting.{IsUnused, AreUnused, is_in_memory, has_own, spot_count, AreCounted, IsListed, AreListed, IsTallied, tally_of, moved, recounted, IsListedMore}
+use Rattle.bd_pager.specs.Counting.{IsUnused, AreUnused, is_in_memory, has_own, spot_count, AreCounted, IsListed, AreListed, IsTallied, tally_of, moved, recounted, dropped}
 use Rattle.bd_pager.specs.Pagers.{is_changed, IsPlaceIn}
 use Rattle.bd_pager.specs.Places.{Spots, slot_at, slot_in}
-use Rattle.bd_pager.specs.Stepping.{own_slot_in, put_spot, put_usage, dropped_usage, with_given}
+use Rattle.bd_pager.specs.Stepping.{own_slot_in, put_spot, put_usage}
 use Rattle.bd_pager.proofs.ChangingLemmas.{own_in}
-use Rattle.bd_pager.proofs.CountingLemmas.{count_moved, count_again, count_kept, own_within, spare_own, unused_moved, place_there}
+use Rattle.bd_pager.proofs.CountingLemmas.{count_moved, count_again, count_kept, own_within, spare_own, unused_moved, place_there, own_held, dropped_unused, dropped_tallied}
 
 -- ---- numbers
 
@@ -49,28 +49,11 @@ module _ (next id : ℕ) (spots new : Spots) (low : id < next) (others : (i : �
 
 -- ---- slots of one's own
 
-slot_if_back : (o : Option Bool) (there slot : ℕ) → slot_if o there ≡ Some slot → (o ≡ Some true) × (there ≡ slot)
-slot_if_back None there slot is = absurd (none-some slot is)
-slot_if_back (Some false) there slot is = absurd (none-some slot is)
-slot_if_back (Some true) there slot is = (refl, same_Some there slot is)
-
 module _ (spare : List Bool) where
   -- a slot of its own is its slot
   own_back : (o : Option Spot) (slot : ℕ) → own_slot_in spare o ≡ Some slot → slot_in o ≡ Some slot
   own_back None slot is = is
   own_back (Some s) slot is = own_within spare s.place slot is
-
-  -- and a spare one
-  own_at_free : (p : Place) (slot : ℕ) → IsPlaceIn spare p → own_slot spare p ≡ Some slot → IsFree spare slot
-  own_at_free (Memory node None) slot within is = absurd (none-some slot is)
-  own_at_free (Memory node (Some own)) slot within is = subst (IsFree spare) (same_Some own slot is) within
-  own_at_free (Slot there copy) slot within is =
-      let both = slot_if_back (slice_get spare there) there slot is in
-      subst (IsFree spare) both.1 both.0
-
-  own_free : (o : Option Spot) (slot : ℕ) → IfSome o (λ s. IsPlaceIn spare s.place) → own_slot_in spare o ≡ Some slot → IsFree spare slot
-  own_free None slot within is = absurd (none-some slot is)
-  own_free (Some s) slot within is = own_at_free s.place slot within is
 
   -- a slot that is spare is its own
   own_forth : (o : Option Spot) (slot : ℕ) → IsFree spare slot → slot_in o ≡ Some slot → own_slot_in spare o ≡ Some slot
@@ -88,10 +71,6 @@ module _ (spare : List Bool) where
   pub put_in : (node : Rc Node Global) (o : Option Spot) → IfSome o (λ s. IsPlaceIn spare s.place) → IsPlaceIn spare (put_spot spare node o).place
   put_in node None within = tt
   put_in node (Some s) within = own_in spare s.place node within
-
-  has_own_is : (o : Option Spot) → has_own spare o ≡ is_some (own_slot_in spare o)
-  has_own_is None = refl
-  has_own_is (Some s) = refl
 
 pub place_within : (spare free : List Bool) (spots : Spots) → AreUnused spare free spots → (id : ℕ) → IfSome (spots id) (λ s. IsPlaceIn spare s.place)
 place_within spare free spots unused id = place_there spare spots id (spots id) refl unused.slots
@@ -115,126 +94,43 @@ put_tallied u next id node spots new others here low listed was =
     (retallied next id spots new low others u u.free (put_unused u.spare u.free id node spots new others here was.unused)
     (ap (λ (b : Bool). free_count u.free + flag b) (ap (has_own u.spare) here ∙ own_put u.spare node (spots id))) (λ on. listed) was)
 
--- ---- a node goes
+-- ---- a node goes, if there is one
 
-module _ (spare free : List Bool) (id : ℕ) (spots new : Spots) (others : (i : ℕ) → (i ≡ id → ⊥) → new i ≡ spots i) (here : new id ≡ None) (was : AreUnused spare free spots) where
-  gone_back : (i slot : ℕ) → slot_in (new i) ≡ Some slot → (i ≡ id → ⊥) × (slot_in (spots i) ≡ Some slot)
-  gone_back i slot is = elim (cases_eq i id) [
-    | inl same ↦ absurd (none-some slot (sym (ap slot_in here) ∙ ap (λ (k : ℕ). slot_in (new k)) (sym same) ∙ is))
-    | inr other ↦ (other, sym (ap slot_in (others i other)) ∙ is)
-  ]
+module _ (u : Usage) (id : ℕ) (spots new : Spots) (others : (i : ℕ) → (i ≡ id → ⊥) → new i ≡ spots i) (here : new id ≡ None) where
+  gone_none : spots id ≡ None → new ≡ spots
+  gone_none none = λ j i. (let same : (k : ℕ) → new k ≡ spots k = λ k. elim (cases_eq k id) [
+    | inl is ↦ ap new is ∙ here ∙ sym none ∙ ap spots (sym is)
+    | inr other ↦ others k other
+  ] in same i) j
 
-  gone_slots : (i : ℕ) (s : Spot) → new i ≡ Some s → IsPlaceIn spare s.place
-  gone_slots i s there = elim (cases_eq i id) [
-    | inl same ↦ absurd (none-some s (sym here ∙ ap new (sym same) ∙ there))
-    | inr other ↦ was.slots i s (sym (others i other) ∙ there)
-  ]
+  unused_as : (o : Option Spot) → spots id ≡ o → AreUnused u.spare u.free spots → AreUnused (dropped u o).spare (dropped u o).free new
+  unused_as None is was = subst (λ (s : Spots). AreUnused u.spare u.free s) (sym (gone_none is)) was
+  unused_as (Some s) is was = dropped_unused u.spare u.free spots new id s is here others was
 
-  gone_forth : (i slot : ℕ) → (slot_in (spots id) ≡ Some slot → ⊥) → slot_in (spots i) ≡ Some slot → slot_in (new i) ≡ Some slot
-  gone_forth i slot not_own is = elim (cases_eq i id) [
-    | inl same ↦ absurd (not_own (ap (λ (k : ℕ). slot_in (spots k)) (sym same) ∙ is))
-    | inr other ↦ ap slot_in (others i other) ∙ is
-  ]
+  pub gone_unused : AreUnused u.spare u.free spots → AreUnused (dropped u (spots id)).spare (dropped u (spots id)).free new
+  gone_unused = unused_as (spots id) refl
 
-  -- it has no slot of its own
-  pub gone_unused : own_slot_in spare (spots id) ≡ None → AreUnused spare free new
-  gone_unused none = record {
-    slots = gone_slots;
-    apart = λ i other slot is also. was.apart i other slot (gone_back i slot is).1 (gone_back other slot also).1;
-    count = was.count;
-    free_is = λ slot. (
-      λ is_free. let unused : IsUnused spare spots slot = (was.free_is slot).0 is_free in (unused.0, λ i is. unused.1 i (gone_back i slot is).1),
-      λ unused. (was.free_is slot).1 (unused.0, λ i is.
-      unused.1 i (gone_forth i slot (λ own. none-some slot (sym none ∙ own_forth spare (spots id) slot unused.0 own)) is)),
-    );
-  }
+  spare_as : (o : Option Spot) → (dropped u o).spare ≡ u.spare
+  spare_as None = refl
+  spare_as (Some s) = refl
 
-  module _ (slot : ℕ) (own : own_slot_in spare (spots id) ≡ Some slot) where
-    own_spare : IsFree spare slot
-    own_spare = own_free spare (spots id) slot (place_within spare free spots was id) own
+  pub gone_spare : (dropped u (spots id)).spare ≡ u.spare
+  gone_spare = spare_as (spots id)
 
-    own_inside : slot < length free
-    own_inside = omega (arith, slice_get_within spare slot true own_spare, was.count)
+  tallied_as : (next : ℕ) (o : Option Spot) → spots id ≡ o → id < next → IsTallied next spots u → IsTallied next new (dropped u o)
+  tallied_as next None is low was = subst (λ (s : Spots). IsTallied next s u) (sym (gone_none is)) was
+  tallied_as next (Some s) is low was = dropped_tallied next u spots new id s is here others low was
 
-    own_used : IsFree free slot → ⊥
-    own_used is_free = ((was.free_is slot).0 is_free).1 id (own_back spare (spots id) slot own)
+  pub gone_tallied : (next : ℕ) → id < next → IsTallied next spots u → IsTallied next new (dropped u (spots id))
+  gone_tallied next = tallied_as next (spots id) refl
 
-    own_off : get_or free slot false ≡ false
-    own_off = elim (get_or free slot false) as (λ b. get_or free slot false ≡ b → get_or free slot false ≡ false) [
-      | true ↦ λ on. absurd (own_used (slice_get-get_or free slot false own_inside ∙ ap Some on))
-      | false ↦ λ off. off
-    ] refl
+-- its slot is one that it may give back
+held_as : (spare free : List Bool) (spots : Spots) (id : ℕ) (s : Spot) (o : Option ℕ) → AreUnused spare free spots → spots id ≡ Some s → own_slot spare s.place ≡ o → IfSome o (IsHeld free)
+held_as spare free spots id s None was there own = tt
+held_as spare free spots id s (Some slot) was there own = own_held spare free spots id s slot was there own
 
-    -- the slot is one that it may give back
-    pub own_held : IsHeld free slot
-    own_held = slice_get-get_or free slot false own_inside ∙ ap Some own_off
-
-    given_here : IsFree (slice_set free slot true) slot
-    given_here =
-        slice_get-get_or (set free slot true) slot false (omega (arith, own_inside, length-set free slot true))
-        ∙ ap Some (get_or-set_same free slot true false own_inside)
-
-    given_other : (k : ℕ) → (k ≡ slot → ⊥) → k < length free → slice_get (slice_set free slot true) k ≡ slice_get free k
-    given_other k other low =
-        slice_get-get_or (set free slot true) k false (omega (arith, low, length-set free slot true))
-        ∙ ap Some (get_or-set_other free slot k true false other)
-        ∙ sym (slice_get-get_or free k false low)
-
-    pub given_unused : AreUnused spare (slice_set free slot true) new
-    given_unused = record {
-      slots = gone_slots;
-      apart = λ i other k is also. was.apart i other k (gone_back i k is).1 (gone_back other k also).1;
-      count = length-set free slot true ∙ was.count;
-      free_is = λ k. elim (cases_eq k slot) [
-        | inl same ↦ subst (λ (x : ℕ). IsFree (slice_set free slot true) x ↔ IsUnused spare new x) (sym same) (
-          λ is_free. (own_spare, λ i is. (gone_back i slot is).0 (was.apart i id slot (gone_back i slot is).1 (own_back spare (spots id) slot own))),
-          λ unused. given_here,
-        )
-        | inr other ↦ (
-          λ is_free.
-          let low : k < length free = omega (arith, slice_get_within (set free slot true) k true is_free, length-set free slot true) in
-          let unused : IsUnused spare spots k = (was.free_is k).0 (sym (given_other k other low) ∙ is_free) in
-          (unused.0, λ i is. unused.1 i (gone_back i k is).1),
-          λ unused.
-          let low : k < length free = omega (arith, slice_get_within spare k true unused.0, was.count) in
-          given_other k other low ∙ (was.free_is k).1 (unused.0, λ i is.
-          unused.1 i (gone_forth i k (λ k_own. other (same_Some k slot (sym k_own ∙ own_back spare (spots id) slot own))) is)),
-        )
-      ];
-    }
-
-    given_count : free_count (slice_set free slot true) ≡ free_count free + 1
-    given_count = omega (arith, sum_by-set flag free slot true false own_inside, ap flag own_off)
-
-  -- whether it has one or not
-  pub dropped_held : (own : Option ℕ) → own_slot_in spare (spots id) ≡ own → IfSome own (IsHeld free)
-  dropped_held None is = tt
-  dropped_held (Some slot) is = own_held slot is
-
-  dropped_as : (own : Option ℕ) → own_slot_in spare (spots id) ≡ own → AreUnused spare (with_given own free) new
-  dropped_as None is = gone_unused is
-  dropped_as (Some slot) is = given_unused slot is
-
-  pub dropped_unused : AreUnused spare (with_given (own_slot_in spare (spots id)) free) new
-  dropped_unused = dropped_as (own_slot_in spare (spots id)) refl
-
-  dropped_count_as : (own : Option ℕ) → own_slot_in spare (spots id) ≡ own → free_count (with_given own free) ≡ free_count free + flag (is_some own)
-  dropped_count_as None is = omega arith
-  dropped_count_as (Some slot) is = given_count slot is
-
-  dropped_count : free_count (with_given (own_slot_in spare (spots id)) free) ≡ free_count free + flag (is_some (own_slot_in spare (spots id)))
-  dropped_count = dropped_count_as (own_slot_in spare (spots id)) refl
-
--- and what is used then
-pub dropped_tallied : (u : Usage) (next id : ℕ) (spots new : Spots) → ((i : ℕ) → (i ≡ id → ⊥) → new i ≡ spots i) → new id ≡ None → id < next → IsTallied next spots u → IsTallied next new (dropped_usage (spots id) u)
-dropped_tallied u next id spots new others here low was =
-    let free : List Bool = with_given (own_slot_in u.spare (spots id)) u.free in
-    let own : has_own u.spare (spots id) ≡ is_some (own_slot_in u.spare (spots id)) = has_own_is u.spare (spots id) in
-    let none : has_own u.spare (new id) ≡ false = ap (has_own u.spare) here in
-    let frees : free_count free ≡ free_count u.free + flag (is_some (own_slot_in u.spare (spots id))) = dropped_count u.spare u.free id spots new others here was.unused in
-    subst (λ (t : Tally). IsTallied next new (recounted (tally_of u.spare (spots id)) t (record u { free = free }))) (ap (tally_of u.spare) here)
-    (retallied next id spots new low others u free (dropped_unused u.spare u.free id spots new others here was.unused) (omega (arith, frees, ap flag own, ap flag none))
-    (λ on. absurd (let e : false ≡ true = sym (ap is_in_memory here) ∙ on in cc)) was)
+pub gone_held : (spare free : List Bool) (spots : Spots) (id : ℕ) (s : Spot) → AreUnused spare free spots → spots id ≡ Some s → IfSome (own_slot spare s.place) (IsHeld free)
+gone_held spare free spots id s was there = held_as spare free spots id s (own_slot spare s.place) was there refl
 
 -- ---- nodes whose slots stay
 
@@ -262,25 +158,3 @@ module _ (next : ℕ) (spots new : Spots) (u : Usage) (slots : (id : ℕ) → sl
     };
     listed = λ i on. was.listed i (subst IsTrue (in_memory i) on);
   }
-
--- ---- more ids
-
-count_more : (test : Option Spot → Bool) (spots : Spots) (next more : ℕ) → test None ≡ false → ((id : ℕ) → next ≤ id → spots id ≡ None) → spot_count test (next + more) spots ≡ spot_count test next spots
-unfolding sum_below
-count_more test spots next zero off none = ap (λ (n : ℕ). spot_count test n spots) (add-zero next)
-count_more test spots next (suc more) off none =
-    let rest : spot_count test (next + more) spots ≡ spot_count test next spots = count_more test spots next more off none in
-    let here : flag (test (spots (next + more))) ≡ 0 = ap (λ (o : Option Spot). flag (test o)) (none (next + more) (omega arith)) ∙ ap flag off in
-    ap (λ (n : ℕ). spot_count test n spots) (add-suc next more) ∙ omega (arith, rest, here)
-
-pub more_tallied : (next more : ℕ) (spots : Spots) (u : Usage) → next + more < 2 ^ 64 → ((id : ℕ) → next ≤ id → spots id ≡ None) → IsTallied next spots u → IsTallied (next + more) spots u
-more_tallied next more spots u fits none was = record {
-  unused = was.unused;
-  counted = record {
-    fits = fits;
-    changed = was.counted.changed ∙ sym (count_more (is_changed u.spare) spots next more refl none);
-    in_memory = was.counted.in_memory ∙ sym (count_more is_in_memory spots next more refl none);
-    free = ap (λ (n : ℕ). free_count u.free + n) (count_more (has_own u.spare) spots next more refl none) ∙ was.counted.free;
-  };
-  listed = was.listed;
-}

@@ -31,10 +31,6 @@ pub record IsChangedSpot (spare : List Bool) (n : Node) (old new : Spot) : Type 
   pub level : new.level ≡ old.level
   pub place : IsChangedPlace spare n old.place new.place
 
--- a made node is in memory, and has no slot of its own
-pub record IsMadeSpot (s : Spot) : Type 0 where
-  pub node : Rc Node Global
-  pub place : s.place ≡ Memory node None
 
 -- the node of this id alone was changed, to this one
 pub record IsChangedAt (spare : List Bool) (id : ℕ) (n : Node) (old new : Spots) : Type 0 where

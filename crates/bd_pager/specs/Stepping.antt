@@ -1,5 +1,5 @@
 -- What steps make of what is known of nodes.
-use Rattle.std.specs.Prelude.{◌≡◌, ◌≤◌, ◌==◌, ◌++◌, ℕ, suc, if◌then◌else◌, Bool, true, false, slice_set, List, [], ◌∷◌, Option, None, Some}
+use Rattle.std.specs.Prelude.{◌≡◌, ◌≤◌, ◌==◌, ◌++◌, ℕ, suc, if◌then◌else◌, Bool, List, [], ◌∷◌, Option, None, Some}
 use Rattle.std.specs.Global.{Global}
 use Rattle.std.specs.HashMap.{HashMap, spare}
 use Rattle.std.specs.declared.rc.Rc.{Rc}
@@ -62,21 +62,10 @@ with_count None old = old
 with_count (Some count) None = None
 with_count (Some count) (Some s) = Some (record s { refs = count })
 
--- the free slots with one that is given back, if there is one
-abbrev pub with_given : Option ℕ → List Bool → List Bool
-with_given None free = free
-with_given (Some slot) free = slice_set free slot true
-
 -- what is used once a node is put where this was known of the one before it
 abbrev pub put_usage : Option Spot → Usage → Usage
 put_usage old u =
     recounted (tally_of u.spare old) IN_MEMORY u
-
--- and once a node goes of which this was known
-abbrev pub dropped_usage : Option Spot → Usage → Usage
-dropped_usage old u =
-    recounted (tally_of u.spare old) (record { is_changed = false; is_in_memory = false })
-    (record u { free = with_given (own_slot_in u.spare old) u.free })
 
 -- nothing, where the id is one of these
 abbrev pub without_all : {X : Type 0} → List ℕ → ℕ → Option X → Option X

@@ -9,7 +9,6 @@ mod committing;
 mod entries;
 mod extending;
 pub mod laws;
-mod moving;
 mod naming;
 mod pager;
 mod parts;

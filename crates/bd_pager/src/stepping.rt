@@ -7,14 +7,15 @@ ghost use Rattle.std.specs.Option.{option_copied};
 ghost use Rattle.bd_cache.specs.Cache.{kept_at};
 ghost use Rattle.bd_slots.specs.Slots.{IsHeld};
 ghost use Rattle.bd_counts.specs.Naming.{times_among};
-ghost use Rattle.bd_pager.specs.Counting.{AreUnused, IsListed, IsListedMore, IsTallied};
+ghost use Rattle.bd_pager.specs.Changing.{own_slot};
+ghost use Rattle.bd_pager.specs.Counting.{dropped, AreUnused, IsListed, IsListedMore, IsTallied};
 ghost use Rattle.bd_pager.specs.Pagers.{IsPlaceIn};
 ghost use Rattle.bd_pager.specs.Places.{spots_in};
-ghost use Rattle.bd_pager.specs.Stepping.{HasRoomFor, put_at, put_spot, own_slot_in, with_put, with_count, with_given, without_all, put_usage, dropped_usage};
+ghost use Rattle.bd_pager.specs.Stepping.{HasRoomFor, put_at, put_spot, own_slot_in, with_put, with_count, without_all, put_usage};
 
 use crate::changing::slot_if_spare;
 use crate::place::{Place, Spot, refs_of};
-use crate::usage::{IN_MEMORY, Tally, Usage, tally_of};
+use crate::usage::{IN_MEMORY, NOWHERE, Usage, tally_of};
 use bd_cache::NodeCache;
 use bd_node::Node;
 use bd_slots::SlotSet;
@@ -28,12 +29,6 @@ pub struct Put {
     pub id: u64,
     pub node: Rc<Node>,
 }
-
-// What a node that is gone counts for.
-const GONE: Tally = Tally {
-    is_changed: false,
-    is_in_memory: false,
-};
 
 /// Lists the ids for which nodes are to be put.
 pub fn list_all(usage: &mut Usage, puts: &[Put]) -> Result<(), AllocError>
@@ -154,24 +149,24 @@ fn drop_one(spots: &mut HashMap<u64, Spot>, usage: &mut Usage, id: u64)
     requires { AreUnused usage.old.spare usage.old.free (spots_in spots.old) }
     ensures spots { (i : ℕ) → spots_in spots.new i
         ≡ (if id == i then None else spots_in spots.old i) }
-    ensures usage { usage.new ≡ dropped_usage (spots_in spots.old id) usage.old }
+    ensures usage { usage.new ≡ dropped usage.old (spots_in spots.old id) }
 {
-    let old = spots.get(&id);
-    let was = tally_of(&usage.spare, old);
-    let own = own_slot(old, &usage.spare);
-    let _ = spots.remove(&id);
-    give_back(&mut usage.free, own);
-    usage.recount(was, GONE);
+    if let Some(spot) = spots.remove(&id) {
+        uncount(usage, &spot);
+    }
 }
 
-// Gives a slot back, if there is one.
-fn give_back(free: &mut SlotSet, slot: Option<u32>)
-    requires { IfSome slot (IsHeld free.old) }
-    ensures { free.new ≡ with_given slot free.old }
+// Counts a node no more, and gives its own slot back.
+fn uncount(usage: &mut Usage, spot: &Spot)
+    requires place { IsPlaceIn usage.old.spare spot.now.place }
+    requires held { IfSome (own_slot usage.old.spare spot.now.place) (IsHeld usage.old.free) }
+    ensures { usage.new ≡ dropped usage.old (Some spot.now) }
 {
-    if let Some(slot) = slot {
-        free.give(slot);
+    let was = tally_of(&usage.spare, Some(spot));
+    if let Some(slot) = own_slot(Some(spot), &usage.spare) {
+        usage.free.give(slot);
     }
+    usage.recount(was, NOWHERE);
 }
 
 /// Keeps no node for these ids any more.
