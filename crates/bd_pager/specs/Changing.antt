@@ -31,7 +31,6 @@ pub record IsChangedSpot (spare : List Bool) (n : Node) (old new : Spot) : Type 
   pub level : new.level ≡ old.level
   pub place : IsChangedPlace spare n old.place new.place
 
-
 -- the node of this id alone was changed, to this one
 pub record IsChangedAt (spare : List Bool) (id : ℕ) (n : Node) (old new : Spots) : Type 0 where
   pub was : Spot

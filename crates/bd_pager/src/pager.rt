@@ -43,11 +43,14 @@ use std::marker::Model;
 use std::rc::Rc;
 
 /// The nodes over a device: those of its last checkpoint, in their slots, and those that were
-/// changed or made since, in memory or in slots that the checkpoint doesn't hold. It reads nodes
-/// and puts messages into the root so far; how steps are made comes next.
+/// changed or made since, in memory or in slots that the checkpoint doesn't hold. How nodes are
+/// written comes next.
 ///
 /// A fetch finds its node by hashing, and reads at most one slot. It looks at each name that the
-/// node has. An append takes the time of its messages, unless a caller holds the root.
+/// node has. A commit takes the time of what the step holds and names, and of the nodes that it
+/// changes and that go, each of which it finds, however many nodes there are. An append takes the
+/// time of its messages, an extension that of its messages, of its new nodes, and of a look at what
+/// the root names, unless a caller holds the root.
 #[derive(Drop)]
 pub struct Pager<D: Device> {
     alloc: Global,

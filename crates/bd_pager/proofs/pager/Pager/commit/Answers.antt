@@ -73,10 +73,9 @@ invariant_of-self-2 g c =
     let e = c.in-Ok-carry_out.ensures in
     let made = plan_made g.D.Device old p c.args.step plan c.self.invariant.0 c.requires.step left c.in-Ok.ensures.plan new.spots.entries new.cache new.usage.spare (i.next + c.len-made.result) c.saturating_add-self-inside.result
     e.spare (ap (λ (n : ℕ). i.next + n) c.len-made.ensures) e.spots e.cache in
-    let more = tallied_more (g.D.Device.contents i.reader.dev) p (length c.args.step.made) i.usage c.self.invariant.0 (plan_fits g.D.Device old p c.args.step plan c.self.invariant.0 c.requires.step left c.in-Ok.ensures.plan) c.self.invariant.1 in
-    (
+    let more = tallied_more (g.D.Device.contents i.reader.dev) p (length c.args.step.made) i.usage c.self.invariant.0 (plan_fits g.D.Device old p c.args.step plan c.self.invariant.0 c.requires.step left c.in-Ok.ensures.plan) c.self.invariant.1 in (
       made.0,
       subst (λ (n : ℕ). IsTallied (i.next + n) (spots_in new.spots) new.usage) (sym c.len-made.ensures)
-      (e.tallied (i.next + length c.args.step.made) (plan_below g.D.Device old p c.args.step plan c.self.invariant.0 c.requires.step left c.in-Ok.ensures.plan)
-      (gone_below g.D.Device old p c.args.step plan c.self.invariant.0 c.requires.step left c.in-Ok.ensures.plan) more),
+          (e.tallied (i.next + length c.args.step.made) (plan_below g.D.Device old p c.args.step plan c.self.invariant.0 c.requires.step left c.in-Ok.ensures.plan)
+          (gone_below g.D.Device old p c.args.step plan c.self.invariant.0 c.requires.step left c.in-Ok.ensures.plan) more),
     )

@@ -87,8 +87,7 @@ invariant_of-self g c =
     let e = c.in-Err-extend_spots.ensures in
     let u = c.extend_spots.new.usage in
     let spots = c.extend_spots.new.spots in
-    let same : spots_of p ≡ spots_in spots = λ j id. sym (e.err id) j in
-    (
+    let same : spots_of p ≡ spots_in spots = λ j id. sym (e.err id) j in (
       subst (λ (s : List Bool). let q : Paged g.row.D.Denot = record p { spots = spots.entries; spare = s } in IsPaged (D.contents p.dev) q) (sym e.spare) (reordered D p spots.entries same was),
       e.err_tallied i.next (was.table.below p.root was.table.root) c.self.invariant.1,
     )
@@ -111,11 +110,10 @@ invariant_of-self-2 g c =
     let all = pager_extended D p made list was ok looked c.in-Ok.addition new.spots.entries new.usage.spare (i.size + c.size-added.result) (i.next + c.len-count.result) c.saturating_add-self-inside.result is
     (ap (λ (n : ℕ). i.size + n) c.size-added.ensures) (ap (λ (n : ℕ). i.next + n) c.len-count.ensures) e.spare e.ok in
     let below : AllByRecursion (λ (put : Put). put.id < i.next + length made) c.in-Ok.addition.puts.items = addition_below (table_of p) made list c.in-Ok.addition is in
-    let low : i.root < i.next + length made = omega (arith, was.table.below p.root was.table.root) in
-    (
+    let low : i.root < i.next + length made = omega (arith, was.table.below p.root was.table.root) in (
       all.0,
       subst (λ (n : ℕ). IsTallied (i.next + n) (spots_in new.spots) new.usage) (sym c.len-count.ensures)
-      (e.tallied (i.next + length made) low below (tallied_more (D.contents p.dev) p (length made) i.usage was is.fits c.self.invariant.1)),
+          (e.tallied (i.next + length made) low below (tallied_more (D.contents p.dev) p (length made) i.usage was is.fits c.self.invariant.1)),
     )
 
 pub returns-clause-table : goal.returns-clause-table
