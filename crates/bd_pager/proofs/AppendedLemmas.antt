@@ -6,7 +6,7 @@ use Rattle.std.specs.Map.{lookup}
 use Rattle.std.proofs.lemmas.Bool.{and_from, cases_eq}
 use Rattle.std.proofs.lemmas.Option.{none-some, same_Some}
 use Rattle.std.proofs.lemmas.List.Elements.{recursion_from_All}
-use Rattle.bd_limits.specs.Limits.{buffer_limit}
+use Rattle.bd_limits.specs.Limits.{buffer_limit, level_limit}
 use Rattle.bd_message.specs.declared.message.Message.{Message}
 use Rattle.bd_message.specs.Messages.{IsMessage, size}
 use Rattle.bd_device.specs.Blocks.{Image}
@@ -30,7 +30,7 @@ use Rattle.bd_pager.specs.Changing.{IsChangedAt}
 use Rattle.bd_pager.specs.Keeping.{KeepsSaved}
 use Rattle.bd_pager.specs.Slots.{IsOfLevel}
 use Rattle.bd_pager.specs.Places.{Spots, level_in, copy_at, copy_in, node_of, told, IsReadAt, IsRead}
-use Rattle.bd_pager.specs.Pagers.{Paged, spots_of, is_saved, is_changed, table_of, nodes_of, is_known, IsOfSize, IsPlaceIn, IsPaged}
+use Rattle.bd_pager.specs.Pagers.{Paged, spots_of, is_saved, is_changed, table_of, nodes_of, is_known, IsOfSize, IsPlaceIn, IsStoredAs, IsPaged}
 use Rattle.bd_pager.proofs.ChangingLemmas.{same_refs, same_level, each_kept, copy_now, changed_before, changed_stays, node_is, still_right, place_now}
 use Rattle.bd_pager.proofs.FreshLemmas.{copy_at_place}
 
@@ -40,16 +40,12 @@ pub sized_copy : (bytes : ℕ) (o : Option Node) → IsOfSize bytes o → IsSome
 sized_copy bytes None sized = absurd sized
 sized_copy bytes (Some n) sized = refl
 
-pub place_there : (spare : List Bool) (spots : Spots) (id : ℕ) (o : Option Spot) → spots id ≡ o → ((i : ℕ) (s : Spot) → spots i ≡ Some s → IsPlaceIn spare s.place) → IfSome o (λ s. IsPlaceIn spare s.place)
-place_there spare spots id None there slots = tt
-place_there spare spots id (Some s) there slots = slots id s there
-
 -- the node of it that is in memory
 pub root_copy : (o : Option Node) → IsSome o → (n : Node) × (o ≡ Some n)
 root_copy None some = absurd (let e : false ≡ true = some in cc)
 root_copy (Some n) some = (n, refl)
 
-split_and : (a b : Bool) → (a && b) ≡ true → (a ≡ true) × (b ≡ true)
+pub split_and : (a b : Bool) → (a && b) ≡ true → (a ≡ true) × (b ≡ true)
 split_and true b both = (refl, both)
 split_and false b both = absurd (let e : false ≡ true = both in cc)
 
@@ -58,7 +54,7 @@ waits_within (Leaf entries) shape = omega arith
 waits_within (Inner level edges buffer) shape = shape.size
 
 -- what was read isn't of a node that is in memory
-copied_unread : (contents : Option Image) (is_lent : Bool) (level : ℕ) (p : Place) (n m : Node) → copy_at p ≡ Some n → IsReadAt contents is_lent level p m → ⊥
+pub copied_unread : (contents : Option Image) (is_lent : Bool) (level : ℕ) (p : Place) (n m : Node) → copy_at p ≡ Some n → IsReadAt contents is_lent level p m → ⊥
 copied_unread contents is_lent level (Memory node slot) n m copy read = read
 copied_unread contents is_lent level (Slot slot None) n m copy read = none-some n copy
 copied_unread contents is_lent level (Slot slot (Some node)) n m copy read = read
@@ -87,7 +83,7 @@ touched_sound f nodes t s = record {
 
 module _ {D : Type 0} (g : Ghosts D) (p : Paged D) (entries : List (ℕ × Spot)) (bytes : ℕ) (n : Node) (list : List Message) where
   abbrev q : Paged D
-  q = record p { spots = entries; size = bytes }
+  q = record p { spots = entries; size = bytes; written = None }
 
   module _ (was : IsPaged (g.contents p.dev) p) (copy : copy_in (spots_of p p.root) ≡ Some n) (fits : FitsRoot (table_of p) list) (bytes_is : bytes ≡ p.size + sum_by size list)
       (h : IsChangedAt p.spare p.root (appended n list) (spots_of p) (spots_of q)) where
@@ -137,9 +133,14 @@ module _ {D : Type 0} (g : Ghosts D) (p : Paged D) (entries : List (ℕ × Spot)
             (subst (λ (o : Option Spot). IsRead (g.contents p.dev) p.is_lent o m) there (was.cached i m kept)))
         | inr other ↦ subst (λ (o : Option Spot). IsRead (g.contents p.dev) p.is_lent o m) (sym (h.others i other)) (was.cached i m kept)
       ];
+      levels = each_kept spare p.root more (spots_of p) (spots_of q) h (λ i s. s.level ≤ level_limit) (omega (arith, h.changed.level, was.levels p.root h.was h.there)) was.levels;
+      held = was.held;
       spare = was.spare;
       slots = each_kept spare p.root more (spots_of p) (spots_of q) h (λ i s. IsPlaceIn spare s.place) (place_now spare p.root more (spots_of p) (spots_of q) h (was.slots p.root h.was h.there)) was.slots;
+      stored = each_kept spare p.root more (spots_of p) (spots_of q) h (λ i s. IsStoredAs spare p.saved.entries i s.level s.place)
+          (subst (λ (l : Place). IsStoredAs spare p.saved.entries p.root h.now.level l) (sym h.changed.place.place) tt) was.stored;
       saved = was.saved;
+      ready = tt;
     }
 
     table_is : table_of q ≡ with_touched (table_of q).touched (grown (table_of p) list)
@@ -209,7 +210,7 @@ pub record IsGrown {D : Type 0} (g : Ghosts D) (p : Paged D) (list : List Messag
 
 pub pager_grown : {D : Type 0} (g : Ghosts D) (p : Paged D) (entries : List (ℕ × Spot)) (bytes : ℕ) (list : List Message) → IsPaged (g.contents p.dev) p → FitsRoot (table_of p) list → bytes ≡ p.size + sum_by size list
     → ((n : Node) → copy_in (spots_of p p.root) ≡ Some n → IsChangedAt p.spare p.root (appended n list) (spots_of p) (λ id. lookup (nat_eq id) entries))
-    → IsGrown g p list (record p { spots = entries; size = bytes })
+    → IsGrown g p list (record p { spots = entries; size = bytes; written = None })
 pager_grown {D} g p entries bytes list was fits bytes_is changed =
     let copy = root_copy (copy_in (spots_of p p.root)) (sized_copy p.size (copy_in (spots_of p p.root)) was.root) in
     let h = changed copy.0 copy.1 in

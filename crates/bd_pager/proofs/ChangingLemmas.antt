@@ -34,7 +34,7 @@ spare_slot spare slot node None e = tt
 spare_slot spare slot node (Some false) e = tt
 spare_slot spare slot node (Some true) e = e
 
-own_in : (spare : List Bool) (p : Place) (node : Rc Node Global) → IsPlaceIn spare p → IsPlaceIn spare (Memory node (own_slot spare p))
+pub own_in : (spare : List Bool) (p : Place) (node : Rc Node Global) → IsPlaceIn spare p → IsPlaceIn spare (Memory node (own_slot spare p))
 own_in spare (Memory m None) node within = tt
 own_in spare (Memory m (Some slot)) node within = within
 own_in spare (Slot slot copy) node within = spare_slot spare slot node (slice_get spare slot) refl

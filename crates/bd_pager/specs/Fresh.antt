@@ -8,6 +8,8 @@ use Rattle.bd_node.specs.declared.node.Node.{Node}
 use Rattle.bd_pager.specs.declared.place.Place.TheVariants.{Memory}
 use Rattle.bd_pager.specs.declared.place.Spot.{Spot}
 use Rattle.bd_pager.specs.declared.parts.Parts.{Parts}
+use Rattle.bd_pager.specs.declared.usage.Usage.{Usage}
+use Rattle.bd_pager.specs.Counting.{IsListed}
 use Rattle.bd_pager.specs.Places.{Spots, spots_in}
 use Rattle.bd_pager.specs.Pagers.{Paged}
 
@@ -29,14 +31,23 @@ assembled dev parts = record {
   spots = parts.spots.entries;
   saved = parts.saved;
   at = parts.at.items;
-  spare = parts.spare;
+  spare = parts.usage.spare;
   root = parts.root;
   size = parts.size;
   next = parts.next;
   visits = 0;
   cache = parts.cache;
   is_lent = false;
+  written = None;
 }
+
+-- so many slots, all spare and free, and the root alone is changed, and in memory
+pub record IsFreshUsage (slots : ℕ) (u : Usage) : Type 0 where
+  pub spare : u.spare ≡ replicate slots true
+  pub free : u.free ≡ replicate slots true
+  pub changed : u.changed ≡ 1
+  pub in_memory : u.in_memory ≡ 1
+  pub listed : IsListed u.listed 1
 
 -- such a root, nothing saved, so many slots, all spare, and nothing read
 pub record AreFreshParts (slots : ℕ) (parts : Parts) : Type 0 where
@@ -46,7 +57,7 @@ pub record AreFreshParts (slots : ℕ) (parts : Parts) : Type 0 where
   pub next : parts.next ≡ 2
   pub saved : parts.saved.entries ≡ []
   pub at : parts.at.items ≡ []
-  pub spare : parts.spare ≡ replicate slots true
+  pub usage : IsFreshUsage slots parts.usage
   pub cached : (id : ℕ) → kept_at parts.cache id ≡ None
 
 -- nothing is saved, and nothing was visited or lent
@@ -57,3 +68,4 @@ pub record IsUnsaved {D : Type 0} (slots : ℕ) (dev : D) (p : Paged D) : Type 0
   pub spare : p.spare ≡ replicate slots true
   pub visits : p.visits ≡ 0
   pub lent : p.is_lent ≡ false
+  pub written : p.written ≡ None

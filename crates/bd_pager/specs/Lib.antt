@@ -1,6 +1,9 @@
 pub mod Calling
 pub mod Changing
+pub mod Committing
+pub mod Counting
 pub mod Entries
+pub mod Extending
 pub mod Fresh
 pub mod Keeping
 pub mod Lending
@@ -9,4 +12,5 @@ pub mod Pagers
 pub mod Places
 pub mod Readers
 pub mod Slots
+pub mod Stepping
 pub mod Writes

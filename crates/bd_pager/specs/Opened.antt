@@ -13,6 +13,7 @@ use Rattle.bd_table.specs.declared.table.Table.{Table as Checkpoint}
 use Rattle.bd_table.specs.declared.table.TableEntry.{TableEntry}
 use Rattle.bd_pager.specs.declared.place.Place.TheVariants.{Slot}
 use Rattle.bd_pager.specs.declared.place.Spot.{Spot}
+use Rattle.bd_pager.specs.declared.usage.Usage.{Usage}
 use Rattle.bd_pager.specs.Slots.{HasNode, HasNoNode, IsOfLevel}
 use Rattle.bd_pager.specs.Places.{Spots}
 use Rattle.bd_pager.specs.Pagers.{Paged, spots_of}
@@ -48,6 +49,7 @@ pub record IsOpened {D : Type 0} (contents : Option Image) (slots : ℕ) (at : L
   pub cached : (id : ℕ) → kept_at p.cache id ≡ None
   pub visits : p.visits ≡ 0
   pub lent : p.is_lent ≡ false
+  pub written : p.written ≡ None
   pub table_held : IfSome contents (λ image. HoldsTable image slots at p.saved)
   pub root_held : IfSome contents (λ image. HasNode image entry.slot entry.level node.value)
 
@@ -61,6 +63,12 @@ pub record IsBadRoot (image : Image) (slots : ℕ) (at : List ℕ) (b : ℕ) : T
   pub is_root : IsRoot table.root entry
   pub block : b ≡ slot_block entry.slot
   pub none : HasNoNode image entry.slot entry.level
+
+-- nothing was changed
+pub record IsUnchanged (u : Usage) : Type 0 where
+  pub free : u.free ≡ u.spare
+  pub changed : u.changed ≡ 0
+  pub in_memory : u.in_memory ≡ 0
 
 -- the block is the first one of the table's slots, which have none, or of the root's, which has no
 -- such node

@@ -1,9 +1,10 @@
 -- What a pager is seen as.
-use Rattle.std.specs.Prelude.{◌≡◌, ◌<◌, ◌≤◌, ◌⊎◌, ◌==◌, ◌&&◌, ◌++◌, ⊤, ℕ, Bool, true, false, List, length, Option, None, Some, IsSome, IsTrue, nat_eq, slice_index, slice_index_or}
+use Rattle.std.specs.Prelude.{◌≡◌, ◌<◌, ◌≤◌, ◌⊎◌, ◌==◌, ◌&&◌, ◌++◌, ⊤, ℕ, Bool, true, false, List, length, Option, None, Some, All, Any, IfSome, IsSome, IsTrue, nat_eq, slice_index, slice_index_or}
 use Rattle.std.specs.List.{list_any}
 use Rattle.std.specs.Map.{lookup}
-use Rattle.bd_slots.specs.Layout.{slot_block}
-use Rattle.bd_slots.specs.Slots.{IsFree}
+use Rattle.bd_limits.specs.Limits.{level_limit}
+use Rattle.bd_slots.specs.Layout.{slot_block, AreSlots}
+use Rattle.bd_slots.specs.Slots.{IsFree, IsHeld}
 use Rattle.bd_device.specs.Blocks.{Image}
 use Rattle.bd_device.specs.Device.{OnlyReads}
 use Rattle.bd_device.specs.declared.device.Device.{Ghosts}
@@ -13,7 +14,7 @@ use Rattle.bd_node.specs.declared.node.Node.{Node}
 use Rattle.bd_node.specs.Nodes.{buffer_size}
 use Rattle.bd_node.specs.Meaning.{Nodes}
 use Rattle.bd_node.specs.Tables.{Table, IsTable, IsSound}
-use Rattle.bd_table.specs.Tables.{AreFreeSlots, slots_of}
+use Rattle.bd_table.specs.Tables.{AreFreeSlots, IsTableAt, slots_of}
 use Rattle.bd_table.specs.declared.table.Table.{Table as Checkpoint}
 use Rattle.bd_table.specs.declared.table.TableEntry.{TableEntry}
 use Rattle.bd_pager.specs.Slots.{slot_bytes}
@@ -22,10 +23,12 @@ use Rattle.bd_pager.specs.declared.place.Place.{Place}
 use Rattle.bd_pager.specs.declared.place.Place.TheVariants.{Memory, Slot}
 use Rattle.bd_pager.specs.declared.place.Spot.{Spot}
 use Rattle.bd_pager.specs.declared.reader.NodeReader.{NodeReader}
+use Rattle.bd_pager.specs.declared.written.Written.{Written}
 
 -- the device, what is known of each kept node, the last checkpoint's table with its slots, the
 -- slots that this doesn't hold, the root, the size of what waits in it, the next id, how many nodes
--- were fetched or made, the nodes that were read, and whether the device was lent since
+-- were fetched or made, the nodes that were read, whether the device was lent since, and what is
+-- written to be the next checkpoint
 pub record Paged (D : Type 0) : Type 0 where
   pub dev : D
   pub spots : List (ℕ × Spot)
@@ -38,6 +41,7 @@ pub record Paged (D : Type 0) : Type 0 where
   pub visits : ℕ
   pub cache : NodeCache
   pub is_lent : Bool
+  pub written : Option Written
 
 -- ---- nodes
 
@@ -121,22 +125,60 @@ IsPlaceIn spare (Memory node None) = ⊤
 IsPlaceIn spare (Memory node (Some slot)) = IsFree spare slot
 IsPlaceIn spare (Slot slot copy) = slot < length spare
 
--- what holds whatever the device has: each kept node is named; the root is in memory; the spare
--- slots are those that the checkpoint doesn't hold; no saved id is a new one
+-- a node in a slot that the checkpoint holds is the one that it has there
+abbrev pub IsStoredAs : List Bool → List TableEntry → ℕ → ℕ → Place → Type 0
+IsStoredAs spare entries id level (Memory node slot) = ⊤
+IsStoredAs spare entries id level (Slot slot copy) =
+    IsHeld spare slot → Any (λ e. (e.id ≡ id) × (e.slot ≡ slot) × (e.level ≡ level)) entries
+
+-- the node is in this slot
+abbrev pub IsInSlot : ℕ → Place → Type 0
+IsInSlot slot (Memory node own) = ⊥
+IsInSlot slot (Slot there copy) = there ≡ slot
+
+-- an entry of a table says how often the node is named, its level and the slot where it is
+abbrev pub IsEntryOf : TableEntry → Option Spot → Type 0
+IsEntryOf e None = ⊥
+IsEntryOf e (Some s) = (e.refs ≡ s.refs) × (e.level ≡ s.level) × IsInSlot e.slot s.place
+
+-- the entries are those of the kept nodes
+pub record AreEntriesOf (entries : List TableEntry) (spots : Spots) : Type 0 where
+  pub each : All (λ e. IsEntryOf e (spots e.id)) entries
+  pub all : (id : ℕ) (s : Spot) → spots id ≡ Some s → Any (λ e. e.id ≡ id) entries
+
+-- a table of these nodes, with slots that the last checkpoint doesn't hold
+pub record IsReady (spare : List Bool) (spots : Spots) (root next : ℕ) (w : Written) : Type 0
+  where
+    pub table : IsTableAt (length spare) w.at w.table
+    pub at : All (IsFree spare) w.at
+    pub entries : AreEntriesOf w.table.entries spots
+    pub root_is : w.table.root ≡ root
+    pub next_is : w.table.next_id ≡ next
+    pub spare_is : AreFreeSlots (length spare) (w.at ++ slots_of w.table.entries) w.spare
+    pub free_is : w.free ≡ w.spare
+
+-- what holds whatever the device has: each kept node is named; the root is in memory; the slots
+-- that the checkpoint holds differ, the others are spare, and nodes in those are as it has them; no
+-- saved id is a new one; what is written is of the nodes
 pub record IsPaged {D : Type 0} (contents : Option Image) (p : Paged D) : Type 0 where
   pub table : IsTable (table_of p)
   pub used : (id : ℕ) (s : Spot) → spots_of p id ≡ Some s → 1 ≤ s.refs
   pub placed : ArePlaced (spots_of p)
   pub root : IsOfSize p.size (copy_in (spots_of p p.root))
   pub cached : AreCached contents p.is_lent (spots_of p) p.cache
+  pub levels : (id : ℕ) (s : Spot) → spots_of p id ≡ Some s → s.level ≤ level_limit
+  pub held : AreSlots (length p.spare) (p.at ++ slots_of p.saved.entries)
   pub spare : AreFreeSlots (length p.spare) (p.at ++ slots_of p.saved.entries) p.spare
   pub slots : (id : ℕ) (s : Spot) → spots_of p id ≡ Some s → IsPlaceIn p.spare s.place
+  pub stored : (id : ℕ) (s : Spot) → spots_of p id ≡ Some s
+      → IsStoredAs p.spare p.saved.entries id s.level s.place
   pub saved : (id : ℕ) → IsTrue (is_saved p.saved.entries id) → id < p.next
+  pub ready : IfSome p.written (IsReady p.spare (spots_of p) p.root p.next)
 
 -- what it is seen as
 abbrev pub seen : {D : Type 0} → NodeReader D → Checkpoint → List ℕ → List Bool → ℕ → ℕ → ℕ → ℕ
-    → Paged D
-seen reader saved at spare root size next visits = record {
+    → Option Written → Paged D
+seen reader saved at spare root size next visits written = record {
   dev = reader.dev;
   spots = reader.spots.entries;
   saved = saved;
@@ -148,6 +190,7 @@ seen reader saved at spare root size next visits = record {
   visits = visits;
   cache = reader.cache;
   is_lent = reader.is_lent;
+  written = written;
 }
 
 -- only the device was read, and what is counted and kept of reads has changed

@@ -44,6 +44,15 @@ abbrev pub copy_in : Option Spot → Option Node
 copy_in None = None
 copy_in (Some s) = copy_at s.place
 
+-- the slot that a place has: its own, or the one where the node is
+abbrev pub slot_at : Place → Option ℕ
+slot_at (Memory node slot) = slot
+slot_at (Slot slot copy) = Some slot
+
+abbrev pub slot_in : Option Spot → Option ℕ
+slot_in None = None
+slot_in (Some s) = slot_at s.place
+
 -- the node that is there: in memory, or what the slot's bytes encode
 abbrev pub node_at : Image → Place → Option Node
 node_at image (Memory node slot) = Some node.value

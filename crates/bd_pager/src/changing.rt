@@ -5,9 +5,12 @@ ghost use Rattle.bd_node.specs.declared.node.Node.{Node};
 ghost use Rattle.bd_node.specs.Nodes.{appended};
 ghost use Rattle.bd_pager.specs.Places.{spots_in, copy_at, copy_in};
 ghost use Rattle.bd_pager.specs.Pagers.{IsPlaceIn};
+ghost use Rattle.bd_pager.specs.Counting.{AreUnused, IsListed, IsTallied};
+ghost use Rattle.bd_pager.specs.Stepping.{HasRoomFor};
 ghost use Rattle.bd_pager.specs.Changing.{slot_if, IsChangedPlace, IsChangedSpot, IsChangedAt};
 
 use crate::place::{Place, Spot};
+use crate::usage::{IN_MEMORY, Usage, tally_of};
 use bd_node::{Messages, Node};
 use bd_slots::SlotSet;
 use std::alloc::{AllocError, Global};
@@ -15,8 +18,37 @@ use std::collections::HashMap;
 use std::mem;
 use std::rc::Rc;
 
-/// Puts messages after those that wait in a node that is in memory, which is changed by that.
-pub fn append_at(
+/// Puts messages after those that wait in a node that is in memory, which is changed by that, and
+/// counted so.
+pub fn append_counted(
+    alloc: Global,
+    spots: &mut HashMap<u64, Spot>,
+    usage: &mut Usage,
+    id: u64,
+    list: Messages,
+) -> Result<(), AllocError>
+    requires copy { IsSome (copy_in (spots_in spots.old id)) }
+    requires unused { AreUnused usage.old.spare usage.old.free (spots_in spots.old) }
+    ensures ok { (n : Node) → copy_in (spots_in spots.old id) ≡ Some n → OnOk result
+        (IsChangedAt usage.old.spare id (appended n list)
+        (spots_in spots.old) (spots_in spots.new)) }
+    ensures err { OnErr result (spots.new.entries ≡ spots.old.entries) }
+    ensures spare { usage.new.spare ≡ usage.old.spare }
+    ensures free { usage.new.free ≡ usage.old.free }
+    ensures listed { (i : ℕ) → IsListed usage.old.listed i → IsListed usage.new.listed i }
+    ensures room { (count : ℕ) → HasRoomFor count spots.old → HasRoomFor count spots.new }
+    ensures tallied { (next : ℕ) → id < next → IsTallied next (spots_in spots.old) usage.old
+        → IsTallied next (spots_in spots.new) usage.new }
+{
+    usage.list(id)?;
+    let was = tally_of(&usage.spare, spots.get(&id));
+    append_at(alloc, spots, id, list, &usage.spare)?;
+    usage.recount(was, IN_MEMORY);
+    Ok(())
+}
+
+// Puts messages after those that wait in a node that is in memory, which is changed by that.
+fn append_at(
     alloc: Global,
     spots: &mut HashMap<u64, Spot>,
     id: u64,
@@ -28,6 +60,7 @@ pub fn append_at(
     ensures ok { (n : Node) → copy_in (spots_in spots.old id) ≡ Some n → OnOk result
         (IsChangedAt spare.now id (appended n list) (spots_in spots.old) (spots_in spots.new)) }
     ensures err { OnErr result (spots.new.entries ≡ spots.old.entries) }
+    ensures room { (count : ℕ) → HasRoomFor count spots.old → HasRoomFor count spots.new }
 {
     match spots.get_mut(&id) {
         Some(spot) => append_to_spot(alloc, spot, list, spare),
@@ -91,8 +124,8 @@ fn appended(
     }
 }
 
-// The slot, where it is a spare one.
-fn slot_if_spare(spare: &SlotSet, slot: u32) -> Option<u32>
+/// The slot, where it is a spare one.
+pub fn slot_if_spare(spare: &SlotSet, slot: u32) -> Option<u32>
     requires { slot < length spare.now }
     ensures { result ≡ slot_if (slice_get spare.now slot) slot }
 {

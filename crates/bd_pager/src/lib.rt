@@ -1,11 +1,13 @@
-//! Nodes over a device: read from slots and written to them. `Pager` is to be the store of them; it
-//! reads and appends so far, and how steps are made comes next.
-//! The layers above may use the contracts of `Pager`, `read_node`, `write_node` and `write_nodes`,
-//! and the law that slots survive what others write.
+//! Nodes over a device: read from slots and written to them. `Pager` is the store of them; how they
+//! are written comes next.
+//! The layers above may use the contracts of `Pager`, also as a `NodeStore`, of `read_node`,
+//! `write_node` and `write_nodes`, and the law that slots survive what others write.
 #![tactic(auto)]
 
 mod changing;
+mod committing;
 mod entries;
+mod extending;
 pub mod laws;
 mod naming;
 mod pager;
@@ -14,6 +16,9 @@ mod place;
 mod reader;
 mod reading;
 mod slots;
+mod stepping;
+mod usage;
+mod written;
 
 pub use pager::{Pager, Refused};
 pub use reading::read_node;

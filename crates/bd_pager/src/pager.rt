@@ -2,7 +2,6 @@
 
 ghost use Rattle.std.specs.Prelude.{◌≡◌, ◌≤◌, [], Some, false, IsSome, IfOk, IfErr, OnOk, OnErr, slice_index};
 ghost use Rattle.std.specs.Borrow.{sem};
-ghost use Rattle.std.specs.Option.{option_copied};
 ghost use Rattle.bd_message.specs.KeyMaps.{HasMapCause, NeverWorn};
 ghost use Rattle.bd_slots.specs.Layout.{IsTablePlace, image_blocks};
 ghost use Rattle.bd_device.specs.Device.{OnlyReads, IsImageCause};
@@ -14,42 +13,52 @@ ghost use Rattle.bd_node.specs.Steps.{append_step, HasGrown, IsCommitted};
 ghost use Rattle.bd_node.specs.Stores.{visited, FitsRoot, OnlyReadsBy, StaysBy};
 ghost use Rattle.bd_node.specs.Tables.{kept_count, IsKept, IsNodeOf, IsSound, IsTable};
 ghost use Rattle.bd_pager.specs.Calling.{read_none, read_both, read_known};
+ghost use Rattle.bd_pager.specs.Counting.{IsTallied};
 ghost use Rattle.bd_pager.specs.Fresh.{assembled, IsUnsaved};
 ghost use Rattle.bd_pager.specs.Keeping.{KeepsSaved};
 ghost use Rattle.bd_pager.specs.Lending.{lends_device};
 ghost use Rattle.bd_pager.specs.Opened.{IsOpened, IsBadStart};
 ghost use Rattle.bd_pager.specs.Pagers.{table_of, nodes_of, spots_of, is_known, is_bad, IsPaged, IsReadOf};
-ghost use Rattle.bd_pager.specs.Places.{refs_in, AreCached};
+ghost use Rattle.bd_pager.specs.Places.{spots_in, AreCached};
 
-use crate::changing::append_at;
+mod steps;
+mod store;
+
+use crate::changing::append_counted;
 use crate::naming::names_lower;
 use crate::parts::Parts;
-use crate::place::Spot;
+use crate::place::refs_of;
 use crate::reader::NodeReader;
+use crate::usage::Usage;
+use crate::written::Written;
 use bd_counts::Counted;
 use bd_device::{Device, ImageFault};
 use bd_format::laws::images_are_decoded;
 use bd_message::MapFault;
 use bd_node::{Messages, Node};
-use bd_slots::{SlotSet, slot_block};
+use bd_slots::slot_block;
 use bd_table::Table;
 use std::alloc::Global;
 use std::marker::Model;
 use std::rc::Rc;
 
 /// The nodes over a device: those of its last checkpoint, in their slots, and those that were
-/// changed or made since, in memory or in slots that the checkpoint doesn't hold. It reads nodes
-/// and puts messages into the root so far; how steps are made comes next.
+/// changed or made since, in memory or in slots that the checkpoint doesn't hold. How nodes are
+/// written comes next.
 ///
 /// A fetch finds its node by hashing, and reads at most one slot. It looks at each name that the
-/// node has. An append takes the time of its messages, unless a caller holds the root.
+/// node has. A commit takes the time of what the step holds and names, and of the nodes that it
+/// changes and that go, each of which it finds, however many nodes there are. An append takes the
+/// time of its messages, an extension that of its messages, of its new nodes, and of a look at what
+/// the root names, unless a caller holds the root.
 #[derive(Drop)]
 pub struct Pager<D: Device> {
     alloc: Global,
     reader: NodeReader<D>,
     saved: Table,
     at: Vec<u32>,
-    spare: SlotSet,
+    usage: Usage,
+    written: Option<Written>,
     root: u64,
     size: usize,
     next: u64,
@@ -58,13 +67,17 @@ pub struct Pager<D: Device> {
 
 impl<D: Device> Model for Pager<D> {
     ghost use Rattle.bd_pager.specs.Pagers.{Paged, IsPaged, seen};
+    ghost use Rattle.bd_pager.specs.Counting.{IsTallied};
+    ghost use Rattle.bd_pager.specs.Places.{spots_in};
 
     ghost Value = { Paged D };
 
-    ghost view = { λ p. seen p.reader p.saved p.at.items p.spare p.root p.size p.next p.visits };
+    ghost view = { λ p. seen p.reader p.saved p.at.items p.usage.spare p.root p.size p.next p.visits
+        p.written };
 
     ghost invariant = { λ p. IsPaged (D.contents p.reader.dev)
-        (seen p.reader p.saved p.at.items p.spare p.root p.size p.next p.visits) };
+        (seen p.reader p.saved p.at.items p.usage.spare p.root p.size p.next p.visits p.written)
+        × IsTallied p.next (spots_in p.reader.spots) p.usage };
 }
 
 /// Why there is no pager, and the device again.
@@ -129,14 +142,15 @@ impl<D: Device> Pager<D> {
 
     // The pager of these parts over a device.
     fn over(alloc: Global, dev: D, parts: Parts) -> Pager<D>
-        requires { IsPaged (D.contents dev) (assembled dev parts) }
+        requires paged { IsPaged (D.contents dev) (assembled dev parts) }
+        requires tallied { IsTallied parts.next (spots_in parts.spots) parts.usage }
         ensures { result ≡ assembled dev parts }
     {
         let Parts {
             spots,
             saved,
             at,
-            spare,
+            usage,
             root,
             size,
             next,
@@ -154,7 +168,8 @@ impl<D: Device> Pager<D> {
             },
             saved,
             at,
-            spare,
+            usage,
+            written: None,
             root,
             size,
             next,
@@ -214,17 +229,18 @@ impl<D: Device> Pager<D> {
             (is_bad D.Device self.new) NeverWorn result }
     {
         let added = list.size();
-        match append_at(
+        match append_counted(
             self.alloc,
             &mut self.reader.spots,
+            &mut self.usage,
             self.root,
             list,
-            &self.spare,
         ) {
             Ok(()) => {}
             Err(_) => return Err(MapFault::NoMemory),
         }
         self.size += added;
+        self.written = None;
         Ok(())
     }
 
@@ -361,16 +377,6 @@ impl<D: Device> Counted for Pager<D> {
 
     fn next_id(&self) -> u64 {
         self.next
-    }
-}
-
-// How often the node of a spot is named: 0 where there is none.
-fn refs_of(spot: Option<&Spot>) -> u64
-    ensures { result ≡ refs_in (option_copied spot.entry) }
-{
-    match spot {
-        Some(spot) => spot.refs,
-        None => 0,
     }
 }
 

@@ -1,18 +1,19 @@
 //! What pagers are made of.
 
-ghost use Rattle.std.specs.Prelude.{◌≡◌, ◌≤◌, ◌<◌, IfOk, IfSome, AllPairs, Contains};
-ghost use Rattle.bd_slots.specs.Layout.{IsTablePlace, image_blocks};
+ghost use Rattle.std.specs.Prelude.{◌≡◌, ◌≤◌, ◌<◌, ◌++◌, IfOk, IfSome, AllPairs, Contains};
+ghost use Rattle.bd_slots.specs.Layout.{AreSlots, IsTablePlace, image_blocks};
 ghost use Rattle.bd_device.specs.Device.{OnlyReads, HasImageCause};
 ghost use Rattle.bd_node.specs.New.{new_root};
-ghost use Rattle.bd_table.specs.Tables.{IsRoot};
-ghost use Rattle.bd_pager.specs.Fresh.{AreFreshParts, assembled};
-ghost use Rattle.bd_pager.specs.Opened.{AreOpened, IsOpened, IsBadStart};
+ghost use Rattle.bd_table.specs.Tables.{AreFreeSlots, IsRoot, slots_of};
+ghost use Rattle.bd_pager.specs.Fresh.{AreFreshParts, IsFreshUsage, assembled};
+ghost use Rattle.bd_pager.specs.Opened.{AreOpened, IsOpened, IsUnchanged, IsBadStart};
 ghost use Rattle.bd_pager.specs.Places.{spots_in};
 ghost use Rattle.bd_pager.specs.Slots.{HasNode, IsOfLevel, IsBadSlot};
 
 use crate::entries::{root_entry, saved_spots, spare_beside};
 use crate::place::{Place, Spot};
 use crate::read_node;
+use crate::usage::Usage;
 use bd_cache::NodeCache;
 use bd_device::{Device, ImageFault};
 use bd_keys::Bytes;
@@ -21,7 +22,7 @@ use bd_node::{Edge, Edges, Items, Messages, Node};
 use bd_slots::SlotSet;
 use bd_table::{Table, TableEntry};
 use std::alloc::{AllocError, Global};
-use std::collections::HashMap;
+use std::collections::{BTreeSet, HashMap};
 use std::rc::Rc;
 
 /// All of a pager but its device.
@@ -30,7 +31,7 @@ pub struct Parts {
     pub spots: HashMap<u64, Spot>,
     pub saved: Table,
     pub at: Vec<u32>,
-    pub spare: SlotSet,
+    pub usage: Usage,
     pub root: u64,
     pub size: usize,
     pub next: u64,
@@ -61,7 +62,7 @@ impl Parts {
                 entries: Items::from_vec(Vec::new(alloc)),
             },
             at: Vec::new(alloc),
-            spare: SlotSet::new(alloc, slots)?,
+            usage: fresh_usage(alloc, slots)?,
             root: 1,
             size: 0,
             next: 2,
@@ -87,6 +88,7 @@ impl Parts {
         requires room { 1 ≤ room }
         ensures parts { IfOk result (λ parts. IsOpened (D.contents dev.old) slots at.items
             (assembled dev.new parts)) }
+        ensures usage { IfOk result (λ parts. IsUnchanged parts.usage) }
         ensures reads { OnlyReads D.Device dev.old dev.new }
         ensures cause { HasImageCause D.Device dev.old dev.new
             (IsBadStart (D.contents dev.old) slots at.items) result }
@@ -97,7 +99,7 @@ impl Parts {
         let node = read_shared(alloc, dev, entry, &mut buffer)?;
         let size = node.buffer_size();
         let spots = opened_spots(alloc, &saved, entry, node)?;
-        let spare = spare_beside(alloc, slots, at.as_slice(), saved.entries.as_slice())?;
+        let usage = opened_usage(alloc, slots, at.as_slice(), saved.entries.as_slice())?;
         let cache = NodeCache::new(alloc, room)?;
         Ok(Parts {
             spots,
@@ -105,12 +107,49 @@ impl Parts {
             next: saved.next_id,
             saved,
             at,
-            spare,
+            usage,
             size,
             cache,
             buffer,
         })
     }
+}
+
+// What is used where nothing is saved, and a root with the id 1 is in memory.
+fn fresh_usage(alloc: Global, slots: u32) -> Result<Usage, AllocError>
+    ensures { IfOk result (IsFreshUsage slots) }
+{
+    let mut listed = BTreeSet::new(alloc);
+    listed.insert(1)?;
+    Ok(Usage {
+        spare: SlotSet::new(alloc, slots)?,
+        free: SlotSet::new(alloc, slots)?,
+        changed: 1,
+        in_memory: 1,
+        listed,
+    })
+}
+
+// What is used where nothing was changed since a checkpoint.
+fn opened_usage(
+    alloc: Global,
+    slots: u32,
+    at: &[u32],
+    entries: &[TableEntry],
+) -> Result<Usage, AllocError>
+    requires place { AreSlots slots at.now }
+    requires all { AreSlots slots (at.now ++ slots_of entries.now) }
+    ensures spare { IfOk result
+        (λ usage. AreFreeSlots slots (at.now ++ slots_of entries.now) usage.spare) }
+    ensures unchanged { IfOk result IsUnchanged }
+{
+    Ok(Usage {
+        spare: spare_beside(alloc, slots, at, entries)?,
+        free: spare_beside(alloc, slots, at, entries)?,
+        changed: 0,
+        in_memory: 0,
+        listed: BTreeSet::new(alloc),
+    })
 }
 
 // The node of an entry, read from its slot.

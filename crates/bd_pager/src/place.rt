@@ -1,5 +1,9 @@
 //! Where kept nodes are.
 
+ghost use Rattle.std.specs.Prelude.{◌≡◌};
+ghost use Rattle.std.specs.Option.{option_copied};
+ghost use Rattle.bd_pager.specs.Places.{refs_in};
+
 use bd_node::Node;
 use std::rc::Rc;
 
@@ -21,4 +25,14 @@ pub struct Spot {
     /// How far it stands above the leaves.
     pub level: u32,
     pub place: Place,
+}
+
+/// How often the node of a spot is named: 0 where there is none.
+pub fn refs_of(spot: Option<&Spot>) -> u64
+    ensures { result ≡ refs_in (option_copied spot.entry) }
+{
+    match spot {
+        Some(spot) => spot.refs,
+        None => 0,
+    }
 }

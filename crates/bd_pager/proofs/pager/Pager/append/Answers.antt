@@ -1,51 +1,62 @@
-use Rattle.std.proofs.Common.{◌≡◌, ◌+◌, List, [], ℕ, Some, refl, sym, ap, subst}
+use Rattle.std.proofs.Common.{◌≡◌, ◌+◌, Bool, List, [], ℕ, None, Some, refl, sym, ap, subst}
 use Rattle.bd_node.specs.declared.node.Node.{Node}
 use Rattle.bd_node.specs.Steps.{append_step, HasGrown, IsCommitted}
 use Rattle.bd_node.specs.Stores.{FitsRoot, StaysBy}
 use Rattle.bd_node.specs.Tables.{IsSound}
 use Rattle.bd_pager.specs.Keeping.{KeepsSaved}
 use Rattle.bd_pager.specs.Pagers.{Paged, nodes_of, table_of, is_known, seen}
-use Rattle.bd_pager.specs.Places.{spots_in}
-use Rattle.bd_pager.proofs.AppendedLemmas.{pager_grown, sized_copy, place_there}
+use Rattle.bd_pager.proofs.AppendedLemmas.{IsGrown, pager_grown, sized_copy}
 use Rattle.bd_pager.proofs.pager.Pager.append.Goals as goal
 
-pub append_at-requires-clause-copy : goal.append_at-requires-clause-copy
-append_at-requires-clause-copy g c = sized_copy c.self.inside.size _ c.self.invariant.root
-
-pub append_at-requires-clause-place : goal.append_at-requires-clause-place
-append_at-requires-clause-place g c = place_there c.self.inside.spare (spots_in c.self.inside.reader.spots) c.self.inside.root _ refl c.self.invariant.slots
+pub append_counted-requires-clause-copy : goal.append_counted-requires-clause-copy
+append_counted-requires-clause-copy g c = sized_copy c.self.inside.size _ c.self.invariant.0.root
 
 pub invariant_of-self-2 : goal.invariant_of-self-2
 invariant_of-self-2 g c =
     let i = c.self.inside in
-    let p : Paged g.row.D.Denot = seen i.reader i.saved i.at.items i.spare i.root i.size i.next i.visits in
+    let p : Paged g.row.D.Denot = seen i.reader i.saved i.at.items i.usage.spare i.root i.size i.next i.visits i.written in
     let fits = subst (λ (x : Paged g.row.D.Denot). FitsRoot (table_of x) c.args.list) (sym c.self.view_is) c.requires in
-    (pager_grown g.D.Device p c.append_at.new.spots.entries (i.size + c.size-added.result) c.args.list c.self.invariant fits (ap (λ (n : ℕ). i.size + n) c.size-added.ensures) c.in-Ok.ensures.ok).paged
+    let q : List Bool → Paged g.row.D.Denot = λ spare. record p { spots = c.append_counted.new.spots.entries; size = i.size + c.size-added.result; spare = spare; written = None } in
+    let grown : IsGrown g.D.Device p c.args.list (q i.usage.spare) =
+    pager_grown g.D.Device p c.append_counted.new.spots.entries (i.size + c.size-added.result) c.args.list c.self.invariant.0 fits (ap (λ (n : ℕ). i.size + n) c.size-added.ensures) c.in-Ok.ensures.ok in
+    let here : IsGrown g.D.Device p c.args.list (q c.append_counted.new.usage.spare) = subst (λ (l : List Bool). IsGrown g.D.Device p c.args.list (q l)) (sym c.append_counted.ensures.spare) grown in (
+      here.paged,
+      c.append_counted.ensures.tallied i.next (c.self.invariant.0.table.below i.root c.self.invariant.0.table.root) c.self.invariant.1,
+    )
 
 pub returns-clause-table : goal.returns-clause-table
 returns-clause-table g c =
     let i = c.self.inside in
-    let p : Paged g.row.D.Denot = seen i.reader i.saved i.at.items i.spare i.root i.size i.next i.visits in
-    let q : Paged g.row.D.Denot = record p { spots = c.append_at.new.spots.entries; size = i.size + c.size-added.result } in
+    let p : Paged g.row.D.Denot = seen i.reader i.saved i.at.items i.usage.spare i.root i.size i.next i.visits i.written in
     let fits = subst (λ (x : Paged g.row.D.Denot). FitsRoot (table_of x) c.args.list) (sym c.self.view_is) c.requires in
-    subst (λ (x : Paged g.row.D.Denot). HasGrown (table_of x) c.args.list (table_of q)) c.self.view_is
-    (pager_grown g.D.Device p c.append_at.new.spots.entries (i.size + c.size-added.result) c.args.list c.self.invariant fits (ap (λ (n : ℕ). i.size + n) c.size-added.ensures) c.in-Ok.ensures.ok).table
+    let q : List Bool → Paged g.row.D.Denot = λ spare. record p { spots = c.append_counted.new.spots.entries; size = i.size + c.size-added.result; spare = spare; written = None } in
+    let grown : IsGrown g.D.Device p c.args.list (q i.usage.spare) =
+    pager_grown g.D.Device p c.append_counted.new.spots.entries (i.size + c.size-added.result) c.args.list c.self.invariant.0 fits (ap (λ (n : ℕ). i.size + n) c.size-added.ensures) c.in-Ok.ensures.ok in
+    let here : IsGrown g.D.Device p c.args.list (q c.append_counted.new.usage.spare) = subst (λ (l : List Bool). IsGrown g.D.Device p c.args.list (q l)) (sym c.append_counted.ensures.spare) grown in
+    subst (λ (x : Paged g.row.D.Denot). HasGrown (table_of x) c.args.list (table_of (q c.append_counted.new.usage.spare))) c.self.view_is here.table
 
 pub returns-clause-committed : goal.returns-clause-committed
 returns-clause-committed g c = λ known.
     let i = c.self.inside in
-    let p : Paged g.row.D.Denot = seen i.reader i.saved i.at.items i.spare i.root i.size i.next i.visits in
-    let q : Paged g.row.D.Denot = record p { spots = c.append_at.new.spots.entries; size = i.size + c.size-added.result } in
+    let p : Paged g.row.D.Denot = seen i.reader i.saved i.at.items i.usage.spare i.root i.size i.next i.visits i.written in
     let fits = subst (λ (x : Paged g.row.D.Denot). FitsRoot (table_of x) c.args.list) (sym c.self.view_is) c.requires in
+    let q : List Bool → Paged g.row.D.Denot = λ spare. record p { spots = c.append_counted.new.spots.entries; size = i.size + c.size-added.result; spare = spare; written = None } in
+    let grown : IsGrown g.D.Device p c.args.list (q i.usage.spare) =
+    pager_grown g.D.Device p c.append_counted.new.spots.entries (i.size + c.size-added.result) c.args.list c.self.invariant.0 fits (ap (λ (n : ℕ). i.size + n) c.size-added.ensures) c.in-Ok.ensures.ok in
+    let here : IsGrown g.D.Device p c.args.list (q c.append_counted.new.usage.spare) = subst (λ (l : List Bool). IsGrown g.D.Device p c.args.list (q l)) (sym c.append_counted.ensures.spare) grown in
+    let new : Paged g.row.D.Denot = q c.append_counted.new.usage.spare in
     subst (λ (x : Paged g.row.D.Denot). IsSound (nodes_of g.D.Device x) (table_of x) → (root : Node) → nodes_of g.D.Device x x.root ≡ Some root
-    → IsCommitted (nodes_of g.D.Device x) (table_of x) (append_step (table_of x) root c.args.list) (nodes_of g.D.Device q) (table_of q)) c.self.view_is
-    (pager_grown g.D.Device p c.append_at.new.spots.entries (i.size + c.size-added.result) c.args.list c.self.invariant fits (ap (λ (n : ℕ). i.size + n) c.size-added.ensures) c.in-Ok.ensures.ok).committed
+    → IsCommitted (nodes_of g.D.Device x) (table_of x) (append_step (table_of x) root c.args.list) (nodes_of g.D.Device new) (table_of new)) c.self.view_is
+    here.committed
 
 pub returns-clause-stays : goal.returns-clause-stays
 returns-clause-stays g c =
     let i = c.self.inside in
-    let p : Paged g.row.D.Denot = seen i.reader i.saved i.at.items i.spare i.root i.size i.next i.visits in
-    let q : Paged g.row.D.Denot = record p { spots = c.append_at.new.spots.entries; size = i.size + c.size-added.result } in
+    let p : Paged g.row.D.Denot = seen i.reader i.saved i.at.items i.usage.spare i.root i.size i.next i.visits i.written in
     let fits = subst (λ (x : Paged g.row.D.Denot). FitsRoot (table_of x) c.args.list) (sym c.self.view_is) c.requires in
-    subst (λ (x : Paged g.row.D.Denot). StaysBy (is_known g.D.Device) (KeepsSaved g.D.Device) (λ (y : Paged g.row.D.Denot). let none : List ℕ = [] in none) x q) c.self.view_is
-    (pager_grown g.D.Device p c.append_at.new.spots.entries (i.size + c.size-added.result) c.args.list c.self.invariant fits (ap (λ (n : ℕ). i.size + n) c.size-added.ensures) c.in-Ok.ensures.ok).stays
+    let q : List Bool → Paged g.row.D.Denot = λ spare. record p { spots = c.append_counted.new.spots.entries; size = i.size + c.size-added.result; spare = spare; written = None } in
+    let grown : IsGrown g.D.Device p c.args.list (q i.usage.spare) =
+    pager_grown g.D.Device p c.append_counted.new.spots.entries (i.size + c.size-added.result) c.args.list c.self.invariant.0 fits (ap (λ (n : ℕ). i.size + n) c.size-added.ensures) c.in-Ok.ensures.ok in
+    let here : IsGrown g.D.Device p c.args.list (q c.append_counted.new.usage.spare) = subst (λ (l : List Bool). IsGrown g.D.Device p c.args.list (q l)) (sym c.append_counted.ensures.spare) grown in
+    subst (λ (x : Paged g.row.D.Denot). StaysBy (is_known g.D.Device) (KeepsSaved g.D.Device) (λ (y : Paged g.row.D.Denot). let none : List ℕ = [] in none) x (q c.append_counted.new.usage.spare)) c.self.view_is
+    here.stays

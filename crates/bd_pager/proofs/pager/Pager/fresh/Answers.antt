@@ -3,13 +3,19 @@ use Rattle.bd_node.specs.New.{new_nodes, new_table}
 use Rattle.bd_pager.specs.Places.{spots_in, told}
 use Rattle.bd_pager.specs.Fresh.{assembled, IsUnsaved}
 use Rattle.bd_pager.specs.Pagers.{Paged, nodes_of, table_of, is_known}
-use Rattle.bd_pager.proofs.FreshLemmas.{fresh_nodes, fresh_table, fresh_right, fresh_paged}
+use Rattle.bd_pager.proofs.FreshLemmas.{fresh_nodes, fresh_table, fresh_right, fresh_paged, fresh_tallied}
 use Rattle.bd_pager.proofs.pager.Pager.fresh.Goals as goal
 
-pub over-requires : goal.over-requires
-over-requires g c =
+pub over-requires-clause-paged : goal.over-requires-clause-paged
+over-requires-clause-paged g c =
     let h = c.in-Ok.ensures in
-    fresh_paged (g.D.Device.contents c.args.dev) (assembled c.args.dev c.in-Ok.parts) c.args.slots h.spots h.root h.size h.next h.saved h.at h.spare h.cached
+    fresh_paged (g.D.Device.contents c.args.dev) (assembled c.args.dev c.in-Ok.parts) c.args.slots h.spots h.root h.size h.next h.saved h.at h.usage.spare h.cached refl
+
+pub over-requires-clause-tallied : goal.over-requires-clause-tallied
+over-requires-clause-tallied g c =
+    let h = c.in-Ok.ensures in
+    let parts = c.in-Ok.parts in
+    fresh_tallied (spots_in parts.spots) h.spots c.args.slots parts.next parts.usage h.usage h.next
 
 pub returns-clause-nodes : goal.returns-clause-nodes
 returns-clause-nodes g c =
@@ -21,7 +27,7 @@ returns-clause-table g c =
     let h = c.in-Ok.ensures in
     let parts = c.in-Ok.parts in
     subst (λ (p : Paged g.row.D.Denot). table_of p ≡ new_table) (sym c.over.ensures)
-    (fresh_table (spots_in parts.spots) h.spots parts.root parts.size parts.next parts.saved.entries parts.spare h.root h.size h.next h.saved)
+    (fresh_table (spots_in parts.spots) h.spots parts.root parts.size parts.next parts.saved.entries parts.usage.spare h.root h.size h.next h.saved)
 
 pub returns-clause-known : goal.returns-clause-known
 returns-clause-known g c = λ known.
@@ -32,4 +38,4 @@ pub returns-clause-unsaved : goal.returns-clause-unsaved
 returns-clause-unsaved g c =
     let h = c.in-Ok.ensures in
     subst (λ (p : Paged g.row.D.Denot). IsUnsaved c.args.slots c.args.dev p) (sym c.over.ensures)
-    (record { device = refl; saved = h.saved; at = h.at; spare = h.spare; visits = refl; lent = refl })
+    (record { device = refl; saved = h.saved; at = h.at; spare = h.usage.spare; visits = refl; lent = refl; written = refl })

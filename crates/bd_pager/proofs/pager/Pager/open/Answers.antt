@@ -1,4 +1,4 @@
-use Rattle.std.proofs.Common.{◌≡◌, Option, sym, subst}
+use Rattle.std.proofs.Common.{◌≡◌, Option, refl, sym, subst}
 use Rattle.std.specs.Prelude.{IsSome}
 use Rattle.bd_device.specs.Blocks.{Image}
 use Rattle.bd_device.specs.Device.{OnlyReads}
@@ -6,11 +6,16 @@ use Rattle.bd_pager.specs.Fresh.{assembled}
 use Rattle.bd_pager.specs.Opened.{IsOpened}
 use Rattle.bd_pager.specs.Places.{told}
 use Rattle.bd_pager.specs.Pagers.{Paged, IsRightPlace, is_known}
-use Rattle.bd_pager.proofs.OpenedLemmas.{opened_paged, opened_right}
+use Rattle.bd_pager.proofs.OpenedLemmas.{opened_paged, opened_right, opened_tallied}
 use Rattle.bd_pager.proofs.pager.Pager.open.Goals as goal
 
-pub over-requires : goal.over-requires
-over-requires g c =
+pub over-requires-clause-tallied : goal.over-requires-clause-tallied
+over-requires-clause-tallied g c =
+    let parts = c.in-Ok.parts in
+    opened_tallied (g.D.Device.contents c.args.dev) c.args.slots c.args.at.items (assembled c.read.new.dev parts) c.in-Ok.ensures.parts parts.usage refl c.in-Ok.ensures.usage
+
+pub over-requires-clause-paged : goal.over-requires-clause-paged
+over-requires-clause-paged g c =
     opened_paged (g.D.Device.contents c.args.dev) c.args.slots c.args.at.items (assembled c.read.new.dev c.in-Ok.parts) c.in-Ok.ensures.parts (g.D.Device.contents c.read.new.dev)
 
 pub returns-clause-opened : goal.returns-clause-opened

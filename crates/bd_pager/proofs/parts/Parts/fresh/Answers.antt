@@ -10,6 +10,6 @@ returns c = record {
   next = refl;
   saved = c.from_vec.ensures ∙ c.new-2.ensures.items;
   at = c.new-3.ensures.items;
-  spare = c.in_ok-new.ensures;
-  cached = c.in_ok-new-2.ensures.empty;
+  usage = c.in_ok-fresh_usage.ensures;
+  cached = c.in_ok-new.ensures.empty;
 }

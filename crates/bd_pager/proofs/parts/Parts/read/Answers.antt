@@ -24,14 +24,15 @@ returns-clause-parts g c =
       of_level = c.in_ok-node.ensures.node;
       spots = c.in_ok-spots.ensures;
       at_is = refl;
-      spare = subst (λ (l : List ℕ). AreFreeSlots slots (l ++ slots_of t.entries) c.in_ok-spare.spare) c.as_slice-3.ensures.value
-          (subst (λ (es : List TableEntry). AreFreeSlots slots (c.as_slice-3.result.now ++ slots_of es) c.in_ok-spare.spare) c.as_slice-4.ensures c.in_ok-spare.ensures);
+      spare = subst (λ (l : List ℕ). AreFreeSlots slots (l ++ slots_of t.entries) c.in_ok-usage.usage.spare) c.as_slice-3.ensures.value
+          (subst (λ (es : List TableEntry). AreFreeSlots slots (c.as_slice-3.result.now ++ slots_of es) c.in_ok-usage.usage.spare) c.as_slice-4.ensures c.in_ok-usage.ensures.spare);
       root = refl;
       next = refl;
       size = sym (c.buffer_size-size.ensures ∙ ap buffer_size c.deref.ensures);
       cached = c.in_ok-cache.ensures.empty;
       visits = refl;
       lent = refl;
+      written = refl;
       table_held = subst (λ (l : List ℕ). IfSome known (λ image. HoldsTable image slots l t)) c.as_slice.ensures.value c.in_ok-saved.ensures.held;
       root_held = subst (λ (o : Option Image). IfSome o (λ image. HasNode image entry.slot entry.level n)) c.in_ok-saved.ensures.reads.kept c.in_ok-node.ensures.held;
     }

@@ -1,0 +1,177 @@
+use Rattle.std.proofs.Common.{◌≡◌, ℕ, ◌+◌, ◌<◌, Bool, List, None, Some, Err, inr, length, refl, sym, ap, subst, ◌∙◌, arith}
+use Rattle.std.specs.Prelude.{slice_index}
+use Rattle.std.specs.List.{AllByRecursion}
+use Rattle.std.proofs.lemmas.Bool.{true≢false}
+use Rattle.bd_message.specs.declared.message.Message.{Message}
+use Rattle.bd_message.specs.declared.fault.MapFault.TheVariants.{Damaged}
+use Rattle.bd_message.specs.KeyMaps.{HasMapCause}
+use Rattle.bd_slots.specs.Layout.{slot_block}
+use Rattle.bd_node.specs.declared.node.Node.{Node}
+use Rattle.bd_node.specs.Nodes.{level_of, names}
+use Rattle.bd_node.specs.Steps.{IsRootOf, IsStep, IsTableAfter, IsCommitted, IsWornByAdding, extend_step}
+use Rattle.bd_node.specs.Stores.{StaysBy}
+use Rattle.bd_node.specs.Tables.{IsSound}
+use Rattle.bd_pager.specs.declared.stepping.Put.{Put}
+use Rattle.bd_pager.specs.Counting.{IsTallied}
+use Rattle.bd_pager.specs.Extending.{IsAdditionOf}
+use Rattle.bd_pager.specs.Keeping.{KeepsSaved}
+use Rattle.bd_pager.specs.Pagers.{Paged, spots_of, table_of, nodes_of, is_known, is_bad, IsPaged, seen}
+use Rattle.bd_pager.specs.Places.{spots_in, copy_in, IsLowerIn}
+use Rattle.bd_pager.proofs.ExtendedLemmas.{root_seen, list_fits, pager_extended, addition_below, unsound_root}
+use Rattle.bd_pager.proofs.StepsLemmas.{no_loans, reordered, tallied_more}
+use Rattle.bd_pager.proofs.pager.Pager.extend.Goals as goal
+
+pub returns-then-not-copy_names_lower-clause-cause : goal.returns-then-not-copy_names_lower-clause-cause
+returns-then-not-copy_names_lower-clause-cause g c =
+    let i = c.self.inside in
+    let D = g.D.Device in
+    let p : Paged g.row.D.Denot = seen i.reader i.saved i.at.items i.usage.spare i.root i.size i.next i.visits i.written in
+    let was = c.self.invariant.0 in
+    subst (λ (x : Paged g.row.D.Denot). HasMapCause {T = Unit {0}} (D.fault_count x.dev) (D.fault_count x.dev) (is_bad D x) (IsWornByAdding (table_of x) c.args.made c.args.list) (Err (Damaged c.slot_block.result))) c.self.view_is (record {
+      later = omega arith;
+      kept = tt;
+      stays = refl;
+      failed = λ known. inr (
+        c.slot_block.ensures ∙ ap slot_block (c.first_slot.ensures ∙ ap (λ (l : List ℕ). slice_index l 0) c.as_slice.ensures.value),
+        λ sound.
+            let root = root_seen (D.contents p.dev) p was in
+            true≢false (sym ((c.copy_names_lower.ensures root.0 root.1).1 (unsound_root D p root.0 was root.1 sound)) ∙ c.if-not-copy_names_lower.true),
+      );
+    })
+
+pub size-added-requires-clause-each : goal.size-added-requires-clause-each
+size-added-requires-clause-each g c =
+    let i = c.self.inside in
+    let D = g.D.Device in
+    let p : Paged g.row.D.Denot = seen i.reader i.saved i.at.items i.usage.spare i.root i.size i.next i.visits i.written in
+    let was = c.self.invariant.0 in
+    let made = c.args.made in
+    let list = c.args.list in
+    let ok : (root : Node) → IsRootOf (table_of p) root → IsStep (table_of p) (extend_step (table_of p) root made list) =
+    subst (λ (x : Paged g.row.D.Denot). (root : Node) → IsRootOf (table_of x) root → IsStep (table_of x) (extend_step (table_of x) root made list)) (sym c.self.view_is) c.requires in
+    let looked : (n : Node) → copy_in (spots_of p p.root) ≡ Some n → AllByRecursion (IsLowerIn (spots_of p) (level_of n)) (names n) = λ n copy. (c.copy_names_lower.ensures n copy).0 c.if-not-copy_names_lower.false in
+    (list_fits D p made list was ok looked).0
+
+pub size-added-requires-clause-fits : goal.size-added-requires-clause-fits
+size-added-requires-clause-fits g c =
+    let i = c.self.inside in
+    let D = g.D.Device in
+    let p : Paged g.row.D.Denot = seen i.reader i.saved i.at.items i.usage.spare i.root i.size i.next i.visits i.written in
+    let was = c.self.invariant.0 in
+    let made = c.args.made in
+    let list = c.args.list in
+    let ok : (root : Node) → IsRootOf (table_of p) root → IsStep (table_of p) (extend_step (table_of p) root made list) =
+    subst (λ (x : Paged g.row.D.Denot). (root : Node) → IsRootOf (table_of x) root → IsStep (table_of x) (extend_step (table_of x) root made list)) (sym c.self.view_is) c.requires in
+    let looked : (n : Node) → copy_in (spots_of p p.root) ≡ Some n → AllByRecursion (IsLowerIn (spots_of p) (level_of n)) (names n) = λ n copy. (c.copy_names_lower.ensures n copy).0 c.if-not-copy_names_lower.false in
+    omega (arith, (list_fits D p made list was ok looked).1)
+
+pub overflow_add-self : goal.overflow_add-self
+overflow_add-self g c =
+    let i = c.self.inside in
+    let D = g.D.Device in
+    let p : Paged g.row.D.Denot = seen i.reader i.saved i.at.items i.usage.spare i.root i.size i.next i.visits i.written in
+    let was = c.self.invariant.0 in
+    let made = c.args.made in
+    let list = c.args.list in
+    let ok : (root : Node) → IsRootOf (table_of p) root → IsStep (table_of p) (extend_step (table_of p) root made list) =
+    subst (λ (x : Paged g.row.D.Denot). (root : Node) → IsRootOf (table_of x) root → IsStep (table_of x) (extend_step (table_of x) root made list)) (sym c.self.view_is) c.requires in
+    let looked : (n : Node) → copy_in (spots_of p p.root) ≡ Some n → AllByRecursion (IsLowerIn (spots_of p) (level_of n)) (names n) = λ n copy. (c.copy_names_lower.ensures n copy).0 c.if-not-copy_names_lower.false in
+    omega (arith, (list_fits D p made list was ok looked).1, c.size-added.ensures)
+
+pub invariant_of-self : goal.invariant_of-self
+invariant_of-self g c =
+    let i = c.self.inside in
+    let D = g.D.Device in
+    let p : Paged g.row.D.Denot = seen i.reader i.saved i.at.items i.usage.spare i.root i.size i.next i.visits i.written in
+    let was = c.self.invariant.0 in
+    let e = c.in-Err-extend_spots.ensures in
+    let u = c.extend_spots.new.usage in
+    let spots = c.extend_spots.new.spots in
+    let same : spots_of p ≡ spots_in spots = λ j id. sym (e.err id) j in (
+      subst (λ (s : List Bool). let q : Paged g.row.D.Denot = record p { spots = spots.entries; spare = s } in IsPaged (D.contents p.dev) q) (sym e.spare) (reordered D p spots.entries same was),
+      e.err_tallied i.next (was.table.below p.root was.table.root) c.self.invariant.1,
+    )
+
+pub invariant_of-self-2 : goal.invariant_of-self-2
+invariant_of-self-2 g c =
+    let i = c.self.inside in
+    let D = g.D.Device in
+    let p : Paged g.row.D.Denot = seen i.reader i.saved i.at.items i.usage.spare i.root i.size i.next i.visits i.written in
+    let was = c.self.invariant.0 in
+    let made = c.args.made in
+    let list = c.args.list in
+    let ok : (root : Node) → IsRootOf (table_of p) root → IsStep (table_of p) (extend_step (table_of p) root made list) =
+    subst (λ (x : Paged g.row.D.Denot). (root : Node) → IsRootOf (table_of x) root → IsStep (table_of x) (extend_step (table_of x) root made list)) (sym c.self.view_is) c.requires in
+    let looked : (n : Node) → copy_in (spots_of p p.root) ≡ Some n → AllByRecursion (IsLowerIn (spots_of p) (level_of n)) (names n) = λ n copy. (c.copy_names_lower.ensures n copy).0 c.if-not-copy_names_lower.false in
+    let new = c.extend_spots.new in
+    let e = c.in-Ok-extend_spots.ensures in
+    let is : IsAdditionOf (table_of p) made list c.in-Ok.addition = subst (λ (x : Paged g.row.D.Denot). IsAdditionOf (table_of x) made list c.in-Ok.addition) (sym c.self.view_is)
+    (subst (λ (l : List Message). IsAdditionOf (table_of c.args.self.now) made l c.in-Ok.addition) c.as_slice-2.ensures c.in-Ok.ensures.addition) in
+    let all = pager_extended D p made list was ok looked c.in-Ok.addition new.spots.entries new.usage.spare (i.size + c.size-added.result) (i.next + c.len-count.result) c.saturating_add-self-inside.result is
+    (ap (λ (n : ℕ). i.size + n) c.size-added.ensures) (ap (λ (n : ℕ). i.next + n) c.len-count.ensures) e.spare e.ok in
+    let below : AllByRecursion (λ (put : Put). put.id < i.next + length made) c.in-Ok.addition.puts.items = addition_below (table_of p) made list c.in-Ok.addition is in
+    let low : i.root < i.next + length made = omega (arith, was.table.below p.root was.table.root) in (
+      all.0,
+      subst (λ (n : ℕ). IsTallied (i.next + n) (spots_in new.spots) new.usage) (sym c.len-count.ensures)
+          (e.tallied (i.next + length made) low below (tallied_more (D.contents p.dev) p (length made) i.usage was is.fits c.self.invariant.1)),
+    )
+
+pub returns-clause-table : goal.returns-clause-table
+returns-clause-table g c =
+    let i = c.self.inside in
+    let D = g.D.Device in
+    let p : Paged g.row.D.Denot = seen i.reader i.saved i.at.items i.usage.spare i.root i.size i.next i.visits i.written in
+    let was = c.self.invariant.0 in
+    let made = c.args.made in
+    let list = c.args.list in
+    let ok : (root : Node) → IsRootOf (table_of p) root → IsStep (table_of p) (extend_step (table_of p) root made list) =
+    subst (λ (x : Paged g.row.D.Denot). (root : Node) → IsRootOf (table_of x) root → IsStep (table_of x) (extend_step (table_of x) root made list)) (sym c.self.view_is) c.requires in
+    let looked : (n : Node) → copy_in (spots_of p p.root) ≡ Some n → AllByRecursion (IsLowerIn (spots_of p) (level_of n)) (names n) = λ n copy. (c.copy_names_lower.ensures n copy).0 c.if-not-copy_names_lower.false in
+    let new = c.extend_spots.new in
+    let e = c.in-Ok-extend_spots.ensures in
+    let is : IsAdditionOf (table_of p) made list c.in-Ok.addition = subst (λ (x : Paged g.row.D.Denot). IsAdditionOf (table_of x) made list c.in-Ok.addition) (sym c.self.view_is)
+    (subst (λ (l : List Message). IsAdditionOf (table_of c.args.self.now) made l c.in-Ok.addition) c.as_slice-2.ensures c.in-Ok.ensures.addition) in
+    let all = pager_extended D p made list was ok looked c.in-Ok.addition new.spots.entries new.usage.spare (i.size + c.size-added.result) (i.next + c.len-count.result) c.saturating_add-self-inside.result is
+    (ap (λ (n : ℕ). i.size + n) c.size-added.ensures) (ap (λ (n : ℕ). i.next + n) c.len-count.ensures) e.spare e.ok in
+    let q : Paged g.row.D.Denot = record p { spots = new.spots.entries; spare = new.usage.spare; size = i.size + c.size-added.result; next = i.next + c.len-count.result; visits = c.saturating_add-self-inside.result; written = None } in
+    subst (λ (x : Paged g.row.D.Denot). (root : Node) → IsRootOf (table_of x) root → IsTableAfter (table_of x) (extend_step (table_of x) root made list) (table_of q)) c.self.view_is all.1.table
+
+pub returns-clause-committed : goal.returns-clause-committed
+returns-clause-committed g c =
+    let i = c.self.inside in
+    let D = g.D.Device in
+    let p : Paged g.row.D.Denot = seen i.reader i.saved i.at.items i.usage.spare i.root i.size i.next i.visits i.written in
+    let was = c.self.invariant.0 in
+    let made = c.args.made in
+    let list = c.args.list in
+    let ok : (root : Node) → IsRootOf (table_of p) root → IsStep (table_of p) (extend_step (table_of p) root made list) =
+    subst (λ (x : Paged g.row.D.Denot). (root : Node) → IsRootOf (table_of x) root → IsStep (table_of x) (extend_step (table_of x) root made list)) (sym c.self.view_is) c.requires in
+    let looked : (n : Node) → copy_in (spots_of p p.root) ≡ Some n → AllByRecursion (IsLowerIn (spots_of p) (level_of n)) (names n) = λ n copy. (c.copy_names_lower.ensures n copy).0 c.if-not-copy_names_lower.false in
+    let new = c.extend_spots.new in
+    let e = c.in-Ok-extend_spots.ensures in
+    let is : IsAdditionOf (table_of p) made list c.in-Ok.addition = subst (λ (x : Paged g.row.D.Denot). IsAdditionOf (table_of x) made list c.in-Ok.addition) (sym c.self.view_is)
+    (subst (λ (l : List Message). IsAdditionOf (table_of c.args.self.now) made l c.in-Ok.addition) c.as_slice-2.ensures c.in-Ok.ensures.addition) in
+    let all = pager_extended D p made list was ok looked c.in-Ok.addition new.spots.entries new.usage.spare (i.size + c.size-added.result) (i.next + c.len-count.result) c.saturating_add-self-inside.result is
+    (ap (λ (n : ℕ). i.size + n) c.size-added.ensures) (ap (λ (n : ℕ). i.next + n) c.len-count.ensures) e.spare e.ok in
+    let q : Paged g.row.D.Denot = record p { spots = new.spots.entries; spare = new.usage.spare; size = i.size + c.size-added.result; next = i.next + c.len-count.result; visits = c.saturating_add-self-inside.result; written = None } in
+    subst (λ (x : Paged g.row.D.Denot). is_known D x → IsSound (nodes_of D x) (table_of x) → (root : Node) → nodes_of D x x.root ≡ Some root → IsCommitted (nodes_of D x) (table_of x) (extend_step (table_of x) root made list) (nodes_of D q) (table_of q)) c.self.view_is all.1.committed
+
+pub returns-clause-stays : goal.returns-clause-stays
+returns-clause-stays g c =
+    let i = c.self.inside in
+    let D = g.D.Device in
+    let p : Paged g.row.D.Denot = seen i.reader i.saved i.at.items i.usage.spare i.root i.size i.next i.visits i.written in
+    let was = c.self.invariant.0 in
+    let made = c.args.made in
+    let list = c.args.list in
+    let ok : (root : Node) → IsRootOf (table_of p) root → IsStep (table_of p) (extend_step (table_of p) root made list) =
+    subst (λ (x : Paged g.row.D.Denot). (root : Node) → IsRootOf (table_of x) root → IsStep (table_of x) (extend_step (table_of x) root made list)) (sym c.self.view_is) c.requires in
+    let looked : (n : Node) → copy_in (spots_of p p.root) ≡ Some n → AllByRecursion (IsLowerIn (spots_of p) (level_of n)) (names n) = λ n copy. (c.copy_names_lower.ensures n copy).0 c.if-not-copy_names_lower.false in
+    let new = c.extend_spots.new in
+    let e = c.in-Ok-extend_spots.ensures in
+    let is : IsAdditionOf (table_of p) made list c.in-Ok.addition = subst (λ (x : Paged g.row.D.Denot). IsAdditionOf (table_of x) made list c.in-Ok.addition) (sym c.self.view_is)
+    (subst (λ (l : List Message). IsAdditionOf (table_of c.args.self.now) made l c.in-Ok.addition) c.as_slice-2.ensures c.in-Ok.ensures.addition) in
+    let all = pager_extended D p made list was ok looked c.in-Ok.addition new.spots.entries new.usage.spare (i.size + c.size-added.result) (i.next + c.len-count.result) c.saturating_add-self-inside.result is
+    (ap (λ (n : ℕ). i.size + n) c.size-added.ensures) (ap (λ (n : ℕ). i.next + n) c.len-count.ensures) e.spare e.ok in
+    let q : Paged g.row.D.Denot = record p { spots = new.spots.entries; spare = new.usage.spare; size = i.size + c.size-added.result; next = i.next + c.len-count.result; visits = c.saturating_add-self-inside.result; written = None } in
+    subst (λ (x : Paged g.row.D.Denot). StaysBy (is_known D) (KeepsSaved D) no_loans x q) c.self.view_is all.1.stays
