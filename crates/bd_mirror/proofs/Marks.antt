@@ -10,7 +10,7 @@ use Rattle.bd_mirror.specs.declared.halves.Halves.{Halves}
 use Rattle.bd_mirror.specs.declared.halves.Halves.TheVariants.{Both, First, Second, Neither}
 use Rattle.bd_mirror.specs.declared.halves.Attached.{Attached}
 use Rattle.bd_mirror.specs.declared.halves.Attached.TheVariants.{Nothing, Alone, Member, Pair, Apart}
-use Rattle.bd_mirror.specs.Halves.{has_marks, halves_of, with_halves, uses_first, uses_second, blocks_in}
+use Rattle.bd_mirror.specs.Halves.{has_marks, halves_of, with_halves, blocks_in}
 use Rattle.bd_mirror.specs.Contents.{is_open_at, pick, shown_by, IsMarked}
 use Rattle.bd_mirror.specs.Writing.{IsWithin, image_after, contents_after}
 use Rattle.bd_mirror.specs.declared.writing.WritingCall.{WritingCall}
@@ -339,42 +339,7 @@ nothing_did Barrier known = ([], sym (after_barrier [] known))
 nothing_did (Write b from) None = ([], refl)
 nothing_did (Write b from) (Some image) = (slice_index_or image b [], ap Some (sym (set-get_or image b [])))
 
--- ---- what is kept of the half that went on
-
-settled_one : (P Q : Type 0) (at : Attached) (na nb : ℕ) → halves_of at ≡ Both → (has_marks at ≡ true → 0 < na → P)
-    → (uses_first (halves_of (with_halves First at)) ≡ true → 0 < blocks_in (with_halves First at) na nb → P)
-    × (uses_second (halves_of (with_halves First at)) ≡ true → 0 < blocks_in (with_halves First at) na nb → Q)
-settled_one P Q Nothing na nb is only = (λ _ lt. absurd (omega (arith, lt)), λ _ lt. absurd (omega (arith, lt)))
-settled_one P Q Alone na nb is only = absurd (both_is is)
-settled_one P Q Member na nb is only = absurd (both_is is)
-settled_one P Q (Apart h) na nb is only = (λ _ lt. absurd (omega (arith, lt)), λ _ lt. absurd (omega (arith, lt)))
-settled_one P Q (Pair h) na nb is only = (λ _ lt. only refl (omega (arith, lt)), λ e _. absurd (is_true (sym e)))
-
-settled_other : (P Q : Type 0) (at : Attached) (na nb : ℕ) → halves_of at ≡ Both → (has_marks at ≡ true → 0 < nb → Q)
-    → (uses_first (halves_of (with_halves Second at)) ≡ true → 0 < blocks_in (with_halves Second at) na nb → P)
-    × (uses_second (halves_of (with_halves Second at)) ≡ true → 0 < blocks_in (with_halves Second at) na nb → Q)
-settled_other P Q Nothing na nb is only = (λ _ lt. absurd (omega (arith, lt)), λ _ lt. absurd (omega (arith, lt)))
-settled_other P Q Alone na nb is only = absurd (both_is is)
-settled_other P Q Member na nb is only = absurd (both_is is)
-settled_other P Q (Apart h) na nb is only = (λ _ lt. absurd (omega (arith, lt)), λ _ lt. absurd (omega (arith, lt)))
-settled_other P Q (Pair h) na nb is only = (λ e _. absurd (is_true (sym e)), λ _ lt. only refl (omega (arith, lt)))
-
--- of the half that went on a crash leaves only what it holds
-pub settled_first : {T E : Type 0} (P Q : Type 0) (r : Result T E) (at at' : Attached) (na nb na1 na' nb' : ℕ) → halves_of at ≡ Both
-    → at' ≡ with_halves (if is_ok r then First else Neither) at → na1 ≡ na → na' ≡ na1 → nb' ≡ nb → OnOk r (has_marks at ≡ true → 0 < na1 → P)
-    → OnOk r ((uses_first (halves_of at') ≡ true → 0 < blocks_in at' na' nb' → P) × (uses_second (halves_of at') ≡ true → 0 < blocks_in at' na' nb' → Q))
-settled_first P Q (Err e) at at' na nb na1 na' nb' is eat c1 ca cb only = tt
-settled_first P Q (Ok x) at at' na nb na1 na' nb' is eat c1 ca cb only =
-    subst (λ t. (uses_first (halves_of t) ≡ true → 0 < blocks_in t na' nb' → P) × (uses_second (halves_of t) ≡ true → 0 < blocks_in t na' nb' → Q)) (sym eat)
-    (settled_one P Q at na' nb' is (λ marks lt. only marks (omega (arith, lt, ca))))
-
-pub settled_second : {T E : Type 0} (P Q : Type 0) (r : Result T E) (at at' : Attached) (na nb nb1 na' nb' : ℕ) → halves_of at ≡ Both
-    → at' ≡ with_halves (if is_ok r then Second else Neither) at → nb1 ≡ nb → nb' ≡ nb1 → na' ≡ na → OnOk r (has_marks at ≡ true → 0 < nb1 → Q)
-    → OnOk r ((uses_first (halves_of at') ≡ true → 0 < blocks_in at' na' nb' → P) × (uses_second (halves_of at') ≡ true → 0 < blocks_in at' na' nb' → Q))
-settled_second P Q (Err e) at at' na nb nb1 na' nb' is eat c1 cb ca only = tt
-settled_second P Q (Ok x) at at' na nb nb1 na' nb' is eat c1 cb ca only =
-    subst (λ t. (uses_first (halves_of t) ≡ true → 0 < blocks_in t na' nb' → P) × (uses_second (halves_of t) ≡ true → 0 < blocks_in t na' nb' → Q)) (sym eat)
-    (settled_other P Q at na' nb' is (λ marks lt. only marks (omega (arith, lt, cb))))
+-- ---- results
 
 -- what follows from what holds at Ok, and from what holds at an error
 pub either_way : {T E P Q S : Type 0} (r : Result T E) → OnOk r P → OnErr r Q → (P → S) → (Q → S) → S
