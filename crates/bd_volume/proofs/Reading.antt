@@ -26,7 +26,7 @@ read_keys old new is = keys_stay old old new (λ k. refl) is
 -- a fault leaves the view
 pub read_halts : (fault : MapFault) (count : ℕ) (c : Command) (old new : View) → new ≡ old → fault ≡ map.NoMemory → IsHalted (fault_of fault) count c old new
 read_halts fault count c old new same is =
-    no_memory_halts fault count c old new 0 (subst (λ (v : View). HasFlushed c old v 0) (sym same) (not_flushed c old)) is
+    no_memory_halts fault count c old new (subst (λ (v : View). HasFlushed c old v) (sym same) (not_flushed c old)) is
 
 -- a command within its limits carries as much as it may
 pub command_size : (c : Command) → IsCommand c → HasSize c

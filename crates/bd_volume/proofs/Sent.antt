@@ -1,6 +1,6 @@
 -- What messages and grafts make of a view.
-use Rattle.std.proofs.Common.{◌≡◌, ℕ, ◌+◌, ◌-◌, ◌*◌, ◌≤◌, List, Bool, sym, subst, arith}
-use Rattle.std.specs.Prelude.{Result, Ok, Err, OnOk, OnErr, Some}
+use Rattle.std.proofs.Common.{◌≡◌, ℕ, ◌+◌, ◌-◌, ◌≤◌, List, Bool, sym, subst, arith}
+use Rattle.std.specs.Prelude.{Result, Ok, Err, OnOk, OnErr}
 use Rattle.std.proofs.lemmas.List.Sums.{sum_by-le}
 use Rattle.std.specs.Prelude.{slice_index_or}
 use Rattle.bd_limits.specs.Limits.{key_limit, block_limit, late_limit, buffer_limit}
@@ -14,13 +14,12 @@ use Rattle.bd_dirs.specs.declared.plan.Plan.{Plan}
 use Rattle.bd_dirs.specs.declared.plan.Plan.TheVariants.{Apply, Graft}
 use Rattle.bd_dirs.specs.Plans.{IsPlan, IsReady}
 use Rattle.bd_dirs.specs.Sendings.{Sending}
-use Rattle.bd_node.specs.declared.node.Node.{Node}
-use Rattle.bd_node.specs.Tables.{Table, IsSound, IsStored, root_at}
-use Rattle.bd_node.specs.Steps.{IsCommitted, append_step, grown, HasGrown}
+use Rattle.bd_node.specs.Tables.{Table, root_at}
+use Rattle.bd_node.specs.Steps.{grown, HasGrown}
 use Rattle.bd_node.specs.Stores.{FitsRoot}
 use Rattle.bd_memnodes.specs.Seen.{Seen, table}
 use Rattle.bd_tree.specs.Trees.{TreeState}
-use Rattle.bd_graft.specs.Grafting.{IsGrown, IsGraftStep, IsWalkOf, AreOthersSame}
+use Rattle.bd_volume.specs.Sent.{IsAppended, IsGraftMade, IsWalked}
 use Rattle.bd_volume.specs.Views.{View, HasAppended, HasGrafted, HasSent, IsReadyFor, IsMoved}
 use Rattle.bd_volume.proofs.Carried.{size_few}
 
@@ -49,13 +48,10 @@ pub grown_is : {T E : Type 0} (r : Result T E) (old new : TreeState Seen) (list 
 grown_is (Ok _) old new list h = h.is
 grown_is (Err _) old new list h = tt
 
-pub appended : {T E : Type 0} (r : Result T E) (old new : View) (list : List Message) → IsSound old.nodes old.table
-    → ((root : Node) → old.nodes old.table.root ≡ Some root → OnOk r (IsCommitted old.nodes old.table (append_step old.table root list) new.nodes new.table))
+pub appended : {T E : Type 0} (r : Result T E) (old new : View) (list : List Message) → OnOk r (IsAppended old.nodes old.table list new.nodes new.table)
     → OnOk r (new.table ≡ grown old.table list) → new.walk ≡ old.walk → OnOk r (HasAppended list old new)
-appended (Err e) old new list sound committed table walk = tt
-appended (Ok x) old new list sound committed table walk =
-    let root : IsStored old.nodes old.table old.table.root = sound.each old.table.root sound.table.root in
-    record { root = root.node; there = root.there; node_is = committed root.node root.there; table_is = table; walk_is = walk }
+appended (Err e) old new list made table walk = tt
+appended (Ok x) old new list made table walk = record { made = made; table_is = table; walk_is = walk }
 
 -- messages that were planned are those that the command sends
 pub messages_moved : (t : Tree) (c : Command) (plan : Plan) (list sent : List Message) (old mid new : View) → plan ≡ Apply list → sent ≡ list → IsPlan (root_at old.nodes old.table) t c plan
@@ -64,7 +60,6 @@ messages_moved t c plan list sent old mid new is same h ready appended =
     let at : At = root_at old.nodes old.table in
     let p : IsPlan at t c (Apply list) = subst (IsPlan at t c) is h in
     record {
-      made = ready.made;
       mid = mid;
       flushed = ready.flushed;
       enough = ready.enough;
@@ -76,18 +71,10 @@ messages_moved t c plan list sent old mid new is same h ready appended =
 pub can_graft : (s d : List ℕ) (keep : Bool) (t : Table) → IsReady (Graft s d keep) → t.size ≤ late_limit → CanGraft s d keep (buffer_limit - t.size)
 can_graft s d keep t ready low = record { source = ready.0; target = ready.1; outside = ready.2; fits = omega (arith, low) }
 
-pub grafted : {T E : Type 0} (r : Result T E) (old new : View) (s d : List ℕ) (keep : Bool) → OnOk r (IsGraftStep old.nodes old.table s d keep new.nodes new.table)
-    → OnOk r (AreOthersSame old.nodes old.table new.nodes new.table) → OnOk r (IsGrown old.table new.table) → OnOk r (IsWalkOf old.nodes old.table s new.table new.walk.visits)
-    → OnOk r (new.walk.height ≡ old.table.level old.table.root + 1) → OnOk r (new.walk.visits ≤ 5 * new.walk.height + 2) → OnOk r (HasGrafted s d keep old new)
-grafted (Err e) old new s d keep step others table visits height few = tt
-grafted (Ok x) old new s d keep step others table visits height few = record {
-  step = step;
-  others = others;
-  table_is = table;
-  height_is = height;
-  visits_are = visits;
-  few_visits = few;
-}
+pub grafted : {T E : Type 0} (r : Result T E) (old new : View) (s d : List ℕ) (keep : Bool) → OnOk r (IsGraftMade old.nodes old.table s d keep new.nodes new.table new.walk)
+    → OnOk r (IsWalked old.table new.table new.walk) → OnOk r (HasGrafted s d keep old new)
+grafted (Err e) old new s d keep made walked = tt
+grafted (Ok x) old new s d keep made walked = record { made = made; walked = walked }
 
 -- a graft that was planned is the one that the command comes to
 pub graft_moved : (t : Tree) (c : Command) (plan : Plan) (s d s2 d2 : List ℕ) (keep : Bool) (old mid new : View) → plan ≡ Graft s d keep → s2 ≡ s → d2 ≡ d → IsPlan (root_at old.nodes old.table) t c plan
@@ -96,7 +83,6 @@ graft_moved t c plan s d s2 d2 keep old mid new is es ed h ready grafted =
     let at : At = root_at old.nodes old.table in
     let p : IsPlan at t c (Graft s d keep) = subst (IsPlan at t c) is h in
     record {
-      made = ready.made;
       mid = mid;
       flushed = ready.flushed;
       enough = ready.enough;

@@ -2,7 +2,6 @@
 use Rattle.std.proofs.Common.{◌≡◌, ℕ, ◌<◌, ◌≤◌, List, Bool, arith, refl, sym, subst, ap, inl, inr, ◌∙◌}
 use Rattle.std.specs.Prelude.{IsTrue, Option, Result, Ok, Err, IfErr, OnErr}
 use Rattle.bd_io.specs.Cause.{Rose}
-use Rattle.bd_limits.specs.Limits.{soft_limit}
 use Rattle.bd_command.specs.Command.{writes}
 use Rattle.bd_command.specs.declared.Command.{Command}
 use Rattle.bd_message.specs.declared.fault.Counter.{Counter}
@@ -26,9 +25,9 @@ use Rattle.bd_dirs.specs.Kinds.{Kind, Reads, Sends, SendsLate, Grafts, kind_of}
 use Rattle.bd_dirs.specs.Plans.{IsPlanOf, IsPlanKind}
 use Rattle.bd_volume.specs.declared.Fault.{Fault}
 use Rattle.bd_volume.specs.declared.Fault.TheVariants.{Device, Damaged, Worn, NoMemory, Full, Stopped}
-use Rattle.bd_volume.specs.Views.{View, AreSound, AreFlushes, waiting_limit, HasFlushed, IsStoppedBy, IsReadyFor, IsWornAfter, IsWornForStep, HasEnough, IsWornForMove, IsWornByKind, IsWornForSending, IsWornNow, Wears}
+use Rattle.bd_volume.specs.Views.{View, AreSound, waiting_limit, HasFlushed, IsReadyFor, IsWornAfter, IsWornForStep, IsWornByKind, IsWornForSending, IsWornNow, Wears}
 use Rattle.bd_volume.specs.Over.{fault_of, IsFlushFault, IsGraftFault, IsVolumeFault, IsHalted}
-use Rattle.bd_volume.proofs.Flushes.{flushes_same, flushed_as_called}
+use Rattle.bd_volume.proofs.Flushes.{flushed_same}
 use Rattle.bd_volume.proofs.Sent.{view_is}
 
 -- ---- the causes of a tree in memory
@@ -78,63 +77,55 @@ worn_after Epoch made v h = never_counted (AreSound v) v Epoch (λ step w. w) (�
 worn_after Flushes made v h = absurd (never_counted (AreSound v) v Flushes (λ step w. w) (λ e. cc) h)
 
 -- a step's fault after some steps stops the flush
-pub step_fault : (fault : MapFault) (made : ℕ) (old new : View) → AreFlushes made old new → made ≤ 65536 → soft_limit < new.table.size
-    → IsCause 0 0 (λ _. ⊥) (IsWornToFlush (AreSound new) new.nodes new.table) fault → IsFlushFault fault old new
-step_fault map.DeviceFault made old new flushes few waits h = no_rise h
-step_fault (map.Damaged block) made old new flushes few waits h = h
-step_fault (map.Worn which) made old new flushes few waits h = record { made = made; flushes = flushes; few = few; waits = waits; worn = worn_after which made new h }
-step_fault map.NoMemory made old new flushes few waits h = record { made = made; flushes = flushes; few = few }
+step_fault : (fault : MapFault) (c : Command) (old new : View) → HasFlushed c old new → waiting_limit c < new.table.size
+    → IsCause 0 0 (λ _. ⊥) (IsWornToFlush (AreSound new) new.nodes new.table) fault → IsFlushFault fault c old new
+step_fault map.DeviceFault c old new flushed waits h = no_rise h
+step_fault (map.Damaged block) c old new flushed waits h = h
+step_fault (map.Worn which) c old new flushed waits h = record { flushed = flushed; worn = record { waits = waits; worn = worn_after which flushed.made new h } }
+step_fault map.NoMemory c old new flushed waits h = flushed
 
 -- where a flush stops, the tree has what it had
-pub stopped_same : (fault : MapFault) (old new : View) → IsFlushFault fault old new → SameAt (root_at old.nodes old.table) (root_at new.nodes new.table)
-stopped_same map.DeviceFault old new h = absurd h
-stopped_same (map.Damaged block) old new h = absurd h
-stopped_same (map.Worn which) old new h = flushes_same h.made old new h.flushes
-stopped_same map.NoMemory old new h = flushes_same h.made old new h.flushes
+pub stopped_same : (fault : MapFault) (c : Command) (old new : View) → IsFlushFault fault c old new → SameAt (root_at old.nodes old.table) (root_at new.nodes new.table)
+stopped_same map.DeviceFault c old new h = absurd h
+stopped_same (map.Damaged block) c old new h = absurd h
+stopped_same (map.Worn which) c old new h = flushed_same c old new h.flushed
+stopped_same map.NoMemory c old new h = flushed_same c old new h
 
 -- ---- what a command's fault leaves
 
-worn_now : (which : Counter) (count : ℕ) (c : Command) (made : ℕ) (old new : View) → IsWornForStep which c made old new → IsWornNow which count c made old new
-worn_now Count count c made old new h = absurd h.worn
-worn_now NextId count c made old new h = inl h
-worn_now Level count c made old new h = inl h
-worn_now Refs count c made old new h = inl h
-worn_now Epoch count c made old new h = absurd h.worn
-worn_now Flushes count c made old new h = h
-
-stopped_wears : (which : Counter) (count : ℕ) (c : Command) (old new : View) → IsTrue (writes c) → waiting_limit c < old.table.size → IsStoppedBy which old new → Wears which count c old new
-stopped_wears which count c old new counts many h = record {
-  counts = counts;
-  made = h.made;
-  flushed = flushed_as_called c old new h.made counts many h.flushes h.few;
-  worn = worn_now which count c h.made old new (record { called = many; waits = h.waits; worn = h.worn });
-}
+worn_now : (which : Counter) (count : ℕ) (c : Command) (made : ℕ) (v : View) → IsWornForStep which c made v → IsWornNow which count c made v
+worn_now Count count c made v h = absurd h.worn
+worn_now NextId count c made v h = inl h
+worn_now Level count c made v h = inl h
+worn_now Refs count c made v h = inl h
+worn_now Epoch count c made v h = absurd h.worn
+worn_now Flushes count c made v h = h
 
 -- where the flush of a command stops
-pub flush_halts : (fault : MapFault) (count : ℕ) (c : Command) (old new : View) → IsTrue (writes c) → waiting_limit c < old.table.size → IsFlushFault fault old new → IsHalted (fault_of fault) count c old new
-flush_halts map.DeviceFault count c old new counts many h = absurd h
-flush_halts (map.Damaged block) count c old new counts many h = absurd h
-flush_halts (map.Worn which) count c old new counts many h = stopped_wears which count c old new counts many h
-flush_halts map.NoMemory count c old new counts many h = (h.made, flushed_as_called c old new h.made counts many h.flushes h.few)
+pub flush_halts : (fault : MapFault) (count : ℕ) (c : Command) (old new : View) → IsTrue (writes c) → IsFlushFault fault c old new → IsHalted (fault_of fault) count c old new
+flush_halts map.DeviceFault count c old new counts h = absurd h
+flush_halts (map.Damaged block) count c old new counts h = absurd h
+flush_halts (map.Worn which) count c old new counts h = record { counts = counts; flushed = h.flushed; worn = worn_now which count c h.flushed.made new h.worn }
+flush_halts map.NoMemory count c old new counts h = h
 
 -- where its graft isn't made
-worn_kind : (kind : Kind) (which : Counter) (c : Command) (old new : View) (s d : List ℕ) (keep : Bool) → IsPlanOf kind (Graft s d keep) → HasEnough c old new → IsWornByGraft new.nodes new.table s d keep which → IsWornByKind kind which c old new
-worn_kind Reads which c old new s d keep plan enough h = absurd plan
-worn_kind Sends which c old new s d keep plan enough h = absurd plan
-worn_kind SendsLate which c old new s d keep plan enough h = absurd plan
-worn_kind (Grafts s2 d2 keep2) which c old new s d keep plan enough h = record {
+worn_kind : (kind : Kind) (which : Counter) (c : Command) (v : View) (s d : List ℕ) (keep : Bool) → IsPlanOf kind (Graft s d keep) → v.table.size ≤ waiting_limit c → IsWornByGraft v.nodes v.table s d keep which → IsWornByKind kind which c v
+worn_kind Reads which c v s d keep plan enough h = absurd plan
+worn_kind Sends which c v s d keep plan enough h = absurd plan
+worn_kind SendsLate which c v s d keep plan enough h = absurd plan
+worn_kind (Grafts s2 d2 keep2) which c v s d keep plan enough h = record {
   enough = enough;
-  worn = subst (λ (k : Bool). IsWornByGraft new.nodes new.table s2 d2 k which) plan.2
-      (subst (λ (k : List ℕ). IsWornByGraft new.nodes new.table s2 k keep which) plan.1 (subst (λ (k : List ℕ). IsWornByGraft new.nodes new.table k d keep which) plan.0 h));
+  worn = subst (λ (k : Bool). IsWornByGraft v.nodes v.table s2 d2 k which) plan.2
+      (subst (λ (k : List ℕ). IsWornByGraft v.nodes v.table s2 k keep which) plan.1 (subst (λ (k : List ℕ). IsWornByGraft v.nodes v.table k d keep which) plan.0 h));
 }
 
-graft_worn : (which : Counter) (count : ℕ) (c : Command) (made : ℕ) (old new : View) (s d : List ℕ) (keep : Bool) → IsWornByGraft new.nodes new.table s d keep which → IsWornForSending which c old new → IsWornNow which count c made old new
-graft_worn Count count c made old new s d keep h sent = absurd (never_by_graft new.table h.root s d keep h.end (overlaid h.end (packs h.travel)) h.target Count (λ step w. w) (λ e. cc) h.worn)
-graft_worn NextId count c made old new s d keep h sent = inr sent
-graft_worn Level count c made old new s d keep h sent = inr sent
-graft_worn Refs count c made old new s d keep h sent = inr sent
-graft_worn Epoch count c made old new s d keep h sent = absurd (never_by_graft new.table h.root s d keep h.end (overlaid h.end (packs h.travel)) h.target Epoch (λ step w. w) (λ e. cc) h.worn)
-graft_worn Flushes count c made old new s d keep h sent = absurd (never_by_graft new.table h.root s d keep h.end (overlaid h.end (packs h.travel)) h.target Flushes (λ step w. w) (λ e. cc) h.worn)
+graft_worn : (which : Counter) (count : ℕ) (c : Command) (made : ℕ) (v : View) (s d : List ℕ) (keep : Bool) → IsWornByGraft v.nodes v.table s d keep which → IsWornForSending which c v → IsWornNow which count c made v
+graft_worn Count count c made v s d keep h sent = absurd (never_by_graft v.table h.root s d keep h.end (overlaid h.end (packs h.travel)) h.target Count (λ step w. w) (λ e. cc) h.worn)
+graft_worn NextId count c made v s d keep h sent = inr sent
+graft_worn Level count c made v s d keep h sent = inr sent
+graft_worn Refs count c made v s d keep h sent = inr sent
+graft_worn Epoch count c made v s d keep h sent = absurd (never_by_graft v.table h.root s d keep h.end (overlaid h.end (packs h.travel)) h.target Epoch (λ step w. w) (λ e. cc) h.worn)
+graft_worn Flushes count c made v s d keep h sent = absurd (never_by_graft v.table h.root s d keep h.end (overlaid h.end (packs h.travel)) h.target Flushes (λ step w. w) (λ e. cc) h.worn)
 
 pub graft_halts : (fault : MapFault) (count : ℕ) (c : Command) (old new : View) (s d : List ℕ) (keep : Bool) → IsTrue (writes c) → IsPlanKind c (Graft s d keep) → IsReadyFor c old new → IsGraftFault fault s d keep new
     → IsHalted (fault_of fault) count c old new
@@ -142,11 +133,10 @@ graft_halts map.DeviceFault count c old new s d keep w kind ready h = absurd h
 graft_halts (map.Damaged block) count c old new s d keep w kind ready h = absurd h
 graft_halts (map.Worn which) count c old new s d keep w kind ready h = record {
   counts = w;
-  made = ready.made;
   flushed = ready.flushed;
-  worn = graft_worn which count c ready.made old new s d keep h (worn_kind (kind_of c) which c old new s d keep kind ready.enough h);
+  worn = graft_worn which count c ready.flushed.made new s d keep h (worn_kind (kind_of c) which c new s d keep kind ready.enough h);
 }
-graft_halts map.NoMemory count c old new s d keep w kind ready h = (ready.made, ready.flushed)
+graft_halts map.NoMemory count c old new s d keep w kind ready h = ready.flushed
 
 -- ---- a fault, by cases
 
@@ -158,15 +148,15 @@ halted_fault NoMemory count c old new h = inl refl
 halted_fault (Full free need) count c old new h = absurd h
 halted_fault (Stopped call) count c old new h = absurd h
 
-halted_flushes : (fault : Fault) (count : ℕ) (c : Command) (old new : View) → IsHalted fault count c old new → (made : ℕ) × HasFlushed c old new made
+halted_flushes : (fault : Fault) (count : ℕ) (c : Command) (old new : View) → IsHalted fault count c old new → HasFlushed c old new
 halted_flushes Device count c old new h = absurd h
 halted_flushes (Damaged block) count c old new h = absurd h
-halted_flushes (Worn which) count c old new h = (h.made, h.flushed)
+halted_flushes (Worn which) count c old new h = h.flushed
 halted_flushes NoMemory count c old new h = h
 halted_flushes (Full free need) count c old new h = absurd h
 halted_flushes (Stopped call) count c old new h = absurd h
 
-pub halted_made : {T : Type 0} (result : Result T Fault) (count : ℕ) (c : Command) (old new : View) → IfErr result (λ fault. IsHalted fault count c old new) → OnErr result ((made : ℕ) × HasFlushed c old new made)
+pub halted_made : {T : Type 0} (result : Result T Fault) (count : ℕ) (c : Command) (old new : View) → IfErr result (λ fault. IsHalted fault count c old new) → OnErr result (HasFlushed c old new)
 halted_made (Ok x) count c old new h = tt
 halted_made (Err e) count c old new h = halted_flushes e count c old new h
 
@@ -178,14 +168,14 @@ pub halted_wears : {T : Type 0} (result : Result T Fault) (count : ℕ) (c : Com
     → (which : Counter) → result ≡ Err (Worn which) → Wears which count c old new
 halted_wears {T} result count c old new h which is = subst (λ (r : Result T Fault). IfErr r (λ fault. IsHalted fault count c old new)) is h
 
-pub no_memory_halts : (fault : MapFault) (count : ℕ) (c : Command) (old new : View) (made : ℕ) → HasFlushed c old new made → fault ≡ map.NoMemory → IsHalted (fault_of fault) count c old new
-no_memory_halts fault count c old new made flushed is = subst (λ (f : MapFault). IsHalted (fault_of f) count c old new) (sym is) (made, flushed)
+pub no_memory_halts : (fault : MapFault) (count : ℕ) (c : Command) (old new : View) → HasFlushed c old new → fault ≡ map.NoMemory → IsHalted (fault_of fault) count c old new
+no_memory_halts fault count c old new flushed is = subst (λ (f : MapFault). IsHalted (fault_of f) count c old new) (sym is) flushed
 
 -- a step that fails leaves what the steps before it made
-pub step_stops : (fault : MapFault) (made : ℕ) (old mid new : View) → AreFlushes made old mid → made ≤ 65536 → soft_limit < mid.table.size
-    → new.nodes ≡ mid.nodes → new.table ≡ mid.table → new.walk ≡ mid.walk → IsCause 0 0 (λ _. ⊥) (IsWornToFlush (AreSound mid) mid.nodes mid.table) fault → IsFlushFault fault old new
-step_stops fault made old mid new flushes few waits nodes table walk cause =
-    subst (IsFlushFault fault old) (sym (view_is new mid nodes table walk)) (step_fault fault made old mid flushes few waits cause)
+pub step_stops : (fault : MapFault) (c : Command) (old mid new : View) → HasFlushed c old mid → waiting_limit c < mid.table.size
+    → new.nodes ≡ mid.nodes → new.table ≡ mid.table → new.walk ≡ mid.walk → IsCause 0 0 (λ _. ⊥) (IsWornToFlush (AreSound mid) mid.nodes mid.table) fault → IsFlushFault fault c old new
+step_stops fault c old mid new flushed waits nodes table walk cause =
+    subst (IsFlushFault fault c old) (sym (view_is new mid nodes table walk)) (step_fault fault c old mid flushed waits cause)
 
 -- a graft that isn't made leaves what the flush made
 pub graft_stops : (fault : MapFault) (count : ℕ) (c : Command) (old mid new : View) (s d : List ℕ) (keep : Bool) (plan : Plan) → IsTrue (writes c) → plan ≡ Graft s d keep → IsPlanKind c plan

@@ -12,7 +12,7 @@ use Rattle.bd_represent.specs.Represents.{Represents}
 use Rattle.bd_dirs.specs.declared.plan.Plan.{Plan}
 use Rattle.bd_dirs.specs.declared.plan.Plan.TheVariants.{Refused, Apply, Graft}
 use Rattle.bd_graft.specs.Grafting.{IsWornByGraft}
-use Rattle.bd_volume.specs.Views.{View, HasFlushed, Wears, HasMade, IsStoppedBy}
+use Rattle.bd_volume.specs.Views.{View, HasFlushed, Wears, IsStoppedBy}
 use Rattle.bd_volume.specs.declared.Fault.{Fault}
 use Rattle.bd_volume.specs.declared.Fault.TheVariants.{Device, Damaged, Worn, NoMemory, Full, Stopped}
 
@@ -34,12 +34,12 @@ fault_of (map.Damaged block) = Damaged block
 fault_of (map.Worn counter) = Worn counter
 fault_of map.NoMemory = NoMemory
 
--- why flush steps stopped
-abbrev pub IsFlushFault : MapFault → View → View → Type 0
-IsFlushFault map.DeviceFault old new = ⊥
-IsFlushFault (map.Damaged block) old new = ⊥
-IsFlushFault (map.Worn which) old new = IsStoppedBy which old new
-IsFlushFault map.NoMemory old new = HasMade old new
+-- why the flush steps of a command stopped
+abbrev pub IsFlushFault : MapFault → Command → View → View → Type 0
+IsFlushFault map.DeviceFault c old new = ⊥
+IsFlushFault (map.Damaged block) c old new = ⊥
+IsFlushFault (map.Worn which) c old new = IsStoppedBy which c old new
+IsFlushFault map.NoMemory c old new = HasFlushed c old new
 
 -- why a graft wasn't made
 abbrev pub IsGraftFault : MapFault → List ℕ → List ℕ → Bool → View → Type 0
@@ -57,6 +57,6 @@ abbrev pub IsHalted : Fault → ℕ → Command → View → View → Type 0
 IsHalted Device count c old new = ⊥
 IsHalted (Damaged block) count c old new = ⊥
 IsHalted (Worn which) count c old new = Wears which count c old new
-IsHalted NoMemory count c old new = (made : ℕ) × HasFlushed c old new made
+IsHalted NoMemory count c old new = HasFlushed c old new
 IsHalted (Full free need) count c old new = ⊥
 IsHalted (Stopped call) count c old new = ⊥

@@ -12,7 +12,9 @@ ghost use Rattle.bd_represent.specs.Represents.{Represents};
 ghost use Rattle.bd_volume.specs.Views.{view_in, keys_in, fresh_view, HasFlushed, IsMoved, Wears};
 ghost use Rattle.bd_volume.specs.Volume.{StandsFor, view_of, count_of, device_of};
 
+mod answering;
 mod flushing;
+mod memory;
 mod over;
 mod sending;
 
@@ -24,7 +26,7 @@ use bd_memnodes::MemNodes;
 use bd_message::{Counter, MapFault};
 use bd_names::Path;
 use bd_records::Record;
-use flushing::nodes_are_sound;
+use memory::nodes_are_sound;
 use over::execute;
 use std::alloc::Global;
 use thiserror::Error;
@@ -113,9 +115,9 @@ impl<D: Device + Drop> Volume<D> {
     }
 
     /// Executes a command whose fields are within their limits. A writing command that is accepted
-    /// first makes flush steps, where more than 16,384 bytes of messages wait in the root (for a
-    /// `remove` or `truncate` more than 24,576), until at most 16,384 do. Then its messages go into
-    /// the root, or its graft is made.
+    /// first makes flush steps, one after the other, while more than 16,384 bytes of messages wait
+    /// in the root (for a `remove` or `truncate` more than 24,576). Then its messages go into the
+    /// root, or its graft is made.
     ///
     /// `Worn` comes only for such a command: of `Count` where the count of accepted commands stands
     /// at its last value, and then no step is made; of `Flushes` where more than 65,536 steps would
@@ -137,8 +139,8 @@ impl<D: Device + Drop> Volume<D> {
             → IsMoved t command.now (view_of self.old) (view_of self.new)) }
         ensures unmoved { IfOk result (λ reply. accepted command.now reply ≡ 0
             → view_of self.new ≡ view_of self.old) }
-        ensures halted { OnErr result ((made : ℕ)
-            × HasFlushed command.now (view_of self.old) (view_of self.new) made) }
+        ensures halted { OnErr result
+            (HasFlushed command.now (view_of self.old) (view_of self.new)) }
         ensures refused { OnErr result ((t : Tree) (n : ℕ) → StandsFor self.old t n
             → IsSome (refusal_of t command.now) → view_of self.new ≡ view_of self.old) }
 

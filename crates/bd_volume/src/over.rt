@@ -1,24 +1,21 @@
 //! A command executed over a tree of nodes in memory.
 
-ghost use Rattle.std.specs.Prelude.{◌≡◌, ◌+◌, ℕ, false, IsTrue, IsSome, IsNone, IfOk, IfErr, OnErr, Err};
+ghost use Rattle.std.specs.Prelude.{◌≡◌, ◌+◌, ℕ, IsTrue, IsSome, IsNone, IfOk, IfErr, OnErr, Err};
 ghost use Rattle.bd_command.specs.Command.{writes, accepted, IsCommand, IsReply};
 ghost use Rattle.bd_model.specs.Tree.{Tree, IsTree};
-ghost use Rattle.bd_model.specs.Step.{step, refusal_of};
+ghost use Rattle.bd_model.specs.Step.{refusal_of};
 ghost use Rattle.bd_message.specs.declared.fault.Counter.{Counter};
-ghost use Rattle.bd_message.specs.KeyMaps.{SameAt, HasMapCause, NeverWorn};
-ghost use Rattle.bd_message.specs.Reads.{IsLeft};
+ghost use Rattle.bd_message.specs.KeyMaps.{SameAt};
 ghost use Rattle.bd_represent.specs.Represents.{Represents};
 ghost use Rattle.bd_dirs.specs.Plans.{IsPlan, IsReady, IsPlanKind};
 ghost use Rattle.bd_volume.specs.Views.{view_in, keys_in, IsMoved};
 ghost use Rattle.bd_volume.specs.Over.{accepts, TakesStep, IsHalted};
 
-use crate::flushing::{make_ready, nodes_are_sound};
-use crate::sending::{append, graft};
+use crate::answering::answer;
+use crate::memory::{append, graft, make_ready, nodes_are_sound};
 use crate::{Fault, MemTree};
 use bd_command::{Command, Reply};
-use bd_dirs::{Plan, list, plan_command, stat};
-use bd_files::read;
-use bd_message::{KeyMap, MapFault};
+use bd_dirs::{Plan, plan_command};
 use std::alloc::Global;
 
 /// Executes a command whose fields are within their limits, and counts it where it is an accepted
@@ -55,32 +52,6 @@ pub fn execute(
     }
     let plan = plan_command(alloc, tree, command)?;
     carry_out(tree, count, command, plan)
-}
-
-/// What a reading command is answered, over any key map.
-fn answer<M: KeyMap>(alloc: Global, m: &mut M, command: &Command) -> Result<Reply, MapFault>
-    requires limits { IsCommand command.now }
-    requires reads { writes command.now ≡ false }
-    ensures reply { M.is_known m.old → (t : Tree) → IsTree t → Represents (M.has m.old) t
-        → IfOk result (λ reply. reply ≡ (step t command.now).1) }
-    ensures small { IfOk result IsReply }
-    ensures left { IsLeft M.KeyMap m.old m.new }
-    ensures cause { HasMapCause (M.fault_count m.old) (M.fault_count m.new)
-        (M.bad m.new) NeverWorn result }
-{
-    match command {
-        Command::Read { path, off, len } => read(alloc, m, path, *off, *len),
-        Command::Stat { path } => stat(alloc, m, path),
-        Command::List { path, after } => list(alloc, m, path, after.as_ref()),
-        Command::Mkdir { .. }
-        | Command::Create { .. }
-        | Command::Write { .. }
-        | Command::Truncate { .. }
-        | Command::Remove { .. }
-        | Command::Rename { .. }
-        | Command::Clone { .. }
-        | Command::Chmod { .. } => unreachable!(),
-    }
 }
 
 // Does what is planned for a writing command, and answers it.

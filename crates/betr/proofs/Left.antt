@@ -1,7 +1,8 @@
 -- What faults leave of a state.
-use Rattle.std.proofs.Common.{arith}
+use Rattle.std.proofs.Common.{arith, []}
 use Rattle.std.specs.declared.option.Option.{Option}
 use Rattle.std.specs.declared.option.Option.TheVariants.{None, Some}
+use Rattle.bd_command.specs.declared.Command.TheVariants.{Stat}
 use Rattle.bd_message.specs.declared.fault.Counter.{Counter}
 use Rattle.bd_script.specs.Lines.{LineMeaning}
 use Rattle.bd_volume.specs.Views.AreFlushes.{none}
@@ -12,18 +13,12 @@ use Rattle.betr.specs.Session.{WornBy, Leaves, with_view, Ends}
 
 -- without a flush step all is left as it was
 pub leaves_all : (s : State) (at : State → Type 0) → at s → Leaves s at
-leaves_all s at h = record { made = 0; few = omega arith; left = s.view; flushes = none s.view; reached = h }
+leaves_all s at h = record { command = Stat []; left = s.view; flushed = record { made = 0; flushes = none s.view; few = omega arith }; reached = h }
 
 -- the flush steps before a counter was worn are left
 pub leaves_worn : (which : Counter) (s : State) (line : LineMeaning) (at : State → Type 0)
     → (worn : WornBy which s line) × at (with_view s worn.left) → Leaves s at
-leaves_worn which s line at h = record {
-  made = h.0.wears.made;
-  few = h.0.wears.flushed.few;
-  left = h.0.left;
-  flushes = h.0.wears.flushed.flushes;
-  reached = h.1;
-}
+leaves_worn which s line at h = record { command = h.0.command; left = h.0.left; flushed = h.0.wears.flushed; reached = h.1 }
 
 -- at any end something is left
 pub ends_any : (end : Option Fault) (s : State) → Ends end s (λ _. Unit {0})

@@ -84,15 +84,14 @@ wears_as which n m c old same new e f h = subst (λ k. Wears which k c same new)
 -- a command's fault is the volume's
 pub run_fails : {D : Type 0} (v w : Volume D) (e : VolumeFault) (f : Fault) (s : State) (line : Line) (c : Command) → VolumeAt v s → line ≡ Run c
     → ComesNow e → (e ≡ volume.NoMemory → f ≡ Memory) → ((which : Counter) → e ≡ volume.Worn which → f ≡ Worn which)
-    → StandsFor w s.tree s.count → ((made : ℕ) × HasFlushed c (view_of v) (view_of w) made)
+    → StandsFor w s.tree s.count → HasFlushed c (view_of v) (view_of w)
     → ((which : Counter) → e ≡ volume.Worn which → Wears which (count_of v) c (view_of v) (view_of w))
     → ((which : Counter) → e ≡ volume.Worn which → IsNone (refusal_of s.tree c)) → LineFails f s (Ok line) (VolumeAt w)
 run_fails v w e f s line c at is (inl m) memory worn stands halted wears accepted =
     subst (λ f. LineFails f s (Ok line) (VolumeAt w)) (sym (memory m)) (record {
-      made = halted.0;
-      few = halted.1.few;
+      command = c;
       left = view_of w;
-      flushes = (subst (λ old. HasFlushed c old (view_of w) halted.0) at.view_is halted.1).flushes;
+      flushed = subst (λ old. HasFlushed c old (view_of w)) at.view_is halted;
       reached = record { stands = stands; view_is = refl };
     })
 run_fails v w e f s line c at is (inr h) memory worn stands halted wears accepted =

@@ -17,14 +17,14 @@ use Rattle.bd_volume.specs.Views.AreFlushes.{none, more}
 use Rattle.betr.specs.Transcript.{State, Entry, Follows, Moves, IsTranscript, grafts, IsCheap, AreCheap}
 
 -- flush steps keep the walk
-flushes_keep : (n : ℕ) (v w : View) → AreFlushes n v w → w.walk ≡ v.walk
-flushes_keep n v w (none u) = refl
-flushes_keep n v w (more m u x y before waits step same) = same ∙ flushes_keep m u x before
+flushes_keep : (c : Command) (n : ℕ) (v w : View) → AreFlushes c n v w → w.walk ≡ v.walk
+flushes_keep c n v w (none u) = refl
+flushes_keep c n v w (more m u x y before last) = last.walk_is ∙ flushes_keep c m u x before
 
 -- what is sent after flush steps keeps the walk, and so does what isn't accepted
 appended_keeps : (b : Bool) (t : Tree) (c : Command) (list : List Message) (old new : View) → ((m : IsMoved t c old new) → HasAppended list m.mid new)
     → MatchBool b (IsMoved t c old new) (new ≡ old) → new.walk ≡ old.walk
-appended_keeps true t c list old new sent h = (sent h).walk_is ∙ flushes_keep h.made old h.mid h.flushed.flushes
+appended_keeps true t c list old new sent h = (sent h).walk_is ∙ flushes_keep c h.flushed.made old h.mid h.flushed.flushes
 appended_keeps false t c list old new sent h = ap (λ (v : View). v.walk) h
 
 grafted_is : (b : Bool) (P Q R S : Type 0) → (P → Q) → (R → S) → MatchBool b P R → MatchBool b Q S
@@ -41,8 +41,8 @@ run_cheap t (Create path) r old new h = appended_keeps (is_done r) t (Create pat
 run_cheap t (Write path off bytes) r old new h = appended_keeps (is_done r) t (Write path off bytes) _ old new (λ m. m.sent) h
 run_cheap t (Truncate path len) r old new h = appended_keeps (is_done r) t (Truncate path len) _ old new (λ m. m.sent) h
 run_cheap t (Remove path) r old new h = appended_keeps (is_done r) t (Remove path) _ old new (λ m. m.sent) h
-run_cheap t (Rename a b) r old new h = grafted_is (is_done r) (IsMoved t (Rename a b) old new) _ (new ≡ old) _ (λ m. m.sent.few_visits) (walk_of old new) h
-run_cheap t (Clone a b) r old new h = grafted_is (is_done r) (IsMoved t (Clone a b) old new) _ (new ≡ old) _ (λ m. m.sent.few_visits) (walk_of old new) h
+run_cheap t (Rename a b) r old new h = grafted_is (is_done r) (IsMoved t (Rename a b) old new) _ (new ≡ old) _ (λ m. m.sent.walked.few_visits) (walk_of old new) h
+run_cheap t (Clone a b) r old new h = grafted_is (is_done r) (IsMoved t (Clone a b) old new) _ (new ≡ old) _ (λ m. m.sent.walked.few_visits) (walk_of old new) h
 run_cheap t (Chmod path mode) r old new h = appended_keeps (is_done r) t (Chmod path mode) _ old new (λ m. m.sent) h
 run_cheap t (Read path off len) r old new h = walk_of old new h
 run_cheap t (Stat path) r old new h = walk_of old new h

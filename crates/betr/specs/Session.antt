@@ -6,7 +6,7 @@ use Rattle.std.specs.declared.option.Option.{Option}
 use Rattle.std.specs.declared.option.Option.TheVariants.{None, Some}
 use Rattle.std.specs.declared.result.Result.{Result}
 use Rattle.std.specs.declared.result.Result.TheVariants.{Ok, Err}
-use Rattle.bd_limits.specs.Limits.{script_limit, flush_limit}
+use Rattle.bd_limits.specs.Limits.{script_limit}
 use Rattle.bd_io.specs.Takes.{Takes}
 use Rattle.bd_io.specs.Written.{WrotePart}
 use Rattle.bd_command.specs.declared.Command.{Command}
@@ -15,7 +15,7 @@ use Rattle.bd_model.specs.Step.{refusal_of}
 use Rattle.bd_script.specs.Lines.{LineMeaning, is_stop}
 use Rattle.bd_script.specs.Replies.{line_reply_line}
 use Rattle.bd_script.specs.declared.line.Line.TheVariants.{Run}
-use Rattle.bd_volume.specs.Views.{View, AreFlushes, Wears}
+use Rattle.bd_volume.specs.Views.{View, HasFlushed, Wears}
 use Rattle.betr.specs.declared.fault.Fault.{Fault}
 use Rattle.betr.specs.declared.fault.Fault.TheVariants.{Device, Source, Memory, TooLong, Worn, Sink}
 use Rattle.betr.specs.Taken.{Took}
@@ -55,12 +55,12 @@ pub record WornBy (which : Counter) (s : State) (line : LineMeaning) : Type 0 wh
 abbrev pub with_view : State → View → State
 with_view s view = record { tree = s.tree; count = s.count; view = view }
 
--- what a fault of a line leaves: at most 65,536 flush steps were made for it, and nothing else
+-- what a fault of a line leaves: at most 65,536 flush steps of one command were made, and nothing
+-- else
 pub record Leaves (s : State) (at : State → Type 0) : Type 0 where
-  pub made : ℕ
-  pub few : made ≤ flush_limit
+  pub command : Command
   pub left : View
-  pub flushes : AreFlushes made s.view left
+  pub flushed : HasFlushed command s.view left
   pub reached : at (with_view s left)
 
 -- ---- what an end leaves of the lines

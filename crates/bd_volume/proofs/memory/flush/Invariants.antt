@@ -2,10 +2,10 @@
 use Rattle.bd_node.specs.Tables.{IsSound}
 use Rattle.bd_memnodes.specs.Seen.{nodes_of, table}
 use Rattle.bd_volume.specs.Views.{AreFlushes, view_in}
-use Rattle.bd_volume.proofs.flushing.flush.Given as goal
+use Rattle.bd_volume.proofs.memory.flush.Given as goal
 
 abbrev pub invariant-loop-made : goal.invariant-loop-made
 invariant-loop-made l = record {
-  flushes : AreFlushes l._made (view_in l.fn.tree) (view_in l.tree);
+  flushes : AreFlushes l.command l._made (view_in l.fn.tree) (view_in l.tree);
   sound : IsSound (nodes_of l.tree.store) (table l.tree.store);
 }
