@@ -28,7 +28,7 @@ use Rattle.bd_pager.proofs.ChangingLemmas.{place_now}
 -- ---- counts
 
 -- 1 where it is so
-abbrev flag : Bool → ℕ
+abbrev pub flag : Bool → ℕ
 flag b = cond b 1 0
 
 flag_small : (b : Bool) → flag b ≤ 1
@@ -270,21 +270,25 @@ each_by : {X : Type 0} (F : Option Spot → X) (G : Option Place → X) → ((o 
     → ((i : ℕ) → option_map (λ (s : Spot). s.place) (new i) ≡ option_map (λ (s : Spot). s.place) (spots i)) → (i : ℕ) → F (new i) ≡ F (spots i)
 each_by F G by spots new same i = by (new i) ∙ ap G (same i) ∙ sym (by (spots i))
 
-pub placed_tallied : (next : ℕ) (spots new : Spots) (u : Usage) → ((i : ℕ) → option_map (λ (s : Spot). s.place) (new i) ≡ option_map (λ (s : Spot). s.place) (spots i)) → IsTallied next spots u → IsTallied next new u
-placed_tallied next spots new u same was =
+pub placed_unused : (spare free : List Bool) (spots new : Spots) → ((i : ℕ) → option_map (λ (s : Spot). s.place) (new i) ≡ option_map (λ (s : Spot). s.place) (spots i)) → AreUnused spare free spots → AreUnused spare free new
+placed_unused spare free spots new same was =
     let slot_same : (i : ℕ) → slot_in (new i) ≡ slot_in (spots i) = each_by slot_in place_slot slot_by_place spots new same in
     record {
-      unused = record {
-        slots = λ i s there.
-            let found = placed_was (spots i) s.place (sym (same i) ∙ ap (option_map (λ (x : Spot). x.place)) there) in
-            subst (λ (p : Place). IsPlaceIn u.spare p) found.2 (was.unused.slots i found.0 found.1);
-        apart = λ i j slot one two. was.unused.apart i j slot (sym (slot_same i) ∙ one) (sym (slot_same j) ∙ two);
-        count = was.unused.count;
-        free_is = λ slot. (
-          λ is. (((was.unused.free_is slot).0 is).0, λ i e. ((was.unused.free_is slot).0 is).1 i (sym (slot_same i) ∙ e)),
-          λ un. (was.unused.free_is slot).1 (un.0, λ i e. un.1 i (slot_same i ∙ e)),
-        );
-      };
+      slots = λ i s there.
+          let found = placed_was (spots i) s.place (sym (same i) ∙ ap (option_map (λ (x : Spot). x.place)) there) in
+          subst (λ (p : Place). IsPlaceIn spare p) found.2 (was.slots i found.0 found.1);
+      apart = λ i j slot one two. was.apart i j slot (sym (slot_same i) ∙ one) (sym (slot_same j) ∙ two);
+      count = was.count;
+      free_is = λ slot. (
+        λ is. (((was.free_is slot).0 is).0, λ i e. ((was.free_is slot).0 is).1 i (sym (slot_same i) ∙ e)),
+        λ un. (was.free_is slot).1 (un.0, λ i e. un.1 i (slot_same i ∙ e)),
+      );
+    }
+
+pub placed_tallied : (next : ℕ) (spots new : Spots) (u : Usage) → ((i : ℕ) → option_map (λ (s : Spot). s.place) (new i) ≡ option_map (λ (s : Spot). s.place) (spots i)) → IsTallied next spots u → IsTallied next new u
+placed_tallied next spots new u same was =
+    record {
+      unused = placed_unused u.spare u.free spots new same was.unused;
       counted = record {
         fits = was.counted.fits;
         changed = was.counted.changed ∙ sym (count_kept (is_changed u.spare) next spots new (each_by (is_changed u.spare) (place_changed u.spare) (changed_by_place u.spare) spots new same));

@@ -5,6 +5,7 @@ pub mod EntryLemmas
 pub mod FlagLemmas
 pub mod FreshLemmas
 pub mod KeptLemmas
+pub mod MovingLemmas
 pub mod NamingLemmas
 pub mod OpenedLemmas
 pub mod PagerLemmas

@@ -5,6 +5,7 @@ pub mod Entries
 pub mod Fresh
 pub mod Keeping
 pub mod Lending
+pub mod Moving
 pub mod Opened
 pub mod Pagers
 pub mod Places

@@ -16,6 +16,7 @@ mod reader;
 mod reading;
 mod slots;
 mod usage;
+mod writing;
 mod written;
 
 pub use pager::{Pager, Refused};

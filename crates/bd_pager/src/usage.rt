@@ -38,6 +38,12 @@ pub const IN_MEMORY: Tally = Tally {
     is_in_memory: true,
 };
 
+/// What a changed node counts for that is in a slot alone.
+pub const STORED: Tally = Tally {
+    is_changed: true,
+    is_in_memory: false,
+};
+
 /// What a node counts for that isn't kept.
 pub const NOWHERE: Tally = Tally {
     is_changed: false,
