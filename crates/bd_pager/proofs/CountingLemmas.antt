@@ -1,7 +1,11 @@
 -- What is said of slots and nodes after one node was moved.
 use Rattle.std.proofs.Common.{◌≡◌, ◌≢◌, ◌↔◌, ℕ, zero, suc, ◌+◌, ◌-◌, ◌^◌, ◌<◌, ◌≤◌, Bool, true, false, cond, is_some, IsTrue, List, length, get_or, set, get_or-set_same, get_or-set_other, Option, None, Some, IfSome, refl, sym, ap, subst, ◌∙◌, arith, inl, inr}
 use Rattle.std.specs.Prelude.{slice_get, Contains}
+use Rattle.std.specs.BTreeSet.{BTreeSet, Updates}
 use Rattle.std.specs.Option.{option_map}
+use Rattle.std.specs.Cmp.{nat_cmp_is}
+use Rattle.std.specs.Ordering.{is_eq, nat_cmp}
+use Rattle.std.specs.declared.cmp.Ordering.TheVariants.{Less, Greater}
 use Rattle.std.proofs.lemmas.Bool.{cases_eq, cases_lt, true≢false}
 use Rattle.std.proofs.lemmas.List.{length-set}
 use Rattle.std.proofs.lemmas.Option.{none-some, same_Some, slice_get-get_or, slice_get_within, slice_get_past, get_or_from_slice_get}
@@ -499,3 +503,15 @@ wider_tallied next more spots u fits past was = record {
   };
   listed = was.listed;
 }
+
+-- ---- listed ids
+
+apart_at : (x y : ℕ) → x ≢ y → is_eq (nat_cmp x y) ≡ false
+apart_at x y apart = elim (cases_lt x y) [
+  | inl lt ↦ ap is_eq (sym (nat_cmp_is x y Less lt))
+  | inr le ↦ ap is_eq (sym (nat_cmp_is x y Greater (omega (arith, le, apart))))
+]
+
+-- an id that is taken out leaves the others
+pub removed_listed : (old new : BTreeSet ℕ) (id : ℕ) → Updates nat_cmp old new id false → (i : ℕ) → i ≢ id → IsListed old i → IsListed new i
+removed_listed old new id updates i other on = updates.2 i (apart_at id i (λ e. other (sym e))) ∙ on

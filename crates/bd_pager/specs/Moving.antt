@@ -1,5 +1,5 @@
 -- Nodes that are moved from memory to their slots.
-use Rattle.std.specs.Prelude.{◌≡◌, ◌≢◌, ◌+◌, ◌≤◌, ⊤, ℕ, Bool, true, false, List, Option, None, Some, IsTrue, slice_set}
+use Rattle.std.specs.Prelude.{◌≡◌, ◌≢◌, ◌+◌, ◌≤◌, ◌<◌, ◌⊎◌, ⊤, ℕ, Bool, true, false, List, Option, None, Some, IsTrue, slice_set}
 use Rattle.std.specs.Global.{Global}
 use Rattle.std.specs.declared.rc.Rc.{Rc}
 use Rattle.bd_limits.specs.Limits.{slot_blocks}
@@ -88,6 +88,22 @@ pub record IsMovedAt (id : ℕ) (move : Place → Place) (old new : Spots) : Typ
   pub there : old id ≡ Some was
   pub here : new id ≡ Some (record was { place = move was.place })
   pub others : (i : ℕ) → i ≢ id → new i ≡ old i
+
+-- of the nodes in memory the root comes last, and before it those of lesser ids come first
+abbrev pub IsBefore : ℕ → ℕ → ℕ → Type 0
+IsBefore root id other = (id ≢ root) × ((other ≡ root) ⊎ (id < other))
+
+-- each other node in memory comes after this one, which is the root if it isn't in memory
+pub record IsEarliest (root : ℕ) (spots : Spots) (id : ℕ) : Type 0 where
+  pub memory : id ≢ root → IsTrue (is_in_memory (spots id))
+  pub first : (other : ℕ) → IsTrue (is_in_memory (spots other)) → other ≢ id
+      → IsBefore root id other
+
+-- what has left memory came before what is still there
+abbrev pub AreEarlier : ℕ → Spots → Spots → Type 0
+AreEarlier root before after = (id other : ℕ) → IsTrue (is_in_memory (before id))
+    → is_in_memory (after id) ≡ false → IsTrue (is_in_memory (after other))
+    → IsBefore root id other
 
 -- ---- several
 

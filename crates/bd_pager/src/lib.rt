@@ -5,6 +5,7 @@
 #![tactic(auto)]
 
 mod changing;
+mod early;
 mod entries;
 pub mod laws;
 mod moving;

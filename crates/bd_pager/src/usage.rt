@@ -94,8 +94,8 @@ fn is_changed_place(spare: &SlotSet, place: &Place) -> bool
     }
 }
 
-// Whether a node at this place is in memory, and no slot has it as it is.
-fn is_in_memory_at(place: &Place) -> bool
+/// Whether a node at this place is in memory, and no slot has it as it is.
+pub fn is_in_memory_at(place: &Place) -> bool
     ensures { result ≡ is_in_memory_at place.now }
 {
     match place {

@@ -1,8 +1,11 @@
-use Rattle.std.proofs.Common.{refl, sym, subst}
+use Rattle.std.proofs.Common.{false, refl, sym, subst}
+use Rattle.std.specs.BTreeSet.{Updates}
+use Rattle.std.specs.Ordering.{nat_cmp}
 use Rattle.std.proofs.lemmas.Bool.{eq-eqb}
 use Rattle.bd_pager.specs.declared.usage.Usage.{Usage}
 use Rattle.bd_pager.specs.Counting.{IsTallied}
 use Rattle.bd_pager.specs.Places.{spots_in}
+use Rattle.bd_pager.proofs.CountingLemmas.{removed_listed}
 use Rattle.bd_pager.proofs.MovingLemmas.{HasOwn, moves_then, device_moves, cached_kept, has_own_now, reserved_moves, reserved_unused, reserved_tallied, reserved_placed, reserved_cached, own_writable, own_wider, own_apart, own_there, settled_moves, settled_placed, settled_cached, settled_tallied}
 use Rattle.bd_pager.proofs.writing.write_at.Goals as goal
 
@@ -97,5 +100,5 @@ returns-clause-tallied g c = λ next low tallied.
     let own = has_own_now c.args.id spots u.free mid c.reserve.new.free c.reserve.ensures c.requires.memory in
     let unused = reserved_unused u.spare u.free c.args.id spots mid c.reserve.new.free c.reserve.ensures c.requires.unused in
     subst (λ (x : Usage). IsTallied next last (record x { listed = c.remove.new.self })) (sym c.recount.ensures)
-    (settled_tallied D u.spare c.reserve.new.free c.args.root c.args.id c.args.reader.now.dev mid last own unused _ c.settle.ensures next v c.remove.new.self refl refl low ?
+    (settled_tallied D u.spare c.reserve.new.free c.args.root c.args.id c.args.reader.now.dev mid last own unused _ c.settle.ensures next v c.remove.new.self refl refl low (removed_listed u.listed c.remove.new.self c.args.id (subst (λ (x : Usage). Updates nat_cmp x.listed c.remove.new.self c.args.id false) c.recount.ensures c.remove.ensures.updates))
     (reserved_tallied next u c.args.id spots mid c.reserve.new.free c.reserve.ensures low tallied))
