@@ -506,7 +506,7 @@ wider_tallied next more spots u fits past was = record {
 
 -- ---- listed ids
 
-apart_at : (x y : ℕ) → x ≢ y → is_eq (nat_cmp x y) ≡ false
+pub apart_at : (x y : ℕ) → x ≢ y → is_eq (nat_cmp x y) ≡ false
 apart_at x y apart = elim (cases_lt x y) [
   | inl lt ↦ ap is_eq (sym (nat_cmp_is x y Less lt))
   | inr le ↦ ap is_eq (sym (nat_cmp_is x y Greater (omega (arith, le, apart))))

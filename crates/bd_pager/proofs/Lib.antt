@@ -1,6 +1,7 @@
 pub mod AppendedLemmas
 pub mod ChangingLemmas
 pub mod CountingLemmas
+pub mod EarlyLemmas
 pub mod EntryLemmas
 pub mod FlagLemmas
 pub mod FreshLemmas
