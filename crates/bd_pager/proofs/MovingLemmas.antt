@@ -32,7 +32,8 @@ use Rattle.bd_pager.specs.Calling.{no_reads}
 use Rattle.bd_pager.specs.declared.usage.TheConstants.{IN_MEMORY, STORED}
 use Rattle.bd_pager.specs.Changing.{slot_if, own_slot}
 use Rattle.bd_pager.specs.Counting.{AreUnused, is_in_memory, is_in_memory_at, has_own, moved, recounted, IsListed, IsTallied}
-use Rattle.bd_pager.specs.Moving.{copy_if, stored_at, IfSpot, IsHeldAt, IsMovedAt, IsOfPlace, IsOfSpot, IsReservedPlace, IsReservedSpot, IsReservedAt, IsWritablePlace, OnlyMoves}
+use Rattle.bd_node.proofs.Sums.{sum_some}
+use Rattle.bd_pager.specs.Moving.{copy_if, stored_at, AreEarlier, IsBefore, IsEarliest, IfSpot, IsHeldAt, IsMovedAt, IsOfPlace, IsOfSpot, IsReservedPlace, IsReservedSpot, IsReservedAt, IsWritablePlace, OnlyMoves}
 use Rattle.bd_pager.specs.Slots.{slot_bytes, HasNode, IsOfLevel, IsOfSlot, IsSpare}
 use Rattle.bd_pager.specs.Places.{Spots, refs_in, level_in, slot_at, slot_in, copy_at, copy_in, node_at, node_of, told, nodes_at, IsReadAt, IsRead, AreCached, ArePlaced}
 use Rattle.bd_pager.specs.Pagers.{is_changed, is_changed_place, IsRightPlace, IsKnownOver, IsPlaceIn}
@@ -516,3 +517,48 @@ module _ (id : ℕ) (spots : Spots) (free : List Bool) (mid : Spots) (after : Li
         (subst (λ (o : Option Spot). IsRead contents is_lent o n) (ap spots same ∙ h.there) (cached i n kept)))
     | inr other ↦ subst (λ (o : Option Spot). IsRead contents is_lent o n) (sym (h.others i other)) (cached i n kept)
   ]
+
+-- ---- several, one after the other
+
+-- a node in memory, where some are counted
+pub some_memory : (next : ℕ) (spots : Spots) (u : Usage) → IsTallied next spots u → 1 ≤ u.in_memory → (id : ℕ) × IsTrue (is_in_memory (spots id))
+some_memory next spots u tallied some =
+    let found = sum_some next (λ i. flag (is_in_memory (spots i))) (omega (arith, some, tallied.counted.in_memory)) in
+    (found.0, flag_on (is_in_memory (spots found.0)) found.2)
+  where
+    flag_on : (b : Bool) → 1 ≤ flag b → IsTrue b
+    flag_on true on = refl
+    flag_on false on = absurd (omega (arith, on))
+
+-- the earliest of them is one
+pub earliest_memory : (root id other : ℕ) (spots : Spots) → IsEarliest root spots id → IsTrue (is_in_memory (spots other)) → IsTrue (is_in_memory (spots id))
+earliest_memory root id other spots h on = elim (cases_eq id root) [
+  | inl is_root ↦ elim (cases_eq other id) [
+    | inl same ↦ subst (λ (k : ℕ). IsTrue (is_in_memory (spots k))) same on
+    | inr apart ↦ absurd ((h.first other on apart).0 is_root)
+  ]
+  | inr apart ↦ h.memory apart
+]
+
+by_memory : (b : Bool) → (b ≡ true) ⊎ (b ≡ false)
+by_memory true = inl refl
+by_memory false = inr refl
+
+-- what left memory so far came before what is there, and so does one more
+pub earlier_then : (root id : ℕ) (before mid after : Spots) → AreEarlier root before mid → IsEarliest root mid id → ((i : ℕ) → i ≢ id → is_in_memory (after i) ≡ is_in_memory (mid i)) → ((i : ℕ) → IsTrue (is_in_memory (after i)) → IsTrue (is_in_memory (mid i)))
+    → AreEarlier root before after
+earlier_then root id before mid after so_far first others less = λ i j was gone on.
+    elim (by_memory (is_in_memory (mid i))) [
+      | inl here ↦ elim (cases_eq i id) [
+        | inl same ↦ elim (cases_eq j id) [
+          | inl also ↦ absurd (true≢false (sym on ∙ ap (λ (k : ℕ). is_in_memory (after k)) (also ∙ sym same) ∙ gone))
+          | inr apart ↦ subst (λ (k : ℕ). IsBefore root k j) (sym same) (first.first j (less j on) apart)
+        ]
+        | inr apart ↦ absurd (true≢false (sym here ∙ sym (others i apart) ∙ gone))
+      ]
+      | inr left ↦ so_far i j was left (less j on)
+    ]
+
+-- none is free where the count is 0
+pub none_free : (flags : List Bool) (slot : ℕ) → free_count flags ≡ 0 → ¬ IsFree flags slot
+none_free flags slot none free = omega (arith, none, flag_count flags slot true false free)

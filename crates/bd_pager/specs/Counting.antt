@@ -68,6 +68,10 @@ IsListed ids id = IsTrue (contains nat_cmp ids id)
 abbrev pub AreListed : Spots → BTreeSet ℕ → Type 0
 AreListed spots ids = (id : ℕ) → IsTrue (is_in_memory (spots id)) → IsListed ids id
 
+-- each has an id below this one
+abbrev pub AreBelow : ℕ → Spots → Type 0
+AreBelow next spots = (id : ℕ) → IsTrue (is_in_memory (spots id)) → id < next
+
 -- ---- all of it
 
 -- what is said of slots and nodes is so

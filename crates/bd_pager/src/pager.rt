@@ -25,13 +25,12 @@ ghost use Rattle.bd_pager.specs.Pagers.{table_of, nodes_of, spots_of, is_known, 
 ghost use Rattle.bd_pager.specs.Places.{refs_in, spots_in, AreCached};
 
 use crate::changing::append_counted;
-use crate::early::earliest;
 use crate::naming::names_lower;
 use crate::parts::Parts;
 use crate::place::Spot;
 use crate::reader::NodeReader;
 use crate::usage::Usage;
-use crate::writing::write_at;
+use crate::writing::write_early;
 use crate::written::Written;
 use bd_counts::Counted;
 use bd_device::{Device, ImageFault};
@@ -339,15 +338,12 @@ impl<D: Device> Pager<D> {
             ≡ faults_after (D.write_fault_count self.old.dev) result }
     {
         self.written = None;
-        while self.usage.in_memory > early && self.usage.free.free() > 0 {
-            let id = earliest(
-                &mut self.usage.listed,
-                &self.reader.spots,
-                self.root,
-            );
-            write_at(&mut self.reader, &mut self.usage, id, self.root)?;
-        }
-        Ok(())
+        write_early(
+            &mut self.reader,
+            &mut self.usage,
+            self.root,
+            early,
+        )
     }
 
     /// The device, which is lent. Whatever is done with it, the pager then reads again what it read

@@ -1,16 +1,17 @@
 //! Nodes that are written to their own slots.
 
-ghost use Rattle.std.specs.Prelude.{◌≡◌, ◌-◌, ◌<◌, ◌≤◌, ℕ, IsSome, IsTrue, IfSome, OnOk, length};
+ghost use Rattle.std.specs.Prelude.{◌≡◌, ◌≢◌, ◌⊎◌, ◌-◌, ◌<◌, ◌≤◌, ℕ, IsSome, IsTrue, IfSome, OnOk, OnErr, length, min};
 ghost use Rattle.bd_slots.specs.Layout.{image_blocks};
 ghost use Rattle.bd_slots.specs.Slots.{free_count};
 ghost use Rattle.bd_device.specs.Calls.{faults_after};
 ghost use Rattle.bd_device.specs.Changes.{StaysBut, IsBeforeBut};
 ghost use Rattle.bd_device.specs.Device.{left_now, Goes, Stays, FailsLast};
-ghost use Rattle.bd_pager.specs.Counting.{is_in_memory, AreUnused, IsTallied};
-ghost use Rattle.bd_pager.specs.Moving.{copy_if, stored_at, IfSpot, IsHeldAt, IsMovedAt, IsOfPlace, IsOfSpot, IsReservedAt, IsReservedPlace, IsReservedSpot, IsWritablePlace, OnlyMoves};
+ghost use Rattle.bd_pager.specs.Counting.{is_in_memory, AreBelow, AreUnused, IsTallied};
+ghost use Rattle.bd_pager.specs.Moving.{copy_if, stored_at, AreEarlier, IfSpot, IsHeldAt, IsMovedAt, IsOfPlace, IsOfSpot, IsReservedAt, IsReservedPlace, IsReservedSpot, IsWritablePlace, OnlyMoves};
 ghost use Rattle.bd_pager.specs.Places.{spots_in};
 ghost use Rattle.bd_pager.specs.Readers.{IsReading};
 
+use crate::early::earliest;
 use crate::place::{Place, Spot};
 use crate::reader::NodeReader;
 use crate::usage::{IN_MEMORY, STORED, Usage};
@@ -46,6 +47,11 @@ pub fn write_at<D: Device>(
     ensures lent { reader.new.is_lent ≡ reader.old.is_lent }
     ensures spare { usage.new.spare ≡ usage.old.spare }
     ensures stored { OnOk result (usage.new.in_memory ≡ usage.old.in_memory - 1) }
+    ensures others { (other : ℕ) → other ≢ id
+        → is_in_memory (spots_in reader.new.spots other)
+        ≡ is_in_memory (spots_in reader.old.spots other) }
+    ensures same { OnErr result (usage.new.in_memory ≡ usage.old.in_memory) }
+    ensures still { OnErr result (IsTrue (is_in_memory (spots_in reader.new.spots id))) }
     ensures tallied { (next : ℕ) → id < next
         → IsTallied next (spots_in reader.old.spots) usage.old
         → IsTallied next (spots_in reader.new.spots) usage.new }
@@ -64,6 +70,42 @@ pub fn write_at<D: Device>(
     settle(&mut reader.spots, id, id == root);
     usage.recount(IN_MEMORY, STORED);
     usage.listed.remove(&id);
+    Ok(())
+}
+
+/// Writes nodes that are in memory as `write_at` does, the earliest first, until at most `early` are
+/// in memory or no slot is free.
+#[tactic(auto, using(bd_device::proofs::Calls::calls))]
+pub fn write_early<D: Device>(
+    reader: &mut NodeReader<D>,
+    usage: &mut Usage,
+    root: u64,
+    early: u64,
+) -> Result<(), Failed>
+    requires reading { IsReading (D.contents reader.old.dev) reader.old }
+    requires tallied { (next : ℕ) × AreBelow next (spots_in reader.old.spots)
+        × IsTallied next (spots_in reader.old.spots) usage.old }
+    requires size { D.block_count reader.old.dev ≡ image_blocks (length usage.old.spare) }
+    ensures moves { OnlyMoves D.Device usage.old.spare root reader.old.dev reader.new.dev
+        (spots_in reader.old.spots) (spots_in reader.new.spots) }
+    ensures reading { IsReading (D.contents reader.new.dev) reader.new }
+    ensures lent { reader.new.is_lent ≡ reader.old.is_lent }
+    ensures spare { usage.new.spare ≡ usage.old.spare }
+    ensures few { OnOk result
+        ((usage.new.in_memory ≤ early) ⊎ (free_count usage.new.free ≡ 0)) }
+    ensures enough { min early usage.old.in_memory ≤ usage.new.in_memory }
+    ensures earlier { AreEarlier root (spots_in reader.old.spots) (spots_in reader.new.spots) }
+    ensures tallied { (next : ℕ) → AreBelow next (spots_in reader.old.spots)
+        → IsTallied next (spots_in reader.old.spots) usage.old
+        → IsTallied next (spots_in reader.new.spots) usage.new }
+    ensures cause { FailsLast D.Device reader.old.dev reader.new.dev result }
+    ensures write_faults { D.write_fault_count reader.new.dev
+        ≡ faults_after (D.write_fault_count reader.old.dev) result }
+{
+    while usage.in_memory > early && usage.free.free() > 0 {
+        let id = earliest(&mut usage.listed, &reader.spots, root);
+        write_at(reader, usage, id, root)?;
+    }
     Ok(())
 }
 
