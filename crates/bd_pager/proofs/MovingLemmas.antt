@@ -31,7 +31,7 @@ use Rattle.bd_pager.specs.declared.usage.Usage.{Usage}
 use Rattle.bd_pager.specs.Calling.{no_reads}
 use Rattle.bd_pager.specs.declared.usage.TheConstants.{IN_MEMORY, STORED}
 use Rattle.bd_pager.specs.Changing.{slot_if, own_slot}
-use Rattle.bd_pager.specs.Counting.{AreUnused, is_in_memory, is_in_memory_at, has_own, moved, recounted, IsListed, IsTallied}
+use Rattle.bd_pager.specs.Counting.{AreUnused, is_in_memory, is_in_memory_at, has_own, moved, recounted, AreListed, IsListed, IsTallied}
 use Rattle.bd_node.proofs.Sums.{sum_some}
 use Rattle.bd_pager.specs.Moving.{copy_if, stored_at, AreEarlier, IsBefore, IsEarliest, IfSpot, IsHeldAt, IsMovedAt, IsOfPlace, IsOfSpot, IsReservedPlace, IsReservedSpot, IsReservedAt, IsWritablePlace, OnlyMoves}
 use Rattle.bd_pager.specs.Slots.{slot_bytes, HasNode, IsOfLevel, IsOfSlot, IsSpare}
@@ -48,6 +48,7 @@ moves_then g spare root a b c first mid last earlier p q = record {
   stays = stays_then p.stays q.stays;
   elsewhere = stays_both (IsSpare spare) (g.contents a) (g.contents b) (g.contents c) p.elsewhere q.elsewhere;
   time = written_then (IsSpare spare) (IsSpare spare) (λ i own. own) p.time earlier q.time;
+  kept = λ id. q.kept id ∙ p.kept id;
   refs = λ id. q.refs id ∙ p.refs id;
   level = λ id. q.level id ∙ p.level id;
   changed = λ id. q.changed id ∙ p.changed id;
@@ -98,6 +99,7 @@ module _ {D : Type 0} (g : Ghosts D) (spare : List Bool) (root id : ℕ) (d : D)
     stays = reads_stay (no_reads g d);
     elsewhere = stays_same (IsSpare spare) (g.contents d);
     time = within Nothing (IsBeforeBut (IsSpare spare) (left_now g d)) (no_reads g d).time (λ c none. absurd none);
+    kept = each is_some refl;
     refs = each refs_in less.refs;
     level = each level_in less.level;
     changed = each (is_changed spare) less.changed;
@@ -183,6 +185,7 @@ device_moves g spare root d e spots changed wider apart stays elsewhere time =
       stays = stays;
       elsewhere = stays_wider changed (IsSpare spare) old new wider elsewhere;
       time = within (IsBeforeBut changed (left_now g d)) (IsBeforeBut (IsSpare spare) (left_now g d)) time (λ c h. before_wider changed (IsSpare spare) (left_now g d) c wider h);
+      kept = λ id. refl;
       refs = λ id. refl;
       level = λ id. refl;
       changed = λ id. refl;
@@ -411,8 +414,8 @@ module _ (spare free : List Bool) (mid : Spots) (id : ℕ) (own : HasOwn mid id)
     own_there some = is_there contents held some
 
 right_if : (image : Image) (b : Bool) (slot : ℕ) (node : Rc Node Global) → node_in (slot_bytes image slot) ≡ Some node.value → IsRightPlace image (Slot slot (copy_if b node)) × (node_at image (Slot slot (copy_if b node)) ≡ Some node.value)
-right_if image true slot node is = (is, refl)
-right_if image false slot node is = (tt, is)
+right_if held true slot node is = (is, refl)
+right_if held false slot node is = (tt, is)
 
 copy_when : (b : Bool) (slot : ℕ) (node : Rc Node Global) → b ≡ true → copy_at (Slot slot (copy_if b node)) ≡ Some node.value
 copy_when true slot node is = refl
@@ -558,6 +561,14 @@ earlier_then root id before mid after so_far first others less = λ i j was gone
       ]
       | inr left ↦ so_far i j was left (less j on)
     ]
+
+-- where other ids are listed
+pub relisted : (next : ℕ) (spots : Spots) (u : Usage) (listed : BTreeSet ℕ) → IsTallied next spots u → AreListed spots listed → IsTallied next spots (record u { listed = listed })
+relisted next spots u listed was now = record {
+  unused = was.unused;
+  counted = record { fits = was.counted.fits; changed = was.counted.changed; in_memory = was.counted.in_memory; free = was.counted.free };
+  listed = now;
+}
 
 -- none is free where the count is 0
 pub none_free : (flags : List Bool) (slot : ℕ) → free_count flags ≡ 0 → ¬ IsFree flags slot

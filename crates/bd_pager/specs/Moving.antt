@@ -1,5 +1,5 @@
 -- Nodes that are moved from memory to their slots.
-use Rattle.std.specs.Prelude.{◌≡◌, ◌≢◌, ◌+◌, ◌≤◌, ◌<◌, ◌⊎◌, ⊤, ℕ, Bool, true, false, List, Option, None, Some, IsTrue, slice_set}
+use Rattle.std.specs.Prelude.{◌≡◌, ◌≢◌, ◌+◌, ◌≤◌, ◌<◌, ◌⊎◌, ⊤, ℕ, Bool, true, false, is_some, List, Option, None, Some, IsTrue, slice_set}
 use Rattle.std.specs.Global.{Global}
 use Rattle.std.specs.declared.rc.Rc.{Rc}
 use Rattle.bd_limits.specs.Limits.{slot_blocks}
@@ -114,6 +114,7 @@ pub record OnlyMoves {D : Type 0} (g : Ghosts D) (spare : List Bool) (root : ℕ
   pub stays : Stays g old new
   pub elsewhere : StaysBut (IsSpare spare) (g.contents old) (g.contents new)
   pub time : Goes g old new (IsBeforeBut (IsSpare spare) (left_now g old))
+  pub kept : (id : ℕ) → is_some (after id) ≡ is_some (before id)
   pub refs : (id : ℕ) → refs_in (after id) ≡ refs_in (before id)
   pub level : (id : ℕ) → level_in (after id) ≡ level_in (before id)
   pub changed : (id : ℕ) → is_changed spare (after id) ≡ is_changed spare (before id)
