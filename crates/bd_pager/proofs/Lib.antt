@@ -1,4 +1,5 @@
 pub mod AppendedLemmas
+pub mod AskedLemmas
 pub mod ChangingLemmas
 pub mod CountingLemmas
 pub mod EarlyLemmas
@@ -12,4 +13,6 @@ pub mod OpenedLemmas
 pub mod PagerLemmas
 pub mod ReadLemmas
 pub mod ReaderLemmas
+pub mod SavedLemmas
 pub mod SlotLemmas
+pub mod SpilledLemmas

@@ -1,6 +1,6 @@
 //! The pager.
 
-ghost use Rattle.std.specs.Prelude.{◌≡◌, ◌≤◌, ◌⊎◌, [], None, Some, false, length, min, IsSome, IfOk, IfErr, OnOk, OnErr, slice_index};
+ghost use Rattle.std.specs.Prelude.{◌≡◌, ◌≤◌, ◌⊎◌, [], None, Some, false, length, min, IsSome, IfOk, IfErr, IfSome, OnOk, OnErr, slice_index};
 ghost use Rattle.std.specs.Borrow.{sem};
 ghost use Rattle.std.specs.Option.{option_copied};
 ghost use Rattle.bd_message.specs.KeyMaps.{HasMapCause, NeverWorn};
@@ -21,7 +21,7 @@ ghost use Rattle.bd_pager.specs.Keeping.{KeepsSaved};
 ghost use Rattle.bd_pager.specs.Lending.{lends_device};
 ghost use Rattle.bd_pager.specs.Moving.{AreEarlier, Spills};
 ghost use Rattle.bd_pager.specs.Opened.{IsOpened, IsBadStart};
-ghost use Rattle.bd_pager.specs.Pagers.{table_of, nodes_of, spots_of, is_known, is_bad, IsPaged, IsReadOf};
+ghost use Rattle.bd_pager.specs.Pagers.{table_of, nodes_of, spots_of, saved_as, is_known, is_bad, IsPaged, IsReadOf};
 ghost use Rattle.bd_pager.specs.Places.{refs_in, spots_in, AreCached};
 
 use crate::changing::append_counted;
@@ -344,6 +344,30 @@ impl<D: Device> Pager<D> {
             self.root,
             early,
         )
+    }
+
+    /// Makes what `write_out` has written the last checkpoint, as which a superblock was published.
+    /// Nothing but that changes. It takes no memory, and makes no call of the device.
+    pub fn mark_saved(&mut self)
+        requires { IsSome self.old.written }
+        ensures { IfSome self.old.written (λ w. self.new ≡ saved_as w self.old) }
+    {
+        match self.written.take() {
+            Some(written) => {
+                let Written {
+                    table,
+                    at,
+                    spare,
+                    free,
+                } = written;
+                self.saved = table;
+                self.at = at.into_vec();
+                self.usage.spare = spare;
+                self.usage.free = free;
+                self.usage.changed = 0;
+            }
+            None => {}
+        }
     }
 
     /// The device, which is lent. Whatever is done with it, the pager then reads again what it read
