@@ -6,6 +6,7 @@
 
 mod changing;
 mod committing;
+mod early;
 mod entries;
 mod extending;
 pub mod laws;
@@ -18,6 +19,7 @@ mod reading;
 mod slots;
 mod stepping;
 mod usage;
+mod writing;
 mod written;
 
 pub use pager::{Pager, Refused};
