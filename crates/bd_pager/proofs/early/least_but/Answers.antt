@@ -1,4 +1,4 @@
-use Rattle.std.proofs.Common.{sym, ◌∙◌}
+use Rattle.std.proofs.Common.{◌∙◌}
 use Rattle.bd_pager.proofs.EarlyLemmas.{least_first, rest_sorted, rest_listed}
 use Rattle.bd_pager.proofs.early.least_but.Goals as goal
 

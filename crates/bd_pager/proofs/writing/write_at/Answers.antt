@@ -6,7 +6,7 @@ use Rattle.bd_pager.specs.declared.usage.Usage.{Usage}
 use Rattle.bd_pager.specs.Counting.{IsTallied}
 use Rattle.bd_pager.specs.Places.{spots_in}
 use Rattle.bd_pager.proofs.CountingLemmas.{removed_listed}
-use Rattle.bd_pager.proofs.MovingLemmas.{HasOwn, moves_then, device_moves, cached_kept, has_own_now, reserved_moves, reserved_unused, reserved_tallied, reserved_placed, reserved_cached, own_writable, own_wider, own_apart, own_there, settled_moves, settled_placed, settled_cached, settled_tallied}
+use Rattle.bd_pager.proofs.MovingLemmas.{moves_then, device_moves, cached_kept, has_own_now, reserved_moves, reserved_unused, reserved_tallied, reserved_placed, reserved_cached, own_writable, own_wider, own_apart, own_there, settled_moves, settled_placed, settled_cached, settled_tallied}
 use Rattle.bd_pager.proofs.writing.write_at.Goals as goal
 
 pub write_spot-requires : goal.write_spot-requires

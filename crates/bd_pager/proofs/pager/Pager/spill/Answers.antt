@@ -1,9 +1,9 @@
-use Rattle.std.proofs.Common.{◌≡◌, ℕ, ◌≤◌, ◌⊎◌, Bool, List, None, length, min, refl, sym, ap, subst, ◌∙◌, arith, inl, inr}
+use Rattle.std.proofs.Common.{◌≡◌, ◌≤◌, Bool, List, None, length, min, refl, sym, ap, subst, ◌∙◌, arith, inl, inr}
 use Rattle.std.proofs.lemmas.Result.{on_ok_weaker}
 use Rattle.bd_slots.specs.Layout.{image_blocks}
 use Rattle.bd_device.specs.Calls.{faults_after}
 use Rattle.bd_device.specs.Device.{FailsLast}
-use Rattle.bd_pager.specs.Counting.{memory_of, AreUnused, IsFull}
+use Rattle.bd_pager.specs.Counting.{memory_of, AreUnused}
 use Rattle.bd_pager.specs.Moving.{AreEarlier, Spills}
 use Rattle.bd_pager.specs.Pagers.{Paged, spots_of, IsPaged, seen}
 use Rattle.bd_pager.specs.Places.{spots_in, AreCached}
