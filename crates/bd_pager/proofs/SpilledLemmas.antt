@@ -1,5 +1,5 @@
 -- A pager whose nodes were moved to their slots.
-use Rattle.std.proofs.Common.{◌≡◌, ℕ, ◌≤◌, ◌<◌, Bool, true, false, is_some, List, length, get_or, nat_eq, Option, None, Some, IfSome, refl, sym, ap, subst, ◌∙◌, arith}
+use Rattle.std.proofs.Common.{◌≡◌, ℕ, ◌≤◌, ◌<◌, Bool, true, false, ◌&&◌, is_some, List, length, get_or, nat_eq, Option, None, Some, IfSome, refl, sym, ap, subst, ◌∙◌, arith}
 use Rattle.std.specs.Prelude.{Any}
 use Rattle.std.specs.Map.{lookup}
 use Rattle.std.proofs.lemmas.Bool.{true≢false}
@@ -14,9 +14,9 @@ use Rattle.bd_pager.specs.declared.place.Place.{Place}
 use Rattle.bd_pager.specs.declared.place.Place.TheVariants.{Memory, Slot}
 use Rattle.bd_pager.specs.declared.place.Spot.{Spot}
 use Rattle.bd_pager.specs.Counting.{AreBelow, AreUnused, is_in_memory}
-use Rattle.bd_pager.specs.Moving.{OnlyMoves}
+use Rattle.bd_pager.specs.Moving.{OnlyMoves, Spills}
 use Rattle.bd_pager.specs.Places.{Spots, refs_in, level_in, slot_in, slot_at, AreCached, ArePlaced}
-use Rattle.bd_pager.specs.Pagers.{Paged, spots_of, is_changed, is_changed_place, IsPlaceIn, IsStoredAs, IsOfSize, IsPaged}
+use Rattle.bd_pager.specs.Pagers.{Paged, spots_of, is_saved, touched_at, table_of, is_changed, is_changed_place, IsPlaceIn, IsStoredAs, IsOfSize, IsPaged}
 use Rattle.bd_pager.proofs.AskedLemmas.{unchanged_held}
 
 -- each node in memory is kept, and its id below the next one
@@ -86,3 +86,17 @@ module _ {D : Type 0} (g : Ghosts D) (p : Paged D) (e : D) (entries : List (ℕ 
       saved = was.saved;
       ready = tt;
     }
+
+-- what is seen of it is the same
+pub spilled_table : {D : Type 0} (g : Ghosts D) (p q : Paged D) → Spills g p q → table_of q ≡ table_of p
+spilled_table {D} g p q h =
+    let r : Paged D = record p { dev = q.dev; spots = q.spots; cache = q.cache; written = q.written } in
+    let same : table_of r ≡ table_of p = λ j. record {
+      count = λ id. h.moves.refs id j;
+      level = λ id. h.moves.level id j;
+      root = p.root;
+      size = p.size;
+      next = p.next;
+      touched = λ id. (let on : touched_at p.saved.entries p.spare (spots_of q) id ≡ touched_at p.saved.entries p.spare (spots_of p) id = ap (λ (b : Bool). is_saved p.saved.entries id && b) (h.moves.changed id) in on) j;
+    } in
+    ap (λ (x : Paged D). table_of x) h.rest ∙ same
