@@ -368,10 +368,13 @@ module _ (spare free : List Bool) (spots new : Spots) (id : ℕ) (s : Spot) (the
     count = was.count;
     free_is = λ slot. (
       λ is. (((was.free_is slot).0 is).0, λ i e. ((was.free_is slot).0 is).1 i (had i slot e).1),
-      λ un. (was.free_is slot).1 (un.0, λ i e. elim (cases_eq i id) [
-        | inl here ↦ none-some slot (sym none ∙ spare_own spare s.place slot un.0 (ap slot_in (sym there) ∙ ap (λ (k : ℕ). slot_in (spots k)) (sym here) ∙ e))
-        | inr other ↦ un.1 i (ap slot_in (others i other) ∙ e)
-      ]),
+      λ un. (was.free_is slot).1 (
+        un.0,
+        λ i e. elim (cases_eq i id) [
+          | inl here ↦ none-some slot (sym none ∙ spare_own spare s.place slot un.0 (ap slot_in (sym there) ∙ ap (λ (k : ℕ). slot_in (spots k)) (sym here) ∙ e))
+          | inr other ↦ un.1 i (ap slot_in (others i other) ∙ e)
+        ],
+      ),
     );
   }
 
@@ -397,10 +400,13 @@ module _ (spare free : List Bool) (spots new : Spots) (id : ℕ) (s : Spot) (the
             λ is.
                 let before : IsFree free slot = sym (flag_other free own slot true other) ∙ is in
                 (((was.free_is slot).0 before).0, λ i e. ((was.free_is slot).0 before).1 i (had i slot e).1),
-            λ un. flag_other free own slot true other ∙ (was.free_is slot).1 (un.0, λ i e. elim (cases_eq i id) [
-              | inl here ↦ other (same_Some slot own (sym e ∙ ap (λ (k : ℕ). slot_in (spots k)) here ∙ mine))
-              | inr apart ↦ un.1 i (ap slot_in (others i apart) ∙ e)
-            ]),
+            λ un. flag_other free own slot true other ∙ (was.free_is slot).1 (
+              un.0,
+              λ i e. elim (cases_eq i id) [
+                | inl here ↦ other (same_Some slot own (sym e ∙ ap (λ (k : ℕ). slot_in (spots k)) here ∙ mine))
+                | inr apart ↦ un.1 i (ap slot_in (others i apart) ∙ e)
+              ],
+            ),
           )
         ];
       }

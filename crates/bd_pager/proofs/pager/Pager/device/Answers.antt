@@ -7,20 +7,23 @@ use Rattle.bd_pager.proofs.pager.Pager.device.Goals as goal
 pub invariant_of-self-lent : goal.invariant_of-self-lent
 invariant_of-self-lent g c = λ w.
     let was = c.self.invariant.0 in
-    let reader = c.self.inside.reader in (record {
-      table = was.table;
-      used = was.used;
-      placed = was.placed;
-      root = was.root;
-      cached = lent_cached (g.D.Device.contents reader.dev) (g.D.Device.contents w) reader.is_lent (spots_in reader.spots) reader.cache was.cached;
-      levels = was.levels;
-      held = was.held;
-      spare = was.spare;
-      slots = was.slots;
-      stored = was.stored;
-      saved = was.saved;
-      ready = was.ready;
-    }, c.self.invariant.1)
+    let reader = c.self.inside.reader in (
+      record {
+        table = was.table;
+        used = was.used;
+        placed = was.placed;
+        root = was.root;
+        cached = lent_cached (g.D.Device.contents reader.dev) (g.D.Device.contents w) reader.is_lent (spots_in reader.spots) reader.cache was.cached;
+        levels = was.levels;
+        held = was.held;
+        spare = was.spare;
+        slots = was.slots;
+        stored = was.stored;
+        saved = was.saved;
+        ready = was.ready;
+      },
+      c.self.invariant.1,
+    )
 
 pub returns : goal.returns
 returns g c = (

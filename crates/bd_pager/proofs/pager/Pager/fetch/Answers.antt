@@ -51,7 +51,7 @@ returns-then-not-names_lower-clause-cause g c =
       λ sound.
           let told = subst (λ (o : Option Image). IsSome o) kept known.contents_told in
           let is = subst (λ (es : List (ℕ × Spot)). nodes_at (D.contents r.dev) (λ id. lookup (nat_eq id) es) c.args.id ≡ Some c.in-Ok.node.value) (sym entries)
-              (subst (λ (o : Option Image). nodes_at o (spots_in i.reader.spots) c.args.id ≡ Some c.in-Ok.node.value) (sym kept) (c.in-Ok.ensures.contents told)) in
+          (subst (λ (o : Option Image). nodes_at o (spots_in i.reader.spots) c.args.id ≡ Some c.in-Ok.node.value) (sym kept) (c.in-Ok.ensures.contents told)) in
           let low = sound_lower (nodes_of D q) q c.args.id c.in-Ok.node.value there is sound in
           let on = c.names_lower.ensures.1 (subst (λ (n : Node). AllByRecursion (IsLowerIn (spots_in r.spots) (level_of n)) (names n)) (sym c.deref.ensures) low) in
           true≢false (sym on ∙ c.if-not-names_lower.true),

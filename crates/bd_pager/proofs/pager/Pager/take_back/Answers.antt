@@ -5,17 +5,20 @@ use Rattle.bd_pager.proofs.pager.Pager.take_back.Goals as goal
 
 pub invariant_of-self : goal.invariant_of-self
 invariant_of-self g c =
-    let was = c.self.invariant.0 in (record {
-      table = was.table;
-      used = was.used;
-      placed = was.placed;
-      root = was.root;
-      cached = subst (λ (p : Paged g.row.D.Denot). AreCached (g.D.Device.contents p.dev) false (spots_of p) p.cache) (sym c.self.view_is) c.requires;
-      levels = was.levels;
-      held = was.held;
-      spare = was.spare;
-      slots = was.slots;
-      stored = was.stored;
-      saved = was.saved;
-      ready = was.ready;
-    }, c.self.invariant.1)
+    let was = c.self.invariant.0 in (
+      record {
+        table = was.table;
+        used = was.used;
+        placed = was.placed;
+        root = was.root;
+        cached = subst (λ (p : Paged g.row.D.Denot). AreCached (g.D.Device.contents p.dev) false (spots_of p) p.cache) (sym c.self.view_is) c.requires;
+        levels = was.levels;
+        held = was.held;
+        spare = was.spare;
+        slots = was.slots;
+        stored = was.stored;
+        saved = was.saved;
+        ready = was.ready;
+      },
+      c.self.invariant.1,
+    )
