@@ -304,11 +304,13 @@ module _ (spare free : List Bool) (spots mid : Spots) (id : ℕ) (old now : Spot
       )
       | inr other ↦ (
         λ is.
-            let before : IsFree free x = sym (flag_other free slot x false other) ∙ is in
-            (((was.free_is x).0 before).0, λ i e. elim (taken_had i x e) [
-              | inl mine ↦ other mine.1
-              | inr his ↦ ((was.free_is x).0 before).1 i his
-            ]),
+            let before : IsFree free x = sym (flag_other free slot x false other) ∙ is in (
+              ((was.free_is x).0 before).0,
+              λ i e. elim (taken_had i x e) [
+                | inl mine ↦ other mine.1
+                | inr his ↦ ((was.free_is x).0 before).1 i his
+              ],
+            ),
         λ un. flag_other free slot x false other ∙ (was.free_is x).1 (un.0, λ i e. un.1 i (taken_has i x e)),
       )
     ];

@@ -343,12 +343,7 @@ impl<D: Device> Pager<D> {
             ≡ faults_after (D.write_fault_count self.old.dev) result }
     {
         self.written = None;
-        write_early(
-            &mut self.reader,
-            &mut self.usage,
-            self.root,
-            early,
-        )
+        write_early(&mut self.reader, &mut self.usage, self.root, early)
     }
 
     /// Makes what `write_out` has written the last checkpoint, as which a superblock was published.

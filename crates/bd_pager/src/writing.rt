@@ -61,12 +61,7 @@ pub fn write_at<D: Device>(
 {
     images_are_decoded();
     reserve(&mut reader.spots, &mut usage.free, id);
-    write_spot(
-        &mut reader.dev,
-        &reader.spots,
-        id,
-        &mut reader.buffer,
-    )?;
+    write_spot(&mut reader.dev, &reader.spots, id, &mut reader.buffer)?;
     settle(&mut reader.spots, id, id == root);
     usage.recount(IN_MEMORY, STORED);
     usage.listed.remove(&id);
