@@ -1,5 +1,5 @@
 -- What a pager is asked: how many nodes were changed, and how many slots are free.
-use Rattle.std.proofs.Common.{◌≡◌, ℕ, ◌-◌, ◌<◌, Bool, true, false, ◌&&◌, ◌||◌, is_some, IsTrue, List, ◌++◌, length, get_or, nat_eq, Option, None, Some, refl, sym, ap, ◌∙◌, arith}
+use Rattle.std.proofs.Common.{◌≡◌, ℕ, ◌<◌, Bool, true, false, ◌&&◌, ◌||◌, is_some, List, ◌++◌, length, get_or, nat_eq, Option, None, Some, refl, sym, ap, ◌∙◌, arith}
 use Rattle.std.specs.Prelude.{Any, not}
 use Rattle.std.proofs.lemmas.Bool.{true≢false, eq-eqb}
 use Rattle.std.proofs.lemmas.List.Folds.{list_any-from_Any}

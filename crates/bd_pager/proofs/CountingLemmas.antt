@@ -24,7 +24,7 @@ use Rattle.bd_pager.specs.declared.usage.TheConstants.{IN_MEMORY, NOWHERE}
 use Rattle.bd_pager.specs.declared.usage.Tally.{Tally}
 use Rattle.bd_pager.specs.declared.usage.Usage.{Usage}
 use Rattle.bd_pager.specs.Changing.{slot_if, own_slot, IsChangedAt}
-use Rattle.bd_pager.specs.Counting.{IsUnused, AreUnused, is_in_memory, is_in_memory_at, has_own, spot_count, AreCounted, IsListed, AreListed, IsTallied, tally_of, moved, recounted, given, dropped, IsListedMore}
+use Rattle.bd_pager.specs.Counting.{AreUnused, is_in_memory, is_in_memory_at, has_own, spot_count, IsListed, AreListed, IsTallied, tally_of, moved, recounted, given, dropped, IsListedMore}
 use Rattle.bd_pager.specs.Pagers.{is_changed, is_changed_place, IsPlaceIn, IsInSlot, IsStoredAs}
 use Rattle.bd_pager.specs.Places.{Spots, slot_at, slot_in}
 use Rattle.bd_pager.proofs.ChangingLemmas.{place_now}

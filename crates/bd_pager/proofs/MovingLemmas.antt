@@ -1,17 +1,17 @@
 -- Nodes that are moved from memory to their slots: what stays.
-use Rattle.std.proofs.Common.{◌≡◌, ◌≢◌, ℕ, ◌+◌, ◌-◌, ◌<◌, ◌≤◌, ◌⊎◌, Bool, true, false, is_some, IsTrue, slice_get, List, length, get_or, set, Option, None, Some, IfSome, refl, sym, ap, subst, ◌∙◌, arith, inl, inr}
+use Rattle.std.proofs.Common.{◌≡◌, ◌≢◌, ℕ, ◌+◌, ◌<◌, ◌≤◌, ◌⊎◌, Bool, true, false, is_some, IsTrue, slice_get, List, length, get_or, set, Option, None, Some, IfSome, refl, sym, ap, subst, ◌∙◌, arith, inl, inr}
 use Rattle.std.specs.Prelude.{IsSome}
 use Rattle.std.specs.Global.{Global}
 use Rattle.std.specs.declared.rc.Rc.{Rc}
 use Rattle.std.specs.Option.{option_map}
 use Rattle.std.specs.BTreeSet.{BTreeSet}
-use Rattle.std.proofs.lemmas.Bool.{cases_eq, true≢false, eq-eqb}
+use Rattle.std.proofs.lemmas.Bool.{cases_eq, true≢false}
 use Rattle.std.proofs.lemmas.List.{length-set}
 use Rattle.std.proofs.lemmas.Option.{none-some, same_Some, slice_get_within, get_or_from_slice_get}
-use Rattle.bd_slots.specs.Layout.{slot_block, image_blocks}
+use Rattle.bd_slots.specs.Layout.{image_blocks}
 use Rattle.bd_slots.specs.Slots.{IsFree, free_count}
 use Rattle.bd_device.specs.Blocks.{Image}
-use Rattle.bd_device.specs.Changes.{StaysBut, IsBeforeBut, SameBut}
+use Rattle.bd_device.specs.Changes.{StaysBut, IsBeforeBut}
 use Rattle.bd_device.specs.Device.{left_now, Goes, Stays}
 use Rattle.bd_device.specs.Moments.{Nothing}
 use Rattle.bd_device.specs.declared.device.Device.{Ghosts}
@@ -21,7 +21,6 @@ use Rattle.bd_device.proofs.Moments.{within}
 use Rattle.bd_format.specs.Images.{IsImage}
 use Rattle.bd_format.specs.Decoding.{node_in}
 use Rattle.bd_cache.specs.declared.cache.NodeCache.{NodeCache}
-use Rattle.bd_cache.specs.Cache.{kept_at}
 use Rattle.bd_node.specs.declared.node.Node.{Node}
 use Rattle.bd_node.specs.Shape.{IsShape}
 use Rattle.bd_pager.specs.declared.place.Place.{Place}
@@ -33,10 +32,10 @@ use Rattle.bd_pager.specs.declared.usage.TheConstants.{IN_MEMORY, STORED}
 use Rattle.bd_pager.specs.Changing.{slot_if, own_slot}
 use Rattle.bd_pager.specs.Counting.{AreUnused, is_in_memory, is_in_memory_at, has_own, moved, recounted, AreListed, IsListed, IsTallied}
 use Rattle.bd_node.proofs.Sums.{sum_some}
-use Rattle.bd_pager.specs.Moving.{copy_if, stored_at, AreEarlier, IsBefore, IsEarliest, IfSpot, IsHeldAt, IsMovedAt, IsOfPlace, IsOfSpot, IsReservedPlace, IsReservedSpot, IsReservedAt, IsWritablePlace, OnlyMoves}
+use Rattle.bd_pager.specs.Moving.{copy_if, stored_at, AreEarlier, IsBefore, IsEarliest, IfSpot, IsHeldAt, IsMovedAt, IsOfPlace, IsOfSpot, IsReservedPlace, IsReservedAt, IsWritablePlace, OnlyMoves}
 use Rattle.bd_pager.specs.Slots.{slot_bytes, HasNode, IsOfLevel, IsOfSlot, IsSpare}
-use Rattle.bd_pager.specs.Places.{Spots, refs_in, level_in, slot_at, slot_in, copy_at, copy_in, node_at, node_of, told, nodes_at, IsReadAt, IsRead, AreCached, ArePlaced}
-use Rattle.bd_pager.specs.Pagers.{is_changed, is_changed_place, IsRightPlace, IsKnownOver, IsPlaceIn}
+use Rattle.bd_pager.specs.Places.{Spots, refs_in, level_in, slot_at, slot_in, copy_at, copy_in, node_at, node_of, told, IsReadAt, IsRead, AreCached, ArePlaced}
+use Rattle.bd_pager.specs.Pagers.{is_changed, is_changed_place, IsRightPlace, IsPlaceIn}
 use Rattle.bd_pager.proofs.CountingLemmas.{flag, count_again, count_kept, count_moved, flag_count, flag_here, flag_other, unused_moved, placed_unused, placed_tallied}
 use Rattle.bd_pager.proofs.SlotLemmas.{slot_same, one_slot, written_then}
 

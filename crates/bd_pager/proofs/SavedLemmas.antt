@@ -1,5 +1,5 @@
 -- A pager whose last checkpoint is what was written.
-use Rattle.std.proofs.Common.{◌≡◌, ◌≢◌, ℕ, ◌+◌, ◌<◌, ◌≤◌, Bool, true, false, is_some, IsTrue, List, ◌++◌, length, get_or, nat_eq, Option, None, Some, refl, sym, ap, subst, ◌∙◌, arith}
+use Rattle.std.proofs.Common.{◌≡◌, ℕ, ◌<◌, Bool, true, false, IsTrue, List, ◌++◌, length, get_or, nat_eq, Option, None, Some, refl, sym, ap, subst, ◌∙◌, arith}
 use Rattle.std.specs.Prelude.{Any, Contains}
 use Rattle.std.proofs.lemmas.Bool.{eqb-true}
 use Rattle.std.proofs.lemmas.List.Elements.{Contains-append_right}
@@ -13,7 +13,7 @@ use Rattle.bd_table.specs.declared.table.TableEntry.{TableEntry}
 use Rattle.bd_pager.specs.declared.place.Spot.{Spot}
 use Rattle.bd_pager.specs.declared.usage.Usage.{Usage}
 use Rattle.bd_pager.specs.declared.written.Written.{Written}
-use Rattle.bd_pager.specs.Counting.{AreUnused, has_own, spot_count, IsTallied}
+use Rattle.bd_pager.specs.Counting.{AreUnused, has_own, IsTallied}
 use Rattle.bd_pager.specs.Places.{Spots, slot_in}
 use Rattle.bd_pager.specs.Pagers.{Paged, spots_of, is_saved, is_changed, saved_as, IsEntryOf, IsInSlot, IsReady, IsPaged}
 use Rattle.bd_pager.proofs.CountingLemmas.{count_none, in_place, in_slot_at, stored_place, held_unchanged, held_not_own, free_not_held}

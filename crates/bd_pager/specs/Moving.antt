@@ -1,5 +1,5 @@
 -- Nodes that are moved from memory to their slots.
-use Rattle.std.specs.Prelude.{◌≡◌, ◌≢◌, ◌+◌, ◌≤◌, ◌<◌, ◌⊎◌, ⊤, ℕ, Bool, true, false, is_some, List, Option, None, Some, IsTrue, slice_set}
+use Rattle.std.specs.Prelude.{◌≡◌, ◌≢◌, ◌+◌, ◌≤◌, ◌<◌, ◌⊎◌, ℕ, Bool, true, false, is_some, List, Option, None, Some, IsTrue, slice_set}
 use Rattle.std.specs.Global.{Global}
 use Rattle.std.specs.declared.rc.Rc.{Rc}
 use Rattle.bd_limits.specs.Limits.{slot_blocks}

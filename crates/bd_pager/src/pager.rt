@@ -47,8 +47,8 @@ use std::marker::Model;
 use std::rc::Rc;
 
 /// The nodes over a device: those of its last checkpoint, in their slots, and those that were
-/// changed or made since, in memory or in slots that the checkpoint doesn't hold. How nodes are
-/// written comes next.
+/// changed or made since, in memory or in slots that the checkpoint doesn't hold. What writes all
+/// of them for a checkpoint comes next.
 ///
 /// A fetch finds its node by hashing, and reads at most one slot. It looks at each name that the
 /// node has. A commit takes the time of what the step holds and names, and of the nodes that it
