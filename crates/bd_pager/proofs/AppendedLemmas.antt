@@ -29,7 +29,7 @@ use Rattle.bd_pager.specs.Calling.{no_reads}
 use Rattle.bd_pager.specs.Changing.{IsChangedAt}
 use Rattle.bd_pager.specs.Keeping.{KeepsSaved}
 use Rattle.bd_pager.specs.Slots.{IsOfLevel}
-use Rattle.bd_pager.specs.Places.{Spots, level_in, copy_at, copy_in, node_of, told, IsReadAt, IsRead}
+use Rattle.bd_pager.specs.Places.{level_in, copy_at, copy_in, node_of, told, IsReadAt, IsRead}
 use Rattle.bd_pager.specs.Pagers.{Paged, spots_of, is_saved, is_changed, table_of, nodes_of, is_known, IsOfSize, IsPlaceIn, IsStoredAs, IsPaged}
 use Rattle.bd_pager.proofs.ChangingLemmas.{same_refs, same_level, each_kept, copy_now, changed_before, changed_stays, node_is, still_right, place_now}
 use Rattle.bd_pager.proofs.FreshLemmas.{copy_at_place}

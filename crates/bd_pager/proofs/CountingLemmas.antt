@@ -1,7 +1,11 @@
 -- What is said of slots and nodes after one node was moved.
 use Rattle.std.proofs.Common.{◌≡◌, ◌≢◌, ◌↔◌, ℕ, zero, suc, ◌+◌, ◌-◌, ◌^◌, ◌<◌, ◌≤◌, Bool, true, false, cond, is_some, IsTrue, List, length, get_or, set, get_or-set_same, get_or-set_other, Option, None, Some, IfSome, refl, sym, ap, subst, ◌∙◌, arith, inl, inr}
 use Rattle.std.specs.Prelude.{slice_get, Contains, Result, Ok, Err, OnErr}
+use Rattle.std.specs.BTreeSet.{BTreeSet, Updates}
 use Rattle.std.specs.Option.{option_map}
+use Rattle.std.specs.Cmp.{nat_cmp_is}
+use Rattle.std.specs.Ordering.{is_eq, nat_cmp}
+use Rattle.std.specs.declared.cmp.Ordering.TheVariants.{Less, Greater}
 use Rattle.std.proofs.lemmas.Bool.{cases_eq, cases_lt, true≢false}
 use Rattle.std.proofs.lemmas.List.{length-set}
 use Rattle.std.proofs.lemmas.Option.{none-some, same_Some, slice_get-get_or, slice_get_within, slice_get_past, get_or_from_slice_get}
@@ -20,7 +24,7 @@ use Rattle.bd_pager.specs.declared.usage.TheConstants.{IN_MEMORY, NOWHERE}
 use Rattle.bd_pager.specs.declared.usage.Tally.{Tally}
 use Rattle.bd_pager.specs.declared.usage.Usage.{Usage}
 use Rattle.bd_pager.specs.Changing.{slot_if, own_slot, IsChangedAt}
-use Rattle.bd_pager.specs.Counting.{IsUnused, AreUnused, is_in_memory, is_in_memory_at, has_own, spot_count, AreCounted, IsListed, AreListed, IsTallied, tally_of, moved, recounted, given, dropped, IsListedMore}
+use Rattle.bd_pager.specs.Counting.{AreUnused, is_in_memory, is_in_memory_at, has_own, spot_count, IsListed, AreListed, IsTallied, tally_of, moved, recounted, given, dropped, IsListedMore}
 use Rattle.bd_pager.specs.Pagers.{is_changed, is_changed_place, IsPlaceIn, IsInSlot, IsStoredAs}
 use Rattle.bd_pager.specs.Places.{Spots, slot_at, slot_in}
 use Rattle.bd_pager.proofs.ChangingLemmas.{place_now}
@@ -28,7 +32,7 @@ use Rattle.bd_pager.proofs.ChangingLemmas.{place_now}
 -- ---- counts
 
 -- 1 where it is so
-abbrev flag : Bool → ℕ
+abbrev pub flag : Bool → ℕ
 flag b = cond b 1 0
 
 flag_small : (b : Bool) → flag b ≤ 1
@@ -270,21 +274,25 @@ each_by : {X : Type 0} (F : Option Spot → X) (G : Option Place → X) → ((o 
     → ((i : ℕ) → option_map (λ (s : Spot). s.place) (new i) ≡ option_map (λ (s : Spot). s.place) (spots i)) → (i : ℕ) → F (new i) ≡ F (spots i)
 each_by F G by spots new same i = by (new i) ∙ ap G (same i) ∙ sym (by (spots i))
 
-pub placed_tallied : (next : ℕ) (spots new : Spots) (u : Usage) → ((i : ℕ) → option_map (λ (s : Spot). s.place) (new i) ≡ option_map (λ (s : Spot). s.place) (spots i)) → IsTallied next spots u → IsTallied next new u
-placed_tallied next spots new u same was =
+pub placed_unused : (spare free : List Bool) (spots new : Spots) → ((i : ℕ) → option_map (λ (s : Spot). s.place) (new i) ≡ option_map (λ (s : Spot). s.place) (spots i)) → AreUnused spare free spots → AreUnused spare free new
+placed_unused spare free spots new same was =
     let slot_same : (i : ℕ) → slot_in (new i) ≡ slot_in (spots i) = each_by slot_in place_slot slot_by_place spots new same in
     record {
-      unused = record {
-        slots = λ i s there.
-            let found = placed_was (spots i) s.place (sym (same i) ∙ ap (option_map (λ (x : Spot). x.place)) there) in
-            subst (λ (p : Place). IsPlaceIn u.spare p) found.2 (was.unused.slots i found.0 found.1);
-        apart = λ i j slot one two. was.unused.apart i j slot (sym (slot_same i) ∙ one) (sym (slot_same j) ∙ two);
-        count = was.unused.count;
-        free_is = λ slot. (
-          λ is. (((was.unused.free_is slot).0 is).0, λ i e. ((was.unused.free_is slot).0 is).1 i (sym (slot_same i) ∙ e)),
-          λ un. (was.unused.free_is slot).1 (un.0, λ i e. un.1 i (slot_same i ∙ e)),
-        );
-      };
+      slots = λ i s there.
+          let found = placed_was (spots i) s.place (sym (same i) ∙ ap (option_map (λ (x : Spot). x.place)) there) in
+          subst (λ (p : Place). IsPlaceIn spare p) found.2 (was.slots i found.0 found.1);
+      apart = λ i j slot one two. was.apart i j slot (sym (slot_same i) ∙ one) (sym (slot_same j) ∙ two);
+      count = was.count;
+      free_is = λ slot. (
+        λ is. (((was.free_is slot).0 is).0, λ i e. ((was.free_is slot).0 is).1 i (sym (slot_same i) ∙ e)),
+        λ un. (was.free_is slot).1 (un.0, λ i e. un.1 i (slot_same i ∙ e)),
+      );
+    }
+
+pub placed_tallied : (next : ℕ) (spots new : Spots) (u : Usage) → ((i : ℕ) → option_map (λ (s : Spot). s.place) (new i) ≡ option_map (λ (s : Spot). s.place) (spots i)) → IsTallied next spots u → IsTallied next new u
+placed_tallied next spots new u same was =
+    record {
+      unused = placed_unused u.spare u.free spots new same was.unused;
       counted = record {
         fits = was.counted.fits;
         changed = was.counted.changed ∙ sym (count_kept (is_changed u.spare) next spots new (each_by (is_changed u.spare) (place_changed u.spare) (changed_by_place u.spare) spots new same));
@@ -442,38 +450,6 @@ dropped_tallied next u spots new id s there gone others low was =
       ];
     }
 
--- a node was made, in memory
-pub made_tallied : (next : ℕ) (u : Usage) (spots new : Spots) (id : ℕ) (s : Spot) (node : Rc Node Global) → spots id ≡ None → new id ≡ Some s → s.place ≡ Memory node None → ((i : ℕ) → i ≢ id → new i ≡ spots i) → id < next → IsListed u.listed id
-    → IsTallied next spots u → IsTallied next new (recounted NOWHERE IN_MEMORY u)
-made_tallied next u spots new id s node absent here placed others low own was =
-    let no_slot : slot_in (new id) ≡ None = ap slot_in here ∙ ap slot_at placed in
-    let again : (test : Option Spot → Bool) (count : ℕ) → test None ≡ false → test (new id) ≡ true → count ≡ spot_count test next spots → moved count false true ≡ spot_count test next new = λ test count none one same.
-    ap (λ (b : Bool). moved count b true) (sym (ap test absent ∙ none)) ∙ ap (λ (b : Bool). moved count (test (spots id)) b) (sym one) ∙ count_again test next id count spots new was.counted.fits low others same in
-    record {
-      unused = unused_moved u.spare u.free id spots new others
-          (λ x e. subst (λ (p : Place). IsPlaceIn u.spare p) (sym (ap (λ (y : Spot). y.place) (same_Some x s (sym e ∙ here)) ∙ placed)) tt)
-          (λ slot e. absurd (none-some slot (sym no_slot ∙ e)))
-          (λ slot free e. absurd (none-some slot (sym (ap slot_in absent) ∙ e)))
-          was.unused;
-      counted = record {
-        fits = was.counted.fits;
-        changed = again (is_changed u.spare) u.changed refl (ap (is_changed u.spare) here ∙ ap (is_changed_place u.spare) placed) was.counted.changed;
-        in_memory = again is_in_memory u.in_memory refl (ap is_in_memory here ∙ ap is_in_memory_at placed) was.counted.in_memory;
-        free = omega (
-          arith,
-          count_moved (has_own u.spare) next id spots new low others,
-          ap (λ (o : Option Spot). flag (has_own u.spare o)) absent,
-          ap (λ (o : Option Spot). flag (has_own u.spare o)) here,
-          ap (λ (p : Place). flag (is_some (own_slot u.spare p))) placed,
-          was.counted.free,
-        );
-      };
-      listed = λ i on. elim (cases_eq i id) [
-        | inl one ↦ subst (λ (k : ℕ). IsListed u.listed k) (sym one) own
-        | inr other ↦ was.listed i (subst (λ (o : Option Spot). IsTrue (is_in_memory o)) (others i other) on)
-      ];
-    }
-
 -- ---- more ids
 
 sum_zero : (n : ℕ) (f : ℕ → ℕ) → ((i : ℕ) → f i ≡ 0) → sum_below n f ≡ 0
@@ -506,3 +482,15 @@ wider_tallied next more spots u fits past was = record {
 pub err_anyway : {T E P : Type 0} (r : Result T E) → P → OnErr r P
 err_anyway (Ok x) h = tt
 err_anyway (Err e) h = h
+
+-- ---- listed ids
+
+pub apart_at : (x y : ℕ) → x ≢ y → is_eq (nat_cmp x y) ≡ false
+apart_at x y apart = elim (cases_lt x y) [
+  | inl lt ↦ ap is_eq (sym (nat_cmp_is x y Less lt))
+  | inr le ↦ ap is_eq (sym (nat_cmp_is x y Greater (omega (arith, le, apart))))
+]
+
+-- an id that is taken out leaves the others
+pub removed_listed : (old new : BTreeSet ℕ) (id : ℕ) → Updates nat_cmp old new id false → (i : ℕ) → i ≢ id → IsListed old i → IsListed new i
+removed_listed old new id updates i other on = updates.2 i (apart_at id i (λ e. other (sym e))) ∙ on

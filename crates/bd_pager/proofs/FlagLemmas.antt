@@ -1,13 +1,16 @@
 -- The flags of slots that are free, or taken.
-use Rattle.std.proofs.Common.{◌≡◌, ◌≢◌, ℕ, ◌+◌, ◌-◌, ◌<◌, Bool, true, false, List, ◌++◌, length, get_or, slice_get, Some, All, refl, sym, ap, ◌∙◌, arith, inl, inr, length-append}
+use Rattle.std.proofs.Common.{◌≡◌, ℕ, zero, suc, ◌+◌, ◌-◌, ◌<◌, ◌≤◌, Bool, true, false, List, [], ◌∷◌, ◌++◌, length, take, replicate, get_or, set, slice_get, subst, Some, refl, sym, ap, ◌∙◌, arith, inl, inr, length-append}
 use Rattle.std.specs.Prelude.{Contains}
 use Rattle.std.proofs.lemmas.Bool.{true≢false, cases_eq, cases_lt}
-use Rattle.std.proofs.lemmas.List.{same_lists, get_or-map, length-map, get_or-append_right, get_or_default}
+use Rattle.std.proofs.lemmas.List.{same_lists, get_or-map, length-map, length-replicate, length-take-le, take_all, take_more, get_or-append_right, get_or-replicate, get_or-take, get_or_default}
+use Rattle.std.proofs.lemmas.List.Sums.{sum_by-cons}
 use Rattle.std.proofs.lemmas.Option.{slice_get-get_or, get_or_from_slice_get}
 use Rattle.bd_slots.specs.Layout.{AreSlots}
-use Rattle.bd_slots.specs.Slots.{IsFree, IsHeld}
+use Rattle.bd_slots.specs.Slots.{IsFree, IsHeld, free_count}
 use Rattle.bd_table.specs.Tables.{AreFreeSlots, slots_of}
 use Rattle.bd_table.specs.declared.table.TableEntry.{TableEntry}
+use Rattle.bd_table.proofs.FreeLemmas.{hold_free}
+use Rattle.bd_pager.proofs.CountingLemmas.{flag, flag_count}
 
 same_flag : (x y : Bool) → (x ≡ true → y ≡ true) → (y ≡ true → x ≡ true) → x ≡ y
 same_flag true y to from = sym (to refl)
@@ -67,3 +70,47 @@ one_entry slots at entries e f differ p q same =
             (slot_there at entries f q 0 ∙ sym same ∙ sym (slot_there at entries e p 0)))
       ]
     ]
+
+-- ---- how many are free
+
+all_true : (n : ℕ) → free_count (replicate n true) ≡ n
+all_true zero = refl
+all_true (suc n) = sum_by-cons flag true (replicate n true) ∙ omega (arith, all_true n)
+
+first_taken : (n : ℕ) (taken : List ℕ) → AreSlots n taken → (i : ℕ) → i ≤ length taken → (flags : List Bool) × AreFreeSlots n (take i taken) flags × (free_count flags + i ≡ n)
+first_taken n taken differ zero low = (
+  replicate n true,
+  record {
+    count = length-replicate {A = Bool} n true;
+    free = λ slot lt. (
+      λ _. λ k d none. absurd (omega (arith, none)),
+      λ _. slice_get-get_or (replicate n true) slot true (omega (arith, lt, length-replicate {A = Bool} n true)) ∙ ap Some (get_or-replicate n slot true true lt),
+    );
+  },
+  omega (arith, all_true n),
+)
+first_taken n taken differ (suc i) low =
+    let before = first_taken n taken differ i (omega (arith, low)) in
+    let x : ℕ = get_or taken i 0 in
+    let lt : i < length taken = omega (arith, low) in
+    let within : x < n = differ.below i 0 lt in
+    let free : IsFree before.0 x = (before.1.free x within).1 (λ k d inside.
+    let less : k < i = omega (arith, inside, length-take-le i taken (omega (arith, lt))) in
+    λ same. differ.different k i 0 less lt (sym (get_or-take i taken k 0 less) ∙ get_or_default (take i taken) k 0 d inside ∙ same)) in
+    let held : AreFreeSlots n (take i taken ++ x ∷ []) (set before.0 x false) = hold_free n (take i taken) before.0 x within before.1 in (
+      set before.0 x false,
+      (let next : i + 1 ≡ suc i = omega arith in
+          subst (λ (k : ℕ). AreFreeSlots n (take k taken) (set before.0 x false)) next (subst (λ (l : List ℕ). AreFreeSlots n l (set before.0 x false)) (sym (take_more taken i 0 lt)) held)),
+      omega (arith, flag_count before.0 x true false free, before.2),
+    )
+
+-- those that aren't taken
+pub free_rest : (n : ℕ) (taken : List ℕ) (flags : List Bool) → AreSlots n taken → AreFreeSlots n taken flags → free_count flags + length taken ≡ n
+free_rest n taken flags differ h =
+    let found = first_taken n taken differ (length taken) (omega arith) in
+    let other : AreFreeSlots n taken found.0 = subst (λ (l : List ℕ). AreFreeSlots n l found.0) (take_all (length taken) taken (omega arith)) found.1 in
+    omega (arith, ap free_count (same_flags n taken flags found.0 h other), found.2)
+
+-- so many at most
+pub slots_within : (n : ℕ) (taken : List ℕ) → AreSlots n taken → length taken ≤ n
+slots_within n taken differ = omega (arith, (first_taken n taken differ (length taken) (omega arith)).2)

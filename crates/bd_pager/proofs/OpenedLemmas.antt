@@ -1,5 +1,5 @@
 -- A pager over a checkpoint.
-use Rattle.std.proofs.Common.{◌≡◌, ◌≢◌, ℕ, suc, ◌+◌, ◌^◌, ◌<◌, ◌≤◌, ◌⊎◌, Bool, false, true, eqb, IsTrue, List, [], ◌∷◌, ◌++◌, length, get_or, Option, None, Some, IfSome, All, refl, sym, ap, subst, ◌∙◌, arith, inl, inr, nat_eq}
+use Rattle.std.proofs.Common.{◌≡◌, ◌≢◌, ℕ, suc, ◌<◌, ◌≤◌, ◌⊎◌, Bool, false, true, eqb, IsTrue, List, [], ◌∷◌, ◌++◌, length, get_or, Option, None, Some, IfSome, All, refl, sym, ap, subst, ◌∙◌, arith, inl, inr, nat_eq}
 use Rattle.std.specs.Prelude.{Any, Contains, IsSome}
 use Rattle.std.specs.Global.{Global}
 use Rattle.std.specs.HashMap.{HashMap, Updates}

@@ -1,9 +1,11 @@
 -- Which slots kept nodes have, and how many nodes are where.
-use Rattle.std.specs.Prelude.{◌≡◌, ◌≢◌, ◌↔◌, ◌+◌, ◌-◌, ◌^◌, ◌<◌, ℕ, Bool, true, false, if◌then◌else◌, is_some, List, length, min, Option, None, Some, IsTrue, slice_set}
+use Rattle.std.specs.Prelude.{◌≡◌, ◌≢◌, ◌↔◌, ◌+◌, ◌-◌, ◌^◌, ◌<◌, ◌++◌, ◌&&◌, ◌||◌, ℕ, Bool, true, false, not, if◌then◌else◌, is_some, List, length, min, Option, None, Some, IsTrue, slice_set}
 use Rattle.std.specs.BTreeSet.{BTreeSet, contains}
 use Rattle.std.specs.Ordering.{nat_cmp}
 use Rattle.bd_slots.specs.Slots.{IsFree, free_count}
 use Rattle.bd_node.specs.Tables.{sum_below}
+use Rattle.bd_table.specs.Tables.{slots_of}
+use Rattle.bd_table.specs.declared.table.TableEntry.{TableEntry}
 use Rattle.bd_pager.specs.declared.place.Place.{Place}
 use Rattle.bd_pager.specs.declared.place.Place.TheVariants.{Memory, Slot}
 use Rattle.bd_pager.specs.declared.place.Spot.{Spot}
@@ -11,7 +13,7 @@ use Rattle.bd_pager.specs.declared.usage.Tally.{Tally}
 use Rattle.bd_pager.specs.declared.usage.TheConstants.{NOWHERE}
 use Rattle.bd_pager.specs.declared.usage.Usage.{Usage}
 use Rattle.bd_pager.specs.Changing.{own_slot}
-use Rattle.bd_pager.specs.Pagers.{is_changed, IsPlaceIn}
+use Rattle.bd_pager.specs.Pagers.{Paged, spots_of, is_saved, is_changed, touched_at, IsPlaceIn}
 use Rattle.bd_pager.specs.Places.{Spots, slot_in}
 
 -- ---- slots
@@ -66,6 +68,10 @@ IsListed ids id = IsTrue (contains nat_cmp ids id)
 abbrev pub AreListed : Spots → BTreeSet ℕ → Type 0
 AreListed spots ids = (id : ℕ) → IsTrue (is_in_memory (spots id)) → IsListed ids id
 
+-- each has an id below this one
+abbrev pub AreBelow : ℕ → Spots → Type 0
+AreBelow next spots = (id : ℕ) → IsTrue (is_in_memory (spots id)) → id < next
+
 -- ---- all of it
 
 -- what is said of slots and nodes is so
@@ -109,3 +115,27 @@ dropped u (Some s) = recounted (tally_of u.spare (Some s)) NOWHERE
 pub record IsListedMore (old new : Usage) : Type 0 where
   pub same : new ≡ record old { listed = new.listed }
   pub kept : (id : ℕ) → IsListed old.listed id → IsListed new.listed id
+
+-- ---- what is asked of a pager
+
+-- the checkpoint hasn't the kept node, or it was changed since
+abbrev pub is_new_or_touched : List TableEntry → List Bool → Spots → ℕ → Bool
+is_new_or_touched entries spare spots id =
+    is_some (spots id) && (not (is_saved entries id) || touched_at entries spare spots id)
+
+-- how many nodes were made or changed since the last checkpoint
+abbrev pub changed_of : {D : Type 0} → Paged D → ℕ
+changed_of p = sum_below p.next
+    (λ id. if is_new_or_touched p.saved.entries p.spare (spots_of p) id then 1 else 0)
+
+-- how many of them are in memory
+abbrev pub memory_of : {D : Type 0} → Paged D → ℕ
+memory_of p = spot_count is_in_memory p.next (spots_of p)
+
+-- how many slots the last checkpoint doesn't hold
+abbrev pub free_of : {D : Type 0} → Paged D → ℕ
+free_of p = length p.spare - length (p.at ++ slots_of p.saved.entries)
+
+-- each slot that the last checkpoint doesn't hold is a changed node's
+abbrev pub IsFull : {D : Type 0} → Paged D → Type 0
+IsFull p = (slot : ℕ) → ¬ IsUnused p.spare (spots_of p) slot

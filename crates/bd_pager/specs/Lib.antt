@@ -7,6 +7,7 @@ pub mod Extending
 pub mod Fresh
 pub mod Keeping
 pub mod Lending
+pub mod Moving
 pub mod Opened
 pub mod Pagers
 pub mod Places

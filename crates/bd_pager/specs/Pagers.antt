@@ -175,6 +175,10 @@ pub record IsPaged {D : Type 0} (contents : Option Image) (p : Paged D) : Type 0
   pub saved : (id : ℕ) → IsTrue (is_saved p.saved.entries id) → id < p.next
   pub ready : IfSome p.written (IsReady p.spare (spots_of p) p.root p.next)
 
+-- the pager whose last checkpoint is what was written
+abbrev pub saved_as : {D : Type 0} → Written → Paged D → Paged D
+saved_as w p = record p { saved = w.table; at = w.at; spare = w.spare; written = None }
+
 -- what it is seen as
 abbrev pub seen : {D : Type 0} → NodeReader D → Checkpoint → List ℕ → List Bool → ℕ → ℕ → ℕ → ℕ
     → Option Written → Paged D

@@ -7,7 +7,8 @@ ghost use Rattle.bd_device.specs.Blocks.{Image};
 ghost use Rattle.bd_device.specs.Changes.{SameBut, IsInRange};
 ghost use Rattle.bd_device.specs.Commits.{block_at};
 ghost use Rattle.bd_pager.specs.Keeping.{KeepsSaved};
-ghost use Rattle.bd_pager.specs.Pagers.{Paged, is_known, IsReadOf};
+ghost use Rattle.bd_pager.specs.Moving.{Spills};
+ghost use Rattle.bd_pager.specs.Pagers.{Paged, is_known, nodes_of, table_of, IsReadOf};
 ghost use Rattle.bd_pager.specs.Slots.{slot_bytes, IsSpare};
 
 use bd_device::Device;
@@ -35,4 +36,14 @@ pub fn calls_go_on<D: Device>()
     ensures keep { (a b : Paged D) → IsReadOf D.Device a b → KeepsSaved D.Device a b }
     ensures keeps_both { (a b c : Paged D) → KeepsSaved D.Device a b → KeepsSaved D.Device b c
         → KeepsSaved D.Device a c }
+{}
+
+/// What `spill` leaves: nothing that is seen changes. The table is the same, and what is known stays
+/// known and the same.
+pub fn spills_change_nothing<D: Device>()
+    ensures table { (p q : Paged D) → Spills D.Device p q → table_of q ≡ table_of p }
+    ensures known { (p q : Paged D) → Spills D.Device p q → is_known D.Device p
+        → is_known D.Device q }
+    ensures nodes { (p q : Paged D) → Spills D.Device p q → is_known D.Device p → (id : ℕ)
+        → nodes_of D.Device q id ≡ nodes_of D.Device p id }
 {}

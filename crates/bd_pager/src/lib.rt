@@ -1,11 +1,13 @@
-//! Nodes over a device: read from slots and written to them. `Pager` is the store of them; how they
-//! are written comes next.
+//! Nodes over a device: read from slots and written to them. `Pager` is the store of them; what
+//! writes all of them for a checkpoint comes next.
 //! The layers above may use the contracts of `Pager`, also as a `NodeStore`, of `read_node`,
-//! `write_node` and `write_nodes`, and the law that slots survive what others write.
+//! `write_node` and `write_nodes`, and the laws: that slots survive what others write, and that a
+//! spill changes nothing seen.
 #![tactic(auto)]
 
 mod changing;
 mod committing;
+mod early;
 mod entries;
 mod extending;
 pub mod laws;
@@ -18,6 +20,7 @@ mod reading;
 mod slots;
 mod stepping;
 mod usage;
+mod writing;
 mod written;
 
 pub use pager::{Pager, Refused};

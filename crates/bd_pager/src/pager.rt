@@ -1,10 +1,11 @@
 //! The pager.
 
-ghost use Rattle.std.specs.Prelude.{◌≡◌, ◌≤◌, [], Some, false, IsSome, IfOk, IfErr, OnOk, OnErr, slice_index};
+ghost use Rattle.std.specs.Prelude.{◌≡◌, ◌≤◌, ◌⊎◌, [], None, Some, false, length, min, IsSome, IfOk, IfErr, IfSome, OnOk, OnErr, slice_index};
 ghost use Rattle.std.specs.Borrow.{sem};
 ghost use Rattle.bd_message.specs.KeyMaps.{HasMapCause, NeverWorn};
 ghost use Rattle.bd_slots.specs.Layout.{IsTablePlace, image_blocks};
-ghost use Rattle.bd_device.specs.Device.{OnlyReads, IsImageCause};
+ghost use Rattle.bd_device.specs.Calls.{faults_after};
+ghost use Rattle.bd_device.specs.Device.{OnlyReads, FailsLast, IsImageCause};
 ghost use Rattle.bd_device.specs.declared.fault.ImageFault.TheVariants.{NoMemory};
 ghost use Rattle.bd_node.specs.New.{new_nodes, new_table};
 ghost use Rattle.bd_node.specs.Nodes.{buffer_size};
@@ -13,12 +14,13 @@ ghost use Rattle.bd_node.specs.Steps.{append_step, HasGrown, IsCommitted};
 ghost use Rattle.bd_node.specs.Stores.{visited, FitsRoot, OnlyReadsBy, StaysBy};
 ghost use Rattle.bd_node.specs.Tables.{kept_count, IsKept, IsNodeOf, IsSound, IsTable};
 ghost use Rattle.bd_pager.specs.Calling.{read_none, read_both, read_known};
-ghost use Rattle.bd_pager.specs.Counting.{IsTallied};
+ghost use Rattle.bd_pager.specs.Counting.{changed_of, free_of, memory_of, IsFull, IsTallied};
 ghost use Rattle.bd_pager.specs.Fresh.{assembled, IsUnsaved};
 ghost use Rattle.bd_pager.specs.Keeping.{KeepsSaved};
 ghost use Rattle.bd_pager.specs.Lending.{lends_device};
+ghost use Rattle.bd_pager.specs.Moving.{AreEarlier, Spills};
 ghost use Rattle.bd_pager.specs.Opened.{IsOpened, IsBadStart};
-ghost use Rattle.bd_pager.specs.Pagers.{table_of, nodes_of, spots_of, is_known, is_bad, IsPaged, IsReadOf};
+ghost use Rattle.bd_pager.specs.Pagers.{table_of, nodes_of, spots_of, saved_as, is_known, is_bad, IsPaged, IsReadOf};
 ghost use Rattle.bd_pager.specs.Places.{spots_in, AreCached};
 
 mod steps;
@@ -30,10 +32,12 @@ use crate::parts::Parts;
 use crate::place::refs_of;
 use crate::reader::NodeReader;
 use crate::usage::Usage;
+use crate::writing::write_early;
 use crate::written::Written;
 use bd_counts::Counted;
 use bd_device::{Device, ImageFault};
 use bd_format::laws::images_are_decoded;
+use bd_io::Failed;
 use bd_message::MapFault;
 use bd_node::{Messages, Node};
 use bd_slots::slot_block;
@@ -43,8 +47,8 @@ use std::marker::Model;
 use std::rc::Rc;
 
 /// The nodes over a device: those of its last checkpoint, in their slots, and those that were
-/// changed or made since, in memory or in slots that the checkpoint doesn't hold. How nodes are
-/// written comes next.
+/// changed or made since, in memory or in slots that the checkpoint doesn't hold. What writes all
+/// of them for a checkpoint comes next.
 ///
 /// A fetch finds its node by hashing, and reads at most one slot. It looks at each name that the
 /// node has. A commit takes the time of what the step holds and names, and of the nodes that it
@@ -305,6 +309,65 @@ impl<D: Device> Pager<D> {
         ensures { result ≡ D.fault_count self.now.dev }
     {
         self.reader.dev.faults()
+    }
+
+    /// How many nodes were made or changed since the last checkpoint.
+    pub fn changed(&self) -> u64
+        ensures { result ≡ changed_of self.now }
+    {
+        self.usage.changed
+    }
+
+    /// How many slots the last checkpoint doesn't hold.
+    pub fn free(&self) -> u32
+        ensures { result ≡ free_of self.now }
+    {
+        self.usage.spare.free()
+    }
+
+    /// Writes changed nodes that are in memory to slots of their own, those of least ids first and
+    /// the root last of all, until at most `early` of them are in memory or no slot is free. Nothing
+    /// that is seen changes, also where it fails, and it writes without a barrier to slots alone
+    /// that the last checkpoint doesn't hold. What `write_out` has written is no longer ready.
+    /// `Failed` comes only where a call of the device failed, which is the last one then. It takes
+    /// no memory.
+    pub fn spill(&mut self, early: u64) -> Result<(), Failed>
+        requires { D.block_count self.old.dev ≡ image_blocks (length self.old.spare) }
+        ensures spills { Spills D.Device self.old self.new }
+        ensures written { self.new.written ≡ None }
+        ensures few { OnOk result ((memory_of self.new ≤ early) ⊎ IsFull self.new) }
+        ensures enough { min early (memory_of self.old) ≤ memory_of self.new }
+        ensures earlier { AreEarlier self.old.root (spots_of self.old) (spots_of self.new) }
+        ensures cause { FailsLast D.Device self.old.dev self.new.dev result }
+        ensures write_faults { D.write_fault_count self.new.dev
+            ≡ faults_after (D.write_fault_count self.old.dev) result }
+    {
+        self.written = None;
+        write_early(&mut self.reader, &mut self.usage, self.root, early)
+    }
+
+    /// Makes what `write_out` has written the last checkpoint, as which a superblock was published.
+    /// Nothing but that changes. It takes no memory, and makes no call of the device.
+    pub fn mark_saved(&mut self)
+        requires { IsSome self.old.written }
+        ensures { IfSome self.old.written (λ w. self.new ≡ saved_as w self.old) }
+    {
+        match self.written.take() {
+            Some(written) => {
+                let Written {
+                    table,
+                    at,
+                    spare,
+                    free,
+                } = written;
+                self.saved = table;
+                self.at = at.into_vec();
+                self.usage.spare = spare;
+                self.usage.free = free;
+                self.usage.changed = 0;
+            }
+            None => {}
+        }
     }
 
     /// The device, which is lent. Whatever is done with it, the pager then reads again what it read

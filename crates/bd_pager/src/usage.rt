@@ -38,6 +38,12 @@ pub const IN_MEMORY: Tally = Tally {
     is_in_memory: true,
 };
 
+/// What a changed node counts for that is in a slot alone.
+pub const STORED: Tally = Tally {
+    is_changed: true,
+    is_in_memory: false,
+};
+
 /// What a node counts for that isn't kept.
 pub const NOWHERE: Tally = Tally {
     is_changed: false,
@@ -88,8 +94,8 @@ fn is_changed_place(spare: &SlotSet, place: &Place) -> bool
     }
 }
 
-// Whether a node at this place is in memory, and no slot has it as it is.
-fn is_in_memory_at(place: &Place) -> bool
+/// Whether a node at this place is in memory, and no slot has it as it is.
+pub fn is_in_memory_at(place: &Place) -> bool
     ensures { result ≡ is_in_memory_at place.now }
 {
     match place {

@@ -1,4 +1,4 @@
-use Rattle.std.proofs.Common.{◌≡◌, take}
+use Rattle.std.proofs.Common.{take}
 use Rattle.std.specs.List.{AllByRecursion}
 use Rattle.bd_pager.specs.declared.stepping.Put.{Put}
 use Rattle.bd_pager.specs.Counting.{IsListed, IsListedMore}

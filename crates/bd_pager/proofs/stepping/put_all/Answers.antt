@@ -1,5 +1,4 @@
 use Rattle.std.proofs.Common.{◌≡◌, ◌+◌, [], ◌∷◌, length, ap, ◌∙◌, arith, length-append}
-use Rattle.bd_pager.specs.declared.stepping.Put.{Put}
 use Rattle.bd_pager.specs.Places.{spots_in}
 use Rattle.bd_pager.proofs.StepLoops.{put_then}
 use Rattle.bd_pager.proofs.stepping.put_all.Goals as goal

@@ -1,4 +1,4 @@
-use Rattle.std.proofs.Common.{◌≡◌, ◌+◌, Bool, List, [], ℕ, None, Some, refl, sym, ap, subst}
+use Rattle.std.proofs.Common.{◌≡◌, ◌+◌, Bool, List, [], ℕ, None, Some, sym, ap, subst}
 use Rattle.bd_node.specs.declared.node.Node.{Node}
 use Rattle.bd_node.specs.Steps.{append_step, HasGrown, IsCommitted}
 use Rattle.bd_node.specs.Stores.{FitsRoot, StaysBy}

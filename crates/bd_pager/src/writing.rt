@@ -1,0 +1,249 @@
+//! Nodes that are written to their own slots.
+
+ghost use Rattle.std.specs.Prelude.{◌≡◌, ◌≢◌, ◌⊎◌, ◌-◌, ◌<◌, ◌≤◌, ℕ, IsSome, IsTrue, IfSome, OnOk, OnErr, length, min};
+ghost use Rattle.bd_slots.specs.Layout.{image_blocks};
+ghost use Rattle.bd_slots.specs.Slots.{free_count};
+ghost use Rattle.bd_device.specs.Calls.{faults_after};
+ghost use Rattle.bd_device.specs.Changes.{StaysBut, IsBeforeBut};
+ghost use Rattle.bd_device.specs.Device.{left_now, Goes, Stays, FailsLast};
+ghost use Rattle.bd_pager.specs.Counting.{is_in_memory, AreBelow, AreUnused, IsTallied};
+ghost use Rattle.bd_pager.specs.Moving.{copy_if, stored_at, AreEarlier, IfSpot, IsHeldAt, IsMovedAt, IsOfPlace, IsOfSpot, IsReservedAt, IsReservedPlace, IsReservedSpot, IsWritablePlace, OnlyMoves};
+ghost use Rattle.bd_pager.specs.Places.{spots_in};
+ghost use Rattle.bd_pager.specs.Readers.{IsReading};
+
+use crate::early::earliest;
+use crate::place::{Place, Spot};
+use crate::reader::NodeReader;
+use crate::usage::{IN_MEMORY, STORED, Usage};
+use crate::write_node;
+use bd_device::Device;
+use bd_format::laws::images_are_decoded;
+use bd_io::Failed;
+use bd_limits::SLOT_SIZE;
+use bd_node::Node;
+use bd_slots::SlotSet;
+use std::collections::HashMap;
+use std::mem;
+use std::rc::Rc;
+
+/// Writes a node that is in memory to a slot of its own, which it gets if it has none, and where it
+/// then is. The root's node stays in memory too. `Failed` comes only where a call of the device
+/// failed, which is the last one then. It takes no memory.
+#[tactic(auto, using(bd_device::proofs::Calls::calls))]
+pub fn write_at<D: Device>(
+    reader: &mut NodeReader<D>,
+    usage: &mut Usage,
+    id: u64,
+    root: u64,
+) -> Result<(), Failed>
+    requires reading { IsReading (D.contents reader.old.dev) reader.old }
+    requires unused { AreUnused usage.old.spare usage.old.free (spots_in reader.old.spots) }
+    requires size { D.block_count reader.old.dev ≡ image_blocks (length usage.old.spare) }
+    requires memory { IsTrue (is_in_memory (spots_in reader.old.spots id)) }
+    requires room { 1 ≤ free_count usage.old.free }
+    ensures moves { OnlyMoves D.Device usage.old.spare root reader.old.dev reader.new.dev
+        (spots_in reader.old.spots) (spots_in reader.new.spots) }
+    ensures reading { IsReading (D.contents reader.new.dev) reader.new }
+    ensures lent { reader.new.is_lent ≡ reader.old.is_lent }
+    ensures spare { usage.new.spare ≡ usage.old.spare }
+    ensures stored { OnOk result (usage.new.in_memory ≡ usage.old.in_memory - 1) }
+    ensures others { (other : ℕ) → other ≢ id
+        → is_in_memory (spots_in reader.new.spots other)
+        ≡ is_in_memory (spots_in reader.old.spots other) }
+    ensures same { OnErr result (usage.new.in_memory ≡ usage.old.in_memory) }
+    ensures still { OnErr result (IsTrue (is_in_memory (spots_in reader.new.spots id))) }
+    ensures tallied { (next : ℕ) → id < next
+        → IsTallied next (spots_in reader.old.spots) usage.old
+        → IsTallied next (spots_in reader.new.spots) usage.new }
+    ensures cause { FailsLast D.Device reader.old.dev reader.new.dev result }
+    ensures write_faults { D.write_fault_count reader.new.dev
+        ≡ faults_after (D.write_fault_count reader.old.dev) result }
+{
+    images_are_decoded();
+    reserve(&mut reader.spots, &mut usage.free, id);
+    write_spot(&mut reader.dev, &reader.spots, id, &mut reader.buffer)?;
+    settle(&mut reader.spots, id, id == root);
+    usage.recount(IN_MEMORY, STORED);
+    usage.listed.remove(&id);
+    Ok(())
+}
+
+/// Writes nodes that are in memory as `write_at` does, the earliest first, until at most `early` are
+/// in memory or no slot is free.
+#[tactic(auto, using(bd_device::proofs::Calls::calls))]
+pub fn write_early<D: Device>(
+    reader: &mut NodeReader<D>,
+    usage: &mut Usage,
+    root: u64,
+    early: u64,
+) -> Result<(), Failed>
+    requires reading { IsReading (D.contents reader.old.dev) reader.old }
+    requires tallied { (next : ℕ) × AreBelow next (spots_in reader.old.spots)
+        × IsTallied next (spots_in reader.old.spots) usage.old }
+    requires size { D.block_count reader.old.dev ≡ image_blocks (length usage.old.spare) }
+    ensures moves { OnlyMoves D.Device usage.old.spare root reader.old.dev reader.new.dev
+        (spots_in reader.old.spots) (spots_in reader.new.spots) }
+    ensures reading { IsReading (D.contents reader.new.dev) reader.new }
+    ensures lent { reader.new.is_lent ≡ reader.old.is_lent }
+    ensures spare { usage.new.spare ≡ usage.old.spare }
+    ensures few { OnOk result
+        ((usage.new.in_memory ≤ early) ⊎ (free_count usage.new.free ≡ 0)) }
+    ensures enough { min early usage.old.in_memory ≤ usage.new.in_memory }
+    ensures earlier { AreEarlier root (spots_in reader.old.spots) (spots_in reader.new.spots) }
+    ensures tallied { (next : ℕ) → AreBelow next (spots_in reader.old.spots)
+        → IsTallied next (spots_in reader.old.spots) usage.old
+        → IsTallied next (spots_in reader.new.spots) usage.new }
+    ensures cause { FailsLast D.Device reader.old.dev reader.new.dev result }
+    ensures write_faults { D.write_fault_count reader.new.dev
+        ≡ faults_after (D.write_fault_count reader.old.dev) result }
+{
+    while usage.in_memory > early && usage.free.free() > 0 {
+        let id = earliest(&mut usage.listed, &reader.spots, root);
+        write_at(reader, usage, id, root)?;
+    }
+    Ok(())
+}
+
+/// Gives a kept node a slot of its own, if it is in memory and has none.
+pub fn reserve(spots: &mut HashMap<u64, Spot>, free: &mut SlotSet, id: u64)
+    requires there { IsSome (spots_in spots.old id) }
+    requires room { 1 ≤ free_count free.old }
+    ensures { IsReservedAt id (spots_in spots.old) free.old (spots_in spots.new) free.new }
+{
+    match spots.get_mut(&id) {
+        Some(spot) => reserve_in(spot, free),
+        None => unreachable!(),
+    }
+}
+
+// Gives the node of a spot a slot of its own, if it is in memory and has none.
+fn reserve_in(spot: &mut Spot, free: &mut SlotSet)
+    requires { 1 ≤ free_count free.old }
+    ensures { IsReservedSpot spot.old free.old spot.new free.new }
+{
+    let vacant = Place::Slot {
+        slot: 0,
+        node: None,
+    };
+    let place = mem::replace(&mut spot.place, vacant);
+    spot.place = reserved(place, free);
+}
+
+// The place with a slot of its own, which is a free one if it had none.
+fn reserved(place: Place, free: &mut SlotSet) -> Place
+    requires { 1 ≤ free_count free.old }
+    ensures { IsReservedPlace place free.old result free.new }
+{
+    match place {
+        Place::Memory { node, slot } => match slot {
+            Some(own) => Place::Memory {
+                node,
+                slot: Some(own),
+            },
+            None => Place::Memory {
+                node,
+                slot: free.take(),
+            },
+        },
+        Place::Slot { slot, node } => Place::Slot { slot, node },
+    }
+}
+
+// Writes a node that is in memory to its own slot.
+fn write_spot<D: Device>(
+    dev: &mut D,
+    spots: &HashMap<u64, Spot>,
+    id: u64,
+    bytes: &mut [u8; SLOT_SIZE],
+) -> Result<(), Failed>
+    requires { IfSpot (λ s. IsWritablePlace (D.block_count dev.old) s.level s.place)
+        (spots_in spots.now id) }
+    ensures held { OnOk result (IfSome (D.contents dev.new) (λ image.
+        IfSpot (λ s. IsHeldAt image s.level s.place) (spots_in spots.now id))) }
+    ensures elsewhere { StaysBut (IsOfSpot (spots_in spots.now id))
+        (D.contents dev.old) (D.contents dev.new) }
+    ensures time { Goes D.Device dev.old dev.new
+        (IsBeforeBut (IsOfSpot (spots_in spots.now id)) (left_now D.Device dev.old)) }
+    ensures stays { Stays D.Device dev.old dev.new }
+    ensures cause { FailsLast D.Device dev.old dev.new result }
+    ensures write_faults { D.write_fault_count dev.new
+        ≡ faults_after (D.write_fault_count dev.old) result }
+{
+    match spots.get(&id) {
+        Some(spot) => write_place(dev, &spot.place, spot.level, bytes),
+        None => unreachable!(),
+    }
+}
+
+// Writes the node of a place, which is in memory, to its own slot.
+fn write_place<D: Device>(
+    dev: &mut D,
+    place: &Place,
+    level: u32,
+    bytes: &mut [u8; SLOT_SIZE],
+) -> Result<(), Failed>
+    requires { IsWritablePlace (D.block_count dev.old) level place.now }
+    ensures held { OnOk result (IfSome (D.contents dev.new)
+        (λ image. IsHeldAt image level place.now)) }
+    ensures elsewhere { StaysBut (IsOfPlace place.now) (D.contents dev.old) (D.contents dev.new) }
+    ensures time { Goes D.Device dev.old dev.new
+        (IsBeforeBut (IsOfPlace place.now) (left_now D.Device dev.old)) }
+    ensures stays { Stays D.Device dev.old dev.new }
+    ensures cause { FailsLast D.Device dev.old dev.new result }
+    ensures write_faults { D.write_fault_count dev.new
+        ≡ faults_after (D.write_fault_count dev.old) result }
+{
+    match place {
+        Place::Memory {
+            node,
+            slot: Some(slot),
+        } => write_node(dev, *slot, node, bytes),
+        Place::Memory { slot: None, .. } | Place::Slot { .. } => unreachable!(),
+    }
+}
+
+// Says that the own slot of a node has it.
+fn settle(spots: &mut HashMap<u64, Spot>, id: u64, is_root: bool)
+    requires { IsSome (spots_in spots.old id) }
+    ensures { IsMovedAt id (stored_at is_root) (spots_in spots.old) (spots_in spots.new) }
+{
+    match spots.get_mut(&id) {
+        Some(spot) => settle_in(spot, is_root),
+        None => unreachable!(),
+    }
+}
+
+// Says that the own slot of a spot has its node.
+fn settle_in(spot: &mut Spot, is_root: bool)
+    ensures { spot.new ≡ record spot.old { place = stored_at is_root spot.old.place } }
+{
+    let vacant = Place::Slot {
+        slot: 0,
+        node: None,
+    };
+    let place = mem::replace(&mut spot.place, vacant);
+    spot.place = stored(place, is_root);
+}
+
+// The place of a node that its own slot has.
+fn stored(place: Place, is_root: bool) -> Place
+    ensures { result ≡ stored_at is_root place }
+{
+    match place {
+        Place::Memory { node, slot } => match slot {
+            Some(slot) => Place::Slot {
+                slot,
+                node: copy_if(is_root, node),
+            },
+            None => Place::Memory { node, slot: None },
+        },
+        Place::Slot { slot, node } => Place::Slot { slot, node },
+    }
+}
+
+// The node, where it is the root's.
+fn copy_if(is_root: bool, node: Rc<Node>) -> Option<Rc<Node>>
+    ensures { result ≡ copy_if is_root node }
+{
+    if is_root { Some(node) } else { None }
+}
