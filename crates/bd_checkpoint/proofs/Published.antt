@@ -90,7 +90,7 @@ all_new known now left next t nodes tree today written is only =
     λ c was. as_new known next t nodes tree c today written (of_left (IsPublished next known) now c is (only c was))
 
 -- no block of a slot is written
-not_slot : (half : Half) (b : ℕ) → 132 ≤ b → ¬ IsOfHalf half b
+pub not_slot : (half : Half) (b : ℕ) → 132 ≤ b → ¬ IsOfHalf half b
 not_slot A b high (inl e) = omega (arith, high, e)
 not_slot A b high (inr (inl e)) = omega (arith, high, e)
 not_slot A b high (inr (inr e)) = omega (arith, high, e)

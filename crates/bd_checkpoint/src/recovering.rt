@@ -57,11 +57,7 @@ pub struct Recovered<D: Device> {
 /// one. Where it fails, it returns the device. `DeviceFault` comes only where a call of the device
 /// failed, which is the last one then. `Damaged` names a bad block of the image, of the superblock
 /// first, then of the table, of the root, of a batch, and of a record of no command.
-pub fn recover<D: Device>(
-    alloc: Global,
-    dev: D,
-    room: usize,
-) -> Result<Recovered<D>, Refused<D>>
+pub fn recover<D: Device>(alloc: Global, dev: D, room: usize) -> Result<Recovered<D>, Refused<D>>
     requires { 1 ≤ room }
     ensures open { IfOk result (λ r.
         IsOpenOn D.Device r.pager.dev r.live (saved_of r.pager) r.log) }

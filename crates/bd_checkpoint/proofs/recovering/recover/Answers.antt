@@ -108,8 +108,8 @@ returns-clause-replay g c =
     let opened : IsOpened known live.slots live.table new = subst (λ (q : Paged g.row.D.Denot). IsOpened known live.slots live.table q) (sym c.in-Ok-read_log.ensures.pager)
     (opened_on known live.slots live.table c.in-Ok.start.1 new.dev c.in-Ok.ensures.opened) in
     let told : IsSome known → is_known D new = λ some.
-        subst (λ (q : Paged g.row.D.Denot). is_known D q) (sym c.in-Ok-read_log.ensures.pager)
-        (known_on D c.in-Ok.start.1 new.dev c.in-Ok-read_log.ensures.reads.kept (c.in-Ok.ensures.known some)) in
+    subst (λ (q : Paged g.row.D.Denot). is_known D q) (sym c.in-Ok-read_log.ensures.pager)
+    (known_on D c.in-Ok.start.1 new.dev c.in-Ok-read_log.ensures.reads.kept (c.in-Ok.ensures.known some)) in
     let batches = subst (λ (o : Option Image). IfSome o (λ image. AreBatches image (log_block live.half) live.epoch log.batches log.place)) c.in-Ok.ensures.reads.kept c.in-Ok-read_log.ensures.batches in
     replays D new one c.log_records_are_prefix_free.ensures live log.place log.batches c.in-Ok-read_log.read.1.items known told
     (stored_known D decoded known live.slots live.table new opened (c.in-Ok-read_log.ensures.reads.kept ∙ c.in-Ok.ensures.reads.kept)) c.in-Ok.ensures.live opened.table_held batches c.in-Ok-read_log.ensures.commands
