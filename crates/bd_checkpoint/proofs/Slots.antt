@@ -19,9 +19,9 @@ use Rattle.bd_pager.specs.Pagers.{Paged, spots_of, nodes_of, IsRightPlace, IsKno
 use Rattle.bd_super.specs.Published.{IsOfHalf}
 use Rattle.bd_super.specs.declared.superblock.Half.{Half}
 use Rattle.bd_log.specs.Logs.{IsLogHalf}
+use Rattle.bd_image.proofs.Checkpoints.{not_slot}
 use Rattle.bd_image.proofs.Frame.{bytes_same}
 use Rattle.bd_checkpoint.specs.Surviving.{SurvivesOn}
-use Rattle.bd_checkpoint.proofs.Published.{not_slot}
 
 -- a pager whose device was lent, and which was told that its slots stayed
 pub taken_back : {D : Type 0} (old new : Paged D) (d : D) → old.is_lent ≡ false → new ≡ record old { dev = d; is_lent = false } → new ≡ record old { dev = new.dev }
