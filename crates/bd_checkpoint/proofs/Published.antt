@@ -12,8 +12,6 @@ use Rattle.bd_table.specs.declared.table.Table.{Table as StoredTable}
 use Rattle.bd_super.specs.Superblocks.{IsSuper, log_block, other, version_number}
 use Rattle.bd_super.specs.Live.{IsLive}
 use Rattle.bd_super.specs.Published.{IsOfHalf, SameLive, CanFollow, IsPublished, IsStagedOrPublished, SameSuperblocks}
-use Rattle.bd_super.specs.declared.superblock.Half.{Half}
-use Rattle.bd_super.specs.declared.superblock.Half.TheVariants.{A, B}
 use Rattle.bd_super.specs.declared.superblock.Super.{Super}
 use Rattle.bd_super.proofs.LiveLemmas.{one_live, other_twice}
 use Rattle.bd_log.specs.Logs.{LogState, fresh_log}

@@ -1,5 +1,5 @@
 -- What a pager has of slots, where only blocks before them change.
-use Rattle.std.proofs.Common.{◌≡◌, ℕ, ◌≤◌, ◌+◌, inl, inr, Bool, true, false, Option, None, Some, IfSome, refl, sym, ap, subst, ◌∙◌, arith}
+use Rattle.std.proofs.Common.{◌≡◌, ℕ, ◌≤◌, ◌+◌, inl, inr, Bool, false, Option, None, Some, IfSome, refl, sym, ap, subst, ◌∙◌, arith}
 use Rattle.std.specs.Prelude.{IsSome}
 use Rattle.bd_slots.specs.Layout.{slot_block}
 use Rattle.bd_device.specs.Blocks.{Image}
@@ -9,13 +9,12 @@ use Rattle.bd_cache.specs.declared.cache.NodeCache.{NodeCache}
 use Rattle.bd_format.specs.Decoding.{node_in}
 use Rattle.bd_format.specs.Images.{IsImage}
 use Rattle.bd_node.specs.declared.node.Node.{Node}
-use Rattle.bd_node.specs.Meaning.{Nodes}
 use Rattle.bd_pager.specs.declared.place.Place.{Place}
 use Rattle.bd_pager.specs.declared.place.Place.TheVariants.{Memory, Slot}
 use Rattle.bd_pager.specs.declared.place.Spot.{Spot}
 use Rattle.bd_pager.specs.Slots.{slot_bytes, HasNode}
 use Rattle.bd_pager.specs.Places.{Spots, node_at, node_of, told, nodes_at, IsReadAt, IsRead, AreCached}
-use Rattle.bd_pager.specs.Pagers.{Paged, spots_of, nodes_of, IsRightPlace, IsKnownOver, is_known}
+use Rattle.bd_pager.specs.Pagers.{Paged, spots_of, IsRightPlace, IsKnownOver}
 use Rattle.bd_super.specs.Published.{IsOfHalf}
 use Rattle.bd_super.specs.declared.superblock.Half.{Half}
 use Rattle.bd_log.specs.Logs.{IsLogHalf}

@@ -1,6 +1,6 @@
 -- What is known where slots are written that the last checkpoint doesn't hold.
-use Rattle.std.proofs.Common.{◌≡◌, ℕ, ◌+◌, ◌<◌, ◌≤◌, inl, inr, Bool, true, List, [], ◌∷◌, length, Option, None, Some, IfSome, refl, sym, ap, subst, ◌∙◌, arith}
-use Rattle.std.specs.Prelude.{IsSomeAnd, slice_index}
+use Rattle.std.proofs.Common.{◌≡◌, ℕ, ◌<◌, inl, inr, Bool, true, List, Option, None, Some, IfSome, refl, sym, subst, ◌∙◌, arith}
+use Rattle.std.specs.Prelude.{IsSomeAnd}
 use Rattle.std.proofs.lemmas.Option.{slice_get_within}
 use Rattle.bd_device.specs.Blocks.{Image}
 use Rattle.bd_device.specs.Changes.{SameBut, StaysBut, IsBeforeBut}
@@ -12,9 +12,7 @@ use Rattle.bd_super.specs.Published.{SameSuperblocks}
 use Rattle.bd_super.specs.declared.superblock.Half.{Half}
 use Rattle.bd_super.specs.declared.superblock.Super.{Super}
 use Rattle.bd_super.proofs.LiveLemmas.{same_halves, same_superblocks}
-use Rattle.bd_log.specs.Batches.{IsBatchAt, AreChained, AreBatches, body_blocks}
 use Rattle.bd_log.specs.Logs.{LogState}
-use Rattle.bd_log.specs.declared.batch.Batch.{Batch}
 use Rattle.bd_pager.specs.Slots.{IsSpare}
 use Rattle.bd_image.specs.Standing.{StandsAs, IsAsBefore}
 use Rattle.bd_image.specs.Used.{used_slots, IsOfSlots, SameSlots, SameUsed}

@@ -1,4 +1,4 @@
-use Rattle.std.proofs.Common.{◌≡◌, Option, OnOk, sym, ap, subst}
+use Rattle.std.proofs.Common.{sym, ap, subst}
 use Rattle.std.proofs.lemmas.Result.{on_ok_weaker}
 use Rattle.bd_device.specs.Changes.{StaysBut}
 use Rattle.bd_device.specs.Device.{left_now, Goes}

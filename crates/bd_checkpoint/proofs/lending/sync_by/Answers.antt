@@ -1,9 +1,8 @@
-use Rattle.std.proofs.Common.{◌≡◌, ◌+◌, ℕ, Option, OnOk, sym, ap, subst}
+use Rattle.std.proofs.Common.{◌+◌, sym, ap, subst}
 use Rattle.std.proofs.lemmas.Result.{on_ok_weaker}
 use Rattle.bd_device.specs.Blocks.{Image}
 use Rattle.bd_device.specs.Changes.{StaysBut, IsInRange}
 use Rattle.bd_device.specs.Device.{left_now, Goes}
-use Rattle.bd_log.specs.Logs.{after_sync}
 use Rattle.bd_pager.specs.Pagers.{Paged, spots_of}
 use Rattle.bd_checkpoint.specs.Kept.{IsOpenOn, IsWithWaiting, IsWithAllOrNone}
 use Rattle.bd_checkpoint.proofs.Slots.{taken_back, cached_same, survives, log_before}
