@@ -59,8 +59,8 @@ pub fn sync_by<D: Device>(pager: &mut Pager<D>, log: &mut Log) -> Result<(), Fai
     synced
 }
 
-// Publishes the next superblock on the device of a pager, as `publish_next` does. The pager and its
-// nodes stay.
+/// Publishes the next superblock on the device of a pager, as `publish_next` does. The pager and its
+/// nodes stay.
 pub fn publish_by<D: Device>(
     pager: &mut Pager<D>,
     log: &mut Log,
