@@ -1,10 +1,9 @@
 -- What is known while a volume starts, and why it doesn't.
-use Rattle.std.proofs.Common.{◌≡◌, ◌≢◌, ℕ, ◌≤◌, inl, inr, List, Option, None, Some, IfSome, Result, Ok, Err, IsTrue, refl, sym, ap, subst, ◌∙◌}
+use Rattle.std.proofs.Common.{◌≡◌, ◌≢◌, ℕ, inl, inr, Option, None, Some, IfSome, sym, ap, subst, ◌∙◌}
 use Rattle.std.specs.Prelude.{IsSomeAnd}
 use Rattle.bd_io.specs.Cause.{next_count}
 use Rattle.bd_model.specs.Tree.{Tree}
 use Rattle.bd_device.specs.Blocks.{Image}
-use Rattle.bd_device.specs.Calls.{faults_after}
 use Rattle.bd_device.specs.Device.{Goes, Stays, OnlyReads, IsImageCause}
 use Rattle.bd_device.specs.Moments.{Nothing, IsOnly}
 use Rattle.bd_device.specs.declared.device.Device.{Ghosts}

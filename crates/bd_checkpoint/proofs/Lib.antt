@@ -11,3 +11,4 @@ pub mod Opened
 pub mod Replaying
 pub mod Causes
 pub mod Cleared
+pub mod Slots

@@ -11,11 +11,10 @@ use Rattle.bd_device.specs.declared.device.Device.{Ghosts}
 use Rattle.bd_format.specs.Images.{IsImage}
 use Rattle.bd_format.specs.Decoding.{node_in}
 use Rattle.bd_node.specs.declared.node.Node.{Node}
-use Rattle.bd_node.specs.Nodes.{buffer_size}
 use Rattle.bd_node.specs.Meaning.{Nodes}
 use Rattle.bd_node.specs.Shape.{IsShape}
 use Rattle.bd_node.specs.Closed.{buffer_size_in}
-use Rattle.bd_node.specs.Tables.{Table, IsSound}
+use Rattle.bd_node.specs.Tables.{IsSound}
 use Rattle.bd_table.specs.Tables.{slots_of}
 use Rattle.bd_table.specs.declared.table.TableEntry.{TableEntry}
 use Rattle.bd_pager.specs.declared.place.Spot.{Spot}
@@ -25,7 +24,7 @@ use Rattle.bd_pager.specs.Pagers.{Paged, spots_of, table_at, table_of, IsKnownOv
 use Rattle.bd_pager.specs.Entries.{saved_spot}
 use Rattle.bd_pager.specs.Opened.{root_spot, IsOpened}
 use Rattle.bd_pager.proofs.OpenedLemmas.{search_id, slot_within}
-use Rattle.bd_image.specs.Stored.{entry_of, IsNodeAt, HoldsNodes, table_of as stored_table}
+use Rattle.bd_image.specs.Stored.{entry_of, IsNodeAt, HoldsNodes}
 use Rattle.bd_checkpoint.specs.Recovering.{AreStored}
 use Rattle.bd_checkpoint.proofs.Entries.{entry_found, no_entry}
 use Rattle.bd_checkpoint.proofs.Slotted.{IsSpotOf, HasSpot, nodes_held, table_is}

@@ -12,8 +12,6 @@ use Rattle.bd_table.specs.declared.table.Table.{Table as StoredTable}
 use Rattle.bd_super.specs.Superblocks.{IsSuper, log_block, other, version_number}
 use Rattle.bd_super.specs.Live.{IsLive}
 use Rattle.bd_super.specs.Published.{IsOfHalf, SameLive, CanFollow, IsPublished, IsStagedOrPublished, SameSuperblocks}
-use Rattle.bd_super.specs.declared.superblock.Half.{Half}
-use Rattle.bd_super.specs.declared.superblock.Half.TheVariants.{A, B}
 use Rattle.bd_super.specs.declared.superblock.Super.{Super}
 use Rattle.bd_super.proofs.LiveLemmas.{one_live, other_twice}
 use Rattle.bd_log.specs.Logs.{LogState, fresh_log}
@@ -21,7 +19,7 @@ use Rattle.bd_image.specs.Versions.{version_of}
 use Rattle.bd_image.specs.ImageTree.{HaveTree, ImageStandsFor}
 use Rattle.bd_image.specs.Standing.{StandsAs, IsOldOrNew}
 use Rattle.bd_image.specs.Used.{used_slots, SameSlots}
-use Rattle.bd_image.proofs.Checkpoints.{staged, published}
+use Rattle.bd_image.proofs.Checkpoints.{not_slot, staged, published}
 use Rattle.bd_image.proofs.Frame.{table_same}
 use Rattle.bd_checkpoint.specs.Kept.{Saved, StartsAs, IsOpen, AllStandFor}
 use Rattle.bd_checkpoint.specs.Following.{IsNext, HasTableOf, AreWritten, saved_by}
@@ -88,15 +86,6 @@ pub all_new : (known now : Option Image) (left : Image → Type 0) (next : Super
     → IfSome now (IsPublished next known) → IsOnly now left → AllStandFor tree next.count left
 all_new known now left next t nodes tree today written is only =
     λ c was. as_new known next t nodes tree c today written (of_left (IsPublished next known) now c is (only c was))
-
--- no block of a slot is written
-not_slot : (half : Half) (b : ℕ) → 132 ≤ b → ¬ IsOfHalf half b
-not_slot A b high (inl e) = omega (arith, high, e)
-not_slot A b high (inr (inl e)) = omega (arith, high, e)
-not_slot A b high (inr (inr e)) = omega (arith, high, e)
-not_slot B b high (inl e) = omega (arith, high, e)
-not_slot B b high (inr (inl e)) = omega (arith, high, e)
-not_slot B b high (inr (inr e)) = omega (arith, high, e)
 
 starts_new : (known : Option Image) (next : Super) (t : StoredTable) (new : Image) → IfSome known (HasTableOf next t) → IsPublished next known new → StartsAs next (saved_by next t) 0 new
 starts_new None next t new table is = absurd is.outside

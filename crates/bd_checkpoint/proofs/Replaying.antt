@@ -1,6 +1,6 @@
 -- The commands of the log of an image lead from the tree of its nodes to the one that it stands for.
-use Rattle.std.proofs.Common.{rules, ◌≡◌, ℕ, ◌+◌, List, [], ◌∷◌, ◌++◌, length, map, Option, None, Some, IfSome, sym, ap, subst, ◌∙◌, arith}
-use Rattle.std.specs.Prelude.{IsSome, IsSomeAnd, true, false}
+use Rattle.std.proofs.Common.{rules, ◌≡◌, ℕ, List, [], ◌∷◌, ◌++◌, length, Option, None, Some, IfSome, sym, ap, subst, ◌∙◌, arith}
+use Rattle.std.specs.Prelude.{IsSome, IsSomeAnd}
 use Rattle.std.specs.List.{AllByRecursion}
 use Rattle.std.proofs.lemmas.List.{length-map}
 use Rattle.std.proofs.lemmas.List.Elements.{recursion_from_All}
@@ -27,7 +27,7 @@ use Rattle.bd_image.specs.Damage.{PlacedRecord, placed_records, unplaced}
 use Rattle.bd_image.proofs.Leading.{records_placed}
 use Rattle.bd_checkpoint.specs.declared.commands.PlacedCommand.{PlacedCommand}
 use Rattle.bd_checkpoint.specs.Commands.{IsPlacedIn, placed_record, records_for, AreCommandsOf}
-use Rattle.bd_checkpoint.specs.Kept.{Saved, StartsAs, AreOfTree}
+use Rattle.bd_checkpoint.specs.Kept.{StartsAs, AreOfTree}
 use Rattle.bd_checkpoint.specs.Recovering.{saved_of, AreStored, LeadsBy, LeadsTo}
 use Rattle.bd_checkpoint.proofs.Starting.{PartsAreOne, recovered}
 

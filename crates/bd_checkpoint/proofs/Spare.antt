@@ -1,6 +1,6 @@
 -- What is known where slots are written that the last checkpoint doesn't hold.
-use Rattle.std.proofs.Common.{◌≡◌, ℕ, ◌+◌, ◌<◌, ◌≤◌, inl, inr, Bool, true, List, [], ◌∷◌, length, Option, None, Some, IfSome, refl, sym, ap, subst, ◌∙◌, arith}
-use Rattle.std.specs.Prelude.{IsSomeAnd, slice_index}
+use Rattle.std.proofs.Common.{◌≡◌, ℕ, ◌<◌, inl, inr, Bool, true, List, Option, None, Some, IfSome, refl, sym, subst, ◌∙◌, arith}
+use Rattle.std.specs.Prelude.{IsSomeAnd}
 use Rattle.std.proofs.lemmas.Option.{slice_get_within}
 use Rattle.bd_device.specs.Blocks.{Image}
 use Rattle.bd_device.specs.Changes.{SameBut, StaysBut, IsBeforeBut}
@@ -9,15 +9,14 @@ use Rattle.bd_table.specs.Tables.{AreFreeSlots}
 use Rattle.bd_super.specs.Superblocks.{log_block}
 use Rattle.bd_super.specs.Live.{IsLive}
 use Rattle.bd_super.specs.Published.{SameSuperblocks}
+use Rattle.bd_super.specs.declared.superblock.Half.{Half}
 use Rattle.bd_super.specs.declared.superblock.Super.{Super}
 use Rattle.bd_super.proofs.LiveLemmas.{same_halves, same_superblocks}
-use Rattle.bd_log.specs.Batches.{IsBatchAt, AreChained, AreBatches, body_blocks}
 use Rattle.bd_log.specs.Logs.{LogState}
-use Rattle.bd_log.specs.declared.batch.Batch.{Batch}
 use Rattle.bd_pager.specs.Slots.{IsSpare}
 use Rattle.bd_image.specs.Standing.{StandsAs, IsAsBefore}
 use Rattle.bd_image.specs.Used.{used_slots, IsOfSlots, SameSlots, SameUsed}
-use Rattle.bd_image.proofs.Frame.{bytes_same, table_same, tree_same}
+use Rattle.bd_image.proofs.Frame.{SameHalf, batches_same, table_same, tree_same}
 use Rattle.bd_image.proofs.Syncs.{half_place}
 use Rattle.bd_checkpoint.specs.Kept.{Saved, slots_held, StartsAs, IsOpen}
 use Rattle.bd_checkpoint.proofs.Starting.{PartsAreOne, recovered}
@@ -49,25 +48,8 @@ supers_same spare old new same = record { size = same.size; blocks = λ b low. l
 live_same : (spare : List Bool) (s : Super) (old new : Image) → SameBut (IsSpare spare) old new → IsLive old s → IsLive new s
 live_same spare s old new same = (same_halves old new (same_superblocks old new (supers_same spare old new same)) s).0
 
-chain_same : (first epoch place : ℕ) (old new : Image) (batches : List Batch) (end : ℕ) → first + 64 ≤ 132 → length new ≡ length old → SameLow old new → place < 64
-    → AreChained old first epoch place batches end → AreChained new first epoch place batches end × (end < 64)
-chain_same first epoch place old new [] end log size same lt h = (h, omega (arith, lt, h))
-chain_same first epoch place old new (batch ∷ batches) end log size same lt h =
-    let rest = chain_same first epoch (place + 1 + body_blocks batch.records) old new batches end log size same (omega (arith, h.1.room)) h.2 in
-    let here : IsBatchAt new first epoch place batch = record {
-      body = h.1.body;
-      some = h.1.some;
-      each = h.1.each;
-      room = h.1.room;
-      bytes = bytes_same old new batch.body (body_blocks batch.records) size (λ i low high. same i (omega (arith, high, h.1.body, h.1.room, log))) ∙ h.1.bytes;
-    } in
-    ((ap (λ (l : List ℕ). slice_index l 0) (same (first + place) (omega (arith, lt, log))) ∙ h.0, here, rest.0), rest.1)
-
-batches_same : (first epoch : ℕ) (old new : Image) (batches : List Batch) (end : ℕ) → first + 64 ≤ 132 → length new ≡ length old → SameLow old new
-    → AreBatches old first epoch batches end → AreBatches new first epoch batches end
-batches_same first epoch old new batches end log size same h =
-    let chain = chain_same first epoch 0 old new batches end log size same (omega arith) h.follow in
-    record { follow = chain.0; closed = λ on. h.closed (sym (ap (λ (l : List ℕ). slice_index l 0) (same (first + end) (omega (arith, chain.1, log)))) ∙ on) }
+half_same : (half : Half) (spare : List Bool) (old new : Image) → SameBut (IsSpare spare) old new → SameHalf (log_block half) old new
+half_same half spare old new same = λ b own. low_same spare old new same b (omega (arith, own.1, (half_place half).1))
 
 -- the slots of the last checkpoint
 slots_same : (live : Super) (saved : Saved) (spare : List Bool) (old new : Image) → saved.at ≡ live.table → AreFreeSlots live.slots (slots_held saved) spare → SameBut (IsSpare spare) old new
@@ -83,7 +65,7 @@ starts_spare live saved place spare old new at free same starts = record {
   live_is = live_same spare live old new same starts.live_is;
   table_is = table_same live.slots live.table saved.table old new (slots_same live saved spare old new at free same) starts.table_is;
   batches = starts.batches;
-  batches_are = batches_same (log_block live.half) live.epoch old new starts.batches place (half_place live.half).1 same.size (low_same spare old new same) starts.batches_are;
+  batches_are = batches_same (log_block live.half) live.epoch old new starts.batches place same.size (half_same live.half spare old new same) starts.batches_are;
 }
 
 -- such an image stands for all that it stood for before

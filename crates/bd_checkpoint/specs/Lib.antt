@@ -4,3 +4,4 @@ pub mod Kept
 pub mod Spare
 pub mod Resuming
 pub mod Recovering
+pub mod Surviving

@@ -48,7 +48,7 @@ unused s t place tree count slots old new same apart h =
 -- ---- the blocks that publishing writes
 
 -- none is of a slot, nor of the other half of the log
-not_slot : (half : Half) (b : ℕ) → 132 ≤ b → ¬ IsOfHalf half b
+pub not_slot : (half : Half) (b : ℕ) → 132 ≤ b → ¬ IsOfHalf half b
 not_slot A b high (inl e) = omega (arith, high, e)
 not_slot A b high (inr (inl e)) = omega (arith, high, e)
 not_slot A b high (inr (inr e)) = omega (arith, high, e)

@@ -115,7 +115,7 @@ nodes_same at t nodes old new size same h = record { each = λ id. node_same at 
 -- ---- the batches
 
 -- the blocks of a half stay
-abbrev SameHalf : ℕ → Image → Image → Type 0
+abbrev pub SameHalf : ℕ → Image → Image → Type 0
 SameHalf first = SameBlocks (IsInRange first (first + 64))
 
 committed_back : (first place : ℕ) (old new : Image) → SameHalf first old new → place < 64 → IsCommitted new (first + place) → IsCommitted old (first + place)
@@ -140,7 +140,7 @@ chain_same first epoch place old new (batch ∷ batches) end size same lt h =
     let rest = chain_same first epoch (place + 1 + body_blocks batch.records) old new batches end size same (omega (arith, h.1.room)) h.2 in
     ((committed_same first place old new same lt h.0, batch_same first epoch place old new batch size same h.1, rest.0), rest.1)
 
-batches_same : (first epoch : ℕ) (old new : Image) (batches : List Batch) (end : ℕ) → length new ≡ length old → SameHalf first old new
+pub batches_same : (first epoch : ℕ) (old new : Image) (batches : List Batch) (end : ℕ) → length new ≡ length old → SameHalf first old new
     → AreBatches old first epoch batches end → AreBatches new first epoch batches end
 batches_same first epoch old new batches end size same h =
     let chain = chain_same first epoch 0 old new batches end size same (omega arith) h.follow in

@@ -1,6 +1,6 @@
 -- The image that a format writes stands for the tree of `/` alone.
-use Rattle.std.proofs.Common.{rules, lit≤, ◌≡◌, ◌≢◌, ℕ, ◌+◌, ◌≤◌, ◌<◌, inl, inr, eqb, List, [], ◌∷◌, Option, None, Some, refl, sym, ap, subst, ◌∙◌, arith}
-use Rattle.std.specs.FinMap.{get, get-from_entries}
+use Rattle.std.proofs.Common.{rules, lit≤, ◌≡◌, ◌≢◌, ℕ, ◌+◌, ◌≤◌, inl, inr, eqb, List, [], ◌∷◌, Option, None, Some, refl, sym, ap, subst, ◌∙◌, arith}
+use Rattle.std.specs.FinMap.{get-from_entries}
 use Rattle.std.proofs.lemmas.Bool.{cases_eq, cond-false, ne_eqb}
 use Rattle.bd_keys.specs.Keys.{IsKey}
 use Rattle.bd_model.specs.Tree.{Directory, root_only}

@@ -1,15 +1,14 @@
 -- The image that a format writes, put together of its blocks.
-use Rattle.std.proofs.Common.{lit≤, lit<, ◌≡◌, ◌≢◌, ℕ, zero, suc, ◌+◌, ◌-◌, ◌*◌, ◌/◌, ◌%◌, ◌≤◌, ◌<◌, List, [], ◌∷◌, ◌++◌, length, take, drop, get_or, replicate, All, refl, sym, ap, subst, ◌∙◌, arith, append_assoc, append-nil, length-append}
-use Rattle.std.specs.Prelude.{AllPairs, slice_index, slice_index_or}
+use Rattle.std.proofs.Common.{◌≡◌, ℕ, zero, suc, ◌+◌, ◌-◌, ◌*◌, ◌/◌, ◌≤◌, ◌<◌, List, [], ◌∷◌, ◌++◌, length, take, drop, get_or, replicate, refl, sym, ap, subst, ◌∙◌, arith, append_assoc, append-nil, length-append}
+use Rattle.std.specs.Prelude.{slice_index, slice_index_or}
 use Rattle.std.specs.List.{concat, flat_map}
 use Rattle.std.proofs.Math.Seq.{take-append_seam, drop-append_seam}
 use Rattle.std.proofs.lemmas.List.{take-append-drop, length-drop, length-replicate, get_or-drop, take_more}
-use Rattle.std.proofs.lemmas.List.Elements.{All-nil, All-cons}
 use Rattle.std.proofs.lemmas.List.Folds.{concat-append}
-use Rattle.bd_slots.specs.Layout.{IsSlotCount, image_blocks, slot_block}
+use Rattle.bd_slots.specs.Layout.{image_blocks, slot_block}
 use Rattle.bd_device.specs.Blocks.{Image}
 use Rattle.bd_device.specs.Changes.{bytes_at}
-use Rattle.bd_device.specs.Commits.{block_at, IsCommitted}
+use Rattle.bd_device.specs.Commits.{block_at}
 use Rattle.bd_format.specs.Images.{node_bytes, image_of}
 use Rattle.bd_node.specs.declared.node.Node.{Node}
 use Rattle.bd_table.specs.Tables.{table_bytes, table_head, table_magic, table_entry}

@@ -1,10 +1,10 @@
 -- A fresh image is there.
-use Rattle.std.proofs.Common.{lit≤, lit<, ◌≡◌, ◌≢◌, ℕ, ◌+◌, ◌≤◌, ◌<◌, List, [], ◌∷◌, ◌++◌, length, replicate, refl, sym, ap, subst, ◌∙◌, arith}
-use Rattle.std.specs.Prelude.{All, AllPairs, slice_index}
+use Rattle.std.proofs.Common.{lit≤, lit<, ◌≡◌, ◌≢◌, ℕ, ◌≤◌, ◌<◌, List, [], ◌∷◌, length, replicate, refl, sym, ap, ◌∙◌, arith}
+use Rattle.std.specs.Prelude.{AllPairs, slice_index}
 use Rattle.std.proofs.lemmas.List.{get_or-replicate}
 use Rattle.std.proofs.lemmas.List.Elements.{All-nil, All-cons}
 use Rattle.std.proofs.lemmas.List.Kept.{AllPairs-cons}
-use Rattle.bd_slots.specs.Layout.{IsSlotCount, AreSlots, IsTablePlace, slot_block}
+use Rattle.bd_slots.specs.Layout.{IsSlotCount, AreSlots}
 use Rattle.bd_device.specs.Blocks.{Image}
 use Rattle.bd_device.specs.Commits.{IsCommit, IsCommitted}
 use Rattle.bd_format.specs.Images.{node_bytes, image_of}

@@ -1,7 +1,7 @@
 use Rattle.std.proofs.Common.{◌≡◌, ℕ, List, Option, IfSome, sym, ap, subst, ◌∙◌}
 use Rattle.std.specs.Prelude.{IsSome}
 use Rattle.bd_device.specs.Blocks.{Image}
-use Rattle.bd_device.specs.Device.{left_now, OnlyReads, IsImageCause}
+use Rattle.bd_device.specs.Device.{left_now, IsImageCause}
 use Rattle.bd_device.specs.Moments.{Nothing}
 use Rattle.bd_device.proofs.Calls.{reads_then}
 use Rattle.bd_device.proofs.Moments.{after}

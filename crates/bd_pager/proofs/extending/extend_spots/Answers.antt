@@ -1,4 +1,4 @@
-use Rattle.std.proofs.Common.{◌≡◌, Bool, List, Some, nat_eq, sym, ap, subst, ◌∙◌}
+use Rattle.std.proofs.Common.{◌≡◌, Bool, List, Some, nat_eq, refl, sym, ap, subst, ◌∙◌}
 use Rattle.std.specs.Prelude.{IsSome, Option}
 use Rattle.std.specs.HashMap.{get}
 use Rattle.std.specs.List.{AllByRecursion}
@@ -15,6 +15,11 @@ use Rattle.bd_pager.proofs.AppendedLemmas.{root_copy}
 use Rattle.bd_pager.proofs.CountingLemmas.{listed_tallied, err_anyway, changed_unused}
 use Rattle.bd_pager.proofs.CarryLemmas.{counted_tallied, changed_from, unused_as, spare_as}
 use Rattle.bd_pager.proofs.extending.extend_spots.Goals as goal
+
+pub returns-in_err-list_all-clause-err_tallied : goal.returns-in_err-list_all-clause-err_tallied
+returns-in_err-list_all-clause-err_tallied c =
+    err_anyway c.from_residual.result (λ next low was.
+    listed_tallied c.args.usage.now c.list_all.new.usage next (spots_in c.args.spots.now) (spots_in c.args.spots.now) c.list_all.ensures.more (λ id. refl) was)
 
 pub returns-in_err-reserve-clause-err_tallied : goal.returns-in_err-reserve-clause-err_tallied
 returns-in_err-reserve-clause-err_tallied c =
