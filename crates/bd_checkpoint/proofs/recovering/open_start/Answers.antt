@@ -2,6 +2,7 @@ use Rattle.std.proofs.Common.{ℕ, List, Option, subst}
 use Rattle.bd_device.specs.Blocks.{Image}
 use Rattle.bd_device.specs.Device.{left_now}
 use Rattle.bd_device.specs.Moments.{Nothing}
+use Rattle.bd_device.proofs.Calls.{reads_then}
 use Rattle.bd_device.proofs.Moments.{after}
 use Rattle.bd_pager.specs.Opened.{IsBadStart}
 use Rattle.bd_checkpoint.specs.Recovering.{IsBadIn}
@@ -30,3 +31,6 @@ returns-clause-only g c =
     let reads = c.in-Ok-open.ensures.reads in
     only_then (D.contents mid) (D.contents new) (left_now D mid) (left_now D new) reads.kept
     (after Nothing (left_now D mid) reads.time (g.met.D.Device.since_earlier new) (λ image is. is) (λ image none. absurd none)) c.in-Ok.ensures.only
+
+pub returns-clause-reads : goal.returns-clause-reads
+returns-clause-reads g c = reads_then c.in-Ok.ensures.reads c.in-Ok-open.ensures.reads
