@@ -176,6 +176,7 @@ opened_on known slots at p d h = record {
   cached = h.cached;
   visits = h.visits;
   lent = refl;
+  written = h.written;
   table_held = h.table_held;
   root_held = h.root_held;
 }
