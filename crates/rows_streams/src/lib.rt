@@ -3,4 +3,10 @@
 #![tactic(auto)]
 
 #[cfg(test)]
-mod stream;
+mod around;
+#[cfg(test)]
+mod export;
+#[cfg(test)]
+mod generated;
+#[cfg(test)]
+mod import;
