@@ -6,15 +6,33 @@ use bd_names::Path;
 use bd_plain::PlainTree;
 use bd_script::{Line, read_line};
 use bd_stream::{ExportFault, Exporter, Importer};
-use std::alloc::Global;
+use std::alloc::{AllocError, Global};
 use std::test::Fail;
 
 /// The most that an exporter may ask here.
 const MAX_ASKED: usize = 1_000;
 
+/// A name of 254 bytes, for which `X` stands in the lines and paths of tests.
+const LONG: &str = "\
+    1234567890123456789012345678901234567890123456789012345678901234567890123456789012345\
+    1234567890123456789012345678901234567890123456789012345678901234567890123456789012345\
+    123456789012345678901234567890123456789012345678901234567890123456789012345678901234";
+
+/// A line or a path with the long name.
+fn spelled(alloc: Global, text: &str) -> Result<String, AllocError> {
+    text.replace(alloc, 'X', LONG)
+}
+
+/// The path of a text.
+fn path_of(alloc: Global, text: &str) -> Result<Path, Fail> {
+    let spelled = spelled(alloc, text)?;
+    Ok(Path::read(alloc, spelled.as_bytes())?)
+}
+
 /// Has the plain program execute a line's command, which it accepts.
 pub fn run_line(alloc: Global, tree: &mut PlainTree, line: &str) -> Result<(), Fail> {
-    match read_line(alloc, line.as_bytes()) {
+    let spelled = spelled(alloc, line)?;
+    match read_line(alloc, spelled.as_bytes()) {
         Ok(Line::Run(command)) => run(alloc, tree, &command),
         _ => Err(Fail::new("no command")),
     }
@@ -71,14 +89,14 @@ pub fn exported(
     text: &str,
     out: &mut Vec<u8>,
 ) -> Result<Option<ExportFault>, Fail> {
-    let path = Path::read(alloc, text.as_bytes())?;
+    let path = path_of(alloc, text)?;
     let mut exporter = Exporter::new(alloc, &path)?;
     answered(alloc, tree, &mut exporter, out)
 }
 
 /// An importer to a path.
 pub fn importer(alloc: Global, text: &str) -> Result<Importer, Fail> {
-    let path = Path::read(alloc, text.as_bytes())?;
+    let path = path_of(alloc, text)?;
     Ok(Importer::new(alloc, &path)?)
 }
 

@@ -7,12 +7,6 @@ use bd_stream::ExportFault;
 use std::alloc::Global;
 use std::test::Fail;
 
-/// A name of 254 bytes, for which `X` stands in lines and paths.
-const LONG: &str = "\
-    1234567890123456789012345678901234567890123456789012345678901234567890123456789012345\
-    1234567890123456789012345678901234567890123456789012345678901234567890123456789012345\
-    123456789012345678901234567890123456789012345678901234567890123456789012345678901234";
-
 /// Lines: a file of one byte in a directory, a directory without names, a file without bytes, one
 /// whose first bytes were never written, names that begin others, and a path of 513 bytes.
 const LINES: &[&str] = &[
@@ -63,19 +57,9 @@ const EXPORTS: &[(&str, &[u8], Option<ExportFault>)] = &[
 fn made(alloc: Global) -> Result<PlainTree, Fail> {
     let mut tree = PlainTree::new(alloc)?;
     for line in LINES {
-        run_line(alloc, &mut tree, &line.replace(alloc, 'X', LONG)?)?;
+        run_line(alloc, &mut tree, line)?;
     }
     Ok(tree)
-}
-
-/// What is exported of a path, in which `X` stands for a name.
-fn exported_at(
-    alloc: Global,
-    tree: &mut PlainTree,
-    text: &str,
-    out: &mut Vec<u8>,
-) -> Result<Option<ExportFault>, Fail> {
-    exported(alloc, tree, &text.replace(alloc, 'X', LONG)?, out)
 }
 
 #[test]
@@ -83,7 +67,7 @@ fn exports_have_their_bytes(rt: HostRuntime) -> Result<(), Fail> {
     let mut tree = made(rt.alloc())?;
     for (text, want, fault) in EXPORTS {
         let mut out = Vec::new(rt.alloc());
-        let found = exported_at(rt.alloc(), &mut tree, text, &mut out)?;
+        let found = exported(rt.alloc(), &mut tree, text, &mut out)?;
         assert_eq!(rt; found, *fault, "{text}");
         assert_eq!(rt; out.as_slice(), *want, "{text}");
     }

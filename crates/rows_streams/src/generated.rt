@@ -1,9 +1,9 @@
 //! A generated tree of 302 paths, exported, and planted in pieces.
 //!
 //! Its rule: 301 entries below a directory of mode 0. The first 200 stand in it, the others in the
-//! directory that is number 6. A name is half of a number, where the others are counted anew, and
-//! `-` after it where the number was odd. Each sixteenth number from 6 on is a directory, all else
-//! are files. `tools/streams` makes the stream by the same rule, without this program.
+//! directory that is number 6. A name is half the entry's place in its directory, and `-` after it
+//! where the place is odd. Each sixteenth number from 6 on is a directory, all else are files.
+//! `tools/streams` makes the stream by the same rule, without this program.
 
 use crate::around::{exported, exported_again, run, run_line};
 use bd_command::Command;
@@ -74,7 +74,7 @@ fn fill(alloc: Global, tree: &mut PlainTree, text: &str, number: usize) -> Resul
 }
 
 /// Makes a directory or an empty file, with its mode.
-fn make(
+fn make_empty(
     alloc: Global,
     tree: &mut PlainTree,
     verb: &str,
@@ -86,13 +86,13 @@ fn make(
 }
 
 /// Makes an entry.
-fn place(alloc: Global, tree: &mut PlainTree, number: usize) -> Result<(), Fail> {
+fn make(alloc: Global, tree: &mut PlainTree, number: usize) -> Result<(), Fail> {
     let text = text_of(alloc, number)?;
     let mode = MODES[number % MODES.len()];
     if number % 16 == OUTER {
-        return make(alloc, tree, "mkdir", &text, mode);
+        return make_empty(alloc, tree, "mkdir", &text, mode);
     }
-    make(alloc, tree, "create", &text, mode)?;
+    make_empty(alloc, tree, "create", &text, mode)?;
     fill(alloc, tree, &text, number)
 }
 
@@ -101,7 +101,7 @@ fn generated(alloc: Global) -> Result<PlainTree, Fail> {
     let mut tree = PlainTree::new(alloc)?;
     run_line(alloc, &mut tree, "mkdir /t")?;
     for number in 0..COUNT {
-        place(alloc, &mut tree, number)?;
+        make(alloc, &mut tree, number)?;
     }
     Ok(tree)
 }

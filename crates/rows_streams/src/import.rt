@@ -6,6 +6,9 @@ use bd_stream::{ImportFault, Importer};
 use std::alloc::{AllocError, Global};
 use std::test::Fail;
 
+/// Whether bytes are a stream, or else at which of them a fault comes.
+type Outcome = Result<bool, (usize, ImportFault)>;
+
 /// The stream of a directory with a file `x` of one byte.
 const STREAM: &[u8] = &[
     0x42, 0x44, 0x58, 0x31, 0x44, 0, 0, 0, 0, 0x46, 0, 1, 0x78, 0, 0, 0, 0, 0, 1, 0x41, 0x45,
@@ -14,43 +17,58 @@ const STREAM: &[u8] = &[
 /// What it makes at `/e`: each command's first letter, its path, and what it writes from where.
 const COMMANDS: &[&str] = &["m/e", "c/e/x", "w/e/x\0\0\0\0A"];
 
-/// What begins no stream, or has a path that is too long, by its last byte: another beginning, no
-/// entry, a kind that is none, an entry without the exported path's own, a mode that is none, an
-/// entry in a file, a parent that didn't come, an entry that came, a byte after the end, a path of
-/// 512 bytes.
-const REFUSED: &[(&[u8], ImportFault)] = &[
-    (b"BDX2", ImportFault::BadStream),
-    (b"BDX1E", ImportFault::BadStream),
-    (b"BDX1G", ImportFault::BadStream),
+/// Where a stream goes, and what begins none or has a path that is too long, by its last byte:
+/// another beginning, no entry, a kind that is none, an entry without the exported path's own, a
+/// mode that is none, an entry in a file, a parent that didn't come, an entry that came, a byte
+/// after the end, a path of 512 bytes, one that would have 513 where it goes.
+const REFUSED: &[(&str, &[u8], ImportFault)] = &[
+    ("/e", b"BDX2", ImportFault::BadStream),
+    ("/e", b"BDX1E", ImportFault::BadStream),
+    ("/e", b"BDX1G", ImportFault::BadStream),
     (
+        "/e",
         &[66, 68, 88, 49, 70, 0, 1, 0x78, 0, 0, 0, 0, 0, 0],
         ImportFault::BadStream,
     ),
-    (&[66, 68, 88, 49, 68, 0, 0, 0x10, 0], ImportFault::BadStream),
     (
+        "/e",
+        &[66, 68, 88, 49, 68, 0, 0, 0x10, 0],
+        ImportFault::BadStream,
+    ),
+    (
+        "/e",
         &[
             66, 68, 88, 49, 70, 0, 0, 0, 0, 0, 0, 0, 0, 68, 0, 1, 0x78, 0, 0,
         ],
         ImportFault::BadStream,
     ),
     (
+        "/e",
         &[
             66, 68, 88, 49, 68, 0, 0, 0, 0, 68, 0, 3, 0x61, 0x2f, 0x62, 0, 0,
         ],
         ImportFault::BadStream,
     ),
     (
+        "/e",
         &[
             66, 68, 88, 49, 68, 0, 0, 0, 0, 68, 0, 1, 0x62, 0, 0, 68, 0, 1, 0x61, 0, 0,
         ],
         ImportFault::BadStream,
     ),
     (
+        "/e",
         &[66, 68, 88, 49, 68, 0, 0, 0, 0, 69, 69],
         ImportFault::BadStream,
     ),
     (
+        "/e",
         &[66, 68, 88, 49, 68, 0, 0, 0, 0, 68, 2, 0],
+        ImportFault::LongPath,
+    ),
+    (
+        "/X/X",
+        b"BDX1D\0\0\0\0F\0\x01y\0\0\0\0\0\0F\0\x02yy\0\0\0\0\0\0",
         ImportFault::LongPath,
     ),
 ];
@@ -58,7 +76,7 @@ const REFUSED: &[(&[u8], ImportFault)] = &[
 /// What another byte at a place of `STREAM` does: the fault and the byte that shows it, or else
 /// whether it is a stream still. The beginning, the kinds, the lengths of the paths, the name, the
 /// modes, the file's length and its byte, the end.
-const CHANGED: &[(usize, u8, Result<bool, (usize, ImportFault)>)] = &[
+const CHANGED: &[(usize, u8, Outcome)] = &[
     (0, b'C', Err((3, ImportFault::BadStream))),
     (4, b'E', Err((4, ImportFault::BadStream))),
     (4, b'F', Err((12, ImportFault::BadStream))),
@@ -117,9 +135,9 @@ fn fed(
     None
 }
 
-/// Whether bytes to `/e` are a stream, or else at which of them a fault comes.
-fn outcome(alloc: Global, stream: &[u8]) -> Result<Result<bool, (usize, ImportFault)>, Fail> {
-    let mut importer = importer(alloc, "/e")?;
+/// Whether bytes to a path are a stream, or else at which of them a fault comes.
+fn outcome(alloc: Global, text: &str, stream: &[u8]) -> Result<Outcome, Fail> {
+    let mut importer = importer(alloc, text)?;
     let mut made = Vec::new(alloc);
     Ok(match fed(alloc, &mut importer, stream, &mut made) {
         Some(place) => Err(place),
@@ -160,7 +178,7 @@ fn a_stream_makes_its_subtree(rt: HostRuntime) -> Result<(), Fail> {
 #[test]
 fn a_stream_is_whole_at_its_end_alone(rt: HostRuntime) -> Result<(), Fail> {
     for count in 0..=STREAM.len() {
-        let found = outcome(rt.alloc(), &STREAM[..count])?;
+        let found = outcome(rt.alloc(), "/e", &STREAM[..count])?;
         assert_eq!(rt; found, Ok(count == STREAM.len()), "{count} bytes");
     }
     Ok(())
@@ -168,8 +186,8 @@ fn a_stream_is_whole_at_its_end_alone(rt: HostRuntime) -> Result<(), Fail> {
 
 #[test]
 fn other_bytes_are_refused_at_their_last(rt: HostRuntime) -> Result<(), Fail> {
-    for (bytes, want) in REFUSED {
-        let found = outcome(rt.alloc(), bytes)?;
+    for (text, bytes, want) in REFUSED {
+        let found = outcome(rt.alloc(), text, bytes)?;
         assert_eq!(rt;
             found,
             Err((bytes.len().saturating_sub(1), *want)),
@@ -183,7 +201,11 @@ fn other_bytes_are_refused_at_their_last(rt: HostRuntime) -> Result<(), Fail> {
 fn a_changed_byte_is_refused_where_it_shows(rt: HostRuntime) -> Result<(), Fail> {
     for (at, byte, want) in CHANGED {
         let stream = changed(rt.alloc(), *at, *byte)?;
-        assert_eq!(rt; outcome(rt.alloc(), &stream)?, *want, "{byte} at {at}");
+        assert_eq!(rt;
+            outcome(rt.alloc(), "/e", &stream)?,
+            *want,
+            "{byte} at {at}"
+        );
     }
     Ok(())
 }
