@@ -60,7 +60,7 @@ one_slot entries id slot other rising a b =
       | inr not_before ↦ elim (cases_lt b.0 a.0) [
         | inl after ↦ let less : (Entry b.0).id < (Entry a.0).id = rising b.0 a.0 a.1 after a.2 in absurd (omega (arith, less, low, high))
         | inr not_after ↦ let same : a.0 ≡ b.0 = omega (arith, not_before, not_after) in
-          sym a.4.1 ∙ ap (λ (e : TableEntry). e.slot) (sym first ∙ ap Entry same ∙ second) ∙ b.4.1
+            sym a.4.1 ∙ ap (λ (e : TableEntry). e.slot) (sym first ∙ ap Entry same ∙ second) ∙ b.4.1
       ]
     ]
 

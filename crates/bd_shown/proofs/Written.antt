@@ -54,8 +54,7 @@ module _ {D : Type 0} (g : Ghosts D) (p : Paged D) (w : Written) (h : IsReady p.
       let within : k < length w.table.entries = omega (arith, low, length-map w.table.entries (λ (e : TableEntry). e.id)) in
       let e : TableEntry = get_or w.table.entries k no_entry in
       let is : get_or (ids_of w.table.entries) k d ≡ e.id = id_at w.table.entries k d low in
-      let below : e.id < w.table.next_id = h.table.entries.below_next k no_entry within in
-      (
+      let below : e.id < w.table.next_id = h.table.entries.below_next k no_entry within in (
         omega (arith, is, below, h.next_is),
         subst (λ (id : ℕ). IsKept (table_of p) id) (sym is) (entry_kept e (spots_of p e.id) (h.entries.each k no_entry within) (h.table.entries.each k no_entry within).refs),
       )

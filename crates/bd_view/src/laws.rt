@@ -28,7 +28,7 @@ pub fn kept_nodes_are_listed()
 {}
 
 /// After a checkpoint no node is changed, and each slot is free that the kept nodes and their table
-/// don't hold. It needs a slot for each node that was changed.
+/// don't hold. A view has at most one after it, and where slots are free for it it isn't refused.
 pub fn checkpoints_keep_all()
     ensures none { (old new : View) → Saves old new → changed_count new ≡ 0 }
     ensures free { (old new : View) → Saves old new
