@@ -1,0 +1,6 @@
+pub mod Fresh
+pub mod Listed
+pub mod Reclaimed
+pub mod Saved
+pub mod Standing
+pub mod Steps
