@@ -86,6 +86,13 @@ impl SlotSet {
         words::is_set(self.words.as_slice(), slot as usize)
     }
 
+    /// How many slots there are.
+    pub fn count(&self) -> u32
+        ensures { result ≡ length self.now }
+    {
+        self.count
+    }
+
     /// How many slots are free.
     pub fn free(&self) -> u32
         ensures { result ≡ free_count self.now }
