@@ -253,6 +253,52 @@ next_point_none list points ranges k from ix skipped i least is above =
 
 -- ---- what it finds among the others
 
+pub next_over_some : (list : List Message) (points ranges k : List ℕ) (from first at : ℕ) → IsIndex list (length list) points ranges → IsCountBelow ranges from first → first ≤ at → at < length ranges → touches_at list (get_or ranges at 0) k ≡ true
+    → ((q : ℕ) → q < at → from ≤ get_or ranges q 0 → touches_at list (get_or ranges q 0) k ≡ false) → IsNextAmong is_range_at list from k (Some (get_or ranges at 0))
+next_over_some list points ranges k from first at ix low le within some none = (
+  low.over at le within,
+  ix.under at within,
+  some,
+  (λ i least high is.
+      let there = has_place ranges i (ix.all_ranges i (range_within list i is) is) in
+      let e : get_or ranges there.0 0 ≡ i = there.2 in
+      elim (cases_lt there.0 at) [
+        | inl less ↦ subst (λ (j : ℕ). touches_at list j k ≡ false) e (none there.0 less (omega arith))
+        | inr more ↦ (let l : get_or ranges at 0 ≤ get_or ranges there.0 0 = not_after ranges at there.0 ix.rising more there.1 in absurd (omega arith))
+      ]),
+)
+
+pub over_none : (list : List Message) (points ranges k : List ℕ) (from : ℕ) → IsIndex list (length list) points ranges
+    → ((q : ℕ) → q < length ranges → from ≤ get_or ranges q 0 → touches_at list (get_or ranges q 0) k ≡ false) → (i : ℕ) → from ≤ i → i < length list → is_range_at list i ≡ true → touches_at list i k ≡ false
+over_none list points ranges k from ix none i least high is =
+    let there = has_place ranges i (ix.all_ranges i high is) in
+    let e : get_or ranges there.0 0 ≡ i = there.2 in
+    subst (λ (j : ℕ). touches_at list j k ≡ false) e (none there.0 there.1 (omega arith))
+
+pub newest_over_some : (list : List Message) (points ranges k : List ℕ) (from first at : ℕ) → IsIndex list (length list) points ranges → IsCountBelow ranges from first → first ≤ at → at < length ranges → touches_at list (get_or ranges at 0) k ≡ true
+    → ((q : ℕ) → at + 1 ≤ q → q < length ranges → touches_at list (get_or ranges q 0) k ≡ false) → IsNewestAmong is_range_at list from k (Some (get_or ranges at 0))
+newest_over_some list points ranges k from first at ix low le within some none = (
+  low.over at le within,
+  ix.under at within,
+  some,
+  (λ i newer high is.
+      let there = has_place ranges i (ix.all_ranges i high is) in
+      let e : get_or ranges there.0 0 ≡ i = there.2 in
+      elim (cases_lt at there.0) [
+        | inl less ↦ subst (λ (j : ℕ). touches_at list j k ≡ false) e (none there.0 (omega arith) there.1)
+        | inr more ↦ (let l : get_or ranges there.0 0 ≤ get_or ranges at 0 = not_after ranges there.0 at ix.rising more within in absurd (omega arith))
+      ]),
+)
+
+pub newest_over_none : (list : List Message) (points ranges k : List ℕ) (from first : ℕ) → IsIndex list (length list) points ranges → IsCountBelow ranges from first
+    → ((q : ℕ) → first ≤ q → q < length ranges → touches_at list (get_or ranges q 0) k ≡ false) → IsNewestAmong is_range_at list from k None
+newest_over_none list points ranges k from first ix low none =
+    over_none list points ranges k from ix
+    (λ q within least. elim (cases_lt q first) [
+      | inl less ↦ (let l : get_or ranges q 0 < from = low.below q less in absurd (omega arith))
+      | inr more ↦ none q more within
+    ])
+
 pub next_range_some : (list : List Message) (points ranges : List ℕ) (from at : ℕ) → IsIndex list (length list) points ranges → IsCountBelow ranges from at → at < length ranges → IsNextRange list from (Some (get_or ranges at 0))
 next_range_some list points ranges from at ix low within = (
   low.over at (omega arith) within,

@@ -4,10 +4,11 @@ ghost use Rattle.std.specs.Prelude.{◌≡◌, ℕ, ◌+◌, ◌-◌, ◌*◌, �
 ghost use Rattle.std.specs.Option.{ForSome};
 ghost use Rattle.bd_node.specs.Indexes.{IsCopy};
 ghost use Rattle.bd_message.specs.declared.message.Message.{Message};
-ghost use Rattle.bd_node.specs.Index.{AreInOrder, IsCountBelow, IsIndex, IsNewestAmong, IsNewestTouching, IsNextAmong, IsNextPoint, IsNextRange, IsPosition, first_of, is_before, is_point, is_point_at, last_of, own_key};
+ghost use Rattle.bd_node.specs.Index.{AreInOrder, IsCountBelow, IsIndex, IsNewestAmong, IsNewestTouching, IsNextAmong, IsNextPoint, IsNextRange, IsPosition, first_of, is_before, is_point, is_point_at, is_range_at, last_of, own_key};
 ghost use Rattle.bd_node.specs.Stems.{AreByStem};
 ghost use Rattle.bd_node.specs.Touching.{IsNextTouching};
 
+use crate::touching::touches;
 use crate::{Steps, stems};
 use bd_message::Message;
 use std::alloc::{AllocError, Global};
@@ -23,6 +24,9 @@ pub struct Index {
     pub ranges: Vec<usize>,
     pub stems: Vec<usize>,
 }
+
+// How many ranges of keys are tried one by one before their prefixes are asked.
+const NEAR: usize = 8;
 
 /// No places.
 pub fn empty(alloc: Global) -> Index
@@ -262,6 +266,54 @@ pub fn newest_on(items: &[Message], index: &Index, from: usize, key: &[u8]) -> O
     }
 }
 
+/// The place of the oldest message on a range of keys from a place on that can change what stands at
+/// a key. The first few are tried in their order, so that those of one prefix don't cost a look at
+/// each of them.
+pub fn next_over(items: &[Message], index: &Index, from: usize, key: &[u8]) -> Option<usize>
+    requires index { IsIndex items.now (length items.now) index.now.points.items
+        index.now.ranges.items }
+    requires stems { AreByStem items.now (length items.now) index.now.stems.items }
+    ensures { IsNextAmong is_range_at items.now from key.now result }
+{
+    let ranges = index.ranges.as_slice();
+    let first = count_below(ranges, from);
+    let end = first + NEAR.min(ranges.len() - first);
+    for at in first..end {
+        if touches(&items[ranges[at]], key) {
+            return Some(ranges[at]);
+        }
+    }
+    if end < ranges.len() {
+        stems::oldest(items, index.stems.as_slice(), from, key)
+    } else {
+        None
+    }
+}
+
+/// The same of the newest one, of which the last few are tried first.
+pub fn newest_over(items: &[Message], index: &Index, from: usize, key: &[u8]) -> Option<usize>
+    requires index { IsIndex items.now (length items.now) index.now.points.items
+        index.now.ranges.items }
+    requires stems { AreByStem items.now (length items.now) index.now.stems.items }
+    ensures { IsNewestAmong is_range_at items.now from key.now result }
+{
+    let ranges = index.ranges.as_slice();
+    let first = count_below(ranges, from);
+    let end = ranges.len() - NEAR.min(ranges.len() - first);
+    let mut at = ranges.len();
+    while at > end {
+        at -= 1;
+        if touches(&items[ranges[at]], key) {
+            return Some(ranges[at]);
+        }
+    }
+    if first < end {
+        stems::newest(items, index.stems.as_slice(), from, key)
+    } else {
+        None
+    }
+}
+
 /// The place of the first message on a range of keys from a place on.
 pub fn next_range(items: &[Message], index: &Index, from: usize) -> Option<usize>
     requires { IsIndex items.now (length items.now) index.now.points.items index.now.ranges.items }
@@ -298,7 +350,7 @@ pub fn next_touching(items: &[Message], index: &Index, from: usize, key: &[u8]) 
     ensures { IsNextTouching items.now from key.now result }
 {
     let point = next_on(items, index, from, key);
-    let range = stems::oldest(items, index.stems.as_slice(), from, key);
+    let range = next_over(items, index, from, key);
     first_of(point, range)
 }
 
@@ -321,7 +373,7 @@ pub fn newest_touching(items: &[Message], index: &Index, from: usize, key: &[u8]
     ensures { IsNewestTouching items.now from key.now result }
 {
     let point = newest_on(items, index, from, key);
-    let range = stems::newest(items, index.stems.as_slice(), from, key);
+    let range = newest_over(items, index, from, key);
     last_of(point, range)
 }
 

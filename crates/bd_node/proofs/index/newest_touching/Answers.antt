@@ -6,4 +6,4 @@ use Rattle.bd_node.proofs.index.newest_touching.Goals as goal
 pub returns : goal.returns
 returns c =
     subst (λ (o : Option ℕ). IsNewestTouching c.args.items.now c.args.from c.args.key.now o) (sym c.last_of.ensures)
-    (newest_either c.args.items.now c.args.from c.args.key.now c.newest_on-point.result c.newest-range.result c.newest_on-point.ensures c.newest-range.ensures)
+    (newest_either c.args.items.now c.args.from c.args.key.now c.newest_on-point.result c.newest_over-range.result c.newest_on-point.ensures c.newest_over-range.ensures)
