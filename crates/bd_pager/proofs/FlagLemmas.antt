@@ -86,6 +86,11 @@ all_free n = record {
   );
 }
 
+pub blank_free : (n : ℕ) (flags : List Bool) → flags ≡ replicate n true → AreFreeSlots (length flags) [] flags
+blank_free n flags is =
+    let size : length flags ≡ n = ap length is ∙ length-replicate {A = Bool} n true in
+    subst (λ (k : ℕ). AreFreeSlots k [] flags) (sym size) (subst (λ (l : List Bool). AreFreeSlots n [] l) (sym is) (all_free n))
+
 first_taken : (n : ℕ) (taken : List ℕ) → AreSlots n taken → (i : ℕ) → i ≤ length taken → (flags : List Bool) × AreFreeSlots n (take i taken) flags × (free_count flags + i ≡ n)
 first_taken n taken differ zero low = (replicate n true, all_free n, omega (arith, all_true n))
 first_taken n taken differ (suc i) low =

@@ -44,6 +44,12 @@ slots_append n xs ys p q apart = record {
     right : (k d : ℕ) → length xs ≤ k → get_or (xs ++ ys) k d ≡ get_or ys (k - length xs) d
     right k d high = get_or-append_right xs ys (length xs) k d refl high
 
+slots_front : (n : ℕ) (xs ys : List ℕ) → AreSlots n (xs ++ ys) → AreSlots n xs
+slots_front n xs ys p = record {
+  below = λ k d lt. omega (arith, get_or-append xs ys d k lt, p.below k d (omega (arith, lt, length-append xs ys)));
+  different = λ i j d before lt same. p.different i j d before (omega (arith, lt, length-append xs ys)) (get_or-append xs ys d i (omega (arith, before, lt)) ∙ same ∙ sym (get_or-append xs ys d j lt));
+}
+
 -- ---- nodes in slots
 
 place_slot : (p : Place) → is_in_memory_at p ≡ false → slot_at p ≡ Some (slot_or_first (slot_at p))
@@ -127,7 +133,7 @@ named_some : (o : Option Spot) → 1 ≤ refs_in o → IsSome o
 named_some None named = absurd (omega (arith, named))
 named_some (Some s) named = refl
 
-module _ (slots : ℕ) (spare free : List Bool) (spots : Spots) (ids : List ℕ) (root next : ℕ) (w : Written) (kept : AreKeptIds ids spots) (unused : AreUnused spare free spots) (stored : (id : ℕ) → is_in_memory (spots id) ≡ false)
+module _ (spare free : List Bool) (spots : Spots) (ids : List ℕ) (root next : ℕ) (w : Written) (kept : AreKeptIds ids spots) (unused : AreUnused spare free spots) (stored : (id : ℕ) → is_in_memory (spots id) ≡ false)
     (table : HaveTable root next spots) (small : next < 2 ^ 64) (few : length spare ≤ 65536) (h : IsFilled free spots ids root next w) where
   entries : List TableEntry
   entries = w.table.entries
@@ -200,7 +206,7 @@ module _ (slots : ℕ) (spare free : List Bool) (spots : Spots) (ids : List ℕ)
 
   pub filled_place : IsTablePlace (length spare) w.at
   filled_place = record {
-    least = ?;
-    most = ?;
-    differ = ?;
+    least = omega (arith, h.length_is);
+    most = omega (arith, h.length_is, size, few);
+    differ = subst (λ (n : ℕ). AreSlots n w.at) unused.count (slots_front (length free) w.at (slots_of w.table.entries) h.differ);
   }

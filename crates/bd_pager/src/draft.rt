@@ -18,14 +18,6 @@ use bd_table::{Table, TableEntry};
 use std::alloc::{AllocError, Global};
 use std::collections::HashMap;
 
-// Where nothing is known of a node yet.
-const BLANK: TableEntry = TableEntry {
-    id: 0,
-    refs: 0,
-    slot: 0,
-    level: 0,
-};
-
 /// The memory for what is written for the next checkpoint beside its nodes, which is taken before
 /// anything is written. It has no invariant.
 #[derive(Drop)]
@@ -60,7 +52,7 @@ impl Draft {
     {
         let ids = kept_ids(alloc, spots)?;
         Ok(Draft {
-            entries: vec![in alloc; BLANK; ids.len()]?,
+            entries: vec![in alloc; new_entry(0, 0, 0, 0); ids.len()]?,
             at: vec![in alloc; 0; taken]?,
             copy: vec![in alloc; 0; taken]?,
             spare: SlotSet::new(alloc, slots)?,
@@ -140,13 +132,21 @@ fn entry_of(id: u64, spot: Option<&Spot>) -> TableEntry
     ensures fits { FitsTableEntry result }
 {
     match spot {
-        Some(spot) => TableEntry {
-            id,
-            refs: spot.refs,
-            slot: slot_or_first(&spot.place),
-            level: spot.level,
-        },
-        None => TableEntry { id, ..BLANK },
+        Some(spot) => new_entry(id, spot.refs, slot_or_first(&spot.place), spot.level),
+        None => new_entry(id, 0, 0, 0),
+    }
+}
+
+// An entry of these numbers.
+fn new_entry(id: u64, refs: u64, slot: u32, level: u32) -> TableEntry
+    ensures entry { result ≡ record { id = id; refs = refs; slot = slot; level = level } }
+    ensures fits { FitsTableEntry result }
+{
+    TableEntry {
+        id,
+        refs,
+        slot,
+        level,
     }
 }
 
