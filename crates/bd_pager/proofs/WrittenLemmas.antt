@@ -119,3 +119,30 @@ table_apart spare free spots at unused are_free i s slot copy there place b own 
     let found = table_slot at b is in
     let same : slot ≡ get_or at found.0 0 = one_slot slot (get_or at found.0 0) b own found.2 in
     ((unused.free_is (get_or at found.0 0)).0 (are_free found.0 0 found.1)).1 i (ap slot_in there ∙ ap slot_at place ∙ ap Some same)
+
+-- ---- what holds once all nodes are written
+
+-- each node is in its slot, and there are free ones for the table
+pub record AreAllStored (root next : ℕ) (spots : Spots) (u : Usage) (draft : Draft) : Type 0 where
+  pub tallied : IsTallied next spots u
+  pub draft_is : IsDraftOf (length u.free) spots draft
+  pub stored : (id : ℕ) → is_in_memory (spots id) ≡ false
+  pub room : length draft.at.items ≤ free_count u.free
+  pub table : HaveTable root next spots
+
+pub all_written : {D : Type 0} (g : Ghosts D) (root next : ℕ) (d e : D) (before after : Spots) (u v : Usage) (draft : Draft) → OnlyMoves g u.spare root d e before after → v.spare ≡ u.spare
+    → ((n : ℕ) → AreBelow n before → IsTallied n before u → IsTallied n after v) → (v.in_memory ≤ 0) ⊎ (free_count v.free ≡ 0)
+    → IsTallied next before u → HaveTable root next before → IsDraftOf (length u.spare) before draft → u.changed + length draft.at.items ≤ free_count u.spare
+    → AreAllStored root next after v draft
+all_written g root next d e before after u v draft moves spare again few was table drafted room =
+    let now : IsTallied next after v = again next (table_below root next before table) was in
+    let left : length draft.at.items ≤ free_count v.free = free_left next (length draft.at.items) before after u v was now spare moves.changed room in
+    let after_table : HaveTable root next after = table_moved g u.spare root next d e before after moves table in
+    let size : length v.free ≡ length u.spare = now.unused.count ∙ ap length spare in
+    record {
+      tallied = now;
+      draft_is = subst (λ (n : ℕ). IsDraftOf n after draft) (sym size) (draft_moved (length u.spare) before after draft moves.kept drafted);
+      stored = all_stored next after v (table_below root next after after_table) now (omega (arith, left, drafted.at)) few;
+      room = left;
+      table = after_table;
+    }
