@@ -9,6 +9,7 @@ use Rattle.bd_slots.specs.Layout.{AreSlots, IsTablePlace, table_length}
 use Rattle.bd_slots.specs.Slots.{IsFree}
 use Rattle.bd_device.specs.Blocks.{Image}
 use Rattle.bd_table.specs.Tables.{AreFreeSlots, AreTableEntries, FitsTableEntry, IsRoot, IsTableAt, IsTableEntry, slots_of}
+use Rattle.bd_table.specs.declared.table.Table.{Table as Checkpoint}
 use Rattle.bd_table.specs.declared.table.TableEntry.{TableEntry}
 use Rattle.bd_pager.specs.declared.place.Place.{Place}
 use Rattle.bd_pager.specs.declared.place.Place.TheVariants.{Memory, Slot}
@@ -123,6 +124,14 @@ module _ (spots : Spots) (ids : List ℕ) (kept : AreKeptIds ids spots) where
 
 -- ---- the table
 
+-- its slots are a table's
+pub table_place : (slots : ℕ) (at : List ℕ) (t : Checkpoint) → IsTableAt slots at t → IsTablePlace slots at
+table_place slots at t h = record {
+  least = omega (arith, h.place);
+  most = omega (arith, h.place, h.entries.most);
+  differ = slots_front slots at (slots_of t.entries) h.differ;
+}
+
 entry_is : (root next id : ℕ) (spots : Spots) (o : Option Spot) → HaveTable root next spots → spots id ≡ o → IsSome o → FitsTableEntry (entry_of id o) → IsTableEntry (entry_of id o) × (id < next)
 entry_is root next id spots None table there some fits = absurd (true≢false (sym some))
 entry_is root next id spots (Some s) table there some fits =
@@ -202,11 +211,4 @@ module _ (spare free : List Bool) (spots : Spots) (ids : List ℕ) (root next : 
     next_is = h.next_is;
     spare_is = subst (λ (n : ℕ). AreFreeSlots n (w.at ++ slots_of w.table.entries) w.spare) unused.count h.spare_is;
     free_is = same_flags (length free) (w.at ++ slots_of w.table.entries) w.free w.spare h.free_is h.spare_is;
-  }
-
-  pub filled_place : IsTablePlace (length spare) w.at
-  filled_place = record {
-    least = omega (arith, h.length_is);
-    most = omega (arith, h.length_is, size, few);
-    differ = subst (λ (n : ℕ). AreSlots n w.at) unused.count (slots_front (length free) w.at (slots_of w.table.entries) h.differ);
   }

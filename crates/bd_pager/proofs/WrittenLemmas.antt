@@ -4,6 +4,7 @@ use Rattle.std.specs.Prelude.{All, slice_get}
 use Rattle.std.proofs.lemmas.Bool.{true≢false}
 use Rattle.std.proofs.lemmas.Option.{get_or_from_slice_get}
 use Rattle.bd_slots.specs.Slots.{IsFree, free_count}
+use Rattle.bd_device.specs.Blocks.{Image}
 use Rattle.bd_device.specs.declared.device.Device.{Ghosts}
 use Rattle.bd_node.proofs.Sums.{sum_at}
 use Rattle.bd_table.specs.Image.{IsOfTable}
@@ -12,11 +13,12 @@ use Rattle.bd_pager.specs.declared.place.Place.{Place}
 use Rattle.bd_pager.specs.declared.place.Place.TheVariants.{Memory, Slot}
 use Rattle.bd_pager.specs.declared.place.Spot.{Spot}
 use Rattle.bd_pager.specs.declared.usage.Usage.{Usage}
+use Rattle.bd_pager.specs.declared.written.Written.{Written}
 use Rattle.bd_pager.specs.Changing.{slot_if, own_slot}
 use Rattle.bd_pager.specs.Counting.{AreBelow, AreUnused, has_own, is_in_memory, spot_count, IsTallied}
 use Rattle.bd_pager.specs.Drafts.{AreKeptIds, HaveTable, IsDraftOf}
 use Rattle.bd_pager.specs.Moving.{OnlyMoves}
-use Rattle.bd_pager.specs.Pagers.{is_changed, is_changed_place}
+use Rattle.bd_pager.specs.Pagers.{Paged, spots_of, is_changed, is_changed_place, IsPaged, IsReady}
 use Rattle.bd_pager.specs.Places.{Spots, refs_in, level_in, slot_at, slot_in}
 use Rattle.bd_pager.specs.Slots.{IsOfSlot, IsSpare}
 use Rattle.bd_pager.proofs.CountingLemmas.{flag, flag_small, count_kept}
@@ -146,3 +148,32 @@ all_written g root next d e before after u v draft moves spare again few was tab
       room = left;
       table = after_table;
     }
+
+-- ---- a pager
+
+-- its kept nodes have a table
+pub paged_table : {D : Type 0} (contents : Option Image) (p : Paged D) → IsPaged contents p → HaveTable p.root p.next (spots_of p)
+paged_table contents p h = record {
+  named = h.table.root;
+  inner = h.table.inner;
+  each = λ id s there.
+      let kept : 1 ≤ refs_in (spots_of p id) = omega (arith, h.used id s there, ap refs_in there) in
+      (h.table.low id kept, h.table.below id kept, h.used id s there, h.levels id s there);
+}
+
+-- one that has something ready
+pub ready_paged : {D : Type 0} (contents : Option Image) (p : Paged D) (w : Written) → IsPaged contents p → IsReady p.spare (spots_of p) p.root p.next w → IsPaged contents (record p { written = Some w })
+ready_paged contents p w was ready = record {
+  table = record { root = was.table.root; inner = was.table.inner; low = was.table.low; below = was.table.below };
+  used = was.used;
+  placed = was.placed;
+  root = was.root;
+  cached = was.cached;
+  levels = was.levels;
+  held = was.held;
+  spare = was.spare;
+  slots = was.slots;
+  stored = was.stored;
+  saved = was.saved;
+  ready = ready;
+}

@@ -9,7 +9,7 @@ use Rattle.bd_pager.specs.Moving.{OnlyMoves}
 use Rattle.bd_pager.specs.Pagers.{IsReady}
 use Rattle.bd_pager.specs.Places.{spots_in}
 use Rattle.bd_pager.proofs.MovingLemmas.{moves_then, device_moves, cached_kept}
-use Rattle.bd_pager.proofs.ReadyLemmas.{filled_place, filled_ready, filled_table}
+use Rattle.bd_pager.proofs.ReadyLemmas.{filled_ready, filled_table, table_place}
 use Rattle.bd_pager.proofs.WrittenLemmas.{all_written, table_below, table_spare, table_apart}
 use Rattle.bd_pager.proofs.writing_all.write_all.Goals as goal
 
@@ -55,8 +55,8 @@ write-requires-clause-place g c =
     let all = all_written g.D.Device c.args.root c.args.next c.args.reader.now.dev c.write_early.new.reader.dev (spots_in c.args.reader.now.spots) spots c.args.usage.now u c.args.draft
         w.moves w.spare w.tallied w.few q.tallied q.table q.draft q.room in
     let few = subst (λ (l : List Bool). length l ≤ 65536) (sym w.spare) q.slots in
-    let place = filled_place u.spare u.free spots c.args.draft.ids.items c.args.root c.args.next c.filled-written.result.0 all.draft_is.ids all.tallied.unused all.stored all.table all.tallied.counted.fits few c.filled-written.ensures.filled in
-    subst (λ (n : ℕ). IsTablePlace n c.as_slice.result.now) (sym c.count-slots.ensures) (subst (λ (l : List ℕ). IsTablePlace (length u.spare) l) (sym c.as_slice.ensures) place)
+    let table = filled_table u.spare u.free spots c.args.draft.ids.items c.args.root c.args.next c.filled-written.result.0 all.draft_is.ids all.tallied.unused all.stored all.table all.tallied.counted.fits few c.filled-written.ensures.filled in
+    subst (λ (n : ℕ). IsTablePlace n c.as_slice.result.now) (sym c.count-slots.ensures) (subst (λ (l : List ℕ). IsTablePlace (length u.spare) l) (sym c.as_slice.ensures) (table_place (length u.spare) c.filled-written.result.0.at c.filled-written.result.0.table table))
 
 pub write-requires-clause-table : goal.write-requires-clause-table
 write-requires-clause-table g c =
