@@ -5,6 +5,7 @@ pub mod ChangingLemmas
 pub mod CommittedLemmas
 pub mod CopyLemmas
 pub mod CountingLemmas
+pub mod DraftLemmas
 pub mod EarlyLemmas
 pub mod EntryLemmas
 pub mod ExtendedLemmas
@@ -18,6 +19,7 @@ pub mod PagerLemmas
 pub mod PuttingLemmas
 pub mod ReadLemmas
 pub mod ReaderLemmas
+pub mod ReadyLemmas
 pub mod SavedLemmas
 pub mod SlotLemmas
 pub mod SpilledLemmas
@@ -25,3 +27,4 @@ pub mod StepLoops
 pub mod SteppedLemmas
 pub mod StepsLemmas
 pub mod TallyLemmas
+pub mod WrittenLemmas
