@@ -12,3 +12,6 @@ pub mod Replaying
 pub mod Causes
 pub mod Cleared
 pub mod Slots
+pub mod WrittenOut
+pub mod Saved
+pub mod Checkpointed

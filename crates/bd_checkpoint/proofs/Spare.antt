@@ -5,6 +5,9 @@ use Rattle.std.proofs.lemmas.Option.{slice_get_within}
 use Rattle.bd_device.specs.Blocks.{Image}
 use Rattle.bd_device.specs.Changes.{SameBut, StaysBut, IsBeforeBut}
 use Rattle.bd_device.specs.Commits.{block_at}
+use Rattle.bd_device.specs.Device.{left_now, Goes}
+use Rattle.bd_device.specs.declared.device.Device.{Ghosts}
+use Rattle.bd_device.proofs.Moments.{within, after}
 use Rattle.bd_table.specs.Tables.{AreFreeSlots}
 use Rattle.bd_super.specs.Superblocks.{log_block}
 use Rattle.bd_super.specs.Live.{IsLive}
@@ -18,7 +21,9 @@ use Rattle.bd_image.specs.Standing.{StandsAs, IsAsBefore}
 use Rattle.bd_image.specs.Used.{used_slots, IsOfSlots, SameSlots, SameUsed}
 use Rattle.bd_image.proofs.Frame.{SameHalf, batches_same, table_same, tree_same}
 use Rattle.bd_image.proofs.Syncs.{half_place}
-use Rattle.bd_checkpoint.specs.Kept.{Saved, slots_held, StartsAs, IsOpen}
+use Rattle.bd_checkpoint.specs.Kept.{Saved, slots_held, StartsAs, IsOpen, IsOpenOn, AllAsBefore}
+use Rattle.bd_checkpoint.specs.Spare.{WritesSpare}
+use Rattle.bd_checkpoint.proofs.Handed.{IsSince}
 use Rattle.bd_checkpoint.proofs.Starting.{PartsAreOne, recovered}
 
 -- ---- what isn't spare
@@ -80,7 +85,7 @@ stands_spare one live saved place spare old new at free same starts = λ tree co
     ] in
     (live, saved.table, place, tree_same live saved.table place tree count old new used (live_same spare live old new same starts.live_is) (recovered one live saved place old tree count starts stands))
 
-pub as_before_spare : PartsAreOne → (known : Option Image) (before : Image → Type 0) (count : ℕ) (live : Super) (saved : Saved) (log : LogState) (spare : List Bool) → IsOpen known before count live saved log
+as_before_spare : PartsAreOne → (known : Option Image) (before : Image → Type 0) (count : ℕ) (live : Super) (saved : Saved) (log : LogState) (spare : List Bool) → IsOpen known before count live saved log
     → AreFreeSlots live.slots (slots_held saved) spare → (c : Image) → IsBeforeBut (IsSpare spare) before c → IsAsBefore before c
 as_before_spare one known before count live saved log spare given free c (d, was, same) =
     (d, was, stands_spare one live saved log.place spare d c given.at free same (given.each d was))
@@ -103,7 +108,7 @@ settled_known spare (Some old) (Some new) d c stays same is =
       blocks = λ b low. mine.blocks b low ∙ is.blocks b low ∙ sym (theirs.blocks b low);
     }
 
-pub open_spare : (known now : Option Image) (before left : Image → Type 0) (count total : ℕ) (live : Super) (saved : Saved) (log : LogState) (spare : List Bool) → IsOpen known before count live saved log
+open_spare : (known now : Option Image) (before left : Image → Type 0) (count total : ℕ) (live : Super) (saved : Saved) (log : LogState) (spare : List Bool) → IsOpen known before count live saved log
     → AreFreeSlots live.slots (slots_held saved) spare → total ≡ count → StaysBut (IsSpare spare) known now → ((c : Image) → left c → IsBeforeBut (IsSpare spare) before c)
     → IsOpen now left total live saved log
 open_spare known now before left count total live saved log spare given free same_count stays after = record {
@@ -117,5 +122,24 @@ open_spare known now before left count total live saved log spare given free sam
 }
 
 -- an image of before is one in which nothing changed
-pub unchanged : (spare : List Bool) (before : Image → Type 0) (c : Image) → before c → IsBeforeBut (IsSpare spare) before c
+unchanged : (spare : List Bool) (before : Image → Type 0) (c : Image) → before c → IsBeforeBut (IsSpare spare) before c
 unchanged spare before c was = (c, was, record { size = refl; others = λ b out. refl })
+
+-- ---- over a device
+
+module _ {D : Type 0} (g : Ghosts D) (one : PartsAreOne) (old new : D) (earlier : IsSince g new) (live : Super) (saved : Saved) (log : LogState) (spare : List Bool) (given : IsOpenOn g old live saved log)
+    (free : AreFreeSlots live.slots (slots_held saved) spare) (writes : WritesSpare g old new spare) where
+  left : (c : Image) → left_now g new c → IsBeforeBut (IsSpare spare) (left_now g old) c
+  left = after (IsBeforeBut (IsSpare spare) (left_now g old)) (IsBeforeBut (IsSpare spare) (left_now g old)) writes.time earlier (unchanged spare (left_now g old)) (λ c was. was)
+
+  inside : (c : Image) → IsBeforeBut (IsSpare spare) (left_now g old) c → IsAsBefore (left_now g old) c
+  inside = as_before_spare one (g.contents old) (left_now g old) (g.block_count old) live saved log spare given free
+
+  pub open_on : IsOpenOn g new live saved log
+  open_on = open_spare (g.contents old) (g.contents new) (left_now g old) (left_now g new) (g.block_count old) (g.block_count new) live saved log spare given free writes.count writes.elsewhere left
+
+  pub time_on : Goes g old new (IsAsBefore (left_now g old))
+  time_on = within (IsBeforeBut (IsSpare spare) (left_now g old)) (IsAsBefore (left_now g old)) writes.time inside
+
+  pub kept_on : AllAsBefore (left_now g old) (left_now g new)
+  kept_on = λ c is. inside c (left c is)
