@@ -25,6 +25,7 @@ ghost use Rattle.bd_pager.specs.Places.{spots_in, AreCached};
 
 mod steps;
 mod store;
+mod writing_out;
 
 use crate::changing::append_counted;
 use crate::naming::names_lower;
