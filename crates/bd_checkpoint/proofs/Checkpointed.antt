@@ -1,25 +1,30 @@
 -- What is known inside a checkpoint and after it.
-use Rattle.std.proofs.Common.{◌≡◌, ℕ, ◌⊎◌, inl, inr, refl, ap, ◌∙◌, arith}
+use Rattle.std.proofs.Common.{◌≡◌, ℕ, ◌⊎◌, inl, inr, List, length, IfSome, Err, refl, sym, ap, subst, ◌∙◌, arith}
 use Rattle.bd_io.specs.Cause.{next_count}
 use Rattle.bd_model.specs.Tree.{Tree}
+use Rattle.bd_slots.specs.Layout.{IsTablePlace, image_blocks}
 use Rattle.bd_device.specs.Blocks.{Image}
-use Rattle.bd_device.specs.Device.{left_now, Goes, OnlyReads, LastFailed}
+use Rattle.bd_device.specs.Device.{left_now, Goes, OnlyReads, LastFailed, IsImageCause}
 use Rattle.bd_device.specs.declared.device.Device.{Ghosts}
+use Rattle.bd_device.specs.declared.fault.ImageFault.{ImageFault}
+use Rattle.bd_device.specs.declared.fault.ImageFault.TheVariants as image
 use Rattle.bd_device.proofs.Moments.{goes_on, within}
-use Rattle.bd_message.specs.declared.fault.MapFault.{MapFault}
-use Rattle.bd_message.specs.declared.fault.MapFault.TheVariants.{DeviceFault, Damaged, Worn, NoMemory}
 use Rattle.bd_table.specs.Tables.{AreFreeSlots}
+use Rattle.bd_super.specs.Published.{CanFollow}
 use Rattle.bd_super.specs.declared.superblock.Super.{Super}
 use Rattle.bd_log.specs.Logs.{LogState}
 use Rattle.bd_pager.specs.Moving.{Spills}
+use Rattle.bd_pager.specs.Readers.{map_fault}
+use Rattle.bd_pager.specs.WritingOut.{write_faults_after, IsWrittenOut}
 use Rattle.bd_pager.specs.Pagers.{Paged}
 use Rattle.bd_image.specs.Standing.{IsAsBefore, IsOldOrNew}
+use Rattle.bd_checkpoint.specs.Following.{super_after, IsNext}
 use Rattle.bd_checkpoint.specs.Kept.{Saved, slots_held, IsOpenOn, AllAsBefore}
 use Rattle.bd_checkpoint.specs.Recovering.{saved_of}
 use Rattle.bd_checkpoint.specs.Saving.{GoesOn, IsStoppedOrGoesOn, IsCheckpointCause}
 use Rattle.bd_checkpoint.specs.Spare.{WritesSpare}
-use Rattle.bd_checkpoint.specs.StandIn.{IsWriteCause}
 use Rattle.bd_checkpoint.proofs.Handed.{IsSince, open_after, all_after, before_twice, from_before}
+use Rattle.bd_checkpoint.proofs.Published.{same_slots, can_follow, is_next}
 use Rattle.bd_checkpoint.proofs.Spare.{open_on, time_on, kept_on}
 use Rattle.bd_checkpoint.proofs.Starting.{PartsAreOne}
 
@@ -33,11 +38,11 @@ goes_on_still g d live saved log given = record { open = given; kept = λ c is. 
 
 -- ---- causes
 
-pub write_cause : {D : Type 0} (g : Ghosts D) (old new : D) (live : Super) (fault : MapFault) → IsWriteCause g old new fault → IsCheckpointCause g old new live fault
-write_cause g old new live DeviceFault h = h.0
-write_cause g old new live (Damaged block) h = h
-write_cause g old new live (Worn counter) h = absurd h
-write_cause g old new live NoMemory h = h
+pub written_cause : {D : Type 0} (g : Ghosts D) (old new : D) (live : Super) (fault : ImageFault) → IsImageCause g old new (λ b. ⊥) fault → (fault ≡ image.NoMemory → new ≡ old)
+    → IsCheckpointCause g old new live (map_fault fault)
+written_cause g old new live image.DeviceFault h same = h
+written_cause g old new live (image.Damaged block) h same = h.0
+written_cause g old new live image.NoMemory h same = same refl
 
 pub failed_after : {D : Type 0} (g : Ghosts D) (old mid new : D) → g.fault_count mid ≡ g.fault_count old → LastFailed g mid new → LastFailed g old new
 failed_after g old mid new kept failed = record { one = failed.one ∙ ap next_count kept; last = failed.last }
@@ -50,20 +55,20 @@ module _ {D : Type 0} (g : Ghosts D) (one : PartsAreOne) (old mid : Paged D) (si
   writes = record { count = spills.moves.stays.count; elsewhere = spills.moves.elsewhere; time = spills.moves.time }
 
   pub open_mid : IsOpenOn g mid.dev live (saved_of old) log
-  open_mid = open_on g one old.dev mid.dev since_mid live (saved_of old) log old.spare given free writes
+  open_mid = open_on g old.dev mid.dev since_mid old.spare writes one live (saved_of old) log given free
 
   kept_mid : AllAsBefore (left_now g old.dev) (left_now g mid.dev)
-  kept_mid = kept_on g one old.dev mid.dev since_mid live (saved_of old) log old.spare given free writes
+  kept_mid = kept_on g old.dev mid.dev since_mid old.spare writes one live (saved_of old) log given free
 
   pub time_mid : (tree : Tree) (count : ℕ) → Goes g old.dev mid.dev (IsOldOrNew (left_now g old.dev) tree count)
   time_mid tree count =
-      within (IsAsBefore (left_now g old.dev)) (IsOldOrNew (left_now g old.dev) tree count) (time_on g one old.dev mid.dev since_mid live (saved_of old) log old.spare given free writes) (λ c is. inl is)
+      within (IsAsBefore (left_now g old.dev)) (IsOldOrNew (left_now g old.dev) tree count) (time_on g old.dev mid.dev since_mid old.spare writes one live (saved_of old) log given free) (λ c is. inl is)
 
-  pub stopped_mid : (fault : MapFault) → IsWriteCause g old.dev mid.dev fault → IsStoppedOrGoesOn g old.dev mid.dev live (saved_of old) log
-  stopped_mid DeviceFault h = inl h.1
-  stopped_mid (Damaged block) h = absurd h
-  stopped_mid (Worn counter) h = absurd h
-  stopped_mid NoMemory h = inr (record { open = open_mid; kept = kept_mid; write_faults = ap g.write_fault_count h })
+  pub stopped_mid : (fault : ImageFault) → IsImageCause g old.dev mid.dev (λ b. ⊥) fault → (fault ≡ image.NoMemory → mid.dev ≡ old.dev)
+      → g.write_fault_count mid.dev ≡ write_faults_after {T = List ℕ} (g.write_fault_count old.dev) (Err fault) → IsStoppedOrGoesOn g old.dev mid.dev live (saved_of old) log
+  stopped_mid image.DeviceFault h same count = inl count
+  stopped_mid (image.Damaged block) h same count = absurd h.0
+  stopped_mid image.NoMemory h same count = inr (record { open = open_mid; kept = kept_mid; write_faults = count })
 
   -- ---- the superblock is published
 
@@ -81,3 +86,25 @@ module _ {D : Type 0} (g : Ghosts D) (one : PartsAreOne) (old mid : Paged D) (si
       kept = before_twice (left_now g old.dev) (left_now g mid.dev) (left_now g last) kept_mid (all_after g mid.dev last since_last reads);
       write_faults = reads.write_faults ∙ kept;
     })
+
+  -- ---- the superblock after the live one
+
+  long : length mid.spare ≡ live.slots
+  long = ap (λ (x : Paged D). length x.spare) spills.rest ∙ free.count
+
+  module _ (at : List ℕ) (written : IsWrittenOut (g.contents mid.dev) at mid) where
+    pub place_mid : IsTablePlace live.slots at
+    place_mid = subst (λ (n : ℕ). IsTablePlace n at) long written.place
+
+    module _ (next : Super) (count : ℕ) (next_is : next ≡ super_after live count at) where
+      pub slots_mid : next.slots ≡ length mid.spare
+      slots_mid = ap (λ (s : Super). s.slots) next_is ∙ sym long
+
+      pub next_mid : IsNext live next
+      next_mid = is_next live next count at next_is
+
+      pub follows_mid : IfSome (g.contents mid.dev) (CanFollow next)
+      follows_mid = can_follow (g.contents mid.dev) live next next_mid open_mid.live_is
+
+      pub size_mid : g.block_count mid.dev ≡ image_blocks next.slots
+      size_mid = open_mid.size ∙ ap image_blocks (sym (same_slots live next next_mid))

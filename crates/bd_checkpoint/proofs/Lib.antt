@@ -13,5 +13,7 @@ pub mod Causes
 pub mod Cleared
 pub mod Slots
 pub mod WrittenOut
-pub mod Saved
+pub mod Marked
 pub mod Checkpointed
+pub mod FreshTree
+pub mod First

@@ -1,5 +1,5 @@
 -- What is known while the next superblock is published and after it.
-use Rattle.std.proofs.Common.{◌≡◌, ℕ, ◌+◌, ◌≤◌, inl, inr, [], Option, None, Some, IfSome, refl, sym, ap, subst, ◌∙◌, arith}
+use Rattle.std.proofs.Common.{◌≡◌, ℕ, ◌+◌, ◌≤◌, inl, inr, List, [], Option, None, Some, IfSome, refl, sym, ap, subst, ◌∙◌, arith}
 use Rattle.std.specs.Prelude.{IsSomeAnd}
 use Rattle.bd_model.specs.Tree.{Tree}
 use Rattle.bd_slots.specs.Layout.{image_blocks}
@@ -22,7 +22,7 @@ use Rattle.bd_image.specs.Used.{used_slots, SameSlots}
 use Rattle.bd_image.proofs.Checkpoints.{not_slot, staged, published}
 use Rattle.bd_image.proofs.Frame.{table_same}
 use Rattle.bd_checkpoint.specs.Kept.{Saved, StartsAs, IsOpen, AllStandFor}
-use Rattle.bd_checkpoint.specs.Following.{IsNext, HasTableOf, AreWritten, saved_by}
+use Rattle.bd_checkpoint.specs.Following.{super_after, IsNext, HasTableOf, AreWritten, saved_by}
 
 -- ---- the next superblock
 
@@ -116,3 +116,8 @@ open_new known now left count total next t fits size same table is only = record
   at = refl;
   log_is = record { first = refl; epoch = refl };
 }
+
+-- ---- the superblock after the live one
+
+pub is_next : (live next : Super) (count : ℕ) (at : List ℕ) → next ≡ super_after live count at → IsNext live next
+is_next live next count at same = same ∙ ap (λ (s : Super). super_after live s.count s.table) (sym same)

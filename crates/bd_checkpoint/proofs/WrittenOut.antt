@@ -18,11 +18,11 @@ use Rattle.bd_pager.specs.declared.written.Written.{Written}
 use Rattle.bd_pager.specs.Slots.{slot_bytes}
 use Rattle.bd_pager.specs.Places.{Spots, node_at, nodes_at}
 use Rattle.bd_pager.specs.Pagers.{Paged, spots_of, nodes_of, table_at, touched_at, table_of, IsRightPlace, IsKnownOver, is_known, IsInSlot, IsEntryOf, IsReady}
+use Rattle.bd_pager.specs.WritingOut.{IsWrittenOut}
 use Rattle.bd_pager.proofs.OpenedLemmas.{search_id}
 use Rattle.bd_image.specs.Stored.{entry_of}
 use Rattle.bd_checkpoint.specs.Following.{HasTableOf, AreWritten}
 use Rattle.bd_checkpoint.specs.Kept.{AreOfTree}
-use Rattle.bd_checkpoint.specs.Saving.{IsWrittenOut}
 use Rattle.bd_checkpoint.proofs.Entries.{entry_found, no_entry}
 use Rattle.bd_checkpoint.proofs.Slotted.{IsSpotOf, HasSpot, nodes_held, of_tree}
 
@@ -78,14 +78,14 @@ written_over encoded (Some image) spare spots root size next touched w at s tree
       have = of_tree image w.table spots ready.table.entries.each has (nodes_at (Some image) spots) root size next touched tree (sym ready.root_is) (sym ready.next_is) of;
     }
 
-pub are_written : {D : Type 0} (g : Ghosts D) → AreEncoded → (p : Paged D) (at : List ℕ) (s : Super) (tree : Tree) (w : IsWrittenOut g p at) → s.slots ≡ length p.spare → s.table ≡ at
+pub are_written : {D : Type 0} (g : Ghosts D) → AreEncoded → (p : Paged D) (at : List ℕ) (s : Super) (tree : Tree) (w : IsWrittenOut (g.contents p.dev) at p) → s.slots ≡ length p.spare → s.table ≡ at
     → is_known g p → AreOfTree (nodes_of g p) (table_of p) tree → AreWritten (g.contents p.dev) s w.written.table (nodes_of g p) tree
 are_written g encoded p at s tree w slots table known of =
-    written_over encoded (g.contents p.dev) p.spare (spots_of p) p.root p.size p.next (touched_at p.saved.entries p.spare (spots_of p)) w.written at s tree w.ready w.table_held slots table known of
+    written_over encoded (g.contents p.dev) p.spare (spots_of p) p.root p.size p.next (touched_at p.saved.entries p.spare (spots_of p)) w.written at s tree w.ready w.held slots table known of
 
 -- the table stands where a superblock with these slots says
-pub table_written : {D : Type 0} (g : Ghosts D) (p : Paged D) (at : List ℕ) (s : Super) (w : IsWrittenOut g p at) → s.slots ≡ length p.spare → s.table ≡ at
+pub table_written : {D : Type 0} (g : Ghosts D) (p : Paged D) (at : List ℕ) (s : Super) (w : IsWrittenOut (g.contents p.dev) at p) → s.slots ≡ length p.spare → s.table ≡ at
     → IfSome (g.contents p.dev) (HasTableOf s w.written.table)
 table_written g p at s w slots table =
     subst (λ (l : List ℕ). IfSome (g.contents p.dev) (λ image. HoldsTable image s.slots l w.written.table)) (sym table)
-    (subst (λ (k : ℕ). IfSome (g.contents p.dev) (λ image. HoldsTable image k at w.written.table)) (sym slots) w.table_held)
+    (subst (λ (k : ℕ). IfSome (g.contents p.dev) (λ image. HoldsTable image k at w.written.table)) (sym slots) w.held)

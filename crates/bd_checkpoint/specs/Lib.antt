@@ -6,4 +6,4 @@ pub mod Resuming
 pub mod Recovering
 pub mod Surviving
 pub mod Saving
-pub mod StandIn
+pub mod Formatting

@@ -1,31 +1,18 @@
 -- What a checkpoint leaves of a pager, and why none is made.
-use Rattle.std.specs.Prelude.{◌≡◌, ◌+◌, ◌^◌, ◌≤◌, ◌⊎◌, ⊤, ℕ, false, List, length, Option, None, Some, IfSome}
+use Rattle.std.specs.Prelude.{◌≡◌, ◌+◌, ◌^◌, ◌≤◌, ◌⊎◌, false, length, None}
 use Rattle.bd_io.specs.Cause.{next_count}
 use Rattle.bd_device.specs.Device.{left_now, LastFailed}
 use Rattle.bd_device.specs.declared.device.Device.{Ghosts}
-use Rattle.bd_message.specs.declared.fault.Counter.{Counter}
 use Rattle.bd_message.specs.declared.fault.Counter.TheVariants.{Epoch}
 use Rattle.bd_message.specs.declared.fault.MapFault.{MapFault}
 use Rattle.bd_message.specs.declared.fault.MapFault.TheVariants.{DeviceFault, Damaged, Worn, NoMemory}
 use Rattle.bd_node.specs.Steps.{with_touched}
-use Rattle.bd_table.specs.Image.{HoldsTable}
 use Rattle.bd_table.specs.Tables.{AreFreeSlots}
 use Rattle.bd_super.specs.declared.superblock.Super.{Super}
 use Rattle.bd_log.specs.Logs.{LogState}
-use Rattle.bd_pager.specs.Pagers.{Paged, spots_of, nodes_of, table_of, is_known, IsReady}
-use Rattle.bd_pager.specs.declared.written.Written.{Written}
+use Rattle.bd_pager.specs.Pagers.{Paged, nodes_of, table_of, is_known}
 use Rattle.bd_checkpoint.specs.Kept.{Saved, slots_held, IsOpenOn, AllAsBefore}
 use Rattle.bd_checkpoint.specs.Recovering.{saved_of}
-
--- ---- nodes that are written
-
--- the pager has written all its nodes and, in these slots, their table
-pub record IsWrittenOut {D : Type 0} (g : Ghosts D) (p : Paged D) (at : List ℕ) : Type 0 where
-  pub written : Written
-  pub there : p.written ≡ Some written
-  pub at_is : written.at ≡ at
-  pub ready : IsReady p.spare (spots_of p) p.root p.next written
-  pub table_held : IfSome (g.contents p.dev) (λ image. HoldsTable image (length p.spare) at written.table)
 
 -- ---- what is left
 

@@ -10,6 +10,7 @@ ghost use Rattle.bd_super.specs.Superblocks.{log_block};
 ghost use Rattle.bd_log.specs.Logs.{fresh_log};
 ghost use Rattle.bd_pager.specs.Counting.{changed_of, free_of};
 ghost use Rattle.bd_pager.specs.Pagers.{nodes_of, table_of, is_known};
+ghost use Rattle.bd_pager.specs.Readers.{map_fault};
 ghost use Rattle.bd_image.specs.Standing.{IsOldOrNew};
 ghost use Rattle.bd_checkpoint.specs.Following.{super_after};
 ghost use Rattle.bd_checkpoint.specs.Kept.{slots_held, IsOpenOn, AllStandFor, AreOfTree};
@@ -18,9 +19,9 @@ ghost use Rattle.bd_checkpoint.specs.Saving.{IsCheckpointCause, IsSaved, IsStopp
 
 use crate::following::next_super;
 use crate::lending::publish_by;
-use crate::standin::write_out;
-use bd_device::Device;
+use bd_device::{Device, ImageFault};
 use bd_format::laws::images_are_decoded;
+use bd_io::Failed;
 use bd_log::Log;
 use bd_log::laws::batches_are_one;
 use bd_message::{Counter, MapFault};
@@ -89,17 +90,28 @@ pub fn checkpoint<D: Device>(
     if live.epoch == u64::MAX {
         return Err(MapFault::Worn(Counter::Epoch));
     }
-    let table = match write_out(pager) {
+    let table = match pager.write_out() {
         Ok(table) => table,
-        Err(fault) => return Err(fault),
+        Err(fault) => return Err(map_fault(fault)),
     };
     let next = next_super(live, count, table);
     match publish_by(pager, &next) {
         Ok(()) => {}
-        Err(_) => return Err(MapFault::DeviceFault),
+        Err(Failed) => return Err(MapFault::DeviceFault),
     }
     pager.mark_saved();
     log.turn(next.half.log_block(), next.epoch);
     *live = next;
     Ok(())
+}
+
+// The fault of a checkpoint whose nodes weren't written.
+fn map_fault(fault: ImageFault) -> MapFault
+    ensures { result ≡ map_fault fault }
+{
+    match fault {
+        ImageFault::DeviceFault => MapFault::DeviceFault,
+        ImageFault::Damaged { block } => MapFault::Damaged { block },
+        ImageFault::NoMemory => MapFault::NoMemory,
+    }
 }

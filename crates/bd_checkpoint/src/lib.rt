@@ -16,7 +16,6 @@ mod lending;
 mod publishing;
 mod recovering;
 mod resuming;
-mod standin;
 mod syncing;
 
 pub use checkpointing::checkpoint;

@@ -9,22 +9,25 @@ use Rattle.bd_node.specs.Meaning.{Nodes}
 use Rattle.bd_node.specs.Tables.{Table}
 use Rattle.bd_node.specs.Steps.{with_touched}
 use Rattle.bd_table.specs.Tables.{AreFreeSlots, slots_of}
+use Rattle.bd_table.specs.declared.table.Table.{Table as StoredTable}
 use Rattle.bd_table.specs.declared.table.TableEntry.{TableEntry}
 use Rattle.bd_super.specs.declared.superblock.Super.{Super}
 use Rattle.bd_log.specs.Logs.{LogState}
 use Rattle.bd_pager.specs.declared.place.Spot.{Spot}
 use Rattle.bd_pager.specs.declared.written.Written.{Written}
 use Rattle.bd_pager.specs.Moving.{Spills}
+use Rattle.bd_pager.specs.WritingOut.{IsWrittenOut}
 use Rattle.bd_pager.specs.Places.{Spots}
 use Rattle.bd_pager.specs.Pagers.{Paged, spots_of, nodes_of, table_at, touched_at, table_of, is_saved, is_changed, is_known, IsEntryOf, IsReady, saved_as}
 use Rattle.bd_pager.proofs.CountingLemmas.{held_unchanged}
 use Rattle.bd_pager.proofs.FlagLemmas.{taken_held, entry_slot}
 use Rattle.bd_pager.proofs.SpilledLemmas.{spilled_table}
-use Rattle.bd_checkpoint.specs.Following.{saved_by}
+use Rattle.bd_checkpoint.specs.Following.{HasTableOf, AreWritten, saved_by}
 use Rattle.bd_checkpoint.specs.Kept.{Saved, slots_held, IsOpenOn, AreOfTree}
 use Rattle.bd_checkpoint.specs.Recovering.{saved_of}
-use Rattle.bd_checkpoint.specs.Saving.{IsWrittenOut, KeepsNodes, StaysUnsaved, IsSaved}
+use Rattle.bd_checkpoint.specs.Saving.{KeepsNodes, StaysUnsaved, IsSaved}
 use Rattle.bd_checkpoint.specs.Surviving.{SurvivesOn}
+use Rattle.bd_checkpoint.proofs.WrittenOut.{AreEncoded, are_written, table_written}
 
 -- ---- nothing is changed since what was written
 
@@ -76,7 +79,7 @@ module _ {D : Type 0} (g : Ghosts D) (old mid last : Paged D) (spills : Spills g
     rest = rest;
   }
 
-  module _ (at : List ℕ) (w : IsWrittenOut g mid at) (new : Paged D) (marked : new ≡ saved_as w.written last) where
+  module _ (at : List ℕ) (w : IsWrittenOut (g.contents mid.dev) at mid) (new : Paged D) (marked : new ≡ saved_as w.written last) where
     abbrev with_saved : Paged D → Paged D
     with_saved x = record old { dev = x.dev; spots = x.spots; saved = x.saved; at = x.at; spare = x.spare; cache = x.cache; written = None }
 
@@ -95,8 +98,8 @@ module _ {D : Type 0} (g : Ghosts D) (old mid last : Paged D) (spills : Spills g
         subst (λ (x : Paged D). AreFreeSlots (length old.spare) (slots_held (saved_of x)) x.spare) (sym marked)
         (subst (λ (l : List Bool). AreFreeSlots (length l) (w.written.at ++ slots_of w.written.table.entries) w.written.spare) same_spare w.ready.spare_is)
 
-    pub saved : IsSaved g old new
-    saved = record {
+    pub all_saved : IsSaved g old new
+    all_saved = record {
       keeps = record {
         known = λ was. subst (λ (x : Paged D). is_known g x) (sym marked) (keeps.known was);
         nodes = λ was. ap (λ (x : Paged D). nodes_of g x) marked ∙ keeps.nodes was;
@@ -106,21 +109,35 @@ module _ {D : Type 0} (g : Ghosts D) (old mid last : Paged D) (spills : Spills g
       rest = marked ∙ ap (saved_as w.written) rest ∙ sym (ap with_saved marked);
     }
 
--- the nodes that are written have the same tree
-pub of_spilled : {D : Type 0} (g : Ghosts D) (old mid : Paged D) (tree : Tree) → Spills g old mid → is_known g old → AreOfTree (nodes_of g old) (table_of old) tree → AreOfTree (nodes_of g mid) (table_of mid) tree
-of_spilled g old mid tree spills known of =
-    let nodes : nodes_of g mid ≡ nodes_of g old = (λ i id. spills.moves.nodes known id i) in
-    subst (λ (t : Table). AreOfTree (nodes_of g mid) t tree) (sym (spilled_table g old mid spills))
-    (subst (λ (m : Nodes). AreOfTree m (table_of old) tree) (sym nodes) of)
+-- ---- a superblock with the table that was written
 
--- what was written is the last checkpoint
-pub marked_as : {D : Type 0} (g : Ghosts D) (mid last new : Paged D) (at : List ℕ) (w : IsWrittenOut g mid at) → SurvivesOn g mid last → IfSome last.written (λ (v : Written). new ≡ saved_as v last)
-    → new ≡ saved_as w.written last
-marked_as {D} g mid last new at w survives marked =
-    subst (λ (o : Option Written). IfSome o (λ (v : Written). new ≡ saved_as v last)) (ap (λ (x : Paged D). x.written) survives.rest ∙ w.there) marked
+module _ {D : Type 0} (g : Ghosts D) (old mid : Paged D) (spills : Spills g old mid) (at : List ℕ) (w : IsWrittenOut (g.contents mid.dev) at mid) (s : Super) (slots : s.slots ≡ length mid.spare) (table : s.table ≡ at) where
+  -- the nodes that are written have the same tree
+  of_tree : (tree : Tree) → is_known g old → AreOfTree (nodes_of g old) (table_of old) tree → AreOfTree (nodes_of g mid) (table_of mid) tree
+  of_tree tree known of =
+      let nodes : nodes_of g mid ≡ nodes_of g old = (λ i id. spills.moves.nodes known id i) in
+      subst (λ (t : Table). AreOfTree (nodes_of g mid) t tree) (sym (spilled_table g old mid spills))
+      (subst (λ (m : Nodes). AreOfTree m (table_of old) tree) (sym nodes) of)
 
-pub open_marked : {D : Type 0} (g : Ghosts D) (last new : Paged D) (w : Written) (s : Super) (log : LogState) → new ≡ saved_as w last → s.table ≡ w.at
-    → IsOpenOn g last.dev s (saved_by s w.table) log → IsOpenOn g new.dev s (saved_of new) log
-open_marked {D} g last new w s log marked table open =
-    subst (λ (x : Paged D). IsOpenOn g x.dev s (saved_of x) log) (sym marked)
-    (subst (λ (l : List ℕ). IsOpenOn g last.dev s (let saved : Saved = record { at = l; table = w.table } in saved) log) table open)
+  pub written_for : AreEncoded → (tree : Tree) → is_known g old → AreOfTree (nodes_of g old) (table_of old) tree → AreWritten (g.contents mid.dev) s w.written.table (nodes_of g mid) tree
+  written_for encoded tree known of = are_written g encoded mid at s tree w slots table (spills.moves.known known) (of_tree tree known of)
+
+  module _ (last new : Paged D) (survives : SurvivesOn g mid last) (marked : IfSome last.written (λ (v : Written). new ≡ saved_as v last)) where
+    -- what was written is the last checkpoint
+    marked_is : new ≡ saved_as w.written last
+    marked_is = subst (λ (o : Option Written). IfSome o (λ (v : Written). new ≡ saved_as v last)) (ap (λ (x : Paged D). x.written) survives.rest ∙ w.written_is) marked
+
+    pub at_new : new.at ≡ at
+    at_new = ap (λ (x : Paged D). x.at) marked_is ∙ w.at_is
+
+    pub device_new : new.dev ≡ last.dev
+    device_new = ap (λ (x : Paged D). x.dev) marked_is
+
+    pub saved_new : IsSaved g old new
+    saved_new = all_saved g old mid last spills survives at w new marked_is
+
+    pub open_new : (log : LogState) → ((t : StoredTable) → IfSome (g.contents mid.dev) (HasTableOf s t) → IsOpenOn g last.dev s (saved_by s t) log) → IsOpenOn g new.dev s (saved_of new) log
+    open_new log published =
+        let open : IsOpenOn g last.dev s (saved_by s w.written.table) log = published w.written.table (table_written g mid at s w slots table) in
+        subst (λ (x : Paged D). IsOpenOn g x.dev s (saved_of x) log) (sym marked_is)
+        (subst (λ (l : List ℕ). IsOpenOn g last.dev s (let saved : Saved = record { at = l; table = w.written.table } in saved) log) (table ∙ sym w.at_is) open)
