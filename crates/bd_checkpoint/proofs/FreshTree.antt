@@ -8,16 +8,20 @@ use Rattle.bd_model.proofs.TreeStays.{root_only_is_tree}
 use Rattle.bd_represent.specs.Represents.{Represents}
 use Rattle.bd_slots.specs.Layout.{IsSlotCount, table_length}
 use Rattle.bd_files.specs.Roots.{root_messages}
+use Rattle.bd_message.specs.declared.message.Message.{Message}
+use Rattle.bd_node.specs.declared.node.Node.{Node}
 use Rattle.bd_node.specs.Meaning.{Nodes, at}
 use Rattle.bd_node.specs.New.{new_root, new_nodes, new_table}
 use Rattle.bd_node.specs.Tables.{Table, IsKept, IsTable, IsSound, root_at, sum_below, kept_count}
 use Rattle.bd_node.specs.Steps.{IsCommitted, HasGrown, append_step}
+use Rattle.bd_node.specs.Stores.{FitsRoot}
+use Rattle.bd_node.proofs.LawLemmas.{new_sound}
 use Rattle.bd_table.specs.Tables.{slots_of}
 use Rattle.bd_table.specs.declared.table.TableEntry.{TableEntry}
 use Rattle.bd_pager.specs.Counting.{is_new_or_touched, changed_of, free_of}
 use Rattle.bd_pager.specs.Pagers.{Paged, spots_of, table_of}
-use Rattle.bd_image.specs.Fresh.{fresh_root, fresh_nodes}
-use Rattle.bd_image.proofs.Fresh.{other_node, represents}
+use Rattle.bd_image.specs.Fresh.{fresh_nodes}
+use Rattle.bd_image.proofs.Fresh.{other_node, root_fits, represents}
 use Rattle.bd_checkpoint.specs.Formatting.{IsNew}
 use Rattle.bd_checkpoint.specs.Kept.{AreOfTree}
 
@@ -42,6 +46,18 @@ nodes_are_fresh new u committed grown_is =
       | inl same ↦ subst (λ (i : ℕ). new i ≡ fresh_nodes i) (sym same) (committed.stays 1 kept)
       | inr other ↦ committed.sound.others id (root_alone u committed.sound.table root next id other) ∙ sym (other_node id other)
     ]
+
+-- the commit of the record of `/` in a new store
+pub committed_fresh : (nodes : Nodes) (t : Table) (list : List Message) (new : Nodes) (u : Table) → nodes ≡ new_nodes → t ≡ new_table → list ≡ root_messages
+    → (IsSound nodes t → (root : Node) → nodes t.root ≡ Some root → IsCommitted nodes t (append_step t root list) new u) → IsCommitted new_nodes new_table (append_step new_table new_root root_messages) new u
+committed_fresh nodes t list new u same_nodes same_table is committed =
+    subst (λ (l : List Message). IsSound new_nodes new_table → (root : Node) → new_nodes new_table.root ≡ Some root → IsCommitted new_nodes new_table (append_step new_table root l) new u) is
+    (subst (λ (s : Table). IsSound new_nodes s → (root : Node) → new_nodes s.root ≡ Some root → IsCommitted new_nodes s (append_step s root list) new u) same_table
+    (subst (λ (m : Nodes). IsSound m t → (root : Node) → m t.root ≡ Some root → IsCommitted m t (append_step t root list) new u) same_nodes committed))
+    new_sound new_root refl
+
+pub fits_fresh : (t : Table) (list : List Message) → t ≡ new_table → list ≡ root_messages → FitsRoot t list
+fits_fresh t list same is = subst (λ (u : Table). FitsRoot u list) (sym same) (subst (λ (l : List Message). FitsRoot new_table l) (sym is) root_fits)
 
 pub fresh_of_tree : (new : Nodes) (u : Table) → new ≡ fresh_nodes → u.root ≡ 1 → IsSound new u → AreOfTree new u root_only
 fresh_of_tree new u same root sound = record {

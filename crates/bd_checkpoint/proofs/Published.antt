@@ -11,7 +11,7 @@ use Rattle.bd_node.specs.Meaning.{Nodes}
 use Rattle.bd_table.specs.declared.table.Table.{Table as StoredTable}
 use Rattle.bd_super.specs.Superblocks.{IsSuper, log_block, other, version_number}
 use Rattle.bd_super.specs.Live.{IsLive}
-use Rattle.bd_super.specs.Published.{IsOfHalf, SameLive, CanFollow, IsPublished, IsStagedOrPublished, SameSuperblocks}
+use Rattle.bd_super.specs.Published.{IsOfHalf, SameLive, CanFollow, IsPublished, IsStagedOrPublished, AreSettled, SameSuperblocks}
 use Rattle.bd_super.specs.declared.superblock.Super.{Super}
 use Rattle.bd_super.proofs.LiveLemmas.{one_live, other_twice}
 use Rattle.bd_log.specs.Logs.{LogState, fresh_log}
@@ -100,6 +100,10 @@ starts_new (Some old) next t new table is =
       batches_are = record { follow = refl; closed = λ on. is.log (subst (IsCommitted new) first on) };
     }
 
+-- a crash leaves what reads give
+pub settled_only : (known : Option Image) (left : Image → Type 0) → IsOnly known left → AreSettled known left
+settled_only known left only = λ c was. subst (λ (o : Option Image). IsSomeAnd o (λ image. SameSuperblocks image c)) (sym (only c was)) (record { size = refl; blocks = λ b low. refl })
+
 live_now : (known now : Option Image) (next : Super) → IfSome now (IsPublished next known) → IfSome now (λ image. IsLive image next)
 live_now known None next is = tt
 live_now known (Some image) next is = is.live
@@ -111,7 +115,7 @@ open_new known now left count total next t fits size same table is only = record
   fits = fits;
   size = same ∙ size;
   live_is = live_now known now next is;
-  settled = λ c was. subst (λ (o : Option Image). IsSomeAnd o (λ image. SameSuperblocks image c)) (sym (only c was)) (record { size = refl; blocks = λ b low. refl });
+  settled = settled_only now left only;
   each = λ c was. starts_new known next t c table (of_left (IsPublished next known) now c is (only c was));
   at = refl;
   log_is = record { first = refl; epoch = refl };

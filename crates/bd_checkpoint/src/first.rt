@@ -1,6 +1,6 @@
 //! How a device gets its first superblock.
 
-ghost use Rattle.std.specs.Prelude.{◌≡◌, ◌≤◌, IfSome, OnOk};
+ghost use Rattle.std.specs.Prelude.{◌≡◌, ◌≤◌, IsSome, IfSome, OnOk};
 ghost use Rattle.bd_limits.specs.Places.{first_log_block};
 ghost use Rattle.bd_slots.specs.Layout.{IsSlotCount, IsTablePlace};
 ghost use Rattle.bd_device.specs.Calls.{faults_after};
@@ -39,6 +39,7 @@ pub fn first_super(slots: u32, table: Items<u32>) -> Super
 pub fn clear_supers<D: Device>(dev: &mut D) -> Result<(), Failed>
     requires { first_log_block ≤ D.block_count dev.old }
     ensures cleared { OnOk result (IfSome (D.contents dev.new) NoneIsCommitted) }
+    ensures told { OnOk result (IsSome (D.contents dev.old) → IsSome (D.contents dev.new)) }
     ensures only { OnOk result (IsOnly (D.contents dev.new) (left_now D.Device dev.new)) }
     ensures stays { Stays D.Device dev.old dev.new }
     ensures cause { FailsLast D.Device dev.old dev.new result }
