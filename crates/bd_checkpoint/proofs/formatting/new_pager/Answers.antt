@@ -44,5 +44,5 @@ returns-clause-new g c =
       saved = ap (λ (t : Checkpoint). t.entries) kept.saved ∙ f.saved;
       at = kept.at ∙ f.at;
       spare = kept.spare ∙ f.spare;
-      lent = kept.lent f.lent;
+      lent = c.append.ensures.lent ∙ f.lent;
     }
