@@ -15,3 +15,4 @@ pub mod Readers
 pub mod Slots
 pub mod Stepping
 pub mod Writes
+pub mod WritingOut

@@ -25,6 +25,7 @@ ghost use Rattle.bd_pager.specs.Places.{spots_in, AreCached};
 
 mod steps;
 mod store;
+mod writing_out;
 
 use crate::changing::append_counted;
 use crate::naming::names_lower;
@@ -229,6 +230,7 @@ impl<D: Device> Pager<D> {
             (IsReadOf D.Device) (λ _. []) self.old self.new) }
         ensures visits { self.new.visits ≡ self.old.visits }
         ensures device { self.new.dev ≡ self.old.dev }
+        ensures lent { self.new.is_lent ≡ self.old.is_lent }
         ensures cause { HasMapCause (D.fault_count self.old.dev) (D.fault_count self.new.dev)
             (is_bad D.Device self.new) NeverWorn result }
     {
