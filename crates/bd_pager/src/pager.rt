@@ -268,7 +268,8 @@ impl<D: Device> Pager<D> {
 
     /// How many nodes it keeps.
     pub fn kept(&self) -> u64
-        ensures { result ≡ kept_count (table_of self.now) }
+        ensures value { result ≡ kept_count (table_of self.now) }
+        ensures small { result < 2 ^ 63 }
     {
         self.reader.spots.len() as u64
     }
@@ -371,6 +372,11 @@ impl<D: Device> Pager<D> {
             None => {}
         }
     }
+
+    /// Whatever was done with it before, its nodes are where their spots say. It does nothing.
+    pub fn nodes_are_placed(&self)
+        ensures { IsPaged (D.contents self.now.dev) self.now }
+    {}
 
     /// The device, which is lent. Whatever is done with it, the pager then reads again what it read
     /// before, unless it is told by `take_back` that this is what the slots have.
