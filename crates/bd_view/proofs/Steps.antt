@@ -1,11 +1,44 @@
 -- Views from which a command makes no flush step and no checkpoint.
-use Rattle.std.proofs.Common.{◌≡◌, ℕ, ◌+◌, ◌<◌, ◌≤◌, refl, sym, ap, subst, ◌∙◌, arith, inl, inr}
+use Rattle.std.proofs.Common.{◌≡◌, ℕ, ◌+◌, ◌<◌, ◌≤◌, ◌⊎◌, refl, sym, ap, subst, ◌∙◌, arith, lit≤, inl, inr}
+use Rattle.std.specs.Prelude.{IsTrue}
+use Rattle.std.proofs.lemmas.Bool.{cases_lt}
+use Rattle.bd_command.specs.Command.{writes}
 use Rattle.bd_command.specs.declared.Command.{Command}
 use Rattle.bd_model.specs.Tree.{Tree}
 use Rattle.bd_view.specs.Trees.{waiting_limit}
 use Rattle.bd_view.specs.Views.{View, free_slots, save_slots, need_slots, log_room, log_size}
-use Rattle.bd_view.specs.Moves.{FlushesIn, SavesIn, AreSteps, IsQuietFor, IsCommandFull, IsExecuted}
+use Rattle.bd_view.specs.Moves.{OnlyNodes, saved_view, FlushesIn, SavesIn, AreSteps, IsQuietFor, IsCommandFull, IsExecuted}
 use Rattle.bd_view.specs.Moves.AreSteps.{none, flush, save}
+
+-- ---- what comes next
+
+pub goes_on : (c : Command) (v : View) → IsTrue (writes c) → (need_slots c v ≤ free_slots v) ⊎ ((new : View) × SavesIn c v new) ⊎ IsCommandFull c v v (free_slots v) (need_slots c v)
+goes_on c v writing =
+    elim (cases_lt (free_slots v) (need_slots c v)) [
+      | inr room ↦ inl room
+      | inl short ↦ elim (cases_lt (free_slots v) (save_slots v)) [
+        | inr room ↦ inr (inl (saved_view v, record { writing = writing; calls_for = inl short; saves = record { room = room; after = refl } }))
+        | inl few ↦ inr (inr (record {
+          writing = writing;
+          stepped = record { made = 0; steps = none v; few = lit≤ tt };
+          free_is = refl;
+          need_is = refl;
+          short = short;
+          unsaved = inr few;
+        }))
+      ]
+    ]
+
+pub full_stops : (c : Command) (old new : View) (free need : ℕ) → IsCommandFull c old new free need → need_slots c new ≤ free_slots new → ⊥
+full_stops c old new free need full room = omega (arith, full.free_is, full.need_is, full.short, room)
+
+pub nodes_free : (old new : View) → OnlyNodes old new → free_slots new ≡ free_slots old
+nodes_free old new h = ap (λ v. free_slots v) h.rest
+
+pub nodes_log : (old new : View) → OnlyNodes old new → log_room new ≡ log_room old
+nodes_log old new h = ap (λ v. log_room v) h.rest
+
+-- ---- where nothing does
 
 -- neither a flush step nor a checkpoint can come next
 record IsStill (c : Command) (v : View) : Type 0 where

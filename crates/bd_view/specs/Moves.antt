@@ -113,7 +113,7 @@ abbrev pub logged : Command → View → View
 logged c v = record v { waiting = v.waiting + log_size c }
 
 -- and there was room in the log for its record, which waits for a sync
-pub record IsMoved (t : Tree) (c : Command) (old new : View) : Type 0 where
+pub record IsAccepted (t : Tree) (c : Command) (old new : View) : Type 0 where
   pub last : View
   pub executed : IsExecuted t c old last
   pub log : log_size c ≤ log_room last

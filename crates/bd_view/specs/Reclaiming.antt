@@ -37,46 +37,60 @@ pushes_in (Drop node place at) = 0
 pushes_in (Redirect node place at) = 0
 pushes_in (Push above node place) = 1
 
--- after so many pushes the first change was made, for which slots were free
+-- after so many pushes this change is the first one to make
+abbrev pub IsNextChange : ℕ → Reclaim → View → Type 0
+IsNextChange pushes change v = IsFirst (allows_push pushes v) v.tree.nodes v.tree.table change
+    v.tree.table.root
+
+-- and none is left to make
+abbrev pub HasNoChange : ℕ → View → Type 0
+HasNoChange pushes v =
+    HasNone (allows_push pushes v) v.tree.nodes v.tree.table v.tree.table.root
+
+-- the change was made, for which slots were free
 pub record Reclaims (pushes : ℕ) (change : Reclaim) (old new : View) : Type 0 where
-  pub first : IsFirst (allows_push pushes old) old.tree.nodes old.tree.table change
-      old.tree.table.root
+  pub next : IsNextChange pushes change old
   pub room : HasRoomFor change old
   pub made : IsReclaimMade old.tree.nodes old.tree.table change new.tree.nodes new.tree.table
   pub reclaimed : IsReclaimed old.tree.nodes old.tree.table new.tree.nodes new.tree.table
   pub walk_is : new.tree.walk ≡ old.tree.walk
   pub rest : OnlyNodes old new
 
--- changes, so many of them pushes, and checkpoints lead from the first view to the second
+-- a checkpoint was made, since too few slots were free for the change
+pub record SavesFor (pushes : ℕ) (change : Reclaim) (old new : View) : Type 0 where
+  pub next : IsNextChange pushes change old
+  pub short : ¬ HasRoomFor change old
+  pub saves : Saves old new
+
+-- changes, so many of them pushes, and such checkpoints lead from the first view to the second
 pub data AreReclaims : ℕ → View → View → Type 0 where
   none : (v : View) → AreReclaims 0 v v
   change : (n : ℕ) (step : Reclaim) (v w x : View) → AreReclaims n v w → Reclaims n step w x
       → AreReclaims (n + pushes_in step) v x
-  save : (n : ℕ) (v w x : View) → AreReclaims n v w → Saves w x → AreReclaims n v x
+  save : (n : ℕ) (step : Reclaim) (v w x : View) → AreReclaims n v w → SavesFor n step w x
+      → AreReclaims n v x
 
--- nothing is left to change
-abbrev pub IsReclaimedWhole : ℕ → View → Type 0
-IsReclaimedWhole pushes v =
-    HasNone (allows_push pushes v) v.tree.nodes v.tree.table v.tree.table.root
-
--- changes were made until none was left, between a first checkpoint and a last one
-pub record IsReclaim (old new : View) : Type 0 where
+-- a first checkpoint was made, and then changes, so many of them pushes; a fault leaves this, or all
+-- as it was
+pub record HasReclaimed (pushes : ℕ) (old new : View) : Type 0 where
   pub first : View
   pub begins : Saves old first
+  pub changes : AreReclaims pushes first new
+
+-- reclaiming makes a first checkpoint, changes until none is left, and a last checkpoint
+pub record IsReclaim (old new : View) : Type 0 where
   pub pushes : ℕ
   pub last : View
-  pub changes : AreReclaims pushes first last
-  pub whole : IsReclaimedWhole pushes last
+  pub reclaimed : HasReclaimed pushes old last
+  pub whole : HasNoChange pushes last
   pub ends : Saves last new
 
--- why reclaiming stops for want of slots: so many are free, and more are needed, so many. Its first
--- checkpoint needs them, or after some changes an edge does, where no checkpoint helps, or, where
--- nothing is left to change, its last checkpoint
+-- so many slots are free, and reclaiming needs more, so many: for its first checkpoint, for a change
+-- of an edge, where no checkpoint helps, or for its last checkpoint
 pub data IsReclaimFull (old : View) (free need : ℕ) : View → Type 0 where
   first : IsCheckpointFull old free need → IsReclaimFull old free need old
-  edge : (pushes : ℕ) (step : Reclaim) (new : View) → AreReclaims pushes old new
-      → IsFirst (allows_push pushes new) new.tree.nodes new.tree.table step new.tree.table.root
-      → ¬ HasRoomFor step new → free ≡ free_slots new → need ≡ edge_need new → CannotSave new
-      → IsReclaimFull old free need new
-  last : (pushes : ℕ) (new : View) → AreReclaims pushes old new → IsReclaimedWhole pushes new
+  edge : (pushes : ℕ) (step : Reclaim) (new : View) → HasReclaimed pushes old new
+      → IsNextChange pushes step new → ¬ HasRoomFor step new → free ≡ free_slots new
+      → need ≡ edge_need new → CannotSave new → IsReclaimFull old free need new
+  last : (pushes : ℕ) (new : View) → HasReclaimed pushes old new → HasNoChange pushes new
       → IsCheckpointFull new free need → IsReclaimFull old free need new

@@ -1,6 +1,6 @@
 -- What is seen of a tree of nodes, and how commands change it.
 use Rattle.std.specs.Prelude.{◌≡◌, ℕ, ◌+◌, ◌*◌, ◌<◌, ◌≤◌, ◌==◌, Bool, if◌then◌else◌, List, None, Some, IsTrue}
-use Rattle.bd_limits.specs.Limits.{soft_limit, late_limit}
+use Rattle.bd_limits.specs.Limits.{soft_limit, late_limit, flush_limit}
 use Rattle.bd_command.specs.Command.{writes}
 use Rattle.bd_command.specs.declared.Command.{Command}
 use Rattle.bd_message.specs.declared.message.Message.{Message}
@@ -49,6 +49,18 @@ pub record FlushesFor (c : Command) (old new : TreeView) : Type 0 where
   pub waits : waiting_limit c < old.table.size
   pub step : IsFlushStep old.nodes old.table new.nodes new.table
   pub walk_is : new.walk ≡ old.walk
+
+-- so many flush steps of a command lead from the first view to the second
+pub data AreFlushes (c : Command) : ℕ → TreeView → TreeView → Type 0 where
+  none : (v : TreeView) → AreFlushes c 0 v v
+  more : (n : ℕ) (v w x : TreeView) → AreFlushes c n v w → FlushesFor c w x
+      → AreFlushes c (n + 1) v x
+
+-- a command made flush steps, at most 65,536
+pub record HasFlushed (c : Command) (old new : TreeView) : Type 0 where
+  pub made : ℕ
+  pub flushes : AreFlushes c made old new
+  pub few : made ≤ flush_limit
 
 -- ---- messages and grafts
 

@@ -5,7 +5,7 @@ use Rattle.bd_limits.specs.Limits.{late_limit}
 use Rattle.bd_slots.specs.Layout.{table_length}
 use Rattle.bd_command.specs.Log.{log_record}
 use Rattle.bd_command.specs.declared.Command.{Command}
-use Rattle.bd_dirs.specs.Kinds.{Kind, Reads, Sends, SendsLate, Grafts, kind_of}
+use Rattle.bd_dirs.specs.Kinds.{Kind, SendsLate, kind_of}
 use Rattle.bd_node.specs.Tables.{Table, sum_below, kept_count}
 use Rattle.bd_log.specs.Logs.{room_at}
 use Rattle.bd_view.specs.Trees.{TreeView, fresh_tree}
@@ -75,10 +75,8 @@ save_slots v = changed_count v + table_length (kept_count v.tree.table)
 -- how many more a command may need for its next step: a flush step, messages or a graft; 4 are
 -- enough for the messages of a `remove` or a `truncate`, for which nothing is flushed
 abbrev pub step_slots : Kind → Table → ℕ
-step_slots Reads t = 2 * height t + 8
-step_slots Sends t = 2 * height t + 8
 step_slots SendsLate t = if nat_le t.size late_limit then 4 else 2 * height t + 8
-step_slots (Grafts s d keep) t = 2 * height t + 8
+step_slots other t = 2 * height t + 8
 
 -- how many have to be free for that, so that a checkpoint can be written after it
 abbrev pub need_slots : Command → View → ℕ

@@ -1,9 +1,10 @@
 //! What follows from the definitions of views and moves. Each function here carries laws, and does
 //! nothing.
 
-ghost use Rattle.std.specs.Prelude.{◌≡◌, ℕ, ◌-◌, ◌<◌, ◌≤◌, ◌==◌, List, length, Some, All, AllPairs, IsTrue};
+ghost use Rattle.std.specs.Prelude.{◌≡◌, ℕ, ◌-◌, ◌<◌, ◌≤◌, ◌⊎◌, ◌==◌, List, length, Some, All, AllPairs, IsTrue};
 ghost use Rattle.std.specs.List.{list_any};
 ghost use Rattle.bd_limits.specs.Limits.{slot_minimum};
+ghost use Rattle.bd_command.specs.Command.{writes};
 ghost use Rattle.bd_command.specs.Log.{IsLogged};
 ghost use Rattle.bd_command.specs.declared.Command.{Command};
 ghost use Rattle.bd_model.specs.Tree.{Tree};
@@ -11,9 +12,9 @@ ghost use Rattle.bd_node.specs.Tables.{Table, IsKept, kept_count};
 ghost use Rattle.bd_node.specs.declared.node.Node.{Node};
 ghost use Rattle.bd_reclaim.specs.declared.covering.Cover.TheVariants.{Gone};
 ghost use Rattle.bd_reclaim.specs.Covering.{HasNoCovered};
-ghost use Rattle.bd_view.specs.Views.{View, fresh_view, changed_count, kept_ids, held_slots, free_slots, save_slots, need_slots};
-ghost use Rattle.bd_view.specs.Moves.{OnlyNodes, Saves, IsCheckpointFull, AreSteps, IsCommandFull, IsExecuted, IsQuietFor};
-ghost use Rattle.bd_view.specs.Reclaiming.{IsReclaim};
+ghost use Rattle.bd_view.specs.Views.{View, fresh_view, changed_count, kept_ids, held_slots, free_slots, save_slots, need_slots, log_room};
+ghost use Rattle.bd_view.specs.Moves.{OnlyNodes, Saves, IsCheckpointFull, SavesIn, AreSteps, IsCommandFull, IsExecuted, IsQuietFor};
+ghost use Rattle.bd_view.specs.Reclaiming.{IsReclaim, IsReclaimFull};
 
 use bd_command::laws::log_records_fit;
 
@@ -35,6 +36,22 @@ pub fn checkpoints_keep_all()
     ensures one { (old new other : View) → Saves old new → Saves old other → new ≡ other }
     ensures full { (old new : View) (free need : ℕ) → Saves old new
         → ¬ IsCheckpointFull old free need }
+{}
+
+/// Between checkpoints the free slots stay, and the room in the log.
+pub fn changes_hold_no_slots()
+    ensures free { (old new : View) → OnlyNodes old new → free_slots new ≡ free_slots old }
+    ensures log { (old new : View) → OnlyNodes old new → log_room new ≡ log_room old }
+{}
+
+/// A writing command has slots for its next step, or makes a checkpoint, or is refused with the two
+/// numbers of the view; and where it is refused it has no slots for its next step.
+pub fn commands_go_on_or_are_full()
+    ensures next { (c : Command) (v : View) → IsTrue (writes c)
+        → (need_slots c v ≤ free_slots v) ⊎ ((new : View) × SavesIn c v new)
+        ⊎ IsCommandFull c v v (free_slots v) (need_slots c v) }
+    ensures full { (c : Command) (old new : View) (free need : ℕ)
+        → IsCommandFull c old new free need → ¬ (need_slots c new ≤ free_slots new) }
 {}
 
 /// Where little waits in the root, and slots and the log have room, a command makes no flush step
@@ -70,9 +87,11 @@ pub fn new_views_are_quiet()
 }
 
 /// After reclaiming no node is changed, and no edge of the root has a pending Cut that covers all
-/// its keys.
+/// its keys. It is refused only where fewer slots are free than it needs.
 pub fn reclaiming_leaves_no_cover()
     ensures changed { (old new : View) → IsReclaim old new → changed_count new ≡ 0 }
     ensures root { (old new : View) (n : Node) → IsReclaim old new
         → new.tree.nodes new.tree.table.root ≡ Some n → HasNoCovered Gone n }
+    ensures short { (old new : View) (free need : ℕ) → IsReclaimFull old free need new
+        → (free ≡ free_slots new) × (free < need) }
 {}

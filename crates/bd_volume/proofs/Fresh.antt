@@ -12,7 +12,8 @@ use Rattle.bd_node.specs.Tables.{Table, IsKept, IsTable, root_at}
 use Rattle.bd_node.specs.Steps.{IsCommitted, append_step, grown}
 use Rattle.bd_memnodes.specs.Seen.{Seen, nodes_of, table}
 use Rattle.bd_tree.specs.Trees.{TreeState}
-use Rattle.bd_volume.specs.Views.{view_in, fresh_view}
+use Rattle.bd_view.specs.Trees.{fresh_tree}
+use Rattle.bd_volume.specs.Views.{view_in}
 use Rattle.bd_volume.proofs.Sent.{view_is}
 use Rattle.bd_node.proofs.Meanings.{at-meets}
 use Rattle.bd_node.proofs.Sound.{sound-levelled}
@@ -73,10 +74,10 @@ root_with list id = if id == 1 then Some (appended new_root list) else None
 -- a new store with the record of `/` is the fresh view
 pub fresh_made : (old new : TreeState Seen) (list : List Message) → nodes_of old.store ≡ new_nodes → table old.store ≡ new_table → old.walk ≡ record { visits = 0; height = 0 } → list ≡ root_messages
     → ((root : Node) → nodes_of old.store (table old.store).root ≡ Some root → IsCommitted (nodes_of old.store) (table old.store) (append_step (table old.store) root list) (nodes_of new.store) (table new.store))
-    → table new.store ≡ grown (table old.store) list → new.walk ≡ old.walk → view_in new ≡ fresh_view
+    → table new.store ≡ grown (table old.store) list → new.walk ≡ old.walk → view_in new ≡ fresh_tree
 unfolding root_with
 fresh_made old new list same_nodes same_table no_walk is committed grown_is walk =
     let there = new_there (nodes_of old.store) (table old.store) same_nodes same_table in
     let done = committed_new (nodes_of old.store) (table old.store) list (nodes_of new.store) (table new.store) same_nodes same_table (committed new_root there) in
     let table_is : table new.store ≡ grown new_table list = grown_is ∙ ap (λ (t : Table). grown t list) same_table in
-    view_is (view_in new) fresh_view (fresh_nodes (nodes_of new.store) (table new.store) list done table_is ∙ ap root_with is) (table_is ∙ ap (grown new_table) is) (walk ∙ no_walk)
+    view_is (view_in new) fresh_tree (fresh_nodes (nodes_of new.store) (table new.store) list done table_is ∙ ap root_with is) (table_is ∙ ap (grown new_table) is) (walk ∙ no_walk)

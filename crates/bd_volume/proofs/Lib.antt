@@ -1,6 +1,7 @@
 pub mod Carried
 pub mod Flushes
 pub mod Fresh
+pub mod Moves
 pub mod OnNodes
 pub mod Reading
 pub mod Root

@@ -8,7 +8,7 @@ use Rattle.bd_node.specs.Tables.{Table, IsSound, IsStored}
 use Rattle.bd_node.specs.Steps.{IsCommitted, append_step}
 use Rattle.bd_graft.specs.declared.grafting.Walk.{Walk}
 use Rattle.bd_graft.specs.Grafting.{IsGrown, IsGraftStep, IsWalkOf, AreOthersSame}
-use Rattle.bd_volume.specs.Sent.{IsAppended, IsGraftMade, IsWalked}
+use Rattle.bd_view.specs.Trees.{IsAppended, IsGraftMade, IsWalked}
 
 -- messages were put after those of the root, which is there
 pub is_appended : {T E : Type 0} (r : Result T E) (nodes : Nodes) (t : Table) (list : List Message) (new : Nodes) (u : Table) → IsSound nodes t

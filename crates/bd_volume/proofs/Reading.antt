@@ -9,7 +9,8 @@ use Rattle.bd_message.specs.KeyMaps.{SameAt}
 use Rattle.bd_memnodes.specs.Seen.{Seen, SameNodes}
 use Rattle.bd_dirs.specs.Plans.{HasSize}
 use Rattle.bd_tree.specs.Trees.{TreeState}
-use Rattle.bd_volume.specs.Views.{View, view_in, keys_in, HasFlushed}
+use Rattle.bd_view.specs.Trees.{TreeView, HasFlushed}
+use Rattle.bd_volume.specs.Views.{view_in, keys_in}
 use Rattle.bd_volume.specs.Over.{fault_of, IsHalted}
 use Rattle.bd_volume.proofs.Flushes.{not_flushed, keys_stay}
 use Rattle.bd_volume.proofs.Sent.{view_is}
@@ -24,9 +25,9 @@ pub read_keys : (old new : TreeState Seen) → view_in new ≡ view_in old → S
 read_keys old new is = keys_stay old old new (λ k. refl) is
 
 -- a fault leaves the view
-pub read_halts : (fault : MapFault) (count : ℕ) (c : Command) (old new : View) → new ≡ old → fault ≡ map.NoMemory → IsHalted (fault_of fault) count c old new
+pub read_halts : (fault : MapFault) (count : ℕ) (c : Command) (old new : TreeView) → new ≡ old → fault ≡ map.NoMemory → IsHalted (fault_of fault) count c old new
 read_halts fault count c old new same is =
-    no_memory_halts fault count c old new (subst (λ (v : View). HasFlushed c old v) (sym same) (not_flushed c old)) is
+    no_memory_halts fault count c old new (subst (λ (v : TreeView). HasFlushed c old v) (sym same) (not_flushed c old)) is
 
 -- a command within its limits carries as much as it may
 pub command_size : (c : Command) → IsCommand c → HasSize c

@@ -12,7 +12,8 @@ use Rattle.bd_represent.specs.Represents.{Represents}
 use Rattle.bd_represent.proofs.TreeLemmas.{Represents-along}
 use Rattle.bd_volume.specs.Over.{TakesStep}
 use Rattle.bd_volume.specs.Volume.{StandsFor, view_of, keys_of, count_of}
-use Rattle.bd_volume.specs.Views.{View, IsMoved}
+use Rattle.bd_view.specs.Trees.{TreeView}
+use Rattle.bd_volume.specs.Views.{IsMoved}
 use Rattle.bd_volume.specs.declared.Fault.{Fault}
 use Rattle.bd_volume.specs.declared.Volume.{Volume}
 
@@ -52,7 +53,7 @@ refused_after old c (Ok reply) P h = tt
 refused_after old c (Err e) P h = λ t n s. h t s.is_tree s.represents
 
 -- where the tree is moved by its command, so is the volume that stands for it
-pub moved_after : {D : Type 0} (old : Volume D) (c : Command) (result : Result Reply Fault) (new : View) → ((t : Tree) → IsTree t → Represents (keys_of old) t → IfOk result (λ reply. accepted c reply ≡ 1 → IsMoved t c (view_of old) new))
+pub moved_after : {D : Type 0} (old : Volume D) (c : Command) (result : Result Reply Fault) (new : TreeView) → ((t : Tree) → IsTree t → Represents (keys_of old) t → IfOk result (λ reply. accepted c reply ≡ 1 → IsMoved t c (view_of old) new))
     → IfOk result (λ reply. accepted c reply ≡ 1 → (t : Tree) (n : ℕ) → StandsFor old t n → IsMoved t c (view_of old) new)
 moved_after old c (Ok reply) new h = λ counts t n s. h t s.is_tree s.represents counts
 moved_after old c (Err e) new h = tt

@@ -1,4 +1,3 @@
-pub mod Sent
 pub mod Views
 pub mod Volume
 pub mod Over

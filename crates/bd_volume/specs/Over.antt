@@ -12,7 +12,8 @@ use Rattle.bd_represent.specs.Represents.{Represents}
 use Rattle.bd_dirs.specs.declared.plan.Plan.{Plan}
 use Rattle.bd_dirs.specs.declared.plan.Plan.TheVariants.{Refused, Apply, Graft}
 use Rattle.bd_graft.specs.Grafting.{IsWornByGraft}
-use Rattle.bd_volume.specs.Views.{View, HasFlushed, Wears, IsStoppedBy}
+use Rattle.bd_view.specs.Trees.{TreeView, HasFlushed}
+use Rattle.bd_volume.specs.Views.{Wears, IsStoppedBy}
 use Rattle.bd_volume.specs.declared.Fault.{Fault}
 use Rattle.bd_volume.specs.declared.Fault.TheVariants.{Device, Damaged, Worn, NoMemory, Full, Stopped}
 
@@ -35,14 +36,14 @@ fault_of (map.Worn counter) = Worn counter
 fault_of map.NoMemory = NoMemory
 
 -- why the flush steps of a command stopped
-abbrev pub IsFlushFault : MapFault → Command → View → View → Type 0
+abbrev pub IsFlushFault : MapFault → Command → TreeView → TreeView → Type 0
 IsFlushFault map.DeviceFault c old new = ⊥
 IsFlushFault (map.Damaged block) c old new = ⊥
 IsFlushFault (map.Worn which) c old new = IsStoppedBy which c old new
 IsFlushFault map.NoMemory c old new = HasFlushed c old new
 
 -- why a graft wasn't made
-abbrev pub IsGraftFault : MapFault → List ℕ → List ℕ → Bool → View → Type 0
+abbrev pub IsGraftFault : MapFault → List ℕ → List ℕ → Bool → TreeView → Type 0
 IsGraftFault map.DeviceFault s d keep v = ⊥
 IsGraftFault (map.Damaged block) s d keep v = ⊥
 IsGraftFault (map.Worn which) s d keep v = IsWornByGraft v.nodes v.table s d keep which
@@ -53,7 +54,7 @@ abbrev pub IsVolumeFault : Fault → Type 0
 IsVolumeFault fault = (fault ≡ NoMemory) ⊎ ((which : Counter) × (fault ≡ Worn which))
 
 -- what a fault leaves of the view, after so many commands
-abbrev pub IsHalted : Fault → ℕ → Command → View → View → Type 0
+abbrev pub IsHalted : Fault → ℕ → Command → TreeView → TreeView → Type 0
 IsHalted Device count c old new = ⊥
 IsHalted (Damaged block) count c old new = ⊥
 IsHalted (Worn which) count c old new = Wears which count c old new

@@ -3,11 +3,12 @@ use Rattle.std.specs.Prelude.{◌≡◌, ℕ}
 use Rattle.bd_model.specs.Tree.{Tree, IsTree}
 use Rattle.bd_message.specs.KeyMaps.{At}
 use Rattle.bd_represent.specs.Represents.{Represents}
-use Rattle.bd_volume.specs.Views.{View, view_in, keys_in}
+use Rattle.bd_view.specs.Trees.{TreeView}
+use Rattle.bd_volume.specs.Views.{view_in, keys_in}
 use Rattle.bd_volume.specs.declared.Volume.{Volume}
 
 -- what is seen of its tree of nodes
-abbrev pub view_of : {D : Type 0} → Volume D → View
+abbrev pub view_of : {D : Type 0} → Volume D → TreeView
 view_of v = view_in v.tree
 
 -- what stands at each key of its tree

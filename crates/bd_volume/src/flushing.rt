@@ -5,7 +5,7 @@ ghost use Rattle.bd_message.specs.KeyMaps.{HasMapCause};
 ghost use Rattle.bd_node.specs.Frames.{OfSound, OnlyReads, Stays};
 ghost use Rattle.bd_path.specs.Made.{AreKnown};
 ghost use Rattle.bd_step.specs.Steps.{IsFlushStep, IsFound, IsWornToFlush};
-ghost use Rattle.bd_volume.specs.Views.{waiting_limit};
+ghost use Rattle.bd_view.specs.Trees.{waiting_limit};
 
 use bd_command::Command;
 use bd_limits::{LATE_ROOT, SOFT_BUFFER};

@@ -9,11 +9,13 @@ ghost use Rattle.bd_model.specs.Step.{step, refusal_of};
 ghost use Rattle.bd_command.specs.Command.{accepted, IsCommand, IsReply};
 ghost use Rattle.bd_message.specs.declared.fault.Counter.{Counter};
 ghost use Rattle.bd_represent.specs.Represents.{Represents};
-ghost use Rattle.bd_volume.specs.Views.{view_in, keys_in, fresh_view, HasFlushed, IsMoved, Wears};
+ghost use Rattle.bd_view.specs.Trees.{fresh_tree, HasFlushed};
+ghost use Rattle.bd_volume.specs.Views.{view_in, keys_in, IsMoved, Wears};
 ghost use Rattle.bd_volume.specs.Volume.{StandsFor, view_of, count_of, device_of};
 
 mod answering;
 mod flushing;
+pub mod laws;
 mod memory;
 mod over;
 mod sending;
@@ -96,7 +98,7 @@ impl<D: Device + Drop> Volume<D> {
     /// one fault is `NoMemory`, and gives the device back.
     pub fn start(alloc: Global, device: D) -> Result<Volume<D>, Refused<D>>
         ensures stands { IfOk result (λ v. StandsFor v root_only 0) }
-        ensures view { IfOk result (λ v. view_of v ≡ fresh_view) }
+        ensures view { IfOk result (λ v. view_of v ≡ fresh_tree) }
         ensures device { IfOk result (λ v. device_of v ≡ device) }
         ensures fault { IfErr result (λ refused. refused.fault ≡ Fault.NoMemory) }
         ensures given_back { IfErr result (λ refused. refused.device ≡ device) }
@@ -188,7 +190,7 @@ impl<D: Device + Drop> Volume<D> {
 /// A tree of nodes in memory that represents the tree of `/` alone.
 fn root_tree(alloc: Global) -> Result<MemTree, MapFault>
     ensures root { IfOk result (λ tree. Represents (keys_in tree) root_only) }
-    ensures view { IfOk result (λ tree. view_in tree ≡ fresh_view) }
+    ensures view { IfOk result (λ tree. view_in tree ≡ fresh_tree) }
     ensures fault { IfErr result (λ cause. cause ≡ MapFault.NoMemory) }
 {
     let mut tree = MemTree::over(alloc, MemNodes::new(alloc)?);

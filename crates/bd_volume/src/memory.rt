@@ -9,7 +9,8 @@ ghost use Rattle.bd_memnodes.specs.Seen.{nodes_of, table};
 ghost use Rattle.bd_represent.specs.Plans.{IsSmallBatch};
 ghost use Rattle.bd_dirs.specs.Plans.{IsReady};
 ghost use Rattle.bd_dirs.specs.declared.plan.Plan.TheVariants as plan;
-ghost use Rattle.bd_volume.specs.Views.{view_in, keys_in, IsReadyFor, HasAppended, HasGrafted};
+ghost use Rattle.bd_view.specs.Trees.{HasAppended, HasGrafted};
+ghost use Rattle.bd_volume.specs.Views.{view_in, keys_in, IsReadyFor};
 ghost use Rattle.bd_volume.specs.Over.{IsFlushFault, IsGraftFault, IsHalted};
 
 use crate::flushing::{self, waiting_limit};

@@ -10,7 +10,7 @@ ghost use Rattle.bd_graft.specs.Grafting.{IsWornForGraft, IsWornByGraft, OnWorn}
 ghost use Rattle.bd_represent.specs.Plans.{IsSmallBatch};
 ghost use Rattle.bd_dirs.specs.Plans.{IsReady};
 ghost use Rattle.bd_dirs.specs.declared.plan.Plan.TheVariants as plan;
-ghost use Rattle.bd_volume.specs.Sent.{IsAppended, IsGraftMade, IsWalked};
+ghost use Rattle.bd_view.specs.Trees.{IsAppended, IsGraftMade, IsWalked};
 
 use bd_message::{MapFault, Message};
 use bd_node::NodeStore;

@@ -5,7 +5,7 @@ use Rattle.std.specs.declared.option.Option.TheVariants.{None, Some}
 use Rattle.bd_command.specs.declared.Command.TheVariants.{Stat}
 use Rattle.bd_message.specs.declared.fault.Counter.{Counter}
 use Rattle.bd_script.specs.Lines.{LineMeaning}
-use Rattle.bd_volume.specs.Views.AreFlushes.{none}
+use Rattle.bd_view.specs.Trees.AreFlushes.{none}
 use Rattle.betr.specs.declared.fault.Fault.{Fault}
 use Rattle.betr.specs.declared.fault.Fault.TheVariants.{Device, Source, Memory, TooLong, Worn, Sink}
 use Rattle.betr.specs.Transcript.{State}

@@ -14,7 +14,8 @@ use Rattle.bd_script.specs.Lines.{LineMeaning, IsLine}
 use Rattle.bd_script.specs.declared.line.Line.{Line}
 use Rattle.bd_script.specs.declared.line.Line.TheVariants.{Run, Walk, Stop}
 use Rattle.bd_script.specs.declared.replies.LineReply.TheVariants as reply
-use Rattle.bd_volume.specs.Views.{View, HasFlushed, IsMoved, Wears}
+use Rattle.bd_view.specs.Trees.{TreeView, HasFlushed}
+use Rattle.bd_volume.specs.Views.{IsMoved, Wears}
 use Rattle.bd_volume.specs.Volume.{StandsFor, view_of, count_of}
 use Rattle.bd_volume.specs.declared.Volume.{Volume}
 use Rattle.bd_volume.specs.declared.Fault.{Fault as VolumeFault}
@@ -59,7 +60,7 @@ pub walk_replies : {D : Type 0} (v : Volume D) (s : State) (line : Line) (walk :
     → walk ≡ (view_of v).walk → Replies s (Ok line) (told walk) (VolumeAt v)
 walk_replies v s line walk at is same = record {
   after = s;
-  follows = subst (λ l. Follows s (Ok l) (told walk) s) (sym is) (ap told (same ∙ ap (λ (x : View). x.walk) at.view_is), refl);
+  follows = subst (λ l. Follows s (Ok l) (told walk) s) (sym is) (ap told (same ∙ ap (λ (x : TreeView). x.walk) at.view_is), refl);
   reached = at;
 }
 
@@ -78,7 +79,7 @@ unread_replies s meaning r at is reached = record {
   reached = reached;
 }
 
-wears_as : (which : Counter) (n m : ℕ) (c : Command) (old same new : View) → n ≡ m → old ≡ same → Wears which n c old new → Wears which m c same new
+wears_as : (which : Counter) (n m : ℕ) (c : Command) (old same new : TreeView) → n ≡ m → old ≡ same → Wears which n c old new → Wears which m c same new
 wears_as which n m c old same new e f h = subst (λ k. Wears which k c same new) e (subst (λ v. Wears which n c v new) f h)
 
 -- a command's fault is the volume's

@@ -12,29 +12,30 @@ use Rattle.bd_model.specs.Step.{step}
 use Rattle.bd_script.specs.Lines.{LineMeaning}
 use Rattle.bd_script.specs.declared.line.Line.TheVariants.{Run, Walk, Stop}
 use Rattle.bd_script.specs.declared.replies.LineReply.{LineReply}
-use Rattle.bd_volume.specs.Views.{View, AreFlushes, HasAppended, IsMoved}
-use Rattle.bd_volume.specs.Views.AreFlushes.{none, more}
+use Rattle.bd_view.specs.Trees.{TreeView, AreFlushes, HasAppended}
+use Rattle.bd_volume.specs.Views.{IsMoved}
+use Rattle.bd_view.specs.Trees.AreFlushes.{none, more}
 use Rattle.betr.specs.Transcript.{State, Entry, Follows, Moves, IsTranscript, grafts, IsCheap, AreCheap}
 
 -- flush steps keep the walk
-flushes_keep : (c : Command) (n : ℕ) (v w : View) → AreFlushes c n v w → w.walk ≡ v.walk
+flushes_keep : (c : Command) (n : ℕ) (v w : TreeView) → AreFlushes c n v w → w.walk ≡ v.walk
 flushes_keep c n v w (none u) = refl
 flushes_keep c n v w (more m u x y before last) = last.walk_is ∙ flushes_keep c m u x before
 
 -- what is sent after flush steps keeps the walk, and so does what isn't accepted
-appended_keeps : (b : Bool) (t : Tree) (c : Command) (list : List Message) (old new : View) → ((m : IsMoved t c old new) → HasAppended list m.mid new)
+appended_keeps : (b : Bool) (t : Tree) (c : Command) (list : List Message) (old new : TreeView) → ((m : IsMoved t c old new) → HasAppended list m.mid new)
     → MatchBool b (IsMoved t c old new) (new ≡ old) → new.walk ≡ old.walk
 appended_keeps true t c list old new sent h = (sent h).walk_is ∙ flushes_keep c h.flushed.made old h.mid h.flushed.flushes
-appended_keeps false t c list old new sent h = ap (λ (v : View). v.walk) h
+appended_keeps false t c list old new sent h = ap (λ (v : TreeView). v.walk) h
 
 grafted_is : (b : Bool) (P Q R S : Type 0) → (P → Q) → (R → S) → MatchBool b P R → MatchBool b Q S
 grafted_is true P Q R S f g h = f h
 grafted_is false P Q R S f g h = g h
 
-walk_of : (old new : View) → new ≡ old → new.walk ≡ old.walk
-walk_of old new h = ap (λ (v : View). v.walk) h
+walk_of : (old new : TreeView) → new ≡ old → new.walk ≡ old.walk
+walk_of old new h = ap (λ (v : TreeView). v.walk) h
 
-run_cheap : (t : Tree) (c : Command) (r : Reply) (old new : View) → Moves t c r old new
+run_cheap : (t : Tree) (c : Command) (r : Reply) (old new : TreeView) → Moves t c r old new
     → MatchBool (grafts c && is_done r) (new.walk.visits ≤ 5 * new.walk.height + 2) (new.walk ≡ old.walk)
 run_cheap t (Mkdir path) r old new h = appended_keeps (is_done r) t (Mkdir path) _ old new (λ m. m.sent) h
 run_cheap t (Create path) r old new h = appended_keeps (is_done r) t (Create path) _ old new (λ m. m.sent) h

@@ -15,7 +15,8 @@ use Rattle.bd_model.specs.Step.{refusal_of}
 use Rattle.bd_script.specs.Lines.{LineMeaning, is_stop}
 use Rattle.bd_script.specs.Replies.{line_reply_line}
 use Rattle.bd_script.specs.declared.line.Line.TheVariants.{Run}
-use Rattle.bd_volume.specs.Views.{View, HasFlushed, Wears}
+use Rattle.bd_view.specs.Trees.{TreeView, HasFlushed}
+use Rattle.bd_volume.specs.Views.{Wears}
 use Rattle.betr.specs.declared.fault.Fault.{Fault}
 use Rattle.betr.specs.declared.fault.Fault.TheVariants.{Device, Source, Memory, TooLong, Worn, Sink}
 use Rattle.betr.specs.Taken.{Took}
@@ -48,18 +49,18 @@ pub record WornBy (which : Counter) (s : State) (line : LineMeaning) : Type 0 wh
   pub command : Command
   pub line_is : line ≡ Ok (Run command)
   pub accepted : IsNone (refusal_of s.tree command)
-  pub left : View
+  pub left : TreeView
   pub wears : Wears which s.count command s.view left
 
 -- the state with another view
-abbrev pub with_view : State → View → State
+abbrev pub with_view : State → TreeView → State
 with_view s view = record { tree = s.tree; count = s.count; view = view }
 
 -- what a fault of a line leaves: at most 65,536 flush steps of one command were made, and nothing
 -- else
 pub record Leaves (s : State) (at : State → Type 0) : Type 0 where
   pub command : Command
-  pub left : View
+  pub left : TreeView
   pub flushed : HasFlushed command s.view left
   pub reached : at (with_view s left)
 

@@ -17,7 +17,8 @@ use Rattle.bd_script.specs.Replies.{line_reply_line}
 use Rattle.bd_script.specs.declared.line.Line.TheVariants.{Run, Walk, Stop}
 use Rattle.bd_script.specs.declared.replies.LineReply.{LineReply}
 use Rattle.bd_script.specs.declared.replies.LineReply.TheVariants as reply
-use Rattle.bd_volume.specs.Views.{View, fresh_view, IsMoved}
+use Rattle.bd_view.specs.Trees.{TreeView, fresh_tree}
+use Rattle.bd_volume.specs.Views.{IsMoved}
 
 -- bytes, where they are known
 abbrev pub Known : Type 0
@@ -28,14 +29,14 @@ Known = Option (List ℕ)
 pub record State : Type 0 where
   pub tree : Tree
   pub count : ℕ
-  pub view : View
+  pub view : TreeView
 
 -- the state that a run begins at: the tree of `/` alone in one node, and nothing accepted
 abbrev pub first_state : State
-first_state = record { tree = root_only; count = 0; view = fresh_view }
+first_state = record { tree = root_only; count = 0; view = fresh_tree }
 
 -- the state after a command, with a view
-abbrev pub state_of_step : State → Command → View → State
+abbrev pub state_of_step : State → Command → TreeView → State
 state_of_step s c view = record {
   tree = (step s.tree c).0;
   count = s.count + accepted c (step s.tree c).1;
@@ -43,7 +44,7 @@ state_of_step s c view = record {
 }
 
 -- a writing command that is accepted moves the view, and every other reply leaves it
-abbrev pub Moves : Tree → Command → Reply → View → View → Type 0
+abbrev pub Moves : Tree → Command → Reply → TreeView → TreeView → Type 0
 Moves t c said old new = MatchBool (writes c && is_done said) (IsMoved t c old new) (new ≡ old)
 
 -- a command within its limits takes the model's step, and the nodes after it represent the tree

@@ -4,7 +4,7 @@ use Rattle.std.specs.Prelude.{Ok}
 use Rattle.std.proofs.lemmas.Result.{err_from_is_err_and}
 use Rattle.bd_memnodes.specs.Seen.{Seen, table}
 use Rattle.bd_volume.specs.Views.{view_in}
-use Rattle.bd_volume.specs.Views.AreFlushes.{none, more}
+use Rattle.bd_view.specs.Trees.AreFlushes.{none, more}
 use Rattle.bd_volume.proofs.Flushes.{step_waits}
 use Rattle.bd_volume.proofs.Worn.{step_stops}
 use Rattle.bd_volume.proofs.memory.flush.Goals as goal

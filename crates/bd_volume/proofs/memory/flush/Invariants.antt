@@ -1,7 +1,8 @@
 -- So many steps were made, in sound nodes.
 use Rattle.bd_node.specs.Tables.{IsSound}
 use Rattle.bd_memnodes.specs.Seen.{nodes_of, table}
-use Rattle.bd_volume.specs.Views.{AreFlushes, view_in}
+use Rattle.bd_view.specs.Trees.{AreFlushes}
+use Rattle.bd_volume.specs.Views.{view_in}
 use Rattle.bd_volume.proofs.memory.flush.Given as goal
 
 abbrev pub invariant-loop-made : goal.invariant-loop-made

@@ -2,7 +2,7 @@
 use Rattle.std.proofs.Common.{arith, refl, lit≤}
 use Rattle.std.proofs.lemmas.Result.{err_from_is_err_and}
 use Rattle.bd_volume.specs.Views.{view_in}
-use Rattle.bd_volume.specs.Views.AreFlushes.{none}
+use Rattle.bd_view.specs.Trees.AreFlushes.{none}
 use Rattle.bd_volume.proofs.Flushes.{flushed_same, limit_low}
 use Rattle.bd_volume.proofs.Worn.{stopped_same, flush_halts}
 use Rattle.bd_volume.proofs.memory.make_ready.Goals as goal

@@ -1,5 +1,5 @@
 -- What is planned is right after the flush too, and gives the step.
-use Rattle.std.proofs.Common.{ℕ, List, subst}
+use Rattle.std.proofs.Common.{ℕ, List, refl, subst}
 use Rattle.std.proofs.lemmas.Result.{err_from_is_err_and}
 use Rattle.bd_message.specs.declared.message.Message.{Message}
 use Rattle.bd_message.specs.KeyMaps.{IsApplied, IsGrafted}
@@ -50,9 +50,9 @@ returns-in_ok-graft-in-Graft-clause-step c = λ t r h.
 pub returns-in_ok-append-in-Apply-clause-moved : goal.returns-in_ok-append-in-Apply-clause-moved
 returns-in_ok-append-in-Apply-clause-moved c = λ t h _.
     messages_moved t c.args.command.now c.args.plan c.in-Apply.list c.as_slice.result.now (view_in c.args.tree.now) (view_in c.make_ready.new.tree) (view_in c.append.new.tree) c.in-Apply.is c.as_slice.ensures h
-    c.in_ok-make_ready-in-Apply.ensures.ready c.in_ok-append-in-Apply.ensures.appended
+    c.in_ok-make_ready-in-Apply.ensures.ready c.in_ok-append-in-Apply.ensures.appended refl
 
 pub returns-in_ok-graft-in-Graft-clause-moved : goal.returns-in_ok-graft-in-Graft-clause-moved
 returns-in_ok-graft-in-Graft-clause-moved c = λ t h _.
     graft_moved t c.args.command.now c.args.plan c.in-Graft.s c.in-Graft.d c.as_slice-in-Graft.result.now c.as_slice-in-Graft-2.result.now c.in-Graft.keep (view_in c.args.tree.now) (view_in c.make_ready-in-Graft.new.tree) (view_in c.graft.new.tree)
-    c.in-Graft.is c.as_slice-in-Graft.ensures c.as_slice-in-Graft-2.ensures h c.in_ok-make_ready-in-Graft.ensures.ready c.in_ok-graft-in-Graft.ensures.made
+    c.in-Graft.is c.as_slice-in-Graft.ensures c.as_slice-in-Graft-2.ensures h c.in_ok-make_ready-in-Graft.ensures.ready c.in_ok-graft-in-Graft.ensures.made refl

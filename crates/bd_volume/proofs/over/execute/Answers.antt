@@ -5,7 +5,8 @@ use Rattle.std.proofs.lemmas.Result.{err_from_is_err_and}
 use Rattle.bd_command.specs.Command.{writes, accepted}
 use Rattle.bd_node.specs.Tables.{root_at}
 use Rattle.bd_represent.proofs.TreeLemmas.{Represents-along}
-use Rattle.bd_volume.specs.Views.{View, view_in, keys_in, IsMoved}
+use Rattle.bd_view.specs.Trees.{TreeView}
+use Rattle.bd_volume.specs.Views.{view_in, keys_in, IsMoved}
 use Rattle.bd_volume.specs.Over.{IsHalted}
 use Rattle.bd_volume.proofs.Carried.{plan_along, read_step, accepted_plan}
 use Rattle.bd_volume.proofs.Reading.{read_view, read_keys, read_halts, command_size}
@@ -63,7 +64,7 @@ returns-clause-step c = λ t tree r.
 pub returns-clause-stays : goal.returns-clause-stays
 returns-clause-stays c =
     let new = keys_in c.carry_out.new.tree in
-    let Stay : View → Type 0 = λ v. OnErr c.carry_out.result ((k : List ℕ) → new k ≡ root_at v.nodes v.table k) in
+    let Stay : TreeView → Type 0 = λ v. OnErr c.carry_out.result ((k : List ℕ) → new k ≡ root_at v.nodes v.table k) in
     subst Stay (planned c) c.carry_out.ensures.stays
 
 pub returns-clause-moved : goal.returns-clause-moved
@@ -71,17 +72,17 @@ returns-clause-moved c = λ t tree r.
     let at = keys_in c.args.tree.now in
     let mid = keys_in c.plan_command.new.m in
     let same = c.in_ok-plan.ensures.left.kept (tt, c.nodes_are_sound.ensures) in
-    let Moved : View → Type 0 = λ v. IfOk c.carry_out.result (λ reply. accepted c.args.command.now reply ≡ 1 → IsMoved t c.args.command.now v (view_in c.carry_out.new.tree)) in
+    let Moved : TreeView → Type 0 = λ v. IfOk c.carry_out.result (λ reply. accepted c.args.command.now reply ≡ 1 → IsMoved t c.args.command.now v (view_in c.carry_out.new.tree)) in
     subst Moved (planned c) (c.carry_out.ensures.moved t (plan_along at mid t c.args.command.now c.in_ok-plan.plan same (c.in_ok-plan.ensures.plan (tt, c.nodes_are_sound.ensures) t tree r)))
 
 pub returns-clause-unmoved : goal.returns-clause-unmoved
 returns-clause-unmoved c =
-    let Same : View → Type 0 = λ v. IfOk c.carry_out.result (λ reply. accepted c.args.command.now reply ≡ 0 → view_in c.carry_out.new.tree ≡ v) in
+    let Same : TreeView → Type 0 = λ v. IfOk c.carry_out.result (λ reply. accepted c.args.command.now reply ≡ 0 → view_in c.carry_out.new.tree ≡ v) in
     subst Same (planned c) c.carry_out.ensures.unmoved
 
 pub returns-clause-halted : goal.returns-clause-halted
 returns-clause-halted c =
-    let Halted : View → Type 0 = λ v. IfErr c.carry_out.result (λ fault. IsHalted fault c.args.count.now c.args.command.now v (view_in c.carry_out.new.tree)) in
+    let Halted : TreeView → Type 0 = λ v. IfErr c.carry_out.result (λ fault. IsHalted fault c.args.count.now c.args.command.now v (view_in c.carry_out.new.tree)) in
     subst Halted (planned c) c.carry_out.ensures.halted
 
 pub returns-in_err-answer-clause-worn : goal.returns-in_err-answer-clause-worn

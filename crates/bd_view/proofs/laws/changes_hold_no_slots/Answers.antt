@@ -1,0 +1,8 @@
+use Rattle.bd_view.proofs.Steps.{nodes_free, nodes_log}
+use Rattle.bd_view.proofs.laws.changes_hold_no_slots.Goals as goal
+
+pub returns-clause-free : goal.returns-clause-free
+returns-clause-free c = nodes_free
+
+pub returns-clause-log : goal.returns-clause-log
+returns-clause-log c = nodes_log
