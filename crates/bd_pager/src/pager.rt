@@ -1,6 +1,6 @@
 //! The pager.
 
-ghost use Rattle.std.specs.Prelude.{◌≡◌, ◌≤◌, ◌⊎◌, [], None, Some, false, length, min, IsSome, IfOk, IfErr, IfSome, OnOk, OnErr, slice_index};
+ghost use Rattle.std.specs.Prelude.{◌<◌, ◌^◌, ◌≡◌, ◌≤◌, ◌⊎◌, [], None, Some, false, length, min, IsSome, IfOk, IfErr, IfSome, OnOk, OnErr, slice_index};
 ghost use Rattle.std.specs.Borrow.{sem};
 ghost use Rattle.bd_message.specs.KeyMaps.{HasMapCause, NeverWorn};
 ghost use Rattle.bd_slots.specs.Layout.{IsTablePlace, image_blocks};
@@ -376,7 +376,9 @@ impl<D: Device> Pager<D> {
     /// Whatever was done with it before, its nodes are where their spots say. It does nothing.
     pub fn nodes_are_placed(&self)
         ensures { IsPaged (D.contents self.now.dev) self.now }
-    {}
+    {
+        let _ = &self.alloc;
+    }
 
     /// The device, which is lent. Whatever is done with it, the pager then reads again what it read
     /// before, unless it is told by `take_back` that this is what the slots have.
