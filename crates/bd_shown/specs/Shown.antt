@@ -1,0 +1,27 @@
+-- The view of a volume whose nodes a pager has.
+use Rattle.std.specs.Prelude.{◌≡◌, ℕ, List, length, map}
+use Rattle.bd_device.specs.declared.device.Device.{Ghosts}
+use Rattle.bd_graft.specs.declared.grafting.Walk.{Walk}
+use Rattle.bd_table.specs.declared.table.TableEntry.{TableEntry}
+use Rattle.bd_pager.specs.Pagers.{Paged, nodes_of, table_of}
+use Rattle.bd_view.specs.Trees.{TreeView}
+use Rattle.bd_view.specs.Views.{View}
+
+-- the ids of a checkpoint's nodes
+abbrev pub ids_of : List TableEntry → List ℕ
+ids_of entries = map (λ e. e.id) entries
+
+-- the tree of its nodes, with how the last graft went
+abbrev pub tree_of : {D : Type 0} → Ghosts D → Paged D → Walk → TreeView
+tree_of g p walk = record { nodes = nodes_of g p; table = table_of p; walk = walk }
+
+-- the view, with the epoch of the last checkpoint and the log's numbers
+abbrev pub shown : {D : Type 0} → Ghosts D → Paged D → Walk → ℕ → ℕ → ℕ → View
+shown g p walk epoch place waiting = record {
+  tree = tree_of g p walk;
+  saved = ids_of p.saved.entries;
+  slots = length p.spare;
+  epoch = epoch;
+  place = place;
+  waiting = waiting;
+}
