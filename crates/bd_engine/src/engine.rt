@@ -8,6 +8,7 @@ use bd_device::Device;
 use bd_graft::Walk;
 use bd_log::Log;
 use bd_pager::Pager;
+use bd_shown::laws::numbers_are_shown;
 use bd_slots::table_length;
 use bd_super::Super;
 use std::alloc::Global;
@@ -51,7 +52,7 @@ impl<D: Device> Engine<D> {
     pub fn free(&self) -> u64
         ensures { result ≡ free_slots (view_of D.Device self.now) }
     {
-        self.pager.nodes_are_placed();
+        numbers_are_shown::<D>();
         u64::from(self.pager.free())
     }
 
@@ -60,6 +61,7 @@ impl<D: Device> Engine<D> {
         ensures { result ≡ save_slots (view_of D.Device self.now) }
     {
         self.pager.nodes_are_placed();
+        numbers_are_shown::<D>();
         self.pager.changed() + table_length(self.pager.kept() as usize) as u64
     }
 }
