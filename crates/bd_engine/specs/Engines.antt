@@ -25,6 +25,10 @@ pub record EngineState (D : Type 0) : Type 0 where
   pub stop : Option ℕ
   pub walk : Walk
 
+abbrev pub seen : {D : Type 0} → Paged D → LogState → Super → Option ℕ → Walk → EngineState D
+seen pager log live stop walk =
+    record { pager = pager; log = log; live = live; stop = stop; walk = walk }
+
 -- its view
 abbrev pub view_of : {D : Type 0} → Ghosts D → EngineState D → View
 view_of g e =

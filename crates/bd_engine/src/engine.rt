@@ -26,25 +26,13 @@ pub struct Engine<D: Device> {
 }
 
 impl<D: Device> Model for Engine<D> {
-    ghost use Rattle.bd_engine.specs.Engines.{EngineState, IsStanding};
+    ghost use Rattle.bd_engine.specs.Engines.{EngineState, IsStanding, seen};
 
     ghost Value = { EngineState D };
 
-    ghost view = { λ e. record {
-      pager = e.pager;
-      log = e.log;
-      live = e.live;
-      stop = e.stop;
-      walk = e.walk;
-    } };
+    ghost view = { λ e. seen e.pager e.log e.live e.stop e.walk };
 
-    ghost invariant = { λ e. IsStanding D.Device (record {
-      pager = e.pager;
-      log = e.log;
-      live = e.live;
-      stop = e.stop;
-      walk = e.walk;
-    }) };
+    ghost invariant = { λ e. IsStanding D.Device (seen e.pager e.log e.live e.stop e.walk) };
 }
 
 impl<D: Device> Engine<D> {
