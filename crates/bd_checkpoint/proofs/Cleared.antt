@@ -1,6 +1,6 @@
 -- Superblocks that were taken back.
-use Rattle.std.proofs.Common.{◌≡◌, ◌≢◌, ℕ, List, Option, None, Some, IfSome, sym, ap, subst, ◌∙◌, arith}
-use Rattle.std.specs.Prelude.{slice_index}
+use Rattle.std.proofs.Common.{rules, ◌≡◌, ◌≢◌, ℕ, List, Option, None, Some, IfSome, sym, ap, subst, ◌∙◌, arith}
+use Rattle.std.specs.Prelude.{IsSome, slice_index}
 use Rattle.bd_device.specs.Blocks.{Image, with_block}
 use Rattle.bd_device.specs.Commits.{IsCommitted}
 use Rattle.bd_super.specs.Live.{NoneIsCommitted}
@@ -15,3 +15,8 @@ none_committed (Some image) now bytes first e second =
     let last = subst (λ (o : Option Image). IfSome o (λ i. ¬ IsCommitted i 2)) e second in
     subst (λ (o : Option Image). IfSome o NoneIsCommitted) (sym e)
     (λ on. first (ap (λ (l : List ℕ). slice_index l 0) (sym (block_other image 2 0 bytes other)) ∙ on), last)
+
+-- contents that were told are told
+pub still_told : (known now : Option Image) (b : ℕ) (bytes : List ℕ) → now ≡ with_block b bytes known → IsSome known → IsSome now
+still_told None now b bytes e some = absurd some
+still_told (Some image) now b bytes e some = subst (λ (o : Option Image). IsSome o) (sym e) (search rules)

@@ -12,3 +12,8 @@ pub mod Replaying
 pub mod Causes
 pub mod Cleared
 pub mod Slots
+pub mod WrittenOut
+pub mod Marked
+pub mod Checkpointed
+pub mod FreshTree
+pub mod Firsts

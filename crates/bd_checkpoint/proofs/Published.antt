@@ -1,5 +1,5 @@
 -- What is known while the next superblock is published and after it.
-use Rattle.std.proofs.Common.{◌≡◌, ℕ, ◌+◌, ◌≤◌, inl, inr, [], Option, None, Some, IfSome, refl, sym, ap, subst, ◌∙◌, arith}
+use Rattle.std.proofs.Common.{◌≡◌, ℕ, ◌+◌, ◌≤◌, inl, inr, List, [], Option, None, Some, IfSome, refl, sym, ap, subst, ◌∙◌, arith}
 use Rattle.std.specs.Prelude.{IsSomeAnd}
 use Rattle.bd_model.specs.Tree.{Tree}
 use Rattle.bd_slots.specs.Layout.{image_blocks}
@@ -11,7 +11,7 @@ use Rattle.bd_node.specs.Meaning.{Nodes}
 use Rattle.bd_table.specs.declared.table.Table.{Table as StoredTable}
 use Rattle.bd_super.specs.Superblocks.{IsSuper, log_block, other, version_number}
 use Rattle.bd_super.specs.Live.{IsLive}
-use Rattle.bd_super.specs.Published.{IsOfHalf, SameLive, CanFollow, IsPublished, IsStagedOrPublished, SameSuperblocks}
+use Rattle.bd_super.specs.Published.{IsOfHalf, SameLive, CanFollow, IsPublished, IsStagedOrPublished, AreSettled, SameSuperblocks}
 use Rattle.bd_super.specs.declared.superblock.Super.{Super}
 use Rattle.bd_super.proofs.LiveLemmas.{one_live, other_twice}
 use Rattle.bd_log.specs.Logs.{LogState, fresh_log}
@@ -22,7 +22,7 @@ use Rattle.bd_image.specs.Used.{used_slots, SameSlots}
 use Rattle.bd_image.proofs.Checkpoints.{not_slot, staged, published}
 use Rattle.bd_image.proofs.Frame.{table_same}
 use Rattle.bd_checkpoint.specs.Kept.{Saved, StartsAs, IsOpen, AllStandFor}
-use Rattle.bd_checkpoint.specs.Following.{IsNext, HasTableOf, AreWritten, saved_by}
+use Rattle.bd_checkpoint.specs.Following.{super_after, IsNext, HasTableOf, AreWritten, saved_by}
 
 -- ---- the next superblock
 
@@ -100,6 +100,10 @@ starts_new (Some old) next t new table is =
       batches_are = record { follow = refl; closed = λ on. is.log (subst (IsCommitted new) first on) };
     }
 
+-- a crash leaves what reads give
+pub settled_only : (known : Option Image) (left : Image → Type 0) → IsOnly known left → AreSettled known left
+settled_only known left only = λ c was. subst (λ (o : Option Image). IsSomeAnd o (λ image. SameSuperblocks image c)) (sym (only c was)) (record { size = refl; blocks = λ b low. refl })
+
 live_now : (known now : Option Image) (next : Super) → IfSome now (IsPublished next known) → IfSome now (λ image. IsLive image next)
 live_now known None next is = tt
 live_now known (Some image) next is = is.live
@@ -111,8 +115,13 @@ open_new known now left count total next t fits size same table is only = record
   fits = fits;
   size = same ∙ size;
   live_is = live_now known now next is;
-  settled = λ c was. subst (λ (o : Option Image). IsSomeAnd o (λ image. SameSuperblocks image c)) (sym (only c was)) (record { size = refl; blocks = λ b low. refl });
+  settled = settled_only now left only;
   each = λ c was. starts_new known next t c table (of_left (IsPublished next known) now c is (only c was));
   at = refl;
   log_is = record { first = refl; epoch = refl };
 }
+
+-- ---- the superblock after the live one
+
+pub is_next : (live next : Super) (count : ℕ) (at : List ℕ) → next ≡ super_after live count at → IsNext live next
+is_next live next count at same = same ∙ ap (λ (s : Super). super_after live s.count s.table) (sym same)

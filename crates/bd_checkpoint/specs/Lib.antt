@@ -5,3 +5,5 @@ pub mod Spare
 pub mod Resuming
 pub mod Recovering
 pub mod Surviving
+pub mod Saving
+pub mod Formatting

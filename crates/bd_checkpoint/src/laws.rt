@@ -1,12 +1,11 @@
 //! What follows from the definitions of what is known between two calls.
 
 ghost use Rattle.std.specs.Prelude.{ℕ, List, Bool};
-ghost use Rattle.bd_model.specs.Tree.{Tree};
 ghost use Rattle.bd_device.specs.Device.{left_now, Goes, OnlyReads};
 ghost use Rattle.bd_table.specs.Tables.{AreFreeSlots};
 ghost use Rattle.bd_log.specs.Logs.{LogState};
 ghost use Rattle.bd_super.specs.declared.superblock.Super.{Super};
-ghost use Rattle.bd_image.specs.Standing.{IsAsBefore, IsOldOrNew};
+ghost use Rattle.bd_image.specs.Standing.{IsAsBefore};
 ghost use Rattle.bd_checkpoint.specs.Kept.{Saved, slots_held, IsOpenOn, AllAsBefore};
 ghost use Rattle.bd_checkpoint.specs.Spare.{WritesSpare};
 
@@ -53,16 +52,4 @@ pub fn reads_stay_open<D: Device>(first: &D, last: &D)
         → IsOpenOn D.Device last.now live saved log }
     ensures kept { OnlyReads D.Device first.now last.now
         → AllAsBefore (left_now D.Device first.now) (left_now D.Device last.now) }
-{}
-
-/// What an image stands for that a crash inside a checkpoint leaves, from what it does while the
-/// nodes and the table are written, and then while the superblock is published.
-pub fn checkpoints_are_old_or_new<D: Device>(first: &D, middle: &D, last: &D)
-    ensures { (tree : Tree) (count : ℕ)
-        → Goes D.Device first.now middle.now (IsAsBefore (left_now D.Device first.now))
-        → AllAsBefore (left_now D.Device first.now) (left_now D.Device middle.now)
-        → Goes D.Device middle.now last.now
-        (IsOldOrNew (left_now D.Device middle.now) tree count)
-        → Goes D.Device first.now last.now
-        (IsOldOrNew (left_now D.Device first.now) tree count) }
 {}

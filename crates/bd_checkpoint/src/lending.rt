@@ -7,19 +7,20 @@ ghost use Rattle.bd_slots.specs.Layout.{image_blocks};
 ghost use Rattle.bd_device.specs.Blocks.{Image};
 ghost use Rattle.bd_device.specs.Calls.{faults_after};
 ghost use Rattle.bd_device.specs.Device.{left_now, Goes, Stays, FailsLast};
+ghost use Rattle.bd_device.specs.Moments.{IsOnly};
 ghost use Rattle.bd_node.specs.Meaning.{Nodes};
 ghost use Rattle.bd_table.specs.declared.table.Table.{Table as StoredTable};
 ghost use Rattle.bd_super.specs.Superblocks.{IsSuper, log_block};
-ghost use Rattle.bd_super.specs.Live.{IsLive};
-ghost use Rattle.bd_super.specs.Published.{AreSettled, CountsWrites};
+ghost use Rattle.bd_super.specs.Published.{AreSettled, CanFollow, CountsWrites};
 ghost use Rattle.bd_super.specs.declared.superblock.Super.{Super as AnySuper};
-ghost use Rattle.bd_log.specs.Logs.{IsLogHalf, after_sync, fresh_log};
+ghost use Rattle.bd_log.specs.Logs.{LogState, IsLogHalf, after_sync, fresh_log};
 ghost use Rattle.bd_image.specs.Standing.{IsOldOrNew};
+ghost use Rattle.bd_image.specs.Versions.{version_of, mode_version};
 ghost use Rattle.bd_checkpoint.specs.Following.{IsNext, HasTableOf, AreWritten, saved_by};
 ghost use Rattle.bd_checkpoint.specs.Kept.{Saved, IsOpenOn, AllStandFor, IsWithWaiting, IsWithAllOrNone};
 ghost use Rattle.bd_checkpoint.specs.Surviving.{SurvivesOn};
 
-use crate::publishing::publish_next;
+use crate::publishing::publish_written;
 use crate::syncing::sync;
 use bd_device::Device;
 use bd_io::Failed;
@@ -59,41 +60,36 @@ pub fn sync_by<D: Device>(pager: &mut Pager<D>, log: &mut Log) -> Result<(), Fai
     synced
 }
 
-/// Publishes the next superblock on the device of a pager, as `publish_next` does. The pager and its
+/// Publishes a superblock on the device of a pager, as `publish_written` does. The pager and its
 /// nodes stay.
-pub fn publish_by<D: Device>(
-    pager: &mut Pager<D>,
-    log: &mut Log,
-    live: &mut Super,
-    next: Super,
-) -> Result<(), Failed>
-    requires fits { IsSuper next }
-    requires follows { IsNext live.old next }
-    requires size { D.block_count pager.old.dev ≡ image_blocks live.old.slots }
-    requires starts { IfSome (D.contents pager.old.dev) (λ image. IsLive image live.old) }
+pub fn publish_by<D: Device>(pager: &mut Pager<D>, s: &Super) -> Result<(), Failed>
+    requires fits { IsSuper s.now }
+    requires version { mode_version ≤ version_of s.now }
+    requires size { D.block_count pager.old.dev ≡ image_blocks s.now.slots }
+    requires follows { IfSome (D.contents pager.old.dev) (CanFollow s.now) }
     requires settled { AreSettled (D.contents pager.old.dev) (left_now D.Device pager.old.dev) }
     requires unlent { pager.old.is_lent ≡ false }
-    ensures live { OnOk result (live.new ≡ next) }
-    ensures log { OnOk result (log.new ≡ fresh_log (log_block next.half) next.epoch) }
-    ensures err_live { OnErr result (live.new ≡ live.old) }
-    ensures err_log { OnErr result (log.new ≡ log.old) }
-    ensures time { (saved : Saved) (t : StoredTable) (nodes : Nodes) (tree : Tree)
-        → IsOpenOn D.Device pager.old.dev live.old saved log.old
-        → AreWritten (D.contents pager.old.dev) next t nodes tree
+    ensures time { (live : AnySuper) (saved : Saved) (log : LogState) (t : StoredTable)
+        (nodes : Nodes) (tree : Tree) → IsNext live s.now
+        → IsOpenOn D.Device pager.old.dev live saved log
+        → AreWritten (D.contents pager.old.dev) s.now t nodes tree
         → Goes D.Device pager.old.dev pager.new.dev
-        (IsOldOrNew (left_now D.Device pager.old.dev) tree next.count) }
+        (IsOldOrNew (left_now D.Device pager.old.dev) tree s.now.count) }
     ensures kept { OnOk result ((t : StoredTable) (nodes : Nodes) (tree : Tree)
-        → AreWritten (D.contents pager.old.dev) next t nodes tree
-        → AllStandFor tree next.count (left_now D.Device pager.new.dev)) }
+        → AreWritten (D.contents pager.old.dev) s.now t nodes tree
+        → AllStandFor tree s.now.count (left_now D.Device pager.new.dev)) }
     ensures open { OnOk result ((t : StoredTable)
-        → IfSome (D.contents pager.old.dev) (HasTableOf next t)
-        → IsOpenOn D.Device pager.new.dev live.new (saved_by next t) log.new) }
+        → IfSome (D.contents pager.old.dev) (HasTableOf s.now t)
+        → IsOpenOn D.Device pager.new.dev s.now (saved_by s.now t)
+        (fresh_log (log_block s.now.half) s.now.epoch)) }
+    ensures only { OnOk result
+        (IsOnly (D.contents pager.new.dev) (left_now D.Device pager.new.dev)) }
     ensures stays { Stays D.Device pager.old.dev pager.new.dev }
     ensures cause { FailsLast D.Device pager.old.dev pager.new.dev result }
     ensures write_faults { CountsWrites D.Device pager.old.dev pager.new.dev result }
     ensures pager { SurvivesOn D.Device pager.old pager.new }
 {
-    let published = publish_next(pager.device(), log, live, next);
+    let published = publish_written(pager.device(), s);
     pager.take_back();
     published
 }

@@ -40,7 +40,7 @@ other_entry : (slot id : ℕ) → id ≢ 1 → entry_of (fresh_table slot).entri
 unfolding entry
 other_entry slot id other = cond-false (eqb 1 id) (Some (entry slot)) None (ne_eqb 1 id (λ same. other (sym same)))
 
-other_node : (id : ℕ) → id ≢ 1 → fresh_nodes id ≡ None
+pub other_node : (id : ℕ) → id ≢ 1 → fresh_nodes id ≡ None
 other_node id other = cond-false (eqb id 1) (Some fresh_root) None (ne_eqb id 1 other)
 
 one_kept : (slot id : ℕ) → 1 ≤ refs_in (entry_of (fresh_table slot).entries id) → id ≡ 1
@@ -51,7 +51,7 @@ one_kept slot id kept = elim (cases_eq id 1) [
 
 -- ---- its root is well-formed
 
-root_fits : FitsRoot new_table root_messages
+pub root_fits : FitsRoot new_table root_messages
 root_fits = record { few = lit≤ tt; each = search rules; plain = search rules; fits = lit≤ tt }
 
 new_root_of : IsNodeOf new_table 1 new_root
@@ -97,7 +97,7 @@ sound slot = record {
 
 -- ---- its tree
 
-represents : (slot : ℕ) → Represents (root_at fresh_nodes (table_at slot)) root_only
+pub represents : (slot : ℕ) → Represents (root_at fresh_nodes (table_at slot)) root_only
 represents slot =
     let nothing : (k : List ℕ) → IsKey k → at new_nodes 1 k ≡ None = λ k key. keys_meet new_nodes (sound-levelled new_nodes new_table new_sound) 1 new_root refl k key in
     root_made (at new_nodes 1) (at fresh_nodes 1) root_messages nothing refl

@@ -1,6 +1,6 @@
 //! The pager.
 
-ghost use Rattle.std.specs.Prelude.{◌≡◌, ◌≤◌, ◌⊎◌, [], None, Some, false, length, min, IsSome, IfOk, IfErr, IfSome, OnOk, OnErr, slice_index};
+ghost use Rattle.std.specs.Prelude.{◌<◌, ◌^◌, ◌≡◌, ◌≤◌, ◌⊎◌, [], None, Some, false, length, min, IsSome, IfOk, IfErr, IfSome, OnOk, OnErr, slice_index};
 ghost use Rattle.std.specs.Borrow.{sem};
 ghost use Rattle.bd_message.specs.KeyMaps.{HasMapCause, NeverWorn};
 ghost use Rattle.bd_slots.specs.Layout.{IsTablePlace, image_blocks};
@@ -229,6 +229,7 @@ impl<D: Device> Pager<D> {
             (IsReadOf D.Device) (λ _. []) self.old self.new) }
         ensures visits { self.new.visits ≡ self.old.visits }
         ensures device { self.new.dev ≡ self.old.dev }
+        ensures lent { self.new.is_lent ≡ self.old.is_lent }
         ensures cause { HasMapCause (D.fault_count self.old.dev) (D.fault_count self.new.dev)
             (is_bad D.Device self.new) NeverWorn result }
     {
@@ -266,7 +267,8 @@ impl<D: Device> Pager<D> {
 
     /// How many nodes it keeps.
     pub fn kept(&self) -> u64
-        ensures { result ≡ kept_count (table_of self.now) }
+        ensures value { result ≡ kept_count (table_of self.now) }
+        ensures small { result < 2 ^ 63 }
     {
         self.reader.spots.len() as u64
     }
@@ -368,6 +370,13 @@ impl<D: Device> Pager<D> {
             }
             None => {}
         }
+    }
+
+    /// Whatever was done with it before, its nodes are where their spots say. It does nothing.
+    pub fn nodes_are_placed(&self)
+        ensures { IsPaged (D.contents self.now.dev) self.now }
+    {
+        let _ = &self.alloc;
     }
 
     /// The device, which is lent. Whatever is done with it, the pager then reads again what it read

@@ -1,6 +1,5 @@
 // Where the parts of an image stand.
 ghost use Rattle.std.specs.Prelude.{◌≡◌, ◌↔◌, ◌≤◌, ◌+◌, IsTrue};
-ghost use Rattle.bd_limits.specs.Limits.{slot_limit};
 ghost use Rattle.bd_slots.specs.Layout.{image_blocks, slot_block, table_length, AreSlots, IsTablePlace};
 
 use bd_limits::{
@@ -22,12 +21,16 @@ pub fn slot_block(slot: u32) -> u64
     FIRST_SLOT_BLOCK + SLOT_BLOCKS * u64::from(slot)
 }
 
+// As many entries as fill three slots, with nothing left over.
+const FULL_ENTRIES: usize = 8_192;
+const FULL_SLOTS: usize = 3;
+
 /// The slots that a table of this many entries takes.
 pub fn table_length(entries: usize) -> usize
-    requires { entries ≤ slot_limit }
     ensures { result ≡ table_length entries }
 {
-    (TABLE_HEADER_SIZE + TABLE_ENTRY_SIZE * entries).div_ceil(SLOT_SIZE)
+    let rest = TABLE_HEADER_SIZE + TABLE_ENTRY_SIZE * (entries % FULL_ENTRIES);
+    entries / FULL_ENTRIES * FULL_SLOTS + rest.div_ceil(SLOT_SIZE)
 }
 
 /// Whether all of them are slots of an image of this many, and differ.

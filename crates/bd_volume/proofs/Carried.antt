@@ -29,15 +29,6 @@ use Rattle.bd_dirs.specs.declared.plan.Plan.{Plan}
 use Rattle.bd_dirs.specs.declared.plan.Plan.TheVariants.{Refused, Apply, Graft}
 use Rattle.bd_volume.specs.Over.{accepts, TakesStep}
 
--- ---- the size of a message
-
-pub size_few : (m : Message) → IsMessage m → size m ≤ 16 + key_limit + block_limit
-size_few (Put key value) h = omega (arith, h.0, h.2)
-size_few (Del key) h = omega (arith, h)
-size_few (Patch key off bytes) h = omega (arith, h.0, h.2)
-size_few (Cut prefix from) h = omega (arith, h)
-size_few (Goto prefix source child) h = omega (arith, h.0, h.1)
-
 -- ---- a plan for a map is one for a map that has the same
 
 grafted_along : (old new : At) (s d : List ℕ) (keep : Bool) (k : List ℕ) → SameAt old new → grafted new s d keep k ≡ grafted old s d keep k

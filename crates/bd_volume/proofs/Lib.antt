@@ -2,7 +2,6 @@ pub mod Carried
 pub mod Flushes
 pub mod Fresh
 pub mod Moves
-pub mod OnNodes
 pub mod Reading
 pub mod Root
 pub mod Sent

@@ -11,7 +11,7 @@ use Rattle.bd_files.specs.Roots.{root_messages}
 use Rattle.bd_node.specs.New.{new_table}
 use Rattle.bd_node.specs.Tables.{Table}
 use Rattle.bd_node.specs.Stores.{FitsRoot}
-use Rattle.bd_volume.proofs.Sent.{small_fits}
+use Rattle.bd_effects.proofs.Fitting.{small_fits}
 
 root_small : IsSmallBatch root_messages
 root_small = record { few = lit≤ tt; each = search rules; plain = search rules }

@@ -19,7 +19,6 @@ use Rattle.bd_node.specs.Steps.{HasGrown}
 use Rattle.bd_node.specs.Stores.{FitsRoot}
 use Rattle.bd_view.specs.Trees.{TreeView, IsAppended, HasAppended, IsGraftMade, IsWalked, HasGrafted, HasSent}
 use Rattle.bd_volume.specs.Views.{IsReadyFor, IsMoved}
-use Rattle.bd_volume.proofs.Carried.{size_few}
 
 -- views with the same parts are the same
 pub view_is : (a b : TreeView) → a.nodes ≡ b.nodes → a.table ≡ b.table → a.walk ≡ b.walk → a ≡ b
@@ -31,15 +30,6 @@ stays (Ok x) a b nodes table walk = tt
 stays (Err e) a b nodes table walk = view_is a b nodes table walk
 
 -- ---- messages
-
--- a plan's messages have room
-pub small_fits : (list : List Message) (t : Table) → IsSmallBatch list → t.size ≤ late_limit → FitsRoot t list
-small_fits list t small low = record {
-  few = small.few;
-  each = small.each;
-  plain = small.plain;
-  fits = omega (arith, sum_by-le size (16 + key_limit + block_limit) list (λ k d h. size_few (slice_index_or list k d) (small.each k d h)), small.few, low);
-}
 
 pub appended : {T E : Type 0} (r : Result T E) (old new : TreeView) (list : List Message) → OnOk r (IsAppended old.nodes old.table list new.nodes new.table)
     → OnOk r (HasGrown old.table list new.table) → new.walk ≡ old.walk → OnOk r (HasAppended list old new)

@@ -13,12 +13,9 @@ ghost use Rattle.bd_view.specs.Trees.{fresh_tree, HasFlushed};
 ghost use Rattle.bd_volume.specs.Views.{view_in, keys_in, IsMoved, Wears};
 ghost use Rattle.bd_volume.specs.Volume.{StandsFor, view_of, count_of, device_of};
 
-mod answering;
-mod flushing;
 pub mod laws;
 mod memory;
 mod over;
-mod sending;
 
 use bd_command::{Command, Reply};
 use bd_device::Device;

@@ -13,9 +13,9 @@ ghost use Rattle.bd_view.specs.Trees.{HasAppended, HasGrafted};
 ghost use Rattle.bd_volume.specs.Views.{view_in, keys_in, IsReadyFor};
 ghost use Rattle.bd_volume.specs.Over.{IsFlushFault, IsGraftFault, IsHalted};
 
-use crate::flushing::{self, waiting_limit};
-use crate::{Fault, MemTree, sending};
+use crate::{Fault, MemTree};
 use bd_command::Command;
+use bd_effects::waiting_limit;
 use bd_limits::MAX_FLUSHES;
 use bd_message::{Counter, MapFault, Message};
 use bd_node::NodeStore;
@@ -54,7 +54,7 @@ fn flush(tree: &mut MemTree, command: &Command) -> Result<(), MapFault>
 {
     nodes_are_sound(tree);
     for _made in 0..MAX_FLUSHES {
-        if !flushing::flush(tree, command)? {
+        if !bd_effects::flush(tree, command)? {
             return Ok(());
         }
     }
@@ -74,7 +74,7 @@ pub fn append(tree: &mut MemTree, list: &[Message]) -> Result<(), MapFault>
     ensures fault { IfErr result (λ fault. fault ≡ MapFault.NoMemory) }
 {
     nodes_are_sound(tree);
-    sending::append(tree, list)
+    bd_effects::append(tree, list)
 }
 
 /// Makes a graft, where at most 24,576 bytes wait in the root.
@@ -90,5 +90,5 @@ pub fn graft(tree: &mut MemTree, s: &[u8], d: &[u8], keep: bool) -> Result<(), M
         IsGraftFault fault s.now d.now keep (view_in tree.old)) }
 {
     nodes_are_sound(tree);
-    sending::graft(tree, s, d, keep)
+    bd_effects::graft(tree, s, d, keep)
 }

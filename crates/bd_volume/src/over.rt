@@ -11,11 +11,11 @@ ghost use Rattle.bd_dirs.specs.Plans.{IsPlan, IsReady, IsPlanKind};
 ghost use Rattle.bd_volume.specs.Views.{view_in, keys_in, IsMoved};
 ghost use Rattle.bd_volume.specs.Over.{accepts, TakesStep, IsHalted};
 
-use crate::answering::answer;
 use crate::memory::{append, graft, make_ready, nodes_are_sound};
 use crate::{Fault, MemTree};
 use bd_command::{Command, Reply};
 use bd_dirs::{Plan, plan_command};
+use bd_effects::answer;
 use std::alloc::Global;
 
 /// Executes a command whose fields are within their limits, and counts it where it is an accepted

@@ -14,40 +14,38 @@ pub take_back-requires : goal.take_back-requires
 take_back-requires g c =
     let D = g.D.Device in
     let p = c.args.pager.now in
-    let half = c.args.next.half in
-    let new = c.publish_next-published.new.dev in
-    let same = subst (λ (d : g.row.D.Denot). StaysBut (IsOfHalf half) (D.contents d) (D.contents new)) c.device.ensures.value c.publish_next-published.ensures.outside in
+    let half = c.args.s.now.half in
+    let new = c.publish_written-published.new.dev in
+    let same = subst (λ (d : g.row.D.Denot). StaysBut (IsOfHalf half) (D.contents d) (D.contents new)) c.device.ensures.value c.publish_written-published.ensures.outside in
     cached_same (IsOfHalf half) (super_before half) (D.contents p.dev) (D.contents new) p.is_lent (spots_of p) p.cache c.requires.unlent same c.device.ensures.copies
 
 pub returns-clause-time : goal.returns-clause-time
-returns-clause-time g c = λ saved t nodes tree given written.
+returns-clause-time g c = λ live saved log t nodes tree follows given written.
     let D = g.D.Device in
-    let log = c.args.log.now in
-    let live = c.args.live.now in
-    let next = c.args.next in
+    let s = c.args.s.now in
     let old = c.args.pager.now.dev in
-    let new = c.publish_next-published.new.dev in
-    subst (λ (d : g.row.D.Denot). Goes D old d (IsOldOrNew (left_now D old) tree next.count)) (sym (ap (λ (p : Paged g.row.D.Denot). p.dev) c.take_back.ensures))
-    (subst (λ (d : g.row.D.Denot). IsOpenOn D d live saved log → AreWritten (D.contents d) next t nodes tree → Goes D d new (IsOldOrNew (left_now D d) tree next.count)) c.device.ensures.value
-    (c.publish_next-published.ensures.time saved t nodes tree) given written)
+    let new = c.publish_written-published.new.dev in
+    subst (λ (d : g.row.D.Denot). Goes D old d (IsOldOrNew (left_now D old) tree s.count)) (sym (ap (λ (p : Paged g.row.D.Denot). p.dev) c.take_back.ensures))
+    (subst (λ (d : g.row.D.Denot). IsOpenOn D d live saved log → AreWritten (D.contents d) s t nodes tree → Goes D d new (IsOldOrNew (left_now D d) tree s.count)) c.device.ensures.value
+    (c.publish_written-published.ensures.time live saved log t nodes tree follows) given written)
 
 pub returns-clause-kept : goal.returns-clause-kept
 returns-clause-kept g c =
     let D = g.D.Device in
-    let next = c.args.next in
-    let new = c.publish_next-published.new.dev in
-    on_ok_weaker c.publish_next-published.result
+    let s = c.args.s.now in
+    let new = c.publish_written-published.new.dev in
+    on_ok_weaker c.publish_written-published.result
     (λ kept. λ t nodes tree written.
-    subst (λ (d : g.row.D.Denot). AllStandFor tree next.count (left_now D d)) (sym (ap (λ (p : Paged g.row.D.Denot). p.dev) c.take_back.ensures))
-    (subst (λ (d : g.row.D.Denot). AreWritten (D.contents d) next t nodes tree → AllStandFor tree next.count (left_now D new)) c.device.ensures.value (kept t nodes tree) written))
-    c.publish_next-published.ensures.kept
+    subst (λ (d : g.row.D.Denot). AllStandFor tree s.count (left_now D d)) (sym (ap (λ (p : Paged g.row.D.Denot). p.dev) c.take_back.ensures))
+    (subst (λ (d : g.row.D.Denot). AreWritten (D.contents d) s t nodes tree → AllStandFor tree s.count (left_now D new)) c.device.ensures.value (kept t nodes tree) written))
+    c.publish_written-published.ensures.kept
 
 pub returns-clause-pager : goal.returns-clause-pager
 returns-clause-pager g c =
     let D = g.D.Device in
     let p = c.args.pager.now in
-    let half = c.args.next.half in
+    let half = c.args.s.now.half in
     let after = c.take_back.new.self in
-    let from = subst (λ (d : g.row.D.Denot). StaysBut (IsOfHalf half) (D.contents d) (D.contents c.publish_next-published.new.dev)) c.device.ensures.value c.publish_next-published.ensures.outside in
+    let from = subst (λ (d : g.row.D.Denot). StaysBut (IsOfHalf half) (D.contents d) (D.contents c.publish_written-published.new.dev)) c.device.ensures.value c.publish_written-published.ensures.outside in
     let same = subst (λ (d : g.row.D.Denot). StaysBut (IsOfHalf half) (D.contents p.dev) (D.contents d)) (sym (ap (λ (q : Paged g.row.D.Denot). q.dev) c.take_back.ensures)) from in
-    survives (IsOfHalf half) (super_before half) D p after (taken_back p after c.publish_next-published.new.dev c.requires.unlent c.take_back.ensures) same
+    survives (IsOfHalf half) (super_before half) D p after (taken_back p after c.publish_written-published.new.dev c.requires.unlent c.take_back.ensures) same

@@ -1,7 +1,7 @@
 -- A small batch has room, and is put after the root's messages.
-use Rattle.bd_volume.proofs.Sent.{small_fits}
-use Rattle.bd_volume.proofs.OnNodes.{is_appended}
-use Rattle.bd_volume.proofs.sending.append.Goals as goal
+use Rattle.bd_effects.proofs.Fitting.{small_fits}
+use Rattle.bd_effects.proofs.OnNodes.{is_appended}
+use Rattle.bd_effects.proofs.sending.append.Goals as goal
 
 pub apply-requires : goal.apply-requires
 apply-requires g c = small_fits c.args.list.now (g.S.NodeStore.table c.args.tree.now.store) c.requires.small c.requires.room

@@ -1,6 +1,6 @@
 -- A graft, in the words of its parts.
-use Rattle.bd_volume.proofs.OnNodes.{is_graft_made, is_walked}
-use Rattle.bd_volume.proofs.sending.graft.Goals as goal
+use Rattle.bd_effects.proofs.OnNodes.{is_graft_made, is_walked}
+use Rattle.bd_effects.proofs.sending.graft.Goals as goal
 
 pub returns-clause-walked : goal.returns-clause-walked
 returns-clause-walked g c =

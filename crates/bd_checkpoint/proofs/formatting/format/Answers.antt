@@ -1,0 +1,72 @@
+use Rattle.std.proofs.Common.{◌≡◌, ℕ, true, false, length, Option, IfSome, sym, ap, subst, ◌∙◌}
+use Rattle.std.proofs.lemmas.List.{length-replicate}
+use Rattle.bd_slots.specs.Layout.{image_blocks}
+use Rattle.bd_device.specs.Blocks.{Image}
+use Rattle.bd_device.specs.Device.{left_now, Stays}
+use Rattle.bd_device.proofs.Calls.{stays_then}
+use Rattle.bd_node.specs.Steps.{with_touched}
+use Rattle.bd_node.specs.Tables.{Table}
+use Rattle.bd_super.specs.Live.{NoneIsCommitted}
+use Rattle.bd_super.specs.Published.{AreSettled}
+use Rattle.bd_table.specs.Tables.{AreFreeSlots}
+use Rattle.bd_pager.specs.Pagers.{Paged}
+use Rattle.bd_model.specs.Tree.{root_only}
+use Rattle.bd_checkpoint.specs.Kept.{slots_held}
+use Rattle.bd_checkpoint.specs.Recovering.{saved_of}
+use Rattle.bd_checkpoint.proofs.FreshTree.{has_room}
+use Rattle.bd_checkpoint.proofs.Published.{settled_only}
+use Rattle.bd_checkpoint.proofs.formatting.format.Goals as goal
+
+pub first_checkpoint-requires-clause-spare : goal.first_checkpoint-requires-clause-spare
+first_checkpoint-requires-clause-spare g c = ap length c.in-Ok-new_pager.ensures.new.spare ∙ length-replicate c.args.slots true
+
+pub first_checkpoint-requires-clause-size : goal.first_checkpoint-requires-clause-size
+first_checkpoint-requires-clause-size g c = ap g.D.Device.block_count c.in-Ok-new_pager.ensures.new.device ∙ c.in-Ok.ensures.stays.count ∙ c.requires.size
+
+pub first_checkpoint-requires-clause-room : goal.first_checkpoint-requires-clause-room
+first_checkpoint-requires-clause-room g c =
+    let p = c.in-Ok-new_pager.pager in
+    has_room c.args.slots c.clear_supers.new.dev p c.requires.slots c.in-Ok-new_pager.ensures.new (ap (λ (t : Table). t.next) c.in-Ok-new_pager.ensures.table.is)
+
+pub first_checkpoint-requires-clause-none : goal.first_checkpoint-requires-clause-none
+first_checkpoint-requires-clause-none g c =
+    subst (λ (d : g.row.D.Denot). IfSome (g.D.Device.contents d) NoneIsCommitted) (sym c.in-Ok-new_pager.ensures.new.device) c.in-Ok.ensures.cleared
+
+pub first_checkpoint-requires-clause-settled : goal.first_checkpoint-requires-clause-settled
+first_checkpoint-requires-clause-settled g c =
+    let D = g.D.Device in
+    let mid = c.clear_supers.new.dev in
+    subst (λ (d : g.row.D.Denot). AreSettled (D.contents d) (left_now D d)) (sym c.in-Ok-new_pager.ensures.new.device) (settled_only (D.contents mid) (left_now D mid) c.in-Ok.ensures.only)
+
+pub returns-clause-stands : goal.returns-clause-stands
+returns-clause-stands g c = λ told.
+    let known = c.in-Ok.ensures.told told in
+    c.in-Ok-first_checkpoint.ensures.stands root_only (c.in-Ok-new_pager.ensures.known known) (c.in-Ok-new_pager.ensures.tree known)
+
+pub returns-clause-known : goal.returns-clause-known
+returns-clause-known g c = λ told. c.in-Ok-first_checkpoint.ensures.saved.keeps.known (c.in-Ok-new_pager.ensures.known (c.in-Ok.ensures.told told))
+
+pub returns-clause-nodes : goal.returns-clause-nodes
+returns-clause-nodes g c = λ told.
+    let known = c.in-Ok.ensures.told told in
+    c.in-Ok-first_checkpoint.ensures.saved.keeps.nodes (c.in-Ok-new_pager.ensures.known known) ∙ c.in-Ok-new_pager.ensures.nodes known
+
+pub returns-clause-table : goal.returns-clause-table
+returns-clause-table g c = c.in-Ok-first_checkpoint.ensures.saved.table ∙ ap (with_touched (λ id. false)) c.in-Ok-new_pager.ensures.table.is
+
+pub returns-clause-spare : goal.returns-clause-spare
+returns-clause-spare g c =
+    let new = c.first_checkpoint.new.pager in
+    subst (λ (n : ℕ). AreFreeSlots n (slots_held (saved_of new)) new.spare) (ap length c.in-Ok-new_pager.ensures.new.spare ∙ length-replicate c.args.slots true) c.in-Ok-first_checkpoint.ensures.saved.spare
+
+pub returns-clause-lent : goal.returns-clause-lent
+returns-clause-lent g c = ap (λ (p : Paged g.row.D.Denot). p.is_lent) c.in-Ok-first_checkpoint.ensures.saved.rest ∙ c.in-Ok-new_pager.ensures.new.lent
+
+pub returns-clause-stays : goal.returns-clause-stays
+returns-clause-stays g c =
+    let mid = c.clear_supers.new.dev in
+    stays_then c.in-Ok.ensures.stays
+    (subst (λ (d : g.row.D.Denot). Stays g.D.Device d c.first_checkpoint.new.pager.dev) c.in-Ok-new_pager.ensures.new.device c.in-Ok-first_checkpoint.ensures.stays)
+
+pub returns-clause-faults : goal.returns-clause-faults
+returns-clause-faults g c = c.in-Ok-first_checkpoint.ensures.cause.kept ∙ ap g.D.Device.fault_count c.in-Ok-new_pager.ensures.new.device ∙ c.in-Ok.ensures.cause.kept
