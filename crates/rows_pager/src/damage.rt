@@ -61,27 +61,40 @@ fn a_slot_without_its_node_is_damaged(rt: HostRuntime) -> Result<(), Fail> {
     Ok(())
 }
 
-/// Copies a slot to another image.
-fn copy_slot(from: &mut MemDevice, to: &mut MemDevice, slot: u32) -> Result<(), Fail> {
+/// The first block of the table of so many nodes in the first slots.
+fn table_block(nodes: u64) -> u64 {
+    nodes.saturating_mul(16).saturating_add(132)
+}
+
+/// Copies so many blocks to another device, from one block on to another one on.
+fn copy_blocks(
+    from: &mut MemDevice,
+    to: &mut MemDevice,
+    first: u64,
+    into: u64,
+    count: u64,
+) -> Result<(), Fail> {
     let mut bytes = [0; BLOCK_SIZE];
-    for block in slot_block(slot)..slot_block(slot) + 16 {
+    for index in 0..count {
+        let block = first.saturating_add(index);
         if block >= from.blocks() {
             return Err(Fail::new("no such block"));
         }
         from.read(block, &mut bytes)?;
-        overwrite(to, block, &bytes)?;
+        overwrite(to, into.saturating_add(index), &bytes)?;
     }
     Ok(())
 }
 
-// The root of an image with more nodes, in slot 0, names some that this image doesn't keep: its
-// table can't be right.
+// The root of an image with more nodes names some that this image doesn't keep: its table can't be
+// right. The root's slot is the last one before the table's.
 #[test]
 fn a_name_of_no_node_is_damage_of_the_table(rt: HostRuntime) -> Result<(), Fail> {
     let (mut small, nodes) = saved(rt.alloc(), 60)?;
-    let (mut large, _) = saved(rt.alloc(), 120)?;
-    copy_slot(&mut large.device, &mut small.device, 0)?;
-    let found = damaged_block(rt.alloc(), small)?;
-    assert_eq!(rt; found, Some(132 + 16 * nodes));
+    let (mut large, more) = saved(rt.alloc(), 120)?;
+    let table = table_block(nodes);
+    let first = table_block(more).saturating_sub(16);
+    copy_blocks(&mut large.device, &mut small.device, first, table.saturating_sub(16), 16)?;
+    assert_eq!(rt; damaged_block(rt.alloc(), small)?, Some(table));
     Ok(())
 }
