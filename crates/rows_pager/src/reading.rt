@@ -10,7 +10,7 @@ use std::alloc::{AllocError, Global};
 use std::test::Fail;
 
 /// How many keys there are.
-const KEYS: u32 = 1_700;
+const KEYS: u32 = 2_000;
 
 /// The key of a number.
 fn key(alloc: Global, number: u32) -> Result<Vec<u8>, AllocError> {
@@ -84,7 +84,7 @@ fn nodes_that_are_asked_in_turn(rt: HostRuntime) -> Result<(), Fail> {
     let alloc = rt.alloc();
     for (room, times, again) in ROWS {
         let (saved, kept) = filled(alloc)?;
-        assert!(rt; kept > 85, "{kept}");
+        assert!(rt; kept > 90, "{kept}");
         let found = slots_read(alloc, saved, *room, *times)?;
         let more = if *again { 2 } else { 0 };
         let want = kept.saturating_sub(1).saturating_mul(1 + more).saturating_add(2);
