@@ -77,6 +77,7 @@ impl<D: Device + Drop> Stored<D> {
     }
 
     /// One more message, where there is room.
+    #[tactic(auto, using(crate::proofs::ImageLemmas::images))]
     pub fn apply(&mut self, alloc: Global, message: Message) -> Result<(), Fail> {
         let room = MAX_BUFFER.saturating_sub(self.pager.root_size());
         if !message.is_message() || message.size() > room {
@@ -92,6 +93,7 @@ impl<D: Device + Drop> Stored<D> {
     }
 
     /// One more graft, where it is allowed.
+    #[tactic(auto, using(crate::proofs::ImageLemmas::images))]
     pub fn graft(&mut self, alloc: Global, s: &[u8], d: &[u8], keep: bool) -> Result<(), Fail> {
         let room = MAX_BUFFER.saturating_sub(self.pager.root_size());
         let is_short = s.len() <= MAX_KEY && d.len() <= MAX_KEY;
@@ -103,11 +105,13 @@ impl<D: Device + Drop> Stored<D> {
     }
 
     /// A step of a flush, where more than so many bytes wait. Whether it was made.
+    #[tactic(auto, using(crate::proofs::ImageLemmas::images))]
     pub fn flush_step(&mut self, alloc: Global, limit: usize) -> Result<bool, Fail> {
         Ok(flush_step(alloc, &mut self.pager, limit)?)
     }
 
     /// Writes changed nodes early.
+    #[tactic(auto, using(crate::proofs::ImageLemmas::images))]
     pub fn spill(&mut self, early: u64) -> Result<(), Failed> {
         self.pager.spill(early)
     }
