@@ -11,6 +11,7 @@ use std::test::Fail;
 
 /// How many slots there are, and how many nodes are kept that were read.
 const SLOTS: u32 = 128;
+
 const ROOM: usize = 4;
 
 /// What is done, each as often as it comes.
@@ -31,12 +32,7 @@ const SIZES: &[usize] = &[1, 30, 900, 900];
 const LIMITS: &[usize] = &[0, 200, 4_000, 16_384];
 
 /// Puts, patches, deletes or cuts.
-fn change(
-    alloc: Global,
-    both: &mut Both,
-    name: &str,
-    numbers: &mut Numbers,
-) -> Result<(), Fail> {
+fn change(alloc: Global, both: &mut Both, name: &str, numbers: &mut Numbers) -> Result<(), Fail> {
     let first = *numbers.pick(PREFIXES)?;
     let tail = *numbers.pick(TAILS)?;
     if name == "cut" {

@@ -94,7 +94,13 @@ fn a_name_of_no_node_is_damage_of_the_table(rt: HostRuntime) -> Result<(), Fail>
     let (mut large, more) = saved(rt.alloc(), 120)?;
     let table = table_block(nodes);
     let first = table_block(more).saturating_sub(16);
-    copy_blocks(&mut large.device, &mut small.device, first, table.saturating_sub(16), 16)?;
+    copy_blocks(
+        &mut large.device,
+        &mut small.device,
+        first,
+        table.saturating_sub(16),
+        16,
+    )?;
     assert_eq!(rt; damaged_block(rt.alloc(), small)?, Some(table));
     Ok(())
 }

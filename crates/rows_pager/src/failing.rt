@@ -40,7 +40,10 @@ fn a_device_that_fails_at_each_call(rt: HostRuntime) -> Result<(), Fail> {
         let mut both = filled(rt.alloc(), 60, &[call])?;
         let nodes = both.stored.pager().kept();
         if !fails(&mut both.stored)? {
-            assert_eq!(rt; call, nodes.saturating_add(1).saturating_mul(16).saturating_add(1));
+            assert_eq!(rt;
+                call,
+                nodes.saturating_add(1).saturating_mul(16).saturating_add(1)
+            );
             return Ok(());
         }
         assert_eq!(rt; go_on(rt.alloc(), both)?, Some(61), "{call}");

@@ -87,7 +87,10 @@ fn nodes_that_are_asked_in_turn(rt: HostRuntime) -> Result<(), Fail> {
         assert!(rt; kept > 90, "{kept}");
         let found = slots_read(alloc, saved, *room, *times)?;
         let more = if *again { 2 } else { 0 };
-        let want = kept.saturating_sub(1).saturating_mul(1 + more).saturating_add(2);
+        let want = kept
+            .saturating_sub(1)
+            .saturating_mul(1 + more)
+            .saturating_add(2);
         assert_eq!(rt; found, Some(want), "{room} {times}");
     }
     Ok(())

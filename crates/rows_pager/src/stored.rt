@@ -42,7 +42,12 @@ pub struct Saved<D> {
 impl<D: Device + Drop> Stored<D> {
     /// A pager that has saved nothing and keeps at most `room` nodes that it has read. A device that
     /// hasn't the blocks of so many slots faults.
-    pub fn fresh(alloc: Global, device: D, slots: u32, room: usize) -> Result<Stored<D>, ImageFault> {
+    pub fn fresh(
+        alloc: Global,
+        device: D,
+        slots: u32,
+        room: usize,
+    ) -> Result<Stored<D>, ImageFault> {
         if slots > MAX_SLOTS || device.blocks() != image_blocks(slots) || room == 0 {
             return Err(ImageFault::DeviceFault);
         }

@@ -87,7 +87,11 @@ fn a_file_of_200_pieces(rt: HostRuntime) -> Result<(), Fail> {
         assert_eq!(rt; found, [(9, 256), (11, 246)], "{spills}");
         let (mut tree, stored) = both.into_parts();
         let mut found = Tree::over(rt.alloc(), stored.into_pager());
-        assert_eq!(rt; same_keys(rt.alloc(), &mut tree, &mut found)?, Some(402), "{spills}");
+        assert_eq!(rt;
+            same_keys(rt.alloc(), &mut tree, &mut found)?,
+            Some(402),
+            "{spills}"
+        );
     }
     Ok(())
 }
