@@ -40,8 +40,8 @@ pub struct Saved<D> {
 }
 
 impl<D: Device + Drop> Stored<D> {
-    /// A pager that has saved nothing and keeps at most `room` nodes that it has read. A device that
-    /// hasn't the blocks of so many slots faults.
+    /// A pager that has saved nothing and keeps at most `room` nodes that it has read. A device
+    /// that hasn't the blocks of so many slots faults.
     pub fn fresh(
         alloc: Global,
         device: D,

@@ -33,8 +33,8 @@ fn line(alloc: Global, piece: u32) -> Result<String, Fail> {
     Ok(line)
 }
 
-/// Writes pieces of `/f`, and flushes after each. With `spills` at most two changed nodes then stay in
-/// memory.
+/// Writes pieces of `/f`, and flushes after each. With `spills` at most two changed nodes then stay
+/// in memory.
 fn write_pieces(
     alloc: Global,
     both: &mut Both,
