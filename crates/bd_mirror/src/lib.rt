@@ -6,7 +6,10 @@
 
 mod copying;
 mod halves;
+mod history;
+mod laws;
 mod mirror;
 mod writing;
 
+pub use laws::law_of_two_writes;
 pub use mirror::Mirror;
