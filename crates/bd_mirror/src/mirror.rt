@@ -1,4 +1,4 @@
-ghost use Rattle.std.specs.Prelude.{◌≡◌, ◌≢◌, ℕ, List, [], ◌<◌, ◌≤◌, ◌+◌, ◌-◌, ◌^◌, if◌then◌else◌, ◌⊎◌, true, false, IsTrue, None, Some, IfSome, IfNone, IfOk, OnOk, OnErr, is_ok, is_err, slice_get};
+ghost use Rattle.std.specs.Prelude.{◌≡◌, ◌≢◌, ℕ, List, [], ◌∷◌, ◌<◌, ◌≤◌, ◌+◌, ◌-◌, ◌^◌, if◌then◌else◌, ◌⊎◌, true, false, IsTrue, None, Some, IfSome, IfNone, IfOk, OnOk, OnErr, is_ok, is_err, slice_get};
 ghost use Rattle.bd_io.specs.Cause.{HasCause, IsCounted, Rose};
 ghost use Rattle.bd_device.specs.Calls.{faults_after, no_calls};
 ghost use Rattle.bd_device.specs.Blocks.{Image, with_block, ChangesOnly};
@@ -14,7 +14,7 @@ ghost use Rattle.bd_device.specs.Moments.{Nothing as Unwritten, TornAt, Elapses,
 ghost use Rattle.bd_mirror.specs.Halves.{has_marks, IsInUse, halves_of, with_halves, uses_first, uses_second, blocks_in, EachDid, LeftOnly, AttachedTo, is_two, is_too_many};
 ghost use Rattle.bd_mirror.specs.Since.{mirror_since, KeepsMoments, LeavesNow};
 ghost use Rattle.bd_mirror.specs.Writing.{IsWithin, IsBarrier, bytes_of, contents_after, TornBy, IsLeftBy};
-ghost use Rattle.bd_mirror.specs.Calls.{blocks_now, shown_now, shown_of, IsMirror, KeepsMarks, mirror_left, LeavesImages, IsMade, LeavesWhatItShows, attached_as, AreSettled, in_use, attached_to, first_of, second_of, counts_of, moments_of, calls_of, faults_of, write_faults_of, last_of, IsFull, FirstFailed, SecondFailed, HalvesStay};
+ghost use Rattle.bd_mirror.specs.Calls.{blocks_now, shown_now, shown_of, IsMirror, KeepsMarks, mirror_left, LeavesImages, IsMade, LeavesWhatItShows, attached_as, AreSettled, in_use, attached_to, first_of, second_of, counts_of, moments_of, calls_of, faults_of, write_faults_of, last_of, IsFull, FirstFailed, SecondFailed, HalvesNamed, HalvesStay};
 
 use crate::copying::{go_on_alone, is_alone, is_open, mirror_onto, open_member};
 use crate::halves::{Attached, Halves};
@@ -203,6 +203,8 @@ impl<A: Device, B: Device> Device for Mirror<A, B> {
         ensures second_time { Goes B.Device (second_of self.old) (second_of self.new) Unwritten }
         ensures marks { KeepsMarks A.Device B.Device self.old
             → KeepsMarks A.Device B.Device self.new }
+        ensures noted { moments_of self.new
+            ≡ (first_of self.old, second_of self.old) ∷ moments_of self.old }
         ensures moments { KeepsMoments self.old → KeepsMoments self.new }
         ensures time { KeepsMoments self.old → Elapses (calls_of self.old) (calls_of self.new)
             (mirror_since A.Device B.Device self.old) (mirror_since A.Device B.Device self.new)
@@ -249,6 +251,8 @@ impl<A: Device, B: Device> Device for Mirror<A, B> {
             ⊎ TornAt b (mirror_left A.Device B.Device self.old) image) }
         ensures marks { IsMirror A.Device B.Device self.old
             → KeepsMarks A.Device B.Device self.old → KeepsMarks A.Device B.Device self.new }
+        ensures noted { moments_of self.new
+            ≡ (first_of self.old, second_of self.old) ∷ moments_of self.old }
         ensures moments { KeepsMoments self.old → KeepsMoments self.new }
         ensures time { has_marks (attached_to self.old) ≡ true
             → KeepsMarks A.Device B.Device self.old → KeepsMoments self.old
@@ -298,6 +302,8 @@ impl<A: Device, B: Device> Device for Mirror<A, B> {
         ensures left { OnOk result (IsMirror A.Device B.Device self.old
             → KeepsMarks A.Device B.Device self.old
             → LeavesWhatItShows A.Device B.Device self.new) }
+        ensures noted { moments_of self.new
+            ≡ (first_of self.old, second_of self.old) ∷ moments_of self.old }
         ensures moments { KeepsMoments self.old → KeepsMoments self.new }
         ensures time { has_marks (attached_to self.old) ≡ true
             → KeepsMarks A.Device B.Device self.old → KeepsMoments self.old
@@ -349,6 +355,7 @@ impl<A: Attach, B: Attach> Mirror<A, B> {
             (A.block_count (first_of self.new)) (B.block_count (second_of self.new)) ≡ n)) }
         ensures named { IfOk result (λ at. IsNamed name.now at
             (A.block_count (first_of self.new)) (B.block_count (second_of self.new))) }
+        ensures halves { OnOk result (HalvesNamed A.Device B.Device name.now self.new) }
         ensures mirror { IfOk result (λ at. IsMade A.Device B.Device (attached_as at self.new)) }
         ensures opened { IfOk result (λ at. at ≡ Member → 0 < A.block_count (first_of self.new)
             → IfSome (A.contents (first_of self.new))
@@ -404,6 +411,7 @@ impl<A: Attach, B: Attach> Mirror<A, B> {
         ensures behind { IfNone size
             (option_map without_last (A.shows (first_of self.new) name.now)
             ≡ option_map without_last (A.shows (first_of self.old) name.now)) }
+        ensures named { OnOk result (A.is_named (first_of self.new) name.now) }
         ensures opened { OnOk result (0 < A.block_count (first_of self.new)
             → IfSome (A.contents (first_of self.new))
             (λ image. is_open_at (A.block_count (first_of self.new) - 1) image ≡ true)) }
@@ -425,6 +433,8 @@ impl<A: Attach, B: Attach> Mirror<A, B> {
         ensures attached { IfOk result (λ at. AttachedTo at
             (FirstFailed A.Device self.old self.new) (SecondFailed B.Device self.old self.new)) }
         ensures two { IfOk result (λ at. is_two at ≡ true) }
+        ensures first_named { OnOk result (A.is_named (first_of self.new) first.now) }
+        ensures second_named { OnOk result (B.is_named (second_of self.new) second.now) }
         ensures marks { IfOk result (λ at. 0 < A.block_count (first_of self.new)
             → A.block_count (first_of self.new) ≡ B.block_count (second_of self.new)
             → has_marks at ≡ true) }
@@ -568,9 +578,12 @@ impl<A: Attach, B: Attach> Attach for Mirror<A, B> {
         // halves showed, by the pick.
         ensures named { OnOk result (IsNamed name.now (attached_to self.new)
             (A.block_count (first_of self.new)) (B.block_count (second_of self.new))) }
+        ensures halves { OnOk result (HalvesNamed A.Device B.Device name.now self.new) }
         ensures mirror { OnOk result (IsMirror A.Device B.Device self.new) }
         ensures left { OnOk result (LeavesWhatItShows A.Device B.Device self.new) }
         ensures marks { OnOk result (KeepsMarks A.Device B.Device self.new) }
+        ensures noted { moments_of self.new
+            ≡ (first_of self.old, second_of self.old) ∷ moments_of self.old }
         ensures moments { KeepsMoments self.old → KeepsMoments self.new }
         ensures settled { OnOk result (has_marks (attached_to self.new) ≡ true
             → KeepsMoments self.old → LeavesNow A.Device B.Device self.new) }
