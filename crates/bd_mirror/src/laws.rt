@@ -1,7 +1,6 @@
-ghost use Rattle.std.specs.Prelude.{◌≡◌, ◌<◌, true};
+ghost use Rattle.std.specs.Prelude.{◌<◌};
 ghost use Rattle.bd_device.specs.Moments.{Elapses};
-ghost use Rattle.bd_mirror.specs.Halves.{has_marks};
-ghost use Rattle.bd_mirror.specs.Calls.{blocks_now, IsMirror, KeepsMarks, attached_to, calls_of};
+ghost use Rattle.bd_mirror.specs.Calls.{blocks_now, IsMirror, KeepsMarks, calls_of};
 ghost use Rattle.bd_mirror.specs.Since.{mirror_since, KeepsMoments, IsTornByTwo};
 
 use crate::Mirror;
@@ -19,8 +18,7 @@ pub fn law_of_two_writes<A: Device, B: Device>(
 ) -> Result<(), Failed>
     requires first_room { b < blocks_now A.Device B.Device mirror.old }
     requires second_room { c < blocks_now A.Device B.Device mirror.old }
-    ensures time { has_marks (attached_to mirror.old) ≡ true
-        → IsMirror A.Device B.Device mirror.old → KeepsMarks A.Device B.Device mirror.old
+    ensures time { IsMirror A.Device B.Device mirror.old → KeepsMarks A.Device B.Device mirror.old
         → KeepsMoments mirror.old → Elapses (calls_of mirror.old) (calls_of mirror.new)
         (mirror_since A.Device B.Device mirror.old) (mirror_since A.Device B.Device mirror.new)
         (IsTornByTwo b c (mirror_since A.Device B.Device mirror.old (calls_of mirror.old))) }

@@ -254,8 +254,7 @@ impl<A: Device, B: Device> Device for Mirror<A, B> {
         ensures noted { moments_of self.new
             ≡ (first_of self.old, second_of self.old) ∷ moments_of self.old }
         ensures moments { KeepsMoments self.old → KeepsMoments self.new }
-        ensures time { has_marks (attached_to self.old) ≡ true
-            → KeepsMarks A.Device B.Device self.old → KeepsMoments self.old
+        ensures time { KeepsMarks A.Device B.Device self.old → KeepsMoments self.old
             → Elapses (calls_of self.old) (calls_of self.new)
             (mirror_since A.Device B.Device self.old) (mirror_since A.Device B.Device self.new)
             (TornAt b (mirror_since A.Device B.Device self.old (calls_of self.old))) }
@@ -305,12 +304,11 @@ impl<A: Device, B: Device> Device for Mirror<A, B> {
         ensures noted { moments_of self.new
             ≡ (first_of self.old, second_of self.old) ∷ moments_of self.old }
         ensures moments { KeepsMoments self.old → KeepsMoments self.new }
-        ensures time { has_marks (attached_to self.old) ≡ true
-            → KeepsMarks A.Device B.Device self.old → KeepsMoments self.old
+        ensures time { KeepsMarks A.Device B.Device self.old → KeepsMoments self.old
             → Elapses (calls_of self.old) (calls_of self.new)
             (mirror_since A.Device B.Device self.old) (mirror_since A.Device B.Device self.new)
             Unwritten }
-        ensures settled { OnOk result (has_marks (attached_to self.old) ≡ true
+        ensures settled { OnOk result (0 < blocks_now A.Device B.Device self.old
             → IsMirror A.Device B.Device self.old → KeepsMarks A.Device B.Device self.old
             → KeepsMoments self.old → LeavesNow A.Device B.Device self.new) }
         ensures alone { is_two (attached_to self.old) ≡ false
