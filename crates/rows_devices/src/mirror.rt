@@ -244,16 +244,17 @@ fn found_after(
 #[test]
 fn a_loss_of_power_leaves_what_one_half_had(rt: HostRuntime) -> Result<(), Fail> {
     let torn = Torn::Fill(9);
+    let (all, one) = (99, FIRST_CALLS);
     for (row, calls, settled, first, second, named, turned) in [
-        ("both old", 99, false, Torn::Old, Torn::Old, [1, 2], [1, 2]),
-        ("old, new", 99, false, Torn::Old, Torn::New, [1, 2], [3, 4]),
-        ("new, old", 99, false, Torn::New, Torn::Old, [3, 4], [1, 2]),
-        ("torn, new", 99, false, torn, Torn::New, [9, 9], [3, 4]),
-        ("new, torn", 99, false, Torn::New, torn, [3, 4], [9, 9]),
-        ("settled", 99, true, Torn::Old, torn, [3, 4], [3, 4]),
-        ("alone, old", FIRST_CALLS, false, torn, Torn::Old, [3, 2], [3, 2]),
-        ("alone, torn", FIRST_CALLS, false, Torn::Old, torn, [3, 9], [3, 9]),
-        ("alone at last", FIRST_CALLS + 1, false, torn, torn, [3, 4], [3, 4]),
+        ("both old", all, false, Torn::Old, Torn::Old, [1, 2], [1, 2]),
+        ("old, new", all, false, Torn::Old, Torn::New, [1, 2], [3, 4]),
+        ("new, old", all, false, Torn::New, Torn::Old, [3, 4], [1, 2]),
+        ("torn, new", all, false, torn, Torn::New, [9, 9], [3, 4]),
+        ("new, torn", all, false, Torn::New, torn, [3, 4], [9, 9]),
+        ("settled", all, true, Torn::Old, torn, [3, 4], [3, 4]),
+        ("alone, old", one, false, torn, Torn::Old, [3, 2], [3, 2]),
+        ("alone, torn", one, false, Torn::Old, torn, [3, 9], [3, 9]),
+        ("alone last", one + 1, false, torn, torn, [3, 4], [3, 4]),
     ] {
         let loss = Loss {
             calls,
@@ -262,7 +263,11 @@ fn a_loss_of_power_leaves_what_one_half_had(rt: HostRuntime) -> Result<(), Fail>
             second,
         };
         assert_eq!(rt; found_after(rt.alloc(), loss, false)?, Ok(named), "{row}");
-        assert_eq!(rt; found_after(rt.alloc(), loss, true)?, Ok(turned), "{row}, turned");
+        assert_eq!(rt;
+            found_after(rt.alloc(), loss, true)?,
+            Ok(turned),
+            "{row}, turned"
+        );
     }
     Ok(())
 }
