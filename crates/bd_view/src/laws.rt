@@ -90,8 +90,8 @@ pub fn full_views_stay()
         → (new ≡ v) × (free ≡ free_slots v) × (need ≡ need_slots c v) }
 {}
 
-/// A view with the log's place and the bytes that wait there has the room that the log has, and after
-/// a sync its place.
+/// A view with the log's place and the bytes that wait there has the room that the log has, and
+/// after a sync its place.
 pub fn logs_have_the_same_numbers()
     ensures room { (log : LogState) (v : View) → v.place ≡ log.place
         → v.waiting ≡ length (concat log.waiting) → log_room v ≡ room_left log }
