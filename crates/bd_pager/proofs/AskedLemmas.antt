@@ -26,7 +26,7 @@ entry_saved entries id slot level found =
 pub unchanged_held : (spare : List Bool) (slot : ℕ) → slot < length spare → get_or spare slot true ≡ false → IsHeld spare slot
 unchanged_held spare slot low is = slice_get-get_or spare slot true low ∙ ap Some is
 
-unchanged_saved : (spare : List Bool) (entries : List TableEntry) (id level : ℕ) (p : Place) → IsPlaceIn spare p → IsStoredAs spare entries id level p → is_changed_place spare p ≡ false → is_saved entries id ≡ true
+pub unchanged_saved : (spare : List Bool) (entries : List TableEntry) (id level : ℕ) (p : Place) → IsPlaceIn spare p → IsStoredAs spare entries id level p → is_changed_place spare p ≡ false → is_saved entries id ≡ true
 unchanged_saved spare entries id level (Memory node slot) within stored is = absurd (true≢false is)
 unchanged_saved spare entries id level (Slot slot copy) within stored is = entry_saved entries id slot level (stored (unchanged_held spare slot within is))
 

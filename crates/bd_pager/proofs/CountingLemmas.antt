@@ -35,7 +35,7 @@ use Rattle.bd_pager.proofs.ChangingLemmas.{place_now}
 abbrev pub flag : Bool → ℕ
 flag b = cond b 1 0
 
-flag_small : (b : Bool) → flag b ≤ 1
+pub flag_small : (b : Bool) → flag b ≤ 1
 flag_small true = omega arith
 flag_small false = omega arith
 
@@ -452,7 +452,7 @@ dropped_tallied next u spots new id s there gone others low was =
 
 -- ---- more ids
 
-sum_zero : (n : ℕ) (f : ℕ → ℕ) → ((i : ℕ) → f i ≡ 0) → sum_below n f ≡ 0
+pub sum_zero : (n : ℕ) (f : ℕ → ℕ) → ((i : ℕ) → f i ≡ 0) → sum_below n f ≡ 0
 unfolding sum_below
 sum_zero zero f none = refl
 sum_zero (suc n) f none = omega (arith, sum_zero n f none, none n)

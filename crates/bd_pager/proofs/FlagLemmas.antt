@@ -77,18 +77,22 @@ all_true : (n : ℕ) → free_count (replicate n true) ≡ n
 all_true zero = refl
 all_true (suc n) = sum_by-cons flag true (replicate n true) ∙ omega (arith, all_true n)
 
+pub all_free : (n : ℕ) → AreFreeSlots n [] (replicate n true)
+all_free n = record {
+  count = length-replicate {A = Bool} n true;
+  free = λ slot lt. (
+    λ _. λ k d none. absurd (omega (arith, none)),
+    λ _. slice_get-get_or (replicate n true) slot true (omega (arith, lt, length-replicate {A = Bool} n true)) ∙ ap Some (get_or-replicate n slot true true lt),
+  );
+}
+
+pub blank_free : (n : ℕ) (flags : List Bool) → flags ≡ replicate n true → AreFreeSlots (length flags) [] flags
+blank_free n flags is =
+    let size : length flags ≡ n = ap length is ∙ length-replicate {A = Bool} n true in
+    subst (λ (k : ℕ). AreFreeSlots k [] flags) (sym size) (subst (λ (l : List Bool). AreFreeSlots n [] l) (sym is) (all_free n))
+
 first_taken : (n : ℕ) (taken : List ℕ) → AreSlots n taken → (i : ℕ) → i ≤ length taken → (flags : List Bool) × AreFreeSlots n (take i taken) flags × (free_count flags + i ≡ n)
-first_taken n taken differ zero low = (
-  replicate n true,
-  record {
-    count = length-replicate {A = Bool} n true;
-    free = λ slot lt. (
-      λ _. λ k d none. absurd (omega (arith, none)),
-      λ _. slice_get-get_or (replicate n true) slot true (omega (arith, lt, length-replicate {A = Bool} n true)) ∙ ap Some (get_or-replicate n slot true true lt),
-    );
-  },
-  omega (arith, all_true n),
-)
+first_taken n taken differ zero low = (replicate n true, all_free n, omega (arith, all_true n))
 first_taken n taken differ (suc i) low =
     let before = first_taken n taken differ i (omega (arith, low)) in
     let x : ℕ = get_or taken i 0 in

@@ -5,11 +5,13 @@ pub mod ChangingLemmas
 pub mod CommittedLemmas
 pub mod CopyLemmas
 pub mod CountingLemmas
+pub mod DraftLemmas
 pub mod EarlyLemmas
 pub mod EntryLemmas
 pub mod ExtendedLemmas
 pub mod FlagLemmas
 pub mod FreshLemmas
+pub mod HeldLemmas
 pub mod KeptLemmas
 pub mod MovingLemmas
 pub mod NamingLemmas
@@ -18,6 +20,7 @@ pub mod PagerLemmas
 pub mod PuttingLemmas
 pub mod ReadLemmas
 pub mod ReaderLemmas
+pub mod ReadyLemmas
 pub mod SavedLemmas
 pub mod SlotLemmas
 pub mod SpilledLemmas
@@ -25,3 +28,4 @@ pub mod StepLoops
 pub mod SteppedLemmas
 pub mod StepsLemmas
 pub mod TallyLemmas
+pub mod WrittenLemmas

@@ -544,7 +544,7 @@ earliest_memory root id other spots h on = elim (cases_eq id root) [
   | inr apart ↦ h.memory apart
 ]
 
-by_memory : (b : Bool) → (b ≡ true) ⊎ (b ≡ false)
+pub by_memory : (b : Bool) → (b ≡ true) ⊎ (b ≡ false)
 by_memory true = inl refl
 by_memory false = inr refl
 

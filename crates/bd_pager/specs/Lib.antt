@@ -2,6 +2,7 @@ pub mod Calling
 pub mod Changing
 pub mod Committing
 pub mod Counting
+pub mod Drafts
 pub mod Entries
 pub mod Extending
 pub mod Fresh

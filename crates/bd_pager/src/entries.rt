@@ -1,6 +1,6 @@
 //! What a checkpoint's table says of slots and of nodes.
 
-ghost use Rattle.std.specs.Prelude.{◌≡◌, ◌<◌, ◌++◌, All, AllPairs, Any, Contains, IfOk};
+ghost use Rattle.std.specs.Prelude.{◌≡◌, ◌<◌, ◌++◌, [], length, All, AllPairs, Any, Contains, IfOk};
 ghost use Rattle.bd_slots.specs.Layout.{AreSlots};
 ghost use Rattle.bd_table.specs.Tables.{AreFreeSlots, IsRoot, slots_of};
 ghost use Rattle.bd_pager.specs.Places.{spots_in};
@@ -23,23 +23,32 @@ pub fn spare_beside(
     requires all { AreSlots slots (at.now ++ slots_of entries.now) }
     ensures { IfOk result (AreFreeSlots slots (at.now ++ slots_of entries.now)) }
 {
-    let mut spare = beside(alloc, slots, at)?;
-    for entry in entries {
-        spare.hold(entry.slot);
-    }
+    let mut spare = SlotSet::new(alloc, slots)?;
+    hold_taken(&mut spare, at, entries);
     Ok(spare)
 }
 
-// The slots, of so many, that aren't taken.
-fn beside(alloc: Global, slots: u32, taken: &[u32]) -> Result<SlotSet, AllocError>
-    requires { AreSlots slots taken.now }
-    ensures { IfOk result (AreFreeSlots slots taken.now) }
+/// Takes the slots of a table and of its nodes, where all slots are free.
+pub fn hold_taken(free: &mut SlotSet, at: &[u32], entries: &[TableEntry])
+    requires all { AreFreeSlots (length free.old) [] free.old }
+    requires differ { AreSlots (length free.old) (at.now ++ slots_of entries.now) }
+    ensures { AreFreeSlots (length free.old) (at.now ++ slots_of entries.now) free.new }
 {
-    let mut spare = SlotSet::new(alloc, slots)?;
-    for slot in taken {
-        spare.hold(*slot);
+    hold_all(free, at);
+    for entry in entries {
+        free.hold(entry.slot);
     }
-    Ok(spare)
+}
+
+// Takes these slots, where all slots are free.
+fn hold_all(free: &mut SlotSet, taken: &[u32])
+    requires all { AreFreeSlots (length free.old) [] free.old }
+    requires differ { AreSlots (length free.old) taken.now }
+    ensures { AreFreeSlots (length free.old) taken.now free.new }
+{
+    for slot in taken {
+        free.hold(*slot);
+    }
 }
 
 /// The nodes of a table, each in its slot.

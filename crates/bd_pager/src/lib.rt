@@ -7,6 +7,7 @@
 
 mod changing;
 mod committing;
+mod draft;
 mod early;
 mod entries;
 mod extending;
@@ -21,6 +22,7 @@ mod slots;
 mod stepping;
 mod usage;
 mod writing;
+mod writing_all;
 mod written;
 
 pub use pager::{Pager, Refused};

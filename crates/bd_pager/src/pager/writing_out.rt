@@ -12,8 +12,12 @@ ghost use Rattle.bd_pager.specs.Pagers.{table_of};
 ghost use Rattle.bd_pager.specs.WritingOut.{write_faults_after, IsWrittenOut};
 
 use super::Pager;
+use crate::draft::Draft;
+use crate::writing_all::write_all;
 use bd_device::{Device, ImageFault};
+use bd_io::Failed;
 use bd_keys::Items;
+use bd_slots::table_length;
 
 impl<D: Device> Pager<D> {
     /// Writes all that the next checkpoint needs but its superblock: each changed node that is in
@@ -38,6 +42,18 @@ impl<D: Device> Pager<D> {
         ensures write_faults { D.write_fault_count self.new.dev
             ≡ write_faults_after (D.write_fault_count self.old.dev) result }
     {
-        Err(ImageFault::NoMemory)
+        let spots = &self.reader.spots;
+        let taken = table_length(spots.len());
+        let Ok(draft) = Draft::new(self.alloc, spots, taken, self.usage.spare.count()) else {
+            return Err(ImageFault::NoMemory);
+        };
+        self.written = None;
+        match write_all(&mut self.reader, &mut self.usage, self.root, self.next, draft) {
+            Ok((written, at)) => {
+                self.written = Some(written);
+                Ok(at)
+            }
+            Err(Failed) => Err(ImageFault::DeviceFault),
+        }
     }
 }
