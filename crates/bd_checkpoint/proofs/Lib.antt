@@ -16,4 +16,4 @@ pub mod WrittenOut
 pub mod Marked
 pub mod Checkpointed
 pub mod FreshTree
-pub mod First
+pub mod Beginning

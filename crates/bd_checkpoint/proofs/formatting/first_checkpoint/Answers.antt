@@ -11,7 +11,7 @@ use Rattle.bd_pager.specs.Pagers.{Paged, nodes_of}
 use Rattle.bd_image.specs.Fresh.{first_super}
 use Rattle.bd_checkpoint.specs.Kept.{IsOpenOn, AllStandFor}
 use Rattle.bd_checkpoint.specs.Recovering.{saved_of}
-use Rattle.bd_checkpoint.proofs.First.{settled_first, follows_first, place_first, slots_first, today_first, size_first}
+use Rattle.bd_checkpoint.proofs.Beginning.{settled_first, follows_first, place_first, slots_first, today_first, size_first}
 use Rattle.bd_checkpoint.proofs.Marked.{written_for, at_new, device_new, saved_new, open_new}
 use Rattle.bd_checkpoint.proofs.formatting.first_checkpoint.Goals as goal
 
