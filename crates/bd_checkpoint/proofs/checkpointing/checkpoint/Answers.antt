@@ -2,6 +2,7 @@ use Rattle.std.proofs.Common.{◌≡◌, ℕ, Option, Err, sym, ap, subst, ◌�
 use Rattle.std.specs.Prelude.{IsSome}
 use Rattle.bd_slots.specs.Layout.{image_blocks}
 use Rattle.bd_device.specs.Device.{left_now, Goes, Stays}
+use Rattle.bd_device.specs.Moments.{IsOnly}
 use Rattle.bd_device.proofs.Calls.{stays_then}
 use Rattle.bd_message.specs.declared.fault.MapFault.{MapFault}
 use Rattle.bd_super.specs.Superblocks.{log_block}
@@ -161,6 +162,14 @@ returns-clause-live g c =
     let last = c.publish_by.new.pager in
     let new = c.mark_saved.new.self in
     c.next_super-next.ensures.next ∙ ap (super_after c.args.live.now c.args.count) (sym (at_new g.D.Device c.args.pager.now mid c.in-Ok.ensures.spills c.in-Ok.table c.in-Ok.ensures.written c.next_super-next.result (slots_mid g.D.Device one c.args.pager.now mid (g.met.D.Device.since_earlier mid.dev) c.args.live.now c.args.log.now c.requires.open c.requires.spare c.in-Ok.ensures.spills c.in-Ok.table c.in-Ok.ensures.written c.next_super-next.result c.args.count c.next_super-next.ensures.next) (ap (λ (s : Super). s.table) c.next_super-next.ensures.next) last new c.in-Ok-publish_by.ensures.pager c.mark_saved.ensures))
+
+pub returns-clause-only : goal.returns-clause-only
+returns-clause-only g c =
+    let mid = c.write_out.new.self in
+    let one : PartsAreOne = record { tables = c.tables_are_read_again.ensures; batches = c.batches_are_one.ensures } in
+    let last = c.publish_by.new.pager in
+    let new = c.mark_saved.new.self in
+    subst (λ (d : g.row.D.Denot). IsOnly (g.D.Device.contents d) (left_now g.D.Device d)) (sym (device_new g.D.Device c.args.pager.now mid c.in-Ok.ensures.spills c.in-Ok.table c.in-Ok.ensures.written c.next_super-next.result (slots_mid g.D.Device one c.args.pager.now mid (g.met.D.Device.since_earlier mid.dev) c.args.live.now c.args.log.now c.requires.open c.requires.spare c.in-Ok.ensures.spills c.in-Ok.table c.in-Ok.ensures.written c.next_super-next.result c.args.count c.next_super-next.ensures.next) (ap (λ (s : Super). s.table) c.next_super-next.ensures.next) last new c.in-Ok-publish_by.ensures.pager c.mark_saved.ensures)) c.in-Ok-publish_by.ensures.only
 
 pub returns-clause-saved : goal.returns-clause-saved
 returns-clause-saved g c =
