@@ -28,14 +28,6 @@ use Rattle.bd_checkpoint.proofs.Published.{same_slots, can_follow, is_next}
 use Rattle.bd_checkpoint.proofs.Spare.{open_on, time_on, kept_on}
 use Rattle.bd_checkpoint.proofs.Starting.{PartsAreOne}
 
--- ---- no call of the device
-
-pub nothing_goes : {D : Type 0} (g : Ghosts D) (d : D) (inside : Image → Type 0) → Goes g d d inside
-nothing_goes g d inside = record { later = omega arith; keeps = λ t c le h. h; adds = λ t c le h. inl h }
-
-pub goes_on_still : {D : Type 0} (g : Ghosts D) (d : D) (live : Super) (saved : Saved) (log : LogState) → IsOpenOn g d live saved log → GoesOn g d d live saved log
-goes_on_still g d live saved log given = record { known = given; kept = λ c is. (c, is, λ tree count stands. stands); write_faults = refl }
-
 -- ---- causes
 
 pub written_cause : {D : Type 0} (g : Ghosts D) (old new : D) (live : Super) (fault : ImageFault) → IsImageCause g old new (λ b. ⊥) fault → (fault ≡ image.NoMemory → new ≡ old)
