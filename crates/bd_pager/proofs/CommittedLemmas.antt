@@ -1,10 +1,10 @@
 -- A pager after a step.
-use Rattle.std.proofs.Common.{◌≡◌, ◌≢◌, ℕ, suc, ◌+◌, ◌-◌, ◌<◌, ◌≤◌, ◌⊎◌, Bool, true, false, ◌&&◌, cond, eqb, nat_eq, List, [], length, map, Option, None, Some, IfSome, IsTrue, refl, sym, ap, subst, ◌∙◌, arith, inl, inr}
+use Rattle.std.proofs.Common.{◌≡◌, ◌≢◌, ℕ, ◌+◌, ◌<◌, ◌≤◌, Bool, true, false, eqb, List, [], length, Option, None, Some, IfSome, refl, sym, ap, subst, ◌∙◌, arith, inl, inr}
 use Rattle.std.specs.Prelude.{IsSome}
 use Rattle.std.specs.Global.{Global}
 use Rattle.std.specs.Option.{option_map, unwrap_or}
 use Rattle.std.specs.declared.rc.Rc.{Rc}
-use Rattle.std.proofs.lemmas.Bool.{and_from, cases_lt, cond-true, cond-false, eq-eqb, ne_eqb}
+use Rattle.std.proofs.lemmas.Bool.{and_from, cond-true, cond-false, eq-eqb, ne_eqb}
 use Rattle.std.proofs.lemmas.Option.{none-some, same_Some}
 use Rattle.bd_limits.specs.Limits.{level_limit}
 use Rattle.bd_device.specs.Blocks.{Image}
@@ -14,17 +14,16 @@ use Rattle.bd_cache.specs.Cache.{kept_at}
 use Rattle.bd_cache.specs.declared.cache.NodeCache.{NodeCache}
 use Rattle.bd_node.specs.declared.node.Node.{Node}
 use Rattle.bd_node.specs.declared.node.Node.TheVariants.{Leaf, Inner}
-use Rattle.bd_node.specs.declared.node.Change.{Change}
 use Rattle.bd_node.specs.declared.node.Step.{Step}
 use Rattle.bd_node.specs.Nodes.{level_of, buffer_size}
 use Rattle.bd_node.specs.Meaning.{Nodes}
 use Rattle.bd_node.specs.Shape.{IsShape}
 use Rattle.bd_node.specs.Stores.{StaysBy}
 use Rattle.bd_node.specs.Tables.{Table, IsKept, IsTable, IsSound}
-use Rattle.bd_node.specs.Steps.{changed_at, given, given_or, after, level_after, IsThere, IsPut, IsStep, IsTableAfter, IsCommitted}
+use Rattle.bd_node.specs.Steps.{given, after, IsPut, IsStep, IsTableAfter, IsCommitted}
 use Rattle.bd_node.proofs.Stepping.{by_given, after-none, after-some}
 use Rattle.bd_counts.specs.Naming.{times_among}
-use Rattle.bd_counts.specs.Counting.{overlaid, counted, HasCounts, HasRootSize, IsRecount, MakesTable, Commits}
+use Rattle.bd_counts.specs.Counting.{counted, HasCounts, HasRootSize, IsRecount, MakesTable, Commits}
 use Rattle.bd_pager.specs.declared.committing.NewRoot.{NewRoot}
 use Rattle.bd_pager.specs.declared.place.Place.{Place}
 use Rattle.bd_pager.specs.declared.place.Place.TheVariants.{Memory, Slot}
@@ -33,8 +32,8 @@ use Rattle.bd_pager.specs.Calling.{no_reads}
 use Rattle.bd_pager.specs.Committing.{IsFound, IsFoundRoot, IsNewRoot}
 use Rattle.bd_pager.specs.Keeping.{KeepsSaved}
 use Rattle.bd_pager.specs.Slots.{IsOfLevel}
-use Rattle.bd_pager.specs.Places.{Spots, refs_in, level_in, copy_at, copy_in, node_at, node_of, told, IsReadAt, IsRead}
-use Rattle.bd_pager.specs.Pagers.{Paged, spots_of, is_saved, is_changed, is_changed_place, table_of, nodes_of, IsRightPlace, IsKnownOver, is_known, IsOfSize, IsPlaceIn, IsStoredAs, IsPaged}
+use Rattle.bd_pager.specs.Places.{Spots, refs_in, level_in, copy_at, copy_in, node_of, told, IsRead}
+use Rattle.bd_pager.specs.Pagers.{Paged, spots_of, is_saved, is_changed, table_of, nodes_of, IsRightPlace, is_known, IsOfSize, IsPlaceIn, IsStoredAs, IsPaged}
 use Rattle.bd_pager.specs.Stepping.{held, own_slot_in, with_put, with_count, without_all, with_copy, moved_copy, bare, copied}
 use Rattle.bd_pager.proofs.AppendedLemmas.{split_and}
 use Rattle.bd_pager.proofs.CopyLemmas.{bare_changed, copied_changed, bare_in, copied_in, bare_placed, copied_placed, bare_right, copied_right, bare_node, copied_node, copied_copy, without_read, moved_at, same_moved, each_moved}

@@ -1,19 +1,16 @@
 -- Copies in memory of nodes that are in slots.
-use Rattle.std.proofs.Common.{◌≡◌, ℕ, Bool, true, false, cond, eqb, IsTrue, List, Option, None, Some, IfSome, refl, sym, ap, subst, ◌∙◌, inl, inr}
-use Rattle.std.specs.Prelude.{IsSome}
+use Rattle.std.proofs.Common.{◌≡◌, ℕ, Bool, cond, eqb, List, Option, None, Some, IfSome, refl, sym, ap, subst, ◌∙◌, inl, inr}
 use Rattle.std.specs.Global.{Global}
 use Rattle.std.specs.declared.rc.Rc.{Rc}
 use Rattle.std.proofs.lemmas.Bool.{cases_eq, cond-true, cond-false, eq-eqb, ne_eqb}
 use Rattle.std.proofs.lemmas.Option.{none-some, same_Some}
 use Rattle.bd_device.specs.Blocks.{Image}
 use Rattle.bd_node.specs.declared.node.Node.{Node}
-use Rattle.bd_format.specs.Decoding.{node_in}
-use Rattle.bd_table.specs.declared.table.TableEntry.{TableEntry}
 use Rattle.bd_pager.specs.declared.place.Place.{Place}
 use Rattle.bd_pager.specs.declared.place.Place.TheVariants.{Memory, Slot}
 use Rattle.bd_pager.specs.declared.place.Spot.{Spot}
-use Rattle.bd_pager.specs.Slots.{slot_bytes, IsOfLevel}
-use Rattle.bd_pager.specs.Places.{Spots, copy_at, node_at, node_of, IsReadAt, IsRead}
+use Rattle.bd_pager.specs.Slots.{IsOfLevel}
+use Rattle.bd_pager.specs.Places.{Spots, copy_at, node_at, IsReadAt, IsRead}
 use Rattle.bd_pager.specs.Pagers.{is_changed_place, IsRightPlace, IsPlaceIn}
 use Rattle.bd_pager.specs.Stepping.{copied, bare, with_copy, without_copy, moved_copy}
 

@@ -1,5 +1,5 @@
 -- What is said of slots and nodes after one node was moved.
-use Rattle.std.proofs.Common.{◌≡◌, ◌≢◌, ◌↔◌, ℕ, zero, suc, ◌+◌, ◌-◌, ◌^◌, ◌<◌, ◌≤◌, Bool, true, false, cond, is_some, IsTrue, List, length, get_or, set, get_or-set_same, get_or-set_other, Option, None, Some, IfSome, refl, sym, ap, subst, ◌∙◌, arith, inl, inr}
+use Rattle.std.proofs.Common.{◌≡◌, ◌≢◌, ℕ, zero, suc, ◌+◌, ◌^◌, ◌<◌, ◌≤◌, Bool, true, false, cond, is_some, IsTrue, List, length, get_or, set, get_or-set_same, get_or-set_other, Option, None, Some, IfSome, refl, sym, ap, subst, ◌∙◌, arith, inl, inr}
 use Rattle.std.specs.Prelude.{slice_get, Contains, Result, Ok, Err, OnErr}
 use Rattle.std.specs.BTreeSet.{BTreeSet, Updates}
 use Rattle.std.specs.Option.{option_map}
@@ -9,8 +9,6 @@ use Rattle.std.specs.declared.cmp.Ordering.TheVariants.{Less, Greater}
 use Rattle.std.proofs.lemmas.Bool.{cases_eq, cases_lt, true≢false}
 use Rattle.std.proofs.lemmas.List.{length-set}
 use Rattle.std.proofs.lemmas.Option.{none-some, same_Some, slice_get-get_or, slice_get_within, slice_get_past, get_or_from_slice_get}
-use Rattle.std.specs.Global.{Global}
-use Rattle.std.specs.declared.rc.Rc.{Rc}
 use Rattle.bd_slots.specs.Slots.{IsFree, IsHeld, free_count}
 use Rattle.std.proofs.lemmas.List.Sums.{sum_by-set}
 use Rattle.bd_table.specs.declared.table.TableEntry.{TableEntry}
@@ -20,7 +18,7 @@ use Rattle.bd_node.proofs.Sums.{sum_same, sum_exchanged, sum_split}
 use Rattle.bd_pager.specs.declared.place.Place.{Place}
 use Rattle.bd_pager.specs.declared.place.Place.TheVariants.{Memory, Slot}
 use Rattle.bd_pager.specs.declared.place.Spot.{Spot}
-use Rattle.bd_pager.specs.declared.usage.TheConstants.{IN_MEMORY, NOWHERE}
+use Rattle.bd_pager.specs.declared.usage.TheConstants.{IN_MEMORY}
 use Rattle.bd_pager.specs.declared.usage.Tally.{Tally}
 use Rattle.bd_pager.specs.declared.usage.Usage.{Usage}
 use Rattle.bd_pager.specs.Changing.{slot_if, own_slot, IsChangedAt}

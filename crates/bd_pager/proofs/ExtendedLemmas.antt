@@ -1,5 +1,5 @@
 -- A pager in whose root more messages wait, over new nodes.
-use Rattle.std.proofs.Common.{◌≡◌, ℕ, ◌+◌, ◌-◌, ◌<◌, ◌≤◌, Bool, true, false, cond, eqb, nat_eq, List, [], ◌∷◌, ◌++◌, length, map, Option, None, Some, IfSome, refl, sym, ap, subst, ◌∙◌, arith, inl, inr}
+use Rattle.std.proofs.Common.{◌≡◌, ℕ, ◌+◌, ◌-◌, ◌<◌, ◌≤◌, Bool, true, false, cond, eqb, nat_eq, List, [], ◌∷◌, ◌++◌, length, Option, None, Some, IfSome, refl, sym, ap, subst, ◌∙◌, arith, inl, inr}
 use Rattle.std.specs.Prelude.{IsSome}
 use Rattle.std.specs.Global.{Global}
 use Rattle.std.specs.HashMap.{get}
@@ -23,10 +23,10 @@ use Rattle.bd_node.specs.declared.node.Step.{Step}
 use Rattle.bd_node.specs.Nodes.{level_of, appended, names, times}
 use Rattle.bd_node.specs.Meaning.{Nodes}
 use Rattle.bd_node.specs.Stores.{StaysBy}
-use Rattle.bd_node.specs.Tables.{Table, IsKept, IsTable, IsLower, IsSound, times_in, one_if, references}
-use Rattle.bd_node.specs.Steps.{changed_at, given, given_times, after, IsThere, IsChange, IsStep, IsRootOf, extend_step, added_times, IsTableAfter, IsCommitted}
-use Rattle.bd_node.proofs.Lookup.{each_weaker, named_has}
-use Rattle.bd_node.proofs.Sound.{kept_there, one_if-same, one_if-other}
+use Rattle.bd_node.specs.Tables.{Table, IsTable, IsLower, IsSound, times_in, one_if, references}
+use Rattle.bd_node.specs.Steps.{changed_at, given, given_times, after, IsChange, IsStep, IsRootOf, extend_step, added_times, IsTableAfter, IsCommitted}
+use Rattle.bd_node.proofs.Lookup.{named_has}
+use Rattle.bd_node.proofs.Sound.{kept_there, one_if-other}
 use Rattle.bd_node.proofs.Stepping.{given-old, given-new, changed_has, after-none, by_given}
 use Rattle.bd_node.proofs.Appending.{level_appended}
 use Rattle.bd_node.proofs.Extending.{extend_above, root_inner, times_extended, given_extended, given_beside, extended_size, extended_as, added_fit}
@@ -44,7 +44,7 @@ use Rattle.bd_pager.specs.Committing.{IsNewRoot}
 use Rattle.bd_pager.specs.Extending.{IsExtended, IsAdditionOf}
 use Rattle.bd_pager.specs.Keeping.{KeepsSaved}
 use Rattle.bd_pager.specs.Slots.{IsOfLevel}
-use Rattle.bd_pager.specs.Places.{refs_in, level_in, copy_at, copy_in, node_of, told, IsLowerIn, IsRead}
+use Rattle.bd_pager.specs.Places.{refs_in, copy_at, copy_in, node_of, told, IsLowerIn, IsRead}
 use Rattle.bd_pager.specs.Pagers.{Paged, spots_of, table_of, nodes_of, is_known, IsOfSize, IsPaged}
 use Rattle.bd_pager.specs.Stepping.{held, change_of, put_at, put_spot, with_put, with_count, with_copy, without_copy, without_all, moved_copy, made_changes}
 use Rattle.bd_pager.proofs.AppendedLemmas.{copied_unread, root_copy, sized_copy}

@@ -11,7 +11,6 @@ pub mod EntryLemmas
 pub mod ExtendedLemmas
 pub mod FlagLemmas
 pub mod FreshLemmas
-pub mod HeldLemmas
 pub mod KeptLemmas
 pub mod MovingLemmas
 pub mod NamingLemmas

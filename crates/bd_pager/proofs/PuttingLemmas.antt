@@ -1,14 +1,14 @@
 -- Nodes that are put, and those that a step gives.
-use Rattle.std.proofs.Common.{◌≡◌, ℕ, suc, ◌+◌, ◌-◌, ◌<◌, ◌≤◌, Bool, true, false, cond, eqb, ltb, List, [], ◌∷◌, ◌++◌, map, Option, None, Some, refl, sym, ap, ◌∙◌, arith, inl, inr}
+use Rattle.std.proofs.Common.{◌≡◌, ℕ, suc, ◌-◌, ◌<◌, ◌≤◌, Bool, true, false, cond, eqb, ltb, List, [], ◌∷◌, ◌++◌, map, Option, None, Some, refl, sym, ap, ◌∙◌, arith, inl, inr}
 use Rattle.std.specs.Prelude.{slice_get}
 use Rattle.std.specs.Global.{Global}
 use Rattle.std.specs.Option.{option_map}
 use Rattle.std.specs.declared.rc.Rc.{Rc}
-use Rattle.std.proofs.lemmas.Bool.{cases_eq, cases_lt, cond-true, cond-false, eq-eqb, ne_eqb, lt-ltb, le-ltb}
+use Rattle.std.proofs.lemmas.Bool.{cases_eq, cases_lt, cond-true, cond-false, lt-ltb, le-ltb}
 use Rattle.bd_node.specs.declared.node.Node.{Node}
 use Rattle.bd_node.specs.declared.node.Change.{Change}
 use Rattle.bd_node.specs.declared.node.Step.{Step}
-use Rattle.bd_node.specs.Tables.{Table, IsKept, IsTable}
+use Rattle.bd_node.specs.Tables.{Table, IsTable}
 use Rattle.bd_node.specs.Steps.{changed_at, given, given_or, IsChange, IsStep}
 use Rattle.bd_node.proofs.Lookup.{each_weaker}
 use Rattle.bd_node.proofs.Stepping.{given-old, given-new, changed_at-same, changed_at-other, changed_at-none}

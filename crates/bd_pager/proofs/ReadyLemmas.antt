@@ -1,14 +1,12 @@
 -- A table of nodes that are in slots, and what is ready with it.
-use Rattle.std.proofs.Common.{◌≡◌, ◌≢◌, ◌≤◌, ◌<◌, ◌+◌, ◌-◌, ◌^◌, ℕ, Bool, true, false, is_some, List, ◌++◌, length, map, get_or, Option, None, Some, inl, inr, refl, sym, ap, subst, ◌∙◌, arith, length-append}
-use Rattle.std.specs.Prelude.{All, AllPairs, Any, Contains, IsSome}
-use Rattle.std.proofs.lemmas.Bool.{cases_eq, cases_lt, true≢false}
+use Rattle.std.proofs.Common.{◌≡◌, ◌≢◌, ◌≤◌, ◌<◌, ◌+◌, ◌-◌, ◌^◌, ℕ, Bool, false, is_some, List, ◌++◌, length, get_or, Option, None, Some, inl, inr, refl, sym, ap, subst, ◌∙◌, arith, length-append}
+use Rattle.std.specs.Prelude.{All, Any, IsSome}
+use Rattle.std.proofs.lemmas.Bool.{cases_lt, true≢false}
 use Rattle.std.proofs.lemmas.List.{get_or-map, length-map, get_or-append_right, get_or_default}
-use Rattle.std.proofs.lemmas.Option.{none-some, same_Some}
 use Rattle.std.proofs.Math.ListN.{get_or-append}
 use Rattle.bd_slots.specs.Layout.{AreSlots, IsTablePlace, table_length}
 use Rattle.bd_slots.specs.Slots.{IsFree}
-use Rattle.bd_device.specs.Blocks.{Image}
-use Rattle.bd_table.specs.Tables.{AreFreeSlots, AreTableEntries, FitsTableEntry, IsRoot, IsTableAt, IsTableEntry, slots_of}
+use Rattle.bd_table.specs.Tables.{AreFreeSlots, FitsTableEntry, IsTableAt, IsTableEntry, slots_of}
 use Rattle.bd_table.specs.declared.table.Table.{Table as Checkpoint}
 use Rattle.bd_table.specs.declared.table.TableEntry.{TableEntry}
 use Rattle.bd_pager.specs.declared.place.Place.{Place}
@@ -17,8 +15,8 @@ use Rattle.bd_pager.specs.declared.place.Spot.{Spot}
 use Rattle.bd_pager.specs.declared.written.Written.{Written}
 use Rattle.bd_pager.specs.Counting.{AreUnused, is_in_memory, is_in_memory_at}
 use Rattle.bd_pager.specs.Drafts.{slot_or_first, entry_of, entries_of, AreKeptIds, HaveTable, IsFilled}
-use Rattle.bd_pager.specs.Pagers.{IsPlaceIn, IsInSlot, IsEntryOf, AreEntriesOf, IsReady}
-use Rattle.bd_pager.specs.Places.{Spots, refs_in, level_in, slot_at, slot_in}
+use Rattle.bd_pager.specs.Pagers.{IsPlaceIn, IsInSlot, IsEntryOf, IsReady}
+use Rattle.bd_pager.specs.Places.{Spots, refs_in, slot_at, slot_in}
 use Rattle.bd_pager.proofs.FlagLemmas.{same_flags, slots_within}
 
 -- ---- slots, one list after the other
@@ -40,8 +38,10 @@ slots_append n xs ys p q apart = record {
   where
     size : length (xs ++ ys) ≡ length xs + length ys
     size = length-append xs ys
+
     left : (k d : ℕ) → k < length xs → get_or (xs ++ ys) k d ≡ get_or xs k d
     left k d low = get_or-append xs ys d k low
+
     right : (k d : ℕ) → length xs ≤ k → get_or (xs ++ ys) k d ≡ get_or ys (k - length xs) d
     right k d high = get_or-append_right xs ys (length xs) k d refl high
 
@@ -108,8 +108,8 @@ module _ (spots : Spots) (ids : List ℕ) (kept : AreKeptIds ids spots) where
           let low : i < length ids = omega (arith, high, before) in
           let one : slot_or_first (slot_in (spots (get_or ids i 0))) ≡ slot_or_first (slot_in (spots (get_or ids j 0))) = sym (slot_of i d low) ∙ same ∙ slot_of j d high in
           let is : get_or ids i 0 ≡ get_or ids j 0 = unused.apart (get_or ids i 0) (get_or ids j 0) (slot_or_first (slot_in (spots (get_or ids i 0))))
-              (in_slot (get_or ids i 0) (kept.kept i 0 low))
-              (in_slot (get_or ids j 0) (kept.kept j 0 high) ∙ ap Some (sym one)) in
+          (in_slot (get_or ids i 0) (kept.kept i 0 low))
+          (in_slot (get_or ids j 0) (kept.kept j 0 high) ∙ ap Some (sym one)) in
           omega (arith, is, kept.rising i j 0 before high);
     }
 

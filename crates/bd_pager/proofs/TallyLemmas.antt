@@ -1,23 +1,18 @@
 -- What nodes count for, and which slots they have, when some of them change.
-use Rattle.std.proofs.Common.{◌≡◌, ◌≢◌, ℕ, zero, suc, ◌+◌, ◌-◌, ◌^◌, ◌<◌, ◌≤◌, Bool, true, false, cond, eqb, List, length, get_or, set, Option, None, Some, IfSome, IsTrue, refl, sym, ap, subst, ◌∙◌, arith, inl, inr, add-zero, add-suc, length-set, get_or-set_same, get_or-set_other}
-use Rattle.std.specs.Prelude.{◌↔◌, IsSome, is_some, slice_get, slice_set}
+use Rattle.std.proofs.Common.{◌≡◌, ℕ, ◌+◌, ◌<◌, Bool, cond, List, Option, None, Some, IfSome, IsTrue, refl, sym, ap, subst, ◌∙◌, arith, inl, inr}
 use Rattle.std.specs.Global.{Global}
 use Rattle.std.specs.declared.rc.Rc.{Rc}
-use Rattle.std.proofs.lemmas.Bool.{cases_eq, cases_lt}
-use Rattle.std.proofs.lemmas.Option.{none-some, same_Some, slice_get_within, slice_get-get_or, get_or_from_slice_get}
+use Rattle.std.proofs.lemmas.Bool.{cases_eq}
+use Rattle.std.proofs.lemmas.Option.{same_Some}
 use Rattle.bd_slots.specs.Slots.{IsFree, IsHeld, free_count}
-use Rattle.std.proofs.lemmas.List.Sums.{sum_by-set}
 use Rattle.bd_node.specs.declared.node.Node.{Node}
-use Rattle.bd_node.specs.Tables.{sum_below}
-use Rattle.bd_pager.specs.declared.place.Place.{Place}
-use Rattle.bd_pager.specs.declared.place.Place.TheVariants.{Memory, Slot}
 use Rattle.bd_pager.specs.declared.place.Spot.{Spot}
 use Rattle.bd_pager.specs.declared.usage.Tally.{Tally}
 use Rattle.bd_pager.specs.declared.usage.Usage.{Usage}
-use Rattle.bd_pager.specs.Changing.{slot_if, own_slot}
-use Rattle.bd_pager.specs.Counting.{IsUnused, AreUnused, is_in_memory, has_own, spot_count, AreCounted, IsListed, AreListed, IsTallied, tally_of, moved, recounted, dropped}
+use Rattle.bd_pager.specs.Changing.{own_slot}
+use Rattle.bd_pager.specs.Counting.{IsUnused, AreUnused, is_in_memory, has_own, IsListed, IsTallied, tally_of, recounted, dropped}
 use Rattle.bd_pager.specs.Pagers.{is_changed, IsPlaceIn}
-use Rattle.bd_pager.specs.Places.{Spots, slot_at, slot_in}
+use Rattle.bd_pager.specs.Places.{Spots, slot_in}
 use Rattle.bd_pager.specs.Stepping.{own_slot_in, put_spot, put_usage}
 use Rattle.bd_pager.proofs.ChangingLemmas.{own_in}
 use Rattle.bd_pager.proofs.CountingLemmas.{count_moved, count_again, count_kept, own_within, spare_own, unused_moved, place_there, own_held, dropped_unused, dropped_tallied}

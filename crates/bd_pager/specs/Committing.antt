@@ -1,5 +1,5 @@
 -- What steps need before the first change, and what they then leave.
-use Rattle.std.specs.Prelude.{◌≡◌, ◌≢◌, ◌++◌, ◌+◌, ◌^◌, ◌<◌, ℕ, Bool, List, length, map, nat_eq, Option, None, Some, IfSome, IsSome}
+use Rattle.std.specs.Prelude.{◌≡◌, ◌≢◌, ◌+◌, ◌^◌, ◌<◌, ℕ, Bool, List, length, map, nat_eq, Option, None, Some, IfSome, IsSome}
 use Rattle.std.specs.Global.{Global}
 use Rattle.std.specs.HashMap.{get}
 use Rattle.std.specs.declared.rc.Rc.{Rc}

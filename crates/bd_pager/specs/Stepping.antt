@@ -1,5 +1,5 @@
 -- What steps make of what is known of nodes.
-use Rattle.std.specs.Prelude.{◌≡◌, ◌≤◌, ◌==◌, ◌++◌, ℕ, suc, if◌then◌else◌, Bool, List, [], ◌∷◌, Option, None, Some}
+use Rattle.std.specs.Prelude.{◌≤◌, ◌==◌, ◌++◌, ℕ, suc, if◌then◌else◌, Bool, List, [], ◌∷◌, Option, None, Some}
 use Rattle.std.specs.Global.{Global}
 use Rattle.std.specs.HashMap.{HashMap, spare}
 use Rattle.std.specs.declared.rc.Rc.{Rc}
@@ -16,7 +16,7 @@ use Rattle.bd_pager.specs.declared.usage.TheConstants.{IN_MEMORY}
 use Rattle.bd_pager.specs.declared.usage.Usage.{Usage}
 use Rattle.bd_pager.specs.Counting.{tally_of, recounted}
 use Rattle.bd_pager.specs.Changing.{own_slot}
-use Rattle.bd_pager.specs.Places.{Spots, refs_in}
+use Rattle.bd_pager.specs.Places.{refs_in}
 
 -- so many more ids fit into memory that is taken
 abbrev pub HasRoomFor : {S : Type 0} → ℕ → HashMap ℕ Spot S → Type 0

@@ -1,15 +1,11 @@
 -- Nodes and a table that are written to be the next checkpoint.
-use Rattle.std.specs.Prelude.{◌≡◌, ◌≢◌, ℕ, List, length, Option, None, Some, Ok, Err, All, IfSome, Result}
+use Rattle.std.specs.Prelude.{◌≡◌, ℕ, List, length, Option, Some, Ok, Err, IfSome, Result}
 use Rattle.bd_io.specs.Cause.{next_count}
 use Rattle.bd_slots.specs.Layout.{IsTablePlace}
 use Rattle.bd_device.specs.Blocks.{Image}
 use Rattle.bd_device.specs.declared.fault.ImageFault.{ImageFault}
 use Rattle.bd_device.specs.declared.fault.ImageFault.TheVariants.{DeviceFault, Damaged, NoMemory}
-use Rattle.bd_node.specs.declared.node.Node.{Node}
-use Rattle.bd_node.specs.Meaning.{Nodes}
 use Rattle.bd_table.specs.Image.{HoldsTable}
-use Rattle.bd_table.specs.declared.table.TableEntry.{TableEntry}
-use Rattle.bd_pager.specs.Slots.{HasNode}
 use Rattle.bd_pager.specs.Pagers.{Paged, spots_of, IsReady}
 use Rattle.bd_pager.specs.declared.written.Written.{Written}
 
@@ -23,12 +19,6 @@ pub record IsWrittenOut {D : Type 0} (contents : Option Image) (at : List ℕ) (
   pub ready : IsReady p.spare (spots_of p) p.root p.next written
   pub place : IsTablePlace (length p.spare) at
   pub held : IfSome contents (λ image. HoldsTable image (length p.spare) at written.table)
-
--- the slot of each entry has the node of its id, and there are no others
-pub record HoldsEntries (image : Image) (entries : List TableEntry) (nodes : Nodes)
-    : Type 0 where
-  pub each : All (λ e. (n : Node) × (nodes e.id ≡ Some n) × HasNode image e.slot e.level n) entries
-  pub others : (id : ℕ) → All (λ e. e.id ≢ id) entries → nodes id ≡ None
 
 -- a count of failed writes after calls of which the last one was a write if the device failed
 abbrev pub write_faults_after : {T : Type 0} → ℕ → Result T ImageFault → ℕ

@@ -19,8 +19,7 @@ pub fn spare_beside(
     at: &[u32],
     entries: &[TableEntry],
 ) -> Result<SlotSet, AllocError>
-    requires place { AreSlots slots at.now }
-    requires all { AreSlots slots (at.now ++ slots_of entries.now) }
+    requires { AreSlots slots (at.now ++ slots_of entries.now) }
     ensures { IfOk result (AreFreeSlots slots (at.now ++ slots_of entries.now)) }
 {
     let mut spare = SlotSet::new(alloc, slots)?;

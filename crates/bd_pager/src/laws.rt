@@ -1,21 +1,17 @@
 //! What follows from the definitions of slots. Each function here carries laws, and does nothing.
 
-ghost use Rattle.std.specs.Prelude.{◌≡◌, ◌<◌, ◌≤◌, ℕ, List, Bool, IfSome};
+ghost use Rattle.std.specs.Prelude.{◌≡◌, ◌<◌, ◌≤◌, ℕ, List, Bool};
 ghost use Rattle.bd_limits.specs.Limits.{first_slot_block};
 ghost use Rattle.bd_slots.specs.Slots.{IsHeld};
 ghost use Rattle.bd_device.specs.Blocks.{Image};
 ghost use Rattle.bd_device.specs.Changes.{SameBut, IsInRange};
 ghost use Rattle.bd_device.specs.Commits.{block_at};
-ghost use Rattle.bd_node.specs.Tables.{IsSound};
 ghost use Rattle.bd_pager.specs.Keeping.{KeepsSaved};
 ghost use Rattle.bd_pager.specs.Moving.{Spills};
-ghost use Rattle.bd_pager.specs.Pagers.{Paged, is_known, nodes_of, spots_of, table_of, IsReadOf, IsReady};
+ghost use Rattle.bd_pager.specs.Pagers.{Paged, is_known, nodes_of, table_of, IsReadOf};
 ghost use Rattle.bd_pager.specs.Slots.{slot_bytes, IsSpare};
-ghost use Rattle.bd_pager.specs.WritingOut.{HoldsEntries};
-ghost use Rattle.bd_pager.specs.declared.written.Written.{Written};
 
 use bd_device::Device;
-use bd_format::laws::images_are_decoded;
 
 /// A slot keeps its bytes where only blocks before the first slot have changed, and where only
 /// spare slots have, of which it is none; then each block before the first slot stays too.
@@ -51,14 +47,3 @@ pub fn spills_change_nothing<D: Device>()
     ensures nodes { (p q : Paged D) → Spills D.Device p q → is_known D.Device p → (id : ℕ)
         → nodes_of D.Device q id ≡ nodes_of D.Device p id }
 {}
-
-/// Where nodes are known and sound that `write_out` has written, the slot of each entry of their
-/// table has the node of its id, and there are no others.
-pub fn written_nodes_are_held<D: Device>()
-    ensures { (p : Paged D) (w : Written) → IsReady p.spare (spots_of p) p.root p.next w
-        → is_known D.Device p → IsSound (nodes_of D.Device p) (table_of p)
-        → IfSome (D.contents p.dev)
-        (λ image. HoldsEntries image w.table.entries (nodes_of D.Device p)) }
-{
-    images_are_decoded();
-}

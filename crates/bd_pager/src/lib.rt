@@ -1,5 +1,4 @@
-//! Nodes over a device: read from slots and written to them. `Pager` is the store of them; what
-//! writes all of them for a checkpoint comes next.
+//! Nodes over a device: read from slots and written to them. `Pager` is the store of them.
 //! The layers above may use the contracts of `Pager`, also as a `NodeStore`, of `read_node`,
 //! `write_node` and `write_nodes`, and the laws: that slots survive what others write, and that a
 //! spill changes nothing seen.

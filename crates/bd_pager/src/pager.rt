@@ -48,14 +48,13 @@ use std::marker::Model;
 use std::rc::Rc;
 
 /// The nodes over a device: those of its last checkpoint, in their slots, and those that were
-/// changed or made since, in memory or in slots that the checkpoint doesn't hold. What writes all
-/// of them for a checkpoint comes next.
+/// changed or made since, in memory or in slots that the checkpoint doesn't hold.
 ///
 /// A fetch finds its node by hashing, and reads at most one slot. It looks at each name that the
 /// node has. A commit takes the time of what the step holds and names, and of the nodes that it
 /// changes and that go, each of which it finds, however many nodes there are. An append takes the
 /// time of its messages, an extension that of its messages, of its new nodes, and of a look at what
-/// the root names, unless a caller holds the root.
+/// the root names, unless a caller holds the root. Only `open` and `write_out` look at all nodes.
 #[derive(Drop)]
 pub struct Pager<D: Device> {
     alloc: Global,

@@ -137,8 +137,7 @@ fn opened_usage(
     at: &[u32],
     entries: &[TableEntry],
 ) -> Result<Usage, AllocError>
-    requires place { AreSlots slots at.now }
-    requires all { AreSlots slots (at.now ++ slots_of entries.now) }
+    requires { AreSlots slots (at.now ++ slots_of entries.now) }
     ensures spare { IfOk result
         (λ usage. AreFreeSlots slots (at.now ++ slots_of entries.now) usage.spare) }
     ensures unchanged { IfOk result IsUnchanged }

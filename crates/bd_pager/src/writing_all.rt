@@ -59,6 +59,11 @@ pub fn write_all<D: Device>(
     write_early(reader, usage, root, 0)?;
     let (written, at) = draft.filled(&reader.spots, &usage.free, root, next);
     let slots = usage.spare.count();
-    bd_table::write(&mut reader.dev, slots, written.at.as_slice(), &written.table)?;
+    bd_table::write(
+        &mut reader.dev,
+        slots,
+        written.at.as_slice(),
+        &written.table,
+    )?;
     Ok((written, at))
 }

@@ -20,15 +20,15 @@ use bd_keys::Items;
 use bd_slots::table_length;
 
 impl<D: Device> Pager<D> {
-    /// Writes all that the next checkpoint needs but its superblock: each changed node that is in
-    /// memory to a slot of its own, and then the table of all kept nodes, whose slots are returned.
-    /// `mark_saved` may follow once a superblock with these slots was published. Nothing that is
+    /// Writes all that the next checkpoint needs but its superblock: each node that is in memory
+    /// to a slot of its own, and then the table of all nodes to slots that it returns.
+    /// `mark_saved` may follow once a superblock with these slots is published. Nothing that is
     /// seen changes, also where it fails, and it writes without a barrier to slots alone that the
-    /// last checkpoint doesn't hold. `DeviceFault` comes only where a call of the device failed,
-    /// which is the last one then; what was written before is ready no longer. `NoMemory` comes
-    /// before the first write, and leaves all as it was. It takes the time of all kept nodes and
-    /// slots. There are at most 65,536 slots, and enough that are free: as many as nodes were
-    /// changed or made and as the table takes.
+    /// last checkpoint doesn't hold. There have to be at most 65,536 slots, and of those that it
+    /// doesn't hold as many as nodes were changed or made and as the table takes. `DeviceFault`
+    /// comes only where a call of the device failed, which is the last one then, and nothing is
+    /// ready after it. `NoMemory` comes before the first write, and leaves all as it was. It takes
+    /// the time of all nodes and slots.
     pub fn write_out(&mut self) -> Result<Items<u32>, ImageFault>
         requires size { D.block_count self.old.dev ≡ image_blocks (length self.old.spare) }
         requires slots { length self.old.spare ≤ slot_limit }
@@ -48,7 +48,13 @@ impl<D: Device> Pager<D> {
             return Err(ImageFault::NoMemory);
         };
         self.written = None;
-        match write_all(&mut self.reader, &mut self.usage, self.root, self.next, draft) {
+        match write_all(
+            &mut self.reader,
+            &mut self.usage,
+            self.root,
+            self.next,
+            draft,
+        ) {
             Ok((written, at)) => {
                 self.written = Some(written);
                 Ok(at)

@@ -1,4 +1,4 @@
-use Rattle.std.proofs.Common.{◌≡◌, ◌<◌, ℕ, ◌+◌, sym, ap, subst, ◌∙◌, arith, length, inl, inr, List}
+use Rattle.std.proofs.Common.{◌≡◌, ◌<◌, ℕ, ◌+◌, sym, subst, ◌∙◌, arith, length, inl, inr, List}
 use Rattle.std.proofs.lemmas.Bool.{true≢false}
 use Rattle.bd_pager.proofs.DraftLemmas.{ArePicked, one_picked, none_picked}
 use Rattle.bd_pager.proofs.draft.pick_free.Goals as goal

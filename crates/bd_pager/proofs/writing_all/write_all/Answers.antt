@@ -1,11 +1,10 @@
-use Rattle.std.proofs.Common.{◌≡◌, ◌≤◌, ℕ, List, Bool, length, sym, ap, subst, ◌∙◌}
+use Rattle.std.proofs.Common.{◌≤◌, ℕ, List, Bool, length, sym, subst}
 use Rattle.std.specs.Prelude.{All}
 use Rattle.bd_slots.specs.Layout.{IsTablePlace}
 use Rattle.bd_slots.specs.Slots.{IsFree}
 use Rattle.bd_table.specs.Image.{IsOfTable}
 use Rattle.bd_table.specs.Tables.{IsTableAt}
 use Rattle.bd_pager.specs.Counting.{AreUnused}
-use Rattle.bd_pager.specs.Moving.{OnlyMoves}
 use Rattle.bd_pager.specs.Pagers.{IsReady}
 use Rattle.bd_pager.specs.Places.{spots_in}
 use Rattle.bd_pager.proofs.MovingLemmas.{moves_then, device_moves, cached_kept}
@@ -29,7 +28,7 @@ filled-written-requires-clause-unused g c =
     let w = c.in_ok-write_early.ensures in
     let q = c.requires in
     let all = all_written g.D.Device c.args.root c.args.next c.args.reader.now.dev c.write_early.new.reader.dev (spots_in c.args.reader.now.spots) (spots_in c.write_early.new.reader.spots) c.args.usage.now c.write_early.new.usage c.args.draft
-        w.moves w.spare w.tallied w.few q.tallied q.table q.draft q.room in
+    w.moves w.spare w.tallied w.few q.tallied q.table q.draft q.room in
     (c.write_early.new.usage.spare, all.tallied.unused)
 
 pub filled-written-requires-clause-stored : goal.filled-written-requires-clause-stored
@@ -53,7 +52,7 @@ write-requires-clause-place g c =
     let u = c.write_early.new.usage in
     let spots = spots_in c.write_early.new.reader.spots in
     let all = all_written g.D.Device c.args.root c.args.next c.args.reader.now.dev c.write_early.new.reader.dev (spots_in c.args.reader.now.spots) spots c.args.usage.now u c.args.draft
-        w.moves w.spare w.tallied w.few q.tallied q.table q.draft q.room in
+    w.moves w.spare w.tallied w.few q.tallied q.table q.draft q.room in
     let few = subst (λ (l : List Bool). length l ≤ 65536) (sym w.spare) q.slots in
     let table = filled_table u.spare u.free spots c.args.draft.ids.items c.args.root c.args.next c.filled-written.result.0 all.draft_is.ids all.tallied.unused all.stored all.table all.tallied.counted.fits few c.filled-written.ensures.filled in
     subst (λ (n : ℕ). IsTablePlace n c.as_slice.result.now) (sym c.count-slots.ensures) (subst (λ (l : List ℕ). IsTablePlace (length u.spare) l) (sym c.as_slice.ensures) (table_place (length u.spare) c.filled-written.result.0.at c.filled-written.result.0.table table))
@@ -65,7 +64,7 @@ write-requires-clause-table g c =
     let u = c.write_early.new.usage in
     let spots = spots_in c.write_early.new.reader.spots in
     let all = all_written g.D.Device c.args.root c.args.next c.args.reader.now.dev c.write_early.new.reader.dev (spots_in c.args.reader.now.spots) spots c.args.usage.now u c.args.draft
-        w.moves w.spare w.tallied w.few q.tallied q.table q.draft q.room in
+    w.moves w.spare w.tallied w.few q.tallied q.table q.draft q.room in
     let few = subst (λ (l : List Bool). length l ≤ 65536) (sym w.spare) q.slots in
     let table = filled_table u.spare u.free spots c.args.draft.ids.items c.args.root c.args.next c.filled-written.result.0 all.draft_is.ids all.tallied.unused all.stored all.table all.tallied.counted.fits few c.filled-written.ensures.filled in
     subst (λ (n : ℕ). IsTableAt n c.as_slice.result.now c.filled-written.result.0.table) (sym c.count-slots.ensures)
@@ -158,7 +157,7 @@ returns-clause-ready g c =
     let u = c.write_early.new.usage in
     let spots = spots_in c.write_early.new.reader.spots in
     let all = all_written g.D.Device c.args.root c.args.next c.args.reader.now.dev c.write_early.new.reader.dev (spots_in c.args.reader.now.spots) spots c.args.usage.now u c.args.draft
-        w.moves w.spare w.tallied w.few q.tallied q.table q.draft q.room in
+    w.moves w.spare w.tallied w.few q.tallied q.table q.draft q.room in
     let few = subst (λ (l : List Bool). length l ≤ 65536) (sym w.spare) q.slots in
     let ready : IsReady u.spare spots c.args.root c.args.next c.filled-written.result.0 =
     filled_ready u.spare u.free spots c.args.draft.ids.items c.args.root c.args.next c.filled-written.result.0 all.draft_is.ids all.tallied.unused all.stored all.table all.tallied.counted.fits few c.filled-written.ensures.filled in

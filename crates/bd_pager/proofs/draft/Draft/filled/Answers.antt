@@ -1,4 +1,4 @@
-use Rattle.std.proofs.Common.{◌≡◌, ℕ, Bool, List, ◌++◌, length, rules, refl, sym, ap, subst, ◌∙◌, arith, true}
+use Rattle.std.proofs.Common.{◌≡◌, ℕ, Bool, List, ◌++◌, length, refl, sym, ap, subst, ◌∙◌, arith, true}
 use Rattle.std.proofs.lemmas.Grind.{common_steps}
 use Rattle.std.proofs.lemmas.List.{length-replicate}
 use Rattle.std.specs.Prelude.{All}
@@ -68,7 +68,7 @@ returns-clause-filled c =
     let differ : AreSlots (length free) (at ++ slots_of (entries_of spots ids)) =
     taken_slots spots ids c.requires.draft.ids c.requires.unused.0 free c.requires.unused.1 c.requires.stored at c.pick_free.ensures.slots c.pick_free.ensures.free in
     let held : (slots : ℕ) (now : List ℕ) (then_now : List TableEntry) (flags : List Bool) → slots ≡ length free → now ≡ at → then_now ≡ entries → AreFreeSlots slots (now ++ slots_of then_now) flags
-        → AreFreeSlots (length free) (c.from_vec-2.result ++ slots_of c.from_vec.result) flags = λ slots now then_now flags slots_is now_is then_is h.
+    → AreFreeSlots (length free) (c.from_vec-2.result ++ slots_of c.from_vec.result) flags = λ slots now then_now flags slots_is now_is then_is h.
     subst (λ (n : ℕ). AreFreeSlots n (c.from_vec-2.result ++ slots_of c.from_vec.result) flags) slots_is
     (subst (λ (l : List ℕ). AreFreeSlots slots (l ++ slots_of c.from_vec.result) flags) (now_is ∙ sym from_at)
     (subst (λ (l : List TableEntry). AreFreeSlots slots (now ++ slots_of l) flags) (then_is ∙ sym from_entries) h)) in

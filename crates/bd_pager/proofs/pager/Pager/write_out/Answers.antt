@@ -53,7 +53,7 @@ invariant_of-self g c =
     (subst (λ (l : List Bool). AreUnused l v.free (spots_in r.spots)) w.spare w.tallied.unused) in
     let ready = ready_paged (D.contents r.dev) (q i.reader.is_lent i.usage.spare None) c.in-Ok-write_all.written paged c.in-Ok-write_all.ensures.ready in (
       subst (λ (b : Bool). IsPaged (D.contents r.dev) (q b v.spare (Some c.in-Ok-write_all.written))) (sym w.lent)
-      (subst (λ (l : List Bool). IsPaged (D.contents r.dev) (q i.reader.is_lent l (Some c.in-Ok-write_all.written))) (sym w.spare) ready),
+          (subst (λ (l : List Bool). IsPaged (D.contents r.dev) (q i.reader.is_lent l (Some c.in-Ok-write_all.written))) (sym w.spare) ready),
       w.tallied,
     )
 
@@ -69,8 +69,7 @@ invariant_of-self-in-Err g c =
     let paged : IsPaged (D.contents r.dev) (q i.reader.is_lent i.usage.spare None) =
     spilled_paged D p r.dev r.spots.entries r.cache v.free c.self.invariant.0 w.moves w.reading.placed
     (subst (λ (b : Bool). AreCached (D.contents r.dev) b (spots_in r.spots) r.cache) w.lent w.reading.cached)
-    (subst (λ (l : List Bool). AreUnused l v.free (spots_in r.spots)) w.spare w.tallied.unused) in
-    (
+    (subst (λ (l : List Bool). AreUnused l v.free (spots_in r.spots)) w.spare w.tallied.unused) in (
       subst (λ (b : Bool). IsPaged (D.contents r.dev) (q b v.spare None)) (sym w.lent) (subst (λ (l : List Bool). IsPaged (D.contents r.dev) (q i.reader.is_lent l None)) (sym w.spare) paged),
       w.tallied,
     )
