@@ -20,7 +20,7 @@ use Rattle.bd_pager.specs.declared.place.Place.TheVariants.{Memory, Slot}
 use Rattle.bd_pager.specs.declared.place.Spot.{Spot}
 use Rattle.bd_pager.specs.Keeping.{KeepsSaved}
 use Rattle.bd_pager.specs.Places.{refs_in, node_at, node_of, told}
-use Rattle.bd_pager.specs.Pagers.{Paged, spots_of, table_of, nodes_of, is_saved, is_changed, is_changed_place, touched_at, is_known, IsKnownOver, IsRightPlace, IsPlaceIn, IsStoredAs, IsPaged}
+use Rattle.bd_pager.specs.Pagers.{Paged, spots_of, table_of, nodes_of, is_saved, is_changed, is_changed_place, is_known, IsRightPlace, IsPlaceIn, IsStoredAs, IsPaged}
 use Rattle.bd_pager.specs.Slots.{slot_bytes}
 use Rattle.bd_pager.proofs.AskedLemmas.{unchanged_held}
 use Rattle.bd_view.specs.Moves.{OnlyNodes}
@@ -60,7 +60,7 @@ one_slot entries id slot other rising a b =
       | inr not_before ↦ elim (cases_lt b.0 a.0) [
         | inl after ↦ let less : (Entry b.0).id < (Entry a.0).id = rising b.0 a.0 a.1 after a.2 in absurd (omega (arith, less, low, high))
         | inr not_after ↦ let same : a.0 ≡ b.0 = omega (arith, not_before, not_after) in
-          sym a.4.1 ∙ ap (λ (e : TableEntry). e.slot) (sym first ∙ ap Entry same ∙ second) ∙ b.4.1
+            sym a.4.1 ∙ ap (λ (e : TableEntry). e.slot) (sym first ∙ ap Entry same ∙ second) ∙ b.4.1
       ]
     ]
 

@@ -1,13 +1,13 @@
 -- The view of a new image.
-use Rattle.std.proofs.Common.{◌≡◌, ℕ, ◌+◌, ◌-◌, ◌<◌, ◌≤◌, refl, sym, ap, ◌∙◌, lit≤, arith}
+use Rattle.std.proofs.Common.{◌≡◌, ℕ, ◌-◌, ◌≤◌, refl, lit≤, arith}
 use Rattle.std.specs.Prelude.{length}
-use Rattle.bd_limits.specs.Limits.{soft_limit, late_limit, slot_minimum}
+use Rattle.bd_limits.specs.Limits.{slot_minimum}
 use Rattle.bd_command.specs.Log.{IsLogged, log_record, record_limit}
 use Rattle.bd_command.specs.declared.Command.{Command}
 use Rattle.bd_dirs.specs.Kinds.{Kind, Reads, Sends, SendsLate, Grafts, kind_of}
 use Rattle.bd_node.specs.Tables.{sum_below, kept_count}
-use Rattle.bd_view.specs.Trees.{fresh_tree, limit_of, waiting_limit}
-use Rattle.bd_view.specs.Views.{View, fresh_view, changed_count, free_slots, save_slots, step_slots, need_slots, log_room, log_size}
+use Rattle.bd_view.specs.Trees.{fresh_tree, limit_of}
+use Rattle.bd_view.specs.Views.{fresh_view, free_slots, save_slots, step_slots, need_slots, log_room}
 use Rattle.bd_view.specs.Moves.{IsQuietFor}
 
 pub fresh_free : (slots : ℕ) → free_slots (fresh_view slots) ≡ slots - 2

@@ -1,5 +1,6 @@
-pub mod Listed
-pub mod Saved
-pub mod Steps
 pub mod Fresh
+pub mod Listed
 pub mod Reclaimed
+pub mod Saved
+pub mod Standing
+pub mod Steps

@@ -1,7 +1,7 @@
 -- What reclaiming leaves.
-use Rattle.std.proofs.Common.{◌≡◌, ℕ, ◌<◌, ◌≤◌, sym, ap, subst, ◌∙◌, arith, inl, inr}
+use Rattle.std.proofs.Common.{◌≡◌, ℕ, ◌<◌, sym, ap, ◌∙◌, arith, inl, inr}
 use Rattle.std.proofs.lemmas.Bool.{cases_lt}
-use Rattle.std.specs.Prelude.{Option, Some}
+use Rattle.std.specs.Prelude.{Some}
 use Rattle.bd_node.specs.declared.node.Node.{Node}
 use Rattle.bd_reclaim.specs.declared.covering.Cover.TheVariants.{Gone}
 use Rattle.bd_reclaim.specs.Covering.{HasNoCovered}

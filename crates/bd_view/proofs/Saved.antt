@@ -1,10 +1,10 @@
 -- What a checkpoint leaves.
-use Rattle.std.proofs.Common.{◌≡◌, ℕ, zero, suc, ◌+◌, ◌-◌, ◌<◌, ◌≤◌, Bool, true, false, not, ◌&&◌, ◌||◌, refl, sym, ap, subst, ◌∙◌, arith}
-use Rattle.std.specs.Prelude.{if◌then◌else◌, length}
+use Rattle.std.proofs.Common.{◌≡◌, ℕ, zero, suc, ◌-◌, ◌<◌, Bool, true, false, not, ◌&&◌, ◌||◌, refl, sym, ap, ◌∙◌, arith}
+use Rattle.std.specs.Prelude.{if◌then◌else◌}
 use Rattle.std.proofs.lemmas.Bool.{false≢true}
 use Rattle.bd_node.specs.Tables.{sum_below, kept_count}
 use Rattle.bd_node.proofs.Sums.{sum_same}
-use Rattle.bd_view.specs.Views.{View, is_kept, is_saved, is_changed, changed_count, kept_ids, held_slots, free_slots, save_slots}
+use Rattle.bd_view.specs.Views.{View, is_kept, is_saved, is_changed, changed_count, held_slots, free_slots}
 use Rattle.bd_view.specs.Moves.{Saves, IsCheckpointFull, saved_view}
 use Rattle.bd_view.proofs.Listed.{passing_has, kept_length}
 

@@ -1,12 +1,11 @@
 -- Views from which a command makes no flush step and no checkpoint.
-use Rattle.std.proofs.Common.{◌≡◌, ℕ, ◌+◌, ◌<◌, ◌≤◌, ◌⊎◌, refl, sym, ap, subst, ◌∙◌, arith, lit≤, inl, inr}
+use Rattle.std.proofs.Common.{◌≡◌, ℕ, ◌<◌, ◌≤◌, ◌⊎◌, refl, ap, subst, ◌∙◌, arith, lit≤, inl, inr}
 use Rattle.std.specs.Prelude.{IsTrue}
 use Rattle.std.proofs.lemmas.Bool.{cases_lt}
 use Rattle.bd_command.specs.Command.{writes}
 use Rattle.bd_command.specs.declared.Command.{Command}
 use Rattle.bd_model.specs.Tree.{Tree}
-use Rattle.bd_view.specs.Trees.{waiting_limit}
-use Rattle.bd_view.specs.Views.{View, free_slots, save_slots, need_slots, log_room, log_size}
+use Rattle.bd_view.specs.Views.{View, free_slots, save_slots, need_slots, log_room}
 use Rattle.bd_view.specs.Moves.{OnlyNodes, saved_view, FlushesIn, SavesIn, AreSteps, IsQuietFor, IsCommandFull, IsExecuted}
 use Rattle.bd_view.specs.Moves.AreSteps.{none, flush, save}
 

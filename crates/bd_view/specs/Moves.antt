@@ -1,15 +1,15 @@
 -- How commands, syncs and checkpoints move the view of a volume on a device.
-use Rattle.std.specs.Prelude.{◌≡◌, ℕ, ◌+◌, ◌<◌, ◌≤◌, ◌⊎◌, ◌==◌, Bool, false, if◌then◌else◌, IsTrue}
+use Rattle.std.specs.Prelude.{◌≡◌, ℕ, ◌+◌, ◌<◌, ◌≤◌, ◌⊎◌, ◌==◌, false, if◌then◌else◌, IsTrue}
 use Rattle.bd_limits.specs.Limits.{flush_limit}
 use Rattle.bd_command.specs.Command.{writes}
 use Rattle.bd_command.specs.declared.Command.{Command}
 use Rattle.bd_model.specs.Tree.{Tree}
 use Rattle.bd_dirs.specs.Sendings.{sending}
 use Rattle.bd_node.specs.Steps.{with_touched}
-use Rattle.bd_node.specs.Tables.{IsKept, root_at}
+use Rattle.bd_node.specs.Tables.{IsKept}
 use Rattle.bd_log.specs.Batches.{blocks_for}
 use Rattle.bd_view.specs.Trees.{FlushesFor, HasSent, waiting_limit}
-use Rattle.bd_view.specs.Views.{View, is_saved, changed_count, kept_ids, free_slots, save_slots, need_slots, log_room, log_size}
+use Rattle.bd_view.specs.Views.{View, keys_of, is_saved, changed_count, kept_ids, free_slots, save_slots, need_slots, log_room, log_size}
 
 -- ---- between checkpoints
 
@@ -105,7 +105,7 @@ pub record IsExecuted (t : Tree) (c : Command) (old new : View) : Type 0 where
   pub stepped : HasStepped c old mid
   pub enough : mid.tree.table.size ≤ waiting_limit c
   pub room : need_slots c mid ≤ free_slots mid
-  pub sent : HasSent (sending (root_at old.tree.nodes old.tree.table) t c) mid.tree new.tree
+  pub sent : HasSent (sending (keys_of old) t c) mid.tree new.tree
   pub rest : OnlyNodes mid new
 
 -- its record waits too

@@ -5,8 +5,9 @@ use Rattle.bd_limits.specs.Limits.{late_limit}
 use Rattle.bd_slots.specs.Layout.{table_length}
 use Rattle.bd_command.specs.Log.{log_record}
 use Rattle.bd_command.specs.declared.Command.{Command}
+use Rattle.bd_message.specs.KeyMaps.{At}
 use Rattle.bd_dirs.specs.Kinds.{Kind, SendsLate, kind_of}
-use Rattle.bd_node.specs.Tables.{Table, sum_below, kept_count}
+use Rattle.bd_node.specs.Tables.{Table, sum_below, kept_count, root_at}
 use Rattle.bd_log.specs.Logs.{room_at}
 use Rattle.bd_view.specs.Trees.{TreeView, fresh_tree}
 
@@ -20,6 +21,10 @@ pub record View : Type 0 where
   pub epoch : ℕ
   pub place : ℕ
   pub waiting : ℕ
+
+-- what stands at each key
+abbrev pub keys_of : View → At
+keys_of v = root_at v.tree.nodes v.tree.table
 
 -- the first one of an image of so many slots: its root alone is in the first checkpoint
 abbrev pub fresh_view : ℕ → View

@@ -8,13 +8,14 @@ ghost use Rattle.bd_command.specs.Command.{writes};
 ghost use Rattle.bd_command.specs.Log.{IsLogged};
 ghost use Rattle.bd_command.specs.declared.Command.{Command};
 ghost use Rattle.bd_model.specs.Tree.{Tree};
+ghost use Rattle.bd_message.specs.KeyMaps.{SameAt};
 ghost use Rattle.bd_node.specs.Tables.{Table, IsKept, kept_count};
 ghost use Rattle.bd_node.specs.declared.node.Node.{Node};
 ghost use Rattle.bd_reclaim.specs.declared.covering.Cover.TheVariants.{Gone};
 ghost use Rattle.bd_reclaim.specs.Covering.{HasNoCovered};
-ghost use Rattle.bd_view.specs.Views.{View, fresh_view, changed_count, kept_ids, held_slots, free_slots, save_slots, need_slots, log_room};
+ghost use Rattle.bd_view.specs.Views.{View, keys_of, fresh_view, changed_count, kept_ids, held_slots, free_slots, save_slots, need_slots, log_room};
 ghost use Rattle.bd_view.specs.Moves.{OnlyNodes, Saves, IsCheckpointFull, SavesIn, AreSteps, IsCommandFull, IsExecuted, IsQuietFor};
-ghost use Rattle.bd_view.specs.Reclaiming.{IsReclaim, IsReclaimFull};
+ghost use Rattle.bd_view.specs.Reclaiming.{HasReclaimed, IsReclaim, IsReclaimFull};
 
 use bd_command::laws::log_records_fit;
 
@@ -28,7 +29,7 @@ pub fn kept_nodes_are_listed()
 {}
 
 /// After a checkpoint no node is changed, and each slot is free that the kept nodes and their table
-/// don't hold. It needs a slot for each node that was changed.
+/// don't hold. A view has at most one after it, and where slots are free for it it isn't refused.
 pub fn checkpoints_keep_all()
     ensures none { (old new : View) → Saves old new → changed_count new ≡ 0 }
     ensures free { (old new : View) → Saves old new
@@ -42,6 +43,18 @@ pub fn checkpoints_keep_all()
 pub fn changes_hold_no_slots()
     ensures free { (old new : View) → OnlyNodes old new → free_slots new ≡ free_slots old }
     ensures log { (old new : View) → OnlyNodes old new → log_room new ≡ log_room old }
+{}
+
+/// Flush steps, checkpoints and reclaiming leave what the tree has at each key, and the last graft.
+pub fn steps_keep_what_stands()
+    ensures steps { (c : Command) (made : ℕ) (old new : View) → AreSteps c made old new
+        → SameAt (keys_of old) (keys_of new) }
+    ensures reclaims { (pushes : ℕ) (old new : View) → HasReclaimed pushes old new
+        → SameAt (keys_of old) (keys_of new) }
+    ensures steps_walk { (c : Command) (made : ℕ) (old new : View) → AreSteps c made old new
+        → new.tree.walk ≡ old.tree.walk }
+    ensures reclaims_walk { (pushes : ℕ) (old new : View) → HasReclaimed pushes old new
+        → new.tree.walk ≡ old.tree.walk }
 {}
 
 /// A writing command has slots for its next step, or makes a checkpoint, or is refused with the two
