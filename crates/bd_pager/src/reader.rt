@@ -126,8 +126,8 @@ impl<D: Device> NodeReader<D> {
         Ok(node)
     }
 
-    // Gives up what was read before the device was lent.
-    fn trust(&mut self)
+    /// Gives up what was read before the device was lent.
+    pub fn trust(&mut self)
         requires { IsReading (D.contents self.old.dev) self.old }
         ensures reading { IsReading (D.contents self.new.dev) self.new }
         ensures trusted { self.new.is_lent ≡ false }
