@@ -1,5 +1,6 @@
 -- Superblocks that were taken back.
 use Rattle.std.proofs.Common.{rules, ◌≡◌, ◌≢◌, ℕ, List, Option, None, Some, IfSome, sym, ap, subst, ◌∙◌, arith}
+use Rattle.std.proofs.lemmas.Bool.{true≢false}
 use Rattle.std.specs.Prelude.{IsSome, slice_index}
 use Rattle.bd_device.specs.Blocks.{Image, with_block}
 use Rattle.bd_device.specs.Commits.{IsCommitted}
@@ -18,5 +19,5 @@ none_committed (Some image) now bytes first e second =
 
 -- contents that were told are told
 pub still_told : (known now : Option Image) (b : ℕ) (bytes : List ℕ) → now ≡ with_block b bytes known → IsSome known → IsSome now
-still_told None now b bytes e some = absurd some
+still_told None now b bytes e some = absurd (true≢false (sym some))
 still_told (Some image) now b bytes e some = subst (λ (o : Option Image). IsSome o) (sym e) (search rules)

@@ -16,4 +16,4 @@ pub mod WrittenOut
 pub mod Marked
 pub mod Checkpointed
 pub mod FreshTree
-pub mod Firsts
+pub mod Beginning

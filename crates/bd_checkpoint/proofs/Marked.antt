@@ -138,6 +138,6 @@ module _ {D : Type 0} (g : Ghosts D) (old mid : Paged D) (spills : Spills g old 
 
     pub open_new : (log : LogState) → ((t : StoredTable) → IfSome (g.contents mid.dev) (HasTableOf s t) → IsOpenOn g last.dev s (saved_by s t) log) → IsOpenOn g new.dev s (saved_of new) log
     open_new log published =
-        let open : IsOpenOn g last.dev s (saved_by s w.written.table) log = published w.written.table (table_written g mid at s w slots table) in
+        let here : IsOpenOn g last.dev s (saved_by s w.written.table) log = published w.written.table (table_written g mid at s w slots table) in
         subst (λ (x : Paged D). IsOpenOn g x.dev s (saved_of x) log) (sym marked_is)
-        (subst (λ (l : List ℕ). IsOpenOn g last.dev s (let saved : Saved = record { at = l; table = w.written.table } in saved) log) (table ∙ sym w.at_is) open)
+        (subst (λ (l : List ℕ). IsOpenOn g last.dev s (let saved : Saved = record { at = l; table = w.written.table } in saved) log) (table ∙ sym w.at_is) here)

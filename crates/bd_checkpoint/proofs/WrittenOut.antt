@@ -1,6 +1,7 @@
 -- Nodes that a pager has written are those that the image stores by their table.
-use Rattle.std.proofs.Common.{◌≡◌, ◌≢◌, ℕ, inl, inr, Bool, List, length, get_or, Option, None, Some, IfSome, refl, sym, ap, subst, ◌∙◌}
+use Rattle.std.proofs.Common.{◌≡◌, ◌≢◌, ℕ, inl, inr, Bool, List, length, Option, None, Some, IfSome, refl, sym, ap, subst, ◌∙◌}
 use Rattle.std.specs.Prelude.{All}
+use Rattle.std.proofs.lemmas.Bool.{true≢false}
 use Rattle.std.proofs.lemmas.List.Elements.{recursion_from_All}
 use Rattle.bd_model.specs.Tree.{Tree}
 use Rattle.bd_device.specs.Blocks.{Image}
@@ -69,7 +70,7 @@ module _ (encoded : AreEncoded) (image : Image) (spare : List Bool) (spots : Spo
 written_over : AreEncoded → (known : Option Image) (spare : List Bool) (spots : Spots) (root size next : ℕ) (touched : ℕ → Bool) (w : Written) (at : List ℕ) (s : Super) (tree : Tree)
     → IsReady spare spots root next w → IfSome known (λ image. HoldsTable image (length spare) at w.table) → s.slots ≡ length spare → s.table ≡ at
     → IsKnownOver known spots → AreOfTree (nodes_at known spots) (table_at spots root size next touched) tree → AreWritten known s w.table (nodes_at known spots) tree
-written_over encoded None spare spots root size next touched w at s tree ready held slots table known of = absurd known.contents_told
+written_over encoded None spare spots root size next touched w at s tree ready held slots table known of = absurd (true≢false (sym known.contents_told))
 written_over encoded (Some image) spare spots root size next touched w at s tree ready held slots table known of =
     let has = has_spot encoded image spare spots root next w ready known in
     record {

@@ -54,7 +54,7 @@ pub record IsSaved {D : Type 0} (g : Ghosts D) (old new : Paged D) : Type 0 wher
 -- leaves stands for what one of before stood for
 pub record GoesOn {D : Type 0} (g : Ghosts D) (old new : D) (live : Super) (saved : Saved)
     (log : LogState) : Type 0 where
-  pub open : IsOpenOn g new live saved log
+  pub known : IsOpenOn g new live saved log
   pub kept : AllAsBefore (left_now g old) (left_now g new)
   pub write_faults : g.write_fault_count new ≡ g.write_fault_count old
 

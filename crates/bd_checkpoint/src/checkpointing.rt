@@ -4,6 +4,7 @@ ghost use Rattle.std.specs.Prelude.{◌≡◌, ◌+◌, ◌^◌, ◌≤◌, fals
 ghost use Rattle.bd_model.specs.Tree.{Tree};
 ghost use Rattle.bd_slots.specs.Layout.{table_length};
 ghost use Rattle.bd_device.specs.Device.{left_now, Goes, Stays};
+ghost use Rattle.bd_device.specs.Moments.{IsOnly};
 ghost use Rattle.bd_node.specs.Tables.{kept_count};
 ghost use Rattle.bd_table.specs.Tables.{AreFreeSlots};
 ghost use Rattle.bd_super.specs.Superblocks.{log_block};
@@ -33,8 +34,9 @@ use bd_table::laws::tables_are_read_again;
 /// accepted: writes the changed nodes and the table to slots that the last one doesn't hold,
 /// publishes the superblock after the live one, and goes on with its log, which is empty. An image
 /// that a crash inside it leaves, also where it fails, stands for what one of before stood for, or
-/// for the tree of the nodes and the count; one that a crash after it leaves, once it is Ok, for
-/// the latter. Then this checkpoint is known of the device, and no node is changed.
+/// for the tree of the nodes and the count; one that a crash after it leaves, once it is Ok, is
+/// what reads give, and stands for the latter. Then this checkpoint is known of the device, and no
+/// node is changed.
 ///
 /// A fault leaves the nodes, the log, the live superblock and the last checkpoint. Unless a write
 /// or a barrier of the device failed, what was known of it stays known. `DeviceFault` comes only
@@ -61,6 +63,8 @@ pub fn checkpoint<D: Device>(
     ensures kept { OnOk result ((tree : Tree) → is_known D.Device pager.old
         → AreOfTree (nodes_of D.Device pager.old) (table_of pager.old) tree
         → AllStandFor tree count (left_now D.Device pager.new.dev)) }
+    ensures only { OnOk result
+        (IsOnly (D.contents pager.new.dev) (left_now D.Device pager.new.dev)) }
 
     // What is known once it is Ok.
     ensures open { OnOk result

@@ -50,11 +50,11 @@ pub struct Formatted<D: Device> {
 
 /// Makes an image of so many slots on a device, whatever it has: of the tree of `/` alone, and of
 /// no commands. It takes both superblocks back, writes the root's node and the table, and publishes
-/// the first superblock, with four barriers in all. Once it is Ok, each image that a crash after it
-/// leaves is what reads give and stands for that tree and a count of 0, and this checkpoint is known
-/// of the device. At most `room` nodes that the pager reads will be kept. Where it fails, it returns
-/// the device, on which there may be no image. `DeviceFault` comes only where a call of the device
-/// failed, which is the last one then. It is never `Damaged`.
+/// the first superblock. Once it is Ok, an image that a crash after it leaves is what reads give,
+/// and stands for that tree and a count of 0; this checkpoint is known of the device, and no node
+/// is changed. At most `room` nodes that the pager reads will be kept. Where it fails, it returns
+/// the device, which may have no image any more. `DeviceFault` comes only where a call of the
+/// device failed, which is the last one then. It is never `Damaged`.
 pub fn format<D: Device>(
     alloc: Global,
     mut dev: D,

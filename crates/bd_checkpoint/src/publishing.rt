@@ -23,10 +23,11 @@ use bd_super::{Super, publish};
 
 /// Publishes a superblock whose table and nodes were written: the one after the live one, or the
 /// first one of a device on which none is committed. An image that a crash inside it leaves stands,
-/// if another one was live, for what one of before stood for, or for the tree of those nodes and the
-/// superblock's count; one that a crash after it leaves, once it is Ok, for the latter. Then what is
-/// known of the device is this checkpoint, for which the table alone is enough. `Failed` comes only
-/// where a call of the device failed, which is the last one then. It takes no memory.
+/// where another one was live, for what one of before stood for, or for the tree of those nodes and
+/// the superblock's count; one that a crash after it leaves, once it is Ok, is what reads give, and
+/// stands for the latter. Then what is known of the device is this checkpoint, for which the table
+/// alone is enough. `Failed` comes only where a call of the device failed, which is the last one
+/// then. It takes no memory.
 pub fn publish_written<D: Device>(dev: &mut D, s: &Super) -> Result<(), Failed>
     requires fits { IsSuper s.now }
     requires version { mode_version ≤ version_of s.now }

@@ -5,7 +5,7 @@ ghost use Rattle.bd_limits.specs.Limits.{late_limit};
 ghost use Rattle.bd_message.specs.KeyMaps.{HasMapCause, NeverWorn, IsApplied, IsGrafted};
 ghost use Rattle.bd_node.specs.Frames.{OfSound, OnlyReads, Stays};
 ghost use Rattle.bd_node.specs.Steps.{HasGrown};
-ghost use Rattle.bd_node.specs.Tables.{root_at};
+ghost use Rattle.bd_node.specs.Tables.{root_at, IsSound};
 ghost use Rattle.bd_graft.specs.Grafting.{IsWornForGraft, IsWornByGraft, OnWorn};
 ghost use Rattle.bd_represent.specs.Plans.{IsSmallBatch};
 ghost use Rattle.bd_dirs.specs.Plans.{IsReady};
@@ -64,6 +64,8 @@ pub fn graft<S: NodeStore>(
     ensures grafted { OfSound S.NodeStore tree.old.store (OnOk result
         (IsGrafted (root_at (S.nodes tree.old.store) (S.table tree.old.store)) s.now d.now keep
         (root_at (S.nodes tree.new.store) (S.table tree.new.store)))) }
+    ensures sound { OfSound S.NodeStore tree.old.store (OnOk result
+        (IsSound (S.nodes tree.new.store) (S.table tree.new.store))) }
     ensures worn { OfSound S.NodeStore tree.old.store (IfErr result (OnWorn
         (IsWornByGraft (S.nodes tree.old.store) (S.table tree.old.store) s.now d.now keep))) }
 {

@@ -5,3 +5,5 @@ pub mod Crashes
 pub mod Joined
 pub mod Leaves
 pub mod Marks
+pub mod Since
+pub mod Walks

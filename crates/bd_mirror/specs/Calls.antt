@@ -1,5 +1,5 @@
 -- What a mirror shows, and what its calls leave of its halves.
-use Rattle.std.specs.Prelude.{◌≡◌, ℕ, ◌+◌, ◌-◌, ◌^◌, ◌<◌, ◌≤◌, min, Bool, Option, true, false}
+use Rattle.std.specs.Prelude.{◌≡◌, ◌≢◌, [], ℕ, ◌+◌, ◌-◌, ◌^◌, ◌<◌, ◌≤◌, min, Bool, Option, true, false, List}
 use Rattle.bd_io.specs.Cause.{Rose}
 use Rattle.bd_device.specs.Blocks.{Image}
 use Rattle.bd_device.specs.Device.{left_now}
@@ -9,6 +9,7 @@ use Rattle.bd_device.specs.declared.device.Device.{Ghosts}
 use Rattle.bd_mirror.specs.Halves.{halves_of, with_halves, uses_first, uses_second, blocks_in}
 use Rattle.bd_mirror.specs.Contents.{shown_by, IsMarked, LeavesShown, AreLeftMarked, PicksHave, IsPicked}
 use Rattle.bd_mirror.specs.Crashes.{LeavesPairs}
+use Rattle.bd_mirror.specs.Names.{HasPlus, first_name, second_name}
 use Rattle.bd_mirror.specs.declared.halves.Halves.{Halves}
 use Rattle.bd_mirror.specs.declared.halves.Attached.{Attached}
 use Rattle.bd_mirror.specs.declared.mirror.Mirror.{Mirror}
@@ -100,6 +101,10 @@ write_faults_of m = m.counts.write_faults
 abbrev pub last_of : {A B : Type 0} → Mirror A B → Bool
 last_of m = m.counts.last_failed
 
+-- both halves before each call, those before the last one first
+abbrev pub moments_of : {A B : Type 0} → Mirror A B → List (A × B)
+moments_of m = m.history.moments
+
 -- its count of calls stands at its last value
 abbrev pub IsFull : {A B : Type 0} → Mirror A B → Type 0
 IsFull m = 2 ^ 64 ≤ m.counts.calls + 1
@@ -119,14 +124,24 @@ pub record AreSettled {A B : Type 0} (a : Ghosts A) (b : Ghosts B) (m : Mirror A
   pub second : uses_second (halves_of m.attached) ≡ true → 0 < blocks_now a b m
       → IsOnly (b.contents m.second) (left_now b m.second)
 
--- what all calls but an attach leave: how many blocks the halves have, and each half that isn't in
--- use
+-- the halves that a name names go by their names
+pub record HalvesNamed {A B : Type 0} (a : Ghosts A) (b : Ghosts B) (name : List ℕ) (m : Mirror A B)
+    : Type 0 where
+  pub first : a.is_named m.first (first_name name)
+  pub second : HasPlus name → second_name name ≢ [] → b.is_named m.second (second_name name)
+
+-- what all calls but an attach leave: how many blocks the halves have, their names, and each half
+-- that isn't in use. Their counts never fall.
 pub record HalvesStay {A B : Type 0} (a : Ghosts A) (b : Ghosts B) (old new : Mirror A B)
     : Type 0 where
   pub first_count : a.block_count new.first ≡ a.block_count old.first
   pub second_count : b.block_count new.second ≡ b.block_count old.second
   pub first_later : a.fault_count old.first ≤ a.fault_count new.first
   pub second_later : b.fault_count old.second ≤ b.fault_count new.second
+  pub first_calls : a.call_count old.first ≤ a.call_count new.first
+  pub second_calls : b.call_count old.second ≤ b.call_count new.second
+  pub first_named : (name : List ℕ) → a.is_named old.first name → a.is_named new.first name
+  pub second_named : (name : List ℕ) → b.is_named old.second name → b.is_named new.second name
   pub first_idle : uses_first (halves_of old.attached) ≡ false → new.first ≡ old.first
   pub second_idle : uses_second (halves_of old.attached) ≡ false → new.second ≡ old.second
   pub attached : new.attached ≡ with_halves (halves_of new.attached) old.attached

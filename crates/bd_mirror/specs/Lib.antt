@@ -3,4 +3,5 @@ pub mod Contents
 pub mod Crashes
 pub mod Halves
 pub mod Names
+pub mod Since
 pub mod Writing

@@ -1,4 +1,4 @@
-ghost use Rattle.std.specs.Prelude.{◌≡◌, ◌≢◌, ℕ, List, [], ◌<◌, ◌≤◌, ◌+◌, ◌-◌, ◌^◌, if◌then◌else◌, ◌⊎◌, true, false, IsTrue, None, Some, IfSome, IfNone, IfOk, OnOk, OnErr, is_ok, is_err, slice_get};
+ghost use Rattle.std.specs.Prelude.{◌≡◌, ◌≢◌, ℕ, List, [], ◌∷◌, ◌<◌, ◌≤◌, ◌+◌, ◌-◌, ◌^◌, if◌then◌else◌, ◌⊎◌, true, false, IsTrue, None, Some, IfSome, IfNone, IfOk, OnOk, OnErr, is_ok, is_err, slice_get};
 ghost use Rattle.bd_io.specs.Cause.{HasCause, IsCounted, Rose};
 ghost use Rattle.bd_device.specs.Calls.{faults_after, no_calls};
 ghost use Rattle.bd_device.specs.Blocks.{Image, with_block, ChangesOnly};
@@ -10,13 +10,15 @@ ghost use Rattle.bd_mirror.specs.Crashes.{IsPickOf, Stretch, GoesOn, LosesNothin
 ghost use Rattle.bd_mirror.specs.Names.{HasPlus, IsNamed, first_name, second_name, without_last, shown_for};
 ghost use Rattle.bd_device.specs.Changes.{StaysBut};
 ghost use Rattle.bd_device.specs.Device.{left_now, Goes, FailsLast, Stays};
-ghost use Rattle.bd_device.specs.Moments.{Nothing as Unwritten, TornAt, IsOnly};
+ghost use Rattle.bd_device.specs.Moments.{Nothing as Unwritten, TornAt, Elapses, IsOnly};
 ghost use Rattle.bd_mirror.specs.Halves.{has_marks, IsInUse, halves_of, with_halves, uses_first, uses_second, blocks_in, EachDid, LeftOnly, AttachedTo, is_two, is_too_many};
+ghost use Rattle.bd_mirror.specs.Since.{mirror_since, KeepsMoments, LeavesNow};
 ghost use Rattle.bd_mirror.specs.Writing.{IsWithin, IsBarrier, bytes_of, contents_after, TornBy, IsLeftBy};
-ghost use Rattle.bd_mirror.specs.Calls.{blocks_now, shown_now, shown_of, IsMirror, KeepsMarks, mirror_left, LeavesImages, IsMade, LeavesWhatItShows, attached_as, AreSettled, in_use, attached_to, first_of, second_of, counts_of, calls_of, faults_of, write_faults_of, last_of, IsFull, FirstFailed, SecondFailed, HalvesStay};
+ghost use Rattle.bd_mirror.specs.Calls.{blocks_now, shown_now, shown_of, IsMirror, KeepsMarks, mirror_left, LeavesImages, IsMade, LeavesWhatItShows, attached_as, AreSettled, in_use, attached_to, first_of, second_of, counts_of, moments_of, calls_of, faults_of, write_faults_of, last_of, IsFull, FirstFailed, SecondFailed, HalvesNamed, HalvesStay};
 
 use crate::copying::{go_on_alone, is_alone, is_open, mirror_onto, open_member};
 use crate::halves::{Attached, Halves};
+use crate::history::History;
 use crate::writing::WritingCall;
 use bd_device::{Attach, BLOCK_SIZE, Counts, Device};
 use bd_io::Failed;
@@ -40,6 +42,7 @@ pub struct Mirror<A, B> {
     second: B,
     attached: Attached,
     counts: Counts,
+    history: History<A, B>,
 }
 
 impl<A, B> Mirror<A, B> {
@@ -49,12 +52,14 @@ impl<A, B> Mirror<A, B> {
         ensures second { second_of result ≡ second }
         ensures attached { attached_to result ≡ Nothing }
         ensures counts { counts_of result ≡ no_calls }
+        ensures moments { moments_of result ≡ [] }
     {
         Mirror {
             first,
             second,
             attached: Attached::Nothing,
             counts: Counts::new(),
+            history: History::new(),
         }
     }
 }
@@ -78,6 +83,7 @@ impl<A: Device, B: Device> Mirror<A, B> {
         ensures marks { KeepsMarks A.Device B.Device self.old
             → KeepsMarks A.Device B.Device self.new }
         ensures counts { self.new.counts ≡ self.old.counts }
+        ensures moments { self.new.history.moments ≡ self.old.history.moments }
     {
         match self.attached.halves() {
             Halves::Neither => Err(Failed),
@@ -90,7 +96,7 @@ impl<A: Device, B: Device> Mirror<A, B> {
         }
     }
 
-    // Makes a call of each half in use.
+    // Makes a call of each half in use. Where one of both fails, goes on with the other one.
     fn call_halves(&mut self, call: WritingCall) -> Result<(), Failed>
         requires { IsWithin call (blocks_in self.old.attached
             (A.block_count self.old.first) (B.block_count self.old.second)) }
@@ -120,53 +126,28 @@ impl<A: Device, B: Device> Mirror<A, B> {
             (FirstFailed A.Device self.old self.new) (SecondFailed B.Device self.old self.new) }
         ensures stays { HalvesStay A.Device B.Device self.old self.new }
         ensures counts { self.new.counts ≡ self.old.counts }
+        ensures moments { self.new.history.moments ≡ self.old.history.moments }
     {
         match self.attached.halves() {
             Halves::Neither => Err(Failed),
             Halves::First => call.make(&mut self.first),
             Halves::Second => call.make(&mut self.second),
-            Halves::Both => self.call_both(call),
-        }
-    }
-
-    // Makes a call of both halves, and goes on with one of them where the other one fails.
-    fn call_both(&mut self, call: WritingCall) -> Result<(), Failed>
-        requires both { halves_of self.old.attached ≡ Both }
-        requires room { IsWithin call (blocks_in self.old.attached
-            (A.block_count self.old.first) (B.block_count self.old.second)) }
-        ensures done { OnOk result (IsMirror A.Device B.Device self.old
-            → shown_now A.Device B.Device self.new ≡ contents_after call.entry
-            (bytes_of call.entry) (shown_now A.Device B.Device self.old)) }
-        ensures others { OnErr result (IsMirror A.Device B.Device self.old → (bytes : List ℕ)
-            × (shown_now A.Device B.Device self.new
-            ≡ contents_after call.entry bytes (shown_now A.Device B.Device self.old))) }
-        ensures mirror { IsMirror A.Device B.Device self.old
-            → IsMirror A.Device B.Device self.new }
-        ensures durable { OnOk result (IsBarrier call.entry
-            → AreSettled A.Device B.Device self.new) }
-        ensures works { OnOk result (IsInUse (halves_of self.new.attached)) }
-        ensures marks { IsMirror A.Device B.Device self.old
-            → KeepsMarks A.Device B.Device self.old → KeepsMarks A.Device B.Device self.new }
-        ensures inside { has_marks self.old.attached ≡ true
-            → KeepsMarks A.Device B.Device self.old
-            → LeavesImages A.Device B.Device self.old self.new
-            (IsLeftBy call.entry (mirror_left A.Device B.Device self.old)) }
-        ensures why { OnErr result (FirstFailed A.Device self.old self.new
-            × SecondFailed B.Device self.old self.new) }
-        ensures in_use { LeftOnly Both (halves_of self.new.attached)
-            (FirstFailed A.Device self.old self.new) (SecondFailed B.Device self.old self.new) }
-        ensures stays { HalvesStay A.Device B.Device self.old self.new }
-        ensures counts { self.new.counts ≡ self.old.counts }
-    {
-        let first = call.make(&mut self.first);
-        let second = call.make(&mut self.second);
-        match (first, second) {
-            (Ok(()), Ok(())) => Ok(()),
-            (Ok(()), Err(_)) => go_on_alone(&mut self.first, &mut self.attached, Halves::First),
-            (Err(_), Ok(())) => go_on_alone(&mut self.second, &mut self.attached, Halves::Second),
-            (Err(failed), Err(_)) => {
-                self.attached = self.attached.with(Halves::Neither);
-                Err(failed)
+            Halves::Both => {
+                let first = call.make(&mut self.first);
+                let second = call.make(&mut self.second);
+                match (first, second) {
+                    (Ok(()), Ok(())) => Ok(()),
+                    (Ok(()), Err(_)) => {
+                        go_on_alone(&mut self.first, &mut self.attached, Halves::First)
+                    }
+                    (Err(_), Ok(())) => {
+                        go_on_alone(&mut self.second, &mut self.attached, Halves::Second)
+                    }
+                    (Err(failed), Err(_)) => {
+                        self.attached = self.attached.with(Halves::Neither);
+                        Err(failed)
+                    }
+                }
             }
         }
     }
@@ -222,6 +203,12 @@ impl<A: Device, B: Device> Device for Mirror<A, B> {
         ensures second_time { Goes B.Device (second_of self.old) (second_of self.new) Unwritten }
         ensures marks { KeepsMarks A.Device B.Device self.old
             → KeepsMarks A.Device B.Device self.new }
+        ensures noted { moments_of self.new
+            ≡ (first_of self.old, second_of self.old) ∷ moments_of self.old }
+        ensures moments { KeepsMoments self.old → KeepsMoments self.new }
+        ensures time { KeepsMoments self.old → Elapses (calls_of self.old) (calls_of self.new)
+            (mirror_since A.Device B.Device self.old) (mirror_since A.Device B.Device self.new)
+            Unwritten }
 
         // It fails only where each half in use did, or the count of calls stands at its last value.
         ensures why { OnErr result (IsFull self.old ⊎ EachDid (in_use self.old)
@@ -232,6 +219,7 @@ impl<A: Device, B: Device> Device for Mirror<A, B> {
         ensures write_faults { write_faults_of self.new ≡ write_faults_of self.old }
         ensures calls { IsCounted (calls_of self.old) (calls_of self.new) result }
     {
+        self.history = self.history.and(&self.first, &self.second);
         let result = self.read_halves(b, into);
         self.counts.settle(result.is_ok())
     }
@@ -263,6 +251,13 @@ impl<A: Device, B: Device> Device for Mirror<A, B> {
             ⊎ TornAt b (mirror_left A.Device B.Device self.old) image) }
         ensures marks { IsMirror A.Device B.Device self.old
             → KeepsMarks A.Device B.Device self.old → KeepsMarks A.Device B.Device self.new }
+        ensures noted { moments_of self.new
+            ≡ (first_of self.old, second_of self.old) ∷ moments_of self.old }
+        ensures moments { KeepsMoments self.old → KeepsMoments self.new }
+        ensures time { KeepsMarks A.Device B.Device self.old → KeepsMoments self.old
+            → Elapses (calls_of self.old) (calls_of self.new)
+            (mirror_since A.Device B.Device self.old) (mirror_since A.Device B.Device self.new)
+            (TornAt b (mirror_since A.Device B.Device self.old (calls_of self.old))) }
         ensures alone { is_two (attached_to self.old) ≡ false
             → Goes A.Device (first_of self.old) (first_of self.new)
             (TornAt b (left_now A.Device (first_of self.old))) }
@@ -280,6 +275,7 @@ impl<A: Device, B: Device> Device for Mirror<A, B> {
             ≡ faults_after (write_faults_of self.old) result }
         ensures calls { IsCounted (calls_of self.old) (calls_of self.new) result }
     {
+        self.history = self.history.and(&self.first, &self.second);
         let result = self.call_halves(WritingCall::Write(b, from));
         self.counts.settle_writing(result.is_ok())
     }
@@ -305,6 +301,16 @@ impl<A: Device, B: Device> Device for Mirror<A, B> {
         ensures left { OnOk result (IsMirror A.Device B.Device self.old
             → KeepsMarks A.Device B.Device self.old
             → LeavesWhatItShows A.Device B.Device self.new) }
+        ensures noted { moments_of self.new
+            ≡ (first_of self.old, second_of self.old) ∷ moments_of self.old }
+        ensures moments { KeepsMoments self.old → KeepsMoments self.new }
+        ensures time { KeepsMarks A.Device B.Device self.old → KeepsMoments self.old
+            → Elapses (calls_of self.old) (calls_of self.new)
+            (mirror_since A.Device B.Device self.old) (mirror_since A.Device B.Device self.new)
+            Unwritten }
+        ensures settled { OnOk result (0 < blocks_now A.Device B.Device self.old
+            → IsMirror A.Device B.Device self.old → KeepsMarks A.Device B.Device self.old
+            → KeepsMoments self.old → LeavesNow A.Device B.Device self.new) }
         ensures alone { is_two (attached_to self.old) ≡ false
             → Goes A.Device (first_of self.old) (first_of self.new) Unwritten }
 
@@ -320,6 +326,7 @@ impl<A: Device, B: Device> Device for Mirror<A, B> {
             ≡ faults_after (write_faults_of self.old) result }
         ensures calls { IsCounted (calls_of self.old) (calls_of self.new) result }
     {
+        self.history = self.history.and(&self.first, &self.second);
         let result = self.call_halves(WritingCall::Barrier);
         self.counts.settle_writing(result.is_ok())
     }
@@ -346,6 +353,7 @@ impl<A: Attach, B: Attach> Mirror<A, B> {
             (A.block_count (first_of self.new)) (B.block_count (second_of self.new)) ≡ n)) }
         ensures named { IfOk result (λ at. IsNamed name.now at
             (A.block_count (first_of self.new)) (B.block_count (second_of self.new))) }
+        ensures halves { OnOk result (HalvesNamed A.Device B.Device name.now self.new) }
         ensures mirror { IfOk result (λ at. IsMade A.Device B.Device (attached_as at self.new)) }
         ensures opened { IfOk result (λ at. at ≡ Member → 0 < A.block_count (first_of self.new)
             → IfSome (A.contents (first_of self.new))
@@ -372,6 +380,7 @@ impl<A: Attach, B: Attach> Mirror<A, B> {
             ⊎ FirstFailed A.Device self.old self.new ⊎ SecondFailed B.Device self.old self.new) }
         ensures same { attached_to self.new ≡ attached_to self.old }
         ensures counts { counts_of self.new ≡ counts_of self.old }
+        ensures moments { moments_of self.new ≡ moments_of self.old }
     {
         match name.split_once('+') {
             None => {
@@ -400,6 +409,7 @@ impl<A: Attach, B: Attach> Mirror<A, B> {
         ensures behind { IfNone size
             (option_map without_last (A.shows (first_of self.new) name.now)
             ≡ option_map without_last (A.shows (first_of self.old) name.now)) }
+        ensures named { OnOk result (A.is_named (first_of self.new) name.now) }
         ensures opened { OnOk result (0 < A.block_count (first_of self.new)
             → IfSome (A.contents (first_of self.new))
             (λ image. is_open_at (A.block_count (first_of self.new) - 1) image ≡ true)) }
@@ -421,6 +431,8 @@ impl<A: Attach, B: Attach> Mirror<A, B> {
         ensures attached { IfOk result (λ at. AttachedTo at
             (FirstFailed A.Device self.old self.new) (SecondFailed B.Device self.old self.new)) }
         ensures two { IfOk result (λ at. is_two at ≡ true) }
+        ensures first_named { OnOk result (A.is_named (first_of self.new) first.now) }
+        ensures second_named { OnOk result (B.is_named (second_of self.new) second.now) }
         ensures marks { IfOk result (λ at. 0 < A.block_count (first_of self.new)
             → A.block_count (first_of self.new) ≡ B.block_count (second_of self.new)
             → has_marks at ≡ true) }
@@ -446,6 +458,7 @@ impl<A: Attach, B: Attach> Mirror<A, B> {
             ⊎ SecondFailed B.Device self.old self.new) }
         ensures same { attached_to self.new ≡ attached_to self.old }
         ensures counts { counts_of self.new ≡ counts_of self.old }
+        ensures moments { moments_of self.new ≡ moments_of self.old }
     {
         self.first.attach(first, size)?;
         self.second.attach(second, size)?;
@@ -498,6 +511,7 @@ impl<A: Device, B: Device> Mirror<A, B> {
             ≤ B.fault_count (second_of self.new) }
         ensures same { attached_to self.new ≡ attached_to self.old }
         ensures counts { counts_of self.new ≡ counts_of self.old }
+        ensures moments { moments_of self.new ≡ moments_of self.old }
     {
         let blocks = self.first.blocks();
         if blocks == 0 || blocks != self.second.blocks() {
@@ -562,9 +576,15 @@ impl<A: Attach, B: Attach> Attach for Mirror<A, B> {
         // halves showed, by the pick.
         ensures named { OnOk result (IsNamed name.now (attached_to self.new)
             (A.block_count (first_of self.new)) (B.block_count (second_of self.new))) }
+        ensures halves { OnOk result (HalvesNamed A.Device B.Device name.now self.new) }
         ensures mirror { OnOk result (IsMirror A.Device B.Device self.new) }
         ensures left { OnOk result (LeavesWhatItShows A.Device B.Device self.new) }
         ensures marks { OnOk result (KeepsMarks A.Device B.Device self.new) }
+        ensures noted { moments_of self.new
+            ≡ (first_of self.old, second_of self.old) ∷ moments_of self.old }
+        ensures moments { KeepsMoments self.old → KeepsMoments self.new }
+        ensures settled { OnOk result (has_marks (attached_to self.new) ≡ true
+            → KeepsMoments self.old → LeavesNow A.Device B.Device self.new) }
         ensures shows { OnOk result (IfNone create (shown_now A.Device B.Device self.new
             ≡ shown_of A.Device B.Device self.new
             (A.shows (first_of self.old) (first_name name.now))
@@ -607,6 +627,7 @@ impl<A: Attach, B: Attach> Attach for Mirror<A, B> {
         ensures write_faults { write_faults_of self.new ≡ write_faults_of self.old }
         ensures calls { IsCounted (calls_of self.old) (calls_of self.new) result }
     {
+        self.history = self.history.and(&self.first, &self.second);
         self.attached = Attached::Nothing;
         let attached = self.attach_halves(name, create);
         self.counts.settle(attached.is_ok())?;

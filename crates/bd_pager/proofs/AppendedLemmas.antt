@@ -172,6 +172,7 @@ module _ {D : Type 0} (g : Ghosts D) (p : Paged D) (entries : List (ℕ × Spot)
       };
       beside = record {
         device = no_reads g p.dev;
+        lent = λ so. so;
         saved = refl;
         at = refl;
         spare = refl;

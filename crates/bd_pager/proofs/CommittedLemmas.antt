@@ -296,6 +296,7 @@ module _ {D : Type 0} (g : Ghosts D) (p : Paged D) (step : Step) (put : ℕ → 
       };
       beside = record {
         device = no_reads g p.dev;
+        lent = λ so. so;
         saved = refl;
         at = refl;
         spare = refl;

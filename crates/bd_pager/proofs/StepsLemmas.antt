@@ -229,7 +229,7 @@ unchanged {D} g p entries same =
       table = ap (λ (s : Spots). table_at s p.root p.size p.next (touched_at p.saved.entries p.spare s)) back;
       known = λ known. subst (λ (s : Spots). IsKnownOver (g.contents p.dev) s) same known;
       kept = λ known. ap (λ (s : Spots). nodes_at (g.contents p.dev) s) back;
-      read = record { device = no_reads g p.dev; spots = back; rest = refl };
+      read = record { device = no_reads g p.dev; lent = λ so. so; spots = back; rest = refl };
       same_loans = refl;
     }
 

@@ -23,12 +23,13 @@ module _ {D : Type 0} (g : Ghosts D) where
 
   -- no read changes nothing
   pub read_none : (p : Paged D) → IsReadOf g p p
-  read_none p = record { device = no_reads p.dev; spots = refl; rest = refl }
+  read_none p = record { device = no_reads p.dev; lent = λ so. so; spots = refl; rest = refl }
 
   -- nor do two
   pub read_both : (a b c : Paged D) → IsReadOf g a b → IsReadOf g b c → IsReadOf g a c
   read_both a b c p q = record {
     device = reads_then p.device q.device;
+    lent = λ so. q.lent (p.lent so);
     spots = q.spots ∙ p.spots;
     rest = q.rest ∙ ap (λ (x : Paged D). let r : Paged D = record x { dev = c.dev; spots = c.spots; visits = c.visits; cache = c.cache; is_lent = c.is_lent } in r) p.rest;
   }
@@ -49,6 +50,7 @@ module _ {D : Type 0} (g : Ghosts D) where
   pub read_keeps : (a b : Paged D) → IsReadOf g a b → KeepsSaved g a b
   read_keeps a b r = record {
     device = r.device;
+    lent = r.lent;
     saved = ap (λ (x : Paged D). x.saved) r.rest;
     at = ap (λ (x : Paged D). x.at) r.rest;
     spare = ap (λ (x : Paged D). x.spare) r.rest;
@@ -61,6 +63,7 @@ module _ {D : Type 0} (g : Ghosts D) where
   pub keeps_both : (a b c : Paged D) → KeepsSaved g a b → KeepsSaved g b c → KeepsSaved g a c
   keeps_both a b c p q = record {
     device = reads_then p.device q.device;
+    lent = λ so. q.lent (p.lent so);
     saved = q.saved ∙ p.saved;
     at = q.at ∙ p.at;
     spare = q.spare ∙ p.spare;

@@ -1,14 +1,15 @@
 -- What calls of a pager leave of its last checkpoint.
-use Rattle.std.specs.Prelude.{◌≡◌, ◌<◌, ◌≤◌, ℕ, IsTrue}
+use Rattle.std.specs.Prelude.{◌≡◌, ◌<◌, ◌≤◌, ℕ, false, IsTrue}
 use Rattle.bd_device.specs.Device.{OnlyReads}
 use Rattle.bd_device.specs.declared.device.Device.{Ghosts}
 use Rattle.bd_node.specs.Tables.{IsKept}
 use Rattle.bd_pager.specs.Pagers.{Paged, table_of}
 
--- nothing is written, and the checkpoint stays; what was touched stays so while it is kept, and an
+-- nothing is written, nor lent, and the checkpoint stays; what was touched stays so while it is kept, and an
 -- id that is gone never comes back
 pub record KeepsSaved {D : Type 0} (g : Ghosts D) (old new : Paged D) : Type 0 where
   pub device : OnlyReads g old.dev new.dev
+  pub lent : old.is_lent ≡ false → new.is_lent ≡ false
   pub saved : new.saved ≡ old.saved
   pub at : new.at ≡ old.at
   pub spare : new.spare ≡ old.spare

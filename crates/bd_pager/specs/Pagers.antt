@@ -200,6 +200,7 @@ seen reader saved at spare root size next visits written = record {
 -- only the device was read, and what is counted and kept of reads has changed
 pub record IsReadOf {D : Type 0} (g : Ghosts D) (old new : Paged D) : Type 0 where
   pub device : OnlyReads g old.dev new.dev
+  pub lent : old.is_lent ≡ false → new.is_lent ≡ false
   pub spots : spots_of new ≡ spots_of old
   pub rest : new ≡ record old {
     dev = new.dev;

@@ -313,6 +313,21 @@ impl<D: Device> Pager<D> {
         self.reader.dev.faults()
     }
 
+    /// How often a write or a barrier of the device has failed. It never falls, and stays at a u64's
+    /// last value.
+    pub fn write_faults(&self) -> u64
+        ensures { result ≡ D.write_fault_count self.now.dev }
+    {
+        self.reader.dev.write_faults()
+    }
+
+    /// How many calls of the device there were, also those that failed.
+    pub fn calls(&self) -> u64
+        ensures { result ≡ D.call_count self.now.dev }
+    {
+        self.reader.dev.calls()
+    }
+
     /// How many nodes were made or changed since the last checkpoint.
     pub fn changed(&self) -> u64
         ensures { result ≡ changed_of self.now }
@@ -398,6 +413,14 @@ impl<D: Device> Pager<D> {
         let Pager { reader, .. } = self;
         let NodeReader { dev, .. } = reader;
         dev
+    }
+
+    /// Ends a lending of the device that wasn't taken back: what was read before it is given up.
+    pub fn end_lending(&mut self)
+        ensures rest { self.new ≡ record self.old { cache = self.new.cache; is_lent = false } }
+        ensures kept { self.old.is_lent ≡ false → self.new ≡ self.old }
+    {
+        self.reader.trust();
     }
 
     /// Tells it that the slots have what was read of them, since what was done with the device has

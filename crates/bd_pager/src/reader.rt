@@ -52,6 +52,7 @@ impl<D: Device> NodeReader<D> {
             (λ n. IfOk result (λ node. node.value ≡ n)) }
         ensures reading { IsReading (D.contents self.new.dev) self.new }
         ensures spots { self.new.spots ≡ self.old.spots }
+        ensures lent { self.old.is_lent ≡ false → self.new.is_lent ≡ false }
         ensures reads { OnlyReads D.Device self.old.dev self.new.dev }
         ensures cause { HasMapCause (D.fault_count self.old.dev) (D.fault_count self.new.dev)
             (IsBadSpot (D.contents self.old.dev) (spots_in self.old.spots id)) NeverWorn result }
@@ -87,6 +88,7 @@ impl<D: Device> NodeReader<D> {
         ensures node { IfOk result (λ node. IsOfLevel level node.value) }
         ensures reading { IsReading (D.contents self.new.dev) self.new }
         ensures spots { self.new.spots ≡ self.old.spots }
+        ensures lent { self.old.is_lent ≡ false → self.new.is_lent ≡ false }
         ensures reads { OnlyReads D.Device self.old.dev self.new.dev }
         ensures cause { HasMapCause (D.fault_count self.old.dev) (D.fault_count self.new.dev)
             (IsBadSlot (D.contents self.old.dev) slot level) NeverWorn result }
@@ -107,6 +109,7 @@ impl<D: Device> NodeReader<D> {
         ensures node { IfOk result (λ node. IsOfLevel level node.value) }
         ensures reading { IsReading (D.contents self.new.dev) self.new }
         ensures spots { self.new.spots ≡ self.old.spots }
+        ensures lent { self.old.is_lent ≡ false → self.new.is_lent ≡ false }
         ensures reads { OnlyReads D.Device self.old.dev self.new.dev }
         ensures cause { HasMapCause (D.fault_count self.old.dev) (D.fault_count self.new.dev)
             (IsBadSlot (D.contents self.old.dev) slot level) NeverWorn result }
@@ -123,8 +126,8 @@ impl<D: Device> NodeReader<D> {
         Ok(node)
     }
 
-    // Gives up what was read before the device was lent.
-    fn trust(&mut self)
+    /// Gives up what was read before the device was lent.
+    pub fn trust(&mut self)
         requires { IsReading (D.contents self.old.dev) self.old }
         ensures reading { IsReading (D.contents self.new.dev) self.new }
         ensures trusted { self.new.is_lent ≡ false }

@@ -1,15 +1,11 @@
 -- Calls that leave the view.
-use Rattle.std.proofs.Common.{◌≡◌, ℕ, length, ap, ◌∙◌}
+use Rattle.std.proofs.Common.{◌≡◌, ℕ, length, ap}
 use Rattle.bd_device.specs.declared.device.Device.{Ghosts}
 use Rattle.bd_graft.specs.declared.grafting.Walk.{Walk}
-use Rattle.bd_node.specs.Meaning.{Nodes}
-use Rattle.bd_node.specs.Tables.{Table}
-use Rattle.bd_table.specs.declared.table.Table.{Table as Checkpoint}
 use Rattle.bd_pager.specs.Calling.{read_table}
 use Rattle.bd_pager.specs.Moving.{Spills}
 use Rattle.bd_pager.specs.Places.{nodes_at}
-use Rattle.bd_pager.specs.Pagers.{Paged, table_of, nodes_of, is_known, IsReadOf}
-use Rattle.bd_view.specs.Views.{View}
+use Rattle.bd_pager.specs.Pagers.{Paged, table_of, nodes_of, IsReadOf}
 use Rattle.bd_shown.specs.Shown.{ids_of, shown}
 
 module _ {D : Type 0} (g : Ghosts D) (old new : Paged D) (walk : Walk) (epoch place waiting : ℕ) where

@@ -20,7 +20,7 @@ use Rattle.bd_pager.specs.declared.place.Place.TheVariants.{Memory, Slot}
 use Rattle.bd_pager.specs.declared.place.Spot.{Spot}
 use Rattle.bd_pager.specs.Keeping.{KeepsSaved}
 use Rattle.bd_pager.specs.Places.{refs_in, node_at, node_of, told}
-use Rattle.bd_pager.specs.Pagers.{Paged, spots_of, table_of, nodes_of, is_saved, is_changed, is_changed_place, touched_at, is_known, IsKnownOver, IsRightPlace, IsPlaceIn, IsStoredAs, IsPaged}
+use Rattle.bd_pager.specs.Pagers.{Paged, spots_of, table_of, nodes_of, is_saved, is_changed, is_changed_place, is_known, IsRightPlace, IsPlaceIn, IsStoredAs, IsPaged}
 use Rattle.bd_pager.specs.Slots.{slot_bytes}
 use Rattle.bd_pager.proofs.AskedLemmas.{unchanged_held}
 use Rattle.bd_view.specs.Moves.{OnlyNodes}

@@ -1,6 +1,6 @@
 -- What was written as the last checkpoint.
-use Rattle.std.proofs.Common.{◌≡◌, ℕ, ◌+◌, ◌<◌, ◌≤◌, Bool, true, false, ◌&&◌, List, ◌++◌, length, map, get_or, nat_eq, Option, None, Some, refl, sym, ap, subst, ◌∙◌, arith}
-use Rattle.std.specs.Prelude.{◌==◌, All, AllPairs, Any, Contains, IfSome, IsTrue}
+use Rattle.std.proofs.Common.{◌≡◌, ℕ, ◌+◌, ◌<◌, ◌≤◌, true, false, List, ◌++◌, length, get_or, nat_eq, Option, None, Some, refl, sym, ap, subst, ◌∙◌, arith}
+use Rattle.std.specs.Prelude.{◌==◌, All, AllPairs, Contains, IfSome, IsTrue}
 use Rattle.std.specs.List.{list_any}
 use Rattle.std.proofs.lemmas.Bool.{and_right, eq-eqb}
 use Rattle.std.proofs.lemmas.List.{get_or-map, length-map}
@@ -9,14 +9,13 @@ use Rattle.std.proofs.lemmas.List.Folds.{list_any-from_Any}
 use Rattle.bd_device.specs.Blocks.{Image}
 use Rattle.bd_device.specs.declared.device.Device.{Ghosts}
 use Rattle.bd_graft.specs.declared.grafting.Walk.{Walk}
-use Rattle.bd_slots.specs.Slots.{IsHeld}
 use Rattle.bd_node.specs.Tables.{Table, IsKept}
 use Rattle.bd_table.specs.Tables.{slots_of}
 use Rattle.bd_table.specs.declared.table.TableEntry.{TableEntry}
 use Rattle.bd_pager.specs.declared.place.Spot.{Spot}
 use Rattle.bd_pager.specs.declared.written.Written.{Written}
-use Rattle.bd_pager.specs.Places.{Spots, refs_in}
-use Rattle.bd_pager.specs.Pagers.{Paged, spots_of, table_of, nodes_of, table_at, is_saved, is_changed, touched_at, saved_as, IsEntryOf, IsInSlot, IsReady, IsPaged}
+use Rattle.bd_pager.specs.Places.{refs_in}
+use Rattle.bd_pager.specs.Pagers.{Paged, spots_of, table_of, nodes_of, table_at, is_saved, is_changed, touched_at, saved_as, IsEntryOf, IsReady, IsPaged}
 use Rattle.bd_pager.proofs.CountingLemmas.{held_unchanged}
 use Rattle.bd_pager.proofs.FlagLemmas.{taken_held, entry_slot}
 use Rattle.bd_view.specs.Views.{kept_ids, free_slots, save_slots}

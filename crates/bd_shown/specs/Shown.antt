@@ -1,5 +1,5 @@
 -- The view of a volume whose nodes a pager has.
-use Rattle.std.specs.Prelude.{◌≡◌, ℕ, List, length, map}
+use Rattle.std.specs.Prelude.{ℕ, List, length, map}
 use Rattle.bd_device.specs.declared.device.Device.{Ghosts}
 use Rattle.bd_graft.specs.declared.grafting.Walk.{Walk}
 use Rattle.bd_table.specs.declared.table.TableEntry.{TableEntry}

@@ -18,8 +18,8 @@ use bd_device::Device;
 use bd_pager::laws::spills_change_nothing;
 use bd_view::laws::kept_nodes_are_listed;
 
-/// The numbers of a pager are those of its view, where the last checkpoint's table has as many slots
-/// as it takes.
+/// The numbers of a pager are those of its view, where the last checkpoint's table has as many
+/// slots as it takes.
 pub fn numbers_are_shown<D: Device>()
     ensures changed { (contents : Option Image) (p : Paged D) (walk : Walk)
         (epoch place waiting : ℕ) → IsPaged contents p

@@ -23,6 +23,7 @@ pub fn slot_block(slot: u32) -> u64
 
 // As many entries as fill three slots, with nothing left over.
 const FULL_ENTRIES: usize = 8_192;
+
 const FULL_SLOTS: usize = 3;
 
 /// The slots that a table of this many entries takes.

@@ -1,5 +1,6 @@
 pub mod Fresh
 pub mod Listed
+pub mod Logs
 pub mod Reclaimed
 pub mod Saved
 pub mod Standing

@@ -62,12 +62,6 @@ pub record FlushesIn (c : Command) (old new : View) : Type 0 where
 abbrev pub CallsForSave : Command → View → Type 0
 CallsForSave c v = (free_slots v < need_slots c v) ⊎ (log_room v < log_size c)
 
--- little waits in the root, and there is room in slots and in the log
-pub record IsQuietFor (c : Command) (v : View) : Type 0 where
-  pub enough : v.tree.table.size ≤ waiting_limit c
-  pub room : need_slots c v ≤ free_slots v
-  pub log : log_size c ≤ log_room v
-
 -- a writing command made a checkpoint that it needed
 pub record SavesIn (c : Command) (old new : View) : Type 0 where
   pub writing : IsTrue (writes c)
@@ -95,6 +89,12 @@ pub record IsCommandFull (c : Command) (old new : View) (free need : ℕ) : Type
   pub need_is : need ≡ need_slots c new
   pub short : free < need
   pub unsaved : CannotSave new
+
+-- neither is needed: little waits in the root, and there is room in slots and in the log
+pub record IsQuietFor (c : Command) (v : View) : Type 0 where
+  pub enough : v.tree.table.size ≤ waiting_limit c
+  pub room : need_slots c v ≤ free_slots v
+  pub log : log_size c ≤ log_room v
 
 -- ---- an accepted command
 

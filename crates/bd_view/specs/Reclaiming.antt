@@ -57,7 +57,7 @@ pub record Reclaims (pushes : ℕ) (change : Reclaim) (old new : View) : Type 0 
   pub rest : OnlyNodes old new
 
 -- a checkpoint was made, since too few slots were free for the change
-pub record SavesFor (pushes : ℕ) (change : Reclaim) (old new : View) : Type 0 where
+pub record SavesBetween (pushes : ℕ) (change : Reclaim) (old new : View) : Type 0 where
   pub next : IsNextChange pushes change old
   pub short : ¬ HasRoomFor change old
   pub saves : Saves old new
@@ -67,11 +67,11 @@ pub data AreReclaims : ℕ → View → View → Type 0 where
   none : (v : View) → AreReclaims 0 v v
   change : (n : ℕ) (step : Reclaim) (v w x : View) → AreReclaims n v w → Reclaims n step w x
       → AreReclaims (n + pushes_in step) v x
-  save : (n : ℕ) (step : Reclaim) (v w x : View) → AreReclaims n v w → SavesFor n step w x
+  save : (n : ℕ) (step : Reclaim) (v w x : View) → AreReclaims n v w → SavesBetween n step w x
       → AreReclaims n v x
 
--- a first checkpoint was made, and then changes, so many of them pushes; a fault leaves this, or all
--- as it was
+-- a first checkpoint was made, and then changes, so many of them pushes; a fault leaves this, or
+-- all as it was
 pub record HasReclaimed (pushes : ℕ) (old new : View) : Type 0 where
   pub first : View
   pub begins : Saves old first
@@ -85,8 +85,8 @@ pub record IsReclaim (old new : View) : Type 0 where
   pub whole : HasNoChange pushes last
   pub ends : Saves last new
 
--- so many slots are free, and reclaiming needs more, so many: for its first checkpoint, for a change
--- of an edge, where no checkpoint helps, or for its last checkpoint
+-- so many slots are free, and reclaiming needs more, so many: for its first checkpoint, for a
+-- change of an edge, where no checkpoint helps, or for its last checkpoint
 pub data IsReclaimFull (old : View) (free need : ℕ) : View → Type 0 where
   first : IsCheckpointFull old free need → IsReclaimFull old free need old
   edge : (pushes : ℕ) (step : Reclaim) (new : View) → HasReclaimed pushes old new

@@ -2,7 +2,7 @@
 //! nothing.
 
 ghost use Rattle.std.specs.Prelude.{◌≡◌, ℕ, ◌-◌, ◌<◌, ◌≤◌, ◌⊎◌, ◌==◌, List, length, Some, All, AllPairs, IsTrue};
-ghost use Rattle.std.specs.List.{list_any};
+ghost use Rattle.std.specs.List.{list_any, concat, AllByRecursion};
 ghost use Rattle.bd_limits.specs.Limits.{slot_minimum};
 ghost use Rattle.bd_command.specs.Command.{writes};
 ghost use Rattle.bd_command.specs.Log.{IsLogged};
@@ -13,8 +13,10 @@ ghost use Rattle.bd_node.specs.Tables.{Table, IsKept, kept_count};
 ghost use Rattle.bd_node.specs.declared.node.Node.{Node};
 ghost use Rattle.bd_reclaim.specs.declared.covering.Cover.TheVariants.{Gone};
 ghost use Rattle.bd_reclaim.specs.Covering.{HasNoCovered};
+ghost use Rattle.bd_log.specs.Batches.{IsLogRecord};
+ghost use Rattle.bd_log.specs.Logs.{LogState, room_left, after_sync};
 ghost use Rattle.bd_view.specs.Views.{View, keys_of, fresh_view, changed_count, kept_ids, held_slots, free_slots, save_slots, need_slots, log_room};
-ghost use Rattle.bd_view.specs.Moves.{OnlyNodes, Saves, IsCheckpointFull, SavesIn, AreSteps, IsCommandFull, IsExecuted, IsQuietFor};
+ghost use Rattle.bd_view.specs.Moves.{OnlyNodes, Saves, IsCheckpointFull, SavesIn, AreSteps, IsCommandFull, IsQuietFor, IsExecuted, synced};
 ghost use Rattle.bd_view.specs.Reclaiming.{HasReclaimed, IsReclaim, IsReclaimFull};
 
 use bd_command::laws::log_records_fit;
@@ -86,6 +88,16 @@ pub fn full_views_stay()
     ensures full { (c : Command) (v new : View) (free need : ℕ) → free_slots v < save_slots v
         → IsCommandFull c v new free need
         → (new ≡ v) × (free ≡ free_slots v) × (need ≡ need_slots c v) }
+{}
+
+/// A view with the log's place and the bytes that wait there has the room that the log has, and
+/// after a sync its place.
+pub fn logs_have_the_same_numbers()
+    ensures room { (log : LogState) (v : View) → v.place ≡ log.place
+        → v.waiting ≡ length (concat log.waiting) → log_room v ≡ room_left log }
+    ensures place { (log : LogState) (v : View) → AllByRecursion IsLogRecord log.waiting
+        → v.place ≡ log.place → v.waiting ≡ length (concat log.waiting)
+        → (synced v).place ≡ (after_sync log).place }
 {}
 
 /// A new image of 24 slots or more has all but two of them free, and is quiet for each command, for

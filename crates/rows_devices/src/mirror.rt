@@ -1,5 +1,5 @@
 use crate::device::{NONE, read_byte, write_byte};
-use bd_device::{Attach, Device, FaultyDevice, FuseDevice, MemDevice};
+use bd_device::{Attach, Device, FaultyDevice, FuseDevice, MemDevice, Torn};
 use bd_io::Failed;
 use bd_mirror::Mirror;
 use std::alloc::{AllocError, Global};
@@ -186,6 +186,88 @@ fn with_both_failing_it_is_broken(rt: HostRuntime) -> Result<(), Fail> {
         assert_eq!(rt; seen.read, Err(Failed), "calls {first} and {second}");
         assert_eq!(rt; seen.settled, (false, BLOCKS), "calls {first} and {second}");
         assert_eq!(rt; seen.again, Ok(again), "calls {first} and {second}");
+    }
+    Ok(())
+}
+
+// Attaches both halves, writes two blocks, and waits for them where `settled` says so.
+fn written<A: Attach + Drop, B: Attach + Drop>(
+    first: A,
+    second: B,
+    settled: bool,
+) -> Result<(), Failed> {
+    let mut mirror = Mirror::new(first, second);
+    mirror.attach("x+y", None)?;
+    write_byte(&mut mirror, 0, 3)?;
+    write_byte(&mut mirror, 1, 4)?;
+    if settled {
+        mirror.barrier()?;
+    }
+    Ok(())
+}
+
+/// Two writes over blocks that a barrier followed, and then a loss of power.
+#[derive(Clone, Copy)]
+struct Loss {
+    /// After so many calls the first half fails.
+    calls: u64,
+    /// Whether a barrier comes after the writes.
+    settled: bool,
+    /// What the loss leaves of each half.
+    first: Torn,
+    second: Torn,
+}
+
+// What is found after it, with the halves named in their order or turned.
+fn found_after(
+    alloc: Global,
+    loss: Loss,
+    turned: bool,
+) -> Result<Result<[u8; 2], Failed>, AllocError> {
+    let mut first = half(alloc)?;
+    let mut second = half(alloc)?;
+    let _ = mirrored(&mut first, &mut second, Some(BLOCKS), [1, 2]);
+    let _ = written(
+        FuseDevice::new(&mut first, loss.calls),
+        &mut second,
+        loss.settled,
+    );
+    first.crash(loss.first);
+    second.crash(loss.second);
+    Ok(if turned {
+        joined(&mut second, &mut first)
+    } else {
+        joined(&mut first, &mut second)
+    })
+}
+
+#[test]
+fn a_loss_of_power_leaves_what_one_half_had(rt: HostRuntime) -> Result<(), Fail> {
+    let torn = Torn::Fill(9);
+    let (all, one) = (99, FIRST_CALLS);
+    for (row, calls, settled, first, second, named, turned) in [
+        ("both old", all, false, Torn::Old, Torn::Old, [1, 2], [1, 2]),
+        ("old, new", all, false, Torn::Old, Torn::New, [1, 2], [3, 4]),
+        ("new, old", all, false, Torn::New, Torn::Old, [3, 4], [1, 2]),
+        ("torn, new", all, false, torn, Torn::New, [9, 9], [3, 4]),
+        ("new, torn", all, false, Torn::New, torn, [3, 4], [9, 9]),
+        ("settled", all, true, Torn::Old, torn, [3, 4], [3, 4]),
+        ("alone, old", one, false, torn, Torn::Old, [3, 2], [3, 2]),
+        ("alone, torn", one, false, Torn::Old, torn, [3, 9], [3, 9]),
+        ("alone last", one + 1, false, torn, torn, [3, 4], [3, 4]),
+    ] {
+        let loss = Loss {
+            calls,
+            settled,
+            first,
+            second,
+        };
+        assert_eq!(rt; found_after(rt.alloc(), loss, false)?, Ok(named), "{row}");
+        assert_eq!(rt;
+            found_after(rt.alloc(), loss, true)?,
+            Ok(turned),
+            "{row}, turned"
+        );
     }
     Ok(())
 }

@@ -2,7 +2,9 @@ use Rattle.std.proofs.Common.{◌≡◌, ℕ, Option, Err, sym, ap, subst, ◌�
 use Rattle.std.specs.Prelude.{IsSome}
 use Rattle.bd_slots.specs.Layout.{image_blocks}
 use Rattle.bd_device.specs.Device.{left_now, Goes, Stays}
+use Rattle.bd_device.specs.Moments.{IsOnly}
 use Rattle.bd_device.proofs.Calls.{stays_then}
+use Rattle.bd_message.specs.declared.fault.MapFault.{MapFault}
 use Rattle.bd_super.specs.Superblocks.{log_block}
 use Rattle.bd_super.specs.declared.superblock.Super.{Super}
 use Rattle.bd_log.specs.Logs.{LogState, fresh_log}
@@ -12,6 +14,7 @@ use Rattle.bd_image.specs.Standing.{IsOldOrNew}
 use Rattle.bd_checkpoint.specs.Following.{super_after}
 use Rattle.bd_checkpoint.specs.Kept.{IsOpenOn, AllStandFor}
 use Rattle.bd_checkpoint.specs.Recovering.{saved_of}
+use Rattle.bd_checkpoint.specs.Saving.{IsCheckpointCause}
 use Rattle.bd_checkpoint.proofs.Checkpointed.{written_cause, failed_after, open_mid, time_mid, stopped_mid, time_last, stopped_last, place_mid, slots_mid, next_mid, follows_mid, size_mid}
 use Rattle.bd_checkpoint.proofs.Published.{of_today}
 use Rattle.bd_checkpoint.proofs.Marked.{untouched, unsaved, written_for, at_new, device_new, saved_new, open_new}
@@ -46,8 +49,10 @@ returns-in-Err-clause-goes_on g c =
 
 pub returns-in-Err-clause-cause : goal.returns-in-Err-clause-cause
 returns-in-Err-clause-cause g c =
-    written_cause g.D.Device c.args.pager.now.dev c.write_out.new.self.dev c.args.live.now c.in-Err.fault c.in-Err.ensures.cause.failed
-    (λ e. ap (λ (p : Paged g.row.D.Denot). p.dev) (c.in-Err.ensures.no_memory (ap Err e)))
+    let old = c.args.pager.now.dev in
+    let mid = c.write_out.new.self.dev in
+    subst (λ (f : MapFault). IsCheckpointCause g.D.Device old mid c.args.live.now f) (sym c.map_fault.ensures)
+    (written_cause g.D.Device old mid c.args.live.now c.in-Err.fault c.in-Err.ensures.cause.failed (λ e. ap (λ (p : Paged g.row.D.Denot). p.dev) (c.in-Err.ensures.no_memory (ap Err e))))
 
 -- ---- the superblock is published
 
@@ -157,6 +162,14 @@ returns-clause-live g c =
     let last = c.publish_by.new.pager in
     let new = c.mark_saved.new.self in
     c.next_super-next.ensures.next ∙ ap (super_after c.args.live.now c.args.count) (sym (at_new g.D.Device c.args.pager.now mid c.in-Ok.ensures.spills c.in-Ok.table c.in-Ok.ensures.written c.next_super-next.result (slots_mid g.D.Device one c.args.pager.now mid (g.met.D.Device.since_earlier mid.dev) c.args.live.now c.args.log.now c.requires.open c.requires.spare c.in-Ok.ensures.spills c.in-Ok.table c.in-Ok.ensures.written c.next_super-next.result c.args.count c.next_super-next.ensures.next) (ap (λ (s : Super). s.table) c.next_super-next.ensures.next) last new c.in-Ok-publish_by.ensures.pager c.mark_saved.ensures))
+
+pub returns-clause-only : goal.returns-clause-only
+returns-clause-only g c =
+    let mid = c.write_out.new.self in
+    let one : PartsAreOne = record { tables = c.tables_are_read_again.ensures; batches = c.batches_are_one.ensures } in
+    let last = c.publish_by.new.pager in
+    let new = c.mark_saved.new.self in
+    subst (λ (d : g.row.D.Denot). IsOnly (g.D.Device.contents d) (left_now g.D.Device d)) (sym (device_new g.D.Device c.args.pager.now mid c.in-Ok.ensures.spills c.in-Ok.table c.in-Ok.ensures.written c.next_super-next.result (slots_mid g.D.Device one c.args.pager.now mid (g.met.D.Device.since_earlier mid.dev) c.args.live.now c.args.log.now c.requires.open c.requires.spare c.in-Ok.ensures.spills c.in-Ok.table c.in-Ok.ensures.written c.next_super-next.result c.args.count c.next_super-next.ensures.next) (ap (λ (s : Super). s.table) c.next_super-next.ensures.next) last new c.in-Ok-publish_by.ensures.pager c.mark_saved.ensures)) c.in-Ok-publish_by.ensures.only
 
 pub returns-clause-saved : goal.returns-clause-saved
 returns-clause-saved g c =

@@ -11,7 +11,7 @@ use Rattle.bd_pager.specs.Pagers.{Paged, nodes_of}
 use Rattle.bd_image.specs.Fresh.{first_super}
 use Rattle.bd_checkpoint.specs.Kept.{IsOpenOn, AllStandFor}
 use Rattle.bd_checkpoint.specs.Recovering.{saved_of}
-use Rattle.bd_checkpoint.proofs.Firsts.{settled_first, follows_first, place_first, slots_first, today_first, size_first}
+use Rattle.bd_checkpoint.proofs.Beginning.{settled_first, follows_first, place_first, slots_first, today_first, size_first}
 use Rattle.bd_checkpoint.proofs.Marked.{written_for, at_new, device_new, saved_new, open_new}
 use Rattle.bd_checkpoint.proofs.formatting.first_checkpoint.Goals as goal
 
@@ -23,27 +23,27 @@ write_out-requires-clause-slots g c = omega (arith, c.requires.spare, c.requires
 
 pub publish_by-requires-clause-fits : goal.publish_by-requires-clause-fits
 publish_by-requires-clause-fits g c =
-    let mid = c.write_out-table.new.self in
+    let mid = c.write_out.new.self in
     c.first_super-first.ensures.fits c.requires.slots (place_first g.D.Device c.args.pager.now mid c.in_ok-table.ensures.spills c.args.slots c.requires.spare c.in_ok-table.table c.in_ok-table.ensures.written)
 
 pub publish_by-requires-clause-version : goal.publish_by-requires-clause-version
 publish_by-requires-clause-version g c =
-    let mid = c.write_out-table.new.self in
+    let mid = c.write_out.new.self in
     today_first g.D.Device c.args.pager.now mid c.in_ok-table.ensures.spills c.args.slots c.requires.spare c.in_ok-table.table c.first_super-first.result c.first_super-first.ensures.first
 
 pub publish_by-requires-clause-size : goal.publish_by-requires-clause-size
 publish_by-requires-clause-size g c =
-    let mid = c.write_out-table.new.self in
+    let mid = c.write_out.new.self in
     size_first g.D.Device c.args.pager.now mid c.in_ok-table.ensures.spills c.args.slots c.requires.spare c.in_ok-table.table c.first_super-first.result c.first_super-first.ensures.first c.requires.size
 
 pub publish_by-requires-clause-follows : goal.publish_by-requires-clause-follows
 publish_by-requires-clause-follows g c =
-    let mid = c.write_out-table.new.self in
+    let mid = c.write_out.new.self in
     follows_first g.D.Device c.args.pager.now mid c.in_ok-table.ensures.spills c.args.slots c.requires.spare c.first_super-first.result c.requires.none
 
 pub publish_by-requires-clause-settled : goal.publish_by-requires-clause-settled
 publish_by-requires-clause-settled g c =
-    let mid = c.write_out-table.new.self in
+    let mid = c.write_out.new.self in
     settled_first g.D.Device c.args.pager.now mid c.in_ok-table.ensures.spills c.args.slots c.requires.spare (g.met.D.Device.since_earlier mid.dev) c.requires.settled
 
 pub publish_by-requires-clause-unlent : goal.publish_by-requires-clause-unlent
@@ -55,7 +55,7 @@ mark_saved-requires g c =
 
 pub returns-clause-stands : goal.returns-clause-stands
 returns-clause-stands g c = λ tree known of.
-    let mid = c.write_out-table.new.self in
+    let mid = c.write_out.new.self in
     let last = c.publish_by.new.pager in
     let new = c.mark_saved.new.self in
     subst (λ (n : ℕ). AllStandFor tree n (left_now g.D.Device new.dev)) (ap (λ (s : Super). s.count) c.first_super-first.ensures.first)
@@ -64,14 +64,14 @@ returns-clause-stands g c = λ tree known of.
 
 pub returns-clause-only : goal.returns-clause-only
 returns-clause-only g c =
-    let mid = c.write_out-table.new.self in
+    let mid = c.write_out.new.self in
     let last = c.publish_by.new.pager in
     let new = c.mark_saved.new.self in
     subst (λ (d : g.row.D.Denot). IsOnly (g.D.Device.contents d) (left_now g.D.Device d)) (sym (device_new g.D.Device c.args.pager.now mid c.in_ok-table.ensures.spills c.in_ok-table.table c.in_ok-table.ensures.written c.first_super-first.result (slots_first g.D.Device c.args.pager.now mid c.in_ok-table.ensures.spills c.args.slots c.requires.spare c.in_ok-table.table c.first_super-first.result c.first_super-first.ensures.first) (ap (λ (s : Super). s.table) c.first_super-first.ensures.first) last new c.in_ok-publish_by.ensures.pager c.mark_saved.ensures)) c.in_ok-publish_by.ensures.only
 
 pub returns-clause-open : goal.returns-clause-open
 returns-clause-open g c =
-    let mid = c.write_out-table.new.self in
+    let mid = c.write_out.new.self in
     let last = c.publish_by.new.pager in
     let new = c.mark_saved.new.self in
     let first = c.first_super-first.result in
@@ -81,7 +81,7 @@ returns-clause-open g c =
 
 pub returns-clause-live : goal.returns-clause-live
 returns-clause-live g c =
-    let mid = c.write_out-table.new.self in
+    let mid = c.write_out.new.self in
     let last = c.publish_by.new.pager in
     let new = c.mark_saved.new.self in
     c.first_super-first.ensures.first ∙ ap (first_super c.args.slots) (sym (at_new g.D.Device c.args.pager.now mid c.in_ok-table.ensures.spills c.in_ok-table.table c.in_ok-table.ensures.written c.first_super-first.result (slots_first g.D.Device c.args.pager.now mid c.in_ok-table.ensures.spills c.args.slots c.requires.spare c.in_ok-table.table c.first_super-first.result c.first_super-first.ensures.first) (ap (λ (s : Super). s.table) c.first_super-first.ensures.first) last new c.in_ok-publish_by.ensures.pager c.mark_saved.ensures))
@@ -93,7 +93,7 @@ returns-clause-log g c =
 
 pub returns-clause-saved : goal.returns-clause-saved
 returns-clause-saved g c =
-    let mid = c.write_out-table.new.self in
+    let mid = c.write_out.new.self in
     let last = c.publish_by.new.pager in
     let new = c.mark_saved.new.self in
     saved_new g.D.Device c.args.pager.now mid c.in_ok-table.ensures.spills c.in_ok-table.table c.in_ok-table.ensures.written c.first_super-first.result (slots_first g.D.Device c.args.pager.now mid c.in_ok-table.ensures.spills c.args.slots c.requires.spare c.in_ok-table.table c.first_super-first.result c.first_super-first.ensures.first) (ap (λ (s : Super). s.table) c.first_super-first.ensures.first) last new c.in_ok-publish_by.ensures.pager c.mark_saved.ensures

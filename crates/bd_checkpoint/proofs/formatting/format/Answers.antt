@@ -1,7 +1,5 @@
-use Rattle.std.proofs.Common.{◌≡◌, ℕ, true, false, length, Option, IfSome, sym, ap, subst, ◌∙◌}
+use Rattle.std.proofs.Common.{ℕ, true, false, length, IfSome, sym, ap, subst, ◌∙◌}
 use Rattle.std.proofs.lemmas.List.{length-replicate}
-use Rattle.bd_slots.specs.Layout.{image_blocks}
-use Rattle.bd_device.specs.Blocks.{Image}
 use Rattle.bd_device.specs.Device.{left_now, Stays}
 use Rattle.bd_device.proofs.Calls.{stays_then}
 use Rattle.bd_node.specs.Steps.{with_touched}

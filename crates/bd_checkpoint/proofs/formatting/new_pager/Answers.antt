@@ -1,5 +1,4 @@
-use Rattle.std.proofs.Common.{◌≡◌, List, refl, ap, subst, ◌∙◌}
-use Rattle.bd_files.specs.Roots.{root_messages}
+use Rattle.std.proofs.Common.{List, ap, subst, ◌∙◌}
 use Rattle.bd_message.specs.declared.message.Message.{Message}
 use Rattle.bd_node.specs.New.{new_table}
 use Rattle.bd_node.specs.Steps.{HasGrown}

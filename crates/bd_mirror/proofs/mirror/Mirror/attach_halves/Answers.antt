@@ -1,4 +1,4 @@
-use Rattle.std.proofs.Common.{arith, ◌+◌, ◌∙◌, sym, subst}
+use Rattle.std.proofs.Common.{ℕ, List, arith, ◌+◌, ◌∙◌, sym, subst}
 use Rattle.bd_mirror.specs.Calls.{shown_now, attached_as}
 use Rattle.bd_device.proofs.Refusals.{IfNone-always}
 use Rattle.bd_mirror.specs.Crashes.{LosesNothing}
@@ -6,6 +6,7 @@ use Rattle.bd_mirror.specs.Names.{first_name, second_name}
 use Rattle.bd_mirror.proofs.Attaching.{split_none, split_some, named_alone, named_member, named_two, first_alone, alone_names, member_names, pair_names, empty_is, some_is, two_no_member, alone_no_member, none_of, not_too_many}
 use Rattle.bd_mirror.proofs.Behind.{alone_behind, named_member_behind, named_pair_behind}
 use Rattle.bd_mirror.proofs.Crashes.{none_then}
+use Rattle.bd_mirror.proofs.Since.{both_ok}
 use Rattle.bd_mirror.proofs.mirror.Mirror.attach_halves.Goals as goal
 
 pub returns-in_ok-attach-in-None-clause-named : goal.returns-in_ok-attach-in-None-clause-named
@@ -130,3 +131,30 @@ returns-else-is_empty-clause-behind g c =
     named_pair_behind c.args.name.now c.in-Some.first.now c.in-Some.second.now (g.A.Attach.shows new.first) (g.A.Attach.shows c.args.self.now.first)
     (g.B.Attach.shows new.second) (g.B.Attach.shows c.args.self.now.second) cut.2
     (λ e. some_is c.is_empty.result c.in-Some.second.now c.is_empty.ensures c.if-is_empty.false (cut.1 ∙ e)) cut.0 cut.1 same)
+
+-- ---- the names of the halves
+
+pub returns-in_ok-attach-in-None-clause-halves : goal.returns-in_ok-attach-in-None-clause-halves
+returns-in_ok-attach-in-None-clause-halves g c =
+    let none = split_none _ c.args.name.now c.split_once.result c.split_once.ensures.byte (λ w o h. h) c.in-None.is in
+    record {
+      first = subst (λ (name : List ℕ). g.A.Device.is_named c.attach.new.self name) (sym (first_alone c.args.name.now none)) c.in_ok-attach-in-None.ensures.named;
+      second = λ plus _. absurd (omega (arith, plus, none));
+    }
+
+pub returns-in_ok-attach_member-in-Some-clause-halves : goal.returns-in_ok-attach_member-in-Some-clause-halves
+returns-in_ok-attach_member-in-Some-clause-halves g c =
+    let cut = split_some _ c.args.name.now c.split_once.result _ c.split_once.ensures.byte (λ w o h. h) c.in-Some.is in
+    record {
+      first = subst (λ (name : List ℕ). g.A.Device.is_named c.attach_member.new.self.first name) cut.0 c.in_ok-attach_member-in-Some.ensures.named;
+      second = λ _ more. absurd (more (sym cut.1 ∙ empty_is c.is_empty.result c.in-Some.second.now c.is_empty.ensures c.if-is_empty.true));
+    }
+
+pub returns-else-is_empty-clause-halves : goal.returns-else-is_empty-clause-halves
+returns-else-is_empty-clause-halves g c =
+    let cut = split_some _ c.args.name.now c.split_once.result _ c.split_once.ensures.byte (λ w o h. h) c.in-Some.is in
+    let new = c.attach_pair.new.self in
+    both_ok c.attach_pair.result c.attach_pair.ensures.first_named c.attach_pair.ensures.second_named (λ first second. record {
+      first = subst (λ (name : List ℕ). g.A.Device.is_named new.first name) cut.0 first;
+      second = λ _ _. subst (λ (name : List ℕ). g.B.Device.is_named new.second name) cut.1 second;
+    })

@@ -40,3 +40,7 @@ returns-clause-behind g c =
     ∙ member_behind (g.A.Device.block_count c.barrier.new.self) (g.A.Device.block_count c.attach.new.self) (g.A.Device.contents c.attach.new.self) (g.A.Device.contents c.barrier.new.self) (g.A.Device.contents new)
     c.barrier.ensures.count c.barrier.ensures.kept c.attach.ensures.shape c.open_member.ensures.others
     ∙ ap (option_map without_last) (c.barrier.ensures.kept ∙ e))
+
+pub returns-clause-named : goal.returns-clause-named
+returns-clause-named g c =
+    OnOk-always c.open_member.result (c.open_member.ensures.stays.same_name c.args.name.now (c.barrier.ensures.same_name c.args.name.now c.in_ok-attach.ensures.named))

@@ -7,6 +7,7 @@ use Rattle.bd_mirror.proofs.Attaching.{pair_shown, marks_now, equal_now}
 use Rattle.bd_mirror.proofs.Behind.{pair_behind, pair_joined}
 use Rattle.bd_mirror.proofs.Copies.{elapses_none}
 use Rattle.bd_mirror.proofs.Crashes.{none_then, loses_before, loses_joined}
+use Rattle.bd_mirror.proofs.Marks.{OnOk-always}
 use Rattle.bd_mirror.proofs.mirror.Mirror.attach_pair.Goals as goal
 
 pub join-requires-clause-first_settled : goal.join-requires-clause-first_settled
@@ -120,3 +121,13 @@ returns-clause-behind g c =
     let named_b = c.join.ensures.second_stays.same_name c.args.second.now (c.barrier-2.ensures.same_name c.args.second.now c.in_ok-attach-2.ensures.named) in
     pair_joined c.args.size _ _ _ _ _ _ _ _ (g.met.A.Attach.shows_named c.join.new.self.first c.args.first.now named_a) (g.met.B.Attach.shows_named c.join.new.self.second c.args.second.now named_b)
     c.join.ensures.behind (none_then c.args.size c.in_ok-attach.ensures.shown (λ e. c.barrier.ensures.kept ∙ e)) (none_then c.args.size c.in_ok-attach-2.ensures.shown (λ e. c.barrier-2.ensures.kept ∙ e))
+
+-- ---- names
+
+pub returns-clause-first_named : goal.returns-clause-first_named
+returns-clause-first_named g c =
+    OnOk-always c.join.result (c.join.ensures.first_stays.same_name c.args.first.now (c.barrier.ensures.same_name c.args.first.now c.in_ok-attach.ensures.named))
+
+pub returns-clause-second_named : goal.returns-clause-second_named
+returns-clause-second_named g c =
+    OnOk-always c.join.result (c.join.ensures.second_stays.same_name c.args.second.now (c.barrier-2.ensures.same_name c.args.second.now c.in_ok-attach-2.ensures.named))
