@@ -1,7 +1,6 @@
 -- The numbers of a view.
-use Rattle.std.proofs.Common.{◌≡◌, ℕ, ◌≤◌, Bool, true, false, cond, arith, inl, inr}
+use Rattle.std.proofs.Common.{◌≡◌, ℕ, ◌≤◌, Bool, true, false, cond, arith}
 use Rattle.std.specs.Prelude.{◌&&◌}
-use Rattle.std.proofs.lemmas.Bool.{cases_Bool}
 use Rattle.bd_node.specs.Tables.{kept_count}
 use Rattle.bd_pager.proofs.KeptLemmas.{sum_le}
 use Rattle.bd_view.specs.Views.{View, is_kept, is_changed, changed_count}
