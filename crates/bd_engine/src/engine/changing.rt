@@ -21,8 +21,8 @@ use super::Engine;
 use bd_command::{Command, Reply};
 use bd_device::Device;
 use bd_dirs::{Plan, plan_command};
-use bd_message::{MapFault, Message};
 use bd_effects::{answer, append, flush, graft};
+use bd_message::{MapFault, Message};
 
 impl<D: Device> Engine<D> {
     /// What a reading command is answered. Only the device is read, and the view stays.
