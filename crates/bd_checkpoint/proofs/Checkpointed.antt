@@ -1,9 +1,8 @@
 -- What is known inside a checkpoint and after it.
-use Rattle.std.proofs.Common.{◌≡◌, ℕ, ◌⊎◌, inl, inr, List, length, IfSome, Err, refl, sym, ap, subst, ◌∙◌, arith}
+use Rattle.std.proofs.Common.{◌≡◌, ℕ, ◌⊎◌, inl, inr, List, length, IfSome, Err, refl, sym, ap, subst, ◌∙◌}
 use Rattle.bd_io.specs.Cause.{next_count}
 use Rattle.bd_model.specs.Tree.{Tree}
 use Rattle.bd_slots.specs.Layout.{IsTablePlace, image_blocks}
-use Rattle.bd_device.specs.Blocks.{Image}
 use Rattle.bd_device.specs.Device.{left_now, Goes, OnlyReads, LastFailed, IsImageCause}
 use Rattle.bd_device.specs.declared.device.Device.{Ghosts}
 use Rattle.bd_device.specs.declared.fault.ImageFault.{ImageFault}
@@ -19,22 +18,14 @@ use Rattle.bd_pager.specs.WritingOut.{write_faults_after, IsWrittenOut}
 use Rattle.bd_pager.specs.Pagers.{Paged}
 use Rattle.bd_image.specs.Standing.{IsAsBefore, IsOldOrNew}
 use Rattle.bd_checkpoint.specs.Following.{super_after, IsNext}
-use Rattle.bd_checkpoint.specs.Kept.{Saved, slots_held, IsOpenOn, AllAsBefore}
+use Rattle.bd_checkpoint.specs.Kept.{slots_held, IsOpenOn, AllAsBefore}
 use Rattle.bd_checkpoint.specs.Recovering.{saved_of}
-use Rattle.bd_checkpoint.specs.Saving.{GoesOn, IsStoppedOrGoesOn, IsCheckpointCause}
+use Rattle.bd_checkpoint.specs.Saving.{IsStoppedOrGoesOn, IsCheckpointCause}
 use Rattle.bd_checkpoint.specs.Spare.{WritesSpare}
 use Rattle.bd_checkpoint.proofs.Handed.{IsSince, open_after, all_after, before_twice, from_before}
 use Rattle.bd_checkpoint.proofs.Published.{same_slots, can_follow, is_next}
 use Rattle.bd_checkpoint.proofs.Spare.{open_on, time_on, kept_on}
 use Rattle.bd_checkpoint.proofs.Starting.{PartsAreOne}
-
--- ---- no call of the device
-
-pub nothing_goes : {D : Type 0} (g : Ghosts D) (d : D) (inside : Image → Type 0) → Goes g d d inside
-nothing_goes g d inside = record { later = omega arith; keeps = λ t c le h. h; adds = λ t c le h. inl h }
-
-pub goes_on_still : {D : Type 0} (g : Ghosts D) (d : D) (live : Super) (saved : Saved) (log : LogState) → IsOpenOn g d live saved log → GoesOn g d d live saved log
-goes_on_still g d live saved log given = record { known = given; kept = λ c is. (c, is, λ tree count stands. stands); write_faults = refl }
 
 -- ---- causes
 
