@@ -4,21 +4,16 @@ use Rattle.std.specs.Prelude.{◌≢◌, ◌↔◌, Result, Ok, Err, OnOk, OnErr
 use Rattle.std.specs.List.{concat}
 use Rattle.std.proofs.lemmas.Bool.{cases_lt}
 use Rattle.bd_device.specs.Blocks.{Image}
-use Rattle.bd_device.specs.Device.{left_now, OnlyReads}
-use Rattle.bd_device.specs.Moments.{Nothing}
 use Rattle.bd_device.specs.declared.device.Device.{Ghosts}
-use Rattle.bd_device.proofs.Moments.{after}
 use Rattle.bd_table.specs.Tables.{IsTableAt}
 use Rattle.bd_table.specs.declared.table.Table.{Table as StoredTable}
-use Rattle.bd_super.specs.declared.superblock.Super.{Super}
-use Rattle.bd_log.specs.Logs.{LogState}
 use Rattle.bd_graft.specs.declared.grafting.Walk.{Walk}
 use Rattle.bd_pager.specs.Keeping.{KeepsSaved}
 use Rattle.bd_pager.specs.Places.{Spots, nodes_at}
 use Rattle.bd_pager.specs.Pagers.{Paged, spots_of, nodes_of, table_of, is_known, IsKnownOver, IsPaged, IsReadOf}
 use Rattle.bd_checkpoint.specs.Kept.{Saved, IsOpenOn}
 use Rattle.bd_checkpoint.specs.Recovering.{saved_of}
-use Rattle.bd_checkpoint.proofs.Handed.{open_read}
+use Rattle.bd_checkpoint.proofs.Handed.{IsSince, open_after}
 use Rattle.bd_message.specs.declared.message.Message.{Message}
 use Rattle.bd_message.specs.KeyMaps.{SameAt}
 use Rattle.bd_node.specs.Meaning.{Nodes}
@@ -31,16 +26,6 @@ use Rattle.bd_shown.proofs.Kept.{kept_shown}
 use Rattle.bd_view.specs.Trees.{TreeView, IsAppended, IsGraftMade, IsWalked, HasAppended, HasGrafted}
 use Rattle.bd_engine.specs.Engines.{EngineState, view_of, keys_of, IsSoundOn, IsStanding, IsReadOn, OnlyNodesOn}
 
--- the moments since a call are among those since an earlier one
-abbrev pub IsSinceEarlier : {D : Type 0} → Ghosts D → D → Type 0
-IsSinceEarlier g d = (t u : ℕ) (image : Image) → t ≤ u → g.left_since d u image → g.left_since d t image
-
--- what is known of a device, after reads
-open_after : {D : Type 0} (g : Ghosts D) (first last : D) (live : Super) (saved : Saved) (log : LogState) → IsSinceEarlier g last → IsOpenOn g first live saved log → OnlyReads g first last → IsOpenOn g last live saved log
-open_after g first last live saved log earlier given reads =
-    open_read (g.contents first) (g.contents last) (left_now g first) (left_now g last) (g.block_count first) (g.block_count last) live saved log given reads.kept reads.count
-    (after Nothing (left_now g first) reads.time earlier (λ image is. is) (λ image none. absurd none))
-
 -- nodes that were known stay so over reads
 pub read_knows : {D : Type 0} (g : Ghosts D) (p q : Paged D) → IsReadOf g p q → is_known g p → is_known g q
 read_knows g p q r known =
@@ -48,7 +33,7 @@ read_knows g p q r known =
     (subst (λ (s : Spots). IsKnownOver (g.contents p.dev) s) (sym r.spots) known)
 
 -- what holds between two calls, where one kept the last checkpoint
-pub kept_standing : {D : Type 0} (g : Ghosts D) (old : EngineState D) (p : Paged D) (walk : Walk) → IsSinceEarlier g p.dev → IsStanding g old → KeepsSaved g old.pager p → IsStanding g (record old { pager = p; walk = walk })
+pub kept_standing : {D : Type 0} (g : Ghosts D) (old : EngineState D) (p : Paged D) (walk : Walk) → IsSince g p.dev → IsStanding g old → KeepsSaved g old.pager p → IsStanding g (record old { pager = p; walk = walk })
 kept_standing g old p walk earlier h k =
     let same : saved_of old.pager ≡ saved_of p = λ i. record { at = sym k.at i; table = sym k.saved i } in
     record {
@@ -56,7 +41,7 @@ kept_standing g old p walk earlier h k =
       size = k.device.count ∙ h.size;
       slots = ap (λ (l : List Bool). length l) k.spare ∙ h.slots;
       table = subst (λ (a : List ℕ). IsTableAt old.live.slots a p.saved) (sym k.at) (subst (λ (t : StoredTable). IsTableAt old.live.slots old.pager.at t) (sym k.saved) h.table);
-      going = λ on. subst (λ (s : Saved). IsOpenOn g p.dev old.live s old.log) same (open_after g old.pager.dev p.dev old.live (saved_of old.pager) old.log earlier (h.going on) k.device);
+      going = λ on. subst (λ (s : Saved). IsOpenOn g p.dev old.live s old.log) same (open_after g old.pager.dev p.dev earlier k.device old.live (saved_of old.pager) old.log (h.going on));
     }
 
 -- what reads leave of an engine

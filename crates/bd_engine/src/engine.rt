@@ -68,6 +68,7 @@ impl<D: Device> Engine<D> {
         pager.nodes_are_placed();
         pager.changed() + table_length(pager.kept() as usize) as u64
     }
+
     /// How many slots have to be free for a command's next step, a flush step or what it sends, so
     /// that a checkpoint can be written after it.
     pub fn need(&self, command: &Command) -> u64

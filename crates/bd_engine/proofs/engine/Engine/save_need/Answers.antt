@@ -1,8 +1,8 @@
-use Rattle.std.proofs.Common.{◌≡◌, ℕ, ◌+◌, ◌<◌, ◌≤◌, length, arith, subst, ap, ◌∙◌}
+use Rattle.std.proofs.Common.{◌≡◌, ℕ, ◌+◌, ◌≤◌, length, arith, subst, ap, ◌∙◌}
 use Rattle.std.specs.List.{concat}
 use Rattle.bd_slots.specs.Layout.{table_length}
 use Rattle.bd_node.specs.Tables.{kept_count}
-use Rattle.bd_pager.specs.Pagers.{Paged, table_of}
+use Rattle.bd_pager.specs.Pagers.{Paged}
 use Rattle.bd_view.specs.Views.{View, changed_count, save_slots}
 use Rattle.bd_engine.specs.Engines.{EngineState, seen, view_of}
 use Rattle.bd_engine.proofs.Numbers.{few_changed}
