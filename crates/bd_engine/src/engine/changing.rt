@@ -54,9 +54,9 @@ impl<D: Device> Engine<D> {
         plan_command(self.alloc, &mut self.tree, command)
     }
 
-    /// Makes a flush step of a writing command where more bytes wait in the root than its limit, and
-    /// says whether it did. What stands at the keys stays. It writes nothing, and a fault leaves the
-    /// view.
+    /// Makes a flush step of a writing command where more bytes wait in the root than its limit,
+    /// and says whether it did. What stands at the keys stays. It writes nothing, and a fault leaves
+    /// the view.
     pub fn flush(&mut self, command: &Command) -> Result<bool, MapFault>
         requires { IsTrue (writes command.now) }
         ensures enough { (result ≡ Ok false)
