@@ -1,10 +1,9 @@
 -- The numbers of a view.
-use Rattle.std.proofs.Common.{◌≡◌, ℕ, ◌≤◌, Bool, true, false, cond, arith, inl, inr}
+use Rattle.std.proofs.Common.{◌≤◌, Bool, true, false, cond, arith}
 use Rattle.std.specs.Prelude.{◌&&◌}
-use Rattle.std.proofs.lemmas.Bool.{cases_Bool}
 use Rattle.bd_node.specs.Tables.{kept_count}
 use Rattle.bd_pager.proofs.KeptLemmas.{sum_le}
-use Rattle.bd_view.specs.Views.{View, is_kept, is_changed, changed_count}
+use Rattle.bd_view.specs.Views.{View, is_kept, changed_count}
 
 few : (a b : Bool) → cond (a && b) 1 0 ≤ cond a 1 0
 few true true = omega arith

@@ -1,7 +1,9 @@
 -- What an engine is seen as.
-use Rattle.std.specs.Prelude.{◌≡◌, ℕ, length, false, Option, None}
+use Rattle.std.specs.Prelude.{◌≡◌, ℕ, length, Option, None, Result}
 use Rattle.std.specs.List.{concat}
-use Rattle.bd_message.specs.KeyMaps.{At}
+use Rattle.bd_message.specs.KeyMaps.{At, HasMapCause}
+use Rattle.bd_message.specs.declared.fault.Counter.{Counter}
+use Rattle.bd_message.specs.declared.fault.MapFault.{MapFault}
 use Rattle.bd_slots.specs.Layout.{image_blocks}
 use Rattle.bd_device.specs.declared.device.Device.{Ghosts}
 use Rattle.bd_node.specs.Tables.{IsSound, root_at}
@@ -10,9 +12,12 @@ use Rattle.bd_super.specs.Superblocks.{IsSuper}
 use Rattle.bd_super.specs.declared.superblock.Super.{Super}
 use Rattle.bd_log.specs.Logs.{LogState}
 use Rattle.bd_graft.specs.declared.grafting.Walk.{Walk}
-use Rattle.bd_pager.specs.Pagers.{Paged, nodes_of, table_of, is_known}
+use Rattle.bd_pager.specs.Keeping.{KeepsSaved}
+use Rattle.bd_pager.specs.Pagers.{Paged, nodes_of, table_of, is_known, is_bad, IsReadOf}
+use Rattle.bd_step.specs.Steps.{IsWornToFlush}
 use Rattle.bd_checkpoint.specs.Kept.{IsOpenOn}
 use Rattle.bd_checkpoint.specs.Recovering.{saved_of}
+use Rattle.bd_view.specs.Moves.{OnlyNodes}
 use Rattle.bd_view.specs.Views.{View}
 use Rattle.bd_shown.specs.Shown.{shown}
 
@@ -35,20 +40,50 @@ view_of g e =
     shown g e.pager e.walk e.live.epoch e.log.place (length (concat e.log.waiting))
 
 -- what stands at each key
-abbrev pub keys_of : {D : Type 0} → Ghosts D → EngineState D → At
-keys_of g e = root_at (nodes_of g e.pager) (table_of e.pager)
+abbrev pub keys_of : {D : Type 0} → Ghosts D → Paged D → At
+keys_of g p = root_at (nodes_of g p) (table_of p)
 
 -- the nodes are known and sound
-pub record IsSoundOn {D : Type 0} (g : Ghosts D) (e : EngineState D) : Type 0 where
-  pub known : is_known g e.pager
-  pub sound : IsSound (nodes_of g e.pager) (table_of e.pager)
+pub record IsSoundOn {D : Type 0} (g : Ghosts D) (p : Paged D) : Type 0 where
+  pub known : is_known g p
+  pub sound : IsSound (nodes_of g p) (table_of p)
 
--- what holds between two calls: the device has the blocks of an image of the superblock's slots, in
--- which the last checkpoint's table stands; and what is known of its images, until it is stopped
+-- of some calls none failed at Ok, and at an error each fault has its cause: damage is of a bad
+-- block, and a counter is worn as is told
+abbrev pub HasCause : {D T : Type 0} → Ghosts D → Paged D → Paged D → (Counter → Type 0)
+    → Result T MapFault → Type 0
+HasCause g old new worn result =
+    HasMapCause (g.fault_count old.dev) (g.fault_count new.dev) (is_bad g new) worn result
+
+-- why a flush step has no room in a counter
+abbrev pub IsWornIn : {D : Type 0} → Ghosts D → Paged D → Counter → Type 0
+IsWornIn g p = IsWornToFlush (is_known g p × IsSound (nodes_of g p) (table_of p)) (nodes_of g p)
+    (table_of p)
+
+-- ---- what calls leave
+
+-- only the device was read: the view stays, and nodes that were known stay so
+pub record IsReadOn {D : Type 0} (g : Ghosts D) (old new : EngineState D) : Type 0 where
+  pub read : IsReadOf g old.pager new.pager
+  pub known : is_known g old.pager → is_known g new.pager
+  pub view : view_of g new ≡ view_of g old
+  pub rest : new ≡ record old { pager = new.pager }
+
+-- only nodes were changed, in memory, and how the last graft went: nothing was written, and nodes
+-- that were known stay so
+pub record OnlyNodesOn {D : Type 0} (g : Ghosts D) (old new : EngineState D) : Type 0 where
+  pub keeps : KeepsSaved g old.pager new.pager
+  pub known : is_known g old.pager → is_known g new.pager
+  pub view : is_known g old.pager → OnlyNodes (view_of g old) (view_of g new)
+  pub rest : new ≡ record old { pager = new.pager; walk = new.walk }
+
+-- ---- between two calls
+
+-- the device has the blocks of an image of the superblock's slots, in which the last checkpoint's
+-- table stands; and what is known of its images, until it is stopped
 pub record IsStanding {D : Type 0} (g : Ghosts D) (e : EngineState D) : Type 0 where
   pub fits : IsSuper e.live
   pub size : g.block_count e.pager.dev ≡ image_blocks e.live.slots
   pub slots : length e.pager.spare ≡ e.live.slots
   pub table : IsTableAt e.live.slots e.pager.at e.pager.saved
-  pub unlent : e.pager.is_lent ≡ false
   pub going : e.stop ≡ None → IsOpenOn g e.pager.dev e.live (saved_of e.pager) e.log

@@ -1,28 +1,41 @@
 //! The engine.
 
-ghost use Rattle.std.specs.Prelude.{◌≡◌};
-ghost use Rattle.bd_view.specs.Views.{free_slots, save_slots};
+ghost use Rattle.std.specs.Prelude.{◌≡◌, ◌+◌, ◌^◌, ◌<◌, ◌≤◌};
+ghost use Rattle.bd_dirs.specs.Kinds.{kind_of};
+ghost use Rattle.bd_pager.specs.Pagers.{table_of};
+ghost use Rattle.bd_view.specs.Views.{height, free_slots, save_slots, step_slots, need_slots, log_room};
 ghost use Rattle.bd_engine.specs.Engines.{view_of};
 
+mod changing;
+
+use bd_command::Command;
 use bd_device::Device;
+use bd_effects::waiting_limit;
 use bd_graft::Walk;
+use bd_limits::LATE_ROOT;
 use bd_log::Log;
 use bd_pager::Pager;
 use bd_shown::laws::numbers_are_shown;
 use bd_slots::table_length;
 use bd_super::Super;
+use bd_tree::Tree;
 use std::alloc::Global;
 use std::marker::Model;
+
+// How many slots the messages of a `remove` or a `truncate` may need.
+const LATE_SLOTS: u64 = 4;
+
+// How many another step may need, beside two for each node on the way down.
+const STEP_SLOTS: u64 = 8;
 
 /// The nodes of an image on a device, its log and its last checkpoint.
 #[derive(Drop)]
 pub struct Engine<D: Device> {
     alloc: Global,
-    pager: Pager<D>,
+    tree: Tree<Pager<D>>,
     log: Log,
     live: Super,
     stop: Option<u64>,
-    walk: Walk,
 }
 
 impl<D: Device> Model for Engine<D> {
@@ -30,9 +43,10 @@ impl<D: Device> Model for Engine<D> {
 
     ghost Value = { EngineState D };
 
-    ghost view = { λ e. seen e.pager e.log e.live e.stop e.walk };
+    ghost view = { λ e. seen e.tree.store e.log e.live e.stop e.tree.walk };
 
-    ghost invariant = { λ e. IsStanding D.Device (seen e.pager e.log e.live e.stop e.walk) };
+    ghost invariant = { λ e. IsStanding D.Device
+        (seen e.tree.store e.log e.live e.stop e.tree.walk) };
 }
 
 impl<D: Device> Engine<D> {
@@ -41,15 +55,74 @@ impl<D: Device> Engine<D> {
         ensures { result ≡ free_slots (view_of D.Device self.now) }
     {
         numbers_are_shown::<D>();
-        u64::from(self.pager.free())
+        u64::from(self.tree.store().free())
     }
 
     /// How many slots a checkpoint would be written to.
     pub fn save_need(&self) -> u64
-        ensures { result ≡ save_slots (view_of D.Device self.now) }
+        ensures value { result ≡ save_slots (view_of D.Device self.now) }
+        ensures small { result + 4096 < 2 ^ 64 }
     {
-        self.pager.nodes_are_placed();
         numbers_are_shown::<D>();
-        self.pager.changed() + table_length(self.pager.kept() as usize) as u64
+        let pager = self.tree.store();
+        pager.nodes_are_placed();
+        pager.changed() + table_length(pager.kept() as usize) as u64
+    }
+
+    /// How many slots have to be free for a command's next step, a flush step or what it sends, so
+    /// that a checkpoint can be written after it.
+    pub fn need(&self, command: &Command) -> u64
+        ensures { result ≡ need_slots command.now (view_of D.Device self.now) }
+    {
+        self.save_need() + self.step_need(command)
+    }
+
+    // How many slots that step itself may need.
+    fn step_need(&self, command: &Command) -> u64
+        ensures value { result ≡ step_slots (kind_of command.now) (table_of self.now.pager) }
+        ensures small { result ≤ 4096 }
+    {
+        if waiting_limit(command) == LATE_ROOT && self.root_size() <= LATE_ROOT {
+            return LATE_SLOTS;
+        }
+        2 * self.height() + STEP_SLOTS
+    }
+
+    // How many nodes stand one below the other.
+    fn height(&self) -> u64
+        ensures value { result ≡ height (table_of self.now.pager) }
+        ensures low { result ≤ 1001 }
+    {
+        let pager = self.tree.store();
+        pager.nodes_are_placed();
+        u64::from(pager.level(pager.root())) + 1
+    }
+
+    /// How many bytes of messages wait in the root.
+    pub fn root_size(&self) -> usize
+        ensures { result ≡ (table_of self.now.pager).size }
+    {
+        self.tree.store().root_size()
+    }
+
+    /// For how many bytes of records the log has room, beside those that wait.
+    pub fn log_left(&self) -> usize
+        ensures { result ≡ log_room (view_of D.Device self.now) }
+    {
+        self.log.left()
+    }
+
+    /// How the last graft went that gave no fault.
+    pub fn last_walk(&self) -> Walk
+        ensures { result ≡ (view_of D.Device self.now).tree.walk }
+    {
+        self.tree.last_walk()
+    }
+
+    /// The number of the device's call at which it was stopped, where it was.
+    pub fn stop(&self) -> Option<u64>
+        ensures { result ≡ self.now.stop }
+    {
+        self.stop
     }
 }

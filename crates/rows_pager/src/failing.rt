@@ -37,7 +37,7 @@ fn go_on(alloc: Global, mut both: Both) -> Result<Option<usize>, Fail> {
 #[test]
 fn a_device_that_fails_at_each_call(rt: HostRuntime) -> Result<(), Fail> {
     for call in 1..1_000 {
-        let mut both = filled(rt.alloc(), 60, &[call])?;
+        let mut both = filled(rt.alloc(), 12, &[call])?;
         let nodes = both.stored.pager().kept();
         if !fails(&mut both.stored)? {
             assert_eq!(rt;
@@ -46,7 +46,7 @@ fn a_device_that_fails_at_each_call(rt: HostRuntime) -> Result<(), Fail> {
             );
             return Ok(());
         }
-        assert_eq!(rt; go_on(rt.alloc(), both)?, Some(61), "{call}");
+        assert_eq!(rt; go_on(rt.alloc(), both)?, Some(13), "{call}");
     }
     Err(Fail::new("no end"))
 }
