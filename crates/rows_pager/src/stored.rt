@@ -60,8 +60,10 @@ impl<D: Device + Drop> Stored<D> {
     /// The pager over a checkpoint. A device that hasn't the blocks of so many slots faults.
     pub fn open(alloc: Global, saved: Saved<D>, room: usize) -> Result<Stored<D>, ImageFault> {
         let Saved { device, slots, at } = saved;
-        let fits = slots <= MAX_SLOTS && device.blocks() == image_blocks(slots);
-        if !fits || !is_table_place(slots, &at) || room == 0 {
+        if slots > MAX_SLOTS || device.blocks() != image_blocks(slots) || room == 0 {
+            return Err(ImageFault::DeviceFault);
+        }
+        if !is_table_place(slots, &at) {
             return Err(ImageFault::DeviceFault);
         }
         match Pager::open(alloc, device, slots, at, room) {
