@@ -8,7 +8,7 @@ use Rattle.bd_device.specs.declared.device.Device.{Ghosts}
 use Rattle.bd_node.specs.Meaning.{Nodes}
 use Rattle.bd_node.specs.Tables.{Table}
 use Rattle.bd_node.specs.Steps.{with_touched}
-use Rattle.bd_table.specs.Tables.{AreFreeSlots, slots_of}
+use Rattle.bd_table.specs.Tables.{AreFreeSlots, IsTableAt, slots_of}
 use Rattle.bd_table.specs.declared.table.Table.{Table as StoredTable}
 use Rattle.bd_table.specs.declared.table.TableEntry.{TableEntry}
 use Rattle.bd_super.specs.declared.superblock.Super.{Super}
@@ -18,7 +18,7 @@ use Rattle.bd_pager.specs.declared.written.Written.{Written}
 use Rattle.bd_pager.specs.Moving.{Spills}
 use Rattle.bd_pager.specs.WritingOut.{IsWrittenOut}
 use Rattle.bd_pager.specs.Places.{Spots}
-use Rattle.bd_pager.specs.Pagers.{Paged, spots_of, nodes_of, table_at, touched_at, table_of, is_saved, is_changed, is_known, IsEntryOf, IsReady, saved_as}
+use Rattle.bd_pager.specs.Pagers.{Paged, spots_of, nodes_of, table_at, touched_at, table_of, is_saved, is_changed, is_known, IsEntryOf, AreEntriesOf, IsReady, saved_as}
 use Rattle.bd_pager.proofs.CountingLemmas.{held_unchanged}
 use Rattle.bd_pager.proofs.FlagLemmas.{taken_held, entry_slot}
 use Rattle.bd_pager.proofs.SpilledLemmas.{spilled_table}
@@ -98,6 +98,16 @@ module _ {D : Type 0} (g : Ghosts D) (old mid last : Paged D) (spills : Spills g
         subst (λ (x : Paged D). AreFreeSlots (length old.spare) (slots_held (saved_of x)) x.spare) (sym marked)
         (subst (λ (l : List Bool). AreFreeSlots (length l) (w.written.at ++ slots_of w.written.table.entries) w.written.spare) same_spare w.ready.spare_is)
 
+    entries : AreEntriesOf new.saved.entries (spots_of new)
+    entries =
+        subst (λ (x : Paged D). AreEntriesOf x.saved.entries (spots_of x)) (sym marked)
+        (subst (λ (x : Paged D). AreEntriesOf w.written.table.entries (spots_of x)) (sym survives.rest) w.ready.entries)
+
+    place : IsTableAt (length old.spare) new.at new.saved
+    place =
+        subst (λ (x : Paged D). IsTableAt (length old.spare) x.at x.saved) (sym marked)
+        (subst (λ (l : List Bool). IsTableAt (length l) w.written.at w.written.table) same_spare w.ready.table)
+
     pub all_saved : IsSaved g old new
     all_saved = record {
       keeps = record {
@@ -105,6 +115,8 @@ module _ {D : Type 0} (g : Ghosts D) (old mid last : Paged D) (spills : Spills g
         nodes = λ was. ap (λ (x : Paged D). nodes_of g x) marked ∙ keeps.nodes was;
       };
       table = table;
+      entries = entries;
+      place = place;
       spare = free;
       rest = marked ∙ ap (saved_as w.written) rest ∙ sym (ap with_saved marked);
     }

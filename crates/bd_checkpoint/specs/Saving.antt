@@ -7,10 +7,10 @@ use Rattle.bd_message.specs.declared.fault.Counter.TheVariants.{Epoch}
 use Rattle.bd_message.specs.declared.fault.MapFault.{MapFault}
 use Rattle.bd_message.specs.declared.fault.MapFault.TheVariants.{DeviceFault, Damaged, Worn, NoMemory}
 use Rattle.bd_node.specs.Steps.{with_touched}
-use Rattle.bd_table.specs.Tables.{AreFreeSlots}
+use Rattle.bd_table.specs.Tables.{AreFreeSlots, IsTableAt}
 use Rattle.bd_super.specs.declared.superblock.Super.{Super}
 use Rattle.bd_log.specs.Logs.{LogState}
-use Rattle.bd_pager.specs.Pagers.{Paged, nodes_of, table_of, is_known}
+use Rattle.bd_pager.specs.Pagers.{Paged, spots_of, nodes_of, table_of, is_known, AreEntriesOf}
 use Rattle.bd_checkpoint.specs.Kept.{Saved, slots_held, IsOpenOn, AllAsBefore}
 use Rattle.bd_checkpoint.specs.Recovering.{saved_of}
 
@@ -32,11 +32,13 @@ pub record StaysUnsaved {D : Type 0} (g : Ghosts D) (old new : Paged D) : Type 0
     written = new.written;
   }
 
--- a checkpoint of all nodes was made, after which none was changed; the nodes stay, and other slots
--- are spare
+-- a checkpoint of all nodes was made, after which none was changed; the nodes stay, each has an entry
+-- in its table, which stands in slots of its own, and other slots are spare
 pub record IsSaved {D : Type 0} (g : Ghosts D) (old new : Paged D) : Type 0 where
   pub keeps : KeepsNodes g old new
   pub table : table_of new ≡ with_touched (λ id. false) (table_of old)
+  pub entries : AreEntriesOf new.saved.entries (spots_of new)
+  pub place : IsTableAt (length old.spare) new.at new.saved
   pub spare : AreFreeSlots (length old.spare) (slots_held (saved_of new)) new.spare
   pub rest : new ≡ record old {
     dev = new.dev;

@@ -1,14 +1,14 @@
 -- The bytes of slots: where they stay.
-use Rattle.std.proofs.Common.{◌≡◌, ◌≢◌, ℕ, ◌+◌, ◌-◌, ◌<◌, ◌≤◌, List, [], Bool, true, false, Option, None, Some, IfSome, Result, Ok, Err, OnOk, length, take, drop, get_or, min, inl, inr, refl, sym, ap, subst, ◌∙◌, arith}
+use Rattle.std.proofs.Common.{◌≡◌, ◌≢◌, ℕ, ◌+◌, ◌-◌, ◌<◌, ◌≤◌, List, [], Bool, true, false, Option, Some, IfSome, Result, Ok, Err, OnOk, length, take, drop, min, refl, sym, ap, subst, ◌∙◌, arith}
 use Rattle.std.specs.Prelude.{slice_get}
 use Rattle.std.specs.List.{concat}
-use Rattle.std.proofs.lemmas.Bool.{true≢false, cases_eq}
-use Rattle.std.proofs.lemmas.List.{length-drop, length-take, take_all, ext_get_or, get_or-take, get_or-drop, get_or_default}
+use Rattle.std.proofs.lemmas.Bool.{true≢false}
+use Rattle.std.proofs.lemmas.List.{length-drop, length-take, take_all, ext_get_or, get_or-take, get_or-drop}
 use Rattle.std.proofs.lemmas.Option.{IfSome_then}
 use Rattle.bd_slots.specs.Layout.{slot_block}
 use Rattle.bd_slots.specs.Slots.{IsHeld}
 use Rattle.bd_device.specs.Blocks.{Image}
-use Rattle.bd_device.specs.Changes.{SameBut, StaysBut, IsBeforeBut, IsInRange, bytes_at}
+use Rattle.bd_device.specs.Changes.{SameBut, IsBeforeBut, IsInRange, bytes_at}
 use Rattle.bd_device.specs.Moments.{Elapses}
 use Rattle.bd_device.proofs.Moments.{goes_on}
 use Rattle.bd_device.proofs.Changes.{same_then, same_wider, before_now}
@@ -17,8 +17,6 @@ use Rattle.bd_format.specs.Images.{IsImage}
 use Rattle.bd_node.specs.declared.node.Node.{Node}
 use Rattle.bd_node.specs.Nodes.{level_of}
 use Rattle.bd_node.specs.Shape.{IsShape}
-use Rattle.bd_pager.specs.declared.slots.SlotWrite.{SlotWrite}
-use Rattle.bd_pager.specs.Writes.{IsHeldBy, IsOfWrites}
 use Rattle.bd_pager.specs.Slots.{slot_bytes, HasNode, IsOfSlot, IsSpare}
 
 -- ---- where the bytes stay
@@ -60,34 +58,7 @@ held_same spare old new same slot held =
 pub front_same : (spare : List Bool) (old new : Image) → SameBut (IsSpare spare) old new → (b : ℕ) → b < 132 → block_at new b ≡ block_at old b
 front_same spare old new same b low = same.others b (λ spared. omega (arith, low, spared.2.0))
 
--- ---- several slots
-
--- one of them was written more: those before it have what they had
-pub held_more : (old new : Option Image) (writes : List SlotWrite) (i : ℕ) (w : SlotWrite) → i < length writes → w ≡ get_or writes i w
-    → ((k j : ℕ) (d : SlotWrite) → k < j → j < length writes → (get_or writes k d).slot ≢ (get_or writes j d).slot)
-    → StaysBut (IsOfSlot w.slot) old new
-    → IfSome old (λ image. (k : ℕ) (d : SlotWrite) → k < i → IsHeldBy image (get_or writes k d))
-    → IfSome new (λ image. IsHeldBy image w)
-    → IfSome new (λ image. (k : ℕ) (d : SlotWrite) → k < i + 1 → IsHeldBy image (get_or writes k d))
-held_more None None writes i w lt at differ stays was now = tt
-held_more None (Some new) writes i w lt at differ stays was now = absurd stays
-held_more (Some old) None writes i w lt at differ stays was now = absurd stays
-held_more (Some old) (Some new) writes i w lt at differ stays was now = λ k d before. elim (cases_eq k i) [
-  | inl same ↦
-      let here : w ≡ get_or writes k d = at ∙ get_or_default writes i w d lt ∙ ap (λ (n : ℕ). get_or writes n d) (sym same) in
-      subst (IsHeldBy new) here now
-  | inr other ↦
-      let earlier : k < i = omega (arith, other, before) in
-      let x : SlotWrite = get_or writes k d in
-      let own : IsHeldBy old x = was k d earlier in
-      let apart : x.slot ≢ w.slot = λ e. differ k i d earlier lt (e ∙ ap (λ (v : SlotWrite). v.slot) (at ∙ get_or_default writes i w d lt)) in
-      let same : slot_bytes new x.slot ≡ slot_bytes old x.slot = slot_same (IsOfSlot w.slot) old new x.slot stays (λ b mine his. apart (one_slot x.slot w.slot b mine his)) in
-      record { shape = own.shape; level_is = own.level_is; image_is = subst (IsImage x.node.value) (sym same) own.image_is }
-]
-
--- a slot that is written is one of all
-pub of_writes : (writes : List SlotWrite) (i : ℕ) (w : SlotWrite) (b : ℕ) → i < length writes → w ≡ get_or writes i w → IsOfSlot w.slot b → IsOfWrites writes b
-of_writes writes i w b lt at own = (i, w, lt, sym at, own)
+-- ---- slots that are written
 
 -- a write more, after which a crash may leave what it may have left before but for its slot
 pub written_then : {a b c : ℕ} {first mid last : ℕ → Image → Type 0} (all own : ℕ → Type 0) → ((i : ℕ) → own i → all i)

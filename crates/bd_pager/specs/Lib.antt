@@ -15,5 +15,4 @@ pub mod Places
 pub mod Readers
 pub mod Slots
 pub mod Stepping
-pub mod Writes
 pub mod WritingOut

@@ -1,7 +1,7 @@
 //! Nodes over a device: read from slots and written to them. `Pager` is the store of them.
-//! The layers above may use the contracts of `Pager`, also as a `NodeStore`, of `read_node`,
-//! `write_node` and `write_nodes`, and the laws: that slots survive what others write, and that a
-//! spill changes nothing seen.
+//! The layers above may use the contracts of `Pager`, also as a `NodeStore`, of `read_node` and
+//! `write_node`, and the laws: that slots survive what others write, and that a spill changes
+//! nothing seen.
 #![tactic(auto)]
 
 mod changing;
@@ -26,4 +26,4 @@ mod written;
 
 pub use pager::{Pager, Refused};
 pub use reading::read_node;
-pub use slots::{SlotWrite, write_node, write_nodes};
+pub use slots::write_node;

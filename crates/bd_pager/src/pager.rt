@@ -415,14 +415,6 @@ impl<D: Device> Pager<D> {
         dev
     }
 
-    /// Ends a lending of the device that wasn't taken back: what was read before it is given up.
-    pub fn end_lending(&mut self)
-        ensures rest { self.new ≡ record self.old { cache = self.new.cache; is_lent = false } }
-        ensures kept { self.old.is_lent ≡ false → self.new ≡ self.old }
-    {
-        self.reader.trust();
-    }
-
     /// Tells it that the slots have what was read of them, since what was done with the device has
     /// left them alone.
     pub fn take_back(&mut self)

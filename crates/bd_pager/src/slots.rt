@@ -1,6 +1,6 @@
-//! Nodes that are written to slots.
+//! A node that is written to a slot.
 
-ghost use Rattle.std.specs.Prelude.{◌≡◌, ◌≢◌, ◌+◌, ◌≤◌, All, AllPairs, IfSome, OnOk};
+ghost use Rattle.std.specs.Prelude.{◌≡◌, ◌+◌, ◌≤◌, IfSome, OnOk};
 ghost use Rattle.bd_limits.specs.Limits.{slot_blocks};
 ghost use Rattle.bd_slots.specs.Layout.{slot_block};
 ghost use Rattle.bd_device.specs.Calls.{faults_after};
@@ -9,7 +9,6 @@ ghost use Rattle.bd_device.specs.Device.{left_now, Goes, Stays, FailsLast};
 ghost use Rattle.bd_node.specs.Nodes.{level_of};
 ghost use Rattle.bd_node.specs.Shape.{IsShape};
 ghost use Rattle.bd_pager.specs.Slots.{HasNode, IsOfSlot};
-ghost use Rattle.bd_pager.specs.Writes.{IsWritable, IsHeldBy, IsOfWrites};
 
 use crate::reading::BLOCKS;
 use bd_device::{Device, write_blocks};
@@ -18,14 +17,6 @@ use bd_io::Failed;
 use bd_limits::SLOT_SIZE;
 use bd_node::Node;
 use bd_slots::slot_block;
-use std::rc::Rc;
-
-/// A node that is to be written to a slot.
-#[derive(Drop)]
-pub struct SlotWrite {
-    pub slot: u32,
-    pub node: Rc<Node>,
-}
 
 /// Writes a node to a slot, by way of `bytes`, without a barrier: until one succeeds a crash may
 /// leave any bytes there. It takes no memory. `Failed` comes only where a call of the device
@@ -50,30 +41,4 @@ pub fn write_node<D: Device>(
 {
     encode(node, bytes);
     write_blocks(dev, slot_block(slot), bytes, BLOCKS)
-}
-
-/// Writes nodes to slots that differ, as `write_node` does.
-#[tactic(auto, using(bd_device::proofs::Calls::calls))]
-pub fn write_nodes<D: Device>(
-    dev: &mut D,
-    writes: &[SlotWrite],
-    bytes: &mut [u8; SLOT_SIZE],
-) -> Result<(), Failed>
-    requires each { All (IsWritable (D.block_count dev.old)) writes.now }
-    requires differ { AllPairs (λ write other. write.slot ≢ other.slot) writes.now }
-    ensures held { OnOk result (IfSome (D.contents dev.new)
-        (λ image. All (IsHeldBy image) writes.now)) }
-    ensures elsewhere { StaysBut (IsOfWrites writes.now)
-        (D.contents dev.old) (D.contents dev.new) }
-    ensures time { Goes D.Device dev.old dev.new
-        (IsBeforeBut (IsOfWrites writes.now) (left_now D.Device dev.old)) }
-    ensures stays { Stays D.Device dev.old dev.new }
-    ensures cause { FailsLast D.Device dev.old dev.new result }
-    ensures write_faults { D.write_fault_count dev.new
-        ≡ faults_after (D.write_fault_count dev.old) result }
-{
-    for write in writes {
-        write_node(dev, write.slot, &write.node, bytes)?;
-    }
-    Ok(())
 }

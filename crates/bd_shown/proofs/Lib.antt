@@ -1,4 +1,4 @@
 pub mod Alike
 pub mod Kept
 pub mod Numbers
-pub mod Written
+pub mod Saved

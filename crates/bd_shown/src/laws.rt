@@ -1,18 +1,17 @@
 //! What follows from the definition of a pager's view. Each function here carries laws, and does
 //! nothing.
 
-ghost use Rattle.std.specs.Prelude.{◌≡◌, ◌≤◌, ◌+◌, ℕ, length, Option, Some};
+ghost use Rattle.std.specs.Prelude.{◌≡◌, ◌≤◌, ◌+◌, ℕ, length, Option};
 ghost use Rattle.bd_device.specs.Blocks.{Image};
 ghost use Rattle.bd_graft.specs.declared.grafting.Walk.{Walk};
 ghost use Rattle.bd_table.specs.Tables.{IsTableAt};
 ghost use Rattle.bd_pager.specs.Counting.{changed_of, free_of};
 ghost use Rattle.bd_pager.specs.Keeping.{KeepsSaved};
 ghost use Rattle.bd_pager.specs.Moving.{Spills};
-ghost use Rattle.bd_pager.specs.Pagers.{Paged, is_known, saved_as, IsPaged, IsReadOf};
-ghost use Rattle.bd_pager.specs.declared.written.Written.{Written};
+ghost use Rattle.bd_pager.specs.Pagers.{Paged, is_known, IsPaged, IsReadOf};
 ghost use Rattle.bd_view.specs.Views.{changed_count, free_slots, save_slots};
 ghost use Rattle.bd_view.specs.Moves.{OnlyNodes, Saves};
-ghost use Rattle.bd_shown.specs.Shown.{shown};
+ghost use Rattle.bd_shown.specs.Shown.{shown, IsCheckpointed};
 
 use bd_device::Device;
 use bd_pager::laws::spills_change_nothing;
@@ -52,14 +51,14 @@ pub fn kept_checkpoints_are_shown<D: Device>()
         (shown D.Device new next epoch place waiting) }
 {}
 
-/// What was written is a checkpoint of the view, where slots were free for it.
-pub fn written_checkpoints_are_shown<D: Device>()
-    ensures { (contents : Option Image) (p : Paged D) (w : Written) (walk : Walk)
-        (epoch place waiting : ℕ) → IsPaged contents p → p.written ≡ Some w
-        → save_slots (shown D.Device p walk epoch place waiting)
-        ≤ free_slots (shown D.Device p walk epoch place waiting)
-        → Saves (shown D.Device p walk epoch place waiting)
-        (shown D.Device (saved_as w p) walk (epoch + 1) 0 0) }
+/// A checkpoint of all nodes is one of the view, where slots were free for it.
+pub fn checkpoints_are_shown<D: Device>()
+    ensures { (contents : Option Image) (old new : Paged D) (walk : Walk)
+        (epoch place waiting : ℕ) → IsPaged contents new → IsCheckpointed D.Device old new
+        → save_slots (shown D.Device old walk epoch place waiting)
+        ≤ free_slots (shown D.Device old walk epoch place waiting)
+        → Saves (shown D.Device old walk epoch place waiting)
+        (shown D.Device new walk (epoch + 1) 0 0) }
 {
     kept_nodes_are_listed();
 }
