@@ -11,12 +11,12 @@ ghost use Rattle.bd_files.specs.Roots.{root_messages};
 ghost use Rattle.bd_node.specs.New.{new_table};
 ghost use Rattle.bd_node.specs.Steps.{grown, HasGrown};
 ghost use Rattle.bd_node.specs.Tables.{kept_count};
-ghost use Rattle.bd_table.specs.Tables.{AreFreeSlots};
+ghost use Rattle.bd_table.specs.Tables.{AreFreeSlots, IsTableAt};
 ghost use Rattle.bd_super.specs.Live.{NoneIsCommitted};
 ghost use Rattle.bd_super.specs.Published.{AreSettled};
 ghost use Rattle.bd_log.specs.Logs.{fresh_log};
 ghost use Rattle.bd_pager.specs.Counting.{changed_of, free_of};
-ghost use Rattle.bd_pager.specs.Pagers.{nodes_of, table_of, is_known};
+ghost use Rattle.bd_pager.specs.Pagers.{spots_of, nodes_of, table_of, is_known, AreEntriesOf};
 ghost use Rattle.bd_image.specs.Fresh.{first_super, fresh_nodes};
 ghost use Rattle.bd_checkpoint.specs.Kept.{slots_held, IsOpenOn, AllStandFor, AreOfTree};
 ghost use Rattle.bd_checkpoint.specs.Formatting.{IsNew};
@@ -76,6 +76,11 @@ pub fn format<D: Device>(
     ensures nodes { IsSome (D.contents dev)
         → IfOk result (λ f. nodes_of D.Device f.pager ≡ fresh_nodes) }
     ensures table { IfOk result (λ f. table_of f.pager ≡ grown new_table root_messages) }
+    ensures tree { IsSome (D.contents dev) → IfOk result (λ f.
+        AreOfTree (nodes_of D.Device f.pager) (table_of f.pager) root_only) }
+    ensures entries { IfOk result (λ f.
+        AreEntriesOf f.pager.saved.entries (spots_of f.pager)) }
+    ensures place { IfOk result (λ f. IsTableAt slots f.pager.at f.pager.saved) }
     ensures spare { IfOk result (λ f.
         AreFreeSlots slots (slots_held (saved_of f.pager)) f.pager.spare) }
     ensures lent { IfOk result (λ f. f.pager.is_lent ≡ false) }

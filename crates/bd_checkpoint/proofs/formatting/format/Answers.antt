@@ -1,15 +1,16 @@
-use Rattle.std.proofs.Common.{ℕ, true, false, length, IfSome, sym, ap, subst, ◌∙◌}
+use Rattle.std.proofs.Common.{◌≡◌, ℕ, true, false, length, IfSome, sym, ap, subst, ◌∙◌}
 use Rattle.std.proofs.lemmas.List.{length-replicate}
 use Rattle.bd_device.specs.Device.{left_now, Stays}
 use Rattle.bd_device.proofs.Calls.{stays_then}
 use Rattle.bd_node.specs.Steps.{with_touched}
+use Rattle.bd_node.specs.Meaning.{Nodes}
 use Rattle.bd_node.specs.Tables.{Table}
 use Rattle.bd_super.specs.Live.{NoneIsCommitted}
 use Rattle.bd_super.specs.Published.{AreSettled}
-use Rattle.bd_table.specs.Tables.{AreFreeSlots}
-use Rattle.bd_pager.specs.Pagers.{Paged}
+use Rattle.bd_table.specs.Tables.{AreFreeSlots, IsTableAt}
+use Rattle.bd_pager.specs.Pagers.{Paged, nodes_of, table_of}
 use Rattle.bd_model.specs.Tree.{root_only}
-use Rattle.bd_checkpoint.specs.Kept.{slots_held}
+use Rattle.bd_checkpoint.specs.Kept.{slots_held, AreOfTree}
 use Rattle.bd_checkpoint.specs.Recovering.{saved_of}
 use Rattle.bd_checkpoint.proofs.FreshTree.{has_room}
 use Rattle.bd_checkpoint.proofs.Published.{settled_only}
@@ -51,6 +52,21 @@ returns-clause-nodes g c = λ told.
 
 pub returns-clause-table : goal.returns-clause-table
 returns-clause-table g c = c.in-Ok-first_checkpoint.ensures.saved.table ∙ ap (with_touched (λ id. false)) c.in-Ok-new_pager.ensures.table.is
+
+pub returns-clause-tree : goal.returns-clause-tree
+returns-clause-tree g c = λ told.
+    let known = c.in-Ok.ensures.told told in
+    let first = c.in-Ok-new_pager.pager in
+    let new = c.first_checkpoint.new.pager in
+    let nodes : nodes_of g.D.Device new ≡ nodes_of g.D.Device first = c.in-Ok-first_checkpoint.ensures.saved.keeps.nodes (c.in-Ok-new_pager.ensures.known known) in
+    let table : table_of new ≡ table_of first = c.in-Ok-first_checkpoint.ensures.saved.table ∙ ap (with_touched (λ id. false)) c.in-Ok-new_pager.ensures.table.is ∙ sym c.in-Ok-new_pager.ensures.table.is in
+    subst (λ (t : Table). AreOfTree (nodes_of g.D.Device new) t root_only) (sym table)
+    (subst (λ (n : Nodes). AreOfTree n (table_of first) root_only) (sym nodes) (c.in-Ok-new_pager.ensures.tree known))
+
+pub returns-clause-place : goal.returns-clause-place
+returns-clause-place g c =
+    let new = c.first_checkpoint.new.pager in
+    subst (λ (n : ℕ). IsTableAt n new.at new.saved) (ap length c.in-Ok-new_pager.ensures.new.spare ∙ length-replicate c.args.slots true) c.in-Ok-first_checkpoint.ensures.saved.place
 
 pub returns-clause-spare : goal.returns-clause-spare
 returns-clause-spare g c =
