@@ -1,10 +1,12 @@
 -- What an engine is seen as.
-use Rattle.std.specs.Prelude.{◌≡◌, ℕ, length, Option, None, Result}
+use Rattle.std.specs.Prelude.{◌≡◌, ◌⊎◌, ℕ, false, length, Option, None, Some, Result}
 use Rattle.std.specs.List.{concat}
 use Rattle.bd_message.specs.KeyMaps.{At, HasMapCause}
 use Rattle.bd_message.specs.declared.fault.Counter.{Counter}
 use Rattle.bd_message.specs.declared.fault.MapFault.{MapFault}
 use Rattle.bd_slots.specs.Layout.{image_blocks}
+use Rattle.bd_io.specs.Cause.{next_count}
+use Rattle.bd_device.specs.Device.{left_now}
 use Rattle.bd_device.specs.declared.device.Device.{Ghosts}
 use Rattle.bd_node.specs.Tables.{IsSound, root_at}
 use Rattle.bd_table.specs.Tables.{IsTableAt}
@@ -15,7 +17,7 @@ use Rattle.bd_graft.specs.declared.grafting.Walk.{Walk}
 use Rattle.bd_pager.specs.Keeping.{KeepsSaved}
 use Rattle.bd_pager.specs.Pagers.{Paged, nodes_of, table_of, is_known, is_bad, IsReadOf}
 use Rattle.bd_step.specs.Steps.{IsWornToFlush}
-use Rattle.bd_checkpoint.specs.Kept.{IsOpenOn}
+use Rattle.bd_checkpoint.specs.Kept.{IsOpenOn, AllAsBefore}
 use Rattle.bd_checkpoint.specs.Recovering.{saved_of}
 use Rattle.bd_view.specs.Moves.{OnlyNodes}
 use Rattle.bd_view.specs.Views.{View}
@@ -77,13 +79,30 @@ pub record OnlyNodesOn {D : Type 0} (g : Ghosts D) (old new : EngineState D) : T
   pub view : is_known g old.pager → OnlyNodes (view_of g old) (view_of g new)
   pub rest : new ≡ record old { pager = new.pager; walk = new.walk }
 
+-- no write or barrier failed: it goes on, and an image that a crash now leaves stands for what one
+-- of before stood for
+pub record IsGoingOn {D : Type 0} (g : Ghosts D) (old new : EngineState D) : Type 0 where
+  pub stop_is : new.stop ≡ None
+  pub write_faults : g.write_fault_count new.pager.dev ≡ g.write_fault_count old.pager.dev
+  pub kept : AllAsBefore (left_now g old.pager.dev) (left_now g new.pager.dev)
+
+-- a write or a barrier failed, by the device's last call, which stopped it
+pub record IsStopped {D : Type 0} (g : Ghosts D) (old new : EngineState D) : Type 0 where
+  pub stop_is : new.stop ≡ Some (g.call_count new.pager.dev)
+  pub write_faults :
+      g.write_fault_count new.pager.dev ≡ next_count (g.write_fault_count old.pager.dev)
+
+abbrev pub IsStoppedOrGoesOn : {D : Type 0} → Ghosts D → EngineState D → EngineState D → Type 0
+IsStoppedOrGoesOn g old new = IsStopped g old new ⊎ IsGoingOn g old new
+
 -- ---- between two calls
 
--- the device has the blocks of an image of the superblock's slots, in which the last checkpoint's
--- table stands; and what is known of its images, until it is stopped
+-- the device, which isn't lent, has the blocks of an image of the superblock's slots, in which the
+-- last checkpoint's table stands; and what is known of its images, until it is stopped
 pub record IsStanding {D : Type 0} (g : Ghosts D) (e : EngineState D) : Type 0 where
   pub fits : IsSuper e.live
   pub size : g.block_count e.pager.dev ≡ image_blocks e.live.slots
   pub slots : length e.pager.spare ≡ e.live.slots
   pub table : IsTableAt e.live.slots e.pager.at e.pager.saved
+  pub unlent : e.pager.is_lent ≡ false
   pub going : e.stop ≡ None → IsOpenOn g e.pager.dev e.live (saved_of e.pager) e.log

@@ -7,6 +7,10 @@ ghost use Rattle.bd_view.specs.Views.{height, free_slots, save_slots, step_slots
 ghost use Rattle.bd_engine.specs.Engines.{view_of};
 
 mod changing;
+mod saving;
+mod starting;
+
+pub use starting::Opened;
 
 use bd_command::Command;
 use bd_device::Device;
@@ -117,6 +121,27 @@ impl<D: Device> Engine<D> {
         ensures { result ≡ (view_of D.Device self.now).tree.walk }
     {
         self.tree.last_walk()
+    }
+
+    /// How many slots the image has.
+    pub fn slots(&self) -> u32
+        ensures { result ≡ (view_of D.Device self.now).slots }
+    {
+        self.live.slots
+    }
+
+    /// How many calls of the device there were, also those that failed.
+    pub fn calls(&self) -> u64
+        ensures { result ≡ D.call_count self.now.pager.dev }
+    {
+        self.tree.store().calls()
+    }
+
+    /// The device, in place of the engine.
+    pub fn into_device(self) -> D
+        ensures { result ≡ self.pager.dev }
+    {
+        self.tree.into_store().into_device()
     }
 
     /// The number of the device's call at which it was stopped, where it was.

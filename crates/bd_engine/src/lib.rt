@@ -5,4 +5,4 @@
 
 mod engine;
 
-pub use engine::Engine;
+pub use engine::{Engine, Opened};

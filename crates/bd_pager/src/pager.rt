@@ -5,7 +5,7 @@ ghost use Rattle.std.specs.Borrow.{sem};
 ghost use Rattle.bd_message.specs.KeyMaps.{HasMapCause, NeverWorn};
 ghost use Rattle.bd_slots.specs.Layout.{IsTablePlace, image_blocks};
 ghost use Rattle.bd_device.specs.Calls.{faults_after};
-ghost use Rattle.bd_device.specs.Device.{OnlyReads, FailsLast, IsImageCause};
+ghost use Rattle.bd_device.specs.Device.{left_now, OnlyReads, FailsLast, IsImageCause};
 ghost use Rattle.bd_device.specs.declared.fault.ImageFault.TheVariants.{NoMemory};
 ghost use Rattle.bd_node.specs.New.{new_nodes, new_table};
 ghost use Rattle.bd_node.specs.Nodes.{buffer_size};
@@ -326,6 +326,15 @@ impl<D: Device> Pager<D> {
         ensures { result ≡ D.call_count self.now.dev }
     {
         self.reader.dev.calls()
+    }
+
+    /// How many blocks the device has. A crash may leave what reads give.
+    pub fn blocks(&self) -> u64
+        ensures count { result ≡ D.block_count self.now.dev }
+        ensures may_stay { 0 < D.block_count self.now.dev
+            → IfSome (D.contents self.now.dev) (left_now D.Device self.now.dev) }
+    {
+        self.reader.dev.blocks()
     }
 
     /// How many nodes were made or changed since the last checkpoint.

@@ -1,6 +1,7 @@
 //! The tree.
 
 ghost use Rattle.std.specs.Prelude.{◌≡◌, ◌≢◌, ◌↔◌, ℕ, ◌+◌, ◌-◌, ◌*◌, ◌^◌, ◌<◌, ◌≤◌, List, IfOk, IfErr, IfSome, MatchOption, OnOk, true, false, OnErr, Ok, Some};
+ghost use Rattle.std.specs.Borrow.{sem};
 ghost use Rattle.std.specs.Option.{option_map};
 ghost use Rattle.bd_limits.specs.Limits.{buffer_limit};
 ghost use Rattle.bd_message.specs.KeyMaps.{HasMapCause, NeverWorn, IsApplied, IsNext, CanGraft, IsGrafted};
@@ -16,6 +17,7 @@ ghost use Rattle.bd_path.specs.Made.{AreKnown};
 ghost use Rattle.bd_reclaim.specs.Walking.{IsFirst, HasNone, IsToDo, IsToDoAt, walk_size};
 ghost use Rattle.bd_reclaim.specs.Reclaimed.{IsReclaimed, IsReclaimMade, IsRootAfter, IsNextAfter, LeavesLess, reclaim_visits, IsWornChange};
 ghost use Rattle.bd_step.specs.Steps.{IsFlushStep, IsFound, step_visits, IsWornToFlush};
+ghost use Rattle.bd_tree.specs.Lending.{lends_store};
 
 use bd_graft::{Walk, graft};
 use bd_limits::MAX_BUFFER;
@@ -72,6 +74,14 @@ impl<S: NodeStore> Tree<S> {
         ensures { result.now ≡ self.now.store }
     {
         &self.store
+    }
+
+    /// The store, which is lent and may be changed.
+    pub fn store_mut(&mut self) -> &mut S
+        ensures* lends { sem 𝓛 (lends_store S.row S.NodeStore self.entry result) }
+        ensures value { result.now ≡ self.old.store }
+    {
+        &mut self.store
     }
 
     /// What stands at a key, of any length. At most as many nodes are visited as the tree is high.
