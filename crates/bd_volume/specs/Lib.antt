@@ -1,3 +1,3 @@
-pub mod Views
+pub mod Faults
 pub mod Volume
-pub mod Over
+pub mod Wears

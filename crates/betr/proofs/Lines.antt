@@ -15,11 +15,11 @@ use Rattle.bd_script.specs.declared.line.Line.{Line}
 use Rattle.bd_script.specs.declared.line.Line.TheVariants.{Run, Walk, Stop}
 use Rattle.bd_script.specs.declared.replies.LineReply.TheVariants as reply
 use Rattle.bd_view.specs.Trees.{TreeView, HasFlushed}
-use Rattle.bd_volume.specs.Views.{IsMoved, Wears}
-use Rattle.bd_volume.specs.Volume.{StandsFor, view_of, count_of}
-use Rattle.bd_volume.specs.declared.Volume.{Volume}
-use Rattle.bd_volume.specs.declared.Fault.{Fault as VolumeFault}
-use Rattle.bd_volume.specs.declared.Fault.TheVariants as volume
+use Rattle.bd_memvolume.specs.Views.{IsMoved, Wears}
+use Rattle.bd_memvolume.specs.Volume.{StandsFor, view_of, count_of}
+use Rattle.bd_memvolume.specs.declared.Volume.{Volume}
+use Rattle.bd_memvolume.specs.declared.Fault.{Fault as VolumeFault}
+use Rattle.bd_memvolume.specs.declared.Fault.TheVariants as volume
 use Rattle.betr.specs.declared.fault.Fault.{Fault}
 use Rattle.betr.specs.declared.fault.Fault.TheVariants.{Device, Source, Memory, TooLong, Worn, Sink}
 use Rattle.betr.specs.Fault.{Caused, of_sink}

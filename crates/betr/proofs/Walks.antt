@@ -13,7 +13,7 @@ use Rattle.bd_script.specs.Lines.{LineMeaning}
 use Rattle.bd_script.specs.declared.line.Line.TheVariants.{Run, Walk, Stop}
 use Rattle.bd_script.specs.declared.replies.LineReply.{LineReply}
 use Rattle.bd_view.specs.Trees.{TreeView, AreFlushes, HasAppended}
-use Rattle.bd_volume.specs.Views.{IsMoved}
+use Rattle.bd_memvolume.specs.Views.{IsMoved}
 use Rattle.bd_view.specs.Trees.AreFlushes.{none, more}
 use Rattle.betr.specs.Transcript.{State, Entry, Follows, Moves, IsTranscript, grafts, IsCheap, AreCheap}
 

@@ -16,7 +16,7 @@ use Rattle.bd_script.specs.Lines.{LineMeaning, is_stop}
 use Rattle.bd_script.specs.Replies.{line_reply_line}
 use Rattle.bd_script.specs.declared.line.Line.TheVariants.{Run}
 use Rattle.bd_view.specs.Trees.{TreeView, HasFlushed}
-use Rattle.bd_volume.specs.Views.{Wears}
+use Rattle.bd_memvolume.specs.Views.{Wears}
 use Rattle.betr.specs.declared.fault.Fault.{Fault}
 use Rattle.betr.specs.declared.fault.Fault.TheVariants.{Device, Source, Memory, TooLong, Worn, Sink}
 use Rattle.betr.specs.Taken.{Took}

@@ -11,10 +11,10 @@ use Rattle.bd_script.specs.Lines.{LineMeaning, HasNoNewline, line_of, held, open
 use Rattle.bd_script.specs.Replies.{line_reply_line}
 use Rattle.bd_script.specs.declared.replies.LineReply.{LineReply}
 use Rattle.bd_script.specs.declared.replies.LineReply.TheVariants as reply
-use Rattle.bd_volume.specs.declared.Fault.{Fault as VolumeFault}
-use Rattle.bd_volume.specs.declared.Fault.TheVariants as volume
-use Rattle.bd_volume.specs.declared.Volume.{Volume}
-use Rattle.bd_volume.specs.Volume.{StandsFor, view_of, device_of}
+use Rattle.bd_memvolume.specs.declared.Fault.{Fault as VolumeFault}
+use Rattle.bd_memvolume.specs.declared.Fault.TheVariants as volume
+use Rattle.bd_memvolume.specs.declared.Volume.{Volume}
+use Rattle.bd_memvolume.specs.Volume.{StandsFor, view_of, device_of}
 use Rattle.betr.specs.declared.fault.Fault.{Fault}
 use Rattle.betr.specs.declared.fault.Fault.TheVariants.{Device, Source, Memory, TooLong, Worn, Sink}
 use Rattle.betr.specs.declared.shell.Shell.{Shell}

@@ -18,7 +18,7 @@ use Rattle.bd_script.specs.declared.line.Line.TheVariants.{Run, Walk, Stop}
 use Rattle.bd_script.specs.declared.replies.LineReply.{LineReply}
 use Rattle.bd_script.specs.declared.replies.LineReply.TheVariants as reply
 use Rattle.bd_view.specs.Trees.{TreeView, fresh_tree}
-use Rattle.bd_volume.specs.Views.{IsMoved}
+use Rattle.bd_memvolume.specs.Views.{IsMoved}
 
 -- bytes, where they are known
 abbrev pub Known : Type 0

@@ -14,7 +14,7 @@ use crate::words::{Call, read_words};
 use bd_device::Attach;
 use bd_io::{Sink, Source, put_all};
 use bd_keys::Items;
-use bd_volume::Refused;
+use bd_memvolume::Refused;
 use std::alloc::Global;
 
 /// The status where the words are refused.

@@ -6,7 +6,7 @@ ghost use Rattle.bd_io.specs.Written.{WrotePart};
 ghost use Rattle.bd_message.specs.declared.fault.Counter.{Counter};
 ghost use Rattle.bd_script.specs.Lines.{line_of, open_line, held, held_limit, is_empty, is_stop, up_to_stop, IsLine, HasNoNewline};
 ghost use Rattle.bd_script.specs.Replies.{line_reply_line, IsLineReply};
-ghost use Rattle.bd_volume.specs.Volume.{device_of};
+ghost use Rattle.bd_memvolume.specs.Volume.{device_of};
 ghost use Rattle.betr.specs.Fault.{IsCaused, of_sink};
 ghost use Rattle.betr.specs.Transcript.{State, first_state, meanings};
 ghost use Rattle.betr.specs.Session.{Executes};
@@ -18,7 +18,7 @@ use bd_device::Device;
 use bd_io::{Failed, Sink, put_all};
 use bd_limits::MAX_LINE;
 use bd_script::{Line, LineFault, LineReply, REPLY_SIZE, line_reply, read_line};
-use bd_volume::{Fault as VolumeFault, Refused, Volume};
+use bd_memvolume::{Fault as VolumeFault, Refused, Volume};
 use std::alloc::{AllocError, Global};
 use std::ops::ControlFlow;
 

@@ -8,7 +8,7 @@ use bd_device::{Device, MemDevice};
 use bd_limits::MAX_WRITE;
 use bd_plain::PlainTree;
 use bd_script::{Line, read_line};
-use bd_volume::{Refused, Volume};
+use bd_memvolume::{Refused, Volume};
 use rows_tools::{Numbers, plain_answer, text_of};
 use std::alloc::{AllocError, Global};
 use std::test::Fail;

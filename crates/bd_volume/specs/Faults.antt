@@ -1,0 +1,66 @@
+-- The faults of a volume and their causes.
+use Rattle.std.specs.Prelude.{◌≡◌, ◌≤◌, ◌<◌, ◌⊎◌, ℕ, None, Some, Result, OnOk, IfErr, IfOk, OnErr}
+use Rattle.bd_io.specs.Cause.{Rose, next_count}
+use Rattle.bd_device.specs.declared.device.Device.{Ghosts}
+use Rattle.bd_device.specs.declared.fault.ImageFault.{ImageFault}
+use Rattle.bd_device.specs.declared.fault.ImageFault.TheVariants as image
+use Rattle.bd_message.specs.declared.fault.MapFault.{MapFault}
+use Rattle.bd_message.specs.declared.fault.MapFault.TheVariants as map
+use Rattle.bd_pager.specs.Pagers.{is_bad}
+use Rattle.bd_volume.specs.declared.fault.Fault.{Fault}
+use Rattle.bd_volume.specs.declared.fault.Fault.TheVariants.{Device, Damaged, Worn, NoMemory, Full, Stopped}
+use Rattle.bd_volume.specs.declared.volume.Volume.{Volume}
+use Rattle.bd_volume.specs.Volume.{device_of, stop_of}
+
+-- a map's fault as the volume's
+abbrev pub fault_of : MapFault → Fault
+fault_of map.DeviceFault = Device
+fault_of (map.Damaged block) = Damaged block
+fault_of (map.Worn counter) = Worn counter
+fault_of map.NoMemory = NoMemory
+
+-- an image's fault as the volume's
+abbrev pub image_fault_of : ImageFault → Fault
+image_fault_of image.DeviceFault = Device
+image_fault_of (image.Damaged block) = Damaged block
+image_fault_of image.NoMemory = NoMemory
+
+-- the device has failed as often as before
+abbrev pub HasNotFailed : {D : Type 0} → Ghosts D → Volume D → Volume D → Type 0
+HasNotFailed g old new = g.fault_count (device_of new) ≡ g.fault_count (device_of old)
+
+-- the device has failed; damage is of a bad block, and a volume that was stopped does nothing; at
+-- every fault but its own the device hasn't failed
+abbrev pub IsFaultCause : {D : Type 0} → Ghosts D → Volume D → Volume D → Fault → Type 0
+IsFaultCause g old new Device =
+    Rose (g.fault_count (device_of old)) (g.fault_count (device_of new))
+IsFaultCause g old new (Damaged block) = is_bad g new.engine.pager block × HasNotFailed g old new
+IsFaultCause g old new (Worn which) = HasNotFailed g old new
+IsFaultCause g old new NoMemory = HasNotFailed g old new
+IsFaultCause g old new (Full free need) = (free < need) × HasNotFailed g old new
+IsFaultCause g old new (Stopped call) = (stop_of old ≡ Some call) × (new ≡ old)
+
+-- of the device's calls none failed at Ok, and at an error each fault has its cause
+pub record HasFaultCause {D T : Type 0} (g : Ghosts D) (old new : Volume D) (result : Result T Fault)
+    : Type 0 where
+  pub later : g.fault_count (device_of old) ≤ g.fault_count (device_of new)
+  pub kept : OnOk result (HasNotFailed g old new)
+  pub failed : IfErr result (IsFaultCause g old new)
+
+-- no write or barrier failed, and it isn't stopped
+pub record IsGoing {D : Type 0} (g : Ghosts D) (old new : Volume D) : Type 0 where
+  pub stop_is : stop_of new ≡ None
+  pub write_faults :
+      g.write_fault_count (device_of new) ≡ g.write_fault_count (device_of old)
+
+-- a write or a barrier failed, by the device's last call, which stopped it
+pub record IsHalted {D : Type 0} (g : Ghosts D) (old new : Volume D) : Type 0 where
+  pub stop_is : stop_of new ≡ Some (g.call_count (device_of new))
+  pub write_faults :
+      g.write_fault_count (device_of new) ≡ next_count (g.write_fault_count (device_of old))
+
+-- a volume that wasn't stopped goes on after Ok, and after a fault unless a write or a barrier failed
+pub record IsStoppedRightly {D T : Type 0} (g : Ghosts D) (old new : Volume D)
+    (result : Result T Fault) : Type 0 where
+  pub ok : OnOk result (IsGoing g old new)
+  pub err : IfErr result (λ fault. IsGoing g old new ⊎ (IsHalted g old new × (fault ≡ Device)))

@@ -1,0 +1,82 @@
+-- Which counter has no room, where a command can't go on.
+use Rattle.std.specs.Prelude.{◌≡◌, ℕ, ◌+◌, ◌^◌, ◌<◌, ◌≤◌, ◌⊎◌, Bool, List, IsTrue}
+use Rattle.bd_limits.specs.Limits.{flush_limit}
+use Rattle.bd_command.specs.Command.{writes}
+use Rattle.bd_command.specs.declared.Command.{Command}
+use Rattle.bd_message.specs.declared.fault.Counter.{Counter}
+use Rattle.bd_message.specs.declared.fault.Counter.TheVariants.{Count, NextId, Level, Refs, Epoch, Flushes}
+use Rattle.bd_device.specs.declared.device.Device.{Ghosts}
+use Rattle.bd_dirs.specs.Kinds.{Kind, Reads, Sends, SendsLate, Grafts, kind_of}
+use Rattle.bd_node.specs.Tables.{IsSound}
+use Rattle.bd_graft.specs.Grafting.{IsWornByGraft, IsWornForGraft}
+use Rattle.bd_step.specs.Steps.{IsWornToFlush}
+use Rattle.bd_pager.specs.Pagers.{Paged, table_of}
+use Rattle.bd_view.specs.Trees.{TreeView, waiting_limit}
+use Rattle.bd_view.specs.Views.{View}
+use Rattle.bd_view.specs.Moves.{CallsForSave, HasStepped}
+use Rattle.bd_engine.specs.Engines.{EngineState, IsWornIn}
+
+-- the counter has no room for the flush step that is found, or 65,536 were made
+abbrev pub IsWornAfter : Counter → ℕ → TreeView → Type 0
+IsWornAfter Count made v = ⊥
+IsWornAfter NextId made v = IsWornToFlush (IsSound v.nodes v.table) v.nodes v.table NextId
+IsWornAfter Level made v = IsWornToFlush (IsSound v.nodes v.table) v.nodes v.table Level
+IsWornAfter Refs made v = IsWornToFlush (IsSound v.nodes v.table) v.nodes v.table Refs
+IsWornAfter Epoch made v = ⊥
+IsWornAfter Flushes made v = made ≡ flush_limit
+
+-- a command made so many flush steps and needs one more, for which the counter has no room
+pub record IsWornForStep (which : Counter) (c : Command) (made : ℕ) (v : TreeView) : Type 0 where
+  pub waits : waiting_limit c < v.table.size
+  pub worn : IsWornAfter which made v
+
+-- no more bytes wait than the command's limit, and the counter has no room for all that this graft
+-- adds
+pub record IsWornForMove (which : Counter) (s d : List ℕ) (keep : Bool) (c : Command) (v : TreeView)
+    : Type 0 where
+  pub enough : v.table.size ≤ waiting_limit c
+  pub worn : IsWornByGraft v.nodes v.table s d keep which
+
+-- the counter has no room for the sending of a command: it is a graft
+abbrev pub IsWornByKind : Kind → Counter → Command → TreeView → Type 0
+IsWornByKind Reads which c v = ⊥
+IsWornByKind Sends which c v = ⊥
+IsWornByKind SendsLate which c v = ⊥
+IsWornByKind (Grafts s d keep) which c v = IsWornForMove which s d keep c v
+
+abbrev pub IsWornForSending : Counter → Command → TreeView → Type 0
+IsWornForSending which c v = IsWornByKind (kind_of c) which c v
+
+-- the epoch has no room for a checkpoint that the command calls for
+pub record IsWornForSave (c : Command) (v : View) : Type 0 where
+  pub calls_for : CallsForSave c v
+  pub worn : 2 ^ 64 ≤ v.epoch + 1
+
+-- which counter has no room, where so many commands were accepted and this one has made so many
+-- flush steps, from a view to another one
+abbrev pub IsWornNow : Counter → ℕ → Command → ℕ → View → View → Type 0
+IsWornNow Count count c made old new = (2 ^ 64 ≤ count + 1) × (new ≡ old)
+IsWornNow NextId count c made old new =
+    IsWornForStep NextId c made new.tree ⊎ IsWornForSending NextId c new.tree
+IsWornNow Level count c made old new =
+    IsWornForStep Level c made new.tree ⊎ IsWornForSending Level c new.tree
+IsWornNow Refs count c made old new =
+    IsWornForStep Refs c made new.tree ⊎ IsWornForSending Refs c new.tree
+IsWornNow Epoch count c made old new = IsWornForSave c new
+IsWornNow Flushes count c made old new = IsWornForStep Flushes c made new.tree
+
+-- a writing command, after so many accepted ones, made flush steps and checkpoints from the first
+-- view to the second, and a counter has no room there
+pub record Wears (which : Counter) (count : ℕ) (c : Command) (old new : View) : Type 0 where
+  pub counts : IsTrue (writes c)
+  pub stepped : HasStepped c old new
+  pub worn : IsWornNow which count c stepped.made old new
+
+-- the same as far as it is told of nodes that may not be known
+abbrev pub ShowsWorn : {D : Type 0} → Ghosts D → Counter → ℕ → Command → EngineState D → Type 0
+ShowsWorn g Count count c e = 2 ^ 64 ≤ count + 1
+ShowsWorn g NextId count c e = IsWornIn g e.pager NextId ⊎ IsWornForGraft (table_of e.pager) NextId
+ShowsWorn g Level count c e = IsWornIn g e.pager Level ⊎ IsWornForGraft (table_of e.pager) Level
+ShowsWorn g Refs count c e = IsWornIn g e.pager Refs ⊎ IsWornForGraft (table_of e.pager) Refs
+ShowsWorn g Epoch count c e = 2 ^ 64 ≤ e.live.epoch + 1
+ShowsWorn g Flushes count c e = waiting_limit c < (table_of e.pager).size

@@ -1,0 +1,276 @@
+//! The volume.
+
+ghost use Rattle.std.specs.Prelude.{◌≡◌, ◌≢◌, ◌+◌, ◌^◌, ◌≤◌, ◌<◌, ℕ, None, Some, IfOk, IfErr, IfSome, IsSome, IsNone, IsSomeAnd, OnOk, OnErr, Err};
+ghost use Rattle.bd_command.specs.Command.{writes, accepted, IsCommand, IsReply};
+ghost use Rattle.bd_model.specs.Tree.{Tree, root_only};
+ghost use Rattle.bd_model.specs.Step.{step, refusal_of};
+ghost use Rattle.bd_message.specs.declared.fault.Counter.{Counter};
+ghost use Rattle.bd_slots.specs.Layout.{IsSlotCount, image_blocks};
+ghost use Rattle.bd_device.specs.Device.{left_now, OnlyReads, Stays, IsImageCause};
+ghost use Rattle.bd_device.specs.Moments.{IsOnly};
+ghost use Rattle.bd_image.specs.ImageTree.{ImageStandsFor};
+ghost use Rattle.bd_checkpoint.specs.Kept.{AllStandFor};
+ghost use Rattle.bd_checkpoint.specs.Recovering.{OnlySettles, IsBadIn};
+ghost use Rattle.bd_view.specs.Views.{fresh_view, free_slots, save_slots, need_slots};
+ghost use Rattle.bd_view.specs.Moves.{HasStepped, IsExecuted, Saves, IsCommandFull, IsCheckpointFull, CannotSave};
+ghost use Rattle.bd_engine.specs.Stored.{IsStoredView, HasSaved};
+ghost use Rattle.bd_volume.specs.Faults.{image_fault_of, HasFaultCause, IsStoppedRightly};
+ghost use Rattle.bd_volume.specs.Volume.{StandsFor, view_of, count_of, device_of, stop_of, HasClosedLog};
+ghost use Rattle.bd_volume.specs.Wears.{Wears, ShowsWorn};
+
+use crate::fault::{Fault, Refused};
+use bd_command::{Command, Reply};
+use bd_device::Device;
+use bd_engine::Engine;
+use bd_graft::Walk;
+use std::alloc::Global;
+
+/// A tree of directories and files, kept in the nodes of an image on a device, with the number of
+/// commands that it has accepted.
+#[derive(Drop)]
+pub struct Volume<D: Device> {
+    engine: Engine<D>,
+    count: u64,
+}
+
+impl<D: Device> Volume<D> {
+    /// Starts from the image of a device: makes one barrier, after which a crash leaves what reads
+    /// give, and reads what the image starts from. It goes on from the last checkpoint; from an
+    /// image that stands for a tree and has no open batch it starts unless the device fails or there
+    /// is no memory, and stands for that tree. Where it fails, it returns the device. `Device` comes
+    /// only where a call of the device failed, and `Damaged` names a bad block of the image.
+    pub fn start(alloc: Global, device: D) -> Result<Volume<D>, Refused<D>>
+        ensures stands { IfOk result (λ v. (t : Tree) (n : ℕ)
+            → IsSomeAnd (D.contents device) (λ image. ImageStandsFor t n image × HasClosedLog image)
+            → StandsFor D.Device v t n) }
+        ensures first { IfOk result (λ v. (t : Tree) (n : ℕ) → IfSome (D.contents device)
+            (λ image. ImageStandsFor t n image → IsStoredView image (view_of D.Device v))) }
+        ensures going { IfOk result (λ v. stop_of v ≡ None) }
+        ensures only { IfOk result (λ v. IsOnly (D.contents (device_of v))
+            (left_now D.Device (device_of v))) }
+        ensures reads { IfOk result (λ v. OnlyReads D.Device device (device_of v)) }
+        ensures faults { IfOk result (λ v. D.fault_count (device_of v) ≡ D.fault_count device) }
+
+        // The fault, and the device that is returned.
+        ensures cause { IfErr result (λ refused. (fault : _)
+            → refused.fault ≡ image_fault_of fault
+            → IsImageCause D.Device device refused.device (IsBadIn (D.contents device)) fault) }
+        ensures kind { IfErr result (λ refused. (fault : _) × (refused.fault ≡ image_fault_of fault)) }
+        ensures undamaged { (t : Tree) (n : ℕ) → IsSomeAnd (D.contents device) (ImageStandsFor t n)
+            → IfErr result (λ refused. (block : ℕ) → refused.fault ≢ Fault.Damaged block) }
+        ensures left { IfErr result (λ refused. OnlySettles D.Device device refused.device) }
+    {
+        let _ = alloc;
+        Err(Refused {
+            fault: Fault::NoMemory,
+            device,
+        })
+    }
+
+    /// Makes an image of so many slots on a device, whatever it has, of the tree of `/` alone and of
+    /// no commands, and starts from it. Where it fails, it returns the device, which may have no
+    /// image any more: `Device` comes only where a call of the device failed, else it is `NoMemory`.
+    pub fn format(alloc: Global, device: D, slots: u32) -> Result<Volume<D>, Refused<D>>
+        requires slots { IsSlotCount slots }
+        requires size { D.block_count device ≡ image_blocks slots }
+        ensures stands { IsSome (D.contents device)
+            → IfOk result (λ v. StandsFor D.Device v root_only 0) }
+        ensures view { IsSome (D.contents device)
+            → IfOk result (λ v. view_of D.Device v ≡ fresh_view slots) }
+        ensures count { IfOk result (λ v. count_of v ≡ 0) }
+        ensures kept { IsSome (D.contents device) → IfOk result
+            (λ v. AllStandFor root_only 0 (left_now D.Device (device_of v))) }
+        ensures going { IfOk result (λ v. stop_of v ≡ None) }
+        ensures only { IfOk result (λ v. IsOnly (D.contents (device_of v))
+            (left_now D.Device (device_of v))) }
+        ensures stays { IfOk result (λ v. Stays D.Device device (device_of v)) }
+        ensures faults { IfOk result (λ v. D.fault_count (device_of v) ≡ D.fault_count device) }
+
+        // The fault, and the device that is returned.
+        ensures cause { IfErr result (λ refused. (fault : _)
+            → refused.fault ≡ image_fault_of fault
+            → IsImageCause D.Device device refused.device (λ _. ⊥) fault) }
+        ensures kind { IfErr result (λ refused. (fault : _) × (refused.fault ≡ image_fault_of fault)) }
+        ensures left { IfErr result (λ refused. Stays D.Device device refused.device) }
+    {
+        let _ = (alloc, slots);
+        Err(Refused {
+            fault: Fault::NoMemory,
+            device,
+        })
+    }
+
+    /// Executes a command whose fields are within their limits. A writing command that is accepted
+    /// first makes flush steps, one after the other, while more than 16,384 bytes of messages wait
+    /// in the root (for a `remove` or `truncate` more than 24,576), and a checkpoint where too few
+    /// slots are free for its next step, or where the log has no room for its record. Then its
+    /// messages go into the root, or its graft is made.
+    ///
+    /// `Full` comes only for such a command, where fewer slots are free than it needs and no
+    /// checkpoint helps, with both numbers. So does `Worn`: of `Count` where the count of accepted
+    /// commands stands at its last value, and then no step is made; of `Flushes` where more than
+    /// 65,536 steps would be needed; of `Epoch` where a checkpoint has no room; of `NextId`, `Level`
+    /// and `Refs` where a step or the graft has none. A fault leaves what the volume stands for;
+    /// flush steps and checkpoints that were made stay. A failed write or barrier stops the volume,
+    /// and each later call is `Stopped`.
+    pub fn do_command(&mut self, command: &Command) -> Result<Reply, Fault>
+        requires { IsCommand command.now }
+        ensures step { IfOk result (λ reply. (t : Tree) (n : ℕ) → StandsFor D.Device self.old t n
+            → StandsFor D.Device self.new (step t command.now).0 (n + accepted command.now reply)) }
+        ensures replies { IfOk result (λ reply. (t : Tree) (n : ℕ)
+            → StandsFor D.Device self.old t n → reply ≡ (step t command.now).1) }
+        ensures stays { OnErr result ((t : Tree) (n : ℕ) → StandsFor D.Device self.old t n
+            → StandsFor D.Device self.new t n) }
+
+        // An accepted writing command moves the view by its steps and by just what it sends; a fault
+        // leaves steps alone, and none for a command that is refused.
+        ensures moved { IfOk result (λ reply. accepted command.now reply ≡ 1
+            → (t : Tree) (n : ℕ) → StandsFor D.Device self.old t n
+            → IsExecuted t command.now (view_of D.Device self.old) (view_of D.Device self.new)) }
+        ensures unmoved { IfOk result (λ reply. accepted command.now reply ≡ 0
+            → view_of D.Device self.new ≡ view_of D.Device self.old) }
+        ensures begun { OnErr result ((t : Tree) (n : ℕ) → StandsFor D.Device self.old t n
+            → HasStepped command.now (view_of D.Device self.old) (view_of D.Device self.new)) }
+        ensures refused { OnErr result ((t : Tree) (n : ℕ) → StandsFor D.Device self.old t n
+            → IsSome (refusal_of t command.now)
+            → view_of D.Device self.new ≡ view_of D.Device self.old) }
+
+        // Slots or a counter have no room only for a command that would be accepted.
+        ensures full { (free need : ℕ) → result ≡ Err (Fault.Full free need)
+            → (t : Tree) (n : ℕ) → StandsFor D.Device self.old t n
+            → IsCommandFull command.now (view_of D.Device self.old) (view_of D.Device self.new)
+            free need × IsNone (refusal_of t command.now) }
+        ensures wears { (which : Counter) → result ≡ Err (Fault.Worn which)
+            → (t : Tree) (n : ℕ) → StandsFor D.Device self.old t n
+            → Wears which n command.now (view_of D.Device self.old) (view_of D.Device self.new)
+            × IsNone (refusal_of t command.now) }
+        ensures undamaged { (block : ℕ) → result ≡ Err (Fault.Damaged block)
+            → (t : Tree) (n : ℕ) → StandsFor D.Device self.old t n → ⊥ }
+
+        // Whatever the volume stands for.
+        ensures numbers { (free need : ℕ) → result ≡ Err (Fault.Full free need)
+            → (free ≡ free_slots (view_of D.Device self.new))
+            × (need ≡ need_slots command.now (view_of D.Device self.new))
+            × CannotSave (view_of D.Device self.new) }
+        ensures shows { (which : Counter) → result ≡ Err (Fault.Worn which)
+            → ShowsWorn D.Device which (count_of self.old) command.now self.new.engine }
+        ensures small { IfOk result IsReply }
+        ensures counts { IfOk result (λ reply.
+            count_of self.new ≡ count_of self.old + accepted command.now reply) }
+        ensures count_stays { OnErr result (count_of self.new ≡ count_of self.old) }
+        ensures cause { HasFaultCause D.Device self.old self.new result }
+        ensures stop { stop_of self.old ≡ None
+            → IsStoppedRightly D.Device self.old self.new result }
+        ensures stopped { (call : ℕ) → stop_of self.old ≡ Some call
+            → (result ≡ Err (Fault.Stopped call)) × (self.new ≡ self.old) }
+        ensures device { Stays D.Device (device_of self.old) (device_of self.new) }
+    {
+        let _ = command;
+        if let Some(call) = self.engine.stop() {
+            return Err(Fault::Stopped { call });
+        }
+        Err(Fault::NoMemory)
+    }
+
+    /// Makes a checkpoint, so that the image stands for the volume's tree and count. `Full` comes
+    /// exactly where fewer slots are free than it needs, `Worn` exactly where there are slots and
+    /// the epoch stands at its last value. A fault leaves the view and what the volume stands for. A
+    /// failed write or barrier stops the volume, and each later call is `Stopped`.
+    pub fn checkpoint(&mut self) -> Result<(), Fault>
+        ensures saves { OnOk result ((t : Tree) (n : ℕ) → StandsFor D.Device self.old t n
+            → Saves (view_of D.Device self.old) (view_of D.Device self.new)) }
+        ensures kept { OnOk result ((t : Tree) (n : ℕ) → StandsFor D.Device self.old t n
+            → AllStandFor t n (left_now D.Device (device_of self.new))) }
+        ensures only { OnOk result (IsOnly (D.contents (device_of self.new))
+            (left_now D.Device (device_of self.new))) }
+        ensures stays { (t : Tree) (n : ℕ) → StandsFor D.Device self.old t n
+            → StandsFor D.Device self.new t n }
+        ensures unmoved { OnErr result ((t : Tree) (n : ℕ) → StandsFor D.Device self.old t n
+            → view_of D.Device self.new ≡ view_of D.Device self.old) }
+
+        // Whatever the volume stands for.
+        ensures full { (free need : ℕ) → result ≡ Err (Fault.Full free need)
+            → IsCheckpointFull (view_of D.Device self.old) free need × (self.new ≡ self.old) }
+        ensures short { stop_of self.old ≡ None
+            → free_slots (view_of D.Device self.old) < save_slots (view_of D.Device self.old)
+            → result ≡ Err (Fault.Full (free_slots (view_of D.Device self.old))
+            (save_slots (view_of D.Device self.old))) }
+        ensures wears { (which : Counter) → result ≡ Err (Fault.Worn which)
+            → (which ≡ Counter.Epoch) × (2 ^ 64 ≤ self.old.engine.live.epoch + 1) }
+        ensures undamaged { (block : ℕ) → result ≢ Err (Fault.Damaged block) }
+        ensures count_stays { count_of self.new ≡ count_of self.old }
+        ensures cause { HasFaultCause D.Device self.old self.new result }
+        ensures stop { stop_of self.old ≡ None
+            → IsStoppedRightly D.Device self.old self.new result }
+        ensures stopped { (call : ℕ) → stop_of self.old ≡ Some call
+            → (result ≡ Err (Fault.Stopped call)) × (self.new ≡ self.old) }
+        ensures device { Stays D.Device (device_of self.old) (device_of self.new) }
+    {
+        if let Some(call) = self.engine.stop() {
+            return Err(Fault::Stopped { call });
+        }
+        let (free, need) = (self.engine.free(), self.engine.save_need());
+        if free < need {
+            return Err(Fault::Full { free, need });
+        }
+        Err(Fault::NoMemory)
+    }
+
+    /// How many slots the last checkpoint doesn't hold.
+    pub fn free(&self) -> u64
+        ensures { result ≡ free_slots (view_of D.Device self.now) }
+    {
+        self.engine.free()
+    }
+
+    /// How many slots have to be free for a command's next step.
+    pub fn need(&self, command: &Command) -> u64
+        ensures { result ≡ need_slots command.now (view_of D.Device self.now) }
+    {
+        self.engine.need(command)
+    }
+
+    /// How many slots the image has.
+    pub fn slots(&self) -> u32
+        ensures { result ≡ (view_of D.Device self.now).slots }
+    {
+        self.engine.slots()
+    }
+
+    /// How the last graft went that gave no fault: no visits and no height, where there was none.
+    pub fn last_walk(&self) -> Walk
+        ensures { result ≡ (view_of D.Device self.now).tree.walk }
+    {
+        self.engine.last_walk()
+    }
+
+    /// How many commands it has accepted.
+    pub fn count(&self) -> u64
+        ensures { result ≡ count_of self.now }
+    {
+        self.count
+    }
+
+    /// How many calls of the device there were, also those that failed.
+    pub fn calls(&self) -> u64
+        ensures { result ≡ D.call_count (device_of self.now) }
+    {
+        self.engine.calls()
+    }
+
+    /// What reads give is an image whose last checkpoint has just the nodes that the view has as
+    /// saved, unless the volume was stopped. It does nothing.
+    pub fn saved_is_shown(&self)
+        ensures { stop_of self.now ≡ None
+            → IfSome (D.contents (device_of self.now)) (HasSaved (view_of D.Device self.now)) }
+    {
+        self.engine.saved_is_shown();
+    }
+
+    /// The volume's device, which the volume gives up.
+    pub fn into_device(self) -> D
+        ensures { result ≡ device_of self }
+    {
+        self.engine.into_device()
+    }
+}
