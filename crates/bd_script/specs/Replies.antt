@@ -11,7 +11,7 @@ use Rattle.bd_command.specs.declared.reply.Listing.{Listing}
 use Rattle.bd_command.specs.declared.reply.Reply.{Reply}
 use Rattle.bd_command.specs.declared.reply.Reply.TheVariants.{Done, Bytes, Dir, File, Names, Refused}
 use Rattle.bd_script.specs.declared.replies.LineReply.{LineReply}
-use Rattle.bd_script.specs.declared.replies.LineReply.TheVariants.{Command, Unread, Walk, Stopped}
+use Rattle.bd_script.specs.declared.replies.LineReply.TheVariants.{Command, Unread, Walk, Done as Made, Free, Full, Stopped}
 
 -- the number and the name of a refusal
 abbrev pub refusal_text : Refusal → List ℕ
@@ -70,11 +70,22 @@ reply_line reply = reply_text reply ++ 10 ∷ []
 abbrev pub walk_text : ℕ → ℕ → List ℕ
 walk_text visits height = codes "ok walk " ++ decimal visits ++ codes " of " ++ decimal height
 
+-- how many slots are free, and how many there are
+abbrev pub free_text : ℕ → ℕ → List ℕ
+free_text free slots = codes "ok free " ++ decimal free ++ codes " of " ++ decimal slots
+
+-- how many slots are free, and how many are needed
+abbrev pub full_text : ℕ → ℕ → List ℕ
+full_text free need = codes "full " ++ decimal free ++ codes " " ++ decimal need
+
 -- the reply to a line
 abbrev pub line_reply_text : LineReply → List ℕ
 line_reply_text (Command reply) = reply_text reply
 line_reply_text (Unread refusal) = no_text refusal
 line_reply_text (Walk visits height) = walk_text visits height
+line_reply_text Made = codes "ok"
+line_reply_text (Free free slots) = free_text free slots
+line_reply_text (Full free need) = full_text free need
 line_reply_text Stopped = codes "ok"
 
 -- a line's reply as it is written, with its newline
@@ -88,4 +99,7 @@ abbrev pub IsLineReply : LineReply → Type 0
 IsLineReply (Command reply) = IsReply reply
 IsLineReply (Unread refusal) = ⊤
 IsLineReply (Walk visits height) = ⊤
+IsLineReply Made = ⊤
+IsLineReply (Free free slots) = ⊤
+IsLineReply (Full free need) = ⊤
 IsLineReply Stopped = ⊤

@@ -16,6 +16,12 @@ pub enum Line {
     Run(Command),
     /// Tells how the last walk went.
     Walk,
+    /// Tells how many slots of the image are free.
+    Df,
+    /// Makes a checkpoint.
+    Checkpoint,
+    /// Reclaims slots of what was removed.
+    Reclaim,
     /// Ends the run.
     Stop,
 }

@@ -77,6 +77,9 @@ fn read_verb(alloc: Global, verb: Verb, words: &[&[u8]]) -> Result<Line, LineFau
         }
         Verb::List => read_list(alloc, words),
         Verb::Walk => alone(Line::Walk, words),
+        Verb::Df => alone(Line::Df, words),
+        Verb::Checkpoint => alone(Line::Checkpoint, words),
+        Verb::Reclaim => alone(Line::Reclaim, words),
         Verb::Stop => alone(Line::Stop, words),
     }
 }

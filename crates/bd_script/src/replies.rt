@@ -5,7 +5,7 @@ ghost use Rattle.std.specs.List.{flat_map};
 ghost use Rattle.hex.specs.Hex.{encode_lower};
 ghost use Rattle.bd_command.specs.Command.{IsReply};
 ghost use Rattle.bd_command.specs.declared.reply.Reply.TheVariants as reply;
-ghost use Rattle.bd_script.specs.Replies.{IsLineReply, reply_text, reply_line, line_reply_text, line_reply_line, no_text, refusal_text, chunk_text, listed_text, listing_text, octal_digit, mode_text, walk_text};
+ghost use Rattle.bd_script.specs.Replies.{IsLineReply, reply_text, reply_line, line_reply_text, line_reply_line, no_text, refusal_text, chunk_text, listed_text, listing_text, octal_digit, mode_text};
 ghost use Rattle.bd_limits.specs.Limits.{listing_limit};
 
 use bd_command::{Listed, Listing, Refusal, Reply};
@@ -24,6 +24,12 @@ pub enum LineReply {
     /// How the last walk went: how many nodes it fetched or made, and how many nodes stood one below
     /// the other before it.
     Walk { visits: u64, height: u32 },
+    /// A checkpoint was made, or slots were reclaimed.
+    Done,
+    /// How many slots of the image are free, and how many it has.
+    Free { free: u64, slots: u32 },
+    /// Too few slots are free for the line: how many are free, and how many it needs.
+    Full { free: u64, need: u64 },
     /// The line ends the run.
     Stopped,
 }
@@ -50,7 +56,14 @@ fn put_line_reply(into: &mut [u8; REPLY_SIZE], reply: &LineReply) -> usize
     match reply {
         LineReply::Command(reply) => put_reply(into, reply),
         LineReply::Unread(refusal) => put_refusal(into, *refusal),
-        LineReply::Walk { visits, height } => put_walk(into, *visits, *height),
+        LineReply::Walk { visits, height } => {
+            put_numbers(into, b"ok walk ", *visits, b" of ", u64::from(*height))
+        }
+        LineReply::Done => put(into, 0, b"ok"),
+        LineReply::Free { free, slots } => {
+            put_numbers(into, b"ok free ", *free, b" of ", u64::from(*slots))
+        }
+        LineReply::Full { free, need } => put_numbers(into, b"full ", *free, b" ", *need),
         LineReply::Stopped => put(into, 0, b"ok"),
     }
 }
@@ -170,16 +183,25 @@ fn put_number(into: &mut [u8; REPLY_SIZE], at: usize, number: u64) -> usize
     put(into, at, buffer.format(number).as_bytes())
 }
 
-/// Writes how a walk went at the front.
-fn put_walk(into: &mut [u8; REPLY_SIZE], visits: u64, height: u32) -> usize
-    ensures text { take result into.new ≡ walk_text visits height }
-    ensures length { result ≡ length (walk_text visits height) }
+/// Writes two numbers at the front, after what stands before them and with what stands between.
+fn put_numbers(
+    into: &mut [u8; REPLY_SIZE],
+    before: &[u8],
+    first: u64,
+    between: &[u8],
+    second: u64,
+) -> usize
+    requires room { length before.now + length between.now ≤ 20 }
+    ensures text { take result into.new
+        ≡ before.now ++ decimal first ++ between.now ++ decimal second }
+    ensures length { result
+        ≡ length (before.now ++ decimal first ++ between.now ++ decimal second) }
     ensures bound { result ≤ 100 }
 {
-    let end = put(into, 0, b"ok walk ");
-    let end = put_number(into, end, visits);
-    let end = put(into, end, b" of ");
-    put_number(into, end, u64::from(height))
+    let end = put(into, 0, before);
+    let end = put_number(into, end, first);
+    let end = put(into, end, between);
+    put_number(into, end, second)
 }
 
 /// Writes a listing at the front.

@@ -18,6 +18,9 @@ pub enum Verb {
     Stat,
     List,
     Walk,
+    Df,
+    Checkpoint,
+    Reclaim,
     Stop,
 }
 
@@ -39,6 +42,9 @@ impl Verb {
             b"stat" => Verb::Stat,
             b"list" => Verb::List,
             b"walk" => Verb::Walk,
+            b"df" => Verb::Df,
+            b"checkpoint" => Verb::Checkpoint,
+            b"reclaim" => Verb::Reclaim,
             b"stop" => Verb::Stop,
             _ => return None,
         })

@@ -22,3 +22,13 @@ pub returns-in-truncate : goal.returns-in-truncate
 returns-in-truncate c =
     let text : c.args.word.now ≡ codes "truncate" = text_from_reads c.args.word.now (codes "truncate") (omega arith) (omega arith, (omega arith, (omega arith, (omega arith, (omega arith, (omega arith, (omega arith, (omega arith, tt)))))))) in
     rw text
+
+pub returns-in-checkpoint : goal.returns-in-checkpoint
+returns-in-checkpoint c =
+    let text : c.args.word.now ≡ codes "checkpoint" = text_from_reads c.args.word.now (codes "checkpoint") (omega arith) (omega arith, (omega arith, (omega arith, (omega arith, (omega arith, (omega arith, (omega arith, (omega arith, (omega arith, (omega arith, tt)))))))))) in
+    rw text
+
+pub returns-in-reclaim : goal.returns-in-reclaim
+returns-in-reclaim c =
+    let text : c.args.word.now ≡ codes "reclaim" = text_from_reads c.args.word.now (codes "reclaim") (omega arith) (omega arith, (omega arith, (omega arith, (omega arith, (omega arith, (omega arith, (omega arith, tt))))))) in
+    rw text
