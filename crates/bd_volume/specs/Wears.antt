@@ -10,10 +10,13 @@ use Rattle.bd_dirs.specs.Kinds.{Kind, Reads, Sends, SendsLate, Grafts, kind_of}
 use Rattle.bd_node.specs.Tables.{IsSound}
 use Rattle.bd_graft.specs.Grafting.{IsWornByGraft, IsWornForGraft}
 use Rattle.bd_step.specs.Steps.{IsWornToFlush}
+use Rattle.bd_reclaim.specs.declared.walking.Reclaim.{Reclaim}
+use Rattle.bd_reclaim.specs.Reclaimed.{IsWornChange}
 use Rattle.bd_pager.specs.Pagers.{Paged, table_of}
 use Rattle.bd_view.specs.Trees.{TreeView, waiting_limit}
 use Rattle.bd_view.specs.Views.{View}
 use Rattle.bd_view.specs.Moves.{CallsForSave, HasStepped}
+use Rattle.bd_view.specs.Reclaiming.{IsNextChange, HasReclaimed}
 use Rattle.bd_engine.specs.Engines.{EngineState, IsWornIn}
 
 -- the counter has no room for the flush step that is found, or 65,536 were made
@@ -80,3 +83,30 @@ ShowsWorn g Level count c e = IsWornIn g e.pager Level ⊎ IsWornForGraft (table
 ShowsWorn g Refs count c e = IsWornIn g e.pager Refs ⊎ IsWornForGraft (table_of e.pager) Refs
 ShowsWorn g Epoch count c e = 2 ^ 64 ≤ e.live.epoch + 1
 ShowsWorn g Flushes count c e = waiting_limit c < (table_of e.pager).size
+
+-- ---- reclaiming
+
+-- reclaiming was begun, and made changes, or nothing was done
+abbrev pub HasBegunReclaiming : View → View → Type 0
+HasBegunReclaiming old new = (new ≡ old) ⊎ ((pushes : ℕ) × HasReclaimed pushes old new)
+
+-- the counter has no room for the change that is next
+pub record IsWornForChange (which : Counter) (v : View) : Type 0 where
+  pub pushes : ℕ
+  pub change : Reclaim
+  pub next : IsNextChange pushes change v
+  pub worn : IsWornChange (IsSound v.tree.nodes v.tree.table) v.tree.nodes v.tree.table change which
+
+-- which counter has no room where reclaiming goes on from a view
+abbrev pub IsWornToReclaim : Counter → View → Type 0
+IsWornToReclaim Count v = ⊥
+IsWornToReclaim NextId v = IsWornForChange NextId v
+IsWornToReclaim Level v = IsWornForChange Level v
+IsWornToReclaim Refs v = IsWornForChange Refs v
+IsWornToReclaim Epoch v = 2 ^ 64 ≤ v.epoch + 1
+IsWornToReclaim Flushes v = ⊥
+
+-- reclaiming went from the first view to the second, and a counter has no room there
+pub record WearsReclaiming (which : Counter) (old new : View) : Type 0 where
+  pub begun : HasBegunReclaiming old new
+  pub worn : IsWornToReclaim which new

@@ -1,6 +1,6 @@
 //! The volume.
 
-ghost use Rattle.std.specs.Prelude.{◌≡◌, ◌≢◌, ◌+◌, ◌^◌, ◌≤◌, ◌<◌, ℕ, None, Some, IfOk, IfErr, IfSome, IsSome, IsNone, IsSomeAnd, OnOk, OnErr, Err};
+ghost use Rattle.std.specs.Prelude.{◌≡◌, ◌≢◌, ◌+◌, ◌^◌, ◌≤◌, ◌<◌, ◌⊎◌, ℕ, None, Some, IfOk, IfErr, IfSome, IsSome, IsNone, IsSomeAnd, OnOk, OnErr, Err};
 ghost use Rattle.bd_command.specs.Command.{writes, accepted, IsCommand, IsReply};
 ghost use Rattle.bd_model.specs.Tree.{Tree, root_only};
 ghost use Rattle.bd_model.specs.Step.{step, refusal_of};
@@ -13,10 +13,11 @@ ghost use Rattle.bd_checkpoint.specs.Kept.{AllStandFor};
 ghost use Rattle.bd_checkpoint.specs.Recovering.{OnlySettles, IsBadIn};
 ghost use Rattle.bd_view.specs.Views.{fresh_view, free_slots, save_slots, need_slots};
 ghost use Rattle.bd_view.specs.Moves.{HasStepped, IsExecuted, Saves, IsCommandFull, IsCheckpointFull, CannotSave};
+ghost use Rattle.bd_view.specs.Reclaiming.{edge_need, IsReclaim, IsReclaimFull};
 ghost use Rattle.bd_engine.specs.Stored.{IsStoredView, HasSaved};
 ghost use Rattle.bd_volume.specs.Faults.{image_fault_of, HasFaultCause, IsStoppedRightly};
 ghost use Rattle.bd_volume.specs.Volume.{StandsFor, view_of, count_of, device_of, stop_of, HasClosedLog};
-ghost use Rattle.bd_volume.specs.Wears.{Wears, ShowsWorn};
+ghost use Rattle.bd_volume.specs.Wears.{Wears, ShowsWorn, HasBegunReclaiming, WearsReclaiming};
 
 use crate::fault::{Fault, Refused};
 use bd_command::{Command, Reply};
@@ -212,6 +213,55 @@ impl<D: Device> Volume<D> {
         let (free, need) = (self.engine.free(), self.engine.save_need());
         if free < need {
             return Err(Fault::Full { free, need });
+        }
+        Err(Fault::NoMemory)
+    }
+
+    /// Gives back the nodes that nothing needs any more: makes a checkpoint; then changes of the
+    /// nodes along the edges that pending messages cut or cover, from the root down, until none is
+    /// left or 4,096 pushes were made, with checkpoints between where too few slots are free; and a
+    /// last checkpoint. What the volume stands for stays, also at a fault, which leaves the changes
+    /// that were made.
+    ///
+    /// `Full` comes where fewer slots are free than the first or the last checkpoint needs, or than
+    /// the next change of an edge needs and no checkpoint helps, with both numbers; `Worn` where the
+    /// epoch has no room for a checkpoint, or another counter none for the next change. A failed
+    /// write or barrier stops the volume, and each later call is `Stopped`.
+    pub fn reclaim(&mut self) -> Result<(), Fault>
+        ensures reclaims { OnOk result ((t : Tree) (n : ℕ) → StandsFor D.Device self.old t n
+            → IsReclaim (view_of D.Device self.old) (view_of D.Device self.new)) }
+        ensures kept { OnOk result ((t : Tree) (n : ℕ) → StandsFor D.Device self.old t n
+            → AllStandFor t n (left_now D.Device (device_of self.new))) }
+        ensures only { OnOk result (IsOnly (D.contents (device_of self.new))
+            (left_now D.Device (device_of self.new))) }
+        ensures stays { (t : Tree) (n : ℕ) → StandsFor D.Device self.old t n
+            → StandsFor D.Device self.new t n }
+        ensures begun { OnErr result ((t : Tree) (n : ℕ) → StandsFor D.Device self.old t n
+            → HasBegunReclaiming (view_of D.Device self.old) (view_of D.Device self.new)) }
+        ensures full { (free need : ℕ) → result ≡ Err (Fault.Full free need)
+            → (t : Tree) (n : ℕ) → StandsFor D.Device self.old t n
+            → IsReclaimFull (view_of D.Device self.old) free need (view_of D.Device self.new) }
+        ensures wears { (which : Counter) → result ≡ Err (Fault.Worn which)
+            → (t : Tree) (n : ℕ) → StandsFor D.Device self.old t n
+            → WearsReclaiming which (view_of D.Device self.old) (view_of D.Device self.new) }
+        ensures undamaged { (block : ℕ) → result ≡ Err (Fault.Damaged block)
+            → (t : Tree) (n : ℕ) → StandsFor D.Device self.old t n → ⊥ }
+
+        // Whatever the volume stands for.
+        ensures numbers { (free need : ℕ) → result ≡ Err (Fault.Full free need)
+            → (free ≡ free_slots (view_of D.Device self.new))
+            × ((need ≡ save_slots (view_of D.Device self.new))
+            ⊎ (need ≡ edge_need (view_of D.Device self.new))) }
+        ensures count_stays { count_of self.new ≡ count_of self.old }
+        ensures cause { HasFaultCause D.Device self.old self.new result }
+        ensures stop { stop_of self.old ≡ None
+            → IsStoppedRightly D.Device self.old self.new result }
+        ensures stopped { (call : ℕ) → stop_of self.old ≡ Some call
+            → (result ≡ Err (Fault.Stopped call)) × (self.new ≡ self.old) }
+        ensures device { Stays D.Device (device_of self.old) (device_of self.new) }
+    {
+        if let Some(call) = self.engine.stop() {
+            return Err(Fault::Stopped { call });
         }
         Err(Fault::NoMemory)
     }
