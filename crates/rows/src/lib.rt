@@ -23,6 +23,4 @@ mod records;
 #[cfg(test)]
 mod script;
 #[cfg(test)]
-mod volume;
-#[cfg(test)]
 mod wire;

@@ -1,0 +1,37 @@
+//! A failed write stops a volume.
+
+use crate::asking::{on_new_image, said};
+use bd_device::{Device, FaultyDevice, MemDevice};
+use bd_slots::image_blocks;
+use bd_volume::{Fault, Volume};
+use std::alloc::Global;
+use std::test::Fail;
+
+/// The slots of the images.
+const SLOTS: u32 = 24;
+
+/// A volume on a new image, whose device fails at a call from there on.
+fn failing(alloc: Global, call: u64) -> Result<Volume<FaultyDevice<MemDevice>>, Fail> {
+    let device = MemDevice::new(alloc, image_blocks(SLOTS), 2_000, &[])?;
+    on_new_image(alloc, FaultyDevice::new(alloc, device, &[call])?, SLOTS)
+}
+
+/// How many calls a format makes.
+fn calls_of_format(alloc: Global) -> Result<u64, Fail> {
+    Ok(failing(alloc, u64::MAX)?.calls())
+}
+
+/// The first write of a checkpoint fails: the volume is stopped at this call, and does nothing more.
+#[test]
+fn a_failed_write_stops_it(rt: HostRuntime) -> Result<(), Fail> {
+    let call = calls_of_format(rt.alloc())? + 1;
+    let mut volume = failing(rt.alloc(), call)?;
+    assert_eq!(rt; said(rt.alloc(), &mut volume, "mkdir /a")?.as_str(), "ok");
+    assert_eq!(rt; volume.checkpoint(), Err(Fault::Device));
+    assert_eq!(rt; volume.calls(), call);
+    let stopped = Err(Fault::Stopped { call });
+    assert_eq!(rt; volume.checkpoint(), stopped);
+    assert_eq!(rt; volume.reclaim(), stopped);
+    assert_eq!(rt; volume.calls(), call);
+    Ok(())
+}
