@@ -13,7 +13,9 @@ const SLOTS: u32 = 24;
 /// A volume on a new image, whose device fails at a call from there on.
 fn failing(alloc: Global, call: u64) -> Result<Volume<FaultyDevice<MemDevice>>, Fail> {
     let device = MemDevice::new(alloc, image_blocks(SLOTS), 2_000, &[])?;
-    on_new_image(alloc, FaultyDevice::new(alloc, device, &[call])?, SLOTS)
+    let mut fail = Vec::new(alloc);
+    fail.push(call)?;
+    on_new_image(alloc, FaultyDevice::new(device, fail), SLOTS)
 }
 
 /// How many calls a format makes.
