@@ -62,8 +62,9 @@ module _ {D : Type 0} (g : Ghosts D) (contents : Option Image) (old new : Paged 
       let found = s.entries.all id spot there in
       list_any-from_Any (λ (e : TableEntry). nat_eq e.id id) new.saved.entries (found.0, found.1, found.2, found.3, eq-eqb found.1.id id found.4)
 
-  ids : AreListed → ids_of new.saved.entries ≡ kept_ids (table_of old)
-  ids law =
+  -- its entries are those of the kept nodes
+  pub kept_saved : AreListed → ids_of new.saved.entries ≡ kept_ids (table_of old)
+  kept_saved law =
       law (table_of new) (ids_of new.saved.entries) rising each_kept (λ id low kept. saved_ids new.saved.entries id ∙ listed id (spots_of new id) refl kept)
       ∙ ap (λ (t : Table). kept_ids t) s.table
 
@@ -73,7 +74,7 @@ module _ {D : Type 0} (g : Ghosts D) (contents : Option Image) (old new : Paged 
     room = room;
     after = λ i. record {
       tree = record { nodes = s.nodes i; table = s.table i; walk = walk };
-      saved = ids law i;
+      saved = kept_saved law i;
       slots = s.slots i;
       epoch = epoch + 1;
       place = 0;
