@@ -1,2 +1,4 @@
 pub mod Left
 pub mod Numbers
+pub mod Saving
+pub mod Starting
