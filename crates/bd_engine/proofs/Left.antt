@@ -71,7 +71,7 @@ paged_at g p q same h = subst (λ (x : Paged _). IsPaged (g.contents x.dev) x) s
 
 -- ---- sound nodes
 
-read_nodes : {D : Type 0} (g : Ghosts D) (p q : Paged D) → IsReadOf g p q → nodes_of g q ≡ nodes_of g p
+pub read_nodes : {D : Type 0} (g : Ghosts D) (p q : Paged D) → IsReadOf g p q → nodes_of g q ≡ nodes_of g p
 read_nodes g p q r = λ i. nodes_at (r.device.kept i) (r.spots i)
 
 -- they stay so over reads
@@ -81,7 +81,7 @@ read_sound g p q r s = record {
   sound = subst (λ (t : Table). IsSound (nodes_of g q) t) (sym (read_table g p q r)) (subst (λ (n : Nodes). IsSound n (table_of p)) (sym (read_nodes g p q r)) s.sound);
 }
 
-read_same : {D : Type 0} (g : Ghosts D) (p q : Paged D) → IsReadOf g p q → SameAt (keys_of g p) (keys_of g q)
+pub read_same : {D : Type 0} (g : Ghosts D) (p q : Paged D) → IsReadOf g p q → SameAt (keys_of g p) (keys_of g q)
 read_same g p q r k = λ i. root_at (read_nodes g p q r i) (read_table g p q r i) k
 
 -- and over a flush step, or none

@@ -1,4 +1,4 @@
 pub mod Left
 pub mod Numbers
-pub mod Saving
-pub mod Starting
+pub mod Reclaims
+pub mod Remaining

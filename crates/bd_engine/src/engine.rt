@@ -7,6 +7,7 @@ ghost use Rattle.bd_view.specs.Views.{height, free_slots, save_slots, step_slots
 ghost use Rattle.bd_engine.specs.Engines.{view_of};
 
 mod changing;
+mod reclaiming;
 mod saving;
 mod starting;
 
