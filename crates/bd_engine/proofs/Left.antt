@@ -81,7 +81,7 @@ read_sound g p q r s = record {
   sound = subst (λ (t : Table). IsSound (nodes_of g q) t) (sym (read_table g p q r)) (subst (λ (n : Nodes). IsSound n (table_of p)) (sym (read_nodes g p q r)) s.sound);
 }
 
-pub read_same : {D : Type 0} (g : Ghosts D) (p q : Paged D) → IsReadOf g p q → SameAt (keys_of g p) (keys_of g q)
+read_same : {D : Type 0} (g : Ghosts D) (p q : Paged D) → IsReadOf g p q → SameAt (keys_of g p) (keys_of g q)
 read_same g p q r k = λ i. root_at (read_nodes g p q r i) (read_table g p q r i) k
 
 -- and over a flush step, or none

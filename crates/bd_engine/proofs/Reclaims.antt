@@ -1,18 +1,18 @@
 -- What an engine finds to reclaim, and what a change leaves.
-use Rattle.std.proofs.Common.{◌≡◌, Option, None, Some, sym, subst}
+use Rattle.std.proofs.Common.{◌≡◌, [], Option, None, Some, sym, subst}
 use Rattle.std.specs.Prelude.{Result, Ok, Err, IfOk, IfSome, OnOk, OnErr}
 use Rattle.bd_device.specs.declared.device.Device.{Ghosts}
-use Rattle.bd_message.specs.KeyMaps.{SameAt}
 use Rattle.bd_node.specs.Meaning.{Nodes}
+use Rattle.bd_node.specs.Stores.{OnlyReadsBy}
 use Rattle.bd_node.specs.Tables.{Table, IsSound}
 use Rattle.bd_pager.specs.Calling.{read_table, read_known}
 use Rattle.bd_pager.specs.Pagers.{Paged, nodes_of, table_of, is_known, IsReadOf}
 use Rattle.bd_reclaim.specs.declared.walking.Reclaim.{Reclaim}
 use Rattle.bd_reclaim.specs.Walking.{IsToDo, IsToDoAt}
 use Rattle.bd_reclaim.specs.Reclaimed.{IsReclaimed}
-use Rattle.bd_engine.specs.Engines.{keys_of, IsSoundOn}
+use Rattle.bd_engine.specs.Engines.{IsSoundOn}
 use Rattle.bd_engine.specs.Reclaiming.{MayMake}
-use Rattle.bd_engine.proofs.Left.{read_nodes, read_same}
+use Rattle.bd_engine.proofs.Left.{read_nodes}
 
 -- the change may be made after reads too
 may_after : {D : Type 0} (g : Ghosts D) (p q : Paged D) (change : Reclaim) → IsReadOf g p q → IsToDo (table_of p) change → (is_known g p → IsSound (nodes_of g p) (table_of p) → IsToDoAt (nodes_of g p) (table_of p) change) → MayMake g q change
@@ -31,11 +31,17 @@ may_make g p q (Ok None) read to_do at = tt
 may_make g p q (Ok (Some change)) read to_do at = may_after g p q change read to_do at
 may_make g p q (Err e) read to_do at = tt
 
--- a change leaves sound nodes, and what stands at the keys
-pub reclaimed_same : {D T E : Type 0} (g : Ghosts D) (p q : Paged D) (r : Result T E) → OnErr r (IsReadOf g p q) → OnOk r (IsReclaimed (nodes_of g p) (table_of p) (nodes_of g q) (table_of q)) → SameAt (keys_of g p) (keys_of g q)
-reclaimed_same g p q (Ok x) err made = made.same
-reclaimed_same g p q (Err e) err made = read_same g p q err
-
+-- a change leaves sound nodes
 pub reclaimed_sound : {T E : Type 0} (nodes new : Nodes) (t u : Table) (r : Result T E) → OnOk r (IsReclaimed nodes t new u) → OnOk r (IsSound new u)
 reclaimed_sound nodes new t u (Ok x) made = made.sound
 reclaimed_sound nodes new t u (Err e) made = tt
+
+-- what holds anyway holds at an error
+pub on_any : {P T E : Type 0} (r : Result T E) → P → OnErr r P
+on_any (Ok x) h = tt
+on_any (Err e) h = h
+
+-- a call that failed only read
+pub on_read : {D T E : Type 0} (g : Ghosts D) (p q : Paged D) (r : Result T E) → OnErr r (OnlyReadsBy (is_known g) (nodes_of g) table_of (IsReadOf g) (λ _. []) p q) → OnErr r (IsReadOf g p q)
+on_read g p q (Ok x) left = tt
+on_read g p q (Err e) left = left.read
