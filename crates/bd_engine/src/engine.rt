@@ -9,6 +9,7 @@ ghost use Rattle.bd_engine.specs.Engines.{view_of};
 mod changing;
 mod saving;
 mod starting;
+mod telling;
 
 pub use starting::Opened;
 
