@@ -11,8 +11,6 @@ mod saving;
 mod starting;
 mod telling;
 
-pub use starting::Opened;
-
 use bd_command::Command;
 use bd_device::Device;
 use bd_effects::waiting_limit;
@@ -24,6 +22,7 @@ use bd_shown::laws::numbers_are_shown;
 use bd_slots::table_length;
 use bd_super::Super;
 use bd_tree::Tree;
+pub use starting::Opened;
 use std::alloc::Global;
 use std::marker::Model;
 
