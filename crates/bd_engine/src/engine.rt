@@ -10,6 +10,7 @@ mod changing;
 mod reclaiming;
 mod saving;
 mod starting;
+mod telling;
 
 use bd_command::Command;
 use bd_device::Device;
