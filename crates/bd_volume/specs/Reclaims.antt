@@ -1,5 +1,6 @@
 -- How a volume makes changes of reclaiming, and why it stops.
-use Rattle.std.specs.Prelude.{◌≡◌, ℕ, ◌+◌, ◌≤◌, Option, None, Some, ⊤}
+use Rattle.std.specs.Prelude.{◌≡◌, ℕ, ◌+◌, ◌^◌, ◌≤◌, Option, None, Some, ⊤}
+use Rattle.bd_message.specs.declared.fault.Counter.TheVariants.{Epoch}
 use Rattle.bd_reclaim.specs.declared.walking.Reclaim.{Reclaim}
 use Rattle.bd_reclaim.specs.Reclaimed.{LeavesLess}
 use Rattle.bd_view.specs.Views.{View, changed_count, free_slots}
@@ -38,6 +39,16 @@ pub record IsEdgeFull (pushes free need : ℕ) (v : View) : Type 0 where
   pub need_is : need ≡ edge_need v
   pub unsaved : CannotSave v
 
+-- why no checkpoint is made before the change of an edge
+abbrev pub IsEdgeSaveFault : Fault → View → Type 0
+IsEdgeSaveFault Device v = ⊤
+IsEdgeSaveFault (Damaged block) v = ⊥
+IsEdgeSaveFault (Worn which) v = (which ≡ Epoch) × (2 ^ 64 ≤ v.epoch + 1)
+IsEdgeSaveFault NoMemory v = ⊤
+IsEdgeSaveFault (Full free need) v =
+    (free ≡ free_slots v) × (need ≡ edge_need v) × CannotSave v
+IsEdgeSaveFault (Stopped call) v = ⊥
+
 -- why the next change isn't made, or the checkpoint before it
 abbrev pub IsChangeFault : Fault → ℕ → View → Type 0
 IsChangeFault Device pushes v = ⊤
@@ -52,3 +63,12 @@ pub record StopsChanging (fault : Fault) (old new : View) : Type 0 where
   pub pushes : ℕ
   pub changes : AreReclaims pushes old new
   pub cause : IsChangeFault fault pushes new
+
+-- what is told of a fault where the nodes may not be known: with which numbers slots are too few
+abbrev pub ShowsEdge : Fault → View → Type 0
+ShowsEdge Device v = ⊤
+ShowsEdge (Damaged block) v = ⊤
+ShowsEdge (Worn which) v = ⊤
+ShowsEdge NoMemory v = ⊤
+ShowsEdge (Full free need) v = (free ≡ free_slots v) × (need ≡ edge_need v)
+ShowsEdge (Stopped call) v = ⊤

@@ -21,6 +21,7 @@ ghost use Rattle.bd_volume.specs.Wears.{Wears, ShowsWorn, HasBegunReclaiming, We
 
 mod executing;
 mod readying;
+mod reclaiming;
 mod saving;
 
 use crate::fault::{Fault, Refused};
@@ -266,7 +267,9 @@ impl<D: Device> Volume<D> {
         if let Some(call) = self.engine.stop() {
             return Err(Fault::Stopped { call });
         }
-        Err(Fault::NoMemory)
+        self.checkpoint()?;
+        self.change_all()?;
+        self.checkpoint()
     }
 
     /// How many slots the last checkpoint doesn't hold.

@@ -21,6 +21,7 @@ impl<D: Device> Volume<D> {
     pub(crate) fn can_save(&self) -> bool
         ensures room { result ≡ true → save_slots (view_of D.Device self.now)
             ≤ free_slots (view_of D.Device self.now) }
+        ensures some { result ≡ true → 1 ≤ changed_count (view_of D.Device self.now) }
         ensures cannot { result ≡ false → CannotSave (view_of D.Device self.now) }
     {
         if self.engine.changed() == 0 {
