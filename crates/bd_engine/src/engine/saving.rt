@@ -11,7 +11,7 @@ ghost use Rattle.bd_checkpoint.specs.Kept.{AllStandFor, AreOfTree};
 ghost use Rattle.bd_checkpoint.specs.Saving.{IsCheckpointCause};
 ghost use Rattle.bd_view.specs.Moves.{Saves};
 ghost use Rattle.bd_view.specs.Views.{changed_count, free_slots, save_slots};
-ghost use Rattle.bd_engine.specs.Engines.{view_of, keys_of, stop_after, IsSoundOn, IsStoppedOrGoesOn};
+ghost use Rattle.bd_engine.specs.Engines.{view_of, keys_of, stop_after, IsSoundOn, IsGoingOn, IsStopped};
 ghost use Rattle.bd_engine.specs.Stored.{HasSaved};
 
 use super::Engine;
@@ -20,6 +20,7 @@ use bd_device::Device;
 use bd_message::{Counter, MapFault};
 use bd_pager::Pager;
 use bd_shown::laws::{checkpoints_are_shown, numbers_are_shown};
+use bd_view::laws::{checkpoints_keep_all, kept_nodes_are_listed};
 
 impl<D: Device> Engine<D> {
     /// Makes a checkpoint of all nodes, as that of an image in which so many commands were accepted.
@@ -75,6 +76,8 @@ impl<D: Device> Engine<D> {
     {
         numbers_are_shown::<D>();
         checkpoints_are_shown::<D>();
+        checkpoints_keep_all();
+        kept_nodes_are_listed();
         let before = self.tree.store().write_faults();
         self.tree.store().nodes_are_placed();
         let saved = checkpoint(self.tree.store_mut(), &mut self.log, &mut self.live, count);

@@ -11,18 +11,15 @@ ghost use Rattle.bd_image.specs.ImageTree.{ImageStandsFor};
 ghost use Rattle.bd_checkpoint.specs.Kept.{AllStandFor, AreOfTree};
 ghost use Rattle.bd_checkpoint.specs.Recovering.{OnlySettles, IsBadIn, LeadsTo};
 ghost use Rattle.bd_view.specs.Views.{fresh_view};
-ghost use Rattle.bd_engine.specs.Engines.{view_of, started, IsStanding};
+ghost use Rattle.bd_engine.specs.Engines.{view_of};
 ghost use Rattle.bd_engine.specs.Stored.{IsStoredView};
 
 use super::Engine;
 use bd_checkpoint::{Formatted, PlacedCommand, Recovered, format, recover};
 use bd_device::Device;
-use bd_log::Log;
 use bd_log::laws::batches_are_one;
-use bd_pager::{Pager, Refused};
-use bd_super::Super;
+use bd_pager::Refused;
 use bd_table::laws::tables_are_read_again;
-use bd_tree::Tree;
 use bd_view::laws::kept_nodes_are_listed;
 use std::alloc::Global;
 
@@ -124,19 +121,5 @@ impl<D: Device> Engine<D> {
         let Formatted { pager, log, live } = formatted;
         pager.nodes_are_placed();
         Ok(Engine::over(alloc, pager, log, live))
-    }
-
-    // The engine of these parts, which goes on.
-    fn over(alloc: Global, pager: Pager<D>, log: Log, live: Super) -> Engine<D>
-        requires { IsStanding D.Device (started pager log live) }
-        ensures { result ≡ started pager log live }
-    {
-        Engine {
-            alloc,
-            tree: Tree::over(alloc, pager),
-            log,
-            live,
-            stop: None,
-        }
     }
 }
