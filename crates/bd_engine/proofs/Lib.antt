@@ -2,4 +2,6 @@ pub mod Left
 pub mod Numbers
 pub mod Reclaims
 pub mod Remaining
+pub mod Saving
+pub mod Starting
 pub mod Undamaged

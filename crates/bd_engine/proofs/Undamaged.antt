@@ -1,6 +1,7 @@
 -- Where nodes are known and sound, no block is bad.
 use Rattle.std.proofs.Common.{◌≡◌, ℕ, ◌≤◌, List, Option, None, Some, inl, inr, refl, sym, subst, ap, ◌∙◌}
 use Rattle.std.specs.Prelude.{IsSome}
+use Rattle.std.proofs.lemmas.Bool.{false≢true}
 use Rattle.std.specs.Global.{Global}
 use Rattle.std.specs.declared.rc.Rc.{Rc}
 use Rattle.bd_device.specs.Blocks.{Image}
@@ -30,7 +31,7 @@ good_place law image t level b (Slot slot None) n there own bad = bad.1 n (recor
 good_spot : {D : Type 0} (law : Decodes) (p : Paged D) (contents : Option Image) (id b : ℕ) (o : Option Spot) → spots_of p id ≡ o → IsSome contents → IsSound (nodes_at contents (spots_of p)) (table_of p)
     → ((s : Spot) → spots_of p id ≡ Some s → 1 ≤ s.refs) → IsBadSpot contents o b → ⊥
 good_spot law p contents id b None is there sound used bad = bad
-good_spot law p None id b (Some s) is there sound used bad = absurd there
+good_spot law p None id b (Some s) is there sound used bad = absurd (false≢true there)
 good_spot law p (Some image) id b (Some s) is there sound used bad =
     let kept : 1 ≤ refs_in (spots_of p id) = subst (λ (o : Option Spot). 1 ≤ refs_in o) (sym is) (used s is) in
     let stored = sound.each id kept in
