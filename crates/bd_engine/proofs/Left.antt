@@ -71,7 +71,7 @@ paged_at g p q same h = subst (λ (x : Paged _). IsPaged (g.contents x.dev) x) s
 
 -- ---- sound nodes
 
-read_nodes : {D : Type 0} (g : Ghosts D) (p q : Paged D) → IsReadOf g p q → nodes_of g q ≡ nodes_of g p
+pub read_nodes : {D : Type 0} (g : Ghosts D) (p q : Paged D) → IsReadOf g p q → nodes_of g q ≡ nodes_of g p
 read_nodes g p q r = λ i. nodes_at (r.device.kept i) (r.spots i)
 
 -- they stay so over reads

@@ -7,8 +7,10 @@ ghost use Rattle.bd_view.specs.Views.{height, free_slots, save_slots, step_slots
 ghost use Rattle.bd_engine.specs.Engines.{started, view_of, IsStanding};
 
 mod changing;
+mod reclaiming;
 mod saving;
 mod starting;
+mod telling;
 
 use bd_command::Command;
 use bd_device::Device;

@@ -1,3 +1,5 @@
 pub mod Faults
+pub mod Reclaims
+pub mod Steps
 pub mod Volume
 pub mod Wears

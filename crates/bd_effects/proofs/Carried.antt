@@ -27,7 +27,7 @@ use Rattle.bd_represent.proofs.TreeLemmas.{Represents-along}
 use Rattle.bd_dirs.specs.Plans.{IsPlan}
 use Rattle.bd_dirs.specs.declared.plan.Plan.{Plan}
 use Rattle.bd_dirs.specs.declared.plan.Plan.TheVariants.{Refused, Apply, Graft}
-use Rattle.bd_memvolume.specs.Over.{accepts, TakesStep}
+use Rattle.bd_effects.specs.Carrying.{accepts, TakesStep}
 
 -- ---- a plan for a map is one for a map that has the same
 

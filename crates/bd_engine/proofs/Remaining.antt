@@ -1,0 +1,71 @@
+-- How much may be left to change in sound nodes.
+use Rattle.std.proofs.Common.{◌≡◌, ℕ, zero, suc, ◌+◌, ◌*◌, ◌<◌, ◌≤◌, ◌^◌, List, [], ◌∷◌, length, drop, Option, None, Some, sym, ap, ◌∙◌, arith, inl, inr, length-drop}
+use Rattle.std.specs.List.{sum_by}
+use Rattle.std.proofs.lemmas.Bool.{cases_lt}
+use Rattle.std.proofs.lemmas.List.Sums.{sum_by-cons}
+use Rattle.bd_limits.specs.Limits.{buffer_limit, edge_limit, level_limit}
+use Rattle.bd_message.specs.declared.message.Message.{Message}
+use Rattle.bd_message.specs.declared.message.Message.TheVariants.{Put, Del, Patch, Cut, Goto}
+use Rattle.bd_message.specs.Messages.{size}
+use Rattle.bd_node.specs.declared.node.Edge.{Edge}
+use Rattle.bd_node.specs.declared.node.Node.{Node}
+use Rattle.bd_node.specs.declared.node.Node.TheVariants.{Leaf, Inner}
+use Rattle.bd_node.specs.Meaning.{Nodes}
+use Rattle.bd_node.specs.Nodes.{level_of}
+use Rattle.bd_node.specs.Shape.{IsShape}
+use Rattle.bd_node.specs.Tables.{Table, IsStored, IsSound, sum_below}
+use Rattle.bd_reclaim.specs.Reclaimed.{unseen_count, unseen_in, left_over}
+
+message_some : (m : Message) → 1 ≤ size m
+message_some (Put key value) = omega arith
+message_some (Del key) = omega arith
+message_some (Patch key off bytes) = omega arith
+message_some (Cut prefix from) = omega arith
+message_some (Goto prefix source child) = omega arith
+
+messages_few : (ms : List Message) → length ms ≤ sum_by size ms
+messages_few [] = omega arith
+messages_few (m ∷ ms) = omega (arith, messages_few ms, message_some m, sum_by-cons size m ms)
+
+edges_few : (buffer : List Message) (es : List Edge) → length buffer ≤ 32768 → sum_by (λ (e : Edge). length (drop e.seen buffer)) es ≤ length es * 32768
+edges_few buffer [] few = omega arith
+edges_few buffer (e ∷ es) few =
+    omega (arith, few, edges_few buffer es few, length-drop e.seen buffer, sum_by-cons (λ (f : Edge). length (drop f.seen buffer)) e es)
+
+-- 16 edges over 32,768 messages
+unseen_few : (n : Node) → IsShape n → unseen_count n ≤ 524288
+unseen_few (Leaf entries) h = omega arith
+unseen_few (Inner level edges buffer) h =
+    let few : length buffer ≤ 32768 = omega (arith, messages_few buffer, h.size) in
+    omega (arith, h.few, edges_few buffer edges few)
+
+stored_few : (nodes : Nodes) (t : Table) (id : ℕ) → IsSound nodes t → unseen_in (nodes id) ≤ 524288
+stored_few nodes t id h =
+    elim (cases_lt 0 (t.count id)) [
+      | inl kept ↦
+          let s : IsStored nodes t id = h.each id kept in
+          let is : unseen_in (nodes id) ≡ unseen_count s.node = ap unseen_in s.there in
+          omega (arith, is, unseen_few s.node s.of_table.shape)
+      | inr gone ↦
+          let is : unseen_in (nodes id) ≡ 0 = ap unseen_in (h.others id (omega arith)) in
+          omega (arith, is)
+    ]
+
+sum_few : (n : ℕ) (f : ℕ → ℕ) → ((i : ℕ) → f i ≤ 524288) → sum_below n f ≤ n * 524288
+unfolding sum_below
+sum_few zero f each = omega arith
+sum_few (suc n) f each = omega (arith, each n, sum_few n f each)
+
+level_low : (n : Node) → IsShape n → level_of n ≤ 1000
+level_low (Leaf entries) h = omega arith
+level_low (Inner level edges buffer) h = h.high
+
+root_low : (nodes : Nodes) (t : Table) → IsSound nodes t → t.level t.root ≤ 1000
+root_low nodes t h =
+    let s : IsStored nodes t t.root = h.each t.root h.table.root in
+    omega (arith, s.of_table.level_is, level_low s.node s.of_table.shape)
+
+-- no more than the ids allow
+pub left_low : (nodes : Nodes) (t : Table) → IsSound nodes t → t.next < 2 ^ 64 → left_over nodes t < 2 ^ 90
+left_low nodes t h low =
+    omega (arith, low, root_low nodes t h, sum_few t.next (λ id. unseen_in (nodes id)) (λ id. stored_few nodes t id h))

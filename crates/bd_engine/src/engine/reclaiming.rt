@@ -1,0 +1,92 @@
+//! What reclaiming finds in an engine's nodes, and does to them.
+
+ghost use Rattle.std.specs.Prelude.{◌≡◌, ◌<◌, ◌^◌, IfOk, IfSome, MatchOption, OnOk, OnErr};
+ghost use Rattle.bd_message.specs.KeyMaps.{NeverWorn, SameAt};
+ghost use Rattle.bd_pager.specs.Pagers.{nodes_of, table_of};
+ghost use Rattle.bd_reclaim.specs.Walking.{IsFirst, HasNone};
+ghost use Rattle.bd_reclaim.specs.Reclaimed.{IsReclaimed, IsReclaimMade, LeavesLess, left_over};
+ghost use Rattle.bd_view.specs.Reclaiming.{edge_need, push_need};
+ghost use Rattle.bd_engine.specs.Engines.{view_of, keys_of, IsSoundOn, HasCause, IsReadOn, OnlyNodesOn};
+ghost use Rattle.bd_engine.specs.Reclaiming.{MayMake, IsWornToChange};
+
+use super::Engine;
+use bd_device::Device;
+use bd_message::MapFault;
+use bd_reclaim::Reclaim;
+
+// How many slots the change of an edge may need.
+const EDGE_SLOTS: u64 = 4;
+
+// How many a push may need, beside one for each node on the way down.
+const PUSH_SLOTS: u64 = 8;
+
+impl<D: Device> Engine<D> {
+    /// The first change of reclaiming that is still to be made, and none exactly where there is
+    /// none; pushes are passed over unless `pushes` asks for them. Only the device is read, and the
+    /// view stays.
+    pub fn next_change(&mut self, pushes: bool) -> Result<Option<Reclaim>, MapFault>
+        ensures first { IsSoundOn D.Device self.old.pager → IfOk result (λ found. MatchOption found
+            (HasNone pushes (nodes_of D.Device self.old.pager) (table_of self.old.pager)
+            (table_of self.old.pager).root)
+            (λ change. IsFirst pushes (nodes_of D.Device self.old.pager)
+            (table_of self.old.pager) change (table_of self.old.pager).root)) }
+        ensures may { IfOk result (λ found. IfSome found (MayMake D.Device self.new.pager)) }
+        ensures read { IsReadOn D.Device self.old self.new }
+        ensures cause { HasCause D.Device self.old.pager self.new.pager NeverWorn result }
+    {
+        self.tree.reclaim_next(pushes)
+    }
+
+    /// Makes a change of reclaiming that `next_change` found in these nodes: what stands at the keys
+    /// stays. It writes nothing, and a fault leaves the view.
+    pub fn make_change(&mut self, change: Reclaim) -> Result<(), MapFault>
+        requires { MayMake D.Device self.old.pager change }
+        ensures only { OnlyNodesOn D.Device self.old self.new }
+        ensures walk { self.new.walk ≡ self.old.walk }
+        ensures err { OnErr result (IsReadOn D.Device self.old self.new) }
+        ensures cause { HasCause D.Device self.old.pager self.new.pager
+            (IsWornToChange D.Device self.old.pager change) result }
+
+        // Where the nodes are known and sound.
+        ensures made { IsSoundOn D.Device self.old.pager → OnOk result
+            (IsReclaimMade (nodes_of D.Device self.old.pager) (table_of self.old.pager) change
+            (nodes_of D.Device self.new.pager) (table_of self.new.pager)) }
+        ensures reclaimed { IsSoundOn D.Device self.old.pager → OnOk result
+            (IsReclaimed (nodes_of D.Device self.old.pager) (table_of self.old.pager)
+            (nodes_of D.Device self.new.pager) (table_of self.new.pager)) }
+        ensures less { IsSoundOn D.Device self.old.pager → OnOk result
+            (LeavesLess (nodes_of D.Device self.old.pager) (table_of self.old.pager) change
+            (nodes_of D.Device self.new.pager) (table_of self.new.pager)) }
+        ensures sound { IsSoundOn D.Device self.old.pager → IsSoundOn D.Device self.new.pager }
+        ensures same { IsSoundOn D.Device self.old.pager
+            → SameAt (keys_of D.Device self.old.pager) (keys_of D.Device self.new.pager) }
+    {
+        self.tree.store().nodes_are_placed();
+        let made = self.tree.reclaim_step(change);
+        self.tree.store().nodes_are_placed();
+        made
+    }
+
+    /// How many slots have to be free for a change of an edge, so that a checkpoint can be written
+    /// after it.
+    pub fn edge_need(&self) -> u64
+        ensures { result ≡ edge_need (view_of D.Device self.now) }
+    {
+        self.save_need() + EDGE_SLOTS
+    }
+
+    /// How many have to be free for a push.
+    pub fn push_need(&self) -> u64
+        ensures { result ≡ push_need (view_of D.Device self.now) }
+    {
+        self.save_need() + self.height() + PUSH_SLOTS
+    }
+
+    /// In sound nodes changes that aren't pushes come to an end. It does nothing.
+    pub fn little_is_left(&self)
+        ensures { IsSoundOn D.Device self.now.pager → left_over (nodes_of D.Device self.now.pager)
+            (table_of self.now.pager) < 2 ^ 90 }
+    {
+        let _ = self.tree.store().next_id();
+    }
+}

@@ -1,0 +1,248 @@
+-- Changes of reclaiming, one after the other, and why they stop.
+use Rattle.std.proofs.Common.{◌≡◌, ℕ, zero, suc, ◌+◌, ◌*◌, ◌^◌, ◌<◌, ◌≤◌, Option, None, Some, Bool, refl, sym, subst, ap, ◌∙◌, inl, inr, arith}
+use Rattle.std.proofs.lemmas.Bool.{cases_lt, ltb-true, and_parts}
+use Rattle.std.specs.Prelude.{IsTrue, nat_le, nat_lt, ⊤, Result, Ok, Err, IfErr}
+use Rattle.bd_message.specs.declared.fault.Counter.{Counter}
+use Rattle.bd_message.specs.declared.fault.Counter.TheVariants.{Count, NextId, Level, Refs, Epoch, Flushes}
+use Rattle.bd_message.specs.declared.fault.MapFault.{MapFault}
+use Rattle.bd_message.specs.declared.fault.MapFault.TheVariants as map
+use Rattle.bd_message.specs.KeyMaps.{IsCause, NeverWorn}
+use Rattle.bd_device.specs.declared.device.Device.{Ghosts}
+use Rattle.bd_super.specs.declared.superblock.Super.{Super}
+use Rattle.bd_node.specs.declared.node.Step.{Step}
+use Rattle.bd_node.specs.Meaning.{Nodes}
+use Rattle.bd_node.specs.Steps.{IsWornBy}
+use Rattle.bd_node.specs.Tables.{Table, IsSound}
+use Rattle.bd_step.proofs.Making.{step_known}
+use Rattle.bd_reclaim.specs.declared.walking.Reclaim.{Reclaim}
+use Rattle.bd_reclaim.specs.declared.walking.Reclaim.TheVariants.{Shrink, Drop, Redirect, Push}
+use Rattle.bd_reclaim.specs.Reclaimed.{IsWornChange, LeavesLess, left_over, root_only}
+use Rattle.bd_reclaim.specs.Walking.{IsFirst, IfPush}
+use Rattle.bd_reclaim.specs.Walking.IsFirst.{here, below}
+use Rattle.bd_view.specs.Views.{View, changed_count, free_slots}
+use Rattle.bd_view.specs.Moves.{Saves}
+use Rattle.bd_view.specs.Reclaiming.{push_limit, allows_push, push_need, pushes_in, HasRoomFor, IsNextChange, HasNoChange, Reclaims, AreReclaims}
+use Rattle.bd_view.specs.Reclaiming.AreReclaims.{change, save}
+use Rattle.bd_view.proofs.Saved.{saves_all}
+use Rattle.bd_volume.specs.declared.fault.Fault.{Fault}
+use Rattle.bd_volume.specs.declared.fault.Fault.TheVariants.{Device, Damaged, Worn, NoMemory, Full, Stopped}
+use Rattle.bd_volume.specs.declared.volume.Volume.{Volume}
+use Rattle.bd_volume.specs.Faults.{fault_of}
+use Rattle.bd_volume.specs.Reclaims.{ChangesOnce, IsChangedTo, ChangesAll, IsEdgeSaveFault, IsChangeFault, StopsChanging, ShowsEdge}
+use Rattle.bd_volume.specs.Reclaims.ChangesOnce.{made, saved}
+use Rattle.bd_volume.specs.Steps.{IsSaveFault}
+use Rattle.bd_volume.specs.Volume.{view_of}
+use Rattle.bd_volume.specs.Wears.{IsWornToReclaim}
+
+-- ---- pushes
+
+-- a push comes only where pushes were asked for
+pushes_asked : (pushes : Bool) (nodes : Nodes) (t : Table) (step : Reclaim) (id : ℕ) → IsFirst pushes nodes t step id → 1 ≤ pushes_in step → IsTrue pushes
+pushes_asked pushes nodes t (Shrink child) id first some = absurd (omega (arith, some))
+pushes_asked pushes nodes t (Drop node place at) id first some = absurd (omega (arith, some))
+pushes_asked pushes nodes t (Redirect node place at) id first some = absurd (omega (arith, some))
+pushes_asked pushes nodes t (Push above node place) id (here f there at) some = at.4
+pushes_asked pushes nodes t (Push above node place) _ (below i p c n e there clean before edge walked first) some = pushes_asked pushes nodes t (Push above node place) c first some
+
+next_pushes : (before : ℕ) (step : Reclaim) (v : View) → IsNextChange before step v → 1 ≤ pushes_in step → before < push_limit
+next_pushes before step v next some =
+    ltb-true before push_limit (and_parts (nat_le (push_need v) (free_slots v)) (nat_lt before push_limit) (pushes_asked (allows_push before v) v.tree.nodes v.tree.table step v.tree.table.root next some)).1
+
+push_few : (step : Reclaim) → pushes_in step ≤ 1
+push_few (Shrink child) = omega arith
+push_few (Drop node place at) = omega arith
+push_few (Redirect node place at) = omega arith
+push_few (Push above node place) = omega arith
+
+-- after a change there were no more pushes than may be
+next_few : (before : ℕ) (step : Reclaim) (v : View) → IsNextChange before step v → before ≤ push_limit → before + pushes_in step ≤ push_limit
+next_few before step v next few =
+    elim (cases_lt 0 (pushes_in step)) [
+      | inl some ↦ omega (arith, push_few step, next_pushes before step v next some)
+      | inr no ↦ omega (arith, no, few)
+    ]
+
+-- and their number stands in a u64
+pub next_low : (before : ℕ) (step : Reclaim) (v : View) → IsNextChange before step v → before < 2 ^ 64 → before + pushes_in step < 2 ^ 64
+next_low before step v next low =
+    elim (cases_lt 0 (pushes_in step)) [
+      | inl some ↦ omega (arith, push_few step, next_pushes before step v next some)
+      | inr no ↦ omega (arith, no, low)
+    ]
+
+-- ---- changes come to an end
+
+flag : ℕ → ℕ
+flag zero = 0
+flag (suc n) = 1
+
+flag_few : (n : ℕ) → flag n ≤ 1
+flag_few zero = omega arith
+flag_few (suc n) = omega arith
+
+flag_some : (n : ℕ) → 1 ≤ n → flag n ≡ 1
+flag_some zero some = absurd (omega (arith, some))
+flag_some (suc n) some = refl
+
+-- so many changes and checkpoints were made, so many of them pushes, and what is left to change is
+-- bounded
+pub record IsWithin (made pushes : ℕ) (v : View) : Type 0 where
+  pub fuel : made + 2 * left_over v.tree.nodes v.tree.table + flag (changed_count v) ≤ (pushes + 1) * 2 ^ 92
+  pub few : pushes ≤ push_limit
+
+pub within_first : (v : View) → left_over v.tree.nodes v.tree.table < 2 ^ 90 → IsWithin 0 0 v
+within_first v low = record { fuel = omega (arith, low, flag_few (changed_count v)); few = omega arith }
+
+pub within_end : {A : Type 0} (count pushes : ℕ) (v : View) → IsWithin count pushes v → 2 ^ 128 ≤ count + 1 → A
+within_end count pushes v h many = absurd (omega (arith, h.fuel, h.few, many))
+
+-- what a change leaves, by its kind
+made_fuel : (step : Reclaim) (count before lo ln fo fn : ℕ) → IfPush (λ above node place. ⊤) (ln < lo) step → ln < 2 ^ 90 → fn ≤ 1 → count + 2 * lo + fo ≤ (before + 1) * 2 ^ 92 → count + 1 + 2 * ln + fn ≤ (before + pushes_in step + 1) * 2 ^ 92
+made_fuel (Shrink child) count before lo ln fo fn less low flag h = omega (arith, less, flag, h)
+made_fuel (Drop node place at) count before lo ln fo fn less low flag h = omega (arith, less, flag, h)
+made_fuel (Redirect node place at) count before lo ln fo fn less low flag h = omega (arith, less, flag, h)
+made_fuel (Push above node place) count before lo ln fo fn less low flag h = omega (arith, low, flag, h)
+
+pub within_next : (count before after : ℕ) (old new : View) → IsWithin count before old → ChangesOnce before after old new → left_over new.tree.nodes new.tree.table < 2 ^ 90 → IsWithin (count + 1) after new
+within_next count before after old new h (made step done less is) low =
+    subst (λ (n : ℕ). IsWithin (count + 1) n new) (sym is) (record {
+      fuel = made_fuel step count before (left_over old.tree.nodes old.tree.table) (left_over new.tree.nodes new.tree.table) (flag (changed_count old)) (flag (changed_count new)) less low (flag_few (changed_count new)) h.fuel;
+      few = next_few before step old done.next h.few;
+    })
+within_next count before after old new h (saved step done some is) low =
+    let left : left_over new.tree.nodes new.tree.table ≡ left_over old.tree.nodes old.tree.table = ap (λ (v : View). left_over v.tree.nodes v.tree.table) done.saves.after in
+    let clean : flag (changed_count new) ≡ 0 = ap flag (saves_all old new done.saves) in
+    let dirty : flag (changed_count old) ≡ 1 = flag_some (changed_count old) some in
+    subst (λ (n : ℕ). IsWithin (count + 1) n new) (sym is) (record { fuel = omega (arith, left, clean, dirty, h.fuel); few = h.few })
+
+-- ---- changes, one after the other
+
+pub changed_more : (before after : ℕ) (a b d : View) → AreReclaims before a b → ChangesOnce before after b d → AreReclaims after a d
+changed_more before after a b d h (made step done less is) = subst (λ (n : ℕ). AreReclaims n a d) (sym is) (change before step a b d h done)
+changed_more before after a b d h (saved step done some is) = subst (λ (n : ℕ). AreReclaims n a d) (sym is) (save before step a b d h done)
+
+pub changed_all : (pushes : ℕ) (a b d : View) → AreReclaims pushes a b → IsChangedTo pushes None b d → ChangesAll a d
+changed_all pushes a b d h last = record {
+  pushes = pushes;
+  changes = subst (λ (v : View). AreReclaims pushes a v) (sym last.0) h;
+  whole = last.1;
+}
+
+pub stops_changing : (fault : Fault) (pushes : ℕ) (a b d : View) → AreReclaims pushes a b → d ≡ b → IsChangeFault fault pushes d → StopsChanging fault a d
+stops_changing fault pushes a b d h same cause = record {
+  pushes = pushes;
+  changes = subst (λ (v : View). AreReclaims pushes a v) (sym same) h;
+  cause = cause;
+}
+
+-- ---- one change
+
+pub none_left : (pushes : ℕ) (a b : View) → b ≡ a → HasNoChange pushes a → IsChangedTo pushes None a b
+none_left pushes a b same h = (same, subst (λ (v : View). HasNoChange pushes v) (sym same) h)
+
+-- a checkpoint was made for it
+pub saved_once : (pushes : ℕ) (step : Reclaim) (a b d : View) → b ≡ a → IsNextChange pushes step a → (HasRoomFor step b → ⊥) → Saves b d → 1 ≤ changed_count b → ChangesOnce pushes pushes a d
+saved_once pushes step a b d same next short saves some =
+    subst (λ (v : View). ChangesOnce pushes pushes v d) same
+    (saved step (record { next = subst (λ (v : View). IsNextChange pushes step v) (sym same) next; short = short; saves = saves }) some refl)
+
+-- it was made
+pub made_once : (pushes after : ℕ) (step : Reclaim) (a b d : View) → b ≡ a → IsNextChange pushes step a → Reclaims pushes step b d → LeavesLess b.tree.nodes b.tree.table step d.tree.nodes d.tree.table → after ≡ pushes + pushes_in step → ChangesOnce pushes after a d
+made_once pushes after step a b d same next done less is =
+    subst (λ (v : View). ChangesOnce pushes after v d) same (made step done less is)
+
+-- ---- faults
+
+-- no change wears a count of commands, of epochs or of flushes
+never_by_change : (K : Type 0) (nodes : Nodes) (t : Table) (step : Reclaim) (which : Counter) → ((one : Step) → IsWornBy t one which → ⊥) → (which ≡ Level → ⊥) → IsWornChange K nodes t step which → ⊥
+never_by_change K nodes t (Shrink child) which unworn other h = unworn (root_only child) h
+never_by_change K nodes t (Drop node place at) which unworn other h = unworn h.step h.worn
+never_by_change K nodes t (Redirect node place at) which unworn other h = unworn h.step h.worn
+never_by_change K nodes t (Push above node place) which unworn other h =
+    elim h.worn [
+      | inl w ↦ unworn w.step w.worn
+      | inr high ↦ other high.0
+    ]
+
+-- the same change, where less is known
+worn_where : (K L : Type 0) (nodes : Nodes) (t : Table) (step : Reclaim) (which : Counter) → (L → K) → IsWornChange K nodes t step which → IsWornChange L nodes t step which
+worn_where K L nodes t (Shrink child) which knows h = h
+worn_where K L nodes t (Drop node place at) which knows h = h
+worn_where K L nodes t (Redirect node place at) which knows h = h
+worn_where K L nodes t (Push above node place) which knows h = record {
+  step = h.step;
+  begins = h.begins;
+  due = h.due;
+  stands = λ l. h.stands (knows l);
+  reached = λ l. h.reached (knows l);
+  worn = elim h.worn [
+    | inl w ↦ inl (record { step = w.step; is = step_known L K nodes nodes t h.step w.step (λ l. (knows l, refl)) w.is; worn = w.worn })
+    | inr high ↦ inr high
+  ];
+}
+
+-- the counter has no room for the next change
+worn_next : (K : Type 0) (which : Counter) (pushes : ℕ) (step : Reclaim) (v : View) → (IsSound v.tree.nodes v.tree.table → K) → IsNextChange pushes step v → IsWornChange K v.tree.nodes v.tree.table step which → IsWornToReclaim which v
+worn_next K Count pushes step v knows next h = never_by_change K v.tree.nodes v.tree.table step Count (λ one w. w) (λ e. cc) h
+worn_next K NextId pushes step v knows next h = record { pushes = pushes; change = step; next = next; worn = worn_where K (IsSound v.tree.nodes v.tree.table) v.tree.nodes v.tree.table step NextId knows h }
+worn_next K Level pushes step v knows next h = record { pushes = pushes; change = step; next = next; worn = worn_where K (IsSound v.tree.nodes v.tree.table) v.tree.nodes v.tree.table step Level knows h }
+worn_next K Refs pushes step v knows next h = record { pushes = pushes; change = step; next = next; worn = worn_where K (IsSound v.tree.nodes v.tree.table) v.tree.nodes v.tree.table step Refs knows h }
+worn_next K Epoch pushes step v knows next h = absurd (never_by_change K v.tree.nodes v.tree.table step Epoch (λ one w. w) (λ e. cc) h)
+worn_next K Flushes pushes step v knows next h = never_by_change K v.tree.nodes v.tree.table step Flushes (λ one w. w) (λ e. cc) h
+
+-- looking for it failed
+pub look_fails : (m n : ℕ) (bad : ℕ → Type 0) (pushes : ℕ) (v : View) (fault : MapFault) → ((block : ℕ) → bad block → ⊥) → IsCause m n bad NeverWorn fault → IsChangeFault (fault_of fault) pushes v
+look_fails m n bad pushes v map.DeviceFault good h = tt
+look_fails m n bad pushes v (map.Damaged block) good h = good block h
+look_fails m n bad pushes v (map.Worn which) good h = absurd h
+look_fails m n bad pushes v map.NoMemory good h = tt
+
+-- it couldn't be made
+pub change_fails : (K : Type 0) (m n : ℕ) (bad : ℕ → Type 0) (pushes : ℕ) (step : Reclaim) (a b : View) (fault : MapFault) → ((block : ℕ) → bad block → ⊥) → (IsSound a.tree.nodes a.tree.table → K) → IsNextChange pushes step a → b ≡ a
+    → IsCause m n bad (IsWornChange K a.tree.nodes a.tree.table step) fault → IsChangeFault (fault_of fault) pushes b
+change_fails K m n bad pushes step a b map.DeviceFault good knows next same h = tt
+change_fails K m n bad pushes step a b (map.Damaged block) good knows next same h = good block h
+change_fails K m n bad pushes step a b (map.Worn which) good knows next same h = subst (λ (v : View). IsWornToReclaim which v) (sym same) (worn_next K which pushes step a knows next h)
+change_fails K m n bad pushes step a b map.NoMemory good knows next same h = tt
+
+-- no checkpoint was made for it
+edge_stops : (fault : Fault) (pushes : ℕ) (step : Reclaim) (v : View) → IsNextChange pushes step v → (HasRoomFor step v → ⊥) → IsEdgeSaveFault fault v → IsChangeFault fault pushes v
+edge_stops Device pushes step v next short h = tt
+edge_stops (Damaged block) pushes step v next short h = h
+edge_stops (Worn which) pushes step v next short h = subst (λ (w : Counter). IsWornToReclaim w v) (sym h.0) h.1
+edge_stops NoMemory pushes step v next short h = tt
+edge_stops (Full free need) pushes step v next short h = record { change = step; next = next; short = short; free_is = h.0; need_is = h.1; unsaved = h.2 }
+edge_stops (Stopped call) pushes step v next short h = h
+
+pub edge_fails : (fault : Fault) (pushes : ℕ) (step : Reclaim) (a b d : View) → b ≡ a → d ≡ b → IsNextChange pushes step a → (HasRoomFor step b → ⊥) → IsEdgeSaveFault fault d → IsChangeFault fault pushes d
+edge_fails fault pushes step a b d same again next short h =
+    edge_stops fault pushes step d (subst (λ (v : View). IsNextChange pushes step v) (sym (again ∙ same)) next) (λ room. short (subst (λ (v : View). HasRoomFor step v) again room)) h
+
+pub edge_shows : (fault : Fault) (v : View) → IsEdgeSaveFault fault v → ShowsEdge fault v
+edge_shows Device v h = tt
+edge_shows (Damaged block) v h = tt
+edge_shows (Worn which) v h = tt
+edge_shows NoMemory v h = tt
+edge_shows (Full free need) v h = (h.0, h.1)
+edge_shows (Stopped call) v h = tt
+
+-- a map's fault tells no numbers
+pub map_shows : (fault : MapFault) (v : View) → ShowsEdge (fault_of fault) v
+map_shows map.DeviceFault v = tt
+map_shows (map.Damaged block) v = tt
+map_shows (map.Worn which) v = tt
+map_shows map.NoMemory v = tt
+
+module _ {D : Type 0} (g : Ghosts D) where
+  save_stops : (a b : Volume D) (fault : Fault) → IsSaveFault a b fault → IsEdgeSaveFault fault (view_of g b)
+  save_stops a b Device h = tt
+  save_stops a b (Damaged block) h = h
+  save_stops a b (Worn which) h = (h.0, subst (λ (live : Super). 2 ^ 64 ≤ live.epoch + 1) (sym h.2) h.1)
+  save_stops a b NoMemory h = tt
+  save_stops a b (Full free need) h = absurd h
+  save_stops a b (Stopped call) h = h
+
+  -- a checkpoint before the change of an edge failed
+  pub saves_stop : {T : Type 0} (r : Result T Fault) (a b : Volume D) → IfErr r (IsSaveFault a b) → IfErr r (λ fault. IsEdgeSaveFault fault (view_of g b))
+  saves_stop (Ok x) a b h = tt
+  saves_stop (Err e) a b h = save_stops a b e h

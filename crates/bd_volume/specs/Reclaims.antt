@@ -1,0 +1,74 @@
+-- How a volume makes changes of reclaiming, and why it stops.
+use Rattle.std.specs.Prelude.{◌≡◌, ℕ, ◌+◌, ◌^◌, ◌≤◌, Option, None, Some, ⊤}
+use Rattle.bd_message.specs.declared.fault.Counter.TheVariants.{Epoch}
+use Rattle.bd_reclaim.specs.declared.walking.Reclaim.{Reclaim}
+use Rattle.bd_reclaim.specs.Reclaimed.{LeavesLess}
+use Rattle.bd_view.specs.Views.{View, changed_count, free_slots}
+use Rattle.bd_view.specs.Moves.{CannotSave}
+use Rattle.bd_view.specs.Reclaiming.{edge_need, pushes_in, HasRoomFor, IsNextChange, HasNoChange, Reclaims, SavesBetween, AreReclaims}
+use Rattle.bd_volume.specs.declared.fault.Fault.{Fault}
+use Rattle.bd_volume.specs.declared.fault.Fault.TheVariants.{Device, Damaged, Worn, NoMemory, Full, Stopped}
+use Rattle.bd_volume.specs.Wears.{IsWornToReclaim}
+
+-- after so many pushes the next change was made, which leaves less to change unless it is a push; or
+-- nodes were changed, and a checkpoint was made, since too few slots were free for the change
+pub data ChangesOnce (before after : ℕ) (old new : View) : Type 0 where
+  made : (change : Reclaim) → Reclaims before change old new
+      → LeavesLess old.tree.nodes old.tree.table change new.tree.nodes new.tree.table
+      → after ≡ before + pushes_in change → ChangesOnce before after old new
+  saved : (change : Reclaim) → SavesBetween before change old new → 1 ≤ changed_count old
+      → after ≡ before → ChangesOnce before after old new
+
+-- after so many pushes no change was left, or this was done, after which there were so many
+abbrev pub IsChangedTo : ℕ → Option ℕ → View → View → Type 0
+IsChangedTo before None old new = (new ≡ old) × HasNoChange before new
+IsChangedTo before (Some after) old new = ChangesOnce before after old new
+
+-- changes, so many of them pushes, and checkpoints between them, until none is left
+pub record ChangesAll (old new : View) : Type 0 where
+  pub pushes : ℕ
+  pub changes : AreReclaims pushes old new
+  pub whole : HasNoChange pushes new
+
+-- so many slots are free, the next change of an edge needs more, so many, and no checkpoint helps
+pub record IsEdgeFull (pushes free need : ℕ) (v : View) : Type 0 where
+  pub change : Reclaim
+  pub next : IsNextChange pushes change v
+  pub short : ¬ HasRoomFor change v
+  pub free_is : free ≡ free_slots v
+  pub need_is : need ≡ edge_need v
+  pub unsaved : CannotSave v
+
+-- why no checkpoint is made before the change of an edge
+abbrev pub IsEdgeSaveFault : Fault → View → Type 0
+IsEdgeSaveFault Device v = ⊤
+IsEdgeSaveFault (Damaged block) v = ⊥
+IsEdgeSaveFault (Worn which) v = (which ≡ Epoch) × (2 ^ 64 ≤ v.epoch + 1)
+IsEdgeSaveFault NoMemory v = ⊤
+IsEdgeSaveFault (Full free need) v =
+    (free ≡ free_slots v) × (need ≡ edge_need v) × CannotSave v
+IsEdgeSaveFault (Stopped call) v = ⊥
+
+-- why the next change isn't made, or the checkpoint before it
+abbrev pub IsChangeFault : Fault → ℕ → View → Type 0
+IsChangeFault Device pushes v = ⊤
+IsChangeFault (Damaged block) pushes v = ⊥
+IsChangeFault (Worn which) pushes v = IsWornToReclaim which v
+IsChangeFault NoMemory pushes v = ⊤
+IsChangeFault (Full free need) pushes v = IsEdgeFull pushes free need v
+IsChangeFault (Stopped call) pushes v = ⊥
+
+-- changes were made, and such a fault came
+pub record StopsChanging (fault : Fault) (old new : View) : Type 0 where
+  pub pushes : ℕ
+  pub changes : AreReclaims pushes old new
+  pub cause : IsChangeFault fault pushes new
+
+-- what is told of a fault where the nodes may not be known: with which numbers slots are too few
+abbrev pub ShowsEdge : Fault → View → Type 0
+ShowsEdge Device v = ⊤
+ShowsEdge (Damaged block) v = ⊤
+ShowsEdge (Worn which) v = ⊤
+ShowsEdge NoMemory v = ⊤
+ShowsEdge (Full free need) v = (free ≡ free_slots v) × (need ≡ edge_need v)
+ShowsEdge (Stopped call) v = ⊤

@@ -1,0 +1,144 @@
+//! The changes of reclaiming, with the checkpoints between them.
+
+ghost use Rattle.std.specs.Prelude.{◌≡◌, ◌↔◌, ◌+◌, ◌^◌, ◌<◌, ◌≤◌, ℕ, None, IfOk, IfErr, OnOk, OnErr, IsTrue};
+ghost use Rattle.bd_model.specs.Tree.{Tree};
+ghost use Rattle.bd_view.specs.Views.{changed_count, free_slots};
+ghost use Rattle.bd_view.specs.Moves.{Saves};
+ghost use Rattle.bd_view.specs.Reclaiming.{allows_push, edge_need, pushes_in, HasRoomFor};
+ghost use Rattle.bd_engine.specs.Engines.{IsSoundOn};
+ghost use Rattle.bd_volume.specs.Volume.{StandsFor, view_of, count_of, stop_of};
+ghost use Rattle.bd_volume.specs.Steps.{Ends};
+ghost use Rattle.bd_volume.specs.Reclaims.{IsChangedTo, ChangesAll, IsEdgeSaveFault, IsChangeFault, StopsChanging, ShowsEdge};
+
+use super::Volume;
+use crate::fault::Fault;
+use bd_device::Device;
+use bd_reclaim::Reclaim;
+
+// The most pushes of one reclaiming.
+const MAX_PUSHES: u64 = 4_096;
+
+impl<D: Device> Volume<D> {
+    // Makes changes of reclaiming until none is left, with a checkpoint before one for which too few
+    // slots are free. A fault leaves those that were made. In sound nodes they come to an end before
+    // the loop does.
+    pub(crate) fn change_all(&mut self) -> Result<(), Fault>
+        requires { stop_of self.old ≡ None }
+        ensures changes { IsSoundOn D.Device self.old.engine.pager → OnOk result
+            (ChangesAll (view_of D.Device self.old) (view_of D.Device self.new)) }
+        ensures fails { IsSoundOn D.Device self.old.engine.pager → IfErr result (λ fault.
+            StopsChanging fault (view_of D.Device self.old) (view_of D.Device self.new)) }
+        ensures stands { (t : Tree) (n : ℕ) → StandsFor D.Device self.old t n
+            → StandsFor D.Device self.new t n }
+
+        // Whatever is known.
+        ensures shows { IfErr result (λ fault. ShowsEdge fault (view_of D.Device self.new)) }
+        ensures ends { Ends D.Device self.old self.new result }
+        ensures count_stays { count_of self.new ≡ count_of self.old }
+    {
+        let mut pushes = 0u64;
+        self.engine.little_is_left();
+        for _made in 0..u128::MAX {
+            let Some(after) = self.change_once(pushes)? else {
+                return Ok(());
+            };
+            pushes = after;
+            self.engine.little_is_left();
+        }
+        Ok(())
+    }
+
+    // After so many pushes, makes the next change, or a checkpoint where too few slots are free for
+    // it, and says how many pushes there were then; or none, where no change is left.
+    fn change_once(&mut self, pushes: u64) -> Result<Option<u64>, Fault>
+        requires { stop_of self.old ≡ None }
+        ensures changes { IsSoundOn D.Device self.old.engine.pager → IfOk result (λ left.
+            IsChangedTo pushes left (view_of D.Device self.old) (view_of D.Device self.new)) }
+        ensures unmoved { IsSoundOn D.Device self.old.engine.pager
+            → OnErr result (view_of D.Device self.new ≡ view_of D.Device self.old) }
+        ensures fails { IsSoundOn D.Device self.old.engine.pager → IfErr result (λ fault.
+            IsChangeFault fault pushes (view_of D.Device self.new)) }
+        ensures sound { IsSoundOn D.Device self.old.engine.pager
+            → IsSoundOn D.Device self.new.engine.pager }
+        ensures stands { (t : Tree) (n : ℕ) → StandsFor D.Device self.old t n
+            → StandsFor D.Device self.new t n }
+
+        // Whatever is known.
+        ensures shows { IfErr result (λ fault. ShowsEdge fault (view_of D.Device self.new)) }
+        ensures ends { Ends D.Device self.old self.new result }
+        ensures count_stays { count_of self.new ≡ count_of self.old }
+    {
+        let found = self.engine.next_change(self.allows_push(pushes));
+        self.engine.sound_nodes_are_undamaged();
+        let Some(change) = found? else {
+            return Ok(None);
+        };
+        if !self.has_room(&change) {
+            self.save_for_edge()?;
+            return Ok(Some(pushes));
+        }
+        let after = pushes_after(pushes, &change);
+        let made = self.engine.make_change(change);
+        self.engine.sound_nodes_are_undamaged();
+        made?;
+        Ok(Some(after))
+    }
+
+    // Makes a checkpoint where too few slots are free for the change of an edge, if one helps.
+    fn save_for_edge(&mut self) -> Result<(), Fault>
+        requires going { stop_of self.old ≡ None }
+        requires short { free_slots (view_of D.Device self.old)
+            < edge_need (view_of D.Device self.old) }
+        ensures saves { IsSoundOn D.Device self.old.engine.pager → OnOk result
+            (Saves (view_of D.Device self.old) (view_of D.Device self.new)) }
+        ensures unmoved { IsSoundOn D.Device self.old.engine.pager
+            → OnErr result (view_of D.Device self.new ≡ view_of D.Device self.old) }
+        ensures sound { IsSoundOn D.Device self.old.engine.pager
+            → IsSoundOn D.Device self.new.engine.pager }
+        ensures stands { (t : Tree) (n : ℕ) → StandsFor D.Device self.old t n
+            → StandsFor D.Device self.new t n }
+
+        // Whatever is known.
+        ensures some { OnOk result (1 ≤ changed_count (view_of D.Device self.old)) }
+        ensures fails { IfErr result (λ fault.
+            IsEdgeSaveFault fault (view_of D.Device self.new)) }
+        ensures ends { Ends D.Device self.old self.new result }
+        ensures count_stays { count_of self.new ≡ count_of self.old }
+    {
+        if !self.can_save() {
+            let (free, need) = (self.engine.free(), self.engine.edge_need());
+            return Err(Fault::Full { free, need });
+        }
+        self.save()
+    }
+
+    // Whether after so many pushes another one may be made.
+    fn allows_push(&self, pushes: u64) -> bool
+        ensures { result ≡ allows_push pushes (view_of D.Device self.now) }
+    {
+        self.engine.push_need() <= self.engine.free() && pushes < MAX_PUSHES
+    }
+
+    // Whether slots are free for a change, where it isn't a push. A root that adds nothing goes
+    // without any.
+    fn has_room(&self, change: &Reclaim) -> bool
+        ensures { IsTrue result ↔ HasRoomFor change.now (view_of D.Device self.now) }
+    {
+        match change {
+            Reclaim::Shrink { .. } | Reclaim::Push { .. } => true,
+            Reclaim::Drop { .. } | Reclaim::Redirect { .. } => {
+                self.engine.edge_need() <= self.engine.free()
+            }
+        }
+    }
+}
+
+// How many pushes there were after a change, where there were so many before it.
+fn pushes_after(pushes: u64, change: &Reclaim) -> u64
+    ensures { pushes + pushes_in change.now < 2 ^ 64 → result ≡ pushes + pushes_in change.now }
+{
+    match change {
+        Reclaim::Push { .. } => pushes.saturating_add(1),
+        Reclaim::Shrink { .. } | Reclaim::Drop { .. } | Reclaim::Redirect { .. } => pushes,
+    }
+}
