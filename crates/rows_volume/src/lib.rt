@@ -13,3 +13,5 @@ mod lines;
 mod space;
 #[cfg(test)]
 mod stops;
+#[cfg(test)]
+mod versions;
