@@ -19,15 +19,16 @@ const QUESTIONS: &[(&str, &str)] = &[
 
 /// Whether a volume answers all questions as the plain program does.
 fn answers_alike<D: Device>(
-    rt: &HostRuntime,
+    rt: &impl Abort,
+    alloc: Global,
     volume: &mut Volume<D>,
     tree: &mut PlainTree,
 ) -> Result<(), Fail> {
     for path in PATHS {
         for (verb, rest) in QUESTIONS {
-            let line = format!(in rt.alloc(); "{verb} {path}{rest}")?;
-            let found = said(rt.alloc(), volume, &line)?;
-            let want = wanted(rt.alloc(), tree, &line)?;
+            let line = format!(in alloc; "{verb} {path}{rest}")?;
+            let found = said(alloc, volume, &line)?;
+            let want = wanted(alloc, tree, &line)?;
             assert_eq!(rt; found.as_str(), want.as_str(), "{line}");
         }
     }
@@ -37,21 +38,22 @@ fn answers_alike<D: Device>(
 /// What a volume answers to so many lines, as the plain program does, with a checkpoint after each
 /// hundred and a reclaiming after each five hundred.
 fn runs_alike(
-    rt: &HostRuntime,
+    rt: &impl Abort,
+    alloc: Global,
     volume: &mut Volume<MemDevice>,
     tree: &mut PlainTree,
     lines: &mut Lines,
     count: u32,
 ) -> Result<(), Fail> {
     for made in 1..=count {
-        let line = lines.line(rt.alloc())?;
-        let found = said(rt.alloc(), volume, &line)?;
-        let want = wanted(rt.alloc(), tree, &line)?;
+        let line = lines.line(alloc)?;
+        let found = said(alloc, volume, &line)?;
+        let want = wanted(alloc, tree, &line)?;
         assert_eq!(rt; found.as_str(), want.as_str(), "{line}");
         if made % 500 == 0 {
-            assert_eq!(rt; said(rt.alloc(), volume, "reclaim")?.as_str(), "ok");
+            assert_eq!(rt; said(alloc, volume, "reclaim")?.as_str(), "ok");
         } else if made % 100 == 0 {
-            assert_eq!(rt; said(rt.alloc(), volume, "checkpoint")?.as_str(), "ok");
+            assert_eq!(rt; said(alloc, volume, "checkpoint")?.as_str(), "ok");
         }
     }
     Ok(())
@@ -64,14 +66,14 @@ fn a_volume_answers_as_the_plain_program_does(rt: HostRuntime) -> Result<(), Fai
     let mut volume = formatted(rt.alloc(), 512, 40_000)?;
     let mut tree = PlainTree::new(rt.alloc())?;
     let mut lines = Lines(Numbers(1));
-    runs_alike(&rt, &mut volume, &mut tree, &mut lines, 3_000)?;
+    runs_alike(&rt, rt.alloc(), &mut volume, &mut tree, &mut lines, 3_000)?;
     let walk = volume.last_walk();
     assert!(rt; walk.height >= 3, "the tree stays low: {walk:?}");
-    answers_alike(&rt, &mut volume, &mut tree)?;
+    answers_alike(&rt, rt.alloc(), &mut volume, &mut tree)?;
     let count = volume.count();
     let mut again = started(rt.alloc(), volume.into_device())?;
     assert_eq!(rt; again.count(), count);
-    answers_alike(&rt, &mut again, &mut tree)?;
+    answers_alike(&rt, rt.alloc(), &mut again, &mut tree)?;
     Ok(())
 }
 

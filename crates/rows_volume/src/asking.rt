@@ -70,8 +70,8 @@ fn executed<D: Device>(
 }
 
 /// The text of a call that answers nothing more.
-fn done(alloc: Global, result: Result<(), Fault>) -> Result<String, Fail> {
-    match result {
+fn done(alloc: Global, ended: Result<(), Fault>) -> Result<String, Fail> {
+    match ended {
         Ok(()) => Ok(String::from_str(alloc, "ok")?),
         Err(fault) => full_text(alloc, fault),
     }
