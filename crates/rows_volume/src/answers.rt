@@ -7,6 +7,7 @@ use bd_plain::PlainTree;
 use bd_volume::Volume;
 use rows_tools::Numbers;
 use std::alloc::Global;
+use std::process::Abort;
 use std::test::Fail;
 
 /// Each path is asked by these verbs, with what follows the path.
