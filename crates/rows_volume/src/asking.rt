@@ -20,7 +20,7 @@ pub fn formatted(alloc: Global, slots: u32, writes: usize) -> Result<Volume<MemD
 }
 
 /// A volume on a new image that a device gets.
-pub fn on_new_image<D: Device>(alloc: Global, device: D, slots: u32) -> Result<Volume<D>, Fail> {
+pub fn on_new_image<D: Device + Drop>(alloc: Global, device: D, slots: u32) -> Result<Volume<D>, Fail> {
     if slots < MIN_SLOTS || slots > MAX_SLOTS || device.blocks() != image_blocks(slots) {
         return Err(Fail::new("no image of so many slots"));
     }
@@ -31,7 +31,7 @@ pub fn on_new_image<D: Device>(alloc: Global, device: D, slots: u32) -> Result<V
 }
 
 /// A volume on the image that a device has.
-pub fn started<D: Device>(alloc: Global, device: D) -> Result<Volume<D>, Fail> {
+pub fn started<D: Device + Drop>(alloc: Global, device: D) -> Result<Volume<D>, Fail> {
     match Volume::start(alloc, device) {
         Ok(volume) => Ok(volume),
         Err(Refused { fault, .. }) => Err(Fail::from(fault)),
