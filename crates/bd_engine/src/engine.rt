@@ -9,6 +9,7 @@ ghost use Rattle.bd_engine.specs.Engines.{started, view_of, IsStanding};
 mod changing;
 mod saving;
 mod starting;
+mod telling;
 
 use bd_command::Command;
 use bd_device::Device;
