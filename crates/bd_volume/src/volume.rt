@@ -264,12 +264,10 @@ impl<D: Device> Volume<D> {
             → (result ≡ Err (Fault.Stopped call)) × (self.new ≡ self.old) }
         ensures device { Stays D.Device (device_of self.old) (device_of self.new) }
     {
-        if let Some(call) = self.engine.stop() {
-            return Err(Fault::Stopped { call });
+        match self.engine.stop() {
+            Some(call) => Err(Fault::Stopped { call }),
+            None => self.reclaim_nodes(),
         }
-        self.checkpoint()?;
-        self.change_all()?;
-        self.checkpoint()
     }
 
     /// How many slots the last checkpoint doesn't hold.

@@ -2,14 +2,17 @@
 
 ghost use Rattle.std.specs.Prelude.{◌≡◌, ◌↔◌, ◌+◌, ◌^◌, ◌<◌, ◌≤◌, ℕ, None, IfOk, IfErr, IfSome, MatchOption, OnOk, OnErr, IsTrue};
 ghost use Rattle.bd_model.specs.Tree.{Tree};
+ghost use Rattle.bd_device.specs.Device.{left_now};
+ghost use Rattle.bd_device.specs.Moments.{IsOnly};
+ghost use Rattle.bd_checkpoint.specs.Kept.{AllStandFor};
 ghost use Rattle.bd_view.specs.Views.{changed_count, free_slots};
 ghost use Rattle.bd_view.specs.Moves.{Saves};
-ghost use Rattle.bd_view.specs.Reclaiming.{allows_push, edge_need, pushes_in, HasRoomFor, IsNextChange, HasNoChange};
+ghost use Rattle.bd_view.specs.Reclaiming.{allows_push, edge_need, pushes_in, HasRoomFor, IsNextChange, HasNoChange, IsReclaim};
 ghost use Rattle.bd_engine.specs.Engines.{IsSoundOn, IsReadOn};
 ghost use Rattle.bd_engine.specs.Reclaiming.{MayMake};
-ghost use Rattle.bd_volume.specs.Volume.{StandsFor, view_of, count_of, stop_of};
+ghost use Rattle.bd_volume.specs.Volume.{StandsFor, view_of, count_of, device_of, stop_of};
 ghost use Rattle.bd_volume.specs.Steps.{Ends};
-ghost use Rattle.bd_volume.specs.Reclaims.{ChangesOnce, IsChangedTo, ChangesAll, IsEdgeSaveFault, IsChangeFault, StopsChanging, ShowsEdge};
+ghost use Rattle.bd_volume.specs.Reclaims.{ChangesOnce, IsChangedTo, ChangesAll, IsEdgeSaveFault, IsChangeFault, StopsChanging, ShowsEdge, IsReclaimFault, ShowsReclaim};
 
 use super::Volume;
 use crate::fault::Fault;
@@ -20,10 +23,34 @@ use bd_reclaim::Reclaim;
 const MAX_PUSHES: u64 = 4_096;
 
 impl<D: Device> Volume<D> {
+    // Reclaims, where the volume wasn't stopped.
+    pub(crate) fn reclaim_nodes(&mut self) -> Result<(), Fault>
+        requires { stop_of self.old ≡ None }
+        ensures reclaims { OnOk result ((t : Tree) (n : ℕ) → StandsFor D.Device self.old t n
+            → IsReclaim (view_of D.Device self.old) (view_of D.Device self.new)) }
+        ensures fails { IfErr result (λ fault. (t : Tree) (n : ℕ) → StandsFor D.Device self.old t n
+            → IsReclaimFault fault (view_of D.Device self.old) (view_of D.Device self.new)) }
+        ensures stands { (t : Tree) (n : ℕ) → StandsFor D.Device self.old t n
+            → StandsFor D.Device self.new t n }
+        ensures kept { OnOk result ((t : Tree) (n : ℕ) → StandsFor D.Device self.old t n
+            → AllStandFor t n (left_now D.Device (device_of self.new))) }
+        ensures only { OnOk result (IsOnly (D.contents (device_of self.new))
+            (left_now D.Device (device_of self.new))) }
+
+        // Whatever is known.
+        ensures shows { IfErr result (λ fault. ShowsReclaim fault (view_of D.Device self.new)) }
+        ensures ends { Ends D.Device self.old self.new result }
+        ensures count_stays { count_of self.new ≡ count_of self.old }
+    {
+        self.checkpoint()?;
+        self.change_all()?;
+        self.checkpoint()
+    }
+
     // Makes changes of reclaiming until none is left, with a checkpoint before one for which too few
     // slots are free. A fault leaves those that were made. In sound nodes they come to an end before
     // the loop does.
-    pub(crate) fn change_all(&mut self) -> Result<(), Fault>
+    fn change_all(&mut self) -> Result<(), Fault>
         requires { stop_of self.old ≡ None }
         ensures changes { IsSoundOn D.Device self.old.engine.pager → OnOk result
             (ChangesAll (view_of D.Device self.old) (view_of D.Device self.new)) }
