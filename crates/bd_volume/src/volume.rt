@@ -264,10 +264,10 @@ impl<D: Device> Volume<D> {
             → (result ≡ Err (Fault.Stopped call)) × (self.new ≡ self.old) }
         ensures device { Stays D.Device (device_of self.old) (device_of self.new) }
     {
-        match self.engine.stop() {
-            Some(call) => Err(Fault::Stopped { call }),
-            None => self.reclaim_nodes(),
+        if let Some(call) = self.engine.stop() {
+            return Err(Fault::Stopped { call });
         }
+        self.reclaim_nodes()
     }
 
     /// How many slots the last checkpoint doesn't hold.
