@@ -36,7 +36,7 @@ use Rattle.bd_volume.specs.Faults.{fault_of}
 use Rattle.bd_volume.specs.Volume.{view_of, count_of, device_of}
 use Rattle.bd_volume.specs.Wears.{IsWornForStep, IsWornByKind, IsWornForSending, IsWornForSave, IsWornNow, Wears, ShowsWorn}
 use Rattle.bd_volume.specs.Steps.{ShowsFault, IsSaveFault, IsWornInStep, IsStepFault, IsCommandFault}
-use Rattle.bd_volume.proofs.Stepped.{not_stepped, has_stepped}
+use Rattle.bd_volume.proofs.Stepped.{not_stepped}
 use Rattle.bd_volume.proofs.Read.{read_worn}
 
 -- ---- a command's fault, after its steps
@@ -49,7 +49,7 @@ worn_halts Refs count c made old new h = inl (record { waits = h.waits; worn = h
 worn_halts Epoch count c made old new h = h
 worn_halts Flushes count c made old new h = absurd h
 
-step_halts : (fault : Fault) (count : ℕ) (c : Command) (old new : View) → IsTrue (writes c) → HasStepped c old new → IsStepFault fault c new → IsCommandFault fault count c old new
+pub step_halts : (fault : Fault) (count : ℕ) (c : Command) (old new : View) → IsTrue (writes c) → HasStepped c old new → IsStepFault fault c new → IsCommandFault fault count c old new
 step_halts Device count c old new writing s h = tt
 step_halts (Damaged block) count c old new writing s h = h
 step_halts (Worn which) count c old new writing s h = record { counts = writing; stepped = s; worn = worn_halts which count c s.made old new h }
@@ -77,7 +77,7 @@ count_worn count c v writing full = record { counts = writing; stepped = not_ste
 pub flushes_worn : (count : ℕ) (c : Command) (made : ℕ) (old new : View) → IsTrue (writes c) → AreSteps c made old new → made ≡ flush_limit → waiting_limit c < new.tree.table.size → Wears Flushes count c old new
 flushes_worn count c made old new writing steps all waits = record {
   counts = writing;
-  stepped = has_stepped c made old new steps (omega (arith, all));
+  stepped = record { made = made; steps = steps; few = omega (arith, all) };
   worn = record { waits = waits; worn = all };
 }
 
@@ -153,7 +153,7 @@ module _ {D : Type 0} (g : Ghosts D) where
   -- ---- flush steps
 
   -- that the nodes of a pager are known and sound
-  AreKnownIn : Paged D → Type 0
+  abbrev AreKnownIn : Paged D → Type 0
   AreKnownIn p = is_known g p × IsSound (nodes_of g p) (table_of p)
 
   worn_in_step : (a : Volume D) (which : Counter) (c : Command) → is_known g a.engine.pager → waiting_limit c < (table_of a.engine.pager).size → IsWornIn g a.engine.pager which → IsWornInStep which c (view_of g a)

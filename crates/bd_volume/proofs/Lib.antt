@@ -1,7 +1,9 @@
 pub mod Called
+pub mod Executed
 pub mod Faulted
 pub mod Read
 pub mod Reclaimed
 pub mod Reclaims
+pub mod Sent
 pub mod Started
 pub mod Stepped

@@ -1,19 +1,21 @@
 -- Reclaiming as a whole: its first checkpoint, its changes, and its last checkpoint.
-use Rattle.std.proofs.Common.{◌≡◌, ℕ, ◌+◌, ◌^◌, ◌≤◌, sym, subst, ap, inl, inr}
-use Rattle.std.specs.Prelude.{Result, Ok, Err, IfErr}
+use Rattle.std.proofs.Common.{◌≡◌, ℕ, ◌+◌, ◌^◌, ◌≤◌, Option, None, Some, refl, sym, subst, ap, inl, inr}
+use Rattle.std.specs.Prelude.{Result, Ok, Err, IfErr, OnErr}
+use Rattle.bd_model.specs.Tree.{Tree}
 use Rattle.bd_message.specs.declared.fault.Counter.{Counter}
 use Rattle.bd_message.specs.declared.fault.Counter.TheVariants.{Epoch}
 use Rattle.bd_device.specs.declared.device.Device.{Ghosts}
-use Rattle.bd_view.specs.Views.{View}
+use Rattle.bd_view.specs.Views.{View, free_slots, save_slots}
 use Rattle.bd_view.specs.Moves.{Saves, IsCheckpointFull}
 use Rattle.bd_view.specs.Reclaiming.{AreReclaims, HasReclaimed, IsReclaim, IsReclaimFull}
 use Rattle.bd_view.specs.Reclaiming.IsReclaimFull.{first, edge, last}
 use Rattle.bd_volume.specs.declared.fault.Fault.{Fault}
-use Rattle.bd_volume.specs.declared.fault.Fault.TheVariants.{Worn, Full}
+use Rattle.bd_volume.specs.declared.fault.Fault.TheVariants.{Device, Damaged, Worn, NoMemory, Full, Stopped}
 use Rattle.bd_volume.specs.declared.volume.Volume.{Volume}
-use Rattle.bd_volume.specs.Reclaims.{ChangesAll, StopsChanging}
-use Rattle.bd_volume.specs.Volume.{view_of}
-use Rattle.bd_volume.specs.Wears.{HasBegunReclaiming, IsWornToReclaim, WearsReclaiming}
+use Rattle.bd_volume.specs.Faults.{HasFaultCause}
+use Rattle.bd_volume.specs.Reclaims.{ChangesAll, StopsChanging, IsReclaimFault, ShowsEdge, ShowsReclaim}
+use Rattle.bd_volume.specs.Volume.{StandsFor, view_of, stop_of}
+use Rattle.bd_volume.specs.Wears.{HasBegunReclaiming, IsWornToReclaim}
 
 reclaimed : (pushes : ℕ) (a b c : View) → Saves a b → AreReclaims pushes b c → HasReclaimed pushes a c
 reclaimed pushes a b c saves changes = record { first = b; begins = saves; changes = changes }
@@ -27,42 +29,94 @@ is_reclaim a b c d saves all ends = record {
   ends = ends;
 }
 
--- ---- what a fault leaves
-
-pub begun_between : (fault : Fault) (a b c : View) → Saves a b → StopsChanging fault b c → HasBegunReclaiming a c
-begun_between fault a b c saves stops = inr (stops.pushes, reclaimed stops.pushes a b c saves stops.changes)
-
-pub begun_last : (a b c d : View) → Saves a b → ChangesAll b c → d ≡ c → HasBegunReclaiming a d
-begun_last a b c d saves all same =
-    subst (λ (v : View). HasBegunReclaiming a v) (sym same) (inr (all.pushes, reclaimed all.pushes a b c saves all.changes))
-
--- ---- slots are too few
-
-pub full_first : {D : Type 0} (g : Ghosts D) (a b : Volume D) (free need : ℕ) → IsCheckpointFull (view_of g a) free need × (b ≡ a) → IsReclaimFull (view_of g a) free need (view_of g b)
-full_first g a b free need full = subst (λ (v : Volume _). IsReclaimFull (view_of g a) free need (view_of g v)) (sym full.1) (first full.0)
-
-pub full_between : {T : Type 0} (r : Result T Fault) (free need : ℕ) (a b c : View) → Saves a b → IfErr r (λ fault. StopsChanging fault b c) → r ≡ Err (Full free need) → IsReclaimFull a free need c
-full_between {T} r free need a b c saves stops is =
-    let h : StopsChanging (Full free need) b c = subst (λ (x : Result T Fault). IfErr x (λ fault. StopsChanging fault b c)) is stops in
-    edge h.pushes h.cause.change c (reclaimed h.pushes a b c saves h.changes) h.cause.next h.cause.short h.cause.free_is h.cause.need_is h.cause.unsaved
-
-pub full_last : {D : Type 0} (g : Ghosts D) (a b : View) (c d : Volume D) (free need : ℕ) → Saves a b → ChangesAll b (view_of g c) → IsCheckpointFull (view_of g c) free need × (d ≡ c) → IsReclaimFull a free need (view_of g d)
-full_last g a b c d free need saves all full =
-    subst (λ (v : Volume _). IsReclaimFull a free need (view_of g v)) (sym full.1) (last all.pushes (view_of g c) (reclaimed all.pushes a b (view_of g c) saves all.changes) all.whole full.0)
-
--- ---- a counter is worn
+-- ---- why it stops
 
 epoch_worn : (which : Counter) (c d : View) → d ≡ c → (which ≡ Epoch) × (2 ^ 64 ≤ c.epoch + 1) → IsWornToReclaim which d
 epoch_worn which c d same h =
     subst (λ (w : Counter). IsWornToReclaim w d) (sym h.0) (subst (λ (v : View). 2 ^ 64 ≤ v.epoch + 1) (sym same) h.1)
 
-pub worn_first : (which : Counter) (a b : View) → b ≡ a → (which ≡ Epoch) × (2 ^ 64 ≤ a.epoch + 1) → WearsReclaiming which a b
-worn_first which a b same h = record { begun = inl same; worn = epoch_worn which a b same h }
+begun_between : (fault : Fault) (a b c : View) → Saves a b → StopsChanging fault b c → HasBegunReclaiming a c
+begun_between fault a b c saves h = inr (h.pushes, reclaimed h.pushes a b c saves h.changes)
 
-pub worn_between : {T : Type 0} (r : Result T Fault) (which : Counter) (a b c : View) → Saves a b → IfErr r (λ fault. StopsChanging fault b c) → r ≡ Err (Worn which) → WearsReclaiming which a c
-worn_between {T} r which a b c saves stops is =
-    let h : StopsChanging (Worn which) b c = subst (λ (x : Result T Fault). IfErr x (λ fault. StopsChanging fault b c)) is stops in
-    record { begun = begun_between (Worn which) a b c saves h; worn = h.cause }
+-- between its checkpoints
+pub between_fails : (fault : Fault) (a b c : View) → Saves a b → StopsChanging fault b c → IsReclaimFault fault a c
+between_fails Device a b c saves h = begun_between Device a b c saves h
+between_fails (Damaged block) a b c saves h = h.cause
+between_fails (Worn which) a b c saves h = record { begun = begun_between (Worn which) a b c saves h; worn = h.cause }
+between_fails NoMemory a b c saves h = begun_between NoMemory a b c saves h
+between_fails (Full free need) a b c saves h =
+    edge h.pushes h.cause.change c (reclaimed h.pushes a b c saves h.changes) h.cause.next h.cause.short h.cause.free_is h.cause.need_is h.cause.unsaved
+between_fails (Stopped call) a b c saves h = h.cause
 
-pub worn_last : (which : Counter) (a b c d : View) → Saves a b → ChangesAll b c → d ≡ c → (which ≡ Epoch) × (2 ^ 64 ≤ c.epoch + 1) → WearsReclaiming which a d
-worn_last which a b c d saves all same h = record { begun = begun_last a b c d saves all same; worn = epoch_worn which c d same h }
+pub between_shows : (fault : Fault) (v : View) → ShowsEdge fault v → ShowsReclaim fault v
+between_shows Device v h = tt
+between_shows (Damaged block) v h = tt
+between_shows (Worn which) v h = tt
+between_shows NoMemory v h = tt
+between_shows (Full free need) v h = (h.0, inr h.1)
+between_shows (Stopped call) v h = tt
+
+module _ {D : Type 0} (g : Ghosts D) where
+  -- what a checkpoint of a volume says that isn't stopped
+  pub record IsCheckpointOf {T : Type 0} (a b : Volume D) (r : Result T Fault) : Type 0 where
+    pub going : stop_of a ≡ None
+    pub unmoved : OnErr r ((t : Tree) (n : ℕ) → StandsFor g a t n → view_of g b ≡ view_of g a)
+    pub full : (free need : ℕ) → r ≡ Err (Full free need) → IsCheckpointFull (view_of g a) free need × (b ≡ a)
+    pub wears : (which : Counter) → r ≡ Err (Worn which) → (which ≡ Epoch) × (2 ^ 64 ≤ (view_of g a).epoch + 1)
+    pub undamaged : (block : ℕ) → r ≡ Err (Damaged block) → ⊥
+    pub cause : HasFaultCause g a b r
+
+  not_stopped : {A : Type 0} (a : Volume D) (call : ℕ) → stop_of a ≡ None → stop_of a ≡ Some call → A
+  not_stopped a call going off =
+      let bad : ⊥ = cc in
+      absurd bad
+
+  -- at its first checkpoint
+  pub first_fails : {T : Type 0} (a b : Volume D) (fault : Fault) → IsCheckpointOf {T = T} a b (Err fault) → (t : Tree) (n : ℕ) → StandsFor g a t n → IsReclaimFault fault (view_of g a) (view_of g b)
+  first_fails a b Device h t n s = inl (h.unmoved t n s)
+  first_fails a b (Damaged block) h t n s = h.undamaged block refl
+  first_fails a b (Worn which) h t n s = record { begun = inl (h.unmoved t n s); worn = epoch_worn which (view_of g a) (view_of g b) (h.unmoved t n s) (h.wears which refl) }
+  first_fails a b NoMemory h t n s = inl (h.unmoved t n s)
+  first_fails a b (Full free need) h t n s =
+      subst (λ (v : Volume D). IsReclaimFull (view_of g a) free need (view_of g v)) (sym (h.full free need refl).1) (first (h.full free need refl).0)
+  first_fails a b (Stopped call) h t n s = not_stopped a call h.going h.cause.failed.0
+
+  pub save_shows : {T : Type 0} (a b : Volume D) (fault : Fault) → IsCheckpointOf {T = T} a b (Err fault) → ShowsReclaim fault (view_of g b)
+  save_shows a b Device h = tt
+  save_shows a b (Damaged block) h = tt
+  save_shows a b (Worn which) h = tt
+  save_shows a b NoMemory h = tt
+  save_shows a b (Full free need) h =
+      subst (λ (v : Volume D). ShowsReclaim (Full free need) (view_of g v)) (sym (h.full free need refl).1) ((h.full free need refl).0.free_is, inl (h.full free need refl).0.need_is)
+  save_shows a b (Stopped call) h = tt
+
+  -- at its last checkpoint
+  begun_last : (a b : View) (c d : Volume D) → Saves a b → ChangesAll b (view_of g c) → view_of g d ≡ view_of g c → HasBegunReclaiming a (view_of g d)
+  begun_last a b c d saves all same =
+      subst (λ (v : View). HasBegunReclaiming a v) (sym same) (inr (all.pushes, reclaimed all.pushes a b (view_of g c) saves all.changes))
+
+  last_fails : {T : Type 0} (a b : View) (c d : Volume D) (fault : Fault) → Saves a b → ChangesAll b (view_of g c) → IsCheckpointOf {T = T} c d (Err fault) → (t : Tree) (n : ℕ) → StandsFor g c t n → IsReclaimFault fault a (view_of g d)
+  last_fails a b c d Device saves all h t n s = begun_last a b c d saves all (h.unmoved t n s)
+  last_fails a b c d (Damaged block) saves all h t n s = h.undamaged block refl
+  last_fails a b c d (Worn which) saves all h t n s = record {
+    begun = begun_last a b c d saves all (h.unmoved t n s);
+    worn = epoch_worn which (view_of g c) (view_of g d) (h.unmoved t n s) (h.wears which refl);
+  }
+  last_fails a b c d NoMemory saves all h t n s = begun_last a b c d saves all (h.unmoved t n s)
+  last_fails a b c d (Full free need) saves all h t n s =
+      subst (λ (v : Volume D). IsReclaimFull a free need (view_of g v)) (sym (h.full free need refl).1)
+      (last all.pushes (view_of g c) (reclaimed all.pushes a b (view_of g c) saves all.changes) all.whole (h.full free need refl).0)
+  last_fails a b c d (Stopped call) saves all h t n s = not_stopped c call h.going h.cause.failed.0
+
+  -- ---- by results
+
+  pub saves_show : {T : Type 0} (r : Result T Fault) (a b : Volume D) → IsCheckpointOf a b r → IfErr r (λ fault. ShowsReclaim fault (view_of g b))
+  saves_show (Ok x) a b h = tt
+  saves_show (Err e) a b h = save_shows a b e h
+
+  pub lasts_fail : {T : Type 0} (r : Result T Fault) (a b c d : Volume D) → ((t : Tree) (n : ℕ) → StandsFor g a t n → Saves (view_of g a) (view_of g b) × ChangesAll (view_of g b) (view_of g c) × StandsFor g c t n) → IsCheckpointOf c d r
+      → IfErr r (λ fault. (t : Tree) (n : ℕ) → StandsFor g a t n → IsReclaimFault fault (view_of g a) (view_of g d))
+  lasts_fail (Ok x) a b c d before h = tt
+  lasts_fail (Err e) a b c d before h = λ t n s.
+      let was = before t n s in
+      last_fails (view_of g a) (view_of g b) c d e was.0 was.1 h t n was.2

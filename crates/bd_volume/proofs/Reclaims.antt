@@ -59,7 +59,7 @@ next_few : (before : ℕ) (step : Reclaim) (v : View) → IsNextChange before st
 next_few before step v next few =
     elim (cases_lt 0 (pushes_in step)) [
       | inl some ↦ omega (arith, push_few step, next_pushes before step v next some)
-      | inr no ↦ omega (arith, no, few)
+      | inr other ↦ omega (arith, other, few)
     ]
 
 -- and their number stands in a u64
@@ -67,12 +67,13 @@ pub next_low : (before : ℕ) (step : Reclaim) (v : View) → IsNextChange befor
 next_low before step v next low =
     elim (cases_lt 0 (pushes_in step)) [
       | inl some ↦ omega (arith, push_few step, next_pushes before step v next some)
-      | inr no ↦ omega (arith, no, low)
+      | inr other ↦ omega (arith, other, low)
     ]
 
 -- ---- changes come to an end
 
-flag : ℕ → ℕ
+-- 1, unless it is 0
+abbrev pub flag : ℕ → ℕ
 flag zero = 0
 flag (suc n) = 1
 

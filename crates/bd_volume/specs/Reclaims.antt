@@ -1,14 +1,14 @@
 -- How a volume makes changes of reclaiming, and why it stops.
-use Rattle.std.specs.Prelude.{◌≡◌, ℕ, ◌+◌, ◌^◌, ◌≤◌, Option, None, Some, ⊤}
+use Rattle.std.specs.Prelude.{◌≡◌, ℕ, ◌+◌, ◌^◌, ◌≤◌, ◌⊎◌, Option, None, Some, ⊤}
 use Rattle.bd_message.specs.declared.fault.Counter.TheVariants.{Epoch}
 use Rattle.bd_reclaim.specs.declared.walking.Reclaim.{Reclaim}
 use Rattle.bd_reclaim.specs.Reclaimed.{LeavesLess}
-use Rattle.bd_view.specs.Views.{View, changed_count, free_slots}
+use Rattle.bd_view.specs.Views.{View, changed_count, free_slots, save_slots}
 use Rattle.bd_view.specs.Moves.{CannotSave}
-use Rattle.bd_view.specs.Reclaiming.{edge_need, pushes_in, HasRoomFor, IsNextChange, HasNoChange, Reclaims, SavesBetween, AreReclaims}
+use Rattle.bd_view.specs.Reclaiming.{edge_need, pushes_in, HasRoomFor, IsNextChange, HasNoChange, Reclaims, SavesBetween, AreReclaims, IsReclaimFull}
 use Rattle.bd_volume.specs.declared.fault.Fault.{Fault}
 use Rattle.bd_volume.specs.declared.fault.Fault.TheVariants.{Device, Damaged, Worn, NoMemory, Full, Stopped}
-use Rattle.bd_volume.specs.Wears.{IsWornToReclaim}
+use Rattle.bd_volume.specs.Wears.{HasBegunReclaiming, IsWornToReclaim, WearsReclaiming}
 
 -- after so many pushes the next change was made, which leaves less to change unless it is a push; or
 -- nodes were changed, and a checkpoint was made, since too few slots were free for the change
@@ -72,3 +72,24 @@ ShowsEdge (Worn which) v = ⊤
 ShowsEdge NoMemory v = ⊤
 ShowsEdge (Full free need) v = (free ≡ free_slots v) × (need ≡ edge_need v)
 ShowsEdge (Stopped call) v = ⊤
+
+-- ---- reclaiming as a whole
+
+-- why it stops, and what it leaves
+abbrev pub IsReclaimFault : Fault → View → View → Type 0
+IsReclaimFault Device old new = HasBegunReclaiming old new
+IsReclaimFault (Damaged block) old new = ⊥
+IsReclaimFault (Worn which) old new = WearsReclaiming which old new
+IsReclaimFault NoMemory old new = HasBegunReclaiming old new
+IsReclaimFault (Full free need) old new = IsReclaimFull old free need new
+IsReclaimFault (Stopped call) old new = ⊥
+
+-- what is told of it where the nodes may not be known
+abbrev pub ShowsReclaim : Fault → View → Type 0
+ShowsReclaim Device v = ⊤
+ShowsReclaim (Damaged block) v = ⊤
+ShowsReclaim (Worn which) v = ⊤
+ShowsReclaim NoMemory v = ⊤
+ShowsReclaim (Full free need) v =
+    (free ≡ free_slots v) × ((need ≡ save_slots v) ⊎ (need ≡ edge_need v))
+ShowsReclaim (Stopped call) v = ⊤

@@ -171,10 +171,10 @@ impl<D: Device> Volume<D> {
             → (result ≡ Err (Fault.Stopped call)) × (self.new ≡ self.old) }
         ensures device { Stays D.Device (device_of self.old) (device_of self.new) }
     {
-        if let Some(call) = self.engine.stop() {
-            return Err(Fault::Stopped { call });
+        match self.engine.stop() {
+            Some(call) => Err(Fault::Stopped { call }),
+            None => self.execute(command),
         }
-        self.execute(command)
     }
 
     /// Makes a checkpoint, so that the image stands for the volume's tree and count. `Full` comes
@@ -267,9 +267,7 @@ impl<D: Device> Volume<D> {
         if let Some(call) = self.engine.stop() {
             return Err(Fault::Stopped { call });
         }
-        self.checkpoint()?;
-        self.change_all()?;
-        self.checkpoint()
+        self.reclaim_nodes()
     }
 
     /// How many slots the last checkpoint doesn't hold.

@@ -1,14 +1,18 @@
 //! The changes of reclaiming, with the checkpoints between them.
 
-ghost use Rattle.std.specs.Prelude.{◌≡◌, ◌↔◌, ◌+◌, ◌^◌, ◌<◌, ◌≤◌, ℕ, None, IfOk, IfErr, OnOk, OnErr, IsTrue};
+ghost use Rattle.std.specs.Prelude.{◌≡◌, ◌↔◌, ◌+◌, ◌^◌, ◌<◌, ◌≤◌, ℕ, None, IfOk, IfErr, IfSome, MatchOption, OnOk, OnErr, IsTrue};
 ghost use Rattle.bd_model.specs.Tree.{Tree};
+ghost use Rattle.bd_device.specs.Device.{left_now};
+ghost use Rattle.bd_device.specs.Moments.{IsOnly};
+ghost use Rattle.bd_checkpoint.specs.Kept.{AllStandFor};
 ghost use Rattle.bd_view.specs.Views.{changed_count, free_slots};
 ghost use Rattle.bd_view.specs.Moves.{Saves};
-ghost use Rattle.bd_view.specs.Reclaiming.{allows_push, edge_need, pushes_in, HasRoomFor};
-ghost use Rattle.bd_engine.specs.Engines.{IsSoundOn};
-ghost use Rattle.bd_volume.specs.Volume.{StandsFor, view_of, count_of, stop_of};
+ghost use Rattle.bd_view.specs.Reclaiming.{allows_push, edge_need, pushes_in, HasRoomFor, IsNextChange, HasNoChange, IsReclaim};
+ghost use Rattle.bd_engine.specs.Engines.{IsSoundOn, IsReadOn};
+ghost use Rattle.bd_engine.specs.Reclaiming.{MayMake};
+ghost use Rattle.bd_volume.specs.Volume.{StandsFor, view_of, count_of, device_of, stop_of};
 ghost use Rattle.bd_volume.specs.Steps.{Ends};
-ghost use Rattle.bd_volume.specs.Reclaims.{IsChangedTo, ChangesAll, IsEdgeSaveFault, IsChangeFault, StopsChanging, ShowsEdge};
+ghost use Rattle.bd_volume.specs.Reclaims.{ChangesOnce, IsChangedTo, ChangesAll, IsEdgeSaveFault, IsChangeFault, StopsChanging, ShowsEdge, IsReclaimFault, ShowsReclaim};
 
 use super::Volume;
 use crate::fault::Fault;
@@ -19,10 +23,34 @@ use bd_reclaim::Reclaim;
 const MAX_PUSHES: u64 = 4_096;
 
 impl<D: Device> Volume<D> {
+    // Reclaims, where the volume wasn't stopped.
+    pub(crate) fn reclaim_nodes(&mut self) -> Result<(), Fault>
+        requires { stop_of self.old ≡ None }
+        ensures reclaims { OnOk result ((t : Tree) (n : ℕ) → StandsFor D.Device self.old t n
+            → IsReclaim (view_of D.Device self.old) (view_of D.Device self.new)) }
+        ensures fails { IfErr result (λ fault. (t : Tree) (n : ℕ) → StandsFor D.Device self.old t n
+            → IsReclaimFault fault (view_of D.Device self.old) (view_of D.Device self.new)) }
+        ensures stands { (t : Tree) (n : ℕ) → StandsFor D.Device self.old t n
+            → StandsFor D.Device self.new t n }
+        ensures kept { OnOk result ((t : Tree) (n : ℕ) → StandsFor D.Device self.old t n
+            → AllStandFor t n (left_now D.Device (device_of self.new))) }
+        ensures only { OnOk result (IsOnly (D.contents (device_of self.new))
+            (left_now D.Device (device_of self.new))) }
+
+        // Whatever is known.
+        ensures shows { IfErr result (λ fault. ShowsReclaim fault (view_of D.Device self.new)) }
+        ensures ends { Ends D.Device self.old self.new result }
+        ensures count_stays { count_of self.new ≡ count_of self.old }
+    {
+        self.checkpoint()?;
+        self.change_all()?;
+        self.checkpoint()
+    }
+
     // Makes changes of reclaiming until none is left, with a checkpoint before one for which too few
     // slots are free. A fault leaves those that were made. In sound nodes they come to an end before
     // the loop does.
-    pub(crate) fn change_all(&mut self) -> Result<(), Fault>
+    fn change_all(&mut self) -> Result<(), Fault>
         requires { stop_of self.old ≡ None }
         ensures changes { IsSoundOn D.Device self.old.engine.pager → OnOk result
             (ChangesAll (view_of D.Device self.old) (view_of D.Device self.new)) }
@@ -68,20 +96,68 @@ impl<D: Device> Volume<D> {
         ensures ends { Ends D.Device self.old self.new result }
         ensures count_stays { count_of self.new ≡ count_of self.old }
     {
-        let found = self.engine.next_change(self.allows_push(pushes));
-        self.engine.sound_nodes_are_undamaged();
-        let Some(change) = found? else {
+        let Some(change) = self.look(pushes)? else {
             return Ok(None);
         };
         if !self.has_room(&change) {
             self.save_for_edge()?;
             return Ok(Some(pushes));
         }
+        Ok(Some(self.make(pushes, change)?))
+    }
+
+    // After so many pushes, looks for the next change.
+    fn look(&mut self, pushes: u64) -> Result<Option<Reclaim>, Fault>
+        requires { stop_of self.old ≡ None }
+        ensures first { IsSoundOn D.Device self.old.engine.pager → IfOk result (λ found.
+            MatchOption found (HasNoChange pushes (view_of D.Device self.old))
+            (λ change. IsNextChange pushes change (view_of D.Device self.old))) }
+        ensures fails { IsSoundOn D.Device self.old.engine.pager → IfErr result (λ fault.
+            IsChangeFault fault pushes (view_of D.Device self.new)) }
+
+        // Whatever is known.
+        ensures may { IfOk result (λ found.
+            IfSome found (MayMake D.Device self.new.engine.pager)) }
+        ensures read { IsReadOn D.Device self.old.engine self.new.engine }
+        ensures shows { IfErr result (λ fault. ShowsEdge fault (view_of D.Device self.new)) }
+        ensures ends { Ends D.Device self.old self.new result }
+        ensures count_stays { count_of self.new ≡ count_of self.old }
+    {
+        let asked = self.allows_push(pushes);
+        let found = self.engine.next_change(asked);
+        self.engine.sound_nodes_are_undamaged();
+        Ok(found?)
+    }
+
+    // After so many pushes, makes the next change, for which slots are free, and says how many
+    // pushes there were then.
+    fn make(&mut self, pushes: u64, change: Reclaim) -> Result<u64, Fault>
+        requires going { stop_of self.old ≡ None }
+        requires may { MayMake D.Device self.old.engine.pager change }
+        ensures made { IsSoundOn D.Device self.old.engine.pager
+            → IsNextChange pushes change (view_of D.Device self.old)
+            → HasRoomFor change (view_of D.Device self.old) → IfOk result (λ after.
+            ChangesOnce pushes after (view_of D.Device self.old) (view_of D.Device self.new)) }
+        ensures unmoved { IsSoundOn D.Device self.old.engine.pager
+            → OnErr result (view_of D.Device self.new ≡ view_of D.Device self.old) }
+        ensures fails { IsSoundOn D.Device self.old.engine.pager
+            → IsNextChange pushes change (view_of D.Device self.old)
+            → IfErr result (λ fault. IsChangeFault fault pushes (view_of D.Device self.new)) }
+        ensures sound { IsSoundOn D.Device self.old.engine.pager
+            → IsSoundOn D.Device self.new.engine.pager }
+        ensures stands { (t : Tree) (n : ℕ) → StandsFor D.Device self.old t n
+            → StandsFor D.Device self.new t n }
+
+        // Whatever is known.
+        ensures shows { IfErr result (λ fault. ShowsEdge fault (view_of D.Device self.new)) }
+        ensures ends { Ends D.Device self.old self.new result }
+        ensures count_stays { count_of self.new ≡ count_of self.old }
+    {
         let after = pushes_after(pushes, &change);
         let made = self.engine.make_change(change);
         self.engine.sound_nodes_are_undamaged();
         made?;
-        Ok(Some(after))
+        Ok(after)
     }
 
     // Makes a checkpoint where too few slots are free for the change of an edge, if one helps.
