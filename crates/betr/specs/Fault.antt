@@ -1,13 +1,14 @@
 -- The faults that end a run: their statuses and lines, and their causes.
-use Rattle.std.specs.Prelude.{◌≡◌, ℕ, ◌≤◌, List, [], ◌∷◌, ◌++◌, codes, Result, OnOk, IfErr}
+use Rattle.std.specs.Prelude.{◌≡◌, ℕ, ◌≤◌, List, [], ◌∷◌, ◌++◌, codes, decimal, Result, OnOk, IfErr}
 use Rattle.bd_io.specs.Cause.{Rose}
 use Rattle.bd_message.specs.Counters.{counter_name}
 use Rattle.betr.specs.declared.fault.Fault.{Fault}
-use Rattle.betr.specs.declared.fault.Fault.TheVariants.{Device, Source, Memory, TooLong, Worn, Sink}
+use Rattle.betr.specs.declared.fault.Fault.TheVariants.{Device, Damaged, Source, Memory, TooLong, Worn, Sink}
 
 -- the status that a fault ends the program with
 abbrev pub status_of : Fault → ℕ
 status_of Device = 3
+status_of (Damaged block) = 4
 status_of Source = 5
 status_of Memory = 6
 status_of TooLong = 7
@@ -17,6 +18,7 @@ status_of Sink = 9
 -- a fault's line; the sink's own fault has none
 abbrev pub fault_line : Fault → List ℕ
 fault_line Device = codes "fault device" ++ 10 ∷ []
+fault_line (Damaged block) = codes "fault damaged " ++ decimal block ++ 10 ∷ []
 fault_line Source = codes "fault source" ++ 10 ∷ []
 fault_line Memory = codes "fault memory" ++ 10 ∷ []
 fault_line TooLong = codes "fault too-long" ++ 10 ∷ []
@@ -45,11 +47,14 @@ pub record NeverFall (before now : Faults) : Type 0 where
   pub source : before.source ≤ now.source
   pub sink : before.sink ≤ now.sink
 
--- the count that is a fault's cause rose, and every other one stays; want of memory is free, and what
--- they leave shows the cause of the others
+-- the count that is a fault's cause rose, and every other one stays, but that a write or a barrier may
+-- be what the device failed at; want of memory is free, and what they leave shows the cause of the
+-- others
 abbrev pub Caused : Fault → Faults → Faults → Type 0
 Caused Device before now =
-    Rose before.device now.device × (now ≡ record before { device = now.device })
+    Rose before.device now.device
+    × (now ≡ record before { device = now.device; writes = now.writes })
+Caused (Damaged block) before now = now ≡ before
 Caused Source before now =
     Rose before.source now.source × (now ≡ record before { source = now.source })
 Caused Memory before now = now ≡ before
