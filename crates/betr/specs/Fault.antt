@@ -25,35 +25,26 @@ fault_line TooLong = codes "fault too-long" ++ 10 ∷ []
 fault_line (Worn which) = codes "fault worn " ++ counter_name which ++ 10 ∷ []
 fault_line Sink = []
 
--- how often the outside has failed: the device, its writes and barriers, the source, the sink
+-- how often the outside has failed: the device, also at a write or a barrier, the source, the sink
 pub record Faults : Type 0 where
   pub device : ℕ
-  pub writes : ℕ
   pub source : ℕ
   pub sink : ℕ
 
-abbrev pub faults : ℕ → ℕ → ℕ → ℕ → Faults
-faults device writes source sink = record {
-  device = device;
-  writes = writes;
-  source = source;
-  sink = sink;
-}
+abbrev pub faults : ℕ → ℕ → ℕ → Faults
+faults device source sink = record { device = device; source = source; sink = sink }
 
 -- no count falls
 pub record NeverFall (before now : Faults) : Type 0 where
   pub device : before.device ≤ now.device
-  pub writes : before.writes ≤ now.writes
   pub source : before.source ≤ now.source
   pub sink : before.sink ≤ now.sink
 
--- the count that is a fault's cause rose, and every other one stays, but that a write or a barrier may
--- be what the device failed at; want of memory is free, and what they leave shows the cause of the
--- others
+-- the count that is a fault's cause rose, and every other one stays; want of memory is free, and what
+-- they leave shows the cause of the others
 abbrev pub Caused : Fault → Faults → Faults → Type 0
 Caused Device before now =
-    Rose before.device now.device
-    × (now ≡ record before { device = now.device; writes = now.writes })
+    Rose before.device now.device × (now ≡ record before { device = now.device })
 Caused (Damaged block) before now = now ≡ before
 Caused Source before now =
     Rose before.source now.source × (now ≡ record before { source = now.source })
@@ -70,7 +61,7 @@ pub record IsCaused {T : Type 0} (before now : Faults) (result : Result T Fault)
 
 -- counts of the sink alone, and of source and sink
 abbrev pub of_sink : ℕ → Faults
-of_sink sink = faults 0 0 0 sink
+of_sink sink = faults 0 0 sink
 
 abbrev pub of_ends : ℕ → ℕ → Faults
-of_ends source sink = faults 0 0 source sink
+of_ends source sink = faults 0 source sink
