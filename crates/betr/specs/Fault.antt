@@ -1,7 +1,11 @@
 -- The faults that end a run: their statuses and lines, and their causes.
 use Rattle.std.specs.Prelude.{◌≡◌, ℕ, ◌≤◌, List, [], ◌∷◌, ◌++◌, codes, decimal, Result, OnOk, IfErr}
 use Rattle.bd_io.specs.Cause.{Rose}
+use Rattle.bd_device.specs.declared.fault.ImageFault.{ImageFault}
+use Rattle.bd_device.specs.declared.fault.ImageFault.TheVariants as image
 use Rattle.bd_message.specs.Counters.{counter_name}
+use Rattle.bd_volume.specs.Faults.{image_fault_of}
+use Rattle.bd_volume.specs.declared.fault.Fault.{Fault as VolumeFault}
 use Rattle.betr.specs.declared.fault.Fault.{Fault}
 use Rattle.betr.specs.declared.fault.Fault.TheVariants.{Device, Damaged, Source, Memory, TooLong, Worn, Sink}
 
@@ -24,6 +28,16 @@ fault_line Memory = codes "fault memory" ++ 10 ∷ []
 fault_line TooLong = codes "fault too-long" ++ 10 ∷ []
 fault_line (Worn which) = codes "fault worn " ++ counter_name which ++ 10 ∷ []
 fault_line Sink = []
+
+-- the fault of a run whose image isn't read or made
+abbrev pub fault_of_image : ImageFault → Fault
+fault_of_image image.DeviceFault = Device
+fault_of_image (image.Damaged block) = Damaged block
+fault_of_image image.NoMemory = Memory
+
+-- the volume's fault is one of an image
+abbrev pub IsOfImage : VolumeFault → Type 0
+IsOfImage fault = (cause : ImageFault) × (fault ≡ image_fault_of cause)
 
 -- how often the outside has failed: the device, also at a write or a barrier, the source, the sink
 pub record Faults : Type 0 where

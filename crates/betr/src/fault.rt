@@ -1,7 +1,10 @@
 ghost use Rattle.std.specs.Prelude.{◌≡◌, ◌+◌, ◌≤◌, ◌++◌, length, take};
-ghost use Rattle.betr.specs.Fault.{status_of, fault_line};
+ghost use Rattle.bd_device.specs.declared.fault.ImageFault.{ImageFault};
+ghost use Rattle.bd_volume.specs.Faults.{image_fault_of};
+ghost use Rattle.betr.specs.Fault.{IsOfImage, fault_line, fault_of_image, status_of};
 
 use bd_message::Counter;
+use bd_volume::Fault as VolumeFault;
 use itoa::Buffer;
 use std::alloc::AllocError;
 
@@ -43,6 +46,22 @@ impl Fault {
             Fault::TooLong => 7,
             Fault::Worn(_) => 8,
             Fault::Sink => 9,
+        }
+    }
+
+    /// The fault of a run whose image isn't read or made.
+    pub fn of_image(fault: VolumeFault) -> Fault
+        requires { IsOfImage fault }
+        ensures { (cause : ImageFault) → fault ≡ image_fault_of cause
+            → result ≡ fault_of_image cause }
+    {
+        match fault {
+            VolumeFault::Device => Fault::Device,
+            VolumeFault::Damaged { block } => Fault::Damaged { block },
+            VolumeFault::NoMemory => Fault::Memory,
+            VolumeFault::Worn(_) | VolumeFault::Full { .. } | VolumeFault::Stopped { .. } => {
+                unreachable!()
+            }
         }
     }
 
