@@ -8,3 +8,4 @@ pub mod Runs
 pub mod Trees
 pub mod Walks
 pub mod Left
+pub mod SlotWords

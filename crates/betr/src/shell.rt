@@ -14,7 +14,7 @@ ghost use Rattle.bd_volume.specs.Volume.{device_of, stop_of};
 ghost use Rattle.betr.specs.Fault.{IsCaused, of_sink};
 ghost use Rattle.betr.specs.Transcript.{State, state_at, MayGet, meanings};
 ghost use Rattle.betr.specs.Session.{Executes};
-ghost use Rattle.betr.specs.Shell.{VolumeAt, ShellAt, Replies, ExecutesOne, view_in, held_of, device_in, stop_in, counts_of, CanStart, breaks, is_stopped, last_lines, completed, IsHeld, ComesNow, IsOutcome, CutsAt, IsLineFault, LineFails, RunFails, BreaksOff};
+ghost use Rattle.betr.specs.Shell.{VolumeAt, ShellAt, Replies, ExecutesOne, view_in, held_of, device_in, stop_in, counts_of, CanStart, FailsNoWrite, breaks, is_stopped, last_lines, completed, IsHeld, ComesNow, IsOutcome, CutsAt, IsLineFault, LineFails, RunFails, BreaksOff};
 
 use crate::fault::Fault;
 use bd_command::Refusal;
@@ -59,6 +59,7 @@ fn execute<D: Device + Drop>(volume: &mut Volume<D>, line: Line) -> Result<LineR
     ensures fault { IfErr result IsLineFault }
     ensures going { OnOk result (stop_of volume.new ≡ None) }
     ensures device { Stays D.Device (device_of volume.old) (device_of volume.new) }
+    ensures writes { FailsNoWrite D.Device (device_of volume.old) (device_of volume.new) result }
     ensures cause { (sink : ℕ) → IsCaused (counts_of D.Device (device_of volume.old) sink)
         (counts_of D.Device (device_of volume.new) sink) result }
 {
@@ -107,6 +108,7 @@ fn execute_line<D: Device + Drop>(
     ensures fault { IfErr result IsLineFault }
     ensures going { OnOk result (stop_of volume.new ≡ None) }
     ensures device { Stays D.Device (device_of volume.old) (device_of volume.new) }
+    ensures writes { FailsNoWrite D.Device (device_of volume.old) (device_of volume.new) result }
     ensures cause { (sink : ℕ) → IsCaused (counts_of D.Device (device_of volume.old) sink)
         (counts_of D.Device (device_of volume.new) sink) result }
 {
@@ -169,6 +171,7 @@ fn run_line<D: Device + Drop, K: Sink>(
     ensures flow { IfOk result (λ flow. breaks flow ≡ is_stop (line_of line.now)) }
     ensures going { OnOk result (stop_of volume.new ≡ None) }
     ensures device { Stays D.Device (device_of volume.old) (device_of volume.new) }
+    ensures writes { FailsNoWrite D.Device (device_of volume.old) (device_of volume.new) result }
     ensures cause { IsCaused (counts_of D.Device (device_of volume.old) (K.fault_count sink.old))
         (counts_of D.Device (device_of volume.new) (K.fault_count sink.new)) result }
 {
@@ -265,6 +268,7 @@ impl<D: Device + Drop> Shell<D> {
             breaks flow ≡ is_stop (line_of (held_of self.old ++ last.now))) }
         ensures going { OnOk result (stop_in self.new ≡ None) }
         ensures device { Stays D.Device (device_in self.old) (device_in self.new) }
+        ensures writes { FailsNoWrite D.Device (device_in self.old) (device_in self.new) result }
         ensures cause { IsCaused
             (counts_of D.Device (device_in self.old) (K.fault_count sink.old))
             (counts_of D.Device (device_in self.new) (K.fault_count sink.new)) result }
@@ -299,6 +303,7 @@ impl<D: Device + Drop> Shell<D> {
             (λ flow. breaks flow ≡ list_any is_stop (meanings (held_of self.old ++ piece.now))) }
         ensures going { OnOk result (stop_in self.new ≡ None) }
         ensures device { Stays D.Device (device_in self.old) (device_in self.new) }
+        ensures writes { FailsNoWrite D.Device (device_in self.old) (device_in self.new) result }
         ensures cause { IsCaused
             (counts_of D.Device (device_in self.old) (K.fault_count sink.old))
             (counts_of D.Device (device_in self.new) (K.fault_count sink.new)) result }
@@ -325,6 +330,7 @@ impl<D: Device + Drop> Shell<D> {
         ensures some { OnErr result (is_empty (held_of self.old) ≡ false) }
         ensures going { OnOk result (stop_in self.new ≡ None) }
         ensures device { Stays D.Device (device_in self.old) (device_in self.new) }
+        ensures writes { FailsNoWrite D.Device (device_in self.old) (device_in self.new) result }
         ensures cause { IsCaused
             (counts_of D.Device (device_in self.old) (K.fault_count sink.old))
             (counts_of D.Device (device_in self.new) (K.fault_count sink.new)) result }
