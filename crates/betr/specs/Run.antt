@@ -19,7 +19,7 @@ use Rattle.betr.specs.declared.fault.Fault.{Fault}
 use Rattle.betr.specs.declared.outcome.Ack.{Ack}
 use Rattle.betr.specs.Fault.{status_of, fault_line, Faults, Caused}
 use Rattle.betr.specs.Format.{SaysDone, HasNewImage}
-use Rattle.betr.specs.Transcript.{Known, State, Exchange, IsAnswered, HasTranscript, executed, lines_to_run}
+use Rattle.betr.specs.Transcript.{Known, State, state_at, Exchange, IsAnswered, HasTranscript, executed, lines_to_run}
 use Rattle.betr.specs.Session.{Among, BeginsWith, TakenAt, Replied, Tells}
 use Rattle.betr.specs.Shell.{IsStart}
 use Rattle.betr.specs.Taken.{Took}
@@ -71,10 +71,6 @@ abbrev pub IsFlushed : ℕ → ℕ → ℕ → Type 0
 IsFlushed waiting before now = (waiting ≡ 0) ⊎ Rose before now
 
 -- ---- the transcript
-
--- the state at which a run of an image begins
-abbrev pub state_at : Tree → ℕ → View → State
-state_at t n view = record { tree = t; count = n; view = view }
 
 -- the state after the last line: damage never comes, a counter is worn by a next line of those taken
 -- and of the script, and where no fault came what is shown then has just the nodes saved that the

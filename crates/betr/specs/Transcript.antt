@@ -90,6 +90,10 @@ pub record State : Type 0 where
   pub count : ℕ
   pub view : View
 
+-- the state of a tree, a count and a view
+abbrev pub state_at : Tree → ℕ → View → State
+state_at t n view = record { tree = t; count = n; view = view }
+
 -- the state with another view
 abbrev pub with_view : State → View → State
 with_view s view = record { tree = s.tree; count = s.count; view = view }
