@@ -1,4 +1,4 @@
-ghost use Rattle.std.specs.Prelude.{◌≡◌, ◌↔◌, ◌×◌, ℕ, List, Option, Some, map, string_bytes, IsNone, IfSome, IfOk, IsTrue, ⊤};
+ghost use Rattle.std.specs.Prelude.{◌≡◌, ◌↔◌, ℕ, List, Option, Some, map, string_bytes, IsNone, IfSome, IfOk, IsTrue, ⊤};
 ghost use Rattle.bd_io.specs.Takes.{Takes, no_takes};
 ghost use Rattle.bd_device.specs.Memory.{held_image};
 ghost use Rattle.betr.specs.Fault.{faults};
