@@ -6,7 +6,7 @@ ghost use Rattle.bd_io.specs.Cause.{HasCause};
 ghost use Rattle.bd_io.specs.Takes.{takes_after};
 ghost use Rattle.betr.specs.Fault.{IsCaused, faults, of_sink};
 ghost use Rattle.betr.specs.Session.{Session, end_of};
-ghost use Rattle.betr.specs.Shell.{ShellAt, device_in, held_of, stop_in};
+ghost use Rattle.betr.specs.Shell.{FailsNoWrite, ShellAt, device_in, held_of, stop_in};
 ghost use Rattle.betr.specs.Taken.{IsTaken, taken_by};
 
 use crate::fault::Fault;
@@ -86,6 +86,7 @@ pub fn run_script<D: Device + Drop, S: Source, K: Sink>(
     ensures flushed { OnOk result (K.waiting sink.new ≡ 0) }
     ensures going { OnOk result (stop_in shell.new ≡ None) }
     ensures device { Stays D.Device (device_in shell.old) (device_in shell.new) }
+    ensures writes { FailsNoWrite D.Device (device_in shell.old) (device_in shell.new) result }
     ensures cause { IsCaused (faults (D.fault_count (device_in shell.old))
         (S.fault_count src.old) (K.fault_count sink.old))
         (faults (D.fault_count (device_in shell.new)) (S.fault_count src.new)
@@ -109,6 +110,7 @@ fn run_pieces<D: Device + Drop, S: Source, K: Sink>(
         (S.takes src.new) (K.written sink.old) (K.written sink.new) }
     ensures going { OnOk result (stop_in shell.new ≡ None) }
     ensures device { Stays D.Device (device_in shell.old) (device_in shell.new) }
+    ensures writes { FailsNoWrite D.Device (device_in shell.old) (device_in shell.new) result }
     ensures cause { IsCaused (faults (D.fault_count (device_in shell.old))
         (S.fault_count src.old) (K.fault_count sink.old))
         (faults (D.fault_count (device_in shell.new)) (S.fault_count src.new)
