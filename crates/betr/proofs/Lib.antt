@@ -4,6 +4,7 @@ pub mod Feeding
 pub mod Held
 pub mod Lines
 pub mod Scripts
+pub mod Starting
 pub mod Runs
 pub mod Trees
 pub mod Walks

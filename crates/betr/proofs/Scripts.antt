@@ -29,8 +29,8 @@ use Rattle.betr.specs.declared.session.Taken.{Taken}
 use Rattle.betr.specs.declared.session.Taken.TheVariants as source_gave
 use Rattle.betr.specs.Taken.{IsTaken, taken_by, Took, TookLast}
 use Rattle.betr.proofs.Left.{leaves_worn}
-use Rattle.betr.proofs.Transcripts.{transcript_none, transcript_one, transcript_more, transcript_as, up_to_stop-none, up_to_stop-stopped, up_to_stop-append, up_to_stop-one, up_to_stop_front, IsFront-append, IsFront-trans, executed-append}
-use Rattle.betr.proofs.Executes.{append_known-nil, executes_none, executes_more, executes_as, text-twice}
+use Rattle.betr.proofs.Transcripts.{transcript_one, transcript_more, transcript_as, up_to_stop-none, up_to_stop-stopped, up_to_stop-append, up_to_stop-one, up_to_stop_front, IsFront-append, IsFront-trans, executed-append}
+use Rattle.betr.proofs.Executes.{executes_none, executes_more, executes_as, text-twice}
 use Rattle.betr.proofs.Feeding.{either, neither}
 
 pub prepend_known-nil : (o : Option (List ℕ)) → prepend_known [] o ≡ o
@@ -204,7 +204,7 @@ took front given before at now short idle told =
     by (Some b) (Some t) h = inr (took_by given b t (nat_eq (length given) 0) refl short h)
 
 -- no take
-took_none : (t : Option Takes) → Took [] [] t t
+pub took_none : (t : Option Takes) → Took [] [] t t
 took_none None = tt
 took_none (Some t) = inl (refl, refl, refl)
 
@@ -791,30 +791,3 @@ pub gave_end : (t : Taken) (taken : ℕ) (place : List ℕ) (old new : Option (L
 gave_end t taken place old new before after is h told =
     let got : IsTaken source_gave.End taken place old new = subst (λ t. IsTaken t taken place old new) is h in
     (got.0, got.1, told ∙ ap (λ t. option_map (takes_after (taken_by (Ok t) place)) before) is)
-
--- nothing was taken, and nothing executed
-pub session_none : (e : Fault) (first last : State → Type 0) (script w : Option (List ℕ)) (t : Option Takes) → Among (Some e) [] []
-    → ((bs : List ℕ) → Among (Some e) bs []) → TakenAt (Some e) [] [] → Replied (Some e) [] [] [] w w
-    → ((s : State) → first s → ((lines : List LineMeaning) → Tells (Some e) s [] lines) × Ends (Some e) s last)
-    → Session (Some e) first last script script t t w w
-session_none e first last script w t among all taken_at replied ends = record {
-  exchanges = [];
-  answered = tt;
-  front = [];
-  final = [];
-  taken = [];
-  taken_is = refl;
-  script_is = sym (prepend_known-nil script);
-  took = took_none t;
-  begins = record { rest = []; lines_are = refl; no_stop = refl };
-  among_taken = among;
-  among_script = known (λ bs. Among (Some e) bs []) [] script script (sym (prepend_known-nil script)) (λ more _. all more);
-  taken_at = taken_at;
-  replied = replied;
-  runs = λ s h. transcript_as s [] first _ (transcript_none s first h) (λ u g. let r = ends u g in
-      record {
-        told = r.0 (lines_to_run []);
-        told_script = known (λ bs. Tells (Some e) u [] (lines_to_run bs)) [] script script (sym (prepend_known-nil script)) (λ more _. r.0 (lines_to_run more));
-        reached = r.1;
-      });
-}
