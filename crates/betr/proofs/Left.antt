@@ -32,7 +32,7 @@ pub leaves_nothing : (s : State) (at : State → Type 0) → at s → Leaves s a
 leaves_nothing s at h = (Ok Walk, leaves_all (Ok Walk) s at h)
 
 neither_none : {A : Type 0} (o : Option A) → IsNone o → IsSome o → ⊥
-neither_none o none some = cc
+neither_none o h k = cc
 
 -- what a line leaves where it wore a counter
 left_worn : (which : Counter) (s : State) (line : LineMeaning) (left : View) → WornBy which s line left → IsLeftBy line s left

@@ -386,15 +386,6 @@ line_fails Sink first last line w kind f = absurd kind
 pub fault_as : {T U : Type 0} (before now : Faults) (e : Fault) → IsCaused {T = T} before now (Err e) → IsCaused {T = U} before now (Err e)
 fault_as before now e h = record { later = h.later; kept = tt; cause = h.cause }
 
-pub writes_as : {D T U : Type 0} (g : Ghosts D) (d e : D) (f : Fault) → FailsNoWrite {T = T} g d e (Err f) → FailsNoWrite {T = U} g d e (Err f)
-writes_as g d e Device h = tt
-writes_as g d e (Damaged block) h = h
-writes_as g d e Source h = h
-writes_as g d e Memory h = h
-writes_as g d e TooLong h = h
-writes_as g d e (Worn which) h = h
-writes_as g d e Sink h = h
-
 -- the line was executed, and its reply written
 pub wrote_caused : {D T U : Type 0} (g : Ghosts D) (d e : D) (sink later : ℕ) (x : T) (y : U) → IsCaused (counts_of g d sink) (counts_of g e sink) (Ok x)
     → later ≡ sink → IsCaused (counts_of g d sink) (counts_of g e later) (Ok y)

@@ -7,7 +7,7 @@ use Rattle.bd_device.specs.declared.device.Device.{Ghosts}
 use Rattle.betr.specs.declared.fault.Fault.{Fault}
 use Rattle.betr.specs.declared.fault.Fault.TheVariants.{Device, Damaged, Source, Memory, TooLong, Worn, Sink}
 use Rattle.betr.specs.Fault.{Faults, IsCaused}
-use Rattle.betr.specs.Shell.{FailsNoWrite}
+use Rattle.betr.specs.Shell.{FailsNoWriteAt}
 
 -- ---- the device
 
@@ -22,8 +22,8 @@ stays_more g a b c h k = record {
 }
 
 -- no write failed before a fault
-pub writes_after : {D T U : Type 0} (g : Ghosts D) (a b c : D) (e : Fault) → g.write_fault_count b ≡ g.write_fault_count a
-    → FailsNoWrite {T = T} g b c (Err e) → FailsNoWrite {T = U} g a c (Err e)
+pub writes_after : {D : Type 0} (g : Ghosts D) (a b c : D) (e : Fault) → g.write_fault_count b ≡ g.write_fault_count a
+    → FailsNoWriteAt g b c e → FailsNoWriteAt g a c e
 writes_after g a b c Device same h = tt
 writes_after g a b c (Damaged block) same h = h ∙ same
 writes_after g a b c Source same h = h ∙ same
@@ -48,10 +48,10 @@ went_on before now x same = record {
 
 -- nothing failed before a fault
 pub caused_after : {T U : Type 0} (a b c : Faults) (e : Fault) → b ≡ a → IsCaused {T = T} b c (Err e) → IsCaused {T = U} a c (Err e)
-caused_after a b c e same h =
-    let k : IsCaused a c (Err e) = subst (λ x. IsCaused x c (Err e)) same h in
+caused_after {T} a b c e same h =
+    let k : IsCaused {T = T} a c (Err e) = subst (λ x. IsCaused {T = T} x c (Err e)) same h in
     record { later = k.later; kept = tt; cause = k.cause }
 
 -- there was no memory
 pub memory_after : {T : Type 0} (before now : Faults) → now ≡ before → IsCaused {T = T} before now (Err Memory)
-memory_after before now same = record { later = (went_on before now tt same).later; kept = tt; cause = same }
+memory_after before now same = record { later = (went_on before now (tt {0}) same).later; kept = tt; cause = same }

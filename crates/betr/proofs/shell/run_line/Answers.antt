@@ -1,7 +1,7 @@
 -- The line is executed and its reply written, or a fault comes before it or within it.
 use Rattle.std.proofs.Common.{sym, ◌∙◌}
 use Rattle.std.proofs.lemmas.Result.{err_from_is_err_and}
-use Rattle.betr.proofs.Lines.{line_fails, may_small, may_stop, wrote_caused, sink_caused, fault_as, writes_as}
+use Rattle.betr.proofs.Lines.{line_fails, may_small, may_stop, wrote_caused, sink_caused, fault_as}
 use Rattle.betr.proofs.shell.run_line.Goals as goal
 
 pub returns-in_err-said-clause-err : goal.returns-in_err-said-clause-err
@@ -17,7 +17,7 @@ returns-in_err-said-clause-cause g c =
 pub returns-in_err-said-clause-writes : goal.returns-in_err-said-clause-writes
 returns-in_err-said-clause-writes g c =
     let p = err_from_is_err_and c.from_residual.result c.from_residual.ensures.1 in
-    rw (p.1, p.2) (writes_as g.D.Device _ _ c.in_err-said.field-0.0 c.in_err-said.ensures.writes)
+    rw (p.1, p.2) c.in_err-said.ensures.writes
 
 pub write_reply-requires : goal.write_reply-requires
 write_reply-requires g c = may_small _ c.in_ok-said.said c.in_ok-said.ensures.answer
@@ -35,7 +35,7 @@ returns-in-Ok-clause-flow g c = c.flow_after.ensures ∙ may_stop _ c.in_ok-said
 
 pub returns-in-Ok-clause-cause : goal.returns-in-Ok-clause-cause
 returns-in-Ok-clause-cause g c =
-    wrote_caused g.D.Device _ _ _ _ _ _ _ (c.in_ok-said.ensures.cause (g.K.Sink.fault_count c.args.sink.now)) c.in-Ok.ensures.cause.kept
+    wrote_caused g.D.Device _ _ _ _ _ _ (c.in_ok-said.ensures.cause (g.K.Sink.fault_count c.args.sink.now)) c.in-Ok.ensures.cause.kept
 
 pub returns-clause-err : goal.returns-clause-err
 returns-clause-err g c = record {
