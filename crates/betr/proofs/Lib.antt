@@ -9,4 +9,6 @@ pub mod Runs
 pub mod Trees
 pub mod Walks
 pub mod Left
+pub mod Moving
+pub mod Starts
 pub mod SlotWords

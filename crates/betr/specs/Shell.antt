@@ -60,16 +60,20 @@ stop_in shell = stop_of shell.volume
 abbrev pub counts_of : {D : Type 0} → Ghosts D → D → ℕ → Faults
 counts_of g d sink = faults (g.fault_count d) 0 sink
 
--- no write and no barrier failed, unless the fault is the device's
+-- no write and no barrier failed before this fault, unless it is the device's
+abbrev pub FailsNoWriteAt : {D : Type 0} → Ghosts D → D → D → Fault → Type 0
+FailsNoWriteAt g old new Device = ⊤
+FailsNoWriteAt g old new (Damaged block) = g.write_fault_count new ≡ g.write_fault_count old
+FailsNoWriteAt g old new Source = g.write_fault_count new ≡ g.write_fault_count old
+FailsNoWriteAt g old new Memory = g.write_fault_count new ≡ g.write_fault_count old
+FailsNoWriteAt g old new TooLong = g.write_fault_count new ≡ g.write_fault_count old
+FailsNoWriteAt g old new (Worn which) = g.write_fault_count new ≡ g.write_fault_count old
+FailsNoWriteAt g old new Sink = g.write_fault_count new ≡ g.write_fault_count old
+
+-- none failed at Ok, and at an error only where it is the device's
 abbrev pub FailsNoWrite : {D T : Type 0} → Ghosts D → D → D → Result T Fault → Type 0
 FailsNoWrite g old new (Ok x) = g.write_fault_count new ≡ g.write_fault_count old
-FailsNoWrite g old new (Err Device) = ⊤
-FailsNoWrite g old new (Err (Damaged block)) = g.write_fault_count new ≡ g.write_fault_count old
-FailsNoWrite g old new (Err Source) = g.write_fault_count new ≡ g.write_fault_count old
-FailsNoWrite g old new (Err Memory) = g.write_fault_count new ≡ g.write_fault_count old
-FailsNoWrite g old new (Err TooLong) = g.write_fault_count new ≡ g.write_fault_count old
-FailsNoWrite g old new (Err (Worn which)) = g.write_fault_count new ≡ g.write_fault_count old
-FailsNoWrite g old new (Err Sink) = g.write_fault_count new ≡ g.write_fault_count old
+FailsNoWrite g old new (Err e) = FailsNoWriteAt g old new e
 
 -- an image that stands for this tree after so many commands, and from which a volume starts
 pub record IsStart (t : Tree) (n : ℕ) (image : Image) : Type 0 where

@@ -3,14 +3,13 @@
 ghost use Rattle.std.specs.Prelude.{List};
 ghost use Rattle.std.specs.List.{AllByRecursion};
 ghost use Rattle.bd_model.specs.Tree.{IsTree};
-ghost use Rattle.betr.specs.Transcript.{State, Entry, first_state, IsTranscript, CanBe, AreCheap};
+ghost use Rattle.betr.specs.Transcript.{State, Entry, IsTranscript, CanBe, AreCheap};
 
-/// `/` alone is a tree, and where a transcript begins at a tree, each of its states has one, and
-/// each of its lines that is a command keeps the limits of commands: so what the model's laws say
-/// of a step holds of each step of a run. Each accepted clone or rename takes a walk of at most
-/// `5h + 2` visits where `h` nodes stood one below the other, and every other line keeps the walk.
+/// Where a transcript begins at a tree, each of its states has one, and each of its lines that is a
+/// command keeps the limits of commands: so what the model's laws say of a step holds of each step
+/// of a run. Each accepted clone or rename takes a walk of at most `5h + 2` visits where `h` nodes
+/// stood one below the other, and every other line keeps the walk.
 pub fn law_of_transcripts()
-    ensures first { IsTree first_state.tree }
     ensures each { (s : State) (es : List Entry) → IsTree s.tree → IsTranscript s es
         → AllByRecursion CanBe es }
     ensures cost { (s : State) (es : List Entry) → IsTranscript s es → AreCheap s es }

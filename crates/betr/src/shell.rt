@@ -1,4 +1,4 @@
-ghost use Rattle.std.specs.Prelude.{◌≡◌, ◌≢◌, ◌×◌, ◌≤◌, ◌++◌, ℕ, [], MatchOption, length, false, None, Ok, IfOk, IfErr, IfSome, OnOk, OnErr};
+ghost use Rattle.std.specs.Prelude.{◌≡◌, ◌≢◌, ◌≤◌, ◌++◌, ℕ, [], MatchOption, length, false, None, Ok, IfOk, IfErr, IfSome, OnOk, OnErr};
 ghost use Rattle.std.specs.List.{list_any};
 ghost use Rattle.std.specs.Io.KnownBytes.{append_known};
 ghost use Rattle.bd_io.specs.Cause.{HasCause};
@@ -46,16 +46,16 @@ fn outcome_of(fault: VolumeFault) -> Result<LineReply, Fault>
 
 // Executes a line that was read. A fault leaves the tree that the volume stands for and the count;
 // steps of a command and changes of reclaiming may have been made.
-fn execute<D: Device + Drop>(volume: &mut Volume<D>, line: Line) -> Result<LineReply, Fault>
-    requires line { IsLine line }
+fn execute<D: Device + Drop>(volume: &mut Volume<D>, line: &Line) -> Result<LineReply, Fault>
+    requires line { IsLine line.now }
     requires going { stop_of volume.old ≡ None }
     ensures ok { IfOk result (λ said. (s : State) → VolumeAt D.Device volume.old s
-        → Replies s (Ok line) said (VolumeAt D.Device volume.new)) }
+        → Replies s (Ok line.now) said (VolumeAt D.Device volume.new)) }
     ensures err { IfErr result (λ e. (s : State) → VolumeAt D.Device volume.old s
-        → LineFails e s (Ok line) (VolumeAt D.Device volume.new)) }
+        → LineFails e s (Ok line.now) (VolumeAt D.Device volume.new)) }
 
     // Whatever the volume stands for.
-    ensures answer { IfOk result (MayGet (Ok line)) }
+    ensures answer { IfOk result (MayGet (Ok line.now)) }
     ensures fault { IfErr result IsLineFault }
     ensures going { OnOk result (stop_of volume.new ≡ None) }
     ensures device { Stays D.Device (device_of volume.old) (device_of volume.new) }
@@ -64,7 +64,7 @@ fn execute<D: Device + Drop>(volume: &mut Volume<D>, line: Line) -> Result<LineR
         (counts_of D.Device (device_of volume.new) sink) result }
 {
     match line {
-        Line::Run(command) => match volume.do_command(&command) {
+        Line::Run(command) => match volume.do_command(command) {
             Ok(reply) => Ok(LineReply::Command(reply)),
             Err(fault) => outcome_of(fault),
         },
@@ -113,7 +113,7 @@ fn execute_line<D: Device + Drop>(
         (counts_of D.Device (device_of volume.new) sink) result }
 {
     match read_line(alloc, line) {
-        Ok(line) => execute(volume, line),
+        Ok(line) => execute(volume, &line),
         Err(LineFault::BadLine) => Ok(LineReply::Unread(Refusal::BadLine)),
         Err(LineFault::BadPath) => Ok(LineReply::Unread(Refusal::BadPath)),
         Err(LineFault::NoMemory) => Err(Fault::Memory),
