@@ -4,7 +4,10 @@ use Rattle.std.specs.List.{AllByRecursion}
 use Rattle.std.specs.declared.result.Result.TheVariants.{Ok, Err}
 use Rattle.bd_command.specs.declared.Command.{Command}
 use Rattle.bd_model.specs.Tree.{Tree, IsTree}
+use Rattle.bd_model.specs.Laws.{after}
 use Rattle.bd_model.proofs.TreeStays.{after_stays}
+use Rattle.bd_device.specs.Blocks.{Image}
+use Rattle.bd_image.specs.ImageTree.{LeadsOn, ImageStandsFor}
 use Rattle.bd_script.specs.Lines.{LineMeaning}
 use Rattle.bd_script.specs.declared.line.Line.TheVariants.{Run, Walk, Df, Checkpoint, Reclaim, Stop}
 use Rattle.bd_script.specs.declared.replies.LineReply.{LineReply}
@@ -68,3 +71,13 @@ each_can_be s [] tree h = tt
 each_can_be s (e ∷ es) tree h =
     let after : IsTree e.state.tree = follows_tree s e.line e.said e.state tree h.0.follows in
     (record { tree = after; limits = follows_limited s e.line e.said e.state h.0.follows }, each_can_be e.state es after h.1)
+
+-- ---- the tree of an image
+
+-- records of commands lead from a tree to a tree
+leads_tree : (version : ℕ) (rs : List (List ℕ)) (t u : Tree) → IsTree t → LeadsOn version rs t u → IsTree u
+leads_tree version [] t u tree h = subst IsTree h tree
+leads_tree version (r ∷ rs) t u tree h = leads_tree version rs (after t h.0) u (after_stays t h.0 tree h.1.0.1) h.4
+
+pub image_tree : (t : Tree) (n : ℕ) (image : Image) → ImageStandsFor t n image → IsTree t
+image_tree t n image h = leads_tree _ _ h.3.base t h.3.have.is_tree h.3.leads
