@@ -86,6 +86,7 @@ pub fn checkpoint<D: Device>(
         (IsCheckpointCause D.Device pager.old.dev pager.new.dev live.old) }
     ensures worn { 2 ^ 64 ≤ live.old.epoch + 1
         → result ≡ Err (MapFault.Worn Counter.Epoch) }
+    ensures later { D.fault_count pager.old.dev ≤ D.fault_count pager.new.dev }
     ensures stays { Stays D.Device pager.old.dev pager.new.dev }
 {
     tables_are_read_again();

@@ -1,2 +1,5 @@
+pub mod Carried
 pub mod Fitting
+pub mod Limits
 pub mod OnNodes
+pub mod Uncounted

@@ -41,6 +41,7 @@ kept_standing g old p walk earlier h k =
       size = k.device.count ∙ h.size;
       slots = ap (λ (l : List Bool). length l) k.spare ∙ h.slots;
       table = subst (λ (a : List ℕ). IsTableAt old.live.slots a p.saved) (sym k.at) (subst (λ (t : StoredTable). IsTableAt old.live.slots old.pager.at t) (sym k.saved) h.table);
+      unlent = k.lent h.unlent;
       going = λ on. subst (λ (s : Saved). IsOpenOn g p.dev old.live s old.log) same (open_after g old.pager.dev p.dev earlier k.device old.live (saved_of old.pager) old.log (h.going on));
     }
 

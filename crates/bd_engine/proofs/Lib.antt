@@ -1,2 +1,5 @@
 pub mod Left
 pub mod Numbers
+pub mod Saving
+pub mod Starting
+pub mod Undamaged

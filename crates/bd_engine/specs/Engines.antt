@@ -1,9 +1,10 @@
 -- What an engine is seen as.
-use Rattle.std.specs.Prelude.{◌≡◌, ◌⊎◌, ℕ, false, length, Option, None, Some, Result}
+use Rattle.std.specs.Prelude.{◌≡◌, ◌==◌, ◌&&◌, ◌-◌, ◌^◌, nat_lt, if◌then◌else◌, ℕ, false, length, Option, None, Some, Result, Ok, Err}
 use Rattle.std.specs.List.{concat}
 use Rattle.bd_message.specs.KeyMaps.{At, HasMapCause}
 use Rattle.bd_message.specs.declared.fault.Counter.{Counter}
 use Rattle.bd_message.specs.declared.fault.MapFault.{MapFault}
+use Rattle.bd_message.specs.declared.fault.MapFault.TheVariants.{DeviceFault, Damaged, Worn, NoMemory}
 use Rattle.bd_slots.specs.Layout.{image_blocks}
 use Rattle.bd_io.specs.Cause.{next_count}
 use Rattle.bd_device.specs.Device.{left_now}
@@ -35,6 +36,10 @@ pub record EngineState (D : Type 0) : Type 0 where
 abbrev pub seen : {D : Type 0} → Paged D → LogState → Super → Option ℕ → Walk → EngineState D
 seen pager log live stop walk =
     record { pager = pager; log = log; live = live; stop = stop; walk = walk }
+
+-- one that goes on, in which nothing was grafted
+abbrev pub started : {D : Type 0} → Paged D → LogState → Super → EngineState D
+started pager log live = seen pager log live None (record { visits = 0; height = 0 })
 
 -- its view
 abbrev pub view_of : {D : Type 0} → Ghosts D → EngineState D → View
@@ -79,6 +84,16 @@ pub record OnlyNodesOn {D : Type 0} (g : Ghosts D) (old new : EngineState D) : T
   pub view : is_known g old.pager → OnlyNodes (view_of g old) (view_of g new)
   pub rest : new ≡ record old { pager = new.pager; walk = new.walk }
 
+-- the number of the device's last call where it stopped the engine: that call failed, and since this
+-- count of failed writes and barriers one more failed, or it stands at its last value
+abbrev pub stop_after : {T : Type 0} → ℕ → ℕ → ℕ → Result T MapFault → Option ℕ
+stop_after before now calls (Ok done) = None
+stop_after before now calls (Err DeviceFault) =
+    if (now == before) && nat_lt before (2 ^ 64 - 1) then None else Some calls
+stop_after before now calls (Err (Damaged block)) = None
+stop_after before now calls (Err (Worn counter)) = None
+stop_after before now calls (Err NoMemory) = None
+
 -- no write or barrier failed: it goes on, and an image that a crash now leaves stands for what one
 -- of before stood for
 pub record IsGoingOn {D : Type 0} (g : Ghosts D) (old new : EngineState D) : Type 0 where
@@ -91,9 +106,6 @@ pub record IsStopped {D : Type 0} (g : Ghosts D) (old new : EngineState D) : Typ
   pub stop_is : new.stop ≡ Some (g.call_count new.pager.dev)
   pub write_faults :
       g.write_fault_count new.pager.dev ≡ next_count (g.write_fault_count old.pager.dev)
-
-abbrev pub IsStoppedOrGoesOn : {D : Type 0} → Ghosts D → EngineState D → EngineState D → Type 0
-IsStoppedOrGoesOn g old new = IsStopped g old new ⊎ IsGoingOn g old new
 
 -- ---- between two calls
 

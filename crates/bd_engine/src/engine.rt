@@ -4,13 +4,12 @@ ghost use Rattle.std.specs.Prelude.{◌≡◌, ◌+◌, ◌^◌, ◌<◌, ◌≤
 ghost use Rattle.bd_dirs.specs.Kinds.{kind_of};
 ghost use Rattle.bd_pager.specs.Pagers.{table_of};
 ghost use Rattle.bd_view.specs.Views.{height, free_slots, save_slots, step_slots, need_slots, log_room};
-ghost use Rattle.bd_engine.specs.Engines.{view_of};
+ghost use Rattle.bd_engine.specs.Engines.{started, view_of, IsStanding};
 
 mod changing;
 mod saving;
 mod starting;
-
-pub use starting::Opened;
+mod telling;
 
 use bd_command::Command;
 use bd_device::Device;
@@ -23,6 +22,7 @@ use bd_shown::laws::numbers_are_shown;
 use bd_slots::table_length;
 use bd_super::Super;
 use bd_tree::Tree;
+pub use starting::Opened;
 use std::alloc::Global;
 use std::marker::Model;
 
@@ -54,6 +54,20 @@ impl<D: Device> Model for Engine<D> {
 }
 
 impl<D: Device> Engine<D> {
+    // The engine of these parts, which goes on.
+    fn over(alloc: Global, pager: Pager<D>, log: Log, live: Super) -> Engine<D>
+        requires { IsStanding D.Device (started pager log live) }
+        ensures { result ≡ started pager log live }
+    {
+        Engine {
+            alloc,
+            tree: Tree::over(alloc, pager),
+            log,
+            live,
+            stop: None,
+        }
+    }
+
     /// How many slots the last checkpoint doesn't hold.
     pub fn free(&self) -> u64
         ensures { result ≡ free_slots (view_of D.Device self.now) }

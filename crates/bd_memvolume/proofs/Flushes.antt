@@ -2,14 +2,12 @@
 use Rattle.std.proofs.Common.{◌≡◌, ℕ, ◌<◌, ◌≤◌, List, Bool, false, refl, inl, inr, ap, ◌∙◌, lit≤}
 use Rattle.std.specs.Prelude.{Result, Ok, ◌↔◌}
 use Rattle.std.proofs.lemmas.Bool.{cases_lt}
-use Rattle.bd_limits.specs.Limits.{late_limit}
 use Rattle.bd_command.specs.declared.Command.{Command}
-use Rattle.bd_dirs.specs.Kinds.{Kind, Reads, Sends, SendsLate, Grafts, kind_of}
 use Rattle.bd_node.specs.Tables.{root_at}
 use Rattle.bd_message.specs.KeyMaps.{SameAt}
 use Rattle.bd_memnodes.specs.Seen.{Seen}
 use Rattle.bd_tree.specs.Trees.{TreeState}
-use Rattle.bd_view.specs.Trees.{TreeView, AreFlushes, HasFlushed, limit_of, waiting_limit}
+use Rattle.bd_view.specs.Trees.{TreeView, AreFlushes, HasFlushed}
 use Rattle.bd_memvolume.specs.Views.{view_in, keys_in}
 use Rattle.bd_view.specs.Trees.AreFlushes.{none, more}
 
@@ -24,16 +22,6 @@ flushed_same c v w h = flushes_same c h.made v w h.flushes
 -- a command without flushes
 pub not_flushed : (c : Command) (v : TreeView) → HasFlushed c v v
 not_flushed c v = record { made = 0; flushes = none v; few = lit≤ tt }
-
-kind_low : (kind : Kind) → limit_of kind ≤ late_limit
-kind_low Reads = lit≤ tt
-kind_low Sends = lit≤ tt
-kind_low SendsLate = lit≤ tt
-kind_low (Grafts s d keep) = lit≤ tt
-
--- where no more bytes wait than a command's limit, there is room
-pub limit_low : (c : Command) → waiting_limit c ≤ late_limit
-limit_low c = kind_low (kind_of c)
 
 -- a step that isn't without need is made where more bytes wait
 pub step_waits : {E : Type 0} (r : Result Bool E) (size limit : ℕ) → (r ≡ Ok false → ⊥) → ((r ≡ Ok false) ↔ (size ≤ limit)) → limit < size

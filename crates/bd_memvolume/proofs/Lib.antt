@@ -1,4 +1,3 @@
-pub mod Carried
 pub mod Flushes
 pub mod Fresh
 pub mod Moves

@@ -1,13 +1,10 @@
 -- What reads of a tree leave.
 use Rattle.std.proofs.Common.{◌≡◌, ℕ, refl, sym, subst}
-use Rattle.bd_command.specs.Command.{IsCommand}
 use Rattle.bd_command.specs.declared.Command.{Command}
-use Rattle.bd_command.specs.declared.Command.TheVariants.{Mkdir, Create, Write, Truncate, Remove, Rename, Clone, Chmod, Read, Stat, List as Ls}
 use Rattle.bd_message.specs.declared.fault.MapFault.{MapFault}
 use Rattle.bd_message.specs.declared.fault.MapFault.TheVariants as map
 use Rattle.bd_message.specs.KeyMaps.{SameAt}
 use Rattle.bd_memnodes.specs.Seen.{Seen, SameNodes}
-use Rattle.bd_dirs.specs.Plans.{HasSize}
 use Rattle.bd_tree.specs.Trees.{TreeState}
 use Rattle.bd_view.specs.Trees.{TreeView, HasFlushed}
 use Rattle.bd_memvolume.specs.Views.{view_in, keys_in}
@@ -28,17 +25,3 @@ read_keys old new is = keys_stay old old new (λ k. refl) is
 pub read_halts : (fault : MapFault) (count : ℕ) (c : Command) (old new : TreeView) → new ≡ old → fault ≡ map.NoMemory → IsHalted (fault_of fault) count c old new
 read_halts fault count c old new same is =
     no_memory_halts fault count c old new (subst (λ (v : TreeView). HasFlushed c old v) (sym same) (not_flushed c old)) is
-
--- a command within its limits carries as much as it may
-pub command_size : (c : Command) → IsCommand c → HasSize c
-command_size (Mkdir path) h = tt
-command_size (Create path) h = tt
-command_size (Write path off bytes) h = (h.2.0, h.2.1)
-command_size (Truncate path len) h = tt
-command_size (Remove path) h = tt
-command_size (Rename a b) h = tt
-command_size (Clone a b) h = tt
-command_size (Chmod path mode) h = tt
-command_size (Read path off len) h = tt
-command_size (Stat path) h = tt
-command_size (Ls path after) h = tt

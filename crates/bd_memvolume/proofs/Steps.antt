@@ -10,7 +10,7 @@ use Rattle.bd_model.specs.Step.{step, refusal_of}
 use Rattle.bd_model.proofs.TreeStays.{after_stays}
 use Rattle.bd_represent.specs.Represents.{Represents}
 use Rattle.bd_represent.proofs.TreeLemmas.{Represents-along}
-use Rattle.bd_memvolume.specs.Over.{TakesStep}
+use Rattle.bd_effects.specs.Carrying.{TakesStep}
 use Rattle.bd_memvolume.specs.Volume.{StandsFor, view_of, keys_of, count_of}
 use Rattle.bd_view.specs.Trees.{TreeView}
 use Rattle.bd_memvolume.specs.Views.{IsMoved}

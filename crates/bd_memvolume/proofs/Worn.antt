@@ -10,15 +10,9 @@ use Rattle.bd_message.specs.declared.fault.MapFault.{MapFault}
 use Rattle.bd_message.specs.declared.fault.MapFault.TheVariants as map
 use Rattle.bd_message.specs.KeyMaps.{SameAt, HasMapCause, IsCause, NeverWorn}
 use Rattle.bd_node.specs.Tables.{Table, root_at}
-use Rattle.bd_message.specs.declared.message.Message.{Message}
-use Rattle.bd_node.specs.declared.node.Node.{Node}
-use Rattle.bd_node.specs.declared.node.Step.{Step}
-use Rattle.bd_resolve.specs.declared.following.Target.{Target}
-use Rattle.bd_node.specs.Steps.{IsWornBy, extend_step}
 use Rattle.bd_step.specs.Steps.{IsWornToFlush}
-use Rattle.bd_graft.specs.Grafting.{IsWornForGraft, IsWornByGraft, IsWornOver, OnWorn, step_over, graft_messages}
-use Rattle.bd_graft.specs.Grafting.IsWornOver.{root_kept, root_raised, level_raised}
-use Rattle.bd_graft.specs.Packing.{overlays_over, overlaid, packs}
+use Rattle.bd_graft.specs.Grafting.{IsWornForGraft, IsWornByGraft, OnWorn}
+use Rattle.bd_graft.specs.Packing.{overlaid, packs}
 use Rattle.bd_dirs.specs.declared.plan.Plan.{Plan}
 use Rattle.bd_dirs.specs.declared.plan.Plan.TheVariants.{Graft}
 use Rattle.bd_dirs.specs.Kinds.{Kind, Reads, Sends, SendsLate, Grafts, kind_of}
@@ -28,6 +22,7 @@ use Rattle.bd_memvolume.specs.declared.Fault.TheVariants.{Device, Damaged, Worn,
 use Rattle.bd_view.specs.Trees.{TreeView, waiting_limit, HasFlushed}
 use Rattle.bd_memvolume.specs.Views.{AreSound, IsReadyFor, IsWornAfter, IsWornForStep, IsWornByKind, IsWornForSending, IsWornNow, Wears}
 use Rattle.bd_memvolume.specs.Over.{fault_of, IsFlushFault, IsGraftFault, IsVolumeFault, IsHalted}
+use Rattle.bd_effects.proofs.Uncounted.{never_by_graft, never_counted}
 use Rattle.bd_memvolume.proofs.Flushes.{flushed_same}
 use Rattle.bd_memvolume.proofs.Sent.{view_is}
 
@@ -53,21 +48,6 @@ graft_fault (Err map.DeviceFault) s d keep v h worn = no_rise h.failed
 graft_fault (Err (map.Damaged block)) s d keep v h worn = absurd h.failed
 graft_fault (Err (map.Worn which)) s d keep v h worn = worn
 graft_fault (Err map.NoMemory) s d keep v h worn = tt
-
--- a graft wears no count of commands, of epochs or of flushes
-never_by_graft : (t : Table) (root : Node) (s d : List ℕ) (keep : Bool) (end : Option Target) (groups : List (List Message)) (target : Target) (which : Counter) → ((step : Step) → IsWornBy t step which → ⊥) → (which ≡ Level → ⊥)
-    → IsWornOver t root s d keep end groups target which → ⊥
-never_by_graft t root s d keep end groups target which unworn other (root_kept low w) = unworn (extend_step t root (overlays_over t end groups) (graft_messages s d keep target)) w
-never_by_graft t root s d keep end groups target which unworn other (root_raised low w) = unworn (step_over t (overlays_over t end groups) (graft_messages s d keep target)) w
-never_by_graft t root s d keep end groups target which unworn other (level_raised low is high) = other is
-
--- a flush step wears no count of commands, of epochs or of flushes
-never_counted : (K : Type 0) (v : TreeView) (which : Counter) → ((step : Step) → IsWornBy v.table step which → ⊥) → (which ≡ Level → ⊥) → IsWornToFlush K v.nodes v.table which → ⊥
-never_counted K v which unworn other h =
-    elim h.worn [
-      | inl w ↦ unworn w.step w.worn
-      | inr high ↦ other high.0
-    ]
 
 worn_after : (which : Counter) (made : ℕ) (v : TreeView) → IsWornToFlush (AreSound v) v.nodes v.table which → IsWornAfter which made v
 worn_after Count made v h = never_counted (AreSound v) v Count (λ step w. w) (λ e. cc) h

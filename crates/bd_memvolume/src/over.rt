@@ -8,8 +8,9 @@ ghost use Rattle.bd_message.specs.declared.fault.Counter.{Counter};
 ghost use Rattle.bd_message.specs.KeyMaps.{SameAt};
 ghost use Rattle.bd_represent.specs.Represents.{Represents};
 ghost use Rattle.bd_dirs.specs.Plans.{IsPlan, IsReady, IsPlanKind};
+ghost use Rattle.bd_effects.specs.Carrying.{accepts, TakesStep};
 ghost use Rattle.bd_memvolume.specs.Views.{view_in, keys_in, IsMoved};
-ghost use Rattle.bd_memvolume.specs.Over.{accepts, TakesStep, IsHalted};
+ghost use Rattle.bd_memvolume.specs.Over.{IsHalted};
 
 use crate::memory::{append, graft, make_ready, nodes_are_sound};
 use crate::{Fault, MemTree};

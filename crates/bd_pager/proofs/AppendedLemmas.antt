@@ -68,7 +68,7 @@ touched_node f t l m own = record {
   lower = each_weaker (IsLower t l) (IsLower (with_touched f t) l) (λ c lower. record { kept = lower.kept; lower = lower.lower }) (names m) own.lower;
 }
 
-touched_sound : (f : ℕ → Bool) (nodes : Nodes) (t : Table) → IsSound nodes t → IsSound nodes (with_touched f t)
+pub touched_sound : (f : ℕ → Bool) (nodes : Nodes) (t : Table) → IsSound nodes t → IsSound nodes (with_touched f t)
 touched_sound f nodes t s = record {
   table = record { root = s.table.root; inner = s.table.inner; low = s.table.low; below = s.table.below };
   each = λ id kept.

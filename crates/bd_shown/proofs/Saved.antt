@@ -3,7 +3,7 @@ use Rattle.std.proofs.Common.{◌≡◌, ℕ, ◌+◌, ◌<◌, ◌≤◌, true,
 use Rattle.std.specs.Prelude.{◌==◌, All, AllPairs, IsTrue}
 use Rattle.std.specs.List.{list_any}
 use Rattle.std.proofs.lemmas.Bool.{eq-eqb}
-use Rattle.std.proofs.lemmas.List.{get_or-map, length-map}
+use Rattle.std.proofs.lemmas.List.{get_or_default, get_or-map, length-map}
 use Rattle.std.proofs.lemmas.List.Folds.{list_any-from_Any}
 use Rattle.bd_device.specs.Blocks.{Image}
 use Rattle.bd_device.specs.declared.device.Device.{Ghosts}
@@ -37,7 +37,8 @@ entry_kept e (Some s) own named = omega (arith, own.0, named)
 -- an entry among them is saved
 has_entry : (entries : List TableEntry) (k : ℕ) → k < length entries → is_saved entries (get_or entries k no_entry).id ≡ true
 has_entry entries k low =
-    list_any-from_Any (λ (e : TableEntry). nat_eq e.id (get_or entries k no_entry).id) entries (k, no_entry, low, refl, eq-eqb _ _ refl)
+    let e : TableEntry = get_or entries k no_entry in
+    list_any-from_Any (λ (o : TableEntry). nat_eq o.id e.id) entries (k, e, low, get_or_default entries k e no_entry low, eq-eqb e.id e.id refl)
 
 module _ {D : Type 0} (g : Ghosts D) (contents : Option Image) (old new : Paged D) (h : IsPaged contents new) (s : IsCheckpointed g old new) where
   rising : AllPairs (λ (id : ℕ) (later : ℕ). id < later) (ids_of new.saved.entries)
@@ -62,8 +63,9 @@ module _ {D : Type 0} (g : Ghosts D) (contents : Option Image) (old new : Paged 
       let found = s.entries.all id spot there in
       list_any-from_Any (λ (e : TableEntry). nat_eq e.id id) new.saved.entries (found.0, found.1, found.2, found.3, eq-eqb found.1.id id found.4)
 
-  ids : AreListed → ids_of new.saved.entries ≡ kept_ids (table_of old)
-  ids law =
+  -- its entries are those of the kept nodes
+  pub kept_saved : AreListed → ids_of new.saved.entries ≡ kept_ids (table_of old)
+  kept_saved law =
       law (table_of new) (ids_of new.saved.entries) rising each_kept (λ id low kept. saved_ids new.saved.entries id ∙ listed id (spots_of new id) refl kept)
       ∙ ap (λ (t : Table). kept_ids t) s.table
 
@@ -73,7 +75,7 @@ module _ {D : Type 0} (g : Ghosts D) (contents : Option Image) (old new : Paged 
     room = room;
     after = λ i. record {
       tree = record { nodes = s.nodes i; table = s.table i; walk = walk };
-      saved = ids law i;
+      saved = kept_saved law i;
       slots = s.slots i;
       epoch = epoch + 1;
       place = 0;

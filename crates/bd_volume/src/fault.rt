@@ -66,3 +66,18 @@ pub struct Refused<D> {
     /// The device.
     pub device: D,
 }
+
+impl<D> From<bd_pager::Refused<D>> for Refused<D> {
+    ghost use Rattle.std.specs.Prelude.{◌≡◌};
+    ghost use Rattle.bd_volume.specs.Faults.{image_fault_of};
+
+    ghost from_gives = { λ cause refused. (refused.fault ≡ image_fault_of cause.fault)
+        × (refused.device ≡ cause.device) };
+
+    fn from(cause: bd_pager::Refused<D>) -> Refused<D> {
+        Refused {
+            fault: Fault::from(cause.fault),
+            device: cause.device,
+        }
+    }
+}

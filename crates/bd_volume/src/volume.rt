@@ -19,11 +19,17 @@ ghost use Rattle.bd_volume.specs.Faults.{image_fault_of, HasFaultCause, IsStoppe
 ghost use Rattle.bd_volume.specs.Volume.{StandsFor, view_of, count_of, device_of, stop_of, HasClosedLog};
 ghost use Rattle.bd_volume.specs.Wears.{Wears, ShowsWorn, HasBegunReclaiming, WearsReclaiming};
 
+mod executing;
+mod readying;
+mod saving;
+
 use crate::fault::{Fault, Refused};
 use bd_command::{Command, Reply};
 use bd_device::Device;
-use bd_engine::Engine;
+use bd_engine::{Engine, Opened};
 use bd_graft::Walk;
+use bd_log::laws::batches_are_one;
+use bd_super::laws::one_superblock_is_live;
 use std::alloc::Global;
 
 /// A tree of directories and files, kept in the nodes of an image on a device, with the number of
@@ -61,11 +67,12 @@ impl<D: Device> Volume<D> {
             → IfErr result (λ refused. (block : ℕ) → refused.fault ≢ Fault.Damaged block) }
         ensures left { IfErr result (λ refused. OnlySettles D.Device device refused.device) }
     {
-        let _ = alloc;
-        Err(Refused {
-            fault: Fault::NoMemory,
-            device,
-        })
+        batches_are_one();
+        one_superblock_is_live();
+        let Opened { engine, .. } = Engine::open(alloc, device)?;
+        engine.live_is_shown();
+        let count = engine.saved_count();
+        Ok(Volume { engine, count })
     }
 
     /// Makes an image of so many slots on a device, whatever it has, of the tree of `/` alone and of
@@ -94,11 +101,8 @@ impl<D: Device> Volume<D> {
         ensures kind { IfErr result (λ refused. (fault : _) × (refused.fault ≡ image_fault_of fault)) }
         ensures left { IfErr result (λ refused. Stays D.Device device refused.device) }
     {
-        let _ = (alloc, slots);
-        Err(Refused {
-            fault: Fault::NoMemory,
-            device,
-        })
+        let engine = Engine::format(alloc, device, slots)?;
+        Ok(Volume { engine, count: 0 })
     }
 
     /// Executes a command whose fields are within their limits. A writing command that is accepted
@@ -166,11 +170,10 @@ impl<D: Device> Volume<D> {
             → (result ≡ Err (Fault.Stopped call)) × (self.new ≡ self.old) }
         ensures device { Stays D.Device (device_of self.old) (device_of self.new) }
     {
-        let _ = command;
-        if let Some(call) = self.engine.stop() {
-            return Err(Fault::Stopped { call });
+        match self.engine.stop() {
+            Some(call) => Err(Fault::Stopped { call }),
+            None => self.execute(command),
         }
-        Err(Fault::NoMemory)
     }
 
     /// Makes a checkpoint, so that the image stands for the volume's tree and count. `Full` comes
@@ -214,7 +217,7 @@ impl<D: Device> Volume<D> {
         if free < need {
             return Err(Fault::Full { free, need });
         }
-        Err(Fault::NoMemory)
+        self.save()
     }
 
     /// Gives back the nodes that nothing needs any more: makes a checkpoint; then changes of the

@@ -29,6 +29,10 @@ use Rattle.betr.proofs.Executes.{append_known-nil}
 use Rattle.betr.proofs.Scripts.{prepend_known-nil, took_none}
 use Rattle.betr.proofs.Starting.{stored_first}
 
+-- what is said of the call that the words make
+pub of_call : {A : Type 0} (P : A → Type 0) (o : Option A) (x : A) → Some x ≡ o → P x → IfSome o P
+of_call P o x is h = subst (λ o. IfSome o P) is h
+
 -- ---- a session as a run of an image
 
 -- what is known is the image
@@ -39,13 +43,13 @@ if_some : {A : Type 0} (P : A → Type 0) (o : Option A) (x : A) → o ≡ Some 
 if_some P o x is h = subst (λ o. IfSome o P) is h
 
 -- a session of a volume that starts with this view
-pub ran_session : (end : Option Fault) (first last : State → Type 0) (known shown : Option Image) (script rest old new : Option (List ℕ)) (before now : Option Takes) (b a : Faults)
+pub ran_session : (end : Option Fault) (first last : State → Type 0) (known shown seen : Option Image) (script rest old new : Option (List ℕ)) (before now : Option Takes) (b a : Faults)
     (view : View) → Session end first last script rest before now old new
     → ((t : Tree) (n : ℕ) → CanStart t n known → first (state_at t n view))
     → ((t : Tree) (n : ℕ) → CanStart t n known → IfSome known (λ image. IsStoredView image view))
-    → (end ≡ None → (s : State) → last s → IfSome shown (HasSaved s.view))
+    → (end ≡ None → (s : State) → last s → IfSome seen (HasSaved s.view)) → shown ≡ seen
     → Ran end (ends known script before old b) (ends shown rest now new a)
-ran_session end first last known shown script rest old new before now b a view s stands stored saved = record {
+ran_session end first last known shown seen script rest old new before now b a view s stands stored saved same = record {
   exchanges = s.exchanges;
   answered = s.answered;
   front = s.front;
@@ -64,13 +68,22 @@ ran_session end first last known shown script rest old new before now b a view s
         first = view;
         first_is = if_some (λ i. IsStoredView i view) known image is (stored t n can);
         run = transcript_as (state_at t n view) s.exchanges (EndsIn end s.exchanges s.taken script last) _ (s.runs (state_at t n view) (stands t n can))
-            (λ u g. record { told = g.told; told_script = g.told_script; saved = λ none. at_end end none u g.reached });
+            (λ u g. record { told = g.told; told_script = g.told_script; saved = λ none. subst (λ o. IfSome o (HasSaved u.view)) (sym same) (saved none u (at_none end none u g.reached)) });
       };
 }
   where
-    at_end : (e : Option Fault) → e ≡ None → (u : State) → Ends e u last → IfSome shown (HasSaved u.view)
-    at_end None is u h = saved is u h
-    at_end (Some e) is u h = cc
+    at_none : (e : Option Fault) → e ≡ None → (u : State) → Ends e u last → last u
+    at_none None is u h = h
+    at_none (Some e) is u h = cc
+
+-- a session that ended well
+pub ok_of_none : {T : Type 0} (r : Result T Fault) (P : Type 0) → end_of r ≡ None → OnOk r P → P
+ok_of_none (Ok x) P is h = h
+ok_of_none (Err e) P is h = cc
+
+-- what is shown has the nodes that a view has as saved, which is that of the state
+pub saved_as : (shown : Option Image) (view v : View) → view ≡ v → IfSome shown (HasSaved view) → IfSome shown (HasSaved v)
+saved_as shown view v is h = subst (λ w. IfSome shown (HasSaved w)) is h
 
 -- nothing was executed, and the device or memory, or damage, is why
 pub ran_refused : (cause : ImageFault) (known shown : Option Image) (script w : Option (List ℕ)) (takes : Option Takes) (b a : Faults)
@@ -133,43 +146,38 @@ ran_refused cause known shown script w takes b a sound = record {
     all c None = tt
     all c (Some bs) = at_line c bs
 
--- ---- the last line
+-- ---- causes beside the source
 
--- the last line of an end
-pub writes_end : (e : Fault) (line : List ℕ) (mid new : Option (List ℕ)) (device source sink later : ℕ) → line ≡ fault_line e
-    → WritesLast line mid new sink later → WritesEnd (Some e) mid new (faults device source sink) (faults device source later)
-writes_end e line mid new d s sink later is h = (subst (λ l. WritesLast l mid new sink later) is h, refl)
+caused_beside : (e : Fault) (d k d2 k2 source : ℕ) → Caused e (faults d 0 k) (faults d2 0 k2) → Caused e (faults d source k) (faults d2 source k2)
+caused_beside Device d k d2 k2 source h = (h.0, ap (λ (f : Faults). faults d2 source f.sink) h.1)
+caused_beside (Damaged block) d k d2 k2 source h = ap (λ (f : Faults). faults f.device source f.sink) h
+caused_beside Source d k d2 k2 source h = absurd (never_rose h.0)
+  where
+    never_rose : Rose 0 0 → ⊥
+    never_rose (inl r) = omega arith
+    never_rose (inr r) = omega arith
+caused_beside Memory d k d2 k2 source h = ap (λ (f : Faults). faults f.device source f.sink) h
+caused_beside TooLong d k d2 k2 source h = ap (λ (f : Faults). faults f.device source f.sink) h
+caused_beside (Worn which) d k d2 k2 source h = ap (λ (f : Faults). faults f.device source f.sink) h
+caused_beside Sink d k d2 k2 source h = (h.0, ap (λ (f : Faults). faults f.device source k2) h.1)
 
-rose_later : (a b d : ℕ) → b ≤ d → Rose a b → Rose a d
-rose_later a b d h (inl r) = inl (omega arith)
-rose_later a b d h (inr r) = inr (omega arith)
+-- what is caused without a source is caused beside one that stays as it was
+pub is_caused_beside : {T : Type 0} (r : Result T Fault) (d k d2 k2 source : ℕ) → IsCaused (faults d 0 k) (faults d2 0 k2) r
+    → IsCaused (faults d source k) (faults d2 source k2) r
+is_caused_beside (Ok x) d k d2 k2 source h = record {
+  later = record { device = h.later.device; source = omega arith; sink = h.later.sink };
+  kept = ap (λ (f : Faults). faults f.device source f.sink) h.kept;
+  cause = tt;
+}
+is_caused_beside (Err e) d k d2 k2 source h = record {
+  later = record { device = h.later.device; source = omega arith; sink = h.later.sink };
+  kept = tt;
+  cause = caused_beside e d k d2 k2 source h.cause;
+}
 
-rose_before : (a b d : ℕ) → a ≤ b → Rose b d → Rose a d
-rose_before a b d h (inl r) = inl (omega arith)
-rose_before a b d h (inr r) = inr r
-
-flushed_before : (waiting a b d : ℕ) → a ≤ b → IsFlushed waiting b d → IsFlushed waiting a d
-flushed_before waiting a b d h (inl none) = inl none
-flushed_before waiting a b d h (inr rose) = inr (rose_before a b d h rose)
-
--- with a fault's line all that was written is passed on; the sink's own has none
-pub flushed_last : (e : Fault) (line : List ℕ) (P : Type 0) → line ≡ fault_line e → (0 < length line → P) → (e ≡ Sink) ⊎ P
-flushed_last Device line P is flushed = inr (flushed (omega (arith, ap length is)))
-flushed_last (Damaged block) line P is flushed = inr (flushed (omega (arith, ap length is)))
-flushed_last Source line P is flushed = inr (flushed (omega (arith, ap length is)))
-flushed_last Memory line P is flushed = inr (flushed (omega (arith, ap length is)))
-flushed_last TooLong line P is flushed = inr (flushed (omega (arith, ap length is)))
-flushed_last (Worn which) line P is flushed = inr (flushed (omega (arith, ap length is)))
-flushed_last Sink line P is flushed = inl refl
-
--- at the end of a call all that was written is passed on, or the sink failed
-pub flushed_call : {T : Type 0} (r : Result T Fault) (mid waiting : ℕ) (before ended : Faults) (later : ℕ) → IsCaused before ended r → OnOk r (mid ≡ 0)
-    → OnOk r (waiting ≡ mid) → OnErr r ((r ≡ Err Sink) ⊎ IsFlushed waiting ended.sink later) → ended.sink ≤ later → IsFlushed waiting before.sink later
-flushed_call (Ok x) mid waiting before ended later cause none same flushed k = inl (same ∙ none)
-flushed_call (Err e) mid waiting before ended later cause none same (inr h) k = flushed_before waiting before.sink ended.sink later cause.later.sink h
-flushed_call (Err e) mid waiting before ended later cause none same (inl is) k =
-    let own : e ≡ Sink = cc in
-    inr (rose_later before.sink ended.sink later k (subst (λ f. Caused f before ended) own cause.cause).0)
+pub cause_of : {T : Type 0} (r : Result T Fault) (before ended : Faults) → IsCaused before ended r → IfSome (end_of r) (λ e. Caused e before ended)
+cause_of (Ok x) before ended h = tt
+cause_of (Err e) before ended h = h.cause
 
 -- ---- statuses
 
@@ -183,41 +191,22 @@ never_zero TooLong zero = omega (arith, zero)
 never_zero (Worn which) zero = omega (arith, zero)
 never_zero Sink zero = omega (arith, zero)
 
--- no call that was made ends as refused words do
-never_two : (e : Fault) → status_of e ≡ 2 → ⊥
-never_two Device two = omega (arith, two)
-never_two (Damaged block) two = omega (arith, two)
-never_two Source two = omega (arith, two)
-never_two Memory two = omega (arith, two)
-never_two TooLong two = omega (arith, two)
-never_two (Worn which) two = omega (arith, two)
-never_two Sink two = omega (arith, two)
-
-pub never_refused : {T : Type 0} (r : Result T Fault) (status : ℕ) → status ≡ end_status (end_of r) → status ≡ 2 → ⊥
-never_refused (Ok x) status is two = omega (arith, is, two)
-never_refused (Err e) status is two = never_two e (sym is ∙ two)
-
 -- at status 0 all counts stay, and what is kept back is what was then
 pub ended_well : {T : Type 0} (r : Result T Fault) (status : ℕ) (P : Type 0) → status ≡ end_status (end_of r) → OnOk r P → status ≡ 0 → P
 ended_well (Ok x) status P is h zero = h
 ended_well (Err e) status P is h zero = absurd (never_zero e (sym is ∙ zero))
 
-nine_is_sink : (e : Fault) → status_of e ≡ 9 → e ≡ Sink
-nine_is_sink Device nine = absurd (omega (arith, nine))
-nine_is_sink (Damaged block) nine = absurd (omega (arith, nine))
-nine_is_sink Source nine = absurd (omega (arith, nine))
-nine_is_sink Memory nine = absurd (omega (arith, nine))
-nine_is_sink TooLong nine = absurd (omega (arith, nine))
-nine_is_sink (Worn which) nine = absurd (omega (arith, nine))
-nine_is_sink Sink nine = refl
-
--- by its status an image was made
-pub made_by : {T : Type 0} (r : Result T Fault) (status : ℕ) → status ≡ end_status (end_of r) → (status ≡ 0) ⊎ (status ≡ 9) → IsMadeAt (end_of r)
-made_by (Ok x) status is h = inl refl
-made_by (Err e) status is (inl zero) = absurd (never_zero e (sym is ∙ zero))
-made_by (Err e) status is (inr nine) = inr (ap Some (nine_is_sink e (sym is ∙ nine)))
+-- where no fault came, all counts are as before
+pub well_counts : {T : Type 0} (r : Result T Fault) (old new : Option (List ℕ)) (before ended now : Faults) → IsCaused before ended r
+    → WritesEnd (end_of r) old new ended now → OnOk r (now ≡ before)
+well_counts (Ok x) old new before ended now cause written = written.1 ∙ cause.kept
+well_counts (Err e) old new before ended now cause written = tt
 
 -- ---- where nothing fails
+
+rose_later : (a b d : ℕ) → b ≤ d → Rose a b → Rose a d
+rose_later a b d h (inl r) = inl (omega arith)
+rose_later a b d h (inr r) = inr (omega arith)
 
 -- a script of which more came than the limit is longer
 too_long : (script rest : Option (List ℕ)) (taken : List ℕ) → length taken ≡ script_limit + 1 → script ≡ prepend_known taken rest
@@ -261,20 +250,3 @@ run_complete (Err e) status known shown script rest old new first last b a befor
     either_status : {s of : ℕ} → s ≡ of → (of ≡ 6) ⊎ (of ≡ 8) → (s ≡ 0) ⊎ (s ≡ 6) ⊎ (s ≡ 8)
     either_status same (inl six) = inr (inl (same ∙ six))
     either_status same (inr eight) = inr (inr (same ∙ eight))
-
--- and memory ended the making of an image
-faultless_format : (e : Fault) (old new : Option (List ℕ)) (before ended : Faults) (later : ℕ) → SaysDone (Some e) old new → Caused e before ended
-    → ended.sink ≤ later → IsFaultless before (faults ended.device ended.source later) → status_of e ≡ 6
-faultless_format Device old new before ended later said cause k f = absurd (f.device cause.0)
-faultless_format (Damaged block) old new before ended later said cause k f = absurd said
-faultless_format Source old new before ended later said cause k f = absurd said
-faultless_format Memory old new before ended later said cause k f = refl
-faultless_format TooLong old new before ended later said cause k f = absurd said
-faultless_format (Worn which) old new before ended later said cause k f = absurd said
-faultless_format Sink old new before ended later said cause k f = absurd (f.sink (rose_later before.sink ended.sink later k cause.0))
-
-pub format_complete : {T : Type 0} (r : Result T Fault) (status : ℕ) (old new : Option (List ℕ)) (before ended : Faults) (later : ℕ) → status ≡ end_status (end_of r)
-    → SaysDone (end_of r) old new → IsCaused before ended r → ended.sink ≤ later
-    → IsFaultless before (faults ended.device ended.source later) → (status ≡ 0) ⊎ (status ≡ 6) ⊎ (status ≡ 8)
-format_complete (Ok x) status old new before ended later is said cause k f = inl is
-format_complete (Err e) status old new before ended later is said cause k f = inr (inl (is ∙ faultless_format e old new before ended later said cause.cause k f))

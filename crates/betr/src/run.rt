@@ -52,37 +52,41 @@ fn run_image<D: Attach, S: Source, K: Sink>(
     if dev.attach(image, None).is_err() {
         return Err(Fault::Device);
     }
-    let (_device, result) = run_device(alloc, &mut *dev, src, sink);
-    result
+    run_device(alloc, dev, src, sink)
 }
 
-// Executes the script on the volume that starts from a device's image, and gives the device back.
-fn run_device<D: Device + Drop, S: Source, K: Sink>(
+// Executes the script on the volume that starts from a device's image.
+fn run_device<D: Attach, S: Source, K: Sink>(
     alloc: Global,
-    device: D,
+    dev: &mut D,
     src: &mut S,
     sink: &mut K,
-) -> (D, Result<(), Fault>)
-    ensures ran { Ran (end_of result.1)
-        (ends (D.contents device) (S.left src.old) (S.takes src.old) (K.written sink.old)
-        (faults (D.fault_count device) (S.fault_count src.old) (K.fault_count sink.old)))
-        (ends (D.contents result.0) (S.left src.new) (S.takes src.new) (K.written sink.new)
-        (faults (D.fault_count result.0) (S.fault_count src.new) (K.fault_count sink.new))) }
-    ensures flushed { OnOk result.1 (K.waiting sink.new ≡ 0) }
-    ensures stays { Stays D.Device device result.0 }
+) -> Result<(), Fault>
+    ensures ran { Ran (end_of result)
+        (ends (D.contents dev.old) (S.left src.old) (S.takes src.old) (K.written sink.old)
+        (faults (D.fault_count dev.old) (S.fault_count src.old) (K.fault_count sink.old)))
+        (ends (D.contents dev.new) (S.left src.new) (S.takes src.new) (K.written sink.new)
+        (faults (D.fault_count dev.new) (S.fault_count src.new) (K.fault_count sink.new))) }
+    ensures flushed { OnOk result (K.waiting sink.new ≡ 0) }
+    ensures stays { Stays D.Device dev.old dev.new }
     ensures cause { IsCaused
-        (faults (D.fault_count device) (S.fault_count src.old) (K.fault_count sink.old))
-        (faults (D.fault_count result.0) (S.fault_count src.new) (K.fault_count sink.new))
-        result.1 }
+        (faults (D.fault_count dev.old) (S.fault_count src.old) (K.fault_count sink.old))
+        (faults (D.fault_count dev.new) (S.fault_count src.new) (K.fault_count sink.new)) result }
 {
-    let _ = device.faults();
-    match Shell::new(alloc, device) {
+    let _ = dev.faults();
+    match Shell::new(alloc, &mut *dev) {
         Ok(mut shell) => {
             let result = run_script(alloc, &mut shell, src, sink);
             shell.saved_is_shown();
-            (shell.into_device(), result)
+            let _device = shell.into_device();
+            result
         }
-        Err(Refused { fault, device }) => (device, Err(Fault::of_image(fault))),
+        Err(
+            Refused {
+                fault,
+                device: _device,
+            },
+        ) => Err(Fault::of_image(fault)),
     }
 }
 

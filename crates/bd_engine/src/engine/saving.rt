@@ -1,6 +1,6 @@
 //! Checkpoints of an engine.
 
-ghost use Rattle.std.specs.Prelude.{◌≡◌, ◌+◌, ◌^◌, ◌≤◌, None, Err, IfErr, IfSome, OnOk, OnErr};
+ghost use Rattle.std.specs.Prelude.{◌≡◌, ◌+◌, ◌^◌, ◌≤◌, ◌⊎◌, None, Err, IfErr, IfSome, OnOk, OnErr};
 ghost use Rattle.bd_model.specs.Tree.{Tree};
 ghost use Rattle.bd_device.specs.Device.{left_now, Goes, Stays};
 ghost use Rattle.bd_device.specs.Moments.{IsOnly};
@@ -10,13 +10,17 @@ ghost use Rattle.bd_image.specs.Standing.{IsOldOrNew};
 ghost use Rattle.bd_checkpoint.specs.Kept.{AllStandFor, AreOfTree};
 ghost use Rattle.bd_checkpoint.specs.Saving.{IsCheckpointCause};
 ghost use Rattle.bd_view.specs.Moves.{Saves};
-ghost use Rattle.bd_view.specs.Views.{free_slots, save_slots};
-ghost use Rattle.bd_engine.specs.Engines.{view_of, keys_of, IsSoundOn, IsStoppedOrGoesOn};
+ghost use Rattle.bd_view.specs.Views.{changed_count, free_slots, save_slots};
+ghost use Rattle.bd_engine.specs.Engines.{view_of, keys_of, stop_after, IsSoundOn, IsGoingOn, IsStopped};
 ghost use Rattle.bd_engine.specs.Stored.{HasSaved};
 
 use super::Engine;
+use bd_checkpoint::checkpoint;
 use bd_device::Device;
 use bd_message::{Counter, MapFault};
+use bd_pager::Pager;
+use bd_shown::laws::{checkpoints_are_shown, numbers_are_shown};
+use bd_view::laws::{checkpoints_keep_all, kept_nodes_are_listed};
 
 impl<D: Device> Engine<D> {
     /// Makes a checkpoint of all nodes, as that of an image in which so many commands were accepted.
@@ -54,7 +58,12 @@ impl<D: Device> Engine<D> {
 
         // Whatever is known.
         ensures goes { OnOk result (self.new.stop ≡ None) }
-        ensures stop { OnErr result (IsStoppedOrGoesOn D.Device self.old self.new) }
+        ensures stop { IfErr result (λ fault.
+            (IsStopped D.Device self.old self.new × (fault ≡ MapFault.DeviceFault))
+            ⊎ IsGoingOn D.Device self.old self.new) }
+        ensures none { OnOk result (changed_count (view_of D.Device self.new) ≡ 0) }
+        ensures same_live { OnErr result (self.new.live ≡ self.old.live) }
+        ensures later { D.fault_count self.old.pager.dev ≤ D.fault_count self.new.pager.dev }
         ensures cause { IfErr result (IsCheckpointCause D.Device self.old.pager.dev
             self.new.pager.dev self.old.live) }
         ensures worn { 2 ^ 64 ≤ self.old.live.epoch + 1
@@ -65,11 +74,16 @@ impl<D: Device> Engine<D> {
             (D.write_fault_count self.new.pager.dev ≡ D.write_fault_count self.old.pager.dev) }
         ensures stays { Stays D.Device self.old.pager.dev self.new.pager.dev }
     {
-        let _ = count;
-        if self.live.epoch == u64::MAX {
-            return Err(MapFault::Worn(Counter::Epoch));
-        }
-        Err(MapFault::NoMemory)
+        numbers_are_shown::<D>();
+        checkpoints_are_shown::<D>();
+        checkpoints_keep_all();
+        kept_nodes_are_listed();
+        let before = self.tree.store().write_faults();
+        self.tree.store().nodes_are_placed();
+        let saved = checkpoint(self.tree.store_mut(), &mut self.log, &mut self.live, count);
+        self.tree.store().nodes_are_placed();
+        self.stop = stop_after(self.tree.store(), before, &saved);
+        saved
     }
 
     /// What reads give is an image whose last checkpoint has just the nodes that the view has as
@@ -79,5 +93,24 @@ impl<D: Device> Engine<D> {
             → IfSome (D.contents self.now.pager.dev) (HasSaved (view_of D.Device self.now)) }
     {
         let _ = self.tree.store().blocks();
+    }
+}
+
+// The number of the device's last call, where that stopped it: the call failed, and was a write or a
+// barrier, of which so many had failed before. At the last value of their count each failed call is
+// taken for one.
+fn stop_after<D: Device>(pager: &Pager<D>, before: u64, saved: &Result<(), MapFault>) -> Option<u64>
+    ensures { result ≡ stop_after before (D.write_fault_count pager.now.dev)
+        (D.call_count pager.now.dev) saved.now }
+{
+    match saved {
+        Ok(()) => None,
+        Err(MapFault::DeviceFault) => {
+            if pager.write_faults() == before && before < u64::MAX {
+                return None;
+            }
+            Some(pager.calls())
+        }
+        Err(MapFault::Damaged { .. } | MapFault::Worn(_) | MapFault::NoMemory) => None,
     }
 }

@@ -15,10 +15,16 @@ ghost use Rattle.bd_engine.specs.Engines.{view_of};
 ghost use Rattle.bd_engine.specs.Stored.{IsStoredView};
 
 use super::Engine;
-use bd_checkpoint::PlacedCommand;
-use bd_device::{Device, ImageFault};
+use bd_checkpoint::{Formatted, PlacedCommand, Recovered, format, recover};
+use bd_device::Device;
+use bd_log::laws::batches_are_one;
 use bd_pager::Refused;
+use bd_table::laws::tables_are_read_again;
+use bd_view::laws::kept_nodes_are_listed;
 use std::alloc::Global;
+
+// How many nodes that were read are kept in memory.
+const CACHE_ROOM: usize = 64;
 
 /// What is found in an image.
 #[derive(Drop)]
@@ -61,10 +67,21 @@ impl<D: Device> Engine<D> {
             → IfErr result (λ refused. (block : ℕ) → refused.fault ≢ Damaged block) }
         ensures left { IfErr result (λ refused. OnlySettles D.Device dev refused.device) }
     {
-        let _ = alloc;
-        Err(Refused {
-            fault: ImageFault::NoMemory,
-            device: dev,
+        batches_are_one();
+        tables_are_read_again();
+        let recovered = match recover(alloc, dev, CACHE_ROOM) {
+            Ok(recovered) => recovered,
+            Err(refused) => return Err(refused),
+        };
+        let Recovered {
+            pager,
+            log,
+            live,
+            commands,
+        } = recovered;
+        Ok(Opened {
+            engine: Engine::over(alloc, pager, log, live),
+            commands,
         })
     }
 
@@ -96,10 +113,13 @@ impl<D: Device> Engine<D> {
             IsImageCause D.Device dev refused.device (λ _. ⊥) refused.fault) }
         ensures left { IfErr result (λ refused. Stays D.Device dev refused.device) }
     {
-        let _ = (alloc, slots);
-        Err(Refused {
-            fault: ImageFault::NoMemory,
-            device: dev,
-        })
+        kept_nodes_are_listed();
+        let formatted = match format(alloc, dev, slots, CACHE_ROOM) {
+            Ok(formatted) => formatted,
+            Err(refused) => return Err(refused),
+        };
+        let Formatted { pager, log, live } = formatted;
+        pager.nodes_are_placed();
+        Ok(Engine::over(alloc, pager, log, live))
     }
 }

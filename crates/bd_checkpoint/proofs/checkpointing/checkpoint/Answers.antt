@@ -202,3 +202,10 @@ returns-clause-stays g c =
     let last = c.publish_by.new.pager in
     let new = c.mark_saved.new.self in
     subst (λ (d : g.row.D.Denot). Stays g.D.Device c.args.pager.now.dev d) (sym (device_new g.D.Device c.args.pager.now mid c.in-Ok.ensures.spills c.in-Ok.table c.in-Ok.ensures.written c.next_super-next.result (slots_mid g.D.Device one c.args.pager.now mid (g.met.D.Device.since_earlier mid.dev) c.args.live.now c.args.log.now c.requires.open c.requires.spare c.in-Ok.ensures.spills c.in-Ok.table c.in-Ok.ensures.written c.next_super-next.result c.args.count c.next_super-next.ensures.next) (ap (λ (s : Super). s.table) c.next_super-next.ensures.next) last new c.in-Ok-publish_by.ensures.pager c.mark_saved.ensures)) (stays_then c.in-Ok.ensures.spills.moves.stays c.in-Ok-publish_by.ensures.stays)
+
+pub returns-in-Err-publish_by-clause-later : goal.returns-in-Err-publish_by-clause-later
+returns-in-Err-publish_by-clause-later g c = omega (arith, c.in-Ok.ensures.cause.later, c.in-Err-publish_by.ensures.cause.later)
+
+pub returns-clause-later : goal.returns-clause-later
+returns-clause-later g c =
+    let same : g.D.Device.fault_count c.mark_saved.new.self.dev ≡ g.D.Device.fault_count c.args.pager.now.dev = returns-clause-faults g c in omega (arith, same)

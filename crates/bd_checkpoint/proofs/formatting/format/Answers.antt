@@ -9,6 +9,7 @@ use Rattle.bd_super.specs.Live.{NoneIsCommitted}
 use Rattle.bd_super.specs.Published.{AreSettled}
 use Rattle.bd_table.specs.Tables.{AreFreeSlots, IsTableAt}
 use Rattle.bd_pager.specs.Pagers.{Paged, nodes_of, table_of}
+use Rattle.bd_pager.proofs.AppendedLemmas.{touched_sound}
 use Rattle.bd_model.specs.Tree.{root_only}
 use Rattle.bd_checkpoint.specs.Kept.{slots_held, AreOfTree}
 use Rattle.bd_checkpoint.specs.Recovering.{saved_of}
@@ -58,10 +59,15 @@ returns-clause-tree g c = λ told.
     let known = c.in-Ok.ensures.told told in
     let first = c.in-Ok-new_pager.pager in
     let new = c.first_checkpoint.new.pager in
-    let nodes : nodes_of g.D.Device new ≡ nodes_of g.D.Device first = c.in-Ok-first_checkpoint.ensures.saved.keeps.nodes (c.in-Ok-new_pager.ensures.known known) in
-    let table : table_of new ≡ table_of first = c.in-Ok-first_checkpoint.ensures.saved.table ∙ ap (with_touched (λ id. false)) c.in-Ok-new_pager.ensures.table.is ∙ sym c.in-Ok-new_pager.ensures.table.is in
-    subst (λ (t : Table). AreOfTree (nodes_of g.D.Device new) t root_only) (sym table)
-    (subst (λ (n : Nodes). AreOfTree n (table_of first) root_only) (sym nodes) (c.in-Ok-new_pager.ensures.tree known))
+    let saved = c.in-Ok-first_checkpoint.ensures.saved in
+    let was : AreOfTree (nodes_of g.D.Device first) (table_of first) root_only = c.in-Ok-new_pager.ensures.tree known in
+    let now : AreOfTree (nodes_of g.D.Device first) (with_touched (λ id. false) (table_of first)) root_only = record {
+      sound = touched_sound (λ id. false) (nodes_of g.D.Device first) (table_of first) was.sound;
+      is_tree = was.is_tree;
+      represents = was.represents;
+    } in
+    subst (λ (t : Table). AreOfTree (nodes_of g.D.Device new) t root_only) (sym saved.table)
+    (subst (λ (n : Nodes). AreOfTree n (with_touched (λ id. false) (table_of first)) root_only) (sym (saved.keeps.nodes (c.in-Ok-new_pager.ensures.known known))) now)
 
 pub returns-clause-place : goal.returns-clause-place
 returns-clause-place g c =

@@ -3,7 +3,8 @@ use Rattle.std.proofs.Common.{arith, refl, lit≤}
 use Rattle.std.proofs.lemmas.Result.{err_from_is_err_and}
 use Rattle.bd_memvolume.specs.Views.{view_in}
 use Rattle.bd_view.specs.Trees.AreFlushes.{none}
-use Rattle.bd_memvolume.proofs.Flushes.{flushed_same, limit_low}
+use Rattle.bd_effects.proofs.Limits.{limit_low}
+use Rattle.bd_memvolume.proofs.Flushes.{flushed_same}
 use Rattle.bd_memvolume.proofs.Worn.{stopped_same, flush_halts}
 use Rattle.bd_memvolume.proofs.memory.make_ready.Goals as goal
 

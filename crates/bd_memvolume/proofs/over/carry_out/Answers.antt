@@ -5,7 +5,7 @@ use Rattle.bd_message.specs.declared.message.Message.{Message}
 use Rattle.bd_message.specs.KeyMaps.{IsApplied, IsGrafted}
 use Rattle.bd_memvolume.specs.Views.{view_in, keys_in}
 use Rattle.bd_memvolume.specs.Over.{IsGraftFault}
-use Rattle.bd_memvolume.proofs.Carried.{plan_along, applied_plan, grafted_plan}
+use Rattle.bd_effects.proofs.Carried.{plan_along, applied_plan, grafted_plan}
 use Rattle.bd_memvolume.proofs.Flushes.{keys_stay}
 use Rattle.bd_memvolume.proofs.Sent.{messages_moved, graft_moved}
 use Rattle.bd_memvolume.proofs.Worn.{graft_stops}

@@ -8,8 +8,9 @@ use Rattle.bd_represent.proofs.TreeLemmas.{Represents-along}
 use Rattle.bd_view.specs.Trees.{TreeView}
 use Rattle.bd_memvolume.specs.Views.{view_in, keys_in, IsMoved}
 use Rattle.bd_memvolume.specs.Over.{IsHalted}
-use Rattle.bd_memvolume.proofs.Carried.{plan_along, read_step, accepted_plan}
-use Rattle.bd_memvolume.proofs.Reading.{read_view, read_keys, read_halts, command_size}
+use Rattle.bd_effects.proofs.Carried.{plan_along, read_step, accepted_plan}
+use Rattle.bd_effects.proofs.Limits.{command_size}
+use Rattle.bd_memvolume.proofs.Reading.{read_view, read_keys, read_halts}
 use Rattle.bd_memvolume.proofs.Worn.{no_memory, not_worn}
 use Rattle.bd_memvolume.proofs.over.execute.Goals as goal
 

@@ -27,11 +27,11 @@ use Rattle.bd_represent.proofs.TreeLemmas.{Represents-along}
 use Rattle.bd_dirs.specs.Plans.{IsPlan}
 use Rattle.bd_dirs.specs.declared.plan.Plan.{Plan}
 use Rattle.bd_dirs.specs.declared.plan.Plan.TheVariants.{Refused, Apply, Graft}
-use Rattle.bd_memvolume.specs.Over.{accepts, TakesStep}
+use Rattle.bd_effects.specs.Carrying.{accepts, TakesStep}
 
 -- ---- a plan for a map is one for a map that has the same
 
-grafted_along : (old new : At) (s d : List ℕ) (keep : Bool) (k : List ℕ) → SameAt old new → grafted new s d keep k ≡ grafted old s d keep k
+pub grafted_along : (old new : At) (s d : List ℕ) (keep : Bool) (k : List ℕ) → SameAt old new → grafted new s d keep k ≡ grafted old s d keep k
 grafted_along old new s d keep k same =
     ap (λ (x : Option (List ℕ)). cond (not keep && begins k s) None (cond (begins k d) x (new k))) (same (s ++ rest d k))
     ∙ ap (λ (x : Option (List ℕ)). cond (not keep && begins k s) None (cond (begins k d) (old (s ++ rest d k)) x)) (same k)

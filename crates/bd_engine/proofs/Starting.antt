@@ -1,0 +1,108 @@
+-- What an engine starts with.
+use Rattle.std.proofs.Common.{◌≡◌, ℕ, false, List, [], ◌∷◌, length, Option, None, Some, IfSome, refl, sym, ap, subst, ◌∙◌}
+use Rattle.std.specs.List.{concat}
+use Rattle.bd_limits.specs.Places.{first_log_block}
+use Rattle.bd_model.specs.Tree.{Tree}
+use Rattle.bd_device.specs.Blocks.{Image}
+use Rattle.bd_device.specs.declared.device.Device.{Ghosts}
+use Rattle.bd_files.specs.Roots.{root_messages}
+use Rattle.bd_node.specs.New.{new_table}
+use Rattle.bd_node.specs.Steps.{with_touched, grown}
+use Rattle.bd_node.specs.Tables.{Table, sum_below}
+use Rattle.bd_table.specs.Tables.{AreFreeSlots, IsTableAt}
+use Rattle.bd_super.specs.Live.{IsLive}
+use Rattle.bd_super.specs.Superblocks.{log_block}
+use Rattle.bd_super.specs.declared.superblock.Super.{Super}
+use Rattle.bd_log.specs.Batches.{AreBatches}
+use Rattle.bd_log.specs.Logs.{LogState, fresh_log}
+use Rattle.bd_pager.specs.Opened.{IsOpened}
+use Rattle.bd_pager.specs.Pagers.{Paged, spots_of, nodes_of, table_of, AreEntriesOf, IsPaged}
+use Rattle.bd_image.specs.Fresh.{first_super, fresh_nodes}
+use Rattle.bd_image.specs.ImageTree.{HasTree, ImageStandsFor}
+use Rattle.bd_checkpoint.specs.Kept.{slots_held, IsOpenOn, StartsAs}
+use Rattle.bd_checkpoint.specs.Recovering.{saved_of, AreStored}
+use Rattle.bd_checkpoint.proofs.Starting.{PartsAreOne, recovered}
+use Rattle.bd_view.specs.Trees.{fresh_tree}
+use Rattle.bd_view.specs.Views.{kept_ids, fresh_view}
+use Rattle.bd_shown.specs.Shown.{ids_of, IsCheckpointed}
+use Rattle.bd_shown.proofs.Saved.{AreListed, kept_saved}
+use Rattle.bd_engine.specs.Engines.{started, view_of, IsStanding}
+use Rattle.bd_engine.specs.Stored.{IsStoredView}
+
+-- ---- from an image
+
+pub opened_standing : {D : Type 0} (g : Ghosts D) (known : Option Image) (p : Paged D) (log : LogState) (live : Super) → IsOpened known live.slots live.table p → IsOpenOn g p.dev live (saved_of p) log → IsStanding g (started p log live)
+opened_standing g known p log live h given = record {
+  fits = given.fits;
+  size = given.size;
+  slots = h.spare.count;
+  table = subst (λ (a : List ℕ). IsTableAt live.slots a p.saved) (sym h.at_is) h.table;
+  unlent = h.lent;
+  going = λ none. given;
+}
+
+-- its view is that of the image's checkpoint
+pub first_view : {D : Type 0} (g : Ghosts D) → PartsAreOne → (known : Option Image) (p : Paged D) (log : LogState) (live : Super) → IsOpened known live.slots live.table p → IfSome known (AreStored g p) → IfSome known (λ image. IsLive image live)
+    → IfSome known (λ image. AreBatches image (log_block live.half) live.epoch log.batches log.place) → log ≡ record (fresh_log (log_block live.half) live.epoch) { place = log.place; batches = log.batches }
+    → (tree : Tree) (count : ℕ) → IfSome known (λ image. ImageStandsFor tree count image → IsStoredView image (view_of g (started p log live)))
+first_view g one None p log live h stored is_live batches idle tree count = tt
+first_view g one (Some image) p log live h stored is_live batches idle tree count = λ stands.
+    let starts : StartsAs live (saved_of p) log.place image = record { live_is = is_live; table_is = h.table_held; batches = log.batches; batches_are = batches } in
+    let t : HasTree live p.saved log.place tree count image = recovered one live (saved_of p) log.place image tree count starts stands in
+    record {
+      live = live;
+      table = p.saved;
+      nodes = t.nodes;
+      starts = t.starts;
+      batches = log.batches;
+      batches_are = batches;
+      view_is = λ i. record {
+        tree = record { nodes = stored.nodes t.nodes t.starts.stored i; table = stored.table t.nodes t.starts.stored i; walk = record { visits = 0; height = 0 } };
+        saved = ids_of p.saved.entries;
+        slots = h.spare.count i;
+        epoch = live.epoch;
+        place = log.place;
+        waiting = length (concat (idle i).waiting);
+      };
+    }
+
+-- ---- on a new one
+
+pub fresh_standing : {D : Type 0} (g : Ghosts D) (p : Paged D) (log : LogState) (live : Super) (slots : ℕ) → live ≡ first_super slots p.at → IsOpenOn g p.dev live (saved_of p) log → IsTableAt slots p.at p.saved
+    → AreFreeSlots slots (slots_held (saved_of p)) p.spare → p.is_lent ≡ false → IsStanding g (started p log live)
+fresh_standing g p log live slots is given table spare lent =
+    let count : live.slots ≡ slots = ap (λ (s : Super). s.slots) is in
+    record {
+      fits = given.fits;
+      size = given.size;
+      slots = spare.count ∙ sym count;
+      table = subst (λ (n : ℕ). IsTableAt n p.at p.saved) (sym count) table;
+      unlent = lent;
+      going = λ none. given;
+    }
+
+-- the root alone is kept
+fresh_ids : kept_ids fresh_tree.table ≡ 1 ∷ []
+unfolding sum_below
+fresh_ids = refl
+
+pub fresh_shown : {D : Type 0} (g : Ghosts D) → AreListed → (contents : Option Image) (p : Paged D) (log : LogState) (live : Super) (slots : ℕ) → IsPaged contents p → live ≡ first_super slots p.at → log ≡ fresh_log first_log_block 1
+    → nodes_of g p ≡ fresh_nodes → table_of p ≡ grown new_table root_messages → AreEntriesOf p.saved.entries (spots_of p) → IsTableAt slots p.at p.saved → AreFreeSlots slots (slots_held (saved_of p)) p.spare
+    → view_of g (started p log live) ≡ fresh_view slots
+fresh_shown {D} g law contents p log live slots paged is_first is_fresh nodes table entries place spare =
+    let checkpointed : IsCheckpointed g p p = record {
+      nodes = refl;
+      table = table ∙ ap (with_touched (λ id. false)) (sym table);
+      slots = refl;
+      place = subst (λ (n : ℕ). IsTableAt n p.at p.saved) (sym spare.count) place;
+      entries = entries;
+    } in
+    let ids : ids_of p.saved.entries ≡ 1 ∷ [] = kept_saved g contents p p paged checkpointed law ∙ ap (λ (t : Table). kept_ids t) table ∙ fresh_ids in
+    λ i. record {
+      tree = record { nodes = nodes i; table = table i; walk = record { visits = 0; height = 0 } };
+      saved = ids i;
+      slots = spare.count i;
+      epoch = (is_first i).epoch;
+      place = (is_fresh i).place;
+      waiting = length (concat (is_fresh i).waiting);
+    }

@@ -1,0 +1,52 @@
+use Rattle.std.proofs.Common.{◌≡◌, Option, IfSome, sym, subst}
+use Rattle.bd_device.specs.Blocks.{Image}
+use Rattle.bd_device.specs.Device.{left_now, OnlyReads}
+use Rattle.bd_device.specs.Moments.{IsOnly}
+use Rattle.bd_super.specs.Live.{IsLive}
+use Rattle.bd_image.specs.ImageTree.{ImageStandsFor}
+use Rattle.bd_pager.specs.Pagers.{is_known}
+use Rattle.bd_checkpoint.specs.Recovering.{LeadsTo}
+use Rattle.bd_checkpoint.proofs.Starting.{PartsAreOne}
+use Rattle.bd_engine.specs.Engines.{EngineState, view_of}
+use Rattle.bd_engine.specs.Stored.{IsStoredView}
+use Rattle.bd_engine.proofs.Starting.{opened_standing, first_view}
+use Rattle.bd_engine.proofs.engine.Engine.open.Goals as goal
+
+pub over-requires : goal.over-requires
+over-requires g c =
+    let r = c.in-Ok.recovered in
+    opened_standing g.D.Device (g.D.Device.contents c.args.dev) r.pager r.log r.live c.in-Ok.ensures.opened c.in-Ok.ensures.open
+
+pub returns-clause-known : goal.returns-clause-known
+returns-clause-known g c = λ told. subst (λ (e : EngineState g.row.D.Denot). is_known g.D.Device e.pager) (sym c.over.ensures) (c.in-Ok.ensures.known told)
+
+pub returns-clause-first : goal.returns-clause-first
+returns-clause-first g c = λ tree count.
+    let D = g.D.Device in
+    let known = D.contents c.args.dev in
+    let r = c.in-Ok.recovered in
+    let one : PartsAreOne = record { tables = c.tables_are_read_again.ensures; batches = c.batches_are_one.ensures } in
+    let is_live = subst (λ (o : Option Image). IfSome o (λ image. IsLive image r.live)) c.in-Ok.ensures.reads.kept c.in-Ok.ensures.open.live_is in
+    subst (λ (e : EngineState g.row.D.Denot). IfSome known (λ image. ImageStandsFor tree count image → IsStoredView image (view_of D e))) (sym c.over.ensures)
+    (first_view D one known r.pager r.log r.live c.in-Ok.ensures.opened c.in-Ok.ensures.stored is_live c.in-Ok.ensures.batches c.in-Ok.ensures.idle tree count)
+
+pub returns-clause-replay : goal.returns-clause-replay
+returns-clause-replay g c = λ tree count stands.
+    let D = g.D.Device in
+    let r = c.in-Ok.recovered in
+    subst (λ (e : EngineState g.row.D.Denot). LeadsTo D e.pager e.live r.commands.items tree count) (sym c.over.ensures) (c.in-Ok.ensures.replay tree count stands)
+
+pub returns-clause-only : goal.returns-clause-only
+returns-clause-only g c =
+    let D = g.D.Device in
+    subst (λ (e : EngineState g.row.D.Denot). IsOnly (D.contents e.pager.dev) (left_now D e.pager.dev)) (sym c.over.ensures) c.in-Ok.ensures.only
+
+pub returns-clause-reads : goal.returns-clause-reads
+returns-clause-reads g c =
+    let D = g.D.Device in
+    subst (λ (e : EngineState g.row.D.Denot). OnlyReads D c.args.dev e.pager.dev) (sym c.over.ensures) c.in-Ok.ensures.reads
+
+pub returns-clause-faults : goal.returns-clause-faults
+returns-clause-faults g c =
+    let D = g.D.Device in
+    subst (λ (e : EngineState g.row.D.Denot). D.fault_count e.pager.dev ≡ D.fault_count c.args.dev) (sym c.over.ensures) c.in-Ok.ensures.faults

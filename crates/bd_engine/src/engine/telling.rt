@@ -1,0 +1,49 @@
+//! What an engine tells of itself.
+
+ghost use Rattle.std.specs.Prelude.{◌≡◌, ℕ, None, IfSome};
+ghost use Rattle.bd_super.specs.Live.{IsLive};
+ghost use Rattle.bd_pager.specs.Pagers.{is_bad};
+ghost use Rattle.bd_view.specs.Views.{changed_count};
+ghost use Rattle.bd_engine.specs.Engines.{view_of, IsSoundOn};
+
+use super::Engine;
+use bd_device::Device;
+use bd_format::laws::images_are_decoded;
+use bd_shown::laws::numbers_are_shown;
+
+impl<D: Device> Engine<D> {
+    /// How many commands the last checkpoint counts.
+    pub fn saved_count(&self) -> u64
+        ensures { result ≡ self.now.live.count }
+    {
+        self.live.count
+    }
+
+    /// How many nodes were changed since the last checkpoint.
+    pub fn changed(&self) -> u64
+        ensures { result ≡ changed_count (view_of D.Device self.now) }
+    {
+        numbers_are_shown::<D>();
+        let pager = self.tree.store();
+        pager.nodes_are_placed();
+        pager.changed()
+    }
+
+    /// What reads give is an image that starts from the last checkpoint's superblock, unless it is
+    /// stopped. It does nothing.
+    pub fn live_is_shown(&self)
+        ensures { self.now.stop ≡ None → IfSome (D.contents self.now.pager.dev)
+            (λ image. IsLive image self.now.live) }
+    {
+        let _ = &self.live;
+    }
+
+    /// Where the nodes are known and sound, no block is bad. It does nothing.
+    pub fn sound_nodes_are_undamaged(&self)
+        ensures { IsSoundOn D.Device self.now.pager
+            → (block : ℕ) → ¬ is_bad D.Device self.now.pager block }
+    {
+        images_are_decoded();
+        self.tree.store().nodes_are_placed();
+    }
+}

@@ -1,0 +1,154 @@
+-- What calls leave of a volume, one after the other.
+use Rattle.std.proofs.Common.{◌≡◌, ℕ, ◌<◌, ◌≤◌, ◌⊎◌, Option, None, Some, refl, sym, subst, ap, ◌∙◌, arith, inl, inr}
+use Rattle.std.specs.Prelude.{Result, Ok, Err, OnOk, OnErr, IfErr}
+use Rattle.std.proofs.lemmas.Bool.{cases_lt}
+use Rattle.bd_io.specs.Cause.{Rose, next_count}
+use Rattle.bd_device.specs.Device.{OnlyReads, Stays}
+use Rattle.bd_device.specs.declared.device.Device.{Ghosts}
+use Rattle.bd_device.proofs.Calls.{stays_then, reads_stay}
+use Rattle.bd_message.specs.KeyMaps.{HasMapCause, IsCause, StaysUnlessDevice}
+use Rattle.bd_message.specs.declared.fault.Counter.{Counter}
+use Rattle.bd_message.specs.declared.fault.MapFault.{MapFault}
+use Rattle.bd_message.specs.declared.fault.MapFault.TheVariants as map
+use Rattle.bd_checkpoint.specs.Saving.{IsCheckpointCause}
+use Rattle.bd_pager.specs.Pagers.{is_bad}
+use Rattle.bd_engine.specs.Engines.{IsStopped, IsGoingOn}
+use Rattle.bd_volume.specs.declared.fault.Fault.{Fault}
+use Rattle.bd_volume.specs.declared.fault.Fault.TheVariants.{Device, Damaged, Worn, NoMemory, Full, Stopped}
+use Rattle.bd_volume.specs.declared.volume.Volume.{Volume}
+use Rattle.bd_volume.specs.Faults.{fault_of, HasNotFailed, IsFaultCause, HasFaultCause, IsGoing, IsHalted, IsStoppedRightly}
+use Rattle.bd_volume.specs.Volume.{count_of, device_of, stop_of}
+use Rattle.bd_volume.specs.Steps.{GoesOn, Ends}
+
+module _ {D : Type 0} (g : Ghosts D) where
+  -- ---- one after the other
+
+  pub no_call : (a : Volume D) → stop_of a ≡ None → GoesOn g a a
+  no_call a going = record {
+    going = record { stop_is = going; write_faults = refl };
+    faults = refl;
+    count_is = refl;
+    stays = record { count = refl; same_name = λ name was. was; same_loans = refl };
+  }
+
+  going_then : (a b c : Volume D) → IsGoing g a b → IsGoing g b c → IsGoing g a c
+  going_then a b c p q = record { stop_is = q.stop_is; write_faults = q.write_faults ∙ p.write_faults }
+
+  pub goes_then : (a b c : Volume D) → GoesOn g a b → GoesOn g b c → GoesOn g a c
+  goes_then a b c p q = record {
+    going = going_then a b c p.going q.going;
+    faults = q.faults ∙ p.faults;
+    count_is = q.count_is ∙ p.count_is;
+    stays = stays_then p.stays q.stays;
+  }
+
+  fault_then : (a b c : Volume D) (fault : Fault) → GoesOn g a b → IsFaultCause g b c fault → IsFaultCause g a c fault
+  fault_then a b c Device p h = subst (λ (n : ℕ). Rose n (g.fault_count (device_of c))) p.faults h
+  fault_then a b c (Damaged block) p h = (h.0, h.1 ∙ p.faults)
+  fault_then a b c (Worn which) p h = h ∙ p.faults
+  fault_then a b c NoMemory p h = h ∙ p.faults
+  fault_then a b c (Full free need) p h = (h.0, h.1 ∙ p.faults)
+  fault_then a b c (Stopped call) p h =
+      let on : stop_of b ≡ None = p.going.stop_is in
+      let off : stop_of b ≡ Some call = h.0 in
+      let bad : ⊥ = cc in
+      absurd bad
+
+  halted_then : (a b c : Volume D) → IsGoing g a b → IsHalted g b c → IsHalted g a c
+  halted_then a b c p h = record { stop_is = h.stop_is; write_faults = h.write_faults ∙ ap next_count p.write_faults }
+
+  pub ends_then : {T : Type 0} (a b c : Volume D) (r : Result T Fault) → GoesOn g a b → Ends g b c r → Ends g a c r
+  ends_then a b c (Ok x) p h = record {
+    cause = record { later = omega (arith, p.faults, h.cause.later); kept = h.cause.kept ∙ p.faults; failed = tt };
+    stop = record { ok = going_then a b c p.going h.stop.ok; err = tt };
+    stays = stays_then p.stays h.stays;
+  }
+  ends_then a b c (Err e) p h = record {
+    cause = record { later = omega (arith, p.faults, h.cause.later); kept = tt; failed = fault_then a b c e p h.cause.failed };
+    stop = record {
+      ok = tt;
+      err = elim h.stop.err [ inl goes ↦ inl (going_then a b c p.going goes) | inr halts ↦ inr (halted_then a b c p.going halts.0, halts.1) ];
+    };
+    stays = stays_then p.stays h.stays;
+  }
+
+  -- ---- what goes on
+
+  pub ends_well : {T : Type 0} (a b : Volume D) (x : T) → GoesOn g a b → Ends {T = T} g a b (Ok x)
+  ends_well a b x p = record {
+    cause = record { later = omega (arith, p.faults); kept = p.faults; failed = tt };
+    stop = record { ok = p.going; err = tt };
+    stays = p.stays;
+  }
+
+  pub went_on : {T : Type 0} (a b : Volume D) (x : T) → Ends {T = T} g a b (Ok x) → count_of b ≡ count_of a → GoesOn g a b
+  went_on a b x h same = record { going = h.stop.ok; faults = h.cause.kept; count_is = same; stays = h.stays }
+
+  going_fault : {T : Type 0} (a b : Volume D) (fault : Fault) → GoesOn g a b → IsFaultCause g a b fault → Ends {T = T} g a b (Err fault)
+  going_fault a b fault p h = record {
+    cause = record { later = omega (arith, p.faults); kept = tt; failed = h };
+    stop = record { ok = tt; err = inl p.going };
+    stays = p.stays;
+  }
+
+  pub ends_full : {T : Type 0} (a b : Volume D) (free need : ℕ) → GoesOn g a b → free < need → Ends {T = T} g a b (Err (Full free need))
+  ends_full a b free need p short = going_fault a b (Full free need) p (short, p.faults)
+
+  pub ends_worn : {T : Type 0} (a b : Volume D) (which : Counter) → GoesOn g a b → Ends {T = T} g a b (Err (Worn which))
+  ends_worn a b which p = going_fault a b (Worn which) p p.faults
+
+  -- ---- calls that write nothing
+
+  pub read_goes : (a b : Volume D) → stop_of a ≡ None → stop_of b ≡ stop_of a → OnlyReads g (device_of a) (device_of b) → HasNotFailed g a b → count_of b ≡ count_of a → GoesOn g a b
+  read_goes a b going same reads faults count = record {
+    going = record { stop_is = same ∙ going; write_faults = reads.write_faults };
+    faults = faults;
+    count_is = count;
+    stays = reads_stay reads;
+  }
+
+  map_cause : (a b : Volume D) (worn : Counter → Type 0) (fault : MapFault) → StaysUnlessDevice (g.fault_count (device_of a)) (g.fault_count (device_of b)) fault
+      → IsCause (g.fault_count (device_of a)) (g.fault_count (device_of b)) (is_bad g b.engine.pager) worn fault → IsFaultCause g a b (fault_of fault)
+  map_cause a b worn map.DeviceFault stays h = h
+  map_cause a b worn (map.Damaged block) stays h = (h, stays)
+  map_cause a b worn (map.Worn which) stays h = stays
+  map_cause a b worn map.NoMemory stays h = stays
+
+  pub read_fails : {T U : Type 0} (a b : Volume D) (worn : Counter → Type 0) (fault : MapFault) → stop_of a ≡ None → stop_of b ≡ stop_of a → OnlyReads g (device_of a) (device_of b)
+      → HasMapCause {T = U} (g.fault_count (device_of a)) (g.fault_count (device_of b)) (is_bad g b.engine.pager) worn (Err fault) → Ends {T = T} g a b (Err (fault_of fault))
+  read_fails a b worn fault going same reads cause = record {
+    cause = record { later = cause.later; kept = tt; failed = map_cause a b worn fault cause.stays cause.failed };
+    stop = record { ok = tt; err = inl (record { stop_is = same ∙ going; write_faults = reads.write_faults }) };
+    stays = reads_stay reads;
+  }
+
+  -- ---- checkpoints
+
+  rose : (m n : ℕ) → m ≤ n → n ≡ next_count m → Rose m n
+  rose m n later one = elim (cases_lt m n) [ inl low ↦ inl low | inr same ↦ inr (omega (arith, later, one, same)) ]
+
+  save_cause : (a b : Volume D) (fault : MapFault) → g.fault_count (device_of a) ≤ g.fault_count (device_of b) → IsCheckpointCause g (device_of a) (device_of b) a.engine.live fault → IsFaultCause g a b (fault_of fault)
+  save_cause a b map.DeviceFault later h = rose (g.fault_count (device_of a)) (g.fault_count (device_of b)) later h.one
+  save_cause a b (map.Damaged block) later h = absurd h
+  save_cause a b (map.Worn which) later h = ap g.fault_count h.2
+  save_cause a b map.NoMemory later h = ap g.fault_count h
+
+  pub save_fails : {T : Type 0} (a b : Volume D) (fault : MapFault) → g.fault_count (device_of a) ≤ g.fault_count (device_of b)
+      → (IsStopped g a.engine b.engine × (fault ≡ map.DeviceFault)) ⊎ IsGoingOn g a.engine b.engine → IsCheckpointCause g (device_of a) (device_of b) a.engine.live fault → Stays g (device_of a) (device_of b)
+      → Ends {T = T} g a b (Err (fault_of fault))
+  save_fails a b fault later stop cause stays = record {
+    cause = record { later = later; kept = tt; failed = save_cause a b fault later cause };
+    stop = record {
+      ok = tt;
+      err = elim stop [
+        | inl halted ↦ inr (record { stop_is = halted.0.stop_is; write_faults = halted.0.write_faults }, ap fault_of halted.1)
+        | inr goes ↦ inl (record { stop_is = goes.stop_is; write_faults = goes.write_faults })
+      ];
+    };
+    stays = stays;
+  }
+
+  -- ---- a volume that was stopped
+
+  pub ends_stopped : {T : Type 0} (a : Volume D) (call : ℕ) → stop_of a ≡ Some call → HasFaultCause {T = T} g a a (Err (Stopped call))
+  ends_stopped a call off = record { later = omega arith; kept = tt; failed = (off, refl) }

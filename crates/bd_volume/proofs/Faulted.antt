@@ -1,0 +1,229 @@
+-- Why the calls of a volume fail.
+use Rattle.std.proofs.Common.{◌≡◌, ℕ, ◌+◌, ◌^◌, ◌<◌, ◌≤◌, List, Bool, refl, sym, subst, ap, ◌∙◌, inl, inr, arith, lit≤}
+use Rattle.std.specs.Prelude.{IsTrue, Result, Ok, Err, IfErr, OnErr}
+use Rattle.bd_limits.specs.Limits.{flush_limit}
+use Rattle.bd_command.specs.Command.{writes}
+use Rattle.bd_command.specs.declared.Command.{Command}
+use Rattle.bd_message.specs.declared.fault.Counter.{Counter}
+use Rattle.bd_message.specs.declared.fault.Counter.TheVariants.{Count, NextId, Level, Refs, Epoch, Flushes}
+use Rattle.bd_message.specs.declared.fault.MapFault.{MapFault}
+use Rattle.bd_message.specs.declared.fault.MapFault.TheVariants as map
+use Rattle.bd_message.specs.KeyMaps.{IsCause, NeverWorn}
+use Rattle.bd_device.specs.declared.device.Device.{Ghosts}
+use Rattle.bd_super.specs.declared.superblock.Super.{Super}
+use Rattle.bd_checkpoint.specs.Saving.{IsCheckpointCause}
+use Rattle.bd_node.specs.Meaning.{Nodes}
+use Rattle.bd_node.specs.Tables.{Table, IsSound}
+use Rattle.bd_step.specs.Steps.{IsWornToFlush}
+use Rattle.bd_step.proofs.Making.{step_known}
+use Rattle.bd_graft.specs.Grafting.{IsWornForGraft, IsWornByGraft, OnWorn}
+use Rattle.bd_graft.specs.Packing.{overlaid, packs}
+use Rattle.bd_dirs.specs.declared.plan.Plan.{Plan}
+use Rattle.bd_dirs.specs.declared.plan.Plan.TheVariants.{Graft}
+use Rattle.bd_dirs.specs.Kinds.{Kind, Reads, Sends, SendsLate, Grafts, kind_of}
+use Rattle.bd_dirs.specs.Plans.{IsPlanOf, IsPlanKind}
+use Rattle.bd_effects.proofs.Uncounted.{never_by_graft, never_counted}
+use Rattle.bd_pager.specs.Calling.{read_table}
+use Rattle.bd_pager.specs.Pagers.{Paged, nodes_of, table_of, is_known, is_bad, IsReadOf}
+use Rattle.bd_view.specs.Trees.{TreeView, waiting_limit}
+use Rattle.bd_view.specs.Views.{View, free_slots, need_slots}
+use Rattle.bd_view.specs.Moves.{AreSteps, HasStepped}
+use Rattle.bd_engine.specs.Engines.{EngineState, IsWornIn}
+use Rattle.bd_volume.specs.declared.fault.Fault.{Fault}
+use Rattle.bd_volume.specs.declared.fault.Fault.TheVariants.{Device, Damaged, Worn, NoMemory, Full, Stopped}
+use Rattle.bd_volume.specs.declared.volume.Volume.{Volume}
+use Rattle.bd_volume.specs.Faults.{fault_of}
+use Rattle.bd_volume.specs.Volume.{view_of, count_of, device_of}
+use Rattle.bd_volume.specs.Wears.{IsWornForStep, IsWornByKind, IsWornForSending, IsWornForSave, IsWornNow, Wears, ShowsWorn}
+use Rattle.bd_volume.specs.Steps.{ShowsFault, IsSaveFault, IsWornInStep, IsStepFault, IsCommandFault}
+use Rattle.bd_volume.proofs.Stepped.{not_stepped}
+use Rattle.bd_volume.proofs.Read.{read_worn}
+
+-- ---- a command's fault, after its steps
+
+worn_halts : (which : Counter) (count : ℕ) (c : Command) (made : ℕ) (old new : View) → IsWornInStep which c new → IsWornNow which count c made old new
+worn_halts Count count c made old new h = absurd h
+worn_halts NextId count c made old new h = inl (record { waits = h.waits; worn = h.worn })
+worn_halts Level count c made old new h = inl (record { waits = h.waits; worn = h.worn })
+worn_halts Refs count c made old new h = inl (record { waits = h.waits; worn = h.worn })
+worn_halts Epoch count c made old new h = h
+worn_halts Flushes count c made old new h = absurd h
+
+pub step_halts : (fault : Fault) (count : ℕ) (c : Command) (old new : View) → IsTrue (writes c) → HasStepped c old new → IsStepFault fault c new → IsCommandFault fault count c old new
+step_halts Device count c old new writing s h = tt
+step_halts (Damaged block) count c old new writing s h = h
+step_halts (Worn which) count c old new writing s h = record { counts = writing; stepped = s; worn = worn_halts which count c s.made old new h }
+step_halts NoMemory count c old new writing s h = tt
+step_halts (Full free need) count c old new writing s h = record {
+  writing = writing;
+  stepped = s;
+  free_is = h.free_is;
+  need_is = h.need_is;
+  short = h.short;
+  unsaved = h.unsaved;
+}
+step_halts (Stopped call) count c old new writing s h = h
+
+-- a step's fault is the command's
+pub steps_halt : {T : Type 0} (r : Result T Fault) (count : ℕ) (c : Command) (old new : View) → IsTrue (writes c) → HasStepped c old new → IfErr r (λ fault. IsStepFault fault c new) → IfErr r (λ fault. IsCommandFault fault count c old new)
+steps_halt (Ok x) count c old new writing s h = tt
+steps_halt (Err e) count c old new writing s h = step_halts e count c old new writing s h
+
+-- the count of accepted commands has no room
+pub count_worn : (count : ℕ) (c : Command) (v : View) → IsTrue (writes c) → 2 ^ 64 ≤ count + 1 → Wears Count count c v v
+count_worn count c v writing full = record { counts = writing; stepped = not_stepped c v v refl; worn = (full, refl) }
+
+-- all flush steps were made
+pub flushes_worn : (count : ℕ) (c : Command) (made : ℕ) (old new : View) → IsTrue (writes c) → AreSteps c made old new → made ≡ flush_limit → waiting_limit c < new.tree.table.size → Wears Flushes count c old new
+flushes_worn count c made old new writing steps all waits = record {
+  counts = writing;
+  stepped = record { made = made; steps = steps; few = omega (arith, all) };
+  worn = record { waits = waits; worn = all };
+}
+
+-- ---- grafts
+
+worn_kind : (kind : Kind) (which : Counter) (c : Command) (v : TreeView) (s d : List ℕ) (keep : Bool) → IsPlanOf kind (Graft s d keep) → v.table.size ≤ waiting_limit c → IsWornByGraft v.nodes v.table s d keep which → IsWornByKind kind which c v
+worn_kind Reads which c v s d keep plan enough h = absurd plan
+worn_kind Sends which c v s d keep plan enough h = absurd plan
+worn_kind SendsLate which c v s d keep plan enough h = absurd plan
+worn_kind (Grafts s2 d2 keep2) which c v s d keep plan enough h = record {
+  enough = enough;
+  worn = subst (λ (k : Bool). IsWornByGraft v.nodes v.table s2 d2 k which) plan.2
+      (subst (λ (k : List ℕ). IsWornByGraft v.nodes v.table s2 k keep which) plan.1 (subst (λ (k : List ℕ). IsWornByGraft v.nodes v.table k d keep which) plan.0 h));
+}
+
+worn_graft : (which : Counter) (count : ℕ) (c : Command) (made : ℕ) (old v : View) (s d : List ℕ) (keep : Bool) → IsWornByGraft v.tree.nodes v.tree.table s d keep which → IsWornForSending which c v.tree → IsWornNow which count c made old v
+worn_graft Count count c made old v s d keep h sent = absurd (never_by_graft v.tree.table h.root s d keep h.end (overlaid h.end (packs h.travel)) h.target Count (λ step w. w) (λ e. cc) h.worn)
+worn_graft NextId count c made old v s d keep h sent = inr sent
+worn_graft Level count c made old v s d keep h sent = inr sent
+worn_graft Refs count c made old v s d keep h sent = inr sent
+worn_graft Epoch count c made old v s d keep h sent = absurd (never_by_graft v.tree.table h.root s d keep h.end (overlaid h.end (packs h.travel)) h.target Epoch (λ step w. w) (λ e. cc) h.worn)
+worn_graft Flushes count c made old v s d keep h sent = absurd (never_by_graft v.tree.table h.root s d keep h.end (overlaid h.end (packs h.travel)) h.target Flushes (λ step w. w) (λ e. cc) h.worn)
+
+-- ---- the same step, where less is known
+
+worn_where : (K L : Type 0) (nodes : Nodes) (t : Table) (which : Counter) → (L → K) → IsWornToFlush K nodes t which → IsWornToFlush L nodes t which
+worn_where K L nodes t which knows h = record {
+  step = h.step;
+  to_do = h.to_do;
+  here = λ l. h.here (knows l);
+  worn = elim h.worn [
+    | inl w ↦ inl (record { step = w.step; is = step_known L K nodes nodes t h.step w.step (λ l. (knows l, refl)) w.is; worn = w.worn })
+    | inr high ↦ inr high
+  ];
+}
+
+module _ {D : Type 0} (g : Ghosts D) where
+  -- ---- checkpoints
+
+  pub save_told : (a b : Volume D) (fault : MapFault) → IsCheckpointCause g (device_of a) (device_of b) a.engine.live fault → b.engine.live ≡ a.engine.live → IsSaveFault a b (fault_of fault)
+  save_told a b map.DeviceFault h same = tt
+  save_told a b (map.Damaged block) h same = h
+  save_told a b (map.Worn which) h same = (h.0, h.1, same)
+  save_told a b map.NoMemory h same = tt
+
+  save_in_step : (a b : Volume D) (c : Command) (fault : Fault) → IsSaveFault a b fault → free_slots (view_of g a) < need_slots c (view_of g a) → view_of g b ≡ view_of g a → IsStepFault fault c (view_of g b)
+  save_in_step a b c Device h short same = tt
+  save_in_step a b c (Damaged block) h short same = h
+  save_in_step a b c (Worn which) h short same =
+      subst (λ (w : Counter). IsWornInStep w c (view_of g b)) (sym h.0) (subst (λ (v : View). IsWornForSave c v) (sym same) (record { calls_for = inl short; worn = h.1 }))
+  save_in_step a b c NoMemory h short same = tt
+  save_in_step a b c (Full free need) h short same = absurd h
+  save_in_step a b c (Stopped call) h short same = h
+
+  pub saves_in_step : {T : Type 0} (r : Result T Fault) (a b : Volume D) (c : Command) → IfErr r (IsSaveFault a b) → free_slots (view_of g a) < need_slots c (view_of g a) → OnErr r (view_of g b ≡ view_of g a)
+      → IfErr r (λ fault. IsStepFault fault c (view_of g b))
+  saves_in_step (Ok x) a b c h short same = tt
+  saves_in_step (Err e) a b c h short same = save_in_step a b c e h short same
+
+  save_shows : (a b : Volume D) (count : ℕ) (c : Command) (fault : Fault) → IsSaveFault a b fault → ShowsFault g fault count c b.engine
+  save_shows a b count c Device h = tt
+  save_shows a b count c (Damaged block) h = tt
+  save_shows a b count c (Worn which) h =
+      subst (λ (w : Counter). ShowsWorn g w count c b.engine) (sym h.0) (subst (λ (live : Super). 2 ^ 64 ≤ live.epoch + 1) (sym h.2) h.1)
+  save_shows a b count c NoMemory h = tt
+  save_shows a b count c (Full free need) h = absurd h
+  save_shows a b count c (Stopped call) h = tt
+
+  pub saves_show : {T : Type 0} (r : Result T Fault) (a b : Volume D) (count : ℕ) (c : Command) → IfErr r (IsSaveFault a b) → IfErr r (λ fault. ShowsFault g fault count c b.engine)
+  saves_show (Ok x) a b count c h = tt
+  saves_show (Err e) a b count c h = save_shows a b count c e h
+
+  -- ---- flush steps
+
+  -- that the nodes of a pager are known and sound
+  abbrev AreKnownIn : Paged D → Type 0
+  AreKnownIn p = is_known g p × IsSound (nodes_of g p) (table_of p)
+
+  worn_in_step : (a : Volume D) (which : Counter) (c : Command) → is_known g a.engine.pager → waiting_limit c < (table_of a.engine.pager).size → IsWornIn g a.engine.pager which → IsWornInStep which c (view_of g a)
+  worn_in_step a Count c known waits h = never_counted (AreKnownIn a.engine.pager) (view_of g a).tree Count (λ step w. w) (λ e. cc) h
+  worn_in_step a NextId c known waits h = record { waits = waits; worn = worn_where (AreKnownIn a.engine.pager) (IsSound (nodes_of g a.engine.pager) (table_of a.engine.pager)) (nodes_of g a.engine.pager) (table_of a.engine.pager) NextId (λ sound. (known, sound)) h }
+  worn_in_step a Level c known waits h = record { waits = waits; worn = worn_where (AreKnownIn a.engine.pager) (IsSound (nodes_of g a.engine.pager) (table_of a.engine.pager)) (nodes_of g a.engine.pager) (table_of a.engine.pager) Level (λ sound. (known, sound)) h }
+  worn_in_step a Refs c known waits h = record { waits = waits; worn = worn_where (AreKnownIn a.engine.pager) (IsSound (nodes_of g a.engine.pager) (table_of a.engine.pager)) (nodes_of g a.engine.pager) (table_of a.engine.pager) Refs (λ sound. (known, sound)) h }
+  worn_in_step a Epoch c known waits h = absurd (never_counted (AreKnownIn a.engine.pager) (view_of g a).tree Epoch (λ step w. w) (λ e. cc) h)
+  worn_in_step a Flushes c known waits h = never_counted (AreKnownIn a.engine.pager) (view_of g a).tree Flushes (λ step w. w) (λ e. cc) h
+
+  -- one that isn't made, since a counter is worn or there is no memory
+  pub flush_fails : (m n : ℕ) (a b : Volume D) (c : Command) (fault : MapFault) → is_known g a.engine.pager → waiting_limit c < (table_of a.engine.pager).size → view_of g b ≡ view_of g a → ((block : ℕ) → is_bad g b.engine.pager block → ⊥)
+      → IsCause m n (is_bad g b.engine.pager) (IsWornIn g a.engine.pager) fault → IsStepFault (fault_of fault) c (view_of g b)
+  flush_fails m n a b c map.DeviceFault known waits same good h = tt
+  flush_fails m n a b c (map.Damaged block) known waits same good h = good block h
+  flush_fails m n a b c (map.Worn which) known waits same good h = subst (λ (v : View). IsWornInStep which c v) (sym same) (worn_in_step a which c known waits h)
+  flush_fails m n a b c map.NoMemory known waits same good h = tt
+
+  worn_shows : (b : Volume D) (which : Counter) (count : ℕ) (c : Command) → IsWornIn g b.engine.pager which → ShowsWorn g which count c b.engine
+  worn_shows b Count count c h = absurd (never_counted (AreKnownIn b.engine.pager) (view_of g b).tree Count (λ step w. w) (λ e. cc) h)
+  worn_shows b NextId count c h = inl h
+  worn_shows b Level count c h = inl h
+  worn_shows b Refs count c h = inl h
+  worn_shows b Epoch count c h = absurd (never_counted (AreKnownIn b.engine.pager) (view_of g b).tree Epoch (λ step w. w) (λ e. cc) h)
+  worn_shows b Flushes count c h = absurd (never_counted (AreKnownIn b.engine.pager) (view_of g b).tree Flushes (λ step w. w) (λ e. cc) h)
+
+  pub flush_shows : (m n : ℕ) (a b : Volume D) (count : ℕ) (c : Command) (fault : MapFault) → IsReadOf g a.engine.pager b.engine.pager → IsCause m n (is_bad g b.engine.pager) (IsWornIn g a.engine.pager) fault → ShowsFault g (fault_of fault) count c b.engine
+  flush_shows m n a b count c map.DeviceFault read h = tt
+  flush_shows m n a b count c (map.Damaged block) read h = tt
+  flush_shows m n a b count c (map.Worn which) read h = worn_shows b which count c (read_worn g a.engine.pager b.engine.pager which read h)
+  flush_shows m n a b count c map.NoMemory read h = tt
+
+  -- ---- reads, messages and grafts
+
+  -- calls that wear no counter
+  pub read_halts : (m n : ℕ) (b : Volume D) (count : ℕ) (c : Command) (old new : View) (fault : MapFault) → ((block : ℕ) → is_bad g b.engine.pager block → ⊥) → IsCause m n (is_bad g b.engine.pager) NeverWorn fault → IsCommandFault (fault_of fault) count c old new
+  read_halts m n b count c old new map.DeviceFault good h = tt
+  read_halts m n b count c old new (map.Damaged block) good h = good block h
+  read_halts m n b count c old new (map.Worn which) good h = absurd h
+  read_halts m n b count c old new map.NoMemory good h = tt
+
+  pub read_shows : (m n : ℕ) (b : Volume D) (count : ℕ) (c : Command) (fault : MapFault) → IsCause m n (is_bad g b.engine.pager) NeverWorn fault → ShowsFault g (fault_of fault) count c b.engine
+  read_shows m n b count c map.DeviceFault h = tt
+  read_shows m n b count c (map.Damaged block) h = tt
+  read_shows m n b count c (map.Worn which) h = absurd h
+  read_shows m n b count c map.NoMemory h = tt
+
+  pub graft_halts : (m n : ℕ) (worn : Counter → Type 0) (b : Volume D) (count : ℕ) (c : Command) (old v : View) (s d : List ℕ) (keep : Bool) (fault : MapFault) → IsTrue (writes c) → IsPlanKind c (Graft s d keep) → HasStepped c old v → v.tree.table.size ≤ waiting_limit c
+      → view_of g b ≡ v → ((block : ℕ) → is_bad g b.engine.pager block → ⊥) → IsCause m n (is_bad g b.engine.pager) worn fault → OnWorn (IsWornByGraft v.tree.nodes v.tree.table s d keep) fault → IsCommandFault (fault_of fault) count c old (view_of g b)
+  graft_halts m n worn b count c old v s d keep map.DeviceFault writing kind stepped enough same good h by = tt
+  graft_halts m n worn b count c old v s d keep (map.Damaged block) writing kind stepped enough same good h by = good block h
+  graft_halts m n worn b count c old v s d keep (map.Worn which) writing kind stepped enough same good h by =
+      subst (λ (w : View). Wears which count c old w) (sym same) (record {
+        counts = writing;
+        stepped = stepped;
+        worn = worn_graft which count c stepped.made old v s d keep by (worn_kind (kind_of c) which c v.tree s d keep kind enough by);
+      })
+  graft_halts m n worn b count c old v s d keep map.NoMemory writing kind stepped enough same good h by = tt
+
+  graft_worn_shows : (b : Volume D) (which : Counter) (count : ℕ) (c : Command) → IsWornForGraft (table_of b.engine.pager) which → ShowsWorn g which count c b.engine
+  graft_worn_shows b Count count c h = absurd h
+  graft_worn_shows b NextId count c h = inr h
+  graft_worn_shows b Level count c h = inr h
+  graft_worn_shows b Refs count c h = inr h
+  graft_worn_shows b Epoch count c h = absurd h
+  graft_worn_shows b Flushes count c h = absurd h
+
+  pub graft_shows : (m n : ℕ) (a b : Volume D) (count : ℕ) (c : Command) (fault : MapFault) → IsReadOf g a.engine.pager b.engine.pager → IsCause m n (is_bad g b.engine.pager) (IsWornForGraft (table_of a.engine.pager)) fault → ShowsFault g (fault_of fault) count c b.engine
+  graft_shows m n a b count c map.DeviceFault read h = tt
+  graft_shows m n a b count c (map.Damaged block) read h = tt
+  graft_shows m n a b count c (map.Worn which) read h =
+      graft_worn_shows b which count c (subst (λ (t : Table). IsWornForGraft t which) (sym (read_table g a.engine.pager b.engine.pager read)) h)
+  graft_shows m n a b count c map.NoMemory read h = tt

@@ -1,0 +1,51 @@
+-- What is known after calls that only read, and after others.
+use Rattle.std.proofs.Common.{◌≡◌, ℕ, ◌+◌, List, Option, sym, subst, ap, ◌∙◌}
+use Rattle.bd_command.specs.Command.{IsCommand}
+use Rattle.bd_command.specs.declared.Command.{Command}
+use Rattle.bd_model.specs.Tree.{Tree}
+use Rattle.bd_model.specs.Step.{step}
+use Rattle.bd_model.proofs.TreeStays.{after_stays}
+use Rattle.bd_message.specs.declared.fault.Counter.{Counter}
+use Rattle.bd_message.specs.KeyMaps.{SameAt}
+use Rattle.bd_represent.specs.Represents.{Represents}
+use Rattle.bd_represent.proofs.TreeLemmas.{Represents-along}
+use Rattle.bd_device.specs.Blocks.{Image}
+use Rattle.bd_device.specs.declared.device.Device.{Ghosts}
+use Rattle.bd_node.specs.Tables.{Table, IsSound, root_at}
+use Rattle.bd_step.specs.Steps.{IsWornToFlush}
+use Rattle.bd_pager.specs.Calling.{read_table}
+use Rattle.bd_pager.specs.Places.{Spots, nodes_at}
+use Rattle.bd_pager.specs.Pagers.{Paged, spots_of, table_of, IsKnownOver, IsReadOf}
+use Rattle.bd_view.specs.Views.{View}
+use Rattle.bd_engine.specs.Engines.{EngineState, view_of as view_in, keys_of, IsSoundOn, IsWornIn, IsReadOn}
+use Rattle.bd_volume.specs.declared.volume.Volume.{Volume}
+use Rattle.bd_volume.specs.Volume.{StandsFor, view_of, count_of}
+
+module _ {D : Type 0} (g : Ghosts D) where
+  -- ---- reads
+
+  pub read_sound : (a b : EngineState D) → IsReadOn g a b → IsSoundOn g a.pager → IsSoundOn g b.pager
+  read_sound a b r s = record {
+    known = r.known s.known;
+    sound = subst (λ (v : View). IsSound v.tree.nodes v.tree.table) (sym r.view) s.sound;
+  }
+
+  pub read_same : (a b : EngineState D) → IsReadOn g a b → SameAt (keys_of g a.pager) (keys_of g b.pager)
+  read_same a b r k = ap (λ (v : View). root_at v.tree.nodes v.tree.table k) r.view
+
+  -- a counter that was worn is so
+  pub read_worn : (p q : Paged D) (which : Counter) → IsReadOf g p q → IsWornIn g p which → IsWornIn g q which
+  read_worn p q which r h =
+      let Is : Option Image → Spots → Table → Type 0 = λ o s t. IsWornToFlush (IsKnownOver o s × IsSound (nodes_at o s) t) (nodes_at o s) t which in
+      subst (λ (t : Table). Is (g.contents q.dev) (spots_of q) t) (sym (read_table g p q r))
+      (subst (λ (s : Spots). Is (g.contents q.dev) s (table_of p)) (sym r.spots) (subst (λ (o : Option Image). Is o (spots_of p) (table_of p)) (sym r.device.kept) h))
+
+  -- ---- what a volume stands for
+
+  pub stands_same : (a b : Volume D) (t : Tree) (n : ℕ) → StandsFor g a t n → IsSoundOn g b.engine.pager → SameAt (keys_of g a.engine.pager) (keys_of g b.engine.pager) → count_of b ≡ count_of a → StandsFor g b t n
+  stands_same a b t n s sound same count = record {
+    nodes = sound;
+    is_tree = s.is_tree;
+    represents = Represents-along (keys_of g a.engine.pager) (keys_of g b.engine.pager) t (λ k key. same k) s.represents;
+    count_is = count ∙ s.count_is;
+  }

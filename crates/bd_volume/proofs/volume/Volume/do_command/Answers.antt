@@ -1,0 +1,32 @@
+-- What is said of each fault is said of this one.
+use Rattle.std.proofs.Common.{ℕ, refl, subst}
+use Rattle.bd_model.specs.Tree.{Tree}
+use Rattle.bd_volume.specs.declared.fault.Fault.TheVariants.{Worn, Full}
+use Rattle.bd_volume.specs.Volume.{StandsFor, view_of}
+use Rattle.bd_volume.specs.Wears.{Wears}
+use Rattle.bd_volume.specs.Steps.{IsCommandFault, IsOfAccepted}
+use Rattle.bd_volume.proofs.Executed.{at_err}
+use Rattle.bd_volume.proofs.Stepped.{not_stepped}
+use Rattle.bd_volume.proofs.volume.Volume.do_command.Goals as goal
+
+pub returns-in-Some-clause-begun : goal.returns-in-Some-clause-begun
+returns-in-Some-clause-begun g c = λ t n s.
+    let v = view_of g.D.Device c.args.self.now in
+    not_stepped c.args.command.now v v refl
+
+pub returns-in-None-clause-full : goal.returns-in-None-clause-full
+returns-in-None-clause-full g c = λ free need is t n s.
+    let old = view_of g.D.Device c.args.self.now in
+    let new = view_of g.D.Device c.execute.new.self in (
+      at_err c.execute.result (Full free need) (λ fault. IsCommandFault fault c.args.self.now.count c.args.command.now old new) (c.execute.ensures.fails s.nodes) is,
+      at_err c.execute.result (Full free need) (λ fault. (u : Tree) (m : ℕ) → StandsFor g.D.Device c.args.self.now u m → IsOfAccepted fault u c.args.command.now) c.execute.ensures.accepting is t n s,
+    )
+
+pub returns-in-None-clause-wears : goal.returns-in-None-clause-wears
+returns-in-None-clause-wears g c = λ which is t n s.
+    let old = view_of g.D.Device c.args.self.now in
+    let new = view_of g.D.Device c.execute.new.self in (
+      subst (λ (k : ℕ). Wears which k c.args.command.now old new) s.count_is
+          (at_err c.execute.result (Worn which) (λ fault. IsCommandFault fault c.args.self.now.count c.args.command.now old new) (c.execute.ensures.fails s.nodes) is),
+      at_err c.execute.result (Worn which) (λ fault. (u : Tree) (m : ℕ) → StandsFor g.D.Device c.args.self.now u m → IsOfAccepted fault u c.args.command.now) c.execute.ensures.accepting is t n s,
+    )

@@ -1,0 +1,119 @@
+-- Each step is one more, and a fault leaves the steps before it.
+use Rattle.std.proofs.Common.{◌≡◌, ◌<◌, ◌≤◌, refl, ap, arith}
+use Rattle.std.specs.Prelude.{Ok}
+use Rattle.std.proofs.lemmas.Result.{err_from_is_err_and}
+use Rattle.bd_limits.specs.Limits.{flush_limit}
+use Rattle.bd_view.specs.Moves.{AreSteps}
+use Rattle.bd_view.specs.Trees.{waiting_limit}
+use Rattle.bd_volume.specs.Volume.{view_of}
+use Rattle.bd_volume.proofs.Called.{no_call, went_on, goes_then}
+use Rattle.bd_volume.proofs.Faulted.{step_halts, count_worn, flushes_worn}
+use Rattle.bd_volume.proofs.Stepped.{steps_then, steps_saved, no_steps, has_stepped, not_stepped}
+use Rattle.bd_volume.proofs.volume.Volume.make_ready.Goals as goal
+
+pub returns-then-self-clause-stepped : goal.returns-then-self-clause-stepped
+returns-then-self-clause-stepped g c = λ s.
+    let v = view_of g.D.Device c.args.self.now in
+    not_stepped c.args.command.now v v refl
+
+pub returns-then-self-clause-fails : goal.returns-then-self-clause-fails
+returns-then-self-clause-fails g c = λ s. count_worn c.args.self.now.count c.args.command.now (view_of g.D.Device c.args.self.now) c.requires.writes (omega arith)
+
+pub loop-made-init : goal.loop-made-init
+loop-made-init g c = record {
+  goes = no_call g.D.Device c.args.self.now c.requires.going;
+  sound = λ s. s;
+  steps = λ s.
+      let v = view_of g.D.Device c.args.self.now in
+      no_steps c.args.command.now v v refl;
+}
+
+pub returns-in_err-flush_step-clause-stepped : goal.returns-in_err-flush_step-clause-stepped
+returns-in_err-flush_step-clause-stepped g c = λ s.
+    let old = view_of g.D.Device c.args.self.now in
+    let new = view_of g.D.Device c.flush_step.new.self in
+    let i = c.loop-made.invariant in
+    has_stepped c.args.command.now c.loop-made._made old new
+    (steps_saved c.args.command.now c.loop-made._made old (view_of g.D.Device c.loop-made.self) new (i.steps s) (c.in_err-flush_step.ensures.rest (i.sound s) (λ e. cc)))
+    (omega (arith, c.loop-made-test.true))
+
+pub returns-in_err-flush_step-clause-fails : goal.returns-in_err-flush_step-clause-fails
+returns-in_err-flush_step-clause-fails g c = λ s.
+    let p = err_from_is_err_and c.from_residual.result c.from_residual.ensures.1 in
+    let old = view_of g.D.Device c.args.self.now in
+    let new = view_of g.D.Device c.flush_step.new.self in
+    let i = c.loop-made.invariant in
+    let stepped = has_stepped c.args.command.now c.loop-made._made old new
+    (steps_saved c.args.command.now c.loop-made._made old (view_of g.D.Device c.loop-made.self) new (i.steps s) (c.in_err-flush_step.ensures.rest (i.sound s) (λ e. cc)))
+    (omega (arith, c.loop-made-test.true)) in
+    rw (p.1, p.2) (step_halts c.in_err-flush_step.field-0.0 c.args.self.now.count c.args.command.now old new c.requires.writes stepped (c.in_err-flush_step.ensures.fails (i.sound s)))
+
+pub returns-then-not-branch-clause-stepped : goal.returns-then-not-branch-clause-stepped
+returns-then-not-branch-clause-stepped g c = λ s.
+    let old = view_of g.D.Device c.args.self.now in
+    let new = view_of g.D.Device c.flush_step.new.self in
+    let i = c.loop-made.invariant in
+    let off = c.if-not-branch.true in
+    has_stepped c.args.command.now c.loop-made._made old new
+    (steps_saved c.args.command.now c.loop-made._made old (view_of g.D.Device c.loop-made.self) new (i.steps s) (c.in_ok-flush_step.ensures.rest (i.sound s) (λ e. cc)))
+    (omega (arith, c.loop-made-test.true))
+
+pub loop-made-preserved : goal.loop-made-preserved
+loop-made-preserved g c =
+    let i = c.loop-made.invariant in
+    let h = c.in_ok-flush_step.ensures in
+    record {
+      goes = goes_then g.D.Device c.args.self.now c.loop-made.self c.flush_step.new.self i.goes (went_on g.D.Device c.loop-made.self c.flush_step.new.self _ h.ends h.count_stays);
+      sound = λ s. h.sound (i.sound s);
+      steps = λ s. steps_then c.args.command.now c.loop-made._made 1 (view_of g.D.Device c.args.self.now) (view_of g.D.Device c.loop-made.self) (view_of g.D.Device c.flush_step.new.self) (i.steps s)
+          (h.flushed (i.sound s) (ap Ok c.if-not-branch.false));
+    }
+
+pub returns-in_err-make_room-clause-stepped : goal.returns-in_err-make_room-clause-stepped
+returns-in_err-make_room-clause-stepped g c = λ s.
+    let old = view_of g.D.Device c.args.self.now in
+    let new = view_of g.D.Device c.make_room.new.self in
+    let i = c.loop-made.invariant in
+    has_stepped c.args.command.now c.loop-made._made old new
+    (steps_saved c.args.command.now c.loop-made._made old (view_of g.D.Device c.loop-made.self) new (i.steps s) (c.in_err-make_room.ensures.steps (i.sound s)))
+    (omega (arith, c.loop-made.auto._made-end))
+
+pub returns-in_err-make_room-clause-fails : goal.returns-in_err-make_room-clause-fails
+returns-in_err-make_room-clause-fails g c = λ s.
+    let p = err_from_is_err_and c.from_residual-in_err-make_room.result c.from_residual-in_err-make_room.ensures.1 in
+    let old = view_of g.D.Device c.args.self.now in
+    let new = view_of g.D.Device c.make_room.new.self in
+    let i = c.loop-made.invariant in
+    let stepped = has_stepped c.args.command.now c.loop-made._made old new
+    (steps_saved c.args.command.now c.loop-made._made old (view_of g.D.Device c.loop-made.self) new (i.steps s) (c.in_err-make_room.ensures.steps (i.sound s)))
+    (omega (arith, c.loop-made.auto._made-end)) in
+    rw (p.1, p.2) (step_halts c.in_err-make_room.field-0.0 c.args.self.now.count c.args.command.now old new c.requires.writes stepped (c.in_err-make_room.ensures.fails (i.sound s)))
+
+pub returns-then-root_size-waiting_limit-clause-stepped :
+    goal.returns-then-root_size-waiting_limit-clause-stepped
+returns-then-root_size-waiting_limit-clause-stepped g c = λ s.
+    let old = view_of g.D.Device c.args.self.now in
+    let new = view_of g.D.Device c.make_room.new.self in
+    let i = c.loop-made.invariant in
+    has_stepped c.args.command.now c.loop-made._made old new
+    (steps_saved c.args.command.now c.loop-made._made old (view_of g.D.Device c.loop-made.self) new (i.steps s) (c.in_ok-make_room.ensures.steps (i.sound s)))
+    (omega (arith, c.loop-made.auto._made-end))
+
+pub returns-clause-stepped : goal.returns-clause-stepped
+returns-clause-stepped g c = λ s.
+    let old = view_of g.D.Device c.args.self.now in
+    let new = view_of g.D.Device c.make_room.new.self in
+    let i = c.loop-made.invariant in
+    has_stepped c.args.command.now c.loop-made._made old new
+    (steps_saved c.args.command.now c.loop-made._made old (view_of g.D.Device c.loop-made.self) new (i.steps s) (c.in_ok-make_room.ensures.steps (i.sound s)))
+    (omega (arith, c.loop-made.auto._made-end))
+
+pub returns-clause-fails : goal.returns-clause-fails
+returns-clause-fails g c = λ s.
+    let old = view_of g.D.Device c.args.self.now in
+    let new = view_of g.D.Device c.make_room.new.self in
+    let i = c.loop-made.invariant in
+    let steps = steps_saved c.args.command.now c.loop-made._made old (view_of g.D.Device c.loop-made.self) new (i.steps s) (c.in_ok-make_room.ensures.steps (i.sound s)) in
+    let all : c.loop-made._made ≡ flush_limit = omega (arith, c.loop-made.auto._made-end, c.loop-made-test.false) in
+    let waits : waiting_limit c.args.command.now < new.tree.table.size = omega (arith, c.root_size.ensures, c.waiting_limit.ensures, c.if-root_size-waiting_limit.false) in
+    flushes_worn c.args.self.now.count c.args.command.now c.loop-made._made old new c.requires.writes steps all waits

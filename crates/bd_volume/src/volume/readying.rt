@@ -1,0 +1,147 @@
+//! How a volume is made ready for a writing command.
+
+ghost use Rattle.std.specs.Prelude.{◌≡◌, ◌≢◌, ◌+◌, ◌^◌, ◌<◌, ◌≤◌, ◌⊎◌, true, false, None, Ok, IfErr, OnOk, IsTrue};
+ghost use Rattle.bd_command.specs.Command.{writes};
+ghost use Rattle.bd_pager.specs.Pagers.{table_of};
+ghost use Rattle.bd_view.specs.Trees.{waiting_limit};
+ghost use Rattle.bd_view.specs.Views.{free_slots, need_slots};
+ghost use Rattle.bd_view.specs.Moves.{AreSteps, HasStepped, CannotSave};
+ghost use Rattle.bd_engine.specs.Engines.{IsSoundOn};
+ghost use Rattle.bd_volume.specs.Volume.{view_of, count_of, stop_of};
+ghost use Rattle.bd_volume.specs.Steps.{Ends, ShowsFault, IsStepFault, IsCommandFault};
+
+use super::Volume;
+use crate::fault::Fault;
+use bd_command::Command;
+use bd_device::Device;
+use bd_effects::waiting_limit;
+use bd_limits::MAX_FLUSHES;
+use bd_message::Counter;
+
+impl<D: Device> Volume<D> {
+    // Makes the volume ready for a writing command that is accepted: one more can be counted, flush
+    // steps are made while more bytes wait in the root than the command's limit, and slots are free
+    // for what it sends.
+    pub(crate) fn make_ready(&mut self, command: &Command) -> Result<(), Fault>
+        requires writes { IsTrue (writes command.now) }
+        requires going { stop_of self.old ≡ None }
+        ensures stepped { IsSoundOn D.Device self.old.engine.pager → HasStepped command.now
+            (view_of D.Device self.old) (view_of D.Device self.new) }
+        ensures sound { IsSoundOn D.Device self.old.engine.pager
+            → IsSoundOn D.Device self.new.engine.pager }
+        ensures fails { IsSoundOn D.Device self.old.engine.pager → IfErr result (λ fault.
+            IsCommandFault fault (count_of self.old) command.now
+            (view_of D.Device self.old) (view_of D.Device self.new)) }
+
+        // Whatever is known.
+        ensures enough { OnOk result
+            ((table_of self.new.engine.pager).size ≤ waiting_limit command.now) }
+        ensures room { OnOk result (need_slots command.now (view_of D.Device self.new)
+            ≤ free_slots (view_of D.Device self.new)) }
+        ensures counts { OnOk result (count_of self.old + 1 < 2 ^ 64) }
+        ensures shows { IfErr result (λ fault.
+            ShowsFault D.Device fault (count_of self.old) command.now self.new.engine) }
+        ensures ends { Ends D.Device self.old self.new result }
+        ensures count_stays { count_of self.new ≡ count_of self.old }
+    {
+        if self.count == u64::MAX {
+            return Err(Fault::Worn(Counter::Count));
+        }
+        for _made in 0..MAX_FLUSHES {
+            if !self.flush_step(command)? {
+                return Ok(());
+            }
+        }
+        self.make_room(command)?;
+        if self.engine.root_size() <= waiting_limit(command) {
+            return Ok(());
+        }
+        Err(Fault::Worn(Counter::Flushes))
+    }
+
+    // Makes room for a flush step, and makes it where more bytes wait in the root than the command's
+    // limit, and says whether it did.
+    fn flush_step(&mut self, command: &Command) -> Result<bool, Fault>
+        requires writes { IsTrue (writes command.now) }
+        requires going { stop_of self.old ≡ None }
+        ensures flushed { IsSoundOn D.Device self.old.engine.pager → result ≡ Ok true
+            → AreSteps command.now 1 (view_of D.Device self.old) (view_of D.Device self.new) }
+        ensures rest { IsSoundOn D.Device self.old.engine.pager → result ≢ Ok true
+            → AreSteps command.now 0 (view_of D.Device self.old) (view_of D.Device self.new) }
+        ensures sound { IsSoundOn D.Device self.old.engine.pager
+            → IsSoundOn D.Device self.new.engine.pager }
+        ensures fails { IsSoundOn D.Device self.old.engine.pager → IfErr result (λ fault.
+            IsStepFault fault command.now (view_of D.Device self.new)) }
+
+        // Whatever is known.
+        ensures enough { result ≡ Ok false
+            → (table_of self.new.engine.pager).size ≤ waiting_limit command.now }
+        ensures room { result ≡ Ok false → need_slots command.now (view_of D.Device self.new)
+            ≤ free_slots (view_of D.Device self.new) }
+        ensures shows { IfErr result (λ fault.
+            ShowsFault D.Device fault (count_of self.old) command.now self.new.engine) }
+        ensures ends { Ends D.Device self.old self.new result }
+        ensures count_stays { count_of self.new ≡ count_of self.old }
+    {
+        self.make_room(command)?;
+        let flushed = self.engine.flush(command);
+        self.engine.sound_nodes_are_undamaged();
+        Ok(flushed?)
+    }
+
+    // Makes sure that slots are free for the next step of a command.
+    fn make_room(&mut self, command: &Command) -> Result<(), Fault>
+        requires writes { IsTrue (writes command.now) }
+        requires going { stop_of self.old ≡ None }
+        ensures steps { IsSoundOn D.Device self.old.engine.pager
+            → AreSteps command.now 0 (view_of D.Device self.old) (view_of D.Device self.new) }
+        ensures sound { IsSoundOn D.Device self.old.engine.pager
+            → IsSoundOn D.Device self.new.engine.pager }
+        ensures fails { IsSoundOn D.Device self.old.engine.pager → IfErr result (λ fault.
+            IsStepFault fault command.now (view_of D.Device self.new)) }
+
+        // Whatever is known.
+        ensures room { OnOk result (need_slots command.now (view_of D.Device self.new)
+            ≤ free_slots (view_of D.Device self.new)) }
+        ensures shows { IfErr result (λ fault.
+            ShowsFault D.Device fault (count_of self.old) command.now self.new.engine) }
+        ensures ends { Ends D.Device self.old self.new result }
+        ensures count_stays { count_of self.new ≡ count_of self.old }
+    {
+        self.save_if_short(command)?;
+        let (free, need) = (self.engine.free(), self.engine.need(command));
+        if free < need {
+            return Err(Fault::Full { free, need });
+        }
+        Ok(())
+    }
+
+    // Makes a checkpoint where too few slots are free for the next step of a command and it can make
+    // more free.
+    fn save_if_short(&mut self, command: &Command) -> Result<(), Fault>
+        requires writes { IsTrue (writes command.now) }
+        requires going { stop_of self.old ≡ None }
+        ensures steps { IsSoundOn D.Device self.old.engine.pager
+            → AreSteps command.now 0 (view_of D.Device self.old) (view_of D.Device self.new) }
+        ensures sound { IsSoundOn D.Device self.old.engine.pager
+            → IsSoundOn D.Device self.new.engine.pager }
+        ensures fails { IsSoundOn D.Device self.old.engine.pager → IfErr result (λ fault.
+            IsStepFault fault command.now (view_of D.Device self.new)) }
+
+        // Whatever is known.
+        ensures room { OnOk result ((need_slots command.now (view_of D.Device self.new)
+            ≤ free_slots (view_of D.Device self.new)) ⊎ CannotSave (view_of D.Device self.new)) }
+        ensures shows { IfErr result (λ fault.
+            ShowsFault D.Device fault (count_of self.old) command.now self.new.engine) }
+        ensures ends { Ends D.Device self.old self.new result }
+        ensures count_stays { count_of self.new ≡ count_of self.old }
+    {
+        if self.engine.need(command) <= self.engine.free() {
+            return Ok(());
+        }
+        if !self.can_save() {
+            return Ok(());
+        }
+        self.save()
+    }
+}

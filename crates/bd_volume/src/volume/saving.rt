@@ -1,0 +1,59 @@
+//! Checkpoints that the calls of a volume make.
+
+ghost use Rattle.std.specs.Prelude.{◌≡◌, ◌≤◌, ℕ, true, false, None, IfErr, OnOk, OnErr};
+ghost use Rattle.bd_model.specs.Tree.{Tree};
+ghost use Rattle.bd_device.specs.Device.{left_now};
+ghost use Rattle.bd_device.specs.Moments.{IsOnly};
+ghost use Rattle.bd_checkpoint.specs.Kept.{AllStandFor};
+ghost use Rattle.bd_view.specs.Views.{changed_count, free_slots, save_slots};
+ghost use Rattle.bd_view.specs.Moves.{Saves, CannotSave};
+ghost use Rattle.bd_engine.specs.Engines.{IsSoundOn};
+ghost use Rattle.bd_volume.specs.Volume.{StandsFor, view_of, count_of, device_of, stop_of};
+ghost use Rattle.bd_volume.specs.Steps.{Ends, IsSaveFault};
+
+use super::Volume;
+use crate::fault::Fault;
+use bd_device::Device;
+
+impl<D: Device> Volume<D> {
+    // Whether a checkpoint can make more slots free: something was changed since the last one, and
+    // slots are free for it.
+    pub(crate) fn can_save(&self) -> bool
+        ensures room { result ≡ true → save_slots (view_of D.Device self.now)
+            ≤ free_slots (view_of D.Device self.now) }
+        ensures cannot { result ≡ false → CannotSave (view_of D.Device self.now) }
+    {
+        if self.engine.changed() == 0 {
+            return false;
+        }
+        self.engine.save_need() <= self.engine.free()
+    }
+
+    // Makes a checkpoint, for which slots are free.
+    pub(crate) fn save(&mut self) -> Result<(), Fault>
+        requires going { stop_of self.old ≡ None }
+        requires room { save_slots (view_of D.Device self.old)
+            ≤ free_slots (view_of D.Device self.old) }
+        ensures saves { IsSoundOn D.Device self.old.engine.pager
+            → OnOk result (Saves (view_of D.Device self.old) (view_of D.Device self.new)) }
+        ensures err { IsSoundOn D.Device self.old.engine.pager
+            → OnErr result (view_of D.Device self.new ≡ view_of D.Device self.old) }
+        ensures sound { IsSoundOn D.Device self.old.engine.pager
+            → IsSoundOn D.Device self.new.engine.pager }
+        ensures stands { (t : Tree) (n : ℕ) → StandsFor D.Device self.old t n
+            → StandsFor D.Device self.new t n }
+        ensures kept { OnOk result ((t : Tree) (n : ℕ) → StandsFor D.Device self.old t n
+            → AllStandFor t n (left_now D.Device (device_of self.new))) }
+        ensures only { OnOk result (IsOnly (D.contents (device_of self.new))
+            (left_now D.Device (device_of self.new))) }
+
+        // Whatever is known.
+        ensures none { OnOk result (changed_count (view_of D.Device self.new) ≡ 0) }
+        ensures fails { IfErr result (IsSaveFault self.old self.new) }
+        ensures ends { Ends D.Device self.old self.new result }
+        ensures count_stays { count_of self.new ≡ count_of self.old }
+    {
+        self.engine.save(self.count)?;
+        Ok(())
+    }
+}
