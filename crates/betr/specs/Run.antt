@@ -181,10 +181,11 @@ abbrev pub image_of : Call → List ℕ
 image_of (Run image) = image
 image_of (Format image slots) = image
 
--- what a call makes of the device where it ends well or by the sink: a format a new image of so many
--- slots, whatever there was
+-- what else is said of a call's device: no write of a run failed that ends well, and a format that
+-- ends well or by the sink has made an image of so many slots, whatever there was
 abbrev pub Makes : {D : Type 0} → Ghosts D → Call → ℕ → D → D → Type 0
-Makes g (Run image) status old new = ⊤
+Makes g (Run image) status old new =
+    status ≡ 0 → g.write_fault_count new ≡ g.write_fault_count old
 Makes g (Format image slots) status old new = (status ≡ 0) ⊎ (status ≡ 9)
     → (g.block_count new ≡ image_blocks slots) × (IsSome (g.contents old) → HasNewImage g new)
 

@@ -69,12 +69,13 @@ fn make_image<D: Attach>(alloc: Global, slots: u32, dev: &mut D) -> Result<(), F
             let _ = dev.blocks();
             Ok(())
         }
-        Err(
-            Refused {
+        Err(refused) => {
+            let Refused {
                 fault,
                 device: _device,
-            },
-        ) => Err(Fault::of_image(fault)),
+            } = refused;
+            Err(Fault::of_image(fault))
+        }
     }
 }
 

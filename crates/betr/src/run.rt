@@ -44,6 +44,8 @@ fn run_image<D: Attach, S: Source, K: Sink>(
         × (D.block_count dev.new ≡ 0)
         × (D.call_count dev.new ≡ next_count (D.call_count dev.old))
         × (D.shows dev.new image.now ≡ D.shows dev.old image.now) × (src.new ≡ src.old)) }
+    ensures writes { OnOk result
+        (D.write_fault_count dev.new ≡ D.write_fault_count dev.old) }
     ensures same_loans { D.loans dev.new ≡ D.loans dev.old }
     ensures cause { IsCaused
         (faults (D.fault_count dev.old) (S.fault_count src.old) (K.fault_count sink.old))
@@ -68,6 +70,8 @@ fn run_device<D: Attach, S: Source, K: Sink>(
         (ends (D.contents dev.new) (S.left src.new) (S.takes src.new) (K.written sink.new)
         (faults (D.fault_count dev.new) (S.fault_count src.new) (K.fault_count sink.new))) }
     ensures flushed { OnOk result (K.waiting sink.new ≡ 0) }
+    ensures writes { OnOk result
+        (D.write_fault_count dev.new ≡ D.write_fault_count dev.old) }
     ensures stays { Stays D.Device dev.old dev.new }
     ensures cause { IsCaused
         (faults (D.fault_count dev.old) (S.fault_count src.old) (K.fault_count sink.old))
@@ -81,12 +85,13 @@ fn run_device<D: Attach, S: Source, K: Sink>(
             let _device = shell.into_device();
             result
         }
-        Err(
-            Refused {
+        Err(refused) => {
+            let Refused {
                 fault,
                 device: _device,
-            },
-        ) => Err(Fault::of_image(fault)),
+            } = refused;
+            Err(Fault::of_image(fault))
+        }
     }
 }
 
