@@ -91,7 +91,8 @@ fn execute<D: Device + Drop>(volume: &mut Volume<D>, line: &Line) -> Result<Line
     }
 }
 
-// Executes a line of a script, also a bad one. A fault leaves what it leaves of a line that is read.
+// Executes a line of a script, also a bad one. A fault leaves what it leaves of a line that was
+// read.
 fn execute_line<D: Device + Drop>(
     alloc: Global,
     volume: &mut Volume<D>,
@@ -193,8 +194,8 @@ pub struct Shell<D: Device> {
 impl<D: Device + Drop> Shell<D> {
     /// A shell over the volume that starts from a device's image. From an image that stands for a
     /// tree and has no open batch it starts unless the device fails or there is no memory, and
-    /// stands for that tree. Where it fails, it returns the device; the fault is `Device`, `Damaged`
-    /// or `NoMemory`.
+    /// stands for that tree. Where it fails, it returns the device; the fault is `Device`,
+    /// `Damaged` or `NoMemory`.
     pub fn new(alloc: Global, device: D) -> Result<Shell<D>, Refused<D>>
         ensures stands { IfOk result (λ shell. (t : Tree) (n : ℕ) → CanStart t n (D.contents device)
             → ShellAt D.Device shell (state_at t n (view_in D.Device shell))) }
