@@ -6,7 +6,6 @@ use Rattle.std.specs.declared.option.Option.{Option}
 use Rattle.std.specs.declared.option.Option.TheVariants.{None, Some}
 use Rattle.std.specs.declared.ops.ControlFlow.{ControlFlow}
 use Rattle.std.specs.declared.ops.ControlFlow.TheVariants.{Continue, Break}
-use Rattle.std.specs.Io.KnownBytes.{append_known}
 use Rattle.bd_io.specs.Written.{WrotePart}
 use Rattle.bd_node.proofs.Lookup.{each_both}
 use Rattle.bd_script.specs.Replies.{line_reply_line}
@@ -19,9 +18,9 @@ use Rattle.bd_script.specs.Lines.{LineMeaning, HasNoNewline, held_limit, line_of
 use Rattle.bd_script.proofs.CutLines.{no_newline-open_line, whole_lines-newline, open_line-newline, whole_lines-more, open_line-more, whole_lines-none, open_line-none, line_of-held, held-append}
 use Rattle.betr.specs.declared.fault.Fault.{Fault}
 use Rattle.betr.specs.declared.fault.Fault.TheVariants.{Device, Damaged, Source, Memory, TooLong, Worn, Sink}
-use Rattle.betr.specs.Transcript.{State, Exchange, IsAnswered, HasTranscript, text, executed, meanings}
-use Rattle.betr.specs.Session.{Executes, HasNext, Leaves, LeavesBy, Tells, Ends}
-use Rattle.betr.specs.Shell.{breaks, completed, IsHeld, CutsAt, HasMore, LineFails, FailsBefore, RunFails, HaltsIn, BreaksOff}
+use Rattle.betr.specs.Transcript.{State, Exchange, IsAnswered, executed, meanings}
+use Rattle.betr.specs.Session.{Executes, HasNext, Leaves}
+use Rattle.betr.specs.Shell.{breaks, completed, IsHeld, CutsAt, HasMore, RunFails, BreaksOff}
 use Rattle.betr.proofs.Transcripts.{up_to_stop-none, up_to_stop-append, executed-append, transcript_one, transcript_more, transcript_as}
 use Rattle.betr.proofs.Executes.{executes_more, executes_as}
 use Rattle.betr.proofs.Left.{leaves_worn}

@@ -8,11 +8,9 @@ use Rattle.bd_script.specs.Lines.{LineMeaning}
 use Rattle.bd_script.specs.declared.line.Line.TheVariants.{Run, Walk, Df, Checkpoint, Reclaim, Stop}
 use Rattle.bd_view.specs.Views.{View}
 use Rattle.bd_view.specs.Moves.AreSteps.{none}
-use Rattle.betr.specs.declared.fault.Fault.{Fault}
-use Rattle.betr.specs.declared.fault.Fault.TheVariants.{Device, Damaged, Source, Memory, TooLong, Worn, Sink}
 use Rattle.betr.specs.Transcript.{State}
 use Rattle.betr.specs.Session.{IsLeftBy, LeavesBy, Leaves, WornBy}
-use Rattle.betr.specs.Shell.{Wore, LineFails}
+use Rattle.betr.specs.Shell.{Wore}
 
 -- any line may leave the view
 left_none : (line : LineMeaning) (s : State) → IsLeftBy line s s.view

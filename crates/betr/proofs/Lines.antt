@@ -1,10 +1,9 @@
 -- One line: its reply, or its fault.
 use Rattle.std.proofs.Common.{◌≡◌, ℕ, Bool, true, false, cond, List, inl, inr, refl, sym, ap, subst, ◌∙◌, arith}
 use Rattle.std.specs.declared.option.Option.{Option}
-use Rattle.std.specs.declared.option.Option.TheVariants.{None, Some}
 use Rattle.std.specs.declared.result.Result.{Result}
 use Rattle.std.specs.declared.result.Result.TheVariants.{Ok, Err}
-use Rattle.std.specs.Prelude.{◌+◌, ◌^◌, ◌<◌, ◌≤◌, ◌&&◌, MatchBool, IsNone, IsSome, IfOk, IfErr, OnOk}
+use Rattle.std.specs.Prelude.{◌+◌, ◌^◌, ◌<◌, ◌≤◌, ◌&&◌, MatchBool, IsNone, IsSome, IfOk, IfErr}
 use Rattle.std.proofs.lemmas.Bool.{cases_lt}
 use Rattle.bd_command.specs.Command.{writes, is_done, accepted}
 use Rattle.bd_command.specs.declared.Command.{Command}
@@ -26,8 +25,7 @@ use Rattle.bd_script.specs.declared.replies.LineReply.TheVariants as reply
 use Rattle.bd_view.specs.Views.{View, keys_of, free_slots, save_slots}
 use Rattle.bd_view.specs.Moves.{HasStepped, IsExecuted, Saves, IsCommandFull, IsCheckpointFull}
 use Rattle.bd_view.specs.Reclaiming.{IsReclaim, IsReclaimFull}
-use Rattle.bd_volume.specs.Faults.{HasFaultCause, IsStoppedRightly}
-use Rattle.bd_volume.specs.Volume.{StandsFor, view_of, count_of, device_of, stop_of}
+use Rattle.bd_volume.specs.Volume.{StandsFor, view_of}
 use Rattle.bd_volume.specs.Wears.{Wears, HasBegunReclaiming, WearsReclaiming}
 use Rattle.bd_volume.specs.declared.volume.Volume.{Volume}
 use Rattle.bd_volume.specs.declared.fault.Fault.{Fault as VolumeFault}
@@ -35,10 +33,10 @@ use Rattle.bd_volume.specs.declared.fault.Fault.TheVariants as volume
 use Rattle.betr.specs.declared.fault.Fault.{Fault}
 use Rattle.betr.specs.declared.fault.Fault.TheVariants.{Device, Damaged, Source, Memory, TooLong, Worn, Sink}
 use Rattle.bd_io.specs.Cause.{Rose}
-use Rattle.betr.specs.Fault.{Faults, Caused, IsCaused}
-use Rattle.betr.specs.Transcript.{State, with_view, IsCommandReply, IsDoneOrFull, MayGet, Follows, Moves, Serves, FillsCheckpoint, FillsReclaim, state_of_step, told, told_free}
+use Rattle.betr.specs.Fault.{Faults, IsCaused}
+use Rattle.betr.specs.Transcript.{State, with_view, IsCommandReply, IsDoneOrFull, MayGet, Follows, Moves, state_of_step, told, told_free}
 use Rattle.betr.specs.Session.{LeavesBy}
-use Rattle.betr.specs.Shell.{VolumeAt, Replies, Wore, is_stopped, counts_of, FailsNoWrite, ComesNow, IsOutcome, IsLineFault, LineFails, FailsBefore, RunFails}
+use Rattle.betr.specs.Shell.{VolumeAt, Replies, Wore, is_stopped, counts_of, IsOutcome, IsLineFault, LineFails, RunFails}
 
 -- ---- what a volume stands for after a line
 
@@ -262,64 +260,9 @@ outcome_err (volume.Full free need) r line first last is leaves undamaged worn =
     err_as (λ f. (s : State) → first s → LineFails f s line last) r (Ok (reply.Full free need)) is tt
 outcome_err (volume.Stopped call) r line first last is leaves undamaged worn = absurd is
 
-pub outcome_fault : (e : VolumeFault) (r : Result LineReply Fault) → IsOutcome e r → IfErr r IsLineFault
-outcome_fault volume.Device r is = err_as IsLineFault r (Err Device) is tt
-outcome_fault (volume.Damaged block) r is = err_as IsLineFault r (Err (Damaged block)) is tt
-outcome_fault (volume.Worn which) r is = err_as IsLineFault r (Err (Worn which)) is tt
-outcome_fault volume.NoMemory r is = err_as IsLineFault r (Err Memory) is tt
-outcome_fault (volume.Full free need) r is = err_as IsLineFault r (Ok (reply.Full free need)) is tt
-outcome_fault (volume.Stopped call) r is = absurd is
-
 -- ---- causes, whatever the volume stands for
 
-some_stop : (stop : Option ℕ) (call : ℕ) → stop ≡ None → stop ≡ Some call → ⊥
-some_stop stop call none some = cc
-
--- a volume that wasn't stopped doesn't say so
-pub comes_now : {D T : Type 0} (g : Ghosts D) (v w : Volume D) (e : VolumeFault) → stop_of v ≡ None → HasFaultCause {T = T} g v w (Err e) → ComesNow e
-comes_now g v w volume.Device going h = tt
-comes_now g v w (volume.Damaged block) going h = tt
-comes_now g v w (volume.Worn which) going h = tt
-comes_now g v w volume.NoMemory going h = tt
-comes_now g v w (volume.Full free need) going h = tt
-comes_now g v w (volume.Stopped call) going h = some_stop (stop_of v) call going h.failed.0
-
--- want of slots is told with fewer free than are needed
-pub outcome_short : {D T : Type 0} (g : Ghosts D) (v w : Volume D) (e : VolumeFault) → HasFaultCause {T = T} g v w (Err e) → (free need : ℕ)
-    → e ≡ volume.Full free need → free < need
-outcome_short g v w volume.Device h free need is = cc
-outcome_short g v w (volume.Damaged block) h free need is = cc
-outcome_short g v w (volume.Worn which) h free need is = cc
-outcome_short g v w volume.NoMemory h free need is = cc
-outcome_short g v w (volume.Full few many) h free need is =
-    let first : few ≡ free = cc in
-    let second : many ≡ need = cc in
-    omega (arith, h.failed.0, first, second)
-outcome_short g v w (volume.Stopped call) h free need is = cc
-
-pub outcome_going : {D T : Type 0} (g : Ghosts D) (v w : Volume D) (e : VolumeFault) (r : Result LineReply Fault) → IsOutcome e r
-    → IsStoppedRightly {T = T} g v w (Err e) → OnOk r (stop_of w ≡ None)
-outcome_going g v w volume.Device r is h = subst (λ x. OnOk x (stop_of w ≡ None)) (sym is) tt
-outcome_going g v w (volume.Damaged block) r is h = subst (λ x. OnOk x (stop_of w ≡ None)) (sym is) tt
-outcome_going g v w (volume.Worn which) r is h = subst (λ x. OnOk x (stop_of w ≡ None)) (sym is) tt
-outcome_going g v w volume.NoMemory r is h = subst (λ x. OnOk x (stop_of w ≡ None)) (sym is) tt
-outcome_going g v w (volume.Full free need) r is h =
-    subst (λ x. OnOk x (stop_of w ≡ None)) (sym is) (elim h.err [ inl going ↦ going.stop_is | inr halted ↦ cc ])
-outcome_going g v w (volume.Stopped call) r is h = absurd is
-
-pub outcome_writes : {D T : Type 0} (g : Ghosts D) (v w : Volume D) (e : VolumeFault) (r : Result LineReply Fault) → IsOutcome e r
-    → IsStoppedRightly {T = T} g v w (Err e) → FailsNoWrite g (device_of v) (device_of w) r
-outcome_writes g v w volume.Device r is h = subst (λ x. FailsNoWrite g (device_of v) (device_of w) x) (sym is) tt
-outcome_writes g v w (volume.Damaged block) r is h =
-    subst (λ x. FailsNoWrite g (device_of v) (device_of w) x) (sym is) (elim h.err [ inl going ↦ going.write_faults | inr halted ↦ cc ])
-outcome_writes g v w (volume.Worn which) r is h =
-    subst (λ x. FailsNoWrite g (device_of v) (device_of w) x) (sym is) (elim h.err [ inl going ↦ going.write_faults | inr halted ↦ cc ])
-outcome_writes g v w volume.NoMemory r is h =
-    subst (λ x. FailsNoWrite g (device_of v) (device_of w) x) (sym is) (elim h.err [ inl going ↦ going.write_faults | inr halted ↦ cc ])
-outcome_writes g v w (volume.Full free need) r is h =
-    subst (λ x. FailsNoWrite g (device_of v) (device_of w) x) (sym is) (elim h.err [ inl going ↦ going.write_faults | inr halted ↦ cc ])
-outcome_writes g v w (volume.Stopped call) r is h = absurd is
-
+-- no call of the device and of the sink failed
 caused_ok_at : {D T : Type 0} (g : Ghosts D) (d e : D) (sink later : ℕ) (x : T) → g.fault_count e ≡ g.fault_count d → later ≡ sink
     → IsCaused (counts_of g d sink) (counts_of g e later) (Ok x)
 caused_ok_at g d e sink later x same kept = record {
@@ -327,45 +270,6 @@ caused_ok_at g d e sink later x same kept = record {
   kept = ap (λ n. record { device = n; source = 0; sink = later }) same ∙ ap (λ n. record { device = g.fault_count d; source = 0; sink = n }) kept;
   cause = tt;
 }
-
--- no call of the device failed
-pub caused_ok : {D T : Type 0} (g : Ghosts D) (d e : D) (sink : ℕ) (x : T) → g.fault_count e ≡ g.fault_count d
-    → IsCaused (counts_of g d sink) (counts_of g e sink) (Ok x)
-caused_ok g d e sink x same = caused_ok_at g d e sink sink x same refl
-
--- nor did one at a fault of which none is the cause
-quiet_caused : {D T : Type 0} (g : Ghosts D) (d e : D) (sink : ℕ) (f : Fault) → g.fault_count e ≡ g.fault_count d
-    → Caused f (counts_of g d sink) (counts_of g e sink) → IsCaused {T = T} (counts_of g d sink) (counts_of g e sink) (Err f)
-quiet_caused g d e sink f same cause = record {
-  later = record { device = omega (arith, same); source = omega arith; sink = omega arith };
-  kept = tt;
-  cause = cause;
-}
-
-same_counts : {D : Type 0} (g : Ghosts D) (d e : D) (sink : ℕ) → g.fault_count e ≡ g.fault_count d → counts_of g e sink ≡ counts_of g d sink
-same_counts g d e sink same = ap (λ n. record { device = n; source = 0; sink = sink }) same
-
-pub outcome_caused : {D T : Type 0} (g : Ghosts D) (v w : Volume D) (e : VolumeFault) (r : Result LineReply Fault) (sink : ℕ) → IsOutcome e r
-    → HasFaultCause {T = T} g v w (Err e) → IsCaused (counts_of g (device_of v) sink) (counts_of g (device_of w) sink) r
-outcome_caused g v w volume.Device r sink is h =
-    subst (λ x. IsCaused (counts_of g (device_of v) sink) (counts_of g (device_of w) sink) x) (sym is) (record {
-      later = record { device = h.later; source = omega arith; sink = omega arith };
-      kept = tt;
-      cause = (h.failed, refl);
-    })
-outcome_caused g v w (volume.Damaged block) r sink is h =
-    subst (λ x. IsCaused (counts_of g (device_of v) sink) (counts_of g (device_of w) sink) x) (sym is)
-    (quiet_caused g (device_of v) (device_of w) sink (Damaged block) h.failed.1 (same_counts g (device_of v) (device_of w) sink h.failed.1))
-outcome_caused g v w (volume.Worn which) r sink is h =
-    subst (λ x. IsCaused (counts_of g (device_of v) sink) (counts_of g (device_of w) sink) x) (sym is)
-    (quiet_caused g (device_of v) (device_of w) sink (Worn which) h.failed (same_counts g (device_of v) (device_of w) sink h.failed))
-outcome_caused g v w volume.NoMemory r sink is h =
-    subst (λ x. IsCaused (counts_of g (device_of v) sink) (counts_of g (device_of w) sink) x) (sym is)
-    (quiet_caused g (device_of v) (device_of w) sink Memory h.failed (same_counts g (device_of v) (device_of w) sink h.failed))
-outcome_caused g v w (volume.Full free need) r sink is h =
-    subst (λ x. IsCaused (counts_of g (device_of v) sink) (counts_of g (device_of w) sink) x) (sym is)
-    (caused_ok g (device_of v) (device_of w) sink (reply.Full free need) h.failed.1)
-outcome_caused g v w (volume.Stopped call) r sink is h = absurd is
 
 -- ---- a fault before the reply
 

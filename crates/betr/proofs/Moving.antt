@@ -1,6 +1,5 @@
 -- How the device and the counts of faults go on over several lines.
-use Rattle.std.proofs.Common.{◌≡◌, ℕ, refl, ap, subst, ◌∙◌, sym, arith}
-use Rattle.std.specs.declared.result.Result.{Result}
+use Rattle.std.proofs.Common.{◌≡◌, refl, ap, subst, ◌∙◌, arith}
 use Rattle.std.specs.declared.result.Result.TheVariants.{Ok, Err}
 use Rattle.bd_device.specs.Device.{Stays}
 use Rattle.bd_device.specs.declared.device.Device.{Ghosts}

@@ -16,7 +16,7 @@ use Rattle.bd_script.specs.declared.replies.LineReply.TheVariants as reply
 use Rattle.bd_view.specs.Trees.{HasAppended}
 use Rattle.bd_view.specs.Views.{View}
 use Rattle.bd_view.specs.Moves.{Saves, IsExecuted}
-use Rattle.bd_view.specs.Reclaiming.{IsReclaim, IsReclaimFull}
+use Rattle.bd_view.specs.Reclaiming.{IsReclaim}
 use Rattle.bd_view.specs.Reclaiming.IsReclaimFull.{first, edge, last}
 use Rattle.bd_view.proofs.Standing.{steps_walk, reclaims_walk}
 use Rattle.betr.specs.Transcript.{State, Entry, Answers, Serves, FillsCheckpoint, FillsReclaim, Follows, Moves, IsTranscript, grafts, is_made, IsCheap, AreCheap}

@@ -115,8 +115,8 @@ pub record CutsAt (bytes line rest : List ℕ) : Type 0 where
 
 -- ---- one line
 
--- a line's reply follows from a state, and `at` holds of the state after it, whose tree the nodes of
--- its view represent
+-- a line's reply follows from a state, and `at` holds of the state after it, whose tree the nodes
+-- of its view represent
 pub record Replies (s : State) (line : LineMeaning) (said : LineReply) (at : State → Type 0)
     : Type 0 where
   pub after : State

@@ -6,12 +6,12 @@ ghost use Rattle.bd_io.specs.Written.{WrotePart};
 ghost use Rattle.bd_model.specs.Tree.{Tree};
 ghost use Rattle.bd_device.specs.Device.{OnlyReads, Stays, IsImageCause};
 ghost use Rattle.bd_checkpoint.specs.Recovering.{OnlySettles, IsBadIn};
-ghost use Rattle.bd_script.specs.Lines.{line_of, open_line, held, held_limit, is_empty, is_stop, up_to_stop, IsLine, HasNoNewline};
+ghost use Rattle.bd_script.specs.Lines.{line_of, open_line, held, held_limit, is_empty, is_stop, IsLine, HasNoNewline};
 ghost use Rattle.bd_script.specs.Replies.{line_reply_line, IsLineReply};
 ghost use Rattle.bd_engine.specs.Stored.{IsStoredView, HasSaved};
 ghost use Rattle.bd_volume.specs.Faults.{image_fault_of};
 ghost use Rattle.bd_volume.specs.Volume.{device_of, stop_of};
-ghost use Rattle.betr.specs.Fault.{IsCaused, of_sink};
+ghost use Rattle.betr.specs.Fault.{IsCaused};
 ghost use Rattle.betr.specs.Transcript.{State, state_at, MayGet, meanings};
 ghost use Rattle.betr.specs.Session.{Executes};
 ghost use Rattle.betr.specs.Shell.{VolumeAt, ShellAt, Replies, ExecutesOne, view_in, held_of, device_in, stop_in, counts_of, CanStart, FailsNoWrite, breaks, is_stopped, last_lines, completed, IsHeld, ComesNow, IsOutcome, CutsAt, IsLineFault, LineFails, RunFails, BreaksOff};
@@ -91,7 +91,8 @@ fn execute<D: Device + Drop>(volume: &mut Volume<D>, line: &Line) -> Result<Line
     }
 }
 
-// Executes a line of a script, also a bad one. A fault leaves what it leaves of a line that is read.
+// Executes a line of a script, also a bad one. A fault leaves what it leaves of a line that was
+// read.
 fn execute_line<D: Device + Drop>(
     alloc: Global,
     volume: &mut Volume<D>,
@@ -193,8 +194,8 @@ pub struct Shell<D: Device> {
 impl<D: Device + Drop> Shell<D> {
     /// A shell over the volume that starts from a device's image. From an image that stands for a
     /// tree and has no open batch it starts unless the device fails or there is no memory, and
-    /// stands for that tree. Where it fails, it returns the device; the fault is `Device`, `Damaged`
-    /// or `NoMemory`.
+    /// stands for that tree. Where it fails, it returns the device; the fault is `Device`,
+    /// `Damaged` or `NoMemory`.
     pub fn new(alloc: Global, device: D) -> Result<Shell<D>, Refused<D>>
         ensures stands { IfOk result (λ shell. (t : Tree) (n : ℕ) → CanStart t n (D.contents device)
             → ShellAt D.Device shell (state_at t n (view_in D.Device shell))) }

@@ -1,5 +1,5 @@
 -- The line is executed and its reply written, or a fault comes before it or within it.
-use Rattle.std.proofs.Common.{sym, ◌∙◌}
+use Rattle.std.proofs.Common.{◌∙◌}
 use Rattle.std.proofs.lemmas.Result.{err_from_is_err_and}
 use Rattle.betr.proofs.Lines.{line_fails, may_small, may_stop, wrote_caused, sink_caused, fault_as}
 use Rattle.betr.proofs.shell.run_line.Goals as goal
