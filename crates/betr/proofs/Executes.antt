@@ -5,65 +5,62 @@ use Rattle.std.specs.declared.option.Option.TheVariants.{None, Some}
 use Rattle.std.specs.Io.KnownBytes.{append_known}
 use Rattle.std.proofs.lemmas.List.{append-nil}
 use Rattle.bd_io.proofs.Written.{append_known-twice}
+use Rattle.bd_node.proofs.Lookup.{each_both}
 use Rattle.bd_script.specs.Lines.{LineMeaning, line_of}
 use Rattle.bd_script.specs.Replies.{line_reply_line}
-use Rattle.betr.specs.Transcript.{State, Entry, text, executed, state_after}
+use Rattle.betr.specs.Transcript.{State, Exchange, IsAnswered, text, executed}
 use Rattle.betr.specs.Session.{Executes}
 use Rattle.betr.specs.Shell.{ExecutesOne, last_lines}
-use Rattle.betr.proofs.Transcripts.{IsTranscript-append, state_after-append, text-append, executed-append}
+use Rattle.betr.proofs.Transcripts.{text-append, executed-append, transcript_none, transcript_one, transcript_more}
 
 pub append_known-nil : (w : Option (List ℕ)) → append_known w [] ≡ w
 append_known-nil None = refl
 append_known-nil (Some xs) = ap (λ l. Some l) (append-nil xs)
 
--- what was written of two transcripts, one after the other
-pub text-twice : (es fs : List Entry) (a b c : Option (List ℕ)) → b ≡ append_known a (text es) → c ≡ append_known b (text fs)
-    → c ≡ append_known a (text (es ++ fs))
-text-twice es fs a b c first second =
-    second ∙ ap (λ w. append_known w (text fs)) first ∙ append_known-twice a (text es) (text fs)
-    ∙ ap (append_known a) (sym (text-append es fs))
+-- what was written of some replies, and then of more
+pub text-twice : (xs ys : List Exchange) (a b c : Option (List ℕ)) → b ≡ append_known a (text xs) → c ≡ append_known b (text ys)
+    → c ≡ append_known a (text (xs ++ ys))
+text-twice xs ys a b c first second =
+    second ∙ ap (λ w. append_known w (text ys)) first ∙ append_known-twice a (text xs) (text ys)
+    ∙ ap (append_known a) (sym (text-append xs ys))
 
 -- no line
-pub executes_none : (s : State) (at : State → Type 0) (w : Option (List ℕ)) → at s → Executes s [] at w w
-executes_none s at w h = record {
-  entries = [];
-  transcript = tt;
+pub executes_none : (first : State → Type 0) (w : Option (List ℕ)) → Executes first first [] w w
+executes_none first w = record {
+  exchanges = [];
+  answered = tt;
   lines_are = refl;
-  reached = h;
   written = sym (append_known-nil w);
+  runs = λ s h. transcript_none s first h;
 }
 
 -- one line
-pub executes_one : (s : State) (l : LineMeaning) (at : State → Type 0) (a b : Option (List ℕ)) → ExecutesOne s l at a b
-    → Executes s (l ∷ []) at a b
-executes_one s l at a b x =
-    let e : Entry = record { line = l; said = x.said; state = x.replies.after } in
-    record {
-      entries = e ∷ [];
-      transcript = (x.replies.follows, tt);
-      lines_are = refl;
-      reached = x.replies.reached;
-      written = x.written ∙ ap (append_known a) (sym (append-nil (line_reply_line x.said)));
-    }
+pub executes_one : (first last : State → Type 0) (l : LineMeaning) (a b : Option (List ℕ)) → ExecutesOne first last l a b
+    → Executes first last (l ∷ []) a b
+executes_one first last l a b x = record {
+  exchanges = record { line = l; said = x.said } ∷ [];
+  answered = (x.answer, tt);
+  lines_are = refl;
+  written = x.written ∙ ap (append_known a) (sym (append-nil (line_reply_line x.said)));
+  runs = λ s h. transcript_one s l x.said last (x.replies s h);
+}
 
 -- some lines, and then more
-pub executes_more : (s : State) (ls ms : List LineMeaning) (mid at : State → Type 0) (a b c : Option (List ℕ))
-    → Executes s ls mid a b → ((t : State) → mid t → Executes t ms at b c) → Executes s (ls ++ ms) at a c
-executes_more s ls ms mid at a b c x more =
-    let y : Executes (state_after s x.entries) ms at b c = more (state_after s x.entries) x.reached in
-    record {
-      entries = x.entries ++ y.entries;
-      transcript = IsTranscript-append s x.entries y.entries x.transcript y.transcript;
-      lines_are = executed-append x.entries y.entries ∙ ap (λ l. l ++ executed y.entries) x.lines_are
-          ∙ ap (λ l. ls ++ l) y.lines_are;
-      reached = subst at (sym (state_after-append s x.entries y.entries)) y.reached;
-      written = text-twice x.entries y.entries a b c x.written y.written;
-    }
+pub executes_more : (first mid last : State → Type 0) (ls ms : List LineMeaning) (a b c : Option (List ℕ)) → Executes first mid ls a b
+    → Executes mid last ms b c → Executes first last (ls ++ ms) a c
+executes_more first mid last ls ms a b c x y = record {
+  exchanges = x.exchanges ++ y.exchanges;
+  answered = each_both IsAnswered x.exchanges y.exchanges x.answered y.answered;
+  lines_are = executed-append x.exchanges y.exchanges ∙ ap (λ l. l ++ executed y.exchanges) x.lines_are
+      ∙ ap (λ l. ls ++ l) y.lines_are;
+  written = text-twice x.exchanges y.exchanges a b c x.written y.written;
+  runs = λ s h. transcript_more s x.exchanges y.exchanges mid last (x.runs s h) y.runs;
+}
 
 -- the same lines, named otherwise
-pub executes_as : (s : State) (ls ms : List LineMeaning) (at : State → Type 0) (a b : Option (List ℕ)) → ls ≡ ms
-    → Executes s ls at a b → Executes s ms at a b
-executes_as s ls ms at a b same x = subst (λ l. Executes s l at a b) same x
+pub executes_as : (first last : State → Type 0) (ls ms : List LineMeaning) (a b : Option (List ℕ)) → ls ≡ ms
+    → Executes first last ls a b → Executes first last ms a b
+executes_as first last ls ms a b same x = subst (λ l. Executes first last l a b) same x
 
 -- what is held at the end is a line where it isn't empty
 pub last_some : (line same : List ℕ) → same ≡ line → 0 < length line → last_lines line ≡ line_of same ∷ []

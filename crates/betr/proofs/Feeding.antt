@@ -7,6 +7,7 @@ use Rattle.std.specs.declared.option.Option.TheVariants.{None, Some}
 use Rattle.std.specs.declared.ops.ControlFlow.{ControlFlow}
 use Rattle.std.specs.declared.ops.ControlFlow.TheVariants.{Continue, Break}
 use Rattle.bd_io.specs.Written.{WrotePart}
+use Rattle.bd_node.proofs.Lookup.{each_both}
 use Rattle.bd_script.specs.Replies.{line_reply_line}
 use Rattle.std.proofs.lemmas.List.{append-nil, map-append, take-append-drop, get_or-take, length-take}
 use Rattle.std.proofs.lemmas.List.Folds.{list_any-append}
@@ -16,11 +17,11 @@ use Rattle.std.proofs.lemmas.Bool.{eqb-true, ltb-false}
 use Rattle.bd_script.specs.Lines.{LineMeaning, HasNoNewline, held_limit, line_of, whole_lines, open_line, held, is_empty, is_stop, up_to_stop}
 use Rattle.bd_script.proofs.CutLines.{no_newline-open_line, whole_lines-newline, open_line-newline, whole_lines-more, open_line-more, whole_lines-none, open_line-none, line_of-held, held-append}
 use Rattle.betr.specs.declared.fault.Fault.{Fault}
-use Rattle.betr.specs.declared.fault.Fault.TheVariants.{Device, Source, Memory, TooLong, Worn, Sink}
-use Rattle.betr.specs.Transcript.{State, Entry, state_after, meanings}
-use Rattle.betr.specs.Session.{Executes, Leaves}
-use Rattle.betr.specs.Shell.{breaks, IsHeld, CutsAt, RunFails, BreaksOff}
-use Rattle.betr.proofs.Transcripts.{up_to_stop-none, up_to_stop-append, IsTranscript-append, state_after-append, executed-append}
+use Rattle.betr.specs.declared.fault.Fault.TheVariants.{Device, Damaged, Source, Memory, TooLong, Worn, Sink}
+use Rattle.betr.specs.Transcript.{State, Exchange, IsAnswered, executed, meanings}
+use Rattle.betr.specs.Session.{Executes, HasNext, Leaves}
+use Rattle.betr.specs.Shell.{breaks, completed, IsHeld, CutsAt, HasMore, RunFails, BreaksOff}
+use Rattle.betr.proofs.Transcripts.{up_to_stop-none, up_to_stop-append, executed-append, transcript_one, transcript_more, transcript_as}
 use Rattle.betr.proofs.Executes.{executes_more, executes_as}
 use Rattle.betr.proofs.Left.{leaves_worn}
 
@@ -74,10 +75,10 @@ pub record FedTo (first now : State → Type 0) (begun piece rest line : List �
   pub piece_is : piece ≡ front ++ rest
   pub no_stop : list_any is_stop (meanings (begun ++ front)) ≡ false
   pub line_is : line ≡ held (open_line (begun ++ front))
-  pub ran : (s : State) → first s → Executes s (meanings (begun ++ front)) now old new
+  pub ran : Executes first now (meanings (begun ++ front)) old new
 
 pub fed_none : (first : State → Type 0) (begun piece : List ℕ) (w : Option (List ℕ)) → IsHeld begun
-    → ((s : State) → first s → Executes s [] first w w) → FedTo first first begun piece piece begun w w
+    → Executes first first [] w w → FedTo first first begun piece piece begun w w
 fed_none first begun piece w held_is none =
     let empty : meanings (begun ++ []) ≡ [] = ap meanings (append-nil begun) ∙ ap (map line_of) (whole_lines-none begun (held_plain begun held_is)) in
     record {
@@ -85,7 +86,7 @@ fed_none first begun piece w held_is none =
       piece_is = refl;
       no_stop = ap (list_any is_stop) empty;
       line_is = sym (ap (λ l. held (open_line l)) (append-nil begun) ∙ held_is);
-      ran = λ s h. executes_as s [] (meanings (begun ++ [])) first w w (sym empty) (none s h);
+      ran = executes_as first first [] (meanings (begun ++ [])) w w (sym empty) none;
     }
 
 pub cuts_at : (rest : List ℕ) (i : ℕ) → position (λ b. b == 10) rest ≡ Some i → CutsAt rest (take i rest) (drop (i + 1) rest)
@@ -160,7 +161,7 @@ next_line begun piece front rest x tail line is cut line_is =
 -- the line isn't `stop`, and the piece goes on
 pub fed_more : (first mid now : State → Type 0) (begun piece rest x tail line line2 : List ℕ) (a b c : Option (List ℕ))
     → (at : FedTo first mid begun piece rest line a b) → CutsAt rest x tail → is_stop (line_of (line ++ x)) ≡ false → line2 ≡ []
-    → ((t : State) → mid t → Executes t (line_of (line ++ x) ∷ []) now b c) → FedTo first now begun piece tail line2 a c
+    → Executes mid now (line_of (line ++ x) ∷ []) b c → FedTo first now begun piece tail line2 a c
 fed_more first mid now begun piece rest x tail line line2 a b c at cut goes_on line2_is runs =
     let next = next_line begun piece at.front rest x tail line at.piece_is cut at.line_is in
     record {
@@ -169,7 +170,7 @@ fed_more first mid now begun piece rest x tail line line2 a b c at cut goes_on l
       no_stop = ap (list_any is_stop) next.lines ∙ list_any-append is_stop (meanings (begun ++ at.front)) (line_of (line ++ x) ∷ [])
           ∙ neither _ _ at.no_stop (neither (is_stop (line_of (line ++ x))) false goes_on refl);
       line_is = line2_is ∙ ap held (sym next.opened);
-      ran = λ s h. executes_as s _ _ now a c (sym next.lines) (executes_more s (meanings (begun ++ at.front)) (line_of (line ++ x) ∷ []) mid now a b c (at.ran s h) runs);
+      ran = executes_as first now _ _ a c (sym next.lines) (executes_more first mid now (meanings (begun ++ at.front)) (line_of (line ++ x) ∷ []) a b c at.ran runs);
     }
 
 -- what stands up to the `stop` of all, where the lines so far have none
@@ -198,11 +199,10 @@ fed_stops begun piece front rest x tail line is cut line_is none stops =
 
 pub stops_fed : (first mid now : State → Type 0) (begun piece rest x tail line : List ℕ) (a b c : Option (List ℕ))
     → FedTo first mid begun piece rest line a b → CutsAt rest x tail → is_stop (line_of (line ++ x)) ≡ true
-    → ((t : State) → mid t → Executes t (line_of (line ++ x) ∷ []) now b c)
-    → (s : State) → first s → Executes s (up_to_stop (meanings (begun ++ piece))) now a c
-stops_fed first mid now begun piece rest x tail line a b c at cut stops runs s h =
-    executes_as s _ _ now a c (sym (fed_stops begun piece at.front rest x tail line at.piece_is cut at.line_is at.no_stop stops).lines)
-    (executes_more s (meanings (begun ++ at.front)) (line_of (line ++ x) ∷ []) mid now a b c (at.ran s h) runs)
+    → Executes mid now (line_of (line ++ x) ∷ []) b c → Executes first now (completed begun piece) a c
+stops_fed first mid now begun piece rest x tail line a b c at cut stops runs =
+    executes_as first now _ _ a c (sym (fed_stops begun piece at.front rest x tail line at.piece_is cut at.line_is at.no_stop stops).lines)
+    (executes_more first mid now (meanings (begun ++ at.front)) (line_of (line ++ x) ∷ []) a b c at.ran runs)
 
 -- no newline is left, and what is left is held
 pub record Ended (begun piece rest line line2 : List ℕ) : Type 0 where
@@ -223,85 +223,116 @@ fed_ends first now begun piece rest line line2 a b at plain is =
     }
 
 pub ends_fed : (first now : State → Type 0) (begun piece rest line : List ℕ) (a b : Option (List ℕ)) → FedTo first now begun piece rest line a b
-    → HasNoNewline rest → (s : State) → first s → Executes s (up_to_stop (meanings (begun ++ piece))) now a b
-ends_fed first now begun piece rest line a b at plain s h =
+    → HasNoNewline rest → Executes first now (completed begun piece) a b
+ends_fed first now begun piece rest line a b at plain =
     let end = fed_ends first now begun piece rest line (held (line ++ rest)) a b at plain refl in
     let joined : begun ++ piece ≡ (begun ++ at.front) ++ rest = ap (λ l. begun ++ l) at.piece_is ∙ sym (append_assoc begun at.front rest) in
     let lines : meanings (begun ++ piece) ≡ meanings (begun ++ at.front) = ap meanings joined ∙ ap (map line_of) (plain_more (begun ++ at.front) rest plain).0 in
-    executes_as s _ _ now a b (sym (up_to_stop-none (meanings (begun ++ piece)) end.no_stop ∙ lines)) (at.ran s h)
+    executes_as first now _ _ a b (sym (up_to_stop-none (meanings (begun ++ piece)) end.no_stop ∙ lines)) at.ran
 
 -- ---- faults
 
+-- of a fed piece bytes are left
+more_fed : (first mid : State → Type 0) (begun piece rest line : List ℕ) (a b : Option (List ℕ)) → (at : FedTo first mid begun piece rest line a b)
+    → is_empty rest ≡ false → HasMore begun piece at.ran.exchanges
+more_fed first mid begun piece rest line a b at some = record {
+  front = at.front;
+  rest = rest;
+  piece_is = at.piece_is;
+  lines_are = at.ran.lines_are;
+  no_stop = at.no_stop;
+  some = some;
+}
+
 -- want of memory while bytes are left
 pub memory_fed : (first mid now : State → Type 0) (begun piece rest line : List ℕ) (a b c : Option (List ℕ)) → FedTo first mid begun piece rest line a b
-    → is_empty rest ≡ false → ((t : State) → mid t → Leaves t now × (c ≡ b)) → (s : State) → first s → BreaksOff Memory s begun piece now a c
-memory_fed first mid now begun piece rest line a b c at some stays s h =
-    let x : Executes s (meanings (begun ++ at.front)) mid a b = at.ran s h in
-    let kept = stays (state_after s x.entries) x.reached in
-    record {
-      entries = x.entries;
-      transcript = x.transcript;
-      halts = record {
-        front = at.front;
-        rest = rest;
-        piece_is = at.piece_is;
-        lines_are = x.lines_are;
-        no_stop = at.no_stop;
-        some = some;
-      };
-      reached = kept.0;
-      replied = kept.1 ∙ x.written;
-    }
+    → is_empty rest ≡ false → c ≡ b → ((t : State) → mid t → Leaves t now) → BreaksOff Memory first now begun piece a c
+memory_fed first mid now begun piece rest line a b c at some same stays = record {
+  exchanges = at.ran.exchanges;
+  answered = at.ran.answered;
+  halts = more_fed first mid begun piece rest line a b at some;
+  replied = same ∙ at.ran.written;
+  runs = λ s h. transcript_as s at.ran.exchanges mid _ (at.ran.runs s h) (λ t g. record { told = tt; reached = stays t g });
+}
+
+-- the device's fault while bytes are left
+device_fed : (first mid now : State → Type 0) (begun piece rest line : List ℕ) (a b c : Option (List ℕ)) → FedTo first mid begun piece rest line a b
+    → is_empty rest ≡ false → c ≡ b → ((t : State) → mid t → Leaves t now) → BreaksOff Device first now begun piece a c
+device_fed first mid now begun piece rest line a b c at some same stays = record {
+  exchanges = at.ran.exchanges;
+  answered = at.ran.answered;
+  halts = more_fed first mid begun piece rest line a b at some;
+  replied = same ∙ at.ran.written;
+  runs = λ s h. transcript_as s at.ran.exchanges mid _ (at.ran.runs s h) (λ t g. record { told = tt; reached = stays t g });
+}
 
 cut_some : (x tail : List ℕ) → is_empty (x ++ 10 ∷ tail) ≡ false
 cut_some [] tail = refl
 cut_some (b ∷ x) tail = refl
 
+-- lines that stand before a line more, up to the `stop` of all
+pub record Before (begun piece x line : List ℕ) (done : List LineMeaning) : Type 0 where
+  pub rest : List LineMeaning
+  pub lines_are : completed begun piece ≡ done ++ line_of (line ++ x) ∷ rest
+
+before_next : (first mid : State → Type 0) (begun piece rest x tail line : List ℕ) (a b : Option (List ℕ)) → (at : FedTo first mid begun piece rest line a b)
+    → CutsAt rest x tail → Before begun piece x line (executed at.ran.exchanges)
+before_next first mid begun piece rest x tail line a b at cut =
+    let next = next_line begun piece at.front rest x tail line at.piece_is cut at.line_is in
+    let rest_of : List LineMeaning = cond (is_stop (line_of (line ++ x))) [] (up_to_stop next.all.0) in
+    record {
+      rest = rest_of;
+      lines_are = upto begun piece at.front line x next.all.0 at.no_stop next.all.1 ∙ ap (λ l. l ++ line_of (line ++ x) ∷ rest_of) (sym at.ran.lines_are);
+    }
+
 -- a fault at a line
 pub fails_fed : (e : Fault) (first mid now : State → Type 0) (begun piece rest x tail line : List ℕ) (a b c : Option (List ℕ))
-    → FedTo first mid begun piece rest line a b → CutsAt rest x tail → ((t : State) → mid t → RunFails e t (line_of (line ++ x)) now b c)
-    → (s : State) → first s → BreaksOff e s begun piece now a c
-fails_fed Device first mid now begun piece rest x tail line a b c at cut fails s h = absurd (fails (state_after s (at.ran s h).entries) (at.ran s h).reached)
-fails_fed Source first mid now begun piece rest x tail line a b c at cut fails s h = absurd (fails (state_after s (at.ran s h).entries) (at.ran s h).reached)
-fails_fed Memory first mid now begun piece rest x tail line a b c at cut fails s h =
-    memory_fed first mid now begun piece rest line a b c at (ap is_empty cut.bytes_are ∙ cut_some x tail) fails s h
-fails_fed TooLong first mid now begun piece rest x tail line a b c at cut fails s h = absurd (fails (state_after s (at.ran s h).entries) (at.ran s h).reached)
-fails_fed (Worn which) first mid now begun piece rest x tail line a b c at cut fails s h =
-    let run : Executes s (meanings (begun ++ at.front)) mid a b = at.ran s h in
-    let worn = fails (state_after s run.entries) run.reached in
-    let next = next_line begun piece at.front rest x tail line at.piece_is cut at.line_is in
-    let rest_of : List LineMeaning = cond (is_stop (line_of (line ++ x))) [] (up_to_stop next.all.0) in
+    → FedTo first mid begun piece rest line a b → CutsAt rest x tail → RunFails e mid now (line_of (line ++ x)) b c
+    → BreaksOff e first now begun piece a c
+fails_fed Device first mid now begun piece rest x tail line a b c at cut fails =
+    device_fed first mid now begun piece rest line a b c at (ap is_empty cut.bytes_are ∙ cut_some x tail) fails.unwritten
+    (λ t g. (line_of (line ++ x), fails.leaves t g))
+fails_fed (Damaged block) first mid now begun piece rest x tail line a b c at cut fails = record {
+  exchanges = at.ran.exchanges;
+  answered = at.ran.answered;
+  halts = more_fed first mid begun piece rest line a b at (ap is_empty cut.bytes_are ∙ cut_some x tail);
+  replied = fails.unwritten ∙ at.ran.written;
+  runs = λ s h. transcript_as s at.ran.exchanges mid _ (at.ran.runs s h) (λ t g. absurd (fails.leaves t g));
+}
+fails_fed Source first mid now begun piece rest x tail line a b c at cut fails = absurd fails
+fails_fed Memory first mid now begun piece rest x tail line a b c at cut fails =
+    memory_fed first mid now begun piece rest line a b c at (ap is_empty cut.bytes_are ∙ cut_some x tail) fails.unwritten
+    (λ t g. (line_of (line ++ x), fails.leaves t g))
+fails_fed TooLong first mid now begun piece rest x tail line a b c at cut fails = absurd fails
+fails_fed (Worn which) first mid now begun piece rest x tail line a b c at cut fails =
+    let before = before_next first mid begun piece rest x tail line a b at cut in
+    let has : HasNext (line_of (line ++ x)) (executed at.ran.exchanges) (completed begun piece) = record { rest = before.rest; lines_are = before.lines_are } in
     record {
-      entries = run.entries;
-      transcript = run.transcript;
-      halts = (
-        line_of (line ++ x),
-        record {
-          rest = rest_of;
-          lines_are = upto begun piece at.front line x next.all.0 at.no_stop next.all.1 ∙ ap (λ l. l ++ line_of (line ++ x) ∷ rest_of) (sym run.lines_are);
-        },
-        worn.0.0,
-      );
-      reached = leaves_worn which (state_after s run.entries) (line_of (line ++ x)) now worn.0;
-      replied = worn.1 ∙ run.written;
+      exchanges = at.ran.exchanges;
+      answered = at.ran.answered;
+      halts = (line_of (line ++ x), has);
+      replied = fails.unwritten ∙ at.ran.written;
+      runs = λ s h. transcript_as s at.ran.exchanges mid _ (at.ran.runs s h) (λ t g. let wore = fails.leaves t g in
+          record {
+            told = record { next = line_of (line ++ x); has = has; left = wore.left; worn = wore.worn };
+            reached = leaves_worn which t (line_of (line ++ x)) now wore;
+          });
     }
-fails_fed Sink first mid now begun piece rest x tail line a b c at cut fails s h =
-    let run : Executes s (meanings (begun ++ at.front)) mid a b = at.ran s h in
-    let cut_off = fails (state_after s run.entries) run.reached in
-    let next = next_line begun piece at.front rest x tail line at.piece_is cut at.line_is in
-    let last : Entry = record { line = line_of (line ++ x); said = cut_off.said; state = cut_off.replies.after } in
-    let rest_of : List LineMeaning = cond (is_stop (line_of (line ++ x))) [] (up_to_stop next.all.0) in
+fails_fed Sink first mid now begun piece rest x tail line a b c at cut fails =
+    let before = before_next first mid begun piece rest x tail line a b at cut in
+    let last : Exchange = record { line = line_of (line ++ x); said = fails.said } in
     record {
-      entries = run.entries ++ last ∷ [];
-      transcript = IsTranscript-append s run.entries (last ∷ []) run.transcript (cut_off.replies.follows, tt);
+      exchanges = at.ran.exchanges ++ last ∷ [];
+      answered = each_both IsAnswered at.ran.exchanges (last ∷ []) at.ran.answered (fails.answer, tt);
       halts = (
-        rest_of,
-        upto begun piece at.front line x next.all.0 at.no_stop next.all.1
-            ∙ sym (append_assoc (meanings (begun ++ at.front)) (line_of (line ++ x) ∷ []) rest_of)
-            ∙ ap (λ l. l ++ rest_of) (ap (λ l. l ++ line_of (line ++ x) ∷ []) (sym run.lines_are) ∙ sym (executed-append run.entries (last ∷ []))),
+        before.rest,
+        before.lines_are ∙ sym (append_assoc (executed at.ran.exchanges) (line_of (line ++ x) ∷ []) before.rest)
+            ∙ ap (λ l. l ++ before.rest) (sym (executed-append at.ran.exchanges (last ∷ []))),
       );
-      reached = subst now (sym (state_after-append s run.entries (last ∷ []))) cut_off.replies.reached;
-      replied = record { front = run.entries; last = last; entries_are = refl; part = subst (λ w. WrotePart (line_reply_line cut_off.said) w c) run.written cut_off.part };
+      replied = record { front = at.ran.exchanges; last = last; exchanges_are = refl; part = subst (λ w. WrotePart (line_reply_line fails.said) w c) at.ran.written fails.part };
+      runs = λ s h. transcript_as s (at.ran.exchanges ++ last ∷ []) now _
+          (transcript_more s at.ran.exchanges (last ∷ []) mid now (at.ran.runs s h) (λ t g. transcript_one t (line_of (line ++ x)) fails.said now (fails.replies t g)))
+          (λ t g. record { told = tt; reached = g });
     }
 
 -- what is held is short

@@ -4,7 +4,11 @@ pub mod Feeding
 pub mod Held
 pub mod Lines
 pub mod Scripts
+pub mod Starting
 pub mod Runs
 pub mod Trees
 pub mod Walks
 pub mod Left
+pub mod Moving
+pub mod Starts
+pub mod SlotWords

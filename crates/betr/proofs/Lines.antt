@@ -1,126 +1,366 @@
 -- One line: its reply, or its fault.
-use Rattle.std.proofs.Common.{◌≡◌, ℕ, Bool, true, false, cond, List, inl, inr, refl, sym, ap, subst, ◌∙◌}
+use Rattle.std.proofs.Common.{◌≡◌, ℕ, Bool, true, false, cond, List, inl, inr, refl, sym, ap, subst, ◌∙◌, arith}
 use Rattle.std.specs.declared.option.Option.{Option}
+use Rattle.std.specs.declared.result.Result.{Result}
 use Rattle.std.specs.declared.result.Result.TheVariants.{Ok, Err}
-use Rattle.std.specs.Prelude.{◌+◌, ◌&&◌, MatchBool, IsNone}
+use Rattle.std.specs.Prelude.{◌+◌, ◌^◌, ◌<◌, ◌≤◌, ◌&&◌, MatchBool, IsNone, IsSome, IfOk, IfErr}
+use Rattle.std.proofs.lemmas.Bool.{cases_lt}
 use Rattle.bd_command.specs.Command.{writes, is_done, accepted}
 use Rattle.bd_command.specs.declared.Command.{Command}
 use Rattle.bd_command.specs.declared.refusal.Refusal.{Refusal}
 use Rattle.bd_command.specs.declared.reply.Reply.{Reply}
 use Rattle.bd_message.specs.declared.fault.Counter.{Counter}
+use Rattle.bd_message.specs.declared.fault.Counter.TheVariants.{Epoch}
 use Rattle.bd_graft.specs.declared.grafting.Walk.{Walk as WalkTaken}
+use Rattle.bd_represent.specs.Represents.{Represents}
+use Rattle.bd_model.specs.Tree.{Tree}
 use Rattle.bd_model.specs.Step.{step, refusal_of}
-use Rattle.bd_script.specs.Lines.{LineMeaning, IsLine}
+use Rattle.bd_device.specs.declared.device.Device.{Ghosts}
+use Rattle.bd_script.specs.Lines.{LineMeaning, IsLine, is_stop}
+use Rattle.bd_script.specs.Replies.{IsLineReply}
 use Rattle.bd_script.specs.declared.line.Line.{Line}
-use Rattle.bd_script.specs.declared.line.Line.TheVariants.{Run, Walk, Stop}
+use Rattle.bd_script.specs.declared.line.Line.TheVariants.{Run, Walk, Df, Checkpoint, Reclaim, Stop}
+use Rattle.bd_script.specs.declared.replies.LineReply.{LineReply}
 use Rattle.bd_script.specs.declared.replies.LineReply.TheVariants as reply
-use Rattle.bd_view.specs.Trees.{TreeView, HasFlushed}
-use Rattle.bd_memvolume.specs.Views.{IsMoved, Wears}
-use Rattle.bd_memvolume.specs.Volume.{StandsFor, view_of, count_of}
-use Rattle.bd_memvolume.specs.declared.Volume.{Volume}
-use Rattle.bd_memvolume.specs.declared.Fault.{Fault as VolumeFault}
-use Rattle.bd_memvolume.specs.declared.Fault.TheVariants as volume
+use Rattle.bd_view.specs.Views.{View, keys_of, free_slots, save_slots}
+use Rattle.bd_view.specs.Moves.{HasStepped, IsExecuted, Saves, IsCommandFull, IsCheckpointFull}
+use Rattle.bd_view.specs.Reclaiming.{IsReclaim, IsReclaimFull}
+use Rattle.bd_volume.specs.Volume.{StandsFor, view_of}
+use Rattle.bd_volume.specs.Wears.{Wears, HasBegunReclaiming, WearsReclaiming}
+use Rattle.bd_volume.specs.declared.volume.Volume.{Volume}
+use Rattle.bd_volume.specs.declared.fault.Fault.{Fault as VolumeFault}
+use Rattle.bd_volume.specs.declared.fault.Fault.TheVariants as volume
 use Rattle.betr.specs.declared.fault.Fault.{Fault}
-use Rattle.betr.specs.declared.fault.Fault.TheVariants.{Device, Source, Memory, TooLong, Worn, Sink}
-use Rattle.betr.specs.Fault.{Caused, of_sink}
-use Rattle.betr.specs.Transcript.{State, Follows, Moves, state_of_step, told}
-use Rattle.betr.specs.Shell.{VolumeAt, Replies, ComesNow, IsLineFault, LineFails, RunFails}
+use Rattle.betr.specs.declared.fault.Fault.TheVariants.{Device, Damaged, Source, Memory, TooLong, Worn, Sink}
+use Rattle.bd_io.specs.Cause.{Rose}
+use Rattle.betr.specs.Fault.{Faults, IsCaused}
+use Rattle.betr.specs.Transcript.{State, with_view, IsCommandReply, IsDoneOrFull, MayGet, Follows, Moves, state_of_step, told, told_free}
+use Rattle.betr.specs.Session.{LeavesBy}
+use Rattle.betr.specs.Shell.{VolumeAt, Replies, Wore, is_stopped, counts_of, IsOutcome, IsLineFault, LineFails, RunFails}
+
+-- ---- what a volume stands for after a line
+
+-- the nodes of the view represent the tree
+represented : {D : Type 0} (g : Ghosts D) (v : Volume D) (s : State) → VolumeAt g v s → Represents (keys_of s.view) s.tree
+represented g v s at = subst (λ w. Represents (keys_of w) s.tree) at.view_is at.stands.represents
+
+-- a volume stands for the state with its own view
+at_view : {D : Type 0} (g : Ghosts D) (v w : Volume D) (s : State) → ((t : Tree) (n : ℕ) → StandsFor g v t n → StandsFor g w t n) → VolumeAt g v s
+    → VolumeAt g w (with_view s (view_of g w))
+at_view g v w s stays at = record { stands = stays s.tree s.count at.stands; view_is = refl }
+
+replies_by : {D : Type 0} (g : Ghosts D) (v : Volume D) (s after : State) (line : LineMeaning) (said : LineReply) → Follows s line said after → VolumeAt g v after
+    → Replies s line said (VolumeAt g v)
+replies_by g v s after line said follows at = record { after = after; follows = follows; represents = represented g v after at; reached = at }
+
+-- ---- replies
 
 moves_by : (b : Bool) (P Q : Type 0) → (◌≡◌ {A = ℕ} (cond b 1 0) 1 → P) → (◌≡◌ {A = ℕ} (cond b 1 0) 0 → Q) → MatchBool b P Q
 moves_by true P Q moved unmoved = moved refl
 moves_by false P Q moved unmoved = unmoved refl
 
 -- a command's reply is the step's, and the view moves by it
-pub run_replies : {D : Type 0} (v w : Volume D) (s : State) (line : Line) (c : Command) (said : Reply) → VolumeAt v s → line ≡ Run c
-    → IsLine line → said ≡ (step s.tree c).1 → StandsFor w (step s.tree c).0 (s.count + accepted c said)
-    → (accepted c said ≡ 1 → IsMoved s.tree c (view_of v) (view_of w)) → (accepted c said ≡ 0 → view_of w ≡ view_of v)
-    → Replies s (Ok line) (reply.Command said) (VolumeAt w)
-run_replies v w s line c said at is limits said_is stands moved unmoved =
-    let after : State = state_of_step s c (view_of w) in
-    let move : Moves s.tree c said (view_of v) (view_of w) =
-    moves_by (writes c && is_done said) (IsMoved s.tree c (view_of v) (view_of w)) (view_of w ≡ view_of v) moved unmoved in
+pub run_replies : {D : Type 0} (g : Ghosts D) (v w : Volume D) (s : State) (line : Line) (c : Command) (said : Reply) → VolumeAt g v s → line ≡ Run c
+    → IsLine line → said ≡ (step s.tree c).1 → StandsFor g w (step s.tree c).0 (s.count + accepted c said)
+    → (accepted c said ≡ 1 → IsExecuted s.tree c (view_of g v) (view_of g w)) → (accepted c said ≡ 0 → view_of g w ≡ view_of g v)
+    → Replies s (Ok line) (reply.Command said) (VolumeAt g w)
+run_replies g v w s line c said at is limits said_is stands moved unmoved =
+    let after : State = state_of_step s c (view_of g w) in
+    let move : Moves s.tree c said (view_of g v) (view_of g w) =
+    moves_by (writes c && is_done said) (IsExecuted s.tree c (view_of g v) (view_of g w)) (view_of g w ≡ view_of g v) moved unmoved in
     let follows : Follows s (Ok (Run c)) (reply.Command said) after = record {
       limits = subst IsLine is limits;
-      said_is = ap reply.Command said_is;
+      said_is = said_is;
       after_is = refl;
-      moved = subst (λ r. Moves s.tree c r s.view (view_of w)) said_is (subst (λ old. Moves s.tree c said old (view_of w)) at.view_is move);
-      represents = stands.represents;
+      moved = subst (λ r. Moves s.tree c r s.view (view_of g w)) said_is (subst (λ old. Moves s.tree c said old (view_of g w)) at.view_is move);
     } in
-    record {
-      after = after;
-      follows = subst (λ l. Follows s (Ok l) (reply.Command said) after) (sym is) follows;
-      reached = record {
-        stands = subst (λ r. StandsFor w (step s.tree c).0 (s.count + accepted c r)) said_is stands;
-        view_is = refl;
-      };
-    }
+    replies_by g w s after (Ok line) (reply.Command said) (subst (λ l. Follows s (Ok l) (reply.Command said) after) (sym is) follows) (record {
+      stands = subst (λ r. StandsFor g w (step s.tree c).0 (s.count + accepted c r)) said_is stands;
+      view_is = refl;
+    })
+
+-- a line that leaves the volume, with a reply that follows from the state
+stays_replies : {D : Type 0} (g : Ghosts D) (v : Volume D) (s : State) (meaning same : LineMeaning) (said : LineReply) → VolumeAt g v s → meaning ≡ same
+    → Follows s same said s → Replies s meaning said (VolumeAt g v)
+stays_replies g v s meaning same said at is follows =
+    replies_by g v s s meaning said (subst (λ m. Follows s m said s) (sym is) follows) at
 
 -- `walk` tells the walk of the view
-pub walk_replies : {D : Type 0} (v : Volume D) (s : State) (line : Line) (walk : WalkTaken) → VolumeAt v s → line ≡ Walk
-    → walk ≡ (view_of v).walk → Replies s (Ok line) (told walk) (VolumeAt v)
-walk_replies v s line walk at is same = record {
-  after = s;
-  follows = subst (λ l. Follows s (Ok l) (told walk) s) (sym is) (ap told (same ∙ ap (λ (x : TreeView). x.walk) at.view_is), refl);
-  reached = at;
-}
+pub walk_replies : {D : Type 0} (g : Ghosts D) (v : Volume D) (s : State) (line : Line) (walk : WalkTaken) → VolumeAt g v s → line ≡ Walk
+    → walk ≡ (view_of g v).tree.walk → Replies s (Ok line) (told walk) (VolumeAt g v)
+walk_replies g v s line walk at is same =
+    stays_replies g v s (Ok line) (Ok Walk) (told walk) at (ap Ok is) (ap told (same ∙ ap (λ (x : View). x.tree.walk) at.view_is), refl)
 
-pub stop_replies : (s : State) (line : Line) (at : State → Type 0) → line ≡ Stop → at s → Replies s (Ok line) reply.Stopped at
-stop_replies s line at is reached = record {
-  after = s;
-  follows = subst (λ l. Follows s (Ok l) reply.Stopped s) (sym is) (refl, refl);
-  reached = reached;
-}
-
-pub unread_replies : (s : State) (meaning : LineMeaning) (r : Refusal) (at : State → Type 0) → meaning ≡ Err r → at s
-    → Replies s meaning (reply.Unread r) at
-unread_replies s meaning r at is reached = record {
-  after = s;
-  follows = subst (λ m. Follows s m (reply.Unread r) s) (sym is) (refl, refl);
-  reached = reached;
-}
-
-wears_as : (which : Counter) (n m : ℕ) (c : Command) (old same new : TreeView) → n ≡ m → old ≡ same → Wears which n c old new → Wears which m c same new
-wears_as which n m c old same new e f h = subst (λ k. Wears which k c same new) e (subst (λ v. Wears which n c v new) f h)
-
--- a command's fault is the volume's
-pub run_fails : {D : Type 0} (v w : Volume D) (e : VolumeFault) (f : Fault) (s : State) (line : Line) (c : Command) → VolumeAt v s → line ≡ Run c
-    → ComesNow e → (e ≡ volume.NoMemory → f ≡ Memory) → ((which : Counter) → e ≡ volume.Worn which → f ≡ Worn which)
-    → StandsFor w s.tree s.count → HasFlushed c (view_of v) (view_of w)
-    → ((which : Counter) → e ≡ volume.Worn which → Wears which (count_of v) c (view_of v) (view_of w))
-    → ((which : Counter) → e ≡ volume.Worn which → IsNone (refusal_of s.tree c)) → LineFails f s (Ok line) (VolumeAt w)
-run_fails v w e f s line c at is (inl m) memory worn stands halted wears accepted =
-    subst (λ f. LineFails f s (Ok line) (VolumeAt w)) (sym (memory m)) (record {
-      command = c;
-      left = view_of w;
-      flushed = subst (λ old. HasFlushed c old (view_of w)) at.view_is halted;
-      reached = record { stands = stands; view_is = refl };
-    })
-run_fails v w e f s line c at is (inr h) memory worn stands halted wears accepted =
-    subst (λ f. LineFails f s (Ok line) (VolumeAt w)) (sym (worn h.0 h.1)) (
-      record {
-        command = c;
-        line_is = ap Ok is;
-        accepted = accepted h.0 h.1;
-        left = view_of w;
-        wears = wears_as h.0 (count_of v) s.count c (view_of v) s.view (view_of w) at.stands.count_is at.view_is (wears h.0 h.1);
-      },
-      record { stands = stands; view_is = refl },
+-- `df` tells the slots of the view
+pub df_replies : {D : Type 0} (g : Ghosts D) (v : Volume D) (s : State) (line : Line) (free slots : ℕ) → VolumeAt g v s → line ≡ Df
+    → free ≡ free_slots (view_of g v) → slots ≡ (view_of g v).slots → Replies s (Ok line) (reply.Free free slots) (VolumeAt g v)
+df_replies g v s line free slots at is free_is slots_is =
+    stays_replies g v s (Ok line) (Ok Df) (reply.Free free slots) at (ap Ok is) (
+      ap (λ n. reply.Free n slots) free_is ∙ ap (λ n. reply.Free (free_slots (view_of g v)) n) slots_is ∙ ap told_free at.view_is,
+      refl,
     )
 
--- at a fault before the reply nothing is written
-pub line_fails : (e : Fault) (s : State) (line : LineMeaning) (at : State → Type 0) (w : Option (List ℕ)) → LineFails e s line at
-    → RunFails e s line at w w
-line_fails Device s line at w f = f
-line_fails Source s line at w f = f
-line_fails Memory s line at w f = (f, refl)
-line_fails TooLong s line at w f = f
-line_fails (Worn which) s line at w f = (f, refl)
-line_fails Sink s line at w f = absurd f
+pub stop_replies : {D : Type 0} (g : Ghosts D) (v : Volume D) (s : State) (line : Line) → VolumeAt g v s → line ≡ Stop
+    → Replies s (Ok line) reply.Stopped (VolumeAt g v)
+stop_replies g v s line at is = stays_replies g v s (Ok line) (Ok Stop) reply.Stopped at (ap Ok is) (refl, refl)
 
-pub line_fault_caused : (e : Fault) (n : ℕ) → IsLineFault e → Caused e (of_sink n) (of_sink n)
-line_fault_caused Device n f = absurd f
-line_fault_caused Source n f = absurd f
-line_fault_caused Memory n f = refl
-line_fault_caused TooLong n f = refl
-line_fault_caused (Worn which) n f = refl
-line_fault_caused Sink n f = absurd f
+pub unread_replies : {D : Type 0} (g : Ghosts D) (v : Volume D) (s : State) (meaning : LineMeaning) (r : Refusal) → VolumeAt g v s → meaning ≡ Err r
+    → Replies s meaning (reply.Unread r) (VolumeAt g v)
+unread_replies g v s meaning r at is = stays_replies g v s meaning (Err r) (reply.Unread r) at is (refl, refl)
+
+-- tree and count stay, and the view moves
+moved_replies : {D : Type 0} (g : Ghosts D) (v w : Volume D) (s : State) (line same : Line) (said : LineReply) → VolumeAt g v s → line ≡ same
+    → ((t : Tree) (n : ℕ) → StandsFor g v t n → StandsFor g w t n) → Follows s (Ok same) said (with_view s (view_of g w)) → Replies s (Ok line) said (VolumeAt g w)
+moved_replies g v w s line same said at is stays follows =
+    replies_by g w s (with_view s (view_of g w)) (Ok line) said (subst (λ l. Follows s (Ok l) said (with_view s (view_of g w))) (sym is) follows) (at_view g v w s stays at)
+
+pub checkpoint_replies : {D : Type 0} (g : Ghosts D) (v w : Volume D) (s : State) (line : Line) → VolumeAt g v s → line ≡ Checkpoint
+    → ((t : Tree) (n : ℕ) → StandsFor g v t n → StandsFor g w t n) → Saves (view_of g v) (view_of g w) → Replies s (Ok line) reply.Done (VolumeAt g w)
+checkpoint_replies g v w s line at is stays saves =
+    moved_replies g v w s line Checkpoint reply.Done at is stays (subst (λ old. Saves old (view_of g w)) at.view_is saves, refl)
+
+pub reclaim_replies : {D : Type 0} (g : Ghosts D) (v w : Volume D) (s : State) (line : Line) → VolumeAt g v s → line ≡ Reclaim
+    → ((t : Tree) (n : ℕ) → StandsFor g v t n → StandsFor g w t n) → IsReclaim (view_of g v) (view_of g w) → Replies s (Ok line) reply.Done (VolumeAt g w)
+reclaim_replies g v w s line at is stays reclaims =
+    moved_replies g v w s line Reclaim reply.Done at is stays (subst (λ old. IsReclaim old (view_of g w)) at.view_is reclaims, refl)
+
+-- ---- too few slots
+
+pub command_fills : {D : Type 0} (g : Ghosts D) (v w : Volume D) (s : State) (line : Line) (c : Command) (free need : ℕ) → VolumeAt g v s → line ≡ Run c
+    → IsLine line → ((t : Tree) (n : ℕ) → StandsFor g v t n → StandsFor g w t n)
+    → IsCommandFull c (view_of g v) (view_of g w) free need × IsNone (refusal_of s.tree c) → Replies s (Ok line) (reply.Full free need) (VolumeAt g w)
+command_fills g v w s line c free need at is limits stays h =
+    moved_replies g v w s line (Run c) (reply.Full free need) at is stays (record {
+      limits = subst IsLine is limits;
+      accepted = h.1;
+      after_is = refl;
+      full = subst (λ old. IsCommandFull c old (view_of g w) free need) at.view_is h.0;
+    })
+
+pub checkpoint_fills : {D : Type 0} (g : Ghosts D) (v w : Volume D) (s : State) (line : Line) (free need : ℕ) → VolumeAt g v s → line ≡ Checkpoint
+    → ((t : Tree) (n : ℕ) → StandsFor g v t n → StandsFor g w t n) → IsCheckpointFull (view_of g v) free need × (w ≡ v)
+    → Replies s (Ok line) (reply.Full free need) (VolumeAt g w)
+checkpoint_fills g v w s line free need at is stays h =
+    moved_replies g v w s line Checkpoint (reply.Full free need) at is stays (
+      (subst (λ old. IsCheckpointFull old free need) at.view_is h.0, ap (λ x. view_of g x) h.1 ∙ at.view_is),
+      refl,
+    )
+
+pub reclaim_fills : {D : Type 0} (g : Ghosts D) (v w : Volume D) (s : State) (line : Line) (free need : ℕ) → VolumeAt g v s → line ≡ Reclaim
+    → ((t : Tree) (n : ℕ) → StandsFor g v t n → StandsFor g w t n) → IsReclaimFull (view_of g v) free need (view_of g w)
+    → Replies s (Ok line) (reply.Full free need) (VolumeAt g w)
+reclaim_fills g v w s line free need at is stays h =
+    moved_replies g v w s line Reclaim (reply.Full free need) at is stays (subst (λ old. IsReclaimFull old free need (view_of g w)) at.view_is h, refl)
+
+-- ---- what a fault leaves
+
+pub command_leaves : {D : Type 0} (g : Ghosts D) (v w : Volume D) (s : State) (line : Line) (c : Command) → VolumeAt g v s → line ≡ Run c
+    → ((t : Tree) (n : ℕ) → StandsFor g v t n → StandsFor g w t n) → HasStepped c (view_of g v) (view_of g w)
+    → (IsSome (refusal_of s.tree c) → view_of g w ≡ view_of g v) → LeavesBy (Ok line) s (VolumeAt g w)
+command_leaves g v w s line c at is stays stepped refused =
+    subst (λ l. LeavesBy (Ok l) s (VolumeAt g w)) (sym is) (record {
+      left = view_of g w;
+      by = record { stepped = subst (λ old. HasStepped c old (view_of g w)) at.view_is stepped; refused = λ some. refused some ∙ at.view_is };
+      reached = at_view g v w s stays at;
+    })
+
+pub checkpoint_leaves : {D : Type 0} (g : Ghosts D) (v w : Volume D) (s : State) (line : Line) → VolumeAt g v s → line ≡ Checkpoint
+    → ((t : Tree) (n : ℕ) → StandsFor g v t n → StandsFor g w t n) → view_of g w ≡ view_of g v → LeavesBy (Ok line) s (VolumeAt g w)
+checkpoint_leaves g v w s line at is stays same =
+    subst (λ l. LeavesBy (Ok l) s (VolumeAt g w)) (sym is) (record { left = view_of g w; by = same ∙ at.view_is; reached = at_view g v w s stays at })
+
+pub reclaim_leaves : {D : Type 0} (g : Ghosts D) (v w : Volume D) (s : State) (line : Line) → VolumeAt g v s → line ≡ Reclaim
+    → ((t : Tree) (n : ℕ) → StandsFor g v t n → StandsFor g w t n) → HasBegunReclaiming (view_of g v) (view_of g w) → LeavesBy (Ok line) s (VolumeAt g w)
+reclaim_leaves g v w s line at is stays begun =
+    subst (λ l. LeavesBy (Ok l) s (VolumeAt g w)) (sym is) (record {
+      left = view_of g w;
+      by = subst (λ old. HasBegunReclaiming old (view_of g w)) at.view_is begun;
+      reached = at_view g v w s stays at;
+    })
+
+-- ---- worn counters
+
+wears_as : (which : Counter) (n m : ℕ) (c : Command) (old same new : View) → n ≡ m → old ≡ same → Wears which n c old new → Wears which m c same new
+wears_as which n m c old same new e f h = subst (λ k. Wears which k c same new) e (subst (λ v. Wears which n c v new) f h)
+
+pub command_wears : {D : Type 0} (g : Ghosts D) (v w : Volume D) (s : State) (line : Line) (c : Command) (which : Counter) → VolumeAt g v s → line ≡ Run c
+    → ((t : Tree) (n : ℕ) → StandsFor g v t n → StandsFor g w t n)
+    → Wears which s.count c (view_of g v) (view_of g w) × IsNone (refusal_of s.tree c) → Wore which s (Ok line) (VolumeAt g w)
+command_wears g v w s line c which at is stays h =
+    subst (λ l. Wore which s (Ok l) (VolumeAt g w)) (sym is) (record {
+      left = view_of g w;
+      worn = record { accepted = h.1; wears = wears_as which s.count s.count c (view_of g v) s.view (view_of g w) refl at.view_is h.0 };
+      reached = at_view g v w s stays at;
+    })
+
+-- a checkpoint isn't short of slots where it is refused otherwise
+has_room : (free save : ℕ) → (free < save → ⊥) → save ≤ free
+has_room free save not_short = elim (cases_lt free save) [ inl short ↦ absurd (not_short short) | inr room ↦ room ]
+
+pub not_full : {T : Type 0} (e : VolumeFault) (which : Counter) (free need : ℕ) → e ≡ volume.Worn which
+    → ◌≡◌ {A = Result T VolumeFault} (Err e) (Err (volume.Full free need)) → ⊥
+not_full e which free need worn full = cc
+
+pub checkpoint_wears : {D : Type 0} (g : Ghosts D) (v w : Volume D) (s : State) (line : Line) (which : Counter) → VolumeAt g v s → line ≡ Checkpoint
+    → ((t : Tree) (n : ℕ) → StandsFor g v t n → StandsFor g w t n) → view_of g w ≡ view_of g v
+    → (free_slots (view_of g v) < save_slots (view_of g v) → ⊥) → (which ≡ Epoch) × (2 ^ 64 ≤ (view_of g v).epoch + 1) → Wore which s (Ok line) (VolumeAt g w)
+checkpoint_wears g v w s line which at is stays same not_short h =
+    subst (λ l. Wore which s (Ok l) (VolumeAt g w)) (sym is) (record {
+      left = view_of g w;
+      worn = record {
+        counter_is = h.0;
+        room = subst (λ (x : View). save_slots x ≤ free_slots x) at.view_is (has_room (free_slots (view_of g v)) (save_slots (view_of g v)) not_short);
+        worn = subst (λ (x : View). 2 ^ 64 ≤ x.epoch + 1) at.view_is h.1;
+        left_is = same ∙ at.view_is;
+      };
+      reached = at_view g v w s stays at;
+    })
+
+pub reclaim_wears : {D : Type 0} (g : Ghosts D) (v w : Volume D) (s : State) (line : Line) (which : Counter) → VolumeAt g v s → line ≡ Reclaim
+    → ((t : Tree) (n : ℕ) → StandsFor g v t n → StandsFor g w t n) → WearsReclaiming which (view_of g v) (view_of g w) → Wore which s (Ok line) (VolumeAt g w)
+reclaim_wears g v w s line which at is stays h =
+    subst (λ l. Wore which s (Ok l) (VolumeAt g w)) (sym is) (record {
+      left = view_of g w;
+      worn = subst (λ old. WearsReclaiming which old (view_of g w)) at.view_is h;
+      reached = at_view g v w s stays at;
+    })
+
+-- ---- what a fault of the volume is for its line
+
+ok_as : {T : Type 0} (P : T → Type 0) (r s : Result T Fault) → r ≡ s → IfOk s P → IfOk r P
+ok_as P r s is h = subst (λ x. IfOk x P) (sym is) h
+
+err_as : {T : Type 0} (P : Fault → Type 0) (r s : Result T Fault) → r ≡ s → IfErr s P → IfErr r P
+err_as P r s is h = subst (λ x. IfErr x P) (sym is) h
+
+-- want of slots is a reply
+pub outcome_ok : (e : VolumeFault) (r : Result LineReply Fault) (P : LineReply → Type 0) → IsOutcome e r
+    → ((free need : ℕ) → e ≡ volume.Full free need → P (reply.Full free need)) → IfOk r P
+outcome_ok volume.Device r P is full = ok_as P r (Err Device) is tt
+outcome_ok (volume.Damaged block) r P is full = ok_as P r (Err (Damaged block)) is tt
+outcome_ok (volume.Worn which) r P is full = ok_as P r (Err (Worn which)) is tt
+outcome_ok volume.NoMemory r P is full = ok_as P r (Err Memory) is tt
+outcome_ok (volume.Full free need) r P is full = ok_as P r (Ok (reply.Full free need)) is (full free need refl)
+outcome_ok (volume.Stopped call) r P is full = absurd is
+
+-- each other fault is the run's
+pub outcome_err : (e : VolumeFault) (r : Result LineReply Fault) (line : LineMeaning) (first last : State → Type 0) → IsOutcome e r
+    → ((s : State) → first s → LeavesBy line s last) → ((block : ℕ) → e ≡ volume.Damaged block → (s : State) → first s → ⊥)
+    → ((which : Counter) → e ≡ volume.Worn which → (s : State) → first s → Wore which s line last)
+    → IfErr r (λ f. (s : State) → first s → LineFails f s line last)
+outcome_err volume.Device r line first last is leaves undamaged worn =
+    err_as (λ f. (s : State) → first s → LineFails f s line last) r (Err Device) is leaves
+outcome_err (volume.Damaged block) r line first last is leaves undamaged worn =
+    err_as (λ f. (s : State) → first s → LineFails f s line last) r (Err (Damaged block)) is (undamaged block refl)
+outcome_err (volume.Worn which) r line first last is leaves undamaged worn =
+    err_as (λ f. (s : State) → first s → LineFails f s line last) r (Err (Worn which)) is (worn which refl)
+outcome_err volume.NoMemory r line first last is leaves undamaged worn =
+    err_as (λ f. (s : State) → first s → LineFails f s line last) r (Err Memory) is leaves
+outcome_err (volume.Full free need) r line first last is leaves undamaged worn =
+    err_as (λ f. (s : State) → first s → LineFails f s line last) r (Ok (reply.Full free need)) is tt
+outcome_err (volume.Stopped call) r line first last is leaves undamaged worn = absurd is
+
+-- ---- causes, whatever the volume stands for
+
+-- no call of the device and of the sink failed
+caused_ok_at : {D T : Type 0} (g : Ghosts D) (d e : D) (sink later : ℕ) (x : T) → g.fault_count e ≡ g.fault_count d → later ≡ sink
+    → IsCaused (counts_of g d sink) (counts_of g e later) (Ok x)
+caused_ok_at g d e sink later x same kept = record {
+  later = record { device = omega (arith, same); source = omega arith; sink = omega (arith, kept) };
+  kept = ap (λ n. record { device = n; source = 0; sink = later }) same ∙ ap (λ n. record { device = g.fault_count d; source = 0; sink = n }) kept;
+  cause = tt;
+}
+
+-- ---- a fault before the reply
+
+-- nothing is written
+pub line_fails : (e : Fault) (first last : State → Type 0) (line : LineMeaning) (w : Option (List ℕ)) → IsLineFault e
+    → ((s : State) → first s → LineFails e s line last) → RunFails e first last line w w
+line_fails Device first last line w kind f = record { unwritten = refl; leaves = f }
+line_fails (Damaged block) first last line w kind f = record { unwritten = refl; leaves = f }
+line_fails Source first last line w kind f = absurd kind
+line_fails Memory first last line w kind f = record { unwritten = refl; leaves = f }
+line_fails TooLong first last line w kind f = absurd kind
+line_fails (Worn which) first last line w kind f = record { unwritten = refl; leaves = f }
+line_fails Sink first last line w kind f = absurd kind
+
+-- ---- a fault or a reply as that of a call above
+
+-- causes of a fault are causes of it in another result
+pub fault_as : {T U : Type 0} (before now : Faults) (e : Fault) → IsCaused {T = T} before now (Err e) → IsCaused {T = U} before now (Err e)
+fault_as before now e h = record { later = h.later; kept = tt; cause = h.cause }
+
+-- the line was executed, and its reply written
+pub wrote_caused : {D T U : Type 0} (g : Ghosts D) (d e : D) (sink later : ℕ) (x : T) (y : U) → IsCaused (counts_of g d sink) (counts_of g e sink) (Ok x)
+    → later ≡ sink → IsCaused (counts_of g d sink) (counts_of g e later) (Ok y)
+wrote_caused g d e sink later x y h same =
+    caused_ok_at g d e sink later y (ap (λ (f : Faults). f.device) h.kept) same
+
+-- the line was executed, and the sink failed
+pub sink_caused : {D T U : Type 0} (g : Ghosts D) (d e : D) (sink later : ℕ) (x : T) → IsCaused (counts_of g d sink) (counts_of g e sink) (Ok x)
+    → sink ≤ later → Rose sink later → IsCaused {T = U} (counts_of g d sink) (counts_of g e later) (Err Sink)
+sink_caused g d e sink later x h few rose =
+    let same : g.fault_count e ≡ g.fault_count d = ap (λ (f : Faults). f.device) h.kept in
+    record {
+      later = record { device = omega (arith, same); source = omega arith; sink = few };
+      kept = tt;
+      cause = (rose, ap (λ n. record { device = n; source = 0; sink = later }) same);
+    }
+
+-- ---- replies that a line may get
+
+command_small : (said : LineReply) → IsCommandReply said → IsLineReply said
+command_small (reply.Command r) h = h
+command_small (reply.Unread refusal) h = tt
+command_small (reply.Walk visits height) h = tt
+command_small reply.Done h = tt
+command_small (reply.Free free slots) h = tt
+command_small (reply.Full free need) h = tt
+command_small reply.Stopped h = tt
+
+done_small : (said : LineReply) → IsDoneOrFull said → IsLineReply said
+done_small (reply.Command r) h = absurd h
+done_small (reply.Unread refusal) h = tt
+done_small (reply.Walk visits height) h = tt
+done_small reply.Done h = tt
+done_small (reply.Free free slots) h = tt
+done_small (reply.Full free need) h = tt
+done_small reply.Stopped h = tt
+
+-- they can be written
+pub may_small : (line : LineMeaning) (said : LineReply) → MayGet line said → IsLineReply said
+may_small (Ok (Run c)) said h = command_small said h
+may_small (Ok Walk) said h = subst IsLineReply (sym h.2) tt
+may_small (Ok Df) said h = subst IsLineReply (sym h.3) tt
+may_small (Ok Checkpoint) said h = done_small said h
+may_small (Ok Reclaim) said h = done_small said h
+may_small (Ok Stop) said h = subst IsLineReply (sym h) tt
+may_small (Err refusal) said h = subst IsLineReply (sym h) tt
+
+command_goes_on : (said : LineReply) → IsCommandReply said → is_stopped said ≡ false
+command_goes_on (reply.Command r) h = refl
+command_goes_on (reply.Unread refusal) h = refl
+command_goes_on (reply.Walk visits height) h = refl
+command_goes_on reply.Done h = refl
+command_goes_on (reply.Free free slots) h = refl
+command_goes_on (reply.Full free need) h = refl
+command_goes_on reply.Stopped h = absurd h
+
+done_goes_on : (said : LineReply) → IsDoneOrFull said → is_stopped said ≡ false
+done_goes_on (reply.Command r) h = refl
+done_goes_on (reply.Unread refusal) h = refl
+done_goes_on (reply.Walk visits height) h = refl
+done_goes_on reply.Done h = refl
+done_goes_on (reply.Free free slots) h = refl
+done_goes_on (reply.Full free need) h = refl
+done_goes_on reply.Stopped h = absurd h
+
+-- `stop` alone ends the run
+pub may_stop : (line : LineMeaning) (said : LineReply) → MayGet line said → is_stopped said ≡ is_stop line
+may_stop (Ok (Run c)) said h = command_goes_on said h
+may_stop (Ok Walk) said h = ap is_stopped h.2
+may_stop (Ok Df) said h = ap is_stopped h.3
+may_stop (Ok Checkpoint) said h = done_goes_on said h
+may_stop (Ok Reclaim) said h = done_goes_on said h
+may_stop (Ok Stop) said h = ap is_stopped h
+may_stop (Err refusal) said h = ap is_stopped h

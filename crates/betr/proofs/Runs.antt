@@ -1,7 +1,6 @@
 -- How a whole run begins and ends.
-use Rattle.std.proofs.Common.{◌≡◌, ◌⊎◌, ℕ, ◌+◌, ◌<◌, ◌≤◌, List, [], ◌∷◌, ◌++◌, length, refl, ap, subst, ◌∙◌, arith, inl, inr, length-append}
-use Rattle.std.specs.Prelude.{map, IfSome, IsSomeAnd}
-use Rattle.std.proofs.lemmas.List.{length-map}
+use Rattle.std.proofs.Common.{◌≡◌, ◌⊎◌, ◌≢◌, ℕ, ◌+◌, ◌<◌, ◌≤◌, List, [], ◌∷◌, ◌++◌, length, refl, sym, ap, subst, ◌∙◌, arith, inl, inr, length-append}
+use Rattle.std.specs.Prelude.{IfSome, IsSomeAnd, OnOk, OnErr}
 use Rattle.std.specs.declared.result.Result.{Result}
 use Rattle.std.specs.declared.result.Result.TheVariants.{Ok, Err}
 use Rattle.std.specs.declared.option.Option.{Option}
@@ -10,135 +9,204 @@ use Rattle.std.specs.Io.KnownBytes.{prepend_known}
 use Rattle.bd_limits.specs.Limits.{script_limit}
 use Rattle.bd_io.specs.Cause.{Rose}
 use Rattle.bd_io.specs.Takes.{Takes}
-use Rattle.bd_message.specs.declared.fault.Counter.TheVariants.{Count}
-use Rattle.bd_script.specs.Lines.{LineMeaning, line_of, lines_of}
-use Rattle.bd_script.proofs.CutLines.{lines_of-few}
+use Rattle.bd_model.specs.Tree.{Tree}
+use Rattle.bd_device.specs.Blocks.{Image}
+use Rattle.bd_device.specs.declared.fault.ImageFault.{ImageFault}
+use Rattle.bd_device.specs.declared.fault.ImageFault.TheVariants as image
+use Rattle.bd_view.specs.Views.{View}
+use Rattle.bd_engine.specs.Stored.{IsStoredView, HasSaved}
 use Rattle.betr.specs.declared.fault.Fault.{Fault}
-use Rattle.betr.specs.declared.fault.Fault.TheVariants.{Device, Source, Memory, TooLong, Worn, Sink}
-use Rattle.betr.specs.declared.outcome.Ack.{Ack}
-use Rattle.betr.specs.Fault.{status_of, fault_line, Faults, Caused, IsCaused, of_ends}
-use Rattle.betr.specs.Transcript.{Entry, first_state, IsTranscript, executed, state_after, lines_to_run}
-use Rattle.betr.specs.Session.{end_of, HasNext, WornBy, RunsFrom, Session}
-use Rattle.betr.specs.Words.{Call}
-use Rattle.betr.specs.Run.{end_status, ends, WritesLast, WritesEnd, IsFlushed, Went, IsFaultless}
-use Rattle.betr.proofs.Transcripts.{up_to_stop-few, counts_few}
+use Rattle.betr.specs.declared.fault.Fault.TheVariants.{Device, Damaged, Source, Memory, TooLong, Worn, Sink}
+use Rattle.betr.specs.Fault.{status_of, fault_line, fault_of_image, Faults, faults, Caused, IsCaused}
+use Rattle.bd_script.specs.Lines.{LineMeaning}
+use Rattle.betr.specs.Transcript.{State, state_at, lines_to_run}
+use Rattle.betr.specs.Session.{end_of, Among, TakenAt, Replied, Tells, Ends, EndsIn, Session}
+use Rattle.betr.specs.Shell.{IsStart, CanStart}
+use Rattle.betr.specs.Format.{SaysDone, IsMadeAt}
+use Rattle.betr.specs.Run.{ends, end_status, WritesLast, WritesEnd, IsFlushed, Ran, HasStart, IsFaultless}
+use Rattle.betr.proofs.Transcripts.{transcript_as}
+use Rattle.betr.proofs.Executes.{append_known-nil}
+use Rattle.betr.proofs.Scripts.{prepend_known-nil, took_none}
+use Rattle.betr.proofs.Starting.{stored_first}
 
--- what holds anyway holds of a call
-pub of_any : {A : Type 0} (P : Type 0) (o : Option A) → P → IfSome o (λ _. P)
-of_any P None h = tt
-of_any P (Some x) h = h
+-- what is said of the call that the words make
+pub of_call : {A : Type 0} (P : A → Type 0) (o : Option A) (x : A) → Some x ≡ o → P x → IfSome o P
+of_call P o x is h = subst (λ o. IfSome o P) is h
 
--- a script within the limit can't bring the count to its last value
-never_worn : (es : List Entry) (taken : List ℕ) (next : LineMeaning) → IsTranscript first_state es → length taken ≤ script_limit
-    → HasNext next (executed es) (lines_to_run taken) → WornBy Count (state_after first_state es) next → ⊥
-never_worn es taken next chain few has worn =
-    omega (
-      arith,
-      few,
-      worn.wears.worn.0,
-      counts_few first_state es chain,
-      length-map es (λ e. e.line),
-      ap length has.lines_are,
-      length-append (executed es) (next ∷ has.rest),
-      up_to_stop-few (map line_of (lines_of taken)),
-      length-map (lines_of taken) line_of,
-      lines_of-few taken,
-    )
+-- ---- a session as a run of an image
 
--- so no session wears it
-never_counted : (end : Option Fault) (script rest old new : Option (List ℕ)) (first last : Option Takes)
-    → Session end (λ s. s ≡ first_state) (λ _. Unit {0}) script rest first last old new → end ≡ Some (Worn Count) → ⊥
-never_counted end script rest old new first last s is =
-    let P : Option Fault → Type 0 = λ e. RunsFrom e first_state (λ _. Unit {0}) s.front s.taken script old new in
-    let r : RunsFrom (Some (Worn Count)) first_state (λ _. Unit {0}) s.front s.taken script old new = subst P is (s.runs first_state refl) in
-    never_worn r.entries s.taken r.among_taken.0 r.transcript r.taken_at r.among_taken.1 r.among_taken.2
+-- what is known is the image
+can_start : (t : Tree) (n : ℕ) (known : Option Image) (image : Image) → known ≡ Some image → IsStart t n image → CanStart t n known
+can_start t n known image is start = subst (CanStart t n) (sym is) start
 
--- a session is a run, with its status and its last line
-pub went : (end : Option Fault) (status : ℕ) (acks : List Ack) (script rest : Option (List ℕ)) (first last : Option Takes) (old mid new : Option (List ℕ)) (before ended now : Faults)
-    → Session end (λ s. s ≡ first_state) (λ _. Unit {0}) script rest first last old mid → status ≡ end_status end
-    → IfSome end (λ e. Caused e before ended) → WritesEnd end mid new ended now → acks ≡ []
-    → Went first_state status acks (ends script first old before) (ends rest last new now)
-went end status acks script rest first last old mid new before ended now s is cause written none =
-    let r = s.runs first_state refl in
-    record {
-      end = end;
-      status_is = is;
-      uncounted = λ worn. never_counted end script rest old mid first last s worn;
-      entries = r.entries;
-      transcript = r.transcript;
-      front = s.front;
-      final = s.final;
-      taken = s.taken;
-      taken_is = s.taken_is;
-      script_is = s.script_is;
-      took = s.took;
-      begins = r.begins;
-      among_taken = r.among_taken;
-      among_script = r.among_script;
-      taken_at = r.taken_at;
-      replies = mid;
-      replied = r.replied;
-      ended = ended;
-      cause = cause;
-      last = written;
-      acked = none;
-    }
+if_some : {A : Type 0} (P : A → Type 0) (o : Option A) (x : A) → o ≡ Some x → IfSome o P → P x
+if_some P o x is h = subst (λ o. IfSome o P) is h
 
--- ---- the last line
+-- a session of a volume that starts with this view
+pub ran_session : (end : Option Fault) (first last : State → Type 0) (known shown seen : Option Image) (script rest old new : Option (List ℕ)) (before now : Option Takes) (b a : Faults)
+    (view : View) → Session end first last script rest before now old new
+    → ((t : Tree) (n : ℕ) → CanStart t n known → first (state_at t n view))
+    → ((t : Tree) (n : ℕ) → CanStart t n known → IfSome known (λ image. IsStoredView image view))
+    → (end ≡ None → (s : State) → last s → IfSome seen (HasSaved s.view)) → shown ≡ seen
+    → Ran end (ends known script before old b) (ends shown rest now new a)
+ran_session end first last known shown seen script rest old new before now b a view s stands stored saved same = record {
+  exchanges = s.exchanges;
+  answered = s.answered;
+  front = s.front;
+  final = s.final;
+  taken = s.taken;
+  taken_is = s.taken_is;
+  script_is = s.script_is;
+  took = s.took;
+  begins = s.begins;
+  among_taken = s.among_taken;
+  among_script = s.among_script;
+  taken_at = s.taken_at;
+  replied = s.replied;
+  transcribed = λ t n image is start. let can = can_start t n known image is start in
+      record {
+        first = view;
+        first_is = if_some (λ i. IsStoredView i view) known image is (stored t n can);
+        run = transcript_as (state_at t n view) s.exchanges (EndsIn end s.exchanges s.taken script last) _ (s.runs (state_at t n view) (stands t n can))
+            (λ u g. record { told = g.told; told_script = g.told_script; saved = λ none. subst (λ o. IfSome o (HasSaved u.view)) (sym same) (saved none u (at_none end none u g.reached)) });
+      };
+}
+  where
+    at_none : (e : Option Fault) → e ≡ None → (u : State) → Ends e u last → last u
+    at_none None is u h = h
+    at_none (Some e) is u h = cc
 
--- a last line is a fault's
-pub writes_end : (e : Fault) (line : List ℕ) (mid new : Option (List ℕ)) (device writes source sink later : ℕ) → line ≡ fault_line e
-    → WritesLast line mid new sink later
-    → WritesEnd (Some e) mid new (record { device = device; writes = writes; source = source; sink = sink }) (record { device = device; writes = writes; source = source; sink = later })
-writes_end e line mid new d w s sink later is h = (subst (λ l. WritesLast l mid new sink later) is h, refl)
+-- a session that ended well
+pub ok_of_none : {T : Type 0} (r : Result T Fault) (P : Type 0) → end_of r ≡ None → OnOk r P → P
+ok_of_none (Ok x) P is h = h
+ok_of_none (Err e) P is h = cc
+
+-- what is shown has the nodes that a view has as saved, which is that of the state
+pub saved_as : (shown : Option Image) (view v : View) → view ≡ v → IfSome shown (HasSaved view) → IfSome shown (HasSaved v)
+saved_as shown view v is h = subst (λ w. IfSome shown (HasSaved w)) is h
+
+-- nothing was executed, and the device or memory, or damage, is why
+pub ran_refused : (cause : ImageFault) (known shown : Option Image) (script w : Option (List ℕ)) (takes : Option Takes) (b a : Faults)
+    → ((t : Tree) (n : ℕ) → CanStart t n known → (block : ℕ) → cause ≢ image.Damaged block)
+    → Ran (Some (fault_of_image cause)) (ends known script takes w b) (ends shown script takes w a)
+ran_refused cause known shown script w takes b a sound = record {
+  exchanges = [];
+  answered = tt;
+  front = [];
+  final = [];
+  taken = [];
+  taken_is = refl;
+  script_is = sym (prepend_known-nil script);
+  took = took_none takes;
+  begins = record { rest = []; lines_are = refl; no_stop = refl };
+  among_taken = at_line cause [];
+  among_script = all cause script;
+  taken_at = few cause;
+  replied = unwritten cause;
+  transcribed = λ t n i is start. let stored = stored_first t n i start in
+      record {
+        first = stored.0;
+        first_is = stored.1;
+        run = record {
+          entries = [];
+          exchanges_are = refl;
+          transcript = tt;
+          reached = record {
+            told = tells cause (sound t n (can_start t n known i is start)) (state_at t n stored.0) (lines_to_run []);
+            told_script = told_all cause (sound t n (can_start t n known i is start)) (state_at t n stored.0) script;
+            saved = λ none. absurd (never_none cause none);
+          };
+        };
+      };
+}
+  where
+    never_none : (c : ImageFault) → Some (fault_of_image c) ≡ None → ⊥
+    never_none c is = cc
+    at_line : (c : ImageFault) (bs : List ℕ) → Among (Some (fault_of_image c)) bs []
+    at_line image.DeviceFault bs = inl refl
+    at_line (image.Damaged block) bs = inl refl
+    at_line image.NoMemory bs = inl refl
+    few : (c : ImageFault) → TakenAt (Some (fault_of_image c)) [] []
+    few image.DeviceFault = omega arith
+    few (image.Damaged block) = omega arith
+    few image.NoMemory = omega arith
+    unwritten : (c : ImageFault) → Replied (Some (fault_of_image c)) [] [] [] w w
+    unwritten image.DeviceFault = sym (append_known-nil w)
+    unwritten (image.Damaged block) = sym (append_known-nil w)
+    unwritten image.NoMemory = sym (append_known-nil w)
+    tells : (c : ImageFault) → ((block : ℕ) → c ≢ image.Damaged block) → (u : State) (lines : List LineMeaning) → Tells (Some (fault_of_image c)) u [] lines
+    tells image.DeviceFault h u lines = tt
+    tells (image.Damaged block) h u lines = absurd (h block refl)
+    tells image.NoMemory h u lines = tt
+    told_all : (c : ImageFault) → ((block : ℕ) → c ≢ image.Damaged block) → (u : State) (o : Option (List ℕ))
+        → IfSome o (λ bs. Tells (Some (fault_of_image c)) u [] (lines_to_run bs))
+    told_all c h u None = tt
+    told_all c h u (Some bs) = tells c h u (lines_to_run bs)
+    all : (c : ImageFault) (o : Option (List ℕ)) → IfSome o (λ bs. Among (Some (fault_of_image c)) bs [])
+    all c None = tt
+    all c (Some bs) = at_line c bs
+
+-- ---- causes beside the source
+
+caused_beside : (e : Fault) (d k d2 k2 source : ℕ) → Caused e (faults d 0 k) (faults d2 0 k2) → Caused e (faults d source k) (faults d2 source k2)
+caused_beside Device d k d2 k2 source h = (h.0, ap (λ (f : Faults). faults d2 source f.sink) h.1)
+caused_beside (Damaged block) d k d2 k2 source h = ap (λ (f : Faults). faults f.device source f.sink) h
+caused_beside Source d k d2 k2 source h = absurd (never_rose h.0)
+  where
+    never_rose : Rose 0 0 → ⊥
+    never_rose (inl r) = omega arith
+    never_rose (inr r) = omega arith
+caused_beside Memory d k d2 k2 source h = ap (λ (f : Faults). faults f.device source f.sink) h
+caused_beside TooLong d k d2 k2 source h = ap (λ (f : Faults). faults f.device source f.sink) h
+caused_beside (Worn which) d k d2 k2 source h = ap (λ (f : Faults). faults f.device source f.sink) h
+caused_beside Sink d k d2 k2 source h = (h.0, ap (λ (f : Faults). faults f.device source k2) h.1)
+
+-- what is caused without a source is caused beside one that stays as it was
+pub is_caused_beside : {T : Type 0} (r : Result T Fault) (d k d2 k2 source : ℕ) → IsCaused (faults d 0 k) (faults d2 0 k2) r
+    → IsCaused (faults d source k) (faults d2 source k2) r
+is_caused_beside (Ok x) d k d2 k2 source h = record {
+  later = record { device = h.later.device; source = omega arith; sink = h.later.sink };
+  kept = ap (λ (f : Faults). faults f.device source f.sink) h.kept;
+  cause = tt;
+}
+is_caused_beside (Err e) d k d2 k2 source h = record {
+  later = record { device = h.later.device; source = omega arith; sink = h.later.sink };
+  kept = tt;
+  cause = caused_beside e d k d2 k2 source h.cause;
+}
+
+pub cause_of : {T : Type 0} (r : Result T Fault) (before ended : Faults) → IsCaused before ended r → IfSome (end_of r) (λ e. Caused e before ended)
+cause_of (Ok x) before ended h = tt
+cause_of (Err e) before ended h = h.cause
+
+-- ---- statuses
+
+-- a fault has a status of its own
+pub never_zero : (e : Fault) → status_of e ≡ 0 → ⊥
+never_zero Device zero = omega (arith, zero)
+never_zero (Damaged block) zero = omega (arith, zero)
+never_zero Source zero = omega (arith, zero)
+never_zero Memory zero = omega (arith, zero)
+never_zero TooLong zero = omega (arith, zero)
+never_zero (Worn which) zero = omega (arith, zero)
+never_zero Sink zero = omega (arith, zero)
+
+-- at status 0 all counts stay, and what is kept back is what was then
+pub ended_well : {T : Type 0} (r : Result T Fault) (status : ℕ) (P : Type 0) → status ≡ end_status (end_of r) → OnOk r P → status ≡ 0 → P
+ended_well (Ok x) status P is h zero = h
+ended_well (Err e) status P is h zero = absurd (never_zero e (sym is ∙ zero))
+
+-- where no fault came, all counts are as before
+pub well_counts : {T : Type 0} (r : Result T Fault) (old new : Option (List ℕ)) (before ended now : Faults) → IsCaused before ended r
+    → WritesEnd (end_of r) old new ended now → OnOk r (now ≡ before)
+well_counts (Ok x) old new before ended now cause written = written.1 ∙ cause.kept
+well_counts (Err e) old new before ended now cause written = tt
+
+-- ---- where nothing fails
 
 rose_later : (a b d : ℕ) → b ≤ d → Rose a b → Rose a d
 rose_later a b d h (inl r) = inl (omega arith)
 rose_later a b d h (inr r) = inr (omega arith)
-
-rose_before : (a b d : ℕ) → a ≤ b → Rose b d → Rose a d
-rose_before a b d h (inl r) = inl (omega arith)
-rose_before a b d h (inr r) = inr r
-
-flushed_before : (waiting a b d : ℕ) → a ≤ b → IsFlushed waiting b d → IsFlushed waiting a d
-flushed_before waiting a b d h (inl none) = inl none
-flushed_before waiting a b d h (inr rose) = inr (rose_before a b d h rose)
-
--- with a fault's line all that was written is passed on, and where there is none the sink has failed
-pub flushed_end : (e : Fault) (line : List ℕ) (waiting : ℕ) (before ended : Faults) (later : ℕ) → line ≡ fault_line e → Caused e before ended
-    → before.sink ≤ ended.sink → ended.sink ≤ later → (0 < length line → IsFlushed waiting ended.sink later) → IsFlushed waiting before.sink later
-flushed_end Device line waiting before ended later is cause h k flushed = flushed_before waiting before.sink ended.sink later h (flushed (omega (arith, ap length is)))
-flushed_end Source line waiting before ended later is cause h k flushed = flushed_before waiting before.sink ended.sink later h (flushed (omega (arith, ap length is)))
-flushed_end Memory line waiting before ended later is cause h k flushed = flushed_before waiting before.sink ended.sink later h (flushed (omega (arith, ap length is)))
-flushed_end TooLong line waiting before ended later is cause h k flushed = flushed_before waiting before.sink ended.sink later h (flushed (omega (arith, ap length is)))
-flushed_end (Worn which) line waiting before ended later is cause h k flushed = flushed_before waiting before.sink ended.sink later h (flushed (omega (arith, ap length is)))
-flushed_end Sink line waiting before ended later is cause h k flushed = inr (rose_later before.sink ended.sink later k cause.0)
-
--- a fault has a status of its own
-pub never_zero : (e : Fault) (status : ℕ) → status ≡ status_of e → status ≡ 0 → ⊥
-never_zero Device status is zero = omega (arith, is, zero)
-never_zero Source status is zero = omega (arith, is, zero)
-never_zero Memory status is zero = omega (arith, is, zero)
-never_zero TooLong status is zero = omega (arith, is, zero)
-never_zero (Worn which) status is zero = omega (arith, is, zero)
-never_zero Sink status is zero = omega (arith, is, zero)
-
-never_rose : Rose 0 0 → ⊥
-never_rose (inl r) = omega arith
-never_rose (inr r) = omega arith
-
--- source and sink alone never make the device's fault
-pub never_device : {T : Type 0} (r : Result T Fault) (source sink source2 sink2 : ℕ) → IsCaused (of_ends source sink) (of_ends source2 sink2) r
-    → end_status (end_of r) ≡ 3 → ⊥
-never_device (Ok x) a b d e h three = omega (arith, three)
-never_device (Err Device) a b d e h three = never_rose h.cause.0
-never_device (Err Source) a b d e h three = omega (arith, three)
-never_device (Err Memory) a b d e h three = omega (arith, three)
-never_device (Err TooLong) a b d e h three = omega (arith, three)
-never_device (Err (Worn which)) a b d e h three = omega (arith, three)
-never_device (Err Sink) a b d e h three = omega (arith, three)
-
--- ---- where nothing fails
 
 -- a script of which more came than the limit is longer
 too_long : (script rest : Option (List ℕ)) (taken : List ℕ) → length taken ≡ script_limit + 1 → script ≡ prepend_known taken rest
@@ -148,20 +216,37 @@ too_long script (Some more) taken long is short =
     let few : length (taken ++ more) ≤ script_limit = subst (λ o. IsSomeAnd o (λ bytes. length bytes ≤ script_limit)) is short in
     omega (arith, few, long, length-append taken more)
 
--- without a failure of the outside, memory or a counter ended the run
-pub faultless : (e : Fault) (call : Option Call) (script rest : Option (List ℕ)) (first last : Option Takes) (old new : Option (List ℕ)) (before : Faults)
-    (device writes source sink later : ℕ) → Session (Some e) (λ s. s ≡ first_state) (λ _. Unit {0}) script rest first last old new
-    → Caused e before (record { device = device; writes = writes; source = source; sink = sink }) → sink ≤ later
-    → IsFaultless call script before (record { device = device; writes = writes; source = source; sink = later }) → (status_of e ≡ 6) ⊎ (status_of e ≡ 8)
-faultless Device call script rest first last old new before d w o k l s cause h f = absurd (f.device cause.0)
-faultless Source call script rest first last old new before d w o k l s cause h f = absurd (f.source cause.0)
-faultless Memory call script rest first last old new before d w o k l s cause h f = inl refl
-faultless TooLong call script rest first last old new before d w o k l s cause h f =
-    absurd (too_long script rest s.taken (s.runs first_state refl).taken_at.0 s.script_is f.short)
-faultless (Worn which) call script rest first last old new before d w o k l s cause h f = inr refl
-faultless Sink call script rest first last old new before d w o k l s cause h f = absurd (f.sink (rose_later before.sink k l h cause.0))
+-- an image that is known and stands for a tree has no damage
+undamaged : (block : ℕ) (known shown : Option Image) (script rest old new : Option (List ℕ)) (first last : Option Takes) (b a : Faults)
+    → Ran (Some (Damaged block)) (ends known script first old b) (ends shown rest last new a) → IsSomeAnd known HasStart → ⊥
+undamaged block None shown script rest old new first last b a r h = h
+undamaged block (Some i) shown script rest old new first last b a r h = (r.transcribed h.0 h.1 i refl h.2).run.reached.told
 
--- a status of either kind, past the first
-pub either_status : (status of : ℕ) → status ≡ of → (of ≡ 6) ⊎ (of ≡ 8) → (status ≡ 0) ⊎ (status ≡ 6) ⊎ (status ≡ 8)
-either_status status of is (inl six) = inr (inl (is ∙ six))
-either_status status of is (inr eight) = inr (inr (is ∙ eight))
+-- without a failure of the outside memory or a counter ended the run, if a fault did
+faultless_run : (e : Fault) (known shown : Option Image) (script rest old new : Option (List ℕ)) (first last : Option Takes) (b a before ended : Faults) (later : ℕ)
+    → Ran (Some e) (ends known script first old b) (ends shown rest last new a) → Caused e before ended → ended.sink ≤ later
+    → IsSomeAnd known HasStart → IsSomeAnd script (λ bytes. length bytes ≤ script_limit)
+    → IsFaultless before (faults ended.device ended.source later) → (status_of e ≡ 6) ⊎ (status_of e ≡ 8)
+faultless_run Device known shown script rest old new first last b a before ended later r cause k stands short f = absurd (f.device cause.0)
+faultless_run (Damaged block) known shown script rest old new first last b a before ended later r cause k stands short f =
+    absurd (undamaged block known shown script rest old new first last b a r stands)
+faultless_run Source known shown script rest old new first last b a before ended later r cause k stands short f = absurd (f.source cause.0)
+faultless_run Memory known shown script rest old new first last b a before ended later r cause k stands short f = inl refl
+faultless_run TooLong known shown script rest old new first last b a before ended later r cause k stands short f =
+    absurd (too_long script rest r.taken r.taken_at.0 r.script_is short)
+faultless_run (Worn which) known shown script rest old new first last b a before ended later r cause k stands short f = inr refl
+faultless_run Sink known shown script rest old new first last b a before ended later r cause k stands short f =
+    absurd (f.sink (rose_later before.sink ended.sink later k cause.0))
+
+pub run_complete : {T : Type 0} (r : Result T Fault) (status : ℕ) (known shown : Option Image) (script rest old new : Option (List ℕ)) (first last : Option Takes)
+    (b a before ended : Faults) (later : ℕ) → status ≡ end_status (end_of r)
+    → Ran (end_of r) (ends known script first old b) (ends shown rest last new a) → IsCaused before ended r → ended.sink ≤ later
+    → IsSomeAnd known HasStart × IsSomeAnd script (λ bytes. length bytes ≤ script_limit)
+    → IsFaultless before (faults ended.device ended.source later) → (status ≡ 0) ⊎ (status ≡ 6) ⊎ (status ≡ 8)
+run_complete (Ok x) status known shown script rest old new first last b a before ended later is ran cause k ready f = inl is
+run_complete (Err e) status known shown script rest old new first last b a before ended later is ran cause k ready f =
+    either_status is (faultless_run e known shown script rest old new first last b a before ended later ran cause.cause k ready.0 ready.1 f)
+  where
+    either_status : {s of : ℕ} → s ≡ of → (of ≡ 6) ⊎ (of ≡ 8) → (s ≡ 0) ⊎ (s ≡ 6) ⊎ (s ≡ 8)
+    either_status same (inl six) = inr (inl (same ∙ six))
+    either_status same (inr eight) = inr (inr (same ∙ eight))

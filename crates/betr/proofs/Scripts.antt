@@ -16,20 +16,21 @@ use Rattle.bd_limits.specs.Limits.{script_limit, piece_limit}
 use Rattle.bd_io.specs.Cause.{next_count}
 use Rattle.bd_io.specs.Takes.{Takes, takes_after}
 use Rattle.bd_io.specs.Written.{WrotePart}
+use Rattle.bd_node.proofs.Lookup.{each_both}
 use Rattle.bd_script.specs.Lines.{LineMeaning, all_but_last, last_piece, line_of, lines_of, whole_lines, open_line, held, is_empty, is_stop, up_to_stop}
 use Rattle.bd_script.specs.Replies.{line_reply_line}
 use Rattle.bd_script.proofs.CutLines.{some_pieces, whole_lines-more, open_line-more, held_goes_on, line_of-held}
 use Rattle.betr.specs.declared.fault.Fault.{Fault}
-use Rattle.betr.specs.declared.fault.Fault.TheVariants.{Device, Source, Memory, TooLong, Worn, Sink}
-use Rattle.betr.specs.Transcript.{State, Entry, text, executed, state_after, meanings, lines_to_run, IsFront}
-use Rattle.betr.specs.Session.{end_of, Executes, HasNext, Among, AllComplete, BeginsWith, IsCutShort, WornBy, Leaves, RunsFrom, Session}
-use Rattle.betr.specs.Shell.{last_lines, IsHeld, RunFails, BreaksOff}
+use Rattle.betr.specs.declared.fault.Fault.TheVariants.{Device, Damaged, Source, Memory, TooLong, Worn, Sink}
+use Rattle.betr.specs.Transcript.{State, Exchange, IsAnswered, text, executed, meanings, lines_to_run, IsFront}
+use Rattle.betr.specs.Session.{end_of, Executes, HasNext, IsAtLine, Among, AllComplete, BeginsWith, TakenAt, IsCutShort, IsCutAfter, Replied, Tells, Ends, EndsIn, Session}
+use Rattle.betr.specs.Shell.{last_lines, IsHeld, HasMore, completed, RunFails, HaltsIn, BreaksOff}
 use Rattle.betr.specs.declared.session.Taken.{Taken}
 use Rattle.betr.specs.declared.session.Taken.TheVariants as source_gave
 use Rattle.betr.specs.Taken.{IsTaken, taken_by, Took, TookLast}
-use Rattle.betr.proofs.Left.{leaves_worn, ends_any}
-use Rattle.betr.proofs.Transcripts.{up_to_stop-none, up_to_stop-stopped, up_to_stop-append, up_to_stop-one, up_to_stop_front, IsFront-append, IsFront-trans, IsTranscript-append, state_after-append, executed-append}
-use Rattle.betr.proofs.Executes.{append_known-nil, executes_none, executes_more, executes_as, text-twice}
+use Rattle.betr.proofs.Left.{leaves_worn}
+use Rattle.betr.proofs.Transcripts.{transcript_one, transcript_more, transcript_as, up_to_stop-none, up_to_stop-stopped, up_to_stop-append, up_to_stop-one, up_to_stop_front, IsFront-append, IsFront-trans, executed-append}
+use Rattle.betr.proofs.Executes.{executes_none, executes_more, executes_as, text-twice}
 use Rattle.betr.proofs.Feeding.{either, neither}
 
 pub prepend_known-nil : (o : Option (List ℕ)) → prepend_known [] o ≡ o
@@ -89,9 +90,9 @@ some-append [] ys h = h
 some-append (x ∷ xs) ys h = refl
 
 -- complete lines were executed, and there are more bytes: there is a next line
-pub next_of_more : (front rest : List ℕ) (es : List Entry) → executed es ≡ meanings front → list_any is_stop (meanings front) ≡ false
-    → is_empty rest ≡ false → (next : LineMeaning) × HasNext next (executed es) (lines_to_run (front ++ rest))
-next_of_more front rest es lines none some =
+pub next_of_more : (front rest : List ℕ) (xs : List Exchange) → executed xs ≡ meanings front → list_any is_stop (meanings front) ≡ false
+    → is_empty rest ≡ false → (next : LineMeaning) × HasNext next (executed xs) (lines_to_run (front ++ rest))
+next_of_more front rest xs lines none some =
     let h = some_lines (open_line front ++ rest) (some-append (open_line front) rest some) in
     let first : map line_of (lines_of (open_line front ++ rest)) ≡ line_of h.0 ∷ map line_of h.1 = ap (map line_of) h.2 in
     let more : List LineMeaning = cond (is_stop (line_of h.0)) [] (up_to_stop (map line_of h.1)) in (
@@ -203,7 +204,7 @@ took front given before at now short idle told =
     by (Some b) (Some t) h = inr (took_by given b t (nat_eq (length given) 0) refl short h)
 
 -- no take
-took_none : (t : Option Takes) → Took [] [] t t
+pub took_none : (t : Option Takes) → Took [] [] t t
 took_none None = tt
 took_none (Some t) = inl (refl, refl, refl)
 
@@ -222,7 +223,7 @@ pub record Stands (first now : State → Type 0) (line : List ℕ) (taken : ℕ)
   pub final : List ℕ
   pub split : bytes ≡ front ++ final
   pub took : Took front final before at
-  pub ran : (s : State) → first s → Executes s (meanings bytes) now old new
+  pub ran : Executes first now (meanings bytes) old new
 
 -- nothing was taken yet
 pub stands_first : (first : State → Type 0) (line : List ℕ) (script w : Option (List ℕ)) (t : Option Takes) → line ≡ []
@@ -239,7 +240,7 @@ stands_first first line script w t none = record {
   final = [];
   split = refl;
   took = took_none t;
-  ran = λ s h. executes_none s first w h;
+  ran = executes_none first w;
 }
 
 -- a flush keeps what was written
@@ -259,7 +260,7 @@ stands_held {line = line} s = held_twice s.bytes line s.line_is
 pub stands_more : (first mid now : State → Type 0) (line line2 piece : List ℕ) (taken : ℕ) (script left rest a b c : Option (List ℕ)) (before at after : Option Takes)
     → Stands first mid line taken script left a b before at → taken + length piece ≤ script_limit → left ≡ prepend_known piece rest → 0 < length piece
     → length piece ≤ piece_limit → after ≡ option_map (takes_after piece) at
-    → ((s : State) → mid s → Executes s (up_to_stop (meanings (line ++ piece))) now b c) → list_any is_stop (meanings (line ++ piece)) ≡ false
+    → Executes mid now (completed line piece) b c → list_any is_stop (meanings (line ++ piece)) ≡ false
     → line2 ≡ held (open_line (line ++ piece)) → Stands first now line2 (taken + length piece) script rest a c before after
 stands_more first mid now line line2 piece taken script left rest a b c before at after s fits got some short told x none is =
     let lines = meanings-more s.bytes piece line s.line_is in
@@ -275,78 +276,107 @@ stands_more first mid now line line2 piece taken script left rest a b c before a
       final = piece;
       split = refl;
       took = took s.bytes piece before at after short s.idle told;
-      ran = λ t h. executes_as t _ _ now a c (sym lines) (executes_more t (meanings s.bytes) (meanings (line ++ piece)) mid now a b c (s.ran t h)
-          (λ u k. executes_as u _ _ now b c (up_to_stop-none (meanings (line ++ piece)) none) (x u k)));
+      ran = executes_as first now _ _ a c (sym lines) (executes_more first mid now (meanings s.bytes) (meanings (line ++ piece)) a b c s.ran
+          (executes_as mid now _ _ b c (up_to_stop-none (meanings (line ++ piece)) none) x));
     }
 
 -- ---- a session's ends without a fault
 
 -- lines that begin with those that are complete in some bytes
-begins_with : (bytes : List ℕ) (es : List Entry) (lines more : List LineMeaning) → executed es ≡ lines → lines ≡ meanings bytes ++ more
-    → list_any is_stop (meanings bytes) ≡ false → BeginsWith bytes es
-begins_with bytes es lines more are is none = record { rest = more; lines_are = are ∙ is; no_stop = none }
+begins_with : (bytes : List ℕ) (xs : List Exchange) (lines more : List LineMeaning) → executed xs ≡ lines → lines ≡ meanings bytes ++ more
+    → list_any is_stop (meanings bytes) ≡ false → BeginsWith bytes xs
+begins_with bytes xs lines more are is none = record { rest = more; lines_are = are ∙ is; no_stop = none }
 
-all_run : (s : State) (lines more : List LineMeaning) (at : State → Type 0) (front taken : List ℕ) (script old new : Option (List ℕ)) → Executes s lines at old new
-    → lines ≡ meanings front ++ more → list_any is_stop (meanings front) ≡ false
-    → lines ≡ lines_to_run taken → IfSome script (λ bytes. lines ≡ lines_to_run bytes) → length taken ≤ script_limit → RunsFrom None s at front taken script old new
-all_run s lines more at front taken script old new x begins none among all few = record {
-  entries = x.entries;
-  transcript = x.transcript;
-  begins = begins_with front x.entries lines more x.lines_are begins none;
+-- what holds anyway holds of a script
+any_script : (P : Type 0) (o : Option (List ℕ)) → P → IfSome o (λ _. P)
+any_script P None h = tt
+any_script P (Some bytes) h = h
+
+-- the parts of a session that are the same at each end: what was taken, and what was executed of it
+record Parts (front taken : List ℕ) (script rest : Option (List ℕ)) (before after : Option Takes) : Type 0 where
+  final : List ℕ
+  taken_is : taken ≡ front ++ final
+  script_is : script ≡ prepend_known taken rest
+  took : Took front final before after
+  few : length taken ≤ script_limit
+
+-- all lines were executed
+all_run : (first now : State → Type 0) (lines more : List LineMeaning) (front taken : List ℕ) (script rest old new : Option (List ℕ)) (before after : Option Takes)
+    → Parts front taken script rest before after → Executes first now lines old new → lines ≡ meanings front ++ more
+    → list_any is_stop (meanings front) ≡ false → lines ≡ lines_to_run taken → IfSome script (λ bytes. lines ≡ lines_to_run bytes)
+    → Session None first now script rest before after old new
+all_run first now lines more front taken script rest old new before after p x begins none among all = record {
+  exchanges = x.exchanges;
+  answered = x.answered;
+  front = front;
+  final = p.final;
+  taken = taken;
+  taken_is = p.taken_is;
+  script_is = p.script_is;
+  took = p.took;
+  begins = begins_with front x.exchanges lines more x.lines_are begins none;
   among_taken = x.lines_are ∙ among;
   among_script = by script all;
-  taken_at = few;
-  reached = x.reached;
+  taken_at = p.few;
   replied = x.written;
+  runs = λ s h. transcript_as s x.exchanges now _ (x.runs s h) (λ t g. record { told = tt; told_script = any_script (Unit {0}) script tt; reached = g });
 }
   where
-    by : (o : Option (List ℕ)) → IfSome o (λ bytes. lines ≡ lines_to_run bytes) → IfSome o (λ bytes. executed x.entries ≡ lines_to_run bytes)
+    by : (o : Option (List ℕ)) → IfSome o (λ bytes. lines ≡ lines_to_run bytes) → IfSome o (λ bytes. executed x.exchanges ≡ lines_to_run bytes)
     by None h = tt
     by (Some bytes) h = x.lines_are ∙ h
+
+-- a piece more was taken
+parts_more : {first now : State → Type 0} {line : List ℕ} {taken : ℕ} {script left a b : Option (List ℕ)} {before at : Option Takes}
+    → (s : Stands first now line taken script left a b before at) → (piece : List ℕ) (rest : Option (List ℕ)) (after : Option Takes)
+    → taken + length piece ≤ script_limit → left ≡ prepend_known piece rest → length piece ≤ piece_limit → after ≡ option_map (takes_after piece) at
+    → Parts s.bytes (s.bytes ++ piece) script rest before after
+parts_more {before = before} {at = at} s piece rest after fits got short told = record {
+  final = piece;
+  taken_is = refl;
+  script_is = s.taken_is ∙ ap (prepend_known s.bytes) got ∙ prepend_known-append s.bytes piece rest;
+  took = took s.bytes piece before at after short s.idle told;
+  few = omega (arith, length-append s.bytes piece, s.count, fits);
+}
+
+-- a take that gave nothing
+parts_none : {first now : State → Type 0} {line : List ℕ} {taken : ℕ} {script rest a b : Option (List ℕ)} {before at : Option Takes}
+    → (s : Stands first now line taken script rest a b before at) → (after : Option Takes) → after ≡ option_map (takes_after []) at
+    → Parts s.bytes s.bytes script rest before after
+parts_none {before = before} {at = at} s after told = record {
+  final = [];
+  taken_is = sym (append-nil s.bytes);
+  script_is = s.taken_is;
+  took = took s.bytes [] before at after (omega arith) s.idle told;
+  few = omega (arith, s.count, s.few);
+}
 
 -- a `stop` ends the script
 pub session_stops : (first mid now : State → Type 0) (line piece : List ℕ) (taken : ℕ) (script left rest a b c : Option (List ℕ)) (before at after : Option Takes)
     → Stands first mid line taken script left a b before at → taken + length piece ≤ script_limit → left ≡ prepend_known piece rest
     → length piece ≤ piece_limit → after ≡ option_map (takes_after piece) at
-    → ((s : State) → mid s → Executes s (up_to_stop (meanings (line ++ piece))) now b c) → list_any is_stop (meanings (line ++ piece)) ≡ true
+    → Executes mid now (completed line piece) b c → list_any is_stop (meanings (line ++ piece)) ≡ true
     → Session None first now script rest before after a c
 session_stops first mid now line piece taken script left rest a b c before at after s fits got short told x some =
-    let is = s.taken_is ∙ ap (prepend_known s.bytes) got ∙ prepend_known-append s.bytes piece rest in
-    let lines : List LineMeaning = meanings s.bytes ++ up_to_stop (meanings (line ++ piece)) in
+    let p = parts_more s piece rest after fits got short told in
+    let lines : List LineMeaning = meanings s.bytes ++ completed line piece in
     let all = λ (more : List ℕ). sym (run_stopped s.bytes piece line more s.line_is s.no_stop some) in
-    record {
-      front = s.bytes;
-      final = piece;
-      taken = s.bytes ++ piece;
-      taken_is = refl;
-      script_is = is;
-      took = took s.bytes piece before at after short s.idle told;
-      runs = λ t h. all_run t lines (up_to_stop (meanings (line ++ piece))) now s.bytes (s.bytes ++ piece) script a c
-          (executes_more t (meanings s.bytes) (up_to_stop (meanings (line ++ piece))) mid now a b c (s.ran t h) x) refl s.no_stop
-          (all [] ∙ ap lines_to_run (append-nil (s.bytes ++ piece)))
-          (known (λ bytes. lines ≡ lines_to_run bytes) (s.bytes ++ piece) script rest is (λ more e. all more))
-          (omega (arith, length-append s.bytes piece, s.count));
-    }
+    all_run first now lines (completed line piece) s.bytes (s.bytes ++ piece) script rest a c before after p
+    (executes_more first mid now (meanings s.bytes) (completed line piece) a b c s.ran x) refl s.no_stop
+    (all [] ∙ ap lines_to_run (append-nil (s.bytes ++ piece)))
+    (known (λ bytes. lines ≡ lines_to_run bytes) (s.bytes ++ piece) script rest p.script_is (λ more e. all more))
 
 -- the script's end
 pub session_ends : (first mid now : State → Type 0) (line : List ℕ) (taken : ℕ) (script rest a b c : Option (List ℕ)) (before at after : Option Takes)
     → Stands first mid line taken script rest a b before at → IsAtEnd rest → after ≡ option_map (takes_after []) at
-    → ((s : State) → mid s → Executes s (last_lines line) now b c) → Session None first now script rest before after a c
+    → Executes mid now (last_lines line) b c → Session None first now script rest before after a c
 session_ends first mid now line taken script rest a b c before at after s end told x =
     let lines : List LineMeaning = meanings s.bytes ++ last_lines line in
     let all : lines ≡ lines_to_run s.bytes = sym (run_ended s.bytes line s.line_is s.no_stop) in
-    record {
-      front = s.bytes;
-      final = [];
-      taken = s.bytes;
-      taken_is = sym (append-nil s.bytes);
-      script_is = s.taken_is;
-      took = took s.bytes [] before at after (omega arith) s.idle told;
-      runs = λ t h. all_run t lines (last_lines line) now s.bytes s.bytes script a c (executes_more t (meanings s.bytes) (last_lines line) mid now a b c (s.ran t h) x) refl s.no_stop all
-          (known (λ bytes. lines ≡ lines_to_run bytes) s.bytes script rest s.taken_is
-          (λ more e. all ∙ ap lines_to_run (sym (ap (λ l. s.bytes ++ l) (end_is rest end more e) ∙ append-nil s.bytes))))
-          (omega (arith, s.count, s.few));
-    }
+    all_run first now lines (last_lines line) s.bytes s.bytes script rest a c before after (parts_none s after told)
+    (executes_more first mid now (meanings s.bytes) (last_lines line) a b c s.ran x) refl s.no_stop all
+    (known (λ bytes. lines ≡ lines_to_run bytes) s.bytes script rest s.taken_is
+    (λ more e. all ∙ ap lines_to_run (sym (ap (λ l. s.bytes ++ l) (end_is rest end more e) ∙ append-nil s.bytes))))
 
 -- ---- a session's ends by a fault
 
@@ -366,102 +396,124 @@ HasNext-append next xs done lines h = record {
   lines_are = ap (λ l. xs ++ l) h.lines_are ∙ sym (append_assoc xs done (next ∷ h.rest));
 }
 
-cut_more : (xs ys : List Entry) (a b c : Option (List ℕ)) → b ≡ append_known a (text xs) → IsCutShort ys b c → IsCutShort (xs ++ ys) a c
+cut_more : (xs ys : List Exchange) (a b c : Option (List ℕ)) → b ≡ append_known a (text xs) → IsCutShort ys b c → IsCutShort (xs ++ ys) a c
 cut_more xs ys a b c first cut = record {
   front = xs ++ cut.front;
   last = cut.last;
-  entries_are = ap (λ l. xs ++ l) cut.entries_are ∙ sym (append_assoc xs cut.front (cut.last ∷ []));
+  exchanges_are = ap (λ l. xs ++ l) cut.exchanges_are ∙ sym (append_assoc xs cut.front (cut.last ∷ []));
   part = subst (λ w. WrotePart (line_reply_line cut.last.said) w c) (text-twice xs cut.front a b (append_known b (text cut.front)) first refl) cut.part;
 }
 
--- some lines, and then a fault within a piece
-broken : (e : Fault) (s : State) (mid now : State → Type 0) (bytes line piece : List ℕ) (script rest a b c : Option (List ℕ))
-    → line ≡ held (open_line bytes) → list_any is_stop (meanings bytes) ≡ false → script ≡ prepend_known (bytes ++ piece) rest → length (bytes ++ piece) ≤ script_limit
-    → (x : Executes s (meanings bytes) mid a b) → BreaksOff e (state_after s x.entries) line piece now b c → RunsFrom (Some e) s now bytes (bytes ++ piece) script a c
-unfolding cut_more
-broken Device s mid now bytes line piece script rest a b c is none taken few x y = absurd y.halts
-broken Source s mid now bytes line piece script rest a b c is none taken few x y = absurd y.halts
-broken TooLong s mid now bytes line piece script rest a b c is none taken few x y = absurd y.halts
-broken Memory s mid now bytes line piece script rest a b c is none taken few x y =
-    let all : List Entry = x.entries ++ y.entries in
-    let front : List ℕ = bytes ++ y.halts.front in
-    let lines_of_front : meanings front ≡ meanings bytes ++ meanings (line ++ y.halts.front) = meanings-more bytes y.halts.front line is in
-    let lines : executed all ≡ meanings front =
-    executed-append x.entries y.entries ∙ ap (λ l. l ++ executed y.entries) x.lines_are ∙ ap (λ l. meanings bytes ++ l) y.halts.lines_are ∙ sym lines_of_front in
+-- the lines of what was complete, and of a piece, one after the other
+done_twice : (bytes : List ℕ) (xs ys : List Exchange) → executed xs ≡ meanings bytes → executed (xs ++ ys) ≡ meanings bytes ++ executed ys
+done_twice bytes xs ys are = executed-append xs ys ∙ ap (λ l. l ++ executed ys) are
+
+-- where bytes are left of a piece, there is a next line, whatever follows
+at_line : (bytes line piece more : List ℕ) (xs ys : List Exchange) → line ≡ held (open_line bytes) → list_any is_stop (meanings bytes) ≡ false
+    → executed xs ≡ meanings bytes → HasMore line piece ys → IsAtLine (xs ++ ys) (lines_to_run ((bytes ++ piece) ++ more))
+at_line bytes line piece more xs ys is none are h =
+    let front : List ℕ = bytes ++ h.front in
+    let lines_of_front : meanings front ≡ meanings bytes ++ meanings (line ++ h.front) = meanings-more bytes h.front line is in
+    let lines : executed (xs ++ ys) ≡ meanings front = done_twice bytes xs ys are ∙ ap (λ l. meanings bytes ++ l) h.lines_are ∙ sym lines_of_front in
     let no_stop : list_any is_stop (meanings front) ≡ false =
-    ap (list_any is_stop) lines_of_front ∙ list_any-append is_stop (meanings bytes) (meanings (line ++ y.halts.front)) ∙ neither _ _ none y.halts.no_stop in
-    let joined : bytes ++ piece ≡ front ++ y.halts.rest = ap (λ l. bytes ++ l) y.halts.piece_is ∙ sym (append_assoc bytes y.halts.front y.halts.rest) in
-    let done : executed all ≡ meanings bytes ++ executed y.entries = executed-append x.entries y.entries ∙ ap (λ l. l ++ executed y.entries) x.lines_are in
+    ap (list_any is_stop) lines_of_front ∙ list_any-append is_stop (meanings bytes) (meanings (line ++ h.front)) ∙ neither _ _ none h.no_stop in
+    let joined : bytes ++ piece ≡ front ++ h.rest = ap (λ l. bytes ++ l) h.piece_is ∙ sym (append_assoc bytes h.front h.rest) in
+    subst (λ bs. IsAtLine (xs ++ ys) (lines_to_run bs)) (sym (ap (λ l. l ++ more) joined ∙ append_assoc front h.rest more))
+    (inr (next_of_more front (h.rest ++ more) (xs ++ ys) lines no_stop (some-before h.rest more h.some)))
+
+-- a next line of a piece is one of all, whatever follows
+next_of_all : (bytes line piece more : List ℕ) (xs ys : List Exchange) (next : LineMeaning) → line ≡ held (open_line bytes)
+    → list_any is_stop (meanings bytes) ≡ false → executed xs ≡ meanings bytes → HasNext next (executed ys) (completed line piece)
+    → HasNext next (executed (xs ++ ys)) (lines_to_run ((bytes ++ piece) ++ more))
+next_of_all bytes line piece more xs ys next is none are h =
+    let upto : List LineMeaning = meanings bytes ++ completed line piece in
+    HasNext-front next (executed (xs ++ ys)) upto (lines_to_run ((bytes ++ piece) ++ more))
+    (subst (λ d. HasNext next d upto) (sym (done_twice bytes xs ys are)) (HasNext-append next (meanings bytes) (executed ys) (completed line piece) h))
+    (fed_front bytes piece line more is none)
+
+-- some lines, and then a fault within a piece, by what is said of each fault
+broken_by : (e : Fault) (first mid now : State → Type 0) (bytes line piece : List ℕ) (script rest a b c : Option (List ℕ)) (before after : Option Takes)
+    → Parts bytes (bytes ++ piece) script rest before after → list_any is_stop (meanings bytes) ≡ false → (x : Executes first mid (meanings bytes) a b)
+    → (y : BreaksOff e mid now line piece b c) → ((more : List ℕ) → Among (Some e) ((bytes ++ piece) ++ more) (x.exchanges ++ y.exchanges))
+    → TakenAt (Some e) (bytes ++ piece) (x.exchanges ++ y.exchanges) → Replied (Some e) bytes (bytes ++ piece) (x.exchanges ++ y.exchanges) a c
+    → ((s : State) → Tells (Some e) s (executed y.exchanges) (completed line piece) → (more : List ℕ)
+    → Tells (Some e) s (executed (x.exchanges ++ y.exchanges)) (lines_to_run ((bytes ++ piece) ++ more)))
+    → Session (Some e) first now script rest before after a c
+broken_by e first mid now bytes line piece script rest a b c before after p none x y among taken_at replied tells =
+    let all : List Exchange = x.exchanges ++ y.exchanges in
     record {
-      entries = all;
-      transcript = IsTranscript-append s x.entries y.entries x.transcript y.transcript;
-      begins = begins_with bytes all _ (executed y.entries) done refl none;
-      among_taken = subst (λ bs. Among (Some Memory) s bs all) (sym joined) (inr (next_of_more front y.halts.rest all lines no_stop y.halts.some));
-      among_script = known (λ bs. Among (Some Memory) s bs all) (bytes ++ piece) script rest taken
-          (λ more _. subst (λ bs. Among (Some Memory) s bs all) (sym (ap (λ l. l ++ more) joined ∙ append_assoc front y.halts.rest more))
-          (inr (next_of_more front (y.halts.rest ++ more) all lines no_stop (some-before y.halts.rest more y.halts.some))));
-      taken_at = few;
-      reached = subst (λ t. Leaves t now) (sym (state_after-append s x.entries y.entries)) y.reached;
-      replied = text-twice x.entries y.entries a b c x.written y.replied;
+      exchanges = all;
+      answered = each_both IsAnswered x.exchanges y.exchanges x.answered y.answered;
+      front = bytes;
+      final = p.final;
+      taken = bytes ++ piece;
+      taken_is = p.taken_is;
+      script_is = p.script_is;
+      took = p.took;
+      begins = begins_with bytes all _ (executed y.exchanges) (done_twice bytes x.exchanges y.exchanges x.lines_are) refl none;
+      among_taken = subst (λ bs. Among (Some e) bs all) (append-nil (bytes ++ piece)) (among []);
+      among_script = known (λ bs. Among (Some e) bs all) (bytes ++ piece) script rest p.script_is (λ more _. among more);
+      taken_at = taken_at;
+      replied = replied;
+      runs = λ s h. transcript_as s all (HaltsIn e line piece y.exchanges now) _ (transcript_more s x.exchanges y.exchanges mid _ (x.runs s h) y.runs)
+          (λ t g. record {
+            told = subst (λ bs. Tells (Some e) t (executed all) (lines_to_run bs)) (append-nil (bytes ++ piece)) (tells t g.told []);
+            told_script = known (λ bs. Tells (Some e) t (executed all) (lines_to_run bs)) (bytes ++ piece) script rest p.script_is (λ more _. tells t g.told more);
+            reached = g.reached;
+          });
     }
-broken (Worn which) s mid now bytes line piece script rest a b c is none taken few x y =
-    let all : List Entry = x.entries ++ y.entries in
-    let upto : List LineMeaning = meanings bytes ++ up_to_stop (meanings (line ++ piece)) in
-    let next : LineMeaning = y.halts.0 in
-    let done : executed all ≡ meanings bytes ++ executed y.entries = executed-append x.entries y.entries ∙ ap (λ l. l ++ executed y.entries) x.lines_are in
-    let has : HasNext next (executed all) upto = subst (λ d. HasNext next d upto) (sym done) (HasNext-append next (meanings bytes) (executed y.entries) (up_to_stop (meanings (line ++ piece))) y.halts.1) in
-    let worn : WornBy which (state_after s all) next = subst (λ t. WornBy which t next) (sym (state_after-append s x.entries y.entries)) y.halts.2 in
-    record {
-      entries = all;
-      transcript = IsTranscript-append s x.entries y.entries x.transcript y.transcript;
-      begins = begins_with bytes all _ (executed y.entries) done refl none;
-      among_taken = subst (λ bs. Among (Some (Worn which)) s bs all) (append-nil (bytes ++ piece))
-          (next, HasNext-front next (executed all) upto (lines_to_run ((bytes ++ piece) ++ [])) has (fed_front bytes piece line [] is none), worn);
-      among_script = known (λ bs. Among (Some (Worn which)) s bs all) (bytes ++ piece) script rest taken
-          (λ more _. (next, HasNext-front next (executed all) upto (lines_to_run ((bytes ++ piece) ++ more)) has (fed_front bytes piece line more is none), worn));
-      taken_at = few;
-      reached = subst (λ t. Leaves t now) (sym (state_after-append s x.entries y.entries)) y.reached;
-      replied = text-twice x.entries y.entries a b c x.written y.replied;
-    }
-broken Sink s mid now bytes line piece script rest a b c is none taken few x y =
-    let all : List Entry = x.entries ++ y.entries in
-    let upto : List LineMeaning = meanings bytes ++ up_to_stop (meanings (line ++ piece)) in
-    let done : executed all ≡ meanings bytes ++ executed y.entries = executed-append x.entries y.entries ∙ ap (λ l. l ++ executed y.entries) x.lines_are in
-    let front : IsFront (executed all) upto = subst (λ d. IsFront d upto) (sym done) (IsFront-append (meanings bytes) (executed y.entries) (up_to_stop (meanings (line ++ piece))) y.halts) in
-    let cut : IsCutShort all a c = cut_more x.entries y.entries a b c x.written y.replied in
-    record {
-      entries = all;
-      transcript = IsTranscript-append s x.entries y.entries x.transcript y.transcript;
-      begins = begins_with bytes all _ (executed y.entries) done refl none;
-      among_taken = subst (λ bs. IsFront (executed all) (lines_to_run bs)) (append-nil (bytes ++ piece))
-          (IsFront-trans (executed all) upto (lines_to_run ((bytes ++ piece) ++ [])) front (fed_front bytes piece line [] is none));
-      among_script = known (λ bs. IsFront (executed all) (lines_to_run bs)) (bytes ++ piece) script rest taken
-          (λ more _. IsFront-trans (executed all) upto (lines_to_run ((bytes ++ piece) ++ more)) front (fed_front bytes piece line more is none));
-      taken_at = few;
-      reached = subst now (sym (state_after-append s x.entries y.entries)) y.reached;
-      replied = inl (record {
-        cut = cut;
-        begins = begins_with bytes cut.front _ (executed y.replied.front) (executed-append x.entries y.replied.front ∙ ap (λ l. l ++ executed y.replied.front) x.lines_are) refl none;
-      });
+
+broken : (e : Fault) (first mid now : State → Type 0) (bytes line piece : List ℕ) (script rest a b c : Option (List ℕ)) (before after : Option Takes)
+    → Parts bytes (bytes ++ piece) script rest before after → line ≡ held (open_line bytes) → list_any is_stop (meanings bytes) ≡ false
+    → (x : Executes first mid (meanings bytes) a b) → BreaksOff e mid now line piece b c → Session (Some e) first now script rest before after a c
+unfolding cut_more
+broken Device first mid now bytes line piece script rest a b c before after p is none x y =
+    broken_by Device first mid now bytes line piece script rest a b c before after p none x y
+    (λ more. at_line bytes line piece more x.exchanges y.exchanges is none x.lines_are y.halts) p.few
+    (text-twice x.exchanges y.exchanges a b c x.written y.replied) (λ s told more. tt)
+broken (Damaged block) first mid now bytes line piece script rest a b c before after p is none x y =
+    broken_by (Damaged block) first mid now bytes line piece script rest a b c before after p none x y
+    (λ more. at_line bytes line piece more x.exchanges y.exchanges is none x.lines_are y.halts) p.few
+    (text-twice x.exchanges y.exchanges a b c x.written y.replied) (λ s told more. told)
+broken Source first mid now bytes line piece script rest a b c before after p is none x y = absurd y.halts
+broken Memory first mid now bytes line piece script rest a b c before after p is none x y =
+    broken_by Memory first mid now bytes line piece script rest a b c before after p none x y
+    (λ more. at_line bytes line piece more x.exchanges y.exchanges is none x.lines_are y.halts) p.few
+    (text-twice x.exchanges y.exchanges a b c x.written y.replied) (λ s told more. tt)
+broken TooLong first mid now bytes line piece script rest a b c before after p is none x y = absurd y.halts
+broken (Worn which) first mid now bytes line piece script rest a b c before after p is none x y =
+    broken_by (Worn which) first mid now bytes line piece script rest a b c before after p none x y
+    (λ more. (y.halts.0, next_of_all bytes line piece more x.exchanges y.exchanges y.halts.0 is none x.lines_are y.halts.1)) p.few
+    (text-twice x.exchanges y.exchanges a b c x.written y.replied)
+    (λ s told more. record {
+      next = told.next;
+      has = next_of_all bytes line piece more x.exchanges y.exchanges told.next is none x.lines_are told.has;
+      left = told.left;
+      worn = told.worn;
+    })
+broken Sink first mid now bytes line piece script rest a b c before after p is none x y =
+    let all : List Exchange = x.exchanges ++ y.exchanges in
+    let upto : List LineMeaning = meanings bytes ++ completed line piece in
+    let front : IsFront (executed all) upto =
+    subst (λ d. IsFront d upto) (sym (done_twice bytes x.exchanges y.exchanges x.lines_are)) (IsFront-append (meanings bytes) (executed y.exchanges) (completed line piece) y.halts) in
+    broken_by Sink first mid now bytes line piece script rest a b c before after p none x y
+    (λ more. IsFront-trans (executed all) upto (lines_to_run ((bytes ++ piece) ++ more)) front (fed_front bytes piece line more is none)) p.few
+    (inl (cut_after x.exchanges y.exchanges a b c bytes x.written x.lines_are none y.replied)) (λ s told more. tt)
+  where
+    cut_after : (xs ys : List Exchange) (u v w : Option (List ℕ)) (bs : List ℕ) → v ≡ append_known u (text xs) → executed xs ≡ meanings bs
+        → list_any is_stop (meanings bs) ≡ false → IsCutShort ys v w → IsCutAfter bs (xs ++ ys) u w
+    cut_after xs ys u v w bs first are no_stop cut = record {
+      cut = cut_more xs ys u v w first cut;
+      begins = begins_with bs (xs ++ cut.front) _ (executed cut.front) (done_twice bs xs cut.front are) refl no_stop;
     }
 
 -- a fault within a piece
 pub session_breaks : (e : Fault) (first mid now : State → Type 0) (line piece : List ℕ) (taken : ℕ) (script left rest a b c : Option (List ℕ)) (before at after : Option Takes)
     → Stands first mid line taken script left a b before at → taken + length piece ≤ script_limit → left ≡ prepend_known piece rest
     → length piece ≤ piece_limit → after ≡ option_map (takes_after piece) at
-    → ((s : State) → mid s → BreaksOff e s line piece now b c) → Session (Some e) first now script rest before after a c
+    → BreaksOff e mid now line piece b c → Session (Some e) first now script rest before after a c
 session_breaks e first mid now line piece taken script left rest a b c before at after s fits got short told fails =
-    let is = s.taken_is ∙ ap (prepend_known s.bytes) got ∙ prepend_known-append s.bytes piece rest in
-    record {
-      front = s.bytes;
-      final = piece;
-      taken = s.bytes ++ piece;
-      taken_is = refl;
-      script_is = is;
-      took = took s.bytes piece before at after short s.idle told;
-      runs = λ t h. broken e t mid now s.bytes line piece script rest a b c s.line_is s.no_stop is (omega (arith, length-append s.bytes piece, s.count)) (s.ran t h)
-          (fails (state_after t (s.ran t h).entries) (s.ran t h).reached);
-    }
+    broken e first mid now s.bytes line piece script rest a b c before after (parts_more s piece rest after fits got short told) s.line_is s.no_stop s.ran fails
 
 same_script : (P : List ℕ → Type 0) (script : Option (List ℕ)) (bytes : List ℕ) → IfSome script (λ bs. bs ≡ bytes) → P bytes → IfSome script P
 same_script P None bytes same h = tt
@@ -471,143 +523,178 @@ last_one : (line : List ℕ) → is_empty line ≡ false → last_lines line ≡
 last_one [] some = cc
 last_one (b ∷ line) some = refl
 
+-- what was taken is the whole script, whose last line isn't executed yet
+record AtLast (bytes line : List ℕ) (script : Option (List ℕ)) : Type 0 where
+  none : list_any is_stop (meanings bytes) ≡ false
+  all : lines_to_run bytes ≡ meanings bytes ++ line_of line ∷ []
+  same : IfSome script (λ bs. bs ≡ bytes)
+
+-- a fault before the last line's reply, by what is said of each fault
+failed_by : (e : Fault) (first mid now : State → Type 0) (bytes line : List ℕ) (script rest a b c : Option (List ℕ)) (before after : Option Takes)
+    → Parts bytes bytes script rest before after → AtLast bytes line script → (x : Executes first mid (meanings bytes) a b)
+    → (HasNext (line_of line) (executed x.exchanges) (lines_to_run bytes) → Among (Some e) bytes x.exchanges)
+    → TakenAt (Some e) bytes x.exchanges → Replied (Some e) bytes bytes x.exchanges a c
+    → ((s : State) → mid s → HasNext (line_of line) (executed x.exchanges) (lines_to_run bytes)
+    → Tells (Some e) s (executed x.exchanges) (lines_to_run bytes) × Ends (Some e) s now)
+    → Session (Some e) first now script rest before after a c
+failed_by e first mid now bytes line script rest a b c before after p l x among taken_at replied ends =
+    let has : HasNext (line_of line) (executed x.exchanges) (lines_to_run bytes) =
+    record { rest = []; lines_are = l.all ∙ ap (λ ls. ls ++ line_of line ∷ []) (sym x.lines_are) } in
+    record {
+      exchanges = x.exchanges;
+      answered = x.answered;
+      front = bytes;
+      final = p.final;
+      taken = bytes;
+      taken_is = p.taken_is;
+      script_is = p.script_is;
+      took = p.took;
+      begins = begins_with bytes x.exchanges _ [] x.lines_are (sym (append-nil (meanings bytes))) l.none;
+      among_taken = among has;
+      among_script = same_script (λ bs. Among (Some e) bs x.exchanges) script bytes l.same (among has);
+      taken_at = taken_at;
+      replied = replied;
+      runs = λ s h. transcript_as s x.exchanges mid _ (x.runs s h) (λ t g. let r = ends t g has in
+          record {
+            told = r.0;
+            told_script = same_script (λ bs. Tells (Some e) t (executed x.exchanges) (lines_to_run bs)) script bytes l.same r.0;
+            reached = r.1;
+          });
+    }
+
 -- a fault at the last line
-failed : (e : Fault) (s : State) (mid now : State → Type 0) (bytes line : List ℕ) (script a b c : Option (List ℕ))
-    → list_any is_stop (meanings bytes) ≡ false → lines_to_run bytes ≡ meanings bytes ++ line_of line ∷ [] → IfSome script (λ bs. bs ≡ bytes) → length bytes ≤ script_limit
-    → (x : Executes s (meanings bytes) mid a b) → RunFails e (state_after s x.entries) (line_of line) now b c → RunsFrom (Some e) s now bytes bytes script a c
-failed Device s mid now bytes line script a b c none all same few x y = absurd y
-failed Source s mid now bytes line script a b c none all same few x y = absurd y
-failed TooLong s mid now bytes line script a b c none all same few x y = absurd y
-failed Memory s mid now bytes line script a b c none all same few x y =
-    let among : Among (Some Memory) s bytes x.entries =
-    inr (line_of line, record { rest = []; lines_are = all ∙ ap (λ l. l ++ line_of line ∷ []) (sym x.lines_are) }) in
+failed : (e : Fault) (first mid now : State → Type 0) (bytes line : List ℕ) (script rest a b c : Option (List ℕ)) (before after : Option Takes)
+    → Parts bytes bytes script rest before after → AtLast bytes line script → Executes first mid (meanings bytes) a b
+    → RunFails e mid now (line_of line) b c → Session (Some e) first now script rest before after a c
+failed Device first mid now bytes line script rest a b c before after p l x y =
+    failed_by Device first mid now bytes line script rest a b c before after p l x (λ has. inr (line_of line, has)) p.few (y.unwritten ∙ x.written)
+    (λ s h has. (tt, (line_of line, y.leaves s h)))
+failed (Damaged block) first mid now bytes line script rest a b c before after p l x y =
+    failed_by (Damaged block) first mid now bytes line script rest a b c before after p l x (λ has. inr (line_of line, has)) p.few (y.unwritten ∙ x.written)
+    (λ s h has. (y.leaves s h, y.leaves s h))
+failed Source first mid now bytes line script rest a b c before after p l x y = absurd y
+failed Memory first mid now bytes line script rest a b c before after p l x y =
+    failed_by Memory first mid now bytes line script rest a b c before after p l x (λ has. inr (line_of line, has)) p.few (y.unwritten ∙ x.written)
+    (λ s h has. (tt, (line_of line, y.leaves s h)))
+failed TooLong first mid now bytes line script rest a b c before after p l x y = absurd y
+failed (Worn which) first mid now bytes line script rest a b c before after p l x y =
+    failed_by (Worn which) first mid now bytes line script rest a b c before after p l x (λ has. (line_of line, has)) p.few (y.unwritten ∙ x.written)
+    (λ s h has. let w = y.leaves s h in (
+      record { next = line_of line; has = has; left = w.left; worn = w.worn },
+      leaves_worn which s (line_of line) now w,
+    ))
+failed Sink first mid now bytes line script rest a b c before after p l x y =
+    let last : Exchange = record { line = line_of line; said = y.said } in
+    let xs : List Exchange = x.exchanges ++ last ∷ [] in
+    let among : IsFront (executed xs) (lines_to_run bytes) =
+    ([], l.all ∙ sym (append-nil (meanings bytes ++ line_of line ∷ [])) ∙ ap (λ ls. ls ++ []) (ap (λ ls. ls ++ line_of line ∷ []) (sym x.lines_are) ∙ sym (executed-append x.exchanges (last ∷ [])))) in
     record {
-      entries = x.entries;
-      transcript = x.transcript;
-      begins = begins_with bytes x.entries _ [] x.lines_are (sym (append-nil (meanings bytes))) none;
+      exchanges = xs;
+      answered = each_both IsAnswered x.exchanges (last ∷ []) x.answered (y.answer, tt);
+      front = bytes;
+      final = p.final;
+      taken = bytes;
+      taken_is = p.taken_is;
+      script_is = p.script_is;
+      took = p.took;
+      begins = begins_with bytes xs _ (line_of line ∷ []) (done_twice bytes x.exchanges (last ∷ []) x.lines_are) refl l.none;
       among_taken = among;
-      among_script = same_script (λ bs. Among (Some Memory) s bs x.entries) script bytes same among;
-      taken_at = few;
-      reached = y.0;
-      replied = y.1 ∙ x.written;
-    }
-failed (Worn which) s mid now bytes line script a b c none all same few x y =
-    let among : Among (Some (Worn which)) s bytes x.entries =
-    (line_of line, record { rest = []; lines_are = all ∙ ap (λ l. l ++ line_of line ∷ []) (sym x.lines_are) }, y.0.0) in
-    record {
-      entries = x.entries;
-      transcript = x.transcript;
-      begins = begins_with bytes x.entries _ [] x.lines_are (sym (append-nil (meanings bytes))) none;
-      among_taken = among;
-      among_script = same_script (λ bs. Among (Some (Worn which)) s bs x.entries) script bytes same among;
-      taken_at = few;
-      reached = leaves_worn which (state_after s x.entries) (line_of line) now y.0;
-      replied = y.1 ∙ x.written;
-    }
-failed Sink s mid now bytes line script a b c none all same few x y =
-    let last : Entry = record { line = line_of line; said = y.said; state = y.replies.after } in
-    let es : List Entry = x.entries ++ last ∷ [] in
-    let among : IsFront (executed es) (lines_to_run bytes) =
-    ([], all ∙ sym (append-nil (meanings bytes ++ line_of line ∷ [])) ∙ ap (λ l. l ++ []) (ap (λ l. l ++ line_of line ∷ []) (sym x.lines_are) ∙ sym (executed-append x.entries (last ∷ [])))) in
-    record {
-      entries = es;
-      transcript = IsTranscript-append s x.entries (last ∷ []) x.transcript (y.replies.follows, tt);
-      begins = begins_with bytes es _ (line_of line ∷ []) (executed-append x.entries (last ∷ []) ∙ ap (λ l. l ++ line_of line ∷ []) x.lines_are) refl none;
-      among_taken = among;
-      among_script = same_script (λ bs. IsFront (executed es) (lines_to_run bs)) script bytes same among;
-      taken_at = few;
-      reached = subst now (sym (state_after-append s x.entries (last ∷ []))) y.replies.reached;
+      among_script = same_script (λ bs. IsFront (executed xs) (lines_to_run bs)) script bytes l.same among;
+      taken_at = p.few;
       replied = inl (record {
-        cut = record { front = x.entries; last = last; entries_are = refl; part = subst (λ w. WrotePart (line_reply_line y.said) w c) x.written y.part };
-        begins = begins_with bytes x.entries _ [] x.lines_are (sym (append-nil (meanings bytes))) none;
+        cut = record { front = x.exchanges; last = last; exchanges_are = refl; part = subst (λ w. WrotePart (line_reply_line y.said) w c) x.written y.part };
+        begins = begins_with bytes x.exchanges _ [] x.lines_are (sym (append-nil (meanings bytes))) l.none;
       });
+      runs = λ s h. transcript_as s xs now _
+          (transcript_more s x.exchanges (last ∷ []) mid now (x.runs s h) (λ t g. transcript_one t (line_of line) y.said now (y.replies t g)))
+          (λ t g. record { told = tt; told_script = any_script (Unit {0}) script tt; reached = g });
     }
 
 pub session_fails : (e : Fault) (first mid now : State → Type 0) (line : List ℕ) (taken : ℕ) (script rest a b c : Option (List ℕ)) (before at after : Option Takes)
     → Stands first mid line taken script rest a b before at → IsAtEnd rest → after ≡ option_map (takes_after []) at → is_empty line ≡ false
-    → ((s : State) → mid s → RunFails e s (line_of line) now b c) → Session (Some e) first now script rest before after a c
-session_fails e first mid now line taken script rest a b c before at after s end told some fails = record {
-  front = s.bytes;
-  final = [];
-  taken = s.bytes;
-  taken_is = sym (append-nil s.bytes);
-  script_is = s.taken_is;
-  took = took s.bytes [] before at after (omega arith) s.idle told;
-  runs = λ t h. failed e t mid now s.bytes line script a b c s.no_stop
-      (run_ended s.bytes line s.line_is s.no_stop ∙ ap (λ l. meanings s.bytes ++ l) (last_one line some))
-      (known (λ bs. bs ≡ s.bytes) s.bytes script rest s.taken_is (λ more e. ap (λ l. s.bytes ++ l) (end_is rest end more e) ∙ append-nil s.bytes))
-      (omega (arith, s.count, s.few)) (s.ran t h) (fails (state_after t (s.ran t h).entries) (s.ran t h).reached);
-}
+    → RunFails e mid now (line_of line) b c → Session (Some e) first now script rest before after a c
+session_fails e first mid now line taken script rest a b c before at after s end told some fails =
+    failed e first mid now s.bytes line script rest a b c before after (parts_none s after told)
+    (record {
+      none = s.no_stop;
+      all = run_ended s.bytes line s.line_is s.no_stop ∙ ap (λ l. meanings s.bytes ++ l) (last_one line some);
+      same = known (λ bs. bs ≡ s.bytes) s.bytes script rest s.taken_is (λ more e. ap (λ l. s.bytes ++ l) (end_is rest end more e) ∙ append-nil s.bytes);
+    }) s.ran fails
 
-complete_front : (bytes more : List ℕ) → list_any is_stop (meanings bytes) ≡ false → IsFront (meanings bytes) (lines_to_run (bytes ++ more))
-complete_front bytes more none = (lines_to_run (open_line bytes ++ more), run_front bytes more none)
+complete_front : (bytes more : List ℕ) (xs : List Exchange) → executed xs ≡ meanings bytes → list_any is_stop (meanings bytes) ≡ false
+    → IsFront (executed xs) (lines_to_run (bytes ++ more))
+complete_front bytes more xs are none =
+    subst (λ l. IsFront l (lines_to_run (bytes ++ more))) (sym are) (lines_to_run (open_line bytes ++ more), run_front bytes more none)
 
 -- what was executed, where all lines that are complete in what was taken were
-complete : (bytes : List ℕ) (es : List Entry) → executed es ≡ meanings bytes → list_any is_stop (meanings bytes) ≡ false → AllComplete bytes es
-complete bytes es are none = record { lines_are = are; no_stop = ap (list_any is_stop) are ∙ none }
+complete : (bytes : List ℕ) (xs : List Exchange) → executed xs ≡ meanings bytes → list_any is_stop (meanings bytes) ≡ false → AllComplete bytes xs
+complete bytes xs are none = record { lines_are = are; no_stop = ap (list_any is_stop) are ∙ none }
+
+-- a session that ends so, where only complete lines were executed and nothing more is told of the state
+complete_by : (e : Fault) (first now : State → Type 0) (bytes front final taken more : List ℕ) (script rest a b c : Option (List ℕ)) (before after : Option Takes)
+    → (x : Executes first now (meanings bytes) a b) → list_any is_stop (meanings bytes) ≡ false → taken ≡ bytes ++ more → taken ≡ front ++ final
+    → script ≡ prepend_known taken rest → Took front final before after → BeginsWith front x.exchanges
+    → ((bs : List ℕ) → IsFront (executed x.exchanges) (lines_to_run bs) → Among (Some e) bs x.exchanges)
+    → TakenAt (Some e) taken x.exchanges → Replied (Some e) front taken x.exchanges a c
+    → ((s : State) (lines : List LineMeaning) → Tells (Some e) s (executed x.exchanges) lines) → ((s : State) → now s → Ends (Some e) s now)
+    → Session (Some e) first now script rest before after a c
+complete_by e first now bytes front final taken more script rest a b c before after x none joined split is took begins among taken_at replied tells ends =
+    let xs : List Exchange = x.exchanges in
+    let among_all : (further : List ℕ) → Among (Some e) (taken ++ further) xs =
+    λ further. among (taken ++ further) (subst (λ bs. IsFront (executed xs) (lines_to_run bs)) (sym (ap (λ l. l ++ further) joined ∙ append_assoc bytes more further))
+    (complete_front bytes (more ++ further) xs x.lines_are none)) in
+    record {
+      exchanges = xs;
+      answered = x.answered;
+      front = front;
+      final = final;
+      taken = taken;
+      taken_is = split;
+      script_is = is;
+      took = took;
+      begins = begins;
+      among_taken = subst (λ bs. Among (Some e) bs xs) (append-nil taken) (among_all []);
+      among_script = known (λ bs. Among (Some e) bs xs) taken script rest is (λ further _. among_all further);
+      taken_at = taken_at;
+      replied = replied;
+      runs = λ s h. transcript_as s xs now _ (x.runs s h) (λ t g. record {
+        told = tells t (lines_to_run taken);
+        told_script = known (λ bs. Tells (Some e) t (executed xs) (lines_to_run bs)) taken script rest is (λ further _. tells t (lines_to_run (taken ++ further)));
+        reached = ends t g;
+      });
+    }
 
 -- the source's fault
 pub session_source : (first now : State → Type 0) (line : List ℕ) (taken : ℕ) (script rest a b : Option (List ℕ)) (before at after : Option Takes)
     → Stands first now line taken script rest a b before at → after ≡ option_map (takes_after []) at → Session (Some Source) first now script rest before after a b
-session_source first now line taken script rest a b before at after s told = record {
-  front = s.bytes;
-  final = [];
-  taken = s.bytes;
-  taken_is = sym (append-nil s.bytes);
-  script_is = s.taken_is;
-  took = took s.bytes [] before at after (omega arith) s.idle told;
-  runs = λ t h. let x = s.ran t h in
-      let front = λ (more : List ℕ). subst (λ l. IsFront l (lines_to_run (s.bytes ++ more))) (sym x.lines_are) (complete_front s.bytes more s.no_stop) in
-      record {
-        entries = x.entries;
-        transcript = x.transcript;
-        begins = begins_with s.bytes x.entries _ [] x.lines_are (sym (append-nil (meanings s.bytes))) s.no_stop;
-        among_taken = subst (λ bs. IsFront (executed x.entries) (lines_to_run bs)) (append-nil s.bytes) (front []);
-        among_script = known (λ bs. IsFront (executed x.entries) (lines_to_run bs)) s.bytes script rest s.taken_is (λ more _. front more);
-        taken_at = (omega (arith, s.count, s.few), complete s.bytes x.entries x.lines_are s.no_stop);
-        reached = x.reached;
-        replied = x.written;
-      };
-}
+session_source first now line taken script rest a b before at after s told =
+    let p = parts_none s after told in
+    complete_by Source first now s.bytes s.bytes p.final s.bytes [] script rest a b b before after s.ran s.no_stop (sym (append-nil s.bytes)) p.taken_is p.script_is p.took
+    (begins_with s.bytes s.ran.exchanges _ [] s.ran.lines_are (sym (append-nil (meanings s.bytes))) s.no_stop) (λ bs h. h)
+    (p.few, complete s.bytes s.ran.exchanges s.ran.lines_are s.no_stop) s.ran.written (λ t ls. tt) (λ t g. g)
 
 neither_left : (a b : Bool) → (a || b) ≡ false → a ≡ false
 neither_left true b e = cc
 neither_left false b e = refl
 
 -- what is complete in a front of some bytes comes first
-begins_front : (front final bytes : List ℕ) (es : List Entry) → bytes ≡ front ++ final → executed es ≡ meanings bytes
-    → list_any is_stop (meanings bytes) ≡ false → BeginsWith front es
-begins_front front final bytes es split are none =
+begins_front : (front final bytes : List ℕ) (xs : List Exchange) → bytes ≡ front ++ final → executed xs ≡ meanings bytes
+    → list_any is_stop (meanings bytes) ≡ false → BeginsWith front xs
+begins_front front final bytes xs split are none =
     let more : List LineMeaning = meanings (open_line front ++ final) in
     let lines : meanings bytes ≡ meanings front ++ more =
     ap meanings split ∙ ap (map line_of) (whole_lines-more front final) ∙ map-append line_of (whole_lines front) (whole_lines (open_line front ++ final)) in
-    begins_with front es (meanings bytes) more are lines
+    begins_with front xs (meanings bytes) more are lines
     (neither_left (list_any is_stop (meanings front)) (list_any is_stop more)
     (sym (list_any-append is_stop (meanings front) more) ∙ sym (ap (list_any is_stop) lines) ∙ none))
 
 -- the sink's fault where it has to pass on the replies before a take
 pub session_keeps : (first now : State → Type 0) (line : List ℕ) (taken : ℕ) (script rest a b c : Option (List ℕ)) (before at : Option Takes)
     → Stands first now line taken script rest a b before at → c ≡ b → Session (Some Sink) first now script rest before at a c
-session_keeps first now line taken script rest a b c before at s same = record {
-  front = s.front;
-  final = s.final;
-  taken = s.bytes;
-  taken_is = s.split;
-  script_is = s.taken_is;
-  took = s.took;
-  runs = λ t h. let x = s.ran t h in
-      let front = λ (more : List ℕ). subst (λ l. IsFront l (lines_to_run (s.bytes ++ more))) (sym x.lines_are) (complete_front s.bytes more s.no_stop) in
-      record {
-        entries = x.entries;
-        transcript = x.transcript;
-        begins = begins_front s.front s.final s.bytes x.entries s.split x.lines_are s.no_stop;
-        among_taken = subst (λ bs. IsFront (executed x.entries) (lines_to_run bs)) (append-nil s.bytes) (front []);
-        among_script = known (λ bs. IsFront (executed x.entries) (lines_to_run bs)) s.bytes script rest s.taken_is (λ more _. front more);
-        taken_at = omega (arith, s.count, s.few);
-        reached = x.reached;
-        replied = inr (record { written = same ∙ x.written; lines_are = inl (complete s.bytes x.entries x.lines_are s.no_stop) });
-      };
-}
+session_keeps first now line taken script rest a b c before at s same =
+    complete_by Sink first now s.bytes s.front s.final s.bytes [] script rest a b c before at s.ran s.no_stop (sym (append-nil s.bytes)) s.split s.taken_is s.took
+    (begins_front s.front s.final s.bytes s.ran.exchanges s.split s.ran.lines_are s.no_stop) (λ bs h. h) (omega (arith, s.count, s.few))
+    (inr (record { written = same ∙ s.ran.written; lines_are = inl (complete s.bytes s.ran.exchanges s.ran.lines_are s.no_stop) })) (λ t ls. tt) (λ t g. g)
 
 all_front : (xs ys : List LineMeaning) → xs ≡ ys → IsFront xs ys
 all_front xs ys is = ([], sym is ∙ sym (append-nil xs))
@@ -616,28 +703,26 @@ all_front xs ys is = ([], sym is ∙ sym (append-nil xs))
 pub session_keeps_last : (first now : State → Type 0) (script rest a b c : Option (List ℕ)) (before at : Option Takes)
     → Session None first now script rest before at a b → c ≡ b → Session (Some Sink) first now script rest before at a c
 session_keeps_last first now script rest a b c before at s same = record {
+  exchanges = s.exchanges;
+  answered = s.answered;
   front = s.front;
   final = s.final;
   taken = s.taken;
   taken_is = s.taken_is;
   script_is = s.script_is;
   took = s.took;
-  runs = λ t h. let r = s.runs t h in
-      record {
-        entries = r.entries;
-        transcript = r.transcript;
-        begins = r.begins;
-        among_taken = all_front (executed r.entries) (lines_to_run s.taken) r.among_taken;
-        among_script = by r.entries script r.among_script;
-        taken_at = r.taken_at;
-        reached = r.reached;
-        replied = inr (record { written = same ∙ r.replied; lines_are = inr r.among_taken });
-      };
+  begins = s.begins;
+  among_taken = all_front (executed s.exchanges) (lines_to_run s.taken) s.among_taken;
+  among_script = by s.exchanges script s.among_script;
+  taken_at = s.taken_at;
+  replied = inr (record { written = same ∙ s.replied; lines_are = inr s.among_taken });
+  runs = λ t h. transcript_as t s.exchanges (EndsIn None s.exchanges s.taken script now) _ (s.runs t h)
+      (λ u g. record { told = tt; told_script = any_script (Unit {0}) script tt; reached = g.reached });
 }
   where
-    by : (es : List Entry) (o : Option (List ℕ)) → IfSome o (λ bytes. executed es ≡ lines_to_run bytes) → IfSome o (λ bytes. IsFront (executed es) (lines_to_run bytes))
-    by es None h = tt
-    by es (Some bytes) h = all_front (executed es) (lines_to_run bytes) h
+    by : (xs : List Exchange) (o : Option (List ℕ)) → IfSome o (λ bytes. executed xs ≡ lines_to_run bytes) → IfSome o (λ bytes. IsFront (executed xs) (lines_to_run bytes))
+    by xs None h = tt
+    by xs (Some bytes) h = all_front (executed xs) (lines_to_run bytes) h
 
 -- a session that ended well, and then passes on the last replies
 pub ended_flushed : {T : Type 0} (first now : State → Type 0) (script rest a b c : Option (List ℕ)) (before at : Option Takes) (r : Result T Fault)
@@ -654,30 +739,13 @@ pub session_too_long : (first now : State → Type 0) (line piece : List ℕ) (t
 session_too_long first now line piece taken script left rest a b before at after s full got one told =
     let is = s.taken_is ∙ ap (prepend_known s.bytes) got ∙ prepend_known-append s.bytes piece rest in
     let cut : take script_limit (s.bytes ++ piece) ≡ s.bytes = ap (λ n. take n (s.bytes ++ piece)) (sym (s.count ∙ full)) ∙ take-append_seam s.bytes piece in
-    record {
-      front = s.bytes;
-      final = piece;
-      taken = s.bytes ++ piece;
-      taken_is = refl;
-      script_is = is;
-      took = took s.bytes piece before at after (omega (arith, one)) s.idle told;
-      runs = λ t h. let x = s.ran t h in
-          let front = λ (more : List ℕ). subst (λ l. IsFront l (lines_to_run (s.bytes ++ more))) (sym x.lines_are) (complete_front s.bytes more s.no_stop) in
-          record {
-            entries = x.entries;
-            transcript = x.transcript;
-            begins = begins_with s.bytes x.entries _ [] x.lines_are (sym (append-nil (meanings s.bytes))) s.no_stop;
-            among_taken = front piece;
-            among_script = known (λ bs. IsFront (executed x.entries) (lines_to_run bs)) (s.bytes ++ piece) script rest is
-                (λ more _. subst (λ bs. IsFront (executed x.entries) (lines_to_run bs)) (sym (append_assoc s.bytes piece more)) (front (piece ++ more)));
-            taken_at = (
-              omega (arith, length-append s.bytes piece, s.count, full, one),
-              record { lines_are = x.lines_are ∙ ap meanings (sym cut); no_stop = ap (list_any is_stop) x.lines_are ∙ s.no_stop },
-            );
-            reached = x.reached;
-            replied = x.written;
-          };
-    }
+    complete_by TooLong first now s.bytes s.bytes piece (s.bytes ++ piece) piece script rest a b b before after s.ran s.no_stop refl refl is
+    (took s.bytes piece before at after (omega (arith, one)) s.idle told)
+    (begins_with s.bytes s.ran.exchanges _ [] s.ran.lines_are (sym (append-nil (meanings s.bytes))) s.no_stop) (λ bs h. h)
+    (
+      omega (arith, length-append s.bytes piece, s.count, full, one),
+      record { lines_are = s.ran.lines_are ∙ ap meanings (sym cut); no_stop = ap (list_any is_stop) s.ran.lines_are ∙ s.no_stop },
+    ) s.ran.written (λ t ls. tt) (λ t g. g)
 
 -- what is said of either end of a call, of its end
 pub ends_by : {T : Type 0} (P : Option Fault → Type 0) (A S : Type 0) (B : Fault → Type 0) (r : Result T Fault) → OnOk r A → IfErr r B → OnErr r S
@@ -723,76 +791,3 @@ pub gave_end : (t : Taken) (taken : ℕ) (place : List ℕ) (old new : Option (L
 gave_end t taken place old new before after is h told =
     let got : IsTaken source_gave.End taken place old new = subst (λ t. IsTaken t taken place old new) is h in
     (got.0, got.1, told ∙ ap (λ t. option_map (takes_after (taken_by (Ok t) place)) before) is)
-
--- want of memory before the first take
-pub session_none : (start : State) (script w : Option (List ℕ)) (t : Option Takes) → Session (Some Memory) (λ s. s ≡ start) (λ _. Unit {0}) script script t t w w
-session_none start script w t = record {
-  front = [];
-  final = [];
-  taken = [];
-  taken_is = refl;
-  script_is = sym (prepend_known-nil script);
-  took = took_none t;
-  runs = λ s is. record {
-    entries = [];
-    transcript = tt;
-    begins = record { rest = []; lines_are = refl; no_stop = refl };
-    among_taken = inl refl;
-    among_script = none_of script;
-    taken_at = omega arith;
-    reached = ends_any (Some Memory) s;
-    replied = sym (append_known-nil w);
-  };
-}
-  where
-    none_of : (o : Option (List ℕ)) → IfSome o (λ bytes. Among (Some Memory) start bytes [])
-    none_of None = tt
-    none_of (Some bytes) = inl refl
-
--- the device's fault
-pub session_device : (start : State) (script w : Option (List ℕ)) (t : Option Takes) → Session (Some Device) (λ s. s ≡ start) (λ _. Unit {0}) script script t t w w
-session_device start script w t = record {
-  front = [];
-  final = [];
-  taken = [];
-  taken_is = refl;
-  script_is = sym (prepend_known-nil script);
-  took = took_none t;
-  runs = λ s is. record {
-    entries = [];
-    transcript = tt;
-    begins = record { rest = []; lines_are = refl; no_stop = refl };
-    among_taken = refl;
-    among_script = none_of script;
-    taken_at = refl;
-    reached = tt;
-    replied = sym (append_known-nil w);
-  };
-}
-  where
-    none_of : (o : Option (List ℕ)) → IfSome o (λ bytes. Among (Some Device) start bytes [])
-    none_of None = tt
-    none_of (Some bytes) = refl
-
--- a session from the one state at which it begins
-pub session_from : (end : Option Fault) (start : State) (first last : State → Type 0) (script rest old new : Option (List ℕ)) (before now : Option Takes) → first start
-    → Session end first last script rest before now old new → Session end (λ s. s ≡ start) (λ _. Unit {0}) script rest before now old new
-session_from end start first last script rest old new before now begins s = record {
-  front = s.front;
-  final = s.final;
-  taken = s.taken;
-  taken_is = s.taken_is;
-  script_is = s.script_is;
-  took = s.took;
-  runs = λ t is. let r = s.runs t (subst first (sym is) begins) in
-      record {
-        entries = r.entries;
-        transcript = r.transcript;
-        begins = r.begins;
-        among_taken = r.among_taken;
-        among_script = r.among_script;
-        taken_at = r.taken_at;
-        reached = ends_any end (state_after t r.entries);
-        replied = r.replied;
-      };
-}

@@ -1,19 +1,14 @@
 -- Transcripts put together, and the lines up to the first `stop`.
-use Rattle.std.proofs.Common.{◌≡◌, ◌+◌, ◌≤◌, Bool, true, false, cond, List, [], ◌∷◌, ◌++◌, length, refl, sym, ap, ◌∙◌, append_assoc, arith}
-use Rattle.std.specs.Prelude.{◌||◌, ◌&&◌}
+use Rattle.std.proofs.Common.{◌≡◌, ◌≤◌, Bool, true, false, cond, List, [], ◌∷◌, ◌++◌, length, refl, sym, ap, subst, ◌∙◌, append_assoc, arith}
+use Rattle.std.specs.Prelude.{◌||◌}
 use Rattle.std.specs.List.{list_any}
 use Rattle.std.proofs.lemmas.List.{map-append}
 use Rattle.std.proofs.lemmas.Grind.{flat_map-append}
-use Rattle.std.specs.declared.result.Result.TheVariants.{Ok, Err}
-use Rattle.bd_command.specs.Command.{writes, is_done, accepted}
-use Rattle.bd_command.specs.declared.Command.{Command}
-use Rattle.bd_command.specs.declared.reply.Reply.{Reply}
-use Rattle.bd_model.specs.Step.{step}
 use Rattle.bd_script.specs.Lines.{LineMeaning, is_stop, up_to_stop}
 use Rattle.bd_script.specs.Replies.{line_reply_line}
-use Rattle.bd_script.specs.declared.line.Line.TheVariants.{Run, Walk, Stop}
 use Rattle.bd_script.specs.declared.replies.LineReply.{LineReply}
-use Rattle.betr.specs.Transcript.{State, Entry, Follows, IsTranscript, text, executed, state_after, IsFront}
+use Rattle.betr.specs.Transcript.{State, Exchange, Entry, IsTranscript, HasTranscript, text, executed, exchange_of, exchanges_of, state_after, IsFront}
+use Rattle.betr.specs.Shell.{Replies}
 
 -- a transcript, and one from the state after it
 pub IsTranscript-append : (s : State) (es fs : List Entry) → IsTranscript s es → IsTranscript (state_after s es) fs
@@ -25,11 +20,53 @@ pub state_after-append : (s : State) (es fs : List Entry) → state_after s (es 
 state_after-append s [] fs = refl
 state_after-append s (e ∷ es) fs = state_after-append e.state es fs
 
-pub text-append : (es fs : List Entry) → text (es ++ fs) ≡ text es ++ text fs
-text-append es fs = flat_map-append (λ e. line_reply_line e.said) es fs
+pub text-append : (xs ys : List Exchange) → text (xs ++ ys) ≡ text xs ++ text ys
+text-append xs ys = flat_map-append (λ x. line_reply_line x.said) xs ys
 
-pub executed-append : (es fs : List Entry) → executed (es ++ fs) ≡ executed es ++ executed fs
-executed-append es fs = map-append (λ e. e.line) es fs
+pub executed-append : (xs ys : List Exchange) → executed (xs ++ ys) ≡ executed xs ++ executed ys
+executed-append xs ys = map-append (λ x. x.line) xs ys
+
+exchanges-append : (es fs : List Entry) → exchanges_of (es ++ fs) ≡ exchanges_of es ++ exchanges_of fs
+exchanges-append es fs = map-append exchange_of es fs
+
+-- ---- the transcripts of lines that were executed
+
+-- no line
+pub transcript_none : (s : State) (at : State → Type 0) → at s → HasTranscript s [] at
+transcript_none s at h = record { entries = []; exchanges_are = refl; transcript = tt; reached = h }
+
+-- one line
+pub transcript_one : (s : State) (line : LineMeaning) (said : LineReply) (at : State → Type 0) → Replies s line said at
+    → HasTranscript s (record { line = line; said = said } ∷ []) at
+transcript_one s line said at x = record {
+  entries = record { line = line; said = said; state = x.after } ∷ [];
+  exchanges_are = refl;
+  transcript = (record { follows = x.follows; represents = x.represents }, tt);
+  reached = x.reached;
+}
+
+-- some lines, and then more
+pub transcript_more : (s : State) (xs ys : List Exchange) (mid at : State → Type 0) → HasTranscript s xs mid
+    → ((t : State) → mid t → HasTranscript t ys at) → HasTranscript s (xs ++ ys) at
+transcript_more s xs ys mid at h more =
+    let g : HasTranscript (state_after s h.entries) ys at = more (state_after s h.entries) h.reached in
+    record {
+      entries = h.entries ++ g.entries;
+      exchanges_are = exchanges-append h.entries g.entries ∙ ap (λ l. l ++ exchanges_of g.entries) h.exchanges_are
+          ∙ ap (λ l. xs ++ l) g.exchanges_are;
+      transcript = IsTranscript-append s h.entries g.entries h.transcript g.transcript;
+      reached = subst at (sym (state_after-append s h.entries g.entries)) g.reached;
+    }
+
+-- what holds of the state after a transcript, as what follows from it
+pub transcript_as : (s : State) (xs : List Exchange) (mid at : State → Type 0) → HasTranscript s xs mid
+    → ((t : State) → mid t → at t) → HasTranscript s xs at
+transcript_as s xs mid at h more = record {
+  entries = h.entries;
+  exchanges_are = h.exchanges_are;
+  transcript = h.transcript;
+  reached = more (state_after s h.entries) h.reached;
+}
 
 -- ---- fronts
 
@@ -96,23 +133,3 @@ up_to_stop-few (l ∷ ls) = by (is_stop l) (up_to_stop-few ls)
     by : (s : Bool) → length (up_to_stop ls) ≤ length ls → length (l ∷ cond s [] (up_to_stop ls)) ≤ length (l ∷ ls)
     by true h = omega arith
     by false h = omega (arith, h)
-
--- ---- at most one command is accepted by a line
-
-one_by : (b : Bool) → cond b 1 0 ≤ 1
-one_by true = omega arith
-one_by false = omega arith
-
-accepted_few : (c : Command) (r : Reply) → accepted c r ≤ 1
-accepted_few c r = one_by (writes c && is_done r)
-
-counts_one : (s : State) (l : LineMeaning) (said : LineReply) (after : State) → Follows s l said after → after.count ≤ s.count + 1
-counts_one s (Ok (Run c)) said after h =
-    omega (arith, ap (λ (t : State). t.count) h.after_is, accepted_few c (step s.tree c).1)
-counts_one s (Ok Walk) said after h = omega (arith, ap (λ (t : State). t.count) h.1)
-counts_one s (Ok Stop) said after h = omega (arith, ap (λ (t : State). t.count) h.1)
-counts_one s (Err refusal) said after h = omega (arith, ap (λ (t : State). t.count) h.1)
-
-pub counts_few : (s : State) (es : List Entry) → IsTranscript s es → (state_after s es).count ≤ s.count + length es
-counts_few s [] h = omega arith
-counts_few s (e ∷ es) h = omega (arith, counts_one s e.line e.said e.state h.0, counts_few e.state es h.1)

@@ -1,13 +1,18 @@
 -- The faults that end a run: their statuses and lines, and their causes.
-use Rattle.std.specs.Prelude.{◌≡◌, ℕ, ◌≤◌, List, [], ◌∷◌, ◌++◌, codes, Result, OnOk, IfErr}
+use Rattle.std.specs.Prelude.{◌≡◌, ℕ, ◌≤◌, List, [], ◌∷◌, ◌++◌, codes, decimal, Result, OnOk, IfErr}
 use Rattle.bd_io.specs.Cause.{Rose}
+use Rattle.bd_device.specs.declared.fault.ImageFault.{ImageFault}
+use Rattle.bd_device.specs.declared.fault.ImageFault.TheVariants as image
 use Rattle.bd_message.specs.Counters.{counter_name}
+use Rattle.bd_volume.specs.Faults.{image_fault_of}
+use Rattle.bd_volume.specs.declared.fault.Fault.{Fault as VolumeFault}
 use Rattle.betr.specs.declared.fault.Fault.{Fault}
-use Rattle.betr.specs.declared.fault.Fault.TheVariants.{Device, Source, Memory, TooLong, Worn, Sink}
+use Rattle.betr.specs.declared.fault.Fault.TheVariants.{Device, Damaged, Source, Memory, TooLong, Worn, Sink}
 
 -- the status that a fault ends the program with
 abbrev pub status_of : Fault → ℕ
 status_of Device = 3
+status_of (Damaged block) = 4
 status_of Source = 5
 status_of Memory = 6
 status_of TooLong = 7
@@ -17,31 +22,35 @@ status_of Sink = 9
 -- a fault's line; the sink's own fault has none
 abbrev pub fault_line : Fault → List ℕ
 fault_line Device = codes "fault device" ++ 10 ∷ []
+fault_line (Damaged block) = codes "fault damaged " ++ decimal block ++ 10 ∷ []
 fault_line Source = codes "fault source" ++ 10 ∷ []
 fault_line Memory = codes "fault memory" ++ 10 ∷ []
 fault_line TooLong = codes "fault too-long" ++ 10 ∷ []
 fault_line (Worn which) = codes "fault worn " ++ counter_name which ++ 10 ∷ []
 fault_line Sink = []
 
--- how often the outside has failed: the device, its writes and barriers, the source, the sink
+-- the fault of a run whose image isn't read or made
+abbrev pub fault_of_image : ImageFault → Fault
+fault_of_image image.DeviceFault = Device
+fault_of_image (image.Damaged block) = Damaged block
+fault_of_image image.NoMemory = Memory
+
+-- the volume's fault is one of an image
+abbrev pub IsOfImage : VolumeFault → Type 0
+IsOfImage fault = (cause : ImageFault) × (fault ≡ image_fault_of cause)
+
+-- how often the outside has failed: the device, also at a write or a barrier, the source, the sink
 pub record Faults : Type 0 where
   pub device : ℕ
-  pub writes : ℕ
   pub source : ℕ
   pub sink : ℕ
 
-abbrev pub faults : ℕ → ℕ → ℕ → ℕ → Faults
-faults device writes source sink = record {
-  device = device;
-  writes = writes;
-  source = source;
-  sink = sink;
-}
+abbrev pub faults : ℕ → ℕ → ℕ → Faults
+faults device source sink = record { device = device; source = source; sink = sink }
 
 -- no count falls
 pub record NeverFall (before now : Faults) : Type 0 where
   pub device : before.device ≤ now.device
-  pub writes : before.writes ≤ now.writes
   pub source : before.source ≤ now.source
   pub sink : before.sink ≤ now.sink
 
@@ -50,6 +59,7 @@ pub record NeverFall (before now : Faults) : Type 0 where
 abbrev pub Caused : Fault → Faults → Faults → Type 0
 Caused Device before now =
     Rose before.device now.device × (now ≡ record before { device = now.device })
+Caused (Damaged block) before now = now ≡ before
 Caused Source before now =
     Rose before.source now.source × (now ≡ record before { source = now.source })
 Caused Memory before now = now ≡ before
@@ -65,7 +75,7 @@ pub record IsCaused {T : Type 0} (before now : Faults) (result : Result T Fault)
 
 -- counts of the sink alone, and of source and sink
 abbrev pub of_sink : ℕ → Faults
-of_sink sink = faults 0 0 0 sink
+of_sink sink = faults 0 0 sink
 
 abbrev pub of_ends : ℕ → ℕ → Faults
-of_ends source sink = faults 0 0 source sink
+of_ends source sink = faults 0 source sink

@@ -4,5 +4,6 @@ pub mod Session
 pub mod Words
 pub mod Shell
 pub mod Taken
+pub mod Format
 pub mod Run
 pub mod Calls

@@ -1,5 +1,6 @@
 -- What a whole run says of its device, source and sink.
-use Rattle.std.specs.Prelude.{◌≡◌, ◌≢◌, ◌⊎◌, ℕ, ◌≤◌, List, [], ◌∷◌, ◌++◌, length, IfSome, IsSome, IsSomeAnd}
+use Rattle.std.specs.Prelude.{◌≡◌, ◌⊎◌, ℕ, ◌≤◌, List, [], ◌∷◌, ◌++◌, length, IfSome, IsSome, IsSomeAnd, ⊤}
+use Rattle.std.specs.List.{AllByRecursion}
 use Rattle.std.specs.Io.KnownBytes.{append_known, prepend_known}
 use Rattle.std.specs.declared.option.Option.{Option}
 use Rattle.std.specs.declared.option.Option.TheVariants.{None, Some}
@@ -7,38 +8,49 @@ use Rattle.bd_limits.specs.Limits.{script_limit}
 use Rattle.bd_io.specs.Cause.{Rose, next_count}
 use Rattle.bd_io.specs.Takes.{Takes}
 use Rattle.bd_io.specs.Written.{WrotePart}
+use Rattle.bd_model.specs.Tree.{Tree}
 use Rattle.bd_device.specs.Blocks.{Image}
 use Rattle.bd_device.specs.Memory.{MemoryDevice, attached_image, attached_size, held_image}
-use Rattle.bd_message.specs.declared.fault.Counter.TheVariants.{Count}
+use Rattle.bd_device.specs.declared.device.Device.{Ghosts}
+use Rattle.bd_slots.specs.Layout.{image_blocks}
+use Rattle.bd_view.specs.Views.{View}
+use Rattle.bd_engine.specs.Stored.{IsStoredView, HasSaved}
 use Rattle.betr.specs.declared.fault.Fault.{Fault}
-use Rattle.betr.specs.declared.fault.Fault.TheVariants.{Worn}
 use Rattle.betr.specs.declared.outcome.Ack.{Ack}
 use Rattle.betr.specs.Fault.{status_of, fault_line, Faults, Caused}
-use Rattle.betr.specs.Transcript.{Known, State, Entry, IsTranscript}
-use Rattle.betr.specs.Session.{Among, BeginsWith, TakenAt, Replied}
+use Rattle.betr.specs.Format.{SaysDone, HasNewImage}
+use Rattle.betr.specs.Transcript.{Known, State, state_at, Exchange, IsAnswered, HasTranscript, executed, lines_to_run}
+use Rattle.betr.specs.Session.{Among, BeginsWith, TakenAt, Replied, Tells}
+use Rattle.betr.specs.Shell.{IsStart}
 use Rattle.betr.specs.Taken.{Took}
-use Rattle.betr.specs.Words.{Call, Run}
+use Rattle.betr.specs.Words.{Call, Run, Format}
 
 -- the status of an end
 abbrev pub end_status : Option Fault → ℕ
 end_status None = 0
 end_status (Some e) = status_of e
 
--- what is told of source and sink at a moment: what is left of the script, how it was asked for,
--- what was written, the counts of faults
+-- what is told of the outside at a moment: what the device shows for the image's name, what is left
+-- of the script, how it was asked for, what was written, the counts of faults
 pub record Ends : Type 0 where
+  pub image : Option Image
   pub script : Known
   pub takes : Option Takes
   pub written : Known
   pub faults : Faults
 
-abbrev pub ends : Known → Option Takes → Known → Faults → Ends
-ends script takes written faults = record {
+abbrev pub ends : Option Image → Known → Option Takes → Known → Faults → Ends
+ends image script takes written faults = record {
+  image = image;
   script = script;
   takes = takes;
   written = written;
   faults = faults;
 }
+
+-- what is told before the last line is written, which only the sink gets
+abbrev pub before_last : Ends → Known → Faults → Ends
+before_last now written faults = record now { written = written; faults = faults }
 
 -- a line is written last: all of it, or a part where the sink's count rose; an empty one leaves the
 -- sink
@@ -58,30 +70,75 @@ WritesEnd (Some e) old new before now =
 abbrev pub IsFlushed : ℕ → ℕ → ℕ → Type 0
 IsFlushed waiting before now = (waiting ≡ 0) ⊎ Rose before now
 
--- how a run went: its one transcript, to which outcome, script, takes and what was written are tied,
--- with the counts of faults before the last line; the count of accepted commands is never worn
-pub record Went (start : State) (status : ℕ) (acks : List Ack) (before now : Ends) : Type 0 where
-  pub end : Option Fault
-  pub status_is : status ≡ end_status end
-  pub uncounted : end ≢ Some (Worn Count)
-  pub entries : List Entry
-  pub transcript : IsTranscript start entries
+-- ---- the transcript
+
+-- the state after the last line: damage never comes, a counter is worn by a next line of those taken
+-- and of the script, and where no fault came what is shown then has just the nodes saved that the
+-- view has
+pub record IsLast (end : Option Fault) (xs : List Exchange) (taken : List ℕ) (script : Known)
+    (shown : Option Image) (s : State) : Type 0 where
+  pub told : Tells end s (executed xs) (lines_to_run taken)
+  pub told_script : IfSome script (λ bytes. Tells end s (executed xs) (lines_to_run bytes))
+  pub saved : end ≡ None → IfSome shown (HasSaved s.view)
+
+-- from an image that stands for a tree the lines with their replies are those of one transcript,
+-- which begins at the view that the image stores
+pub record Transcribed (t : Tree) (n : ℕ) (image : Image) (end : Option Fault) (xs : List Exchange)
+    (taken : List ℕ) (script : Known) (shown : Option Image) : Type 0 where
+  pub first : View
+  pub first_is : IsStoredView image first
+  pub run : HasTranscript (state_at t n first) xs (IsLast end xs taken script shown)
+
+-- the lines that a run executed, each with its reply, to which script, takes and what was written
+-- are tied; where the image stands for a tree and has no open batch, these lines have their
+-- transcript
+pub record Ran (end : Option Fault) (before now : Ends) : Type 0 where
+  pub exchanges : List Exchange
+  pub answered : AllByRecursion IsAnswered exchanges
   pub front : List ℕ
   pub final : List ℕ
   pub taken : List ℕ
   pub taken_is : taken ≡ front ++ final
   pub script_is : before.script ≡ prepend_known taken now.script
   pub took : Took front final before.takes now.takes
-  pub begins : BeginsWith front entries
-  pub among_taken : Among end start taken entries
-  pub among_script : IfSome before.script (λ bytes. Among end start bytes entries)
-  pub taken_at : TakenAt end taken entries
+  pub begins : BeginsWith front exchanges
+  pub among_taken : Among end taken exchanges
+  pub among_script : IfSome before.script (λ bytes. Among end bytes exchanges)
+  pub taken_at : TakenAt end taken exchanges
+  pub replied : Replied end front taken exchanges before.written now.written
+  pub transcribed : (t : Tree) (n : ℕ) (image : Image) → before.image ≡ Some image
+      → IsStart t n image → Transcribed t n image end exchanges taken before.script now.image
+
+-- how a run went: what ended it, to which its status and its last line are tied, and what was
+-- executed, with the replies and the counts of faults before the last line
+pub record Went (status : ℕ) (acks : List Ack) (before now : Ends) : Type 0 where
+  pub end : Option Fault
+  pub status_is : status ≡ end_status end
   pub replies : Known
-  pub replied : Replied end front taken entries before.written replies
   pub ended : Faults
+  pub ran : Ran end before (before_last now replies ended)
   pub cause : IfSome end (λ e. Caused e before.faults ended)
   pub last : WritesEnd end replies now.written ended now.faults
   pub acked : acks ≡ []
+
+-- how making an image went: what ended it, to which its status, its reply and its last line are
+-- tied; the source stays as it was
+pub record Formatted (status : ℕ) (acks : List Ack) (before now : Ends) : Type 0 where
+  pub end : Option Fault
+  pub status_is : status ≡ end_status end
+  pub replies : Known
+  pub ended : Faults
+  pub script_stays : now.script ≡ before.script
+  pub takes_stay : now.takes ≡ before.takes
+  pub said : SaysDone end before.written replies
+  pub cause : IfSome end (λ e. Caused e before.faults ended)
+  pub last : WritesEnd end replies now.written ended now.faults
+  pub acked : acks ≡ []
+
+-- how a call went
+abbrev pub Does : Call → ℕ → List Ack → Ends → Ends → Type 0
+Does (Run image) status acks before now = Went status acks before now
+Does (Format image slots) status acks before now = Formatted status acks before now
 
 -- ---- the device
 
@@ -105,31 +162,48 @@ abbrev pub seen_in_memory : MemoryDevice → Seen
 seen_in_memory d =
     seen (Some (attached_image d)) (attached_size d) (λ _. Some (held_image d)) d.plan.calls
 
--- a device without blocks, which shows for the image what it showed
-pub record Detached (image : List ℕ) (before now : Seen) : Type 0 where
+-- one call was made, which failed, and the device has no blocks
+pub record IsDetached (status : ℕ) (before now : Seen) : Type 0 where
+  pub status_is : status ≡ 3
   pub blocks : now.blocks ≡ 0
-  pub after : now.shows image ≡ before.shows image
-
--- the image is attached as it is, by one call and no other; where it fails, the device is detached
-pub record OnlyAttaches (image : List ℕ) (status : ℕ) (before now : Seen) : Type 0 where
-  pub attached : status ≢ 3 → now.contents ≡ before.shows image
-  pub detached : status ≡ 3 → Detached image before now
   pub once : now.calls ≡ next_count before.calls
 
--- what a call does with the device
-abbrev pub Uses : Call → ℕ → Seen → Seen → Type 0
-Uses (Run image) status before now = OnlyAttaches image status before now
+-- what a call does with the device: the image is attached, and goes by its name then, or where that
+-- fails nothing else is done, and a run leaves the image that it was to use
+abbrev pub Uses : Call → ℕ → Seen → Seen → Type 0 → Type 0 → Type 0
+Uses (Run image) status before now named untaken =
+    named ⊎ (IsDetached status before now × (now.shows image ≡ before.shows image) × untaken)
+Uses (Format image slots) status before now named untaken =
+    (named ⊎ IsDetached status before now) × untaken
 
 -- the image that a call names
 abbrev pub image_of : Call → List ℕ
 image_of (Run image) = image
+image_of (Format image slots) = image
+
+-- what else is said of a call's device: no write of a run failed that ends well, and a format that
+-- ends well or by the sink has made an image of so many slots, whatever there was
+abbrev pub Makes : {D : Type 0} → Ghosts D → Call → ℕ → D → D → Type 0
+Makes g (Run image) status old new =
+    status ≡ 0 → g.write_fault_count new ≡ g.write_fault_count old
+Makes g (Format image slots) status old new = (status ≡ 0) ⊎ (status ≡ 9)
+    → (g.block_count new ≡ image_blocks slots) × (IsSome (g.contents old) → HasNewImage g new)
 
 -- ---- where nothing fails
 
--- the words are right, the outside doesn't fail, and the script is known and isn't too long
-pub record IsFaultless (call : Option Call) (script : Known) (before now : Faults) : Type 0 where
-  pub called : IsSome call
-  pub short : IsSomeAnd script (λ bytes. length bytes ≤ script_limit)
+-- the image stands for a tree and has no open batch
+abbrev pub HasStart : Image → Type 0
+HasStart image = (t : Tree) × (n : ℕ) × IsStart t n image
+
+-- what a call takes is there: for a run an image that is known and has a tree, and a script that is
+-- known and isn't too long
+abbrev pub IsReady : Call → Option Image → Known → Type 0
+IsReady (Run image) shown script =
+    IsSomeAnd shown HasStart × IsSomeAnd script (λ bytes. length bytes ≤ script_limit)
+IsReady (Format image slots) shown script = ⊤
+
+-- the outside doesn't fail
+pub record IsFaultless (before now : Faults) : Type 0 where
   pub device : ¬ Rose before.device now.device
   pub source : ¬ Rose before.source now.source
   pub sink : ¬ Rose before.sink now.sink

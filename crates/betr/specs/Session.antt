@@ -1,6 +1,6 @@
 -- What a session does with the lines of a script, and how it ends.
-use Rattle.std.specs.Prelude.{◌≡◌, ◌⊎◌, ℕ, ◌+◌, ◌≤◌, false, List, [], ◌∷◌, ◌++◌, length, take, IfSome, IsNone}
-use Rattle.std.specs.List.{list_any}
+use Rattle.std.specs.Prelude.{◌≡◌, ◌⊎◌, ℕ, ◌+◌, ◌^◌, ◌≤◌, false, List, [], ◌∷◌, ◌++◌, length, take, IfSome, IsNone, IsSome, ⊤}
+use Rattle.std.specs.List.{list_any, AllByRecursion}
 use Rattle.std.specs.Io.KnownBytes.{append_known, prepend_known}
 use Rattle.std.specs.declared.option.Option.{Option}
 use Rattle.std.specs.declared.option.Option.TheVariants.{None, Some}
@@ -11,16 +11,18 @@ use Rattle.bd_io.specs.Takes.{Takes}
 use Rattle.bd_io.specs.Written.{WrotePart}
 use Rattle.bd_command.specs.declared.Command.{Command}
 use Rattle.bd_message.specs.declared.fault.Counter.{Counter}
+use Rattle.bd_message.specs.declared.fault.Counter.TheVariants.{Epoch}
 use Rattle.bd_model.specs.Step.{refusal_of}
 use Rattle.bd_script.specs.Lines.{LineMeaning, is_stop}
 use Rattle.bd_script.specs.Replies.{line_reply_line}
-use Rattle.bd_script.specs.declared.line.Line.TheVariants.{Run}
-use Rattle.bd_view.specs.Trees.{TreeView, HasFlushed}
-use Rattle.bd_memvolume.specs.Views.{Wears}
+use Rattle.bd_script.specs.declared.line.Line.TheVariants.{Run, Walk, Df, Checkpoint, Reclaim, Stop}
+use Rattle.bd_view.specs.Views.{View, free_slots, save_slots}
+use Rattle.bd_view.specs.Moves.{HasStepped}
+use Rattle.bd_volume.specs.Wears.{Wears, HasBegunReclaiming, WearsReclaiming}
 use Rattle.betr.specs.declared.fault.Fault.{Fault}
-use Rattle.betr.specs.declared.fault.Fault.TheVariants.{Device, Source, Memory, TooLong, Worn, Sink}
+use Rattle.betr.specs.declared.fault.Fault.TheVariants.{Device, Damaged, Source, Memory, TooLong, Worn, Sink}
 use Rattle.betr.specs.Taken.{Took}
-use Rattle.betr.specs.Transcript.{Known, State, Entry, IsTranscript, text, executed, state_after, meanings, lines_to_run, IsFront}
+use Rattle.betr.specs.Transcript.{Known, State, with_view, Exchange, IsAnswered, HasTranscript, text, executed, meanings, lines_to_run, IsFront}
 
 -- how a session ends: by a fault, or with the script
 abbrev pub end_of : {T : Type 0} → Result T Fault → Option Fault
@@ -29,146 +31,209 @@ end_of (Err e) = Some e
 
 -- ---- some lines
 
--- from a state on these lines were executed and their replies written; `at` holds of the state then
-pub record Executes (from : State) (lines : List LineMeaning) (at : State → Type 0)
-    (old new : Known) : Type 0 where
-  pub entries : List Entry
-  pub transcript : IsTranscript from entries
-  pub lines_are : executed entries ≡ lines
-  pub reached : at (state_after from entries)
-  pub written : new ≡ append_known old (text entries)
+-- these lines were executed and their replies written, whatever the volume stands for; from each
+-- state at which `first` holds they have a transcript, after which `last` holds
+pub record Executes (first last : State → Type 0) (lines : List LineMeaning) (old new : Known)
+    : Type 0 where
+  pub exchanges : List Exchange
+  pub answered : AllByRecursion IsAnswered exchanges
+  pub lines_are : executed exchanges ≡ lines
+  pub written : new ≡ append_known old (text exchanges)
+  pub runs : (s : State) → first s → HasTranscript s exchanges last
 
 -- of these lines some were executed, from the first on, and a next one was there
 pub record HasNext (next : LineMeaning) (done lines : List LineMeaning) : Type 0 where
   pub rest : List LineMeaning
   pub lines_are : lines ≡ done ++ next ∷ rest
 
--- the line is a writing command that the tree accepts; flush steps for it lead from the state's view
--- to the one that is left, and a counter has no room for what is next
-pub record WornBy (which : Counter) (s : State) (line : LineMeaning) : Type 0 where
-  pub command : Command
-  pub line_is : line ≡ Ok (Run command)
-  pub accepted : IsNone (refusal_of s.tree command)
-  pub left : TreeView
-  pub wears : Wears which s.count command s.view left
+-- ---- what a fault of a line leaves
 
--- the state with another view
-abbrev pub with_view : State → TreeView → State
-with_view s view = record { tree = s.tree; count = s.count; view = view }
+-- a command that the tree refuses leaves the view, and another one flush steps and checkpoints,
+-- at most 65,536 steps
+pub record IsLeftByCommand (c : Command) (s : State) (left : View) : Type 0 where
+  pub stepped : HasStepped c s.view left
+  pub refused : IsSome (refusal_of s.tree c) → left ≡ s.view
 
--- what a fault of a line leaves: at most 65,536 flush steps of one command were made, and nothing
--- else
-pub record Leaves (s : State) (at : State → Type 0) : Type 0 where
-  pub command : Command
-  pub left : TreeView
-  pub flushed : HasFlushed command s.view left
+-- what a fault of a line leaves of the view
+abbrev pub IsLeftBy : LineMeaning → State → View → Type 0
+IsLeftBy (Ok (Run c)) s left = IsLeftByCommand c s left
+IsLeftBy (Ok Walk) s left = left ≡ s.view
+IsLeftBy (Ok Df) s left = left ≡ s.view
+IsLeftBy (Ok Checkpoint) s left = left ≡ s.view
+IsLeftBy (Ok Reclaim) s left = HasBegunReclaiming s.view left
+IsLeftBy (Ok Stop) s left = left ≡ s.view
+IsLeftBy (Err refusal) s left = left ≡ s.view
+
+-- a fault of a line leaves tree and count, and this of the view; `at` holds of the state then
+pub record LeavesBy (line : LineMeaning) (s : State) (at : State → Type 0) : Type 0 where
+  pub left : View
+  pub by : IsLeftBy line s left
   pub reached : at (with_view s left)
+
+-- so does a fault of some line
+abbrev pub Leaves : State → (State → Type 0) → Type 0
+Leaves s at = (line : LineMeaning) × LeavesBy line s at
+
+-- ---- worn counters
+
+-- the tree accepts a writing command; steps of it lead from the state's view to the one that is
+-- left, and a counter has no room for what is next
+pub record WornByCommand (which : Counter) (s : State) (c : Command) (left : View) : Type 0 where
+  pub accepted : IsNone (refusal_of s.tree c)
+  pub wears : Wears which s.count c s.view left
+
+-- slots are free for a checkpoint, and the epoch has no room for it
+pub record WornByCheckpoint (which : Counter) (s : State) (left : View) : Type 0 where
+  pub counter_is : which ≡ Epoch
+  pub room : save_slots s.view ≤ free_slots s.view
+  pub worn : 2 ^ 64 ≤ s.view.epoch + 1
+  pub left_is : left ≡ s.view
+
+-- the line leads from the state's view to the one that is left, and a counter has no room for what
+-- is next
+abbrev pub WornBy : Counter → State → LineMeaning → View → Type 0
+WornBy which s (Ok (Run c)) left = WornByCommand which s c left
+WornBy which s (Ok Walk) left = ⊥
+WornBy which s (Ok Df) left = ⊥
+WornBy which s (Ok Checkpoint) left = WornByCheckpoint which s left
+WornBy which s (Ok Reclaim) left = WearsReclaiming which s.view left
+WornBy which s (Ok Stop) left = ⊥
+WornBy which s (Err refusal) left = ⊥
+
+-- of these lines a next one wore the counter
+pub record WornByNext (which : Counter) (s : State) (done lines : List LineMeaning) : Type 0 where
+  pub next : LineMeaning
+  pub has : HasNext next done lines
+  pub left : View
+  pub worn : WornBy which s next left
 
 -- ---- what an end leaves of the lines
 
+-- nothing was executed, or a next line was there
+abbrev pub IsAtLine : List Exchange → List LineMeaning → Type 0
+IsAtLine xs lines = (xs ≡ []) ⊎ ((next : LineMeaning) × HasNext next (executed xs) lines)
+
 -- how the executed lines stand to those of some bytes
-abbrev pub Among : Option Fault → State → List ℕ → List Entry → Type 0
-Among None s bytes es = executed es ≡ lines_to_run bytes
-Among (Some Device) s bytes es = es ≡ []
-Among (Some Source) s bytes es = IsFront (executed es) (lines_to_run bytes)
-Among (Some Memory) s bytes es =
-    (es ≡ []) ⊎ ((next : LineMeaning) × HasNext next (executed es) (lines_to_run bytes))
-Among (Some TooLong) s bytes es = IsFront (executed es) (lines_to_run bytes)
-Among (Some (Worn which)) s bytes es =
-    (next : LineMeaning) × HasNext next (executed es) (lines_to_run bytes)
-    × WornBy which (state_after s es) next
-Among (Some Sink) s bytes es = IsFront (executed es) (lines_to_run bytes)
+abbrev pub Among : Option Fault → List ℕ → List Exchange → Type 0
+Among None bytes xs = executed xs ≡ lines_to_run bytes
+Among (Some Device) bytes xs = IsAtLine xs (lines_to_run bytes)
+Among (Some (Damaged block)) bytes xs = IsAtLine xs (lines_to_run bytes)
+Among (Some Source) bytes xs = IsFront (executed xs) (lines_to_run bytes)
+Among (Some Memory) bytes xs = IsAtLine xs (lines_to_run bytes)
+Among (Some TooLong) bytes xs = IsFront (executed xs) (lines_to_run bytes)
+Among (Some (Worn which)) bytes xs =
+    (next : LineMeaning) × HasNext next (executed xs) (lines_to_run bytes)
+Among (Some Sink) bytes xs = IsFront (executed xs) (lines_to_run bytes)
 
 -- all lines that are complete in these bytes were executed, and none of them is `stop`
-pub record AllComplete (bytes : List ℕ) (es : List Entry) : Type 0 where
-  pub lines_are : executed es ≡ meanings bytes
-  pub no_stop : list_any is_stop (executed es) ≡ false
+pub record AllComplete (bytes : List ℕ) (xs : List Exchange) : Type 0 where
+  pub lines_are : executed xs ≡ meanings bytes
+  pub no_stop : list_any is_stop (executed xs) ≡ false
 
 -- the lines that are complete in these bytes were executed before all others, and none of them is
 -- `stop`
-pub record BeginsWith (bytes : List ℕ) (es : List Entry) : Type 0 where
+pub record BeginsWith (bytes : List ℕ) (xs : List Exchange) : Type 0 where
   pub rest : List LineMeaning
-  pub lines_are : executed es ≡ meanings bytes ++ rest
+  pub lines_are : executed xs ≡ meanings bytes ++ rest
   pub no_stop : list_any is_stop (meanings bytes) ≡ false
 
 -- what was taken of the script when a session ends
-abbrev pub TakenAt : Option Fault → List ℕ → List Entry → Type 0
-TakenAt None taken es = length taken ≤ script_limit
-TakenAt (Some Device) taken es = taken ≡ []
-TakenAt (Some Source) taken es = (length taken ≤ script_limit) × AllComplete taken es
-TakenAt (Some Memory) taken es = length taken ≤ script_limit
-TakenAt (Some TooLong) taken es =
-    (length taken ≡ script_limit + 1) × AllComplete (take script_limit taken) es
-TakenAt (Some (Worn which)) taken es = length taken ≤ script_limit
-TakenAt (Some Sink) taken es = length taken ≤ script_limit
+abbrev pub TakenAt : Option Fault → List ℕ → List Exchange → Type 0
+TakenAt None taken xs = length taken ≤ script_limit
+TakenAt (Some Device) taken xs = length taken ≤ script_limit
+TakenAt (Some (Damaged block)) taken xs = length taken ≤ script_limit
+TakenAt (Some Source) taken xs = (length taken ≤ script_limit) × AllComplete taken xs
+TakenAt (Some Memory) taken xs = length taken ≤ script_limit
+TakenAt (Some TooLong) taken xs =
+    (length taken ≡ script_limit + 1) × AllComplete (take script_limit taken) xs
+TakenAt (Some (Worn which)) taken xs = length taken ≤ script_limit
+TakenAt (Some Sink) taken xs = length taken ≤ script_limit
 
 -- ---- what an end leaves of the replies
 
 -- all replies but the last were written, and of that one a part
-pub record IsCutShort (es : List Entry) (old new : Known) : Type 0 where
-  pub front : List Entry
-  pub last : Entry
-  pub entries_are : es ≡ front ++ last ∷ []
+pub record IsCutShort (xs : List Exchange) (old new : Known) : Type 0 where
+  pub front : List Exchange
+  pub last : Exchange
+  pub exchanges_are : xs ≡ front ++ last ∷ []
   pub part : WrotePart (line_reply_line last.said) (append_known old (text front)) new
 
 -- a reply was cut short, and those of the lines that are complete in these bytes were written before
-pub record IsCutAfter (bytes : List ℕ) (es : List Entry) (old new : Known) : Type 0 where
-  pub cut : IsCutShort es old new
+pub record IsCutAfter (bytes : List ℕ) (xs : List Exchange) (old new : Known) : Type 0 where
+  pub cut : IsCutShort xs old new
   pub begins : BeginsWith bytes cut.front
 
 -- all replies were written, and the sink didn't pass them on: before a take, when all lines that are
 -- complete in what was taken were executed, or at the end
-pub record IsKeptBack (taken : List ℕ) (es : List Entry) (old new : Known) : Type 0 where
-  pub written : new ≡ append_known old (text es)
-  pub lines_are : AllComplete taken es ⊎ (executed es ≡ lines_to_run taken)
+pub record IsKeptBack (taken : List ℕ) (xs : List Exchange) (old new : Known) : Type 0 where
+  pub written : new ≡ append_known old (text xs)
+  pub lines_are : AllComplete taken xs ⊎ (executed xs ≡ lines_to_run taken)
 
 -- what was written of the replies when a session ends, which took `front` before its last take, and
 -- `taken` in all
 abbrev pub Replied :
-    Option Fault → List ℕ → List ℕ → List Entry → Known → Known → Type 0
-Replied None front taken es old new = new ≡ append_known old (text es)
-Replied (Some Device) front taken es old new = new ≡ append_known old (text es)
-Replied (Some Source) front taken es old new = new ≡ append_known old (text es)
-Replied (Some Memory) front taken es old new = new ≡ append_known old (text es)
-Replied (Some TooLong) front taken es old new = new ≡ append_known old (text es)
-Replied (Some (Worn which)) front taken es old new = new ≡ append_known old (text es)
-Replied (Some Sink) front taken es old new =
-    IsCutAfter front es old new ⊎ IsKeptBack taken es old new
+    Option Fault → List ℕ → List ℕ → List Exchange → Known → Known → Type 0
+Replied None front taken xs old new = new ≡ append_known old (text xs)
+Replied (Some Device) front taken xs old new = new ≡ append_known old (text xs)
+Replied (Some (Damaged block)) front taken xs old new = new ≡ append_known old (text xs)
+Replied (Some Source) front taken xs old new = new ≡ append_known old (text xs)
+Replied (Some Memory) front taken xs old new = new ≡ append_known old (text xs)
+Replied (Some TooLong) front taken xs old new = new ≡ append_known old (text xs)
+Replied (Some (Worn which)) front taken xs old new = new ≡ append_known old (text xs)
+Replied (Some Sink) front taken xs old new =
+    IsCutAfter front xs old new ⊎ IsKeptBack taken xs old new
 
--- ---- a whole session
+-- ---- what an end tells of the state
+
+-- what is told of the state before a fault's line: damage never comes, and a counter is worn by a
+-- next one of these lines
+abbrev pub Tells : Option Fault → State → List LineMeaning → List LineMeaning → Type 0
+Tells None s done lines = ⊤
+Tells (Some Device) s done lines = ⊤
+Tells (Some (Damaged block)) s done lines = ⊥
+Tells (Some Source) s done lines = ⊤
+Tells (Some Memory) s done lines = ⊤
+Tells (Some TooLong) s done lines = ⊤
+Tells (Some (Worn which)) s done lines = WornByNext which s done lines
+Tells (Some Sink) s done lines = ⊤
 
 -- `at` holds of the state after the executed lines, or of what a fault of a next line leaves of it
 abbrev pub Ends : Option Fault → State → (State → Type 0) → Type 0
 Ends None s at = at s
-Ends (Some Device) s at = at s
+Ends (Some Device) s at = Leaves s at
+Ends (Some (Damaged block)) s at = ⊥
 Ends (Some Source) s at = at s
 Ends (Some Memory) s at = Leaves s at
 Ends (Some TooLong) s at = at s
 Ends (Some (Worn which)) s at = Leaves s at
 Ends (Some Sink) s at = at s
 
--- from a state on: the one transcript of a session, which took `front` before its last take, and
--- `taken` in all; its lines among those taken and those of the script, its replies; `at` holds at the
--- end
-pub record RunsFrom (end : Option Fault) (from : State) (at : State → Type 0)
-    (front taken : List ℕ) (script old new : Known) : Type 0 where
-  pub entries : List Entry
-  pub transcript : IsTranscript from entries
-  pub begins : BeginsWith front entries
-  pub among_taken : Among end from taken entries
-  pub among_script : IfSome script (λ bytes. Among end from bytes entries)
-  pub taken_at : TakenAt end taken entries
-  pub reached : Ends end (state_after from entries) at
-  pub replied : Replied end front taken entries old new
+-- ---- a whole session
+
+-- the state after the lines of a session, by those of what was taken and of the script
+pub record EndsIn (end : Option Fault) (xs : List Exchange) (taken : List ℕ) (script : Known)
+    (at : State → Type 0) (s : State) : Type 0 where
+  pub told : Tells end s (executed xs) (lines_to_run taken)
+  pub told_script : IfSome script (λ bytes. Tells end s (executed xs) (lines_to_run bytes))
+  pub reached : Ends end s at
 
 -- a session with a script, of which `script` is left of the source before and `rest` after, and how
--- it was asked for: from each state at which the session may begin
+-- it was asked for: its lines with their replies, among the lines that were taken and those of the
+-- script; from each state at which it may begin they have one transcript
 pub record Session (end : Option Fault) (first last : State → Type 0) (script rest : Known)
     (before now : Option Takes) (old new : Known) : Type 0 where
+  pub exchanges : List Exchange
+  pub answered : AllByRecursion IsAnswered exchanges
   pub front : List ℕ
   pub final : List ℕ
   pub taken : List ℕ
   pub taken_is : taken ≡ front ++ final
   pub script_is : script ≡ prepend_known taken rest
   pub took : Took front final before now
-  pub runs : (s : State) → first s → RunsFrom end s last front taken script old new
+  pub begins : BeginsWith front exchanges
+  pub among_taken : Among end taken exchanges
+  pub among_script : IfSome script (λ bytes. Among end bytes exchanges)
+  pub taken_at : TakenAt end taken exchanges
+  pub replied : Replied end front taken exchanges old new
+  pub runs : (s : State) → first s
+      → HasTranscript s exchanges (EndsIn end exchanges taken script last)

@@ -1,70 +1,180 @@
 -- What a run does, line by line.
-use Rattle.std.specs.Prelude.{◌≡◌, ℕ, ◌+◌, ◌*◌, ◌≤◌, Bool, true, false, ◌&&◌, List, [], ◌∷◌, ◌++◌, map, MatchBool, ⊤}
+use Rattle.std.specs.Prelude.{◌≡◌, ℕ, ◌+◌, ◌*◌, ◌<◌, ◌≤◌, Bool, true, false, ◌&&◌, List, [], ◌∷◌, ◌++◌, map, MatchBool, IsNone, ⊤}
 use Rattle.std.specs.List.{flat_map}
 use Rattle.std.specs.declared.option.Option.{Option}
 use Rattle.std.specs.declared.result.Result.TheVariants.{Ok, Err}
-use Rattle.bd_command.specs.Command.{writes, is_done, accepted, IsCommand}
+use Rattle.bd_command.specs.Command.{writes, is_done, accepted, IsCommand, IsReply}
 use Rattle.bd_command.specs.declared.Command.{Command}
 use Rattle.bd_command.specs.declared.reply.Reply.{Reply}
 use Rattle.bd_dirs.specs.Kinds.{Kind, Reads, Sends, SendsLate, Grafts, kind_of}
 use Rattle.bd_graft.specs.declared.grafting.Walk.{Walk as WalkTaken}
-use Rattle.bd_node.specs.Tables.{root_at}
 use Rattle.bd_represent.specs.Represents.{Represents}
-use Rattle.bd_model.specs.Tree.{Tree, IsTree, root_only}
-use Rattle.bd_model.specs.Step.{step}
+use Rattle.bd_model.specs.Tree.{Tree, IsTree}
+use Rattle.bd_model.specs.Step.{step, refusal_of}
 use Rattle.bd_script.specs.Lines.{LineMeaning, line_of, lines_of, whole_lines, up_to_stop}
 use Rattle.bd_script.specs.Replies.{line_reply_line}
-use Rattle.bd_script.specs.declared.line.Line.TheVariants.{Run, Walk, Stop}
+use Rattle.bd_script.specs.declared.line.Line.TheVariants.{Run, Walk, Df, Checkpoint, Reclaim, Stop}
 use Rattle.bd_script.specs.declared.replies.LineReply.{LineReply}
 use Rattle.bd_script.specs.declared.replies.LineReply.TheVariants as reply
-use Rattle.bd_view.specs.Trees.{TreeView, fresh_tree}
-use Rattle.bd_memvolume.specs.Views.{IsMoved}
+use Rattle.bd_view.specs.Views.{View, keys_of, free_slots}
+use Rattle.bd_view.specs.Moves.{IsExecuted, Saves, IsCommandFull, IsCheckpointFull}
+use Rattle.bd_view.specs.Reclaiming.{IsReclaim, IsReclaimFull}
 
 -- bytes, where they are known
 abbrev pub Known : Type 0
 Known = Option (List ℕ)
 
--- where a run stands: the tree, how many commands were accepted, and the nodes that keep the tree,
--- with how the last clone or rename went
+-- ---- what is executed, whatever the image is
+
+-- a line that was executed, and its reply
+pub record Exchange : Type 0 where
+  pub line : LineMeaning
+  pub said : LineReply
+
+-- the replies that a command may get, and which can be written
+abbrev pub IsCommandReply : LineReply → Type 0
+IsCommandReply (reply.Command r) = IsReply r
+IsCommandReply (reply.Unread refusal) = ⊥
+IsCommandReply (reply.Walk visits height) = ⊥
+IsCommandReply reply.Done = ⊥
+IsCommandReply (reply.Free free slots) = ⊥
+IsCommandReply (reply.Full free need) = free < need
+IsCommandReply reply.Stopped = ⊥
+
+-- the replies that `checkpoint` and `reclaim` may get
+abbrev pub IsDoneOrFull : LineReply → Type 0
+IsDoneOrFull (reply.Command r) = ⊥
+IsDoneOrFull (reply.Unread refusal) = ⊥
+IsDoneOrFull (reply.Walk visits height) = ⊥
+IsDoneOrFull reply.Done = ⊤
+IsDoneOrFull (reply.Free free slots) = ⊥
+IsDoneOrFull (reply.Full free need) = free < need
+IsDoneOrFull reply.Stopped = ⊥
+
+-- the reply of `walk`, with some numbers
+abbrev pub IsWalkReply : LineReply → Type 0
+IsWalkReply said = (visits : ℕ) × (height : ℕ) × (said ≡ reply.Walk visits height)
+
+-- the reply of `df`, with some numbers
+abbrev pub IsFreeReply : LineReply → Type 0
+IsFreeReply said = (free : ℕ) × (slots : ℕ) × (free ≤ slots) × (said ≡ reply.Free free slots)
+
+-- the replies that a line may get on any device
+abbrev pub MayGet : LineMeaning → LineReply → Type 0
+MayGet (Ok (Run c)) said = IsCommandReply said
+MayGet (Ok Walk) said = IsWalkReply said
+MayGet (Ok Df) said = IsFreeReply said
+MayGet (Ok Checkpoint) said = IsDoneOrFull said
+MayGet (Ok Reclaim) said = IsDoneOrFull said
+MayGet (Ok Stop) said = said ≡ reply.Stopped
+MayGet (Err refusal) said = said ≡ reply.Unread refusal
+
+abbrev pub IsAnswered : Exchange → Type 0
+IsAnswered x = MayGet x.line x.said
+
+-- what is written of the replies
+abbrev pub text : List Exchange → List ℕ
+text xs = flat_map (λ x. line_reply_line x.said) xs
+
+-- the lines that were executed
+abbrev pub executed : List Exchange → List LineMeaning
+executed xs = map (λ x. x.line) xs
+
+-- ---- where a run stands
+
+-- the tree, how many commands were accepted, and the view: the nodes that keep the tree, with how
+-- the last clone or rename went, and the numbers of slots and of the log
 pub record State : Type 0 where
   pub tree : Tree
   pub count : ℕ
-  pub view : TreeView
+  pub view : View
 
--- the state that a run begins at: the tree of `/` alone in one node, and nothing accepted
-abbrev pub first_state : State
-first_state = record { tree = root_only; count = 0; view = fresh_tree }
+-- the state of a tree, a count and a view
+abbrev pub state_at : Tree → ℕ → View → State
+state_at t n view = record { tree = t; count = n; view = view }
+
+-- the state with another view
+abbrev pub with_view : State → View → State
+with_view s view = record { tree = s.tree; count = s.count; view = view }
 
 -- the state after a command, with a view
-abbrev pub state_of_step : State → Command → TreeView → State
+abbrev pub state_of_step : State → Command → View → State
 state_of_step s c view = record {
   tree = (step s.tree c).0;
   count = s.count + accepted c (step s.tree c).1;
   view = view;
 }
 
--- a writing command that is accepted moves the view, and every other reply leaves it
-abbrev pub Moves : Tree → Command → Reply → TreeView → TreeView → Type 0
-Moves t c said old new = MatchBool (writes c && is_done said) (IsMoved t c old new) (new ≡ old)
+-- ---- what a line does
 
--- a command within its limits takes the model's step, and the nodes after it represent the tree
-pub record Steps (s : State) (c : Command) (said : LineReply) (after : State) : Type 0 where
+-- a writing command that is accepted moves the view, and every other reply leaves it
+abbrev pub Moves : Tree → Command → Reply → View → View → Type 0
+Moves t c r old new = MatchBool (writes c && is_done r) (IsExecuted t c old new) (new ≡ old)
+
+-- a command within its limits takes the model's step
+pub record Steps (s : State) (c : Command) (r : Reply) (after : State) : Type 0 where
   pub limits : IsCommand c
-  pub said_is : said ≡ reply.Command (step s.tree c).1
+  pub said_is : r ≡ (step s.tree c).1
   pub after_is : after ≡ state_of_step s c after.view
   pub moved : Moves s.tree c (step s.tree c).1 s.view after.view
-  pub represents : Represents (root_at after.view.nodes after.view.table) after.tree
+
+-- too few slots are free for a command that the tree accepts; tree and count stay
+pub record Fills (s : State) (c : Command) (free need : ℕ) (after : State) : Type 0 where
+  pub limits : IsCommand c
+  pub accepted : IsNone (refusal_of s.tree c)
+  pub after_is : after ≡ with_view s after.view
+  pub full : IsCommandFull c s.view after.view free need
+
+-- a command's reply and the state after it
+abbrev pub Answers : State → Command → LineReply → State → Type 0
+Answers s c (reply.Command r) after = Steps s c r after
+Answers s c (reply.Unread refusal) after = ⊥
+Answers s c (reply.Walk visits height) after = ⊥
+Answers s c reply.Done after = ⊥
+Answers s c (reply.Free free slots) after = ⊥
+Answers s c (reply.Full free need) after = Fills s c free need after
+Answers s c reply.Stopped after = ⊥
+
+-- the view is moved so or, where too few slots are free, so; tree and count stay
+abbrev pub Serves : (View → View → Type 0) → (ℕ → ℕ → View → View → Type 0) → State → LineReply
+    → State → Type 0
+Serves moves fills s (reply.Command r) after = ⊥
+Serves moves fills s (reply.Unread refusal) after = ⊥
+Serves moves fills s (reply.Walk visits height) after = ⊥
+Serves moves fills s reply.Done after =
+    moves s.view after.view × (after ≡ with_view s after.view)
+Serves moves fills s (reply.Free free slots) after = ⊥
+Serves moves fills s (reply.Full free need) after =
+    fills free need s.view after.view × (after ≡ with_view s after.view)
+Serves moves fills s reply.Stopped after = ⊥
+
+-- a checkpoint that is refused leaves the view
+abbrev pub FillsCheckpoint : ℕ → ℕ → View → View → Type 0
+FillsCheckpoint free need old new = IsCheckpointFull old free need × (new ≡ old)
+
+-- reclaiming that is refused leaves the changes that were made
+abbrev pub FillsReclaim : ℕ → ℕ → View → View → Type 0
+FillsReclaim free need old new = IsReclaimFull old free need new
 
 -- what is said of a walk
 abbrev pub told : WalkTaken → LineReply
 told walk = reply.Walk walk.visits walk.height
 
+-- what is said of the slots
+abbrev pub told_free : View → LineReply
+told_free v = reply.Free (free_slots v) v.slots
+
 -- a line's reply and the state after it follow from the state before it
 abbrev pub Follows : State → LineMeaning → LineReply → State → Type 0
-Follows s (Ok (Run c)) said after = Steps s c said after
-Follows s (Ok Walk) said after = (said ≡ told s.view.walk) × (after ≡ s)
+Follows s (Ok (Run c)) said after = Answers s c said after
+Follows s (Ok Walk) said after = (said ≡ told s.view.tree.walk) × (after ≡ s)
+Follows s (Ok Df) said after = (said ≡ told_free s.view) × (after ≡ s)
+Follows s (Ok Checkpoint) said after = Serves Saves FillsCheckpoint s said after
+Follows s (Ok Reclaim) said after = Serves IsReclaim FillsReclaim s said after
 Follows s (Ok Stop) said after = (said ≡ reply.Stopped) × (after ≡ s)
 Follows s (Err refusal) said after = (said ≡ reply.Unread refusal) × (after ≡ s)
+
+-- ---- transcripts
 
 -- an executed line, its reply, and the state after it
 pub record Entry : Type 0 where
@@ -72,23 +182,35 @@ pub record Entry : Type 0 where
   pub said : LineReply
   pub state : State
 
+-- the entry follows from the state before it, and the nodes of its view represent its tree
+pub record Continues (s : State) (e : Entry) : Type 0 where
+  pub follows : Follows s e.line e.said e.state
+  pub represents : Represents (keys_of e.state.view) e.state.tree
+
 -- each entry follows from the state before it
 abbrev pub IsTranscript : State → List Entry → Type 0
 IsTranscript s [] = ⊤
-IsTranscript s (e ∷ es) = Follows s e.line e.said e.state × IsTranscript e.state es
+IsTranscript s (e ∷ es) = Continues s e × IsTranscript e.state es
 
--- what is written of a transcript
-abbrev pub text : List Entry → List ℕ
-text es = flat_map (λ e. line_reply_line e.said) es
+-- the line of an entry, with its reply
+abbrev pub exchange_of : Entry → Exchange
+exchange_of e = record { line = e.line; said = e.said }
 
--- the lines that were executed
-abbrev pub executed : List Entry → List LineMeaning
-executed es = map (λ e. e.line) es
+-- the lines of a transcript, with their replies
+abbrev pub exchanges_of : List Entry → List Exchange
+exchanges_of es = map exchange_of es
 
 -- the state after a transcript
 abbrev pub state_after : State → List Entry → State
 state_after s [] = s
 state_after s (e ∷ es) = state_after e.state es
+
+-- from a state on these lines got these replies, by one transcript; `at` holds of the state then
+pub record HasTranscript (s : State) (xs : List Exchange) (at : State → Type 0) : Type 0 where
+  pub entries : List Entry
+  pub exchanges_are : exchanges_of entries ≡ xs
+  pub transcript : IsTranscript s entries
+  pub reached : at (state_after s entries)
 
 -- ---- the lines of a script
 
@@ -110,6 +232,9 @@ IsFront {A} xs ys = (rest : List A) × (ys ≡ xs ++ rest)
 abbrev pub IsLimited : LineMeaning → Type 0
 IsLimited (Ok (Run c)) = IsCommand c
 IsLimited (Ok Walk) = ⊤
+IsLimited (Ok Df) = ⊤
+IsLimited (Ok Checkpoint) = ⊤
+IsLimited (Ok Reclaim) = ⊤
 IsLimited (Ok Stop) = ⊤
 IsLimited (Err refusal) = ⊤
 
@@ -130,13 +255,23 @@ is_graft (Grafts s d keep) = true
 abbrev pub grafts : Command → Bool
 grafts c = is_graft (kind_of c)
 
+-- the command is a clone or a rename, and was accepted
+abbrev pub is_made : Command → LineReply → Bool
+is_made c (reply.Command r) = grafts c && is_done r
+is_made c (reply.Unread refusal) = false
+is_made c (reply.Walk visits height) = false
+is_made c reply.Done = false
+is_made c (reply.Free free slots) = false
+is_made c (reply.Full free need) = false
+is_made c reply.Stopped = false
+
 -- the line is a clone or a rename, and was accepted
 abbrev pub is_grafted : LineMeaning → LineReply → Bool
-is_grafted (Ok (Run c)) (reply.Command r) = grafts c && is_done r
-is_grafted (Ok (Run c)) (reply.Unread refusal) = false
-is_grafted (Ok (Run c)) (reply.Walk visits height) = false
-is_grafted (Ok (Run c)) reply.Stopped = false
+is_grafted (Ok (Run c)) said = is_made c said
 is_grafted (Ok Walk) said = false
+is_grafted (Ok Df) said = false
+is_grafted (Ok Checkpoint) said = false
+is_grafted (Ok Reclaim) said = false
 is_grafted (Ok Stop) said = false
 is_grafted (Err refusal) said = false
 
@@ -149,4 +284,5 @@ IsCheap line said old new =
 -- so does each entry, from the state before it
 abbrev pub AreCheap : State → List Entry → Type 0
 AreCheap s [] = ⊤
-AreCheap s (e ∷ es) = IsCheap e.line e.said s.view.walk e.state.view.walk × AreCheap e.state es
+AreCheap s (e ∷ es) =
+    IsCheap e.line e.said s.view.tree.walk e.state.view.tree.walk × AreCheap e.state es

@@ -1,7 +1,11 @@
-ghost use Rattle.std.specs.Prelude.{◌≡◌, ◌≤◌, length, take};
-ghost use Rattle.betr.specs.Fault.{status_of, fault_line};
+ghost use Rattle.std.specs.Prelude.{◌≡◌, ◌+◌, ◌≤◌, ◌++◌, length, take};
+ghost use Rattle.bd_device.specs.declared.fault.ImageFault.{ImageFault};
+ghost use Rattle.bd_volume.specs.Faults.{image_fault_of};
+ghost use Rattle.betr.specs.Fault.{IsOfImage, fault_line, fault_of_image, status_of};
 
 use bd_message::Counter;
+use bd_volume::Fault as VolumeFault;
+use itoa::Buffer;
 use std::alloc::AllocError;
 
 /// The bytes of a buffer for a fault's line, which has room for each.
@@ -12,6 +16,11 @@ pub const FAULT_SIZE: usize = 64;
 pub enum Fault {
     /// The device failed.
     Device,
+    /// The bytes at this block aren't of the format.
+    Damaged {
+        /// The number of the block.
+        block: u64,
+    },
     /// The source failed.
     Source,
     /// There is no memory.
@@ -31,11 +40,28 @@ impl Fault {
     {
         match self {
             Fault::Device => 3,
+            Fault::Damaged { .. } => 4,
             Fault::Source => 5,
             Fault::Memory => 6,
             Fault::TooLong => 7,
             Fault::Worn(_) => 8,
             Fault::Sink => 9,
+        }
+    }
+
+    /// The fault of a run whose image isn't read or made.
+    pub fn of_image(fault: VolumeFault) -> Fault
+        requires { IsOfImage fault }
+        ensures { (cause : ImageFault) → fault ≡ image_fault_of cause
+            → result ≡ fault_of_image cause }
+    {
+        match fault {
+            VolumeFault::Device => Fault::Device,
+            VolumeFault::Damaged { block } => Fault::Damaged { block },
+            VolumeFault::NoMemory => Fault::Memory,
+            VolumeFault::Worn(_) | VolumeFault::Full { .. } | VolumeFault::Stopped { .. } => {
+                unreachable!()
+            }
         }
     }
 
@@ -45,30 +71,47 @@ impl Fault {
         ensures text { take result into.new ≡ fault_line self }
         ensures bound { result ≤ FAULT_SIZE }
     {
-        let line = self.line();
-        into[..line.len()].copy_from_slice(line);
-        line.len()
-    }
-
-    /// The line that says so.
-    fn line(self) -> &'static [u8]
-        ensures text { result.now ≡ fault_line self }
-        ensures bound { length result.now ≤ FAULT_SIZE }
-    {
         match self {
-            Fault::Device => b"fault device\n",
-            Fault::Source => b"fault source\n",
-            Fault::Memory => b"fault memory\n",
-            Fault::TooLong => b"fault too-long\n",
-            Fault::Worn(Counter::Count) => b"fault worn count\n",
-            Fault::Worn(Counter::NextId) => b"fault worn id\n",
-            Fault::Worn(Counter::Level) => b"fault worn level\n",
-            Fault::Worn(Counter::Refs) => b"fault worn refs\n",
-            Fault::Worn(Counter::Epoch) => b"fault worn epoch\n",
-            Fault::Worn(Counter::Flushes) => b"fault worn flushes\n",
-            Fault::Sink => b"",
+            Fault::Device => put(into, 0, b"fault device\n"),
+            Fault::Damaged { block } => {
+                let end = put(into, 0, b"fault damaged ");
+                let mut digits = Buffer::new();
+                let end = put(into, end, digits.format(block).as_bytes());
+                put(into, end, b"\n")
+            }
+            Fault::Source => put(into, 0, b"fault source\n"),
+            Fault::Memory => put(into, 0, b"fault memory\n"),
+            Fault::TooLong => put(into, 0, b"fault too-long\n"),
+            Fault::Worn(counter) => put(into, 0, worn_line(counter)),
+            Fault::Sink => 0,
         }
     }
+}
+
+// The line of a counter that had to rise past its last value.
+fn worn_line(counter: Counter) -> &'static [u8]
+    ensures text { result.now ≡ fault_line (Fault.Worn counter) }
+    ensures bound { length result.now ≤ FAULT_SIZE }
+{
+    match counter {
+        Counter::Count => b"fault worn count\n",
+        Counter::NextId => b"fault worn id\n",
+        Counter::Level => b"fault worn level\n",
+        Counter::Refs => b"fault worn refs\n",
+        Counter::Epoch => b"fault worn epoch\n",
+        Counter::Flushes => b"fault worn flushes\n",
+    }
+}
+
+// Writes bytes at a place, and returns the place after them.
+fn put(into: &mut [u8; FAULT_SIZE], at: usize, bytes: &[u8]) -> usize
+    requires room { at + length bytes.now ≤ FAULT_SIZE }
+    ensures text { take result into.new ≡ take at into.old ++ bytes.now }
+    ensures end { result ≡ at + length bytes.now }
+{
+    let end = at + bytes.len();
+    into[at..end].copy_from_slice(bytes);
+    end
 }
 
 impl From<AllocError> for Fault {

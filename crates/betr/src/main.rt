@@ -1,8 +1,10 @@
-//! The program: a shell over a volume. It reads words, attaches a device, takes a script and writes
-//! a reply a line. `run` is the one top call; its contract ties what it writes to the plain map.
+//! The program: a shell over a volume in an image. It reads words, attaches the image, takes a
+//! script and writes a reply a line, or makes an image. `run` is the one top call; its contract ties
+//! what it writes to the plain map.
 #![tactic(auto)]
 
 mod fault;
+mod format;
 mod laws;
 mod outcome;
 mod row;
@@ -15,14 +17,11 @@ mod shell;
 mod tests;
 mod words;
 
-use bd_device::MemDevice;
+use bd_filedev::FileDevice;
 use bd_io::{StdSink, StdSource};
 use std::env;
 use std::io::{self, ErrorKind};
 use std::process::ExitCode;
-
-/// The blocks of the device in memory that the program runs over.
-const BLOCKS: u64 = 516;
 
 /// The status where there is no memory to begin.
 const NO_MEMORY: u8 = 6;
@@ -31,10 +30,10 @@ fn main(rt: HostRuntime) -> ExitCode {
     ExitCode::from(status(&rt).unwrap_or(NO_MEMORY))
 }
 
-/// Runs the program over standard input and output, and gives its status.
+/// Runs the program over a file, standard input and standard output, and gives its status.
 fn status(rt: &HostRuntime) -> io::Result<u8> {
     let words = called_with(rt)?;
-    let mut dev = MemDevice::new(rt.alloc(), BLOCKS, 0, &[])?;
+    let mut dev = FileDevice::new(rt);
     let mut src = StdSource::new(rt.reader());
     let mut sink = StdSink::new(rt.alloc(), io::writer(rt))?;
     Ok(run::run(rt.alloc(), &words, &mut dev, &mut src, &mut sink).status)

@@ -1,8 +1,6 @@
-//! Rows of the plain map, each on a new volume: lines and their replies, which come from the rules.
+//! Rows of the plain map, each on a new image: lines and their replies, which come from the rules.
 
-use crate::row::row;
-use bd_device::MemDevice;
-use bd_io::MemSink;
+use crate::tests::{WRITES, called_on, formatted};
 use std::alloc::{AllocError, Global};
 use std::test::Fail;
 
@@ -325,6 +323,47 @@ ok
 no 1 not-found
 > rename /g /g/x
 no 6 inside
+# a new image holds a slot for its root and one for its table; what is read and a walk take none
+> df
+ok free 22 of 24
+> stat /
+ok dir 0000
+> walk
+ok walk 0 of 0
+> df
+ok free 22 of 24
+# a checkpoint changes no file, and a run goes on after it
+> mkdir /a
+ok
+> checkpoint
+ok
+> create /a/f
+ok
+> list /
+ok a/
+> list /a
+ok f
+> checkpoint
+ok
+> checkpoint
+ok
+> stat /a/f
+ok file 0 0000
+# reclaiming changes no file
+> mkdir /a
+ok
+> clone / /b
+ok
+> remove /a
+ok
+> reclaim
+ok
+> list /
+ok b/
+> list /b
+ok a/
+> reclaim
+ok
 # bad lines, found before bad paths
 > write bad 01 00
 no 10 bad-line
@@ -354,7 +393,11 @@ no 9 bad-path
 no 9 bad-path
 > sync
 no 10 bad-line
-> df
+> df /
+no 10 bad-line
+> checkpoint /
+no 10 bad-line
+> reclaim /
 no 10 bad-line
 > mkdir bad bad
 no 10 bad-line
@@ -413,17 +456,9 @@ fn all_rows(alloc: Global) -> Result<Vec<Row>, AllocError> {
 
 /// What a run over a script writes, where its status is 0.
 fn replies(alloc: Global, script: &str) -> Result<Option<Vec<u8>>, AllocError> {
-    let mut words = Vec::new(alloc);
-    for word in ["betr", "run", "img"] {
-        words.push(String::from_str(alloc, word)?)?;
-    }
-    let mut dev = MemDevice::new(alloc, 516, 0, &[])?;
-    let mut sink = MemSink::new(alloc, 1 << 16, &[])?;
-    let outcome = row(alloc, &mut dev, &words, script.as_bytes(), &mut sink)?;
-    if outcome.status != 0 {
-        return Ok(None);
-    }
-    Ok(Some(Vec::from_slice(alloc, sink.bytes())?))
+    let mut dev = formatted(alloc, WRITES)?;
+    let (status, written) = called_on(alloc, &mut dev, &["betr", "run", "img"], script.as_bytes())?;
+    Ok((status == 0).then_some(written))
 }
 
 /// A text, `count` times.
@@ -438,7 +473,7 @@ fn repeated(alloc: Global, text: &str, count: usize) -> Result<String, AllocErro
 #[test]
 fn rows_of_the_map_give_their_replies(rt: HostRuntime) -> Result<(), Fail> {
     let rows = all_rows(rt.alloc())?;
-    assert_eq!(rt; rows.len(), 22);
+    assert_eq!(rt; rows.len(), 25);
     for row in &rows {
         let written = replies(rt.alloc(), row.script.as_str())?.ok_or("another status")?;
         assert_eq!(rt; written.as_slice(), row.replies.as_bytes(), "{}", row.label);
@@ -525,5 +560,39 @@ fn a_listing_says_that_more_names_follow(rt: HostRuntime) -> Result<(), Fail> {
     expected.push_str(format!(in alloc; "ok{names} +\nok n100\n")?.as_str())?;
     let written = replies(alloc, script.as_str())?.ok_or("another status")?;
     assert_eq!(rt; written.as_slice(), expected.as_bytes());
+    Ok(())
+}
+
+/// The numbers that a reply of want of slots tells.
+fn full_in(reply: &str) -> Option<(u64, u64)> {
+    let (free, need) = reply.strip_prefix("full ")?.split_once(" ")?;
+    Some((free.parse().ok()?, need.parse().ok()?))
+}
+
+#[test]
+fn a_full_image_has_room_again_once_it_is_reclaimed(rt: HostRuntime) -> Result<(), Fail> {
+    let alloc = rt.alloc();
+    let mut script = String::from_str(alloc, "mkdir /d\ncreate /d/f\n")?;
+    let bytes = repeated(alloc, "5a", 2048)?;
+    for i in 0..400u32 {
+        script.push_str(format!(in alloc; "write /d/f {} {bytes}\n", 2048 * i)?.as_str())?;
+    }
+    script.push_str("remove /d\nreclaim\ncheckpoint\ncreate /g\nlist /\n")?;
+    let mut dev = formatted(alloc, 1 << 15)?;
+    let (status, written) = called_on(alloc, &mut dev, &["betr", "run", "img"], script.as_bytes())?;
+    assert_eq!(rt; status, 0);
+    let text = std::str::from_utf8(written.as_slice())
+        .ok()
+        .ok_or("no text")?;
+    let writes = text
+        .strip_suffix("ok\nok\nok\nok\nok g\n")
+        .ok_or("no room after it was reclaimed")?;
+    let done = writes.lines().take_while(|reply| *reply == "ok").count();
+    assert!(rt; done > 10, "too few writes were done");
+    assert!(rt; writes.lines().count() > done, "it was never full");
+    for reply in writes.lines().skip(done) {
+        let (free, need) = full_in(reply).ok_or("another reply")?;
+        assert!(rt; free < need, "{reply}");
+    }
     Ok(())
 }

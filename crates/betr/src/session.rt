@@ -1,11 +1,12 @@
-ghost use Rattle.std.specs.Prelude.{◌≡◌, ◌≤◌, [], IfOk, IfErr, OnOk, OnErr};
+ghost use Rattle.std.specs.Prelude.{◌≡◌, ◌≤◌, [], None, IfOk, IfErr, OnOk, OnErr};
 ghost use Rattle.std.specs.Option.{option_map};
 ghost use Rattle.bd_limits.specs.Limits.{script_limit};
+ghost use Rattle.bd_device.specs.Device.{Stays};
 ghost use Rattle.bd_io.specs.Cause.{HasCause};
 ghost use Rattle.bd_io.specs.Takes.{takes_after};
-ghost use Rattle.betr.specs.Fault.{IsCaused, of_sink, of_ends};
+ghost use Rattle.betr.specs.Fault.{IsCaused, faults, of_sink};
 ghost use Rattle.betr.specs.Session.{Session, end_of};
-ghost use Rattle.betr.specs.Shell.{ShellAt, held_of, device_in};
+ghost use Rattle.betr.specs.Shell.{FailsNoWrite, ShellAt, device_in, held_of, stop_in};
 ghost use Rattle.betr.specs.Taken.{IsTaken, taken_by};
 
 use crate::fault::Fault;
@@ -56,7 +57,7 @@ fn next_piece<S: Source, K: Sink>(
 }
 
 /// Has the sink pass on what it keeps back.
-fn flush<K: Sink>(sink: &mut K) -> Result<(), Fault>
+pub fn flush<K: Sink>(sink: &mut K) -> Result<(), Fault>
     ensures flushed { OnOk result (K.waiting sink.new ≡ 0) }
     ensures bytes { K.written sink.new ≡ K.written sink.old }
     ensures kind { IfErr result (λ e. e ≡ Fault.Sink) }
@@ -77,14 +78,19 @@ pub fn run_script<D: Device + Drop, S: Source, K: Sink>(
     src: &mut S,
     sink: &mut K,
 ) -> Result<(), Fault>
-    requires { held_of shell.old ≡ [] }
-    ensures session { Session (end_of result) (ShellAt shell.old) (ShellAt shell.new)
-        (S.left src.old) (S.left src.new) (S.takes src.old) (S.takes src.new)
-        (K.written sink.old) (K.written sink.new) }
+    requires line { held_of shell.old ≡ [] }
+    requires going { stop_in shell.old ≡ None }
+    ensures session { Session (end_of result) (ShellAt D.Device shell.old)
+        (ShellAt D.Device shell.new) (S.left src.old) (S.left src.new) (S.takes src.old)
+        (S.takes src.new) (K.written sink.old) (K.written sink.new) }
     ensures flushed { OnOk result (K.waiting sink.new ≡ 0) }
-    ensures device { device_in shell.new ≡ device_in shell.old }
-    ensures cause { IsCaused (of_ends (S.fault_count src.old) (K.fault_count sink.old))
-        (of_ends (S.fault_count src.new) (K.fault_count sink.new)) result }
+    ensures going { OnOk result (stop_in shell.new ≡ None) }
+    ensures device { Stays D.Device (device_in shell.old) (device_in shell.new) }
+    ensures writes { FailsNoWrite D.Device (device_in shell.old) (device_in shell.new) result }
+    ensures cause { IsCaused (faults (D.fault_count (device_in shell.old))
+        (S.fault_count src.old) (K.fault_count sink.old))
+        (faults (D.fault_count (device_in shell.new)) (S.fault_count src.new)
+        (K.fault_count sink.new)) result }
 {
     run_pieces(alloc, shell, src, sink)?;
     flush(sink)
@@ -97,13 +103,18 @@ fn run_pieces<D: Device + Drop, S: Source, K: Sink>(
     src: &mut S,
     sink: &mut K,
 ) -> Result<(), Fault>
-    requires { held_of shell.old ≡ [] }
-    ensures session { Session (end_of result) (ShellAt shell.old) (ShellAt shell.new)
-        (S.left src.old) (S.left src.new) (S.takes src.old) (S.takes src.new)
-        (K.written sink.old) (K.written sink.new) }
-    ensures device { device_in shell.new ≡ device_in shell.old }
-    ensures cause { IsCaused (of_ends (S.fault_count src.old) (K.fault_count sink.old))
-        (of_ends (S.fault_count src.new) (K.fault_count sink.new)) result }
+    requires line { held_of shell.old ≡ [] }
+    requires going { stop_in shell.old ≡ None }
+    ensures session { Session (end_of result) (ShellAt D.Device shell.old)
+        (ShellAt D.Device shell.new) (S.left src.old) (S.left src.new) (S.takes src.old)
+        (S.takes src.new) (K.written sink.old) (K.written sink.new) }
+    ensures going { OnOk result (stop_in shell.new ≡ None) }
+    ensures device { Stays D.Device (device_in shell.old) (device_in shell.new) }
+    ensures writes { FailsNoWrite D.Device (device_in shell.old) (device_in shell.new) result }
+    ensures cause { IsCaused (faults (D.fault_count (device_in shell.old))
+        (S.fault_count src.old) (K.fault_count sink.old))
+        (faults (D.fault_count (device_in shell.new)) (S.fault_count src.new)
+        (K.fault_count sink.new)) result }
 {
     let mut piece = [0; MAX_PIECE];
     let mut taken = 0;

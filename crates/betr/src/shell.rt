@@ -1,16 +1,20 @@
-ghost use Rattle.std.specs.Prelude.{◌≡◌, ◌≤◌, ◌++◌, [], MatchOption, length, false, IfOk, IfErr, OnOk, OnErr, IsOkAnd};
+ghost use Rattle.std.specs.Prelude.{◌≡◌, ◌≢◌, ◌≤◌, ◌++◌, ℕ, [], MatchOption, length, false, None, Ok, IfOk, IfErr, IfSome, OnOk, OnErr};
 ghost use Rattle.std.specs.List.{list_any};
 ghost use Rattle.std.specs.Io.KnownBytes.{append_known};
 ghost use Rattle.bd_io.specs.Cause.{HasCause};
 ghost use Rattle.bd_io.specs.Written.{WrotePart};
-ghost use Rattle.bd_message.specs.declared.fault.Counter.{Counter};
-ghost use Rattle.bd_script.specs.Lines.{line_of, open_line, held, held_limit, is_empty, is_stop, up_to_stop, IsLine, HasNoNewline};
+ghost use Rattle.bd_model.specs.Tree.{Tree};
+ghost use Rattle.bd_device.specs.Device.{OnlyReads, Stays, IsImageCause};
+ghost use Rattle.bd_checkpoint.specs.Recovering.{OnlySettles, IsBadIn};
+ghost use Rattle.bd_script.specs.Lines.{line_of, open_line, held, held_limit, is_empty, is_stop, IsLine, HasNoNewline};
 ghost use Rattle.bd_script.specs.Replies.{line_reply_line, IsLineReply};
-ghost use Rattle.bd_memvolume.specs.Volume.{device_of};
-ghost use Rattle.betr.specs.Fault.{IsCaused, of_sink};
-ghost use Rattle.betr.specs.Transcript.{State, first_state, meanings};
+ghost use Rattle.bd_engine.specs.Stored.{IsStoredView, HasSaved};
+ghost use Rattle.bd_volume.specs.Faults.{image_fault_of};
+ghost use Rattle.bd_volume.specs.Volume.{device_of, stop_of};
+ghost use Rattle.betr.specs.Fault.{IsCaused};
+ghost use Rattle.betr.specs.Transcript.{State, state_at, MayGet, meanings};
 ghost use Rattle.betr.specs.Session.{Executes};
-ghost use Rattle.betr.specs.Shell.{VolumeAt, ShellAt, Replies, ExecutesOne, held_of, device_in, breaks, is_stopped, last_lines, IsHeld, ComesNow, CutsAt, IsLineFault, LineFails, RunFails, BreaksOff};
+ghost use Rattle.betr.specs.Shell.{VolumeAt, ShellAt, Replies, ExecutesOne, view_in, held_of, device_in, stop_in, counts_of, CanStart, FailsNoWrite, breaks, is_stopped, last_lines, completed, IsHeld, ComesNow, IsOutcome, CutsAt, IsLineFault, LineFails, RunFails, BreaksOff};
 
 use crate::fault::Fault;
 use bd_command::Refusal;
@@ -18,54 +22,51 @@ use bd_device::Device;
 use bd_io::{Failed, Sink, put_all};
 use bd_limits::MAX_LINE;
 use bd_script::{Line, LineFault, LineReply, REPLY_SIZE, line_reply, read_line};
-use bd_memvolume::{Fault as VolumeFault, Refused, Volume};
+use bd_volume::{Fault as VolumeFault, Refused, Volume};
 use std::alloc::{AllocError, Global};
 use std::ops::ControlFlow;
 
 /// The bytes of a line that are held: one more than a line may have.
 const HELD: usize = MAX_LINE + 1;
 
-/// The run's fault for one of a volume's that can come today.
-fn fault_of(fault: VolumeFault) -> Fault
+// What a fault of a volume that wasn't stopped is for its line: want of slots is a reply.
+fn outcome_of(fault: VolumeFault) -> Result<LineReply, Fault>
     requires { ComesNow fault }
-    ensures kind { IsLineFault result }
-    ensures memory { fault ≡ VolumeFault.NoMemory → result ≡ Fault.Memory }
-    ensures worn { (counter : Counter) → fault ≡ VolumeFault.Worn counter
-        → result ≡ Fault.Worn counter }
+    ensures { IsOutcome fault result }
 {
     match fault {
-        VolumeFault::NoMemory => Fault::Memory,
-        VolumeFault::Worn(counter) => Fault::Worn(counter),
-        VolumeFault::Device
-        | VolumeFault::Damaged { .. }
-        | VolumeFault::Full { .. }
-        | VolumeFault::Stopped { .. } => unreachable!(),
+        VolumeFault::Device => Err(Fault::Device),
+        VolumeFault::Damaged { block } => Err(Fault::Damaged { block }),
+        VolumeFault::Worn(counter) => Err(Fault::Worn(counter)),
+        VolumeFault::NoMemory => Err(Fault::Memory),
+        VolumeFault::Full { free, need } => Ok(LineReply::Full { free, need }),
+        VolumeFault::Stopped { .. } => unreachable!(),
     }
 }
 
-/// Executes a line that was read. A fault leaves what the volume stands for; flush steps may have
-/// been made.
-fn execute<D: Device + Drop>(
-    alloc: Global,
-    volume: &mut Volume<D>,
-    line: Line,
-) -> Result<LineReply, Fault>
-    requires { IsLine line }
-    ensures ok { IfOk result (λ said. (s : State) → VolumeAt volume.old s
-        → Replies s (Ok line) said (VolumeAt volume.new)) }
-    ensures err { IfErr result (λ e. (s : State) → VolumeAt volume.old s
-        → LineFails e s (Ok line) (VolumeAt volume.new)) }
+// Executes a line that was read. A fault leaves the tree that the volume stands for and the count;
+// steps of a command and changes of reclaiming may have been made.
+fn execute<D: Device + Drop>(volume: &mut Volume<D>, line: &Line) -> Result<LineReply, Fault>
+    requires line { IsLine line.now }
+    requires going { stop_of volume.old ≡ None }
+    ensures ok { IfOk result (λ said. (s : State) → VolumeAt D.Device volume.old s
+        → Replies s (Ok line.now) said (VolumeAt D.Device volume.new)) }
+    ensures err { IfErr result (λ e. (s : State) → VolumeAt D.Device volume.old s
+        → LineFails e s (Ok line.now) (VolumeAt D.Device volume.new)) }
 
     // Whatever the volume stands for.
+    ensures answer { IfOk result (MayGet (Ok line.now)) }
     ensures fault { IfErr result IsLineFault }
-    ensures stops { IfOk result (λ said. is_stopped said ≡ is_stop (Ok line)) }
-    ensures small { IfOk result IsLineReply }
-    ensures device { device_of volume.new ≡ device_of volume.old }
+    ensures going { OnOk result (stop_of volume.new ≡ None) }
+    ensures device { Stays D.Device (device_of volume.old) (device_of volume.new) }
+    ensures writes { FailsNoWrite D.Device (device_of volume.old) (device_of volume.new) result }
+    ensures cause { (sink : ℕ) → IsCaused (counts_of D.Device (device_of volume.old) sink)
+        (counts_of D.Device (device_of volume.new) sink) result }
 {
     match line {
-        Line::Run(command) => match volume.do_command(alloc, &command) {
+        Line::Run(command) => match volume.do_command(command) {
             Ok(reply) => Ok(LineReply::Command(reply)),
-            Err(fault) => Err(fault_of(fault)),
+            Err(fault) => outcome_of(fault),
         },
         Line::Walk => {
             let walk = volume.last_walk();
@@ -74,37 +75,53 @@ fn execute<D: Device + Drop>(
                 height: walk.height,
             })
         }
+        Line::Df => Ok(LineReply::Free {
+            free: volume.free(),
+            slots: volume.slots(),
+        }),
+        Line::Checkpoint => match volume.checkpoint() {
+            Ok(()) => Ok(LineReply::Done),
+            Err(fault) => outcome_of(fault),
+        },
+        Line::Reclaim => match volume.reclaim() {
+            Ok(()) => Ok(LineReply::Done),
+            Err(fault) => outcome_of(fault),
+        },
         Line::Stop => Ok(LineReply::Stopped),
     }
 }
 
-/// Executes a line of a script, also a bad one. A fault leaves what the volume stands for; flush
-/// steps may have been made.
+// Executes a line of a script, also a bad one. A fault leaves what it leaves of a line that was
+// read.
 fn execute_line<D: Device + Drop>(
     alloc: Global,
     volume: &mut Volume<D>,
     line: &[u8],
 ) -> Result<LineReply, Fault>
-    ensures ok { IfOk result (λ said. (s : State) → VolumeAt volume.old s
-        → Replies s (line_of line.now) said (VolumeAt volume.new)) }
-    ensures err { IfErr result (λ e. (s : State) → VolumeAt volume.old s
-        → LineFails e s (line_of line.now) (VolumeAt volume.new)) }
+    requires { stop_of volume.old ≡ None }
+    ensures ok { IfOk result (λ said. (s : State) → VolumeAt D.Device volume.old s
+        → Replies s (line_of line.now) said (VolumeAt D.Device volume.new)) }
+    ensures err { IfErr result (λ e. (s : State) → VolumeAt D.Device volume.old s
+        → LineFails e s (line_of line.now) (VolumeAt D.Device volume.new)) }
 
     // Whatever the volume stands for.
+    ensures answer { IfOk result (MayGet (line_of line.now)) }
     ensures fault { IfErr result IsLineFault }
-    ensures stops { IfOk result (λ said. is_stopped said ≡ is_stop (line_of line.now)) }
-    ensures small { IfOk result IsLineReply }
-    ensures device { device_of volume.new ≡ device_of volume.old }
+    ensures going { OnOk result (stop_of volume.new ≡ None) }
+    ensures device { Stays D.Device (device_of volume.old) (device_of volume.new) }
+    ensures writes { FailsNoWrite D.Device (device_of volume.old) (device_of volume.new) result }
+    ensures cause { (sink : ℕ) → IsCaused (counts_of D.Device (device_of volume.old) sink)
+        (counts_of D.Device (device_of volume.new) sink) result }
 {
     match read_line(alloc, line) {
-        Ok(line) => execute(alloc, volume, line),
+        Ok(line) => execute(volume, &line),
         Err(LineFault::BadLine) => Ok(LineReply::Unread(Refusal::BadLine)),
         Err(LineFault::BadPath) => Ok(LineReply::Unread(Refusal::BadPath)),
         Err(LineFault::NoMemory) => Err(Fault::Memory),
     }
 }
 
-/// Writes a reply after what was written. At `Failed` a part of it was written.
+// Writes a reply after what was written. At `Failed` a part of it was written.
 fn write_reply<K: Sink>(
     said: &LineReply,
     buffer: &mut [u8; REPLY_SIZE],
@@ -121,20 +138,23 @@ fn write_reply<K: Sink>(
     put_all(sink, &buffer[..size])
 }
 
-/// How a run goes on after a reply.
+// How a run goes on after a reply.
 fn flow_after(said: &LineReply) -> ControlFlow<()>
     ensures { breaks result ≡ is_stopped said.now }
 {
     match said {
         LineReply::Stopped => ControlFlow::Break(()),
-        LineReply::Command(_) | LineReply::Unread(_) | LineReply::Walk { .. } => {
-            ControlFlow::Continue(())
-        }
+        LineReply::Command(_)
+        | LineReply::Unread(_)
+        | LineReply::Walk { .. }
+        | LineReply::Done
+        | LineReply::Free { .. }
+        | LineReply::Full { .. } => ControlFlow::Continue(()),
     }
 }
 
-/// Executes a line, and writes its reply. At `Fault::Sink` the line was executed, and a part of its
-/// reply written; another fault leaves what the volume stands for, and the sink as it was.
+// Executes a line, and writes its reply. At `Fault::Sink` the line was executed, and a part of its
+// reply written; another fault leaves what it leaves of the line, and the sink as it was.
 fn run_line<D: Device + Drop, K: Sink>(
     alloc: Global,
     volume: &mut Volume<D>,
@@ -142,18 +162,19 @@ fn run_line<D: Device + Drop, K: Sink>(
     buffer: &mut [u8; REPLY_SIZE],
     sink: &mut K,
 ) -> Result<ControlFlow<()>, Fault>
-    ensures ok { OnOk result ((s : State) → VolumeAt volume.old s
-        → ExecutesOne s (line_of line.now) (VolumeAt volume.new)
-        (K.written sink.old) (K.written sink.new)) }
-    ensures err { IfErr result (λ e. (s : State) → VolumeAt volume.old s
-        → RunFails e s (line_of line.now) (VolumeAt volume.new)
-        (K.written sink.old) (K.written sink.new)) }
-
-    // Whatever the volume stands for.
+    requires { stop_of volume.old ≡ None }
+    ensures ok { OnOk result (ExecutesOne (VolumeAt D.Device volume.old)
+        (VolumeAt D.Device volume.new) (line_of line.now) (K.written sink.old)
+        (K.written sink.new)) }
+    ensures err { IfErr result (λ e. RunFails e (VolumeAt D.Device volume.old)
+        (VolumeAt D.Device volume.new) (line_of line.now) (K.written sink.old)
+        (K.written sink.new)) }
     ensures flow { IfOk result (λ flow. breaks flow ≡ is_stop (line_of line.now)) }
-    ensures device { device_of volume.new ≡ device_of volume.old }
-    ensures cause { IsCaused (of_sink (K.fault_count sink.old)) (of_sink (K.fault_count sink.new))
-        result }
+    ensures going { OnOk result (stop_of volume.new ≡ None) }
+    ensures device { Stays D.Device (device_of volume.old) (device_of volume.new) }
+    ensures writes { FailsNoWrite D.Device (device_of volume.old) (device_of volume.new) result }
+    ensures cause { IsCaused (counts_of D.Device (device_of volume.old) (K.fault_count sink.old))
+        (counts_of D.Device (device_of volume.new) (K.fault_count sink.new)) result }
 {
     let said = execute_line(alloc, volume, line)?;
     match write_reply(&said, buffer, sink) {
@@ -164,21 +185,38 @@ fn run_line<D: Device + Drop, K: Sink>(
 
 /// A volume, and what is held of the next line.
 #[derive(Drop)]
-pub struct Shell<D> {
+pub struct Shell<D: Device> {
     volume: Volume<D>,
     line: Vec<u8>,
     buffer: Box<[u8; REPLY_SIZE]>,
 }
 
 impl<D: Device + Drop> Shell<D> {
-    /// A shell over a new volume on a device. The one fault is want of memory, and gives the device
-    /// back.
+    /// A shell over the volume that starts from a device's image. From an image that stands for a
+    /// tree and has no open batch it starts unless the device fails or there is no memory, and
+    /// stands for that tree. Where it fails, it returns the device; the fault is `Device`,
+    /// `Damaged` or `NoMemory`.
     pub fn new(alloc: Global, device: D) -> Result<Shell<D>, Refused<D>>
-        ensures start { IfOk result (λ shell. ShellAt shell first_state) }
+        ensures stands { IfOk result (λ shell. (t : Tree) (n : ℕ) → CanStart t n (D.contents device)
+            → ShellAt D.Device shell (state_at t n (view_in D.Device shell))) }
+        ensures first { IfOk result (λ shell. (t : Tree) (n : ℕ)
+            → CanStart t n (D.contents device) → IfSome (D.contents device)
+            (λ image. IsStoredView image (view_in D.Device shell))) }
         ensures line { IfOk result (λ shell. held_of shell ≡ []) }
-        ensures device { IfOk result (λ shell. device_in shell ≡ device) }
-        ensures fault { IfErr result (λ refused. refused.fault ≡ VolumeFault.NoMemory) }
-        ensures given_back { IfErr result (λ refused. refused.device ≡ device) }
+        ensures going { IfOk result (λ shell. stop_in shell ≡ None) }
+        ensures reads { IfOk result (λ shell. OnlyReads D.Device device (device_in shell)) }
+        ensures faults { IfOk result (λ shell.
+            D.fault_count (device_in shell) ≡ D.fault_count device) }
+
+        // The fault, and the device that is returned.
+        ensures cause { IfErr result (λ refused. (fault : _)
+            → refused.fault ≡ image_fault_of fault
+            → IsImageCause D.Device device refused.device (IsBadIn (D.contents device)) fault) }
+        ensures kind { IfErr result (λ refused. (fault : _)
+            × (refused.fault ≡ image_fault_of fault)) }
+        ensures undamaged { (t : Tree) (n : ℕ) → CanStart t n (D.contents device)
+            → IfErr result (λ refused. (block : ℕ) → refused.fault ≢ VolumeFault.Damaged block) }
+        ensures left { IfErr result (λ refused. OnlySettles D.Device device refused.device) }
     {
         let Ok(buffer) = Box::new(alloc, [0; REPLY_SIZE]) else {
             return Err(Refused {
@@ -192,6 +230,15 @@ impl<D: Device + Drop> Shell<D> {
             line: Vec::new(alloc),
             buffer,
         })
+    }
+
+    /// What reads of the device give is an image whose last checkpoint has just the nodes that the
+    /// view has as saved, unless the volume was stopped. It does nothing.
+    pub fn saved_is_shown(&self)
+        ensures { stop_in self.now ≡ None → IfSome (D.contents (device_in self.now))
+            (HasSaved (view_in D.Device self.now)) }
+    {
+        self.volume.saved_is_shown();
     }
 
     /// The device, which the shell gives up.
@@ -209,21 +256,23 @@ impl<D: Device + Drop> Shell<D> {
         last: &[u8],
         sink: &mut K,
     ) -> Result<ControlFlow<()>, Fault>
-        requires { length (held_of self.old) ≤ held_limit }
-        ensures ok { OnOk result ((s : State) → ShellAt self.old s
-            → ExecutesOne s (line_of (held_of self.old ++ last.now)) (ShellAt self.new)
+        requires short { length (held_of self.old) ≤ held_limit }
+        requires going { stop_in self.old ≡ None }
+        ensures ok { OnOk result (ExecutesOne (ShellAt D.Device self.old)
+            (ShellAt D.Device self.new) (line_of (held_of self.old ++ last.now))
             (K.written sink.old) (K.written sink.new)) }
-        ensures err { IfErr result (λ e. (s : State) → ShellAt self.old s
-            → RunFails e s (line_of (held_of self.old ++ last.now)) (ShellAt self.new)
+        ensures err { IfErr result (λ e. RunFails e (ShellAt D.Device self.old)
+            (ShellAt D.Device self.new) (line_of (held_of self.old ++ last.now))
             (K.written sink.old) (K.written sink.new)) }
-
-        // Whatever the volume stands for.
         ensures line { OnOk result (held_of self.new ≡ []) }
         ensures flow { IfOk result (λ flow.
             breaks flow ≡ is_stop (line_of (held_of self.old ++ last.now))) }
-        ensures device { device_in self.new ≡ device_in self.old }
+        ensures going { OnOk result (stop_in self.new ≡ None) }
+        ensures device { Stays D.Device (device_in self.old) (device_in self.new) }
+        ensures writes { FailsNoWrite D.Device (device_in self.old) (device_in self.new) result }
         ensures cause { IsCaused
-            (of_sink (K.fault_count sink.old)) (of_sink (K.fault_count sink.new)) result }
+            (counts_of D.Device (device_in self.old) (K.fault_count sink.old))
+            (counts_of D.Device (device_in self.new) (K.fault_count sink.new)) result }
     {
         if self.line.is_empty() {
             return run_line(alloc, &mut self.volume, last, &mut self.buffer, sink);
@@ -242,22 +291,23 @@ impl<D: Device + Drop> Shell<D> {
         piece: &[u8],
         sink: &mut K,
     ) -> Result<ControlFlow<()>, Fault>
-        requires { IsHeld (held_of self.old) }
-        ensures ok { OnOk result ((s : State) → ShellAt self.old s
-            → Executes s (up_to_stop (meanings (held_of self.old ++ piece.now))) (ShellAt self.new)
-            (K.written sink.old) (K.written sink.new)) }
-        ensures err { IfErr result (λ e. (s : State) → ShellAt self.old s
-            → BreaksOff e s (held_of self.old) piece.now (ShellAt self.new)
-            (K.written sink.old) (K.written sink.new)) }
-
-        // Whatever the volume stands for.
+        requires begun { IsHeld (held_of self.old) }
+        requires going { stop_in self.old ≡ None }
+        ensures ok { OnOk result (Executes (ShellAt D.Device self.old) (ShellAt D.Device self.new)
+            (completed (held_of self.old) piece.now) (K.written sink.old) (K.written sink.new)) }
+        ensures err { IfErr result (λ e. BreaksOff e (ShellAt D.Device self.old)
+            (ShellAt D.Device self.new) (held_of self.old) piece.now (K.written sink.old)
+            (K.written sink.new)) }
         ensures line { IfOk result (λ flow. breaks flow ≡ false
             → held_of self.new ≡ held (open_line (held_of self.old ++ piece.now))) }
         ensures flow { IfOk result
             (λ flow. breaks flow ≡ list_any is_stop (meanings (held_of self.old ++ piece.now))) }
-        ensures device { device_in self.new ≡ device_in self.old }
+        ensures going { OnOk result (stop_in self.new ≡ None) }
+        ensures device { Stays D.Device (device_in self.old) (device_in self.new) }
+        ensures writes { FailsNoWrite D.Device (device_in self.old) (device_in self.new) result }
         ensures cause { IsCaused
-            (of_sink (K.fault_count sink.old)) (of_sink (K.fault_count sink.new)) result }
+            (counts_of D.Device (device_in self.old) (K.fault_count sink.old))
+            (counts_of D.Device (device_in self.new) (K.fault_count sink.new)) result }
     {
         let mut rest = piece;
         'lines: while let Some((last, tail)) = cut_line(rest) {
@@ -272,18 +322,19 @@ impl<D: Device + Drop> Shell<D> {
 
     /// Executes what is held at the end of a script, where that isn't empty.
     pub fn finish<K: Sink>(&mut self, alloc: Global, sink: &mut K) -> Result<(), Fault>
-        ensures ok { OnOk result ((s : State) → ShellAt self.old s
-            → Executes s (last_lines (held_of self.old)) (ShellAt self.new)
-            (K.written sink.old) (K.written sink.new)) }
-        ensures err { IfErr result (λ e. (s : State) → ShellAt self.old s
-            → RunFails e s (line_of (held_of self.old)) (ShellAt self.new)
-            (K.written sink.old) (K.written sink.new)) }
-
-        // Whatever the volume stands for.
+        requires { stop_in self.old ≡ None }
+        ensures ok { OnOk result (Executes (ShellAt D.Device self.old) (ShellAt D.Device self.new)
+            (last_lines (held_of self.old)) (K.written sink.old) (K.written sink.new)) }
+        ensures err { IfErr result (λ e. RunFails e (ShellAt D.Device self.old)
+            (ShellAt D.Device self.new) (line_of (held_of self.old)) (K.written sink.old)
+            (K.written sink.new)) }
         ensures some { OnErr result (is_empty (held_of self.old) ≡ false) }
-        ensures device { device_in self.new ≡ device_in self.old }
+        ensures going { OnOk result (stop_in self.new ≡ None) }
+        ensures device { Stays D.Device (device_in self.old) (device_in self.new) }
+        ensures writes { FailsNoWrite D.Device (device_in self.old) (device_in self.new) result }
         ensures cause { IsCaused
-            (of_sink (K.fault_count sink.old)) (of_sink (K.fault_count sink.new)) result }
+            (counts_of D.Device (device_in self.old) (K.fault_count sink.old))
+            (counts_of D.Device (device_in self.new) (K.fault_count sink.new)) result }
     {
         if self.line.is_empty() {
             return Ok(());
@@ -293,8 +344,8 @@ impl<D: Device + Drop> Shell<D> {
     }
 }
 
-/// The first line of some bytes, without its newline, and what follows it; nothing where no line
-/// ends.
+// The first line of some bytes, without its newline, and what follows it; nothing where no line
+// ends.
 fn cut_line(bytes: &[u8]) -> Option<(&[u8], &[u8])>
     ensures { MatchOption result (HasNoNewline bytes.now)
         (λ cut. CutsAt bytes.now cut.0.now cut.1.now) }
@@ -303,8 +354,8 @@ fn cut_line(bytes: &[u8]) -> Option<(&[u8], &[u8])>
     Some((&bytes[..end], &bytes[end + 1..]))
 }
 
-/// Adds bytes to what is held of a line, as far as they are. `AllocError` leaves it as it was, and
-/// comes only where there are bytes.
+// Adds bytes to what is held of a line, as far as they are. `AllocError` leaves it as it was, and
+// comes only where there are bytes.
 fn hold(line: &mut Vec<u8>, bytes: &[u8]) -> Result<(), AllocError>
     requires { length line.old.items ≤ held_limit }
     ensures ok { OnOk result (line.new.items ≡ held (line.old.items ++ bytes.now)) }

@@ -1,7 +1,7 @@
 use crate::outcome::Outcome;
 use crate::row::row;
 use crate::run::run;
-use bd_device::MemDevice;
+use bd_device::{Device, FaultyDevice, MemDevice};
 use bd_io::{Failed, MemSink, MemSource, Sink, Source};
 use std::alloc::{AllocError, Global};
 use std::cell::Cell;
@@ -9,6 +9,12 @@ use std::test::Fail;
 
 /// The script of the first example.
 const FIRST: &[u8] = b"mkdir /a\ncreate /a/f\nstat /a\nstat /a/f\nstat /a/g\nstop\nstat /\n";
+
+/// The blocks of an image of 24 slots.
+const BLOCKS: u64 = 516;
+
+/// How many writes a few checkpoints make at most.
+pub const WRITES: usize = 1 << 10;
 
 /// A sink that counts bytes and keeps the last piece.
 #[derive(Drop)]
@@ -124,25 +130,45 @@ fn words(alloc: Global, texts: &[&str]) -> Result<Vec<String>, AllocError> {
     Ok(words)
 }
 
-/// A call with these words over a script, and what it wrote.
-fn called(alloc: Global, texts: &[&str], script: &[u8]) -> Result<(u8, Vec<u8>), AllocError> {
-    let mut dev = MemDevice::new(alloc, 516, 0, &[])?;
+/// A device in memory with a new image of 24 slots, which has room for the records of so many
+/// writes.
+pub fn formatted(alloc: Global, writes: usize) -> Result<MemDevice, AllocError> {
+    let mut dev = MemDevice::new(alloc, BLOCKS, writes, &[])?;
+    let _made = called_on(alloc, &mut dev, &["betr", "format", "img", "24"], b"")?;
+    Ok(dev)
+}
+
+/// A call with these words over a device and a script: its status, and what it wrote.
+pub fn called_on(
+    alloc: Global,
+    dev: &mut MemDevice,
+    texts: &[&str],
+    script: &[u8],
+) -> Result<(u8, Vec<u8>), AllocError> {
     let mut sink = MemSink::new(alloc, 1 << 16, &[])?;
-    let outcome = row(alloc, &mut dev, &words(alloc, texts)?, script, &mut sink)?;
+    let outcome = row(alloc, dev, &words(alloc, texts)?, script, &mut sink)?;
     Ok((outcome.status, Vec::from_slice(alloc, sink.bytes())?))
 }
 
-/// The first example with one failing call: of the source, which gives at most 7 bytes a take, of
-/// the sink, or of the device.
+/// A call with these words over a new image and a script: its status, and what it wrote.
+fn called(alloc: Global, texts: &[&str], script: &[u8]) -> Result<(u8, Vec<u8>), AllocError> {
+    let mut dev = formatted(alloc, WRITES)?;
+    called_on(alloc, &mut dev, texts, script)
+}
+
+/// The first example over a new image, with one failing call: of the source, which gives at most 7
+/// bytes a take, of the sink, or of the device.
 fn first_failing(
     alloc: Global,
-    take: &[u64],
-    put: &[u64],
-    attach: &[u64],
+    take: u64,
+    put: u64,
+    device: u64,
 ) -> Result<(Outcome, Vec<u8>), AllocError> {
-    let mut dev = MemDevice::new(alloc, 516, 0, attach)?;
-    let mut src = MemSource::new(alloc, FIRST, 7, take)?;
-    let mut sink = MemSink::new(alloc, 1 << 16, put)?;
+    let dev = formatted(alloc, WRITES)?;
+    let fail = vec![in alloc; dev.calls().saturating_add(device)]?;
+    let mut dev = FaultyDevice::new(dev, fail);
+    let mut src = MemSource::new(alloc, FIRST, 7, &[take])?;
+    let mut sink = MemSink::new(alloc, 1 << 16, &[put])?;
     let words = words(alloc, &["betr", "run", "img"])?;
     let outcome = run(alloc, &words, &mut dev, &mut src, &mut sink);
     Ok((outcome, Vec::from_slice(alloc, sink.bytes())?))
@@ -162,13 +188,20 @@ fn the_first_example_gives_its_replies(rt: HostRuntime) -> Result<(), Fail> {
 #[test]
 fn refused_words_give_the_usage(rt: HostRuntime) -> Result<(), Fail> {
     let usage = "usage: betr run IMAGE | betr format IMAGE SLOTS | betr fill IMAGE SEED COUNT\n";
-    let rows: [&[&str]; 6] = [
+    let rows: [&[&str]; 13] = [
         &["betr", "run"],
         &["betr"],
         &["betr", "run", "a", "b"],
         &["betr", "run", ""],
         &["betr", "run", "-a"],
+        &["betr", "format", "img"],
+        &["betr", "format", "-a", "24"],
+        &["betr", "format", "img", "24", "24"],
         &["betr", "format", "img", "23"],
+        &["betr", "format", "img", "65537"],
+        &["betr", "format", "img", "4294967320"],
+        &["betr", "format", "img", "24k"],
+        &["betr", "format", "img", ""],
     ];
     for words in rows {
         let (status, written) = called(rt.alloc(), words, FIRST)?;
@@ -178,8 +211,50 @@ fn refused_words_give_the_usage(rt: HostRuntime) -> Result<(), Fail> {
     Ok(())
 }
 
-/// Which take, which put and which attach fails, none where it is 0, with the status and what is
-/// written.
+#[test]
+fn an_image_is_made_and_started_from(rt: HostRuntime) -> Result<(), Fail> {
+    let alloc = rt.alloc();
+    for slots in ["24", "+24", "0024"] {
+        let mut dev = MemDevice::new(alloc, BLOCKS, WRITES, &[])?;
+        let made = called_on(alloc, &mut dev, &["betr", "format", "img", slots], FIRST)?;
+        assert_eq!(rt; made.0, 0, "slots {slots}");
+        assert_eq!(rt; made.1.as_slice(), b"ok\n".as_slice(), "slots {slots}");
+        let (status, written) = called_on(alloc, &mut dev, &["betr", "run", "img"], b"df\nwalk\n")?;
+        assert_eq!(rt; status, 0, "slots {slots}");
+        assert_eq!(rt;
+            written.as_slice(),
+            b"ok free 22 of 24\nok walk 0 of 0\n".as_slice(),
+            "slots {slots}"
+        );
+    }
+    Ok(())
+}
+
+#[test]
+fn a_device_without_an_image_is_damaged(rt: HostRuntime) -> Result<(), Fail> {
+    let mut dev = MemDevice::new(rt.alloc(), BLOCKS, WRITES, &[])?;
+    let (status, written) = called_on(rt.alloc(), &mut dev, &["betr", "run", "img"], FIRST)?;
+    assert_eq!(rt; status, 4);
+    assert_eq!(rt; written.as_slice(), b"fault damaged 0\n".as_slice());
+    Ok(())
+}
+
+#[test]
+fn a_run_finds_what_the_last_checkpoint_left(rt: HostRuntime) -> Result<(), Fail> {
+    let alloc = rt.alloc();
+    let mut dev = formatted(alloc, WRITES)?;
+    let first = b"mkdir /a\ncheckpoint\nmkdir /b\n";
+    let (status, written) = called_on(alloc, &mut dev, &["betr", "run", "img"], first)?;
+    assert_eq!(rt; status, 0);
+    assert_eq!(rt; written.as_slice(), b"ok\nok\nok\n".as_slice());
+    let (status, written) = called_on(alloc, &mut dev, &["betr", "run", "img"], b"list /\n")?;
+    assert_eq!(rt; status, 0);
+    assert_eq!(rt; written.as_slice(), b"ok a/\n".as_slice());
+    Ok(())
+}
+
+/// Which take, which put and which call of the device fails, none where it is 0, with the status and
+/// what is written. A run calls the device first for its attach, then for a barrier and for reads.
 const FAILING: &[(u64, u64, u64, u8, &str)] = &[
     (1, 0, 0, 5, "fault source\n"),
     (2, 0, 0, 5, "fault source\n"),
@@ -221,21 +296,23 @@ const FAILING: &[(u64, u64, u64, u8, &str)] = &[
         "ok\nok\nok dir 0000\nok file 0 0000\nno 1 not-found\n",
     ),
     (0, 0, 1, 3, "fault device\n"),
+    (0, 0, 2, 3, "fault device\n"),
+    (0, 0, 3, 3, "fault device\n"),
 ];
 
 #[test]
 fn each_failing_call_ends_the_run(rt: HostRuntime) -> Result<(), Fail> {
-    for (take, put, attach, status, text) in FAILING {
-        let (outcome, written) = first_failing(rt.alloc(), &[*take], &[*put], &[*attach])?;
+    for (take, put, device, status, text) in FAILING {
+        let (outcome, written) = first_failing(rt.alloc(), *take, *put, *device)?;
         assert_eq!(rt;
             outcome.status,
             *status,
-            "take {take}, put {put}, attach {attach}"
+            "take {take}, put {put}, device {device}"
         );
         assert_eq!(rt;
             written.as_slice(),
             text.as_bytes(),
-            "take {take}, put {put}, attach {attach}"
+            "take {take}, put {put}, device {device}"
         );
     }
     Ok(())
@@ -245,7 +322,7 @@ fn each_failing_call_ends_the_run(rt: HostRuntime) -> Result<(), Fail> {
 /// at each take, and how many at the end.
 fn first_passed_on(alloc: Global, fail: u64) -> Result<(u8, Vec<usize>, usize), AllocError> {
     let passed_on = Cell::new(0);
-    let mut dev = MemDevice::new(alloc, 516, 0, &[])?;
+    let mut dev = formatted(alloc, WRITES)?;
     let mut src = NotingSource {
         left: FIRST,
         passed_on: &passed_on,
@@ -282,11 +359,15 @@ fn replies_are_passed_on_before_the_next_take(rt: HostRuntime) -> Result<(), Fai
 
 #[test]
 fn clones_of_the_root_wear_the_level(rt: HostRuntime) -> Result<(), Fail> {
-    let mut script = String::new(rt.alloc());
+    let alloc = rt.alloc();
+    let mut script = String::new(alloc);
     for i in 0..4000u32 {
-        script.push_str(format!(in rt.alloc(); "clone / /s{i}\n")?.as_str())?;
+        script.push_str(format!(in alloc; "clone / /s{i}\n")?.as_str())?;
     }
-    let (status, written) = called(rt.alloc(), &["betr", "run", "img"], script.as_bytes())?;
+    // In so many slots there is room for the nodes of a thousand clones.
+    let mut dev = MemDevice::new(alloc, 132 + 16 * 4_200, WRITES, &[])?;
+    let _made = called_on(alloc, &mut dev, &["betr", "format", "img", "4200"], b"")?;
+    let (status, written) = called_on(alloc, &mut dev, &["betr", "run", "img"], script.as_bytes())?;
     assert_eq!(rt; status, 8);
     let text = std::str::from_utf8(written.as_slice())
         .ok()
@@ -308,7 +389,7 @@ fn clones_of_the_root_wear_the_level(rt: HostRuntime) -> Result<(), Fail> {
 #[test]
 fn a_script_past_the_limit_is_too_long(rt: HostRuntime) -> Result<(), Fail> {
     let script = vec![in rt.alloc(); b'\n'; 16_777_217]?;
-    let mut dev = MemDevice::new(rt.alloc(), 516, 0, &[])?;
+    let mut dev = formatted(rt.alloc(), WRITES)?;
     let mut src = MemSource::new(rt.alloc(), &script, 4096, &[])?;
     let mut sink = LastPiece {
         bytes: 0,

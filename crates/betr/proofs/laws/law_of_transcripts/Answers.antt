@@ -1,8 +1,7 @@
 -- Each entry follows from a tree.
-use Rattle.bd_model.proofs.TreeStays.{root_only_is_tree}
-use Rattle.betr.proofs.Trees.{each_can_be}
+use Rattle.betr.proofs.Trees.{each_can_be, image_tree}
 use Rattle.betr.proofs.Walks.{each_cheap}
 use Rattle.betr.proofs.laws.law_of_transcripts.Goals as goal
 
 pub returns : goal.returns
-returns c = record { first = root_only_is_tree; each = each_can_be; cost = each_cheap }
+returns c = record { first = image_tree; each = each_can_be; cost = each_cheap }

@@ -4,6 +4,7 @@ use Rattle.std.proofs.lemmas.Result.{err_from_is_err_and}
 use Rattle.std.specs.Io.KnownBytes.{IsAtEnd}
 use Rattle.std.specs.declared.option.Option.{Option}
 use Rattle.std.specs.declared.option.Option.TheVariants.{Some}
+use Rattle.bd_device.proofs.Calls.{stays_then}
 use Rattle.betr.specs.Fault.{Faults}
 use Rattle.betr.specs.declared.fault.Fault.{Fault}
 use Rattle.betr.specs.declared.fault.Fault.TheVariants.{Source}
@@ -17,8 +18,8 @@ returns-in_err-flush-clause-session g c =
     let p = err_from_is_err_and c.from_residual.result c.from_residual.ensures.1 in
     rw (p.1, p.2, c.in_err-flush.ensures.kind) (session_keeps _ _ _ _ _ _ _ _ _ _ _ c.pieces.invariant.stands c.in_err-flush.ensures.bytes)
 
-pub feed-requires : goal.feed-requires
-feed-requires g c = stands_held c.pieces.invariant.stands
+pub feed-requires-clause-begun : goal.feed-requires-clause-begun
+feed-requires-clause-begun g c = stands_held c.pieces.invariant.stands
 
 pub returns-in_err-feed-in-Ok-Piece-clause-session : goal.returns-in_err-feed-in-Ok-Piece-clause-session
 returns-in_err-feed-in-Ok-Piece-clause-session g c =
@@ -33,15 +34,19 @@ pieces-preserved g c =
     let got = gave _ c.pieces.taken c.in-Ok-Piece.size c.next_piece.new.piece _ _ _ _ c.in-Ok-Piece.field-0-is c.next_piece.array_long c.in-Ok-Piece.ensures.ok c.in-Ok-Piece.ensures.told in
     let fed = c.in_ok-feed-in-Ok-Piece.ensures in
     let goes_on = ap breaks c.in-Continue.is in
-    let more : Stands (ShellAt c.args.shell.now) (ShellAt c.feed.new.self) (held_of c.feed.new.self) (c.pieces.taken + length (take c.in-Ok-Piece.size c.next_piece.new.piece))
+    let D = g.D.Device in
+    let more : Stands (ShellAt D c.args.shell.now) (ShellAt D c.feed.new.self) (held_of c.feed.new.self) (c.pieces.taken + length (take c.in-Ok-Piece.size c.next_piece.new.piece))
     (g.S.Source.left c.args.src.now) (g.S.Source.left c.next_piece.new.src) (g.K.Sink.written c.args.sink.now) (g.K.Sink.written c.feed.new.sink)
     (g.S.Source.takes c.args.src.now) (g.S.Source.takes c.next_piece.new.src) =
     stands_more _ _ _ _ _ _ _ _ _ _ _ _ _ _ _ _ at got.fits got.got got.some got.short got.told fed.ok (sym fed.flow ∙ goes_on) (fed.line goes_on) in
     record {
-      stands = subst (λ n. Stands (ShellAt c.args.shell.now) (ShellAt c.feed.new.self) (held_of c.feed.new.self) (c.pieces.taken + n)
+      stands = subst (λ n. Stands (ShellAt D c.args.shell.now) (ShellAt D c.feed.new.self) (held_of c.feed.new.self) (c.pieces.taken + n)
           (g.S.Source.left c.args.src.now) (g.S.Source.left c.next_piece.new.src) (g.K.Sink.written c.args.sink.now) (g.K.Sink.written c.feed.new.sink)
           (g.S.Source.takes c.args.src.now) (g.S.Source.takes c.next_piece.new.src)) got.long more;
-      device = fed.device ∙ c.pieces.invariant.device;
+      going = fed.going;
+      device = stays_then c.pieces.invariant.device fed.device;
+      writes = fed.writes ∙ c.pieces.invariant.writes;
+      count = ap (λ (f : Faults). f.device) fed.cause.kept ∙ c.pieces.invariant.count;
       source = c.in-Ok-Piece.ensures.cause.kept ∙ c.pieces.invariant.source;
       sink = ap (λ (f : Faults). f.sink) fed.cause.kept ∙ ap (λ (f : Faults). f.sink) c.in_ok-flush.ensures.cause.kept ∙ c.pieces.invariant.sink;
     }
@@ -56,14 +61,15 @@ returns-in-Break-clause-session g c =
 pub returns-in-Ok-End-clause-session : goal.returns-in-Ok-End-clause-session
 returns-in-Ok-End-clause-session g c =
     let got = gave_end _ c.pieces.taken c.next_piece.new.piece _ _ _ _ c.in-Ok-End.field-0-is c.in-Ok-End.ensures.ok c.in-Ok-End.ensures.told in
-    let first = ShellAt c.args.shell.now in
+    let D = g.D.Device in
+    let first = ShellAt D c.args.shell.now in
     let script = g.S.Source.left c.args.src.now in
     let rest = g.S.Source.left c.next_piece.new.src in
     let flushed = stands_kept _ _ _ _ _ _ _ _ _ _ _ c.pieces.invariant.stands c.in_ok-flush.ensures.bytes in
-    let stands = subst (λ r. Stands first (ShellAt c.pieces.shell) (held_of c.pieces.shell) c.pieces.taken script r (g.K.Sink.written c.args.sink.now) (g.K.Sink.written c.flush.new.sink)
+    let stands = subst (λ r. Stands first (ShellAt g.D.Device c.pieces.shell) (held_of c.pieces.shell) c.pieces.taken script r (g.K.Sink.written c.args.sink.now) (g.K.Sink.written c.flush.new.sink)
     (g.S.Source.takes c.args.src.now) (g.S.Source.takes c.pieces.src)) (sym got.1) flushed in
     let end = subst IsAtEnd (sym got.1) got.0 in
-    let P : Option Fault → Type 0 = λ e. Session e first (ShellAt c.finish.new.self) script rest (g.S.Source.takes c.args.src.now) (g.S.Source.takes c.next_piece.new.src) (g.K.Sink.written c.args.sink.now) (g.K.Sink.written c.finish.new.sink) in
+    let P : Option Fault → Type 0 = λ e. Session e first (ShellAt g.D.Device c.finish.new.self) script rest (g.S.Source.takes c.args.src.now) (g.S.Source.takes c.next_piece.new.src) (g.K.Sink.written c.args.sink.now) (g.K.Sink.written c.finish.new.sink) in
     ends_by P _ _ _ c.finish.result
     c.finish.ensures.ok c.finish.ensures.err c.finish.ensures.some
     (λ ok. session_ends _ _ _ _ _ _ _ _ _ _ _ _ _ stands end got.2 ok)
@@ -78,6 +84,6 @@ returns-in-Ok-TooLong-clause-session g c =
 pub returns-in-Err-clause-session : goal.returns-in-Err-clause-session
 returns-in-Err-clause-session g c =
     let at = stands_kept _ _ _ _ _ _ _ _ _ _ _ c.pieces.invariant.stands c.in_ok-flush.ensures.bytes in
-    subst (λ r. Session (Some Source) (ShellAt c.args.shell.now) (ShellAt c.pieces.shell) (g.S.Source.left c.args.src.now) r (g.S.Source.takes c.args.src.now) (g.S.Source.takes c.next_piece.new.src)
+    subst (λ r. Session (Some Source) (ShellAt g.D.Device c.args.shell.now) (ShellAt g.D.Device c.pieces.shell) (g.S.Source.left c.args.src.now) r (g.S.Source.takes c.args.src.now) (g.S.Source.takes c.next_piece.new.src)
     (g.K.Sink.written c.args.sink.now) (g.K.Sink.written c.flush.new.sink))
     (sym c.in-Err.ensures.err) (session_source _ _ _ _ _ _ _ _ _ _ _ at c.in-Err.ensures.told)

@@ -14,6 +14,12 @@ returns-then-is_empty-clause-ok g c =
     let same : c.args.self.now.line.items ++ c.args.last.now ≡ c.args.last.now = ap (λ l. l ++ c.args.last.now) none in
     rw same c.run_line.ensures.ok
 
+pub returns-then-is_empty-clause-err : goal.returns-then-is_empty-clause-err
+returns-then-is_empty-clause-err g c =
+    let none : c.args.self.now.line.items ≡ [] = nil_from_length c.args.self.now.line.items (grind (arith, common_steps)) in
+    let same : c.args.self.now.line.items ++ c.args.last.now ≡ c.args.last.now = ap (λ l. l ++ c.args.last.now) none in
+    rw same c.run_line.ensures.err
+
 pub returns-in_err-flow-clause-err : goal.returns-in_err-flow-clause-err
 returns-in_err-flow-clause-err g c =
     let p = err_from_is_err_and c.from_residual-in_err-flow.result c.from_residual-in_err-flow.ensures.1 in
@@ -35,4 +41,4 @@ returns-clause-flow g c =
 pub returns-in_err-hold-clause-err : goal.returns-in_err-hold-clause-err
 returns-in_err-hold-clause-err g c =
     let p = err_from_is_err_and c.from_residual.result c.from_residual.ensures.1 in
-    rw (p.1, p.2) (λ s at. (leaves_all s _ at, refl))
+    rw (p.1, p.2) (record { unwritten = refl; leaves = λ s at. leaves_all _ s _ at })

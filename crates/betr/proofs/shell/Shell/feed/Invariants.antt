@@ -1,15 +1,19 @@
--- A front of the piece was fed, and the sink hasn't failed.
-use Rattle.std.proofs.Common.{◌≡◌, length}
-use Rattle.betr.specs.Shell.{ShellAt, held_of, device_in}
+-- A front of the piece was fed, and neither the device nor the sink has failed.
+use Rattle.std.proofs.Common.{◌≡◌, length, None}
+use Rattle.bd_device.specs.Device.{Stays}
+use Rattle.betr.specs.Shell.{ShellAt, held_of, device_in, stop_in, counts_of}
 use Rattle.betr.proofs.Feeding.{FedTo}
 use Rattle.betr.proofs.shell.Shell.feed.Given as goal
 
 abbrev pub invariant-lines : goal.invariant-lines
 invariant-lines g l = record {
-  fed : FedTo (ShellAt l.fn.self) (ShellAt l.self) (held_of l.fn.self) l.piece l.rest (held_of l.self)
+  fed : FedTo (ShellAt g.D.Device l.fn.self) (ShellAt g.D.Device l.self) (held_of l.fn.self) l.piece l.rest (held_of l.self)
       (g.K.Sink.written l.fn.sink) (g.K.Sink.written l.sink);
-  device : device_in l.self ≡ device_in l.fn.self;
-  counts : g.K.Sink.fault_count l.sink ≡ g.K.Sink.fault_count l.fn.sink;
+  going : stop_in l.self ≡ None;
+  device : Stays g.D.Device (device_in l.fn.self) (device_in l.self);
+  writes : g.D.Device.write_fault_count (device_in l.self) ≡ g.D.Device.write_fault_count (device_in l.fn.self);
+  counts : counts_of g.D.Device (device_in l.self) (g.K.Sink.fault_count l.sink)
+      ≡ counts_of g.D.Device (device_in l.fn.self) (g.K.Sink.fault_count l.fn.sink);
 }
 
 abbrev pub decreases-lines : goal.decreases-lines
