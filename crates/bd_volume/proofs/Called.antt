@@ -1,6 +1,6 @@
 -- What calls leave of a volume, one after the other.
-use Rattle.std.proofs.Common.{◌≡◌, ℕ, ◌<◌, ◌≤◌, ◌⊎◌, Option, None, Some, refl, sym, subst, ap, ◌∙◌, arith, inl, inr}
-use Rattle.std.specs.Prelude.{Result, Ok, Err, OnOk, OnErr, IfErr}
+use Rattle.std.proofs.Common.{◌≡◌, ℕ, ◌<◌, ◌≤◌, ◌⊎◌, None, Some, refl, subst, ap, ◌∙◌, arith, inl, inr}
+use Rattle.std.specs.Prelude.{Result, Ok, Err}
 use Rattle.std.proofs.lemmas.Bool.{cases_lt}
 use Rattle.bd_io.specs.Cause.{Rose, next_count}
 use Rattle.bd_device.specs.Device.{OnlyReads, Stays}
@@ -16,7 +16,7 @@ use Rattle.bd_engine.specs.Engines.{IsStopped, IsGoingOn}
 use Rattle.bd_volume.specs.declared.fault.Fault.{Fault}
 use Rattle.bd_volume.specs.declared.fault.Fault.TheVariants.{Device, Damaged, Worn, NoMemory, Full, Stopped}
 use Rattle.bd_volume.specs.declared.volume.Volume.{Volume}
-use Rattle.bd_volume.specs.Faults.{fault_of, HasNotFailed, IsFaultCause, HasFaultCause, IsGoing, IsHalted, IsStoppedRightly}
+use Rattle.bd_volume.specs.Faults.{fault_of, HasNotFailed, IsFaultCause, HasFaultCause, IsGoing, IsHalted}
 use Rattle.bd_volume.specs.Volume.{count_of, device_of, stop_of}
 use Rattle.bd_volume.specs.Steps.{GoesOn, Ends}
 

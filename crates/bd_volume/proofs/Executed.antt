@@ -1,6 +1,6 @@
 -- What a volume stands for after a command, and what its faults say.
 use Rattle.std.proofs.Common.{◌≡◌, ℕ, ◌+◌, Bool, false, refl, sym, subst, ap, ◌∙◌, arith}
-use Rattle.std.specs.Prelude.{◌&&◌, if◌then◌else◌, IsTrue, IsSome, IsNone, Option, None, Some, Result, Ok, Err, IfOk, IfErr, OnErr}
+use Rattle.std.specs.Prelude.{◌&&◌, if◌then◌else◌, IsTrue, IsSome, IsNone, Option, None, Result, Ok, Err, IfOk, IfErr, OnErr}
 use Rattle.std.proofs.lemmas.Bool.{false≢true}
 use Rattle.bd_command.specs.Command.{writes, is_done, accepted, IsCommand}
 use Rattle.bd_command.specs.declared.Command.{Command}
@@ -10,8 +10,7 @@ use Rattle.bd_model.specs.Tree.{Tree}
 use Rattle.bd_model.specs.Step.{step, refusal_of}
 use Rattle.bd_model.proofs.TreeLaws.{after-reading}
 use Rattle.bd_model.proofs.TreeStays.{after_stays}
-use Rattle.bd_message.specs.KeyMaps.{At, SameAt}
-use Rattle.bd_represent.specs.Represents.{Represents}
+use Rattle.bd_message.specs.KeyMaps.{At}
 use Rattle.bd_device.specs.declared.device.Device.{Ghosts}
 use Rattle.bd_dirs.specs.declared.plan.Plan.{Plan}
 use Rattle.bd_dirs.specs.Plans.{IsPlan}

@@ -1,5 +1,5 @@
 -- Why the calls of a volume fail.
-use Rattle.std.proofs.Common.{◌≡◌, ℕ, ◌+◌, ◌^◌, ◌<◌, ◌≤◌, List, Bool, refl, sym, subst, ap, ◌∙◌, inl, inr, arith, lit≤}
+use Rattle.std.proofs.Common.{◌≡◌, ℕ, ◌+◌, ◌^◌, ◌<◌, ◌≤◌, List, Bool, refl, sym, subst, inl, inr, arith}
 use Rattle.std.specs.Prelude.{IsTrue, Result, Ok, Err, IfErr, OnErr}
 use Rattle.bd_limits.specs.Limits.{flush_limit}
 use Rattle.bd_command.specs.Command.{writes}
@@ -18,7 +18,6 @@ use Rattle.bd_step.specs.Steps.{IsWornToFlush}
 use Rattle.bd_step.proofs.Making.{step_known}
 use Rattle.bd_graft.specs.Grafting.{IsWornForGraft, IsWornByGraft, OnWorn}
 use Rattle.bd_graft.specs.Packing.{overlaid, packs}
-use Rattle.bd_dirs.specs.declared.plan.Plan.{Plan}
 use Rattle.bd_dirs.specs.declared.plan.Plan.TheVariants.{Graft}
 use Rattle.bd_dirs.specs.Kinds.{Kind, Reads, Sends, SendsLate, Grafts, kind_of}
 use Rattle.bd_dirs.specs.Plans.{IsPlanOf, IsPlanKind}
@@ -28,13 +27,13 @@ use Rattle.bd_pager.specs.Pagers.{Paged, nodes_of, table_of, is_known, is_bad, I
 use Rattle.bd_view.specs.Trees.{TreeView, waiting_limit}
 use Rattle.bd_view.specs.Views.{View, free_slots, need_slots}
 use Rattle.bd_view.specs.Moves.{AreSteps, HasStepped}
-use Rattle.bd_engine.specs.Engines.{EngineState, IsWornIn}
+use Rattle.bd_engine.specs.Engines.{IsWornIn}
 use Rattle.bd_volume.specs.declared.fault.Fault.{Fault}
 use Rattle.bd_volume.specs.declared.fault.Fault.TheVariants.{Device, Damaged, Worn, NoMemory, Full, Stopped}
 use Rattle.bd_volume.specs.declared.volume.Volume.{Volume}
 use Rattle.bd_volume.specs.Faults.{fault_of}
-use Rattle.bd_volume.specs.Volume.{view_of, count_of, device_of}
-use Rattle.bd_volume.specs.Wears.{IsWornForStep, IsWornByKind, IsWornForSending, IsWornForSave, IsWornNow, Wears, ShowsWorn}
+use Rattle.bd_volume.specs.Volume.{view_of, device_of}
+use Rattle.bd_volume.specs.Wears.{IsWornByKind, IsWornForSending, IsWornForSave, IsWornNow, Wears, ShowsWorn}
 use Rattle.bd_volume.specs.Steps.{ShowsFault, IsSaveFault, IsWornInStep, IsStepFault, IsCommandFault}
 use Rattle.bd_volume.proofs.Stepped.{not_stepped}
 use Rattle.bd_volume.proofs.Read.{read_worn}

@@ -1,13 +1,8 @@
 -- What is known after calls that only read, and after others.
-use Rattle.std.proofs.Common.{◌≡◌, ℕ, ◌+◌, List, Option, sym, subst, ap, ◌∙◌}
-use Rattle.bd_command.specs.Command.{IsCommand}
-use Rattle.bd_command.specs.declared.Command.{Command}
+use Rattle.std.proofs.Common.{◌≡◌, ℕ, Option, sym, subst, ap, ◌∙◌}
 use Rattle.bd_model.specs.Tree.{Tree}
-use Rattle.bd_model.specs.Step.{step}
-use Rattle.bd_model.proofs.TreeStays.{after_stays}
 use Rattle.bd_message.specs.declared.fault.Counter.{Counter}
 use Rattle.bd_message.specs.KeyMaps.{SameAt}
-use Rattle.bd_represent.specs.Represents.{Represents}
 use Rattle.bd_represent.proofs.TreeLemmas.{Represents-along}
 use Rattle.bd_device.specs.Blocks.{Image}
 use Rattle.bd_device.specs.declared.device.Device.{Ghosts}
@@ -17,9 +12,9 @@ use Rattle.bd_pager.specs.Calling.{read_table}
 use Rattle.bd_pager.specs.Places.{Spots, nodes_at}
 use Rattle.bd_pager.specs.Pagers.{Paged, spots_of, table_of, IsKnownOver, IsReadOf}
 use Rattle.bd_view.specs.Views.{View}
-use Rattle.bd_engine.specs.Engines.{EngineState, view_of as view_in, keys_of, IsSoundOn, IsWornIn, IsReadOn}
+use Rattle.bd_engine.specs.Engines.{EngineState, keys_of, IsSoundOn, IsWornIn, IsReadOn}
 use Rattle.bd_volume.specs.declared.volume.Volume.{Volume}
-use Rattle.bd_volume.specs.Volume.{StandsFor, view_of, count_of}
+use Rattle.bd_volume.specs.Volume.{StandsFor, count_of}
 
 module _ {D : Type 0} (g : Ghosts D) where
   -- ---- reads

@@ -10,9 +10,9 @@ use Rattle.bd_dirs.specs.declared.plan.Plan.TheVariants.{Apply, Graft}
 use Rattle.bd_dirs.specs.Plans.{IsPlan}
 use Rattle.bd_dirs.specs.Sendings.{Sending, Batch, Move, sending}
 use Rattle.bd_effects.proofs.Carried.{grafted_along}
-use Rattle.bd_view.specs.Trees.{HasSent, HasAppended, HasGrafted, waiting_limit}
-use Rattle.bd_view.specs.Views.{View, keys_of, free_slots, need_slots}
-use Rattle.bd_view.specs.Moves.{OnlyNodes, HasStepped, IsExecuted}
+use Rattle.bd_view.specs.Trees.{HasSent}
+use Rattle.bd_view.specs.Views.{View, keys_of}
+use Rattle.bd_view.specs.Moves.{IsExecuted}
 use Rattle.bd_volume.specs.Steps.{SendsIn}
 
 -- ---- over steps, which leave what stands at the keys

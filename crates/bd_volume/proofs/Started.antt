@@ -1,7 +1,7 @@
 -- What a volume stands for once it is started.
-use Rattle.std.proofs.Common.{◌≡◌, ◌≢◌, ℕ, ◌+◌, ◌^◌, ◌<◌, List, [], ◌∷◌, length, Option, None, Some, refl, sym, subst, ap, ◌∙◌, arith}
-use Rattle.std.specs.Prelude.{IfSome, IsSomeAnd, IsSome, Result, Ok, Err, IfOk, IfErr}
-use Rattle.bd_model.specs.Tree.{Tree, root_only}
+use Rattle.std.proofs.Common.{◌≡◌, ◌≢◌, ℕ, ◌^◌, ◌<◌, List, [], ◌∷◌, length, Option, None, Some, refl, sym, subst, ap, ◌∙◌, arith}
+use Rattle.std.specs.Prelude.{IfSome, IsSomeAnd}
+use Rattle.bd_model.specs.Tree.{Tree}
 use Rattle.bd_device.specs.Blocks.{Image}
 use Rattle.bd_device.specs.Device.{IsImageCause}
 use Rattle.bd_device.specs.declared.device.Device.{Ghosts}
@@ -18,7 +18,7 @@ use Rattle.bd_checkpoint.specs.Kept.{AreOfTree}
 use Rattle.bd_checkpoint.specs.Recovering.{LeadsBy, LeadsTo}
 use Rattle.bd_pager.specs.Pagers.{nodes_of, table_of, is_known}
 use Rattle.bd_volume.specs.declared.fault.Fault.{Fault}
-use Rattle.bd_volume.specs.declared.fault.Fault.TheVariants.{Device, Damaged, NoMemory}
+use Rattle.bd_volume.specs.declared.fault.Fault.TheVariants.{Damaged}
 use Rattle.bd_volume.specs.declared.volume.Volume.{Volume}
 use Rattle.bd_volume.specs.Faults.{image_fault_of}
 use Rattle.bd_volume.specs.Volume.{StandsFor, HasClosedLog}

@@ -1,5 +1,5 @@
 -- The faults of a volume and their causes.
-use Rattle.std.specs.Prelude.{◌≡◌, ◌≤◌, ◌<◌, ◌⊎◌, ℕ, None, Some, Result, OnOk, IfErr, IfOk, OnErr}
+use Rattle.std.specs.Prelude.{◌≡◌, ◌≤◌, ◌<◌, ◌⊎◌, None, Some, Result, OnOk, IfErr}
 use Rattle.bd_io.specs.Cause.{Rose, next_count}
 use Rattle.bd_device.specs.declared.device.Device.{Ghosts}
 use Rattle.bd_device.specs.declared.fault.ImageFault.{ImageFault}

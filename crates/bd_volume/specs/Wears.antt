@@ -12,7 +12,7 @@ use Rattle.bd_graft.specs.Grafting.{IsWornByGraft, IsWornForGraft}
 use Rattle.bd_step.specs.Steps.{IsWornToFlush}
 use Rattle.bd_reclaim.specs.declared.walking.Reclaim.{Reclaim}
 use Rattle.bd_reclaim.specs.Reclaimed.{IsWornChange}
-use Rattle.bd_pager.specs.Pagers.{Paged, table_of}
+use Rattle.bd_pager.specs.Pagers.{table_of}
 use Rattle.bd_view.specs.Trees.{TreeView, waiting_limit}
 use Rattle.bd_view.specs.Views.{View}
 use Rattle.bd_view.specs.Moves.{CallsForSave, HasStepped}

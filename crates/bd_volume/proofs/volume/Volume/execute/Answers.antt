@@ -1,5 +1,5 @@
 -- Planning a command only reads, and what is planned is then carried out.
-use Rattle.std.proofs.Common.{◌≡◌, ◌+◌, ℕ, false, refl, sym, subst}
+use Rattle.std.proofs.Common.{◌≡◌, ◌+◌, ℕ, false, sym, subst}
 use Rattle.std.specs.Prelude.{IfOk, OnErr}
 use Rattle.std.proofs.lemmas.Result.{err_from_is_err_and}
 use Rattle.bd_device.proofs.Images.{OnErr-always}

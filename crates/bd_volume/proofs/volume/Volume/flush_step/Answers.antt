@@ -1,5 +1,5 @@
 -- Room is made, and a flush step is one of the command's.
-use Rattle.std.proofs.Common.{◌≡◌, true, sym, ap, ◌∙◌}
+use Rattle.std.proofs.Common.{◌≡◌, true, ap}
 use Rattle.std.specs.Prelude.{Ok}
 use Rattle.std.proofs.lemmas.Result.{err_from_is_err_and}
 use Rattle.bd_engine.specs.Engines.{EngineState, IsWornIn}

@@ -1,9 +1,8 @@
 -- Each step is one more, and a fault leaves the steps before it.
-use Rattle.std.proofs.Common.{◌≡◌, ◌<◌, ◌≤◌, refl, ap, arith}
+use Rattle.std.proofs.Common.{◌≡◌, ◌<◌, refl, ap, arith}
 use Rattle.std.specs.Prelude.{Ok}
 use Rattle.std.proofs.lemmas.Result.{err_from_is_err_and}
 use Rattle.bd_limits.specs.Limits.{flush_limit}
-use Rattle.bd_view.specs.Moves.{AreSteps}
 use Rattle.bd_view.specs.Trees.{waiting_limit}
 use Rattle.bd_volume.specs.Volume.{view_of}
 use Rattle.bd_volume.proofs.Called.{no_call, went_on, goes_then}
