@@ -83,7 +83,11 @@ fn a_volume_answers_as_the_plain_program_does(rt: HostRuntime) -> Result<(), Fai
 fn a_new_start_finds_the_last_checkpoint(rt: HostRuntime) -> Result<(), Fail> {
     let mut volume = formatted(rt.alloc(), 24, 2_000)?;
     for (line, want) in [("mkdir /a", "ok"), ("checkpoint", "ok"), ("mkdir /b", "ok")] {
-        assert_eq!(rt; said(rt.alloc(), &mut volume, line)?.as_str(), want, "{line}");
+        assert_eq!(rt;
+            said(rt.alloc(), &mut volume, line)?.as_str(),
+            want,
+            "{line}"
+        );
     }
     let mut again = started(rt.alloc(), volume.into_device())?;
     assert_eq!(rt; again.count(), 1);
@@ -96,10 +100,20 @@ fn a_new_start_finds_the_last_checkpoint(rt: HostRuntime) -> Result<(), Fail> {
 fn clones_of_all_are_cheap(rt: HostRuntime) -> Result<(), Fail> {
     let mut volume = formatted(rt.alloc(), 256, 2_000)?;
     for line in ["create /f", "clone / /s1", "clone / /s2", "clone / /s3"] {
-        assert_eq!(rt; said(rt.alloc(), &mut volume, line)?.as_str(), "ok", "{line}");
+        assert_eq!(rt;
+            said(rt.alloc(), &mut volume, line)?.as_str(),
+            "ok",
+            "{line}"
+        );
         let walk = volume.last_walk();
-        assert!(rt; walk.visits <= 5 * u64::from(walk.height) + 2, "{line}: {walk:?}");
+        assert!(rt;
+            walk.visits <= 5 * u64::from(walk.height) + 2,
+            "{line}: {walk:?}"
+        );
     }
-    assert_eq!(rt; said(rt.alloc(), &mut volume, "list /s3")?.as_str(), "ok f s1/ s2/");
+    assert_eq!(rt;
+        said(rt.alloc(), &mut volume, "list /s3")?.as_str(),
+        "ok f s1/ s2/"
+    );
     Ok(())
 }

@@ -20,7 +20,11 @@ pub fn formatted(alloc: Global, slots: u32, writes: usize) -> Result<Volume<MemD
 }
 
 /// A volume on a new image that a device gets.
-pub fn on_new_image<D: Device + Drop>(alloc: Global, device: D, slots: u32) -> Result<Volume<D>, Fail> {
+pub fn on_new_image<D: Device + Drop>(
+    alloc: Global,
+    device: D,
+    slots: u32,
+) -> Result<Volume<D>, Fail> {
     if slots < MIN_SLOTS || slots > MAX_SLOTS || device.blocks() != image_blocks(slots) {
         return Err(Fail::new("no image of so many slots"));
     }

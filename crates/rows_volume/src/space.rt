@@ -35,13 +35,22 @@ fn need(volume: &Volume<MemDevice>, command: &Command) -> u64 {
 #[test]
 fn a_new_image_has_two_slots_taken(rt: HostRuntime) -> Result<(), Fail> {
     let mut volume = formatted(rt.alloc(), 24, 2_000)?;
-    assert_eq!(rt; said(rt.alloc(), &mut volume, "df")?.as_str(), "ok free 22 of 24");
-    assert_eq!(rt; said(rt.alloc(), &mut volume, "walk")?.as_str(), "ok walk 0 of 0");
+    assert_eq!(rt;
+        said(rt.alloc(), &mut volume, "df")?.as_str(),
+        "ok free 22 of 24"
+    );
+    assert_eq!(rt;
+        said(rt.alloc(), &mut volume, "walk")?.as_str(),
+        "ok walk 0 of 0"
+    );
     assert_eq!(rt; need_of(rt.alloc(), &volume, "mkdir /a")?, 13);
     assert_eq!(rt; need_of(rt.alloc(), &volume, "remove /a")?, 5);
     assert_eq!(rt; said(rt.alloc(), &mut volume, "mkdir /a")?.as_str(), "ok");
     assert_eq!(rt; need_of(rt.alloc(), &volume, "mkdir /b")?, 14);
-    assert_eq!(rt; said(rt.alloc(), &mut volume, "df")?.as_str(), "ok free 22 of 24");
+    assert_eq!(rt;
+        said(rt.alloc(), &mut volume, "df")?.as_str(),
+        "ok free 22 of 24"
+    );
     Ok(())
 }
 
@@ -65,7 +74,11 @@ fn a_full_image_is_reclaimed(rt: HostRuntime) -> Result<(), Fail> {
     let mut volume = formatted(rt.alloc(), 24, 20_000)?;
     let digits = piece(rt.alloc())?;
     for line in ["mkdir /d", "create /d/f"] {
-        assert_eq!(rt; said(rt.alloc(), &mut volume, line)?.as_str(), "ok", "{line}");
+        assert_eq!(rt;
+            said(rt.alloc(), &mut volume, line)?.as_str(),
+            "ok",
+            "{line}"
+        );
     }
     let mut full = false;
     for at in 0..1_000 {
@@ -79,7 +92,11 @@ fn a_full_image_is_reclaimed(rt: HostRuntime) -> Result<(), Fail> {
     let (free, need) = (volume.free(), need_of(rt.alloc(), &volume, "create /g")?);
     assert!(rt; free < need, "{free} slots are free");
     for line in ["remove /d", "reclaim", "checkpoint", "create /g"] {
-        assert_eq!(rt; said(rt.alloc(), &mut volume, line)?.as_str(), "ok", "{line}");
+        assert_eq!(rt;
+            said(rt.alloc(), &mut volume, line)?.as_str(),
+            "ok",
+            "{line}"
+        );
     }
     assert_eq!(rt; said(rt.alloc(), &mut volume, "list /")?.as_str(), "ok g");
     Ok(())
@@ -106,7 +123,13 @@ fn full_lines_leave_the_tree(rt: HostRuntime) -> Result<(), Fail> {
     assert!(rt; full >= 10, "it was full {full} times");
     assert_eq!(rt; said(rt.alloc(), &mut volume, "checkpoint")?.as_str(), "ok");
     let mut again = started(rt.alloc(), volume.into_device())?;
-    for line in ["list /", "list /a", "list /b", "stat /a/b/a", "read /ab 0 4096"] {
+    for line in [
+        "list /",
+        "list /a",
+        "list /b",
+        "stat /a/b/a",
+        "read /ab 0 4096",
+    ] {
         let found = said(rt.alloc(), &mut again, line)?;
         let want = wanted(rt.alloc(), &mut tree, line)?;
         assert_eq!(rt; found.as_str(), want.as_str(), "{line}");

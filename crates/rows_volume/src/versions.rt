@@ -45,11 +45,18 @@ fn an_old_image_is_read_and_moved_on(rt: HostRuntime) -> Result<(), Fail> {
         ("chmod / 0755", "ok"),
         ("checkpoint", "ok"),
     ] {
-        assert_eq!(rt; said(rt.alloc(), &mut volume, line)?.as_str(), want, "{line}");
+        assert_eq!(rt;
+            said(rt.alloc(), &mut volume, line)?.as_str(),
+            want,
+            "{line}"
+        );
     }
     let mut device = volume.into_device();
     assert_eq!(rt; version_in(&mut device, BODIES[1])?, 2);
     let mut volume = started(rt.alloc(), device)?;
-    assert_eq!(rt; said(rt.alloc(), &mut volume, "stat /")?.as_str(), "ok dir 0755");
+    assert_eq!(rt;
+        said(rt.alloc(), &mut volume, "stat /")?.as_str(),
+        "ok dir 0755"
+    );
     Ok(())
 }
