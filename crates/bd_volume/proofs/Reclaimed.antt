@@ -56,7 +56,26 @@ between_shows NoMemory v h = tt
 between_shows (Full free need) v h = (h.0, inr h.1)
 between_shows (Stopped call) v h = tt
 
+full_begun : (a d : View) (free need : ℕ) → IsReclaimFull a free need d → HasBegunReclaiming a d
+full_begun a d free need (first full) = inl refl
+full_begun a d free need (edge pushes step _ h next short free_is need_is unsaved) = inr (pushes, h)
+full_begun a d free need (last pushes _ h whole full) = inr (pushes, h)
+
+-- whatever stops it, it was begun, or nothing was done
+fault_begun : (fault : Fault) (a d : View) → IsReclaimFault fault a d → HasBegunReclaiming a d
+fault_begun Device a d h = h
+fault_begun (Damaged block) a d h = absurd h
+fault_begun (Worn which) a d h = h.begun
+fault_begun NoMemory a d h = h
+fault_begun (Full free need) a d h = full_begun a d free need h
+fault_begun (Stopped call) a d h = absurd h
+
 module _ {D : Type 0} (g : Ghosts D) where
+  pub faults_begun : {T : Type 0} (r : Result T Fault) (a d : Volume D) → IfErr r (λ fault. (t : Tree) (n : ℕ) → StandsFor g a t n → IsReclaimFault fault (view_of g a) (view_of g d))
+      → OnErr r ((t : Tree) (n : ℕ) → StandsFor g a t n → HasBegunReclaiming (view_of g a) (view_of g d))
+  faults_begun (Ok x) a d h = tt
+  faults_begun (Err e) a d h = λ t n s. fault_begun e (view_of g a) (view_of g d) (h t n s)
+
   -- what a checkpoint of a volume says that isn't stopped
   pub record IsCheckpointOf {T : Type 0} (a b : Volume D) (r : Result T Fault) : Type 0 where
     pub going : stop_of a ≡ None

@@ -2,7 +2,8 @@
 use Rattle.std.proofs.Common.{ℕ, Option, subst, arith}
 use Rattle.std.proofs.lemmas.Result.{err_from_is_err_and}
 use Rattle.bd_view.specs.Reclaiming.AreReclaims.{none}
-use Rattle.bd_volume.specs.Reclaims.{IsChangedTo}
+use Rattle.bd_engine.specs.Engines.{IsSoundOn}
+use Rattle.bd_volume.specs.Reclaims.{ChangesOnce, IsChangedTo}
 use Rattle.bd_volume.specs.Volume.{view_of}
 use Rattle.bd_volume.proofs.Called.{no_call, went_on, goes_then, ends_well}
 use Rattle.bd_volume.proofs.Reclaims.{within_first, within_next, within_end, changed_more, changed_all, stops_changing}
@@ -20,25 +21,31 @@ loop-made-init g c = record {
 pub loop-made-preserved : goal.loop-made-preserved
 loop-made-preserved g c =
     let i = c.loop-made.invariant in
-    let h = c.in_ok-change_once.ensures in
+    let h = c.in_ok-after.ensures in
     let a = view_of g.D.Device c.args.self.now in
     let b = view_of g.D.Device c.loop-made.self in
     let d = view_of g.D.Device c.change_once.new.self in
-    let once = λ s. subst (λ (o : Option ℕ). IsChangedTo c.loop-made.pushes o b d) c.in-Some.is (h.changes (i.sound s)) in
+    let once : IsSoundOn g.D.Device c.args.self.now.engine.pager → ChangesOnce c.loop-made.pushes c.in-Some.after b d = λ s. subst (λ (o : Option ℕ). IsChangedTo c.loop-made.pushes o b d) c.in-Some.is (h.changes (i.sound s)) in
     record {
       goes = goes_then g.D.Device c.args.self.now c.loop-made.self c.change_once.new.self i.goes (went_on g.D.Device c.loop-made.self c.change_once.new.self _ h.ends h.count_stays);
       sound = λ s. h.sound (i.sound s);
       stands = λ t n s. h.stands t n (i.stands t n s);
       changes = λ s. changed_more c.loop-made.pushes c.in-Some.after a b d (i.changes s) (once s);
-      within = λ s. within_next c.loop-made._made c.loop-made.pushes c.in-Some.after b d (i.within s) (once s) (c.little_is_left-2.ensures (h.sound (i.sound s)));
+      within = λ s. within_next c.loop-made._made c.loop-made.pushes c.in-Some.after b d (i.within s) (once s) (c.little_is_left-in-loop-made.ensures (h.sound (i.sound s)));
     }
 
-pub returns-in_err-change_once-clause-fails : goal.returns-in_err-change_once-clause-fails
-returns-in_err-change_once-clause-fails g c = λ s.
+pub returns-in_err-after-clause-fails : goal.returns-in_err-after-clause-fails
+returns-in_err-after-clause-fails g c = λ s.
     let p = err_from_is_err_and c.from_residual.result c.from_residual.ensures.1 in
     let i = c.loop-made.invariant in
-    let h = c.in_err-change_once.ensures in
-    rw (p.1, p.2) (stops_changing c.in_err-change_once.field-0.0 c.loop-made.pushes (view_of g.D.Device c.args.self.now) (view_of g.D.Device c.loop-made.self) (view_of g.D.Device c.change_once.new.self) (i.changes s) (h.unmoved (i.sound s)) (h.fails (i.sound s)))
+    let h = c.in_err-after.ensures in
+    rw (p.1, p.2) (stops_changing c.in_err-after.field-0.0 c.loop-made.pushes (view_of g.D.Device c.args.self.now) (view_of g.D.Device c.loop-made.self) (view_of g.D.Device c.change_once.new.self) (i.changes s) (h.unmoved (i.sound s)) (h.fails (i.sound s)))
+
+pub returns-in_err-after-clause-stands : goal.returns-in_err-after-clause-stands
+returns-in_err-after-clause-stands g c = λ t n s. c.in_err-after.ensures.stands t n (c.loop-made.invariant.stands t n s)
+
+pub returns-in_default-clause-stands : goal.returns-in_default-clause-stands
+returns-in_default-clause-stands g c = λ t n s. c.in_ok-after.ensures.stands t n (c.loop-made.invariant.stands t n s)
 
 pub returns-in_default-clause-changes : goal.returns-in_default-clause-changes
 returns-in_default-clause-changes g c = λ s.
@@ -46,12 +53,12 @@ returns-in_default-clause-changes g c = λ s.
     let b = view_of g.D.Device c.loop-made.self in
     let d = view_of g.D.Device c.change_once.new.self in
     changed_all c.loop-made.pushes (view_of g.D.Device c.args.self.now) b d (i.changes s)
-    (subst (λ (o : Option ℕ). IsChangedTo c.loop-made.pushes o b d) c.in_default.is (c.in_ok-change_once.ensures.changes (i.sound s)))
+    (subst (λ (o : Option ℕ). IsChangedTo c.loop-made.pushes o b d) c.in_default.is (c.in_ok-after.ensures.changes (i.sound s)))
 
 pub returns-in_default-clause-ends : goal.returns-in_default-clause-ends
 returns-in_default-clause-ends g c =
     let i = c.loop-made.invariant in
-    let h = c.in_ok-change_once.ensures in
+    let h = c.in_ok-after.ensures in
     ends_well g.D.Device c.args.self.now c.change_once.new.self _
     (goes_then g.D.Device c.args.self.now c.loop-made.self c.change_once.new.self i.goes (went_on g.D.Device c.loop-made.self c.change_once.new.self _ h.ends h.count_stays))
 

@@ -1,0 +1,28 @@
+-- What is said of each fault is said of this one.
+use Rattle.std.proofs.Common.{ℕ}
+use Rattle.bd_model.specs.Tree.{Tree}
+use Rattle.bd_volume.specs.declared.fault.Fault.TheVariants.{Damaged, Worn, Full}
+use Rattle.bd_volume.specs.Reclaims.{IsReclaimFault, ShowsReclaim}
+use Rattle.bd_volume.specs.Volume.{StandsFor, view_of}
+use Rattle.bd_volume.proofs.Executed.{at_err}
+use Rattle.bd_volume.proofs.Reclaimed.{faults_begun}
+use Rattle.bd_volume.proofs.volume.Volume.reclaim.Goals as goal
+
+pub returns-clause-begun : goal.returns-clause-begun
+returns-clause-begun g c = faults_begun g.D.Device c.reclaim_nodes.result c.args.self.now c.reclaim_nodes.new.self c.reclaim_nodes.ensures.fails
+
+pub returns-clause-full : goal.returns-clause-full
+returns-clause-full g c = λ free need is.
+    at_err c.reclaim_nodes.result (Full free need) (λ fault. (t : Tree) (n : ℕ) → StandsFor g.D.Device c.args.self.now t n → IsReclaimFault fault (view_of g.D.Device c.args.self.now) (view_of g.D.Device c.reclaim_nodes.new.self)) c.reclaim_nodes.ensures.fails is
+
+pub returns-clause-wears : goal.returns-clause-wears
+returns-clause-wears g c = λ which is.
+    at_err c.reclaim_nodes.result (Worn which) (λ fault. (t : Tree) (n : ℕ) → StandsFor g.D.Device c.args.self.now t n → IsReclaimFault fault (view_of g.D.Device c.args.self.now) (view_of g.D.Device c.reclaim_nodes.new.self)) c.reclaim_nodes.ensures.fails is
+
+pub returns-clause-undamaged : goal.returns-clause-undamaged
+returns-clause-undamaged g c = λ block is.
+    at_err c.reclaim_nodes.result (Damaged block) (λ fault. (t : Tree) (n : ℕ) → StandsFor g.D.Device c.args.self.now t n → IsReclaimFault fault (view_of g.D.Device c.args.self.now) (view_of g.D.Device c.reclaim_nodes.new.self)) c.reclaim_nodes.ensures.fails is
+
+pub returns-clause-numbers : goal.returns-clause-numbers
+returns-clause-numbers g c = λ free need is.
+    at_err c.reclaim_nodes.result (Full free need) (λ fault. ShowsReclaim fault (view_of g.D.Device c.reclaim_nodes.new.self)) c.reclaim_nodes.ensures.shows is
