@@ -122,26 +122,32 @@ ran_refused cause known shown script w takes b a sound = record {
   where
     never_none : (c : ImageFault) → Some (fault_of_image c) ≡ None → ⊥
     never_none c is = cc
+
     at_line : (c : ImageFault) (bs : List ℕ) → Among (Some (fault_of_image c)) bs []
     at_line image.DeviceFault bs = inl refl
     at_line (image.Damaged block) bs = inl refl
     at_line image.NoMemory bs = inl refl
+
     few : (c : ImageFault) → TakenAt (Some (fault_of_image c)) [] []
     few image.DeviceFault = omega arith
     few (image.Damaged block) = omega arith
     few image.NoMemory = omega arith
+
     unwritten : (c : ImageFault) → Replied (Some (fault_of_image c)) [] [] [] w w
     unwritten image.DeviceFault = sym (append_known-nil w)
     unwritten (image.Damaged block) = sym (append_known-nil w)
     unwritten image.NoMemory = sym (append_known-nil w)
+
     tells : (c : ImageFault) → ((block : ℕ) → c ≢ image.Damaged block) → (u : State) (lines : List LineMeaning) → Tells (Some (fault_of_image c)) u [] lines
     tells image.DeviceFault h u lines = tt
     tells (image.Damaged block) h u lines = absurd (h block refl)
     tells image.NoMemory h u lines = tt
+
     told_all : (c : ImageFault) → ((block : ℕ) → c ≢ image.Damaged block) → (u : State) (o : Option (List ℕ))
         → IfSome o (λ bs. Tells (Some (fault_of_image c)) u [] (lines_to_run bs))
     told_all c h u None = tt
     told_all c h u (Some bs) = tells c h u (lines_to_run bs)
+
     all : (c : ImageFault) (o : Option (List ℕ)) → IfSome o (λ bs. Among (Some (fault_of_image c)) bs [])
     all c None = tt
     all c (Some bs) = at_line c bs

@@ -741,8 +741,7 @@ session_too_long first now line piece taken script left rest a b before at after
     let cut : take script_limit (s.bytes ++ piece) ≡ s.bytes = ap (λ n. take n (s.bytes ++ piece)) (sym (s.count ∙ full)) ∙ take-append_seam s.bytes piece in
     complete_by TooLong first now s.bytes s.bytes piece (s.bytes ++ piece) piece script rest a b b before after s.ran s.no_stop refl refl is
     (took s.bytes piece before at after (omega (arith, one)) s.idle told)
-    (begins_with s.bytes s.ran.exchanges _ [] s.ran.lines_are (sym (append-nil (meanings s.bytes))) s.no_stop) (λ bs h. h)
-    (
+    (begins_with s.bytes s.ran.exchanges _ [] s.ran.lines_are (sym (append-nil (meanings s.bytes))) s.no_stop) (λ bs h. h) (
       omega (arith, length-append s.bytes piece, s.count, full, one),
       record { lines_are = s.ran.lines_are ∙ ap meanings (sym cut); no_stop = ap (list_any is_stop) s.ran.lines_are ∙ s.no_stop },
     ) s.ran.written (λ t ls. tt) (λ t g. g)
