@@ -23,7 +23,7 @@ use std::test::Fail;
 pub const SLOTS: u32 = 24;
 
 /// How many writes a device can keep.
-const WRITES: usize = 1_200;
+const WRITES: usize = 4_000;
 
 /// The most steps of a flush before a command.
 const MAX_STEPS: usize = 1_000;
