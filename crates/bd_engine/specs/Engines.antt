@@ -91,7 +91,7 @@ stop_after before now calls (Ok done) = None
 stop_after before now calls (Err DeviceFault) =
     if (now == before) && nat_lt before (2 ^ 64 - 1) then None else Some calls
 stop_after before now calls (Err (Damaged block)) = None
-stop_after before now calls (Err (Worn counter)) = None
+stop_after before now calls (Err (Worn _)) = None
 stop_after before now calls (Err NoMemory) = None
 
 -- no write or barrier failed: it goes on, and an image that a crash now leaves stands for what one
