@@ -11,6 +11,7 @@ use bd_slots::image_blocks;
 use bd_volume::{Fault, Refused, Volume};
 use rows_tools::{plain_answer, text_of};
 use std::alloc::Global;
+use std::process::Abort;
 use std::test::Fail;
 
 /// A volume on a new image of so many slots, on a device in memory that has room for so many writes.
@@ -97,4 +98,42 @@ fn full_text(alloc: Global, fault: Fault) -> Result<String, Fail> {
 pub fn wanted(alloc: Global, tree: &mut PlainTree, line: &str) -> Result<String, Fail> {
     let want = plain_answer(alloc, tree, line)?;
     text_of(alloc, &want)
+}
+
+/// Whether a volume gives this reply to a line.
+pub fn gives<D: Device>(
+    rt: &impl Abort,
+    alloc: Global,
+    volume: &mut Volume<D>,
+    line: &str,
+    want: &str,
+) -> Result<(), Fail> {
+    let found = said(alloc, volume, line)?;
+    assert_eq!(rt; found.as_str(), want, "{line}");
+    Ok(())
+}
+
+/// Whether a volume gives these replies to these lines, one after the other.
+pub fn gives_all<D: Device>(
+    rt: &impl Abort,
+    alloc: Global,
+    volume: &mut Volume<D>,
+    rows: &[(&str, &str)],
+) -> Result<(), Fail> {
+    for (line, want) in rows {
+        gives(rt, alloc, volume, line, want)?;
+    }
+    Ok(())
+}
+
+/// Whether a volume answers a line as the plain program does.
+pub fn is_alike<D: Device>(
+    rt: &impl Abort,
+    alloc: Global,
+    volume: &mut Volume<D>,
+    tree: &mut PlainTree,
+    line: &str,
+) -> Result<(), Fail> {
+    let want = wanted(alloc, tree, line)?;
+    gives(rt, alloc, volume, line, &want)
 }

@@ -1,10 +1,11 @@
 //! A failed write stops a volume.
 
-use crate::asking::{on_new_image, said};
+use crate::asking::{gives, on_new_image};
 use bd_device::{Device, FaultyDevice, MemDevice};
 use bd_slots::image_blocks;
 use bd_volume::{Fault, Volume};
 use std::alloc::Global;
+use std::process::Abort;
 use std::test::Fail;
 
 /// The slots of the images.
@@ -23,12 +24,14 @@ fn calls_of_format(alloc: Global) -> Result<u64, Fail> {
     Ok(failing(alloc, u64::MAX)?.calls())
 }
 
-/// The first write of a checkpoint fails: the volume is stopped at this call, and does nothing more.
-#[test]
-fn a_failed_write_stops_it(rt: HostRuntime) -> Result<(), Fail> {
-    let call = calls_of_format(rt.alloc())? + 1;
-    let mut volume = failing(rt.alloc(), call)?;
-    assert_eq!(rt; said(rt.alloc(), &mut volume, "mkdir /a")?.as_str(), "ok");
+/// What a volume does whose next call of the device, of this number, fails.
+fn is_stopped_at(
+    rt: &impl Abort,
+    alloc: Global,
+    volume: &mut Volume<FaultyDevice<MemDevice>>,
+    call: u64,
+) -> Result<(), Fail> {
+    gives(rt, alloc, volume, "mkdir /a", "ok")?;
     assert_eq!(rt; volume.checkpoint(), Err(Fault::Device));
     assert_eq!(rt; volume.calls(), call);
     let stopped = Err(Fault::Stopped { call });
@@ -36,4 +39,12 @@ fn a_failed_write_stops_it(rt: HostRuntime) -> Result<(), Fail> {
     assert_eq!(rt; volume.reclaim(), stopped);
     assert_eq!(rt; volume.calls(), call);
     Ok(())
+}
+
+/// The first write of a checkpoint fails: the volume is stopped at this call, and does nothing more.
+#[test]
+fn a_failed_write_stops_it(rt: HostRuntime) -> Result<(), Fail> {
+    let call = calls_of_format(rt.alloc())? + 1;
+    let mut volume = failing(rt.alloc(), call)?;
+    is_stopped_at(&rt, rt.alloc(), &mut volume, call)
 }

@@ -1,8 +1,10 @@
 //! An image of version 1 is read, and its next checkpoint is of version 2.
 
-use crate::asking::{formatted, said, started};
-use bd_device::Device;
+use crate::asking::{formatted, gives, gives_all, started};
+use bd_device::{Device, MemDevice};
 use bd_limits::BLOCK_SIZE;
+use std::alloc::Global;
+use std::process::Abort;
 use std::test::Fail;
 
 /// The bodies of the two superblocks.
@@ -34,29 +36,34 @@ fn set_version<D: Device>(device: &mut D, block: u64, version: u8) -> Result<(),
     Ok(())
 }
 
-#[test]
-fn an_old_image_is_read_and_moved_on(rt: HostRuntime) -> Result<(), Fail> {
-    let mut device = formatted(rt.alloc(), 24, 2_000)?.into_device();
+/// The device of an image of version 1.
+fn old_device(rt: &impl Abort, alloc: Global) -> Result<MemDevice, Fail> {
+    let mut device = formatted(alloc, 24, 2_000)?.into_device();
     assert_eq!(rt; version_in(&mut device, BODIES[0])?, 2);
     set_version(&mut device, BODIES[0], 1)?;
-    let mut volume = started(rt.alloc(), device)?;
-    for (line, want) in [
-        ("stat /", "ok dir 0000"),
-        ("chmod / 0755", "ok"),
-        ("checkpoint", "ok"),
-    ] {
-        assert_eq!(rt;
-            said(rt.alloc(), &mut volume, line)?.as_str(),
-            want,
-            "{line}"
-        );
-    }
-    let mut device = volume.into_device();
+    Ok(device)
+}
+
+/// The device after a mode was set on an image of version 1, and a checkpoint.
+fn moved_on(rt: &impl Abort, alloc: Global) -> Result<MemDevice, Fail> {
+    let mut volume = started(alloc, old_device(rt, alloc)?)?;
+    gives_all(
+        rt,
+        alloc,
+        &mut volume,
+        &[
+            ("stat /", "ok dir 0000"),
+            ("chmod / 0755", "ok"),
+            ("checkpoint", "ok"),
+        ],
+    )?;
+    Ok(volume.into_device())
+}
+
+#[test]
+fn an_old_image_is_read_and_moved_on(rt: HostRuntime) -> Result<(), Fail> {
+    let mut device = moved_on(&rt, rt.alloc())?;
     assert_eq!(rt; version_in(&mut device, BODIES[1])?, 2);
     let mut volume = started(rt.alloc(), device)?;
-    assert_eq!(rt;
-        said(rt.alloc(), &mut volume, "stat /")?.as_str(),
-        "ok dir 0755"
-    );
-    Ok(())
+    gives(&rt, rt.alloc(), &mut volume, "stat /", "ok dir 0755")
 }
