@@ -44,7 +44,7 @@ fn is_stopped_at(
 /// The first write of a checkpoint fails: the volume is stopped at this call, and does nothing more.
 #[test]
 fn a_failed_write_stops_it(rt: HostRuntime) -> Result<(), Fail> {
-    let call = calls_of_format(rt.alloc())? + 1;
+    let call = calls_of_format(rt.alloc())?.saturating_add(1);
     let mut volume = failing(rt.alloc(), call)?;
     is_stopped_at(&rt, rt.alloc(), &mut volume, call)
 }
