@@ -1,14 +1,14 @@
 -- A pager in whose root more messages wait.
 use Rattle.std.proofs.Common.{◌≡◌, ℕ, ◌+◌, ◌≤◌, Bool, true, false, ◌&&◌, nat_eq, List, Option, None, Some, IfSome, refl, sym, ap, subst, ◌∙◌, arith, inl, inr, []}
 use Rattle.std.specs.Prelude.{IsSome}
-use Rattle.std.specs.List.{sum_by}
+use Rattle.std.specs.List.{AllByRecursion, sum_by}
 use Rattle.std.specs.Map.{lookup}
 use Rattle.std.proofs.lemmas.Bool.{and_from, cases_eq}
-use Rattle.std.proofs.lemmas.Option.{none-some, same_Some}
+use Rattle.std.proofs.lemmas.Option.{same_Some}
 use Rattle.std.proofs.lemmas.List.Elements.{recursion_from_All}
 use Rattle.bd_limits.specs.Limits.{buffer_limit, level_limit}
 use Rattle.bd_message.specs.declared.message.Message.{Message}
-use Rattle.bd_message.specs.Messages.{IsMessage, size}
+use Rattle.bd_message.specs.Messages.{IsMessage, IsPlain, size}
 use Rattle.bd_device.specs.Blocks.{Image}
 use Rattle.bd_device.specs.declared.device.Device.{Ghosts}
 use Rattle.bd_node.specs.declared.node.Node.{Node}
@@ -20,19 +20,21 @@ use Rattle.bd_node.specs.Stores.{FitsRoot, StaysBy}
 use Rattle.bd_node.specs.Steps.{after, append_step, grown, with_touched, HasGrown, IsCommitted}
 use Rattle.bd_node.specs.Tables.{Table, IsLower, IsNodeOf, IsStored, IsSound}
 use Rattle.bd_node.proofs.Lookup.{each_weaker}
-use Rattle.bd_node.proofs.Appending.{shape_appended, level_appended, buffer_appended, append_sound}
+use Rattle.bd_node.proofs.Appending.{shape_appended, level_appended, buffer_appended, names_appended, append_sound}
 use Rattle.bd_memnodes.proofs.Appended.{is_appended}
 use Rattle.bd_pager.specs.declared.place.Place.{Place}
-use Rattle.bd_pager.specs.declared.place.Place.TheVariants.{Memory, Slot}
 use Rattle.bd_pager.specs.declared.place.Spot.{Spot}
 use Rattle.bd_pager.specs.Calling.{no_reads}
 use Rattle.bd_pager.specs.Changing.{IsChangedAt}
 use Rattle.bd_pager.specs.Keeping.{KeepsSaved}
 use Rattle.bd_pager.specs.Slots.{IsOfLevel}
-use Rattle.bd_pager.specs.Places.{level_in, copy_at, copy_in, node_of, told, IsReadAt, IsRead}
+use Rattle.bd_pager.specs.Testing.{Marks, NamesLower, AreTested}
+use Rattle.bd_pager.specs.Places.{level_in, copy_at, copy_in, node_of, told, IsLowerIn, IsRead}
 use Rattle.bd_pager.specs.Pagers.{Paged, spots_of, is_saved, is_changed, table_of, nodes_of, is_known, IsOfSize, IsPlaceIn, IsStoredAs, IsPaged}
 use Rattle.bd_pager.proofs.ChangingLemmas.{same_refs, same_level, each_kept, copy_now, changed_before, changed_stays, node_is, still_right, place_now}
 use Rattle.bd_pager.proofs.FreshLemmas.{copy_at_place}
+use Rattle.bd_pager.proofs.ReaderLemmas.{copied_unread}
+use Rattle.bd_pager.proofs.TestedLemmas.{some_at, still_names, tested_then}
 
 -- ---- the root before
 
@@ -52,12 +54,6 @@ split_and false b both = absurd (let e : false ≡ true = both in cc)
 waits_within : (n : Node) → IsShape n → buffer_size n ≤ buffer_limit
 waits_within (Leaf entries) shape = omega arith
 waits_within (Inner level edges buffer) shape = shape.size
-
--- what was read isn't of a node that is in memory
-pub copied_unread : (contents : Option Image) (is_lent : Bool) (level : ℕ) (p : Place) (n m : Node) → copy_at p ≡ Some n → IsReadAt contents is_lent level p m → ⊥
-copied_unread contents is_lent level (Memory node slot) n m copy read = read
-copied_unread contents is_lent level (Slot slot None) n m copy read = none-some n copy
-copied_unread contents is_lent level (Slot slot (Some node)) n m copy read = read
 
 -- ---- which nodes were changed is no part of soundness
 
@@ -143,6 +139,36 @@ module _ {D : Type 0} (g : Ghosts D) (p : Paged D) (entries : List (ℕ × Spot)
       ready = tt;
     }
 
+    lower_more : (level id : ℕ) → IsLowerIn (spots_of p) level id → IsLowerIn (spots_of q) level id
+    lower_more level id lower = (
+      omega (arith, lower.0, same_refs spare p.root more (spots_of p) (spots_of q) h id),
+      omega (arith, lower.1, same_level spare p.root more (spots_of p) (spots_of q) h id),
+    )
+
+    -- the messages name nothing
+    names_more : NamesLower (spots_of p) n → NamesLower (spots_of q) more
+    names_more lower =
+        subst (λ (ids : List ℕ). AllByRecursion (IsLowerIn (spots_of q) (level_of more)) ids) (sym (names_appended n list (recursion_from_All IsPlain list fits.plain)))
+        (subst (λ (l : ℕ). AllByRecursion (IsLowerIn (spots_of q) l) (names n)) (sym (level_appended n list)) (still_names (spots_of p) (spots_of q) lower_more n lower))
+
+    there_more : (id : ℕ) → IsSome (spots_of p id) → IsSome (spots_of q id)
+    there_more id some = elim (cases_eq id p.root) [
+      | inl same ↦ subst (λ (o : Option Spot). IsSome o) (sym (ap (spots_of q) same ∙ h.here)) refl
+      | inr other ↦ subst (λ (o : Option Spot). IsSome o) (sym (h.others id other)) some
+    ]
+
+    pub appended_tested : (marks : Marks) → AreTested (spots_of p) p.cache marks → AreTested (spots_of q) p.cache marks
+    appended_tested marks are =
+        tested_then (spots_of p) (spots_of q) p.cache p.cache marks marks (λ id on. on) lower_more (λ id on. there_more id (are id on).there)
+        (λ id m on at. elim (cases_eq id p.root) [
+          | inl same ↦
+              let one : more ≡ m = same_Some more m (sym (ap copy_in h.here ∙ copy_now spare p.root more (spots_of p) (spots_of q) h) ∙ ap (λ (k : ℕ). copy_in (spots_of q k)) (sym same) ∙ at) in
+              let lower : NamesLower (spots_of p) n = some_at (NamesLower (spots_of p)) (copy_in (spots_of p id)) n (ap (λ (k : ℕ). copy_in (spots_of p k)) same ∙ copy) (are id on).copy in
+              inr (subst (λ (x : Node). NamesLower (spots_of q) x) one (names_more lower))
+          | inr other ↦ inl (sym (ap copy_in (h.others id other)) ∙ at)
+        ])
+        (λ id m kept. kept) are
+
     table_is : table_of q ≡ with_touched (table_of q).touched (grown (table_of p) list)
     table_is = λ j. record {
       count = λ id. same_refs spare p.root more (spots_of p) (spots_of q) h id j;
@@ -221,3 +247,10 @@ pager_grown {D} g p entries bytes list was fits bytes_is changed =
       stays = appended_stays g p entries bytes copy.0 list was copy.1 fits bytes_is h;
       committed = appended_committed g p entries bytes copy.0 list was copy.1 fits bytes_is h;
     }
+
+pub pager_tested : {D : Type 0} (g : Ghosts D) (p : Paged D) (entries : List (ℕ × Spot)) (bytes : ℕ) (list : List Message) (marks : Marks) → IsPaged (g.contents p.dev) p → FitsRoot (table_of p) list → bytes ≡ p.size + sum_by size list
+    → ((n : Node) → copy_in (spots_of p p.root) ≡ Some n → IsChangedAt p.spare p.root (appended n list) (spots_of p) (λ id. lookup (nat_eq id) entries))
+    → AreTested (spots_of p) p.cache marks → AreTested (λ id. lookup (nat_eq id) entries) p.cache marks
+pager_tested g p entries bytes list marks was fits bytes_is changed are =
+    let copy = root_copy (copy_in (spots_of p p.root)) (sized_copy p.size (copy_in (spots_of p p.root)) was.root) in
+    appended_tested g p entries bytes copy.0 list was copy.1 fits bytes_is (changed copy.0 copy.1) marks are

@@ -1,10 +1,10 @@
 -- A pager after a step.
-use Rattle.std.proofs.Common.{◌≡◌, ◌≢◌, ℕ, ◌+◌, ◌<◌, ◌≤◌, Bool, true, false, eqb, List, [], length, Option, None, Some, IfSome, refl, sym, ap, subst, ◌∙◌, arith, inl, inr}
+use Rattle.std.proofs.Common.{◌≡◌, ◌≢◌, ℕ, ◌+◌, ◌<◌, ◌≤◌, ◌⊎◌, Bool, true, false, eqb, IsTrue, List, [], length, Option, None, Some, IfSome, refl, sym, ap, subst, ◌∙◌, arith, inl, inr}
 use Rattle.std.specs.Prelude.{IsSome}
 use Rattle.std.specs.Global.{Global}
 use Rattle.std.specs.Option.{option_map, unwrap_or}
 use Rattle.std.specs.declared.rc.Rc.{Rc}
-use Rattle.std.proofs.lemmas.Bool.{and_from, cond-true, cond-false, eq-eqb, ne_eqb}
+use Rattle.std.proofs.lemmas.Bool.{and_from, cases_lt, cond-true, cond-false, eq-eqb, ne_eqb}
 use Rattle.std.proofs.lemmas.Option.{none-some, same_Some}
 use Rattle.bd_limits.specs.Limits.{level_limit}
 use Rattle.bd_device.specs.Blocks.{Image}
@@ -15,12 +15,13 @@ use Rattle.bd_cache.specs.declared.cache.NodeCache.{NodeCache}
 use Rattle.bd_node.specs.declared.node.Node.{Node}
 use Rattle.bd_node.specs.declared.node.Node.TheVariants.{Leaf, Inner}
 use Rattle.bd_node.specs.declared.node.Step.{Step}
-use Rattle.bd_node.specs.Nodes.{level_of, buffer_size}
+use Rattle.bd_node.specs.Nodes.{level_of, names, buffer_size}
 use Rattle.bd_node.specs.Meaning.{Nodes}
 use Rattle.bd_node.specs.Shape.{IsShape}
 use Rattle.bd_node.specs.Stores.{StaysBy}
 use Rattle.bd_node.specs.Tables.{Table, IsKept, IsTable, IsSound}
-use Rattle.bd_node.specs.Steps.{given, after, IsPut, IsStep, IsTableAfter, IsCommitted}
+use Rattle.bd_node.specs.Steps.{given, after, IsThere, IsNamable, IsPut, IsStep, IsTableAfter, IsCommitted}
+use Rattle.bd_node.proofs.Lookup.{each_weaker}
 use Rattle.bd_node.proofs.Stepping.{by_given, after-none, after-some}
 use Rattle.bd_counts.specs.Naming.{times_among}
 use Rattle.bd_counts.specs.Counting.{counted, HasCounts, HasRootSize, IsRecount, MakesTable, Commits}
@@ -32,15 +33,18 @@ use Rattle.bd_pager.specs.Calling.{no_reads}
 use Rattle.bd_pager.specs.Committing.{IsFound, IsFoundRoot, IsNewRoot}
 use Rattle.bd_pager.specs.Keeping.{KeepsSaved}
 use Rattle.bd_pager.specs.Slots.{IsOfLevel}
-use Rattle.bd_pager.specs.Places.{Spots, refs_in, level_in, copy_at, copy_in, node_of, told, IsRead}
+use Rattle.bd_pager.specs.Places.{Spots, refs_in, level_in, copy_at, copy_in, node_of, told, IsLowerIn, IsRead}
 use Rattle.bd_pager.specs.Pagers.{Paged, spots_of, is_saved, is_changed, table_of, nodes_of, IsRightPlace, is_known, IsOfSize, IsPlaceIn, IsStoredAs, IsPaged}
 use Rattle.bd_pager.specs.Stepping.{held, own_slot_in, with_put, with_count, without_all, with_copy, moved_copy, bare, copied}
+use Rattle.bd_pager.specs.Testing.{Marks, is_tested, NamesLower, AreTested, IsNoHigherThan}
 use Rattle.bd_pager.proofs.AppendedLemmas.{split_and}
 use Rattle.bd_pager.proofs.CopyLemmas.{bare_changed, copied_changed, bare_in, copied_in, bare_placed, copied_placed, bare_right, copied_right, bare_node, copied_node, copied_copy, without_read, moved_at, same_moved, each_moved}
 use Rattle.bd_pager.proofs.CopyLemmas.Moved.{to_root, from_root, beside}
-use Rattle.bd_pager.proofs.SteppedLemmas.{AreStepped, Outcome, outcome, is_left, new_refs, new_used, new_level, each_stepped, given_kept}
+use Rattle.bd_pager.proofs.PagerLemmas.{kept_there}
+use Rattle.bd_pager.proofs.SteppedLemmas.{AreStepped, Outcome, outcome, is_left, new_refs, new_used, new_level, each_stepped, given_kept, given_put}
 use Rattle.bd_pager.proofs.SteppedLemmas.Outcome.{goes, comes, remains}
 use Rattle.bd_pager.proofs.TallyLemmas.{put_in}
+use Rattle.bd_pager.proofs.TestedLemmas.{tested_then, no_higher, without_back, spot_of_some}
 
 -- ---- parts
 
@@ -248,6 +252,66 @@ module _ {D : Type 0} (g : Ghosts D) (p : Paged D) (step : Step) (put : ℕ → 
       saved = λ id saved. omega (arith, was.saved id saved, last_is);
       ready = tt;
     }
+
+    -- ---- names that were looked at, where no node goes or rises
+
+    module _ (none : (id : ℕ) → times_among gone id ≡ 0) (low : (id : ℕ) (node : Rc Node Global) → put id ≡ Some node → IsNoHigherThan node.value (spots_of p id)) where
+      still_counted : (id : ℕ) → IsThere t step id → 1 ≤ counts id
+      still_counted id there = elim (cases_lt 0 (counts id)) [
+        | inl some ↦ omega (arith, some)
+        | inr nought ↦ absurd (omega (arith, none id, is.recount.goes id there (omega (arith, nought))))
+      ]
+
+      before_level : (id : ℕ) → level_in (before id) ≡ level_in (spots_of p id)
+      before_level = before_same level_in (λ s. refl) (λ node s. refl)
+
+      -- what was lower is lower still
+      still_lower : (level id : ℕ) → IsLowerIn (spots_of p) level id → IsLowerIn (spots_of q) level id
+      still_lower level id was_lower =
+          let one : 1 ≤ counts id = still_counted id (inl was_lower.0) in (
+            omega (arith, one, new_count id),
+            elim (ending id) [
+              | goes nought e ↦ absurd (omega (arith, one, nought))
+              | comes node put_there gives some at ↦ omega (arith, was_lower.1, ap level_in at, no_higher node.value (spots_of p id) was_lower.0 (low id node put_there))
+              | remains s there not_put e some at ↦ omega (arith, was_lower.1, ap level_in at, ap level_in there, before_level id)
+            ],
+          )
+
+      -- and what the step puts names lower nodes
+      put_lower : (id : ℕ) (node : Rc Node Global) → given t.next step id ≡ Some node.value → NamesLower (spots_of q) node.value
+      put_lower id node gives =
+          each_weaker (IsNamable t step (level_of node.value)) (IsLowerIn (spots_of q) (level_of node.value))
+          (λ c may.
+          let one : 1 ≤ counts c = still_counted c may.there in (
+            omega (arith, one, new_count c),
+            omega (arith, may.lower, new_level p.spare t step before (spots_of q) put count gone stepped c one),
+          ))
+          (names node.value) (given_put t step was.table is.ok id node.value gives).lower
+
+      before_copy : (id : ℕ) (n : Node) → (IsSome new_root.copy → id ≢ root) → copy_in (before id) ≡ Some n → copy_in (spots_of p id) ≡ Some n
+      before_copy id n apart copy = elim (moved_at (spots_of p) p.root root new_root.copy id) [
+        | to_root same is_at ↦ sym (ap copy_in (is_at ∙ no_copy new_root.copy (spots_of p id) (λ some. apart some same))) ∙ copy
+        | from_root is_at ↦ without_back (spots_of p id) n (sym (ap copy_in is_at) ∙ copy)
+        | beside is_at ↦ sym (ap copy_in is_at) ∙ copy
+      ]
+
+      copy_lower : (id : ℕ) (n : Node) → (IsSome new_root.copy → id ≢ root) → copy_in (spots_of q id) ≡ Some n → (copy_in (spots_of p id) ≡ Some n) ⊎ NamesLower (spots_of q) n
+      copy_lower id n apart copy = elim (ending id) [
+        | goes nought e ↦ absurd (none-some n (sym (ap copy_in e) ∙ copy))
+        | comes node put_there gives some at ↦ inr (subst (λ (m : Node). NamesLower (spots_of q) m) (same_Some node.value n (sym (ap copy_in at) ∙ copy)) (put_lower id node gives))
+        | remains s there not_put e some at ↦ inl (before_copy id n apart (ap copy_in there ∙ sym (ap copy_in at) ∙ copy))
+      ]
+
+      still_there : (id : ℕ) → IsSome (spots_of p id) → IsSome (spots_of q id)
+      still_there id some =
+          let old = spot_of_some (spots_of p id) some in
+          let kept : 1 ≤ refs_in (spots_of p id) = omega (arith, was.used id old.0 old.1, ap refs_in old.1) in
+          kept_there (spots_of q) id (omega (arith, still_counted id (inl kept), new_count id))
+
+      pub committed_tested : (marks now : Marks) → ((id : ℕ) → IsTrue (is_tested now id) → IsTrue (is_tested marks id)) → ((id : ℕ) → IsTrue (is_tested now id) → IsSome new_root.copy → id ≢ root)
+          → AreTested (spots_of p) p.cache marks → AreTested (spots_of q) cache now
+      committed_tested marks now fewer apart are =
+          tested_then (spots_of p) (spots_of q) p.cache cache marks now fewer still_lower (λ id on. still_there id (are id (fewer id on)).there) (λ id n on. copy_lower id n (apart id on)) forgotten.kept are
 
     -- ---- what a store promises of it
 

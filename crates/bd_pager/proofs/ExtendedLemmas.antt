@@ -44,18 +44,19 @@ use Rattle.bd_pager.specs.Committing.{IsNewRoot}
 use Rattle.bd_pager.specs.Extending.{IsExtended, IsAdditionOf}
 use Rattle.bd_pager.specs.Keeping.{KeepsSaved}
 use Rattle.bd_pager.specs.Slots.{IsOfLevel}
+use Rattle.bd_pager.specs.Testing.{Marks, AreTested, IsNoHigherThan}
 use Rattle.bd_pager.specs.Places.{refs_in, copy_at, copy_in, node_of, told, IsLowerIn, IsRead}
 use Rattle.bd_pager.specs.Pagers.{Paged, spots_of, table_of, nodes_of, is_known, IsOfSize, IsPaged}
 use Rattle.bd_pager.specs.Stepping.{held, change_of, put_at, put_spot, with_put, with_count, with_copy, without_copy, without_all, moved_copy, made_changes}
-use Rattle.bd_pager.proofs.AppendedLemmas.{copied_unread, root_copy, sized_copy}
-use Rattle.bd_pager.proofs.CommittedLemmas.{AreGiven}
+use Rattle.bd_pager.proofs.AppendedLemmas.{root_copy, sized_copy}
+use Rattle.bd_pager.proofs.CommittedLemmas.{AreGiven, AreForgotten, committed_tested}
 use Rattle.bd_pager.proofs.FreshLemmas.{copy_at_place}
 use Rattle.bd_pager.proofs.PuttingLemmas.{given_at, put_is}
 use Rattle.bd_pager.proofs.StepLoops.{put_twice}
 use Rattle.bd_pager.proofs.SteppedLemmas.{none_mapped}
-use Rattle.bd_pager.proofs.StepsLemmas.{no_loans, IsMade, given_made, each_mapped, made_below}
+use Rattle.bd_pager.proofs.StepsLemmas.{no_loans, IsMade, given_made, each_mapped, made_below, spot_below}
 use Rattle.bd_pager.proofs.PagerLemmas.{named_lower, sound_lower}
-use Rattle.bd_pager.proofs.ReaderLemmas.{copy_of_level}
+use Rattle.bd_pager.proofs.ReaderLemmas.{copied_unread, copy_of_level}
 
 none_counted : (b : Bool) (o : Option Node) → o ≡ None → cond b None o ≡ o
 none_counted true o none = sym none
@@ -283,9 +284,30 @@ module _ {D : Type 0} (g : Ghosts D) (p : Paged D) (n : Node) (made : List Node)
         copied_unread (g.contents p.dev) p.is_lent there.level there.place n m copy_was
         (subst (λ (o : Option Spot). IsRead (g.contents p.dev) p.is_lent o m) (ap (spots_of p) same ∙ h.changed.there) (was.cached id m kept))))
 
+    forgotten : AreForgotten put [] p.root None p.cache p.cache
+    forgotten = record { kept = λ id m kept. kept; not_put = not_cached; not_gone = λ id m kept. refl; not_root = λ id m kept some. absurd (none_copied some) }
+
     both : IsPaged (g.contents p.dev) more × IsMade g p taken more
-    both = given_made g p taken put (λ id. get nat_eq addition.counts id) [] p.root new_root entries p.cache last visits was given_all_of last_is carried
-        (record { kept = λ id m kept. kept; not_put = not_cached; not_gone = λ id m kept. refl; not_root = λ id m kept some. absurd (none_copied some) })
+    both = given_made g p taken put (λ id. get nat_eq addition.counts id) [] p.root new_root entries p.cache last visits was given_all_of last_is carried forgotten
+
+    -- the root doesn't rise, and new nodes weren't there
+    low : (id : ℕ) (r : Rc Node Global) → put id ≡ Some r → IsNoHigherThan r.value (spots_of p id)
+    low id r is =
+        let gives : given t.next taken id ≡ Some r.value = sym (given_as id) ∙ ap (option_map held) is in
+        elim (cases_lt id t.next) [
+          | inl below ↦ elim (cases_eq id p.root) [
+            | inl same ↦
+                let one : appended n list ≡ r.value = same_Some (appended n list) r.value (sym (given_extended t n made list was.table) ∙ ap (given t.next taken) (sym same) ∙ gives) in
+                subst (λ (o : Option Spot). IsNoHigherThan r.value o) (sym (ap (spots_of p) same ∙ h.changed.there)) (omega (arith, ap level_of one, level_appended n list, node_was.level_is))
+            | inr other ↦ absurd (none-some r.value (sym (given_beside t n made list id below other) ∙ gives))
+          ]
+          | inr high ↦ subst (λ (o : Option Spot). IsNoHigherThan r.value o) (sym (spot_below (spots_of p) p.next id (spots_of p id) refl high was.table.below was.used)) tt
+        ]
+
+    pub extended_tested : (marks : Marks) → AreTested (spots_of p) p.cache marks → AreTested (spots_of more) p.cache marks
+    extended_tested marks are =
+        committed_tested g p taken put (λ id. get nat_eq addition.counts id) [] p.root new_root entries p.cache last visits was given_all_of last_is carried forgotten
+        (λ id. refl) low marks marks (λ id on. on) (λ id on some. absurd (none_copied some)) are
 
     pub extended_paged : IsPaged (g.contents p.dev) more
     extended_paged = both.0
@@ -346,6 +368,12 @@ module _ {D : Type 0} (g : Ghosts D) (p : Paged D) (made : List Node) (list : Li
           committed = extended_committed g p n made list addition entries bytes last visits was copy_seen lower step_ok is bytes_is last_is h;
         },
       )
+
+  pub pager_tested : (addition : Addition) (entries : List (ℕ × Spot)) (bytes last visits : ℕ) → IsAdditionOf (table_of p) made list addition → bytes ≡ p.size + sum_by size list → last ≡ p.next + length made
+      → ((n : Node) → copy_in (spots_of p p.root) ≡ Some n → IsExtended p.spare p.root (appended n list) addition (spots_of p) (λ id. lookup (nat_eq id) entries))
+      → (marks : Marks) → AreTested (spots_of p) p.cache marks → AreTested (λ id. lookup (nat_eq id) entries) p.cache marks
+  pager_tested addition entries bytes last visits is bytes_is last_is extended =
+      extended_tested g p seen_root made list addition entries bytes last visits was copy_seen (looked seen_root copy_seen) (ok seen_root own_seen) is bytes_is last_is (extended seen_root copy_seen)
 
 pub addition_below : (t : Table) (made : List Node) (list : List Message) (addition : Addition) → IsAdditionOf t made list addition → AllByRecursion (λ (put : Put). put.id < t.next + length made) addition.puts.items
 addition_below t made list addition is =

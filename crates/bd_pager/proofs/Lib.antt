@@ -27,4 +27,5 @@ pub mod StepLoops
 pub mod SteppedLemmas
 pub mod StepsLemmas
 pub mod TallyLemmas
+pub mod TestedLemmas
 pub mod WrittenLemmas

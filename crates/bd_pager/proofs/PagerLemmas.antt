@@ -24,6 +24,7 @@ use Rattle.bd_pager.specs.declared.written.Written.{Written}
 use Rattle.bd_table.specs.declared.table.Table.{Table as Checkpoint}
 use Rattle.bd_pager.specs.Counting.{IsTallied}
 use Rattle.bd_pager.specs.Readers.{IsReading}
+use Rattle.bd_pager.specs.Testing.{AreTested}
 use Rattle.bd_pager.specs.Places.{Spots, spots_in, refs_in, IsLowerIn, IsReadAt, IsRead, AreCached}
 use Rattle.bd_pager.specs.Pagers.{Paged, spots_of, table_of, IsPaged, seen}
 
@@ -77,12 +78,13 @@ same_entries {S} m n same = ap (λ (x : HashMap ℕ Spot S). x.entries) same
 
 -- so it is with all that holds of its fields
 pub reader_paged : {D : Type 0} (was now : Option Image) (old new : NodeReader D) (saved : Checkpoint) (at : List ℕ) (u : Usage) (root size next before visits : ℕ) (written : Option Written) → new.spots ≡ old.spots → IsReading now new
-    → IsPaged was (seen old saved at u.spare root size next before written) × IsTallied next (spots_in old.spots) u
-    → IsPaged now (seen new saved at u.spare root size next visits written) × IsTallied next (spots_in new.spots) u
+    → IsPaged was (seen old saved at u.spare root size next before written) × IsTallied next (spots_in old.spots) u × AreTested (spots_in old.spots) old.cache old.tested
+    → IsPaged now (seen new saved at u.spare root size next visits written) × IsTallied next (spots_in new.spots) u × AreTested (spots_in new.spots) new.cache new.tested
 reader_paged {D} was now old new saved at u root size next before visits written same reading held =
     let entries : new.spots.entries ≡ old.spots.entries = same_entries new.spots old.spots same in (
       read_paged (seen old saved at u.spare root size next before written) was now new.dev new.spots.entries visits new.cache new.is_lent entries reading.cached held.0,
       subst (λ (es : List (ℕ × Spot)). IsTallied next (λ id. lookup (nat_eq id) es) u) (sym entries) held.1,
+      reading.tested,
     )
 
 -- ---- names

@@ -8,10 +8,10 @@ use Rattle.bd_format.specs.Decoding.{node_in}
 use Rattle.bd_node.specs.declared.node.Node.{Node}
 use Rattle.bd_node.specs.Shape.{IsShape}
 use Rattle.bd_pager.specs.declared.place.Place.{Place}
-use Rattle.bd_pager.specs.declared.place.Place.TheVariants.{Slot}
+use Rattle.bd_pager.specs.declared.place.Place.TheVariants.{Memory, Slot}
 use Rattle.bd_pager.specs.declared.place.Spot.{Spot}
 use Rattle.bd_pager.specs.Slots.{slot_bytes, HasNode, IsOfLevel}
-use Rattle.bd_pager.specs.Places.{Spots, copy_in, level_in, node_at, node_of, told, IsAlone, IsRead, IsReadAt, ArePlaced}
+use Rattle.bd_pager.specs.Places.{Spots, copy_at, copy_in, level_in, node_at, node_of, told, IsAlone, IsRead, IsReadAt, ArePlaced}
 
 -- what was read of a node that is in a slot alone, since the device was lent last
 read_alone : (contents : Option Image) (slot level : ℕ) (spot : Option Spot) (n : Node) → IsAlone slot level spot → IsRead contents false spot n
@@ -38,6 +38,12 @@ copy_of_level spots id n placed is =
       | None ↦ λ there e. absurd (none-some n e)
       | Some s ↦ λ there e. subst (λ (v : Option Node). IfSome v (IsOfLevel s.level)) e (placed id s there)
     ] in each (spots id) refl is)
+
+-- what was read isn't of a node that is in memory
+pub copied_unread : (contents : Option Image) (is_lent : Bool) (level : ℕ) (p : Place) (n m : Node) → copy_at p ≡ Some n → IsReadAt contents is_lent level p m → ⊥
+copied_unread contents is_lent level (Memory node slot) n m copy read = read
+copied_unread contents is_lent level (Slot slot None) n m copy read = none-some n copy
+copied_unread contents is_lent level (Slot slot (Some node)) n m copy read = read
 
 -- the node that a slot has alone is the node that is there
 alone_is_there : (image : Image) (slot level : ℕ) (spot : Option Spot) (n : Node) → ((m : Node) (bytes : List ℕ) → IsShape m → IsImage m bytes → node_in bytes ≡ Some m)

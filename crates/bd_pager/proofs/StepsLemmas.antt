@@ -35,10 +35,12 @@ use Rattle.bd_pager.specs.Keeping.{KeepsSaved}
 use Rattle.bd_pager.specs.Places.{Spots, refs_in, copy_in, nodes_at, AreCached, ArePlaced}
 use Rattle.bd_pager.specs.Pagers.{Paged, spots_of, touched_at, table_at, table_of, nodes_of, IsKnownOver, is_known, IsOfSize, IsPlaceIn, IsStoredAs, IsReady, IsPaged, IsReadOf}
 use Rattle.bd_pager.specs.Stepping.{held, change_of, put_at, with_put, with_count, without_all, moved_copy, made_changes, given_changes}
-use Rattle.bd_pager.proofs.CommittedLemmas.{AreGiven, AreForgotten, committed_paged, committed_table, committed_stays, committed_nodes}
+use Rattle.bd_pager.specs.Testing.{Marks, AreTested, AreStillTested}
+use Rattle.bd_pager.proofs.CommittedLemmas.{AreGiven, AreForgotten, committed_paged, committed_table, committed_stays, committed_nodes, committed_tested}
 use Rattle.bd_pager.proofs.PuttingLemmas.{given_at, put_is}
 use Rattle.bd_pager.proofs.SteppedLemmas.{given_put, slice_get_some}
 use Rattle.bd_pager.proofs.CountingLemmas.{wider_tallied}
+use Rattle.bd_pager.proofs.TestedLemmas.{each_low}
 
 -- nothing is lent
 abbrev pub no_loans : {D : Type 0} → Paged D → List ℕ
@@ -159,7 +161,7 @@ there_below t step table id there = elim there [
   | inr made ↦ made.1
 ]
 
-spot_below : (spots : Spots) (next id : ℕ) (o : Option Spot) → spots id ≡ o → next ≤ id → ((i : ℕ) → 1 ≤ refs_in (spots i) → i < next) → ((i : ℕ) (s : Spot) → spots i ≡ Some s → 1 ≤ s.refs) → o ≡ None
+pub spot_below : (spots : Spots) (next id : ℕ) (o : Option Spot) → spots id ≡ o → next ≤ id → ((i : ℕ) → 1 ≤ refs_in (spots i) → i < next) → ((i : ℕ) (s : Spot) → spots i ≡ Some s → 1 ≤ s.refs) → o ≡ None
 spot_below spots next id None there high below used = refl
 spot_below spots next id (Some s) there high below used = absurd (omega (arith, high, below id (subst (λ (x : Option Spot). 1 ≤ refs_in x) (sym there) (used id s there))))
 
@@ -198,6 +200,16 @@ module _ {D : Type 0} (g : Ghosts D) (old p : Paged D) (step : Step) (plan : Pla
         was (plan_given g p step plan was.table step_then plan_then) last_is carried (plan_forgotten plan p.cache cache forgotten) in
         subst (λ (s : List Bool). let q : Paged D = record done { spare = s } in IsPaged (g.contents p.dev) q × IsMade g old step q) (sym spare_is)
         (made.0, made_after g old p step (record done { spare = p.spare }) left made.1)
+
+    -- what counts still as tested is
+    pub plan_tested : last ≡ p.next + length step.made → ((id : ℕ) → spots_of done id ≡ carried_spot p.spare p.root plan (spots_of p) id) → IsForgotten plan p.cache cache
+        → (marks now : Marks) → AreStillTested plan (spots_of p) marks now → AreTested (spots_of p) p.cache marks → AreTested (spots_of done) cache now
+    plan_tested last_is carried forgotten marks now still are id on =
+        committed_tested g p step (λ id. put_at plan.puts.items id) (λ id. get nat_eq plan.recount.counts id) plan.recount.gone.items plan.root plan.new_root entries cache last visits
+        was (plan_given g p step plan was.table step_then plan_then) last_is carried (plan_forgotten plan p.cache cache forgotten)
+        (λ c. ap (λ (gone : List ℕ). times_among gone c) (still.none_gone id on))
+        (λ c node is. each_low (spots_of p) plan.puts.items c node (still.low id on) is)
+        marks now still.tested still.root are id on
 
 -- ---- where memory was wanting
 

@@ -15,4 +15,5 @@ pub mod Places
 pub mod Readers
 pub mod Slots
 pub mod Stepping
+pub mod Testing
 pub mod WritingOut

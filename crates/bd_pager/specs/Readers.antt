@@ -10,16 +10,18 @@ use Rattle.bd_pager.specs.declared.reader.Found.{Found}
 use Rattle.bd_pager.specs.declared.reader.Found.TheVariants.{Copy, InSlot}
 use Rattle.bd_pager.specs.declared.reader.NodeReader.{NodeReader}
 use Rattle.bd_pager.specs.Places.{copy_in, spots_in, IsAlone, AreCached, ArePlaced}
+use Rattle.bd_pager.specs.Testing.{AreTested}
 
 -- what was found of a node: its copy in memory, or the slot that alone has it
 abbrev pub IsFoundAs : Found → Option Spot → Type 0
 IsFoundAs (Copy node) spot = copy_in spot ≡ Some node.value
 IsFoundAs (InSlot slot level) spot = IsAlone slot level spot
 
--- what is in memory, and what was read, is as it is to be over these contents
+-- what is in memory, what was read, and what was tested, is as it is to be over these contents
 pub record IsReading {D : Type 0} (contents : Option Image) (r : NodeReader D) : Type 0 where
   pub placed : ArePlaced (spots_in r.spots)
   pub cached : AreCached contents r.is_lent (spots_in r.spots) r.cache
+  pub tested : AreTested (spots_in r.spots) r.cache r.tested
 
 -- the same fault
 abbrev pub map_fault : ImageFault → MapFault

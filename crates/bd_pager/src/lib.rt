@@ -19,6 +19,7 @@ mod reader;
 mod reading;
 mod slots;
 mod stepping;
+mod tested;
 mod usage;
 mod writing;
 mod writing_all;

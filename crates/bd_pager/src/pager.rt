@@ -28,10 +28,10 @@ mod store;
 mod writing_out;
 
 use crate::changing::append_counted;
-use crate::naming::names_lower;
 use crate::parts::Parts;
 use crate::place::refs_of;
 use crate::reader::NodeReader;
+use crate::tested::Tested;
 use crate::usage::Usage;
 use crate::writing::write_early;
 use crate::written::Written;
@@ -51,10 +51,12 @@ use std::rc::Rc;
 /// changed or made since, in memory or in slots that the checkpoint doesn't hold.
 ///
 /// A fetch finds its node by hashing, and reads at most one slot. It looks at each name that the
-/// node has. A commit takes the time of what the step holds and names, and of the nodes that it
-/// changes and that go, each of which it finds, however many nodes there are. An append takes the
-/// time of its messages, an extension that of its messages, of its new nodes, and of a look at what
-/// the root names, unless a caller holds the root. Only `open` and `write_out` look at all nodes.
+/// node has where it reads the node, and again only where a commit has let a node go or raised one
+/// since, or where there was no memory to note that it looked. A commit takes the time of what the
+/// step holds and names, and of the nodes that it changes and that go, each of which it finds,
+/// however many nodes there are. An append takes the time of its messages, an extension that of its
+/// messages, of its new nodes, and of a look at what the root names where a fetch would look at it,
+/// unless a caller holds the root. Only `open` and `write_out` look at all nodes.
 #[derive(Drop)]
 pub struct Pager<D: Device> {
     alloc: Global,
@@ -73,6 +75,7 @@ impl<D: Device> Model for Pager<D> {
     ghost use Rattle.bd_pager.specs.Pagers.{Paged, IsPaged, seen};
     ghost use Rattle.bd_pager.specs.Counting.{IsTallied};
     ghost use Rattle.bd_pager.specs.Places.{spots_in};
+    ghost use Rattle.bd_pager.specs.Testing.{AreTested};
 
     ghost Value = { Paged D };
 
@@ -81,7 +84,8 @@ impl<D: Device> Model for Pager<D> {
 
     ghost invariant = { λ p. IsPaged (D.contents p.reader.dev)
         (seen p.reader p.saved p.at.items p.usage.spare p.root p.size p.next p.visits p.written)
-        × IsTallied p.next (spots_in p.reader.spots) p.usage };
+        × IsTallied p.next (spots_in p.reader.spots) p.usage
+        × AreTested (spots_in p.reader.spots) p.reader.cache p.reader.tested };
 }
 
 /// Why there is no pager, and the device again.
@@ -167,6 +171,7 @@ impl<D: Device> Pager<D> {
                 dev,
                 spots,
                 cache,
+                tested: Tested::new(alloc),
                 is_lent: false,
                 buffer,
             },
@@ -199,11 +204,11 @@ impl<D: Device> Pager<D> {
             (is_bad D.Device self.new) NeverWorn result }
     {
         self.visits = self.visits.saturating_add(1);
-        let node = match self.reader.find(self.alloc, id) {
-            Ok(node) => node,
+        let (node, is_lower) = match self.reader.find_lower(self.alloc, id) {
+            Ok(found) => found,
             Err(fault) => return Err(fault),
         };
-        if !names_lower(&self.reader.spots, &node) {
+        if !is_lower {
             return Err(MapFault::Damaged {
                 block: slot_block(first_slot(self.at.as_slice())),
             });

@@ -1,14 +1,22 @@
 //! Nodes that are found: in memory, among those that were read, or in slots.
 
-ghost use Rattle.std.specs.Prelude.{◌≡◌, ℕ, false, IsSome, IfOk, IfSome};
+ghost use Rattle.std.specs.Prelude.{◌≡◌, ◌↔◌, ℕ, None, Some, false, IsSome, IsTrue, IfOk, IfSome};
+ghost use Rattle.std.specs.List.{AllByRecursion};
 ghost use Rattle.bd_message.specs.KeyMaps.{HasMapCause, NeverWorn};
 ghost use Rattle.bd_device.specs.Device.{OnlyReads};
+ghost use Rattle.bd_cache.specs.Cache.{kept_at};
+ghost use Rattle.bd_node.specs.declared.node.Node.{Node};
+ghost use Rattle.bd_node.specs.Nodes.{level_of, names};
 ghost use Rattle.bd_pager.specs.Slots.{HasNode, IsOfLevel, IsBadSlot};
-ghost use Rattle.bd_pager.specs.Places.{spots_in, level_in, copy_in, nodes_at, IsAlone, IsRead, AreCached, IsBadSpot};
+ghost use Rattle.bd_pager.specs.Places.{spots_in, level_in, copy_in, nodes_at, IsAlone, IsLowerIn, IsRead, AreCached, IsBadSpot};
 ghost use Rattle.bd_pager.specs.Readers.{IsFoundAs, IsReading, map_fault};
+ghost use Rattle.bd_pager.specs.Testing.{is_tested, IsAtHand};
 
+use crate::extending::copy_names_lower;
+use crate::naming::names_lower;
 use crate::place::{Place, Spot};
 use crate::read_node;
+use crate::tested::Tested;
 use bd_cache::NodeCache;
 use bd_device::{Device, ImageFault};
 use bd_format::laws::images_are_decoded;
@@ -26,6 +34,8 @@ pub struct NodeReader<D: Device> {
     pub spots: HashMap<u64, Spot>,
     /// Nodes that were read from slots that alone have them.
     pub cache: NodeCache,
+    /// Which nodes in memory, and of those that were read, name kept nodes of lower levels alone.
+    pub tested: Tested,
     /// Whether the device was lent since, so that slots may have other nodes now.
     pub is_lent: bool,
     pub buffer: Box<[u8; SLOT_SIZE]>,
@@ -50,6 +60,8 @@ impl<D: Device> NodeReader<D> {
             (λ node. IsOfLevel (level_in (spots_in self.old.spots id)) node.value) }
         ensures copy { IfSome (copy_in (spots_in self.old.spots id))
             (λ n. IfOk result (λ node. node.value ≡ n)) }
+        ensures at_hand { IfOk result (λ node. IsAtHand (spots_in self.old.spots) self.new.cache
+            self.new.tested id node.value) }
         ensures reading { IsReading (D.contents self.new.dev) self.new }
         ensures spots { self.new.spots ≡ self.old.spots }
         ensures lent { self.old.is_lent ≡ false → self.new.is_lent ≡ false }
@@ -66,6 +78,69 @@ impl<D: Device> NodeReader<D> {
             Found::Copy(node) => Ok(node),
             Found::InSlot { slot, level } => self.load(alloc, id, slot, level),
         }
+    }
+
+    /// The node of a kept id, as `find` gives it, and whether it names kept nodes of lower levels
+    /// alone. It looks at the names unless it has found that before.
+    pub fn find_lower(&mut self, alloc: Global, id: u64) -> Result<(Rc<Node>, bool), MapFault>
+        requires reading { IsReading (D.contents self.old.dev) self.old }
+        requires there { IsSome (spots_in self.old.spots id) }
+        ensures contents { IsSome (D.contents self.old.dev) → IfOk result (λ found.
+            nodes_at (D.contents self.old.dev) (spots_in self.old.spots) id
+            ≡ Some found.0.value) }
+        ensures node { IfOk result
+            (λ found. IsOfLevel (level_in (spots_in self.old.spots id)) found.0.value) }
+        ensures copy { IfSome (copy_in (spots_in self.old.spots id))
+            (λ n. IfOk result (λ found. found.0.value ≡ n)) }
+        ensures lower { IfOk result (λ found. IsTrue found.1 ↔ AllByRecursion
+            (IsLowerIn (spots_in self.old.spots) (level_of found.0.value))
+            (names found.0.value)) }
+        ensures reading { IsReading (D.contents self.new.dev) self.new }
+        ensures spots { self.new.spots ≡ self.old.spots }
+        ensures lent { self.old.is_lent ≡ false → self.new.is_lent ≡ false }
+        ensures reads { OnlyReads D.Device self.old.dev self.new.dev }
+        ensures cause { HasMapCause (D.fault_count self.old.dev) (D.fault_count self.new.dev)
+            (IsBadSpot (D.contents self.old.dev) (spots_in self.old.spots id)) NeverWorn result }
+    {
+        let node = match self.find(alloc, id) {
+            Ok(node) => node,
+            Err(fault) => return Err(fault),
+        };
+        let is_lower = self.test(id, &node);
+        Ok((node, is_lower))
+    }
+
+    // Whether the node of an id, which is at hand, names kept nodes of lower levels alone.
+    fn test(&mut self, id: u64, node: &Node) -> bool
+        requires reading { IsReading (D.contents self.old.dev) self.old }
+        requires there { IsSome (spots_in self.old.spots id) }
+        requires at_hand { IsAtHand (spots_in self.old.spots) self.old.cache self.old.tested id
+            node.now }
+        ensures lower { IsTrue result ↔ AllByRecursion
+            (IsLowerIn (spots_in self.old.spots) (level_of node.now)) (names node.now) }
+        ensures reading { IsReading (D.contents self.new.dev) self.new }
+        ensures spots { self.new.spots ≡ self.old.spots }
+        ensures lent { self.new.is_lent ≡ self.old.is_lent }
+        ensures device { self.new.dev ≡ self.old.dev }
+    {
+        if self.tested.has(id) {
+            return true;
+        }
+        if !names_lower(&self.spots, node) {
+            return false;
+        }
+        self.tested.note(id);
+        true
+    }
+
+    /// Whether the node of an id that is in memory names kept nodes of lower levels alone. It looks
+    /// at the names unless that was found before.
+    pub fn copy_names_lower(&self, id: u64) -> bool
+        requires { IsReading (D.contents self.now.dev) self.now }
+        ensures { (n : Node) → copy_in (spots_in self.now.spots id) ≡ Some n → IsTrue result
+            ↔ AllByRecursion (IsLowerIn (spots_in self.now.spots) (level_of n)) (names n) }
+    {
+        self.tested.has(id) || copy_names_lower(&self.spots, id)
     }
 
     // What is known of a kept id before anything is read.
@@ -86,6 +161,8 @@ impl<D: Device> NodeReader<D> {
         ensures held { IfSome (D.contents self.old.dev)
             (λ image. IfOk result (λ node. HasNode image slot level node.value)) }
         ensures node { IfOk result (λ node. IsOfLevel level node.value) }
+        ensures at_hand { IfOk result (λ node. IsAtHand (spots_in self.old.spots) self.new.cache
+            self.new.tested id node.value) }
         ensures reading { IsReading (D.contents self.new.dev) self.new }
         ensures spots { self.new.spots ≡ self.old.spots }
         ensures lent { self.old.is_lent ≡ false → self.new.is_lent ≡ false }
@@ -104,9 +181,12 @@ impl<D: Device> NodeReader<D> {
     fn read(&mut self, alloc: Global, id: u64, slot: u32, level: u32) -> Result<Rc<Node>, MapFault>
         requires reading { IsReading (D.contents self.old.dev) self.old }
         requires alone { IsAlone slot level (spots_in self.old.spots id) }
+        requires uncached { kept_at self.old.cache id ≡ None }
         ensures held { IfSome (D.contents self.old.dev)
             (λ image. IfOk result (λ node. HasNode image slot level node.value)) }
         ensures node { IfOk result (λ node. IsOfLevel level node.value) }
+        ensures at_hand { IfOk result (λ node. IsAtHand (spots_in self.old.spots) self.new.cache
+            self.new.tested id node.value) }
         ensures reading { IsReading (D.contents self.new.dev) self.new }
         ensures spots { self.new.spots ≡ self.old.spots }
         ensures lent { self.old.is_lent ≡ false → self.new.is_lent ≡ false }
@@ -122,6 +202,7 @@ impl<D: Device> NodeReader<D> {
             Ok(node) => node,
             Err(_) => return Err(MapFault::NoMemory),
         };
+        self.tested.forget(id);
         self.keep(id, &node);
         Ok(node)
     }
@@ -147,7 +228,11 @@ impl<D: Device> NodeReader<D> {
         requires reading { IsReading (D.contents self.old.dev) self.old }
         requires read { IsRead (D.contents self.old.dev) self.old.is_lent
             (spots_in self.old.spots id) node.now.value }
+        requires untested { is_tested self.old.tested id ≡ false }
+        requires uncached { kept_at self.old.cache id ≡ None }
         ensures reading { IsReading (D.contents self.new.dev) self.new }
+        ensures cached { IfSome (kept_at self.new.cache id) (λ m. m ≡ node.now.value) }
+        ensures tested { self.new.tested ≡ self.old.tested }
         ensures lent { self.new.is_lent ≡ self.old.is_lent }
         ensures spots { self.new.spots ≡ self.old.spots }
         ensures device { self.new.dev ≡ self.old.dev }

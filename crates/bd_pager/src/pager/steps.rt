@@ -16,8 +16,9 @@ ghost use Rattle.bd_pager.specs.Stepping.{put_at, held};
 
 use super::{Pager, first_slot};
 use crate::committing::{NewRoot, Plan, carry_out, made_puts, put_in, puts_of};
-use crate::extending::{Addition, copy_names_lower, extend_spots};
+use crate::extending::{Addition, extend_spots};
 use crate::stepping::Put;
+use crate::tested::outdate;
 use bd_counts::{NewCounts, added, recount};
 use bd_device::Device;
 use bd_message::{Counter, MapFault, Message};
@@ -57,6 +58,7 @@ impl<D: Device> Pager<D> {
         };
         let root = plan.root;
         let size = plan.new_root.size;
+        outdate(&mut self.reader.tested, &self.reader.spots, &plan);
         match carry_out(
             &mut self.reader.spots,
             &mut self.reader.cache,
@@ -174,9 +176,10 @@ impl<D: Device> Pager<D> {
 
     /// Puts messages after those that wait in the root, and new nodes under the next ids, which the
     /// messages and one another may name: the commit of the root changed so, for the cost of the
-    /// messages and the new nodes, and of a look at what the root names, where nobody else holds the
-    /// root's node. It makes no call of the device. One visit for each new node. `Damaged` names the
-    /// first block of the checkpoint's table, where what the root names can't be right.
+    /// messages and the new nodes, and of a look at what the root names where a fetch would look at
+    /// it, unless a caller holds the root's node. It makes no call of the device. One visit for each
+    /// new node. `Damaged` names the first block of the checkpoint's table, where what the root
+    /// names can't be right.
     pub fn extend(&mut self, made: Items<Node>, list: Messages) -> Result<(), MapFault>
         requires { (root : Node) → IsRootOf (table_of self.old) root
             → IsStep (table_of self.old) (extend_step (table_of self.old) root made list) }
@@ -200,7 +203,7 @@ impl<D: Device> Pager<D> {
         ensures cause { HasMapCause (D.fault_count self.old.dev) (D.fault_count self.new.dev)
             (is_bad D.Device self.new) (IsWornByAdding (table_of self.old) made list) result }
     {
-        if !copy_names_lower(&self.reader.spots, self.root) {
+        if !self.reader.copy_names_lower(self.root) {
             return Err(MapFault::Damaged {
                 block: slot_block(first_slot(self.at.as_slice())),
             });

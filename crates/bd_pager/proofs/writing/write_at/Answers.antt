@@ -7,6 +7,7 @@ use Rattle.bd_pager.specs.Counting.{IsTallied}
 use Rattle.bd_pager.specs.Places.{spots_in}
 use Rattle.bd_pager.proofs.CountingLemmas.{removed_listed}
 use Rattle.bd_pager.proofs.MovingLemmas.{moves_then, device_moves, cached_kept, has_own_now, reserved_moves, reserved_unused, reserved_tallied, reserved_placed, reserved_cached, own_writable, own_wider, own_apart, own_there, settled_moves, settled_placed, settled_cached, settled_tallied}
+use Rattle.bd_pager.proofs.TestedLemmas.{reserved_tested, settled_tested}
 use Rattle.bd_pager.proofs.writing.write_at.Goals as goal
 
 pub write_spot-requires : goal.write_spot-requires
@@ -46,6 +47,7 @@ returns-in_err-write_spot-clause-reading g c =
       placed = reserved_placed c.args.id spots u.free mid c.reserve.new.free c.reserve.ensures c.requires.memory D u.spare r.dev c.requires.reading.placed;
       cached = cached_kept _ (D.contents r.dev) (D.contents c.write_spot.new.dev) r.is_lent mid r.cache c.write_spot.ensures.elsewhere (own_apart u.spare c.reserve.new.free mid c.args.id own unused)
           (reserved_cached c.args.id spots u.free mid c.reserve.new.free c.reserve.ensures c.requires.memory (D.contents r.dev) r.is_lent r.cache c.requires.reading.cached);
+      tested = reserved_tested c.args.id spots u.free mid c.reserve.new.free c.reserve.ensures r.cache r.tested c.requires.reading.tested;
     }
 
 pub returns-in_err-write_spot-clause-tallied : goal.returns-in_err-write_spot-clause-tallied
@@ -87,6 +89,8 @@ returns-clause-reading g c =
       cached = settled_cached D u.spare c.reserve.new.free c.args.root c.args.id r.dev mid last own unused _ c.settle.ensures (D.contents c.write_spot.new.dev) r.is_lent r.cache
           (cached_kept _ (D.contents r.dev) (D.contents c.write_spot.new.dev) r.is_lent mid r.cache c.in_ok-write_spot.ensures.elsewhere (own_apart u.spare c.reserve.new.free mid c.args.id own unused)
           (reserved_cached c.args.id spots u.free mid c.reserve.new.free c.reserve.ensures c.requires.memory (D.contents r.dev) r.is_lent r.cache c.requires.reading.cached));
+      tested = settled_tested c.args.id _ mid last c.settle.ensures r.cache r.tested
+          (reserved_tested c.args.id spots u.free mid c.reserve.new.free c.reserve.ensures r.cache r.tested c.requires.reading.tested);
     }
 
 pub returns-clause-tallied : goal.returns-clause-tallied

@@ -103,6 +103,7 @@ returns-in_err-write-clause-reading g c =
     record {
       placed = w.reading.placed;
       cached = cached_kept (IsOfTable at) (D.contents r.dev) (D.contents c.write.new.dev) r.is_lent spots r.cache c.in_err-write.ensures.elsewhere (table_apart u.spare u.free spots at all.tallied.unused free) w.reading.cached;
+      tested = w.reading.tested;
     }
 
 pub returns-in_err-write-clause-tallied : goal.returns-in_err-write-clause-tallied
@@ -143,6 +144,7 @@ returns-clause-reading g c =
     record {
       placed = w.reading.placed;
       cached = cached_kept (IsOfTable at) (D.contents r.dev) (D.contents c.write.new.dev) r.is_lent spots r.cache c.in_ok-write.ensures.elsewhere (table_apart u.spare u.free spots at all.tallied.unused free) w.reading.cached;
+      tested = w.reading.tested;
     }
 
 pub returns-clause-tallied : goal.returns-clause-tallied

@@ -1,10 +1,12 @@
-use Rattle.std.proofs.Common.{◌≡◌, ℕ, ◌+◌, Bool, List, length, sym, ap, subst, ◌∙◌}
+use Rattle.std.proofs.Common.{◌≡◌, ℕ, ◌+◌, Bool, List, length, nat_eq, sym, ap, subst, ◌∙◌}
+use Rattle.std.specs.Map.{lookup}
 use Rattle.bd_cache.specs.declared.cache.NodeCache.{NodeCache}
 use Rattle.bd_pager.specs.declared.place.Spot.{Spot}
 use Rattle.bd_pager.specs.Counting.{IsTallied}
-use Rattle.bd_pager.specs.Pagers.{Paged, seen}
+use Rattle.bd_pager.specs.Pagers.{Paged, IsPaged, seen}
 use Rattle.bd_pager.specs.Places.{spots_in}
-use Rattle.bd_pager.proofs.StepsLemmas.{OnlyReadsOf, reads_stay, tallied_more, plan_fits, plan_below, gone_below, plan_made}
+use Rattle.bd_pager.specs.Testing.{AreTested}
+use Rattle.bd_pager.proofs.StepsLemmas.{OnlyReadsOf, reads_stay, tallied_more, plan_fits, plan_below, gone_below, plan_made, plan_tested}
 use Rattle.bd_pager.proofs.pager.Pager.commit.Goals as goal
 
 pub returns-in-Err-clause-stays : goal.returns-in-Err-clause-stays
@@ -78,4 +80,22 @@ invariant_of-self-2 g c =
       subst (λ (n : ℕ). IsTallied (i.next + n) (spots_in new.spots) new.usage) (sym c.len-made.ensures)
           (e.tallied (i.next + length c.args.step.made) (plan_below g.D.Device old p c.args.step plan c.self.invariant.0 c.requires.step left c.in-Ok.ensures.plan)
           (gone_below g.D.Device old p c.args.step plan c.self.invariant.0 c.requires.step left c.in-Ok.ensures.plan) more),
+      plan_tested g.D.Device old p c.args.step plan c.self.invariant.0 c.requires.step left c.in-Ok.ensures.plan new.spots.entries new.cache new.usage.spare (i.next + c.len-made.result) c.saturating_add-self-inside.result
+          (ap (λ (n : ℕ). i.next + n) c.len-made.ensures) e.spots e.cache i.reader.tested c.outdate.new.tested c.outdate.ensures c.self.invariant.2,
+    )
+
+pub invariant_of-self : goal.invariant_of-self
+invariant_of-self g c =
+    let i = c.self.inside in
+    let p : Paged g.row.D.Denot = seen i.reader i.saved i.at.items i.usage.spare i.root i.size i.next i.visits i.written in
+    let e = c.in-Err-carry_out.ensures in
+    let new = c.carry_out.new in
+    let q : List (ℕ × Spot) → List Bool → NodeCache → Paged g.row.D.Denot = λ entries spare cache. record p { spots = entries; spare = spare; cache = cache } in (
+      subst (λ (m : NodeCache). IsPaged (g.D.Device.contents p.dev) (q new.spots.entries new.usage.spare m)) (sym e.err_cache)
+          (subst (λ (s : List Bool). IsPaged (g.D.Device.contents p.dev) (q new.spots.entries s i.reader.cache)) (sym e.spare)
+          (subst (λ (es : List (ℕ × Spot)). IsPaged (g.D.Device.contents p.dev) (q es i.usage.spare i.reader.cache)) (sym e.err) c.self.invariant.0)),
+      e.err_tallied i.next c.self.invariant.1,
+      subst (λ (m : NodeCache). AreTested (spots_in new.spots) m c.outdate.new.tested) (sym e.err_cache)
+          (subst (λ (es : List (ℕ × Spot)). AreTested (λ id. lookup (nat_eq id) es) i.reader.cache c.outdate.new.tested) (sym e.err)
+          (λ id on. c.self.invariant.2 id (c.outdate.ensures.tested id on))),
     )

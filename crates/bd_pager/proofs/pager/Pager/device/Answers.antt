@@ -23,6 +23,7 @@ invariant_of-self-lent g c = λ w.
         ready = was.ready;
       },
       c.self.invariant.1,
+      c.self.invariant.2,
     )
 
 pub returns : goal.returns

@@ -16,8 +16,9 @@ use Rattle.bd_pager.specs.Counting.{IsTallied}
 use Rattle.bd_pager.specs.Extending.{IsAdditionOf}
 use Rattle.bd_pager.specs.Keeping.{KeepsSaved}
 use Rattle.bd_pager.specs.Pagers.{Paged, spots_of, table_of, nodes_of, is_known, is_bad, IsPaged, seen}
-use Rattle.bd_pager.specs.Places.{spots_in, copy_in, IsLowerIn}
-use Rattle.bd_pager.proofs.ExtendedLemmas.{root_seen, list_fits, pager_extended, addition_below, unsound_root}
+use Rattle.bd_pager.specs.Places.{Spots, spots_in, copy_in, IsLowerIn}
+use Rattle.bd_pager.specs.Testing.{AreTested}
+use Rattle.bd_pager.proofs.ExtendedLemmas.{root_seen, list_fits, pager_extended, pager_tested, addition_below, unsound_root}
 use Rattle.bd_pager.proofs.StepsLemmas.{no_loans, reordered, tallied_more}
 use Rattle.bd_pager.proofs.pager.Pager.extend.Goals as goal
 
@@ -90,6 +91,7 @@ invariant_of-self g c =
     let same : spots_of p ≡ spots_in spots = λ j id. sym (e.err id) j in (
       subst (λ (s : List Bool). let q : Paged g.row.D.Denot = record p { spots = spots.entries; spare = s } in IsPaged (D.contents p.dev) q) (sym e.spare) (reordered D p spots.entries same was),
       e.err_tallied i.next (was.table.below p.root was.table.root) c.self.invariant.1,
+      subst (λ (s : Spots). AreTested s i.reader.cache i.reader.tested) same c.self.invariant.2,
     )
 
 pub invariant_of-self-2 : goal.invariant_of-self-2
@@ -114,6 +116,8 @@ invariant_of-self-2 g c =
       all.0,
       subst (λ (n : ℕ). IsTallied (i.next + n) (spots_in new.spots) new.usage) (sym c.len-count.ensures)
           (e.tallied (i.next + length made) low below (tallied_more (D.contents p.dev) p (length made) i.usage was is.fits c.self.invariant.1)),
+      pager_tested D p made list was ok looked c.in-Ok.addition new.spots.entries (i.size + c.size-added.result) (i.next + c.len-count.result) c.saturating_add-self-inside.result is
+          (ap (λ (n : ℕ). i.size + n) c.size-added.ensures) (ap (λ (n : ℕ). i.next + n) c.len-count.ensures) e.ok i.reader.tested c.self.invariant.2,
     )
 
 pub returns-clause-table : goal.returns-clause-table

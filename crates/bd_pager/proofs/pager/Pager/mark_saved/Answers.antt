@@ -18,4 +18,5 @@ invariant_of-self g c =
       subst (λ (o : Option Written). IsPaged contents (r c.into_vec.result.items o)) (sym c.in-Some.ensures.after)
           (subst (λ (l : List ℕ). IsPaged contents (r l None)) (sym c.into_vec.ensures) (saved_paged contents p w c.self.invariant.0 ready)),
       saved_tallied i.usage.spare spots i.root i.next w ready i.usage refl c.self.invariant.1,
+      c.self.invariant.2,
     )

@@ -37,6 +37,7 @@ invariant_of-self g c =
     (subst (λ (l : List Bool). AreUnused l v.free (spots_in r.spots)) w.spare tallied.unused) in (
       subst (λ (b : Bool). IsPaged (D.contents r.dev) (q b v.spare)) (sym w.lent) (subst (λ (l : List Bool). IsPaged (D.contents r.dev) (q i.reader.is_lent l)) (sym w.spare) paged),
       tallied,
+      w.reading.tested,
     )
 
 pub returns : goal.returns

@@ -21,4 +21,5 @@ invariant_of-self g c =
         ready = was.ready;
       },
       c.self.invariant.1,
+      c.self.invariant.2,
     )

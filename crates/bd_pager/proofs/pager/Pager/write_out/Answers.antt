@@ -55,6 +55,7 @@ invariant_of-self g c =
       subst (λ (b : Bool). IsPaged (D.contents r.dev) (q b v.spare (Some c.in-Ok-write_all.written))) (sym w.lent)
           (subst (λ (l : List Bool). IsPaged (D.contents r.dev) (q i.reader.is_lent l (Some c.in-Ok-write_all.written))) (sym w.spare) ready),
       w.tallied,
+      w.reading.tested,
     )
 
 pub invariant_of-self-in-Err : goal.invariant_of-self-in-Err
@@ -72,6 +73,7 @@ invariant_of-self-in-Err g c =
     (subst (λ (l : List Bool). AreUnused l v.free (spots_in r.spots)) w.spare w.tallied.unused) in (
       subst (λ (b : Bool). IsPaged (D.contents r.dev) (q b v.spare None)) (sym w.lent) (subst (λ (l : List Bool). IsPaged (D.contents r.dev) (q i.reader.is_lent l None)) (sym w.spare) paged),
       w.tallied,
+      w.reading.tested,
     )
 
 pub returns-in-Ok-write_all-clause-spills : goal.returns-in-Ok-write_all-clause-spills
