@@ -183,7 +183,7 @@ alone_behind None name first now was second all same =
     ap (λ o. shown_for name o second) (ap now all ∙ same ∙ ap was (sym all))
 
 -- a byte test of a name
-has_plus : (name : List ℕ) → HasPlus name → nat_lt (position_or_len (λ byte. byte == 43) name) (length name) ≡ true
+pub has_plus : (name : List ℕ) → HasPlus name → nat_lt (position_or_len (λ byte. byte == 43) name) (length name) ≡ true
 has_plus name plus = grind (arith, nat_tests, plus)
 
 -- of one that is kept as a member
@@ -200,7 +200,7 @@ named_member_behind name first now was second_now second plus empty cut same =
     ∙ sym (shown_member name (was (first_name name)) second plus empty)
 
 -- of two halves
-some_bytes : (l : List ℕ) → l ≢ [] → (length l == 0) ≡ false
+pub some_bytes : (l : List ℕ) → l ≢ [] → (length l == 0) ≡ false
 some_bytes [] more = absurd (more refl)
 some_bytes (x ∷ xs) more = grind (arith, nat_tests)
 

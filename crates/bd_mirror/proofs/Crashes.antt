@@ -1,5 +1,5 @@
 -- What a crash may leave while one half is made a copy of the other.
-use Rattle.std.proofs.Common.{◌≡◌, ℕ, ◌-◌, ◌<◌, List, [], ◌∷◌, length, take, ◌⊎◌, Option, None, Some, IfSome, Bool, true, false, refl, sym, ap, subst, ◌∙◌, arith, inl, inr, ⊎_elim}
+use Rattle.std.proofs.Common.{◌≡◌, ◌↔◌, ℕ, ◌-◌, ◌<◌, ◌≤◌, List, [], ◌∷◌, length, take, ◌⊎◌, Option, None, Some, IfSome, Bool, true, false, refl, sym, ap, subst, ◌∙◌, arith, inl, inr, ⊎_elim}
 use Rattle.std.specs.Prelude.{◌&&◌, not, IfNone}
 use Rattle.std.proofs.lemmas.Bool.{false≢true}
 use Rattle.std.proofs.lemmas.List.{take-set-le}
@@ -11,7 +11,7 @@ use Rattle.bd_device.specs.Moments.{Elapses, Nothing, TornAt, IsOnly}
 use Rattle.bd_device.specs.declared.device.Device.{Ghosts}
 use Rattle.bd_device.proofs.Calls.{reads_stay}
 use Rattle.bd_mirror.specs.Contents.{is_open_at, pick, IsCopy}
-use Rattle.bd_mirror.specs.Crashes.{IsPickOf, Stretch, GoesOver, GoesOn, LeavesPairs, LosesNothing}
+use Rattle.bd_mirror.specs.Crashes.{IsPickOf, Stretch, GoesOver, GoesOn, LeavesPairs, LeavesPairsFrom, IsPairFrom, LosesNothing}
 use Rattle.bd_mirror.proofs.Copies.{open_kept, only_has}
 use Rattle.bd_mirror.proofs.Marks.{take_but_mark, pick_closed, pick_open, pick_second}
 use Rattle.bd_mirror.proofs.Joined.{pick_source}
@@ -102,6 +102,8 @@ stretch_marking gs gc mark a b oa ob s s1 c c1 ka kb ma mb first only_a only_b s
     record {
       first_stays = stays_s;
       second_stays = stays_c;
+      first_later = time_s.later;
+      second_later = time_c.later;
       pairs = λ x y lx ly. picks_marking mark a b x y oa ob ea eb first
           (since_take mark a time_s (left_has (λ d. take mark d ≡ take mark a) (gs.contents s) a ka only_a refl) x lx)
           (since_take mark b time_c (left_has (λ d. take mark d ≡ take mark b) (gc.contents c) b kb only_b refl) y ly)
@@ -135,6 +137,8 @@ stretch_copying gs gc mark a b oa ob s s1 s2 c c1 c2 ka kb ma mb first stays_s o
     record {
       first_stays = reads_stay reads;
       second_stays = stays_c;
+      first_later = reads.time.later;
+      second_later = time_c.later;
       pairs = λ x y lx ly.
           let was : left_now gs s1 x = ⊎_elim (λ old. old) (λ none. absurd none) (reads.time.adds (gs.call_count s1) x (omega arith) lx) in
           picks_copying mark a b x y source (only_has (λ d. take mark d ≡ take mark a) (gs.contents s1) only_s (take_known mark a (gs.contents s) (gs.contents s1) ka stays_s) x was)
@@ -157,6 +161,8 @@ stretch_ending gs gc mark a b oa ob s s2 s3 c c2 ka kb ma mb first stays_s only_
     record {
       first_stays = stays_end;
       second_stays = record { count = refl; same_name = λ name was. was; same_loans = refl };
+      first_later = time_s.later;
+      second_later = omega arith;
       pairs = λ x y lx ly. picks_ending mark a b x y (is_open_at mark x) refl source
           (since_take mark a time_s (only_has (λ d. take mark d ≡ take mark a) (gs.contents s2) only_s (take_known mark a (gs.contents s) (gs.contents s2) ka stays_s)) x lx)
           (only_has (λ d. take mark d ≡ take mark a) (gc.contents c2) only_c (copy_some mark a (gc.contents c2) (subst (λ (o : Option Image). IsCopy mark o (gc.contents c2)) ka copied)) y ly)
@@ -172,6 +178,8 @@ pub stretch_reads : {A B : Type 0} (ga : Ghosts A) (gb : Ghosts B) (mark : ℕ) 
 stretch_reads ga gb mark a b s s1 c c1 ka kb only_a only_b reads_a reads_b = record {
   first_stays = reads_stay reads_a;
   second_stays = reads_stay reads_b;
+  first_later = reads_a.time.later;
+  second_later = reads_b.time.later;
   pairs = λ x y lx ly.
       let was_x : left_now ga s x = ⊎_elim (λ old. old) (λ none. absurd none) (reads_a.time.adds (ga.call_count s) x (omega arith) lx) in
       let was_y : left_now gb c y = ⊎_elim (λ old. old) (λ none. absurd none) (reads_b.time.adds (gb.call_count c) y (omega arith) ly) in
@@ -192,6 +200,8 @@ turned_stretch : {A B : Type 0} (ga : Ghosts A) (gb : Ghosts B) (mark : ℕ) (a 
 turned_stretch ga gb mark a b s s1 c c1 h = record {
   first_stays = h.second_stays;
   second_stays = h.first_stays;
+  first_later = h.second_later;
+  second_later = h.first_later;
   pairs = λ x y lx ly. turned_pick mark a b x y (h.pairs y x ly lx);
 }
 
@@ -231,25 +241,42 @@ reads_back ga gb m mark a b s s1 s2 c c1 c2 e ka kb only_a only_b reads_a reads_
 
 -- ---- by names
 
+-- what is left of both now is such a pair
+pairs_now : {A B : Type 0} (la : A → ℕ → Image → Type 0) (lb : B → ℕ → Image → Type 0) (ca : A → ℕ) (cb : B → ℕ) (x y : Image) (a : A) (b : B)
+    → LeavesPairs la lb ca cb (IsPairFrom (la a (ca a)) (lb b (cb b)) x y) a b a b
+pairs_now la lb ca cb x y a b = λ p q lp lq. inl (lp, lq)
+
 -- calls that leave no image
-pub pairs_before : {A B : Type 0} (la : A → ℕ → Image → Type 0) (lb : B → ℕ → Image → Type 0) (ca : A → ℕ) (cb : B → ℕ) (Q : Image → Image → Type 0) (a a1 : A) (b b1 : B)
+pairs_before : {A B : Type 0} (la : A → ℕ → Image → Type 0) (lb : B → ℕ → Image → Type 0) (ca : A → ℕ) (cb : B → ℕ) (x y : Image) (a a1 : A) (b b1 : B)
     → Elapses (ca a) (ca a1) (la a) (la a1) Nothing → Elapses (cb b) (cb b1) (lb b) (lb b1) Nothing
-    → LeavesPairs la lb ca cb (λ x y. (la a (ca a) x × lb b (cb b) y) ⊎ Q x y) a b a1 b1
-pairs_before la lb ca cb Q a a1 b b1 time_a time_b = λ x y lx ly.
-    inl (⊎_elim (λ old. old) (λ none. absurd none) (time_a.adds (ca a) x (omega arith) lx), ⊎_elim (λ old. old) (λ none. absurd none) (time_b.adds (cb b) y (omega arith) ly))
+    → LeavesPairs la lb ca cb (IsPairFrom (la a (ca a)) (lb b (cb b)) x y) a b a1 b1
+pairs_before la lb ca cb x y a a1 b b1 time_a time_b = λ p q lp lq.
+    inl (⊎_elim (λ old. old) (λ none. absurd none) (time_a.adds (ca a) p (omega arith) lp), ⊎_elim (λ old. old) (λ none. absurd none) (time_b.adds (cb b) q (omega arith) lq))
 
 -- what goes on by what is attached goes on by its names
-pub named_over : {A B : Type 0} (ga : Ghosts A) (gb : Ghosts B) (first second : List ℕ) (la : A → ℕ → Image → Type 0) (lb : B → ℕ → Image → Type 0) (P Q : Image → Image → Type 0)
-    → ((d : A) (t : ℕ) (c : Image) → ga.is_named d first → la d t c → ga.left_since d t c)
-    → ((d : B) (t : ℕ) (c : Image) → gb.is_named d second → lb d t c → gb.left_since d t c)
+named_over : {A B : Type 0} (ga : Ghosts A) (gb : Ghosts B) (first second : List ℕ) (la : A → ℕ → Image → Type 0) (lb : B → ℕ → Image → Type 0) (P Q : Image → Image → Type 0)
+    → ((d : A) (t : ℕ) (c : Image) → ga.is_named d first → la d t c ↔ ga.left_since d t c)
+    → ((d : B) (t : ℕ) (c : Image) → gb.is_named d second → lb d t c ↔ gb.left_since d t c)
+    → ((d : A) (t u : ℕ) (c : Image) → t ≤ u → ga.left_since d u c → ga.left_since d t c)
+    → ((d : B) (t u : ℕ) (c : Image) → t ≤ u → gb.left_since d u c → gb.left_since d t c)
     → ((x y : Image) → P x y → Q x y) → (ms : List (A × B)) (a a1 : A) (b b1 : B) → ga.is_named a first → gb.is_named b second
-    → GoesOver (Stretch ga gb P) a b ms a1 b1 → GoesOver (LeavesPairs la lb ga.call_count gb.call_count Q) a b ms a1 b1
-named_over ga gb first second la lb P Q law_a law_b into [] a a1 b b1 na nb h = λ x y lx ly.
-    into x y (h.pairs x y (law_a a1 (ga.call_count a) x (h.first_stays.same_name first na) lx) (law_b b1 (gb.call_count b) y (h.second_stays.same_name second nb) ly))
-named_over ga gb first second la lb P Q law_a law_b into (m ∷ ms) a a1 b b1 na nb h = (
-  λ x y lx ly. into x y (h.0.pairs x y (law_a m.0 (ga.call_count a) x (h.0.first_stays.same_name first na) lx) (law_b m.1 (gb.call_count b) y (h.0.second_stays.same_name second nb) ly)),
-  named_over ga gb first second la lb P Q law_a law_b into ms m.0 a1 m.1 b1 (h.0.first_stays.same_name first na) (h.0.second_stays.same_name second nb) h.1,
+    → LeavesPairs la lb ga.call_count gb.call_count Q a b a b
+    → GoesOver (Stretch ga gb P) a b ms a1 b1 → GoesOver (LeavesPairsFrom la lb ga.call_count gb.call_count Q) a b ms a1 b1
+named_over ga gb first second la lb P Q law_a law_b earlier_a earlier_b into [] a a1 b b1 na nb now h = (
+  now,
+  λ x y lx ly.
+      into x y (h.pairs x y ((law_a a1 (ga.call_count a) x (h.first_stays.same_name first na)).0 lx) ((law_b b1 (gb.call_count b) y (h.second_stays.same_name second nb)).0 ly)),
 )
+named_over ga gb first second la lb P Q law_a law_b earlier_a earlier_b into (m ∷ ms) a a1 b b1 na nb now h =
+    let na' = h.0.first_stays.same_name first na in
+    let nb' = h.0.second_stays.same_name second nb in (
+      (now, λ x y lx ly. into x y (h.0.pairs x y ((law_a m.0 (ga.call_count a) x na').0 lx) ((law_b m.1 (gb.call_count b) y nb').0 ly))),
+      named_over ga gb first second la lb P Q law_a law_b earlier_a earlier_b into ms m.0 a1 m.1 b1 na' nb'
+          (λ x y lx ly. into x y (h.0.pairs x y
+          (earlier_a m.0 (ga.call_count a) (ga.call_count m.0) x h.0.first_later ((law_a m.0 (ga.call_count m.0) x na').0 lx))
+          (earlier_b m.1 (gb.call_count b) (gb.call_count m.1) y h.0.second_later ((law_b m.1 (gb.call_count m.1) y nb').0 ly))))
+          h.1,
+    )
 
 pub none_then : {P Q : Type 0} (o : Option ℕ) → IfNone o P → (P → Q) → IfNone o Q
 none_then None p f = f p
@@ -261,14 +288,23 @@ pub loses_before : {A B : Type 0} (o : Option ℕ) (sa : A → Option Image) (sb
     → IfNone o (LosesNothing sa sb la lb ca cb a b a1 b1)
 loses_before (Some n) sa sb la lb ca cb a a1 b b1 time_a time_b = tt
 loses_before None sa sb la lb ca cb a a1 b b1 time_a time_b = λ x y sx sy some same.
-    ([], pairs_before la lb ca cb (IsPickOf (length x - 1) x y) a a1 b b1 time_a time_b)
+    ([], (pairs_now la lb ca cb x y a b, pairs_before la lb ca cb x y a a1 b b1 time_a time_b))
 
 -- how many blocks what is known has
-known_length : (count count' : ℕ) (known now : Option Image) (image : Image) → now ≡ known → count' ≡ count → IfSome known (HasBlocks count)
+pub known_length : (count count' : ℕ) (known now : Option Image) (image : Image) → now ≡ known → count' ≡ count → IfSome known (HasBlocks count)
     → now ≡ Some image → length image ≡ count'
 known_length count count' known now image kept same shape is =
     let there : HasBlocks count image = subst (λ (o : Option Image). IfSome o (HasBlocks count)) (sym kept ∙ is) shape in
     there.count_is ∙ sym same
+
+-- what is held after calls that leave no image could be left before them
+held_before : {A : Type 0} (ga : Ghosts A) (la : A → ℕ → Image → Type 0) (a ja : A) (x : Image)
+    → ((t : ℕ) (c : Image) → la ja t c ↔ ga.left_since ja t c) → ((t u : ℕ) (c : Image) → t ≤ u → ga.left_since ja u c → ga.left_since ja t c)
+    → Elapses (ga.call_count a) (ga.call_count ja) (la a) (la ja) Nothing → IfSome (ga.contents ja) (left_now ga ja) → ga.contents ja ≡ Some x → la a (ga.call_count a) x
+held_before ga la a ja x law earlier time stays is =
+    let held : left_now ga ja x = is_known (left_now ga ja) (ga.contents ja) x is stays in
+    ⊎_elim (λ old. old) (λ none. absurd none)
+    (time.adds (ga.call_count a) x (omega arith) ((law (ga.call_count a) x).1 (earlier (ga.call_count a) (ga.call_count ja) x time.later held)))
 
 -- nor do two halves that were attached and are joined
 pub loses_joined : {A B : Type 0} (ga : Ghosts A) (gb : Ghosts B) (o : Option ℕ) (first second : List ℕ) (sa : A → Option Image) (sb : B → Option Image) (la : A → ℕ → Image → Type 0) (lb : B → ℕ → Image → Type 0)
@@ -277,22 +313,36 @@ pub loses_joined : {A B : Type 0} (ga : Ghosts A) (gb : Ghosts B) (o : Option �
     → IfSome (ga.contents a0) (HasBlocks (ga.block_count a0)) → IfSome (gb.contents b0) (HasBlocks (gb.block_count b0))
     → IfNone o (Elapses (ga.call_count a) (ga.call_count ja) (la a) (la ja) Nothing) → IfNone o (Elapses (gb.call_count b) (gb.call_count jb) (lb b) (lb jb) Nothing)
     → ga.is_named ja first → gb.is_named jb second
-    → ((d : A) (t : ℕ) (c : Image) → ga.is_named d first → la d t c → ga.left_since d t c)
-    → ((d : B) (t : ℕ) (c : Image) → gb.is_named d second → lb d t c → gb.left_since d t c)
+    → ((d : A) (t : ℕ) (c : Image) → ga.is_named d first → la d t c ↔ ga.left_since d t c)
+    → ((d : B) (t : ℕ) (c : Image) → gb.is_named d second → lb d t c ↔ gb.left_since d t c)
+    → ((d : A) (t u : ℕ) (c : Image) → t ≤ u → ga.left_since d u c → ga.left_since d t c)
+    → ((d : B) (t u : ℕ) (c : Image) → t ≤ u → gb.left_since d u c → gb.left_since d t c)
+    → (0 < ga.block_count ja → ga.block_count ja ≡ gb.block_count jb → IfSome (ga.contents ja) (left_now ga ja))
+    → (0 < ga.block_count ja → ga.block_count ja ≡ gb.block_count jb → IfSome (gb.contents jb) (left_now gb jb))
     → (0 < ga.block_count ja → ga.block_count ja ≡ gb.block_count jb → (x y : Image) → ga.contents ja ≡ Some x → gb.contents jb ≡ Some y
     → GoesOn (Stretch ga gb (IsPickOf (ga.block_count ja - 1) x y)) ja jb a1 b1)
     → IfNone o (LosesNothing sa sb la lb ga.call_count gb.call_count a b a1 b1)
-loses_joined ga gb (Some n) first second sa sb la lb a a0 ja a1 b b0 jb b1 is_a is_b kept_a kept_b count_a count_b shape_a shape_b time_a time_b na nb law_a law_b inside = tt
-loses_joined ga gb None first second sa sb la lb a a0 ja a1 b b0 jb b1 is_a is_b kept_a kept_b count_a count_b shape_a shape_b time_a time_b na nb law_a law_b inside = λ x y sx sy some same.
+loses_joined ga gb (Some n) first second sa sb la lb a a0 ja a1 b b0 jb b1 is_a is_b kept_a kept_b count_a count_b shape_a shape_b time_a time_b na nb law_a law_b earlier_a earlier_b stay_a stay_b inside = tt
+loses_joined ga gb None first second sa sb la lb a a0 ja a1 b b0 jb b1 is_a is_b kept_a kept_b count_a count_b shape_a shape_b time_a time_b na nb law_a law_b earlier_a earlier_b stay_a stay_b inside = λ x y sx sy some same.
     let kx : ga.contents ja ≡ Some x = kept_a ∙ is_a ∙ sx in
     let ky : gb.contents jb ≡ Some y = kept_b ∙ is_b ∙ sy in
     let len_x : length x ≡ ga.block_count ja = known_length (ga.block_count a0) (ga.block_count ja) (ga.contents a0) (ga.contents ja) x kept_a count_a shape_a kx in
     let len_y : length y ≡ gb.block_count jb = known_length (gb.block_count b0) (gb.block_count jb) (gb.contents b0) (gb.contents jb) y kept_b count_b shape_b ky in
-    let over = inside (subst (λ n. 0 < n) len_x some) (sym len_x ∙ same ∙ len_y) x y kx ky in (
+    let room : 0 < ga.block_count ja = subst (λ n. 0 < n) len_x some in
+    let equal : ga.block_count ja ≡ gb.block_count jb = sym len_x ∙ same ∙ len_y in
+    let over = inside room equal x y kx ky in
+    let left_x : la a (ga.call_count a) x = held_before ga la a ja x (λ t c. law_a ja t c na) (earlier_a ja) time_a (stay_a room equal) kx in
+    let left_y : lb b (gb.call_count b) y = held_before gb lb b jb y (λ t c. law_b jb t c nb) (earlier_b jb) time_b (stay_b room equal) ky in
+    let before = pairs_before la lb ga.call_count gb.call_count x y a ja b jb time_a time_b in
+    let Q : Image → Image → Type 0 = IsPairFrom (la a (ga.call_count a)) (lb b (gb.call_count b)) x y in (
       (ja, jb) ∷ over.0,
       (
-        pairs_before la lb ga.call_count gb.call_count (IsPickOf (length x - 1) x y) a ja b jb time_a time_b,
-        named_over ga gb first second la lb (IsPickOf (ga.block_count ja - 1) x y) (λ p q. (la a (ga.call_count a) p × lb b (gb.call_count b) q) ⊎ IsPickOf (length x - 1) x y p q)
-            law_a law_b (λ p q h. inr (subst (λ k. IsPickOf (k - 1) x y p q) (sym len_x) h)) over.0 ja a1 jb b1 na nb over.1,
+        (pairs_now la lb ga.call_count gb.call_count x y a b, before),
+        named_over ga gb first second la lb (IsPickOf (ga.block_count ja - 1) x y) Q law_a law_b earlier_a earlier_b
+            (λ p q h. inr (left_x, left_y, subst (λ k. IsPickOf (k - 1) x y p q) (sym len_x) h)) over.0 ja a1 jb b1 na nb
+            (λ p q lp lq. before p q
+            ((law_a ja (ga.call_count a) p na).1 (earlier_a ja (ga.call_count a) (ga.call_count ja) p time_a.later ((law_a ja (ga.call_count ja) p na).0 lp)))
+            ((law_b jb (gb.call_count b) q nb).1 (earlier_b jb (gb.call_count b) (gb.call_count jb) q time_b.later ((law_b jb (gb.call_count jb) q nb).0 lq))))
+            over.1,
       ),
     )

@@ -5,5 +5,6 @@ pub mod Crashes
 pub mod Joined
 pub mod Leaves
 pub mod Marks
+pub mod Past
 pub mod Since
 pub mod Walks

@@ -163,6 +163,8 @@ pub fn open_member<D: Device>(half: &mut D) -> Result<(), Failed>
         (λ image. is_open_at (D.block_count half.old - 1) image ≡ true)) }
     ensures others { StaysBut (λ i. i ≡ D.block_count half.old - 1)
         (D.contents half.old) (D.contents half.new) }
+    ensures time { Goes D.Device half.old half.new
+        (TornAt (D.block_count half.old - 1) (left_now D.Device half.old)) }
     ensures stays { Stays D.Device half.old half.new }
     ensures cause { FailsLast D.Device half.old half.new result }
 {

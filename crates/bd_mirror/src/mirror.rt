@@ -1,9 +1,9 @@
-ghost use Rattle.std.specs.Prelude.{◌≡◌, ◌≢◌, ℕ, List, [], ◌∷◌, ◌<◌, ◌≤◌, ◌+◌, ◌-◌, ◌^◌, if◌then◌else◌, ◌⊎◌, true, false, IsTrue, None, Some, IfSome, IfNone, IfOk, OnOk, OnErr, is_ok, is_err, slice_get};
+ghost use Rattle.std.specs.Prelude.{◌≡◌, ◌≢◌, ℕ, List, [], ◌∷◌, ◌<◌, ◌≤◌, ◌+◌, ◌-◌, ◌^◌, if◌then◌else◌, ◌⊎◌, true, false, IsTrue, length, take, None, Some, IfSome, IfNone, IfOk, OnOk, OnErr, is_ok, is_err, slice_get};
 ghost use Rattle.bd_io.specs.Cause.{HasCause, IsCounted, Rose};
 ghost use Rattle.bd_device.specs.Calls.{faults_after, no_calls};
 ghost use Rattle.bd_device.specs.Blocks.{Image, with_block, ChangesOnly};
 ghost use Rattle.bd_mirror.specs.declared.halves.Halves.TheVariants.{Both, First, Second, Neither};
-ghost use Rattle.bd_mirror.specs.declared.halves.Attached.TheVariants.{Nothing, Member};
+ghost use Rattle.bd_mirror.specs.declared.halves.Attached.TheVariants.{Nothing, Member, Pair};
 ghost use Rattle.std.specs.Option.{option_map};
 ghost use Rattle.bd_mirror.specs.Contents.{is_open_at, shown_together};
 ghost use Rattle.bd_mirror.specs.Crashes.{IsPickOf, Stretch, GoesOn, LosesNothing};
@@ -12,7 +12,8 @@ ghost use Rattle.bd_device.specs.Changes.{StaysBut};
 ghost use Rattle.bd_device.specs.Device.{left_now, Goes, FailsLast, Stays};
 ghost use Rattle.bd_device.specs.Moments.{Nothing as Unwritten, TornAt, Elapses, IsOnly};
 ghost use Rattle.bd_mirror.specs.Halves.{has_marks, IsInUse, halves_of, with_halves, uses_first, uses_second, blocks_in, EachDid, LeftOnly, AttachedTo, is_two, is_too_many};
-ghost use Rattle.bd_mirror.specs.Since.{mirror_since, KeepsMoments, LeavesNow};
+ghost use Rattle.bd_mirror.specs.Past.{GoesAsBefore, GoesByName, LeavesNoMore, MemberGoes};
+ghost use Rattle.bd_mirror.specs.Since.{mirror_since, KeepsMoments, LeavesNow, IsLeftOf};
 ghost use Rattle.bd_mirror.specs.Writing.{IsWithin, IsBarrier, bytes_of, contents_after, TornBy, IsLeftBy};
 ghost use Rattle.bd_mirror.specs.Calls.{blocks_now, shown_now, shown_of, IsMirror, KeepsMarks, mirror_left, LeavesImages, IsMade, LeavesWhatItShows, attached_as, AreSettled, in_use, attached_to, first_of, second_of, counts_of, moments_of, calls_of, faults_of, write_faults_of, last_of, IsFull, FirstFailed, SecondFailed, HalvesNamed, HalvesStay};
 
@@ -370,6 +371,13 @@ impl<A: Attach, B: Attach> Mirror<A, B> {
             (λ d. B.left_behind d (second_name name.now))
             (λ d. A.call_count d) (λ d. B.call_count d)
             (first_of self.old) (second_of self.old) (first_of self.new) (second_of self.new)) }
+        ensures by_name { IfNone create (GoesByName name.now
+            (A.shows (first_of self.old) (first_name name.now))
+            (B.shows (second_of self.old) (second_name name.now))
+            (λ d. A.left_behind d (first_name name.now))
+            (λ d. B.left_behind d (second_name name.now))
+            (λ d. A.call_count d) (λ d. B.call_count d)
+            (first_of self.old) (second_of self.old) (first_of self.new) (second_of self.new)) }
         ensures behind { IfNone create (shown_for name.now
             (A.shows (first_of self.new) (first_name name.now))
             (B.shows (second_of self.new) (second_name name.now))
@@ -409,6 +417,10 @@ impl<A: Attach, B: Attach> Mirror<A, B> {
         ensures behind { IfNone size
             (option_map without_last (A.shows (first_of self.new) name.now)
             ≡ option_map without_last (A.shows (first_of self.old) name.now)) }
+        ensures by_name { IfNone size ((x : Image)
+            → A.shows (first_of self.old) name.now ≡ Some x
+            → MemberGoes (λ d. A.left_behind d name.now) (λ d. A.call_count d)
+            (take (length x - 1)) (first_of self.old) (first_of self.new)) }
         ensures named { OnOk result (A.is_named (first_of self.new) name.now) }
         ensures opened { OnOk result (0 < A.block_count (first_of self.new)
             → IfSome (A.contents (first_of self.new))
@@ -447,6 +459,14 @@ impl<A: Attach, B: Attach> Mirror<A, B> {
             (λ d. A.shows d first.now) (λ d. B.shows d second.now)
             (λ d. A.left_behind d first.now) (λ d. B.left_behind d second.now)
             (λ d. A.call_count d) (λ d. B.call_count d)
+            (first_of self.old) (second_of self.old) (first_of self.new) (second_of self.new)) }
+        ensures by_names { IfNone size ((x y : Image)
+            → A.shows (first_of self.old) first.now ≡ Some x
+            → B.shows (second_of self.old) second.now ≡ Some y
+            → 0 < length x → length x ≡ length y → GoesAsBefore
+            (λ d. A.left_behind d first.now) (λ d. B.left_behind d second.now)
+            (λ d. A.call_count d) (λ d. B.call_count d)
+            (IsLeftOf (Pair Both) (length x) (length x))
             (first_of self.old) (second_of self.old) (first_of self.new) (second_of self.new)) }
         ensures behind { IfNone size (shown_together
             (A.shows (first_of self.new) first.now) (B.shows (second_of self.new) second.now)
@@ -487,6 +507,12 @@ impl<A: Device, B: Device> Mirror<A, B> {
         ensures mirror { IfOk result (λ at. IsMade A.Device B.Device (attached_as at self.new)) }
         ensures shown { IfOk result (λ at. shown_now A.Device B.Device (attached_as at self.new)
             ≡ shown_now A.Device B.Device (attached_as at self.old)) }
+        ensures first_holds { 0 < A.block_count (first_of self.old)
+            → A.block_count (first_of self.old) ≡ B.block_count (second_of self.old)
+            → IfSome (A.contents (first_of self.old)) (left_now A.Device (first_of self.old)) }
+        ensures second_holds { 0 < A.block_count (first_of self.old)
+            → A.block_count (first_of self.old) ≡ B.block_count (second_of self.old)
+            → IfSome (B.contents (second_of self.old)) (left_now B.Device (second_of self.old)) }
         ensures inside { 0 < A.block_count (first_of self.old)
             → A.block_count (first_of self.old) ≡ B.block_count (second_of self.old)
             → (a b : Image) → A.contents (first_of self.old) ≡ Some a
@@ -606,6 +632,18 @@ impl<A: Attach, B: Attach> Attach for Mirror<A, B> {
             (λ d. A.left_behind d (first_name name.now))
             (λ d. B.left_behind d (second_name name.now))
             (λ d. A.call_count d) (λ d. B.call_count d)
+            (first_of self.old) (second_of self.old) (first_of self.new) (second_of self.new)) }
+
+        // Of the image of that name a crash might then have left, since each earlier call, what it
+        // might have left before, whatever was attached in between: by what a crash left of the
+        // images of the halves' names at each moment, also inside this attach, and also where it
+        // fails.
+        ensures by_name { IfNone create (LeavesNoMore name.now
+            (A.shows (first_of self.old) (first_name name.now))
+            (B.shows (second_of self.old) (second_name name.now))
+            (λ d. A.left_behind d (first_name name.now))
+            (λ d. B.left_behind d (second_name name.now))
+            (λ d. A.call_count d) (λ d. B.call_count d) (calls_of self.old) (calls_of self.new)
             (first_of self.old) (second_of self.old) (first_of self.new) (second_of self.new)) }
 
         // The first half of `X+` has its mark open.

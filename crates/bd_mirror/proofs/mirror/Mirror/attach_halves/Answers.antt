@@ -1,11 +1,19 @@
-use Rattle.std.proofs.Common.{ℕ, List, arith, ◌+◌, ◌∙◌, sym, subst}
+use Rattle.std.proofs.Common.{◌≡◌, ℕ, List, Some, arith, ◌+◌, ◌-◌, ◌<◌, ◌∙◌, sym, subst, length, take}
 use Rattle.bd_mirror.specs.Calls.{shown_now, attached_as}
+use Rattle.bd_device.specs.Blocks.{Image}
+use Rattle.bd_device.specs.Moments.{Nothing}
+use Rattle.bd_device.proofs.Moments.{by_name}
 use Rattle.bd_device.proofs.Refusals.{IfNone-always}
 use Rattle.bd_mirror.specs.Crashes.{LosesNothing}
 use Rattle.bd_mirror.specs.Names.{first_name, second_name}
+use Rattle.bd_mirror.specs.Past.{GoesAsBefore, MemberGoes}
+use Rattle.bd_mirror.specs.Since.{IsLeftOf}
+use Rattle.bd_mirror.specs.declared.halves.Halves.TheVariants.{Both}
+use Rattle.bd_mirror.specs.declared.halves.Attached.TheVariants.{Pair}
 use Rattle.bd_mirror.proofs.Attaching.{split_none, split_some, named_alone, named_member, named_two, first_alone, alone_names, member_names, pair_names, empty_is, some_is, two_no_member, alone_no_member, none_of, not_too_many}
 use Rattle.bd_mirror.proofs.Behind.{alone_behind, named_member_behind, named_pair_behind}
 use Rattle.bd_mirror.proofs.Crashes.{none_then}
+use Rattle.bd_mirror.proofs.Past.{alone_by_name, member_by_name, pair_by_name}
 use Rattle.bd_mirror.proofs.Since.{both_ok}
 use Rattle.bd_mirror.proofs.mirror.Mirror.attach_halves.Goals as goal
 
@@ -158,3 +166,61 @@ returns-else-is_empty-clause-halves g c =
       first = subst (λ (name : List ℕ). g.A.Device.is_named new.first name) cut.0 first;
       second = λ _ _. subst (λ (name : List ℕ). g.B.Device.is_named new.second name) cut.1 second;
     })
+
+-- ---- what it may leave since an earlier call
+
+pub returns-in_ok-attach-in-None-clause-by_name : goal.returns-in_ok-attach-in-None-clause-by_name
+returns-in_ok-attach-in-None-clause-by_name g c =
+    let none = split_none _ c.args.name.now c.split_once.result c.split_once.ensures.byte (λ w o h. h) c.in-None.is in
+    alone_by_name c.args.create c.args.name.now (first_name c.args.name.now) _ _ g.A.Attach.left_behind (λ d. g.B.Attach.left_behind d (second_name c.args.name.now))
+    g.A.Device.call_count g.B.Device.call_count c.args.self.now.first c.attach.new.self c.args.self.now.second none (first_alone c.args.name.now none)
+    (none_then c.args.create c.in_ok-attach-in-None.ensures.time (λ time. by_name Nothing time
+    (λ t image. g.met.A.Attach.left_named c.attach.new.self c.args.name.now t image c.in_ok-attach-in-None.ensures.named)))
+
+pub returns-in_err-attach-in-None-clause-by_name : goal.returns-in_err-attach-in-None-clause-by_name
+returns-in_err-attach-in-None-clause-by_name g c =
+    let none = split_none _ c.args.name.now c.split_once.result c.split_once.ensures.byte (λ w o h. h) c.in-None.is in
+    alone_by_name c.args.create c.args.name.now (first_name c.args.name.now) _ _ g.A.Attach.left_behind (λ d. g.B.Attach.left_behind d (second_name c.args.name.now))
+    g.A.Device.call_count g.B.Device.call_count c.args.self.now.first c.attach.new.self c.args.self.now.second none (first_alone c.args.name.now none)
+    c.in_err-attach-in-None.ensures.behind_time
+
+pub returns-in_err-size-in-Some-clause-by_name : goal.returns-in_err-size-in-Some-clause-by_name
+returns-in_err-size-in-Some-clause-by_name g c = not_too_many _ c.args.create c.in_err-size-in-Some.ensures.fails
+
+pub returns-in_ok-attach_member-in-Some-clause-by_name : goal.returns-in_ok-attach_member-in-Some-clause-by_name
+returns-in_ok-attach_member-in-Some-clause-by_name g c =
+    let cut = split_some _ c.args.name.now c.split_once.result _ c.split_once.ensures.byte (λ w o h. h) c.in-Some.is in
+    let m = c.args.self.now in
+    let new = c.attach_member.new.self in
+    none_of (λ n. n + 1) c.in_ok-size-in-Some.size c.args.create c.in_ok-size-in-Some.ensures.more c.attach_member.ensures.by_name (λ goes.
+    member_by_name c.args.name.now _ _ (λ d. g.A.Attach.left_behind d (first_name c.args.name.now)) (λ d. g.B.Attach.left_behind d (second_name c.args.name.now))
+    g.A.Device.call_count g.B.Device.call_count m.first new.first m.second new.second cut.2
+    (sym cut.1 ∙ empty_is c.is_empty.result c.in-Some.second.now c.is_empty.ensures c.if-is_empty.true)
+    (subst (λ first. (x : Image) → g.A.Attach.shows m.first first ≡ Some x → MemberGoes (λ d. g.A.Attach.left_behind d first) g.A.Device.call_count (take (length x - 1)) m.first new.first) cut.0 goes))
+
+pub returns-in_err-attach_member-in-Some-clause-by_name : goal.returns-in_err-attach_member-in-Some-clause-by_name
+returns-in_err-attach_member-in-Some-clause-by_name g c =
+    let cut = split_some _ c.args.name.now c.split_once.result _ c.split_once.ensures.byte (λ w o h. h) c.in-Some.is in
+    let m = c.args.self.now in
+    let new = c.attach_member.new.self in
+    none_of (λ n. n + 1) c.in_ok-size-in-Some.size c.args.create c.in_ok-size-in-Some.ensures.more c.attach_member.ensures.by_name (λ goes.
+    member_by_name c.args.name.now _ _ (λ d. g.A.Attach.left_behind d (first_name c.args.name.now)) (λ d. g.B.Attach.left_behind d (second_name c.args.name.now))
+    g.A.Device.call_count g.B.Device.call_count m.first new.first m.second new.second cut.2
+    (sym cut.1 ∙ empty_is c.is_empty.result c.in-Some.second.now c.is_empty.ensures c.if-is_empty.true)
+    (subst (λ first. (x : Image) → g.A.Attach.shows m.first first ≡ Some x → MemberGoes (λ d. g.A.Attach.left_behind d first) g.A.Device.call_count (take (length x - 1)) m.first new.first) cut.0 goes))
+
+pub returns-else-is_empty-clause-by_name : goal.returns-else-is_empty-clause-by_name
+returns-else-is_empty-clause-by_name g c =
+    let cut = split_some _ c.args.name.now c.split_once.result _ c.split_once.ensures.byte (λ w o h. h) c.in-Some.is in
+    let m = c.args.self.now in
+    let new = c.attach_pair.new.self in
+    none_of (λ n. n + 1) c.in_ok-size-in-Some.size c.args.create c.in_ok-size-in-Some.ensures.more c.attach_pair.ensures.by_names (λ goes.
+    pair_by_name c.args.name.now _ _ (λ d. g.A.Attach.left_behind d (first_name c.args.name.now)) (λ d. g.B.Attach.left_behind d (second_name c.args.name.now))
+    g.A.Device.call_count g.B.Device.call_count m.first new.first m.second new.second cut.2
+    (λ e. some_is c.is_empty.result c.in-Some.second.now c.is_empty.ensures c.if-is_empty.false (cut.1 ∙ e))
+    (subst (λ first. (x y : Image) → g.A.Attach.shows m.first first ≡ Some x → g.B.Attach.shows m.second (second_name c.args.name.now) ≡ Some y → 0 < length x → length x ≡ length y
+    → GoesAsBefore (λ d. g.A.Attach.left_behind d first) (λ d. g.B.Attach.left_behind d (second_name c.args.name.now)) g.A.Device.call_count g.B.Device.call_count
+    (IsLeftOf (Pair Both) (length x) (length x)) m.first m.second new.first new.second) cut.0
+    (subst (λ second. (x y : Image) → g.A.Attach.shows m.first c.in-Some.first.now ≡ Some x → g.B.Attach.shows m.second second ≡ Some y → 0 < length x → length x ≡ length y
+    → GoesAsBefore (λ d. g.A.Attach.left_behind d c.in-Some.first.now) (λ d. g.B.Attach.left_behind d second) g.A.Device.call_count g.B.Device.call_count
+    (IsLeftOf (Pair Both) (length x) (length x)) m.first m.second new.first new.second) cut.1 goes)))

@@ -1,11 +1,14 @@
 use Rattle.std.proofs.Common.{ap, ◌∙◌}
 use Rattle.std.specs.Option.{option_map}
+use Rattle.bd_device.specs.Moments.{Nothing}
+use Rattle.bd_device.proofs.Moments.{goes_on, by_name}
 use Rattle.bd_device.proofs.Refusals.{OnOk-then}
 use Rattle.bd_mirror.proofs.Attaching.{member_stays, member_opened}
 use Rattle.bd_mirror.specs.Names.{without_last}
 use Rattle.bd_mirror.proofs.Behind.{member_behind}
 use Rattle.bd_mirror.proofs.Crashes.{none_then}
 use Rattle.bd_mirror.proofs.Marks.{OnOk-always}
+use Rattle.bd_mirror.proofs.Past.{member_quiet, member_opens}
 use Rattle.bd_mirror.proofs.mirror.Mirror.attach_member.Goals as goal
 
 pub returns-clause-shown : goal.returns-clause-shown
@@ -44,3 +47,26 @@ returns-clause-behind g c =
 pub returns-clause-named : goal.returns-clause-named
 returns-clause-named g c =
     OnOk-always c.open_member.result (c.open_member.ensures.stays.same_name c.args.name.now (c.barrier.ensures.same_name c.args.name.now c.in_ok-attach.ensures.named))
+
+-- ---- what it may leave since an earlier call
+
+pub returns-in_err-attach-clause-by_name : goal.returns-in_err-attach-clause-by_name
+returns-in_err-attach-clause-by_name g c =
+    member_quiet c.args.size _ (λ d. g.A.Attach.left_behind d c.args.name.now) g.A.Device.call_count c.args.self.now.first c.attach.new.self c.in_err-attach.ensures.behind_time
+
+pub returns-in_err-barrier-clause-by_name : goal.returns-in_err-barrier-clause-by_name
+returns-in_err-barrier-clause-by_name g c =
+    member_quiet c.args.size _ (λ d. g.A.Attach.left_behind d c.args.name.now) g.A.Device.call_count c.args.self.now.first c.barrier.new.self
+    (none_then c.args.size c.in_ok-attach.ensures.time (λ time. by_name Nothing (goes_on Nothing Nothing time c.barrier.ensures.time (λ image none. none))
+    (λ t image. g.met.A.Attach.left_named c.barrier.new.self c.args.name.now t image (c.barrier.ensures.same_name c.args.name.now c.in_ok-attach.ensures.named))))
+
+pub returns-clause-by_name : goal.returns-clause-by_name
+returns-clause-by_name g c =
+    let named = c.barrier.ensures.same_name c.args.name.now c.in_ok-attach.ensures.named in
+    member_opens g.A.Device c.args.size (g.A.Attach.shows c.args.self.now.first c.args.name.now) c.args.name.now (λ d. g.A.Attach.left_behind d c.args.name.now)
+    (g.A.Device.block_count c.barrier.new.self) c.args.self.now.first c.barrier.new.self c.open_member.new.half (g.A.Device.contents c.attach.new.self)
+    (λ d t image is. g.met.A.Attach.left_named d c.args.name.now t image is) g.met.A.Device.since_earlier named (c.open_member.ensures.stays.same_name c.args.name.now named)
+    c.in_ok-attach.ensures.shown (rw c.barrier.ensures.count c.attach.ensures.shape)
+    (none_then c.args.size c.in_ok-attach.ensures.time (λ time. by_name Nothing (goes_on Nothing Nothing time c.barrier.ensures.time (λ image none. none))
+    (λ t image. g.met.A.Attach.left_named c.barrier.new.self c.args.name.now t image named)))
+    c.open_member.ensures.time

@@ -8,6 +8,7 @@ use Rattle.bd_mirror.proofs.Behind.{pair_behind, pair_joined}
 use Rattle.bd_mirror.proofs.Copies.{elapses_none}
 use Rattle.bd_mirror.proofs.Crashes.{none_then, loses_before, loses_joined}
 use Rattle.bd_mirror.proofs.Marks.{OnOk-always}
+use Rattle.bd_mirror.proofs.Past.{goes_apart, goes_joined}
 use Rattle.bd_mirror.proofs.mirror.Mirror.attach_pair.Goals as goal
 
 pub join-requires-clause-first_settled : goal.join-requires-clause-first_settled
@@ -88,8 +89,63 @@ returns-clause-inside g c =
     (none_then c.args.size c.in_ok-attach-2.ensures.time (λ time. by_name Nothing (goes_on Nothing Nothing time c.barrier-2.ensures.time (λ image none. none))
     (λ t image. g.met.B.Attach.left_named c.barrier-2.new.self c.args.second.now t image (c.barrier-2.ensures.same_name c.args.second.now c.in_ok-attach-2.ensures.named))))
     (c.barrier.ensures.same_name c.args.first.now c.in_ok-attach.ensures.named) (c.barrier-2.ensures.same_name c.args.second.now c.in_ok-attach-2.ensures.named)
-    (λ d t image named left. (g.met.A.Attach.left_named d c.args.first.now t image named).0 left)
-    (λ d t image named left. (g.met.B.Attach.left_named d c.args.second.now t image named).0 left) c.join.ensures.inside
+    (λ d t image named. g.met.A.Attach.left_named d c.args.first.now t image named) (λ d t image named. g.met.B.Attach.left_named d c.args.second.now t image named)
+    g.met.A.Device.since_earlier g.met.B.Device.since_earlier c.join.ensures.first_holds c.join.ensures.second_holds c.join.ensures.inside
+
+-- ---- what it may leave since an earlier call
+
+pub returns-in_err-attach-clause-by_names : goal.returns-in_err-attach-clause-by_names
+returns-in_err-attach-clause-by_names g c =
+    goes_apart c.args.size (λ d. g.A.Attach.shows d c.args.first.now) (λ d. g.B.Attach.shows d c.args.second.now)
+    (λ d. g.A.Attach.left_behind d c.args.first.now) (λ d. g.B.Attach.left_behind d c.args.second.now)
+    g.A.Device.call_count g.B.Device.call_count c.args.self.now.first c.attach.new.self c.args.self.now.second c.args.self.now.second
+    c.in_err-attach.ensures.behind_time
+    (IfNone-always c.args.size (elapses_none (g.B.Device.call_count c.args.self.now.second) (g.B.Attach.left_behind c.args.self.now.second c.args.second.now) Nothing))
+
+pub returns-in_err-attach-2-clause-by_names : goal.returns-in_err-attach-2-clause-by_names
+returns-in_err-attach-2-clause-by_names g c =
+    goes_apart c.args.size (λ d. g.A.Attach.shows d c.args.first.now) (λ d. g.B.Attach.shows d c.args.second.now)
+    (λ d. g.A.Attach.left_behind d c.args.first.now) (λ d. g.B.Attach.left_behind d c.args.second.now)
+    g.A.Device.call_count g.B.Device.call_count c.args.self.now.first c.attach.new.self c.args.self.now.second c.attach-2.new.self
+    (none_then c.args.size c.in_ok-attach.ensures.time (λ time. by_name Nothing time
+    (λ t image. g.met.A.Attach.left_named c.attach.new.self c.args.first.now t image c.in_ok-attach.ensures.named)))
+    c.in_err-attach-2.ensures.behind_time
+
+pub returns-in_err-barrier-clause-by_names : goal.returns-in_err-barrier-clause-by_names
+returns-in_err-barrier-clause-by_names g c =
+    goes_apart c.args.size (λ d. g.A.Attach.shows d c.args.first.now) (λ d. g.B.Attach.shows d c.args.second.now)
+    (λ d. g.A.Attach.left_behind d c.args.first.now) (λ d. g.B.Attach.left_behind d c.args.second.now)
+    g.A.Device.call_count g.B.Device.call_count c.args.self.now.first c.barrier.new.self c.args.self.now.second c.attach-2.new.self
+    (none_then c.args.size c.in_ok-attach.ensures.time (λ time. by_name Nothing (goes_on Nothing Nothing time c.barrier.ensures.time (λ image none. none))
+    (λ t image. g.met.A.Attach.left_named c.barrier.new.self c.args.first.now t image (c.barrier.ensures.same_name c.args.first.now c.in_ok-attach.ensures.named))))
+    (none_then c.args.size c.in_ok-attach-2.ensures.time (λ time. by_name Nothing time
+    (λ t image. g.met.B.Attach.left_named c.attach-2.new.self c.args.second.now t image c.in_ok-attach-2.ensures.named)))
+
+pub returns-in_err-barrier-2-clause-by_names : goal.returns-in_err-barrier-2-clause-by_names
+returns-in_err-barrier-2-clause-by_names g c =
+    goes_apart c.args.size (λ d. g.A.Attach.shows d c.args.first.now) (λ d. g.B.Attach.shows d c.args.second.now)
+    (λ d. g.A.Attach.left_behind d c.args.first.now) (λ d. g.B.Attach.left_behind d c.args.second.now)
+    g.A.Device.call_count g.B.Device.call_count c.args.self.now.first c.barrier.new.self c.args.self.now.second c.barrier-2.new.self
+    (none_then c.args.size c.in_ok-attach.ensures.time (λ time. by_name Nothing (goes_on Nothing Nothing time c.barrier.ensures.time (λ image none. none))
+    (λ t image. g.met.A.Attach.left_named c.barrier.new.self c.args.first.now t image (c.barrier.ensures.same_name c.args.first.now c.in_ok-attach.ensures.named))))
+    (none_then c.args.size c.in_ok-attach-2.ensures.time (λ time. by_name Nothing (goes_on Nothing Nothing time c.barrier-2.ensures.time (λ image none. none))
+    (λ t image. g.met.B.Attach.left_named c.barrier-2.new.self c.args.second.now t image (c.barrier-2.ensures.same_name c.args.second.now c.in_ok-attach-2.ensures.named))))
+
+pub returns-clause-by_names : goal.returns-clause-by_names
+returns-clause-by_names g c =
+    goes_joined g.A.Device g.B.Device c.args.size c.args.first.now c.args.second.now (λ d. g.A.Attach.shows d c.args.first.now) (λ d. g.B.Attach.shows d c.args.second.now)
+    (λ d. g.A.Attach.left_behind d c.args.first.now) (λ d. g.B.Attach.left_behind d c.args.second.now)
+    c.args.self.now.first c.attach.new.self c.barrier.new.self c.join.new.self.first
+    c.args.self.now.second c.attach-2.new.self c.barrier-2.new.self c.join.new.self.second
+    c.in_ok-attach.ensures.shown c.in_ok-attach-2.ensures.shown c.barrier.ensures.kept c.barrier-2.ensures.kept c.barrier.ensures.count c.barrier-2.ensures.count
+    c.attach.ensures.shape c.attach-2.ensures.shape
+    (none_then c.args.size c.in_ok-attach.ensures.time (λ time. by_name Nothing (goes_on Nothing Nothing time c.barrier.ensures.time (λ image none. none))
+    (λ t image. g.met.A.Attach.left_named c.barrier.new.self c.args.first.now t image (c.barrier.ensures.same_name c.args.first.now c.in_ok-attach.ensures.named))))
+    (none_then c.args.size c.in_ok-attach-2.ensures.time (λ time. by_name Nothing (goes_on Nothing Nothing time c.barrier-2.ensures.time (λ image none. none))
+    (λ t image. g.met.B.Attach.left_named c.barrier-2.new.self c.args.second.now t image (c.barrier-2.ensures.same_name c.args.second.now c.in_ok-attach-2.ensures.named))))
+    (c.barrier.ensures.same_name c.args.first.now c.in_ok-attach.ensures.named) (c.barrier-2.ensures.same_name c.args.second.now c.in_ok-attach-2.ensures.named)
+    (λ d t image named. g.met.A.Attach.left_named d c.args.first.now t image named) (λ d t image named. g.met.B.Attach.left_named d c.args.second.now t image named)
+    g.met.A.Device.since_earlier g.met.B.Device.since_earlier c.join.ensures.first_holds c.join.ensures.second_holds c.join.ensures.inside
 
 -- ---- what both show afterwards
 
