@@ -1,10 +1,11 @@
 -- What is known while a volume starts, and why it doesn't.
-use Rattle.std.proofs.Common.{◌≡◌, ◌≢◌, ℕ, inl, inr, Option, None, Some, IfSome, sym, ap, subst, ◌∙◌}
-use Rattle.std.specs.Prelude.{IsSomeAnd}
-use Rattle.bd_io.specs.Cause.{next_count}
+use Rattle.std.proofs.Common.{◌≡◌, ◌≢◌, ℕ, ◌+◌, ◌^◌, ◌<◌, inl, inr, Option, None, Some, IfSome, sym, ap, subst, ◌∙◌, arith}
+use Rattle.std.specs.Prelude.{IsSomeAnd, Ok}
+use Rattle.std.proofs.lemmas.Bool.{cases_lt, false≢true}
+use Rattle.bd_io.specs.Cause.{next_count, IsCounted}
 use Rattle.bd_model.specs.Tree.{Tree}
 use Rattle.bd_device.specs.Blocks.{Image}
-use Rattle.bd_device.specs.Device.{Goes, Stays, OnlyReads, IsImageCause}
+use Rattle.bd_device.specs.Device.{left_now, Goes, Stays, OnlyReads, IsImageCause}
 use Rattle.bd_device.specs.Moments.{Nothing, IsOnly}
 use Rattle.bd_device.specs.declared.device.Device.{Ghosts}
 use Rattle.bd_device.specs.declared.fault.ImageFault.{ImageFault}
@@ -18,7 +19,7 @@ use Rattle.bd_image.specs.ImageTree.{ImageStandsFor}
 use Rattle.bd_image.specs.Damage.{IsBadAt}
 use Rattle.bd_image.specs.Damage.IsBadAt.{bad_super, bad_table, bad_node}
 use Rattle.bd_checkpoint.specs.Resuming.{IsBadUnder}
-use Rattle.bd_checkpoint.specs.Recovering.{OnlySettles, IsBadIn}
+use Rattle.bd_checkpoint.specs.Recovering.{OnlySettles, HasSettled, IsBadIn}
 use Rattle.bd_checkpoint.proofs.Entries.{entry_found}
 
 -- ---- what stays
@@ -37,6 +38,23 @@ settles_then g a b c so_far reads = record {
 -- a barrier that failed
 pub failed_settles : {D : Type 0} (g : Ghosts D) (a b : D) → g.contents b ≡ g.contents a → Stays g a b → Goes g a b Nothing → g.write_fault_count b ≡ next_count (g.write_fault_count a) → OnlySettles g a b
 failed_settles g a b kept stays time one = record { kept = kept; stays = stays; time = time; write_faults = inr one }
+
+-- a barrier that succeeded
+pub barrier_settles : {D T E : Type 0} (g : Ghosts D) (a b : D) (x : T) → IsCounted {T = T} {E = E} (g.call_count a) (g.call_count b) (Ok x) → g.contents b ≡ g.contents a → IsOnly (g.contents b) (left_now g b) → HasSettled g a b
+barrier_settles g a b x counted kept only =
+    let low : g.call_count a + 1 < 2 ^ 64 = elim (cases_lt (g.call_count a + 1) (2 ^ 64)) [ inl low ↦ low | inr last ↦ absurd (false≢true (counted.last last)) ] in
+    let one : g.call_count b ≡ g.call_count a + 1 = omega (arith, counted.counted, low) in
+    record {
+      called = omega (arith, one);
+      only = subst (λ (n : ℕ). IsOnly (g.contents a) (g.left_since b n)) one (λ c was. sym kept ∙ only c was);
+    }
+
+-- and reads after it
+pub settled_then : {D : Type 0} (g : Ghosts D) (a b c : D) → HasSettled g a b → OnlyReads g b c → HasSettled g a c
+settled_then g a b c so_far reads = record {
+  called = omega (arith, so_far.called, reads.time.later);
+  only = λ image was. so_far.only image (elim (reads.time.adds (g.call_count a + 1) image so_far.called was) [ inl before ↦ before | inr none ↦ absurd none ]);
+}
 
 -- what a crash leaves after reads is what reads give
 pub only_then : (known now : Option Image) (before left : Image → Type 0) → now ≡ known → ((c : Image) → left c → before c) → IsOnly known before → IsOnly now left

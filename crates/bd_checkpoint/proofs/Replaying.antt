@@ -34,7 +34,7 @@ use Rattle.bd_checkpoint.proofs.Starting.{PartsAreOne, recovered}
 -- ---- commands and their records
 
 -- commands lead where their records do
-leads_by : IsPrefixFree IsLogged log_record → (version : ℕ) (list : List PlacedCommand) (t u : Tree) → AllByRecursion (IsPlacedIn version) list
+pub leads_by : IsPrefixFree IsLogged log_record → (version : ℕ) (list : List PlacedCommand) (t u : Tree) → AllByRecursion (IsPlacedIn version) list
     → LeadsOn version (unplaced (records_for list)) t u → LeadsBy list t u
 leads_by free version [] t u each h = h
 leads_by free version (p ∷ ps) t u each h =

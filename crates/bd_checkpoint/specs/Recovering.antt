@@ -1,11 +1,11 @@
 -- What is known when a volume starts from an image.
-use Rattle.std.specs.Prelude.{◌≡◌, ◌+◌, ◌⊎◌, ℕ, List, [], ◌∷◌, length, Option, IfSome}
+use Rattle.std.specs.Prelude.{◌≡◌, ◌+◌, ◌≤◌, ◌⊎◌, ℕ, List, [], ◌∷◌, length, Option, IfSome}
 use Rattle.bd_io.specs.Cause.{next_count}
 use Rattle.bd_model.specs.Tree.{Tree}
 use Rattle.bd_model.specs.Laws.{Accepts, after}
 use Rattle.bd_device.specs.Blocks.{Image}
 use Rattle.bd_device.specs.Device.{Goes, Stays}
-use Rattle.bd_device.specs.Moments.{Nothing}
+use Rattle.bd_device.specs.Moments.{Nothing, IsOnly}
 use Rattle.bd_device.specs.declared.device.Device.{Ghosts}
 use Rattle.bd_node.specs.Meaning.{Nodes}
 use Rattle.bd_node.specs.Tables.{IsSound}
@@ -23,6 +23,11 @@ pub record OnlySettles {D : Type 0} (g : Ghosts D) (old new : D) : Type 0 where
   pub time : Goes g old new Nothing
   pub write_faults : (g.write_fault_count new ≡ g.write_fault_count old)
       ⊎ (g.write_fault_count new ≡ next_count (g.write_fault_count old))
+
+-- since the return of its first call, which was the barrier, a crash leaves what reads gave before
+pub record HasSettled {D : Type 0} (g : Ghosts D) (old new : D) : Type 0 where
+  pub called : g.call_count old + 1 ≤ g.call_count new
+  pub only : IsOnly (g.contents old) (g.left_since new (g.call_count old + 1))
 
 -- the block is why what reads give stands for no tree, as far as that is known
 abbrev pub IsBadIn : Option Image → ℕ → Type 0

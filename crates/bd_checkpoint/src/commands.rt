@@ -1,6 +1,6 @@
 //! The commands that the records of open batches are of.
 
-ghost use Rattle.std.specs.Prelude.{◌≡◌, ◌<◌, ◌++◌, ◌↔◌, All, IfOk, IfErr, OnOk, IsTrue, false};
+ghost use Rattle.std.specs.Prelude.{◌≡◌, ◌<◌, ◌++◌, ◌↔◌, All, IfOk, IfErr, OnOk, true, false};
 ghost use Rattle.bd_super.specs.Superblocks.{version_number};
 ghost use Rattle.bd_image.specs.Versions.{mode_version, sets_mode};
 ghost use Rattle.bd_image.specs.Damage.{placed_records};
@@ -85,15 +85,16 @@ fn command_in(alloc: Global, version: Version, bytes: &[u8]) -> Result<Option<Co
     if !cursor.left().is_empty() {
         return Ok(None);
     }
-    if !is_of_version(version, &command) {
+    if !has_record(version, &command) {
         return Ok(None);
     }
     Ok(Some(command))
 }
 
-// Whether an image of this version has such a command in its log, where it has a record.
-fn is_of_version(version: Version, command: &Command) -> bool
-    ensures { IsTrue result
+/// Whether the log of an image of this version may have a command's record: not where it sets a
+/// mode and the version is the first.
+pub fn has_record(version: Version, command: &Command) -> bool
+    ensures { result ≡ true
         ↔ (version_number version < mode_version → sets_mode command.now ≡ false) }
 {
     match version {

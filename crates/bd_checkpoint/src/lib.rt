@@ -2,8 +2,8 @@
 //! The layers above may use the contracts of `recover`, which starts from an image; of `format`,
 //! which makes one; of `checkpoint`, and of `sync`, also on a pager's device, which tell what an
 //! image stands for that a crash inside them or after them leaves; of `commands_of` and of
-//! `resume_log`, which read the log of an image; and the laws, by which reads, appended records and
-//! writes to spare slots change nothing of what is known.
+//! `resume_log`, which read the log of an image; of `has_record`; and the laws, by which reads,
+//! appended records and writes to spare slots change nothing of what is known.
 #![tactic(auto)]
 
 mod checkpointing;
@@ -19,7 +19,7 @@ mod resuming;
 mod syncing;
 
 pub use checkpointing::checkpoint;
-pub use commands::{PlacedCommand, commands_of};
+pub use commands::{PlacedCommand, commands_of, has_record};
 pub use formatting::{Formatted, format};
 pub use lending::sync_by;
 pub use recovering::{Recovered, recover};

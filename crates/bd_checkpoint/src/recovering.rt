@@ -1,7 +1,8 @@
 //! How a volume starts from an image.
 
-ghost use Rattle.std.specs.Prelude.{◌≡◌, ◌≢◌, ◌≤◌, ℕ, false, None, IsSome, IfOk, IfErr, IfSome, IsSomeAnd, OnOk};
+ghost use Rattle.std.specs.Prelude.{◌≡◌, ◌≢◌, ◌<◌, ◌≤◌, ℕ, false, None, IsSome, IfOk, IfErr, IfSome, IsSomeAnd, OnOk, OnErr};
 ghost use Rattle.bd_limits.specs.Limits.{first_slot_block};
+ghost use Rattle.bd_io.specs.Cause.{Rose};
 ghost use Rattle.bd_model.specs.Tree.{Tree};
 ghost use Rattle.bd_slots.specs.Layout.{image_blocks};
 ghost use Rattle.bd_device.specs.Device.{left_now, OnlyReads, HasImageCause, IsImageCause};
@@ -22,7 +23,7 @@ ghost use Rattle.bd_checkpoint.specs.Commands.{AreCommandsOf};
 ghost use Rattle.bd_checkpoint.specs.Following.{saved_by};
 ghost use Rattle.bd_checkpoint.specs.Kept.{IsOpenOn};
 ghost use Rattle.bd_checkpoint.specs.Resuming.{IsStartedFrom, IsBadUnder};
-ghost use Rattle.bd_checkpoint.specs.Recovering.{OnlySettles, IsBadIn, saved_of, AreStored, LeadsTo};
+ghost use Rattle.bd_checkpoint.specs.Recovering.{OnlySettles, HasSettled, IsBadIn, saved_of, AreStored, LeadsTo};
 
 use crate::commands::PlacedCommand;
 use crate::resuming::resume_log;
@@ -54,9 +55,10 @@ pub struct Recovered<D: Device> {
 /// what reads give, and reads the superblocks, the table, the root and the log. At most `room`
 /// nodes that the pager reads are kept. From an image that stands for a tree it starts unless the
 /// device fails or there is no memory: the commands then lead from the tree of the nodes to that
-/// one. Where it fails, it returns the device. `DeviceFault` comes only where a call of the device
-/// failed, which is the last one then. `Damaged` names a bad block of the image, of the superblock
-/// first, then of the table, of the root, of a batch, and of a record of no command.
+/// one. Where it fails, it returns the device, and unless the barrier failed a crash leaves what
+/// reads give there too, of a device that has blocks. `DeviceFault` comes only where a call of the
+/// device failed, which is the last one then. `Damaged` names a bad block of the image, of the
+/// superblock first, then of the table, of the root, of a batch, and of a record of no command.
 pub fn recover<D: Device>(alloc: Global, dev: D, room: usize) -> Result<Recovered<D>, Refused<D>>
     requires { 1 ≤ room }
     ensures open { IfOk result (λ r.
@@ -81,6 +83,7 @@ pub fn recover<D: Device>(alloc: Global, dev: D, room: usize) -> Result<Recovere
         → IsSomeAnd (D.contents dev) (ImageStandsFor tree count)
         → LeadsTo D.Device r.pager r.live r.commands.items tree count) }
     ensures reads { IfOk result (λ r. OnlyReads D.Device dev r.pager.dev) }
+    ensures settled { IfOk result (λ r. HasSettled D.Device dev r.pager.dev) }
     ensures faults { IfOk result (λ r. D.fault_count r.pager.dev ≡ D.fault_count dev) }
 
     // The fault, and the device that is returned.
@@ -90,6 +93,9 @@ pub fn recover<D: Device>(alloc: Global, dev: D, room: usize) -> Result<Recovere
         → IsSomeAnd (D.contents dev) (ImageStandsFor tree count)
         → IfErr result (λ refused. (block : ℕ) → refused.fault ≢ Damaged block) }
     ensures left { IfErr result (λ refused. OnlySettles D.Device dev refused.device) }
+    ensures settles { IfErr result (λ refused. 0 < D.block_count dev
+        → ¬ Rose (D.write_fault_count dev) (D.write_fault_count refused.device)
+        → HasSettled D.Device dev refused.device) }
 {
     trees_are_undamaged();
     images_are_decoded();
@@ -131,10 +137,14 @@ fn open_start<D: Device>(
     ensures opened { IfOk result (λ r. IsOpened (D.contents dev) r.0.slots r.0.table r.1) }
     ensures known { IsSome (D.contents dev) → IfOk result (λ r. is_known D.Device r.1) }
     ensures reads { IfOk result (λ r. OnlyReads D.Device dev r.1.dev) }
+    ensures settled { IfOk result (λ r. HasSettled D.Device dev r.1.dev) }
     ensures faults { IfOk result (λ r. D.fault_count r.1.dev ≡ D.fault_count dev) }
     ensures cause { IfErr result (λ refused. IsImageCause D.Device dev refused.device
         (IsBadIn (D.contents dev)) refused.fault) }
     ensures left { IfErr result (λ refused. OnlySettles D.Device dev refused.device) }
+    ensures settles { IfErr result (λ refused. 0 < D.block_count dev
+        → ¬ Rose (D.write_fault_count dev) (D.write_fault_count refused.device)
+        → HasSettled D.Device dev refused.device) }
 {
     let (live, at) = match read_start(alloc, &mut dev) {
         Ok(start) => start,
@@ -156,7 +166,11 @@ fn read_start<D: Device>(alloc: Global, dev: &mut D) -> Result<(Super, Vec<u32>)
     ensures table { IfOk result (λ r. r.1.items ≡ r.0.table) }
     ensures only { OnOk result (IsOnly (D.contents dev.new) (left_now D.Device dev.new)) }
     ensures reads { OnOk result (OnlyReads D.Device dev.old dev.new) }
-    ensures settles { OnlySettles D.Device dev.old dev.new }
+    ensures settled { OnOk result (HasSettled D.Device dev.old dev.new) }
+    ensures settles { OnErr result (0 < D.block_count dev.old
+        → ¬ Rose (D.write_fault_count dev.old) (D.write_fault_count dev.new)
+        → HasSettled D.Device dev.old dev.new) }
+    ensures left { OnlySettles D.Device dev.old dev.new }
     ensures cause { HasImageCause D.Device dev.old dev.new
         (IsBadIn (D.contents dev.old)) result }
 {

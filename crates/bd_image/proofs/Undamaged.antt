@@ -27,7 +27,7 @@ use Rattle.bd_image.specs.Damage.{IsLowerEntry, IsGoodNode, PlacedRecord, unplac
 use Rattle.bd_image.specs.Damage.IsBadAt.{bad_super, bad_table, bad_node, unsound_nodes, bad_batch, bad_record, refused_record}
 use Rattle.bd_image.proofs.Frame.{entry_stands}
 use Rattle.bd_image.proofs.Leading.{leads_apart, records_split}
-use Rattle.bd_image.proofs.Ones.{AreOne, one_table, one_command, one_way, one_base}
+use Rattle.bd_image.proofs.Ones.{AreOne, one_table, one_command}
 
 -- ---- the superblock and the table are those of the tree
 
@@ -81,17 +81,14 @@ not_no_command one image s t place tree n front b r h k none =
     let leads = record_leads one image s t place tree n front b r h k in
     none leads.2.0 leads.2.1 leads.2.2
 
-not_refused : AreOne → (image : Image) (s : Super) (t : StoredTable) (place : ℕ) (tree : Tree) (n : ℕ) (front : List PlacedRecord) (b : ℕ) (c : Command) (before : Tree)
-    → HasTree s t place tree n image → HasRecord image s front b (log_record c) → IsLoggedIn (version_of s) c → IsTreeAfter image s (unplaced front) before → Accepts before c
-not_refused one image s t place tree n front b c before h k logged to =
-    let here : HasTree s to.table place tree n image = at_table one image s t to.table place tree n h to.starts.table in
-    let leads = record_leads one image s to.table place tree n front b (log_record c) here k in
-    let base : here.base ≡ to.base = one_base one image (version_of s) to.table here.nodes to.nodes here.base to.base here.starts.stored to.starts.stored here.have to.have in
-    let way : LeadsOn (version_of s) (unplaced front) here.base before = subst (λ (x : Tree). LeadsOn (version_of s) (unplaced front) x before) (sym base) to.leads in
-    let there : leads.0 ≡ before = one_way one (version_of s) (unplaced front) here.base leads.0 before leads.1 way in
+-- a command stands there that the tree before it accepts
+not_refused : AreOne → (image : Image) (s : Super) (t : StoredTable) (place : ℕ) (tree : Tree) (n : ℕ) (front : List PlacedRecord) (b : ℕ) (c : Command)
+    → HasTree s t place tree n image → HasRecord image s front b (log_record c) → IsLoggedIn (version_of s) c → (before : Tree) × IsTreeAfter image s (unplaced front) before × Accepts before c
+not_refused one image s t place tree n front b c h k logged =
+    let leads = record_leads one image s t place tree n front b (log_record c) h k in
     let same : c ≡ leads.2.0 = one_command one c leads.2.0 logged.0 leads.2.1.0 leads.2.2 in
-    let accepted : Accepts leads.0 c = subst (λ (x : Command). Accepts leads.0 x) (sym same) leads.2.3 in
-    subst (λ (x : Tree). Accepts x c) there accepted
+    let after : IsTreeAfter image s (unplaced front) leads.0 = record { table = t; nodes = h.nodes; base = h.base; starts = h.starts; have = h.have; leads = leads.1 } in
+    (leads.0, after, subst (λ (x : Command). Accepts leads.0 x) (sym same) leads.2.3)
 
 -- ---- the block
 
@@ -113,8 +110,9 @@ not_bad one no_super no_batch image s t place tree n _ h (bad_batch o b live dam
     no_batch image (log_block o.half) o.epoch b here.batches place live.held.fits.last_epoch damaged here.logged
 not_bad one no_super no_batch image s t place tree n _ h (bad_record o front b r has none) =
     not_no_command one image o t place tree n front b r (at_super one image s o t place tree n h has.live) has none
-not_bad one no_super no_batch image s t place tree n _ h (refused_record o front b c before has logged to refused) =
-    refused (not_refused one image o t place tree n front b c before (at_super one image s o t place tree n h has.live) has logged to)
+not_bad one no_super no_batch image s t place tree n _ h (refused_record o front b c has logged refused) =
+    let there = not_refused one image o t place tree n front b c (at_super one image s o t place tree n h has.live) has logged in
+    refused there.0 there.1 there.2
 
 pub undamaged : AreOne → ((image : Image) (s : Super) (b : ℕ) → IsLive image s → ¬ IsDamaged image b)
     → ((image : Image) (first epoch block : ℕ) (batches : List Batch) (end : ℕ) → epoch < 2 ^ 64 → IsDamagedAt image first epoch block → AreBatches image first epoch batches end → ⊥)

@@ -93,7 +93,7 @@ IsNoCommand version r = (c : Command) → IsLoggedIn version c → r ≢ log_rec
 -- ---- the block
 
 -- a superblock; a table; a node, or a child that it names; nodes that aren't sound; a batch; a
--- record of no command, or of one that the tree before it refuses
+-- record of no command, or of one that is refused by the tree before it, where there is one
 pub data IsBadAt (image : Image) : ℕ → Type 0 where
   bad_super : (b : ℕ) → IsDamaged image b → IsBadAt image b
   bad_table : (s : Super) → IsLive image s → HasNoTable image s.slots s.table
@@ -107,6 +107,7 @@ pub data IsBadAt (image : Image) : ℕ → Type 0 where
       → IsDamagedAt image (log_block s.half) s.epoch b → IsBadAt image b
   bad_record : (s : Super) (front : List PlacedRecord) (b : ℕ) (r : List ℕ)
       → HasRecord image s front b r → IsNoCommand (version_of s) r → IsBadAt image b
-  refused_record : (s : Super) (front : List PlacedRecord) (b : ℕ) (c : Command) (tree : Tree)
+  refused_record : (s : Super) (front : List PlacedRecord) (b : ℕ) (c : Command)
       → HasRecord image s front b (log_record c) → IsLoggedIn (version_of s) c
-      → IsTreeAfter image s (unplaced front) tree → ¬ Accepts tree c → IsBadAt image b
+      → ((tree : Tree) → IsTreeAfter image s (unplaced front) tree → ¬ Accepts tree c)
+      → IsBadAt image b

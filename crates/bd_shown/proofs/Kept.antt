@@ -82,9 +82,9 @@ module _ {D : Type 0} (g : Ghosts D) where
   unchanged : (p : Paged D) (id : ℕ) → is_saved p.saved.entries id ≡ true → (table_of p).touched id ≡ false → is_changed p.spare (spots_of p id) ≡ false
   unchanged p id saved is = ap (λ b. b && is_changed p.spare (spots_of p id)) (sym saved) ∙ is
 
-  pub kept_shown : (before after : Option Image) (old new : Paged D) (walk next : Walk) (epoch place waiting : ℕ) → IsPaged before old → IsPaged after new → IsTableAt (length old.spare) old.at old.saved → is_known g old → is_known g new
-      → KeepsSaved g old new → OnlyNodes (shown g old walk epoch place waiting) (shown g new next epoch place waiting)
-  kept_shown before after old new walk next epoch place waiting h k table known still keeps =
+  pub kept_shown : (before after : Option Image) (old new : Paged D) (walk next : Walk) (version epoch place waiting : ℕ) → IsPaged before old → IsPaged after new → IsTableAt (length old.spare) old.at old.saved → is_known g old → is_known g new
+      → KeepsSaved g old new → OnlyNodes (shown g old walk version epoch place waiting) (shown g new next version epoch place waiting)
+  kept_shown before after old new walk next version epoch place waiting h k table known still keeps =
       let saved_in : (id : ℕ) → IsTrue (list_any (λ other. other == id) (ids_of old.saved.entries)) → is_saved old.saved.entries id ≡ true = λ id saved. sym (saved_ids old.saved.entries id) ∙ saved in
       let low : (id : ℕ) → IsTrue (list_any (λ other. other == id) (ids_of old.saved.entries)) → id < old.next = λ id saved. h.saved id (saved_in id saved) in
       record {
@@ -103,6 +103,7 @@ module _ {D : Type 0} (g : Ghosts D) where
           tree = tree_of g new next;
           saved = ids_of (keeps.saved i).entries;
           slots = length (keeps.spare i);
+          version = version;
           epoch = epoch;
           place = place;
           waiting = waiting;

@@ -28,18 +28,18 @@ kept_in : (o : Option Spot) → ((s : Spot) → o ≡ Some s → 1 ≤ s.refs) �
 kept_in None used = refl
 kept_in (Some s) used = le-leb 1 s.refs (used s refl)
 
-module _ {D : Type 0} (g : Ghosts D) (p : Paged D) (walk : Walk) (epoch place waiting : ℕ) where
-  changed_at : (contents : Option Image) → IsPaged contents p → (id : ℕ) → is_new_or_touched p.saved.entries p.spare (spots_of p) id ≡ is_changed (shown g p walk epoch place waiting) id
+module _ {D : Type 0} (g : Ghosts D) (p : Paged D) (walk : Walk) (version epoch place waiting : ℕ) where
+  changed_at : (contents : Option Image) → IsPaged contents p → (id : ℕ) → is_new_or_touched p.saved.entries p.spare (spots_of p) id ≡ is_changed (shown g p walk version epoch place waiting) id
   changed_at contents h id =
       let touched : Bool = touched_at p.saved.entries p.spare (spots_of p) id in
       let kept : nat_le 1 (refs_in (spots_of p id)) ≡ is_some (spots_of p id) = kept_in (spots_of p id) (h.used id) in
       ap (λ b. b && (not (is_saved p.saved.entries id) || touched)) (sym kept)
       ∙ ap (λ b. nat_le 1 (refs_in (spots_of p id)) && (not b || touched)) (sym (saved_ids p.saved.entries id))
 
-  pub changed_shown : (contents : Option Image) → IsPaged contents p → changed_of p ≡ changed_count (shown g p walk epoch place waiting)
+  pub changed_shown : (contents : Option Image) → IsPaged contents p → changed_of p ≡ changed_count (shown g p walk version epoch place waiting)
   changed_shown contents h = sum_same p.next _ _ (λ id low. ap (λ b. if b then 1 else 0) (changed_at contents h id))
 
-  pub free_shown : IsTableAt (length p.spare) p.at p.saved → free_of p ≡ free_slots (shown g p walk epoch place waiting)
+  pub free_shown : IsTableAt (length p.spare) p.at p.saved → free_of p ≡ free_slots (shown g p walk version epoch place waiting)
   free_shown h =
       let all : length (p.at ++ slots_of p.saved.entries) ≡ length p.at + length (slots_of p.saved.entries) = length-append p.at (slots_of p.saved.entries) in
       let slots : length (slots_of p.saved.entries) ≡ length p.saved.entries = length-map p.saved.entries (λ (e : TableEntry). e.slot) in

@@ -13,6 +13,7 @@ use Rattle.bd_table.specs.declared.table.TableEntry.{TableEntry}
 use Rattle.bd_pager.specs.declared.place.Spot.{Spot}
 use Rattle.bd_pager.specs.Places.{refs_in}
 use Rattle.bd_pager.specs.Pagers.{Paged, spots_of, table_of, is_saved, IsEntryOf, IsPaged}
+use Rattle.bd_image.specs.Versions.{mode_version}
 use Rattle.bd_view.specs.Views.{kept_ids, free_slots, save_slots}
 use Rattle.bd_view.specs.Moves.{Saves}
 use Rattle.bd_shown.specs.Shown.{ids_of, shown, IsCheckpointed}
@@ -69,14 +70,15 @@ module _ {D : Type 0} (g : Ghosts D) (contents : Option Image) (old new : Paged 
       law (table_of new) (ids_of new.saved.entries) rising each_kept (λ id low kept. saved_ids new.saved.entries id ∙ listed id (spots_of new id) refl kept)
       ∙ ap (λ (t : Table). kept_ids t) s.table
 
-  pub saved_shown : AreListed → (walk : Walk) (epoch place waiting : ℕ) → save_slots (shown g old walk epoch place waiting) ≤ free_slots (shown g old walk epoch place waiting)
-      → Saves (shown g old walk epoch place waiting) (shown g new walk (epoch + 1) 0 0)
-  saved_shown law walk epoch place waiting room = record {
+  pub saved_shown : AreListed → (walk : Walk) (version epoch place waiting : ℕ) → save_slots (shown g old walk version epoch place waiting) ≤ free_slots (shown g old walk version epoch place waiting)
+      → Saves (shown g old walk version epoch place waiting) (shown g new walk mode_version (epoch + 1) 0 0)
+  saved_shown law walk version epoch place waiting room = record {
     room = room;
     after = λ i. record {
       tree = record { nodes = s.nodes i; table = s.table i; walk = walk };
       saved = kept_saved law i;
       slots = s.slots i;
+      version = mode_version;
       epoch = epoch + 1;
       place = 0;
       waiting = 0;

@@ -17,12 +17,13 @@ ids_of entries = map (λ e. e.id) entries
 abbrev pub tree_of : {D : Type 0} → Ghosts D → Paged D → Walk → TreeView
 tree_of g p walk = record { nodes = nodes_of g p; table = table_of p; walk = walk }
 
--- the view, with the epoch of the last checkpoint and the log's numbers
-abbrev pub shown : {D : Type 0} → Ghosts D → Paged D → Walk → ℕ → ℕ → ℕ → View
-shown g p walk epoch place waiting = record {
+-- the view, with the version and the epoch of the last checkpoint and the log's numbers
+abbrev pub shown : {D : Type 0} → Ghosts D → Paged D → Walk → ℕ → ℕ → ℕ → ℕ → View
+shown g p walk version epoch place waiting = record {
   tree = tree_of g p walk;
   saved = ids_of p.saved.entries;
   slots = length p.spare;
+  version = version;
   epoch = epoch;
   place = place;
   waiting = waiting;

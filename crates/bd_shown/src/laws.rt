@@ -9,6 +9,7 @@ ghost use Rattle.bd_pager.specs.Counting.{changed_of, free_of};
 ghost use Rattle.bd_pager.specs.Keeping.{KeepsSaved};
 ghost use Rattle.bd_pager.specs.Moving.{Spills};
 ghost use Rattle.bd_pager.specs.Pagers.{Paged, is_known, IsPaged, IsReadOf};
+ghost use Rattle.bd_image.specs.Versions.{mode_version};
 ghost use Rattle.bd_view.specs.Views.{changed_count, free_slots, save_slots};
 ghost use Rattle.bd_view.specs.Moves.{OnlyNodes, Saves};
 ghost use Rattle.bd_shown.specs.Shown.{shown, IsCheckpointed};
@@ -21,22 +22,22 @@ use bd_view::laws::kept_nodes_are_listed;
 /// slots as it takes.
 pub fn numbers_are_shown<D: Device>()
     ensures changed { (contents : Option Image) (p : Paged D) (walk : Walk)
-        (epoch place waiting : ℕ) → IsPaged contents p
-        → changed_of p ≡ changed_count (shown D.Device p walk epoch place waiting) }
-    ensures free { (p : Paged D) (walk : Walk) (epoch place waiting : ℕ)
+        (version epoch place waiting : ℕ) → IsPaged contents p
+        → changed_of p ≡ changed_count (shown D.Device p walk version epoch place waiting) }
+    ensures free { (p : Paged D) (walk : Walk) (version epoch place waiting : ℕ)
         → IsTableAt (length p.spare) p.at p.saved
-        → free_of p ≡ free_slots (shown D.Device p walk epoch place waiting) }
+        → free_of p ≡ free_slots (shown D.Device p walk version epoch place waiting) }
 {}
 
 /// Reads leave the view, and so does what moves nodes from memory to their slots.
 pub fn moved_nodes_are_shown_alike<D: Device>()
-    ensures reads { (old new : Paged D) (walk : Walk) (epoch place waiting : ℕ)
-        → IsReadOf D.Device old new → shown D.Device new walk epoch place waiting
-        ≡ shown D.Device old walk epoch place waiting }
-    ensures spills { (old new : Paged D) (walk : Walk) (epoch place waiting : ℕ)
+    ensures reads { (old new : Paged D) (walk : Walk) (version epoch place waiting : ℕ)
+        → IsReadOf D.Device old new → shown D.Device new walk version epoch place waiting
+        ≡ shown D.Device old walk version epoch place waiting }
+    ensures spills { (old new : Paged D) (walk : Walk) (version epoch place waiting : ℕ)
         → is_known D.Device old → Spills D.Device old new
-        → shown D.Device new walk epoch place waiting
-        ≡ shown D.Device old walk epoch place waiting }
+        → shown D.Device new walk version epoch place waiting
+        ≡ shown D.Device old walk version epoch place waiting }
 {
     spills_change_nothing::<D>();
 }
@@ -44,21 +45,21 @@ pub fn moved_nodes_are_shown_alike<D: Device>()
 /// Calls that keep the last checkpoint change nodes alone.
 pub fn kept_checkpoints_are_shown<D: Device>()
     ensures { (before after : Option Image) (old new : Paged D) (walk next : Walk)
-        (epoch place waiting : ℕ) → IsPaged before old → IsPaged after new
+        (version epoch place waiting : ℕ) → IsPaged before old → IsPaged after new
         → IsTableAt (length old.spare) old.at old.saved → is_known D.Device old
         → is_known D.Device new → KeepsSaved D.Device old new
-        → OnlyNodes (shown D.Device old walk epoch place waiting)
-        (shown D.Device new next epoch place waiting) }
+        → OnlyNodes (shown D.Device old walk version epoch place waiting)
+        (shown D.Device new next version epoch place waiting) }
 {}
 
 /// A checkpoint of all nodes is one of the view, where slots were free for it.
 pub fn checkpoints_are_shown<D: Device>()
     ensures { (contents : Option Image) (old new : Paged D) (walk : Walk)
-        (epoch place waiting : ℕ) → IsPaged contents new → IsCheckpointed D.Device old new
-        → save_slots (shown D.Device old walk epoch place waiting)
-        ≤ free_slots (shown D.Device old walk epoch place waiting)
-        → Saves (shown D.Device old walk epoch place waiting)
-        (shown D.Device new walk (epoch + 1) 0 0) }
+        (version epoch place waiting : ℕ) → IsPaged contents new → IsCheckpointed D.Device old new
+        → save_slots (shown D.Device old walk version epoch place waiting)
+        ≤ free_slots (shown D.Device old walk version epoch place waiting)
+        → Saves (shown D.Device old walk version epoch place waiting)
+        (shown D.Device new walk mode_version (epoch + 1) 0 0) }
 {
     kept_nodes_are_listed();
 }

@@ -7,7 +7,7 @@ use Rattle.bd_command.specs.declared.Command.{Command}
 use Rattle.bd_dirs.specs.Kinds.{Kind, Reads, Sends, SendsLate, Grafts, kind_of}
 use Rattle.bd_node.specs.Tables.{sum_below, kept_count}
 use Rattle.bd_view.specs.Trees.{fresh_tree, limit_of}
-use Rattle.bd_view.specs.Views.{fresh_view, free_slots, save_slots, step_slots, need_slots, log_room}
+use Rattle.bd_view.specs.Views.{fresh_view, free_slots, save_slots, step_slots, need_slots, record_room}
 use Rattle.bd_view.specs.Moves.{IsQuietFor}
 
 pub fresh_free : (slots : ℕ) → free_slots (fresh_view slots) ≡ slots - 2
@@ -34,12 +34,12 @@ fresh_waits SendsLate = lit≤ tt
 fresh_waits (Grafts s d keep) = lit≤ tt
 
 -- the log has room for each record
-fresh_room : (slots : ℕ) → record_limit ≤ log_room (fresh_view slots)
-fresh_room slots = lit≤ tt
+fresh_room : (c : Command) (slots : ℕ) → record_limit ≤ record_room c (fresh_view slots)
+fresh_room c slots = lit≤ tt
 
 pub fresh_quiet : ((command : Command) → IsLogged command → length (log_record command) ≤ record_limit) → (c : Command) (slots : ℕ) → IsLogged c → slot_minimum ≤ slots → IsQuietFor c (fresh_view slots)
 fresh_quiet fit c slots logged many = record {
   enough = fresh_waits (kind_of c);
   room = omega (arith, fresh_need c slots, fresh_free slots, many);
-  log = omega (arith, fit c logged, fresh_room slots);
+  log = omega (arith, fit c logged, fresh_room c slots);
 }

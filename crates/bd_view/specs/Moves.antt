@@ -1,15 +1,17 @@
 -- How commands, syncs and checkpoints move the view of a volume on a device.
-use Rattle.std.specs.Prelude.{◌≡◌, ℕ, ◌+◌, ◌<◌, ◌≤◌, ◌⊎◌, ◌==◌, false, if◌then◌else◌, IsTrue}
+use Rattle.std.specs.Prelude.{◌≡◌, ℕ, ◌+◌, ◌<◌, ◌≤◌, ◌⊎◌, ◌==◌, false, if◌then◌else◌, List, [], ◌∷◌, IsTrue}
 use Rattle.bd_limits.specs.Limits.{flush_limit}
 use Rattle.bd_command.specs.Command.{writes}
 use Rattle.bd_command.specs.declared.Command.{Command}
 use Rattle.bd_model.specs.Tree.{Tree}
+use Rattle.bd_model.specs.Laws.{after}
 use Rattle.bd_dirs.specs.Sendings.{sending}
 use Rattle.bd_node.specs.Steps.{with_touched}
 use Rattle.bd_node.specs.Tables.{IsKept}
 use Rattle.bd_log.specs.Batches.{blocks_for}
+use Rattle.bd_image.specs.Versions.{mode_version}
 use Rattle.bd_view.specs.Trees.{FlushesFor, HasSent, waiting_limit}
-use Rattle.bd_view.specs.Views.{View, keys_of, is_saved, changed_count, kept_ids, free_slots, save_slots, need_slots, log_room, log_size}
+use Rattle.bd_view.specs.Views.{View, keys_of, is_saved, changed_count, kept_ids, free_slots, save_slots, need_slots, record_room, log_size}
 
 -- ---- between checkpoints
 
@@ -24,11 +26,13 @@ pub record OnlyNodes (old new : View) : Type 0 where
 
 -- ---- checkpoints
 
--- after a checkpoint no node is touched, it has the kept ones, and the log begins anew
+-- after a checkpoint no node is touched, it has the kept ones and the version that is written, and
+-- the log begins anew
 abbrev pub saved_view : View → View
 saved_view v = record v {
   tree = record v.tree { table = with_touched (λ id. false) v.tree.table };
   saved = kept_ids v.tree.table;
+  version = mode_version;
   epoch = v.epoch + 1;
   place = 0;
   waiting = 0;
@@ -60,7 +64,7 @@ pub record FlushesIn (c : Command) (old new : View) : Type 0 where
 
 -- too few slots are free for its next step, or the log has no room for its record
 abbrev pub CallsForSave : Command → View → Type 0
-CallsForSave c v = (free_slots v < need_slots c v) ⊎ (log_room v < log_size c)
+CallsForSave c v = (free_slots v < need_slots c v) ⊎ (record_room c v < log_size c)
 
 -- a writing command made a checkpoint that it needed
 pub record SavesIn (c : Command) (old new : View) : Type 0 where
@@ -94,7 +98,7 @@ pub record IsCommandFull (c : Command) (old new : View) (free need : ℕ) : Type
 pub record IsQuietFor (c : Command) (v : View) : Type 0 where
   pub enough : v.tree.table.size ≤ waiting_limit c
   pub room : need_slots c v ≤ free_slots v
-  pub log : log_size c ≤ log_room v
+  pub log : log_size c ≤ record_room c v
 
 -- ---- an accepted command
 
@@ -116,7 +120,7 @@ logged c v = record v { waiting = v.waiting + log_size c }
 pub record IsAccepted (t : Tree) (c : Command) (old new : View) : Type 0 where
   pub last : View
   pub executed : IsExecuted t c old last
-  pub log : log_size c ≤ log_room last
+  pub log : log_size c ≤ record_room c last
   pub after : new ≡ logged c last
 
 -- after a sync nothing waits, and the next batch goes after the one that was written, if one was
@@ -125,3 +129,33 @@ synced v = record v {
   place = if v.waiting == 0 then v.place else v.place + 1 + blocks_for v.waiting;
   waiting = 0;
 }
+
+-- ---- replay
+
+-- a command of the log made one flush step, for which no slot is needed
+pub record FlushesAgain (c : Command) (old new : View) : Type 0 where
+  pub flushes : FlushesFor c old.tree new.tree
+  pub rest : OnlyNodes old new
+
+-- so many of them lead from the first view to the second
+pub data AreFlushedAgain (c : Command) : ℕ → View → View → Type 0 where
+  none : (v : View) → AreFlushedAgain c 0 v v
+  more : (n : ℕ) (v w x : View) → AreFlushedAgain c n v w → FlushesAgain c w x
+      → AreFlushedAgain c (n + 1) v x
+
+-- a command of the log makes flush steps, at most 65,536, each while more bytes wait in the root
+-- than its limit, and sends just what it comes to; its record doesn't wait again
+pub record IsReplayed (t : Tree) (c : Command) (old new : View) : Type 0 where
+  pub made : ℕ
+  pub mid : View
+  pub flushed : AreFlushedAgain c made old mid
+  pub few : made ≤ flush_limit
+  pub enough : mid.tree.table.size ≤ waiting_limit c
+  pub sent : HasSent (sending (keys_of old) t c) mid.tree new.tree
+  pub rest : OnlyNodes mid new
+
+-- these commands were replayed, one after the other, from a tree on
+abbrev pub AreReplayed : Tree → List Command → View → View → Type 0
+AreReplayed t [] old new = new ≡ old
+AreReplayed t (c ∷ cs) old new =
+    (mid : View) × IsReplayed t c old mid × AreReplayed (after t c) cs mid new

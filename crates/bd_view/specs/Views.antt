@@ -1,5 +1,5 @@
 -- What is seen of a volume on a device, and its numbers of slots and of bytes.
-use Rattle.std.specs.Prelude.{ℕ, ◌+◌, ◌-◌, ◌*◌, ◌==◌, ◌&&◌, ◌||◌, nat_le, not, if◌then◌else◌, Bool, List, [], ◌∷◌, length}
+use Rattle.std.specs.Prelude.{ℕ, ◌+◌, ◌-◌, ◌*◌, ◌==◌, ◌&&◌, ◌||◌, nat_le, nat_lt, not, if◌then◌else◌, Bool, List, [], ◌∷◌, length}
 use Rattle.std.specs.List.{filter, list_any, range_with_len}
 use Rattle.bd_limits.specs.Limits.{late_limit}
 use Rattle.bd_slots.specs.Layout.{table_length}
@@ -9,15 +9,17 @@ use Rattle.bd_message.specs.KeyMaps.{At}
 use Rattle.bd_dirs.specs.Kinds.{Kind, SendsLate, kind_of}
 use Rattle.bd_node.specs.Tables.{Table, sum_below, kept_count, root_at}
 use Rattle.bd_log.specs.Logs.{room_at}
+use Rattle.bd_image.specs.Versions.{mode_version, sets_mode}
 use Rattle.bd_view.specs.Trees.{TreeView, fresh_tree}
 
 -- the tree; the ids of the last checkpoint's nodes, in rising order; the slots of the image; the
--- epoch of that checkpoint; the place in the log of the next batch's commit block, and the bytes of
--- the records that wait for it
+-- version and the epoch of that checkpoint; the place in the log of the next batch's commit block,
+-- and the bytes of the records that wait for it
 pub record View : Type 0 where
   pub tree : TreeView
   pub saved : List ℕ
   pub slots : ℕ
+  pub version : ℕ
   pub epoch : ℕ
   pub place : ℕ
   pub waiting : ℕ
@@ -32,6 +34,7 @@ fresh_view slots = record {
   tree = fresh_tree;
   saved = 1 ∷ [];
   slots = slots;
+  version = mode_version;
   epoch = 1;
   place = 0;
   waiting = 0;
@@ -92,6 +95,10 @@ need_slots c v = save_slots v + step_slots (kind_of c) v.tree.table
 -- for how many bytes of records the next batch has room, beside those that wait for it
 abbrev pub log_room : View → ℕ
 log_room v = room_at v.place - v.waiting
+
+-- the same for a command's record: none, where the image's version has no such record
+abbrev pub record_room : Command → View → ℕ
+record_room c v = if nat_lt v.version mode_version && sets_mode c then 0 else log_room v
 
 -- the bytes of a command's record
 abbrev pub log_size : Command → ℕ

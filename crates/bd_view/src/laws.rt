@@ -15,7 +15,8 @@ ghost use Rattle.bd_reclaim.specs.declared.covering.Cover.TheVariants.{Gone};
 ghost use Rattle.bd_reclaim.specs.Covering.{HasNoCovered};
 ghost use Rattle.bd_log.specs.Batches.{IsLogRecord};
 ghost use Rattle.bd_log.specs.Logs.{LogState, room_left, after_sync};
-ghost use Rattle.bd_view.specs.Views.{View, keys_of, fresh_view, changed_count, kept_ids, held_slots, free_slots, save_slots, need_slots, log_room};
+ghost use Rattle.bd_image.specs.Versions.{mode_version, IsLoggedIn};
+ghost use Rattle.bd_view.specs.Views.{View, keys_of, fresh_view, changed_count, kept_ids, held_slots, free_slots, save_slots, need_slots, log_room, record_room, log_size};
 ghost use Rattle.bd_view.specs.Moves.{OnlyNodes, Saves, IsCheckpointFull, SavesIn, AreSteps, IsCommandFull, IsQuietFor, IsExecuted, synced};
 ghost use Rattle.bd_view.specs.Reclaiming.{HasReclaimed, IsReclaim, IsReclaimFull};
 
@@ -41,10 +42,12 @@ pub fn checkpoints_keep_all()
         → ¬ IsCheckpointFull old free need }
 {}
 
-/// Between checkpoints the free slots stay, and the room in the log.
+/// Between checkpoints the free slots stay, and the room in the log, also for a record.
 pub fn changes_hold_no_slots()
     ensures free { (old new : View) → OnlyNodes old new → free_slots new ≡ free_slots old }
     ensures log { (old new : View) → OnlyNodes old new → log_room new ≡ log_room old }
+    ensures record { (c : Command) (old new : View) → OnlyNodes old new
+        → record_room c new ≡ record_room c old }
 {}
 
 /// Flush steps, checkpoints and reclaiming leave what the tree has at each key, and the last graft.
@@ -99,6 +102,18 @@ pub fn logs_have_the_same_numbers()
         → v.place ≡ log.place → v.waiting ≡ length (concat log.waiting)
         → (synced v).place ≡ (after_sync log).place }
 {}
+
+/// Where the log has room for a command's record, the image's version has such a record; and where
+/// it has no batch and nothing waits it has room for each, on an image of the version that is
+/// written.
+pub fn records_have_room()
+    ensures version { (c : Command) (v : View) → IsLogged c → log_size c ≤ record_room c v
+        → IsLoggedIn v.version c }
+    ensures anew { (c : Command) (v : View) → IsLogged c → v.version ≡ mode_version
+        → v.place ≡ 0 → v.waiting ≡ 0 → log_size c ≤ record_room c v }
+{
+    log_records_fit();
+}
 
 /// A new image of 24 slots or more has all but two of them free, and is quiet for each command, for
 /// which 13 are enough.

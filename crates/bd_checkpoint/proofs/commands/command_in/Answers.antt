@@ -26,17 +26,17 @@ returns-then-not-is_empty c =
     more_left c.log_records_are_prefix_free.ensures (version_number c.args.version) c.args.bytes.now c.log_read.new.cursor.left c.in-Some.command found.0 (sym c.new-cursor.ensures.left ∙ found.1.front)
     (λ none. not_empty (length c.left.result.now) (sym c.is_empty.ensures ∙ full) (ap length (c.left.ensures ∙ none)))
 
-pub returns-then-not-is_of_version : goal.returns-then-not-is_of_version
-returns-then-not-is_of_version c =
+pub returns-then-not-has_record : goal.returns-then-not-has_record
+returns-then-not-has_record c =
     let found = subst (IsLogReadAs c.new-cursor.result c.log_read.new.cursor) c.in-Some.is c.in_ok-command.ensures.read in
-    let refused : c.is_of_version.result ≡ false = cc in
+    let refused : c.has_record.result ≡ false = cc in
     of_other_version c.log_records_are_prefix_free.ensures (version_number c.args.version) c.args.bytes.now c.log_read.new.cursor.left c.in-Some.command found.0 (sym c.new-cursor.ensures.left ∙ found.1.front)
-    (λ of. true≢false (sym (c.is_of_version.ensures.1 of) ∙ refused))
+    (λ of. true≢false (sym (c.has_record.ensures.1 of) ∙ refused))
 
 pub returns : goal.returns
 returns c =
     let found = subst (IsLogReadAs c.new-cursor.result c.log_read.new.cursor) c.in-Some.is c.in_ok-command.ensures.read in
     let empty : c.is_empty.result ≡ true = cc in
-    let of : c.is_of_version.result ≡ true = cc in
+    let of : c.has_record.result ≡ true = cc in
     let nil : c.log_read.new.cursor.left ≡ [] = sym c.left.ensures ∙ empty_is_nil c.left.result.now (is_empty (length c.left.result.now) (sym c.is_empty.ensures ∙ empty)) in
-    ((found.0, c.is_of_version.ensures.0 of), whole_record c.args.bytes.now c.log_read.new.cursor.left c.in-Some.command (sym c.new-cursor.ensures.left ∙ found.1.front) nil)
+    ((found.0, c.has_record.ensures.0 of), whole_record c.args.bytes.now c.log_read.new.cursor.left c.in-Some.command (sym c.new-cursor.ensures.left ∙ found.1.front) nil)

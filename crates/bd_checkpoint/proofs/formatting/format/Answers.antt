@@ -1,4 +1,4 @@
-use Rattle.std.proofs.Common.{◌≡◌, ℕ, true, false, length, IfSome, sym, ap, subst, ◌∙◌}
+use Rattle.std.proofs.Common.{ℕ, true, false, length, IfSome, sym, ap, subst, ◌∙◌}
 use Rattle.std.proofs.lemmas.List.{length-replicate}
 use Rattle.bd_device.specs.Device.{left_now, Stays}
 use Rattle.bd_device.proofs.Calls.{stays_then}

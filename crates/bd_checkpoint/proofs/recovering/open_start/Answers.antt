@@ -6,7 +6,7 @@ use Rattle.bd_device.proofs.Calls.{reads_then}
 use Rattle.bd_device.proofs.Moments.{after}
 use Rattle.bd_pager.specs.Opened.{IsBadStart}
 use Rattle.bd_checkpoint.specs.Recovering.{IsBadIn}
-use Rattle.bd_checkpoint.proofs.Causes.{only_then, cause_on, bad_start}
+use Rattle.bd_checkpoint.proofs.Causes.{settled_then, only_then, cause_on, bad_start}
 use Rattle.bd_checkpoint.proofs.recovering.open_start.Goals as goal
 
 pub returns-in-Err-open-clause-cause : goal.returns-in-Err-open-clause-cause
@@ -34,3 +34,9 @@ returns-clause-only g c =
 
 pub returns-clause-reads : goal.returns-clause-reads
 returns-clause-reads g c = reads_then c.in-Ok.ensures.reads c.in-Ok-open.ensures.reads
+
+pub returns-in-Err-open-clause-settles : goal.returns-in-Err-open-clause-settles
+returns-in-Err-open-clause-settles g c = λ some none. settled_then g.D.Device c.args.dev c.read_start.new.dev c.in-Err-open.refused.device c.in-Ok.ensures.settled c.in-Err-open.ensures.left
+
+pub returns-clause-settled : goal.returns-clause-settled
+returns-clause-settled g c = settled_then g.D.Device c.args.dev c.read_start.new.dev c.in-Ok-open.pager.dev c.in-Ok.ensures.settled c.in-Ok-open.ensures.reads

@@ -6,7 +6,7 @@ use Rattle.bd_device.specs.Moments.{Nothing}
 use Rattle.bd_device.proofs.Moments.{after}
 use Rattle.bd_super.specs.Live.{IsDamaged}
 use Rattle.bd_checkpoint.specs.Recovering.{IsBadIn}
-use Rattle.bd_checkpoint.proofs.Causes.{only_then, cause_on, bad_superblock}
+use Rattle.bd_checkpoint.proofs.Causes.{barrier_settles, settled_then, only_then, cause_on, bad_superblock}
 use Rattle.bd_checkpoint.proofs.recovering.read_start.Goals as goal
 
 pub returns-in_err-live-clause-cause : goal.returns-in_err-live-clause-cause
@@ -35,3 +35,21 @@ returns-clause-only g c =
     let some : 0 < D.block_count old = omega (arith, c.in_ok-barrier.ensures.count, c.in_ok-live.ensures.size) in
     only_then (D.contents mid) (D.contents new) (left_now D mid) (left_now D new) reads.kept
     (after Nothing (left_now D mid) reads.time (g.met.D.Device.since_earlier new) (λ image is. is) (λ image none. absurd none)) (c.in_ok-barrier.ensures.durable some)
+
+pub returns-in_err-live-clause-settles : goal.returns-in_err-live-clause-settles
+returns-in_err-live-clause-settles g c =
+    let p = err_from_is_err_and c.from_residual-in_err-live.result c.from_residual-in_err-live.ensures.1 in
+    let D = g.D.Device in
+    let barrier = c.in_ok-barrier.ensures in
+    rw p.1
+    (λ some none. settled_then D c.args.dev.now c.barrier.new.self c.read_live.new.dev
+    (barrier_settles D c.args.dev.now c.barrier.new.self c.in_ok-barrier.field-0 barrier.calls barrier.kept (barrier.durable some)) c.in_err-live.ensures.reads)
+
+pub returns-in_err-extend_from_slice-clause-settles : goal.returns-in_err-extend_from_slice-clause-settles
+returns-in_err-extend_from_slice-clause-settles g c =
+    let p = err_from_is_err_and c.from_residual-in_err-extend_from_slice.result c.from_residual-in_err-extend_from_slice.ensures.1 in
+    let D = g.D.Device in
+    let barrier = c.in_ok-barrier.ensures in
+    rw p.1
+    (λ some none. settled_then D c.args.dev.now c.barrier.new.self c.read_live.new.dev
+    (barrier_settles D c.args.dev.now c.barrier.new.self c.in_ok-barrier.field-0 barrier.calls barrier.kept (barrier.durable some)) c.in_ok-live.ensures.reads)

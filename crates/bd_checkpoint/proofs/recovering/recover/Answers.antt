@@ -13,8 +13,8 @@ use Rattle.bd_pager.specs.Pagers.{Paged, is_known}
 use Rattle.bd_checkpoint.specs.Following.{HasTableOf, saved_by}
 use Rattle.bd_checkpoint.specs.Kept.{Saved, IsOpenOn}
 use Rattle.bd_checkpoint.specs.Resuming.{IsBadUnder}
-use Rattle.bd_checkpoint.specs.Recovering.{OnlySettles, IsBadIn, saved_of}
-use Rattle.bd_checkpoint.proofs.Causes.{reads_settle, only_then, cause_on, bad_log, no_damage}
+use Rattle.bd_checkpoint.specs.Recovering.{OnlySettles, HasSettled, IsBadIn, saved_of}
+use Rattle.bd_checkpoint.proofs.Causes.{reads_settle, settled_then, only_then, cause_on, bad_log, no_damage}
 use Rattle.bd_checkpoint.proofs.Opened.{AreDecoded, stored_known, opened_on, known_on}
 use Rattle.bd_checkpoint.proofs.Replaying.{replays}
 use Rattle.bd_checkpoint.proofs.Starting.{PartsAreOne}
@@ -116,3 +116,11 @@ returns-clause-replay g c =
 
 pub returns-clause-reads : goal.returns-clause-reads
 returns-clause-reads g c = reads_then c.in-Ok.ensures.reads c.in-Ok-read_log.ensures.reads
+
+pub returns-in-Err-read_log-clause-settles : goal.returns-in-Err-read_log-clause-settles
+returns-in-Err-read_log-clause-settles g c = λ some none.
+    subst (λ (d : g.row.D.Denot). HasSettled g.D.Device c.args.dev d) (sym c.into_device-device.ensures)
+    (settled_then g.D.Device c.args.dev c.in-Ok.start.1.dev c.read_log.new.pager.dev c.in-Ok.ensures.settled c.in-Err-read_log.ensures.reads)
+
+pub returns-clause-settled : goal.returns-clause-settled
+returns-clause-settled g c = settled_then g.D.Device c.args.dev c.in-Ok.start.1.dev c.read_log.new.pager.dev c.in-Ok.ensures.settled c.in-Ok-read_log.ensures.reads
