@@ -11,6 +11,7 @@ use Rattle.bd_graft.specs.declared.grafting.Walk.{Walk}
 use Rattle.bd_pager.specs.Keeping.{KeepsSaved}
 use Rattle.bd_pager.specs.Places.{Spots, nodes_at}
 use Rattle.bd_pager.specs.Pagers.{Paged, spots_of, nodes_of, table_of, is_known, IsKnownOver, IsPaged, IsReadOf}
+use Rattle.bd_image.specs.Versions.{version_of}
 use Rattle.bd_checkpoint.specs.Kept.{Saved, IsOpenOn}
 use Rattle.bd_checkpoint.specs.Recovering.{saved_of}
 use Rattle.bd_checkpoint.proofs.Handed.{IsSince, open_after}
@@ -42,6 +43,7 @@ kept_standing g old p walk earlier h k =
       slots = ap (λ (l : List Bool). length l) k.spare ∙ h.slots;
       table = subst (λ (a : List ℕ). IsTableAt old.live.slots a p.saved) (sym k.at) (subst (λ (t : StoredTable). IsTableAt old.live.slots old.pager.at t) (sym k.saved) h.table);
       unlent = k.lent h.unlent;
+      records = h.records;
       going = λ on. subst (λ (s : Saved). IsOpenOn g p.dev old.live s old.log) same (open_after g old.pager.dev p.dev earlier k.device old.live (saved_of old.pager) old.log (h.going on));
     }
 
@@ -50,7 +52,7 @@ pub read_on : {D : Type 0} (g : Ghosts D) (old : EngineState D) (p : Paged D) (w
 read_on g old p walk same r = record {
   read = r;
   known = read_knows g old.pager p r;
-  view = (λ i. view_of g (record old { pager = p; walk = same i })) ∙ read_shown g old.pager p old.walk old.live.epoch old.log.place (length (concat old.log.waiting)) r;
+  view = (λ i. view_of g (record old { pager = p; walk = same i })) ∙ read_shown g old.pager p old.walk (version_of old.live) old.live.epoch old.log.place (length (concat old.log.waiting)) r;
   rest = λ i. record old { pager = p; walk = same i };
 }
 
@@ -60,7 +62,7 @@ pub only_nodes_on : {D : Type 0} (g : Ghosts D) (old : EngineState D) (p : Paged
 only_nodes_on g old p walk h was now known k = record {
   keeps = k;
   known = known;
-  view = λ is. kept_shown g (g.contents old.pager.dev) (g.contents p.dev) old.pager p old.walk walk old.live.epoch old.log.place (length (concat old.log.waiting)) was now
+  view = λ is. kept_shown g (g.contents old.pager.dev) (g.contents p.dev) old.pager p old.walk walk (version_of old.live) old.live.epoch old.log.place (length (concat old.log.waiting)) was now
       (subst (λ (n : ℕ). IsTableAt n old.pager.at old.pager.saved) (sym h.slots) h.table) is (known is) k;
   rest = refl;
 }

@@ -1,7 +1,9 @@
 pub mod Left
+pub mod Logging
 pub mod Numbers
 pub mod Reclaims
 pub mod Remaining
 pub mod Saving
 pub mod Starting
+pub mod Syncing
 pub mod Undamaged

@@ -1,5 +1,5 @@
 -- What an engine finds to reclaim, and what a change leaves.
-use Rattle.std.proofs.Common.{◌≡◌, [], Option, None, Some, sym, subst}
+use Rattle.std.proofs.Common.{[], Option, None, Some, sym, subst}
 use Rattle.std.specs.Prelude.{Result, Ok, Err, IfOk, IfSome, OnOk, OnErr}
 use Rattle.bd_device.specs.declared.device.Device.{Ghosts}
 use Rattle.bd_node.specs.Meaning.{Nodes}
@@ -10,7 +10,6 @@ use Rattle.bd_pager.specs.Pagers.{Paged, nodes_of, table_of, is_known, IsReadOf}
 use Rattle.bd_reclaim.specs.declared.walking.Reclaim.{Reclaim}
 use Rattle.bd_reclaim.specs.Walking.{IsToDo, IsToDoAt}
 use Rattle.bd_reclaim.specs.Reclaimed.{IsReclaimed}
-use Rattle.bd_engine.specs.Engines.{IsSoundOn}
 use Rattle.bd_engine.specs.Reclaiming.{MayMake}
 use Rattle.bd_engine.proofs.Left.{read_nodes}
 

@@ -1,6 +1,6 @@
 -- What a checkpoint leaves of an engine, and what then holds.
 use Rattle.std.proofs.Common.{◌≡◌, ℕ, ◌+◌, ◌-◌, ◌^◌, ◌<◌, ◌≤◌, ◌⊎◌, ◌&&◌, inl, inr, length, Bool, true, false, cond, nat_eq, nat_lt, Option, None, Some, IfSome, Result, Ok, Err, OnOk, OnErr, IfErr, refl, sym, ap, subst, ◌∙◌, arith}
-use Rattle.std.specs.List.{concat}
+use Rattle.std.specs.List.{concat, AllByRecursion}
 use Rattle.std.proofs.lemmas.Bool.Decides.{nat_tests}
 use Rattle.bd_io.specs.Cause.{next_count}
 use Rattle.bd_device.specs.Blocks.{Image}
@@ -16,11 +16,13 @@ use Rattle.bd_slots.specs.Layout.{table_length}
 use Rattle.bd_table.specs.Tables.{IsTableAt}
 use Rattle.bd_super.specs.Superblocks.{log_block}
 use Rattle.bd_super.specs.declared.superblock.Super.{Super}
+use Rattle.bd_log.specs.Batches.{IsLogRecord}
 use Rattle.bd_log.specs.Logs.{LogState, fresh_log}
 use Rattle.bd_graft.specs.declared.grafting.Walk.{Walk}
 use Rattle.bd_pager.specs.Counting.{changed_of, free_of}
 use Rattle.bd_pager.specs.Pagers.{Paged, nodes_of, table_of, is_known, IsPaged}
 use Rattle.bd_pager.proofs.AppendedLemmas.{touched_sound}
+use Rattle.bd_image.specs.Versions.{version_of, mode_version}
 use Rattle.bd_checkpoint.specs.Following.{super_after}
 use Rattle.bd_checkpoint.specs.Kept.{Saved, StartsAs, IsOpen, IsOpenOn}
 use Rattle.bd_checkpoint.specs.Recovering.{saved_of}
@@ -30,7 +32,7 @@ use Rattle.bd_view.specs.Views.{View, kept_ids, changed_count, free_slots, save_
 use Rattle.bd_shown.specs.Shown.{ids_of, shown, IsCheckpointed}
 use Rattle.bd_shown.proofs.Saved.{AreListed, kept_saved}
 use Rattle.bd_engine.specs.Stored.{HasSaved}
-use Rattle.bd_engine.specs.Engines.{EngineState, seen, view_of, keys_of, stop_after, IsSoundOn, IsStanding, IsGoingOn, IsStopped}
+use Rattle.bd_engine.specs.Engines.{EngineState, seen, view_of, keys_of, stop_after, IsSoundOn, IsStanding, IsGoingOn, IsStopped, IsBegunAnew}
 
 -- ---- what stopped it
 
@@ -75,8 +77,8 @@ module _ {D : Type 0} (g : Ghosts D) (old new : D) (live : Super) (saved : Saved
 
 -- a checkpoint of the pager's nodes is one of its view's
 abbrev pub AreShown : {D : Type 0} → Ghosts D → Type 0
-AreShown {D} g = (contents : Option Image) (first last : Paged D) (walk : Walk) (epoch place waiting : ℕ) → IsPaged contents last → IsCheckpointed g first last → save_slots (shown g first walk epoch place waiting) ≤ free_slots (shown g first walk epoch place waiting)
-    → Saves (shown g first walk epoch place waiting) (shown g last walk (epoch + 1) 0 0)
+AreShown {D} g = (contents : Option Image) (first last : Paged D) (walk : Walk) (version epoch place waiting : ℕ) → IsPaged contents last → IsCheckpointed g first last → save_slots (shown g first walk version epoch place waiting) ≤ free_slots (shown g first walk version epoch place waiting)
+    → Saves (shown g first walk version epoch place waiting) (shown g last walk mode_version (epoch + 1) 0 0)
 
 -- after a checkpoint no node of the view is changed
 abbrev pub AreUnchanged : Type 0
@@ -84,18 +86,18 @@ AreUnchanged = (first last : View) → Saves first last → changed_count last �
 
 -- a pager's numbers are those of its view
 abbrev pub ShowsChanged : {D : Type 0} → Ghosts D → Type 0
-ShowsChanged {D} g = (contents : Option Image) (p : Paged D) (walk : Walk) (epoch place waiting : ℕ) → IsPaged contents p → changed_of p ≡ changed_count (shown g p walk epoch place waiting)
+ShowsChanged {D} g = (contents : Option Image) (p : Paged D) (walk : Walk) (version epoch place waiting : ℕ) → IsPaged contents p → changed_of p ≡ changed_count (shown g p walk version epoch place waiting)
 
 abbrev pub ShowsFree : {D : Type 0} → Ghosts D → Type 0
-ShowsFree {D} g = (p : Paged D) (walk : Walk) (epoch place waiting : ℕ) → IsTableAt (length p.spare) p.at p.saved → free_of p ≡ free_slots (shown g p walk epoch place waiting)
+ShowsFree {D} g = (p : Paged D) (walk : Walk) (version epoch place waiting : ℕ) → IsTableAt (length p.spare) p.at p.saved → free_of p ≡ free_slots (shown g p walk version epoch place waiting)
 
 -- slots that are free in the view are so in the pager
 pub has_room : {D : Type 0} (g : Ghosts D) → ShowsChanged g → ShowsFree g → (e : EngineState D) → IsStanding g e → IsPaged (g.contents e.pager.dev) e.pager → save_slots (view_of g e) ≤ free_slots (view_of g e)
     → changed_of e.pager + table_length (kept_count (table_of e.pager)) ≤ free_of e.pager
 has_room g changed free e h paged room =
     let table : IsTableAt (length e.pager.spare) e.pager.at e.pager.saved = subst (λ (n : ℕ). IsTableAt n e.pager.at e.pager.saved) (sym h.slots) h.table in
-    let few : changed_of e.pager ≡ changed_count (view_of g e) = changed (g.contents e.pager.dev) e.pager e.walk e.live.epoch e.log.place (length (concat e.log.waiting)) paged in
-    let most : free_of e.pager ≡ free_slots (view_of g e) = free e.pager e.walk e.live.epoch e.log.place (length (concat e.log.waiting)) table in
+    let few : changed_of e.pager ≡ changed_count (view_of g e) = changed (g.contents e.pager.dev) e.pager e.walk (version_of e.live) e.live.epoch e.log.place (length (concat e.log.waiting)) paged in
+    let most : free_of e.pager ≡ free_slots (view_of g e) = free e.pager e.walk (version_of e.live) e.live.epoch e.log.place (length (concat e.log.waiting)) table in
     omega (arith, room, few, most)
 
 -- ---- the engine
@@ -107,10 +109,10 @@ module _ {D T : Type 0} (g : Ghosts D) (old : EngineState D) (p : Paged D) (log 
   abbrev new_at : Result T MapFault → EngineState D
   new_at r = seen p log live (stop_at r) walk
 
-  pub saved_standing : (r : Result T MapFault) → IsStanding g old → old.stop ≡ None → g.write_fault_count old.pager.dev < 2 ^ 64 → OnOk r (IsOpenOn g p.dev live (saved_of p) log) → OnOk r (live ≡ super_after old.live count p.at) → OnOk r (IsSaved g old.pager p)
+  pub saved_standing : (r : Result T MapFault) → IsStanding g old → old.stop ≡ None → g.write_fault_count old.pager.dev < 2 ^ 64 → OnOk r (IsOpenOn g p.dev live (saved_of p) log) → OnOk r (live ≡ super_after old.live count p.at) → OnOk r (log ≡ fresh_log (log_block live.half) live.epoch) → OnOk r (IsSaved g old.pager p)
       → OnErr r (StaysUnsaved g old.pager p) → OnErr r (live ≡ old.live) → OnErr r (log ≡ old.log) → OnErr r (IsLeftOpen g old.pager.dev p.dev old.live (saved_of old.pager) old.log) → IfErr r (IsCheckpointCause g old.pager.dev p.dev old.live)
       → Stays g old.pager.dev p.dev → IsStanding g (new_at r)
-  saved_standing (Ok done) h on fits given next saved unsaved same_live same_log left cause stays =
+  saved_standing (Ok done) h on fits given next fresh saved unsaved same_live same_log left cause stays =
       let slots : live.slots ≡ old.live.slots = ap (λ (s : Super). s.slots) next in
       let spare : length p.spare ≡ live.slots = saved.spare.count ∙ h.slots ∙ sym slots in
       record {
@@ -119,9 +121,10 @@ module _ {D T : Type 0} (g : Ghosts D) (old : EngineState D) (p : Paged D) (log 
         slots = spare;
         table = subst (λ (n : ℕ). IsTableAt n p.at p.saved) (h.slots ∙ sym slots) saved.place;
         unlent = ap (λ (q : Paged D). q.is_lent) saved.rest ∙ h.unlent;
+        records = subst (λ (l : LogState). AllByRecursion IsLogRecord l.waiting) (sym fresh) tt;
         going = λ none. given;
       }
-  saved_standing (Err fault) h on fits given next saved unsaved same_live same_log left cause stays =
+  saved_standing (Err fault) h on fits given next fresh saved unsaved same_live same_log left cause stays =
       let at : p.at ≡ old.pager.at = ap (λ (q : Paged D). q.at) unsaved.rest in
       let table : p.saved ≡ old.pager.saved = ap (λ (q : Paged D). q.saved) unsaved.rest in
       let same : saved_of old.pager ≡ saved_of p = λ i. record { at = sym at i; table = sym table i } in
@@ -131,6 +134,7 @@ module _ {D T : Type 0} (g : Ghosts D) (old : EngineState D) (p : Paged D) (log 
         slots = ap (λ (q : Paged D). length q.spare) unsaved.rest ∙ h.slots;
         table = subst (λ (s : Saved). IsTableAt old.live.slots s.at s.table) same h.table;
         unlent = ap (λ (q : Paged D). q.is_lent) unsaved.rest ∙ h.unlent;
+        records = h.records;
         going = λ none. elim (went_on g old.pager.dev p.dev old.live (saved_of old.pager) old.log T fault fits (h.going on) left cause) [
           | inl stopped ↦ absurd (is_some none stopped.0)
           | inr goes ↦ subst (λ (s : Saved). IsOpenOn g p.dev old.live s old.log) same goes.1.known
@@ -166,12 +170,17 @@ module _ {D T : Type 0} (g : Ghosts D) (old : EngineState D) (p : Paged D) (log 
         place = saved.place;
         entries = saved.entries;
       } in
-      let first : Saves (view_of g old) (shown g p old.walk (old.live.epoch + 1) 0 0) =
-      law (g.contents p.dev) old.pager p old.walk old.live.epoch old.log.place (length (concat old.log.waiting)) paged checkpointed room in
-      let walked : Saves (view_of g old) (shown g p walk (old.live.epoch + 1) 0 0) = subst (λ (w : Walk). Saves (view_of g old) (shown g p w (old.live.epoch + 1) 0 0)) (sym same) first in
-      let at : Saves (view_of g old) (shown g p walk live.epoch 0 0) = subst (λ (n : ℕ). Saves (view_of g old) (shown g p walk n 0 0)) (sym (ap (λ (s : Super). s.epoch) next)) walked in
-      subst (λ (l : LogState). Saves (view_of g old) (shown g p walk live.epoch l.place (length (concat l.waiting)))) (sym fresh) at
+      let first : Saves (view_of g old) (shown g p old.walk mode_version (old.live.epoch + 1) 0 0) =
+      law (g.contents p.dev) old.pager p old.walk (version_of old.live) old.live.epoch old.log.place (length (concat old.log.waiting)) paged checkpointed room in
+      let walked : Saves (view_of g old) (shown g p walk mode_version (old.live.epoch + 1) 0 0) = subst (λ (w : Walk). Saves (view_of g old) (shown g p w mode_version (old.live.epoch + 1) 0 0)) (sym same) first in
+      let at : Saves (view_of g old) (shown g p walk (version_of live) live.epoch 0 0) = subst (λ (s : Super). Saves (view_of g old) (shown g p walk (version_of s) s.epoch 0 0)) (sym next) walked in
+      subst (λ (l : LogState). Saves (view_of g old) (shown g p walk (version_of live) live.epoch l.place (length (concat l.waiting)))) (sym fresh) at
   saves law (Err fault) paged same room next fresh saved known = tt
+
+  -- its log begins anew
+  pub begun : (r : Result T MapFault) (stop : Option ℕ) → OnOk r (live ≡ super_after old.live count p.at) → OnOk r (log ≡ fresh_log (log_block live.half) live.epoch) → OnOk r (IsBegunAnew (seen p log live stop walk))
+  begun (Ok done) stop next fresh = record { version = ap (λ (s : Super). version_of s) next; place = ap (λ (l : LogState). l.place) fresh; waiting = ap (λ (l : LogState). l.waiting) fresh }
+  begun (Err fault) stop next fresh = tt
 
   -- after it no node is changed
   pub none_changed : AreListed → AreUnchanged → (r : Result T MapFault) → IsPaged (g.contents p.dev) p → save_slots (view_of g old) ≤ free_slots (view_of g old) → OnOk r (IsSaved g old.pager p) → OnOk r (changed_count (view_of g (new_at r)) ≡ 0)
@@ -194,6 +203,7 @@ module _ {D T : Type 0} (g : Ghosts D) (old : EngineState D) (p : Paged D) (log 
     tree = record { nodes = unsaved.keeps.nodes known i; table = unsaved.table i; walk = same i };
     saved = ids_of (unsaved.rest i).saved.entries;
     slots = length (unsaved.rest i).spare;
+    version = version_of (same_live i);
     epoch = (same_live i).epoch;
     place = (same_log i).place;
     waiting = length (concat (same_log i).waiting);

@@ -1,6 +1,6 @@
 -- What an engine starts with.
-use Rattle.std.proofs.Common.{◌≡◌, ℕ, false, List, [], ◌∷◌, length, Option, None, Some, IfSome, refl, sym, ap, subst, ◌∙◌}
-use Rattle.std.specs.List.{concat}
+use Rattle.std.proofs.Common.{◌≡◌, ℕ, false, List, [], ◌∷◌, map, length, Option, None, Some, IfSome, refl, sym, ap, subst, ◌∙◌}
+use Rattle.std.specs.List.{concat, AllByRecursion}
 use Rattle.bd_limits.specs.Places.{first_log_block}
 use Rattle.bd_model.specs.Tree.{Tree}
 use Rattle.bd_device.specs.Blocks.{Image}
@@ -13,12 +13,19 @@ use Rattle.bd_table.specs.Tables.{AreFreeSlots, IsTableAt}
 use Rattle.bd_super.specs.Live.{IsLive}
 use Rattle.bd_super.specs.Superblocks.{log_block}
 use Rattle.bd_super.specs.declared.superblock.Super.{Super}
-use Rattle.bd_log.specs.Batches.{AreBatches}
+use Rattle.bd_log.specs.Batches.{IsLogRecord, AreBatches}
 use Rattle.bd_log.specs.Logs.{LogState, fresh_log}
 use Rattle.bd_pager.specs.Opened.{IsOpened}
 use Rattle.bd_pager.specs.Pagers.{Paged, spots_of, nodes_of, table_of, AreEntriesOf, IsPaged}
+use Rattle.bd_image.specs.Versions.{version_of}
 use Rattle.bd_image.specs.Fresh.{first_super, fresh_nodes}
-use Rattle.bd_image.specs.ImageTree.{HasTree, ImageStandsFor}
+use Rattle.bd_image.specs.ImageTree.{records_of, HasTree, ImageStandsFor}
+use Rattle.bd_image.specs.Damage.{placed_records, unplaced}
+use Rattle.bd_image.proofs.Leading.{records_placed}
+use Rattle.bd_command.specs.Log.{log_record}
+use Rattle.bd_log.specs.declared.batch.Batch.{Batch}
+use Rattle.bd_checkpoint.specs.Commands.{records_for, AreCommandsOf}
+use Rattle.bd_checkpoint.specs.declared.commands.PlacedCommand.{PlacedCommand}
 use Rattle.bd_checkpoint.specs.Kept.{slots_held, IsOpenOn, StartsAs}
 use Rattle.bd_checkpoint.specs.Recovering.{saved_of, AreStored}
 use Rattle.bd_checkpoint.proofs.Starting.{PartsAreOne, recovered}
@@ -27,29 +34,40 @@ use Rattle.bd_view.specs.Views.{kept_ids, fresh_view}
 use Rattle.bd_shown.specs.Shown.{ids_of, IsCheckpointed}
 use Rattle.bd_shown.proofs.Saved.{AreListed, kept_saved}
 use Rattle.bd_engine.specs.Engines.{started, view_of, IsStanding}
-use Rattle.bd_engine.specs.Stored.{IsStoredView}
+use Rattle.bd_engine.specs.Stored.{IsStoredView, IsFound, IsStoredBy, ArePlaced}
 
 -- ---- from an image
 
-pub opened_standing : {D : Type 0} (g : Ghosts D) (known : Option Image) (p : Paged D) (log : LogState) (live : Super) → IsOpened known live.slots live.table p → IsOpenOn g p.dev live (saved_of p) log → IsStanding g (started p log live)
-opened_standing g known p log live h given = record {
+pub opened_standing : {D : Type 0} (g : Ghosts D) (known : Option Image) (p : Paged D) (log : LogState) (live : Super) → IsOpened known live.slots live.table p → IsOpenOn g p.dev live (saved_of p) log
+    → log ≡ record (fresh_log (log_block live.half) live.epoch) { place = log.place; batches = log.batches } → IsStanding g (started p log live)
+opened_standing g known p log live h given idle = record {
   fits = given.fits;
   size = given.size;
   slots = h.spare.count;
   table = subst (λ (a : List ℕ). IsTableAt live.slots a p.saved) (sym h.at_is) h.table;
   unlent = h.lent;
+  records = subst (λ (l : LogState). AllByRecursion IsLogRecord l.waiting) (sym idle) tt;
   going = λ none. given;
 }
 
--- its view is that of the image's checkpoint
+-- the records of batches are those of their commands
+found_records : (version : ℕ) (batches : List Batch) (list : List PlacedCommand) → AreCommandsOf version (placed_records batches) list → map log_record (map (λ p. p.command) list) ≡ records_of batches
+found_records version batches list of = sym (unplaced_commands list) ∙ ap unplaced of.same ∙ records_placed batches
+  where
+    unplaced_commands : (l : List PlacedCommand) → unplaced (records_for l) ≡ map log_record (map (λ p. p.command) l)
+    unplaced_commands [] = refl
+    unplaced_commands (p ∷ ps) = ap (λ (rs : List (List ℕ)). log_record p.command ∷ rs) (unplaced_commands ps)
+
+-- its view is that of the image's checkpoint, and its commands are those of the open batches
 pub first_view : {D : Type 0} (g : Ghosts D) → PartsAreOne → (known : Option Image) (p : Paged D) (log : LogState) (live : Super) → IsOpened known live.slots live.table p → IfSome known (AreStored g p) → IfSome known (λ image. IsLive image live)
     → IfSome known (λ image. AreBatches image (log_block live.half) live.epoch log.batches log.place) → log ≡ record (fresh_log (log_block live.half) live.epoch) { place = log.place; batches = log.batches }
-    → (tree : Tree) (count : ℕ) → IfSome known (λ image. ImageStandsFor tree count image → IsStoredView image (view_of g (started p log live)))
-first_view g one None p log live h stored is_live batches idle tree count = tt
-first_view g one (Some image) p log live h stored is_live batches idle tree count = λ stands.
+    → (list : List PlacedCommand) → AreCommandsOf (version_of live) (placed_records log.batches) list
+    → (tree : Tree) (count : ℕ) → IfSome known (λ image. ImageStandsFor tree count image → IsFound image (view_of g (started p log live)) (map (λ p. p.command) list))
+first_view g one None p log live h stored is_live batches idle list of tree count = tt
+first_view g one (Some image) p log live h stored is_live batches idle list of tree count = λ stands.
     let starts : StartsAs live (saved_of p) log.place image = record { live_is = is_live; table_is = h.table_held; batches = log.batches; batches_are = batches } in
     let t : HasTree live p.saved log.place tree count image = recovered one live (saved_of p) log.place image tree count starts stands in
-    record {
+    let view : IsStoredView image (view_of g (started p log live)) = record {
       live = live;
       table = p.saved;
       nodes = t.nodes;
@@ -60,17 +78,31 @@ first_view g one (Some image) p log live h stored is_live batches idle tree coun
         tree = record { nodes = stored.nodes t.nodes t.starts.stored i; table = stored.table t.nodes t.starts.stored i; walk = record { visits = 0; height = 0 } };
         saved = ids_of p.saved.entries;
         slots = h.spare.count i;
+        version = version_of live;
         epoch = live.epoch;
         place = log.place;
         waiting = length (concat (idle i).waiting);
       };
-    }
+    } in
+    record { stored = view; records_are = found_records (version_of live) log.batches list of }
+
+-- the nodes are those that the image stores
+pub stored_by : {D : Type 0} (g : Ghosts D) (known : Option Image) (p : Paged D) (log : LogState) (live : Super) → IsOpened known live.slots live.table p → IfSome known (AreStored g p) → IfSome known (λ image. IsLive image live)
+    → IfSome known (IsStoredBy g (started p log live))
+stored_by g None p log live h stored is_live = tt
+stored_by g (Some image) p log live h stored is_live = record { live_is = is_live; table_is = h.table_held; nodes = stored }
+
+-- each command has its place
+pub are_placed : (known : Option Image) (log : LogState) (live : Super) (list : List PlacedCommand) → IfSome known (λ image. IsLive image live) → IfSome known (λ image. AreBatches image (log_block live.half) live.epoch log.batches log.place)
+    → AreCommandsOf (version_of live) (placed_records log.batches) list → IfSome known (λ image. ArePlaced image live list)
+are_placed None log live list is_live batches of = tt
+are_placed (Some image) log live list is_live batches of = record { live_is = is_live; batches = log.batches; place = log.place; batches_are = batches; placed = of }
 
 -- ---- on a new one
 
 pub fresh_standing : {D : Type 0} (g : Ghosts D) (p : Paged D) (log : LogState) (live : Super) (slots : ℕ) → live ≡ first_super slots p.at → IsOpenOn g p.dev live (saved_of p) log → IsTableAt slots p.at p.saved
-    → AreFreeSlots slots (slots_held (saved_of p)) p.spare → p.is_lent ≡ false → IsStanding g (started p log live)
-fresh_standing g p log live slots is given table spare lent =
+    → AreFreeSlots slots (slots_held (saved_of p)) p.spare → p.is_lent ≡ false → log ≡ fresh_log first_log_block 1 → IsStanding g (started p log live)
+fresh_standing g p log live slots is given table spare lent fresh =
     let count : live.slots ≡ slots = ap (λ (s : Super). s.slots) is in
     record {
       fits = given.fits;
@@ -78,6 +110,7 @@ fresh_standing g p log live slots is given table spare lent =
       slots = spare.count ∙ sym count;
       table = subst (λ (n : ℕ). IsTableAt n p.at p.saved) (sym count) table;
       unlent = lent;
+      records = subst (λ (l : LogState). AllByRecursion IsLogRecord l.waiting) (sym fresh) tt;
       going = λ none. given;
     }
 
@@ -102,6 +135,7 @@ fresh_shown {D} g law contents p log live slots paged is_first is_fresh nodes ta
       tree = record { nodes = nodes i; table = table i; walk = record { visits = 0; height = 0 } };
       saved = ids i;
       slots = spare.count i;
+      version = version_of (is_first i);
       epoch = (is_first i).epoch;
       place = (is_fresh i).place;
       waiting = length (concat (is_fresh i).waiting);

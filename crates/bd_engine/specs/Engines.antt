@@ -1,6 +1,6 @@
 -- What an engine is seen as.
-use Rattle.std.specs.Prelude.{◌≡◌, ◌==◌, ◌&&◌, ◌-◌, ◌^◌, nat_lt, if◌then◌else◌, ℕ, false, length, Option, None, Some, Result, Ok, Err}
-use Rattle.std.specs.List.{concat}
+use Rattle.std.specs.Prelude.{◌≡◌, ◌==◌, ◌&&◌, ◌-◌, ◌^◌, nat_lt, if◌then◌else◌, ℕ, [], false, length, Option, None, Some, Result, Ok, Err}
+use Rattle.std.specs.List.{concat, AllByRecursion}
 use Rattle.bd_message.specs.KeyMaps.{At, HasMapCause}
 use Rattle.bd_message.specs.declared.fault.Counter.{Counter}
 use Rattle.bd_message.specs.declared.fault.MapFault.{MapFault}
@@ -13,13 +13,16 @@ use Rattle.bd_node.specs.Tables.{IsSound, root_at}
 use Rattle.bd_table.specs.Tables.{IsTableAt}
 use Rattle.bd_super.specs.Superblocks.{IsSuper}
 use Rattle.bd_super.specs.declared.superblock.Super.{Super}
+use Rattle.bd_log.specs.Batches.{IsLogRecord}
 use Rattle.bd_log.specs.Logs.{LogState}
 use Rattle.bd_graft.specs.declared.grafting.Walk.{Walk}
 use Rattle.bd_pager.specs.Keeping.{KeepsSaved}
 use Rattle.bd_pager.specs.Pagers.{Paged, nodes_of, table_of, is_known, is_bad, IsReadOf}
 use Rattle.bd_step.specs.Steps.{IsWornToFlush}
+use Rattle.bd_image.specs.Versions.{version_of, mode_version}
 use Rattle.bd_checkpoint.specs.Kept.{IsOpenOn, AllAsBefore}
 use Rattle.bd_checkpoint.specs.Recovering.{saved_of}
+use Rattle.bd_checkpoint.specs.Surviving.{SurvivesOn}
 use Rattle.bd_view.specs.Moves.{OnlyNodes}
 use Rattle.bd_view.specs.Views.{View}
 use Rattle.bd_shown.specs.Shown.{shown}
@@ -43,8 +46,8 @@ started pager log live = seen pager log live None (record { visits = 0; height =
 
 -- its view
 abbrev pub view_of : {D : Type 0} → Ghosts D → EngineState D → View
-view_of g e =
-    shown g e.pager e.walk e.live.epoch e.log.place (length (concat e.log.waiting))
+view_of g e = shown g e.pager e.walk (version_of e.live) e.live.epoch e.log.place
+    (length (concat e.log.waiting))
 
 -- what stands at each key
 abbrev pub keys_of : {D : Type 0} → Ghosts D → Paged D → At
@@ -94,6 +97,11 @@ stop_after before now calls (Err (Damaged block)) = None
 stop_after before now calls (Err (Worn _)) = None
 stop_after before now calls (Err NoMemory) = None
 
+-- the same, where a sync failed, which a write or a barrier did
+abbrev pub stop_by : {T E : Type 0} → ℕ → Result T E → Option ℕ
+stop_by calls (Ok done) = None
+stop_by calls (Err fault) = Some calls
+
 -- no write or barrier failed: it goes on, and an image that a crash now leaves stands for what one
 -- of before stood for
 pub record IsGoingOn {D : Type 0} (g : Ghosts D) (old new : EngineState D) : Type 0 where
@@ -107,14 +115,29 @@ pub record IsStopped {D : Type 0} (g : Ghosts D) (old new : EngineState D) : Typ
   pub write_faults :
       g.write_fault_count new.pager.dev ≡ next_count (g.write_fault_count old.pager.dev)
 
+-- its log begins anew, in an image of the version that is written: no batch is there, and nothing
+-- waits
+pub record IsBegunAnew {D : Type 0} (e : EngineState D) : Type 0 where
+  pub version : version_of e.live ≡ mode_version
+  pub place : e.log.place ≡ 0
+  pub waiting : e.log.waiting ≡ []
+
+-- only blocks before the slots were changed: the nodes stay, and what stands at the keys
+pub record KeepsNodesOn {D : Type 0} (g : Ghosts D) (old new : EngineState D) : Type 0 where
+  pub pager : SurvivesOn g old.pager new.pager
+  pub live : new.live ≡ old.live
+  pub walk : new.walk ≡ old.walk
+
 -- ---- between two calls
 
 -- the device, which isn't lent, has the blocks of an image of the superblock's slots, in which the
--- last checkpoint's table stands; and what is known of its images, until it is stopped
+-- last checkpoint's table stands; the log's bytes are whole records; and what is known of its
+-- images, until it is stopped
 pub record IsStanding {D : Type 0} (g : Ghosts D) (e : EngineState D) : Type 0 where
   pub fits : IsSuper e.live
   pub size : g.block_count e.pager.dev ≡ image_blocks e.live.slots
   pub slots : length e.pager.spare ≡ e.live.slots
   pub table : IsTableAt e.live.slots e.pager.at e.pager.saved
   pub unlent : e.pager.is_lent ≡ false
+  pub records : AllByRecursion IsLogRecord e.log.waiting
   pub going : e.stop ≡ None → IsOpenOn g e.pager.dev e.live (saved_of e.pager) e.log

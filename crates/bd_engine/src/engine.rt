@@ -3,15 +3,17 @@
 ghost use Rattle.std.specs.Prelude.{◌≡◌, ◌+◌, ◌^◌, ◌<◌, ◌≤◌};
 ghost use Rattle.bd_dirs.specs.Kinds.{kind_of};
 ghost use Rattle.bd_pager.specs.Pagers.{table_of};
-ghost use Rattle.bd_view.specs.Views.{height, free_slots, save_slots, step_slots, need_slots, log_room};
+ghost use Rattle.bd_view.specs.Views.{height, free_slots, save_slots, step_slots, need_slots, record_room};
 ghost use Rattle.bd_engine.specs.Engines.{started, view_of, IsStanding};
 
 mod changing;
+mod logging;
 mod reclaiming;
 mod saving;
 mod starting;
 mod telling;
 
+use bd_checkpoint::has_record;
 use bd_command::Command;
 use bd_device::Device;
 use bd_effects::waiting_limit;
@@ -124,11 +126,16 @@ impl<D: Device> Engine<D> {
         self.tree.store().root_size()
     }
 
-    /// For how many bytes of records the log has room, beside those that wait.
-    pub fn log_left(&self) -> usize
-        ensures { result ≡ log_room (view_of D.Device self.now) }
+    /// For how many bytes of a command's record the log has room, beside those that wait: for none,
+    /// where the image's version has no such record.
+    pub fn record_room(&self, command: &Command) -> usize
+        ensures { result ≡ record_room command.now (view_of D.Device self.now) }
     {
-        self.log.left()
+        if has_record(self.live.version, command) {
+            self.log.left()
+        } else {
+            0
+        }
     }
 
     /// How the last graft went that gave no fault.
@@ -150,6 +157,26 @@ impl<D: Device> Engine<D> {
         ensures { result ≡ D.call_count self.now.pager.dev }
     {
         self.tree.store().calls()
+    }
+
+    /// The same engine, of which no graft is told any more.
+    pub fn forget_walk(self) -> Engine<D>
+        ensures { result ≡ record self { walk = record { visits = 0; height = 0 } } }
+    {
+        let Engine {
+            alloc,
+            tree,
+            log,
+            live,
+            stop,
+        } = self;
+        Engine {
+            alloc,
+            tree: Tree::over(alloc, tree.into_store()),
+            log,
+            live,
+            stop,
+        }
     }
 
     /// The device, in place of the engine.

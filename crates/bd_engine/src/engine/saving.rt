@@ -11,7 +11,7 @@ ghost use Rattle.bd_checkpoint.specs.Kept.{AllStandFor, AreOfTree};
 ghost use Rattle.bd_checkpoint.specs.Saving.{IsCheckpointCause};
 ghost use Rattle.bd_view.specs.Moves.{Saves};
 ghost use Rattle.bd_view.specs.Views.{changed_count, free_slots, save_slots};
-ghost use Rattle.bd_engine.specs.Engines.{view_of, keys_of, stop_after, IsSoundOn, IsGoingOn, IsStopped};
+ghost use Rattle.bd_engine.specs.Engines.{view_of, keys_of, stop_after, IsSoundOn, IsGoingOn, IsStopped, IsBegunAnew};
 ghost use Rattle.bd_engine.specs.Stored.{HasSaved};
 
 use super::Engine;
@@ -62,7 +62,9 @@ impl<D: Device> Engine<D> {
             (IsStopped D.Device self.old self.new × (fault ≡ MapFault.DeviceFault))
             ⊎ IsGoingOn D.Device self.old self.new) }
         ensures none { OnOk result (changed_count (view_of D.Device self.new) ≡ 0) }
+        ensures anew { OnOk result (IsBegunAnew self.new) }
         ensures same_live { OnErr result (self.new.live ≡ self.old.live) }
+        ensures same_log { OnErr result (self.new.log ≡ self.old.log) }
         ensures later { D.fault_count self.old.pager.dev ≤ D.fault_count self.new.pager.dev }
         ensures cause { IfErr result (IsCheckpointCause D.Device self.old.pager.dev
             self.new.pager.dev self.old.live) }

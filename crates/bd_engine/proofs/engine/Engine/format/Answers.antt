@@ -1,7 +1,8 @@
-use Rattle.std.proofs.Common.{◌≡◌, sym, subst}
+use Rattle.std.proofs.Common.{◌≡◌, [], sym, ap, subst}
 use Rattle.bd_model.specs.Tree.{root_only}
 use Rattle.bd_device.specs.Device.{left_now, Stays}
 use Rattle.bd_device.specs.Moments.{IsOnly}
+use Rattle.bd_log.specs.Logs.{LogState}
 use Rattle.bd_pager.specs.Pagers.{nodes_of, table_of, is_known}
 use Rattle.bd_checkpoint.specs.Kept.{AllStandFor, AreOfTree}
 use Rattle.bd_view.specs.Views.{fresh_view}
@@ -12,7 +13,7 @@ use Rattle.bd_engine.proofs.engine.Engine.format.Goals as goal
 pub over-requires : goal.over-requires
 over-requires g c =
     let f = c.in-Ok.formatted in
-    fresh_standing g.D.Device f.pager f.log f.live c.args.slots c.in-Ok.ensures.live c.in-Ok.ensures.open c.in-Ok.ensures.place c.in-Ok.ensures.spare c.in-Ok.ensures.lent
+    fresh_standing g.D.Device f.pager f.log f.live c.args.slots c.in-Ok.ensures.live c.in-Ok.ensures.open c.in-Ok.ensures.place c.in-Ok.ensures.spare c.in-Ok.ensures.lent c.in-Ok.ensures.log
 
 pub returns-clause-view : goal.returns-clause-view
 returns-clause-view g c = λ told.
@@ -48,3 +49,7 @@ pub returns-clause-faults : goal.returns-clause-faults
 returns-clause-faults g c =
     let D = g.D.Device in
     subst (λ (e : EngineState g.row.D.Denot). D.fault_count e.pager.dev ≡ D.fault_count c.args.dev) (sym c.over.ensures) c.in-Ok.ensures.faults
+
+pub returns-clause-idle : goal.returns-clause-idle
+returns-clause-idle g c =
+    subst (λ (e : EngineState g.row.D.Denot). e.log.waiting ≡ []) (sym c.over.ensures) (ap (λ (l : LogState). l.waiting) c.in-Ok.ensures.log)

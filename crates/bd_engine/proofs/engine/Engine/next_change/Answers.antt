@@ -1,6 +1,6 @@
 -- What the tree finds the engine finds.
 use Rattle.std.proofs.Common.{subst}
-use Rattle.std.specs.Prelude.{IfOk, IfSome, MatchOption}
+use Rattle.std.specs.Prelude.{IfOk, MatchOption}
 use Rattle.bd_pager.specs.Calling.{read_keeps}
 use Rattle.bd_pager.specs.Pagers.{nodes_of, table_of}
 use Rattle.bd_reclaim.specs.Walking.{IsFirst, HasNone}

@@ -1,5 +1,5 @@
 -- What the checkpoint does to the parts it does to the engine.
-use Rattle.std.proofs.Common.{◌≡◌, ◌⊎◌, ◌^◌, ◌<◌, ◌≤◌, ℕ, None, Option, OnOk, IfErr, sym, ap, subst, ◌∙◌, refl, arith}
+use Rattle.std.proofs.Common.{◌≡◌, ◌⊎◌, ◌^◌, ◌<◌, ◌≤◌, ℕ, None, Option, OnOk, OnErr, IfErr, sym, ap, subst, ◌∙◌, refl, arith}
 use Rattle.bd_message.specs.KeyMaps.{SameAt}
 use Rattle.bd_message.specs.declared.fault.MapFault.TheVariants.{DeviceFault}
 use Rattle.bd_pager.specs.Pagers.{Paged, is_known}
@@ -7,7 +7,7 @@ use Rattle.bd_view.specs.Moves.{Saves}
 use Rattle.bd_view.specs.Views.{free_slots, save_slots}
 use Rattle.bd_engine.specs.Engines.{EngineState, seen, view_of, keys_of, stop_after, IsSoundOn, IsGoingOn, IsStopped, IsStanding}
 use Rattle.bd_engine.proofs.Left.{paged_at}
-use Rattle.bd_engine.proofs.Saving.{has_room, saved_standing, stop_err, saves, none_changed, kept_sound, kept_same}
+use Rattle.bd_engine.proofs.Saving.{has_room, saved_standing, stop_err, saves, begun, none_changed, kept_sound, kept_same}
 use Rattle.bd_engine.proofs.engine.Engine.save.Goals as goal
 
 pub checkpoint-saved-requires-clause-room : goal.checkpoint-saved-requires-clause-room
@@ -39,7 +39,7 @@ invariant_of-self g c =
     c.stop_after-self-inside.ensures ∙ (λ j. stop_after (before j) (D.write_fault_count (c.store-4.ensures j).dev) (D.call_count (c.store-4.ensures j).dev) r) in
     let on : i.stop ≡ None = ap (λ (x : EngineState g.row.D.Denot). x.stop) same ∙ c.requires.going in
     subst (λ (o : Option ℕ). IsStanding D (seen p c.checkpoint-saved.new.log c.checkpoint-saved.new.live o i.tree.walk)) (sym stop)
-    (saved_standing D e p c.checkpoint-saved.new.log c.checkpoint-saved.new.live i.tree.walk c.args.count r standing on fits k.open k.live k.saved k.unsaved k.same_live k.same_log k.goes_on k.cause k.stays)
+    (saved_standing D e p c.checkpoint-saved.new.log c.checkpoint-saved.new.live i.tree.walk c.args.count r standing on fits k.open k.live k.log k.saved k.unsaved k.same_live k.same_log k.goes_on k.cause k.stays)
 
 pub returns-clause-stop : goal.returns-clause-stop
 returns-clause-stop g c =
@@ -108,3 +108,15 @@ returns-clause-same g c =
     let same = ap (λ (p : Paged g.row.D.Denot). seen p i.log i.live i.stop i.tree.walk) c.store_mut.ensures.value ∙ c.self.view_is in
     subst (λ (x : EngineState g.row.D.Denot). IsSoundOn D x.pager → SameAt (keys_of D x.pager) (keys_of D c.checkpoint-saved.new.pager)) same
     (kept_same D c.store_mut.result.now c.checkpoint-saved.new.pager c.checkpoint-saved.result c.checkpoint-saved.ensures.saved c.checkpoint-saved.ensures.unsaved)
+
+pub returns-clause-anew : goal.returns-clause-anew
+returns-clause-anew g c =
+    let D = g.D.Device in
+    let i = c.self.inside in
+    let e = seen c.store_mut.result.now i.log i.live i.stop i.tree.walk in
+    let k = c.checkpoint-saved.ensures in
+    begun D e c.checkpoint-saved.new.pager c.checkpoint-saved.new.log c.checkpoint-saved.new.live i.tree.walk c.args.count c.checkpoint-saved.result c.stop_after-self-inside.result k.live k.log
+
+pub returns-clause-same_log : goal.returns-clause-same_log
+returns-clause-same_log g c =
+    subst (λ (x : EngineState g.row.D.Denot). OnErr c.checkpoint-saved.result (c.checkpoint-saved.new.log ≡ x.log)) c.self.view_is c.checkpoint-saved.ensures.same_log
