@@ -1,5 +1,5 @@
 -- What calls leave of a volume, one after the other.
-use Rattle.std.proofs.Common.{◌≡◌, ℕ, ◌<◌, ◌≤◌, ◌⊎◌, None, Some, refl, subst, ap, ◌∙◌, arith, inl, inr}
+use Rattle.std.proofs.Common.{◌≡◌, ℕ, ◌<◌, ◌≤◌, ◌⊎◌, None, Some, refl, sym, subst, ap, ◌∙◌, arith, inl, inr}
 use Rattle.std.specs.Prelude.{Result, Ok, Err}
 use Rattle.std.proofs.lemmas.Bool.{cases_lt}
 use Rattle.bd_io.specs.Cause.{Rose, next_count}
@@ -11,7 +11,7 @@ use Rattle.bd_message.specs.declared.fault.Counter.{Counter}
 use Rattle.bd_message.specs.declared.fault.MapFault.{MapFault}
 use Rattle.bd_message.specs.declared.fault.MapFault.TheVariants as map
 use Rattle.bd_checkpoint.specs.Saving.{IsCheckpointCause}
-use Rattle.bd_pager.specs.Pagers.{is_bad}
+use Rattle.bd_pager.specs.Pagers.{Paged, is_bad}
 use Rattle.bd_engine.specs.Engines.{IsStopped, IsGoingOn}
 use Rattle.bd_volume.specs.declared.fault.Fault.{Fault}
 use Rattle.bd_volume.specs.declared.fault.Fault.TheVariants.{Device, Damaged, Worn, NoMemory, Full, Stopped}
@@ -124,7 +124,7 @@ module _ {D : Type 0} (g : Ghosts D) where
 
   -- ---- checkpoints
 
-  rose : (m n : ℕ) → m ≤ n → n ≡ next_count m → Rose m n
+  pub rose : (m n : ℕ) → m ≤ n → n ≡ next_count m → Rose m n
   rose m n later one = elim (cases_lt m n) [ inl low ↦ inl low | inr same ↦ inr (omega (arith, later, one, same)) ]
 
   save_cause : (a b : Volume D) (fault : MapFault) → g.fault_count (device_of a) ≤ g.fault_count (device_of b) → IsCheckpointCause g (device_of a) (device_of b) a.engine.live fault → IsFaultCause g a b (fault_of fault)
@@ -152,3 +152,23 @@ module _ {D : Type 0} (g : Ghosts D) where
 
   pub ends_stopped : {T : Type 0} (a : Volume D) (call : ℕ) → stop_of a ≡ Some call → HasFaultCause {T = T} g a a (Err (Stopped call))
   ends_stopped a call off = record { later = omega arith; kept = tt; failed = (off, refl) }
+
+  -- ---- a command that was logged and counted
+
+  -- nothing but the log and the count changes
+  pub ends_logged : {T : Type 0} (a b d : Volume D) (x : T) → GoesOn g a b → d.engine.pager ≡ b.engine.pager → stop_of d ≡ stop_of b → Ends {T = T} g a d (Ok x)
+  ends_logged a b d x p pager stop =
+      let same : device_of d ≡ device_of b = ap (λ (q : Paged D). q.dev) pager in
+      record {
+        cause = record { later = omega (arith, p.faults, ap g.fault_count same); kept = ap g.fault_count same ∙ p.faults; failed = tt };
+        stop = record { ok = record { stop_is = stop ∙ p.going.stop_is; write_faults = ap g.write_fault_count same ∙ p.going.write_faults }; err = tt };
+        stays = subst (λ (e : D). Stays g (device_of a) e) (sym same) p.stays;
+      }
+
+  -- a fault of a call is one of another result
+  pub ends_err : {T U : Type 0} (a b : Volume D) (fault : Fault) → Ends {T = T} g a b (Err fault) → Ends {T = U} g a b (Err fault)
+  ends_err a b fault h = record {
+    cause = record { later = h.cause.later; kept = tt; failed = h.cause.failed };
+    stop = record { ok = tt; err = h.stop.err };
+    stays = h.stays;
+  }

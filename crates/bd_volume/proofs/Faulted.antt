@@ -25,15 +25,15 @@ use Rattle.bd_effects.proofs.Uncounted.{never_by_graft, never_counted}
 use Rattle.bd_pager.specs.Calling.{read_table}
 use Rattle.bd_pager.specs.Pagers.{Paged, nodes_of, table_of, is_known, is_bad, IsReadOf}
 use Rattle.bd_view.specs.Trees.{TreeView, waiting_limit}
-use Rattle.bd_view.specs.Views.{View, free_slots, need_slots}
-use Rattle.bd_view.specs.Moves.{AreSteps, HasStepped}
+use Rattle.bd_view.specs.Views.{View}
+use Rattle.bd_view.specs.Moves.{AreSteps, HasStepped, CallsForSave}
 use Rattle.bd_engine.specs.Engines.{IsWornIn}
 use Rattle.bd_volume.specs.declared.fault.Fault.{Fault}
 use Rattle.bd_volume.specs.declared.fault.Fault.TheVariants.{Device, Damaged, Worn, NoMemory, Full, Stopped}
 use Rattle.bd_volume.specs.declared.volume.Volume.{Volume}
 use Rattle.bd_volume.specs.Faults.{fault_of}
 use Rattle.bd_volume.specs.Volume.{view_of, device_of}
-use Rattle.bd_volume.specs.Wears.{IsWornByKind, IsWornForSending, IsWornForSave, IsWornNow, Wears, ShowsWorn}
+use Rattle.bd_volume.specs.Wears.{IsWornByKind, IsWornForSending, IsWornForSave, IsWornInReplay, IsWornNow, Wears, ShowsWorn}
 use Rattle.bd_volume.specs.Steps.{ShowsFault, IsSaveFault, IsWornInStep, IsStepFault, IsCommandFault}
 use Rattle.bd_volume.proofs.Stepped.{not_stepped}
 use Rattle.bd_volume.proofs.Read.{read_worn}
@@ -82,7 +82,7 @@ flushes_worn count c made old new writing steps all waits = record {
 
 -- ---- grafts
 
-worn_kind : (kind : Kind) (which : Counter) (c : Command) (v : TreeView) (s d : List ℕ) (keep : Bool) → IsPlanOf kind (Graft s d keep) → v.table.size ≤ waiting_limit c → IsWornByGraft v.nodes v.table s d keep which → IsWornByKind kind which c v
+pub worn_kind : (kind : Kind) (which : Counter) (c : Command) (v : TreeView) (s d : List ℕ) (keep : Bool) → IsPlanOf kind (Graft s d keep) → v.table.size ≤ waiting_limit c → IsWornByGraft v.nodes v.table s d keep which → IsWornByKind kind which c v
 worn_kind Reads which c v s d keep plan enough h = absurd plan
 worn_kind Sends which c v s d keep plan enough h = absurd plan
 worn_kind SendsLate which c v s d keep plan enough h = absurd plan
@@ -99,6 +99,15 @@ worn_graft Level count c made old v s d keep h sent = inr sent
 worn_graft Refs count c made old v s d keep h sent = inr sent
 worn_graft Epoch count c made old v s d keep h sent = absurd (never_by_graft v.tree.table h.root s d keep h.end (overlaid h.end (packs h.travel)) h.target Epoch (λ step w. w) (λ e. cc) h.worn)
 worn_graft Flushes count c made old v s d keep h sent = absurd (never_by_graft v.tree.table h.root s d keep h.end (overlaid h.end (packs h.travel)) h.target Flushes (λ step w. w) (λ e. cc) h.worn)
+
+-- the same of a command of the log
+pub worn_graft_again : (which : Counter) (count : ℕ) (c : Command) (made : ℕ) (v : TreeView) (s d : List ℕ) (keep : Bool) → IsWornByGraft v.nodes v.table s d keep which → IsWornForSending which c v → IsWornInReplay which count c made v
+worn_graft_again Count count c made v s d keep h sent = absurd (never_by_graft v.table h.root s d keep h.end (overlaid h.end (packs h.travel)) h.target Count (λ step w. w) (λ e. cc) h.worn)
+worn_graft_again NextId count c made v s d keep h sent = inr sent
+worn_graft_again Level count c made v s d keep h sent = inr sent
+worn_graft_again Refs count c made v s d keep h sent = inr sent
+worn_graft_again Epoch count c made v s d keep h sent = never_by_graft v.table h.root s d keep h.end (overlaid h.end (packs h.travel)) h.target Epoch (λ step w. w) (λ e. cc) h.worn
+worn_graft_again Flushes count c made v s d keep h sent = absurd (never_by_graft v.table h.root s d keep h.end (overlaid h.end (packs h.travel)) h.target Flushes (λ step w. w) (λ e. cc) h.worn)
 
 -- ---- the same step, where less is known
 
@@ -122,19 +131,19 @@ module _ {D : Type 0} (g : Ghosts D) where
   save_told a b (map.Worn which) h same = (h.0, h.1, same)
   save_told a b map.NoMemory h same = tt
 
-  save_in_step : (a b : Volume D) (c : Command) (fault : Fault) → IsSaveFault a b fault → free_slots (view_of g a) < need_slots c (view_of g a) → view_of g b ≡ view_of g a → IsStepFault fault c (view_of g b)
-  save_in_step a b c Device h short same = tt
-  save_in_step a b c (Damaged block) h short same = h
-  save_in_step a b c (Worn which) h short same =
-      subst (λ (w : Counter). IsWornInStep w c (view_of g b)) (sym h.0) (subst (λ (v : View). IsWornForSave c v) (sym same) (record { calls_for = inl short; worn = h.1 }))
-  save_in_step a b c NoMemory h short same = tt
-  save_in_step a b c (Full free need) h short same = absurd h
-  save_in_step a b c (Stopped call) h short same = h
+  save_in_step : (a b : Volume D) (c : Command) (fault : Fault) → IsSaveFault a b fault → CallsForSave c (view_of g a) → view_of g b ≡ view_of g a → IsStepFault fault c (view_of g b)
+  save_in_step a b c Device h calls same = tt
+  save_in_step a b c (Damaged block) h calls same = h
+  save_in_step a b c (Worn which) h calls same =
+      subst (λ (w : Counter). IsWornInStep w c (view_of g b)) (sym h.0) (subst (λ (v : View). IsWornForSave c v) (sym same) (record { calls_for = calls; worn = h.1 }))
+  save_in_step a b c NoMemory h calls same = tt
+  save_in_step a b c (Full free need) h calls same = absurd h
+  save_in_step a b c (Stopped call) h calls same = h
 
-  pub saves_in_step : {T : Type 0} (r : Result T Fault) (a b : Volume D) (c : Command) → IfErr r (IsSaveFault a b) → free_slots (view_of g a) < need_slots c (view_of g a) → OnErr r (view_of g b ≡ view_of g a)
+  pub saves_in_step : {T : Type 0} (r : Result T Fault) (a b : Volume D) (c : Command) → IfErr r (IsSaveFault a b) → CallsForSave c (view_of g a) → OnErr r (view_of g b ≡ view_of g a)
       → IfErr r (λ fault. IsStepFault fault c (view_of g b))
-  saves_in_step (Ok x) a b c h short same = tt
-  saves_in_step (Err e) a b c h short same = save_in_step a b c e h short same
+  saves_in_step (Ok x) a b c h calls same = tt
+  saves_in_step (Err e) a b c h calls same = save_in_step a b c e h calls same
 
   save_shows : (a b : Volume D) (count : ℕ) (c : Command) (fault : Fault) → IsSaveFault a b fault → ShowsFault g fault count c b.engine
   save_shows a b count c Device h = tt
@@ -155,7 +164,7 @@ module _ {D : Type 0} (g : Ghosts D) where
   abbrev AreKnownIn : Paged D → Type 0
   AreKnownIn p = is_known g p × IsSound (nodes_of g p) (table_of p)
 
-  worn_in_step : (a : Volume D) (which : Counter) (c : Command) → is_known g a.engine.pager → waiting_limit c < (table_of a.engine.pager).size → IsWornIn g a.engine.pager which → IsWornInStep which c (view_of g a)
+  pub worn_in_step : (a : Volume D) (which : Counter) (c : Command) → is_known g a.engine.pager → waiting_limit c < (table_of a.engine.pager).size → IsWornIn g a.engine.pager which → IsWornInStep which c (view_of g a)
   worn_in_step a Count c known waits h = never_counted (AreKnownIn a.engine.pager) (view_of g a).tree Count (λ step w. w) (λ e. cc) h
   worn_in_step a NextId c known waits h = record { waits = waits; worn = worn_where (AreKnownIn a.engine.pager) (IsSound (nodes_of g a.engine.pager) (table_of a.engine.pager)) (nodes_of g a.engine.pager) (table_of a.engine.pager) NextId (λ sound. (known, sound)) h }
   worn_in_step a Level c known waits h = record { waits = waits; worn = worn_where (AreKnownIn a.engine.pager) (IsSound (nodes_of g a.engine.pager) (table_of a.engine.pager)) (nodes_of g a.engine.pager) (table_of a.engine.pager) Level (λ sound. (known, sound)) h }

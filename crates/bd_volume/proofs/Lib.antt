@@ -1,9 +1,14 @@
 pub mod Called
 pub mod Executed
 pub mod Faulted
+pub mod Keeping
 pub mod Read
 pub mod Reclaimed
 pub mod Reclaims
+pub mod Replayed
+pub mod Room
+pub mod Safe
 pub mod Sent
 pub mod Started
 pub mod Stepped
+pub mod Synced

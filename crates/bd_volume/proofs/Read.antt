@@ -1,5 +1,5 @@
 -- What is known after calls that only read, and after others.
-use Rattle.std.proofs.Common.{◌≡◌, ℕ, Option, sym, subst, ap, ◌∙◌}
+use Rattle.std.proofs.Common.{◌≡◌, ℕ, Option, None, sym, subst, ap, ◌∙◌}
 use Rattle.bd_model.specs.Tree.{Tree}
 use Rattle.bd_message.specs.declared.fault.Counter.{Counter}
 use Rattle.bd_message.specs.KeyMaps.{SameAt}
@@ -14,7 +14,7 @@ use Rattle.bd_pager.specs.Pagers.{Paged, spots_of, table_of, IsKnownOver, IsRead
 use Rattle.bd_view.specs.Views.{View}
 use Rattle.bd_engine.specs.Engines.{EngineState, keys_of, IsSoundOn, IsWornIn, IsReadOn}
 use Rattle.bd_volume.specs.declared.volume.Volume.{Volume}
-use Rattle.bd_volume.specs.Volume.{StandsFor, count_of}
+use Rattle.bd_volume.specs.Volume.{StandsFor, IsSafeOn, count_of}
 
 module _ {D : Type 0} (g : Ghosts D) where
   -- ---- reads
@@ -37,10 +37,11 @@ module _ {D : Type 0} (g : Ghosts D) where
 
   -- ---- what a volume stands for
 
-  pub stands_same : (a b : Volume D) (t : Tree) (n : ℕ) → StandsFor g a t n → IsSoundOn g b.engine.pager → SameAt (keys_of g a.engine.pager) (keys_of g b.engine.pager) → count_of b ≡ count_of a → StandsFor g b t n
-  stands_same a b t n s sound same count = record {
+  pub stands_same : (a b : Volume D) (t : Tree) (n : ℕ) → StandsFor g a t n → IsSoundOn g b.engine.pager → SameAt (keys_of g a.engine.pager) (keys_of g b.engine.pager) → count_of b ≡ count_of a → (b.engine.stop ≡ None → IsSafeOn g b.engine t n) → StandsFor g b t n
+  stands_same a b t n s sound same count safe = record {
     nodes = sound;
     is_tree = s.is_tree;
     represents = Represents-along (keys_of g a.engine.pager) (keys_of g b.engine.pager) t (λ k key. same k) s.represents;
     count_is = count ∙ s.count_is;
+    safe = safe;
   }

@@ -1,11 +1,11 @@
 -- Reclaiming as a whole: its first checkpoint, its changes, and its last checkpoint.
-use Rattle.std.proofs.Common.{◌≡◌, ℕ, ◌+◌, ◌^◌, ◌≤◌, Option, None, Some, refl, sym, subst, ap, inl, inr}
+use Rattle.std.proofs.Common.{◌≡◌, ℕ, ◌+◌, ◌^◌, ◌≤◌, None, Some, refl, sym, subst, inl, inr}
 use Rattle.std.specs.Prelude.{Result, Ok, Err, IfErr, OnErr}
 use Rattle.bd_model.specs.Tree.{Tree}
 use Rattle.bd_message.specs.declared.fault.Counter.{Counter}
 use Rattle.bd_message.specs.declared.fault.Counter.TheVariants.{Epoch}
 use Rattle.bd_device.specs.declared.device.Device.{Ghosts}
-use Rattle.bd_view.specs.Views.{View, free_slots, save_slots}
+use Rattle.bd_view.specs.Views.{View}
 use Rattle.bd_view.specs.Moves.{Saves, IsCheckpointFull}
 use Rattle.bd_view.specs.Reclaiming.{AreReclaims, HasReclaimed, IsReclaim, IsReclaimFull}
 use Rattle.bd_view.specs.Reclaiming.IsReclaimFull.{first, edge, last}

@@ -1,5 +1,5 @@
 -- Changes of reclaiming, one after the other, and why they stop.
-use Rattle.std.proofs.Common.{◌≡◌, ℕ, zero, suc, ◌+◌, ◌*◌, ◌^◌, ◌<◌, ◌≤◌, Option, None, Some, Bool, refl, sym, subst, ap, ◌∙◌, inl, inr, arith}
+use Rattle.std.proofs.Common.{◌≡◌, ℕ, zero, suc, ◌+◌, ◌*◌, ◌^◌, ◌<◌, ◌≤◌, None, Bool, refl, sym, subst, ap, ◌∙◌, inl, inr, arith}
 use Rattle.std.proofs.lemmas.Bool.{cases_lt, ltb-true, and_parts}
 use Rattle.std.specs.Prelude.{IsTrue, nat_le, nat_lt, ⊤, Result, Ok, Err, IfErr}
 use Rattle.bd_message.specs.declared.fault.Counter.{Counter}

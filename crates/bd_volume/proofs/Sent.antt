@@ -12,8 +12,8 @@ use Rattle.bd_dirs.specs.Sendings.{Sending, Batch, Move, sending}
 use Rattle.bd_effects.proofs.Carried.{grafted_along}
 use Rattle.bd_view.specs.Trees.{HasSent}
 use Rattle.bd_view.specs.Views.{View, keys_of}
-use Rattle.bd_view.specs.Moves.{IsExecuted}
-use Rattle.bd_volume.specs.Steps.{SendsIn}
+use Rattle.bd_view.specs.Moves.{IsExecuted, IsAccepted}
+use Rattle.bd_volume.specs.Steps.{SendsIn, LogsIn}
 
 -- ---- over steps, which leave what stands at the keys
 
@@ -35,12 +35,15 @@ executed t c what old new h is = record {
   rest = h.rest;
 }
 
-pub messages_executed : (t : Tree) (c : Command) (plan : Plan) (list sent : List Message) (old new : View) → plan ≡ Apply list → sent ≡ list → IsPlan (keys_of old) t c plan → SendsIn c (Batch sent) old new → IsExecuted t c old new
-messages_executed t c plan list sent old new is same h sends =
-    let p : IsPlan (keys_of old) t c (Apply list) = subst (IsPlan (keys_of old) t c) is h in
-    executed t c (Batch sent) old new sends (p.2 ∙ ap Batch (sym same))
+accepted : (t : Tree) (c : Command) (what : Sending) (old new : View) → LogsIn c what old new → sending (keys_of old) t c ≡ what → IsAccepted t c old new
+accepted t c what old new h is = record { last = h.last; executed = executed t c what old h.last h.sends is; log = h.log; after = h.after }
 
-pub graft_executed : (t : Tree) (c : Command) (plan : Plan) (s d s2 d2 : List ℕ) (keep : Bool) (old new : View) → plan ≡ Graft s d keep → s2 ≡ s → d2 ≡ d → IsPlan (keys_of old) t c plan → SendsIn c (Move s2 d2 keep) old new → IsExecuted t c old new
-graft_executed t c plan s d s2 d2 keep old new is es ed h sends =
+pub messages_accepted : (t : Tree) (c : Command) (plan : Plan) (list sent : List Message) (old new : View) → plan ≡ Apply list → sent ≡ list → IsPlan (keys_of old) t c plan → LogsIn c (Batch sent) old new → IsAccepted t c old new
+messages_accepted t c plan list sent old new is same h sends =
+    let p : IsPlan (keys_of old) t c (Apply list) = subst (IsPlan (keys_of old) t c) is h in
+    accepted t c (Batch sent) old new sends (p.2 ∙ ap Batch (sym same))
+
+pub graft_accepted : (t : Tree) (c : Command) (plan : Plan) (s d s2 d2 : List ℕ) (keep : Bool) (old new : View) → plan ≡ Graft s d keep → s2 ≡ s → d2 ≡ d → IsPlan (keys_of old) t c plan → LogsIn c (Move s2 d2 keep) old new → IsAccepted t c old new
+graft_accepted t c plan s d s2 d2 keep old new is es ed h sends =
     let p : IsPlan (keys_of old) t c (Graft s d keep) = subst (IsPlan (keys_of old) t c) is h in
-    executed t c (Move s2 d2 keep) old new sends (p.2 ∙ ap (λ (x : List ℕ). Move x d keep) (sym es) ∙ ap (λ (x : List ℕ). Move s2 x keep) (sym ed))
+    accepted t c (Move s2 d2 keep) old new sends (p.2 ∙ ap (λ (x : List ℕ). Move x d keep) (sym es) ∙ ap (λ (x : List ℕ). Move s2 x keep) (sym ed))

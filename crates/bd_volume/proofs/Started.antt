@@ -1,29 +1,56 @@
--- What a volume stands for once it is started.
-use Rattle.std.proofs.Common.{◌≡◌, ◌≢◌, ℕ, ◌^◌, ◌<◌, List, [], ◌∷◌, length, Option, None, Some, refl, sym, subst, ap, ◌∙◌, arith}
-use Rattle.std.specs.Prelude.{IfSome, IsSomeAnd}
+-- What a volume stands for once it is started, and why none starts.
+use Rattle.std.proofs.Common.{rules, ◌≡◌, ◌≢◌, ℕ, ◌+◌, ◌-◌, ◌^◌, List, [], ◌∷◌, ◌++◌, length, Option, None, Some, refl, sym, subst, ap, ◌∙◌, inl, inr, arith, append-nil}
+use Rattle.std.specs.Prelude.{◌⊎◌, IsSome, IfSome, IsSomeAnd, All}
+use Rattle.std.specs.List.{AllByRecursion}
+use Rattle.std.proofs.lemmas.List.{length-map, map-append}
+use Rattle.std.proofs.lemmas.List.Elements.{recursion_from_All}
+use Rattle.std.proofs.lemmas.Bool.{cases_lt}
+use Rattle.bd_io.specs.Cause.{Rose, next_count}
+use Rattle.bd_wire.specs.Encoding.{IsPrefixFree}
+use Rattle.bd_command.specs.Log.{IsLogged, log_record}
+use Rattle.bd_command.specs.declared.Command.{Command}
 use Rattle.bd_model.specs.Tree.{Tree}
+use Rattle.bd_model.specs.Laws.{Accepts}
+use Rattle.bd_message.specs.declared.fault.Counter.{Counter}
+use Rattle.bd_represent.specs.Represents.{Represents}
 use Rattle.bd_device.specs.Blocks.{Image}
-use Rattle.bd_device.specs.Device.{IsImageCause}
+use Rattle.bd_device.specs.Device.{left_now, OnlyReads, IsImageCause}
+use Rattle.bd_device.specs.Moments.{IsOnly}
 use Rattle.bd_device.specs.declared.device.Device.{Ghosts}
 use Rattle.bd_device.specs.declared.fault.ImageFault.{ImageFault}
 use Rattle.bd_device.specs.declared.fault.ImageFault.TheVariants as image
+use Rattle.bd_node.specs.Meaning.{Nodes}
+use Rattle.bd_node.specs.Tables.{Table, IsSound, root_at}
+use Rattle.bd_table.specs.declared.table.Table.{Table as StoredTable}
+use Rattle.bd_table.proofs.TableLemmas.{one_table}
 use Rattle.bd_super.specs.Live.{IsLive}
-use Rattle.bd_super.specs.Superblocks.{log_block}
-use Rattle.bd_super.specs.declared.superblock.Super.{Super}
-use Rattle.bd_log.specs.Batches.{AreBatches}
-use Rattle.bd_log.specs.declared.batch.Batch.{Batch}
-use Rattle.bd_image.specs.ImageTree.{ImageStandsFor, records_of}
+use Rattle.bd_log.specs.Logs.{LogState}
+use Rattle.bd_image.specs.ImageTree.{ImageStandsFor}
+use Rattle.bd_image.specs.Stored.{HoldsNodes, table_of as stored_table}
+use Rattle.bd_image.specs.Versions.{version_of}
+use Rattle.bd_image.specs.Damage.{unplaced, IsTreeAfter, HasRecord, IsBadAt}
+use Rattle.bd_image.specs.Damage.IsBadAt.{refused_record}
 use Rattle.bd_checkpoint.specs.declared.commands.PlacedCommand.{PlacedCommand}
-use Rattle.bd_checkpoint.specs.Kept.{AreOfTree}
-use Rattle.bd_checkpoint.specs.Recovering.{LeadsBy, LeadsTo}
+use Rattle.bd_checkpoint.specs.Commands.{IsPlacedIn, placed_record, records_for}
+use Rattle.bd_checkpoint.specs.Kept.{AllStandFor, AreOfTree}
+use Rattle.bd_checkpoint.specs.Recovering.{IsBadIn, LeadsBy, LeadsTo}
+use Rattle.bd_checkpoint.proofs.Handed.{IsSince}
+use Rattle.bd_checkpoint.proofs.Replaying.{leads_by}
 use Rattle.bd_pager.specs.Pagers.{nodes_of, table_of, is_known}
+use Rattle.bd_view.specs.Moves.{AreReplayed}
+use Rattle.bd_engine.specs.Engines.{IsSoundOn}
+use Rattle.bd_engine.specs.Stored.{IsFound, ArePlaced, IsStoredBy}
 use Rattle.bd_volume.specs.declared.fault.Fault.{Fault}
-use Rattle.bd_volume.specs.declared.fault.Fault.TheVariants.{Damaged}
+use Rattle.bd_volume.specs.declared.fault.Fault.TheVariants.{Device, Damaged, Worn, NoMemory, Full, Stopped}
 use Rattle.bd_volume.specs.declared.volume.Volume.{Volume}
-use Rattle.bd_volume.specs.Faults.{image_fault_of}
-use Rattle.bd_volume.specs.Volume.{StandsFor, HasClosedLog}
+use Rattle.bd_volume.specs.Faults.{image_fault_of, HasUnsoundNodes, IsBadForStart, IsStartCause}
+use Rattle.bd_volume.specs.Replays.{IsReadCause, WritesNothing, HasTreeOn, WearsAgain, Refuses, commands_of, HasReplayed, ReplaysFront, StopsReplaying}
+use Rattle.bd_volume.specs.Volume.{StandsFor, IsFirstView, view_of, without_walk, count_of, device_of}
+use Rattle.bd_volume.specs.Wears.{WearsReplaying, IsWornInReplay}
+use Rattle.bd_volume.proofs.Replayed.{leads_one, leads_next}
+use Rattle.bd_volume.proofs.Safe.{read_before, safe_now}
 
--- ---- faults
+-- ---- faults of an image
 
 -- an image's fault is known from the volume's
 pub one_fault : (a b : ImageFault) → image_fault_of a ≡ image_fault_of b → a ≡ b
@@ -44,45 +71,232 @@ same_cause g old new left bad cause fault e is same h named =
 pub undamaged_as : (cause : ImageFault) (e : Fault) (block : ℕ) → e ≡ image_fault_of cause → cause ≢ image.Damaged block → e ≢ Damaged block
 undamaged_as cause e block is other same = other (one_fault cause (image.Damaged block) (sym is ∙ same))
 
--- ---- from an image with no open batch
+unworn_as : {A : Type 0} (cause : ImageFault) (e : Fault) (which : Counter) → e ≡ image_fault_of cause → e ≡ Worn which → A
+unworn_as image.DeviceFault e which is same = let bad : ⊥ = cc in absurd bad
+unworn_as (image.Damaged block) e which is same = let bad : ⊥ = cc in absurd bad
+unworn_as image.NoMemory e which is same = let bad : ⊥ = cc in absurd bad
 
--- an image whose log has no open batch counts what its superblock does
-closed_count : (image : Image) (live : Super) (t : Tree) (n : ℕ) → ((a b : Super) → IsLive image a → IsLive image b → a ≡ b)
-    → ((first epoch : ℕ) (some others : List Batch) (end place : ℕ) → epoch < 2 ^ 64 → AreBatches image first epoch some end → AreBatches image first epoch others place → (some ≡ others) × (end ≡ place))
-    → IsLive image live → ImageStandsFor t n image → HasClosedLog image → n ≡ live.count
-closed_count image live t n one_live one_log is stands closed =
-    let s : Super = stands.0 in
-    let tree = stands.3 in
-    let same : closed.live ≡ s = one_live closed.live s closed.live_is tree.starts.live in
-    let none : AreBatches image (log_block s.half) s.epoch [] 0 = subst (λ (x : Super). AreBatches image (log_block x.half) x.epoch [] 0) same closed.closed in
-    let no_batches : tree.batches ≡ [] = (one_log (log_block s.half) s.epoch tree.batches [] stands.2 0 tree.starts.live.held.fits.last_epoch tree.logged none).0 in
-    let no_records : length (records_of tree.batches) ≡ 0 = ap (λ (bs : List Batch). length (records_of bs)) no_batches in
-    let counted : s.count ≡ live.count = ap (λ (x : Super). x.count) (one_live s live tree.starts.live is) in
-    omega (arith, tree.count_is, no_records, counted)
+-- it wears no counter
+pub unworn : (known : Option Image) (cause : ImageFault) (e : Fault) → e ≡ image_fault_of cause → (t : Tree) (n : ℕ) → IfSome known (λ image. ImageStandsFor t n image → (which : Counter) → e ≡ Worn which → WearsReplaying which image)
+unworn None cause e is t n = tt
+unworn (Some image) cause e is t n = λ stands which worn. unworn_as cause e which is worn
 
--- no commands lead nowhere
-led_nowhere : (list : List PlacedCommand) (t u : Tree) → length list ≡ 0 → LeadsBy list t u → t ≡ u
-led_nowhere [] t u none leads = leads
-led_nowhere (p ∷ ps) t u none leads = absurd (omega (arith, none))
+rose_next : (n : ℕ) → Rose n (next_count n)
+rose_next n = elim (cases_lt n (2 ^ 64 - 1)) [ inl low ↦ inl (omega (arith, low)) | inr high ↦ inr (omega (arith, high)) ]
+
+image_cause : {D : Type 0} (g : Ghosts D) (old new : D) (cause : ImageFault) → IsImageCause g old new (IsBadIn (g.contents old)) cause → IsStartCause g old new (image_fault_of cause)
+image_cause g old new image.DeviceFault h = subst (λ (n : ℕ). Rose (g.fault_count old) n) (sym h.one) (rose_next (g.fault_count old))
+image_cause g old new (image.Damaged block) h = (inl h.0, h.1)
+image_cause g old new image.NoMemory h = h
+
+pub open_cause : {D : Type 0} (g : Ghosts D) (old new left : D) (cause : ImageFault) (e : Fault) → e ≡ image_fault_of cause → left ≡ new → IsImageCause g old new (IsBadIn (g.contents old)) cause → IsStartCause g old left e
+open_cause g old new left cause e is same h =
+    subst (λ (f : Fault). IsStartCause g old left f) (sym is) (subst (λ (d : _). IsStartCause g old d (image_fault_of cause)) (sym same) (image_cause g old new cause h))
+
+-- ---- lists of commands
+
+middle : {X : Type 0} (P : X → Type 0) (xs : List X) (y : X) (ys : List X) → AllByRecursion P (xs ++ y ∷ ys) → P y
+middle P [] y ys h = h.0
+middle P (x ∷ xs) y ys h = middle P xs y ys h.1
+
+front_of : {X : Type 0} (P : X → Type 0) (xs ys : List X) → AllByRecursion P (xs ++ ys) → AllByRecursion P xs
+front_of P [] ys h = tt
+front_of P (x ∷ xs) ys h = (h.0, front_of P xs ys h.1)
+
+whole_front : {X : Type 0} (list front : List X) → list ≡ front ++ [] → list ≡ front
+whole_front list front there = there ∙ append-nil front
 
 module _ {D : Type 0} (g : Ghosts D) where
-  pub stands_of : (v : Volume D) (t : Tree) (n : ℕ) → is_known g v.engine.pager → AreOfTree (nodes_of g v.engine.pager) (table_of v.engine.pager) t → v.count ≡ n → StandsFor g v t n
-  stands_of v t n known have count = record {
+  -- ---- over the replay
+
+  -- what is found has a tree
+  pub opened_has : (v : Volume D) (list : List PlacedCommand) (t : Tree) (n : ℕ) → (h : LeadsTo g v.engine.pager v.engine.live list t n) → HasTreeOn g v h.base
+  opened_has v list t n h = record {
+    nodes = record { known = h.known; sound = h.have.sound };
+    is_tree = h.have.is_tree;
+    represents = h.have.represents;
+  }
+
+  -- each image that a crash leaves is what reads give
+  left_stands : (dev mid new : D) (known : Option Image) (t : Tree) (n : ℕ) → IsSince g new → g.contents mid ≡ known → IsOnly (g.contents mid) (left_now g mid) → OnlyReads g mid new → IsSomeAnd known (ImageStandsFor t n) → AllStandFor t n (left_now g new)
+  left_stands dev mid new known t n earlier same only reads h = λ c left.
+      let was = read_before g mid new earlier reads c left in
+      was.2 t n (subst (λ (o : Option Image). IsSomeAnd o (ImageStandsFor t n)) (sym same ∙ only was.0 was.1) h)
+
+  pub started_for : (dev : D) (a v : Volume D) (list : List PlacedCommand) (t : Tree) (n : ℕ) → IsSince g (device_of v) → a.count ≡ a.engine.live.count → a.engine.log.waiting ≡ [] → OnlyReads g dev (device_of a) → IsOnly (g.contents (device_of a)) (left_now g (device_of a))
+      → WritesNothing g a v → ReplaysFront g list [] a v → LeadsTo g a.engine.pager a.engine.live list t n → IsSomeAnd (g.contents dev) (ImageStandsFor t n) → StandsFor g v t n
+  started_for dev a v list t n earlier counted idle reads only writes front led h =
+      let all : list ≡ front.front = whole_front list front.front front.there in
+      let done : HasReplayed g led.base front.front a v = front.done led.base (opened_has a list t n led) in
+      let same : done.tree ≡ t = leads_one front.front led.base done.tree t done.leads (subst (λ (l : List PlacedCommand). LeadsBy l led.base t) all led.leads) in
+      let has : HasTreeOn g v t = subst (λ (u : Tree). HasTreeOn g v u) same done.has in
+      record {
+        nodes = has.nodes;
+        is_tree = has.is_tree;
+        represents = has.represents;
+        count_is =
+            let many : length list ≡ length front.front = ap (λ (l : List PlacedCommand). length l) all in
+            omega (arith, front.count_is, counted, led.count_is, many);
+        safe = λ on. safe_now g v.engine t n (left_stands dev (device_of a) (device_of v) (g.contents dev) t n earlier reads.kept only writes.reads h) (ap (λ (l : LogState). l.waiting) writes.log ∙ idle);
+      }
+
+  -- what it stands for has nothing to do with the last graft
+  pub without_walk_stands : (v : Volume D) (t : Tree) (n : ℕ) → StandsFor g v t n → StandsFor g (without_walk v) t n
+  without_walk_stands v t n h = record {
+    nodes = h.nodes;
+    is_tree = h.is_tree;
+    represents = h.represents;
+    count_is = h.count_is;
+    safe = h.safe;
+  }
+
+  -- ---- the first view
+
+  first_for : (known : Option Image) (a v : Volume D) (list : List PlacedCommand) (t : Tree) (n : ℕ) → ReplaysFront g list [] a v → (IsSomeAnd known (ImageStandsFor t n) → LeadsTo g a.engine.pager a.engine.live list t n)
+      → IfSome known (λ image. ImageStandsFor t n image → IsFound image (view_of g a) (commands_of list)) → IfSome known (λ image. ImageStandsFor t n image → IsFirstView image (view_of g (without_walk v)))
+  first_for None a v list t n front leads found = tt
+  first_for (Some image) a v list t n front leads found = λ stands.
+      let led : LeadsTo g a.engine.pager a.engine.live list t n = leads stands in
+      let all : list ≡ front.front = whole_front list front.front front.there in
+      record {
+        stored = view_of g a;
+        base = led.base;
+        represents = led.have.represents;
+        commands = commands_of list;
+        found = found stands;
+        last = view_of g v;
+        view_is = refl;
+        replayed = subst (λ (l : List PlacedCommand). AreReplayed led.base (commands_of l) (view_of g a) (view_of g v)) (sym all) (front.done led.base (opened_has a list t n led)).views;
+      }
+
+  pub first_views : (known : Option Image) (a v : Volume D) (list : List PlacedCommand) → ReplaysFront g list [] a v → ((t : Tree) (n : ℕ) → IsSomeAnd known (ImageStandsFor t n) → LeadsTo g a.engine.pager a.engine.live list t n)
+      → ((t : Tree) (n : ℕ) → IfSome known (λ image. ImageStandsFor t n image → IsFound image (view_of g a) (commands_of list))) → (t : Tree) (n : ℕ) → IfSome known (λ image. ImageStandsFor t n image → IsFirstView image (view_of g (without_walk v)))
+  first_views known a v list front leads found t n = first_for known a v list t n front (leads t n) (found t n)
+
+  -- ---- why the replay stops
+
+  -- sound nodes of the image are those of the volume
+  stored_sound : (a : Volume D) (image : Image) (nodes : Nodes) → is_known g a.engine.pager → IsStoredBy g a.engine image → HoldsNodes image a.engine.pager.saved nodes → IsSound nodes (stored_table a.engine.pager.saved nodes) → IsSoundOn g a.engine.pager
+  stored_sound a image nodes known stored holds sound = record {
+    known = known;
+    sound = subst (λ (m : Nodes). IsSound m (table_of a.engine.pager)) (sym (stored.nodes.nodes nodes holds)) (subst (λ (t : Table). IsSound nodes t) (sym (stored.nodes.table nodes holds)) sound);
+  }
+
+  unsound_image : (a mid : Volume D) (image : Image) → is_known g a.engine.pager → IsStoredBy g a.engine image → (IsSoundOn g a.engine.pager → IsSoundOn g mid.engine.pager) → ¬ IsSoundOn g mid.engine.pager → HasUnsoundNodes image
+  unsound_image a mid image known stored keeps bad = record {
+    live = a.engine.live;
+    live_is = stored.live_is;
+    table = a.engine.pager.saved;
+    table_is = stored.table_is;
+    none = λ nodes holds sound. bad (keeps (stored_sound a image nodes known stored holds sound));
+  }
+
+  -- the tree of the image's nodes is one that the volume's have
+  stored_has : (a : Volume D) (image : Image) (records : List (List ℕ)) (tree : Tree) → is_known g a.engine.pager → IsStoredBy g a.engine image → (h : IsTreeAfter image a.engine.live records tree) → HasTreeOn g a h.base
+  stored_has a image records tree known stored h =
+      let same : h.table ≡ a.engine.pager.saved = one_table a.engine.live.slots a.engine.live.table h.table a.engine.pager.saved h.starts.table.0 stored.table_is.0 (sym h.starts.table.1 ∙ stored.table_is.1) in
+      let holds : HoldsNodes image a.engine.pager.saved h.nodes = subst (λ (t : StoredTable). HoldsNodes image t h.nodes) same h.starts.stored in
+      let sound : IsSound h.nodes (stored_table a.engine.pager.saved h.nodes) = subst (λ (t : StoredTable). IsSound h.nodes (stored_table t h.nodes)) same h.have.sound in
+      let reps : Represents (root_at h.nodes (stored_table a.engine.pager.saved h.nodes)) h.base = subst (λ (t : StoredTable). Represents (root_at h.nodes (stored_table t h.nodes)) h.base) same h.have.represents in
+      record {
+        nodes = stored_sound a image h.nodes known stored holds sound;
+        is_tree = h.have.is_tree;
+        represents = subst (λ (m : Nodes). Represents (root_at m (table_of a.engine.pager)) h.base) (sym (stored.nodes.nodes h.nodes holds)) (subst (λ (t : Table). Represents (root_at h.nodes t) h.base) (sym (stored.nodes.table h.nodes holds)) reps);
+      }
+
+  refused_image : (a mid : Volume D) (image : Image) (list rest : List PlacedCommand) (next : PlacedCommand) → IsPrefixFree IsLogged log_record → is_known g a.engine.pager → IsStoredBy g a.engine image → ArePlaced image a.engine.live list
+      → AllByRecursion (IsPlacedIn (version_of a.engine.live)) list → ReplaysFront g list (next ∷ rest) a mid → Refuses g mid next.command → IsBadAt image next.block
+  refused_image a mid image list rest next free known stored placed each before refuses =
+      let version : ℕ = version_of a.engine.live in
+      let split : records_for list ≡ records_for before.front ++ placed_record next ∷ records_for rest = ap records_for before.there ∙ map-append placed_record before.front (next ∷ rest) in
+      let all : AllByRecursion (IsPlacedIn version) (before.front ++ next ∷ rest) = subst (λ (l : List PlacedCommand). AllByRecursion (IsPlacedIn version) l) before.there each in
+      let there : HasRecord image a.engine.live (records_for before.front) next.block (log_record next.command) = record {
+        live = placed.live_is;
+        batches = placed.batches;
+        place = placed.place;
+        logged = placed.batches_are;
+        rest = records_for rest;
+        there = sym placed.placed.same ∙ split;
+      } in
+      refused_record a.engine.live (records_for before.front) next.block next.command there (middle (IsPlacedIn version) before.front next rest all)
+      (λ tree h accepts.
+      let done : HasReplayed g h.base before.front a mid = before.done h.base (stored_has a image (unplaced (records_for before.front)) tree known stored h) in
+      let led : LeadsBy before.front h.base tree = leads_by free version before.front h.base tree (front_of (IsPlacedIn version) before.front (next ∷ rest) all) h.leads in
+      let same : tree ≡ done.tree = leads_one before.front h.base tree done.tree led done.leads in
+      refuses done.tree done.has (subst (λ (u : Tree). Accepts u next.command) same accepts))
+
+  bad_start : (known : Option Image) (a mid : Volume D) (list rest : List PlacedCommand) (next : PlacedCommand) (block : ℕ) → IsPrefixFree IsLogged log_record → (IsSome known → is_known g a.engine.pager) → IfSome known (IsStoredBy g a.engine) → IfSome known (λ image. ArePlaced image a.engine.live list)
+      → AllByRecursion (IsPlacedIn (version_of a.engine.live)) list → ReplaysFront g list (next ∷ rest) a mid → ((block ≡ next.block) × Refuses g mid next.command) ⊎ ¬ IsSoundOn g mid.engine.pager → IsBadForStart known block
+  bad_start None a mid list rest next block free told stored placed each before cause = inl tt
+  bad_start (Some image) a mid list rest next block free told stored placed each before (inl refused) =
+      inl (subst (λ (b : ℕ). IsBadAt image b) (sym refused.0) (refused_image a mid image list rest next free (told (search rules)) stored placed each before refused.1))
+  bad_start (Some image) a mid list rest next block free told stored placed each before (inr bad) = inr (unsound_image a mid image (told (search rules)) stored before.sound bad)
+
+  pub replay_cause : (dev : D) (a v : Volume D) (list : List PlacedCommand) (fault : Fault) → IsPrefixFree IsLogged log_record → (IsSome (g.contents dev) → is_known g a.engine.pager) → IfSome (g.contents dev) (IsStoredBy g a.engine) → IfSome (g.contents dev) (λ image. ArePlaced image a.engine.live list)
+      → All (IsPlacedIn (version_of a.engine.live)) list → g.fault_count (device_of a) ≡ g.fault_count dev → StopsReplaying g fault list a → IsReadCause g a v fault → IsStartCause g dev (device_of v) fault
+  replay_cause dev a v list Device free told stored placed each same stops h = subst (λ (n : ℕ). Rose n (g.fault_count (device_of v))) same h
+  replay_cause dev a v list (Damaged block) free told stored placed each same stops h =
+      (bad_start (g.contents dev) a stops.mid list stops.rest stops.next block free told stored placed (recursion_from_All (IsPlacedIn (version_of a.engine.live)) list each) stops.before stops.cause, h ∙ same)
+  replay_cause dev a v list (Worn which) free told stored placed each same stops h = h ∙ same
+  replay_cause dev a v list NoMemory free told stored placed each same stops h = h ∙ same
+  replay_cause dev a v list (Full free2 need) free told stored placed each same stops h = h
+  replay_cause dev a v list (Stopped call) free told stored placed each same stops h = h
+
+  -- ---- from an image that stands for a tree
+
+  not_damaged : (a mid : Volume D) (list rest : List PlacedCommand) (next : PlacedCommand) (block : ℕ) (t : Tree) (n : ℕ) → LeadsTo g a.engine.pager a.engine.live list t n → ReplaysFront g list (next ∷ rest) a mid
+      → ((block ≡ next.block) × Refuses g mid next.command) ⊎ ¬ IsSoundOn g mid.engine.pager → ⊥
+  not_damaged a mid list rest next block t n led before (inl refused) =
+      let done : HasReplayed g led.base before.front a mid = before.done led.base (opened_has a list t n led) in
+      refused.1 done.tree done.has (leads_next before.front next rest led.base done.tree t (subst (λ (l : List PlacedCommand). LeadsBy l led.base t) before.there led.leads) done.leads)
+  not_damaged a mid list rest next block t n led before (inr bad) = bad (before.sound (opened_has a list t n led).nodes)
+
+  pub replay_undamaged : (a : Volume D) (list : List PlacedCommand) (fault : Fault) (block : ℕ) (t : Tree) (n : ℕ) → LeadsTo g a.engine.pager a.engine.live list t n → StopsReplaying g fault list a → fault ≢ Damaged block
+  replay_undamaged a list fault block t n led stops is =
+      let h : StopsReplaying g (Damaged block) list a = subst (λ (f : Fault). StopsReplaying g f list a) is stops in
+      not_damaged a h.mid list h.rest h.next block t n led h.before h.cause
+
+  worn_of : (image : Image) (a : Volume D) (list : List PlacedCommand) (which : Counter) (t : Tree) (n : ℕ) → a.count ≡ a.engine.live.count → IsLive image a.engine.live → IsFound image (view_of g a) (commands_of list)
+      → LeadsTo g a.engine.pager a.engine.live list t n → StopsReplaying g (Worn which) list a → WearsReplaying which image
+  worn_of image a list which t n counted live found led h =
+      let done : HasReplayed g led.base h.before.front a h.mid = h.before.done led.base (opened_has a list t n led) in
+      let worn : WearsAgain which (count_of h.mid) h.next.command (view_of g h.mid) = h.cause (h.before.sound (opened_has a list t n led).nodes) in
+      let split : commands_of list ≡ commands_of h.before.front ++ h.next.command ∷ commands_of h.rest = ap commands_of h.before.there ∙ map-append (λ (p : PlacedCommand). p.command) h.before.front (h.next ∷ h.rest) in
+      let many : length (commands_of h.before.front) ≡ length h.before.front = length-map h.before.front (λ (p : PlacedCommand). p.command) in
+      let count : count_of h.mid ≡ a.engine.live.count + length (commands_of h.before.front) = omega (arith, h.before.count_is, counted, many) in
+      record {
+        live = a.engine.live;
+        live_is = live;
+        stored = view_of g a;
+        base = led.base;
+        represents = led.have.represents;
+        front = commands_of h.before.front;
+        next = h.next.command;
+        rest = commands_of h.rest;
+        found = subst (λ (cs : List Command). IsFound image (view_of g a) cs) split found;
+        mid = view_of g h.mid;
+        replayed = done.views;
+        made = worn.made;
+        last = worn.last;
+        flushed = worn.flushed;
+        few = worn.few;
+        worn = subst (λ (k : ℕ). IsWornInReplay which k h.next.command worn.made worn.last.tree) count worn.worn;
+      }
+
+  pub replay_wears : (known : Option Image) (a : Volume D) (list : List PlacedCommand) (fault : Fault) (t : Tree) (n : ℕ) → a.count ≡ a.engine.live.count → IfSome known (λ image. ArePlaced image a.engine.live list)
+      → IfSome known (λ image. ImageStandsFor t n image → IsFound image (view_of g a) (commands_of list)) → (IsSomeAnd known (ImageStandsFor t n) → LeadsTo g a.engine.pager a.engine.live list t n) → StopsReplaying g fault list a
+      → IfSome known (λ image. ImageStandsFor t n image → (which : Counter) → fault ≡ Worn which → WearsReplaying which image)
+  replay_wears None a list fault t n counted placed found leads stops = tt
+  replay_wears (Some image) a list fault t n counted placed found leads stops = λ stands which is.
+      worn_of image a list which t n counted placed.live_is (found stands) (leads stands) (subst (λ (f : Fault). StopsReplaying g f list a) is stops)
+
+  -- ---- on a new image
+
+  pub formatted_for : (v : Volume D) (t : Tree) (n : ℕ) → is_known g v.engine.pager → AreOfTree (nodes_of g v.engine.pager) (table_of v.engine.pager) t → v.count ≡ n → AllStandFor t n (left_now g (device_of v)) → v.engine.log.waiting ≡ [] → StandsFor g v t n
+  formatted_for v t n known have count kept idle = record {
     nodes = record { known = known; sound = have.sound };
     is_tree = have.is_tree;
     represents = have.represents;
     count_is = count;
+    safe = λ on. safe_now g v.engine t n kept idle;
   }
-
-  -- a volume that goes on from the last checkpoint of such an image stands for its tree
-  pub started_for : (v : Volume D) (known : Option Image) (list : List PlacedCommand) (t : Tree) (n : ℕ) → ((image : Image) (a b : Super) → IsLive image a → IsLive image b → a ≡ b)
-      → ((image : Image) (first epoch : ℕ) (some others : List Batch) (end place : ℕ) → epoch < 2 ^ 64 → AreBatches image first epoch some end → AreBatches image first epoch others place → (some ≡ others) × (end ≡ place))
-      → v.count ≡ v.engine.live.count → IfSome known (λ image. IsLive image v.engine.live) → (IsSomeAnd known (ImageStandsFor t n) → LeadsTo g v.engine.pager v.engine.live list t n)
-      → IsSomeAnd known (λ image. ImageStandsFor t n image × HasClosedLog image) → StandsFor g v t n
-  started_for v None list t n one_live one_log count live leads h = absurd h
-  started_for v (Some image) list t n one_live one_log count live leads h =
-      let led = leads h.0 in
-      let counted : n ≡ v.engine.live.count = closed_count image v.engine.live t n (one_live image) (one_log image) live h.0 h.1 in
-      let none : length list ≡ 0 = omega (arith, led.count_is, counted) in
-      let same : led.base ≡ t = led_nowhere list led.base t none led.leads in
-      stands_of v t n led.known (subst (λ (u : Tree). AreOfTree (nodes_of g v.engine.pager) (table_of v.engine.pager) u) same led.have) (count ∙ sym counted)

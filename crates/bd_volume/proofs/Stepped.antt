@@ -1,12 +1,12 @@
 -- Steps of a command, one after the other.
-use Rattle.std.proofs.Common.{◌≡◌, ℕ, ◌+◌, ◌<◌, ◌≤◌, sym, subst, inl, arith, lit≤}
+use Rattle.std.proofs.Common.{◌≡◌, ℕ, ◌+◌, ◌≤◌, sym, subst, arith, lit≤}
 use Rattle.std.specs.Prelude.{IsTrue, Result, Ok, Err, OnOk, OnErr}
 use Rattle.bd_limits.specs.Limits.{flush_limit}
 use Rattle.bd_command.specs.Command.{writes}
 use Rattle.bd_command.specs.declared.Command.{Command}
 use Rattle.bd_message.specs.KeyMaps.{SameAt}
-use Rattle.bd_view.specs.Views.{View, keys_of, free_slots, need_slots}
-use Rattle.bd_view.specs.Moves.{Saves, FlushesIn, AreSteps, HasStepped}
+use Rattle.bd_view.specs.Views.{View, keys_of}
+use Rattle.bd_view.specs.Moves.{Saves, FlushesIn, AreSteps, HasStepped, CallsForSave}
 use Rattle.bd_view.specs.Moves.AreSteps.{none, flush, save}
 use Rattle.bd_view.proofs.Standing.{steps_stand}
 
@@ -49,6 +49,6 @@ pub stepped_stand : (c : Command) (a b : View) → HasStepped c a b → SameAt (
 stepped_stand c a b h = steps_stand c h.made a b h.steps
 
 -- a checkpoint that a command needs, or none at a fault
-pub save_steps : {T E : Type 0} (r : Result T E) (c : Command) (a b : View) → IsTrue (writes c) → free_slots a < need_slots c a → OnOk r (Saves a b) → OnErr r (b ≡ a) → AreSteps c 0 a b
-save_steps (Ok x) c a b writing short saves stays = save 0 a a b (none a) (record { writing = writing; calls_for = inl short; saves = saves })
-save_steps (Err e) c a b writing short saves stays = no_steps c a b stays
+pub save_steps : {T E : Type 0} (r : Result T E) (c : Command) (a b : View) → IsTrue (writes c) → CallsForSave c a → OnOk r (Saves a b) → OnErr r (b ≡ a) → AreSteps c 0 a b
+save_steps (Ok x) c a b writing calls saves stays = save 0 a a b (none a) (record { writing = writing; calls_for = calls; saves = saves })
+save_steps (Err e) c a b writing calls saves stays = no_steps c a b stays

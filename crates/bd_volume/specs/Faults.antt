@@ -1,12 +1,19 @@
 -- The faults of a volume and their causes.
-use Rattle.std.specs.Prelude.{◌≡◌, ◌≤◌, ◌<◌, ◌⊎◌, None, Some, Result, OnOk, IfErr}
+use Rattle.std.specs.Prelude.{◌≡◌, ◌≤◌, ◌<◌, ◌⊎◌, ℕ, Option, None, Some, IfSome, Result, OnOk, IfErr}
 use Rattle.bd_io.specs.Cause.{Rose, next_count}
+use Rattle.bd_device.specs.Blocks.{Image}
 use Rattle.bd_device.specs.declared.device.Device.{Ghosts}
 use Rattle.bd_device.specs.declared.fault.ImageFault.{ImageFault}
 use Rattle.bd_device.specs.declared.fault.ImageFault.TheVariants as image
 use Rattle.bd_message.specs.declared.fault.MapFault.{MapFault}
 use Rattle.bd_message.specs.declared.fault.MapFault.TheVariants as map
 use Rattle.bd_pager.specs.Pagers.{is_bad}
+use Rattle.bd_table.specs.Image.{HoldsTable}
+use Rattle.bd_table.specs.declared.table.Table.{Table as StoredTable}
+use Rattle.bd_super.specs.Live.{IsLive}
+use Rattle.bd_super.specs.declared.superblock.Super.{Super}
+use Rattle.bd_image.specs.Damage.{HasNoSoundNodes}
+use Rattle.bd_checkpoint.specs.Recovering.{IsBadIn}
 use Rattle.bd_volume.specs.declared.fault.Fault.{Fault}
 use Rattle.bd_volume.specs.declared.fault.Fault.TheVariants.{Device, Damaged, Worn, NoMemory, Full, Stopped}
 use Rattle.bd_volume.specs.declared.volume.Volume.{Volume}
@@ -25,6 +32,34 @@ image_fault_of image.DeviceFault = Device
 image_fault_of (image.Damaged block) = Damaged block
 image_fault_of image.NoMemory = NoMemory
 
+-- the volume's fault is one of an image
+abbrev pub IsOfImage : Fault → Type 0
+IsOfImage fault = (cause : ImageFault) × (fault ≡ image_fault_of cause)
+
+-- the nodes of the checkpoint from which the image starts aren't sound
+pub record HasUnsoundNodes (image : Image) : Type 0 where
+  pub live : Super
+  pub live_is : IsLive image live
+  pub table : StoredTable
+  pub table_is : HoldsTable image live.slots live.table table
+  pub none : HasNoSoundNodes image table
+
+-- a block of an image from which no volume starts: it is bad, or the nodes aren't sound
+abbrev pub IsBadForStart : Option Image → ℕ → Type 0
+IsBadForStart known block =
+    IsBadIn known block ⊎ IfSome known HasUnsoundNodes
+
+-- why no volume starts: the device has failed, or it hasn't, and damage is of such a block; slots
+-- are never short
+abbrev pub IsStartCause : {D : Type 0} → Ghosts D → D → D → Fault → Type 0
+IsStartCause g old new Device = Rose (g.fault_count old) (g.fault_count new)
+IsStartCause g old new (Damaged block) =
+    IsBadForStart (g.contents old) block × (g.fault_count new ≡ g.fault_count old)
+IsStartCause g old new (Worn which) = g.fault_count new ≡ g.fault_count old
+IsStartCause g old new NoMemory = g.fault_count new ≡ g.fault_count old
+IsStartCause g old new (Full free need) = ⊥
+IsStartCause g old new (Stopped call) = ⊥
+
 -- the device has failed as often as before
 abbrev pub HasNotFailed : {D : Type 0} → Ghosts D → Volume D → Volume D → Type 0
 HasNotFailed g old new = g.fault_count (device_of new) ≡ g.fault_count (device_of old)
@@ -41,8 +76,8 @@ IsFaultCause g old new (Full free need) = (free < need) × HasNotFailed g old ne
 IsFaultCause g old new (Stopped call) = (stop_of old ≡ Some call) × (new ≡ old)
 
 -- of the device's calls none failed at Ok, and at an error each fault has its cause
-pub record HasFaultCause {D T : Type 0} (g : Ghosts D) (old new : Volume D) (result : Result T Fault)
-    : Type 0 where
+pub record HasFaultCause {D T : Type 0} (g : Ghosts D) (old new : Volume D)
+    (result : Result T Fault) : Type 0 where
   pub later : g.fault_count (device_of old) ≤ g.fault_count (device_of new)
   pub kept : OnOk result (HasNotFailed g old new)
   pub failed : IfErr result (IsFaultCause g old new)
@@ -59,7 +94,8 @@ pub record IsHalted {D : Type 0} (g : Ghosts D) (old new : Volume D) : Type 0 wh
   pub write_faults :
       g.write_fault_count (device_of new) ≡ next_count (g.write_fault_count (device_of old))
 
--- a volume that wasn't stopped goes on after Ok, and after a fault unless a write or a barrier failed
+-- a volume that wasn't stopped goes on after Ok, and after a fault unless a write or a barrier
+-- failed
 pub record IsStoppedRightly {D T : Type 0} (g : Ghosts D) (old new : Volume D)
     (result : Result T Fault) : Type 0 where
   pub ok : OnOk result (IsGoing g old new)

@@ -1,5 +1,6 @@
 pub mod Faults
 pub mod Reclaims
+pub mod Replays
 pub mod Steps
 pub mod Volume
 pub mod Wears

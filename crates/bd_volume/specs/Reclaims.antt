@@ -10,8 +10,8 @@ use Rattle.bd_volume.specs.declared.fault.Fault.{Fault}
 use Rattle.bd_volume.specs.declared.fault.Fault.TheVariants.{Device, Damaged, Worn, NoMemory, Full, Stopped}
 use Rattle.bd_volume.specs.Wears.{HasBegunReclaiming, IsWornToReclaim, WearsReclaiming}
 
--- after so many pushes the next change was made, which leaves less to change unless it is a push; or
--- nodes were changed, and a checkpoint was made, since too few slots were free for the change
+-- after so many pushes the next change was made, which leaves less to change unless it is a push;
+-- or nodes were changed, and a checkpoint was made, since too few slots were free for the change
 pub data ChangesOnce (before after : ℕ) (old new : View) : Type 0 where
   made : (change : Reclaim) → Reclaims before change old new
       → LeavesLess old.tree.nodes old.tree.table change new.tree.nodes new.tree.table

@@ -1,22 +1,25 @@
 -- What the private calls of a volume leave, and why they fail.
-use Rattle.std.specs.Prelude.{◌≡◌, ◌+◌, ◌^◌, ◌<◌, ◌≤◌, ℕ, ⊤, Result, IsNone}
+use Rattle.std.specs.Prelude.{◌≡◌, ◌+◌, ◌^◌, ◌<◌, ◌≤◌, ℕ, ⊤, None, Result, IsNone}
+use Rattle.bd_command.specs.Command.{accepted}
 use Rattle.bd_command.specs.declared.Command.{Command}
+use Rattle.bd_command.specs.declared.reply.Reply.{Reply}
 use Rattle.bd_model.specs.Tree.{Tree}
-use Rattle.bd_model.specs.Step.{refusal_of}
+use Rattle.bd_model.specs.Step.{step, refusal_of}
+use Rattle.bd_model.specs.Laws.{Accepts, after}
 use Rattle.bd_message.specs.declared.fault.Counter.{Counter}
 use Rattle.bd_message.specs.declared.fault.Counter.TheVariants.{Count, NextId, Level, Refs, Epoch, Flushes}
 use Rattle.bd_device.specs.Device.{Stays}
 use Rattle.bd_device.specs.declared.device.Device.{Ghosts}
 use Rattle.bd_dirs.specs.Sendings.{Sending}
 use Rattle.bd_view.specs.Trees.{HasSent, waiting_limit}
-use Rattle.bd_view.specs.Views.{View, free_slots, need_slots}
-use Rattle.bd_view.specs.Moves.{OnlyNodes, HasStepped, IsCommandFull, CannotSave}
+use Rattle.bd_view.specs.Views.{View, free_slots, need_slots, record_room, log_size}
+use Rattle.bd_view.specs.Moves.{OnlyNodes, HasStepped, IsCommandFull, CannotSave, logged}
 use Rattle.bd_engine.specs.Engines.{EngineState, view_of as view_in}
 use Rattle.bd_volume.specs.declared.fault.Fault.{Fault}
 use Rattle.bd_volume.specs.declared.fault.Fault.TheVariants.{Device, Damaged, Worn, NoMemory, Full, Stopped}
 use Rattle.bd_volume.specs.declared.volume.Volume.{Volume}
 use Rattle.bd_volume.specs.Faults.{HasNotFailed, HasFaultCause, IsGoing, IsStoppedRightly}
-use Rattle.bd_volume.specs.Volume.{count_of, device_of}
+use Rattle.bd_volume.specs.Volume.{StandsFor, GoesBy, IsSafeOn, count_of, device_of}
 use Rattle.bd_volume.specs.Wears.{IsWornForStep, IsWornForSave, Wears, ShowsWorn}
 
 -- ---- whatever is known
@@ -50,6 +53,37 @@ ShowsFault g (Worn which) count c e = ShowsWorn g which count c e
 ShowsFault g NoMemory count c e = ⊤
 ShowsFault g (Full free need) count c e = IsShort c (view_in g e) free need
 ShowsFault g (Stopped call) count c e = ⊤
+
+-- ---- what it stands for
+
+-- a volume stands for this tree and count as before, and an image that a crash inside the calls
+-- leaves for what one of before did, or for them
+pub record StillStands {D : Type 0} (g : Ghosts D) (old new : Volume D) (t : Tree) (n : ℕ)
+    : Type 0 where
+  pub stands : StandsFor g new t n
+  pub time : GoesBy g old new t n
+
+-- whatever it stands for
+abbrev pub KeepsStanding : {D : Type 0} → Ghosts D → Volume D → Volume D → Type 0
+KeepsStanding g old new =
+    (t : Tree) (n : ℕ) → StandsFor g old t n → StillStands g old new t n
+
+-- a command was executed: what a crash leaves falls short of the tree and the count after it by no
+-- more than the records that wait
+pub record TakesSafely {D : Type 0} (g : Ghosts D) (c : Command) (old new : Volume D) (t : Tree)
+    (n : ℕ) (reply : Reply) : Type 0 where
+  pub safe : new.engine.stop ≡ None → IsSafeOn g new.engine (step t c).0 (n + accepted c reply)
+  pub time : GoesBy g old new t n
+
+-- a command was logged and counted, which the tree accepts that the volume stands for
+pub record IsLoggedOn {D : Type 0} (g : Ghosts D) (c : Command) (old new : Volume D) (t : Tree)
+    (n : ℕ) : Type 0 where
+  pub safe : IsSafeOn g new.engine (after t c) (n + 1)
+  pub time : GoesBy g old new t n
+
+abbrev pub HasLogged : {D : Type 0} → Ghosts D → Command → Volume D → Volume D → Type 0
+HasLogged g c old new =
+    (t : Tree) (n : ℕ) → StandsFor g old t n → Accepts t c → IsLoggedOn g c old new t n
 
 -- ---- checkpoints
 
@@ -110,3 +144,14 @@ pub record SendsIn (c : Command) (what : Sending) (old new : View) : Type 0 wher
   pub room : need_slots c mid ≤ free_slots mid
   pub sent : HasSent what mid.tree new.tree
   pub rest : OnlyNodes mid new
+
+-- the log has room for a command's record
+abbrev pub HasLogRoom : Command → View → Type 0
+HasLogRoom c v = log_size c ≤ record_room c v
+
+-- and then its record waits, for which the log had room
+pub record LogsIn (c : Command) (what : Sending) (old new : View) : Type 0 where
+  pub last : View
+  pub sends : SendsIn c what old last
+  pub log : HasLogRoom c last
+  pub after : new ≡ logged c last

@@ -1,10 +1,13 @@
 -- Which counter has no room, where a command can't go on.
-use Rattle.std.specs.Prelude.{◌≡◌, ℕ, ◌+◌, ◌^◌, ◌<◌, ◌≤◌, ◌⊎◌, Bool, List, IsTrue}
+use Rattle.std.specs.Prelude.{◌≡◌, ℕ, ◌+◌, ◌^◌, ◌<◌, ◌≤◌, ◌⊎◌, Bool, List, ◌∷◌, ◌++◌, length, IsTrue}
 use Rattle.bd_limits.specs.Limits.{flush_limit}
 use Rattle.bd_command.specs.Command.{writes}
 use Rattle.bd_command.specs.declared.Command.{Command}
 use Rattle.bd_message.specs.declared.fault.Counter.{Counter}
 use Rattle.bd_message.specs.declared.fault.Counter.TheVariants.{Count, NextId, Level, Refs, Epoch, Flushes}
+use Rattle.bd_model.specs.Tree.{Tree}
+use Rattle.bd_represent.specs.Represents.{Represents}
+use Rattle.bd_device.specs.Blocks.{Image}
 use Rattle.bd_device.specs.declared.device.Device.{Ghosts}
 use Rattle.bd_dirs.specs.Kinds.{Kind, Reads, Sends, SendsLate, Grafts, kind_of}
 use Rattle.bd_node.specs.Tables.{IsSound}
@@ -14,10 +17,13 @@ use Rattle.bd_reclaim.specs.declared.walking.Reclaim.{Reclaim}
 use Rattle.bd_reclaim.specs.Reclaimed.{IsWornChange}
 use Rattle.bd_pager.specs.Pagers.{table_of}
 use Rattle.bd_view.specs.Trees.{TreeView, waiting_limit}
-use Rattle.bd_view.specs.Views.{View}
-use Rattle.bd_view.specs.Moves.{CallsForSave, HasStepped}
+use Rattle.bd_super.specs.Live.{IsLive}
+use Rattle.bd_super.specs.declared.superblock.Super.{Super}
+use Rattle.bd_view.specs.Views.{View, keys_of}
+use Rattle.bd_view.specs.Moves.{AreFlushedAgain, AreReplayed, CallsForSave, HasStepped}
 use Rattle.bd_view.specs.Reclaiming.{IsNextChange, HasReclaimed}
 use Rattle.bd_engine.specs.Engines.{EngineState, IsWornIn}
+use Rattle.bd_engine.specs.Stored.{IsFound}
 
 -- the counter has no room for the flush step that is found, or 65,536 were made
 abbrev pub IsWornAfter : Counter → ℕ → TreeView → Type 0
@@ -83,6 +89,39 @@ ShowsWorn g Level count c e = IsWornIn g e.pager Level ⊎ IsWornForGraft (table
 ShowsWorn g Refs count c e = IsWornIn g e.pager Refs ⊎ IsWornForGraft (table_of e.pager) Refs
 ShowsWorn g Epoch count c e = 2 ^ 64 ≤ e.live.epoch + 1
 ShowsWorn g Flushes count c e = waiting_limit c < (table_of e.pager).size
+
+-- ---- replay
+
+-- the counter has no room where so many commands were counted, and the next one has made so many
+-- flush steps, which led to this tree of nodes
+abbrev pub IsWornInReplay : Counter → ℕ → Command → ℕ → TreeView → Type 0
+IsWornInReplay Count count c made v = 2 ^ 64 ≤ count + 1
+IsWornInReplay NextId count c made v =
+    IsWornForStep NextId c made v ⊎ IsWornForSending NextId c v
+IsWornInReplay Level count c made v = IsWornForStep Level c made v ⊎ IsWornForSending Level c v
+IsWornInReplay Refs count c made v = IsWornForStep Refs c made v ⊎ IsWornForSending Refs c v
+IsWornInReplay Epoch count c made v = ⊥
+IsWornInReplay Flushes count c made v = IsWornForStep Flushes c made v
+
+-- of the commands of an image's open batches some were replayed, and for the next one a counter has
+-- no room
+pub record WearsReplaying (which : Counter) (image : Image) : Type 0 where
+  pub live : Super
+  pub live_is : IsLive image live
+  pub stored : View
+  pub base : Tree
+  pub represents : Represents (keys_of stored) base
+  pub front : List Command
+  pub next : Command
+  pub rest : List Command
+  pub found : IsFound image stored (front ++ next ∷ rest)
+  pub mid : View
+  pub replayed : AreReplayed base front stored mid
+  pub made : ℕ
+  pub last : View
+  pub flushed : AreFlushedAgain next made mid last
+  pub few : made ≤ flush_limit
+  pub worn : IsWornInReplay which (live.count + length front) next made last.tree
 
 -- ---- reclaiming
 

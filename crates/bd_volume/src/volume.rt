@@ -1,36 +1,38 @@
 //! The volume.
 
-ghost use Rattle.std.specs.Prelude.{◌≡◌, ◌≢◌, ◌+◌, ◌^◌, ◌≤◌, ◌<◌, ◌⊎◌, ℕ, None, Some, IfOk, IfErr, IfSome, IsSome, IsNone, IsSomeAnd, OnOk, OnErr, Err};
+ghost use Rattle.std.specs.Prelude.{◌≡◌, ◌≢◌, ◌+◌, ◌^◌, ◌≤◌, ◌<◌, ◌⊎◌, ℕ, None, Some, IfOk, IfErr, IfSome, IsSome, IsNone, IsSomeAnd, IsTrue, OnOk, OnErr, Err, is_ok};
 ghost use Rattle.bd_command.specs.Command.{writes, accepted, IsCommand, IsReply};
 ghost use Rattle.bd_model.specs.Tree.{Tree, root_only};
 ghost use Rattle.bd_model.specs.Step.{step, refusal_of};
 ghost use Rattle.bd_message.specs.declared.fault.Counter.{Counter};
+ghost use Rattle.bd_io.specs.Cause.{Rose};
 ghost use Rattle.bd_slots.specs.Layout.{IsSlotCount, image_blocks};
 ghost use Rattle.bd_device.specs.Device.{left_now, OnlyReads, Stays, IsImageCause};
 ghost use Rattle.bd_device.specs.Moments.{IsOnly};
 ghost use Rattle.bd_image.specs.ImageTree.{ImageStandsFor};
 ghost use Rattle.bd_checkpoint.specs.Kept.{AllStandFor};
-ghost use Rattle.bd_checkpoint.specs.Recovering.{OnlySettles, IsBadIn};
+ghost use Rattle.bd_checkpoint.specs.Recovering.{OnlySettles, HasSettled};
 ghost use Rattle.bd_view.specs.Views.{fresh_view, free_slots, save_slots, need_slots};
-ghost use Rattle.bd_view.specs.Moves.{HasStepped, IsExecuted, Saves, IsCommandFull, IsCheckpointFull, CannotSave};
+ghost use Rattle.bd_view.specs.Moves.{HasStepped, IsAccepted, synced, Saves, IsCommandFull, IsCheckpointFull, CannotSave};
 ghost use Rattle.bd_view.specs.Reclaiming.{edge_need, IsReclaim, IsReclaimFull};
-ghost use Rattle.bd_engine.specs.Stored.{IsStoredView, HasSaved};
-ghost use Rattle.bd_volume.specs.Faults.{image_fault_of, HasFaultCause, IsStoppedRightly};
-ghost use Rattle.bd_volume.specs.Volume.{StandsFor, view_of, count_of, device_of, stop_of, HasClosedLog};
-ghost use Rattle.bd_volume.specs.Wears.{Wears, ShowsWorn, HasBegunReclaiming, WearsReclaiming};
+ghost use Rattle.bd_engine.specs.Stored.{HasSaved};
+ghost use Rattle.bd_volume.specs.Faults.{image_fault_of, IsOfImage, IsStartCause, HasFaultCause, IsStoppedRightly};
+ghost use Rattle.bd_volume.specs.Volume.{StandsFor, GoesBy, IsFirstView, view_of, count_of, device_of, stop_of};
+ghost use Rattle.bd_volume.specs.Wears.{Wears, ShowsWorn, WearsReplaying, HasBegunReclaiming, WearsReclaiming};
 
 mod executing;
 mod readying;
 mod reclaiming;
+mod replaying;
 mod saving;
 
 use crate::fault::{Fault, Refused};
+use bd_command::laws::log_records_are_prefix_free;
 use bd_command::{Command, Reply};
 use bd_device::Device;
 use bd_engine::{Engine, Opened};
 use bd_graft::Walk;
-use bd_log::laws::batches_are_one;
-use bd_super::laws::one_superblock_is_live;
+use bd_io::Failed;
 use std::alloc::Global;
 
 /// A tree of directories and files, kept in the nodes of an image on a device, with the number of
@@ -43,37 +45,49 @@ pub struct Volume<D: Device> {
 
 impl<D: Device> Volume<D> {
     /// Starts from the image of a device: makes one barrier, after which a crash leaves what reads
-    /// give, and reads what the image starts from. It goes on from the last checkpoint; from an
-    /// image that stands for a tree and has no open batch it starts unless the device fails or there
-    /// is no memory, and stands for that tree. Where it fails, it returns the device. `Device` comes
-    /// only where a call of the device failed, and `Damaged` names a bad block of the image.
+    /// give, reads what the image starts from, and replays the commands of the log's open batches in
+    /// memory, each with its own bound of flush steps. That needs no slot, and no graft of theirs is
+    /// told. From an image that stands
+    /// for a tree it starts unless the device fails, there is no memory or a counter has no room,
+    /// and stands for that tree. Where it fails, it returns the device. `Device` comes only where a
+    /// call of the device failed. `Damaged` names a bad block of the image (of a record of which the
+    /// tree before it refuses the command, the first one of its batch's body), or some block where
+    /// the nodes aren't sound; `Full` and `Stopped` never come.
     pub fn start(alloc: Global, device: D) -> Result<Volume<D>, Refused<D>>
         ensures stands { IfOk result (λ v. (t : Tree) (n : ℕ)
-            → IsSomeAnd (D.contents device) (λ image. ImageStandsFor t n image × HasClosedLog image)
-            → StandsFor D.Device v t n) }
+            → IsSomeAnd (D.contents device) (ImageStandsFor t n) → StandsFor D.Device v t n) }
         ensures first { IfOk result (λ v. (t : Tree) (n : ℕ) → IfSome (D.contents device)
-            (λ image. ImageStandsFor t n image → IsStoredView image (view_of D.Device v))) }
+            (λ image. ImageStandsFor t n image → IsFirstView image (view_of D.Device v))) }
         ensures going { IfOk result (λ v. stop_of v ≡ None) }
-        ensures only { IfOk result (λ v. IsOnly (D.contents (device_of v))
-            (left_now D.Device (device_of v))) }
+        ensures idle { IfOk result (λ v. (view_of D.Device v).waiting ≡ 0) }
+        ensures settled { IfOk result (λ v. HasSettled D.Device device (device_of v)) }
         ensures reads { IfOk result (λ v. OnlyReads D.Device device (device_of v)) }
         ensures faults { IfOk result (λ v. D.fault_count (device_of v) ≡ D.fault_count device) }
 
         // The fault, and the device that is returned.
-        ensures cause { IfErr result (λ refused. (fault : _)
-            → refused.fault ≡ image_fault_of fault
-            → IsImageCause D.Device device refused.device (IsBadIn (D.contents device)) fault) }
-        ensures kind { IfErr result (λ refused. (fault : _) × (refused.fault ≡ image_fault_of fault)) }
+        ensures cause { IfErr result (λ refused.
+            IsStartCause D.Device device refused.device refused.fault) }
         ensures undamaged { (t : Tree) (n : ℕ) → IsSomeAnd (D.contents device) (ImageStandsFor t n)
             → IfErr result (λ refused. (block : ℕ) → refused.fault ≢ Fault.Damaged block) }
+        ensures wears { (t : Tree) (n : ℕ) → IfSome (D.contents device)
+            (λ image. ImageStandsFor t n image → IfErr result (λ refused. (which : Counter)
+            → refused.fault ≡ Fault.Worn which → WearsReplaying which image)) }
         ensures left { IfErr result (λ refused. OnlySettles D.Device device refused.device) }
+        ensures settles { IfErr result (λ refused. 0 < D.block_count device
+            → ¬ Rose (D.write_fault_count device) (D.write_fault_count refused.device)
+            → HasSettled D.Device device refused.device) }
     {
-        batches_are_one();
-        one_superblock_is_live();
-        let Opened { engine, .. } = Engine::open(alloc, device)?;
-        engine.live_is_shown();
+        log_records_are_prefix_free();
+        let Opened { engine, commands } = Engine::open(alloc, device)?;
         let count = engine.saved_count();
-        Ok(Volume { engine, count })
+        let mut volume = Volume { engine, count };
+        match volume.replay(&commands) {
+            Ok(()) => Ok(volume.forget_walk()),
+            Err(fault) => Err(Refused {
+                fault,
+                device: volume.into_device(),
+            }),
+        }
     }
 
     /// Makes an image of so many slots on a device, whatever it has, of the tree of `/` alone and of
@@ -99,7 +113,7 @@ impl<D: Device> Volume<D> {
         ensures cause { IfErr result (λ refused. (fault : _)
             → refused.fault ≡ image_fault_of fault
             → IsImageCause D.Device device refused.device (λ _. ⊥) fault) }
-        ensures kind { IfErr result (λ refused. (fault : _) × (refused.fault ≡ image_fault_of fault)) }
+        ensures kind { IfErr result (λ refused. IsOfImage refused.fault) }
         ensures left { IfErr result (λ refused. Stays D.Device device refused.device) }
     {
         let engine = Engine::format(alloc, device, slots)?;
@@ -109,8 +123,9 @@ impl<D: Device> Volume<D> {
     /// Executes a command whose fields are within their limits. A writing command that is accepted
     /// first makes flush steps, one after the other, while more than 16,384 bytes of messages wait
     /// in the root (for a `remove` or `truncate` more than 24,576), and a checkpoint where too few
-    /// slots are free for its next step, or where the log has no room for its record. Then its
-    /// messages go into the root, or its graft is made.
+    /// slots are free for its next step; and before them all one where the log has no room for its
+    /// record, or where the image's version has no such record. Then its messages go into the root,
+    /// or its graft is made, and its record waits in the log for a sync.
     ///
     /// `Full` comes only for such a command, where fewer slots are free than it needs and no
     /// checkpoint helps, with both numbers. So does `Worn`: of `Count` where the count of accepted
@@ -132,7 +147,7 @@ impl<D: Device> Volume<D> {
         // leaves steps alone, and none for a command that is refused.
         ensures moved { IfOk result (λ reply. accepted command.now reply ≡ 1
             → (t : Tree) (n : ℕ) → StandsFor D.Device self.old t n
-            → IsExecuted t command.now (view_of D.Device self.old) (view_of D.Device self.new)) }
+            → IsAccepted t command.now (view_of D.Device self.old) (view_of D.Device self.new)) }
         ensures unmoved { IfOk result (λ reply. accepted command.now reply ≡ 0
             → view_of D.Device self.new ≡ view_of D.Device self.old) }
         ensures begun { OnErr result ((t : Tree) (n : ℕ) → StandsFor D.Device self.old t n
@@ -140,6 +155,10 @@ impl<D: Device> Volume<D> {
         ensures refused { OnErr result ((t : Tree) (n : ℕ) → StandsFor D.Device self.old t n
             → IsSome (refusal_of t command.now)
             → view_of D.Device self.new ≡ view_of D.Device self.old) }
+
+        // What a crash inside it leaves.
+        ensures time { (t : Tree) (n : ℕ) → StandsFor D.Device self.old t n
+            → GoesBy D.Device self.old self.new t n }
 
         // Slots or a counter have no room only for a command that would be accepted.
         ensures full { (free need : ℕ) → result ≡ Err (Fault.Full free need)
@@ -177,11 +196,50 @@ impl<D: Device> Volume<D> {
         }
     }
 
+    /// Makes all that was accepted durable: commits the records that wait in the log. Once it is Ok,
+    /// an image that a crash leaves stands for the volume's tree and count. With no record waiting
+    /// it makes no call of the device. It takes no memory. It fails by `Device` and `Stopped` alone:
+    /// each failed call stops the volume, and each later call is `Stopped`.
+    pub fn sync(&mut self) -> Result<(), Fault>
+        ensures moved { OnOk result
+            (view_of D.Device self.new ≡ synced (view_of D.Device self.old)) }
+        ensures unmoved { OnErr result (view_of D.Device self.new ≡ view_of D.Device self.old) }
+        ensures stays { (t : Tree) (n : ℕ) → StandsFor D.Device self.old t n
+            → StandsFor D.Device self.new t n }
+        ensures kept { OnOk result ((t : Tree) (n : ℕ) → StandsFor D.Device self.old t n
+            → AllStandFor t n (left_now D.Device (device_of self.new))) }
+        ensures time { (t : Tree) (n : ℕ) → StandsFor D.Device self.old t n
+            → GoesBy D.Device self.old self.new t n }
+
+        // Whatever the volume stands for.
+        ensures idle { (view_of D.Device self.old).waiting ≡ 0 → stop_of self.old ≡ None
+            → IsTrue (is_ok result) × (device_of self.new ≡ device_of self.old) }
+        ensures kind { IfErr result (λ fault.
+            (fault ≡ Fault.Device) ⊎ ((call : ℕ) × (fault ≡ Fault.Stopped call))) }
+        ensures count_stays { count_of self.new ≡ count_of self.old }
+        ensures cause { HasFaultCause D.Device self.old self.new result }
+        ensures stop { stop_of self.old ≡ None
+            → IsStoppedRightly D.Device self.old self.new result }
+        ensures stopped { (call : ℕ) → stop_of self.old ≡ Some call
+            → (result ≡ Err (Fault.Stopped call)) × (self.new ≡ self.old) }
+        ensures device { Stays D.Device (device_of self.old) (device_of self.new) }
+    {
+        if let Some(call) = self.engine.stop() {
+            return Err(Fault::Stopped { call });
+        }
+        match self.engine.sync() {
+            Ok(()) => Ok(()),
+            Err(Failed) => Err(Fault::Device),
+        }
+    }
+
     /// Makes a checkpoint, so that the image stands for the volume's tree and count. `Full` comes
     /// exactly where fewer slots are free than it needs, `Worn` exactly where there are slots and
     /// the epoch stands at its last value. A fault leaves the view and what the volume stands for. A
     /// failed write or barrier stops the volume, and each later call is `Stopped`.
     pub fn checkpoint(&mut self) -> Result<(), Fault>
+        ensures time { (t : Tree) (n : ℕ) → StandsFor D.Device self.old t n
+            → GoesBy D.Device self.old self.new t n }
         ensures saves { OnOk result ((t : Tree) (n : ℕ) → StandsFor D.Device self.old t n
             → Saves (view_of D.Device self.old) (view_of D.Device self.new)) }
         ensures kept { OnOk result ((t : Tree) (n : ℕ) → StandsFor D.Device self.old t n
@@ -232,6 +290,8 @@ impl<D: Device> Volume<D> {
     /// epoch has no room for a checkpoint, or another counter none for the next change. A failed
     /// write or barrier stops the volume, and each later call is `Stopped`.
     pub fn reclaim(&mut self) -> Result<(), Fault>
+        ensures time { (t : Tree) (n : ℕ) → StandsFor D.Device self.old t n
+            → GoesBy D.Device self.old self.new t n }
         ensures reclaims { OnOk result ((t : Tree) (n : ℕ) → StandsFor D.Device self.old t n
             → IsReclaim (view_of D.Device self.old) (view_of D.Device self.new)) }
         ensures kept { OnOk result ((t : Tree) (n : ℕ) → StandsFor D.Device self.old t n

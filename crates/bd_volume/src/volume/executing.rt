@@ -2,6 +2,7 @@
 
 ghost use Rattle.std.specs.Prelude.{◌≡◌, ◌+◌, ◌≤◌, ℕ, false, None, IfOk, IfErr, OnOk, OnErr, IsTrue, IsSome};
 ghost use Rattle.bd_command.specs.Command.{writes, accepted, IsCommand, IsReply};
+ghost use Rattle.bd_command.specs.Log.{IsLogged};
 ghost use Rattle.bd_model.specs.Tree.{Tree};
 ghost use Rattle.bd_model.specs.Step.{step, refusal_of};
 ghost use Rattle.bd_message.specs.KeyMaps.{IsApplied, IsGrafted};
@@ -11,10 +12,10 @@ ghost use Rattle.bd_dirs.specs.Plans.{IsPlan, IsPlanKind, IsReady};
 ghost use Rattle.bd_dirs.specs.Sendings.{Batch, Move};
 ghost use Rattle.bd_dirs.specs.declared.plan.Plan.TheVariants as plan;
 ghost use Rattle.bd_effects.specs.Carrying.{accepts, TakesStep};
-ghost use Rattle.bd_view.specs.Moves.{HasStepped, IsExecuted};
+ghost use Rattle.bd_view.specs.Moves.{HasStepped, IsAccepted};
 ghost use Rattle.bd_engine.specs.Engines.{keys_of, IsSoundOn, IsReadOn};
-ghost use Rattle.bd_volume.specs.Volume.{StandsFor, view_of, count_of, stop_of};
-ghost use Rattle.bd_volume.specs.Steps.{Ends, ShowsFault, IsCommandFault, IsOfAccepted, SendsIn};
+ghost use Rattle.bd_volume.specs.Volume.{StandsFor, GoesBy, view_of, count_of, stop_of};
+ghost use Rattle.bd_volume.specs.Steps.{Ends, ShowsFault, IsCommandFault, IsOfAccepted, LogsIn, KeepsStanding, HasLogged, TakesSafely};
 
 use super::Volume;
 use crate::fault::Fault;
@@ -22,6 +23,7 @@ use bd_command::{Command, Reply};
 use bd_device::Device;
 use bd_dirs::Plan;
 use bd_message::Message;
+use bd_view::laws::records_have_room;
 
 impl<D: Device> Volume<D> {
     // Executes a command whose fields are within their limits, where the volume wasn't stopped.
@@ -34,9 +36,11 @@ impl<D: Device> Volume<D> {
             → StandsFor D.Device self.old t n → reply ≡ (step t command.now).1) }
         ensures stays { OnErr result ((t : Tree) (n : ℕ) → StandsFor D.Device self.old t n
             → StandsFor D.Device self.new t n) }
+        ensures time { (t : Tree) (n : ℕ) → StandsFor D.Device self.old t n
+            → GoesBy D.Device self.old self.new t n }
         ensures moved { IfOk result (λ reply. accepted command.now reply ≡ 1
             → (t : Tree) (n : ℕ) → StandsFor D.Device self.old t n
-            → IsExecuted t command.now (view_of D.Device self.old) (view_of D.Device self.new)) }
+            → IsAccepted t command.now (view_of D.Device self.old) (view_of D.Device self.new)) }
         ensures unmoved { IfOk result (λ reply. accepted command.now reply ≡ 0
             → view_of D.Device self.new ≡ view_of D.Device self.old) }
         ensures begun { IsSoundOn D.Device self.old.engine.pager → OnErr result
@@ -119,7 +123,7 @@ impl<D: Device> Volume<D> {
 
     // Does what is planned for a writing command, and answers it.
     fn carry_out(&mut self, command: &Command, plan: Plan) -> Result<Reply, Fault>
-        requires writes { IsTrue (writes command.now) }
+        requires logged { IsLogged command.now }
         requires ready { IsReady plan }
         requires kind { IsPlanKind command.now plan }
         requires going { stop_of self.old ≡ None }
@@ -129,8 +133,12 @@ impl<D: Device> Volume<D> {
             → IfOk result (TakesStep t command.now (keys_of D.Device self.new.engine.pager)) }
         ensures moved { IsSoundOn D.Device self.old.engine.pager → (t : Tree)
             → IsPlan (keys_of D.Device self.old.engine.pager) t command.now plan
-            → IfOk result (λ reply. accepted command.now reply ≡ 1 → IsExecuted t command.now
+            → IfOk result (λ reply. accepted command.now reply ≡ 1 → IsAccepted t command.now
             (view_of D.Device self.old) (view_of D.Device self.new)) }
+        ensures safe { (t : Tree) (n : ℕ) → StandsFor D.Device self.old t n
+            → IsPlan (keys_of D.Device self.old.engine.pager) t command.now plan
+            → IfOk result (TakesSafely D.Device command.now self.old self.new t n) }
+        ensures keeps { OnErr result (KeepsStanding D.Device self.old self.new) }
         ensures stepped { IsSoundOn D.Device self.old.engine.pager → OnErr result
             (HasStepped command.now (view_of D.Device self.old) (view_of D.Device self.new)) }
         ensures sound { IsSoundOn D.Device self.old.engine.pager
@@ -167,14 +175,16 @@ impl<D: Device> Volume<D> {
     // Makes the volume ready for a writing command, and puts its messages after those that wait in
     // the root.
     fn send(&mut self, command: &Command, list: &[Message]) -> Result<(), Fault>
-        requires writes { IsTrue (writes command.now) }
+        requires logged { IsLogged command.now }
         requires small { IsSmallBatch list.now }
         requires going { stop_of self.old ≡ None }
-        ensures sends { IsSoundOn D.Device self.old.engine.pager → OnOk result (SendsIn command.now
+        ensures sends { IsSoundOn D.Device self.old.engine.pager → OnOk result (LogsIn command.now
             (Batch list.now) (view_of D.Device self.old) (view_of D.Device self.new)) }
         ensures applied { IsSoundOn D.Device self.old.engine.pager → OnOk result (IsApplied
             (keys_of D.Device self.old.engine.pager) list.now
             (keys_of D.Device self.new.engine.pager)) }
+        ensures logged { OnOk result (HasLogged D.Device command.now self.old self.new) }
+        ensures keeps { OnErr result (KeepsStanding D.Device self.old self.new) }
         ensures stepped { IsSoundOn D.Device self.old.engine.pager → OnErr result
             (HasStepped command.now (view_of D.Device self.old) (view_of D.Device self.new)) }
         ensures sound { IsSoundOn D.Device self.old.engine.pager
@@ -190,25 +200,29 @@ impl<D: Device> Volume<D> {
         ensures count_stays { OnErr result (count_of self.new ≡ count_of self.old) }
         ensures ends { Ends D.Device self.old self.new result }
     {
+        records_have_room();
         self.make_ready(command)?;
         let appended = self.engine.append(list);
         self.engine.sound_nodes_are_undamaged();
         appended?;
+        self.engine.log(command);
         self.count += 1;
         Ok(())
     }
 
     // Makes the volume ready for a writing command, and makes its graft.
     fn graft(&mut self, command: &Command, s: &[u8], d: &[u8], keep: bool) -> Result<(), Fault>
-        requires writes { IsTrue (writes command.now) }
+        requires logged { IsLogged command.now }
         requires ready { IsReady (plan.Graft s.now d.now keep) }
         requires kind { IsPlanKind command.now (plan.Graft s.now d.now keep) }
         requires going { stop_of self.old ≡ None }
-        ensures sends { IsSoundOn D.Device self.old.engine.pager → OnOk result (SendsIn command.now
+        ensures sends { IsSoundOn D.Device self.old.engine.pager → OnOk result (LogsIn command.now
             (Move s.now d.now keep) (view_of D.Device self.old) (view_of D.Device self.new)) }
         ensures grafted { IsSoundOn D.Device self.old.engine.pager → OnOk result (IsGrafted
             (keys_of D.Device self.old.engine.pager) s.now d.now keep
             (keys_of D.Device self.new.engine.pager)) }
+        ensures logged { OnOk result (HasLogged D.Device command.now self.old self.new) }
+        ensures keeps { OnErr result (KeepsStanding D.Device self.old self.new) }
         ensures stepped { IsSoundOn D.Device self.old.engine.pager → OnErr result
             (HasStepped command.now (view_of D.Device self.old) (view_of D.Device self.new)) }
         ensures sound { IsSoundOn D.Device self.old.engine.pager
@@ -224,10 +238,12 @@ impl<D: Device> Volume<D> {
         ensures count_stays { OnErr result (count_of self.new ≡ count_of self.old) }
         ensures ends { Ends D.Device self.old self.new result }
     {
+        records_have_room();
         self.make_ready(command)?;
         let grafted = self.engine.graft(s, d, keep);
         self.engine.sound_nodes_are_undamaged();
         grafted?;
+        self.engine.log(command);
         self.count += 1;
         Ok(())
     }

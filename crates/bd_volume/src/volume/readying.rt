@@ -1,14 +1,14 @@
 //! How a volume is made ready for a writing command.
 
-ghost use Rattle.std.specs.Prelude.{◌≡◌, ◌≢◌, ◌+◌, ◌^◌, ◌<◌, ◌≤◌, ◌⊎◌, true, false, None, Ok, IfErr, OnOk, IsTrue};
-ghost use Rattle.bd_command.specs.Command.{writes};
+ghost use Rattle.std.specs.Prelude.{◌≡◌, ◌≢◌, ◌+◌, ◌^◌, ◌<◌, ◌≤◌, ◌⊎◌, true, false, None, Ok, IfErr, OnOk};
+ghost use Rattle.bd_command.specs.Log.{IsLogged};
 ghost use Rattle.bd_pager.specs.Pagers.{table_of};
 ghost use Rattle.bd_view.specs.Trees.{waiting_limit};
 ghost use Rattle.bd_view.specs.Views.{free_slots, need_slots};
 ghost use Rattle.bd_view.specs.Moves.{AreSteps, HasStepped, CannotSave};
 ghost use Rattle.bd_engine.specs.Engines.{IsSoundOn};
 ghost use Rattle.bd_volume.specs.Volume.{view_of, count_of, stop_of};
-ghost use Rattle.bd_volume.specs.Steps.{Ends, ShowsFault, IsStepFault, IsCommandFault};
+ghost use Rattle.bd_volume.specs.Steps.{Ends, ShowsFault, KeepsStanding, HasLogRoom, IsStepFault, IsCommandFault};
 
 use super::Volume;
 use crate::fault::Fault;
@@ -17,18 +17,20 @@ use bd_device::Device;
 use bd_effects::waiting_limit;
 use bd_limits::MAX_FLUSHES;
 use bd_message::Counter;
+use bd_view::laws::records_have_room;
 
 impl<D: Device> Volume<D> {
-    // Makes the volume ready for a writing command that is accepted: one more can be counted, flush
-    // steps are made while more bytes wait in the root than the command's limit, and slots are free
-    // for what it sends.
+    // Makes the volume ready for a writing command that is accepted: one more can be counted, the
+    // log has room for its record, flush steps are made while more bytes wait in the root than the
+    // command's limit, and slots are free for what it sends.
     pub(crate) fn make_ready(&mut self, command: &Command) -> Result<(), Fault>
-        requires writes { IsTrue (writes command.now) }
+        requires logged { IsLogged command.now }
         requires going { stop_of self.old ≡ None }
         ensures stepped { IsSoundOn D.Device self.old.engine.pager → HasStepped command.now
             (view_of D.Device self.old) (view_of D.Device self.new) }
         ensures sound { IsSoundOn D.Device self.old.engine.pager
             → IsSoundOn D.Device self.new.engine.pager }
+        ensures keeps { KeepsStanding D.Device self.old self.new }
         ensures fails { IsSoundOn D.Device self.old.engine.pager → IfErr result (λ fault.
             IsCommandFault fault (count_of self.old) command.now
             (view_of D.Device self.old) (view_of D.Device self.new)) }
@@ -39,6 +41,7 @@ impl<D: Device> Volume<D> {
         ensures room { OnOk result (need_slots command.now (view_of D.Device self.new)
             ≤ free_slots (view_of D.Device self.new)) }
         ensures counts { OnOk result (count_of self.old + 1 < 2 ^ 64) }
+        ensures log { OnOk result (HasLogRoom command.now (view_of D.Device self.new)) }
         ensures shows { IfErr result (λ fault.
             ShowsFault D.Device fault (count_of self.old) command.now self.new.engine) }
         ensures ends { Ends D.Device self.old self.new result }
@@ -47,6 +50,7 @@ impl<D: Device> Volume<D> {
         if self.count == u64::MAX {
             return Err(Fault::Worn(Counter::Count));
         }
+        self.make_log_room(command)?;
         for _made in 0..MAX_FLUSHES {
             if !self.flush_step(command)? {
                 return Ok(());
@@ -59,10 +63,42 @@ impl<D: Device> Volume<D> {
         Err(Fault::Worn(Counter::Flushes))
     }
 
+    // Makes sure that the log has room for a command's record, by a checkpoint.
+    fn make_log_room(&mut self, command: &Command) -> Result<(), Fault>
+        requires logged { IsLogged command.now }
+        requires going { stop_of self.old ≡ None }
+        ensures steps { IsSoundOn D.Device self.old.engine.pager
+            → AreSteps command.now 0 (view_of D.Device self.old) (view_of D.Device self.new) }
+        ensures sound { IsSoundOn D.Device self.old.engine.pager
+            → IsSoundOn D.Device self.new.engine.pager }
+        ensures keeps { KeepsStanding D.Device self.old self.new }
+        ensures fails { IsSoundOn D.Device self.old.engine.pager → IfErr result (λ fault.
+            IsStepFault fault command.now (view_of D.Device self.new)) }
+
+        // Whatever is known.
+        ensures log { OnOk result (HasLogRoom command.now (view_of D.Device self.new)) }
+        ensures shows { IfErr result (λ fault.
+            ShowsFault D.Device fault (count_of self.old) command.now self.new.engine) }
+        ensures ends { Ends D.Device self.old self.new result }
+        ensures count_stays { count_of self.new ≡ count_of self.old }
+    {
+        if command.log_size() <= self.engine.record_room(command) {
+            return Ok(());
+        }
+        if self.engine.free() < self.engine.save_need() {
+            return Err(Fault::Full {
+                free: self.engine.free(),
+                need: self.engine.need(command),
+            });
+        }
+        records_have_room();
+        self.save()
+    }
+
     // Makes room for a flush step, and makes it where more bytes wait in the root than the command's
     // limit, and says whether it did.
     fn flush_step(&mut self, command: &Command) -> Result<bool, Fault>
-        requires writes { IsTrue (writes command.now) }
+        requires logged { IsLogged command.now }
         requires going { stop_of self.old ≡ None }
         ensures flushed { IsSoundOn D.Device self.old.engine.pager → result ≡ Ok true
             → AreSteps command.now 1 (view_of D.Device self.old) (view_of D.Device self.new) }
@@ -70,6 +106,7 @@ impl<D: Device> Volume<D> {
             → AreSteps command.now 0 (view_of D.Device self.old) (view_of D.Device self.new) }
         ensures sound { IsSoundOn D.Device self.old.engine.pager
             → IsSoundOn D.Device self.new.engine.pager }
+        ensures keeps { KeepsStanding D.Device self.old self.new }
         ensures fails { IsSoundOn D.Device self.old.engine.pager → IfErr result (λ fault.
             IsStepFault fault command.now (view_of D.Device self.new)) }
 
@@ -78,6 +115,8 @@ impl<D: Device> Volume<D> {
             → (table_of self.new.engine.pager).size ≤ waiting_limit command.now }
         ensures room { result ≡ Ok false → need_slots command.now (view_of D.Device self.new)
             ≤ free_slots (view_of D.Device self.new) }
+        ensures log { HasLogRoom command.now (view_of D.Device self.old)
+            → HasLogRoom command.now (view_of D.Device self.new) }
         ensures shows { IfErr result (λ fault.
             ShowsFault D.Device fault (count_of self.old) command.now self.new.engine) }
         ensures ends { Ends D.Device self.old self.new result }
@@ -91,18 +130,21 @@ impl<D: Device> Volume<D> {
 
     // Makes sure that slots are free for the next step of a command.
     fn make_room(&mut self, command: &Command) -> Result<(), Fault>
-        requires writes { IsTrue (writes command.now) }
+        requires logged { IsLogged command.now }
         requires going { stop_of self.old ≡ None }
         ensures steps { IsSoundOn D.Device self.old.engine.pager
             → AreSteps command.now 0 (view_of D.Device self.old) (view_of D.Device self.new) }
         ensures sound { IsSoundOn D.Device self.old.engine.pager
             → IsSoundOn D.Device self.new.engine.pager }
+        ensures keeps { KeepsStanding D.Device self.old self.new }
         ensures fails { IsSoundOn D.Device self.old.engine.pager → IfErr result (λ fault.
             IsStepFault fault command.now (view_of D.Device self.new)) }
 
         // Whatever is known.
         ensures room { OnOk result (need_slots command.now (view_of D.Device self.new)
             ≤ free_slots (view_of D.Device self.new)) }
+        ensures log { HasLogRoom command.now (view_of D.Device self.old)
+            → HasLogRoom command.now (view_of D.Device self.new) }
         ensures shows { IfErr result (λ fault.
             ShowsFault D.Device fault (count_of self.old) command.now self.new.engine) }
         ensures ends { Ends D.Device self.old self.new result }
@@ -119,18 +161,21 @@ impl<D: Device> Volume<D> {
     // Makes a checkpoint where too few slots are free for the next step of a command and it can make
     // more free.
     fn save_if_short(&mut self, command: &Command) -> Result<(), Fault>
-        requires writes { IsTrue (writes command.now) }
+        requires logged { IsLogged command.now }
         requires going { stop_of self.old ≡ None }
         ensures steps { IsSoundOn D.Device self.old.engine.pager
             → AreSteps command.now 0 (view_of D.Device self.old) (view_of D.Device self.new) }
         ensures sound { IsSoundOn D.Device self.old.engine.pager
             → IsSoundOn D.Device self.new.engine.pager }
+        ensures keeps { KeepsStanding D.Device self.old self.new }
         ensures fails { IsSoundOn D.Device self.old.engine.pager → IfErr result (λ fault.
             IsStepFault fault command.now (view_of D.Device self.new)) }
 
         // Whatever is known.
         ensures room { OnOk result ((need_slots command.now (view_of D.Device self.new)
             ≤ free_slots (view_of D.Device self.new)) ⊎ CannotSave (view_of D.Device self.new)) }
+        ensures log { HasLogRoom command.now (view_of D.Device self.old)
+            → HasLogRoom command.now (view_of D.Device self.new) }
         ensures shows { IfErr result (λ fault.
             ShowsFault D.Device fault (count_of self.old) command.now self.new.engine) }
         ensures ends { Ends D.Device self.old self.new result }
@@ -142,6 +187,7 @@ impl<D: Device> Volume<D> {
         if !self.can_save() {
             return Ok(());
         }
+        records_have_room();
         self.save()
     }
 }

@@ -11,7 +11,7 @@ ghost use Rattle.bd_view.specs.Reclaiming.{allows_push, edge_need, pushes_in, Ha
 ghost use Rattle.bd_engine.specs.Engines.{IsSoundOn, IsReadOn};
 ghost use Rattle.bd_engine.specs.Reclaiming.{MayMake};
 ghost use Rattle.bd_volume.specs.Volume.{StandsFor, view_of, count_of, device_of, stop_of};
-ghost use Rattle.bd_volume.specs.Steps.{Ends};
+ghost use Rattle.bd_volume.specs.Steps.{Ends, KeepsStanding};
 ghost use Rattle.bd_volume.specs.Reclaims.{ChangesOnce, IsChangedTo, ChangesAll, IsEdgeSaveFault, IsChangeFault, StopsChanging, ShowsEdge, IsReclaimFault, ShowsReclaim};
 
 use super::Volume;
@@ -30,8 +30,7 @@ impl<D: Device> Volume<D> {
             → IsReclaim (view_of D.Device self.old) (view_of D.Device self.new)) }
         ensures fails { IfErr result (λ fault. (t : Tree) (n : ℕ) → StandsFor D.Device self.old t n
             → IsReclaimFault fault (view_of D.Device self.old) (view_of D.Device self.new)) }
-        ensures stands { (t : Tree) (n : ℕ) → StandsFor D.Device self.old t n
-            → StandsFor D.Device self.new t n }
+        ensures keeps { KeepsStanding D.Device self.old self.new }
         ensures kept { OnOk result ((t : Tree) (n : ℕ) → StandsFor D.Device self.old t n
             → AllStandFor t n (left_now D.Device (device_of self.new))) }
         ensures only { OnOk result (IsOnly (D.contents (device_of self.new))
@@ -56,8 +55,7 @@ impl<D: Device> Volume<D> {
             (ChangesAll (view_of D.Device self.old) (view_of D.Device self.new)) }
         ensures fails { IsSoundOn D.Device self.old.engine.pager → IfErr result (λ fault.
             StopsChanging fault (view_of D.Device self.old) (view_of D.Device self.new)) }
-        ensures stands { (t : Tree) (n : ℕ) → StandsFor D.Device self.old t n
-            → StandsFor D.Device self.new t n }
+        ensures keeps { KeepsStanding D.Device self.old self.new }
 
         // Whatever is known.
         ensures shows { IfErr result (λ fault. ShowsEdge fault (view_of D.Device self.new)) }
@@ -88,8 +86,7 @@ impl<D: Device> Volume<D> {
             IsChangeFault fault pushes (view_of D.Device self.new)) }
         ensures sound { IsSoundOn D.Device self.old.engine.pager
             → IsSoundOn D.Device self.new.engine.pager }
-        ensures stands { (t : Tree) (n : ℕ) → StandsFor D.Device self.old t n
-            → StandsFor D.Device self.new t n }
+        ensures keeps { KeepsStanding D.Device self.old self.new }
 
         // Whatever is known.
         ensures shows { IfErr result (λ fault. ShowsEdge fault (view_of D.Device self.new)) }
@@ -145,8 +142,7 @@ impl<D: Device> Volume<D> {
             → IfErr result (λ fault. IsChangeFault fault pushes (view_of D.Device self.new)) }
         ensures sound { IsSoundOn D.Device self.old.engine.pager
             → IsSoundOn D.Device self.new.engine.pager }
-        ensures stands { (t : Tree) (n : ℕ) → StandsFor D.Device self.old t n
-            → StandsFor D.Device self.new t n }
+        ensures keeps { KeepsStanding D.Device self.old self.new }
 
         // Whatever is known.
         ensures shows { IfErr result (λ fault. ShowsEdge fault (view_of D.Device self.new)) }
@@ -171,8 +167,7 @@ impl<D: Device> Volume<D> {
             → OnErr result (view_of D.Device self.new ≡ view_of D.Device self.old) }
         ensures sound { IsSoundOn D.Device self.old.engine.pager
             → IsSoundOn D.Device self.new.engine.pager }
-        ensures stands { (t : Tree) (n : ℕ) → StandsFor D.Device self.old t n
-            → StandsFor D.Device self.new t n }
+        ensures keeps { KeepsStanding D.Device self.old self.new }
 
         // Whatever is known.
         ensures some { OnOk result (1 ≤ changed_count (view_of D.Device self.old)) }

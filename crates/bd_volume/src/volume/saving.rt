@@ -7,9 +7,9 @@ ghost use Rattle.bd_device.specs.Moments.{IsOnly};
 ghost use Rattle.bd_checkpoint.specs.Kept.{AllStandFor};
 ghost use Rattle.bd_view.specs.Views.{changed_count, free_slots, save_slots};
 ghost use Rattle.bd_view.specs.Moves.{Saves, CannotSave};
-ghost use Rattle.bd_engine.specs.Engines.{IsSoundOn};
+ghost use Rattle.bd_engine.specs.Engines.{IsSoundOn, IsBegunAnew};
 ghost use Rattle.bd_volume.specs.Volume.{StandsFor, view_of, count_of, device_of, stop_of};
-ghost use Rattle.bd_volume.specs.Steps.{Ends, IsSaveFault};
+ghost use Rattle.bd_volume.specs.Steps.{Ends, KeepsStanding, IsSaveFault};
 
 use super::Volume;
 use crate::fault::Fault;
@@ -41,8 +41,7 @@ impl<D: Device> Volume<D> {
             → OnErr result (view_of D.Device self.new ≡ view_of D.Device self.old) }
         ensures sound { IsSoundOn D.Device self.old.engine.pager
             → IsSoundOn D.Device self.new.engine.pager }
-        ensures stands { (t : Tree) (n : ℕ) → StandsFor D.Device self.old t n
-            → StandsFor D.Device self.new t n }
+        ensures keeps { KeepsStanding D.Device self.old self.new }
         ensures kept { OnOk result ((t : Tree) (n : ℕ) → StandsFor D.Device self.old t n
             → AllStandFor t n (left_now D.Device (device_of self.new))) }
         ensures only { OnOk result (IsOnly (D.contents (device_of self.new))
@@ -50,6 +49,9 @@ impl<D: Device> Volume<D> {
 
         // Whatever is known.
         ensures none { OnOk result (changed_count (view_of D.Device self.new) ≡ 0) }
+        ensures anew { OnOk result (IsBegunAnew self.new.engine) }
+        ensures same_live { OnErr result (self.new.engine.live ≡ self.old.engine.live) }
+        ensures same_log { OnErr result (self.new.engine.log ≡ self.old.engine.log) }
         ensures fails { IfErr result (IsSaveFault self.old self.new) }
         ensures ends { Ends D.Device self.old self.new result }
         ensures count_stays { count_of self.new ≡ count_of self.old }

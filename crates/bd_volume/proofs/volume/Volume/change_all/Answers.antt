@@ -6,6 +6,7 @@ use Rattle.bd_engine.specs.Engines.{IsSoundOn}
 use Rattle.bd_volume.specs.Reclaims.{ChangesOnce, IsChangedTo}
 use Rattle.bd_volume.specs.Volume.{view_of}
 use Rattle.bd_volume.proofs.Called.{no_call, went_on, goes_then, ends_well}
+use Rattle.bd_volume.proofs.Keeping.{keeps_none, keeps_then}
 use Rattle.bd_volume.proofs.Reclaims.{within_first, within_next, within_end, changed_more, changed_all, stops_changing}
 use Rattle.bd_volume.proofs.volume.Volume.change_all.Goals as goal
 
@@ -13,7 +14,7 @@ pub loop-made-init : goal.loop-made-init
 loop-made-init g c = record {
   goes = no_call g.D.Device c.args.self.now c.requires;
   sound = λ s. s;
-  stands = λ t n s. s;
+  keeps = keeps_none g.D.Device c.args.self.now;
   changes = λ s. none (view_of g.D.Device c.args.self.now);
   within = λ s. within_first (view_of g.D.Device c.args.self.now) (c.little_is_left.ensures s);
 }
@@ -29,7 +30,7 @@ loop-made-preserved g c =
     record {
       goes = goes_then g.D.Device c.args.self.now c.loop-made.self c.change_once.new.self i.goes (went_on g.D.Device c.loop-made.self c.change_once.new.self _ h.ends h.count_stays);
       sound = λ s. h.sound (i.sound s);
-      stands = λ t n s. h.stands t n (i.stands t n s);
+      keeps = keeps_then g.D.Device c.args.self.now c.loop-made.self c.change_once.new.self (g.met.D.Device.since_earlier c.loop-made.self.engine.pager.dev) i.keeps h.keeps;
       changes = λ s. changed_more c.loop-made.pushes c.in-Some.after a b d (i.changes s) (once s);
       within = λ s. within_next c.loop-made._made c.loop-made.pushes c.in-Some.after b d (i.within s) (once s) (c.little_is_left-in-loop-made.ensures (h.sound (i.sound s)));
     }
@@ -41,11 +42,13 @@ returns-in_err-after-clause-fails g c = λ s.
     let h = c.in_err-after.ensures in
     rw (p.1, p.2) (stops_changing c.in_err-after.field-0.0 c.loop-made.pushes (view_of g.D.Device c.args.self.now) (view_of g.D.Device c.loop-made.self) (view_of g.D.Device c.change_once.new.self) (i.changes s) (h.unmoved (i.sound s)) (h.fails (i.sound s)))
 
-pub returns-in_err-after-clause-stands : goal.returns-in_err-after-clause-stands
-returns-in_err-after-clause-stands g c = λ t n s. c.in_err-after.ensures.stands t n (c.loop-made.invariant.stands t n s)
+pub returns-in_err-after-clause-keeps : goal.returns-in_err-after-clause-keeps
+returns-in_err-after-clause-keeps g c =
+    keeps_then g.D.Device c.args.self.now c.loop-made.self c.change_once.new.self (g.met.D.Device.since_earlier c.loop-made.self.engine.pager.dev) c.loop-made.invariant.keeps c.in_err-after.ensures.keeps
 
-pub returns-in_default-clause-stands : goal.returns-in_default-clause-stands
-returns-in_default-clause-stands g c = λ t n s. c.in_ok-after.ensures.stands t n (c.loop-made.invariant.stands t n s)
+pub returns-in_default-clause-keeps : goal.returns-in_default-clause-keeps
+returns-in_default-clause-keeps g c =
+    keeps_then g.D.Device c.args.self.now c.loop-made.self c.change_once.new.self (g.met.D.Device.since_earlier c.loop-made.self.engine.pager.dev) c.loop-made.invariant.keeps c.in_ok-after.ensures.keeps
 
 pub returns-in_default-clause-changes : goal.returns-in_default-clause-changes
 returns-in_default-clause-changes g c = λ s.

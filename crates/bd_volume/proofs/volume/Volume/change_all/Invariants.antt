@@ -1,10 +1,9 @@
 -- So many changes were made, and checkpoints between; and the loop doesn't end before them.
-use Rattle.std.proofs.Common.{ℕ, ◌-◌, ◌^◌}
-use Rattle.bd_model.specs.Tree.{Tree}
+use Rattle.std.proofs.Common.{◌-◌, ◌^◌}
 use Rattle.bd_view.specs.Reclaiming.{AreReclaims}
 use Rattle.bd_engine.specs.Engines.{IsSoundOn}
-use Rattle.bd_volume.specs.Steps.{GoesOn}
-use Rattle.bd_volume.specs.Volume.{StandsFor, view_of}
+use Rattle.bd_volume.specs.Steps.{GoesOn, KeepsStanding}
+use Rattle.bd_volume.specs.Volume.{view_of}
 use Rattle.bd_volume.proofs.Reclaims.{IsWithin}
 use Rattle.bd_volume.proofs.volume.Volume.change_all.Given as goal
 
@@ -12,7 +11,7 @@ abbrev pub invariant-loop-made : goal.invariant-loop-made
 invariant-loop-made g l = record {
   goes : GoesOn g.D.Device l.fn.self l.self;
   sound : IsSoundOn g.D.Device l.fn.self.engine.pager → IsSoundOn g.D.Device l.self.engine.pager;
-  stands : (t : Tree) (n : ℕ) → StandsFor g.D.Device l.fn.self t n → StandsFor g.D.Device l.self t n;
+  keeps : KeepsStanding g.D.Device l.fn.self l.self;
   changes : IsSoundOn g.D.Device l.fn.self.engine.pager → AreReclaims l.pushes (view_of g.D.Device l.fn.self) (view_of g.D.Device l.self);
   within : IsSoundOn g.D.Device l.fn.self.engine.pager → IsWithin l._made l.pushes (view_of g.D.Device l.self);
 }

@@ -8,7 +8,8 @@ use Rattle.bd_view.specs.Views.{View}
 use Rattle.bd_view.specs.Reclaiming.{IsNextChange, HasNoChange}
 use Rattle.bd_volume.specs.Reclaims.{ChangesOnce}
 use Rattle.bd_volume.specs.Volume.{view_of}
-use Rattle.bd_volume.proofs.Read.{read_sound, read_same, stands_same}
+use Rattle.bd_volume.proofs.Keeping.{keeps_read, keeps_then}
+use Rattle.bd_volume.proofs.Read.{read_sound}
 use Rattle.bd_volume.proofs.Reclaims.{none_left, saved_once}
 use Rattle.bd_volume.proofs.volume.Volume.change_once.Goals as goal
 
@@ -47,8 +48,30 @@ returns-clause-changes g c = λ s.
     (subst (λ (o : Option Reclaim). MatchOption o (HasNoChange c.args.pushes a) (λ change. IsNextChange c.args.pushes change a)) c.in-Some.is (h.first s)))
     (c.has_room.ensures.0 c.if-not-has_room.false))
 
-pub returns-clause-stands : goal.returns-clause-stands
-returns-clause-stands g c = λ t n s.
-    let h = c.in_ok-change.ensures in
-    c.in_ok-make.ensures.stands t n
-    (stands_same g.D.Device c.args.self.now c.look.new.self t n s (read_sound g.D.Device c.args.self.now.engine c.look.new.self.engine h.read s.nodes) (read_same g.D.Device c.args.self.now.engine c.look.new.self.engine h.read) h.count_stays)
+pub returns-in_err-change-clause-keeps : goal.returns-in_err-change-clause-keeps
+returns-in_err-change-clause-keeps g c =
+    keeps_read g.D.Device c.args.self.now c.look.new.self (g.met.D.Device.since_earlier c.look.new.self.engine.pager.dev) c.in_err-change.ensures.read c.in_err-change.ensures.count_stays
+
+pub returns-in_default-clause-keeps : goal.returns-in_default-clause-keeps
+returns-in_default-clause-keeps g c =
+    keeps_read g.D.Device c.args.self.now c.look.new.self (g.met.D.Device.since_earlier c.look.new.self.engine.pager.dev) c.in_ok-change.ensures.read c.in_ok-change.ensures.count_stays
+
+pub returns-in_err-save_for_edge-clause-keeps : goal.returns-in_err-save_for_edge-clause-keeps
+returns-in_err-save_for_edge-clause-keeps g c =
+    let first = keeps_read g.D.Device c.args.self.now c.look.new.self (g.met.D.Device.since_earlier c.look.new.self.engine.pager.dev) c.in_ok-change.ensures.read c.in_ok-change.ensures.count_stays in
+    keeps_then g.D.Device c.args.self.now c.look.new.self c.save_for_edge.new.self (g.met.D.Device.since_earlier c.look.new.self.engine.pager.dev) first c.in_err-save_for_edge.ensures.keeps
+
+pub returns-then-not-has_room-clause-keeps : goal.returns-then-not-has_room-clause-keeps
+returns-then-not-has_room-clause-keeps g c =
+    let first = keeps_read g.D.Device c.args.self.now c.look.new.self (g.met.D.Device.since_earlier c.look.new.self.engine.pager.dev) c.in_ok-change.ensures.read c.in_ok-change.ensures.count_stays in
+    keeps_then g.D.Device c.args.self.now c.look.new.self c.save_for_edge.new.self (g.met.D.Device.since_earlier c.look.new.self.engine.pager.dev) first c.in_ok-save_for_edge.ensures.keeps
+
+pub returns-in_err-make-clause-keeps : goal.returns-in_err-make-clause-keeps
+returns-in_err-make-clause-keeps g c =
+    let first = keeps_read g.D.Device c.args.self.now c.look.new.self (g.met.D.Device.since_earlier c.look.new.self.engine.pager.dev) c.in_ok-change.ensures.read c.in_ok-change.ensures.count_stays in
+    keeps_then g.D.Device c.args.self.now c.look.new.self c.make.new.self (g.met.D.Device.since_earlier c.look.new.self.engine.pager.dev) first c.in_err-make.ensures.keeps
+
+pub returns-clause-keeps : goal.returns-clause-keeps
+returns-clause-keeps g c =
+    let first = keeps_read g.D.Device c.args.self.now c.look.new.self (g.met.D.Device.since_earlier c.look.new.self.engine.pager.dev) c.in_ok-change.ensures.read c.in_ok-change.ensures.count_stays in
+    keeps_then g.D.Device c.args.self.now c.look.new.self c.make.new.self (g.met.D.Device.since_earlier c.look.new.self.engine.pager.dev) first c.in_ok-make.ensures.keeps

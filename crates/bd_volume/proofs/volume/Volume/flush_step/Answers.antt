@@ -1,5 +1,5 @@
 -- Room is made, and a flush step is one of the command's.
-use Rattle.std.proofs.Common.{◌≡◌, true, ap}
+use Rattle.std.proofs.Common.{◌≡◌, true, refl, ap}
 use Rattle.std.specs.Prelude.{Ok}
 use Rattle.std.proofs.lemmas.Result.{err_from_is_err_and}
 use Rattle.bd_engine.specs.Engines.{EngineState, IsWornIn}
@@ -8,6 +8,8 @@ use Rattle.bd_volume.specs.declared.volume.Volume.{Volume}
 use Rattle.bd_volume.specs.Volume.{view_of}
 use Rattle.bd_volume.proofs.Called.{went_on, ends_then, read_fails}
 use Rattle.bd_volume.proofs.Faulted.{flush_fails, flush_shows}
+use Rattle.bd_volume.proofs.Keeping.{keeps_nodes, keeps_then}
+use Rattle.bd_volume.proofs.Room.{room_nodes}
 use Rattle.bd_volume.proofs.Stepped.{one_flush}
 use Rattle.bd_volume.proofs.volume.Volume.flush_step.Goals as goal
 
@@ -48,3 +50,27 @@ returns-clause-flushed g c = λ s is.
     let on : c.in_ok-flushed.field-0 ≡ true = cc in
     one_flush c.args.command.now (view_of g.D.Device c.args.self.now) (view_of g.D.Device a) (view_of g.D.Device b) (c.in_ok-make_room.ensures.steps s)
     (record { room = c.in_ok-make_room.ensures.room; flushes = h.flushes sound (ap Ok on); rest = h.only.view sound.known })
+
+pub returns-in_err-flushed-clause-keeps : goal.returns-in_err-flushed-clause-keeps
+returns-in_err-flushed-clause-keeps g c =
+    let h = c.in_err-flushed.ensures in
+    let a : Volume g.row.D.Denot = c.make_room.new.self in
+    let b : Volume g.row.D.Denot = record a { engine = c.flush-flushed.new.self } in
+    keeps_then g.D.Device c.args.self.now a b (g.met.D.Device.since_earlier a.engine.pager.dev) c.in_ok-make_room.ensures.keeps
+    (keeps_nodes g.D.Device a b (g.met.D.Device.since_earlier b.engine.pager.dev) h.only h.sound h.same refl)
+
+pub returns-clause-keeps : goal.returns-clause-keeps
+returns-clause-keeps g c =
+    let h = c.in_ok-flushed.ensures in
+    let a : Volume g.row.D.Denot = c.make_room.new.self in
+    let b : Volume g.row.D.Denot = record a { engine = c.flush-flushed.new.self } in
+    keeps_then g.D.Device c.args.self.now a b (g.met.D.Device.since_earlier a.engine.pager.dev) c.in_ok-make_room.ensures.keeps
+    (keeps_nodes g.D.Device a b (g.met.D.Device.since_earlier b.engine.pager.dev) h.only h.sound h.same refl)
+
+pub returns-in_err-flushed-clause-log : goal.returns-in_err-flushed-clause-log
+returns-in_err-flushed-clause-log g c = λ room.
+    room_nodes g.D.Device c.args.command.now c.make_room.new.self.engine c.flush-flushed.new.self c.in_err-flushed.ensures.only (c.in_ok-make_room.ensures.log room)
+
+pub returns-clause-log : goal.returns-clause-log
+returns-clause-log g c = λ room.
+    room_nodes g.D.Device c.args.command.now c.make_room.new.self.engine c.flush-flushed.new.self c.in_ok-flushed.ensures.only (c.in_ok-make_room.ensures.log room)

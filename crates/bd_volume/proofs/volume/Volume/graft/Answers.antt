@@ -1,13 +1,16 @@
 -- A graft's fault, after the command's steps.
-use Rattle.std.proofs.Common.{ap}
+use Rattle.std.proofs.Common.{◌≡◌, ◌+◌, refl, sym, subst, ap}
 use Rattle.std.proofs.lemmas.Result.{err_from_is_err_and}
+use Rattle.bd_message.specs.KeyMaps.{IsGrafted}
 use Rattle.bd_graft.specs.Grafting.{IsWornForGraft}
-use Rattle.bd_pager.specs.Pagers.{table_of}
-use Rattle.bd_engine.specs.Engines.{EngineState, keys_of}
+use Rattle.bd_pager.specs.Pagers.{Paged, table_of}
+use Rattle.bd_engine.specs.Engines.{EngineState, keys_of, IsSoundOn}
 use Rattle.bd_volume.specs.declared.volume.Volume.{Volume}
 use Rattle.bd_volume.specs.Volume.{view_of}
-use Rattle.bd_volume.proofs.Called.{went_on, ends_then, read_fails}
+use Rattle.bd_volume.proofs.Called.{went_on, goes_then, ends_then, ends_logged, read_goes, read_fails}
 use Rattle.bd_volume.proofs.Faulted.{graft_halts, graft_shows}
+use Rattle.bd_volume.proofs.Keeping.{keeps_then, keeps_read, logs_on}
+use Rattle.bd_volume.proofs.Room.{room_nodes}
 use Rattle.bd_volume.proofs.Sent.{grafted_over}
 use Rattle.bd_volume.proofs.Stepped.{stepped_stand}
 use Rattle.bd_volume.proofs.volume.Volume.graft.Goals as goal
@@ -21,7 +24,7 @@ returns-in_err-grafted-clause-fails g c = λ s.
     let ready = c.in_ok-make_ready.ensures in
     let sound = ready.sound s in
     rw (p.1, p.2) (graft_halts g.D.Device _ _ (IsWornForGraft (table_of a.engine.pager)) b c.args.self.now.count c.args.command.now (view_of g.D.Device c.args.self.now) (view_of g.D.Device a) c.args.s.now c.args.d.now c.args.keep c.in_err-grafted.field-0.0
-    c.requires.writes c.requires.kind (ready.stepped s) ready.enough h.err.view (c.sound_nodes_are_undamaged.ensures (h.sound sound)) h.cause.failed (h.worn sound))
+    c.requires.logged.0 c.requires.kind (ready.stepped s) ready.enough h.err.view (c.sound_nodes_are_undamaged.ensures (h.sound sound)) h.cause.failed (h.worn sound))
 
 pub returns-in_err-grafted-clause-shows : goal.returns-in_err-grafted-clause-shows
 returns-in_err-grafted-clause-shows g c =
@@ -45,5 +48,65 @@ pub returns-clause-grafted : goal.returns-clause-grafted
 returns-clause-grafted g c = λ s.
     let a : Volume g.row.D.Denot = c.make_ready.new.self in
     let ready = c.in_ok-make_ready.ensures in
-    grafted_over (keys_of g.D.Device c.args.self.now.engine.pager) (keys_of g.D.Device a.engine.pager) (keys_of g.D.Device c.graft-grafted.new.self.pager) c.args.s.now c.args.d.now c.args.keep
-    (stepped_stand c.args.command.now (view_of g.D.Device c.args.self.now) (view_of g.D.Device a) (ready.stepped s)) (c.in_ok-grafted.ensures.grafted (ready.sound s))
+    let same : c.log.new.self.pager ≡ c.graft-grafted.new.self.pager = ap (λ (e : EngineState g.row.D.Denot). e.pager) c.log.ensures.log in
+    subst (λ (p : Paged g.row.D.Denot). IsGrafted (keys_of g.D.Device c.args.self.now.engine.pager) c.args.s.now c.args.d.now c.args.keep (keys_of g.D.Device p)) (sym same)
+    (grafted_over (keys_of g.D.Device c.args.self.now.engine.pager) (keys_of g.D.Device a.engine.pager) (keys_of g.D.Device c.graft-grafted.new.self.pager) c.args.s.now c.args.d.now c.args.keep
+    (stepped_stand c.args.command.now (view_of g.D.Device c.args.self.now) (view_of g.D.Device a) (ready.stepped s)) (c.in_ok-grafted.ensures.grafted (ready.sound s)))
+
+pub log-requires-clause-room : goal.log-requires-clause-room
+log-requires-clause-room g c =
+    room_nodes g.D.Device c.args.command.now c.make_ready.new.self.engine c.graft-grafted.new.self c.in_ok-grafted.ensures.only c.in_ok-make_ready.ensures.log
+
+pub returns-in_err-grafted-clause-keeps : goal.returns-in_err-grafted-clause-keeps
+returns-in_err-grafted-clause-keeps g c =
+    let p = err_from_is_err_and c.from_residual-in_err-grafted.result c.from_residual-in_err-grafted.ensures.1 in
+    let h = c.in_err-grafted.ensures in
+    let a : Volume g.row.D.Denot = c.make_ready.new.self in
+    let b : Volume g.row.D.Denot = record a { engine = c.graft-grafted.new.self } in
+    rw p.1 (keeps_then g.D.Device c.args.self.now a b (g.met.D.Device.since_earlier a.engine.pager.dev) c.in_ok-make_ready.ensures.keeps
+    (keeps_read g.D.Device a b (g.met.D.Device.since_earlier b.engine.pager.dev) h.err refl))
+
+pub returns-clause-sends : goal.returns-clause-sends
+returns-clause-sends g c = λ s.
+    let a : Volume g.row.D.Denot = c.make_ready.new.self in
+    let b : Volume g.row.D.Denot = record a { engine = c.graft-grafted.new.self } in
+    let ready = c.in_ok-make_ready.ensures in
+    let h = c.in_ok-grafted.ensures in
+    let sound = ready.sound s in
+    record {
+      last = view_of g.D.Device b;
+      sends = record {
+        mid = view_of g.D.Device a;
+        stepped = ready.stepped s;
+        enough = ready.enough;
+        room = ready.room;
+        sent = h.grafts sound;
+        rest = h.only.view sound.known;
+      };
+      log = room_nodes g.D.Device c.args.command.now a.engine b.engine h.only ready.log;
+      after = c.log.ensures.view;
+    }
+
+pub returns-clause-logged : goal.returns-clause-logged
+returns-clause-logged g c =
+    let a : Volume g.row.D.Denot = c.make_ready.new.self in
+    let b : Volume g.row.D.Denot = record a { engine = c.graft-grafted.new.self } in
+    let d : Volume g.row.D.Denot = record { engine = c.log.new.self; count = a.count + 1 } in
+    let ready = c.in_ok-make_ready.ensures in
+    let h = c.in_ok-grafted.ensures in
+    logs_on g.D.Device c.args.self.now a b d c.args.command.now (g.met.D.Device.since_earlier a.engine.pager.dev) (g.met.D.Device.since_earlier b.engine.pager.dev) ready.keeps ready.ends.stop.ok.stop_is h.only
+    (c.records_have_room.ensures.version c.args.command.now (view_of g.D.Device b) c.requires.logged (room_nodes g.D.Device c.args.command.now a.engine b.engine h.only ready.log)) c.log.ensures.log
+
+pub returns-clause-sound : goal.returns-clause-sound
+returns-clause-sound g c = λ s.
+    let same : c.log.new.self.pager ≡ c.graft-grafted.new.self.pager = ap (λ (e : EngineState g.row.D.Denot). e.pager) c.log.ensures.log in
+    subst (λ (p : Paged g.row.D.Denot). IsSoundOn g.D.Device p) (sym same) (c.in_ok-grafted.ensures.sound (c.in_ok-make_ready.ensures.sound s))
+
+pub returns-clause-ends : goal.returns-clause-ends
+returns-clause-ends g c =
+    let a : Volume g.row.D.Denot = c.make_ready.new.self in
+    let b : Volume g.row.D.Denot = record a { engine = c.graft-grafted.new.self } in
+    let h = c.in_ok-grafted.ensures in
+    let first = went_on g.D.Device c.args.self.now a _ c.in_ok-make_ready.ensures.ends c.in_ok-make_ready.ensures.count_stays in
+    let next = read_goes g.D.Device a b first.going.stop_is (ap (λ (e : EngineState g.row.D.Denot). e.stop) h.only.rest) h.only.keeps.device h.cause.kept refl in
+    ends_logged g.D.Device c.args.self.now b (record { engine = c.log.new.self; count = a.count + 1 }) _ (goes_then g.D.Device c.args.self.now a b first next) (ap (λ (e : EngineState g.row.D.Denot). e.pager) c.log.ensures.log) (ap (λ (e : EngineState g.row.D.Denot). e.stop) c.log.ensures.log)

@@ -8,6 +8,7 @@ use Rattle.bd_engine.specs.Reclaiming.{IsWornToChange}
 use Rattle.bd_volume.specs.declared.volume.Volume.{Volume}
 use Rattle.bd_volume.specs.Volume.{view_of}
 use Rattle.bd_volume.proofs.Called.{read_fails}
+use Rattle.bd_volume.proofs.Keeping.{keeps_nodes}
 use Rattle.bd_volume.proofs.Reclaims.{change_fails, made_once, next_low}
 use Rattle.bd_volume.proofs.volume.Volume.make.Goals as goal
 
@@ -36,3 +37,17 @@ returns-clause-made g c = λ s next room.
     made_once c.args.pushes c.pushes_after-after.result c.args.change old old (view_of g.D.Device new) refl next
     (record { next = next; room = room; made = h.made s; reclaimed = h.reclaimed s; walk_is = h.walk; rest = h.only.view s.known })
     (h.less s) (c.pushes_after-after.ensures (next_low c.args.pushes c.args.change old next low))
+
+pub returns-in_err-made-clause-keeps : goal.returns-in_err-made-clause-keeps
+returns-in_err-made-clause-keeps g c =
+    let h = c.in_err-made.ensures in
+    let a : Volume g.row.D.Denot = c.args.self.now in
+    let b : Volume g.row.D.Denot = record { engine = c.make_change-made.new.self; count = a.count } in
+    keeps_nodes g.D.Device a b (g.met.D.Device.since_earlier b.engine.pager.dev) h.only h.sound h.same refl
+
+pub returns-clause-keeps : goal.returns-clause-keeps
+returns-clause-keeps g c =
+    let h = c.in_ok-made.ensures in
+    let a : Volume g.row.D.Denot = c.args.self.now in
+    let b : Volume g.row.D.Denot = record { engine = c.make_change-made.new.self; count = a.count } in
+    keeps_nodes g.D.Device a b (g.met.D.Device.since_earlier b.engine.pager.dev) h.only h.sound h.same refl

@@ -5,9 +5,10 @@ use Rattle.std.proofs.lemmas.Result.{err_from_is_err_and}
 use Rattle.bd_limits.specs.Limits.{flush_limit}
 use Rattle.bd_view.specs.Trees.{waiting_limit}
 use Rattle.bd_volume.specs.Volume.{view_of}
-use Rattle.bd_volume.proofs.Called.{no_call, went_on, goes_then}
+use Rattle.bd_volume.proofs.Called.{went_on, goes_then, ends_then, ends_err}
 use Rattle.bd_volume.proofs.Faulted.{step_halts, count_worn, flushes_worn}
-use Rattle.bd_volume.proofs.Stepped.{steps_then, steps_saved, no_steps, has_stepped, not_stepped}
+use Rattle.bd_volume.proofs.Keeping.{keeps_none, keeps_then}
+use Rattle.bd_volume.proofs.Stepped.{steps_then, steps_saved, has_stepped, not_stepped}
 use Rattle.bd_volume.proofs.volume.Volume.make_ready.Goals as goal
 
 pub returns-then-self-clause-stepped : goal.returns-then-self-clause-stepped
@@ -16,16 +17,33 @@ returns-then-self-clause-stepped g c = λ s.
     not_stepped c.args.command.now v v refl
 
 pub returns-then-self-clause-fails : goal.returns-then-self-clause-fails
-returns-then-self-clause-fails g c = λ s. count_worn c.args.self.now.count c.args.command.now (view_of g.D.Device c.args.self.now) c.requires.writes (omega arith)
+returns-then-self-clause-fails g c = λ s. count_worn c.args.self.now.count c.args.command.now (view_of g.D.Device c.args.self.now) c.requires.logged.0 (omega arith)
+
+pub returns-then-self-clause-keeps : goal.returns-then-self-clause-keeps
+returns-then-self-clause-keeps g c = keeps_none g.D.Device c.args.self.now
+
+pub returns-in_err-make_log_room-clause-stepped : goal.returns-in_err-make_log_room-clause-stepped
+returns-in_err-make_log_room-clause-stepped g c = λ s.
+    has_stepped c.args.command.now 0 (view_of g.D.Device c.args.self.now) (view_of g.D.Device c.make_log_room.new.self) (c.in_err-make_log_room.ensures.steps s) (omega arith)
+
+pub returns-in_err-make_log_room-clause-fails : goal.returns-in_err-make_log_room-clause-fails
+returns-in_err-make_log_room-clause-fails g c = λ s.
+    let p = err_from_is_err_and c.from_residual.result c.from_residual.ensures.1 in
+    let old = view_of g.D.Device c.args.self.now in
+    let new = view_of g.D.Device c.make_log_room.new.self in
+    let h = c.in_err-make_log_room.ensures in
+    rw (p.1, p.2) (step_halts c.in_err-make_log_room.field-0.0 c.args.self.now.count c.args.command.now old new c.requires.logged.0 (has_stepped c.args.command.now 0 old new (h.steps s) (omega arith)) (h.fails s))
 
 pub loop-made-init : goal.loop-made-init
-loop-made-init g c = record {
-  goes = no_call g.D.Device c.args.self.now c.requires.going;
-  sound = λ s. s;
-  steps = λ s.
-      let v = view_of g.D.Device c.args.self.now in
-      no_steps c.args.command.now v v refl;
-}
+loop-made-init g c =
+    let h = c.in_ok-make_log_room.ensures in
+    record {
+      goes = went_on g.D.Device c.args.self.now c.make_log_room.new.self _ h.ends h.count_stays;
+      sound = h.sound;
+      keeps = h.keeps;
+      log = h.log;
+      steps = h.steps;
+    }
 
 pub returns-in_err-flush_step-clause-stepped : goal.returns-in_err-flush_step-clause-stepped
 returns-in_err-flush_step-clause-stepped g c = λ s.
@@ -38,14 +56,14 @@ returns-in_err-flush_step-clause-stepped g c = λ s.
 
 pub returns-in_err-flush_step-clause-fails : goal.returns-in_err-flush_step-clause-fails
 returns-in_err-flush_step-clause-fails g c = λ s.
-    let p = err_from_is_err_and c.from_residual.result c.from_residual.ensures.1 in
+    let p = err_from_is_err_and c.from_residual-in_err-flush_step.result c.from_residual-in_err-flush_step.ensures.1 in
     let old = view_of g.D.Device c.args.self.now in
     let new = view_of g.D.Device c.flush_step.new.self in
     let i = c.loop-made.invariant in
     let stepped = has_stepped c.args.command.now c.loop-made._made old new
     (steps_saved c.args.command.now c.loop-made._made old (view_of g.D.Device c.loop-made.self) new (i.steps s) (c.in_err-flush_step.ensures.rest (i.sound s) (λ e. cc)))
     (omega (arith, c.loop-made-test.true)) in
-    rw (p.1, p.2) (step_halts c.in_err-flush_step.field-0.0 c.args.self.now.count c.args.command.now old new c.requires.writes stepped (c.in_err-flush_step.ensures.fails (i.sound s)))
+    rw (p.1, p.2) (step_halts c.in_err-flush_step.field-0.0 c.args.self.now.count c.args.command.now old new c.requires.logged.0 stepped (c.in_err-flush_step.ensures.fails (i.sound s)))
 
 pub returns-then-not-branch-clause-stepped : goal.returns-then-not-branch-clause-stepped
 returns-then-not-branch-clause-stepped g c = λ s.
@@ -64,6 +82,8 @@ loop-made-preserved g c =
     record {
       goes = goes_then g.D.Device c.args.self.now c.loop-made.self c.flush_step.new.self i.goes (went_on g.D.Device c.loop-made.self c.flush_step.new.self _ h.ends h.count_stays);
       sound = λ s. h.sound (i.sound s);
+      keeps = keeps_then g.D.Device c.args.self.now c.loop-made.self c.flush_step.new.self (g.met.D.Device.since_earlier c.loop-made.self.engine.pager.dev) i.keeps h.keeps;
+      log = h.log i.log;
       steps = λ s. steps_then c.args.command.now c.loop-made._made 1 (view_of g.D.Device c.args.self.now) (view_of g.D.Device c.loop-made.self) (view_of g.D.Device c.flush_step.new.self) (i.steps s)
           (h.flushed (i.sound s) (ap Ok c.if-not-branch.false));
     }
@@ -86,7 +106,7 @@ returns-in_err-make_room-clause-fails g c = λ s.
     let stepped = has_stepped c.args.command.now c.loop-made._made old new
     (steps_saved c.args.command.now c.loop-made._made old (view_of g.D.Device c.loop-made.self) new (i.steps s) (c.in_err-make_room.ensures.steps (i.sound s)))
     (omega (arith, c.loop-made.auto._made-end)) in
-    rw (p.1, p.2) (step_halts c.in_err-make_room.field-0.0 c.args.self.now.count c.args.command.now old new c.requires.writes stepped (c.in_err-make_room.ensures.fails (i.sound s)))
+    rw (p.1, p.2) (step_halts c.in_err-make_room.field-0.0 c.args.self.now.count c.args.command.now old new c.requires.logged.0 stepped (c.in_err-make_room.ensures.fails (i.sound s)))
 
 pub returns-then-root_size-waiting_limit-clause-stepped :
     goal.returns-then-root_size-waiting_limit-clause-stepped
@@ -115,4 +135,34 @@ returns-clause-fails g c = λ s.
     let steps = steps_saved c.args.command.now c.loop-made._made old (view_of g.D.Device c.loop-made.self) new (i.steps s) (c.in_ok-make_room.ensures.steps (i.sound s)) in
     let all : c.loop-made._made ≡ flush_limit = omega (arith, c.loop-made.auto._made-end, c.loop-made-test.false) in
     let waits : waiting_limit c.args.command.now < new.tree.table.size = omega (arith, c.root_size.ensures, c.waiting_limit.ensures, c.if-root_size-waiting_limit.false) in
-    flushes_worn c.args.self.now.count c.args.command.now c.loop-made._made old new c.requires.writes steps all waits
+    flushes_worn c.args.self.now.count c.args.command.now c.loop-made._made old new c.requires.logged.0 steps all waits
+
+pub returns-in_err-flush_step-clause-keeps : goal.returns-in_err-flush_step-clause-keeps
+returns-in_err-flush_step-clause-keeps g c =
+    keeps_then g.D.Device c.args.self.now c.loop-made.self c.flush_step.new.self (g.met.D.Device.since_earlier c.loop-made.self.engine.pager.dev) c.loop-made.invariant.keeps c.in_err-flush_step.ensures.keeps
+
+pub returns-then-not-branch-clause-keeps : goal.returns-then-not-branch-clause-keeps
+returns-then-not-branch-clause-keeps g c =
+    keeps_then g.D.Device c.args.self.now c.loop-made.self c.flush_step.new.self (g.met.D.Device.since_earlier c.loop-made.self.engine.pager.dev) c.loop-made.invariant.keeps c.in_ok-flush_step.ensures.keeps
+
+pub returns-in_err-make_room-clause-keeps : goal.returns-in_err-make_room-clause-keeps
+returns-in_err-make_room-clause-keeps g c =
+    keeps_then g.D.Device c.args.self.now c.loop-made.self c.make_room.new.self (g.met.D.Device.since_earlier c.loop-made.self.engine.pager.dev) c.loop-made.invariant.keeps c.in_err-make_room.ensures.keeps
+
+pub returns-then-root_size-waiting_limit-clause-keeps : goal.returns-then-root_size-waiting_limit-clause-keeps
+returns-then-root_size-waiting_limit-clause-keeps g c =
+    keeps_then g.D.Device c.args.self.now c.loop-made.self c.make_room.new.self (g.met.D.Device.since_earlier c.loop-made.self.engine.pager.dev) c.loop-made.invariant.keeps c.in_ok-make_room.ensures.keeps
+
+pub returns-clause-keeps : goal.returns-clause-keeps
+returns-clause-keeps g c =
+    keeps_then g.D.Device c.args.self.now c.loop-made.self c.make_room.new.self (g.met.D.Device.since_earlier c.loop-made.self.engine.pager.dev) c.loop-made.invariant.keeps c.in_ok-make_room.ensures.keeps
+
+pub returns-in_err-flush_step-clause-ends : goal.returns-in_err-flush_step-clause-ends
+returns-in_err-flush_step-clause-ends g c =
+    let p = err_from_is_err_and c.from_residual-in_err-flush_step.result c.from_residual-in_err-flush_step.ensures.1 in
+    rw (p.1, p.2) (ends_then g.D.Device c.args.self.now c.loop-made.self c.flush_step.new.self _ c.loop-made.invariant.goes (ends_err g.D.Device c.loop-made.self c.flush_step.new.self c.in_err-flush_step.field-0.0 c.in_err-flush_step.ensures.ends))
+
+pub returns-in_err-make_room-clause-ends : goal.returns-in_err-make_room-clause-ends
+returns-in_err-make_room-clause-ends g c =
+    let p = err_from_is_err_and c.from_residual-in_err-make_room.result c.from_residual-in_err-make_room.ensures.1 in
+    rw (p.1, p.2) (ends_then g.D.Device c.args.self.now c.loop-made.self c.make_room.new.self _ c.loop-made.invariant.goes (ends_err g.D.Device c.loop-made.self c.make_room.new.self c.in_err-make_room.field-0.0 c.in_err-make_room.ensures.ends))

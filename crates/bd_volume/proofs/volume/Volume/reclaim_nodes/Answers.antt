@@ -1,8 +1,8 @@
 -- A checkpoint, all changes, and a last checkpoint.
 use Rattle.std.proofs.lemmas.Result.{err_from_is_err_and, on_ok_weaker}
-use Rattle.bd_volume.specs.declared.volume.Volume.{Volume}
 use Rattle.bd_volume.specs.Volume.{view_of}
 use Rattle.bd_volume.proofs.Called.{went_on, goes_then, ends_then}
+use Rattle.bd_volume.proofs.Keeping.{keeps_then}
 use Rattle.bd_volume.proofs.Reclaimed.{is_reclaim, first_fails, save_shows, between_fails, between_shows, lasts_fail, saves_show}
 use Rattle.bd_volume.proofs.volume.Volume.reclaim_nodes.Goals as goal
 
@@ -33,8 +33,13 @@ returns-in_err-change_all-clause-fails g c =
     rw (p.1, p.2) (λ t n s. between_fails c.in_err-change_all.field-0.0 (view_of g.D.Device c.args.self.now) (view_of g.D.Device c.checkpoint.new.self) (view_of g.D.Device c.change_all.new.self)
     (h.saves t n s) (c.in_err-change_all.ensures.fails (h.stays t n s).nodes))
 
-pub returns-in_err-change_all-clause-stands : goal.returns-in_err-change_all-clause-stands
-returns-in_err-change_all-clause-stands g c = λ t n s. c.in_err-change_all.ensures.stands t n (c.in_ok-checkpoint.ensures.stays t n s)
+pub returns-in_err-checkpoint-clause-keeps : goal.returns-in_err-checkpoint-clause-keeps
+returns-in_err-checkpoint-clause-keeps g c = λ t n s. record { stands = c.in_err-checkpoint.ensures.stays t n s; time = c.in_err-checkpoint.ensures.time t n s }
+
+pub returns-in_err-change_all-clause-keeps : goal.returns-in_err-change_all-clause-keeps
+returns-in_err-change_all-clause-keeps g c =
+    let h = c.in_ok-checkpoint.ensures in
+    keeps_then g.D.Device c.args.self.now c.checkpoint.new.self c.change_all.new.self (g.met.D.Device.since_earlier c.checkpoint.new.self.engine.pager.dev) (λ t n s. record { stands = h.stays t n s; time = h.time t n s }) c.in_err-change_all.ensures.keeps
 
 pub returns-in_err-change_all-clause-shows : goal.returns-in_err-change_all-clause-shows
 returns-in_err-change_all-clause-shows g c =
@@ -53,7 +58,7 @@ returns-clause-reclaims g c =
     let h = c.in_ok-checkpoint.ensures in
     let k = c.in_ok-change_all.ensures in
     on_ok_weaker c.checkpoint-2.result (λ saves t n s. is_reclaim (view_of g.D.Device c.args.self.now) (view_of g.D.Device c.checkpoint.new.self) (view_of g.D.Device c.change_all.new.self) (view_of g.D.Device c.checkpoint-2.new.self)
-    (h.saves t n s) (k.changes (h.stays t n s).nodes) (saves t n (k.stands t n (h.stays t n s)))) c.checkpoint-2.ensures.saves
+    (h.saves t n s) (k.changes (h.stays t n s).nodes) (saves t n (k.keeps t n (h.stays t n s)).stands)) c.checkpoint-2.ensures.saves
 
 pub returns-clause-fails : goal.returns-clause-fails
 returns-clause-fails g c =
@@ -61,15 +66,19 @@ returns-clause-fails g c =
     let k = c.in_ok-change_all.ensures in
     let l = c.checkpoint-2.ensures in
     lasts_fail g.D.Device c.checkpoint-2.result c.args.self.now c.checkpoint.new.self c.change_all.new.self c.checkpoint-2.new.self
-    (λ t n s. (h.saves t n s, k.changes (h.stays t n s).nodes, k.stands t n (h.stays t n s)))
+    (λ t n s. (h.saves t n s, k.changes (h.stays t n s).nodes, (k.keeps t n (h.stays t n s)).stands))
     (record { going = k.ends.stop.ok.stop_is; unmoved = l.unmoved; full = l.full; wears = l.wears; undamaged = l.undamaged; cause = l.cause })
 
-pub returns-clause-stands : goal.returns-clause-stands
-returns-clause-stands g c = λ t n s. c.checkpoint-2.ensures.stays t n (c.in_ok-change_all.ensures.stands t n (c.in_ok-checkpoint.ensures.stays t n s))
+pub returns-clause-keeps : goal.returns-clause-keeps
+returns-clause-keeps g c =
+    let h = c.in_ok-checkpoint.ensures in
+    let l = c.checkpoint-2.ensures in
+    let first = keeps_then g.D.Device c.args.self.now c.checkpoint.new.self c.change_all.new.self (g.met.D.Device.since_earlier c.checkpoint.new.self.engine.pager.dev) (λ t n s. record { stands = h.stays t n s; time = h.time t n s }) c.in_ok-change_all.ensures.keeps in
+    keeps_then g.D.Device c.args.self.now c.change_all.new.self c.checkpoint-2.new.self (g.met.D.Device.since_earlier c.change_all.new.self.engine.pager.dev) first (λ t n s. record { stands = l.stays t n s; time = l.time t n s })
 
 pub returns-clause-kept : goal.returns-clause-kept
 returns-clause-kept g c =
-    on_ok_weaker c.checkpoint-2.result (λ kept t n s. kept t n (c.in_ok-change_all.ensures.stands t n (c.in_ok-checkpoint.ensures.stays t n s))) c.checkpoint-2.ensures.kept
+    on_ok_weaker c.checkpoint-2.result (λ kept t n s. kept t n ((c.in_ok-change_all.ensures.keeps t n (c.in_ok-checkpoint.ensures.stays t n s)).stands)) c.checkpoint-2.ensures.kept
 
 pub returns-clause-shows : goal.returns-clause-shows
 returns-clause-shows g c =

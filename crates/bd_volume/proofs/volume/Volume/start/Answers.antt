@@ -1,15 +1,96 @@
--- Where no batch is open, the last checkpoint has the tree.
-use Rattle.std.proofs.Common.{Option, subst}
+-- A volume starts from what is found, and replays it.
+use Rattle.std.proofs.Common.{length, List, [], ℕ, sym, subst, ap, ◌∙◌}
+use Rattle.std.specs.List.{concat}
+use Rattle.std.proofs.lemmas.Result.{err_from_is_err_and}
 use Rattle.std.specs.Prelude.{IfSome}
-use Rattle.bd_device.specs.Blocks.{Image}
-use Rattle.bd_super.specs.Live.{IsLive}
+use Rattle.bd_model.specs.Tree.{Tree}
+use Rattle.bd_device.proofs.Calls.{reads_then}
+use Rattle.bd_device.specs.Device.{OnlyReads}
+use Rattle.bd_image.specs.ImageTree.{ImageStandsFor}
+use Rattle.bd_log.specs.Logs.{LogState}
+use Rattle.bd_checkpoint.specs.declared.commands.PlacedCommand.{PlacedCommand}
+use Rattle.bd_checkpoint.specs.Recovering.{OnlySettles, HasSettled}
+use Rattle.bd_checkpoint.proofs.Causes.{reads_settle, settled_then}
 use Rattle.bd_volume.specs.declared.volume.Volume.{Volume}
-use Rattle.bd_volume.proofs.Started.{started_for}
+use Rattle.bd_volume.specs.Faults.{IsStartCause}
+use Rattle.bd_volume.specs.Replays.{ReplaysFront, StopsReplaying}
+use Rattle.bd_volume.specs.Volume.{StandsFor, IsFirstView, view_of, device_of, stop_of}
+use Rattle.bd_volume.proofs.Started.{open_cause, unworn, started_for, without_walk_stands, first_views, replay_cause, replay_undamaged, replay_wears}
 use Rattle.bd_volume.proofs.volume.Volume.start.Goals as goal
 
-pub returns-clause-stands : goal.returns-clause-stands
-returns-clause-stands g c = λ t n h.
+pub returns-in_err-engine-clause-cause : goal.returns-in_err-engine-clause-cause
+returns-in_err-engine-clause-cause g c =
+    let p = err_from_is_err_and c.from_residual.result c.from_residual.ensures.1 in
+    let r = c.in_err-engine.field-0.0 in
+    rw p.1 (open_cause g.D.Device c.args.device r.device p.0.device r.fault p.0.fault p.2.0 p.2.1 c.in_err-engine.ensures.cause)
+
+pub returns-in_err-engine-clause-wears : goal.returns-in_err-engine-clause-wears
+returns-in_err-engine-clause-wears g c = λ t n.
+    let p = err_from_is_err_and c.from_residual.result c.from_residual.ensures.1 in
+    rw p.1 (unworn (g.D.Device.contents c.args.device) c.in_err-engine.field-0.0.fault p.0.fault p.2.0 t n)
+
+pub returns-in-Ok-clause-stands : goal.returns-in-Ok-clause-stands
+returns-in-Ok-clause-stands g c = λ t n h.
     let e = c.in_ok-engine.ensures in
-    let v : Volume g.row.D.Denot = record { engine = c.in_ok-engine.field-0.engine; count = c.saved_count-count.result } in
-    let live = subst (λ (o : Option Image). IfSome o (λ image. IsLive image v.engine.live)) e.reads.kept (c.live_is_shown.ensures e.going) in
-    started_for g.D.Device v (g.D.Device.contents c.args.device) c.in_ok-engine.field-0.commands.items t n c.one_superblock_is_live.ensures c.batches_are_one.ensures c.saved_count-count.ensures live (e.replay t n) h
+    let a : Volume g.row.D.Denot = record { engine = c.in_ok-engine.field-0.engine; count = c.saved_count-count.result } in
+    let k = c.in-Ok.ensures in
+    subst (λ (w : Volume g.row.D.Denot). StandsFor g.D.Device w t n) (sym c.forget_walk.ensures)
+    (without_walk_stands g.D.Device c.replay.new.self t n (started_for g.D.Device c.args.device a c.replay.new.self c.in_ok-engine.field-0.commands.items t n (g.met.D.Device.since_earlier c.replay.new.self.engine.pager.dev) c.saved_count-count.ensures e.idle e.reads e.only k.writes (subst (λ (l : List PlacedCommand). ReplaysFront g.D.Device l [] a c.replay.new.self) c.deref.ensures.value k.replays) (e.replay t n h) h))
+
+pub returns-in-Ok-clause-first : goal.returns-in-Ok-clause-first
+returns-in-Ok-clause-first g c =
+    let e = c.in_ok-engine.ensures in
+    let a : Volume g.row.D.Denot = record { engine = c.in_ok-engine.field-0.engine; count = c.saved_count-count.result } in
+    subst (λ (w : Volume g.row.D.Denot). (t : Tree) (n : ℕ) → IfSome (g.D.Device.contents c.args.device) (λ image. ImageStandsFor t n image → IsFirstView image (view_of g.D.Device w))) (sym c.forget_walk.ensures)
+    (first_views g.D.Device (g.D.Device.contents c.args.device) a c.replay.new.self c.in_ok-engine.field-0.commands.items (subst (λ (l : List PlacedCommand). ReplaysFront g.D.Device l [] a c.replay.new.self) c.deref.ensures.value c.in-Ok.ensures.replays) e.replay e.first)
+
+pub returns-in-Ok-clause-going : goal.returns-in-Ok-clause-going
+returns-in-Ok-clause-going g c = ap (λ (w : Volume g.row.D.Denot). stop_of w) c.forget_walk.ensures ∙ c.in-Ok.ensures.writes.stop_is ∙ c.in_ok-engine.ensures.going
+
+pub returns-in-Ok-clause-idle : goal.returns-in-Ok-clause-idle
+returns-in-Ok-clause-idle g c =
+    ap (λ (w : Volume g.row.D.Denot). length (concat w.engine.log.waiting)) c.forget_walk.ensures
+    ∙ ap (λ (l : LogState). length (concat l.waiting)) c.in-Ok.ensures.writes.log ∙ ap (λ (w : List (List ℕ)). length (concat w)) c.in_ok-engine.ensures.idle
+
+pub returns-in-Ok-clause-settled : goal.returns-in-Ok-clause-settled
+returns-in-Ok-clause-settled g c =
+    subst (λ (w : Volume g.row.D.Denot). HasSettled g.D.Device c.args.device (device_of w)) (sym c.forget_walk.ensures)
+    (settled_then g.D.Device c.args.device c.in_ok-engine.field-0.engine.pager.dev c.replay.new.self.engine.pager.dev c.in_ok-engine.ensures.settled c.in-Ok.ensures.writes.reads)
+
+pub returns-in-Ok-clause-reads : goal.returns-in-Ok-clause-reads
+returns-in-Ok-clause-reads g c =
+    subst (λ (w : Volume g.row.D.Denot). OnlyReads g.D.Device c.args.device (device_of w)) (sym c.forget_walk.ensures)
+    (reads_then c.in_ok-engine.ensures.reads c.in-Ok.ensures.writes.reads)
+
+pub returns-in-Ok-clause-faults : goal.returns-in-Ok-clause-faults
+returns-in-Ok-clause-faults g c =
+    ap (λ (w : Volume g.row.D.Denot). g.D.Device.fault_count (device_of w)) c.forget_walk.ensures ∙ c.in-Ok.ensures.cause.kept ∙ c.in_ok-engine.ensures.faults
+
+pub returns-clause-cause : goal.returns-clause-cause
+returns-clause-cause g c =
+    let e = c.in_ok-engine.ensures in
+    let h = c.in-Err.ensures in
+    let a : Volume g.row.D.Denot = record { engine = c.in_ok-engine.field-0.engine; count = c.saved_count-count.result } in
+    subst (λ (d : g.row.D.Denot). IsStartCause g.D.Device c.args.device d c.in-Err.fault) (sym c.into_device.ensures)
+    (replay_cause g.D.Device c.args.device a c.replay.new.self c.in_ok-engine.field-0.commands.items c.in-Err.fault c.log_records_are_prefix_free.ensures e.known e.stored e.placed e.each e.faults (subst (λ (l : List PlacedCommand). StopsReplaying g.D.Device c.in-Err.fault l a) c.deref.ensures.value h.fails) h.cause.failed)
+
+pub returns-clause-undamaged : goal.returns-clause-undamaged
+returns-clause-undamaged g c = λ t n stands block.
+    let a : Volume g.row.D.Denot = record { engine = c.in_ok-engine.field-0.engine; count = c.saved_count-count.result } in
+    replay_undamaged g.D.Device a c.in_ok-engine.field-0.commands.items c.in-Err.fault block t n (c.in_ok-engine.ensures.replay t n stands) (subst (λ (l : List PlacedCommand). StopsReplaying g.D.Device c.in-Err.fault l a) c.deref.ensures.value c.in-Err.ensures.fails)
+
+pub returns-clause-wears : goal.returns-clause-wears
+returns-clause-wears g c = λ t n.
+    let e = c.in_ok-engine.ensures in
+    let a : Volume g.row.D.Denot = record { engine = c.in_ok-engine.field-0.engine; count = c.saved_count-count.result } in
+    replay_wears g.D.Device (g.D.Device.contents c.args.device) a c.in_ok-engine.field-0.commands.items c.in-Err.fault t n c.saved_count-count.ensures e.placed (e.first t n) (e.replay t n) (subst (λ (l : List PlacedCommand). StopsReplaying g.D.Device c.in-Err.fault l a) c.deref.ensures.value c.in-Err.ensures.fails)
+
+pub returns-clause-left : goal.returns-clause-left
+returns-clause-left g c =
+    subst (λ (d : g.row.D.Denot). OnlySettles g.D.Device c.args.device d) (sym c.into_device.ensures)
+    (reads_settle g.D.Device c.args.device c.replay.new.self.engine.pager.dev (reads_then c.in_ok-engine.ensures.reads c.in-Err.ensures.writes.reads))
+
+pub returns-clause-settles : goal.returns-clause-settles
+returns-clause-settles g c = λ some calm.
+    subst (λ (d : g.row.D.Denot). HasSettled g.D.Device c.args.device d) (sym c.into_device.ensures)
+    (settled_then g.D.Device c.args.device c.in_ok-engine.field-0.engine.pager.dev c.replay.new.self.engine.pager.dev c.in_ok-engine.ensures.settled c.in-Err.ensures.writes.reads)

@@ -1,0 +1,412 @@
+-- Commands of the log, replayed one after the other.
+use Rattle.std.proofs.Common.{◌≡◌, ℕ, ◌+◌, ◌<◌, ◌≤◌, ◌^◌, Bool, false, List, [], ◌∷◌, ◌++◌, length, None, Some, refl, sym, subst, ap, ◌∙◌, inl, inr, arith, lit≤, append_assoc}
+use Rattle.std.specs.Prelude.{Result, Ok, Err, OnOk, IfErr, IsTrue}
+use Rattle.std.proofs.lemmas.List.{length-append}
+use Rattle.bd_limits.specs.Limits.{flush_limit}
+use Rattle.bd_io.specs.Cause.{Rose}
+use Rattle.bd_command.specs.Command.{IsCommand}
+use Rattle.bd_command.specs.Log.{IsLogged}
+use Rattle.bd_command.specs.declared.Command.{Command}
+use Rattle.bd_command.specs.declared.reply.Reply.{Reply}
+use Rattle.bd_command.specs.declared.reply.Reply.TheVariants as reply
+use Rattle.bd_message.specs.declared.message.Message.{Message}
+use Rattle.bd_model.specs.Tree.{Tree}
+use Rattle.bd_model.specs.Step.{refusal_of}
+use Rattle.bd_model.specs.Laws.{Accepts, after}
+use Rattle.bd_model.proofs.TreeStays.{after_stays}
+use Rattle.bd_message.specs.declared.fault.Counter.{Counter}
+use Rattle.bd_message.specs.declared.fault.Counter.TheVariants.{Count, NextId, Level, Refs, Epoch, Flushes}
+use Rattle.bd_message.specs.declared.fault.MapFault.{MapFault}
+use Rattle.bd_message.specs.declared.fault.MapFault.TheVariants as map
+use Rattle.bd_message.specs.KeyMaps.{At, SameAt, IsApplied, IsGrafted, IsCause, HasMapCause, NeverWorn, StaysUnlessDevice}
+use Rattle.bd_device.specs.Device.{OnlyReads}
+use Rattle.bd_device.specs.declared.device.Device.{Ghosts}
+use Rattle.bd_device.proofs.Calls.{reads_then}
+use Rattle.bd_represent.specs.Represents.{Represents}
+use Rattle.bd_represent.proofs.TreeLemmas.{Represents-along}
+use Rattle.bd_dirs.specs.declared.plan.Plan.{Plan}
+use Rattle.bd_dirs.specs.declared.plan.Plan.TheVariants.{Refused, Apply, Graft}
+use Rattle.bd_dirs.specs.Kinds.{kind_of}
+use Rattle.bd_dirs.specs.Plans.{IsPlan, IsPlanKind}
+use Rattle.bd_dirs.specs.Sendings.{Sending, Batch, Move, sending}
+use Rattle.bd_graft.specs.Grafting.{IsWornByGraft, OnWorn}
+use Rattle.bd_effects.specs.Carrying.{accepts, TakesStep}
+use Rattle.bd_effects.proofs.Carried.{done_accepted, applied_plan, grafted_plan}
+use Rattle.bd_effects.proofs.Uncounted.{never_counted}
+use Rattle.bd_checkpoint.specs.declared.commands.PlacedCommand.{PlacedCommand}
+use Rattle.bd_checkpoint.specs.Recovering.{LeadsBy}
+use Rattle.bd_pager.specs.Pagers.{nodes_of, table_of, is_known, is_bad}
+use Rattle.bd_node.specs.Tables.{IsSound}
+use Rattle.bd_view.specs.Trees.{HasSent, TreeView, waiting_limit}
+use Rattle.bd_view.specs.Views.{View, keys_of as view_keys}
+use Rattle.bd_view.specs.Moves.{OnlyNodes, FlushesAgain, AreFlushedAgain, IsReplayed, AreReplayed}
+use Rattle.bd_view.specs.Moves.AreFlushedAgain.{none, more}
+use Rattle.bd_engine.specs.Engines.{EngineState, keys_of, IsSoundOn, IsReadOn, OnlyNodesOn, IsWornIn, view_of as view_in}
+use Rattle.bd_volume.specs.declared.fault.Fault.{Fault}
+use Rattle.bd_volume.specs.declared.fault.Fault.TheVariants.{Device, Damaged, Worn, NoMemory, Full, Stopped}
+use Rattle.bd_volume.specs.declared.volume.Volume.{Volume}
+use Rattle.bd_volume.specs.Faults.{fault_of, HasNotFailed}
+use Rattle.bd_volume.specs.Volume.{view_of, count_of, device_of}
+use Rattle.bd_volume.specs.Wears.{IsWornInReplay}
+use Rattle.bd_volume.specs.Replays.{IsReadCause, WritesNothing, HasReadCause, HasTreeOn, SendsAgain, ReplaysOn, IsWornAgain, WearsAgain, HasFlushedAgain, IsFlushFault, IsAgainFault, IsSendFault, IsReplayFault, commands_of, HasReplayed, ReplaysFront}
+use Rattle.bd_volume.proofs.Faulted.{worn_in_step, worn_kind, worn_graft_again}
+use Rattle.bd_volume.proofs.Read.{read_sound, read_same}
+
+-- ---- flush steps
+
+pub again_same : (c : Command) (n : ℕ) (a b d : View) → AreFlushedAgain c n a b → d ≡ b → AreFlushedAgain c n a d
+again_same c n a b d p same = subst (λ (v : View). AreFlushedAgain c n a v) (sym same) p
+
+-- a counter that has no room for the next one has none for the command
+worn_again : (which : Counter) (count : ℕ) (c : Command) (made : ℕ) (v : TreeView) → IsWornAgain which c v → IsWornInReplay which count c made v
+worn_again Count count c made v h = absurd h
+worn_again NextId count c made v h = inl (record { waits = h.waits; worn = h.worn })
+worn_again Level count c made v h = inl (record { waits = h.waits; worn = h.worn })
+worn_again Refs count c made v h = inl (record { waits = h.waits; worn = h.worn })
+worn_again Epoch count c made v h = absurd h
+worn_again Flushes count c made v h = absurd h
+
+pub all_flushed : (count : ℕ) (c : Command) (made : ℕ) (a b : View) → AreFlushedAgain c made a b → made ≡ flush_limit → waiting_limit c < b.tree.table.size → WearsAgain Flushes count c a
+all_flushed count c made a b p all waits = record { made = made; last = b; flushed = p; few = omega (arith, all); worn = record { waits = waits; worn = all } }
+
+-- ---- one command
+
+pub replayed_view : (t : Tree) (c : Command) (what : Sending) (a b : View) → SendsAgain c what a b → sending (view_keys a) t c ≡ what → IsReplayed t c a b
+replayed_view t c what a b h is = record {
+  made = h.made;
+  mid = h.mid;
+  flushed = h.flushed;
+  few = h.few;
+  enough = h.enough;
+  sent = subst (λ (x : Sending). HasSent x h.mid.tree b.tree) (sym is) h.sent;
+  rest = h.rest;
+}
+
+-- ---- several commands
+
+-- the tree that a command follows is one
+pub leads_one : (list : List PlacedCommand) (t u v : Tree) → LeadsBy list t u → LeadsBy list t v → u ≡ v
+leads_one [] t u v h k = sym h ∙ k
+leads_one (p ∷ ps) t u v h k = leads_one ps (after t p.command) u v h.1 k.1
+
+pub leads_last : (list : List PlacedCommand) (p : PlacedCommand) (t u : Tree) → LeadsBy list t u → Accepts u p.command → LeadsBy (list ++ p ∷ []) t (after u p.command)
+leads_last [] p t u h accepts = (subst (λ (x : Tree). Accepts x p.command) (sym h) accepts, ap (λ (x : Tree). after x p.command) h)
+leads_last (q ∷ qs) p t u h accepts = (h.0, leads_last qs p (after t q.command) u h.1 accepts)
+
+-- one that comes after others is accepted in its turn
+pub leads_next : (list : List PlacedCommand) (p : PlacedCommand) (rest : List PlacedCommand) (t u v : Tree) → LeadsBy (list ++ p ∷ rest) t v → LeadsBy list t u → Accepts u p.command
+leads_next [] p rest t u v h k = subst (λ (x : Tree). Accepts x p.command) k h.0
+leads_next (q ∷ qs) p rest t u v h k = leads_next qs p rest (after t q.command) u v h.1 k.1
+
+replayed_last : (list : List PlacedCommand) (p : PlacedCommand) (t u : Tree) (a b d : View) → LeadsBy list t u → AreReplayed t (commands_of list) a b → IsReplayed u p.command b d → AreReplayed t (commands_of (list ++ p ∷ [])) a d
+replayed_last [] p t u a b d leads views one =
+    (d, subst (λ (v : View). IsReplayed t p.command v d) views (subst (λ (x : Tree). IsReplayed x p.command b d) (sym leads) one), refl)
+replayed_last (q ∷ qs) p t u a b d leads views one = (views.0, views.1, replayed_last qs p (after t q.command) u views.0 b d leads.1 views.2 one)
+
+-- a plan that isn't done is a refusal
+pub not_accepted : (at : At) (t : Tree) (c : Command) (plan : Plan) → accepts plan ≡ false → IsPlan at t c plan → ¬ Accepts t c
+not_accepted at t c (Refused refusal) off h = λ accepts.
+    let some : refusal_of t c ≡ Some refusal = h in
+    let none : refusal_of t c ≡ None = accepts in
+    cc
+not_accepted at t c (Apply list) off h = λ accepts. cc
+not_accepted at t c (Graft s d keep) off h = λ accepts. cc
+
+module _ {D : Type 0} (g : Ghosts D) where
+  -- ---- calls that write nothing
+
+  pub reads_none : (a : D) → OnlyReads g a a
+  reads_none a = record {
+    kept = refl;
+    count = refl;
+    write_faults = refl;
+    time = record { later = omega arith; keeps = λ u c le left. left; adds = λ u c le left. inl left };
+    same_name = λ name was. was;
+    same_loans = refl;
+  }
+
+  pub writes_none : (a : Volume D) → WritesNothing g a a
+  writes_none a = record { reads = reads_none (device_of a); log = refl; live = refl; stop_is = refl }
+
+  pub writes_then : (a b d : Volume D) → WritesNothing g a b → WritesNothing g b d → WritesNothing g a d
+  writes_then a b d p q = record {
+    reads = reads_then p.reads q.reads;
+    log = q.log ∙ p.log;
+    live = q.live ∙ p.live;
+    stop_is = q.stop_is ∙ p.stop_is;
+  }
+
+  -- calls of the engine
+  pub reads_write : (a b : Volume D) → IsReadOn g a.engine b.engine → WritesNothing g a b
+  reads_write a b r = record {
+    reads = r.read.device;
+    log = ap (λ (e : EngineState D). e.log) r.rest;
+    live = ap (λ (e : EngineState D). e.live) r.rest;
+    stop_is = ap (λ (e : EngineState D). e.stop) r.rest;
+  }
+
+  pub nodes_write : (a b : Volume D) → OnlyNodesOn g a.engine b.engine → WritesNothing g a b
+  nodes_write a b r = record {
+    reads = r.keeps.device;
+    log = ap (λ (e : EngineState D). e.log) r.rest;
+    live = ap (λ (e : EngineState D). e.live) r.rest;
+    stop_is = ap (λ (e : EngineState D). e.stop) r.rest;
+  }
+
+  -- ---- whether the device failed
+
+  read_cause_then : (a b d : Volume D) (fault : Fault) → HasNotFailed g a b → IsReadCause g b d fault → IsReadCause g a d fault
+  read_cause_then a b d Device same h = subst (λ (n : ℕ). Rose n (g.fault_count (device_of d))) same h
+  read_cause_then a b d (Damaged block) same h = h ∙ same
+  read_cause_then a b d (Worn which) same h = h ∙ same
+  read_cause_then a b d NoMemory same h = h ∙ same
+  read_cause_then a b d (Full free need) same h = h
+  read_cause_then a b d (Stopped call) same h = h
+
+  -- after a call that was Ok
+  pub cause_then : {T : Type 0} (r : Result T Fault) (a b d : Volume D) → HasNotFailed g a b → HasReadCause g b d r → HasReadCause g a d r
+  cause_then (Ok x) a b d same h = record { kept = h.kept ∙ same; failed = tt }
+  cause_then (Err e) a b d same h = record { kept = tt; failed = read_cause_then a b d e same h.failed }
+
+  pub cause_ok : {T : Type 0} (a b : Volume D) (x : T) → HasNotFailed g a b → HasReadCause {T = T} g a b (Ok x)
+  cause_ok a b x same = record { kept = same; failed = tt }
+
+  pub cause_worn : {T : Type 0} (a b : Volume D) (which : Counter) → HasNotFailed g a b → HasReadCause {T = T} g a b (Err (Worn which))
+  cause_worn a b which same = record { kept = tt; failed = same }
+
+  pub cause_damaged : {T : Type 0} (a b : Volume D) (block : ℕ) → HasNotFailed g a b → HasReadCause {T = T} g a b (Err (Damaged block))
+  cause_damaged a b block same = record { kept = tt; failed = same }
+
+  map_read_cause : (a b : Volume D) (worn : Counter → Type 0) (fault : MapFault) → StaysUnlessDevice (g.fault_count (device_of a)) (g.fault_count (device_of b)) fault
+      → IsCause (g.fault_count (device_of a)) (g.fault_count (device_of b)) (is_bad g b.engine.pager) worn fault → IsReadCause g a b (fault_of fault)
+  map_read_cause a b worn map.DeviceFault stays h = h
+  map_read_cause a b worn (map.Damaged block) stays h = stays
+  map_read_cause a b worn (map.Worn which) stays h = stays
+  map_read_cause a b worn map.NoMemory stays h = stays
+
+  -- a call of the engine failed
+  pub cause_map : {T U : Type 0} (a b : Volume D) (worn : Counter → Type 0) (fault : MapFault) → HasMapCause {T = U} (g.fault_count (device_of a)) (g.fault_count (device_of b)) (is_bad g b.engine.pager) worn (Err fault) → HasReadCause {T = T} g a b (Err (fault_of fault))
+  cause_map a b worn fault h = record { kept = tt; failed = map_read_cause a b worn fault h.stays h.failed }
+
+  -- ---- faults
+
+  worn_in_again : (a : Volume D) (which : Counter) (c : Command) → is_known g a.engine.pager → waiting_limit c < (table_of a.engine.pager).size → IsWornIn g a.engine.pager which → IsWornAgain which c (view_of g a).tree
+  worn_in_again a Count c known waits h = worn_in_step g a Count c known waits h
+  worn_in_again a NextId c known waits h = worn_in_step g a NextId c known waits h
+  worn_in_again a Level c known waits h = worn_in_step g a Level c known waits h
+  worn_in_again a Refs c known waits h = worn_in_step g a Refs c known waits h
+  worn_in_again a Epoch c known waits h =
+      never_counted (is_known g a.engine.pager × IsSound (nodes_of g a.engine.pager) (table_of a.engine.pager)) (view_of g a).tree Epoch (λ step w. w) (λ e. cc) h
+  worn_in_again a Flushes c known waits h = worn_in_step g a Flushes c known waits h
+
+  -- of a flush step
+  pub flush_again_fails : (m n : ℕ) (a b : Volume D) (c : Command) (fault : MapFault) → waiting_limit c < (table_of a.engine.pager).size → (IsSoundOn g a.engine.pager → IsSoundOn g b.engine.pager)
+      → (IsSoundOn g b.engine.pager → (block : ℕ) → ¬ is_bad g b.engine.pager block) → IsCause m n (is_bad g b.engine.pager) (IsWornIn g a.engine.pager) fault → IsFlushFault g (fault_of fault) c a
+  flush_again_fails m n a b c map.DeviceFault waits sound good h = tt
+  flush_again_fails m n a b c (map.Damaged block) waits sound good h = λ s. good (sound s) block h
+  flush_again_fails m n a b c (map.Worn which) waits sound good h = λ s. worn_in_again a which c s.known waits h
+  flush_again_fails m n a b c map.NoMemory waits sound good h = tt
+
+  -- after other flush steps
+  pub flushes_fail : (fault : Fault) (c : Command) (a b : Volume D) (made : ℕ) → (IsSoundOn g a.engine.pager → IsSoundOn g b.engine.pager) → (IsSoundOn g a.engine.pager → AreFlushedAgain c made (view_of g a) (view_of g b)) → made ≤ flush_limit
+      → IsFlushFault g fault c b → IsAgainFault g fault c a
+  flushes_fail Device c a b made sound flushed few h = tt
+  flushes_fail (Damaged block) c a b made sound flushed few h = λ s. h (sound s)
+  flushes_fail (Worn which) c a b made sound flushed few h = λ s. record {
+    made = made;
+    last = view_of g b;
+    flushed = flushed s;
+    few = few;
+    worn = worn_again which (count_of a) c made (view_of g b).tree (h (sound s));
+  }
+  flushes_fail NoMemory c a b made sound flushed few h = tt
+  flushes_fail (Full free need) c a b made sound flushed few h = h
+  flushes_fail (Stopped call) c a b made sound flushed few h = h
+
+  -- ---- flush steps of a command of the log
+
+  -- so many were made
+  pub record FlushedOn (c : Command) (made : ℕ) (a b : Volume D) : Type 0 where
+    pub sound : IsSoundOn g a.engine.pager → IsSoundOn g b.engine.pager
+    pub same : IsSoundOn g a.engine.pager → SameAt (keys_of g a.engine.pager) (keys_of g b.engine.pager)
+    pub flushed : IsSoundOn g a.engine.pager → AreFlushedAgain c made (view_of g a) (view_of g b)
+    pub writes : WritesNothing g a b
+    pub faults : HasNotFailed g a b
+    pub count_is : count_of b ≡ count_of a
+
+  pub flushed_none : (c : Command) (a : Volume D) → FlushedOn c 0 a a
+  flushed_none c a = record { sound = λ s. s; same = λ s k. refl; flushed = λ s. none (view_of g a); writes = writes_none a; faults = refl; count_is = refl }
+
+  pub flushed_more : (c : Command) (made : ℕ) (a b d : Volume D) → FlushedOn c made a b → (IsSoundOn g b.engine.pager → IsSoundOn g d.engine.pager) → (IsSoundOn g b.engine.pager → SameAt (keys_of g b.engine.pager) (keys_of g d.engine.pager))
+      → (IsSoundOn g b.engine.pager → FlushesAgain c (view_of g b) (view_of g d)) → WritesNothing g b d → HasNotFailed g b d → count_of d ≡ count_of b → FlushedOn c (made + 1) a d
+  flushed_more c made a b d h sound same step writes faults count = record {
+    sound = λ s. sound (h.sound s);
+    same = λ s k. same (h.sound s) k ∙ h.same s k;
+    flushed = λ s. more made (view_of g a) (view_of g b) (view_of g d) (h.flushed s) (step (h.sound s));
+    writes = writes_then a b d h.writes writes;
+    faults = faults ∙ h.faults;
+    count_is = count ∙ h.count_is;
+  }
+
+  -- no more was
+  pub flushed_last : (c : Command) (made : ℕ) (a b d : Volume D) → FlushedOn c made a b → (IsSoundOn g b.engine.pager → IsSoundOn g d.engine.pager) → (IsSoundOn g b.engine.pager → SameAt (keys_of g b.engine.pager) (keys_of g d.engine.pager))
+      → view_of g d ≡ view_of g b → WritesNothing g b d → HasNotFailed g b d → count_of d ≡ count_of b → FlushedOn c made a d
+  flushed_last c made a b d h sound same view writes faults count = record {
+    sound = λ s. sound (h.sound s);
+    same = λ s k. same (h.sound s) k ∙ h.same s k;
+    flushed = λ s. again_same c made (view_of g a) (view_of g b) (view_of g d) (h.flushed s) view;
+    writes = writes_then a b d h.writes writes;
+    faults = faults ∙ h.faults;
+    count_is = count ∙ h.count_is;
+  }
+
+  pub has_flushed : (c : Command) (made : ℕ) (a b : Volume D) → FlushedOn c made a b → made ≤ flush_limit → IsSoundOn g a.engine.pager → HasFlushedAgain c (view_of g a) (view_of g b)
+  has_flushed c made a b h few = λ s. record { made = made; flushed = h.flushed s; few = few }
+
+  -- ---- faults of what it sends
+
+  -- of its messages
+  pub append_fails : (m n : ℕ) (a d : Volume D) (c : Command) (fault : MapFault) → (IsSoundOn g a.engine.pager → IsSoundOn g d.engine.pager) → (IsSoundOn g d.engine.pager → (block : ℕ) → ¬ is_bad g d.engine.pager block)
+      → IsCause m n (is_bad g d.engine.pager) NeverWorn fault → IsAgainFault g (fault_of fault) c a
+  append_fails m n a d c map.DeviceFault sound good h = tt
+  append_fails m n a d c (map.Damaged block) sound good h = λ s. good (sound s) block h
+  append_fails m n a d c (map.Worn which) sound good h = absurd h
+  append_fails m n a d c map.NoMemory sound good h = tt
+
+  -- of its graft
+  pub graft_fails : (m n : ℕ) (worn : Counter → Type 0) (a b d : Volume D) (c : Command) (s1 d1 : List ℕ) (keep : Bool) (fault : MapFault) → IsPlanKind c (Graft s1 d1 keep) → (IsSoundOn g a.engine.pager → IsSoundOn g b.engine.pager) → (IsSoundOn g b.engine.pager → IsSoundOn g d.engine.pager)
+      → (IsSoundOn g d.engine.pager → (block : ℕ) → ¬ is_bad g d.engine.pager block) → (IsSoundOn g a.engine.pager → HasFlushedAgain c (view_of g a) (view_of g b)) → (table_of b.engine.pager).size ≤ waiting_limit c
+      → IsCause m n (is_bad g d.engine.pager) worn fault → (IsSoundOn g b.engine.pager → OnWorn (IsWornByGraft (nodes_of g b.engine.pager) (table_of b.engine.pager) s1 d1 keep) fault) → IsAgainFault g (fault_of fault) c a
+  graft_fails m n worn a b d c s1 d1 keep map.DeviceFault kind sound last good flushed enough h by = tt
+  graft_fails m n worn a b d c s1 d1 keep (map.Damaged block) kind sound last good flushed enough h by = λ s. good (last (sound s)) block h
+  graft_fails m n worn a b d c s1 d1 keep (map.Worn which) kind sound last good flushed enough h by = λ s.
+      let v : View = view_of g b in
+      record {
+        made = (flushed s).made;
+        last = v;
+        flushed = (flushed s).flushed;
+        few = (flushed s).few;
+        worn = worn_graft_again which (count_of a) c (flushed s).made v.tree s1 d1 keep (by (sound s)) (worn_kind (kind_of c) which c v.tree s1 d1 keep kind enough (by (sound s)));
+      }
+  graft_fails m n worn a b d c s1 d1 keep map.NoMemory kind sound last good flushed enough h by = tt
+
+  -- of what is planned
+  pub sends_fail : {T : Type 0} (r : Result T Fault) (p : PlacedCommand) (plan : Plan) (a : Volume D) → IfErr r (λ fault. IsAgainFault g fault p.command a) → IfErr r (λ fault. IsSendFault g fault p plan a)
+  sends_fail (Ok x) p plan a h = tt
+  sends_fail (Err Device) p plan a h = tt
+  sends_fail (Err (Damaged block)) p plan a h = inr h
+  sends_fail (Err (Worn which)) p plan a h = h
+  sends_fail (Err NoMemory) p plan a h = tt
+  sends_fail (Err (Full free need)) p plan a h = h
+  sends_fail (Err (Stopped call)) p plan a h = h
+
+  -- of one command
+  pub replay_fails : (fault : Fault) (p : PlacedCommand) (plan : Plan) (a b : Volume D) → IsReadOn g a.engine b.engine → count_of b ≡ count_of a → ((t : Tree) → HasTreeOn g a t → IsPlan (keys_of g a.engine.pager) t p.command plan) → IsSendFault g fault p plan b → IsReplayFault g fault p a
+  replay_fails Device p plan a b read count planned h = tt
+  replay_fails (Damaged block) p plan a b read count planned h = elim h [
+    | inl refused ↦ inl (refused.0, λ t has. not_accepted (keys_of g a.engine.pager) t p.command plan refused.1 (planned t has))
+    | inr bad ↦ inr (λ s. bad (read_sound g a.engine b.engine read s))
+  ]
+  replay_fails (Worn which) p plan a b read count planned h = λ s.
+      subst (λ (v : View). WearsAgain which (count_of a) p.command v) read.view
+      (subst (λ (n : ℕ). WearsAgain which n p.command (view_of g b)) count (h (read_sound g a.engine b.engine read s)))
+  replay_fails NoMemory p plan a b read count planned h = tt
+  replay_fails (Full free need) p plan a b read count planned h = h
+  replay_fails (Stopped call) p plan a b read count planned h = h
+
+  -- of planning it
+  pub plan_fails : (m n : ℕ) (a b : Volume D) (p : PlacedCommand) (fault : MapFault) → IsReadOn g a.engine b.engine → (IsSoundOn g b.engine.pager → (block : ℕ) → ¬ is_bad g b.engine.pager block) → IsCause m n (is_bad g b.engine.pager) NeverWorn fault → IsReplayFault g (fault_of fault) p a
+  plan_fails m n a b p map.DeviceFault read good h = tt
+  plan_fails m n a b p (map.Damaged block) read good h = inr (λ s. good (read_sound g a.engine b.engine read s) block h)
+  plan_fails m n a b p (map.Worn which) read good h = absurd h
+  plan_fails m n a b p map.NoMemory read good h = tt
+
+  pub count_again : (count : ℕ) (c : Command) (v : View) → 2 ^ 64 ≤ count + 1 → WearsAgain Count count c v
+  count_again count c v full = record { made = 0; last = v; flushed = none v; few = lit≤ tt; worn = full }
+
+  -- ---- one command
+
+  pub read_has : (a b : Volume D) (t : Tree) → IsReadOn g a.engine b.engine → HasTreeOn g a t → HasTreeOn g b t
+  read_has a b t read h = record {
+    nodes = read_sound g a.engine b.engine read h.nodes;
+    is_tree = h.is_tree;
+    represents = Represents-along (keys_of g a.engine.pager) (keys_of g b.engine.pager) t (λ k key. read_same g a.engine b.engine read k) h.represents;
+  }
+
+  pub sends_again : (c : Command) (what : Sending) (a b d : View) → HasFlushedAgain c a b → b.tree.table.size ≤ waiting_limit c → HasSent what b.tree d.tree → OnlyNodes b d → SendsAgain c what a d
+  sends_again c what a b d h enough sent rest = record { made = h.made; mid = b; flushed = h.flushed; few = h.few; enough = enough; sent = sent; rest = rest }
+
+  pub has_replayed : (a d : Volume D) (t : Tree) (c : Command) (what : Sending) (plan : Plan) (reply : Reply) → IsCommand c → IsTrue (accepts plan) → IsPlan (keys_of g a.engine.pager) t c plan → sending (keys_of g a.engine.pager) t c ≡ what
+      → HasTreeOn g a t → IsSoundOn g d.engine.pager → TakesStep t c (keys_of g d.engine.pager) reply → SendsAgain c what (view_of g a) (view_of g d) → ReplaysOn g t c a d
+  has_replayed a d t c what plan reply limits does h is has sound takes sends = record {
+    accepts = done_accepted (keys_of g a.engine.pager) t c plan does h;
+    has = record { nodes = sound; is_tree = after_stays t c has.is_tree limits; represents = takes.represents };
+    view = replayed_view t c what (view_of g a) (view_of g d) sends is;
+  }
+
+  -- after reads, and also once it is counted
+  pub replays_read : (a b d e : Volume D) (t : Tree) (c : Command) → IsReadOn g a.engine b.engine → e.engine ≡ d.engine → ReplaysOn g t c b d → ReplaysOn g t c a e
+  replays_read a b d e t c read same h = record {
+    accepts = h.accepts;
+    has = record {
+      nodes = subst (λ (x : EngineState D). IsSoundOn g x.pager) (sym same) h.has.nodes;
+      is_tree = h.has.is_tree;
+      represents = subst (λ (x : EngineState D). Represents (keys_of g x.pager) (after t c)) (sym same) h.has.represents;
+    };
+    view = subst (λ (v : View). IsReplayed t c v (view_of g e)) read.view (subst (λ (x : EngineState D). IsReplayed t c (view_of g b) (view_in g x)) (sym same) h.view);
+  }
+
+  -- by results
+  pub replays_messages : {T : Type 0} (r : Result T Fault) (a d : Volume D) (t : Tree) (c : Command) (plan : Plan) (list sent : List Message) → IsLogged c → plan ≡ Apply list → sent ≡ list → IsPlan (keys_of g a.engine.pager) t c plan → HasTreeOn g a t → IsSoundOn g d.engine.pager
+      → OnOk r (SendsAgain c (Batch sent) (view_of g a) (view_of g d)) → OnOk r (IsApplied (keys_of g a.engine.pager) sent (keys_of g d.engine.pager)) → OnOk r (ReplaysOn g t c a d)
+  replays_messages (Err e) a d t c plan list sent logged is same h has sound sends applied = tt
+  replays_messages (Ok x) a d t c plan list sent logged is same h has sound sends applied =
+      let old : At = keys_of g a.engine.pager in
+      let new : At = keys_of g d.engine.pager in
+      let p : IsPlan old t c (Apply list) = subst (IsPlan old t c) is h in
+      has_replayed a d t c (Batch sent) plan reply.Done logged.1 (ap accepts is) h (p.2 ∙ ap Batch (sym same)) has sound
+      (applied_plan old new t c plan list logged.0 is h (subst (λ (xs : List Message). IsApplied old xs new) same applied)) sends
+
+  pub replays_graft : {T : Type 0} (r : Result T Fault) (a d : Volume D) (t : Tree) (c : Command) (plan : Plan) (s1 d1 s2 d2 : List ℕ) (keep : Bool) → IsLogged c → plan ≡ Graft s1 d1 keep → s2 ≡ s1 → d2 ≡ d1 → IsPlan (keys_of g a.engine.pager) t c plan → HasTreeOn g a t → IsSoundOn g d.engine.pager
+      → OnOk r (SendsAgain c (Move s2 d2 keep) (view_of g a) (view_of g d)) → OnOk r (IsGrafted (keys_of g a.engine.pager) s2 d2 keep (keys_of g d.engine.pager)) → OnOk r (ReplaysOn g t c a d)
+  replays_graft (Err e) a d t c plan s1 d1 s2 d2 keep logged is es ed h has sound sends grafted = tt
+  replays_graft (Ok x) a d t c plan s1 d1 s2 d2 keep logged is es ed h has sound sends grafted =
+      let old : At = keys_of g a.engine.pager in
+      let new : At = keys_of g d.engine.pager in
+      let p : IsPlan old t c (Graft s1 d1 keep) = subst (IsPlan old t c) is h in
+      has_replayed a d t c (Move s2 d2 keep) plan reply.Done logged.1 (ap accepts is) h (p.2 ∙ ap (λ (x : List ℕ). Move x d1 keep) (sym es) ∙ ap (λ (x : List ℕ). Move s2 x keep) (sym ed)) has sound
+      (grafted_plan old new t c plan s1 d1 keep logged.0 is h (subst (λ (k : List ℕ). IsGrafted old k d1 keep new) es (subst (λ (k : List ℕ). IsGrafted old s2 k keep new) ed grafted))) sends
+
+  -- ---- all of them
+
+  pub front_none : (list : List PlacedCommand) (a : Volume D) → ReplaysFront g list list a a
+  front_none list a = record {
+    front = [];
+    there = refl;
+    sound = λ s. s;
+    done = λ t h. record { tree = t; leads = refl; has = h; views = refl };
+    count_is = omega arith;
+  }
+
+  pub front_same : (list rest others : List PlacedCommand) (a b : Volume D) → rest ≡ others → ReplaysFront g list rest a b → ReplaysFront g list others a b
+  front_same list rest others a b same h = subst (λ (l : List PlacedCommand). ReplaysFront g list l a b) same h
+
+  pub front_more : (list rest : List PlacedCommand) (p : PlacedCommand) (a b d : Volume D) → ReplaysFront g list (p ∷ rest) a b → (IsSoundOn g b.engine.pager → IsSoundOn g d.engine.pager)
+      → ((t : Tree) → HasTreeOn g b t → ReplaysOn g t p.command b d) → count_of d ≡ count_of b + 1 → ReplaysFront g list rest a d
+  front_more list rest p a b d h sound one count = record {
+    front = h.front ++ p ∷ [];
+    there = h.there ∙ sym (append_assoc h.front (p ∷ []) rest);
+    sound = λ s. sound (h.sound s);
+    done = λ t has.
+        let was : HasReplayed g t h.front a b = h.done t has in
+        let now : ReplaysOn g was.tree p.command b d = one was.tree was.has in
+        record {
+          tree = after was.tree p.command;
+          leads = leads_last h.front p t was.tree was.leads now.accepts;
+          has = now.has;
+          views = replayed_last h.front p t was.tree (view_of g a) (view_of g b) (view_of g d) was.leads was.views now.view;
+        };
+    count_is =
+        let many : length (h.front ++ p ∷ []) ≡ length h.front + 1 = length-append h.front (p ∷ []) in
+        omega (arith, count, h.count_is, many);
+  }

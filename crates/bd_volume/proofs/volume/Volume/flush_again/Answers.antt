@@ -1,0 +1,82 @@
+-- Each flush step is one more, and a fault comes after those before it.
+use Rattle.std.proofs.Common.{◌≡◌, ◌<◌, ap, ◌∙◌, arith}
+use Rattle.std.specs.Prelude.{Ok}
+use Rattle.std.proofs.lemmas.Result.{err_from_is_err_and}
+use Rattle.bd_limits.specs.Limits.{flush_limit}
+use Rattle.bd_view.specs.Trees.{waiting_limit}
+use Rattle.bd_volume.specs.Volume.{view_of}
+use Rattle.bd_volume.proofs.Replayed.{flushed_none, flushed_more, flushed_last, has_flushed, flushes_fail, all_flushed, writes_then, cause_then, cause_ok, cause_worn}
+use Rattle.bd_volume.proofs.volume.Volume.flush_again.Goals as goal
+
+pub loop-made-init : goal.loop-made-init
+loop-made-init g c = flushed_none g.D.Device c.args.command.now c.args.self.now
+
+pub loop-made-preserved : goal.loop-made-preserved
+loop-made-preserved g c =
+    let h = c.in_ok-flush_once.ensures in
+    flushed_more g.D.Device c.args.command.now c.loop-made._made c.args.self.now c.loop-made.self c.flush_once.new.self c.loop-made.invariant h.sound h.same
+    (λ s. h.flushed s (ap Ok c.if-not-branch.false)) h.writes h.cause.kept h.count_stays
+
+pub returns-in_err-flush_once-clause-fails : goal.returns-in_err-flush_once-clause-fails
+returns-in_err-flush_once-clause-fails g c =
+    let p = err_from_is_err_and c.from_residual.result c.from_residual.ensures.1 in
+    let i = c.loop-made.invariant in
+    rw (p.1, p.2) (flushes_fail g.D.Device c.in_err-flush_once.field-0.0 c.args.command.now c.args.self.now c.loop-made.self c.loop-made._made i.sound i.flushed (omega (arith, c.loop-made-test.true)) c.in_err-flush_once.ensures.fails)
+
+pub returns-in_err-flush_once-clause-same : goal.returns-in_err-flush_once-clause-same
+returns-in_err-flush_once-clause-same g c = λ s.
+    let i = c.loop-made.invariant in
+    let h = c.in_err-flush_once.ensures in
+    (λ k. h.same (i.sound s) k ∙ i.same s k)
+
+pub returns-in_err-flush_once-clause-writes : goal.returns-in_err-flush_once-clause-writes
+returns-in_err-flush_once-clause-writes g c =
+    writes_then g.D.Device c.args.self.now c.loop-made.self c.flush_once.new.self c.loop-made.invariant.writes c.in_err-flush_once.ensures.writes
+
+pub returns-in_err-flush_once-clause-cause : goal.returns-in_err-flush_once-clause-cause
+returns-in_err-flush_once-clause-cause g c =
+    let p = err_from_is_err_and c.from_residual.result c.from_residual.ensures.1 in
+    let h = c.in_err-flush_once.ensures in
+    rw (p.1, p.2) (cause_then g.D.Device _ c.args.self.now c.loop-made.self c.flush_once.new.self c.loop-made.invariant.faults (record { kept = tt; failed = h.cause.failed }))
+
+pub returns-then-not-branch-clause-flushed : goal.returns-then-not-branch-clause-flushed
+returns-then-not-branch-clause-flushed g c = λ s.
+    let i = c.loop-made.invariant in
+    let h = c.in_ok-flush_once.ensures in
+    let off = c.if-not-branch.true in
+    let last = flushed_last g.D.Device c.args.command.now c.loop-made._made c.args.self.now c.loop-made.self c.flush_once.new.self i h.sound h.same (h.rest (λ e. cc)) h.writes h.cause.kept h.count_stays in
+    has_flushed g.D.Device c.args.command.now c.loop-made._made c.args.self.now c.flush_once.new.self last (omega (arith, c.loop-made-test.true)) s
+
+pub returns-then-not-branch-clause-same : goal.returns-then-not-branch-clause-same
+returns-then-not-branch-clause-same g c = λ s.
+    let i = c.loop-made.invariant in
+    let h = c.in_ok-flush_once.ensures in
+    let off = c.if-not-branch.true in
+    (flushed_last g.D.Device c.args.command.now c.loop-made._made c.args.self.now c.loop-made.self c.flush_once.new.self i h.sound h.same (h.rest (λ e. cc)) h.writes h.cause.kept h.count_stays).same s
+
+pub returns-then-not-branch-clause-writes : goal.returns-then-not-branch-clause-writes
+returns-then-not-branch-clause-writes g c =
+    writes_then g.D.Device c.args.self.now c.loop-made.self c.flush_once.new.self c.loop-made.invariant.writes c.in_ok-flush_once.ensures.writes
+
+pub returns-then-not-branch-clause-cause : goal.returns-then-not-branch-clause-cause
+returns-then-not-branch-clause-cause g c =
+    let i = c.loop-made.invariant in
+    let h = c.in_ok-flush_once.ensures in
+    cause_then g.D.Device _ c.args.self.now c.loop-made.self c.flush_once.new.self i.faults (cause_ok g.D.Device c.loop-made.self c.flush_once.new.self _ h.cause.kept)
+
+pub returns-then-root_size-waiting_limit-clause-flushed : goal.returns-then-root_size-waiting_limit-clause-flushed
+returns-then-root_size-waiting_limit-clause-flushed g c = λ s.
+    has_flushed g.D.Device c.args.command.now c.loop-made._made c.args.self.now c.loop-made.self c.loop-made.invariant (omega (arith, c.loop-made.auto._made-end)) s
+
+pub returns-clause-fails : goal.returns-clause-fails
+returns-clause-fails g c = λ s.
+    let new = view_of g.D.Device c.loop-made.self in
+    let all : c.loop-made._made ≡ flush_limit = omega (arith, c.loop-made.auto._made-end, c.loop-made-test.false) in
+    let waits : waiting_limit c.args.command.now < new.tree.table.size = omega (arith, c.root_size.ensures, c.waiting_limit.ensures, c.if-root_size-waiting_limit.false) in
+    all_flushed c.args.self.now.count c.args.command.now c.loop-made._made (view_of g.D.Device c.args.self.now) new (c.loop-made.invariant.flushed s) all waits
+
+pub returns-then-root_size-waiting_limit-clause-cause : goal.returns-then-root_size-waiting_limit-clause-cause
+returns-then-root_size-waiting_limit-clause-cause g c = cause_ok g.D.Device c.args.self.now c.loop-made.self _ c.loop-made.invariant.faults
+
+pub returns-clause-cause : goal.returns-clause-cause
+returns-clause-cause g c = cause_worn g.D.Device c.args.self.now c.loop-made.self _ c.loop-made.invariant.faults

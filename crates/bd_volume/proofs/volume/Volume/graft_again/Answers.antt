@@ -1,0 +1,59 @@
+-- The graft of a command of the log, after its flush steps.
+use Rattle.std.proofs.lemmas.Result.{err_from_is_err_and}
+use Rattle.bd_dirs.specs.Sendings.{Move}
+use Rattle.bd_graft.specs.Grafting.{IsWornForGraft}
+use Rattle.bd_pager.specs.Pagers.{table_of}
+use Rattle.bd_engine.specs.Engines.{keys_of}
+use Rattle.bd_volume.specs.declared.volume.Volume.{Volume}
+use Rattle.bd_volume.specs.Volume.{view_of}
+use Rattle.bd_volume.proofs.Replayed.{nodes_write, writes_then, cause_map, cause_ok, cause_then, graft_fails, sends_again}
+use Rattle.bd_volume.proofs.Sent.{grafted_over}
+use Rattle.bd_volume.proofs.volume.Volume.graft_again.Goals as goal
+
+pub returns-in_err-grafted-clause-fails : goal.returns-in_err-grafted-clause-fails
+returns-in_err-grafted-clause-fails g c =
+    let p = err_from_is_err_and c.from_residual-in_err-grafted.result c.from_residual-in_err-grafted.ensures.1 in
+    let f = c.in_ok-flush_again.ensures in
+    let h = c.in_err-grafted.ensures in
+    let a : Volume g.row.D.Denot = c.flush_again.new.self in
+    let b : Volume g.row.D.Denot = record a { engine = c.graft-grafted.new.self } in
+    rw (p.1, p.2) (graft_fails g.D.Device _ _ (IsWornForGraft (table_of a.engine.pager)) c.args.self.now a b c.args.command.now c.args.s.now c.args.d.now c.args.keep c.in_err-grafted.field-0.0
+    c.requires.kind f.sound h.sound c.sound_nodes_are_undamaged.ensures f.flushed f.enough h.cause.failed h.worn)
+
+pub returns-in_err-grafted-clause-writes : goal.returns-in_err-grafted-clause-writes
+returns-in_err-grafted-clause-writes g c =
+    let a : Volume g.row.D.Denot = c.flush_again.new.self in
+    let b : Volume g.row.D.Denot = record a { engine = c.graft-grafted.new.self } in
+    writes_then g.D.Device c.args.self.now a b c.in_ok-flush_again.ensures.writes (nodes_write g.D.Device a b c.in_err-grafted.ensures.only)
+
+pub returns-in_err-grafted-clause-cause : goal.returns-in_err-grafted-clause-cause
+returns-in_err-grafted-clause-cause g c =
+    let p = err_from_is_err_and c.from_residual-in_err-grafted.result c.from_residual-in_err-grafted.ensures.1 in
+    let a : Volume g.row.D.Denot = c.flush_again.new.self in
+    let b : Volume g.row.D.Denot = record a { engine = c.graft-grafted.new.self } in
+    rw (p.1, p.2) (cause_then g.D.Device _ c.args.self.now a b c.in_ok-flush_again.ensures.cause.kept (cause_map g.D.Device a b (IsWornForGraft (table_of a.engine.pager)) c.in_err-grafted.field-0.0 c.in_err-grafted.ensures.cause))
+
+pub returns-clause-sends : goal.returns-clause-sends
+returns-clause-sends g c = λ s.
+    let a : Volume g.row.D.Denot = c.flush_again.new.self in
+    let b : Volume g.row.D.Denot = record a { engine = c.graft-grafted.new.self } in
+    let f = c.in_ok-flush_again.ensures in
+    let h = c.in_ok-grafted.ensures in
+    sends_again g.D.Device c.args.command.now (Move c.args.s.now c.args.d.now c.args.keep) (view_of g.D.Device c.args.self.now) (view_of g.D.Device a) (view_of g.D.Device b) (f.flushed s) f.enough (h.grafts (f.sound s)) (h.only.view (f.sound s).known)
+
+pub returns-clause-grafted : goal.returns-clause-grafted
+returns-clause-grafted g c = λ s.
+    let f = c.in_ok-flush_again.ensures in
+    grafted_over (keys_of g.D.Device c.args.self.now.engine.pager) (keys_of g.D.Device c.flush_again.new.self.engine.pager) (keys_of g.D.Device c.graft-grafted.new.self.pager) c.args.s.now c.args.d.now c.args.keep (f.same s) (c.in_ok-grafted.ensures.grafted (f.sound s))
+
+pub returns-clause-writes : goal.returns-clause-writes
+returns-clause-writes g c =
+    let a : Volume g.row.D.Denot = c.flush_again.new.self in
+    let b : Volume g.row.D.Denot = record a { engine = c.graft-grafted.new.self } in
+    writes_then g.D.Device c.args.self.now a b c.in_ok-flush_again.ensures.writes (nodes_write g.D.Device a b c.in_ok-grafted.ensures.only)
+
+pub returns-clause-cause : goal.returns-clause-cause
+returns-clause-cause g c =
+    let a : Volume g.row.D.Denot = c.flush_again.new.self in
+    let b : Volume g.row.D.Denot = record a { engine = c.graft-grafted.new.self } in
+    cause_then g.D.Device _ c.args.self.now a b c.in_ok-flush_again.ensures.cause.kept (cause_ok g.D.Device a b _ c.in_ok-grafted.ensures.cause.kept)

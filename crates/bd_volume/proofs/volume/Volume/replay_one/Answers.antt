@@ -1,0 +1,91 @@
+-- A command is planned, and what is planned is done.
+use Rattle.std.proofs.Common.{◌+◌, refl, arith, sym, subst}
+use Rattle.std.proofs.lemmas.Result.{err_from_is_err_and}
+use Rattle.bd_message.specs.KeyMaps.{NeverWorn}
+use Rattle.bd_dirs.specs.Plans.{IsPlan}
+use Rattle.bd_engine.specs.Engines.{keys_of}
+use Rattle.bd_node.specs.Tables.{root_at}
+use Rattle.bd_view.specs.Views.{View}
+use Rattle.bd_volume.specs.declared.volume.Volume.{Volume}
+use Rattle.bd_volume.specs.Volume.{view_of}
+use Rattle.bd_volume.proofs.Read.{read_sound}
+use Rattle.bd_volume.proofs.Replayed.{writes_none, writes_then, reads_write, cause_worn, cause_map, cause_ok, cause_then, count_again, plan_fails, replay_fails, read_has, replays_read}
+use Rattle.bd_volume.proofs.volume.Volume.replay_one.Goals as goal
+
+pub returns-then-self-clause-fails : goal.returns-then-self-clause-fails
+returns-then-self-clause-fails g c = λ s. count_again g.D.Device c.args.self.now.count c.args.placed.now.command (view_of g.D.Device c.args.self.now) (omega arith)
+
+pub returns-then-self-clause-writes : goal.returns-then-self-clause-writes
+returns-then-self-clause-writes g c = writes_none g.D.Device c.args.self.now
+
+pub returns-then-self-clause-cause : goal.returns-then-self-clause-cause
+returns-then-self-clause-cause g c = cause_worn g.D.Device c.args.self.now c.args.self.now _ refl
+
+pub returns-in_err-plan-clause-fails : goal.returns-in_err-plan-clause-fails
+returns-in_err-plan-clause-fails g c =
+    let p = err_from_is_err_and c.from_residual.result c.from_residual.ensures.1 in
+    let h = c.in_err-plan.ensures in
+    let a : Volume g.row.D.Denot = c.args.self.now in
+    let b : Volume g.row.D.Denot = record a { engine = c.plan-planned.new.self } in
+    rw (p.1, p.2) (plan_fails g.D.Device _ _ a b c.args.placed.now c.in_err-plan.field-0.0 h.read c.sound_nodes_are_undamaged.ensures h.cause.failed)
+
+pub returns-in_err-plan-clause-writes : goal.returns-in_err-plan-clause-writes
+returns-in_err-plan-clause-writes g c =
+    let a : Volume g.row.D.Denot = c.args.self.now in
+    reads_write g.D.Device a (record a { engine = c.plan-planned.new.self }) c.in_err-plan.ensures.read
+
+pub returns-in_err-plan-clause-cause : goal.returns-in_err-plan-clause-cause
+returns-in_err-plan-clause-cause g c =
+    let p = err_from_is_err_and c.from_residual.result c.from_residual.ensures.1 in
+    let a : Volume g.row.D.Denot = c.args.self.now in
+    rw (p.1, p.2) (cause_map g.D.Device a (record a { engine = c.plan-planned.new.self }) NeverWorn c.in_err-plan.field-0.0 c.in_err-plan.ensures.cause)
+
+pub returns-in_err-send_planned-clause-fails : goal.returns-in_err-send_planned-clause-fails
+returns-in_err-send_planned-clause-fails g c =
+    let p = err_from_is_err_and c.from_residual-in_err-send_planned.result c.from_residual-in_err-send_planned.ensures.1 in
+    let h = c.in_ok-plan.ensures in
+    let a : Volume g.row.D.Denot = c.args.self.now in
+    let b : Volume g.row.D.Denot = record a { engine = c.plan-planned.new.self } in
+    rw (p.1, p.2) (replay_fails g.D.Device c.in_err-send_planned.field-0.0 c.args.placed.now c.in_ok-plan.plan a b h.read refl (λ t has. h.plan has.nodes t has.is_tree has.represents) c.in_err-send_planned.ensures.fails)
+
+pub returns-in_err-send_planned-clause-writes : goal.returns-in_err-send_planned-clause-writes
+returns-in_err-send_planned-clause-writes g c =
+    let a : Volume g.row.D.Denot = c.args.self.now in
+    let b : Volume g.row.D.Denot = record a { engine = c.plan-planned.new.self } in
+    writes_then g.D.Device a b c.send_planned.new.self (reads_write g.D.Device a b c.in_ok-plan.ensures.read) c.in_err-send_planned.ensures.writes
+
+pub returns-in_err-send_planned-clause-cause : goal.returns-in_err-send_planned-clause-cause
+returns-in_err-send_planned-clause-cause g c =
+    let p = err_from_is_err_and c.from_residual-in_err-send_planned.result c.from_residual-in_err-send_planned.ensures.1 in
+    let a : Volume g.row.D.Denot = c.args.self.now in
+    let b : Volume g.row.D.Denot = record a { engine = c.plan-planned.new.self } in
+    rw (p.1, p.2) (cause_then g.D.Device _ a b c.send_planned.new.self c.in_ok-plan.ensures.cause.kept (record { kept = tt; failed = c.in_err-send_planned.ensures.cause.failed }))
+
+pub returns-clause-replays : goal.returns-clause-replays
+returns-clause-replays g c = λ t has.
+    let h = c.in_ok-plan.ensures in
+    let a : Volume g.row.D.Denot = c.args.self.now in
+    let b : Volume g.row.D.Denot = record a { engine = c.plan-planned.new.self } in
+    let d : Volume g.row.D.Denot = record { engine = c.send_planned.new.self.engine; count = c.send_planned.new.self.count + 1 } in
+    let plan : IsPlan (keys_of g.D.Device b.engine.pager) t c.args.placed.now.command c.in_ok-plan.plan =
+    subst (λ (v : View). IsPlan (root_at v.tree.nodes v.tree.table) t c.args.placed.now.command c.in_ok-plan.plan) (sym h.read.view) (h.plan has.nodes t has.is_tree has.represents) in
+    replays_read g.D.Device a b c.send_planned.new.self d t c.args.placed.now.command h.read refl (c.in_ok-send_planned.ensures.replays t (read_has g.D.Device a b t h.read has) plan)
+
+pub returns-clause-sound : goal.returns-clause-sound
+returns-clause-sound g c = λ s.
+    c.in_ok-send_planned.ensures.sound (read_sound g.D.Device c.args.self.now.engine c.plan-planned.new.self c.in_ok-plan.ensures.read s)
+
+pub returns-clause-writes : goal.returns-clause-writes
+returns-clause-writes g c =
+    let a : Volume g.row.D.Denot = c.args.self.now in
+    let b : Volume g.row.D.Denot = record a { engine = c.plan-planned.new.self } in
+    let w = c.in_ok-send_planned.ensures.writes in
+    writes_then g.D.Device a b (record c.send_planned.new.self { count = c.send_planned.new.self.count + 1 }) (reads_write g.D.Device a b c.in_ok-plan.ensures.read)
+    (record { reads = w.reads; log = w.log; live = w.live; stop_is = w.stop_is })
+
+pub returns-clause-cause : goal.returns-clause-cause
+returns-clause-cause g c =
+    let a : Volume g.row.D.Denot = c.args.self.now in
+    let b : Volume g.row.D.Denot = record a { engine = c.plan-planned.new.self } in
+    let d : Volume g.row.D.Denot = record c.send_planned.new.self { count = c.send_planned.new.self.count + 1 } in
+    cause_then g.D.Device _ a b d c.in_ok-plan.ensures.cause.kept (cause_ok g.D.Device b d _ c.in_ok-send_planned.ensures.cause.kept)

@@ -1,0 +1,179 @@
+-- How the commands of an image's log are replayed, and why that stops.
+use Rattle.std.specs.Prelude.{◌≡◌, ◌⊎◌, ◌+◌, ◌≤◌, ℕ, List, ◌∷◌, ◌++◌, length, map, false, ⊤, Result, OnOk, IfErr}
+use Rattle.bd_limits.specs.Limits.{flush_limit}
+use Rattle.bd_io.specs.Cause.{Rose}
+use Rattle.bd_command.specs.declared.Command.{Command}
+use Rattle.bd_model.specs.Tree.{Tree, IsTree}
+use Rattle.bd_model.specs.Laws.{Accepts, after}
+use Rattle.bd_message.specs.declared.fault.Counter.{Counter}
+use Rattle.bd_message.specs.declared.fault.Counter.TheVariants.{Count, NextId, Level, Refs, Epoch, Flushes}
+use Rattle.bd_represent.specs.Represents.{Represents}
+use Rattle.bd_device.specs.Device.{OnlyReads}
+use Rattle.bd_device.specs.declared.device.Device.{Ghosts}
+use Rattle.bd_dirs.specs.Sendings.{Sending}
+use Rattle.bd_dirs.specs.declared.plan.Plan.{Plan}
+use Rattle.bd_effects.specs.Carrying.{accepts}
+use Rattle.bd_checkpoint.specs.declared.commands.PlacedCommand.{PlacedCommand}
+use Rattle.bd_checkpoint.specs.Recovering.{LeadsBy}
+use Rattle.bd_view.specs.Trees.{TreeView, HasSent, waiting_limit}
+use Rattle.bd_view.specs.Views.{View}
+use Rattle.bd_view.specs.Moves.{OnlyNodes, AreFlushedAgain, IsReplayed, AreReplayed}
+use Rattle.bd_engine.specs.Engines.{keys_of, IsSoundOn}
+use Rattle.bd_volume.specs.declared.fault.Fault.{Fault}
+use Rattle.bd_volume.specs.declared.fault.Fault.TheVariants.{Device, Damaged, Worn, NoMemory, Full, Stopped}
+use Rattle.bd_volume.specs.declared.volume.Volume.{Volume}
+use Rattle.bd_volume.specs.Faults.{HasNotFailed}
+use Rattle.bd_volume.specs.Volume.{view_of, count_of, device_of, stop_of}
+use Rattle.bd_volume.specs.Wears.{IsWornForStep, IsWornInReplay}
+
+-- ---- whatever is known
+
+-- of calls that write nothing, why one fails: the device has failed, or it hasn't
+abbrev pub IsReadCause : {D : Type 0} → Ghosts D → Volume D → Volume D → Fault → Type 0
+IsReadCause g old new Device =
+    Rose (g.fault_count (device_of old)) (g.fault_count (device_of new))
+IsReadCause g old new (Damaged block) = HasNotFailed g old new
+IsReadCause g old new (Worn which) = HasNotFailed g old new
+IsReadCause g old new NoMemory = HasNotFailed g old new
+IsReadCause g old new (Full free need) = ⊥
+IsReadCause g old new (Stopped call) = ⊥
+
+-- the device was only read, and log, last checkpoint and stop stay
+pub record WritesNothing {D : Type 0} (g : Ghosts D) (old new : Volume D) : Type 0 where
+  pub reads : OnlyReads g (device_of old) (device_of new)
+  pub log : new.engine.log ≡ old.engine.log
+  pub live : new.engine.live ≡ old.engine.live
+  pub stop_is : stop_of new ≡ stop_of old
+
+-- of the device's calls none failed at Ok, and at an error it has failed just where that says so
+pub record HasReadCause {D T : Type 0} (g : Ghosts D) (old new : Volume D)
+    (result : Result T Fault) : Type 0 where
+  pub kept : OnOk result (HasNotFailed g old new)
+  pub failed : IfErr result (IsReadCause g old new)
+
+-- ---- one command
+
+-- the nodes of a volume are known and sound, and have this tree
+pub record HasTreeOn {D : Type 0} (g : Ghosts D) (v : Volume D) (t : Tree) : Type 0 where
+  pub nodes : IsSoundOn g v.engine.pager
+  pub is_tree : IsTree t
+  pub represents : Represents (keys_of g v.engine.pager) t
+
+-- a command of the log made its flush steps, and then sent this
+pub record SendsAgain (c : Command) (what : Sending) (old new : View) : Type 0 where
+  pub made : ℕ
+  pub mid : View
+  pub flushed : AreFlushedAgain c made old mid
+  pub few : made ≤ flush_limit
+  pub enough : mid.tree.table.size ≤ waiting_limit c
+  pub sent : HasSent what mid.tree new.tree
+  pub rest : OnlyNodes mid new
+
+-- it was replayed where the nodes had this tree, which accepts it
+pub record ReplaysOn {D : Type 0} (g : Ghosts D) (t : Tree) (c : Command) (old new : Volume D)
+    : Type 0 where
+  pub accepts : Accepts t c
+  pub has : HasTreeOn g new (after t c)
+  pub view : IsReplayed t c (view_of g old) (view_of g new)
+
+-- the counter has no room for its next flush step
+abbrev pub IsWornAgain : Counter → Command → TreeView → Type 0
+IsWornAgain Count c v = ⊥
+IsWornAgain NextId c v = IsWornForStep NextId c 0 v
+IsWornAgain Level c v = IsWornForStep Level c 0 v
+IsWornAgain Refs c v = IsWornForStep Refs c 0 v
+IsWornAgain Epoch c v = ⊥
+IsWornAgain Flushes c v = ⊥
+
+-- after so many commands a counter has no room for this one, which made its flush steps
+pub record WearsAgain (which : Counter) (count : ℕ) (c : Command) (old : View) : Type 0 where
+  pub made : ℕ
+  pub last : View
+  pub flushed : AreFlushedAgain c made old last
+  pub few : made ≤ flush_limit
+  pub worn : IsWornInReplay which count c made last.tree
+
+-- a command of the log made its flush steps
+pub record HasFlushedAgain (c : Command) (old new : View) : Type 0 where
+  pub made : ℕ
+  pub flushed : AreFlushedAgain c made old new
+  pub few : made ≤ flush_limit
+
+-- why a flush step of it isn't made: the nodes aren't sound, or a counter has no room
+abbrev pub IsFlushFault : {D : Type 0} → Ghosts D → Fault → Command → Volume D → Type 0
+IsFlushFault g Device c v = ⊤
+IsFlushFault g (Damaged block) c v = ¬ IsSoundOn g v.engine.pager
+IsFlushFault g (Worn which) c v =
+    IsSoundOn g v.engine.pager → IsWornAgain which c (view_of g v).tree
+IsFlushFault g NoMemory c v = ⊤
+IsFlushFault g (Full free need) c v = ⊥
+IsFlushFault g (Stopped call) c v = ⊥
+
+-- why they aren't all made, or what it sends isn't sent
+abbrev pub IsAgainFault : {D : Type 0} → Ghosts D → Fault → Command → Volume D → Type 0
+IsAgainFault g Device c v = ⊤
+IsAgainFault g (Damaged block) c v = ¬ IsSoundOn g v.engine.pager
+IsAgainFault g (Worn which) c v =
+    IsSoundOn g v.engine.pager → WearsAgain which (count_of v) c (view_of g v)
+IsAgainFault g NoMemory c v = ⊤
+IsAgainFault g (Full free need) c v = ⊥
+IsAgainFault g (Stopped call) c v = ⊥
+
+-- why what is planned for a command of the log isn't done: it is refused, which is damage of its
+-- record, or the nodes aren't sound; and slots are never short
+abbrev pub IsSendFault : {D : Type 0} → Ghosts D → Fault → PlacedCommand → Plan → Volume D → Type 0
+IsSendFault g Device p plan v = ⊤
+IsSendFault g (Damaged block) p plan v =
+    ((block ≡ p.block) × (accepts plan ≡ false)) ⊎ ¬ IsSoundOn g v.engine.pager
+IsSendFault g (Worn which) p plan v =
+    IsSoundOn g v.engine.pager → WearsAgain which (count_of v) p.command (view_of g v)
+IsSendFault g NoMemory p plan v = ⊤
+IsSendFault g (Full free need) p plan v = ⊥
+IsSendFault g (Stopped call) p plan v = ⊥
+
+-- the tree that the nodes have refuses the command, as far as they have one
+abbrev pub Refuses : {D : Type 0} → Ghosts D → Volume D → Command → Type 0
+Refuses g v c = (t : Tree) → HasTreeOn g v t → ¬ Accepts t c
+
+-- why a command of the log isn't replayed
+abbrev pub IsReplayFault : {D : Type 0} → Ghosts D → Fault → PlacedCommand → Volume D → Type 0
+IsReplayFault g Device p v = ⊤
+IsReplayFault g (Damaged block) p v =
+    ((block ≡ p.block) × Refuses g v p.command) ⊎ ¬ IsSoundOn g v.engine.pager
+IsReplayFault g (Worn which) p v =
+    IsSoundOn g v.engine.pager → WearsAgain which (count_of v) p.command (view_of g v)
+IsReplayFault g NoMemory p v = ⊤
+IsReplayFault g (Full free need) p v = ⊥
+IsReplayFault g (Stopped call) p v = ⊥
+
+-- ---- all of them
+
+-- the commands alone
+abbrev pub commands_of : List PlacedCommand → List Command
+commands_of list = map (λ p. p.command) list
+
+-- these commands were replayed where the nodes had this tree: each was accepted in its turn
+pub record HasReplayed {D : Type 0} (g : Ghosts D) (t : Tree) (list : List PlacedCommand)
+    (old new : Volume D) : Type 0 where
+  pub tree : Tree
+  pub leads : LeadsBy list t tree
+  pub has : HasTreeOn g new tree
+  pub views : AreReplayed t (commands_of list) (view_of g old) (view_of g new)
+
+-- the first commands were replayed, whatever tree the nodes had; the others are left
+pub record ReplaysFront {D : Type 0} (g : Ghosts D) (list rest : List PlacedCommand)
+    (old new : Volume D) : Type 0 where
+  pub front : List PlacedCommand
+  pub there : list ≡ front ++ rest
+  pub sound : IsSoundOn g old.engine.pager → IsSoundOn g new.engine.pager
+  pub done : (t : Tree) → HasTreeOn g old t → HasReplayed g t front old new
+  pub count_is : count_of new ≡ count_of old + length front
+
+-- the first commands were replayed, and the next one wasn't
+pub record StopsReplaying {D : Type 0} (g : Ghosts D) (fault : Fault) (list : List PlacedCommand)
+    (old : Volume D) : Type 0 where
+  pub next : PlacedCommand
+  pub rest : List PlacedCommand
+  pub mid : Volume D
+  pub before : ReplaysFront g list (next ∷ rest) old mid
+  pub cause : IsReplayFault g fault next mid

@@ -1,0 +1,227 @@
+//! How a volume replays the commands of an image's log.
+
+ghost use Rattle.std.specs.Prelude.{◌≡◌, ◌≢◌, ◌+◌, ◌^◌, ◌<◌, ◌≤◌, [], true, false, None, Ok, All, IfErr, OnOk};
+ghost use Rattle.bd_limits.specs.Limits.{flush_limit};
+ghost use Rattle.bd_command.specs.Log.{IsLogged};
+ghost use Rattle.bd_model.specs.Tree.{Tree};
+ghost use Rattle.bd_message.specs.KeyMaps.{SameAt, IsApplied, IsGrafted};
+ghost use Rattle.bd_pager.specs.Pagers.{table_of};
+ghost use Rattle.bd_represent.specs.Plans.{IsSmallBatch};
+ghost use Rattle.bd_dirs.specs.Plans.{IsPlan, IsPlanKind, IsReady};
+ghost use Rattle.bd_dirs.specs.Sendings.{Batch, Move};
+ghost use Rattle.bd_dirs.specs.declared.plan.Plan.TheVariants as plan;
+ghost use Rattle.bd_view.specs.Trees.{waiting_limit};
+ghost use Rattle.bd_view.specs.Moves.{FlushesAgain, AreFlushedAgain};
+ghost use Rattle.bd_engine.specs.Engines.{keys_of, IsSoundOn};
+ghost use Rattle.bd_volume.specs.Volume.{view_of, without_walk, count_of, stop_of};
+ghost use Rattle.bd_volume.specs.Replays.{WritesNothing, HasReadCause, HasTreeOn, SendsAgain, HasFlushedAgain, ReplaysOn, IsFlushFault, IsAgainFault, IsSendFault, IsReplayFault, ReplaysFront, StopsReplaying};
+
+use super::Volume;
+use crate::fault::Fault;
+use bd_checkpoint::PlacedCommand;
+use bd_command::Command;
+use bd_device::Device;
+use bd_dirs::Plan;
+use bd_effects::waiting_limit;
+use bd_limits::MAX_FLUSHES;
+use bd_message::{Counter, Message};
+
+impl<D: Device> Volume<D> {
+    // Replays the commands of open batches, one after the other. No record waits again.
+    pub(crate) fn replay(&mut self, commands: &[PlacedCommand]) -> Result<(), Fault>
+        requires logged { All (λ p. IsLogged p.command) commands.now }
+        requires going { stop_of self.old ≡ None }
+        ensures replays { OnOk result
+            (ReplaysFront D.Device commands.now [] self.old self.new) }
+        ensures fails { IfErr result (λ fault.
+            StopsReplaying D.Device fault commands.now self.old) }
+        ensures writes { WritesNothing D.Device self.old self.new }
+        ensures cause { HasReadCause D.Device self.old self.new result }
+    {
+        for placed in commands {
+            self.replay_one(placed)?;
+        }
+        Ok(())
+    }
+
+    // The same volume, of which no graft is told any more.
+    pub(crate) fn forget_walk(self) -> Volume<D>
+        ensures { result ≡ without_walk self }
+    {
+        let Volume { engine, count } = self;
+        Volume {
+            engine: engine.forget_walk(),
+            count,
+        }
+    }
+
+    // Replays a command: it is planned, makes its flush steps, and sends what it comes to.
+    fn replay_one(&mut self, placed: &PlacedCommand) -> Result<(), Fault>
+        requires logged { IsLogged placed.now.command }
+        requires going { stop_of self.old ≡ None }
+        ensures replays { (t : Tree) → HasTreeOn D.Device self.old t
+            → OnOk result (ReplaysOn D.Device t placed.now.command self.old self.new) }
+        ensures sound { IsSoundOn D.Device self.old.engine.pager
+            → IsSoundOn D.Device self.new.engine.pager }
+        ensures counts { OnOk result (count_of self.new ≡ count_of self.old + 1) }
+        ensures fails { IfErr result (λ fault.
+            IsReplayFault D.Device fault placed.now self.old) }
+        ensures writes { WritesNothing D.Device self.old self.new }
+        ensures cause { HasReadCause D.Device self.old self.new result }
+    {
+        if self.count == u64::MAX {
+            return Err(Fault::Worn(Counter::Count));
+        }
+        let planned = self.engine.plan(&placed.command);
+        self.engine.sound_nodes_are_undamaged();
+        let plan = planned?;
+        self.send_planned(placed, plan)?;
+        self.count += 1;
+        Ok(())
+    }
+
+    // Does what is planned for a command of the log.
+    fn send_planned(&mut self, placed: &PlacedCommand, plan: Plan) -> Result<(), Fault>
+        requires logged { IsLogged placed.now.command }
+        requires ready { IsReady plan }
+        requires kind { IsPlanKind placed.now.command plan }
+        requires going { stop_of self.old ≡ None }
+        ensures replays { (t : Tree) → HasTreeOn D.Device self.old t
+            → IsPlan (keys_of D.Device self.old.engine.pager) t placed.now.command plan
+            → OnOk result (ReplaysOn D.Device t placed.now.command self.old self.new) }
+        ensures sound { IsSoundOn D.Device self.old.engine.pager
+            → IsSoundOn D.Device self.new.engine.pager }
+        ensures fails { IfErr result (λ fault.
+            IsSendFault D.Device fault placed.now plan self.old) }
+        ensures writes { WritesNothing D.Device self.old self.new }
+        ensures cause { HasReadCause D.Device self.old self.new result }
+        ensures count_stays { count_of self.new ≡ count_of self.old }
+    {
+        match plan {
+            Plan::Refused(_) => Err(Fault::Damaged {
+                block: placed.block,
+            }),
+            Plan::Apply(list) => self.append_again(&placed.command, list.as_slice()),
+            Plan::Graft { s, d, keep } => {
+                self.graft_again(&placed.command, s.as_slice(), d.as_slice(), keep)
+            }
+        }
+    }
+
+    // Makes the flush steps of a command of the log, and puts its messages after those that wait in
+    // the root.
+    fn append_again(&mut self, command: &Command, list: &[Message]) -> Result<(), Fault>
+        requires logged { IsLogged command.now }
+        requires small { IsSmallBatch list.now }
+        requires going { stop_of self.old ≡ None }
+        ensures sends { IsSoundOn D.Device self.old.engine.pager → OnOk result (SendsAgain
+            command.now (Batch list.now) (view_of D.Device self.old) (view_of D.Device self.new)) }
+        ensures applied { IsSoundOn D.Device self.old.engine.pager → OnOk result (IsApplied
+            (keys_of D.Device self.old.engine.pager) list.now
+            (keys_of D.Device self.new.engine.pager)) }
+        ensures sound { IsSoundOn D.Device self.old.engine.pager
+            → IsSoundOn D.Device self.new.engine.pager }
+        ensures fails { IfErr result (λ fault.
+            IsAgainFault D.Device fault command.now self.old) }
+        ensures writes { WritesNothing D.Device self.old self.new }
+        ensures cause { HasReadCause D.Device self.old self.new result }
+        ensures count_stays { count_of self.new ≡ count_of self.old }
+    {
+        self.flush_again(command)?;
+        let appended = self.engine.append(list);
+        self.engine.sound_nodes_are_undamaged();
+        appended?;
+        Ok(())
+    }
+
+    // Makes the flush steps of a command of the log, and its graft.
+    fn graft_again(
+        &mut self,
+        command: &Command,
+        s: &[u8],
+        d: &[u8],
+        keep: bool,
+    ) -> Result<(), Fault>
+        requires logged { IsLogged command.now }
+        requires ready { IsReady (plan.Graft s.now d.now keep) }
+        requires kind { IsPlanKind command.now (plan.Graft s.now d.now keep) }
+        requires going { stop_of self.old ≡ None }
+        ensures sends { IsSoundOn D.Device self.old.engine.pager → OnOk result (SendsAgain
+            command.now (Move s.now d.now keep) (view_of D.Device self.old)
+            (view_of D.Device self.new)) }
+        ensures grafted { IsSoundOn D.Device self.old.engine.pager → OnOk result (IsGrafted
+            (keys_of D.Device self.old.engine.pager) s.now d.now keep
+            (keys_of D.Device self.new.engine.pager)) }
+        ensures sound { IsSoundOn D.Device self.old.engine.pager
+            → IsSoundOn D.Device self.new.engine.pager }
+        ensures fails { IfErr result (λ fault.
+            IsAgainFault D.Device fault command.now self.old) }
+        ensures writes { WritesNothing D.Device self.old self.new }
+        ensures cause { HasReadCause D.Device self.old self.new result }
+        ensures count_stays { count_of self.new ≡ count_of self.old }
+    {
+        self.flush_again(command)?;
+        let grafted = self.engine.graft(s, d, keep);
+        self.engine.sound_nodes_are_undamaged();
+        grafted?;
+        Ok(())
+    }
+
+    // Makes flush steps while more bytes wait in the root than the limit of a command of the log.
+    // They need no slots.
+    fn flush_again(&mut self, command: &Command) -> Result<(), Fault>
+        requires logged { IsLogged command.now }
+        requires going { stop_of self.old ≡ None }
+        ensures flushed { IsSoundOn D.Device self.old.engine.pager → OnOk result
+            (HasFlushedAgain command.now (view_of D.Device self.old) (view_of D.Device self.new)) }
+        ensures same { IsSoundOn D.Device self.old.engine.pager
+            → SameAt (keys_of D.Device self.old.engine.pager)
+            (keys_of D.Device self.new.engine.pager) }
+        ensures sound { IsSoundOn D.Device self.old.engine.pager
+            → IsSoundOn D.Device self.new.engine.pager }
+        ensures fails { IfErr result (λ fault.
+            IsAgainFault D.Device fault command.now self.old) }
+        ensures enough { OnOk result
+            ((table_of self.new.engine.pager).size ≤ waiting_limit command.now) }
+        ensures writes { WritesNothing D.Device self.old self.new }
+        ensures cause { HasReadCause D.Device self.old self.new result }
+        ensures count_stays { count_of self.new ≡ count_of self.old }
+    {
+        for _made in 0..MAX_FLUSHES {
+            if !self.flush_once(command)? {
+                return Ok(());
+            }
+        }
+        if self.engine.root_size() <= waiting_limit(command) {
+            return Ok(());
+        }
+        Err(Fault::Worn(Counter::Flushes))
+    }
+
+    // Makes a flush step where more bytes wait in the root than the limit of a command of the log,
+    // and says whether it did.
+    fn flush_once(&mut self, command: &Command) -> Result<bool, Fault>
+        requires logged { IsLogged command.now }
+        requires going { stop_of self.old ≡ None }
+        ensures flushed { IsSoundOn D.Device self.old.engine.pager → result ≡ Ok true
+            → FlushesAgain command.now (view_of D.Device self.old) (view_of D.Device self.new) }
+        ensures rest { result ≢ Ok true
+            → view_of D.Device self.new ≡ view_of D.Device self.old }
+        ensures same { IsSoundOn D.Device self.old.engine.pager
+            → SameAt (keys_of D.Device self.old.engine.pager)
+            (keys_of D.Device self.new.engine.pager) }
+        ensures sound { IsSoundOn D.Device self.old.engine.pager
+            → IsSoundOn D.Device self.new.engine.pager }
+        ensures fails { IfErr result (λ fault.
+            IsFlushFault D.Device fault command.now self.old) }
+        ensures enough { result ≡ Ok false
+            → (table_of self.new.engine.pager).size ≤ waiting_limit command.now }
+        ensures writes { WritesNothing D.Device self.old self.new }
+        ensures cause { HasReadCause D.Device self.old self.new result }
+        ensures count_stays { count_of self.new ≡ count_of self.old }
+    {
+        let flushed = self.engine.flush(command);
+        self.engine.sound_nodes_are_undamaged();
+        Ok(flushed?)
+    }
+}
