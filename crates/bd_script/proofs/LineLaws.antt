@@ -14,7 +14,7 @@ use Rattle.bd_command.specs.declared.Command.TheVariants.{Mkdir, Create, Write, 
 use Rattle.bd_command.specs.declared.refusal.Refusal.{Refusal}
 use Rattle.bd_command.specs.declared.refusal.Refusal.TheVariants.{BadPath, BadLine}
 use Rattle.bd_script.specs.declared.line.Line.{Line}
-use Rattle.bd_script.specs.declared.line.Line.TheVariants.{Walk, Df, Checkpoint, Reclaim, Stop}
+use Rattle.bd_script.specs.declared.line.Line.TheVariants.{Walk, Df, Sync, Checkpoint, Reclaim, Stop}
 use Rattle.bd_script.specs.declared.verb.Verb.{Verb}
 use Rattle.bd_script.specs.declared.verb.Verb.TheVariants as verb
 use Rattle.bd_script.specs.Lines.{Path, LineMeaning, IsLine, runs, is_empty, number_of, mode_of, hex_of, path_in, only_path, both_paths, two_paths, with_path, with_number, with_bytes, run_path, run_paths, line_of_write, line_of_truncate, line_of_chmod, line_of_read, line_of_list, alone, verb_of, with_verb, line_of_verb, words_of, line_of_words, line_of_parts, line_of}
@@ -155,6 +155,7 @@ kept_verb verb.Stat words = kept_run Stat words (λ p h. h)
 kept_verb verb.List words = kept_list words
 kept_verb verb.Walk words = kept_alone Walk words tt
 kept_verb verb.Df words = kept_alone Df words tt
+kept_verb verb.Sync words = kept_alone Sync words tt
 kept_verb verb.Checkpoint words = kept_alone Checkpoint words tt
 kept_verb verb.Reclaim words = kept_alone Reclaim words tt
 kept_verb verb.Stop words = kept_alone Stop words tt

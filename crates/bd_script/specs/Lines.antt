@@ -17,7 +17,7 @@ use Rattle.bd_command.specs.declared.Command.TheVariants.{Mkdir, Create, Write, 
 use Rattle.bd_command.specs.declared.refusal.Refusal.{Refusal}
 use Rattle.bd_command.specs.declared.refusal.Refusal.TheVariants.{BadPath, BadLine}
 use Rattle.bd_script.specs.declared.line.Line.{Line}
-use Rattle.bd_script.specs.declared.line.Line.TheVariants.{Run, Walk, Df, Checkpoint, Reclaim, Stop}
+use Rattle.bd_script.specs.declared.line.Line.TheVariants.{Run, Walk, Df, Sync, Checkpoint, Reclaim, Stop}
 use Rattle.bd_script.specs.declared.verb.Verb.{Verb}
 use Rattle.bd_script.specs.declared.verb.Verb.TheVariants as verb
 
@@ -230,6 +230,7 @@ verb_of word =
     else if same_text word (codes "list") then Some verb.List
     else if same_text word (codes "walk") then Some verb.Walk
     else if same_text word (codes "df") then Some verb.Df
+    else if same_text word (codes "sync") then Some verb.Sync
     else if same_text word (codes "checkpoint") then Some verb.Checkpoint
     else if same_text word (codes "reclaim") then Some verb.Reclaim
     else if same_text word (codes "stop") then Some verb.Stop
@@ -250,6 +251,7 @@ line_of_verb verb.Stat words = run_path Stat (only_path words)
 line_of_verb verb.List words = line_of_list words
 line_of_verb verb.Walk words = alone Walk words
 line_of_verb verb.Df words = alone Df words
+line_of_verb verb.Sync words = alone Sync words
 line_of_verb verb.Checkpoint words = alone Checkpoint words
 line_of_verb verb.Reclaim words = alone Reclaim words
 line_of_verb verb.Stop words = alone Stop words
@@ -284,6 +286,7 @@ abbrev pub IsLine : Line → Type 0
 IsLine (Run command) = IsCommand command
 IsLine Walk = ⊤
 IsLine Df = ⊤
+IsLine Sync = ⊤
 IsLine Checkpoint = ⊤
 IsLine Reclaim = ⊤
 IsLine Stop = ⊤
@@ -293,6 +296,7 @@ abbrev pub is_stop : LineMeaning → Bool
 is_stop (Ok (Run command)) = false
 is_stop (Ok Walk) = false
 is_stop (Ok Df) = false
+is_stop (Ok Sync) = false
 is_stop (Ok Checkpoint) = false
 is_stop (Ok Reclaim) = false
 is_stop (Ok Stop) = true

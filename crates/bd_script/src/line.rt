@@ -18,6 +18,8 @@ pub enum Line {
     Walk,
     /// Tells how many slots of the image are free.
     Df,
+    /// Makes all that was accepted durable.
+    Sync,
     /// Makes a checkpoint.
     Checkpoint,
     /// Reclaims slots of what was removed.

@@ -78,6 +78,7 @@ fn read_verb(alloc: Global, verb: Verb, words: &[&[u8]]) -> Result<Line, LineFau
         Verb::List => read_list(alloc, words),
         Verb::Walk => alone(Line::Walk, words),
         Verb::Df => alone(Line::Df, words),
+        Verb::Sync => alone(Line::Sync, words),
         Verb::Checkpoint => alone(Line::Checkpoint, words),
         Verb::Reclaim => alone(Line::Reclaim, words),
         Verb::Stop => alone(Line::Stop, words),

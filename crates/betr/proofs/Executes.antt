@@ -1,12 +1,16 @@
 -- Executions put together.
-use Rattle.std.proofs.Common.{◌≡◌, ℕ, ◌<◌, List, [], ◌∷◌, ◌++◌, length, refl, sym, ap, subst, ◌∙◌, arith}
+use Rattle.std.proofs.Common.{◌≡◌, ℕ, ◌<◌, Bool, true, false, List, [], ◌∷◌, ◌++◌, length, refl, sym, ap, subst, ◌∙◌, arith}
+use Rattle.std.specs.Prelude.{◌||◌, OnOk, OnErr, IfOk}
+use Rattle.std.specs.List.{list_any}
+use Rattle.std.specs.declared.result.Result.{Result}
+use Rattle.std.specs.declared.result.Result.TheVariants.{Ok, Err}
 use Rattle.std.specs.declared.option.Option.{Option}
 use Rattle.std.specs.declared.option.Option.TheVariants.{None, Some}
 use Rattle.std.specs.Io.KnownBytes.{append_known}
 use Rattle.std.proofs.lemmas.List.{append-nil}
 use Rattle.bd_io.proofs.Written.{append_known-twice}
 use Rattle.bd_node.proofs.Lookup.{each_both}
-use Rattle.bd_script.specs.Lines.{LineMeaning, line_of}
+use Rattle.bd_script.specs.Lines.{LineMeaning, line_of, is_stop}
 use Rattle.bd_script.specs.Replies.{line_reply_line}
 use Rattle.betr.specs.Transcript.{State, Exchange, IsAnswered, text, executed}
 use Rattle.betr.specs.Session.{Executes}
@@ -66,3 +70,24 @@ executes_as first last ls ms a b same x = subst (λ l. Executes first last l a b
 pub last_some : (line same : List ℕ) → same ≡ line → 0 < length line → last_lines line ≡ line_of same ∷ []
 last_some [] same is some = absurd (omega arith)
 last_some (b ∷ line) same is some = ap (λ l. line_of l ∷ []) (sym is)
+
+-- one line alone
+pub one_stop : (l : LineMeaning) → is_stop l ≡ list_any is_stop (l ∷ [])
+one_stop l = by (is_stop l)
+  where
+    by : (b : Bool) → b ≡ (b || false)
+    by true = refl
+    by false = refl
+
+-- what follows from what is said of a result that is Ok
+pub on_ok_as : {T E : Type 0} (r : Result T E) (P Q : Type 0) → (P → Q) → OnOk r P → OnOk r Q
+on_ok_as (Ok x) P Q f h = f h
+on_ok_as (Err e) P Q f h = tt
+
+pub if_ok_as : {T E : Type 0} (r : Result T E) (P Q : T → Type 0) → ((x : T) → P x → Q x) → IfOk r P → IfOk r Q
+if_ok_as (Ok x) P Q f h = f x h
+if_ok_as (Err e) P Q f h = tt
+
+pub on_err_as : {T E : Type 0} (r : Result T E) (P Q : Type 0) → (P → Q) → OnErr r P → OnErr r Q
+on_err_as (Ok x) P Q f h = tt
+on_err_as (Err e) P Q f h = f h

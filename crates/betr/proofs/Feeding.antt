@@ -19,8 +19,8 @@ use Rattle.bd_script.proofs.CutLines.{no_newline-open_line, whole_lines-newline,
 use Rattle.betr.specs.declared.fault.Fault.{Fault}
 use Rattle.betr.specs.declared.fault.Fault.TheVariants.{Device, Damaged, Source, Memory, TooLong, Worn, Sink}
 use Rattle.betr.specs.Transcript.{State, Exchange, IsAnswered, executed, meanings}
-use Rattle.betr.specs.Session.{Executes, HasNext, Leaves}
-use Rattle.betr.specs.Shell.{breaks, completed, IsHeld, CutsAt, HasMore, RunFails, BreaksOff}
+use Rattle.betr.specs.Session.{Executes, HasNext, Leaves, breaks}
+use Rattle.betr.specs.Shell.{completed, IsHeld, CutsAt, HasMore, RunFails, BreaksOff}
 use Rattle.betr.proofs.Transcripts.{up_to_stop-none, up_to_stop-append, executed-append, transcript_one, transcript_more, transcript_as}
 use Rattle.betr.proofs.Executes.{executes_more, executes_as}
 use Rattle.betr.proofs.Left.{leaves_worn}

@@ -5,7 +5,7 @@ use Rattle.std.specs.declared.option.Option.{Option}
 use Rattle.std.specs.declared.result.Result.TheVariants.{Ok, Err}
 use Rattle.bd_message.specs.declared.fault.Counter.{Counter}
 use Rattle.bd_script.specs.Lines.{LineMeaning}
-use Rattle.bd_script.specs.declared.line.Line.TheVariants.{Run, Walk, Df, Checkpoint, Reclaim, Stop}
+use Rattle.bd_script.specs.declared.line.Line.TheVariants.{Run, Walk, Df, Sync, Checkpoint, Reclaim, Stop}
 use Rattle.bd_view.specs.Views.{View}
 use Rattle.bd_view.specs.Moves.AreSteps.{none}
 use Rattle.betr.specs.Transcript.{State}
@@ -17,6 +17,7 @@ left_none : (line : LineMeaning) (s : State) → IsLeftBy line s s.view
 left_none (Ok (Run c)) s = record { stepped = record { made = 0; steps = none s.view; few = omega arith }; refused = λ _. refl }
 left_none (Ok Walk) s = refl
 left_none (Ok Df) s = refl
+left_none (Ok Sync) s = refl
 left_none (Ok Checkpoint) s = refl
 left_none (Ok Reclaim) s = inl refl
 left_none (Ok Stop) s = refl
@@ -37,6 +38,7 @@ left_worn : (which : Counter) (s : State) (line : LineMeaning) (left : View) →
 left_worn which s (Ok (Run c)) left h = record { stepped = h.wears.stepped; refused = λ some. absurd (neither_none _ h.accepted some) }
 left_worn which s (Ok Walk) left h = absurd h
 left_worn which s (Ok Df) left h = absurd h
+left_worn which s (Ok Sync) left h = absurd h
 left_worn which s (Ok Checkpoint) left h = h.left_is
 left_worn which s (Ok Reclaim) left h = h.begun
 left_worn which s (Ok Stop) left h = absurd h

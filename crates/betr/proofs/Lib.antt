@@ -1,10 +1,12 @@
 pub mod Transcripts
+pub mod Surviving
+pub mod Keeping
+pub mod Ending
 pub mod Executes
 pub mod Feeding
 pub mod Held
 pub mod Lines
 pub mod Scripts
-pub mod Starting
 pub mod Runs
 pub mod Trees
 pub mod Walks

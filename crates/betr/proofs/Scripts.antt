@@ -1,8 +1,9 @@
 -- How the lines of a script are executed, piece by piece.
-use Rattle.std.proofs.Common.{◌≡◌, ℕ, ◌+◌, ◌<◌, ◌≤◌, Bool, true, false, cond, ◌||◌, List, [], ◌∷◌, ◌++◌, length, take, refl, sym, ap, subst, ◌∙◌, append_assoc, arith, length-append, nat_eq, inl, inr}
-use Rattle.std.specs.Prelude.{map, IfSome, IfErr, OnOk, OnErr}
+use Rattle.std.proofs.Common.{◌≡◌, ◌⊎◌, ℕ, ◌+◌, ◌<◌, ◌≤◌, Bool, true, false, cond, ◌||◌, List, [], ◌∷◌, ◌++◌, length, take, refl, sym, ap, subst, ◌∙◌, append_assoc, arith, length-append, nat_eq, inl, inr}
+use Rattle.std.specs.Prelude.{map, IfSome, IfOk, IfErr, OnOk, OnErr}
 use Rattle.std.specs.declared.result.Result.{Result}
 use Rattle.std.specs.declared.result.Result.TheVariants.{Ok, Err}
+use Rattle.std.specs.declared.ops.ControlFlow.{ControlFlow}
 use Rattle.std.specs.declared.option.Option.{Option}
 use Rattle.std.specs.declared.option.Option.TheVariants.{None, Some}
 use Rattle.std.specs.List.{list_any, onto_first}
@@ -22,14 +23,14 @@ use Rattle.bd_script.specs.Replies.{line_reply_line}
 use Rattle.bd_script.proofs.CutLines.{some_pieces, whole_lines-more, open_line-more, held_goes_on, line_of-held}
 use Rattle.betr.specs.declared.fault.Fault.{Fault}
 use Rattle.betr.specs.declared.fault.Fault.TheVariants.{Device, Damaged, Source, Memory, TooLong, Worn, Sink}
-use Rattle.betr.specs.Transcript.{State, Exchange, IsAnswered, text, executed, meanings, lines_to_run, IsFront}
-use Rattle.betr.specs.Session.{end_of, Executes, HasNext, IsAtLine, Among, AllComplete, BeginsWith, TakenAt, IsCutShort, IsCutAfter, Replied, Tells, Ends, EndsIn, Session}
+use Rattle.betr.specs.Transcript.{State, synced_state, Exchange, IsAnswered, text, executed, meanings, lines_to_run, IsFront}
+use Rattle.betr.specs.Session.{end_of, Executes, HasNext, IsAtLine, Among, AllComplete, BeginsWith, TakenAt, IsCutShort, IsCutAfter, Replied, Tells, Ends, has_stop, closed, breaks, ClosedAt, ToldAt, EndsIn, Session}
 use Rattle.betr.specs.Shell.{last_lines, IsHeld, HasMore, completed, RunFails, HaltsIn, BreaksOff}
 use Rattle.betr.specs.declared.session.Taken.{Taken}
 use Rattle.betr.specs.declared.session.Taken.TheVariants as source_gave
 use Rattle.betr.specs.Taken.{IsTaken, taken_by, Took, TookLast}
-use Rattle.betr.proofs.Left.{leaves_worn}
-use Rattle.betr.proofs.Transcripts.{transcript_one, transcript_more, transcript_as, up_to_stop-none, up_to_stop-stopped, up_to_stop-append, up_to_stop-one, up_to_stop_front, IsFront-append, IsFront-trans, executed-append}
+use Rattle.betr.proofs.Left.{leaves_worn, leaves_nothing}
+use Rattle.betr.proofs.Transcripts.{transcript_one, transcript_more, transcript_as, up_to_stop-none, up_to_stop-any, up_to_stop-stopped, up_to_stop-append, up_to_stop-one, up_to_stop_front, IsFront-append, IsFront-trans, executed-append}
 use Rattle.betr.proofs.Executes.{executes_none, executes_more, executes_as, text-twice}
 use Rattle.betr.proofs.Feeding.{either, neither}
 
@@ -300,12 +301,16 @@ record Parts (front taken : List ℕ) (script rest : Option (List ℕ)) (before 
   took : Took front final before after
   few : length taken ≤ script_limit
 
+-- `now` holds of the state, and whether a `stop` is among the lines is known
+abbrev pub StoppedAt : Bool → (State → Type 0) → Bool → State → Type 0
+StoppedAt known now stopped s = now s × (known ≡ stopped)
+
 -- all lines were executed
-all_run : (first now : State → Type 0) (lines more : List LineMeaning) (front taken : List ℕ) (script rest old new : Option (List ℕ)) (before after : Option Takes)
+all_run : (first now : State → Type 0) (stopped : Bool) (lines more : List LineMeaning) (front taken : List ℕ) (script rest old new : Option (List ℕ)) (before after : Option Takes)
     → Parts front taken script rest before after → Executes first now lines old new → lines ≡ meanings front ++ more
     → list_any is_stop (meanings front) ≡ false → lines ≡ lines_to_run taken → IfSome script (λ bytes. lines ≡ lines_to_run bytes)
-    → Session None first now script rest before after old new
-all_run first now lines more front taken script rest old new before after p x begins none among all = record {
+    → stopped ≡ list_any is_stop lines → Session None first (StoppedAt stopped now) script rest before after old new
+all_run first now stopped lines more front taken script rest old new before after p x begins none among all stops = record {
   exchanges = x.exchanges;
   answered = x.answered;
   front = front;
@@ -319,7 +324,8 @@ all_run first now lines more front taken script rest old new before after p x be
   among_script = by script all;
   taken_at = p.few;
   replied = x.written;
-  runs = λ s h. transcript_as s x.exchanges now _ (x.runs s h) (λ t g. record { told = tt; told_script = any_script (Unit {0}) script tt; reached = g });
+  runs = λ s h. transcript_as s x.exchanges now _ (x.runs s h)
+      (λ t g. record { told = tt; told_script = any_script (Unit {0}) script tt; reached = (g, stops ∙ ap (list_any is_stop) (sym x.lines_are)) });
 }
   where
     by : (o : Option (List ℕ)) → IfSome o (λ bytes. lines ≡ lines_to_run bytes) → IfSome o (λ bytes. executed x.exchanges ≡ lines_to_run bytes)
@@ -356,27 +362,30 @@ pub session_stops : (first mid now : State → Type 0) (line piece : List ℕ) (
     → Stands first mid line taken script left a b before at → taken + length piece ≤ script_limit → left ≡ prepend_known piece rest
     → length piece ≤ piece_limit → after ≡ option_map (takes_after piece) at
     → Executes mid now (completed line piece) b c → list_any is_stop (meanings (line ++ piece)) ≡ true
-    → Session None first now script rest before after a c
+    → Session None first (StoppedAt true now) script rest before after a c
 session_stops first mid now line piece taken script left rest a b c before at after s fits got short told x some =
     let p = parts_more s piece rest after fits got short told in
     let lines : List LineMeaning = meanings s.bytes ++ completed line piece in
     let all = λ (more : List ℕ). sym (run_stopped s.bytes piece line more s.line_is s.no_stop some) in
-    all_run first now lines (completed line piece) s.bytes (s.bytes ++ piece) script rest a c before after p
+    all_run first now true lines (completed line piece) s.bytes (s.bytes ++ piece) script rest a c before after p
     (executes_more first mid now (meanings s.bytes) (completed line piece) a b c s.ran x) refl s.no_stop
     (all [] ∙ ap lines_to_run (append-nil (s.bytes ++ piece)))
     (known (λ bytes. lines ≡ lines_to_run bytes) (s.bytes ++ piece) script rest p.script_is (λ more e. all more))
+    (sym (list_any-append is_stop (meanings s.bytes) (completed line piece) ∙ either _ _ (up_to_stop-any (meanings (line ++ piece)) ∙ some)))
 
 -- the script's end
-pub session_ends : (first mid now : State → Type 0) (line : List ℕ) (taken : ℕ) (script rest a b c : Option (List ℕ)) (before at after : Option Takes)
+pub session_ends : (first mid now : State → Type 0) (stopped : Bool) (line : List ℕ) (taken : ℕ) (script rest a b c : Option (List ℕ)) (before at after : Option Takes)
     → Stands first mid line taken script rest a b before at → IsAtEnd rest → after ≡ option_map (takes_after []) at
-    → Executes mid now (last_lines line) b c → Session None first now script rest before after a c
-session_ends first mid now line taken script rest a b c before at after s end told x =
+    → Executes mid now (last_lines line) b c → stopped ≡ list_any is_stop (last_lines line)
+    → Session None first (StoppedAt stopped now) script rest before after a c
+session_ends first mid now stopped line taken script rest a b c before at after s end told x stops =
     let lines : List LineMeaning = meanings s.bytes ++ last_lines line in
     let all : lines ≡ lines_to_run s.bytes = sym (run_ended s.bytes line s.line_is s.no_stop) in
-    all_run first now lines (last_lines line) s.bytes s.bytes script rest a c before after (parts_none s after told)
+    all_run first now stopped lines (last_lines line) s.bytes s.bytes script rest a c before after (parts_none s after told)
     (executes_more first mid now (meanings s.bytes) (last_lines line) a b c s.ran x) refl s.no_stop all
     (known (λ bytes. lines ≡ lines_to_run bytes) s.bytes script rest s.taken_is
     (λ more e. all ∙ ap lines_to_run (sym (ap (λ l. s.bytes ++ l) (end_is rest end more e) ∙ append-nil s.bytes))))
+    (stops ∙ sym (list_any-append is_stop (meanings s.bytes) (last_lines line) ∙ ap (λ b. b || list_any is_stop (last_lines line)) s.no_stop))
 
 -- ---- a session's ends by a fault
 
@@ -421,6 +430,11 @@ at_line bytes line piece more xs ys is none are h =
     subst (λ bs. IsAtLine (xs ++ ys) (lines_to_run bs)) (sym (ap (λ l. l ++ more) joined ∙ append_assoc front h.rest more))
     (inr (next_of_more front (h.rest ++ more) (xs ++ ys) lines no_stop (some-before h.rest more h.some)))
 
+-- what was executed stands at the front where there is a next line
+line_front : (xs : List Exchange) (lines : List LineMeaning) → IsAtLine xs lines → IsFront (executed xs) lines
+line_front xs lines (inl none) = subst (λ (l : List Exchange). IsFront (executed l) lines) (sym none) (lines, refl)
+line_front xs lines (inr h) = (h.0 ∷ h.1.rest, h.1.lines_are)
+
 -- a next line of a piece is one of all, whatever follows
 next_of_all : (bytes line piece more : List ℕ) (xs ys : List Exchange) (next : LineMeaning) → line ≡ held (open_line bytes)
     → list_any is_stop (meanings bytes) ≡ false → executed xs ≡ meanings bytes → HasNext next (executed ys) (completed line piece)
@@ -438,7 +452,7 @@ broken_by : (e : Fault) (first mid now : State → Type 0) (bytes line piece : L
     → TakenAt (Some e) (bytes ++ piece) (x.exchanges ++ y.exchanges) → Replied (Some e) bytes (bytes ++ piece) (x.exchanges ++ y.exchanges) a c
     → ((s : State) → Tells (Some e) s (executed y.exchanges) (completed line piece) → (more : List ℕ)
     → Tells (Some e) s (executed (x.exchanges ++ y.exchanges)) (lines_to_run ((bytes ++ piece) ++ more)))
-    → Session (Some e) first now script rest before after a c
+    → Session (Some e) first (λ _. now) script rest before after a c
 broken_by e first mid now bytes line piece script rest a b c before after p none x y among taken_at replied tells =
     let all : List Exchange = x.exchanges ++ y.exchanges in
     record {
@@ -465,11 +479,11 @@ broken_by e first mid now bytes line piece script rest a b c before after p none
 
 broken : (e : Fault) (first mid now : State → Type 0) (bytes line piece : List ℕ) (script rest a b c : Option (List ℕ)) (before after : Option Takes)
     → Parts bytes (bytes ++ piece) script rest before after → line ≡ held (open_line bytes) → list_any is_stop (meanings bytes) ≡ false
-    → (x : Executes first mid (meanings bytes) a b) → BreaksOff e mid now line piece b c → Session (Some e) first now script rest before after a c
+    → (x : Executes first mid (meanings bytes) a b) → BreaksOff e mid now line piece b c → Session (Some e) first (λ _. now) script rest before after a c
 unfolding cut_more
 broken Device first mid now bytes line piece script rest a b c before after p is none x y =
     broken_by Device first mid now bytes line piece script rest a b c before after p none x y
-    (λ more. at_line bytes line piece more x.exchanges y.exchanges is none x.lines_are y.halts) p.few
+    (λ more. line_front _ _ (at_line bytes line piece more x.exchanges y.exchanges is none x.lines_are y.halts)) p.few
     (text-twice x.exchanges y.exchanges a b c x.written y.replied) (λ s told more. tt)
 broken (Damaged block) first mid now bytes line piece script rest a b c before after p is none x y =
     broken_by (Damaged block) first mid now bytes line piece script rest a b c before after p none x y
@@ -478,12 +492,12 @@ broken (Damaged block) first mid now bytes line piece script rest a b c before a
 broken Source first mid now bytes line piece script rest a b c before after p is none x y = absurd y.halts
 broken Memory first mid now bytes line piece script rest a b c before after p is none x y =
     broken_by Memory first mid now bytes line piece script rest a b c before after p none x y
-    (λ more. at_line bytes line piece more x.exchanges y.exchanges is none x.lines_are y.halts) p.few
+    (λ more. line_front _ _ (at_line bytes line piece more x.exchanges y.exchanges is none x.lines_are y.halts)) p.few
     (text-twice x.exchanges y.exchanges a b c x.written y.replied) (λ s told more. tt)
 broken TooLong first mid now bytes line piece script rest a b c before after p is none x y = absurd y.halts
 broken (Worn which) first mid now bytes line piece script rest a b c before after p is none x y =
     broken_by (Worn which) first mid now bytes line piece script rest a b c before after p none x y
-    (λ more. (y.halts.0, next_of_all bytes line piece more x.exchanges y.exchanges y.halts.0 is none x.lines_are y.halts.1)) p.few
+    (λ more. inr (y.halts.0, next_of_all bytes line piece more x.exchanges y.exchanges y.halts.0 is none x.lines_are y.halts.1)) p.few
     (text-twice x.exchanges y.exchanges a b c x.written y.replied)
     (λ s told more. record {
       next = told.next;
@@ -511,7 +525,7 @@ broken Sink first mid now bytes line piece script rest a b c before after p is n
 pub session_breaks : (e : Fault) (first mid now : State → Type 0) (line piece : List ℕ) (taken : ℕ) (script left rest a b c : Option (List ℕ)) (before at after : Option Takes)
     → Stands first mid line taken script left a b before at → taken + length piece ≤ script_limit → left ≡ prepend_known piece rest
     → length piece ≤ piece_limit → after ≡ option_map (takes_after piece) at
-    → BreaksOff e mid now line piece b c → Session (Some e) first now script rest before after a c
+    → BreaksOff e mid now line piece b c → Session (Some e) first (λ _. now) script rest before after a c
 session_breaks e first mid now line piece taken script left rest a b c before at after s fits got short told fails =
     broken e first mid now s.bytes line piece script rest a b c before after (parts_more s piece rest after fits got short told) s.line_is s.no_stop s.ran fails
 
@@ -536,7 +550,7 @@ failed_by : (e : Fault) (first mid now : State → Type 0) (bytes line : List �
     → TakenAt (Some e) bytes x.exchanges → Replied (Some e) bytes bytes x.exchanges a c
     → ((s : State) → mid s → HasNext (line_of line) (executed x.exchanges) (lines_to_run bytes)
     → Tells (Some e) s (executed x.exchanges) (lines_to_run bytes) × Ends (Some e) s now)
-    → Session (Some e) first now script rest before after a c
+    → Session (Some e) first (λ _. now) script rest before after a c
 failed_by e first mid now bytes line script rest a b c before after p l x among taken_at replied ends =
     let has : HasNext (line_of line) (executed x.exchanges) (lines_to_run bytes) =
     record { rest = []; lines_are = l.all ∙ ap (λ ls. ls ++ line_of line ∷ []) (sym x.lines_are) } in
@@ -565,20 +579,20 @@ failed_by e first mid now bytes line script rest a b c before after p l x among 
 -- a fault at the last line
 failed : (e : Fault) (first mid now : State → Type 0) (bytes line : List ℕ) (script rest a b c : Option (List ℕ)) (before after : Option Takes)
     → Parts bytes bytes script rest before after → AtLast bytes line script → Executes first mid (meanings bytes) a b
-    → RunFails e mid now (line_of line) b c → Session (Some e) first now script rest before after a c
+    → RunFails e mid now (line_of line) b c → Session (Some e) first (λ _. now) script rest before after a c
 failed Device first mid now bytes line script rest a b c before after p l x y =
-    failed_by Device first mid now bytes line script rest a b c before after p l x (λ has. inr (line_of line, has)) p.few (y.unwritten ∙ x.written)
+    failed_by Device first mid now bytes line script rest a b c before after p l x (λ has. line_front _ _ (inr (line_of line, has))) p.few (y.unwritten ∙ x.written)
     (λ s h has. (tt, (line_of line, y.leaves s h)))
 failed (Damaged block) first mid now bytes line script rest a b c before after p l x y =
     failed_by (Damaged block) first mid now bytes line script rest a b c before after p l x (λ has. inr (line_of line, has)) p.few (y.unwritten ∙ x.written)
     (λ s h has. (y.leaves s h, y.leaves s h))
 failed Source first mid now bytes line script rest a b c before after p l x y = absurd y
 failed Memory first mid now bytes line script rest a b c before after p l x y =
-    failed_by Memory first mid now bytes line script rest a b c before after p l x (λ has. inr (line_of line, has)) p.few (y.unwritten ∙ x.written)
+    failed_by Memory first mid now bytes line script rest a b c before after p l x (λ has. line_front _ _ (inr (line_of line, has))) p.few (y.unwritten ∙ x.written)
     (λ s h has. (tt, (line_of line, y.leaves s h)))
 failed TooLong first mid now bytes line script rest a b c before after p l x y = absurd y
 failed (Worn which) first mid now bytes line script rest a b c before after p l x y =
-    failed_by (Worn which) first mid now bytes line script rest a b c before after p l x (λ has. (line_of line, has)) p.few (y.unwritten ∙ x.written)
+    failed_by (Worn which) first mid now bytes line script rest a b c before after p l x (λ has. inr (line_of line, has)) p.few (y.unwritten ∙ x.written)
     (λ s h has. let w = y.leaves s h in (
       record { next = line_of line; has = has; left = w.left; worn = w.worn },
       leaves_worn which s (line_of line) now w,
@@ -612,7 +626,7 @@ failed Sink first mid now bytes line script rest a b c before after p l x y =
 
 pub session_fails : (e : Fault) (first mid now : State → Type 0) (line : List ℕ) (taken : ℕ) (script rest a b c : Option (List ℕ)) (before at after : Option Takes)
     → Stands first mid line taken script rest a b before at → IsAtEnd rest → after ≡ option_map (takes_after []) at → is_empty line ≡ false
-    → RunFails e mid now (line_of line) b c → Session (Some e) first now script rest before after a c
+    → RunFails e mid now (line_of line) b c → Session (Some e) first (λ _. now) script rest before after a c
 session_fails e first mid now line taken script rest a b c before at after s end told some fails =
     failed e first mid now s.bytes line script rest a b c before after (parts_none s after told)
     (record {
@@ -637,7 +651,7 @@ complete_by : (e : Fault) (first now : State → Type 0) (bytes front final take
     → ((bs : List ℕ) → IsFront (executed x.exchanges) (lines_to_run bs) → Among (Some e) bs x.exchanges)
     → TakenAt (Some e) taken x.exchanges → Replied (Some e) front taken x.exchanges a c
     → ((s : State) (lines : List LineMeaning) → Tells (Some e) s (executed x.exchanges) lines) → ((s : State) → now s → Ends (Some e) s now)
-    → Session (Some e) first now script rest before after a c
+    → Session (Some e) first (λ _. now) script rest before after a c
 complete_by e first now bytes front final taken more script rest a b c before after x none joined split is took begins among taken_at replied tells ends =
     let xs : List Exchange = x.exchanges in
     let among_all : (further : List ℕ) → Among (Some e) (taken ++ further) xs =
@@ -666,7 +680,7 @@ complete_by e first now bytes front final taken more script rest a b c before af
 
 -- the source's fault
 pub session_source : (first now : State → Type 0) (line : List ℕ) (taken : ℕ) (script rest a b : Option (List ℕ)) (before at after : Option Takes)
-    → Stands first now line taken script rest a b before at → after ≡ option_map (takes_after []) at → Session (Some Source) first now script rest before after a b
+    → Stands first now line taken script rest a b before at → after ≡ option_map (takes_after []) at → Session (Some Source) first (λ _. now) script rest before after a b
 session_source first now line taken script rest a b before at after s told =
     let p = parts_none s after told in
     complete_by Source first now s.bytes s.bytes p.final s.bytes [] script rest a b b before after s.ran s.no_stop (sym (append-nil s.bytes)) p.taken_is p.script_is p.took
@@ -690,7 +704,7 @@ begins_front front final bytes xs split are none =
 
 -- the sink's fault where it has to pass on the replies before a take
 pub session_keeps : (first now : State → Type 0) (line : List ℕ) (taken : ℕ) (script rest a b c : Option (List ℕ)) (before at : Option Takes)
-    → Stands first now line taken script rest a b before at → c ≡ b → Session (Some Sink) first now script rest before at a c
+    → Stands first now line taken script rest a b before at → c ≡ b → Session (Some Sink) first (λ _. now) script rest before at a c
 session_keeps first now line taken script rest a b c before at s same =
     complete_by Sink first now s.bytes s.front s.final s.bytes [] script rest a b c before at s.ran s.no_stop (sym (append-nil s.bytes)) s.split s.taken_is s.took
     (begins_front s.front s.final s.bytes s.ran.exchanges s.split s.ran.lines_are s.no_stop) (λ bs h. h) (omega (arith, s.count, s.few))
@@ -699,10 +713,18 @@ session_keeps first now line taken script rest a b c before at s same =
 all_front : (xs ys : List LineMeaning) → xs ≡ ys → IsFront xs ys
 all_front xs ys is = ([], sym is ∙ sym (append-nil xs))
 
--- the sink's fault where it has to pass on the last replies
-pub session_keeps_last : (first now : State → Type 0) (script rest a b c : Option (List ℕ)) (before at : Option Takes)
-    → Session None first now script rest before at a b → c ≡ b → Session (Some Sink) first now script rest before at a c
-session_keeps_last first now script rest a b c before at s same = record {
+-- ---- after the last line
+
+-- a session that executed all lines, and what follows
+session_then : (end : Option Fault) (first : State → Type 0) (mid last : Bool → State → Type 0) (script rest a b c : Option (List ℕ)) (before at : Option Takes)
+    → Session None first mid script rest before at a b → c ≡ b
+    → ((bytes : List ℕ) (xs : List Exchange) → executed xs ≡ lines_to_run bytes → Among end bytes xs)
+    → ((taken : List ℕ) (xs : List Exchange) → length taken ≤ script_limit → TakenAt end taken xs)
+    → ((front taken : List ℕ) (xs : List Exchange) → c ≡ append_known a (text xs) → executed xs ≡ lines_to_run taken → Replied end front taken xs a c)
+    → ((s : State) (done lines : List LineMeaning) → Tells end s done lines)
+    → ((stopped : Bool) (s : State) → mid stopped s → Ends end s (last stopped))
+    → Session end first last script rest before at a c
+session_then end first mid last script rest a b c before at s same among taken_at replied tells ends = record {
   exchanges = s.exchanges;
   answered = s.answered;
   front = s.front;
@@ -712,30 +734,76 @@ session_keeps_last first now script rest a b c before at s same = record {
   script_is = s.script_is;
   took = s.took;
   begins = s.begins;
-  among_taken = all_front (executed s.exchanges) (lines_to_run s.taken) s.among_taken;
+  among_taken = among s.taken s.exchanges s.among_taken;
   among_script = by s.exchanges script s.among_script;
-  taken_at = s.taken_at;
-  replied = inr (record { written = same ∙ s.replied; lines_are = inr s.among_taken });
-  runs = λ t h. transcript_as t s.exchanges (EndsIn None s.exchanges s.taken script now) _ (s.runs t h)
-      (λ u g. record { told = tt; told_script = any_script (Unit {0}) script tt; reached = g.reached });
+  taken_at = taken_at s.taken s.exchanges s.taken_at;
+  replied = replied s.front s.taken s.exchanges (same ∙ s.replied) s.among_taken;
+  runs = λ t h. transcript_as t s.exchanges (EndsIn None s.exchanges s.taken script mid) _ (s.runs t h)
+      (λ u g. record {
+        told = tells u (executed s.exchanges) (lines_to_run s.taken);
+        told_script = each u (executed s.exchanges) script;
+        reached = ends (has_stop s.exchanges) u g.reached;
+      });
 }
   where
-    by : (xs : List Exchange) (o : Option (List ℕ)) → IfSome o (λ bytes. executed xs ≡ lines_to_run bytes) → IfSome o (λ bytes. IsFront (executed xs) (lines_to_run bytes))
+    by : (xs : List Exchange) (o : Option (List ℕ)) → IfSome o (λ bytes. executed xs ≡ lines_to_run bytes) → IfSome o (λ bytes. Among end bytes xs)
     by xs None h = tt
-    by xs (Some bytes) h = all_front (executed xs) (lines_to_run bytes) h
+    by xs (Some bytes) h = among bytes xs h
 
--- a session that ended well, and then passes on the last replies
-pub ended_flushed : {T : Type 0} (first now : State → Type 0) (script rest a b c : Option (List ℕ)) (before at : Option Takes) (r : Result T Fault)
-    → Session None first now script rest before at a b → c ≡ b → IfErr r (λ e. e ≡ Sink) → Session (end_of r) first now script rest before at a c
-ended_flushed first now script rest a b c before at (Ok x) s same kind =
-    subst (λ w. Session None first now script rest before at a w) (sym same) s
-ended_flushed first now script rest a b c before at (Err e) s same kind =
-    subst (λ f. Session (Some f) first now script rest before at a c) (sym kind) (session_keeps_last first now script rest a b c before at s same)
+    each : (u : State) (done : List LineMeaning) (o : Option (List ℕ)) → IfSome o (λ bytes. Tells end u done (lines_to_run bytes))
+    each u done None = tt
+    each u done (Some bytes) = tells u done (lines_to_run bytes)
+
+-- the sink's fault where it has to pass on the last replies
+pub session_keeps_last : (first now : State → Type 0) (flow : ControlFlow (Unit {0}) (Unit {0})) (script rest a b c : Option (List ℕ)) (before at : Option Takes)
+    → Session None first (ToldAt (Ok flow) now) script rest before at a b → c ≡ b → Session (Some Sink) first (λ _. now) script rest before at a c
+session_keeps_last first now flow script rest a b c before at s same =
+    session_then (Some Sink) first (ToldAt (Ok flow) now) (λ _. now) script rest a b c before at s same (λ bs xs h. all_front (executed xs) (lines_to_run bs) h)
+    (λ taken xs h. h) (λ front taken xs written lines. inr (record { written = written; lines_are = inr lines })) (λ u done lines. tt) (λ stopped u h. h.0)
+
+-- all was made durable, where no `stop` did so
+pub session_closed : (first mid now : State → Type 0) (flow : ControlFlow (Unit {0}) (Unit {0})) (script rest a b c : Option (List ℕ)) (before at : Option Takes)
+    → Session None first (ToldAt (Ok flow) mid) script rest before at a b → c ≡ b → ((s : State) → mid s → now (closed None (breaks flow) s))
+    → Session None first (ClosedAt None now) script rest before at a c
+session_closed first mid now flow script rest a b c before at s same closes =
+    session_then None first (ToldAt (Ok flow) mid) (ClosedAt None now) script rest a b c before at s same (λ bs xs h. h)
+    (λ taken xs h. h) (λ front taken xs written lines. written) (λ u done lines. tt)
+    (λ stopped u h. subst (λ b. now (closed None b u)) h.1 (closes u h.0))
+
+-- the last sync failed
+pub session_unclosed : (e : Fault) (first mid now : State → Type 0) (flow : ControlFlow (Unit {0}) (Unit {0})) (script rest a b c : Option (List ℕ)) (before at : Option Takes)
+    → (e ≡ Device) ⊎ (e ≡ Memory) → Session None first (ToldAt (Ok flow) mid) script rest before at a b → c ≡ b → ((s : State) → mid s → now s)
+    → Session (Some e) first (λ _. now) script rest before at a c
+session_unclosed e first mid now flow script rest a b c before at (inl is) s same stays =
+    subst (λ f. Session (Some f) first (λ _. now) script rest before at a c) (sym is)
+    (session_then (Some Device) first (ToldAt (Ok flow) mid) (λ _. now) script rest a b c before at s same (λ bs xs h. all_front (executed xs) (lines_to_run bs) h)
+    (λ taken xs h. h) (λ front taken xs written lines. written) (λ u done lines. tt) (λ stopped u h. leaves_nothing u now (stays u h.0)))
+session_unclosed e first mid now flow script rest a b c before at (inr is) s same stays =
+    subst (λ f. Session (Some f) first (λ _. now) script rest before at a c) (sym is)
+    (session_then (Some Memory) first (ToldAt (Ok flow) mid) (λ _. now) script rest a b c before at s same (λ bs xs h. all_front (executed xs) (lines_to_run bs) h)
+    (λ taken xs h. h) (λ front taken xs written lines. written) (λ u done lines. tt) (λ stopped u h. leaves_nothing u now (stays u h.0)))
+
+-- the last sync, with either end
+pub session_close : {T : Type 0} (r : Result T Fault) (first mid now : State → Type 0) (flow : ControlFlow (Unit {0}) (Unit {0})) (script rest a b c : Option (List ℕ))
+    (before at : Option Takes) → Session None first (ToldAt (Ok flow) mid) script rest before at a b → c ≡ b → breaks flow ≡ false
+    → OnOk r ((s : State) → mid s → now (synced_state s)) → OnErr r ((s : State) → mid s → now s) → IfErr r (λ e. (e ≡ Device) ⊎ (e ≡ Memory))
+    → Session (end_of r) first (ClosedAt (end_of r) now) script rest before at a c
+session_close (Ok x) first mid now flow script rest a b c before at s same on ok err kind =
+    session_closed first mid now flow script rest a b c before at s same (λ u h. subst (λ t. now (closed None t u)) (sym on) (ok u h))
+session_close (Err e) first mid now flow script rest a b c before at s same on ok err kind =
+    session_unclosed e first mid now flow script rest a b c before at kind s same err
+
+-- a `stop` made all durable
+pub session_stopped : (first now : State → Type 0) (flow : ControlFlow (Unit {0}) (Unit {0})) (script rest a b c : Option (List ℕ)) (before at : Option Takes)
+    → Session None first (ToldAt (Ok flow) now) script rest before at a b → c ≡ b → breaks flow ≡ true
+    → Session None first (ClosedAt None now) script rest before at a c
+session_stopped first now flow script rest a b c before at s same off =
+    session_closed first now now flow script rest a b c before at s same (λ u h. subst (λ t. now (closed None t u)) (sym off) h)
 
 -- a byte past the limit
 pub session_too_long : (first now : State → Type 0) (line piece : List ℕ) (taken : ℕ) (script left rest a b : Option (List ℕ)) (before at after : Option Takes)
     → Stands first now line taken script left a b before at → taken ≡ script_limit → left ≡ prepend_known piece rest → length piece ≡ 1
-    → after ≡ option_map (takes_after piece) at → Session (Some TooLong) first now script rest before after a b
+    → after ≡ option_map (takes_after piece) at → Session (Some TooLong) first (λ _. now) script rest before after a b
 session_too_long first now line piece taken script left rest a b before at after s full got one told =
     let is = s.taken_is ∙ ap (prepend_known s.bytes) got ∙ prepend_known-append s.bytes piece rest in
     let cut : take script_limit (s.bytes ++ piece) ≡ s.bytes = ap (λ n. take n (s.bytes ++ piece)) (sym (s.count ∙ full)) ∙ take-append_seam s.bytes piece in
@@ -747,10 +815,10 @@ session_too_long first now line piece taken script left rest a b before at after
     ) s.ran.written (λ t ls. tt) (λ t g. g)
 
 -- what is said of either end of a call, of its end
-pub ends_by : {T : Type 0} (P : Option Fault → Type 0) (A S : Type 0) (B : Fault → Type 0) (r : Result T Fault) → OnOk r A → IfErr r B → OnErr r S
-    → (A → P None) → ((e : Fault) → B e → S → P (Some e)) → P (end_of r)
-ends_by P A S B (Ok x) ok err some f g = f ok
-ends_by P A S B (Err e) ok err some f g = g e err some
+pub ends_by : {T : Type 0} (P : Result T Fault → Type 0) (A S : Type 0) (F : T → Type 0) (B : Fault → Type 0) (r : Result T Fault) → OnOk r A → IfOk r F
+    → IfErr r B → OnErr r S → ((x : T) → A → F x → P (Ok x)) → ((e : Fault) → B e → S → P (Err e)) → P r
+ends_by P A S F B (Ok x) ok flow err some f g = f x ok flow
+ends_by P A S F B (Err e) ok flow err some f g = g e err some
 
 -- a piece that a source gave, within the limits
 pub record Gave (taken size : ℕ) (place : List ℕ) (old new : Option (List ℕ)) (before after : Option Takes) : Type 0 where

@@ -87,6 +87,16 @@ up_to_stop-none (l ∷ ls) e = by (is_stop l) e (up_to_stop-none ls)
     by true h f = cc
     by false h f = ap (λ r. l ∷ r) (f h)
 
+-- a `stop` is among them where it is among all
+pub up_to_stop-any : (ls : List LineMeaning) → list_any is_stop (up_to_stop ls) ≡ list_any is_stop ls
+up_to_stop-any [] = refl
+up_to_stop-any (l ∷ ls) = by (is_stop l) (up_to_stop-any ls)
+  where
+    by : (s : Bool) → list_any is_stop (up_to_stop ls) ≡ list_any is_stop ls
+        → (s || list_any is_stop (cond s [] (up_to_stop ls))) ≡ (s || list_any is_stop ls)
+    by true h = refl
+    by false h = h
+
 -- what stands after a `stop` doesn't count
 pub up_to_stop-stopped : (ls ms : List LineMeaning) → list_any is_stop ls ≡ true → up_to_stop (ls ++ ms) ≡ up_to_stop ls
 up_to_stop-stopped [] ms e = cc

@@ -9,7 +9,7 @@ use Rattle.bd_model.proofs.TreeStays.{after_stays}
 use Rattle.bd_device.specs.Blocks.{Image}
 use Rattle.bd_image.specs.ImageTree.{LeadsOn, ImageStandsFor}
 use Rattle.bd_script.specs.Lines.{LineMeaning}
-use Rattle.bd_script.specs.declared.line.Line.TheVariants.{Run, Walk, Df, Checkpoint, Reclaim, Stop}
+use Rattle.bd_script.specs.declared.line.Line.TheVariants.{Run, Walk, Df, Sync, Checkpoint, Reclaim, Stop}
 use Rattle.bd_script.specs.declared.replies.LineReply.{LineReply}
 use Rattle.bd_script.specs.declared.replies.LineReply.TheVariants as reply
 use Rattle.bd_view.specs.Views.{View}
@@ -43,6 +43,7 @@ follows_tree : (s : State) (l : LineMeaning) (said : LineReply) (after : State) 
 follows_tree s (Ok (Run c)) said after tree h = answers_tree s c said after tree h
 follows_tree s (Ok Walk) said after tree h = by_same s after (ap (λ (t : State). t.tree) h.1) tree
 follows_tree s (Ok Df) said after tree h = by_same s after (ap (λ (t : State). t.tree) h.1) tree
+follows_tree s (Ok Sync) said after tree h = by_same s after (ap (λ (t : State). t.tree) h.1) tree
 follows_tree s (Ok Checkpoint) said after tree h = by_same s after (serves_tree Saves FillsCheckpoint s said after h) tree
 follows_tree s (Ok Reclaim) said after tree h = by_same s after (serves_tree IsReclaim FillsReclaim s said after h) tree
 follows_tree s (Ok Stop) said after tree h = by_same s after (ap (λ (t : State). t.tree) h.1) tree
@@ -61,6 +62,7 @@ follows_limited : (s : State) (l : LineMeaning) (said : LineReply) (after : Stat
 follows_limited s (Ok (Run c)) said after h = answers_limited s c said after h
 follows_limited s (Ok Walk) said after h = tt
 follows_limited s (Ok Df) said after h = tt
+follows_limited s (Ok Sync) said after h = tt
 follows_limited s (Ok Checkpoint) said after h = tt
 follows_limited s (Ok Reclaim) said after h = tt
 follows_limited s (Ok Stop) said after h = tt

@@ -10,21 +10,24 @@ use Rattle.bd_message.specs.declared.message.Message.{Message}
 use Rattle.bd_model.specs.Tree.{Tree}
 use Rattle.bd_model.specs.Step.{step}
 use Rattle.bd_script.specs.Lines.{LineMeaning}
-use Rattle.bd_script.specs.declared.line.Line.TheVariants.{Run, Walk, Df, Checkpoint, Reclaim, Stop}
+use Rattle.bd_script.specs.declared.line.Line.TheVariants.{Run, Walk, Df, Sync, Checkpoint, Reclaim, Stop}
 use Rattle.bd_script.specs.declared.replies.LineReply.{LineReply}
 use Rattle.bd_script.specs.declared.replies.LineReply.TheVariants as reply
 use Rattle.bd_view.specs.Trees.{HasAppended}
 use Rattle.bd_view.specs.Views.{View}
-use Rattle.bd_view.specs.Moves.{Saves, IsExecuted}
+use Rattle.bd_view.specs.Moves.{Saves, IsExecuted, IsAccepted, logged}
 use Rattle.bd_view.specs.Reclaiming.{IsReclaim}
 use Rattle.bd_view.specs.Reclaiming.IsReclaimFull.{first, edge, last}
 use Rattle.bd_view.proofs.Standing.{steps_walk, reclaims_walk}
 use Rattle.betr.specs.Transcript.{State, Entry, Answers, Serves, FillsCheckpoint, FillsReclaim, Follows, Moves, IsTranscript, grafts, is_made, IsCheap, AreCheap}
 
 -- what is sent after steps keeps the walk, and so does what isn't accepted
-appended_keeps : (b : Bool) (t : Tree) (c : Command) (list : List Message) (old new : View) → ((m : IsExecuted t c old new) → HasAppended list m.mid.tree new.tree)
-    → MatchBool b (IsExecuted t c old new) (new ≡ old) → new.tree.walk ≡ old.tree.walk
-appended_keeps true t c list old new sent h = (sent h).walk_is ∙ steps_walk c h.stepped.made old h.mid h.stepped.steps
+appended_keeps : (b : Bool) (t : Tree) (c : Command) (list : List Message) (old new : View)
+    → ((sent : View) (m : IsExecuted t c old sent) → HasAppended list m.mid.tree sent.tree)
+    → MatchBool b (IsAccepted t c old new) (new ≡ old) → new.tree.walk ≡ old.tree.walk
+appended_keeps true t c list old new sent h =
+    let x : IsExecuted t c old h.last = h.executed in
+    ap (λ (v : View). v.tree.walk) h.after ∙ (sent h.last x).walk_is ∙ steps_walk c x.stepped.made old x.mid x.stepped.steps
 appended_keeps false t c list old new sent h = ap (λ (v : View). v.tree.walk) h
 
 grafted_is : (b : Bool) (P Q R S : Type 0) → (P → Q) → (R → S) → MatchBool b P R → MatchBool b Q S
@@ -34,16 +37,21 @@ grafted_is false P Q R S f g h = g h
 walk_of : (old new : View) → new ≡ old → new.tree.walk ≡ old.tree.walk
 walk_of old new h = ap (λ (v : View). v.tree.walk) h
 
+-- a record that waits keeps the walk
+few_as : (c : Command) (mid new : View) → new ≡ logged c mid → mid.tree.walk.visits ≤ 5 * mid.tree.walk.height + 2
+    → new.tree.walk.visits ≤ 5 * new.tree.walk.height + 2
+few_as c mid new after few = subst (λ (v : View). v.tree.walk.visits ≤ 5 * v.tree.walk.height + 2) (sym after) few
+
 run_cheap : (t : Tree) (c : Command) (r : Reply) (old new : View) → Moves t c r old new
     → MatchBool (grafts c && is_done r) (new.tree.walk.visits ≤ 5 * new.tree.walk.height + 2) (new.tree.walk ≡ old.tree.walk)
-run_cheap t (Mkdir path) r old new h = appended_keeps (is_done r) t (Mkdir path) _ old new (λ m. m.sent) h
-run_cheap t (Create path) r old new h = appended_keeps (is_done r) t (Create path) _ old new (λ m. m.sent) h
-run_cheap t (Write path off bytes) r old new h = appended_keeps (is_done r) t (Write path off bytes) _ old new (λ m. m.sent) h
-run_cheap t (Truncate path len) r old new h = appended_keeps (is_done r) t (Truncate path len) _ old new (λ m. m.sent) h
-run_cheap t (Remove path) r old new h = appended_keeps (is_done r) t (Remove path) _ old new (λ m. m.sent) h
-run_cheap t (Rename a b) r old new h = grafted_is (is_done r) (IsExecuted t (Rename a b) old new) _ (new ≡ old) _ (λ m. m.sent.walked.few_visits) (walk_of old new) h
-run_cheap t (Clone a b) r old new h = grafted_is (is_done r) (IsExecuted t (Clone a b) old new) _ (new ≡ old) _ (λ m. m.sent.walked.few_visits) (walk_of old new) h
-run_cheap t (Chmod path mode) r old new h = appended_keeps (is_done r) t (Chmod path mode) _ old new (λ m. m.sent) h
+run_cheap t (Mkdir path) r old new h = appended_keeps (is_done r) t (Mkdir path) _ old new (λ v m. m.sent) h
+run_cheap t (Create path) r old new h = appended_keeps (is_done r) t (Create path) _ old new (λ v m. m.sent) h
+run_cheap t (Write path off bytes) r old new h = appended_keeps (is_done r) t (Write path off bytes) _ old new (λ v m. m.sent) h
+run_cheap t (Truncate path len) r old new h = appended_keeps (is_done r) t (Truncate path len) _ old new (λ v m. m.sent) h
+run_cheap t (Remove path) r old new h = appended_keeps (is_done r) t (Remove path) _ old new (λ v m. m.sent) h
+run_cheap t (Rename a b) r old new h = grafted_is (is_done r) (IsAccepted t (Rename a b) old new) _ (new ≡ old) _ (λ m. few_as (Rename a b) m.last new m.after m.executed.sent.walked.few_visits) (walk_of old new) h
+run_cheap t (Clone a b) r old new h = grafted_is (is_done r) (IsAccepted t (Clone a b) old new) _ (new ≡ old) _ (λ m. few_as (Clone a b) m.last new m.after m.executed.sent.walked.few_visits) (walk_of old new) h
+run_cheap t (Chmod path mode) r old new h = appended_keeps (is_done r) t (Chmod path mode) _ old new (λ v m. m.sent) h
 run_cheap t (Read path off len) r old new h = walk_of old new h
 run_cheap t (Stat path) r old new h = walk_of old new h
 run_cheap t (Ls path after) r old new h = walk_of old new h
@@ -90,6 +98,7 @@ cheap_one : (s : State) (l : LineMeaning) (said : LineReply) (after : State) →
 cheap_one s (Ok (Run c)) said after h = answers_cheap s c said after h
 cheap_one s (Ok Walk) said after h = ap (λ (t : State). t.view.tree.walk) h.1
 cheap_one s (Ok Df) said after h = ap (λ (t : State). t.view.tree.walk) h.1
+cheap_one s (Ok Sync) said after h = ap (λ (t : State). t.view.tree.walk) h.1
 cheap_one s (Ok Checkpoint) said after h = serves_keeps Saves FillsCheckpoint s said after saves_keep full_checkpoint_keeps h
 cheap_one s (Ok Reclaim) said after h = serves_keeps IsReclaim FillsReclaim s said after reclaim_keeps full_reclaim_keeps h
 cheap_one s (Ok Stop) said after h = ap (λ (t : State). t.view.tree.walk) h.1

@@ -1,11 +1,12 @@
 -- The faults that end a run: their statuses and lines, and their causes.
-use Rattle.std.specs.Prelude.{◌≡◌, ℕ, ◌≤◌, List, [], ◌∷◌, ◌++◌, codes, decimal, Result, OnOk, IfErr}
+use Rattle.std.specs.Prelude.{◌≡◌, ℕ, ◌≤◌, List, [], ◌∷◌, ◌++◌, codes, decimal, Result, OnOk, IfErr, ⊤}
 use Rattle.bd_io.specs.Cause.{Rose}
 use Rattle.bd_device.specs.declared.fault.ImageFault.{ImageFault}
 use Rattle.bd_device.specs.declared.fault.ImageFault.TheVariants as image
 use Rattle.bd_message.specs.Counters.{counter_name}
 use Rattle.bd_volume.specs.Faults.{image_fault_of}
 use Rattle.bd_volume.specs.declared.fault.Fault.{Fault as VolumeFault}
+use Rattle.bd_volume.specs.declared.fault.Fault.TheVariants as volume
 use Rattle.betr.specs.declared.fault.Fault.{Fault}
 use Rattle.betr.specs.declared.fault.Fault.TheVariants.{Device, Damaged, Source, Memory, TooLong, Worn, Sink}
 
@@ -29,7 +30,7 @@ fault_line TooLong = codes "fault too-long" ++ 10 ∷ []
 fault_line (Worn which) = codes "fault worn " ++ counter_name which ++ 10 ∷ []
 fault_line Sink = []
 
--- the fault of a run whose image isn't read or made
+-- the fault of a call whose image isn't made
 abbrev pub fault_of_image : ImageFault → Fault
 fault_of_image image.DeviceFault = Device
 fault_of_image (image.Damaged block) = Damaged block
@@ -38,6 +39,25 @@ fault_of_image image.NoMemory = Memory
 -- the volume's fault is one of an image
 abbrev pub IsOfImage : VolumeFault → Type 0
 IsOfImage fault = (cause : ImageFault) × (fault ≡ image_fault_of cause)
+
+-- the fault of a run whose volume doesn't start: want of slots and a volume that was stopped aren't
+-- why
+abbrev pub IsStartFault : VolumeFault → Fault → Type 0
+IsStartFault volume.Device fault = fault ≡ Device
+IsStartFault (volume.Damaged block) fault = fault ≡ Damaged block
+IsStartFault (volume.Worn which) fault = fault ≡ Worn which
+IsStartFault volume.NoMemory fault = fault ≡ Memory
+IsStartFault (volume.Full free need) fault = ⊥
+IsStartFault (volume.Stopped call) fault = ⊥
+
+-- the volume's fault may be that of a start
+abbrev pub ComesAtStart : VolumeFault → Type 0
+ComesAtStart volume.Device = ⊤
+ComesAtStart (volume.Damaged block) = ⊤
+ComesAtStart (volume.Worn which) = ⊤
+ComesAtStart volume.NoMemory = ⊤
+ComesAtStart (volume.Full free need) = ⊥
+ComesAtStart (volume.Stopped call) = ⊥
 
 -- how often the outside has failed: the device, also at a write or a barrier, the source, the sink
 pub record Faults : Type 0 where

@@ -1,5 +1,5 @@
 -- What a whole run says of its device, source and sink.
-use Rattle.std.specs.Prelude.{◌≡◌, ◌⊎◌, ℕ, ◌≤◌, List, [], ◌∷◌, ◌++◌, length, IfSome, IsSome, IsSomeAnd, ⊤}
+use Rattle.std.specs.Prelude.{◌≡◌, ◌⊎◌, ℕ, ◌+◌, ◌<◌, ◌≤◌, List, [], ◌∷◌, ◌++◌, length, IfSome, IsSome, IsSomeAnd, ⊤}
 use Rattle.std.specs.List.{AllByRecursion}
 use Rattle.std.specs.Io.KnownBytes.{append_known, prepend_known}
 use Rattle.std.specs.declared.option.Option.{Option}
@@ -8,20 +8,26 @@ use Rattle.bd_limits.specs.Limits.{script_limit}
 use Rattle.bd_io.specs.Cause.{Rose, next_count}
 use Rattle.bd_io.specs.Takes.{Takes}
 use Rattle.bd_io.specs.Written.{WrotePart}
+use Rattle.bd_message.specs.declared.fault.Counter.{Counter}
 use Rattle.bd_model.specs.Tree.{Tree}
 use Rattle.bd_device.specs.Blocks.{Image}
-use Rattle.bd_device.specs.Memory.{MemoryDevice, attached_image, attached_size, held_image}
+use Rattle.bd_device.specs.Moments.{Elapses}
+use Rattle.bd_device.specs.Memory.{MemoryDevice, attached_image, attached_size, held_image, left_of}
 use Rattle.bd_device.specs.declared.device.Device.{Ghosts}
 use Rattle.bd_slots.specs.Layout.{image_blocks}
 use Rattle.bd_view.specs.Views.{View}
-use Rattle.bd_engine.specs.Stored.{IsStoredView, HasSaved}
+use Rattle.bd_image.specs.ImageTree.{ImageStandsFor}
+use Rattle.bd_engine.specs.Stored.{HasSaved}
+use Rattle.bd_volume.specs.Volume.{IsFirstView}
+use Rattle.bd_volume.specs.Wears.{WearsReplaying}
 use Rattle.betr.specs.declared.fault.Fault.{Fault}
+use Rattle.betr.specs.declared.fault.Fault.TheVariants.{Worn}
 use Rattle.betr.specs.declared.outcome.Ack.{Ack}
 use Rattle.betr.specs.Fault.{status_of, fault_line, Faults, Caused}
 use Rattle.betr.specs.Format.{SaysDone, HasNewImage}
 use Rattle.betr.specs.Transcript.{Known, State, state_at, Exchange, IsAnswered, HasTranscript, executed, lines_to_run}
-use Rattle.betr.specs.Session.{Among, BeginsWith, TakenAt, Replied, Tells}
-use Rattle.betr.specs.Shell.{IsStart}
+use Rattle.betr.specs.Session.{Among, BeginsWith, TakenAt, Replied, Tells, has_stop, closed}
+use Rattle.betr.specs.Crashes.{IsAtPoint, IsAcked, counts_of_acks}
 use Rattle.betr.specs.Taken.{Took}
 use Rattle.betr.specs.Words.{Call, Run, Format}
 
@@ -30,18 +36,34 @@ abbrev pub end_status : Option Fault → ℕ
 end_status None = 0
 end_status (Some e) = status_of e
 
--- what is told of the outside at a moment: what the device shows for the image's name, what is left
--- of the script, how it was asked for, what was written, the counts of faults
-pub record Ends : Type 0 where
+-- what is told of an image at a moment: what the device shows for its name, the device's count of
+-- calls, what a crash since each of them might have left, and how often a write or a barrier failed
+pub record Disk : Type 1 where
   pub image : Option Image
+  pub calls : ℕ
+  pub left : ℕ → Image → Type 0
+  pub write_faults : ℕ
+
+abbrev pub disk : Option Image → ℕ → (ℕ → Image → Type 0) → ℕ → Disk
+disk image calls left write_faults = record {
+  image = image;
+  calls = calls;
+  left = left;
+  write_faults = write_faults;
+}
+
+-- what is told of the outside at a moment: of the image, what is left of the script, how it was
+-- asked for, what was written, the counts of faults
+pub record Ends : Type 1 where
+  pub disk : Disk
   pub script : Known
   pub takes : Option Takes
   pub written : Known
   pub faults : Faults
 
-abbrev pub ends : Option Image → Known → Option Takes → Known → Faults → Ends
-ends image script takes written faults = record {
-  image = image;
+abbrev pub ends : Disk → Known → Option Takes → Known → Faults → Ends
+ends disk script takes written faults = record {
+  disk = disk;
   script = script;
   takes = takes;
   written = written;
@@ -72,27 +94,65 @@ IsFlushed waiting before now = (waiting ≡ 0) ⊎ Rose before now
 
 -- ---- the transcript
 
--- the state after the last line: damage never comes, a counter is worn by a next line of those taken
--- and of the script, and where no fault came what is shown then has just the nodes saved that the
--- view has
-pub record IsLast (end : Option Fault) (xs : List Exchange) (taken : List ℕ) (script : Known)
-    (shown : Option Image) (s : State) : Type 0 where
+-- damage never comes, and a counter is worn by a next line of those taken and of the script
+pub record IsTold (end : Option Fault) (xs : List Exchange) (taken : List ℕ) (script : Known)
+    (s : State) : Type 0 where
   pub told : Tells end s (executed xs) (lines_to_run taken)
   pub told_script : IfSome script (λ bytes. Tells end s (executed xs) (lines_to_run bytes))
-  pub saved : end ≡ None → IfSome shown (HasSaved s.view)
+
+-- nothing was executed: a counter has no room for what the image's log asks for
+pub record IsWornAtStart (end : Option Fault) (xs : List Exchange) (image : Image) : Type 0 where
+  pub which : Counter
+  pub end_is : end ≡ Some (Worn which)
+  pub none : xs ≡ []
+  pub worn : WearsReplaying which image
+
+-- nothing was executed, since the volume's barrier, which returns after so many calls, wasn't made,
+-- or a write or a barrier failed
+pub record IsUnopened (settled : ℕ) (xs : List Exchange) (before now : Disk) : Type 0 where
+  pub none : xs ≡ []
+  pub why : (now.calls < settled) ⊎ Rose before.write_faults now.write_faults
+
+-- what a crash leaves of a run that ends in this state: inside it, and since the barrier with which
+-- its volume starts, a point that was passed; each acknowledgement holds, of each line that made
+-- all durable, in order
+pub record Survives (settled : ℕ) (xs : List Exchange) (acks : List Ack) (before now : Disk)
+    (s : State) : Type 0 where
+  pub stopped : Elapses before.calls now.calls before.left now.left (IsAtPoint s.passed 0)
+  pub opened : ((c : Image) → now.left settled c → IsAtPoint s.passed 0 c)
+      ⊎ IsUnopened settled xs before now
+  pub acked : AllByRecursion (IsAcked s now.calls now.left) acks
+  pub counts : counts_of_acks acks ≡ s.synced
+
+-- the image stands for the state's tree and count, and has just the nodes saved that its view has
+pub record Shows (s : State) (image : Image) : Type 0 where
+  pub stands : ImageStandsFor s.tree s.count image
+  pub saved : HasSaved s.view image
+
+-- what is told of the state after the last line, and of that once all is made durable, where no
+-- fault came; what is shown then stands for it
+pub record IsLast (settled : ℕ) (end : Option Fault) (xs : List Exchange) (taken : List ℕ)
+    (script : Known) (acks : List Ack) (image : Image) (before now : Disk) (s : State)
+    : Type 0 where
+  pub told : IsTold end xs taken script s ⊎ IsWornAtStart end xs image
+  pub survives : Survives settled xs acks before now (closed end (has_stop xs) s)
+  pub shown : end ≡ None → IfSome now.image (Shows (closed end (has_stop xs) s))
 
 -- from an image that stands for a tree the lines with their replies are those of one transcript,
--- which begins at the view that the image stores
-pub record Transcribed (t : Tree) (n : ℕ) (image : Image) (end : Option Fault) (xs : List Exchange)
-    (taken : List ℕ) (script : Known) (shown : Option Image) : Type 0 where
+-- which begins at the image's first view; without one nothing was executed
+pub record Transcribed (settled : ℕ) (t : Tree) (n : ℕ) (image : Image) (end : Option Fault)
+    (xs : List Exchange) (taken : List ℕ) (script : Known) (acks : List Ack) (before now : Disk)
+    : Type 0 where
   pub first : View
-  pub first_is : IsStoredView image first
-  pub run : HasTranscript (state_at t n first) xs (IsLast end xs taken script shown)
+  pub first_is : IsFirstView image first ⊎ ((xs ≡ []) × IsSome end)
+  pub run : HasTranscript (state_at t n first) xs
+      (IsLast settled end xs taken script acks image before now)
 
 -- the lines that a run executed, each with its reply, to which script, takes and what was written
--- are tied; where the image stands for a tree and has no open batch, these lines have their
--- transcript
-pub record Ran (end : Option Fault) (before now : Ends) : Type 0 where
+-- are tied; where the image stands for a tree, these lines have their transcript. The barrier with
+-- which the volume starts returns after so many calls
+pub record Ran (settled : ℕ) (end : Option Fault) (acks : List Ack) (before now : Ends)
+    : Type 0 where
   pub exchanges : List Exchange
   pub answered : AllByRecursion IsAnswered exchanges
   pub front : List ℕ
@@ -106,20 +166,21 @@ pub record Ran (end : Option Fault) (before now : Ends) : Type 0 where
   pub among_script : IfSome before.script (λ bytes. Among end bytes exchanges)
   pub taken_at : TakenAt end taken exchanges
   pub replied : Replied end front taken exchanges before.written now.written
-  pub transcribed : (t : Tree) (n : ℕ) (image : Image) → before.image ≡ Some image
-      → IsStart t n image → Transcribed t n image end exchanges taken before.script now.image
+  pub transcribed : (t : Tree) (n : ℕ) (image : Image) → before.disk.image ≡ Some image
+      → ImageStandsFor t n image → Transcribed settled t n image end exchanges taken
+      before.script acks before.disk now.disk
 
 -- how a run went: what ended it, to which its status and its last line are tied, and what was
--- executed, with the replies and the counts of faults before the last line
+-- executed, with the replies and the counts of faults before the last line. The first call of the
+-- device is the attach, and the second the barrier with which the volume starts
 pub record Went (status : ℕ) (acks : List Ack) (before now : Ends) : Type 0 where
   pub end : Option Fault
   pub status_is : status ≡ end_status end
   pub replies : Known
   pub ended : Faults
-  pub ran : Ran end before (before_last now replies ended)
+  pub ran : Ran (before.disk.calls + 2) end acks before (before_last now replies ended)
   pub cause : IfSome end (λ e. Caused e before.faults ended)
   pub last : WritesEnd end replies now.written ended now.faults
-  pub acked : acks ≡ []
 
 -- how making an image went: what ended it, to which its status, its reply and its last line are
 -- tied; the source stays as it was
@@ -162,6 +223,10 @@ abbrev pub seen_in_memory : MemoryDevice → Seen
 seen_in_memory d =
     seen (Some (attached_image d)) (attached_size d) (λ _. Some (held_image d)) d.plan.calls
 
+-- and of its image
+abbrev pub disk_in_memory : MemoryDevice → Disk
+disk_in_memory d = disk (Some (held_image d)) d.plan.calls (left_of d) d.write_faults
+
 -- one call was made, which failed, and the device has no blocks
 pub record IsDetached (status : ℕ) (before now : Seen) : Type 0 where
   pub status_is : status ≡ 3
@@ -193,7 +258,7 @@ Makes g (Format image slots) status old new = (status ≡ 0) ⊎ (status ≡ 9)
 
 -- the image stands for a tree and has no open batch
 abbrev pub HasStart : Image → Type 0
-HasStart image = (t : Tree) × (n : ℕ) × IsStart t n image
+HasStart image = (t : Tree) × (n : ℕ) × ImageStandsFor t n image
 
 -- what a call takes is there: for a run an image that is known and has a tree, and a script that is
 -- known and isn't too long

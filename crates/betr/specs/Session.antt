@@ -1,11 +1,13 @@
 -- What a session does with the lines of a script, and how it ends.
-use Rattle.std.specs.Prelude.{◌≡◌, ◌⊎◌, ℕ, ◌+◌, ◌^◌, ◌≤◌, false, List, [], ◌∷◌, ◌++◌, length, take, IfSome, IsNone, IsSome, ⊤}
+use Rattle.std.specs.Prelude.{◌≡◌, ◌⊎◌, ℕ, ◌+◌, ◌^◌, ◌≤◌, Bool, true, false, List, [], ◌∷◌, ◌++◌, length, take, if◌then◌else◌, IfSome, IsNone, IsSome, ⊤}
 use Rattle.std.specs.List.{list_any, AllByRecursion}
 use Rattle.std.specs.Io.KnownBytes.{append_known, prepend_known}
 use Rattle.std.specs.declared.option.Option.{Option}
 use Rattle.std.specs.declared.option.Option.TheVariants.{None, Some}
 use Rattle.std.specs.declared.result.Result.{Result}
 use Rattle.std.specs.declared.result.Result.TheVariants.{Ok, Err}
+use Rattle.std.specs.declared.ops.ControlFlow.{ControlFlow}
+use Rattle.std.specs.declared.ops.ControlFlow.TheVariants.{Continue, Break}
 use Rattle.bd_limits.specs.Limits.{script_limit}
 use Rattle.bd_io.specs.Takes.{Takes}
 use Rattle.bd_io.specs.Written.{WrotePart}
@@ -15,19 +17,24 @@ use Rattle.bd_message.specs.declared.fault.Counter.TheVariants.{Epoch}
 use Rattle.bd_model.specs.Step.{refusal_of}
 use Rattle.bd_script.specs.Lines.{LineMeaning, is_stop}
 use Rattle.bd_script.specs.Replies.{line_reply_line}
-use Rattle.bd_script.specs.declared.line.Line.TheVariants.{Run, Walk, Df, Checkpoint, Reclaim, Stop}
+use Rattle.bd_script.specs.declared.line.Line.TheVariants.{Run, Walk, Df, Sync, Checkpoint, Reclaim, Stop}
 use Rattle.bd_view.specs.Views.{View, free_slots, save_slots}
 use Rattle.bd_view.specs.Moves.{HasStepped}
 use Rattle.bd_volume.specs.Wears.{Wears, HasBegunReclaiming, WearsReclaiming}
 use Rattle.betr.specs.declared.fault.Fault.{Fault}
 use Rattle.betr.specs.declared.fault.Fault.TheVariants.{Device, Damaged, Source, Memory, TooLong, Worn, Sink}
 use Rattle.betr.specs.Taken.{Took}
-use Rattle.betr.specs.Transcript.{Known, State, with_view, Exchange, IsAnswered, HasTranscript, text, executed, meanings, lines_to_run, IsFront}
+use Rattle.betr.specs.Transcript.{Known, State, with_view, synced_state, Exchange, IsAnswered, HasTranscript, text, executed, meanings, lines_to_run, IsFront}
 
 -- how a session ends: by a fault, or with the script
 abbrev pub end_of : {T : Type 0} → Result T Fault → Option Fault
 end_of (Ok x) = None
 end_of (Err e) = Some e
+
+-- the run ends
+abbrev pub breaks : ControlFlow (Unit {0}) (Unit {0}) → Bool
+breaks (Continue c) = false
+breaks (Break b) = true
 
 -- ---- some lines
 
@@ -59,6 +66,7 @@ abbrev pub IsLeftBy : LineMeaning → State → View → Type 0
 IsLeftBy (Ok (Run c)) s left = IsLeftByCommand c s left
 IsLeftBy (Ok Walk) s left = left ≡ s.view
 IsLeftBy (Ok Df) s left = left ≡ s.view
+IsLeftBy (Ok Sync) s left = left ≡ s.view
 IsLeftBy (Ok Checkpoint) s left = left ≡ s.view
 IsLeftBy (Ok Reclaim) s left = HasBegunReclaiming s.view left
 IsLeftBy (Ok Stop) s left = left ≡ s.view
@@ -95,6 +103,7 @@ abbrev pub WornBy : Counter → State → LineMeaning → View → Type 0
 WornBy which s (Ok (Run c)) left = WornByCommand which s c left
 WornBy which s (Ok Walk) left = ⊥
 WornBy which s (Ok Df) left = ⊥
+WornBy which s (Ok Sync) left = ⊥
 WornBy which s (Ok Checkpoint) left = WornByCheckpoint which s left
 WornBy which s (Ok Reclaim) left = WearsReclaiming which s.view left
 WornBy which s (Ok Stop) left = ⊥
@@ -116,13 +125,12 @@ IsAtLine xs lines = (xs ≡ []) ⊎ ((next : LineMeaning) × HasNext next (execu
 -- how the executed lines stand to those of some bytes
 abbrev pub Among : Option Fault → List ℕ → List Exchange → Type 0
 Among None bytes xs = executed xs ≡ lines_to_run bytes
-Among (Some Device) bytes xs = IsAtLine xs (lines_to_run bytes)
+Among (Some Device) bytes xs = IsFront (executed xs) (lines_to_run bytes)
 Among (Some (Damaged block)) bytes xs = IsAtLine xs (lines_to_run bytes)
 Among (Some Source) bytes xs = IsFront (executed xs) (lines_to_run bytes)
-Among (Some Memory) bytes xs = IsAtLine xs (lines_to_run bytes)
+Among (Some Memory) bytes xs = IsFront (executed xs) (lines_to_run bytes)
 Among (Some TooLong) bytes xs = IsFront (executed xs) (lines_to_run bytes)
-Among (Some (Worn which)) bytes xs =
-    (next : LineMeaning) × HasNext next (executed xs) (lines_to_run bytes)
+Among (Some (Worn which)) bytes xs = IsAtLine xs (lines_to_run bytes)
 Among (Some Sink) bytes xs = IsFront (executed xs) (lines_to_run bytes)
 
 -- all lines that are complete in these bytes were executed, and none of them is `stop`
@@ -208,20 +216,42 @@ Ends (Some TooLong) s at = at s
 Ends (Some (Worn which)) s at = Leaves s at
 Ends (Some Sink) s at = at s
 
+-- ---- the end of a script
+
+-- whether a `stop` was executed
+abbrev pub has_stop : List Exchange → Bool
+has_stop xs = list_any is_stop (executed xs)
+
+-- at its end all is made durable, which a `stop` did already; at a fault nothing is
+abbrev pub closed : Option Fault → Bool → State → State
+closed None stopped s = if stopped then s else synced_state s
+closed (Some e) stopped s = s
+
+-- `at` holds of the state then
+abbrev pub ClosedAt : Option Fault → (State → Type 0) → Bool → State → Type 0
+ClosedAt end at stopped s = at (closed end stopped s)
+
+-- `at` holds of the state, and how a run goes on tells whether a `stop` was executed
+abbrev pub ToldAt : Result (ControlFlow (Unit {0}) (Unit {0})) Fault → (State → Type 0) → Bool
+    → State → Type 0
+ToldAt (Ok flow) at stopped s = at s × (breaks flow ≡ stopped)
+ToldAt (Err e) at stopped s = at s
+
 -- ---- a whole session
 
--- the state after the lines of a session, by those of what was taken and of the script
+-- the state after the lines of a session, by those of what was taken and of the script; `last`
+-- holds then, by whether a `stop` is among them
 pub record EndsIn (end : Option Fault) (xs : List Exchange) (taken : List ℕ) (script : Known)
-    (at : State → Type 0) (s : State) : Type 0 where
+    (last : Bool → State → Type 0) (s : State) : Type 0 where
   pub told : Tells end s (executed xs) (lines_to_run taken)
   pub told_script : IfSome script (λ bytes. Tells end s (executed xs) (lines_to_run bytes))
-  pub reached : Ends end s at
+  pub reached : Ends end s (last (has_stop xs))
 
 -- a session with a script, of which `script` is left of the source before and `rest` after, and how
 -- it was asked for: its lines with their replies, among the lines that were taken and those of the
 -- script; from each state at which it may begin they have one transcript
-pub record Session (end : Option Fault) (first last : State → Type 0) (script rest : Known)
-    (before now : Option Takes) (old new : Known) : Type 0 where
+pub record Session (end : Option Fault) (first : State → Type 0) (last : Bool → State → Type 0)
+    (script rest : Known) (before now : Option Takes) (old new : Known) : Type 0 where
   pub exchanges : List Exchange
   pub answered : AllByRecursion IsAnswered exchanges
   pub front : List ℕ

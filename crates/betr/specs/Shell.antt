@@ -1,13 +1,12 @@
 -- What the functions of the shell say of a shell, a line and a sink.
-use Rattle.std.specs.Prelude.{◌≡◌, ℕ, Bool, true, false, List, [], ◌∷◌, ◌++◌, if◌then◌else◌, IsSomeAnd, ⊤}
+use Rattle.std.specs.Prelude.{◌≡◌, ◌⊎◌, ℕ, ◌<◌, Bool, true, false, List, [], ◌∷◌, ◌++◌, if◌then◌else◌, IsSomeAnd, ⊤}
 use Rattle.std.specs.List.{list_any, AllByRecursion}
 use Rattle.std.specs.Io.KnownBytes.{append_known}
 use Rattle.std.specs.declared.option.Option.{Option}
 use Rattle.std.specs.declared.option.Option.TheVariants.{Some}
 use Rattle.std.specs.declared.result.Result.{Result}
 use Rattle.std.specs.declared.result.Result.TheVariants.{Ok, Err}
-use Rattle.std.specs.declared.ops.ControlFlow.{ControlFlow}
-use Rattle.std.specs.declared.ops.ControlFlow.TheVariants.{Continue, Break}
+use Rattle.bd_io.specs.Cause.{Rose}
 use Rattle.bd_io.specs.Written.{WrotePart}
 use Rattle.bd_message.specs.declared.fault.Counter.{Counter}
 use Rattle.bd_model.specs.Tree.{Tree}
@@ -23,11 +22,15 @@ use Rattle.bd_view.specs.Views.{View, keys_of}
 use Rattle.bd_volume.specs.declared.fault.Fault.{Fault as VolumeFault}
 use Rattle.bd_volume.specs.declared.fault.Fault.TheVariants as volume
 use Rattle.bd_volume.specs.declared.volume.Volume.{Volume}
-use Rattle.bd_volume.specs.Volume.{StandsFor, view_of, device_of, stop_of, HasClosedLog}
+use Rattle.bd_checkpoint.specs.Recovering.{HasSettled}
+use Rattle.bd_volume.specs.Volume.{StandsFor, view_of, device_of, stop_of}
 use Rattle.betr.specs.Fault.{Faults, faults}
 use Rattle.betr.specs.declared.fault.Fault.{Fault}
 use Rattle.betr.specs.declared.fault.Fault.TheVariants.{Device, Damaged, Source, Memory, TooLong, Worn, Sink}
+use Rattle.betr.specs.declared.outcome.Ack.{Ack}
+use Rattle.betr.specs.declared.acknowledged.Acknowledged.{Acknowledged}
 use Rattle.betr.specs.declared.shell.Shell.{Shell}
+use Rattle.betr.specs.Crashes.{IsSafeSince}
 use Rattle.betr.specs.Transcript.{Known, State, with_view, Exchange, IsAnswered, MayGet, Follows, HasTranscript, text, executed, meanings, IsFront}
 use Rattle.betr.specs.Session.{HasNext, WornBy, LeavesBy, Ends, Tells, IsCutShort}
 
@@ -36,13 +39,32 @@ pub record VolumeAt {D : Type 0} (g : Ghosts D) (v : Volume D) (s : State) : Typ
   pub stands : StandsFor g v s.tree s.count
   pub view_is : view_of g v ≡ s.view
 
--- a shell's volume stands for a state
-abbrev pub ShellAt : {D : Type 0} → Ghosts D → Shell D → State → Type 0
-ShellAt g shell s = VolumeAt g shell.volume s
+-- the device of a volume with acknowledgements
+abbrev pub device_below : {D : Type 0} → Acknowledged D → D
+device_below v = device_of v.volume
+
+-- the number of the device's call that stopped it
+abbrev pub stop_below : {D : Type 0} → Acknowledged D → Option ℕ
+stop_below v = stop_of v.volume
+
+-- it stands for a state, and what a crash leaves does for a point that was passed, since a device
+-- was so; its acknowledgements hold
+pub record KeptAt {D : Type 0} (g : Ghosts D) (first : D) (since : ℕ) (v : Acknowledged D)
+    (s : State) : Type 0 where
+  pub at : VolumeAt g v.volume s
+  pub safe : IsSafeSince g first since (device_below v) v.acks.items s
+
+-- so does a shell's
+abbrev pub ShellAt : {D : Type 0} → Ghosts D → D → ℕ → Shell D → State → Type 0
+ShellAt g first since shell s = KeptAt g first since shell.kept s
 
 -- what is seen of a shell's volume
 abbrev pub view_in : {D : Type 0} → Ghosts D → Shell D → View
-view_in g shell = view_of g shell.volume
+view_in g shell = view_of g shell.kept.volume
+
+-- what was acknowledged
+abbrev pub acks_in : {D : Type 0} → Shell D → List Ack
+acks_in shell = shell.kept.acks.items
 
 -- what is held of the next line
 abbrev pub held_of : {D : Type 0} → Shell D → List ℕ
@@ -50,11 +72,11 @@ held_of shell = shell.line.items
 
 -- its device
 abbrev pub device_in : {D : Type 0} → Shell D → D
-device_in shell = device_of shell.volume
+device_in shell = device_below shell.kept
 
 -- the number of the device's call that stopped its volume
 abbrev pub stop_in : {D : Type 0} → Shell D → Option ℕ
-stop_in shell = stop_of shell.volume
+stop_in shell = stop_below shell.kept
 
 -- how often a device and a sink have failed
 abbrev pub counts_of : {D : Type 0} → Ghosts D → D → ℕ → Faults
@@ -75,19 +97,17 @@ abbrev pub FailsNoWrite : {D T : Type 0} → Ghosts D → D → D → Result T F
 FailsNoWrite g old new (Ok x) = g.write_fault_count new ≡ g.write_fault_count old
 FailsNoWrite g old new (Err e) = FailsNoWriteAt g old new e
 
--- an image that stands for this tree after so many commands, and from which a volume starts
-pub record IsStart (t : Tree) (n : ℕ) (image : Image) : Type 0 where
-  pub stands : ImageStandsFor t n image
-  pub closed : HasClosedLog image
-
--- what reads give is known, and is such an image
+-- what reads give is known, and is an image that stands for this tree after so many commands
 abbrev pub CanStart : Tree → ℕ → Option Image → Type 0
-CanStart t n contents = IsSomeAnd contents (IsStart t n)
+CanStart t n contents = IsSomeAnd contents (ImageStandsFor t n)
 
--- the run ends
-abbrev pub breaks : ControlFlow (Unit {0}) (Unit {0}) → Bool
-breaks (Continue c) = false
-breaks (Break b) = true
+-- a start that failed called no device, or since the return of its barrier a crash leaves what
+-- reads gave before, unless a write or a barrier failed
+abbrev pub MaySettle : {D : Type 0} → Ghosts D → D → D → Type 0
+MaySettle g old new =
+    (g.call_count new ≡ g.call_count old)
+    ⊎ (0 < g.block_count old → ¬ Rose (g.write_fault_count old) (g.write_fault_count new)
+    → HasSettled g old new)
 
 -- the reply ends the run
 abbrev pub is_stopped : LineReply → Bool

@@ -1,5 +1,5 @@
 -- What a run does, line by line.
-use Rattle.std.specs.Prelude.{◌≡◌, ℕ, ◌+◌, ◌*◌, ◌<◌, ◌≤◌, Bool, true, false, ◌&&◌, List, [], ◌∷◌, ◌++◌, map, MatchBool, IsNone, ⊤}
+use Rattle.std.specs.Prelude.{◌≡◌, ℕ, ◌+◌, ◌*◌, ◌<◌, ◌≤◌, Bool, true, false, ◌&&◌, List, [], ◌∷◌, ◌++◌, map, if◌then◌else◌, MatchBool, IsNone, ⊤}
 use Rattle.std.specs.List.{flat_map}
 use Rattle.std.specs.declared.option.Option.{Option}
 use Rattle.std.specs.declared.result.Result.TheVariants.{Ok, Err}
@@ -13,11 +13,11 @@ use Rattle.bd_model.specs.Tree.{Tree, IsTree}
 use Rattle.bd_model.specs.Step.{step, refusal_of}
 use Rattle.bd_script.specs.Lines.{LineMeaning, line_of, lines_of, whole_lines, up_to_stop}
 use Rattle.bd_script.specs.Replies.{line_reply_line}
-use Rattle.bd_script.specs.declared.line.Line.TheVariants.{Run, Walk, Df, Checkpoint, Reclaim, Stop}
+use Rattle.bd_script.specs.declared.line.Line.TheVariants.{Run, Walk, Df, Sync, Checkpoint, Reclaim, Stop}
 use Rattle.bd_script.specs.declared.replies.LineReply.{LineReply}
 use Rattle.bd_script.specs.declared.replies.LineReply.TheVariants as reply
 use Rattle.bd_view.specs.Views.{View, keys_of, free_slots}
-use Rattle.bd_view.specs.Moves.{IsExecuted, Saves, IsCommandFull, IsCheckpointFull}
+use Rattle.bd_view.specs.Moves.{IsAccepted, Saves, synced, IsCommandFull, IsCheckpointFull}
 use Rattle.bd_view.specs.Reclaiming.{IsReclaim, IsReclaimFull}
 
 -- bytes, where they are known
@@ -64,6 +64,7 @@ abbrev pub MayGet : LineMeaning → LineReply → Type 0
 MayGet (Ok (Run c)) said = IsCommandReply said
 MayGet (Ok Walk) said = IsWalkReply said
 MayGet (Ok Df) said = IsFreeReply said
+MayGet (Ok Sync) said = said ≡ reply.Done
 MayGet (Ok Checkpoint) said = IsDoneOrFull said
 MayGet (Ok Reclaim) said = IsDoneOrFull said
 MayGet (Ok Stop) said = said ≡ reply.Stopped
@@ -82,20 +83,46 @@ executed xs = map (λ x. x.line) xs
 
 -- ---- where a run stands
 
+-- a tree, and how many commands were accepted
+pub record Point : Type 0 where
+  pub tree : Tree
+  pub count : ℕ
+
+abbrev pub point : Tree → ℕ → Point
+point t n = record { tree = t; count = n }
+
 -- the tree, how many commands were accepted, and the view: the nodes that keep the tree, with how
--- the last clone or rename went, and the numbers of slots and of the log
+-- the last clone or rename went, and the numbers of slots and of the log. Also all points that were
+-- passed: that of the beginning, and one after each accepted command; and how many commands were
+-- accepted at each line that made them durable
 pub record State : Type 0 where
   pub tree : Tree
   pub count : ℕ
   pub view : View
+  pub passed : List Point
+  pub synced : List ℕ
 
--- the state of a tree, a count and a view
+-- the state of a tree, a count and a view, at the beginning
 abbrev pub state_at : Tree → ℕ → View → State
-state_at t n view = record { tree = t; count = n; view = view }
+state_at t n view =
+    record { tree = t; count = n; view = view; passed = point t n ∷ []; synced = [] }
+
+-- the state's own point
+abbrev pub point_of : State → Point
+point_of s = point s.tree s.count
 
 -- the state with another view
 abbrev pub with_view : State → View → State
-with_view s view = record { tree = s.tree; count = s.count; view = view }
+with_view s view = record s { view = view }
+
+-- once all was made durable
+abbrev pub synced_state : State → State
+synced_state s =
+    record s { view = synced s.view; synced = s.synced ++ s.count ∷ [] }
+
+-- the points after a command, which led to this one
+abbrev pub passed_by : List Point → Command → Reply → Point → List Point
+passed_by passed c r p = if writes c && is_done r then passed ++ p ∷ [] else passed
 
 -- the state after a command, with a view
 abbrev pub state_of_step : State → Command → View → State
@@ -103,13 +130,17 @@ state_of_step s c view = record {
   tree = (step s.tree c).0;
   count = s.count + accepted c (step s.tree c).1;
   view = view;
+  passed = passed_by s.passed c (step s.tree c).1
+      (point (step s.tree c).0 (s.count + accepted c (step s.tree c).1));
+  synced = s.synced;
 }
 
 -- ---- what a line does
 
--- a writing command that is accepted moves the view, and every other reply leaves it
+-- a writing command that is accepted moves the view, with its record, and every other reply leaves
+-- it
 abbrev pub Moves : Tree → Command → Reply → View → View → Type 0
-Moves t c r old new = MatchBool (writes c && is_done r) (IsExecuted t c old new) (new ≡ old)
+Moves t c r old new = MatchBool (writes c && is_done r) (IsAccepted t c old new) (new ≡ old)
 
 -- a command within its limits takes the model's step
 pub record Steps (s : State) (c : Command) (r : Reply) (after : State) : Type 0 where
@@ -169,9 +200,10 @@ abbrev pub Follows : State → LineMeaning → LineReply → State → Type 0
 Follows s (Ok (Run c)) said after = Answers s c said after
 Follows s (Ok Walk) said after = (said ≡ told s.view.tree.walk) × (after ≡ s)
 Follows s (Ok Df) said after = (said ≡ told_free s.view) × (after ≡ s)
+Follows s (Ok Sync) said after = (said ≡ reply.Done) × (after ≡ synced_state s)
 Follows s (Ok Checkpoint) said after = Serves Saves FillsCheckpoint s said after
 Follows s (Ok Reclaim) said after = Serves IsReclaim FillsReclaim s said after
-Follows s (Ok Stop) said after = (said ≡ reply.Stopped) × (after ≡ s)
+Follows s (Ok Stop) said after = (said ≡ reply.Stopped) × (after ≡ synced_state s)
 Follows s (Err refusal) said after = (said ≡ reply.Unread refusal) × (after ≡ s)
 
 -- ---- transcripts
@@ -233,6 +265,7 @@ abbrev pub IsLimited : LineMeaning → Type 0
 IsLimited (Ok (Run c)) = IsCommand c
 IsLimited (Ok Walk) = ⊤
 IsLimited (Ok Df) = ⊤
+IsLimited (Ok Sync) = ⊤
 IsLimited (Ok Checkpoint) = ⊤
 IsLimited (Ok Reclaim) = ⊤
 IsLimited (Ok Stop) = ⊤
@@ -270,6 +303,7 @@ abbrev pub is_grafted : LineMeaning → LineReply → Bool
 is_grafted (Ok (Run c)) said = is_made c said
 is_grafted (Ok Walk) said = false
 is_grafted (Ok Df) said = false
+is_grafted (Ok Sync) said = false
 is_grafted (Ok Checkpoint) said = false
 is_grafted (Ok Reclaim) said = false
 is_grafted (Ok Stop) said = false

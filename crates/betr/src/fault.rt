@@ -1,7 +1,7 @@
 ghost use Rattle.std.specs.Prelude.{◌≡◌, ◌+◌, ◌≤◌, ◌++◌, length, take};
 ghost use Rattle.bd_device.specs.declared.fault.ImageFault.{ImageFault};
 ghost use Rattle.bd_volume.specs.Faults.{image_fault_of};
-ghost use Rattle.betr.specs.Fault.{IsOfImage, fault_line, fault_of_image, status_of};
+ghost use Rattle.betr.specs.Fault.{ComesAtStart, IsOfImage, IsStartFault, fault_line, fault_of_image, status_of};
 
 use bd_message::Counter;
 use bd_volume::Fault as VolumeFault;
@@ -49,7 +49,7 @@ impl Fault {
         }
     }
 
-    /// The fault of a run whose image isn't read or made.
+    /// The fault of a call whose image isn't made.
     pub fn of_image(fault: VolumeFault) -> Fault
         requires { IsOfImage fault }
         ensures { (cause : ImageFault) → fault ≡ image_fault_of cause
@@ -62,6 +62,20 @@ impl Fault {
             VolumeFault::Worn(_) | VolumeFault::Full { .. } | VolumeFault::Stopped { .. } => {
                 unreachable!()
             }
+        }
+    }
+
+    /// The fault of a run whose volume doesn't start.
+    pub fn of_start(fault: VolumeFault) -> Fault
+        requires { ComesAtStart fault }
+        ensures { IsStartFault fault result }
+    {
+        match fault {
+            VolumeFault::Device => Fault::Device,
+            VolumeFault::Damaged { block } => Fault::Damaged { block },
+            VolumeFault::Worn(counter) => Fault::Worn(counter),
+            VolumeFault::NoMemory => Fault::Memory,
+            VolumeFault::Full { .. } | VolumeFault::Stopped { .. } => unreachable!(),
         }
     }
 

@@ -3,6 +3,7 @@
 //! what it writes to the plain map.
 #![tactic(auto)]
 
+mod acknowledged;
 mod fault;
 mod format;
 mod laws;

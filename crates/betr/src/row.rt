@@ -1,9 +1,8 @@
 ghost use Rattle.std.specs.Prelude.{◌≡◌, ◌↔◌, ℕ, List, Option, Some, map, string_bytes, IsNone, IfSome, IfOk, IsTrue, ⊤};
 ghost use Rattle.bd_io.specs.Takes.{Takes, no_takes};
-ghost use Rattle.bd_device.specs.Memory.{held_image};
 ghost use Rattle.betr.specs.Fault.{faults};
 ghost use Rattle.betr.specs.Words.{call_of, usage_line};
-ghost use Rattle.betr.specs.Run.{ends, Does, Uses, WritesLast, seen_in_memory};
+ghost use Rattle.betr.specs.Run.{ends, disk_in_memory, Does, Uses, WritesLast, seen_in_memory};
 
 use crate::outcome::Outcome;
 use crate::run::run;
@@ -23,9 +22,9 @@ pub fn row(
     ensures does { IfOk result (λ r. IfSome (call_of (map string_bytes words.now)) (λ call.
         (rest : Option (List ℕ)) × (takes : Option Takes) × (source : ℕ)
         × Does call r.status r.acks
-        (ends (Some (held_image dev.old)) (Some script.now) (Some no_takes)
+        (ends (disk_in_memory dev.old) (Some script.now) (Some no_takes)
         (Some sink.old.written) (faults dev.old.plan.faults 0 sink.old.plan.faults))
-        (ends (Some (held_image dev.new)) rest takes (Some sink.new.written)
+        (ends (disk_in_memory dev.new) rest takes (Some sink.new.written)
         (faults dev.new.plan.faults source sink.new.plan.faults)))) }
     ensures device { IfOk result (λ r. IfSome (call_of (map string_bytes words.now)) (λ call.
         Uses call r.status (seen_in_memory dev.old) (seen_in_memory dev.new)

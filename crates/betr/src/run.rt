@@ -1,15 +1,15 @@
-ghost use Rattle.std.specs.Prelude.{◌≡◌, ◌≢◌, ◌<◌, ◌≤◌, ◌⊎◌, ◌↔◌, ℕ, [], Err, length, map, string_bytes, IsNone, IfSome, OnOk, OnErr};
+ghost use Rattle.std.specs.Prelude.{◌≡◌, ◌≢◌, ◌+◌, ◌<◌, ◌≤◌, ◌⊎◌, ◌↔◌, ℕ, [], Err, length, map, string_bytes, IsNone, IfSome, OnOk, OnErr};
 ghost use Rattle.bd_device.specs.Device.{Stays};
 ghost use Rattle.bd_io.specs.Cause.{next_count};
 ghost use Rattle.betr.specs.declared.fault.Fault.{Fault};
 ghost use Rattle.betr.specs.Fault.{faults, NeverFall, IsCaused};
 ghost use Rattle.betr.specs.Session.{end_of};
 ghost use Rattle.betr.specs.Words.{call_of, usage_line};
-ghost use Rattle.betr.specs.Run.{end_status, ends, Does, IsFaultless, IsFlushed, IsReady, Makes, Ran, Uses, WritesEnd, WritesLast, image_of, seen};
+ghost use Rattle.betr.specs.Run.{end_status, ends, Does, IsFaultless, IsFlushed, IsReady, Makes, Ran, Uses, WritesEnd, WritesLast, disk, image_of, seen};
 
 use crate::fault::{FAULT_SIZE, Fault};
 use crate::format::format_image;
-use crate::outcome::Outcome;
+use crate::outcome::{Ack, Outcome};
 use crate::session::run_script;
 use crate::shell::Shell;
 use crate::words::{Call, read_words};
@@ -26,6 +26,15 @@ const REFUSED: u8 = 2;
 const USAGE: &[u8] =
     b"usage: betr run IMAGE | betr format IMAGE SLOTS | betr fill IMAGE SEED COUNT\n";
 
+/// How a call ended, before its last line is written.
+#[derive(Debug, Drop)]
+struct Ended {
+    /// Its fault, if there was one.
+    result: Result<(), Fault>,
+    /// What was acknowledged, in order.
+    acks: Items<Ack>,
+}
+
 /// Attaches the image, and executes the script on the volume that starts from it.
 fn run_image<D: Attach, S: Source, K: Sink>(
     alloc: Global,
@@ -33,26 +42,34 @@ fn run_image<D: Attach, S: Source, K: Sink>(
     dev: &mut D,
     src: &mut S,
     sink: &mut K,
-) -> Result<(), Fault>
-    ensures ran { Ran (end_of result)
-        (ends (D.shows dev.old image.now) (S.left src.old) (S.takes src.old) (K.written sink.old)
+) -> Ended
+    ensures ran { Ran (D.call_count dev.old + 2) (end_of result.result) result.acks
+        (ends (disk (D.shows dev.old image.now) (D.call_count dev.old)
+        (D.left_behind dev.old image.now) (D.write_fault_count dev.old))
+        (S.left src.old) (S.takes src.old) (K.written sink.old)
         (faults (D.fault_count dev.old) (S.fault_count src.old) (K.fault_count sink.old)))
-        (ends (D.shows dev.new image.now) (S.left src.new) (S.takes src.new) (K.written sink.new)
+        (ends (disk (D.shows dev.new image.now) (D.call_count dev.new)
+        (D.left_behind dev.new image.now) (D.write_fault_count dev.new))
+        (S.left src.new) (S.takes src.new) (K.written sink.new)
         (faults (D.fault_count dev.new) (S.fault_count src.new) (K.fault_count sink.new))) }
-    ensures flushed { OnOk result (K.waiting sink.new ≡ 0) }
-    ensures attached { D.is_named dev.new image.now ⊎ ((result ≡ Err Fault.Device)
+    ensures flushed { OnOk result.result (K.waiting sink.new ≡ 0) }
+    ensures attached { D.is_named dev.new image.now ⊎ ((result.result ≡ Err Fault.Device)
         × (D.block_count dev.new ≡ 0)
         × (D.call_count dev.new ≡ next_count (D.call_count dev.old))
         × (D.shows dev.new image.now ≡ D.shows dev.old image.now) × (src.new ≡ src.old)) }
-    ensures writes { OnOk result
+    ensures writes { OnOk result.result
         (D.write_fault_count dev.new ≡ D.write_fault_count dev.old) }
     ensures same_loans { D.loans dev.new ≡ D.loans dev.old }
     ensures cause { IsCaused
         (faults (D.fault_count dev.old) (S.fault_count src.old) (K.fault_count sink.old))
-        (faults (D.fault_count dev.new) (S.fault_count src.new) (K.fault_count sink.new)) result }
+        (faults (D.fault_count dev.new) (S.fault_count src.new) (K.fault_count sink.new))
+        result.result }
 {
     if dev.attach(image, None).is_err() {
-        return Err(Fault::Device);
+        return Ended {
+            result: Err(Fault::Device),
+            acks: Items::new(alloc),
+        };
     }
     run_device(alloc, dev, src, sink)
 }
@@ -63,34 +80,43 @@ fn run_device<D: Attach, S: Source, K: Sink>(
     dev: &mut D,
     src: &mut S,
     sink: &mut K,
-) -> Result<(), Fault>
-    ensures ran { Ran (end_of result)
-        (ends (D.contents dev.old) (S.left src.old) (S.takes src.old) (K.written sink.old)
+) -> Ended
+    ensures ran { Ran (D.call_count dev.old + 1) (end_of result.result) result.acks
+        (ends (disk (D.contents dev.old) (D.call_count dev.old) (D.left_since dev.old)
+        (D.write_fault_count dev.old))
+        (S.left src.old) (S.takes src.old) (K.written sink.old)
         (faults (D.fault_count dev.old) (S.fault_count src.old) (K.fault_count sink.old)))
-        (ends (D.contents dev.new) (S.left src.new) (S.takes src.new) (K.written sink.new)
+        (ends (disk (D.contents dev.new) (D.call_count dev.new) (D.left_since dev.new)
+        (D.write_fault_count dev.new))
+        (S.left src.new) (S.takes src.new) (K.written sink.new)
         (faults (D.fault_count dev.new) (S.fault_count src.new) (K.fault_count sink.new))) }
-    ensures flushed { OnOk result (K.waiting sink.new ≡ 0) }
-    ensures writes { OnOk result
+    ensures flushed { OnOk result.result (K.waiting sink.new ≡ 0) }
+    ensures writes { OnOk result.result
         (D.write_fault_count dev.new ≡ D.write_fault_count dev.old) }
     ensures stays { Stays D.Device dev.old dev.new }
     ensures cause { IsCaused
         (faults (D.fault_count dev.old) (S.fault_count src.old) (K.fault_count sink.old))
-        (faults (D.fault_count dev.new) (S.fault_count src.new) (K.fault_count sink.new)) result }
+        (faults (D.fault_count dev.new) (S.fault_count src.new) (K.fault_count sink.new))
+        result.result }
 {
-    let _ = dev.faults();
+    let _ = (dev.faults(), dev.blocks());
     match Shell::new(alloc, &mut *dev) {
         Ok(mut shell) => {
             let result = run_script(alloc, &mut shell, src, sink);
             shell.saved_is_shown();
-            let _device = shell.into_device();
-            result
+            let (_device, acks) = shell.into_parts();
+            let _ = dev.blocks();
+            Ended { result, acks }
         }
         Err(refused) => {
             let Refused {
                 fault,
                 device: _device,
             } = refused;
-            Err(Fault::of_image(fault))
+            Ended {
+                result: Err(Fault::of_start(fault)),
+                acks: Items::new(alloc),
+            }
         }
     }
 }
@@ -113,20 +139,20 @@ fn write_last<K: Sink>(sink: &mut K, line: &[u8])
 }
 
 // The outcome of a call that ended so, whose last line is written.
-fn end_call<K: Sink>(alloc: Global, sink: &mut K, ended: Result<(), Fault>) -> Outcome
-    ensures status { result.status ≡ end_status (end_of ended) }
-    ensures acks { result.acks ≡ [] }
-    ensures last { (device source : ℕ) → WritesEnd (end_of ended)
+fn end_call<K: Sink>(sink: &mut K, ended: Ended) -> Outcome
+    ensures status { result.status ≡ end_status (end_of ended.result) }
+    ensures acks { result.acks ≡ ended.acks }
+    ensures last { (device source : ℕ) → WritesEnd (end_of ended.result)
         (K.written sink.old) (K.written sink.new)
         (faults device source (K.fault_count sink.old))
         (faults device source (K.fault_count sink.new)) }
-    ensures quiet { OnOk ended (K.waiting sink.new ≡ K.waiting sink.old) }
-    ensures flushed { OnErr ended ((ended ≡ Err Fault.Sink) ⊎ IsFlushed (K.waiting sink.new)
-        (K.fault_count sink.old) (K.fault_count sink.new)) }
+    ensures quiet { OnOk ended.result (K.waiting sink.new ≡ K.waiting sink.old) }
+    ensures flushed { OnErr ended.result ((ended.result ≡ Err Fault.Sink) ⊎ IsFlushed
+        (K.waiting sink.new) (K.fault_count sink.old) (K.fault_count sink.new)) }
     ensures later { K.fault_count sink.old ≤ K.fault_count sink.new }
 {
-    let acks = Items::new(alloc);
-    match ended {
+    let Ended { result, acks } = ended;
+    match result {
         Ok(()) => Outcome { status: 0, acks },
         Err(fault) => {
             let mut line = [0; FAULT_SIZE];
@@ -149,6 +175,10 @@ fn end_call<K: Sink>(alloc: Global, sink: &mut K, ended: Result<(), Fault>) -> O
 /// it: the device 3, damage 4, the source 5, memory 6, a script of more than 16,777,216 bytes 7, a
 /// counter 8, the sink 9. Before each take and at the end the sink passes on all that was written;
 /// after its own fault it isn't called again.
+///
+/// At each `sync`, at `stop` and at the end of the script all accepted commands are made durable
+/// and acknowledged; at a fault they aren't. Stopped at any moment, the image stands for the tree
+/// after a front of the accepted commands, one that holds all that was acknowledged.
 pub fn run<D: Attach, S: Source, K: Sink>(
     alloc: Global,
     words: &[String],
@@ -157,14 +187,17 @@ pub fn run<D: Attach, S: Source, K: Sink>(
     sink: &mut K,
 ) -> Outcome
     // With right words the call is done: a run has one list of lines with their replies, to which
-    // all else is tied.
+    // all else is tied; also what a crash at any moment leaves of the image, and what was
+    // acknowledged.
     ensures does { IfSome (call_of (map string_bytes words.now)) (λ call.
         Does call result.status result.acks
-        (ends (D.shows dev.old (image_of call)) (S.left src.old) (S.takes src.old)
-        (K.written sink.old)
+        (ends (disk (D.shows dev.old (image_of call)) (D.call_count dev.old)
+        (D.left_behind dev.old (image_of call)) (D.write_fault_count dev.old))
+        (S.left src.old) (S.takes src.old) (K.written sink.old)
         (faults (D.fault_count dev.old) (S.fault_count src.old) (K.fault_count sink.old)))
-        (ends (D.shows dev.new (image_of call)) (S.left src.new) (S.takes src.new)
-        (K.written sink.new)
+        (ends (disk (D.shows dev.new (image_of call)) (D.call_count dev.new)
+        (D.left_behind dev.new (image_of call)) (D.write_fault_count dev.new))
+        (S.left src.new) (S.takes src.new) (K.written sink.new)
         (faults (D.fault_count dev.new) (S.fault_count src.new) (K.fault_count sink.new)))) }
 
     // What is done with the device is what the call says.
@@ -209,11 +242,12 @@ pub fn run<D: Attach, S: Source, K: Sink>(
     match read_words(words) {
         Some(Call::Run { image }) => {
             let ended = run_image(alloc, image, dev, src, sink);
-            end_call(alloc, sink, ended)
+            end_call(sink, ended)
         }
         Some(Call::Format { image, slots }) => {
-            let ended = format_image(alloc, image, slots, dev, sink);
-            end_call(alloc, sink, ended)
+            let result = format_image(alloc, image, slots, dev, sink);
+            let acks = Items::new(alloc);
+            end_call(sink, Ended { result, acks })
         }
         None => {
             write_last(sink, USAGE);

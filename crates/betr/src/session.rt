@@ -1,11 +1,11 @@
-ghost use Rattle.std.specs.Prelude.{◌≡◌, ◌≤◌, [], None, IfOk, IfErr, OnOk, OnErr};
+ghost use Rattle.std.specs.Prelude.{◌≡◌, ◌≤◌, ℕ, [], None, IfOk, IfErr, OnOk, OnErr};
 ghost use Rattle.std.specs.Option.{option_map};
 ghost use Rattle.bd_limits.specs.Limits.{script_limit};
 ghost use Rattle.bd_device.specs.Device.{Stays};
 ghost use Rattle.bd_io.specs.Cause.{HasCause};
 ghost use Rattle.bd_io.specs.Takes.{takes_after};
 ghost use Rattle.betr.specs.Fault.{IsCaused, faults, of_sink};
-ghost use Rattle.betr.specs.Session.{Session, end_of};
+ghost use Rattle.betr.specs.Session.{ClosedAt, Session, ToldAt, end_of};
 ghost use Rattle.betr.specs.Shell.{FailsNoWrite, ShellAt, device_in, held_of, stop_in};
 ghost use Rattle.betr.specs.Taken.{IsTaken, taken_by};
 
@@ -70,8 +70,9 @@ pub fn flush<K: Sink>(sink: &mut K) -> Result<(), Fault>
     }
 }
 
-/// Executes a script, to its end or to a `stop`. At a fault the lines before it were executed.
-/// Before each take and at the end the sink passes on what was written.
+/// Executes a script, to its end or to a `stop`; at its end all is made durable and acknowledged,
+/// as at `stop`. At a fault the lines before it were executed, all of them where the last sync
+/// failed. Before each take and at the end the sink passes on what was written.
 pub fn run_script<D: Device + Drop, S: Source, K: Sink>(
     alloc: Global,
     shell: &mut Shell<D>,
@@ -80,9 +81,11 @@ pub fn run_script<D: Device + Drop, S: Source, K: Sink>(
 ) -> Result<(), Fault>
     requires line { held_of shell.old ≡ [] }
     requires going { stop_in shell.old ≡ None }
-    ensures session { Session (end_of result) (ShellAt D.Device shell.old)
-        (ShellAt D.Device shell.new) (S.left src.old) (S.left src.new) (S.takes src.old)
-        (S.takes src.new) (K.written sink.old) (K.written sink.new) }
+    ensures session { (first : D) (since : ℕ) → Session (end_of result)
+        (ShellAt D.Device first since shell.old)
+        (ClosedAt (end_of result) (ShellAt D.Device first since shell.new)) (S.left src.old)
+        (S.left src.new) (S.takes src.old) (S.takes src.new) (K.written sink.old)
+        (K.written sink.new) }
     ensures flushed { OnOk result (K.waiting sink.new ≡ 0) }
     ensures going { OnOk result (stop_in shell.new ≡ None) }
     ensures device { Stays D.Device (device_in shell.old) (device_in shell.new) }
@@ -92,22 +95,29 @@ pub fn run_script<D: Device + Drop, S: Source, K: Sink>(
         (faults (D.fault_count (device_in shell.new)) (S.fault_count src.new)
         (K.fault_count sink.new)) result }
 {
-    run_pieces(alloc, shell, src, sink)?;
-    flush(sink)
+    let flow = run_pieces(alloc, shell, src, sink)?;
+    flush(sink)?;
+    match flow {
+        ControlFlow::Continue(()) => shell.close(),
+        ControlFlow::Break(()) => Ok(()),
+    }
 }
 
-/// Executes a script piece by piece. What the last replies are isn't passed on yet.
+/// Executes a script piece by piece, and breaks at a `stop`. What the last replies are isn't passed
+/// on yet.
 fn run_pieces<D: Device + Drop, S: Source, K: Sink>(
     alloc: Global,
     shell: &mut Shell<D>,
     src: &mut S,
     sink: &mut K,
-) -> Result<(), Fault>
+) -> Result<ControlFlow<()>, Fault>
     requires line { held_of shell.old ≡ [] }
     requires going { stop_in shell.old ≡ None }
-    ensures session { Session (end_of result) (ShellAt D.Device shell.old)
-        (ShellAt D.Device shell.new) (S.left src.old) (S.left src.new) (S.takes src.old)
-        (S.takes src.new) (K.written sink.old) (K.written sink.new) }
+    ensures session { (first : D) (since : ℕ) → Session (end_of result)
+        (ShellAt D.Device first since shell.old)
+        (ToldAt result (ShellAt D.Device first since shell.new)) (S.left src.old)
+        (S.left src.new) (S.takes src.old) (S.takes src.new) (K.written sink.old)
+        (K.written sink.new) }
     ensures going { OnOk result (stop_in shell.new ≡ None) }
     ensures device { Stays D.Device (device_in shell.old) (device_in shell.new) }
     ensures writes { FailsNoWrite D.Device (device_in shell.old) (device_in shell.new) result }
@@ -123,7 +133,7 @@ fn run_pieces<D: Device + Drop, S: Source, K: Sink>(
         match next_piece(src, sink, &mut piece, taken) {
             Ok(Taken::Piece(size)) => match shell.feed(alloc, &piece[..size], sink)? {
                 ControlFlow::Continue(()) => taken += size,
-                ControlFlow::Break(()) => return Ok(()),
+                ControlFlow::Break(()) => return Ok(ControlFlow::Break(())),
             },
             Ok(Taken::End) => return shell.finish(alloc, sink),
             Ok(Taken::TooLong) => return Err(Fault::TooLong),

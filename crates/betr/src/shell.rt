@@ -1,25 +1,31 @@
-ghost use Rattle.std.specs.Prelude.{◌≡◌, ◌≢◌, ◌≤◌, ◌++◌, ℕ, [], MatchOption, length, false, None, Ok, IfOk, IfErr, IfSome, OnOk, OnErr};
+ghost use Rattle.std.specs.Prelude.{◌≡◌, ◌≢◌, ◌+◌, ◌≤◌, ◌⊎◌, ◌++◌, ℕ, [], MatchOption, length, false, None, Ok, IfOk, IfErr, IfSome, OnOk, OnErr};
 ghost use Rattle.std.specs.List.{list_any};
 ghost use Rattle.std.specs.Io.KnownBytes.{append_known};
 ghost use Rattle.bd_io.specs.Cause.{HasCause};
 ghost use Rattle.bd_io.specs.Written.{WrotePart};
+ghost use Rattle.bd_message.specs.declared.fault.Counter.{Counter};
 ghost use Rattle.bd_model.specs.Tree.{Tree};
-ghost use Rattle.bd_device.specs.Device.{OnlyReads, Stays, IsImageCause};
-ghost use Rattle.bd_checkpoint.specs.Recovering.{OnlySettles, IsBadIn};
+ghost use Rattle.bd_device.specs.Device.{OnlyReads, Stays};
+ghost use Rattle.bd_image.specs.ImageTree.{ImageStandsFor};
+ghost use Rattle.bd_checkpoint.specs.Recovering.{OnlySettles};
 ghost use Rattle.bd_script.specs.Lines.{line_of, open_line, held, held_limit, is_empty, is_stop, IsLine, HasNoNewline};
 ghost use Rattle.bd_script.specs.Replies.{line_reply_line, IsLineReply};
-ghost use Rattle.bd_engine.specs.Stored.{IsStoredView, HasSaved};
-ghost use Rattle.bd_volume.specs.Faults.{image_fault_of};
-ghost use Rattle.bd_volume.specs.Volume.{device_of, stop_of};
+ghost use Rattle.bd_engine.specs.Stored.{HasSaved};
+ghost use Rattle.bd_volume.specs.Faults.{IsStartCause};
+ghost use Rattle.bd_volume.specs.Volume.{IsFirstView};
+ghost use Rattle.bd_volume.specs.Wears.{WearsReplaying};
 ghost use Rattle.betr.specs.Fault.{IsCaused};
-ghost use Rattle.betr.specs.Transcript.{State, state_at, MayGet, meanings};
-ghost use Rattle.betr.specs.Session.{Executes};
-ghost use Rattle.betr.specs.Shell.{VolumeAt, ShellAt, Replies, ExecutesOne, view_in, held_of, device_in, stop_in, counts_of, CanStart, FailsNoWrite, breaks, is_stopped, last_lines, completed, IsHeld, ComesNow, IsOutcome, CutsAt, IsLineFault, LineFails, RunFails, BreaksOff};
+ghost use Rattle.betr.specs.Transcript.{State, state_at, synced_state, MayGet, meanings};
+ghost use Rattle.betr.specs.Session.{Executes, breaks};
+ghost use Rattle.betr.specs.Shell.{KeptAt, ShellAt, Replies, ExecutesOne, view_in, acks_in, held_of, device_below, device_in, stop_below, stop_in, counts_of, CanStart, MaySettle, FailsNoWrite, is_stopped, last_lines, completed, IsHeld, ComesNow, IsOutcome, CutsAt, IsLineFault, LineFails, RunFails, BreaksOff};
 
+use crate::acknowledged::Acknowledged;
 use crate::fault::Fault;
+use crate::outcome::Ack;
 use bd_command::Refusal;
 use bd_device::Device;
 use bd_io::{Failed, Sink, put_all};
+use bd_keys::Items;
 use bd_limits::MAX_LINE;
 use bd_script::{Line, LineFault, LineReply, REPLY_SIZE, line_reply, read_line};
 use bd_volume::{Fault as VolumeFault, Refused, Volume};
@@ -46,48 +52,57 @@ fn outcome_of(fault: VolumeFault) -> Result<LineReply, Fault>
 
 // Executes a line that was read. A fault leaves the tree that the volume stands for and the count;
 // steps of a command and changes of reclaiming may have been made.
-fn execute<D: Device + Drop>(volume: &mut Volume<D>, line: &Line) -> Result<LineReply, Fault>
+fn execute<D: Device + Drop>(kept: &mut Acknowledged<D>, line: &Line) -> Result<LineReply, Fault>
     requires line { IsLine line.now }
-    requires going { stop_of volume.old ≡ None }
-    ensures ok { IfOk result (λ said. (s : State) → VolumeAt D.Device volume.old s
-        → Replies s (Ok line.now) said (VolumeAt D.Device volume.new)) }
-    ensures err { IfErr result (λ e. (s : State) → VolumeAt D.Device volume.old s
-        → LineFails e s (Ok line.now) (VolumeAt D.Device volume.new)) }
+    requires going { stop_below kept.old ≡ None }
+    ensures ok { IfOk result (λ said. (first : D) (since : ℕ) (s : State)
+        → KeptAt D.Device first since kept.old s
+        → Replies s (Ok line.now) said (KeptAt D.Device first since kept.new)) }
+    ensures err { IfErr result (λ e. (first : D) (since : ℕ) (s : State)
+        → KeptAt D.Device first since kept.old s
+        → LineFails e s (Ok line.now) (KeptAt D.Device first since kept.new)) }
 
     // Whatever the volume stands for.
     ensures answer { IfOk result (MayGet (Ok line.now)) }
     ensures fault { IfErr result IsLineFault }
-    ensures going { OnOk result (stop_of volume.new ≡ None) }
-    ensures device { Stays D.Device (device_of volume.old) (device_of volume.new) }
-    ensures writes { FailsNoWrite D.Device (device_of volume.old) (device_of volume.new) result }
-    ensures cause { (sink : ℕ) → IsCaused (counts_of D.Device (device_of volume.old) sink)
-        (counts_of D.Device (device_of volume.new) sink) result }
+    ensures going { OnOk result (stop_below kept.new ≡ None) }
+    ensures device { Stays D.Device (device_below kept.old) (device_below kept.new) }
+    ensures writes { FailsNoWrite D.Device (device_below kept.old) (device_below kept.new) result }
+    ensures cause { (sink : ℕ) → IsCaused (counts_of D.Device (device_below kept.old) sink)
+        (counts_of D.Device (device_below kept.new) sink) result }
 {
     match line {
-        Line::Run(command) => match volume.do_command(command) {
+        Line::Run(command) => match kept.volume.do_command(command) {
             Ok(reply) => Ok(LineReply::Command(reply)),
             Err(fault) => outcome_of(fault),
         },
         Line::Walk => {
-            let walk = volume.last_walk();
+            let walk = kept.volume.last_walk();
             Ok(LineReply::Walk {
                 visits: walk.visits,
                 height: walk.height,
             })
         }
         Line::Df => Ok(LineReply::Free {
-            free: volume.free(),
-            slots: volume.slots(),
+            free: kept.volume.free(),
+            slots: kept.volume.slots(),
         }),
-        Line::Checkpoint => match volume.checkpoint() {
+        Line::Sync => {
+            kept.acknowledge()?;
+            Ok(LineReply::Done)
+        }
+        Line::Checkpoint => match kept.volume.checkpoint() {
             Ok(()) => Ok(LineReply::Done),
             Err(fault) => outcome_of(fault),
         },
-        Line::Reclaim => match volume.reclaim() {
+        Line::Reclaim => match kept.volume.reclaim() {
             Ok(()) => Ok(LineReply::Done),
             Err(fault) => outcome_of(fault),
         },
-        Line::Stop => Ok(LineReply::Stopped),
+        Line::Stop => {
+            kept.acknowledge()?;
+            Ok(LineReply::Stopped)
+        }
     }
 }
 
@@ -95,26 +110,28 @@ fn execute<D: Device + Drop>(volume: &mut Volume<D>, line: &Line) -> Result<Line
 // read.
 fn execute_line<D: Device + Drop>(
     alloc: Global,
-    volume: &mut Volume<D>,
+    kept: &mut Acknowledged<D>,
     line: &[u8],
 ) -> Result<LineReply, Fault>
-    requires { stop_of volume.old ≡ None }
-    ensures ok { IfOk result (λ said. (s : State) → VolumeAt D.Device volume.old s
-        → Replies s (line_of line.now) said (VolumeAt D.Device volume.new)) }
-    ensures err { IfErr result (λ e. (s : State) → VolumeAt D.Device volume.old s
-        → LineFails e s (line_of line.now) (VolumeAt D.Device volume.new)) }
+    requires { stop_below kept.old ≡ None }
+    ensures ok { IfOk result (λ said. (first : D) (since : ℕ) (s : State)
+        → KeptAt D.Device first since kept.old s
+        → Replies s (line_of line.now) said (KeptAt D.Device first since kept.new)) }
+    ensures err { IfErr result (λ e. (first : D) (since : ℕ) (s : State)
+        → KeptAt D.Device first since kept.old s
+        → LineFails e s (line_of line.now) (KeptAt D.Device first since kept.new)) }
 
     // Whatever the volume stands for.
     ensures answer { IfOk result (MayGet (line_of line.now)) }
     ensures fault { IfErr result IsLineFault }
-    ensures going { OnOk result (stop_of volume.new ≡ None) }
-    ensures device { Stays D.Device (device_of volume.old) (device_of volume.new) }
-    ensures writes { FailsNoWrite D.Device (device_of volume.old) (device_of volume.new) result }
-    ensures cause { (sink : ℕ) → IsCaused (counts_of D.Device (device_of volume.old) sink)
-        (counts_of D.Device (device_of volume.new) sink) result }
+    ensures going { OnOk result (stop_below kept.new ≡ None) }
+    ensures device { Stays D.Device (device_below kept.old) (device_below kept.new) }
+    ensures writes { FailsNoWrite D.Device (device_below kept.old) (device_below kept.new) result }
+    ensures cause { (sink : ℕ) → IsCaused (counts_of D.Device (device_below kept.old) sink)
+        (counts_of D.Device (device_below kept.new) sink) result }
 {
     match read_line(alloc, line) {
-        Ok(line) => execute(volume, &line),
+        Ok(line) => execute(kept, &line),
         Err(LineFault::BadLine) => Ok(LineReply::Unread(Refusal::BadLine)),
         Err(LineFault::BadPath) => Ok(LineReply::Unread(Refusal::BadPath)),
         Err(LineFault::NoMemory) => Err(Fault::Memory),
@@ -157,51 +174,54 @@ fn flow_after(said: &LineReply) -> ControlFlow<()>
 // reply written; another fault leaves what it leaves of the line, and the sink as it was.
 fn run_line<D: Device + Drop, K: Sink>(
     alloc: Global,
-    volume: &mut Volume<D>,
+    kept: &mut Acknowledged<D>,
     line: &[u8],
     buffer: &mut [u8; REPLY_SIZE],
     sink: &mut K,
 ) -> Result<ControlFlow<()>, Fault>
-    requires { stop_of volume.old ≡ None }
-    ensures ok { OnOk result (ExecutesOne (VolumeAt D.Device volume.old)
-        (VolumeAt D.Device volume.new) (line_of line.now) (K.written sink.old)
+    requires { stop_below kept.old ≡ None }
+    ensures ok { OnOk result ((first : D) (since : ℕ)
+        → ExecutesOne (KeptAt D.Device first since kept.old)
+        (KeptAt D.Device first since kept.new) (line_of line.now) (K.written sink.old)
         (K.written sink.new)) }
-    ensures err { IfErr result (λ e. RunFails e (VolumeAt D.Device volume.old)
-        (VolumeAt D.Device volume.new) (line_of line.now) (K.written sink.old)
+    ensures err { IfErr result (λ e. (first : D) (since : ℕ)
+        → RunFails e (KeptAt D.Device first since kept.old)
+        (KeptAt D.Device first since kept.new) (line_of line.now) (K.written sink.old)
         (K.written sink.new)) }
     ensures flow { IfOk result (λ flow. breaks flow ≡ is_stop (line_of line.now)) }
-    ensures going { OnOk result (stop_of volume.new ≡ None) }
-    ensures device { Stays D.Device (device_of volume.old) (device_of volume.new) }
-    ensures writes { FailsNoWrite D.Device (device_of volume.old) (device_of volume.new) result }
-    ensures cause { IsCaused (counts_of D.Device (device_of volume.old) (K.fault_count sink.old))
-        (counts_of D.Device (device_of volume.new) (K.fault_count sink.new)) result }
+    ensures going { OnOk result (stop_below kept.new ≡ None) }
+    ensures device { Stays D.Device (device_below kept.old) (device_below kept.new) }
+    ensures writes { FailsNoWrite D.Device (device_below kept.old) (device_below kept.new) result }
+    ensures cause { IsCaused (counts_of D.Device (device_below kept.old) (K.fault_count sink.old))
+        (counts_of D.Device (device_below kept.new) (K.fault_count sink.new)) result }
 {
-    let said = execute_line(alloc, volume, line)?;
+    let said = execute_line(alloc, kept, line)?;
     match write_reply(&said, buffer, sink) {
         Ok(()) => Ok(flow_after(&said)),
         Err(Failed) => Err(Fault::Sink),
     }
 }
 
-/// A volume, and what is held of the next line.
+/// A volume with its acknowledgements, and what is held of the next line.
 #[derive(Drop)]
 pub struct Shell<D: Device> {
-    volume: Volume<D>,
+    kept: Acknowledged<D>,
     line: Vec<u8>,
     buffer: Box<[u8; REPLY_SIZE]>,
 }
 
 impl<D: Device + Drop> Shell<D> {
-    /// A shell over the volume that starts from a device's image. From an image that stands for a
-    /// tree and has no open batch it starts unless the device fails or there is no memory, and
-    /// stands for that tree. Where it fails, it returns the device; the fault is `Device`,
-    /// `Damaged` or `NoMemory`.
+    /// A shell over the volume that starts from a device's image, whose first call is a barrier.
+    /// From an image that stands for a tree it starts unless the device fails, there is no memory
+    /// or a counter has no room, and stands for that tree; since that barrier a crash leaves what
+    /// stands for it too. Where it fails, it returns the device; the fault is `Device`, `Damaged`,
+    /// `Worn` or `NoMemory`.
     pub fn new(alloc: Global, device: D) -> Result<Shell<D>, Refused<D>>
         ensures stands { IfOk result (λ shell. (t : Tree) (n : ℕ) → CanStart t n (D.contents device)
-            → ShellAt D.Device shell (state_at t n (view_in D.Device shell))) }
-        ensures first { IfOk result (λ shell. (t : Tree) (n : ℕ)
-            → CanStart t n (D.contents device) → IfSome (D.contents device)
-            (λ image. IsStoredView image (view_in D.Device shell))) }
+            → ShellAt D.Device (device_in shell) (D.call_count device + 1) shell
+            (state_at t n (view_in D.Device shell))) }
+        ensures first { IfOk result (λ shell. (t : Tree) (n : ℕ) → IfSome (D.contents device)
+            (λ image. ImageStandsFor t n image → IsFirstView image (view_in D.Device shell))) }
         ensures line { IfOk result (λ shell. held_of shell ≡ []) }
         ensures going { IfOk result (λ shell. stop_in shell ≡ None) }
         ensures reads { IfOk result (λ shell. OnlyReads D.Device device (device_in shell)) }
@@ -209,14 +229,15 @@ impl<D: Device + Drop> Shell<D> {
             D.fault_count (device_in shell) ≡ D.fault_count device) }
 
         // The fault, and the device that is returned.
-        ensures cause { IfErr result (λ refused. (fault : _)
-            → refused.fault ≡ image_fault_of fault
-            → IsImageCause D.Device device refused.device (IsBadIn (D.contents device)) fault) }
-        ensures kind { IfErr result (λ refused. (fault : _)
-            × (refused.fault ≡ image_fault_of fault)) }
+        ensures cause { IfErr result (λ refused.
+            IsStartCause D.Device device refused.device refused.fault) }
         ensures undamaged { (t : Tree) (n : ℕ) → CanStart t n (D.contents device)
             → IfErr result (λ refused. (block : ℕ) → refused.fault ≢ VolumeFault.Damaged block) }
+        ensures wears { (t : Tree) (n : ℕ) → IfSome (D.contents device)
+            (λ image. ImageStandsFor t n image → IfErr result (λ refused. (which : Counter)
+            → refused.fault ≡ VolumeFault.Worn which → WearsReplaying which image)) }
         ensures left { IfErr result (λ refused. OnlySettles D.Device device refused.device) }
+        ensures settles { IfErr result (λ refused. MaySettle D.Device device refused.device) }
     {
         let Ok(buffer) = Box::new(alloc, [0; REPLY_SIZE]) else {
             return Err(Refused {
@@ -226,7 +247,7 @@ impl<D: Device + Drop> Shell<D> {
         };
         let volume = Volume::start(alloc, device)?;
         Ok(Shell {
-            volume,
+            kept: Acknowledged::new(alloc, volume),
             line: Vec::new(alloc),
             buffer,
         })
@@ -238,14 +259,15 @@ impl<D: Device + Drop> Shell<D> {
         ensures { stop_in self.now ≡ None → IfSome (D.contents (device_in self.now))
             (HasSaved (view_in D.Device self.now)) }
     {
-        self.volume.saved_is_shown();
+        self.kept.volume.saved_is_shown();
     }
 
-    /// The device, which the shell gives up.
-    pub fn into_device(self) -> D
-        ensures { result ≡ device_in self }
+    /// The device, and what was acknowledged, which the shell gives up.
+    pub fn into_parts(self) -> (D, Items<Ack>)
+        ensures device { result.0 ≡ device_in self }
+        ensures acks { result.1 ≡ acks_in self }
     {
-        self.volume.into_device()
+        self.kept.into_parts()
     }
 
     /// Executes the line that ends here: what is held of it, and its last bytes. Then nothing is
@@ -258,11 +280,13 @@ impl<D: Device + Drop> Shell<D> {
     ) -> Result<ControlFlow<()>, Fault>
         requires short { length (held_of self.old) ≤ held_limit }
         requires going { stop_in self.old ≡ None }
-        ensures ok { OnOk result (ExecutesOne (ShellAt D.Device self.old)
-            (ShellAt D.Device self.new) (line_of (held_of self.old ++ last.now))
+        ensures ok { OnOk result ((first : D) (since : ℕ)
+            → ExecutesOne (ShellAt D.Device first since self.old)
+            (ShellAt D.Device first since self.new) (line_of (held_of self.old ++ last.now))
             (K.written sink.old) (K.written sink.new)) }
-        ensures err { IfErr result (λ e. RunFails e (ShellAt D.Device self.old)
-            (ShellAt D.Device self.new) (line_of (held_of self.old ++ last.now))
+        ensures err { IfErr result (λ e. (first : D) (since : ℕ)
+            → RunFails e (ShellAt D.Device first since self.old)
+            (ShellAt D.Device first since self.new) (line_of (held_of self.old ++ last.now))
             (K.written sink.old) (K.written sink.new)) }
         ensures line { OnOk result (held_of self.new ≡ []) }
         ensures flow { IfOk result (λ flow.
@@ -275,10 +299,10 @@ impl<D: Device + Drop> Shell<D> {
             (counts_of D.Device (device_in self.new) (K.fault_count sink.new)) result }
     {
         if self.line.is_empty() {
-            return run_line(alloc, &mut self.volume, last, &mut self.buffer, sink);
+            return run_line(alloc, &mut self.kept, last, &mut self.buffer, sink);
         }
         hold(&mut self.line, last)?;
-        let flow = run_line(alloc, &mut self.volume, &self.line, &mut self.buffer, sink)?;
+        let flow = run_line(alloc, &mut self.kept, &self.line, &mut self.buffer, sink)?;
         self.line.clear();
         Ok(flow)
     }
@@ -293,11 +317,14 @@ impl<D: Device + Drop> Shell<D> {
     ) -> Result<ControlFlow<()>, Fault>
         requires begun { IsHeld (held_of self.old) }
         requires going { stop_in self.old ≡ None }
-        ensures ok { OnOk result (Executes (ShellAt D.Device self.old) (ShellAt D.Device self.new)
-            (completed (held_of self.old) piece.now) (K.written sink.old) (K.written sink.new)) }
-        ensures err { IfErr result (λ e. BreaksOff e (ShellAt D.Device self.old)
-            (ShellAt D.Device self.new) (held_of self.old) piece.now (K.written sink.old)
-            (K.written sink.new)) }
+        ensures ok { OnOk result ((first : D) (since : ℕ)
+            → Executes (ShellAt D.Device first since self.old)
+            (ShellAt D.Device first since self.new) (completed (held_of self.old) piece.now)
+            (K.written sink.old) (K.written sink.new)) }
+        ensures err { IfErr result (λ e. (first : D) (since : ℕ)
+            → BreaksOff e (ShellAt D.Device first since self.old)
+            (ShellAt D.Device first since self.new) (held_of self.old) piece.now
+            (K.written sink.old) (K.written sink.new)) }
         ensures line { IfOk result (λ flow. breaks flow ≡ false
             → held_of self.new ≡ held (open_line (held_of self.old ++ piece.now))) }
         ensures flow { IfOk result
@@ -321,14 +348,19 @@ impl<D: Device + Drop> Shell<D> {
     }
 
     /// Executes what is held at the end of a script, where that isn't empty.
-    pub fn finish<K: Sink>(&mut self, alloc: Global, sink: &mut K) -> Result<(), Fault>
+    pub fn finish<K: Sink>(&mut self, alloc: Global, sink: &mut K) -> Result<ControlFlow<()>, Fault>
         requires { stop_in self.old ≡ None }
-        ensures ok { OnOk result (Executes (ShellAt D.Device self.old) (ShellAt D.Device self.new)
-            (last_lines (held_of self.old)) (K.written sink.old) (K.written sink.new)) }
-        ensures err { IfErr result (λ e. RunFails e (ShellAt D.Device self.old)
-            (ShellAt D.Device self.new) (line_of (held_of self.old)) (K.written sink.old)
-            (K.written sink.new)) }
+        ensures ok { OnOk result ((first : D) (since : ℕ)
+            → Executes (ShellAt D.Device first since self.old)
+            (ShellAt D.Device first since self.new) (last_lines (held_of self.old))
+            (K.written sink.old) (K.written sink.new)) }
+        ensures err { IfErr result (λ e. (first : D) (since : ℕ)
+            → RunFails e (ShellAt D.Device first since self.old)
+            (ShellAt D.Device first since self.new) (line_of (held_of self.old))
+            (K.written sink.old) (K.written sink.new)) }
         ensures some { OnErr result (is_empty (held_of self.old) ≡ false) }
+        ensures flow { IfOk result
+            (λ flow. breaks flow ≡ list_any is_stop (last_lines (held_of self.old))) }
         ensures going { OnOk result (stop_in self.new ≡ None) }
         ensures device { Stays D.Device (device_in self.old) (device_in self.new) }
         ensures writes { FailsNoWrite D.Device (device_in self.old) (device_in self.new) result }
@@ -337,10 +369,27 @@ impl<D: Device + Drop> Shell<D> {
             (counts_of D.Device (device_in self.new) (K.fault_count sink.new)) result }
     {
         if self.line.is_empty() {
-            return Ok(());
+            return Ok(ControlFlow::Continue(()));
         }
-        let _flow = run_line(alloc, &mut self.volume, &self.line, &mut self.buffer, sink)?;
-        Ok(())
+        run_line(alloc, &mut self.kept, &self.line, &mut self.buffer, sink)
+    }
+
+    /// Makes all that was accepted durable at the end of a script, and acknowledges it.
+    pub fn close(&mut self) -> Result<(), Fault>
+        requires { stop_in self.old ≡ None }
+        ensures ok { OnOk result ((first : D) (since : ℕ) (s : State)
+            → ShellAt D.Device first since self.old s
+            → ShellAt D.Device first since self.new (synced_state s)) }
+        ensures err { OnErr result ((first : D) (since : ℕ) (s : State)
+            → ShellAt D.Device first since self.old s → ShellAt D.Device first since self.new s) }
+        ensures kind { IfErr result (λ e. (e ≡ Fault.Device) ⊎ (e ≡ Fault.Memory)) }
+        ensures going { OnOk result (stop_in self.new ≡ None) }
+        ensures device { Stays D.Device (device_in self.old) (device_in self.new) }
+        ensures writes { FailsNoWrite D.Device (device_in self.old) (device_in self.new) result }
+        ensures cause { (sink : ℕ) → IsCaused (counts_of D.Device (device_in self.old) sink)
+            (counts_of D.Device (device_in self.new) sink) result }
+    {
+        self.kept.acknowledge()
     }
 }
 

@@ -240,7 +240,7 @@ fn a_device_without_an_image_is_damaged(rt: HostRuntime) -> Result<(), Fail> {
 }
 
 #[test]
-fn a_run_finds_what_the_last_checkpoint_left(rt: HostRuntime) -> Result<(), Fail> {
+fn a_run_finds_what_the_last_run_left(rt: HostRuntime) -> Result<(), Fail> {
     let alloc = rt.alloc();
     let mut dev = formatted(alloc, WRITES)?;
     let first = b"mkdir /a\ncheckpoint\nmkdir /b\n";
@@ -249,7 +249,52 @@ fn a_run_finds_what_the_last_checkpoint_left(rt: HostRuntime) -> Result<(), Fail
     assert_eq!(rt; written.as_slice(), b"ok\nok\nok\n".as_slice());
     let (status, written) = called_on(alloc, &mut dev, &["betr", "run", "img"], b"list /\n")?;
     assert_eq!(rt; status, 0);
-    assert_eq!(rt; written.as_slice(), b"ok a/\n".as_slice());
+    assert_eq!(rt; written.as_slice(), b"ok a/ b/\n".as_slice());
+    Ok(())
+}
+
+/// Scripts that end well, what each has written, the counts that it has acknowledged, and what a
+/// run after it lists.
+const ACKNOWLEDGED: &[(&str, &str, &[u64], &str)] = &[
+    ("", "", &[0], "ok\n"),
+    ("mkdir /a\nstop\nmkdir /b\n", "ok\nok\n", &[1], "ok a/\n"),
+    ("mkdir /a\nsync\n", "ok\nok\n", &[1, 1], "ok a/\n"),
+    (
+        "mkdir /a\nsync\nmkdir /b\nmkdir /b\n",
+        "ok\nok\nok\nno 2 exists\n",
+        &[1, 2],
+        "ok a/ b/\n",
+    ),
+];
+
+/// A run of a script over a new image: its status, what it wrote and the counts that it has
+/// acknowledged; and what a run after it lists.
+fn acknowledged(
+    alloc: Global,
+    script: &str,
+) -> Result<(u8, Vec<u8>, Vec<u64>, Vec<u8>), AllocError> {
+    let mut dev = formatted(alloc, WRITES)?;
+    let mut sink = MemSink::new(alloc, 1 << 16, &[])?;
+    let called = words(alloc, &["betr", "run", "img"])?;
+    let outcome = row(alloc, &mut dev, &called, script.as_bytes(), &mut sink)?;
+    let mut counts = Vec::new(alloc);
+    for ack in outcome.acks.as_slice() {
+        counts.push(ack.count)?;
+    }
+    let (_status, listed) = called_on(alloc, &mut dev, &["betr", "run", "img"], b"list /\n")?;
+    let written = Vec::from_slice(alloc, sink.bytes())?;
+    Ok((outcome.status, written, counts, listed))
+}
+
+#[test]
+fn what_is_synced_is_acknowledged(rt: HostRuntime) -> Result<(), Fail> {
+    for (script, text, want, then) in ACKNOWLEDGED {
+        let (status, written, counts, listed) = acknowledged(rt.alloc(), script)?;
+        assert_eq!(rt; status, 0, "script {script:?}");
+        assert_eq!(rt; written.as_slice(), text.as_bytes(), "script {script:?}");
+        assert_eq!(rt; counts.as_slice(), *want, "script {script:?}");
+        assert_eq!(rt; listed.as_slice(), then.as_bytes(), "script {script:?}");
+    }
     Ok(())
 }
 

@@ -12,17 +12,17 @@ pub returns-in-Some-Run-clause-faultless : goal.returns-in-Some-Run-clause-fault
 returns-in-Some-Run-clause-faultless g c =
     let ran = c.run_image-ended in
     let last = c.end_call.ensures.last (g.D.Device.fault_count ran.new.dev) (g.S.Source.fault_count ran.new.src) in
-    ended_well ran.result _ _ c.end_call.ensures.status (well_counts ran.result _ _ _ _ _ ran.ensures.cause last)
+    ended_well ran.result.result _ _ c.end_call.ensures.status (well_counts ran.result.result _ _ _ _ _ ran.ensures.cause last)
 
 pub returns-in-Some-Run-clause-complete : goal.returns-in-Some-Run-clause-complete
 returns-in-Some-Run-clause-complete g c =
     let ran = c.run_image-ended in
     of_call _ _ (Run c.in-Some-Run.image.now) (ap (λ f. asked (Some f)) (sym c.in-Some-Run.field-0-is) ∙ c.in-Some-Run.ensures.call)
-    (λ ready f. run_complete ran.result _ _ _ _ _ _ _ _ _ _ _ _ _ _ c.end_call.ensures.status ran.ensures.ran ran.ensures.cause c.end_call.ensures.later ready f)
+    (λ ready f. run_complete ran.result.result _ _ _ _ _ _ _ _ c.end_call.ensures.status ran.ensures.ran ran.ensures.cause c.end_call.ensures.later ready f)
 
 pub returns-in-Some-Format-clause-does : goal.returns-in-Some-Format-clause-does
 returns-in-Some-Format-clause-does g c =
-    let made = c.format_image-ended in
+    let made = c.format_image-result in
     let call = c.in-Some-Format in
     of_call _ _ (Format call.image.now call.slots) (ap (λ f. asked (Some f)) (sym call.field-0-is) ∙ call.ensures.call)
     (record {
@@ -35,12 +35,12 @@ returns-in-Some-Format-clause-does g c =
       said = made.ensures.said;
       cause = cause_of made.result _ _ (is_caused_beside made.result _ _ _ _ (g.S.Source.fault_count c.args.src.now) made.ensures.cause);
       last = c.end_call-in-Some-Format.ensures.last _ _;
-      acked = c.end_call-in-Some-Format.ensures.acks;
+      acked = c.end_call-in-Some-Format.ensures.acks ∙ c.new-acks.ensures;
     })
 
 pub returns-in-Some-Format-clause-faultless : goal.returns-in-Some-Format-clause-faultless
 returns-in-Some-Format-clause-faultless g c =
-    let made = c.format_image-ended in
+    let made = c.format_image-result in
     let last = c.end_call-in-Some-Format.ensures.last (g.D.Device.fault_count made.new.dev) (g.S.Source.fault_count c.args.src.now) in
     ended_well made.result _ _ c.end_call-in-Some-Format.ensures.status
     (well_counts made.result _ _ _ _ _ (is_caused_beside made.result _ _ _ _ (g.S.Source.fault_count c.args.src.now) made.ensures.cause) last)

@@ -1,20 +1,44 @@
--- The session begins at the view that the image stores, and leaves what reads give.
-use Rattle.std.proofs.Common.{ap, ◌∙◌, rules}
-use Rattle.bd_volume.specs.Faults.{image_fault_of}
-use Rattle.betr.proofs.Runs.{ran_session, ran_refused, ok_of_none, saved_as}
+-- The session begins at the image's first view, and leaves what reads give.
+use Rattle.std.proofs.Common.{◌+◌, ◌<◌, [], ◌∙◌, rules}
+use Rattle.std.specs.Prelude.{IfSome}
+use Rattle.std.specs.declared.option.Option.TheVariants.{Some}
+use Rattle.betr.specs.Fault.{faults}
+use Rattle.betr.specs.Run.{disk, ends, Ran}
+use Rattle.betr.specs.Session.{end_of}
+use Rattle.betr.specs.Shell.{acks_in, device_in}
+use Rattle.betr.proofs.Runs.{as_last, ran_session, ran_unstarted, ok_of_none}
 use Rattle.betr.proofs.run.run_device.Goals as goal
-use Rattle.betr.proofs.run.run_device.Goals.{in-Ok, in-Err}
 
-pub returns-clause-ran : goal.returns-clause-ran
-returns-clause-ran g c =
-    elim c.match-new.branch [
-      | in-Ok w ↦
-          rw (w.src-is, w.sink-is, w.dev-is, w.result-is)
-          (ran_session _ _ _ _ _ _ _ _ _ _ _ _ _ _ _ w.run_script-result.ensures.session w.in-Ok.ensures.stands w.in-Ok.ensures.first
-          (λ none s at. saved_as _ _ s.view at.view_is (w.saved_is_shown.ensures (ok_of_none w.run_script-result.result _ none w.run_script-result.ensures.going))) (search rules))
-      | in-Err w ↦
-          let kind = w.in-Err.ensures.kind in
-          rw (w.src-is, w.sink-is, w.dev-is, w.result-is)
-          (rw (w.of_image.ensures kind.0 kind.1)
-          (ran_refused kind.0 _ _ _ _ _ _ _ (λ t n can block is. w.in-Err.ensures.undamaged t n can block (kind.1 ∙ ap image_fault_of is))))
-    ]
+pub returns-in-Err-clause-ran : goal.returns-in-Err-clause-ran
+returns-in-Err-clause-ran g c =
+    rw c.new-in-Err.ensures
+    (as_last (λ e. Ran (g.D.Device.call_count c.args.dev.now + 1) (Some c.of_start.result) []
+    (ends (disk (g.D.Device.contents c.args.dev.now) (g.D.Device.call_count c.args.dev.now) (g.D.Device.left_since c.args.dev.now) (g.D.Device.write_fault_count c.args.dev.now))
+    (g.S.Source.left c.args.src.now) (g.S.Source.takes c.args.src.now) (g.K.Sink.written c.args.sink.now)
+    (faults (g.D.Device.fault_count c.args.dev.now) (g.S.Source.fault_count c.args.src.now) (g.K.Sink.fault_count c.args.sink.now)))
+    (ends (disk (g.D.Device.contents e) (g.D.Device.call_count e) (g.D.Device.left_since e) (g.D.Device.write_fault_count e))
+    (g.S.Source.left c.args.src.now) (g.S.Source.takes c.args.src.now) (g.K.Sink.written c.args.sink.now)
+    (faults (g.D.Device.fault_count e) (g.S.Source.fault_count c.args.src.now) (g.K.Sink.fault_count c.args.sink.now))))
+    _ c.in-Err.refused.device.now (search rules)
+    (ran_unstarted _ c.in-Err.refused.fault c.of_start.result _ c.in-Err.refused.device _ _ _ _ _ c.of_start.ensures c.in-Err.ensures.undamaged c.in-Err.ensures.wears
+    c.in-Err.ensures.left c.in-Err.ensures.settles c.blocks-2.ensures.shape))
+
+pub returns-in-Ok-clause-ran : goal.returns-in-Ok-clause-ran
+returns-in-Ok-clause-ran g c =
+    let ran = c.run_script-result in
+    let before = c.in-Ok.shell in
+    let after = ran.new.shell in
+    rw c.into_parts-device.ensures.acks
+    (as_last (λ e. (0 < g.D.Device.block_count e → IfSome (g.D.Device.contents e) (g.D.Device.left_since e (g.D.Device.call_count e)))
+    → Ran (g.D.Device.call_count c.args.dev.now + 1) (end_of ran.result) (acks_in after)
+    (ends (disk (g.D.Device.contents c.args.dev.now) (g.D.Device.call_count c.args.dev.now) (g.D.Device.left_since c.args.dev.now) (g.D.Device.write_fault_count c.args.dev.now))
+    (g.S.Source.left c.args.src.now) (g.S.Source.takes c.args.src.now) (g.K.Sink.written c.args.sink.now)
+    (faults (g.D.Device.fault_count c.args.dev.now) (g.S.Source.fault_count c.args.src.now) (g.K.Sink.fault_count c.args.sink.now)))
+    (ends (disk (g.D.Device.contents e) (g.D.Device.call_count e) (g.D.Device.left_since e) (g.D.Device.write_fault_count e))
+    (g.S.Source.left ran.new.src) (g.S.Source.takes ran.new.src) (g.K.Sink.written ran.new.sink)
+    (faults (g.D.Device.fault_count e) (g.S.Source.fault_count ran.new.src) (g.K.Sink.fault_count ran.new.sink))))
+    _ (device_in after).now (search rules)
+    (λ may_stay. ran_session _ (end_of ran.result) _ before after _ _ _ _ _ _ _ _ (ran.ensures.session (device_in before) (g.D.Device.call_count c.args.dev.now + 1))
+    c.in-Ok.ensures.stands c.in-Ok.ensures.first c.in-Ok.ensures.reads (λ none. ok_of_none ran.result _ none ran.ensures.going) c.saved_is_shown.ensures may_stay
+    c.blocks-2.ensures.shape (ran.ensures.device.count ∙ c.in-Ok.ensures.reads.count))
+    c.blocks-in-Ok.ensures.may_stay)

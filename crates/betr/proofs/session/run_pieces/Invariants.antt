@@ -1,5 +1,5 @@
 -- What was taken so far is executed, and neither the device, the source nor the sink has failed.
-use Rattle.std.proofs.Common.{◌≡◌, ◌-◌}
+use Rattle.std.proofs.Common.{◌≡◌, ◌-◌, ℕ}
 use Rattle.std.specs.declared.option.Option.TheVariants.{None}
 use Rattle.bd_device.specs.Device.{Stays}
 use Rattle.bd_limits.specs.Limits.{script_limit}
@@ -9,7 +9,7 @@ use Rattle.betr.proofs.session.run_pieces.Given as goal
 
 abbrev pub invariant-pieces : goal.invariant-pieces
 invariant-pieces g l = record {
-  stands : Stands (ShellAt g.D.Device l.fn.shell) (ShellAt g.D.Device l.shell) (held_of l.shell) l.taken
+  stands : (first : g.row.D.Denot) (since : ℕ) → Stands (ShellAt g.D.Device first since l.fn.shell) (ShellAt g.D.Device first since l.shell) (held_of l.shell) l.taken
       (g.S.Source.left l.fn.src) (g.S.Source.left l.src) (g.K.Sink.written l.fn.sink) (g.K.Sink.written l.sink)
       (g.S.Source.takes l.fn.src) (g.S.Source.takes l.src);
   going : stop_in l.shell ≡ None;

@@ -7,7 +7,7 @@ use Rattle.betr.proofs.shell.run_line.Goals as goal
 pub returns-in_err-said-clause-err : goal.returns-in_err-said-clause-err
 returns-in_err-said-clause-err g c =
     let p = err_from_is_err_and c.from_residual.result c.from_residual.ensures.1 in
-    rw (p.1, p.2) (line_fails c.in_err-said.field-0.0 _ _ _ _ c.in_err-said.ensures.fault c.in_err-said.ensures.err)
+    rw (p.1, p.2) (λ first since. line_fails c.in_err-said.field-0.0 _ _ _ _ c.in_err-said.ensures.fault (c.in_err-said.ensures.err first since))
 
 pub returns-in_err-said-clause-cause : goal.returns-in_err-said-clause-cause
 returns-in_err-said-clause-cause g c =
@@ -23,11 +23,11 @@ pub write_reply-requires : goal.write_reply-requires
 write_reply-requires g c = may_small _ c.in_ok-said.said c.in_ok-said.ensures.answer
 
 pub returns-in-Ok-clause-ok : goal.returns-in-Ok-clause-ok
-returns-in-Ok-clause-ok g c = record {
+returns-in-Ok-clause-ok g c first since = record {
   said = c.in_ok-said.said;
   answer = c.in_ok-said.ensures.answer;
   written = c.in-Ok.ensures.ok;
-  replies = c.in_ok-said.ensures.ok;
+  replies = c.in_ok-said.ensures.ok first since;
 }
 
 pub returns-in-Ok-clause-flow : goal.returns-in-Ok-clause-flow
@@ -38,11 +38,11 @@ returns-in-Ok-clause-cause g c =
     wrote_caused g.D.Device _ _ _ _ _ _ (c.in_ok-said.ensures.cause (g.K.Sink.fault_count c.args.sink.now)) c.in-Ok.ensures.cause.kept
 
 pub returns-clause-err : goal.returns-clause-err
-returns-clause-err g c = record {
+returns-clause-err g c first since = record {
   said = c.in_ok-said.said;
   answer = c.in_ok-said.ensures.answer;
   part = c.in-Err.ensures.part;
-  replies = c.in_ok-said.ensures.ok;
+  replies = c.in_ok-said.ensures.ok first since;
 }
 
 pub returns-clause-cause : goal.returns-clause-cause

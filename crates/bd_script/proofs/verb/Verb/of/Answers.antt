@@ -32,3 +32,23 @@ pub returns-in-reclaim : goal.returns-in-reclaim
 returns-in-reclaim c =
     let text : c.args.word.now ≡ codes "reclaim" = text_from_reads c.args.word.now (codes "reclaim") (omega arith) (omega arith, (omega arith, (omega arith, (omega arith, (omega arith, (omega arith, (omega arith, tt))))))) in
     rw text
+
+pub returns-in-mkdir : goal.returns-in-mkdir
+returns-in-mkdir c =
+    let text : c.args.word.now ≡ codes "mkdir" = text_from_reads c.args.word.now (codes "mkdir") (omega arith) (omega arith, (omega arith, (omega arith, (omega arith, (omega arith, tt))))) in
+    rw text
+
+pub returns-in-write : goal.returns-in-write
+returns-in-write c =
+    let text : c.args.word.now ≡ codes "write" = text_from_reads c.args.word.now (codes "write") (omega arith) (omega arith, (omega arith, (omega arith, (omega arith, (omega arith, tt))))) in
+    rw text
+
+pub returns-in-clone : goal.returns-in-clone
+returns-in-clone c =
+    let text : c.args.word.now ≡ codes "clone" = text_from_reads c.args.word.now (codes "clone") (omega arith) (omega arith, (omega arith, (omega arith, (omega arith, (omega arith, tt))))) in
+    rw text
+
+pub returns-in-chmod : goal.returns-in-chmod
+returns-in-chmod c =
+    let text : c.args.word.now ≡ codes "chmod" = text_from_reads c.args.word.now (codes "chmod") (omega arith) (omega arith, (omega arith, (omega arith, (omega arith, (omega arith, tt))))) in
+    rw text

@@ -1,5 +1,5 @@
 -- A front of the piece was fed, and neither the device nor the sink has failed.
-use Rattle.std.proofs.Common.{◌≡◌, length, None}
+use Rattle.std.proofs.Common.{◌≡◌, ℕ, length, None}
 use Rattle.bd_device.specs.Device.{Stays}
 use Rattle.betr.specs.Shell.{ShellAt, held_of, device_in, stop_in, counts_of}
 use Rattle.betr.proofs.Feeding.{FedTo}
@@ -7,7 +7,7 @@ use Rattle.betr.proofs.shell.Shell.feed.Given as goal
 
 abbrev pub invariant-lines : goal.invariant-lines
 invariant-lines g l = record {
-  fed : FedTo (ShellAt g.D.Device l.fn.self) (ShellAt g.D.Device l.self) (held_of l.fn.self) l.piece l.rest (held_of l.self)
+  fed : (first : g.row.D.Denot) (since : ℕ) → FedTo (ShellAt g.D.Device first since l.fn.self) (ShellAt g.D.Device first since l.self) (held_of l.fn.self) l.piece l.rest (held_of l.self)
       (g.K.Sink.written l.fn.sink) (g.K.Sink.written l.sink);
   going : stop_in l.self ≡ None;
   device : Stays g.D.Device (device_in l.fn.self) (device_in l.self);

@@ -1,0 +1,74 @@
+-- What a line leaves of the points that were passed.
+use Rattle.std.proofs.Common.{◌≡◌, ℕ, ◌+◌, ◌≤◌, Bool, true, false, cond, List, [], ◌∷◌, ◌++◌, refl, sym, subst, arith}
+use Rattle.std.specs.Prelude.{◌&&◌}
+use Rattle.std.specs.List.{Contains}
+use Rattle.std.specs.declared.option.Option.{Option}
+use Rattle.std.specs.declared.option.Option.TheVariants.{None, Some}
+use Rattle.std.proofs.lemmas.List.Elements.{Contains-append_left, Contains-push}
+use Rattle.bd_command.specs.Command.{writes, is_done, accepted}
+use Rattle.bd_command.specs.declared.Command.{Command}
+use Rattle.bd_command.specs.declared.Command.TheVariants.{Mkdir, Create, Write, Truncate, Remove, Rename, Clone, Chmod, Read, Stat, List as Ls}
+use Rattle.bd_command.specs.declared.refusal.Refusal.{Refusal}
+use Rattle.bd_model.specs.Tree.{Tree}
+use Rattle.bd_model.specs.Step.{step, stepped, refusal_of}
+use Rattle.bd_device.specs.Blocks.{Image}
+use Rattle.bd_device.specs.declared.device.Device.{Ghosts}
+use Rattle.bd_view.specs.Views.{View}
+use Rattle.bd_volume.specs.Volume.{GoesBy, device_of}
+use Rattle.bd_volume.specs.declared.volume.Volume.{Volume}
+use Rattle.betr.specs.declared.outcome.Ack.{Ack}
+use Rattle.betr.specs.Transcript.{Point, point, State, with_view, state_of_step}
+use Rattle.betr.specs.Crashes.{IsSafeSince}
+use Rattle.betr.proofs.Surviving.{safe_then, safe_more}
+
+-- ---- the points
+
+-- a command that is refused, or that reads, leaves the tree
+stays_by : (o : Option Refusal) (t : Tree) (c : Command) → (writes c && is_done (stepped t c o).1) ≡ false → (stepped t c o).0 ≡ t
+stays_by (Some r) t c h = refl
+stays_by None t (Mkdir path) h = cc
+stays_by None t (Create path) h = cc
+stays_by None t (Write path off bytes) h = cc
+stays_by None t (Truncate path len) h = cc
+stays_by None t (Remove path) h = cc
+stays_by None t (Rename a b) h = cc
+stays_by None t (Clone a b) h = cc
+stays_by None t (Chmod path mode) h = cc
+stays_by None t (Read path off len) h = refl
+stays_by None t (Stat path) h = refl
+stays_by None t (Ls path after) h = refl
+
+-- the points that were passed stay
+wider_by : (b : Bool) (passed : List Point) (p q : Point) → Contains passed q → Contains (cond b (passed ++ p ∷ []) passed) q
+wider_by true passed p q h = Contains-append_left passed (p ∷ []) q h
+wider_by false passed p q h = h
+
+-- the point of the state after it is among them
+here_by : (b : Bool) (passed : List Point) (t u : Tree) (n : ℕ) → (b ≡ false → u ≡ t) → Contains passed (point t n)
+    → Contains (cond b (passed ++ point u (n + cond b 1 0) ∷ []) passed) (point u (n + cond b 1 0))
+here_by true passed t u n same h = Contains-push passed (point u (n + 1))
+here_by false passed t u n same h =
+    subst (λ m. Contains passed (point u m)) (omega arith) (subst (λ x. Contains passed (point x n)) (sym (same refl)) h)
+
+-- ---- lines
+
+module _ {D : Type 0} (g : Ghosts D) where
+  -- tree and count stay
+  pub keeps_view : (first : D) (since : ℕ) (v w : Volume D) (acks : List Ack) (s : State) (view : View)
+      → ((t u : ℕ) (c : Image) → t ≤ u → g.left_since (device_of v) u c → g.left_since (device_of v) t c)
+      → GoesBy g v w s.tree s.count → IsSafeSince g first since (device_of v) acks s → IsSafeSince g first since (device_of w) acks (with_view s view)
+  keeps_view first since v w acks s view earlier time safe =
+      safe_more g first since (device_of w) acks s (with_view s view) (λ p h. h) (omega arith) safe.here refl
+      (safe_then g first since (device_of v) (device_of w) acks s earlier time safe)
+
+  -- a command
+  pub keeps_step : (first : D) (since : ℕ) (v w : Volume D) (acks : List Ack) (s : State) (c : Command) (view : View)
+      → ((t u : ℕ) (i : Image) → t ≤ u → g.left_since (device_of v) u i → g.left_since (device_of v) t i)
+      → GoesBy g v w s.tree s.count → IsSafeSince g first since (device_of v) acks s → IsSafeSince g first since (device_of w) acks (state_of_step s c view)
+  keeps_step first since v w acks s c view earlier time safe =
+      let b : Bool = writes c && is_done (step s.tree c).1 in
+      safe_more g first since (device_of w) acks s (state_of_step s c view)
+      (λ p h. wider_by b s.passed (point (step s.tree c).0 (s.count + accepted c (step s.tree c).1)) p h)
+      (omega arith)
+      (here_by b s.passed s.tree (step s.tree c).0 s.count (stays_by (refusal_of s.tree c) s.tree c) safe.here) refl
+      (safe_then g first since (device_of v) (device_of w) acks s earlier time safe)

@@ -1,0 +1,77 @@
+//! A volume whose syncs are acknowledged.
+
+ghost use Rattle.std.specs.Prelude.{◌≡◌, ◌⊎◌, ℕ, [], None, IfErr, OnOk, OnErr};
+ghost use Rattle.bd_device.specs.Device.{Stays};
+ghost use Rattle.betr.specs.Fault.{IsCaused};
+ghost use Rattle.betr.specs.Transcript.{State, synced_state};
+ghost use Rattle.betr.specs.Shell.{KeptAt, FailsNoWrite, counts_of, device_below, stop_below};
+
+use crate::fault::Fault;
+use crate::outcome::Ack;
+use bd_device::Device;
+use bd_keys::Items;
+use bd_volume::Volume;
+use std::alloc::Global;
+
+/// A volume, with what was acknowledged of it.
+#[derive(Drop)]
+pub struct Acknowledged<D: Device> {
+    /// The volume.
+    pub volume: Volume<D>,
+    acks: Vec<Ack>,
+}
+
+impl<D: Device + Drop> Acknowledged<D> {
+    /// A volume of which nothing is acknowledged yet.
+    pub fn new(alloc: Global, volume: Volume<D>) -> Acknowledged<D>
+        ensures volume { result.volume ≡ volume }
+        ensures acks { result.acks.items ≡ [] }
+    {
+        Acknowledged {
+            volume,
+            acks: Vec::new(alloc),
+        }
+    }
+
+    /// Makes all that was accepted durable, and acknowledges it. `Memory` comes before a sync is
+    /// made, `Device` where it failed; neither leaves an acknowledgement.
+    pub fn acknowledge(&mut self) -> Result<(), Fault>
+        requires { stop_below self.old ≡ None }
+        ensures ok { OnOk result ((first : D) (since : ℕ) (s : State)
+            → KeptAt D.Device first since self.old s
+            → KeptAt D.Device first since self.new (synced_state s)) }
+        ensures err { OnErr result ((first : D) (since : ℕ) (s : State)
+            → KeptAt D.Device first since self.old s → KeptAt D.Device first since self.new s) }
+
+        // Whatever the volume stands for.
+        ensures kind { IfErr result (λ e. (e ≡ Fault.Device) ⊎ (e ≡ Fault.Memory)) }
+        ensures going { OnOk result (stop_below self.new ≡ None) }
+        ensures device { Stays D.Device (device_below self.old) (device_below self.new) }
+        ensures writes { FailsNoWrite D.Device (device_below self.old) (device_below self.new)
+            result }
+        ensures cause { (sink : ℕ) → IsCaused (counts_of D.Device (device_below self.old) sink)
+            (counts_of D.Device (device_below self.new) sink) result }
+    {
+        self.acks.reserve(1)?;
+        if self.volume.sync().is_err() {
+            return Err(Fault::Device);
+        }
+        let ack = Ack {
+            calls: self.volume.calls(),
+            count: self.volume.count(),
+        };
+        match self.acks.push(ack) {
+            Ok(()) => Ok(()),
+            Err(_full) => unreachable!(),
+        }
+    }
+
+    /// The device and the acknowledgements, which are given up.
+    pub fn into_parts(self) -> (D, Items<Ack>)
+        ensures device { result.0 ≡ device_below self }
+        ensures acks { result.1 ≡ self.acks.items }
+    {
+        let Acknowledged { volume, acks } = self;
+        (volume.into_device(), Items::from_vec(acks))
+    }
+}
