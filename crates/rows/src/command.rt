@@ -55,9 +55,9 @@ const NONE: &[&[u8]] = &[
 fn record(alloc: Global, line: &[u8]) -> Result<Vec<u8>, Fail> {
     match read_line(alloc, line)? {
         Line::Run(command) => written(alloc, &command),
-        Line::Walk | Line::Df | Line::Checkpoint | Line::Reclaim | Line::Stop => {
-            Err(Fail::new("no command"))
-        }
+        Line::Walk | Line::Df | Line::Sync | Line::Checkpoint | Line::Reclaim | Line::Stop => Err(
+            Fail::new("no command"),
+        ),
     }
 }
 

@@ -2,11 +2,12 @@
 
 use crate::both::plain_answered;
 use crate::lines::{answered, device, formatted, fresh, opened, save};
-use crate::stopped::{LIST, TEARS};
+use crate::stopped::LIST;
 use bd_device::{Device, FuseDevice, ImageFault, MemDevice, Torn};
 use bd_engine::Engine;
 use bd_limits::FIRST_LOG_BLOCK;
 use bd_plain::PlainTree;
+use rows_tools::TEARS;
 use std::alloc::Global;
 use std::test::Fail;
 

@@ -6,17 +6,9 @@ use bd_device::{FuseDevice, MemDevice, Torn};
 use bd_engine::Engine;
 use bd_plain::PlainTree;
 use bd_super::read_live;
+use rows_tools::TEARS;
 use std::alloc::Global;
 use std::test::Fail;
-
-/// What a loss of power may leave of a block.
-pub const TEARS: &[Torn] = &[
-    Torn::Old,
-    Torn::New,
-    Torn::Fill(0),
-    Torn::Fill(1),
-    Torn::Fill(255),
-];
 
 /// What is asked of a tree.
 pub const LIST: &str = "list /";

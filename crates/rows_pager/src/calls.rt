@@ -1,8 +1,12 @@
 //! Calls by a fixed rule, on nodes in memory and on nodes over a device.
 
 use crate::both::{Both, numbers, same_keys};
+use crate::counted::counts;
 use crate::stored::{Saved, Stored, in_memory};
+use bd_device::MemDevice;
+use bd_memnodes::MemNodes;
 use bd_node::NodeStore;
+use bd_pager::Pager;
 use bd_tree::Tree;
 use rows_tools::{Numbers, message};
 use std::alloc::Global;
@@ -68,7 +72,30 @@ fn call(alloc: Global, both: &mut Both, numbers: &mut Numbers) -> Result<(), Fai
     both.flush(alloc, limit)
 }
 
-/// Both after a checkpoint and a new start, if the keys are the same then.
+/// Both stores, if each node is named as often in one as in the other.
+fn counted_alike(
+    alloc: Global,
+    mut nodes: MemNodes,
+    mut pager: Pager<MemDevice>,
+) -> Result<(MemNodes, Pager<MemDevice>), Fail> {
+    match are_counted_alike(alloc, &mut nodes, &mut pager) {
+        Ok(true) => Ok((nodes, pager)),
+        Ok(false) => Err(Fail::new("other counts")),
+        Err(fault) => Err(fault),
+    }
+}
+
+/// Whether each node is named as often in one store as in the other.
+fn are_counted_alike(
+    alloc: Global,
+    nodes: &mut MemNodes,
+    pager: &mut Pager<MemDevice>,
+) -> Result<bool, Fail> {
+    let want = counts(alloc, nodes)?;
+    Ok(counts(alloc, pager)? == want)
+}
+
+/// Both after a checkpoint and a new start, if the keys are the same then, and the counts of nodes.
 fn reopened(alloc: Global, both: Both) -> Result<Both, Fail> {
     let (mut tree, stored) = both.into_parts();
     let saved = stored.saved(SLOTS)?;
@@ -78,8 +105,10 @@ fn reopened(alloc: Global, both: Both) -> Result<Both, Fail> {
     if same_keys(alloc, &mut tree, &mut found)?.is_none() {
         return Err(Fail::new("other keys"));
     }
+    let (nodes, pager) = counted_alike(alloc, tree.into_store(), found.into_store())?;
+    let tree = Tree::over(alloc, nodes);
     let saved = Saved {
-        device: found.into_store().into_device(),
+        device: pager.into_device(),
         slots: SLOTS,
         at,
     };

@@ -8,9 +8,13 @@ mod both;
 #[cfg(test)]
 mod calls;
 #[cfg(test)]
+mod counted;
+#[cfg(test)]
 mod damage;
 #[cfg(test)]
 mod failing;
+#[cfg(test)]
+mod failing_reads;
 #[cfg(test)]
 mod filled;
 #[cfg(test)]

@@ -5,7 +5,7 @@ use bd_graft::graft;
 use bd_io::Failed;
 use bd_keys::starts;
 use bd_limits::{GRAFT_SIZE, MAX_BUFFER, MAX_KEY, MAX_SLOTS};
-use bd_message::Message;
+use bd_message::{MapFault, Message};
 use bd_node::Messages;
 use bd_pager::Pager;
 use bd_slots::{image_blocks, is_table_place, table_length};
@@ -113,8 +113,8 @@ impl<D: Device + Drop> Stored<D> {
 
     /// A step of a flush, where more than so many bytes wait. Whether it was made.
     #[tactic(auto, using(crate::proofs::ImageLemmas::images))]
-    pub fn flush_step(&mut self, alloc: Global, limit: usize) -> Result<bool, Fail> {
-        Ok(flush_step(alloc, &mut self.pager, limit)?)
+    pub fn flush_step(&mut self, alloc: Global, limit: usize) -> Result<bool, MapFault> {
+        flush_step(alloc, &mut self.pager, limit)
     }
 
     /// Writes changed nodes early.

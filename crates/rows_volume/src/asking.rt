@@ -47,6 +47,7 @@ pub fn started<D: Device + Drop>(alloc: Global, device: D) -> Result<Volume<D>, 
 pub fn said<D: Device>(alloc: Global, volume: &mut Volume<D>, line: &str) -> Result<String, Fail> {
     match read_line(alloc, line.as_bytes()) {
         Ok(Line::Run(command)) => executed(alloc, volume, &command),
+        Ok(Line::Sync) => done(alloc, volume.sync()),
         Ok(Line::Checkpoint) => done(alloc, volume.checkpoint()),
         Ok(Line::Reclaim) => done(alloc, volume.reclaim()),
         Ok(Line::Df) => {

@@ -1,4 +1,5 @@
-//! An image of version 1 is read, and its next checkpoint is of version 2.
+//! An image of version 1 is read, and its next checkpoint, which the first mode that is set has made,
+//! is of version 2.
 
 use crate::asking::{formatted, gives, gives_all, started};
 use bd_device::{Device, MemDevice};
@@ -44,7 +45,8 @@ fn old_device(rt: &impl Abort, alloc: Global) -> Result<MemDevice, Fail> {
     Ok(device)
 }
 
-/// The device after a mode was set on an image of version 1, and a checkpoint.
+/// The device after a mode was set on an image of version 1, which has a checkpoint made before, so
+/// that the log has a record of it.
 fn moved_on(rt: &impl Abort, alloc: Global) -> Result<MemDevice, Fail> {
     let mut volume = started(alloc, old_device(rt, alloc)?)?;
     gives_all(
@@ -53,8 +55,9 @@ fn moved_on(rt: &impl Abort, alloc: Global) -> Result<MemDevice, Fail> {
         &mut volume,
         &[
             ("stat /", "ok dir 0000"),
+            ("mkdir /a", "ok"),
             ("chmod / 0755", "ok"),
-            ("checkpoint", "ok"),
+            ("sync", "ok"),
         ],
     )?;
     Ok(volume.into_device())
