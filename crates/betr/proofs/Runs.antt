@@ -47,6 +47,10 @@ use Rattle.betr.proofs.Starts.{begun_at}
 pub as_last : {E : Type 0} (P : E → Type 0) (e f : E) → e ≡ f → P f → P e
 as_last P e f same h = subst P (sym same) h
 
+-- lists that begin with something are the same beyond it
+pub same_tail : {A : Type 0} (x y : A) (xs ys : List A) → x ∷ xs ≡ y ∷ ys → xs ≡ ys
+same_tail x y xs ys is = cc
+
 -- an Ok call was counted
 pub counted_once : {T E : Type 0} (before now : ℕ) (r : Result T E) → IsCounted before now r → is_err r ≡ false → now ≡ before + 1
 counted_once before now (Ok x) h ok = by (cases_lt (before + 1) (2 ^ 64))

@@ -12,6 +12,7 @@ use bd_device::Device;
 use bd_keys::Items;
 use bd_volume::Volume;
 use std::alloc::Global;
+use std::mem;
 
 /// A volume, with what was acknowledged of it.
 #[derive(Drop)]
@@ -66,12 +67,19 @@ impl<D: Device + Drop> Acknowledged<D> {
         }
     }
 
-    /// The device and the acknowledgements, which are given up.
-    pub fn into_parts(self) -> (D, Items<Ack>)
-        ensures device { result.0 ≡ device_below self }
-        ensures acks { result.1 ≡ self.acks.items }
+    /// What was acknowledged, which is given up: then nothing is.
+    pub fn take_acks(&mut self, alloc: Global) -> Items<Ack>
+        ensures acks { result ≡ self.old.acks.items }
+        ensures volume { self.new.volume ≡ self.old.volume }
     {
-        let Acknowledged { volume, acks } = self;
-        (volume.into_device(), Items::from_vec(acks))
+        Items::from_vec(mem::replace(&mut self.acks, Vec::new(alloc)))
+    }
+
+    /// The device, which is given up.
+    pub fn into_device(self) -> D
+        ensures { result ≡ device_below self }
+    {
+        let Acknowledged { volume, .. } = self;
+        volume.into_device()
     }
 }

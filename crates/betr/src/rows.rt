@@ -391,7 +391,7 @@ no 9 bad-path
 no 9 bad-path
 > list bad d
 no 9 bad-path
-> sync
+> sync /
 no 10 bad-line
 > df /
 no 10 bad-line

@@ -104,7 +104,8 @@ fn run_device<D: Attach, S: Source, K: Sink>(
         Ok(mut shell) => {
             let result = run_script(alloc, &mut shell, src, sink);
             shell.saved_is_shown();
-            let (_device, acks) = shell.into_parts();
+            let acks = shell.take_acks(alloc);
+            let _device = shell.into_device();
             let _ = dev.blocks();
             Ended { result, acks }
         }

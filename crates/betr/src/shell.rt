@@ -262,12 +262,19 @@ impl<D: Device + Drop> Shell<D> {
         self.kept.volume.saved_is_shown();
     }
 
-    /// The device, and what was acknowledged, which the shell gives up.
-    pub fn into_parts(self) -> (D, Items<Ack>)
-        ensures device { result.0 ≡ device_in self }
-        ensures acks { result.1 ≡ acks_in self }
+    /// What was acknowledged, which the shell gives up: then nothing is.
+    pub fn take_acks(&mut self, alloc: Global) -> Items<Ack>
+        ensures acks { result ≡ acks_in self.old }
+        ensures device { device_in self.new ≡ device_in self.old }
     {
-        self.kept.into_parts()
+        self.kept.take_acks(alloc)
+    }
+
+    /// The device, which the shell gives up.
+    pub fn into_device(self) -> D
+        ensures { result ≡ device_in self }
+    {
+        self.kept.into_device()
     }
 
     /// Executes the line that ends here: what is held of it, and its last bytes. Then nothing is

@@ -298,6 +298,45 @@ fn what_is_synced_is_acknowledged(rt: HostRuntime) -> Result<(), Fail> {
     Ok(())
 }
 
+/// How many calls of the device a run over a new image makes before its first line.
+fn calls_of_start(alloc: Global) -> Result<u64, AllocError> {
+    let mut dev = formatted(alloc, WRITES)?;
+    let before = dev.calls();
+    let (_status, _written) = called_on(alloc, &mut dev, &["betr", "run", "img"], b"")?;
+    Ok(dev.calls().saturating_sub(before))
+}
+
+/// The calls of a sync up to its third write, that of the commit block: two writes and a barrier
+/// come before it.
+const THIRD_WRITE: u64 = 4;
+
+/// A run of two lines over a new image whose device fails at the third write of their sync, what it
+/// wrote, and what a run after it lists.
+fn sync_failing(alloc: Global) -> Result<(Outcome, Vec<u8>, Vec<u8>), AllocError> {
+    let start = calls_of_start(alloc)?.saturating_add(THIRD_WRITE);
+    let dev = formatted(alloc, WRITES)?;
+    let fail = vec![in alloc; dev.calls().saturating_add(start)]?;
+    let mut dev = FaultyDevice::new(dev, fail);
+    let mut src = MemSource::new(alloc, b"mkdir /a\nsync\n", 7, &[])?;
+    let mut sink = MemSink::new(alloc, 1 << 16, &[])?;
+    let called = words(alloc, &["betr", "run", "img"])?;
+    let outcome = run(alloc, &called, &mut dev, &mut src, &mut sink);
+    let mut dev = dev.into_inner();
+    let (_status, listed) = called_on(alloc, &mut dev, &["betr", "run", "img"], b"list /\n")?;
+    Ok((outcome, Vec::from_slice(alloc, sink.bytes())?, listed))
+}
+
+#[test]
+fn a_failed_sync_acknowledges_nothing(rt: HostRuntime) -> Result<(), Fail> {
+    let (outcome, written, listed) = sync_failing(rt.alloc())?;
+    assert_eq!(rt; outcome.status, 3);
+    assert_eq!(rt; written.as_slice(), b"ok\nfault device\n".as_slice());
+    assert_eq!(rt; outcome.acks.as_slice().len(), 0);
+    let is_there = listed.as_slice() == b"ok a/\n".as_slice();
+    assert!(rt; is_there || listed.as_slice() == b"ok\n".as_slice());
+    Ok(())
+}
+
 /// Which take, which put and which call of the device fails, none where it is 0, with the status and
 /// what is written. A run calls the device first for its attach, then for a barrier and for reads.
 const FAILING: &[(u64, u64, u64, u8, &str)] = &[

@@ -2,11 +2,12 @@
 use Rattle.std.proofs.Common.{◌+◌, ◌<◌, [], ◌∙◌, rules}
 use Rattle.std.specs.Prelude.{IfSome}
 use Rattle.std.specs.declared.option.Option.TheVariants.{Some}
+use Rattle.bd_device.specs.Device.{Stays}
 use Rattle.betr.specs.Fault.{faults}
 use Rattle.betr.specs.Run.{disk, ends, Ran}
 use Rattle.betr.specs.Session.{end_of}
 use Rattle.betr.specs.Shell.{acks_in, device_in}
-use Rattle.betr.proofs.Runs.{as_last, ran_session, ran_unstarted, ok_of_none}
+use Rattle.betr.proofs.Runs.{as_last, ran_session, ran_unstarted, ok_of_none, same_tail}
 use Rattle.betr.proofs.run.run_device.Goals as goal
 
 pub returns-in-Err-clause-ran : goal.returns-in-Err-clause-ran
@@ -28,7 +29,7 @@ returns-in-Ok-clause-ran g c =
     let ran = c.run_script-result in
     let before = c.in-Ok.shell in
     let after = ran.new.shell in
-    rw c.into_parts-device.ensures.acks
+    rw c.take_acks-acks.ensures.acks
     (as_last (λ e. (0 < g.D.Device.block_count e → IfSome (g.D.Device.contents e) (g.D.Device.left_since e (g.D.Device.call_count e)))
     → Ran (g.D.Device.call_count c.args.dev.now + 1) (end_of ran.result) (acks_in after)
     (ends (disk (g.D.Device.contents c.args.dev.now) (g.D.Device.call_count c.args.dev.now) (g.D.Device.left_since c.args.dev.now) (g.D.Device.write_fault_count c.args.dev.now))
@@ -42,3 +43,13 @@ returns-in-Ok-clause-ran g c =
     c.in-Ok.ensures.stands c.in-Ok.ensures.first c.in-Ok.ensures.reads (λ none. ok_of_none ran.result _ none ran.ensures.going) c.saved_is_shown.ensures may_stay
     c.blocks-2.ensures.shape (ran.ensures.device.count ∙ c.in-Ok.ensures.reads.count))
     c.blocks-in-Ok.ensures.may_stay)
+
+pub returns-in-Ok-clause-stays : goal.returns-in-Ok-clause-stays
+returns-in-Ok-clause-stays g c =
+    let ran = c.run_script-result in
+    as_last (λ e. Stays g.D.Device c.args.dev.now e) _ (device_in ran.new.shell).now (search rules)
+    (record {
+      count = ran.ensures.device.count ∙ c.in-Ok.ensures.reads.count;
+      same_name = λ name named. ran.ensures.device.same_name name (c.in-Ok.ensures.reads.same_name name named);
+      same_loans = same_tail _ _ _ _ (ran.ensures.device.same_loans ∙ c.in-Ok.ensures.reads.same_loans);
+    })

@@ -1,6 +1,11 @@
 -- A volume that starts from an image stands for its tree.
-use Rattle.std.proofs.Common.{inr}
+use Rattle.std.proofs.Common.{ℕ, inr, sym, subst}
+use Rattle.std.specs.Prelude.{IfSome}
 use Rattle.std.proofs.lemmas.Result.{err_from_is_err_and}
+use Rattle.bd_model.specs.Tree.{Tree}
+use Rattle.bd_image.specs.ImageTree.{ImageStandsFor}
+use Rattle.bd_volume.specs.declared.volume.Volume.{Volume}
+use Rattle.bd_volume.specs.Volume.{IsFirstView, view_of}
 use Rattle.betr.proofs.Starts.{kept_start}
 use Rattle.betr.proofs.shell.Shell.new.Goals as goal
 
@@ -8,6 +13,11 @@ pub returns-clause-stands : goal.returns-clause-stands
 returns-clause-stands g c t n start =
     kept_start g.D.Device c.args.device c.new-2.result c.in_ok-volume.volume t n c.new-2.ensures.volume c.new-2.ensures.acks start
     (c.in_ok-volume.ensures.stands t n start) c.in_ok-volume.ensures.settled
+
+pub returns-clause-first : goal.returns-clause-first
+returns-clause-first g c =
+    subst (λ (v : Volume g.row.D.Denot). (t : Tree) (n : ℕ) → IfSome (g.D.Device.contents c.args.device) (λ image. ImageStandsFor t n image → IsFirstView image (view_of g.D.Device v)))
+    (sym c.new-2.ensures.volume) c.in_ok-volume.ensures.first
 
 pub returns-in_err-volume-clause-wears : goal.returns-in_err-volume-clause-wears
 returns-in_err-volume-clause-wears g c t n =
