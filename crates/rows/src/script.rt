@@ -18,6 +18,7 @@ const READ: &[&str] = &[
     "chmod /a 7777",
     "write /a 1023 aAbB0f",
     "read /a 0 4096",
+    "sync",
     "stop",
 ];
 
@@ -33,7 +34,7 @@ const BAD_LINES: &[&str] = &[
     "mkdir /a /b",
     "Mkdir /a",
     "stop now",
-    "sync",
+    "sync now",
     "read /a 0 4097",
     "read /a 0",
     "read /a 0 1 2",
