@@ -118,18 +118,39 @@ fn changes(line: &str) -> bool {
     !(line.starts_with("read") || line.starts_with("stat") || line.starts_with("list"))
 }
 
-/// Whether what is left has a front of the accepted commands, with all that were kept.
-fn has_front(rt: &impl Abort, alloc: Global, left: Left) -> Result<(), Fail> {
-    let (kept, accepted, device) = left.into_parts();
-    let mut again = started(alloc, device)?;
+/// Whether a volume has the tree after as many accepted commands as it counts.
+fn is_front(
+    rt: &impl Abort,
+    alloc: Global,
+    again: &mut Volume<MemDevice>,
+    tree: &mut PlainTree,
+) -> Result<(), Fail> {
+    plain_after(alloc, tree, again.count())?;
+    answers_alike(rt, alloc, again, tree)
+}
+
+/// Whether a volume has at least this many accepted commands, and at most this many, in their order.
+fn is_between(
+    rt: &impl Abort,
+    alloc: Global,
+    again: &mut Volume<MemDevice>,
+    kept: u64,
+    accepted: u64,
+) -> Result<(), Fail> {
     let count = again.count();
     assert!(rt;
         kept <= count && count <= accepted,
         "{kept} {count} {accepted}"
     );
     let mut tree = PlainTree::new(alloc)?;
-    plain_after(alloc, &mut tree, count)?;
-    answers_alike(rt, alloc, &mut again, &mut tree)
+    is_front(rt, alloc, again, &mut tree)
+}
+
+/// Whether what is left has a front of the accepted commands, with all that were kept.
+fn has_front(rt: &impl Abort, alloc: Global, left: Left) -> Result<(), Fail> {
+    let (kept, accepted, device) = left.into_parts();
+    let mut again = started(alloc, device)?;
+    is_between(rt, alloc, &mut again, kept, accepted)
 }
 
 /// How many calls there are before the lines, and after them.

@@ -57,8 +57,19 @@ fn the_bytes_of_a_batch(rt: HostRuntime) -> Result<(), Fail> {
     Ok(())
 }
 
-/// What was synced is there after a new start, which tells no clone that it has replayed, and what
-/// wasn't is not. A sync with nothing waiting makes no call of the device.
+/// Whether a new start has what was synced, tells no clone that it has replayed, and makes no call of
+/// the device for a sync with nothing waiting.
+fn has_replayed(rt: &impl Abort, alloc: Global, again: &mut Volume<MemDevice>) -> Result<(), Fail> {
+    assert_eq!(rt; again.count(), 3);
+    let calls = again.calls();
+    gives(rt, alloc, again, "walk", "ok walk 0 of 0")?;
+    gives(rt, alloc, again, "sync", "ok")?;
+    assert_eq!(rt; again.calls(), calls);
+    gives(rt, alloc, again, "list /", "ok b/")?;
+    gives(rt, alloc, again, "list /b", "ok c/")
+}
+
+/// What was synced is there after a new start, and what wasn't is not.
 #[test]
 fn a_new_start_replays_what_was_synced(rt: HostRuntime) -> Result<(), Fail> {
     let rows = [
@@ -72,13 +83,7 @@ fn a_new_start_replays_what_was_synced(rt: HostRuntime) -> Result<(), Fail> {
     ];
     let device = device_after(&rt, rt.alloc(), &rows)?;
     let mut again = started(rt.alloc(), device)?;
-    assert_eq!(rt; again.count(), 3);
-    gives(&rt, rt.alloc(), &mut again, "walk", "ok walk 0 of 0")?;
-    let calls = again.calls();
-    gives(&rt, rt.alloc(), &mut again, "sync", "ok")?;
-    assert_eq!(rt; again.calls(), calls);
-    gives(&rt, rt.alloc(), &mut again, "list /", "ok b/")?;
-    gives(&rt, rt.alloc(), &mut again, "list /b", "ok c/")
+    has_replayed(&rt, rt.alloc(), &mut again)
 }
 
 /// A text, `count` times.
@@ -146,20 +151,28 @@ fn filled(rt: &impl Abort, alloc: Global, tree: &mut PlainTree) -> Result<MemDev
     Ok(volume.into_device())
 }
 
+/// Whether a new start has all writes, as the plain program has them.
+fn has_all(
+    rt: &impl Abort,
+    alloc: Global,
+    again: &mut Volume<MemDevice>,
+    tree: &mut PlainTree,
+) -> Result<(), Fail> {
+    assert_eq!(rt; again.count(), 101);
+    let (dir, file) = long_paths(alloc)?;
+    let line = format!(in alloc; "list {dir}")?;
+    is_alike(rt, alloc, again, tree, &line)?;
+    let line = format!(in alloc; "stat {file}")?;
+    is_alike(rt, alloc, again, tree, &line)?;
+    let line = format!(in alloc; "read {file} 0 4096")?;
+    is_alike(rt, alloc, again, tree, &line)
+}
+
 /// A record for which the log has no room has a checkpoint made before it, and all is there.
 #[test]
 fn a_full_log_has_a_checkpoint_made(rt: HostRuntime) -> Result<(), Fail> {
     let mut tree = PlainTree::new(rt.alloc())?;
     let device = filled(&rt, rt.alloc(), &mut tree)?;
     let mut again = started(rt.alloc(), device)?;
-    assert_eq!(rt; again.count(), 101);
-    let (dir, file) = long_paths(rt.alloc())?;
-    for line in [
-        format!(in rt.alloc(); "list {dir}")?,
-        format!(in rt.alloc(); "stat {file}")?,
-        format!(in rt.alloc(); "read {file} 0 4096")?,
-    ] {
-        is_alike(&rt, rt.alloc(), &mut again, &mut tree, &line)?;
-    }
-    Ok(())
+    has_all(&rt, rt.alloc(), &mut again, &mut tree)
 }
