@@ -32,7 +32,7 @@ use Rattle.bd_pager.specs.declared.usage.TheConstants.{IN_MEMORY, STORED}
 use Rattle.bd_pager.specs.Changing.{slot_if, own_slot}
 use Rattle.bd_pager.specs.Counting.{AreUnused, is_in_memory, is_in_memory_at, has_own, moved, recounted, AreListed, IsListed, IsTallied}
 use Rattle.bd_node.proofs.Sums.{sum_some}
-use Rattle.bd_pager.specs.Moving.{copy_if, stored_at, AreEarlier, IsBefore, IsEarliest, IfSpot, IsHeldAt, IsMovedAt, IsOfPlace, IsOfSpot, IsReservedPlace, IsReservedAt, IsWritablePlace, OnlyMoves}
+use Rattle.bd_pager.specs.Moving.{copy_if, freed_at, freed_in, stored_at, IsCachedMore, AreEarlier, IsBefore, IsEarliest, IfSpot, IsHeldAt, IsMovedAt, IsOfPlace, IsOfSpot, IsReservedPlace, IsReservedAt, IsWritablePlace, OnlyMoves}
 use Rattle.bd_pager.specs.Slots.{slot_bytes, HasNode, IsOfLevel, IsOfSlot, IsSpare}
 use Rattle.bd_pager.specs.Places.{Spots, refs_in, level_in, slot_at, slot_in, copy_at, copy_in, node_at, node_of, told, IsReadAt, IsRead, AreCached, ArePlaced}
 use Rattle.bd_pager.specs.Pagers.{is_changed, is_changed_place, IsRightPlace, IsPlaceIn}
@@ -455,20 +455,6 @@ module _ {D : Type 0} (g : Ghosts D) (spare free : List Bool) (root id : ℕ) (d
         node = λ told_it right. (right_if (told (g.contents d)) is_root own.slot own.node (is told_it)).1 ∙ sym (ap (node_at (told (g.contents d))) own.place);
       })
 
-  pub settled_placed : ArePlaced mid → ArePlaced last
-  settled_placed placed = λ i s e. elim (cases_eq i id) [
-    | inl same ↦
-        let node : IsOfLevel own.spot.level own.node.value = subst (λ (p : Place). IfSome (copy_at p) (IsOfLevel own.spot.level)) own.place (placed id own.spot own.there) in
-        subst (λ (x : Spot). IfSome (copy_at x.place) (IsOfLevel x.level)) (same_Some (record own.spot { place = Slot own.slot (copy_if is_root own.node) }) s (sym now_here ∙ ap last (sym same) ∙ e)) (level_if is_root own.slot own.spot.level own.node node)
-    | inr other ↦ placed i s (sym (step.others i other) ∙ e)
-  ]
-
-  pub settled_cached : (contents : Option Image) (is_lent : Bool) (cache : NodeCache) → AreCached contents is_lent mid cache → AreCached contents is_lent last cache
-  settled_cached contents is_lent cache cached = λ i n kept. elim (cases_eq i id) [
-    | inl same ↦ absurd (subst (λ (p : Place). IsReadAt contents is_lent own.spot.level p n) own.place (subst (λ (o : Option Spot). IsRead contents is_lent o n) (ap mid same ∙ own.there) (cached i n kept)))
-    | inr other ↦ subst (λ (o : Option Spot). IsRead contents is_lent o n) (sym (step.others i other)) (cached i n kept)
-  ]
-
   pub settled_tallied : (next : ℕ) (u : Usage) (listed : BTreeSet ℕ) → u.spare ≡ spare → u.free ≡ free → id < next → ((i : ℕ) → i ≢ id → IsListed u.listed i → IsListed listed i) → IsTallied next mid u
       → IsTallied next last (record (recounted IN_MEMORY STORED u) { listed = listed })
   settled_tallied next u listed spare_is free_is low more tallied =
@@ -496,6 +482,53 @@ module _ {D : Type 0} (g : Ghosts D) (spare free : List Bool) (root id : ℕ) (d
           | inr other ↦ more i other (tallied.listed i (subst (λ (o : Option Spot). IsTrue (is_in_memory o)) (step.others i other) on))
         ];
       }
+
+-- ---- what is read, once a slot has a node
+
+stored_level : (b : Bool) (level : ℕ) (p : Place) → IfSome (copy_at p) (IsOfLevel level) → IfSome (copy_at (stored_at b p)) (IsOfLevel level)
+stored_level b level (Memory node (Some slot)) is = level_if b slot level node is
+stored_level b level (Memory node None) is = is
+stored_level b level (Slot slot copy) is = is
+
+stored_read : (contents : Option Image) (is_lent b : Bool) (level : ℕ) (p : Place) (n : Node) → IsReadAt contents is_lent level p n → IsReadAt contents is_lent level (stored_at b p) n
+stored_read contents is_lent b level (Memory node slot) n read = absurd read
+stored_read contents is_lent b level (Slot slot copy) n read = read
+
+held_at : (contents : Option Image) (level : ℕ) (node : Rc Node Global) (slot : ℕ) → IfSome contents (λ image. IsHeldAt image level (Memory node (Some slot))) → IfSome contents (λ image. HasNode image slot level node.value)
+held_at None level node slot held = tt
+held_at (Some there) level node slot held = held
+
+-- the node that goes out of memory is as if it had been read
+freed_read : (contents : Option Image) (is_lent b : Bool) (level : ℕ) (p : Place) (n : Node) → freed_at b p ≡ Some n → IfSome (copy_at p) (IsOfLevel level) → IfSome contents (λ image. IsHeldAt image level p) → IsReadAt contents is_lent level (stored_at b p) n
+freed_read contents is_lent true level (Memory node (Some slot)) n freed is held = absurd (none-some n freed)
+freed_read contents is_lent false level (Memory node (Some slot)) n freed is held =
+    subst (λ (m : Node). IsReadAt contents is_lent level (Slot slot None) m) (same_Some node.value n freed) (is, λ not_lent. held_at contents level node slot held)
+freed_read contents is_lent b level (Memory node None) n freed is held = absurd (none-some n freed)
+freed_read contents is_lent b level (Slot slot copy) n freed is held = absurd (none-some n freed)
+
+held_in : (contents : Option Image) (o : Option Spot) (s : Spot) → o ≡ Some s → IfSome contents (λ image. IfSpot (λ t. IsHeldAt image t.level t.place) o) → IfSome contents (λ image. IsHeldAt image s.level s.place)
+held_in None o s is held = tt
+held_in (Some image) o s is held = subst (λ (x : Option Spot). IfSpot (λ t. IsHeldAt image t.level t.place) x) is held
+
+module _ (id : ℕ) (is_root : Bool) (mid last : Spots) (step : IsMovedAt id (stored_at is_root) mid last) where
+  pub settled_placed : ArePlaced mid → ArePlaced last
+  settled_placed placed = λ i s e. elim (cases_eq i id) [
+    | inl same ↦ subst (λ (x : Spot). IfSome (copy_at x.place) (IsOfLevel x.level)) (same_Some (record step.was { place = stored_at is_root step.was.place }) s (sym step.here ∙ ap last (sym same) ∙ e))
+        (stored_level is_root step.was.level step.was.place (placed id step.was step.there))
+    | inr other ↦ placed i s (sym (step.others i other) ∙ e)
+  ]
+
+  pub settled_cached : (contents : Option Image) (is_lent : Bool) (cache later : NodeCache) → IsCachedMore id (freed_in is_root (mid id)) cache later → ArePlaced mid → IfSome contents (λ image. IfSpot (λ s. IsHeldAt image s.level s.place) (mid id))
+      → AreCached contents is_lent mid cache → AreCached contents is_lent last later
+  settled_cached contents is_lent cache later more placed held cached = λ i n kept. elim (more i n kept) [
+    | inl before ↦ elim (cases_eq i id) [
+      | inl same ↦ subst (λ (o : Option Spot). IsRead contents is_lent o n) (sym (ap last same ∙ step.here))
+          (stored_read contents is_lent is_root step.was.level step.was.place n (subst (λ (o : Option Spot). IsRead contents is_lent o n) (ap mid same ∙ step.there) (cached i n before)))
+      | inr other ↦ subst (λ (o : Option Spot). IsRead contents is_lent o n) (sym (step.others i other)) (cached i n before)
+    ]
+    | inr now ↦ subst (λ (o : Option Spot). IsRead contents is_lent o n) (sym (ap last now.0 ∙ step.here))
+        (freed_read contents is_lent is_root step.was.level step.was.place n (sym (ap (freed_in is_root) step.there) ∙ now.1) (placed id step.was step.there) (held_in contents (mid id) step.was step.there held))
+  ]
 
 -- ---- what is read, once it got a slot
 
@@ -548,15 +581,27 @@ pub by_memory : (b : Bool) → (b ≡ true) ⊎ (b ≡ false)
 by_memory true = inl refl
 by_memory false = inr refl
 
+before_at : (root : ℕ) (spots mid : Spots) → ((i : ℕ) → level_in (mid i) ≡ level_in (spots i)) → (i j : ℕ) → IsBefore root mid i j → IsBefore root spots i j
+before_at root spots mid level i j is = (
+  is.0,
+  elim is.1 [
+    | inl last ↦ inl last
+    | inr next ↦ inr (elim next [
+      | inl lower ↦ inl (omega (arith, lower, level i, level j))
+      | inr same ↦ inr (sym (level i) ∙ same.0 ∙ level j, same.1)
+    ])
+  ],
+)
+
 -- what left memory so far came before what is there, and so does one more
-pub earlier_then : (root id : ℕ) (before mid after : Spots) → AreEarlier root before mid → IsEarliest root mid id → ((i : ℕ) → i ≢ id → is_in_memory (after i) ≡ is_in_memory (mid i)) → ((i : ℕ) → IsTrue (is_in_memory (after i)) → IsTrue (is_in_memory (mid i)))
-    → AreEarlier root before after
-earlier_then root id before mid after so_far first others less = λ i j was gone on.
+pub earlier_then : (root id : ℕ) (before mid after : Spots) → ((i : ℕ) → level_in (mid i) ≡ level_in (before i)) → AreEarlier root before mid → IsEarliest root mid id → ((i : ℕ) → i ≢ id → is_in_memory (after i) ≡ is_in_memory (mid i))
+    → ((i : ℕ) → IsTrue (is_in_memory (after i)) → IsTrue (is_in_memory (mid i))) → AreEarlier root before after
+earlier_then root id before mid after level so_far first others less = λ i j was gone on.
     elim (by_memory (is_in_memory (mid i))) [
       | inl here ↦ elim (cases_eq i id) [
         | inl same ↦ elim (cases_eq j id) [
           | inl also ↦ absurd (true≢false (sym on ∙ ap (λ (k : ℕ). is_in_memory (after k)) (also ∙ sym same) ∙ gone))
-          | inr apart ↦ subst (λ (k : ℕ). IsBefore root k j) (sym same) (first.first j (less j on) apart)
+          | inr apart ↦ subst (λ (k : ℕ). IsBefore root before k j) (sym same) (before_at root before mid level id j (first.first j (less j on) apart))
         ]
         | inr apart ↦ absurd (true≢false (sym here ∙ sym (others i apart) ∙ gone))
       ]

@@ -16,7 +16,7 @@ use Rattle.bd_pager.specs.declared.place.Place.{Place}
 use Rattle.bd_pager.specs.declared.place.Place.TheVariants.{Memory, Slot}
 use Rattle.bd_pager.specs.declared.place.Spot.{Spot}
 use Rattle.bd_pager.specs.declared.stepping.Put.{Put}
-use Rattle.bd_pager.specs.Moving.{stored_at, IsMovedAt, IsReservedPlace, IsReservedAt}
+use Rattle.bd_pager.specs.Moving.{freed_at, freed_in, stored_at, IsCachedMore, IsMovedAt, IsReservedPlace, IsReservedAt}
 use Rattle.bd_pager.specs.Places.{Spots, refs_in, level_in, copy_at, copy_in, IsLowerIn, IsRead, AreCached}
 use Rattle.bd_pager.specs.Stepping.{put_at, bare, without_copy}
 use Rattle.bd_pager.specs.Testing.{Marks, is_tested, NamesLower, IsTested, AreTested, IsAtHand, IsNoHigherThan, IsNoHigher}
@@ -78,13 +78,18 @@ module _ (before after : Spots) (id : ℕ) (was now : Spot) (there : before id �
     | inr other ↦ subst (λ (o : Option Spot). P (before i) o) (sym (others i other)) (same (before i))
   ]
 
+  one_lower : (l i : ℕ) → IsLowerIn before l i → IsLowerIn after l i
+  one_lower l i low = (
+    subst (λ (k : ℕ). 1 ≤ k) (at_each (λ a b. refs_in a ≡ refs_in b) (λ o. refl) (sym refs) i) low.0,
+    subst (λ (k : ℕ). k < l) (at_each (λ a b. level_in a ≡ level_in b) (λ o. refl) (sym level) i) low.1,
+  )
+
+  pub one_names : (n : Node) → NamesLower before n → NamesLower after n
+  one_names n h = still_names before after one_lower n h
+
   pub one_tested : (cache : NodeCache) (marks : Marks) → AreTested before cache marks → AreTested after cache marks
   one_tested cache marks are =
-      tested_then before after cache cache marks marks (λ i on. on)
-      (λ l i low. (
-        subst (λ (k : ℕ). 1 ≤ k) (at_each (λ a b. refs_in a ≡ refs_in b) (λ o. refl) (sym refs) i) low.0,
-        subst (λ (k : ℕ). k < l) (at_each (λ a b. level_in a ≡ level_in b) (λ o. refl) (sym level) i) low.1,
-      ))
+      tested_then before after cache cache marks marks (λ i on. on) one_lower
       (λ i on. at_each (λ a b. IsSome a → IsSome b) (λ o some. some) (λ some. refl) i (are i on).there)
       (λ i n on copy. inl (at_each (λ a b. copy_in b ≡ Some n → copy_in a ≡ Some n) (λ o is. is) (copied n) i copy))
       (λ i n kept. kept) are
@@ -104,9 +109,32 @@ stored_copy false (Memory node (Some slot)) n copy = absurd (none-some n copy)
 stored_copy is_root (Memory node None) n copy = copy
 stored_copy is_root (Slot slot there) n copy = copy
 
-pub settled_tested : (id : ℕ) (is_root : Bool) (mid last : Spots) → IsMovedAt id (stored_at is_root) mid last → (cache : NodeCache) (marks : Marks) → AreTested mid cache marks → AreTested last cache marks
-settled_tested id is_root mid last h =
-    one_tested mid last id h.was (record h.was { place = stored_at is_root h.was.place }) h.there h.here h.others refl refl (λ n. stored_copy is_root h.was.place n)
+freed_copy : (is_root : Bool) (o : Option Spot) (n : Node) → freed_in is_root o ≡ Some n → copy_in o ≡ Some n
+freed_copy is_root None n freed = absurd (none-some n freed)
+freed_copy is_root (Some s) n freed = of_place is_root s.place freed
+  where
+    of_place : (b : Bool) (p : Place) → freed_at b p ≡ Some n → copy_at p ≡ Some n
+    of_place true (Memory node (Some slot)) e = absurd (none-some n e)
+    of_place false (Memory node (Some slot)) e = e
+    of_place b (Memory node None) e = absurd (none-some n e)
+    of_place b (Slot slot there) e = absurd (none-some n e)
+
+module _ (id : ℕ) (is_root : Bool) (mid last : Spots) (h : IsMovedAt id (stored_at is_root) mid last) where
+  pub settled_tested : (cache later : NodeCache) (marks : Marks) → IsCachedMore id (freed_in is_root (mid id)) cache later → AreTested mid cache marks → AreTested last later marks
+  settled_tested cache later marks more are = λ i on.
+      let now : IsTested last cache i =
+      one_tested mid last id h.was (record h.was { place = stored_at is_root h.was.place }) h.there h.here h.others refl refl (λ n. stored_copy is_root h.was.place n) cache marks are i on in
+      record {
+        there = now.there;
+        copy = now.copy;
+        cached = each_some (NamesLower last) (kept_at later i) (λ n kept. elim (more i n kept) [
+          | inl before ↦ some_at (NamesLower last) (kept_at cache i) n before now.cached
+          | inr freed ↦
+              let copy : copy_in (mid i) ≡ Some n = ap (λ (k : ℕ). copy_in (mid k)) freed.0 ∙ freed_copy is_root (mid id) n freed.1 in
+              one_names mid last id h.was (record h.was { place = stored_at is_root h.was.place }) h.there h.here h.others refl refl (λ m. stored_copy is_root h.was.place m) n
+              (some_at (NamesLower mid) (copy_in (mid i)) n copy (are i on).copy)
+        ]);
+      }
 
 -- ---- nodes that a step puts
 

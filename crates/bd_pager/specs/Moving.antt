@@ -9,6 +9,8 @@ use Rattle.bd_device.specs.Blocks.{Image}
 use Rattle.bd_device.specs.Changes.{StaysBut, IsBeforeBut}
 use Rattle.bd_device.specs.Device.{left_now, Goes, Stays}
 use Rattle.bd_device.specs.declared.device.Device.{Ghosts}
+use Rattle.bd_cache.specs.Cache.{kept_at}
+use Rattle.bd_cache.specs.declared.cache.NodeCache.{NodeCache}
 use Rattle.bd_node.specs.declared.node.Node.{Node}
 use Rattle.bd_pager.specs.declared.place.Place.{Place}
 use Rattle.bd_pager.specs.declared.place.Place.TheVariants.{Memory, Slot}
@@ -82,6 +84,22 @@ stored_at is_root (Memory node (Some slot)) = Slot slot (copy_if is_root node)
 stored_at is_root (Memory node None) = Memory node None
 stored_at is_root (Slot there copy) = Slot there copy
 
+-- the node that goes out of memory by that
+abbrev pub freed_at : Bool → Place → Option Node
+freed_at true (Memory node (Some slot)) = None
+freed_at false (Memory node (Some slot)) = Some node.value
+freed_at is_root (Memory node None) = None
+freed_at is_root (Slot there copy) = None
+
+abbrev pub freed_in : Bool → Option Spot → Option Node
+freed_in is_root None = None
+freed_in is_root (Some s) = freed_at is_root s.place
+
+-- what is cached was before, or is this node of this id
+abbrev pub IsCachedMore : ℕ → Option Node → NodeCache → NodeCache → Type 0
+IsCachedMore id found old new = (i : ℕ) (n : Node) → kept_at new i ≡ Some n
+    → (kept_at old i ≡ Some n) ⊎ ((i ≡ id) × (found ≡ Some n))
+
 -- the node of this id alone was moved
 pub record IsMovedAt (id : ℕ) (move : Place → Place) (old new : Spots) : Type 0 where
   pub was : Spot
@@ -89,21 +107,27 @@ pub record IsMovedAt (id : ℕ) (move : Place → Place) (old new : Spots) : Typ
   pub here : new id ≡ Some (record was { place = move was.place })
   pub others : (i : ℕ) → i ≢ id → new i ≡ old i
 
--- of the nodes in memory the root comes last, and before it those of lesser ids come first
-abbrev pub IsBefore : ℕ → ℕ → ℕ → Type 0
-IsBefore root id other = (id ≢ root) × ((other ≡ root) ⊎ (id < other))
+-- of two nodes that aren't the root's the one of the lower level comes first, and of one level the
+-- one of the lesser id
+abbrev pub ComesFirst : Spots → ℕ → ℕ → Type 0
+ComesFirst spots id other = (level_in (spots id) < level_in (spots other))
+    ⊎ ((level_in (spots id) ≡ level_in (spots other)) × (id < other))
+
+-- of the nodes in memory the root comes last
+abbrev pub IsBefore : ℕ → Spots → ℕ → ℕ → Type 0
+IsBefore root spots id other = (id ≢ root) × ((other ≡ root) ⊎ ComesFirst spots id other)
 
 -- each other node in memory comes after this one, which is the root if it isn't in memory
 pub record IsEarliest (root : ℕ) (spots : Spots) (id : ℕ) : Type 0 where
   pub memory : id ≢ root → IsTrue (is_in_memory (spots id))
   pub first : (other : ℕ) → IsTrue (is_in_memory (spots other)) → other ≢ id
-      → IsBefore root id other
+      → IsBefore root spots id other
 
 -- what has left memory came before what is still there
 abbrev pub AreEarlier : ℕ → Spots → Spots → Type 0
 AreEarlier root before after = (id other : ℕ) → IsTrue (is_in_memory (before id))
     → is_in_memory (after id) ≡ false → IsTrue (is_in_memory (after other))
-    → IsBefore root id other
+    → IsBefore root before id other
 
 -- ---- several
 

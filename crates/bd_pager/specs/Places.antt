@@ -77,7 +77,8 @@ abbrev pub IsAlone : ℕ → ℕ → Option Spot → Type 0
 IsAlone slot level None = ⊥
 IsAlone slot level (Some s) = (s.level ≡ level) × (s.place ≡ Slot slot None)
 
--- the node was read from such a slot, and, unless the device was lent since, the slot has it
+-- the node was read from such a slot, or written there, and, unless the device was lent since, the
+-- slot has it
 abbrev pub IsReadAt : Option Image → Bool → ℕ → Place → Node → Type 0
 IsReadAt contents is_lent level (Memory node slot) n = ⊥
 IsReadAt contents is_lent level (Slot slot (Some node)) n = ⊥
@@ -89,7 +90,7 @@ abbrev pub IsRead : Option Image → Bool → Option Spot → Node → Type 0
 IsRead contents is_lent None n = ⊥
 IsRead contents is_lent (Some s) n = IsReadAt contents is_lent s.level s.place n
 
--- each cached node was read from the slot that alone has it
+-- each cached node was read from the slot that alone has it, or written there
 abbrev pub AreCached : Option Image → Bool → Spots → NodeCache → Type 0
 AreCached contents is_lent spots cache =
     (id : ℕ) (n : Node) → kept_at cache id ≡ Some n → IsRead contents is_lent (spots id) n

@@ -356,12 +356,12 @@ impl<D: Device> Pager<D> {
         self.usage.spare.free()
     }
 
-    /// Writes changed nodes that are in memory to slots of their own, those of least ids first and
-    /// the root last of all, until at most `early` of them are in memory or no slot is free. Nothing
-    /// that is seen changes, also where it fails, and it writes without a barrier to slots alone
-    /// that the last checkpoint doesn't hold. What `write_out` has written is no longer ready.
-    /// `Failed` comes only where a call of the device failed, which is the last one then. It takes
-    /// no memory.
+    /// Writes changed nodes that are in memory to slots of their own, those of the lowest level
+    /// first, among them those of least ids, and the root last of all, until at most `early` of them
+    /// are in memory or no slot is free. Nothing that is seen changes, also where it fails, and it
+    /// writes without a barrier to slots alone that the last checkpoint doesn't hold. What
+    /// `write_out` has written is no longer ready. `Failed` comes only where a call of the device
+    /// failed, which is the last one then. It needs no memory.
     pub fn spill(&mut self, early: u64) -> Result<(), Failed>
         requires { D.block_count self.old.dev ≡ image_blocks (length self.old.spare) }
         ensures spills { Spills D.Device self.old self.new }

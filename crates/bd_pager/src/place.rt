@@ -2,7 +2,7 @@
 
 ghost use Rattle.std.specs.Prelude.{◌≡◌};
 ghost use Rattle.std.specs.Option.{option_copied};
-ghost use Rattle.bd_pager.specs.Places.{refs_in};
+ghost use Rattle.bd_pager.specs.Places.{refs_in, level_in};
 
 use bd_node::Node;
 use std::rc::Rc;
@@ -33,6 +33,16 @@ pub fn refs_of(spot: Option<&Spot>) -> u64
 {
     match spot {
         Some(spot) => spot.refs,
+        None => 0,
+    }
+}
+
+/// The level of the node of a spot: 0 where there is none.
+pub fn level_of(spot: Option<&Spot>) -> u32
+    ensures { result ≡ level_in (option_copied spot.entry) }
+{
+    match spot {
+        Some(spot) => spot.level,
         None => 0,
     }
 }

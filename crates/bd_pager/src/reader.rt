@@ -32,7 +32,7 @@ use std::rc::Rc;
 pub struct NodeReader<D: Device> {
     pub dev: D,
     pub spots: HashMap<u64, Spot>,
-    /// Nodes that were read from slots that alone have them.
+    /// Nodes that were read from slots that alone have them, or were written there.
     pub cache: NodeCache,
     /// Which nodes in memory, and of those that were read, name kept nodes of lower levels alone.
     pub tested: Tested,

@@ -1,14 +1,17 @@
 //! Nodes that are written to their own slots.
 
-ghost use Rattle.std.specs.Prelude.{◌≡◌, ◌≢◌, ◌⊎◌, ◌-◌, ◌<◌, ◌≤◌, ℕ, IsSome, IsTrue, IfSome, OnOk, OnErr, length, min};
+ghost use Rattle.std.specs.Prelude.{◌≡◌, ◌≢◌, ◌⊎◌, ◌-◌, ◌<◌, ◌≤◌, ℕ, Some, IsSome, IsTrue, IfSome, OnOk, OnErr, length, min};
+ghost use Rattle.std.specs.Option.{option_map};
+ghost use Rattle.bd_cache.specs.Cache.{node_of};
 ghost use Rattle.bd_slots.specs.Layout.{image_blocks};
 ghost use Rattle.bd_slots.specs.Slots.{free_count};
 ghost use Rattle.bd_device.specs.Calls.{faults_after};
 ghost use Rattle.bd_device.specs.Changes.{StaysBut, IsBeforeBut};
 ghost use Rattle.bd_device.specs.Device.{left_now, Goes, Stays, FailsLast};
 ghost use Rattle.bd_pager.specs.Counting.{is_in_memory, AreBelow, AreUnused, IsTallied};
-ghost use Rattle.bd_pager.specs.Moving.{copy_if, stored_at, AreEarlier, IfSpot, IsHeldAt, IsMovedAt, IsOfPlace, IsOfSpot, IsReservedAt, IsReservedPlace, IsReservedSpot, IsWritablePlace, OnlyMoves};
+ghost use Rattle.bd_pager.specs.Moving.{copy_if, freed_at, freed_in, stored_at, AreEarlier, IfSpot, IsCachedMore, IsHeldAt, IsMovedAt, IsOfPlace, IsOfSpot, IsReservedAt, IsReservedPlace, IsReservedSpot, IsWritablePlace, OnlyMoves};
 ghost use Rattle.bd_pager.specs.Places.{spots_in};
+ghost use Rattle.bd_pager.specs.declared.place.Place.TheVariants.{Memory, Slot};
 ghost use Rattle.bd_pager.specs.Readers.{IsReading};
 
 use crate::early::earliest;
@@ -16,6 +19,7 @@ use crate::place::{Place, Spot};
 use crate::reader::NodeReader;
 use crate::usage::{IN_MEMORY, STORED, Usage};
 use crate::write_node;
+use bd_cache::NodeCache;
 use bd_device::Device;
 use bd_format::laws::images_are_decoded;
 use bd_io::Failed;
@@ -28,7 +32,7 @@ use std::rc::Rc;
 
 /// Writes a node that is in memory to a slot of its own, which it gets if it has none, and where it
 /// then is. The root's node stays in memory too. `Failed` comes only where a call of the device
-/// failed, which is the last one then. It takes no memory.
+/// failed, which is the last one then. It needs no memory.
 #[tactic(auto, using(bd_device::proofs::Calls::calls))]
 pub fn write_at<D: Device>(
     reader: &mut NodeReader<D>,
@@ -62,14 +66,15 @@ pub fn write_at<D: Device>(
     images_are_decoded();
     reserve(&mut reader.spots, &mut usage.free, id);
     write_spot(&mut reader.dev, &reader.spots, id, &mut reader.buffer)?;
-    settle(&mut reader.spots, id, id == root);
+    settle(&mut reader.spots, &mut reader.cache, id, id == root);
     usage.recount(IN_MEMORY, STORED);
     usage.listed.remove(&id);
     Ok(())
 }
 
-/// Writes nodes that are in memory as `write_at` does, the earliest first, until at most `early` are
-/// in memory or no slot is free.
+/// Writes nodes that are in memory as `write_at` does, those of the lowest level first, among them
+/// those of least ids, and the root last of all, until at most `early` are in memory or no slot is
+/// free.
 #[tactic(auto, using(bd_device::proofs::Calls::calls))]
 pub fn write_early<D: Device>(
     reader: &mut NodeReader<D>,
@@ -202,10 +207,24 @@ fn write_place<D: Device>(
     }
 }
 
-// Says that the own slot of a node has it.
-fn settle(spots: &mut HashMap<u64, Spot>, id: u64, is_root: bool)
+// Says that the own slot of a node has it. Unless it is the root's, the node is kept among those
+// that were read, if there is memory, so that it needn't be read again at once.
+fn settle(spots: &mut HashMap<u64, Spot>, cache: &mut NodeCache, id: u64, is_root: bool)
     requires { IsSome (spots_in spots.old id) }
-    ensures { IsMovedAt id (stored_at is_root) (spots_in spots.old) (spots_in spots.new) }
+    ensures moved { IsMovedAt id (stored_at is_root) (spots_in spots.old) (spots_in spots.new) }
+    ensures cached { IsCachedMore id (freed_in is_root (spots_in spots.old id))
+        cache.old cache.new }
+{
+    if let Some(node) = settle_spot(spots, id, is_root) {
+        let _ = cache.put(id, node);
+    }
+}
+
+// Says that the own slot of a node has it, and returns the node, unless it is the root's.
+fn settle_spot(spots: &mut HashMap<u64, Spot>, id: u64, is_root: bool) -> Option<Rc<Node>>
+    requires { IsSome (spots_in spots.old id) }
+    ensures moved { IsMovedAt id (stored_at is_root) (spots_in spots.old) (spots_in spots.new) }
+    ensures freed { option_map node_of result ≡ freed_in is_root (spots_in spots.old id) }
 {
     match spots.get_mut(&id) {
         Some(spot) => settle_in(spot, is_root),
@@ -213,37 +232,46 @@ fn settle(spots: &mut HashMap<u64, Spot>, id: u64, is_root: bool)
     }
 }
 
-// Says that the own slot of a spot has its node.
-fn settle_in(spot: &mut Spot, is_root: bool)
-    ensures { spot.new ≡ record spot.old { place = stored_at is_root spot.old.place } }
+// Says that the own slot of a spot has its node, and returns the node, unless it is the root's.
+fn settle_in(spot: &mut Spot, is_root: bool) -> Option<Rc<Node>>
+    ensures moved { spot.new ≡ record spot.old { place = stored_at is_root spot.old.place } }
+    ensures freed { option_map node_of result ≡ freed_at is_root spot.old.place }
 {
     let vacant = Place::Slot {
         slot: 0,
         node: None,
     };
-    let place = mem::replace(&mut spot.place, vacant);
-    spot.place = stored(place, is_root);
+    let (place, freed) = stored(mem::replace(&mut spot.place, vacant), is_root);
+    spot.place = place;
+    freed
 }
 
-// The place of a node that its own slot has.
-fn stored(place: Place, is_root: bool) -> Place
-    ensures { result ≡ stored_at is_root place }
+// The place of a node that its own slot has, and the node, unless it is the root's.
+fn stored(place: Place, is_root: bool) -> (Place, Option<Rc<Node>>)
+    ensures place { result.0 ≡ stored_at is_root place }
+    ensures freed { option_map node_of result.1 ≡ freed_at is_root place }
 {
     match place {
         Place::Memory { node, slot } => match slot {
-            Some(slot) => Place::Slot {
-                slot,
-                node: copy_if(is_root, node),
-            },
-            None => Place::Memory { node, slot: None },
+            Some(slot) => stored_in(slot, node, is_root),
+            None => (Place::Memory { node, slot: None }, None),
         },
-        Place::Slot { slot, node } => Place::Slot { slot, node },
+        Place::Slot { slot, node } => (Place::Slot { slot, node }, None),
     }
 }
 
-// The node, where it is the root's.
-fn copy_if(is_root: bool, node: Rc<Node>) -> Option<Rc<Node>>
-    ensures { result ≡ copy_if is_root node }
+// The place of a node that this slot has, and the node, unless it is the root's.
+fn stored_in(slot: u32, node: Rc<Node>, is_root: bool) -> (Place, Option<Rc<Node>>)
+    ensures place { result.0 ≡ Slot slot (copy_if is_root node) }
+    ensures freed { option_map node_of result.1 ≡ freed_at is_root (Memory node (Some slot)) }
 {
-    if is_root { Some(node) } else { None }
+    if is_root {
+        let place = Place::Slot {
+            slot,
+            node: Some(node),
+        };
+        (place, None)
+    } else {
+        (Place::Slot { slot, node: None }, Some(node))
+    }
 }

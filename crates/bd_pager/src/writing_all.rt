@@ -25,7 +25,7 @@ use bd_keys::Items;
 
 /// Writes all nodes that are in memory, as `write_early` does, and then the table of all nodes to
 /// free slots, which are returned once more. `Failed` comes only where a call of the device failed,
-/// which is the last one then. It takes no memory.
+/// which is the last one then. It needs no memory.
 #[tactic(auto, using(bd_device::proofs::Calls::calls))]
 pub fn write_all<D: Device>(
     reader: &mut NodeReader<D>,

@@ -70,7 +70,7 @@ returns-clause-moves g c =
     (moves_then D u.spare c.args.root d d e spots mid mid (g.met.D.Device.since_earlier d)
     (reserved_moves D u.spare c.args.root c.args.id d spots u.free mid c.reserve.new.free c.reserve.ensures)
     (device_moves D u.spare c.args.root d e mid _ (own_wider u.spare c.reserve.new.free mid c.args.id own unused) (own_apart u.spare c.reserve.new.free mid c.args.id own unused) written.stays written.elsewhere written.time))
-    (settled_moves D u.spare c.reserve.new.free c.args.root c.args.id e mid last own unused _ c.settle.ensures (λ same. eq-eqb c.args.id c.args.root (sym same))
+    (settled_moves D u.spare c.reserve.new.free c.args.root c.args.id e mid last own unused _ c.settle.ensures.moved (λ same. eq-eqb c.args.id c.args.root (sym same))
     (own_there u.spare c.reserve.new.free mid c.args.id own unused c.images_are_decoded.ensures.found (D.contents e) written.held))
 
 pub returns-clause-reading : goal.returns-clause-reading
@@ -81,15 +81,15 @@ returns-clause-reading g c =
     let spots = spots_in r.spots in
     let mid = spots_in c.reserve.new.spots in
     let last = spots_in c.settle.new.spots in
+    let placed = reserved_placed c.args.id spots u.free mid c.reserve.new.free c.reserve.ensures c.requires.memory D u.spare r.dev c.requires.reading.placed in
     let own = has_own_now c.args.id spots u.free mid c.reserve.new.free c.reserve.ensures c.requires.memory in
     let unused = reserved_unused u.spare u.free c.args.id spots mid c.reserve.new.free c.reserve.ensures c.requires.unused in
     record {
-      placed = settled_placed D u.spare c.reserve.new.free c.args.root c.args.id r.dev mid last own unused _ c.settle.ensures
-          (reserved_placed c.args.id spots u.free mid c.reserve.new.free c.reserve.ensures c.requires.memory D u.spare r.dev c.requires.reading.placed);
-      cached = settled_cached D u.spare c.reserve.new.free c.args.root c.args.id r.dev mid last own unused _ c.settle.ensures (D.contents c.write_spot.new.dev) r.is_lent r.cache
+      placed = settled_placed c.args.id _ mid last c.settle.ensures.moved placed;
+      cached = settled_cached c.args.id _ mid last c.settle.ensures.moved (D.contents c.write_spot.new.dev) r.is_lent r.cache c.settle.new.cache c.settle.ensures.cached placed c.in_ok-write_spot.ensures.held
           (cached_kept _ (D.contents r.dev) (D.contents c.write_spot.new.dev) r.is_lent mid r.cache c.in_ok-write_spot.ensures.elsewhere (own_apart u.spare c.reserve.new.free mid c.args.id own unused)
           (reserved_cached c.args.id spots u.free mid c.reserve.new.free c.reserve.ensures c.requires.memory (D.contents r.dev) r.is_lent r.cache c.requires.reading.cached));
-      tested = settled_tested c.args.id _ mid last c.settle.ensures r.cache r.tested
+      tested = settled_tested c.args.id _ mid last c.settle.ensures.moved r.cache c.settle.new.cache r.tested c.settle.ensures.cached
           (reserved_tested c.args.id spots u.free mid c.reserve.new.free c.reserve.ensures r.cache r.tested c.requires.reading.tested);
     }
 
@@ -104,5 +104,5 @@ returns-clause-tallied g c = λ next low tallied.
     let own = has_own_now c.args.id spots u.free mid c.reserve.new.free c.reserve.ensures c.requires.memory in
     let unused = reserved_unused u.spare u.free c.args.id spots mid c.reserve.new.free c.reserve.ensures c.requires.unused in
     subst (λ (x : Usage). IsTallied next last (record x { listed = c.remove.new.self })) (sym c.recount.ensures)
-    (settled_tallied D u.spare c.reserve.new.free c.args.root c.args.id c.args.reader.now.dev mid last own unused _ c.settle.ensures next v c.remove.new.self refl refl low (removed_listed u.listed c.remove.new.self c.args.id (subst (λ (x : Usage). Updates nat_cmp x.listed c.remove.new.self c.args.id false) c.recount.ensures c.remove.ensures.updates))
+    (settled_tallied D u.spare c.reserve.new.free c.args.root c.args.id c.args.reader.now.dev mid last own unused _ c.settle.ensures.moved next v c.remove.new.self refl refl low (removed_listed u.listed c.remove.new.self c.args.id (subst (λ (x : Usage). Updates nat_cmp x.listed c.remove.new.self c.args.id false) c.recount.ensures c.remove.ensures.updates))
     (reserved_tallied next u c.args.id spots mid c.reserve.new.free c.reserve.ensures low tallied))

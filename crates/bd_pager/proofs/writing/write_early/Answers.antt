@@ -31,7 +31,7 @@ loop-usage-preserved g c =
       lent = now.lent ∙ was.lent;
       spare = now.spare ∙ was.spare;
       enough = omega (arith, was.enough, now.stored, c.loop-usage-test.true);
-      earlier = earlier_then root c.earliest-id.result first mid last was.earlier c.earliest-id.ensures.earliest now.others now.moves.memory;
+      earlier = earlier_then root c.earliest-id.result first mid last was.moves.level was.earlier c.earliest-id.ensures.earliest now.others now.moves.memory;
       tallied = λ next below tallied.
           now.tallied next (below c.earliest-id.result (was.moves.memory c.earliest-id.result memory))
           (relisted next mid c.loop-usage.usage c.earliest-id.new.listed (was.tallied next below tallied) c.earliest-id.ensures.listed);
@@ -64,4 +64,4 @@ pub returns-in_err-write_at-clause-earlier : goal.returns-in_err-write_at-clause
 returns-in_err-write_at-clause-earlier g c =
     let was = c.loop-usage.invariant in
     let now = c.in_err-write_at.ensures in
-    earlier_then c.args.root c.earliest-id.result (spots_in c.args.reader.now.spots) (spots_in c.loop-usage.reader.spots) (spots_in c.write_at.new.reader.spots) was.earlier c.earliest-id.ensures.earliest now.others now.moves.memory
+    earlier_then c.args.root c.earliest-id.result (spots_in c.args.reader.now.spots) (spots_in c.loop-usage.reader.spots) (spots_in c.write_at.new.reader.spots) was.moves.level was.earlier c.earliest-id.ensures.earliest now.others now.moves.memory
