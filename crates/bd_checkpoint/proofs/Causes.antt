@@ -1,6 +1,6 @@
 -- What is known while a volume starts, and why it doesn't.
 use Rattle.std.proofs.Common.{◌≡◌, ◌≢◌, ℕ, ◌+◌, ◌^◌, ◌<◌, inl, inr, Option, None, Some, IfSome, sym, ap, subst, ◌∙◌, arith}
-use Rattle.std.specs.Prelude.{IsSomeAnd, Ok}
+use Rattle.std.specs.Prelude.{IsSomeAnd, Result, Ok}
 use Rattle.std.proofs.lemmas.Bool.{cases_lt, false≢true}
 use Rattle.bd_io.specs.Cause.{next_count, IsCounted}
 use Rattle.bd_model.specs.Tree.{Tree}
@@ -19,7 +19,7 @@ use Rattle.bd_image.specs.ImageTree.{ImageStandsFor}
 use Rattle.bd_image.specs.Damage.{IsBadAt}
 use Rattle.bd_image.specs.Damage.IsBadAt.{bad_super, bad_table, bad_node}
 use Rattle.bd_checkpoint.specs.Resuming.{IsBadUnder}
-use Rattle.bd_checkpoint.specs.Recovering.{OnlySettles, HasSettled, IsBadIn}
+use Rattle.bd_checkpoint.specs.Recovering.{OnlySettles, HasSettled, FailsFirst, IsBadIn}
 use Rattle.bd_checkpoint.proofs.Entries.{entry_found}
 
 -- ---- what stays
@@ -48,6 +48,13 @@ barrier_settles g a b x counted kept only =
       called = omega (arith, one);
       only = subst (λ (n : ℕ). IsOnly (g.contents a) (g.left_since b n)) one (λ c was. sym kept ∙ only c was);
     }
+
+-- one that failed, before any other call
+pub barrier_fails : {D T E : Type 0} (g : Ghosts D) (a b : D) (r : Result T E) → IsCounted {T = T} {E = E} (g.call_count a) (g.call_count b) r → g.write_fault_count b ≡ next_count (g.write_fault_count a) → FailsFirst g a b
+barrier_fails g a b r counted one = record {
+  few = omega (arith, counted.counted);
+  rose = elim (cases_lt (g.write_fault_count a) (g.write_fault_count b)) [ inl more ↦ inl more | inr same ↦ inr (omega (arith, one, same)) ];
+}
 
 -- and reads after it
 pub settled_then : {D : Type 0} (g : Ghosts D) (a b c : D) → HasSettled g a b → OnlyReads g b c → HasSettled g a c

@@ -1,6 +1,6 @@
 -- What is known when a volume starts from an image.
 use Rattle.std.specs.Prelude.{◌≡◌, ◌+◌, ◌≤◌, ◌⊎◌, ℕ, List, [], ◌∷◌, length, Option, IfSome}
-use Rattle.bd_io.specs.Cause.{next_count}
+use Rattle.bd_io.specs.Cause.{Rose, next_count}
 use Rattle.bd_model.specs.Tree.{Tree}
 use Rattle.bd_model.specs.Laws.{Accepts, after}
 use Rattle.bd_device.specs.Blocks.{Image}
@@ -28,6 +28,11 @@ pub record OnlySettles {D : Type 0} (g : Ghosts D) (old new : D) : Type 0 where
 pub record HasSettled {D : Type 0} (g : Ghosts D) (old new : D) : Type 0 where
   pub called : g.call_count old + 1 ≤ g.call_count new
   pub only : IsOnly (g.contents old) (g.left_since new (g.call_count old + 1))
+
+-- no call came back but a write or a barrier that failed: the first one, if any
+pub record FailsFirst {D : Type 0} (g : Ghosts D) (old new : D) : Type 0 where
+  pub few : g.call_count new ≤ g.call_count old + 1
+  pub rose : Rose (g.write_fault_count old) (g.write_fault_count new)
 
 -- the block is why what reads give stands for no tree, as far as that is known
 abbrev pub IsBadIn : Option Image → ℕ → Type 0

@@ -2,7 +2,6 @@
 
 ghost use Rattle.std.specs.Prelude.{◌≡◌, ◌≢◌, ◌<◌, ◌≤◌, ℕ, false, None, IsSome, IfOk, IfErr, IfSome, IsSomeAnd, OnOk, OnErr};
 ghost use Rattle.bd_limits.specs.Limits.{first_slot_block};
-ghost use Rattle.bd_io.specs.Cause.{Rose};
 ghost use Rattle.bd_model.specs.Tree.{Tree};
 ghost use Rattle.bd_slots.specs.Layout.{image_blocks};
 ghost use Rattle.bd_device.specs.Device.{left_now, OnlyReads, HasImageCause, IsImageCause};
@@ -23,7 +22,7 @@ ghost use Rattle.bd_checkpoint.specs.Commands.{AreCommandsOf};
 ghost use Rattle.bd_checkpoint.specs.Following.{saved_by};
 ghost use Rattle.bd_checkpoint.specs.Kept.{IsOpenOn};
 ghost use Rattle.bd_checkpoint.specs.Resuming.{IsStartedFrom, IsBadUnder};
-ghost use Rattle.bd_checkpoint.specs.Recovering.{OnlySettles, HasSettled, IsBadIn, saved_of, AreStored, LeadsTo};
+ghost use Rattle.bd_checkpoint.specs.Recovering.{OnlySettles, HasSettled, FailsFirst, IsBadIn, saved_of, AreStored, LeadsTo};
 
 use crate::commands::PlacedCommand;
 use crate::resuming::resume_log;
@@ -94,7 +93,7 @@ pub fn recover<D: Device>(alloc: Global, dev: D, room: usize) -> Result<Recovere
         → IfErr result (λ refused. (block : ℕ) → refused.fault ≢ Damaged block) }
     ensures left { IfErr result (λ refused. OnlySettles D.Device dev refused.device) }
     ensures settles { IfErr result (λ refused. 0 < D.block_count dev
-        → ¬ Rose (D.write_fault_count dev) (D.write_fault_count refused.device)
+        → ¬ FailsFirst D.Device dev refused.device
         → HasSettled D.Device dev refused.device) }
 {
     trees_are_undamaged();
@@ -143,7 +142,7 @@ fn open_start<D: Device>(
         (IsBadIn (D.contents dev)) refused.fault) }
     ensures left { IfErr result (λ refused. OnlySettles D.Device dev refused.device) }
     ensures settles { IfErr result (λ refused. 0 < D.block_count dev
-        → ¬ Rose (D.write_fault_count dev) (D.write_fault_count refused.device)
+        → ¬ FailsFirst D.Device dev refused.device
         → HasSettled D.Device dev refused.device) }
 {
     let (live, at) = match read_start(alloc, &mut dev) {
@@ -168,7 +167,7 @@ fn read_start<D: Device>(alloc: Global, dev: &mut D) -> Result<(Super, Vec<u32>)
     ensures reads { OnOk result (OnlyReads D.Device dev.old dev.new) }
     ensures settled { OnOk result (HasSettled D.Device dev.old dev.new) }
     ensures settles { OnErr result (0 < D.block_count dev.old
-        → ¬ Rose (D.write_fault_count dev.old) (D.write_fault_count dev.new)
+        → ¬ FailsFirst D.Device dev.old dev.new
         → HasSettled D.Device dev.old dev.new) }
     ensures left { OnlySettles D.Device dev.old dev.new }
     ensures cause { HasImageCause D.Device dev.old dev.new

@@ -6,7 +6,7 @@ use Rattle.bd_device.specs.Moments.{Nothing}
 use Rattle.bd_device.proofs.Moments.{after}
 use Rattle.bd_super.specs.Live.{IsDamaged}
 use Rattle.bd_checkpoint.specs.Recovering.{IsBadIn}
-use Rattle.bd_checkpoint.proofs.Causes.{barrier_settles, settled_then, only_then, cause_on, bad_superblock}
+use Rattle.bd_checkpoint.proofs.Causes.{barrier_settles, barrier_fails, settled_then, only_then, cause_on, bad_superblock}
 use Rattle.bd_checkpoint.proofs.recovering.read_start.Goals as goal
 
 pub returns-in_err-live-clause-cause : goal.returns-in_err-live-clause-cause
@@ -35,6 +35,12 @@ returns-clause-only g c =
     let some : 0 < D.block_count old = omega (arith, c.in_ok-barrier.ensures.count, c.in_ok-live.ensures.size) in
     only_then (D.contents mid) (D.contents new) (left_now D mid) (left_now D new) reads.kept
     (after Nothing (left_now D mid) reads.time (g.met.D.Device.since_earlier new) (λ image is. is) (λ image none. absurd none)) (c.in_ok-barrier.ensures.durable some)
+
+pub returns-in_err-barrier-clause-settles : goal.returns-in_err-barrier-clause-settles
+returns-in_err-barrier-clause-settles g c =
+    let p = err_from_is_err_and c.from_residual.result c.from_residual.ensures.1 in
+    rw p.1
+    (λ some first. absurd (first (barrier_fails g.D.Device c.args.dev.now c.barrier.new.self _ c.in_err-barrier.ensures.calls c.in_err-barrier.ensures.write_faults)))
 
 pub returns-in_err-live-clause-settles : goal.returns-in_err-live-clause-settles
 returns-in_err-live-clause-settles g c =
