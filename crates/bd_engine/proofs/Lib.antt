@@ -4,6 +4,7 @@ pub mod Numbers
 pub mod Reclaims
 pub mod Remaining
 pub mod Saving
+pub mod Spilling
 pub mod Starting
 pub mod Syncing
 pub mod Undamaged

@@ -7,7 +7,8 @@ use Rattle.bd_message.specs.declared.fault.MapFault.{MapFault}
 use Rattle.bd_message.specs.declared.fault.MapFault.TheVariants.{DeviceFault, Damaged, Worn, NoMemory}
 use Rattle.bd_slots.specs.Layout.{image_blocks}
 use Rattle.bd_io.specs.Cause.{next_count}
-use Rattle.bd_device.specs.Device.{left_now}
+use Rattle.bd_device.specs.Changes.{StaysBut}
+use Rattle.bd_device.specs.Device.{left_now, Goes, Stays}
 use Rattle.bd_device.specs.declared.device.Device.{Ghosts}
 use Rattle.bd_node.specs.Tables.{IsSound, root_at}
 use Rattle.bd_table.specs.Tables.{IsTableAt}
@@ -17,8 +18,10 @@ use Rattle.bd_log.specs.Batches.{IsLogRecord}
 use Rattle.bd_log.specs.Logs.{LogState}
 use Rattle.bd_graft.specs.declared.grafting.Walk.{Walk}
 use Rattle.bd_pager.specs.Keeping.{KeepsSaved}
+use Rattle.bd_pager.specs.Slots.{IsSpare}
 use Rattle.bd_pager.specs.Pagers.{Paged, nodes_of, table_of, is_known, is_bad, IsReadOf}
 use Rattle.bd_step.specs.Steps.{IsWornToFlush}
+use Rattle.bd_image.specs.Standing.{IsAsBefore}
 use Rattle.bd_image.specs.Versions.{version_of, mode_version}
 use Rattle.bd_checkpoint.specs.Kept.{IsOpenOn, AllAsBefore}
 use Rattle.bd_checkpoint.specs.Recovering.{saved_of}
@@ -121,6 +124,32 @@ pub record IsBegunAnew {D : Type 0} (e : EngineState D) : Type 0 where
   pub version : version_of e.live ≡ mode_version
   pub place : e.log.place ≡ 0
   pub waiting : e.log.waiting ≡ []
+
+-- how many changed nodes stay in memory when a step begins
+abbrev pub memory_limit : ℕ
+memory_limit = 8
+
+-- changed nodes were written early, also where a call failed: no more than slots that the last
+-- checkpoint doesn't hold were written, the view stays, and an image that a crash leaves, inside it
+-- or after it, stands for all that one of before stood for
+pub record WritesEarly {D : Type 0} (g : Ghosts D) (old new : EngineState D) : Type 0 where
+  pub table : table_of new.pager ≡ table_of old.pager
+  pub known : is_known g old.pager → is_known g new.pager
+  pub nodes : is_known g old.pager → nodes_of g new.pager ≡ nodes_of g old.pager
+  pub view : is_known g old.pager → view_of g new ≡ view_of g old
+  pub others : view_of g new ≡ record (view_of g old) { tree = (view_of g new).tree }
+  pub time : Goes g old.pager.dev new.pager.dev (IsAsBefore (left_now g old.pager.dev))
+  pub kept : AllAsBefore (left_now g old.pager.dev) (left_now g new.pager.dev)
+  pub slots : StaysBut (IsSpare old.pager.spare) (g.contents old.pager.dev)
+      (g.contents new.pager.dev)
+  pub stays : Stays g old.pager.dev new.pager.dev
+  pub pager : new.pager ≡ record old.pager {
+    dev = new.pager.dev;
+    spots = new.pager.spots;
+    cache = new.pager.cache;
+    written = new.pager.written;
+  }
+  pub rest : new ≡ record old { pager = new.pager; stop = new.stop }
 
 -- only blocks before the slots were changed: the nodes stay, and what stands at the keys
 pub record KeepsNodesOn {D : Type 0} (g : Ghosts D) (old new : EngineState D) : Type 0 where

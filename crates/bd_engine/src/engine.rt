@@ -10,6 +10,7 @@ mod changing;
 mod logging;
 mod reclaiming;
 mod saving;
+mod spilling;
 mod starting;
 mod telling;
 

@@ -77,11 +77,11 @@ impl<D: Device> Engine<D> {
     }
 }
 
-// The number of the device's last call, where that call of a sync failed.
-fn stop_by<D: Device>(pager: &Pager<D>, synced: &Result<(), Failed>) -> Option<u64>
-    ensures { result ≡ stop_by (D.call_count pager.now.dev) synced.now }
+// The number of the device's last call, where that call, a write or a barrier, failed.
+pub(super) fn stop_by<D: Device>(pager: &Pager<D>, done: &Result<(), Failed>) -> Option<u64>
+    ensures { result ≡ stop_by (D.call_count pager.now.dev) done.now }
 {
-    match synced {
+    match done {
         Ok(()) => None,
         Err(Failed) => Some(pager.calls()),
     }

@@ -2,7 +2,6 @@
 
 ghost use Rattle.std.specs.Prelude.{◌≡◌, ◌≢◌, ◌<◌, ℕ, [], map, None, IsSome, IfOk, IfErr, IfSome, IsSomeAnd, All};
 ghost use Rattle.bd_model.specs.Tree.{Tree, root_only};
-ghost use Rattle.bd_io.specs.Cause.{Rose};
 ghost use Rattle.bd_slots.specs.Layout.{IsSlotCount, image_blocks};
 ghost use Rattle.bd_device.specs.Device.{left_now, OnlyReads, Stays, IsImageCause};
 ghost use Rattle.bd_device.specs.Moments.{IsOnly};
@@ -12,7 +11,7 @@ ghost use Rattle.bd_image.specs.Versions.{version_of};
 ghost use Rattle.bd_image.specs.ImageTree.{ImageStandsFor};
 ghost use Rattle.bd_checkpoint.specs.Commands.{IsPlacedIn};
 ghost use Rattle.bd_checkpoint.specs.Kept.{AllStandFor, AreOfTree};
-ghost use Rattle.bd_checkpoint.specs.Recovering.{OnlySettles, HasSettled, IsBadIn, LeadsTo};
+ghost use Rattle.bd_checkpoint.specs.Recovering.{OnlySettles, HasSettled, FailsFirst, IsBadIn, LeadsTo};
 ghost use Rattle.bd_view.specs.Views.{fresh_view};
 ghost use Rattle.bd_engine.specs.Engines.{view_of};
 ghost use Rattle.bd_engine.specs.Stored.{IsFound, IsStoredBy, ArePlaced};
@@ -79,7 +78,7 @@ impl<D: Device> Engine<D> {
             → IfErr result (λ refused. (block : ℕ) → refused.fault ≢ Damaged block) }
         ensures left { IfErr result (λ refused. OnlySettles D.Device dev refused.device) }
         ensures settles { IfErr result (λ refused. 0 < D.block_count dev
-            → ¬ Rose (D.write_fault_count dev) (D.write_fault_count refused.device)
+            → ¬ FailsFirst D.Device dev refused.device
             → HasSettled D.Device dev refused.device) }
     {
         batches_are_one();
