@@ -16,7 +16,7 @@ use Rattle.bd_engine.specs.Engines.{IsStopped, IsGoingOn}
 use Rattle.bd_volume.specs.declared.fault.Fault.{Fault}
 use Rattle.bd_volume.specs.declared.fault.Fault.TheVariants.{Device, Damaged, Worn, NoMemory, Full, Stopped}
 use Rattle.bd_volume.specs.declared.volume.Volume.{Volume}
-use Rattle.bd_volume.specs.Faults.{fault_of, HasNotFailed, IsFaultCause, HasFaultCause, IsGoing, IsHalted}
+use Rattle.bd_volume.specs.Faults.{fault_of, HasNotFailed, IsFaultCause, HasFaultCause, IsGoing, IsHalted, IsStoppedRightly}
 use Rattle.bd_volume.specs.Volume.{count_of, device_of, stop_of}
 use Rattle.bd_volume.specs.Steps.{GoesOn, Ends}
 
@@ -31,7 +31,7 @@ module _ {D : Type 0} (g : Ghosts D) where
     stays = record { count = refl; same_name = λ name was. was; same_loans = refl };
   }
 
-  going_then : (a b c : Volume D) → IsGoing g a b → IsGoing g b c → IsGoing g a c
+  pub going_then : (a b c : Volume D) → IsGoing g a b → IsGoing g b c → IsGoing g a c
   going_then a b c p q = record { stop_is = q.stop_is; write_faults = q.write_faults ∙ p.write_faults }
 
   pub goes_then : (a b c : Volume D) → GoesOn g a b → GoesOn g b c → GoesOn g a c
@@ -57,22 +57,30 @@ module _ {D : Type 0} (g : Ghosts D) where
   halted_then : (a b c : Volume D) → IsGoing g a b → IsHalted g b c → IsHalted g a c
   halted_then a b c p h = record { stop_is = h.stop_is; write_faults = h.write_faults ∙ ap next_count p.write_faults }
 
+  pub stop_then : {T : Type 0} (a b c : Volume D) (r : Result T Fault) → IsGoing g a b → IsStoppedRightly g b c r → IsStoppedRightly g a c r
+  stop_then a b c (Ok x) p h = record { ok = going_then a b c p h.ok; err = tt }
+  stop_then a b c (Err e) p h = record {
+    ok = tt;
+    err = elim h.err [ inl goes ↦ inl (going_then a b c p goes) | inr halts ↦ inr (halted_then a b c p halts.0, halts.1) ];
+  }
+
   pub ends_then : {T : Type 0} (a b c : Volume D) (r : Result T Fault) → GoesOn g a b → Ends g b c r → Ends g a c r
   ends_then a b c (Ok x) p h = record {
     cause = record { later = omega (arith, p.faults, h.cause.later); kept = h.cause.kept ∙ p.faults; failed = tt };
-    stop = record { ok = going_then a b c p.going h.stop.ok; err = tt };
+    stop = stop_then a b c (Ok x) p.going h.stop;
     stays = stays_then p.stays h.stays;
   }
   ends_then a b c (Err e) p h = record {
     cause = record { later = omega (arith, p.faults, h.cause.later); kept = tt; failed = fault_then a b c e p h.cause.failed };
-    stop = record {
-      ok = tt;
-      err = elim h.stop.err [ inl goes ↦ inl (going_then a b c p.going goes) | inr halts ↦ inr (halted_then a b c p.going halts.0, halts.1) ];
-    };
+    stop = stop_then a b c (Err e) p.going h.stop;
     stays = stays_then p.stays h.stays;
   }
 
   -- ---- what goes on
+
+  pub stop_none : {T : Type 0} (a b : Volume D) (r : Result T Fault) → IsGoing g a b → IsStoppedRightly g a b r
+  stop_none a b (Ok x) p = record { ok = p; err = tt }
+  stop_none a b (Err e) p = record { ok = tt; err = inl p }
 
   pub ends_well : {T : Type 0} (a b : Volume D) (x : T) → GoesOn g a b → Ends {T = T} g a b (Ok x)
   ends_well a b x p = record {

@@ -1,4 +1,5 @@
 pub mod Called
+pub mod Early
 pub mod Executed
 pub mod Faulted
 pub mod Keeping
@@ -10,5 +11,6 @@ pub mod Room
 pub mod Safe
 pub mod Sent
 pub mod Started
+pub mod Starts
 pub mod Stepped
 pub mod Synced

@@ -19,9 +19,7 @@ use Rattle.bd_message.specs.declared.fault.Counter.TheVariants.{Count, NextId, L
 use Rattle.bd_message.specs.declared.fault.MapFault.{MapFault}
 use Rattle.bd_message.specs.declared.fault.MapFault.TheVariants as map
 use Rattle.bd_message.specs.KeyMaps.{At, SameAt, IsApplied, IsGrafted, IsCause, HasMapCause, NeverWorn, StaysUnlessDevice}
-use Rattle.bd_device.specs.Device.{OnlyReads}
 use Rattle.bd_device.specs.declared.device.Device.{Ghosts}
-use Rattle.bd_device.proofs.Calls.{reads_then}
 use Rattle.bd_represent.specs.Represents.{Represents}
 use Rattle.bd_represent.proofs.TreeLemmas.{Represents-along}
 use Rattle.bd_dirs.specs.declared.plan.Plan.{Plan}
@@ -45,10 +43,11 @@ use Rattle.bd_engine.specs.Engines.{EngineState, keys_of, IsSoundOn, IsReadOn, O
 use Rattle.bd_volume.specs.declared.fault.Fault.{Fault}
 use Rattle.bd_volume.specs.declared.fault.Fault.TheVariants.{Device, Damaged, Worn, NoMemory, Full, Stopped}
 use Rattle.bd_volume.specs.declared.volume.Volume.{Volume}
-use Rattle.bd_volume.specs.Faults.{fault_of, HasNotFailed}
-use Rattle.bd_volume.specs.Volume.{view_of, count_of, device_of}
+use Rattle.bd_volume.specs.Faults.{fault_of, HasNotFailed, IsFaultCause}
+use Rattle.bd_volume.specs.Volume.{view_of, count_of, device_of, stop_of}
 use Rattle.bd_volume.specs.Wears.{IsWornInReplay}
-use Rattle.bd_volume.specs.Replays.{IsReadCause, WritesNothing, HasReadCause, HasTreeOn, SendsAgain, ReplaysOn, IsWornAgain, WearsAgain, HasFlushedAgain, IsFlushFault, IsAgainFault, IsSendFault, IsReplayFault, commands_of, HasReplayed, ReplaysFront}
+use Rattle.bd_volume.specs.Replays.{IsReplayCause, HasReplayCause, HasTreeOn, SendsAgain, ReplaysOn, IsWornAgain, WearsAgain, HasFlushedAgain, IsFlushFault, IsAgainFault, IsSendFault, IsReplayFault, commands_of, HasReplayed, ReplaysFront}
+use Rattle.bd_volume.proofs.Early.{GoesEarly, goes_none, goes_both}
 use Rattle.bd_volume.proofs.Faulted.{worn_in_step, worn_kind, worn_graft_again}
 use Rattle.bd_volume.proofs.Read.{read_sound, read_same}
 
@@ -113,80 +112,45 @@ not_accepted at t c (Apply list) off h = λ accepts. cc
 not_accepted at t c (Graft s d keep) off h = λ accepts. cc
 
 module _ {D : Type 0} (g : Ghosts D) where
-  -- ---- calls that write nothing
-
-  pub reads_none : (a : D) → OnlyReads g a a
-  reads_none a = record {
-    kept = refl;
-    count = refl;
-    write_faults = refl;
-    time = record { later = omega arith; keeps = λ u c le left. left; adds = λ u c le left. inl left };
-    same_name = λ name was. was;
-    same_loans = refl;
-  }
-
-  pub writes_none : (a : Volume D) → WritesNothing g a a
-  writes_none a = record { reads = reads_none (device_of a); log = refl; live = refl; stop_is = refl }
-
-  pub writes_then : (a b d : Volume D) → WritesNothing g a b → WritesNothing g b d → WritesNothing g a d
-  writes_then a b d p q = record {
-    reads = reads_then p.reads q.reads;
-    log = q.log ∙ p.log;
-    live = q.live ∙ p.live;
-    stop_is = q.stop_is ∙ p.stop_is;
-  }
-
-  -- calls of the engine
-  pub reads_write : (a b : Volume D) → IsReadOn g a.engine b.engine → WritesNothing g a b
-  reads_write a b r = record {
-    reads = r.read.device;
-    log = ap (λ (e : EngineState D). e.log) r.rest;
-    live = ap (λ (e : EngineState D). e.live) r.rest;
-    stop_is = ap (λ (e : EngineState D). e.stop) r.rest;
-  }
-
-  pub nodes_write : (a b : Volume D) → OnlyNodesOn g a.engine b.engine → WritesNothing g a b
-  nodes_write a b r = record {
-    reads = r.keeps.device;
-    log = ap (λ (e : EngineState D). e.log) r.rest;
-    live = ap (λ (e : EngineState D). e.live) r.rest;
-    stop_is = ap (λ (e : EngineState D). e.stop) r.rest;
-  }
-
   -- ---- whether the device failed
 
-  read_cause_then : (a b d : Volume D) (fault : Fault) → HasNotFailed g a b → IsReadCause g b d fault → IsReadCause g a d fault
-  read_cause_then a b d Device same h = subst (λ (n : ℕ). Rose n (g.fault_count (device_of d))) same h
-  read_cause_then a b d (Damaged block) same h = h ∙ same
-  read_cause_then a b d (Worn which) same h = h ∙ same
-  read_cause_then a b d NoMemory same h = h ∙ same
-  read_cause_then a b d (Full free need) same h = h
-  read_cause_then a b d (Stopped call) same h = h
+  replay_cause_then : (a b d : Volume D) (fault : Fault) → HasNotFailed g a b → IsReplayCause g b d fault → IsReplayCause g a d fault
+  replay_cause_then a b d Device same h = subst (λ (n : ℕ). Rose n (g.fault_count (device_of d))) same h
+  replay_cause_then a b d (Damaged block) same h = h ∙ same
+  replay_cause_then a b d (Worn which) same h = h ∙ same
+  replay_cause_then a b d NoMemory same h = h ∙ same
+  replay_cause_then a b d (Full free need) same h = h
+  replay_cause_then a b d (Stopped call) same h = h
 
   -- after a call that was Ok
-  pub cause_then : {T : Type 0} (r : Result T Fault) (a b d : Volume D) → HasNotFailed g a b → HasReadCause g b d r → HasReadCause g a d r
+  pub cause_then : {T : Type 0} (r : Result T Fault) (a b d : Volume D) → HasNotFailed g a b → HasReplayCause g b d r → HasReplayCause g a d r
   cause_then (Ok x) a b d same h = record { kept = h.kept ∙ same; failed = tt }
-  cause_then (Err e) a b d same h = record { kept = tt; failed = read_cause_then a b d e same h.failed }
+  cause_then (Err e) a b d same h = record { kept = tt; failed = replay_cause_then a b d e same h.failed }
 
-  pub cause_ok : {T : Type 0} (a b : Volume D) (x : T) → HasNotFailed g a b → HasReadCause {T = T} g a b (Ok x)
+  pub cause_ok : {T : Type 0} (a b : Volume D) (x : T) → HasNotFailed g a b → HasReplayCause {T = T} g a b (Ok x)
   cause_ok a b x same = record { kept = same; failed = tt }
 
-  pub cause_worn : {T : Type 0} (a b : Volume D) (which : Counter) → HasNotFailed g a b → HasReadCause {T = T} g a b (Err (Worn which))
+  pub cause_worn : {T : Type 0} (a b : Volume D) (which : Counter) → HasNotFailed g a b → HasReplayCause {T = T} g a b (Err (Worn which))
   cause_worn a b which same = record { kept = tt; failed = same }
 
-  pub cause_damaged : {T : Type 0} (a b : Volume D) (block : ℕ) → HasNotFailed g a b → HasReadCause {T = T} g a b (Err (Damaged block))
+  pub cause_damaged : {T : Type 0} (a b : Volume D) (block : ℕ) → HasNotFailed g a b → HasReplayCause {T = T} g a b (Err (Damaged block))
   cause_damaged a b block same = record { kept = tt; failed = same }
 
-  map_read_cause : (a b : Volume D) (worn : Counter → Type 0) (fault : MapFault) → StaysUnlessDevice (g.fault_count (device_of a)) (g.fault_count (device_of b)) fault
-      → IsCause (g.fault_count (device_of a)) (g.fault_count (device_of b)) (is_bad g b.engine.pager) worn fault → IsReadCause g a b (fault_of fault)
-  map_read_cause a b worn map.DeviceFault stays h = h
-  map_read_cause a b worn (map.Damaged block) stays h = stays
-  map_read_cause a b worn (map.Worn which) stays h = stays
-  map_read_cause a b worn map.NoMemory stays h = stays
+  pub cause_device : {T : Type 0} (a b : Volume D) (fault : Fault) → fault ≡ Device → IsFaultCause g a b fault → HasReplayCause {T = T} g a b (Err fault)
+  cause_device {T} a b fault is h =
+      let rose : Rose (g.fault_count (device_of a)) (g.fault_count (device_of b)) = subst (λ (f : Fault). IsFaultCause g a b f) is h in
+      subst (λ (f : Fault). HasReplayCause {T = T} g a b (Err f)) (sym is) (record { kept = tt; failed = rose })
+
+  map_replay_cause : (a b : Volume D) (worn : Counter → Type 0) (fault : MapFault) → StaysUnlessDevice (g.fault_count (device_of a)) (g.fault_count (device_of b)) fault
+      → IsCause (g.fault_count (device_of a)) (g.fault_count (device_of b)) (is_bad g b.engine.pager) worn fault → IsReplayCause g a b (fault_of fault)
+  map_replay_cause a b worn map.DeviceFault stays h = h
+  map_replay_cause a b worn (map.Damaged block) stays h = stays
+  map_replay_cause a b worn (map.Worn which) stays h = stays
+  map_replay_cause a b worn map.NoMemory stays h = stays
 
   -- a call of the engine failed
-  pub cause_map : {T U : Type 0} (a b : Volume D) (worn : Counter → Type 0) (fault : MapFault) → HasMapCause {T = U} (g.fault_count (device_of a)) (g.fault_count (device_of b)) (is_bad g b.engine.pager) worn (Err fault) → HasReadCause {T = T} g a b (Err (fault_of fault))
-  cause_map a b worn fault h = record { kept = tt; failed = map_read_cause a b worn fault h.stays h.failed }
+  pub cause_map : {T U : Type 0} (a b : Volume D) (worn : Counter → Type 0) (fault : MapFault) → HasMapCause {T = U} (g.fault_count (device_of a)) (g.fault_count (device_of b)) (is_bad g b.engine.pager) worn (Err fault) → HasReplayCause {T = T} g a b (Err (fault_of fault))
+  cause_map a b worn fault h = record { kept = tt; failed = map_replay_cause a b worn fault h.stays h.failed }
 
   -- ---- faults
 
@@ -206,6 +170,19 @@ module _ {D : Type 0} (g : Ghosts D) where
   flush_again_fails m n a b c (map.Damaged block) waits sound good h = λ s. good (sound s) block h
   flush_again_fails m n a b c (map.Worn which) waits sound good h = λ s. worn_in_again a which c s.known waits h
   flush_again_fails m n a b c map.NoMemory waits sound good h = tt
+
+  -- or of what is written before it
+  pub device_flush_fails : (fault : Fault) (c : Command) (a : Volume D) → fault ≡ Device → IsFlushFault g fault c a
+  device_flush_fails fault c a is = subst (λ (f : Fault). IsFlushFault g f c a) (sym is) tt
+
+  -- after nodes were written early
+  pub early_flush_fails : (fault : Fault) (c : Command) (a b : Volume D) → (IsSoundOn g a.engine.pager → IsSoundOn g b.engine.pager) → (IsSoundOn g a.engine.pager → view_of g b ≡ view_of g a) → IsFlushFault g fault c b → IsFlushFault g fault c a
+  early_flush_fails Device c a b sound same h = tt
+  early_flush_fails (Damaged block) c a b sound same h = λ s. h (sound s)
+  early_flush_fails (Worn which) c a b sound same h = λ s. subst (λ (v : View). IsWornAgain which c v.tree) (same s) (h (sound s))
+  early_flush_fails NoMemory c a b sound same h = tt
+  early_flush_fails (Full free need) c a b sound same h = h
+  early_flush_fails (Stopped call) c a b sound same h = h
 
   -- after other flush steps
   pub flushes_fail : (fault : Fault) (c : Command) (a b : Volume D) (made : ℕ) → (IsSoundOn g a.engine.pager → IsSoundOn g b.engine.pager) → (IsSoundOn g a.engine.pager → AreFlushedAgain c made (view_of g a) (view_of g b)) → made ≤ flush_limit
@@ -230,32 +207,32 @@ module _ {D : Type 0} (g : Ghosts D) where
     pub sound : IsSoundOn g a.engine.pager → IsSoundOn g b.engine.pager
     pub same : IsSoundOn g a.engine.pager → SameAt (keys_of g a.engine.pager) (keys_of g b.engine.pager)
     pub flushed : IsSoundOn g a.engine.pager → AreFlushedAgain c made (view_of g a) (view_of g b)
-    pub writes : WritesNothing g a b
+    pub goes : GoesEarly g a b
     pub faults : HasNotFailed g a b
     pub count_is : count_of b ≡ count_of a
 
-  pub flushed_none : (c : Command) (a : Volume D) → FlushedOn c 0 a a
-  flushed_none c a = record { sound = λ s. s; same = λ s k. refl; flushed = λ s. none (view_of g a); writes = writes_none a; faults = refl; count_is = refl }
+  pub flushed_none : (c : Command) (a : Volume D) → stop_of a ≡ None → FlushedOn c 0 a a
+  flushed_none c a going = record { sound = λ s. s; same = λ s k. refl; flushed = λ s. none (view_of g a); goes = goes_none g a going; faults = refl; count_is = refl }
 
   pub flushed_more : (c : Command) (made : ℕ) (a b d : Volume D) → FlushedOn c made a b → (IsSoundOn g b.engine.pager → IsSoundOn g d.engine.pager) → (IsSoundOn g b.engine.pager → SameAt (keys_of g b.engine.pager) (keys_of g d.engine.pager))
-      → (IsSoundOn g b.engine.pager → FlushesAgain c (view_of g b) (view_of g d)) → WritesNothing g b d → HasNotFailed g b d → count_of d ≡ count_of b → FlushedOn c (made + 1) a d
-  flushed_more c made a b d h sound same step writes faults count = record {
+      → (IsSoundOn g b.engine.pager → FlushesAgain c (view_of g b) (view_of g d)) → GoesEarly g b d → HasNotFailed g b d → count_of d ≡ count_of b → FlushedOn c (made + 1) a d
+  flushed_more c made a b d h sound same step goes faults count = record {
     sound = λ s. sound (h.sound s);
     same = λ s k. same (h.sound s) k ∙ h.same s k;
     flushed = λ s. more made (view_of g a) (view_of g b) (view_of g d) (h.flushed s) (step (h.sound s));
-    writes = writes_then a b d h.writes writes;
+    goes = goes_both g a b d h.goes goes;
     faults = faults ∙ h.faults;
     count_is = count ∙ h.count_is;
   }
 
   -- no more was
   pub flushed_last : (c : Command) (made : ℕ) (a b d : Volume D) → FlushedOn c made a b → (IsSoundOn g b.engine.pager → IsSoundOn g d.engine.pager) → (IsSoundOn g b.engine.pager → SameAt (keys_of g b.engine.pager) (keys_of g d.engine.pager))
-      → view_of g d ≡ view_of g b → WritesNothing g b d → HasNotFailed g b d → count_of d ≡ count_of b → FlushedOn c made a d
-  flushed_last c made a b d h sound same view writes faults count = record {
+      → (IsSoundOn g b.engine.pager → view_of g d ≡ view_of g b) → GoesEarly g b d → HasNotFailed g b d → count_of d ≡ count_of b → FlushedOn c made a d
+  flushed_last c made a b d h sound same view goes faults count = record {
     sound = λ s. sound (h.sound s);
     same = λ s k. same (h.sound s) k ∙ h.same s k;
-    flushed = λ s. again_same c made (view_of g a) (view_of g b) (view_of g d) (h.flushed s) view;
-    writes = writes_then a b d h.writes writes;
+    flushed = λ s. again_same c made (view_of g a) (view_of g b) (view_of g d) (h.flushed s) (view (h.sound s));
+    goes = goes_both g a b d h.goes goes;
     faults = faults ∙ h.faults;
     count_is = count ∙ h.count_is;
   }

@@ -1,6 +1,6 @@
 -- What a volume stands for once it is started, and why none starts.
 use Rattle.std.proofs.Common.{rules, ◌≡◌, ◌≢◌, ℕ, ◌+◌, ◌-◌, ◌^◌, List, [], ◌∷◌, ◌++◌, length, Option, None, Some, refl, sym, subst, ap, ◌∙◌, inl, inr, arith, append-nil}
-use Rattle.std.specs.Prelude.{◌⊎◌, IsSome, IfSome, IsSomeAnd, All}
+use Rattle.std.specs.Prelude.{◌⊎◌, IsSome, IfSome, IsSomeAnd, All, Result}
 use Rattle.std.specs.List.{AllByRecursion}
 use Rattle.std.proofs.lemmas.List.{length-map, map-append}
 use Rattle.std.proofs.lemmas.List.Elements.{recursion_from_All}
@@ -34,7 +34,6 @@ use Rattle.bd_checkpoint.specs.declared.commands.PlacedCommand.{PlacedCommand}
 use Rattle.bd_checkpoint.specs.Commands.{IsPlacedIn, placed_record, records_for}
 use Rattle.bd_checkpoint.specs.Kept.{AllStandFor, AreOfTree}
 use Rattle.bd_checkpoint.specs.Recovering.{IsBadIn, LeadsBy, LeadsTo}
-use Rattle.bd_checkpoint.proofs.Handed.{IsSince}
 use Rattle.bd_checkpoint.proofs.Replaying.{leads_by}
 use Rattle.bd_pager.specs.Pagers.{nodes_of, table_of, is_known}
 use Rattle.bd_view.specs.Moves.{AreReplayed}
@@ -44,11 +43,12 @@ use Rattle.bd_volume.specs.declared.fault.Fault.{Fault}
 use Rattle.bd_volume.specs.declared.fault.Fault.TheVariants.{Device, Damaged, Worn, NoMemory, Full, Stopped}
 use Rattle.bd_volume.specs.declared.volume.Volume.{Volume}
 use Rattle.bd_volume.specs.Faults.{image_fault_of, HasUnsoundNodes, IsBadForStart, IsStartCause}
-use Rattle.bd_volume.specs.Replays.{IsReadCause, WritesNothing, HasTreeOn, WearsAgain, Refuses, commands_of, HasReplayed, ReplaysFront, StopsReplaying}
+use Rattle.bd_volume.specs.Replays.{IsReplayCause, ReplaysEarly, HasTreeOn, WearsAgain, Refuses, commands_of, HasReplayed, ReplaysFront, StopsReplaying}
 use Rattle.bd_volume.specs.Volume.{StandsFor, IsFirstView, view_of, without_walk, count_of, device_of}
 use Rattle.bd_volume.specs.Wears.{WearsReplaying, IsWornInReplay}
 use Rattle.bd_volume.proofs.Replayed.{leads_one, leads_next}
-use Rattle.bd_volume.proofs.Safe.{read_before, safe_now}
+use Rattle.bd_volume.proofs.Safe.{safe_now}
+use Rattle.bd_volume.proofs.Starts.{as_stands}
 
 -- ---- faults of an image
 
@@ -117,15 +117,9 @@ module _ {D : Type 0} (g : Ghosts D) where
     represents = h.have.represents;
   }
 
-  -- each image that a crash leaves is what reads give
-  left_stands : (dev mid new : D) (known : Option Image) (t : Tree) (n : ℕ) → IsSince g new → g.contents mid ≡ known → IsOnly (g.contents mid) (left_now g mid) → OnlyReads g mid new → IsSomeAnd known (ImageStandsFor t n) → AllStandFor t n (left_now g new)
-  left_stands dev mid new known t n earlier same only reads h = λ c left.
-      let was = read_before g mid new earlier reads c left in
-      was.2 t n (subst (λ (o : Option Image). IsSomeAnd o (ImageStandsFor t n)) (sym same ∙ only was.0 was.1) h)
-
-  pub started_for : (dev : D) (a v : Volume D) (list : List PlacedCommand) (t : Tree) (n : ℕ) → IsSince g (device_of v) → a.count ≡ a.engine.live.count → a.engine.log.waiting ≡ [] → OnlyReads g dev (device_of a) → IsOnly (g.contents (device_of a)) (left_now g (device_of a))
-      → WritesNothing g a v → ReplaysFront g list [] a v → LeadsTo g a.engine.pager a.engine.live list t n → IsSomeAnd (g.contents dev) (ImageStandsFor t n) → StandsFor g v t n
-  started_for dev a v list t n earlier counted idle reads only writes front led h =
+  pub started_for : {T : Type 0} (dev : D) (a v : Volume D) (r : Result T Fault) (list : List PlacedCommand) (t : Tree) (n : ℕ) → a.count ≡ a.engine.live.count → a.engine.log.waiting ≡ [] → OnlyReads g dev (device_of a) → IsOnly (g.contents (device_of a)) (left_now g (device_of a))
+      → ReplaysEarly g a v r → ReplaysFront g list [] a v → LeadsTo g a.engine.pager a.engine.live list t n → IsSomeAnd (g.contents dev) (ImageStandsFor t n) → StandsFor g v t n
+  started_for dev a v r list t n counted idle reads only writes front led h =
       let all : list ≡ front.front = whole_front list front.front front.there in
       let done : HasReplayed g led.base front.front a v = front.done led.base (opened_has a list t n led) in
       let same : done.tree ≡ t = leads_one front.front led.base done.tree t done.leads (subst (λ (l : List PlacedCommand). LeadsBy l led.base t) all led.leads) in
@@ -137,7 +131,9 @@ module _ {D : Type 0} (g : Ghosts D) where
         count_is =
             let many : length list ≡ length front.front = ap (λ (l : List PlacedCommand). length l) all in
             omega (arith, front.count_is, counted, led.count_is, many);
-        safe = λ on. safe_now g v.engine t n (left_stands dev (device_of a) (device_of v) (g.contents dev) t n earlier reads.kept only writes.reads h) (ap (λ (l : LogState). l.waiting) writes.log ∙ idle);
+        safe = λ on.
+            let left : AllStandFor t n (left_now g (device_of v)) = λ c was. as_stands (g.contents dev) (g.contents (device_of a)) (left_now g (device_of a)) t n reads.kept only h c (writes.early.kept c was) in
+            safe_now g v.engine t n left (ap (λ (l : LogState). l.waiting) writes.early.log ∙ idle);
       }
 
   -- what it stands for has nothing to do with the last graft
@@ -233,7 +229,7 @@ module _ {D : Type 0} (g : Ghosts D) where
   bad_start (Some image) a mid list rest next block free told stored placed each before (inr bad) = inr (unsound_image a mid image (told (search rules)) stored before.sound bad)
 
   pub replay_cause : (dev : D) (a v : Volume D) (list : List PlacedCommand) (fault : Fault) → IsPrefixFree IsLogged log_record → (IsSome (g.contents dev) → is_known g a.engine.pager) → IfSome (g.contents dev) (IsStoredBy g a.engine) → IfSome (g.contents dev) (λ image. ArePlaced image a.engine.live list)
-      → All (IsPlacedIn (version_of a.engine.live)) list → g.fault_count (device_of a) ≡ g.fault_count dev → StopsReplaying g fault list a → IsReadCause g a v fault → IsStartCause g dev (device_of v) fault
+      → All (IsPlacedIn (version_of a.engine.live)) list → g.fault_count (device_of a) ≡ g.fault_count dev → StopsReplaying g fault list a → IsReplayCause g a v fault → IsStartCause g dev (device_of v) fault
   replay_cause dev a v list Device free told stored placed each same stops h = subst (λ (n : ℕ). Rose n (g.fault_count (device_of v))) same h
   replay_cause dev a v list (Damaged block) free told stored placed each same stops h =
       (bad_start (g.contents dev) a stops.mid list stops.rest stops.next block free told stored placed (recursion_from_All (IsPlacedIn (version_of a.engine.live)) list each) stops.before stops.cause, h ∙ same)

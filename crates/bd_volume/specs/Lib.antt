@@ -1,6 +1,7 @@
 pub mod Faults
 pub mod Reclaims
 pub mod Replays
+pub mod Starts
 pub mod Steps
 pub mod Volume
 pub mod Wears

@@ -8,48 +8,64 @@ use Rattle.bd_model.specs.Laws.{Accepts, after}
 use Rattle.bd_message.specs.declared.fault.Counter.{Counter}
 use Rattle.bd_message.specs.declared.fault.Counter.TheVariants.{Count, NextId, Level, Refs, Epoch, Flushes}
 use Rattle.bd_represent.specs.Represents.{Represents}
-use Rattle.bd_device.specs.Device.{OnlyReads}
+use Rattle.bd_device.specs.Changes.{StaysBut}
+use Rattle.bd_device.specs.Device.{left_now, Goes, Stays}
 use Rattle.bd_device.specs.declared.device.Device.{Ghosts}
 use Rattle.bd_dirs.specs.Sendings.{Sending}
 use Rattle.bd_dirs.specs.declared.plan.Plan.{Plan}
 use Rattle.bd_effects.specs.Carrying.{accepts}
+use Rattle.bd_pager.specs.Slots.{IsSpare}
+use Rattle.bd_image.specs.Standing.{IsAsBefore}
+use Rattle.bd_checkpoint.specs.Kept.{AllAsBefore}
 use Rattle.bd_checkpoint.specs.declared.commands.PlacedCommand.{PlacedCommand}
 use Rattle.bd_checkpoint.specs.Recovering.{LeadsBy}
 use Rattle.bd_view.specs.Trees.{TreeView, HasSent, waiting_limit}
 use Rattle.bd_view.specs.Views.{View}
 use Rattle.bd_view.specs.Moves.{OnlyNodes, AreFlushedAgain, IsReplayed, AreReplayed}
-use Rattle.bd_engine.specs.Engines.{keys_of, IsSoundOn}
+use Rattle.bd_engine.specs.Engines.{EngineState, keys_of, IsSoundOn}
 use Rattle.bd_volume.specs.declared.fault.Fault.{Fault}
 use Rattle.bd_volume.specs.declared.fault.Fault.TheVariants.{Device, Damaged, Worn, NoMemory, Full, Stopped}
 use Rattle.bd_volume.specs.declared.volume.Volume.{Volume}
-use Rattle.bd_volume.specs.Faults.{HasNotFailed}
-use Rattle.bd_volume.specs.Volume.{view_of, count_of, device_of, stop_of}
+use Rattle.bd_volume.specs.Faults.{HasNotFailed, IsStoppedRightly}
+use Rattle.bd_volume.specs.Volume.{view_of, count_of, device_of}
 use Rattle.bd_volume.specs.Wears.{IsWornForStep, IsWornInReplay}
 
 -- ---- whatever is known
 
--- of calls that write nothing, why one fails: the device has failed, or it hasn't
-abbrev pub IsReadCause : {D : Type 0} → Ghosts D → Volume D → Volume D → Fault → Type 0
-IsReadCause g old new Device =
+-- why a replay fails, whatever is known: the device has failed, or it hasn't; slots are never short
+abbrev pub IsReplayCause : {D : Type 0} → Ghosts D → Volume D → Volume D → Fault → Type 0
+IsReplayCause g old new Device =
     Rose (g.fault_count (device_of old)) (g.fault_count (device_of new))
-IsReadCause g old new (Damaged block) = HasNotFailed g old new
-IsReadCause g old new (Worn which) = HasNotFailed g old new
-IsReadCause g old new NoMemory = HasNotFailed g old new
-IsReadCause g old new (Full free need) = ⊥
-IsReadCause g old new (Stopped call) = ⊥
-
--- the device was only read, and log, last checkpoint and stop stay
-pub record WritesNothing {D : Type 0} (g : Ghosts D) (old new : Volume D) : Type 0 where
-  pub reads : OnlyReads g (device_of old) (device_of new)
-  pub log : new.engine.log ≡ old.engine.log
-  pub live : new.engine.live ≡ old.engine.live
-  pub stop_is : stop_of new ≡ stop_of old
+IsReplayCause g old new (Damaged block) = HasNotFailed g old new
+IsReplayCause g old new (Worn which) = HasNotFailed g old new
+IsReplayCause g old new NoMemory = HasNotFailed g old new
+IsReplayCause g old new (Full free need) = ⊥
+IsReplayCause g old new (Stopped call) = ⊥
 
 -- of the device's calls none failed at Ok, and at an error it has failed just where that says so
-pub record HasReadCause {D T : Type 0} (g : Ghosts D) (old new : Volume D)
+pub record HasReplayCause {D T : Type 0} (g : Ghosts D) (old new : Volume D)
     (result : Result T Fault) : Type 0 where
   pub kept : OnOk result (HasNotFailed g old new)
-  pub failed : IfErr result (IsReadCause g old new)
+  pub failed : IfErr result (IsReplayCause g old new)
+
+-- nothing was written but nodes, early, to slots that the last checkpoint doesn't hold: log and last
+-- checkpoint stay, and an image that a crash leaves, inside the calls or after them, stands for all
+-- that one of before stood for
+pub record OnlyEarly {D : Type 0} (g : Ghosts D) (old new : EngineState D) : Type 0 where
+  pub time : Goes g old.pager.dev new.pager.dev (IsAsBefore (left_now g old.pager.dev))
+  pub kept : AllAsBefore (left_now g old.pager.dev) (left_now g new.pager.dev)
+  pub slots : StaysBut (IsSpare old.pager.spare) (g.contents old.pager.dev)
+      (g.contents new.pager.dev)
+  pub stays : Stays g old.pager.dev new.pager.dev
+  pub spare : new.pager.spare ≡ old.pager.spare
+  pub log : new.log ≡ old.log
+  pub live : new.live ≡ old.live
+
+-- so it was, and a failed write alone stopped the volume
+pub record ReplaysEarly {D T : Type 0} (g : Ghosts D) (old new : Volume D)
+    (result : Result T Fault) : Type 0 where
+  pub early : OnlyEarly g old.engine new.engine
+  pub stop : IsStoppedRightly g old new result
 
 -- ---- one command
 

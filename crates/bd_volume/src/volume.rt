@@ -5,18 +5,20 @@ ghost use Rattle.bd_command.specs.Command.{writes, accepted, IsCommand, IsReply}
 ghost use Rattle.bd_model.specs.Tree.{Tree, root_only};
 ghost use Rattle.bd_model.specs.Step.{step, refusal_of};
 ghost use Rattle.bd_message.specs.declared.fault.Counter.{Counter};
-ghost use Rattle.bd_io.specs.Cause.{Rose};
 ghost use Rattle.bd_slots.specs.Layout.{IsSlotCount, image_blocks};
-ghost use Rattle.bd_device.specs.Device.{left_now, OnlyReads, Stays, IsImageCause};
+ghost use Rattle.bd_device.specs.Changes.{StaysBut};
+ghost use Rattle.bd_device.specs.Device.{left_now, Stays, IsImageCause};
 ghost use Rattle.bd_device.specs.Moments.{IsOnly};
+ghost use Rattle.bd_pager.specs.Slots.{IsSpare};
 ghost use Rattle.bd_image.specs.ImageTree.{ImageStandsFor};
 ghost use Rattle.bd_checkpoint.specs.Kept.{AllStandFor};
-ghost use Rattle.bd_checkpoint.specs.Recovering.{OnlySettles, HasSettled};
+ghost use Rattle.bd_checkpoint.specs.Recovering.{FailsFirst};
 ghost use Rattle.bd_view.specs.Views.{fresh_view, free_slots, save_slots, need_slots};
 ghost use Rattle.bd_view.specs.Moves.{HasStepped, IsAccepted, synced, Saves, IsCommandFull, IsCheckpointFull, CannotSave};
 ghost use Rattle.bd_view.specs.Reclaiming.{edge_need, IsReclaim, IsReclaimFull};
 ghost use Rattle.bd_engine.specs.Stored.{HasSaved};
 ghost use Rattle.bd_volume.specs.Faults.{image_fault_of, IsOfImage, IsStartCause, HasFaultCause, IsStoppedRightly};
+ghost use Rattle.bd_volume.specs.Starts.{OnlyStarts, HasStarted};
 ghost use Rattle.bd_volume.specs.Volume.{StandsFor, GoesBy, IsFirstView, view_of, count_of, device_of, stop_of};
 ghost use Rattle.bd_volume.specs.Wears.{Wears, ShowsWorn, WearsReplaying, HasBegunReclaiming, WearsReclaiming};
 
@@ -45,14 +47,15 @@ pub struct Volume<D: Device> {
 
 impl<D: Device> Volume<D> {
     /// Starts from the image of a device: makes one barrier, after which a crash leaves what reads
-    /// give, reads what the image starts from, and replays the commands of the log's open batches in
-    /// memory, each with its own bound of flush steps. That needs no slot, and no graft of theirs is
-    /// told. From an image that stands
-    /// for a tree it starts unless the device fails, there is no memory or a counter has no room,
-    /// and stands for that tree. Where it fails, it returns the device. `Device` comes only where a
-    /// call of the device failed. `Damaged` names a bad block of the image (of a record of which the
-    /// tree before it refuses the command, the first one of its batch's body), or some block where
-    /// the nodes aren't sound; `Full` and `Stopped` never come.
+    /// give, reads what the image starts from, and replays the commands of the log's open batches,
+    /// each with its own bound of flush steps. That needs no slot; where more than eight changed
+    /// nodes are in memory before a step, it writes some early, to slots that the last checkpoint
+    /// doesn't hold, and a crash then still leaves what stands for the same. No graft of theirs is
+    /// told. From an image that stands for a tree it starts unless the device fails, there is no
+    /// memory or a counter has no room, and stands for that tree. Where it fails, it returns the
+    /// device. `Device` comes only where a call of the device failed. `Damaged` names a bad block of
+    /// the image (of a record of which the tree before it refuses the command, the first one of its
+    /// batch's body), or some block where the nodes aren't sound; `Full` and `Stopped` never come.
     pub fn start(alloc: Global, device: D) -> Result<Volume<D>, Refused<D>>
         ensures stands { IfOk result (λ v. (t : Tree) (n : ℕ)
             → IsSomeAnd (D.contents device) (ImageStandsFor t n) → StandsFor D.Device v t n) }
@@ -60,9 +63,15 @@ impl<D: Device> Volume<D> {
             (λ image. ImageStandsFor t n image → IsFirstView image (view_of D.Device v))) }
         ensures going { IfOk result (λ v. stop_of v ≡ None) }
         ensures idle { IfOk result (λ v. (view_of D.Device v).waiting ≡ 0) }
-        ensures settled { IfOk result (λ v. HasSettled D.Device device (device_of v)) }
-        ensures reads { IfOk result (λ v. OnlyReads D.Device device (device_of v)) }
+        ensures started { IfOk result (λ v. (t : Tree) (n : ℕ)
+            → IsSomeAnd (D.contents device) (ImageStandsFor t n)
+            → HasStarted D.Device device (device_of v) t n) }
+        ensures only { IfOk result (λ v. OnlyStarts D.Device device (device_of v)) }
+        ensures slots { IfOk result (λ v. StaysBut (IsSpare v.engine.pager.spare)
+            (D.contents device) (D.contents (device_of v))) }
         ensures faults { IfOk result (λ v. D.fault_count (device_of v) ≡ D.fault_count device) }
+        ensures write_faults { IfOk result
+            (λ v. D.write_fault_count (device_of v) ≡ D.write_fault_count device) }
 
         // The fault, and the device that is returned.
         ensures cause { IfErr result (λ refused.
@@ -72,10 +81,11 @@ impl<D: Device> Volume<D> {
         ensures wears { (t : Tree) (n : ℕ) → IfSome (D.contents device)
             (λ image. ImageStandsFor t n image → IfErr result (λ refused. (which : Counter)
             → refused.fault ≡ Fault.Worn which → WearsReplaying which image)) }
-        ensures left { IfErr result (λ refused. OnlySettles D.Device device refused.device) }
-        ensures settles { IfErr result (λ refused. 0 < D.block_count device
-            → ¬ Rose (D.write_fault_count device) (D.write_fault_count refused.device)
-            → HasSettled D.Device device refused.device) }
+        ensures left { IfErr result (λ refused. OnlyStarts D.Device device refused.device) }
+        ensures starts { IfErr result (λ refused. 0 < D.block_count device
+            → ¬ FailsFirst D.Device device refused.device → (t : Tree) (n : ℕ)
+            → IsSomeAnd (D.contents device) (ImageStandsFor t n)
+            → HasStarted D.Device device refused.device t n) }
     {
         log_records_are_prefix_free();
         let Opened { engine, commands } = Engine::open(alloc, device)?;
@@ -125,7 +135,9 @@ impl<D: Device> Volume<D> {
     /// in the root (for a `remove` or `truncate` more than 24,576), and a checkpoint where too few
     /// slots are free for its next step; and before them all one where the log has no room for its
     /// record, or where the image's version has no such record. Then its messages go into the root,
-    /// or its graft is made, and its record waits in the log for a sync.
+    /// or its graft is made, and its record waits in the log for a sync. Before each of these steps
+    /// changed nodes are written early, while more than eight are in memory and slots are free: to
+    /// slots that the last checkpoint doesn't hold, so that what a crash leaves stands for the same.
     ///
     /// `Full` comes only for such a command, where fewer slots are free than it needs and no
     /// checkpoint helps, with both numbers. So does `Worn`: of `Count` where the count of accepted

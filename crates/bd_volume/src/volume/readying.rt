@@ -6,7 +6,8 @@ ghost use Rattle.bd_pager.specs.Pagers.{table_of};
 ghost use Rattle.bd_view.specs.Trees.{waiting_limit};
 ghost use Rattle.bd_view.specs.Views.{free_slots, need_slots};
 ghost use Rattle.bd_view.specs.Moves.{AreSteps, HasStepped, CannotSave};
-ghost use Rattle.bd_engine.specs.Engines.{IsSoundOn};
+ghost use Rattle.bd_pager.specs.Counting.{memory_of, IsFull};
+ghost use Rattle.bd_engine.specs.Engines.{memory_limit, IsSoundOn};
 ghost use Rattle.bd_volume.specs.Volume.{view_of, count_of, stop_of};
 ghost use Rattle.bd_volume.specs.Steps.{Ends, ShowsFault, KeepsStanding, HasLogRoom, IsStepFault, IsCommandFault};
 
@@ -128,7 +129,8 @@ impl<D: Device> Volume<D> {
         Ok(flushed?)
     }
 
-    // Makes sure that slots are free for the next step of a command.
+    // Makes sure that slots are free for the next step of a command, and that few changed nodes are
+    // in memory.
     fn make_room(&mut self, command: &Command) -> Result<(), Fault>
         requires logged { IsLogged command.now }
         requires going { stop_of self.old ≡ None }
@@ -141,6 +143,8 @@ impl<D: Device> Volume<D> {
             IsStepFault fault command.now (view_of D.Device self.new)) }
 
         // Whatever is known.
+        ensures few { OnOk result ((memory_of self.new.engine.pager ≤ memory_limit)
+            ⊎ IsFull self.new.engine.pager) }
         ensures room { OnOk result (need_slots command.now (view_of D.Device self.new)
             ≤ free_slots (view_of D.Device self.new)) }
         ensures log { HasLogRoom command.now (view_of D.Device self.old)
@@ -151,6 +155,7 @@ impl<D: Device> Volume<D> {
         ensures count_stays { count_of self.new ≡ count_of self.old }
     {
         self.save_if_short(command)?;
+        self.spill()?;
         let (free, need) = (self.engine.free(), self.engine.need(command));
         if free < need {
             return Err(Fault::Full { free, need });

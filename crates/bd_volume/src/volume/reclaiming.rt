@@ -75,7 +75,8 @@ impl<D: Device> Volume<D> {
     }
 
     // After so many pushes, makes the next change, or a checkpoint where too few slots are free for
-    // it, and says how many pushes there were then; or none, where no change is left.
+    // it, and says how many pushes there were then; or none, where no change is left. Before that it
+    // writes changed nodes early.
     fn change_once(&mut self, pushes: u64) -> Result<Option<u64>, Fault>
         requires { stop_of self.old ≡ None }
         ensures changes { IsSoundOn D.Device self.old.engine.pager → IfOk result (λ left.
@@ -93,6 +94,7 @@ impl<D: Device> Volume<D> {
         ensures ends { Ends D.Device self.old self.new result }
         ensures count_stays { count_of self.new ≡ count_of self.old }
     {
+        self.spill()?;
         let Some(change) = self.look(pushes)? else {
             return Ok(None);
         };

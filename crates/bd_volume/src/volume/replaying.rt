@@ -14,7 +14,7 @@ ghost use Rattle.bd_view.specs.Trees.{waiting_limit};
 ghost use Rattle.bd_view.specs.Moves.{FlushesAgain, AreFlushedAgain};
 ghost use Rattle.bd_engine.specs.Engines.{keys_of, IsSoundOn};
 ghost use Rattle.bd_volume.specs.Volume.{view_of, without_walk, count_of, stop_of};
-ghost use Rattle.bd_volume.specs.Replays.{WritesNothing, HasReadCause, HasTreeOn, SendsAgain, HasFlushedAgain, ReplaysOn, IsFlushFault, IsAgainFault, IsSendFault, IsReplayFault, ReplaysFront, StopsReplaying};
+ghost use Rattle.bd_volume.specs.Replays.{ReplaysEarly, HasReplayCause, HasTreeOn, SendsAgain, HasFlushedAgain, ReplaysOn, IsFlushFault, IsAgainFault, IsSendFault, IsReplayFault, ReplaysFront, StopsReplaying};
 
 use super::Volume;
 use crate::fault::Fault;
@@ -35,8 +35,8 @@ impl<D: Device> Volume<D> {
             (ReplaysFront D.Device commands.now [] self.old self.new) }
         ensures fails { IfErr result (λ fault.
             StopsReplaying D.Device fault commands.now self.old) }
-        ensures writes { WritesNothing D.Device self.old self.new }
-        ensures cause { HasReadCause D.Device self.old self.new result }
+        ensures writes { ReplaysEarly D.Device self.old self.new result }
+        ensures cause { HasReplayCause D.Device self.old self.new result }
     {
         for placed in commands {
             self.replay_one(placed)?;
@@ -66,8 +66,8 @@ impl<D: Device> Volume<D> {
         ensures counts { OnOk result (count_of self.new ≡ count_of self.old + 1) }
         ensures fails { IfErr result (λ fault.
             IsReplayFault D.Device fault placed.now self.old) }
-        ensures writes { WritesNothing D.Device self.old self.new }
-        ensures cause { HasReadCause D.Device self.old self.new result }
+        ensures writes { ReplaysEarly D.Device self.old self.new result }
+        ensures cause { HasReplayCause D.Device self.old self.new result }
     {
         if self.count == u64::MAX {
             return Err(Fault::Worn(Counter::Count));
@@ -93,8 +93,8 @@ impl<D: Device> Volume<D> {
             → IsSoundOn D.Device self.new.engine.pager }
         ensures fails { IfErr result (λ fault.
             IsSendFault D.Device fault placed.now plan self.old) }
-        ensures writes { WritesNothing D.Device self.old self.new }
-        ensures cause { HasReadCause D.Device self.old self.new result }
+        ensures writes { ReplaysEarly D.Device self.old self.new result }
+        ensures cause { HasReplayCause D.Device self.old self.new result }
         ensures count_stays { count_of self.new ≡ count_of self.old }
     {
         match plan {
@@ -123,8 +123,8 @@ impl<D: Device> Volume<D> {
             → IsSoundOn D.Device self.new.engine.pager }
         ensures fails { IfErr result (λ fault.
             IsAgainFault D.Device fault command.now self.old) }
-        ensures writes { WritesNothing D.Device self.old self.new }
-        ensures cause { HasReadCause D.Device self.old self.new result }
+        ensures writes { ReplaysEarly D.Device self.old self.new result }
+        ensures cause { HasReplayCause D.Device self.old self.new result }
         ensures count_stays { count_of self.new ≡ count_of self.old }
     {
         self.flush_again(command)?;
@@ -156,8 +156,8 @@ impl<D: Device> Volume<D> {
             → IsSoundOn D.Device self.new.engine.pager }
         ensures fails { IfErr result (λ fault.
             IsAgainFault D.Device fault command.now self.old) }
-        ensures writes { WritesNothing D.Device self.old self.new }
-        ensures cause { HasReadCause D.Device self.old self.new result }
+        ensures writes { ReplaysEarly D.Device self.old self.new result }
+        ensures cause { HasReplayCause D.Device self.old self.new result }
         ensures count_stays { count_of self.new ≡ count_of self.old }
     {
         self.flush_again(command)?;
@@ -183,8 +183,8 @@ impl<D: Device> Volume<D> {
             IsAgainFault D.Device fault command.now self.old) }
         ensures enough { OnOk result
             ((table_of self.new.engine.pager).size ≤ waiting_limit command.now) }
-        ensures writes { WritesNothing D.Device self.old self.new }
-        ensures cause { HasReadCause D.Device self.old self.new result }
+        ensures writes { ReplaysEarly D.Device self.old self.new result }
+        ensures cause { HasReplayCause D.Device self.old self.new result }
         ensures count_stays { count_of self.new ≡ count_of self.old }
     {
         for _made in 0..MAX_FLUSHES {
@@ -198,14 +198,14 @@ impl<D: Device> Volume<D> {
         Err(Fault::Worn(Counter::Flushes))
     }
 
-    // Makes a flush step where more bytes wait in the root than the limit of a command of the log,
-    // and says whether it did.
+    // Writes changed nodes early, makes a flush step where more bytes wait in the root than the limit
+    // of a command of the log, and says whether it did.
     fn flush_once(&mut self, command: &Command) -> Result<bool, Fault>
         requires logged { IsLogged command.now }
         requires going { stop_of self.old ≡ None }
         ensures flushed { IsSoundOn D.Device self.old.engine.pager → result ≡ Ok true
             → FlushesAgain command.now (view_of D.Device self.old) (view_of D.Device self.new) }
-        ensures rest { result ≢ Ok true
+        ensures rest { IsSoundOn D.Device self.old.engine.pager → result ≢ Ok true
             → view_of D.Device self.new ≡ view_of D.Device self.old }
         ensures same { IsSoundOn D.Device self.old.engine.pager
             → SameAt (keys_of D.Device self.old.engine.pager)
@@ -216,10 +216,11 @@ impl<D: Device> Volume<D> {
             IsFlushFault D.Device fault command.now self.old) }
         ensures enough { result ≡ Ok false
             → (table_of self.new.engine.pager).size ≤ waiting_limit command.now }
-        ensures writes { WritesNothing D.Device self.old self.new }
-        ensures cause { HasReadCause D.Device self.old self.new result }
+        ensures writes { ReplaysEarly D.Device self.old self.new result }
+        ensures cause { HasReplayCause D.Device self.old self.new result }
         ensures count_stays { count_of self.new ≡ count_of self.old }
     {
+        self.spill()?;
         let flushed = self.engine.flush(command);
         self.engine.sound_nodes_are_undamaged();
         Ok(flushed?)

@@ -1,19 +1,21 @@
-//! Checkpoints that the calls of a volume make.
+//! Checkpoints that the calls of a volume make, and nodes that they write early.
 
-ghost use Rattle.std.specs.Prelude.{◌≡◌, ◌≤◌, ℕ, true, false, None, IfErr, OnOk, OnErr};
+ghost use Rattle.std.specs.Prelude.{◌≡◌, ◌≤◌, ◌⊎◌, ℕ, true, false, None, IfErr, OnOk, OnErr};
 ghost use Rattle.bd_model.specs.Tree.{Tree};
 ghost use Rattle.bd_device.specs.Device.{left_now};
 ghost use Rattle.bd_device.specs.Moments.{IsOnly};
 ghost use Rattle.bd_checkpoint.specs.Kept.{AllStandFor};
 ghost use Rattle.bd_view.specs.Views.{changed_count, free_slots, save_slots};
 ghost use Rattle.bd_view.specs.Moves.{Saves, CannotSave};
-ghost use Rattle.bd_engine.specs.Engines.{IsSoundOn, IsBegunAnew};
+ghost use Rattle.bd_pager.specs.Counting.{memory_of, IsFull};
+ghost use Rattle.bd_engine.specs.Engines.{memory_limit, IsSoundOn, IsBegunAnew, WritesEarly};
 ghost use Rattle.bd_volume.specs.Volume.{StandsFor, view_of, count_of, device_of, stop_of};
 ghost use Rattle.bd_volume.specs.Steps.{Ends, KeepsStanding, IsSaveFault};
 
 use super::Volume;
 use crate::fault::Fault;
 use bd_device::Device;
+use bd_io::Failed;
 
 impl<D: Device> Volume<D> {
     // Whether a checkpoint can make more slots free: something was changed since the last one, and
@@ -58,5 +60,27 @@ impl<D: Device> Volume<D> {
     {
         self.engine.save(self.count)?;
         Ok(())
+    }
+
+    // Writes changed nodes early where more than eight are in memory, while slots are free. It fails
+    // by `Device` alone, which stops the volume.
+    pub(crate) fn spill(&mut self) -> Result<(), Fault>
+        requires { stop_of self.old ≡ None }
+        ensures early { WritesEarly D.Device self.old.engine self.new.engine }
+        ensures few { OnOk result ((memory_of self.new.engine.pager ≤ memory_limit)
+            ⊎ IsFull self.new.engine.pager) }
+        ensures view { IsSoundOn D.Device self.old.engine.pager
+            → view_of D.Device self.new ≡ view_of D.Device self.old }
+        ensures sound { IsSoundOn D.Device self.old.engine.pager
+            → IsSoundOn D.Device self.new.engine.pager }
+        ensures keeps { KeepsStanding D.Device self.old self.new }
+        ensures kind { IfErr result (λ fault. fault ≡ Fault.Device) }
+        ensures ends { Ends D.Device self.old self.new result }
+        ensures count_stays { count_of self.new ≡ count_of self.old }
+    {
+        match self.engine.spill() {
+            Ok(()) => Ok(()),
+            Err(Failed) => Err(Fault::Device),
+        }
     }
 }

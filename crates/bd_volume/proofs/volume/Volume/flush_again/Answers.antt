@@ -5,17 +5,18 @@ use Rattle.std.proofs.lemmas.Result.{err_from_is_err_and}
 use Rattle.bd_limits.specs.Limits.{flush_limit}
 use Rattle.bd_view.specs.Trees.{waiting_limit}
 use Rattle.bd_volume.specs.Volume.{view_of}
-use Rattle.bd_volume.proofs.Replayed.{flushed_none, flushed_more, flushed_last, has_flushed, flushes_fail, all_flushed, writes_then, cause_then, cause_ok, cause_worn}
+use Rattle.bd_volume.proofs.Early.{early_goes, early_fails, goes_ok, goes_both}
+use Rattle.bd_volume.proofs.Replayed.{flushed_none, flushed_more, flushed_last, has_flushed, flushes_fail, all_flushed, cause_then, cause_ok, cause_worn}
 use Rattle.bd_volume.proofs.volume.Volume.flush_again.Goals as goal
 
 pub loop-made-init : goal.loop-made-init
-loop-made-init g c = flushed_none g.D.Device c.args.command.now c.args.self.now
+loop-made-init g c = flushed_none g.D.Device c.args.command.now c.args.self.now c.requires.going
 
 pub loop-made-preserved : goal.loop-made-preserved
 loop-made-preserved g c =
     let h = c.in_ok-flush_once.ensures in
     flushed_more g.D.Device c.args.command.now c.loop-made._made c.args.self.now c.loop-made.self c.flush_once.new.self c.loop-made.invariant h.sound h.same
-    (λ s. h.flushed s (ap Ok c.if-not-branch.false)) h.writes h.cause.kept h.count_stays
+    (λ s. h.flushed s (ap Ok c.if-not-branch.false)) (goes_ok g.D.Device c.loop-made.self c.flush_once.new.self _ h.writes) h.cause.kept h.count_stays
 
 pub returns-in_err-flush_once-clause-fails : goal.returns-in_err-flush_once-clause-fails
 returns-in_err-flush_once-clause-fails g c =
@@ -31,7 +32,8 @@ returns-in_err-flush_once-clause-same g c = λ s.
 
 pub returns-in_err-flush_once-clause-writes : goal.returns-in_err-flush_once-clause-writes
 returns-in_err-flush_once-clause-writes g c =
-    writes_then g.D.Device c.args.self.now c.loop-made.self c.flush_once.new.self c.loop-made.invariant.writes c.in_err-flush_once.ensures.writes
+    let p = err_from_is_err_and c.from_residual.result c.from_residual.ensures.1 in
+    rw (p.1, p.2) (early_fails g.D.Device c.args.self.now c.loop-made.self c.flush_once.new.self c.in_err-flush_once.field-0.0 c.loop-made.invariant.goes c.in_err-flush_once.ensures.writes)
 
 pub returns-in_err-flush_once-clause-cause : goal.returns-in_err-flush_once-clause-cause
 returns-in_err-flush_once-clause-cause g c =
@@ -44,7 +46,7 @@ returns-then-not-branch-clause-flushed g c = λ s.
     let i = c.loop-made.invariant in
     let h = c.in_ok-flush_once.ensures in
     let off = c.if-not-branch.true in
-    let last = flushed_last g.D.Device c.args.command.now c.loop-made._made c.args.self.now c.loop-made.self c.flush_once.new.self i h.sound h.same (h.rest (λ e. cc)) h.writes h.cause.kept h.count_stays in
+    let last = flushed_last g.D.Device c.args.command.now c.loop-made._made c.args.self.now c.loop-made.self c.flush_once.new.self i h.sound h.same (λ k. h.rest k (λ e. cc)) (goes_ok g.D.Device c.loop-made.self c.flush_once.new.self _ h.writes) h.cause.kept h.count_stays in
     has_flushed g.D.Device c.args.command.now c.loop-made._made c.args.self.now c.flush_once.new.self last (omega (arith, c.loop-made-test.true)) s
 
 pub returns-then-not-branch-clause-same : goal.returns-then-not-branch-clause-same
@@ -52,11 +54,11 @@ returns-then-not-branch-clause-same g c = λ s.
     let i = c.loop-made.invariant in
     let h = c.in_ok-flush_once.ensures in
     let off = c.if-not-branch.true in
-    (flushed_last g.D.Device c.args.command.now c.loop-made._made c.args.self.now c.loop-made.self c.flush_once.new.self i h.sound h.same (h.rest (λ e. cc)) h.writes h.cause.kept h.count_stays).same s
+    (flushed_last g.D.Device c.args.command.now c.loop-made._made c.args.self.now c.loop-made.self c.flush_once.new.self i h.sound h.same (λ k. h.rest k (λ e. cc)) (goes_ok g.D.Device c.loop-made.self c.flush_once.new.self _ h.writes) h.cause.kept h.count_stays).same s
 
 pub returns-then-not-branch-clause-writes : goal.returns-then-not-branch-clause-writes
 returns-then-not-branch-clause-writes g c =
-    writes_then g.D.Device c.args.self.now c.loop-made.self c.flush_once.new.self c.loop-made.invariant.writes c.in_ok-flush_once.ensures.writes
+    early_goes g.D.Device c.args.self.now c.flush_once.new.self _ (goes_both g.D.Device c.args.self.now c.loop-made.self c.flush_once.new.self c.loop-made.invariant.goes (goes_ok g.D.Device c.loop-made.self c.flush_once.new.self _ c.in_ok-flush_once.ensures.writes))
 
 pub returns-then-not-branch-clause-cause : goal.returns-then-not-branch-clause-cause
 returns-then-not-branch-clause-cause g c =
@@ -80,3 +82,10 @@ returns-then-root_size-waiting_limit-clause-cause g c = cause_ok g.D.Device c.ar
 
 pub returns-clause-cause : goal.returns-clause-cause
 returns-clause-cause g c = cause_worn g.D.Device c.args.self.now c.loop-made.self _ c.loop-made.invariant.faults
+
+pub returns-then-root_size-waiting_limit-clause-writes :
+    goal.returns-then-root_size-waiting_limit-clause-writes
+returns-then-root_size-waiting_limit-clause-writes g c = early_goes g.D.Device c.args.self.now c.loop-made.self _ c.loop-made.invariant.goes
+
+pub returns-clause-writes : goal.returns-clause-writes
+returns-clause-writes g c = early_goes g.D.Device c.args.self.now c.loop-made.self _ c.loop-made.invariant.goes

@@ -6,7 +6,8 @@ use Rattle.bd_pager.specs.Pagers.{table_of}
 use Rattle.bd_engine.specs.Engines.{keys_of}
 use Rattle.bd_volume.specs.declared.volume.Volume.{Volume}
 use Rattle.bd_volume.specs.Volume.{view_of}
-use Rattle.bd_volume.proofs.Replayed.{nodes_write, writes_then, cause_map, cause_ok, cause_then, graft_fails, sends_again}
+use Rattle.bd_volume.proofs.Early.{early_goes, goes_ok, goes_both, goes_nodes}
+use Rattle.bd_volume.proofs.Replayed.{cause_map, cause_ok, cause_then, graft_fails, sends_again}
 use Rattle.bd_volume.proofs.Sent.{grafted_over}
 use Rattle.bd_volume.proofs.volume.Volume.graft_again.Goals as goal
 
@@ -24,7 +25,8 @@ pub returns-in_err-grafted-clause-writes : goal.returns-in_err-grafted-clause-wr
 returns-in_err-grafted-clause-writes g c =
     let a : Volume g.row.D.Denot = c.flush_again.new.self in
     let b : Volume g.row.D.Denot = record a { engine = c.graft-grafted.new.self } in
-    writes_then g.D.Device c.args.self.now a b c.in_ok-flush_again.ensures.writes (nodes_write g.D.Device a b c.in_err-grafted.ensures.only)
+    let first = goes_ok g.D.Device c.args.self.now a _ c.in_ok-flush_again.ensures.writes in
+    early_goes g.D.Device c.args.self.now b _ (goes_both g.D.Device c.args.self.now a b first (goes_nodes g.D.Device a b (g.met.D.Device.since_earlier b.engine.pager.dev) first.going.stop_is c.in_err-grafted.ensures.only))
 
 pub returns-in_err-grafted-clause-cause : goal.returns-in_err-grafted-clause-cause
 returns-in_err-grafted-clause-cause g c =
@@ -50,7 +52,8 @@ pub returns-clause-writes : goal.returns-clause-writes
 returns-clause-writes g c =
     let a : Volume g.row.D.Denot = c.flush_again.new.self in
     let b : Volume g.row.D.Denot = record a { engine = c.graft-grafted.new.self } in
-    writes_then g.D.Device c.args.self.now a b c.in_ok-flush_again.ensures.writes (nodes_write g.D.Device a b c.in_ok-grafted.ensures.only)
+    let first = goes_ok g.D.Device c.args.self.now a _ c.in_ok-flush_again.ensures.writes in
+    early_goes g.D.Device c.args.self.now b _ (goes_both g.D.Device c.args.self.now a b first (goes_nodes g.D.Device a b (g.met.D.Device.since_earlier b.engine.pager.dev) first.going.stop_is c.in_ok-grafted.ensures.only))
 
 pub returns-clause-cause : goal.returns-clause-cause
 returns-clause-cause g c =

@@ -8,15 +8,16 @@ use Rattle.bd_node.specs.Tables.{root_at}
 use Rattle.bd_view.specs.Views.{View}
 use Rattle.bd_volume.specs.declared.volume.Volume.{Volume}
 use Rattle.bd_volume.specs.Volume.{view_of}
+use Rattle.bd_volume.proofs.Early.{early_goes, early_fails, goes_none, goes_ok, goes_both, goes_counted, goes_read}
 use Rattle.bd_volume.proofs.Read.{read_sound}
-use Rattle.bd_volume.proofs.Replayed.{writes_none, writes_then, reads_write, cause_worn, cause_map, cause_ok, cause_then, count_again, plan_fails, replay_fails, read_has, replays_read}
+use Rattle.bd_volume.proofs.Replayed.{cause_worn, cause_map, cause_ok, cause_then, count_again, plan_fails, replay_fails, read_has, replays_read}
 use Rattle.bd_volume.proofs.volume.Volume.replay_one.Goals as goal
 
 pub returns-then-self-clause-fails : goal.returns-then-self-clause-fails
 returns-then-self-clause-fails g c = λ s. count_again g.D.Device c.args.self.now.count c.args.placed.now.command (view_of g.D.Device c.args.self.now) (omega arith)
 
 pub returns-then-self-clause-writes : goal.returns-then-self-clause-writes
-returns-then-self-clause-writes g c = writes_none g.D.Device c.args.self.now
+returns-then-self-clause-writes g c = early_goes g.D.Device c.args.self.now c.args.self.now _ (goes_none g.D.Device c.args.self.now c.requires.going)
 
 pub returns-then-self-clause-cause : goal.returns-then-self-clause-cause
 returns-then-self-clause-cause g c = cause_worn g.D.Device c.args.self.now c.args.self.now _ refl
@@ -32,7 +33,8 @@ returns-in_err-plan-clause-fails g c =
 pub returns-in_err-plan-clause-writes : goal.returns-in_err-plan-clause-writes
 returns-in_err-plan-clause-writes g c =
     let a : Volume g.row.D.Denot = c.args.self.now in
-    reads_write g.D.Device a (record a { engine = c.plan-planned.new.self }) c.in_err-plan.ensures.read
+    let b : Volume g.row.D.Denot = record a { engine = c.plan-planned.new.self } in
+    early_goes g.D.Device a b _ (goes_read g.D.Device a b (g.met.D.Device.since_earlier b.engine.pager.dev) c.requires.going c.in_err-plan.ensures.read)
 
 pub returns-in_err-plan-clause-cause : goal.returns-in_err-plan-clause-cause
 returns-in_err-plan-clause-cause g c =
@@ -52,7 +54,8 @@ pub returns-in_err-send_planned-clause-writes : goal.returns-in_err-send_planned
 returns-in_err-send_planned-clause-writes g c =
     let a : Volume g.row.D.Denot = c.args.self.now in
     let b : Volume g.row.D.Denot = record a { engine = c.plan-planned.new.self } in
-    writes_then g.D.Device a b c.send_planned.new.self (reads_write g.D.Device a b c.in_ok-plan.ensures.read) c.in_err-send_planned.ensures.writes
+    let p = err_from_is_err_and c.from_residual-in_err-send_planned.result c.from_residual-in_err-send_planned.ensures.1 in
+    rw (p.1, p.2) (early_fails g.D.Device a b c.send_planned.new.self c.in_err-send_planned.field-0.0 (goes_read g.D.Device a b (g.met.D.Device.since_earlier b.engine.pager.dev) c.requires.going c.in_ok-plan.ensures.read) c.in_err-send_planned.ensures.writes)
 
 pub returns-in_err-send_planned-clause-cause : goal.returns-in_err-send_planned-clause-cause
 returns-in_err-send_planned-clause-cause g c =
@@ -79,9 +82,9 @@ pub returns-clause-writes : goal.returns-clause-writes
 returns-clause-writes g c =
     let a : Volume g.row.D.Denot = c.args.self.now in
     let b : Volume g.row.D.Denot = record a { engine = c.plan-planned.new.self } in
-    let w = c.in_ok-send_planned.ensures.writes in
-    writes_then g.D.Device a b (record c.send_planned.new.self { count = c.send_planned.new.self.count + 1 }) (reads_write g.D.Device a b c.in_ok-plan.ensures.read)
-    (record { reads = w.reads; log = w.log; live = w.live; stop_is = w.stop_is })
+    let d : Volume g.row.D.Denot = c.send_planned.new.self in
+    let read = goes_read g.D.Device a b (g.met.D.Device.since_earlier b.engine.pager.dev) c.requires.going c.in_ok-plan.ensures.read in
+    early_goes g.D.Device a (record d { count = d.count + 1 }) _ (goes_counted g.D.Device a d (d.count + 1) (goes_both g.D.Device a b d read (goes_ok g.D.Device b d _ c.in_ok-send_planned.ensures.writes)))
 
 pub returns-clause-cause : goal.returns-clause-cause
 returns-clause-cause g c =

@@ -1,14 +1,15 @@
 -- What is planned for a command of the log gives its step.
 use Rattle.std.proofs.Common.{refl, inl, ap}
 use Rattle.bd_effects.specs.Carrying.{accepts}
-use Rattle.bd_volume.proofs.Replayed.{writes_none, cause_damaged, sends_fail, replays_messages, replays_graft}
+use Rattle.bd_volume.proofs.Early.{early_goes, goes_none}
+use Rattle.bd_volume.proofs.Replayed.{cause_damaged, sends_fail, replays_messages, replays_graft}
 use Rattle.bd_volume.proofs.volume.Volume.send_planned.Goals as goal
 
 pub returns-in-Refused-clause-fails : goal.returns-in-Refused-clause-fails
 returns-in-Refused-clause-fails g c = inl (refl, ap accepts c.in-Refused.is)
 
 pub returns-in-Refused-clause-writes : goal.returns-in-Refused-clause-writes
-returns-in-Refused-clause-writes g c = writes_none g.D.Device c.args.self.now
+returns-in-Refused-clause-writes g c = early_goes g.D.Device c.args.self.now c.args.self.now _ (goes_none g.D.Device c.args.self.now c.requires.going)
 
 pub returns-in-Refused-clause-cause : goal.returns-in-Refused-clause-cause
 returns-in-Refused-clause-cause g c = cause_damaged g.D.Device c.args.self.now c.args.self.now _ refl

@@ -1,21 +1,22 @@
 -- A volume starts from what is found, and replays it.
-use Rattle.std.proofs.Common.{length, List, [], ℕ, sym, subst, ap, ◌∙◌}
+use Rattle.std.proofs.Common.{◌<◌, length, List, [], ℕ, sym, subst, ap, ◌∙◌}
 use Rattle.std.specs.List.{concat}
 use Rattle.std.proofs.lemmas.Result.{err_from_is_err_and}
-use Rattle.std.specs.Prelude.{IfSome}
+use Rattle.std.specs.Prelude.{IfSome, IsSomeAnd}
 use Rattle.bd_model.specs.Tree.{Tree}
-use Rattle.bd_device.proofs.Calls.{reads_then}
-use Rattle.bd_device.specs.Device.{OnlyReads}
+use Rattle.bd_device.specs.Changes.{StaysBut}
 use Rattle.bd_image.specs.ImageTree.{ImageStandsFor}
 use Rattle.bd_log.specs.Logs.{LogState}
+use Rattle.bd_pager.specs.Slots.{IsSpare}
 use Rattle.bd_checkpoint.specs.declared.commands.PlacedCommand.{PlacedCommand}
-use Rattle.bd_checkpoint.specs.Recovering.{OnlySettles, HasSettled}
-use Rattle.bd_checkpoint.proofs.Causes.{reads_settle, settled_then}
+use Rattle.bd_checkpoint.specs.Recovering.{FailsFirst}
 use Rattle.bd_volume.specs.declared.volume.Volume.{Volume}
 use Rattle.bd_volume.specs.Faults.{IsStartCause}
 use Rattle.bd_volume.specs.Replays.{ReplaysFront, StopsReplaying}
+use Rattle.bd_volume.specs.Starts.{OnlyStarts, HasStarted}
 use Rattle.bd_volume.specs.Volume.{StandsFor, IsFirstView, view_of, device_of, stop_of}
 use Rattle.bd_volume.proofs.Started.{open_cause, unworn, started_for, without_walk_stands, first_views, replay_cause, replay_undamaged, replay_wears}
+use Rattle.bd_volume.proofs.Starts.{settles_start, settled_starts, slots_started, replays_start, replays_started}
 use Rattle.bd_volume.proofs.volume.Volume.start.Goals as goal
 
 pub returns-in_err-engine-clause-cause : goal.returns-in_err-engine-clause-cause
@@ -29,13 +30,24 @@ returns-in_err-engine-clause-wears g c = λ t n.
     let p = err_from_is_err_and c.from_residual.result c.from_residual.ensures.1 in
     rw p.1 (unworn (g.D.Device.contents c.args.device) c.in_err-engine.field-0.0.fault p.0.fault p.2.0 t n)
 
+pub returns-in_err-engine-clause-left : goal.returns-in_err-engine-clause-left
+returns-in_err-engine-clause-left g c =
+    let p = err_from_is_err_and c.from_residual.result c.from_residual.ensures.1 in
+    rw p.1 (subst (λ (d : g.row.D.Denot). OnlyStarts g.D.Device c.args.device d) (sym p.2.1) (settles_start g.D.Device c.args.device c.in_err-engine.field-0.0.device c.in_err-engine.ensures.left))
+
+pub returns-in_err-engine-clause-starts : goal.returns-in_err-engine-clause-starts
+returns-in_err-engine-clause-starts g c =
+    let p = err_from_is_err_and c.from_residual.result c.from_residual.ensures.1 in
+    let Starts : g.row.D.Denot → Type 0 = λ d. 0 < g.D.Device.block_count c.args.device → ¬ FailsFirst g.D.Device c.args.device d → (t : Tree) (n : ℕ) → IsSomeAnd (g.D.Device.contents c.args.device) (ImageStandsFor t n) → HasStarted g.D.Device c.args.device d t n in
+    rw p.1 (subst Starts (sym p.2.1) (λ some calm t n stands. settled_starts g.D.Device c.args.device c.in_err-engine.field-0.0.device t n (c.in_err-engine.ensures.settles some calm) stands))
+
 pub returns-in-Ok-clause-stands : goal.returns-in-Ok-clause-stands
 returns-in-Ok-clause-stands g c = λ t n h.
     let e = c.in_ok-engine.ensures in
     let a : Volume g.row.D.Denot = record { engine = c.in_ok-engine.field-0.engine; count = c.saved_count-count.result } in
     let k = c.in-Ok.ensures in
     subst (λ (w : Volume g.row.D.Denot). StandsFor g.D.Device w t n) (sym c.forget_walk.ensures)
-    (without_walk_stands g.D.Device c.replay.new.self t n (started_for g.D.Device c.args.device a c.replay.new.self c.in_ok-engine.field-0.commands.items t n (g.met.D.Device.since_earlier c.replay.new.self.engine.pager.dev) c.saved_count-count.ensures e.idle e.reads e.only k.writes (subst (λ (l : List PlacedCommand). ReplaysFront g.D.Device l [] a c.replay.new.self) c.deref.ensures.value k.replays) (e.replay t n h) h))
+    (without_walk_stands g.D.Device c.replay.new.self t n (started_for g.D.Device c.args.device a c.replay.new.self _ c.in_ok-engine.field-0.commands.items t n c.saved_count-count.ensures e.idle e.reads e.only k.writes (subst (λ (l : List PlacedCommand). ReplaysFront g.D.Device l [] a c.replay.new.self) c.deref.ensures.value k.replays) (e.replay t n h) h))
 
 pub returns-in-Ok-clause-first : goal.returns-in-Ok-clause-first
 returns-in-Ok-clause-first g c =
@@ -45,26 +57,40 @@ returns-in-Ok-clause-first g c =
     (first_views g.D.Device (g.D.Device.contents c.args.device) a c.replay.new.self c.in_ok-engine.field-0.commands.items (subst (λ (l : List PlacedCommand). ReplaysFront g.D.Device l [] a c.replay.new.self) c.deref.ensures.value c.in-Ok.ensures.replays) e.replay e.first)
 
 pub returns-in-Ok-clause-going : goal.returns-in-Ok-clause-going
-returns-in-Ok-clause-going g c = ap (λ (w : Volume g.row.D.Denot). stop_of w) c.forget_walk.ensures ∙ c.in-Ok.ensures.writes.stop_is ∙ c.in_ok-engine.ensures.going
+returns-in-Ok-clause-going g c = ap (λ (w : Volume g.row.D.Denot). stop_of w) c.forget_walk.ensures ∙ c.in-Ok.ensures.writes.stop.ok.stop_is
 
 pub returns-in-Ok-clause-idle : goal.returns-in-Ok-clause-idle
 returns-in-Ok-clause-idle g c =
     ap (λ (w : Volume g.row.D.Denot). length (concat w.engine.log.waiting)) c.forget_walk.ensures
-    ∙ ap (λ (l : LogState). length (concat l.waiting)) c.in-Ok.ensures.writes.log ∙ ap (λ (w : List (List ℕ)). length (concat w)) c.in_ok-engine.ensures.idle
+    ∙ ap (λ (l : LogState). length (concat l.waiting)) c.in-Ok.ensures.writes.early.log ∙ ap (λ (w : List (List ℕ)). length (concat w)) c.in_ok-engine.ensures.idle
 
-pub returns-in-Ok-clause-settled : goal.returns-in-Ok-clause-settled
-returns-in-Ok-clause-settled g c =
-    subst (λ (w : Volume g.row.D.Denot). HasSettled g.D.Device c.args.device (device_of w)) (sym c.forget_walk.ensures)
-    (settled_then g.D.Device c.args.device c.in_ok-engine.field-0.engine.pager.dev c.replay.new.self.engine.pager.dev c.in_ok-engine.ensures.settled c.in-Ok.ensures.writes.reads)
+pub returns-in-Ok-clause-started : goal.returns-in-Ok-clause-started
+returns-in-Ok-clause-started g c = λ t n stands.
+    let e = c.in_ok-engine.ensures in
+    let a : Volume g.row.D.Denot = record { engine = c.in_ok-engine.field-0.engine; count = c.saved_count-count.result } in
+    subst (λ (w : Volume g.row.D.Denot). HasStarted g.D.Device c.args.device (device_of w) t n) (sym c.forget_walk.ensures)
+    (replays_started g.D.Device c.args.device a c.replay.new.self _ t n e.reads e.only e.settled c.in-Ok.ensures.writes stands)
 
-pub returns-in-Ok-clause-reads : goal.returns-in-Ok-clause-reads
-returns-in-Ok-clause-reads g c =
-    subst (λ (w : Volume g.row.D.Denot). OnlyReads g.D.Device c.args.device (device_of w)) (sym c.forget_walk.ensures)
-    (reads_then c.in_ok-engine.ensures.reads c.in-Ok.ensures.writes.reads)
+pub returns-in-Ok-clause-only : goal.returns-in-Ok-clause-only
+returns-in-Ok-clause-only g c =
+    let e = c.in_ok-engine.ensures in
+    let a : Volume g.row.D.Denot = record { engine = c.in_ok-engine.field-0.engine; count = c.saved_count-count.result } in
+    subst (λ (w : Volume g.row.D.Denot). OnlyStarts g.D.Device c.args.device (device_of w)) (sym c.forget_walk.ensures)
+    (replays_start g.D.Device c.args.device a c.replay.new.self _ e.reads e.only c.in-Ok.ensures.writes)
+
+pub returns-in-Ok-clause-slots : goal.returns-in-Ok-clause-slots
+returns-in-Ok-clause-slots g c =
+    let a : Volume g.row.D.Denot = record { engine = c.in_ok-engine.field-0.engine; count = c.saved_count-count.result } in
+    subst (λ (w : Volume g.row.D.Denot). StaysBut (IsSpare w.engine.pager.spare) (g.D.Device.contents c.args.device) (g.D.Device.contents (device_of w))) (sym c.forget_walk.ensures)
+    (slots_started g.D.Device c.args.device a c.replay.new.self _ c.in_ok-engine.ensures.reads c.in-Ok.ensures.writes)
 
 pub returns-in-Ok-clause-faults : goal.returns-in-Ok-clause-faults
 returns-in-Ok-clause-faults g c =
     ap (λ (w : Volume g.row.D.Denot). g.D.Device.fault_count (device_of w)) c.forget_walk.ensures ∙ c.in-Ok.ensures.cause.kept ∙ c.in_ok-engine.ensures.faults
+
+pub returns-in-Ok-clause-write_faults : goal.returns-in-Ok-clause-write_faults
+returns-in-Ok-clause-write_faults g c =
+    ap (λ (w : Volume g.row.D.Denot). g.D.Device.write_fault_count (device_of w)) c.forget_walk.ensures ∙ c.in-Ok.ensures.writes.stop.ok.write_faults ∙ c.in_ok-engine.ensures.reads.write_faults
 
 pub returns-clause-cause : goal.returns-clause-cause
 returns-clause-cause g c =
@@ -87,10 +113,14 @@ returns-clause-wears g c = λ t n.
 
 pub returns-clause-left : goal.returns-clause-left
 returns-clause-left g c =
-    subst (λ (d : g.row.D.Denot). OnlySettles g.D.Device c.args.device d) (sym c.into_device.ensures)
-    (reads_settle g.D.Device c.args.device c.replay.new.self.engine.pager.dev (reads_then c.in_ok-engine.ensures.reads c.in-Err.ensures.writes.reads))
+    let e = c.in_ok-engine.ensures in
+    let a : Volume g.row.D.Denot = record { engine = c.in_ok-engine.field-0.engine; count = c.saved_count-count.result } in
+    subst (λ (d : g.row.D.Denot). OnlyStarts g.D.Device c.args.device d) (sym c.into_device.ensures)
+    (replays_start g.D.Device c.args.device a c.replay.new.self _ e.reads e.only c.in-Err.ensures.writes)
 
-pub returns-clause-settles : goal.returns-clause-settles
-returns-clause-settles g c = λ some calm.
-    subst (λ (d : g.row.D.Denot). HasSettled g.D.Device c.args.device d) (sym c.into_device.ensures)
-    (settled_then g.D.Device c.args.device c.in_ok-engine.field-0.engine.pager.dev c.replay.new.self.engine.pager.dev c.in_ok-engine.ensures.settled c.in-Err.ensures.writes.reads)
+pub returns-clause-starts : goal.returns-clause-starts
+returns-clause-starts g c = λ some calm t n stands.
+    let e = c.in_ok-engine.ensures in
+    let a : Volume g.row.D.Denot = record { engine = c.in_ok-engine.field-0.engine; count = c.saved_count-count.result } in
+    subst (λ (d : g.row.D.Denot). HasStarted g.D.Device c.args.device d t n) (sym c.into_device.ensures)
+    (replays_started g.D.Device c.args.device a c.replay.new.self _ t n e.reads e.only e.settled c.in-Err.ensures.writes stands)

@@ -1,0 +1,87 @@
+-- What a start leaves of its device.
+use Rattle.std.proofs.Common.{◌≡◌, ℕ, ◌+◌, ◌≤◌, List, Bool, Option, refl, sym, subst, ap, ◌∙◌, inl, inr, arith}
+use Rattle.std.specs.Prelude.{◌⊎◌, IsSomeAnd, Result, Ok, Err}
+use Rattle.bd_limits.specs.Limits.{first_slot_block}
+use Rattle.bd_io.specs.Cause.{next_count}
+use Rattle.bd_model.specs.Tree.{Tree}
+use Rattle.bd_device.specs.Blocks.{Image}
+use Rattle.bd_device.specs.Changes.{StaysBut}
+use Rattle.bd_device.specs.Device.{left_now, OnlyReads}
+use Rattle.bd_device.specs.Moments.{Nothing, IsOnly}
+use Rattle.bd_device.specs.declared.device.Device.{Ghosts}
+use Rattle.bd_device.proofs.Calls.{stays_then, reads_stay}
+use Rattle.bd_device.proofs.Changes.{stays_same, stays_wider}
+use Rattle.bd_device.proofs.Moments.{goes_on, within}
+use Rattle.bd_image.specs.ImageTree.{ImageStandsFor}
+use Rattle.bd_image.specs.Standing.{IsAsBefore}
+use Rattle.bd_checkpoint.specs.Kept.{AllStandFor}
+use Rattle.bd_checkpoint.specs.Recovering.{OnlySettles, HasSettled}
+use Rattle.bd_pager.specs.Slots.{IsSpare}
+use Rattle.bd_volume.specs.declared.fault.Fault.{Fault}
+use Rattle.bd_volume.specs.declared.volume.Volume.{Volume}
+use Rattle.bd_volume.specs.Faults.{IsStoppedRightly}
+use Rattle.bd_volume.specs.Replays.{ReplaysEarly}
+use Rattle.bd_volume.specs.Starts.{OnlyStarts, HasStarted}
+use Rattle.bd_volume.specs.Volume.{device_of}
+
+-- the block is one of the slots
+abbrev IsInSlots : ℕ → Type 0
+IsInSlots b = first_slot_block ≤ b
+
+-- what reads give stands for a tree, and so does each image that is just that
+only_stands : (known now : Option Image) (left : Image → Type 0) (t : Tree) (n : ℕ) → now ≡ known → IsOnly now left → IsSomeAnd known (ImageStandsFor t n) → AllStandFor t n left
+only_stands known now left t n same only h = λ c was. subst (λ (o : Option Image). IsSomeAnd o (ImageStandsFor t n)) (sym same ∙ only c was) h
+
+-- and each that stands for all that one of those does
+pub as_stands : (known now : Option Image) (left : Image → Type 0) (t : Tree) (n : ℕ) → now ≡ known → IsOnly now left → IsSomeAnd known (ImageStandsFor t n) → (c : Image) → IsAsBefore left c → ImageStandsFor t n c
+as_stands known now left t n same only h c is = is.2 t n (only_stands known now left t n same only h is.0 is.1)
+
+module _ {D : Type 0} (g : Ghosts D) where
+  -- ---- where nothing is replayed
+
+  pub settles_start : (dev new : D) → OnlySettles g dev new → OnlyStarts g dev new
+  settles_start dev new h = record {
+    stays = h.stays;
+    before = subst (λ (o : Option Image). StaysBut IsInSlots (g.contents dev) o) (sym h.kept) (stays_same IsInSlots (g.contents dev));
+    time = λ t n stands. within Nothing (ImageStandsFor t n) h.time (λ c none. absurd none);
+    write_faults = h.write_faults;
+  }
+
+  pub settled_starts : (dev new : D) (t : Tree) (n : ℕ) → HasSettled g dev new → IsSomeAnd (g.contents dev) (ImageStandsFor t n) → HasStarted g dev new t n
+  settled_starts dev new t n h stands = record {
+    called = h.called;
+    each = only_stands (g.contents dev) (g.contents dev) (g.left_since new (g.call_count dev + 1)) t n refl h.only stands;
+  }
+
+  -- ---- after a replay
+
+  stop_faults : {T : Type 0} (a v : Volume D) (r : Result T Fault) → IsStoppedRightly g a v r
+      → (g.write_fault_count (device_of v) ≡ g.write_fault_count (device_of a)) ⊎ (g.write_fault_count (device_of v) ≡ next_count (g.write_fault_count (device_of a)))
+  stop_faults a v (Ok x) h = inl h.ok.write_faults
+  stop_faults a v (Err e) h = elim h.err [ inl goes ↦ inl goes.write_faults | inr halts ↦ inr halts.0.write_faults ]
+
+  -- of the slots no more was written than the last checkpoint leaves
+  slots_start : {T : Type 0} (dev : D) (a v : Volume D) (r : Result T Fault) → OnlyReads g dev (device_of a) → ReplaysEarly g a v r → StaysBut (IsSpare a.engine.pager.spare) (g.contents dev) (g.contents (device_of v))
+  slots_start dev a v r reads h = subst (λ (o : Option Image). StaysBut (IsSpare a.engine.pager.spare) o (g.contents (device_of v))) reads.kept h.early.slots
+
+  pub slots_started : {T : Type 0} (dev : D) (a v : Volume D) (r : Result T Fault) → OnlyReads g dev (device_of a) → ReplaysEarly g a v r → StaysBut (IsSpare v.engine.pager.spare) (g.contents dev) (g.contents (device_of v))
+  slots_started dev a v r reads h = subst (λ (s : List Bool). StaysBut (IsSpare s) (g.contents dev) (g.contents (device_of v))) (sym h.early.spare) (slots_start dev a v r reads h)
+
+  pub replays_start : {T : Type 0} (dev : D) (a v : Volume D) (r : Result T Fault) → OnlyReads g dev (device_of a) → IsOnly (g.contents (device_of a)) (left_now g (device_of a)) → ReplaysEarly g a v r → OnlyStarts g dev (device_of v)
+  replays_start dev a v r reads only h = record {
+    stays = stays_then (reads_stay reads) h.early.stays;
+    before = stays_wider (IsSpare a.engine.pager.spare) IsInSlots (g.contents dev) (g.contents (device_of v)) (λ b is. omega (arith, is.2.0)) (slots_start dev a v r reads h);
+    time = λ t n stands. goes_on (ImageStandsFor t n) (IsAsBefore (left_now g (device_of a))) (within Nothing (ImageStandsFor t n) reads.time (λ c none. absurd none)) h.early.time
+        (as_stands (g.contents dev) (g.contents (device_of a)) (left_now g (device_of a)) t n reads.kept only stands);
+    write_faults = elim (stop_faults a v r h.stop) [ inl same ↦ inl (same ∙ reads.write_faults) | inr one ↦ inr (one ∙ ap next_count reads.write_faults) ];
+  }
+
+  pub replays_started : {T : Type 0} (dev : D) (a v : Volume D) (r : Result T Fault) (t : Tree) (n : ℕ) → OnlyReads g dev (device_of a) → IsOnly (g.contents (device_of a)) (left_now g (device_of a)) → HasSettled g dev (device_of a) → ReplaysEarly g a v r
+      → IsSomeAnd (g.contents dev) (ImageStandsFor t n) → HasStarted g dev (device_of v) t n
+  replays_started dev a v r t n reads only settled h stands = record {
+    called = omega (arith, settled.called, h.early.time.later);
+    each = λ c was. elim (h.early.time.adds (g.call_count dev + 1) c settled.called was) [
+      | inl before ↦ (settled_starts dev (device_of a) t n settled stands).each c before
+      | inr like ↦ as_stands (g.contents dev) (g.contents (device_of a)) (left_now g (device_of a)) t n reads.kept only stands c like
+    ];
+  }
