@@ -2,3 +2,6 @@ pub mod CutLines
 pub mod WordLemmas
 pub mod ReadLemmas
 pub mod LineLaws
+pub mod GeneratedLemmas
+pub mod OneLine
+pub mod GeneratedShort

@@ -1,8 +1,9 @@
 -- The bytes of a reply, and which replies can be written.
-use Rattle.std.specs.Prelude.{ℕ, List, [], ◌∷◌, ◌++◌, ◌+◌, ◌/◌, ◌%◌, codes, if◌then◌else◌, ⊤}
-use Rattle.std.specs.List.{flat_map}
+use Rattle.std.specs.Prelude.{ℕ, List, [], ◌∷◌, ◌++◌, ◌+◌, ◌/◌, ◌%◌, codes, if◌then◌else◌, IsTrue, ⊤}
+use Rattle.std.specs.List.{All, flat_map}
 use Rattle.std.specs.Fmt.{decimal}
 use Rattle.hex.specs.Hex.{encode_lower}
+use Rattle.bd_names.specs.Names.{is_name}
 use Rattle.bd_command.specs.Command.{IsReply}
 use Rattle.bd_command.specs.declared.refusal.Refusal.{Refusal}
 use Rattle.bd_command.specs.declared.refusal.Refusal.TheVariants.{NotFound, Exists, NoParent, NotDir, IsDir, Inside, Root, TooBig, BadPath, BadLine}
@@ -103,3 +104,28 @@ IsLineReply Made = ⊤
 IsLineReply (Free free slots) = ⊤
 IsLineReply (Full free need) = ⊤
 IsLineReply Stopped = ⊤
+
+-- ---- replies of one line
+
+-- what a listing has of a name is one
+abbrev pub IsNamed : Listed → Type 0
+IsNamed l = IsTrue (is_name l.name)
+
+-- the names that a command's reply lists are names
+abbrev pub AreListed : Reply → Type 0
+AreListed Done = ⊤
+AreListed (Bytes bytes) = ⊤
+AreListed (Dir mode) = ⊤
+AreListed (File len mode) = ⊤
+AreListed (Names l) = All IsNamed l.names
+AreListed (Refused refusal) = ⊤
+
+-- so are those of the reply to a line
+abbrev pub ListsNames : LineReply → Type 0
+ListsNames (Command reply) = AreListed reply
+ListsNames (Unread refusal) = ⊤
+ListsNames (Walk visits height) = ⊤
+ListsNames Made = ⊤
+ListsNames (Free free slots) = ⊤
+ListsNames (Full free need) = ⊤
+ListsNames Stopped = ⊤

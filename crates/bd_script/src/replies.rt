@@ -1,11 +1,12 @@
 //! The bytes of a reply.
 
 ghost use Rattle.std.specs.Prelude.{◌≡◌, ◌+◌, ◌*◌, ◌≤◌, ◌++◌, length, take, decimal};
-ghost use Rattle.std.specs.List.{flat_map};
+ghost use Rattle.std.specs.List.{All, flat_map};
 ghost use Rattle.hex.specs.Hex.{encode_lower};
 ghost use Rattle.bd_command.specs.Command.{IsReply};
 ghost use Rattle.bd_command.specs.declared.reply.Reply.TheVariants as reply;
-ghost use Rattle.bd_script.specs.Replies.{IsLineReply, reply_text, reply_line, line_reply_text, line_reply_line, no_text, refusal_text, chunk_text, listed_text, listing_text, octal_digit, mode_text};
+ghost use Rattle.bd_script.specs.Lines.{HasNoNewline};
+ghost use Rattle.bd_script.specs.Replies.{IsLineReply, AreListed, IsNamed, ListsNames, reply_text, reply_line, line_reply_text, line_reply_line, no_text, refusal_text, chunk_text, listed_text, listing_text, octal_digit, mode_text};
 ghost use Rattle.bd_limits.specs.Limits.{listing_limit};
 
 use bd_command::{Listed, Listing, Refusal, Reply};
@@ -35,9 +36,10 @@ pub enum LineReply {
 }
 
 /// Writes the reply to a line, and its newline, at the front of `into`, and returns how many bytes
-/// they are.
+/// they are. The reply itself has no newline.
 pub fn line_reply(reply: &LineReply, into: &mut [u8; REPLY_SIZE]) -> usize
     requires { IsLineReply reply.now }
+    ensures one_line { HasNoNewline (line_reply_text reply.now) }
     ensures length { result ≡ length (line_reply_line reply.now) }
     ensures text { take result into.new ≡ line_reply_line reply.now }
     ensures bound { result ≤ REPLY_SIZE }
@@ -49,6 +51,7 @@ pub fn line_reply(reply: &LineReply, into: &mut [u8; REPLY_SIZE]) -> usize
 /// Writes the reply to a line at the front.
 fn put_line_reply(into: &mut [u8; REPLY_SIZE], reply: &LineReply) -> usize
     requires { IsLineReply reply.now }
+    ensures names { ListsNames reply.now }
     ensures text { take result into.new ≡ line_reply_text reply.now }
     ensures length { result ≡ length (line_reply_text reply.now) }
     ensures bound { result ≤ 32000 }
@@ -83,6 +86,7 @@ pub fn reply(reply: &Reply, into: &mut [u8; REPLY_SIZE]) -> usize
 /// Writes a reply at the front.
 fn put_reply(into: &mut [u8; REPLY_SIZE], reply: &Reply) -> usize
     requires { IsReply reply.now }
+    ensures names { AreListed reply.now }
     ensures text { take result into.new ≡ reply_text reply.now }
     ensures length { result ≡ length (reply_text reply.now) }
     ensures bound { result ≤ 32000 }
@@ -207,6 +211,7 @@ fn put_numbers(
 /// Writes a listing at the front.
 fn put_listing(into: &mut [u8; REPLY_SIZE], listing: &Listing) -> usize
     requires { length listing.now.names ≤ listing_limit }
+    ensures names { All IsNamed listing.now.names }
     ensures text { take result into.new ≡ listing_text listing.now }
     ensures length { result ≡ length (listing_text listing.now) }
     ensures bound { result ≤ 32000 }
@@ -223,6 +228,7 @@ fn put_listing(into: &mut [u8; REPLY_SIZE], listing: &Listing) -> usize
 /// Writes the names of a listing at a place, and returns the place after them.
 fn put_names(into: &mut [u8; REPLY_SIZE], at: usize, names: &[Listed]) -> usize
     requires room { at + 257 * length names.now ≤ REPLY_SIZE }
+    ensures names { All IsNamed names.now }
     ensures text { take result into.new ≡ take at into.old ++ flat_map listed_text names.now }
     ensures end { result ≡ at + length (flat_map listed_text names.now) }
     ensures bound { result ≤ at + 257 * length names.now }
@@ -237,6 +243,7 @@ fn put_names(into: &mut [u8; REPLY_SIZE], at: usize, names: &[Listed]) -> usize
 /// Writes a name of a listing at a place, and returns the place after it.
 fn put_listed(into: &mut [u8; REPLY_SIZE], at: usize, listed: &Listed) -> usize
     requires room { at + 257 ≤ REPLY_SIZE }
+    ensures name { IsNamed listed.now }
     ensures text { take result into.new ≡ take at into.old ++ listed_text listed.now }
     ensures end { result ≡ at + length (listed_text listed.now) }
     ensures bound { result ≤ at + 257 }
