@@ -1,0 +1,4 @@
+pub mod Walks
+pub mod Unread
+pub mod Tallies
+pub mod Short
