@@ -43,7 +43,7 @@ pub executes_one : (first last : State → Type 0) (l : LineMeaning) (a b : Opti
     → Executes first last (l ∷ []) a b
 executes_one first last l a b x = record {
   exchanges = record { line = l; said = x.said } ∷ [];
-  answered = (x.answer, tt);
+  answered = ((x.answer, x.one_line), tt);
   lines_are = refl;
   written = x.written ∙ ap (append_known a) (sym (append-nil (line_reply_line x.said)));
   runs = λ s h. transcript_one s l x.said last (x.replies s h);

@@ -323,7 +323,7 @@ fails_fed Sink first mid now begun piece rest x tail line a b c at cut fails =
     let last : Exchange = record { line = line_of (line ++ x); said = fails.said } in
     record {
       exchanges = at.ran.exchanges ++ last ∷ [];
-      answered = each_both IsAnswered at.ran.exchanges (last ∷ []) at.ran.answered (fails.answer, tt);
+      answered = each_both IsAnswered at.ran.exchanges (last ∷ []) at.ran.answered ((fails.answer, fails.one_line), tt);
       halts = (
         before.rest,
         before.lines_are ∙ sym (append_assoc (executed at.ran.exchanges) (line_of (line ++ x) ∷ []) before.rest)

@@ -1,9 +1,10 @@
 -- What a line leaves of the points that were passed.
-use Rattle.std.proofs.Common.{◌≡◌, ℕ, ◌+◌, ◌≤◌, Bool, true, false, cond, List, [], ◌∷◌, ◌++◌, refl, sym, subst, arith}
+use Rattle.std.proofs.Common.{◌≡◌, ℕ, ◌+◌, ◌≤◌, Bool, true, false, cond, List, [], ◌∷◌, ◌++◌, refl, sym, ap, subst, arith}
 use Rattle.std.specs.Prelude.{◌&&◌}
 use Rattle.std.specs.List.{Contains}
 use Rattle.std.specs.declared.option.Option.{Option}
 use Rattle.std.specs.declared.option.Option.TheVariants.{None, Some}
+use Rattle.std.specs.declared.result.Result.TheVariants.{Ok, Err}
 use Rattle.std.proofs.lemmas.List.Elements.{Contains-append_left, Contains-push}
 use Rattle.bd_command.specs.Command.{writes, is_done, accepted}
 use Rattle.bd_command.specs.declared.Command.{Command}
@@ -13,12 +14,20 @@ use Rattle.bd_model.specs.Tree.{Tree}
 use Rattle.bd_model.specs.Step.{step, stepped, refusal_of}
 use Rattle.bd_device.specs.Blocks.{Image}
 use Rattle.bd_device.specs.declared.device.Device.{Ghosts}
+use Rattle.bd_script.specs.Lines.{LineMeaning}
+use Rattle.bd_script.specs.declared.line.Line.TheVariants.{Run, Walk, Df, Sync, Checkpoint, Reclaim, Stop}
+use Rattle.bd_script.specs.declared.replies.LineReply.{LineReply}
+use Rattle.bd_script.specs.declared.replies.LineReply.TheVariants as reply
+use Rattle.bd_view.specs.Moves.{Saves}
+use Rattle.bd_view.specs.Reclaiming.{IsReclaim}
 use Rattle.bd_view.specs.Views.{View}
 use Rattle.bd_volume.specs.Volume.{GoesBy, device_of}
 use Rattle.bd_volume.specs.declared.volume.Volume.{Volume}
+use Rattle.betr.specs.declared.fault.Fault.{Fault}
 use Rattle.betr.specs.declared.outcome.Ack.{Ack}
-use Rattle.betr.specs.Transcript.{Point, point, State, with_view, state_of_step}
+use Rattle.betr.specs.Transcript.{Point, point, State, with_view, state_of_step, Entry, Answers, Serves, FillsCheckpoint, FillsReclaim, Follows, IsTranscript, state_after}
 use Rattle.betr.specs.Crashes.{IsSafeSince}
+use Rattle.betr.specs.Session.{closed}
 use Rattle.betr.proofs.Surviving.{safe_then, safe_more}
 
 -- ---- the points
@@ -72,3 +81,49 @@ module _ {D : Type 0} (g : Ghosts D) where
       (omega arith)
       (here_by b s.passed s.tree (step s.tree c).0 s.count (stays_by (refusal_of s.tree c) s.tree c) safe.here) refl
       (safe_then g first since (device_of v) (device_of w) acks s earlier time safe)
+
+-- ---- transcripts
+
+served_passed : (moves : View → View → Type 0) (fills : ℕ → ℕ → View → View → Type 0) (s after : State) (said : LineReply) → Serves moves fills s said after → after.passed ≡ s.passed
+served_passed moves fills s after (reply.Command r) h = absurd h
+served_passed moves fills s after (reply.Unread refusal) h = absurd h
+served_passed moves fills s after (reply.Walk visits height) h = absurd h
+served_passed moves fills s after reply.Done h = ap (λ (u : State). u.passed) h.1
+served_passed moves fills s after (reply.Free free slots) h = absurd h
+served_passed moves fills s after (reply.Full free need) h = ap (λ (u : State). u.passed) h.1
+served_passed moves fills s after reply.Stopped h = absurd h
+
+-- each point that was passed stays so
+still : (s after : State) (p : Point) → after.passed ≡ s.passed → Contains s.passed p → Contains after.passed p
+still s after p same was = subst (λ (ps : List Point). Contains ps p) (sym same) was
+
+answered_passed : (s : State) (c : Command) (said : LineReply) (after : State) → Answers s c said after → (p : Point) → Contains s.passed p → Contains after.passed p
+answered_passed s c (reply.Command r) after h p was =
+    subst (λ (ps : List Point). Contains ps p) (sym (ap (λ (u : State). u.passed) h.after_is))
+    (wider_by (writes c && is_done (step s.tree c).1) s.passed (point (step s.tree c).0 (s.count + accepted c (step s.tree c).1)) p was)
+answered_passed s c (reply.Unread refusal) after h p was = absurd h
+answered_passed s c (reply.Walk visits height) after h p was = absurd h
+answered_passed s c reply.Done after h p was = absurd h
+answered_passed s c (reply.Free free slots) after h p was = absurd h
+answered_passed s c (reply.Full free need) after h p was = still s after p (ap (λ (u : State). u.passed) h.after_is) was
+answered_passed s c reply.Stopped after h p was = absurd h
+
+followed_passed : (s : State) (l : LineMeaning) (said : LineReply) (after : State) → Follows s l said after → (p : Point) → Contains s.passed p → Contains after.passed p
+followed_passed s (Ok (Run c)) said after h p was = answered_passed s c said after h p was
+followed_passed s (Ok Walk) said after h p was = still s after p (ap (λ (u : State). u.passed) h.1) was
+followed_passed s (Ok Df) said after h p was = still s after p (ap (λ (u : State). u.passed) h.1) was
+followed_passed s (Ok Sync) said after h p was = still s after p (ap (λ (u : State). u.passed) h.1) was
+followed_passed s (Ok Checkpoint) said after h p was = still s after p (served_passed Saves FillsCheckpoint s after said h) was
+followed_passed s (Ok Reclaim) said after h p was = still s after p (served_passed IsReclaim FillsReclaim s after said h) was
+followed_passed s (Ok Stop) said after h p was = still s after p (ap (λ (u : State). u.passed) h.1) was
+followed_passed s (Err refusal) said after h p was = still s after p (ap (λ (u : State). u.passed) h.1) was
+
+transcript_passed : (s : State) (es : List Entry) → IsTranscript s es → (p : Point) → Contains s.passed p → Contains (state_after s es).passed p
+transcript_passed s [] h p was = was
+transcript_passed s (e ∷ es) h p was = transcript_passed e.state es h.1 p (followed_passed s e.line e.said e.state h.0.follows p was)
+
+-- also once all was made durable
+pub closed_passed : (end : Option Fault) (stopped : Bool) (s : State) (es : List Entry) → IsTranscript s es → (p : Point) → Contains s.passed p → Contains (closed end stopped (state_after s es)).passed p
+closed_passed None true s es h p was = transcript_passed s es h p was
+closed_passed None false s es h p was = transcript_passed s es h p was
+closed_passed (Some e) stopped s es h p was = transcript_passed s es h p was

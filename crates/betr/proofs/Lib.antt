@@ -13,4 +13,6 @@ pub mod Walks
 pub mod Left
 pub mod Moving
 pub mod Starts
-pub mod SlotWords
+pub mod NumberWords
+pub mod Fills
+pub mod WordLists

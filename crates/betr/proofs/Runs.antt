@@ -1,28 +1,30 @@
 -- How a whole run begins and ends.
 use Rattle.std.proofs.Common.{◌≡◌, ◌⊎◌, ◌≢◌, ◌↔◌, ℕ, ◌+◌, ◌^◌, ◌<◌, ◌≤◌, Bool, false, List, [], ◌∷◌, ◌++◌, length, refl, sym, ap, subst, ◌∙◌, arith, inl, inr, length-append}
 use Rattle.std.specs.Prelude.{map, is_err, IfSome, IsSomeAnd, OnOk}
-use Rattle.std.specs.List.{AllByRecursion, list_any}
+use Rattle.std.specs.List.{AllByRecursion, Contains, list_any}
 use Rattle.std.specs.declared.result.Result.{Result}
 use Rattle.std.specs.declared.result.Result.TheVariants.{Ok, Err}
 use Rattle.std.specs.declared.option.Option.{Option}
 use Rattle.std.specs.declared.option.Option.TheVariants.{None, Some}
 use Rattle.std.specs.Io.KnownBytes.{prepend_known}
 use Rattle.std.proofs.lemmas.Bool.{cases_lt}
+use Rattle.std.proofs.lemmas.List.Elements.{Contains-push}
 use Rattle.bd_limits.specs.Limits.{script_limit}
 use Rattle.bd_io.specs.Cause.{Rose, IsCounted, next_count}
 use Rattle.bd_io.specs.Takes.{Takes}
 use Rattle.bd_message.specs.declared.fault.Counter.{Counter}
 use Rattle.bd_model.specs.Tree.{Tree}
 use Rattle.bd_device.specs.Blocks.{Image, HasBlocks}
-use Rattle.bd_device.specs.Device.{left_now, Goes, OnlyReads}
+use Rattle.bd_device.specs.Device.{left_now, Goes}
 use Rattle.bd_device.specs.Moments.{Nothing, Elapses}
 use Rattle.bd_device.specs.declared.device.Device.{Ghosts}
 use Rattle.bd_device.proofs.Moments.{goes_on, within, by_name}
 use Rattle.bd_image.specs.ImageTree.{ImageStandsFor}
-use Rattle.bd_checkpoint.specs.Recovering.{OnlySettles}
+use Rattle.bd_checkpoint.specs.Kept.{AllStandFor}
 use Rattle.bd_view.specs.Views.{View, fresh_view}
 use Rattle.bd_engine.specs.Stored.{HasSaved}
 use Rattle.bd_script.specs.Lines.{is_stop, line_of, lines_of}
+use Rattle.bd_volume.specs.Starts.{OnlyStarts}
 use Rattle.bd_volume.specs.Volume.{IsFirstView}
 use Rattle.bd_volume.specs.Wears.{WearsReplaying}
 use Rattle.bd_volume.specs.declared.fault.Fault.{Fault as VolumeFault}
@@ -32,16 +34,17 @@ use Rattle.betr.specs.declared.fault.Fault.TheVariants.{Device, Damaged, Source,
 use Rattle.betr.specs.declared.outcome.Ack.{Ack}
 use Rattle.betr.specs.declared.shell.Shell.{Shell}
 use Rattle.betr.specs.Fault.{status_of, Faults, faults, IsStartFault, Caused, IsCaused}
-use Rattle.betr.specs.Transcript.{State, state_at, with_view, Exchange, Entry, IsTranscript, executed, exchanges_of, state_after, lines_to_run}
+use Rattle.betr.specs.Transcript.{State, point, state_at, with_view, Exchange, Entry, IsTranscript, executed, exchanges_of, state_after, lines_to_run}
 use Rattle.betr.specs.Crashes.{IsAtPoint, IsAcked, IsSafeSince}
 use Rattle.betr.specs.Session.{end_of, has_stop, closed, ClosedAt, Among, TakenAt, Replied, Ends as EndsBy, Session}
-use Rattle.betr.specs.Shell.{CanStart, MaySettle, ShellAt, IsLineFault, view_in, acks_in, device_in, stop_in}
+use Rattle.betr.specs.Shell.{CanStart, MayStart, ShellAt, IsLineFault, view_in, acks_in, device_in, stop_in}
 use Rattle.betr.specs.Run.{Disk, disk, Ends, ends, end_status, WritesEnd, IsTold, IsWornAtStart, IsUnopened, Survives, Shows, Ran, HasStart, IsFaultless}
 use Rattle.betr.proofs.Executes.{append_known-nil}
 use Rattle.betr.proofs.Scripts.{prepend_known-nil, took_none}
 use Rattle.betr.proofs.Surviving.{since_begun, safe_more}
 use Rattle.betr.proofs.Ending.{settled_all, closed_idle, some_blocks, shown_by}
-use Rattle.betr.proofs.Starts.{begun_at}
+use Rattle.betr.proofs.Keeping.{closed_passed}
+use Rattle.betr.proofs.Starts.{at_begun, begun_at}
 
 -- what holds of one value holds of the same
 pub as_last : {E : Type 0} (P : E → Type 0) (e f : E) → e ≡ f → P f → P e
@@ -102,10 +105,10 @@ module _ {D : Type 0} (g : Ghosts D) where
   ended_safe (Some Sink) stopped u first since shell h = h.safe
 
   -- from the start of the volume on
-  survives : (settled : ℕ) (xs : List Exchange) (old first now : D) (acks : List Ack) (x : State) → Goes g old first Nothing
+  survives : (settled : ℕ) (xs : List Exchange) (old first now : D) (acks : List Ack) (x : State) → Goes g old first (IsAtPoint x.passed 0)
       → IsSafeSince g first settled now acks x → Survives settled xs acks (disk_of g old) (disk_of g now) x
   survives settled xs old first now acks x started safe = record {
-    stopped = goes_on (IsAtPoint x.passed 0) (IsAtPoint x.passed 0) (within Nothing (IsAtPoint x.passed 0) started (λ c h. absurd h)) safe.time (λ c h. h);
+    stopped = goes_on (IsAtPoint x.passed 0) (IsAtPoint x.passed 0) started safe.time (λ c h. h);
     opened = inl (since_begun g first settled now acks x safe);
     acked = safe.acked;
     counts = safe.counts;
@@ -128,12 +131,12 @@ module _ {D : Type 0} (g : Ghosts D) where
       script rest t1 t2 w1 w2
       → ((t : Tree) (n : ℕ) → CanStart t n (g.contents old) → ShellAt g (device_in before) (g.call_count old + 1) before (state_at t n (view_in g before)))
       → ((t : Tree) (n : ℕ) → IfSome (g.contents old) (λ image. ImageStandsFor t n image → IsFirstView image (view_in g before)))
-      → OnlyReads g old (device_in before) → (end ≡ None → stop_in after ≡ None)
+      → OnlyStarts g old (device_in before) → (end ≡ None → stop_in after ≡ None)
       → (stop_in after ≡ None → IfSome (g.contents (device_in after)) (HasSaved (view_in g after)))
       → (0 < g.block_count (device_in after) → IfSome (g.contents (device_in after)) (left_now g (device_in after)))
       → IfSome (g.contents old) (HasBlocks (g.block_count old)) → g.block_count (device_in after) ≡ g.block_count old
       → Ran (g.call_count old + 1) end (acks_in after) (ends (disk_of g old) script t1 w1 b) (ends (disk_of g (device_in after)) rest t2 w2 a)
-  ran_session end old before after script rest w1 w2 t1 t2 b a s begins views reads going saved may_stay shape same_size = record {
+  ran_session end old before after script rest w1 w2 t1 t2 b a s begins views only going saved may_stay shape same_size = record {
     exchanges = s.exchanges;
     answered = s.answered;
     front = s.front;
@@ -149,8 +152,11 @@ module _ {D : Type 0} (g : Ghosts D) where
     replied = s.replied;
     transcribed = λ t n image is stands.
         let x0 : State = state_at t n (view_in g before) in
-        let h = s.runs x0 (begins t n (can_start t n (g.contents old) image is stands)) in
+        let start : CanStart t n (g.contents old) = can_start t n (g.contents old) image is stands in
+        let h = s.runs x0 (begins t n start) in
         let u : State = state_after x0 h.entries in
+        let x : State = closed end (has_stop s.exchanges) u in
+        let passed : Contains x.passed (point t n) = closed_passed end (has_stop s.exchanges) x0 h.entries h.transcript (point t n) (Contains-push [] (point t n)) in
         let lines : has_stop s.exchanges ≡ list_any is_stop (executed (exchanges_of h.entries)) = ap has_stop (sym h.exchanges_are) in
         record {
           first = view_in g before;
@@ -162,7 +168,7 @@ module _ {D : Type 0} (g : Ghosts D) where
             reached = record {
               told = inl (record { told = h.reached.told; told_script = h.reached.told_script });
               survives = survives (g.call_count old + 1) s.exchanges old (device_in before) (device_in after) (acks_in after)
-                  (closed end (has_stop s.exchanges) u) reads.time
+                  x (within (ImageStandsFor t n) (IsAtPoint x.passed 0) (only.time t n start) (λ c like. at_begun x.passed t n c passed like))
                   (ended_safe end (has_stop s.exchanges) u (device_in before) (g.call_count old + 1) after h.reached.reached);
               shown = λ none. shown_last end (has_stop s.exchanges) u (device_in before) (g.call_count old + 1) after none h.reached.reached
                   (idle_at end s.exchanges s.taken none s.among_taken x0 h.entries h.transcript h.exchanges_are) (going none)
@@ -194,14 +200,17 @@ rose_or_not before now = by (cases_lt before now) (cases_lt (now + 1) (2 ^ 64))
     by (inr few) (inl low) = inr (neither few low)
     by (inr few) (inr last) = inl (inr last)
 
+-- the volume's barrier, which returns after so many calls, wasn't made, or it failed
+abbrev pub IsUnmade : ℕ → Disk → Disk → Type 0
+IsUnmade settled before now = (now.calls < settled) ⊎ ((now.calls ≤ settled) × Rose before.write_faults now.write_faults)
+
 -- nothing was executed: the volume didn't start
 pub ran_refused : (settled : ℕ) (e : Fault) (before now : Disk) (script w : Option (List ℕ)) (takes : Option Takes) (b a : Faults) → IsLineFault e
     → ((t : Tree) (n : ℕ) (image : Image) → before.image ≡ Some image → ImageStandsFor t n image → (block : ℕ) → e ≡ Damaged block → ⊥)
     → ((t : Tree) (n : ℕ) (image : Image) → before.image ≡ Some image → ImageStandsFor t n image → (which : Counter) → e ≡ Worn which
     → WearsReplaying which image)
-    → Elapses before.calls now.calls before.left now.left Nothing
-    → ((t : Tree) (n : ℕ) (image : Image) → before.image ≡ Some image → ImageStandsFor t n image
-    → ((c : Image) → now.left settled c → before.image ≡ Some c) ⊎ ((now.calls < settled) ⊎ Rose before.write_faults now.write_faults))
+    → ((t : Tree) (n : ℕ) (image : Image) → before.image ≡ Some image → ImageStandsFor t n image → Elapses before.calls now.calls before.left now.left (ImageStandsFor t n))
+    → ((t : Tree) (n : ℕ) (image : Image) → before.image ≡ Some image → ImageStandsFor t n image → AllStandFor t n (now.left settled) ⊎ IsUnmade settled before now)
     → Ran settled (Some e) [] (ends before script takes w b) (ends now script takes w a)
 ran_refused settled e before now script w takes b a kind sound worn time opened = record {
   exchanges = [];
@@ -227,8 +236,8 @@ ran_refused settled e before now script w takes b a kind sound worn time opened 
       reached = record {
         told = tells e kind (sound t n i is stands) i (worn t n i is stands) (state_at t n (fresh_view 0));
         survives = record {
-          stopped = within Nothing (IsAtPoint (state_at t n (fresh_view 0)).passed 0) time (λ c h. absurd h);
-          opened = open_by t n i is stands (opened t n i is stands);
+          stopped = within (ImageStandsFor t n) (IsAtPoint (state_at t n (fresh_view 0)).passed 0) (time t n i is stands) (begun_at t n (fresh_view 0));
+          opened = open_by t n (opened t n i is stands);
           acked = tt;
           counts = refl;
         };
@@ -238,12 +247,10 @@ ran_refused settled e before now script w takes b a kind sound worn time opened 
   };
 }
   where
-    open_by : (t : Tree) (n : ℕ) (i : Image) → before.image ≡ Some i → ImageStandsFor t n i
-        → ((c : Image) → now.left settled c → before.image ≡ Some c) ⊎ ((now.calls < settled) ⊎ Rose before.write_faults now.write_faults)
+    open_by : (t : Tree) (n : ℕ) → AllStandFor t n (now.left settled) ⊎ IsUnmade settled before now
         → ((c : Image) → now.left settled c → IsAtPoint (state_at t n (fresh_view 0)).passed 0 c) ⊎ IsUnopened settled [] before now
-    open_by t n i is stands (inl only) =
-        inl (λ c left. begun_at t n (fresh_view 0) before.image c (can_start t n before.image i is stands) (only c left))
-    open_by t n i is stands (inr why) = inr (record { none = refl; why = why })
+    open_by t n (inl each) = inl (λ c left. begun_at t n (fresh_view 0) c (each c left))
+    open_by t n (inr why) = inr (record { none = refl; why = why })
 
     at_line : (f : Fault) (bs : List ℕ) → IsLineFault f → Among (Some f) bs []
     at_line Device bs k = (lines_to_run bs, refl)
@@ -319,22 +326,24 @@ start_worn (volume.Stopped call) e which is worn = absurd is
 pub ran_unstarted : {D : Type 0} (g : Ghosts D) (v : VolumeFault) (e : Fault) (old now : D) (script w : Option (List ℕ)) (takes : Option Takes) (b a : Faults)
     → IsStartFault v e → ((t : Tree) (n : ℕ) → CanStart t n (g.contents old) → (block : ℕ) → v ≢ volume.Damaged block)
     → ((t : Tree) (n : ℕ) → IfSome (g.contents old) (λ image. ImageStandsFor t n image → (which : Counter) → v ≡ volume.Worn which → WearsReplaying which image))
-    → OnlySettles g old now → MaySettle g old now → IfSome (g.contents old) (HasBlocks (g.block_count old))
+    → OnlyStarts g old now → MayStart g old now → IfSome (g.contents old) (HasBlocks (g.block_count old))
     → Ran (g.call_count old + 1) (Some e) [] (ends (disk_of g old) script takes w b) (ends (disk_of g now) script takes w a)
-ran_unstarted g v e old now script w takes b a fault sound wears left settles shape =
+ran_unstarted g v e old now script w takes b a fault sound wears left starts shape =
     ran_refused (g.call_count old + 1) e (disk_of g old) (disk_of g now) script w takes b a (start_kind v e fault)
     (λ t n image is stands block damaged. sound t n (can_start t n (g.contents old) image is stands) block (start_damaged v e block fault damaged))
     (λ t n image is stands which worn. if_some (λ i. ImageStandsFor t n i → (c : Counter) → v ≡ volume.Worn c → WearsReplaying c i) (g.contents old) image is (wears t n)
     stands which (start_worn v e which fault worn))
-    left.time
-    (λ t n image is stands. by (rose_or_not (g.write_fault_count old) (g.write_fault_count now)) (some_blocks t n (g.block_count old) (g.contents old) image is stands shape) settles)
+    (λ t n image is stands. left.time t n (can_start t n (g.contents old) image is stands))
+    (λ t n image is stands. by t n (can_start t n (g.contents old) image is stands) (some_blocks t n (g.block_count old) (g.contents old) image is stands shape)
+    (cases_lt (g.call_count old + 1) (g.call_count now)) (rose_or_not (g.write_fault_count old) (g.write_fault_count now)) starts)
   where
-    by : Rose (g.write_fault_count old) (g.write_fault_count now) ⊎ (Rose (g.write_fault_count old) (g.write_fault_count now) → ⊥) → 0 < g.block_count old
-        → MaySettle g old now → ((c : Image) → g.left_since now (g.call_count old + 1) c → g.contents old ≡ Some c)
-        ⊎ ((g.call_count now < g.call_count old + 1) ⊎ Rose (g.write_fault_count old) (g.write_fault_count now))
-    by (inl rose) some h = inr (inr rose)
-    by (inr unrisen) some (inl same) = inr (inl (omega (arith, same)))
-    by (inr unrisen) some (inr h) = inl (h some unrisen).only
+    by : (t : Tree) (n : ℕ) → CanStart t n (g.contents old) → 0 < g.block_count old → (g.call_count old + 1 < g.call_count now) ⊎ (g.call_count now ≤ g.call_count old + 1)
+        → Rose (g.write_fault_count old) (g.write_fault_count now) ⊎ (Rose (g.write_fault_count old) (g.write_fault_count now) → ⊥)
+        → MayStart g old now → AllStandFor t n (g.left_since now (g.call_count old + 1)) ⊎ IsUnmade (g.call_count old + 1) (disk_of g old) (disk_of g now)
+    by t n start some many rose (inl same) = inr (inl (omega (arith, same)))
+    by t n start some (inl many) rose (inr h) = inl (h some (λ first. omega (arith, first.few, many)) t n start).each
+    by t n start some (inr few) (inl rose) (inr h) = inr (inr (few, rose))
+    by t n start some (inr few) (inr unrisen) (inr h) = inl (h some (λ first. unrisen first.rose) t n start).each
 
 -- ---- an image by its name
 
@@ -399,16 +408,17 @@ ran_attached end acks before mid after now script rest w1 w2 t1 t2 b m a image_i
     open_by k j same xs x (inl f) = inl (λ c left. f c ((named k c).0 (subst (λ i. now.left i c) (sym same) left)))
     open_by k j same xs x (inr h) = inr (record { none = h.none; why = why h.why })
       where
-        why : (after.calls < k) ⊎ Rose mid.write_faults after.write_faults → (now.calls < j) ⊎ Rose before.write_faults now.write_faults
+        why : IsUnmade k mid after → IsUnmade j before now
         why (inl few) = inl (omega (arith, few, calls, same))
-        why (inr rose) = inr (subst (λ i. Rose before.write_faults i) (sym faults) (subst (λ i. Rose i after.write_faults) faults_are rose))
+        why (inr (few, rose)) = inr (omega (arith, few, calls, same), subst (λ i. Rose before.write_faults i) (sym faults) (subst (λ i. Rose i after.write_faults) faults_are rose))
 
 -- an attach that failed
 pub ran_detached : (before now : Disk) (script w : Option (List ℕ)) (takes : Option Takes) (b a : Faults) → now.calls ≡ next_count before.calls
     → Elapses before.calls now.calls before.left now.left Nothing
     → Ran (before.calls + 2) (Some Device) [] (ends before script takes w b) (ends now script takes w a)
 ran_detached before now script w takes b a once time =
-    ran_refused (before.calls + 2) Device before now script w takes b a tt (λ t n image is stands block damaged. cc) (λ t n image is stands which worn. cc) time
+    ran_refused (before.calls + 2) Device before now script w takes b a tt (λ t n image is stands block damaged. cc) (λ t n image is stands which worn. cc)
+    (λ t n image is stands. within Nothing (ImageStandsFor t n) time (λ c none. absurd none))
     (λ t n image is stands. inr (inl (omega (arith, once, next_few before.calls))))
   where
     next_few : (n : ℕ) → next_count n ≤ n + 1

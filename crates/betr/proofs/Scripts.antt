@@ -604,7 +604,7 @@ failed Sink first mid now bytes line script rest a b c before after p l x y =
     ([], l.all ∙ sym (append-nil (meanings bytes ++ line_of line ∷ [])) ∙ ap (λ ls. ls ++ []) (ap (λ ls. ls ++ line_of line ∷ []) (sym x.lines_are) ∙ sym (executed-append x.exchanges (last ∷ [])))) in
     record {
       exchanges = xs;
-      answered = each_both IsAnswered x.exchanges (last ∷ []) x.answered (y.answer, tt);
+      answered = each_both IsAnswered x.exchanges (last ∷ []) x.answered ((y.answer, y.one_line), tt);
       front = bytes;
       final = p.final;
       taken = bytes;

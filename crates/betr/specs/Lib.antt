@@ -6,5 +6,6 @@ pub mod Words
 pub mod Shell
 pub mod Taken
 pub mod Format
+pub mod Fill
 pub mod Run
 pub mod Calls

@@ -18,18 +18,21 @@ use Rattle.bd_slots.specs.Layout.{image_blocks}
 use Rattle.bd_view.specs.Views.{View}
 use Rattle.bd_image.specs.ImageTree.{ImageStandsFor}
 use Rattle.bd_engine.specs.Stored.{HasSaved}
+use Rattle.bd_fill.specs.Scripts.{generated_script}
+use Rattle.bd_fill.specs.Summary.{summary}
 use Rattle.bd_volume.specs.Volume.{IsFirstView}
 use Rattle.bd_volume.specs.Wears.{WearsReplaying}
 use Rattle.betr.specs.declared.fault.Fault.{Fault}
 use Rattle.betr.specs.declared.fault.Fault.TheVariants.{Worn}
 use Rattle.betr.specs.declared.outcome.Ack.{Ack}
-use Rattle.betr.specs.Fault.{status_of, fault_line, Faults, Caused}
+use Rattle.betr.specs.Fault.{status_of, fault_line, Faults, faults, Caused}
 use Rattle.betr.specs.Format.{SaysDone, HasNewImage}
 use Rattle.betr.specs.Transcript.{Known, State, state_at, Exchange, IsAnswered, HasTranscript, executed, lines_to_run}
 use Rattle.betr.specs.Session.{Among, BeginsWith, TakenAt, Replied, Tells, has_stop, closed}
 use Rattle.betr.specs.Crashes.{IsAtPoint, IsAcked, counts_of_acks}
 use Rattle.betr.specs.Taken.{Took}
-use Rattle.betr.specs.Words.{Call, Run, Format}
+use Rattle.betr.specs.Fill.{CanEndLines, TellsSummary, said_in}
+use Rattle.betr.specs.Words.{Call, Run, Format, Fill}
 
 -- the status of an end
 abbrev pub end_status : Option Fault → ℕ
@@ -108,10 +111,11 @@ pub record IsWornAtStart (end : Option Fault) (xs : List Exchange) (image : Imag
   pub worn : WearsReplaying which image
 
 -- nothing was executed, since the volume's barrier, which returns after so many calls, wasn't made,
--- or a write or a barrier failed
+-- or it failed
 pub record IsUnopened (settled : ℕ) (xs : List Exchange) (before now : Disk) : Type 0 where
   pub none : xs ≡ []
-  pub why : (now.calls < settled) ⊎ Rose before.write_faults now.write_faults
+  pub why : (now.calls < settled)
+      ⊎ ((now.calls ≤ settled) × Rose before.write_faults now.write_faults)
 
 -- what a crash leaves of a run that ends in this state: inside it, and since the barrier with which
 -- its volume starts, a point that was passed; each acknowledgement holds, of each line that made
@@ -196,10 +200,41 @@ pub record Formatted (status : ℕ) (acks : List Ack) (before now : Ends) : Type
   pub last : WritesEnd end replies now.written ended now.faults
   pub acked : acks ≡ []
 
+-- what is told of a disk, over a script and a sink that no one else has
+abbrev pub apart : Disk → Known → Known → Ends
+apart disk script written = ends disk script None written (faults 0 0 0)
+
+-- the lines of a generated script were executed as those of a run are, and this is the summary of
+-- their replies
+pub record RanGenerated (seed count : ℕ) (end : Option Fault) (acks : List Ack) (said : List ℕ)
+    (before now : Disk) : Type 0 where
+  pub left : Known
+  pub replies : Known
+  pub ran : Ran (before.calls + 2) end acks
+      (apart before (Some (generated_script seed count)) (Some [])) (apart now left replies)
+  pub kind : CanEndLines end
+  pub said_is : said ≡ summary (said_in ran.exchanges)
+
+-- how filling an image went: what ended the lines of the generated script, how they went, and in
+-- place of the replies their summary, to which the status and what is written are tied, with the
+-- counts of faults before it; the source stays as it was
+pub record Filled (seed count status : ℕ) (acks : List Ack) (before now : Ends) : Type 0 where
+  pub end : Option Fault
+  pub said : List ℕ
+  pub ran : RanGenerated seed count end acks said before.disk now.disk
+  pub ended : Faults
+  pub cause : IfSome end (λ e. Caused e before.faults ended)
+  pub kept : end ≡ None → ended ≡ before.faults
+  pub told : TellsSummary end status said before.written now.written ended.sink now.faults.sink
+  pub last : now.faults ≡ record ended { sink = now.faults.sink }
+  pub script_stays : now.script ≡ before.script
+  pub takes_stay : now.takes ≡ before.takes
+
 -- how a call went
 abbrev pub Does : Call → ℕ → List Ack → Ends → Ends → Type 0
 Does (Run image) status acks before now = Went status acks before now
 Does (Format image slots) status acks before now = Formatted status acks before now
+Does (Fill image seed count) status acks before now = Filled seed count status acks before now
 
 -- ---- the device
 
@@ -234,25 +269,31 @@ pub record IsDetached (status : ℕ) (before now : Seen) : Type 0 where
   pub once : now.calls ≡ next_count before.calls
 
 -- what a call does with the device: the image is attached, and goes by its name then, or where that
--- fails nothing else is done, and a run leaves the image that it was to use
+-- fails nothing else is done, and a run or a fill leaves the image that it was to use
 abbrev pub Uses : Call → ℕ → Seen → Seen → Type 0 → Type 0 → Type 0
 Uses (Run image) status before now named untaken =
     named ⊎ (IsDetached status before now × (now.shows image ≡ before.shows image) × untaken)
 Uses (Format image slots) status before now named untaken =
     (named ⊎ IsDetached status before now) × untaken
+Uses (Fill image seed count) status before now named untaken =
+    (named ⊎ (IsDetached status before now × (now.shows image ≡ before.shows image))) × untaken
 
 -- the image that a call names
 abbrev pub image_of : Call → List ℕ
 image_of (Run image) = image
 image_of (Format image slots) = image
+image_of (Fill image seed count) = image
 
--- what else is said of a call's device: no write of a run failed that ends well, and a format that
--- ends well or by the sink has made an image of so many slots, whatever there was
+-- what else is said of a call's device: no write of a run or a fill failed that ends well, of a fill
+-- also by the sink, and a format that ends well or by the sink has made an image of so many slots,
+-- whatever there was
 abbrev pub Makes : {D : Type 0} → Ghosts D → Call → ℕ → D → D → Type 0
 Makes g (Run image) status old new =
     status ≡ 0 → g.write_fault_count new ≡ g.write_fault_count old
 Makes g (Format image slots) status old new = (status ≡ 0) ⊎ (status ≡ 9)
     → (g.block_count new ≡ image_blocks slots) × (IsSome (g.contents old) → HasNewImage g new)
+Makes g (Fill image seed count) status old new = (status ≡ 0) ⊎ (status ≡ 9)
+    → g.write_fault_count new ≡ g.write_fault_count old
 
 -- ---- where nothing fails
 
@@ -266,6 +307,7 @@ abbrev pub IsReady : Call → Option Image → Known → Type 0
 IsReady (Run image) shown script =
     IsSomeAnd shown HasStart × IsSomeAnd script (λ bytes. length bytes ≤ script_limit)
 IsReady (Format image slots) shown script = ⊤
+IsReady (Fill image seed count) shown script = IsSomeAnd shown HasStart
 
 -- the outside doesn't fail
 pub record IsFaultless (before now : Faults) : Type 0 where

@@ -6,7 +6,6 @@ use Rattle.std.specs.declared.option.Option.{Option}
 use Rattle.std.specs.declared.option.Option.TheVariants.{Some}
 use Rattle.std.specs.declared.result.Result.{Result}
 use Rattle.std.specs.declared.result.Result.TheVariants.{Ok, Err}
-use Rattle.bd_io.specs.Cause.{Rose}
 use Rattle.bd_io.specs.Written.{WrotePart}
 use Rattle.bd_message.specs.declared.fault.Counter.{Counter}
 use Rattle.bd_model.specs.Tree.{Tree}
@@ -15,14 +14,15 @@ use Rattle.bd_device.specs.Blocks.{Image}
 use Rattle.bd_device.specs.declared.device.Device.{Ghosts}
 use Rattle.bd_image.specs.ImageTree.{ImageStandsFor}
 use Rattle.bd_script.specs.Lines.{LineMeaning, HasNoNewline, line_of, held, open_line, is_empty, is_stop, up_to_stop}
-use Rattle.bd_script.specs.Replies.{line_reply_line}
+use Rattle.bd_script.specs.Replies.{line_reply_text, line_reply_line}
 use Rattle.bd_script.specs.declared.replies.LineReply.{LineReply}
 use Rattle.bd_script.specs.declared.replies.LineReply.TheVariants as reply
 use Rattle.bd_view.specs.Views.{View, keys_of}
 use Rattle.bd_volume.specs.declared.fault.Fault.{Fault as VolumeFault}
 use Rattle.bd_volume.specs.declared.fault.Fault.TheVariants as volume
 use Rattle.bd_volume.specs.declared.volume.Volume.{Volume}
-use Rattle.bd_checkpoint.specs.Recovering.{HasSettled}
+use Rattle.bd_checkpoint.specs.Recovering.{FailsFirst}
+use Rattle.bd_volume.specs.Starts.{HasStarted}
 use Rattle.bd_volume.specs.Volume.{StandsFor, view_of, device_of, stop_of}
 use Rattle.betr.specs.Fault.{Faults, faults}
 use Rattle.betr.specs.declared.fault.Fault.{Fault}
@@ -101,13 +101,13 @@ FailsNoWrite g old new (Err e) = FailsNoWriteAt g old new e
 abbrev pub CanStart : Tree → ℕ → Option Image → Type 0
 CanStart t n contents = IsSomeAnd contents (ImageStandsFor t n)
 
--- a start that failed called no device, or since the return of its barrier a crash leaves what
--- reads gave before, unless a write or a barrier failed
-abbrev pub MaySettle : {D : Type 0} → Ghosts D → D → D → Type 0
-MaySettle g old new =
+-- a start that failed called no device, or since the return of its barrier a crash leaves what stands
+-- for the tree, unless that barrier failed
+abbrev pub MayStart : {D : Type 0} → Ghosts D → D → D → Type 0
+MayStart g old new =
     (g.call_count new ≡ g.call_count old)
-    ⊎ (0 < g.block_count old → ¬ Rose (g.write_fault_count old) (g.write_fault_count new)
-    → HasSettled g old new)
+    ⊎ (0 < g.block_count old → ¬ FailsFirst g old new → (t : Tree) (n : ℕ)
+    → CanStart t n (g.contents old) → HasStarted g old new t n)
 
 -- the reply ends the run
 abbrev pub is_stopped : LineReply → Bool
@@ -149,6 +149,7 @@ pub record ExecutesOne (first last : State → Type 0) (line : LineMeaning) (old
     : Type 0 where
   pub said : LineReply
   pub answer : MayGet line said
+  pub one_line : HasNoNewline (line_reply_text said)
   pub written : new ≡ append_known old (line_reply_line said)
   pub replies : (s : State) → first s → Replies s line said last
 
@@ -211,6 +212,7 @@ pub record IsCut (first last : State → Type 0) (line : LineMeaning) (old new :
     : Type 0 where
   pub said : LineReply
   pub answer : MayGet line said
+  pub one_line : HasNoNewline (line_reply_text said)
   pub part : WrotePart (line_reply_line said) old new
   pub replies : (s : State) → first s → Replies s line said last
 

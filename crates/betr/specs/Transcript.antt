@@ -11,8 +11,8 @@ use Rattle.bd_graft.specs.declared.grafting.Walk.{Walk as WalkTaken}
 use Rattle.bd_represent.specs.Represents.{Represents}
 use Rattle.bd_model.specs.Tree.{Tree, IsTree}
 use Rattle.bd_model.specs.Step.{step, refusal_of}
-use Rattle.bd_script.specs.Lines.{LineMeaning, line_of, lines_of, whole_lines, up_to_stop}
-use Rattle.bd_script.specs.Replies.{line_reply_line}
+use Rattle.bd_script.specs.Lines.{LineMeaning, HasNoNewline, line_of, lines_of, whole_lines, up_to_stop}
+use Rattle.bd_script.specs.Replies.{line_reply_text, line_reply_line}
 use Rattle.bd_script.specs.declared.line.Line.TheVariants.{Run, Walk, Df, Sync, Checkpoint, Reclaim, Stop}
 use Rattle.bd_script.specs.declared.replies.LineReply.{LineReply}
 use Rattle.bd_script.specs.declared.replies.LineReply.TheVariants as reply
@@ -70,8 +70,9 @@ MayGet (Ok Reclaim) said = IsDoneOrFull said
 MayGet (Ok Stop) said = said ≡ reply.Stopped
 MayGet (Err refusal) said = said ≡ reply.Unread refusal
 
+-- a reply that its line may get, and which is one line
 abbrev pub IsAnswered : Exchange → Type 0
-IsAnswered x = MayGet x.line x.said
+IsAnswered x = MayGet x.line x.said × HasNoNewline (line_reply_text x.said)
 
 -- what is written of the replies
 abbrev pub text : List Exchange → List ℕ

@@ -7,7 +7,7 @@ ghost use Rattle.bd_io.specs.Written.{WrotePart};
 ghost use Rattle.bd_slots.specs.Layout.{IsSlotCount, image_blocks};
 ghost use Rattle.bd_device.specs.Device.{Stays};
 ghost use Rattle.betr.specs.Fault.{IsCaused, of_sink};
-ghost use Rattle.betr.specs.Format.{HasNewImage, IsMadeAt, SaysDone, done_line};
+ghost use Rattle.betr.specs.Format.{HasNewImage, IsMadeAt, SaysDone};
 ghost use Rattle.betr.specs.Session.{end_of};
 ghost use Rattle.betr.specs.Shell.{counts_of};
 
@@ -50,7 +50,7 @@ pub fn format_image<D: Attach, K: Sink>(
         return Err(Fault::Device);
     }
     make_image(alloc, slots, dev)?;
-    say_done(sink)
+    say(sink, DONE)
 }
 
 // Makes an image on a device that has blocks for it.
@@ -79,17 +79,17 @@ fn make_image<D: Attach>(alloc: Global, slots: u32, dev: &mut D) -> Result<(), F
     }
 }
 
-// Writes that an image is made, and has the sink pass that on. At `Sink` some of it may be written.
-fn say_done<K: Sink>(sink: &mut K) -> Result<(), Fault>
-    ensures written { OnOk result (K.written sink.new ≡ append_known (K.written sink.old) done_line) }
-    ensures part { OnErr result ((K.written sink.new ≡ append_known (K.written sink.old) done_line)
-        ⊎ WrotePart done_line (K.written sink.old) (K.written sink.new)) }
+/// Writes a line, and has the sink pass that on. At `Sink` some of it may be written.
+pub fn say<K: Sink>(sink: &mut K, line: &[u8]) -> Result<(), Fault>
+    ensures written { OnOk result (K.written sink.new ≡ append_known (K.written sink.old) line.now) }
+    ensures part { OnErr result ((K.written sink.new ≡ append_known (K.written sink.old) line.now)
+        ⊎ WrotePart line.now (K.written sink.old) (K.written sink.new)) }
     ensures flushed { OnOk result (K.waiting sink.new ≡ 0) }
     ensures kind { IfErr result (λ e. e ≡ Fault.Sink) }
     ensures cause { IsCaused (of_sink (K.fault_count sink.old)) (of_sink (K.fault_count sink.new))
         result }
 {
-    match put_all(sink, DONE) {
+    match put_all(sink, line) {
         Ok(()) => flush(sink),
         Err(Failed) => Err(Fault::Sink),
     }

@@ -5,6 +5,7 @@
 
 mod acknowledged;
 mod fault;
+mod fill;
 mod format;
 mod laws;
 mod outcome;

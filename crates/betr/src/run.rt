@@ -8,6 +8,7 @@ ghost use Rattle.betr.specs.Words.{call_of, usage_line};
 ghost use Rattle.betr.specs.Run.{end_status, ends, Does, IsFaultless, IsFlushed, IsReady, Makes, Ran, Uses, WritesEnd, WritesLast, disk, image_of, seen};
 
 use crate::fault::{FAULT_SIZE, Fault};
+use crate::fill::{end_fill, fill_image};
 use crate::format::format_image;
 use crate::outcome::{Ack, Outcome};
 use crate::session::run_script;
@@ -28,15 +29,15 @@ const USAGE: &[u8] =
 
 /// How a call ended, before its last line is written.
 #[derive(Debug, Drop)]
-struct Ended {
+pub struct Ended {
     /// Its fault, if there was one.
-    result: Result<(), Fault>,
+    pub result: Result<(), Fault>,
     /// What was acknowledged, in order.
-    acks: Items<Ack>,
+    pub acks: Items<Ack>,
 }
 
 /// Attaches the image, and executes the script on the volume that starts from it.
-fn run_image<D: Attach, S: Source, K: Sink>(
+pub fn run_image<D: Attach, S: Source, K: Sink>(
     alloc: Global,
     image: &str,
     dev: &mut D,
@@ -139,8 +140,8 @@ fn write_last<K: Sink>(sink: &mut K, line: &[u8])
     }
 }
 
-// The outcome of a call that ended so, whose last line is written.
-fn end_call<K: Sink>(sink: &mut K, ended: Ended) -> Outcome
+/// The outcome of a call that ended so, whose last line is written.
+pub fn end_call<K: Sink>(sink: &mut K, ended: Ended) -> Outcome
     ensures status { result.status ≡ end_status (end_of ended.result) }
     ensures acks { result.acks ≡ ended.acks }
     ensures last { (device source : ℕ) → WritesEnd (end_of ended.result)
@@ -171,11 +172,15 @@ fn end_call<K: Sink>(sink: &mut K, ended: Ended) -> Outcome
 /// is attached, and the script that the source gives is executed line by line from the tree that the
 /// image stands for, with a reply a line, to its end or to `stop` (status 0). `PROGRAM format IMAGE
 /// SLOTS` makes an image of so many slots, whatever there was, that stands for the tree of `/`
-/// alone, and writes `ok` (status 0). Other words have the usage line written, and nothing else is
-/// done (status 2). The first fault ends the run with its status, and its line where the sink takes
-/// it: the device 3, damage 4, the source 5, memory 6, a script of more than 16,777,216 bytes 7, a
-/// counter 8, the sink 9. Before each take and at the end the sink passes on all that was written;
-/// after its own fault it isn't called again.
+/// alone, and writes `ok` (status 0). `PROGRAM fill IMAGE SEED COUNT` executes the script that the
+/// seed makes, eight lines and `COUNT` more, as `run` does one that a source gives: the source isn't
+/// touched, and in place of the replies one line `fill L ok A no B full C` tells how many lines were
+/// executed, and how many of their replies say `ok`, `no` and `full`; at a fault it comes before the
+/// fault's line. Other words have the usage line written, and nothing else is done (status 2). The
+/// first fault ends the run with its status, and its line where the sink takes it: the device 3,
+/// damage 4, the source 5, memory 6, a script of more than 16,777,216 bytes 7, a counter 8, the sink
+/// 9. Before each take and at the end the sink passes on all that was written; after its own fault
+/// it isn't called again.
 ///
 /// At each `sync`, at `stop` and at the end of the script all accepted commands are made durable
 /// and acknowledged; at a fault they aren't. Stopped at any moment, the image stands for the tree
@@ -249,6 +254,10 @@ pub fn run<D: Attach, S: Source, K: Sink>(
             let result = format_image(alloc, image, slots, dev, sink);
             let acks = Items::new(alloc);
             end_call(sink, Ended { result, acks })
+        }
+        Some(Call::Fill { image, seed, count }) => {
+            let filled = fill_image(alloc, image, seed, count, dev);
+            end_fill(sink, filled)
         }
         None => {
             write_last(sink, USAGE);

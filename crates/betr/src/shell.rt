@@ -5,19 +5,19 @@ ghost use Rattle.bd_io.specs.Cause.{HasCause};
 ghost use Rattle.bd_io.specs.Written.{WrotePart};
 ghost use Rattle.bd_message.specs.declared.fault.Counter.{Counter};
 ghost use Rattle.bd_model.specs.Tree.{Tree};
-ghost use Rattle.bd_device.specs.Device.{OnlyReads, Stays};
+ghost use Rattle.bd_device.specs.Device.{Stays};
 ghost use Rattle.bd_image.specs.ImageTree.{ImageStandsFor};
-ghost use Rattle.bd_checkpoint.specs.Recovering.{OnlySettles};
 ghost use Rattle.bd_script.specs.Lines.{line_of, open_line, held, held_limit, is_empty, is_stop, IsLine, HasNoNewline};
-ghost use Rattle.bd_script.specs.Replies.{line_reply_line, IsLineReply};
+ghost use Rattle.bd_script.specs.Replies.{line_reply_text, line_reply_line, IsLineReply};
 ghost use Rattle.bd_engine.specs.Stored.{HasSaved};
 ghost use Rattle.bd_volume.specs.Faults.{IsStartCause};
+ghost use Rattle.bd_volume.specs.Starts.{OnlyStarts};
 ghost use Rattle.bd_volume.specs.Volume.{IsFirstView};
 ghost use Rattle.bd_volume.specs.Wears.{WearsReplaying};
 ghost use Rattle.betr.specs.Fault.{IsCaused};
 ghost use Rattle.betr.specs.Transcript.{State, state_at, synced_state, MayGet, meanings};
 ghost use Rattle.betr.specs.Session.{Executes, breaks};
-ghost use Rattle.betr.specs.Shell.{KeptAt, ShellAt, Replies, ExecutesOne, view_in, acks_in, held_of, device_below, device_in, stop_below, stop_in, counts_of, CanStart, MaySettle, FailsNoWrite, is_stopped, last_lines, completed, IsHeld, ComesNow, IsOutcome, CutsAt, IsLineFault, LineFails, RunFails, BreaksOff};
+ghost use Rattle.betr.specs.Shell.{KeptAt, ShellAt, Replies, ExecutesOne, view_in, acks_in, held_of, device_below, device_in, stop_below, stop_in, counts_of, CanStart, MayStart, FailsNoWrite, is_stopped, last_lines, completed, IsHeld, ComesNow, IsOutcome, CutsAt, IsLineFault, LineFails, RunFails, BreaksOff};
 
 use crate::acknowledged::Acknowledged;
 use crate::fault::Fault;
@@ -145,6 +145,7 @@ fn write_reply<K: Sink>(
     sink: &mut K,
 ) -> Result<(), Failed>
     requires { IsLineReply said.now }
+    ensures one_line { HasNoNewline (line_reply_text said.now) }
     ensures ok { OnOk result
         (K.written sink.new ≡ append_known (K.written sink.old) (line_reply_line said.now)) }
     ensures part { OnErr result
@@ -224,9 +225,11 @@ impl<D: Device + Drop> Shell<D> {
             (λ image. ImageStandsFor t n image → IsFirstView image (view_in D.Device shell))) }
         ensures line { IfOk result (λ shell. held_of shell ≡ []) }
         ensures going { IfOk result (λ shell. stop_in shell ≡ None) }
-        ensures reads { IfOk result (λ shell. OnlyReads D.Device device (device_in shell)) }
+        ensures only { IfOk result (λ shell. OnlyStarts D.Device device (device_in shell)) }
         ensures faults { IfOk result (λ shell.
             D.fault_count (device_in shell) ≡ D.fault_count device) }
+        ensures write_faults { IfOk result (λ shell.
+            D.write_fault_count (device_in shell) ≡ D.write_fault_count device) }
 
         // The fault, and the device that is returned.
         ensures cause { IfErr result (λ refused.
@@ -236,8 +239,8 @@ impl<D: Device + Drop> Shell<D> {
         ensures wears { (t : Tree) (n : ℕ) → IfSome (D.contents device)
             (λ image. ImageStandsFor t n image → IfErr result (λ refused. (which : Counter)
             → refused.fault ≡ VolumeFault.Worn which → WearsReplaying which image)) }
-        ensures left { IfErr result (λ refused. OnlySettles D.Device device refused.device) }
-        ensures settles { IfErr result (λ refused. MaySettle D.Device device refused.device) }
+        ensures left { IfErr result (λ refused. OnlyStarts D.Device device refused.device) }
+        ensures starts { IfErr result (λ refused. MayStart D.Device device refused.device) }
     {
         let Ok(buffer) = Box::new(alloc, [0; REPLY_SIZE]) else {
             return Err(Refused {

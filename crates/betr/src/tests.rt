@@ -188,7 +188,7 @@ fn the_first_example_gives_its_replies(rt: HostRuntime) -> Result<(), Fail> {
 #[test]
 fn refused_words_give_the_usage(rt: HostRuntime) -> Result<(), Fail> {
     let usage = "usage: betr run IMAGE | betr format IMAGE SLOTS | betr fill IMAGE SEED COUNT\n";
-    let rows: [&[&str]; 13] = [
+    let rows: [&[&str]; 19] = [
         &["betr", "run"],
         &["betr"],
         &["betr", "run", "a", "b"],
@@ -202,6 +202,12 @@ fn refused_words_give_the_usage(rt: HostRuntime) -> Result<(), Fail> {
         &["betr", "format", "img", "4294967320"],
         &["betr", "format", "img", "24k"],
         &["betr", "format", "img", ""],
+        &["betr", "fill", "img", "0"],
+        &["betr", "fill", "-a", "0", "0"],
+        &["betr", "fill", "img", "4294967296", "0"],
+        &["betr", "fill", "img", "0", "100001"],
+        &["betr", "fill", "img", "x", "0"],
+        &["betr", "fill", "img", "0", "0", "0"],
     ];
     for words in rows {
         let (status, written) = called(rt.alloc(), words, FIRST)?;
@@ -484,5 +490,49 @@ fn a_script_past_the_limit_is_too_long(rt: HostRuntime) -> Result<(), Fail> {
     assert_eq!(rt; outcome.status, 7);
     assert_eq!(rt; sink.bytes, 16_777_217 * 15);
     assert_eq!(rt; sink.piece.as_slice(), b"fault too-long\n".as_slice());
+    Ok(())
+}
+
+#[test]
+fn a_fill_tells_its_lines_and_replies(rt: HostRuntime) -> Result<(), Fail> {
+    let rows = [
+        ("0", "fill 8 ok 8 no 0 full 0\n"),
+        ("1", "fill 9 ok 8 no 1 full 0\n"),
+    ];
+    for (count, text) in rows {
+        let (status, written) = called(rt.alloc(), &["betr", "fill", "img", "0", count], FIRST)?;
+        assert_eq!(rt; status, 0, "count {count}");
+        assert_eq!(rt; written.as_slice(), text.as_bytes(), "count {count}");
+    }
+    Ok(())
+}
+
+#[test]
+fn a_fill_of_two_new_images_tells_the_same(rt: HostRuntime) -> Result<(), Fail> {
+    let words = ["betr", "fill", "img", "1", "500"];
+    let (status, written) = called(rt.alloc(), &words, b"")?;
+    assert_eq!(rt; status, 0);
+    assert!(rt; written.as_slice().starts_with(b"fill 508 ok "));
+    let (again, same) = called(rt.alloc(), &words, b"")?;
+    assert_eq!(rt; again, 0);
+    assert_eq!(rt; same.as_slice(), written.as_slice());
+    Ok(())
+}
+
+#[test]
+fn a_fill_tells_its_lines_before_a_fault(rt: HostRuntime) -> Result<(), Fail> {
+    let alloc = rt.alloc();
+    let dev = formatted(alloc, WRITES)?;
+    let fail = vec![in alloc; dev.calls().saturating_add(2)]?;
+    let mut dev = FaultyDevice::new(dev, fail);
+    let mut src = MemSource::new(alloc, FIRST, 7, &[])?;
+    let mut sink = MemSink::new(alloc, 1 << 16, &[])?;
+    let words = words(alloc, &["betr", "fill", "img", "0", "0"])?;
+    let outcome = run(alloc, &words, &mut dev, &mut src, &mut sink);
+    assert_eq!(rt; outcome.status, 3);
+    assert_eq!(rt;
+        sink.bytes(),
+        b"fill 0 ok 0 no 0 full 0\nfault device\n".as_slice()
+    );
     Ok(())
 }

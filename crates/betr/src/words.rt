@@ -1,28 +1,43 @@
-ghost use Rattle.std.specs.Prelude.{◌≡◌, map, string_bytes, IfSome};
-ghost use Rattle.bd_slots.specs.Layout.{IsSlotCount};
-ghost use Rattle.betr.specs.Words.{call_of, format_of, is_image, run_of, slots_of};
-ghost use Rattle.betr.specs.Calls.{HasSlotCount, asked};
+ghost use Rattle.std.specs.Prelude.{◌≡◌, ◌≤◌, map, string_bytes, IfSome};
+ghost use Rattle.betr.specs.Words.{call_of, fill_of, format_of, is_image, number_of, run_of};
+ghost use Rattle.betr.specs.Calls.{IsInRange, asked};
 
+use bd_fill::MAX_COUNT;
 use bd_limits::{MAX_SLOTS, MIN_SLOTS};
 
 /// What the program is asked to do.
 #[derive(Clone, Copy, Debug, PartialEq, Eq)]
 pub enum Call<'a> {
     /// To execute a script on the image of this name.
-    Run { image: &'a str },
+    Run {
+        image: &'a str,
+    },
     /// To make an image of this name, of so many slots.
-    Format { image: &'a str, slots: u32 },
+    Format {
+        image: &'a str,
+        slots: u32,
+    },
+    /// To execute the script of a seed, with so many drawn lines, on the image of this name.
+    Fill {
+        image: &'a str,
+        seed: u32,
+        count: u32,
+    },
 }
 
-/// The call that the program's words make: `PROGRAM run IMAGE`, or `PROGRAM format IMAGE SLOTS` with
-/// 24 to 65,536 slots. Other words are refused.
+/// The call that the program's words make: `PROGRAM run IMAGE`, `PROGRAM format IMAGE SLOTS` with 24
+/// to 65,536 slots, or `PROGRAM fill IMAGE SEED COUNT` with a seed below 2^32 and a count of at most
+/// 100,000. Other words are refused.
 pub fn read_words(words: &[String]) -> Option<Call<'_>>
     ensures call { asked result ≡ call_of (map string_bytes words.now) }
-    ensures slots { IfSome result HasSlotCount }
+    ensures range { IfSome result IsInRange }
 {
     match words {
         [_, verb, image] => read_run(verb.as_str(), image.as_str()),
         [_, verb, image, slots] => read_format(verb.as_str(), image.as_str(), slots.as_str()),
+        [_, verb, image, seed, count] => {
+            read_fill(verb.as_str(), image.as_str(), seed.as_str(), count.as_str())
+        }
         _ => None,
     }
 }
@@ -30,7 +45,7 @@ pub fn read_words(words: &[String]) -> Option<Call<'_>>
 /// The call of `run IMAGE`.
 fn read_run<'a>(verb: &str, image: &'a str) -> Option<Call<'a>>
     ensures call { asked result ≡ run_of verb.now image.now }
-    ensures slots { IfSome result HasSlotCount }
+    ensures range { IfSome result IsInRange }
 {
     if verb != "run" || !is_image(image) {
         return None;
@@ -41,13 +56,26 @@ fn read_run<'a>(verb: &str, image: &'a str) -> Option<Call<'a>>
 /// The call of `format IMAGE SLOTS`.
 fn read_format<'a>(verb: &str, image: &'a str, slots: &str) -> Option<Call<'a>>
     ensures call { asked result ≡ format_of verb.now image.now slots.now }
-    ensures slots { IfSome result HasSlotCount }
+    ensures range { IfSome result IsInRange }
 {
     if verb != "format" || !is_image(image) {
         return None;
     }
-    let slots = read_slots(slots)?;
+    let slots = read_number(slots, MIN_SLOTS, MAX_SLOTS)?;
     Some(Call::Format { image, slots })
+}
+
+/// The call of `fill IMAGE SEED COUNT`.
+fn read_fill<'a>(verb: &str, image: &'a str, seed: &str, count: &str) -> Option<Call<'a>>
+    ensures call { asked result ≡ fill_of verb.now image.now seed.now count.now }
+    ensures range { IfSome result IsInRange }
+{
+    if verb != "fill" || !is_image(image) {
+        return None;
+    }
+    let seed = read_number(seed, 0, u32::MAX)?;
+    let count = read_number(count, 0, MAX_COUNT)?;
+    Some(Call::Fill { image, seed, count })
 }
 
 /// Whether a word can name an image: it isn't empty and doesn't begin with `-`.
@@ -60,14 +88,14 @@ fn is_image(word: &str) -> bool
     }
 }
 
-/// The number of slots that a word is.
-fn read_slots(word: &str) -> Option<u32>
-    ensures slots { result ≡ slots_of word.now }
-    ensures bound { IfSome result IsSlotCount }
+/// The number between these two that a word is.
+fn read_number(word: &str, low: u32, high: u32) -> Option<u32>
+    ensures number { result ≡ number_of low high word.now }
+    ensures bound { IfSome result (λ n. (low ≤ n) × (n ≤ high)) }
 {
-    let slots = word.parse::<u32>().ok()?;
-    if slots < MIN_SLOTS || slots > MAX_SLOTS {
+    let number = word.parse::<u32>().ok()?;
+    if number < low || number > high {
         return None;
     }
-    Some(slots)
+    Some(number)
 }

@@ -1,11 +1,14 @@
 -- Each call ends well, or by a fault whose line is written.
-use Rattle.std.proofs.Common.{refl, sym, ap, ◌∙◌}
+use Rattle.std.proofs.Common.{refl, sym, ap, ◌∙◌, rules, arith}
 use Rattle.std.specs.declared.option.Option.TheVariants.{Some}
 use Rattle.betr.specs.Calls.{asked}
 use Rattle.betr.specs.Fault.{faults}
 use Rattle.betr.specs.Session.{end_of}
-use Rattle.betr.specs.Words.{Run, Format}
-use Rattle.betr.proofs.Runs.{of_call, ended_well, well_counts, run_complete, is_caused_beside, cause_of}
+use Rattle.bd_fill.specs.Counting.{tally_line}
+use Rattle.bd_fill.proofs.Short.{script_short}
+use Rattle.betr.specs.Words.{Run, Format, Fill}
+use Rattle.betr.proofs.Runs.{of_call, ended_well, ok_of_none, well_counts, run_complete, is_caused_beside, cause_of}
+use Rattle.betr.proofs.Fills.{fill_complete, fill_device, told_done, told_well}
 use Rattle.betr.proofs.run.run.Goals as goal
 
 pub returns-in-Some-Run-clause-faultless : goal.returns-in-Some-Run-clause-faultless
@@ -44,3 +47,64 @@ returns-in-Some-Format-clause-faultless g c =
     let last = c.end_call-in-Some-Format.ensures.last (g.D.Device.fault_count made.new.dev) (g.S.Source.fault_count c.args.src.now) in
     ended_well made.result _ _ c.end_call-in-Some-Format.ensures.status
     (well_counts made.result _ _ _ _ _ (is_caused_beside made.result _ _ _ _ (g.S.Source.fault_count c.args.src.now) made.ensures.cause) last)
+
+pub returns-in-Some-Fill-clause-does : goal.returns-in-Some-Fill-clause-does
+returns-in-Some-Fill-clause-does g c =
+    let filled = c.fill_image-filled in
+    let r = filled.result.ended.result in
+    let call = c.in-Some-Fill in
+    let sink = g.K.Sink.fault_count c.args.sink.now in
+    let caused = is_caused_beside r _ sink _ sink (g.S.Source.fault_count c.args.src.now) (filled.ensures.cause sink) in
+    of_call _ _ (Fill call.image.now call.seed call.count) (ap (λ f. asked (Some f)) (sym call.field-0-is) ∙ call.ensures.call)
+    (record {
+      end = end_of r;
+      said = tally_line filled.result.tally;
+      ran = rw c.end_fill.ensures.acks filled.ensures.ran;
+      ended = faults (g.D.Device.fault_count filled.new.dev) (g.S.Source.fault_count c.args.src.now) sink;
+      cause = cause_of r _ _ caused;
+      kept = λ none. ok_of_none r _ none caused.kept;
+      told = c.end_fill.ensures.told;
+      last = refl;
+      script_stays = refl;
+      takes_stay = refl;
+    })
+
+pub returns-in-Some-Fill-clause-device : goal.returns-in-Some-Fill-clause-device
+returns-in-Some-Fill-clause-device g c =
+    let filled = c.fill_image-filled in
+    let call = c.in-Some-Fill in
+    of_call _ _ (Fill call.image.now call.seed call.count) (ap (λ f. asked (Some f)) (sym call.field-0-is) ∙ call.ensures.call)
+    (fill_device filled.result.ended.result _ _ _ _ _ _ _ _ call.image.now c.end_fill.ensures.told filled.ensures.attached, refl)
+
+pub returns-in-Some-Fill-clause-makes : goal.returns-in-Some-Fill-clause-makes
+returns-in-Some-Fill-clause-makes g c =
+    let filled = c.fill_image-filled in
+    let r = filled.result.ended.result in
+    let call = c.in-Some-Fill in
+    of_call _ _ (Fill call.image.now call.seed call.count) (ap (λ f. asked (Some f)) (sym call.field-0-is) ∙ call.ensures.call)
+    (λ done. ok_of_none r _ (told_done (end_of r) _ _ _ _ _ _ filled.ensures.kind c.end_fill.ensures.told done) filled.ensures.writes)
+
+pub returns-in-Some-Fill-clause-faultless : goal.returns-in-Some-Fill-clause-faultless
+returns-in-Some-Fill-clause-faultless g c zero =
+    let filled = c.fill_image-filled in
+    let r = filled.result.ended.result in
+    let sink = g.K.Sink.fault_count c.args.sink.now in
+    let source = g.S.Source.fault_count c.args.src.now in
+    let well = told_well (end_of r) _ _ _ _ _ _ c.end_fill.ensures.told zero in
+    ap (λ k. faults (g.D.Device.fault_count filled.new.dev) source k) well.1
+    ∙ ok_of_none r _ well.0 (is_caused_beside r _ sink _ sink source (filled.ensures.cause sink)).kept
+
+pub returns-in-Some-Fill-clause-later : goal.returns-in-Some-Fill-clause-later
+returns-in-Some-Fill-clause-later g c = record {
+  device = (c.fill_image-filled.ensures.cause 0).later.device;
+  source = omega arith;
+  sink = c.end_fill.ensures.later;
+}
+
+pub returns-in-Some-Fill-clause-complete : goal.returns-in-Some-Fill-clause-complete
+returns-in-Some-Fill-clause-complete g c =
+    let filled = c.fill_image-filled in
+    let call = c.in-Some-Fill in
+    of_call _ _ (Fill call.image.now call.seed call.count) (ap (λ f. asked (Some f)) (sym call.field-0-is) ∙ call.ensures.call)
+    (λ ready f. fill_complete filled.result.ended.result _ call.seed call.count _ _ _ _ _ _ _ _ _ _ _ _ (script_short call.seed call.count (search rules))
+    filled.ensures.ran (filled.ensures.cause 0) c.end_fill.ensures.told ready f)

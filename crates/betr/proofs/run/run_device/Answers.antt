@@ -22,7 +22,7 @@ returns-in-Err-clause-ran g c =
     (faults (g.D.Device.fault_count e) (g.S.Source.fault_count c.args.src.now) (g.K.Sink.fault_count c.args.sink.now))))
     _ c.in-Err.refused.device.now (search rules)
     (ran_unstarted _ c.in-Err.refused.fault c.of_start.result _ c.in-Err.refused.device _ _ _ _ _ c.of_start.ensures c.in-Err.ensures.undamaged c.in-Err.ensures.wears
-    c.in-Err.ensures.left c.in-Err.ensures.settles c.blocks-2.ensures.shape))
+    c.in-Err.ensures.left c.in-Err.ensures.starts c.blocks-2.ensures.shape))
 
 pub returns-in-Ok-clause-ran : goal.returns-in-Ok-clause-ran
 returns-in-Ok-clause-ran g c =
@@ -40,8 +40,8 @@ returns-in-Ok-clause-ran g c =
     (faults (g.D.Device.fault_count e) (g.S.Source.fault_count ran.new.src) (g.K.Sink.fault_count ran.new.sink))))
     _ (device_in after).now (search rules)
     (λ may_stay. ran_session _ (end_of ran.result) _ before after _ _ _ _ _ _ _ _ (ran.ensures.session (device_in before) (g.D.Device.call_count c.args.dev.now + 1))
-    c.in-Ok.ensures.stands c.in-Ok.ensures.first c.in-Ok.ensures.reads (λ none. ok_of_none ran.result _ none ran.ensures.going) c.saved_is_shown.ensures may_stay
-    c.blocks-2.ensures.shape (ran.ensures.device.count ∙ c.in-Ok.ensures.reads.count))
+    c.in-Ok.ensures.stands c.in-Ok.ensures.first c.in-Ok.ensures.only (λ none. ok_of_none ran.result _ none ran.ensures.going) c.saved_is_shown.ensures may_stay
+    c.blocks-2.ensures.shape (ran.ensures.device.count ∙ c.in-Ok.ensures.only.stays.count))
     c.blocks-in-Ok.ensures.may_stay)
 
 pub returns-in-Ok-clause-stays : goal.returns-in-Ok-clause-stays
@@ -49,7 +49,7 @@ returns-in-Ok-clause-stays g c =
     let ran = c.run_script-result in
     as_last (λ e. Stays g.D.Device c.args.dev.now e) _ (device_in ran.new.shell).now (search rules)
     (record {
-      count = ran.ensures.device.count ∙ c.in-Ok.ensures.reads.count;
-      same_name = λ name named. ran.ensures.device.same_name name (c.in-Ok.ensures.reads.same_name name named);
-      same_loans = same_tail _ _ _ _ (ran.ensures.device.same_loans ∙ c.in-Ok.ensures.reads.same_loans);
+      count = ran.ensures.device.count ∙ c.in-Ok.ensures.only.stays.count;
+      same_name = λ name named. ran.ensures.device.same_name name (c.in-Ok.ensures.only.stays.same_name name named);
+      same_loans = same_tail _ _ _ _ (ran.ensures.device.same_loans ∙ c.in-Ok.ensures.only.stays.same_loans);
     })

@@ -26,6 +26,7 @@ pub returns-in-Ok-clause-ok : goal.returns-in-Ok-clause-ok
 returns-in-Ok-clause-ok g c first since = record {
   said = c.in_ok-said.said;
   answer = c.in_ok-said.ensures.answer;
+  one_line = c.in-Ok.ensures.one_line;
   written = c.in-Ok.ensures.ok;
   replies = c.in_ok-said.ensures.ok first since;
 }
@@ -41,6 +42,7 @@ pub returns-clause-err : goal.returns-clause-err
 returns-clause-err g c first since = record {
   said = c.in_ok-said.said;
   answer = c.in_ok-said.ensures.answer;
+  one_line = c.in-Err.ensures.one_line;
   part = c.in-Err.ensures.part;
   replies = c.in_ok-said.ensures.ok first since;
 }

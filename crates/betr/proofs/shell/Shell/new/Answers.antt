@@ -11,8 +11,8 @@ use Rattle.betr.proofs.shell.Shell.new.Goals as goal
 
 pub returns-clause-stands : goal.returns-clause-stands
 returns-clause-stands g c t n start =
-    kept_start g.D.Device c.args.device c.new-2.result c.in_ok-volume.volume t n c.new-2.ensures.volume c.new-2.ensures.acks start
-    (c.in_ok-volume.ensures.stands t n start) c.in_ok-volume.ensures.settled
+    kept_start g.D.Device c.args.device c.new-2.result c.in_ok-volume.volume t n c.new-2.ensures.volume c.new-2.ensures.acks
+    (c.in_ok-volume.ensures.stands t n start) (c.in_ok-volume.ensures.started t n start)
 
 pub returns-clause-first : goal.returns-clause-first
 returns-clause-first g c =
@@ -24,7 +24,7 @@ returns-in_err-volume-clause-wears g c t n =
     let p = err_from_is_err_and c.from_residual.result c.from_residual.ensures.1 in
     rw (p.1, p.2) (c.in_err-volume.ensures.wears t n)
 
-pub returns-in_err-volume-clause-settles : goal.returns-in_err-volume-clause-settles
-returns-in_err-volume-clause-settles g c =
+pub returns-in_err-volume-clause-starts : goal.returns-in_err-volume-clause-starts
+returns-in_err-volume-clause-starts g c =
     let p = err_from_is_err_and c.from_residual.result c.from_residual.ensures.1 in
-    rw (p.1, p.2) (inr c.in_err-volume.ensures.settles)
+    rw (p.1, p.2) (inr c.in_err-volume.ensures.starts)
