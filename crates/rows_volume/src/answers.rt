@@ -19,7 +19,7 @@ const QUESTIONS: &[(&str, &str)] = &[
 ];
 
 /// Whether a volume answers all questions as the plain program does.
-fn answers_alike<D: Device>(
+pub fn answers_alike<D: Device>(
     rt: &impl Abort,
     alloc: Global,
     volume: &mut Volume<D>,

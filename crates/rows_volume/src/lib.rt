@@ -1,6 +1,6 @@
 //! The tests of the volume on a device: that it answers as the plain program does, what it keeps over
-//! a new start, what it says where slots are short, and that a failed write stops it. Nothing stands
-//! on this crate.
+//! a new start and after a loss of power, what it says where slots are short, what its log has, and
+//! that a failed write stops it. Nothing stands on this crate.
 #![tactic(auto)]
 
 #[cfg(test)]
@@ -8,10 +8,24 @@ mod answers;
 #[cfg(test)]
 mod asking;
 #[cfg(test)]
+mod early;
+#[cfg(test)]
+mod fused;
+#[cfg(test)]
+mod generated;
+#[cfg(test)]
 mod lines;
+#[cfg(test)]
+mod logged;
+#[cfg(test)]
+mod moments;
+#[cfg(test)]
+mod rebuilt;
 #[cfg(test)]
 mod space;
 #[cfg(test)]
 mod stops;
+#[cfg(test)]
+mod synced;
 #[cfg(test)]
 mod versions;
