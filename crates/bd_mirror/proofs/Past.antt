@@ -61,6 +61,8 @@ goes_quiet la lb ca cb at count a a1 b b1 time_a time_b = (
     left_more at count count (λ x. la a1 (ca a) x × IsLeftSinceEach (la a1) (ca a ∷ ts) x) (λ y. lb b1 (cb b) y × IsLeftSinceEach (lb b1) (cb b ∷ us) y)
         (IsLeftSinceEach (la a) (ca a ∷ ts)) (IsLeftSinceEach (lb b) (cb b ∷ us))
         (λ x h. each_before (ca a ∷ ts) x time_a (omega arith, le_t) h.1) (λ y h. each_before (cb b ∷ us) y time_b (omega arith, le_u) h.1),
+    time_a.later,
+    time_b.later,
   ),
 )
 
@@ -86,6 +88,8 @@ joined_over ga gb first second la lb n x0 y0 a0 b0 ts us law_a law_b earlier_a e
   now,
   λ c l. picked_from n l.0 l.1 x0 y0 c (IsLeftSinceEach (la a0) (ga.call_count a0 ∷ ts)) (IsLeftSinceEach (lb b0) (gb.call_count b0 ∷ us)) sx sy (h.pairs l.0 l.1
       ((law_a a1 (ga.call_count a) l.0 (h.first_stays.same_name first na)).0 l.2.0) ((law_b b1 (gb.call_count b) l.1 (h.second_stays.same_name second nb)).0 l.3.0)) l.4,
+  h.first_later,
+  h.second_later,
 )
 joined_over ga gb first second la lb n x0 y0 a0 b0 ts us law_a law_b earlier_a earlier_b sx sy (m ∷ ms) a a1 b b1 na nb now h =
     let na' = h.0.first_stays.same_name first na in
@@ -96,6 +100,8 @@ joined_over ga gb first second la lb n x0 y0 a0 b0 ts us law_a law_b earlier_a e
         now,
         λ c l. picked_from n l.0 l.1 x0 y0 c S T sx sy (h.0.pairs l.0 l.1
             ((law_a m.0 (ga.call_count a) l.0 na').0 l.2.0) ((law_b m.1 (gb.call_count b) l.1 nb').0 l.3.0)) l.4,
+        h.0.first_later,
+        h.0.second_later,
       ),
       joined_over ga gb first second la lb n x0 y0 a0 b0 ts us law_a law_b earlier_a earlier_b sx sy ms m.0 a1 m.1 b1 na' nb'
           (λ c l. picked_from n l.0 l.1 x0 y0 c S T sx sy (h.0.pairs l.0 l.1
@@ -151,6 +157,8 @@ goes_joined ga gb None first second sa sb la lb a a0 ja a1 b b0 jb b1 is_a is_b 
             (
               λ c l. (l.0, l.1, l.2.1, l.3.1, l.4),
               λ c l. (l.0, l.1, from_a l.0 l.2.1, from_b l.1 l.3.1, l.4),
+              time_a.later,
+              time_b.later,
             ),
             joined_over ga gb first second la lb n x y a b ts us law_a law_b earlier_a earlier_b
                 (held_each ga la a ja x (ga.call_count a ∷ ts) (λ t c. law_a ja t c na) (earlier_a ja) time_a (omega arith, le_t) held_x)
@@ -174,7 +182,7 @@ goes_apart None sa sb la lb ca cb a a1 b b1 time_a time_b = λ x y sx sy some sa
 pub member_quiet : {A : Type 0} (o : Option ℕ) (known : Option Image) (la : A → ℕ → Image → Type 0) (ca : A → ℕ) (a a1 : A)
     → IfNone o (Elapses (ca a) (ca a1) (la a) (la a1) Nothing) → IfNone o ((x : Image) → known ≡ Some x → MemberGoes la ca (take (length x - 1)) a a1)
 member_quiet (Some n) known la ca a a1 time = tt
-member_quiet None known la ca a a1 time = λ x is ts le p each. (p, each_before (ca a ∷ ts) p time (omega arith, le) each, refl)
+member_quiet None known la ca a a1 time = λ x is. (time.later, λ ts le p each. (p, each_before (ca a ∷ ts) p time (omega arith, le) each, refl))
 
 -- of one whose mark was opened all but the mark
 pub member_opens : {A : Type 0} (ga : Ghosts A) (o : Option ℕ) (known : Option Image) (first : List ℕ) (la : A → ℕ → Image → Type 0) (count : ℕ) (a a1 a2 : A) (held : Option Image)
@@ -186,24 +194,27 @@ pub member_opens : {A : Type 0} (ga : Ghosts A) (o : Option ℕ) (known : Option
     → Elapses (ga.call_count a1) (ga.call_count a2) (ga.left_since a1) (ga.left_since a2) (TornAt (count - 1) (left_now ga a1))
     → IfNone o ((x : Image) → known ≡ Some x → MemberGoes la ga.call_count (take (length x - 1)) a a2)
 member_opens ga (Some n) known first la count a a1 a2 held law earlier na na2 is shape time torn = tt
-member_opens ga None known first la count a a1 a2 held law earlier na na2 is shape time torn = λ x shows ts le p each.
-    let whole : HasBlocks count x = is_known (HasBlocks count) held x (is ∙ shows) shape in
-    let all : AllUpTo (ga.call_count a) (ga.call_count a ∷ ts) = (omega arith, le) in
-    let since : IsLeftSinceEach (ga.left_since a2) (ga.call_count a ∷ ts) p =
-    each_more (la a2) (ga.left_since a2) (ga.call_count a) (ga.call_count a ∷ ts) p all (λ t up left. (law a2 t p na2).0 left) each in
-    ⊎_elim
-    (λ (was : IsLeftSinceEach (ga.left_since a1) (ga.call_count a ∷ ts) p). (
-      p,
-      each_before (ga.call_count a ∷ ts) p time all
-          (each_more (ga.left_since a1) (la a1) (ga.call_count a) (ga.call_count a ∷ ts) p all (λ t up left. (law a1 t p na).1 left) was),
-      refl,
-    ))
-    (λ (here : TornAt (count - 1) (left_now ga a1) p). (
-      here.0,
-      held_each ga la a a1 here.0 (ga.call_count a ∷ ts) (λ t c. law a1 t c na) (earlier a1) time all here.1,
-      ap (take (length x - 1)) here.4 ∙ take-set-le (length x - 1) here.0 (count - 1) here.2 (omega (arith, whole.count_is)),
-    ))
-    (each_adds (TornAt (count - 1) (left_now ga a1)) (ga.call_count a) (ga.call_count a ∷ ts) p torn time.later all since)
+member_opens ga None known first la count a a1 a2 held law earlier na na2 is shape time torn = λ x shows. (
+  omega (arith, time.later, torn.later),
+  λ ts le p each.
+      let whole : HasBlocks count x = is_known (HasBlocks count) held x (is ∙ shows) shape in
+      let all : AllUpTo (ga.call_count a) (ga.call_count a ∷ ts) = (omega arith, le) in
+      let since : IsLeftSinceEach (ga.left_since a2) (ga.call_count a ∷ ts) p =
+      each_more (la a2) (ga.left_since a2) (ga.call_count a) (ga.call_count a ∷ ts) p all (λ t up left. (law a2 t p na2).0 left) each in
+      ⊎_elim
+      (λ (was : IsLeftSinceEach (ga.left_since a1) (ga.call_count a ∷ ts) p). (
+        p,
+        each_before (ga.call_count a ∷ ts) p time all
+            (each_more (ga.left_since a1) (la a1) (ga.call_count a) (ga.call_count a ∷ ts) p all (λ t up left. (law a1 t p na).1 left) was),
+        refl,
+      ))
+      (λ (here : TornAt (count - 1) (left_now ga a1) p). (
+        here.0,
+        held_each ga la a a1 here.0 (ga.call_count a ∷ ts) (λ t c. law a1 t c na) (earlier a1) time all here.1,
+        ap (take (length x - 1)) here.4 ∙ take-set-le (length x - 1) here.0 (count - 1) here.2 (omega (arith, whole.count_is)),
+      ))
+      (each_adds (TornAt (count - 1) (left_now ga a1)) (ga.call_count a) (ga.call_count a ∷ ts) p torn time.later all since),
+)
 
 -- ---- by the mirror's name
 
@@ -240,14 +251,16 @@ alone_by_name None name first sa sb LA lb ca cb a a1 b none all time = λ x is p
 
 -- the first half as a member
 pub member_by_name : {A B : Type 0} (name : List ℕ) (sa sb : Option Image) (la : A → ℕ → Image → Type 0) (lb : B → ℕ → Image → Type 0) (ca : A → ℕ) (cb : B → ℕ) (a a1 : A) (b b1 : B)
-    → HasPlus name → second_name name ≡ [] → ((x : Image) → sa ≡ Some x → MemberGoes la ca (take (length x - 1)) a a1)
+    → HasPlus name → second_name name ≡ [] → cb b1 ≡ cb b → ((x : Image) → sa ≡ Some x → MemberGoes la ca (take (length x - 1)) a a1)
     → GoesByName name sa sb la lb ca cb a b a1 b1
-member_by_name name sa sb la lb ca cb a a1 b b1 plus empty goes = λ x is pair.
+member_by_name name sa sb la lb ca cb a a1 b b1 plus empty same goes = λ x is pair.
     goes_for name Member (length x) la lb ca cb a a1 b b1 (for_member name plus empty) (
       [],
       λ ts us le_t le_u. (
         λ c l. (l.0, l.1.1, l.2),
-        λ c l. let was = goes x is ts le_t l.0 l.1.1 in (was.0, was.1, l.2 ∙ was.2),
+        λ c l. let was = (goes x is).1 ts le_t l.0 l.1.1 in (was.0, was.1, l.2 ∙ was.2),
+        (goes x is).0,
+        omega (arith, same),
       ),
     )
 
@@ -303,6 +316,23 @@ noted_all : {A B : Type 0} (la : A → ℕ → Image → Type 0) (lb : B → ℕ
 noted_all la lb ca cb of n t c [] H all a b = all a b
 noted_all la lb ca cb of n t c (m ∷ ms) H all a b = noted_all la lb ca cb of n t c ms ((n, m.0, m.1) ∷ H) (λ a' b'. inr (all m.0 m.1)) a b
 
+up_to_more : (n n1 : ℕ) (ts : List ℕ) → n ≤ n1 → AllUpTo n ts → AllUpTo n1 ts
+up_to_more n n1 [] le up = tt
+up_to_more n n1 (t ∷ ts) le up = (omega (arith, le, up.0), up_to_more n n1 ts le up.1)
+
+-- none of the counts at those moments is higher than the last
+first_rises : {A B : Type 0} (la : A → ℕ → Image → Type 0) (lb : B → ℕ → Image → Type 0) (ca : A → ℕ) (cb : B → ℕ) (of : (Image → Type 0) → (Image → Type 0) → Image → Type 0) (n : ℕ) (a0 : A) (b0 : B) (ts us : List ℕ) (ms : List (A × B)) (H : List (ℕ × A × B)) (a a1 : A) (b b1 : B)
+    → GoesOver (LeavesAsBefore la lb ca cb of ts us a0 b0) a b ms a1 b1 → AllUpTo (ca a) (first_counts ca H) → AllUpTo (ca a1) (first_counts ca (noted n ms ((n, a, b) ∷ H)))
+first_rises la lb ca cb of n a0 b0 ts us [] H a a1 b b1 goes up = (goes.2, up_to_more (ca a) (ca a1) (first_counts ca H) goes.2 up)
+first_rises la lb ca cb of n a0 b0 ts us (m ∷ ms) H a a1 b b1 goes up =
+    first_rises la lb ca cb of n a0 b0 ts us ms ((n, a, b) ∷ H) m.0 a1 m.1 b1 goes.1 (goes.0.2, up_to_more (ca a) (ca m.0) (first_counts ca H) goes.0.2 up)
+
+second_rises : {A B : Type 0} (la : A → ℕ → Image → Type 0) (lb : B → ℕ → Image → Type 0) (ca : A → ℕ) (cb : B → ℕ) (of : (Image → Type 0) → (Image → Type 0) → Image → Type 0) (n : ℕ) (a0 : A) (b0 : B) (ts us : List ℕ) (ms : List (A × B)) (H : List (ℕ × A × B)) (a a1 : A) (b b1 : B)
+    → GoesOver (LeavesAsBefore la lb ca cb of ts us a0 b0) a b ms a1 b1 → AllUpTo (cb b) (second_counts cb H) → AllUpTo (cb b1) (second_counts cb (noted n ms ((n, a, b) ∷ H)))
+second_rises la lb ca cb of n a0 b0 ts us [] H a a1 b b1 goes up = (goes.3, up_to_more (cb b) (cb b1) (second_counts cb H) goes.3 up)
+second_rises la lb ca cb of n a0 b0 ts us (m ∷ ms) H a a1 b b1 goes up =
+    second_rises la lb ca cb of n a0 b0 ts us ms ((n, a, b) ∷ H) m.0 a1 m.1 b1 goes.1 (goes.0.3, up_to_more (cb b) (cb m.1) (second_counts cb H) goes.0.3 up)
+
 -- so an attach leaves no more of its name, whatever the moments before were
 pub no_more : {A B : Type 0} (create : Option ℕ) (name : List ℕ) (sa sb : Option Image) (la : A → ℕ → Image → Type 0) (lb : B → ℕ → Image → Type 0) (ca : A → ℕ) (cb : B → ℕ) (n n1 : ℕ) (a a1 : A) (b b1 : B) → n ≤ n1
     → IfNone create (GoesByName name sa sb la lb ca cb a b a1 b1) → IfNone create (LeavesNoMore name sa sb la lb ca cb n n1 a b a1 b1)
@@ -312,12 +342,16 @@ no_more None name sa sb la lb ca cb n n1 a a1 b b1 later goes = λ x is pair.
     let at : Attached = attached_for name in
     let count : ℕ = length x in (
       over.0,
-      λ past le_a le_b. record {
-        later = later;
-        keeps = λ t c le was. inr (noted_all la lb ca cb (IsLeftOf at count count) n t c over.0 ((n, a, b) ∷ past)
-            (⊎_elim (λ now a' b'. inl (le, inl now)) (λ old a' b'. inr old) was) a1 b1);
-        adds = λ t c le left. inl (past_over la lb ca cb at count n a b (first_counts ca past) (second_counts cb past) over.0 past a a1 b b1 t c
-            (IsLeftPast la lb ca cb (IsLeftOf at count count) past a b t c)
-            (λ l x e. e) (λ l x e. e) (over.1 (first_counts ca past) (second_counts cb past) le_a le_b) (λ now. inl now) (λ old. inr old) left);
-      },
+      λ past le_a le_b. let goes_over = over.1 (first_counts ca past) (second_counts cb past) le_a le_b in (
+        first_rises la lb ca cb (IsLeftOf at count count) n a b (first_counts ca past) (second_counts cb past) over.0 past a a1 b b1 goes_over le_a,
+        second_rises la lb ca cb (IsLeftOf at count count) n a b (first_counts ca past) (second_counts cb past) over.0 past a a1 b b1 goes_over le_b,
+        record {
+          later = later;
+          keeps = λ t c le was. inr (noted_all la lb ca cb (IsLeftOf at count count) n t c over.0 ((n, a, b) ∷ past)
+              (⊎_elim (λ now a' b'. inl (le, inl now)) (λ old a' b'. inr old) was) a1 b1);
+          adds = λ t c le left. inl (past_over la lb ca cb at count n a b (first_counts ca past) (second_counts cb past) over.0 past a a1 b b1 t c
+              (IsLeftPast la lb ca cb (IsLeftOf at count count) past a b t c)
+              (λ l x e. e) (λ l x e. e) goes_over (λ now. inl now) (λ old. inr old) left);
+        },
+      ),
     )

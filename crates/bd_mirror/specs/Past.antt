@@ -65,9 +65,9 @@ IsLeftPast left_a left_b calls_a calls_b of past a b t c =
     (IsLeftSinceEach (left_b b) (calls_b b ∷ second_counts calls_b past)) c
     ⊎ IsLeftInPast left_a left_b calls_a calls_b of past a b t c
 
--- Two halves went on, from a later moment on or from the first one. What a crash before that or
--- inside it leaves since both moments, and since each of some earlier counts, one at the first
--- moment might have left.
+-- Two halves went on, from a later moment on or from the first one, and their counts didn't fall.
+-- What a crash before that or inside it leaves since both moments, and since each of some earlier
+-- counts, one at the first moment might have left.
 abbrev pub LeavesAsBefore : {A B : Type 0} → (A → ℕ → Image → Type 0) → (B → ℕ → Image → Type 0)
     → (A → ℕ) → (B → ℕ) → ((Image → Type 0) → (Image → Type 0) → Image → Type 0)
     → List ℕ → List ℕ → A → B → A → B → A → B → Type 0
@@ -82,6 +82,7 @@ LeavesAsBefore left_a left_b calls_a calls_b of ts us a0 b0 a b a_new b_new =
     (λ y. left_b b_new (calls_b b) y × IsLeftSinceEach (left_b b_new) (calls_b b0 ∷ us) y) c
     → of (IsLeftSinceEach (left_a a0) (calls_a a0 ∷ ts))
     (IsLeftSinceEach (left_b b0) (calls_b b0 ∷ us)) c)
+    × (calls_a a ≤ calls_a a_new) × (calls_b b ≤ calls_b b_new)
 
 -- So they went on over some moments.
 abbrev pub GoesAsBefore : {A B : Type 0} → (A → ℕ → Image → Type 0) → (B → ℕ → Image → Type 0)
@@ -106,7 +107,8 @@ GoesByName name first second left_a left_b calls_a calls_b a b a_new b_new =
     (IsLeftOf (attached_for name) (length x) (length x)) a b a_new b_new
 
 -- Of the image of a name a crash might have left since each earlier call what it might have left
--- before, whatever the moments before were.
+-- before, whatever the moments before were. With the new ones their counts are no higher than those
+-- now, so that a later attach goes on from them.
 abbrev pub LeavesNoMore : {A B : Type 0} → List ℕ → Option Image → Option Image
     → (A → ℕ → Image → Type 0) → (B → ℕ → Image → Type 0) → (A → ℕ) → (B → ℕ)
     → ℕ → ℕ → A → B → A → B → Type 0
@@ -115,7 +117,9 @@ LeavesNoMore {A} {B} name first second left_a left_b calls_a calls_b before afte
     → (ms : List (A × B)) × ((past : List (ℕ × A × B))
     → AllUpTo (calls_a a) (first_counts calls_a past)
     → AllUpTo (calls_b b) (second_counts calls_b past)
-    → Elapses before after
+    → AllUpTo (calls_a a_new) (first_counts calls_a (noted before ((a, b) ∷ ms) past))
+    × AllUpTo (calls_b b_new) (second_counts calls_b (noted before ((a, b) ∷ ms) past))
+    × Elapses before after
     (IsLeftPast left_a left_b calls_a calls_b
     (IsLeftOf (attached_for name) (length x) (length x)) past a b)
     (IsLeftPast left_a left_b calls_a calls_b
@@ -125,6 +129,6 @@ LeavesNoMore {A} {B} name first second left_a left_b calls_a calls_b before afte
 -- So the first half of a member went on: its mark alone might have been torn.
 abbrev pub MemberGoes : {A : Type 0} → (A → ℕ → Image → Type 0) → (A → ℕ)
     → (Image → Image) → A → A → Type 0
-MemberGoes left calls blocks a a_new = (ts : List ℕ) → AllUpTo (calls a) ts → (x : Image)
-    → IsLeftSinceEach (left a_new) (calls a ∷ ts) x
-    → (y : Image) × IsLeftSinceEach (left a) (calls a ∷ ts) y × (blocks x ≡ blocks y)
+MemberGoes left calls blocks a a_new = (calls a ≤ calls a_new) × ((ts : List ℕ)
+    → AllUpTo (calls a) ts → (x : Image) → IsLeftSinceEach (left a_new) (calls a ∷ ts) x
+    → (y : Image) × IsLeftSinceEach (left a) (calls a ∷ ts) y × (blocks x ≡ blocks y))

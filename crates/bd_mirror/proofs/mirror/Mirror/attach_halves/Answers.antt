@@ -1,4 +1,4 @@
-use Rattle.std.proofs.Common.{◌≡◌, ℕ, List, Some, arith, ◌+◌, ◌-◌, ◌<◌, ◌∙◌, sym, subst, length, take}
+use Rattle.std.proofs.Common.{◌≡◌, ap, ℕ, List, Some, arith, ◌+◌, ◌-◌, ◌<◌, ◌∙◌, sym, subst, length, take}
 use Rattle.bd_mirror.specs.Calls.{shown_now, attached_as}
 use Rattle.bd_device.specs.Blocks.{Image}
 use Rattle.bd_device.specs.Moments.{Nothing}
@@ -196,6 +196,7 @@ returns-in_ok-attach_member-in-Some-clause-by_name g c =
     member_by_name c.args.name.now _ _ (λ d. g.A.Attach.left_behind d (first_name c.args.name.now)) (λ d. g.B.Attach.left_behind d (second_name c.args.name.now))
     g.A.Device.call_count g.B.Device.call_count m.first new.first m.second new.second cut.2
     (sym cut.1 ∙ empty_is c.is_empty.result c.in-Some.second.now c.is_empty.ensures c.if-is_empty.true)
+    (ap (λ m. g.B.Device.call_count m.second) c.attach_member.ensures.after)
     (subst (λ first. (x : Image) → g.A.Attach.shows m.first first ≡ Some x → MemberGoes (λ d. g.A.Attach.left_behind d first) g.A.Device.call_count (take (length x - 1)) m.first new.first) cut.0 goes))
 
 pub returns-in_err-attach_member-in-Some-clause-by_name : goal.returns-in_err-attach_member-in-Some-clause-by_name
@@ -207,6 +208,7 @@ returns-in_err-attach_member-in-Some-clause-by_name g c =
     member_by_name c.args.name.now _ _ (λ d. g.A.Attach.left_behind d (first_name c.args.name.now)) (λ d. g.B.Attach.left_behind d (second_name c.args.name.now))
     g.A.Device.call_count g.B.Device.call_count m.first new.first m.second new.second cut.2
     (sym cut.1 ∙ empty_is c.is_empty.result c.in-Some.second.now c.is_empty.ensures c.if-is_empty.true)
+    (ap (λ m. g.B.Device.call_count m.second) c.attach_member.ensures.after)
     (subst (λ first. (x : Image) → g.A.Attach.shows m.first first ≡ Some x → MemberGoes (λ d. g.A.Attach.left_behind d first) g.A.Device.call_count (take (length x - 1)) m.first new.first) cut.0 goes))
 
 pub returns-else-is_empty-clause-by_name : goal.returns-else-is_empty-clause-by_name
