@@ -455,7 +455,7 @@ fn clones_of_the_root_wear_the_level(rt: HostRuntime) -> Result<(), Fail> {
         script.push_str(format!(in alloc; "clone / /s{i}\n")?.as_str())?;
     }
     // In so many slots there is room for the nodes of a thousand clones.
-    let mut dev = MemDevice::new(alloc, 132 + 16 * 4_200, WRITES, &[])?;
+    let mut dev = MemDevice::new(alloc, 132 + 16 * 4_200, 1 << 15, &[])?;
     let _made = called_on(alloc, &mut dev, &["betr", "format", "img", "4200"], b"")?;
     let (status, written) = called_on(alloc, &mut dev, &["betr", "run", "img"], script.as_bytes())?;
     assert_eq!(rt; status, 8);
