@@ -10,7 +10,7 @@ ghost use Rattle.bd_device.specs.declared.fault.ImageFault.TheVariants.{Damaged}
 ghost use Rattle.bd_cache.specs.Cache.{kept_at};
 ghost use Rattle.bd_table.specs.declared.table.Table.{Table as StoredTable};
 ghost use Rattle.bd_super.specs.Superblocks.{IsSuper, log_block};
-ghost use Rattle.bd_super.specs.Live.{IsLive, IsDamaged};
+ghost use Rattle.bd_super.specs.Live.{IsLive};
 ghost use Rattle.bd_log.specs.Batches.{AreBatches};
 ghost use Rattle.bd_log.specs.Logs.{fresh_log};
 ghost use Rattle.bd_pager.specs.Opened.{IsOpened};

@@ -1,6 +1,6 @@
 -- The key after a child's is that of the next child or of what is below it.
 use Rattle.std.proofs.Common.{◌≡◌, ℕ, ◌+◌, Bool, true, false, cond, List, [], ◌∷◌, ◌++◌, inl, inr, length, take, drop, refl, sym, ap, subst, ◌∙◌, arith, append_assoc, append-nil}
-use Rattle.std.specs.Prelude.{Option, Some, None, IsSome, IfSome, not, ◌==◌}
+use Rattle.std.specs.Prelude.{Option, Some, None, IsSome, IfSome, Result, Ok, Err, IfOk, not, ◌==◌}
 use Rattle.std.specs.Option.{option_map}
 use Rattle.std.specs.FinMap.{get}
 use Rattle.std.specs.List.{Contains, list_all, prefix_len}
@@ -17,6 +17,7 @@ use Rattle.bd_model.specs.Tree.{Entry, is_directory, has_directory, Tree, IsTree
 use Rattle.bd_model.specs.Step.{file_bytes, children, those_after}
 use Rattle.bd_model.proofs.Listing.{names_each, names_only, names_rise}
 use Rattle.bd_message.specs.KeyMaps.{At, SameAt, IsFound, IsNext}
+use Rattle.bd_message.specs.declared.fault.MapFault.{MapFault}
 use Rattle.bd_represent.specs.EntryKeys.{record_key, block_key, IsEntryKey}
 use Rattle.bd_represent.specs.Represents.{record_of, record_value, IsBlockOf, Represents}
 use Rattle.bd_represent.proofs.KeyLemmas.{key_of-under}
@@ -215,3 +216,12 @@ child_record at t path n k value read e tree rep has key stored reads =
 -- the child that is listed, by its name as it was read
 pub named_as : (t : Tree) (path : List (List ℕ)) (found : Option (List ℕ)) (n m : List ℕ) → found ≡ Some n → found ≡ Some m → m ≡ n
 named_as t path found n m e f = cc
+
+-- what is the first child of some is one
+pub some_listed : (r : Result (Option Listed) MapFault) (o : Option Listed) (l : Listed) → o ≡ Some l → IfOk r (λ child. child ≡ o) → IfOk r (λ child. IsSome child × (child ≡ o))
+some_listed (Ok child) o l is same = (subst IsSome (sym (same ∙ is)) refl, same)
+some_listed (Err fault) o l is same = same
+
+-- what is there isn't none
+pub none_there : (found : Option Listed) → IsSome found → found ≡ None → ⊥
+none_there found some none = absurd (let no : false ≡ true = subst IsSome none some in cc)

@@ -1,6 +1,6 @@
 //! The names of what stands in a directory.
 
-ghost use Rattle.std.specs.Prelude.{◌≡◌, ◌≤◌, ◌+◌, ℕ, List, [], ◌∷◌, ◌++◌, length, take, Option, Some, None, not, ◌==◌, nat_lt, true, IsTrue, IfOk, IfErr};
+ghost use Rattle.std.specs.Prelude.{◌≡◌, ◌≤◌, ◌+◌, ℕ, List, [], ◌∷◌, ◌++◌, length, take, Option, Some, None, not, ◌==◌, nat_lt, true, IsTrue, IsSome, IfOk, IfErr};
 ghost use Rattle.std.specs.List.{prefix_len, list_all};
 ghost use Rattle.std.specs.Option.{option_copied};
 ghost use Rattle.std.specs.FinMap.{get};
@@ -15,7 +15,7 @@ ghost use Rattle.bd_message.specs.declared.fault.MapFault.TheVariants as fault;
 ghost use Rattle.bd_message.specs.KeyMaps.{IsNext, HasMapCause, NeverWorn};
 ghost use Rattle.bd_message.specs.Reads.{IsLeft};
 ghost use Rattle.bd_represent.specs.Represents.{Represents, record_of};
-ghost use Rattle.bd_dirs.specs.Listings.{first_of, lower, key_after};
+ghost use Rattle.bd_dirs.specs.Listings.{first_of, lower, key_after, IsLook};
 
 use bd_command::{Listed, Listing, Names, Refusal, Reply};
 use bd_files::record;
@@ -26,8 +26,25 @@ use bd_names::{Name, Path, PathFault};
 use bd_records::{Record, read_record};
 use std::alloc::{AllocError, Global};
 
+// How many entries that are none of a tree's are passed over in a directory, one after the other,
+// before it is taken to end there.
+const MAX_PASSED: u32 = 65_536;
+
+// What a look finds in a directory.
+#[derive(Drop)]
+enum Look {
+    // Nothing more.
+    End,
+    // A child.
+    Child(Listed),
+    // An entry that is none of a tree's; the search goes on from this key.
+    Past(Vec<u8>),
+}
+
 /// The names of what stands in the directory at a path, at most 100 of them, in the order of their
-/// bytes: those greater than `after`, if it is given. They come with whether more follow.
+/// bytes: those greater than `after`, if it is given. They come with whether more follow. In a map
+/// that no tree is represented by, entries that are none of a tree's (a name that is none, or that
+/// has no record) are passed over, at most 65,536 of them one after the other.
 pub fn list<M: KeyMap>(
     alloc: Global,
     m: &mut M,
@@ -120,11 +137,51 @@ fn next_child<M: KeyMap>(
         (M.bad m.new) NeverWorn result }
 {
     let within = path.key(alloc)?;
-    let from = key_after(alloc, &within, after)?;
-    match m.next(&from, &within)? {
-        None => Ok(None),
-        Some(key) => child_at(alloc, m, &within, &key),
+    let mut from = key_after(alloc, &within, after)?;
+    let mut passed = 0;
+    while passed < MAX_PASSED {
+        match looked_at(alloc, m, &within, &from)? {
+            Look::End => return Ok(None),
+            Look::Child(child) => return Ok(Some(child)),
+            Look::Past(key) => from = key,
+        }
+        passed += 1;
     }
+    Ok(None)
+}
+
+/// What is found from a key on.
+fn looked_at<M: KeyMap>(
+    alloc: Global,
+    m: &mut M,
+    within: &[u8],
+    from: &[u8],
+) -> Result<Look, MapFault>
+    ensures child { M.is_known m.old → (t : Tree) → IsTree t → Represents (M.has m.old) t
+        → (path : List (List ℕ)) (after : Option (List ℕ)) → AreNames path
+        → IsTrue (list_all is_name_byte (lower after)) → within.now ≡ key_of path
+        → from.now ≡ key_after path after
+        → IfOk result (IsLook (first_of (those_after after (children path t)))) }
+    ensures left { IsLeft M.KeyMap m.old m.new }
+    ensures cause { HasMapCause (M.fault_count m.old) (M.fault_count m.new)
+        (M.bad m.new) NeverWorn result }
+{
+    let Some(key) = m.next(from, within)? else {
+        return Ok(Look::End);
+    };
+    match child_at(alloc, m, within, &key)? {
+        Some(child) => Ok(Look::Child(child)),
+        None => Ok(Look::Past(key_past(alloc, within, &key)?)),
+    }
+}
+
+/// The key after all those of the name that a key has, or would have, in a directory.
+fn key_past(alloc: Global, within: &[u8], key: &[u8]) -> Result<Vec<u8>, AllocError> {
+    let text = tail(key, within.len());
+    let mut past = Vec::from_slice(alloc, within)?;
+    past.extend_from_slice(&text[..len_before_zero(text)])?;
+    past.push(1)?;
+    Ok(past)
 }
 
 /// The key after all that begin with a directory's key and a name, or the key before all names.
@@ -153,7 +210,8 @@ fn child_at<M: KeyMap>(
         → (path : List (List ℕ)) (after : Option (List ℕ)) → AreNames path
         → IsTrue (list_all is_name_byte (lower after)) → within.now ≡ key_of path
         → IsNext (M.has m.old) (key_after path after) (key_of path) (Some key.now)
-        → IfOk result (λ child. child ≡ first_of (those_after after (children path t))) }
+        → IfOk result (λ child. IsSome child
+        × (child ≡ first_of (those_after after (children path t)))) }
     ensures left { IsLeft M.KeyMap m.old m.new }
     ensures cause { HasMapCause (M.fault_count m.old) (M.fault_count m.new)
         (M.bad m.new) NeverWorn result }
