@@ -3,7 +3,7 @@ use Rattle.std.proofs.Common.{◌≡◌, ℕ, ◌<◌, ◌≤◌, ◌⊎◌, Non
 use Rattle.std.specs.Prelude.{Result, Ok, Err}
 use Rattle.std.proofs.lemmas.Bool.{cases_lt}
 use Rattle.bd_io.specs.Cause.{Rose, next_count}
-use Rattle.bd_device.specs.Device.{OnlyReads, Stays}
+use Rattle.bd_device.specs.Device.{OnlyReads, Stays, LastFailed}
 use Rattle.bd_device.specs.declared.device.Device.{Ghosts}
 use Rattle.bd_device.proofs.Calls.{stays_then, reads_stay}
 use Rattle.bd_message.specs.KeyMaps.{HasMapCause, IsCause, StaysUnlessDevice}
@@ -16,7 +16,7 @@ use Rattle.bd_engine.specs.Engines.{IsStopped, IsGoingOn}
 use Rattle.bd_volume.specs.declared.fault.Fault.{Fault}
 use Rattle.bd_volume.specs.declared.fault.Fault.TheVariants.{Device, Damaged, Worn, NoMemory, Full, Stopped}
 use Rattle.bd_volume.specs.declared.volume.Volume.{Volume}
-use Rattle.bd_volume.specs.Faults.{fault_of, HasNotFailed, IsFaultCause, HasFaultCause, IsGoing, IsHalted, IsStoppedRightly}
+use Rattle.bd_volume.specs.Faults.{fault_of, HasNotFailed, IsFaultCause, IsGoing, IsHalted, IsStoppedRightly}
 use Rattle.bd_volume.specs.Volume.{count_of, device_of, stop_of}
 use Rattle.bd_volume.specs.Steps.{GoesOn, Ends}
 
@@ -54,25 +54,29 @@ module _ {D : Type 0} (g : Ghosts D) where
       let bad : ⊥ = cc in
       absurd bad
 
-  halted_then : (a b c : Volume D) → IsGoing g a b → IsHalted g b c → IsHalted g a c
-  halted_then a b c p h = record { stop_is = h.stop_is; write_faults = h.write_faults ∙ ap next_count p.write_faults }
+  halted_then : (a b c : Volume D) → IsGoing g a b → HasNotFailed g a b → IsHalted g b c → IsHalted g a c
+  halted_then a b c p faults h = record {
+    stop_is = h.stop_is;
+    write_faults = h.write_faults ∙ ap next_count p.write_faults;
+    failed = record { one = h.failed.one ∙ ap next_count faults; last = h.failed.last };
+  }
 
-  pub stop_then : {T : Type 0} (a b c : Volume D) (r : Result T Fault) → IsGoing g a b → IsStoppedRightly g b c r → IsStoppedRightly g a c r
-  stop_then a b c (Ok x) p h = record { ok = going_then a b c p h.ok; err = tt }
-  stop_then a b c (Err e) p h = record {
+  pub stop_then : {T : Type 0} (a b c : Volume D) (r : Result T Fault) → IsGoing g a b → HasNotFailed g a b → IsStoppedRightly g b c r → IsStoppedRightly g a c r
+  stop_then a b c (Ok x) p faults h = record { ok = going_then a b c p h.ok; err = tt }
+  stop_then a b c (Err e) p faults h = record {
     ok = tt;
-    err = elim h.err [ inl goes ↦ inl (going_then a b c p goes) | inr halts ↦ inr (halted_then a b c p halts.0, halts.1) ];
+    err = elim h.err [ inl goes ↦ inl (going_then a b c p goes) | inr halts ↦ inr (halted_then a b c p faults halts.0, halts.1) ];
   }
 
   pub ends_then : {T : Type 0} (a b c : Volume D) (r : Result T Fault) → GoesOn g a b → Ends g b c r → Ends g a c r
   ends_then a b c (Ok x) p h = record {
     cause = record { later = omega (arith, p.faults, h.cause.later); kept = h.cause.kept ∙ p.faults; failed = tt };
-    stop = stop_then a b c (Ok x) p.going h.stop;
+    stop = stop_then a b c (Ok x) p.going p.faults h.stop;
     stays = stays_then p.stays h.stays;
   }
   ends_then a b c (Err e) p h = record {
     cause = record { later = omega (arith, p.faults, h.cause.later); kept = tt; failed = fault_then a b c e p h.cause.failed };
-    stop = stop_then a b c (Err e) p.going h.stop;
+    stop = stop_then a b c (Err e) p.going p.faults h.stop;
     stays = stays_then p.stays h.stays;
   }
 
@@ -101,9 +105,6 @@ module _ {D : Type 0} (g : Ghosts D) where
 
   pub ends_full : {T : Type 0} (a b : Volume D) (free need : ℕ) → GoesOn g a b → free < need → Ends {T = T} g a b (Err (Full free need))
   ends_full a b free need p short = going_fault a b (Full free need) p (short, p.faults)
-
-  pub ends_worn : {T : Type 0} (a b : Volume D) (which : Counter) → GoesOn g a b → Ends {T = T} g a b (Err (Worn which))
-  ends_worn a b which p = going_fault a b (Worn which) p p.faults
 
   -- ---- calls that write nothing
 
@@ -141,6 +142,16 @@ module _ {D : Type 0} (g : Ghosts D) where
   save_cause a b (map.Worn which) later h = ap g.fault_count h.2
   save_cause a b map.NoMemory later h = ap g.fault_count h
 
+  save_failed : (a b : Volume D) (fault : MapFault) → fault ≡ map.DeviceFault → IsCheckpointCause g (device_of a) (device_of b) a.engine.live fault → LastFailed g (device_of a) (device_of b)
+  save_failed a b fault is h = subst (λ (f : MapFault). IsCheckpointCause g (device_of a) (device_of b) a.engine.live f) is h
+
+  -- at each other fault the device wasn't called
+  pub save_untouched : (a b : Volume D) (fault : MapFault) → IsCheckpointCause g (device_of a) (device_of b) a.engine.live fault → (fault_of fault ≡ Device → ⊥) → device_of b ≡ device_of a
+  save_untouched a b map.DeviceFault h other = absurd (other refl)
+  save_untouched a b (map.Damaged block) h other = absurd h
+  save_untouched a b (map.Worn which) h other = h.2
+  save_untouched a b map.NoMemory h other = h
+
   pub save_fails : {T : Type 0} (a b : Volume D) (fault : MapFault) → g.fault_count (device_of a) ≤ g.fault_count (device_of b)
       → (IsStopped g a.engine b.engine × (fault ≡ map.DeviceFault)) ⊎ IsGoingOn g a.engine b.engine → IsCheckpointCause g (device_of a) (device_of b) a.engine.live fault → Stays g (device_of a) (device_of b)
       → Ends {T = T} g a b (Err (fault_of fault))
@@ -149,7 +160,7 @@ module _ {D : Type 0} (g : Ghosts D) where
     stop = record {
       ok = tt;
       err = elim stop [
-        | inl halted ↦ inr (record { stop_is = halted.0.stop_is; write_faults = halted.0.write_faults }, ap fault_of halted.1)
+        | inl halted ↦ inr (record { stop_is = halted.0.stop_is; write_faults = halted.0.write_faults; failed = save_failed a b fault halted.1 cause }, ap fault_of halted.1)
         | inr goes ↦ inl (record { stop_is = goes.stop_is; write_faults = goes.write_faults })
       ];
     };
@@ -157,9 +168,6 @@ module _ {D : Type 0} (g : Ghosts D) where
   }
 
   -- ---- a volume that was stopped
-
-  pub ends_stopped : {T : Type 0} (a : Volume D) (call : ℕ) → stop_of a ≡ Some call → HasFaultCause {T = T} g a a (Err (Stopped call))
-  ends_stopped a call off = record { later = omega arith; kept = tt; failed = (off, refl) }
 
   -- ---- a command that was logged and counted
 

@@ -23,7 +23,7 @@ use Rattle.bd_view.specs.Moves.{CannotSave}
 use Rattle.bd_engine.specs.Engines.{EngineState, keys_of, IsSoundOn, IsReadOn, OnlyNodesOn, WritesEarly, view_of as view_in}
 use Rattle.bd_volume.specs.declared.fault.Fault.{Fault}
 use Rattle.bd_volume.specs.declared.volume.Volume.{Volume}
-use Rattle.bd_volume.specs.Faults.{IsGoing, IsStoppedRightly}
+use Rattle.bd_volume.specs.Faults.{HasNotFailed, IsGoing, IsStoppedRightly}
 use Rattle.bd_volume.specs.Replays.{OnlyEarly, ReplaysEarly}
 use Rattle.bd_volume.specs.Steps.{KeepsStanding}
 use Rattle.bd_volume.specs.Volume.{view_of, count_of, device_of, stop_of}
@@ -147,10 +147,10 @@ module _ {D : Type 0} (g : Ghosts D) where
   pub early_goes : {T : Type 0} (a b : Volume D) (r : Result T Fault) → GoesEarly a b → ReplaysEarly g a b r
   early_goes a b r h = record { early = h.early; stop = stop_none g a b r h.going }
 
-  pub early_fails : {T U : Type 0} (a b d : Volume D) (fault : Fault) → GoesEarly a b → ReplaysEarly {T = U} g b d (Err fault) → ReplaysEarly {T = T} g a d (Err fault)
-  early_fails a b d fault p q = record {
+  pub early_fails : {T U : Type 0} (a b d : Volume D) (fault : Fault) → GoesEarly a b → HasNotFailed g a b → ReplaysEarly {T = U} g b d (Err fault) → ReplaysEarly {T = T} g a d (Err fault)
+  early_fails a b d fault p faults q = record {
     early = early_both a.engine b.engine d.engine p.early q.early;
-    stop = stop_then g a b d (Err fault) p.going (record { ok = tt; err = q.stop.err });
+    stop = stop_then g a b d (Err fault) p.going faults (record { ok = tt; err = q.stop.err });
   }
 
   pub early_call : {T : Type 0} (a b : Volume D) (r : Result T Fault) → WritesEarly g a.engine b.engine → IsStoppedRightly g a b r → ReplaysEarly g a b r

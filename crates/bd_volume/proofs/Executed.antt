@@ -11,7 +11,7 @@ use Rattle.bd_model.specs.Tree.{Tree}
 use Rattle.bd_model.specs.Step.{step, stepped, refusal_of}
 use Rattle.bd_model.proofs.TreeLaws.{after-reading}
 use Rattle.bd_model.proofs.TreeStays.{after_stays}
-use Rattle.bd_message.specs.KeyMaps.{At}
+use Rattle.bd_message.specs.KeyMaps.{At, SameAt}
 use Rattle.bd_device.specs.declared.device.Device.{Ghosts}
 use Rattle.bd_checkpoint.proofs.Handed.{IsSince}
 use Rattle.bd_dirs.specs.declared.plan.Plan.{Plan}
@@ -20,14 +20,15 @@ use Rattle.bd_dirs.specs.Plans.{IsPlan}
 use Rattle.bd_effects.specs.Carrying.{accepts, TakesStep}
 use Rattle.bd_effects.proofs.Carried.{done_accepted}
 use Rattle.bd_view.specs.Views.{View}
-use Rattle.bd_view.specs.Moves.{IsAccepted}
+use Rattle.bd_view.specs.Moves.{HasStepped, IsAccepted}
 use Rattle.bd_engine.specs.Engines.{keys_of, IsSoundOn}
 use Rattle.bd_volume.specs.declared.fault.Fault.{Fault}
 use Rattle.bd_volume.specs.declared.fault.Fault.TheVariants.{Device, Damaged, Worn, NoMemory, Full, Stopped}
 use Rattle.bd_volume.specs.declared.volume.Volume.{Volume}
-use Rattle.bd_volume.specs.Volume.{StandsFor, GoesBy, IsSafeOn, count_of, device_of}
+use Rattle.bd_volume.specs.Volume.{StandsFor, GoesBy, IsSafeOn, view_of, count_of, device_of}
 use Rattle.bd_volume.specs.Steps.{KeepsStanding, TakesSafely, IsLoggedOn, HasLogged, IsOfAccepted}
 use Rattle.bd_volume.proofs.Safe.{no_time, goes_by_then}
+use Rattle.bd_volume.proofs.Stepped.{stepped_stand}
 
 -- what is said of an error is said of this one
 pub at_err : {T E : Type 0} (r : Result T E) (e : E) (P : E → Type 0) → IfErr r P → r ≡ Err e → P e
@@ -72,6 +73,12 @@ refused_tree : (t : Tree) (c : Command) (refusal : Refusal) → refusal_of t c �
 refused_tree t c refusal e = ap (λ (o : Option Refusal). (stepped t c o).0) e
 
 module _ {D : Type 0} (g : Ghosts D) where
+  -- at a fault, after steps alone, what stands at the keys of sound nodes stays
+  pub keys_stay : {T : Type 0} (r : Result T Fault) (a b : Volume D) (c : Command) → (IsSoundOn g a.engine.pager → OnErr r (HasStepped c (view_of g a) (view_of g b)))
+      → OnErr r (IsSoundOn g a.engine.pager → SameAt (keys_of g a.engine.pager) (keys_of g b.engine.pager))
+  keys_stay (Ok x) a b c h = tt
+  keys_stay (Err e) a b c h = λ s. stepped_stand c (view_of g a) (view_of g b) (h s)
+
   -- where the map takes the step, and the count rises with it, the volume stands for the tree after
   pub stands_after : (a d : Volume D) (c : Command) (reply : Reply) (t : Tree) (n : ℕ) → IsCommand c → StandsFor g a t n → IsSoundOn g d.engine.pager → TakesStep t c (keys_of g d.engine.pager) reply → count_of d ≡ count_of a + accepted c reply
       → (d.engine.stop ≡ None → IsSafeOn g d.engine (step t c).0 (n + accepted c reply)) → StandsFor g d (step t c).0 (n + accepted c reply)

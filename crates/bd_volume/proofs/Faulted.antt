@@ -11,7 +11,6 @@ use Rattle.bd_message.specs.declared.fault.MapFault.TheVariants as map
 use Rattle.bd_message.specs.KeyMaps.{IsCause, NeverWorn}
 use Rattle.bd_device.specs.declared.device.Device.{Ghosts}
 use Rattle.bd_super.specs.declared.superblock.Super.{Super}
-use Rattle.bd_checkpoint.specs.Saving.{IsCheckpointCause}
 use Rattle.bd_node.specs.Meaning.{Nodes}
 use Rattle.bd_node.specs.Tables.{Table, IsSound}
 use Rattle.bd_step.specs.Steps.{IsWornToFlush}
@@ -32,7 +31,7 @@ use Rattle.bd_volume.specs.declared.fault.Fault.{Fault}
 use Rattle.bd_volume.specs.declared.fault.Fault.TheVariants.{Device, Damaged, Worn, NoMemory, Full, Stopped}
 use Rattle.bd_volume.specs.declared.volume.Volume.{Volume}
 use Rattle.bd_volume.specs.Faults.{fault_of}
-use Rattle.bd_volume.specs.Volume.{view_of, device_of}
+use Rattle.bd_volume.specs.Volume.{view_of}
 use Rattle.bd_volume.specs.Wears.{IsWornByKind, IsWornForSending, IsWornForSave, IsWornInReplay, IsWornNow, Wears, ShowsWorn}
 use Rattle.bd_volume.specs.Steps.{ShowsFault, IsSaveFault, IsWornInStep, IsStepFault, IsCommandFault}
 use Rattle.bd_volume.proofs.Stepped.{not_stepped}
@@ -62,11 +61,6 @@ step_halts (Full free need) count c old new writing s h = record {
   unsaved = h.unsaved;
 }
 step_halts (Stopped call) count c old new writing s h = h
-
--- a step's fault is the command's
-pub steps_halt : {T : Type 0} (r : Result T Fault) (count : ℕ) (c : Command) (old new : View) → IsTrue (writes c) → HasStepped c old new → IfErr r (λ fault. IsStepFault fault c new) → IfErr r (λ fault. IsCommandFault fault count c old new)
-steps_halt (Ok x) count c old new writing s h = tt
-steps_halt (Err e) count c old new writing s h = step_halts e count c old new writing s h
 
 -- the count of accepted commands has no room
 pub count_worn : (count : ℕ) (c : Command) (v : View) → IsTrue (writes c) → 2 ^ 64 ≤ count + 1 → Wears Count count c v v
@@ -124,12 +118,6 @@ worn_where K L nodes t which knows h = record {
 
 module _ {D : Type 0} (g : Ghosts D) where
   -- ---- checkpoints
-
-  pub save_told : (a b : Volume D) (fault : MapFault) → IsCheckpointCause g (device_of a) (device_of b) a.engine.live fault → b.engine.live ≡ a.engine.live → IsSaveFault a b (fault_of fault)
-  save_told a b map.DeviceFault h same = tt
-  save_told a b (map.Damaged block) h same = h
-  save_told a b (map.Worn which) h same = (h.0, h.1, same)
-  save_told a b map.NoMemory h same = tt
 
   save_in_step : (a b : Volume D) (c : Command) (fault : Fault) → IsSaveFault a b fault → CallsForSave c (view_of g a) → view_of g b ≡ view_of g a → IsStepFault fault c (view_of g b)
   save_in_step a b c Device h calls same = tt
@@ -202,12 +190,6 @@ module _ {D : Type 0} (g : Ghosts D) where
   read_halts m n b count c old new (map.Damaged block) good h = good block h
   read_halts m n b count c old new (map.Worn which) good h = absurd h
   read_halts m n b count c old new map.NoMemory good h = tt
-
-  pub read_shows : (m n : ℕ) (b : Volume D) (count : ℕ) (c : Command) (fault : MapFault) → IsCause m n (is_bad g b.engine.pager) NeverWorn fault → ShowsFault g (fault_of fault) count c b.engine
-  read_shows m n b count c map.DeviceFault h = tt
-  read_shows m n b count c (map.Damaged block) h = tt
-  read_shows m n b count c (map.Worn which) h = absurd h
-  read_shows m n b count c map.NoMemory h = tt
 
   pub graft_halts : (m n : ℕ) (worn : Counter → Type 0) (b : Volume D) (count : ℕ) (c : Command) (old v : View) (s d : List ℕ) (keep : Bool) (fault : MapFault) → IsTrue (writes c) → IsPlanKind c (Graft s d keep) → HasStepped c old v → v.tree.table.size ≤ waiting_limit c
       → view_of g b ≡ v → ((block : ℕ) → is_bad g b.engine.pager block → ⊥) → IsCause m n (is_bad g b.engine.pager) worn fault → OnWorn (IsWornByGraft v.tree.nodes v.tree.table s d keep) fault → IsCommandFault (fault_of fault) count c old (view_of g b)

@@ -1,14 +1,12 @@
 -- Changes of reclaiming, one after the other, and why they stop.
-use Rattle.std.proofs.Common.{◌≡◌, ℕ, zero, suc, ◌+◌, ◌*◌, ◌^◌, ◌<◌, ◌≤◌, None, Bool, refl, sym, subst, ap, ◌∙◌, inl, inr, arith}
+use Rattle.std.proofs.Common.{◌≡◌, ℕ, zero, suc, ◌+◌, ◌*◌, ◌^◌, ◌<◌, ◌≤◌, None, Bool, refl, sym, subst, ap, inl, inr, arith}
 use Rattle.std.proofs.lemmas.Bool.{cases_lt, ltb-true, and_parts}
-use Rattle.std.specs.Prelude.{IsTrue, nat_le, nat_lt, ⊤, Result, Ok, Err, IfErr}
+use Rattle.std.specs.Prelude.{IsTrue, nat_le, nat_lt, ⊤}
 use Rattle.bd_message.specs.declared.fault.Counter.{Counter}
 use Rattle.bd_message.specs.declared.fault.Counter.TheVariants.{Count, NextId, Level, Refs, Epoch, Flushes}
 use Rattle.bd_message.specs.declared.fault.MapFault.{MapFault}
 use Rattle.bd_message.specs.declared.fault.MapFault.TheVariants as map
 use Rattle.bd_message.specs.KeyMaps.{IsCause, NeverWorn}
-use Rattle.bd_device.specs.declared.device.Device.{Ghosts}
-use Rattle.bd_super.specs.declared.superblock.Super.{Super}
 use Rattle.bd_node.specs.declared.node.Step.{Step}
 use Rattle.bd_node.specs.Meaning.{Nodes}
 use Rattle.bd_node.specs.Steps.{IsWornBy}
@@ -25,13 +23,9 @@ use Rattle.bd_view.specs.Reclaiming.{push_limit, allows_push, push_need, pushes_
 use Rattle.bd_view.specs.Reclaiming.AreReclaims.{change, save}
 use Rattle.bd_view.proofs.Saved.{saves_all}
 use Rattle.bd_volume.specs.declared.fault.Fault.{Fault}
-use Rattle.bd_volume.specs.declared.fault.Fault.TheVariants.{Device, Damaged, Worn, NoMemory, Full, Stopped}
-use Rattle.bd_volume.specs.declared.volume.Volume.{Volume}
 use Rattle.bd_volume.specs.Faults.{fault_of}
-use Rattle.bd_volume.specs.Reclaims.{ChangesOnce, IsChangedTo, ChangesAll, IsEdgeSaveFault, IsChangeFault, StopsChanging, ShowsEdge}
+use Rattle.bd_volume.specs.Reclaims.{ChangesOnce, IsChangedTo, ChangesAll, IsChangeFault, StopsChanging}
 use Rattle.bd_volume.specs.Reclaims.ChangesOnce.{made, saved}
-use Rattle.bd_volume.specs.Steps.{IsSaveFault}
-use Rattle.bd_volume.specs.Volume.{view_of}
 use Rattle.bd_volume.specs.Wears.{IsWornToReclaim}
 
 -- ---- pushes
@@ -205,45 +199,3 @@ change_fails K m n bad pushes step a b map.DeviceFault good knows next same h = 
 change_fails K m n bad pushes step a b (map.Damaged block) good knows next same h = good block h
 change_fails K m n bad pushes step a b (map.Worn which) good knows next same h = subst (λ (v : View). IsWornToReclaim which v) (sym same) (worn_next K which pushes step a knows next h)
 change_fails K m n bad pushes step a b map.NoMemory good knows next same h = tt
-
--- no checkpoint was made for it
-edge_stops : (fault : Fault) (pushes : ℕ) (step : Reclaim) (v : View) → IsNextChange pushes step v → (HasRoomFor step v → ⊥) → IsEdgeSaveFault fault v → IsChangeFault fault pushes v
-edge_stops Device pushes step v next short h = tt
-edge_stops (Damaged block) pushes step v next short h = h
-edge_stops (Worn which) pushes step v next short h = subst (λ (w : Counter). IsWornToReclaim w v) (sym h.0) h.1
-edge_stops NoMemory pushes step v next short h = tt
-edge_stops (Full free need) pushes step v next short h = record { change = step; next = next; short = short; free_is = h.0; need_is = h.1; unsaved = h.2 }
-edge_stops (Stopped call) pushes step v next short h = h
-
-pub edge_fails : (fault : Fault) (pushes : ℕ) (step : Reclaim) (a b d : View) → b ≡ a → d ≡ b → IsNextChange pushes step a → (HasRoomFor step b → ⊥) → IsEdgeSaveFault fault d → IsChangeFault fault pushes d
-edge_fails fault pushes step a b d same again next short h =
-    edge_stops fault pushes step d (subst (λ (v : View). IsNextChange pushes step v) (sym (again ∙ same)) next) (λ room. short (subst (λ (v : View). HasRoomFor step v) again room)) h
-
-pub edge_shows : (fault : Fault) (v : View) → IsEdgeSaveFault fault v → ShowsEdge fault v
-edge_shows Device v h = tt
-edge_shows (Damaged block) v h = tt
-edge_shows (Worn which) v h = tt
-edge_shows NoMemory v h = tt
-edge_shows (Full free need) v h = (h.0, h.1)
-edge_shows (Stopped call) v h = tt
-
--- a map's fault tells no numbers
-pub map_shows : (fault : MapFault) (v : View) → ShowsEdge (fault_of fault) v
-map_shows map.DeviceFault v = tt
-map_shows (map.Damaged block) v = tt
-map_shows (map.Worn which) v = tt
-map_shows map.NoMemory v = tt
-
-module _ {D : Type 0} (g : Ghosts D) where
-  save_stops : (a b : Volume D) (fault : Fault) → IsSaveFault a b fault → IsEdgeSaveFault fault (view_of g b)
-  save_stops a b Device h = tt
-  save_stops a b (Damaged block) h = h
-  save_stops a b (Worn which) h = (h.0, subst (λ (live : Super). 2 ^ 64 ≤ live.epoch + 1) (sym h.2) h.1)
-  save_stops a b NoMemory h = tt
-  save_stops a b (Full free need) h = absurd h
-  save_stops a b (Stopped call) h = h
-
-  -- a checkpoint before the change of an edge failed
-  pub saves_stop : {T : Type 0} (r : Result T Fault) (a b : Volume D) → IfErr r (IsSaveFault a b) → IfErr r (λ fault. IsEdgeSaveFault fault (view_of g b))
-  saves_stop (Ok x) a b h = tt
-  saves_stop (Err e) a b h = save_stops a b e h

@@ -9,7 +9,7 @@ use Rattle.bd_super.specs.declared.superblock.Super.{Super}
 use Rattle.bd_log.specs.Logs.{LogState}
 use Rattle.bd_image.specs.Versions.{mode_version}
 use Rattle.bd_view.specs.Views.{View, record_room, log_size}
-use Rattle.bd_engine.specs.Engines.{EngineState, IsReadOn, OnlyNodesOn, IsBegunAnew, view_of as view_in}
+use Rattle.bd_engine.specs.Engines.{EngineState, OnlyNodesOn, IsBegunAnew, view_of as view_in}
 use Rattle.bd_volume.specs.declared.fault.Fault.{Fault}
 use Rattle.bd_volume.specs.declared.volume.Volume.{Volume}
 use Rattle.bd_volume.specs.Volume.{view_of}
@@ -28,9 +28,6 @@ module _ {D : Type 0} (g : Ghosts D) where
 
   pub room_stays : (c : Command) (a b : EngineState D) → b.log ≡ a.log → b.live ≡ a.live → HasLogRoom c (view_in g a) → HasLogRoom c (view_in g b)
   room_stays c a b log live h = subst (λ (k : ℕ). log_size c ≤ k) (sym (room_same c a b log live)) h
-
-  pub room_read : (c : Command) (a b : EngineState D) → IsReadOn g a b → HasLogRoom c (view_in g a) → HasLogRoom c (view_in g b)
-  room_read c a b r = room_stays c a b (ap (λ (e : EngineState D). e.log) r.rest) (ap (λ (e : EngineState D). e.live) r.rest)
 
   pub room_nodes : (c : Command) (a b : EngineState D) → OnlyNodesOn g a b → HasLogRoom c (view_in g a) → HasLogRoom c (view_in g b)
   room_nodes c a b r = room_stays c a b (ap (λ (e : EngineState D). e.log) r.rest) (ap (λ (e : EngineState D). e.live) r.rest)

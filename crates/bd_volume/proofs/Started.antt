@@ -52,25 +52,6 @@ use Rattle.bd_volume.proofs.Starts.{as_stands}
 
 -- ---- faults of an image
 
--- an image's fault is known from the volume's
-pub one_fault : (a b : ImageFault) → image_fault_of a ≡ image_fault_of b → a ≡ b
-one_fault image.DeviceFault image.DeviceFault same = refl
-one_fault image.DeviceFault (image.Damaged block) same = cc
-one_fault image.DeviceFault image.NoMemory same = cc
-one_fault (image.Damaged block) image.DeviceFault same = cc
-one_fault (image.Damaged block) (image.Damaged other) same = cc
-one_fault (image.Damaged block) image.NoMemory same = cc
-one_fault image.NoMemory image.DeviceFault same = cc
-one_fault image.NoMemory (image.Damaged block) same = cc
-one_fault image.NoMemory image.NoMemory same = refl
-
-pub same_cause : {D : Type 0} (g : Ghosts D) (old new left : D) (bad : ℕ → Type 0) (cause fault : ImageFault) (e : Fault) → e ≡ image_fault_of cause → left ≡ new → IsImageCause g old new bad cause → e ≡ image_fault_of fault → IsImageCause g old left bad fault
-same_cause g old new left bad cause fault e is same h named =
-    subst (λ (f : ImageFault). IsImageCause g old left bad f) (one_fault cause fault (sym is ∙ named)) (subst (λ (d : _). IsImageCause g old d bad cause) (sym same) h)
-
-pub undamaged_as : (cause : ImageFault) (e : Fault) (block : ℕ) → e ≡ image_fault_of cause → cause ≢ image.Damaged block → e ≢ Damaged block
-undamaged_as cause e block is other same = other (one_fault cause (image.Damaged block) (sym is ∙ same))
-
 unworn_as : {A : Type 0} (cause : ImageFault) (e : Fault) (which : Counter) → e ≡ image_fault_of cause → e ≡ Worn which → A
 unworn_as image.DeviceFault e which is same = let bad : ⊥ = cc in absurd bad
 unworn_as (image.Damaged block) e which is same = let bad : ⊥ = cc in absurd bad

@@ -41,9 +41,6 @@ has_stepped c m a b p few = record { made = m; steps = p; few = few }
 pub not_stepped : (c : Command) (a b : View) → b ≡ a → HasStepped c a b
 not_stepped c a b same = has_stepped c 0 a b (no_steps c a b same) (lit≤ tt)
 
-pub stepped_same : (c : Command) (a b d : View) → HasStepped c a b → d ≡ b → HasStepped c a d
-stepped_same c a b d h same = subst (λ (v : View). HasStepped c a v) (sym same) h
-
 -- they leave what stands at the keys
 pub stepped_stand : (c : Command) (a b : View) → HasStepped c a b → SameAt (keys_of a) (keys_of b)
 stepped_stand c a b h = steps_stand c h.made a b h.steps

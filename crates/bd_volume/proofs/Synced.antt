@@ -71,6 +71,6 @@ module _ {D : Type 0} (g : Ghosts D) where
   pub sync_fails : {T : Type 0} (a b : Volume D) → g.fault_count (device_of a) ≤ g.fault_count (device_of b) → LastFailed g (device_of a) (device_of b) → IsStopped g a.engine b.engine → Stays g (device_of a) (device_of b) → Ends {T = T} g a b (Err Device)
   sync_fails a b later failed stop stays = record {
     cause = record { later = later; kept = tt; failed = rose g (g.fault_count (device_of a)) (g.fault_count (device_of b)) later failed.one };
-    stop = record { ok = tt; err = inr (record { stop_is = stop.stop_is; write_faults = stop.write_faults }, refl) };
+    stop = record { ok = tt; err = inr (record { stop_is = stop.stop_is; write_faults = stop.write_faults; failed = failed }, refl) };
     stays = stays;
   }

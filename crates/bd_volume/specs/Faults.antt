@@ -2,6 +2,7 @@
 use Rattle.std.specs.Prelude.{◌≡◌, ◌≤◌, ◌<◌, ◌⊎◌, ℕ, Option, None, Some, IfSome, Result, OnOk, IfErr}
 use Rattle.bd_io.specs.Cause.{Rose, next_count}
 use Rattle.bd_device.specs.Blocks.{Image}
+use Rattle.bd_device.specs.Device.{LastFailed}
 use Rattle.bd_device.specs.declared.device.Device.{Ghosts}
 use Rattle.bd_device.specs.declared.fault.ImageFault.{ImageFault}
 use Rattle.bd_device.specs.declared.fault.ImageFault.TheVariants as image
@@ -88,11 +89,12 @@ pub record IsGoing {D : Type 0} (g : Ghosts D) (old new : Volume D) : Type 0 whe
   pub write_faults :
       g.write_fault_count (device_of new) ≡ g.write_fault_count (device_of old)
 
--- a write or a barrier failed, by the device's last call, which stopped it
+-- a write or a barrier failed, and no other call: the device's last one, which stopped it
 pub record IsHalted {D : Type 0} (g : Ghosts D) (old new : Volume D) : Type 0 where
   pub stop_is : stop_of new ≡ Some (g.call_count (device_of new))
   pub write_faults :
       g.write_fault_count (device_of new) ≡ next_count (g.write_fault_count (device_of old))
+  pub failed : LastFailed g (device_of old) (device_of new)
 
 -- a volume that wasn't stopped goes on after Ok, and after a fault unless a write or a barrier
 -- failed

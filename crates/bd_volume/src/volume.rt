@@ -4,6 +4,7 @@ ghost use Rattle.std.specs.Prelude.{◌≡◌, ◌≢◌, ◌+◌, ◌^◌, ◌�
 ghost use Rattle.bd_command.specs.Command.{writes, accepted, IsCommand, IsReply};
 ghost use Rattle.bd_model.specs.Tree.{Tree, root_only};
 ghost use Rattle.bd_model.specs.Step.{step, refusal_of};
+ghost use Rattle.bd_message.specs.KeyMaps.{SameAt};
 ghost use Rattle.bd_message.specs.declared.fault.Counter.{Counter};
 ghost use Rattle.bd_slots.specs.Layout.{IsSlotCount, image_blocks};
 ghost use Rattle.bd_device.specs.Changes.{StaysBut};
@@ -16,6 +17,7 @@ ghost use Rattle.bd_checkpoint.specs.Recovering.{FailsFirst};
 ghost use Rattle.bd_view.specs.Views.{fresh_view, free_slots, save_slots, need_slots};
 ghost use Rattle.bd_view.specs.Moves.{HasStepped, IsAccepted, synced, Saves, IsCommandFull, IsCheckpointFull, CannotSave};
 ghost use Rattle.bd_view.specs.Reclaiming.{edge_need, IsReclaim, IsReclaimFull};
+ghost use Rattle.bd_engine.specs.Engines.{keys_of, IsSoundOn};
 ghost use Rattle.bd_engine.specs.Stored.{HasSaved};
 ghost use Rattle.bd_volume.specs.Faults.{image_fault_of, IsOfImage, IsStartCause, HasFaultCause, IsStoppedRightly};
 ghost use Rattle.bd_volume.specs.Starts.{OnlyStarts, HasStarted};
@@ -201,6 +203,11 @@ impl<D: Device> Volume<D> {
         ensures stopped { (call : ℕ) → stop_of self.old ≡ Some call
             → (result ≡ Err (Fault.Stopped call)) × (self.new ≡ self.old) }
         ensures device { Stays D.Device (device_of self.old) (device_of self.new) }
+
+        // A fault leaves what stands at the keys of sound nodes, also where that is no tree.
+        ensures keys { OnErr result (IsSoundOn D.Device self.old.engine.pager
+            → SameAt (keys_of D.Device self.old.engine.pager)
+            (keys_of D.Device self.new.engine.pager)) }
     {
         match self.engine.stop() {
             Some(call) => Err(Fault::Stopped { call }),
@@ -247,8 +254,9 @@ impl<D: Device> Volume<D> {
 
     /// Makes a checkpoint, so that the image stands for the volume's tree and count. `Full` comes
     /// exactly where fewer slots are free than it needs, `Worn` exactly where there are slots and
-    /// the epoch stands at its last value. A fault leaves the view and what the volume stands for. A
-    /// failed write or barrier stops the volume, and each later call is `Stopped`.
+    /// the epoch stands at its last value. A fault leaves the view and what the volume stands for,
+    /// and each but `Device` the device, of which no call was made. A failed write or barrier stops
+    /// the volume, and each later call is `Stopped`.
     pub fn checkpoint(&mut self) -> Result<(), Fault>
         ensures time { (t : Tree) (n : ℕ) → StandsFor D.Device self.old t n
             → GoesBy D.Device self.old self.new t n }
@@ -280,6 +288,8 @@ impl<D: Device> Volume<D> {
         ensures stopped { (call : ℕ) → stop_of self.old ≡ Some call
             → (result ≡ Err (Fault.Stopped call)) × (self.new ≡ self.old) }
         ensures device { Stays D.Device (device_of self.old) (device_of self.new) }
+        ensures untouched { IfErr result (λ fault. fault ≢ Fault.Device
+            → device_of self.new ≡ device_of self.old) }
     {
         if let Some(call) = self.engine.stop() {
             return Err(Fault::Stopped { call });
@@ -382,6 +392,15 @@ impl<D: Device> Volume<D> {
         ensures { result ≡ D.call_count (device_of self.now) }
     {
         self.engine.calls()
+    }
+
+    /// The number of the device's call, a write or a barrier, that failed and stopped the volume:
+    /// each later call that may fail is `Stopped` with that number, and does nothing. `None` while
+    /// the volume goes on. It takes no memory.
+    pub fn stopped(&self) -> Option<u64>
+        ensures { result ≡ stop_of self.now }
+    {
+        self.engine.stop()
     }
 
     /// What reads give is an image whose last checkpoint has just the nodes that the view has as

@@ -1,6 +1,6 @@
 //! Checkpoints that the calls of a volume make, and nodes that they write early.
 
-ghost use Rattle.std.specs.Prelude.{◌≡◌, ◌≤◌, ◌⊎◌, ℕ, true, false, None, IfErr, OnOk, OnErr};
+ghost use Rattle.std.specs.Prelude.{◌≡◌, ◌≢◌, ◌≤◌, ◌⊎◌, ℕ, true, false, None, IfErr, OnOk, OnErr};
 ghost use Rattle.bd_model.specs.Tree.{Tree};
 ghost use Rattle.bd_device.specs.Device.{left_now};
 ghost use Rattle.bd_device.specs.Moments.{IsOnly};
@@ -57,6 +57,8 @@ impl<D: Device> Volume<D> {
         ensures fails { IfErr result (IsSaveFault self.old self.new) }
         ensures ends { Ends D.Device self.old self.new result }
         ensures count_stays { count_of self.new ≡ count_of self.old }
+        ensures untouched { IfErr result (λ fault. fault ≢ Fault.Device
+            → device_of self.new ≡ device_of self.old) }
     {
         self.engine.save(self.count)?;
         Ok(())

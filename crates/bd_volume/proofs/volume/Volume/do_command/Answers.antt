@@ -5,7 +5,7 @@ use Rattle.bd_volume.specs.declared.fault.Fault.TheVariants.{Worn, Full}
 use Rattle.bd_volume.specs.Volume.{StandsFor, view_of}
 use Rattle.bd_volume.specs.Wears.{Wears}
 use Rattle.bd_volume.specs.Steps.{IsCommandFault, IsOfAccepted}
-use Rattle.bd_volume.proofs.Executed.{at_err}
+use Rattle.bd_volume.proofs.Executed.{at_err, keys_stay}
 use Rattle.bd_volume.proofs.Stepped.{not_stepped}
 use Rattle.bd_volume.proofs.volume.Volume.do_command.Goals as goal
 
@@ -30,3 +30,9 @@ returns-in-None-clause-wears g c = λ which is t n s.
           (at_err c.execute.result (Worn which) (λ fault. IsCommandFault fault c.args.self.now.count c.args.command.now old new) (c.execute.ensures.fails s.nodes) is),
       at_err c.execute.result (Worn which) (λ fault. (u : Tree) (m : ℕ) → StandsFor g.D.Device c.args.self.now u m → IsOfAccepted fault u c.args.command.now) c.execute.ensures.accepting is t n s,
     )
+
+pub returns-in-Some-clause-keys : goal.returns-in-Some-clause-keys
+returns-in-Some-clause-keys g c = λ s k. refl
+
+pub returns-in-None-clause-keys : goal.returns-in-None-clause-keys
+returns-in-None-clause-keys g c = keys_stay g.D.Device c.execute.result c.args.self.now c.execute.new.self c.args.command.now c.execute.ensures.begun

@@ -33,7 +33,7 @@ returns-in_err-flush_once-clause-same g c = λ s.
 pub returns-in_err-flush_once-clause-writes : goal.returns-in_err-flush_once-clause-writes
 returns-in_err-flush_once-clause-writes g c =
     let p = err_from_is_err_and c.from_residual.result c.from_residual.ensures.1 in
-    rw (p.1, p.2) (early_fails g.D.Device c.args.self.now c.loop-made.self c.flush_once.new.self c.in_err-flush_once.field-0.0 c.loop-made.invariant.goes c.in_err-flush_once.ensures.writes)
+    rw (p.1, p.2) (early_fails g.D.Device c.args.self.now c.loop-made.self c.flush_once.new.self c.in_err-flush_once.field-0.0 c.loop-made.invariant.goes c.loop-made.invariant.faults c.in_err-flush_once.ensures.writes)
 
 pub returns-in_err-flush_once-clause-cause : goal.returns-in_err-flush_once-clause-cause
 returns-in_err-flush_once-clause-cause g c =

@@ -49,7 +49,7 @@ returns-in_err-replay_one-clause-fails g c =
 pub returns-in_err-replay_one-clause-writes : goal.returns-in_err-replay_one-clause-writes
 returns-in_err-replay_one-clause-writes g c =
     let p = err_from_is_err_and c.from_residual.result c.from_residual.ensures.1 in
-    rw (p.1, p.2) (early_fails g.D.Device c.args.self.now c.loop-placed.self c.replay_one.new.self c.in_err-replay_one.field-0.0 c.loop-placed.invariant.goes c.in_err-replay_one.ensures.writes)
+    rw (p.1, p.2) (early_fails g.D.Device c.args.self.now c.loop-placed.self c.replay_one.new.self c.in_err-replay_one.field-0.0 c.loop-placed.invariant.goes c.loop-placed.invariant.faults c.in_err-replay_one.ensures.writes)
 
 pub returns-in_err-replay_one-clause-cause : goal.returns-in_err-replay_one-clause-cause
 returns-in_err-replay_one-clause-cause g c =

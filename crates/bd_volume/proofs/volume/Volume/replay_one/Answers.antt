@@ -55,7 +55,7 @@ returns-in_err-send_planned-clause-writes g c =
     let a : Volume g.row.D.Denot = c.args.self.now in
     let b : Volume g.row.D.Denot = record a { engine = c.plan-planned.new.self } in
     let p = err_from_is_err_and c.from_residual-in_err-send_planned.result c.from_residual-in_err-send_planned.ensures.1 in
-    rw (p.1, p.2) (early_fails g.D.Device a b c.send_planned.new.self c.in_err-send_planned.field-0.0 (goes_read g.D.Device a b (g.met.D.Device.since_earlier b.engine.pager.dev) c.requires.going c.in_ok-plan.ensures.read) c.in_err-send_planned.ensures.writes)
+    rw (p.1, p.2) (early_fails g.D.Device a b c.send_planned.new.self c.in_err-send_planned.field-0.0 (goes_read g.D.Device a b (g.met.D.Device.since_earlier b.engine.pager.dev) c.requires.going c.in_ok-plan.ensures.read) c.in_ok-plan.ensures.cause.kept c.in_err-send_planned.ensures.writes)
 
 pub returns-in_err-send_planned-clause-cause : goal.returns-in_err-send_planned-clause-cause
 returns-in_err-send_planned-clause-cause g c =
