@@ -1,8 +1,7 @@
 -- What two halves show together stays, also where an attach of both fails.
-use Rattle.std.proofs.Common.{◌≡◌, ◌≢◌, ◌∷◌, ℕ, ◌+◌, ◌-◌, min, length, take, Option, None, Some, IfSome, [], List, Bool, true, false, if◌then◌else◌, refl, sym, ap, subst, ◌∙◌, arith}
+use Rattle.std.proofs.Common.{◌≡◌, ◌≢◌, ℕ, ◌+◌, ◌-◌, min, length, take, Option, None, Some, IfSome, [], List, Bool, true, false, if◌then◌else◌, refl, sym, ap, subst, ◌∙◌, arith}
 use Rattle.std.specs.Prelude.{◌&&◌, ◌==◌, nat_lt, not, IfNone}
 use Rattle.std.specs.Option.{option_map}
-use Rattle.std.specs.List.{position_or_len}
 use Rattle.std.proofs.lemmas.Bool.{false≢true}
 use Rattle.std.proofs.lemmas.Bool.Decides.{nat_tests}
 use Rattle.bd_device.specs.Blocks.{Image, HasBlocks}
@@ -11,6 +10,7 @@ use Rattle.bd_device.proofs.Changes.{stays_both, stays_same, stays_wider}
 use Rattle.bd_mirror.specs.declared.halves.Halves.{Halves}
 use Rattle.bd_mirror.specs.declared.halves.Attached.TheVariants.{Pair}
 use Rattle.bd_mirror.specs.Contents.{is_open_at, pick, picked, shown_by, shown_together, IsCopy, KeepsPick}
+use Rattle.bd_mirror.specs.Laws.{has_plus, some_bytes}
 use Rattle.bd_mirror.specs.Names.{HasPlus, first_name, second_name, without_last, shown_for}
 use Rattle.bd_mirror.proofs.Crashes.{is_known}
 use Rattle.bd_mirror.proofs.Joined.{at_mark, pick_source, alone_open, alone_closed}
@@ -123,7 +123,7 @@ together_is mark (Some a) None la lb = refl
 together_is mark (Some a) (Some b) la lb =
     let equal : (length a == length b && nat_lt 0 (length a)) ≡ true = grind (arith, nat_tests, la, lb) in
     let last : length a - 1 ≡ mark = omega (arith, la) in
-    ap (λ t. if t then Some (pick (length a - 1) (length a - 1) (length a - 1) a b) else None) equal ∙ ap (λ n. Some (pick n n n a b)) last
+    ap (λ t. Some (if t then pick (length a - 1) (length a - 1) (length a - 1) a b else [])) equal ∙ ap (λ n. Some (pick n n n a b)) last
 
 -- so that stays where the pick does
 pub together_kept : (mark na nb : ℕ) (a b a1 b1 a' b' : Option Image) → na ≡ mark + 1 → nb ≡ mark + 1 → IfSome a (HasBlocks na) → IfSome b (HasBlocks nb) → a1 ≡ a → b1 ≡ b
@@ -182,12 +182,8 @@ alone_behind (Some n) name first now was second all same = tt
 alone_behind None name first now was second all same =
     ap (λ o. shown_for name o second) (ap now all ∙ same ∙ ap was (sym all))
 
--- a byte test of a name
-pub has_plus : (name : List ℕ) → HasPlus name → nat_lt (position_or_len (λ byte. byte == 43) name) (length name) ≡ true
-has_plus name plus = grind (arith, nat_tests, plus)
-
 -- of one that is kept as a member
-shown_member : (name : List ℕ) (first second : Option Image) → HasPlus name → second_name name ≡ [] → shown_for name first second ≡ option_map without_last first
+pub shown_member : (name : List ℕ) (first second : Option Image) → HasPlus name → second_name name ≡ [] → shown_for name first second ≡ option_map without_last first
 shown_member name first second plus empty =
     ap (λ t. if t then (if length (second_name name) == 0 then option_map without_last first else shown_together first second) else first) (has_plus name plus)
     ∙ ap (λ (l : List ℕ). if length l == 0 then option_map without_last first else shown_together first second) empty
@@ -200,11 +196,7 @@ named_member_behind name first now was second_now second plus empty cut same =
     ∙ sym (shown_member name (was (first_name name)) second plus empty)
 
 -- of two halves
-pub some_bytes : (l : List ℕ) → l ≢ [] → (length l == 0) ≡ false
-some_bytes [] more = absurd (more refl)
-some_bytes (x ∷ xs) more = grind (arith, nat_tests)
-
-shown_pair : (name : List ℕ) (first second : Option Image) → HasPlus name → second_name name ≢ [] → shown_for name first second ≡ shown_together first second
+pub shown_pair : (name : List ℕ) (first second : Option Image) → HasPlus name → second_name name ≢ [] → shown_for name first second ≡ shown_together first second
 shown_pair name first second plus more =
     ap (λ t. if t then (if length (second_name name) == 0 then option_map without_last first else shown_together first second) else first) (has_plus name plus)
     ∙ ap (λ t. if t then option_map without_last first else shown_together first second) (some_bytes (second_name name) more)

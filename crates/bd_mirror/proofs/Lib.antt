@@ -5,6 +5,10 @@ pub mod Crashes
 pub mod Joined
 pub mod Leaves
 pub mod Marks
+pub mod Methods
+pub mod Named
 pub mod Past
 pub mod Since
+pub mod Telling
+pub mod Told
 pub mod Walks

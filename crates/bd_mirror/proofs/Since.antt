@@ -1,34 +1,25 @@
 -- How what a crash may leave of a mirror's halves goes on over its calls.
-use Rattle.std.proofs.Common.{◌≡◌, ℕ, ◌+◌, ◌-◌, ◌^◌, ◌<◌, ◌≤◌, ◌⊎◌, min, List, [], ◌∷◌, length, take, Option, None, Some, IfSome, Result, Ok, Err, OnOk, refl, sym, ap, subst, ◌∙◌, arith, inl, inr, ⊎_elim, true, false}
+use Rattle.std.proofs.Common.{◌≡◌, ℕ, ◌+◌, ◌-◌, ◌^◌, ◌⊎◌, min, List, ◌∷◌, length, take, Result, Ok, Err, OnOk, refl, sym, ap, subst, ◌∙◌, arith, inl, inr, ⊎_elim, true, false}
 use Rattle.std.specs.Prelude.{IfOk}
-use Rattle.std.specs.Option.{option_map}
 use Rattle.std.proofs.lemmas.Bool.{false≢true, cases_lt}
-use Rattle.std.proofs.lemmas.Option.{same_Some}
 use Rattle.bd_io.specs.Cause.{next_count, IsCounted}
 use Rattle.bd_device.specs.Blocks.{Image}
 use Rattle.bd_device.specs.Device.{left_now, Goes}
-use Rattle.bd_device.specs.Moments.{Elapses, Nothing, IsOnly}
+use Rattle.bd_device.specs.Moments.{Nothing}
 use Rattle.bd_device.specs.declared.counts.Counts.{Counts}
 use Rattle.bd_device.specs.declared.device.Device.{Ghosts}
 use Rattle.bd_mirror.specs.declared.halves.Halves.{Halves}
 use Rattle.bd_mirror.specs.declared.halves.Attached.{Attached}
 use Rattle.bd_mirror.specs.declared.halves.Attached.TheVariants.{Nothing as Unattached, Alone, Member, Pair, Apart}
-use Rattle.bd_mirror.specs.Contents.{PicksHave, IsPicked, LeavesShown, shown_by}
-use Rattle.bd_mirror.specs.Halves.{has_marks, with_halves, is_two, blocks_in, halves_of, uses_first}
-use Rattle.bd_mirror.specs.Since.{IsLeftOf, IsLeftInCalls, IsLeftSince}
+use Rattle.bd_mirror.specs.Contents.{PicksHave, IsPicked}
+use Rattle.bd_mirror.specs.Halves.{has_marks, with_halves, is_two, blocks_in}
+use Rattle.bd_mirror.specs.Since.{IsLeftOf}
 use Rattle.bd_mirror.specs.Writing.{IsWithin, TornBy, IsLeftBy}
 use Rattle.bd_mirror.specs.declared.writing.WritingCall.{WritingCall}
 use Rattle.bd_mirror.specs.declared.writing.WritingCall.TheVariants.{Write, Barrier}
 use Rattle.bd_mirror.proofs.Marks.{take_after}
 
 -- ---- the count of calls
-
--- no call began so late
-none_since : {A B : Type 0} (ga : Ghosts A) (gb : Ghosts B) (of : (Image → Type 0) → (Image → Type 0) → Image → Type 0) (ms : List (A × B)) (a : A) (b : B) (t : ℕ) (c : Image) → length ms ≤ t
-    → IsLeftInCalls ga gb of ms a b t c → ⊥
-none_since ga gb of [] a b t c le left = left
-none_since ga gb of (m ∷ ms) a b t c le (inl here) = omega (arith, le, here.0)
-none_since ga gb of (m ∷ ms) a b t c le (inr more) = none_since ga gb of ms m.0 m.1 t c (omega (arith, le)) more
 
 -- a call more is a moment more
 pub moments_on : {T : Type 0} (n n1 : ℕ) (m : T) (ms ms1 : List T) → ms1 ≡ m ∷ ms → n1 ≡ next_count n → n ≡ min (length ms) (2 ^ 64 - 1) → n1 ≡ min (length ms1) (2 ^ 64 - 1)
@@ -112,53 +103,7 @@ pub same_blocks : (at at1 : Attached) (h : Halves) (na nb na1 nb1 : ℕ) → at1
 same_blocks at at1 h na nb na1 nb1 et ea eb =
     ap (λ t. blocks_in t na1 nb1) et ∙ ap (λ n. blocks_in (with_halves h at) n nb1) ea ∙ ap (λ n. blocks_in (with_halves h at) na n) eb ∙ use_blocks at h na nb
 
--- ---- one call more
-
--- since an earlier call more calls are meant
-calls_earlier : {A B : Type 0} (ga : Ghosts A) (gb : Ghosts B) (of : (Image → Type 0) → (Image → Type 0) → Image → Type 0) (ms : List (A × B)) (a : A) (b : B) (t u : ℕ) (c : Image) → t ≤ u
-    → IsLeftInCalls ga gb of ms a b u c → IsLeftInCalls ga gb of ms a b t c
-calls_earlier ga gb of [] a b t u c le left = left
-calls_earlier ga gb of (m ∷ ms) a b t u c le (inl here) = inl (omega (arith, le, here.0), here.1)
-calls_earlier ga gb of (m ∷ ms) a b t u c le (inr more) = inr (calls_earlier ga gb of ms m.0 m.1 t u c le more)
-
-pub since_earlier : {A B : Type 0} (ga : Ghosts A) (gb : Ghosts B) (of : (Image → Type 0) → (Image → Type 0) → Image → Type 0) (ms : List (A × B)) (a : A) (b : B) (t u : ℕ) (c : Image) → t ≤ u
-    → IsLeftSince ga gb of ms a b u c → IsLeftSince ga gb of ms a b t c
-since_earlier ga gb of ms a b t u c le (inl now) = inl now
-since_earlier ga gb of ms a b t u c le (inr calls) = inr (calls_earlier ga gb of ms a b t u c le calls)
-
-calls_on : {A B : Type 0} (ga : Ghosts A) (gb : Ghosts B) (of : (Image → Type 0) → (Image → Type 0) → Image → Type 0) (P : Image → Type 0) (ms : List (A × B)) (a a1 : A) (b b1 : B) (n n1 : ℕ)
-    → n ≤ n1 → n ≤ length ms
-    → ((c : Image) → of (left_now ga a1) (left_now gb b1) c → of (ga.left_since a1 (ga.call_count a)) (gb.left_since b1 (gb.call_count b)) c)
-    → ((c : Image) → of (ga.left_since a1 (ga.call_count a)) (gb.left_since b1 (gb.call_count b)) c → of (left_now ga a) (left_now gb b) c ⊎ P c)
-    → Elapses n n1 (IsLeftSince ga gb of ms a b) (IsLeftSince ga gb of ((a, b) ∷ ms) a1 b1) P
-calls_on ga gb of P ms a a1 b b1 n n1 later kept more inside =
-    let told : (t : ℕ) (c : Image) → of (left_now ga a) (left_now gb b) c ⊎ P c → IsLeftSince ga gb of ms a b t c ⊎ P c =
-    λ t c q. ⊎_elim (λ was. inl (inl was)) (λ here. inr here) q in
-    record {
-      later = later;
-      keeps = λ t c le was. inr (⊎_elim (λ now. inl (omega (arith, le, kept), inl now)) (λ old. inr old) was);
-      adds = λ t c le left. ⊎_elim
-          (λ now. told t c (inside c (more c now)))
-          (λ calls. ⊎_elim (λ here. ⊎_elim (λ was. inl (inl was)) (λ there. told t c (inside c there)) here.1) (λ old. inl (inr old)) calls)
-          left;
-    }
-
--- with halves that have as many blocks as before
-pub since_on : {A B : Type 0} (ga : Ghosts A) (gb : Ghosts B) (P : Image → Type 0) (at at1 : Attached) (h : Halves) (ms ms1 : List (A × B)) (a a1 : A) (b b1 : B) (n n1 : ℕ) (na nb na1 nb1 : ℕ)
-    → at1 ≡ with_halves h at → ms1 ≡ (a, b) ∷ ms → na1 ≡ na → nb1 ≡ nb → n1 ≡ next_count n → n ≡ min (length ms) (2 ^ 64 - 1)
-    → ga.call_count a ≤ ga.call_count a1 → gb.call_count b ≤ gb.call_count b1
-    → ((t u : ℕ) (c : Image) → t ≤ u → ga.left_since a1 u c → ga.left_since a1 t c)
-    → ((t u : ℕ) (c : Image) → t ≤ u → gb.left_since b1 u c → gb.left_since b1 t c)
-    → ((c : Image) → IsLeftOf at na nb (ga.left_since a1 (ga.call_count a)) (gb.left_since b1 (gb.call_count b)) c → IsLeftOf at na nb (left_now ga a) (left_now gb b) c ⊎ P c)
-    → Elapses n n1 (IsLeftSince ga gb (IsLeftOf at na nb) ms a b) (IsLeftSince ga gb (IsLeftOf at1 na1 nb1) ms1 a1 b1) P
-since_on ga gb P at at1 h ms ms1 a a1 b b1 n n1 na nb na1 nb1 et more ea eb counted kept ca cb law_a law_b inside =
-    let old : ℕ → Image → Type 0 = IsLeftSince ga gb (IsLeftOf at na nb) ms a b in
-    subst (λ (l : List _). Elapses n n1 old (IsLeftSince ga gb (IsLeftOf at1 na1 nb1) l a1 b1) P) (sym more)
-    (subst (λ (of : (Image → Type 0) → (Image → Type 0) → Image → Type 0). Elapses n n1 old (IsLeftSince ga gb of ((a, b) ∷ ms) a1 b1) P) (sym (same_left at at1 h na nb na1 nb1 et ea eb))
-    (calls_on ga gb (IsLeftOf at na nb) P ms a a1 b b1 n n1 (omega (arith, counted, kept)) (omega (arith, kept))
-    (left_more at na nb (left_now ga a1) (left_now gb b1) (ga.left_since a1 (ga.call_count a)) (gb.left_since b1 (gb.call_count b))
-    (λ x left. law_a (ga.call_count a) (ga.call_count a1) x ca left) (λ y left. law_b (gb.call_count b) (gb.call_count b1) y cb left))
-    inside))
+-- ---- what is left inside a call
 
 -- inside calls of the halves that write nothing
 pub left_read : {A B : Type 0} (ga : Ghosts A) (gb : Ghosts B) (at : Attached) (na nb : ℕ) (a a1 : A) (b b1 : B) → Goes ga a a1 Nothing → Goes gb b b1 Nothing
@@ -167,47 +112,3 @@ left_read ga gb at na nb a a1 b b1 time_a time_b c left =
     inl (left_more at na nb (ga.left_since a1 (ga.call_count a)) (gb.left_since b1 (gb.call_count b)) (left_now ga a) (left_now gb b)
     (λ x lx. ⊎_elim (λ old. old) (λ none. absurd none) (time_a.adds (ga.call_count a) x (omega arith) lx))
     (λ y ly. ⊎_elim (λ old. old) (λ none. absurd none) (time_b.adds (gb.call_count b) y (omega arith) ly)) c left)
-
--- ---- what is shown
-
-some_then : {T : Type 0} {P Q : T → Type 0} (o : Option T) → IfSome o P → ((x : T) → P x → Q x) → IfSome o Q
-some_then None p f = tt
-some_then (Some x) p f = f x p
-
--- after a call that was Ok a crash leaves only what it leaves now
-only_now : {A B : Type 0} (ga : Ghosts A) (gb : Ghosts B) (of : (Image → Type 0) → (Image → Type 0) → Image → Type 0) (ms : List (A × B)) (a : A) (b : B) (n1 : ℕ) (image : Image) → n1 ≡ length ms
-    → ((c : Image) → of (left_now ga a) (left_now gb b) c → c ≡ image) → (c : Image) → IsLeftSince ga gb of ms a b n1 c → c ≡ image
-only_now ga gb of ms a b n1 image late now c since = ⊎_elim (now c) (λ calls. absurd (none_since ga gb of ms a b n1 c (omega (arith, late)) calls)) since
-
--- of two halves with marks
-pub leaves_now : {A B : Type 0} (ga : Ghosts A) (gb : Ghosts B) (at : Attached) (na nb : ℕ) (a b : Option Image) (ms : List (A × B)) (first : A) (second : B) (n1 : ℕ)
-    → has_marks at ≡ true → n1 ≡ length ms → LeavesShown at na nb a b (left_now ga first) (left_now gb second)
-    → IfSome (shown_by at na nb a b) (λ image. (c : Image) → IsLeftSince ga gb (IsLeftOf at na nb) ms first second n1 c → c ≡ image)
-leaves_now ga gb Unattached na nb a b ms first second n1 has late left = absurd (false≢true has)
-leaves_now ga gb Alone na nb a b ms first second n1 has late left = absurd (false≢true has)
-leaves_now ga gb Member na nb a b ms first second n1 has late left = absurd (false≢true has)
-leaves_now ga gb (Apart h) na nb a b ms first second n1 has late left = absurd (false≢true has)
-leaves_now ga gb (Pair h) na nb a b ms first second n1 has late left =
-    some_then (shown_by (Pair h) na nb a b) left (λ image are.
-    only_now ga gb (IsLeftOf (Pair h) na nb) ms first second n1 image late (λ c now.
-    ⊎_elim (λ e. e ∙ (are now.0 now.1 now.2 now.3).0) (λ e. e ∙ (are now.0 now.1 now.2 now.3).1) now.4))
-
--- of one half alone that holds what a crash leaves
-alone_only : {left : Image → Type 0} (a : Option Image) (f : Image → Image) → IsOnly a left → IfSome (option_map f a) (λ image. (c x : Image) → left x → c ≡ f x → c ≡ image)
-alone_only None f only = tt
-alone_only (Some image) f only = λ c x left e. e ∙ ap f (same_Some x image (sym (only x left)))
-
--- of what has blocks
-pub leaves_settled : {A B : Type 0} (ga : Ghosts A) (gb : Ghosts B) (at : Attached) (na nb : ℕ) (a b : Option Image) (ms : List (A × B)) (first : A) (second : B) (n1 : ℕ)
-    → 0 < blocks_in at na nb → n1 ≡ length ms → LeavesShown at na nb a b (left_now ga first) (left_now gb second)
-    → (uses_first (halves_of at) ≡ true → IsOnly a (left_now ga first))
-    → IfSome (shown_by at na nb a b) (λ image. (c : Image) → IsLeftSince ga gb (IsLeftOf at na nb) ms first second n1 c → c ≡ image)
-leaves_settled ga gb Unattached na nb a b ms first second n1 some late left only = absurd (omega (arith, some))
-leaves_settled ga gb (Apart h) na nb a b ms first second n1 some late left only = absurd (omega (arith, some))
-leaves_settled ga gb (Pair h) na nb a b ms first second n1 some late left only = leaves_now ga gb (Pair h) na nb a b ms first second n1 refl late left
-leaves_settled ga gb Alone na nb None b ms first second n1 some late left only = tt
-leaves_settled ga gb Alone na nb (Some image) b ms first second n1 some late left only =
-    only_now ga gb (IsLeftOf Alone na nb) ms first second n1 image late (λ c now. same_Some c image (sym (only refl c now)))
-leaves_settled ga gb Member na nb a b ms first second n1 some late left only =
-    some_then (option_map (take (na - 1)) a) (alone_only a (take (na - 1)) (only refl)) (λ image are.
-    only_now ga gb (IsLeftOf Member na nb) ms first second n1 image late (λ c now. are c now.0 now.1 now.2))

@@ -1,5 +1,5 @@
 -- What two halves show together: the pick of their images by their marks.
-use Rattle.std.specs.Prelude.{◌≡◌, ⊤, ℕ, ◌-◌, ◌<◌, ◌⊎◌, ◌&&◌, ◌==◌, min, nat_lt, Bool, true, false, not, if◌then◌else◌, Option, None, Some, IfSome, length, take, slice_index}
+use Rattle.std.specs.Prelude.{◌≡◌, ⊤, ℕ, [], ◌-◌, ◌<◌, ◌⊎◌, ◌&&◌, ◌==◌, min, nat_lt, Bool, true, false, not, if◌then◌else◌, Option, None, Some, IfSome, length, take, slice_index}
 use Rattle.std.specs.Option.{option_map}
 use Rattle.bd_device.specs.Blocks.{Image}
 use Rattle.bd_device.specs.Commits.{block_at}
@@ -24,13 +24,17 @@ picked size first_mark second_mark (Some first) (Some second) =
     Some (pick size first_mark second_mark first second)
 picked size first_mark second_mark _ _ = None
 
--- what two halves show together: the pick by their last blocks, where they have as many blocks, and
--- any
-abbrev pub shown_together : Option Image → Option Image → Option Image
-shown_together (Some first) (Some second) =
+-- what two images are together: the pick by their last blocks, where they have as many blocks, and
+-- any, and else no blocks
+abbrev pub picked_together : Image → Image → Image
+picked_together first second =
     if (length first == length second) && nat_lt 0 (length first)
-    then Some (pick (length first - 1) (length first - 1) (length first - 1) first second)
-    else None
+    then pick (length first - 1) (length first - 1) (length first - 1) first second
+    else []
+
+-- so it is of what two halves show
+abbrev pub shown_together : Option Image → Option Image → Option Image
+shown_together (Some first) (Some second) = Some (picked_together first second)
 shown_together _ _ = None
 
 -- the pick stays with the source named first, and where its mark alone is open also with it named

@@ -1,8 +1,13 @@
 pub mod Calls
 pub mod Contents
 pub mod Crashes
+pub mod Did
 pub mod Halves
+pub mod Laws
 pub mod Names
+pub mod Notes
 pub mod Past
+pub mod Shown
 pub mod Since
+pub mod Sound
 pub mod Writing

@@ -1,23 +1,156 @@
-use Rattle.std.proofs.Common.{◌∙◌}
-use Rattle.bd_device.specs.Moments.{Nothing}
-use Rattle.bd_mirror.proofs.Since.{counted_from, moments_on, since_on, left_read}
+use Rattle.std.proofs.Common.{◌≡◌, ◌<◌, ap, sym, subst, ◌∙◌, arith}
+use Rattle.std.specs.Prelude.{is_ok}
+use Rattle.bd_io.specs.Cause.{HasCause, IsCounted}
+use Rattle.bd_device.specs.Calls.{faults_after}
+use Rattle.bd_device.specs.Moments.{Elapses, Nothing}
+use Rattle.bd_device.proofs.Refusals.{OnOk-then}
+use Rattle.bd_mirror.specs.Calls.{blocks_now}
+use Rattle.bd_mirror.specs.Did.{MirrorDid, DidBy, last_note}
+use Rattle.bd_mirror.specs.Sound.{mirror_contents, mirror_since, GoesBy}
+use Rattle.bd_mirror.proofs.Methods.{WentOn, sound_on, same_mirror, told_same, blocks_on, leaves_picks, goes_by_on, of_shown, since_quiet, call_did, contents_kept, left_same}
+use Rattle.bd_mirror.proofs.Since.{left_read}
 use Rattle.bd_mirror.proofs.mirror.MirrorDevice.read.Goals as goal
 
-pub returns-clause-moments : goal.returns-clause-moments
-returns-clause-moments g c = λ kept.
-    let counts = c.args.self.now.counts in
-    let did = c.read_halves-result in
-    moments_on counts.calls _ _ _ _ (did.ensures.moments ∙ c.and-self.ensures) (counted_from counts _ did.ensures.counts c.settle.ensures.calls).counted kept
+pub invariant_of-self : goal.invariant_of-self
+invariant_of-self g c =
+    let old = c.self.inside.parts in
+    let did = c.read-result.ensures in
+    let new = c.read-result.new.self in
+    let went : WentOn g.A.Device g.B.Device old new = record {
+      sound = c.self.invariant;
+      sound_now = sound_on g.A.Device g.B.Device old new c.self.invariant did.stays did.noted (did.moments c.self.invariant.counted) (same_mirror g.A.Device g.B.Device old new did.attached did.stays.first_count did.stays.second_count did.first_kept did.second_kept c.self.invariant.marked) (did.marks c.self.invariant.kept) c.are_whole.ensures;
+      stays = did.stays;
+      noted = did.noted;
+      counted = did.calls.counted;
+      told = told_same (g.A.Device.contents old.first) (g.B.Device.contents old.second) (g.A.Device.contents new.first) (g.B.Device.contents new.second) did.first_kept did.second_kept;
+    } in
+    went.sound_now
+
+pub returns-clause-bytes : goal.returns-clause-bytes
+returns-clause-bytes g c =
+    let old = c.self.inside.parts in
+    let did = c.read-result.ensures in
+    let new = c.read-result.new.self in
+    let went : WentOn g.A.Device g.B.Device old new = record {
+      sound = c.self.invariant;
+      sound_now = sound_on g.A.Device g.B.Device old new c.self.invariant did.stays did.noted (did.moments c.self.invariant.counted) (same_mirror g.A.Device g.B.Device old new did.attached did.stays.first_count did.stays.second_count did.first_kept did.second_kept c.self.invariant.marked) (did.marks c.self.invariant.kept) c.are_whole.ensures;
+      stays = did.stays;
+      noted = did.noted;
+      counted = did.calls.counted;
+      told = told_same (g.A.Device.contents old.first) (g.B.Device.contents old.second) (g.A.Device.contents new.first) (g.B.Device.contents new.second) did.first_kept did.second_kept;
+    } in
+    let some : 0 < blocks_now g.A.Device g.B.Device old = subst (λ m. 0 < blocks_now g.A.Device g.B.Device m) (sym c.self.view_is) (omega (arith, c.requires)) in
+    rw (← c.self.view_is) (OnOk-then c.read-result.result did.bytes (λ shown. of_shown g.A.Device g.B.Device old _ c.self.invariant some (shown c.self.invariant.marked)))
+
+pub returns-clause-kept : goal.returns-clause-kept
+returns-clause-kept g c =
+    let old = c.self.inside.parts in
+    let did = c.read-result.ensures in
+    let new = c.read-result.new.self in
+    let went : WentOn g.A.Device g.B.Device old new = record {
+      sound = c.self.invariant;
+      sound_now = sound_on g.A.Device g.B.Device old new c.self.invariant did.stays did.noted (did.moments c.self.invariant.counted) (same_mirror g.A.Device g.B.Device old new did.attached did.stays.first_count did.stays.second_count did.first_kept did.second_kept c.self.invariant.marked) (did.marks c.self.invariant.kept) c.are_whole.ensures;
+      stays = did.stays;
+      noted = did.noted;
+      counted = did.calls.counted;
+      told = told_same (g.A.Device.contents old.first) (g.B.Device.contents old.second) (g.A.Device.contents new.first) (g.B.Device.contents new.second) did.first_kept did.second_kept;
+    } in
+    contents_kept g.A.Device g.B.Device old new did.attached did.noted did.first_kept did.second_kept ∙ ap (mirror_contents g.A.Device g.B.Device) c.self.view_is
+
+pub returns-clause-count : goal.returns-clause-count
+returns-clause-count g c =
+    let old = c.self.inside.parts in
+    let did = c.read-result.ensures in
+    let new = c.read-result.new.self in
+    let went : WentOn g.A.Device g.B.Device old new = record {
+      sound = c.self.invariant;
+      sound_now = sound_on g.A.Device g.B.Device old new c.self.invariant did.stays did.noted (did.moments c.self.invariant.counted) (same_mirror g.A.Device g.B.Device old new did.attached did.stays.first_count did.stays.second_count did.first_kept did.second_kept c.self.invariant.marked) (did.marks c.self.invariant.kept) c.are_whole.ensures;
+      stays = did.stays;
+      noted = did.noted;
+      counted = did.calls.counted;
+      told = told_same (g.A.Device.contents old.first) (g.B.Device.contents old.second) (g.A.Device.contents new.first) (g.B.Device.contents new.second) did.first_kept did.second_kept;
+    } in
+    blocks_on g.A.Device g.B.Device old new did.stays ∙ ap (blocks_now g.A.Device g.B.Device) c.self.view_is
 
 pub returns-clause-time : goal.returns-clause-time
-returns-clause-time g c = λ kept.
-    let m = c.args.self.now in
-    let did = c.read_halves-result in
-    let new = did.new.self in
-    let na = g.A.Device.block_count m.first in
-    let nb = g.B.Device.block_count m.second in
-    since_on g.A.Device g.B.Device Nothing m.attached new.attached _ m.history.moments _ m.first new.first m.second new.second m.counts.calls _ na nb _ _
-    did.ensures.stays.attached (did.ensures.moments ∙ c.and-self.ensures) did.ensures.stays.first_count did.ensures.stays.second_count
-    (counted_from m.counts _ did.ensures.counts c.settle.ensures.calls).counted kept
-    did.ensures.stays.first_calls did.ensures.stays.second_calls (g.met.A.Device.since_earlier new.first) (g.met.B.Device.since_earlier new.second)
-    (left_read g.A.Device g.B.Device m.attached na nb m.first new.first m.second new.second did.ensures.first_time did.ensures.second_time)
+returns-clause-time g c =
+    let old = c.self.inside.parts in
+    let did = c.read-result.ensures in
+    let new = c.read-result.new.self in
+    let went : WentOn g.A.Device g.B.Device old new = record {
+      sound = c.self.invariant;
+      sound_now = sound_on g.A.Device g.B.Device old new c.self.invariant did.stays did.noted (did.moments c.self.invariant.counted) (same_mirror g.A.Device g.B.Device old new did.attached did.stays.first_count did.stays.second_count did.first_kept did.second_kept c.self.invariant.marked) (did.marks c.self.invariant.kept) c.are_whole.ensures;
+      stays = did.stays;
+      noted = did.noted;
+      counted = did.calls.counted;
+      told = told_same (g.A.Device.contents old.first) (g.B.Device.contents old.second) (g.A.Device.contents new.first) (g.B.Device.contents new.second) did.first_kept did.second_kept;
+    } in
+    subst (λ m. Elapses m.counts.calls new.counts.calls (mirror_since g.A.Device g.B.Device g.A.Attach.shows g.B.Attach.shows g.A.Attach.left_behind g.B.Attach.left_behind m) (mirror_since g.A.Device g.B.Device g.A.Attach.shows g.B.Attach.shows g.A.Attach.left_behind g.B.Attach.left_behind new) Nothing) c.self.view_is
+    (since_quiet g.A.Device g.B.Device g.A.Attach.shows g.B.Attach.shows g.A.Attach.left_behind g.B.Attach.left_behind old new (record {
+      shows_a = g.met.A.Attach.shows_named;
+      shows_b = g.met.B.Attach.shows_named;
+      left_a = λ d n t x is. g.met.A.Attach.left_named d n t x is;
+      left_b = λ d n t x is. g.met.B.Attach.left_named d n t x is;
+      earlier_a = g.met.A.Device.since_earlier;
+      earlier_b = g.met.B.Device.since_earlier;
+    }) went (λ some.
+    left_read g.A.Device g.B.Device old.attached (g.A.Device.block_count old.first) (g.B.Device.block_count old.second) old.first new.first old.second new.second did.first_time did.second_time))
+
+pub returns-clause-same_name : goal.returns-clause-same_name
+returns-clause-same_name g c = λ name by.
+    let old = c.self.inside.parts in
+    let did = c.read-result.ensures in
+    let new = c.read-result.new.self in
+    let went : WentOn g.A.Device g.B.Device old new = record {
+      sound = c.self.invariant;
+      sound_now = sound_on g.A.Device g.B.Device old new c.self.invariant did.stays did.noted (did.moments c.self.invariant.counted) (same_mirror g.A.Device g.B.Device old new did.attached did.stays.first_count did.stays.second_count did.first_kept did.second_kept c.self.invariant.marked) (did.marks c.self.invariant.kept) c.are_whole.ensures;
+      stays = did.stays;
+      noted = did.noted;
+      counted = did.calls.counted;
+      told = told_same (g.A.Device.contents old.first) (g.B.Device.contents old.second) (g.A.Device.contents new.first) (g.B.Device.contents new.second) did.first_kept did.second_kept;
+    } in
+    goes_by_on g.A.Device g.B.Device old new name did.stays did.noted (subst (λ m. GoesBy g.A.Device g.B.Device m name) (sym c.self.view_is) by)
+
+pub returns-clause-also : goal.returns-clause-also
+returns-clause-also g c =
+    let old = c.self.inside.parts in
+    let did = c.read-result.ensures in
+    let new = c.read-result.new.self in
+    let went : WentOn g.A.Device g.B.Device old new = record {
+      sound = c.self.invariant;
+      sound_now = sound_on g.A.Device g.B.Device old new c.self.invariant did.stays did.noted (did.moments c.self.invariant.counted) (same_mirror g.A.Device g.B.Device old new did.attached did.stays.first_count did.stays.second_count did.first_kept did.second_kept c.self.invariant.marked) (did.marks c.self.invariant.kept) c.are_whole.ensures;
+      stays = did.stays;
+      noted = did.noted;
+      counted = did.calls.counted;
+      told = told_same (g.A.Device.contents old.first) (g.B.Device.contents old.second) (g.A.Device.contents new.first) (g.B.Device.contents new.second) did.first_kept did.second_kept;
+    } in
+    subst (λ m. MirrorDid g.A.Device g.B.Device g.A.Attach.shows g.B.Attach.shows g.A.Attach.left_behind g.B.Attach.left_behind m new (is_ok c.read-result.result)) c.self.view_is
+    (record {
+      did = subst (λ note. DidBy g.A.Device g.B.Device g.A.Attach.shows g.B.Attach.shows g.A.Attach.left_behind g.B.Attach.left_behind note old new (is_ok c.read-result.result)) (sym (ap last_note did.noted))
+          (call_did g.A.Device g.B.Device old new c.read-result.result did.why (left_same old.attached new.attached did.attached) did.stays);
+      pairs = leaves_picks g.A.Device g.B.Device g.A.Attach.shows g.B.Attach.shows g.A.Attach.left_behind g.B.Attach.left_behind new (record {
+        shows_a = g.met.A.Attach.shows_named;
+        shows_b = g.met.B.Attach.shows_named;
+        left_a = λ d n t x is. g.met.A.Attach.left_named d n t x is;
+        left_b = λ d n t x is. g.met.B.Attach.left_named d n t x is;
+        earlier_a = g.met.A.Device.since_earlier;
+        earlier_b = g.met.B.Device.since_earlier;
+      }) went.sound_now;
+    })
+
+-- ---- counts
+
+pub returns-clause-cause : goal.returns-clause-cause
+returns-clause-cause g c = subst (λ m. HasCause m.counts.faults c.read-result.new.self.counts.faults c.read-result.result) c.self.view_is c.read-result.ensures.cause
+
+pub returns-clause-faults : goal.returns-clause-faults
+returns-clause-faults g c = subst (λ m. c.read-result.new.self.counts.faults ≡ faults_after m.counts.faults c.read-result.result) c.self.view_is c.read-result.ensures.faults
+
+pub returns-clause-last : goal.returns-clause-last
+returns-clause-last g c = c.read-result.ensures.last
+
+pub returns-clause-calls : goal.returns-clause-calls
+returns-clause-calls g c = subst (λ m. IsCounted m.counts.calls c.read-result.new.self.counts.calls c.read-result.result) c.self.view_is c.read-result.ensures.calls
+
+pub returns-clause-write_faults : goal.returns-clause-write_faults
+returns-clause-write_faults g c = c.read-result.ensures.write_faults ∙ ap (λ m. m.counts.write_faults) c.self.view_is

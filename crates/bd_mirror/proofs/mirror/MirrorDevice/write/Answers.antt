@@ -1,42 +1,181 @@
-use Rattle.std.proofs.Common.{◌≡◌, refl, inl, ◌∙◌, arith}
+use Rattle.std.proofs.Common.{◌≡◌, ◌<◌, refl, ap, sym, subst, ◌∙◌, arith, OnOk, OnErr}
+use Rattle.std.specs.Prelude.{is_ok}
+use Rattle.bd_device.specs.Blocks.{ChangesOnly, with_block}
+use Rattle.bd_io.specs.Cause.{HasCause, IsCounted}
+use Rattle.bd_device.specs.Calls.{faults_after}
 use Rattle.bd_device.specs.Device.{left_now}
-use Rattle.bd_device.specs.Moments.{TornAt}
-use Rattle.bd_device.proofs.Changes.{stays_written}
-use Rattle.bd_device.proofs.Moments.{within}
-use Rattle.bd_mirror.specs.Since.{IsLeftOf, mirror_since}
+use Rattle.bd_device.specs.Moments.{Elapses, TornAt}
+use Rattle.bd_device.proofs.Refusals.{OnOk-then}
+use Rattle.bd_mirror.specs.Calls.{blocks_now}
+use Rattle.bd_mirror.specs.Did.{MirrorDid, DidBy, last_note}
+use Rattle.bd_mirror.specs.Sound.{mirror_contents, mirror_since, GoesBy}
+use Rattle.bd_mirror.proofs.Methods.{WentOn, sound_on, contents_on, blocks_on, leaves_picks, goes_by_on, shape_of, since_write, changes_only, call_did, err_both}
+use Rattle.bd_mirror.proofs.Since.{left_inside}
 use Rattle.bd_mirror.specs.declared.writing.WritingCall.TheVariants.{Write}
-use Rattle.bd_mirror.proofs.Marks.{either_way}
-use Rattle.bd_mirror.proofs.Since.{counted_from, moments_on, left_inside, since_on}
 use Rattle.bd_mirror.proofs.mirror.MirrorDevice.write.Goals as goal
+
+pub invariant_of-self : goal.invariant_of-self
+invariant_of-self g c =
+    let old = c.self.inside.parts in
+    let did = c.write-result.ensures in
+    let new = c.write-result.new.self in
+    let went : WentOn g.A.Device g.B.Device old new = record {
+      sound = c.self.invariant;
+      sound_now = sound_on g.A.Device g.B.Device old new c.self.invariant did.stays did.noted (did.moments c.self.invariant.counted) (did.mirror c.self.invariant.marked) (did.marks c.self.invariant.marked c.self.invariant.kept) c.are_whole.ensures;
+      stays = did.stays;
+      noted = did.noted;
+      counted = did.calls.counted;
+      told = did.told;
+    } in
+    went.sound_now
+
+pub returns-clause-written : goal.returns-clause-written
+returns-clause-written g c =
+    let old = c.self.inside.parts in
+    let did = c.write-result.ensures in
+    let new = c.write-result.new.self in
+    let went : WentOn g.A.Device g.B.Device old new = record {
+      sound = c.self.invariant;
+      sound_now = sound_on g.A.Device g.B.Device old new c.self.invariant did.stays did.noted (did.moments c.self.invariant.counted) (did.mirror c.self.invariant.marked) (did.marks c.self.invariant.marked c.self.invariant.kept) c.are_whole.ensures;
+      stays = did.stays;
+      noted = did.noted;
+      counted = did.calls.counted;
+      told = did.told;
+    } in
+    let lt : c.args.b < blocks_now g.A.Device g.B.Device old = subst (λ m. c.args.b < blocks_now g.A.Device g.B.Device m) (sym c.self.view_is) c.requires in
+    subst (λ m. OnOk c.write-result.result (mirror_contents g.A.Device g.B.Device new ≡ with_block c.args.b c.args.from.now (mirror_contents g.A.Device g.B.Device m))) c.self.view_is
+    (OnOk-then c.write-result.result did.written (λ shown.
+    contents_on g.A.Device g.B.Device old new (with_block c.args.b c.args.from.now) c.self.invariant went.sound_now (blocks_on g.A.Device g.B.Device old new did.stays) did.told refl
+    (λ no. absurd (omega (arith, lt, no))) (shown c.self.invariant.marked)))
 
 pub returns-clause-others : goal.returns-clause-others
 returns-clause-others g c =
-    let halves = c.call_halves-result in
-    either_way halves.result halves.ensures.done halves.ensures.others
-    (λ done marked. stays_written (λ i. i ≡ c.args.b) c.args.b c.args.from.now _ _ refl (done marked))
-    (λ changed marked. stays_written (λ i. i ≡ c.args.b) c.args.b (changed marked).0 _ _ refl (changed marked).1)
+    let old = c.self.inside.parts in
+    let did = c.write-result.ensures in
+    let new = c.write-result.new.self in
+    let went : WentOn g.A.Device g.B.Device old new = record {
+      sound = c.self.invariant;
+      sound_now = sound_on g.A.Device g.B.Device old new c.self.invariant did.stays did.noted (did.moments c.self.invariant.counted) (did.mirror c.self.invariant.marked) (did.marks c.self.invariant.marked c.self.invariant.kept) c.are_whole.ensures;
+      stays = did.stays;
+      noted = did.noted;
+      counted = did.calls.counted;
+      told = did.told;
+    } in
+    let lt : c.args.b < blocks_now g.A.Device g.B.Device old = subst (λ m. c.args.b < blocks_now g.A.Device g.B.Device m) (sym c.self.view_is) c.requires in
+    subst (λ m. OnErr c.write-result.result (ChangesOnly c.args.b (mirror_contents g.A.Device g.B.Device m) (mirror_contents g.A.Device g.B.Device new))) c.self.view_is
+    (err_both c.write-result.result did.untold did.failed (λ none changed. changes_only g.A.Device g.B.Device old new c.args.b went lt none (changed c.self.invariant.marked)))
 
--- ---- since an earlier call
+pub returns-clause-shape : goal.returns-clause-shape
+returns-clause-shape g c =
+    let old = c.self.inside.parts in
+    let did = c.write-result.ensures in
+    let new = c.write-result.new.self in
+    let went : WentOn g.A.Device g.B.Device old new = record {
+      sound = c.self.invariant;
+      sound_now = sound_on g.A.Device g.B.Device old new c.self.invariant did.stays did.noted (did.moments c.self.invariant.counted) (did.mirror c.self.invariant.marked) (did.marks c.self.invariant.marked c.self.invariant.kept) c.are_whole.ensures;
+      stays = did.stays;
+      noted = did.noted;
+      counted = did.calls.counted;
+      told = did.told;
+    } in
+    shape_of g.A.Device g.B.Device new went.sound_now
 
-pub returns-clause-moments : goal.returns-clause-moments
-returns-clause-moments g c = λ kept.
-    let counts = c.args.self.now.counts in
-    let did = c.call_halves-result in
-    moments_on counts.calls _ _ _ _ (did.ensures.moments ∙ c.and-self.ensures) (counted_from counts _ did.ensures.counts c.settle_writing.ensures.calls).counted kept
+pub returns-clause-count : goal.returns-clause-count
+returns-clause-count g c =
+    let old = c.self.inside.parts in
+    let did = c.write-result.ensures in
+    let new = c.write-result.new.self in
+    let went : WentOn g.A.Device g.B.Device old new = record {
+      sound = c.self.invariant;
+      sound_now = sound_on g.A.Device g.B.Device old new c.self.invariant did.stays did.noted (did.moments c.self.invariant.counted) (did.mirror c.self.invariant.marked) (did.marks c.self.invariant.marked c.self.invariant.kept) c.are_whole.ensures;
+      stays = did.stays;
+      noted = did.noted;
+      counted = did.calls.counted;
+      told = did.told;
+    } in
+    blocks_on g.A.Device g.B.Device old new did.stays ∙ ap (blocks_now g.A.Device g.B.Device) c.self.view_is
 
 pub returns-clause-time : goal.returns-clause-time
-returns-clause-time g c = λ keeps kept.
-    let m = c.args.self.now in
-    let did = c.call_halves-result in
-    let new = did.new.self in
-    let na = g.A.Device.block_count m.first in
-    let nb = g.B.Device.block_count m.second in
-    let left = IsLeftOf m.attached na nb (left_now g.A.Device m.first) (left_now g.B.Device m.second) in
-    within (TornAt c.args.b left) (TornAt c.args.b (mirror_since g.A.Device g.B.Device m m.counts.calls))
-    (since_on g.A.Device g.B.Device (TornAt c.args.b left) m.attached new.attached _ m.history.moments _ m.first new.first m.second new.second m.counts.calls _ na nb _ _
-    did.ensures.stays.attached (did.ensures.moments ∙ c.and-self.ensures) did.ensures.stays.first_count did.ensures.stays.second_count
-    (counted_from m.counts _ did.ensures.counts c.settle_writing.ensures.calls).counted kept
-    did.ensures.stays.first_calls did.ensures.stays.second_calls (g.met.A.Device.since_earlier new.first) (g.met.B.Device.since_earlier new.second)
-    (left_inside (Write c.args.b c.args.from) m.attached na nb (left_now g.A.Device m.first) (left_now g.B.Device m.second) _ _ c.requires
-    (λ one x left. (did.ensures.alone one).adds (g.A.Device.call_count m.first) x (omega arith) left) (λ has. did.ensures.inside has keeps)))
-    (λ image torn. (torn.0, inl torn.1, torn.2, torn.3, torn.4))
+returns-clause-time g c =
+    let old = c.self.inside.parts in
+    let did = c.write-result.ensures in
+    let new = c.write-result.new.self in
+    let went : WentOn g.A.Device g.B.Device old new = record {
+      sound = c.self.invariant;
+      sound_now = sound_on g.A.Device g.B.Device old new c.self.invariant did.stays did.noted (did.moments c.self.invariant.counted) (did.mirror c.self.invariant.marked) (did.marks c.self.invariant.marked c.self.invariant.kept) c.are_whole.ensures;
+      stays = did.stays;
+      noted = did.noted;
+      counted = did.calls.counted;
+      told = did.told;
+    } in
+    let lt : c.args.b < blocks_now g.A.Device g.B.Device old = subst (λ m. c.args.b < blocks_now g.A.Device g.B.Device m) (sym c.self.view_is) c.requires in
+    subst (λ m. Elapses m.counts.calls new.counts.calls (mirror_since g.A.Device g.B.Device g.A.Attach.shows g.B.Attach.shows g.A.Attach.left_behind g.B.Attach.left_behind m) (mirror_since g.A.Device g.B.Device g.A.Attach.shows g.B.Attach.shows g.A.Attach.left_behind g.B.Attach.left_behind new) (TornAt c.args.b (mirror_since g.A.Device g.B.Device g.A.Attach.shows g.B.Attach.shows g.A.Attach.left_behind g.B.Attach.left_behind m m.counts.calls))) c.self.view_is
+    (since_write g.A.Device g.B.Device g.A.Attach.shows g.B.Attach.shows g.A.Attach.left_behind g.B.Attach.left_behind old new c.args.b (record {
+      shows_a = g.met.A.Attach.shows_named;
+      shows_b = g.met.B.Attach.shows_named;
+      left_a = λ d n t x is. g.met.A.Attach.left_named d n t x is;
+      left_b = λ d n t x is. g.met.B.Attach.left_named d n t x is;
+      earlier_a = g.met.A.Device.since_earlier;
+      earlier_b = g.met.B.Device.since_earlier;
+    }) went (λ some.
+    left_inside (Write c.args.b c.args.from) old.attached (g.A.Device.block_count old.first) (g.B.Device.block_count old.second) (left_now g.A.Device old.first) (left_now g.B.Device old.second) _ _ lt
+    (λ one x left. (did.alone one).adds (g.A.Device.call_count old.first) x (omega arith) left) (λ has. did.inside has c.self.invariant.kept)))
+
+pub returns-clause-same_name : goal.returns-clause-same_name
+returns-clause-same_name g c = λ name by.
+    let old = c.self.inside.parts in
+    let did = c.write-result.ensures in
+    let new = c.write-result.new.self in
+    let went : WentOn g.A.Device g.B.Device old new = record {
+      sound = c.self.invariant;
+      sound_now = sound_on g.A.Device g.B.Device old new c.self.invariant did.stays did.noted (did.moments c.self.invariant.counted) (did.mirror c.self.invariant.marked) (did.marks c.self.invariant.marked c.self.invariant.kept) c.are_whole.ensures;
+      stays = did.stays;
+      noted = did.noted;
+      counted = did.calls.counted;
+      told = did.told;
+    } in
+    goes_by_on g.A.Device g.B.Device old new name did.stays did.noted (subst (λ m. GoesBy g.A.Device g.B.Device m name) (sym c.self.view_is) by)
+
+pub returns-clause-also : goal.returns-clause-also
+returns-clause-also g c =
+    let old = c.self.inside.parts in
+    let did = c.write-result.ensures in
+    let new = c.write-result.new.self in
+    let went : WentOn g.A.Device g.B.Device old new = record {
+      sound = c.self.invariant;
+      sound_now = sound_on g.A.Device g.B.Device old new c.self.invariant did.stays did.noted (did.moments c.self.invariant.counted) (did.mirror c.self.invariant.marked) (did.marks c.self.invariant.marked c.self.invariant.kept) c.are_whole.ensures;
+      stays = did.stays;
+      noted = did.noted;
+      counted = did.calls.counted;
+      told = did.told;
+    } in
+    subst (λ m. MirrorDid g.A.Device g.B.Device g.A.Attach.shows g.B.Attach.shows g.A.Attach.left_behind g.B.Attach.left_behind m new (is_ok c.write-result.result)) c.self.view_is
+    (record {
+      did = subst (λ note. DidBy g.A.Device g.B.Device g.A.Attach.shows g.B.Attach.shows g.A.Attach.left_behind g.B.Attach.left_behind note old new (is_ok c.write-result.result)) (sym (ap last_note did.noted))
+          (call_did g.A.Device g.B.Device old new c.write-result.result did.why did.in_use did.stays);
+      pairs = leaves_picks g.A.Device g.B.Device g.A.Attach.shows g.B.Attach.shows g.A.Attach.left_behind g.B.Attach.left_behind new (record {
+        shows_a = g.met.A.Attach.shows_named;
+        shows_b = g.met.B.Attach.shows_named;
+        left_a = λ d n t x is. g.met.A.Attach.left_named d n t x is;
+        left_b = λ d n t x is. g.met.B.Attach.left_named d n t x is;
+        earlier_a = g.met.A.Device.since_earlier;
+        earlier_b = g.met.B.Device.since_earlier;
+      }) went.sound_now;
+    })
+
+-- ---- counts
+
+pub returns-clause-cause : goal.returns-clause-cause
+returns-clause-cause g c = subst (λ m. HasCause m.counts.faults c.write-result.new.self.counts.faults c.write-result.result) c.self.view_is c.write-result.ensures.cause
+
+pub returns-clause-faults : goal.returns-clause-faults
+returns-clause-faults g c = subst (λ m. c.write-result.new.self.counts.faults ≡ faults_after m.counts.faults c.write-result.result) c.self.view_is c.write-result.ensures.faults
+
+pub returns-clause-last : goal.returns-clause-last
+returns-clause-last g c = c.write-result.ensures.last
+
+pub returns-clause-calls : goal.returns-clause-calls
+returns-clause-calls g c = subst (λ m. IsCounted m.counts.calls c.write-result.new.self.counts.calls c.write-result.result) c.self.view_is c.write-result.ensures.calls
+
+pub returns-clause-write_faults : goal.returns-clause-write_faults
+returns-clause-write_faults g c = subst (λ m. c.write-result.new.self.counts.write_faults ≡ faults_after m.counts.write_faults c.write-result.result) c.self.view_is c.write-result.ensures.write_faults

@@ -1,4 +1,4 @@
-use Rattle.std.proofs.Common.{◌∙◌, refl, arith}
+use Rattle.std.proofs.Common.{ap, ◌∙◌, refl, arith}
 use Rattle.bd_device.specs.Moments.{Nothing}
 use Rattle.bd_device.proofs.Moments.{goes_on, by_name}
 use Rattle.bd_device.proofs.Refusals.{IfNone-always}
@@ -9,7 +9,10 @@ use Rattle.bd_mirror.proofs.Copies.{elapses_none}
 use Rattle.bd_mirror.proofs.Crashes.{none_then, loses_before, loses_joined}
 use Rattle.bd_mirror.proofs.Marks.{OnOk-always}
 use Rattle.bd_mirror.proofs.Past.{goes_apart, goes_joined}
-use Rattle.bd_mirror.proofs.mirror.Mirror.attach_pair.Goals as goal
+use Rattle.std.specs.Prelude.{is_some}
+use Rattle.bd_mirror.proofs.Named.{both_sized, together_known}
+use Rattle.bd_mirror.proofs.Told.{told_by}
+use Rattle.bd_mirror.proofs.parts.Parts.attach_pair.Goals as goal
 
 pub join-requires-clause-first_settled : goal.join-requires-clause-first_settled
 join-requires-clause-first_settled g c = λ some. c.in_ok-barrier.ensures.durable (omega (arith, some, c.barrier.ensures.count))
@@ -187,3 +190,13 @@ returns-clause-first_named g c =
 pub returns-clause-second_named : goal.returns-clause-second_named
 returns-clause-second_named g c =
     OnOk-always c.join.result (c.join.ensures.second_stays.same_name c.args.second.now (c.barrier-2.ensures.same_name c.args.second.now c.in_ok-attach-2.ensures.named))
+
+-- ---- what is known
+
+pub returns-clause-told : goal.returns-clause-told
+returns-clause-told g c =
+    let new = c.join.new.self in
+    let joined = together_known (g.A.Device.contents c.barrier.new.self) (g.A.Device.contents new.first) (g.B.Device.contents c.barrier-2.new.self) (g.B.Device.contents new.second) c.join.ensures.behind in
+    OnOk-always c.join.result (both_sized c.args.size c.in_ok-attach.ensures.told c.in_ok-attach-2.ensures.told (λ e f.
+    joined ∙ told_by (g.A.Device.contents c.args.self.now.first) (g.A.Device.contents c.barrier.new.self) (g.B.Device.contents c.args.self.now.second) (g.B.Device.contents c.barrier-2.new.self)
+    (ap is_some c.barrier.ensures.kept ∙ e) (ap is_some c.barrier-2.ensures.kept ∙ f)))

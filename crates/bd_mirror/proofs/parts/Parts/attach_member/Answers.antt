@@ -9,7 +9,10 @@ use Rattle.bd_mirror.proofs.Behind.{member_behind}
 use Rattle.bd_mirror.proofs.Crashes.{none_then}
 use Rattle.bd_mirror.proofs.Marks.{OnOk-always}
 use Rattle.bd_mirror.proofs.Past.{member_quiet, member_opens}
-use Rattle.bd_mirror.proofs.mirror.Mirror.attach_member.Goals as goal
+use Rattle.std.specs.Prelude.{is_some}
+use Rattle.bd_mirror.proofs.Named.{some_then}
+use Rattle.bd_mirror.proofs.Told.{known_stays}
+use Rattle.bd_mirror.proofs.parts.Parts.attach_member.Goals as goal
 
 pub returns-clause-shown : goal.returns-clause-shown
 returns-clause-shown g c =
@@ -70,3 +73,8 @@ returns-clause-by_name g c =
     (none_then c.args.size c.in_ok-attach.ensures.time (λ time. by_name Nothing (goes_on Nothing Nothing time c.barrier.ensures.time (λ image none. none))
     (λ t image. g.met.A.Attach.left_named c.barrier.new.self c.args.name.now t image named)))
     c.open_member.ensures.time
+
+pub returns-clause-told : goal.returns-clause-told
+returns-clause-told g c =
+    let known = known_stays _ (g.A.Device.contents c.barrier.new.self) (g.A.Device.contents c.open_member.new.half) c.open_member.ensures.others in
+    OnOk-always c.open_member.result (some_then c.args.size c.in_ok-attach.ensures.told (λ n e. known ∙ ap is_some c.barrier.ensures.kept ∙ e))

@@ -7,7 +7,8 @@ use Rattle.bd_mirror.specs.Writing.{bytes_of}
 use Rattle.bd_mirror.proofs.Copies.{elapses_none}
 use Rattle.bd_mirror.proofs.Marks.{OnErr-then, at_ok, at_err, OnOk-always, nothing_did, first_did, second_did, both_did, marked_both, kept_first, kept_second, lost_second}
 use Rattle.bd_mirror.proofs.Leaves.{within_pair, within_first, within_second, both_closed, since_call, since_mark, mark_call, mark_now, neither_leaves, inside_both, inside_first, inside_second, marks_both, marks_first, marks_second, marks_first_alone, marks_second_alone, one_alone, one_both}
-use Rattle.bd_mirror.proofs.mirror.Mirror.call_halves.Goals as goal
+use Rattle.bd_mirror.proofs.Told.{known_after, known_stays, told_by}
+use Rattle.bd_mirror.proofs.parts.Parts.call_halves.Goals as goal
 
 pub returns-in-Neither-clause-others : goal.returns-in-Neither-clause-others
 returns-in-Neither-clause-others g c = λ _. nothing_did c.args.call _
@@ -226,3 +227,41 @@ returns-in-Err-Ok-clause-alone g c = λ one. absurd (one_both c.args.self.now.at
 
 pub returns-in-Err-Err-clause-alone : goal.returns-in-Err-Err-clause-alone
 returns-in-Err-Err-clause-alone g c = λ one. absurd (one_both c.args.self.now.attached one (sym c.halves.ensures ∙ c.in-Both.is))
+
+-- ---- what is known
+
+pub returns-in-First-clause-told : goal.returns-in-First-clause-told
+returns-in-First-clause-told g c =
+    told_by (g.A.Device.contents c.args.self.now.first) (g.A.Device.contents c.make.new.half) (g.B.Device.contents c.args.self.now.second) (g.B.Device.contents c.args.self.now.second)
+    (known_after c.make.result c.args.call (bytes_of c.args.call) (g.A.Device.contents c.args.self.now.first) (g.A.Device.contents c.make.new.half) c.make.ensures.done c.make.ensures.others)
+    refl
+
+pub returns-in-Second-clause-told : goal.returns-in-Second-clause-told
+returns-in-Second-clause-told g c =
+    told_by (g.A.Device.contents c.args.self.now.first) (g.A.Device.contents c.args.self.now.first) (g.B.Device.contents c.args.self.now.second) (g.B.Device.contents c.make-in-Second.new.half)
+    refl
+    (known_after c.make-in-Second.result c.args.call (bytes_of c.args.call) (g.B.Device.contents c.args.self.now.second) (g.B.Device.contents c.make-in-Second.new.half) c.make-in-Second.ensures.done c.make-in-Second.ensures.others)
+
+pub returns-in-Ok-Ok-clause-told : goal.returns-in-Ok-Ok-clause-told
+returns-in-Ok-Ok-clause-told g c =
+    told_by (g.A.Device.contents c.args.self.now.first) (g.A.Device.contents c.make-first.new.half) (g.B.Device.contents c.args.self.now.second) (g.B.Device.contents c.make-second.new.half)
+    (known_after c.make-first.result c.args.call (bytes_of c.args.call) (g.A.Device.contents c.args.self.now.first) (g.A.Device.contents c.make-first.new.half) c.make-first.ensures.done c.make-first.ensures.others)
+    (known_after c.make-second.result c.args.call (bytes_of c.args.call) (g.B.Device.contents c.args.self.now.second) (g.B.Device.contents c.make-second.new.half) c.make-second.ensures.done c.make-second.ensures.others)
+
+pub returns-in-Ok-Err-clause-told : goal.returns-in-Ok-Err-clause-told
+returns-in-Ok-Err-clause-told g c =
+    told_by (g.A.Device.contents c.args.self.now.first) (g.A.Device.contents c.go_on_alone.new.half) (g.B.Device.contents c.args.self.now.second) (g.B.Device.contents c.make-second.new.half)
+    (known_stays _ (g.A.Device.contents c.make-first.new.half) (g.A.Device.contents c.go_on_alone.new.half) c.go_on_alone.ensures.others ∙ (known_after c.make-first.result c.args.call (bytes_of c.args.call) (g.A.Device.contents c.args.self.now.first) (g.A.Device.contents c.make-first.new.half) c.make-first.ensures.done c.make-first.ensures.others))
+    (known_after c.make-second.result c.args.call (bytes_of c.args.call) (g.B.Device.contents c.args.self.now.second) (g.B.Device.contents c.make-second.new.half) c.make-second.ensures.done c.make-second.ensures.others)
+
+pub returns-in-Err-Ok-clause-told : goal.returns-in-Err-Ok-clause-told
+returns-in-Err-Ok-clause-told g c =
+    told_by (g.A.Device.contents c.args.self.now.first) (g.A.Device.contents c.make-first.new.half) (g.B.Device.contents c.args.self.now.second) (g.B.Device.contents c.go_on_alone-in-Err-Ok.new.half)
+    (known_after c.make-first.result c.args.call (bytes_of c.args.call) (g.A.Device.contents c.args.self.now.first) (g.A.Device.contents c.make-first.new.half) c.make-first.ensures.done c.make-first.ensures.others)
+    (known_stays _ (g.B.Device.contents c.make-second.new.half) (g.B.Device.contents c.go_on_alone-in-Err-Ok.new.half) c.go_on_alone-in-Err-Ok.ensures.others ∙ (known_after c.make-second.result c.args.call (bytes_of c.args.call) (g.B.Device.contents c.args.self.now.second) (g.B.Device.contents c.make-second.new.half) c.make-second.ensures.done c.make-second.ensures.others))
+
+pub returns-in-Err-Err-clause-told : goal.returns-in-Err-Err-clause-told
+returns-in-Err-Err-clause-told g c =
+    told_by (g.A.Device.contents c.args.self.now.first) (g.A.Device.contents c.make-first.new.half) (g.B.Device.contents c.args.self.now.second) (g.B.Device.contents c.make-second.new.half)
+    (known_after c.make-first.result c.args.call (bytes_of c.args.call) (g.A.Device.contents c.args.self.now.first) (g.A.Device.contents c.make-first.new.half) c.make-first.ensures.done c.make-first.ensures.others)
+    (known_after c.make-second.result c.args.call (bytes_of c.args.call) (g.B.Device.contents c.args.self.now.second) (g.B.Device.contents c.make-second.new.half) c.make-second.ensures.done c.make-second.ensures.others)

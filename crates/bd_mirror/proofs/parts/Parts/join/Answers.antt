@@ -7,7 +7,7 @@ use Rattle.bd_mirror.proofs.Joined.{alone_open, alone_closed, not_other, fore_to
 use Rattle.bd_mirror.specs.declared.halves.Halves.TheVariants.{Both, First, Second}
 use Rattle.bd_mirror.specs.Contents.{shown_together}
 use Rattle.bd_mirror.proofs.Behind.{mark_within, together_kept, together_joined}
-use Rattle.bd_mirror.proofs.mirror.Mirror.join.Goals as goal
+use Rattle.bd_mirror.proofs.parts.Parts.join.Goals as goal
 
 pub mirror_onto-requires-clause-source_settled : goal.mirror_onto-requires-clause-source_settled
 mirror_onto-requires-clause-source_settled g c =

@@ -15,7 +15,10 @@ use Rattle.bd_mirror.proofs.Behind.{alone_behind, named_member_behind, named_pai
 use Rattle.bd_mirror.proofs.Crashes.{none_then}
 use Rattle.bd_mirror.proofs.Past.{alone_by_name, member_by_name, pair_by_name}
 use Rattle.bd_mirror.proofs.Since.{both_ok}
-use Rattle.bd_mirror.proofs.mirror.Mirror.attach_halves.Goals as goal
+use Rattle.std.specs.Prelude.{◌&&◌, is_some}
+use Rattle.bd_mirror.specs.Sound.{are_told}
+use Rattle.bd_mirror.proofs.Named.{some_then, sized_then, ok_sized}
+use Rattle.bd_mirror.proofs.parts.Parts.attach_halves.Goals as goal
 
 pub returns-in_ok-attach-in-None-clause-named : goal.returns-in_ok-attach-in-None-clause-named
 returns-in_ok-attach-in-None-clause-named g c =
@@ -226,3 +229,31 @@ returns-else-is_empty-clause-by_name g c =
     (subst (λ second. (x y : Image) → g.A.Attach.shows m.first c.in-Some.first.now ≡ Some x → g.B.Attach.shows m.second second ≡ Some y → 0 < length x → length x ≡ length y
     → GoesAsBefore (λ d. g.A.Attach.left_behind d c.in-Some.first.now) (λ d. g.B.Attach.left_behind d second) g.A.Device.call_count g.B.Device.call_count
     (IsLeftOf (Pair Both) (length x) (length x)) m.first m.second new.first new.second) cut.1 goes)))
+
+-- ---- what is known, and the second half
+
+pub returns-else-is_empty-clause-second_kept : goal.returns-else-is_empty-clause-second_kept
+returns-else-is_empty-clause-second_kept g c = λ none.
+    let cut = split_some _ c.args.name.now c.split_once.result _ c.split_once.ensures.byte (λ w o h. h) c.in-Some.is in
+    absurd (some_is c.is_empty.result c.in-Some.second.now c.is_empty.ensures c.if-is_empty.false (cut.1 ∙ none cut.2))
+
+pub returns-in_ok-attach_member-in-Some-clause-second_kept : goal.returns-in_ok-attach_member-in-Some-clause-second_kept
+returns-in_ok-attach_member-in-Some-clause-second_kept g c = λ _. ap (λ m. m.second) c.attach_member.ensures.after
+
+pub returns-in_err-attach_member-in-Some-clause-second_kept : goal.returns-in_err-attach_member-in-Some-clause-second_kept
+returns-in_err-attach_member-in-Some-clause-second_kept g c = λ _. ap (λ m. m.second) c.attach_member.ensures.after
+
+pub returns-in_ok-attach-in-None-clause-told : goal.returns-in_ok-attach-in-None-clause-told
+returns-in_ok-attach-in-None-clause-told g c =
+    some_then c.args.create c.in_ok-attach-in-None.ensures.told (λ n e. ap (λ t. t && is_some (g.B.Device.contents c.args.self.now.second)) e)
+
+pub returns-in_ok-attach_member-in-Some-clause-told : goal.returns-in_ok-attach_member-in-Some-clause-told
+returns-in_ok-attach_member-in-Some-clause-told g c =
+    let after = c.attach_member.ensures.after in
+    sized_then (λ n. n + 1) c.in_ok-size-in-Some.size c.args.create c.in_ok-size-in-Some.ensures.more c.in_ok-attach_member-in-Some.ensures.told (λ e.
+    ap (λ t. t && is_some (g.B.Device.contents c.attach_member.new.self.second)) e
+    ∙ ap (λ m. is_some (g.A.Device.contents c.args.self.now.first) && is_some (g.B.Device.contents m)) (ap (λ m. m.second) after))
+
+pub returns-else-is_empty-clause-told : goal.returns-else-is_empty-clause-told
+returns-else-is_empty-clause-told g c =
+    ok_sized (are_told g.A.Device g.B.Device c.attach_pair.new.self ≡ are_told g.A.Device g.B.Device c.args.self.now) (λ n. n + 1) c.attach_pair.result c.in_ok-size-in-Some.size c.args.create c.in_ok-size-in-Some.ensures.more c.attach_pair.ensures.told
