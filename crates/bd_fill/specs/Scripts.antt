@@ -3,10 +3,6 @@ use Rattle.std.specs.Prelude.{ℕ, ◌-◌, List, [], ◌∷◌, ◌++◌, drop}
 use Rattle.std.specs.List.{flat_map, range_with_len}
 use Rattle.bd_script.specs.Generated.{Load, load, line_count, generated_line}
 
--- the most lines that are drawn
-abbrev pub count_limit : ℕ
-count_limit = 100000
-
 -- so many lines from an index on, each with its newline
 abbrev pub lines_from : ℕ → ℕ → ℕ → List ℕ
 lines_from seed index n = flat_map (λ i. generated_line seed i ++ 10 ∷ []) (range_with_len index n)

@@ -8,9 +8,6 @@ use bd_io::{Failed, Source};
 use bd_script::Generator;
 use std::alloc::{AllocError, Global};
 
-/// The most lines of a generated script that are drawn.
-pub const MAX_COUNT: u32 = 100_000;
-
 /// A source of the lines that a seed makes, each with a newline. It tells its contents, and fails
 /// where there is no memory for a line, and nowhere else.
 #[derive(Drop)]

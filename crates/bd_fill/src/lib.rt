@@ -9,5 +9,5 @@ mod history;
 mod tally;
 
 pub use counting::CountingSink;
-pub use generated::{GeneratedSource, MAX_COUNT};
+pub use generated::GeneratedSource;
 pub use tally::{SUMMARY_SIZE, Tally};

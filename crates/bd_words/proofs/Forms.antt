@@ -9,7 +9,7 @@ use Rattle.std.proofs.lemmas.Slice.Eq.{bytes_eq-Decides}
 use Rattle.std.proofs.lemmas.Str.Parse.{digit_from_value}
 use Rattle.clap.proofs.OnLiterals.{clap_on_literals}
 use Rattle.bd_limits.specs.Limits.{slot_minimum, slot_limit}
-use Rattle.bd_words.specs.Words.{Run, Format, Fill, are_digits, call_of, count_in, fill_limit, fill_of, format_of, is_dashes, is_flag, is_image, is_number, number_in, run_of, seed_in, seed_limit, slots_in, values_in, verb_of}
+use Rattle.bd_words.specs.Words.{Call, Run, Format, Fill, HasForm, are_digits, call_of, count_in, fill_limit, fill_of, format_of, is_dashes, is_flag, is_image, is_number, number_in, run_of, seed_in, seed_limit, slots_in, values_in, verb_of}
 use Rattle.bd_words.proofs.NumberWords.{digits}
 
 -- ---- words that are values
@@ -94,21 +94,27 @@ fill_of_image [] seed count s n is first second = absurd (true≢false (sym is))
 fill_of_image (b ∷ bs) seed count s n is first second =
     ap₂ (λ (x y : Option ℕ). option_and_then (λ s. option_map (Fill (b ∷ bs) s) y) x) first second
 
-pub run_form : (program image : List ℕ) → is_image image ≡ true → call_of (program ∷ codes "run" ∷ image ∷ []) ≡ Some (Run image)
+run_form : (program image : List ℕ) → is_image image ≡ true → call_of (program ∷ codes "run" ∷ image ∷ []) ≡ Some (Run image)
 run_form program image is =
     ap (verb_of (codes "run")) (values (image ∷ []) (is, tt)) ∙ run_verb (Some (image ∷ [])) ∙ run_of_image image is
 
-pub format_form : (program image : List ℕ) (slots : ℕ) → is_image image ≡ true → slot_minimum ≤ slots → slots ≤ slot_limit
+format_form : (program image : List ℕ) (slots : ℕ) → is_image image ≡ true → slot_minimum ≤ slots → slots ≤ slot_limit
     → call_of (program ∷ codes "format" ∷ image ∷ decimal slots ∷ []) ≡ Some (Format image slots)
 format_form program image slots is low high =
     let number = written_decimal slot_minimum slot_limit slots low high (omega arith) in
     ap (verb_of (codes "format")) (values (image ∷ decimal slots ∷ []) (is, (number.0, tt))) ∙ format_verb (Some (image ∷ decimal slots ∷ []))
     ∙ format_of_image image (decimal slots) slots is number.1
 
-pub fill_form : (program image : List ℕ) (seed count : ℕ) → is_image image ≡ true → seed ≤ seed_limit → count ≤ fill_limit
+fill_form : (program image : List ℕ) (seed count : ℕ) → is_image image ≡ true → seed ≤ seed_limit → count ≤ fill_limit
     → call_of (program ∷ codes "fill" ∷ image ∷ decimal seed ∷ decimal count ∷ []) ≡ Some (Fill image seed count)
 fill_form program image seed count is first second =
     let s = written_decimal 0 seed_limit seed (omega arith) first (omega arith) in
     let n = written_decimal 0 fill_limit count (omega arith) second (omega arith) in
     ap (verb_of (codes "fill")) (values (image ∷ decimal seed ∷ decimal count ∷ []) (is, (s.0, (n.0, tt)))) ∙ fill_verb (Some (image ∷ decimal seed ∷ decimal count ∷ []))
     ∙ fill_of_image image (decimal seed) (decimal count) seed count is s.1 n.1
+
+pub form_is_call : (call : Call) (words : List (List ℕ)) → HasForm call words → call_of words ≡ Some call
+form_is_call (Run image) words h = ap call_of h.1.words_are ∙ run_form h.1.program image h.0
+form_is_call (Format image slots) words h = ap call_of h.1.words_are ∙ format_form h.1.program image slots h.0 h.1.at_least h.1.at_most
+form_is_call (Fill image seed count) words h =
+    ap call_of h.1.words_are ∙ fill_form h.1.program image seed count h.0 h.1.seed_at_most h.1.count_at_most

@@ -1,6 +1,6 @@
 -- The command line as `clap` has it.
 use Rattle.std.specs.Prelude.{◌≡◌, ℕ, List, [], ◌∷◌, codes, pos, true, Option, None, Some}
-use Rattle.clap.specs.Words.{App, Row, Rule, Text, new_app, new_rule, with_rule, with_subcommand}
+use Rattle.clap.specs.Words.{App, Row, Rule, Text, fault_of, new_app, new_rule, with_rule, with_subcommand}
 use Rattle.clap.specs.declared.builder.value_parser.ValueParser.TheVariants.{NonEmptyString, Signed}
 use Rattle.bd_limits.specs.Limits.{slot_minimum, slot_limit}
 use Rattle.clap.specs.declared.builder.value_parser.Reading.{Reading}
@@ -33,6 +33,10 @@ abbrev pub line : App
 line = with_subcommand (with_subcommand (with_subcommand (record (new_app (codes "betr")) {
   top = record (new_app (codes "betr")).top { subcommand_required = true };
 }) run_line.top) format_line.top) fill_line.top
+
+-- `clap` has no fault to find in these words
+abbrev pub AreTaken : List Text → Type 0
+AreTaken words = fault_of line words ≡ []
 
 -- ---- what a parse finds
 

@@ -1,5 +1,5 @@
 -- The words that the program is called with.
-use Rattle.std.specs.Prelude.{ℕ, nat_le, Bool, false, not, ◌&&◌, ◌||◌, List, [], ◌∷◌, ◌==◌, codes, if◌then◌else◌}
+use Rattle.std.specs.Prelude.{◌≡◌, ◌≤◌, ℕ, nat_le, Bool, true, false, not, ◌&&◌, ◌||◌, List, [], ◌∷◌, ◌==◌, codes, decimal, if◌then◌else◌}
 use Rattle.std.specs.Option.{option_and_then, option_map}
 use Rattle.std.specs.Str.{all_ascii_digits, bytes_eq}
 use Rattle.std.specs.Str.Parse.{digits_value, starts_with_minus, without_leading_sign}
@@ -104,3 +104,30 @@ abbrev pub call_of : List (List ℕ) → Option Call
 call_of [] = None
 call_of (program ∷ []) = None
 call_of (program ∷ verb ∷ words) = verb_of verb (values_in words)
+
+-- ---- the three forms
+
+-- `PROGRAM run IMAGE`
+pub record IsRun (image : List ℕ) (words : List (List ℕ)) : Type 0 where
+  pub program : List ℕ
+  pub words_are : words ≡ program ∷ codes "run" ∷ image ∷ []
+
+-- `PROGRAM format IMAGE SLOTS`, with 24 to 65,536 slots in decimal digits
+pub record IsFormat (image : List ℕ) (slots : ℕ) (words : List (List ℕ)) : Type 0 where
+  pub program : List ℕ
+  pub words_are : words ≡ program ∷ codes "format" ∷ image ∷ decimal slots ∷ []
+  pub at_least : slot_minimum ≤ slots
+  pub at_most : slots ≤ slot_limit
+
+-- `PROGRAM fill IMAGE SEED COUNT`, with numbers within their limits in decimal digits
+pub record IsFill (image : List ℕ) (seed count : ℕ) (words : List (List ℕ)) : Type 0 where
+  pub program : List ℕ
+  pub words_are : words ≡ program ∷ codes "fill" ∷ image ∷ decimal seed ∷ decimal count ∷ []
+  pub seed_at_most : seed ≤ seed_limit
+  pub count_at_most : count ≤ fill_limit
+
+-- the words have a call's form
+abbrev pub HasForm : Call → List (List ℕ) → Type 0
+HasForm (Run image) words = (is_image image ≡ true) × IsRun image words
+HasForm (Format image slots) words = (is_image image ≡ true) × IsFormat image slots words
+HasForm (Fill image seed count) words = (is_image image ≡ true) × IsFill image seed count words

@@ -1,5 +1,4 @@
-//! The words that the program is called with, as `clap` reads them. The program doesn't use them
-//! yet: it reads its words by hand.
+//! The words that the program is called with, as `clap` reads them.
 //! The layers above use the contract of `read_words`, and what `laws` says of it.
 #![tactic(auto)]
 

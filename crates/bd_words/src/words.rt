@@ -1,13 +1,13 @@
-ghost use Rattle.std.specs.Prelude.{◌≡◌, ◌≤◌, ℕ, List, [], Some, None, false, map, string_bytes};
+ghost use Rattle.std.specs.Prelude.{◌≡◌, ◌≤◌, ℕ, List, Some, None, false, map, string_bytes};
 ghost use Rattle.std.specs.Prelude.{option_map, IfOk, IfErr};
-ghost use Rattle.clap.specs.Words.{app_of, fault_of, found_of, kind_of, one_of, rows_of};
+ghost use Rattle.clap.specs.Words.{app_of, found_of, kind_of, one_of, rows_of};
 ghost use Rattle.clap.specs.Words.{rule_of, subcommand_rows_of, without_minus};
 ghost use Rattle.clap.specs.declared.builder.command.Command.TheViews.{out-Command};
 ghost use Rattle.clap.specs.declared.error.kind.ErrorKind.TheVariants.{OutOfMemory};
 ghost use Rattle.bd_words.specs.Words.{call_of, number_in};
 ghost use Rattle.bd_words.specs.Words.{Run as RunCall, Format as FormatCall, Fill as FillCall};
-ghost use Rattle.bd_words.specs.Line.{HasRead, HasRows, fill_line, format_line, image_rule, line};
-ghost use Rattle.bd_words.specs.Line.{number_rule, run_line};
+ghost use Rattle.bd_words.specs.Line.{AreTaken, HasRead, HasRows, fill_line, format_line, image_rule};
+ghost use Rattle.bd_words.specs.Line.{line, number_rule, run_line};
 ghost use Rattle.bd_words.specs.Calls.{IsWithinLimits, asked};
 
 use bd_limits::{MAX_SLOTS, MIN_SLOTS};
@@ -199,9 +199,9 @@ pub fn read_words<'a>(alloc: Global, words: &'a [String]) -> Result<Call<'a>, Wo
     ensures refused { IfErr result (λ fault. fault ≡ WordsFault.Refused
         → call_of (map string_bytes words.now) ≡ None) }
     // So are just the words that `clap` refuses.
-    ensures clap_takes { IfOk result (λ _. fault_of line (map string_bytes words.now) ≡ []) }
+    ensures clap_takes { IfOk result (λ _. AreTaken (map string_bytes words.now)) }
     ensures clap_refuses { IfErr result (λ fault. fault ≡ WordsFault.Refused
-        → fault_of line (map string_bytes words.now) ≡ [] → ⊥) }
+        → AreTaken (map string_bytes words.now) → ⊥) }
 {
     let line = command_line(alloc)?;
     match line.try_get_matches_from(words) {

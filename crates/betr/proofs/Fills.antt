@@ -20,9 +20,10 @@ use Rattle.bd_device.specs.Blocks.{Image}
 use Rattle.bd_script.specs.Lines.{LineMeaning, HasNoNewline, all_but_last, is_empty, is_stop, line_of, lines_of, open_line, pieces, up_to_stop, whole_lines}
 use Rattle.bd_script.specs.Replies.{line_reply_text, line_reply_line}
 use Rattle.bd_fill.specs.Counting.{tally_line, tally_of}
-use Rattle.bd_fill.specs.Scripts.{count_limit, generated_script}
+use Rattle.bd_fill.specs.Scripts.{generated_script}
 use Rattle.bd_fill.specs.Summary.{summary}
 use Rattle.bd_fill.proofs.Short.{script_short}
+use Rattle.bd_words.specs.Words.{fill_limit}
 use Rattle.bd_fill.proofs.Tallies.{tally_replies}
 use Rattle.betr.specs.declared.fault.Fault.{Fault}
 use Rattle.betr.specs.declared.fault.Fault.TheVariants.{Device, Damaged, Source, Memory, TooLong, Worn, Sink}
@@ -145,7 +146,7 @@ said_part line said old new is h = subst (λ l. (new ≡ append_known old l) ⊎
 
 -- ---- statuses
 
-never_two : (e : Fault) → status_of e ≢ 2
+pub never_two : (e : Fault) → status_of e ≢ 2
 never_two Device h = omega arith
 never_two (Damaged block) h = omega arith
 never_two Source h = omega arith
@@ -397,13 +398,17 @@ cause_named r d d' s s' h k = record {
     cause (Err (Worn which)) h = apart_from (faults d' s' 0) (faults d s 0) h
     cause (Err Sink) h = absurd (no_rise h.0)
 
+-- it stays within the bytes that a script may have
+pub fill_short : (seed count : ℕ) → count ≤ fill_limit → length (generated_script seed count) ≤ script_limit
+fill_short seed count few = omega (arith, script_short seed count)
+
 -- so it is of the generated script
 pub can_fill : {T : Type 0} (r : Result T Fault) (seed count settled : ℕ) (acks : List Ack) (before now : Disk) (script : List ℕ) (left w w' : Option (List ℕ)) (d d' s s' : ℕ)
-    (f f' : Faults) → script ≡ generated_script seed count → count ≤ count_limit
+    (f f' : Faults) → script ≡ generated_script seed count → count ≤ fill_limit
     → Ran settled (end_of r) acks (ends before (Some script) None w f) (ends now left None w' f')
     → IsCaused (faults d s 0) (faults d' s' 0) r → CanEndLines (end_of (result_named r))
 can_fill r seed count settled acks before now script left w w' d d' s s' f f' is few h cause =
-    can_end r settled acks before now script left w w' d d' s s' f f' (omega (arith, ap length is, script_short seed count few)) h cause
+    can_end r settled acks before now script left w w' d d' s s' f f' (omega (arith, ap length is, fill_short seed count few)) h cause
 
 pub fill_attached : {T P B C S U : Type 0} (r : Result T Fault) → P ⊎ ((r ≡ Err Device) × B × C × S × U) → P ⊎ ((result_named r ≡ Err Device) × B × C × S)
 fill_attached r (inl named) = inl named
@@ -438,11 +443,11 @@ fill_complete r status seed count acks said before now d d' s s' k k' old new sh
 
 -- ---- the device
 
-pub fill_device : {T P : Type 0} (r : Result T Fault) (status : ℕ) (said : List ℕ) (old new : Option (List ℕ)) (k k' : ℕ) (before now : Seen) (image : List ℕ)
+pub fill_device : {T P U : Type 0} (r : Result T Fault) (status : ℕ) (said : List ℕ) (old new : Option (List ℕ)) (k k' : ℕ) (before now : Seen) (image : List ℕ)
     → TellsSummary (end_of r) status said old new k k'
     → P ⊎ ((r ≡ Err Device) × (now.blocks ≡ 0) × (now.calls ≡ next_count before.calls) × (now.shows image ≡ before.shows image))
-    → P ⊎ (IsDetached status before now × (now.shows image ≡ before.shows image))
+    → P ⊎ (IsDetached status before now × (now.shows image ≡ before.shows image)) ⊎ U
 fill_device r status said old new k k' before now image told (inl named) = inl named
 fill_device r status said old new k k' before now image told (inr h) =
     let told_device : TellsSummary (Some Device) status said old new k k' = subst (λ r. TellsSummary (end_of r) status said old new k k') h.0 told in
-    inr (record { status_is = told_device.0; blocks = h.1; once = h.2 }, h.3)
+    inr (inl (record { status_is = told_device.0; blocks = h.1; once = h.2 }, h.3))

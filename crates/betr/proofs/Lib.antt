@@ -13,6 +13,5 @@ pub mod Walks
 pub mod Left
 pub mod Moving
 pub mod Starts
-pub mod NumberWords
 pub mod Fills
-pub mod WordLists
+pub mod Unread

@@ -2,10 +2,8 @@ pub mod Fault
 pub mod Transcript
 pub mod Crashes
 pub mod Session
-pub mod Words
 pub mod Shell
 pub mod Taken
 pub mod Format
 pub mod Fill
 pub mod Run
-pub mod Calls

@@ -1,5 +1,5 @@
 -- What a whole run says of its device, source and sink.
-use Rattle.std.specs.Prelude.{◌≡◌, ◌⊎◌, ℕ, ◌+◌, ◌<◌, ◌≤◌, List, [], ◌∷◌, ◌++◌, length, IfSome, IsSome, IsSomeAnd, ⊤}
+use Rattle.std.specs.Prelude.{◌≡◌, ◌⊎◌, ◌↔◌, ℕ, ◌+◌, ◌<◌, ◌≤◌, List, [], ◌∷◌, ◌++◌, codes, length, IfSome, IsSome, IsSomeAnd, ⊤}
 use Rattle.std.specs.List.{AllByRecursion}
 use Rattle.std.specs.Io.KnownBytes.{append_known, prepend_known}
 use Rattle.std.specs.declared.option.Option.{Option}
@@ -22,8 +22,9 @@ use Rattle.bd_fill.specs.Scripts.{generated_script}
 use Rattle.bd_fill.specs.Summary.{summary}
 use Rattle.bd_volume.specs.Volume.{IsFirstView}
 use Rattle.bd_volume.specs.Wears.{WearsReplaying}
+use Rattle.bd_words.specs.Words.{Call, Run, Format, Fill}
 use Rattle.betr.specs.declared.fault.Fault.{Fault}
-use Rattle.betr.specs.declared.fault.Fault.TheVariants.{Worn}
+use Rattle.betr.specs.declared.fault.Fault.TheVariants.{Memory, Worn}
 use Rattle.betr.specs.declared.outcome.Ack.{Ack}
 use Rattle.betr.specs.Fault.{status_of, fault_line, Faults, faults, Caused}
 use Rattle.betr.specs.Format.{SaysDone, HasNewImage}
@@ -32,7 +33,6 @@ use Rattle.betr.specs.Session.{Among, BeginsWith, TakenAt, Replied, Tells, has_s
 use Rattle.betr.specs.Crashes.{IsAtPoint, IsAcked, counts_of_acks}
 use Rattle.betr.specs.Taken.{Took}
 use Rattle.betr.specs.Fill.{CanEndLines, TellsSummary, said_in}
-use Rattle.betr.specs.Words.{Call, Run, Format, Fill}
 
 -- the status of an end
 abbrev pub end_status : Option Fault → ℕ
@@ -90,6 +90,18 @@ WritesEnd None old new before now = (new ≡ old) × (now ≡ before)
 WritesEnd (Some e) old new before now =
     WritesLast (fault_line e) old new before.sink now.sink
     × (now ≡ record before { sink = now.sink })
+
+-- what is written where the words are refused
+abbrev pub usage_line : List ℕ
+usage_line =
+    codes "usage: betr run IMAGE | betr format IMAGE SLOTS | betr fill IMAGE SEED COUNT" ++ 10 ∷ []
+
+-- words that are no call are refused, with the usage line, or there was no memory for them, with
+-- that fault's
+abbrev pub EndsUncalled : ℕ → Known → Known → ℕ → ℕ → Type 0
+EndsUncalled status old new before now =
+    ((status ≡ 2) × WritesLast usage_line old new before now)
+    ⊎ ((status ≡ status_of Memory) × WritesLast (fault_line Memory) old new before now)
 
 -- all that was written is passed on, or the sink failed
 abbrev pub IsFlushed : ℕ → ℕ → ℕ → Type 0
@@ -230,11 +242,29 @@ pub record Filled (seed count status : ℕ) (acks : List Ack) (before now : Ends
   pub script_stays : now.script ≡ before.script
   pub takes_stay : now.takes ≡ before.takes
 
--- how a call went
+-- the same is told of the image
+pub record IsSameDisk (before now : Disk) : Type 0 where
+  pub image : now.image ≡ before.image
+  pub calls : now.calls ≡ before.calls
+  pub left : (call : ℕ) (image : Image) → now.left call image ↔ before.left call image
+  pub write_faults : now.write_faults ≡ before.write_faults
+
+-- there was no memory for the words: the line of that fault is written and nothing else is done
+pub record Unread (status : ℕ) (acks : List Ack) (before now : Ends) : Type 0 where
+  pub status_is : status ≡ status_of Memory
+  pub acked : acks ≡ []
+  pub disk_stays : IsSameDisk before.disk now.disk
+  pub script_stays : now.script ≡ before.script
+  pub takes_stay : now.takes ≡ before.takes
+  pub last : WritesEnd (Some Memory) before.written now.written before.faults now.faults
+
+-- how a call went; where its words weren't read a run and a format end as by want of memory later,
+-- and a fill without a summary
 abbrev pub Does : Call → ℕ → List Ack → Ends → Ends → Type 0
 Does (Run image) status acks before now = Went status acks before now
 Does (Format image slots) status acks before now = Formatted status acks before now
-Does (Fill image seed count) status acks before now = Filled seed count status acks before now
+Does (Fill image seed count) status acks before now =
+    Filled seed count status acks before now ⊎ Unread status acks before now
 
 -- ---- the device
 
@@ -268,15 +298,22 @@ pub record IsDetached (status : ℕ) (before now : Seen) : Type 0 where
   pub blocks : now.blocks ≡ 0
   pub once : now.calls ≡ next_count before.calls
 
+-- there was no memory for the words, and the device stays as it was
+abbrev pub IsUnread : ℕ → Type 0 → Type 0
+IsUnread status untouched = (status ≡ status_of Memory) × untouched
+
 -- what a call does with the device: the image is attached, and goes by its name then, or where that
--- fails nothing else is done, and a run or a fill leaves the image that it was to use
-abbrev pub Uses : Call → ℕ → Seen → Seen → Type 0 → Type 0 → Type 0
-Uses (Run image) status before now named untaken =
-    named ⊎ (IsDetached status before now × (now.shows image ≡ before.shows image) × untaken)
-Uses (Format image slots) status before now named untaken =
-    (named ⊎ IsDetached status before now) × untaken
-Uses (Fill image seed count) status before now named untaken =
-    (named ⊎ (IsDetached status before now × (now.shows image ≡ before.shows image))) × untaken
+-- fails nothing else is done, and a run or a fill leaves the image that it was to use; or the words
+-- weren't read
+abbrev pub Uses : Call → ℕ → Seen → Seen → Type 0 → Type 0 → Type 0 → Type 0
+Uses (Run image) status before now named untouched untaken = named
+    ⊎ (IsDetached status before now × (now.shows image ≡ before.shows image) × untaken)
+    ⊎ (IsUnread status untouched × untaken)
+Uses (Format image slots) status before now named untouched untaken =
+    (named ⊎ IsDetached status before now ⊎ IsUnread status untouched) × untaken
+Uses (Fill image seed count) status before now named untouched untaken = (named
+    ⊎ (IsDetached status before now × (now.shows image ≡ before.shows image))
+    ⊎ IsUnread status untouched) × untaken
 
 -- the image that a call names
 abbrev pub image_of : Call → List ℕ

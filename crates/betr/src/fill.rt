@@ -3,7 +3,7 @@
 ghost use Rattle.std.specs.Prelude.{◌≡◌, ◌≢◌, ◌≤◌, ◌⊎◌, ℕ, Err, OnOk};
 ghost use Rattle.bd_io.specs.Cause.{next_count};
 ghost use Rattle.bd_fill.specs.Counting.{tally_line};
-ghost use Rattle.bd_fill.specs.Scripts.{count_limit};
+ghost use Rattle.bd_words.specs.Words.{fill_limit};
 ghost use Rattle.betr.specs.Fault.{IsCaused};
 ghost use Rattle.betr.specs.Fill.{CanEndLines, TellsSummary, cut_status, result_named};
 ghost use Rattle.betr.specs.Run.{IsFlushed, RanGenerated, disk};
@@ -35,7 +35,7 @@ pub fn fill_image<D: Attach>(
     count: u32,
     dev: &mut D,
 ) -> Filled
-    requires { count ≤ count_limit }
+    requires { count ≤ fill_limit }
     ensures ran { RanGenerated seed count (end_of result.ended.result) result.ended.acks
         (tally_line result.tally)
         (disk (D.shows dev.old image.now) (D.call_count dev.old)

@@ -4,6 +4,8 @@
 #![tactic(auto)]
 
 mod acknowledged;
+#[cfg(test)]
+mod failing;
 mod fault;
 mod fill;
 mod format;
@@ -17,7 +19,6 @@ mod session;
 mod shell;
 #[cfg(test)]
 mod tests;
-mod words;
 
 use bd_filedev::FileDevice;
 use bd_io::{StdSink, StdSource};

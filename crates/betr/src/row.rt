@@ -1,8 +1,8 @@
-ghost use Rattle.std.specs.Prelude.{◌≡◌, ◌↔◌, ℕ, List, Option, Some, map, string_bytes, IsNone, IfSome, IfOk, IsTrue, ⊤};
+ghost use Rattle.std.specs.Prelude.{◌≡◌, ℕ, List, Option, Some, map, string_bytes, IsNone, IfSome, IfOk, IsTrue, ⊤};
 ghost use Rattle.bd_io.specs.Takes.{Takes, no_takes};
 ghost use Rattle.betr.specs.Fault.{faults};
-ghost use Rattle.betr.specs.Words.{call_of, usage_line};
-ghost use Rattle.betr.specs.Run.{ends, disk_in_memory, Does, Uses, WritesLast, seen_in_memory};
+ghost use Rattle.bd_words.specs.Words.{call_of};
+ghost use Rattle.betr.specs.Run.{EndsUncalled, ends, disk_in_memory, Does, Uses, WritesLast, seen_in_memory, usage_line};
 
 use crate::outcome::Outcome;
 use crate::run::run;
@@ -28,13 +28,17 @@ pub fn row(
         (faults dev.new.plan.faults source sink.new.plan.faults)))) }
     ensures device { IfOk result (λ r. IfSome (call_of (map string_bytes words.now)) (λ call.
         Uses call r.status (seen_in_memory dev.old) (seen_in_memory dev.new)
-        (IsTrue dev.new.attached) ⊤)) }
+        (IsTrue dev.new.attached) (dev.new ≡ dev.old) ⊤)) }
     ensures refused { IfOk result (λ r.
-        (r.status ≡ 2) ↔ IsNone (call_of (map string_bytes words.now))) }
+        r.status ≡ 2 → IsNone (call_of (map string_bytes words.now))) }
+    ensures uncalled { IfOk result (λ r. IsNone (call_of (map string_bytes words.now))
+        → EndsUncalled r.status (Some sink.old.written) (Some sink.new.written)
+        sink.old.plan.faults sink.new.plan.faults) }
     ensures usage { IfOk result (λ r. r.status ≡ 2 → WritesLast usage_line
         (Some sink.old.written) (Some sink.new.written)
         sink.old.plan.faults sink.new.plan.faults) }
-    ensures untouched { IfOk result (λ r. r.status ≡ 2 → dev.new ≡ dev.old) }
+    ensures untouched { IfOk result (λ r. IsNone (call_of (map string_bytes words.now))
+        → dev.new ≡ dev.old) }
 {
     let mut src = MemSource::new(alloc, script, MAX_PIECE, &[])?;
     Ok(run(alloc, words, dev, &mut src, sink))

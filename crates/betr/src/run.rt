@@ -1,11 +1,12 @@
-ghost use Rattle.std.specs.Prelude.{◌≡◌, ◌≢◌, ◌+◌, ◌<◌, ◌≤◌, ◌⊎◌, ◌↔◌, ℕ, [], Err, length, map, string_bytes, IsNone, IfSome, OnOk, OnErr};
+ghost use Rattle.std.specs.Prelude.{◌≡◌, ◌≢◌, ◌+◌, ◌<◌, ◌≤◌, ◌⊎◌, ℕ, [], Err, Some, length, map, string_bytes, IsNone, IfSome, OnOk, OnErr};
 ghost use Rattle.bd_device.specs.Device.{Stays};
 ghost use Rattle.bd_io.specs.Cause.{next_count};
+ghost use Rattle.bd_words.specs.Line.{AreTaken};
+ghost use Rattle.bd_words.specs.Words.{Call as CallOf, HasForm, call_of};
 ghost use Rattle.betr.specs.declared.fault.Fault.{Fault};
-ghost use Rattle.betr.specs.Fault.{faults, NeverFall, IsCaused};
+ghost use Rattle.betr.specs.Fault.{faults, NeverFall, IsCaused, status_of};
 ghost use Rattle.betr.specs.Session.{end_of};
-ghost use Rattle.betr.specs.Words.{call_of, usage_line};
-ghost use Rattle.betr.specs.Run.{end_status, ends, Does, IsFaultless, IsFlushed, IsReady, Makes, Ran, Uses, WritesEnd, WritesLast, disk, image_of, seen};
+ghost use Rattle.betr.specs.Run.{EndsUncalled, end_status, ends, Does, IsFaultless, IsFlushed, IsReady, Makes, Ran, Uses, WritesEnd, WritesLast, disk, image_of, seen, usage_line};
 
 use crate::fault::{FAULT_SIZE, Fault};
 use crate::fill::{end_fill, fill_image};
@@ -13,11 +14,11 @@ use crate::format::format_image;
 use crate::outcome::{Ack, Outcome};
 use crate::session::run_script;
 use crate::shell::Shell;
-use crate::words::{Call, read_words};
 use bd_device::{Attach, Device};
 use bd_io::{Sink, Source, put_all};
 use bd_keys::Items;
 use bd_volume::Refused;
+use bd_words::{Call, WordsFault, read_words};
 use std::alloc::Global;
 
 /// The status where the words are refused.
@@ -168,6 +169,40 @@ pub fn end_call<K: Sink>(sink: &mut K, ended: Ended) -> Outcome
     }
 }
 
+/// The outcome of words that are refused: the usage line is written.
+fn end_refused<K: Sink>(alloc: Global, sink: &mut K) -> Outcome
+    ensures status { result.status ≡ 2 }
+    ensures acks { result.acks ≡ [] }
+    ensures line { WritesLast usage_line (K.written sink.old) (K.written sink.new)
+        (K.fault_count sink.old) (K.fault_count sink.new) }
+    ensures flushed { IsFlushed (K.waiting sink.new)
+        (K.fault_count sink.old) (K.fault_count sink.new) }
+    ensures later { K.fault_count sink.old ≤ K.fault_count sink.new }
+{
+    write_last(sink, USAGE);
+    Outcome {
+        status: REFUSED,
+        acks: Items::new(alloc),
+    }
+}
+
+/// The outcome where there is no memory to read the words: the line of that fault is written.
+fn end_unread<K: Sink>(alloc: Global, sink: &mut K) -> Outcome
+    ensures status { result.status ≡ status_of Fault.Memory }
+    ensures acks { result.acks ≡ [] }
+    ensures last { (device source : ℕ) → WritesEnd (Some Fault.Memory)
+        (K.written sink.old) (K.written sink.new)
+        (faults device source (K.fault_count sink.old))
+        (faults device source (K.fault_count sink.new)) }
+    ensures flushed { IsFlushed (K.waiting sink.new)
+        (K.fault_count sink.old) (K.fault_count sink.new) }
+    ensures later { K.fault_count sink.old ≤ K.fault_count sink.new }
+{
+    let acks = Items::new(alloc);
+    let result = Err(Fault::Memory);
+    end_call(sink, Ended { result, acks })
+}
+
 /// Runs the program over a device, a source and a sink. With the words `PROGRAM run IMAGE` the image
 /// is attached, and the script that the source gives is executed line by line from the tree that the
 /// image stands for, with a reply a line, to its end or to `stop` (status 0). `PROGRAM format IMAGE
@@ -179,8 +214,9 @@ pub fn end_call<K: Sink>(sink: &mut K, ended: Ended) -> Outcome
 /// fault's line. Other words have the usage line written, and nothing else is done (status 2). The
 /// first fault ends the run with its status, and its line where the sink takes it: the device 3,
 /// damage 4, the source 5, memory 6, a script of more than 16,777,216 bytes 7, a counter 8, the sink
-/// 9. Before each take and at the end the sink passes on all that was written; after its own fault
-/// it isn't called again.
+/// 9. Where there is no memory to read the words, that fault's line is all that is done. Before each
+/// take and at the end the sink passes on all that was written; after its own fault it isn't called
+/// again.
 ///
 /// At each `sync`, at `stop` and at the end of the script all accepted commands are made durable
 /// and acknowledged; at a fault they aren't. Stopped at any moment, the image stands for the tree
@@ -212,18 +248,30 @@ pub fn run<D: Attach, S: Source, K: Sink>(
         (D.shows dev.old) (D.call_count dev.old))
         (seen (D.contents dev.new) (D.block_count dev.new)
         (D.shows dev.new) (D.call_count dev.new))
-        (D.is_named dev.new (image_of call)) (src.new ≡ src.old)) }
+        (D.is_named dev.new (image_of call)) (dev.new ≡ dev.old) (src.new ≡ src.old)) }
     ensures makes { IfSome (call_of (map string_bytes words.now))
         (λ call. Makes D.Device call result.status dev.old dev.new) }
     ensures same_loans { D.loans dev.new ≡ D.loans dev.old }
 
-    // Refused words have the usage line written, and touch neither the device nor the source.
-    ensures refused { (result.status ≡ 2) ↔ IsNone (call_of (map string_bytes words.now)) }
+    // Only words that are no call are refused, and only those that `clap` refuses, never one of the
+    // forms; they have the usage line written.
+    ensures refused { result.status ≡ 2 → IsNone (call_of (map string_bytes words.now)) }
+    ensures by_clap { result.status ≡ 2 → AreTaken (map string_bytes words.now) → ⊥ }
+    ensures forms { (call : CallOf) → HasForm call (map string_bytes words.now)
+        → result.status ≢ 2 }
     ensures usage { result.status ≡ 2 → WritesLast usage_line (K.written sink.old)
         (K.written sink.new) (K.fault_count sink.old) (K.fault_count sink.new) }
-    ensures device_untouched { result.status ≡ 2 → dev.new ≡ dev.old }
-    ensures source_untouched { result.status ≡ 2 → src.new ≡ src.old }
-    ensures unacknowledged { result.status ≡ 2 → result.acks ≡ [] }
+
+    // Words that are no call are refused, or there was no memory for them; they touch neither the
+    // device nor the source.
+    ensures uncalled { IsNone (call_of (map string_bytes words.now))
+        → EndsUncalled result.status (K.written sink.old) (K.written sink.new)
+        (K.fault_count sink.old) (K.fault_count sink.new) }
+    ensures device_untouched { IsNone (call_of (map string_bytes words.now))
+        → dev.new ≡ dev.old }
+    ensures source_untouched { IsNone (call_of (map string_bytes words.now))
+        → src.new ≡ src.old }
+    ensures unacknowledged { IsNone (call_of (map string_bytes words.now)) → result.acks ≡ [] }
 
     // At the end the sink has passed on all that was written, or it has failed.
     ensures flushed { IsFlushed (K.waiting sink.new)
@@ -245,26 +293,21 @@ pub fn run<D: Attach, S: Source, K: Sink>(
         (faults (D.fault_count dev.new) (S.fault_count src.new) (K.fault_count sink.new))
         → (result.status ≡ 0) ⊎ (result.status ≡ 6) ⊎ (result.status ≡ 8)) }
 {
-    match read_words(words) {
-        Some(Call::Run { image }) => {
+    match read_words(alloc, words) {
+        Ok(Call::Run { image }) => {
             let ended = run_image(alloc, image, dev, src, sink);
             end_call(sink, ended)
         }
-        Some(Call::Format { image, slots }) => {
+        Ok(Call::Format { image, slots }) => {
             let result = format_image(alloc, image, slots, dev, sink);
             let acks = Items::new(alloc);
             end_call(sink, Ended { result, acks })
         }
-        Some(Call::Fill { image, seed, count }) => {
+        Ok(Call::Fill { image, seed, count }) => {
             let filled = fill_image(alloc, image, seed, count, dev);
             end_fill(sink, filled)
         }
-        None => {
-            write_last(sink, USAGE);
-            Outcome {
-                status: REFUSED,
-                acks: Items::new(alloc),
-            }
-        }
+        Err(WordsFault::Refused) => end_refused(alloc, sink),
+        Err(WordsFault::NoMemory) => end_unread(alloc, sink),
     }
 }

@@ -188,9 +188,12 @@ fn the_first_example_gives_its_replies(rt: HostRuntime) -> Result<(), Fail> {
 #[test]
 fn refused_words_give_the_usage(rt: HostRuntime) -> Result<(), Fail> {
     let usage = "usage: betr run IMAGE | betr format IMAGE SLOTS | betr fill IMAGE SEED COUNT\n";
-    let rows: [&[&str]; 19] = [
+    let rows: [&[&str]; 23] = [
         &["betr", "run"],
         &["betr"],
+        &[],
+        &["betr", "frob"],
+        &["betr", "--help"],
         &["betr", "run", "a", "b"],
         &["betr", "run", ""],
         &["betr", "run", "-a"],
@@ -201,6 +204,7 @@ fn refused_words_give_the_usage(rt: HostRuntime) -> Result<(), Fail> {
         &["betr", "format", "img", "65537"],
         &["betr", "format", "img", "4294967320"],
         &["betr", "format", "img", "24k"],
+        &["betr", "format", "img", "x"],
         &["betr", "format", "img", ""],
         &["betr", "fill", "img", "0"],
         &["betr", "fill", "-a", "0", "0"],

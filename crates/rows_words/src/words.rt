@@ -14,12 +14,14 @@ fn called(alloc: Global, texts: &[&str]) -> Result<Vec<String>, AllocError> {
 
 #[test]
 fn runs_are_read(rt: HostRuntime) -> Result<(), Fail> {
-    let rows: [(&[&str], &str); 5] = [
+    let rows: [(&[&str], &str); 7] = [
         (&["run", "img"], "img"),
         (&["run", "a b"], "a b"),
         (&["run", "-"], "-"),
         (&["run", "--", "-x"], "-x"),
         (&["run", "img", "--"], "img"),
+        (&["run", "--", "img"], "img"),
+        (&["run", "--", "--"], "--"),
     ];
     for (texts, image) in rows {
         let words = called(rt.alloc(), texts)?;
@@ -31,11 +33,12 @@ fn runs_are_read(rt: HostRuntime) -> Result<(), Fail> {
 
 #[test]
 fn formats_are_read(rt: HostRuntime) -> Result<(), Fail> {
-    let rows: [(&[&str], &str, u32); 6] = [
+    let rows: [(&[&str], &str, u32); 7] = [
         (&["format", "img", "24"], "img", 24),
         (&["format", "img", "65536"], "img", 65_536),
         (&["format", "img", "+24"], "img", 24),
         (&["format", "img", "024"], "img", 24),
+        (&["format", "img", "+024"], "img", 24),
         (&["format", "--", "-x", "40"], "-x", 40),
         (&["format", "img", "--", "40"], "img", 40),
     ];
@@ -49,12 +52,13 @@ fn formats_are_read(rt: HostRuntime) -> Result<(), Fail> {
 
 #[test]
 fn fills_are_read(rt: HostRuntime) -> Result<(), Fail> {
-    let rows: [(&[&str], u32, u32); 5] = [
+    let rows: [(&[&str], u32, u32); 6] = [
         (&["fill", "img", "7", "300"], 7, 300),
         (&["fill", "img", "0", "0"], 0, 0),
         (&["fill", "img", "4294967295", "100000"], u32::MAX, 100_000),
         (&["fill", "img", "+7", "007"], 7, 7),
         (&["fill", "--", "img", "-0", "5"], 0, 5),
+        (&["fill", "img", "--", "5", "-00"], 5, 0),
     ];
     for (texts, seed, count) in rows {
         let words = called(rt.alloc(), texts)?;
@@ -71,7 +75,7 @@ fn fills_are_read(rt: HostRuntime) -> Result<(), Fail> {
 
 #[test]
 fn other_words_are_refused(rt: HostRuntime) -> Result<(), Fail> {
-    let rows: [&[&str]; 29] = [
+    let rows: [&[&str]; 31] = [
         &[],
         &["play", "img"],
         &["Run", "img"],
@@ -79,6 +83,7 @@ fn other_words_are_refused(rt: HostRuntime) -> Result<(), Fail> {
         &["run", "a", "b"],
         &["run", ""],
         &["run", "-x"],
+        &["ru", "img"],
         &["run", "--"],
         &["--", "run", "img"],
         &["--help"],
@@ -101,6 +106,7 @@ fn other_words_are_refused(rt: HostRuntime) -> Result<(), Fail> {
         &["fill", "img", "7", "100001"],
         &["fill", "img", "", "300"],
         &["fill", "--", "img", "-7", "300"],
+        &["fill", "img", "-0", "300"],
     ];
     for texts in rows {
         let words = called(rt.alloc(), texts)?;
