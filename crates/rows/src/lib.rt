@@ -19,6 +19,8 @@ mod names;
 #[cfg(test)]
 mod plain;
 #[cfg(test)]
+mod recall;
+#[cfg(test)]
 mod records;
 #[cfg(test)]
 mod script;

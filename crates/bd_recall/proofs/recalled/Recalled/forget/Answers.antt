@@ -1,0 +1,5 @@
+use Rattle.bd_recall.proofs.Keeping.{kept_removed}
+use Rattle.bd_recall.proofs.recalled.Recalled.forget.Goals as goal
+
+pub returns : goal.returns
+returns c = kept_removed c.args.self.now (record { alloc = c.args.self.now.alloc; found = c.remove.new.self }) c.args.key.now c.remove.ensures.updates.0

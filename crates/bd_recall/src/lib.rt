@@ -1,0 +1,10 @@
+//! A key map that keeps small values that were looked up in it, for the next time.
+//! The layers above may use it as any key map, and change the map itself where what is kept is
+//! forgotten first.
+#![tactic(auto)]
+
+mod recalled;
+mod recalling;
+
+pub use recalled::Recalled;
+pub use recalling::Recalling;
