@@ -15,16 +15,21 @@ use Rattle.bd_node.specs.Meaning.{Nodes}
 use Rattle.bd_node.specs.Shape.{IsShape}
 use Rattle.bd_node.specs.Closed.{buffer_size_in}
 use Rattle.bd_node.specs.Tables.{IsSound}
+use Rattle.bd_table.specs.Image.{HoldsTable}
 use Rattle.bd_table.specs.Tables.{slots_of}
 use Rattle.bd_table.specs.declared.table.TableEntry.{TableEntry}
+use Rattle.bd_super.specs.Live.{IsLive}
+use Rattle.bd_super.specs.declared.superblock.Super.{Super}
 use Rattle.bd_pager.specs.declared.place.Spot.{Spot}
-use Rattle.bd_pager.specs.Slots.{slot_bytes, HasNode}
-use Rattle.bd_pager.specs.Places.{node_at, node_of, nodes_at}
+use Rattle.bd_pager.specs.Slots.{slot_bytes, HasNode, IsBadSlot}
+use Rattle.bd_pager.specs.Places.{node_at, node_of, nodes_at, IsBadSpot}
 use Rattle.bd_pager.specs.Pagers.{Paged, spots_of, table_at, table_of, IsKnownOver, is_known, is_saved, is_changed_place, is_changed, touched_at}
 use Rattle.bd_pager.specs.Entries.{saved_spot}
 use Rattle.bd_pager.specs.Opened.{root_spot, IsOpened}
 use Rattle.bd_pager.proofs.OpenedLemmas.{search_id, slot_within}
 use Rattle.bd_image.specs.Stored.{entry_of, IsNodeAt, HoldsNodes}
+use Rattle.bd_image.specs.Damage.{IsBadAt}
+use Rattle.bd_image.specs.Damage.IsBadAt.{bad_node}
 use Rattle.bd_checkpoint.specs.Recovering.{AreStored}
 use Rattle.bd_checkpoint.proofs.Entries.{entry_found, no_entry}
 use Rattle.bd_checkpoint.proofs.Slotted.{IsSpotOf, HasSpot, nodes_held, table_is}
@@ -140,6 +145,20 @@ module _ {D : Type 0} (g : Ghosts D) (decoded : AreDecoded) (image : Image) (slo
       let there : Some h.node.value ≡ m p.saved.root = sym (ap (node_of image) h.spots.root_there) ∙ ap (λ (f : Nodes). f p.saved.root) (nodes_are m stored) in
       sym h.size ∙ ap buffer_size_in there
 
+  -- a node that isn't in memory is in the slot of its entry
+  opened_bad : (live : Super) → IsLive image live → HoldsTable image live.slots live.table p.saved → (id b : ℕ) → IsBadSpot (Some image) (spots_of p id) b → IsBadAt image b
+  opened_bad live is_live held id b bad = elim (search_id p.saved.entries id) [
+    | inl none ↦ absurd (subst (λ (o : Option Spot). IsBadSpot (Some image) o b) (h.spots.others id none) bad)
+    | inr found ↦ elim (cases_eq id p.saved.root) [
+      | inl is_root ↦ absurd (subst (λ (o : Option Spot). IsBadSpot (Some image) o b) (ap (spots_of p) is_root ∙ h.spots.root_there) bad)
+      | inr other ↦
+          let e : TableEntry = found.0 in
+          let mine : IsBadSlot (Some image) e.slot e.level b = subst (λ (o : Option Spot). IsBadSpot (Some image) o b) (other_there id other e found.1 found.2) bad in
+          subst (λ (k : ℕ). IsBadAt image k) (sym mine.0)
+          (bad_node live p.saved e (record { live = is_live; table = held; entry = found_of e found.1 }) (λ n good. mine.1 n good.held))
+    ]
+  ]
+
   pub opened_stored : g.contents p.dev ≡ Some image → AreStored g p image
   opened_stored told = record {
     nodes = λ m stored. ap (λ (o : Option Image). nodes_at o (spots_of p)) told ∙ nodes_are m stored;
@@ -150,6 +169,7 @@ module _ {D : Type 0} (g : Ghosts D) (decoded : AreDecoded) (image : Image) (slo
         subst (λ (o : Option Image). HoldsNodes image p.saved (nodes_at o (spots_of p))) (sym told)
         (nodes_held image p.saved (spots_of p) h.table.entries.each has_spot p.root p.size p.next (touched_at p.saved.entries p.spare (spots_of p))
         (subst (λ (o : Option Image). IsSound (nodes_at o (spots_of p)) (table_of p)) told sound));
+    bad = opened_bad;
   }
 
 -- as far as the contents are known

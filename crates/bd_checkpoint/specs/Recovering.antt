@@ -1,5 +1,5 @@
 -- What is known when a volume starts from an image.
-use Rattle.std.specs.Prelude.{◌≡◌, ◌+◌, ◌≤◌, ◌⊎◌, ℕ, List, [], ◌∷◌, length, Option, IfSome}
+use Rattle.std.specs.Prelude.{◌≡◌, ◌+◌, ◌≤◌, ◌⊎◌, ℕ, List, [], ◌∷◌, length, Option, Some, IfSome}
 use Rattle.bd_io.specs.Cause.{Rose, next_count}
 use Rattle.bd_model.specs.Tree.{Tree}
 use Rattle.bd_model.specs.Laws.{Accepts, after}
@@ -9,8 +9,11 @@ use Rattle.bd_device.specs.Moments.{Nothing, IsOnly}
 use Rattle.bd_device.specs.declared.device.Device.{Ghosts}
 use Rattle.bd_node.specs.Meaning.{Nodes}
 use Rattle.bd_node.specs.Tables.{IsSound}
+use Rattle.bd_table.specs.Image.{HoldsTable}
+use Rattle.bd_super.specs.Live.{IsLive}
 use Rattle.bd_super.specs.declared.superblock.Super.{Super}
-use Rattle.bd_pager.specs.Pagers.{Paged, nodes_of, table_of, is_known}
+use Rattle.bd_pager.specs.Pagers.{Paged, spots_of, nodes_of, table_of, is_known}
+use Rattle.bd_pager.specs.Places.{IsBadSpot}
 use Rattle.bd_image.specs.Stored.{HoldsNodes, table_of as stored_table}
 use Rattle.bd_image.specs.Damage.{IsBadAt}
 use Rattle.bd_checkpoint.specs.declared.commands.PlacedCommand.{PlacedCommand}
@@ -43,12 +46,15 @@ abbrev pub saved_of : {D : Type 0} → Paged D → Saved
 saved_of p = record { at = p.at; table = p.saved }
 
 -- the nodes of a pager are those that an image stores by its table, and the image stores them where
--- they are sound
+-- they are sound; where the image starts from that table, a block that is bad for a node is why it
+-- stands for no tree
 pub record AreStored {D : Type 0} (g : Ghosts D) (p : Paged D) (image : Image) : Type 0 where
   pub nodes : (stored : Nodes) → HoldsNodes image p.saved stored → nodes_of g p ≡ stored
   pub table : (stored : Nodes) → HoldsNodes image p.saved stored
       → table_of p ≡ stored_table p.saved stored
   pub held : IsSound (nodes_of g p) (table_of p) → HoldsNodes image p.saved (nodes_of g p)
+  pub bad : (live : Super) → IsLive image live → HoldsTable image live.slots live.table p.saved
+      → (id b : ℕ) → IsBadSpot (Some image) (spots_of p id) b → IsBadAt image b
 
 -- commands that lead from one tree to another, each accepted in its turn
 abbrev pub LeadsBy : List PlacedCommand → Tree → Tree → Type 0

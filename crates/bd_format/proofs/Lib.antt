@@ -4,4 +4,4 @@ mod Lifting
 mod Alone
 mod Fitting
 mod Rest
-mod Decodes
+pub mod Decodes

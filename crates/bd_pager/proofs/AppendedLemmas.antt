@@ -31,7 +31,7 @@ use Rattle.bd_pager.specs.Slots.{IsOfLevel}
 use Rattle.bd_pager.specs.Testing.{Marks, NamesLower, AreTested}
 use Rattle.bd_pager.specs.Places.{level_in, copy_at, copy_in, node_of, told, IsLowerIn, IsRead}
 use Rattle.bd_pager.specs.Pagers.{Paged, spots_of, is_saved, is_changed, table_of, nodes_of, is_known, IsOfSize, IsPlaceIn, IsStoredAs, IsPaged}
-use Rattle.bd_pager.proofs.ChangingLemmas.{same_refs, same_level, each_kept, copy_now, changed_before, changed_stays, node_is, still_right, place_now}
+use Rattle.bd_pager.proofs.ChangingLemmas.{same_refs, same_level, each_kept, copy_now, changed_before, changed_stays, changed_bad, node_is, still_right, place_now}
 use Rattle.bd_pager.proofs.FreshLemmas.{copy_at_place}
 use Rattle.bd_pager.proofs.ReaderLemmas.{copied_unread}
 use Rattle.bd_pager.proofs.TestedLemmas.{some_at, still_names, tested_then}
@@ -190,12 +190,15 @@ module _ {D : Type 0} (g : Ghosts D) (p : Paged D) (entries : List (ℕ × Spot)
           ];
     }
 
+    appended_known : is_known g p → is_known g q
+    appended_known known = record {
+      contents_told = known.contents_told;
+      right = still_right spare p.root more (spots_of p) (spots_of q) h (told (g.contents p.dev)) known.right;
+    }
+
     pub appended_stays : StaysBy (is_known g) (KeepsSaved g) (λ (x : Paged D). let none : List ℕ = [] in none) p q
     appended_stays = record {
-      known = λ known. record {
-        contents_told = known.contents_told;
-        right = still_right spare p.root more (spots_of p) (spots_of q) h (told (g.contents p.dev)) known.right;
-      };
+      known = appended_known;
       beside = record {
         device = no_reads g p.dev;
         lent = λ so. so;
@@ -207,6 +210,8 @@ module _ {D : Type 0} (g : Ghosts D) (p : Paged D) (entries : List (ℕ × Spot)
             and_from (is_saved p.saved.entries id) (is_changed spare (spots_of q id)) both.0 (changed_stays spare p.root more (spots_of p) (spots_of q) h id both.1);
         next = omega arith;
         kept = λ id low kept. subst (λ (k : ℕ). 1 ≤ k) (same_refs spare p.root more (spots_of p) (spots_of q) h id) kept;
+        known = appended_known;
+        bad = λ known. changed_bad spare p.root more (spots_of p) (spots_of q) h (g.contents p.dev);
       };
       same_loans = refl;
     }

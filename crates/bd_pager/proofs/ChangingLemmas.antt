@@ -11,7 +11,7 @@ use Rattle.bd_pager.specs.declared.place.Place.{Place}
 use Rattle.bd_pager.specs.declared.place.Place.TheVariants.{Memory, Slot}
 use Rattle.bd_pager.specs.declared.place.Spot.{Spot}
 use Rattle.bd_pager.specs.Changing.{slot_if, own_slot, IsChangedSpot, IsChangedAt}
-use Rattle.bd_pager.specs.Places.{Spots, refs_in, level_in, copy_at, node_at, node_of}
+use Rattle.bd_pager.specs.Places.{Spots, refs_in, level_in, copy_at, node_at, node_of, IsBadPlace, IsBadSpot, NoneTurnsBad}
 use Rattle.bd_pager.specs.Pagers.{is_changed, is_changed_place, IsRightPlace, IsPlaceIn}
 
 pub some_there : (o : Option Spot) (s : Spot) → o ≡ Some s → IsSome o
@@ -94,3 +94,10 @@ module _ (spare : List Bool) (id : ℕ) (n : Node) (spots new : Spots) (h : IsCh
 
   pub place_now : IsPlaceIn spare h.was.place → IsPlaceIn spare h.now.place
   place_now within = subst (λ (p : Place). IsPlaceIn spare p) (sym h.changed.place.place) (own_in spare h.was.place h.changed.place.node within)
+
+  -- no block becomes bad
+  pub changed_bad : (contents : Option Image) → NoneTurnsBad contents spots contents new
+  changed_bad contents i b bad = elim (cases_eq i id) [
+    | inl here ↦ absurd (subst (λ (p : Place). IsBadPlace contents h.now.level p b) h.changed.place.place (subst (λ (o : Option Spot). IsBadSpot contents o b) (ap new here ∙ h.here) bad))
+    | inr other ↦ subst (λ (o : Option Spot). IsBadSpot contents o b) (h.others i other) bad
+  ]

@@ -33,12 +33,12 @@ use Rattle.bd_pager.specs.Calling.{no_reads}
 use Rattle.bd_pager.specs.Committing.{IsFound, IsFoundRoot, IsNewRoot}
 use Rattle.bd_pager.specs.Keeping.{KeepsSaved}
 use Rattle.bd_pager.specs.Slots.{IsOfLevel}
-use Rattle.bd_pager.specs.Places.{Spots, refs_in, level_in, copy_at, copy_in, node_of, told, IsLowerIn, IsRead}
+use Rattle.bd_pager.specs.Places.{Spots, refs_in, level_in, copy_at, copy_in, node_of, told, IsLowerIn, IsRead, IsBadSpot, NoneTurnsBad}
 use Rattle.bd_pager.specs.Pagers.{Paged, spots_of, is_saved, is_changed, table_of, nodes_of, IsRightPlace, is_known, IsOfSize, IsPlaceIn, IsStoredAs, IsPaged}
 use Rattle.bd_pager.specs.Stepping.{held, own_slot_in, with_put, with_count, without_all, with_copy, moved_copy, bare, copied}
 use Rattle.bd_pager.specs.Testing.{Marks, is_tested, NamesLower, AreTested, IsNoHigherThan}
 use Rattle.bd_pager.proofs.AppendedLemmas.{split_and}
-use Rattle.bd_pager.proofs.CopyLemmas.{bare_changed, copied_changed, bare_in, copied_in, bare_placed, copied_placed, bare_right, copied_right, bare_node, copied_node, copied_copy, without_read, moved_at, same_moved, each_moved}
+use Rattle.bd_pager.proofs.CopyLemmas.{bare_changed, copied_changed, bare_in, copied_in, bare_placed, copied_placed, bare_right, copied_right, bare_node, copied_node, copied_copy, without_read, moved_at, same_moved, each_moved, moved_bad}
 use Rattle.bd_pager.proofs.CopyLemmas.Moved.{to_root, from_root, beside}
 use Rattle.bd_pager.proofs.PagerLemmas.{kept_there}
 use Rattle.bd_pager.proofs.SteppedLemmas.{AreStepped, Outcome, outcome, is_left, new_refs, new_used, new_level, each_stepped, given_kept, given_put}
@@ -351,13 +351,26 @@ module _ {D : Type 0} (g : Ghosts D) (p : Paged D) (step : Step) (put : ℕ → 
         (λ node s copy there. copied_right image node s.place
         (sym (ap (node_of image) there) ∙ sym (ap (λ (i : Image). node_of i (spots_of p root)) image_is) ∙ (found_root node copy).there known))
 
+    committed_known : is_known g p → is_known g q
+    committed_known known = record {
+      contents_told = known.contents_told;
+      right = each_new (λ id s. IsRightPlace (told contents) s.place) (λ id node put_there gives may. tt)
+          (λ id s there not_put none. before_right (told contents) refl known.contents_told known.right id s there);
+    }
+
+    -- what is put is in memory, and what goes is in no slot
+    committed_bad : is_known g p → NoneTurnsBad contents (spots_of p) contents (spots_of q)
+    committed_bad known id b bad = elim (ending id) [
+      | goes nought none ↦ absurd (subst (λ (o : Option Spot). IsBadSpot contents o b) none bad)
+      | comes node put_there gives one at ↦ absurd (subst (λ (o : Option Spot). IsBadSpot contents o b) at bad)
+      | remains s there not_put none one at ↦
+          moved_bad (spots_of p) p.root root new_root.copy contents known was.placed id b
+          (subst (λ (o : Option Spot). IsBadSpot contents o b) (sym there) (subst (λ (o : Option Spot). IsBadSpot contents o b) at bad))
+    ]
+
     pub committed_stays : StaysBy (is_known g) (KeepsSaved g) (λ (x : Paged D). let none : List ℕ = [] in none) p q
     committed_stays = record {
-      known = λ known. record {
-        contents_told = known.contents_told;
-        right = each_new (λ id s. IsRightPlace (told contents) s.place) (λ id node put_there gives may. tt)
-            (λ id s there not_put none. before_right (told contents) refl known.contents_told known.right id s there);
-      };
+      known = committed_known;
       beside = record {
         device = no_reads g p.dev;
         lent = λ so. so;
@@ -374,6 +387,8 @@ module _ {D : Type 0} (g : Ghosts D) (p : Paged D) (step : Step) (put : ℕ → 
             ]);
         next = omega (arith, last_is);
         kept = kept_old;
+        known = committed_known;
+        bad = committed_bad;
       };
       same_loans = refl;
     }

@@ -1,5 +1,6 @@
 -- Copies in memory of nodes that are in slots.
 use Rattle.std.proofs.Common.{◌≡◌, ℕ, Bool, cond, eqb, List, Option, None, Some, IfSome, refl, sym, ap, subst, ◌∙◌, inl, inr}
+use Rattle.std.specs.Prelude.{IsSome}
 use Rattle.std.specs.Global.{Global}
 use Rattle.std.specs.declared.rc.Rc.{Rc}
 use Rattle.std.proofs.lemmas.Bool.{cases_eq, cond-true, cond-false, eq-eqb, ne_eqb}
@@ -10,9 +11,10 @@ use Rattle.bd_pager.specs.declared.place.Place.{Place}
 use Rattle.bd_pager.specs.declared.place.Place.TheVariants.{Memory, Slot}
 use Rattle.bd_pager.specs.declared.place.Spot.{Spot}
 use Rattle.bd_pager.specs.Slots.{IsOfLevel}
-use Rattle.bd_pager.specs.Places.{Spots, copy_at, node_at, IsReadAt, IsRead}
-use Rattle.bd_pager.specs.Pagers.{is_changed_place, IsRightPlace, IsPlaceIn}
+use Rattle.bd_pager.specs.Places.{Spots, copy_at, node_at, told, IsReadAt, IsRead, ArePlaced, IsBadPlace, IsBadSpot, NoneTurnsBad}
+use Rattle.bd_pager.specs.Pagers.{is_changed_place, IsRightPlace, IsKnownOver, IsPlaceIn}
 use Rattle.bd_pager.specs.Stepping.{copied, bare, with_copy, without_copy, moved_copy}
+use Rattle.bd_pager.proofs.SlotLemmas.{not_bad}
 
 -- ---- places
 
@@ -78,6 +80,27 @@ pub without_read : (contents : Option Image) (is_lent : Bool) (o : Option Spot) 
 without_read contents is_lent None n read = read
 without_read contents is_lent (Some s) n read = bare_read contents is_lent s.level s.place n read
 
+-- a copy makes no block bad
+copied_bad : (contents : Option Image) (level : ℕ) (node : Rc Node Global) (p : Place) (b : ℕ) → IsBadPlace contents level (copied node p) b → IsBadPlace contents level p b
+copied_bad contents level node (Memory own slot) b bad = bad
+copied_bad contents level node (Slot slot None) b bad = absurd bad
+copied_bad contents level node (Slot slot (Some own)) b bad = bad
+
+with_bad : (contents : Option Image) (copy : Option (Rc Node Global)) (o : Option Spot) (b : ℕ) → IsBadSpot contents (with_copy copy o) b → IsBadSpot contents o b
+with_bad contents None o b bad = bad
+with_bad contents (Some node) None b bad = bad
+with_bad contents (Some node) (Some s) b bad = copied_bad contents s.level node s.place b bad
+
+-- nor does it where it goes, and the slot has it
+bare_bad : (contents : Option Image) (level : ℕ) (p : Place) (b : ℕ) → IsSome contents → IsRightPlace (told contents) p → IfSome (copy_at p) (IsOfLevel level) → IsBadPlace contents level (bare p) b → IsBadPlace contents level p b
+bare_bad contents level (Memory node slot) b some right placed bad = bad
+bare_bad contents level (Slot slot None) b some right placed bad = bad
+bare_bad contents level (Slot slot (Some node)) b some right placed bad = not_bad contents slot level b node.value some right placed bad
+
+without_bad : (contents : Option Image) (o : Option Spot) (b : ℕ) → IsSome contents → ((s : Spot) → o ≡ Some s → IsRightPlace (told contents) s.place) → ((s : Spot) → o ≡ Some s → IfSome (copy_at s.place) (IsOfLevel s.level)) → IsBadSpot contents (without_copy o) b → IsBadSpot contents o b
+without_bad contents None b some right placed bad = bad
+without_bad contents (Some s) b some right placed bad = bare_bad contents s.level s.place b some (right s refl) (placed s refl) bad
+
 -- ---- spots
 
 -- what a spot is when the root moves
@@ -142,4 +165,12 @@ module _ (spots : Spots) (old root : ℕ) (copy : Option (Rc Node Global)) where
         (copy_kept (P root) copy (spots root) within (all root) s (sym (ap (λ (k : ℕ). with_copy copy (spots k)) same) ∙ sym is ∙ there))
     | from_root is ↦ bare_kept (P id) (spots id) (without id) (all id) s (sym is ∙ there)
     | beside is ↦ all id s (sym is ∙ there)
+  ]
+
+  -- no block becomes bad by that
+  pub moved_bad : (contents : Option Image) → IsKnownOver contents spots → ArePlaced spots → NoneTurnsBad contents spots contents (λ id. moved_copy old root copy id (spots id))
+  moved_bad contents known placed id b bad = elim (moved_at id) [
+    | to_root same is ↦ with_bad contents copy (spots id) b (subst (λ (o : Option Spot). IsBadSpot contents o b) is bad)
+    | from_root is ↦ without_bad contents (spots id) b known.contents_told (known.right id) (placed id) (subst (λ (o : Option Spot). IsBadSpot contents o b) is bad)
+    | beside is ↦ subst (λ (o : Option Spot). IsBadSpot contents o b) is bad
   ]

@@ -1,6 +1,6 @@
 -- The bytes of slots: where they stay.
-use Rattle.std.proofs.Common.{◌≡◌, ℕ, ◌+◌, ◌-◌, ◌<◌, ◌≤◌, List, [], Bool, true, false, Option, Some, IfSome, Result, Ok, Err, OnOk, length, take, drop, min, refl, sym, ap, subst, ◌∙◌, arith}
-use Rattle.std.specs.Prelude.{slice_get}
+use Rattle.std.proofs.Common.{◌≡◌, ℕ, ◌+◌, ◌-◌, ◌<◌, ◌≤◌, List, [], Bool, true, false, Option, None, Some, IfSome, Result, Ok, Err, OnOk, length, take, drop, min, refl, sym, ap, subst, ◌∙◌, arith}
+use Rattle.std.specs.Prelude.{IsSome, slice_get}
 use Rattle.std.specs.List.{concat}
 use Rattle.std.proofs.lemmas.Bool.{true≢false}
 use Rattle.std.proofs.lemmas.List.{length-drop, length-take, take_all, ext_get_or, get_or-take, get_or-drop}
@@ -14,10 +14,13 @@ use Rattle.bd_device.proofs.Moments.{goes_on}
 use Rattle.bd_device.proofs.Changes.{same_then, same_wider, before_now}
 use Rattle.bd_device.specs.Commits.{block_at}
 use Rattle.bd_format.specs.Images.{IsImage}
+use Rattle.bd_format.specs.Decoding.{node_in}
+use Rattle.bd_format.proofs.Decodes.{decodes, decoded}
 use Rattle.bd_node.specs.declared.node.Node.{Node}
 use Rattle.bd_node.specs.Nodes.{level_of}
 use Rattle.bd_node.specs.Shape.{IsShape}
-use Rattle.bd_pager.specs.Slots.{slot_bytes, HasNode, IsOfSlot, IsSpare}
+use Rattle.bd_pager.specs.Places.{told}
+use Rattle.bd_pager.specs.Slots.{slot_bytes, HasNode, IsOfLevel, IsBadSlot, IsOfSlot, IsSpare}
 
 -- ---- where the bytes stay
 
@@ -80,3 +83,24 @@ written_has contents slot b n bytes (Ok x) first shape is size h =
     let whole : bytes_at image b 16 ≡ bytes = e ∙ take_all 65536 bytes (omega (arith, size)) in
     record { shape = shape; level_is = refl; image_is = subst (IsImage n) (sym whole ∙ ap (λ (k : ℕ). bytes_at image k 16) first) is })
 written_has contents slot b n bytes (Err x) first shape is size h = tt
+
+-- ---- bad slots
+
+-- a slot with a node of its level is none
+pub not_bad : (contents : Option Image) (slot level b : ℕ) (n : Node) → IsSome contents → node_in (slot_bytes (told contents) slot) ≡ Some n → IsOfLevel level n → IsBadSlot contents slot level b → ⊥
+not_bad None slot level b n some is of_level bad = let e : false ≡ true = some in cc
+not_bad (Some image) slot level b n some is of_level bad =
+    bad.1 n (record { shape = of_level.shape; level_is = of_level.level_is; image_is = decoded n (slot_bytes image slot) is })
+
+-- and none becomes one whose bytes encode what they did
+pub still_bad : (old new : Option Image) (slot level there after b : ℕ) → IsSome old → IsSome new → after ≡ level → there ≡ slot → node_in (slot_bytes (told new) there) ≡ node_in (slot_bytes (told old) slot) → IsBadSlot new there after b → IsBadSlot old slot level b
+still_bad None new slot level there after b was now levels at same bad = absurd (let e : false ≡ true = was in cc)
+still_bad (Some old) None slot level there after b was now levels at same bad = absurd (let e : false ≡ true = now in cc)
+still_bad (Some old) (Some new) slot level there after b was now levels at same bad = (
+  bad.0 ∙ ap slot_block at,
+  λ n has. bad.1 n (record {
+    shape = has.shape;
+    level_is = has.level_is ∙ sym levels;
+    image_is = decoded n (slot_bytes new there) (same ∙ decodes n (slot_bytes old slot) has.shape has.image_is);
+  }),
+)

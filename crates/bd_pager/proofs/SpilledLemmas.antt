@@ -1,6 +1,6 @@
 -- A pager whose nodes were moved to their slots.
 use Rattle.std.proofs.Common.{◌≡◌, ℕ, ◌≤◌, ◌<◌, Bool, true, false, ◌&&◌, is_some, List, nat_eq, Option, None, Some, refl, sym, ap, subst, ◌∙◌, arith}
-use Rattle.std.specs.Prelude.{Any}
+use Rattle.std.specs.Prelude.{Any, IfSome, IsSome}
 use Rattle.std.specs.Map.{lookup}
 use Rattle.std.proofs.lemmas.Bool.{true≢false}
 use Rattle.std.proofs.lemmas.Option.{same_Some, get_or_from_slice_get}
@@ -15,9 +15,11 @@ use Rattle.bd_pager.specs.declared.place.Place.TheVariants.{Memory, Slot}
 use Rattle.bd_pager.specs.declared.place.Spot.{Spot}
 use Rattle.bd_pager.specs.Counting.{AreBelow, AreUnused, is_in_memory}
 use Rattle.bd_pager.specs.Moving.{OnlyMoves, Spills}
-use Rattle.bd_pager.specs.Places.{Spots, refs_in, level_in, slot_in, slot_at, AreCached, ArePlaced}
-use Rattle.bd_pager.specs.Pagers.{Paged, spots_of, is_saved, touched_at, table_of, is_changed, is_changed_place, IsPlaceIn, IsStoredAs, IsOfSize, IsPaged}
+use Rattle.bd_pager.specs.Places.{Spots, refs_in, level_in, slot_in, slot_at, copy_at, node_at, node_of, told, AreCached, ArePlaced, IsBadPlace, IsBadSpot, NoneTurnsBad}
+use Rattle.bd_pager.specs.Slots.{IsOfLevel}
+use Rattle.bd_pager.specs.Pagers.{Paged, spots_of, is_saved, touched_at, table_of, is_changed, is_changed_place, IsKnownOver, IsPlaceIn, IsStoredAs, IsOfSize, IsPaged}
 use Rattle.bd_pager.proofs.AskedLemmas.{unchanged_held}
+use Rattle.bd_pager.proofs.SlotLemmas.{not_bad, still_bad}
 
 -- each node in memory is kept, and its id below the next one
 pub paged_below : {D : Type 0} (contents : Option Image) (p : Paged D) → IsPaged contents p → AreBelow p.next (spots_of p)
@@ -100,3 +102,29 @@ spilled_table {D} g p q h =
       touched = λ id. (let on : touched_at p.saved.entries p.spare (spots_of q) id ≡ touched_at p.saved.entries p.spare (spots_of p) id = ap (λ (b : Bool). is_saved p.saved.entries id && b) (h.moves.changed id) in on) j;
     } in
     ap (λ (x : Paged D). table_of x) h.rest ∙ same
+
+-- ---- bad blocks
+
+-- a slot without a copy that a place became, whose node is what it was
+slot_bad : (old new : Option Image) (level after slot : ℕ) (p : Place) (b : ℕ) → IsSome old → IsSome new → after ≡ level → ((own : ℕ) → slot_at p ≡ Some own → Some slot ≡ Some own) → node_at (told new) (Slot slot None) ≡ node_at (told old) p
+    → IfSome (copy_at p) (IsOfLevel level) → IsBadPlace new after (Slot slot None) b → IsBadPlace old level p b
+slot_bad old new level after slot (Memory node own) b was now levels slots same placed bad = not_bad new slot after b node.value now same (subst (λ (k : ℕ). IsOfLevel k node.value) (sym levels) placed) bad
+slot_bad old new level after slot (Slot there (Some node)) b was now levels slots same placed bad = not_bad new slot after b node.value now same (subst (λ (k : ℕ). IsOfLevel k node.value) (sym levels) placed) bad
+slot_bad old new level after slot (Slot there None) b was now levels slots same placed bad = still_bad old new there level slot after b was now levels (same_Some slot there (slots there refl)) same bad
+
+place_bad : (old new : Option Image) (level after : ℕ) (p q : Place) (b : ℕ) → IsSome old → IsSome new → after ≡ level → ((own : ℕ) → slot_at p ≡ Some own → slot_at q ≡ Some own) → node_at (told new) q ≡ node_at (told old) p
+    → IfSome (copy_at p) (IsOfLevel level) → IsBadPlace new after q b → IsBadPlace old level p b
+place_bad old new level after p (Memory node own) b was now levels slots same placed bad = absurd bad
+place_bad old new level after p (Slot slot (Some node)) b was now levels slots same placed bad = absurd bad
+place_bad old new level after p (Slot slot None) b was now levels slots same placed bad = slot_bad old new level after slot p b was now levels slots same placed bad
+
+spot_bad : (old new : Option Image) (o m : Option Spot) (b : ℕ) → IsSome old → IsSome new → is_some m ≡ is_some o → level_in m ≡ level_in o → ((own : ℕ) → slot_in o ≡ Some own → slot_in m ≡ Some own) → node_of (told new) m ≡ node_of (told old) o
+    → ((s : Spot) → o ≡ Some s → IfSome (copy_at s.place) (IsOfLevel s.level)) → IsBadSpot new m b → IsBadSpot old o b
+spot_bad old new o None b was now kept level slots same placed bad = absurd bad
+spot_bad old new None (Some s) b was now kept level slots same placed bad = absurd (true≢false kept)
+spot_bad old new (Some r) (Some s) b was now kept level slots same placed bad = place_bad old new r.level s.level r.place s.place b was now level slots same (placed r refl) bad
+
+-- no block becomes bad
+pub spilled_bad : {D : Type 0} (g : Ghosts D) (spare : List Bool) (root : ℕ) (d e : D) (before after : Spots) → OnlyMoves g spare root d e before after → ArePlaced before → IsKnownOver (g.contents d) before → NoneTurnsBad (g.contents d) before (g.contents e) after
+spilled_bad g spare root d e before after moves placed known id b bad =
+    spot_bad (g.contents d) (g.contents e) (before id) (after id) b known.contents_told (moves.known known).contents_told (moves.kept id) (moves.level id) (moves.slots id) (moves.nodes known id) (placed id) bad

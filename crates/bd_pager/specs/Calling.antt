@@ -5,7 +5,7 @@ use Rattle.bd_device.specs.Device.{OnlyReads}
 use Rattle.bd_device.specs.declared.device.Device.{Ghosts}
 use Rattle.bd_device.proofs.Calls.{reads_then}
 use Rattle.bd_node.specs.Tables.{Table, IsKept}
-use Rattle.bd_pager.specs.Places.{Spots}
+use Rattle.bd_pager.specs.Places.{Spots, IsBadSpot}
 use Rattle.bd_pager.specs.Pagers.{Paged, spots_of, table_at, touched_at, table_of, IsKnownOver, is_known, IsReadOf}
 use Rattle.bd_pager.specs.Keeping.{KeepsSaved}
 
@@ -57,6 +57,12 @@ module _ {D : Type 0} (g : Ghosts D) where
     touched = λ id low was kept. subst (λ (t : Table). IsTrue (t.touched id)) (sym (read_table a b r)) was;
     next = omega (arith, ap (λ (x : Paged D). x.next) r.rest);
     kept = λ id low kept. subst (λ (t : Table). IsKept t id) (read_table a b r) kept;
+    known = λ known.
+        subst (λ (s : Spots). IsKnownOver (g.contents b.dev) s) (sym r.spots)
+        (subst (λ (o : Option Image). IsKnownOver o (spots_of a)) (sym r.device.kept) known);
+    bad = λ known id block bad.
+        subst (λ (o : Option Image). IsBadSpot o (spots_of a id) block) r.device.kept
+        (subst (λ (s : Spots). IsBadSpot (g.contents b.dev) (s id) block) r.spots bad);
   }
 
   -- nor do two calls change more
@@ -72,4 +78,6 @@ module _ {D : Type 0} (g : Ghosts D) where
         q.touched id later (p.touched id low was (q.kept id later kept)) kept;
     next = omega (arith, p.next, q.next);
     kept = λ id low kept. p.kept id low (q.kept id (omega (arith, low, p.next)) kept);
+    known = λ known. q.known (p.known known);
+    bad = λ known id block bad. p.bad known id block (q.bad (p.known known) id block bad);
   }

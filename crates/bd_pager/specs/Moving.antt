@@ -17,8 +17,8 @@ use Rattle.bd_pager.specs.declared.place.Place.TheVariants.{Memory, Slot}
 use Rattle.bd_pager.specs.declared.place.Spot.{Spot}
 use Rattle.bd_pager.specs.Counting.{is_in_memory}
 use Rattle.bd_pager.specs.Slots.{HasNode, IsOfLevel, IsOfSlot, IsSpare}
-use Rattle.bd_pager.specs.Places.{Spots, refs_in, level_in, slot_in, copy_in, nodes_at}
-use Rattle.bd_pager.specs.Pagers.{Paged, spots_of, is_changed, IsKnownOver}
+use Rattle.bd_pager.specs.Places.{Spots, refs_in, level_in, slot_in, copy_in, nodes_at, NoneTurnsBad}
+use Rattle.bd_pager.specs.Pagers.{Paged, spots_of, is_changed, IsKnownOver, is_known}
 
 -- ---- one node
 
@@ -149,9 +149,11 @@ pub record OnlyMoves {D : Type 0} (g : Ghosts D) (spare : List Bool) (root : ℕ
   pub nodes : IsKnownOver (g.contents old) before → (id : ℕ)
       → nodes_at (g.contents new) after id ≡ nodes_at (g.contents old) before id
 
--- so it is with a pager
+-- so it is with a pager, and no block becomes bad
 pub record Spills {D : Type 0} (g : Ghosts D) (old new : Paged D) : Type 0 where
   pub moves : OnlyMoves g old.spare old.root old.dev new.dev (spots_of old) (spots_of new)
+  pub bad : is_known g old
+      → NoneTurnsBad (g.contents old.dev) (spots_of old) (g.contents new.dev) (spots_of new)
   pub rest : new ≡ record old {
     dev = new.dev;
     spots = new.spots;

@@ -109,3 +109,8 @@ IsBadPlace contents level (Slot slot None) b = IsBadSlot contents slot level b
 abbrev pub IsBadSpot : Option Image → Option Spot → ℕ → Type 0
 IsBadSpot contents None b = ⊥
 IsBadSpot contents (Some s) b = IsBadPlace contents s.level s.place b
+
+-- a block that is bad for a node was bad for it before
+abbrev pub NoneTurnsBad : Option Image → Spots → Option Image → Spots → Type 0
+NoneTurnsBad old before new after =
+    (id b : ℕ) → IsBadSpot new (after id) b → IsBadSpot old (before id) b

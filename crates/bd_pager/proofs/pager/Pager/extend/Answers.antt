@@ -12,14 +12,15 @@ use Rattle.bd_node.specs.Steps.{IsRootOf, IsStep, IsTableAfter, IsCommitted, IsW
 use Rattle.bd_node.specs.Stores.{StaysBy}
 use Rattle.bd_node.specs.Tables.{IsSound}
 use Rattle.bd_pager.specs.declared.stepping.Put.{Put}
+use Rattle.bd_pager.specs.Calling.{no_reads, read_table}
 use Rattle.bd_pager.specs.Counting.{IsTallied}
 use Rattle.bd_pager.specs.Extending.{IsAdditionOf}
 use Rattle.bd_pager.specs.Keeping.{KeepsSaved}
-use Rattle.bd_pager.specs.Pagers.{Paged, spots_of, table_of, nodes_of, is_known, is_bad, IsPaged, seen}
-use Rattle.bd_pager.specs.Places.{Spots, spots_in, copy_in, IsLowerIn}
+use Rattle.bd_pager.specs.Pagers.{Paged, spots_of, table_of, nodes_of, is_known, is_bad, IsKnownOver, IsPaged, IsReadOf, seen}
+use Rattle.bd_pager.specs.Places.{Spots, spots_in, copy_in, nodes_at, IsLowerIn}
 use Rattle.bd_pager.specs.Testing.{AreTested}
 use Rattle.bd_pager.proofs.ExtendedLemmas.{root_seen, list_fits, pager_extended, pager_tested, addition_below, unsound_root}
-use Rattle.bd_pager.proofs.StepsLemmas.{no_loans, reordered, tallied_more}
+use Rattle.bd_pager.proofs.StepsLemmas.{no_loans, reads_stay, reordered, tallied_more}
 use Rattle.bd_pager.proofs.pager.Pager.extend.Goals as goal
 
 pub returns-then-not-copy_names_lower-clause-cause : goal.returns-then-not-copy_names_lower-clause-cause
@@ -119,6 +120,24 @@ invariant_of-self-2 g c =
       pager_tested D p made list was ok looked c.in-Ok.addition new.spots.entries (i.size + c.size-added.result) (i.next + c.len-count.result) c.saturating_add-self-inside.result is
           (ap (λ (n : ℕ). i.size + n) c.size-added.ensures) (ap (λ (n : ℕ). i.next + n) c.len-count.ensures) e.ok i.reader.tested c.self.invariant.2,
     )
+
+pub returns-in-Err-extend_spots-clause-stays : goal.returns-in-Err-extend_spots-clause-stays
+returns-in-Err-extend_spots-clause-stays g c =
+    let i = c.self.inside in
+    let D = g.D.Device in
+    let p : Paged g.row.D.Denot = seen i.reader i.saved i.at.items i.usage.spare i.root i.size i.next i.visits i.written in
+    let e = c.in-Err-extend_spots.ensures in
+    let q : Paged g.row.D.Denot = record p { spots = c.extend_spots.new.spots.entries; spare = c.extend_spots.new.usage.spare } in
+    let same : spots_of q ≡ spots_of p = λ j id. e.err id j in
+    let read : IsReadOf D p q = record { device = no_reads D p.dev; lent = λ so. so; spots = same; rest = λ j. record q { spare = e.spare j } } in
+    subst (λ (x : Paged g.row.D.Denot). StaysBy (is_known D) (KeepsSaved D) no_loans x q) c.self.view_is
+    (reads_stay D p q (record {
+      table = read_table D p q read;
+      known = λ known. subst (λ (s : Spots). IsKnownOver (D.contents p.dev) s) (sym same) known;
+      kept = λ known j. nodes_at (D.contents p.dev) (same j);
+      read = read;
+      same_loans = refl;
+    }))
 
 pub returns-clause-table : goal.returns-clause-table
 returns-clause-table g c =

@@ -8,7 +8,7 @@ use Rattle.bd_pager.specs.Moving.{AreEarlier, Spills}
 use Rattle.bd_pager.specs.Pagers.{Paged, spots_of, IsPaged, seen}
 use Rattle.bd_pager.specs.Places.{spots_in, AreCached}
 use Rattle.bd_pager.proofs.MovingLemmas.{none_free}
-use Rattle.bd_pager.proofs.SpilledLemmas.{spilled_paged, paged_below}
+use Rattle.bd_pager.proofs.SpilledLemmas.{spilled_paged, spilled_bad, paged_below}
 use Rattle.bd_pager.proofs.pager.Pager.spill.Goals as goal
 
 pub write_early-requires-clause-tallied : goal.write_early-requires-clause-tallied
@@ -52,7 +52,7 @@ returns g c =
     let tallied = w.tallied i.next (paged_below (D.contents i.reader.dev) p c.self.invariant.0) c.self.invariant.1 in
     record {
       spills = subst (λ (x : Paged g.row.D.Denot). Spills D x (q r.is_lent v.spare)) c.self.view_is
-          (record { moves = w.moves; rest = ap (λ (b : Bool). q b v.spare) w.lent ∙ ap (λ (l : List Bool). q i.reader.is_lent l) w.spare });
+          (record { moves = w.moves; bad = spilled_bad g.D.Device i.usage.spare i.root i.reader.dev r.dev (spots_in i.reader.spots) (spots_in r.spots) w.moves c.self.invariant.0.placed; rest = ap (λ (b : Bool). q b v.spare) w.lent ∙ ap (λ (l : List Bool). q i.reader.is_lent l) w.spare });
       written = refl;
       few = on_ok_weaker c.write_early.result (λ few. elim few [
         | inl le ↦ inl (omega (arith, le, tallied.counted.in_memory))
