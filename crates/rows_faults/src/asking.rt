@@ -11,7 +11,7 @@ use bd_script::{Line, read_line};
 use bd_slots::image_blocks;
 use bd_volume::{Fault, Refused, Volume};
 use rows_tools::{plain_answer, text_of};
-use std::alloc::Global;
+use std::alloc::{AllocError, Global};
 use std::test::Fail;
 
 /// How many writes a device has room for.
@@ -82,7 +82,7 @@ pub fn wanted(alloc: Global, tree: &mut PlainTree, line: &str) -> Result<String,
 }
 
 /// A text, `count` times.
-pub fn repeated(alloc: Global, text: &str, count: usize) -> Result<String, Fail> {
+pub fn repeated(alloc: Global, text: &str, count: usize) -> Result<String, AllocError> {
     let mut all = String::new(alloc);
     for _ in 0..count {
         all.push_str(text)?;

@@ -1,5 +1,6 @@
 //! The tests of what fails: a device that fails at each of a volume's calls, scripts that are cut off
-//! at each call with the power lost, images with other bytes, and nodes that represent no tree.
+//! at each call with the power lost, images with other bytes, nodes that represent no tree, and want
+//! of memory.
 //! Nothing stands on this crate.
 #![tactic(auto)]
 
@@ -15,6 +16,8 @@ mod fields;
 mod generated;
 #[cfg(test)]
 mod hostile;
+#[cfg(test)]
+mod memory;
 #[cfg(test)]
 mod moments;
 #[cfg(test)]
