@@ -25,7 +25,9 @@ use Rattle.bd_pager.specs.Calling.{read_table}
 use Rattle.bd_shown.proofs.Alike.{read_shown}
 use Rattle.bd_shown.proofs.Kept.{kept_shown}
 use Rattle.bd_view.specs.Trees.{TreeView, IsAppended, IsGraftMade, IsWalked, HasAppended, HasGrafted}
-use Rattle.bd_engine.specs.Engines.{EngineState, view_of, keys_of, IsSoundOn, IsStanding, IsReadOn, OnlyNodesOn}
+use Rattle.bd_recall.specs.Kept.{Findings}
+use Rattle.bd_engine.specs.Engines.{EngineState, seen, view_of, keys_of, HasSoundNodes, IsSoundOn, IsStanding, IsReadOn, OnlyNodesOn}
+use Rattle.bd_engine.proofs.Recalls.{sound_nodes, sound_same}
 
 -- nodes that were known stay so over reads
 pub read_knows : {D : Type 0} (g : Ghosts D) (p q : Paged D) → IsReadOf g p q → is_known g p → is_known g q
@@ -34,8 +36,8 @@ read_knows g p q r known =
     (subst (λ (s : Spots). IsKnownOver (g.contents p.dev) s) (sym r.spots) known)
 
 -- what holds between two calls, where one kept the last checkpoint
-pub kept_standing : {D : Type 0} (g : Ghosts D) (old : EngineState D) (p : Paged D) (walk : Walk) → IsSince g p.dev → IsStanding g old → KeepsSaved g old.pager p → IsStanding g (record old { pager = p; walk = walk })
-kept_standing g old p walk earlier h k =
+pub kept_standing : {D : Type 0} (g : Ghosts D) (old : EngineState D) (p : Paged D) (recalled : Findings) (walk : Walk) → IsSince g p.dev → IsStanding g old → KeepsSaved g old.pager p → IsStanding g (record old { pager = p; recalled = recalled; walk = walk })
+kept_standing g old p recalled walk earlier h k =
     let same : saved_of old.pager ≡ saved_of p = λ i. record { at = sym k.at i; table = sym k.saved i } in
     record {
       fits = h.fits;
@@ -48,18 +50,19 @@ kept_standing g old p walk earlier h k =
     }
 
 -- what reads leave of an engine
-pub read_on : {D : Type 0} (g : Ghosts D) (old : EngineState D) (p : Paged D) (walk : Walk) → walk ≡ old.walk → IsReadOf g old.pager p → IsReadOn g old (record old { pager = p; walk = walk })
-read_on g old p walk same r = record {
+pub read_on : {D : Type 0} (g : Ghosts D) (old : EngineState D) (p : Paged D) (recalled : Findings) (walk : Walk) → walk ≡ old.walk → IsReadOf g old.pager p → (IsSoundOn g old → IsSoundOn g (seen p recalled old.log old.live old.stop walk)) → IsReadOn g old (seen p recalled old.log old.live old.stop walk)
+read_on g old p recalled walk same r sound = record {
   read = r;
   known = read_knows g old.pager p r;
   view = (λ i. view_of g (record old { pager = p; walk = same i })) ∙ read_shown g old.pager p old.walk (version_of old.live) old.live.epoch old.log.place (length (concat old.log.waiting)) r;
-  rest = λ i. record old { pager = p; walk = same i };
+  sound = sound;
+  rest = λ i. record old { pager = p; recalled = recalled; walk = same i };
 }
 
 -- what calls leave that change nodes alone
-pub only_nodes_on : {D : Type 0} (g : Ghosts D) (old : EngineState D) (p : Paged D) (walk : Walk) → IsStanding g old → IsPaged (g.contents old.pager.dev) old.pager → IsPaged (g.contents p.dev) p
-    → (is_known g old.pager → is_known g p) → KeepsSaved g old.pager p → OnlyNodesOn g old (record old { pager = p; walk = walk })
-only_nodes_on g old p walk h was now known k = record {
+pub only_nodes_on : {D : Type 0} (g : Ghosts D) (old : EngineState D) (p : Paged D) (recalled : Findings) (walk : Walk) → IsStanding g old → IsPaged (g.contents old.pager.dev) old.pager → IsPaged (g.contents p.dev) p
+    → (is_known g old.pager → is_known g p) → KeepsSaved g old.pager p → OnlyNodesOn g old (record old { pager = p; recalled = recalled; walk = walk })
+only_nodes_on g old p recalled walk h was now known k = record {
   keeps = k;
   known = known;
   view = λ is. kept_shown g (g.contents old.pager.dev) (g.contents p.dev) old.pager p old.walk walk (version_of old.live) old.live.epoch old.log.place (length (concat old.log.waiting)) was now
@@ -77,17 +80,17 @@ pub read_nodes : {D : Type 0} (g : Ghosts D) (p q : Paged D) → IsReadOf g p q 
 read_nodes g p q r = λ i. nodes_at (r.device.kept i) (r.spots i)
 
 -- they stay so over reads
-pub read_sound : {D : Type 0} (g : Ghosts D) (p q : Paged D) → IsReadOf g p q → IsSoundOn g p → IsSoundOn g q
+pub read_sound : {D : Type 0} (g : Ghosts D) (p q : Paged D) → IsReadOf g p q → HasSoundNodes g p → HasSoundNodes g q
 read_sound g p q r s = record {
   known = read_knows g p q r s.known;
   sound = subst (λ (t : Table). IsSound (nodes_of g q) t) (sym (read_table g p q r)) (subst (λ (n : Nodes). IsSound n (table_of p)) (sym (read_nodes g p q r)) s.sound);
 }
 
-read_same : {D : Type 0} (g : Ghosts D) (p q : Paged D) → IsReadOf g p q → SameAt (keys_of g p) (keys_of g q)
+pub read_same : {D : Type 0} (g : Ghosts D) (p q : Paged D) → IsReadOf g p q → SameAt (keys_of g p) (keys_of g q)
 read_same g p q r k = λ i. root_at (read_nodes g p q r i) (read_table g p q r i) k
 
 -- and over a flush step, or none
-pub flush_sound : {D E : Type 0} (g : Ghosts D) (p q : Paged D) (r : Result Bool E) → (r ≢ Ok true → IsReadOf g p q) → (r ≡ Ok true → IsFlushStep (nodes_of g p) (table_of p) (nodes_of g q) (table_of q)) → is_known g q → IsSoundOn g p → IsSoundOn g q
+pub flush_sound : {D E : Type 0} (g : Ghosts D) (p q : Paged D) (r : Result Bool E) → (r ≢ Ok true → IsReadOf g p q) → (r ≡ Ok true → IsFlushStep (nodes_of g p) (table_of p) (nodes_of g q) (table_of q)) → is_known g q → HasSoundNodes g p → HasSoundNodes g q
 flush_sound g p q (Ok true) rest step known s = record { known = known; sound = (step refl).flushed.sound }
 flush_sound g p q (Ok false) rest step known s = read_sound g p q (rest (λ e. cc)) s
 flush_sound g p q (Err e) rest step known s = read_sound g p q (rest (λ e. cc)) s
@@ -98,7 +101,7 @@ flush_same g p q (Ok false) rest step = read_same g p q (rest (λ e. cc))
 flush_same g p q (Err e) rest step = read_same g p q (rest (λ e. cc))
 
 -- and over messages or a graft
-pub stays_sound : {D T E : Type 0} (g : Ghosts D) (p q : Paged D) (r : Result T E) → OnErr r (IsReadOf g p q) → OnOk r (IsSound (nodes_of g q) (table_of q)) → is_known g q → IsSoundOn g p → IsSoundOn g q
+pub stays_sound : {D T E : Type 0} (g : Ghosts D) (p q : Paged D) (r : Result T E) → OnErr r (IsReadOf g p q) → OnOk r (IsSound (nodes_of g q) (table_of q)) → is_known g q → HasSoundNodes g p → HasSoundNodes g q
 stays_sound g p q (Ok x) err sound known s = record { known = known; sound = sound }
 stays_sound g p q (Err e) err sound known s = read_sound g p q err s
 
@@ -116,6 +119,16 @@ step_waits r size limit made enough =
     elim (cases_lt limit size) [ inl many ↦ many | inr few ↦ absurd (made (enough.1 few)) ]
 
 -- where it failed, a graft only read
-pub err_read : {D T E : Type 0} (g : Ghosts D) (old : EngineState D) (p : Paged D) (walk : Walk) (r : Result T E) → OnErr r (walk ≡ old.walk) → OnErr r (IsReadOf g old.pager p) → OnErr r (IsReadOn g old (record old { pager = p; walk = walk }))
-err_read g old p walk (Ok x) same read = tt
-err_read g old p walk (Err e) same read = read_on g old p walk same read
+pub err_read : {D T E : Type 0} (g : Ghosts D) (old : EngineState D) (p : Paged D) (recalled : Findings) (walk : Walk) (r : Result T E) → OnErr r (walk ≡ old.walk) → OnErr r (IsReadOf g old.pager p) → (IsSoundOn g old → IsSoundOn g (seen p recalled old.log old.live old.stop walk)) → OnErr r (IsReadOn g old (seen p recalled old.log old.live old.stop walk))
+err_read g old p recalled walk (Ok x) same read sound = tt
+err_read g old p recalled walk (Err e) same read sound = read_on g old p recalled walk same read sound
+
+-- and so what stood at the keys stands there
+pub err_same : {D T E : Type 0} (g : Ghosts D) (p q : Paged D) (r : Result T E) → OnErr r (IsReadOf g p q) → OnErr r (SameAt (keys_of g p) (keys_of g q))
+err_same g p q (Ok x) read = tt
+err_same g p q (Err e) read = read_same g p q read
+
+-- sound nodes that are only read leave a sound engine
+pub read_keeps_sound : {D : Type 0} (g : Ghosts D) (old : EngineState D) (p : Paged D) (walk : Walk) → IsReadOf g old.pager p → IsSoundOn g old → IsSoundOn g (seen p old.recalled old.log old.live old.stop walk)
+read_keeps_sound g old p walk r s =
+    sound_same g old (seen p old.recalled old.log old.live old.stop walk) refl (read_sound g old.pager p r (sound_nodes g old s)) (read_same g old.pager p r) s

@@ -1,6 +1,7 @@
 pub mod Left
 pub mod Logging
 pub mod Numbers
+pub mod Recalls
 pub mod Reclaims
 pub mod Remaining
 pub mod Saving

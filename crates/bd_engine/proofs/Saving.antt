@@ -32,7 +32,7 @@ use Rattle.bd_view.specs.Views.{View, kept_ids, changed_count, free_slots, save_
 use Rattle.bd_shown.specs.Shown.{ids_of, shown, IsCheckpointed}
 use Rattle.bd_shown.proofs.Saved.{AreListed, kept_saved}
 use Rattle.bd_engine.specs.Stored.{HasSaved}
-use Rattle.bd_engine.specs.Engines.{EngineState, seen, view_of, keys_of, stop_after, IsSoundOn, IsStanding, IsGoingOn, IsStopped, IsBegunAnew}
+use Rattle.bd_engine.specs.Engines.{EngineState, seen, view_of, keys_of, stop_after, HasSoundNodes, IsStanding, IsGoingOn, IsStopped, IsBegunAnew}
 
 -- ---- what stopped it
 
@@ -107,7 +107,7 @@ module _ {D T : Type 0} (g : Ghosts D) (old : EngineState D) (p : Paged D) (log 
   stop_at r = stop_after (g.write_fault_count old.pager.dev) (g.write_fault_count p.dev) (g.call_count p.dev) r
 
   abbrev new_at : Result T MapFault → EngineState D
-  new_at r = seen p log live (stop_at r) walk
+  new_at r = seen p old.recalled log live (stop_at r) walk
 
   pub saved_standing : (r : Result T MapFault) → IsStanding g old → old.stop ≡ None → g.write_fault_count old.pager.dev < 2 ^ 64 → OnOk r (IsOpenOn g p.dev live (saved_of p) log) → OnOk r (live ≡ super_after old.live count p.at) → OnOk r (log ≡ fresh_log (log_block live.half) live.epoch) → OnOk r (IsSaved g old.pager p)
       → OnErr r (StaysUnsaved g old.pager p) → OnErr r (live ≡ old.live) → OnErr r (log ≡ old.log) → OnErr r (IsLeftOpen g old.pager.dev p.dev old.live (saved_of old.pager) old.log) → IfErr r (IsCheckpointCause g old.pager.dev p.dev old.live)
@@ -128,7 +128,7 @@ module _ {D T : Type 0} (g : Ghosts D) (old : EngineState D) (p : Paged D) (log 
       let at : p.at ≡ old.pager.at = ap (λ (q : Paged D). q.at) unsaved.rest in
       let table : p.saved ≡ old.pager.saved = ap (λ (q : Paged D). q.saved) unsaved.rest in
       let same : saved_of old.pager ≡ saved_of p = λ i. record { at = sym at i; table = sym table i } in
-      let standing : IsStanding g (seen p old.log old.live (stop_at (Err fault)) walk) = record {
+      let standing : IsStanding g (seen p old.recalled old.log old.live (stop_at (Err fault)) walk) = record {
         fits = h.fits;
         size = stays.count ∙ h.size;
         slots = ap (λ (q : Paged D). length q.spare) unsaved.rest ∙ h.slots;
@@ -140,8 +140,8 @@ module _ {D T : Type 0} (g : Ghosts D) (old : EngineState D) (p : Paged D) (log 
           | inr goes ↦ subst (λ (s : Saved). IsOpenOn g p.dev old.live s old.log) same goes.1.known
         ];
       } in
-      subst (λ (s : Super). IsStanding g (seen p log s (stop_at (Err fault)) walk)) (sym same_live)
-      (subst (λ (l : LogState). IsStanding g (seen p l old.live (stop_at (Err fault)) walk)) (sym same_log) standing)
+      subst (λ (s : Super). IsStanding g (seen p old.recalled log s (stop_at (Err fault)) walk)) (sym same_live)
+      (subst (λ (l : LogState). IsStanding g (seen p old.recalled l old.live (stop_at (Err fault)) walk)) (sym same_log) standing)
     where
       is_some : {n : ℕ} {o : Option ℕ} → o ≡ None → o ≡ Some n → ⊥
       is_some none some = cc
@@ -178,7 +178,7 @@ module _ {D T : Type 0} (g : Ghosts D) (old : EngineState D) (p : Paged D) (log 
   saves law (Err fault) paged same room next fresh saved known = tt
 
   -- its log begins anew
-  pub begun : (r : Result T MapFault) (stop : Option ℕ) → OnOk r (live ≡ super_after old.live count p.at) → OnOk r (log ≡ fresh_log (log_block live.half) live.epoch) → OnOk r (IsBegunAnew (seen p log live stop walk))
+  pub begun : (r : Result T MapFault) (stop : Option ℕ) → OnOk r (live ≡ super_after old.live count p.at) → OnOk r (log ≡ fresh_log (log_block live.half) live.epoch) → OnOk r (IsBegunAnew (seen p old.recalled log live stop walk))
   begun (Ok done) stop next fresh = record { version = ap (λ (s : Super). version_of s) next; place = ap (λ (l : LogState). l.place) fresh; waiting = ap (λ (l : LogState). l.waiting) fresh }
   begun (Err fault) stop next fresh = tt
 
@@ -212,7 +212,7 @@ module _ {D T : Type 0} (g : Ghosts D) (old : EngineState D) (p : Paged D) (log 
 -- ---- sound nodes
 
 module _ {D T : Type 0} (g : Ghosts D) (old new : Paged D) where
-  pub kept_sound : (r : Result T MapFault) → OnOk r (IsSaved g old new) → OnErr r (StaysUnsaved g old new) → IsSoundOn g old → IsSoundOn g new
+  pub kept_sound : (r : Result T MapFault) → OnOk r (IsSaved g old new) → OnErr r (StaysUnsaved g old new) → HasSoundNodes g old → HasSoundNodes g new
   kept_sound (Ok done) saved unsaved s = record {
     known = saved.keeps.known s.known;
     sound = subst (λ (t : Table). IsSound (nodes_of g new) t) (sym saved.table)
@@ -224,7 +224,7 @@ module _ {D T : Type 0} (g : Ghosts D) (old new : Paged D) where
         (subst (λ (n : Nodes). IsSound n (table_of old)) (sym (unsaved.keeps.nodes s.known)) s.sound);
   }
 
-  pub kept_same : (r : Result T MapFault) → OnOk r (IsSaved g old new) → OnErr r (StaysUnsaved g old new) → IsSoundOn g old → SameAt (keys_of g old) (keys_of g new)
+  pub kept_same : (r : Result T MapFault) → OnOk r (IsSaved g old new) → OnErr r (StaysUnsaved g old new) → HasSoundNodes g old → SameAt (keys_of g old) (keys_of g new)
   kept_same (Ok done) saved unsaved s = λ k i. root_at (saved.keeps.nodes s.known i) (saved.table i) k
   kept_same (Err fault) saved unsaved s = λ k i. root_at (unsaved.keeps.nodes s.known i) (unsaved.table i) k
 

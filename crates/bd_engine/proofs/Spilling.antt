@@ -16,7 +16,7 @@ use Rattle.bd_checkpoint.proofs.Handed.{IsSince}
 use Rattle.bd_checkpoint.proofs.Spare.{open_on, time_on, kept_on}
 use Rattle.bd_checkpoint.proofs.Starting.{PartsAreOne}
 use Rattle.bd_shown.specs.Shown.{ids_of, tree_of}
-use Rattle.bd_engine.specs.Engines.{EngineState, seen, keys_of, IsSoundOn, IsStanding, WritesEarly}
+use Rattle.bd_engine.specs.Engines.{EngineState, seen, keys_of, HasSoundNodes, IsStanding, WritesEarly}
 
 -- what is seen of nodes stays over such writes
 pub record ChangesNothing {D : Type 0} (g : Ghosts D) : Type 0 where
@@ -28,13 +28,13 @@ module _ {D : Type 0} (g : Ghosts D) (law : ChangesNothing g) (old p : Paged D) 
   nodes : is_known g old → nodes_of g p ≡ nodes_of g old
   nodes is = λ i id. law.nodes old p s is id i
 
-  pub spilled_sound : IsSoundOn g old → IsSoundOn g p
+  pub spilled_sound : HasSoundNodes g old → HasSoundNodes g p
   spilled_sound h = record {
     known = law.known old p s h.known;
     sound = subst (λ (t : Table). IsSound (nodes_of g p) t) (sym (law.table old p s)) (subst (λ (n : Nodes). IsSound n (table_of old)) (sym (nodes h.known)) h.sound);
   }
 
-  pub spilled_same : IsSoundOn g old → SameAt (keys_of g old) (keys_of g p)
+  pub spilled_same : HasSoundNodes g old → SameAt (keys_of g old) (keys_of g p)
   spilled_same h = λ k i. root_at (nodes h.known i) (law.table old p s i) k
 
 module _ {D : Type 0} (g : Ghosts D) (one : PartsAreOne) (old : EngineState D) (p : Paged D) (since : IsSince g p.dev) (h : IsStanding g old) (on : old.stop ≡ None) (paged : IsPaged (g.contents old.pager.dev) old.pager)
@@ -52,7 +52,7 @@ module _ {D : Type 0} (g : Ghosts D) (one : PartsAreOne) (old : EngineState D) (
   still_open = subst (λ (x : Saved). IsOpenOn g p.dev old.live x old.log) same_saved (open_on g old.pager.dev p.dev since old.pager.spare writes one old.live (saved_of old.pager) old.log (h.going on) free)
 
   -- the last checkpoint and the log are known as before, also where a write failed
-  pub spilled_standing : IsStanding g (seen p old.log old.live stop old.walk)
+  pub spilled_standing : IsStanding g (seen p old.recalled old.log old.live stop old.walk)
   spilled_standing = record {
     fits = h.fits;
     size = s.moves.stays.count ∙ h.size;
@@ -63,7 +63,7 @@ module _ {D : Type 0} (g : Ghosts D) (one : PartsAreOne) (old : EngineState D) (
     going = λ none. still_open;
   }
 
-  pub writes_early : ChangesNothing g → WritesEarly g old (seen p old.log old.live stop old.walk)
+  pub writes_early : ChangesNothing g → WritesEarly g old (seen p old.recalled old.log old.live stop old.walk)
   writes_early law = record {
     table = law.table old.pager p s;
     known = law.known old.pager p s;

@@ -33,14 +33,15 @@ use Rattle.bd_view.specs.Trees.{fresh_tree}
 use Rattle.bd_view.specs.Views.{kept_ids, fresh_view}
 use Rattle.bd_shown.specs.Shown.{ids_of, IsCheckpointed}
 use Rattle.bd_shown.proofs.Saved.{AreListed, kept_saved}
-use Rattle.bd_engine.specs.Engines.{started, view_of, IsStanding}
+use Rattle.bd_recall.specs.Kept.{Findings}
+use Rattle.bd_engine.specs.Engines.{started, view_of, MayStart}
 use Rattle.bd_engine.specs.Stored.{IsStoredView, IsFound, IsStoredBy, ArePlaced}
 
 -- ---- from an image
 
 pub opened_standing : {D : Type 0} (g : Ghosts D) (known : Option Image) (p : Paged D) (log : LogState) (live : Super) → IsOpened known live.slots live.table p → IsOpenOn g p.dev live (saved_of p) log
-    → log ≡ record (fresh_log (log_block live.half) live.epoch) { place = log.place; batches = log.batches } → IsStanding g (started p log live)
-opened_standing g known p log live h given idle = record {
+    → log ≡ record (fresh_log (log_block live.half) live.epoch) { place = log.place; batches = log.batches } → MayStart g p log live
+opened_standing g known p log live h given idle = λ recalled. record {
   fits = given.fits;
   size = given.size;
   slots = h.spare.count;
@@ -59,15 +60,15 @@ found_records version batches list of = sym (unplaced_commands list) ∙ ap unpl
     unplaced_commands (p ∷ ps) = ap (λ (rs : List (List ℕ)). log_record p.command ∷ rs) (unplaced_commands ps)
 
 -- its view is that of the image's checkpoint, and its commands are those of the open batches
-pub first_view : {D : Type 0} (g : Ghosts D) → PartsAreOne → (known : Option Image) (p : Paged D) (log : LogState) (live : Super) → IsOpened known live.slots live.table p → IfSome known (AreStored g p) → IfSome known (λ image. IsLive image live)
+pub first_view : {D : Type 0} (g : Ghosts D) → PartsAreOne → (known : Option Image) (p : Paged D) (recalled : Findings) (log : LogState) (live : Super) → IsOpened known live.slots live.table p → IfSome known (AreStored g p) → IfSome known (λ image. IsLive image live)
     → IfSome known (λ image. AreBatches image (log_block live.half) live.epoch log.batches log.place) → log ≡ record (fresh_log (log_block live.half) live.epoch) { place = log.place; batches = log.batches }
     → (list : List PlacedCommand) → AreCommandsOf (version_of live) (placed_records log.batches) list
-    → (tree : Tree) (count : ℕ) → IfSome known (λ image. ImageStandsFor tree count image → IsFound image (view_of g (started p log live)) (map (λ p. p.command) list))
-first_view g one None p log live h stored is_live batches idle list of tree count = tt
-first_view g one (Some image) p log live h stored is_live batches idle list of tree count = λ stands.
+    → (tree : Tree) (count : ℕ) → IfSome known (λ image. ImageStandsFor tree count image → IsFound image (view_of g (started p recalled log live)) (map (λ p. p.command) list))
+first_view g one None p recalled log live h stored is_live batches idle list of tree count = tt
+first_view g one (Some image) p recalled log live h stored is_live batches idle list of tree count = λ stands.
     let starts : StartsAs live (saved_of p) log.place image = record { live_is = is_live; table_is = h.table_held; batches = log.batches; batches_are = batches } in
     let t : HasTree live p.saved log.place tree count image = recovered one live (saved_of p) log.place image tree count starts stands in
-    let view : IsStoredView image (view_of g (started p log live)) = record {
+    let view : IsStoredView image (view_of g (started p recalled log live)) = record {
       live = live;
       table = p.saved;
       nodes = t.nodes;
@@ -87,10 +88,10 @@ first_view g one (Some image) p log live h stored is_live batches idle list of t
     record { stored = view; records_are = found_records (version_of live) log.batches list of }
 
 -- the nodes are those that the image stores
-pub stored_by : {D : Type 0} (g : Ghosts D) (known : Option Image) (p : Paged D) (log : LogState) (live : Super) → IsOpened known live.slots live.table p → IfSome known (AreStored g p) → IfSome known (λ image. IsLive image live)
-    → IfSome known (IsStoredBy g (started p log live))
-stored_by g None p log live h stored is_live = tt
-stored_by g (Some image) p log live h stored is_live = record { live_is = is_live; table_is = h.table_held; nodes = stored }
+pub stored_by : {D : Type 0} (g : Ghosts D) (known : Option Image) (p : Paged D) (recalled : Findings) (log : LogState) (live : Super) → IsOpened known live.slots live.table p → IfSome known (AreStored g p) → IfSome known (λ image. IsLive image live)
+    → IfSome known (IsStoredBy g (started p recalled log live))
+stored_by g None p recalled log live h stored is_live = tt
+stored_by g (Some image) p recalled log live h stored is_live = record { live_is = is_live; table_is = h.table_held; nodes = stored }
 
 -- each command has its place
 pub are_placed : (known : Option Image) (log : LogState) (live : Super) (list : List PlacedCommand) → IfSome known (λ image. IsLive image live) → IfSome known (λ image. AreBatches image (log_block live.half) live.epoch log.batches log.place)
@@ -101,8 +102,8 @@ are_placed (Some image) log live list is_live batches of = record { live_is = is
 -- ---- on a new one
 
 pub fresh_standing : {D : Type 0} (g : Ghosts D) (p : Paged D) (log : LogState) (live : Super) (slots : ℕ) → live ≡ first_super slots p.at → IsOpenOn g p.dev live (saved_of p) log → IsTableAt slots p.at p.saved
-    → AreFreeSlots slots (slots_held (saved_of p)) p.spare → p.is_lent ≡ false → log ≡ fresh_log first_log_block 1 → IsStanding g (started p log live)
-fresh_standing g p log live slots is given table spare lent fresh =
+    → AreFreeSlots slots (slots_held (saved_of p)) p.spare → p.is_lent ≡ false → log ≡ fresh_log first_log_block 1 → MayStart g p log live
+fresh_standing g p log live slots is given table spare lent fresh = λ recalled.
     let count : live.slots ≡ slots = ap (λ (s : Super). s.slots) is in
     record {
       fits = given.fits;
@@ -119,10 +120,10 @@ fresh_ids : kept_ids fresh_tree.table ≡ 1 ∷ []
 unfolding sum_below
 fresh_ids = refl
 
-pub fresh_shown : {D : Type 0} (g : Ghosts D) → AreListed → (contents : Option Image) (p : Paged D) (log : LogState) (live : Super) (slots : ℕ) → IsPaged contents p → live ≡ first_super slots p.at → log ≡ fresh_log first_log_block 1
+pub fresh_shown : {D : Type 0} (g : Ghosts D) → AreListed → (contents : Option Image) (p : Paged D) (recalled : Findings) (log : LogState) (live : Super) (slots : ℕ) → IsPaged contents p → live ≡ first_super slots p.at → log ≡ fresh_log first_log_block 1
     → nodes_of g p ≡ fresh_nodes → table_of p ≡ grown new_table root_messages → AreEntriesOf p.saved.entries (spots_of p) → IsTableAt slots p.at p.saved → AreFreeSlots slots (slots_held (saved_of p)) p.spare
-    → view_of g (started p log live) ≡ fresh_view slots
-fresh_shown {D} g law contents p log live slots paged is_first is_fresh nodes table entries place spare =
+    → view_of g (started p recalled log live) ≡ fresh_view slots
+fresh_shown {D} g law contents p recalled log live slots paged is_first is_fresh nodes table entries place spare =
     let checkpointed : IsCheckpointed g p p = record {
       nodes = refl;
       table = table ∙ ap (with_touched (λ id. false)) (sym table);

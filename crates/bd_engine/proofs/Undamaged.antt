@@ -14,7 +14,7 @@ use Rattle.bd_pager.specs.declared.place.Spot.{Spot}
 use Rattle.bd_pager.specs.Places.{refs_in, level_in, nodes_at, node_at, node_of, IsBadPlace, IsBadSpot}
 use Rattle.bd_pager.specs.Pagers.{Paged, spots_of, table_of, IsPaged, is_bad}
 use Rattle.bd_pager.specs.Slots.{slot_bytes}
-use Rattle.bd_engine.specs.Engines.{IsSoundOn}
+use Rattle.bd_engine.specs.Engines.{HasSoundNodes}
 
 -- the node that bytes decode to is that of their image
 abbrev pub Decodes : Type 0
@@ -36,7 +36,7 @@ good_spot law p (Some image) id b (Some s) is there sound used bad =
     good_place law image (table_of p) s.level b s.place stored.node (ap (node_of image) (sym is) ∙ stored.there)
     (subst (λ (o : Option Spot). IsNodeOf (table_of p) (level_in o) stored.node) is stored.of_table) bad
 
-pub none_bad : {D : Type 0} (g : Ghosts D) (p : Paged D) → Decodes → IsPaged (g.contents p.dev) p → IsSoundOn g p → (block : ℕ) → is_bad g p block → ⊥
+pub none_bad : {D : Type 0} (g : Ghosts D) (p : Paged D) → Decodes → IsPaged (g.contents p.dev) p → HasSoundNodes g p → (block : ℕ) → is_bad g p block → ⊥
 none_bad g p law h s block bad =
     elim (bad s.known) [
       | inl spot ↦ good_spot law p (g.contents p.dev) spot.0 block (spots_of p spot.0) refl s.known.contents_told s.sound (h.used spot.0) spot.1

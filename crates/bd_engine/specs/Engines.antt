@@ -28,24 +28,34 @@ use Rattle.bd_checkpoint.specs.Recovering.{saved_of}
 use Rattle.bd_checkpoint.specs.Surviving.{SurvivesOn}
 use Rattle.bd_view.specs.Moves.{OnlyNodes}
 use Rattle.bd_view.specs.Views.{View}
+use Rattle.bd_recall.specs.Kept.{Findings, IsKept}
 use Rattle.bd_shown.specs.Shown.{shown}
 
--- the nodes, with the device under them; the log; the live superblock; the number of the device's
--- call at which it was stopped; and how the last graft went
+-- the nodes, with the device under them; what is kept of look-ups; the log; the live superblock; the
+-- number of the device's call at which it was stopped; and how the last graft went
 pub record EngineState (D : Type 0) : Type 0 where
   pub pager : Paged D
+  pub recalled : Findings
   pub log : LogState
   pub live : Super
   pub stop : Option ℕ
   pub walk : Walk
 
-abbrev pub seen : {D : Type 0} → Paged D → LogState → Super → Option ℕ → Walk → EngineState D
-seen pager log live stop walk =
-    record { pager = pager; log = log; live = live; stop = stop; walk = walk }
+abbrev pub seen : {D : Type 0} → Paged D → Findings → LogState → Super → Option ℕ → Walk
+    → EngineState D
+seen pager recalled log live stop walk = record {
+  pager = pager;
+  recalled = recalled;
+  log = log;
+  live = live;
+  stop = stop;
+  walk = walk;
+}
 
 -- one that goes on, in which nothing was grafted
-abbrev pub started : {D : Type 0} → Paged D → LogState → Super → EngineState D
-started pager log live = seen pager log live None (record { visits = 0; height = 0 })
+abbrev pub started : {D : Type 0} → Paged D → Findings → LogState → Super → EngineState D
+started pager recalled log live =
+    seen pager recalled log live None (record { visits = 0; height = 0 })
 
 -- its view
 abbrev pub view_of : {D : Type 0} → Ghosts D → EngineState D → View
@@ -57,9 +67,19 @@ abbrev pub keys_of : {D : Type 0} → Ghosts D → Paged D → At
 keys_of g p = root_at (nodes_of g p) (table_of p)
 
 -- the nodes are known and sound
-pub record IsSoundOn {D : Type 0} (g : Ghosts D) (p : Paged D) : Type 0 where
+pub record HasSoundNodes {D : Type 0} (g : Ghosts D) (p : Paged D) : Type 0 where
   pub known : is_known g p
   pub sound : IsSound (nodes_of g p) (table_of p)
+
+-- so are an engine's nodes, and what is kept of look-ups is what stands there
+pub record IsSoundOn {D : Type 0} (g : Ghosts D) (e : EngineState D) : Type 0 where
+  pub known : is_known g e.pager
+  pub sound : IsSound (nodes_of g e.pager) (table_of e.pager)
+  pub kept : IsKept (keys_of g e.pager) e.recalled
+
+-- it is sound where its nodes are, as one is that keeps nothing of look-ups
+abbrev pub IsFreshOn : {D : Type 0} → Ghosts D → EngineState D → Type 0
+IsFreshOn g e = HasSoundNodes g e.pager → IsSoundOn g e
 
 -- of some calls none failed at Ok, and at an error each fault has its cause: damage is of a bad
 -- block, and a counter is worn as is told
@@ -75,20 +95,22 @@ IsWornIn g p = IsWornToFlush (is_known g p × IsSound (nodes_of g p) (table_of p
 
 -- ---- what calls leave
 
--- only the device was read: the view stays, and nodes that were known stay so
+-- only the device was read: the view stays, nodes that were known stay so, and sound ones with what
+-- stands at the keys
 pub record IsReadOn {D : Type 0} (g : Ghosts D) (old new : EngineState D) : Type 0 where
   pub read : IsReadOf g old.pager new.pager
   pub known : is_known g old.pager → is_known g new.pager
   pub view : view_of g new ≡ view_of g old
-  pub rest : new ≡ record old { pager = new.pager }
+  pub sound : IsSoundOn g old → IsSoundOn g new
+  pub rest : new ≡ record old { pager = new.pager; recalled = new.recalled }
 
--- only nodes were changed, in memory, and how the last graft went: nothing was written, and nodes
--- that were known stay so
+-- only nodes were changed, in memory, and with them what is kept of look-ups and how the last graft
+-- went: nothing was written, and nodes that were known stay so
 pub record OnlyNodesOn {D : Type 0} (g : Ghosts D) (old new : EngineState D) : Type 0 where
   pub keeps : KeepsSaved g old.pager new.pager
   pub known : is_known g old.pager → is_known g new.pager
   pub view : is_known g old.pager → OnlyNodes (view_of g old) (view_of g new)
-  pub rest : new ≡ record old { pager = new.pager; walk = new.walk }
+  pub rest : new ≡ record old { pager = new.pager; recalled = new.recalled; walk = new.walk }
 
 -- the number of the device's last call where it stopped the engine: that call failed, and since this
 -- count of failed writes and barriers one more failed, or it stands at its last value
@@ -154,6 +176,7 @@ pub record WritesEarly {D : Type 0} (g : Ghosts D) (old new : EngineState D) : T
 -- only blocks before the slots were changed: the nodes stay, and what stands at the keys
 pub record KeepsNodesOn {D : Type 0} (g : Ghosts D) (old new : EngineState D) : Type 0 where
   pub pager : SurvivesOn g old.pager new.pager
+  pub sound : IsSoundOn g old → IsSoundOn g new
   pub live : new.live ≡ old.live
   pub walk : new.walk ≡ old.walk
 
@@ -170,3 +193,8 @@ pub record IsStanding {D : Type 0} (g : Ghosts D) (e : EngineState D) : Type 0 w
   pub unlent : e.pager.is_lent ≡ false
   pub records : AllByRecursion IsLogRecord e.log.waiting
   pub going : e.stop ≡ None → IsOpenOn g e.pager.dev e.live (saved_of e.pager) e.log
+
+-- an engine of these parts may start, whatever it keeps of look-ups
+abbrev pub MayStart : {D : Type 0} → Ghosts D → Paged D → LogState → Super → Type 0
+MayStart g pager log live =
+    (recalled : Findings) → IsStanding g (started pager recalled log live)

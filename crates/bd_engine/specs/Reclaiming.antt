@@ -6,12 +6,12 @@ use Rattle.bd_pager.specs.Pagers.{Paged, nodes_of, table_of, is_known}
 use Rattle.bd_reclaim.specs.declared.walking.Reclaim.{Reclaim}
 use Rattle.bd_reclaim.specs.Reclaimed.{IsWornChange}
 use Rattle.bd_reclaim.specs.Walking.{IsToDo, IsToDoAt}
-use Rattle.bd_engine.specs.Engines.{IsSoundOn}
+use Rattle.bd_engine.specs.Engines.{HasSoundNodes}
 
 -- the change may be made, as far as the table tells, and where the nodes are known and sound
 pub record MayMake {D : Type 0} (g : Ghosts D) (p : Paged D) (change : Reclaim) : Type 0 where
   pub to_do : IsToDo (table_of p) change
-  pub at : IsSoundOn g p → IsToDoAt (nodes_of g p) (table_of p) change
+  pub at : HasSoundNodes g p → IsToDoAt (nodes_of g p) (table_of p) change
 
 -- why a change has no room in a counter
 abbrev pub IsWornToChange : {D : Type 0} → Ghosts D → Paged D → Reclaim → Counter → Type 0

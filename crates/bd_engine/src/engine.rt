@@ -3,8 +3,9 @@
 ghost use Rattle.std.specs.Prelude.{◌≡◌, ◌+◌, ◌^◌, ◌<◌, ◌≤◌};
 ghost use Rattle.bd_dirs.specs.Kinds.{kind_of};
 ghost use Rattle.bd_pager.specs.Pagers.{table_of};
+ghost use Rattle.bd_recall.specs.Kept.{KeepsNone};
 ghost use Rattle.bd_view.specs.Views.{height, free_slots, save_slots, step_slots, need_slots, record_room};
-ghost use Rattle.bd_engine.specs.Engines.{started, view_of, IsStanding};
+ghost use Rattle.bd_engine.specs.Engines.{started, view_of, MayStart};
 
 mod changing;
 mod logging;
@@ -22,6 +23,7 @@ use bd_graft::Walk;
 use bd_limits::LATE_ROOT;
 use bd_log::Log;
 use bd_pager::Pager;
+use bd_recall::{Recalled, Recalling};
 use bd_shown::laws::numbers_are_shown;
 use bd_slots::table_length;
 use bd_super::Super;
@@ -40,32 +42,39 @@ const STEP_SLOTS: u64 = 8;
 #[derive(Drop)]
 pub struct Engine<D: Device> {
     alloc: Global,
-    tree: Tree<Pager<D>>,
+    tree: Recalling<Tree<Pager<D>>>,
     log: Log,
     live: Super,
     stop: Option<u64>,
 }
 
 impl<D: Device> Model for Engine<D> {
+    ghost use Rattle.bd_recall.specs.Kept.{findings};
     ghost use Rattle.bd_engine.specs.Engines.{EngineState, IsStanding, seen};
 
     ghost Value = { EngineState D };
 
-    ghost view = { λ e. seen e.tree.store e.log e.live e.stop e.tree.walk };
+    ghost view = { λ e. seen e.tree.map.store (findings e.tree.recalled) e.log e.live e.stop
+        e.tree.map.walk };
 
     ghost invariant = { λ e. IsStanding D.Device
-        (seen e.tree.store e.log e.live e.stop e.tree.walk) };
+        (seen e.tree.map.store (findings e.tree.recalled) e.log e.live e.stop e.tree.map.walk) };
 }
 
 impl<D: Device> Engine<D> {
     // The engine of these parts, which goes on.
     fn over(alloc: Global, pager: Pager<D>, log: Log, live: Super) -> Engine<D>
-        requires { IsStanding D.Device (started pager log live) }
-        ensures { result ≡ started pager log live }
+        requires { MayStart D.Device pager log live }
+        ensures started { result ≡ started pager result.recalled log live }
+        ensures fresh { KeepsNone result.recalled }
     {
         Engine {
             alloc,
-            tree: Tree::over(alloc, pager),
+            tree: Recalling {
+                alloc,
+                map: Tree::over(alloc, pager),
+                recalled: Recalled::new(alloc),
+            },
             log,
             live,
             stop: None,
@@ -77,7 +86,7 @@ impl<D: Device> Engine<D> {
         ensures { result ≡ free_slots (view_of D.Device self.now) }
     {
         numbers_are_shown::<D>();
-        u64::from(self.tree.store().free())
+        u64::from(self.tree.map.store().free())
     }
 
     /// How many slots a checkpoint would be written to.
@@ -86,7 +95,7 @@ impl<D: Device> Engine<D> {
         ensures small { result + 4096 < 2 ^ 64 }
     {
         numbers_are_shown::<D>();
-        let pager = self.tree.store();
+        let pager = self.tree.map.store();
         pager.nodes_are_placed();
         pager.changed() + table_length(pager.kept() as usize) as u64
     }
@@ -115,7 +124,7 @@ impl<D: Device> Engine<D> {
         ensures value { result ≡ height (table_of self.now.pager) }
         ensures low { result ≤ 1001 }
     {
-        let pager = self.tree.store();
+        let pager = self.tree.map.store();
         pager.nodes_are_placed();
         u64::from(pager.level(pager.root())) + 1
     }
@@ -124,7 +133,7 @@ impl<D: Device> Engine<D> {
     pub fn root_size(&self) -> usize
         ensures { result ≡ (table_of self.now.pager).size }
     {
-        self.tree.store().root_size()
+        self.tree.map.store().root_size()
     }
 
     /// For how many bytes of a command's record the log has room, beside those that wait: for none,
@@ -143,7 +152,7 @@ impl<D: Device> Engine<D> {
     pub fn last_walk(&self) -> Walk
         ensures { result ≡ (view_of D.Device self.now).tree.walk }
     {
-        self.tree.last_walk()
+        self.tree.map.last_walk()
     }
 
     /// How many slots the image has.
@@ -157,7 +166,7 @@ impl<D: Device> Engine<D> {
     pub fn calls(&self) -> u64
         ensures { result ≡ D.call_count self.now.pager.dev }
     {
-        self.tree.store().calls()
+        self.tree.map.store().calls()
     }
 
     /// The same engine, of which no graft is told any more.
@@ -171,9 +180,14 @@ impl<D: Device> Engine<D> {
             live,
             stop,
         } = self;
+        let Recalling { map, recalled, .. } = tree;
         Engine {
             alloc,
-            tree: Tree::over(alloc, tree.into_store()),
+            tree: Recalling {
+                alloc,
+                map: Tree::over(alloc, map.into_store()),
+                recalled,
+            },
             log,
             live,
             stop,
@@ -184,7 +198,7 @@ impl<D: Device> Engine<D> {
     pub fn into_device(self) -> D
         ensures { result ≡ self.pager.dev }
     {
-        self.tree.into_store().into_device()
+        self.tree.map.into_store().into_device()
     }
 
     /// The number of the device's call at which it was stopped, where it was.

@@ -1,7 +1,7 @@
 -- What is kept of look-ups.
 use Rattle.std.specs.Prelude.{◌≡◌, ◌⊎◌, ℕ, nat_eq, false, List, Option, None, IfSome}
 use Rattle.std.specs.Cmp.Lexicographic.{pointwise}
-use Rattle.std.specs.HashMap.{get_by}
+use Rattle.std.specs.Map.{lookup}
 use Rattle.std.specs.Option.{option_map}
 use Rattle.std.specs.declared.alloc.Global.{Global}
 use Rattle.std.specs.declared.vec.Vec.{Vec}
@@ -19,33 +19,41 @@ Key = Vec ℕ Global
 abbrev pub bytes_of : Option (Vec ℕ Global) → Option (List ℕ)
 bytes_of found = option_map (λ value. value.items) found
 
+-- what was found at keys, in no order
+abbrev pub Findings : Type 0
+Findings = List (Key × Option (Vec ℕ Global))
+
+-- what is kept
+abbrev pub findings : Recalled → Findings
+findings r = r.found.entries
+
 -- what is kept for a key, that it was found with a value or with none
-abbrev pub kept_for : Recalled → List ℕ → Option (Option (List ℕ))
-kept_for r k = option_map bytes_of (get_by (λ key. pointwise nat_eq k key.items) r.found)
+abbrev pub kept_for : Findings → List ℕ → Option (Option (List ℕ))
+kept_for fs k = option_map bytes_of (lookup (λ key. pointwise nat_eq k key.items) fs)
 
 -- what is kept is what stands there
-abbrev pub IsKept : At → Recalled → Type 0
-IsKept at r = (key : Key) → IsKey key.items
-    → IfSome (kept_for r key.items) (λ found. at key.items ≡ found)
+abbrev pub IsKept : At → Findings → Type 0
+IsKept at fs = (key : Key) → IsKey key.items
+    → IfSome (kept_for fs key.items) (λ found. at key.items ≡ found)
 
 -- nothing is kept
-abbrev pub KeepsNone : Recalled → Type 0
-KeepsNone r = (key : Key) → kept_for r key.items ≡ None
+abbrev pub KeepsNone : Findings → Type 0
+KeepsNone fs = (key : Key) → kept_for fs key.items ≡ None
 
 -- what is kept was kept before, or is this value of this key
-abbrev pub KeepsOne : Recalled → List ℕ → Option (List ℕ) → Recalled → Type 0
+abbrev pub KeepsOne : Findings → List ℕ → Option (List ℕ) → Findings → Type 0
 KeepsOne old k value new = (key : Key) → IfSome (kept_for new key.items)
     (λ found. (kept_for old key.items ≡ kept_for new key.items)
     ⊎ ((key.items ≡ k) × (found ≡ value)))
 
 -- what is kept was kept before, for another key
-abbrev pub KeepsOthers : Recalled → List ℕ → Recalled → Type 0
+abbrev pub KeepsOthers : Findings → List ℕ → Findings → Type 0
 KeepsOthers old k new = (key : Key) → IfSome (kept_for new key.items)
     (λ found. (kept_for old key.items ≡ kept_for new key.items)
     × (same_key key.items k ≡ false))
 
 -- what is kept was kept before, and messages leave what stands there
-abbrev pub KeepsSpared : Recalled → List Message → Recalled → Type 0
+abbrev pub KeepsSpared : Findings → List Message → Findings → Type 0
 KeepsSpared old list new = (key : Key) → IfSome (kept_for new key.items)
     (λ found. (kept_for old key.items ≡ kept_for new key.items)
     × ((o : Option (List ℕ)) → acts no_nodes list key.items o ≡ o))

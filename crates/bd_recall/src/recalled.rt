@@ -1,7 +1,7 @@
 //! What was found at keys.
 
 ghost use Rattle.std.specs.Prelude.{◌≡◌, ◌∷◌, [], IfOk, option_map};
-ghost use Rattle.bd_recall.specs.Kept.{bytes_of, kept_for, KeepsNone, KeepsOne, KeepsOthers, KeepsSpared};
+ghost use Rattle.bd_recall.specs.Kept.{bytes_of, findings, kept_for, KeepsNone, KeepsOne, KeepsOthers, KeepsSpared};
 
 use bd_message::Message;
 use std::alloc::{AllocError, Global};
@@ -25,7 +25,7 @@ pub struct Recalled {
 impl Recalled {
     /// Nothing is kept yet.
     pub fn new(alloc: Global) -> Recalled
-        ensures { KeepsNone result }
+        ensures { KeepsNone (findings result) }
     {
         Recalled {
             alloc,
@@ -35,7 +35,7 @@ impl Recalled {
 
     /// What is kept for a key, as the caller's own: a value, or that there is none.
     pub fn find(&self, key: &[u8]) -> Result<Option<Option<Vec<u8>>>, AllocError>
-        ensures { IfOk result (λ found. option_map bytes_of found ≡ kept_for self.now key.now) }
+        ensures { IfOk result (λ found. option_map bytes_of found ≡ kept_for (findings self.now) key.now) }
     {
         match self.found.get(key) {
             None => Ok(None),
@@ -46,7 +46,7 @@ impl Recalled {
 
     /// Keeps what was found at a key.
     pub fn keep(&mut self, key: Vec<u8>, value: &Option<Vec<u8>>)
-        ensures { KeepsOne self.old key.items (bytes_of value.now) self.new }
+        ensures { KeepsOne (findings self.old) key.items (bytes_of value.now) (findings self.new) }
     {
         if self.found.len() >= MAX_KEYS {
             self.clear();
@@ -56,7 +56,7 @@ impl Recalled {
 
     // Keeps it, where it is small and there is memory.
     fn store(&mut self, key: Vec<u8>, value: &Option<Vec<u8>>) -> Result<(), AllocError>
-        ensures { KeepsOne self.old key.items (bytes_of value.now) self.new }
+        ensures { KeepsOne (findings self.old) key.items (bytes_of value.now) (findings self.new) }
     {
         if is_small(value) {
             self.found.insert(key, copied(value)?)?;
@@ -66,7 +66,7 @@ impl Recalled {
 
     /// Keeps nothing any more that these messages may change.
     pub fn forget_changed(&mut self, list: &[Message])
-        ensures { KeepsSpared self.old list.now self.new }
+        ensures { KeepsSpared (findings self.old) list.now (findings self.new) }
     {
         for message in list {
             self.forget_one(message);
@@ -75,7 +75,7 @@ impl Recalled {
 
     // Keeps nothing any more that a message may change.
     fn forget_one(&mut self, message: &Message)
-        ensures { KeepsSpared self.old (message.now ∷ []) self.new }
+        ensures { KeepsSpared (findings self.old) (message.now ∷ []) (findings self.new) }
     {
         match message {
             Message::Put { key, .. } => self.forget(key.as_slice()),
@@ -87,14 +87,14 @@ impl Recalled {
 
     // Keeps nothing for a key any more.
     fn forget(&mut self, key: &[u8])
-        ensures { KeepsOthers self.old key.now self.new }
+        ensures { KeepsOthers (findings self.old) key.now (findings self.new) }
     {
         drop(self.found.remove(key));
     }
 
     /// Keeps nothing any more.
     pub fn clear(&mut self)
-        ensures { KeepsNone self.new }
+        ensures { KeepsNone (findings self.new) }
     {
         self.found = HashMap::new(self.alloc);
     }

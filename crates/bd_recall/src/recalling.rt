@@ -1,6 +1,6 @@
 //! A key map that recalls what was looked up in it.
 
-ghost use Rattle.bd_recall.specs.Kept.{IsKept};
+ghost use Rattle.bd_recall.specs.Kept.{findings, IsKept};
 
 use crate::recalled::Recalled;
 use bd_message::{KeyMap, MapFault, Message};
@@ -16,7 +16,7 @@ pub struct Recalling<M: KeyMap> {
 }
 
 impl<M: KeyMap> KeyMap for Recalling<M> {
-    ghost is_known = { λ r. M.is_known r.map × IsKept (M.has r.map) r.recalled };
+    ghost is_known = { λ r. M.is_known r.map × IsKept (M.has r.map) (findings r.recalled) };
 
     ghost has = { λ r. M.has r.map };
 

@@ -46,7 +46,7 @@ module _ {D : Type 0} (g : Ghosts D) where
   -- ---- nodes that were written early
 
   -- what it stands for stays
-  pub keeps_early : (a b : Volume D) → stop_of a ≡ None → WritesEarly g a.engine b.engine → (IsSoundOn g a.engine.pager → IsSoundOn g b.engine.pager) → (IsSoundOn g a.engine.pager → SameAt (keys_of g a.engine.pager) (keys_of g b.engine.pager)) → count_of b ≡ count_of a
+  pub keeps_early : (a b : Volume D) → stop_of a ≡ None → WritesEarly g a.engine b.engine → (IsSoundOn g a.engine → IsSoundOn g b.engine) → (IsSoundOn g a.engine → SameAt (keys_of g a.engine.pager) (keys_of g b.engine.pager)) → count_of b ≡ count_of a
       → KeepsStanding g a b
   keeps_early a b going h sound same count = λ t n s. record {
     stands = stands_same g a b t n s (sound s.nodes) (same s.nodes) count (λ on. safe_before g a.engine b.engine t n (ap (λ (e : EngineState D). e.live) h.rest) (ap (λ (e : EngineState D). e.log) h.rest) h.kept (s.safe going));

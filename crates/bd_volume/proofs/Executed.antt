@@ -74,13 +74,13 @@ refused_tree t c refusal e = ap (λ (o : Option Refusal). (stepped t c o).0) e
 
 module _ {D : Type 0} (g : Ghosts D) where
   -- at a fault, after steps alone, what stands at the keys of sound nodes stays
-  pub keys_stay : {T : Type 0} (r : Result T Fault) (a b : Volume D) (c : Command) → (IsSoundOn g a.engine.pager → OnErr r (HasStepped c (view_of g a) (view_of g b)))
-      → OnErr r (IsSoundOn g a.engine.pager → SameAt (keys_of g a.engine.pager) (keys_of g b.engine.pager))
+  pub keys_stay : {T : Type 0} (r : Result T Fault) (a b : Volume D) (c : Command) → (IsSoundOn g a.engine → OnErr r (HasStepped c (view_of g a) (view_of g b)))
+      → OnErr r (IsSoundOn g a.engine → SameAt (keys_of g a.engine.pager) (keys_of g b.engine.pager))
   keys_stay (Ok x) a b c h = tt
   keys_stay (Err e) a b c h = λ s. stepped_stand c (view_of g a) (view_of g b) (h s)
 
   -- where the map takes the step, and the count rises with it, the volume stands for the tree after
-  pub stands_after : (a d : Volume D) (c : Command) (reply : Reply) (t : Tree) (n : ℕ) → IsCommand c → StandsFor g a t n → IsSoundOn g d.engine.pager → TakesStep t c (keys_of g d.engine.pager) reply → count_of d ≡ count_of a + accepted c reply
+  pub stands_after : (a d : Volume D) (c : Command) (reply : Reply) (t : Tree) (n : ℕ) → IsCommand c → StandsFor g a t n → IsSoundOn g d.engine → TakesStep t c (keys_of g d.engine.pager) reply → count_of d ≡ count_of a + accepted c reply
       → (d.engine.stop ≡ None → IsSafeOn g d.engine (step t c).0 (n + accepted c reply)) → StandsFor g d (step t c).0 (n + accepted c reply)
   stands_after a d c reply t n limits s sound takes counts safe = record {
     nodes = sound;
@@ -123,7 +123,7 @@ module _ {D : Type 0} (g : Ghosts D) where
   reads_stand (Ok reply) a b c reads keeps = λ t n s. read_stands b c reply t n reads (keeps t n s).stands
   reads_stand (Err e) a b c reads keeps = tt
 
-  pub takes_stand : (r : Result Reply Fault) (a b d : Volume D) (c : Command) → IsCommand c → ((t : Tree) (n : ℕ) → StandsFor g a t n → IfOk r (TakesStep t c (keys_of g d.engine.pager))) → (IsSoundOn g a.engine.pager → IsSoundOn g d.engine.pager)
+  pub takes_stand : (r : Result Reply Fault) (a b d : Volume D) (c : Command) → IsCommand c → ((t : Tree) (n : ℕ) → StandsFor g a t n → IfOk r (TakesStep t c (keys_of g d.engine.pager))) → (IsSoundOn g a.engine → IsSoundOn g d.engine)
       → ((t : Tree) (n : ℕ) → StandsFor g a t n → IfOk r (TakesSafely g c b d t n)) → IfOk r (λ reply. count_of d ≡ count_of a + accepted c reply)
       → IfOk r (λ reply. (t : Tree) (n : ℕ) → StandsFor g a t n → StandsFor g d (step t c).0 (n + accepted c reply))
   takes_stand (Ok reply) a b d c limits takes sound safely counts = λ t n s. stands_after a d c reply t n limits s (sound s.nodes) (takes t n s) counts (safely t n s).safe

@@ -1,5 +1,5 @@
 -- What a volume stands for, over its calls.
-use Rattle.std.proofs.Common.{◌≡◌, ℕ, [], ◌∷◌, ◌++◌, None, Some, sym, subst, ap, ◌∙◌, inl, inr}
+use Rattle.std.proofs.Common.{◌≡◌, ℕ, [], ◌∷◌, ◌++◌, None, Some, refl, sym, subst, ap, ◌∙◌, inl, inr}
 use Rattle.std.specs.Prelude.{◌⊎◌}
 use Rattle.bd_command.specs.Log.{log_record}
 use Rattle.bd_command.specs.declared.Command.{Command}
@@ -16,9 +16,9 @@ use Rattle.bd_checkpoint.proofs.Handed.{IsSince}
 use Rattle.bd_pager.specs.Pagers.{nodes_of, table_of, is_known}
 use Rattle.bd_engine.specs.Engines.{EngineState, keys_of, IsSoundOn, IsReadOn, OnlyNodesOn, IsStopped, IsGoingOn, IsBegunAnew}
 use Rattle.bd_volume.specs.declared.volume.Volume.{Volume}
-use Rattle.bd_volume.specs.Volume.{StandsFor, IsSafeOn, count_of, device_of, stop_of}
+use Rattle.bd_volume.specs.Volume.{StandsFor, IsSafeOn, KeepsKeys, count_of, device_of, stop_of}
 use Rattle.bd_volume.specs.Steps.{StillStands, KeepsStanding, HasLogged}
-use Rattle.bd_volume.proofs.Read.{read_sound, read_same, stands_same}
+use Rattle.bd_volume.proofs.Read.{read_same, stands_same}
 use Rattle.bd_volume.proofs.Safe.{read_before, safe_before, safe_now, safe_logged, no_time, reads_by, goes_by_then}
 
 module _ {D : Type 0} (g : Ghosts D) where
@@ -31,6 +31,14 @@ module _ {D : Type 0} (g : Ghosts D) where
       let next : StillStands g b d t n = q t n first.stands in
       record { stands = next.stands; time = goes_by_then g a b d t n earlier first.time next.time }
 
+  -- ---- keys
+
+  pub keys_none : (a : Volume D) → KeepsKeys g a a
+  keys_none a = record { sound = λ s. s; same = λ s k. refl }
+
+  pub keys_then : (a b d : Volume D) → KeepsKeys g a b → KeepsKeys g b d → KeepsKeys g a d
+  keys_then a b d p q = record { sound = λ s. q.sound (p.sound s); same = λ s k. q.same (p.sound s) k ∙ p.same s k }
+
   -- ---- calls that write nothing
 
   -- what was safe is so
@@ -39,7 +47,7 @@ module _ {D : Type 0} (g : Ghosts D) where
   safe_same a b t n earlier reads live log stop s on = safe_before g a b t n live log (read_before g a.pager.dev b.pager.dev earlier reads) (s (sym stop ∙ on))
 
   pub keeps_over : (a b : Volume D) → IsSince g (device_of b) → OnlyReads g (device_of a) (device_of b) → b.engine.live ≡ a.engine.live → b.engine.log ≡ a.engine.log → stop_of b ≡ stop_of a
-      → (IsSoundOn g a.engine.pager → IsSoundOn g b.engine.pager) → (IsSoundOn g a.engine.pager → SameAt (keys_of g a.engine.pager) (keys_of g b.engine.pager)) → count_of b ≡ count_of a → KeepsStanding g a b
+      → (IsSoundOn g a.engine → IsSoundOn g b.engine) → (IsSoundOn g a.engine → SameAt (keys_of g a.engine.pager) (keys_of g b.engine.pager)) → count_of b ≡ count_of a → KeepsStanding g a b
   keeps_over a b earlier reads live log stop sound same count = λ t n s. record {
     stands = stands_same g a b t n s (sound s.nodes) (same s.nodes) count (safe_same a.engine b.engine t n earlier reads live log stop s.safe);
     time = reads_by g a b t n reads;
@@ -48,10 +56,10 @@ module _ {D : Type 0} (g : Ghosts D) where
   pub keeps_read : (a b : Volume D) → IsSince g (device_of b) → IsReadOn g a.engine b.engine → count_of b ≡ count_of a → KeepsStanding g a b
   keeps_read a b earlier r count =
       keeps_over a b earlier r.read.device (ap (λ (e : EngineState D). e.live) r.rest) (ap (λ (e : EngineState D). e.log) r.rest) (ap (λ (e : EngineState D). e.stop) r.rest)
-      (read_sound g a.engine b.engine r) (λ s. read_same g a.engine b.engine r) count
+      r.sound (λ s. read_same g a.engine b.engine r) count
 
-  pub keeps_nodes : (a b : Volume D) → IsSince g (device_of b) → OnlyNodesOn g a.engine b.engine → (IsSoundOn g a.engine.pager → IsSoundOn g b.engine.pager)
-      → (IsSoundOn g a.engine.pager → SameAt (keys_of g a.engine.pager) (keys_of g b.engine.pager)) → count_of b ≡ count_of a → KeepsStanding g a b
+  pub keeps_nodes : (a b : Volume D) → IsSince g (device_of b) → OnlyNodesOn g a.engine b.engine → (IsSoundOn g a.engine → IsSoundOn g b.engine)
+      → (IsSoundOn g a.engine → SameAt (keys_of g a.engine.pager) (keys_of g b.engine.pager)) → count_of b ≡ count_of a → KeepsStanding g a b
   keeps_nodes a b earlier r sound same count =
       keeps_over a b earlier r.keeps.device (ap (λ (e : EngineState D). e.live) r.rest) (ap (λ (e : EngineState D). e.log) r.rest) (ap (λ (e : EngineState D). e.stop) r.rest) sound same count
 
@@ -72,7 +80,7 @@ module _ {D : Type 0} (g : Ghosts D) where
   save_kept a b t n kept s = subst (λ (k : ℕ). AllStandFor t k (left_now g (device_of b))) s.count_is (kept t s.nodes.known (of_tree a t n s))
 
   -- one was made
-  pub keeps_saved : (a b : Volume D) → (IsSoundOn g a.engine.pager → IsSoundOn g b.engine.pager) → (IsSoundOn g a.engine.pager → SameAt (keys_of g a.engine.pager) (keys_of g b.engine.pager)) → count_of b ≡ count_of a
+  pub keeps_saved : (a b : Volume D) → (IsSoundOn g a.engine → IsSoundOn g b.engine) → (IsSoundOn g a.engine → SameAt (keys_of g a.engine.pager) (keys_of g b.engine.pager)) → count_of b ≡ count_of a
       → ((tree : Tree) → is_known g a.engine.pager → AreOfTree (nodes_of g a.engine.pager) (table_of a.engine.pager) tree → Goes g (device_of a) (device_of b) (IsOldOrNew (left_now g (device_of a)) tree a.count))
       → ((tree : Tree) → is_known g a.engine.pager → AreOfTree (nodes_of g a.engine.pager) (table_of a.engine.pager) tree → AllStandFor tree a.count (left_now g (device_of b)))
       → IsBegunAnew b.engine → KeepsStanding g a b
@@ -87,7 +95,7 @@ module _ {D : Type 0} (g : Ghosts D) where
       absurd bad
 
   -- none was made
-  pub keeps_unsaved : (a b : Volume D) (fault : MapFault) → stop_of a ≡ None → (IsSoundOn g a.engine.pager → IsSoundOn g b.engine.pager) → (IsSoundOn g a.engine.pager → SameAt (keys_of g a.engine.pager) (keys_of g b.engine.pager)) → count_of b ≡ count_of a
+  pub keeps_unsaved : (a b : Volume D) (fault : MapFault) → stop_of a ≡ None → (IsSoundOn g a.engine → IsSoundOn g b.engine) → (IsSoundOn g a.engine → SameAt (keys_of g a.engine.pager) (keys_of g b.engine.pager)) → count_of b ≡ count_of a
       → ((tree : Tree) → is_known g a.engine.pager → AreOfTree (nodes_of g a.engine.pager) (table_of a.engine.pager) tree → Goes g (device_of a) (device_of b) (IsOldOrNew (left_now g (device_of a)) tree a.count))
       → (IsStopped g a.engine b.engine × (fault ≡ map.DeviceFault)) ⊎ IsGoingOn g a.engine b.engine → b.engine.live ≡ a.engine.live → b.engine.log ≡ a.engine.log → KeepsStanding g a b
   keeps_unsaved a b fault going sound same count time stop live log = λ t n s. record {

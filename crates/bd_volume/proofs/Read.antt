@@ -8,6 +8,7 @@ use Rattle.bd_device.specs.Blocks.{Image}
 use Rattle.bd_device.specs.declared.device.Device.{Ghosts}
 use Rattle.bd_node.specs.Tables.{Table, IsSound, root_at}
 use Rattle.bd_step.specs.Steps.{IsWornToFlush}
+use Rattle.bd_log.specs.Logs.{LogState}
 use Rattle.bd_pager.specs.Calling.{read_table}
 use Rattle.bd_pager.specs.Places.{Spots, nodes_at}
 use Rattle.bd_pager.specs.Pagers.{Paged, spots_of, table_of, IsKnownOver, IsReadOf}
@@ -19,12 +20,6 @@ use Rattle.bd_volume.specs.Volume.{StandsFor, IsSafeOn, count_of}
 module _ {D : Type 0} (g : Ghosts D) where
   -- ---- reads
 
-  pub read_sound : (a b : EngineState D) → IsReadOn g a b → IsSoundOn g a.pager → IsSoundOn g b.pager
-  read_sound a b r s = record {
-    known = r.known s.known;
-    sound = subst (λ (v : View). IsSound v.tree.nodes v.tree.table) (sym r.view) s.sound;
-  }
-
   pub read_same : (a b : EngineState D) → IsReadOn g a b → SameAt (keys_of g a.pager) (keys_of g b.pager)
   read_same a b r k = ap (λ (v : View). root_at v.tree.nodes v.tree.table k) r.view
 
@@ -35,9 +30,13 @@ module _ {D : Type 0} (g : Ghosts D) where
       subst (λ (t : Table). Is (g.contents q.dev) (spots_of q) t) (sym (read_table g p q r))
       (subst (λ (s : Spots). Is (g.contents q.dev) s (table_of p)) (sym r.spots) (subst (λ (o : Option Image). Is o (spots_of p) (table_of p)) (sym r.device.kept) h))
 
+  -- a record that waits in the log leaves sound nodes
+  pub logged_sound : (a b : EngineState D) (log : LogState) → b ≡ record a { log = log } → IsSoundOn g a → IsSoundOn g b
+  logged_sound a b log is s = subst (λ (e : EngineState D). IsSoundOn g e) (sym is) (record { known = s.known; sound = s.sound; kept = s.kept })
+
   -- ---- what a volume stands for
 
-  pub stands_same : (a b : Volume D) (t : Tree) (n : ℕ) → StandsFor g a t n → IsSoundOn g b.engine.pager → SameAt (keys_of g a.engine.pager) (keys_of g b.engine.pager) → count_of b ≡ count_of a → (b.engine.stop ≡ None → IsSafeOn g b.engine t n) → StandsFor g b t n
+  pub stands_same : (a b : Volume D) (t : Tree) (n : ℕ) → StandsFor g a t n → IsSoundOn g b.engine → SameAt (keys_of g a.engine.pager) (keys_of g b.engine.pager) → count_of b ≡ count_of a → (b.engine.stop ≡ None → IsSafeOn g b.engine t n) → StandsFor g b t n
   stands_same a b t n s sound same count safe = record {
     nodes = sound;
     is_tree = s.is_tree;

@@ -39,7 +39,7 @@ use Rattle.bd_view.specs.Trees.{HasSent, TreeView, waiting_limit}
 use Rattle.bd_view.specs.Views.{View, keys_of as view_keys}
 use Rattle.bd_view.specs.Moves.{OnlyNodes, FlushesAgain, AreFlushedAgain, IsReplayed, AreReplayed}
 use Rattle.bd_view.specs.Moves.AreFlushedAgain.{none, more}
-use Rattle.bd_engine.specs.Engines.{EngineState, keys_of, IsSoundOn, IsReadOn, OnlyNodesOn, IsWornIn, view_of as view_in}
+use Rattle.bd_engine.specs.Engines.{EngineState, keys_of, IsSoundOn, IsReadOn, IsWornIn, view_of as view_in}
 use Rattle.bd_volume.specs.declared.fault.Fault.{Fault}
 use Rattle.bd_volume.specs.declared.fault.Fault.TheVariants.{Device, Damaged, Worn, NoMemory, Full, Stopped}
 use Rattle.bd_volume.specs.declared.volume.Volume.{Volume}
@@ -49,7 +49,7 @@ use Rattle.bd_volume.specs.Wears.{IsWornInReplay}
 use Rattle.bd_volume.specs.Replays.{IsReplayCause, HasReplayCause, HasTreeOn, SendsAgain, ReplaysOn, IsWornAgain, WearsAgain, HasFlushedAgain, IsFlushFault, IsAgainFault, IsSendFault, IsReplayFault, commands_of, HasReplayed, ReplaysFront}
 use Rattle.bd_volume.proofs.Early.{GoesEarly, goes_none, goes_both}
 use Rattle.bd_volume.proofs.Faulted.{worn_in_step, worn_kind, worn_graft_again}
-use Rattle.bd_volume.proofs.Read.{read_sound, read_same}
+use Rattle.bd_volume.proofs.Read.{read_same}
 
 -- ---- flush steps
 
@@ -164,8 +164,8 @@ module _ {D : Type 0} (g : Ghosts D) where
   worn_in_again a Flushes c known waits h = worn_in_step g a Flushes c known waits h
 
   -- of a flush step
-  pub flush_again_fails : (m n : ℕ) (a b : Volume D) (c : Command) (fault : MapFault) → waiting_limit c < (table_of a.engine.pager).size → (IsSoundOn g a.engine.pager → IsSoundOn g b.engine.pager)
-      → (IsSoundOn g b.engine.pager → (block : ℕ) → ¬ is_bad g b.engine.pager block) → IsCause m n (is_bad g b.engine.pager) (IsWornIn g a.engine.pager) fault → IsFlushFault g (fault_of fault) c a
+  pub flush_again_fails : (m n : ℕ) (a b : Volume D) (c : Command) (fault : MapFault) → waiting_limit c < (table_of a.engine.pager).size → (IsSoundOn g a.engine → IsSoundOn g b.engine)
+      → (IsSoundOn g b.engine → (block : ℕ) → ¬ is_bad g b.engine.pager block) → IsCause m n (is_bad g b.engine.pager) (IsWornIn g a.engine.pager) fault → IsFlushFault g (fault_of fault) c a
   flush_again_fails m n a b c map.DeviceFault waits sound good h = tt
   flush_again_fails m n a b c (map.Damaged block) waits sound good h = λ s. good (sound s) block h
   flush_again_fails m n a b c (map.Worn which) waits sound good h = λ s. worn_in_again a which c s.known waits h
@@ -176,7 +176,7 @@ module _ {D : Type 0} (g : Ghosts D) where
   device_flush_fails fault c a is = subst (λ (f : Fault). IsFlushFault g f c a) (sym is) tt
 
   -- after nodes were written early
-  pub early_flush_fails : (fault : Fault) (c : Command) (a b : Volume D) → (IsSoundOn g a.engine.pager → IsSoundOn g b.engine.pager) → (IsSoundOn g a.engine.pager → view_of g b ≡ view_of g a) → IsFlushFault g fault c b → IsFlushFault g fault c a
+  pub early_flush_fails : (fault : Fault) (c : Command) (a b : Volume D) → (IsSoundOn g a.engine → IsSoundOn g b.engine) → (IsSoundOn g a.engine → view_of g b ≡ view_of g a) → IsFlushFault g fault c b → IsFlushFault g fault c a
   early_flush_fails Device c a b sound same h = tt
   early_flush_fails (Damaged block) c a b sound same h = λ s. h (sound s)
   early_flush_fails (Worn which) c a b sound same h = λ s. subst (λ (v : View). IsWornAgain which c v.tree) (same s) (h (sound s))
@@ -185,7 +185,7 @@ module _ {D : Type 0} (g : Ghosts D) where
   early_flush_fails (Stopped call) c a b sound same h = h
 
   -- after other flush steps
-  pub flushes_fail : (fault : Fault) (c : Command) (a b : Volume D) (made : ℕ) → (IsSoundOn g a.engine.pager → IsSoundOn g b.engine.pager) → (IsSoundOn g a.engine.pager → AreFlushedAgain c made (view_of g a) (view_of g b)) → made ≤ flush_limit
+  pub flushes_fail : (fault : Fault) (c : Command) (a b : Volume D) (made : ℕ) → (IsSoundOn g a.engine → IsSoundOn g b.engine) → (IsSoundOn g a.engine → AreFlushedAgain c made (view_of g a) (view_of g b)) → made ≤ flush_limit
       → IsFlushFault g fault c b → IsAgainFault g fault c a
   flushes_fail Device c a b made sound flushed few h = tt
   flushes_fail (Damaged block) c a b made sound flushed few h = λ s. h (sound s)
@@ -204,9 +204,9 @@ module _ {D : Type 0} (g : Ghosts D) where
 
   -- so many were made
   pub record FlushedOn (c : Command) (made : ℕ) (a b : Volume D) : Type 0 where
-    pub sound : IsSoundOn g a.engine.pager → IsSoundOn g b.engine.pager
-    pub same : IsSoundOn g a.engine.pager → SameAt (keys_of g a.engine.pager) (keys_of g b.engine.pager)
-    pub flushed : IsSoundOn g a.engine.pager → AreFlushedAgain c made (view_of g a) (view_of g b)
+    pub sound : IsSoundOn g a.engine → IsSoundOn g b.engine
+    pub same : IsSoundOn g a.engine → SameAt (keys_of g a.engine.pager) (keys_of g b.engine.pager)
+    pub flushed : IsSoundOn g a.engine → AreFlushedAgain c made (view_of g a) (view_of g b)
     pub goes : GoesEarly g a b
     pub faults : HasNotFailed g a b
     pub count_is : count_of b ≡ count_of a
@@ -214,8 +214,8 @@ module _ {D : Type 0} (g : Ghosts D) where
   pub flushed_none : (c : Command) (a : Volume D) → stop_of a ≡ None → FlushedOn c 0 a a
   flushed_none c a going = record { sound = λ s. s; same = λ s k. refl; flushed = λ s. none (view_of g a); goes = goes_none g a going; faults = refl; count_is = refl }
 
-  pub flushed_more : (c : Command) (made : ℕ) (a b d : Volume D) → FlushedOn c made a b → (IsSoundOn g b.engine.pager → IsSoundOn g d.engine.pager) → (IsSoundOn g b.engine.pager → SameAt (keys_of g b.engine.pager) (keys_of g d.engine.pager))
-      → (IsSoundOn g b.engine.pager → FlushesAgain c (view_of g b) (view_of g d)) → GoesEarly g b d → HasNotFailed g b d → count_of d ≡ count_of b → FlushedOn c (made + 1) a d
+  pub flushed_more : (c : Command) (made : ℕ) (a b d : Volume D) → FlushedOn c made a b → (IsSoundOn g b.engine → IsSoundOn g d.engine) → (IsSoundOn g b.engine → SameAt (keys_of g b.engine.pager) (keys_of g d.engine.pager))
+      → (IsSoundOn g b.engine → FlushesAgain c (view_of g b) (view_of g d)) → GoesEarly g b d → HasNotFailed g b d → count_of d ≡ count_of b → FlushedOn c (made + 1) a d
   flushed_more c made a b d h sound same step goes faults count = record {
     sound = λ s. sound (h.sound s);
     same = λ s k. same (h.sound s) k ∙ h.same s k;
@@ -226,8 +226,8 @@ module _ {D : Type 0} (g : Ghosts D) where
   }
 
   -- no more was
-  pub flushed_last : (c : Command) (made : ℕ) (a b d : Volume D) → FlushedOn c made a b → (IsSoundOn g b.engine.pager → IsSoundOn g d.engine.pager) → (IsSoundOn g b.engine.pager → SameAt (keys_of g b.engine.pager) (keys_of g d.engine.pager))
-      → (IsSoundOn g b.engine.pager → view_of g d ≡ view_of g b) → GoesEarly g b d → HasNotFailed g b d → count_of d ≡ count_of b → FlushedOn c made a d
+  pub flushed_last : (c : Command) (made : ℕ) (a b d : Volume D) → FlushedOn c made a b → (IsSoundOn g b.engine → IsSoundOn g d.engine) → (IsSoundOn g b.engine → SameAt (keys_of g b.engine.pager) (keys_of g d.engine.pager))
+      → (IsSoundOn g b.engine → view_of g d ≡ view_of g b) → GoesEarly g b d → HasNotFailed g b d → count_of d ≡ count_of b → FlushedOn c made a d
   flushed_last c made a b d h sound same view goes faults count = record {
     sound = λ s. sound (h.sound s);
     same = λ s k. same (h.sound s) k ∙ h.same s k;
@@ -237,13 +237,13 @@ module _ {D : Type 0} (g : Ghosts D) where
     count_is = count ∙ h.count_is;
   }
 
-  pub has_flushed : (c : Command) (made : ℕ) (a b : Volume D) → FlushedOn c made a b → made ≤ flush_limit → IsSoundOn g a.engine.pager → HasFlushedAgain c (view_of g a) (view_of g b)
+  pub has_flushed : (c : Command) (made : ℕ) (a b : Volume D) → FlushedOn c made a b → made ≤ flush_limit → IsSoundOn g a.engine → HasFlushedAgain c (view_of g a) (view_of g b)
   has_flushed c made a b h few = λ s. record { made = made; flushed = h.flushed s; few = few }
 
   -- ---- faults of what it sends
 
   -- of its messages
-  pub append_fails : (m n : ℕ) (a d : Volume D) (c : Command) (fault : MapFault) → (IsSoundOn g a.engine.pager → IsSoundOn g d.engine.pager) → (IsSoundOn g d.engine.pager → (block : ℕ) → ¬ is_bad g d.engine.pager block)
+  pub append_fails : (m n : ℕ) (a d : Volume D) (c : Command) (fault : MapFault) → (IsSoundOn g a.engine → IsSoundOn g d.engine) → (IsSoundOn g d.engine → (block : ℕ) → ¬ is_bad g d.engine.pager block)
       → IsCause m n (is_bad g d.engine.pager) NeverWorn fault → IsAgainFault g (fault_of fault) c a
   append_fails m n a d c map.DeviceFault sound good h = tt
   append_fails m n a d c (map.Damaged block) sound good h = λ s. good (sound s) block h
@@ -251,9 +251,9 @@ module _ {D : Type 0} (g : Ghosts D) where
   append_fails m n a d c map.NoMemory sound good h = tt
 
   -- of its graft
-  pub graft_fails : (m n : ℕ) (worn : Counter → Type 0) (a b d : Volume D) (c : Command) (s1 d1 : List ℕ) (keep : Bool) (fault : MapFault) → IsPlanKind c (Graft s1 d1 keep) → (IsSoundOn g a.engine.pager → IsSoundOn g b.engine.pager) → (IsSoundOn g b.engine.pager → IsSoundOn g d.engine.pager)
-      → (IsSoundOn g d.engine.pager → (block : ℕ) → ¬ is_bad g d.engine.pager block) → (IsSoundOn g a.engine.pager → HasFlushedAgain c (view_of g a) (view_of g b)) → (table_of b.engine.pager).size ≤ waiting_limit c
-      → IsCause m n (is_bad g d.engine.pager) worn fault → (IsSoundOn g b.engine.pager → OnWorn (IsWornByGraft (nodes_of g b.engine.pager) (table_of b.engine.pager) s1 d1 keep) fault) → IsAgainFault g (fault_of fault) c a
+  pub graft_fails : (m n : ℕ) (worn : Counter → Type 0) (a b d : Volume D) (c : Command) (s1 d1 : List ℕ) (keep : Bool) (fault : MapFault) → IsPlanKind c (Graft s1 d1 keep) → (IsSoundOn g a.engine → IsSoundOn g b.engine) → (IsSoundOn g b.engine → IsSoundOn g d.engine)
+      → (IsSoundOn g d.engine → (block : ℕ) → ¬ is_bad g d.engine.pager block) → (IsSoundOn g a.engine → HasFlushedAgain c (view_of g a) (view_of g b)) → (table_of b.engine.pager).size ≤ waiting_limit c
+      → IsCause m n (is_bad g d.engine.pager) worn fault → (IsSoundOn g b.engine → OnWorn (IsWornByGraft (nodes_of g b.engine.pager) (table_of b.engine.pager) s1 d1 keep) fault) → IsAgainFault g (fault_of fault) c a
   graft_fails m n worn a b d c s1 d1 keep map.DeviceFault kind sound last good flushed enough h by = tt
   graft_fails m n worn a b d c s1 d1 keep (map.Damaged block) kind sound last good flushed enough h by = λ s. good (last (sound s)) block h
   graft_fails m n worn a b d c s1 d1 keep (map.Worn which) kind sound last good flushed enough h by = λ s.
@@ -282,19 +282,19 @@ module _ {D : Type 0} (g : Ghosts D) where
   replay_fails Device p plan a b read count planned h = tt
   replay_fails (Damaged block) p plan a b read count planned h = elim h [
     | inl refused ↦ inl (refused.0, λ t has. not_accepted (keys_of g a.engine.pager) t p.command plan refused.1 (planned t has))
-    | inr bad ↦ inr (λ s. bad (read_sound g a.engine b.engine read s))
+    | inr bad ↦ inr (λ s. bad (read.sound s))
   ]
   replay_fails (Worn which) p plan a b read count planned h = λ s.
       subst (λ (v : View). WearsAgain which (count_of a) p.command v) read.view
-      (subst (λ (n : ℕ). WearsAgain which n p.command (view_of g b)) count (h (read_sound g a.engine b.engine read s)))
+      (subst (λ (n : ℕ). WearsAgain which n p.command (view_of g b)) count (h (read.sound s)))
   replay_fails NoMemory p plan a b read count planned h = tt
   replay_fails (Full free need) p plan a b read count planned h = h
   replay_fails (Stopped call) p plan a b read count planned h = h
 
   -- of planning it
-  pub plan_fails : (m n : ℕ) (a b : Volume D) (p : PlacedCommand) (fault : MapFault) → IsReadOn g a.engine b.engine → (IsSoundOn g b.engine.pager → (block : ℕ) → ¬ is_bad g b.engine.pager block) → IsCause m n (is_bad g b.engine.pager) NeverWorn fault → IsReplayFault g (fault_of fault) p a
+  pub plan_fails : (m n : ℕ) (a b : Volume D) (p : PlacedCommand) (fault : MapFault) → IsReadOn g a.engine b.engine → (IsSoundOn g b.engine → (block : ℕ) → ¬ is_bad g b.engine.pager block) → IsCause m n (is_bad g b.engine.pager) NeverWorn fault → IsReplayFault g (fault_of fault) p a
   plan_fails m n a b p map.DeviceFault read good h = tt
-  plan_fails m n a b p (map.Damaged block) read good h = inr (λ s. good (read_sound g a.engine b.engine read s) block h)
+  plan_fails m n a b p (map.Damaged block) read good h = inr (λ s. good (read.sound s) block h)
   plan_fails m n a b p (map.Worn which) read good h = absurd h
   plan_fails m n a b p map.NoMemory read good h = tt
 
@@ -305,7 +305,7 @@ module _ {D : Type 0} (g : Ghosts D) where
 
   pub read_has : (a b : Volume D) (t : Tree) → IsReadOn g a.engine b.engine → HasTreeOn g a t → HasTreeOn g b t
   read_has a b t read h = record {
-    nodes = read_sound g a.engine b.engine read h.nodes;
+    nodes = read.sound h.nodes;
     is_tree = h.is_tree;
     represents = Represents-along (keys_of g a.engine.pager) (keys_of g b.engine.pager) t (λ k key. read_same g a.engine b.engine read k) h.represents;
   }
@@ -314,7 +314,7 @@ module _ {D : Type 0} (g : Ghosts D) where
   sends_again c what a b d h enough sent rest = record { made = h.made; mid = b; flushed = h.flushed; few = h.few; enough = enough; sent = sent; rest = rest }
 
   pub has_replayed : (a d : Volume D) (t : Tree) (c : Command) (what : Sending) (plan : Plan) (reply : Reply) → IsCommand c → IsTrue (accepts plan) → IsPlan (keys_of g a.engine.pager) t c plan → sending (keys_of g a.engine.pager) t c ≡ what
-      → HasTreeOn g a t → IsSoundOn g d.engine.pager → TakesStep t c (keys_of g d.engine.pager) reply → SendsAgain c what (view_of g a) (view_of g d) → ReplaysOn g t c a d
+      → HasTreeOn g a t → IsSoundOn g d.engine → TakesStep t c (keys_of g d.engine.pager) reply → SendsAgain c what (view_of g a) (view_of g d) → ReplaysOn g t c a d
   has_replayed a d t c what plan reply limits does h is has sound takes sends = record {
     accepts = done_accepted (keys_of g a.engine.pager) t c plan does h;
     has = record { nodes = sound; is_tree = after_stays t c has.is_tree limits; represents = takes.represents };
@@ -326,7 +326,7 @@ module _ {D : Type 0} (g : Ghosts D) where
   replays_read a b d e t c read same h = record {
     accepts = h.accepts;
     has = record {
-      nodes = subst (λ (x : EngineState D). IsSoundOn g x.pager) (sym same) h.has.nodes;
+      nodes = subst (λ (x : EngineState D). IsSoundOn g x) (sym same) h.has.nodes;
       is_tree = h.has.is_tree;
       represents = subst (λ (x : EngineState D). Represents (keys_of g x.pager) (after t c)) (sym same) h.has.represents;
     };
@@ -334,7 +334,7 @@ module _ {D : Type 0} (g : Ghosts D) where
   }
 
   -- by results
-  pub replays_messages : {T : Type 0} (r : Result T Fault) (a d : Volume D) (t : Tree) (c : Command) (plan : Plan) (list sent : List Message) → IsLogged c → plan ≡ Apply list → sent ≡ list → IsPlan (keys_of g a.engine.pager) t c plan → HasTreeOn g a t → IsSoundOn g d.engine.pager
+  pub replays_messages : {T : Type 0} (r : Result T Fault) (a d : Volume D) (t : Tree) (c : Command) (plan : Plan) (list sent : List Message) → IsLogged c → plan ≡ Apply list → sent ≡ list → IsPlan (keys_of g a.engine.pager) t c plan → HasTreeOn g a t → IsSoundOn g d.engine
       → OnOk r (SendsAgain c (Batch sent) (view_of g a) (view_of g d)) → OnOk r (IsApplied (keys_of g a.engine.pager) sent (keys_of g d.engine.pager)) → OnOk r (ReplaysOn g t c a d)
   replays_messages (Err e) a d t c plan list sent logged is same h has sound sends applied = tt
   replays_messages (Ok x) a d t c plan list sent logged is same h has sound sends applied =
@@ -344,7 +344,7 @@ module _ {D : Type 0} (g : Ghosts D) where
       has_replayed a d t c (Batch sent) plan reply.Done logged.1 (ap accepts is) h (p.2 ∙ ap Batch (sym same)) has sound
       (applied_plan old new t c plan list logged.0 is h (subst (λ (xs : List Message). IsApplied old xs new) same applied)) sends
 
-  pub replays_graft : {T : Type 0} (r : Result T Fault) (a d : Volume D) (t : Tree) (c : Command) (plan : Plan) (s1 d1 s2 d2 : List ℕ) (keep : Bool) → IsLogged c → plan ≡ Graft s1 d1 keep → s2 ≡ s1 → d2 ≡ d1 → IsPlan (keys_of g a.engine.pager) t c plan → HasTreeOn g a t → IsSoundOn g d.engine.pager
+  pub replays_graft : {T : Type 0} (r : Result T Fault) (a d : Volume D) (t : Tree) (c : Command) (plan : Plan) (s1 d1 s2 d2 : List ℕ) (keep : Bool) → IsLogged c → plan ≡ Graft s1 d1 keep → s2 ≡ s1 → d2 ≡ d1 → IsPlan (keys_of g a.engine.pager) t c plan → HasTreeOn g a t → IsSoundOn g d.engine
       → OnOk r (SendsAgain c (Move s2 d2 keep) (view_of g a) (view_of g d)) → OnOk r (IsGrafted (keys_of g a.engine.pager) s2 d2 keep (keys_of g d.engine.pager)) → OnOk r (ReplaysOn g t c a d)
   replays_graft (Err e) a d t c plan s1 d1 s2 d2 keep logged is es ed h has sound sends grafted = tt
   replays_graft (Ok x) a d t c plan s1 d1 s2 d2 keep logged is es ed h has sound sends grafted =
@@ -368,7 +368,7 @@ module _ {D : Type 0} (g : Ghosts D) where
   pub front_same : (list rest others : List PlacedCommand) (a b : Volume D) → rest ≡ others → ReplaysFront g list rest a b → ReplaysFront g list others a b
   front_same list rest others a b same h = subst (λ (l : List PlacedCommand). ReplaysFront g list l a b) same h
 
-  pub front_more : (list rest : List PlacedCommand) (p : PlacedCommand) (a b d : Volume D) → ReplaysFront g list (p ∷ rest) a b → (IsSoundOn g b.engine.pager → IsSoundOn g d.engine.pager)
+  pub front_more : (list rest : List PlacedCommand) (p : PlacedCommand) (a b d : Volume D) → ReplaysFront g list (p ∷ rest) a b → (IsSoundOn g b.engine → IsSoundOn g d.engine)
       → ((t : Tree) → HasTreeOn g b t → ReplaysOn g t p.command b d) → count_of d ≡ count_of b + 1 → ReplaysFront g list rest a d
   front_more list rest p a b d h sound one count = record {
     front = h.front ++ p ∷ [];

@@ -37,7 +37,7 @@ use Rattle.bd_checkpoint.specs.Recovering.{IsBadIn, LeadsBy, LeadsTo}
 use Rattle.bd_checkpoint.proofs.Replaying.{leads_by}
 use Rattle.bd_pager.specs.Pagers.{nodes_of, table_of, is_known}
 use Rattle.bd_view.specs.Moves.{AreReplayed}
-use Rattle.bd_engine.specs.Engines.{IsSoundOn}
+use Rattle.bd_engine.specs.Engines.{IsSoundOn, IsFreshOn}
 use Rattle.bd_engine.specs.Stored.{IsFound, ArePlaced, IsStoredBy}
 use Rattle.bd_volume.specs.declared.fault.Fault.{Fault}
 use Rattle.bd_volume.specs.declared.fault.Fault.TheVariants.{Device, Damaged, Worn, NoMemory, Full, Stopped}
@@ -91,18 +91,18 @@ module _ {D : Type 0} (g : Ghosts D) where
   -- ---- over the replay
 
   -- what is found has a tree
-  pub opened_has : (v : Volume D) (list : List PlacedCommand) (t : Tree) (n : ℕ) → (h : LeadsTo g v.engine.pager v.engine.live list t n) → HasTreeOn g v h.base
-  opened_has v list t n h = record {
-    nodes = record { known = h.known; sound = h.have.sound };
+  pub opened_has : (v : Volume D) (fresh : IsFreshOn g v.engine) (list : List PlacedCommand) (t : Tree) (n : ℕ) → (h : LeadsTo g v.engine.pager v.engine.live list t n) → HasTreeOn g v h.base
+  opened_has v fresh list t n h = record {
+    nodes = fresh (record { known = h.known; sound = h.have.sound });
     is_tree = h.have.is_tree;
     represents = h.have.represents;
   }
 
-  pub started_for : {T : Type 0} (dev : D) (a v : Volume D) (r : Result T Fault) (list : List PlacedCommand) (t : Tree) (n : ℕ) → a.count ≡ a.engine.live.count → a.engine.log.waiting ≡ [] → OnlyReads g dev (device_of a) → IsOnly (g.contents (device_of a)) (left_now g (device_of a))
+  pub started_for : {T : Type 0} (dev : D) (a v : Volume D) (fresh : IsFreshOn g a.engine) (r : Result T Fault) (list : List PlacedCommand) (t : Tree) (n : ℕ) → a.count ≡ a.engine.live.count → a.engine.log.waiting ≡ [] → OnlyReads g dev (device_of a) → IsOnly (g.contents (device_of a)) (left_now g (device_of a))
       → ReplaysEarly g a v r → ReplaysFront g list [] a v → LeadsTo g a.engine.pager a.engine.live list t n → IsSomeAnd (g.contents dev) (ImageStandsFor t n) → StandsFor g v t n
-  started_for dev a v r list t n counted idle reads only writes front led h =
+  started_for dev a v fresh r list t n counted idle reads only writes front led h =
       let all : list ≡ front.front = whole_front list front.front front.there in
-      let done : HasReplayed g led.base front.front a v = front.done led.base (opened_has a list t n led) in
+      let done : HasReplayed g led.base front.front a v = front.done led.base (opened_has a fresh list t n led) in
       let same : done.tree ≡ t = leads_one front.front led.base done.tree t done.leads (subst (λ (l : List PlacedCommand). LeadsBy l led.base t) all led.leads) in
       let has : HasTreeOn g v t = subst (λ (u : Tree). HasTreeOn g v u) same done.has in
       record {
@@ -120,7 +120,7 @@ module _ {D : Type 0} (g : Ghosts D) where
   -- what it stands for has nothing to do with the last graft
   pub without_walk_stands : (v : Volume D) (t : Tree) (n : ℕ) → StandsFor g v t n → StandsFor g (without_walk v) t n
   without_walk_stands v t n h = record {
-    nodes = h.nodes;
+    nodes = record { known = h.nodes.known; sound = h.nodes.sound; kept = h.nodes.kept };
     is_tree = h.is_tree;
     represents = h.represents;
     count_is = h.count_is;
@@ -129,10 +129,10 @@ module _ {D : Type 0} (g : Ghosts D) where
 
   -- ---- the first view
 
-  first_for : (known : Option Image) (a v : Volume D) (list : List PlacedCommand) (t : Tree) (n : ℕ) → ReplaysFront g list [] a v → (IsSomeAnd known (ImageStandsFor t n) → LeadsTo g a.engine.pager a.engine.live list t n)
+  first_for : (known : Option Image) (a v : Volume D) (fresh : IsFreshOn g a.engine) (list : List PlacedCommand) (t : Tree) (n : ℕ) → ReplaysFront g list [] a v → (IsSomeAnd known (ImageStandsFor t n) → LeadsTo g a.engine.pager a.engine.live list t n)
       → IfSome known (λ image. ImageStandsFor t n image → IsFound image (view_of g a) (commands_of list)) → IfSome known (λ image. ImageStandsFor t n image → IsFirstView image (view_of g (without_walk v)))
-  first_for None a v list t n front leads found = tt
-  first_for (Some image) a v list t n front leads found = λ stands.
+  first_for None a v fresh list t n front leads found = tt
+  first_for (Some image) a v fresh list t n front leads found = λ stands.
       let led : LeadsTo g a.engine.pager a.engine.live list t n = leads stands in
       let all : list ≡ front.front = whole_front list front.front front.there in
       record {
@@ -143,47 +143,47 @@ module _ {D : Type 0} (g : Ghosts D) where
         found = found stands;
         last = view_of g v;
         view_is = refl;
-        replayed = subst (λ (l : List PlacedCommand). AreReplayed led.base (commands_of l) (view_of g a) (view_of g v)) (sym all) (front.done led.base (opened_has a list t n led)).views;
+        replayed = subst (λ (l : List PlacedCommand). AreReplayed led.base (commands_of l) (view_of g a) (view_of g v)) (sym all) (front.done led.base (opened_has a fresh list t n led)).views;
       }
 
-  pub first_views : (known : Option Image) (a v : Volume D) (list : List PlacedCommand) → ReplaysFront g list [] a v → ((t : Tree) (n : ℕ) → IsSomeAnd known (ImageStandsFor t n) → LeadsTo g a.engine.pager a.engine.live list t n)
+  pub first_views : (known : Option Image) (a v : Volume D) (fresh : IsFreshOn g a.engine) (list : List PlacedCommand) → ReplaysFront g list [] a v → ((t : Tree) (n : ℕ) → IsSomeAnd known (ImageStandsFor t n) → LeadsTo g a.engine.pager a.engine.live list t n)
       → ((t : Tree) (n : ℕ) → IfSome known (λ image. ImageStandsFor t n image → IsFound image (view_of g a) (commands_of list))) → (t : Tree) (n : ℕ) → IfSome known (λ image. ImageStandsFor t n image → IsFirstView image (view_of g (without_walk v)))
-  first_views known a v list front leads found t n = first_for known a v list t n front (leads t n) (found t n)
+  first_views known a v fresh list front leads found t n = first_for known a v fresh list t n front (leads t n) (found t n)
 
   -- ---- why the replay stops
 
   -- sound nodes of the image are those of the volume
-  stored_sound : (a : Volume D) (image : Image) (nodes : Nodes) → is_known g a.engine.pager → IsStoredBy g a.engine image → HoldsNodes image a.engine.pager.saved nodes → IsSound nodes (stored_table a.engine.pager.saved nodes) → IsSoundOn g a.engine.pager
-  stored_sound a image nodes known stored holds sound = record {
+  stored_sound : (a : Volume D) (fresh : IsFreshOn g a.engine) (image : Image) (nodes : Nodes) → is_known g a.engine.pager → IsStoredBy g a.engine image → HoldsNodes image a.engine.pager.saved nodes → IsSound nodes (stored_table a.engine.pager.saved nodes) → IsSoundOn g a.engine
+  stored_sound a fresh image nodes known stored holds sound = fresh (record {
     known = known;
     sound = subst (λ (m : Nodes). IsSound m (table_of a.engine.pager)) (sym (stored.nodes.nodes nodes holds)) (subst (λ (t : Table). IsSound nodes t) (sym (stored.nodes.table nodes holds)) sound);
-  }
+  })
 
-  unsound_image : (a mid : Volume D) (image : Image) → is_known g a.engine.pager → IsStoredBy g a.engine image → (IsSoundOn g a.engine.pager → IsSoundOn g mid.engine.pager) → ¬ IsSoundOn g mid.engine.pager → HasUnsoundNodes image
-  unsound_image a mid image known stored keeps bad = record {
+  unsound_image : (a mid : Volume D) (fresh : IsFreshOn g a.engine) (image : Image) → is_known g a.engine.pager → IsStoredBy g a.engine image → (IsSoundOn g a.engine → IsSoundOn g mid.engine) → ¬ IsSoundOn g mid.engine → HasUnsoundNodes image
+  unsound_image a mid fresh image known stored keeps bad = record {
     live = a.engine.live;
     live_is = stored.live_is;
     table = a.engine.pager.saved;
     table_is = stored.table_is;
-    none = λ nodes holds sound. bad (keeps (stored_sound a image nodes known stored holds sound));
+    none = λ nodes holds sound. bad (keeps (stored_sound a fresh image nodes known stored holds sound));
   }
 
   -- the tree of the image's nodes is one that the volume's have
-  stored_has : (a : Volume D) (image : Image) (records : List (List ℕ)) (tree : Tree) → is_known g a.engine.pager → IsStoredBy g a.engine image → (h : IsTreeAfter image a.engine.live records tree) → HasTreeOn g a h.base
-  stored_has a image records tree known stored h =
+  stored_has : (a : Volume D) (fresh : IsFreshOn g a.engine) (image : Image) (records : List (List ℕ)) (tree : Tree) → is_known g a.engine.pager → IsStoredBy g a.engine image → (h : IsTreeAfter image a.engine.live records tree) → HasTreeOn g a h.base
+  stored_has a fresh image records tree known stored h =
       let same : h.table ≡ a.engine.pager.saved = one_table a.engine.live.slots a.engine.live.table h.table a.engine.pager.saved h.starts.table.0 stored.table_is.0 (sym h.starts.table.1 ∙ stored.table_is.1) in
       let holds : HoldsNodes image a.engine.pager.saved h.nodes = subst (λ (t : StoredTable). HoldsNodes image t h.nodes) same h.starts.stored in
       let sound : IsSound h.nodes (stored_table a.engine.pager.saved h.nodes) = subst (λ (t : StoredTable). IsSound h.nodes (stored_table t h.nodes)) same h.have.sound in
       let reps : Represents (root_at h.nodes (stored_table a.engine.pager.saved h.nodes)) h.base = subst (λ (t : StoredTable). Represents (root_at h.nodes (stored_table t h.nodes)) h.base) same h.have.represents in
       record {
-        nodes = stored_sound a image h.nodes known stored holds sound;
+        nodes = stored_sound a fresh image h.nodes known stored holds sound;
         is_tree = h.have.is_tree;
         represents = subst (λ (m : Nodes). Represents (root_at m (table_of a.engine.pager)) h.base) (sym (stored.nodes.nodes h.nodes holds)) (subst (λ (t : Table). Represents (root_at h.nodes t) h.base) (sym (stored.nodes.table h.nodes holds)) reps);
       }
 
-  refused_image : (a mid : Volume D) (image : Image) (list rest : List PlacedCommand) (next : PlacedCommand) → IsPrefixFree IsLogged log_record → is_known g a.engine.pager → IsStoredBy g a.engine image → ArePlaced image a.engine.live list
+  refused_image : (a mid : Volume D) (fresh : IsFreshOn g a.engine) (image : Image) (list rest : List PlacedCommand) (next : PlacedCommand) → IsPrefixFree IsLogged log_record → is_known g a.engine.pager → IsStoredBy g a.engine image → ArePlaced image a.engine.live list
       → AllByRecursion (IsPlacedIn (version_of a.engine.live)) list → ReplaysFront g list (next ∷ rest) a mid → Refuses g mid next.command → IsBadAt image next.block
-  refused_image a mid image list rest next free known stored placed each before refuses =
+  refused_image a mid fresh image list rest next free known stored placed each before refuses =
       let version : ℕ = version_of a.engine.live in
       let split : records_for list ≡ records_for before.front ++ placed_record next ∷ records_for rest = ap records_for before.there ∙ map-append placed_record before.front (next ∷ rest) in
       let all : AllByRecursion (IsPlacedIn version) (before.front ++ next ∷ rest) = subst (λ (l : List PlacedCommand). AllByRecursion (IsPlacedIn version) l) before.there each in
@@ -197,47 +197,47 @@ module _ {D : Type 0} (g : Ghosts D) where
       } in
       refused_record a.engine.live (records_for before.front) next.block next.command there (middle (IsPlacedIn version) before.front next rest all)
       (λ tree h accepts.
-      let done : HasReplayed g h.base before.front a mid = before.done h.base (stored_has a image (unplaced (records_for before.front)) tree known stored h) in
+      let done : HasReplayed g h.base before.front a mid = before.done h.base (stored_has a fresh image (unplaced (records_for before.front)) tree known stored h) in
       let led : LeadsBy before.front h.base tree = leads_by free version before.front h.base tree (front_of (IsPlacedIn version) before.front (next ∷ rest) all) h.leads in
       let same : tree ≡ done.tree = leads_one before.front h.base tree done.tree led done.leads in
       refuses done.tree done.has (subst (λ (u : Tree). Accepts u next.command) same accepts))
 
-  bad_start : (known : Option Image) (a mid : Volume D) (list rest : List PlacedCommand) (next : PlacedCommand) (block : ℕ) → IsPrefixFree IsLogged log_record → (IsSome known → is_known g a.engine.pager) → IfSome known (IsStoredBy g a.engine) → IfSome known (λ image. ArePlaced image a.engine.live list)
-      → AllByRecursion (IsPlacedIn (version_of a.engine.live)) list → ReplaysFront g list (next ∷ rest) a mid → ((block ≡ next.block) × Refuses g mid next.command) ⊎ ¬ IsSoundOn g mid.engine.pager → IsBadForStart known block
-  bad_start None a mid list rest next block free told stored placed each before cause = inl tt
-  bad_start (Some image) a mid list rest next block free told stored placed each before (inl refused) =
-      inl (subst (λ (b : ℕ). IsBadAt image b) (sym refused.0) (refused_image a mid image list rest next free (told (search rules)) stored placed each before refused.1))
-  bad_start (Some image) a mid list rest next block free told stored placed each before (inr bad) = inr (unsound_image a mid image (told (search rules)) stored before.sound bad)
+  bad_start : (known : Option Image) (a mid : Volume D) (fresh : IsFreshOn g a.engine) (list rest : List PlacedCommand) (next : PlacedCommand) (block : ℕ) → IsPrefixFree IsLogged log_record → (IsSome known → is_known g a.engine.pager) → IfSome known (IsStoredBy g a.engine) → IfSome known (λ image. ArePlaced image a.engine.live list)
+      → AllByRecursion (IsPlacedIn (version_of a.engine.live)) list → ReplaysFront g list (next ∷ rest) a mid → ((block ≡ next.block) × Refuses g mid next.command) ⊎ ¬ IsSoundOn g mid.engine → IsBadForStart known block
+  bad_start None a mid fresh list rest next block free told stored placed each before cause = inl tt
+  bad_start (Some image) a mid fresh list rest next block free told stored placed each before (inl refused) =
+      inl (subst (λ (b : ℕ). IsBadAt image b) (sym refused.0) (refused_image a mid fresh image list rest next free (told (search rules)) stored placed each before refused.1))
+  bad_start (Some image) a mid fresh list rest next block free told stored placed each before (inr bad) = inr (unsound_image a mid fresh image (told (search rules)) stored before.sound bad)
 
-  pub replay_cause : (dev : D) (a v : Volume D) (list : List PlacedCommand) (fault : Fault) → IsPrefixFree IsLogged log_record → (IsSome (g.contents dev) → is_known g a.engine.pager) → IfSome (g.contents dev) (IsStoredBy g a.engine) → IfSome (g.contents dev) (λ image. ArePlaced image a.engine.live list)
+  pub replay_cause : (dev : D) (a v : Volume D) (fresh : IsFreshOn g a.engine) (list : List PlacedCommand) (fault : Fault) → IsPrefixFree IsLogged log_record → (IsSome (g.contents dev) → is_known g a.engine.pager) → IfSome (g.contents dev) (IsStoredBy g a.engine) → IfSome (g.contents dev) (λ image. ArePlaced image a.engine.live list)
       → All (IsPlacedIn (version_of a.engine.live)) list → g.fault_count (device_of a) ≡ g.fault_count dev → StopsReplaying g fault list a → IsReplayCause g a v fault → IsStartCause g dev (device_of v) fault
-  replay_cause dev a v list Device free told stored placed each same stops h = subst (λ (n : ℕ). Rose n (g.fault_count (device_of v))) same h
-  replay_cause dev a v list (Damaged block) free told stored placed each same stops h =
-      (bad_start (g.contents dev) a stops.mid list stops.rest stops.next block free told stored placed (recursion_from_All (IsPlacedIn (version_of a.engine.live)) list each) stops.before stops.cause, h ∙ same)
-  replay_cause dev a v list (Worn which) free told stored placed each same stops h = h ∙ same
-  replay_cause dev a v list NoMemory free told stored placed each same stops h = h ∙ same
-  replay_cause dev a v list (Full free2 need) free told stored placed each same stops h = h
-  replay_cause dev a v list (Stopped call) free told stored placed each same stops h = h
+  replay_cause dev a v fresh list Device free told stored placed each same stops h = subst (λ (n : ℕ). Rose n (g.fault_count (device_of v))) same h
+  replay_cause dev a v fresh list (Damaged block) free told stored placed each same stops h =
+      (bad_start (g.contents dev) a stops.mid fresh list stops.rest stops.next block free told stored placed (recursion_from_All (IsPlacedIn (version_of a.engine.live)) list each) stops.before stops.cause, h ∙ same)
+  replay_cause dev a v fresh list (Worn which) free told stored placed each same stops h = h ∙ same
+  replay_cause dev a v fresh list NoMemory free told stored placed each same stops h = h ∙ same
+  replay_cause dev a v fresh list (Full free2 need) free told stored placed each same stops h = h
+  replay_cause dev a v fresh list (Stopped call) free told stored placed each same stops h = h
 
   -- ---- from an image that stands for a tree
 
-  not_damaged : (a mid : Volume D) (list rest : List PlacedCommand) (next : PlacedCommand) (block : ℕ) (t : Tree) (n : ℕ) → LeadsTo g a.engine.pager a.engine.live list t n → ReplaysFront g list (next ∷ rest) a mid
-      → ((block ≡ next.block) × Refuses g mid next.command) ⊎ ¬ IsSoundOn g mid.engine.pager → ⊥
-  not_damaged a mid list rest next block t n led before (inl refused) =
-      let done : HasReplayed g led.base before.front a mid = before.done led.base (opened_has a list t n led) in
+  not_damaged : (a mid : Volume D) (fresh : IsFreshOn g a.engine) (list rest : List PlacedCommand) (next : PlacedCommand) (block : ℕ) (t : Tree) (n : ℕ) → LeadsTo g a.engine.pager a.engine.live list t n → ReplaysFront g list (next ∷ rest) a mid
+      → ((block ≡ next.block) × Refuses g mid next.command) ⊎ ¬ IsSoundOn g mid.engine → ⊥
+  not_damaged a mid fresh list rest next block t n led before (inl refused) =
+      let done : HasReplayed g led.base before.front a mid = before.done led.base (opened_has a fresh list t n led) in
       refused.1 done.tree done.has (leads_next before.front next rest led.base done.tree t (subst (λ (l : List PlacedCommand). LeadsBy l led.base t) before.there led.leads) done.leads)
-  not_damaged a mid list rest next block t n led before (inr bad) = bad (before.sound (opened_has a list t n led).nodes)
+  not_damaged a mid fresh list rest next block t n led before (inr bad) = bad (before.sound (opened_has a fresh list t n led).nodes)
 
-  pub replay_undamaged : (a : Volume D) (list : List PlacedCommand) (fault : Fault) (block : ℕ) (t : Tree) (n : ℕ) → LeadsTo g a.engine.pager a.engine.live list t n → StopsReplaying g fault list a → fault ≢ Damaged block
-  replay_undamaged a list fault block t n led stops is =
+  pub replay_undamaged : (a : Volume D) (fresh : IsFreshOn g a.engine) (list : List PlacedCommand) (fault : Fault) (block : ℕ) (t : Tree) (n : ℕ) → LeadsTo g a.engine.pager a.engine.live list t n → StopsReplaying g fault list a → fault ≢ Damaged block
+  replay_undamaged a fresh list fault block t n led stops is =
       let h : StopsReplaying g (Damaged block) list a = subst (λ (f : Fault). StopsReplaying g f list a) is stops in
-      not_damaged a h.mid list h.rest h.next block t n led h.before h.cause
+      not_damaged a h.mid fresh list h.rest h.next block t n led h.before h.cause
 
-  worn_of : (image : Image) (a : Volume D) (list : List PlacedCommand) (which : Counter) (t : Tree) (n : ℕ) → a.count ≡ a.engine.live.count → IsLive image a.engine.live → IsFound image (view_of g a) (commands_of list)
+  worn_of : (image : Image) (a : Volume D) (fresh : IsFreshOn g a.engine) (list : List PlacedCommand) (which : Counter) (t : Tree) (n : ℕ) → a.count ≡ a.engine.live.count → IsLive image a.engine.live → IsFound image (view_of g a) (commands_of list)
       → LeadsTo g a.engine.pager a.engine.live list t n → StopsReplaying g (Worn which) list a → WearsReplaying which image
-  worn_of image a list which t n counted live found led h =
-      let done : HasReplayed g led.base h.before.front a h.mid = h.before.done led.base (opened_has a list t n led) in
-      let worn : WearsAgain which (count_of h.mid) h.next.command (view_of g h.mid) = h.cause (h.before.sound (opened_has a list t n led).nodes) in
+  worn_of image a fresh list which t n counted live found led h =
+      let done : HasReplayed g led.base h.before.front a h.mid = h.before.done led.base (opened_has a fresh list t n led) in
+      let worn : WearsAgain which (count_of h.mid) h.next.command (view_of g h.mid) = h.cause (h.before.sound (opened_has a fresh list t n led).nodes) in
       let split : commands_of list ≡ commands_of h.before.front ++ h.next.command ∷ commands_of h.rest = ap commands_of h.before.there ∙ map-append (λ (p : PlacedCommand). p.command) h.before.front (h.next ∷ h.rest) in
       let many : length (commands_of h.before.front) ≡ length h.before.front = length-map h.before.front (λ (p : PlacedCommand). p.command) in
       let count : count_of h.mid ≡ a.engine.live.count + length (commands_of h.before.front) = omega (arith, h.before.count_is, counted, many) in
@@ -260,18 +260,18 @@ module _ {D : Type 0} (g : Ghosts D) where
         worn = subst (λ (k : ℕ). IsWornInReplay which k h.next.command worn.made worn.last.tree) count worn.worn;
       }
 
-  pub replay_wears : (known : Option Image) (a : Volume D) (list : List PlacedCommand) (fault : Fault) (t : Tree) (n : ℕ) → a.count ≡ a.engine.live.count → IfSome known (λ image. ArePlaced image a.engine.live list)
+  pub replay_wears : (known : Option Image) (a : Volume D) (fresh : IsFreshOn g a.engine) (list : List PlacedCommand) (fault : Fault) (t : Tree) (n : ℕ) → a.count ≡ a.engine.live.count → IfSome known (λ image. ArePlaced image a.engine.live list)
       → IfSome known (λ image. ImageStandsFor t n image → IsFound image (view_of g a) (commands_of list)) → (IsSomeAnd known (ImageStandsFor t n) → LeadsTo g a.engine.pager a.engine.live list t n) → StopsReplaying g fault list a
       → IfSome known (λ image. ImageStandsFor t n image → (which : Counter) → fault ≡ Worn which → WearsReplaying which image)
-  replay_wears None a list fault t n counted placed found leads stops = tt
-  replay_wears (Some image) a list fault t n counted placed found leads stops = λ stands which is.
-      worn_of image a list which t n counted placed.live_is (found stands) (leads stands) (subst (λ (f : Fault). StopsReplaying g f list a) is stops)
+  replay_wears None a fresh list fault t n counted placed found leads stops = tt
+  replay_wears (Some image) a fresh list fault t n counted placed found leads stops = λ stands which is.
+      worn_of image a fresh list which t n counted placed.live_is (found stands) (leads stands) (subst (λ (f : Fault). StopsReplaying g f list a) is stops)
 
   -- ---- on a new image
 
-  pub formatted_for : (v : Volume D) (t : Tree) (n : ℕ) → is_known g v.engine.pager → AreOfTree (nodes_of g v.engine.pager) (table_of v.engine.pager) t → v.count ≡ n → AllStandFor t n (left_now g (device_of v)) → v.engine.log.waiting ≡ [] → StandsFor g v t n
-  formatted_for v t n known have count kept idle = record {
-    nodes = record { known = known; sound = have.sound };
+  pub formatted_for : (v : Volume D) (fresh : IsFreshOn g v.engine) (t : Tree) (n : ℕ) → is_known g v.engine.pager → AreOfTree (nodes_of g v.engine.pager) (table_of v.engine.pager) t → v.count ≡ n → AllStandFor t n (left_now g (device_of v)) → v.engine.log.waiting ≡ [] → StandsFor g v t n
+  formatted_for v fresh t n known have count kept idle = record {
+    nodes = fresh (record { known = known; sound = have.sound });
     is_tree = have.is_tree;
     represents = have.represents;
     count_is = count;

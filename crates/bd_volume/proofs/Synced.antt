@@ -1,5 +1,5 @@
 -- What a sync leaves of a volume.
-use Rattle.std.proofs.Common.{◌≡◌, ℕ, ◌≤◌, [], None, Some, refl, sym, subst, ap, ◌∙◌, inr, arith}
+use Rattle.std.proofs.Common.{◌≡◌, ℕ, ◌≤◌, [], None, Some, refl, ap, ◌∙◌, inr, arith}
 use Rattle.std.specs.Prelude.{Ok, Err}
 use Rattle.bd_model.specs.Tree.{Tree}
 use Rattle.bd_message.specs.KeyMaps.{SameAt}
@@ -10,9 +10,9 @@ use Rattle.bd_device.proofs.Moments.{within}
 use Rattle.bd_image.specs.Standing.{IsOldOrNew}
 use Rattle.bd_checkpoint.specs.Kept.{AllStandFor, IsWithWaiting, IsWithAllOrNone}
 use Rattle.bd_node.specs.Meaning.{Nodes}
-use Rattle.bd_node.specs.Tables.{Table, IsSound, root_at}
+use Rattle.bd_node.specs.Tables.{Table, root_at}
 use Rattle.bd_pager.specs.Pagers.{Paged, nodes_of, table_of}
-use Rattle.bd_engine.specs.Engines.{EngineState, keys_of, IsSoundOn, KeepsNodesOn, IsStopped}
+use Rattle.bd_engine.specs.Engines.{EngineState, keys_of, KeepsNodesOn, IsStopped}
 use Rattle.bd_volume.specs.declared.fault.Fault.TheVariants.{Device}
 use Rattle.bd_volume.specs.declared.volume.Volume.{Volume}
 use Rattle.bd_volume.specs.Volume.{StandsFor, GoesBy, count_of, device_of, stop_of}
@@ -27,13 +27,7 @@ module _ {D : Type 0} (g : Ghosts D) where
   same_table : (a b : EngineState D) → KeepsNodesOn g a b → table_of b.pager ≡ table_of a.pager
   same_table a b h = ap (λ (p : Paged D). table_of p) h.pager.rest
 
-  survives : (a b : EngineState D) → KeepsNodesOn g a b → IsSoundOn g a.pager → IsSoundOn g b.pager
-  survives a b h s = record {
-    known = h.pager.known s.known;
-    sound = subst (λ (m : Nodes). IsSound m (table_of b.pager)) (sym h.pager.nodes) (subst (λ (t : Table). IsSound (nodes_of g a.pager) t) (sym (same_table a b h)) s.sound);
-  }
-
-  same_keys : (a b : EngineState D) → KeepsNodesOn g a b → SameAt (keys_of g a.pager) (keys_of g b.pager)
+  pub same_keys : (a b : EngineState D) → KeepsNodesOn g a b → SameAt (keys_of g a.pager) (keys_of g b.pager)
   same_keys a b h k =
       ap (λ (m : Nodes). root_at m (table_of b.pager) k) h.pager.nodes ∙ ap (λ (t : Table). root_at (nodes_of g a.pager) t k) (same_table a b h)
 
@@ -48,7 +42,7 @@ module _ {D : Type 0} (g : Ghosts D) where
   pub sync_stands : (a b : Volume D) (t : Tree) (n : ℕ) → stop_of a ≡ None → KeepsNodesOn g a.engine b.engine → ((c : Image) → left_now g (device_of b) c → IsWithWaiting a.engine.live a.engine.log (left_now g (device_of a)) c) → b.engine.log.waiting ≡ [] → count_of b ≡ count_of a
       → StandsFor g a t n → StandsFor g b t n
   sync_stands a b t n going nodes kept none count s =
-      stands_same g a b t n s (survives a.engine b.engine nodes s.nodes) (same_keys a.engine b.engine nodes) count (λ on. safe_now g b.engine t n (sync_kept a b t n going kept s) none)
+      stands_same g a b t n s (nodes.sound s.nodes) (same_keys a.engine b.engine nodes) count (λ on. safe_now g b.engine t n (sync_kept a b t n going kept s) none)
 
   not_going : {A : Type 0} (b : Volume D) (call : ℕ) → stop_of b ≡ Some call → stop_of b ≡ None → A
   not_going b call off on =
@@ -57,7 +51,7 @@ module _ {D : Type 0} (g : Ghosts D) where
 
   pub stopped_stands : (a b : Volume D) (t : Tree) (n : ℕ) → KeepsNodesOn g a.engine b.engine → IsStopped g a.engine b.engine → count_of b ≡ count_of a → StandsFor g a t n → StandsFor g b t n
   stopped_stands a b t n nodes stop count s =
-      stands_same g a b t n s (survives a.engine b.engine nodes s.nodes) (same_keys a.engine b.engine nodes) count (λ on. not_going b (g.call_count (device_of b)) stop.stop_is on)
+      stands_same g a b t n s (nodes.sound s.nodes) (same_keys a.engine b.engine nodes) count (λ on. not_going b (g.call_count (device_of b)) stop.stop_is on)
 
   -- ---- how it ends
 

@@ -71,7 +71,7 @@ pub record ReplaysEarly {D T : Type 0} (g : Ghosts D) (old new : Volume D)
 
 -- the nodes of a volume are known and sound, and have this tree
 pub record HasTreeOn {D : Type 0} (g : Ghosts D) (v : Volume D) (t : Tree) : Type 0 where
-  pub nodes : IsSoundOn g v.engine.pager
+  pub nodes : IsSoundOn g v.engine
   pub is_tree : IsTree t
   pub represents : Represents (keys_of g v.engine.pager) t
 
@@ -118,9 +118,9 @@ pub record HasFlushedAgain (c : Command) (old new : View) : Type 0 where
 -- why a flush step of it isn't made: the nodes aren't sound, or a counter has no room
 abbrev pub IsFlushFault : {D : Type 0} → Ghosts D → Fault → Command → Volume D → Type 0
 IsFlushFault g Device c v = ⊤
-IsFlushFault g (Damaged block) c v = ¬ IsSoundOn g v.engine.pager
+IsFlushFault g (Damaged block) c v = ¬ IsSoundOn g v.engine
 IsFlushFault g (Worn which) c v =
-    IsSoundOn g v.engine.pager → IsWornAgain which c (view_of g v).tree
+    IsSoundOn g v.engine → IsWornAgain which c (view_of g v).tree
 IsFlushFault g NoMemory c v = ⊤
 IsFlushFault g (Full free need) c v = ⊥
 IsFlushFault g (Stopped call) c v = ⊥
@@ -128,9 +128,9 @@ IsFlushFault g (Stopped call) c v = ⊥
 -- why they aren't all made, or what it sends isn't sent
 abbrev pub IsAgainFault : {D : Type 0} → Ghosts D → Fault → Command → Volume D → Type 0
 IsAgainFault g Device c v = ⊤
-IsAgainFault g (Damaged block) c v = ¬ IsSoundOn g v.engine.pager
+IsAgainFault g (Damaged block) c v = ¬ IsSoundOn g v.engine
 IsAgainFault g (Worn which) c v =
-    IsSoundOn g v.engine.pager → WearsAgain which (count_of v) c (view_of g v)
+    IsSoundOn g v.engine → WearsAgain which (count_of v) c (view_of g v)
 IsAgainFault g NoMemory c v = ⊤
 IsAgainFault g (Full free need) c v = ⊥
 IsAgainFault g (Stopped call) c v = ⊥
@@ -140,9 +140,9 @@ IsAgainFault g (Stopped call) c v = ⊥
 abbrev pub IsSendFault : {D : Type 0} → Ghosts D → Fault → PlacedCommand → Plan → Volume D → Type 0
 IsSendFault g Device p plan v = ⊤
 IsSendFault g (Damaged block) p plan v =
-    ((block ≡ p.block) × (accepts plan ≡ false)) ⊎ ¬ IsSoundOn g v.engine.pager
+    ((block ≡ p.block) × (accepts plan ≡ false)) ⊎ ¬ IsSoundOn g v.engine
 IsSendFault g (Worn which) p plan v =
-    IsSoundOn g v.engine.pager → WearsAgain which (count_of v) p.command (view_of g v)
+    IsSoundOn g v.engine → WearsAgain which (count_of v) p.command (view_of g v)
 IsSendFault g NoMemory p plan v = ⊤
 IsSendFault g (Full free need) p plan v = ⊥
 IsSendFault g (Stopped call) p plan v = ⊥
@@ -155,9 +155,9 @@ Refuses g v c = (t : Tree) → HasTreeOn g v t → ¬ Accepts t c
 abbrev pub IsReplayFault : {D : Type 0} → Ghosts D → Fault → PlacedCommand → Volume D → Type 0
 IsReplayFault g Device p v = ⊤
 IsReplayFault g (Damaged block) p v =
-    ((block ≡ p.block) × Refuses g v p.command) ⊎ ¬ IsSoundOn g v.engine.pager
+    ((block ≡ p.block) × Refuses g v p.command) ⊎ ¬ IsSoundOn g v.engine
 IsReplayFault g (Worn which) p v =
-    IsSoundOn g v.engine.pager → WearsAgain which (count_of v) p.command (view_of g v)
+    IsSoundOn g v.engine → WearsAgain which (count_of v) p.command (view_of g v)
 IsReplayFault g NoMemory p v = ⊤
 IsReplayFault g (Full free need) p v = ⊥
 IsReplayFault g (Stopped call) p v = ⊥
@@ -181,7 +181,7 @@ pub record ReplaysFront {D : Type 0} (g : Ghosts D) (list rest : List PlacedComm
     (old new : Volume D) : Type 0 where
   pub front : List PlacedCommand
   pub there : list ≡ front ++ rest
-  pub sound : IsSoundOn g old.engine.pager → IsSoundOn g new.engine.pager
+  pub sound : IsSoundOn g old.engine → IsSoundOn g new.engine
   pub done : (t : Tree) → HasTreeOn g old t → HasReplayed g t front old new
   pub count_is : count_of new ≡ count_of old + length front
 

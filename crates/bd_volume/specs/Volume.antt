@@ -12,6 +12,7 @@ use Rattle.bd_image.specs.Versions.{version_of}
 use Rattle.bd_checkpoint.specs.Kept.{AllStandFor}
 use Rattle.bd_view.specs.Views.{View, keys_of as view_keys}
 use Rattle.bd_view.specs.Moves.{AreReplayed}
+use Rattle.bd_message.specs.KeyMaps.{SameAt}
 use Rattle.bd_engine.specs.Engines.{EngineState, keys_of, IsSoundOn, view_of as view_in}
 use Rattle.bd_engine.specs.Stored.{IsFound}
 use Rattle.bd_volume.specs.declared.volume.Volume.{Volume}
@@ -51,7 +52,7 @@ IsSafeOn g e tree count =
 -- crash leaves of it falls short by no more than the records that wait, until it is stopped
 pub record StandsFor {D : Type 0} (g : Ghosts D) (v : Volume D) (tree : Tree) (count : ℕ)
     : Type 0 where
-  pub nodes : IsSoundOn g v.engine.pager
+  pub nodes : IsSoundOn g v.engine
   pub is_tree : IsTree tree
   pub represents : Represents (keys_of g v.engine.pager) tree
   pub count_is : v.count ≡ count
@@ -82,3 +83,9 @@ pub record IsFirstView (image : Image) (v : View) : Type 0 where
   pub last : View
   pub replayed : AreReplayed base commands stored last
   pub view_is : v ≡ without_walk_in last
+
+-- sound nodes stay so, and what stands at their keys, also where that is no tree
+pub record KeepsKeys {D : Type 0} (g : Ghosts D) (old new : Volume D) : Type 0 where
+  pub sound : IsSoundOn g old.engine → IsSoundOn g new.engine
+  pub same : IsSoundOn g old.engine
+      → SameAt (keys_of g old.engine.pager) (keys_of g new.engine.pager)

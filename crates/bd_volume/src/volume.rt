@@ -21,7 +21,7 @@ ghost use Rattle.bd_engine.specs.Engines.{keys_of, IsSoundOn};
 ghost use Rattle.bd_engine.specs.Stored.{HasSaved};
 ghost use Rattle.bd_volume.specs.Faults.{image_fault_of, IsOfImage, IsStartCause, HasFaultCause, IsStoppedRightly};
 ghost use Rattle.bd_volume.specs.Starts.{OnlyStarts, HasStarted};
-ghost use Rattle.bd_volume.specs.Volume.{StandsFor, GoesBy, IsFirstView, view_of, count_of, device_of, stop_of};
+ghost use Rattle.bd_volume.specs.Volume.{StandsFor, GoesBy, IsFirstView, KeepsKeys, view_of, count_of, device_of, stop_of};
 ghost use Rattle.bd_volume.specs.Wears.{Wears, ShowsWorn, WearsReplaying, HasBegunReclaiming, WearsReclaiming};
 
 mod executing;
@@ -205,7 +205,7 @@ impl<D: Device> Volume<D> {
         ensures device { Stays D.Device (device_of self.old) (device_of self.new) }
 
         // A fault leaves what stands at the keys of sound nodes, also where that is no tree.
-        ensures keys { OnErr result (IsSoundOn D.Device self.old.engine.pager
+        ensures keys { OnErr result (IsSoundOn D.Device self.old.engine
             → SameAt (keys_of D.Device self.old.engine.pager)
             (keys_of D.Device self.new.engine.pager)) }
     {
@@ -217,8 +217,9 @@ impl<D: Device> Volume<D> {
 
     /// Makes all that was accepted durable: commits the records that wait in the log. Once it is Ok,
     /// an image that a crash leaves stands for the volume's tree and count. With no record waiting
-    /// it makes no call of the device. It takes no memory. It fails by `Device` and `Stopped` alone:
-    /// each failed call stops the volume, and each later call is `Stopped`.
+    /// it makes no call of the device. It takes no memory. What stands at the keys of sound nodes
+    /// stays, also where that is no tree. It fails by `Device` and `Stopped` alone: each failed call
+    /// stops the volume, and each later call is `Stopped`.
     pub fn sync(&mut self) -> Result<(), Fault>
         ensures moved { OnOk result
             (view_of D.Device self.new ≡ synced (view_of D.Device self.old)) }
@@ -242,6 +243,7 @@ impl<D: Device> Volume<D> {
         ensures stopped { (call : ℕ) → stop_of self.old ≡ Some call
             → (result ≡ Err (Fault.Stopped call)) × (self.new ≡ self.old) }
         ensures device { Stays D.Device (device_of self.old) (device_of self.new) }
+        ensures keys { KeepsKeys D.Device self.old self.new }
     {
         if let Some(call) = self.engine.stop() {
             return Err(Fault::Stopped { call });
@@ -254,9 +256,10 @@ impl<D: Device> Volume<D> {
 
     /// Makes a checkpoint, so that the image stands for the volume's tree and count. `Full` comes
     /// exactly where fewer slots are free than it needs, `Worn` exactly where there are slots and
-    /// the epoch stands at its last value. A fault leaves the view and what the volume stands for,
-    /// and each but `Device` the device, of which no call was made. A failed write or barrier stops
-    /// the volume, and each later call is `Stopped`.
+    /// the epoch stands at its last value. What stands at the keys of sound nodes stays, also where
+    /// that is no tree. A fault leaves the view and what the volume stands for, and each but `Device`
+    /// the device, of which no call was made. A failed write or barrier stops the volume, and each
+    /// later call is `Stopped`.
     pub fn checkpoint(&mut self) -> Result<(), Fault>
         ensures time { (t : Tree) (n : ℕ) → StandsFor D.Device self.old t n
             → GoesBy D.Device self.old self.new t n }
@@ -290,6 +293,7 @@ impl<D: Device> Volume<D> {
         ensures device { Stays D.Device (device_of self.old) (device_of self.new) }
         ensures untouched { IfErr result (λ fault. fault ≢ Fault.Device
             → device_of self.new ≡ device_of self.old) }
+        ensures keys { KeepsKeys D.Device self.old self.new }
     {
         if let Some(call) = self.engine.stop() {
             return Err(Fault::Stopped { call });
@@ -304,8 +308,8 @@ impl<D: Device> Volume<D> {
     /// Gives back the nodes that nothing needs any more: makes a checkpoint; then changes of the
     /// nodes along the edges that pending messages cut or cover, from the root down, until none is
     /// left or 4,096 pushes were made, with checkpoints between where too few slots are free; and a
-    /// last checkpoint. What the volume stands for stays, also at a fault, which leaves the changes
-    /// that were made.
+    /// last checkpoint. What the volume stands for stays, and what stands at the keys of sound nodes
+    /// where that is no tree, also at a fault, which leaves the changes that were made.
     ///
     /// `Full` comes where fewer slots are free than the first or the last checkpoint needs, or than
     /// the next change of an edge needs and no checkpoint helps, with both numbers; `Worn` where the
@@ -345,6 +349,7 @@ impl<D: Device> Volume<D> {
         ensures stopped { (call : ℕ) → stop_of self.old ≡ Some call
             → (result ≡ Err (Fault.Stopped call)) × (self.new ≡ self.old) }
         ensures device { Stays D.Device (device_of self.old) (device_of self.new) }
+        ensures keys { KeepsKeys D.Device self.old self.new }
     {
         if let Some(call) = self.engine.stop() {
             return Err(Fault::Stopped { call });

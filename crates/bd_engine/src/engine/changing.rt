@@ -29,7 +29,7 @@ impl<D: Device> Engine<D> {
     pub fn answer(&mut self, command: &Command) -> Result<Reply, MapFault>
         requires limits { IsCommand command.now }
         requires reads { writes command.now ≡ false }
-        ensures reply { IsSoundOn D.Device self.old.pager → (t : Tree) → IsTree t
+        ensures reply { IsSoundOn D.Device self.old → (t : Tree) → IsTree t
             → Represents (keys_of D.Device self.old.pager) t
             → IfOk result (λ reply. reply ≡ (step t command.now).1) }
         ensures small { IfOk result IsReply }
@@ -43,7 +43,7 @@ impl<D: Device> Engine<D> {
     pub fn plan(&mut self, command: &Command) -> Result<Plan, MapFault>
         requires writes { IsTrue (writes command.now) }
         requires size { HasSize command.now }
-        ensures plan { IsSoundOn D.Device self.old.pager → (t : Tree) → IsTree t
+        ensures plan { IsSoundOn D.Device self.old → (t : Tree) → IsTree t
             → Represents (keys_of D.Device self.old.pager) t
             → IfOk result (IsPlan (keys_of D.Device self.old.pager) t command.now) }
         ensures kind { IfOk result (IsPlanKind command.now) }
@@ -70,16 +70,16 @@ impl<D: Device> Engine<D> {
             (IsWornIn D.Device self.old.pager) result }
 
         // Where the nodes are known and sound.
-        ensures flushes { IsSoundOn D.Device self.old.pager → result ≡ Ok true
+        ensures flushes { IsSoundOn D.Device self.old → result ≡ Ok true
             → FlushesFor command.now (view_of D.Device self.old).tree
             (view_of D.Device self.new).tree }
-        ensures sound { IsSoundOn D.Device self.old.pager → IsSoundOn D.Device self.new.pager }
-        ensures same { IsSoundOn D.Device self.old.pager
+        ensures sound { IsSoundOn D.Device self.old → IsSoundOn D.Device self.new }
+        ensures same { IsSoundOn D.Device self.old
             → SameAt (keys_of D.Device self.old.pager) (keys_of D.Device self.new.pager) }
     {
-        self.tree.store().nodes_are_placed();
-        let flushed = flush(&mut self.tree, command);
-        self.tree.store().nodes_are_placed();
+        self.tree.map.store().nodes_are_placed();
+        let flushed = flush(&mut self.tree.map, command);
+        self.tree.map.store().nodes_are_placed();
         flushed
     }
 
@@ -96,16 +96,17 @@ impl<D: Device> Engine<D> {
         ensures cause { HasCause D.Device self.old.pager self.new.pager NeverWorn result }
 
         // Where the nodes are known and sound.
-        ensures appended { IsSoundOn D.Device self.old.pager → OnOk result
+        ensures appended { IsSoundOn D.Device self.old → OnOk result
             (HasAppended list.now (view_of D.Device self.old).tree
             (view_of D.Device self.new).tree) }
-        ensures applied { IsSoundOn D.Device self.old.pager → OnOk result (IsApplied
+        ensures applied { IsSoundOn D.Device self.old → OnOk result (IsApplied
             (keys_of D.Device self.old.pager) list.now (keys_of D.Device self.new.pager)) }
-        ensures sound { IsSoundOn D.Device self.old.pager → IsSoundOn D.Device self.new.pager }
+        ensures sound { IsSoundOn D.Device self.old → IsSoundOn D.Device self.new }
     {
-        self.tree.store().nodes_are_placed();
-        let appended = append(&mut self.tree, list);
-        self.tree.store().nodes_are_placed();
+        self.tree.map.store().nodes_are_placed();
+        self.tree.recalled.forget_changed(list);
+        let appended = append(&mut self.tree.map, list);
+        self.tree.map.store().nodes_are_placed();
         appended
     }
 
@@ -122,20 +123,21 @@ impl<D: Device> Engine<D> {
             (IsWornForGraft (table_of self.old.pager)) result }
 
         // Where the nodes are known and sound.
-        ensures grafts { IsSoundOn D.Device self.old.pager → OnOk result
+        ensures grafts { IsSoundOn D.Device self.old → OnOk result
             (HasGrafted s.now d.now keep (view_of D.Device self.old).tree
             (view_of D.Device self.new).tree) }
-        ensures grafted { IsSoundOn D.Device self.old.pager → OnOk result (IsGrafted
+        ensures grafted { IsSoundOn D.Device self.old → OnOk result (IsGrafted
             (keys_of D.Device self.old.pager) s.now d.now keep
             (keys_of D.Device self.new.pager)) }
-        ensures sound { IsSoundOn D.Device self.old.pager → IsSoundOn D.Device self.new.pager }
-        ensures worn { IsSoundOn D.Device self.old.pager → IfErr result (OnWorn (IsWornByGraft
+        ensures sound { IsSoundOn D.Device self.old → IsSoundOn D.Device self.new }
+        ensures worn { IsSoundOn D.Device self.old → IfErr result (OnWorn (IsWornByGraft
             (nodes_of D.Device self.old.pager) (table_of self.old.pager)
             s.now d.now keep)) }
     {
-        self.tree.store().nodes_are_placed();
-        let grafted = graft(&mut self.tree, s, d, keep);
-        self.tree.store().nodes_are_placed();
+        self.tree.map.store().nodes_are_placed();
+        self.tree.recalled.clear();
+        let grafted = graft(&mut self.tree.map, s, d, keep);
+        self.tree.map.store().nodes_are_placed();
         grafted
     }
 }

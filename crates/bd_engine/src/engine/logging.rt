@@ -71,8 +71,8 @@ impl<D: Device> Engine<D> {
         ensures stays { Stays D.Device self.old.pager.dev self.new.pager.dev }
     {
         logs_have_the_same_numbers();
-        let synced = sync_by(self.tree.store_mut(), &mut self.log);
-        self.stop = stop_by(self.tree.store(), &synced);
+        let synced = sync_by(self.tree.map.store_mut(), &mut self.log);
+        self.stop = stop_by(self.tree.map.store(), &synced);
         synced
     }
 }

@@ -25,7 +25,7 @@ impl<D: Device> Engine<D> {
     /// none; pushes are passed over unless `pushes` asks for them. Only the device is read, and the
     /// view stays.
     pub fn next_change(&mut self, pushes: bool) -> Result<Option<Reclaim>, MapFault>
-        ensures first { IsSoundOn D.Device self.old.pager → IfOk result (λ found. MatchOption found
+        ensures first { IsSoundOn D.Device self.old → IfOk result (λ found. MatchOption found
             (HasNone pushes (nodes_of D.Device self.old.pager) (table_of self.old.pager)
             (table_of self.old.pager).root)
             (λ change. IsFirst pushes (nodes_of D.Device self.old.pager)
@@ -34,7 +34,7 @@ impl<D: Device> Engine<D> {
         ensures read { IsReadOn D.Device self.old self.new }
         ensures cause { HasCause D.Device self.old.pager self.new.pager NeverWorn result }
     {
-        self.tree.reclaim_next(pushes)
+        self.tree.map.reclaim_next(pushes)
     }
 
     /// Makes a change of reclaiming that `next_change` found in these nodes: what stands at the keys
@@ -48,22 +48,22 @@ impl<D: Device> Engine<D> {
             (IsWornToChange D.Device self.old.pager change) result }
 
         // Where the nodes are known and sound.
-        ensures made { IsSoundOn D.Device self.old.pager → OnOk result
+        ensures made { IsSoundOn D.Device self.old → OnOk result
             (IsReclaimMade (nodes_of D.Device self.old.pager) (table_of self.old.pager) change
             (nodes_of D.Device self.new.pager) (table_of self.new.pager)) }
-        ensures reclaimed { IsSoundOn D.Device self.old.pager → OnOk result
+        ensures reclaimed { IsSoundOn D.Device self.old → OnOk result
             (IsReclaimed (nodes_of D.Device self.old.pager) (table_of self.old.pager)
             (nodes_of D.Device self.new.pager) (table_of self.new.pager)) }
-        ensures less { IsSoundOn D.Device self.old.pager → OnOk result
+        ensures less { IsSoundOn D.Device self.old → OnOk result
             (LeavesLess (nodes_of D.Device self.old.pager) (table_of self.old.pager) change
             (nodes_of D.Device self.new.pager) (table_of self.new.pager)) }
-        ensures sound { IsSoundOn D.Device self.old.pager → IsSoundOn D.Device self.new.pager }
-        ensures same { IsSoundOn D.Device self.old.pager
+        ensures sound { IsSoundOn D.Device self.old → IsSoundOn D.Device self.new }
+        ensures same { IsSoundOn D.Device self.old
             → SameAt (keys_of D.Device self.old.pager) (keys_of D.Device self.new.pager) }
     {
-        self.tree.store().nodes_are_placed();
-        let made = self.tree.reclaim_step(change);
-        self.tree.store().nodes_are_placed();
+        self.tree.map.store().nodes_are_placed();
+        let made = self.tree.map.reclaim_step(change);
+        self.tree.map.store().nodes_are_placed();
         made
     }
 
@@ -84,9 +84,9 @@ impl<D: Device> Engine<D> {
 
     /// In sound nodes changes that aren't pushes come to an end. It does nothing.
     pub fn little_is_left(&self)
-        ensures { IsSoundOn D.Device self.now.pager → left_over (nodes_of D.Device self.now.pager)
+        ensures { IsSoundOn D.Device self.now → left_over (nodes_of D.Device self.now.pager)
             (table_of self.now.pager) < 2 ^ 90 }
     {
-        let _ = self.tree.store().next_id();
+        let _ = self.tree.map.store().next_id();
     }
 }

@@ -40,8 +40,8 @@ impl<D: Device> Engine<D> {
             → OnOk result (Saves (view_of D.Device self.old) (view_of D.Device self.new)) }
         ensures err { is_known D.Device self.old.pager
             → OnErr result (view_of D.Device self.new ≡ view_of D.Device self.old) }
-        ensures sound { IsSoundOn D.Device self.old.pager → IsSoundOn D.Device self.new.pager }
-        ensures same { IsSoundOn D.Device self.old.pager
+        ensures sound { IsSoundOn D.Device self.old → IsSoundOn D.Device self.new }
+        ensures same { IsSoundOn D.Device self.old
             → SameAt (keys_of D.Device self.old.pager) (keys_of D.Device self.new.pager) }
         ensures walk { self.new.walk ≡ self.old.walk }
 
@@ -80,11 +80,16 @@ impl<D: Device> Engine<D> {
         checkpoints_are_shown::<D>();
         checkpoints_keep_all();
         kept_nodes_are_listed();
-        let before = self.tree.store().write_faults();
-        self.tree.store().nodes_are_placed();
-        let saved = checkpoint(self.tree.store_mut(), &mut self.log, &mut self.live, count);
-        self.tree.store().nodes_are_placed();
-        self.stop = stop_after(self.tree.store(), before, &saved);
+        let before = self.tree.map.store().write_faults();
+        self.tree.map.store().nodes_are_placed();
+        let saved = checkpoint(
+            self.tree.map.store_mut(),
+            &mut self.log,
+            &mut self.live,
+            count,
+        );
+        self.tree.map.store().nodes_are_placed();
+        self.stop = stop_after(self.tree.map.store(), before, &saved);
         saved
     }
 
@@ -94,7 +99,7 @@ impl<D: Device> Engine<D> {
         ensures { self.now.stop ≡ None
             → IfSome (D.contents self.now.pager.dev) (HasSaved (view_of D.Device self.now)) }
     {
-        let _ = self.tree.store().blocks();
+        let _ = self.tree.map.store().blocks();
     }
 }
 

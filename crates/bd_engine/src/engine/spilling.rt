@@ -32,8 +32,8 @@ impl<D: Device> Engine<D> {
             ((memory_of self.new.pager ≤ memory_limit) ⊎ IsFull self.new.pager) }
         ensures enough { min memory_limit (memory_of self.old.pager)
             ≤ memory_of self.new.pager }
-        ensures sound { IsSoundOn D.Device self.old.pager → IsSoundOn D.Device self.new.pager }
-        ensures same { IsSoundOn D.Device self.old.pager
+        ensures sound { IsSoundOn D.Device self.old → IsSoundOn D.Device self.new }
+        ensures same { IsSoundOn D.Device self.old
             → SameAt (keys_of D.Device self.old.pager) (keys_of D.Device self.new.pager) }
         ensures goes { OnOk result (self.new.stop ≡ None) }
         ensures stop { OnErr result (IsStopped D.Device self.old self.new) }
@@ -44,9 +44,9 @@ impl<D: Device> Engine<D> {
         spills_change_nothing::<D>();
         tables_are_read_again();
         batches_are_one();
-        self.tree.store().nodes_are_placed();
-        let spilled = self.tree.store_mut().spill(MEMORY_LIMIT);
-        self.stop = stop_by(self.tree.store(), &spilled);
+        self.tree.map.store().nodes_are_placed();
+        let spilled = self.tree.map.store_mut().spill(MEMORY_LIMIT);
+        self.stop = stop_by(self.tree.map.store(), &spilled);
         spilled
     }
 }

@@ -13,7 +13,7 @@ ghost use Rattle.bd_checkpoint.specs.Commands.{IsPlacedIn};
 ghost use Rattle.bd_checkpoint.specs.Kept.{AllStandFor, AreOfTree};
 ghost use Rattle.bd_checkpoint.specs.Recovering.{OnlySettles, HasSettled, FailsFirst, IsBadIn, LeadsTo};
 ghost use Rattle.bd_view.specs.Views.{fresh_view};
-ghost use Rattle.bd_engine.specs.Engines.{view_of};
+ghost use Rattle.bd_engine.specs.Engines.{view_of, IsFreshOn};
 ghost use Rattle.bd_engine.specs.Stored.{IsFound, IsStoredBy, ArePlaced};
 
 use super::Engine;
@@ -50,6 +50,7 @@ impl<D: Device> Engine<D> {
         ensures going { IfOk result (λ o. o.engine.stop ≡ None) }
         ensures known { IsSome (D.contents dev)
             → IfOk result (λ o. is_known D.Device o.engine.pager) }
+        ensures fresh { IfOk result (λ o. IsFreshOn D.Device o.engine) }
         ensures first { IfOk result (λ o. (tree : Tree) (count : ℕ) → IfSome (D.contents dev)
             (λ image. ImageStandsFor tree count image → IsFound image
             (view_of D.Device o.engine) (map (λ p. p.command) o.commands.items))) }
@@ -112,6 +113,7 @@ impl<D: Device> Engine<D> {
             → IfOk result (λ engine. view_of D.Device engine ≡ fresh_view slots) }
         ensures known { IsSome (D.contents dev)
             → IfOk result (λ engine. is_known D.Device engine.pager) }
+        ensures fresh { IfOk result (IsFreshOn D.Device) }
         ensures tree { IsSome (D.contents dev) → IfOk result (λ engine. AreOfTree
             (nodes_of D.Device engine.pager) (table_of engine.pager) root_only) }
         ensures stands { IsSome (D.contents dev) → IfOk result

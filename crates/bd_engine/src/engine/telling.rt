@@ -24,7 +24,7 @@ impl<D: Device> Engine<D> {
         ensures { result ≡ changed_count (view_of D.Device self.now) }
     {
         numbers_are_shown::<D>();
-        let pager = self.tree.store();
+        let pager = self.tree.map.store();
         pager.nodes_are_placed();
         pager.changed()
     }
@@ -40,10 +40,10 @@ impl<D: Device> Engine<D> {
 
     /// Where the nodes are known and sound, no block is bad. It does nothing.
     pub fn sound_nodes_are_undamaged(&self)
-        ensures { IsSoundOn D.Device self.now.pager
+        ensures { IsSoundOn D.Device self.now
             → (block : ℕ) → ¬ is_bad D.Device self.now.pager block }
     {
         images_are_decoded();
-        self.tree.store().nodes_are_placed();
+        self.tree.map.store().nodes_are_placed();
     }
 }

@@ -43,9 +43,9 @@ impl<D: Device> Volume<D> {
             → IsAccepted t command.now (view_of D.Device self.old) (view_of D.Device self.new)) }
         ensures unmoved { IfOk result (λ reply. accepted command.now reply ≡ 0
             → view_of D.Device self.new ≡ view_of D.Device self.old) }
-        ensures begun { IsSoundOn D.Device self.old.engine.pager → OnErr result
+        ensures begun { IsSoundOn D.Device self.old.engine → OnErr result
             (HasStepped command.now (view_of D.Device self.old) (view_of D.Device self.new)) }
-        ensures fails { IsSoundOn D.Device self.old.engine.pager → IfErr result (λ fault.
+        ensures fails { IsSoundOn D.Device self.old.engine → IfErr result (λ fault.
             IsCommandFault fault (count_of self.old) command.now
             (view_of D.Device self.old) (view_of D.Device self.new)) }
         ensures refused { OnErr result ((t : Tree) (n : ℕ) → StandsFor D.Device self.old t n
@@ -77,7 +77,7 @@ impl<D: Device> Volume<D> {
         requires going { stop_of self.old ≡ None }
         ensures replies { IfOk result (λ reply. (t : Tree) (n : ℕ)
             → StandsFor D.Device self.old t n → reply ≡ (step t command.now).1) }
-        ensures fails { IsSoundOn D.Device self.old.engine.pager → IfErr result (λ fault.
+        ensures fails { IsSoundOn D.Device self.old.engine → IfErr result (λ fault.
             IsCommandFault fault (count_of self.old) command.now
             (view_of D.Device self.old) (view_of D.Device self.new)) }
 
@@ -102,7 +102,7 @@ impl<D: Device> Volume<D> {
         requires going { stop_of self.old ≡ None }
         ensures plan { (t : Tree) (n : ℕ) → StandsFor D.Device self.old t n → IfOk result
             (IsPlan (keys_of D.Device self.old.engine.pager) t command.now) }
-        ensures fails { IsSoundOn D.Device self.old.engine.pager → IfErr result (λ fault.
+        ensures fails { IsSoundOn D.Device self.old.engine → IfErr result (λ fault.
             IsCommandFault fault (count_of self.old) command.now
             (view_of D.Device self.old) (view_of D.Device self.new)) }
 
@@ -127,11 +127,11 @@ impl<D: Device> Volume<D> {
         requires ready { IsReady plan }
         requires kind { IsPlanKind command.now plan }
         requires going { stop_of self.old ≡ None }
-        ensures step { IsSoundOn D.Device self.old.engine.pager → (t : Tree)
+        ensures step { IsSoundOn D.Device self.old.engine → (t : Tree)
             → Represents (keys_of D.Device self.old.engine.pager) t
             → IsPlan (keys_of D.Device self.old.engine.pager) t command.now plan
             → IfOk result (TakesStep t command.now (keys_of D.Device self.new.engine.pager)) }
-        ensures moved { IsSoundOn D.Device self.old.engine.pager → (t : Tree)
+        ensures moved { IsSoundOn D.Device self.old.engine → (t : Tree)
             → IsPlan (keys_of D.Device self.old.engine.pager) t command.now plan
             → IfOk result (λ reply. accepted command.now reply ≡ 1 → IsAccepted t command.now
             (view_of D.Device self.old) (view_of D.Device self.new)) }
@@ -139,11 +139,11 @@ impl<D: Device> Volume<D> {
             → IsPlan (keys_of D.Device self.old.engine.pager) t command.now plan
             → IfOk result (TakesSafely D.Device command.now self.old self.new t n) }
         ensures keeps { OnErr result (KeepsStanding D.Device self.old self.new) }
-        ensures stepped { IsSoundOn D.Device self.old.engine.pager → OnErr result
+        ensures stepped { IsSoundOn D.Device self.old.engine → OnErr result
             (HasStepped command.now (view_of D.Device self.old) (view_of D.Device self.new)) }
-        ensures sound { IsSoundOn D.Device self.old.engine.pager
-            → IsSoundOn D.Device self.new.engine.pager }
-        ensures fails { IsSoundOn D.Device self.old.engine.pager → IfErr result (λ fault.
+        ensures sound { IsSoundOn D.Device self.old.engine
+            → IsSoundOn D.Device self.new.engine }
+        ensures fails { IsSoundOn D.Device self.old.engine → IfErr result (λ fault.
             IsCommandFault fault (count_of self.old) command.now
             (view_of D.Device self.old) (view_of D.Device self.new)) }
 
@@ -178,18 +178,18 @@ impl<D: Device> Volume<D> {
         requires logged { IsLogged command.now }
         requires small { IsSmallBatch list.now }
         requires going { stop_of self.old ≡ None }
-        ensures sends { IsSoundOn D.Device self.old.engine.pager → OnOk result (LogsIn command.now
+        ensures sends { IsSoundOn D.Device self.old.engine → OnOk result (LogsIn command.now
             (Batch list.now) (view_of D.Device self.old) (view_of D.Device self.new)) }
-        ensures applied { IsSoundOn D.Device self.old.engine.pager → OnOk result (IsApplied
+        ensures applied { IsSoundOn D.Device self.old.engine → OnOk result (IsApplied
             (keys_of D.Device self.old.engine.pager) list.now
             (keys_of D.Device self.new.engine.pager)) }
         ensures logged { OnOk result (HasLogged D.Device command.now self.old self.new) }
         ensures keeps { OnErr result (KeepsStanding D.Device self.old self.new) }
-        ensures stepped { IsSoundOn D.Device self.old.engine.pager → OnErr result
+        ensures stepped { IsSoundOn D.Device self.old.engine → OnErr result
             (HasStepped command.now (view_of D.Device self.old) (view_of D.Device self.new)) }
-        ensures sound { IsSoundOn D.Device self.old.engine.pager
-            → IsSoundOn D.Device self.new.engine.pager }
-        ensures fails { IsSoundOn D.Device self.old.engine.pager → IfErr result (λ fault.
+        ensures sound { IsSoundOn D.Device self.old.engine
+            → IsSoundOn D.Device self.new.engine }
+        ensures fails { IsSoundOn D.Device self.old.engine → IfErr result (λ fault.
             IsCommandFault fault (count_of self.old) command.now
             (view_of D.Device self.old) (view_of D.Device self.new)) }
 
@@ -216,18 +216,18 @@ impl<D: Device> Volume<D> {
         requires ready { IsReady (plan.Graft s.now d.now keep) }
         requires kind { IsPlanKind command.now (plan.Graft s.now d.now keep) }
         requires going { stop_of self.old ≡ None }
-        ensures sends { IsSoundOn D.Device self.old.engine.pager → OnOk result (LogsIn command.now
+        ensures sends { IsSoundOn D.Device self.old.engine → OnOk result (LogsIn command.now
             (Move s.now d.now keep) (view_of D.Device self.old) (view_of D.Device self.new)) }
-        ensures grafted { IsSoundOn D.Device self.old.engine.pager → OnOk result (IsGrafted
+        ensures grafted { IsSoundOn D.Device self.old.engine → OnOk result (IsGrafted
             (keys_of D.Device self.old.engine.pager) s.now d.now keep
             (keys_of D.Device self.new.engine.pager)) }
         ensures logged { OnOk result (HasLogged D.Device command.now self.old self.new) }
         ensures keeps { OnErr result (KeepsStanding D.Device self.old self.new) }
-        ensures stepped { IsSoundOn D.Device self.old.engine.pager → OnErr result
+        ensures stepped { IsSoundOn D.Device self.old.engine → OnErr result
             (HasStepped command.now (view_of D.Device self.old) (view_of D.Device self.new)) }
-        ensures sound { IsSoundOn D.Device self.old.engine.pager
-            → IsSoundOn D.Device self.new.engine.pager }
-        ensures fails { IsSoundOn D.Device self.old.engine.pager → IfErr result (λ fault.
+        ensures sound { IsSoundOn D.Device self.old.engine
+            → IsSoundOn D.Device self.new.engine }
+        ensures fails { IsSoundOn D.Device self.old.engine → IfErr result (λ fault.
             IsCommandFault fault (count_of self.old) command.now
             (view_of D.Device self.old) (view_of D.Device self.new)) }
 

@@ -27,12 +27,12 @@ impl<D: Device> Volume<D> {
     pub(crate) fn make_ready(&mut self, command: &Command) -> Result<(), Fault>
         requires logged { IsLogged command.now }
         requires going { stop_of self.old ≡ None }
-        ensures stepped { IsSoundOn D.Device self.old.engine.pager → HasStepped command.now
+        ensures stepped { IsSoundOn D.Device self.old.engine → HasStepped command.now
             (view_of D.Device self.old) (view_of D.Device self.new) }
-        ensures sound { IsSoundOn D.Device self.old.engine.pager
-            → IsSoundOn D.Device self.new.engine.pager }
+        ensures sound { IsSoundOn D.Device self.old.engine
+            → IsSoundOn D.Device self.new.engine }
         ensures keeps { KeepsStanding D.Device self.old self.new }
-        ensures fails { IsSoundOn D.Device self.old.engine.pager → IfErr result (λ fault.
+        ensures fails { IsSoundOn D.Device self.old.engine → IfErr result (λ fault.
             IsCommandFault fault (count_of self.old) command.now
             (view_of D.Device self.old) (view_of D.Device self.new)) }
 
@@ -68,12 +68,12 @@ impl<D: Device> Volume<D> {
     fn make_log_room(&mut self, command: &Command) -> Result<(), Fault>
         requires logged { IsLogged command.now }
         requires going { stop_of self.old ≡ None }
-        ensures steps { IsSoundOn D.Device self.old.engine.pager
+        ensures steps { IsSoundOn D.Device self.old.engine
             → AreSteps command.now 0 (view_of D.Device self.old) (view_of D.Device self.new) }
-        ensures sound { IsSoundOn D.Device self.old.engine.pager
-            → IsSoundOn D.Device self.new.engine.pager }
+        ensures sound { IsSoundOn D.Device self.old.engine
+            → IsSoundOn D.Device self.new.engine }
         ensures keeps { KeepsStanding D.Device self.old self.new }
-        ensures fails { IsSoundOn D.Device self.old.engine.pager → IfErr result (λ fault.
+        ensures fails { IsSoundOn D.Device self.old.engine → IfErr result (λ fault.
             IsStepFault fault command.now (view_of D.Device self.new)) }
 
         // Whatever is known.
@@ -101,14 +101,14 @@ impl<D: Device> Volume<D> {
     fn flush_step(&mut self, command: &Command) -> Result<bool, Fault>
         requires logged { IsLogged command.now }
         requires going { stop_of self.old ≡ None }
-        ensures flushed { IsSoundOn D.Device self.old.engine.pager → result ≡ Ok true
+        ensures flushed { IsSoundOn D.Device self.old.engine → result ≡ Ok true
             → AreSteps command.now 1 (view_of D.Device self.old) (view_of D.Device self.new) }
-        ensures rest { IsSoundOn D.Device self.old.engine.pager → result ≢ Ok true
+        ensures rest { IsSoundOn D.Device self.old.engine → result ≢ Ok true
             → AreSteps command.now 0 (view_of D.Device self.old) (view_of D.Device self.new) }
-        ensures sound { IsSoundOn D.Device self.old.engine.pager
-            → IsSoundOn D.Device self.new.engine.pager }
+        ensures sound { IsSoundOn D.Device self.old.engine
+            → IsSoundOn D.Device self.new.engine }
         ensures keeps { KeepsStanding D.Device self.old self.new }
-        ensures fails { IsSoundOn D.Device self.old.engine.pager → IfErr result (λ fault.
+        ensures fails { IsSoundOn D.Device self.old.engine → IfErr result (λ fault.
             IsStepFault fault command.now (view_of D.Device self.new)) }
 
         // Whatever is known.
@@ -134,12 +134,12 @@ impl<D: Device> Volume<D> {
     fn make_room(&mut self, command: &Command) -> Result<(), Fault>
         requires logged { IsLogged command.now }
         requires going { stop_of self.old ≡ None }
-        ensures steps { IsSoundOn D.Device self.old.engine.pager
+        ensures steps { IsSoundOn D.Device self.old.engine
             → AreSteps command.now 0 (view_of D.Device self.old) (view_of D.Device self.new) }
-        ensures sound { IsSoundOn D.Device self.old.engine.pager
-            → IsSoundOn D.Device self.new.engine.pager }
+        ensures sound { IsSoundOn D.Device self.old.engine
+            → IsSoundOn D.Device self.new.engine }
         ensures keeps { KeepsStanding D.Device self.old self.new }
-        ensures fails { IsSoundOn D.Device self.old.engine.pager → IfErr result (λ fault.
+        ensures fails { IsSoundOn D.Device self.old.engine → IfErr result (λ fault.
             IsStepFault fault command.now (view_of D.Device self.new)) }
 
         // Whatever is known.
@@ -168,12 +168,12 @@ impl<D: Device> Volume<D> {
     fn save_if_short(&mut self, command: &Command) -> Result<(), Fault>
         requires logged { IsLogged command.now }
         requires going { stop_of self.old ≡ None }
-        ensures steps { IsSoundOn D.Device self.old.engine.pager
+        ensures steps { IsSoundOn D.Device self.old.engine
             → AreSteps command.now 0 (view_of D.Device self.old) (view_of D.Device self.new) }
-        ensures sound { IsSoundOn D.Device self.old.engine.pager
-            → IsSoundOn D.Device self.new.engine.pager }
+        ensures sound { IsSoundOn D.Device self.old.engine
+            → IsSoundOn D.Device self.new.engine }
         ensures keeps { KeepsStanding D.Device self.old self.new }
-        ensures fails { IsSoundOn D.Device self.old.engine.pager → IfErr result (λ fault.
+        ensures fails { IsSoundOn D.Device self.old.engine → IfErr result (λ fault.
             IsStepFault fault command.now (view_of D.Device self.new)) }
 
         // Whatever is known.

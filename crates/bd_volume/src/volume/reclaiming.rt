@@ -8,9 +8,10 @@ ghost use Rattle.bd_checkpoint.specs.Kept.{AllStandFor};
 ghost use Rattle.bd_view.specs.Views.{changed_count, free_slots};
 ghost use Rattle.bd_view.specs.Moves.{Saves};
 ghost use Rattle.bd_view.specs.Reclaiming.{allows_push, edge_need, pushes_in, HasRoomFor, IsNextChange, HasNoChange, IsReclaim};
-ghost use Rattle.bd_engine.specs.Engines.{IsSoundOn, IsReadOn};
+ghost use Rattle.bd_message.specs.KeyMaps.{SameAt};
+ghost use Rattle.bd_engine.specs.Engines.{keys_of, IsSoundOn, IsReadOn};
 ghost use Rattle.bd_engine.specs.Reclaiming.{MayMake};
-ghost use Rattle.bd_volume.specs.Volume.{StandsFor, view_of, count_of, device_of, stop_of};
+ghost use Rattle.bd_volume.specs.Volume.{StandsFor, KeepsKeys, view_of, count_of, device_of, stop_of};
 ghost use Rattle.bd_volume.specs.Steps.{Ends, KeepsStanding};
 ghost use Rattle.bd_volume.specs.Reclaims.{ChangesOnce, IsChangedTo, ChangesAll, IsEdgeSaveFault, IsChangeFault, StopsChanging, ShowsEdge, IsReclaimFault, ShowsReclaim};
 
@@ -31,6 +32,7 @@ impl<D: Device> Volume<D> {
         ensures fails { IfErr result (λ fault. (t : Tree) (n : ℕ) → StandsFor D.Device self.old t n
             → IsReclaimFault fault (view_of D.Device self.old) (view_of D.Device self.new)) }
         ensures keeps { KeepsStanding D.Device self.old self.new }
+        ensures keys { KeepsKeys D.Device self.old self.new }
         ensures kept { OnOk result ((t : Tree) (n : ℕ) → StandsFor D.Device self.old t n
             → AllStandFor t n (left_now D.Device (device_of self.new))) }
         ensures only { OnOk result (IsOnly (D.contents (device_of self.new))
@@ -51,11 +53,12 @@ impl<D: Device> Volume<D> {
     // the loop does.
     fn change_all(&mut self) -> Result<(), Fault>
         requires { stop_of self.old ≡ None }
-        ensures changes { IsSoundOn D.Device self.old.engine.pager → OnOk result
+        ensures changes { IsSoundOn D.Device self.old.engine → OnOk result
             (ChangesAll (view_of D.Device self.old) (view_of D.Device self.new)) }
-        ensures fails { IsSoundOn D.Device self.old.engine.pager → IfErr result (λ fault.
+        ensures fails { IsSoundOn D.Device self.old.engine → IfErr result (λ fault.
             StopsChanging fault (view_of D.Device self.old) (view_of D.Device self.new)) }
         ensures keeps { KeepsStanding D.Device self.old self.new }
+        ensures keys { KeepsKeys D.Device self.old self.new }
 
         // Whatever is known.
         ensures shows { IfErr result (λ fault. ShowsEdge fault (view_of D.Device self.new)) }
@@ -79,14 +82,17 @@ impl<D: Device> Volume<D> {
     // writes changed nodes early.
     fn change_once(&mut self, pushes: u64) -> Result<Option<u64>, Fault>
         requires { stop_of self.old ≡ None }
-        ensures changes { IsSoundOn D.Device self.old.engine.pager → IfOk result (λ left.
+        ensures changes { IsSoundOn D.Device self.old.engine → IfOk result (λ left.
             IsChangedTo pushes left (view_of D.Device self.old) (view_of D.Device self.new)) }
-        ensures unmoved { IsSoundOn D.Device self.old.engine.pager
+        ensures unmoved { IsSoundOn D.Device self.old.engine
             → OnErr result (view_of D.Device self.new ≡ view_of D.Device self.old) }
-        ensures fails { IsSoundOn D.Device self.old.engine.pager → IfErr result (λ fault.
+        ensures fails { IsSoundOn D.Device self.old.engine → IfErr result (λ fault.
             IsChangeFault fault pushes (view_of D.Device self.new)) }
-        ensures sound { IsSoundOn D.Device self.old.engine.pager
-            → IsSoundOn D.Device self.new.engine.pager }
+        ensures sound { IsSoundOn D.Device self.old.engine
+            → IsSoundOn D.Device self.new.engine }
+        ensures same { IsSoundOn D.Device self.old.engine
+            → SameAt (keys_of D.Device self.old.engine.pager)
+            (keys_of D.Device self.new.engine.pager) }
         ensures keeps { KeepsStanding D.Device self.old self.new }
 
         // Whatever is known.
@@ -108,10 +114,10 @@ impl<D: Device> Volume<D> {
     // After so many pushes, looks for the next change.
     fn look(&mut self, pushes: u64) -> Result<Option<Reclaim>, Fault>
         requires { stop_of self.old ≡ None }
-        ensures first { IsSoundOn D.Device self.old.engine.pager → IfOk result (λ found.
+        ensures first { IsSoundOn D.Device self.old.engine → IfOk result (λ found.
             MatchOption found (HasNoChange pushes (view_of D.Device self.old))
             (λ change. IsNextChange pushes change (view_of D.Device self.old))) }
-        ensures fails { IsSoundOn D.Device self.old.engine.pager → IfErr result (λ fault.
+        ensures fails { IsSoundOn D.Device self.old.engine → IfErr result (λ fault.
             IsChangeFault fault pushes (view_of D.Device self.new)) }
 
         // Whatever is known.
@@ -133,17 +139,20 @@ impl<D: Device> Volume<D> {
     fn make(&mut self, pushes: u64, change: Reclaim) -> Result<u64, Fault>
         requires going { stop_of self.old ≡ None }
         requires may { MayMake D.Device self.old.engine.pager change }
-        ensures made { IsSoundOn D.Device self.old.engine.pager
+        ensures made { IsSoundOn D.Device self.old.engine
             → IsNextChange pushes change (view_of D.Device self.old)
             → HasRoomFor change (view_of D.Device self.old) → IfOk result (λ after.
             ChangesOnce pushes after (view_of D.Device self.old) (view_of D.Device self.new)) }
-        ensures unmoved { IsSoundOn D.Device self.old.engine.pager
+        ensures unmoved { IsSoundOn D.Device self.old.engine
             → OnErr result (view_of D.Device self.new ≡ view_of D.Device self.old) }
-        ensures fails { IsSoundOn D.Device self.old.engine.pager
+        ensures fails { IsSoundOn D.Device self.old.engine
             → IsNextChange pushes change (view_of D.Device self.old)
             → IfErr result (λ fault. IsChangeFault fault pushes (view_of D.Device self.new)) }
-        ensures sound { IsSoundOn D.Device self.old.engine.pager
-            → IsSoundOn D.Device self.new.engine.pager }
+        ensures sound { IsSoundOn D.Device self.old.engine
+            → IsSoundOn D.Device self.new.engine }
+        ensures same { IsSoundOn D.Device self.old.engine
+            → SameAt (keys_of D.Device self.old.engine.pager)
+            (keys_of D.Device self.new.engine.pager) }
         ensures keeps { KeepsStanding D.Device self.old self.new }
 
         // Whatever is known.
@@ -163,12 +172,15 @@ impl<D: Device> Volume<D> {
         requires going { stop_of self.old ≡ None }
         requires short { free_slots (view_of D.Device self.old)
             < edge_need (view_of D.Device self.old) }
-        ensures saves { IsSoundOn D.Device self.old.engine.pager → OnOk result
+        ensures saves { IsSoundOn D.Device self.old.engine → OnOk result
             (Saves (view_of D.Device self.old) (view_of D.Device self.new)) }
-        ensures unmoved { IsSoundOn D.Device self.old.engine.pager
+        ensures unmoved { IsSoundOn D.Device self.old.engine
             → OnErr result (view_of D.Device self.new ≡ view_of D.Device self.old) }
-        ensures sound { IsSoundOn D.Device self.old.engine.pager
-            → IsSoundOn D.Device self.new.engine.pager }
+        ensures sound { IsSoundOn D.Device self.old.engine
+            → IsSoundOn D.Device self.new.engine }
+        ensures same { IsSoundOn D.Device self.old.engine
+            → SameAt (keys_of D.Device self.old.engine.pager)
+            (keys_of D.Device self.new.engine.pager) }
         ensures keeps { KeepsStanding D.Device self.old self.new }
 
         // Whatever is known.

@@ -61,8 +61,8 @@ impl<D: Device> Volume<D> {
         requires going { stop_of self.old ≡ None }
         ensures replays { (t : Tree) → HasTreeOn D.Device self.old t
             → OnOk result (ReplaysOn D.Device t placed.now.command self.old self.new) }
-        ensures sound { IsSoundOn D.Device self.old.engine.pager
-            → IsSoundOn D.Device self.new.engine.pager }
+        ensures sound { IsSoundOn D.Device self.old.engine
+            → IsSoundOn D.Device self.new.engine }
         ensures counts { OnOk result (count_of self.new ≡ count_of self.old + 1) }
         ensures fails { IfErr result (λ fault.
             IsReplayFault D.Device fault placed.now self.old) }
@@ -89,8 +89,8 @@ impl<D: Device> Volume<D> {
         ensures replays { (t : Tree) → HasTreeOn D.Device self.old t
             → IsPlan (keys_of D.Device self.old.engine.pager) t placed.now.command plan
             → OnOk result (ReplaysOn D.Device t placed.now.command self.old self.new) }
-        ensures sound { IsSoundOn D.Device self.old.engine.pager
-            → IsSoundOn D.Device self.new.engine.pager }
+        ensures sound { IsSoundOn D.Device self.old.engine
+            → IsSoundOn D.Device self.new.engine }
         ensures fails { IfErr result (λ fault.
             IsSendFault D.Device fault placed.now plan self.old) }
         ensures writes { ReplaysEarly D.Device self.old self.new result }
@@ -114,13 +114,13 @@ impl<D: Device> Volume<D> {
         requires logged { IsLogged command.now }
         requires small { IsSmallBatch list.now }
         requires going { stop_of self.old ≡ None }
-        ensures sends { IsSoundOn D.Device self.old.engine.pager → OnOk result (SendsAgain
+        ensures sends { IsSoundOn D.Device self.old.engine → OnOk result (SendsAgain
             command.now (Batch list.now) (view_of D.Device self.old) (view_of D.Device self.new)) }
-        ensures applied { IsSoundOn D.Device self.old.engine.pager → OnOk result (IsApplied
+        ensures applied { IsSoundOn D.Device self.old.engine → OnOk result (IsApplied
             (keys_of D.Device self.old.engine.pager) list.now
             (keys_of D.Device self.new.engine.pager)) }
-        ensures sound { IsSoundOn D.Device self.old.engine.pager
-            → IsSoundOn D.Device self.new.engine.pager }
+        ensures sound { IsSoundOn D.Device self.old.engine
+            → IsSoundOn D.Device self.new.engine }
         ensures fails { IfErr result (λ fault.
             IsAgainFault D.Device fault command.now self.old) }
         ensures writes { ReplaysEarly D.Device self.old self.new result }
@@ -146,14 +146,14 @@ impl<D: Device> Volume<D> {
         requires ready { IsReady (plan.Graft s.now d.now keep) }
         requires kind { IsPlanKind command.now (plan.Graft s.now d.now keep) }
         requires going { stop_of self.old ≡ None }
-        ensures sends { IsSoundOn D.Device self.old.engine.pager → OnOk result (SendsAgain
+        ensures sends { IsSoundOn D.Device self.old.engine → OnOk result (SendsAgain
             command.now (Move s.now d.now keep) (view_of D.Device self.old)
             (view_of D.Device self.new)) }
-        ensures grafted { IsSoundOn D.Device self.old.engine.pager → OnOk result (IsGrafted
+        ensures grafted { IsSoundOn D.Device self.old.engine → OnOk result (IsGrafted
             (keys_of D.Device self.old.engine.pager) s.now d.now keep
             (keys_of D.Device self.new.engine.pager)) }
-        ensures sound { IsSoundOn D.Device self.old.engine.pager
-            → IsSoundOn D.Device self.new.engine.pager }
+        ensures sound { IsSoundOn D.Device self.old.engine
+            → IsSoundOn D.Device self.new.engine }
         ensures fails { IfErr result (λ fault.
             IsAgainFault D.Device fault command.now self.old) }
         ensures writes { ReplaysEarly D.Device self.old self.new result }
@@ -172,13 +172,13 @@ impl<D: Device> Volume<D> {
     fn flush_again(&mut self, command: &Command) -> Result<(), Fault>
         requires logged { IsLogged command.now }
         requires going { stop_of self.old ≡ None }
-        ensures flushed { IsSoundOn D.Device self.old.engine.pager → OnOk result
+        ensures flushed { IsSoundOn D.Device self.old.engine → OnOk result
             (HasFlushedAgain command.now (view_of D.Device self.old) (view_of D.Device self.new)) }
-        ensures same { IsSoundOn D.Device self.old.engine.pager
+        ensures same { IsSoundOn D.Device self.old.engine
             → SameAt (keys_of D.Device self.old.engine.pager)
             (keys_of D.Device self.new.engine.pager) }
-        ensures sound { IsSoundOn D.Device self.old.engine.pager
-            → IsSoundOn D.Device self.new.engine.pager }
+        ensures sound { IsSoundOn D.Device self.old.engine
+            → IsSoundOn D.Device self.new.engine }
         ensures fails { IfErr result (λ fault.
             IsAgainFault D.Device fault command.now self.old) }
         ensures enough { OnOk result
@@ -203,15 +203,15 @@ impl<D: Device> Volume<D> {
     fn flush_once(&mut self, command: &Command) -> Result<bool, Fault>
         requires logged { IsLogged command.now }
         requires going { stop_of self.old ≡ None }
-        ensures flushed { IsSoundOn D.Device self.old.engine.pager → result ≡ Ok true
+        ensures flushed { IsSoundOn D.Device self.old.engine → result ≡ Ok true
             → FlushesAgain command.now (view_of D.Device self.old) (view_of D.Device self.new) }
-        ensures rest { IsSoundOn D.Device self.old.engine.pager → result ≢ Ok true
+        ensures rest { IsSoundOn D.Device self.old.engine → result ≢ Ok true
             → view_of D.Device self.new ≡ view_of D.Device self.old }
-        ensures same { IsSoundOn D.Device self.old.engine.pager
+        ensures same { IsSoundOn D.Device self.old.engine
             → SameAt (keys_of D.Device self.old.engine.pager)
             (keys_of D.Device self.new.engine.pager) }
-        ensures sound { IsSoundOn D.Device self.old.engine.pager
-            → IsSoundOn D.Device self.new.engine.pager }
+        ensures sound { IsSoundOn D.Device self.old.engine
+            → IsSoundOn D.Device self.new.engine }
         ensures fails { IfErr result (λ fault.
             IsFlushFault D.Device fault command.now self.old) }
         ensures enough { result ≡ Ok false

@@ -8,7 +8,8 @@ ghost use Rattle.bd_checkpoint.specs.Kept.{AllStandFor};
 ghost use Rattle.bd_view.specs.Views.{changed_count, free_slots, save_slots};
 ghost use Rattle.bd_view.specs.Moves.{Saves, CannotSave};
 ghost use Rattle.bd_pager.specs.Counting.{memory_of, IsFull};
-ghost use Rattle.bd_engine.specs.Engines.{memory_limit, IsSoundOn, IsBegunAnew, WritesEarly};
+ghost use Rattle.bd_message.specs.KeyMaps.{SameAt};
+ghost use Rattle.bd_engine.specs.Engines.{keys_of, memory_limit, IsSoundOn, IsBegunAnew, WritesEarly};
 ghost use Rattle.bd_volume.specs.Volume.{StandsFor, view_of, count_of, device_of, stop_of};
 ghost use Rattle.bd_volume.specs.Steps.{Ends, KeepsStanding, IsSaveFault};
 
@@ -37,12 +38,15 @@ impl<D: Device> Volume<D> {
         requires going { stop_of self.old ≡ None }
         requires room { save_slots (view_of D.Device self.old)
             ≤ free_slots (view_of D.Device self.old) }
-        ensures saves { IsSoundOn D.Device self.old.engine.pager
+        ensures saves { IsSoundOn D.Device self.old.engine
             → OnOk result (Saves (view_of D.Device self.old) (view_of D.Device self.new)) }
-        ensures err { IsSoundOn D.Device self.old.engine.pager
+        ensures err { IsSoundOn D.Device self.old.engine
             → OnErr result (view_of D.Device self.new ≡ view_of D.Device self.old) }
-        ensures sound { IsSoundOn D.Device self.old.engine.pager
-            → IsSoundOn D.Device self.new.engine.pager }
+        ensures sound { IsSoundOn D.Device self.old.engine
+            → IsSoundOn D.Device self.new.engine }
+        ensures same { IsSoundOn D.Device self.old.engine
+            → SameAt (keys_of D.Device self.old.engine.pager)
+            (keys_of D.Device self.new.engine.pager) }
         ensures keeps { KeepsStanding D.Device self.old self.new }
         ensures kept { OnOk result ((t : Tree) (n : ℕ) → StandsFor D.Device self.old t n
             → AllStandFor t n (left_now D.Device (device_of self.new))) }
@@ -71,10 +75,13 @@ impl<D: Device> Volume<D> {
         ensures early { WritesEarly D.Device self.old.engine self.new.engine }
         ensures few { OnOk result ((memory_of self.new.engine.pager ≤ memory_limit)
             ⊎ IsFull self.new.engine.pager) }
-        ensures view { IsSoundOn D.Device self.old.engine.pager
+        ensures view { IsSoundOn D.Device self.old.engine
             → view_of D.Device self.new ≡ view_of D.Device self.old }
-        ensures sound { IsSoundOn D.Device self.old.engine.pager
-            → IsSoundOn D.Device self.new.engine.pager }
+        ensures sound { IsSoundOn D.Device self.old.engine
+            → IsSoundOn D.Device self.new.engine }
+        ensures same { IsSoundOn D.Device self.old.engine
+            → SameAt (keys_of D.Device self.old.engine.pager)
+            (keys_of D.Device self.new.engine.pager) }
         ensures keeps { KeepsStanding D.Device self.old self.new }
         ensures kind { IfErr result (λ fault. fault ≡ Fault.Device) }
         ensures ends { Ends D.Device self.old self.new result }

@@ -1,11 +1,29 @@
 -- Reads leave what holds between two calls.
+use Rattle.std.proofs.Common.{◌≡◌, subst}
+use Rattle.std.specs.Prelude.{IfOk}
+use Rattle.bd_model.specs.Tree.{Tree, IsTree}
+use Rattle.bd_model.specs.Step.{step}
+use Rattle.bd_represent.specs.Represents.{Represents}
 use Rattle.bd_pager.specs.Calling.{read_keeps}
-use Rattle.bd_engine.specs.Engines.{seen}
-use Rattle.bd_engine.proofs.Left.{kept_standing}
+use Rattle.bd_engine.specs.Engines.{EngineState, seen, keys_of, IsSoundOn, IsReadOn}
+use Rattle.bd_engine.proofs.Left.{kept_standing, read_on}
 use Rattle.bd_engine.proofs.engine.Engine.answer.Goals as goal
 
 pub invariant_of-self : goal.invariant_of-self
 invariant_of-self g c =
     let i = c.self.inside in
-    kept_standing g.D.Device (seen i.tree.store i.log i.live i.stop i.tree.walk) c.answer.new.m.store c.answer.new.m.walk (g.met.D.Device.since_earlier c.answer.new.m.store.dev) c.self.invariant
-    (read_keeps g.D.Device i.tree.store c.answer.new.m.store c.answer.ensures.left.read.0)
+    kept_standing g.D.Device (seen i.tree.map.store i.tree.recalled.found.entries i.log i.live i.stop i.tree.map.walk) c.answer.new.m.map.store c.answer.new.m.recalled.found.entries c.answer.new.m.map.walk (g.met.D.Device.since_earlier c.answer.new.m.map.store.dev) c.self.invariant
+    (read_keeps g.D.Device i.tree.map.store c.answer.new.m.map.store c.answer.ensures.left.read.0)
+
+pub returns-clause-read : goal.returns-clause-read
+returns-clause-read g c =
+    let i = c.self.inside in
+    let left = c.answer.ensures.left in
+    subst (λ (e : EngineState g.row.D.Denot). IsReadOn g.D.Device e (seen c.answer.new.m.map.store c.answer.new.m.recalled.found.entries i.log i.live i.stop c.answer.new.m.map.walk)) c.self.view_is
+    (read_on g.D.Device (seen i.tree.map.store i.tree.recalled.found.entries i.log i.live i.stop i.tree.map.walk) c.answer.new.m.map.store c.answer.new.m.recalled.found.entries c.answer.new.m.map.walk left.read.1 left.read.0
+    (λ s. let known = left.known ((s.known, s.sound), s.kept) in record { known = known.0.0; sound = known.0.1; kept = known.1 }))
+
+pub returns-clause-reply : goal.returns-clause-reply
+returns-clause-reply g c =
+    subst (λ (e : EngineState g.row.D.Denot). IsSoundOn g.D.Device e → (t : Tree) → IsTree t → Represents (keys_of g.D.Device e.pager) t → IfOk c.answer.result (λ reply. reply ≡ (step t c.args.command.now).1)) c.self.view_is
+    (λ s. c.answer.ensures.reply ((s.known, s.sound), s.kept))

@@ -14,6 +14,7 @@ use Rattle.bd_checkpoint.proofs.Starting.{PartsAreOne}
 use Rattle.bd_engine.specs.Engines.{EngineState, view_of}
 use Rattle.bd_engine.specs.Stored.{IsFound, IsStoredBy, ArePlaced}
 use Rattle.bd_engine.proofs.Starting.{opened_standing, first_view, stored_by, are_placed}
+use Rattle.bd_engine.proofs.Recalls.{kept_none, sound_with}
 use Rattle.bd_engine.proofs.engine.Engine.open.Goals as goal
 
 pub over-requires : goal.over-requires
@@ -22,7 +23,7 @@ over-requires g c =
     opened_standing g.D.Device (g.D.Device.contents c.args.dev) r.pager r.log r.live c.in-Ok.ensures.opened c.in-Ok.ensures.open c.in-Ok.ensures.idle
 
 pub returns-clause-known : goal.returns-clause-known
-returns-clause-known g c = λ told. subst (λ (e : EngineState g.row.D.Denot). is_known g.D.Device e.pager) (sym c.over.ensures) (c.in-Ok.ensures.known told)
+returns-clause-known g c = λ told. subst (λ (e : EngineState g.row.D.Denot). is_known g.D.Device e.pager) (sym c.over.ensures.started) (c.in-Ok.ensures.known told)
 
 pub returns-clause-first : goal.returns-clause-first
 returns-clause-first g c = λ tree count.
@@ -31,29 +32,29 @@ returns-clause-first g c = λ tree count.
     let r = c.in-Ok.recovered in
     let one : PartsAreOne = record { tables = c.tables_are_read_again.ensures; batches = c.batches_are_one.ensures } in
     let is_live = subst (λ (o : Option Image). IfSome o (λ image. IsLive image r.live)) c.in-Ok.ensures.reads.kept c.in-Ok.ensures.open.live_is in
-    subst (λ (e : EngineState g.row.D.Denot). IfSome known (λ image. ImageStandsFor tree count image → IsFound image (view_of D e) (map (λ p. p.command) r.commands.items))) (sym c.over.ensures)
-    (first_view D one known r.pager r.log r.live c.in-Ok.ensures.opened c.in-Ok.ensures.stored is_live c.in-Ok.ensures.batches c.in-Ok.ensures.idle r.commands.items c.in-Ok.ensures.commands tree count)
+    subst (λ (e : EngineState g.row.D.Denot). IfSome known (λ image. ImageStandsFor tree count image → IsFound image (view_of D e) (map (λ p. p.command) r.commands.items))) (sym c.over.ensures.started)
+    (first_view D one known r.pager c.over.result.recalled r.log r.live c.in-Ok.ensures.opened c.in-Ok.ensures.stored is_live c.in-Ok.ensures.batches c.in-Ok.ensures.idle r.commands.items c.in-Ok.ensures.commands tree count)
 
 pub returns-clause-replay : goal.returns-clause-replay
 returns-clause-replay g c = λ tree count stands.
     let D = g.D.Device in
     let r = c.in-Ok.recovered in
-    subst (λ (e : EngineState g.row.D.Denot). LeadsTo D e.pager e.live r.commands.items tree count) (sym c.over.ensures) (c.in-Ok.ensures.replay tree count stands)
+    subst (λ (e : EngineState g.row.D.Denot). LeadsTo D e.pager e.live r.commands.items tree count) (sym c.over.ensures.started) (c.in-Ok.ensures.replay tree count stands)
 
 pub returns-clause-only : goal.returns-clause-only
 returns-clause-only g c =
     let D = g.D.Device in
-    subst (λ (e : EngineState g.row.D.Denot). IsOnly (D.contents e.pager.dev) (left_now D e.pager.dev)) (sym c.over.ensures) c.in-Ok.ensures.only
+    subst (λ (e : EngineState g.row.D.Denot). IsOnly (D.contents e.pager.dev) (left_now D e.pager.dev)) (sym c.over.ensures.started) c.in-Ok.ensures.only
 
 pub returns-clause-reads : goal.returns-clause-reads
 returns-clause-reads g c =
     let D = g.D.Device in
-    subst (λ (e : EngineState g.row.D.Denot). OnlyReads D c.args.dev e.pager.dev) (sym c.over.ensures) c.in-Ok.ensures.reads
+    subst (λ (e : EngineState g.row.D.Denot). OnlyReads D c.args.dev e.pager.dev) (sym c.over.ensures.started) c.in-Ok.ensures.reads
 
 pub returns-clause-faults : goal.returns-clause-faults
 returns-clause-faults g c =
     let D = g.D.Device in
-    subst (λ (e : EngineState g.row.D.Denot). D.fault_count e.pager.dev ≡ D.fault_count c.args.dev) (sym c.over.ensures) c.in-Ok.ensures.faults
+    subst (λ (e : EngineState g.row.D.Denot). D.fault_count e.pager.dev ≡ D.fault_count c.args.dev) (sym c.over.ensures.started) c.in-Ok.ensures.faults
 
 pub returns-clause-placed : goal.returns-clause-placed
 returns-clause-placed g c =
@@ -61,13 +62,13 @@ returns-clause-placed g c =
     let known = D.contents c.args.dev in
     let r = c.in-Ok.recovered in
     let is_live = subst (λ (o : Option Image). IfSome o (λ image. IsLive image r.live)) c.in-Ok.ensures.reads.kept c.in-Ok.ensures.open.live_is in
-    subst (λ (e : EngineState g.row.D.Denot). IfSome known (λ image. ArePlaced image e.live r.commands.items)) (sym c.over.ensures)
+    subst (λ (e : EngineState g.row.D.Denot). IfSome known (λ image. ArePlaced image e.live r.commands.items)) (sym c.over.ensures.started)
     (are_placed known r.log r.live r.commands.items is_live c.in-Ok.ensures.batches c.in-Ok.ensures.commands)
 
 pub returns-clause-each : goal.returns-clause-each
 returns-clause-each g c =
     let r = c.in-Ok.recovered in
-    subst (λ (e : EngineState g.row.D.Denot). All (IsPlacedIn (version_of e.live)) r.commands.items) (sym c.over.ensures) c.in-Ok.ensures.commands.each
+    subst (λ (e : EngineState g.row.D.Denot). All (IsPlacedIn (version_of e.live)) r.commands.items) (sym c.over.ensures.started) c.in-Ok.ensures.commands.each
 
 pub returns-clause-stored : goal.returns-clause-stored
 returns-clause-stored g c =
@@ -75,13 +76,17 @@ returns-clause-stored g c =
     let known = D.contents c.args.dev in
     let r = c.in-Ok.recovered in
     let is_live = subst (λ (o : Option Image). IfSome o (λ image. IsLive image r.live)) c.in-Ok.ensures.reads.kept c.in-Ok.ensures.open.live_is in
-    subst (λ (e : EngineState g.row.D.Denot). IfSome known (IsStoredBy D e)) (sym c.over.ensures)
-    (stored_by D known r.pager r.log r.live c.in-Ok.ensures.opened c.in-Ok.ensures.stored is_live)
+    subst (λ (e : EngineState g.row.D.Denot). IfSome known (IsStoredBy D e)) (sym c.over.ensures.started)
+    (stored_by D known r.pager c.over.result.recalled r.log r.live c.in-Ok.ensures.opened c.in-Ok.ensures.stored is_live)
 
 pub returns-clause-idle : goal.returns-clause-idle
 returns-clause-idle g c =
-    subst (λ (e : EngineState g.row.D.Denot). e.log.waiting ≡ []) (sym c.over.ensures) (ap (λ (l : LogState). l.waiting) c.in-Ok.ensures.idle)
+    subst (λ (e : EngineState g.row.D.Denot). e.log.waiting ≡ []) (sym c.over.ensures.started) (ap (λ (l : LogState). l.waiting) c.in-Ok.ensures.idle)
 
 pub returns-clause-settled : goal.returns-clause-settled
 returns-clause-settled g c =
-    subst (λ (e : EngineState g.row.D.Denot). HasSettled g.D.Device c.args.dev e.pager.dev) (sym c.over.ensures) c.in-Ok.ensures.settled
+    subst (λ (e : EngineState g.row.D.Denot). HasSettled g.D.Device c.args.dev e.pager.dev) (sym c.over.ensures.started) c.in-Ok.ensures.settled
+
+pub returns-clause-fresh : goal.returns-clause-fresh
+returns-clause-fresh g c = λ h.
+    sound_with g.D.Device c.over.result h (kept_none _ c.over.result.recalled c.over.ensures.fresh)

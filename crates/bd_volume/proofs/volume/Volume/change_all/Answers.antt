@@ -1,5 +1,5 @@
 -- Each change is one more, and a fault leaves those before it.
-use Rattle.std.proofs.Common.{ℕ, Option, subst, arith}
+use Rattle.std.proofs.Common.{ℕ, Option, refl, subst, ◌∙◌, arith}
 use Rattle.std.proofs.lemmas.Result.{err_from_is_err_and}
 use Rattle.bd_view.specs.Reclaiming.AreReclaims.{none}
 use Rattle.bd_engine.specs.Engines.{IsSoundOn}
@@ -14,6 +14,7 @@ pub loop-made-init : goal.loop-made-init
 loop-made-init g c = record {
   goes = no_call g.D.Device c.args.self.now c.requires;
   sound = λ s. s;
+  same = λ s k. refl;
   keeps = keeps_none g.D.Device c.args.self.now;
   changes = λ s. none (view_of g.D.Device c.args.self.now);
   within = λ s. within_first (view_of g.D.Device c.args.self.now) (c.little_is_left.ensures s);
@@ -26,10 +27,11 @@ loop-made-preserved g c =
     let a = view_of g.D.Device c.args.self.now in
     let b = view_of g.D.Device c.loop-made.self in
     let d = view_of g.D.Device c.change_once.new.self in
-    let once : IsSoundOn g.D.Device c.args.self.now.engine.pager → ChangesOnce c.loop-made.pushes c.in-Some.after b d = λ s. subst (λ (o : Option ℕ). IsChangedTo c.loop-made.pushes o b d) c.in-Some.is (h.changes (i.sound s)) in
+    let once : IsSoundOn g.D.Device c.args.self.now.engine → ChangesOnce c.loop-made.pushes c.in-Some.after b d = λ s. subst (λ (o : Option ℕ). IsChangedTo c.loop-made.pushes o b d) c.in-Some.is (h.changes (i.sound s)) in
     record {
       goes = goes_then g.D.Device c.args.self.now c.loop-made.self c.change_once.new.self i.goes (went_on g.D.Device c.loop-made.self c.change_once.new.self _ h.ends h.count_stays);
       sound = λ s. h.sound (i.sound s);
+      same = λ s k. h.same (i.sound s) k ∙ i.same s k;
       keeps = keeps_then g.D.Device c.args.self.now c.loop-made.self c.change_once.new.self (g.met.D.Device.since_earlier c.loop-made.self.engine.pager.dev) i.keeps h.keeps;
       changes = λ s. changed_more c.loop-made.pushes c.in-Some.after a b d (i.changes s) (once s);
       within = λ s. within_next c.loop-made._made c.loop-made.pushes c.in-Some.after b d (i.within s) (once s) (c.little_is_left-in-loop-made.ensures (h.sound (i.sound s)));
@@ -68,3 +70,18 @@ returns-in_default-clause-ends g c =
 pub returns-clause-changes : goal.returns-clause-changes
 returns-clause-changes g c = λ s.
     within_end c.loop-made._made c.loop-made.pushes (view_of g.D.Device c.loop-made.self) (c.loop-made.invariant.within s) (omega (arith, c.loop-made-test.false))
+
+pub returns-in_err-after-clause-keys : goal.returns-in_err-after-clause-keys
+returns-in_err-after-clause-keys g c = record {
+  sound = λ s. c.in_err-after.ensures.sound (c.loop-made.invariant.sound s);
+  same = λ s k. c.in_err-after.ensures.same (c.loop-made.invariant.sound s) k ∙ c.loop-made.invariant.same s k;
+}
+
+pub returns-in_default-clause-keys : goal.returns-in_default-clause-keys
+returns-in_default-clause-keys g c = record {
+  sound = λ s. c.in_ok-after.ensures.sound (c.loop-made.invariant.sound s);
+  same = λ s k. c.in_ok-after.ensures.same (c.loop-made.invariant.sound s) k ∙ c.loop-made.invariant.same s k;
+}
+
+pub returns-clause-keys : goal.returns-clause-keys
+returns-clause-keys g c = record { sound = c.loop-made.invariant.sound; same = c.loop-made.invariant.same }

@@ -11,7 +11,7 @@ use Rattle.bd_volume.specs.Reclaims.{ChangesOnce, IsChangedTo, IsChangeFault, Sh
 use Rattle.bd_volume.specs.Volume.{view_of}
 use Rattle.bd_volume.proofs.Called.{went_on, goes_then, ends_then, ends_err, ends_well}
 use Rattle.bd_volume.proofs.Keeping.{keeps_read, keeps_then}
-use Rattle.bd_volume.proofs.Read.{read_sound}
+use Rattle.bd_volume.proofs.Read.{read_same}
 use Rattle.bd_volume.proofs.Reclaims.{none_left, saved_once}
 use Rattle.bd_volume.proofs.volume.Volume.change_once.Goals as goal
 
@@ -40,7 +40,7 @@ returns-in_err-change-clause-unmoved g c = λ s.
     rw p.1 (c.in_err-change.ensures.read.view ∙ c.in_ok-spill.ensures.view s)
 
 pub returns-in_err-change-clause-sound : goal.returns-in_err-change-clause-sound
-returns-in_err-change-clause-sound g c = λ s. read_sound g.D.Device c.spill.new.self.engine c.look.new.self.engine c.in_err-change.ensures.read (c.in_ok-spill.ensures.sound s)
+returns-in_err-change-clause-sound g c = λ s. c.in_err-change.ensures.read.sound (c.in_ok-spill.ensures.sound s)
 
 pub returns-in_err-change-clause-keeps : goal.returns-in_err-change-clause-keeps
 returns-in_err-change-clause-keeps g c =
@@ -63,7 +63,7 @@ returns-in_default-clause-changes g c = λ s.
     (subst (λ (o : Option Reclaim). MatchOption o (HasNoChange c.args.pushes a) (λ change. IsNextChange c.args.pushes change a)) c.in_default.is (c.in_ok-change.ensures.first sound)))
 
 pub returns-in_default-clause-sound : goal.returns-in_default-clause-sound
-returns-in_default-clause-sound g c = λ s. read_sound g.D.Device c.spill.new.self.engine c.look.new.self.engine c.in_ok-change.ensures.read (c.in_ok-spill.ensures.sound s)
+returns-in_default-clause-sound g c = λ s. c.in_ok-change.ensures.read.sound (c.in_ok-spill.ensures.sound s)
 
 pub returns-in_default-clause-keeps : goal.returns-in_default-clause-keeps
 returns-in_default-clause-keeps g c =
@@ -81,12 +81,12 @@ returns-in_default-clause-ends g c =
 pub returns-in_err-save_for_edge-clause-unmoved : goal.returns-in_err-save_for_edge-clause-unmoved
 returns-in_err-save_for_edge-clause-unmoved g c = λ s.
     let p = err_from_is_err_and c.from_residual-in_err-save_for_edge.result c.from_residual-in_err-save_for_edge.ensures.1 in
-    let sound = read_sound g.D.Device c.spill.new.self.engine c.look.new.self.engine c.in_ok-change.ensures.read (c.in_ok-spill.ensures.sound s) in
+    let sound = c.in_ok-change.ensures.read.sound (c.in_ok-spill.ensures.sound s) in
     rw p.1 (c.in_err-save_for_edge.ensures.unmoved sound ∙ c.in_ok-change.ensures.read.view ∙ c.in_ok-spill.ensures.view s)
 
 pub returns-in_err-save_for_edge-clause-sound : goal.returns-in_err-save_for_edge-clause-sound
 returns-in_err-save_for_edge-clause-sound g c = λ s.
-    c.in_err-save_for_edge.ensures.sound (read_sound g.D.Device c.spill.new.self.engine c.look.new.self.engine c.in_ok-change.ensures.read (c.in_ok-spill.ensures.sound s))
+    c.in_err-save_for_edge.ensures.sound (c.in_ok-change.ensures.read.sound (c.in_ok-spill.ensures.sound s))
 
 pub returns-in_err-save_for_edge-clause-keeps : goal.returns-in_err-save_for_edge-clause-keeps
 returns-in_err-save_for_edge-clause-keeps g c =
@@ -112,11 +112,11 @@ returns-then-not-has_room-clause-changes g c = λ s.
     (saved_once c.args.pushes c.in-Some.change a (view_of g.D.Device c.look.new.self) e h.read.view
     (subst (λ (o : Option Reclaim). MatchOption o (HasNoChange c.args.pushes a) (λ change. IsNextChange c.args.pushes change a)) c.in-Some.is (c.in_ok-change.ensures.first sound))
     (λ room. false≢true (sym c.if-not-has_room.true ∙ c.has_room.ensures.1 room))
-    (k.saves (read_sound g.D.Device c.spill.new.self.engine c.look.new.self.engine h.read sound)) k.some)
+    (k.saves (h.read.sound sound)) k.some)
 
 pub returns-then-not-has_room-clause-sound : goal.returns-then-not-has_room-clause-sound
 returns-then-not-has_room-clause-sound g c = λ s.
-    c.in_ok-save_for_edge.ensures.sound (read_sound g.D.Device c.spill.new.self.engine c.look.new.self.engine c.in_ok-change.ensures.read (c.in_ok-spill.ensures.sound s))
+    c.in_ok-save_for_edge.ensures.sound (c.in_ok-change.ensures.read.sound (c.in_ok-spill.ensures.sound s))
 
 pub returns-then-not-has_room-clause-keeps : goal.returns-then-not-has_room-clause-keeps
 returns-then-not-has_room-clause-keeps g c =
@@ -139,19 +139,19 @@ returns-in_err-make-clause-fails g c = λ s.
     let sound = c.in_ok-spill.ensures.sound s in
     let a = view_of g.D.Device c.spill.new.self in
     let h = c.in_ok-change.ensures in
-    rw (p.1, p.2) (c.in_err-make.ensures.fails (read_sound g.D.Device c.spill.new.self.engine c.look.new.self.engine h.read sound)
+    rw (p.1, p.2) (c.in_err-make.ensures.fails (h.read.sound sound)
     (subst (λ (v : View). IsNextChange c.args.pushes c.in-Some.change v) (sym h.read.view)
     (subst (λ (o : Option Reclaim). MatchOption o (HasNoChange c.args.pushes a) (λ change. IsNextChange c.args.pushes change a)) c.in-Some.is (c.in_ok-change.ensures.first sound))))
 
 pub returns-in_err-make-clause-unmoved : goal.returns-in_err-make-clause-unmoved
 returns-in_err-make-clause-unmoved g c = λ s.
     let p = err_from_is_err_and c.from_residual-in_err-make.result c.from_residual-in_err-make.ensures.1 in
-    let sound = read_sound g.D.Device c.spill.new.self.engine c.look.new.self.engine c.in_ok-change.ensures.read (c.in_ok-spill.ensures.sound s) in
+    let sound = c.in_ok-change.ensures.read.sound (c.in_ok-spill.ensures.sound s) in
     rw p.1 (c.in_err-make.ensures.unmoved sound ∙ c.in_ok-change.ensures.read.view ∙ c.in_ok-spill.ensures.view s)
 
 pub returns-in_err-make-clause-sound : goal.returns-in_err-make-clause-sound
 returns-in_err-make-clause-sound g c = λ s.
-    c.in_err-make.ensures.sound (read_sound g.D.Device c.spill.new.self.engine c.look.new.self.engine c.in_ok-change.ensures.read (c.in_ok-spill.ensures.sound s))
+    c.in_err-make.ensures.sound (c.in_ok-change.ensures.read.sound (c.in_ok-spill.ensures.sound s))
 
 pub returns-in_err-make-clause-keeps : goal.returns-in_err-make-clause-keeps
 returns-in_err-make-clause-keeps g c =
@@ -172,14 +172,14 @@ returns-clause-changes g c = λ s.
     let a = view_of g.D.Device c.spill.new.self in
     let h = c.in_ok-change.ensures in
     subst (λ (v : View). ChangesOnce c.args.pushes c.in_ok-make.field-0 v (view_of g.D.Device c.make.new.self)) (h.read.view ∙ c.in_ok-spill.ensures.view s)
-    (c.in_ok-make.ensures.made (read_sound g.D.Device c.spill.new.self.engine c.look.new.self.engine h.read sound)
+    (c.in_ok-make.ensures.made (h.read.sound sound)
     (subst (λ (v : View). IsNextChange c.args.pushes c.in-Some.change v) (sym h.read.view)
     (subst (λ (o : Option Reclaim). MatchOption o (HasNoChange c.args.pushes a) (λ change. IsNextChange c.args.pushes change a)) c.in-Some.is (c.in_ok-change.ensures.first sound)))
     (c.has_room.ensures.0 c.if-not-has_room.false))
 
 pub returns-clause-sound : goal.returns-clause-sound
 returns-clause-sound g c = λ s.
-    c.in_ok-make.ensures.sound (read_sound g.D.Device c.spill.new.self.engine c.look.new.self.engine c.in_ok-change.ensures.read (c.in_ok-spill.ensures.sound s))
+    c.in_ok-make.ensures.sound (c.in_ok-change.ensures.read.sound (c.in_ok-spill.ensures.sound s))
 
 pub returns-clause-keeps : goal.returns-clause-keeps
 returns-clause-keeps g c =
@@ -193,3 +193,28 @@ returns-clause-ends g c =
     let goes = goes_then g.D.Device c.args.self.now c.spill.new.self c.look.new.self (went_on g.D.Device c.args.self.now c.spill.new.self _ k.ends k.count_stays) (went_on g.D.Device c.spill.new.self c.look.new.self _ h.ends h.count_stays) in
     let l = c.in_ok-make.ensures in
     ends_well g.D.Device c.args.self.now c.make.new.self _ (goes_then g.D.Device c.args.self.now c.look.new.self c.make.new.self goes (went_on g.D.Device c.look.new.self c.make.new.self _ l.ends l.count_stays))
+
+pub returns-in_err-spill-clause-same : goal.returns-in_err-spill-clause-same
+returns-in_err-spill-clause-same g c = c.in_err-spill.ensures.same
+
+pub returns-in_err-change-clause-same : goal.returns-in_err-change-clause-same
+returns-in_err-change-clause-same g c = λ s k. read_same g.D.Device c.spill.new.self.engine c.look.new.self.engine c.in_err-change.ensures.read k ∙ c.in_ok-spill.ensures.same s k
+
+pub returns-in_default-clause-same : goal.returns-in_default-clause-same
+returns-in_default-clause-same g c = λ s k. read_same g.D.Device c.spill.new.self.engine c.look.new.self.engine c.in_ok-change.ensures.read k ∙ c.in_ok-spill.ensures.same s k
+
+pub returns-in_err-save_for_edge-clause-same : goal.returns-in_err-save_for_edge-clause-same
+returns-in_err-save_for_edge-clause-same g c = λ s k.
+    c.in_err-save_for_edge.ensures.same (c.in_ok-change.ensures.read.sound (c.in_ok-spill.ensures.sound s)) k ∙ read_same g.D.Device c.spill.new.self.engine c.look.new.self.engine c.in_ok-change.ensures.read k ∙ c.in_ok-spill.ensures.same s k
+
+pub returns-then-not-has_room-clause-same : goal.returns-then-not-has_room-clause-same
+returns-then-not-has_room-clause-same g c = λ s k.
+    c.in_ok-save_for_edge.ensures.same (c.in_ok-change.ensures.read.sound (c.in_ok-spill.ensures.sound s)) k ∙ read_same g.D.Device c.spill.new.self.engine c.look.new.self.engine c.in_ok-change.ensures.read k ∙ c.in_ok-spill.ensures.same s k
+
+pub returns-in_err-make-clause-same : goal.returns-in_err-make-clause-same
+returns-in_err-make-clause-same g c = λ s k.
+    c.in_err-make.ensures.same (c.in_ok-change.ensures.read.sound (c.in_ok-spill.ensures.sound s)) k ∙ read_same g.D.Device c.spill.new.self.engine c.look.new.self.engine c.in_ok-change.ensures.read k ∙ c.in_ok-spill.ensures.same s k
+
+pub returns-clause-same : goal.returns-clause-same
+returns-clause-same g c = λ s k.
+    c.in_ok-make.ensures.same (c.in_ok-change.ensures.read.sound (c.in_ok-spill.ensures.sound s)) k ∙ read_same g.D.Device c.spill.new.self.engine c.look.new.self.engine c.in_ok-change.ensures.read k ∙ c.in_ok-spill.ensures.same s k

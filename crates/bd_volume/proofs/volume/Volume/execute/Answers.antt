@@ -14,7 +14,6 @@ use Rattle.bd_volume.specs.declared.volume.Volume.{Volume}
 use Rattle.bd_volume.specs.Volume.{view_of}
 use Rattle.bd_volume.proofs.Executed.{reads_stand, takes_stand, takes_reply, takes_time, fails_stand, executes_for, refused_for, accepting_for, begun_refused, begun_accepted}
 use Rattle.bd_volume.proofs.Keeping.{keeps_read}
-use Rattle.bd_volume.proofs.Read.{read_sound}
 use Rattle.bd_volume.proofs.Safe.{reads_by}
 use Rattle.bd_volume.proofs.Stepped.{not_stepped}
 use Rattle.bd_volume.proofs.volume.Volume.execute.Goals as goal
@@ -40,10 +39,10 @@ returns-clause-step g c =
     let read = c.in_ok-plan.ensures.read in
     let keeps = keeps_read g.D.Device a c.plan.new.self (g.met.D.Device.since_earlier c.plan.new.self.engine.pager.dev) read c.in_ok-plan.ensures.count_stays in
     takes_stand g.D.Device c.carry_out.result a c.plan.new.self c.carry_out.new.self c.args.command.now c.requires.limits
-    (λ t n s. c.carry_out.ensures.step (read_sound g.D.Device a.engine c.plan.new.self.engine read s.nodes) t
+    (λ t n s. c.carry_out.ensures.step (read.sound s.nodes) t
     (subst (λ (v : View). Represents (root_at v.tree.nodes v.tree.table) t) (sym read.view) s.represents)
     (subst (λ (v : View). IsPlan (root_at v.tree.nodes v.tree.table) t c.args.command.now c.in_ok-plan.plan) (sym read.view) (c.in_ok-plan.ensures.plan t n s)))
-    (λ s. c.carry_out.ensures.sound (read_sound g.D.Device a.engine c.plan.new.self.engine read s))
+    (λ s. c.carry_out.ensures.sound (read.sound s))
     (λ t n s. c.carry_out.ensures.safe t n (keeps t n s).stands
     (subst (λ (v : View). IsPlan (root_at v.tree.nodes v.tree.table) t c.args.command.now c.in_ok-plan.plan) (sym read.view) (c.in_ok-plan.ensures.plan t n s)))
     (subst (λ (n : ℕ). IfOk c.carry_out.result (λ reply. c.carry_out.new.self.count ≡ n + accepted c.args.command.now reply)) c.in_ok-plan.ensures.count_stays c.carry_out.ensures.counts)
@@ -53,7 +52,7 @@ returns-clause-replies g c =
     let a : Volume g.row.D.Denot = c.args.self.now in
     let read = c.in_ok-plan.ensures.read in
     takes_reply g.D.Device c.carry_out.result a (keys_of g.D.Device c.carry_out.new.self.engine.pager) c.args.command.now
-    (λ t n s. c.carry_out.ensures.step (read_sound g.D.Device a.engine c.plan.new.self.engine read s.nodes) t
+    (λ t n s. c.carry_out.ensures.step (read.sound s.nodes) t
     (subst (λ (v : View). Represents (root_at v.tree.nodes v.tree.table) t) (sym read.view) s.represents)
     (subst (λ (v : View). IsPlan (root_at v.tree.nodes v.tree.table) t c.args.command.now c.in_ok-plan.plan) (sym read.view) (c.in_ok-plan.ensures.plan t n s)))
 
@@ -97,7 +96,7 @@ returns-clause-moved g c =
     let new = view_of g.D.Device c.carry_out.new.self in
     executes_for g.D.Device c.carry_out.result a c.args.command.now (view_of g.D.Device a) new
     (λ t n s. subst (λ (v : View). IfOk c.carry_out.result (λ reply. accepted c.args.command.now reply ≡ 1 → IsAccepted t c.args.command.now v new)) read.view
-    (c.carry_out.ensures.moved (read_sound g.D.Device a.engine c.plan.new.self.engine read s.nodes) t
+    (c.carry_out.ensures.moved (read.sound s.nodes) t
     (subst (λ (v : View). IsPlan (root_at v.tree.nodes v.tree.table) t c.args.command.now c.in_ok-plan.plan) (sym read.view) (c.in_ok-plan.ensures.plan t n s))))
 
 pub returns-clause-refused : goal.returns-clause-refused

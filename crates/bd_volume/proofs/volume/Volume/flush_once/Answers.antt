@@ -8,7 +8,7 @@ use Rattle.bd_engine.specs.Engines.{IsWornIn}
 use Rattle.bd_engine.proofs.Left.{step_waits}
 use Rattle.bd_volume.specs.declared.volume.Volume.{Volume}
 use Rattle.bd_volume.specs.Volume.{view_of}
-use Rattle.bd_volume.proofs.Early.{early_keys, early_call, early_goes, early_fails, goes_ok, goes_both, goes_nodes}
+use Rattle.bd_volume.proofs.Early.{early_keys, early_call, early_goes, goes_ok, goes_both, goes_nodes}
 use Rattle.bd_volume.proofs.Replayed.{cause_device, cause_map, cause_ok, cause_then, device_flush_fails, early_flush_fails, flush_again_fails}
 use Rattle.bd_volume.proofs.volume.Volume.flush_once.Goals as goal
 

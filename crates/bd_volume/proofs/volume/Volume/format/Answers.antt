@@ -9,4 +9,4 @@ pub returns-clause-stands : goal.returns-clause-stands
 returns-clause-stands g c = λ told.
     let h = c.in_ok-engine.ensures in
     let v : Volume g.row.D.Denot = record { engine = c.in_ok-engine.engine; count = 0 } in
-    formatted_for g.D.Device v root_only 0 (h.known told) (h.tree told) refl (h.stands told) h.idle
+    formatted_for g.D.Device v h.fresh root_only 0 (h.known told) (h.tree told) refl (h.stands told) h.idle

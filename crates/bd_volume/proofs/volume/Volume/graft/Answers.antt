@@ -4,7 +4,7 @@ use Rattle.std.proofs.lemmas.Result.{err_from_is_err_and}
 use Rattle.bd_message.specs.KeyMaps.{IsGrafted}
 use Rattle.bd_graft.specs.Grafting.{IsWornForGraft}
 use Rattle.bd_pager.specs.Pagers.{Paged, table_of}
-use Rattle.bd_engine.specs.Engines.{EngineState, keys_of, IsSoundOn}
+use Rattle.bd_engine.specs.Engines.{EngineState, keys_of}
 use Rattle.bd_volume.specs.declared.volume.Volume.{Volume}
 use Rattle.bd_volume.specs.Volume.{view_of}
 use Rattle.bd_volume.proofs.Called.{went_on, goes_then, ends_then, ends_logged, read_goes, read_fails}
@@ -13,6 +13,7 @@ use Rattle.bd_volume.proofs.Keeping.{keeps_then, keeps_read, logs_on}
 use Rattle.bd_volume.proofs.Room.{room_nodes}
 use Rattle.bd_volume.proofs.Sent.{grafted_over}
 use Rattle.bd_volume.proofs.Stepped.{stepped_stand}
+use Rattle.bd_volume.proofs.Read.{logged_sound}
 use Rattle.bd_volume.proofs.volume.Volume.graft.Goals as goal
 
 pub returns-in_err-grafted-clause-fails : goal.returns-in_err-grafted-clause-fails
@@ -99,8 +100,7 @@ returns-clause-logged g c =
 
 pub returns-clause-sound : goal.returns-clause-sound
 returns-clause-sound g c = λ s.
-    let same : c.log.new.self.pager ≡ c.graft-grafted.new.self.pager = ap (λ (e : EngineState g.row.D.Denot). e.pager) c.log.ensures.log in
-    subst (λ (p : Paged g.row.D.Denot). IsSoundOn g.D.Device p) (sym same) (c.in_ok-grafted.ensures.sound (c.in_ok-make_ready.ensures.sound s))
+    logged_sound g.D.Device c.graft-grafted.new.self c.log.new.self _ c.log.ensures.log (c.in_ok-grafted.ensures.sound (c.in_ok-make_ready.ensures.sound s))
 
 pub returns-clause-ends : goal.returns-clause-ends
 returns-clause-ends g c =

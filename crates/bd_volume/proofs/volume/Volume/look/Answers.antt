@@ -8,7 +8,6 @@ use Rattle.bd_reclaim.specs.Walking.{IsFirst, HasNone}
 use Rattle.bd_engine.specs.Engines.{EngineState}
 use Rattle.bd_volume.specs.Volume.{view_of}
 use Rattle.bd_volume.proofs.Called.{read_fails}
-use Rattle.bd_volume.proofs.Read.{read_sound}
 use Rattle.bd_volume.proofs.Reclaims.{look_fails}
 use Rattle.bd_volume.proofs.volume.Volume.look.Goals as goal
 
@@ -17,7 +16,7 @@ returns-in_err-found-clause-fails g c =
     let p = err_from_is_err_and c.from_residual.result c.from_residual.ensures.1 in
     let h = c.in_err-found.ensures in
     rw (p.1, p.2) (λ s. look_fails _ _ (is_bad g.D.Device c.next_change-found.new.self.pager) c.args.pushes _ c.in_err-found.field-0.0
-    (c.sound_nodes_are_undamaged.ensures (read_sound g.D.Device c.args.self.now.engine c.next_change-found.new.self h.read s)) h.cause.failed)
+    (c.sound_nodes_are_undamaged.ensures (h.read.sound s)) h.cause.failed)
 
 pub returns-in_err-found-clause-ends : goal.returns-in_err-found-clause-ends
 returns-in_err-found-clause-ends g c =

@@ -8,8 +8,8 @@ use Rattle.bd_volume.proofs.volume.Volume.make_ready.Given as goal
 abbrev pub invariant-loop-made : goal.invariant-loop-made
 invariant-loop-made g l = record {
   goes : GoesOn g.D.Device l.fn.self l.self;
-  sound : IsSoundOn g.D.Device l.fn.self.engine.pager → IsSoundOn g.D.Device l.self.engine.pager;
+  sound : IsSoundOn g.D.Device l.fn.self.engine → IsSoundOn g.D.Device l.self.engine;
   keeps : KeepsStanding g.D.Device l.fn.self l.self;
   log : HasLogRoom l.command (view_of g.D.Device l.self);
-  steps : IsSoundOn g.D.Device l.fn.self.engine.pager → AreSteps l.command l._made (view_of g.D.Device l.fn.self) (view_of g.D.Device l.self);
+  steps : IsSoundOn g.D.Device l.fn.self.engine → AreSteps l.command l._made (view_of g.D.Device l.fn.self) (view_of g.D.Device l.self);
 }

@@ -5,6 +5,7 @@ use Rattle.bd_volume.specs.declared.fault.Fault.TheVariants.{Damaged, Worn, Full
 use Rattle.bd_volume.specs.Reclaims.{IsReclaimFault, ShowsReclaim}
 use Rattle.bd_volume.specs.Volume.{StandsFor, view_of}
 use Rattle.bd_volume.proofs.Executed.{at_err}
+use Rattle.bd_volume.proofs.Keeping.{keys_none}
 use Rattle.bd_volume.proofs.Reclaimed.{faults_begun}
 use Rattle.bd_volume.proofs.volume.Volume.reclaim.Goals as goal
 
@@ -26,3 +27,9 @@ returns-clause-undamaged g c = λ block is.
 pub returns-clause-numbers : goal.returns-clause-numbers
 returns-clause-numbers g c = λ free need is.
     at_err c.reclaim_nodes.result (Full free need) (λ fault. ShowsReclaim fault (view_of g.D.Device c.reclaim_nodes.new.self)) c.reclaim_nodes.ensures.shows is
+
+pub returns-in-Some-clause-keys : goal.returns-in-Some-clause-keys
+returns-in-Some-clause-keys g c = keys_none g.D.Device c.args.self.now
+
+pub returns-clause-keys : goal.returns-clause-keys
+returns-clause-keys g c = c.reclaim_nodes.ensures.keys

@@ -2,7 +2,7 @@
 use Rattle.std.proofs.lemmas.Result.{err_from_is_err_and, on_ok_weaker}
 use Rattle.bd_volume.specs.Volume.{view_of}
 use Rattle.bd_volume.proofs.Called.{went_on, goes_then, ends_then}
-use Rattle.bd_volume.proofs.Keeping.{keeps_then}
+use Rattle.bd_volume.proofs.Keeping.{keeps_then, keys_then}
 use Rattle.bd_volume.proofs.Reclaimed.{is_reclaim, first_fails, save_shows, between_fails, between_shows, lasts_fail, saves_show}
 use Rattle.bd_volume.proofs.volume.Volume.reclaim_nodes.Goals as goal
 
@@ -96,3 +96,15 @@ returns-clause-ends g c =
     let went = goes_then g.D.Device c.args.self.now c.checkpoint.new.self c.change_all.new.self goes (went_on g.D.Device c.checkpoint.new.self c.change_all.new.self _ k.ends k.count_stays) in
     ends_then g.D.Device c.args.self.now c.change_all.new.self c.checkpoint-2.new.self c.checkpoint-2.result went
     (record { cause = l.cause; stop = l.stop k.ends.stop.ok.stop_is; stays = l.device })
+
+pub returns-in_err-checkpoint-clause-keys : goal.returns-in_err-checkpoint-clause-keys
+returns-in_err-checkpoint-clause-keys g c = c.in_err-checkpoint.ensures.keys
+
+pub returns-in_err-change_all-clause-keys : goal.returns-in_err-change_all-clause-keys
+returns-in_err-change_all-clause-keys g c =
+    keys_then g.D.Device c.args.self.now c.checkpoint.new.self c.change_all.new.self c.in_ok-checkpoint.ensures.keys c.in_err-change_all.ensures.keys
+
+pub returns-clause-keys : goal.returns-clause-keys
+returns-clause-keys g c =
+    keys_then g.D.Device c.args.self.now c.change_all.new.self c.checkpoint-2.new.self
+    (keys_then g.D.Device c.args.self.now c.checkpoint.new.self c.change_all.new.self c.in_ok-checkpoint.ensures.keys c.in_ok-change_all.ensures.keys) c.checkpoint-2.ensures.keys

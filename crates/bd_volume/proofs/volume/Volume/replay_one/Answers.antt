@@ -9,7 +9,6 @@ use Rattle.bd_view.specs.Views.{View}
 use Rattle.bd_volume.specs.declared.volume.Volume.{Volume}
 use Rattle.bd_volume.specs.Volume.{view_of}
 use Rattle.bd_volume.proofs.Early.{early_goes, early_fails, goes_none, goes_ok, goes_both, goes_counted, goes_read}
-use Rattle.bd_volume.proofs.Read.{read_sound}
 use Rattle.bd_volume.proofs.Replayed.{cause_worn, cause_map, cause_ok, cause_then, count_again, plan_fails, replay_fails, read_has, replays_read}
 use Rattle.bd_volume.proofs.volume.Volume.replay_one.Goals as goal
 
@@ -76,7 +75,7 @@ returns-clause-replays g c = λ t has.
 
 pub returns-clause-sound : goal.returns-clause-sound
 returns-clause-sound g c = λ s.
-    c.in_ok-send_planned.ensures.sound (read_sound g.D.Device c.args.self.now.engine c.plan-planned.new.self c.in_ok-plan.ensures.read s)
+    c.in_ok-send_planned.ensures.sound (c.in_ok-plan.ensures.read.sound s)
 
 pub returns-clause-writes : goal.returns-clause-writes
 returns-clause-writes g c =

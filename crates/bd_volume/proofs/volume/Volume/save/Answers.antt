@@ -31,3 +31,9 @@ returns-clause-keeps g c =
     let h = c.in_ok-save.ensures in
     let a : Volume g.row.D.Denot = c.args.self.now in
     keeps_saved g.D.Device a (record a { engine = c.save.new.self }) h.sound h.same refl h.time h.kept h.anew
+
+pub returns-in_err-save-clause-same : goal.returns-in_err-save-clause-same
+returns-in_err-save-clause-same g c = c.in_err-save.ensures.same
+
+pub returns-clause-same : goal.returns-clause-same
+returns-clause-same g c = c.in_ok-save.ensures.same

@@ -3,7 +3,7 @@ use Rattle.std.proofs.Common.{◌≡◌, ◌+◌, refl, sym, subst, ap}
 use Rattle.std.proofs.lemmas.Result.{err_from_is_err_and}
 use Rattle.bd_message.specs.KeyMaps.{NeverWorn, IsApplied}
 use Rattle.bd_pager.specs.Pagers.{Paged}
-use Rattle.bd_engine.specs.Engines.{EngineState, keys_of, IsSoundOn}
+use Rattle.bd_engine.specs.Engines.{EngineState, keys_of}
 use Rattle.bd_volume.specs.declared.volume.Volume.{Volume}
 use Rattle.bd_volume.specs.Volume.{view_of}
 use Rattle.bd_volume.proofs.Called.{went_on, goes_then, ends_then, ends_logged, read_goes, read_fails}
@@ -12,6 +12,7 @@ use Rattle.bd_volume.proofs.Keeping.{keeps_then, keeps_read, logs_on}
 use Rattle.bd_volume.proofs.Room.{room_nodes}
 use Rattle.bd_volume.proofs.Sent.{applied_over}
 use Rattle.bd_volume.proofs.Stepped.{stepped_stand}
+use Rattle.bd_volume.proofs.Read.{logged_sound}
 use Rattle.bd_volume.proofs.volume.Volume.send.Goals as goal
 
 pub returns-in_err-appended-clause-fails : goal.returns-in_err-appended-clause-fails
@@ -88,8 +89,7 @@ returns-clause-logged g c =
 
 pub returns-clause-sound : goal.returns-clause-sound
 returns-clause-sound g c = λ s.
-    let same : c.log.new.self.pager ≡ c.append-appended.new.self.pager = ap (λ (e : EngineState g.row.D.Denot). e.pager) c.log.ensures.log in
-    subst (λ (p : Paged g.row.D.Denot). IsSoundOn g.D.Device p) (sym same) (c.in_ok-appended.ensures.sound (c.in_ok-make_ready.ensures.sound s))
+    logged_sound g.D.Device c.append-appended.new.self c.log.new.self _ c.log.ensures.log (c.in_ok-appended.ensures.sound (c.in_ok-make_ready.ensures.sound s))
 
 pub returns-clause-ends : goal.returns-clause-ends
 returns-clause-ends g c =

@@ -28,3 +28,9 @@ returns-in-Err-clause-ends g c =
     let h = c.in-Err.ensures in
     let a : Volume g.row.D.Denot = c.args.self.now in
     sync_fails g.D.Device a (record a { engine = c.spill.new.self }) h.cause.later h.cause.failed h.stop h.early.stays
+
+pub returns-in-Ok-clause-same : goal.returns-in-Ok-clause-same
+returns-in-Ok-clause-same g c = c.in-Ok.ensures.same
+
+pub returns-in-Err-clause-same : goal.returns-in-Err-clause-same
+returns-in-Err-clause-same g c = c.in-Err.ensures.same

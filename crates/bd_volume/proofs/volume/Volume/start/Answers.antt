@@ -47,14 +47,14 @@ returns-in-Ok-clause-stands g c = λ t n h.
     let a : Volume g.row.D.Denot = record { engine = c.in_ok-engine.field-0.engine; count = c.saved_count-count.result } in
     let k = c.in-Ok.ensures in
     subst (λ (w : Volume g.row.D.Denot). StandsFor g.D.Device w t n) (sym c.forget_walk.ensures)
-    (without_walk_stands g.D.Device c.replay.new.self t n (started_for g.D.Device c.args.device a c.replay.new.self _ c.in_ok-engine.field-0.commands.items t n c.saved_count-count.ensures e.idle e.reads e.only k.writes (subst (λ (l : List PlacedCommand). ReplaysFront g.D.Device l [] a c.replay.new.self) c.deref.ensures.value k.replays) (e.replay t n h) h))
+    (without_walk_stands g.D.Device c.replay.new.self t n (started_for g.D.Device c.args.device a c.replay.new.self e.fresh _ c.in_ok-engine.field-0.commands.items t n c.saved_count-count.ensures e.idle e.reads e.only k.writes (subst (λ (l : List PlacedCommand). ReplaysFront g.D.Device l [] a c.replay.new.self) c.deref.ensures.value k.replays) (e.replay t n h) h))
 
 pub returns-in-Ok-clause-first : goal.returns-in-Ok-clause-first
 returns-in-Ok-clause-first g c =
     let e = c.in_ok-engine.ensures in
     let a : Volume g.row.D.Denot = record { engine = c.in_ok-engine.field-0.engine; count = c.saved_count-count.result } in
     subst (λ (w : Volume g.row.D.Denot). (t : Tree) (n : ℕ) → IfSome (g.D.Device.contents c.args.device) (λ image. ImageStandsFor t n image → IsFirstView image (view_of g.D.Device w))) (sym c.forget_walk.ensures)
-    (first_views g.D.Device (g.D.Device.contents c.args.device) a c.replay.new.self c.in_ok-engine.field-0.commands.items (subst (λ (l : List PlacedCommand). ReplaysFront g.D.Device l [] a c.replay.new.self) c.deref.ensures.value c.in-Ok.ensures.replays) e.replay e.first)
+    (first_views g.D.Device (g.D.Device.contents c.args.device) a c.replay.new.self e.fresh c.in_ok-engine.field-0.commands.items (subst (λ (l : List PlacedCommand). ReplaysFront g.D.Device l [] a c.replay.new.self) c.deref.ensures.value c.in-Ok.ensures.replays) e.replay e.first)
 
 pub returns-in-Ok-clause-going : goal.returns-in-Ok-clause-going
 returns-in-Ok-clause-going g c = ap (λ (w : Volume g.row.D.Denot). stop_of w) c.forget_walk.ensures ∙ c.in-Ok.ensures.writes.stop.ok.stop_is
@@ -98,18 +98,18 @@ returns-clause-cause g c =
     let h = c.in-Err.ensures in
     let a : Volume g.row.D.Denot = record { engine = c.in_ok-engine.field-0.engine; count = c.saved_count-count.result } in
     subst (λ (d : g.row.D.Denot). IsStartCause g.D.Device c.args.device d c.in-Err.fault) (sym c.into_device.ensures)
-    (replay_cause g.D.Device c.args.device a c.replay.new.self c.in_ok-engine.field-0.commands.items c.in-Err.fault c.log_records_are_prefix_free.ensures e.known e.stored e.placed e.each e.faults (subst (λ (l : List PlacedCommand). StopsReplaying g.D.Device c.in-Err.fault l a) c.deref.ensures.value h.fails) h.cause.failed)
+    (replay_cause g.D.Device c.args.device a c.replay.new.self e.fresh c.in_ok-engine.field-0.commands.items c.in-Err.fault c.log_records_are_prefix_free.ensures e.known e.stored e.placed e.each e.faults (subst (λ (l : List PlacedCommand). StopsReplaying g.D.Device c.in-Err.fault l a) c.deref.ensures.value h.fails) h.cause.failed)
 
 pub returns-clause-undamaged : goal.returns-clause-undamaged
 returns-clause-undamaged g c = λ t n stands block.
     let a : Volume g.row.D.Denot = record { engine = c.in_ok-engine.field-0.engine; count = c.saved_count-count.result } in
-    replay_undamaged g.D.Device a c.in_ok-engine.field-0.commands.items c.in-Err.fault block t n (c.in_ok-engine.ensures.replay t n stands) (subst (λ (l : List PlacedCommand). StopsReplaying g.D.Device c.in-Err.fault l a) c.deref.ensures.value c.in-Err.ensures.fails)
+    replay_undamaged g.D.Device a c.in_ok-engine.ensures.fresh c.in_ok-engine.field-0.commands.items c.in-Err.fault block t n (c.in_ok-engine.ensures.replay t n stands) (subst (λ (l : List PlacedCommand). StopsReplaying g.D.Device c.in-Err.fault l a) c.deref.ensures.value c.in-Err.ensures.fails)
 
 pub returns-clause-wears : goal.returns-clause-wears
 returns-clause-wears g c = λ t n.
     let e = c.in_ok-engine.ensures in
     let a : Volume g.row.D.Denot = record { engine = c.in_ok-engine.field-0.engine; count = c.saved_count-count.result } in
-    replay_wears g.D.Device (g.D.Device.contents c.args.device) a c.in_ok-engine.field-0.commands.items c.in-Err.fault t n c.saved_count-count.ensures e.placed (e.first t n) (e.replay t n) (subst (λ (l : List PlacedCommand). StopsReplaying g.D.Device c.in-Err.fault l a) c.deref.ensures.value c.in-Err.ensures.fails)
+    replay_wears g.D.Device (g.D.Device.contents c.args.device) a e.fresh c.in_ok-engine.field-0.commands.items c.in-Err.fault t n c.saved_count-count.ensures e.placed (e.first t n) (e.replay t n) (subst (λ (l : List PlacedCommand). StopsReplaying g.D.Device c.in-Err.fault l a) c.deref.ensures.value c.in-Err.ensures.fails)
 
 pub returns-clause-left : goal.returns-clause-left
 returns-clause-left g c =
