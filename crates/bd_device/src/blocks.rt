@@ -46,12 +46,7 @@ pub fn read_blocks<D: Device>(
     ensures reads { OnlyReads D.Device dev.old dev.new }
     ensures cause { FailsLast D.Device dev.old dev.new result }
 {
-    let mut block = [0; BLOCK_SIZE];
-    for i in 0..count {
-        dev.read(first + i as u64, &mut block)?;
-        put(into, i * BLOCK_SIZE, &block);
-    }
-    Ok(())
+    dev.read_run(first, into, count)
 }
 
 /// Puts bytes over those from a place on.
@@ -62,8 +57,8 @@ pub fn put(into: &mut [u8], at: usize, bytes: &[u8])
     into[at..at + bytes.len()].copy_from_slice(bytes);
 }
 
-// The block of these bytes at this index.
-fn nth_block(bytes: &[u8], i: usize) -> [u8; BLOCK_SIZE]
+/// The block of these bytes at this index.
+pub(crate) fn nth_block(bytes: &[u8], i: usize) -> [u8; BLOCK_SIZE]
     requires { i * block_size + block_size ≤ length bytes.now }
     ensures { result ≡ take block_size (drop (i * block_size) bytes.now) }
 {
@@ -95,11 +90,7 @@ pub fn write_blocks<D: Device>(
     ensures write_faults { D.write_fault_count dev.new
         ≡ faults_after (D.write_fault_count dev.old) result }
 {
-    for i in 0..count {
-        let block = nth_block(bytes, i);
-        dev.write(first + i as u64, &block)?;
-    }
-    Ok(())
+    dev.write_run(first, bytes, count)
 }
 
 /// Writes a block, and waits until all that was written is kept.

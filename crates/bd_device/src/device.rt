@@ -1,9 +1,12 @@
-ghost use Rattle.std.specs.Prelude.{◌≡◌, ◌<◌, ⊤, ℕ, List, Option, Some, IfSome, IfNone, is_some, [], ◌∷◌, OnOk, OnErr, slice_get, ◌≤◌, ◌↔◌, Bool, is_ok, is_err};
+ghost use Rattle.std.specs.Prelude.{◌≡◌, ◌<◌, ◌+◌, ◌*◌, ◌^◌, ⊤, ℕ, List, Option, Some, IfSome, IfNone, IsTrue, is_some, [], ◌∷◌, OnOk, OnErr, length, take, slice_get, ◌≤◌, ◌↔◌, Bool, is_ok, is_err};
 ghost use Rattle.bd_io.specs.Cause.{HasCause, IsCounted};
+ghost use Rattle.bd_limits.specs.Limits.{block_size};
 ghost use Rattle.bd_device.specs.Blocks.{Image, HasBlocks, with_block, ChangesOnly};
 ghost use Rattle.bd_device.specs.Calls.{faults_after};
+ghost use Rattle.bd_device.specs.Changes.{StaysBut, IsBeforeBut, IsInRange, bytes_at};
 ghost use Rattle.bd_device.specs.Moments.{Nothing, TornAt, Elapses, IsOnly};
 
+use crate::blocks::{nth_block, put};
 use bd_io::Failed;
 use bd_limits::BLOCK_SIZE;
 
@@ -116,6 +119,68 @@ pub trait Device {
         ensures same_loans { loans self.new ≡ loans self.old }
         ensures also { also self.old self.new (is_ok result) };
 
+    /// Reads so many blocks, from block `first` on, into the front of `into`: in one call, or in one
+    /// for each block up to the first that fails. `Failed` comes as of `read`, and only of the last
+    /// call; `into` then holds any bytes.
+    #[tactic(auto, using(crate::proofs::Calls::calls))]
+    fn read_run(&mut self, first: u64, into: &mut [u8], count: usize) -> Result<(), Failed>
+        requires room { first + count ≤ block_count self.old }
+        requires fits { first + count < 2 ^ 64 }
+        requires length { count * block_size ≤ length into.old }
+        ensures bytes { OnOk result (IfSome (contents self.old) (λ image.
+            take (count * block_size) into.new ≡ bytes_at image first count)) }
+        ensures kept { contents self.new ≡ contents self.old }
+        ensures count { block_count self.new ≡ block_count self.old }
+        ensures faults { fault_count self.new ≡ faults_after (fault_count self.old) result }
+        ensures later { fault_count self.old ≤ fault_count self.new }
+        ensures last { OnErr result (IsTrue (last_failed self.new)) }
+        ensures write_faults { write_fault_count self.new ≡ write_fault_count self.old }
+        ensures time { Elapses (call_count self.old) (call_count self.new)
+            (left_since self.old) (left_since self.new) Nothing }
+        ensures same_name { (name : List ℕ) → is_named self.old name → is_named self.new name }
+        ensures same_loans { loans self.new ≡ loans self.old }
+    {
+        let mut block = [0; BLOCK_SIZE];
+        for i in 0..count {
+            self.read(first + i as u64, &mut block)?;
+            put(into, i * BLOCK_SIZE, &block);
+        }
+        Ok(())
+    }
+
+    /// Writes so many blocks, from block `first` on, of the front of `from`: in one call, or in one
+    /// for each block up to the first that fails. `Failed` comes as of `read`, and only of the last
+    /// call. These blocks then hold any bytes, and the others stay. Until a barrier succeeds a crash
+    /// may leave any bytes in each of these blocks, also after `Failed`.
+    #[tactic(auto, using(crate::proofs::Calls::calls))]
+    fn write_run(&mut self, first: u64, from: &[u8], count: usize) -> Result<(), Failed>
+        requires room { first + count ≤ block_count self.old }
+        requires fits { first + count < 2 ^ 64 }
+        requires length { count * block_size ≤ length from.now }
+        ensures written { OnOk result (IfSome (contents self.new) (λ image.
+            bytes_at image first count ≡ take (count * block_size) from.now)) }
+        ensures others { StaysBut (IsInRange first (first + count))
+            (contents self.old) (contents self.new) }
+        ensures count { block_count self.new ≡ block_count self.old }
+        ensures faults { fault_count self.new ≡ faults_after (fault_count self.old) result }
+        ensures later { fault_count self.old ≤ fault_count self.new }
+        ensures last { OnErr result (IsTrue (last_failed self.new)) }
+        ensures write_faults { write_fault_count self.new
+            ≡ faults_after (write_fault_count self.old) result }
+        ensures time { Elapses (call_count self.old) (call_count self.new)
+            (left_since self.old) (left_since self.new)
+            (IsBeforeBut (IsInRange first (first + count))
+            (left_since self.old (call_count self.old))) }
+        ensures same_name { (name : List ℕ) → is_named self.old name → is_named self.new name }
+        ensures same_loans { loans self.new ≡ loans self.old }
+    {
+        for i in 0..count {
+            let block = nth_block(from, i);
+            self.write(first + i as u64, &block)?;
+        }
+        Ok(())
+    }
+
     /// How often it has failed.
     fn faults(&self) -> u64
         ensures { result ≡ fault_count self.now };
@@ -220,6 +285,14 @@ impl<D: Device> Device for &mut D {
 
     fn barrier(&mut self) -> Result<(), Failed> {
         Device::barrier(&mut **self)
+    }
+
+    fn read_run(&mut self, first: u64, into: &mut [u8], count: usize) -> Result<(), Failed> {
+        Device::read_run(&mut **self, first, into, count)
+    }
+
+    fn write_run(&mut self, first: u64, from: &[u8], count: usize) -> Result<(), Failed> {
+        Device::write_run(&mut **self, first, from, count)
     }
 
     fn faults(&self) -> u64 {

@@ -14,8 +14,9 @@ use std::marker::Model;
 /// one has it, and where the name is of no regular file.
 ///
 /// Each error of the file is a fault. After a barrier that failed each write and each barrier fails
-/// until the next attach, since the system may have dropped what was written. At a count of calls
-/// that stands at its last value a call may reach the file, and fails. What the file holds isn't
+/// until the next attach, since the system may have dropped what was written. A run of blocks is read
+/// or written in one call. At a count of calls that stands at its last value a call may reach the
+/// file, and fails. What the file holds isn't
 /// known; the device is seen as its size and its counts.
 #[derive(Drop)]
 pub struct FileDevice<'a, R: Files<File = File>> {
@@ -91,6 +92,22 @@ impl<'a, R: Files<File = File>> Device for FileDevice<'a, R> {
         let is_done = match &self.image {
             None => false,
             Some(image) => !self.broken && image.write(b, from).is_ok(),
+        };
+        self.counts.settle_writing(is_done)
+    }
+
+    fn read_run(&mut self, first: u64, into: &mut [u8], count: usize) -> Result<(), Failed> {
+        let is_done = match &self.image {
+            None => false,
+            Some(image) => image.read_run(first, into, count).is_ok(),
+        };
+        self.counts.settle(is_done)
+    }
+
+    fn write_run(&mut self, first: u64, from: &[u8], count: usize) -> Result<(), Failed> {
+        let is_done = match &self.image {
+            None => false,
+            Some(image) => !self.broken && image.write_run(first, from, count).is_ok(),
         };
         self.counts.settle_writing(is_done)
     }

@@ -1,4 +1,5 @@
-ghost use Rattle.std.specs.Prelude.{◌≡◌, ◌*◌, ◌<◌, ◌^◌, IfOk, IfSome};
+ghost use Rattle.std.specs.Prelude.{◌≡◌, ◌*◌, ◌+◌, ◌<◌, ◌≤◌, ◌^◌, IfOk, IfSome, length};
+ghost use Rattle.bd_limits.specs.Limits.{block_size};
 
 use bd_device::BLOCK_SIZE;
 use std::fs::{File, Files, OpenOptions};
@@ -64,11 +65,29 @@ impl ImageFile {
         self.file.read_exact_at(into, b * BLOCK_SIZE as u64)
     }
 
+    /// Reads so many blocks, from block `first` on, into the front of `into`.
+    pub fn read_run(&self, first: u64, into: &mut [u8], count: usize) -> io::Result<()>
+        requires room { first + count ≤ self.now.blocks }
+        requires length { count * block_size ≤ length into.old }
+    {
+        self.file
+            .read_exact_at(&mut into[..count * BLOCK_SIZE], first * BLOCK_SIZE as u64)
+    }
+
     /// Writes block `b`.
     pub fn write(&self, b: u64, from: &[u8; BLOCK_SIZE]) -> io::Result<()>
         requires { b < self.now.blocks }
     {
         self.file.write_all_at(from, b * BLOCK_SIZE as u64)
+    }
+
+    /// Writes so many blocks, from block `first` on, of the front of `from`.
+    pub fn write_run(&self, first: u64, from: &[u8], count: usize) -> io::Result<()>
+        requires room { first + count ≤ self.now.blocks }
+        requires length { count * block_size ≤ length from.now }
+    {
+        self.file
+            .write_all_at(&from[..count * BLOCK_SIZE], first * BLOCK_SIZE as u64)
     }
 }
 

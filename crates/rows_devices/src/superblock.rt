@@ -244,55 +244,54 @@ fn outcome(alloc: Global, changes: &[(u64, usize, u8)]) -> Result<Result<u64, u6
     }
 }
 
+// A superblock's bytes, and the live epoch or the block that is damaged.
+const DAMAGE: [(&str, &[(u64, usize, u8)], Result<u64, u64>); 29] = [
+    ("one half", &[], Ok(1)),
+    ("both halves", &[(2, 0, 1)], Ok(2)),
+    ("another count", &[(1, 31, 9)], Ok(1)),
+    ("slots 1 and 0", &[(1, 35, 2)], Ok(1)),
+    ("no half", &[(0, 0, 0)], Err(0)),
+    ("a commit block of 2", &[(0, 0, 2)], Err(0)),
+    ("a commit block of 255", &[(0, 0, 255)], Err(0)),
+    ("the magic", &[(1, 7, 0)], Err(1)),
+    ("version 0", &[(1, 11, 0)], Err(1)),
+    ("version 1", &[(1, 11, 1)], Ok(1)),
+    ("version 3", &[(1, 11, 3)], Err(1)),
+    ("version 255", &[(1, 11, 255)], Err(1)),
+    ("version 257", &[(1, 10, 1)], Err(1)),
+    (
+        "version 2 in the first byte",
+        &[(1, 8, 2), (1, 11, 0)],
+        Err(1),
+    ),
+    (
+        "a second half of version 1",
+        &[(2, 0, 1), (3, 11, 1)],
+        Ok(2),
+    ),
+    (
+        "a second half of version 3",
+        &[(2, 0, 1), (3, 11, 3)],
+        Err(3),
+    ),
+    ("too few slots", &[(1, 15, 23)], Err(1)),
+    ("another size", &[(1, 15, 25)], Err(1)),
+    ("an epoch of 0", &[(1, 23, 0)], Err(1)),
+    ("no table", &[(1, 35, 0)], Err(1)),
+    ("a table too large", &[(1, 35, 26)], Err(1)),
+    ("a slot past the end", &[(1, 39, 24)], Err(1)),
+    ("a slot twice", &[(1, 35, 2), (1, 43, 1)], Err(1)),
+    ("a byte after the slots", &[(1, 40, 1)], Err(1)),
+    ("the last byte", &[(1, 4095, 1)], Err(1)),
+    ("a second half that isn't committed", &[(3, 7, 0)], Ok(1)),
+    ("the second half", &[(2, 0, 1), (3, 7, 0)], Err(3)),
+    ("both", &[(1, 7, 0), (2, 0, 1), (3, 7, 0)], Err(1)),
+    ("equal epochs", &[(2, 0, 1), (3, 23, 1)], Err(3)),
+];
+
 #[test]
 fn damage_names_its_block(rt: HostRuntime) -> Result<(), Fail> {
-    for (label, changes, want) in [
-        ("one half", [].as_slice(), Ok(1)),
-        ("both halves", [(2, 0, 1)].as_slice(), Ok(2)),
-        ("another count", [(1, 31, 9)].as_slice(), Ok(1)),
-        ("slots 1 and 0", [(1, 35, 2)].as_slice(), Ok(1)),
-        ("no half", [(0, 0, 0)].as_slice(), Err(0)),
-        ("a commit block of 2", [(0, 0, 2)].as_slice(), Err(0)),
-        ("a commit block of 255", [(0, 0, 255)].as_slice(), Err(0)),
-        ("the magic", [(1, 7, 0)].as_slice(), Err(1)),
-        ("version 0", [(1, 11, 0)].as_slice(), Err(1)),
-        ("version 1", [(1, 11, 1)].as_slice(), Ok(1)),
-        ("version 3", [(1, 11, 3)].as_slice(), Err(1)),
-        ("version 255", [(1, 11, 255)].as_slice(), Err(1)),
-        ("version 257", [(1, 10, 1)].as_slice(), Err(1)),
-        (
-            "version 2 in the first byte",
-            [(1, 8, 2), (1, 11, 0)].as_slice(),
-            Err(1),
-        ),
-        (
-            "a second half of version 1",
-            [(2, 0, 1), (3, 11, 1)].as_slice(),
-            Ok(2),
-        ),
-        (
-            "a second half of version 3",
-            [(2, 0, 1), (3, 11, 3)].as_slice(),
-            Err(3),
-        ),
-        ("too few slots", [(1, 15, 23)].as_slice(), Err(1)),
-        ("another size", [(1, 15, 25)].as_slice(), Err(1)),
-        ("an epoch of 0", [(1, 23, 0)].as_slice(), Err(1)),
-        ("no table", [(1, 35, 0)].as_slice(), Err(1)),
-        ("a table too large", [(1, 35, 26)].as_slice(), Err(1)),
-        ("a slot past the end", [(1, 39, 24)].as_slice(), Err(1)),
-        ("a slot twice", [(1, 35, 2), (1, 43, 1)].as_slice(), Err(1)),
-        ("a byte after the slots", [(1, 40, 1)].as_slice(), Err(1)),
-        ("the last byte", [(1, 4095, 1)].as_slice(), Err(1)),
-        (
-            "a second half that isn't committed",
-            [(3, 7, 0)].as_slice(),
-            Ok(1),
-        ),
-        ("the second half", [(2, 0, 1), (3, 7, 0)].as_slice(), Err(3)),
-        ("both", [(1, 7, 0), (2, 0, 1), (3, 7, 0)].as_slice(), Err(1)),
-        ("equal epochs", [(2, 0, 1), (3, 23, 1)].as_slice(), Err(3)),
-    ] {
+    for (label, changes, want) in DAMAGE {
         assert_eq!(rt; outcome(rt.alloc(), changes)?, want, "{label}");
     }
     Ok(())

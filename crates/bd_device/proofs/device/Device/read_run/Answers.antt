@@ -1,11 +1,11 @@
 use Rattle.std.proofs.Common.{arith, ◌∙◌}
 use Rattle.bd_device.proofs.Calls.{reads_then}
 use Rattle.bd_device.proofs.Changes.{read_more}
-use Rattle.bd_device.proofs.blocks.read_blocks.Goals as goal
+use Rattle.bd_device.proofs.device.Device.read_run.Goals as goal
 
 pub loop-i-preserved : goal.loop-i-preserved
 loop-i-preserved g c = record {
-  bytes = read_more c.args.first c.loop-i.i (g.D.Device.contents c.args.dev.now) (g.D.Device.contents c.loop-i.dev) c.loop-i.into c.read.new.into c.put.new.into
+  bytes = read_more c.args.first c.loop-i.i (g.Self.Device.contents c.args.self.now) (g.Self.Device.contents c.loop-i.self) c.loop-i.into c.read.new.into c.put.new.into
       c.loop-i.invariant.reads.kept c.loop-i.invariant.bytes c.in_ok-read.ensures.bytes c.read.array_long (omega (arith, c.loop-i.auto.into, c.requires.length, c.loop-i-test.true)) c.put.ensures;
   reads = reads_then c.loop-i.invariant.reads (record {
     kept = c.read.ensures.kept;
