@@ -176,6 +176,11 @@ raised_inside p s t source most (Some _) None (past_all e other) h within = (lea
 raised_inside p s t source most None (Some _) x7 h within = elim x7 [ ]
 raised_inside p s t source most None None no_end h within = (least_inside p s t source within.0, tt)
 
+-- an end that is raised is that end, translated
+pub raised_same : (p source : List ℕ) (end : Option (List ℕ)) (new : List ℕ) → IsRaised p source end (Some new) → end ≡ Some (source ++ drop (length p) new)
+raised_same p source (Some _) _ (same_rest e) = ap (λ (x : List ℕ). Some (source ++ x)) (sym (drop_joined p e))
+raised_same p source None _ x = elim x [ ]
+
 -- the same of keys that are cut and not joined
 pub end_above_end : (key source : List ℕ) (lift most : ℕ) (end new : Option (List ℕ)) → lift ≤ length key → IsRaised (take lift key) source end new → IsEnd (source ++ drop lift key) most end → IsEnd key (lift + most) new
 end_above_end key source lift most end new long raised h =
@@ -188,6 +193,10 @@ end_above_inside key source lift most end new k long raised h begins within =
     let split : k ≡ take lift key ++ drop lift k = begins_split k (take lift key) begins ∙ ap (λ (n : ℕ). take lift key ++ drop n k) (length-take lift key long) in
     raised_inside (take lift key) (drop lift key) (drop lift k) source most end new raised h
     (subst (λ (l : List ℕ). InRange l new (take lift key ++ drop lift k)) (sym (take-append-drop lift key)) (subst (λ (l : List ℕ). InRange key new l) split within))
+
+pub end_above_same : (key source : List ℕ) (lift : ℕ) (end : Option (List ℕ)) (new : List ℕ) → lift ≤ length key → IsRaised (take lift key) source end (Some new) → end ≡ Some (source ++ drop lift new)
+end_above_same key source lift end new long raised =
+    subst (λ (n : ℕ). end ≡ Some (source ++ drop n new)) (length-take lift key long) (raised_same (take lift key) source end new raised)
 
 -- ---- the lesser of two ends
 
@@ -266,7 +275,7 @@ later_end m lo end first h = record {
   short = (let a : length (first_key m) ≤ key_limit = first_short m h.message in let e : length first ≡ length (first_key m) = ap (λ (l : List ℕ). length l) h.first_is in omega arith);
 }
 
-below_within : (k first : List ℕ) (end : Option (List ℕ)) → IsBelow k first → IsBelowEnd first end → IsBelowEnd k end
+pub below_within : (k first : List ℕ) (end : Option (List ℕ)) → IsBelow k first → IsBelowEnd first end → IsBelowEnd k end
 below_within k first None below within = tt
 below_within k first (Some e) below within = total.trans k first e below within
 

@@ -1,6 +1,6 @@
 -- The keys between two entries of a leaf.
 use Rattle.std.proofs.Common.{◌≡◌, ℕ, zero, suc, ◌≤◌, List, [], ◌∷◌, length, refl, sym, ap, subst, ◌∙◌, Option, None, Some, Err, arith, inl, inr}
-use Rattle.std.specs.Prelude.{slice_get}
+use Rattle.std.specs.Prelude.{IsSome, slice_get}
 use Rattle.std.specs.List.{AllByRecursion}
 use Rattle.std.specs.Option.{option_map}
 use Rattle.std.proofs.lemmas.Bool.{cases_lt}
@@ -11,9 +11,10 @@ use Rattle.bd_keys.proofs.Order.{below_from}
 use Rattle.bd_node.specs.declared.node.Entry.{Entry}
 use Rattle.bd_node.specs.Nodes.{entry_at}
 use Rattle.bd_node.specs.Shape.{IsEntry, IsRising}
-use Rattle.bd_leaf.specs.Places.{AreAbove, IsPlace}
-use Rattle.bd_leaf.proofs.Finds.{nothing_at, rising_at, each_at}
-use Rattle.bd_query.specs.Stretches.{IsEmpty, IsEnd, end_limit}
+use Rattle.bd_leaf.specs.Places.{IsPlace}
+use Rattle.bd_leaf.proofs.Finds.{nothing_at, rising_at, each_at, found_at}
+use Rattle.bd_node.proofs.Touched.{least_back}
+use Rattle.bd_query.specs.Stretches.{IsEmpty, IsFirst, IsEnd, end_limit}
 
 -- before an entry there is one at each place
 some_before : (es : List Entry) (i place : ℕ) (e : Entry) → place ≤ i → slice_get es i ≡ Some e → (f : Entry) × (slice_get es place ≡ Some f)
@@ -42,12 +43,21 @@ gap_empty es place lo rising h k is_k within =
     below_later es place i first.0 e k rising high first.1 there
     (subst (λ (o : Option Entry). IsBelowEnd k (option_map (λ (d : Entry). d.key) o)) first.1 within.1))
 
-gap_end_at : (es : List Entry) (place : ℕ) (lo : List ℕ) (o : Option Entry) → slice_get es place ≡ o → AllByRecursion IsEntry es → AreAbove es place lo → IsEnd lo end_limit (option_map (λ (e : Entry). e.key) o)
-gap_end_at es place lo None there each over = record { above = tt; short = tt }
-gap_end_at es place lo (Some e) there each over = record {
-  above = over place e (omega arith) there;
-  short = (let own : IsEntry e = each_at IsEntry es place e each there in let a : length e.key ≤ key_limit = own.key in omega arith);
+-- and that entry's key is the first one
+pub gap_first : (es : List Entry) (place : ℕ) (e : Entry) (lo : List ℕ) → IsRising es → IsPlace es lo (Err place) → slice_get es place ≡ Some e → IsFirst (λ k. entry_at es k) lo e.key
+gap_first es place e lo rising h there = record {
+  on = least_back lo e.key (h.2 place e (omega arith) there);
+  empty = subst (λ (o : Option Entry). IsEmpty (λ k. entry_at es k) lo (option_map (λ (d : Entry). d.key) o)) there (gap_empty es place lo rising h);
+  some = subst (λ (o : Option (List ℕ)). IsSome o) (sym (found_at es place e e.key rising there refl)) refl;
 }
 
-pub gap_end : (es : List Entry) (place : ℕ) (lo : List ℕ) → AllByRecursion IsEntry es → IsPlace es lo (Err place) → IsEnd lo end_limit (option_map (λ (e : Entry). e.key) (slice_get es place))
-gap_end es place lo each h = gap_end_at es place lo (slice_get es place) refl each h.2
+-- and where there is none, nothing stands from the key on
+pub gap_last : (es : List Entry) (place : ℕ) (lo : List ℕ) → IsRising es → IsPlace es lo (Err place) → slice_get es place ≡ None → IsEmpty (λ k. entry_at es k) lo None
+gap_last es place lo rising h past =
+    subst (λ (o : Option Entry). IsEmpty (λ k. entry_at es k) lo (option_map (λ (d : Entry). d.key) o)) past (gap_empty es place lo rising h)
+
+pub gap_end : (es : List Entry) (place : ℕ) (e : Entry) (lo : List ℕ) → AllByRecursion IsEntry es → IsPlace es lo (Err place) → slice_get es place ≡ Some e → IsEnd lo end_limit (Some e.key)
+gap_end es place e lo each h there = record {
+  above = h.2 place e (omega arith) there;
+  short = (let own : IsEntry e = each_at IsEntry es place e each there in let a : length e.key ≤ key_limit = own.key in omega arith);
+}

@@ -1,8 +1,7 @@
 -- How a search goes on, and that it ends.
 use Rattle.std.proofs.Common.{◌≡◌, ℕ, zero, suc, ◌+◌, ◌-◌, ◌<◌, ◌≤◌, List, [], ◌∷◌, length, refl, sym, ap, subst, ◌∙◌, Option, None, Some, arith, inl, inr, Less, Greater, true, false}
-use Rattle.std.specs.Prelude.{IsSome}
-use Rattle.std.proofs.lemmas.Bool.{cases_order, cases_Bool}
-use Rattle.std.proofs.lemmas.Cmp.{nat_list_cmp_total as total}
+use Rattle.std.specs.Prelude.{IsSome, if◌then◌else◌}
+use Rattle.std.proofs.lemmas.Bool.{cases_order, cases_Bool, cond-true, cond-false}
 use Rattle.bd_keys.specs.Keys.{IsKey, IsBelow, IsAtLeast, Begins}
 use Rattle.bd_keys.proofs.Order.{first_less, first_same, first_more, not_below_nil, IsKey-rest, Begins-cons, Begins-uncons}
 use Rattle.bd_message.specs.KeyMaps.{At, IsFound, IsNext}
@@ -11,11 +10,15 @@ use Rattle.bd_node.specs.Meaning.{Nodes, at}
 use Rattle.bd_node.proofs.Lookup.{key-is_key, is_key-key}
 use Rattle.bd_node.proofs.LawLemmas.{others_have_nothing}
 use Rattle.bd_query.specs.declared.turns.Turn.{Turn}
-use Rattle.bd_query.specs.declared.turns.Turn.TheVariants.{Passed}
-use Rattle.bd_query.specs.Stretches.{IsEnd, IsEmpty, IsTurn, PassesTo}
+use Rattle.bd_query.specs.declared.turns.Turn.TheVariants.{Next, Passed}
+use Rattle.bd_query.specs.Stretches.{IsEnd, IsEmpty, IsFirst, IsTurn, PassesTo}
 use Rattle.bd_query.specs.Asks.{AreVisitsOfWay}
 use Rattle.bd_query.proofs.AskLemmas.{IsSearching, searching_on}
-use Rattle.bd_query.proofs.EndLemmas.{below_or_least}
+use Rattle.bd_query.proofs.EndLemmas.{below_or_least, least_trans}
+use Rattle.bd_query.proofs.StretchLemmas.{begins_true, true_begins}
+use Rattle.bd_node.proofs.Touched.{least_back}
+use Rattle.bd_message.specs.Effect.{begins}
+use Rattle.bd_message.proofs.Finds.{not_both}
 
 -- ---- the place of a key among all keys of at most so many bytes
 
@@ -130,10 +133,6 @@ none_some : (o : Option (List ℕ)) → o ≡ None → IsSome o → ⊥
 none_some None e some = cc
 none_some (Some v) e some = cc
 
--- what is above a key is at least what that is at least
-above_least : (end low from : List ℕ) → IsBelow low end → IsAtLeast low from → IsAtLeast end from
-above_least end low from above least less = least (total.trans low end from above less)
-
 -- a key that begins with a prefix is at least the prefix
 begins_least : (k p : List ℕ) → Begins k p → IsAtLeast k p
 begins_least k [] begins less = not_below_nil k less
@@ -185,10 +184,10 @@ low_first has from within low from_on within_on least = record {
 }
 
 -- a turn that passes to an end goes on there
-pub low_passed : (nodes : Nodes) (id : ℕ) (from within low end : List ℕ) (most : ℕ) → IsLow (at nodes id) from within low → IsEmpty (at nodes id) low (Some end) → IsEnd low most (Some end) → IsLow (at nodes id) from within end
-low_passed nodes id from within low end most h empty passes = record {
-  from_on = above_least end low from passes.above h.from_on;
-  within_on = above_least end low within passes.above h.within_on;
+pub low_passed : (nodes : Nodes) (id : ℕ) (from within low end : List ℕ) → IsLow (at nodes id) from within low → IsAtLeast end low → IsEmpty (at nodes id) low (Some end) → IsLow (at nodes id) from within end
+low_passed nodes id from within low end h on empty = record {
+  from_on = least_trans end low from on h.from_on;
+  within_on = least_trans end low within on h.within_on;
   rest = λ k found. elim (below_or_least k end) [
     | inl below ↦ absurd (none_some (at nodes id k) (empty k (some_key nodes id k found.0) (h.rest k found, below)) found.0)
     | inr least ↦ least
@@ -207,6 +206,17 @@ low_other has from within low h other k found = other (begins_between within low
 -- one that finds a value at the key has found it
 pub low_found : (has : At) (from within low : List ℕ) → IsLow has from within low → Begins low within → IsSome (has low) → IsNext has from within (Some low)
 low_found has from within low h begins some = ((some, h.from_on, begins), h.rest)
+
+-- one that finds the next key ends it there: with that key where it begins as it is to, and else with none
+pub low_next : (nodes : Nodes) (id : ℕ) (from within low key : List ℕ) → IsLow (at nodes id) from within low → IsFirst (at nodes id) low key → IsNext (at nodes id) from within (if begins key within then Some key else None)
+low_next nodes id from within low key h first =
+    let on : IsLow (at nodes id) from within key = low_passed nodes id from within low key h first.on first.empty in
+    elim (cases_Bool (begins key within)) [
+      | inl same ↦ subst (λ (o : Option (List ℕ)). IsNext (at nodes id) from within o) (sym (cond-true (begins key within) (Some key) None same))
+          (low_found (at nodes id) from within key on (true_begins key within same) first.some)
+      | inr other ↦ subst (λ (o : Option (List ℕ)). IsNext (at nodes id) from within o) (sym (cond-false (begins key within) (Some key) None other))
+          (low_other (at nodes id) from within key on (λ same. not_both (begins_true key within same) other))
+    ]
 
 -- ---- the search
 
@@ -231,13 +241,19 @@ turned_low nodes id from within low slice end items most turn some h is_passed i
     let passes : PassesTo slice most (Passed (Some end)) = subst (λ (t : Turn). PassesTo slice most t) passed h.passes in
     let empty : IsTurn (at nodes id) slice (Passed (Some end)) = subst (λ (t : Turn). IsTurn (at nodes id) slice t) passed said in
     subst (λ (k : List ℕ). IsLow (at nodes id) from within k) (sym same_items)
-    (low_passed nodes id from within slice end most (subst (λ (k : List ℕ). IsLow (at nodes id) from within k) (sym h.slice_is) low_is) empty passes)
+    (low_passed nodes id from within slice end (subst (λ (k : List ℕ). IsLow (at nodes id) from within k) (sym h.slice_is) low_is) (least_back slice end passes.above) empty)
 
 pub turned_past : (nodes : Nodes) (id : ℕ) (from within low slice : List ℕ) (turn : Turn) (some : Option (List ℕ)) → slice ≡ low → turn ≡ Passed some → some ≡ None
     → IsTurn (at nodes id) slice turn → IsLow (at nodes id) from within low → IsNext (at nodes id) from within None
 turned_past nodes id from within low slice turn some slice_is is_passed is_none said low_is =
     low_past nodes id from within slice (subst (λ (k : List ℕ). IsLow (at nodes id) from within k) (sym slice_is) low_is)
     (subst (λ (t : Turn). IsTurn (at nodes id) slice t) (is_passed ∙ ap (λ (e : Option (List ℕ)). Passed e) is_none) said)
+
+pub turned_next : (nodes : Nodes) (id : ℕ) (from within low slice key : List ℕ) (turn : Turn) → slice ≡ low → turn ≡ Next key
+    → IsTurn (at nodes id) slice turn → IsLow (at nodes id) from within low → IsNext (at nodes id) from within (if begins key within then Some key else None)
+turned_next nodes id from within low slice key turn slice_is is_next said low_is =
+    low_next nodes id from within slice key (subst (λ (k : List ℕ). IsLow (at nodes id) from within k) (sym slice_is) low_is)
+    (subst (λ (t : Turn). IsTurn (at nodes id) slice t) is_next said)
 
 pub turned_ways : (nodes : Nodes) (id : ℕ) (from within low slice end items : List ℕ) (most : ℕ) (turn : Turn) (some : Option (List ℕ)) (before now after : ℕ) → IsTurned from within low slice most turn → turn ≡ Passed some → some ≡ Some end → items ≡ end
     → IsSearching nodes id from low before now → AreVisitsOfWay nodes id slice now after → IsSearching nodes id from items before after

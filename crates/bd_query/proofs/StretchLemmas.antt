@@ -31,9 +31,9 @@ use Rattle.bd_node.proofs.Touched.{touched_first, below_longer}
 use Rattle.bd_query.proofs.Parts.{acts_rest}
 use Rattle.bd_node.proofs.Shapes.{inner_rising}
 use Rattle.bd_node.proofs.Counted.{counted_first, counted_second, message_counted, edge_of_counted}
-use Rattle.bd_query.proofs.EndLemmas.{least_trans, begins_split, begins_joined, no_key_between, below_or_least, length-take}
+use Rattle.bd_query.proofs.EndLemmas.{least_trans, begins_split, begins_joined, no_key_between, below_or_least, below_within, length-take}
 use Rattle.bd_query.specs.declared.stretch.Stretch.{Stretch}
-use Rattle.bd_query.specs.declared.stretch.Stretch.TheVariants.{Present, Absent, Child}
+use Rattle.bd_query.specs.declared.stretch.Stretch.TheVariants.{Present, Next, Absent, Child}
 use Rattle.bd_query.specs.Stretches.{IsEnd, IsWithin, end_limit, NoneFrom, IsNewest, IsWay, IsEmpty, IsAsked, IsStretch, EndsBy, AsksOneOf}
 
 pub if_both : {T E : Type 0} (P Q R : T → Type 0) (r : Result T E) → IfOk r P → IfOk r Q → ((x : T) → P x → Q x → R x) → IfOk r R
@@ -157,6 +157,18 @@ pub stretch_from : (below : NodesAt) (at : At) (lo : List ℕ) (end : Option (Li
 stretch_from below at lo end Present by is_lo above each =
     let here = each lo is_lo (not_below_itself lo, above) in
     subst (λ (o : Option (List ℕ)). IsSome o) (sym here.1) here.2
+stretch_from below at lo end (Next key) by is_lo above each =
+    let first = (each lo is_lo (not_below_itself lo, above)).2 in
+    let here = each key first.0 (first.1.on, by) in (
+      first.0,
+      record {
+        on = first.1.on;
+        empty = λ k is_k within.
+            let near = each k is_k (within.0, below_within k key end within.1 by) in
+            near.1 ∙ near.2.1.empty k is_k within;
+        some = subst (λ (o : Option (List ℕ)). IsSome o) (sym here.1) here.2.1.some;
+      },
+    )
 stretch_from below at lo end (Absent e) by is_lo above each = λ k is_k within.
     let here = each k is_k (within.0, by k within.1) in
     here.1 ∙ here.2 k is_k within
@@ -184,6 +196,7 @@ through_edge below e ms lo end s newest seen by is_lo above said =
 
 pub ends_within : (new end : Option (List ℕ)) (s : Stretch) → IsWithin new end → EndsBy new s → EndsBy end s
 ends_within new end Present h by = tt
+ends_within new end (Next key) h by = h key by
 ends_within new end (Absent e) h by = λ k below. h k (by k below)
 ends_within new end (Child e child lift source) h by = λ k below. h k (by k below)
 
@@ -309,6 +322,7 @@ counted_front c xs ys zs le = omega (arith, sum_by-append (λ (x : ℕ). cond (x
 
 pub asks_more : (xs ys : List ℕ) (s : Stretch) → ((c : ℕ) → count_by (λ name. name == c) xs ≤ count_by (λ name. name == c) ys) → AsksOneOf xs s → AsksOneOf ys s
 asks_more xs ys Present more h = tt
+asks_more xs ys (Next key) more h = tt
 asks_more xs ys (Absent end) more h = tt
 asks_more xs ys (Child end child lift source) more h = (let m : count_by (λ name. name == child) xs ≤ count_by (λ name. name == child) ys = more child in omega arith)
 

@@ -14,9 +14,9 @@ use Rattle.bd_node.proofs.Lookup.{named_has}
 use Rattle.bd_node.proofs.Sound.{sound-levelled}
 use Rattle.bd_node.proofs.LawLemmas.{keys_meet}
 use Rattle.bd_query.specs.declared.stretch.Stretch.{Stretch}
-use Rattle.bd_query.specs.declared.stretch.Stretch.TheVariants.{Present, Absent, Child}
+use Rattle.bd_query.specs.declared.stretch.Stretch.TheVariants.{Present, Next, Absent, Child}
 use Rattle.bd_query.specs.declared.turns.Turn.{Turn}
-use Rattle.bd_query.specs.declared.turns.Turn.TheVariants.{Found, Passed}
+use Rattle.bd_query.specs.declared.turns.Turn.TheVariants.{Found, Next, Passed}
 use Rattle.bd_query.specs.Stretches.{IsEnd, IsWithin, end_limit, way_limit, IsEmpty, IsAsked, IsStretch, AsksOneOf, AsksLower, IsTurn, PassesTo}
 use Rattle.bd_query.proofs.EndLemmas.{lesser_end, end_weaker}
 use Rattle.bd_query.proofs.StretchLemmas.{stretch_from}
@@ -32,12 +32,14 @@ IsKey-append (x ∷ a) b is_a is_b = IsKey-cons x (a ++ b) (is_a 0) (IsKey-appen
 -- what a node asks is kept and of a lower level
 pub asks_lower : (t : Table) (level : ℕ) (n : Node) (s : Stretch) → IsNodeOf t level n → AsksOneOf (names n) s → AsksLower t level s
 asks_lower t level n Present own h = tt
+asks_lower t level n (Next key) own h = tt
 asks_lower t level n (Absent end) own h = tt
 asks_lower t level n (Child end child lift source) own h = named_has (IsLower t level) child (names n) own.lower h
 
 -- no stretch ends after all keys
 ends_nowhere : (s : Stretch) → Rattle.bd_query.specs.Stretches.EndsBy None s
 ends_nowhere Present = tt
+ends_nowhere (Next key) = tt
 ends_nowhere (Absent end) = λ k below. tt
 ends_nowhere (Child end child lift source) = λ k below. tt
 
@@ -82,6 +84,7 @@ raised_found key source lift end at child is_key above asked found =
 
 pub passes_weaker : (key : List ℕ) (few more : ℕ) (turn : Turn) → few ≤ more → PassesTo key few turn → PassesTo key more turn
 passes_weaker key few more Found le h = tt
+passes_weaker key few more (Next next) le h = end_weaker key few more (Some next) le h
 passes_weaker key few more (Passed end) le h = end_weaker key few more end le h
 
 -- one level more

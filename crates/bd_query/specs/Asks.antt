@@ -13,7 +13,7 @@ use Rattle.bd_node.specs.Meaning.{Nodes}
 use Rattle.bd_node.specs.Touching.{touches}
 use Rattle.bd_node.specs.Stores.{visited}
 use Rattle.bd_query.specs.declared.stretch.Stretch.{Stretch}
-use Rattle.bd_query.specs.declared.stretch.Stretch.TheVariants.{Present, Absent, Child}
+use Rattle.bd_query.specs.declared.stretch.Stretch.TheVariants.{Present, Next, Absent, Child}
 
 -- a node and the key that it is asked
 abbrev pub Question : Type 0
@@ -50,6 +50,7 @@ asked_at (Inner level edges buffer) k = asked_through (edge_of edges k) buffer k
 -- whom a stretch asks
 abbrev pub asked_in : Stretch → List ℕ → Option Question
 asked_in Present k = None
+asked_in (Next key) k = None
 asked_in (Absent end) k = None
 asked_in (Child end child lift source) k = Some (child, source ++ drop lift k)
 

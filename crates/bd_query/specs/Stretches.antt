@@ -1,7 +1,7 @@
 -- What is known of a key and of the keys after it.
 use Rattle.std.specs.Prelude.{◌≡◌, ℕ, ◌+◌, ◌*◌, ◌<◌, ◌≤◌, ◌==◌, Bool, true, false, List, ◌++◌, length, take, drop, Option, None, Some, IsSome, IfSome, count_by, slice_get, ⊤}
 use Rattle.bd_limits.specs.Limits.{key_limit}
-use Rattle.bd_keys.specs.Keys.{IsKey, IsBelowEnd, InRange, Begins}
+use Rattle.bd_keys.specs.Keys.{IsKey, IsBelowEnd, IsAtLeast, InRange, Begins}
 use Rattle.bd_message.specs.declared.message.Message.{Message}
 use Rattle.bd_message.specs.declared.message.Message.TheVariants.{Put, Del, Patch, Cut, Goto}
 use Rattle.bd_message.specs.KeyMaps.{At}
@@ -11,9 +11,9 @@ use Rattle.bd_node.specs.Tables.{Table, IsLower}
 use Rattle.bd_node.specs.Index.{touches_at}
 use Rattle.bd_node.specs.Touching.{touches, NoneTouches}
 use Rattle.bd_query.specs.declared.stretch.Stretch.{Stretch}
-use Rattle.bd_query.specs.declared.stretch.Stretch.TheVariants.{Present, Absent, Child}
+use Rattle.bd_query.specs.declared.stretch.Stretch.TheVariants.{Present, Next, Absent, Child}
 use Rattle.bd_query.specs.declared.turns.Turn.{Turn}
-use Rattle.bd_query.specs.declared.turns.Turn.TheVariants.{Found, Passed}
+use Rattle.bd_query.specs.declared.turns.Turn.TheVariants.{Found, Next, Passed}
 
 -- ---- ends
 
@@ -69,6 +69,12 @@ IsNewest list seen lo None end = NoneFrom list seen lo end
 abbrev pub IsEmpty : At → List ℕ → Option (List ℕ) → Type 0
 IsEmpty at lo end = (k : List ℕ) → IsKey k → InRange lo end k → at k ≡ None
 
+-- the first of the keys from this one on that have a value
+pub record IsFirst (at : At) (lo key : List ℕ) : Type 0 where
+  pub on : IsAtLeast key lo
+  pub empty : IsEmpty at lo (Some key)
+  pub some : IsSome (at key)
+
 -- each key from this one up to the end has its first bytes, as many as the lift says, and what the
 -- child has at the source and the key's other bytes
 abbrev pub IsAsked : At → At → List ℕ → Option (List ℕ) → ℕ → List ℕ → Type 0
@@ -78,6 +84,7 @@ IsAsked at child lo end lift source = (k : List ℕ) → IsKey k → InRange lo 
 -- what is said of what stands at a key and at the keys after it
 abbrev pub IsStretch : NodesAt → At → List ℕ → Stretch → Type 0
 IsStretch below at lo Present = IsSome (at lo)
+IsStretch below at lo (Next key) = IsKey key × IsFirst at lo key
 IsStretch below at lo (Absent end) = IsEmpty at lo end
 IsStretch below at lo (Child end child lift source) =
     IsAsked at (below child) lo end lift source
@@ -85,25 +92,29 @@ IsStretch below at lo (Child end child lift source) =
 -- a stretch ends above the key; the lift is at most 518, and the key is as long
 abbrev pub HasEnd : List ℕ → Stretch → Type 0
 HasEnd lo Present = ⊤
+HasEnd lo (Next key) = IsEnd lo end_limit (Some key)
 HasEnd lo (Absent end) = IsEnd lo end_limit end
 HasEnd lo (Child end child lift source) =
     IsEnd lo end_limit end × (lift ≤ key_limit) × (lift ≤ length lo)
 
--- a stretch ends at this end or before it
+-- a stretch ends at this end or before it, and the next key is before it
 abbrev pub EndsBy : Option (List ℕ) → Stretch → Type 0
 EndsBy other Present = ⊤
+EndsBy other (Next key) = IsBelowEnd key other
 EndsBy other (Absent end) = IsWithin end other
 EndsBy other (Child end child lift source) = IsWithin end other
 
 -- a node that is asked is one of these
 abbrev pub AsksOneOf : List ℕ → Stretch → Type 0
 AsksOneOf ns Present = ⊤
+AsksOneOf ns (Next key) = ⊤
 AsksOneOf ns (Absent end) = ⊤
 AsksOneOf ns (Child end child lift source) = 1 ≤ count_by (λ name. name == child) ns
 
 -- a node that is asked is kept and of a lower level
 abbrev pub AsksLower : Table → ℕ → Stretch → Type 0
 AsksLower t level Present = ⊤
+AsksLower t level (Next key) = ⊤
 AsksLower t level (Absent end) = ⊤
 AsksLower t level (Child end child lift source) = IsLower t level child
 
@@ -119,12 +130,14 @@ pub record IsWay (e : Edge) (lo : List ℕ) (end : Option (List ℕ)) : Type 0 w
 abbrev pub way_limit : ℕ → ℕ
 way_limit level = end_limit * (level + 1)
 
--- what a turn finds: that the key has a value, or up to where no key has one
+-- what a turn finds: that the key has a value, the next key that has one, or up to where none has
 abbrev pub IsTurn : At → List ℕ → Turn → Type 0
 IsTurn at lo Found = IsSome (at lo)
+IsTurn at lo (Next key) = IsFirst at lo key
 IsTurn at lo (Passed end) = IsEmpty at lo end
 
 -- a turn passes the key, to an end of at most so many bytes
 abbrev pub PassesTo : List ℕ → ℕ → Turn → Type 0
 PassesTo lo most Found = ⊤
+PassesTo lo most (Next key) = IsEnd lo most (Some key)
 PassesTo lo most (Passed end) = IsEnd lo most end

@@ -1,8 +1,9 @@
 //! The search for the least key.
 
-ghost use Rattle.std.specs.Prelude.{◌≡◌, ℕ, List, IfOk, OnOk};
+ghost use Rattle.std.specs.Prelude.{◌≡◌, if◌then◌else◌, ℕ, List, Some, None, IfOk, OnOk};
 ghost use Rattle.std.specs.Option.{option_map};
 ghost use Rattle.bd_keys.specs.Keys.{IsAtLeast};
+ghost use Rattle.bd_message.specs.Effect.{begins};
 ghost use Rattle.bd_message.specs.KeyMaps.{HasMapCause, NeverWorn, IsNext};
 ghost use Rattle.bd_node.specs.Frames.{OfSound, OnlyReads};
 ghost use Rattle.bd_node.specs.Meaning.{at};
@@ -11,15 +12,16 @@ ghost use Rattle.bd_query.specs.Asks.{AreVisitsOfWays};
 
 use crate::ends::bytes_of;
 use crate::turns::{Turn, turn_at};
-use bd_keys::starts;
+use bd_keys::{Bytes, starts};
 use bd_message::MapFault;
 use bd_node::NodeStore;
 use std::alloc::Global;
 
 /// The least key of a kept node, of any length, that is at least `from`, begins with `within` and
-/// has a value. Each turn rules out the keys from one up to another and goes on at that one. The
-/// nodes that are visited are those that are asked on ways down along these keys; a way goes no
-/// further where a cut decides, so what lies below a range that was cut is not visited.
+/// has a value. Each turn rules out the keys from one up to another; the search ends at that one
+/// where the turn finds that it has a value, and else goes on there. The nodes that are visited are
+/// those that are asked on ways down along these keys; a way goes no further where a cut decides,
+/// so what lies below a range that was cut is not visited.
 pub fn next<S: NodeStore>(
     alloc: Global,
     store: &mut S,
@@ -44,6 +46,7 @@ pub fn next<S: NodeStore>(
     'turns: while starts(low.as_slice(), within) {
         match turn_at(alloc, store, root, low.as_slice())? {
             Turn::Found => return Ok(Some(low)),
+            Turn::Next { key } => return Ok(beginning(key, within)),
             Turn::Passed { end: None } => return Ok(None),
             Turn::Passed { end: Some(end) } => {
                 let _bytes = bytes_of(end.as_slice());
@@ -52,6 +55,18 @@ pub fn next<S: NodeStore>(
         }
     }
     Ok(None)
+}
+
+// The key, if it begins with a prefix.
+fn beginning(key: Bytes, prefix: &[u8]) -> Option<Vec<u8>>
+    ensures { option_map (λ found. found.items) result
+        ≡ (if begins key prefix.now then Some key else None) }
+{
+    if starts(key.as_slice(), prefix) {
+        Some(key.into_vec())
+    } else {
+        None
+    }
 }
 
 // The greater of two keys.

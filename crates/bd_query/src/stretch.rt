@@ -2,7 +2,6 @@
 
 ghost use Rattle.std.specs.Prelude.{◌≡◌, ℕ, ◌+◌, ◌-◌, ◌*◌, ◌<◌, ◌≤◌, true, List, [], ◌++◌, length, drop, Option, None, Some, IfOk, IfSome, slice_get};
 ghost use Rattle.std.specs.List.{AllByRecursion, flat_map};
-ghost use Rattle.std.specs.Option.{option_map};
 ghost use Rattle.bd_message.specs.Messages.{IsMessage};
 ghost use Rattle.bd_message.specs.Effect.{NodesAt, act};
 ghost use Rattle.bd_node.specs.Index.{is_point_at, is_range_at};
@@ -13,7 +12,7 @@ ghost use Rattle.bd_leaf.specs.Places.{IsPlace};
 ghost use Rattle.bd_query.specs.Asks.{asked_by, asked_first, asked_through, asked_at, asked_in};
 ghost use Rattle.bd_query.specs.Stretches.{IsEnd, IsWithin, IsNewest, NoneAmong, after, IsWay, IsStretch, HasEnd, EndsBy, AsksOneOf, end_limit};
 
-use crate::ends::{copied_end, end_within, narrowed, successor};
+use crate::ends::{bytes_of, copied_end, end_within, narrowed, successor};
 use bd_keys::Bytes;
 use bd_message::Message;
 use bd_node::{Edge, Entry, Messages, Node, Steps, end_of};
@@ -26,6 +25,10 @@ use std::sync::ledger::{Blank, Ledger};
 pub enum Stretch {
     /// The key has a value.
     Present,
+    /// No key from this one up to `key` has a value, and that one has.
+    Next {
+        key: Bytes,
+    },
     /// No key from this one up to the end has one.
     Absent {
         end: Option<Bytes>,
@@ -81,20 +84,14 @@ fn among(entries: &[Entry], key: &[u8]) -> Result<Stretch, AllocError>
 {
     match search(entries, key) {
         Ok(_place) => Ok(Stretch::Present),
-        Err(place) => {
-            let end = key_at(entries, place)?;
-            Ok(Stretch::Absent { end })
-        }
-    }
-}
-
-// The key of the entry at a place, if there is one.
-fn key_at(entries: &[Entry], place: usize) -> Result<Option<Bytes>, AllocError>
-    ensures { IfOk result (λ key. key ≡ option_map (λ e. e.key) (slice_get entries.now place)) }
-{
-    match entries.get(place) {
-        Some(entry) => Ok(Some(entry.key.clone()?)),
-        None => Ok(None),
+        Err(place) => match entries.get(place) {
+            Some(entry) => {
+                let key = entry.key.clone()?;
+                let _bytes = bytes_of(key.as_slice());
+                Ok(Stretch::Next { key })
+            }
+            None => Ok(Stretch::Absent { end: None }),
+        },
     }
 }
 

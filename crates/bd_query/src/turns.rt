@@ -1,9 +1,9 @@
-//! Turns of a search: each is one way down along a key, and finds that the key has a value, or up
-//! to which key none has one.
+//! Turns of a search: each is one way down along a key, and finds that the key has a value, which
+//! key is the next that has one, or up to which key none has one.
 
-ghost use Rattle.std.specs.Prelude.{◌≡◌, ℕ, ◌+◌, ◌≤◌, List, ◌++◌, length, take, drop, Some, IfOk, OnOk};
+ghost use Rattle.std.specs.Prelude.{◌≡◌, ℕ, ◌+◌, ◌≤◌, List, ◌++◌, length, take, drop, Some, IsSome, IfOk, OnOk};
 ghost use Rattle.bd_limits.specs.Limits.{key_limit};
-ghost use Rattle.bd_keys.specs.Keys.{IsKey, InRange, Begins};
+ghost use Rattle.bd_keys.specs.Keys.{IsKey, IsBelowEnd, IsAtLeast, InRange, Begins};
 ghost use Rattle.bd_message.specs.Effect.{NodesAt};
 ghost use Rattle.bd_message.specs.KeyMaps.{At, HasMapCause, NeverWorn};
 ghost use Rattle.bd_node.specs.Frames.{OfSound, OnlyReads};
@@ -15,7 +15,7 @@ ghost use Rattle.bd_node.specs.Stores.{visited, AreVisits};
 ghost use Rattle.bd_query.specs.Stretches.{IsEnd, IsAsked, IsStretch, HasEnd, AsksLower, IsTurn, PassesTo, end_limit, way_limit};
 ghost use Rattle.bd_query.specs.Asks.{asked_at, asked_in, AreVisitsOfWay};
 
-use crate::ends::{joined, lesser};
+use crate::ends::{bytes_of, joined, lesser};
 use crate::stretch::{Stretch, stretch_of};
 use bd_keys::{Bytes, front, starts, tail};
 use bd_message::MapFault;
@@ -27,12 +27,15 @@ use std::alloc::{AllocError, Global};
 pub enum Turn {
     /// The key has a value.
     Found,
+    /// No key from this one up to `key` has one, and that one has.
+    Next { key: Bytes },
     /// No key from this one up to the end has one.
     Passed { end: Option<Bytes> },
 }
 
-/// One way down from a kept node along a key: it finds a value there, or up to which end above it
-/// no key has one. A node asks at most one other, and none where a cut decides.
+/// One way down from a kept node along a key: it finds a value there, or the next key that has one,
+/// or up to which end above it no key has one. A node asks at most one other, and none where a cut
+/// decides.
 pub fn turn_at<S: NodeStore>(
     alloc: Global,
     store: &mut S,
@@ -58,6 +61,7 @@ pub fn turn_at<S: NodeStore>(
 {
     match stretch_at(alloc, store, id, key)? {
         Stretch::Present => Ok(Turn::Found),
+        Stretch::Next { key } => Ok(Turn::Next { key }),
         Stretch::Absent { end } => Ok(Turn::Passed { end }),
         Stretch::Child {
             end,
@@ -121,11 +125,38 @@ fn raised(
 {
     match turn {
         Turn::Found => Ok(Turn::Found),
+        Turn::Next { key: below } => {
+            let next = end_above(alloc, Some(below), key, lift, source)?;
+            Ok(next_before(next, end))
+        }
         Turn::Passed { end: below } => {
             let below = end_above(alloc, below, key, lift, source)?;
             let end = lesser(end, below);
             Ok(Turn::Passed { end })
         }
+    }
+}
+
+// What a node's turn is where its child's finds a key: that key where it is below the node's end,
+// and else only the end is known. Where no key of the node stands for the child's, it is none.
+fn next_before(next: Option<Bytes>, end: Option<Bytes>) -> Turn
+    ensures turn { (at : At) (lo : List ℕ)
+        → ((k : List ℕ) → IsKey k → InRange lo end k → IsBelowEnd k next → at k ≡ None)
+        → ((k : List ℕ) → next ≡ Some k → IsBelowEnd k end → IsAtLeast k lo × IsSome (at k))
+        → IsTurn at lo result }
+    ensures passes { (lo : List ℕ) (most : ℕ) → IsEnd lo most next → IsEnd lo most end
+        → PassesTo lo most result }
+{
+    match (next, end) {
+        (Some(key), Some(end)) => {
+            if key.cmp(&end).is_lt() {
+                Turn::Next { key }
+            } else {
+                Turn::Passed { end: Some(end) }
+            }
+        }
+        (Some(key), None) => Turn::Next { key },
+        (None, end) => Turn::Passed { end },
     }
 }
 
@@ -144,13 +175,17 @@ fn end_above(
         → IsEnd (source.now ++ drop lift key.now) most end → (k : List ℕ)
         → Begins k (take lift key.now) → InRange key.now new k
         → InRange (source.now ++ drop lift key.now) end (source.now ++ drop lift k)) }
+    ensures same { IfOk result (λ new. (k : List ℕ) → new ≡ Some k
+        → IsKey k × (end ≡ Some (source.now ++ drop lift k))) }
 {
     let Some(end) = end else {
         return Ok(None);
     };
     if starts(end.as_slice(), source) {
         let rest = tail(end.as_slice(), source.len());
-        Ok(Some(joined(alloc, front(key, lift), rest)?))
+        let raised = joined(alloc, front(key, lift), rest)?;
+        let _bytes = bytes_of(raised.as_slice());
+        Ok(Some(raised))
     } else {
         Ok(None)
     }

@@ -1,12 +1,13 @@
-use Rattle.std.proofs.Common.{ℕ, refl, sym, subst, ◌∙◌, List}
+use Rattle.std.proofs.Common.{ℕ, refl, sym, subst, ◌∙◌, List, Option}
 use Rattle.bd_keys.specs.Keys.{Begins}
+use Rattle.bd_message.specs.KeyMaps.{IsNext}
 use Rattle.bd_message.proofs.Finds.{not_both}
 use Rattle.bd_node.specs.Meaning.{Nodes, at}
 use Rattle.bd_node.specs.Tables.{Table, IsSound}
 use Rattle.bd_query.specs.Stretches.{IsTurn, PassesTo, way_limit}
 use Rattle.bd_query.specs.Asks.{AreVisitsOfWay}
 use Rattle.bd_query.proofs.AskLemmas.{IsSearching, searching_begun, searched_last}
-use Rattle.bd_query.proofs.SearchLemmas.{IsLow, turned_ways, low_first, low_other, turned_fewer, turned_low, turned_past}
+use Rattle.bd_query.proofs.SearchLemmas.{IsLow, turned_ways, low_first, low_other, turned_fewer, turned_low, turned_past, turned_next}
 use Rattle.bd_query.proofs.search.next.Goals as goal
 
 pub turns-init : goal.turns-init
@@ -103,3 +104,22 @@ returns-in-Passed-None-clause-ways g c known sound =
 
 pub returns-clause-ways : goal.returns-clause-ways
 returns-clause-ways g c known sound = (c.turns.invariant.ways known sound).visits
+
+pub returns-in-Next-clause-next : goal.returns-in-Next-clause-next
+returns-in-Next-clause-next g c known sound =
+    let nodes : Nodes = g.S.NodeStore.nodes c.args.store.now in
+    let inv = c.turns.invariant in
+    let still : IsSound (g.S.NodeStore.nodes c.turns.store) (g.S.NodeStore.table c.turns.store) =
+    subst (λ (n : Nodes). IsSound n (g.S.NodeStore.table c.turns.store)) (sym (inv.nodes known)) (subst (λ (u : Table). IsSound nodes u) (sym inv.table) sound) in
+    subst (λ (o : Option (List ℕ)). IsNext (at nodes c.args.root) c.args.from.now c.args.within.now o) (sym c.beginning.ensures)
+    (turned_next nodes c.args.root c.args.from.now c.args.within.now c.turns.low.items c.as_slice-in-turns.result.now c.in-Next.key c.in_ok-turn_at.field-0 c.as_slice-in-turns.ensures.value c.in-Next.is
+    (subst (λ (n : Nodes). IsTurn (at n c.args.root) c.as_slice-in-turns.result.now c.in_ok-turn_at.field-0) (inv.nodes known) (c.in_ok-turn_at.ensures.turn (inv.known known) still)) (inv.low known sound))
+
+pub returns-in-Next-clause-ways : goal.returns-in-Next-clause-ways
+returns-in-Next-clause-ways g c known sound =
+    let nodes : Nodes = g.S.NodeStore.nodes c.args.store.now in
+    let inv = c.turns.invariant in
+    let still : IsSound (g.S.NodeStore.nodes c.turns.store) (g.S.NodeStore.table c.turns.store) =
+    subst (λ (n : Nodes). IsSound n (g.S.NodeStore.table c.turns.store)) (sym (inv.nodes known)) (subst (λ (u : Table). IsSound nodes u) (sym inv.table) sound) in
+    searched_last nodes c.args.root c.args.from.now c.turns.low.items c.as_slice-in-turns.result.now (g.S.NodeStore.visit_count c.args.store.now) (g.S.NodeStore.visit_count c.turns.store) (g.S.NodeStore.visit_count c.turn_at.new.store) c.as_slice-in-turns.ensures.value (inv.ways known sound)
+    (subst (λ (n : Nodes). AreVisitsOfWay n c.args.root c.as_slice-in-turns.result.now (g.S.NodeStore.visit_count c.turns.store) (g.S.NodeStore.visit_count c.turn_at.new.store)) (inv.nodes known) (c.in_ok-turn_at.ensures.way (inv.known known) still))

@@ -84,3 +84,14 @@ returns-in_ok-turn-in-Child-2-clause-way g t c known sound =
     (subst (λ (k : List ℕ). AreVisitsOfWay nodes c.in-Child.child k (g.S.NodeStore.visit_count c.stretch_at.new.store) (g.S.NodeStore.visit_count c.turn_at.new.store)) asked
     (subst (λ (n : Nodes). AreVisitsOfWay n c.in-Child.child c.as_slice-in-Child.result.now (g.S.NodeStore.visit_count c.stretch_at.new.store) (g.S.NodeStore.visit_count c.turn_at.new.store)) same
     (c.in_ok-turn-in-Child.ensures.way (c.in_ok-stretch_at.ensures.left.known known) still)))
+
+pub returns-in-Next-clause-turn : goal.returns-in-Next-clause-turn
+returns-in-Next-clause-turn g t c known sound =
+    let nodes : Nodes = g.S.NodeStore.nodes c.args.store.now in
+    (subst (λ (s : Stretch). IsStretch (at nodes) (at nodes c.args.id) c.args.key.now s) c.in-Next.is
+    (node_says nodes (g.S.NodeStore.table c.args.store.now) c.args.id c.args.key.now c.in_ok-stretch_at.field-0 sound c.requires (λ i. omega (arith, c.type_inv.key i)) (c.in_ok-stretch_at.ensures.stretch known))).1
+
+pub returns-in-Next-clause-way : goal.returns-in-Next-clause-way
+returns-in-Next-clause-way g t c known sound =
+    way_ends (g.S.NodeStore.nodes c.args.store.now) (g.S.NodeStore.table c.args.store.now) c.args.id c.args.key.now (g.S.NodeStore.visit_count c.args.store.now) (g.S.NodeStore.visit_count c.stretch_at.new.store) sound c.requires
+    (λ n there. c.in_ok-stretch_at.ensures.asks known n there ∙ ap (λ (s : Stretch). asked_in s c.args.key.now) c.in-Next.is) c.in_ok-stretch_at.ensures.visits

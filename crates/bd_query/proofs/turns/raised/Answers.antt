@@ -1,7 +1,13 @@
-use Rattle.std.proofs.Common.{◌++◌, subst, arith, drop}
+use Rattle.std.proofs.Common.{◌+◌, ◌≤◌, ◌++◌, sym, ap, subst, ◌∙◌, arith, drop, ℕ, List, Option, Some}
 use Rattle.bd_query.specs.declared.turns.Turn.{Turn}
-use Rattle.bd_query.specs.Stretches.{IsTurn, PassesTo}
-use Rattle.bd_query.proofs.TurnLemmas.{raised_empty, raised_found}
+use Rattle.std.specs.Prelude.{IsSome}
+use Rattle.std.proofs.lemmas.Option.{same_Some}
+use Rattle.bd_limits.specs.Limits.{key_limit}
+use Rattle.bd_keys.proofs.Order.{IsKey-drop}
+use Rattle.bd_node.proofs.Touched.{least_back}
+use Rattle.bd_query.specs.Stretches.{IsEnd, IsFirst, IsTurn, PassesTo, end_limit}
+use Rattle.bd_query.proofs.EndLemmas.{end_weaker}
+use Rattle.bd_query.proofs.TurnLemmas.{IsKey-append, raised_empty, raised_found}
 use Rattle.bd_query.proofs.turns.raised.Goals as goal
 
 pub returns-in-Found-clause-turn : goal.returns-in-Found-clause-turn
@@ -24,3 +30,27 @@ returns-in_ok-below-in-Passed-clause-turn c most passes at child asked empty =
       least_is = c.lesser-end.ensures.below;
       one = c.lesser-end.ensures.one;
     }) asked (subst (λ (t : Turn). IsTurn child (c.args.source.now ++ drop c.args.lift c.args.key.now) t) c.in-Passed.is empty)
+
+pub returns-in_ok-next-in-Next-clause-turn : goal.returns-in_ok-next-in-Next-clause-turn
+returns-in_ok-next-in-Next-clause-turn c most passes at child asked found =
+    let passed : IsEnd (c.args.source.now ++ drop c.args.lift c.args.key.now) most (Some c.in-Next.below) = subst (λ (t : Turn). PassesTo (c.args.source.now ++ drop c.args.lift c.args.key.now) most t) c.in-Next.is passes in
+    let first : IsFirst child (c.args.source.now ++ drop c.args.lift c.args.key.now) c.in-Next.below = subst (λ (t : Turn). IsTurn child (c.args.source.now ++ drop c.args.lift c.args.key.now) t) c.in-Next.is found in
+    c.next_before.ensures.turn at c.args.key.now
+    (λ k is_k within before.
+    let said = asked k is_k within in
+    said.1 ∙ first.empty (c.args.source.now ++ drop c.args.lift k) (IsKey-append c.args.source.now (drop c.args.lift k) (λ i. omega (arith, c.type_inv.source i)) (IsKey-drop c.args.lift k is_k))
+    (c.in_ok-next-in-Next.ensures.inside most passed k said.0 (within.0, before)))
+    (λ k is before.
+    let same = c.in_ok-next-in-Next.ensures.same k is in
+    let raised : IsEnd c.args.key.now (c.args.lift + most) (Some k) = subst (λ (e : Option (List ℕ)). IsEnd c.args.key.now (c.args.lift + most) e) is (c.in_ok-next-in-Next.ensures.end most passed) in (
+      least_back c.args.key.now k raised.above,
+      subst (λ (o : Option (List ℕ)). IsSome o)
+          (ap child (same_Some c.in-Next.below (c.args.source.now ++ drop c.args.lift k) same.1) ∙ sym (asked k same.0 (least_back c.args.key.now k raised.above, before)).1) first.some,
+    ))
+
+pub returns-in_ok-next-in-Next-clause-passes : goal.returns-in_ok-next-in-Next-clause-passes
+returns-in_ok-next-in-Next-clause-passes c most passes =
+    let passed : IsEnd (c.args.source.now ++ drop c.args.lift c.args.key.now) most (Some c.in-Next.below) = subst (λ (t : Turn). PassesTo (c.args.source.now ++ drop c.args.lift c.args.key.now) most t) c.in-Next.is passes in
+    c.next_before.ensures.passes c.args.key.now (end_limit + most)
+    (end_weaker c.args.key.now (c.args.lift + most) (end_limit + most) c.in_ok-next-in-Next.next (let f : c.args.lift ≤ key_limit = c.requires.few in omega arith) (c.in_ok-next-in-Next.ensures.end most passed))
+    (end_weaker c.args.key.now end_limit (end_limit + most) c.args.end (omega arith) c.requires.end)
