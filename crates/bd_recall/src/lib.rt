@@ -1,6 +1,6 @@
-//! A key map that keeps small values that were looked up in it, for the next time.
-//! The layers above may use it as any key map, and change the map itself where what is kept is
-//! forgotten first.
+//! A key map that keeps small values that were looked up in it or written to it, for the next time.
+//! The layers above may use it as any key map, and change the map itself where what is kept follows
+//! the change.
 #![tactic(auto)]
 
 mod recalled;

@@ -1,41 +1,62 @@
 //! What was found at keys.
 
-ghost use Rattle.std.specs.Prelude.{◌≡◌, ◌∷◌, [], IfOk, option_map};
-ghost use Rattle.bd_recall.specs.Kept.{bytes_of, findings, kept_for, KeepsNone, KeepsOne, KeepsOthers, KeepsSpared};
+ghost use Rattle.std.specs.Prelude.{◌≡◌, ◌≤◌, ◌<◌, ◌+◌, ◌↔◌, List, ℕ, length, IsTrue, IfOk};
+ghost use Rattle.std.specs.Option.{option_copied};
+ghost use Rattle.bd_limits.specs.Limits.{key_limit};
+ghost use Rattle.bd_recall.specs.Sizes.{bytes_of, bytes_kept, bytes_limit, count_limit, entry_size, value_limit, value_size};
 
+use bd_limits::MAX_KEY;
 use bd_message::Message;
 use std::alloc::{AllocError, Global};
-use std::collections::HashMap;
+use std::collections::BTreeMap;
 
 // How many keys are kept at most.
-const MAX_KEYS: usize = 4096;
+const MAX_COUNT: usize = 131_072;
+
+// How many bytes they and their values count at most, 128 and its bytes an entry.
+const MAX_BYTES: usize = 16_777_216;
 
 // How many bytes a value has at most that is kept.
 const MAX_VALUE: usize = 64;
 
-/// What was found at keys when they were looked up: a value of at most 64 bytes, or none. It keeps
-/// at most 4,096 keys, and is emptied for the next one where it is full. Where there is no memory,
-/// it keeps less.
+// What an entry counts beside its bytes.
+const ENTRY_BASE: usize = 128;
+
+/// What was found at keys when they were looked up, or was written there: for a key of at most 518
+/// bytes a value of at most 64 bytes, or none. It keeps at most 131,072 keys, and what these count
+/// is at most 16,777,216 bytes: each 128, its bytes and its value's. Where the next one would be
+/// more, it is emptied first. Where there is no memory, it keeps less.
 #[derive(Drop)]
 pub struct Recalled {
     alloc: Global,
-    found: HashMap<Vec<u8>, Option<Vec<u8>>>,
+    found: BTreeMap<Vec<u8>, Option<Vec<u8>>>,
+    taken: usize,
+    ghost few: { length found.entries ≤ count_limit },
+    ghost counted: { bytes_kept found.entries ≤ taken },
+    ghost small: { taken ≤ bytes_limit },
 }
 
 impl Recalled {
+    ghost use Rattle.std.specs.Prelude.{[], ◌∷◌, false, true, None, IsSome, IfSome, IfNone, OnOk, OnErr};
+    ghost use Rattle.std.specs.Option.{option_map};
+    ghost use Rattle.bd_message.specs.Effect.{begins};
+    ghost use Rattle.bd_recall.specs.Kept.{findings, kept_for, IsEmpty, KeepsNone, KeepsFewer, KeepsOthers, KeepsOne, KeepsInstead, KeepsWritten, KeepsOutside, KeepsUngrafted};
+
     /// Nothing is kept yet.
     pub fn new(alloc: Global) -> Recalled
         ensures { KeepsNone (findings result) }
     {
         Recalled {
             alloc,
-            found: HashMap::new(alloc),
+            found: BTreeMap::new(alloc),
+            taken: 0,
         }
     }
 
     /// What is kept for a key, as the caller's own: a value, or that there is none.
     pub fn find(&self, key: &[u8]) -> Result<Option<Option<Vec<u8>>>, AllocError>
-        ensures { IfOk result (λ found. option_map bytes_of found ≡ kept_for (findings self.now) key.now) }
+        ensures { IfOk result (λ found.
+            option_map bytes_of found ≡ kept_for (findings self.now) key.now) }
     {
         match self.found.get(key) {
             None => Ok(None),
@@ -44,76 +65,195 @@ impl Recalled {
         }
     }
 
-    /// Keeps what was found at a key.
-    pub fn keep(&mut self, key: Vec<u8>, value: &Option<Vec<u8>>)
-        ensures { KeepsOne (findings self.old) key.items (bytes_of value.now) (findings self.new) }
+    /// Keeps what was found at a key, where it is small and there is memory.
+    pub fn keep(&mut self, key: &[u8], value: Option<&[u8]>)
+        ensures { KeepsOne (findings self.old) key.now (option_copied value.entry)
+            (findings self.new) }
     {
-        if self.found.len() >= MAX_KEYS {
-            self.clear();
-        }
         let _ = self.store(key, value);
     }
 
-    // Keeps it, where it is small and there is memory.
-    fn store(&mut self, key: Vec<u8>, value: &Option<Vec<u8>>) -> Result<(), AllocError>
-        ensures { KeepsOne (findings self.old) key.items (bytes_of value.now) (findings self.new) }
+    // Keeps what was written at a key, where it is small and there is memory, and else nothing
+    // for it.
+    fn replace(&mut self, key: &[u8], value: Option<&[u8]>)
+        ensures { KeepsInstead (findings self.old) key.now (option_copied value.entry)
+            (findings self.new) }
     {
-        if is_small(value) {
-            self.found.insert(key, copied(value)?)?;
-        }
+        self.forget(key);
+        let _ = self.store(key, value);
+    }
+
+    // Keeps a value for a key, and says whether it does.
+    fn store(&mut self, key: &[u8], value: Option<&[u8]>) -> bool
+        ensures stored { result ≡ true → KeepsInstead (findings self.old) key.now
+            (option_copied value.entry) (findings self.new) }
+        ensures fewer { result ≡ false → KeepsFewer (findings self.old) (findings self.new) }
+    {
+        is_small(key, value) && self.insert(key, value).is_ok()
+    }
+
+    // Keeps a small value for a key, where there is memory.
+    fn insert(&mut self, key: &[u8], value: Option<&[u8]>) -> Result<(), AllocError>
+        requires key { length key.now ≤ key_limit }
+        requires value { value_size (option_copied value) ≤ value_limit }
+        ensures stored { OnOk result (KeepsInstead (findings self.old) key.now
+            (option_copied value.entry) (findings self.new)) }
+        ensures fewer { OnErr result (KeepsFewer (findings self.old) (findings self.new)) }
+    {
+        let size = size_of(key, value);
+        self.make_room(size);
+        let key = Vec::from_slice(self.alloc, key)?;
+        let value = copied(self.alloc, value)?;
+        self.taken += size;
+        self.found.insert(key, value)?;
         Ok(())
     }
 
-    /// Keeps nothing any more that these messages may change.
-    pub fn forget_changed(&mut self, list: &[Message])
-        ensures { KeepsSpared (findings self.old) list.now (findings self.new) }
+    // Empties it where there is no room for an entry.
+    fn make_room(&mut self, size: usize)
+        requires { size ≤ bytes_limit }
+        ensures count { length (findings self.new) < count_limit }
+        ensures size { self.new.taken + size ≤ bytes_limit }
+        ensures fewer { KeepsFewer (findings self.old) (findings self.new) }
     {
-        for message in list {
-            self.forget_one(message);
+        if self.found.len() >= MAX_COUNT || self.taken > MAX_BYTES - size {
+            self.clear();
         }
     }
 
-    // Keeps nothing any more that a message may change.
-    fn forget_one(&mut self, message: &Message)
-        ensures { KeepsSpared (findings self.old) (message.now ∷ []) (findings self.new) }
+    /// Keeps what is known after these messages: what they leave at keys whose values they put or
+    /// delete, and what they don't change.
+    pub fn follow(&mut self, list: &[Message])
+        ensures { KeepsWritten (findings self.old) list.now (findings self.new) }
+    {
+        for message in list {
+            self.follow_one(message);
+        }
+    }
+
+    // Keeps what is known after a message.
+    fn follow_one(&mut self, message: &Message)
+        ensures { KeepsWritten (findings self.old) (message.now ∷ []) (findings self.new) }
     {
         match message {
-            Message::Put { key, .. } => self.forget(key.as_slice()),
-            Message::Del { key } => self.forget(key.as_slice()),
+            Message::Put { key, value } => self.replace(key.as_slice(), Some(value.as_slice())),
+            Message::Del { key } => self.replace(key.as_slice(), None),
             Message::Patch { key, .. } => self.forget(key.as_slice()),
             Message::Cut { .. } | Message::Goto { .. } => self.clear(),
         }
     }
 
+    /// Keeps nothing any more for keys that begin with `d`, and without `keep` for keys that begin
+    /// with `s`. Each of the two prefixes costs a look-up, and two for each key that is forgotten;
+    /// where there is no memory, all is forgotten.
+    pub fn forget_grafted(&mut self, s: &[u8], d: &[u8], keep: bool)
+        ensures { KeepsUngrafted (findings self.old) s.now d.now keep (findings self.new) }
+    {
+        self.forget_within(d);
+        if !keep {
+            self.forget_within(s);
+        }
+    }
+
+    // Keeps nothing any more for keys that begin with a prefix.
+    fn forget_within(&mut self, prefix: &[u8])
+        ensures { KeepsOutside (findings self.old) prefix.now (findings self.new) }
+    {
+        if self.forget_each(prefix).is_err() {
+            self.clear();
+        }
+    }
+
+    // The same, one key after the other, while there is memory.
+    fn forget_each(&mut self, prefix: &[u8]) -> Result<(), AllocError>
+        ensures { OnOk result (KeepsOutside (findings self.old) prefix.now (findings self.new)) }
+    {
+        let prefix = Vec::from_slice(self.alloc, prefix)?;
+        while let Some(key) = self.first_within(&prefix)? {
+            self.forget(&key);
+        }
+        Ok(())
+    }
+
+    // A key that is kept and begins with a prefix.
+    fn first_within(&self, prefix: &Vec<u8>) -> Result<Option<Vec<u8>>, AllocError>
+        ensures found { IfOk result (λ found. IfSome found (λ key.
+            IsSome (kept_for (findings self.now) key.items))) }
+        ensures none { IfOk result (λ found. IfNone found ((k : List ℕ)
+            → IfSome (kept_for (findings self.now) k) (λ _. begins k prefix.now.items ≡ false))) }
+    {
+        let front = prefix.as_slice();
+        match self.found.range(prefix..).next() {
+            Some((key, _)) if key.as_slice().starts_with(front) => {
+                Ok(Some(Vec::from_slice(self.alloc, key.as_slice())?))
+            }
+            _ => Ok(None),
+        }
+    }
+
     // Keeps nothing for a key any more.
     fn forget(&mut self, key: &[u8])
-        ensures { KeepsOthers (findings self.old) key.now (findings self.new) }
+        ensures others { KeepsOthers (findings self.old) key.now (findings self.new) }
+        ensures fewer { IsSome (kept_for (findings self.old) key.now)
+            → length (findings self.new) < length (findings self.old) }
     {
-        drop(self.found.remove(key));
+        if let Some(value) = self.found.remove(key) {
+            self.taken -= size_of(key, shown(&value));
+        }
     }
 
     /// Keeps nothing any more.
     pub fn clear(&mut self)
-        ensures { KeepsNone (findings self.new) }
+        ensures none { KeepsNone (findings self.new) }
+        ensures empty { IsEmpty self.new }
     {
-        self.found = HashMap::new(self.alloc);
+        self.found.clear();
+        self.taken = 0;
     }
 }
 
-// Whether a value may be kept.
-fn is_small(value: &Option<Vec<u8>>) -> bool {
+// Whether an entry may be kept.
+fn is_small(key: &[u8], value: Option<&[u8]>) -> bool
+    ensures { IsTrue result ↔ ((length key.now ≤ key_limit)
+        × (value_size (option_copied value.entry) ≤ value_limit)) }
+{
+    key.len() <= MAX_KEY && value_len(value) <= MAX_VALUE
+}
+
+// How many bytes a value has.
+fn value_len(value: Option<&[u8]>) -> usize
+    ensures { result ≡ value_size (option_copied value.entry) }
+{
     match value {
-        None => true,
-        Some(value) => value.len() <= MAX_VALUE,
+        None => 0,
+        Some(value) => value.len(),
+    }
+}
+
+// How many bytes an entry counts.
+fn size_of(key: &[u8], value: Option<&[u8]>) -> usize
+    requires { entry_size key.now (option_copied value) ≤ bytes_limit }
+    ensures { result ≡ entry_size key.now (option_copied value.entry) }
+{
+    ENTRY_BASE + key.len() + value_len(value)
+}
+
+/// A value that was found, where one was.
+pub fn shown(value: &Option<Vec<u8>>) -> Option<&[u8]>
+    ensures { option_copied result ≡ bytes_of value.now }
+{
+    match value {
+        None => None,
+        Some(value) => Some(value.as_slice()),
     }
 }
 
 // A copy of a value.
-fn copied(value: &Option<Vec<u8>>) -> Result<Option<Vec<u8>>, AllocError>
-    ensures { IfOk result (λ copy. bytes_of copy ≡ bytes_of value.now) }
+fn copied(alloc: Global, value: Option<&[u8]>) -> Result<Option<Vec<u8>>, AllocError>
+    ensures { IfOk result (λ copy. bytes_of copy ≡ option_copied value.entry) }
 {
     match value {
         None => Ok(None),
-        Some(value) => Ok(Some(value.clone()?)),
+        Some(value) => Ok(Some(Vec::from_slice(alloc, value)?)),
     }
 }

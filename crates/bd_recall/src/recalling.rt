@@ -2,12 +2,12 @@
 
 ghost use Rattle.bd_recall.specs.Kept.{findings, IsKept};
 
-use crate::recalled::Recalled;
+use crate::recalled::{Recalled, shown};
 use bd_message::{KeyMap, MapFault, Message};
 use std::alloc::Global;
 
-/// A key map, and what was looked up in it. Who changes the map itself has to forget first what that
-/// may change.
+/// A key map, and what is known of it. Who changes the map itself has to let what is kept follow
+/// that, or forget what it may change.
 #[derive(Drop)]
 pub struct Recalling<M: KeyMap> {
     pub alloc: Global,
@@ -37,12 +37,11 @@ impl<M: KeyMap> KeyMap for Recalling<M> {
     ghost reads_both = { λ a b c. M.reads_both a.map b.map c.map };
 
     fn get(&mut self, key: &[u8]) -> Result<Option<Vec<u8>>, MapFault> {
-        let key = Vec::from_slice(self.alloc, key)?;
-        if let Some(value) = self.recalled.find(&key)? {
+        if let Some(value) = self.recalled.find(key)? {
             return Ok(value);
         }
-        let value = self.map.get(&key)?;
-        self.recalled.keep(key, &value);
+        let value = self.map.get(key)?;
+        self.recalled.keep(key, shown(&value));
         Ok(value)
     }
 
@@ -55,12 +54,13 @@ impl<M: KeyMap> KeyMap for Recalling<M> {
     }
 
     fn apply(&mut self, list: &[Message]) -> Result<(), MapFault> {
-        self.recalled.clear();
-        self.map.apply(list)
+        self.map.apply(list)?;
+        self.recalled.follow(list);
+        Ok(())
     }
 
     fn graft(&mut self, s: &[u8], d: &[u8], keep: bool) -> Result<(), MapFault> {
-        self.recalled.clear();
+        self.recalled.forget_grafted(s, d, keep);
         self.map.graft(s, d, keep)
     }
 

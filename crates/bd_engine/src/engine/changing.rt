@@ -14,6 +14,7 @@ ghost use Rattle.bd_node.specs.Steps.{HasGrown};
 ghost use Rattle.bd_graft.specs.Grafting.{IsWornForGraft, IsWornByGraft, OnWorn};
 ghost use Rattle.bd_step.specs.Steps.{IsFound};
 ghost use Rattle.bd_pager.specs.Pagers.{nodes_of, table_of};
+ghost use Rattle.bd_recall.specs.Kept.{findings, KeepsWritten};
 ghost use Rattle.bd_view.specs.Trees.{waiting_limit, FlushesFor, HasAppended, HasGrafted, IsWalked};
 ghost use Rattle.bd_engine.specs.Engines.{view_of, keys_of, IsSoundOn, HasCause, IsWornIn, IsReadOn, OnlyNodesOn};
 
@@ -23,6 +24,7 @@ use bd_device::Device;
 use bd_dirs::{Plan, plan_command};
 use bd_effects::{answer, append, flush, graft};
 use bd_message::{MapFault, Message};
+use bd_recall::Recalled;
 
 impl<D: Device> Engine<D> {
     /// What a reading command is answered. Only the device is read, and the view stays.
@@ -104,8 +106,8 @@ impl<D: Device> Engine<D> {
         ensures sound { IsSoundOn D.Device self.old → IsSoundOn D.Device self.new }
     {
         self.tree.map.store().nodes_are_placed();
-        self.tree.recalled.forget_changed(list);
         let appended = append(&mut self.tree.map, list);
+        follow(&mut self.tree.recalled, list, &appended);
         self.tree.map.store().nodes_are_placed();
         appended
     }
@@ -135,9 +137,20 @@ impl<D: Device> Engine<D> {
             s.now d.now keep)) }
     {
         self.tree.map.store().nodes_are_placed();
-        self.tree.recalled.clear();
+        self.tree.recalled.forget_grafted(s, d, keep);
         let grafted = graft(&mut self.tree.map, s, d, keep);
         self.tree.map.store().nodes_are_placed();
         grafted
+    }
+}
+
+// Keeps what is known of look-ups after messages, where they were put.
+fn follow(recalled: &mut Recalled, list: &[Message], appended: &Result<(), MapFault>)
+    ensures put { OnOk appended.now
+        (KeepsWritten (findings recalled.old) list.now (findings recalled.new)) }
+    ensures failed { OnErr appended.now (findings recalled.new ≡ findings recalled.old) }
+{
+    if appended.is_ok() {
+        recalled.follow(list);
     }
 }
