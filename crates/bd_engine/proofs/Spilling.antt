@@ -89,6 +89,7 @@ module _ {D : Type 0} (g : Ghosts D) (one : PartsAreOne) (old : EngineState D) (
     time = time_on g old.pager.dev p.dev since old.pager.spare writes one old.live (saved_of old.pager) old.log (h.going on) free;
     kept = kept_on g old.pager.dev p.dev since old.pager.spare writes one old.live (saved_of old.pager) old.log (h.going on) free;
     slots = s.moves.elsewhere;
+    bad = s.bad;
     stays = s.moves.stays;
     pager = s.rest;
     rest = refl;

@@ -91,7 +91,7 @@ first_view g one (Some image) p recalled log live h stored is_live batches idle 
 pub stored_by : {D : Type 0} (g : Ghosts D) (known : Option Image) (p : Paged D) (recalled : Findings) (log : LogState) (live : Super) → IsOpened known live.slots live.table p → IfSome known (AreStored g p) → IfSome known (λ image. IsLive image live)
     → IfSome known (IsStoredBy g (started p recalled log live))
 stored_by g None p recalled log live h stored is_live = tt
-stored_by g (Some image) p recalled log live h stored is_live = record { live_is = is_live; table_is = h.table_held; nodes = stored }
+stored_by g (Some image) p recalled log live h stored is_live = record { live_is = is_live; table_is = h.table_held; at_is = h.at_is; nodes = stored }
 
 -- each command has its place
 pub are_placed : (known : Option Image) (log : LogState) (live : Super) (list : List PlacedCommand) → IfSome known (λ image. IsLive image live) → IfSome known (λ image. AreBatches image (log_block live.half) live.epoch log.batches log.place)

@@ -1,11 +1,11 @@
 -- What an engine is seen as.
-use Rattle.std.specs.Prelude.{◌≡◌, ◌==◌, ◌&&◌, ◌-◌, ◌^◌, nat_lt, if◌then◌else◌, ℕ, [], false, length, Option, None, Some, Result, Ok, Err}
+use Rattle.std.specs.Prelude.{◌≡◌, ◌⊎◌, ◌==◌, ◌&&◌, ◌-◌, ◌^◌, nat_lt, if◌then◌else◌, ℕ, [], false, length, Option, None, Some, Result, Ok, Err, slice_index}
 use Rattle.std.specs.List.{concat, AllByRecursion}
 use Rattle.bd_message.specs.KeyMaps.{At, HasMapCause}
 use Rattle.bd_message.specs.declared.fault.Counter.{Counter}
 use Rattle.bd_message.specs.declared.fault.MapFault.{MapFault}
 use Rattle.bd_message.specs.declared.fault.MapFault.TheVariants.{DeviceFault, Damaged, Worn, NoMemory}
-use Rattle.bd_slots.specs.Layout.{image_blocks}
+use Rattle.bd_slots.specs.Layout.{image_blocks, slot_block}
 use Rattle.bd_io.specs.Cause.{next_count}
 use Rattle.bd_device.specs.Changes.{StaysBut}
 use Rattle.bd_device.specs.Device.{left_now, Goes, Stays}
@@ -18,8 +18,9 @@ use Rattle.bd_log.specs.Batches.{IsLogRecord}
 use Rattle.bd_log.specs.Logs.{LogState}
 use Rattle.bd_graft.specs.declared.grafting.Walk.{Walk}
 use Rattle.bd_pager.specs.Keeping.{KeepsSaved}
+use Rattle.bd_pager.specs.Places.{IsBadSpot, NoneTurnsBad}
 use Rattle.bd_pager.specs.Slots.{IsSpare}
-use Rattle.bd_pager.specs.Pagers.{Paged, nodes_of, table_of, is_known, is_bad, IsReadOf}
+use Rattle.bd_pager.specs.Pagers.{Paged, spots_of, nodes_of, table_of, is_known, is_bad, IsReadOf}
 use Rattle.bd_step.specs.Steps.{IsWornToFlush}
 use Rattle.bd_image.specs.Standing.{IsAsBefore}
 use Rattle.bd_image.specs.Versions.{version_of, mode_version}
@@ -76,6 +77,13 @@ pub record IsSoundOn {D : Type 0} (g : Ghosts D) (e : EngineState D) : Type 0 wh
   pub known : is_known g e.pager
   pub sound : IsSound (nodes_of g e.pager) (table_of e.pager)
   pub kept : IsKept (keys_of g e.pager) e.recalled
+
+-- the block is that of a slot without its node, or else the first one of the checkpoint's table,
+-- where the engine isn't sound; as far as its nodes are known
+abbrev pub IsBadOn : {D : Type 0} → Ghosts D → EngineState D → ℕ → Type 0
+IsBadOn g e b = is_known g e.pager
+    → ((id : ℕ) × IsBadSpot (g.contents e.pager.dev) (spots_of e.pager id) b)
+    ⊎ ((b ≡ slot_block (slice_index e.pager.at 0)) × ¬ IsSoundOn g e)
 
 -- it is sound where its nodes are, as one is that keeps nothing of look-ups
 abbrev pub IsFreshOn : {D : Type 0} → Ghosts D → EngineState D → Type 0
@@ -152,8 +160,8 @@ abbrev pub memory_limit : ℕ
 memory_limit = 8
 
 -- changed nodes were written early, also where a call failed: no more than slots that the last
--- checkpoint doesn't hold were written, the view stays, and an image that a crash leaves, inside it
--- or after it, stands for all that one of before stood for
+-- checkpoint doesn't hold were written, the view stays, no block becomes bad, and an image that a
+-- crash leaves, inside it or after it, stands for all that one of before stood for
 pub record WritesEarly {D : Type 0} (g : Ghosts D) (old new : EngineState D) : Type 0 where
   pub table : table_of new.pager ≡ table_of old.pager
   pub known : is_known g old.pager → is_known g new.pager
@@ -164,6 +172,8 @@ pub record WritesEarly {D : Type 0} (g : Ghosts D) (old new : EngineState D) : T
   pub kept : AllAsBefore (left_now g old.pager.dev) (left_now g new.pager.dev)
   pub slots : StaysBut (IsSpare old.pager.spare) (g.contents old.pager.dev)
       (g.contents new.pager.dev)
+  pub bad : is_known g old.pager → NoneTurnsBad (g.contents old.pager.dev) (spots_of old.pager)
+      (g.contents new.pager.dev) (spots_of new.pager)
   pub stays : Stays g old.pager.dev new.pager.dev
   pub pager : new.pager ≡ record old.pager {
     dev = new.pager.dev;

@@ -61,6 +61,7 @@ pub record IsFound (image : Image) (v : View) (commands : List Command) : Type 0
 pub record IsStoredBy {D : Type 0} (g : Ghosts D) (e : EngineState D) (image : Image) : Type 0 where
   pub live_is : IsLive image e.live
   pub table_is : HoldsTable image e.live.slots e.live.table e.pager.saved
+  pub at_is : e.pager.at ≡ e.live.table
   pub nodes : AreStored g e.pager image
 
 -- the checkpoint from which an image starts has just the nodes that the view has as saved

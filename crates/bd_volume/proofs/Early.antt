@@ -24,9 +24,10 @@ use Rattle.bd_engine.specs.Engines.{EngineState, keys_of, IsSoundOn, IsReadOn, O
 use Rattle.bd_volume.specs.declared.fault.Fault.{Fault}
 use Rattle.bd_volume.specs.declared.volume.Volume.{Volume}
 use Rattle.bd_volume.specs.Faults.{HasNotFailed, IsGoing, IsStoppedRightly}
-use Rattle.bd_volume.specs.Replays.{OnlyEarly, ReplaysEarly}
+use Rattle.bd_volume.specs.Replays.{OnlyEarly, ReplaysEarly, KeepsGood}
 use Rattle.bd_volume.specs.Steps.{KeepsStanding}
 use Rattle.bd_volume.specs.Volume.{view_of, count_of, device_of, stop_of}
+use Rattle.bd_volume.proofs.Bad.{good_same, good_both, good_kept, good_read, good_early}
 use Rattle.bd_volume.proofs.Called.{going_then, stop_then, stop_none}
 use Rattle.bd_volume.proofs.Read.{stands_same}
 use Rattle.bd_volume.proofs.Safe.{read_before, safe_before}
@@ -80,6 +81,7 @@ module _ {D : Type 0} (g : Ghosts D) where
         kept = before_twice first mid (left_now g d.pager.dev) p.kept q.kept;
         slots = stays_both (IsSpare a.pager.spare) (g.contents a.pager.dev) (g.contents b.pager.dev) (g.contents d.pager.dev) p.slots
             (subst (λ (s : List Bool). StaysBut (IsSpare s) (g.contents b.pager.dev) (g.contents d.pager.dev)) p.spare q.slots);
+        good = good_both g a b d p.good q.good;
         stays = stays_then p.stays q.stays;
         spare = q.spare ∙ p.spare;
         log = q.log ∙ p.log;
@@ -91,17 +93,19 @@ module _ {D : Type 0} (g : Ghosts D) where
     time = record { later = omega arith; keeps = λ u c le left. left; adds = λ u c le left. inl left };
     kept = λ c left. (c, left, λ t n s. s);
     slots = stays_same (IsSpare a.pager.spare) (g.contents a.pager.dev);
+    good = good_same g a;
     stays = record { count = refl; same_name = λ name was. was; same_loans = refl };
     spare = refl;
     log = refl;
     live = refl;
   }
 
-  early_read : (a b : EngineState D) → IsSince g b.pager.dev → OnlyReads g a.pager.dev b.pager.dev → b.pager.spare ≡ a.pager.spare → b.log ≡ a.log → b.live ≡ a.live → OnlyEarly g a b
-  early_read a b earlier reads spare log live = record {
+  early_read : (a b : EngineState D) → IsSince g b.pager.dev → OnlyReads g a.pager.dev b.pager.dev → KeepsGood g a b → b.pager.spare ≡ a.pager.spare → b.log ≡ a.log → b.live ≡ a.live → OnlyEarly g a b
+  early_read a b earlier reads good spare log live = record {
     time = within Nothing (IsAsBefore (left_now g a.pager.dev)) reads.time (λ c none. absurd none);
     kept = read_before g a.pager.dev b.pager.dev earlier reads;
     slots = subst (λ (o : Option Image). StaysBut (IsSpare a.pager.spare) (g.contents a.pager.dev) o) (sym reads.kept) (stays_same (IsSpare a.pager.spare) (g.contents a.pager.dev));
+    good = good;
     stays = reads_stay reads;
     spare = spare;
     log = log;
@@ -128,19 +132,19 @@ module _ {D : Type 0} (g : Ghosts D) where
   goes_counted a b n h = record { early = h.early; going = record { stop_is = h.going.stop_is; write_faults = h.going.write_faults } }
 
   -- calls of the engine, also where they fail
-  goes_reads : (a b : Volume D) → IsSince g (device_of b) → stop_of a ≡ None → OnlyReads g (device_of a) (device_of b) → b.engine.pager.spare ≡ a.engine.pager.spare → b.engine.log ≡ a.engine.log → b.engine.live ≡ a.engine.live → stop_of b ≡ stop_of a → GoesEarly a b
-  goes_reads a b earlier going reads spare log live same = record {
-    early = early_read a.engine b.engine earlier reads spare log live;
+  goes_reads : (a b : Volume D) → IsSince g (device_of b) → stop_of a ≡ None → OnlyReads g (device_of a) (device_of b) → KeepsGood g a.engine b.engine → b.engine.pager.spare ≡ a.engine.pager.spare → b.engine.log ≡ a.engine.log → b.engine.live ≡ a.engine.live → stop_of b ≡ stop_of a → GoesEarly a b
+  goes_reads a b earlier going reads good spare log live same = record {
+    early = early_read a.engine b.engine earlier reads good spare log live;
     going = record { stop_is = same ∙ going; write_faults = reads.write_faults };
   }
 
   pub goes_read : (a b : Volume D) → IsSince g (device_of b) → stop_of a ≡ None → IsReadOn g a.engine b.engine → GoesEarly a b
   goes_read a b earlier going h =
-      goes_reads a b earlier going h.read.device (ap (λ (p : Paged D). p.spare) h.read.rest) (ap (λ (e : EngineState D). e.log) h.rest) (ap (λ (e : EngineState D). e.live) h.rest) (ap (λ (e : EngineState D). e.stop) h.rest)
+      goes_reads a b earlier going h.read.device (good_read g a.engine b.engine h) (ap (λ (p : Paged D). p.spare) h.read.rest) (ap (λ (e : EngineState D). e.log) h.rest) (ap (λ (e : EngineState D). e.live) h.rest) (ap (λ (e : EngineState D). e.stop) h.rest)
 
   pub goes_nodes : (a b : Volume D) → IsSince g (device_of b) → stop_of a ≡ None → OnlyNodesOn g a.engine b.engine → GoesEarly a b
   goes_nodes a b earlier going h =
-      goes_reads a b earlier going h.keeps.device h.keeps.spare (ap (λ (e : EngineState D). e.log) h.rest) (ap (λ (e : EngineState D). e.live) h.rest) (ap (λ (e : EngineState D). e.stop) h.rest)
+      goes_reads a b earlier going h.keeps.device (good_kept g a.engine b.engine h.keeps) h.keeps.spare (ap (λ (e : EngineState D). e.log) h.rest) (ap (λ (e : EngineState D). e.live) h.rest) (ap (λ (e : EngineState D). e.stop) h.rest)
 
   -- ---- by results
 
@@ -159,6 +163,7 @@ module _ {D : Type 0} (g : Ghosts D) where
       time = h.time;
       kept = h.kept;
       slots = h.slots;
+      good = good_early g a.engine b.engine h;
       stays = h.stays;
       spare = ap (λ (p : Paged D). p.spare) h.pager;
       log = ap (λ (e : EngineState D). e.log) h.rest;

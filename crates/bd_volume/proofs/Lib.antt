@@ -1,3 +1,4 @@
+pub mod Bad
 pub mod Called
 pub mod Early
 pub mod Executed

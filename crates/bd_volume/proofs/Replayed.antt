@@ -46,7 +46,8 @@ use Rattle.bd_volume.specs.declared.volume.Volume.{Volume}
 use Rattle.bd_volume.specs.Faults.{fault_of, HasNotFailed, IsFaultCause}
 use Rattle.bd_volume.specs.Volume.{view_of, count_of, device_of, stop_of}
 use Rattle.bd_volume.specs.Wears.{IsWornInReplay}
-use Rattle.bd_volume.specs.Replays.{IsReplayCause, HasReplayCause, HasTreeOn, SendsAgain, ReplaysOn, IsWornAgain, WearsAgain, HasFlushedAgain, IsFlushFault, IsAgainFault, IsSendFault, IsReplayFault, commands_of, HasReplayed, ReplaysFront}
+use Rattle.bd_volume.specs.Replays.{IsReplayCause, HasReplayCause, HasTreeOn, SendsAgain, ReplaysOn, IsWornAgain, WearsAgain, HasFlushedAgain, IsFlushFault, IsAgainFault, IsSendFault, IsReplayFault, commands_of, HasReplayed, ReplaysFront, KeepsGood}
+use Rattle.bd_volume.proofs.Bad.{good_same, good_both, good_read, bad_on, bad_before}
 use Rattle.bd_volume.proofs.Early.{GoesEarly, goes_none, goes_both}
 use Rattle.bd_volume.proofs.Faulted.{worn_in_step, worn_kind, worn_graft_again}
 use Rattle.bd_volume.proofs.Read.{read_same}
@@ -165,9 +166,9 @@ module _ {D : Type 0} (g : Ghosts D) where
 
   -- of a flush step
   pub flush_again_fails : (m n : ℕ) (a b : Volume D) (c : Command) (fault : MapFault) → waiting_limit c < (table_of a.engine.pager).size → (IsSoundOn g a.engine → IsSoundOn g b.engine)
-      → (IsSoundOn g b.engine → (block : ℕ) → ¬ is_bad g b.engine.pager block) → IsCause m n (is_bad g b.engine.pager) (IsWornIn g a.engine.pager) fault → IsFlushFault g (fault_of fault) c a
+      → KeepsGood g a.engine b.engine → IsCause m n (is_bad g b.engine.pager) (IsWornIn g a.engine.pager) fault → IsFlushFault g (fault_of fault) c a
   flush_again_fails m n a b c map.DeviceFault waits sound good h = tt
-  flush_again_fails m n a b c (map.Damaged block) waits sound good h = λ s. good (sound s) block h
+  flush_again_fails m n a b c (map.Damaged block) waits sound good h = bad_before g a.engine b.engine block good sound (bad_on g b.engine block h)
   flush_again_fails m n a b c (map.Worn which) waits sound good h = λ s. worn_in_again a which c s.known waits h
   flush_again_fails m n a b c map.NoMemory waits sound good h = tt
 
@@ -176,29 +177,29 @@ module _ {D : Type 0} (g : Ghosts D) where
   device_flush_fails fault c a is = subst (λ (f : Fault). IsFlushFault g f c a) (sym is) tt
 
   -- after nodes were written early
-  pub early_flush_fails : (fault : Fault) (c : Command) (a b : Volume D) → (IsSoundOn g a.engine → IsSoundOn g b.engine) → (IsSoundOn g a.engine → view_of g b ≡ view_of g a) → IsFlushFault g fault c b → IsFlushFault g fault c a
-  early_flush_fails Device c a b sound same h = tt
-  early_flush_fails (Damaged block) c a b sound same h = λ s. h (sound s)
-  early_flush_fails (Worn which) c a b sound same h = λ s. subst (λ (v : View). IsWornAgain which c v.tree) (same s) (h (sound s))
-  early_flush_fails NoMemory c a b sound same h = tt
-  early_flush_fails (Full free need) c a b sound same h = h
-  early_flush_fails (Stopped call) c a b sound same h = h
+  pub early_flush_fails : (fault : Fault) (c : Command) (a b : Volume D) → KeepsGood g a.engine b.engine → (IsSoundOn g a.engine → IsSoundOn g b.engine) → (IsSoundOn g a.engine → view_of g b ≡ view_of g a) → IsFlushFault g fault c b → IsFlushFault g fault c a
+  early_flush_fails Device c a b good sound same h = tt
+  early_flush_fails (Damaged block) c a b good sound same h = bad_before g a.engine b.engine block good sound h
+  early_flush_fails (Worn which) c a b good sound same h = λ s. subst (λ (v : View). IsWornAgain which c v.tree) (same s) (h (sound s))
+  early_flush_fails NoMemory c a b good sound same h = tt
+  early_flush_fails (Full free need) c a b good sound same h = h
+  early_flush_fails (Stopped call) c a b good sound same h = h
 
   -- after other flush steps
-  pub flushes_fail : (fault : Fault) (c : Command) (a b : Volume D) (made : ℕ) → (IsSoundOn g a.engine → IsSoundOn g b.engine) → (IsSoundOn g a.engine → AreFlushedAgain c made (view_of g a) (view_of g b)) → made ≤ flush_limit
+  pub flushes_fail : (fault : Fault) (c : Command) (a b : Volume D) (made : ℕ) → KeepsGood g a.engine b.engine → (IsSoundOn g a.engine → IsSoundOn g b.engine) → (IsSoundOn g a.engine → AreFlushedAgain c made (view_of g a) (view_of g b)) → made ≤ flush_limit
       → IsFlushFault g fault c b → IsAgainFault g fault c a
-  flushes_fail Device c a b made sound flushed few h = tt
-  flushes_fail (Damaged block) c a b made sound flushed few h = λ s. h (sound s)
-  flushes_fail (Worn which) c a b made sound flushed few h = λ s. record {
+  flushes_fail Device c a b made good sound flushed few h = tt
+  flushes_fail (Damaged block) c a b made good sound flushed few h = bad_before g a.engine b.engine block good sound h
+  flushes_fail (Worn which) c a b made good sound flushed few h = λ s. record {
     made = made;
     last = view_of g b;
     flushed = flushed s;
     few = few;
     worn = worn_again which (count_of a) c made (view_of g b).tree (h (sound s));
   }
-  flushes_fail NoMemory c a b made sound flushed few h = tt
-  flushes_fail (Full free need) c a b made sound flushed few h = h
-  flushes_fail (Stopped call) c a b made sound flushed few h = h
+  flushes_fail NoMemory c a b made good sound flushed few h = tt
+  flushes_fail (Full free need) c a b made good sound flushed few h = h
+  flushes_fail (Stopped call) c a b made good sound flushed few h = h
 
   -- ---- flush steps of a command of the log
 
@@ -243,19 +244,19 @@ module _ {D : Type 0} (g : Ghosts D) where
   -- ---- faults of what it sends
 
   -- of its messages
-  pub append_fails : (m n : ℕ) (a d : Volume D) (c : Command) (fault : MapFault) → (IsSoundOn g a.engine → IsSoundOn g d.engine) → (IsSoundOn g d.engine → (block : ℕ) → ¬ is_bad g d.engine.pager block)
+  pub append_fails : (m n : ℕ) (a d : Volume D) (c : Command) (fault : MapFault) → (IsSoundOn g a.engine → IsSoundOn g d.engine) → KeepsGood g a.engine d.engine
       → IsCause m n (is_bad g d.engine.pager) NeverWorn fault → IsAgainFault g (fault_of fault) c a
   append_fails m n a d c map.DeviceFault sound good h = tt
-  append_fails m n a d c (map.Damaged block) sound good h = λ s. good (sound s) block h
+  append_fails m n a d c (map.Damaged block) sound good h = bad_before g a.engine d.engine block good sound (bad_on g d.engine block h)
   append_fails m n a d c (map.Worn which) sound good h = absurd h
   append_fails m n a d c map.NoMemory sound good h = tt
 
   -- of its graft
   pub graft_fails : (m n : ℕ) (worn : Counter → Type 0) (a b d : Volume D) (c : Command) (s1 d1 : List ℕ) (keep : Bool) (fault : MapFault) → IsPlanKind c (Graft s1 d1 keep) → (IsSoundOn g a.engine → IsSoundOn g b.engine) → (IsSoundOn g b.engine → IsSoundOn g d.engine)
-      → (IsSoundOn g d.engine → (block : ℕ) → ¬ is_bad g d.engine.pager block) → (IsSoundOn g a.engine → HasFlushedAgain c (view_of g a) (view_of g b)) → (table_of b.engine.pager).size ≤ waiting_limit c
+      → KeepsGood g a.engine d.engine → (IsSoundOn g a.engine → HasFlushedAgain c (view_of g a) (view_of g b)) → (table_of b.engine.pager).size ≤ waiting_limit c
       → IsCause m n (is_bad g d.engine.pager) worn fault → (IsSoundOn g b.engine → OnWorn (IsWornByGraft (nodes_of g b.engine.pager) (table_of b.engine.pager) s1 d1 keep) fault) → IsAgainFault g (fault_of fault) c a
   graft_fails m n worn a b d c s1 d1 keep map.DeviceFault kind sound last good flushed enough h by = tt
-  graft_fails m n worn a b d c s1 d1 keep (map.Damaged block) kind sound last good flushed enough h by = λ s. good (last (sound s)) block h
+  graft_fails m n worn a b d c s1 d1 keep (map.Damaged block) kind sound last good flushed enough h by = bad_before g a.engine d.engine block good (λ s. last (sound s)) (bad_on g d.engine block h)
   graft_fails m n worn a b d c s1 d1 keep (map.Worn which) kind sound last good flushed enough h by = λ s.
       let v : View = view_of g b in
       record {
@@ -282,7 +283,7 @@ module _ {D : Type 0} (g : Ghosts D) where
   replay_fails Device p plan a b read count planned h = tt
   replay_fails (Damaged block) p plan a b read count planned h = elim h [
     | inl refused ↦ inl (refused.0, λ t has. not_accepted (keys_of g a.engine.pager) t p.command plan refused.1 (planned t has))
-    | inr bad ↦ inr (λ s. bad (read.sound s))
+    | inr bad ↦ inr (bad_before g a.engine b.engine block (good_read g a.engine b.engine read) read.sound bad)
   ]
   replay_fails (Worn which) p plan a b read count planned h = λ s.
       subst (λ (v : View). WearsAgain which (count_of a) p.command v) read.view
@@ -292,11 +293,11 @@ module _ {D : Type 0} (g : Ghosts D) where
   replay_fails (Stopped call) p plan a b read count planned h = h
 
   -- of planning it
-  pub plan_fails : (m n : ℕ) (a b : Volume D) (p : PlacedCommand) (fault : MapFault) → IsReadOn g a.engine b.engine → (IsSoundOn g b.engine → (block : ℕ) → ¬ is_bad g b.engine.pager block) → IsCause m n (is_bad g b.engine.pager) NeverWorn fault → IsReplayFault g (fault_of fault) p a
-  plan_fails m n a b p map.DeviceFault read good h = tt
-  plan_fails m n a b p (map.Damaged block) read good h = inr (λ s. good (read.sound s) block h)
-  plan_fails m n a b p (map.Worn which) read good h = absurd h
-  plan_fails m n a b p map.NoMemory read good h = tt
+  pub plan_fails : (m n : ℕ) (a b : Volume D) (p : PlacedCommand) (fault : MapFault) → IsReadOn g a.engine b.engine → IsCause m n (is_bad g b.engine.pager) NeverWorn fault → IsReplayFault g (fault_of fault) p a
+  plan_fails m n a b p map.DeviceFault read h = tt
+  plan_fails m n a b p (map.Damaged block) read h = inr (bad_before g a.engine b.engine block (good_read g a.engine b.engine read) read.sound (bad_on g b.engine block h))
+  plan_fails m n a b p (map.Worn which) read h = absurd h
+  plan_fails m n a b p map.NoMemory read h = tt
 
   pub count_again : (count : ℕ) (c : Command) (v : View) → 2 ^ 64 ≤ count + 1 → WearsAgain Count count c v
   count_again count c v full = record { made = 0; last = v; flushed = none v; few = lit≤ tt; worn = full }
@@ -361,6 +362,7 @@ module _ {D : Type 0} (g : Ghosts D) where
     front = [];
     there = refl;
     sound = λ s. s;
+    good = good_same g a.engine;
     done = λ t h. record { tree = t; leads = refl; has = h; views = refl };
     count_is = omega arith;
   }
@@ -368,12 +370,13 @@ module _ {D : Type 0} (g : Ghosts D) where
   pub front_same : (list rest others : List PlacedCommand) (a b : Volume D) → rest ≡ others → ReplaysFront g list rest a b → ReplaysFront g list others a b
   front_same list rest others a b same h = subst (λ (l : List PlacedCommand). ReplaysFront g list l a b) same h
 
-  pub front_more : (list rest : List PlacedCommand) (p : PlacedCommand) (a b d : Volume D) → ReplaysFront g list (p ∷ rest) a b → (IsSoundOn g b.engine → IsSoundOn g d.engine)
+  pub front_more : (list rest : List PlacedCommand) (p : PlacedCommand) (a b d : Volume D) → ReplaysFront g list (p ∷ rest) a b → KeepsGood g b.engine d.engine → (IsSoundOn g b.engine → IsSoundOn g d.engine)
       → ((t : Tree) → HasTreeOn g b t → ReplaysOn g t p.command b d) → count_of d ≡ count_of b + 1 → ReplaysFront g list rest a d
-  front_more list rest p a b d h sound one count = record {
+  front_more list rest p a b d h good sound one count = record {
     front = h.front ++ p ∷ [];
     there = h.there ∙ sym (append_assoc h.front (p ∷ []) rest);
     sound = λ s. sound (h.sound s);
+    good = good_both g a.engine b.engine d.engine h.good good;
     done = λ t has.
         let was : HasReplayed g t h.front a b = h.done t has in
         let now : ReplaysOn g was.tree p.command b d = one was.tree was.has in

@@ -1,6 +1,6 @@
 -- What a volume stands for once it is started, and why none starts.
 use Rattle.std.proofs.Common.{rules, ◌≡◌, ◌≢◌, ℕ, ◌+◌, ◌-◌, ◌^◌, List, [], ◌∷◌, ◌++◌, length, Option, None, Some, refl, sym, subst, ap, ◌∙◌, inl, inr, arith, append-nil}
-use Rattle.std.specs.Prelude.{◌⊎◌, IsSome, IfSome, IsSomeAnd, All, Result}
+use Rattle.std.specs.Prelude.{◌⊎◌, IsSome, IfSome, IsSomeAnd, All, Result, slice_index}
 use Rattle.std.specs.List.{AllByRecursion}
 use Rattle.std.proofs.lemmas.List.{length-map, map-append}
 use Rattle.std.proofs.lemmas.List.Elements.{recursion_from_All}
@@ -23,29 +23,32 @@ use Rattle.bd_node.specs.Meaning.{Nodes}
 use Rattle.bd_node.specs.Tables.{Table, IsSound, root_at}
 use Rattle.bd_table.specs.declared.table.Table.{Table as StoredTable}
 use Rattle.bd_table.proofs.TableLemmas.{one_table}
+use Rattle.bd_slots.specs.Layout.{slot_block}
 use Rattle.bd_super.specs.Live.{IsLive}
 use Rattle.bd_log.specs.Logs.{LogState}
 use Rattle.bd_image.specs.ImageTree.{ImageStandsFor}
 use Rattle.bd_image.specs.Stored.{HoldsNodes, table_of as stored_table}
 use Rattle.bd_image.specs.Versions.{version_of}
-use Rattle.bd_image.specs.Damage.{unplaced, IsTreeAfter, HasRecord, IsBadAt}
-use Rattle.bd_image.specs.Damage.IsBadAt.{refused_record}
+use Rattle.bd_image.specs.Damage.{table_start, unplaced, IsTreeAfter, HasRecord, IsBadAt}
+use Rattle.bd_image.specs.Damage.IsBadAt.{unsound_nodes, refused_record}
 use Rattle.bd_checkpoint.specs.declared.commands.PlacedCommand.{PlacedCommand}
 use Rattle.bd_checkpoint.specs.Commands.{IsPlacedIn, placed_record, records_for}
 use Rattle.bd_checkpoint.specs.Kept.{AllStandFor, AreOfTree}
 use Rattle.bd_checkpoint.specs.Recovering.{IsBadIn, LeadsBy, LeadsTo}
 use Rattle.bd_checkpoint.proofs.Replaying.{leads_by}
-use Rattle.bd_pager.specs.Pagers.{nodes_of, table_of, is_known}
+use Rattle.bd_pager.specs.Pagers.{spots_of, nodes_of, table_of, is_known, is_bad}
+use Rattle.bd_pager.specs.Places.{IsBadSpot}
 use Rattle.bd_view.specs.Moves.{AreReplayed}
-use Rattle.bd_engine.specs.Engines.{IsSoundOn, IsFreshOn}
+use Rattle.bd_engine.specs.Engines.{EngineState, IsSoundOn, IsBadOn, IsFreshOn}
 use Rattle.bd_engine.specs.Stored.{IsFound, ArePlaced, IsStoredBy}
 use Rattle.bd_volume.specs.declared.fault.Fault.{Fault}
 use Rattle.bd_volume.specs.declared.fault.Fault.TheVariants.{Device, Damaged, Worn, NoMemory, Full, Stopped}
 use Rattle.bd_volume.specs.declared.volume.Volume.{Volume}
-use Rattle.bd_volume.specs.Faults.{image_fault_of, HasUnsoundNodes, IsBadForStart, IsStartCause}
+use Rattle.bd_volume.specs.Faults.{image_fault_of, IsStartCause}
 use Rattle.bd_volume.specs.Replays.{IsReplayCause, ReplaysEarly, HasTreeOn, WearsAgain, Refuses, commands_of, HasReplayed, ReplaysFront, StopsReplaying}
 use Rattle.bd_volume.specs.Volume.{StandsFor, IsFirstView, view_of, without_walk, count_of, device_of}
 use Rattle.bd_volume.specs.Wears.{WearsReplaying, IsWornInReplay}
+use Rattle.bd_volume.proofs.Bad.{bad_before}
 use Rattle.bd_volume.proofs.Replayed.{leads_one, leads_next}
 use Rattle.bd_volume.proofs.Safe.{safe_now}
 use Rattle.bd_volume.proofs.Starts.{as_stands}
@@ -67,7 +70,7 @@ rose_next n = elim (cases_lt n (2 ^ 64 - 1)) [ inl low ↦ inl (omega (arith, lo
 
 image_cause : {D : Type 0} (g : Ghosts D) (old new : D) (cause : ImageFault) → IsImageCause g old new (IsBadIn (g.contents old)) cause → IsStartCause g old new (image_fault_of cause)
 image_cause g old new image.DeviceFault h = subst (λ (n : ℕ). Rose (g.fault_count old) n) (sym h.one) (rose_next (g.fault_count old))
-image_cause g old new (image.Damaged block) h = (inl h.0, h.1)
+image_cause g old new (image.Damaged block) h = h
 image_cause g old new image.NoMemory h = h
 
 pub open_cause : {D : Type 0} (g : Ghosts D) (old new left : D) (cause : ImageFault) (e : Fault) → e ≡ image_fault_of cause → left ≡ new → IsImageCause g old new (IsBadIn (g.contents old)) cause → IsStartCause g old left e
@@ -159,14 +162,14 @@ module _ {D : Type 0} (g : Ghosts D) where
     sound = subst (λ (m : Nodes). IsSound m (table_of a.engine.pager)) (sym (stored.nodes.nodes nodes holds)) (subst (λ (t : Table). IsSound nodes t) (sym (stored.nodes.table nodes holds)) sound);
   })
 
-  unsound_image : (a mid : Volume D) (fresh : IsFreshOn g a.engine) (image : Image) → is_known g a.engine.pager → IsStoredBy g a.engine image → (IsSoundOn g a.engine → IsSoundOn g mid.engine) → ¬ IsSoundOn g mid.engine → HasUnsoundNodes image
-  unsound_image a mid fresh image known stored keeps bad = record {
-    live = a.engine.live;
-    live_is = stored.live_is;
-    table = a.engine.pager.saved;
-    table_is = stored.table_is;
-    none = λ nodes holds sound. bad (keeps (stored_sound a fresh image nodes known stored holds sound));
-  }
+  -- a block that is bad for the volume's nodes is why the image stands for no tree
+  bad_image : (a : Volume D) (fresh : IsFreshOn g a.engine) (image : Image) (block : ℕ) → is_known g a.engine.pager → g.contents (device_of a) ≡ Some image → IsStoredBy g a.engine image → IsBadOn g a.engine block → IsBadAt image block
+  bad_image a fresh image block known there stored bad = elim (bad known) [
+    | inl spot ↦ stored.nodes.bad a.engine.live stored.live_is stored.table_is spot.0 block (subst (λ (o : Option Image). IsBadSpot o (spots_of a.engine.pager spot.0) block) there spot.1)
+    | inr table ↦
+        let first : block ≡ table_start a.engine.live = subst (λ (at : List ℕ). block ≡ slot_block (slice_index at 0)) stored.at_is table.0 in
+        subst (λ (b : ℕ). IsBadAt image b) (sym first) (unsound_nodes a.engine.live a.engine.pager.saved stored.live_is stored.table_is (λ nodes holds sound. table.1 (stored_sound a fresh image nodes known stored holds sound)))
+  ]
 
   -- the tree of the image's nodes is one that the volume's have
   stored_has : (a : Volume D) (fresh : IsFreshOn g a.engine) (image : Image) (records : List (List ℕ)) (tree : Tree) → is_known g a.engine.pager → IsStoredBy g a.engine image → (h : IsTreeAfter image a.engine.live records tree) → HasTreeOn g a h.base
@@ -202,36 +205,46 @@ module _ {D : Type 0} (g : Ghosts D) where
       let same : tree ≡ done.tree = leads_one before.front h.base tree done.tree led done.leads in
       refuses done.tree done.has (subst (λ (u : Tree). Accepts u next.command) same accepts))
 
-  bad_start : (known : Option Image) (a mid : Volume D) (fresh : IsFreshOn g a.engine) (list rest : List PlacedCommand) (next : PlacedCommand) (block : ℕ) → IsPrefixFree IsLogged log_record → (IsSome known → is_known g a.engine.pager) → IfSome known (IsStoredBy g a.engine) → IfSome known (λ image. ArePlaced image a.engine.live list)
-      → AllByRecursion (IsPlacedIn (version_of a.engine.live)) list → ReplaysFront g list (next ∷ rest) a mid → ((block ≡ next.block) × Refuses g mid next.command) ⊎ ¬ IsSoundOn g mid.engine → IsBadForStart known block
-  bad_start None a mid fresh list rest next block free told stored placed each before cause = inl tt
-  bad_start (Some image) a mid fresh list rest next block free told stored placed each before (inl refused) =
-      inl (subst (λ (b : ℕ). IsBadAt image b) (sym refused.0) (refused_image a mid fresh image list rest next free (told (search rules)) stored placed each before refused.1))
-  bad_start (Some image) a mid fresh list rest next block free told stored placed each before (inr bad) = inr (unsound_image a mid fresh image (told (search rules)) stored before.sound bad)
+  bad_start : (known : Option Image) (a mid : Volume D) (fresh : IsFreshOn g a.engine) (list rest : List PlacedCommand) (next : PlacedCommand) (block : ℕ) → IsPrefixFree IsLogged log_record → g.contents (device_of a) ≡ known → (IsSome known → is_known g a.engine.pager) → IfSome known (IsStoredBy g a.engine)
+      → IfSome known (λ image. ArePlaced image a.engine.live list) → AllByRecursion (IsPlacedIn (version_of a.engine.live)) list → ReplaysFront g list (next ∷ rest) a mid → ((block ≡ next.block) × Refuses g mid next.command) ⊎ IsBadOn g mid.engine block → IsBadIn known block
+  bad_start None a mid fresh list rest next block free there told stored placed each before cause = tt
+  bad_start (Some image) a mid fresh list rest next block free there told stored placed each before (inl refused) =
+      subst (λ (b : ℕ). IsBadAt image b) (sym refused.0) (refused_image a mid fresh image list rest next free (told (search rules)) stored placed each before refused.1)
+  bad_start (Some image) a mid fresh list rest next block free there told stored placed each before (inr bad) =
+      bad_image a fresh image block (told (search rules)) there stored (bad_before g a.engine mid.engine block before.good before.sound bad)
 
-  pub replay_cause : (dev : D) (a v : Volume D) (fresh : IsFreshOn g a.engine) (list : List PlacedCommand) (fault : Fault) → IsPrefixFree IsLogged log_record → (IsSome (g.contents dev) → is_known g a.engine.pager) → IfSome (g.contents dev) (IsStoredBy g a.engine) → IfSome (g.contents dev) (λ image. ArePlaced image a.engine.live list)
+  pub replay_cause : (dev : D) (a v : Volume D) (fresh : IsFreshOn g a.engine) (list : List PlacedCommand) (fault : Fault) → IsPrefixFree IsLogged log_record → g.contents (device_of a) ≡ g.contents dev → (IsSome (g.contents dev) → is_known g a.engine.pager) → IfSome (g.contents dev) (IsStoredBy g a.engine) → IfSome (g.contents dev) (λ image. ArePlaced image a.engine.live list)
       → All (IsPlacedIn (version_of a.engine.live)) list → g.fault_count (device_of a) ≡ g.fault_count dev → StopsReplaying g fault list a → IsReplayCause g a v fault → IsStartCause g dev (device_of v) fault
-  replay_cause dev a v fresh list Device free told stored placed each same stops h = subst (λ (n : ℕ). Rose n (g.fault_count (device_of v))) same h
-  replay_cause dev a v fresh list (Damaged block) free told stored placed each same stops h =
-      (bad_start (g.contents dev) a stops.mid fresh list stops.rest stops.next block free told stored placed (recursion_from_All (IsPlacedIn (version_of a.engine.live)) list each) stops.before stops.cause, h ∙ same)
-  replay_cause dev a v fresh list (Worn which) free told stored placed each same stops h = h ∙ same
-  replay_cause dev a v fresh list NoMemory free told stored placed each same stops h = h ∙ same
-  replay_cause dev a v fresh list (Full free2 need) free told stored placed each same stops h = h
-  replay_cause dev a v fresh list (Stopped call) free told stored placed each same stops h = h
+  replay_cause dev a v fresh list Device free there told stored placed each same stops h = subst (λ (n : ℕ). Rose n (g.fault_count (device_of v))) same h
+  replay_cause dev a v fresh list (Damaged block) free there told stored placed each same stops h =
+      (bad_start (g.contents dev) a stops.mid fresh list stops.rest stops.next block free there told stored placed (recursion_from_All (IsPlacedIn (version_of a.engine.live)) list each) stops.before stops.cause, h ∙ same)
+  replay_cause dev a v fresh list (Worn which) free there told stored placed each same stops h = h ∙ same
+  replay_cause dev a v fresh list NoMemory free there told stored placed each same stops h = h ∙ same
+  replay_cause dev a v fresh list (Full free2 need) free there told stored placed each same stops h = h
+  replay_cause dev a v fresh list (Stopped call) free there told stored placed each same stops h = h
 
   -- ---- from an image that stands for a tree
 
+  -- a sound engine has no bad block, where its nodes have none
+  not_bad : (e : EngineState D) (block : ℕ) → IsSoundOn g e → ¬ is_bad g e.pager block → IsBadOn g e block → ⊥
+  not_bad e block s good bad = good (λ known. elim (bad known) [
+    | inl spot ↦ inl spot
+    | inr table ↦ absurd (table.1 s)
+  ])
+
   not_damaged : (a mid : Volume D) (fresh : IsFreshOn g a.engine) (list rest : List PlacedCommand) (next : PlacedCommand) (block : ℕ) (t : Tree) (n : ℕ) → LeadsTo g a.engine.pager a.engine.live list t n → ReplaysFront g list (next ∷ rest) a mid
-      → ((block ≡ next.block) × Refuses g mid next.command) ⊎ ¬ IsSoundOn g mid.engine → ⊥
-  not_damaged a mid fresh list rest next block t n led before (inl refused) =
+      → (IsSoundOn g a.engine → (block : ℕ) → ¬ is_bad g a.engine.pager block) → ((block ≡ next.block) × Refuses g mid next.command) ⊎ IsBadOn g mid.engine block → ⊥
+  not_damaged a mid fresh list rest next block t n led before good (inl refused) =
       let done : HasReplayed g led.base before.front a mid = before.done led.base (opened_has a fresh list t n led) in
       refused.1 done.tree done.has (leads_next before.front next rest led.base done.tree t (subst (λ (l : List PlacedCommand). LeadsBy l led.base t) before.there led.leads) done.leads)
-  not_damaged a mid fresh list rest next block t n led before (inr bad) = bad (before.sound (opened_has a fresh list t n led).nodes)
+  not_damaged a mid fresh list rest next block t n led before good (inr bad) =
+      let s : IsSoundOn g a.engine = (opened_has a fresh list t n led).nodes in
+      not_bad a.engine block s (good s block) (bad_before g a.engine mid.engine block before.good before.sound bad)
 
-  pub replay_undamaged : (a : Volume D) (fresh : IsFreshOn g a.engine) (list : List PlacedCommand) (fault : Fault) (block : ℕ) (t : Tree) (n : ℕ) → LeadsTo g a.engine.pager a.engine.live list t n → StopsReplaying g fault list a → fault ≢ Damaged block
-  replay_undamaged a fresh list fault block t n led stops is =
+  pub replay_undamaged : (a : Volume D) (fresh : IsFreshOn g a.engine) (list : List PlacedCommand) (fault : Fault) (block : ℕ) (t : Tree) (n : ℕ) → LeadsTo g a.engine.pager a.engine.live list t n → (IsSoundOn g a.engine → (block : ℕ) → ¬ is_bad g a.engine.pager block) → StopsReplaying g fault list a → fault ≢ Damaged block
+  replay_undamaged a fresh list fault block t n led good stops is =
       let h : StopsReplaying g (Damaged block) list a = subst (λ (f : Fault). StopsReplaying g f list a) is stops in
-      not_damaged a h.mid fresh list h.rest h.next block t n led h.before h.cause
+      not_damaged a h.mid fresh list h.rest h.next block t n led h.before good h.cause
 
   worn_of : (image : Image) (a : Volume D) (fresh : IsFreshOn g a.engine) (list : List PlacedCommand) (which : Counter) (t : Tree) (n : ℕ) → a.count ≡ a.engine.live.count → IsLive image a.engine.live → IsFound image (view_of g a) (commands_of list)
       → LeadsTo g a.engine.pager a.engine.live list t n → StopsReplaying g (Worn which) list a → WearsReplaying which image

@@ -1,7 +1,6 @@
 -- The faults of a volume and their causes.
-use Rattle.std.specs.Prelude.{◌≡◌, ◌≤◌, ◌<◌, ◌⊎◌, ℕ, Option, None, Some, IfSome, Result, OnOk, IfErr}
+use Rattle.std.specs.Prelude.{◌≡◌, ◌≤◌, ◌<◌, ◌⊎◌, None, Some, Result, OnOk, IfErr}
 use Rattle.bd_io.specs.Cause.{Rose, next_count}
-use Rattle.bd_device.specs.Blocks.{Image}
 use Rattle.bd_device.specs.Device.{LastFailed}
 use Rattle.bd_device.specs.declared.device.Device.{Ghosts}
 use Rattle.bd_device.specs.declared.fault.ImageFault.{ImageFault}
@@ -9,11 +8,6 @@ use Rattle.bd_device.specs.declared.fault.ImageFault.TheVariants as image
 use Rattle.bd_message.specs.declared.fault.MapFault.{MapFault}
 use Rattle.bd_message.specs.declared.fault.MapFault.TheVariants as map
 use Rattle.bd_pager.specs.Pagers.{is_bad}
-use Rattle.bd_table.specs.Image.{HoldsTable}
-use Rattle.bd_table.specs.declared.table.Table.{Table as StoredTable}
-use Rattle.bd_super.specs.Live.{IsLive}
-use Rattle.bd_super.specs.declared.superblock.Super.{Super}
-use Rattle.bd_image.specs.Damage.{HasNoSoundNodes}
 use Rattle.bd_checkpoint.specs.Recovering.{IsBadIn}
 use Rattle.bd_volume.specs.declared.fault.Fault.{Fault}
 use Rattle.bd_volume.specs.declared.fault.Fault.TheVariants.{Device, Damaged, Worn, NoMemory, Full, Stopped}
@@ -37,25 +31,12 @@ image_fault_of image.NoMemory = NoMemory
 abbrev pub IsOfImage : Fault → Type 0
 IsOfImage fault = (cause : ImageFault) × (fault ≡ image_fault_of cause)
 
--- the nodes of the checkpoint from which the image starts aren't sound
-pub record HasUnsoundNodes (image : Image) : Type 0 where
-  pub live : Super
-  pub live_is : IsLive image live
-  pub table : StoredTable
-  pub table_is : HoldsTable image live.slots live.table table
-  pub none : HasNoSoundNodes image table
-
--- a block of an image from which no volume starts: it is bad, or the nodes aren't sound
-abbrev pub IsBadForStart : Option Image → ℕ → Type 0
-IsBadForStart known block =
-    IsBadIn known block ⊎ IfSome known HasUnsoundNodes
-
--- why no volume starts: the device has failed, or it hasn't, and damage is of such a block; slots
+-- why no volume starts: the device has failed, or it hasn't, and damage is of a bad block; slots
 -- are never short
 abbrev pub IsStartCause : {D : Type 0} → Ghosts D → D → D → Fault → Type 0
 IsStartCause g old new Device = Rose (g.fault_count old) (g.fault_count new)
 IsStartCause g old new (Damaged block) =
-    IsBadForStart (g.contents old) block × (g.fault_count new ≡ g.fault_count old)
+    IsBadIn (g.contents old) block × (g.fault_count new ≡ g.fault_count old)
 IsStartCause g old new (Worn which) = g.fault_count new ≡ g.fault_count old
 IsStartCause g old new NoMemory = g.fault_count new ≡ g.fault_count old
 IsStartCause g old new (Full free need) = ⊥

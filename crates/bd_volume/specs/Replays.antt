@@ -14,6 +14,8 @@ use Rattle.bd_device.specs.declared.device.Device.{Ghosts}
 use Rattle.bd_dirs.specs.Sendings.{Sending}
 use Rattle.bd_dirs.specs.declared.plan.Plan.{Plan}
 use Rattle.bd_effects.specs.Carrying.{accepts}
+use Rattle.bd_pager.specs.Pagers.{spots_of, is_known}
+use Rattle.bd_pager.specs.Places.{NoneTurnsBad}
 use Rattle.bd_pager.specs.Slots.{IsSpare}
 use Rattle.bd_image.specs.Standing.{IsAsBefore}
 use Rattle.bd_checkpoint.specs.Kept.{AllAsBefore}
@@ -22,7 +24,7 @@ use Rattle.bd_checkpoint.specs.Recovering.{LeadsBy}
 use Rattle.bd_view.specs.Trees.{TreeView, HasSent, waiting_limit}
 use Rattle.bd_view.specs.Views.{View}
 use Rattle.bd_view.specs.Moves.{OnlyNodes, AreFlushedAgain, IsReplayed, AreReplayed}
-use Rattle.bd_engine.specs.Engines.{EngineState, keys_of, IsSoundOn}
+use Rattle.bd_engine.specs.Engines.{EngineState, keys_of, IsSoundOn, IsBadOn}
 use Rattle.bd_volume.specs.declared.fault.Fault.{Fault}
 use Rattle.bd_volume.specs.declared.fault.Fault.TheVariants.{Device, Damaged, Worn, NoMemory, Full, Stopped}
 use Rattle.bd_volume.specs.declared.volume.Volume.{Volume}
@@ -48,6 +50,13 @@ pub record HasReplayCause {D T : Type 0} (g : Ghosts D) (old new : Volume D)
   pub kept : OnOk result (HasNotFailed g old new)
   pub failed : IfErr result (IsReplayCause g old new)
 
+-- what is known of nodes stays so, with their checkpoint, and no block becomes bad
+pub record KeepsGood {D : Type 0} (g : Ghosts D) (old new : EngineState D) : Type 0 where
+  pub known : is_known g old.pager → is_known g new.pager
+  pub bad : is_known g old.pager → NoneTurnsBad (g.contents old.pager.dev) (spots_of old.pager)
+      (g.contents new.pager.dev) (spots_of new.pager)
+  pub at : new.pager.at ≡ old.pager.at
+
 -- nothing was written but nodes, early, to slots that the last checkpoint doesn't hold: log and last
 -- checkpoint stay, and an image that a crash leaves, inside the calls or after them, stands for all
 -- that one of before stood for
@@ -56,6 +65,7 @@ pub record OnlyEarly {D : Type 0} (g : Ghosts D) (old new : EngineState D) : Typ
   pub kept : AllAsBefore (left_now g old.pager.dev) (left_now g new.pager.dev)
   pub slots : StaysBut (IsSpare old.pager.spare) (g.contents old.pager.dev)
       (g.contents new.pager.dev)
+  pub good : KeepsGood g old new
   pub stays : Stays g old.pager.dev new.pager.dev
   pub spare : new.pager.spare ≡ old.pager.spare
   pub log : new.log ≡ old.log
@@ -115,10 +125,10 @@ pub record HasFlushedAgain (c : Command) (old new : View) : Type 0 where
   pub flushed : AreFlushedAgain c made old new
   pub few : made ≤ flush_limit
 
--- why a flush step of it isn't made: the nodes aren't sound, or a counter has no room
+-- why a flush step of it isn't made: a block is bad, or a counter has no room
 abbrev pub IsFlushFault : {D : Type 0} → Ghosts D → Fault → Command → Volume D → Type 0
 IsFlushFault g Device c v = ⊤
-IsFlushFault g (Damaged block) c v = ¬ IsSoundOn g v.engine
+IsFlushFault g (Damaged block) c v = IsBadOn g v.engine block
 IsFlushFault g (Worn which) c v =
     IsSoundOn g v.engine → IsWornAgain which c (view_of g v).tree
 IsFlushFault g NoMemory c v = ⊤
@@ -128,7 +138,7 @@ IsFlushFault g (Stopped call) c v = ⊥
 -- why they aren't all made, or what it sends isn't sent
 abbrev pub IsAgainFault : {D : Type 0} → Ghosts D → Fault → Command → Volume D → Type 0
 IsAgainFault g Device c v = ⊤
-IsAgainFault g (Damaged block) c v = ¬ IsSoundOn g v.engine
+IsAgainFault g (Damaged block) c v = IsBadOn g v.engine block
 IsAgainFault g (Worn which) c v =
     IsSoundOn g v.engine → WearsAgain which (count_of v) c (view_of g v)
 IsAgainFault g NoMemory c v = ⊤
@@ -136,11 +146,11 @@ IsAgainFault g (Full free need) c v = ⊥
 IsAgainFault g (Stopped call) c v = ⊥
 
 -- why what is planned for a command of the log isn't done: it is refused, which is damage of its
--- record, or the nodes aren't sound; and slots are never short
+-- record, or a block is bad; and slots are never short
 abbrev pub IsSendFault : {D : Type 0} → Ghosts D → Fault → PlacedCommand → Plan → Volume D → Type 0
 IsSendFault g Device p plan v = ⊤
 IsSendFault g (Damaged block) p plan v =
-    ((block ≡ p.block) × (accepts plan ≡ false)) ⊎ ¬ IsSoundOn g v.engine
+    ((block ≡ p.block) × (accepts plan ≡ false)) ⊎ IsBadOn g v.engine block
 IsSendFault g (Worn which) p plan v =
     IsSoundOn g v.engine → WearsAgain which (count_of v) p.command (view_of g v)
 IsSendFault g NoMemory p plan v = ⊤
@@ -155,7 +165,7 @@ Refuses g v c = (t : Tree) → HasTreeOn g v t → ¬ Accepts t c
 abbrev pub IsReplayFault : {D : Type 0} → Ghosts D → Fault → PlacedCommand → Volume D → Type 0
 IsReplayFault g Device p v = ⊤
 IsReplayFault g (Damaged block) p v =
-    ((block ≡ p.block) × Refuses g v p.command) ⊎ ¬ IsSoundOn g v.engine
+    ((block ≡ p.block) × Refuses g v p.command) ⊎ IsBadOn g v.engine block
 IsReplayFault g (Worn which) p v =
     IsSoundOn g v.engine → WearsAgain which (count_of v) p.command (view_of g v)
 IsReplayFault g NoMemory p v = ⊤
@@ -182,6 +192,7 @@ pub record ReplaysFront {D : Type 0} (g : Ghosts D) (list rest : List PlacedComm
   pub front : List PlacedCommand
   pub there : list ≡ front ++ rest
   pub sound : IsSoundOn g old.engine → IsSoundOn g new.engine
+  pub good : KeepsGood g old.engine new.engine
   pub done : (t : Tree) → HasTreeOn g old t → HasReplayed g t front old new
   pub count_is : count_of new ≡ count_of old + length front
 

@@ -57,7 +57,7 @@ impl<D: Device> Volume<D> {
     /// memory or a counter has no room, and stands for that tree. Where it fails, it returns the
     /// device. `Device` comes only where a call of the device failed. `Damaged` names a bad block of
     /// the image (of a record of which the tree before it refuses the command, the first one of its
-    /// batch's body), or some block where the nodes aren't sound; `Full` and `Stopped` never come.
+    /// batch's body); `Full` and `Stopped` never come.
     pub fn start(alloc: Global, device: D) -> Result<Volume<D>, Refused<D>>
         ensures stands { IfOk result (λ v. (t : Tree) (n : ℕ)
             → IsSomeAnd (D.contents device) (ImageStandsFor t n) → StandsFor D.Device v t n) }
@@ -91,6 +91,7 @@ impl<D: Device> Volume<D> {
     {
         log_records_are_prefix_free();
         let Opened { engine, commands } = Engine::open(alloc, device)?;
+        engine.sound_nodes_are_undamaged();
         let count = engine.saved_count();
         let mut volume = Volume { engine, count };
         match volume.replay(&commands) {

@@ -72,9 +72,7 @@ impl<D: Device> Volume<D> {
         if self.count == u64::MAX {
             return Err(Fault::Worn(Counter::Count));
         }
-        let planned = self.engine.plan(&placed.command);
-        self.engine.sound_nodes_are_undamaged();
-        let plan = planned?;
+        let plan = self.engine.plan(&placed.command)?;
         self.send_planned(placed, plan)?;
         self.count += 1;
         Ok(())
@@ -128,10 +126,7 @@ impl<D: Device> Volume<D> {
         ensures count_stays { count_of self.new ≡ count_of self.old }
     {
         self.flush_again(command)?;
-        let appended = self.engine.append(list);
-        self.engine.sound_nodes_are_undamaged();
-        appended?;
-        Ok(())
+        Ok(self.engine.append(list)?)
     }
 
     // Makes the flush steps of a command of the log, and its graft.
@@ -161,10 +156,7 @@ impl<D: Device> Volume<D> {
         ensures count_stays { count_of self.new ≡ count_of self.old }
     {
         self.flush_again(command)?;
-        let grafted = self.engine.graft(s, d, keep);
-        self.engine.sound_nodes_are_undamaged();
-        grafted?;
-        Ok(())
+        Ok(self.engine.graft(s, d, keep)?)
     }
 
     // Makes flush steps while more bytes wait in the root than the limit of a command of the log.
@@ -221,8 +213,6 @@ impl<D: Device> Volume<D> {
         ensures count_stays { count_of self.new ≡ count_of self.old }
     {
         self.spill()?;
-        let flushed = self.engine.flush(command);
-        self.engine.sound_nodes_are_undamaged();
-        Ok(flushed?)
+        Ok(self.engine.flush(command)?)
     }
 }

@@ -22,7 +22,7 @@ pub returns-in_err-flush_once-clause-fails : goal.returns-in_err-flush_once-clau
 returns-in_err-flush_once-clause-fails g c =
     let p = err_from_is_err_and c.from_residual.result c.from_residual.ensures.1 in
     let i = c.loop-made.invariant in
-    rw (p.1, p.2) (flushes_fail g.D.Device c.in_err-flush_once.field-0.0 c.args.command.now c.args.self.now c.loop-made.self c.loop-made._made i.sound i.flushed (omega (arith, c.loop-made-test.true)) c.in_err-flush_once.ensures.fails)
+    rw (p.1, p.2) (flushes_fail g.D.Device c.in_err-flush_once.field-0.0 c.args.command.now c.args.self.now c.loop-made.self c.loop-made._made i.goes.early.good i.sound i.flushed (omega (arith, c.loop-made-test.true)) c.in_err-flush_once.ensures.fails)
 
 pub returns-in_err-flush_once-clause-same : goal.returns-in_err-flush_once-clause-same
 returns-in_err-flush_once-clause-same g c = λ s.

@@ -8,6 +8,7 @@ use Rattle.bd_engine.specs.Engines.{IsWornIn}
 use Rattle.bd_engine.proofs.Left.{step_waits}
 use Rattle.bd_volume.specs.declared.volume.Volume.{Volume}
 use Rattle.bd_volume.specs.Volume.{view_of}
+use Rattle.bd_volume.proofs.Bad.{good_early, good_kept}
 use Rattle.bd_volume.proofs.Early.{early_keys, early_call, early_goes, goes_ok, goes_both, goes_nodes}
 use Rattle.bd_volume.proofs.Replayed.{cause_device, cause_map, cause_ok, cause_then, device_flush_fails, early_flush_fails, flush_again_fails}
 use Rattle.bd_volume.proofs.volume.Volume.flush_once.Goals as goal
@@ -36,69 +37,69 @@ returns-in_err-spill-clause-cause g c =
 
 -- ---- the step isn't made
 
-pub returns-in_err-flushed-clause-fails : goal.returns-in_err-flushed-clause-fails
-returns-in_err-flushed-clause-fails g c =
-    let p = err_from_is_err_and c.from_residual-in_err-flushed.result c.from_residual-in_err-flushed.ensures.1 in
+pub returns-in_err-flush-clause-fails : goal.returns-in_err-flush-clause-fails
+returns-in_err-flush-clause-fails g c =
+    let p = err_from_is_err_and c.from_residual-in_err-flush.result c.from_residual-in_err-flush.ensures.1 in
     let k = c.in_ok-spill.ensures in
-    let h = c.in_err-flushed.ensures in
+    let h = c.in_err-flush.ensures in
     let a : Volume g.row.D.Denot = c.spill.new.self in
-    let b : Volume g.row.D.Denot = record a { engine = c.flush-flushed.new.self } in
-    rw (p.1, p.2) (early_flush_fails g.D.Device _ c.args.command.now c.args.self.now a k.sound k.view
-    (flush_again_fails g.D.Device _ _ a b c.args.command.now c.in_err-flushed.field-0.0 (step_waits _ _ _ (λ e. cc) h.enough) h.sound c.sound_nodes_are_undamaged.ensures h.cause.failed))
+    let b : Volume g.row.D.Denot = record a { engine = c.flush.new.self } in
+    rw (p.1, p.2) (early_flush_fails g.D.Device _ c.args.command.now c.args.self.now a (good_early g.D.Device c.args.self.now.engine a.engine k.early) k.sound k.view
+    (flush_again_fails g.D.Device _ _ a b c.args.command.now c.in_err-flush.field-0.0 (step_waits _ _ _ (λ e. cc) h.enough) h.sound (good_kept g.D.Device a.engine b.engine h.only.keeps) h.cause.failed))
 
-pub returns-in_err-flushed-clause-rest : goal.returns-in_err-flushed-clause-rest
-returns-in_err-flushed-clause-rest g c = λ s off. (c.in_err-flushed.ensures.rest (λ e. cc)).view ∙ c.in_ok-spill.ensures.view s
+pub returns-in_err-flush-clause-rest : goal.returns-in_err-flush-clause-rest
+returns-in_err-flush-clause-rest g c = λ s off. (c.in_err-flush.ensures.rest (λ e. cc)).view ∙ c.in_ok-spill.ensures.view s
 
-pub returns-in_err-flushed-clause-same : goal.returns-in_err-flushed-clause-same
-returns-in_err-flushed-clause-same g c = λ s k. c.in_err-flushed.ensures.same (c.in_ok-spill.ensures.sound s) k ∙ early_keys g.D.Device c.args.self.now c.spill.new.self (c.in_ok-spill.ensures.view s) k
+pub returns-in_err-flush-clause-same : goal.returns-in_err-flush-clause-same
+returns-in_err-flush-clause-same g c = λ s k. c.in_err-flush.ensures.same (c.in_ok-spill.ensures.sound s) k ∙ early_keys g.D.Device c.args.self.now c.spill.new.self (c.in_ok-spill.ensures.view s) k
 
-pub returns-in_err-flushed-clause-writes : goal.returns-in_err-flushed-clause-writes
-returns-in_err-flushed-clause-writes g c =
+pub returns-in_err-flush-clause-writes : goal.returns-in_err-flush-clause-writes
+returns-in_err-flush-clause-writes g c =
     let k = c.in_ok-spill.ensures in
     let a : Volume g.row.D.Denot = c.spill.new.self in
-    let b : Volume g.row.D.Denot = record a { engine = c.flush-flushed.new.self } in
+    let b : Volume g.row.D.Denot = record a { engine = c.flush.new.self } in
     early_goes g.D.Device c.args.self.now b _
-    (goes_both g.D.Device c.args.self.now a b (goes_ok g.D.Device c.args.self.now a _ (early_call g.D.Device c.args.self.now a _ k.early k.ends.stop)) (goes_nodes g.D.Device a b (g.met.D.Device.since_earlier b.engine.pager.dev) k.ends.stop.ok.stop_is c.in_err-flushed.ensures.only))
+    (goes_both g.D.Device c.args.self.now a b (goes_ok g.D.Device c.args.self.now a _ (early_call g.D.Device c.args.self.now a _ k.early k.ends.stop)) (goes_nodes g.D.Device a b (g.met.D.Device.since_earlier b.engine.pager.dev) k.ends.stop.ok.stop_is c.in_err-flush.ensures.only))
 
-pub returns-in_err-flushed-clause-cause : goal.returns-in_err-flushed-clause-cause
-returns-in_err-flushed-clause-cause g c =
-    let p = err_from_is_err_and c.from_residual-in_err-flushed.result c.from_residual-in_err-flushed.ensures.1 in
+pub returns-in_err-flush-clause-cause : goal.returns-in_err-flush-clause-cause
+returns-in_err-flush-clause-cause g c =
+    let p = err_from_is_err_and c.from_residual-in_err-flush.result c.from_residual-in_err-flush.ensures.1 in
     let a : Volume g.row.D.Denot = c.spill.new.self in
-    let b : Volume g.row.D.Denot = record a { engine = c.flush-flushed.new.self } in
-    rw (p.1, p.2) (cause_then g.D.Device _ c.args.self.now a b c.in_ok-spill.ensures.ends.cause.kept (cause_map g.D.Device a b (IsWornIn g.D.Device a.engine.pager) c.in_err-flushed.field-0.0 c.in_err-flushed.ensures.cause))
+    let b : Volume g.row.D.Denot = record a { engine = c.flush.new.self } in
+    rw (p.1, p.2) (cause_then g.D.Device _ c.args.self.now a b c.in_ok-spill.ensures.ends.cause.kept (cause_map g.D.Device a b (IsWornIn g.D.Device a.engine.pager) c.in_err-flush.field-0.0 c.in_err-flush.ensures.cause))
 
 -- ---- it is made, or none is needed
 
 pub returns-clause-flushed : goal.returns-clause-flushed
 returns-clause-flushed g c = λ s is.
     let k = c.in_ok-spill.ensures in
-    let h = c.in_ok-flushed.ensures in
+    let h = c.in_ok-flush.ensures in
     let a : Volume g.row.D.Denot = c.spill.new.self in
-    let b : Volume g.row.D.Denot = record a { engine = c.flush-flushed.new.self } in
+    let b : Volume g.row.D.Denot = record a { engine = c.flush.new.self } in
     let sound = k.sound s in
-    let on : c.in_ok-flushed.field-0 ≡ true = cc in
+    let on : c.in_ok-flush.field-0 ≡ true = cc in
     subst (λ (v : View). FlushesAgain c.args.command.now v (view_of g.D.Device b)) (k.view s) (record { flushes = h.flushes sound (ap Ok on); rest = h.only.view sound.known })
 
 pub returns-clause-rest : goal.returns-clause-rest
 returns-clause-rest g c = λ s off.
-    let other = c.in_ok-flushed.ensures.rest (λ e.
-    let on : c.in_ok-flushed.field-0 ≡ true = cc in
+    let other = c.in_ok-flush.ensures.rest (λ e.
+    let on : c.in_ok-flush.field-0 ≡ true = cc in
     off (ap Ok on)) in
     other.view ∙ c.in_ok-spill.ensures.view s
 
 pub returns-clause-same : goal.returns-clause-same
-returns-clause-same g c = λ s k. c.in_ok-flushed.ensures.same (c.in_ok-spill.ensures.sound s) k ∙ early_keys g.D.Device c.args.self.now c.spill.new.self (c.in_ok-spill.ensures.view s) k
+returns-clause-same g c = λ s k. c.in_ok-flush.ensures.same (c.in_ok-spill.ensures.sound s) k ∙ early_keys g.D.Device c.args.self.now c.spill.new.self (c.in_ok-spill.ensures.view s) k
 
 pub returns-clause-writes : goal.returns-clause-writes
 returns-clause-writes g c =
     let k = c.in_ok-spill.ensures in
     let a : Volume g.row.D.Denot = c.spill.new.self in
-    let b : Volume g.row.D.Denot = record a { engine = c.flush-flushed.new.self } in
+    let b : Volume g.row.D.Denot = record a { engine = c.flush.new.self } in
     early_goes g.D.Device c.args.self.now b _
-    (goes_both g.D.Device c.args.self.now a b (goes_ok g.D.Device c.args.self.now a _ (early_call g.D.Device c.args.self.now a _ k.early k.ends.stop)) (goes_nodes g.D.Device a b (g.met.D.Device.since_earlier b.engine.pager.dev) k.ends.stop.ok.stop_is c.in_ok-flushed.ensures.only))
+    (goes_both g.D.Device c.args.self.now a b (goes_ok g.D.Device c.args.self.now a _ (early_call g.D.Device c.args.self.now a _ k.early k.ends.stop)) (goes_nodes g.D.Device a b (g.met.D.Device.since_earlier b.engine.pager.dev) k.ends.stop.ok.stop_is c.in_ok-flush.ensures.only))
 
 pub returns-clause-cause : goal.returns-clause-cause
 returns-clause-cause g c =
     let a : Volume g.row.D.Denot = c.spill.new.self in
-    let b : Volume g.row.D.Denot = record a { engine = c.flush-flushed.new.self } in
-    cause_then g.D.Device _ c.args.self.now a b c.in_ok-spill.ensures.ends.cause.kept (cause_ok g.D.Device a b _ c.in_ok-flushed.ensures.cause.kept)
+    let b : Volume g.row.D.Denot = record a { engine = c.flush.new.self } in
+    cause_then g.D.Device _ c.args.self.now a b c.in_ok-spill.ensures.ends.cause.kept (cause_ok g.D.Device a b _ c.in_ok-flush.ensures.cause.kept)

@@ -27,7 +27,7 @@ loop-placed-preserved g c =
     let next = next_placed list at c.placed-item.result c.loop-placed-test.true c.placed-item.is in
     record {
       front = front_more g.D.Device list (drop (at + 1) list) c.placed-item.result c.args.self.now c.loop-placed.self c.replay_one.new.self (front_same g.D.Device list (drop at list) (c.placed-item.result ∷ drop (at + 1) list) c.args.self.now c.loop-placed.self next i.front)
-          h.sound h.replays h.counts;
+          h.writes.early.good h.sound h.replays h.counts;
       goes = goes_both g.D.Device c.args.self.now c.loop-placed.self c.replay_one.new.self i.goes (goes_ok g.D.Device c.loop-placed.self c.replay_one.new.self _ h.writes);
       faults = h.cause.kept ∙ i.faults;
     }

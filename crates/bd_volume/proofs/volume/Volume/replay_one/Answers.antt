@@ -26,33 +26,33 @@ returns-in_err-plan-clause-fails g c =
     let p = err_from_is_err_and c.from_residual.result c.from_residual.ensures.1 in
     let h = c.in_err-plan.ensures in
     let a : Volume g.row.D.Denot = c.args.self.now in
-    let b : Volume g.row.D.Denot = record a { engine = c.plan-planned.new.self } in
-    rw (p.1, p.2) (plan_fails g.D.Device _ _ a b c.args.placed.now c.in_err-plan.field-0.0 h.read c.sound_nodes_are_undamaged.ensures h.cause.failed)
+    let b : Volume g.row.D.Denot = record a { engine = c.plan.new.self } in
+    rw (p.1, p.2) (plan_fails g.D.Device _ _ a b c.args.placed.now c.in_err-plan.field-0.0 h.read h.cause.failed)
 
 pub returns-in_err-plan-clause-writes : goal.returns-in_err-plan-clause-writes
 returns-in_err-plan-clause-writes g c =
     let a : Volume g.row.D.Denot = c.args.self.now in
-    let b : Volume g.row.D.Denot = record a { engine = c.plan-planned.new.self } in
+    let b : Volume g.row.D.Denot = record a { engine = c.plan.new.self } in
     early_goes g.D.Device a b _ (goes_read g.D.Device a b (g.met.D.Device.since_earlier b.engine.pager.dev) c.requires.going c.in_err-plan.ensures.read)
 
 pub returns-in_err-plan-clause-cause : goal.returns-in_err-plan-clause-cause
 returns-in_err-plan-clause-cause g c =
     let p = err_from_is_err_and c.from_residual.result c.from_residual.ensures.1 in
     let a : Volume g.row.D.Denot = c.args.self.now in
-    rw (p.1, p.2) (cause_map g.D.Device a (record a { engine = c.plan-planned.new.self }) NeverWorn c.in_err-plan.field-0.0 c.in_err-plan.ensures.cause)
+    rw (p.1, p.2) (cause_map g.D.Device a (record a { engine = c.plan.new.self }) NeverWorn c.in_err-plan.field-0.0 c.in_err-plan.ensures.cause)
 
 pub returns-in_err-send_planned-clause-fails : goal.returns-in_err-send_planned-clause-fails
 returns-in_err-send_planned-clause-fails g c =
     let p = err_from_is_err_and c.from_residual-in_err-send_planned.result c.from_residual-in_err-send_planned.ensures.1 in
     let h = c.in_ok-plan.ensures in
     let a : Volume g.row.D.Denot = c.args.self.now in
-    let b : Volume g.row.D.Denot = record a { engine = c.plan-planned.new.self } in
+    let b : Volume g.row.D.Denot = record a { engine = c.plan.new.self } in
     rw (p.1, p.2) (replay_fails g.D.Device c.in_err-send_planned.field-0.0 c.args.placed.now c.in_ok-plan.plan a b h.read refl (λ t has. h.plan has.nodes t has.is_tree has.represents) c.in_err-send_planned.ensures.fails)
 
 pub returns-in_err-send_planned-clause-writes : goal.returns-in_err-send_planned-clause-writes
 returns-in_err-send_planned-clause-writes g c =
     let a : Volume g.row.D.Denot = c.args.self.now in
-    let b : Volume g.row.D.Denot = record a { engine = c.plan-planned.new.self } in
+    let b : Volume g.row.D.Denot = record a { engine = c.plan.new.self } in
     let p = err_from_is_err_and c.from_residual-in_err-send_planned.result c.from_residual-in_err-send_planned.ensures.1 in
     rw (p.1, p.2) (early_fails g.D.Device a b c.send_planned.new.self c.in_err-send_planned.field-0.0 (goes_read g.D.Device a b (g.met.D.Device.since_earlier b.engine.pager.dev) c.requires.going c.in_ok-plan.ensures.read) c.in_ok-plan.ensures.cause.kept c.in_err-send_planned.ensures.writes)
 
@@ -60,14 +60,14 @@ pub returns-in_err-send_planned-clause-cause : goal.returns-in_err-send_planned-
 returns-in_err-send_planned-clause-cause g c =
     let p = err_from_is_err_and c.from_residual-in_err-send_planned.result c.from_residual-in_err-send_planned.ensures.1 in
     let a : Volume g.row.D.Denot = c.args.self.now in
-    let b : Volume g.row.D.Denot = record a { engine = c.plan-planned.new.self } in
+    let b : Volume g.row.D.Denot = record a { engine = c.plan.new.self } in
     rw (p.1, p.2) (cause_then g.D.Device _ a b c.send_planned.new.self c.in_ok-plan.ensures.cause.kept (record { kept = tt; failed = c.in_err-send_planned.ensures.cause.failed }))
 
 pub returns-clause-replays : goal.returns-clause-replays
 returns-clause-replays g c = λ t has.
     let h = c.in_ok-plan.ensures in
     let a : Volume g.row.D.Denot = c.args.self.now in
-    let b : Volume g.row.D.Denot = record a { engine = c.plan-planned.new.self } in
+    let b : Volume g.row.D.Denot = record a { engine = c.plan.new.self } in
     let d : Volume g.row.D.Denot = record { engine = c.send_planned.new.self.engine; count = c.send_planned.new.self.count + 1 } in
     let plan : IsPlan (keys_of g.D.Device b.engine.pager) t c.args.placed.now.command c.in_ok-plan.plan =
     subst (λ (v : View). IsPlan (root_at v.tree.nodes v.tree.table) t c.args.placed.now.command c.in_ok-plan.plan) (sym h.read.view) (h.plan has.nodes t has.is_tree has.represents) in
@@ -80,7 +80,7 @@ returns-clause-sound g c = λ s.
 pub returns-clause-writes : goal.returns-clause-writes
 returns-clause-writes g c =
     let a : Volume g.row.D.Denot = c.args.self.now in
-    let b : Volume g.row.D.Denot = record a { engine = c.plan-planned.new.self } in
+    let b : Volume g.row.D.Denot = record a { engine = c.plan.new.self } in
     let d : Volume g.row.D.Denot = c.send_planned.new.self in
     let read = goes_read g.D.Device a b (g.met.D.Device.since_earlier b.engine.pager.dev) c.requires.going c.in_ok-plan.ensures.read in
     early_goes g.D.Device a (record d { count = d.count + 1 }) _ (goes_counted g.D.Device a d (d.count + 1) (goes_both g.D.Device a b d read (goes_ok g.D.Device b d _ c.in_ok-send_planned.ensures.writes)))
@@ -88,6 +88,6 @@ returns-clause-writes g c =
 pub returns-clause-cause : goal.returns-clause-cause
 returns-clause-cause g c =
     let a : Volume g.row.D.Denot = c.args.self.now in
-    let b : Volume g.row.D.Denot = record a { engine = c.plan-planned.new.self } in
+    let b : Volume g.row.D.Denot = record a { engine = c.plan.new.self } in
     let d : Volume g.row.D.Denot = record c.send_planned.new.self { count = c.send_planned.new.self.count + 1 } in
     cause_then g.D.Device _ a b d c.in_ok-plan.ensures.cause.kept (cause_ok g.D.Device b d _ c.in_ok-send_planned.ensures.cause.kept)

@@ -98,12 +98,12 @@ returns-clause-cause g c =
     let h = c.in-Err.ensures in
     let a : Volume g.row.D.Denot = record { engine = c.in_ok-engine.field-0.engine; count = c.saved_count-count.result } in
     subst (λ (d : g.row.D.Denot). IsStartCause g.D.Device c.args.device d c.in-Err.fault) (sym c.into_device.ensures)
-    (replay_cause g.D.Device c.args.device a c.replay.new.self e.fresh c.in_ok-engine.field-0.commands.items c.in-Err.fault c.log_records_are_prefix_free.ensures e.known e.stored e.placed e.each e.faults (subst (λ (l : List PlacedCommand). StopsReplaying g.D.Device c.in-Err.fault l a) c.deref.ensures.value h.fails) h.cause.failed)
+    (replay_cause g.D.Device c.args.device a c.replay.new.self e.fresh c.in_ok-engine.field-0.commands.items c.in-Err.fault c.log_records_are_prefix_free.ensures e.reads.kept e.known e.stored e.placed e.each e.faults (subst (λ (l : List PlacedCommand). StopsReplaying g.D.Device c.in-Err.fault l a) c.deref.ensures.value h.fails) h.cause.failed)
 
 pub returns-clause-undamaged : goal.returns-clause-undamaged
 returns-clause-undamaged g c = λ t n stands block.
     let a : Volume g.row.D.Denot = record { engine = c.in_ok-engine.field-0.engine; count = c.saved_count-count.result } in
-    replay_undamaged g.D.Device a c.in_ok-engine.ensures.fresh c.in_ok-engine.field-0.commands.items c.in-Err.fault block t n (c.in_ok-engine.ensures.replay t n stands) (subst (λ (l : List PlacedCommand). StopsReplaying g.D.Device c.in-Err.fault l a) c.deref.ensures.value c.in-Err.ensures.fails)
+    replay_undamaged g.D.Device a c.in_ok-engine.ensures.fresh c.in_ok-engine.field-0.commands.items c.in-Err.fault block t n (c.in_ok-engine.ensures.replay t n stands) c.sound_nodes_are_undamaged.ensures (subst (λ (l : List PlacedCommand). StopsReplaying g.D.Device c.in-Err.fault l a) c.deref.ensures.value c.in-Err.ensures.fails)
 
 pub returns-clause-wears : goal.returns-clause-wears
 returns-clause-wears g c = λ t n.
