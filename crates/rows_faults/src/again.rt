@@ -1,8 +1,8 @@
-//! A volume whose device fails at one call: after a failed read the same line has its reply, and after
-//! a failed write or barrier each call that can fail says that the volume was stopped, and by which
-//! call of the device.
+//! A volume whose device fails at one call: after a failed read the same line has its reply, and
+//! after a failed write or barrier each call that can fail says that the volume was stopped, and by
+//! which call of the device.
 
-use crate::asking::{fault_text, said, started, wanted};
+use crate::asking::{fault_text, gives, said, started, wanted};
 use crate::fields::{rich, rich_lines};
 use crate::moments::keeps;
 use crate::snapshot::Snapshot;
@@ -38,22 +38,29 @@ const AFTER: &[&str] = &["stat /", "mkdir /q", "sync", "checkpoint", "reclaim"];
 /// What a failed call of the device is answered.
 const FAILED: &str = "the device failed";
 
-/// What the lines are answered, by the plain program.
-fn replies(alloc: Global) -> Result<Vec<String>, Fail> {
+/// What a line is answered, by the plain program where it has that line.
+fn reply(alloc: Global, tree: &mut PlainTree, line: &str) -> Result<String, Fail> {
+    if keeps(line) {
+        return Ok(String::from_str(alloc, "ok")?);
+    }
+    wanted(alloc, tree, line)
+}
+
+/// The plain program after the lines that make the image.
+fn rich_tree(alloc: Global) -> Result<PlainTree, Fail> {
     let mut tree = PlainTree::new(alloc)?;
     for line in &rich_lines(alloc)? {
-        if !keeps(line) {
-            let _ = wanted(alloc, &mut tree, line)?;
-        }
+        let _ = reply(alloc, &mut tree, line)?;
     }
+    Ok(tree)
+}
+
+/// What the lines are answered.
+fn replies(alloc: Global) -> Result<Vec<String>, Fail> {
+    let mut tree = rich_tree(alloc)?;
     let mut all = Vec::new(alloc);
     for line in LINES {
-        let reply = if keeps(line) {
-            String::from_str(alloc, "ok")?
-        } else {
-            wanted(alloc, &mut tree, line)?
-        };
-        all.push(reply)?;
+        all.push(reply(alloc, &mut tree, line)?)?;
     }
     Ok(all)
 }
@@ -68,27 +75,32 @@ fn is_stopped(
     let want = fault_text(alloc, Fault::Stopped { call })?;
     assert_eq!(rt; volume.stopped(), Some(call));
     for line in AFTER {
-        let found = said(alloc, volume, line)?;
-        assert_eq!(rt; found.as_str(), want.as_str(), "{line}");
+        gives(rt, alloc, volume, line, &want)?;
     }
     Ok(())
 }
 
-/// Whether a volume gives this reply to a line.
-fn gives(
+/// Whether a volume whose last call of the device failed was stopped by it, and makes no more. Else
+/// whether it gives this reply to the line.
+fn is_done_or_stopped(
     rt: &impl Abort,
     alloc: Global,
     volume: &mut Volume<MemDevice>,
     line: &str,
     want: &str,
-) -> Result<(), Fail> {
-    let found = said(alloc, volume, line)?;
-    assert_eq!(rt; found.as_str(), want, "{line}");
-    Ok(())
+) -> Result<bool, Fail> {
+    if volume.stopped().is_none() {
+        gives(rt, alloc, volume, line, want)?;
+        return Ok(true);
+    }
+    let call = volume.calls();
+    is_stopped(rt, alloc, volume, call)?;
+    assert_eq!(rt; volume.calls(), call, "{line}");
+    Ok(false)
 }
 
-/// Whether a volume gives this reply to a line, at the second time where the device fails at a read.
-/// Else it was stopped.
+/// Whether a volume gives this reply to a line, at the second time where the device fails at a
+/// read. Else it was stopped.
 fn goes_on(
     rt: &impl Abort,
     alloc: Global,
@@ -102,13 +114,7 @@ fn goes_on(
     }
     let call = volume.calls();
     assert_eq!(rt; found.as_str(), FAILED, "call {call}: {line}");
-    if volume.stopped().is_none() {
-        gives(rt, alloc, volume, line, want)?;
-        return Ok(true);
-    }
-    is_stopped(rt, alloc, volume, call)?;
-    assert_eq!(rt; volume.calls(), call, "{line}");
-    Ok(false)
+    is_done_or_stopped(rt, alloc, volume, line, want)
 }
 
 /// Whether a volume gives the lines their replies, until it is stopped, if it is.
@@ -140,8 +146,39 @@ fn started_at_last(alloc: Global, device: MemDevice) -> Result<Volume<MemDevice>
     }
 }
 
-/// Whether a volume whose device fails at this call gives the lines their replies, or is stopped, as
-/// the failed call was one that writes. How many calls there were.
+/// How many calls a device has had, and how many of them failed, in all and of those that write.
+#[derive(Clone, Copy)]
+struct Counts {
+    calls: u64,
+    faults: u64,
+    write_faults: u64,
+}
+
+/// The counts of a device.
+fn counts_of(device: &MemDevice) -> Counts {
+    Counts {
+        calls: device.calls(),
+        faults: device.faults(),
+        write_faults: device.write_faults(),
+    }
+}
+
+/// Whether a volume gives the lines their replies, until it is stopped, if it is, and the counts of
+/// its device after them.
+fn counts_after(
+    rt: &impl Abort,
+    alloc: Global,
+    mut volume: Volume<MemDevice>,
+    replies: &[String],
+) -> Result<(bool, Counts), Fail> {
+    match gives_replies(rt, alloc, &mut volume, replies) {
+        Ok(is_whole) => Ok((is_whole, counts_of(&volume.into_device()))),
+        Err(fail) => Err(fail),
+    }
+}
+
+/// Whether a volume whose device fails at this call gives the lines their replies, or is stopped,
+/// as the failed call was one that writes. How many calls there were.
 fn is_right(
     rt: &impl Abort,
     alloc: Global,
@@ -149,18 +186,34 @@ fn is_right(
     replies: &[String],
     call: u64,
 ) -> Result<u64, Fail> {
-    let mut volume = started_at_last(alloc, image.device(alloc, &[call])?)?;
+    let volume = started_at_last(alloc, image.device(alloc, &[call])?)?;
     let begun = volume.calls();
-    let is_whole = gives_replies(rt, alloc, &mut volume, replies)?;
-    let device = volume.into_device();
-    let is_written = call > begun && device.write_faults() > 0;
+    let (is_whole, counts) = counts_after(rt, alloc, volume, replies)?;
+    let is_written = call > begun && counts.write_faults > 0;
     assert_eq!(rt; is_whole, !is_written, "call {call}");
     assert_eq!(rt;
-        device.faults(),
-        u64::from(call <= device.calls()),
+        counts.faults,
+        u64::from(call <= counts.calls),
         "call {call}"
     );
-    Ok(device.calls())
+    Ok(counts.calls)
+}
+
+/// Whether a volume is right at a failure of each call after the image is made. There are enough
+/// of them.
+fn are_right(
+    rt: &impl Abort,
+    alloc: Global,
+    image: &Snapshot,
+    replies: &[String],
+) -> Result<(), Fail> {
+    let first = image.calls().saturating_add(1);
+    let calls = is_right(rt, alloc, image, replies, u64::MAX)?;
+    assert!(rt; calls > first.saturating_add(300), "{calls} calls");
+    for call in first..=calls {
+        let _ = is_right(rt, alloc, image, replies, call)?;
+    }
+    Ok(())
 }
 
 #[test]
@@ -168,11 +221,5 @@ fn each_failing_call_is_tried_again_or_stops_it(rt: HostRuntime) -> Result<(), F
     let alloc = rt.alloc();
     let image = rich(&rt, alloc)?;
     let replies = replies(alloc)?;
-    let first = image.calls().saturating_add(1);
-    let calls = is_right(&rt, alloc, &image, &replies, u64::MAX)?;
-    assert!(rt; calls > first.saturating_add(300), "{calls} calls");
-    for call in first..=calls {
-        let _ = is_right(&rt, alloc, &image, &replies, call)?;
-    }
-    Ok(())
+    are_right(&rt, alloc, &image, &replies)
 }

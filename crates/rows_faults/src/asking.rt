@@ -12,6 +12,7 @@ use bd_slots::image_blocks;
 use bd_volume::{Fault, Refused, Volume};
 use rows_tools::{plain_answer, text_of};
 use std::alloc::{AllocError, Global};
+use std::process::Abort;
 use std::test::Fail;
 
 /// How many writes a device has room for.
@@ -44,8 +45,33 @@ pub fn said<D: Device>(alloc: Global, volume: &mut Volume<D>, line: &str) -> Res
         Ok(Line::Sync) => done(alloc, volume.sync()),
         Ok(Line::Checkpoint) => done(alloc, volume.checkpoint()),
         Ok(Line::Reclaim) => done(alloc, volume.reclaim()),
-        Ok(Line::Df) | Ok(Line::Walk) | Ok(Line::Stop) | Err(_) => Err(Fail::new("no such line")),
+        Ok(Line::Df) | Ok(Line::Walk) | Ok(Line::Stop) => Err(Fail::new("no such line")),
+        Err(fault) => Err(Fail::from(fault)),
     }
+}
+
+/// Whether a volume gives this reply to a line.
+pub fn gives(
+    rt: &impl Abort,
+    alloc: Global,
+    volume: &mut Volume<MemDevice>,
+    line: &str,
+    want: &str,
+) -> Result<(), Fail> {
+    let found = said(alloc, volume, line)?;
+    assert_eq!(rt; found.as_str(), want, "{line}");
+    Ok(())
+}
+
+/// Whether a text is a reply.
+pub fn is_reply(text: &str) -> bool {
+    text.starts_with("ok") || text.starts_with("no ")
+}
+
+/// Whether a text says that a block is damaged.
+pub fn names_damage(alloc: Global, text: &str, block: u64) -> Result<bool, Fail> {
+    let want = format!(in alloc; "block {block} is damaged")?;
+    Ok(text == want.as_str())
 }
 
 /// The text of what a volume answers to a command.

@@ -1,8 +1,8 @@
-//! Lines that are cut off after so many calls of the device, the power then being lost. The lines are
-//! run once: the device of each cut is made from the record of their writes.
+//! Lines that are cut off after so many calls of the device, the power then being lost. The lines
+//! are run once: the device of each cut is made from the record of their writes.
 
-use crate::asking::{WRITES, formatted, said, started, wanted};
-use crate::moments::{Moment, calls_of, execute_lines, keeps, moment_after};
+use crate::asking::{WRITES, said, started, wanted};
+use crate::moments::{Moment, calls_of, keeps, moment_after};
 use crate::snapshot::write;
 use bd_device::{Device, MemDevice, Torn, WriteRecord};
 use bd_plain::PlainTree;
@@ -14,7 +14,8 @@ use std::process::Abort;
 use std::test::Fail;
 
 /// Lines, on how many slots they are run, and what is asked after each cut; how many calls are from
-/// one cut to the next with the same way of tearing, and from one way's first cut to the next one's.
+/// one cut to the next with the same way of tearing, and from one way's first cut to the next
+/// one's.
 #[derive(Drop)]
 pub struct Script<'a> {
     pub lines: &'a [String],
@@ -95,6 +96,21 @@ fn after_calls(
     Ok(device)
 }
 
+/// Whether a volume answers a question as the plain program does.
+fn is_same(
+    rt: &impl Abort,
+    alloc: Global,
+    again: &mut Volume<MemDevice>,
+    moment: Moment,
+    tree: &mut PlainTree,
+    line: &str,
+) -> Result<(), Fail> {
+    let want = wanted(alloc, tree, line)?;
+    let found = said(alloc, again, line)?;
+    assert_eq!(rt; found.as_str(), want.as_str(), "{moment:?} {line}");
+    Ok(())
+}
+
 /// Whether a volume has the tree after as many accepted commands as it counts, which are at least
 /// those that were kept.
 fn is_front(
@@ -112,9 +128,7 @@ fn is_front(
     );
     plain.go_on(alloc, count)?;
     for line in questions {
-        let found = said(alloc, again, line)?;
-        let want = wanted(alloc, &mut plain.tree, line)?;
-        assert_eq!(rt; found.as_str(), want.as_str(), "{moment:?} {line}");
+        is_same(rt, alloc, again, moment, &mut plain.tree, line)?;
     }
     Ok(())
 }
@@ -150,17 +164,6 @@ fn have_fronts(
         has_front(rt, alloc, device, moment, &mut plain, script.questions)?;
     }
     Ok(())
-}
-
-/// The device after lines, and what is so after each.
-pub fn ran(
-    rt: &impl Abort,
-    alloc: Global,
-    script: &Script,
-) -> Result<(MemDevice, Vec<Moment>), Fail> {
-    let mut volume = formatted(alloc, script.slots)?;
-    let moments = execute_lines(rt, alloc, &mut volume, script.lines)?;
-    Ok((volume.into_device(), moments))
 }
 
 /// Whether lines with these writes that are cut off leave fronts, with each way of tearing.

@@ -1,7 +1,7 @@
 //! An image with clones and nodes on two levels, and where its numbers stand.
 
-use crate::asking::{extend, formatted, piece_line, texts};
-use crate::moments::execute_lines;
+use crate::asking::{extend, piece_line, texts};
+use crate::moments::ran;
 use crate::snapshot::{Snapshot, read};
 use bd_device::MemDevice;
 use bd_limits::{BLOCK_SIZE, SLOT_BLOCKS, SLOT_SIZE};
@@ -58,9 +58,7 @@ pub fn rich_lines(alloc: Global) -> Result<Vec<String>, Fail> {
 
 /// The image.
 pub fn rich(rt: &impl Abort, alloc: Global) -> Result<Snapshot, Fail> {
-    let mut volume = formatted(alloc, SLOTS)?;
-    let _ = execute_lines(rt, alloc, &mut volume, &rich_lines(alloc)?)?;
-    let mut device = volume.into_device();
+    let (mut device, _moments) = ran(rt, alloc, SLOTS, &rich_lines(alloc)?)?;
     Snapshot::of(alloc, &mut device)
 }
 
@@ -119,6 +117,20 @@ impl Reader<'_> {
         Ok(value)
     }
 
+    /// Reads numbers, of each of which the width and the limit are given.
+    fn numbers(&mut self, list: &[(usize, u64)]) -> Result<(), Fail> {
+        for (width, limit) in list {
+            let _ = self.number(*width, *limit)?;
+        }
+        Ok(())
+    }
+
+    /// Reads the number of a slot.
+    fn slot(&mut self) -> Result<u32, Fail> {
+        let slot = self.number(4, u64::from(SLOTS) - 1)?;
+        Ok(u32::try_from(slot).unwrap_or(u32::MAX))
+    }
+
     /// Passes over so many bytes.
     fn skip(&mut self, count: u64) -> Result<(), Fail> {
         let _ = self.cursor.bytes(count as usize)?;
@@ -139,14 +151,13 @@ impl Reader<'_> {
         match tag {
             1 => self.text(1_024),
             3 => {
-                let _ = self.number(2, 1_024)?;
+                self.numbers(&[(2, 1_024)])?;
                 self.text(1_024)
             }
             4 => self.text(518),
             5 => {
                 self.text(518)?;
-                let _ = self.number(8, 0)?;
-                Ok(())
+                self.numbers(&[(8, 0)])
             }
             _ => Ok(()),
         }
@@ -155,11 +166,19 @@ impl Reader<'_> {
     /// Passes over an edge of a node with so many messages.
     fn edge(&mut self, messages: u64) -> Result<(), Fail> {
         self.text(518)?;
-        let _ = self.number(2, 518)?;
+        self.numbers(&[(2, 518)])?;
         self.text(518)?;
-        let _ = self.number(8, 0)?;
-        let _ = self.number(4, messages)?;
-        Ok(())
+        self.numbers(&[(8, 0), (4, messages)])
+    }
+
+    /// Passes over an entry of a node of this level with so many messages: a key and its value, or
+    /// an edge.
+    fn entry(&mut self, level: u64, messages: u64) -> Result<(), Fail> {
+        if level > 0 {
+            return self.edge(messages);
+        }
+        self.text(518)?;
+        self.text(1_024)
     }
 
     /// Passes over a node.
@@ -169,12 +188,7 @@ impl Reader<'_> {
         let count = self.number(4, 16)?;
         let messages = self.number(4, 0)?;
         for _ in 0..count {
-            if level == 0 {
-                self.text(518)?;
-                self.text(1_024)?;
-            } else {
-                self.edge(messages)?;
-            }
+            self.entry(level, messages)?;
         }
         for _ in 0..messages {
             self.message()?;
@@ -182,18 +196,21 @@ impl Reader<'_> {
         Ok(())
     }
 
+    /// Passes over what a table has of a node, and says in which slot the node is.
+    fn placed(&mut self) -> Result<u32, Fail> {
+        self.numbers(&[(8, 0), (8, 0)])?;
+        let slot = self.slot()?;
+        self.numbers(&[(4, 1_000)])?;
+        Ok(slot)
+    }
+
     /// Passes over a table, and says in which slots the nodes are.
     fn table(&mut self, slots: &mut Vec<u32>) -> Result<(), Fail> {
         self.skip(8)?;
         let count = self.number(8, 65_536)?;
-        let _ = self.number(8, 0)?;
-        let _ = self.number(8, 0)?;
+        self.numbers(&[(8, 0), (8, 0)])?;
         for _ in 0..count {
-            let _ = self.number(8, 0)?;
-            let _ = self.number(8, 0)?;
-            let slot = self.number(4, u64::from(SLOTS) - 1)?;
-            slots.push(u32::try_from(slot).unwrap_or(u32::MAX))?;
-            let _ = self.number(4, 1_000)?;
+            slots.push(self.placed()?)?;
         }
         Ok(())
     }
@@ -201,34 +218,25 @@ impl Reader<'_> {
     /// Passes over a superblock of one table slot: its epoch and that slot.
     fn superblock(&mut self) -> Result<(u64, u32), Fail> {
         self.skip(8)?;
-        let _ = self.number(4, 2)?;
-        let _ = self.number(4, u64::from(SLOTS))?;
+        self.numbers(&[(4, 2), (4, u64::from(SLOTS))])?;
         let epoch = self.number(8, 0)?;
-        let _ = self.number(8, 0)?;
-        let _ = self.number(4, 25)?;
-        let slot = self.number(4, u64::from(SLOTS) - 1)?;
-        Ok((epoch, u32::try_from(slot).unwrap_or(u32::MAX)))
+        self.numbers(&[(8, 0), (4, 25)])?;
+        Ok((epoch, self.slot()?))
     }
 
     /// Passes over a log record.
     fn record(&mut self) -> Result<(), Fail> {
-        let _ = self.number(2, 2_571)?;
+        self.numbers(&[(2, 2_571)])?;
         let tag = self.number(1, 8)?;
         self.text(512)?;
         match tag {
             3 => {
-                let _ = self.number(4, 1_073_741_824)?;
+                self.numbers(&[(4, 1_073_741_824)])?;
                 self.text(2_048)
             }
-            4 => {
-                let _ = self.number(4, 1_073_741_824)?;
-                Ok(())
-            }
+            4 => self.numbers(&[(4, 1_073_741_824)]),
             6 | 7 => self.text(512),
-            8 => {
-                let _ = self.number(2, 4_095)?;
-                Ok(())
-            }
+            8 => self.numbers(&[(2, 4_095)]),
             _ => Ok(()),
         }
     }
@@ -236,10 +244,9 @@ impl Reader<'_> {
     /// Passes over a batch.
     fn batch(&mut self) -> Result<(), Fail> {
         self.skip(4)?;
-        let _ = self.number(4, 62)?;
-        let _ = self.number(8, 0)?;
+        self.numbers(&[(4, 62), (8, 0)])?;
         let records = self.number(4, 0)?;
-        let _ = self.number(4, 253_928)?;
+        self.numbers(&[(4, 253_928)])?;
         for _ in 0..records {
             self.record()?;
         }

@@ -1,9 +1,9 @@
-//! The scripts that are cut off: one of each step of the log and of checkpoints, and one whose nodes
-//! flush, split and are written early.
+//! The scripts that are cut off: one of each step of the log and of checkpoints, and one whose
+//! nodes flush, split and are written early.
 
 use crate::asking::{extend, piece_line, texts};
-use crate::cuts::{Script, leave_fronts, ran};
-use crate::moments::Moment;
+use crate::cuts::{Script, leave_fronts};
+use crate::moments::{Moment, ran};
 use std::alloc::Global;
 use std::test::Fail;
 
@@ -32,9 +32,9 @@ const PIECES: u32 = 160;
 fn questions(alloc: Global, paths: &[&str]) -> Result<Vec<String>, Fail> {
     let mut all = Vec::new(alloc);
     for path in paths {
-        all.push(format!(in alloc; "stat {path}")?)?;
-        all.push(format!(in alloc; "list {path}")?)?;
-        all.push(format!(in alloc; "read {path} 0 4096")?)?;
+        for (verb, rest) in [("stat", ""), ("list", ""), ("read", " 0 4096")] {
+            all.push(format!(in alloc; "{verb} {path}{rest}")?)?;
+        }
     }
     Ok(all)
 }
@@ -51,7 +51,7 @@ fn a_script_cut_off_at_each_call_leaves_a_front(rt: HostRuntime) -> Result<(), F
         step: 1,
         shift: 0,
     };
-    let (device, moments) = ran(&rt, rt.alloc(), &script)?;
+    let (device, moments) = ran(&rt, rt.alloc(), script.slots, &lines)?;
     assert_eq!(rt; moments.last().map(|moment| moment.accepted), Some(6));
     leave_fronts(&rt, rt.alloc(), &script, device.writes(), &moments)
 }
@@ -70,8 +70,8 @@ fn after_pieces(made: u32) -> &'static [&'static str] {
     }
 }
 
-/// The lines of the long script: pieces of a file, each at another place than the one before it, with
-/// other lines between.
+/// The lines of the long script: pieces of a file, each at another place than the one before it,
+/// with other lines between.
 fn long_lines(alloc: Global) -> Result<Vec<String>, Fail> {
     let mut lines = texts(alloc, &["mkdir /d", "create /d/f"])?;
     for made in 1..=PIECES {
@@ -118,7 +118,7 @@ fn a_long_script_cut_off_at_every_seventh_call_leaves_a_front(rt: HostRuntime) -
         step: 35,
         shift: 7,
     };
-    let (device, moments) = ran(&rt, rt.alloc(), &script)?;
+    let (device, moments) = ran(&rt, rt.alloc(), script.slots, &lines)?;
     let early = early_lines(&lines, &moments);
     assert!(rt; early >= 5, "{early} lines wrote nodes");
     leave_fronts(&rt, rt.alloc(), &script, device.writes(), &moments)

@@ -1,6 +1,7 @@
-//! Images with other bytes than a run leaves, and what a start from them, and `stat /`, is answered.
+//! Images with other bytes than a run leaves, and what a start from them, and `stat /`, is
+//! answered.
 
-use crate::asking::{WRITES, fault_text, formatted, said};
+use crate::asking::{WRITES, fault_text, formatted, is_reply, names_damage, said};
 use crate::snapshot::{Snapshot, overwrite, read, write};
 use bd_device::MemDevice;
 use bd_volume::{Refused, Volume};
@@ -85,12 +86,17 @@ fn fewer_blocks_than_an_image_has_are_damage(rt: HostRuntime) -> Result<(), Fail
     Ok(())
 }
 
+/// Makes the second superblock a copy of the first one, and commits it.
+fn copy_first(device: &mut MemDevice) -> Result<(), Fail> {
+    let body = read(device, 1)?;
+    write(device, 3, &body)?;
+    overwrite(device, 2, 0, &[1])
+}
+
 /// The answer where the second superblock is committed and a copy of the first one.
 fn with_a_copy(alloc: Global) -> Result<String, Fail> {
     let mut device = fresh(alloc)?.device(alloc, &[])?;
-    let body = read(&mut device, 1)?;
-    write(&mut device, 3, &body)?;
-    overwrite(&mut device, 2, 0, &[1])?;
+    copy_first(&mut device)?;
     answer(alloc, device, "stat /")
 }
 
@@ -101,12 +107,18 @@ fn two_superblocks_of_one_epoch_are_damage(rt: HostRuntime) -> Result<(), Fail> 
     Ok(())
 }
 
-/// The parts of a new image, and which damage a byte of 255 in each may be beside its own: that of the
-/// root's slot, where the table tells another level, and of the table, where the root has a child.
+/// The parts of a new image, and which damage a byte of 255 in each may be beside its own: that of
+/// the root's slot, where the table tells another level, and of the table, where the root has a
+/// child.
 const PARTS: &[(u64, u64)] = &[(1, 1), (148, 132), (132, 148)];
 
-/// Whether an image with a byte of 255 in a part has a reply, or damage of that part or of this other
-/// one.
+/// Whether a text is a reply, or names damage of this block or of this other one.
+fn is_allowed(alloc: Global, text: &str, block: u64, other: u64) -> Result<bool, Fail> {
+    Ok(is_reply(text) || names_damage(alloc, text, block)? || names_damage(alloc, text, other)?)
+}
+
+/// Whether an image with a byte of 255 in a part has a reply, or damage of that part or of this
+/// other one.
 fn is_answered(
     rt: &impl Abort,
     alloc: Global,
@@ -115,17 +127,9 @@ fn is_answered(
     other: u64,
     place: usize,
 ) -> Result<(), Fail> {
-    let mut device = image.device(alloc, &[])?;
-    overwrite(&mut device, block, place, &[255])?;
-    let found = answer(alloc, device, "stat /")?;
-    let here = format!(in alloc; "block {block} is damaged")?;
-    let there = format!(in alloc; "block {other} is damaged")?;
-    let is_damage = found.as_str() == here.as_str() || found.as_str() == there.as_str();
-    let is_reply = found.starts_with("ok") || found.starts_with("no ");
-    assert!(rt;
-        is_damage || is_reply,
-        "block {block}, place {place}: {found}"
-    );
+    let found = changed(alloc, image, &[(block, place, &[255])])?;
+    let is_right = is_allowed(alloc, &found, block, other)?;
+    assert!(rt; is_right, "block {block}, place {place}: {found}");
     Ok(())
 }
 

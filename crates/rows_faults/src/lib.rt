@@ -1,6 +1,6 @@
-//! The tests of what fails: a device that fails at each of a volume's calls, scripts that are cut off
-//! at each call with the power lost, images with other bytes, nodes that represent no tree, and want
-//! of memory.
+//! The tests of what fails: a device that fails at each of a volume's calls, scripts that are cut
+//! off at each call with the power lost, images with other bytes, nodes that represent no tree, and
+//! want of memory.
 //! Nothing stands on this crate.
 #![tactic(auto)]
 

@@ -1,6 +1,6 @@
-//! Want of memory. Where a volume refuses a line for it, each path reads as before, and the same line
-//! is done at the second time. No allocation fails of itself: `rt try --test --fail-alloc N` makes the
-//! Nth one fail. Where it is one of the test's own, the test ends there.
+//! Want of memory. Where a volume refuses a line for it, each path reads as before, and the same
+//! line is done at the second time. No allocation fails of itself: `rt try --test --fail-alloc N`
+//! makes the Nth one fail. Where it is one of the test's own, the test ends there.
 
 ghost use Rattle.bd_command.specs.Command.{IsCommand};
 
@@ -66,7 +66,9 @@ fn ended_by(rt: &impl Abort, fault: Fault) -> Ended {
     match fault {
         Fault::NoMemory => Ended::NoMemory,
         Fault::Full { .. } => Ended::Full,
-        _ => panic!(rt; "{fault}"),
+        Fault::Device | Fault::Damaged { .. } | Fault::Worn(_) | Fault::Stopped { .. } => {
+            panic!(rt; "{fault}")
+        }
     }
 }
 
@@ -104,6 +106,11 @@ fn are_same(found: &Reply, want: &Reply) -> bool {
     }
 }
 
+/// Whether a reply to a command is the one that is wanted.
+fn is_wanted(rt: &impl Abort, command: &Command, found: &Reply, want: &Reply) {
+    assert!(rt; are_same(found, want), "{command:?}: {found:?}, {want:?}");
+}
+
 impl<'a> Pair<'a> {
     /// A volume on a new image of so many slots.
     fn new(
@@ -128,9 +135,13 @@ impl<'a> Pair<'a> {
         command: &Command,
         found: &Reply,
     ) -> Result<Ended, AllocError> {
-        let want = self.tree.step(alloc, command)?;
-        assert!(rt; are_same(found, &want), "{command:?}: {found:?}, {want:?}");
-        Ok(Ended::Done)
+        match self.tree.step(alloc, command) {
+            Ok(want) => {
+                is_wanted(rt, command, found, &want);
+                Ok(Ended::Done)
+            }
+            Err(AllocError) => Err(AllocError),
+        }
     }
 
     /// Executes a command, which the plain program does where the volume replies.
@@ -155,8 +166,9 @@ impl<'a> Pair<'a> {
             Ok(Line::Sync) => Ok(ended_as(rt, self.volume.sync())),
             Ok(Line::Checkpoint) => Ok(ended_as(rt, self.volume.checkpoint())),
             Ok(Line::Reclaim) => Ok(ended_as(rt, self.volume.reclaim())),
+            Ok(Line::Df) | Ok(Line::Walk) | Ok(Line::Stop) => panic!(rt; "no such line"),
             Err(LineFault::NoMemory) => Err(AllocError),
-            _ => panic!(rt; "no such line"),
+            Err(LineFault::BadLine) | Err(LineFault::BadPath) => panic!(rt; "no such line"),
         }
     }
 
@@ -185,11 +197,17 @@ impl<'a> Pair<'a> {
         self.once(rt, alloc, line)
     }
 
+    /// Executes a line, which is done.
+    fn done(&mut self, rt: &impl Abort, alloc: Global, line: &str) -> Result<(), AllocError> {
+        let ended = self.line(rt, alloc, line)?;
+        assert_eq!(rt; ended, Ended::Done, "{line}");
+        Ok(())
+    }
+
     /// Executes lines, each of which is done.
     fn lines(&mut self, rt: &impl Abort, alloc: Global, lines: &[&str]) -> Result<(), AllocError> {
         for line in lines {
-            let ended = self.line(rt, alloc, line)?;
-            assert_eq!(rt; ended, Ended::Done, "{line}");
+            self.done(rt, alloc, line)?;
         }
         Ok(())
     }
@@ -218,8 +236,7 @@ impl<'a> Pair<'a> {
     /// Asks all at the end. How many lines were refused for want of memory.
     fn end(&mut self, rt: &impl Abort, alloc: Global) -> Result<u32, AllocError> {
         for question in self.questions {
-            let ended = self.line(rt, alloc, question)?;
-            assert_eq!(rt; ended, Ended::Done, "{question}");
+            self.done(rt, alloc, question)?;
         }
         Ok(self.refused)
     }
@@ -232,8 +249,9 @@ fn ask_of(
     path: &str,
     length: u32,
 ) -> Result<(), AllocError> {
-    questions.push(format!(in alloc; "stat {path}")?)?;
-    questions.push(format!(in alloc; "list {path}")?)?;
+    for verb in ["stat", "list"] {
+        questions.push(format!(in alloc; "{verb} {path}")?)?;
+    }
     for off in (0..length).step_by(4_096) {
         questions.push(format!(in alloc; "read {path} {off} 4096")?)?;
     }
@@ -402,8 +420,7 @@ fn long_questions(alloc: Global) -> Result<Vec<String>, AllocError> {
 /// A directory is renamed in which a path has the greatest length.
 fn rename_long(rt: &impl Abort, alloc: Global, pair: &mut Pair<'_>) -> Result<u32, AllocError> {
     for line in &long_texts(alloc, LONG)? {
-        let ended = pair.line(rt, alloc, line)?;
-        assert_eq!(rt; ended, Ended::Done, "{line}");
+        pair.done(rt, alloc, line)?;
     }
     pair.end(rt, alloc)
 }

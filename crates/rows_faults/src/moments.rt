@@ -1,6 +1,6 @@
 //! Lines that a volume executes, and what is so after each.
 
-use crate::asking::said;
+use crate::asking::{formatted, gives};
 use bd_device::{Device, MemDevice};
 use bd_volume::Volume;
 use std::alloc::Global;
@@ -43,14 +43,27 @@ pub fn execute_lines(
     let mut kept = 0;
     moments.push(moment_of(volume, kept))?;
     for line in lines {
-        let found = said(alloc, volume, line)?;
-        assert_eq!(rt; found.as_str(), "ok", "{line}");
+        gives(rt, alloc, volume, line, "ok")?;
         if keeps(line) {
             kept = volume.count();
         }
         moments.push(moment_of(volume, kept))?;
     }
     Ok(moments)
+}
+
+/// The device after these lines on a new image of so many slots, and what is so after each.
+pub fn ran(
+    rt: &impl Abort,
+    alloc: Global,
+    slots: u32,
+    lines: &[String],
+) -> Result<(MemDevice, Vec<Moment>), Fail> {
+    let mut volume = formatted(alloc, slots)?;
+    match execute_lines(rt, alloc, &mut volume, lines) {
+        Ok(moments) => Ok((volume.into_device(), moments)),
+        Err(fail) => Err(fail),
+    }
 }
 
 /// The last of the moments that was there after so many calls.

@@ -1,11 +1,11 @@
 //! Images of which one number is another one: each call returns, with a reply, damage or a worn
 //! counter.
 
-use crate::asking::{fault_text, said};
+use crate::asking::{fault_text, is_reply, names_damage, said};
 use crate::fields::{BATCH, Field, Part, all_fields, rich};
 use crate::snapshot::{Snapshot, overwrite};
 use bd_device::MemDevice;
-use bd_volume::{Refused, Volume};
+use bd_volume::{Fault, Refused, Volume};
 use std::alloc::Global;
 use std::process::Abort;
 use std::test::Fail;
@@ -52,11 +52,32 @@ fn changed(alloc: Global, image: &Snapshot, field: &Field, value: u64) -> Result
 
 /// Whether an answer is a reply, damage or a worn counter.
 fn is_allowed(text: &str) -> bool {
-    text.starts_with("ok")
-        || text.starts_with("no ")
+    is_reply(text)
         || text.starts_with("block ")
         || text.starts_with("the counter ")
         || text.ends_with(" are needed")
+}
+
+/// What a volume answers to a line, where that is allowed.
+fn allowed_answer(
+    rt: &impl Abort,
+    alloc: Global,
+    volume: &mut Volume<MemDevice>,
+    field: &Field,
+    line: &str,
+) -> Result<String, Fail> {
+    let found = said(alloc, volume, line)?;
+    assert!(rt; is_allowed(&found), "{field:?} {line}: {found}");
+    Ok(found)
+}
+
+/// The first of two damages, where an answer names the second one, if any.
+fn first_damage(damage: Option<String>, answer: String) -> Option<String> {
+    if damage.is_none() && answer.starts_with("block ") {
+        Some(answer)
+    } else {
+        damage
+    }
 }
 
 /// The first damage that a volume's answers name, where all of them are allowed.
@@ -68,13 +89,21 @@ fn damage_in(
 ) -> Result<Option<String>, Fail> {
     let mut damage = None;
     for line in LINES {
-        let found = said(alloc, volume, line)?;
-        assert!(rt; is_allowed(&found), "{field:?} {line}: {found}");
-        if damage.is_none() && found.starts_with("block ") {
-            damage = Some(found);
-        }
+        damage = first_damage(damage, allowed_answer(rt, alloc, volume, field, line)?);
     }
     Ok(damage)
+}
+
+/// The text of a fault of a start, where that is allowed.
+fn allowed_fault(
+    rt: &impl Abort,
+    alloc: Global,
+    fault: Fault,
+    field: &Field,
+) -> Result<String, Fail> {
+    let text = fault_text(alloc, fault)?;
+    assert!(rt; is_allowed(&text), "{field:?}: {text}");
+    Ok(text)
 }
 
 /// The first damage that a start and the lines name.
@@ -86,18 +115,20 @@ fn damage(
 ) -> Result<Option<String>, Fail> {
     match Volume::start(alloc, device) {
         Ok(mut volume) => damage_in(rt, alloc, &mut volume, field),
-        Err(Refused { fault, .. }) => {
-            let text = fault_text(alloc, fault)?;
-            assert!(rt; is_allowed(&text), "{field:?}: {text}");
-            Ok(Some(text))
-        }
+        Err(Refused { fault, .. }) => Ok(Some(allowed_fault(rt, alloc, fault, field)?)),
     }
 }
 
-/// Whether a text says that a block is damaged.
-fn names(alloc: Global, text: &str, block: u64) -> Result<bool, Fail> {
-    let want = format!(in alloc; "block {block} is damaged")?;
-    Ok(text == want.as_str())
+/// Whether a text names the damage of a field, or where it is one of a node, of the table or of the
+/// batch.
+fn names_its_damage(alloc: Global, field: &Field, table: u64, text: &str) -> Result<bool, Fail> {
+    if names_damage(alloc, text, field.block)? {
+        return Ok(true);
+    }
+    if field.part != Part::Node {
+        return Ok(false);
+    }
+    Ok(names_damage(alloc, text, table)? || names_damage(alloc, text, BATCH)?)
 }
 
 /// Whether the damage that is named where a number is another one is right: in a batch it is the
@@ -113,12 +144,8 @@ fn is_named(
     if !found.starts_with("block ") || field.part == Part::Superblock || field.part == Part::Table {
         return Ok(());
     }
-    let is_own = names(alloc, found, field.block)?;
-    let is_other = names(alloc, found, table)? || names(alloc, found, BATCH)?;
-    assert!(rt;
-        is_own || is_other && field.part == Part::Node,
-        "{field:?}: {found}"
-    );
+    let is_right = names_its_damage(alloc, field, table, found)?;
+    assert!(rt; is_right, "{field:?}: {found}");
     Ok(())
 }
 
@@ -156,21 +183,39 @@ fn fields_of(alloc: Global, image: &Snapshot) -> Result<Vec<Field>, Fail> {
     all_fields(alloc, &mut image.device(alloc, &[])?)
 }
 
-/// Whether images are answered of which a number is the other one of this index.
-fn are_answered(rt: &impl Abort, alloc: Global, index: usize) -> Result<(), Fail> {
-    let image = rich(rt, alloc)?;
-    let fields = fields_of(alloc, &image)?;
-    let table = table_block(&fields);
+/// The field of one of the numbers that are changed.
+fn field_of(fields: &[Field], number: usize) -> Result<&Field, Fail> {
+    match fields.get(number.wrapping_mul(fields.len()) / NUMBERS) {
+        Some(field) => Ok(field),
+        None => Err(Fail::new("no such number")),
+    }
+}
+
+/// Whether images are answered of which a number is the other one of this index. How many of them
+/// are damaged.
+fn damaged_images(
+    rt: &impl Abort,
+    alloc: Global,
+    image: &Snapshot,
+    fields: &[Field],
+    index: usize,
+) -> Result<usize, Fail> {
+    let table = table_block(fields);
     let mut damaged = 0usize;
     for number in 0..NUMBERS {
-        let place = number.wrapping_mul(fields.len()) / NUMBERS;
-        let Some(field) = fields.get(place) else {
-            return Err(Fail::new("no such number"));
-        };
-        if is_right(rt, alloc, &image, field, index, table)? {
+        if is_right(rt, alloc, image, field_of(fields, number)?, index, table)? {
             damaged = damaged.saturating_add(1);
         }
     }
+    Ok(damaged)
+}
+
+/// Whether images are answered of which a number is the other one of this index, and enough of them
+/// are damaged.
+fn are_answered(rt: &impl Abort, alloc: Global, index: usize) -> Result<(), Fail> {
+    let image = rich(rt, alloc)?;
+    let fields = fields_of(alloc, &image)?;
+    let damaged = damaged_images(rt, alloc, &image, &fields, index)?;
     assert!(rt; fields.len() >= 200, "{} numbers", fields.len());
     assert!(rt; damaged >= 10, "{damaged} images are damaged");
     Ok(())
