@@ -119,9 +119,9 @@ pub trait Device {
         ensures same_loans { loans self.new ≡ loans self.old }
         ensures also { also self.old self.new (is_ok result) };
 
-    /// Reads so many blocks, from block `first` on, into the front of `into`: in one call, or in one
-    /// for each block up to the first that fails. `Failed` comes as of `read`, and only of the last
-    /// call; `into` then holds any bytes.
+    /// Reads so many blocks, from block `first` on, into the front of `into`: in one call, or in
+    /// one for each block up to the first that fails. `Failed` comes as of `read`, and only of the
+    /// last call; `into` then holds any bytes.
     #[tactic(auto, using(crate::proofs::Calls::calls))]
     fn read_run(&mut self, first: u64, into: &mut [u8], count: usize) -> Result<(), Failed>
         requires room { first + count ≤ block_count self.old }
@@ -150,8 +150,8 @@ pub trait Device {
 
     /// Writes so many blocks, from block `first` on, of the front of `from`: in one call, or in one
     /// for each block up to the first that fails. `Failed` comes as of `read`, and only of the last
-    /// call. These blocks then hold any bytes, and the others stay. Until a barrier succeeds a crash
-    /// may leave any bytes in each of these blocks, also after `Failed`.
+    /// call. These blocks then hold any bytes, and the others stay. Until a barrier succeeds a
+    /// crash may leave any bytes in each of these blocks, also after `Failed`.
     #[tactic(auto, using(crate::proofs::Calls::calls))]
     fn write_run(&mut self, first: u64, from: &[u8], count: usize) -> Result<(), Failed>
         requires room { first + count ≤ block_count self.old }

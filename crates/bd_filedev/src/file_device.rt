@@ -14,10 +14,10 @@ use std::marker::Model;
 /// one has it, and where the name is of no regular file.
 ///
 /// Each error of the file is a fault. After a barrier that failed each write and each barrier fails
-/// until the next attach, since the system may have dropped what was written. A run of blocks is read
-/// or written in one call. At a count of calls that stands at its last value a call may reach the
-/// file, and fails. What the file holds isn't
-/// known; the device is seen as its size and its counts.
+/// until the next attach, since the system may have dropped what was written. A run of blocks is
+/// read or written in one call. At a count of calls that stands at its last value a call may reach
+/// the file, and fails. What the file holds isn't known; the device is seen as its size and its
+/// counts.
 #[derive(Drop)]
 pub struct FileDevice<'a, R: Files<File = File>> {
     files: &'a R,

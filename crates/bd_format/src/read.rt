@@ -2,7 +2,6 @@
 
 ghost use Rattle.std.specs.Prelude.{◌≡◌, ◌≤◌, ◌↔◌, IfOk, IsTrue};
 ghost use Rattle.std.specs.Option.{option_map};
-ghost use Rattle.bd_wire.specs.Text.{AreZeros};
 ghost use Rattle.bd_message.specs.Messages.{IsMessage};
 ghost use Rattle.bd_message.specs.Codec.{message_bytes, IsPartAs, FitsPart, encode_part};
 ghost use Rattle.bd_format.specs.Images.{IsDecodedAs, entry_bytes, edge_bytes, node_bytes, child_number};
@@ -43,25 +42,13 @@ pub fn decode(alloc: Global, bytes: &[u8; SLOT_SIZE]) -> Result<Option<Node>, Al
     let Some(node) = read_node(alloc, &mut cursor)? else {
         return Ok(None);
     };
-    if !are_zeros(cursor.left()) {
+    if !cursor.rest_is_zero() {
         return Ok(None);
     }
     if !is_shape(&node) {
         return Ok(None);
     }
     Ok(Some(node))
-}
-
-// Whether each byte is 0. It looks at all of them even where one is none, so that it can look at
-// many at once: most images end with tens of thousands of zeros.
-fn are_zeros(bytes: &[u8]) -> bool
-    ensures { IsTrue result ↔ AreZeros bytes.now }
-{
-    let mut zeros = true;
-    for byte in bytes {
-        zeros = zeros & (*byte == 0);
-    }
-    zeros
 }
 
 // Whether a node is well-formed.

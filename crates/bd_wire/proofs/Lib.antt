@@ -4,3 +4,4 @@ pub mod ReadingLemmas
 pub mod EncodingLemmas
 pub mod TextLemmas
 pub mod WritingLemmas
+pub mod Zeros

@@ -182,9 +182,14 @@ fn first_text16<'a>(left: &'a [u8]) -> Option<&'a [u8]>
     ahead.bytes(count as usize).ok()
 }
 
-/// Whether each byte is 0.
+/// Whether each byte is 0. It looks at all of them even where one is none, so that it can look at
+/// many at once: most blocks that it is asked of are all zeros.
 pub fn all_zero(bytes: &[u8]) -> bool
     ensures { IsTrue result ↔ AreZeros bytes.now }
 {
-    bytes.iter().all(|byte| *byte == 0)
+    let mut zeros = true;
+    for byte in bytes {
+        zeros = zeros & (*byte == 0);
+    }
+    zeros
 }

@@ -14,11 +14,11 @@ returns-in_default c = λ n shape image.
     subst (IsPartAs FitsNode node_bytes c.new-cursor.result c.read_node.new.cursor) c.in_default.is c.in_ok-node.ensures
     n (zeros (slot_size - length (node_bytes n))) (shape_fits n shape) (c.new-cursor.ensures.left ∙ image)
 
-pub returns-then-not-are_zeros : goal.returns-then-not-are_zeros
-returns-then-not-are_zeros c = λ n shape image.
+pub returns-then-not-rest_is_zero : goal.returns-then-not-rest_is_zero
+returns-then-not-rest_is_zero c = λ n shape image.
     let read = subst (IsPartAs FitsNode node_bytes c.new-cursor.result c.read_node.new.cursor) c.in-Some.is c.in_ok-node.ensures in
     let one = one_image c.messages_are_prefix_free.ensures c.args.bytes.now c.read_node.new.cursor.left c.in-Some.node n read.0 (sym c.new-cursor.ensures.left ∙ read.1.front) shape image in
-    true≢false (sym (c.are_zeros.ensures.1 (AreZeros-zeros c.left.result.now (slot_size - length (node_bytes n)) (c.left.ensures ∙ one.1))) ∙ c.if-not-are_zeros.true)
+    true≢false (sym (c.rest_is_zero.ensures.1 (AreZeros-zeros c.read_node.new.cursor.left (slot_size - length (node_bytes n)) one.1)) ∙ c.if-not-rest_is_zero.true)
 
 pub returns-then-not-is_shape : goal.returns-then-not-is_shape
 returns-then-not-is_shape c = λ n shape image.

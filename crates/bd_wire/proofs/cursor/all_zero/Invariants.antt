@@ -1,5 +1,5 @@
-use Rattle.bd_format.proofs.Rest.{AreZerosBut}
-use Rattle.bd_format.proofs.read.are_zeros.Given as goal
+use Rattle.bd_wire.proofs.Zeros.{AreZerosBut}
+use Rattle.bd_wire.proofs.cursor.all_zero.Given as goal
 
 abbrev pub invariant-loop-byte : goal.invariant-loop-byte
 invariant-loop-byte l = AreZerosBut l.bytes l.byte-index l.zeros
