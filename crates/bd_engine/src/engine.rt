@@ -71,7 +71,6 @@ impl<D: Device> Engine<D> {
         Engine {
             alloc,
             tree: Recalling {
-                alloc,
                 map: Tree::over(alloc, pager),
                 recalled: Recalled::new(alloc),
             },
@@ -180,11 +179,10 @@ impl<D: Device> Engine<D> {
             live,
             stop,
         } = self;
-        let Recalling { map, recalled, .. } = tree;
+        let Recalling { map, recalled } = tree;
         Engine {
             alloc,
             tree: Recalling {
-                alloc,
                 map: Tree::over(alloc, map.into_store()),
                 recalled,
             },

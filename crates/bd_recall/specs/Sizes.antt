@@ -42,6 +42,11 @@ abbrev pub bytes_of : Option (Vec ℕ Global) → Option (List ℕ)
 bytes_of None = None
 bytes_of (Some value) = Some value.items
 
+-- how many bytes what was kept for a key counts, none where nothing was
+abbrev pub size_before : List ℕ → Option (Option (Vec ℕ Global)) → ℕ
+size_before key None = 0
+size_before key (Some found) = entry_size key (bytes_of found)
+
 -- how many bytes all that is kept counts
 abbrev pub bytes_kept : Findings → ℕ
 bytes_kept fs = sum_by (λ e. entry_size e.0.items (bytes_of e.1)) fs

@@ -3,7 +3,7 @@
 ghost use Rattle.std.specs.Prelude.{◌≡◌, ◌≤◌, ◌<◌, ◌+◌, ◌↔◌, List, ℕ, length, IsTrue, IfOk};
 ghost use Rattle.std.specs.Option.{option_copied};
 ghost use Rattle.bd_limits.specs.Limits.{key_limit};
-ghost use Rattle.bd_recall.specs.Sizes.{bytes_of, bytes_kept, bytes_limit, count_limit, entry_size, value_limit, value_size};
+ghost use Rattle.bd_recall.specs.Sizes.{bytes_of, bytes_kept, bytes_limit, count_limit, entry_size, size_before, value_limit, value_size};
 
 use bd_limits::MAX_KEY;
 use bd_message::Message;
@@ -32,7 +32,7 @@ pub struct Recalled {
     found: BTreeMap<Vec<u8>, Option<Vec<u8>>>,
     taken: usize,
     ghost few: { length found.entries ≤ count_limit },
-    ghost counted: { bytes_kept found.entries ≤ taken },
+    ghost counted: { bytes_kept found.entries ≡ taken },
     ghost small: { taken ≤ bytes_limit },
 }
 
@@ -79,8 +79,9 @@ impl Recalled {
         ensures { KeepsInstead (findings self.old) key.now (option_copied value.entry)
             (findings self.new) }
     {
-        self.forget(key);
-        let _ = self.store(key, value);
+        if !self.store(key, value) {
+            self.forget(key);
+        }
     }
 
     // Keeps a value for a key, and says whether it does.
@@ -101,24 +102,37 @@ impl Recalled {
         ensures fewer { OnErr result (KeepsFewer (findings self.old) (findings self.new)) }
     {
         let size = size_of(key, value);
-        self.make_room(size);
-        let key = Vec::from_slice(self.alloc, key)?;
+        self.make_room(key, size);
+        let copy = Vec::from_slice(self.alloc, key)?;
         let value = copied(self.alloc, value)?;
+        let replaced = self.found.insert(copy, value)?;
         self.taken += size;
-        self.found.insert(key, value)?;
+        self.taken -= size_before(key, &replaced);
         Ok(())
     }
 
-    // Empties it where there is no room for an entry.
-    fn make_room(&mut self, size: usize)
+    // Empties it where there is no room for an entry of a key, in place of what is there for it.
+    fn make_room(&mut self, key: &[u8], size: usize)
         requires { size ≤ bytes_limit }
         ensures count { length (findings self.new) < count_limit }
         ensures size { self.new.taken + size ≤ bytes_limit }
         ensures fewer { KeepsFewer (findings self.old) (findings self.new) }
     {
-        if self.found.len() >= MAX_COUNT || self.taken > MAX_BYTES - size {
-            self.clear();
+        if !self.has_room(size) {
+            self.forget(key);
+            if !self.has_room(size) {
+                self.clear();
+            }
         }
+    }
+
+    // Whether there is room for one entry more.
+    fn has_room(&self, size: usize) -> bool
+        requires { size ≤ bytes_limit }
+        ensures { IsTrue result ↔ ((length (findings self.now) < count_limit)
+            × (self.now.taken + size ≤ bytes_limit)) }
+    {
+        self.found.len() < MAX_COUNT && self.taken <= MAX_BYTES - size
     }
 
     /// Keeps what is known after these messages: what they leave at keys whose values they put or
@@ -197,9 +211,8 @@ impl Recalled {
         ensures fewer { IsSome (kept_for (findings self.old) key.now)
             → length (findings self.new) < length (findings self.old) }
     {
-        if let Some(value) = self.found.remove(key) {
-            self.taken -= size_of(key, shown(&value));
-        }
+        let removed = self.found.remove(key);
+        self.taken -= size_before(key, &removed);
     }
 
     /// Keeps nothing any more.
@@ -236,6 +249,17 @@ fn size_of(key: &[u8], value: Option<&[u8]>) -> usize
     ensures { result ≡ entry_size key.now (option_copied value.entry) }
 {
     ENTRY_BASE + key.len() + value_len(value)
+}
+
+// How many bytes what was kept for a key counts, none where nothing was.
+fn size_before(key: &[u8], found: &Option<Option<Vec<u8>>>) -> usize
+    requires { size_before key.now found.now ≤ bytes_limit }
+    ensures { result ≡ size_before key.now found.now }
+{
+    match found {
+        None => 0,
+        Some(value) => size_of(key, shown(value)),
+    }
 }
 
 /// A value that was found, where one was.

@@ -4,13 +4,11 @@ ghost use Rattle.bd_recall.specs.Kept.{findings, IsKept};
 
 use crate::recalled::{Recalled, shown};
 use bd_message::{KeyMap, MapFault, Message};
-use std::alloc::Global;
 
 /// A key map, and what is known of it. Who changes the map itself has to let what is kept follow
 /// that, or forget what it may change.
 #[derive(Drop)]
 pub struct Recalling<M: KeyMap> {
-    pub alloc: Global,
     pub map: M,
     pub recalled: Recalled,
 }

@@ -89,7 +89,6 @@ const CALLS: [(&str, Option<&str>); 44] = [
 fn what_was_looked_up_is_recalled(rt: HostRuntime) -> Result<(), Fail> {
     let alloc = rt.alloc();
     let mut map = Recalling {
-        alloc,
         map: ListMap::new(alloc),
         recalled: Recalled::new(alloc),
     };
