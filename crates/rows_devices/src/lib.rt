@@ -16,3 +16,5 @@ mod slots;
 mod superblock;
 #[cfg(test)]
 mod table;
+#[cfg(test)]
+mod tails;
