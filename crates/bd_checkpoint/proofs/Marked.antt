@@ -67,7 +67,7 @@ module _ {D : Type 0} (g : Ghosts D) (old mid last : Paged D) (spills : Spills g
   }
 
   abbrev with_device : Paged D → Paged D
-  with_device x = record old { dev = last.dev; spots = x.spots; cache = x.cache; written = x.written }
+  with_device x = record old { dev = last.dev; spots = x.spots; cache = x.cache; tails = x.tails; written = x.written }
 
   rest : last ≡ with_device last
   rest = survives.rest ∙ ap (λ (x : Paged D). let p : Paged D = record x { dev = last.dev } in p) spills.rest ∙ sym (ap with_device survives.rest)
@@ -81,7 +81,7 @@ module _ {D : Type 0} (g : Ghosts D) (old mid last : Paged D) (spills : Spills g
 
   module _ (at : List ℕ) (w : IsWrittenOut (g.contents mid.dev) at mid) (new : Paged D) (marked : new ≡ saved_as w.written last) where
     abbrev with_saved : Paged D → Paged D
-    with_saved x = record old { dev = x.dev; spots = x.spots; saved = x.saved; at = x.at; spare = x.spare; cache = x.cache; written = None }
+    with_saved x = record old { dev = x.dev; spots = x.spots; saved = x.saved; at = x.at; spare = x.spare; cache = x.cache; tails = x.tails; written = None }
 
     same_spare : mid.spare ≡ old.spare
     same_spare = ap (λ (x : Paged D). x.spare) spills.rest

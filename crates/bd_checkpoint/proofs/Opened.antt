@@ -196,6 +196,7 @@ opened_on known slots at p d h = record {
   cached = h.cached;
   visits = h.visits;
   lent = refl;
+  tails = h.tails;
   written = h.written;
   table_held = h.table_held;
   root_held = h.root_held;

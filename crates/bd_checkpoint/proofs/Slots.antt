@@ -9,6 +9,9 @@ use Rattle.bd_cache.specs.declared.cache.NodeCache.{NodeCache}
 use Rattle.bd_format.specs.Decoding.{node_in}
 use Rattle.bd_format.specs.Images.{IsImage}
 use Rattle.bd_node.specs.declared.node.Node.{Node}
+use Rattle.bd_tails.specs.Tails.{AreTails}
+use Rattle.bd_tails.specs.declared.tails.Tails.{Tails}
+use Rattle.bd_tails.proofs.Known.{zero_stays}
 use Rattle.bd_pager.specs.declared.place.Place.{Place}
 use Rattle.bd_pager.specs.declared.place.Place.TheVariants.{Memory, Slot}
 use Rattle.bd_pager.specs.declared.place.Spot.{Spot}
@@ -91,6 +94,17 @@ module _ (changed : ℕ → Type 0) (low : AreBefore changed) where
   pub cached_same : (known now : Option Image) (is_lent : Bool) (spots : Spots) (cache : NodeCache) → is_lent ≡ false → StaysBut changed known now → AreCached known is_lent spots cache → AreCached now false spots cache
   cached_same known now is_lent spots cache lent same h =
       λ id n kept. read_same known now (spots id) n same (subst (λ (b : Bool). IsRead known b (spots id) n) lent (h id n kept))
+
+  -- ---- what is known of tails
+
+  pub tails_same : (known now : Option Image) (is_lent : Bool) (tails : Tails) → is_lent ≡ false → StaysBut changed known now → (is_lent ≡ false → AreTails known tails) → AreTails now tails
+  tails_same None None is_lent tails lent same h = tt
+  tails_same (Some old) None is_lent tails lent same h = tt
+  tails_same None (Some new) is_lent tails lent same h = absurd same
+  tails_same (Some old) (Some new) is_lent tails lent same h = λ slot i le lt.
+      zero_stays changed old new (slot_block slot + i) same (low (slot_block slot + i) (omega arith)) (h lent slot i le lt)
+
+  -- ---- a pager
 
   pub survives : {D : Type 0} (g : Ghosts D) (old new : Paged D) → new ≡ record old { dev = new.dev } → StaysBut changed (g.contents old.dev) (g.contents new.dev) → SurvivesOn g old new
   survives {D} g old new rest same =

@@ -29,6 +29,7 @@ pub record StaysUnsaved {D : Type 0} (g : Ghosts D) (old new : Paged D) : Type 0
     dev = new.dev;
     spots = new.spots;
     cache = new.cache;
+    tails = new.tails;
     written = new.written;
   }
 
@@ -47,6 +48,7 @@ pub record IsSaved {D : Type 0} (g : Ghosts D) (old new : Paged D) : Type 0 wher
     at = new.at;
     spare = new.spare;
     cache = new.cache;
+    tails = new.tails;
     written = None;
   }
 

@@ -188,6 +188,7 @@ fn read_log<D: Device>(
 ) -> Result<(Log, Vec<PlacedCommand>), ImageFault>
     requires size { first_slot_block ≤ D.block_count pager.old.dev }
     requires unread { (id : ℕ) → kept_at pager.old.cache id ≡ None }
+    requires unlent { pager.old.is_lent ≡ false }
     ensures batches { IfOk result (λ r. IfSome (D.contents pager.old.dev) (λ image.
         AreBatches image (log_block live.now.half) live.now.epoch r.0.batches r.0.place)) }
     ensures idle { IfOk result (λ r. r.0

@@ -179,6 +179,7 @@ pub record WritesEarly {D : Type 0} (g : Ghosts D) (old new : EngineState D) : T
     dev = new.pager.dev;
     spots = new.pager.spots;
     cache = new.pager.cache;
+    tails = new.pager.tails;
     written = new.pager.written;
   }
   pub rest : new ≡ record old { pager = new.pager; stop = new.stop }

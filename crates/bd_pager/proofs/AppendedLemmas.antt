@@ -136,6 +136,7 @@ module _ {D : Type 0} (g : Ghosts D) (p : Paged D) (entries : List (ℕ × Spot)
       stored = each_kept spare p.root more (spots_of p) (spots_of q) h (λ i s. IsStoredAs spare p.saved.entries i s.level s.place)
           (subst (λ (l : Place). IsStoredAs spare p.saved.entries p.root h.now.level l) (sym h.changed.place.place) tt) was.stored;
       saved = was.saved;
+      tails = was.tails;
       ready = tt;
     }
 

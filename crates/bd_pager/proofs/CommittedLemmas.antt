@@ -250,6 +250,7 @@ module _ {D : Type 0} (g : Ghosts D) (p : Paged D) (step : Step) (put : ℕ → 
       slots = each_new (λ id s. IsPlaceIn p.spare s.place) (λ id node put_there gives may. put_in p.spare node (before id) (before_within id (before id) refl)) (λ id s there not_put none. before_in id s there);
       stored = each_new (λ id s. IsStoredAs p.spare p.saved.entries id s.level s.place) (λ id node put_there gives may. tt) (λ id s there not_put none. before_stored id s there);
       saved = λ id saved. omega (arith, was.saved id saved, last_is);
+      tails = was.tails;
       ready = tt;
     }
 

@@ -21,6 +21,8 @@ use Rattle.bd_node.proofs.Sound.{one_if-same, one_if-other}
 use Rattle.bd_node.proofs.LawLemmas.{new_sound}
 use Rattle.bd_table.specs.Tables.{slots_of}
 use Rattle.bd_table.specs.declared.table.TableEntry.{TableEntry}
+use Rattle.bd_tails.specs.Tails.{AreTailsAt}
+use Rattle.bd_tails.proofs.Known.{none_known}
 use Rattle.bd_pager.specs.declared.place.Place.{Place}
 use Rattle.bd_pager.specs.declared.place.Place.TheVariants.{Memory, Slot}
 use Rattle.bd_pager.specs.declared.place.Spot.{Spot}
@@ -184,8 +186,8 @@ no_slots slots taken none = record {
 }
 
 pub fresh_paged : {D : Type 0} (contents : Option Image) (p : Paged D) (slots : ℕ) → AreFreshSpots (spots_of p) → p.root ≡ 1 → p.size ≡ 0 → p.next ≡ 2 → p.saved.entries ≡ [] → p.at ≡ []
-    → p.spare ≡ replicate slots true → ((id : ℕ) → kept_at p.cache id ≡ None) → p.written ≡ None → IsPaged contents p
-fresh_paged contents p slots h root_is size_is next_is none at_none spare_is gone unwritten =
+    → p.spare ≡ replicate slots true → ((id : ℕ) → kept_at p.cache id ≡ None) → p.tails.used.items ≡ replicate slots 16 → p.written ≡ None → IsPaged contents p
+fresh_paged contents p slots h root_is size_is next_is none at_none spare_is gone unknown unwritten =
     let spots : Spots = spots_of p in
     let no_taken : p.at ++ slots_of p.saved.entries ≡ [] =
     ap (λ (l : List ℕ). l ++ slots_of p.saved.entries) at_none ∙ ap (λ (es : List TableEntry). slots_of es) none in
@@ -205,5 +207,6 @@ fresh_paged contents p slots h root_is size_is next_is none at_none spare_is gon
       stored = λ id s there. subst (λ (x : Spot). IsStoredAs p.spare p.saved.entries id x.level x.place) (sym (fresh_only spots h id s there))
           (subst (λ (q : Place). IsStoredAs p.spare p.saved.entries id h.root.level q) (sym h.place) tt);
       saved = λ id saved. absurd (let e : false ≡ true = ap (λ (es : List TableEntry). is_saved es id) (sym none) ∙ saved in cc);
+      tails = λ _. subst (λ (used : List ℕ). AreTailsAt contents used) (sym unknown) (none_known contents slots);
       ready = subst (λ (o : Option Written). IfSome o (IsReady p.spare spots p.root p.next)) (sym unwritten) tt;
     }

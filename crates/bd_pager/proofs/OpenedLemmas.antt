@@ -18,6 +18,7 @@ use Rattle.bd_node.specs.Shape.{IsShape}
 use Rattle.bd_table.specs.Tables.{AreFreeSlots, IsTableEntry, IsRoot, slots_of}
 use Rattle.bd_table.specs.declared.table.Table.{Table as Checkpoint}
 use Rattle.bd_table.specs.declared.table.TableEntry.{TableEntry}
+use Rattle.bd_tails.specs.Tails.{AreTails}
 use Rattle.bd_pager.specs.declared.place.Spot.{Spot}
 use Rattle.bd_pager.specs.declared.usage.Usage.{Usage}
 use Rattle.bd_pager.specs.declared.written.Written.{Written}
@@ -119,8 +120,8 @@ module _ {D : Type 0} (contents : Option Image) (slots : ℕ) (at : List ℕ) (p
   pub root_is : spots_of p p.root ≡ Some (root_spot h.entry h.node)
   root_is = ap (spots_of p) h.root ∙ h.spots.root_there
 
-  pub opened_paged : (now : Option Image) → IsPaged now p
-  opened_paged now = record {
+  pub opened_paged : (now : Option Image) → AreTails now p.tails → IsPaged now p
+  opened_paged now tails = record {
     table = record {
       root = subst (λ (o : Option Spot). 1 ≤ refs_in o) (sym root_is) (entry_of h.entry h.among).refs;
       inner = subst (λ (o : Option Spot). 1 ≤ level_in o) (sym root_is) h.is_root.1;
@@ -147,6 +148,7 @@ module _ {D : Type 0} (contents : Option Image) (slots : ℕ) (at : List ℕ) (p
         let k : IsOf p.saved id s = kept_of id s there in
         stored_place p.spare p.saved.entries id s.level k.entry s.place k.among k.inside k.id_is (sym k.level);
     saved = saved_within;
+    tails = λ _. tails;
     ready = subst (λ (o : Option Written). IfSome o (IsReady p.spare (spots_of p) p.root p.next)) (sym h.written) tt;
   }
 

@@ -12,6 +12,8 @@ use Rattle.bd_node.specs.Nodes.{level_of, names}
 use Rattle.bd_node.specs.Meaning.{Nodes}
 use Rattle.bd_node.specs.Tables.{IsKept, IsLower, IsNodeOf, IsStored, IsSound}
 use Rattle.bd_node.proofs.Lookup.{each_weaker}
+use Rattle.bd_tails.specs.Tails.{AreTails}
+use Rattle.bd_tails.specs.declared.tails.Tails.{Tails}
 use Rattle.bd_pager.specs.Slots.{IsOfLevel}
 use Rattle.bd_cache.specs.declared.cache.NodeCache.{NodeCache}
 use Rattle.bd_node.specs.declared.node.Node.{Node}
@@ -54,10 +56,10 @@ lent_cached contents left is_lent spots cache was = λ id n kept. lent_read cont
 -- ---- reads
 
 -- what holds of it holds after reads
-pub read_paged : {D : Type 0} (p : Paged D) (before after : Option Image) (dev : D) (entries : List (ℕ × Spot)) (visits : ℕ) (cache : NodeCache) (is_lent : Bool) → entries ≡ p.spots
-    → AreCached after is_lent (λ id. lookup (nat_eq id) entries) cache → IsPaged before p → IsPaged after (record p { dev = dev; spots = entries; visits = visits; cache = cache; is_lent = is_lent })
-read_paged {D} p before after dev entries visits cache is_lent same cached was =
-    let at : List (ℕ × Spot) → Paged D = λ es. record p { dev = dev; spots = es; visits = visits; cache = cache; is_lent = is_lent } in
+pub read_paged : {D : Type 0} (p : Paged D) (before after : Option Image) (dev : D) (entries : List (ℕ × Spot)) (visits : ℕ) (cache : NodeCache) (is_lent : Bool) (tails : Tails) → entries ≡ p.spots
+    → AreCached after is_lent (λ id. lookup (nat_eq id) entries) cache → (is_lent ≡ false → AreTails after tails) → IsPaged before p → IsPaged after (record p { dev = dev; spots = entries; visits = visits; cache = cache; is_lent = is_lent; tails = tails })
+read_paged {D} p before after dev entries visits cache is_lent tails same cached known was =
+    let at : List (ℕ × Spot) → Paged D = λ es. record p { dev = dev; spots = es; visits = visits; cache = cache; is_lent = is_lent; tails = tails } in
     subst (λ (es : List (ℕ × Spot)). IsPaged after (at es)) (sym same) (record {
       table = was.table;
       used = was.used;
@@ -70,6 +72,7 @@ read_paged {D} p before after dev entries visits cache is_lent same cached was =
       slots = was.slots;
       stored = was.stored;
       saved = was.saved;
+      tails = known;
       ready = was.ready;
     })
 
@@ -82,7 +85,7 @@ pub reader_paged : {D : Type 0} (was now : Option Image) (old new : NodeReader D
     → IsPaged now (seen new saved at u.spare root size next visits written) × IsTallied next (spots_in new.spots) u × AreTested (spots_in new.spots) new.cache new.tested
 reader_paged {D} was now old new saved at u root size next before visits written same reading held =
     let entries : new.spots.entries ≡ old.spots.entries = same_entries new.spots old.spots same in (
-      read_paged (seen old saved at u.spare root size next before written) was now new.dev new.spots.entries visits new.cache new.is_lent entries reading.cached held.0,
+      read_paged (seen old saved at u.spare root size next before written) was now new.dev new.spots.entries visits new.cache new.is_lent new.tails entries reading.cached reading.tails held.0,
       subst (λ (es : List (ℕ × Spot)). IsTallied next (λ id. lookup (nat_eq id) es) u) (sym entries) held.1,
       reading.tested,
     )

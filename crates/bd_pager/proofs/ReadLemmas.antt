@@ -1,35 +1,20 @@
 -- What is read of slots: the node that a slot has, or that it has none.
-use Rattle.std.proofs.Common.{◌≡◌, ◌≢◌, ℕ, ◌+◌, ◌-◌, ◌*◌, ◌<◌, ◌≤◌, List, [], ◌∷◌, Option, None, Some, IfSome, length, take, drop, replicate, min, refl, sym, ap, subst, ◌∙◌, arith, length-append}
-use Rattle.std.specs.List.{concat, AllByRecursion}
-use Rattle.std.proofs.lemmas.List.{length-drop, length-take, length-replicate, take_all}
-use Rattle.std.proofs.lemmas.List.Elements.{All-take, All-drop, recursion_from_All}
+use Rattle.std.proofs.Common.{◌≡◌, ◌≢◌, ℕ, ◌+◌, ◌-◌, ◌<◌, ◌≤◌, List, Option, None, Some, IfSome, length, replicate, sym, ap, subst, ◌∙◌, arith, length-append}
+use Rattle.std.proofs.lemmas.List.{length-replicate}
 use Rattle.std.proofs.lemmas.Option.{IfSome_then}
 use Rattle.bd_slots.specs.Layout.{slot_block}
-use Rattle.bd_device.specs.Blocks.{Image, IsBlock, HasBlocks}
-use Rattle.bd_device.specs.Changes.{bytes_at}
+use Rattle.bd_device.specs.Blocks.{Image, HasBlocks}
 use Rattle.bd_format.specs.Images.{node_bytes, image_of, IsImage, IsDecodedAs}
 use Rattle.bd_node.specs.declared.node.Node.{Node}
 use Rattle.bd_node.specs.Nodes.{level_of}
 use Rattle.bd_node.specs.Shape.{IsShape}
+use Rattle.bd_tails.proofs.Blocks.{row_size}
 use Rattle.bd_pager.specs.Slots.{slot_bytes, HasNode, HasNoNode, IsOfLevel}
 
--- ---- sizes
-
-blocks_size : (blocks : List (List ℕ)) → AllByRecursion IsBlock blocks → length (concat blocks) ≡ 4096 * length blocks
-blocks_size [] all = refl
-blocks_size (x ∷ xs) all = omega (arith, length-append x (concat xs), blocks_size xs all.1, all.0.0)
-
--- blocks in a row have 4,096 bytes each, and there are none past the end
-row_size : (count : ℕ) (image : Image) (b n : ℕ) → HasBlocks count image → length (bytes_at image b n) ≡ 4096 * min n (count - b)
-row_size count image b n has =
-    let row : Image = take n (drop b image) in
-    blocks_size row (recursion_from_All IsBlock row (All-take IsBlock n (drop b image) (All-drop IsBlock b image has.whole)))
-    ∙ ap (λ (k : ℕ). 4096 * k) (length-take n (drop b image) ∙ ap (min n) (length-drop b image ∙ ap (λ (k : ℕ). k - b) has.count_is))
+-- ---- what a slot has
 
 image_size : (n : Node) → length (node_bytes n) ≤ 65536 → length (image_of n) ≡ 65536
 image_size n fits = omega (arith, length-append (node_bytes n) (replicate (65536 - length (node_bytes n)) 0), length-replicate {A = ℕ} (65536 - length (node_bytes n)) 0)
-
--- ---- what a slot has
 
 -- a slot past the end of a device has no node
 pub past_end : (known : Option Image) (count slot level : ℕ) → ((n : Node) → IsShape n → length (node_bytes n) ≤ 65536) → IfSome known (HasBlocks count)
@@ -37,12 +22,6 @@ pub past_end : (known : Option Image) (count slot level : ℕ) → ((n : Node) �
 past_end known count slot level fits has past = IfSome_then known has (λ image blocks n held.
     let long : length (slot_bytes image slot) ≡ 65536 = ap length held.image_is ∙ image_size n (fits n held.shape) in
     omega (arith, long, row_size count image (slot_block slot) 16 blocks, past))
-
--- the bytes that were read are those of the slot
-pub has_bytes : (known : Option Image) (bytes : List ℕ) (slot b : ℕ) → b ≡ slot_block slot → length bytes ≡ 65536 → IfSome known (λ image. take 65536 bytes ≡ bytes_at image b 16)
-    → IfSome known (λ image. slot_bytes image slot ≡ bytes)
-has_bytes known bytes slot b first long read = IfSome_then known read (λ image e.
-    ap (λ (k : ℕ). bytes_at image k 16) (sym first) ∙ sym e ∙ take_all 65536 bytes (omega (arith, long)))
 
 -- they are the image of no node
 pub none_there : (known : Option Image) (bytes : List ℕ) (slot level : ℕ) (found : Option Node) → IfSome known (λ image. slot_bytes image slot ≡ bytes) → IsDecodedAs bytes found → found ≡ None

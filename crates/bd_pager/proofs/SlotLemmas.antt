@@ -3,12 +3,12 @@ use Rattle.std.proofs.Common.{◌≡◌, ℕ, ◌+◌, ◌-◌, ◌<◌, ◌≤�
 use Rattle.std.specs.Prelude.{IsSome, slice_get}
 use Rattle.std.specs.List.{concat}
 use Rattle.std.proofs.lemmas.Bool.{true≢false}
-use Rattle.std.proofs.lemmas.List.{length-drop, length-take, take_all, ext_get_or, get_or-take, get_or-drop}
+use Rattle.std.proofs.lemmas.List.{length-drop, length-take, ext_get_or, get_or-take, get_or-drop}
 use Rattle.std.proofs.lemmas.Option.{IfSome_then}
 use Rattle.bd_slots.specs.Layout.{slot_block}
 use Rattle.bd_slots.specs.Slots.{IsHeld}
 use Rattle.bd_device.specs.Blocks.{Image}
-use Rattle.bd_device.specs.Changes.{SameBut, IsBeforeBut, IsInRange, bytes_at}
+use Rattle.bd_device.specs.Changes.{SameBut, IsBeforeBut, IsInRange}
 use Rattle.bd_device.specs.Moments.{Elapses}
 use Rattle.bd_device.proofs.Moments.{goes_on}
 use Rattle.bd_device.proofs.Changes.{same_then, same_wider, before_now}
@@ -75,14 +75,12 @@ written_then {a} {b} {c} {first} {mid} {last} all own wider so_far earlier time 
     let was : IsBeforeBut all (first a) here.0 = before_now all so_far earlier here.0 here.1 in
     (was.0, was.1, same_then was.2 (same_wider own all wider here.2)))
 
--- a slot has what was written to it
-pub written_has : {T E : Type 0} (contents : Option Image) (slot b : ℕ) (n : Node) (bytes : List ℕ) (r : Result T E) → b ≡ slot_block slot → IsShape n → IsImage n bytes → length bytes ≡ 65536
-    → OnOk r (IfSome contents (λ image. bytes_at image b 16 ≡ take 65536 bytes)) → OnOk r (IfSome contents (λ image. HasNode image slot (level_of n) n))
-written_has contents slot b n bytes (Ok x) first shape is size h =
-    IfSome_then contents h (λ image e.
-    let whole : bytes_at image b 16 ≡ bytes = e ∙ take_all 65536 bytes (omega (arith, size)) in
-    record { shape = shape; level_is = refl; image_is = subst (IsImage n) (sym whole ∙ ap (λ (k : ℕ). bytes_at image k 16) first) is })
-written_has contents slot b n bytes (Err x) first shape is size h = tt
+-- a slot has the node whose image was written to it
+pub written_has : {T E : Type 0} (contents : Option Image) (slot : ℕ) (n : Node) (bytes : List ℕ) (r : Result T E) → IsShape n → IsImage n bytes
+    → OnOk r (IfSome contents (λ image. slot_bytes image slot ≡ bytes)) → OnOk r (IfSome contents (λ image. HasNode image slot (level_of n) n))
+written_has contents slot n bytes (Ok x) shape is h =
+    IfSome_then contents h (λ image e. record { shape = shape; level_is = refl; image_is = subst (IsImage n) (sym e) is })
+written_has contents slot n bytes (Err x) shape is h = tt
 
 -- ---- bad slots
 

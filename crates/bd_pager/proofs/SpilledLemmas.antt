@@ -10,6 +10,8 @@ use Rattle.bd_device.specs.declared.device.Device.{Ghosts}
 use Rattle.bd_cache.specs.declared.cache.NodeCache.{NodeCache}
 use Rattle.bd_node.specs.declared.node.Node.{Node}
 use Rattle.bd_table.specs.declared.table.TableEntry.{TableEntry}
+use Rattle.bd_tails.specs.Tails.{AreTails}
+use Rattle.bd_tails.specs.declared.tails.Tails.{Tails}
 use Rattle.bd_pager.specs.declared.place.Place.{Place}
 use Rattle.bd_pager.specs.declared.place.Place.TheVariants.{Memory, Slot}
 use Rattle.bd_pager.specs.declared.place.Spot.{Spot}
@@ -41,11 +43,12 @@ stored_again spare entries id slot level (Slot there copy) stored at is held =
     let same : there ≡ slot = same_Some there slot at in
     subst (λ (k : ℕ). Any (λ e. (e.id ≡ id) × (e.slot ≡ k) × (e.level ≡ level)) entries) same (stored (subst (λ (k : ℕ). IsHeld spare k) (sym same) held))
 
-module _ {D : Type 0} (g : Ghosts D) (p : Paged D) (e : D) (entries : List (ℕ × Spot)) (cache : NodeCache) (free : List Bool) where
+module _ {D : Type 0} (g : Ghosts D) (p : Paged D) (e : D) (entries : List (ℕ × Spot)) (cache : NodeCache) (free : List Bool) (tails : Tails) where
   abbrev spots : Spots
   spots id = lookup (nat_eq id) entries
 
   module _ (was : IsPaged (g.contents p.dev) p) (moves : OnlyMoves g p.spare p.root p.dev e (spots_of p) (λ id. lookup (nat_eq id) entries)) (placed : ArePlaced (λ id. lookup (nat_eq id) entries)) (cached : AreCached (g.contents e) p.is_lent (λ id. lookup (nat_eq id) entries) cache)
+      (known : p.is_lent ≡ false → AreTails (g.contents e) tails)
       (unused : AreUnused p.spare free (λ id. lookup (nat_eq id) entries)) where
     -- the spot that there was
     before : (id : ℕ) (s : Spot) → spots id ≡ Some s → (o : Option Spot) → spots_of p id ≡ o → (b : Spot) × (spots_of p id ≡ Some b)
@@ -64,7 +67,7 @@ module _ {D : Type 0} (g : Ghosts D) (p : Paged D) (e : D) (entries : List (ℕ 
         subst (λ (l : ℕ). Any (λ (x : TableEntry). (x.id ≡ id) × (x.slot ≡ slot) × (x.level ≡ l)) p.saved.entries) level
         (stored_again p.spare p.saved.entries id slot b.level b.place (was.stored id b was_there) (own.2 ∙ ap Some same) unchanged held)
 
-    pub spilled_paged : IsPaged (g.contents e) (record p { dev = e; spots = entries; cache = cache; written = None })
+    pub spilled_paged : IsPaged (g.contents e) (record p { dev = e; spots = entries; cache = cache; tails = tails; written = None })
     spilled_paged = record {
       table = record {
         root = subst (λ (n : ℕ). 1 ≤ n) (sym (moves.refs p.root)) was.table.root;
@@ -86,13 +89,14 @@ module _ {D : Type 0} (g : Ghosts D) (p : Paged D) (e : D) (entries : List (ℕ 
       slots = unused.slots;
       stored = λ id s there. let b = before id s there (spots_of p id) refl in stored_now id s b.0 there b.1 s.place refl;
       saved = was.saved;
+      tails = known;
       ready = tt;
     }
 
 -- what is seen of it is the same
 pub spilled_table : {D : Type 0} (g : Ghosts D) (p q : Paged D) → Spills g p q → table_of q ≡ table_of p
 spilled_table {D} g p q h =
-    let r : Paged D = record p { dev = q.dev; spots = q.spots; cache = q.cache; written = q.written } in
+    let r : Paged D = record p { dev = q.dev; spots = q.spots; cache = q.cache; tails = q.tails; written = q.written } in
     let same : table_of r ≡ table_of p = λ j. record {
       count = λ id. h.moves.refs id j;
       level = λ id. h.moves.level id j;

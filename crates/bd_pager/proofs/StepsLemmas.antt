@@ -229,6 +229,7 @@ reordered {D} g p entries same was =
       slots = along (λ s. (id : ℕ) (x : Spot) → s id ≡ Some x → IsPlaceIn p.spare x.place) was.slots;
       stored = along (λ s. (id : ℕ) (x : Spot) → s id ≡ Some x → IsStoredAs p.spare p.saved.entries id x.level x.place) was.stored;
       saved = was.saved;
+      tails = was.tails;
       ready = along (λ s. IfSome p.written (IsReady p.spare s p.root p.next)) was.ready;
     }
 

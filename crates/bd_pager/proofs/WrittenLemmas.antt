@@ -8,6 +8,13 @@ use Rattle.bd_device.specs.Blocks.{Image}
 use Rattle.bd_device.specs.declared.device.Device.{Ghosts}
 use Rattle.bd_node.proofs.Sums.{sum_at}
 use Rattle.bd_table.specs.Image.{IsOfTable}
+use Rattle.std.proofs.lemmas.List.{get_or_default}
+use Rattle.bd_device.specs.Blocks.{Image}
+use Rattle.bd_device.specs.Changes.{StaysBut}
+use Rattle.bd_slots.specs.Layout.{slot_block}
+use Rattle.bd_tails.specs.Tails.{used_of, AreTails, AreForgotten}
+use Rattle.bd_tails.specs.declared.tails.Tails.{Tails}
+use Rattle.bd_tails.proofs.Known.{zero_stays}
 use Rattle.bd_pager.specs.declared.draft.Draft.{Draft}
 use Rattle.bd_pager.specs.declared.place.Place.{Place}
 use Rattle.bd_pager.specs.declared.place.Place.TheVariants.{Memory, Slot}
@@ -111,6 +118,22 @@ all_stored next spots v below now some few id = elim (by_memory (is_in_memory (s
 table_slot : (at : List ℕ) (b : ℕ) → IsOfTable at b → (k : ℕ) × (k < length at) × IsOfSlot (get_or at k 0) b
 table_slot at b is = (is.0 / 16, omega (arith, is.1), (omega (arith, is.2), omega (arith, is.2)))
 
+-- what is known of other slots stays where a table is written, and of its own nothing is known
+pub table_tails : (old new : Option Image) (at : List ℕ) (before after : Tails) → AreTails old before → AreForgotten at before after → StaysBut (IsOfTable at) old new → AreTails new after
+table_tails None None at before after known forgotten same = tt
+table_tails (Some old) None at before after known forgotten same = tt
+table_tails None (Some new) at before after known forgotten same = absurd same
+table_tails (Some old) (Some new) at before after known forgotten same = λ slot i low lt. elim (forgotten.others slot) [
+  | inl stays ↦ zero_stays (IsOfTable at) old new (slot_block slot + i) same
+      (λ is.
+      let found = table_slot at (slot_block slot + i) is in
+      let own : slot ≡ get_or at found.0 0 = one_slot slot (get_or at found.0 0) (slot_block slot + i) (omega arith, omega (arith, lt)) found.2 in
+      let full : used_of after slot ≡ 16 = forgotten.these slot (found.0, found.1, get_or_default at found.0 slot 0 found.1 ∙ sym own) in
+      omega (arith, full, low, lt))
+      (known slot i (omega (arith, low, stays)) lt)
+  | inr gone ↦ absurd (omega (arith, gone.0, low, lt))
+]
+
 pub table_spare : (spare : List Bool) (at : List ℕ) → All (IsFree spare) at → (b : ℕ) → IsOfTable at b → IsSpare spare b
 table_spare spare at are_free b is =
     let found = table_slot at b is in
@@ -175,5 +198,6 @@ ready_paged contents p w was ready = record {
   slots = was.slots;
   stored = was.stored;
   saved = was.saved;
+  tails = was.tails;
   ready = ready;
 }

@@ -31,7 +31,7 @@ module _ {D : Type 0} (g : Ghosts D) where
     device = reads_then p.device q.device;
     lent = λ so. q.lent (p.lent so);
     spots = q.spots ∙ p.spots;
-    rest = q.rest ∙ ap (λ (x : Paged D). let r : Paged D = record x { dev = c.dev; spots = c.spots; visits = c.visits; cache = c.cache; is_lent = c.is_lent } in r) p.rest;
+    rest = q.rest ∙ ap (λ (x : Paged D). let r : Paged D = record x { dev = c.dev; spots = c.spots; visits = c.visits; cache = c.cache; is_lent = c.is_lent; tails = c.tails } in r) p.rest;
   }
 
   -- what is known after them was known before

@@ -2,6 +2,7 @@
 use Rattle.std.specs.Prelude.{◌≡◌, ◌≢◌, ℕ, true, false, [], replicate, None, Some}
 use Rattle.std.specs.Global.{Global}
 use Rattle.std.specs.declared.rc.Rc.{Rc}
+use Rattle.bd_limits.specs.Limits.{slot_blocks}
 use Rattle.bd_cache.specs.Cache.{kept_at}
 use Rattle.bd_node.specs.New.{new_root}
 use Rattle.bd_node.specs.declared.node.Node.{Node}
@@ -38,6 +39,7 @@ assembled dev parts = record {
   visits = 0;
   cache = parts.cache;
   is_lent = false;
+  tails = parts.tails;
   written = None;
 }
 
@@ -49,7 +51,7 @@ pub record IsFreshUsage (slots : ℕ) (u : Usage) : Type 0 where
   pub in_memory : u.in_memory ≡ 1
   pub listed : IsListed u.listed 1
 
--- such a root, nothing saved, so many slots, all spare, and nothing read
+-- such a root, nothing saved, so many slots, all spare, and nothing read or known of slots
 pub record AreFreshParts (slots : ℕ) (parts : Parts) : Type 0 where
   pub spots : AreFreshSpots (spots_in parts.spots)
   pub root : parts.root ≡ 1
@@ -59,6 +61,7 @@ pub record AreFreshParts (slots : ℕ) (parts : Parts) : Type 0 where
   pub at : parts.at.items ≡ []
   pub usage : IsFreshUsage slots parts.usage
   pub cached : (id : ℕ) → kept_at parts.cache id ≡ None
+  pub tails : parts.tails.used.items ≡ replicate slots slot_blocks
 
 -- nothing is saved, and nothing was visited or lent
 pub record IsUnsaved {D : Type 0} (slots : ℕ) (dev : D) (p : Paged D) : Type 0 where

@@ -158,5 +158,6 @@ pub record Spills {D : Type 0} (g : Ghosts D) (old new : Paged D) : Type 0 where
     dev = new.dev;
     spots = new.spots;
     cache = new.cache;
+    tails = new.tails;
     written = new.written;
   }

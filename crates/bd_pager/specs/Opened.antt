@@ -11,6 +11,7 @@ use Rattle.bd_table.specs.Image.{HoldsTable, HasNoTable}
 use Rattle.bd_table.specs.Tables.{AreFreeSlots, IsRoot, IsTableAt, slots_of}
 use Rattle.bd_table.specs.declared.table.Table.{Table as Checkpoint}
 use Rattle.bd_table.specs.declared.table.TableEntry.{TableEntry}
+use Rattle.bd_tails.specs.Tails.{AreTails}
 use Rattle.bd_pager.specs.declared.place.Place.TheVariants.{Slot}
 use Rattle.bd_pager.specs.declared.place.Spot.{Spot}
 use Rattle.bd_pager.specs.declared.usage.Usage.{Usage}
@@ -49,6 +50,7 @@ pub record IsOpened {D : Type 0} (contents : Option Image) (slots : ℕ) (at : L
   pub cached : (id : ℕ) → kept_at p.cache id ≡ None
   pub visits : p.visits ≡ 0
   pub lent : p.is_lent ≡ false
+  pub tails : AreTails contents p.tails
   pub written : p.written ≡ None
   pub table_held : IfSome contents (λ image. HoldsTable image slots at p.saved)
   pub root_held : IfSome contents (λ image. HasNode image entry.slot entry.level node.value)

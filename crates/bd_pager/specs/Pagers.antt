@@ -17,6 +17,8 @@ use Rattle.bd_node.specs.Tables.{Table, IsTable, IsSound}
 use Rattle.bd_table.specs.Tables.{AreFreeSlots, IsTableAt, slots_of}
 use Rattle.bd_table.specs.declared.table.Table.{Table as Checkpoint}
 use Rattle.bd_table.specs.declared.table.TableEntry.{TableEntry}
+use Rattle.bd_tails.specs.Tails.{AreTails}
+use Rattle.bd_tails.specs.declared.tails.Tails.{Tails}
 use Rattle.bd_pager.specs.Slots.{slot_bytes}
 use Rattle.bd_pager.specs.Places.{Spots, refs_in, level_in, copy_in, told, nodes_at, AreCached, ArePlaced, IsBadSpot}
 use Rattle.bd_pager.specs.declared.place.Place.{Place}
@@ -27,8 +29,8 @@ use Rattle.bd_pager.specs.declared.written.Written.{Written}
 
 -- the device, what is known of each kept node, the last checkpoint's table with its slots, the
 -- slots that this doesn't hold, the root, the size of what waits in it, the next id, how many nodes
--- were fetched or made, the nodes that were read, whether the device was lent since, and what is
--- written to be the next checkpoint
+-- were fetched or made, the nodes that were read, whether the device was lent since, how much of
+-- each slot is used, and what is written to be the next checkpoint
 pub record Paged (D : Type 0) : Type 0 where
   pub dev : D
   pub spots : List (ℕ × Spot)
@@ -41,6 +43,7 @@ pub record Paged (D : Type 0) : Type 0 where
   pub visits : ℕ
   pub cache : NodeCache
   pub is_lent : Bool
+  pub tails : Tails
   pub written : Option Written
 
 -- ---- nodes
@@ -159,7 +162,8 @@ pub record IsReady (spare : List Bool) (spots : Spots) (root next : ℕ) (w : Wr
 
 -- what holds whatever the device has: each kept node is named; the root is in memory; the slots
 -- that the checkpoint holds differ, the others are spare, and nodes in those are as it has them; no
--- saved id is a new one; what is written is of the nodes
+-- saved id is a new one; slots end in zeros where it says so, unless the device was lent since; what
+-- is written is of the nodes
 pub record IsPaged {D : Type 0} (contents : Option Image) (p : Paged D) : Type 0 where
   pub table : IsTable (table_of p)
   pub used : (id : ℕ) (s : Spot) → spots_of p id ≡ Some s → 1 ≤ s.refs
@@ -173,6 +177,7 @@ pub record IsPaged {D : Type 0} (contents : Option Image) (p : Paged D) : Type 0
   pub stored : (id : ℕ) (s : Spot) → spots_of p id ≡ Some s
       → IsStoredAs p.spare p.saved.entries id s.level s.place
   pub saved : (id : ℕ) → IsTrue (is_saved p.saved.entries id) → id < p.next
+  pub tails : p.is_lent ≡ false → AreTails contents p.tails
   pub ready : IfSome p.written (IsReady p.spare (spots_of p) p.root p.next)
 
 -- the pager whose last checkpoint is what was written
@@ -194,6 +199,7 @@ seen reader saved at spare root size next visits written = record {
   visits = visits;
   cache = reader.cache;
   is_lent = reader.is_lent;
+  tails = reader.tails;
   written = written;
 }
 
@@ -208,4 +214,5 @@ pub record IsReadOf {D : Type 0} (g : Ghosts D) (old new : Paged D) : Type 0 whe
     visits = new.visits;
     cache = new.cache;
     is_lent = new.is_lent;
+    tails = new.tails;
   }

@@ -22,6 +22,7 @@ ghost use Rattle.bd_pager.specs.Moving.{AreEarlier, Spills};
 ghost use Rattle.bd_pager.specs.Opened.{IsOpened, IsBadStart};
 ghost use Rattle.bd_pager.specs.Pagers.{table_of, nodes_of, spots_of, saved_as, is_known, is_bad, IsPaged, IsReadOf};
 ghost use Rattle.bd_pager.specs.Places.{spots_in, AreCached};
+ghost use Rattle.bd_tails.specs.Tails.{AreTails};
 
 mod steps;
 mod store;
@@ -163,6 +164,7 @@ impl<D: Device> Pager<D> {
             size,
             next,
             cache,
+            tails,
             buffer,
         } = parts;
         Pager {
@@ -173,6 +175,7 @@ impl<D: Device> Pager<D> {
                 cache,
                 tested: Tested::new(alloc),
                 is_lent: false,
+                tails,
                 buffer,
             },
             saved,
@@ -409,12 +412,15 @@ impl<D: Device> Pager<D> {
     }
 
     /// The device, which is lent. Whatever is done with it, the pager then reads again what it read
-    /// before, unless it is told by `take_back` that this is what the slots have.
+    /// before, and writes whole slots, unless it is told by `take_back` that the slots have what they
+    /// had.
     pub fn device(&mut self) -> &mut D
         ensures* lends { sem 𝓛 (lends_device D.row D.Device self.entry result) }
         ensures value { result.now ≡ self.old.dev }
         ensures copies { AreCached (D.contents self.old.dev) self.old.is_lent (spots_of self.old)
             self.old.cache }
+        ensures tails { self.old.is_lent ≡ false → AreTails (D.contents self.old.dev)
+            self.old.tails }
     {
         self.reader.is_lent = true;
         &mut self.reader.dev
@@ -429,10 +435,12 @@ impl<D: Device> Pager<D> {
         dev
     }
 
-    /// Tells it that the slots have what was read of them, since what was done with the device has
-    /// left them alone.
+    /// Tells it that the slots have what was read of them, and end in the zeros that they were known
+    /// to end in, since what was done with the device has left them alone.
     pub fn take_back(&mut self)
-        requires { AreCached (D.contents self.old.dev) false (spots_of self.old) self.old.cache }
+        requires copies { AreCached (D.contents self.old.dev) false (spots_of self.old)
+            self.old.cache }
+        requires tails { AreTails (D.contents self.old.dev) self.old.tails }
         ensures { self.new ≡ record self.old { is_lent = false } }
     {
         self.reader.is_lent = false;

@@ -5,6 +5,7 @@ ghost use Rattle.bd_slots.specs.Layout.{AreSlots, IsTablePlace, image_blocks};
 ghost use Rattle.bd_device.specs.Device.{OnlyReads, HasImageCause};
 ghost use Rattle.bd_node.specs.New.{new_root};
 ghost use Rattle.bd_table.specs.Tables.{AreFreeSlots, IsRoot, slots_of};
+ghost use Rattle.bd_tails.specs.Tails.{AreTails};
 ghost use Rattle.bd_pager.specs.Fresh.{AreFreshParts, IsFreshUsage, assembled};
 ghost use Rattle.bd_pager.specs.Opened.{AreOpened, IsOpened, IsUnchanged, IsBadStart};
 ghost use Rattle.bd_pager.specs.Places.{spots_in};
@@ -21,6 +22,7 @@ use bd_limits::SLOT_SIZE;
 use bd_node::{Edge, Edges, Items, Messages, Node};
 use bd_slots::SlotSet;
 use bd_table::{Table, TableEntry};
+use bd_tails::Tails;
 use std::alloc::{AllocError, Global};
 use std::collections::{BTreeSet, HashMap};
 use std::rc::Rc;
@@ -36,6 +38,7 @@ pub struct Parts {
     pub size: usize,
     pub next: u64,
     pub cache: NodeCache,
+    pub tails: Tails,
     pub buffer: Box<[u8; SLOT_SIZE]>,
 }
 
@@ -67,6 +70,7 @@ impl Parts {
             size: 0,
             next: 2,
             cache: NodeCache::new(alloc, room)?,
+            tails: Tails::new(alloc, slots)?,
             buffer: Box::new(alloc, [0; SLOT_SIZE])?,
         })
     }
@@ -95,8 +99,7 @@ impl Parts {
     {
         let saved = bd_table::read(alloc, dev, slots, at.as_slice())?;
         let entry = root_entry(saved.entries.as_slice(), saved.root);
-        let mut buffer = Box::new(alloc, [0; SLOT_SIZE])?;
-        let node = read_shared(alloc, dev, entry, &mut buffer)?;
+        let (node, tails, buffer) = read_root(alloc, dev, slots, entry)?;
         let size = node.buffer_size();
         let spots = opened_spots(alloc, &saved, entry, node)?;
         let usage = opened_usage(alloc, slots, at.as_slice(), saved.entries.as_slice())?;
@@ -110,6 +113,7 @@ impl Parts {
             usage,
             size,
             cache,
+            tails,
             buffer,
         })
     }
@@ -151,23 +155,26 @@ fn opened_usage(
     })
 }
 
-// The node of an entry, read from its slot.
+// The node of an entry, read from its slot, what is known of tails then, and a slot's bytes.
 #[tactic(auto, using(bd_device::proofs::Calls::calls))]
-fn read_shared<D: Device>(
+fn read_root<D: Device>(
     alloc: Global,
     dev: &mut D,
+    slots: u32,
     entry: TableEntry,
-    bytes: &mut [u8; SLOT_SIZE],
-) -> Result<Rc<Node>, ImageFault>
+) -> Result<(Rc<Node>, Tails, Box<[u8; SLOT_SIZE]>), ImageFault>
     ensures held { IfSome (D.contents dev.old)
-        (λ image. IfOk result (λ node. HasNode image entry.slot entry.level node.value)) }
-    ensures node { IfOk result (λ node. IsOfLevel entry.level node.value) }
+        (λ image. IfOk result (λ read. HasNode image entry.slot entry.level read.0.value)) }
+    ensures node { IfOk result (λ read. IsOfLevel entry.level read.0.value) }
+    ensures tails { IfOk result (λ read. AreTails (D.contents dev.new) read.1) }
     ensures reads { OnlyReads D.Device dev.old dev.new }
     ensures cause { HasImageCause D.Device dev.old dev.new
         (IsBadSlot (D.contents dev.old) entry.slot entry.level) result }
 {
-    let node = read_node(alloc, dev, entry.slot, entry.level, bytes)?;
-    Ok(Rc::new(alloc, node)?)
+    let mut buffer = Box::new(alloc, [0; SLOT_SIZE])?;
+    let mut tails = Tails::new(alloc, slots)?;
+    let node = read_node(alloc, dev, entry.slot, entry.level, &mut buffer, &mut tails)?;
+    Ok((Rc::new(alloc, node)?, tails, buffer))
 }
 
 // The nodes of a table, each in its slot, and the root in memory too.

@@ -23,6 +23,7 @@ use bd_format::laws::images_are_decoded;
 use bd_limits::SLOT_SIZE;
 use bd_message::MapFault;
 use bd_node::Node;
+use bd_tails::Tails;
 use std::alloc::{AllocError, Global};
 use std::collections::HashMap;
 use std::rc::Rc;
@@ -38,6 +39,8 @@ pub struct NodeReader<D: Device> {
     pub tested: Tested,
     /// Whether the device was lent since, so that slots may have other nodes now.
     pub is_lent: bool,
+    /// How much of each slot is used, as far as reads and writes have told.
+    pub tails: Tails,
     pub buffer: Box<[u8; SLOT_SIZE]>,
 }
 
@@ -181,6 +184,7 @@ impl<D: Device> NodeReader<D> {
     fn read(&mut self, alloc: Global, id: u64, slot: u32, level: u32) -> Result<Rc<Node>, MapFault>
         requires reading { IsReading (D.contents self.old.dev) self.old }
         requires alone { IsAlone slot level (spots_in self.old.spots id) }
+        requires trusted { self.old.is_lent ≡ false }
         requires uncached { kept_at self.old.cache id ≡ None }
         ensures held { IfSome (D.contents self.old.dev)
             (λ image. IfOk result (λ node. HasNode image slot level node.value)) }
@@ -194,7 +198,14 @@ impl<D: Device> NodeReader<D> {
         ensures cause { HasMapCause (D.fault_count self.old.dev) (D.fault_count self.new.dev)
             (IsBadSlot (D.contents self.old.dev) slot level) NeverWorn result }
     {
-        let node = match read_node(alloc, &mut self.dev, slot, level, &mut self.buffer) {
+        let node = match read_node(
+            alloc,
+            &mut self.dev,
+            slot,
+            level,
+            &mut self.buffer,
+            &mut self.tails,
+        ) {
             Ok(node) => node,
             Err(fault) => return Err(map_fault(fault)),
         };
@@ -220,6 +231,7 @@ impl<D: Device> NodeReader<D> {
             return;
         }
         self.cache.clear();
+        self.tails.forget();
         self.is_lent = false;
     }
 

@@ -1,6 +1,6 @@
 //! Nodes that are written to their own slots.
 
-ghost use Rattle.std.specs.Prelude.{◌≡◌, ◌≢◌, ◌⊎◌, ◌-◌, ◌<◌, ◌≤◌, ℕ, Some, IsSome, IsTrue, IfSome, OnOk, OnErr, length, min};
+ghost use Rattle.std.specs.Prelude.{◌≡◌, ◌≢◌, ◌⊎◌, ◌-◌, ◌<◌, ◌≤◌, ℕ, Some, IsSome, IsTrue, IfSome, OnOk, OnErr, length, min, false, Option};
 ghost use Rattle.std.specs.Option.{option_map};
 ghost use Rattle.bd_cache.specs.Cache.{node_of};
 ghost use Rattle.bd_slots.specs.Layout.{image_blocks};
@@ -8,6 +8,8 @@ ghost use Rattle.bd_slots.specs.Slots.{free_count};
 ghost use Rattle.bd_device.specs.Calls.{faults_after};
 ghost use Rattle.bd_device.specs.Changes.{StaysBut, IsBeforeBut};
 ghost use Rattle.bd_device.specs.Device.{left_now, Goes, Stays, FailsLast};
+ghost use Rattle.bd_device.specs.Blocks.{Image};
+ghost use Rattle.bd_tails.specs.Tails.{AreTails};
 ghost use Rattle.bd_pager.specs.Counting.{is_in_memory, AreBelow, AreUnused, IsTallied};
 ghost use Rattle.bd_pager.specs.Moving.{copy_if, freed_at, freed_in, stored_at, AreEarlier, IfSpot, IsCachedMore, IsHeldAt, IsMovedAt, IsOfPlace, IsOfSpot, IsReservedAt, IsReservedPlace, IsReservedSpot, IsWritablePlace, OnlyMoves};
 ghost use Rattle.bd_pager.specs.Places.{spots_in};
@@ -26,6 +28,7 @@ use bd_io::Failed;
 use bd_limits::SLOT_SIZE;
 use bd_node::Node;
 use bd_slots::SlotSet;
+use bd_tails::Tails;
 use std::collections::HashMap;
 use std::mem;
 use std::rc::Rc;
@@ -64,8 +67,15 @@ pub fn write_at<D: Device>(
         ≡ faults_after (D.write_fault_count reader.old.dev) result }
 {
     images_are_decoded();
+    doubt(&mut reader.tails, reader.is_lent);
     reserve(&mut reader.spots, &mut usage.free, id);
-    write_spot(&mut reader.dev, &reader.spots, id, &mut reader.buffer)?;
+    write_spot(
+        &mut reader.dev,
+        &reader.spots,
+        id,
+        &mut reader.buffer,
+        &mut reader.tails,
+    )?;
     settle(&mut reader.spots, &mut reader.cache, id, id == root);
     usage.recount(IN_MEMORY, STORED);
     usage.listed.remove(&id);
@@ -107,6 +117,17 @@ pub fn write_early<D: Device>(
         write_at(reader, usage, id, root)?;
     }
     Ok(())
+}
+
+// Gives up what is known of tails, if the device was lent since.
+fn doubt(tails: &mut Tails, is_lent: bool)
+    ensures known { (contents : Option Image) → (is_lent ≡ false → AreTails contents tails.old)
+        → AreTails contents tails.new }
+    ensures same { is_lent ≡ false → tails.new ≡ tails.old }
+{
+    if is_lent {
+        tails.forget();
+    }
 }
 
 /// Gives a kept node a slot of its own, if it is in memory and has none.
@@ -160,11 +181,14 @@ fn write_spot<D: Device>(
     spots: &HashMap<u64, Spot>,
     id: u64,
     bytes: &mut [u8; SLOT_SIZE],
+    tails: &mut Tails,
 ) -> Result<(), Failed>
-    requires { IfSpot (λ s. IsWritablePlace (D.block_count dev.old) s.level s.place)
+    requires place { IfSpot (λ s. IsWritablePlace (D.block_count dev.old) s.level s.place)
         (spots_in spots.now id) }
+    requires tails { AreTails (D.contents dev.old) tails.old }
     ensures held { OnOk result (IfSome (D.contents dev.new) (λ image.
         IfSpot (λ s. IsHeldAt image s.level s.place) (spots_in spots.now id))) }
+    ensures tails { AreTails (D.contents dev.new) tails.new }
     ensures elsewhere { StaysBut (IsOfSpot (spots_in spots.now id))
         (D.contents dev.old) (D.contents dev.new) }
     ensures time { Goes D.Device dev.old dev.new
@@ -175,7 +199,7 @@ fn write_spot<D: Device>(
         ≡ faults_after (D.write_fault_count dev.old) result }
 {
     match spots.get(&id) {
-        Some(spot) => write_place(dev, &spot.place, spot.level, bytes),
+        Some(spot) => write_place(dev, &spot.place, spot.level, bytes, tails),
         None => unreachable!(),
     }
 }
@@ -186,10 +210,13 @@ fn write_place<D: Device>(
     place: &Place,
     level: u32,
     bytes: &mut [u8; SLOT_SIZE],
+    tails: &mut Tails,
 ) -> Result<(), Failed>
-    requires { IsWritablePlace (D.block_count dev.old) level place.now }
+    requires place { IsWritablePlace (D.block_count dev.old) level place.now }
+    requires tails { AreTails (D.contents dev.old) tails.old }
     ensures held { OnOk result (IfSome (D.contents dev.new)
         (λ image. IsHeldAt image level place.now)) }
+    ensures tails { AreTails (D.contents dev.new) tails.new }
     ensures elsewhere { StaysBut (IsOfPlace place.now) (D.contents dev.old) (D.contents dev.new) }
     ensures time { Goes D.Device dev.old dev.new
         (IsBeforeBut (IsOfPlace place.now) (left_now D.Device dev.old)) }
@@ -202,7 +229,7 @@ fn write_place<D: Device>(
         Place::Memory {
             node,
             slot: Some(slot),
-        } => write_node(dev, *slot, node, bytes),
+        } => write_node(dev, *slot, node, bytes, tails),
         Place::Memory { slot: None, .. } | Place::Slot { .. } => unreachable!(),
     }
 }

@@ -59,11 +59,8 @@ pub fn write_all<D: Device>(
     write_early(reader, usage, root, 0)?;
     let (written, at) = draft.filled(&reader.spots, &usage.free, root, next);
     let slots = usage.spare.count();
-    bd_table::write(
-        &mut reader.dev,
-        slots,
-        written.at.as_slice(),
-        &written.table,
-    )?;
+    let taken = written.at.as_slice();
+    reader.tails.forget_at(taken);
+    bd_table::write(&mut reader.dev, slots, taken, &written.table)?;
     Ok((written, at))
 }

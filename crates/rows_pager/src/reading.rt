@@ -55,8 +55,8 @@ fn ask_all(alloc: Global, tree: &mut Tree<Pager<MemDevice>>) -> Result<bool, Fai
     Ok(true)
 }
 
-/// How many slots are read where all keys are asked so many times, if each has its value then.
-fn slots_read(
+/// How many blocks are read where all keys are asked so many times, if each has its value then.
+fn blocks_read(
     alloc: Global,
     saved: Saved<MemDevice>,
     room: usize,
@@ -71,27 +71,55 @@ fn slots_read(
         }
     }
     let device = tree.into_store().into_device();
-    Ok(Some(device.calls().saturating_sub(before) / 16))
+    Ok(Some(device.calls().saturating_sub(before)))
 }
 
-/// How many nodes are kept that were read, how often all keys are asked, and whether the nodes are
-/// then read again each time.
-const ROWS: &[(usize, usize, bool)] = &[(64, 1, false), (200, 3, false), (64, 3, true)];
+/// How many blocks a slot has.
+const BLOCKS: u64 = 16;
 
-// The table and each node is read once, the root at the start alone.
+/// How many nodes are kept that were read, and how often all keys are asked.
+const ROWS: &[(usize, usize)] = &[(64, 1), (200, 3)];
+
+// The table and each node is read once, the root at the start alone: whole slots.
 #[test]
 fn nodes_that_are_asked_in_turn(rt: HostRuntime) -> Result<(), Fail> {
     let alloc = rt.alloc();
-    for (room, times, again) in ROWS {
+    for (room, times) in ROWS {
         let (saved, kept) = filled(alloc)?;
         assert!(rt; kept > 90, "{kept}");
-        let found = slots_read(alloc, saved, *room, *times)?;
-        let more = if *again { 2 } else { 0 };
-        let want = kept
-            .saturating_sub(1)
-            .saturating_mul(1 + more)
-            .saturating_add(2);
+        let found = blocks_read(alloc, saved, *room, *times)?;
+        let want = kept.saturating_add(1).saturating_mul(BLOCKS);
         assert_eq!(rt; found, Some(want), "{room} {times}");
     }
+    Ok(())
+}
+
+/// The blocks that 2,000,000 bytes of values take at least.
+const LEAST: u64 = 489;
+
+/// The most blocks of a slot that a leaf uses.
+const MOST: u64 = 11;
+
+// Where fewer nodes are kept, each is read again, but for the zeros that its slot ends in.
+#[test]
+fn nodes_that_are_read_again(rt: HostRuntime) -> Result<(), Fail> {
+    let alloc = rt.alloc();
+    let mut found = [0; 3];
+    for times in 1..4 {
+        let (saved, kept) = filled(alloc)?;
+        let Some(read) = blocks_read(alloc, saved, 64, times)? else {
+            return Err(Fail::new("another value"));
+        };
+        let whole = kept.saturating_add(1).saturating_mul(BLOCKS);
+        found[times - 1] = read.saturating_sub(whole);
+        assert!(rt; found[0] == 0, "{found:?}");
+        let most = kept.saturating_sub(1).saturating_mul(MOST);
+        let again = found[1];
+        assert!(rt;
+            times < 2 || again >= LEAST && again <= most,
+            "{found:?} {most}"
+        );
+    }
+    assert_eq!(rt; found[2], found[1].saturating_mul(2));
     Ok(())
 }

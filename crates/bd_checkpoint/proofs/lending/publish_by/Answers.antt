@@ -7,17 +7,26 @@ use Rattle.bd_image.specs.Standing.{IsOldOrNew}
 use Rattle.bd_pager.specs.Pagers.{Paged, spots_of}
 use Rattle.bd_checkpoint.specs.Following.{AreWritten}
 use Rattle.bd_checkpoint.specs.Kept.{IsOpenOn, AllStandFor}
-use Rattle.bd_checkpoint.proofs.Slots.{taken_back, cached_same, survives, super_before}
+use Rattle.bd_checkpoint.proofs.Slots.{taken_back, cached_same, tails_same, survives, super_before}
 use Rattle.bd_checkpoint.proofs.lending.publish_by.Goals as goal
 
-pub take_back-requires : goal.take_back-requires
-take_back-requires g c =
+pub take_back-requires-clause-copies : goal.take_back-requires-clause-copies
+take_back-requires-clause-copies g c =
     let D = g.D.Device in
     let p = c.args.pager.now in
     let half = c.args.s.now.half in
     let new = c.publish_written-published.new.dev in
     let same = subst (λ (d : g.row.D.Denot). StaysBut (IsOfHalf half) (D.contents d) (D.contents new)) c.device.ensures.value c.publish_written-published.ensures.outside in
     cached_same (IsOfHalf half) (super_before half) (D.contents p.dev) (D.contents new) p.is_lent (spots_of p) p.cache c.requires.unlent same c.device.ensures.copies
+
+pub take_back-requires-clause-tails : goal.take_back-requires-clause-tails
+take_back-requires-clause-tails g c =
+    let D = g.D.Device in
+    let p = c.args.pager.now in
+    let half = c.args.s.now.half in
+    let new = c.publish_written-published.new.dev in
+    let same = subst (λ (d : g.row.D.Denot). StaysBut (IsOfHalf half) (D.contents d) (D.contents new)) c.device.ensures.value c.publish_written-published.ensures.outside in
+    tails_same (IsOfHalf half) (super_before half) (D.contents p.dev) (D.contents new) p.is_lent p.tails c.requires.unlent same c.device.ensures.tails
 
 pub returns-clause-time : goal.returns-clause-time
 returns-clause-time g c = λ live saved log t nodes tree follows given written.

@@ -5,17 +5,26 @@ use Rattle.bd_device.specs.Changes.{StaysBut, IsInRange}
 use Rattle.bd_device.specs.Device.{left_now, Goes}
 use Rattle.bd_pager.specs.Pagers.{Paged, spots_of}
 use Rattle.bd_checkpoint.specs.Kept.{IsOpenOn, IsWithWaiting, IsWithAllOrNone}
-use Rattle.bd_checkpoint.proofs.Slots.{taken_back, cached_same, survives, log_before}
+use Rattle.bd_checkpoint.proofs.Slots.{taken_back, cached_same, tails_same, survives, log_before}
 use Rattle.bd_checkpoint.proofs.lending.sync_by.Goals as goal
 
-pub take_back-requires : goal.take_back-requires
-take_back-requires g c =
+pub take_back-requires-clause-copies : goal.take_back-requires-clause-copies
+take_back-requires-clause-copies g c =
     let D = g.D.Device in
     let p = c.args.pager.now in
     let new = c.sync-synced.new.dev in
     let first = c.args.log.now.first in
     let same = subst (λ (d : g.row.D.Denot). StaysBut (IsInRange first (first + 64)) (D.contents d) (D.contents new)) c.device.ensures.value c.sync-synced.ensures.others in
     cached_same (IsInRange first (first + 64)) (log_before first c.requires.half) (D.contents p.dev) (D.contents new) p.is_lent (spots_of p) p.cache c.requires.unlent same c.device.ensures.copies
+
+pub take_back-requires-clause-tails : goal.take_back-requires-clause-tails
+take_back-requires-clause-tails g c =
+    let D = g.D.Device in
+    let p = c.args.pager.now in
+    let new = c.sync-synced.new.dev in
+    let first = c.args.log.now.first in
+    let same = subst (λ (d : g.row.D.Denot). StaysBut (IsInRange first (first + 64)) (D.contents d) (D.contents new)) c.device.ensures.value c.sync-synced.ensures.others in
+    tails_same (IsInRange first (first + 64)) (log_before first c.requires.half) (D.contents p.dev) (D.contents new) p.is_lent p.tails c.requires.unlent same c.device.ensures.tails
 
 pub returns-clause-time : goal.returns-clause-time
 returns-clause-time g c = λ live saved given.

@@ -10,8 +10,11 @@ use Rattle.bd_pager.proofs.MovingLemmas.{moves_then, device_moves, cached_kept, 
 use Rattle.bd_pager.proofs.TestedLemmas.{reserved_tested, settled_tested}
 use Rattle.bd_pager.proofs.writing.write_at.Goals as goal
 
-pub write_spot-requires : goal.write_spot-requires
-write_spot-requires g c =
+pub write_spot-requires-clause-tails : goal.write_spot-requires-clause-tails
+write_spot-requires-clause-tails g c = c.doubt.ensures.known (g.D.Device.contents c.args.reader.now.dev) c.requires.reading.tails
+
+pub write_spot-requires-clause-place : goal.write_spot-requires-clause-place
+write_spot-requires-clause-place g c =
     let u = c.args.usage.now in
     let mid = spots_in c.reserve.new.spots in
     let own = has_own_now c.args.id (spots_in c.args.reader.now.spots) u.free mid c.reserve.new.free c.reserve.ensures c.requires.memory in
@@ -48,6 +51,7 @@ returns-in_err-write_spot-clause-reading g c =
       cached = cached_kept _ (D.contents r.dev) (D.contents c.write_spot.new.dev) r.is_lent mid r.cache c.write_spot.ensures.elsewhere (own_apart u.spare c.reserve.new.free mid c.args.id own unused)
           (reserved_cached c.args.id spots u.free mid c.reserve.new.free c.reserve.ensures c.requires.memory (D.contents r.dev) r.is_lent r.cache c.requires.reading.cached);
       tested = reserved_tested c.args.id spots u.free mid c.reserve.new.free c.reserve.ensures r.cache r.tested c.requires.reading.tested;
+      tails = λ _. c.write_spot.ensures.tails;
     }
 
 pub returns-in_err-write_spot-clause-tallied : goal.returns-in_err-write_spot-clause-tallied
@@ -91,6 +95,7 @@ returns-clause-reading g c =
           (reserved_cached c.args.id spots u.free mid c.reserve.new.free c.reserve.ensures c.requires.memory (D.contents r.dev) r.is_lent r.cache c.requires.reading.cached));
       tested = settled_tested c.args.id _ mid last c.settle.ensures.moved r.cache c.settle.new.cache r.tested c.settle.ensures.cached
           (reserved_tested c.args.id spots u.free mid c.reserve.new.free c.reserve.ensures r.cache r.tested c.requires.reading.tested);
+      tails = λ _. c.write_spot.ensures.tails;
     }
 
 pub returns-clause-tallied : goal.returns-clause-tallied

@@ -9,7 +9,7 @@ use Rattle.bd_pager.specs.Pagers.{IsReady}
 use Rattle.bd_pager.specs.Places.{spots_in}
 use Rattle.bd_pager.proofs.MovingLemmas.{moves_then, device_moves, cached_kept}
 use Rattle.bd_pager.proofs.ReadyLemmas.{filled_ready, filled_table, table_place}
-use Rattle.bd_pager.proofs.WrittenLemmas.{all_written, table_below, table_spare, table_apart}
+use Rattle.bd_pager.proofs.WrittenLemmas.{table_tails, all_written, table_below, table_spare, table_apart}
 use Rattle.bd_pager.proofs.writing_all.write_all.Goals as goal
 
 pub returns-in_err-write_early-clause-tallied : goal.returns-in_err-write_early-clause-tallied
@@ -55,7 +55,7 @@ write-requires-clause-place g c =
     w.moves w.spare w.tallied w.few q.tallied q.table q.draft q.room in
     let few = subst (λ (l : List Bool). length l ≤ 65536) (sym w.spare) q.slots in
     let table = filled_table u.spare u.free spots c.args.draft.ids.items c.args.root c.args.next c.filled-written.result.0 all.draft_is.ids all.tallied.unused all.stored all.table all.tallied.counted.fits few c.filled-written.ensures.filled in
-    subst (λ (n : ℕ). IsTablePlace n c.as_slice.result.now) (sym c.count-slots.ensures) (subst (λ (l : List ℕ). IsTablePlace (length u.spare) l) (sym c.as_slice.ensures) (table_place (length u.spare) c.filled-written.result.0.at c.filled-written.result.0.table table))
+    subst (λ (n : ℕ). IsTablePlace n c.as_slice-taken.result.now) (sym c.count-slots.ensures) (subst (λ (l : List ℕ). IsTablePlace (length u.spare) l) (sym c.as_slice-taken.ensures) (table_place (length u.spare) c.filled-written.result.0.at c.filled-written.result.0.table table))
 
 pub write-requires-clause-table : goal.write-requires-clause-table
 write-requires-clause-table g c =
@@ -67,8 +67,8 @@ write-requires-clause-table g c =
     w.moves w.spare w.tallied w.few q.tallied q.table q.draft q.room in
     let few = subst (λ (l : List Bool). length l ≤ 65536) (sym w.spare) q.slots in
     let table = filled_table u.spare u.free spots c.args.draft.ids.items c.args.root c.args.next c.filled-written.result.0 all.draft_is.ids all.tallied.unused all.stored all.table all.tallied.counted.fits few c.filled-written.ensures.filled in
-    subst (λ (n : ℕ). IsTableAt n c.as_slice.result.now c.filled-written.result.0.table) (sym c.count-slots.ensures)
-    (subst (λ (l : List ℕ). IsTableAt (length u.spare) l c.filled-written.result.0.table) (sym c.as_slice.ensures) table)
+    subst (λ (n : ℕ). IsTableAt n c.as_slice-taken.result.now c.filled-written.result.0.table) (sym c.count-slots.ensures)
+    (subst (λ (l : List ℕ). IsTableAt (length u.spare) l c.filled-written.result.0.table) (sym c.as_slice-taken.ensures) table)
 
 pub returns-in_err-write-clause-moves : goal.returns-in_err-write-clause-moves
 returns-in_err-write-clause-moves g c =
@@ -81,8 +81,8 @@ returns-in_err-write-clause-moves g c =
     let first = spots_in c.args.reader.now.spots in
     let spots = spots_in c.write_early.new.reader.spots in
     let all = all_written D c.args.root c.args.next d e first spots c.args.usage.now u c.args.draft w.moves w.spare w.tallied w.few q.tallied q.table q.draft q.room in
-    let free = subst (λ (l : List ℕ). All (IsFree u.free) l) (sym c.as_slice.ensures) c.filled-written.ensures.filled.at in
-    let at = c.as_slice.result.now in
+    let free = subst (λ (l : List ℕ). All (IsFree u.free) l) (sym c.as_slice-taken.ensures) c.filled-written.ensures.filled.at in
+    let at = c.as_slice-taken.result.now in
     let unused : AreUnused c.args.usage.now.spare u.free spots = subst (λ (l : List Bool). AreUnused l u.free spots) w.spare all.tallied.unused in
     let spare = table_spare c.args.usage.now.spare at (λ k x lt. ((unused.free_is _).0 (free k x lt)).0) in
     let written = c.in_err-write.ensures in
@@ -98,12 +98,13 @@ returns-in_err-write-clause-reading g c =
     let r = c.write_early.new.reader in
     let spots = spots_in r.spots in
     let all = all_written D c.args.root c.args.next c.args.reader.now.dev r.dev (spots_in c.args.reader.now.spots) spots c.args.usage.now u c.args.draft w.moves w.spare w.tallied w.few q.tallied q.table q.draft q.room in
-    let free = subst (λ (l : List ℕ). All (IsFree u.free) l) (sym c.as_slice.ensures) c.filled-written.ensures.filled.at in
-    let at = c.as_slice.result.now in
+    let free = subst (λ (l : List ℕ). All (IsFree u.free) l) (sym c.as_slice-taken.ensures) c.filled-written.ensures.filled.at in
+    let at = c.as_slice-taken.result.now in
     record {
       placed = w.reading.placed;
       cached = cached_kept (IsOfTable at) (D.contents r.dev) (D.contents c.write.new.dev) r.is_lent spots r.cache c.in_err-write.ensures.elsewhere (table_apart u.spare u.free spots at all.tallied.unused free) w.reading.cached;
       tested = w.reading.tested;
+      tails = λ not_lent. table_tails (D.contents r.dev) (D.contents c.write.new.dev) at r.tails c.forget_at.new.self (w.reading.tails not_lent) c.forget_at.ensures c.in_err-write.ensures.elsewhere;
     }
 
 pub returns-in_err-write-clause-tallied : goal.returns-in_err-write-clause-tallied
@@ -122,8 +123,8 @@ returns-clause-moves g c =
     let first = spots_in c.args.reader.now.spots in
     let spots = spots_in c.write_early.new.reader.spots in
     let all = all_written D c.args.root c.args.next d e first spots c.args.usage.now u c.args.draft w.moves w.spare w.tallied w.few q.tallied q.table q.draft q.room in
-    let free = subst (λ (l : List ℕ). All (IsFree u.free) l) (sym c.as_slice.ensures) c.filled-written.ensures.filled.at in
-    let at = c.as_slice.result.now in
+    let free = subst (λ (l : List ℕ). All (IsFree u.free) l) (sym c.as_slice-taken.ensures) c.filled-written.ensures.filled.at in
+    let at = c.as_slice-taken.result.now in
     let unused : AreUnused c.args.usage.now.spare u.free spots = subst (λ (l : List Bool). AreUnused l u.free spots) w.spare all.tallied.unused in
     let spare = table_spare c.args.usage.now.spare at (λ k x lt. ((unused.free_is _).0 (free k x lt)).0) in
     let written = c.in_ok-write.ensures in
@@ -139,12 +140,13 @@ returns-clause-reading g c =
     let r = c.write_early.new.reader in
     let spots = spots_in r.spots in
     let all = all_written D c.args.root c.args.next c.args.reader.now.dev r.dev (spots_in c.args.reader.now.spots) spots c.args.usage.now u c.args.draft w.moves w.spare w.tallied w.few q.tallied q.table q.draft q.room in
-    let free = subst (λ (l : List ℕ). All (IsFree u.free) l) (sym c.as_slice.ensures) c.filled-written.ensures.filled.at in
-    let at = c.as_slice.result.now in
+    let free = subst (λ (l : List ℕ). All (IsFree u.free) l) (sym c.as_slice-taken.ensures) c.filled-written.ensures.filled.at in
+    let at = c.as_slice-taken.result.now in
     record {
       placed = w.reading.placed;
       cached = cached_kept (IsOfTable at) (D.contents r.dev) (D.contents c.write.new.dev) r.is_lent spots r.cache c.in_ok-write.ensures.elsewhere (table_apart u.spare u.free spots at all.tallied.unused free) w.reading.cached;
       tested = w.reading.tested;
+      tails = λ not_lent. table_tails (D.contents r.dev) (D.contents c.write.new.dev) at r.tails c.forget_at.new.self (w.reading.tails not_lent) c.forget_at.ensures c.in_ok-write.ensures.elsewhere;
     }
 
 pub returns-clause-tallied : goal.returns-clause-tallied

@@ -1,4 +1,5 @@
-use Rattle.std.proofs.Common.{true, refl, ap, subst}
+use Rattle.std.proofs.Common.{◌≡◌, true, false, refl, ap, subst}
+use Rattle.bd_tails.specs.Tails.{AreTails}
 use Rattle.bd_pager.specs.Places.{spots_in, AreCached}
 use Rattle.bd_pager.specs.Pagers.{Paged, spots_of}
 use Rattle.bd_pager.proofs.PagerLemmas.{lent_cached}
@@ -20,6 +21,7 @@ invariant_of-self-lent g c = λ w.
         slots = was.slots;
         stored = was.stored;
         saved = was.saved;
+        tails = λ not_lent. absurd (let e : true ≡ false = not_lent in cc);
         ready = was.ready;
       },
       c.self.invariant.1,
@@ -33,5 +35,6 @@ returns g c = (
     lends = tt;
     value = ap (λ (p : Paged g.row.D.Denot). p.dev) c.self.view_is;
     copies = subst (λ (p : Paged g.row.D.Denot). AreCached (g.D.Device.contents p.dev) p.is_lent (spots_of p) p.cache) c.self.view_is c.self.invariant.0.cached;
+    tails = subst (λ (p : Paged g.row.D.Denot). p.is_lent ≡ false → AreTails (g.D.Device.contents p.dev) p.tails) c.self.view_is c.self.invariant.0.tails;
   },
 )

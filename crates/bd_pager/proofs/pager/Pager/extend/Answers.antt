@@ -20,7 +20,7 @@ use Rattle.bd_pager.specs.Pagers.{Paged, spots_of, table_of, nodes_of, is_known,
 use Rattle.bd_pager.specs.Places.{Spots, spots_in, copy_in, nodes_at, IsLowerIn}
 use Rattle.bd_pager.specs.Testing.{AreTested}
 use Rattle.bd_pager.proofs.ExtendedLemmas.{root_seen, list_fits, pager_extended, pager_tested, addition_below, unsound_root}
-use Rattle.bd_pager.proofs.StepsLemmas.{no_loans, reads_stay, reordered, tallied_more}
+use Rattle.bd_pager.proofs.StepsLemmas.{OnlyReadsOf, no_loans, reads_stay, reordered, tallied_more}
 use Rattle.bd_pager.proofs.pager.Pager.extend.Goals as goal
 
 pub returns-then-not-copy_names_lower-clause-cause : goal.returns-then-not-copy_names_lower-clause-cause
@@ -198,3 +198,28 @@ returns-clause-stays g c =
     (ap (λ (n : ℕ). i.size + n) c.size-added.ensures) (ap (λ (n : ℕ). i.next + n) c.len-count.ensures) e.spare e.ok in
     let q : Paged g.row.D.Denot = record p { spots = new.spots.entries; spare = new.usage.spare; size = i.size + c.size-added.result; next = i.next + c.len-count.result; visits = c.saturating_add-self-inside.result; written = None } in
     subst (λ (x : Paged g.row.D.Denot). StaysBy (is_known D) (KeepsSaved D) no_loans x q) c.self.view_is all.1.stays
+
+pub returns-in-Err-extend_spots-clause-err : goal.returns-in-Err-extend_spots-clause-err
+returns-in-Err-extend_spots-clause-err g c =
+    let i = c.self.inside in
+    let D = g.D.Device in
+    let p : Paged g.row.D.Denot = seen i.reader i.saved i.at.items i.usage.spare i.root i.size i.next i.visits i.written in
+    let e = c.in-Err-extend_spots.ensures in
+    let q : Paged g.row.D.Denot = record p { spots = c.extend_spots.new.spots.entries; spare = c.extend_spots.new.usage.spare } in
+    let same : spots_of q ≡ spots_of p = λ j id. e.err id j in
+    let read : IsReadOf D p q = record { device = no_reads D p.dev; lent = λ so. so; spots = same; rest = λ j. record q { spare = e.spare j } } in
+    subst (λ (x : Paged g.row.D.Denot). OnlyReadsOf D x q) c.self.view_is (record {
+      table = read_table D p q read;
+      known = λ known. subst (λ (s : Spots). IsKnownOver (D.contents p.dev) s) (sym same) known;
+      kept = λ known j. nodes_at (D.contents p.dev) (same j);
+      read = read;
+      same_loans = refl;
+    })
+
+pub returns-in-Err-clause-cause : goal.returns-in-Err-clause-cause
+returns-in-Err-clause-cause g c =
+    let D = g.D.Device in
+    let p : Paged g.row.D.Denot = c.args.self.now in
+    let cause = c.in-Err.ensures.cause in
+    subst (λ (l : List Message). HasMapCause {T = Unit {0}} (D.fault_count p.dev) (D.fault_count p.dev) (is_bad D p) (IsWornByAdding (table_of p) c.args.made l) (Err c.in-Err.fault)) c.as_slice-2.ensures
+    (record { later = cause.later; kept = tt; stays = cause.stays; failed = cause.failed })

@@ -9,7 +9,7 @@ use Rattle.bd_pager.proofs.pager.Pager.fresh.Goals as goal
 pub over-requires-clause-paged : goal.over-requires-clause-paged
 over-requires-clause-paged g c =
     let h = c.in-Ok.ensures in
-    fresh_paged (g.D.Device.contents c.args.dev) (assembled c.args.dev c.in-Ok.parts) c.args.slots h.spots h.root h.size h.next h.saved h.at h.usage.spare h.cached refl
+    fresh_paged (g.D.Device.contents c.args.dev) (assembled c.args.dev c.in-Ok.parts) c.args.slots h.spots h.root h.size h.next h.saved h.at h.usage.spare h.cached h.tails refl
 
 pub over-requires-clause-tallied : goal.over-requires-clause-tallied
 over-requires-clause-tallied g c =

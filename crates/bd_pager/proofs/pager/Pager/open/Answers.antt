@@ -2,6 +2,7 @@ use Rattle.std.proofs.Common.{◌≡◌, Option, refl, sym, subst}
 use Rattle.std.specs.Prelude.{IsSome}
 use Rattle.bd_device.specs.Blocks.{Image}
 use Rattle.bd_device.specs.Device.{OnlyReads}
+use Rattle.bd_tails.specs.Tails.{AreTails}
 use Rattle.bd_pager.specs.Fresh.{assembled}
 use Rattle.bd_pager.specs.Opened.{IsOpened}
 use Rattle.bd_pager.specs.Places.{told}
@@ -17,6 +18,7 @@ over-requires-clause-tallied g c =
 pub over-requires-clause-paged : goal.over-requires-clause-paged
 over-requires-clause-paged g c =
     opened_paged (g.D.Device.contents c.args.dev) c.args.slots c.args.at.items (assembled c.read.new.dev c.in-Ok.parts) c.in-Ok.ensures.parts (g.D.Device.contents c.read.new.dev)
+    (subst (λ (known : Option Image). AreTails known c.in-Ok.parts.tails) (sym c.in-Ok.ensures.reads.kept) c.in-Ok.ensures.parts.tails)
 
 pub returns-clause-opened : goal.returns-clause-opened
 returns-clause-opened g c =

@@ -1,8 +1,9 @@
-use Rattle.std.proofs.Common.{◌≡◌, ◌≤◌, Bool, List, None, length, min, refl, sym, ap, subst, ◌∙◌, arith, inl, inr}
+use Rattle.std.proofs.Common.{◌≡◌, ◌≤◌, Bool, List, None, length, min, refl, sym, ap, subst, ◌∙◌, arith, inl, inr, false}
 use Rattle.std.proofs.lemmas.Result.{on_ok_weaker}
 use Rattle.bd_slots.specs.Layout.{image_blocks}
 use Rattle.bd_device.specs.Calls.{faults_after}
 use Rattle.bd_device.specs.Device.{FailsLast}
+use Rattle.bd_tails.specs.Tails.{AreTails}
 use Rattle.bd_pager.specs.Counting.{memory_of, AreUnused}
 use Rattle.bd_pager.specs.Moving.{AreEarlier, Spills}
 use Rattle.bd_pager.specs.Pagers.{Paged, spots_of, IsPaged, seen}
@@ -29,11 +30,12 @@ invariant_of-self g c =
     let r = c.write_early.new.reader in
     let v = c.write_early.new.usage in
     let p : Paged g.row.D.Denot = seen i.reader i.saved i.at.items i.usage.spare i.root i.size i.next i.visits i.written in
-    let q : Bool → List Bool → Paged g.row.D.Denot = λ lent spare. record p { dev = r.dev; spots = r.spots.entries; cache = r.cache; is_lent = lent; spare = spare; written = None } in
+    let q : Bool → List Bool → Paged g.row.D.Denot = λ lent spare. record p { dev = r.dev; spots = r.spots.entries; cache = r.cache; tails = r.tails; is_lent = lent; spare = spare; written = None } in
     let tallied = w.tallied i.next (paged_below (D.contents i.reader.dev) p c.self.invariant.0) c.self.invariant.1 in
     let paged : IsPaged (D.contents r.dev) (q i.reader.is_lent i.usage.spare) =
-    spilled_paged D p r.dev r.spots.entries r.cache v.free c.self.invariant.0 w.moves w.reading.placed
+    spilled_paged D p r.dev r.spots.entries r.cache v.free r.tails c.self.invariant.0 w.moves w.reading.placed
     (subst (λ (b : Bool). AreCached (D.contents r.dev) b (spots_in r.spots) r.cache) w.lent w.reading.cached)
+    (subst (λ (b : Bool). b ≡ false → AreTails (D.contents r.dev) r.tails) w.lent w.reading.tails)
     (subst (λ (l : List Bool). AreUnused l v.free (spots_in r.spots)) w.spare tallied.unused) in (
       subst (λ (b : Bool). IsPaged (D.contents r.dev) (q b v.spare)) (sym w.lent) (subst (λ (l : List Bool). IsPaged (D.contents r.dev) (q i.reader.is_lent l)) (sym w.spare) paged),
       tallied,
@@ -48,7 +50,7 @@ returns g c =
     let r = c.write_early.new.reader in
     let v = c.write_early.new.usage in
     let p : Paged g.row.D.Denot = seen i.reader i.saved i.at.items i.usage.spare i.root i.size i.next i.visits i.written in
-    let q : Bool → List Bool → Paged g.row.D.Denot = λ lent spare. record p { dev = r.dev; spots = r.spots.entries; cache = r.cache; is_lent = lent; spare = spare; written = None } in
+    let q : Bool → List Bool → Paged g.row.D.Denot = λ lent spare. record p { dev = r.dev; spots = r.spots.entries; cache = r.cache; tails = r.tails; is_lent = lent; spare = spare; written = None } in
     let tallied = w.tallied i.next (paged_below (D.contents i.reader.dev) p c.self.invariant.0) c.self.invariant.1 in
     record {
       spills = subst (λ (x : Paged g.row.D.Denot). Spills D x (q r.is_lent v.spare)) c.self.view_is

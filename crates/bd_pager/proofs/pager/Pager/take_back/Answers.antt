@@ -1,4 +1,5 @@
 use Rattle.std.proofs.Common.{false, sym, subst}
+use Rattle.bd_tails.specs.Tails.{AreTails}
 use Rattle.bd_pager.specs.Places.{AreCached}
 use Rattle.bd_pager.specs.Pagers.{Paged, spots_of}
 use Rattle.bd_pager.proofs.pager.Pager.take_back.Goals as goal
@@ -11,13 +12,14 @@ invariant_of-self g c =
         used = was.used;
         placed = was.placed;
         root = was.root;
-        cached = subst (λ (p : Paged g.row.D.Denot). AreCached (g.D.Device.contents p.dev) false (spots_of p) p.cache) (sym c.self.view_is) c.requires;
+        cached = subst (λ (p : Paged g.row.D.Denot). AreCached (g.D.Device.contents p.dev) false (spots_of p) p.cache) (sym c.self.view_is) c.requires.copies;
         levels = was.levels;
         held = was.held;
         spare = was.spare;
         slots = was.slots;
         stored = was.stored;
         saved = was.saved;
+        tails = λ _. subst (λ (p : Paged g.row.D.Denot). AreTails (g.D.Device.contents p.dev) p.tails) (sym c.self.view_is) c.requires.tails;
         ready = was.ready;
       },
       c.self.invariant.1,

@@ -1,7 +1,8 @@
-use Rattle.std.proofs.Common.{◌≡◌, ◌+◌, ◌≤◌, ℕ, Bool, List, length, Option, None, Some, IfSome, refl, sym, ap, subst, ◌∙◌, arith}
+use Rattle.std.proofs.Common.{◌≡◌, ◌+◌, ◌≤◌, ℕ, Bool, List, length, Option, None, Some, IfSome, refl, sym, ap, subst, ◌∙◌, arith, false}
 use Rattle.bd_slots.specs.Layout.{table_length, IsTablePlace}
 use Rattle.bd_node.specs.Tables.{kept_count}
 use Rattle.bd_table.specs.Image.{HoldsTable}
+use Rattle.bd_tails.specs.Tails.{AreTails}
 use Rattle.bd_pager.specs.declared.written.Written.{Written}
 use Rattle.bd_pager.specs.Counting.{changed_of, free_of, AreUnused}
 use Rattle.bd_pager.specs.Moving.{Spills}
@@ -46,10 +47,11 @@ invariant_of-self g c =
     let r = c.write_all.new.reader in
     let v = c.write_all.new.usage in
     let p : Paged g.row.D.Denot = seen i.reader i.saved i.at.items i.usage.spare i.root i.size i.next i.visits i.written in
-    let q : Bool → List Bool → Option Written → Paged g.row.D.Denot = λ lent spare written. record p { dev = r.dev; spots = r.spots.entries; cache = r.cache; is_lent = lent; spare = spare; written = written } in
+    let q : Bool → List Bool → Option Written → Paged g.row.D.Denot = λ lent spare written. record p { dev = r.dev; spots = r.spots.entries; cache = r.cache; tails = r.tails; is_lent = lent; spare = spare; written = written } in
     let paged : IsPaged (D.contents r.dev) (q i.reader.is_lent i.usage.spare None) =
-    spilled_paged D p r.dev r.spots.entries r.cache v.free c.self.invariant.0 w.moves w.reading.placed
+    spilled_paged D p r.dev r.spots.entries r.cache v.free r.tails c.self.invariant.0 w.moves w.reading.placed
     (subst (λ (b : Bool). AreCached (D.contents r.dev) b (spots_in r.spots) r.cache) w.lent w.reading.cached)
+    (subst (λ (b : Bool). b ≡ false → AreTails (D.contents r.dev) r.tails) w.lent w.reading.tails)
     (subst (λ (l : List Bool). AreUnused l v.free (spots_in r.spots)) w.spare w.tallied.unused) in
     let ready = ready_paged (D.contents r.dev) (q i.reader.is_lent i.usage.spare None) c.in-Ok-write_all.written paged c.in-Ok-write_all.ensures.ready in (
       subst (λ (b : Bool). IsPaged (D.contents r.dev) (q b v.spare (Some c.in-Ok-write_all.written))) (sym w.lent)
@@ -66,10 +68,11 @@ invariant_of-self-in-Err g c =
     let r = c.write_all.new.reader in
     let v = c.write_all.new.usage in
     let p : Paged g.row.D.Denot = seen i.reader i.saved i.at.items i.usage.spare i.root i.size i.next i.visits i.written in
-    let q : Bool → List Bool → Option Written → Paged g.row.D.Denot = λ lent spare written. record p { dev = r.dev; spots = r.spots.entries; cache = r.cache; is_lent = lent; spare = spare; written = written } in
+    let q : Bool → List Bool → Option Written → Paged g.row.D.Denot = λ lent spare written. record p { dev = r.dev; spots = r.spots.entries; cache = r.cache; tails = r.tails; is_lent = lent; spare = spare; written = written } in
     let paged : IsPaged (D.contents r.dev) (q i.reader.is_lent i.usage.spare None) =
-    spilled_paged D p r.dev r.spots.entries r.cache v.free c.self.invariant.0 w.moves w.reading.placed
+    spilled_paged D p r.dev r.spots.entries r.cache v.free r.tails c.self.invariant.0 w.moves w.reading.placed
     (subst (λ (b : Bool). AreCached (D.contents r.dev) b (spots_in r.spots) r.cache) w.lent w.reading.cached)
+    (subst (λ (b : Bool). b ≡ false → AreTails (D.contents r.dev) r.tails) w.lent w.reading.tails)
     (subst (λ (l : List Bool). AreUnused l v.free (spots_in r.spots)) w.spare w.tallied.unused) in (
       subst (λ (b : Bool). IsPaged (D.contents r.dev) (q b v.spare None)) (sym w.lent) (subst (λ (l : List Bool). IsPaged (D.contents r.dev) (q i.reader.is_lent l None)) (sym w.spare) paged),
       w.tallied,
@@ -83,7 +86,7 @@ returns-in-Ok-write_all-clause-spills g c =
     let r = c.write_all.new.reader in
     let v = c.write_all.new.usage in
     let p : Paged g.row.D.Denot = seen i.reader i.saved i.at.items i.usage.spare i.root i.size i.next i.visits i.written in
-    let q : Bool → List Bool → Paged g.row.D.Denot = λ lent spare. record p { dev = r.dev; spots = r.spots.entries; cache = r.cache; is_lent = lent; spare = spare; written = Some c.in-Ok-write_all.written } in
+    let q : Bool → List Bool → Paged g.row.D.Denot = λ lent spare. record p { dev = r.dev; spots = r.spots.entries; cache = r.cache; tails = r.tails; is_lent = lent; spare = spare; written = Some c.in-Ok-write_all.written } in
     subst (λ (x : Paged g.row.D.Denot). Spills g.D.Device x (q r.is_lent v.spare)) c.self.view_is
     (record { moves = w.moves; bad = spilled_bad g.D.Device i.usage.spare i.root i.reader.dev r.dev (spots_in i.reader.spots) (spots_in r.spots) w.moves c.self.invariant.0.placed; rest = ap (λ (b : Bool). q b v.spare) w.lent ∙ ap (λ (l : List Bool). q i.reader.is_lent l) w.spare })
 
@@ -94,7 +97,7 @@ returns-in-Err-clause-spills g c =
     let r = c.write_all.new.reader in
     let v = c.write_all.new.usage in
     let p : Paged g.row.D.Denot = seen i.reader i.saved i.at.items i.usage.spare i.root i.size i.next i.visits i.written in
-    let q : Bool → List Bool → Paged g.row.D.Denot = λ lent spare. record p { dev = r.dev; spots = r.spots.entries; cache = r.cache; is_lent = lent; spare = spare; written = None } in
+    let q : Bool → List Bool → Paged g.row.D.Denot = λ lent spare. record p { dev = r.dev; spots = r.spots.entries; cache = r.cache; tails = r.tails; is_lent = lent; spare = spare; written = None } in
     subst (λ (x : Paged g.row.D.Denot). Spills g.D.Device x (q r.is_lent v.spare)) c.self.view_is
     (record { moves = w.moves; bad = spilled_bad g.D.Device i.usage.spare i.root i.reader.dev r.dev (spots_in i.reader.spots) (spots_in r.spots) w.moves c.self.invariant.0.placed; rest = ap (λ (b : Bool). q b v.spare) w.lent ∙ ap (λ (l : List Bool). q i.reader.is_lent l) w.spare })
 

@@ -12,4 +12,5 @@ returns c = record {
   at = c.new-3.ensures.items;
   usage = c.in_ok-fresh_usage.ensures;
   cached = c.in_ok-new.ensures.empty;
+  tails = c.in_ok-new-2.ensures;
 }

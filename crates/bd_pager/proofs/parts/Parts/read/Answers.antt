@@ -5,6 +5,7 @@ use Rattle.bd_node.specs.Nodes.{buffer_size}
 use Rattle.bd_table.specs.Image.{HoldsTable}
 use Rattle.bd_table.specs.Tables.{AreFreeSlots, IsTableAt, slots_of}
 use Rattle.bd_table.specs.declared.table.TableEntry.{TableEntry}
+use Rattle.bd_tails.specs.Tails.{AreTails}
 use Rattle.bd_pager.specs.Slots.{HasNode}
 use Rattle.bd_pager.proofs.parts.Parts.read.Goals as goal
 
@@ -32,6 +33,7 @@ returns-clause-parts g c =
       cached = c.in_ok-cache.ensures.empty;
       visits = refl;
       lent = refl;
+      tails = subst (λ (o : Option Image). AreTails o c.in_ok-node.tails) (c.read_root.ensures.reads.kept ∙ c.in_ok-saved.ensures.reads.kept) c.in_ok-node.ensures.tails;
       written = refl;
       table_held = subst (λ (l : List ℕ). IfSome known (λ image. HoldsTable image slots l t)) c.as_slice.ensures.value c.in_ok-saved.ensures.held;
       root_held = subst (λ (o : Option Image). IfSome o (λ image. HasNode image entry.slot entry.level n)) c.in_ok-saved.ensures.reads.kept c.in_ok-node.ensures.held;
