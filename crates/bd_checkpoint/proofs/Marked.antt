@@ -1,9 +1,10 @@
 -- A pager while a checkpoint of its nodes is made.
-use Rattle.std.proofs.Common.{◌≡◌, ℕ, ◌<◌, Bool, false, ◌&&◌, List, ◌++◌, length, Option, None, Some, IfSome, refl, sym, ap, subst, ◌∙◌}
+use Rattle.std.proofs.Common.{◌≡◌, ℕ, ◌<◌, inl, inr, Bool, false, ◌&&◌, List, ◌++◌, length, Option, None, Some, IfSome, refl, sym, ap, subst, ◌∙◌}
 use Rattle.std.specs.Prelude.{Contains}
 use Rattle.std.proofs.Math.Bool.{and-false}
 use Rattle.std.proofs.lemmas.List.Elements.{Contains-append_right}
 use Rattle.bd_model.specs.Tree.{Tree}
+use Rattle.bd_device.specs.Changes.{StaysBut}
 use Rattle.bd_device.specs.declared.device.Device.{Ghosts}
 use Rattle.bd_node.specs.Meaning.{Nodes}
 use Rattle.bd_node.specs.Tables.{Table}
@@ -17,7 +18,8 @@ use Rattle.bd_pager.specs.declared.place.Spot.{Spot}
 use Rattle.bd_pager.specs.declared.written.Written.{Written}
 use Rattle.bd_pager.specs.Moving.{Spills}
 use Rattle.bd_pager.specs.WritingOut.{IsWrittenOut}
-use Rattle.bd_pager.specs.Places.{Spots}
+use Rattle.bd_pager.specs.Slots.{IsSpare}
+use Rattle.bd_pager.specs.Places.{Spots, IsBadSpot}
 use Rattle.bd_pager.specs.Pagers.{Paged, spots_of, nodes_of, table_at, touched_at, table_of, is_saved, is_changed, is_known, IsEntryOf, AreEntriesOf, IsReady, saved_as}
 use Rattle.bd_pager.proofs.CountingLemmas.{held_unchanged}
 use Rattle.bd_pager.proofs.FlagLemmas.{taken_held, entry_slot}
@@ -26,7 +28,8 @@ use Rattle.bd_checkpoint.specs.Following.{HasTableOf, AreWritten, saved_by}
 use Rattle.bd_checkpoint.specs.Kept.{Saved, slots_held, IsOpenOn, AreOfTree}
 use Rattle.bd_checkpoint.specs.Recovering.{saved_of}
 use Rattle.bd_checkpoint.specs.Saving.{KeepsNodes, StaysUnsaved, IsSaved}
-use Rattle.bd_checkpoint.specs.Surviving.{SurvivesOn}
+use Rattle.bd_checkpoint.specs.Surviving.{IsLow, IsLowOrSpare, SurvivesOn}
+use Rattle.bd_checkpoint.proofs.Slots.{stays_both, stays_same, stays_wider}
 use Rattle.bd_checkpoint.proofs.WrittenOut.{AreEncoded, are_written, table_written}
 
 -- ---- nothing is changed since what was written
@@ -57,13 +60,17 @@ module _ (spare : List Bool) (spots : Spots) (root next : ℕ) (w : Written) (re
 
 -- no call of the device
 pub untouched : {D : Type 0} (g : Ghosts D) (p : Paged D) → SurvivesOn g p p
-untouched g p = record { rest = refl; nodes = refl; known = λ was. was }
+untouched g p = record { rest = refl; nodes = refl; elsewhere = stays_same IsLow (g.contents p.dev); known = λ was. was; bad = λ id b h. h }
 
 module _ {D : Type 0} (g : Ghosts D) (old mid last : Paged D) (spills : Spills g old mid) (survives : SurvivesOn g mid last) where
   pub keeps : KeepsNodes g old last
   keeps = record {
+    elsewhere = stays_both (IsLowOrSpare old.spare) (g.contents old.dev) (g.contents mid.dev) (g.contents last.dev)
+        (stays_wider (IsSpare old.spare) (IsLowOrSpare old.spare) (g.contents old.dev) (g.contents mid.dev) (λ b not is. not (inr is)) spills.moves.elsewhere)
+        (stays_wider IsLow (IsLowOrSpare old.spare) (g.contents mid.dev) (g.contents last.dev) (λ b not is. not (inl is)) survives.elsewhere);
     known = λ was. survives.known (spills.moves.known was);
     nodes = λ was. survives.nodes ∙ (λ i id. spills.moves.nodes was id i);
+    bad = λ was id b h. spills.bad was id b (survives.bad id b h);
   }
 
   abbrev with_device : Paged D → Paged D
@@ -103,6 +110,16 @@ module _ {D : Type 0} (g : Ghosts D) (old mid last : Paged D) (spills : Spills g
         subst (λ (x : Paged D). AreEntriesOf x.saved.entries (spots_of x)) (sym marked)
         (subst (λ (x : Paged D). AreEntriesOf w.written.table.entries (spots_of x)) (sym survives.rest) w.ready.entries)
 
+    root : new.saved.root ≡ new.root
+    root =
+        ap (λ (x : Paged D). x.saved.root) marked ∙ w.ready.root_is
+        ∙ sym (ap (λ (x : Paged D). x.root) survives.rest) ∙ sym (ap (λ (x : Paged D). x.root) marked)
+
+    next : new.saved.next_id ≡ new.next
+    next =
+        ap (λ (x : Paged D). x.saved.next_id) marked ∙ w.ready.next_is
+        ∙ sym (ap (λ (x : Paged D). x.next) survives.rest) ∙ sym (ap (λ (x : Paged D). x.next) marked)
+
     place : IsTableAt (length old.spare) new.at new.saved
     place =
         subst (λ (x : Paged D). IsTableAt (length old.spare) x.at x.saved) (sym marked)
@@ -111,11 +128,15 @@ module _ {D : Type 0} (g : Ghosts D) (old mid last : Paged D) (spills : Spills g
     pub all_saved : IsSaved g old new
     all_saved = record {
       keeps = record {
+        elsewhere = subst (λ (x : Paged D). StaysBut (IsLowOrSpare old.spare) (g.contents old.dev) (g.contents x.dev)) (sym marked) keeps.elsewhere;
         known = λ was. subst (λ (x : Paged D). is_known g x) (sym marked) (keeps.known was);
         nodes = λ was. ap (λ (x : Paged D). nodes_of g x) marked ∙ keeps.nodes was;
+        bad = λ was id b h. keeps.bad was id b (subst (λ (x : Paged D). IsBadSpot (g.contents x.dev) (spots_of x id) b) marked h);
       };
       table = table;
       entries = entries;
+      root = root;
+      next = next;
       place = place;
       spare = free;
       rest = marked ∙ ap (saved_as w.written) rest ∙ sym (ap with_saved marked);

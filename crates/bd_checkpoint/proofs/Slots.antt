@@ -15,21 +15,48 @@ use Rattle.bd_tails.proofs.Known.{zero_stays}
 use Rattle.bd_pager.specs.declared.place.Place.{Place}
 use Rattle.bd_pager.specs.declared.place.Place.TheVariants.{Memory, Slot}
 use Rattle.bd_pager.specs.declared.place.Spot.{Spot}
-use Rattle.bd_pager.specs.Slots.{slot_bytes, HasNode}
-use Rattle.bd_pager.specs.Places.{Spots, node_at, node_of, told, nodes_at, IsReadAt, IsRead, AreCached}
+use Rattle.bd_pager.specs.Slots.{slot_bytes, HasNode, HasNoNode, IsBadSlot}
+use Rattle.bd_pager.specs.Places.{Spots, node_at, node_of, told, nodes_at, IsReadAt, IsRead, AreCached, IsBadPlace, IsBadSpot}
 use Rattle.bd_pager.specs.Pagers.{Paged, spots_of, IsRightPlace, IsKnownOver}
 use Rattle.bd_super.specs.Published.{IsOfHalf}
 use Rattle.bd_super.specs.declared.superblock.Half.{Half}
 use Rattle.bd_log.specs.Logs.{IsLogHalf}
 use Rattle.bd_image.proofs.Checkpoints.{not_slot}
 use Rattle.bd_image.proofs.Frame.{bytes_same}
-use Rattle.bd_checkpoint.specs.Surviving.{SurvivesOn}
+use Rattle.bd_checkpoint.specs.Surviving.{IsLow, SurvivesOn}
 
 -- a pager whose device was lent, and which was told that its slots stayed
 pub taken_back : {D : Type 0} (old new : Paged D) (d : D) → old.is_lent ≡ false → new ≡ record old { dev = d; is_lent = false } → new ≡ record old { dev = new.dev }
 taken_back {D} old new d lent same =
     same ∙ ap (λ (b : Bool). let p : Paged D = record old { dev = d; is_lent = b } in p) (sym lent)
     ∙ ap (λ (x : D). let p : Paged D = record old { dev = x } in p) (sym (ap (λ (p : Paged D). p.dev) same))
+
+-- where some blocks change, no others do
+pub stays_wider : (changed wider : ℕ → Type 0) (known now : Option Image) → ((b : ℕ) → ¬ wider b → ¬ changed b) → StaysBut changed known now → StaysBut wider known now
+stays_wider changed wider None None out same = same
+stays_wider changed wider (Some old) (Some new) out same = record { size = same.size; others = λ b not. same.others b (out b not) }
+stays_wider changed wider None (Some new) out same = absurd same
+stays_wider changed wider (Some old) None out same = absurd same
+
+pub stays_both : (changed : ℕ → Type 0) (known mid now : Option Image) → StaysBut changed known mid → StaysBut changed mid now → StaysBut changed known now
+stays_both changed None None None first second = second
+stays_both changed (Some old) (Some mid) (Some new) first second =
+    record { size = second.size ∙ first.size; others = λ b not. second.others b not ∙ first.others b not }
+stays_both changed None (Some mid) now first second = absurd first
+stays_both changed (Some old) None now first second = absurd first
+stays_both changed None None (Some new) first second = absurd second
+stays_both changed (Some old) (Some mid) None first second = absurd second
+
+pub stays_same : (changed : ℕ → Type 0) (known : Option Image) → StaysBut changed known known
+stays_same changed None = tt
+stays_same changed (Some image) = record { size = refl; others = λ b not. refl }
+
+-- where some blocks change, no more is told than before
+pub told_before : (changed : ℕ → Type 0) (known now : Option Image) → StaysBut changed known now → IsSome now → IsSome known
+told_before changed None None same is = is
+told_before changed (Some old) (Some new) same is = is
+told_before changed None (Some new) same is = absurd same
+told_before changed (Some old) None same is = absurd same
 
 -- no block of a slot is one of these
 abbrev pub AreBefore : (ℕ → Type 0) → Type 0
@@ -73,6 +100,27 @@ module _ (changed : ℕ → Type 0) (low : AreBefore changed) where
     right = λ id s there. right_same known now same s.place (h.right id s there);
   }
 
+  -- ---- what is bad
+
+  no_node_before : (old new : Image) (slot level : ℕ) → slot_bytes new slot ≡ slot_bytes old slot → HasNoNode new slot level → HasNoNode old slot level
+  no_node_before old new slot level same none n h =
+      none n (record { shape = h.shape; level_is = h.level_is; image_is = subst (IsImage n) (sym same) h.image_is })
+
+  bad_slot_before : (known now : Option Image) (slot level b : ℕ) → StaysBut changed known now → IsBadSlot now slot level b → IsBadSlot known slot level b
+  bad_slot_before None None slot level b same h = h
+  bad_slot_before (Some old) (Some new) slot level b same h = (h.0, no_node_before old new slot level (slot_same (Some old) (Some new) same slot) h.1)
+  bad_slot_before None (Some new) slot level b same h = absurd same
+  bad_slot_before (Some old) None slot level b same h = absurd same
+
+  bad_place_before : (known now : Option Image) (level b : ℕ) (p : Place) → StaysBut changed known now → IsBadPlace now level p b → IsBadPlace known level p b
+  bad_place_before known now level b (Memory node slot) same h = h
+  bad_place_before known now level b (Slot slot (Some node)) same h = h
+  bad_place_before known now level b (Slot slot None) same h = bad_slot_before known now slot level b same h
+
+  bad_spot_before : (known now : Option Image) (b : ℕ) (s : Option Spot) → StaysBut changed known now → IsBadSpot now s b → IsBadSpot known s b
+  bad_spot_before known now b None same h = h
+  bad_spot_before known now b (Some s) same h = bad_place_before known now s.level b s.place same h
+
   -- ---- what was read
 
   node_same : (known now : Option Image) (slot level : ℕ) (n : Node) → StaysBut changed known now → IfSome known (λ image. HasNode image slot level n) → IfSome now (λ image. HasNode image slot level n)
@@ -111,8 +159,11 @@ module _ (changed : ℕ → Type 0) (low : AreBefore changed) where
       let at : Paged D = record old { dev = new.dev } in
       record {
         rest = rest;
+        elsewhere = stays_wider changed IsLow (g.contents old.dev) (g.contents new.dev) (λ b high is. low b (omega (arith, high)) is) same;
         nodes = ap (λ (p : Paged D). nodes_at (g.contents new.dev) (spots_of p)) rest ∙ nodes_same (g.contents old.dev) (g.contents new.dev) (spots_of old) same;
         known = λ was. subst (λ (p : Paged D). IsKnownOver (g.contents new.dev) (spots_of p)) (sym rest) (known_same (g.contents old.dev) (g.contents new.dev) (spots_of old) same was);
+        bad = λ id b h. bad_spot_before (g.contents old.dev) (g.contents new.dev) b (spots_of old id) same
+            (subst (λ (p : Paged D). IsBadSpot (g.contents new.dev) (spots_of p id) b) rest h);
       }
 
 -- ---- blocks before the slots

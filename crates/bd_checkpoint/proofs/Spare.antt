@@ -33,7 +33,7 @@ not_low : (spare : List Bool) (b : ℕ) → b < 132 → ¬ IsSpare spare b
 not_low spare b low is = omega (arith, low, is.2.0)
 
 -- no block of a slot that is held
-not_held : (slots : ℕ) (held : List ℕ) (spare : List Bool) (b : ℕ) → AreFreeSlots slots held spare → IsOfSlots held b → ¬ IsSpare spare b
+pub not_held : (slots : ℕ) (held : List ℕ) (spare : List Bool) (b : ℕ) → AreFreeSlots slots held spare → IsOfSlots held b → ¬ IsSpare spare b
 not_held slots held spare b free own is =
     let one : own.1 ≡ is.0 = omega (arith, own.4.0, own.4.1, is.2.0, is.2.1) in
     let within : is.0 < slots = omega (arith, free.count, slice_get_within spare is.0 true is.1) in

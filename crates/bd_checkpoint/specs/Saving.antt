@@ -1,6 +1,7 @@
 -- What a checkpoint leaves of a pager, and why none is made.
 use Rattle.std.specs.Prelude.{◌≡◌, ◌+◌, ◌^◌, ◌≤◌, ◌⊎◌, false, length, None}
 use Rattle.bd_io.specs.Cause.{next_count}
+use Rattle.bd_device.specs.Changes.{StaysBut}
 use Rattle.bd_device.specs.Device.{left_now, LastFailed}
 use Rattle.bd_device.specs.declared.device.Device.{Ghosts}
 use Rattle.bd_message.specs.declared.fault.Counter.TheVariants.{Epoch}
@@ -10,16 +11,21 @@ use Rattle.bd_node.specs.Steps.{with_touched}
 use Rattle.bd_table.specs.Tables.{AreFreeSlots, IsTableAt}
 use Rattle.bd_super.specs.declared.superblock.Super.{Super}
 use Rattle.bd_log.specs.Logs.{LogState}
+use Rattle.bd_pager.specs.Places.{NoneTurnsBad}
 use Rattle.bd_pager.specs.Pagers.{Paged, spots_of, nodes_of, table_of, is_known, AreEntriesOf}
 use Rattle.bd_checkpoint.specs.Kept.{Saved, slots_held, IsOpenOn, AllAsBefore}
 use Rattle.bd_checkpoint.specs.Recovering.{saved_of}
+use Rattle.bd_checkpoint.specs.Surviving.{IsLowOrSpare}
 
 -- ---- what is left
 
--- known nodes stay known, and the same
+-- slots stay but for spare ones; known nodes stay known, and the same, and then no block becomes bad
 pub record KeepsNodes {D : Type 0} (g : Ghosts D) (old new : Paged D) : Type 0 where
+  pub elsewhere : StaysBut (IsLowOrSpare old.spare) (g.contents old.dev) (g.contents new.dev)
   pub known : is_known g old → is_known g new
   pub nodes : is_known g old → nodes_of g new ≡ nodes_of g old
+  pub bad : is_known g old
+      → NoneTurnsBad (g.contents old.dev) (spots_of old) (g.contents new.dev) (spots_of new)
 
 -- no checkpoint was made: the last one stays, and so do the nodes and their table
 pub record StaysUnsaved {D : Type 0} (g : Ghosts D) (old new : Paged D) : Type 0 where
@@ -34,11 +40,14 @@ pub record StaysUnsaved {D : Type 0} (g : Ghosts D) (old new : Paged D) : Type 0
   }
 
 -- a checkpoint of all nodes was made, after which none was changed; the nodes stay, each has an entry
--- in its table, which stands in slots of its own, and other slots are spare
+-- in its table, which has its root and the next id and stands in slots of its own, and other slots
+-- are spare
 pub record IsSaved {D : Type 0} (g : Ghosts D) (old new : Paged D) : Type 0 where
   pub keeps : KeepsNodes g old new
   pub table : table_of new ≡ with_touched (λ id. false) (table_of old)
   pub entries : AreEntriesOf new.saved.entries (spots_of new)
+  pub root : new.saved.root ≡ new.root
+  pub next : new.saved.next_id ≡ new.next
   pub place : IsTableAt (length old.spare) new.at new.saved
   pub spare : AreFreeSlots (length old.spare) (slots_held (saved_of new)) new.spare
   pub rest : new ≡ record old {

@@ -10,7 +10,7 @@ ghost use Rattle.bd_device.specs.declared.fault.ImageFault.TheVariants.{NoMemory
 ghost use Rattle.bd_files.specs.Roots.{root_messages};
 ghost use Rattle.bd_node.specs.New.{new_table};
 ghost use Rattle.bd_node.specs.Steps.{grown, HasGrown};
-ghost use Rattle.bd_node.specs.Tables.{kept_count};
+ghost use Rattle.bd_node.specs.Tables.{IsSound, kept_count};
 ghost use Rattle.bd_table.specs.Tables.{AreFreeSlots, IsTableAt};
 ghost use Rattle.bd_super.specs.Live.{NoneIsCommitted};
 ghost use Rattle.bd_super.specs.Published.{AreSettled};
@@ -73,6 +73,9 @@ pub fn format<D: Device>(
     ensures live { IfOk result (λ f. f.live ≡ first_super slots f.pager.at) }
     ensures log { IfOk result (λ f. f.log ≡ fresh_log first_log_block 1) }
     ensures known { IsSome (D.contents dev) → IfOk result (λ f. is_known D.Device f.pager) }
+    ensures told { IfOk result (λ f.
+        IsSome (D.contents f.pager.dev) → is_known D.Device f.pager
+        × IsSound (nodes_of D.Device f.pager) (table_of f.pager)) }
     ensures nodes { IsSome (D.contents dev)
         → IfOk result (λ f. nodes_of D.Device f.pager ≡ fresh_nodes) }
     ensures table { IfOk result (λ f. table_of f.pager ≡ grown new_table root_messages) }

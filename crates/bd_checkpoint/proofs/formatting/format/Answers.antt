@@ -1,10 +1,11 @@
 use Rattle.std.proofs.Common.{ℕ, true, false, length, IfSome, sym, ap, subst, ◌∙◌}
+use Rattle.std.specs.Prelude.{IsSome}
 use Rattle.std.proofs.lemmas.List.{length-replicate}
 use Rattle.bd_device.specs.Device.{left_now, Stays}
 use Rattle.bd_device.proofs.Calls.{stays_then}
 use Rattle.bd_node.specs.Steps.{with_touched}
 use Rattle.bd_node.specs.Meaning.{Nodes}
-use Rattle.bd_node.specs.Tables.{Table}
+use Rattle.bd_node.specs.Tables.{Table, IsSound}
 use Rattle.bd_super.specs.Live.{NoneIsCommitted}
 use Rattle.bd_super.specs.Published.{AreSettled}
 use Rattle.bd_table.specs.Tables.{AreFreeSlots, IsTableAt}
@@ -13,8 +14,10 @@ use Rattle.bd_pager.proofs.AppendedLemmas.{touched_sound}
 use Rattle.bd_model.specs.Tree.{root_only}
 use Rattle.bd_checkpoint.specs.Kept.{slots_held, AreOfTree}
 use Rattle.bd_checkpoint.specs.Recovering.{saved_of}
+use Rattle.bd_checkpoint.specs.Surviving.{IsLowOrSpare}
 use Rattle.bd_checkpoint.proofs.FreshTree.{has_room}
 use Rattle.bd_checkpoint.proofs.Published.{settled_only}
+use Rattle.bd_checkpoint.proofs.Slots.{told_before}
 use Rattle.bd_checkpoint.proofs.formatting.format.Goals as goal
 
 pub first_checkpoint-requires-clause-spare : goal.first_checkpoint-requires-clause-spare
@@ -45,6 +48,21 @@ returns-clause-stands g c = λ told.
 
 pub returns-clause-known : goal.returns-clause-known
 returns-clause-known g c = λ told. c.in-Ok-first_checkpoint.ensures.saved.keeps.known (c.in-Ok-new_pager.ensures.known (c.in-Ok.ensures.told told))
+
+pub returns-clause-told : goal.returns-clause-told
+returns-clause-told g c = λ told.
+    let first = c.in-Ok-new_pager.pager in
+    let new = c.first_checkpoint.new.pager in
+    let saved = c.in-Ok-first_checkpoint.ensures.saved in
+    let cleared = subst (λ (d : g.row.D.Denot). IsSome (g.D.Device.contents d)) c.in-Ok-new_pager.ensures.new.device
+    (told_before (IsLowOrSpare first.spare) (g.D.Device.contents first.dev) (g.D.Device.contents new.dev) saved.keeps.elsewhere told) in
+    let known = c.in-Ok-new_pager.ensures.known cleared in
+    let now : IsSound (nodes_of g.D.Device first) (with_touched (λ id. false) (table_of first)) =
+    touched_sound (λ id. false) (nodes_of g.D.Device first) (table_of first) (c.in-Ok-new_pager.ensures.tree cleared).sound in (
+      saved.keeps.known known,
+      subst (λ (t : Table). IsSound (nodes_of g.D.Device new) t) (sym saved.table)
+          (subst (λ (n : Nodes). IsSound n (with_touched (λ id. false) (table_of first))) (sym (saved.keeps.nodes known)) now),
+    )
 
 pub returns-clause-nodes : goal.returns-clause-nodes
 returns-clause-nodes g c = λ told.
