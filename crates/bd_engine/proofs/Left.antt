@@ -27,6 +27,7 @@ use Rattle.bd_shown.proofs.Kept.{kept_shown}
 use Rattle.bd_view.specs.Trees.{TreeView, IsAppended, IsGraftMade, IsWalked, HasAppended, HasGrafted}
 use Rattle.bd_recall.specs.Kept.{Findings}
 use Rattle.bd_engine.specs.Engines.{EngineState, seen, view_of, keys_of, HasSoundNodes, IsSoundOn, IsStanding, IsReadOn, OnlyNodesOn}
+use Rattle.bd_engine.proofs.Damage.{no_worse_kept}
 use Rattle.bd_engine.proofs.Recalls.{sound_nodes, sound_same}
 
 -- nodes that were known stay so over reads
@@ -36,8 +37,8 @@ read_knows g p q r known =
     (subst (λ (s : Spots). IsKnownOver (g.contents p.dev) s) (sym r.spots) known)
 
 -- what holds between two calls, where one kept the last checkpoint
-pub kept_standing : {D : Type 0} (g : Ghosts D) (old : EngineState D) (p : Paged D) (recalled : Findings) (walk : Walk) → IsSince g p.dev → IsStanding g old → KeepsSaved g old.pager p → IsStanding g (record old { pager = p; recalled = recalled; walk = walk })
-kept_standing g old p recalled walk earlier h k =
+pub kept_standing : {D : Type 0} (g : Ghosts D) (old : EngineState D) (p : Paged D) (recalled : Findings) (walk : Walk) → IsSince g p.dev → IsStanding g old → KeepsSaved g old.pager p → (HasSoundNodes g old.pager → HasSoundNodes g p) → IsStanding g (record old { pager = p; recalled = recalled; walk = walk })
+kept_standing g old p recalled walk earlier h k sound =
     let same : saved_of old.pager ≡ saved_of p = λ i. record { at = sym k.at i; table = sym k.saved i } in
     record {
       fits = h.fits;
@@ -47,6 +48,7 @@ kept_standing g old p recalled walk earlier h k =
       unlent = k.lent h.unlent;
       records = h.records;
       going = λ on. subst (λ (s : Saved). IsOpenOn g p.dev old.live s old.log) same (open_after g old.pager.dev p.dev earlier k.device old.live (saved_of old.pager) old.log (h.going on));
+      no_worse = λ on. no_worse_kept g old.pager p k sound (h.no_worse on);
     }
 
 -- what reads leave of an engine

@@ -1,9 +1,11 @@
+pub mod Damage
 pub mod Left
 pub mod Logging
 pub mod Numbers
 pub mod Recalls
 pub mod Reclaims
 pub mod Remaining
+pub mod SavedNodes
 pub mod Saving
 pub mod Spilling
 pub mod Starting

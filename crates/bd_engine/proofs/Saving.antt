@@ -26,6 +26,7 @@ use Rattle.bd_image.specs.Versions.{version_of, mode_version}
 use Rattle.bd_checkpoint.specs.Following.{super_after}
 use Rattle.bd_checkpoint.specs.Kept.{Saved, StartsAs, IsOpen, IsOpenOn}
 use Rattle.bd_checkpoint.specs.Recovering.{saved_of}
+use Rattle.bd_checkpoint.proofs.Opened.{AreDecoded}
 use Rattle.bd_checkpoint.specs.Saving.{IsSaved, StaysUnsaved, GoesOn, IsStoppedOrGoesOn as IsLeftOpen, IsCheckpointCause}
 use Rattle.bd_view.specs.Moves.{Saves, saved_view}
 use Rattle.bd_view.specs.Views.{View, kept_ids, changed_count, free_slots, save_slots}
@@ -33,6 +34,7 @@ use Rattle.bd_shown.specs.Shown.{ids_of, shown, IsCheckpointed}
 use Rattle.bd_shown.proofs.Saved.{AreListed, kept_saved}
 use Rattle.bd_engine.specs.Stored.{HasSaved}
 use Rattle.bd_engine.specs.Engines.{EngineState, seen, view_of, keys_of, stop_after, HasSoundNodes, IsStanding, IsGoingOn, IsStopped, IsBegunAnew}
+use Rattle.bd_engine.proofs.Damage.{no_worse_saved, no_worse_unsaved}
 
 -- ---- what stopped it
 
@@ -109,10 +111,10 @@ module _ {D T : Type 0} (g : Ghosts D) (old : EngineState D) (p : Paged D) (log 
   abbrev new_at : Result T MapFault → EngineState D
   new_at r = seen p old.recalled log live (stop_at r) walk
 
-  pub saved_standing : (r : Result T MapFault) → IsStanding g old → old.stop ≡ None → g.write_fault_count old.pager.dev < 2 ^ 64 → OnOk r (IsOpenOn g p.dev live (saved_of p) log) → OnOk r (live ≡ super_after old.live count p.at) → OnOk r (log ≡ fresh_log (log_block live.half) live.epoch) → OnOk r (IsSaved g old.pager p)
+  pub saved_standing : AreDecoded → IsPaged (g.contents old.pager.dev) old.pager → IsPaged (g.contents p.dev) p → (r : Result T MapFault) → IsStanding g old → old.stop ≡ None → g.write_fault_count old.pager.dev < 2 ^ 64 → OnOk r (IsOpenOn g p.dev live (saved_of p) log) → OnOk r (live ≡ super_after old.live count p.at) → OnOk r (log ≡ fresh_log (log_block live.half) live.epoch) → OnOk r (IsSaved g old.pager p)
       → OnErr r (StaysUnsaved g old.pager p) → OnErr r (live ≡ old.live) → OnErr r (log ≡ old.log) → OnErr r (IsLeftOpen g old.pager.dev p.dev old.live (saved_of old.pager) old.log) → IfErr r (IsCheckpointCause g old.pager.dev p.dev old.live)
       → Stays g old.pager.dev p.dev → IsStanding g (new_at r)
-  saved_standing (Ok done) h on fits given next fresh saved unsaved same_live same_log left cause stays =
+  saved_standing decoded was now (Ok done) h on fits given next fresh saved unsaved same_live same_log left cause stays =
       let slots : live.slots ≡ old.live.slots = ap (λ (s : Super). s.slots) next in
       let spare : length p.spare ≡ live.slots = saved.spare.count ∙ h.slots ∙ sym slots in
       record {
@@ -123,8 +125,9 @@ module _ {D T : Type 0} (g : Ghosts D) (old : EngineState D) (p : Paged D) (log 
         unlent = ap (λ (q : Paged D). q.is_lent) saved.rest ∙ h.unlent;
         records = subst (λ (l : LogState). AllByRecursion IsLogRecord l.waiting) (sym fresh) tt;
         going = λ none. given;
+        no_worse = λ none. no_worse_saved g decoded old.pager p saved now (h.no_worse on);
       }
-  saved_standing (Err fault) h on fits given next fresh saved unsaved same_live same_log left cause stays =
+  saved_standing decoded was now (Err fault) h on fits given next fresh saved unsaved same_live same_log left cause stays =
       let at : p.at ≡ old.pager.at = ap (λ (q : Paged D). q.at) unsaved.rest in
       let table : p.saved ≡ old.pager.saved = ap (λ (q : Paged D). q.saved) unsaved.rest in
       let same : saved_of old.pager ≡ saved_of p = λ i. record { at = sym at i; table = sym table i } in
@@ -139,6 +142,7 @@ module _ {D T : Type 0} (g : Ghosts D) (old : EngineState D) (p : Paged D) (log 
           | inl stopped ↦ absurd (is_some none stopped.0)
           | inr goes ↦ subst (λ (s : Saved). IsOpenOn g p.dev old.live s old.log) same goes.1.known
         ];
+        no_worse = λ none. no_worse_unsaved g old.pager p was unsaved (h.no_worse on);
       } in
       subst (λ (s : Super). IsStanding g (seen p old.recalled log s (stop_at (Err fault)) walk)) (sym same_live)
       (subst (λ (l : LogState). IsStanding g (seen p old.recalled l old.live (stop_at (Err fault)) walk)) (sym same_log) standing)

@@ -17,6 +17,7 @@ use Rattle.bd_checkpoint.proofs.Spare.{open_on, time_on, kept_on}
 use Rattle.bd_checkpoint.proofs.Starting.{PartsAreOne}
 use Rattle.bd_shown.specs.Shown.{ids_of, tree_of}
 use Rattle.bd_engine.specs.Engines.{EngineState, seen, keys_of, HasSoundNodes, IsStanding, WritesEarly}
+use Rattle.bd_engine.proofs.Damage.{no_worse_spilled}
 
 -- what is seen of nodes stays over such writes
 pub record ChangesNothing {D : Type 0} (g : Ghosts D) : Type 0 where
@@ -52,8 +53,8 @@ module _ {D : Type 0} (g : Ghosts D) (one : PartsAreOne) (old : EngineState D) (
   still_open = subst (λ (x : Saved). IsOpenOn g p.dev old.live x old.log) same_saved (open_on g old.pager.dev p.dev since old.pager.spare writes one old.live (saved_of old.pager) old.log (h.going on) free)
 
   -- the last checkpoint and the log are known as before, also where a write failed
-  pub spilled_standing : IsStanding g (seen p old.recalled old.log old.live stop old.walk)
-  spilled_standing = record {
+  pub spilled_standing : (HasSoundNodes g old.pager → HasSoundNodes g p) → IsStanding g (seen p old.recalled old.log old.live stop old.walk)
+  spilled_standing sound = record {
     fits = h.fits;
     size = s.moves.stays.count ∙ h.size;
     slots = ap (λ (q : Paged D). length q.spare) s.rest ∙ h.slots;
@@ -61,6 +62,7 @@ module _ {D : Type 0} (g : Ghosts D) (one : PartsAreOne) (old : EngineState D) (
     unlent = ap (λ (q : Paged D). q.is_lent) s.rest ∙ h.unlent;
     records = h.records;
     going = λ none. still_open;
+    no_worse = λ none. no_worse_spilled g old.pager p paged s sound (h.no_worse on);
   }
 
   pub writes_early : ChangesNothing g → WritesEarly g old (seen p old.recalled old.log old.live stop old.walk)

@@ -1,6 +1,7 @@
 -- What an engine starts with.
 use Rattle.std.proofs.Common.{◌≡◌, ℕ, false, List, [], ◌∷◌, map, length, Option, None, Some, IfSome, refl, sym, ap, subst, ◌∙◌}
 use Rattle.std.specs.List.{concat, AllByRecursion}
+use Rattle.std.specs.Prelude.{IsSome}
 use Rattle.bd_limits.specs.Places.{first_log_block}
 use Rattle.bd_model.specs.Tree.{Tree}
 use Rattle.bd_device.specs.Blocks.{Image}
@@ -8,7 +9,7 @@ use Rattle.bd_device.specs.declared.device.Device.{Ghosts}
 use Rattle.bd_files.specs.Roots.{root_messages}
 use Rattle.bd_node.specs.New.{new_table}
 use Rattle.bd_node.specs.Steps.{with_touched, grown}
-use Rattle.bd_node.specs.Tables.{Table, sum_below}
+use Rattle.bd_node.specs.Tables.{Table, IsSound, sum_below}
 use Rattle.bd_table.specs.Tables.{AreFreeSlots, IsTableAt}
 use Rattle.bd_super.specs.Live.{IsLive}
 use Rattle.bd_super.specs.Superblocks.{log_block}
@@ -16,7 +17,7 @@ use Rattle.bd_super.specs.declared.superblock.Super.{Super}
 use Rattle.bd_log.specs.Batches.{IsLogRecord, AreBatches}
 use Rattle.bd_log.specs.Logs.{LogState, fresh_log}
 use Rattle.bd_pager.specs.Opened.{IsOpened}
-use Rattle.bd_pager.specs.Pagers.{Paged, spots_of, nodes_of, table_of, AreEntriesOf, IsPaged}
+use Rattle.bd_pager.specs.Pagers.{Paged, spots_of, nodes_of, table_of, is_known, AreEntriesOf, IsPaged}
 use Rattle.bd_image.specs.Versions.{version_of}
 use Rattle.bd_image.specs.Fresh.{first_super, fresh_nodes}
 use Rattle.bd_image.specs.ImageTree.{records_of, HasTree, ImageStandsFor}
@@ -36,12 +37,13 @@ use Rattle.bd_shown.proofs.Saved.{AreListed, kept_saved}
 use Rattle.bd_recall.specs.Kept.{Findings}
 use Rattle.bd_engine.specs.Engines.{started, view_of, MayStart}
 use Rattle.bd_engine.specs.Stored.{IsStoredView, IsFound, IsStoredBy, ArePlaced}
+use Rattle.bd_engine.proofs.Damage.{no_worse_fresh, no_worse_opened}
 
 -- ---- from an image
 
 pub opened_standing : {D : Type 0} (g : Ghosts D) (known : Option Image) (p : Paged D) (log : LogState) (live : Super) → IsOpened known live.slots live.table p → IsOpenOn g p.dev live (saved_of p) log
-    → log ≡ record (fresh_log (log_block live.half) live.epoch) { place = log.place; batches = log.batches } → MayStart g p log live
-opened_standing g known p log live h given idle = λ recalled. record {
+    → log ≡ record (fresh_log (log_block live.half) live.epoch) { place = log.place; batches = log.batches } → g.contents p.dev ≡ known → IfSome known (AreStored g p) → (IsSome (g.contents p.dev) → is_known g p) → MayStart g p log live
+opened_standing g known p log live h given idle told stored is = λ recalled. record {
   fits = given.fits;
   size = given.size;
   slots = h.spare.count;
@@ -49,6 +51,7 @@ opened_standing g known p log live h given idle = λ recalled. record {
   unlent = h.lent;
   records = subst (λ (l : LogState). AllByRecursion IsLogRecord l.waiting) (sym idle) tt;
   going = λ none. given;
+  no_worse = λ none known_now. no_worse_opened g known live.slots live.table p h told stored (is known_now);
 }
 
 -- the records of batches are those of their commands
@@ -102,8 +105,8 @@ are_placed (Some image) log live list is_live batches of = record { live_is = is
 -- ---- on a new one
 
 pub fresh_standing : {D : Type 0} (g : Ghosts D) (p : Paged D) (log : LogState) (live : Super) (slots : ℕ) → live ≡ first_super slots p.at → IsOpenOn g p.dev live (saved_of p) log → IsTableAt slots p.at p.saved
-    → AreFreeSlots slots (slots_held (saved_of p)) p.spare → p.is_lent ≡ false → log ≡ fresh_log first_log_block 1 → MayStart g p log live
-fresh_standing g p log live slots is given table spare lent fresh = λ recalled.
+    → AreFreeSlots slots (slots_held (saved_of p)) p.spare → p.is_lent ≡ false → log ≡ fresh_log first_log_block 1 → (IsSome (g.contents p.dev) → is_known g p × IsSound (nodes_of g p) (table_of p)) → AreEntriesOf p.saved.entries (spots_of p) → MayStart g p log live
+fresh_standing g p log live slots is given table spare lent fresh sound entries = λ recalled.
     let count : live.slots ≡ slots = ap (λ (s : Super). s.slots) is in
     record {
       fits = given.fits;
@@ -113,6 +116,7 @@ fresh_standing g p log live slots is given table spare lent fresh = λ recalled.
       unlent = lent;
       records = subst (λ (l : LogState). AllByRecursion IsLogRecord l.waiting) (sym fresh) tt;
       going = λ none. given;
+      no_worse = λ none told. no_worse_fresh g slots p (sound told).0 (sound told).1 entries table spare;
     }
 
 -- the root alone is kept

@@ -19,6 +19,7 @@ use Rattle.bd_view.specs.Moves.{synced}
 use Rattle.bd_view.specs.Views.{View}
 use Rattle.bd_shown.specs.Shown.{ids_of}
 use Rattle.bd_engine.specs.Engines.{EngineState, seen, view_of, keys_of, stop_by, IsStanding, IsStopped, KeepsNodesOn}
+use Rattle.bd_engine.proofs.Damage.{no_worse_survives}
 use Rattle.bd_engine.proofs.Recalls.{sound_same}
 
 -- after a sync a view has the place of the log
@@ -29,8 +30,8 @@ module _ {D : Type 0} (g : Ghosts D) (old : EngineState D) (p : Paged D) (log : 
   same_saved : saved_of old.pager ≡ saved_of p
   same_saved = sym (ap (λ (q : Paged D). saved_of q) k.rest)
 
-  standing_with : (stop : Option ℕ) → IsStanding g old → Stays g old.pager.dev p.dev → AllByRecursion IsLogRecord log.waiting → (stop ≡ None → IsOpenOn g p.dev old.live (saved_of old.pager) log) → IsStanding g (seen p old.recalled log old.live stop old.walk)
-  standing_with stop h stays records given = record {
+  standing_with : (stop : Option ℕ) → IsStanding g old → old.stop ≡ None → Stays g old.pager.dev p.dev → AllByRecursion IsLogRecord log.waiting → (stop ≡ None → IsOpenOn g p.dev old.live (saved_of old.pager) log) → IsStanding g (seen p old.recalled log old.live stop old.walk)
+  standing_with stop h on stays records given = record {
     fits = h.fits;
     size = stays.count ∙ h.size;
     slots = ap (λ (q : Paged D). length q.spare) k.rest ∙ h.slots;
@@ -38,6 +39,7 @@ module _ {D : Type 0} (g : Ghosts D) (old : EngineState D) (p : Paged D) (log : 
     unlent = ap (λ (q : Paged D). q.is_lent) k.rest ∙ h.unlent;
     records = records;
     going = λ none. subst (λ (s : Saved). IsOpenOn g p.dev old.live s log) same_saved (given none);
+    no_worse = λ none. no_worse_survives g old.pager p k (h.no_worse on);
   }
 
   view_with : (stop : Option ℕ) (v : View) → v.tree ≡ (view_of g old).tree → v.saved ≡ (view_of g old).saved → v.slots ≡ (view_of g old).slots → v.version ≡ (view_of g old).version → v.epoch ≡ (view_of g old).epoch → log.place ≡ v.place → length (concat log.waiting) ≡ v.waiting
@@ -55,12 +57,12 @@ module _ {D : Type 0} (g : Ghosts D) (old : EngineState D) (p : Paged D) (log : 
       ∙ (λ i. record { tree = sym tree i; saved = sym saved i; slots = sym slots i; version = sym version i; epoch = sym epoch i; place = place i; waiting = waiting i })
 
 module _ {D T E : Type 0} (g : Ghosts D) (old : EngineState D) (p : Paged D) (log : LogState) where
-  pub synced_standing : (r : Result T E) → SurvivesOn g old.pager p → IsStanding g old → Stays g old.pager.dev p.dev → OnOk r (log ≡ after_sync old.log) → OnErr r (log ≡ old.log) → OnOk r (IsOpenOn g p.dev old.live (saved_of old.pager) log)
+  pub synced_standing : (r : Result T E) → SurvivesOn g old.pager p → IsStanding g old → old.stop ≡ None → Stays g old.pager.dev p.dev → OnOk r (log ≡ after_sync old.log) → OnErr r (log ≡ old.log) → OnOk r (IsOpenOn g p.dev old.live (saved_of old.pager) log)
       → IsStanding g (seen p old.recalled log old.live (stop_by (g.call_count p.dev) r) old.walk)
-  synced_standing (Ok done) k h stays ok err given =
-      standing_with g old p log k None h stays (subst (λ (l : LogState). AllByRecursion IsLogRecord l.waiting) (sym ok) tt) (λ none. given)
-  synced_standing (Err fault) k h stays ok err given =
-      standing_with g old p log k (Some (g.call_count p.dev)) h stays (subst (λ (l : LogState). AllByRecursion IsLogRecord l.waiting) (sym err) h.records) (λ none. absurd (is_some none))
+  synced_standing (Ok done) k h on stays ok err given =
+      standing_with g old p log k None h on stays (subst (λ (l : LogState). AllByRecursion IsLogRecord l.waiting) (sym ok) tt) (λ none. given)
+  synced_standing (Err fault) k h on stays ok err given =
+      standing_with g old p log k (Some (g.call_count p.dev)) h on stays (subst (λ (l : LogState). AllByRecursion IsLogRecord l.waiting) (sym err) h.records) (λ none. absurd (is_some none))
     where
       is_some : {n : ℕ} → Some n ≡ None → ⊥
       is_some none = cc

@@ -1,5 +1,5 @@
 -- What an engine is seen as.
-use Rattle.std.specs.Prelude.{◌≡◌, ◌⊎◌, ◌==◌, ◌&&◌, ◌-◌, ◌^◌, nat_lt, if◌then◌else◌, ℕ, [], false, length, Option, None, Some, Result, Ok, Err, slice_index}
+use Rattle.std.specs.Prelude.{◌≡◌, ◌⊎◌, ◌==◌, ◌&&◌, ◌-◌, ◌^◌, nat_lt, if◌then◌else◌, ℕ, [], false, length, Option, None, Some, IsSome, IfSome, Result, Ok, Err, slice_index}
 use Rattle.std.specs.List.{concat, AllByRecursion}
 use Rattle.bd_message.specs.KeyMaps.{At, HasMapCause}
 use Rattle.bd_message.specs.declared.fault.Counter.{Counter}
@@ -7,11 +7,14 @@ use Rattle.bd_message.specs.declared.fault.MapFault.{MapFault}
 use Rattle.bd_message.specs.declared.fault.MapFault.TheVariants.{DeviceFault, Damaged, Worn, NoMemory}
 use Rattle.bd_slots.specs.Layout.{image_blocks, slot_block}
 use Rattle.bd_io.specs.Cause.{next_count}
+use Rattle.bd_device.specs.Blocks.{Image}
 use Rattle.bd_device.specs.Changes.{StaysBut}
 use Rattle.bd_device.specs.Device.{left_now, Goes, Stays}
 use Rattle.bd_device.specs.declared.device.Device.{Ghosts}
+use Rattle.bd_node.specs.Meaning.{Nodes}
 use Rattle.bd_node.specs.Tables.{IsSound, root_at}
 use Rattle.bd_table.specs.Tables.{IsTableAt}
+use Rattle.bd_table.specs.declared.table.Table.{Table as StoredTable}
 use Rattle.bd_super.specs.Superblocks.{IsSuper}
 use Rattle.bd_super.specs.declared.superblock.Super.{Super}
 use Rattle.bd_log.specs.Batches.{IsLogRecord}
@@ -23,6 +26,7 @@ use Rattle.bd_pager.specs.Slots.{IsSpare}
 use Rattle.bd_pager.specs.Pagers.{Paged, spots_of, nodes_of, table_of, is_known, is_bad, IsReadOf}
 use Rattle.bd_step.specs.Steps.{IsWornToFlush}
 use Rattle.bd_image.specs.Standing.{IsAsBefore}
+use Rattle.bd_image.specs.Stored.{HoldsNodes, table_of as stored_table}
 use Rattle.bd_image.specs.Versions.{version_of, mode_version}
 use Rattle.bd_checkpoint.specs.Kept.{IsOpenOn, AllAsBefore}
 use Rattle.bd_checkpoint.specs.Recovering.{saved_of}
@@ -193,9 +197,24 @@ pub record KeepsNodesOn {D : Type 0} (g : Ghosts D) (old new : EngineState D) : 
 
 -- ---- between two calls
 
+-- the nodes that the image stores by the last checkpoint are sound
+pub record HasSoundStored (image : Image) (t : StoredTable) : Type 0 where
+  pub nodes : Nodes
+  pub held : HoldsNodes image t nodes
+  pub sound : IsSound nodes (stored_table t nodes)
+
+-- the nodes are known, and no worse than what the last checkpoint has: none of the slots that it
+-- doesn't hold is bad for one, and where its nodes are sound these are
+pub record IsNoWorse {D : Type 0} (g : Ghosts D) (p : Paged D) : Type 0 where
+  pub known : is_known g p
+  pub good : (id b : ℕ) → IsBadSpot (g.contents p.dev) (spots_of p id) b → ¬ IsSpare p.spare b
+  pub sound : IfSome (g.contents p.dev) (λ image. HasSoundStored image p.saved
+      → IsSound (nodes_of g p) (table_of p))
+
 -- the device, which isn't lent, has the blocks of an image of the superblock's slots, in which the
--- last checkpoint's table stands; the log's bytes are whole records; and what is known of its
--- images, until it is stopped
+-- last checkpoint's table stands; the log's bytes are whole records; and, until it is stopped, what
+-- is known of its images, and that the nodes are no worse than the last checkpoint's, as far as the
+-- device tells what it has
 pub record IsStanding {D : Type 0} (g : Ghosts D) (e : EngineState D) : Type 0 where
   pub fits : IsSuper e.live
   pub size : g.block_count e.pager.dev ≡ image_blocks e.live.slots
@@ -204,6 +223,7 @@ pub record IsStanding {D : Type 0} (g : Ghosts D) (e : EngineState D) : Type 0 w
   pub unlent : e.pager.is_lent ≡ false
   pub records : AllByRecursion IsLogRecord e.log.waiting
   pub going : e.stop ≡ None → IsOpenOn g e.pager.dev e.live (saved_of e.pager) e.log
+  pub no_worse : e.stop ≡ None → IsSome (g.contents e.pager.dev) → IsNoWorse g e.pager
 
 -- an engine of these parts may start, whatever it keeps of look-ups
 abbrev pub MayStart : {D : Type 0} → Ghosts D → Paged D → LogState → Super → Type 0

@@ -17,6 +17,7 @@ ghost use Rattle.bd_engine.specs.Stored.{HasSaved};
 use super::Engine;
 use bd_checkpoint::checkpoint;
 use bd_device::Device;
+use bd_format::laws::{images_are_decoded, images_are_of_one_node};
 use bd_message::{Counter, MapFault};
 use bd_pager::Pager;
 use bd_shown::laws::{checkpoints_are_shown, numbers_are_shown};
@@ -80,6 +81,8 @@ impl<D: Device> Engine<D> {
         checkpoints_are_shown::<D>();
         checkpoints_keep_all();
         kept_nodes_are_listed();
+        images_are_decoded();
+        images_are_of_one_node();
         let before = self.tree.map.store().write_faults();
         self.tree.map.store().nodes_are_placed();
         let saved = checkpoint(

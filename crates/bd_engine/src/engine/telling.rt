@@ -3,6 +3,7 @@
 ghost use Rattle.std.specs.Prelude.{◌≡◌, ℕ, None, IfSome};
 ghost use Rattle.bd_super.specs.Live.{IsLive};
 ghost use Rattle.bd_pager.specs.Pagers.{is_bad};
+ghost use Rattle.bd_checkpoint.specs.Recovering.{IsBadIn};
 ghost use Rattle.bd_view.specs.Views.{changed_count};
 ghost use Rattle.bd_engine.specs.Engines.{view_of, IsSoundOn};
 
@@ -36,6 +37,17 @@ impl<D: Device> Engine<D> {
             (λ image. IsLive image self.now.live) }
     {
         let _ = &self.live;
+    }
+
+    /// Of an engine that isn't stopped a bad block is why the image that reads give stands for no
+    /// tree. It does nothing.
+    pub fn damage_is_shown(&self)
+        ensures { (block : ℕ) → self.now.stop ≡ None → is_bad D.Device self.now.pager block
+            → IsBadIn (D.contents self.now.pager.dev) block }
+    {
+        let pager = self.tree.map.store();
+        let _ = pager.blocks();
+        pager.nodes_are_placed();
     }
 
     /// Where the nodes are known and sound, no block is bad. It does nothing.

@@ -6,14 +6,14 @@ use Rattle.bd_model.specs.Step.{step}
 use Rattle.bd_represent.specs.Represents.{Represents}
 use Rattle.bd_pager.specs.Calling.{read_keeps}
 use Rattle.bd_engine.specs.Engines.{EngineState, seen, keys_of, IsSoundOn, IsReadOn}
-use Rattle.bd_engine.proofs.Left.{kept_standing, read_on}
+use Rattle.bd_engine.proofs.Left.{kept_standing, read_on, read_sound}
 use Rattle.bd_engine.proofs.engine.Engine.answer.Goals as goal
 
 pub invariant_of-self : goal.invariant_of-self
 invariant_of-self g c =
     let i = c.self.inside in
     kept_standing g.D.Device (seen i.tree.map.store i.tree.recalled.found.entries i.log i.live i.stop i.tree.map.walk) c.answer.new.m.map.store c.answer.new.m.recalled.found.entries c.answer.new.m.map.walk (g.met.D.Device.since_earlier c.answer.new.m.map.store.dev) c.self.invariant
-    (read_keeps g.D.Device i.tree.map.store c.answer.new.m.map.store c.answer.ensures.left.read.0)
+    (read_keeps g.D.Device i.tree.map.store c.answer.new.m.map.store c.answer.ensures.left.read.0) (read_sound g.D.Device i.tree.map.store c.answer.new.m.map.store c.answer.ensures.left.read.0)
 
 pub returns-clause-read : goal.returns-clause-read
 returns-clause-read g c =

@@ -13,6 +13,8 @@ pub invariant_of-self : goal.invariant_of-self
 invariant_of-self g c =
     let i = c.self.inside in
     kept_standing g.D.Device (seen i.tree.map.store i.tree.recalled.found.entries i.log i.live i.stop i.tree.map.walk) c.append-appended.new.tree.store c.follow.new.recalled.found.entries c.append-appended.new.tree.walk (g.met.D.Device.since_earlier c.append-appended.new.tree.store.dev) c.self.invariant c.append-appended.ensures.stays.beside
+    (λ s. stays_sound g.D.Device i.tree.map.store c.append-appended.new.tree.store c.append-appended.result (on_read g.D.Device i.tree.map.store c.append-appended.new.tree.store c.append-appended.result c.append-appended.ensures.err)
+    (on_ok_weaker c.append-appended.result (λ made. made.node_is.sound) (c.append-appended.ensures.appended s.known s.sound)) (c.append-appended.ensures.stays.known s.known) s)
 
 pub returns-clause-only : goal.returns-clause-only
 returns-clause-only g c =

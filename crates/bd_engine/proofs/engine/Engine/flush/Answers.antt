@@ -10,6 +10,7 @@ pub invariant_of-self : goal.invariant_of-self
 invariant_of-self g c =
     let i = c.self.inside in
     kept_standing g.D.Device (seen i.tree.map.store i.tree.recalled.found.entries i.log i.live i.stop i.tree.map.walk) c.flush-flushed.new.tree.store i.tree.recalled.found.entries c.flush-flushed.new.tree.walk (g.met.D.Device.since_earlier c.flush-flushed.new.tree.store.dev) c.self.invariant c.flush-flushed.ensures.stays.beside
+    (λ s. flush_sound g.D.Device i.tree.map.store c.flush-flushed.new.tree.store c.flush-flushed.result (λ no. (c.flush-flushed.ensures.rest no).read) (c.flush-flushed.ensures.step s.known s.sound) (c.flush-flushed.ensures.stays.known s.known) s)
 
 pub returns-clause-only : goal.returns-clause-only
 returns-clause-only g c =

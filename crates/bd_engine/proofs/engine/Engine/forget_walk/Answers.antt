@@ -12,7 +12,7 @@ invariant_of-result g c =
     let h = c.self.invariant in
     let kept = findings i.tree.recalled in
     subst (λ (p : Paged g.row.D.Denot). IsStanding D (seen p kept i.log i.live i.stop c.over.result.walk)) (sym (c.over.ensures.store ∙ c.into_store.ensures))
-    (record { fits = h.fits; size = h.size; slots = h.slots; table = h.table; unlent = h.unlent; records = h.records; going = h.going })
+    (record { fits = h.fits; size = h.size; slots = h.slots; table = h.table; unlent = h.unlent; records = h.records; going = h.going; no_worse = h.no_worse })
 
 pub returns : goal.returns
 returns g c =

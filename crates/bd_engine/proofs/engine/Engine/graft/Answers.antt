@@ -14,6 +14,7 @@ pub invariant_of-self : goal.invariant_of-self
 invariant_of-self g c =
     let i = c.self.inside in
     kept_standing g.D.Device (seen i.tree.map.store i.tree.recalled.found.entries i.log i.live i.stop i.tree.map.walk) c.graft-grafted.new.tree.store c.forget_grafted.new.self.found.entries c.graft-grafted.new.tree.walk (g.met.D.Device.since_earlier c.graft-grafted.new.tree.store.dev) c.self.invariant c.graft-grafted.ensures.stays.beside
+    (λ s. stays_sound g.D.Device i.tree.map.store c.graft-grafted.new.tree.store c.graft-grafted.result (on_read g.D.Device i.tree.map.store c.graft-grafted.new.tree.store c.graft-grafted.result c.graft-grafted.ensures.err) (c.graft-grafted.ensures.sound s.known s.sound) (c.graft-grafted.ensures.stays.known s.known) s)
 
 pub returns-clause-only : goal.returns-clause-only
 returns-clause-only g c =

@@ -23,6 +23,7 @@ pub invariant_of-self : goal.invariant_of-self
 invariant_of-self g c =
     let i = c.self.inside in
     kept_standing g.D.Device (seen i.tree.map.store i.tree.recalled.found.entries i.log i.live i.stop i.tree.map.walk) c.reclaim_step-made.new.self.store i.tree.recalled.found.entries c.reclaim_step-made.new.self.walk (g.met.D.Device.since_earlier c.reclaim_step-made.new.self.store.dev) c.self.invariant c.reclaim_step-made.ensures.stays.beside
+    (λ s. stays_sound g.D.Device i.tree.map.store c.reclaim_step-made.new.self.store c.reclaim_step-made.result (on_read g.D.Device i.tree.map.store c.reclaim_step-made.new.self.store c.reclaim_step-made.result c.reclaim_step-made.ensures.err) (reclaimed_sound _ _ _ _ c.reclaim_step-made.result (c.reclaim_step-made.ensures.reclaimed s.known s.sound)) (c.reclaim_step-made.ensures.stays.known s.known) s)
 
 pub returns-clause-only : goal.returns-clause-only
 returns-clause-only g c =

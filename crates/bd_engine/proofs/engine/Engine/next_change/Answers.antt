@@ -5,7 +5,7 @@ use Rattle.bd_pager.specs.Calling.{read_keeps}
 use Rattle.bd_pager.specs.Pagers.{nodes_of, table_of}
 use Rattle.bd_reclaim.specs.Walking.{IsFirst, HasNone}
 use Rattle.bd_engine.specs.Engines.{EngineState, seen, IsSoundOn, IsReadOn}
-use Rattle.bd_engine.proofs.Left.{kept_standing, read_on, read_keeps_sound}
+use Rattle.bd_engine.proofs.Left.{kept_standing, read_on, read_sound, read_keeps_sound}
 use Rattle.bd_engine.proofs.Reclaims.{may_make}
 use Rattle.bd_engine.proofs.engine.Engine.next_change.Goals as goal
 
@@ -13,7 +13,7 @@ pub invariant_of-self : goal.invariant_of-self
 invariant_of-self g c =
     let i = c.self.inside in
     kept_standing g.D.Device (seen i.tree.map.store i.tree.recalled.found.entries i.log i.live i.stop i.tree.map.walk) c.reclaim_next.new.self.store i.tree.recalled.found.entries c.reclaim_next.new.self.walk (g.met.D.Device.since_earlier c.reclaim_next.new.self.store.dev) c.self.invariant
-    (read_keeps g.D.Device i.tree.map.store c.reclaim_next.new.self.store c.reclaim_next.ensures.left.read)
+    (read_keeps g.D.Device i.tree.map.store c.reclaim_next.new.self.store c.reclaim_next.ensures.left.read) (read_sound g.D.Device i.tree.map.store c.reclaim_next.new.self.store c.reclaim_next.ensures.left.read)
 
 pub returns-clause-first : goal.returns-clause-first
 returns-clause-first g c =

@@ -1,5 +1,5 @@
 use Rattle.std.proofs.Common.{◌≡◌, [], map, Option, IfSome, sym, ap, subst}
-use Rattle.std.specs.Prelude.{All}
+use Rattle.std.specs.Prelude.{All, IsSome}
 use Rattle.bd_device.specs.Blocks.{Image}
 use Rattle.bd_device.specs.Device.{left_now, OnlyReads}
 use Rattle.bd_device.specs.Moments.{IsOnly}
@@ -21,6 +21,7 @@ pub over-requires : goal.over-requires
 over-requires g c =
     let r = c.in-Ok.recovered in
     opened_standing g.D.Device (g.D.Device.contents c.args.dev) r.pager r.log r.live c.in-Ok.ensures.opened c.in-Ok.ensures.open c.in-Ok.ensures.idle
+    c.in-Ok.ensures.reads.kept c.in-Ok.ensures.stored (λ told. c.in-Ok.ensures.known (subst (λ (o : Option Image). IsSome o) c.in-Ok.ensures.reads.kept told))
 
 pub returns-clause-known : goal.returns-clause-known
 returns-clause-known g c = λ told. subst (λ (e : EngineState g.row.D.Denot). is_known g.D.Device e.pager) (sym c.over.ensures.started) (c.in-Ok.ensures.known told)

@@ -1,5 +1,6 @@
 -- What the checkpoint does to the parts it does to the engine.
 use Rattle.std.proofs.Common.{◌≡◌, ◌⊎◌, ◌^◌, ◌<◌, ◌≤◌, ℕ, None, Option, OnOk, OnErr, IfErr, sym, ap, subst, ◌∙◌, refl, arith}
+use Rattle.bd_checkpoint.proofs.Opened.{AreDecoded}
 use Rattle.bd_message.specs.KeyMaps.{SameAt}
 use Rattle.bd_message.specs.declared.fault.MapFault.TheVariants.{DeviceFault}
 use Rattle.bd_pager.specs.Pagers.{Paged, is_known}
@@ -39,8 +40,9 @@ invariant_of-self g c =
     let stop : c.stop_after-self-inside.result ≡ stop_after (D.write_fault_count q.dev) (D.write_fault_count p.dev) (D.call_count p.dev) r =
     c.stop_after-self-inside.ensures ∙ (λ j. stop_after (before j) (D.write_fault_count (c.store-4.ensures j).dev) (D.call_count (c.store-4.ensures j).dev) r) in
     let on : i.stop ≡ None = ap (λ (x : EngineState g.row.D.Denot). x.stop) same ∙ c.requires.going in
+    let decoded : AreDecoded = record { found = c.images_are_decoded.ensures.found; image = c.images_are_decoded.ensures.image; one = c.images_are_of_one_node.ensures } in
     subst (λ (o : Option ℕ). IsStanding D (seen p i.tree.recalled.found.entries c.checkpoint-saved.new.log c.checkpoint-saved.new.live o i.tree.map.walk)) (sym stop)
-    (saved_standing D e p c.checkpoint-saved.new.log c.checkpoint-saved.new.live i.tree.map.walk c.args.count r standing on fits k.open k.live k.log k.saved k.unsaved k.same_live k.same_log k.goes_on k.cause k.stays)
+    (saved_standing D e p c.checkpoint-saved.new.log c.checkpoint-saved.new.live i.tree.map.walk c.args.count decoded (paged_at D _ _ (c.store-2.ensures ∙ sym lent) c.nodes_are_placed.ensures) (paged_at D _ _ c.store-3.ensures c.nodes_are_placed-2.ensures) r standing on fits k.open k.live k.log k.saved k.unsaved k.same_live k.same_log k.goes_on k.cause k.stays)
 
 pub returns-clause-stop : goal.returns-clause-stop
 returns-clause-stop g c =

@@ -30,7 +30,9 @@ invariant_of-self g c =
     let p = c.spill-spilled.new.self in
     let on : i.stop ≡ None = ap (λ (x : EngineState g.row.D.Denot). x.stop) same ∙ c.requires.going in
     let one : PartsAreOne = record { tables = c.tables_are_read_again.ensures; batches = c.batches_are_one.ensures } in
+    let law : ChangesNothing D = record { table = c.spills_change_nothing.ensures.table; known = c.spills_change_nothing.ensures.known; nodes = c.spills_change_nothing.ensures.nodes } in
     spilled_standing D one e p (g.met.D.Device.since_earlier p.dev) standing on (paged_at D _ _ (c.store.ensures ∙ sym lent) c.nodes_are_placed.ensures) c.spill-spilled.ensures.spills c.stop_by-self-inside.result
+    (spilled_sound D law q p c.spill-spilled.ensures.spills)
 
 pub returns-clause-early : goal.returns-clause-early
 returns-clause-early g c =

@@ -29,7 +29,7 @@ invariant_of-self g c =
     let on : i.stop ≡ None = ap (λ (x : EngineState g.row.D.Denot). x.stop) same ∙ c.requires.going in
     let stop : c.stop_by-self-inside.result ≡ stop_by (D.call_count p.dev) r = c.stop_by-self-inside.ensures ∙ (λ j. stop_by (D.call_count (c.store.ensures j).dev) r) in
     subst (λ (o : Option ℕ). IsStanding D (seen p i.tree.recalled.found.entries c.sync_by-synced.new.log i.live o i.tree.map.walk)) (sym stop)
-    (synced_standing D e p c.sync_by-synced.new.log r k.pager standing k.stays k.ok k.err (on_ok_weaker r (λ known. known i.live (saved_of q) (standing.going on)) k.open))
+    (synced_standing D e p c.sync_by-synced.new.log r k.pager standing on k.stays k.ok k.err (on_ok_weaker r (λ known. known i.live (saved_of q) (standing.going on)) k.open))
 
 pub returns-clause-view : goal.returns-clause-view
 returns-clause-view g c =
