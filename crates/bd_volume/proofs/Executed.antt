@@ -1,6 +1,6 @@
 -- What a volume stands for after a command, and what its faults say.
-use Rattle.std.proofs.Common.{◌≡◌, ℕ, ◌+◌, Bool, true, false, refl, sym, subst, ap, ◌∙◌, arith}
-use Rattle.std.specs.Prelude.{◌&&◌, if◌then◌else◌, IsTrue, IsSome, IsNone, Option, None, Some, Result, Ok, Err, IfOk, IfErr, OnErr}
+use Rattle.std.proofs.Common.{◌≡◌, ℕ, ◌+◌, inl, inr, Bool, true, false, refl, sym, subst, ap, ◌∙◌, arith}
+use Rattle.std.specs.Prelude.{◌⊎◌, ◌&&◌, if◌then◌else◌, IsTrue, IsSome, IsNone, Option, None, Some, Result, Ok, Err, IfOk, IfErr, OnErr}
 use Rattle.std.proofs.lemmas.Bool.{false≢true}
 use Rattle.bd_command.specs.Command.{writes, is_done, accepted, IsCommand}
 use Rattle.bd_command.specs.declared.Command.{Command}
@@ -13,6 +13,8 @@ use Rattle.bd_model.proofs.TreeLaws.{after-reading}
 use Rattle.bd_model.proofs.TreeStays.{after_stays}
 use Rattle.bd_message.specs.KeyMaps.{At, SameAt}
 use Rattle.bd_device.specs.declared.device.Device.{Ghosts}
+use Rattle.bd_pager.specs.Pagers.{is_bad}
+use Rattle.bd_checkpoint.specs.Recovering.{IsBadIn}
 use Rattle.bd_checkpoint.proofs.Handed.{IsSince}
 use Rattle.bd_dirs.specs.declared.plan.Plan.{Plan}
 use Rattle.bd_dirs.specs.declared.plan.Plan.TheVariants.{Refused}
@@ -25,7 +27,8 @@ use Rattle.bd_engine.specs.Engines.{keys_of, IsSoundOn}
 use Rattle.bd_volume.specs.declared.fault.Fault.{Fault}
 use Rattle.bd_volume.specs.declared.fault.Fault.TheVariants.{Device, Damaged, Worn, NoMemory, Full, Stopped}
 use Rattle.bd_volume.specs.declared.volume.Volume.{Volume}
-use Rattle.bd_volume.specs.Volume.{StandsFor, GoesBy, IsSafeOn, view_of, count_of, device_of}
+use Rattle.bd_volume.specs.Faults.{HasFaultCause, IsFaultCause, IsGoing, IsHalted, IsStoppedRightly}
+use Rattle.bd_volume.specs.Volume.{StandsFor, GoesBy, IsSafeOn, view_of, count_of, device_of, stop_of}
 use Rattle.bd_volume.specs.Steps.{KeepsStanding, TakesSafely, IsLoggedOn, HasLogged, IsOfAccepted}
 use Rattle.bd_volume.proofs.Safe.{no_time, goes_by_then}
 use Rattle.bd_volume.proofs.Stepped.{stepped_stand}
@@ -33,6 +36,20 @@ use Rattle.bd_volume.proofs.Stepped.{stepped_stand}
 -- what is said of an error is said of this one
 pub at_err : {T E : Type 0} (r : Result T E) (e : E) (P : E → Type 0) → IfErr r P → r ≡ Err e → P e
 at_err {T} {E} r e P h is = subst (λ (s : Result T E). IfErr s P) is h
+
+-- ---- damage
+
+-- a volume that names damage goes on, and the block is bad in what reads give
+pub damage_named : {D T : Type 0} (g : Ghosts D) (r : Result T Fault) (old new : Volume D) → HasFaultCause g old new r → IsStoppedRightly g old new r
+    → ((block : ℕ) → stop_of new ≡ None → is_bad g new.engine.pager block → IsBadIn (g.contents (device_of new)) block) → (block : ℕ) → r ≡ Err (Damaged block) → IsBadIn (g.contents (device_of new)) block
+damage_named g r old new cause right shown block is =
+    elim (at_err r (Damaged block) (λ fault. IsGoing g old new ⊎ (IsHalted g old new × (fault ≡ Device))) right.err is) [
+      | inl on ↦ shown block on.stop_is (at_err r (Damaged block) (IsFaultCause g old new) cause.failed is).0
+      | inr (halted, other) ↦ absurd (no other)
+    ]
+  where
+    no : Damaged block ≡ Device → ⊥
+    no same = cc
 
 -- ---- what a tree accepts
 

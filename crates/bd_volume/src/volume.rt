@@ -13,7 +13,7 @@ ghost use Rattle.bd_device.specs.Moments.{IsOnly};
 ghost use Rattle.bd_pager.specs.Slots.{IsSpare};
 ghost use Rattle.bd_image.specs.ImageTree.{ImageStandsFor};
 ghost use Rattle.bd_checkpoint.specs.Kept.{AllStandFor};
-ghost use Rattle.bd_checkpoint.specs.Recovering.{FailsFirst};
+ghost use Rattle.bd_checkpoint.specs.Recovering.{FailsFirst, IsBadIn};
 ghost use Rattle.bd_view.specs.Views.{fresh_view, free_slots, save_slots, need_slots};
 ghost use Rattle.bd_view.specs.Moves.{HasStepped, IsAccepted, synced, Saves, IsCommandFull, IsCheckpointFull, CannotSave};
 ghost use Rattle.bd_view.specs.Reclaiming.{edge_need, IsReclaim, IsReclaimFull};
@@ -199,6 +199,8 @@ impl<D: Device> Volume<D> {
             count_of self.new ≡ count_of self.old + accepted command.now reply) }
         ensures count_stays { OnErr result (count_of self.new ≡ count_of self.old) }
         ensures cause { HasFaultCause D.Device self.old self.new result }
+        ensures damage { (block : ℕ) → result ≡ Err (Fault.Damaged block)
+            → IsBadIn (D.contents (device_of self.new)) block }
         ensures stop { stop_of self.old ≡ None
             → IsStoppedRightly D.Device self.old self.new result }
         ensures stopped { (call : ℕ) → stop_of self.old ≡ Some call
@@ -212,7 +214,11 @@ impl<D: Device> Volume<D> {
     {
         match self.engine.stop() {
             Some(call) => Err(Fault::Stopped { call }),
-            None => self.execute(command),
+            None => {
+                let done = self.execute(command);
+                self.engine.damage_is_shown();
+                done
+            }
         }
     }
 
@@ -345,6 +351,8 @@ impl<D: Device> Volume<D> {
             ⊎ (need ≡ edge_need (view_of D.Device self.new))) }
         ensures count_stays { count_of self.new ≡ count_of self.old }
         ensures cause { HasFaultCause D.Device self.old self.new result }
+        ensures damage { (block : ℕ) → result ≡ Err (Fault.Damaged block)
+            → IsBadIn (D.contents (device_of self.new)) block }
         ensures stop { stop_of self.old ≡ None
             → IsStoppedRightly D.Device self.old self.new result }
         ensures stopped { (call : ℕ) → stop_of self.old ≡ Some call
@@ -355,7 +363,9 @@ impl<D: Device> Volume<D> {
         if let Some(call) = self.engine.stop() {
             return Err(Fault::Stopped { call });
         }
-        self.reclaim_nodes()
+        let done = self.reclaim_nodes();
+        self.engine.damage_is_shown();
+        done
     }
 
     /// How many slots the last checkpoint doesn't hold.

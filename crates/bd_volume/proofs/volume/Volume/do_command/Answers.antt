@@ -5,7 +5,7 @@ use Rattle.bd_volume.specs.declared.fault.Fault.TheVariants.{Worn, Full}
 use Rattle.bd_volume.specs.Volume.{StandsFor, view_of}
 use Rattle.bd_volume.specs.Wears.{Wears}
 use Rattle.bd_volume.specs.Steps.{IsCommandFault, IsOfAccepted}
-use Rattle.bd_volume.proofs.Executed.{at_err, keys_stay}
+use Rattle.bd_volume.proofs.Executed.{at_err, damage_named, keys_stay}
 use Rattle.bd_volume.proofs.Stepped.{not_stepped}
 use Rattle.bd_volume.proofs.volume.Volume.do_command.Goals as goal
 
@@ -17,22 +17,26 @@ returns-in-Some-clause-begun g c = λ t n s.
 pub returns-in-None-clause-full : goal.returns-in-None-clause-full
 returns-in-None-clause-full g c = λ free need is t n s.
     let old = view_of g.D.Device c.args.self.now in
-    let new = view_of g.D.Device c.execute.new.self in (
-      at_err c.execute.result (Full free need) (λ fault. IsCommandFault fault c.args.self.now.count c.args.command.now old new) (c.execute.ensures.fails s.nodes) is,
-      at_err c.execute.result (Full free need) (λ fault. (u : Tree) (m : ℕ) → StandsFor g.D.Device c.args.self.now u m → IsOfAccepted fault u c.args.command.now) c.execute.ensures.accepting is t n s,
+    let new = view_of g.D.Device c.execute-done.new.self in (
+      at_err c.execute-done.result (Full free need) (λ fault. IsCommandFault fault c.args.self.now.count c.args.command.now old new) (c.execute-done.ensures.fails s.nodes) is,
+      at_err c.execute-done.result (Full free need) (λ fault. (u : Tree) (m : ℕ) → StandsFor g.D.Device c.args.self.now u m → IsOfAccepted fault u c.args.command.now) c.execute-done.ensures.accepting is t n s,
     )
 
 pub returns-in-None-clause-wears : goal.returns-in-None-clause-wears
 returns-in-None-clause-wears g c = λ which is t n s.
     let old = view_of g.D.Device c.args.self.now in
-    let new = view_of g.D.Device c.execute.new.self in (
+    let new = view_of g.D.Device c.execute-done.new.self in (
       subst (λ (k : ℕ). Wears which k c.args.command.now old new) s.count_is
-          (at_err c.execute.result (Worn which) (λ fault. IsCommandFault fault c.args.self.now.count c.args.command.now old new) (c.execute.ensures.fails s.nodes) is),
-      at_err c.execute.result (Worn which) (λ fault. (u : Tree) (m : ℕ) → StandsFor g.D.Device c.args.self.now u m → IsOfAccepted fault u c.args.command.now) c.execute.ensures.accepting is t n s,
+          (at_err c.execute-done.result (Worn which) (λ fault. IsCommandFault fault c.args.self.now.count c.args.command.now old new) (c.execute-done.ensures.fails s.nodes) is),
+      at_err c.execute-done.result (Worn which) (λ fault. (u : Tree) (m : ℕ) → StandsFor g.D.Device c.args.self.now u m → IsOfAccepted fault u c.args.command.now) c.execute-done.ensures.accepting is t n s,
     )
+
+pub returns-in-None-clause-damage : goal.returns-in-None-clause-damage
+returns-in-None-clause-damage g c =
+    damage_named g.D.Device c.execute-done.result c.args.self.now c.execute-done.new.self c.execute-done.ensures.ends.cause (c.execute-done.ensures.ends.stop) c.damage_is_shown.ensures
 
 pub returns-in-Some-clause-keys : goal.returns-in-Some-clause-keys
 returns-in-Some-clause-keys g c = λ s k. refl
 
 pub returns-in-None-clause-keys : goal.returns-in-None-clause-keys
-returns-in-None-clause-keys g c = keys_stay g.D.Device c.execute.result c.args.self.now c.execute.new.self c.args.command.now c.execute.ensures.begun
+returns-in-None-clause-keys g c = keys_stay g.D.Device c.execute-done.result c.args.self.now c.execute-done.new.self c.args.command.now c.execute-done.ensures.begun
