@@ -83,6 +83,7 @@ source_named settled acks before now h = record {
   among_script = h.among_script;
   taken_at = h.taken_at.0;
   replied = h.replied;
+  damage = tt;
   transcribed = λ t n image is stands. transcribed_named settled t n image h.exchanges h.taken before.script acks before.disk now.disk (h.transcribed t n image is stands);
 }
 
@@ -298,6 +299,7 @@ other_faults settled end acks before now s s' w w' t t' f f' g g' h = record {
   among_script = h.among_script;
   taken_at = h.taken_at;
   replied = h.replied;
+  damage = h.damage;
   transcribed = h.transcribed;
 }
 

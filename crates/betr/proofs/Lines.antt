@@ -15,6 +15,7 @@ use Rattle.bd_graft.specs.declared.grafting.Walk.{Walk as WalkTaken}
 use Rattle.bd_represent.specs.Represents.{Represents}
 use Rattle.bd_model.specs.Tree.{Tree}
 use Rattle.bd_model.specs.Step.{step, refusal_of}
+use Rattle.bd_device.specs.Blocks.{Image}
 use Rattle.bd_device.specs.declared.device.Device.{Ghosts}
 use Rattle.bd_script.specs.Lines.{LineMeaning, IsLine, is_stop}
 use Rattle.bd_script.specs.Replies.{IsLineReply}
@@ -25,6 +26,7 @@ use Rattle.bd_script.specs.declared.replies.LineReply.TheVariants as reply
 use Rattle.bd_view.specs.Views.{View, keys_of, free_slots, save_slots}
 use Rattle.bd_view.specs.Moves.{HasStepped, IsAccepted, Saves, IsCommandFull, IsCheckpointFull}
 use Rattle.bd_view.specs.Reclaiming.{IsReclaim, IsReclaimFull}
+use Rattle.bd_checkpoint.specs.Recovering.{IsBadIn}
 use Rattle.bd_volume.specs.Volume.{StandsFor, view_of}
 use Rattle.bd_volume.specs.Wears.{Wears, HasBegunReclaiming, WearsReclaiming}
 use Rattle.bd_volume.specs.declared.volume.Volume.{Volume}
@@ -36,7 +38,7 @@ use Rattle.bd_io.specs.Cause.{Rose}
 use Rattle.betr.specs.Fault.{Faults, IsCaused}
 use Rattle.betr.specs.Transcript.{State, with_view, synced_state, IsCommandReply, IsDoneOrFull, MayGet, Follows, Moves, state_of_step, told, told_free}
 use Rattle.betr.specs.Session.{IsLeftBy, LeavesBy}
-use Rattle.betr.specs.Shell.{VolumeAt, Replies, Wore, is_stopped, counts_of, IsOutcome, IsLineFault, LineFails, RunFails}
+use Rattle.betr.specs.Shell.{VolumeAt, Replies, Wore, is_stopped, counts_of, IsOutcome, IsLineFault, LineFails, NamesBad, NamesBadAt, RunFails}
 
 -- ---- what a volume stands for after a line
 
@@ -292,6 +294,22 @@ outcome_err {D} volume.NoMemory r line first last is leaves undamaged worn =
 outcome_err {D} (volume.Full free need) r line first last is leaves undamaged worn =
     err_as (λ f. (d : D) (n : ℕ) (s : State) → first d n s → LineFails f s line (last d n)) r (Ok (reply.Full free need)) is tt
 outcome_err (volume.Stopped call) r line first last is leaves undamaged worn = absurd is
+
+-- ---- damage
+
+-- damage that ends a line is the volume's
+pub outcome_damage : (e : VolumeFault) (r : Result LineReply Fault) (known : Option Image) → IsOutcome e r → ((block : ℕ) → e ≡ volume.Damaged block → IsBadIn known block) → NamesBad known r
+outcome_damage volume.Device r known is bad = subst (NamesBad known) (sym is) tt
+outcome_damage (volume.Damaged block) r known is bad = subst (NamesBad known) (sym is) (bad block refl)
+outcome_damage (volume.Worn which) r known is bad = subst (NamesBad known) (sym is) tt
+outcome_damage volume.NoMemory r known is bad = subst (NamesBad known) (sym is) tt
+outcome_damage (volume.Full free need) r known is bad = subst (NamesBad known) (sym is) tt
+outcome_damage (volume.Stopped call) r known is bad = absurd is
+
+-- want of memory and a failed device name none
+pub unnamed : (known : Option Image) (e : Fault) → (e ≡ Device) ⊎ (e ≡ Memory) → NamesBadAt known e
+unnamed known e (inl is) = subst (NamesBadAt known) (sym is) tt
+unnamed known e (inr is) = subst (NamesBadAt known) (sym is) tt
 
 -- ---- causes, whatever the volume stands for
 

@@ -21,9 +21,11 @@ use Rattle.bd_device.specs.declared.device.Device.{Ghosts}
 use Rattle.bd_device.proofs.Moments.{goes_on, within, by_name}
 use Rattle.bd_image.specs.ImageTree.{ImageStandsFor}
 use Rattle.bd_checkpoint.specs.Kept.{AllStandFor}
+use Rattle.bd_checkpoint.specs.Recovering.{IsBadIn}
 use Rattle.bd_view.specs.Views.{View, fresh_view}
 use Rattle.bd_engine.specs.Stored.{HasSaved}
 use Rattle.bd_script.specs.Lines.{is_stop, line_of, lines_of}
+use Rattle.bd_volume.specs.Faults.{IsStartCause}
 use Rattle.bd_volume.specs.Starts.{OnlyStarts}
 use Rattle.bd_volume.specs.Volume.{IsFirstView}
 use Rattle.bd_volume.specs.Wears.{WearsReplaying}
@@ -37,8 +39,8 @@ use Rattle.betr.specs.Fault.{status_of, Faults, faults, IsStartFault, Caused, Is
 use Rattle.betr.specs.Transcript.{State, point, state_at, with_view, Exchange, Entry, IsTranscript, executed, exchanges_of, state_after, lines_to_run}
 use Rattle.betr.specs.Crashes.{IsAtPoint, IsAcked, IsSafeSince}
 use Rattle.betr.specs.Session.{end_of, has_stop, closed, ClosedAt, Among, TakenAt, Replied, Ends as EndsBy, Session}
-use Rattle.betr.specs.Shell.{CanStart, MayStart, ShellAt, IsLineFault, view_in, acks_in, device_in, stop_in}
-use Rattle.betr.specs.Run.{Disk, disk, Ends, ends, end_status, WritesEnd, IsTold, IsWornAtStart, IsUnopened, Survives, Shows, Ran, HasStart, IsFaultless}
+use Rattle.betr.specs.Shell.{CanStart, MayStart, ShellAt, IsLineFault, NamesBad, view_in, acks_in, device_in, stop_in}
+use Rattle.betr.specs.Run.{Disk, disk, Ends, ends, end_status, WritesEnd, IsTold, IsWornAtStart, IsUnopened, Survives, Shows, NamesDamage, Ran, HasStart, IsFaultless}
 use Rattle.betr.proofs.Executes.{append_known-nil}
 use Rattle.betr.proofs.Scripts.{prepend_known-nil, took_none}
 use Rattle.betr.proofs.Surviving.{since_begun, safe_more}
@@ -75,6 +77,17 @@ can_start t n known image is stands = subst (CanStart t n) (sym is) stands
 
 if_some : {A : Type 0} (P : A → Type 0) (o : Option A) (x : A) → o ≡ Some x → IfSome o P → P x
 if_some P o x is h = subst (λ o. IfSome o P) is h
+
+-- damage of a session is of a bad block of what is then known
+pub names_damage : {T : Type 0} (r : Result T Fault) (before now : Option Image) → NamesBad now r → (xs : List Exchange) → NamesDamage (end_of r) xs before now
+names_damage (Ok x) before now h xs = tt
+names_damage (Err Device) before now h xs = tt
+names_damage (Err (Damaged block)) before now h xs = inr h
+names_damage (Err Source) before now h xs = tt
+names_damage (Err Memory) before now h xs = tt
+names_damage (Err TooLong) before now h xs = tt
+names_damage (Err (Worn which)) before now h xs = tt
+names_damage (Err Sink) before now h xs = tt
 
 -- a session that ended well
 pub ok_of_none : {T : Type 0} (r : Result T Fault) (P : Type 0) → end_of r ≡ None → OnOk r P → P
@@ -135,8 +148,9 @@ module _ {D : Type 0} (g : Ghosts D) where
       → (stop_in after ≡ None → IfSome (g.contents (device_in after)) (HasSaved (view_in g after)))
       → (0 < g.block_count (device_in after) → IfSome (g.contents (device_in after)) (left_now g (device_in after)))
       → IfSome (g.contents old) (HasBlocks (g.block_count old)) → g.block_count (device_in after) ≡ g.block_count old
+      → ((xs : List Exchange) → NamesDamage end xs (g.contents old) (g.contents (device_in after)))
       → Ran (g.call_count old + 1) end (acks_in after) (ends (disk_of g old) script t1 w1 b) (ends (disk_of g (device_in after)) rest t2 w2 a)
-  ran_session end old before after script rest w1 w2 t1 t2 b a s begins views only going saved may_stay shape same_size = record {
+  ran_session end old before after script rest w1 w2 t1 t2 b a s begins views only going saved may_stay shape same_size damage = record {
     exchanges = s.exchanges;
     answered = s.answered;
     front = s.front;
@@ -150,6 +164,7 @@ module _ {D : Type 0} (g : Ghosts D) where
     among_script = s.among_script;
     taken_at = s.taken_at;
     replied = s.replied;
+    damage = damage s.exchanges;
     transcribed = λ t n image is stands.
         let x0 : State = state_at t n (view_in g before) in
         let start : CanStart t n (g.contents old) = can_start t n (g.contents old) image is stands in
@@ -211,8 +226,9 @@ pub ran_refused : (settled : ℕ) (e : Fault) (before now : Disk) (script w : Op
     → WearsReplaying which image)
     → ((t : Tree) (n : ℕ) (image : Image) → before.image ≡ Some image → ImageStandsFor t n image → Elapses before.calls now.calls before.left now.left (ImageStandsFor t n))
     → ((t : Tree) (n : ℕ) (image : Image) → before.image ≡ Some image → ImageStandsFor t n image → AllStandFor t n (now.left settled) ⊎ IsUnmade settled before now)
+    → ((block : ℕ) → e ≡ Damaged block → IsBadIn before.image block)
     → Ran settled (Some e) [] (ends before script takes w b) (ends now script takes w a)
-ran_refused settled e before now script w takes b a kind sound worn time opened = record {
+ran_refused settled e before now script w takes b a kind sound worn time opened bad = record {
   exchanges = [];
   answered = tt;
   front = [];
@@ -226,6 +242,7 @@ ran_refused settled e before now script w takes b a kind sound worn time opened 
   among_script = all e script kind;
   taken_at = few e kind;
   replied = unwritten e kind;
+  damage = named e bad;
   transcribed = λ t n i is stands. record {
     first = fresh_view 0;
     first_is = inr (refl, refl);
@@ -273,6 +290,15 @@ ran_refused settled e before now script w takes b a kind sound worn time opened 
     few TooLong k = absurd k
     few (Worn which) k = omega arith
     few Sink k = absurd k
+
+    named : (f : Fault) → ((block : ℕ) → f ≡ Damaged block → IsBadIn before.image block) → NamesDamage (Some f) [] before.image now.image
+    named Device bad_at = tt
+    named (Damaged block) bad_at = inl (refl, bad_at block refl)
+    named Source bad_at = tt
+    named Memory bad_at = tt
+    named TooLong bad_at = tt
+    named (Worn which) bad_at = tt
+    named Sink bad_at = tt
 
     unwritten : (f : Fault) → IsLineFault f → Replied (Some f) [] [] [] w w
     unwritten Device k = sym (append_known-nil w)
@@ -324,11 +350,11 @@ start_worn (volume.Stopped call) e which is worn = absurd is
 
 -- a start that failed
 pub ran_unstarted : {D : Type 0} (g : Ghosts D) (v : VolumeFault) (e : Fault) (old now : D) (script w : Option (List ℕ)) (takes : Option Takes) (b a : Faults)
-    → IsStartFault v e → ((t : Tree) (n : ℕ) → CanStart t n (g.contents old) → (block : ℕ) → v ≢ volume.Damaged block)
+    → IsStartFault v e → IsStartCause g old now v → ((t : Tree) (n : ℕ) → CanStart t n (g.contents old) → (block : ℕ) → v ≢ volume.Damaged block)
     → ((t : Tree) (n : ℕ) → IfSome (g.contents old) (λ image. ImageStandsFor t n image → (which : Counter) → v ≡ volume.Worn which → WearsReplaying which image))
     → OnlyStarts g old now → MayStart g old now → IfSome (g.contents old) (HasBlocks (g.block_count old))
     → Ran (g.call_count old + 1) (Some e) [] (ends (disk_of g old) script takes w b) (ends (disk_of g now) script takes w a)
-ran_unstarted g v e old now script w takes b a fault sound wears left starts shape =
+ran_unstarted g v e old now script w takes b a fault cause sound wears left starts shape =
     ran_refused (g.call_count old + 1) e (disk_of g old) (disk_of g now) script w takes b a (start_kind v e fault)
     (λ t n image is stands block damaged. sound t n (can_start t n (g.contents old) image is stands) block (start_damaged v e block fault damaged))
     (λ t n image is stands which worn. if_some (λ i. ImageStandsFor t n i → (c : Counter) → v ≡ volume.Worn c → WearsReplaying c i) (g.contents old) image is (wears t n)
@@ -336,6 +362,7 @@ ran_unstarted g v e old now script w takes b a fault sound wears left starts sha
     (λ t n image is stands. left.time t n (can_start t n (g.contents old) image is stands))
     (λ t n image is stands. by t n (can_start t n (g.contents old) image is stands) (some_blocks t n (g.block_count old) (g.contents old) image is stands shape)
     (cases_lt (g.call_count old + 1) (g.call_count now)) (rose_or_not (g.write_fault_count old) (g.write_fault_count now)) starts)
+    (λ block damaged. (subst (IsStartCause g old now) (start_damaged v e block fault damaged) cause).0)
   where
     by : (t : Tree) (n : ℕ) → CanStart t n (g.contents old) → 0 < g.block_count old → (g.call_count old + 1 < g.call_count now) ⊎ (g.call_count now ≤ g.call_count old + 1)
         → Rose (g.write_fault_count old) (g.write_fault_count now) ⊎ (Rose (g.write_fault_count old) (g.write_fault_count now) → ⊥)
@@ -374,6 +401,7 @@ ran_attached end acks before mid after now script rest w1 w2 t1 t2 b m a image_i
   among_script = r.among_script;
   taken_at = r.taken_at;
   replied = r.replied;
+  damage = subst (λ o. NamesDamage end r.exchanges o now.image) image_is (subst (λ o. NamesDamage end r.exchanges mid.image o) (sym shows) r.damage);
   transcribed = λ t n image is stands.
       let h = r.transcribed t n image (image_is ∙ is) stands in
       let x : State = closed end (has_stop r.exchanges) (state_after (state_at t n h.first) h.run.entries) in
@@ -419,7 +447,7 @@ pub ran_detached : (before now : Disk) (script w : Option (List ℕ)) (takes : O
 ran_detached before now script w takes b a once time =
     ran_refused (before.calls + 2) Device before now script w takes b a tt (λ t n image is stands block damaged. cc) (λ t n image is stands which worn. cc)
     (λ t n image is stands. within Nothing (ImageStandsFor t n) time (λ c none. absurd none))
-    (λ t n image is stands. inr (inl (omega (arith, once, next_few before.calls))))
+    (λ t n image is stands. inr (inl (omega (arith, once, next_few before.calls)))) (λ block damaged. cc)
   where
     next_few : (n : ℕ) → next_count n ≤ n + 1
     next_few n = grind (arith)

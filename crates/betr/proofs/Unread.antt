@@ -59,7 +59,7 @@ does_unread (Run image) d script w w' takes b a status acks is none last = subst
   replies = w;
   ended = b;
   ran = ran_refused (d.calls + 2) Memory d d script w takes b b tt (λ t n image is stands block damaged. cc) (λ t n image is stands which worn. cc)
-      (λ t n image is stands. idle d.calls d.left _) (λ t n image is stands. inr (inl (omega arith)));
+      (λ t n image is stands. idle d.calls d.left _) (λ t n image is stands. inr (inl (omega arith))) (λ block damaged. cc);
   cause = refl;
   last = last;
 })

@@ -17,6 +17,7 @@ use Rattle.bd_device.specs.declared.device.Device.{Ghosts}
 use Rattle.bd_slots.specs.Layout.{image_blocks}
 use Rattle.bd_view.specs.Views.{View}
 use Rattle.bd_image.specs.ImageTree.{ImageStandsFor}
+use Rattle.bd_checkpoint.specs.Recovering.{IsBadIn}
 use Rattle.bd_engine.specs.Stored.{HasSaved}
 use Rattle.bd_fill.specs.Scripts.{generated_script}
 use Rattle.bd_fill.specs.Summary.{summary}
@@ -24,7 +25,7 @@ use Rattle.bd_volume.specs.Volume.{IsFirstView}
 use Rattle.bd_volume.specs.Wears.{WearsReplaying}
 use Rattle.bd_words.specs.Words.{Call, Run, Format, Fill}
 use Rattle.betr.specs.declared.fault.Fault.{Fault}
-use Rattle.betr.specs.declared.fault.Fault.TheVariants.{Memory, Worn}
+use Rattle.betr.specs.declared.fault.Fault.TheVariants.{Device, Damaged, Source, Memory, TooLong, Worn, Sink}
 use Rattle.betr.specs.declared.outcome.Ack.{Ack}
 use Rattle.betr.specs.Fault.{status_of, fault_line, Faults, faults, Caused}
 use Rattle.betr.specs.Format.{SaysDone, HasNewImage}
@@ -145,6 +146,19 @@ pub record Shows (s : State) (image : Image) : Type 0 where
   pub stands : ImageStandsFor s.tree s.count image
   pub saved : HasSaved s.view image
 
+-- damage is of a block that is why an image stands for no tree: the one with which the run began,
+-- where nothing was executed, or the one that is there then
+abbrev pub NamesDamage : Option Fault → List Exchange → Option Image → Option Image → Type 0
+NamesDamage None xs before now = ⊤
+NamesDamage (Some Device) xs before now = ⊤
+NamesDamage (Some (Damaged block)) xs before now =
+    ((xs ≡ []) × IsBadIn before block) ⊎ IsBadIn now block
+NamesDamage (Some Source) xs before now = ⊤
+NamesDamage (Some Memory) xs before now = ⊤
+NamesDamage (Some TooLong) xs before now = ⊤
+NamesDamage (Some (Worn which)) xs before now = ⊤
+NamesDamage (Some Sink) xs before now = ⊤
+
 -- what is told of the state after the last line, and of that once all is made durable, where no
 -- fault came; what is shown then stands for it
 pub record IsLast (settled : ℕ) (end : Option Fault) (xs : List Exchange) (taken : List ℕ)
@@ -165,7 +179,7 @@ pub record Transcribed (settled : ℕ) (t : Tree) (n : ℕ) (image : Image) (end
       (IsLast settled end xs taken script acks image before now)
 
 -- the lines that a run executed, each with its reply, to which script, takes and what was written
--- are tied; where the image stands for a tree, these lines have their transcript. The barrier with
+-- are tied; damage names a bad block; where the image stands for a tree, these lines have their transcript. The barrier with
 -- which the volume starts returns after so many calls
 pub record Ran (settled : ℕ) (end : Option Fault) (acks : List Ack) (before now : Ends)
     : Type 0 where
@@ -182,6 +196,7 @@ pub record Ran (settled : ℕ) (end : Option Fault) (acks : List Ack) (before no
   pub among_script : IfSome before.script (λ bytes. Among end bytes exchanges)
   pub taken_at : TakenAt end taken exchanges
   pub replied : Replied end front taken exchanges before.written now.written
+  pub damage : NamesDamage end exchanges before.disk.image now.disk.image
   pub transcribed : (t : Tree) (n : ℕ) (image : Image) → before.disk.image ≡ Some image
       → ImageStandsFor t n image → Transcribed settled t n image end exchanges taken
       before.script acks before.disk now.disk

@@ -21,7 +21,7 @@ use Rattle.bd_view.specs.Views.{View, keys_of}
 use Rattle.bd_volume.specs.declared.fault.Fault.{Fault as VolumeFault}
 use Rattle.bd_volume.specs.declared.fault.Fault.TheVariants as volume
 use Rattle.bd_volume.specs.declared.volume.Volume.{Volume}
-use Rattle.bd_checkpoint.specs.Recovering.{FailsFirst}
+use Rattle.bd_checkpoint.specs.Recovering.{FailsFirst, IsBadIn}
 use Rattle.bd_volume.specs.Starts.{HasStarted}
 use Rattle.bd_volume.specs.Volume.{StandsFor, view_of, device_of, stop_of}
 use Rattle.betr.specs.Fault.{Faults, faults}
@@ -96,6 +96,20 @@ FailsNoWriteAt g old new Sink = g.write_fault_count new ≡ g.write_fault_count 
 abbrev pub FailsNoWrite : {D T : Type 0} → Ghosts D → D → D → Result T Fault → Type 0
 FailsNoWrite g old new (Ok x) = g.write_fault_count new ≡ g.write_fault_count old
 FailsNoWrite g old new (Err e) = FailsNoWriteAt g old new e
+
+-- damage is of a block that is why an image stands for no tree, as far as that is known
+abbrev pub NamesBadAt : Option Image → Fault → Type 0
+NamesBadAt known Device = ⊤
+NamesBadAt known (Damaged block) = IsBadIn known block
+NamesBadAt known Source = ⊤
+NamesBadAt known Memory = ⊤
+NamesBadAt known TooLong = ⊤
+NamesBadAt known (Worn which) = ⊤
+NamesBadAt known Sink = ⊤
+
+abbrev pub NamesBad : {T : Type 0} → Option Image → Result T Fault → Type 0
+NamesBad known (Ok x) = ⊤
+NamesBad known (Err e) = NamesBadAt known e
 
 -- what reads give is known, and is an image that stands for this tree after so many commands
 abbrev pub CanStart : Tree → ℕ → Option Image → Type 0

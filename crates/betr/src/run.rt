@@ -213,10 +213,10 @@ fn end_unread<K: Sink>(alloc: Global, sink: &mut K) -> Outcome
 /// executed, and how many of their replies say `ok`, `no` and `full`; at a fault it comes before the
 /// fault's line. Other words have the usage line written, and nothing else is done (status 2). The
 /// first fault ends the run with its status, and its line where the sink takes it: the device 3,
-/// damage 4, the source 5, memory 6, a script of more than 16,777,216 bytes 7, a counter 8, the sink
-/// 9. Where there is no memory to read the words, that fault's line is all that is done. Before each
-/// take and at the end the sink passes on all that was written; after its own fault it isn't called
-/// again.
+/// damage 4, of a bad block of the image, the source 5, memory 6, a script of more than 16,777,216
+/// bytes 7, a counter 8, the sink 9. Where there is no memory to read the words, that fault's line
+/// is all that is done. Before each take and at the end the sink passes on all that was written;
+/// after its own fault it isn't called again.
 ///
 /// At each `sync`, at `stop` and at the end of the script all accepted commands are made durable
 /// and acknowledged; at a fault they aren't. Stopped at any moment, the image stands for the tree

@@ -6,7 +6,7 @@ ghost use Rattle.bd_io.specs.Cause.{HasCause};
 ghost use Rattle.bd_io.specs.Takes.{takes_after};
 ghost use Rattle.betr.specs.Fault.{IsCaused, faults, of_sink};
 ghost use Rattle.betr.specs.Session.{ClosedAt, Session, ToldAt, end_of};
-ghost use Rattle.betr.specs.Shell.{FailsNoWrite, ShellAt, device_in, held_of, stop_in};
+ghost use Rattle.betr.specs.Shell.{FailsNoWrite, NamesBad, ShellAt, device_in, held_of, stop_in};
 ghost use Rattle.betr.specs.Taken.{IsTaken, taken_by};
 
 use crate::fault::Fault;
@@ -90,6 +90,7 @@ pub fn run_script<D: Device + Drop, S: Source, K: Sink>(
     ensures going { OnOk result (stop_in shell.new ≡ None) }
     ensures device { Stays D.Device (device_in shell.old) (device_in shell.new) }
     ensures writes { FailsNoWrite D.Device (device_in shell.old) (device_in shell.new) result }
+    ensures damage { NamesBad (D.contents (device_in shell.new)) result }
     ensures cause { IsCaused (faults (D.fault_count (device_in shell.old))
         (S.fault_count src.old) (K.fault_count sink.old))
         (faults (D.fault_count (device_in shell.new)) (S.fault_count src.new)
@@ -121,6 +122,7 @@ fn run_pieces<D: Device + Drop, S: Source, K: Sink>(
     ensures going { OnOk result (stop_in shell.new ≡ None) }
     ensures device { Stays D.Device (device_in shell.old) (device_in shell.new) }
     ensures writes { FailsNoWrite D.Device (device_in shell.old) (device_in shell.new) result }
+    ensures damage { NamesBad (D.contents (device_in shell.new)) result }
     ensures cause { IsCaused (faults (D.fault_count (device_in shell.old))
         (S.fault_count src.old) (K.fault_count sink.old))
         (faults (D.fault_count (device_in shell.new)) (S.fault_count src.new)

@@ -17,7 +17,7 @@ ghost use Rattle.bd_volume.specs.Wears.{WearsReplaying};
 ghost use Rattle.betr.specs.Fault.{IsCaused};
 ghost use Rattle.betr.specs.Transcript.{State, state_at, synced_state, MayGet, meanings};
 ghost use Rattle.betr.specs.Session.{Executes, breaks};
-ghost use Rattle.betr.specs.Shell.{KeptAt, ShellAt, Replies, ExecutesOne, view_in, acks_in, held_of, device_below, device_in, stop_below, stop_in, counts_of, CanStart, MayStart, FailsNoWrite, is_stopped, last_lines, completed, IsHeld, ComesNow, IsOutcome, CutsAt, IsLineFault, LineFails, RunFails, BreaksOff};
+ghost use Rattle.betr.specs.Shell.{KeptAt, ShellAt, Replies, ExecutesOne, view_in, acks_in, held_of, device_below, device_in, stop_below, stop_in, counts_of, CanStart, MayStart, FailsNoWrite, NamesBad, is_stopped, last_lines, completed, IsHeld, ComesNow, IsOutcome, CutsAt, IsLineFault, LineFails, RunFails, BreaksOff};
 
 use crate::acknowledged::Acknowledged;
 use crate::fault::Fault;
@@ -51,7 +51,8 @@ fn outcome_of(fault: VolumeFault) -> Result<LineReply, Fault>
 }
 
 // Executes a line that was read. A fault leaves the tree that the volume stands for and the count;
-// steps of a command and changes of reclaiming may have been made.
+// steps of a command and changes of reclaiming may have been made. Damage names a bad block of what
+// reads then give.
 fn execute<D: Device + Drop>(kept: &mut Acknowledged<D>, line: &Line) -> Result<LineReply, Fault>
     requires line { IsLine line.now }
     requires going { stop_below kept.old ≡ None }
@@ -68,6 +69,7 @@ fn execute<D: Device + Drop>(kept: &mut Acknowledged<D>, line: &Line) -> Result<
     ensures going { OnOk result (stop_below kept.new ≡ None) }
     ensures device { Stays D.Device (device_below kept.old) (device_below kept.new) }
     ensures writes { FailsNoWrite D.Device (device_below kept.old) (device_below kept.new) result }
+    ensures damage { NamesBad (D.contents (device_below kept.new)) result }
     ensures cause { (sink : ℕ) → IsCaused (counts_of D.Device (device_below kept.old) sink)
         (counts_of D.Device (device_below kept.new) sink) result }
 {
@@ -127,6 +129,7 @@ fn execute_line<D: Device + Drop>(
     ensures going { OnOk result (stop_below kept.new ≡ None) }
     ensures device { Stays D.Device (device_below kept.old) (device_below kept.new) }
     ensures writes { FailsNoWrite D.Device (device_below kept.old) (device_below kept.new) result }
+    ensures damage { NamesBad (D.contents (device_below kept.new)) result }
     ensures cause { (sink : ℕ) → IsCaused (counts_of D.Device (device_below kept.old) sink)
         (counts_of D.Device (device_below kept.new) sink) result }
 {
@@ -193,6 +196,7 @@ fn run_line<D: Device + Drop, K: Sink>(
     ensures going { OnOk result (stop_below kept.new ≡ None) }
     ensures device { Stays D.Device (device_below kept.old) (device_below kept.new) }
     ensures writes { FailsNoWrite D.Device (device_below kept.old) (device_below kept.new) result }
+    ensures damage { NamesBad (D.contents (device_below kept.new)) result }
     ensures cause { IsCaused (counts_of D.Device (device_below kept.old) (K.fault_count sink.old))
         (counts_of D.Device (device_below kept.new) (K.fault_count sink.new)) result }
 {
@@ -304,6 +308,7 @@ impl<D: Device + Drop> Shell<D> {
         ensures going { OnOk result (stop_in self.new ≡ None) }
         ensures device { Stays D.Device (device_in self.old) (device_in self.new) }
         ensures writes { FailsNoWrite D.Device (device_in self.old) (device_in self.new) result }
+        ensures damage { NamesBad (D.contents (device_in self.new)) result }
         ensures cause { IsCaused
             (counts_of D.Device (device_in self.old) (K.fault_count sink.old))
             (counts_of D.Device (device_in self.new) (K.fault_count sink.new)) result }
@@ -342,6 +347,7 @@ impl<D: Device + Drop> Shell<D> {
         ensures going { OnOk result (stop_in self.new ≡ None) }
         ensures device { Stays D.Device (device_in self.old) (device_in self.new) }
         ensures writes { FailsNoWrite D.Device (device_in self.old) (device_in self.new) result }
+        ensures damage { NamesBad (D.contents (device_in self.new)) result }
         ensures cause { IsCaused
             (counts_of D.Device (device_in self.old) (K.fault_count sink.old))
             (counts_of D.Device (device_in self.new) (K.fault_count sink.new)) result }
@@ -374,6 +380,7 @@ impl<D: Device + Drop> Shell<D> {
         ensures going { OnOk result (stop_in self.new ≡ None) }
         ensures device { Stays D.Device (device_in self.old) (device_in self.new) }
         ensures writes { FailsNoWrite D.Device (device_in self.old) (device_in self.new) result }
+        ensures damage { NamesBad (D.contents (device_in self.new)) result }
         ensures cause { IsCaused
             (counts_of D.Device (device_in self.old) (K.fault_count sink.old))
             (counts_of D.Device (device_in self.new) (K.fault_count sink.new)) result }

@@ -7,7 +7,7 @@ use Rattle.betr.specs.Fault.{faults}
 use Rattle.betr.specs.Run.{disk, ends, Ran}
 use Rattle.betr.specs.Session.{end_of}
 use Rattle.betr.specs.Shell.{acks_in, device_in}
-use Rattle.betr.proofs.Runs.{as_last, ran_session, ran_unstarted, ok_of_none, same_tail}
+use Rattle.betr.proofs.Runs.{as_last, names_damage, ran_session, ran_unstarted, ok_of_none, same_tail}
 use Rattle.betr.proofs.run.run_device.Goals as goal
 
 pub returns-in-Err-clause-ran : goal.returns-in-Err-clause-ran
@@ -21,7 +21,7 @@ returns-in-Err-clause-ran g c =
     (g.S.Source.left c.args.src.now) (g.S.Source.takes c.args.src.now) (g.K.Sink.written c.args.sink.now)
     (faults (g.D.Device.fault_count e) (g.S.Source.fault_count c.args.src.now) (g.K.Sink.fault_count c.args.sink.now))))
     _ c.in-Err.refused.device.now (search rules)
-    (ran_unstarted _ c.in-Err.refused.fault c.of_start.result _ c.in-Err.refused.device _ _ _ _ _ c.of_start.ensures c.in-Err.ensures.undamaged c.in-Err.ensures.wears
+    (ran_unstarted _ c.in-Err.refused.fault c.of_start.result _ c.in-Err.refused.device _ _ _ _ _ c.of_start.ensures c.in-Err.ensures.cause c.in-Err.ensures.undamaged c.in-Err.ensures.wears
     c.in-Err.ensures.left c.in-Err.ensures.starts c.blocks-2.ensures.shape))
 
 pub returns-in-Ok-clause-ran : goal.returns-in-Ok-clause-ran
@@ -41,7 +41,7 @@ returns-in-Ok-clause-ran g c =
     _ (device_in after).now (search rules)
     (λ may_stay. ran_session _ (end_of ran.result) _ before after _ _ _ _ _ _ _ _ (ran.ensures.session (device_in before) (g.D.Device.call_count c.args.dev.now + 1))
     c.in-Ok.ensures.stands c.in-Ok.ensures.first c.in-Ok.ensures.only (λ none. ok_of_none ran.result _ none ran.ensures.going) c.saved_is_shown.ensures may_stay
-    c.blocks-2.ensures.shape (ran.ensures.device.count ∙ c.in-Ok.ensures.only.stays.count))
+    c.blocks-2.ensures.shape (ran.ensures.device.count ∙ c.in-Ok.ensures.only.stays.count) (names_damage ran.result _ _ ran.ensures.damage))
     c.blocks-in-Ok.ensures.may_stay)
 
 pub returns-in-Ok-clause-stays : goal.returns-in-Ok-clause-stays

@@ -3,7 +3,7 @@ use Rattle.std.proofs.Common.{ap, refl}
 use Rattle.std.proofs.lemmas.Result.{err_from_is_err_and}
 use Rattle.std.specs.declared.result.Result.TheVariants.{Ok, Err}
 use Rattle.bd_script.specs.declared.line.Line.TheVariants.{Sync, Stop}
-use Rattle.betr.proofs.Lines.{outcome_ok, outcome_err, not_full, run_replies, walk_replies, df_replies, sync_replies, stop_replies, checkpoint_replies, reclaim_replies, command_fills, checkpoint_fills, reclaim_fills, command_leaves, checkpoint_leaves, reclaim_leaves, sync_leaves, sync_fails, fault_as, command_wears, checkpoint_wears, reclaim_wears}
+use Rattle.betr.proofs.Lines.{outcome_ok, outcome_err, not_full, run_replies, walk_replies, df_replies, sync_replies, stop_replies, checkpoint_replies, reclaim_replies, command_fills, checkpoint_fills, reclaim_fills, command_leaves, checkpoint_leaves, reclaim_leaves, sync_leaves, sync_fails, fault_as, outcome_damage, unnamed, command_wears, checkpoint_wears, reclaim_wears}
 use Rattle.betr.proofs.Moving.{went_on}
 use Rattle.betr.proofs.Keeping.{keeps_view, keeps_step}
 use Rattle.betr.proofs.shell.execute.Goals as goal
@@ -176,3 +176,24 @@ returns-in_ok-acknowledge-in-Stop-clause-ok g c first since s at =
 
 pub returns-in_ok-acknowledge-in-Stop-clause-cause : goal.returns-in_ok-acknowledge-in-Stop-clause-cause
 returns-in_ok-acknowledge-in-Stop-clause-cause g c sink = went_on _ _ _ (c.in_ok-acknowledge-in-Stop.ensures.cause sink).kept
+
+pub returns-in-Err-clause-damage : goal.returns-in-Err-clause-damage
+returns-in-Err-clause-damage g c = outcome_damage c.in-Err.fault _ _ c.outcome_of.ensures (λ block w. c.in-Err.ensures.damage block (ap Err w))
+
+pub returns-in-Err-checkpoint-clause-damage : goal.returns-in-Err-checkpoint-clause-damage
+returns-in-Err-checkpoint-clause-damage g c =
+    outcome_damage c.in-Err-checkpoint.fault _ _ c.outcome_of-in-Err-checkpoint.ensures (λ block w. absurd (c.in-Err-checkpoint.ensures.undamaged block (ap Err w)))
+
+pub returns-in-Err-reclaim-clause-damage : goal.returns-in-Err-reclaim-clause-damage
+returns-in-Err-reclaim-clause-damage g c =
+    outcome_damage c.in-Err-reclaim.fault _ _ c.outcome_of-in-Err-reclaim.ensures (λ block w. c.in-Err-reclaim.ensures.damage block (ap Err w))
+
+pub returns-in_err-acknowledge-in-Sync-clause-damage : goal.returns-in_err-acknowledge-in-Sync-clause-damage
+returns-in_err-acknowledge-in-Sync-clause-damage g c =
+    let p = err_from_is_err_and c.from_residual.result c.from_residual.ensures.1 in
+    rw (p.1, p.2) (unnamed _ c.in_err-acknowledge-in-Sync.field-0.0 c.in_err-acknowledge-in-Sync.ensures.kind)
+
+pub returns-in_err-acknowledge-in-Stop-clause-damage : goal.returns-in_err-acknowledge-in-Stop-clause-damage
+returns-in_err-acknowledge-in-Stop-clause-damage g c =
+    let p = err_from_is_err_and c.from_residual-in_err-acknowledge-in-Stop.result c.from_residual-in_err-acknowledge-in-Stop.ensures.1 in
+    rw (p.1, p.2) (unnamed _ c.in_err-acknowledge-in-Stop.field-0.0 c.in_err-acknowledge-in-Stop.ensures.kind)
