@@ -160,8 +160,9 @@ fn put_under<S: NodeStore>(
         (graft_messages s.now d.now keep packed.target)) result }
 {
     is_table(&*store);
-    let list = messages(alloc, s, d, keep, &packed.target)?;
-    store.extend(Items::from_vec(packed.made), Messages::from_vec(list))
+    let Packed { made, target, .. } = packed;
+    let list = messages(alloc, s, d, keep, target)?;
+    store.extend(Items::from_vec(made), Messages::from_vec(list))
 }
 
 // The table is one. It does nothing.
@@ -195,13 +196,14 @@ fn put_over<S: NodeStore>(
     let root = store.root();
     let next = store.next_id();
     let level = store.level(root) + 1;
-    let list = messages(alloc, s, d, keep, &packed.target)?;
+    let Packed { made, target, .. } = packed;
+    let list = messages(alloc, s, d, keep, target)?;
     let old = Target {
         child: root,
         source: Bytes::from_vec(Vec::new(alloc)),
     };
     let top = overlay(alloc, level, Some(old), Messages::indexed(list)?)?;
-    let step = over(alloc, packed.made, top, next)?;
+    let step = over(alloc, made, top, next)?;
     store.commit(step)
 }
 
@@ -211,14 +213,14 @@ fn messages(
     s: &[u8],
     d: &[u8],
     keep: bool,
-    target: &Target,
+    target: Target,
 ) -> Result<Vec<Message>, AllocError>
-    ensures { IfOk result (λ list. list.items ≡ graft_messages s.now d.now keep target.now) }
+    ensures { IfOk result (λ list. list.items ≡ graft_messages s.now d.now keep target) }
 {
     let mut list = Vec::new(alloc);
     list.push(Message::Goto {
         prefix: Bytes::from_slice(alloc, d)?,
-        source: target.source.clone()?,
+        source: target.source,
         child: target.child,
     })?;
     if keep {

@@ -1,14 +1,18 @@
 //! A byte string that contracts see as a list.
 ghost use Rattle.std.specs.Prelude.{◌≡◌, ◌↔◌, [], length, IfOk, IsTrue};
 
+use smallvec::SmallVec;
 use std::alloc::{AllocError, Global};
 use std::cmp::Ordering;
 use std::marker::Model;
 
-/// An owned byte string. It is made of a `Vec` and gives it back without taking memory.
+// How many bytes fit in a byte string's own place.
+const NEAR: usize = 40;
+
+/// An owned byte string. At most 40 bytes take no memory beside its own.
 #[derive(Debug, Drop)]
 pub struct Bytes {
-    buffer: Vec<u8>,
+    buffer: SmallVec<u8, NEAR>,
 }
 
 impl Model for Bytes {
@@ -20,26 +24,29 @@ impl Model for Bytes {
 }
 
 impl Bytes {
-    /// The bytes of a `Vec`.
+    /// The bytes of a `Vec`, which takes no memory.
     pub fn from_vec(bytes: Vec<u8>) -> Bytes
         ensures { result ≡ bytes.items }
     {
-        Bytes { buffer: bytes }
+        Bytes {
+            buffer: SmallVec::from_vec(bytes),
+        }
     }
 
     /// A copy of the bytes of a slice.
     pub fn from_slice(alloc: Global, bytes: &[u8]) -> Result<Bytes, AllocError>
         ensures { IfOk result (λ copy. copy ≡ bytes.now) }
     {
-        Ok(Bytes::from_vec(Vec::from_slice(alloc, bytes)?))
+        let buffer = SmallVec::from_slice(alloc, bytes)?;
+        Ok(Bytes { buffer })
     }
 
-    /// The bytes as a `Vec`.
-    pub fn into_vec(self) -> Vec<u8>
-        ensures { result.items ≡ self }
+    /// The bytes as a `Vec`, which takes memory where they had none.
+    pub fn into_vec(self) -> Result<Vec<u8>, AllocError>
+        ensures { IfOk result (λ bytes. bytes.items ≡ self) }
     {
         let Bytes { buffer } = self;
-        buffer
+        Ok(buffer.into_vec()?)
     }
 
     /// The bytes.
@@ -68,7 +75,7 @@ impl Clone for Bytes {
     ghost is_clone = { λ bytes copy. copy ≡ bytes };
 
     fn clone(&self) -> Result<Bytes, AllocError> {
-        Ok(Bytes::from_vec(self.buffer.clone()?))
+        Bytes::from_slice(*self.buffer.allocator(), self.as_slice())
     }
 }
 

@@ -142,7 +142,7 @@ fn patch_value(alloc: Global, value: &mut Bytes, off: usize, bytes: &[u8]) -> Re
 {
     if off + bytes.len() <= value.len() {
         let old = mem::replace(value, Bytes::from_vec(Vec::new(alloc)));
-        *value = Bytes::from_vec(overlaid(old.into_vec(), off, bytes));
+        *value = Bytes::from_vec(overlaid(old.into_vec()?, off, bytes));
     } else {
         *value = Bytes::from_vec(overwritten(alloc, value.as_slice(), off, bytes)?);
     }

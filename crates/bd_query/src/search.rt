@@ -15,7 +15,7 @@ use crate::turns::{Turn, turn_at};
 use bd_keys::{Bytes, starts};
 use bd_message::MapFault;
 use bd_node::NodeStore;
-use std::alloc::Global;
+use std::alloc::{AllocError, Global};
 
 /// The least key of a kept node, of any length, that is at least `from`, begins with `within` and
 /// has a value. Each turn rules out the keys from one up to another; the search ends at that one
@@ -46,11 +46,11 @@ pub fn next<S: NodeStore>(
     'turns: while starts(low.as_slice(), within) {
         match turn_at(alloc, store, root, low.as_slice())? {
             Turn::Found => return Ok(Some(low)),
-            Turn::Next { key } => return Ok(beginning(key, within)),
+            Turn::Next { key } => return Ok(beginning(key, within)?),
             Turn::Passed { end: None } => return Ok(None),
             Turn::Passed { end: Some(end) } => {
                 let _bytes = bytes_of(end.as_slice());
-                low = end.into_vec();
+                low = end.into_vec()?;
             }
         }
     }
@@ -58,14 +58,14 @@ pub fn next<S: NodeStore>(
 }
 
 // The key, if it begins with a prefix.
-fn beginning(key: Bytes, prefix: &[u8]) -> Option<Vec<u8>>
-    ensures { option_map (λ found. found.items) result
-        ≡ (if begins key prefix.now then Some key else None) }
+fn beginning(key: Bytes, prefix: &[u8]) -> Result<Option<Vec<u8>>, AllocError>
+    ensures { IfOk result (λ found. option_map (λ found. found.items) found
+        ≡ (if begins key prefix.now then Some key else None)) }
 {
     if starts(key.as_slice(), prefix) {
-        Some(key.into_vec())
+        Ok(Some(key.into_vec()?))
     } else {
-        None
+        Ok(None)
     }
 }
 

@@ -93,7 +93,7 @@ fn finished(
     ensures { IfOk result (λ found.
         option_map (λ value. value.items) found ≡ patched patches.now base) }
 {
-    let mut value = owned(base);
+    let mut value = owned(base)?;
     for patch in patches {
         let old = bytes_of(&value);
         value = Some(overwritten(alloc, old, patch.off as usize, patch.bytes.as_slice())?);
@@ -112,11 +112,11 @@ fn bytes_of(value: &Option<Vec<u8>>) -> &[u8]
 }
 
 // A value as a `Vec`.
-fn owned(value: Option<Bytes>) -> Option<Vec<u8>>
-    ensures { option_map (λ value. value.items) result ≡ value }
+fn owned(value: Option<Bytes>) -> Result<Option<Vec<u8>>, AllocError>
+    ensures { IfOk result (λ owned. option_map (λ value. value.items) owned ≡ value) }
 {
     match value {
-        Some(value) => Some(value.into_vec()),
-        None => None,
+        Some(value) => Ok(Some(value.into_vec()?)),
+        None => Ok(None),
     }
 }

@@ -5,7 +5,7 @@ use std::test::Fail;
 #[test]
 fn bytes_are_kept(rt: HostRuntime) -> Result<(), Fail> {
     let bytes = Bytes::from_slice(rt.alloc(), b"ab")?;
-    assert_eq!(rt; bytes.into_vec().as_slice(), b"ab".as_slice());
+    assert_eq!(rt; bytes.into_vec()?.as_slice(), b"ab".as_slice());
     Ok(())
 }
 

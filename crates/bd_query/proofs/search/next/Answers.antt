@@ -38,12 +38,12 @@ returns-in-Passed-None-clause-next g c known sound =
 pub turns-smaller : goal.turns-smaller
 turns-smaller g c =
     let inv = c.turns.invariant in
-    turned_fewer c.args.from.now c.args.within.now c.turns.low.items c.as_slice-in-turns.result.now c.in-Passed-Some.end c.as_slice-in-Passed-Some.result.now c.into_vec-low.result.items (way_limit ((g.S.NodeStore.table c.args.store.now).level c.args.root)) c.in_ok-turn_at.field-0 c.in-Passed-Some.end'
+    turned_fewer c.args.from.now c.args.within.now c.turns.low.items c.as_slice-in-turns.result.now c.in-Passed-Some.end c.as_slice-in-Passed-Some.result.now c.in_ok-low-in-Passed-Some.low.items (way_limit ((g.S.NodeStore.table c.args.store.now).level c.args.root)) c.in_ok-turn_at.field-0 c.in-Passed-Some.end'
     (record {
       slice_is = c.as_slice-in-turns.ensures.value;
       passes = subst (λ (u : Table). PassesTo c.as_slice-in-turns.result.now (way_limit (u.level c.args.root)) c.in_ok-turn_at.field-0) inv.table c.in_ok-turn_at.ensures.passes;
       bytes = c.in_ok-turn_at.ensures.bytes;
-    }) c.in-Passed-Some.is c.in-Passed-Some.end-is c.as_slice-in-Passed-Some.ensures c.into_vec-low.ensures c.bytes_of-bytes.ensures.bytes
+    }) c.in-Passed-Some.is c.in-Passed-Some.end-is c.as_slice-in-Passed-Some.ensures c.in_ok-low-in-Passed-Some.ensures c.bytes_of-bytes.ensures.bytes
 
 pub turns-preserved : goal.turns-preserved
 turns-preserved g c =
@@ -59,22 +59,22 @@ turns-preserved g c =
       low = λ known sound.
           let still : IsSound (g.S.NodeStore.nodes c.turns.store) (g.S.NodeStore.table c.turns.store) =
           subst (λ (n : Nodes). IsSound n (g.S.NodeStore.table c.turns.store)) (sym (inv.nodes known)) (subst (λ (u : Table). IsSound nodes u) (sym inv.table) sound) in
-          turned_low nodes c.args.root c.args.from.now c.args.within.now c.turns.low.items c.as_slice-in-turns.result.now c.in-Passed-Some.end c.into_vec-low.result.items (way_limit ((g.S.NodeStore.table c.args.store.now).level c.args.root)) c.in_ok-turn_at.field-0 c.in-Passed-Some.end'
+          turned_low nodes c.args.root c.args.from.now c.args.within.now c.turns.low.items c.as_slice-in-turns.result.now c.in-Passed-Some.end c.in_ok-low-in-Passed-Some.low.items (way_limit ((g.S.NodeStore.table c.args.store.now).level c.args.root)) c.in_ok-turn_at.field-0 c.in-Passed-Some.end'
           (record {
             slice_is = c.as_slice-in-turns.ensures.value;
             passes = subst (λ (u : Table). PassesTo c.as_slice-in-turns.result.now (way_limit (u.level c.args.root)) c.in_ok-turn_at.field-0) inv.table c.in_ok-turn_at.ensures.passes;
             bytes = c.in_ok-turn_at.ensures.bytes;
-          }) c.in-Passed-Some.is c.in-Passed-Some.end-is c.into_vec-low.ensures
+          }) c.in-Passed-Some.is c.in-Passed-Some.end-is c.in_ok-low-in-Passed-Some.ensures
           (subst (λ (n : Nodes). IsTurn (at n c.args.root) c.as_slice-in-turns.result.now c.in_ok-turn_at.field-0) (inv.nodes known) (c.in_ok-turn_at.ensures.turn (inv.known known) still)) (inv.low known sound);
       ways = λ known sound.
           let still : IsSound (g.S.NodeStore.nodes c.turns.store) (g.S.NodeStore.table c.turns.store) =
           subst (λ (n : Nodes). IsSound n (g.S.NodeStore.table c.turns.store)) (sym (inv.nodes known)) (subst (λ (u : Table). IsSound nodes u) (sym inv.table) sound) in
-          turned_ways nodes c.args.root c.args.from.now c.args.within.now c.turns.low.items c.as_slice-in-turns.result.now c.in-Passed-Some.end c.into_vec-low.result.items (way_limit ((g.S.NodeStore.table c.args.store.now).level c.args.root)) c.in_ok-turn_at.field-0 c.in-Passed-Some.end' (g.S.NodeStore.visit_count c.args.store.now) (g.S.NodeStore.visit_count c.turns.store) (g.S.NodeStore.visit_count c.turn_at.new.store)
+          turned_ways nodes c.args.root c.args.from.now c.args.within.now c.turns.low.items c.as_slice-in-turns.result.now c.in-Passed-Some.end c.in_ok-low-in-Passed-Some.low.items (way_limit ((g.S.NodeStore.table c.args.store.now).level c.args.root)) c.in_ok-turn_at.field-0 c.in-Passed-Some.end' (g.S.NodeStore.visit_count c.args.store.now) (g.S.NodeStore.visit_count c.turns.store) (g.S.NodeStore.visit_count c.turn_at.new.store)
           (record {
             slice_is = c.as_slice-in-turns.ensures.value;
             passes = subst (λ (u : Table). PassesTo c.as_slice-in-turns.result.now (way_limit (u.level c.args.root)) c.in_ok-turn_at.field-0) inv.table c.in_ok-turn_at.ensures.passes;
             bytes = c.in_ok-turn_at.ensures.bytes;
-          }) c.in-Passed-Some.is c.in-Passed-Some.end-is c.into_vec-low.ensures (inv.ways known sound)
+          }) c.in-Passed-Some.is c.in-Passed-Some.end-is c.in_ok-low-in-Passed-Some.ensures (inv.ways known sound)
           (subst (λ (n : Nodes). AreVisitsOfWay n c.args.root c.as_slice-in-turns.result.now (g.S.NodeStore.visit_count c.turns.store) (g.S.NodeStore.visit_count c.turn_at.new.store)) (inv.nodes known) (c.in_ok-turn_at.ensures.way (inv.known known) still));
     }
 
@@ -111,7 +111,7 @@ returns-in-Next-clause-next g c known sound =
     let inv = c.turns.invariant in
     let still : IsSound (g.S.NodeStore.nodes c.turns.store) (g.S.NodeStore.table c.turns.store) =
     subst (λ (n : Nodes). IsSound n (g.S.NodeStore.table c.turns.store)) (sym (inv.nodes known)) (subst (λ (u : Table). IsSound nodes u) (sym inv.table) sound) in
-    subst (λ (o : Option (List ℕ)). IsNext (at nodes c.args.root) c.args.from.now c.args.within.now o) (sym c.beginning.ensures)
+    subst (λ (o : Option (List ℕ)). IsNext (at nodes c.args.root) c.args.from.now c.args.within.now o) (sym c.in_ok-beginning-in-Next.ensures)
     (turned_next nodes c.args.root c.args.from.now c.args.within.now c.turns.low.items c.as_slice-in-turns.result.now c.in-Next.key c.in_ok-turn_at.field-0 c.as_slice-in-turns.ensures.value c.in-Next.is
     (subst (λ (n : Nodes). IsTurn (at n c.args.root) c.as_slice-in-turns.result.now c.in_ok-turn_at.field-0) (inv.nodes known) (c.in_ok-turn_at.ensures.turn (inv.known known) still)) (inv.low known sound))
 

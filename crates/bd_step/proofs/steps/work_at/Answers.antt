@@ -31,6 +31,11 @@ push_new-requires-clause-can g c =
     (subst (λ (w : Work). IsWaited (At c.args.site w)) (c.in-Push-None.is ∙ ap (λ (o : Option Fetched). Push o) c.in-Push-None.child-is) c.requires.waited)
     (subst (λ (w : Work). IsDue (g.S.NodeStore.table c.args.store.now) (At c.args.site w)) (c.in-Push-None.is ∙ ap (λ (o : Option Fetched). Push o) c.in-Push-None.child-is) c.requires.due)
 
+pub returns-in-Push-None-clause-made : goal.returns-in-Push-None-clause-made
+returns-in-Push-None-clause-made g c = λ known sound.
+    subst (λ (w : Work). OnOk c.push_new.result (IsFlushMade (g.S.NodeStore.nodes c.args.store.now) (g.S.NodeStore.table c.args.store.now) (At c.args.site w) (g.S.NodeStore.nodes c.push_new.new.store) (g.S.NodeStore.table c.push_new.new.store))) (sym (c.in-Push-None.is ∙ ap (λ (o : Option Fetched). Push o) c.in-Push-None.child-is))
+    (c.push_new.ensures.made known sound)
+
 pub push-requires-clause-can : goal.push-requires-clause-can
 push-requires-clause-can g c =
     can_push (g.S.NodeStore.table c.args.store.now) c.args.site c.in-Push-Some.child
