@@ -25,3 +25,4 @@ pub mod Halving
 pub mod Parts
 pub mod Owning
 pub mod Marking
+pub mod Fronts
