@@ -179,8 +179,8 @@ pub record Transcribed (settled : ℕ) (t : Tree) (n : ℕ) (image : Image) (end
       (IsLast settled end xs taken script acks image before now)
 
 -- the lines that a run executed, each with its reply, to which script, takes and what was written
--- are tied; damage names a bad block; where the image stands for a tree, these lines have their transcript. The barrier with
--- which the volume starts returns after so many calls
+-- are tied; damage names a bad block; where the image stands for a tree, these lines have their
+-- transcript. The barrier with which the volume starts returns after so many calls
 pub record Ran (settled : ℕ) (end : Option Fault) (acks : List Ack) (before now : Ends)
     : Type 0 where
   pub exchanges : List Exchange

@@ -18,6 +18,8 @@ mod run;
 mod session;
 mod shell;
 #[cfg(test)]
+mod spoiled;
+#[cfg(test)]
 mod tests;
 
 use bd_filedev::FileDevice;
