@@ -6,10 +6,10 @@ use std::alloc::{AllocError, Global};
 use std::cmp::Ordering;
 use std::marker::Model;
 
-// How many bytes fit in a byte string's own place.
+// How many bytes a copy holds in its own place, without memory beside it.
 const NEAR: usize = 40;
 
-/// An owned byte string. At most 40 bytes take no memory beside its own.
+/// An owned byte string.
 #[derive(Debug, Drop)]
 pub struct Bytes {
     buffer: SmallVec<u8, NEAR>,

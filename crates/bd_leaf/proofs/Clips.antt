@@ -15,8 +15,7 @@ use Rattle.bd_node.specs.Shape.{entry_size, IsEntry, IsRising, IsBelowAll}
 use Rattle.bd_node.proofs.Lookup.{each_weaker, each_first, each_second}
 use Rattle.bd_leaf.specs.Leaves.{AreEntries, entries_size, without, IsClipped, IsStart, IsEnd}
 use Rattle.bd_leaf.proofs.Parts.{exchanged, rising-front, rising-back, size-parts}
-use Rattle.bd_node.proofs.Fronts.{cmp-after}
-use Rattle.bd_leaf.proofs.Cuts.{is_cut-from, is_cut-begun}
+use Rattle.bd_leaf.proofs.Cuts.{cmp-after, is_cut-from, is_cut-begun}
 use Rattle.bd_leaf.proofs.Receives.{IsCutOut, cut_out}
 
 abbrev Begun : List ℕ → List Entry → Type 0

@@ -7,8 +7,12 @@ use Rattle.bd_keys.specs.Keys.{key_cmp, IsBelow, IsAtLeast}
 use Rattle.bd_keys.proofs.Order.{first_less, first_same, first_more}
 use Rattle.bd_message.specs.Effect.{begins, rest, is_cut}
 use Rattle.bd_message.proofs.Finds.{begins-is, begins-append, not_both}
-use Rattle.bd_node.proofs.Fronts.{cmp-after}
 use Rattle.bd_node.proofs.Edges.{not_less_lt}
+
+-- after the same bytes the rest decides
+pub cmp-after : (p k l : List ℕ) → key_cmp (p ++ k) (p ++ l) ≡ key_cmp k l
+cmp-after [] k l = refl
+cmp-after (b ∷ p) k l = first_same b (p ++ k) (p ++ l) ∙ cmp-after p k l
 
 pub cmp-begun : (p from k : List ℕ) → begins k p ≡ true → key_cmp k (p ++ from) ≡ key_cmp (rest p k) from
 cmp-begun p from k begun = ap (λ (l : List ℕ). key_cmp l (p ++ from)) (begins-is k p begun) ∙ cmp-after p (rest p k) from

@@ -25,4 +25,3 @@ pub mod Halving
 pub mod Parts
 pub mod Owning
 pub mod Marking
-pub mod Fronts

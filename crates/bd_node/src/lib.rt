@@ -4,7 +4,6 @@
 //! edge that the definition finds first to last, `can_touch`, `is_pending`, and the laws.
 #![tactic(auto)]
 
-mod comparing;
 mod edge;
 mod index;
 pub mod laws;

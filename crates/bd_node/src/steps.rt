@@ -3,7 +3,6 @@
 ghost use Rattle.std.specs.Prelude.{◌≡◌, ◌+◌, ◌<◌};
 ghost use Rattle.bd_keys.specs.Keys.{key_cmp};
 
-use crate::comparing::compare;
 use std::cmp::Ordering;
 use std::marker::Model;
 use std::sync::ledger::{Blank, Book, Ledger, Share};
@@ -43,6 +42,6 @@ impl<L: Ledger> Steps<L> {
         ensures step { self.new ≡ self.old + 1 }
     {
         self.book.add(&mut self.share, 1);
-        compare(a, b)
+        a.cmp(b)
     }
 }
