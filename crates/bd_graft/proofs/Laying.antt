@@ -85,7 +85,7 @@ value_ended has ls new child source k end all same is none h =
 
 -- ---- one node of the way
 
-lower_limit : (t : Table) (level : ℕ) (n : Node) → IsNodeOf t level n → AllByRecursion (IsLower t level_limit) (names n)
+pub lower_limit : (t : Table) (level : ℕ) (n : Node) → IsNodeOf t level n → AllByRecursion (IsLower t level_limit) (names n)
 lower_limit t level n of =
     each_weaker (IsLower t level) (IsLower t level_limit) (λ c own. record { kept = own.kept; lower = (let l : t.level c < level = own.lower in let e : level_of n ≡ level = of.level_is in let h : level_of n ≤ level_limit = level_high n of.shape in omega arith) }) (names n) of.lower
 

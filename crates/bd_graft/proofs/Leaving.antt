@@ -22,7 +22,6 @@ use Rattle.bd_node.proofs.Privacy.{reached}
 use Rattle.bd_node.proofs.Stepping.{touched_in, after-none, after-some, isolated_root, isolated_none}
 use Rattle.bd_resolve.specs.declared.following.Target.{Target}
 use Rattle.bd_graft.specs.declared.packing.Packed.{Packed}
-use Rattle.bd_graft.specs.Walking.{messages_in}
 use Rattle.bd_graft.specs.Packing.{IsUnder, AreOverlays, level_in, AreExact, IsOver}
 use Rattle.bd_graft.specs.Grafting.{graft_messages, step_over, IsGrown, AreMade, IsGraftStep, AreOthersSame}
 use Rattle.bd_graft.proofs.Packs.{get_first, get_last, level_kept, level_made, overlay_same}
@@ -181,13 +180,10 @@ under_step_left known nodes t n packed s d keep new u h k =
     } in
     let next : u.next ≡ t.next + length made = h.after.next in
     record {
-      travel = messages_in h.step.ready.layers;
-      end = h.step.ready.end;
-      way = h.step.ready.way k h.sound;
-      target = packed.target;
-      target_is = h.step.ready.groups.target;
       made = made;
-      made_are = h.step.ready.groups.made;
+      target = packed.target;
+      top = packed.level + 1;
+      sent = h.step.ready.sent k h.sound;
       there = made_left nodes t step made new u making;
       old = target_old t made (packed.level + 1) packed.target h.step.ready.packed_is.over;
       root = inl (record {
@@ -308,13 +304,10 @@ over_step_left known nodes t packed s d keep new u h k =
     let next : u.next ≡ t.next + length (made ++ top ∷ []) = h.after.next in
     let long : length (made ++ top ∷ []) ≡ length made + 1 = length-append made (top ∷ []) in
     record {
-      travel = messages_in h.step.ready.layers;
-      end = h.step.ready.end;
-      way = h.step.ready.way k h.sound;
-      target = packed.target;
-      target_is = h.step.ready.groups.target;
       made = made;
-      made_are = h.step.ready.groups.made;
+      target = packed.target;
+      top = packed.level + 1;
+      sent = h.step.ready.sent k h.sound;
       there = made_left nodes t step made new u making;
       old = target_old t made (packed.level + 1) packed.target h.step.ready.packed_is.over;
       root = inr (record {

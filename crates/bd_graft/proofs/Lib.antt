@@ -10,3 +10,4 @@ pub mod Counters
 pub mod Once
 pub mod Visits
 pub mod Made
+pub mod Looks

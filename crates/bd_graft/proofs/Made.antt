@@ -1,12 +1,15 @@
 -- What a graft leaves of a store.
-use Rattle.std.proofs.Common.{ℕ, ◌+◌, ◌-◌, ◌≤◌, List, Bool, refl, sym, subst, arith, Result, Ok, Err, OnOk}
+use Rattle.std.proofs.Common.{◌≡◌, ℕ, ◌+◌, ◌-◌, ◌≤◌, List, Bool, refl, sym, ap, subst, ◌∙◌, arith, Result, Ok, Err, OnOk}
 use Rattle.bd_limits.specs.Limits.{buffer_limit, graft_size}
-use Rattle.bd_message.specs.KeyMaps.{IsGrafted}
+use Rattle.bd_message.specs.declared.fault.MapFault.{MapFault}
+use Rattle.bd_message.specs.KeyMaps.{HasMapCause, IsGrafted}
+use Rattle.bd_message.proofs.Causes.{cause_after}
 use Rattle.bd_node.specs.declared.store.NodeStore.{Ghosts}
-use Rattle.bd_node.specs.Frames.{OfSound, OnlyReads}
+use Rattle.bd_node.specs.Frames.{OfSound, OnlyReads, Stays}
 use Rattle.bd_node.specs.Meaning.{Nodes}
 use Rattle.bd_node.specs.Tables.{Table, IsSound, root_at}
-use Rattle.bd_graft.specs.Grafting.{IsGrown, IsGraftStep, AreOthersSame, IsGraftMade, IsGraftCall}
+use Rattle.bd_graft.specs.Walking.{HasRoot}
+use Rattle.bd_graft.specs.Grafting.{IsGrown, IsGraftStep, AreOthersSame, IsGraftMade, IsGraftCall, IsWornForGraft}
 
 pub room_is : (size : ℕ) → graft_size ≤ buffer_limit - size → size + graft_size ≤ buffer_limit
 room_is size fits = omega arith
@@ -37,6 +40,40 @@ made_after g s d keep old mid new left h = record {
   table = subst (λ (u : Table). IsGrown u (g.table new)) left.table h.table;
 }
 
+-- two reads, one after the other
+pub reads_both : {S : Type 0} (g : Ghosts S) (a b c : S) → ((x y z : S) → g.reads x y → g.reads y z → g.reads x z) → OnlyReads g a b → OnlyReads g b c → OnlyReads g a c
+reads_both g a b c both one two = record {
+  table = two.table ∙ one.table;
+  known = λ k. two.known (one.known k);
+  kept = λ k. two.kept (one.known k) ∙ one.kept k;
+  read = both a b c one.read two.read;
+  same_loans = two.same_loans ∙ one.same_loans;
+}
+
+-- a call after reads leaves what each call does
+pub stays_after : {S : Type 0} (g : Ghosts S) (a b c : S) → ((x y : S) → g.reads x y → g.keeps x y) → ((x y z : S) → g.keeps x y → g.keeps y z → g.keeps x z) → OnlyReads g a b → Stays g b c → Stays g a c
+stays_after g a b c keep both one two = record {
+  known = λ k. two.known (one.known k);
+  beside = both a b c (keep a b one.read) two.beside;
+  same_loans = two.same_loans ∙ one.same_loans;
+}
+
+-- what holds of sound nodes holds after reads that leave them
+pub on_reads : {S : Type 0} (g : Ghosts S) (old mid : S) (P : Nodes → Table → Type 0) → ((x y : S) → g.reads x y → g.is_known y → g.is_known x) → OnlyReads g old mid → OfSound g old (P (g.nodes old) (g.table old)) → OfSound g mid (P (g.nodes mid) (g.table mid))
+on_reads g old mid P back left h known sound =
+    let was : g.is_known old = back old mid left.read known in
+    let same : g.nodes mid ≡ g.nodes old = left.kept was in
+    subst (λ (u : Table). P (g.nodes mid) u) (sym left.table)
+    (subst (λ (f : Nodes). P f (g.table old)) (sym same)
+    (h was (subst (λ (u : Table). IsSound (g.nodes old) u) left.table (subst (λ (f : Nodes). IsSound f (g.table mid)) same sound))))
+
+pub root_on : {S : Type 0} (g : Ghosts S) (old mid : S) → ((x y : S) → g.reads x y → g.is_known y → g.is_known x) → OnlyReads g old mid → HasRoot (g.is_known old) (g.nodes old) (g.table old) → HasRoot (g.is_known mid) (g.nodes mid) (g.table mid)
+root_on g old mid back left h = subst (λ (u : Table). HasRoot (g.is_known mid) (g.nodes mid) u) (sym left.table) (record {
+  node = h.node;
+  is = h.is;
+  there = λ k. (let was : g.is_known old = back old mid left.read k in ap (λ (f : Nodes). f (g.table old).root) (left.kept was) ∙ h.there was);
+})
+
 -- ---- calls
 
 -- a call that fails before anything was done
@@ -48,3 +85,10 @@ not_called g s d keep old e reads keeps = record {
   err = record { table = refl; known = λ k. k; kept = λ k. refl; read = reads; same_loans = refl };
   err_visits = refl;
 }
+
+-- why a call after reads failed
+pub err_cause : {T U : Type 0} (before mid now : ℕ) (bad : ℕ → Type 0) (t u : Table) (e : MapFault) → mid ≡ before → u ≡ t → HasMapCause {T = T} mid now bad (IsWornForGraft u) (Err e) → HasMapCause {T = U} before now bad (IsWornForGraft t) (Err e)
+err_cause {T} {U} before mid now bad t u e same table h =
+    let there : HasMapCause {T = T} before now bad (IsWornForGraft t) (Err e) =
+    cause_after before mid now bad (IsWornForGraft t) (Err e) same (subst (λ (x : Table). HasMapCause {T = T} mid now bad (IsWornForGraft x) (Err e)) table h) in
+    record { later = there.later; kept = tt; stays = there.stays; failed = there.failed }

@@ -16,7 +16,9 @@ use Rattle.bd_resolve.specs.Following.{covered, edge_target, Decides, NoneDecide
 use Rattle.bd_resolve.specs.Following.IsLed.{at_all, by_message, by_edge, at_several}
 use Rattle.bd_graft.specs.Walking.{travelling, IsWay, fetched_on}
 use Rattle.bd_graft.specs.Walking.IsWay.{ends, to_nothing, leads_on}
-use Rattle.bd_graft.specs.Packing.{packs, overlaid, over_all, overlays_over}
+use Rattle.bd_graft.specs.Packing.{packs, overlaid}
+use Rattle.bd_graft.specs.Looking.{waiting_in, IsAlreadyMade, looked_at, IsMadeOver}
+use Rattle.bd_graft.specs.Looking.IsMadeOver.{all_made, none_made}
 use Rattle.bd_graft.specs.Grafting.{IsGraftStep, IsWalkOf}
 
 -- ---- one node
@@ -102,17 +104,30 @@ way_once nodes id q _ _ _ _ (leads_on _ _ n i target more end there one way) (le
 
 -- ---- the graft
 
+-- one node is found already
+already_once : (nodes : Nodes) (t : Table) (end : Option Target) (groups : List (List Message)) (c d : ℕ) → IsAlreadyMade nodes t end groups c → IsAlreadyMade nodes t end groups d → c ≡ d
+already_once nodes t end groups c d a b = same_Some c d (sym a.newest ∙ b.newest)
+
+target_is : (a b : Target) → a.child ≡ b.child → a.source ≡ [] → b.source ≡ [] → a ≡ b
+target_is a b child one two = ap (λ (i : ℕ). record { child = i; source = a.source }) child ∙ ap (λ (q : List ℕ). record { child = b.child; source = q }) (one ∙ sym two)
+
+over_once : (nodes : Nodes) (t : Table) (end : Option Target) (groups : List (List Message)) (m n : List Node) (x y : Target) → IsMadeOver nodes t end groups m x → IsMadeOver nodes t end groups n y → (m ≡ n) × (x ≡ y)
+over_once nodes t end groups m n x y (all_made none made target) (all_made none2 made2 target2) = (made ∙ sym made2, same_Some x y (sym target ∙ target2))
+over_once nodes t end groups m n x y (all_made none made target) (none_made there source made2) = absurd (none y.child there)
+over_once nodes t end groups m n x y (none_made there source made) (all_made none2 made2 target2) = absurd (none2 x.child there)
+over_once nodes t end groups m n x y (none_made there source made) (none_made there2 source2 made2) = (made ∙ sym made2, target_is x y (already_once nodes t end groups x.child y.child there there2) source source2)
+
 pub step_once : (nodes : Nodes) (t : Table) (s d : List ℕ) (keep : Bool) (new other : Nodes) (u v : Table) (a : IsGraftStep nodes t s d keep new u) (b : IsGraftStep nodes t s d keep other v) → (a.made ≡ b.made) × (a.target ≡ b.target)
 step_once nodes t s d keep new other u v a b =
-    let same = way_once nodes t.root s a.travel b.travel a.end b.end a.way b.way in (
-      a.made_are ∙ ap (λ (x : List (List Message)). overlays_over t a.end (overlaid a.end (packs x))) same.0 ∙ ap (λ (e : Option Target). overlays_over t e (overlaid e (packs b.travel))) same.1 ∙ sym b.made_are,
-      same_Some a.target b.target (sym a.target_is ∙ ap (λ (x : List (List Message)). over_all t.next a.end (overlaid a.end (packs x))) same.0 ∙ ap (λ (e : Option Target). over_all t.next e (overlaid e (packs b.travel))) same.1 ∙ b.target_is),
-    )
+    let same = way_once nodes t.root s a.sent.travel b.sent.travel a.sent.end b.sent.end a.sent.way b.sent.way in
+    over_once nodes t b.sent.end (overlaid b.sent.end (packs b.sent.travel)) a.made b.made a.target b.target
+    (subst (λ (e : Option Target). IsMadeOver nodes t e (overlaid e (packs b.sent.travel)) a.made a.target) same.1
+    (subst (λ (x : List (List Message)). IsMadeOver nodes t a.sent.end (overlaid a.sent.end (packs x)) a.made a.target) same.0 a.sent.over)) b.sent.over
 
 pub walk_once : (nodes : Nodes) (t : Table) (s : List ℕ) (u : Table) (m n : ℕ) → IsWalkOf nodes t s u m → IsWalkOf nodes t s u n → m ≡ n
 walk_once nodes t s u m n a b =
     let same = way_once nodes t.root s a.travel b.travel a.end b.end a.way b.way in
     a.visits_are
-    ∙ ap (λ (x : List (List Message)). fetched_on t x a.end + (u.next - t.next)) same.0
-    ∙ ap (λ (e : Option Target). fetched_on t b.travel e + (u.next - t.next)) same.1
+    ∙ ap (λ (x : List (List Message)). fetched_on t x a.end + looked_at (waiting_in nodes t) (overlaid a.end (packs x)) + (u.next - t.next)) same.0
+    ∙ ap (λ (e : Option Target). fetched_on t b.travel e + looked_at (waiting_in nodes t) (overlaid e (packs b.travel)) + (u.next - t.next)) same.1
     ∙ sym b.visits_are

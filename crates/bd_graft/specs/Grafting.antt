@@ -16,8 +16,9 @@ use Rattle.bd_resolve.specs.declared.following.Target.{Target}
 use Rattle.bd_graft.specs.declared.packing.Packed.{Packed}
 use Rattle.bd_graft.specs.declared.layers.Layer.{Layer}
 use Rattle.bd_graft.specs.Layers.{laid, AreLayers}
-use Rattle.bd_graft.specs.Walking.{IsWay, fetched_on, messages_in}
-use Rattle.bd_graft.specs.Packing.{overlay, IsOverlay, IsPacked, packs, overlaid, over_all, top_over, overlays_over, IsPackedWith}
+use Rattle.bd_graft.specs.Walking.{IsWay, fetched_on}
+use Rattle.bd_graft.specs.Packing.{overlay, IsOverlay, IsPacked, packs, overlaid, top_over}
+use Rattle.bd_graft.specs.Looking.{waiting_in, looked_at, IsMadeOver}
 use Rattle.bd_node.specs.Meaning.{Nodes, at}
 use Rattle.bd_keys.specs.Keys.{IsKey}
 use Rattle.bd_message.specs.Effect.{acts}
@@ -42,6 +43,16 @@ abbrev pub step_over : Table → List Node → List Message → Step
 step_over t made list = top_made made
     (overlay (t.level t.root + 1) (Some (record { child = t.root; source = [] })) list) t.next
 
+-- the made nodes and the target are what stands over the end of the way of a prefix for all that
+-- travels on it, below a level
+pub record IsSentTo (nodes : Nodes) (t : Table) (s : List ℕ) (made : List Node) (target : Target)
+    (top : ℕ) : Type 0 where
+  pub travel : List (List Message)
+  pub end : Option Target
+  pub way : IsWay nodes t.root s travel end
+  pub over : IsMadeOver nodes t end (overlaid end (packs travel)) made target
+  pub top_is : top ≡ top_over t end (overlaid end (packs travel))
+
 -- what is packed has, under the made nodes, what stands at the keys that begin with a prefix
 pub record IsReady (known : Type 0) (nodes : Nodes) (t : Table) (s : List ℕ) (packed : Packed)
     : Type 0 where
@@ -51,8 +62,8 @@ pub record IsReady (known : Type 0) (nodes : Nodes) (t : Table) (s : List ℕ) (
   pub layers_are : AreLayers t (t.level t.root + 1) layers end
   pub value : known → IsSound nodes t → (k : List ℕ) → IsKey k
       → acts (at nodes) (laid layers) k (target_at (at nodes) end k) ≡ root_at nodes t (s ++ k)
-  pub way : known → IsSound nodes t → IsWay nodes t.root s (messages_in layers) end
-  pub groups : IsPackedWith t end (overlaid end (packs (messages_in layers))) packed
+  pub sent : known → IsSound nodes t
+      → IsSentTo nodes t s packed.made.items packed.target (packed.level + 1)
   pub few : length packed.made.items ≤ t.level t.root + 1
 
 -- whatever the nodes are, a counter that has no room for a graft is near its end: ids for its nodes,
@@ -65,31 +76,30 @@ IsWornForGraft t Count = ⊥
 IsWornForGraft t Epoch = ⊥
 IsWornForGraft t Flushes = ⊥
 
--- a counter has to pass its last value for overlay nodes of these groups over an end and the
--- messages that name what stands over all: for the ids that they get and the names that they add in
--- the root, where it is higher, and else in a new root, or for the level of that
-pub data IsWornOver (t : Table) (root : Node) (s d : List ℕ) (keep : Bool) (end : Option Target)
-    (groups : List (List Message)) (target : Target) (counter : Counter) : Type 0 where
-  root_kept : top_over t end groups ≤ t.level t.root
-      → IsWornBy t (extend_step t root (overlays_over t end groups) (graft_messages s d keep target))
-      counter → IsWornOver t root s d keep end groups target counter
-  root_raised : t.level t.root < top_over t end groups
-      → IsWornBy t (step_over t (overlays_over t end groups) (graft_messages s d keep target))
-      counter → IsWornOver t root s d keep end groups target counter
-  level_raised : t.level t.root < top_over t end groups → counter ≡ Level
-      → t.level t.root ≡ level_limit → IsWornOver t root s d keep end groups target counter
+-- a counter has to pass its last value for these overlay nodes and the messages that name what
+-- stands over all: for the ids that they get and the names that they add in the root, where it is
+-- higher than that, and else in a new root, or for the level of that
+pub data IsWornOver (t : Table) (root : Node) (s d : List ℕ) (keep : Bool) (made : List Node)
+    (target : Target) (top : ℕ) (counter : Counter) : Type 0 where
+  root_kept : top ≤ t.level t.root
+      → IsWornBy t (extend_step t root made (graft_messages s d keep target)) counter
+      → IsWornOver t root s d keep made target top counter
+  root_raised : t.level t.root < top
+      → IsWornBy t (step_over t made (graft_messages s d keep target)) counter
+      → IsWornOver t root s d keep made target top counter
+  level_raised : t.level t.root < top → counter ≡ Level → t.level t.root ≡ level_limit
+      → IsWornOver t root s d keep made target top counter
 
 -- a counter has to pass its last value for all that a graft adds
 pub record IsWornByGraft (nodes : Nodes) (t : Table) (s d : List ℕ) (keep : Bool)
     (counter : Counter) : Type 0 where
   pub root : Node
   pub root_is : nodes t.root ≡ Some root
-  pub travel : List (List Message)
-  pub end : Option Target
-  pub way : IsWay nodes t.root s travel end
+  pub made : List Node
   pub target : Target
-  pub target_is : over_all t.next end (overlaid end (packs travel)) ≡ Some target
-  pub worn : IsWornOver t root s d keep end (overlaid end (packs travel)) target counter
+  pub top : ℕ
+  pub sent : IsSentTo nodes t s made target top
+  pub worn : IsWornOver t root s d keep made target top counter
 
 -- where a fault says that a counter is worn, it is one of these
 abbrev pub OnWorn : (Counter → Type 0) → MapFault → Type 0
@@ -140,17 +150,15 @@ pub record IsRootRaised (nodes : Nodes) (t : Table) (list : List Message) (child
   pub high : t.level t.root ≤ u.level child
 
 -- what a graft leaves: from the next id on the overlay nodes of what travels on the way of one
--- prefix, over its end, and a root with the messages that send the other prefix to what stands over
--- all; each old node and each new id is kept, and nothing else
+-- prefix, over its end, unless the only one was there already, and a root with the messages that
+-- send the other prefix to what stands over all; each old node and each new id is kept, and nothing
+-- else
 pub record IsGraftStep (nodes : Nodes) (t : Table) (s d : List ℕ) (keep : Bool) (new : Nodes)
     (u : Table) : Type 0 where
-  pub travel : List (List Message)
-  pub end : Option Target
-  pub way : IsWay nodes t.root s travel end
-  pub target : Target
-  pub target_is : over_all t.next end (overlaid end (packs travel)) ≡ Some target
   pub made : List Node
-  pub made_are : made ≡ overlays_over t end (overlaid end (packs travel))
+  pub target : Target
+  pub top : ℕ
+  pub sent : IsSentTo nodes t s made target top
   pub there : AreMade new u t.next made
   pub old : made ≡ [] → IsKept t target.child
   pub root : IsRootKept nodes t (graft_messages s d keep target) target.child
@@ -161,13 +169,14 @@ pub record IsGraftStep (nodes : Nodes) (t : Table) (s d : List ℕ) (keep : Bool
   pub fresh : (id : ℕ) → t.next ≤ id → id < u.next → IsKept u id
   pub only : (id : ℕ) → IsKept u id → IsKept t id ⊎ (t.next ≤ id)
 
--- a graft has so many visits: of the nodes of its way that are fetched, and of those that get new
--- ids
+-- a graft has so many visits: of the nodes of its way that are fetched, of those that are looked at
+-- for an overlay node that is there already, and of those that get new ids
 pub record IsWalkOf (nodes : Nodes) (t : Table) (s : List ℕ) (u : Table) (visits : ℕ) : Type 0 where
   pub travel : List (List Message)
   pub end : Option Target
   pub way : IsWay nodes t.root s travel end
-  pub visits_are : visits ≡ fetched_on t travel end + (u.next - t.next)
+  pub visits_are : visits ≡ fetched_on t travel end
+      + looked_at (waiting_in nodes t) (overlaid end (packs travel)) + (u.next - t.next)
 
 -- each kept node that stays, but for the root, is what it was, and has at each key what it had
 pub record AreOthersSame (nodes : Nodes) (t : Table) (new : Nodes) (u : Table) : Type 0 where

@@ -184,6 +184,11 @@ over_all next end (g ∷ groups) = Some (record { child = next + length groups; 
 abbrev pub overlay_level : Table → ℕ → List Message → ℕ
 overlay_level t top list = max (max top (above t.level (flat_map message_names list))) 1
 
+-- the overlay node of messages over an end
+abbrev pub overlay_of : Table → Option Target → List Message → Node
+overlay_of t end list =
+    overlay (overlay_level t (above t.level (target_names end)) list) end list
+
 -- one above what stands over all, and 0 where that is nothing
 abbrev pub top_over : Table → Option Target → List (List Message) → ℕ
 top_over t end [] = above t.level (target_names end)

@@ -1,10 +1,10 @@
 //! The graft of what stands under one prefix to another.
 
-ghost use Rattle.std.specs.Prelude.{ℕ, List, IfOk, IfErr, ◌++◌, ◌-◌, ◌*◌, ◌≡◌, ◌+◌, ◌<◌, ◌≤◌, ◌^◌, length, Some, IfOk, OnOk, OnErr};
+ghost use Rattle.std.specs.Prelude.{ℕ, List, [], IfErr, ◌++◌, ◌-◌, ◌*◌, ◌≡◌, ◌+◌, ◌<◌, ◌≤◌, ◌^◌, length, Some, IfOk, IfSome, OnOk, OnErr};
 ghost use Rattle.bd_limits.specs.Limits.{buffer_limit, level_limit};
 ghost use Rattle.bd_message.specs.KeyMaps.{HasMapCause, CanGraft, IsGrafted};
 ghost use Rattle.bd_node.specs.Frames.{OfSound, OnlyReads, Stays};
-ghost use Rattle.bd_node.specs.Tables.{IsTable, IsSound, root_at};
+ghost use Rattle.bd_node.specs.Tables.{IsTable, IsLower, IsSound, root_at};
 ghost use Rattle.bd_node.specs.Steps.{IsWornBy, IsWornByAdding};
 ghost use Rattle.bd_node.specs.Stores.{visited};
 ghost use Rattle.bd_keys.specs.Keys.{IsKey};
@@ -13,8 +13,11 @@ ghost use Rattle.bd_node.specs.Meaning.{at};
 ghost use Rattle.bd_resolve.specs.Following.{target_at, IsShort};
 ghost use Rattle.bd_graft.specs.Layers.{laid, AreLayers};
 ghost use Rattle.bd_graft.specs.Walking.{IsWay, HasRoot, messages_in};
-ghost use Rattle.bd_graft.specs.Grafting.{graft_messages, top_made, step_over, IsReady, IsGrown, IsGraftStep, IsWalkOf, IsGraftCall, AreOthersSame, IsWornForGraft, IsWornByGraft, OnWorn};
+ghost use Rattle.bd_graft.specs.Looking.{IsFound};
+ghost use Rattle.bd_graft.specs.Packing.{overlaid, packs};
+ghost use Rattle.bd_graft.specs.Grafting.{graft_messages, top_made, step_over, IsReady, IsSentTo, IsGrown, IsGraftStep, IsWalkOf, IsGraftCall, AreOthersSame, IsWornForGraft, IsWornByGraft, OnWorn};
 
+use crate::looking::{Lookup, find_overlay};
 use crate::packing::{Packed, overlay, overlay_count, pack};
 use crate::walking::{Walked, walk};
 use bd_keys::Bytes;
@@ -36,10 +39,12 @@ pub struct Walk {
 /// Gives each key `d x` what stands at `s x`, and then, without `keep`, nothing at each `s x`. The
 /// way of `s` is followed from the root down; the newer messages met on it go into overlay nodes
 /// over its end, and one `Goto` to them goes into the root, without `keep` with a `Cut` of `s`.
-/// Only where what it names isn't lower than the root, they go into a new root, one level above
-/// the old one. An overlay node stands one level above the highest node that it names. Each other
-/// node that was kept stays, is what it was and has what it had. A call that fails leaves all as
-/// it was.
+/// Where there would be one overlay node and the node that the newest of the root's `Goto`s without
+/// a source names is equal to it, that one is named again and none is made: what is cloned over and
+/// over shares it. Only where what the `Goto` names isn't lower than the root, the messages go into
+/// a new root, one level above the old one. An overlay node stands one level above the highest node
+/// that it names. Each other node that was kept stays, is what it was and has what it had. A call
+/// that fails leaves all as it was.
 pub fn graft<S: NodeStore>(
     alloc: Global,
     store: &mut S,
@@ -83,20 +88,22 @@ pub fn graft<S: NodeStore>(
     let root = store.root();
     let next = store.next_id();
     let way = walk(alloc, store, s)?;
-    let fetched = way.fetched;
     let height = store.level(root) + 1;
-    finish(alloc, store, way, s, d, keep)?;
+    let Lookup { found, fetched } = find_overlay(store, way.layers.as_slice(), &way.end)?;
+    let fetched = way.fetched + fetched;
+    finish(alloc, store, way, found, s, d, keep)?;
     Ok(Walk {
         visits: fetched + (store.next_id() - next),
         height,
     })
 }
 
-// What a way leads to is packed and put under the other prefix.
+// What a way leads to is put under the other prefix: what was found, or else what is packed.
 fn finish<S: NodeStore>(
     alloc: Global,
     store: &mut S,
     way: Walked,
+    found: Option<u64>,
     s: &[u8],
     d: &[u8],
     keep: bool,
@@ -113,6 +120,11 @@ fn finish<S: NodeStore>(
     requires way { OfSound S.NodeStore store.old
         (IsWay (S.nodes store.old) (S.table store.old).root s.now
         (messages_in way.layers.items) way.end) }
+    requires found { OfSound S.NodeStore store.old
+        (IsFound (S.nodes store.old) (S.table store.old) way.end
+        (overlaid way.end (packs (messages_in way.layers.items))) found) }
+    requires lower { IfSome found (IsLower (S.table store.old)
+        ((S.table store.old).level (S.table store.old).root)) }
     ensures call { IsGraftCall S.NodeStore s.now d.now keep store.old store.new result }
     ensures cause { HasMapCause (S.fault_count store.old) (S.fault_count store.new)
         (S.bad store.new) (IsWornForGraft (S.table store.old)) result }
@@ -120,6 +132,9 @@ fn finish<S: NodeStore>(
         (IfErr result (OnWorn (IsWornByGraft (S.nodes store.old) (S.table store.old)
         s.now d.now keep))) }
 {
+    if let Some(child) = found {
+        return put_again(alloc, store, child, s, d, keep);
+    }
     let Walked { layers, end, .. } = way;
     let count = overlay_count(layers.as_slice(), &end);
     if store.next_id().checked_add(count).is_none() {
@@ -137,6 +152,44 @@ fn finish<S: NodeStore>(
         return Err(MapFault::Worn(Counter::NextId));
     }
     put_over(alloc, store, packed, s, d, keep)
+}
+
+// A node that is there already is put under the other prefix.
+fn put_again<S: NodeStore>(
+    alloc: Global,
+    store: &mut S,
+    child: u64,
+    s: &[u8],
+    d: &[u8],
+    keep: bool,
+) -> Result<(), MapFault>
+    requires root { HasRoot (S.is_known store.old) (S.nodes store.old) (S.table store.old) }
+    requires can { CanGraft s.now d.now keep (buffer_limit - (S.table store.old).size) }
+    requires low { IsLower (S.table store.old)
+        ((S.table store.old).level (S.table store.old).root) child }
+    requires value { OfSound S.NodeStore store.old
+        ((k : List ℕ) → IsKey k → at (S.nodes store.old) child k
+        ≡ root_at (S.nodes store.old) (S.table store.old) (s.now ++ k)) }
+    requires sent { OfSound S.NodeStore store.old
+        (IsSentTo (S.nodes store.old) (S.table store.old) s.now []
+        (record { child = child; source = [] }) ((S.table store.old).level child + 1)) }
+    ensures call { IsGraftCall S.NodeStore s.now d.now keep store.old store.new result }
+    ensures cause { HasMapCause (S.fault_count store.old) (S.fault_count store.new)
+        (S.bad store.new) (IsWornForGraft (S.table store.old)) result }
+    ensures worn { OfSound S.NodeStore store.old
+        (IfErr result (OnWorn (IsWornByGraft (S.nodes store.old) (S.table store.old)
+        s.now d.now keep))) }
+{
+    is_table(&*store);
+    let packed = Packed {
+        made: Vec::new(alloc),
+        target: Target {
+            child,
+            source: Bytes::from_vec(Vec::new(alloc)),
+        },
+        level: store.level(child),
+    };
+    put_under(alloc, store, packed, s, d, keep)
 }
 
 // What is packed goes into the root, which is higher: one prefix is sent to it.
@@ -165,11 +218,12 @@ fn put_under<S: NodeStore>(
     store.extend(Items::from_vec(made), Messages::from_vec(list))
 }
 
-// The table is one. It does nothing.
+// The table is one, and its next id a u64. It does nothing.
 fn is_table<S: NodeStore>(store: &S)
-    ensures { IsTable (S.table store.now) }
+    ensures table { IsTable (S.table store.now) }
+    ensures next { (S.table store.now).next < 2 ^ 64 }
 {
-    let _ = store.root();
+    let _ = store.next_id();
 }
 
 // What is packed goes into a new root over the old one: one prefix is sent to it.

@@ -1,14 +1,17 @@
 //! The messages that wait on the way of a prefix, for the keys that begin with it.
 
-ghost use Rattle.std.specs.Prelude.{◌≡◌, IfOk};
+ghost use Rattle.std.specs.Prelude.{◌≡◌, ◌+◌, IfOk};
 ghost use Rattle.std.specs.List.{AllByRecursion, flat_map};
 ghost use Rattle.bd_limits.specs.Limits.{level_limit};
 ghost use Rattle.bd_node.specs.Nodes.{message_names};
 ghost use Rattle.bd_node.specs.Tables.{IsLower};
+ghost use Rattle.bd_resolve.specs.Following.{IsLowerTarget};
 ghost use Rattle.bd_graft.specs.Layers.{all_freed, above};
+ghost use Rattle.bd_graft.specs.Packing.{target_names};
 
 use bd_message::Message;
 use bd_node::{Messages, NodeStore};
+use bd_resolve::Target;
 use std::alloc::{AllocError, Global};
 
 /// Messages of one node on the way of a prefix, freed of the prefix, the oldest first.
@@ -48,5 +51,16 @@ pub fn above<S: NodeStore>(store: &S, list: &[Message]) -> u32
         Message::Goto { child, .. } => (store.level(*child) + 1).max(most),
         Message::Put { .. } | Message::Del { .. } | Message::Patch { .. } | Message::Cut { .. } =>
             most,
+    }
+}
+
+/// One above the node of a target, and 0 where there is none.
+pub fn above_end<S: NodeStore>(store: &S, end: &Option<Target>) -> u32
+    requires { IsLowerTarget (S.table store.now) (level_limit + 1) end.now }
+    ensures { result ≡ above (S.table store.now).level (target_names end.now) }
+{
+    match end {
+        Some(target) => store.level(target.child) + 1,
+        None => 0,
     }
 }

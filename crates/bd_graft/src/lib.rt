@@ -5,10 +5,12 @@
 mod grafting;
 pub mod laws;
 mod layers;
+mod looking;
 mod packing;
 mod walking;
 
 pub use grafting::{Walk, graft};
 pub use layers::Layer;
+pub use looking::{Lookup, find_overlay};
 pub use packing::{Groups, Packed, Stack, overlay_count, pack};
 pub use walking::{Walked, walk};

@@ -10,7 +10,7 @@ ghost use Rattle.bd_graft.specs.Layers.{above, laid, AreLayers};
 ghost use Rattle.bd_graft.specs.Walking.{messages_in};
 ghost use Rattle.bd_graft.specs.Packing.{overlay, target_names, packs, overlaid, newest_of, older_of, AreGroups, Fits, IsStackWith, IsPackedWith, IsGrownBy, IsStack, IsPacked, IsClosed, IsJoined, IsLaidOn, IsEnded, IsFinished, IsBegun, level_over, highest};
 
-use crate::layers::Layer;
+use crate::layers::{Layer, above_end};
 use bd_keys::Bytes;
 use bd_limits::MAX_BUFFER;
 use bd_message::Message;
@@ -163,10 +163,7 @@ fn begun<S: NodeStore>(alloc: Global, store: &S, end: Option<Target>) -> Stack
     ensures size { result.size ≡ 0 }
     ensures level { result.level ≡ above (S.table store.now).level (target_names end) }
 {
-    let level = match &end {
-        Some(target) => store.level(target.child) + 1,
-        None => 0,
-    };
+    let level = above_end(store, &end);
     Stack {
         made: Vec::new(alloc),
         under: end,

@@ -16,7 +16,6 @@ use Rattle.bd_node.specs.Tables.{Table, IsSound}
 use Rattle.bd_step.specs.Steps.{IsWornToFlush}
 use Rattle.bd_step.proofs.Making.{step_known}
 use Rattle.bd_graft.specs.Grafting.{IsWornForGraft, IsWornByGraft, OnWorn}
-use Rattle.bd_graft.specs.Packing.{overlaid, packs}
 use Rattle.bd_dirs.specs.declared.plan.Plan.TheVariants.{Graft}
 use Rattle.bd_dirs.specs.Kinds.{Kind, Reads, Sends, SendsLate, Grafts, kind_of}
 use Rattle.bd_dirs.specs.Plans.{IsPlanOf, IsPlanKind}
@@ -87,21 +86,21 @@ worn_kind (Grafts s2 d2 keep2) which c v s d keep plan enough h = record {
 }
 
 worn_graft : (which : Counter) (count : ℕ) (c : Command) (made : ℕ) (old v : View) (s d : List ℕ) (keep : Bool) → IsWornByGraft v.tree.nodes v.tree.table s d keep which → IsWornForSending which c v.tree → IsWornNow which count c made old v
-worn_graft Count count c made old v s d keep h sent = absurd (never_by_graft v.tree.table h.root s d keep h.end (overlaid h.end (packs h.travel)) h.target Count (λ step w. w) (λ e. cc) h.worn)
+worn_graft Count count c made old v s d keep h sent = absurd (never_by_graft v.tree.nodes v.tree.table s d keep Count (λ step w. w) (λ e. cc) h)
 worn_graft NextId count c made old v s d keep h sent = inr sent
 worn_graft Level count c made old v s d keep h sent = inr sent
 worn_graft Refs count c made old v s d keep h sent = inr sent
-worn_graft Epoch count c made old v s d keep h sent = absurd (never_by_graft v.tree.table h.root s d keep h.end (overlaid h.end (packs h.travel)) h.target Epoch (λ step w. w) (λ e. cc) h.worn)
-worn_graft Flushes count c made old v s d keep h sent = absurd (never_by_graft v.tree.table h.root s d keep h.end (overlaid h.end (packs h.travel)) h.target Flushes (λ step w. w) (λ e. cc) h.worn)
+worn_graft Epoch count c made old v s d keep h sent = absurd (never_by_graft v.tree.nodes v.tree.table s d keep Epoch (λ step w. w) (λ e. cc) h)
+worn_graft Flushes count c made old v s d keep h sent = absurd (never_by_graft v.tree.nodes v.tree.table s d keep Flushes (λ step w. w) (λ e. cc) h)
 
 -- the same of a command of the log
 pub worn_graft_again : (which : Counter) (count : ℕ) (c : Command) (made : ℕ) (v : TreeView) (s d : List ℕ) (keep : Bool) → IsWornByGraft v.nodes v.table s d keep which → IsWornForSending which c v → IsWornInReplay which count c made v
-worn_graft_again Count count c made v s d keep h sent = absurd (never_by_graft v.table h.root s d keep h.end (overlaid h.end (packs h.travel)) h.target Count (λ step w. w) (λ e. cc) h.worn)
+worn_graft_again Count count c made v s d keep h sent = absurd (never_by_graft v.nodes v.table s d keep Count (λ step w. w) (λ e. cc) h)
 worn_graft_again NextId count c made v s d keep h sent = inr sent
 worn_graft_again Level count c made v s d keep h sent = inr sent
 worn_graft_again Refs count c made v s d keep h sent = inr sent
-worn_graft_again Epoch count c made v s d keep h sent = never_by_graft v.table h.root s d keep h.end (overlaid h.end (packs h.travel)) h.target Epoch (λ step w. w) (λ e. cc) h.worn
-worn_graft_again Flushes count c made v s d keep h sent = absurd (never_by_graft v.table h.root s d keep h.end (overlaid h.end (packs h.travel)) h.target Flushes (λ step w. w) (λ e. cc) h.worn)
+worn_graft_again Epoch count c made v s d keep h sent = never_by_graft v.nodes v.table s d keep Epoch (λ step w. w) (λ e. cc) h
+worn_graft_again Flushes count c made v s d keep h sent = absurd (never_by_graft v.nodes v.table s d keep Flushes (λ step w. w) (λ e. cc) h)
 
 -- ---- the same step, where less is known
 

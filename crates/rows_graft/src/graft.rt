@@ -210,7 +210,8 @@ const NAMES: &[&str] = &[
 ];
 
 // Ten nodes are passed in which a message waits, and the root above them. The ten messages stand in
-// one overlay node: eleven fetches, and one node made.
+// one overlay node, which isn't what the newest `Goto` names: eleven fetches and two to find that
+// out, and one node made.
 #[test]
 fn a_long_way_makes_one_overlay_node(rt: HostRuntime) -> Result<(), Fail> {
     let mut tree = Tree::over(rt.alloc(), MemNodes::new(rt.alloc())?);
@@ -221,7 +222,43 @@ fn a_long_way_makes_one_overlay_node(rt: HostRuntime) -> Result<(), Fail> {
     let next = tree.store().next_id();
     graft(&mut tree, b"a/", b"b/", true)?;
     assert_eq!(rt; Some(tree.store().next_id()), next.checked_add(1));
-    assert_eq!(rt; (tree.height(), tree.last_walk().visits), (12, 12));
+    assert_eq!(rt; (tree.height(), tree.last_walk().visits), (12, 14));
     assert!(rt; tree.get(b"b/0")?.is_some() && tree.get(b"b/9")?.is_some());
+    Ok(())
+}
+
+/// A graft, what is done before it, how many nodes it makes, and how many visits it has.
+const SHARING: &[(&str, (&str, &str, &str), u64, u64)] = &[
+    ("put a/g", ("clone", "a/", "b/"), 2, 4),
+    ("", ("clone", "a/", "c/"), 0, 4),
+    ("put c/f", ("clone", "a/", "d/"), 0, 4),
+    ("put a/f", ("clone", "a/", "e/"), 1, 5),
+    ("", ("clone", "a/", "h/"), 0, 4),
+    ("", ("clone", "b/", "i/"), 0, 2),
+    ("", ("move", "a/", "k/"), 1, 5),
+    ("", ("clone", "k/", "l/"), 0, 2),
+];
+
+// Two messages wait in the root for one directory. A clone of it gets an overlay node and, that one
+// being no lower than the root, a new root. Those after it name the overlay node again until the
+// directory changes, whatever is written to them: two nodes are fetched on the way, the root and
+// what its newest `Goto` names to find that out. A clone of a clone is sent to what that names, and
+// needs no overlay node.
+#[test]
+fn clones_of_what_stays_share_an_overlay_node(rt: HostRuntime) -> Result<(), Fail> {
+    let mut both = Both::new(rt.alloc())?;
+    both.apply(message(rt.alloc(), "put", "a/f", "1")?)?;
+    for (before, words, made, visits) in SHARING {
+        if let Some(key) = before.strip_prefix("put ") {
+            both.apply(message(rt.alloc(), "put", key, "2")?)?;
+        }
+        let next = both.tree.store().next_id();
+        call(rt.alloc(), &mut both, *words)?;
+        assert_eq!(rt; Some(both.tree.store().next_id()), next.checked_add(*made), "{words:?}");
+        assert_eq!(rt; both.tree.last_walk().visits, *visits, "{words:?}");
+    }
+    assert_eq!(rt; both.same_keys(rt.alloc())?, Some(16));
+    flush(&mut both.tree, 0)?;
+    assert_eq!(rt; both.same_keys(rt.alloc())?, Some(16));
     Ok(())
 }

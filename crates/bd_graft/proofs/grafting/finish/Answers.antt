@@ -1,11 +1,12 @@
 use Rattle.std.proofs.Common.{refl, ap, arith, subst, sym, ◌∙◌, List, length, ◌+◌, ◌≤◌, ◌<◌, ◌^◌}
 use Rattle.bd_limits.specs.Limits.{level_limit}
+use Rattle.bd_node.specs.Meaning.{Nodes}
 use Rattle.bd_node.specs.Tables.{Table}
 use Rattle.bd_graft.specs.declared.layers.Layer.{Layer}
-use Rattle.bd_graft.specs.Layers.{AreLayers, laid}
+use Rattle.bd_graft.specs.Layers.{AreLayers}
 use Rattle.std.specs.List.{AllByRecursion}
 use Rattle.bd_graft.specs.Walking.{messages_in}
-use Rattle.bd_graft.specs.Packing.{IsPacked, IsPackedWith, Fits, packs, overlaid}
+use Rattle.bd_graft.specs.Packing.{Fits, packs, overlaid}
 use Rattle.bd_graft.proofs.Grouping.{layers_fit, packed_length}
 use Rattle.bd_graft.proofs.Counters.{count_few, count_is, worn_ids, worn_top, worn_level, worn_under, worn_over}
 use Rattle.bd_node.specs.Steps.{extend_step}
@@ -14,6 +15,7 @@ use Rattle.bd_graft.proofs.Laying.{level_high}
 use Rattle.bd_graft.proofs.Wearing.{layers_raise, layers_few, sum_past, sum_within, over_few, cause_of, extend_cause, under_ok, over_ok, packed_low}
 use Rattle.bd_node.proofs.Extending.{root_inner}
 use Rattle.bd_graft.proofs.Made.{room_is, not_called}
+use Rattle.bd_graft.proofs.Looks.{found_has, found_sent, way_ready, is_found, not_found}
 use Rattle.bd_graft.proofs.grafting.finish.Goals as goal
 
 pub pack-requires-clause-layers : goal.pack-requires-clause-layers
@@ -38,16 +40,8 @@ returns-then-packed-level-clause-cause g c =
     let made : length c.in_ok-packed.packed.made.items ≤ t.level t.root + 1 = omega (arith, c.in_ok-packed.ensures.few, c.as_slice-2.ensures.len, layers_few t (t.level t.root) c.args.way.layers.items c.args.way.end c.requires.layers) in
     let high : t.level t.root ≤ level_limit = omega (arith, level_high c.requires.root.node c.requires.root.is.of_table.shape, c.requires.root.is.of_table.level_is) in
     let room : t.next + length c.in_ok-packed.packed.made.items < 2 ^ 64 = omega (arith, sum_within _ _ _ _ c.checked_add.ensures c.is_none.ensures c.if-is_none.false, c.next_id.ensures.value, count_is c.args.way.end c.as_slice-2.result.now c.as_slice.result.now c.overlay_count-count.result (c.as_slice.ensures.value ∙ sym c.as_slice-2.ensures.value) c.overlay_count-count.ensures, packed_length t c.args.way.end (overlaid c.args.way.end (packs (messages_in c.as_slice-2.result.now))) c.in_ok-packed.packed c.in_ok-packed.ensures.groups) in
-    let ready : IsReady (g.S.NodeStore.is_known c.args.store.now) (g.S.NodeStore.nodes c.args.store.now) t c.args.s.now c.in_ok-packed.packed = record {
-      layers = c.args.way.layers.items;
-      end = c.args.way.end;
-      packed_is = subst (λ (ls : List Layer). IsPacked t c.args.way.end (laid ls) c.in_ok-packed.packed) c.as_slice-2.ensures.value c.in_ok-packed.ensures.packed;
-      layers_are = c.requires.layers;
-      value = c.requires.value;
-      way = c.requires.way;
-      groups = subst (λ (ls : List Layer). IsPackedWith t c.args.way.end (overlaid c.args.way.end (packs (messages_in ls))) c.in_ok-packed.packed) c.as_slice-2.ensures.value c.in_ok-packed.ensures.groups;
-      few = omega (arith, c.in_ok-packed.ensures.few, c.as_slice-2.ensures.len, layers_few t (t.level t.root) c.args.way.layers.items c.args.way.end c.requires.layers);
-    } in
+    let ready : IsReady (g.S.NodeStore.is_known c.args.store.now) (g.S.NodeStore.nodes c.args.store.now) t c.args.s.now c.in_ok-packed.packed = way_ready (g.S.NodeStore.is_known c.args.store.now) (g.S.NodeStore.nodes c.args.store.now) t c.args.s.now c.args.way.layers.items c.as_slice-2.result.now c.args.way.end c.in_ok-packed.packed c.as_slice-2.ensures.value
+    c.in_ok-packed.ensures.packed c.in_ok-packed.ensures.groups c.in_ok-packed.ensures.few c.requires.layers c.requires.value c.requires.way (not_found (g.S.NodeStore.is_known c.args.store.now) (g.S.NodeStore.nodes c.args.store.now) t c.args.way.end c.args.way.layers.items c.args.found c.in_default.is c.requires.found) in
     cause_of (g.S.NodeStore.fault_count c.args.store.now) (g.S.NodeStore.fault_count c.put_under.new.store) (g.S.NodeStore.bad c.put_under.new.store) t
     (extend_step t c.requires.root.node c.in_ok-packed.packed.made.items (graft_messages c.args.s.now c.args.d.now c.args.keep c.in_ok-packed.packed.target)) c.put_under.result
     (under_ok (g.S.NodeStore.is_known c.args.store.now) (g.S.NodeStore.nodes c.args.store.now) t c.requires.root.node c.in_ok-packed.packed c.args.s.now c.args.d.now c.args.keep ready c.next_id.ensures.table c.requires.root.is.of_table
@@ -61,16 +55,8 @@ returns-clause-cause g c =
     let made : length c.in_ok-packed.packed.made.items ≤ t.level t.root + 1 = omega (arith, c.in_ok-packed.ensures.few, c.as_slice-2.ensures.len, layers_few t (t.level t.root) c.args.way.layers.items c.args.way.end c.requires.layers) in
     let high : t.level t.root < level_limit = omega (arith, c.if-level-ge-MAX_LEVEL.false, c.level-level.ensures ∙ ap t.level c.root.ensures.value) in
     let room : t.next + length c.in_ok-packed.packed.made.items < 2 ^ 64 = omega (arith, sum_within _ _ _ _ c.checked_add.ensures c.is_none.ensures c.if-is_none.false, c.next_id.ensures.value, count_is c.args.way.end c.as_slice-2.result.now c.as_slice.result.now c.overlay_count-count.result (c.as_slice.ensures.value ∙ sym c.as_slice-2.ensures.value) c.overlay_count-count.ensures, packed_length t c.args.way.end (overlaid c.args.way.end (packs (messages_in c.as_slice-2.result.now))) c.in_ok-packed.packed c.in_ok-packed.ensures.groups) in
-    let ready : IsReady (g.S.NodeStore.is_known c.args.store.now) (g.S.NodeStore.nodes c.args.store.now) t c.args.s.now c.in_ok-packed.packed = record {
-      layers = c.args.way.layers.items;
-      end = c.args.way.end;
-      packed_is = subst (λ (ls : List Layer). IsPacked t c.args.way.end (laid ls) c.in_ok-packed.packed) c.as_slice-2.ensures.value c.in_ok-packed.ensures.packed;
-      layers_are = c.requires.layers;
-      value = c.requires.value;
-      way = c.requires.way;
-      groups = subst (λ (ls : List Layer). IsPackedWith t c.args.way.end (overlaid c.args.way.end (packs (messages_in ls))) c.in_ok-packed.packed) c.as_slice-2.ensures.value c.in_ok-packed.ensures.groups;
-      few = omega (arith, c.in_ok-packed.ensures.few, c.as_slice-2.ensures.len, layers_few t (t.level t.root) c.args.way.layers.items c.args.way.end c.requires.layers);
-    } in
+    let ready : IsReady (g.S.NodeStore.is_known c.args.store.now) (g.S.NodeStore.nodes c.args.store.now) t c.args.s.now c.in_ok-packed.packed = way_ready (g.S.NodeStore.is_known c.args.store.now) (g.S.NodeStore.nodes c.args.store.now) t c.args.s.now c.args.way.layers.items c.as_slice-2.result.now c.args.way.end c.in_ok-packed.packed c.as_slice-2.ensures.value
+    c.in_ok-packed.ensures.packed c.in_ok-packed.ensures.groups c.in_ok-packed.ensures.few c.requires.layers c.requires.value c.requires.way (not_found (g.S.NodeStore.is_known c.args.store.now) (g.S.NodeStore.nodes c.args.store.now) t c.args.way.end c.args.way.layers.items c.args.found c.in_default.is c.requires.found) in
     cause_of (g.S.NodeStore.fault_count c.args.store.now) (g.S.NodeStore.fault_count c.put_over.new.store) (g.S.NodeStore.bad c.put_over.new.store) t
     (step_over t c.in_ok-packed.packed.made.items (graft_messages c.args.s.now c.args.d.now c.args.keep c.in_ok-packed.packed.target)) c.put_over.result
     (over_ok (g.S.NodeStore.is_known c.args.store.now) (g.S.NodeStore.nodes c.args.store.now) t c.in_ok-packed.packed c.args.s.now c.args.d.now c.args.keep ready c.next_id.ensures.table high
@@ -102,21 +88,14 @@ pub returns-then-is_none-clause-worn : goal.returns-then-is_none-clause-worn
 returns-then-is_none-clause-worn g c = λ known sound.
     let t : Table = g.S.NodeStore.table c.args.store.now in
     worn_ids (g.S.NodeStore.nodes c.args.store.now) t c.requires.root.node c.args.s.now c.args.d.now c.args.keep (messages_in c.args.way.layers.items) c.args.way.end (c.requires.root.there known) (c.requires.way known sound)
+    (not_found (g.S.NodeStore.is_known c.args.store.now) (g.S.NodeStore.nodes c.args.store.now) t c.args.way.end c.args.way.layers.items c.args.found c.in_default.is c.requires.found known sound)
     (omega (arith, sum_past _ _ _ _ c.checked_add.ensures c.is_none.ensures c.if-is_none.true, c.next_id.ensures.value, count_is c.args.way.end c.args.way.layers.items c.as_slice.result.now c.overlay_count-count.result c.as_slice.ensures.value c.overlay_count-count.ensures))
 
 pub returns-then-packed-level-clause-worn : goal.returns-then-packed-level-clause-worn
 returns-then-packed-level-clause-worn g c = λ known sound.
     let t : Table = g.S.NodeStore.table c.args.store.now in
-    let ready : IsReady (g.S.NodeStore.is_known c.args.store.now) (g.S.NodeStore.nodes c.args.store.now) t c.args.s.now c.in_ok-packed.packed = record {
-      layers = c.args.way.layers.items;
-      end = c.args.way.end;
-      packed_is = subst (λ (ls : List Layer). IsPacked t c.args.way.end (laid ls) c.in_ok-packed.packed) c.as_slice-2.ensures.value c.in_ok-packed.ensures.packed;
-      layers_are = c.requires.layers;
-      value = c.requires.value;
-      way = c.requires.way;
-      groups = subst (λ (ls : List Layer). IsPackedWith t c.args.way.end (overlaid c.args.way.end (packs (messages_in ls))) c.in_ok-packed.packed) c.as_slice-2.ensures.value c.in_ok-packed.ensures.groups;
-      few = omega (arith, c.in_ok-packed.ensures.few, c.as_slice-2.ensures.len, layers_few t (t.level t.root) c.args.way.layers.items c.args.way.end c.requires.layers);
-    } in
+    let ready : IsReady (g.S.NodeStore.is_known c.args.store.now) (g.S.NodeStore.nodes c.args.store.now) t c.args.s.now c.in_ok-packed.packed = way_ready (g.S.NodeStore.is_known c.args.store.now) (g.S.NodeStore.nodes c.args.store.now) t c.args.s.now c.args.way.layers.items c.as_slice-2.result.now c.args.way.end c.in_ok-packed.packed c.as_slice-2.ensures.value
+    c.in_ok-packed.ensures.packed c.in_ok-packed.ensures.groups c.in_ok-packed.ensures.few c.requires.layers c.requires.value c.requires.way (not_found (g.S.NodeStore.is_known c.args.store.now) (g.S.NodeStore.nodes c.args.store.now) t c.args.way.end c.args.way.layers.items c.args.found c.in_default.is c.requires.found) in
     worn_under (g.S.NodeStore.fault_count c.args.store.now) (g.S.NodeStore.fault_count c.put_under.new.store) (g.S.NodeStore.bad c.put_under.new.store) (g.S.NodeStore.is_known c.args.store.now) (g.S.NodeStore.nodes c.args.store.now) t c.requires.root.node c.in_ok-packed.packed c.args.s.now c.args.d.now c.args.keep c.put_under.result
     ready known sound (c.requires.root.there known) (omega (arith, c.if-packed-level.true, c.level-level.ensures ∙ ap t.level c.root.ensures.value))
     (extend_cause (g.S.NodeStore.fault_count c.args.store.now) (g.S.NodeStore.fault_count c.put_under.new.store) (g.S.NodeStore.bad c.put_under.new.store) t c.requires.root.node c.in_ok-packed.packed.made.items (graft_messages c.args.s.now c.args.d.now c.args.keep c.in_ok-packed.packed.target) c.put_under.result (root_inner t c.requires.root.node sound.table c.requires.root.is) c.put_under.ensures.cause)
@@ -124,32 +103,16 @@ returns-then-packed-level-clause-worn g c = λ known sound.
 pub returns-then-level-ge-MAX_LEVEL-clause-worn : goal.returns-then-level-ge-MAX_LEVEL-clause-worn
 returns-then-level-ge-MAX_LEVEL-clause-worn g c = λ known sound.
     let t : Table = g.S.NodeStore.table c.args.store.now in
-    let ready : IsReady (g.S.NodeStore.is_known c.args.store.now) (g.S.NodeStore.nodes c.args.store.now) t c.args.s.now c.in_ok-packed.packed = record {
-      layers = c.args.way.layers.items;
-      end = c.args.way.end;
-      packed_is = subst (λ (ls : List Layer). IsPacked t c.args.way.end (laid ls) c.in_ok-packed.packed) c.as_slice-2.ensures.value c.in_ok-packed.ensures.packed;
-      layers_are = c.requires.layers;
-      value = c.requires.value;
-      way = c.requires.way;
-      groups = subst (λ (ls : List Layer). IsPackedWith t c.args.way.end (overlaid c.args.way.end (packs (messages_in ls))) c.in_ok-packed.packed) c.as_slice-2.ensures.value c.in_ok-packed.ensures.groups;
-      few = omega (arith, c.in_ok-packed.ensures.few, c.as_slice-2.ensures.len, layers_few t (t.level t.root) c.args.way.layers.items c.args.way.end c.requires.layers);
-    } in
+    let ready : IsReady (g.S.NodeStore.is_known c.args.store.now) (g.S.NodeStore.nodes c.args.store.now) t c.args.s.now c.in_ok-packed.packed = way_ready (g.S.NodeStore.is_known c.args.store.now) (g.S.NodeStore.nodes c.args.store.now) t c.args.s.now c.args.way.layers.items c.as_slice-2.result.now c.args.way.end c.in_ok-packed.packed c.as_slice-2.ensures.value
+    c.in_ok-packed.ensures.packed c.in_ok-packed.ensures.groups c.in_ok-packed.ensures.few c.requires.layers c.requires.value c.requires.way (not_found (g.S.NodeStore.is_known c.args.store.now) (g.S.NodeStore.nodes c.args.store.now) t c.args.way.end c.args.way.layers.items c.args.found c.in_default.is c.requires.found) in
     worn_level (g.S.NodeStore.is_known c.args.store.now) (g.S.NodeStore.nodes c.args.store.now) t c.requires.root.node c.in_ok-packed.packed c.args.s.now c.args.d.now c.args.keep
     ready known sound (c.requires.root.there known) (omega (arith, c.if-packed-level.false, c.level-level.ensures ∙ ap t.level c.root.ensures.value)) (omega (arith, c.if-level-ge-MAX_LEVEL.true, c.level-level.ensures ∙ ap t.level c.root.ensures.value, level_high c.requires.root.node c.requires.root.is.of_table.shape))
 
 pub returns-then-is_none-2-clause-worn : goal.returns-then-is_none-2-clause-worn
 returns-then-is_none-2-clause-worn g c = λ known sound.
     let t : Table = g.S.NodeStore.table c.args.store.now in
-    let ready : IsReady (g.S.NodeStore.is_known c.args.store.now) (g.S.NodeStore.nodes c.args.store.now) t c.args.s.now c.in_ok-packed.packed = record {
-      layers = c.args.way.layers.items;
-      end = c.args.way.end;
-      packed_is = subst (λ (ls : List Layer). IsPacked t c.args.way.end (laid ls) c.in_ok-packed.packed) c.as_slice-2.ensures.value c.in_ok-packed.ensures.packed;
-      layers_are = c.requires.layers;
-      value = c.requires.value;
-      way = c.requires.way;
-      groups = subst (λ (ls : List Layer). IsPackedWith t c.args.way.end (overlaid c.args.way.end (packs (messages_in ls))) c.in_ok-packed.packed) c.as_slice-2.ensures.value c.in_ok-packed.ensures.groups;
-      few = omega (arith, c.in_ok-packed.ensures.few, c.as_slice-2.ensures.len, layers_few t (t.level t.root) c.args.way.layers.items c.args.way.end c.requires.layers);
-    } in
+    let ready : IsReady (g.S.NodeStore.is_known c.args.store.now) (g.S.NodeStore.nodes c.args.store.now) t c.args.s.now c.in_ok-packed.packed = way_ready (g.S.NodeStore.is_known c.args.store.now) (g.S.NodeStore.nodes c.args.store.now) t c.args.s.now c.args.way.layers.items c.as_slice-2.result.now c.args.way.end c.in_ok-packed.packed c.as_slice-2.ensures.value
+    c.in_ok-packed.ensures.packed c.in_ok-packed.ensures.groups c.in_ok-packed.ensures.few c.requires.layers c.requires.value c.requires.way (not_found (g.S.NodeStore.is_known c.args.store.now) (g.S.NodeStore.nodes c.args.store.now) t c.args.way.end c.args.way.layers.items c.args.found c.in_default.is c.requires.found) in
     worn_top (g.S.NodeStore.is_known c.args.store.now) (g.S.NodeStore.nodes c.args.store.now) t c.requires.root.node c.in_ok-packed.packed c.args.s.now c.args.d.now c.args.keep
     ready known sound (c.requires.root.there known) (omega (arith, c.if-packed-level.false, c.level-level.ensures ∙ ap t.level c.root.ensures.value))
     (omega (arith, sum_past _ _ _ _ c.checked_add-2.ensures c.is_none-2.ensures c.if-is_none-2.true, c.next_id-2.ensures.value, count_is c.args.way.end c.as_slice-2.result.now c.as_slice.result.now c.overlay_count-count.result (c.as_slice.ensures.value ∙ sym c.as_slice-2.ensures.value) c.overlay_count-count.ensures, packed_length t c.args.way.end (overlaid c.args.way.end (packs (messages_in c.as_slice-2.result.now))) c.in_ok-packed.packed c.in_ok-packed.ensures.groups))
@@ -157,16 +120,8 @@ returns-then-is_none-2-clause-worn g c = λ known sound.
 pub returns-clause-worn : goal.returns-clause-worn
 returns-clause-worn g c = λ known sound.
     let t : Table = g.S.NodeStore.table c.args.store.now in
-    let ready : IsReady (g.S.NodeStore.is_known c.args.store.now) (g.S.NodeStore.nodes c.args.store.now) t c.args.s.now c.in_ok-packed.packed = record {
-      layers = c.args.way.layers.items;
-      end = c.args.way.end;
-      packed_is = subst (λ (ls : List Layer). IsPacked t c.args.way.end (laid ls) c.in_ok-packed.packed) c.as_slice-2.ensures.value c.in_ok-packed.ensures.packed;
-      layers_are = c.requires.layers;
-      value = c.requires.value;
-      way = c.requires.way;
-      groups = subst (λ (ls : List Layer). IsPackedWith t c.args.way.end (overlaid c.args.way.end (packs (messages_in ls))) c.in_ok-packed.packed) c.as_slice-2.ensures.value c.in_ok-packed.ensures.groups;
-      few = omega (arith, c.in_ok-packed.ensures.few, c.as_slice-2.ensures.len, layers_few t (t.level t.root) c.args.way.layers.items c.args.way.end c.requires.layers);
-    } in
+    let ready : IsReady (g.S.NodeStore.is_known c.args.store.now) (g.S.NodeStore.nodes c.args.store.now) t c.args.s.now c.in_ok-packed.packed = way_ready (g.S.NodeStore.is_known c.args.store.now) (g.S.NodeStore.nodes c.args.store.now) t c.args.s.now c.args.way.layers.items c.as_slice-2.result.now c.args.way.end c.in_ok-packed.packed c.as_slice-2.ensures.value
+    c.in_ok-packed.ensures.packed c.in_ok-packed.ensures.groups c.in_ok-packed.ensures.few c.requires.layers c.requires.value c.requires.way (not_found (g.S.NodeStore.is_known c.args.store.now) (g.S.NodeStore.nodes c.args.store.now) t c.args.way.end c.args.way.layers.items c.args.found c.in_default.is c.requires.found) in
     worn_over (g.S.NodeStore.fault_count c.args.store.now) (g.S.NodeStore.fault_count c.put_over.new.store) (g.S.NodeStore.bad c.put_over.new.store) (g.S.NodeStore.is_known c.args.store.now) (g.S.NodeStore.nodes c.args.store.now) t c.requires.root.node c.in_ok-packed.packed c.args.s.now c.args.d.now c.args.keep c.put_over.result
     ready known sound (c.requires.root.there known) (omega (arith, c.if-packed-level.false, c.level-level.ensures ∙ ap t.level c.root.ensures.value)) c.put_over.ensures.cause
 
@@ -198,29 +153,26 @@ returns-clause-call g c = c.put_over.ensures.call
 pub put_under-requires-clause-ready : goal.put_under-requires-clause-ready
 put_under-requires-clause-ready g c =
     let t : Table = g.S.NodeStore.table c.args.store.now in
-    let ready : IsReady (g.S.NodeStore.is_known c.args.store.now) (g.S.NodeStore.nodes c.args.store.now) t c.args.s.now c.in_ok-packed.packed = record {
-      layers = c.args.way.layers.items;
-      end = c.args.way.end;
-      packed_is = subst (λ (ls : List Layer). IsPacked t c.args.way.end (laid ls) c.in_ok-packed.packed) c.as_slice-2.ensures.value c.in_ok-packed.ensures.packed;
-      layers_are = c.requires.layers;
-      value = c.requires.value;
-      way = c.requires.way;
-      groups = subst (λ (ls : List Layer). IsPackedWith t c.args.way.end (overlaid c.args.way.end (packs (messages_in ls))) c.in_ok-packed.packed) c.as_slice-2.ensures.value c.in_ok-packed.ensures.groups;
-      few = omega (arith, c.in_ok-packed.ensures.few, c.as_slice-2.ensures.len, layers_few t (t.level t.root) c.args.way.layers.items c.args.way.end c.requires.layers);
-    } in
+    let ready : IsReady (g.S.NodeStore.is_known c.args.store.now) (g.S.NodeStore.nodes c.args.store.now) t c.args.s.now c.in_ok-packed.packed = way_ready (g.S.NodeStore.is_known c.args.store.now) (g.S.NodeStore.nodes c.args.store.now) t c.args.s.now c.args.way.layers.items c.as_slice-2.result.now c.args.way.end c.in_ok-packed.packed c.as_slice-2.ensures.value
+    c.in_ok-packed.ensures.packed c.in_ok-packed.ensures.groups c.in_ok-packed.ensures.few c.requires.layers c.requires.value c.requires.way (not_found (g.S.NodeStore.is_known c.args.store.now) (g.S.NodeStore.nodes c.args.store.now) t c.args.way.end c.args.way.layers.items c.args.found c.in_default.is c.requires.found) in
     ready
 
 pub put_over-requires-clause-ready : goal.put_over-requires-clause-ready
 put_over-requires-clause-ready g c =
     let t : Table = g.S.NodeStore.table c.args.store.now in
-    let ready : IsReady (g.S.NodeStore.is_known c.args.store.now) (g.S.NodeStore.nodes c.args.store.now) t c.args.s.now c.in_ok-packed.packed = record {
-      layers = c.args.way.layers.items;
-      end = c.args.way.end;
-      packed_is = subst (λ (ls : List Layer). IsPacked t c.args.way.end (laid ls) c.in_ok-packed.packed) c.as_slice-2.ensures.value c.in_ok-packed.ensures.packed;
-      layers_are = c.requires.layers;
-      value = c.requires.value;
-      way = c.requires.way;
-      groups = subst (λ (ls : List Layer). IsPackedWith t c.args.way.end (overlaid c.args.way.end (packs (messages_in ls))) c.in_ok-packed.packed) c.as_slice-2.ensures.value c.in_ok-packed.ensures.groups;
-      few = omega (arith, c.in_ok-packed.ensures.few, c.as_slice-2.ensures.len, layers_few t (t.level t.root) c.args.way.layers.items c.args.way.end c.requires.layers);
-    } in
+    let ready : IsReady (g.S.NodeStore.is_known c.args.store.now) (g.S.NodeStore.nodes c.args.store.now) t c.args.s.now c.in_ok-packed.packed = way_ready (g.S.NodeStore.is_known c.args.store.now) (g.S.NodeStore.nodes c.args.store.now) t c.args.s.now c.args.way.layers.items c.as_slice-2.result.now c.args.way.end c.in_ok-packed.packed c.as_slice-2.ensures.value
+    c.in_ok-packed.ensures.packed c.in_ok-packed.ensures.groups c.in_ok-packed.ensures.few c.requires.layers c.requires.value c.requires.way (not_found (g.S.NodeStore.is_known c.args.store.now) (g.S.NodeStore.nodes c.args.store.now) t c.args.way.end c.args.way.layers.items c.args.found c.in_default.is c.requires.found) in
     ready
+
+pub put_again-requires-clause-value : goal.put_again-requires-clause-value
+put_again-requires-clause-value g c = λ known sound k key.
+    let nodes : Nodes = g.S.NodeStore.nodes c.args.store.now in
+    let t : Table = g.S.NodeStore.table c.args.store.now in
+    found_has nodes t c.args.way.end c.args.way.layers.items c.in-Some.child sound (is_found nodes t c.args.way.end c.args.way.layers.items c.args.found c.in-Some.child c.in-Some.is (c.requires.found known sound)) k key
+    ∙ c.requires.value known sound k key
+
+pub put_again-requires-clause-sent : goal.put_again-requires-clause-sent
+put_again-requires-clause-sent g c = λ known sound.
+    let nodes : Nodes = g.S.NodeStore.nodes c.args.store.now in
+    let t : Table = g.S.NodeStore.table c.args.store.now in
+    found_sent nodes t c.args.s.now c.args.way.end c.args.way.layers.items c.in-Some.child sound (c.requires.way known sound) (is_found nodes t c.args.way.end c.args.way.layers.items c.args.found c.in-Some.child c.in-Some.is (c.requires.found known sound))

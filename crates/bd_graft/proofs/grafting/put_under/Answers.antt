@@ -16,7 +16,7 @@ pub extend-requires : goal.extend-requires
 extend-requires g c = λ n root.
     under_step (g.S.NodeStore.is_known c.args.store.now) (g.S.NodeStore.nodes c.args.store.now) (g.S.NodeStore.table c.args.store.now) n c.args.packed c.args.s.now c.args.d.now c.args.keep _
     (under_ready (g.S.NodeStore.is_known c.args.store.now) (g.S.NodeStore.nodes c.args.store.now) (g.S.NodeStore.table c.args.store.now) n c.args.packed c.args.s.now c.args.d.now c.args.keep c.from_vec.result c.from_vec-2.result
-    c.requires.ready c.is_table.ensures root c.requires.low c.requires.can.source c.requires.can.target (room_is (g.S.NodeStore.table c.args.store.now).size c.requires.can.fits) c.requires.room c.from_vec.ensures (c.from_vec-2.ensures ∙ c.in_ok-list.ensures))
+    c.requires.ready c.is_table.ensures.table root c.requires.low c.requires.can.source c.requires.can.target (room_is (g.S.NodeStore.table c.args.store.now).size c.requires.can.fits) c.requires.room c.from_vec.ensures (c.from_vec-2.ensures ∙ c.in_ok-list.ensures))
 
 pub returns-clause-call : goal.returns-clause-call
 returns-clause-call g c =
@@ -27,7 +27,7 @@ returns-clause-call g c =
     let n : Node = c.requires.root.node in
     let ready : IsUnderStep (g.S.NodeStore.is_known c.args.store.now) nodes t n c.args.packed c.args.s.now c.args.d.now c.args.keep (extend_step t n c.from_vec.result c.from_vec-2.result) =
     under_ready (g.S.NodeStore.is_known c.args.store.now) nodes t n c.args.packed c.args.s.now c.args.d.now c.args.keep c.from_vec.result c.from_vec-2.result
-    c.requires.ready c.is_table.ensures c.requires.root.is c.requires.low c.requires.can.source c.requires.can.target (room_is t.size c.requires.can.fits) c.requires.room c.from_vec.ensures (c.from_vec-2.ensures ∙ c.in_ok-list.ensures) in
+    c.requires.ready c.is_table.ensures.table c.requires.root.is c.requires.low c.requires.can.source c.requires.can.target (room_is t.size c.requires.can.fits) c.requires.room c.from_vec.ensures (c.from_vec-2.ensures ∙ c.in_ok-list.ensures) in
     let table = c.extend.ensures.table n c.requires.root.is in
     record {
       made = made_of g.S.NodeStore c.args.s.now c.args.d.now c.args.keep c.args.store.now c.extend.new.self c.extend.result
