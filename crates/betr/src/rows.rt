@@ -89,7 +89,7 @@ ok file 0 0000
 ok p/
 > list /
 ok p/ q/ s/
-# a clone fetches the root and makes two nodes; what is refused and other lines keep the walk
+# a clone fetches the root twice and makes two nodes; what is refused and other lines keep the walk
 > walk
 ok walk 0 of 0
 > create /a
@@ -101,7 +101,7 @@ ok walk 0 of 0
 > clone /a /b
 ok
 > walk
-ok walk 3 of 2
+ok walk 4 of 2
 > clone /a /b
 no 2 exists
 > write /b 0 02
@@ -111,7 +111,7 @@ ok 01
 > remove /a
 ok
 > walk
-ok walk 3 of 2
+ok walk 4 of 2
 > walk /b
 no 10 bad-line
 # what a truncate cuts off reads as zeros
