@@ -254,7 +254,11 @@ fn clones_of_what_stays_share_an_overlay_node(rt: HostRuntime) -> Result<(), Fai
         }
         let next = both.tree.store().next_id();
         call(rt.alloc(), &mut both, *words)?;
-        assert_eq!(rt; Some(both.tree.store().next_id()), next.checked_add(*made), "{words:?}");
+        assert_eq!(rt;
+            Some(both.tree.store().next_id()),
+            next.checked_add(*made),
+            "{words:?}"
+        );
         assert_eq!(rt; both.tree.last_walk().visits, *visits, "{words:?}");
     }
     assert_eq!(rt; both.same_keys(rt.alloc())?, Some(16));
