@@ -261,7 +261,7 @@ fn received(
 {
     let batch = edge_batch(alloc, node, place)?;
     let above = relieved(alloc, node, place, batch.count)?;
-    let half = receive(alloc, child, batch.messages.as_slice())?;
+    let half = receive(child, batch.messages)?;
     Ok(Parts {
         node: above,
         half,

@@ -138,6 +138,22 @@ impl Messages {
         }
     }
 
+    /// A copy of the messages with others after them, with an index. These are moved, and what is
+    /// copied has memory for all at once.
+    pub fn followed_by(&self, list: Messages) -> Result<Messages, AllocError>
+        ensures { IfOk result (λ all. all ≡ self.now ++ list) }
+    {
+        let alloc = *self.items.allocator();
+        let items = self.items.as_slice();
+        let all = joined(alloc, items, list.into_vec())?;
+        let index = index::copied(&self.index)?;
+        let index = index::regrown(alloc, index, all.as_slice(), items.len())?;
+        Ok(Messages {
+            items: all,
+            index: Some(index),
+        })
+    }
+
     /// A copy of the messages of which the mask says that they stay, with an index.
     pub fn kept(&self, mask: &[bool]) -> Result<Messages, AllocError>
         requires { length mask.now ≡ length self.now }
@@ -240,6 +256,21 @@ impl Clone for Messages {
             index: index::copied(&self.index)?,
         })
     }
+}
+
+// Copies of messages with others after them, in memory that is taken for all at once.
+fn joined(
+    alloc: Global,
+    items: &[Message],
+    more: Vec<Message>,
+) -> Result<Vec<Message>, AllocError>
+    ensures { IfOk result (λ all. all.items ≡ items.now ++ more.items) }
+{
+    let mut more = more;
+    let mut all = Vec::with_capacity(alloc, items.len().saturating_add(more.len()))?;
+    all.extend_with_clones(items)?;
+    all.append(&mut more)?;
+    Ok(all)
 }
 
 // A copy of messages.

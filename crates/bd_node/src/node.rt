@@ -1,6 +1,6 @@
 //! Nodes, and steps from nodes to nodes.
 
-ghost use Rattle.std.specs.Prelude.{◌≡◌, OnOk, OnErr};
+ghost use Rattle.std.specs.Prelude.{◌≡◌, IfOk, OnOk, OnErr};
 ghost use Rattle.bd_node.specs.Nodes.{appended, buffer_size, level_of};
 ghost use Rattle.bd_node.specs.Parts.{edges_of, buffer_of};
 ghost use Rattle.bd_node.specs.Shape.{IsShape};
@@ -116,6 +116,24 @@ impl Node {
         match self {
             Node::Leaf(_) => 0,
             Node::Inner { buffer, .. } => buffer.size(),
+        }
+    }
+
+    /// A copy of an inner node with messages put after those that wait in it, and of a leaf as it is.
+    pub fn followed_by(&self, list: Messages) -> Result<Node, AllocError>
+        ensures { IfOk result (λ n. n ≡ appended self.now list) }
+    {
+        match self {
+            Node::Leaf(entries) => Ok(Node::Leaf(entries.clone()?)),
+            Node::Inner {
+                level,
+                edges,
+                buffer,
+            } => Ok(Node::Inner {
+                level: *level,
+                edges: edges.clone()?,
+                buffer: buffer.followed_by(list)?,
+            }),
         }
     }
 
