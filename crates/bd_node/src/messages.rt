@@ -259,11 +259,7 @@ impl Clone for Messages {
 }
 
 // Copies of messages with others after them, in memory that is taken for all at once.
-fn joined(
-    alloc: Global,
-    items: &[Message],
-    more: Vec<Message>,
-) -> Result<Vec<Message>, AllocError>
+fn joined(alloc: Global, items: &[Message], more: Vec<Message>) -> Result<Vec<Message>, AllocError>
     ensures { IfOk result (λ all. all.items ≡ items.now ++ more.items) }
 {
     let mut more = more;
