@@ -3,9 +3,9 @@ ghost use Rattle.bd_message.specs.Messages.{IsMessage};
 ghost use Rattle.bd_node.specs.Nodes.{level_of};
 ghost use Rattle.bd_node.specs.Shape.{IsShape};
 
-use crate::inner::{node, parts, put, raised};
-use bd_inner::{carve, receive};
-use bd_limits::{MAX_BUFFER, ROOM_EDGES};
+use crate::inner::{node, parts, put, raised, with_two};
+use bd_inner::carve;
+use bd_limits::ROOM_EDGES;
 use bd_message::Message;
 use bd_node::{Edge, Node};
 use rows_tools::message;
@@ -32,11 +32,7 @@ fn with_goto(alloc: Global, pivots: &str, prefix: &str) -> Result<Node, Fail>
     ensures { IfOk result IsShape }
 {
     let node = node(alloc, pivots)?;
-    let list = [goto(alloc, prefix)?, put(alloc, "a")?];
-    if list[0].size() + list[1].size() > MAX_BUFFER {
-        return Err(Fail::new("too many messages"));
-    }
-    Ok(receive(alloc, &node, &list)?)
+    with_two(alloc, &node, goto(alloc, prefix)?, put(alloc, "a")?)
 }
 
 // The node after its first message is carved out.

@@ -1,4 +1,4 @@
-ghost use Rattle.std.specs.Prelude.{◌≡◌, ◌↔◌, None, IfOk, IsTrue};
+ghost use Rattle.std.specs.Prelude.{◌≡◌, ◌≤◌, ◌↔◌, None, IfOk, IsTrue};
 ghost use Rattle.std.specs.List.{AllByRecursion};
 ghost use Rattle.bd_keys.specs.Keys.{IsBelowEnd};
 ghost use Rattle.bd_message.specs.Messages.{IsMessage, IsPlain};
@@ -8,6 +8,7 @@ ghost use Rattle.bd_inner.specs.Compaction.{IsFlat};
 ghost use Rattle.bd_node.specs.Parts.{edges_of, buffer_of};
 ghost use Rattle.bd_inner.specs.Batches.{IsLifted};
 
+use crate::leaf::plain;
 use bd_inner::laws::{compacted_nodes, edges_fit, flat_edges};
 use bd_inner::{Halves, clip, compact, edge_to, exchange, next_batch, receive, split};
 use bd_keys::Bytes;
@@ -136,14 +137,23 @@ pub fn parts(node: &Node) -> (&[Edge], &[Message])
 pub fn put(alloc: Global, key: &str) -> Result<Message, Fail>
     ensures { IfOk result (λ m. IsMessage m × IsPlain m) }
 {
-    let message = message(alloc, "put", key, "v")?;
-    if !message.is_message() {
-        return Err(Fail::new("no such message"));
+    plain(alloc, ("put", key, "v"))
+}
+
+// A copy of a node without messages where two wait.
+pub fn with_two(alloc: Global, node: &Node, older: Message, newer: Message) -> Result<Node, Fail>
+    requires shape { IsShape node.now }
+    requires inner { 1 ≤ level_of node.now }
+    requires none { buffer_size node.now ≡ 0 }
+    requires older { IsMessage older }
+    requires newer { IsMessage newer }
+    ensures { IfOk result IsShape }
+{
+    if older.size() + newer.size() > MAX_BUFFER {
+        return Err(Fail::new("too many messages"));
     }
-    if let Message::Goto { .. } = message {
-        return Err(Fail::new("a message that names a node"));
-    }
-    Ok(message)
+    let list = Vec::from_array(alloc, [older, newer])?;
+    Ok(receive(node, Messages::from_vec(list))?)
 }
 
 // A node with 15 edges, where Puts of a and z wait.
@@ -151,11 +161,7 @@ fn full(alloc: Global) -> Result<Node, Fail>
     ensures { IfOk result IsShape }
 {
     let node = node(alloc, " b c d e f g h i j k l m n o")?;
-    let list = [put(alloc, "a")?, put(alloc, "z")?];
-    if list[0].size() + list[1].size() > MAX_BUFFER {
-        return Err(Fail::new("too many messages"));
-    }
-    Ok(receive(alloc, &node, &list)?)
+    with_two(alloc, &node, put(alloc, "a")?, put(alloc, "z")?)
 }
 
 #[test]

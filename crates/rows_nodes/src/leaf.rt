@@ -1,5 +1,6 @@
 ghost use Rattle.std.specs.Prelude.{◌≤◌, length, IfOk};
 ghost use Rattle.bd_leaf.specs.Leaves.{AreEntries};
+ghost use Rattle.bd_message.specs.Messages.{IsMessage, IsPlain};
 
 use bd_leaf::{clip, fits, receive, split, value_at};
 use bd_message::Message;
@@ -8,18 +9,26 @@ use rows_tools::message;
 use std::alloc::{AllocError, Global};
 use std::test::Fail;
 
-// A leaf after one message that names no node.
-fn after(alloc: Global, leaf: &Entries, message: Message) -> Result<Entries, Fail>
-    requires { AreEntries leaf.now }
-    ensures { IfOk result (λ new. AreEntries new) }
+/// A message that names no node.
+pub fn plain(alloc: Global, (name, first, second): (&str, &str, &str)) -> Result<Message, Fail>
+    ensures { IfOk result (λ m. IsMessage m × IsPlain m) }
 {
+    let message = message(alloc, name, first, second)?;
     if !message.is_message() {
         return Err(Fail::new("no such message"));
     }
     if let Message::Goto { .. } = message {
         return Err(Fail::new("a message that names a node"));
     }
-    Ok(receive(alloc, leaf.as_slice(), &[message])?)
+    Ok(message)
+}
+
+// A leaf after one message that names no node.
+fn after(alloc: Global, leaf: &Entries, words: (&str, &str, &str)) -> Result<Entries, Fail>
+    requires { AreEntries leaf.now }
+    ensures { IfOk result (λ new. AreEntries new) }
+{
+    Ok(receive(alloc, leaf.as_slice(), &[plain(alloc, words)?])?)
 }
 
 // A leaf with four keys, put in no order.
@@ -27,10 +36,10 @@ fn four_keys(alloc: Global) -> Result<Entries, Fail>
     ensures { IfOk result (λ leaf. AreEntries leaf) }
 {
     let leaf = Entries::new(alloc);
-    let leaf = after(alloc, &leaf, message(alloc, "put", "b", "3")?)?;
-    let leaf = after(alloc, &leaf, message(alloc, "put", "a/x", "1")?)?;
-    let leaf = after(alloc, &leaf, message(alloc, "put", "c", "4")?)?;
-    after(alloc, &leaf, message(alloc, "put", "a/y", "2")?)
+    let leaf = after(alloc, &leaf, ("put", "b", "3"))?;
+    let leaf = after(alloc, &leaf, ("put", "a/x", "1"))?;
+    let leaf = after(alloc, &leaf, ("put", "c", "4"))?;
+    after(alloc, &leaf, ("put", "a/y", "2"))
 }
 
 // The keys with their values, in order.
@@ -46,9 +55,9 @@ fn text(alloc: Global, leaf: &Entries) -> Result<Vec<u8>, AllocError> {
 }
 
 // The leaf with four keys after one more message.
-fn received(alloc: Global, message: Message) -> Result<Vec<u8>, Fail> {
+fn received(alloc: Global, words: (&str, &str, &str)) -> Result<Vec<u8>, Fail> {
     let leaf = four_keys(alloc)?;
-    let leaf = after(alloc, &leaf, message)?;
+    let leaf = after(alloc, &leaf, words)?;
     Ok(text(alloc, &leaf)?)
 }
 
@@ -71,12 +80,98 @@ fn messages_of_a_leaf(rt: HostRuntime) -> Result<(), Fail> {
         ("cut", "", "", ""),
     ];
     for (name, first, second, leaf) in rows {
-        let found = received(rt.alloc(), message(rt.alloc(), name, first, second)?)?;
+        let found = received(rt.alloc(), (name, first, second))?;
         assert_eq!(rt;
             found.as_slice(),
             leaf.as_bytes(),
             "{name} {first} {second}"
         );
+    }
+    Ok(())
+}
+
+// The leaf with four keys after a batch of five messages.
+fn after_batch(alloc: Global, batch: [(&str, &str, &str); 5]) -> Result<Vec<u8>, Fail> {
+    let leaf = four_keys(alloc)?;
+    let list = [
+        plain(alloc, batch[0])?,
+        plain(alloc, batch[1])?,
+        plain(alloc, batch[2])?,
+        plain(alloc, batch[3])?,
+        plain(alloc, batch[4])?,
+    ];
+    let leaf = receive(alloc, leaf.as_slice(), &list)?;
+    Ok(text(alloc, &leaf)?)
+}
+
+#[test]
+fn batches_of_a_leaf(rt: HostRuntime) -> Result<(), Fail> {
+    // Messages, the oldest first, and the leaf after them. A patch begins at offset 3.
+    let rows = [
+        (
+            [
+                ("put", "b", "9"),
+                ("put", "b", "8"),
+                ("del", "c", ""),
+                ("put", "d", "7"),
+                ("patch", "d", "x"),
+            ],
+            "a/x=1 a/y=2 b=8 d=7\0\0x ",
+        ),
+        (
+            [
+                ("put", "a/z", "5"),
+                ("cut", "a/", ""),
+                ("put", "a/y", "6"),
+                ("del", "a/y", ""),
+                ("put", "a/w", "7"),
+            ],
+            "a/w=7 b=3 c=4 ",
+        ),
+        (
+            [
+                ("cut", "", ""),
+                ("put", "b", "1"),
+                ("cut", "b", ""),
+                ("put", "c", "2"),
+                ("put", "a", "3"),
+            ],
+            "a=3 c=2 ",
+        ),
+        (
+            [
+                ("del", "b", ""),
+                ("patch", "b", "x"),
+                ("put", "e", "5"),
+                ("cut", "e", ""),
+                ("put", "0", "1"),
+            ],
+            "0=1 a/x=1 a/y=2 b=\0\0\0x c=4 ",
+        ),
+        (
+            [
+                ("put", "c", "9"),
+                ("put", "b", "8"),
+                ("put", "a/y", "7"),
+                ("put", "a/x", "6"),
+                ("put", "a", "5"),
+            ],
+            "a=5 a/x=6 a/y=7 b=8 c=9 ",
+        ),
+        (
+            [
+                ("patch", "a/y", "9"),
+                ("cut", "a/", "y"),
+                ("patch", "a/y", "8"),
+                ("patch", "a/x", "7"),
+                ("cut", "", "b"),
+            ],
+            "a/x=1\0\07 a/y=\0\0\08 ",
+        ),
+    ];
+    for (batch, leaf) in rows {
+        let found = after_batch(rt.alloc(), batch)?;
+        assert_eq!(rt; found.as_slice(), leaf.as_bytes(), "{leaf}");
     }
     Ok(())
 }
