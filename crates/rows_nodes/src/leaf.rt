@@ -10,9 +10,10 @@ use std::alloc::{AllocError, Global};
 use std::test::Fail;
 
 /// A message that names no node.
-pub fn plain(alloc: Global, (name, first, second): (&str, &str, &str)) -> Result<Message, Fail>
+pub fn plain(alloc: Global, words: (&str, &str, &str)) -> Result<Message, Fail>
     ensures { IfOk result (λ m. IsMessage m × IsPlain m) }
 {
+    let (name, first, second) = words;
     let message = message(alloc, name, first, second)?;
     if !message.is_message() {
         return Err(Fail::new("no such message"));
