@@ -169,9 +169,7 @@ pub over_few : (t : Table) (made : List Node) (list : List Message) (most : ℕ)
 over_few t made list most few = omega (arith, few, length-append made (the_top t list ∷ []))
 
 -- what is packed isn't higher than the root
-pub packed_low : (t : Table) (ls used : List Layer) (end : Option Target) (level : ℕ) → IsTable t → used ≡ ls → AreLayers t (t.level t.root + 1) ls end → level ≤ max (highest t used end) 1 → level ≤ t.level t.root
-packed_low t ls used end level table same h low =
-    let inner : 1 ≤ t.level t.root = table.inner in
-    let high : highest t used end ≤ t.level t.root = subst (λ (l : List Layer). highest t l end ≤ t.level t.root) (sym same) (highest_low t (t.level t.root) ls end h) in
-    let most : max (highest t used end) 1 ≤ t.level t.root = max-le high inner in
+pub packed_low : (t : Table) (ls : List Layer) (end : Option Target) (level : ℕ) → IsTable t → AreLayers t (t.level t.root + 1) ls end → level ≤ max (highest t ls end) 1 → level ≤ t.level t.root
+packed_low t ls end level table h low =
+    let most : max (highest t ls end) 1 ≤ t.level t.root = max-le (highest_low t (t.level t.root) ls end h) table.inner in
     omega arith
