@@ -12,8 +12,7 @@ use Rattle.bd_graft.specs.Walking.{messages_in}
 use Rattle.bd_graft.specs.Packing.{target_names, packs, newest_of, older_of, IsStackWith, IsLaidOn}
 use Rattle.bd_graft.proofs.Packs.{IsBefore, before_any, before_more, over_next}
 use Rattle.bd_graft.proofs.Grouping.{fewer, stack_room, begun_with, with_more}
-use Rattle.bd_graft.proofs.Grafts.{end_lower}
-use Rattle.bd_graft.proofs.Wearing.{layers_raise}
+use Rattle.bd_graft.proofs.Grafts.{layers_raise, end_lower}
 
 -- the stack of the layers that are on it, where others are left
 pub record IsSoFar (t : Table) (end : Option Target) (all left : List Layer) (s : Stack) : Type 0

@@ -38,13 +38,9 @@ use Rattle.bd_graft.specs.Packing.{highest}
 use Rattle.bd_graft.specs.declared.packing.Packed.{Packed}
 use Rattle.bd_graft.specs.Layers.{laid}
 use Rattle.bd_graft.specs.Grafting.{graft_messages, step_over, IsReady, IsWornForGraft}
-use Rattle.bd_graft.proofs.Grafts.{raised_target, messages_are, the_top, id_some, overlaying_step, under_overlaying, over_overlaying}
+use Rattle.bd_graft.proofs.Grafts.{messages_are, the_top, id_some, overlaying_step, under_overlaying, over_overlaying}
 
 -- ---- layers
-
-pub layers_raise : (t : Table) (low high : ℕ) (ls : List Layer) (end : Option Target) → low ≤ high → AreLayers t low ls end → AreLayers t high ls end
-layers_raise t low high [] end le h = raised_target t low high end le h
-layers_raise t low high (l ∷ ls) end le h = (h.0, (let less : l.level < low = h.1 in omega arith), h.2, h.3)
 
 pub layers_few : (t : Table) (high : ℕ) (ls : List Layer) (end : Option Target) → AreLayers t (high + 1) ls end → length ls ≤ high
 layers_few t high [] end h = omega arith

@@ -6,12 +6,13 @@ use Rattle.bd_graft.specs.declared.layers.Layer.{Layer}
 use Rattle.std.specs.List.{AllByRecursion}
 use Rattle.bd_graft.specs.Walking.{messages_in}
 use Rattle.bd_graft.specs.Packing.{Fits, packs, overlaid}
+use Rattle.bd_graft.proofs.Grafts.{layers_raise}
 use Rattle.bd_graft.proofs.Grouping.{layers_fit, packed_length}
 use Rattle.bd_graft.proofs.Counters.{count_few, count_is, worn_ids, worn_top, worn_level, worn_under, worn_over}
 use Rattle.bd_node.specs.Steps.{extend_step}
 use Rattle.bd_graft.specs.Grafting.{graft_messages, step_over, IsReady}
 use Rattle.bd_graft.proofs.Laying.{level_high}
-use Rattle.bd_graft.proofs.Wearing.{layers_raise, layers_few, sum_past, sum_within, over_few, cause_of, extend_cause, under_ok, over_ok, packed_low}
+use Rattle.bd_graft.proofs.Wearing.{layers_few, sum_past, sum_within, over_few, cause_of, extend_cause, under_ok, over_ok, packed_low}
 use Rattle.bd_node.proofs.Extending.{root_inner}
 use Rattle.bd_graft.proofs.Made.{room_is, not_called}
 use Rattle.bd_graft.proofs.Looks.{found_has, found_sent, way_ready, is_found, not_found}

@@ -1,9 +1,6 @@
-use Rattle.std.proofs.Common.{arith, rules}
+use Rattle.std.proofs.Common.{◌+◌, arith, rules}
 use Rattle.bd_limits.specs.Limits.{level_limit}
-use Rattle.bd_node.specs.Tables.{Table}
-use Rattle.bd_graft.specs.declared.packing.Stack.{Stack}
 use Rattle.bd_graft.proofs.Grafts.{end_lower}
-use Rattle.bd_graft.proofs.Packs.{IsBefore}
 use Rattle.bd_graft.proofs.Stacking.{none_so_far, so_far_low, so_far_room, next_layers, one_so_far, all_before, all_with}
 use Rattle.bd_graft.proofs.packing.stacked.Goals as goal
 
@@ -32,8 +29,8 @@ laid_on-requires-clause-room g c =
 
 pub loop-layer-preserved : goal.loop-layer-preserved
 loop-layer-preserved g c =
-    one_so_far (g.S.NodeStore.table c.args.store.now) c.args.end c.args.next c.args.layers.items c.loop-layer.layers.items c.pop.new.self.items c.in-Some.layer c.loop-layer.stack c.in_ok-laid_on.field-0
-    c.requires.table c.requires.next c.requires.room c.requires.layers c.in-Some.ensures.items c.loop-layer.invariant c.in_ok-laid_on.ensures
+    one_so_far (g.S.NodeStore.table c.args.store.now) c.args.end c.args.next c.args.layers.items c.loop-layer.layers.items c.pop.new.self.items c.in-Some.layer c.loop-layer.stack c.in_ok-stack.stack
+    c.requires.table c.requires.next c.requires.room c.requires.layers c.in-Some.ensures.items c.loop-layer.invariant c.in_ok-stack.ensures
 
 pub returns-clause-stack : goal.returns-clause-stack
 returns-clause-stack g c = (all_before (g.S.NodeStore.table c.args.store.now) c.args.end c.args.layers.items c.loop-layer.layers.items c.loop-layer.stack (search rules) c.loop-layer.invariant).stack
