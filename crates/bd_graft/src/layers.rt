@@ -25,7 +25,11 @@ pub struct Layer {
 }
 
 /// Messages freed of a prefix, without those that change nothing at a key that begins with it.
-pub(crate) fn all_freed(alloc: Global, list: &[Message], prefix: &[u8]) -> Result<Vec<Message>, AllocError>
+pub(crate) fn all_freed(
+    alloc: Global,
+    list: &[Message],
+    prefix: &[u8],
+) -> Result<Vec<Message>, AllocError>
     ensures { IfOk result (λ made. made.items ≡ all_freed prefix.now list.now) }
 {
     let mut made = Vec::new(alloc);

@@ -1,4 +1,4 @@
-use Rattle.std.proofs.Common.{refl, ap, arith, subst, sym, ◌∙◌, List, length, ◌+◌, ◌≤◌, ◌<◌, ◌^◌}
+use Rattle.std.proofs.Common.{◌≡◌, rules, refl, ap, arith, subst, sym, ◌∙◌, List, length, ◌+◌, ◌≤◌, ◌<◌, ◌^◌}
 use Rattle.bd_limits.specs.Limits.{level_limit}
 use Rattle.bd_node.specs.Meaning.{Nodes}
 use Rattle.bd_node.specs.Tables.{Table}
@@ -127,21 +127,26 @@ returns-clause-worn g c = λ known sound.
 pub returns-then-is_none-2-clause-cause : goal.returns-then-is_none-2-clause-cause
 returns-then-is_none-2-clause-cause g c =
     let t : Table = g.S.NodeStore.table c.args.store.now in
+    let same : c.match-packed-2.store ≡ c.args.store.now = search rules in
     record {
-      later = omega arith;
+      later = omega (arith, ap g.S.NodeStore.fault_count same);
       kept = tt;
-      stays = refl;
+      stays = ap g.S.NodeStore.fault_count same;
       failed = omega (arith, sum_past _ _ _ _ c.checked_add-2.ensures c.is_none-2.ensures c.if-is_none-2.true, c.next_id-2.ensures.value, count_is c.args.way.end c.args.way.layers.items c.as_slice.result.now c.overlay_count-count.result c.as_slice.ensures.value c.overlay_count-count.ensures, count_few c.args.way.end c.args.way.layers.items, layers_few t (t.level t.root) c.args.way.layers.items c.args.way.end c.requires.layers);
     }
 
 pub returns-then-is_none-clause-call : goal.returns-then-is_none-clause-call
-returns-then-is_none-clause-call g c = not_called g.S.NodeStore c.args.s.now c.args.d.now c.args.keep c.args.store.now _ (g.met.S.NodeStore.reads_none c.args.store.now) (g.met.S.NodeStore.reads_keep _ _ (g.met.S.NodeStore.reads_none c.args.store.now))
+returns-then-is_none-clause-call g c = not_called g.S.NodeStore c.args.s.now c.args.d.now c.args.keep c.args.store.now c.args.store.now _ refl (g.met.S.NodeStore.reads_none c.args.store.now) (g.met.S.NodeStore.reads_keep _ _ (g.met.S.NodeStore.reads_none c.args.store.now))
 
 pub returns-then-level-ge-MAX_LEVEL-clause-call : goal.returns-then-level-ge-MAX_LEVEL-clause-call
-returns-then-level-ge-MAX_LEVEL-clause-call g c = not_called g.S.NodeStore c.args.s.now c.args.d.now c.args.keep c.args.store.now _ (g.met.S.NodeStore.reads_none c.args.store.now) (g.met.S.NodeStore.reads_keep _ _ (g.met.S.NodeStore.reads_none c.args.store.now))
+returns-then-level-ge-MAX_LEVEL-clause-call g c =
+    not_called g.S.NodeStore c.args.s.now c.args.d.now c.args.keep c.args.store.now c.match-packed.store _ (search rules)
+    (g.met.S.NodeStore.reads_none c.args.store.now) (g.met.S.NodeStore.reads_keep _ _ (g.met.S.NodeStore.reads_none c.args.store.now))
 
 pub returns-then-is_none-2-clause-call : goal.returns-then-is_none-2-clause-call
-returns-then-is_none-2-clause-call g c = not_called g.S.NodeStore c.args.s.now c.args.d.now c.args.keep c.args.store.now _ (g.met.S.NodeStore.reads_none c.args.store.now) (g.met.S.NodeStore.reads_keep _ _ (g.met.S.NodeStore.reads_none c.args.store.now))
+returns-then-is_none-2-clause-call g c =
+    not_called g.S.NodeStore c.args.s.now c.args.d.now c.args.keep c.args.store.now c.match-packed-2.store _ (search rules)
+    (g.met.S.NodeStore.reads_none c.args.store.now) (g.met.S.NodeStore.reads_keep _ _ (g.met.S.NodeStore.reads_none c.args.store.now))
 
 pub returns-then-packed-level-clause-call : goal.returns-then-packed-level-clause-call
 returns-then-packed-level-clause-call g c = c.put_under.ensures.call
