@@ -7,7 +7,7 @@ use Rattle.std.proofs.lemmas.Option.{none-some}
 use Rattle.std.proofs.lemmas.Bool.{cases_lt, cond-true, cond-false, lt-ltb, le-ltb}
 use Rattle.std.proofs.Math.Nat.{max-zero}
 use Rattle.std.proofs.lemmas.Grind.{flat_map-append}
-use Rattle.bd_limits.specs.Limits.{buffer_limit, level_limit}
+use Rattle.bd_limits.specs.Limits.{buffer_limit}
 use Rattle.bd_message.specs.declared.message.Message.{Message}
 use Rattle.bd_message.specs.Messages.{size}
 use Rattle.bd_node.specs.declared.node.Node.{Node}
