@@ -156,6 +156,10 @@ laid_lower t high (l ∷ ls) end h =
     let low : l.level < high + 1 = h.1 in
     names_both (IsLower t high) (laid ls) l.messages (lower_more t l.level high (omega arith) (flat_map message_names (laid ls)) (layers_lower t l.level ls end h.3)) (lower_more t l.level high (omega arith) (flat_map message_names l.messages) h.2.lower)
 
+pub layers_raise : (t : Table) (low high : ℕ) (ls : List Layer) (end : Option Target) → low ≤ high → AreLayers t low ls end → AreLayers t high ls end
+layers_raise t low high [] end le h = raised_target t low high end le h
+layers_raise t low high (l ∷ ls) end le h = (h.0, (let less : l.level < low = h.1 in omega arith), h.2, h.3)
+
 pub end_lower : (t : Table) (high : ℕ) (ls : List Layer) (end : Option Target) → AreLayers t high ls end → IsLowerTarget t high end
 end_lower t high [] end h = h
 end_lower t high (l ∷ ls) end h = raised_target t l.level high end (let low : l.level < high = h.1 in omega arith) (end_lower t l.level ls end h.3)

@@ -1,5 +1,5 @@
 -- Groups of messages, and the overlay nodes that they get.
-use Rattle.std.proofs.Common.{◌≡◌, ℕ, ◌+◌, ◌<◌, ◌≤◌, ◌^◌, max, cond, ltb, List, [], ◌∷◌, ◌++◌, length, get_or, refl, sym, ap, subst, ◌∙◌, Option, None, Some, inl, inr, arith, length-append}
+use Rattle.std.proofs.Common.{◌≡◌, ℕ, ◌+◌, ◌<◌, ◌≤◌, ◌^◌, max, cond, ltb, List, [], ◌∷◌, ◌++◌, length, refl, sym, ap, subst, ◌∙◌, Option, None, Some, inl, inr, arith, length-append}
 use Rattle.std.specs.List.{AllByRecursion, flat_map, sum_by}
 use Rattle.std.proofs.lemmas.List.{append-nil}
 use Rattle.std.proofs.lemmas.List.Sums.{sum_by-append}
@@ -7,7 +7,7 @@ use Rattle.std.proofs.lemmas.Option.{none-some}
 use Rattle.std.proofs.lemmas.Bool.{cases_lt, cond-true, cond-false, lt-ltb, le-ltb}
 use Rattle.std.proofs.Math.Nat.{max-zero}
 use Rattle.std.proofs.lemmas.Grind.{flat_map-append}
-use Rattle.bd_limits.specs.Limits.{buffer_limit, level_limit}
+use Rattle.bd_limits.specs.Limits.{buffer_limit}
 use Rattle.bd_message.specs.declared.message.Message.{Message}
 use Rattle.bd_message.specs.Messages.{size}
 use Rattle.bd_node.specs.declared.node.Node.{Node}
@@ -22,7 +22,7 @@ use Rattle.bd_graft.specs.Walking.{messages_in}
 use Rattle.bd_graft.specs.Packing.{overlay, target_names, gathered, packs, overlaid, over_all, overlay_level, top_over, overlays_over, newest_of, older_of, IsStackWith, IsPackedWith, Fits, IsClosed, IsJoined, IsLaidOn, IsEnded, IsFinished}
 use Rattle.bd_graft.specs.Packing.IsLaidOn.{fit, new}
 use Rattle.bd_graft.specs.Packing.IsFinished.{as_it_is, made_too}
-use Rattle.bd_graft.proofs.Packs.{max_assoc, above-append, tail_of, tail_is}
+use Rattle.bd_graft.proofs.Packs.{max_assoc, above-append}
 
 -- ---- how many there are
 
@@ -42,9 +42,10 @@ gathered_length (m ∷ ms) [] = omega arith
 gathered_length (m ∷ ms) (g ∷ groups) =
     by_case (λ x. length (g ∷ groups) ≤ length x) buffer_limit (sum_by size g + sum_by size (m ∷ ms)) ((m ∷ ms) ∷ g ∷ groups) ((g ++ m ∷ ms) ∷ groups) (λ l. omega arith) (λ l. omega arith)
 
-pub fewer : (ls : List Layer) → 1 ≤ length ls → length (packs (messages_in (tail_of ls))) ≤ length (packs (messages_in ls))
-fewer [] some = absurd (omega arith)
-fewer (l ∷ ls) some = subst (λ (x : List Layer). length (packs (messages_in x)) ≤ length (packs (messages_in (l ∷ ls)))) (sym (tail_is l ls)) (gathered_length l.messages (packs (messages_in ls)))
+-- fewer layers have no more groups
+pub fewer : (xs ys : List Layer) → length (packs (messages_in ys)) ≤ length (packs (messages_in (xs ++ ys)))
+fewer [] ys = omega arith
+fewer (x ∷ xs) ys = omega (arith, fewer xs ys, gathered_length x.messages (packs (messages_in (xs ++ ys))))
 
 older_length : (groups : List (List Message)) → length (older_of groups) ≤ length groups
 older_length [] = omega arith
@@ -61,16 +62,14 @@ overlaid_length (Some target) groups = omega arith
 pub stack_room : (t : Table) (end : Option Target) (groups : List (List Message)) (front : List Message) (a : Stack) (most : ℕ) → IsStackWith t end (older_of groups) front a → length groups ≤ most → t.next + most < 2 ^ 64 → t.next + length a.made.items < 2 ^ 64
 stack_room t end groups front a most h few room = omega (arith, ap (λ (ns : List Node). length ns) h.made, overlays_length t end (older_of groups), older_length groups)
 
-pub begun_with : (t : Table) (end : Option Target) (ls : List Layer) (a : Stack) → length ls < 1 → a.made.items ≡ [] → a.under ≡ end → a.waiting.items ≡ [] → a.size ≡ 0 → a.level ≡ above t.level (target_names end)
-    → IsStackWith t end (older_of (packs (messages_in ls))) (newest_of (packs (messages_in ls))) a
-begun_with t end [] a none made under waiting bytes level = record {
+pub begun_with : (t : Table) (end : Option Target) (a : Stack) → a.made.items ≡ [] → a.under ≡ end → a.waiting.items ≡ [] → a.size ≡ 0 → a.level ≡ above t.level (target_names end) → IsStackWith t end [] [] a
+begun_with t end a made under waiting bytes level = record {
   made = made;
   under = under;
   waiting = waiting;
   bytes = bytes;
   top = level ∙ sym (max-zero (above t.level (target_names end)));
 }
-begun_with t end (l ∷ ls) a none made under waiting bytes level = absurd (omega arith)
 
 above_both : (level : ℕ → ℕ) (xs ys : List Message) → above level (flat_map message_names (xs ++ ys)) ≡ max (above level (flat_map message_names xs)) (above level (flat_map message_names ys))
 above_both level xs ys = ap (λ ns. above level ns) (flat_map-append message_names xs ys) ∙ above-append level (flat_map message_names xs) (flat_map message_names ys)
@@ -129,13 +128,9 @@ laid_with t end next (g ∷ groups) l (m ∷ ms) a s at is own small h (new b fu
     (λ more. opened t end (g ∷ groups) l.messages (m ∷ ms) s is (joined_with t end (g ∷ groups) [] l b s own (closed_with t end groups g a b h (next_closed next t a b at closed)) joined))
     (λ less. absurd (omega (arith, less, full, h.bytes, sizes_same l.messages (m ∷ ms) is)))
 
-pub with_more : (t : Table) (end : Option Target) (next : ℕ) (ls : List Layer) (l : Layer) (a s : Stack) → next ≡ t.next → AreLayers t (level_limit + 1) ls end → 1 ≤ length ls → l ≡ get_or ls 0 l → a.size ≤ buffer_limit
-    → IsStackWith t end (older_of (packs (messages_in (tail_of ls)))) (newest_of (packs (messages_in (tail_of ls)))) a → IsLaidOn next a l s → IsStackWith t end (older_of (packs (messages_in ls))) (newest_of (packs (messages_in ls))) s
-with_more t end next [] l a s at layers some is small h on = absurd (omega arith)
-with_more t end next (first ∷ ls) l a s at layers some is small h on =
-    laid_with t end next (packs (messages_in ls)) first first.messages a s at refl layers.2 small
-    (subst (λ (x : List Layer). IsStackWith t end (older_of (packs (messages_in x))) (newest_of (packs (messages_in x))) a) (tail_is first ls) h)
-    (subst (λ (x : Layer). IsLaidOn next a x s) is on)
+pub with_more : (t : Table) (end : Option Target) (next : ℕ) (l : Layer) (ls : List Layer) (a s : Stack) → next ≡ t.next → IsLayer t l → a.size ≤ buffer_limit → IsStackWith t end (older_of (packs (messages_in ls))) (newest_of (packs (messages_in ls))) a → IsLaidOn next a l s
+    → IsStackWith t end (older_of (packs (messages_in (l ∷ ls)))) (newest_of (packs (messages_in (l ∷ ls)))) s
+with_more t end next l ls a s at own small h on = laid_with t end next (packs (messages_in ls)) l l.messages a s at refl own small h on
 
 -- ---- all made
 

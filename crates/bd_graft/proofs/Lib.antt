@@ -5,6 +5,7 @@ pub mod Grafts
 pub mod Wearing
 pub mod Leaving
 pub mod Grouping
+pub mod Stacking
 pub mod Ways
 pub mod Counters
 pub mod Once

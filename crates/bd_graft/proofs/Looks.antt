@@ -1,8 +1,8 @@
 -- The overlay node that is there already, and what is made where there is none.
-use Rattle.std.proofs.Common.{◌≡◌, ℕ, suc, ◌+◌, ◌<◌, ◌≤◌, Bool, true, false, cond, List, [], ◌∷◌, ◌++◌, length, append_assoc, refl, sym, ap, subst, ◌∙◌, Option, None, Some, inl, arith}
+use Rattle.std.proofs.Common.{◌≡◌, ℕ, suc, ◌+◌, ◌<◌, ◌≤◌, Bool, true, false, List, [], ◌∷◌, ◌++◌, length, append_assoc, refl, sym, ap, subst, ◌∙◌, Option, None, Some, inl, arith}
 use Rattle.std.specs.Prelude.{slice_get}
 use Rattle.std.specs.List.{AllByRecursion, flat_map, sum_by}
-use Rattle.std.specs.Option.{is_some, option_or}
+use Rattle.std.specs.Option.{option_or}
 use Rattle.std.proofs.lemmas.List.{append-nil}
 use Rattle.std.proofs.lemmas.Option.{same_Some, none-some}
 use Rattle.bd_limits.specs.Limits.{buffer_limit}
@@ -113,20 +113,17 @@ found_sent nodes t s end ls c sound way h =
 -- ---- what is ready to be put
 
 -- what is packed where nothing is found
-pub way_ready : (known : Type 0) (nodes : Nodes) (t : Table) (s : List ℕ) (ls used : List Layer) (end : Option Target) (packed : Packed) → used ≡ ls → IsPacked t end (laid used) packed → IsPackedWith t end (overlaid end (packs (messages_in used))) packed → length packed.made.items ≤ length used + 1
-    → AreLayers t (t.level t.root + 1) ls end → (known → IsSound nodes t → (k : List ℕ) → IsKey k → acts (at nodes) (laid ls) k (target_at (at nodes) end k) ≡ root_at nodes t (s ++ k)) → (known → IsSound nodes t → IsWay nodes t.root s (messages_in ls) end)
-    → (known → IsSound nodes t → IsFound nodes t end (overlaid end (packs (messages_in ls))) None) → IsReady known nodes t s packed
-way_ready known nodes t s ls used end packed same packed_is groups few layers value way none =
-    let with : IsPackedWith t end (overlaid end (packs (messages_in ls))) packed = subst (λ (x : List Layer). IsPackedWith t end (overlaid end (packs (messages_in x))) packed) same groups in
-    record {
-      layers = ls;
-      end = end;
-      packed_is = subst (λ (x : List Layer). IsPacked t end (laid x) packed) same packed_is;
-      layers_are = layers;
-      value = value;
-      sent = λ k sound. sent_new nodes t s (messages_in ls) end packed.made.items packed.target (packed.level + 1) (way k sound) (none k sound) with.made with.target with.top;
-      few = omega (arith, few, ap (λ (x : List Layer). length x) same, layers_few t (t.level t.root) ls end layers);
-    }
+pub way_ready : (known : Type 0) (nodes : Nodes) (t : Table) (s : List ℕ) (ls : List Layer) (end : Option Target) (packed : Packed) → IsPacked t end (laid ls) packed → IsPackedWith t end (overlaid end (packs (messages_in ls))) packed → length packed.made.items ≤ length ls + 1 → AreLayers t (t.level t.root + 1) ls end
+    → (known → IsSound nodes t → (k : List ℕ) → IsKey k → acts (at nodes) (laid ls) k (target_at (at nodes) end k) ≡ root_at nodes t (s ++ k)) → (known → IsSound nodes t → IsWay nodes t.root s (messages_in ls) end) → (known → IsSound nodes t → IsFound nodes t end (overlaid end (packs (messages_in ls))) None) → IsReady known nodes t s packed
+way_ready known nodes t s ls end packed packed_is with few layers value way none = record {
+  layers = ls;
+  end = end;
+  packed_is = packed_is;
+  layers_are = layers;
+  value = value;
+  sent = λ k sound. sent_new nodes t s (messages_in ls) end packed.made.items packed.target (packed.level + 1) (way k sound) (none k sound) with.made with.target with.top;
+  few = omega (arith, few, layers_few t (t.level t.root) ls end layers);
+}
 
 pub not_found : (known : Type 0) (nodes : Nodes) (t : Table) (end : Option Target) (ls : List Layer) (found : Option ℕ) → found ≡ None → (known → IsSound nodes t → IsFound nodes t end (overlaid end (packs (messages_in ls))) found) → known → IsSound nodes t → IsFound nodes t end (overlaid end (packs (messages_in ls))) None
 not_found known nodes t end ls found none h k sound = subst (λ (o : Option ℕ). IsFound nodes t end (overlaid end (packs (messages_in ls))) o) none (h k sound)
@@ -220,16 +217,6 @@ looked_none waiting (g ∷ h ∷ groups) other = refl
 -- no node is named
 pub none_named : (nodes : Nodes) (t : Table) (end : Option Target) (groups : List (List Message)) → newest_named (waiting_in nodes t) ≡ None → IsFound nodes t end groups None
 none_named nodes t end groups none c h = none-some c (sym none ∙ h.newest)
-
-pub looked_one : (waiting : List Message) (groups : List (List Message)) → length groups ≡ 1 → newest_named waiting ≡ None → 1 ≡ looked_at waiting groups
-looked_one waiting [] one none = absurd (omega arith)
-looked_one waiting (g ∷ []) one none = sym (ap (λ (o : Option ℕ). cond (is_some o) 2 1) none)
-looked_one waiting (g ∷ h ∷ groups) one none = absurd (omega (arith, one))
-
-pub looked_two : (waiting : List Message) (groups : List (List Message)) (c : ℕ) → length groups ≡ 1 → newest_named waiting ≡ Some c → 2 ≡ looked_at waiting groups
-looked_two waiting [] c one some = absurd (omega arith)
-looked_two waiting (g ∷ []) c one some = sym (ap (λ (o : Option ℕ). cond (is_some o) 2 1) some)
-looked_two waiting (g ∷ h ∷ groups) c one some = absurd (omega (arith, one))
 
 pub waiting_is : (nodes : Nodes) (t : Table) (n : Node) (named : Option ℕ) → nodes t.root ≡ Some n → named ≡ newest_named (buffer_of n) → newest_named (waiting_in nodes t) ≡ named
 waiting_is nodes t n named there is = ap (λ (o : Option Node). newest_named (waiting_of o)) there ∙ sym is

@@ -77,14 +77,14 @@ root_on g old mid back left h = subst (λ (u : Table). HasRoot (g.is_known mid) 
 -- ---- calls
 
 -- a call that fails before anything was done
-pub not_called : {S T E : Type 0} (g : Ghosts S) (s d : List ℕ) (keep : Bool) (old : S) (e : E) → g.reads old old → g.keeps old old → IsGraftCall {T = T} g s d keep old old (Err e)
-not_called g s d keep old e reads keeps = record {
+pub not_called : {S T E : Type 0} (g : Ghosts S) (s d : List ℕ) (keep : Bool) (old new : S) (e : E) → new ≡ old → g.reads old old → g.keeps old old → IsGraftCall {T = T} g s d keep old new (Err e)
+not_called {S} {T} g s d keep old new e same reads keeps = subst (λ (x : S). IsGraftCall {T = T} g s d keep old x (Err e)) (sym same) (record {
   made = tt;
   visits = tt;
   stays = record { known = λ k. k; beside = keeps; same_loans = refl };
   err = record { table = refl; known = λ k. k; kept = λ k. refl; read = reads; same_loans = refl };
   err_visits = refl;
-}
+})
 
 -- why a call after reads failed
 pub err_cause : {T U : Type 0} (before mid now : ℕ) (bad : ℕ → Type 0) (t u : Table) (e : MapFault) → mid ≡ before → u ≡ t → HasMapCause {T = T} mid now bad (IsWornForGraft u) (Err e) → HasMapCause {T = U} before now bad (IsWornForGraft t) (Err e)

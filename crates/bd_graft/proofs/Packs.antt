@@ -1,10 +1,9 @@
 -- Overlay nodes over the end of a way.
-use Rattle.std.proofs.Common.{◌≡◌, ℕ, zero, suc, ◌+◌, ◌<◌, ◌≤◌, ◌^◌, max, List, [], ◌∷◌, ◌++◌, length, take, drop, get_or, ◌-◌, Bool, true, false, cond, ltb, append_assoc, refl, sym, ap, subst, ◌∙◌, Option, None, Some, inl, inr, ◌⊎◌, arith, length-append}
+use Rattle.std.proofs.Common.{◌≡◌, ℕ, zero, suc, ◌+◌, ◌<◌, ◌≤◌, ◌^◌, max, List, [], ◌∷◌, ◌++◌, length, ◌-◌, Bool, true, false, cond, ltb, append_assoc, refl, sym, ap, subst, ◌∙◌, Option, None, Some, inl, inr, ◌⊎◌, arith, length-append}
 use Rattle.std.specs.Prelude.{slice_get}
 use Rattle.std.specs.Option.{is_some}
 use Rattle.std.specs.List.{AllByRecursion, flat_map, sum_by}
 use Rattle.std.proofs.lemmas.Option.{same_Some, none-some}
-use Rattle.std.proofs.lemmas.List.{take_all}
 use Rattle.std.proofs.lemmas.List.Sums.{sum_by-append}
 use Rattle.std.proofs.Math.Nat.{le-max_left, le-max_right, max-le, max-zero, zero-max}
 use Rattle.std.proofs.lemmas.Bool.{lt-ltb, le-ltb}
@@ -266,11 +265,6 @@ begun_of t high end table lower short = record {
   meaning = λ has made k key. refl;
 }
 
-pub begun_stack : (t : Table) (end : Option Target) (ls : List Layer) (a : Stack) → IsTable t → AreLayers t (level_limit + 1) ls end → IsShort end → length ls < 1 → a.made.items ≡ [] → a.under ≡ end → a.waiting.items ≡ [] → a.size ≡ 0 → a.level ≡ above t.level (target_names end) → IsStack t end (laid ls) a
-begun_stack t end [] a table layers short none made under waiting bytes level =
-    to_stack t end [] a (restack t end [] [] a.made.items end a.under [] a.waiting.items 0 a.size (above t.level (target_names end)) a.level made under waiting bytes level (begun_of t (level_limit + 1) end table layers short))
-begun_stack t end (l ∷ ls) a table layers short none made under waiting bytes level = absurd (omega arith)
-
 pub no_more : (t : Table) (made : List Node) (level high : ℕ) → level ≤ high → (ns : List ℕ) → AllByRecursion (IsUnder t made (length made) level) ns → AllByRecursion (IsUnder t made (length made) high) ns
 no_more t made level high le ns h = each_weaker (IsUnder t made (length made) level) (IsUnder t made (length made) high)
     (λ c own. elim own [
@@ -386,17 +380,11 @@ end_low : (t : Table) (high : ℕ) (end : Option Target) → IsLowerTarget t hig
 end_low t high None h = omega arith
 end_low t high (Some target) h = max-le (let l : t.level target.child < high = h.lower in omega arith) (omega arith)
 
-over_next : (t : Table) (high : ℕ) (ls : List Layer) (end : Option Target) → AreLayers t high ls end → level_over t ls end ≤ high
+pub over_next : (t : Table) (high : ℕ) (ls : List Layer) (end : Option Target) → AreLayers t high ls end → level_over t ls end ≤ high
 over_next t high [] end h = end_low t high end h
 over_next t high (l ∷ ls) end h = (let low : l.level < high = h.1 in omega arith)
 
-abbrev pub tail_of : List Layer → List Layer
-tail_of ls = take (length ls - 1) (drop 1 ls)
-
-pub tail_is : (l : Layer) (ls : List Layer) → tail_of (l ∷ ls) ≡ ls
-tail_is l ls = take_all (length (l ∷ ls) - 1) ls (omega arith)
-
--- what the stack of the older layers is
+-- what the stack of layers is
 pub record IsBefore (t : Table) (end : Option Target) (ls : List Layer) (a : Stack) : Type 0 where
   pub stack : IsStack t end (laid ls) a
   pub low : a.level ≤ level_over t ls end
@@ -445,11 +433,30 @@ laid_more_on t end next l ls a s table is room layers h (new b full closed joine
       (let m : max b.level l.over ≤ l.level = max-le (omega (arith, closed.level, raised)) (over_low t l layers.2) in omega (arith, joined.level, m)),
     )
 
-pub stack_more : (t : Table) (end : Option Target) (next : ℕ) (ls : List Layer) (l : Layer) (a s : Stack) → IsTable t → next ≡ t.next → t.next + length a.made.items < 2 ^ 64 → AreLayers t (level_limit + 1) ls end → 1 ≤ length ls → l ≡ get_or ls 0 l → IsBefore t end (tail_of ls) a → IsLaidOn next a l s
-    → IsStack t end (laid ls) s × (s.level ≤ level_over t ls end)
-stack_more t end next [] l a s table is room layers some at before on = absurd (omega arith)
-stack_more t end next (h ∷ ls) l a s table is room layers some at before on =
-    laid_more_on t end next h ls a s table is room layers (subst (λ (x : List Layer). IsBefore t end x a) (tail_is h ls) before) (subst (λ (x : Layer). IsLaidOn next a x s) at on)
+made_more : (next n : ℕ) (l : Layer) (a s : Stack) → length a.made.items ≤ n → IsLaidOn next a l s → length s.made.items ≤ n + 1
+made_more next n l a s few (fit fits joined) = omega (arith, few, ap (λ (ns : List Node). length ns) joined.made)
+made_more next n l a s few (new b full closed joined) =
+    omega (arith, few, ap (λ (ns : List Node). length ns) joined.made, ap (λ (ns : List Node). length ns) closed.made, length-append a.made.items (overlay (max a.level 1) a.under a.waiting.items ∷ []))
+
+-- nothing is made yet
+pub before_any : (t : Table) (end : Option Target) (a : Stack) → IsTable t → IsLowerTarget t (level_limit + 1) end → IsShort end → a.made.items ≡ [] → a.under ≡ end → a.waiting.items ≡ [] → a.size ≡ 0 → a.level ≡ above t.level (target_names end) → IsBefore t end [] a
+before_any t end a table lower short made under waiting bytes level = record {
+  stack = to_stack t end [] a (restack t end [] [] a.made.items end a.under [] a.waiting.items 0 a.size (above t.level (target_names end)) a.level made under waiting bytes level (begun_of t (level_limit + 1) end table lower short));
+  low = omega (arith, level);
+  few = omega (arith, ap (λ (ns : List Node). length ns) made);
+  begun = λ none. (waiting, under, bytes);
+}
+
+-- one layer more
+pub before_more : (t : Table) (end : Option Target) (next : ℕ) (l : Layer) (ls : List Layer) (a s : Stack) → IsTable t → next ≡ t.next → t.next + length a.made.items < 2 ^ 64 → AreLayers t (level_limit + 1) (l ∷ ls) end → IsBefore t end ls a → IsLaidOn next a l s → IsBefore t end (l ∷ ls) s
+before_more t end next l ls a s table is room layers h on =
+    let more : IsStack t end (laid (l ∷ ls)) s × (s.level ≤ l.level) = laid_more_on t end next l ls a s table is room layers h on in
+    record {
+      stack = more.0;
+      low = more.1;
+      few = omega (arith, made_more next (length ls) l a s h.few on);
+      begun = λ none. absurd (omega (arith, none));
+    }
 
 -- ---- all made
 

@@ -38,13 +38,9 @@ use Rattle.bd_graft.specs.Packing.{highest}
 use Rattle.bd_graft.specs.declared.packing.Packed.{Packed}
 use Rattle.bd_graft.specs.Layers.{laid}
 use Rattle.bd_graft.specs.Grafting.{graft_messages, step_over, IsReady, IsWornForGraft}
-use Rattle.bd_graft.proofs.Grafts.{raised_target, messages_are, the_top, id_some, overlaying_step, under_overlaying, over_overlaying}
+use Rattle.bd_graft.proofs.Grafts.{messages_are, the_top, id_some, overlaying_step, under_overlaying, over_overlaying}
 
 -- ---- layers
-
-pub layers_raise : (t : Table) (low high : ℕ) (ls : List Layer) (end : Option Target) → low ≤ high → AreLayers t low ls end → AreLayers t high ls end
-layers_raise t low high [] end le h = raised_target t low high end le h
-layers_raise t low high (l ∷ ls) end le h = (h.0, (let less : l.level < low = h.1 in omega arith), h.2, h.3)
 
 pub layers_few : (t : Table) (high : ℕ) (ls : List Layer) (end : Option Target) → AreLayers t (high + 1) ls end → length ls ≤ high
 layers_few t high [] end h = omega arith
@@ -169,9 +165,7 @@ pub over_few : (t : Table) (made : List Node) (list : List Message) (most : ℕ)
 over_few t made list most few = omega (arith, few, length-append made (the_top t list ∷ []))
 
 -- what is packed isn't higher than the root
-pub packed_low : (t : Table) (ls used : List Layer) (end : Option Target) (level : ℕ) → IsTable t → used ≡ ls → AreLayers t (t.level t.root + 1) ls end → level ≤ max (highest t used end) 1 → level ≤ t.level t.root
-packed_low t ls used end level table same h low =
-    let inner : 1 ≤ t.level t.root = table.inner in
-    let high : highest t used end ≤ t.level t.root = subst (λ (l : List Layer). highest t l end ≤ t.level t.root) (sym same) (highest_low t (t.level t.root) ls end h) in
-    let most : max (highest t used end) 1 ≤ t.level t.root = max-le high inner in
+pub packed_low : (t : Table) (ls : List Layer) (end : Option Target) (level : ℕ) → IsTable t → AreLayers t (t.level t.root + 1) ls end → level ≤ max (highest t ls end) 1 → level ≤ t.level t.root
+packed_low t ls end level table h low =
+    let most : max (highest t ls end) 1 ≤ t.level t.root = max-le (highest_low t (t.level t.root) ls end h) table.inner in
     omega arith

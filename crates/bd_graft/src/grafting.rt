@@ -140,7 +140,7 @@ fn finish<S: NodeStore>(
     if store.next_id().checked_add(count).is_none() {
         return Err(MapFault::Worn(Counter::NextId));
     }
-    let packed = pack(alloc, &*store, layers.as_slice(), end)?;
+    let packed = pack(alloc, &*store, layers, end)?;
     let level = store.level(store.root());
     if packed.level < level {
         return put_under(alloc, store, packed, s, d, keep);

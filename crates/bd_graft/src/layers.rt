@@ -25,7 +25,11 @@ pub struct Layer {
 }
 
 /// Messages freed of a prefix, without those that change nothing at a key that begins with it.
-pub fn all_freed(alloc: Global, list: &[Message], prefix: &[u8]) -> Result<Vec<Message>, AllocError>
+pub(crate) fn all_freed(
+    alloc: Global,
+    list: &[Message],
+    prefix: &[u8],
+) -> Result<Vec<Message>, AllocError>
     ensures { IfOk result (λ made. made.items ≡ all_freed prefix.now list.now) }
 {
     let mut made = Vec::new(alloc);
@@ -38,7 +42,7 @@ pub fn all_freed(alloc: Global, list: &[Message], prefix: &[u8]) -> Result<Vec<M
 }
 
 /// One above the highest node that messages name, and 0 where they name none.
-pub fn above<S: NodeStore>(store: &S, list: &[Message]) -> u32
+pub(crate) fn above<S: NodeStore>(store: &S, list: &[Message]) -> u32
     requires { AllByRecursion (IsLower (S.table store.now) level_limit)
         (flat_map message_names list.now) }
     ensures { result ≡ above (S.table store.now).level (flat_map message_names list.now) }
@@ -55,7 +59,7 @@ pub fn above<S: NodeStore>(store: &S, list: &[Message]) -> u32
 }
 
 /// One above the node of a target, and 0 where there is none.
-pub fn above_end<S: NodeStore>(store: &S, end: &Option<Target>) -> u32
+pub(crate) fn above_end<S: NodeStore>(store: &S, end: &Option<Target>) -> u32
     requires { IsLowerTarget (S.table store.now) (level_limit + 1) end.now }
     ensures { result ≡ above (S.table store.now).level (target_names end.now) }
 {

@@ -11,6 +11,5 @@ mod walking;
 
 pub use grafting::{Walk, graft};
 pub use layers::Layer;
-pub use looking::{Lookup, find_overlay};
 pub use packing::{Groups, Packed, Stack, overlay_count, pack};
 pub use walking::{Walked, walk};

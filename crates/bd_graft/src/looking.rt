@@ -1,4 +1,5 @@
-//! The overlay node that is there already: what one way leads to may have been sent somewhere before.
+//! The overlay node that is there already: what one way leads to may have been sent somewhere
+//! before.
 
 ghost use Rattle.std.specs.Prelude.{ℕ, ◌≡◌, ◌↔◌, ◌+◌, ◌≤◌, [], ◌∷◌, IfOk, IfSome, IsTrue};
 ghost use Rattle.std.specs.List.{AllByRecursion};
@@ -23,7 +24,7 @@ use bd_resolve::Target;
 
 /// What was found of an overlay node that is there already.
 #[derive(Clone, Copy, Debug)]
-pub struct Lookup {
+pub(crate) struct Lookup {
     /// The node, where it was found.
     pub found: Option<u64>,
     /// How many nodes were fetched.
@@ -33,7 +34,7 @@ pub struct Lookup {
 /// Looks for the overlay node of layers over the end of a way. Where there would be exactly one, it
 /// is there already if the node is equal to it that is named by the newest of the root's `Goto`s
 /// without a source.
-pub fn find_overlay<S: NodeStore>(
+pub(crate) fn find_overlay<S: NodeStore>(
     store: &mut S,
     layers: &[Layer],
     end: &Option<Target>,
@@ -180,15 +181,5 @@ fn is_laid(list: &[Message], layers: &[Layer]) -> bool
 fn are_same(list: &[Message], other: &[Message]) -> bool
     ensures { IsTrue result ↔ (list.now ≡ other.now) }
 {
-    let ([a, more @ ..], [b, rest @ ..]) = (list, other) else {
-        return list.is_empty() && other.is_empty();
-    };
-    is_same(a, b) && are_same(more, rest)
-}
-
-// Whether two messages are equal.
-fn is_same(message: &Message, other: &Message) -> bool
-    ensures { IsTrue result ↔ (message.now ≡ other.now) }
-{
-    message == other
+    list == other
 }

@@ -1,6 +1,6 @@
 //! Overlay nodes: the messages of layers over the end of a way.
 
-ghost use Rattle.std.specs.Prelude.{◌≡◌, ◌+◌, ◌<◌, ◌≤◌, ◌⊎◌, ◌^◌, [], max, length, IsSome, IfOk};
+ghost use Rattle.std.specs.Prelude.{◌≡◌, ◌+◌, ◌++◌, ◌<◌, ◌≤◌, ◌⊎◌, ◌^◌, [], max, length, IsSome, IfOk};
 ghost use Rattle.std.specs.List.{AllByRecursion, sum_by};
 ghost use Rattle.bd_limits.specs.Limits.{buffer_limit, level_limit};
 ghost use Rattle.bd_message.specs.Messages.{IsMessage, size};
@@ -104,23 +104,24 @@ fn grown(groups: Groups, layer: &Layer) -> Groups
 /// Packs the messages of layers into overlay nodes over the end of a way, from the last layer on:
 /// the first node gets the store's next id, the others the ids after it. The messages of one layer
 /// stand in one node, and each node has at most 32,768 bytes of them; where those of one more layer
-/// fit, they stand in it too. Without messages there is no node, but over nothing there is one.
+/// fit, they stand in it too. Without messages there is no node, but over nothing there is one. The
+/// messages are moved.
 pub fn pack<S: NodeStore>(
     alloc: Global,
     store: &S,
-    layers: &[Layer],
+    layers: Vec<Layer>,
     end: Option<Target>,
 ) -> Result<Packed, AllocError>
     requires room { (S.table store.now).next
-        + length (overlaid end (packs (messages_in layers.now))) < 2 ^ 64 }
-    requires layers { AreLayers (S.table store.now) (level_limit + 1) layers.now end }
+        + length (overlaid end (packs (messages_in layers.items))) < 2 ^ 64 }
+    requires layers { AreLayers (S.table store.now) (level_limit + 1) layers.items end }
     requires short { IsShort end }
-    ensures packed { IfOk result (IsPacked (S.table store.now) end (laid layers.now)) }
+    ensures packed { IfOk result (IsPacked (S.table store.now) end (laid layers.items)) }
     ensures groups { IfOk result (IsPackedWith (S.table store.now) end
-        (overlaid end (packs (messages_in layers.now)))) }
+        (overlaid end (packs (messages_in layers.items)))) }
     ensures low { IfOk result (λ p. p.level
-        ≤ max (highest (S.table store.now) layers.now end) 1) }
-    ensures few { IfOk result (λ p. length p.made.items ≤ length layers.now + 1) }
+        ≤ max (highest (S.table store.now) layers.items end) 1) }
+    ensures few { IfOk result (λ p. length p.made.items ≤ length layers.items + 1) }
 {
     let next = store.next_id();
     let stack = stacked(alloc, store, next, layers, end)?;
@@ -132,26 +133,29 @@ fn stacked<S: NodeStore>(
     alloc: Global,
     store: &S,
     next: u64,
-    layers: &[Layer],
+    layers: Vec<Layer>,
     end: Option<Target>,
 ) -> Result<Stack, AllocError>
     requires next { next ≡ (S.table store.now).next }
     requires table { IsTable (S.table store.now) }
-    requires room { (S.table store.now).next + length (packs (messages_in layers.now)) < 2 ^ 64 }
-    requires layers { AreLayers (S.table store.now) (level_limit + 1) layers.now end }
+    requires room { (S.table store.now).next
+        + length (packs (messages_in layers.items)) < 2 ^ 64 }
+    requires layers { AreLayers (S.table store.now) (level_limit + 1) layers.items end }
     requires short { IsShort end }
-    ensures stack { IfOk result (IsStack (S.table store.now) end (laid layers.now)) }
+    ensures stack { IfOk result (IsStack (S.table store.now) end (laid layers.items)) }
     ensures groups { IfOk result (IsStackWith (S.table store.now) end
-        (older_of (packs (messages_in layers.now))) (newest_of (packs (messages_in layers.now)))) }
-    ensures low { IfOk result (λ s. s.level ≤ level_over (S.table store.now) layers.now end) }
-    ensures few { IfOk result (λ s. length s.made.items ≤ length layers.now) }
-    ensures begun { length layers.now ≡ 0 → IfOk result (IsBegun end) }
+        (older_of (packs (messages_in layers.items)))
+        (newest_of (packs (messages_in layers.items)))) }
+    ensures low { IfOk result (λ s. s.level ≤ level_over (S.table store.now) layers.items end) }
+    ensures few { IfOk result (λ s. length s.made.items ≤ length layers.items) }
+    ensures begun { length layers.items ≡ 0 → IfOk result (IsBegun end) }
 {
-    let [layer, rest @ ..] = layers else {
-        return Ok(begun(alloc, store, end));
-    };
-    let stack = stacked(alloc, store, next, rest, end)?;
-    laid_on(alloc, stack, layer, next)
+    let mut stack = begun(alloc, store, end);
+    let mut layers = layers;
+    while let Some(layer) = layers.pop() {
+        stack = laid_on(alloc, stack, layer, next)?;
+    }
+    Ok(stack)
 }
 
 // Nothing is made yet.
@@ -174,13 +178,13 @@ fn begun<S: NodeStore>(alloc: Global, store: &S, end: Option<Target>) -> Stack
 }
 
 // One layer more, with newer messages.
-fn laid_on(alloc: Global, stack: Stack, layer: &Layer, next: u64) -> Result<Stack, AllocError>
-    requires each { AllByRecursion IsMessage layer.now.messages }
-    requires fits { sum_by size layer.now.messages ≤ buffer_limit }
+fn laid_on(alloc: Global, stack: Stack, layer: Layer, next: u64) -> Result<Stack, AllocError>
+    requires each { AllByRecursion IsMessage layer.messages }
+    requires fits { sum_by size layer.messages ≤ buffer_limit }
     requires size { stack.size ≤ buffer_limit }
     requires level { stack.level ≤ level_limit + 1 }
     requires room { next + length stack.made.items < 2 ^ 64 }
-    ensures { IfOk result (IsLaidOn next stack layer.now) }
+    ensures { IfOk result (IsLaidOn next stack layer) }
 {
     if layer.messages.size() > MAX_BUFFER - stack.size {
         let stack = closed(alloc, stack, next)?;
@@ -190,28 +194,40 @@ fn laid_on(alloc: Global, stack: Stack, layer: &Layer, next: u64) -> Result<Stac
 }
 
 // The open node gets the messages of a layer.
-fn joined(stack: Stack, layer: &Layer) -> Result<Stack, AllocError>
-    requires each { AllByRecursion IsMessage layer.now.messages }
-    requires fits { stack.size + sum_by size layer.now.messages ≤ buffer_limit }
-    ensures { IfOk result (IsJoined stack layer.now) }
+fn joined(stack: Stack, layer: Layer) -> Result<Stack, AllocError>
+    requires each { AllByRecursion IsMessage layer.messages }
+    requires fits { stack.size + sum_by size layer.messages ≤ buffer_limit }
+    ensures { IfOk result (IsJoined stack layer) }
 {
     let Stack {
         made,
         under,
-        mut waiting,
+        waiting,
         size,
         level,
     } = stack;
-    let more = layer.messages.size();
-    let mut messages = layer.messages.clone()?.into_vec();
-    waiting.append(&mut messages)?;
+    let Layer { messages, over, .. } = layer;
+    let more = messages.size();
     Ok(Stack {
         made,
         under,
-        waiting,
+        waiting: appended(waiting, messages.into_vec())?,
         size: size + more,
-        level: level.max(layer.over),
+        level: level.max(over),
     })
+}
+
+// Newer messages after older ones. Where there are no older ones, the newer stay where they are.
+fn appended(older: Vec<Message>, newer: Vec<Message>) -> Result<Vec<Message>, AllocError>
+    ensures { IfOk result (λ list. list.items ≡ older.items ++ newer.items) }
+{
+    if older.is_empty() {
+        return Ok(newer);
+    }
+    let mut list = older;
+    let mut newer = newer;
+    list.append(&mut newer)?;
+    Ok(list)
 }
 
 // The open node is made, and the next one stands over it.
