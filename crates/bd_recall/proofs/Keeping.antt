@@ -14,7 +14,7 @@ use Rattle.bd_keys.specs.Keys.{key_cmp}
 use Rattle.bd_keys.proofs.Order.{key_cmp-front}
 use Rattle.bd_message.specs.Effect.{act, acts, begins, no_nodes, rest, same_key}
 use Rattle.bd_message.specs.declared.message.Message.{Message}
-use Rattle.bd_message.proofs.Finds.{same_key-true, same_key-refl, ties_same, tied, begins-is, begins-append, not_both, acts_more}
+use Rattle.bd_message.proofs.Finds.{same_key-refl, ties_same, tied, begins-is, begins-append, not_both, acts_more}
 use Rattle.bd_message.proofs.Prefixes.{joined_other}
 use Rattle.bd_recall.specs.Kept.{Found, Findings, kept_for, KeepsFewer, KeepsOthers, KeepsInstead, KeepsWritten}
 

@@ -1,6 +1,6 @@
 -- How a key and what was found at it lie in one byte string: a first byte, which is 0 where there is
 -- no value and else one more than its length; the value; the key.
-use Rattle.std.specs.Prelude.{◌≡◌, ℕ, ◌+◌, ◌-◌, ◌≤◌, ◌==◌, max, List, length, take, drop, slice_index_or, Option, None, Some, ◌∷◌, ◌++◌, [], if◌then◌else◌}
+use Rattle.std.specs.Prelude.{ℕ, ◌+◌, ◌-◌, ◌≤◌, ◌==◌, max, List, length, take, drop, slice_index_or, Option, None, Some, [], if◌then◌else◌}
 
 -- the first byte for a value
 abbrev pub head_for : Option (List ℕ) → ℕ
